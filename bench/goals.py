@@ -49,6 +49,11 @@ def instructions(bench: str, race: str, subject: str, peer: str) -> Value:
     return lambda found: found[bench, race, subject].instructions / found[bench, race, peer].instructions
 
 
+def written(bench: str, race: str, subject: str, peer: str) -> Value:
+    """The bytes that the subject writes in those of the peer."""
+    return lambda found: found[bench, race, subject].written / found[bench, race, peer].written
+
+
 def instructions_for_each(bench: str, race: str, packets: int) -> Value:
     """The instructions of marple for a packet."""
     return lambda found: found[bench, race, "marple"].instructions / packets
@@ -113,6 +118,15 @@ def parts_goals() -> list[Goal]:
     ]  # fmt: skip
 
 
+def split_goals() -> list[Goal]:
+    """Goals of `marple-tools split`: what it costs compared with a count over the same trace, and what its parts take."""
+    count, columns = "eight parts for a count", "eight parts of four columns"
+    return [
+        Goal("split", "instructions to split for a count, in those of the count", 1.6, instructions("split", count, "split", "run")),
+        Goal("split", "bytes of parts with four columns of 14, in the trace's", 0.333, written("split", columns, "split", "cat")),
+    ]
+
+
 def package_goals() -> list[Goal]:
     """Goals of the package for Python, compared with pandas' own CSV."""
     found = []
@@ -135,6 +149,7 @@ def goals() -> list[Goal]:
         *(Goal("finals", f"time of `{name}` in Rust's", 2.0, value) for name, value in finals.items()),
         *query_goals(),
         *parts_goals(),
+        *split_goals(),
         *package_goals(),
         Goal("trace", "time of `gen 1000000 1` in Rust's", 1.2, times("trace", "gen", "marple", "Rust")),
         Goal("trace", "MB of `gen 1000000 1`", 20, megabytes("trace", "gen", "marple")),

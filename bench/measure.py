@@ -52,11 +52,14 @@ class Race:
 
 @dataclass
 class Figure:
-    """What was measured of one program: seconds of processor time and KB at its peak, run by run, and instructions."""
+    """What was measured of one program: seconds of processor time and KB at its peak, run by run, instructions, and the bytes that
+    it writes, where these are measured.
+    """
 
     seconds: list[float] = field(default_factory=list)
     peaks: list[int] = field(default_factory=list)
     instructions: int | None = None
+    written: int | None = None
 
     def time(self) -> float:
         """The median of the processor times."""

@@ -24,15 +24,23 @@ from building.toolchain import Missing, Toolchain
 RUST = ["rustc", "-O", "-C", "target-cpu=x86-64-v2"]
 
 
-def marple_program() -> str:
-    """The program under test: $MARPLE, or the proved one of the repository, which must be that of its sources."""
-    if named := os.environ.get("MARPLE"):
+def program_under_test(crate: str, variable: str) -> str:
+    """A program under test: that which a variable names, or the proved one of the repository, which must be that of its sources."""
+    if named := os.environ.get(variable):
         return str(Path(named).resolve()) if "/" in named else named
-    words = 'top=$1; . "$1/tools/building/proved.sh"; is_proved marple && echo "$program"'
-    asked = subprocess.run(["sh", "-c", words, "sh", TOP], stdout=subprocess.PIPE, text=True, check=False)
+    words = 'top=$1; . "$1/tools/building/proved.sh"; is_proved "$2" && echo "$program"'
+    asked = subprocess.run(["sh", "-c", words, "sh", TOP, crate], stdout=subprocess.PIPE, text=True, check=False)
     if asked.returncode != 0:
         raise BenchError("the program isn't proved, or its sources are newer: ./build proves it")
     return asked.stdout.strip()
+
+
+def marple_program() -> str:
+    return program_under_test("marple", "MARPLE")
+
+
+def tools_program() -> str:
+    return program_under_test("marple_tools", "MARPLE_TOOLS")
 
 
 class Workshop:

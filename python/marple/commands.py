@@ -4,6 +4,7 @@ from collections.abc import Iterator, Mapping
 from contextlib import contextmanager
 from typing import Optional
 
+from marple.facts import facts_of
 from marple.faults import InputError, MarpleError, OutOfMemory, QueryRefused, TraceRefused
 from marple.finals import Asking, asking
 from marple.options import told, whole, words_of
@@ -74,7 +75,7 @@ def run_plan(
     """The tables of a plan: the path of its file, its text as bytes, or plan_text. Otherwise as `run`."""
     given = {"buckets": buckets, "ways": ways, "pipe": pipe, "lag": lag, "refresh": refresh}
     text = text_of_query(plan, plan_text, "plan", (end := Deadline(timeout)))
-    with _files(text, trace, end) as (path, packets), _refusals("run-plan", given, text, packets):
+    with _files(text, trace, end) as (path, packets), _refusals("run-plan", given, text, program, packets):
         words = ["run-plan", path, packets.path, *words_of(given)]
         return read_tables(call(words, program=program, query=text, deadline=end).output)
 
@@ -85,7 +86,7 @@ def plan(
 ) -> Plan:  # fmt: skip
     """The stages of the query and its groupbys; query, query_text, program, timeout and what it raises as at `run`."""
     text, given = text_of_query(query, query_text, deadline=(end := Deadline(timeout))), {"ways": ways}
-    with written(text) as path, _refusals("plan", given, text):
+    with written(text) as path, _refusals("plan", given, text, program):
         done = call(["plan", path, *words_of(given)], program=program, query=text, deadline=end)
     return read_plan(done.output.decode("ascii"))
 
@@ -96,13 +97,13 @@ def compile(
 ) -> str:  # fmt: skip
     """The plan of the query as a text; the arguments and what it raises as at `run`."""
     text = text_of_query(query, query_text, deadline=(end := Deadline(timeout)))
-    with written(text) as path, _refusals("compile", {}, text):
+    with written(text) as path, _refusals("compile", {}, text, program):
         return call(["compile", path], program=program, query=text, deadline=end).output.decode("ascii")
 
 
 def gen(packets: int, start: int, *, program: Optional[Program] = None, timeout: Optional[float] = None) -> bytes:
     """A trace of this many pseudo-random packets, drawn from this start; raises UsageError, and what `run` raises."""
-    with _refusals("gen", {"packets": packets, "start": start}, b""):
+    with _refusals("gen", {"packets": packets, "start": start}, b"", program):
         words = ["gen", whole("packets", packets), whole("start", start)]
         return call(words, program=program, deadline=Deadline(timeout)).output
 
@@ -115,12 +116,14 @@ def _files(text: bytes, trace: Trace, deadline: Deadline) -> Iterator[tuple[str,
 
 
 @contextmanager
-def _refusals(command: str, given: Given, text: bytes, packets: Optional[TraceFile] = None) -> Iterator[None]:
+def _refusals(
+    command: str, given: Given, text: bytes, program: Optional[Program], packets: Optional[TraceFile] = None
+) -> Iterator[None]:
     """Refusals in this block say what they are about."""
     try:
         yield
     except QueryRefused as refused:
-        raise with_remedy(refused, text) from None
+        raise with_remedy(refused, text, program) from None
     except TraceRefused as refused:
         raise (packets.explain(refused) if packets else refused) from None
     except InputError as refused:
@@ -133,8 +136,8 @@ def _tables(
     command: str, text: bytes, trace: Trace, given: Given, program: Optional[Program], deadline: Deadline
 ) -> Answer:
     words = words_of(given)
-    with _files(text, trace, deadline) as (path, packets), _refusals(command, given, text, packets):
-        ask = _asking(path, text, program, deadline)
+    with _files(text, trace, deadline) as (path, packets), _refusals(command, given, text, program, packets):
+        ask = asking(text, lambda: facts_of(text, program=program, deadline=deadline))
         output = None
         if ask.more:
             output = _with_more(ask, [command, packets.path, *words], program, deadline)
@@ -144,14 +147,9 @@ def _tables(
     return ask.answer(read_tables(output, ask.keys))
 
 
-def _asking(path: str, text: bytes, program: Optional[Program], deadline: Deadline) -> Asking:
-    return asking(text, lambda: call(["plan", path], program=program, query=text, deadline=deadline).output)
-
-
 def asked(text: bytes, program: Optional[Program]) -> tuple[bytes, Asking]:
     """The query that is to be run so that its finals can say what they lack, and how its answer is told."""
-    with written(text) as path:
-        ask = _asking(path, text, program, Deadline())
+    ask = asking(text, lambda: facts_of(text, program=program))
     if not ask.more:
         return text, ask
     try:

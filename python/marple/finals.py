@@ -3,12 +3,10 @@
 import warnings
 from collections.abc import Callable, Mapping
 from dataclasses import dataclass, replace
-from functools import cached_property
 from typing import Optional
 
-from marple.faults import MarpleError
-from marple.plans import read_plan
-from marple.queries import Item, Items, UnreadQuery, read_query
+from marple.facts import Fact
+from marple.queries import Item, tables_of
 from marple.tables import Answer, Table, Tables, View
 
 
@@ -83,46 +81,29 @@ class _Lacking:
         return self.known[name]
 
 
-def asking(text: bytes, plan: Callable[[], bytes]) -> Asking:
-    """How to ask this query. `plan` gives what the program's `plan` writes of it, or raises why it is refused."""
+def asking(text: bytes, facts: Callable[[], Fact]) -> Asking:
+    """How to ask this query. `facts` gives its facts, or raises why there are none."""
     if b"final" not in text:
         return Asking(text, {}, {})
-    try:
-        classes = {one.name: one.kind for one in read_plan(plan().decode("ascii")).groupbys}
-        query = _Query(read_query(text))
-    except (MarpleError, UnreadQuery):  # what asks the query says why it is refused
+    known = facts()
+    if known["fault"] is not None:  # what asks the query says why it is refused
         return Asking(text, {}, {})
-    sources = {name: query.sources(name) for name in query.printed if query.tables[name].final}
-    unprinted = sorted(frozenset().union(*sources.values()) - set(query.printed))
+    classes = {one["name"]: one["class"] for one in known["groupbys"]}
+    tables, printed = tables_of(known), known["prints"]
+    keys = {name: item.keys for name, item in tables.items() if item.final}
+    sources = {name: _sources(tables, name) for name in printed if tables[name].final}
+    unprinted = sorted(frozenset().union(*sources.values()) - set(printed))
     if not unprinted:
-        return Asking(text, query.keys, sources)
-    more = tuple(name for name in unprinted if classes.get(name) == "other")
+        return Asking(text, keys, sources)
+    more = tuple(name for name in unprinted if classes[name] == "other")
     prints = b"".join(b"\nprint %s;" % name.encode() for name in more)
-    linear = frozenset(name for name in unprinted if classes.get(name) == "linear")
-    return Asking(text + prints + (b"\n" if more else b""), query.keys, sources, linear, more)
+    linear = frozenset(name for name in unprinted if classes[name] == "linear")
+    return Asking(text + prints + (b"\n" if more else b""), keys, sources, linear, more)
 
 
-@dataclass(frozen=True)
-class _Query:
-    """What is needed of a query's items."""
-
-    items: Items
-
-    @cached_property
-    def tables(self) -> Mapping[str, Item]:
-        return self.items.tables
-
-    @property
-    def printed(self) -> tuple[str, ...]:
-        return self.items.prints
-
-    @property
-    def keys(self) -> dict[str, tuple[str, ...]]:
-        return {name: self.items.keys_of(name) for name, item in self.tables.items() if item.final}
-
-    def sources(self, name: str) -> frozenset[str]:
-        """The groupbys of the stream that a table is made from."""
-        item = self.tables[name]
-        if not item.final:
-            return frozenset({name})
-        return frozenset().union(*(self.sources(one) for one in item.inputs))
+def _sources(tables: Mapping[str, Item], name: str) -> frozenset[str]:
+    """The groupbys of streams that a table is made from."""
+    item = tables[name]
+    if not item.final:
+        return frozenset({name})
+    return frozenset().union(*(_sources(tables, one) for one in item.inputs))

@@ -137,8 +137,15 @@ def call(
 
     Raises the exception of its status; TimedOut; ProgramFailed where it can't be started.
     """
-    command = [find_program(program), *words]
-    deadline = deadline or Deadline()
+    return _called([find_program(program), *words], query, deadline or Deadline())
+
+
+def call_tools(words: Sequence[str], *, program: Optional[Program], deadline: Optional[Deadline] = None) -> Called:
+    """Calls marple-tools, the one of this program, as `call`."""
+    return _called([find_tools(program), *words], b"", deadline or Deadline())
+
+
+def _called(command: list[str], query: bytes, deadline: Deadline) -> Called:
     left, begun = deadline.left(), time.monotonic()
     try:
         # A group of its own, so that what a launcher starts ends with it.

@@ -6,8 +6,6 @@ from support import TOP, choices
 
 from marple import QueryRefused
 from marple.parts import FieldNeeded, FieldRefused, FinalGroupby, FinalOfTop, PartsRefused, choose
-from marple.plans import Unread, only_adds
-from marple.queries import UnreadQuery, read_query
 
 COUNT = b"def count([c],[]) { c = c + 1; }\ndef most([m],[qsize]) { m = max(m, qsize); }\n"
 
@@ -127,45 +125,33 @@ class Refusals(unittest.TestCase):
         self.assertTrue(text.startswith("FinalOfTop: u is made from t"), text)
 
 
-class Bodies(unittest.TestCase):
-    def test_that_only_add(self):
+class Sums(unittest.TestCase):
+    """Where no field is a key of every groupby, what the folds do decides."""
+
+    QUERY = "def f([x, y],[qsize]) { %s } m = map(pktstream, [all = 0]); r = groupby(m, [all], f); print r;"
+
+    def test_are_of_states_that_only_add(self):
         expected = {
             "": True,
-            "set s0 add s0 #1": True,
-            "set s0 sub s0 mul a0 a1": True,
-            "set s1 add s1 not gt a0 #3": True,
-            "if gt a0 #2 { set s0 add s0 #1 } { }": True,
-            "if gt s0 #2 { } { }": True,
-            "if gt s0 #2 { set s0 add s0 #1 } { }": False,
-            "if gt a0 #2 { if gt s1 #0 { } { set s0 add s0 #1 } } { }": False,
-            "set s0 add #1 s0": False,
-            "set s0 add s1 #1": False,
-            "set s0 add s0 s1": False,
-            "set s0 add s0 mul #2 s0": False,
-            "set s0 mul s0 #1": False,
-            "set s0 max s0 a0": False,
-            "set s0 a0": False,
-            "set s0 add s0 #1 set s1 s0": False,
+            "x = x + 1;": True,
+            "x = x - qsize * qsize;": True,
+            "y = y + (qsize >> 1);": True,
+            "if (qsize > 2) { x = x + 1; }": True,
+            "if (x > 2) { }": True,
+            "if (x > 2) { x = x + 1; }": False,
+            "if (qsize > 2) { if (y > 0) { } else { x = x + 1; } }": False,
+            "x = 1 + x;": False,
+            "x = y + 1;": False,
+            "x = x + y;": False,
+            "x = x + 2 * x;": False,
+            "x = x * 1;": False,
+            "x = max(x, qsize);": False,
+            "x = qsize;": False,
+            "x = x + 1; y = x;": False,
         }
         for body, adds in expected.items():
-            self.assertIs(only_adds(tuple(body.split())), adds, body)
-
-    def test_of_another_form_are_refused(self):
-        for body in (
-            "set", "set s0", "set s0 add s0", "set s0 pow s0 #2", "if gt a0 #2 { }", "set s0 #1 }", "loop", "set s0 b1",
-        ):  # fmt: skip
-            with self.subTest(body), self.assertRaises(Unread):
-                only_adds(tuple(body.split()))
-
-
-class AnotherQuery(unittest.TestCase):
-    def test_is_not_read(self):
-        for text in (
-            b"r = sample(pktstream, 3);", b"r = groupby(pktstream, srcip, f);", b"print r;", b"def f([],[]) {", b"$",
-            b"r;", b"r = groupby(map(pktstream, [a = 1]), [a], f);", b"table r = groupby(pktstream, [a], f);",
-        ):  # fmt: skip
-            with self.subTest(text), self.assertRaises(UnreadQuery):
-                read_query(text)
+            with self.subTest(body):
+                self.assertEqual(shown((self.QUERY % body).encode()), "sums" if adds else "FieldNeeded")
 
 
 if __name__ == "__main__":

@@ -5,7 +5,8 @@ import unittest
 from support import cases, content, words
 
 from marple import Mark, read_tables
-from marple.queries import read_query
+from marple.facts import facts_of
+from marple.queries import tables_of
 from marple.tables import TableFault
 
 PRINTING = ("run", "net", "enclose", "run-plan", "trial")
@@ -64,8 +65,11 @@ class ATable(unittest.TestCase):
         self.assertEqual(table.column("mark"), [Mark.INVALID, Mark.INVALID, Mark.VALID])
 
     def test_of_a_final(self):
-        query = b"r = groupby(pktstream, [srcip], late); final worst = top(r, n, 1); print r; print worst;"
-        table = read_tables(LATE, {"worst": read_query(query).keys_of("worst")})["worst"]
+        query = (
+            b"def late([last, n], []) { n = n + last; last = 1; } "
+            b"r = groupby(pktstream, [srcip], late); final worst = top(r, n, 1); print r; print worst;"
+        )
+        table = read_tables(LATE, {"worst": tables_of(facts_of(query))["worst"].keys})["worst"]
         self.assertEqual((table.kind, table.depth, table.epochs), ("final", None, None))
         self.assertEqual((table.keys, table.rows), (("srcip",), [(2, 1, 0)]))
         self.assertIsNone(read_tables(LATE)["worst"].keys)

@@ -10,13 +10,12 @@ from dataclasses import dataclass
 from pathlib import Path
 from typing import Optional
 
-from query_help import folds, hints, losses, page, traces
-from query_help.columns import Scope, scope_before
-from query_help.grammar import Binding, Fold, Item, read_query
+from query_help import causes, facts, hints, page, traces
+from query_help.causes import Cause
+from query_help.facts import Fact
 from query_help.habits import meant
 from query_help.places import place_of
-from query_help.situations import part_at, situation
-from query_help.tokens import decoded, tokens_of
+from query_help.situations import situation
 
 CAUSES = {
     "if": "a condition", "greatest": "a condition that keeps the greatest", "least": "min", "forms": "two forms",
@@ -37,22 +36,18 @@ COMPLAINT = re.compile("marple: (out of memory|bad command line|cannot (read|wri
 
 @dataclass
 class Query:
-    """A query as a file: the name it was given, its bytes, its items, and what they make."""
+    """A query as a file: the name it was given, its bytes, with one character for each in `text`, and its facts."""
 
     name: str
     data: bytes
     text: str
-    items: list[Item]
-    scope: Scope
+    facts: Fact
 
     def place(self, start: int, words: str) -> str:
         return place_of(self.name, self.data, start, words)
 
-    def groupbys(self) -> list[Binding]:
-        return [item for item in self.items if isinstance(item, Binding) and item.op == "groupby" and not item.final]
-
-    def fold_of(self, groupby: Binding) -> Optional[Fold]:
-        return self.scope.folds.get(groupby.fold.text) if groupby.fold else None
+    def fold_of(self, groupby: Fact) -> Fact:
+        return next(fold for fold in self.facts["folds"] if fold["name"] == groupby["fold"])
 
 
 @dataclass
@@ -64,11 +59,9 @@ class Answer:
     complaint: str
 
 
-def read(name: str) -> Query:
+def read(name: str, tools: str) -> Query:
     data = Path(name).read_bytes()
-    text = decoded(data[:LONGEST])
-    items, _ = read_query(text)
-    return Query(name, data, text, items, scope_before(items))
+    return Query(name, data, data[:LONGEST].decode("latin-1"), facts.ask(tools, name))
 
 
 def ask(program: str, words: list[str]) -> Answer:
@@ -110,12 +103,11 @@ def lacking_words(query: Query, others: set[str]) -> str:
     """The finals that lack keys, since they are made from a groupby of class other."""
     said = ""
     lacking = set(others)
-    for item in query.items:
-        sources = [name.text for name in item.inputs] if isinstance(item, Binding) and item.final else []
-        source = next((name for name in sources if name in lacking), None)
+    for final in query.facts["finals"]:
+        source = next((name for name in final["inputs"] if name in lacking), None)
         if source:
-            lacking.add(item.name.text)
-            said += (f"final {item.name.text}: made from {source}, so a key that left the cache and came back "
+            lacking.add(final["name"])
+            said += (f"final {final['name']}: made from {source}, so a key that left the cache and came back "
                      "has no row in it.\n")
     return said
 
@@ -124,16 +116,16 @@ def other_words(query: Query, remedies: Remedies) -> str:
     """For each fold that isn't linear the places that keep it from being so, each with its remedy."""
     said = ""
     done = set()
-    for groupby in query.groupbys():
+    for groupby in query.facts["groupbys"]:
         fold = query.fold_of(groupby)
-        if fold is None or fold.name.text in done:
+        if fold["name"] in done:
             continue
-        done.add(fold.name.text)
-        causes = folds.why_other(fold)
-        for at, cause in enumerate(causes):
+        done.add(fold["name"])
+        found = causes.why_other(fold)
+        for at, cause in enumerate(found):
             words = CAUSES.get(cause.op, "a condition")
-            said += query.place(cause.start, f"{fold.name.text} isn't linear: {cause_words(cause)}")
-            same = at + 1 < len(causes) and CAUSES.get(causes[at + 1].op) == words
+            said += query.place(cause.start, f"{fold['name']} isn't linear: {cause_words(cause)}")
+            same = at + 1 < len(found) and CAUSES.get(found[at + 1].op) == words
             if not same:
                 said += remedy_line(remedies, "other", f"by {words}")
     return said
@@ -142,13 +134,14 @@ def other_words(query: Query, remedies: Remedies) -> str:
 def loss_words(query: Query, remedies: Remedies) -> str:
     """The places where the infinity of a dropped packet's `tout` is reckoned with, and the remedy."""
     said = ""
-    for token in losses.places_of_losses(query.items):
-        time = "`tout`" if token.text == "tout" else f"`{token.text}` comes from `tout`, which"
-        said += query.place(token.start, f"{time} is infinity for a dropped packet")
+    for warning in query.facts["warnings"]:
+        name = warning["name"]
+        time = "`tout`" if name == "tout" else f"`{name}` comes from `tout`, which"
+        said += query.place(warning["start"], f"{time} is infinity for a dropped packet")
     return said + remedy_line(remedies, "tout", "of dropped packets") if said else ""
 
 
-def cause_words(cause: folds.Cause) -> str:
+def cause_words(cause: Cause) -> str:
     carried = f"`{cause.reads}`, which is carried on from packet to packet"
     if cause.op in ("if", "greatest", "least"):
         return f"the condition reads {carried}"
@@ -164,61 +157,62 @@ def remedy_line(remedies: Remedies, fault: str, where: str = "") -> str:
 
 def command_words(query: Query, fault: str, start: int) -> str:
     """Where the fold of the groupby at the byte has what `net` or `enclose` can't take."""
-    finders = {"NotAdditive": folds.why_not_additive, "NotMonotone": folds.why_not_monotone}
-    for groupby in query.groupbys():
-        fold = query.fold_of(groupby)
-        if groupby.name.start == start and fold and fault in finders:
-            return "".join(query.place(cause.start, UNFIT[fault]) for cause in finders[fault](fold))
-    return ""
+    finders = {"NotAdditive": causes.why_not_additive, "NotMonotone": causes.why_not_monotone}
+    if fault not in finders:
+        return ""
+    groupby = next(one for one in query.facts["groupbys"] if one["start"] == start)
+    return "".join(query.place(cause.start, UNFIT[fault]) for cause in finders[fault](query.fold_of(groupby)))
 
 
-def argument_words(query: Query, binding: Binding, scope: Scope) -> str:
+def argument_words(query: Query, fault: Fact, item: Fact) -> str:
     """The arguments of a groupby's fold that are no columns, each where it stands in the fold."""
     said = ""
-    fold = scope.folds[binding.fold.text]
-    for missing in scope.missing_arguments(binding):
-        token = next(argument for argument in fold.arguments if argument.text == missing)
-        said += query.place(token.start, f"this argument of {fold.name.text} is no column of {binding.inputs[0].text}")
-        said += "".join(f"{hint}\n" for hint in hints.argument_hints(missing, binding, scope))
+    fold = next(one for one in query.facts["items"] if one["kind"] == "fold" and one["name"] == item["fold"]["name"])
+    for missing in fault["missing"]:
+        argument = facts.named(fold["arguments"], missing)
+        said += query.place(argument["start"], f"this argument of {fold['name']} is no column of {item['inputs'][0]['name']}")
+        said += "".join(f"{hint}\n" for hint in hints.argument_hints(missing, fault, item))
     return said
 
 
-def grammar_words(query: Query, fault: str, start: int, remedies: Remedies) -> str:
+def grammar_words(query: Query, fault: Fact, remedies: Remedies) -> str:
     """What is said of a fault of the tokens or of the grammar."""
-    hint = (hints.address_hint(query.text, start) if fault == "BadByte" else None) or meant(fault, query.text, start)
+    kind, start = fault["kind"], fault["start"]
+    hint = (hints.address_hint(query.text, start) if kind == "BadByte" else None) or meant(kind, query.text, start)
     if hint:
         return f"{hint}\n"
-    said = ""
-    _, refused = read_query(query.text)
-    if fault == "UnexpectedToken" and refused and refused.token.start == start:
-        said = "".join(f"{hint}\n" for hint in hints.syntax_hints(refused))
-    return said + remedy_line(remedies, fault)
+    said = "".join(f"{hint}\n" for hint in hints.syntax_hints(fault, query.text)) if kind == "UnexpectedToken" else ""
+    return said + remedy_line(remedies, kind)
 
 
-def fault_words(query: Query, fault: str, start: int, remedies: Remedies) -> str:
+def unknown_words(query: Query, fault: Fact) -> str:
+    """What a name that isn't known may have been."""
+    if fault["missing"]:
+        return argument_words(query, fault, query.facts["items"][fault["item"]])
+    name = query.text[fault["start"]:fault["end"]]
+    habit = meant(fault["kind"], query.text, fault["start"])
+    said = f"{habit}\n" if habit else ""
+    return said + "".join(f"{hint}\n" for hint in hints.name_hints(name, query.facts, query.text))
+
+
+def fault_words(query: Query, words: str, start: int, remedies: Remedies) -> str:
     """The place of a query's fault, its remedy, and what may have been meant."""
-    said = query.place(start, fault)
-    if fault in ("BadByte", "UnexpectedToken"):
-        return said + grammar_words(query, fault, start, remedies)
-    part = part_at(query.items, start)
-    scope = scope_before(query.items, part.item.end - 1) if part else query.scope
-    where = situation(fault, part, scope)
-    if part and fault == "UnknownName":
-        if where == "at a groupby's fold":
-            said += argument_words(query, part.item, scope)
-        else:
-            name = next((token.text for token in tokens_of(query.text) if token.start == start), "")
-            habit = meant(fault, query.text, start)
-            said += f"{habit}\n" if habit else ""
-            said += "".join(f"{hint}\n" for hint in hints.name_hints(name, query.items, part, query.text))
-    return said + command_words(query, fault, start) + remedy_line(remedies, fault, where)
+    said = query.place(start, words)
+    fault = query.facts["fault"]
+    if fault is None or (fault["kind"], fault["start"]) != (words.split("(")[0], start):  # what another command refuses
+        return said + command_words(query, words, start) + remedy_line(remedies, words)
+    if fault["kind"] in ("BadByte", "UnexpectedToken"):
+        return said + grammar_words(query, fault, remedies)
+    if fault["kind"] == "UnknownName":
+        said += unknown_words(query, fault)
+    return said + remedy_line(remedies, words, situation(fault, query.facts["items"]))
 
 
 class Session:
-    """One call of the command: what it was asked, and where the program and the remedies are."""
+    """One call of the command: what it was asked, and where the programs and the remedies are."""
 
-    def __init__(self, program: str, remedies: Remedies, asked: argparse.Namespace):
-        self.program, self.remedies, self.asked = program, remedies, asked
+    def __init__(self, program: str, tools: str, remedies: Remedies, asked: argparse.Namespace):
+        self.program, self.tools, self.remedies, self.asked = program, tools, remedies, asked
 
     def words_for(self, command: str) -> list[str]:
         """The words of marple. Without a trace an empty one is given, whose fault only an accepted query comes to."""
@@ -232,11 +226,12 @@ class Session:
         """Shows why marple didn't do it."""
         found = re.match(r"marple: query: (.*) at (\d+)$", answer.complaint.strip())
         if answer.status == QUERY_REFUSED and found:
-            query = read(self.asked.query)
+            query = read(self.asked.query, self.tools)
             sys.stdout.write(fault_words(query, found.group(1), int(found.group(2)), self.remedies))
         elif answer.status == TRACE_REFUSED and self.asked.trace:
             words = answer.complaint.strip().removeprefix("marple: trace: ")
-            said, fault, where = traces.explain_trace(Path(self.asked.trace), self.asked.trace, words)
+            fields = facts.ask(self.tools, self.asked.query)["fields"]
+            said, fault, where = traces.explain_trace(Path(self.asked.trace), self.asked.trace, words, fields)
             sys.stdout.write(said + remedy_line(self.remedies, fault, where))
         else:
             sys.stdout.flush()
@@ -245,7 +240,7 @@ class Session:
 
     def show_plan(self, plan: Answer) -> None:
         """What marple thinks of a query that it accepts."""
-        query = read(self.asked.query)
+        query = read(self.asked.query, self.tools)
         words = plan_words(query, plan.output) + other_words(query, self.remedies) + loss_words(query, self.remedies)
         sys.stdout.write(words)
 
@@ -270,7 +265,6 @@ class Session:
 
 def main(folder: Path) -> int:
     """Runs the command; folder is that of the script, beside which the program is."""
-    sys.setrecursionlimit(5_000)  # the rules of folds follow the 512 nodes that an expression may have
     parser = argparse.ArgumentParser(
         prog=Path(sys.argv[0]).name,
         description="Says where and why marple refuses a query or a trace, or which of the query's groupbys are exact.",
@@ -282,4 +276,4 @@ def main(folder: Path) -> int:
     parser.add_argument("--trace", help="a trace that the query is to be run over too")
     asked = parser.parse_args()
     program = os.environ.get("MARPLE") or str(folder / "marple")
-    return Session(program, page.read_remedies(folder), asked).run()
+    return Session(program, facts.tools_of(folder, program), page.read_remedies(folder), asked).run()

@@ -3,12 +3,11 @@
 import re
 from typing import Optional
 
-from query_help.columns import Scope, alike, scope_before
-from query_help.grammar import Binding, Fold, Item, SyntaxFault
-from query_help.situations import Part
-from query_help.tokens import FIELDS, RESERVED
+from query_help.facts import Fact, names_of
+from query_help.near import alike
 
 _ADDRESS = re.compile(r"(?<![\w.])(\d{1,3})\.(\d{1,3})\.(\d{1,3})\.(\d{1,3})(?:/(\d{1,2}))?(?![\w.])")
+_WORD = re.compile(r"[A-Za-z_]\w*", re.ASCII)
 FEW = 4
 
 
@@ -35,66 +34,73 @@ def address_hint(text: str, place: int) -> Optional[str]:
     return None
 
 
-def syntax_hints(fault: SyntaxFault) -> list[str]:
+def token_words(tokens: list[Fact]) -> list[str]:
+    """What these tokens are called, those with one text first."""
+    words = {"name": "a name", "number": "a number", "end": "the end"}
+    texts = [f"`{token['text']}`" for token in tokens if token["text"] is not None]
+    return texts + [words[token["kind"]] for token in tokens if token["text"] is None]
+
+
+def syntax_hints(fault: Fact, text: str) -> list[str]:
     """What is wrong with the token, and what can stand in its place where that is little."""
     hints = []
-    if fault.token.text in RESERVED and "a name" in fault.expected:
-        hints.append(f"`{fault.token.text}` is a reserved word, so it can't be a name.")
-    if 0 < len(fault.expected) <= FEW:
-        expected = fault.expected
+    expected = token_words(fault["expected"])
+    token = text[fault["start"]:fault["end"]]
+    if "a name" in expected and _WORD.fullmatch(token):  # a name would have been taken
+        hints.append(f"`{token}` is a reserved word, so it can't be a name.")
+    if 0 < len(expected) <= FEW:
         joined = expected[0] if len(expected) == 1 else f"{', '.join(expected[:-1])} or {expected[-1]}"
         hints.append(f"Here {joined} is expected.")
     return hints
 
 
-def in_reach(part: Part, scope: Scope) -> tuple[str, list[str]]:
-    """Which names can stand at the place, and what they are called together."""
-    item = part.item
-    if isinstance(item, Fold):
-        names = [token.text for token in item.states + item.arguments]
-        return f"The names in {item.name.text} are", names
-    if isinstance(item, Binding):
-        if part.role in ("input", "second input"):
-            if item.final:
-                return "The tables so far are", [name for name in scope.made if scope.is_table(name)]
-            return "The streams so far are", [name for name, made in scope.made.items() if made.kind != "final"]
-        if part.role == "fold":
-            return "The folds so far are", list(scope.folds)
-        return f"The columns of {item.inputs[0].text} are", scope.input_columns(item)
-    return "The tables so far are", [name for name in scope.made if scope.is_table(name)]
+def reach_words(fault: Fact, item: Fact) -> str:
+    """What the names that can stand at the place are called together."""
+    if item["kind"] == "fold":
+        return f"The names in {item['name']} are"
+    if item["kind"] == "print":
+        return "The tables so far are"
+    if fault["place"] in ("input", "second input"):
+        return "The tables so far are" if item["kind"] == "final" else "The streams so far are"
+    if fault["place"] == "fold":
+        return "The folds so far are"
+    return f"The columns of {item['inputs'][0]['name']} are"
 
 
-def later_hint(name: str, items: list[Item], part: Part, text: str) -> Optional[str]:
+def later_hint(name: str, facts: Fact, text: str) -> Optional[str]:
     """Where the name is made further down."""
-    for item in items:
-        if isinstance(item, (Fold, Binding)) and item.end > part.item.end and item.name.text == name:
-            return f"`{name}` is made later, on line {text.count(chr(10), 0, item.name.start) + 1}."
+    for item in facts["items"][facts["fault"]["item"] + 1:]:
+        if item["kind"] != "print" and item["name"] == name:
+            return f"`{name}` is made later, on line {text.count(chr(10), 0, item['name_start']) + 1}."
     return None
 
 
-def name_hints(name: str, items: list[Item], part: Part, text: str) -> list[str]:
-    """What a name that isn't known may have been, and which names are in reach."""
-    scope = scope_before(items, part.item.end - 1)
-    words, names = in_reach(part, scope)
-    hints = []
+def near_hint(name: str, names: list[str]) -> list[str]:
     near = alike(name, names)
-    if near:
-        hints.append(f"Did you mean {' or '.join(f'`{candidate}`' for candidate in near)}?")
-    if isinstance(part.item, Fold) and name in FIELDS:
+    return [f"Did you mean {' or '.join(f'`{candidate}`' for candidate in near)}?"] if near else []
+
+
+def name_hints(name: str, facts: Fact, text: str) -> list[str]:
+    """What a name that isn't known may have been, and which names are in reach."""
+    fault = facts["fault"]
+    item = facts["items"][fault["item"]]
+    names = names_of(fault["names"])
+    hints = near_hint(name, names)
+    if item["kind"] == "fold" and name in facts["fields"]:
         hints.append(f"`{name}` is a column, and a fold reads only the columns among its arguments: add `{name}` to "
-                     f"the second list of {part.item.name.text}.")
-    elif isinstance(part.item, Binding) and name in [column.text for column, _ in part.item.columns]:
-        hints.append(f"`{name}` is made by this `map` itself: use it in a second `map` over {part.item.name.text}.")
-    later = later_hint(name, items, part, text)
+                     f"the second list of {item['name']}.")
+    elif name in names_of(item.get("made", [])):
+        hints.append(f"`{name}` is made by this `map` itself: use it in a second `map` over {item['name']}.")
+    later = later_hint(name, facts, text)
     if later:
         hints.append(later)
+    words = reach_words(fault, item)
     hints.append(f"{words}: {', '.join(names)}." if names else f"{words}: none.")
     return hints
 
 
-def argument_hints(missing: str, binding: Binding, scope: Scope) -> list[str]:
+def argument_hints(missing: str, fault: Fact, item: Fact) -> list[str]:
     """What an argument that is no column may have been, and the columns that there are."""
-    columns = scope.input_columns(binding)
-    near = alike(missing, columns)
-    hints = [f"Did you mean {' or '.join(f'`{candidate}`' for candidate in near)}?"] if near else []
-    return hints + [f"The columns of {binding.inputs[0].text} are: {', '.join(columns)}."]
+    columns = names_of(fault["names"])
+    hints = near_hint(missing, columns)
+    return hints + [f"The columns of {item['inputs'][0]['name']} are: {', '.join(columns)}."]

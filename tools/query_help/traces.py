@@ -8,9 +8,8 @@ from dataclasses import dataclass
 from pathlib import Path
 from typing import BinaryIO, Iterator, Optional
 
-from query_help.columns import alike
+from query_help.near import alike
 from query_help.places import LONGEST_LINE, printable
-from query_help.tokens import FIELDS
 
 BYTES, PACKETS, WORDS = 268_435_456, 4_194_304, 2**64
 # How files begin that aren't text: captures, and what captures are packed with.
@@ -140,7 +139,7 @@ def counted(number: int, word: str) -> str:
     return f"{number} {word}" if number == 1 else f"{number} {word}s"
 
 
-def field_missing(name: str, fault: TraceFault, header: Record) -> tuple[str, str]:
+def field_missing(name: str, fault: TraceFault, header: Record, fields: list[str]) -> tuple[str, str]:
     """What is said of a column that isn't there, and the situation that its remedy is under."""
     names = [text_of(field.strip(" \t")) for field in header.fields]
     said = f"{name}:{header.line}: {fault.kind}: the query reads `{fault.field}`, and the header doesn't name it.\n"
@@ -148,7 +147,7 @@ def field_missing(name: str, fault: TraceFault, header: Record) -> tuple[str, st
         return said + f"The first line is {', '.join(names)}.\n", "without a header"
     if len(names) == 1 and re.search(r"[;\t|]", names[0]):
         return said + f"The first line is {names[0]}.\n", "with other separators"
-    near = alike(fault.field, [field for field in names if field not in FIELDS])
+    near = alike(fault.field, [column for column in names if column not in fields])
     if near:
         said += f"Did you mean {' or '.join(f'`{candidate}`' for candidate in near)}?\n"
     return said + f"The columns of the trace are: {', '.join(names)}.\n", ""
@@ -179,8 +178,10 @@ def record_words(trace: Path, name: str, words: str, fault: TraceFault, header: 
     return f"{name}:{record.line}: {words}: data record {fault.record} has the 65th switch.\n"
 
 
-def explain_trace(trace: Path, name: str, words: str) -> tuple[str, str, str]:
-    """What is said of the fault `words` of the trace, and the fault and the situation that its remedy is under."""
+def explain_trace(trace: Path, name: str, words: str, fields: list[str]) -> tuple[str, str, str]:
+    """What is said of the fault `words` of the trace, and the fault and the situation that its remedy is under; fields:
+    those that a packet has.
+    """
     fault = parse_fault(words)
     kind = kind_of_file(trace)
     if kind:
@@ -192,7 +193,7 @@ def explain_trace(trace: Path, name: str, words: str) -> tuple[str, str, str]:
     if header is None:
         return f"{name}: {words}: the file has no line.\n", fault.kind, ""
     if fault.kind == "FieldMissing":
-        said, situation = field_missing(name, fault, header)
+        said, situation = field_missing(name, fault, header, fields)
         return said, fault.kind, situation
     if fault.kind == "FieldTwice":
         columns = [str(at) for at, field in enumerate(header.fields, 1) if field.strip(" \t") == fault.field]

@@ -10,7 +10,9 @@ use std::io::ErrorKind;
 use std::marker::Brand;
 use std::process::ExitCode;
 use std::sync::ledger::{Blank, Ledger};
-use tools_cli::{FileParts, ToolStatus, folder_word, marple_tools, trace_files, trace_words};
+use tools_cli::{
+    FileParts, ToolStatus, folder_word, marple_tools, operands_of, trace_files, trace_words,
+};
 
 /// The words after the program's name. Where they aren't text there are none, which is no command.
 fn words_of(rt: &HostRuntime) -> Result<Vec<String>, AllocError> {
@@ -35,12 +37,17 @@ fn run<L: Ledger>(rt: HostRuntime, alloc: Global, words: &[String], blank: Blank
     requires whole { 0 < blank.parts }
 {
     let mut steps = Steps::<L>::new(blank);
-    let mut inputs = FileInputs::new(rt, words);
-    let mut traces = match trace_files(rt, trace_words(words)) {
+    let operands = match operands_of(alloc, words) {
+        Ok(operands) => operands,
+        Err(AllocError) => return ToolStatus::Memory.number(),
+    };
+    let mut inputs = FileInputs::new(rt, operands.as_slice());
+    let mut traces = match trace_files(rt, trace_words(operands.as_slice())) {
         Ok(traces) => traces,
         Err(AllocError) => return ToolStatus::Memory.number(),
     };
     let mut parts = FileParts::new(rt, folder_word(words));
+    let mut out = StdSink::output(rt);
     let mut err = StdSink::error(rt);
     let status = marple_tools(
         alloc,
@@ -48,6 +55,7 @@ fn run<L: Ledger>(rt: HostRuntime, alloc: Global, words: &[String], blank: Blank
         &mut inputs,
         traces.as_mut_slice(),
         &mut parts,
+        &mut out,
         &mut err,
         &mut steps,
     );

@@ -1,5 +1,6 @@
 -- The tables of the groupbys of a split text, over the whole and over its parts.
-use Rattle.std.proofs.Common.{◌≡◌, ℕ, ◌+◌, ◌<◌, false, true, List, [], ◌∷◌, Option, Some, None, length, map, filter, flat_map, Ok}
+use Rattle.std.proofs.Common.{Bool, cond, ◌≡◌, ℕ, ◌+◌, ◌<◌, false, true, List, [], ◌∷◌, Option, Some, None, length, map, filter, flat_map}
+use Rattle.std.proofs.Common.{Ok}
 use Rattle.std.proofs.Common.{refl, sym, ap, ◌∙◌, subst, arith}
 use Rattle.std.specs.Prelude.{All, slice_get, option_map}
 use Rattle.std.specs.List.{range_with_len}
@@ -31,11 +32,11 @@ use Rattle.part_laws.specs.FinalParts.{AreOfParts}
 use Rattle.part_laws.specs.PartLaws.{but_for_epochs}
 use Rattle.part_laws.specs.Parts.{HasFieldKey, part_at, part_by}
 use Rattle.part_texts.specs.Texts.{packets_at, part_by_hash}
-use Rattle.split_fields.specs.Splits.{may_split}
-use Rattle.split_laws.specs.Merging.{Merge, by_class, group_merge}
+use Rattle.net_laws.specs.Fields.{makes_field}
+use Rattle.split_laws.specs.Merging.{Merge, NotMerged, by_class, group_merge, has_keys}
 use Rattle.split_laws.specs.SplitTables.{words_of}
 use Rattle.split_laws.proofs.FinalWalk.{InParts, IsMerged, Stands}
-use Rattle.split_laws.proofs.Groupbys.{IsGroupby, field_key, groupby_at, part_named, same_part, table_at, tables_long}
+use Rattle.split_laws.proofs.Groupbys.{IsGroupby, field_keys, groupby_at, part_named, same_part, table_at, tables_long}
 use Rattle.split_laws.proofs.PartNumbers.{are_apart, are_the_parts, words_at_part}
 use Rattle.split_laws.proofs.PlainRows.{IsRead}
 
@@ -51,7 +52,8 @@ rows_read f g us (key ∷ keys) one =
         (All-nil IsRead))
 
 module _ (in_order : AcceptedTablesInOrder) (text : List ℕ) (q : TypedQuery) (fields : List Field) (salt parts : ℕ)
-    (sent : List Packet) (is_accepted : accepted text ≡ Ok q) (may : All (λ field. may_split q field ≡ true) fields) (some : 0 < parts)
+    (sent : List Packet) (is_accepted : accepted text ≡ Ok q)
+    (unmade : All (λ field. makes_field field q.names q.streams ≡ false) fields) (some : 0 < parts)
     (whole : AreWhole (words_of sent)) (valid : IsValidQuery q) where
   abbrev pub choose : List ℕ → ℕ
   choose words = bucket_of parts (salt ∷ words)
@@ -67,12 +69,13 @@ module _ (in_order : AcceptedTablesInOrder) (text : List ℕ) (q : TypedQuery) (
         let same : 0 + k ≡ k = omega arith in
         (is.f, ap (fold_at q) same ∙ is.fold)
 
-    one_table : (k : ℕ) (shape : GroupShape) (is : IsGroupby q k shape) → per_epoch (class_of is.f) ≡ false
+    one_table : (k : ℕ) (shape : GroupShape) (is : IsGroupby q k shape) → has_keys fields shape.key_names ≡ true
+        → per_epoch (class_of is.f) ≡ false
         → InParts (part_named fields choose) (range_with_len 0 parts) (are_apart 0 parts) shape.key_names
         (Some (query_table q g (words_of sent) k shape is.f)) (λ n. Some (query_table q (caches n) (part_words n) k shape is.f))
-    one_table k shape is exact =
+    one_table k shape is named exact =
         let f : Folding = folding_of is.f in
-        let keys : All (HasFieldKey q k) fields = λ j d lt. field_key q k is.one _ is.at (may j d lt) in
+        let keys : All (HasFieldKey q k) fields = field_keys q k shape is fields named unmade in
         let found = in_order text q k fields choose is_accepted keys is.one is.at (words_of sent) (range_with_len 0 parts) whole
         (are_the_parts fields salt parts some (words_of sent)) f g caches exact in
         let same : (λ n. map but_for_epochs (group_rows f (caches n)
@@ -92,28 +95,39 @@ module _ (in_order : AcceptedTablesInOrder) (text : List ℕ) (q : TypedQuery) (
           each = λ n. rows_read f (caches n) (uses q k (part_words n)) (keys_used (uses q k (part_words n))) exact;
         }
 
-    by_kind : (k : ℕ) (shape : GroupShape) (is : IsGroupby q k shape) (class : Class) → class_of is.f ≡ class
+    by_kind : (k : ℕ) (shape : GroupShape) (is : IsGroupby q k shape) → has_keys fields shape.key_names ≡ true → (class : Class)
+        → class_of is.f ≡ class
         → IsMerged (part_named fields choose) (range_with_len 0 parts) (are_apart 0 parts) (by_class class shape.key_names)
         (Some (query_table q g (words_of sent) k shape is.f)) (λ n. Some (query_table q (caches n) (part_words n) k shape is.f))
-    by_kind k shape is Other e = tt
-    by_kind k shape is Linear e = one_table k shape is (ap per_epoch e)
+    by_kind k shape is named Other e = tt
+    by_kind k shape is named Linear e = one_table k shape is named (ap per_epoch e)
+
+    by_keys : (k : ℕ) (shape : GroupShape) (is : IsGroupby q k shape) (b : Bool) → has_keys fields shape.key_names ≡ b
+        → class_of is.f ≡ shape.class
+        → IsMerged (part_named fields choose) (range_with_len 0 parts) (are_apart 0 parts)
+        (cond b (by_class shape.class shape.key_names) NotMerged) (Some (query_table q g (words_of sent) k shape is.f))
+        (λ n. Some (query_table q (caches n) (part_words n) k shape is.f))
+    by_keys k shape is false e class = tt
+    by_keys k shape is true e class = by_kind k shape is e shape.class class
 
     one_merged : (k : ℕ) (shape : GroupShape) → slice_get (query_groups q) k ≡ Some shape
-        → IsMerged (part_named fields choose) (range_with_len 0 parts) (are_apart 0 parts) (group_merge shape)
+        → IsMerged (part_named fields choose) (range_with_len 0 parts) (are_apart 0 parts) (group_merge fields shape)
         (slice_get (tables_from q g (words_of sent) 0 (query_groups q)) k)
         (λ n. slice_get (tables_from q (caches n) (part_words n) 0 (query_groups q)) k)
     one_merged k shape e =
         let is = groupby_at q valid k shape e in
         let class : class_of is.f ≡ shape.class = ap (λ (s : GroupShape). s.class) (sym is.is) in
         let M : Option Table → (ℕ → Option Table) → Type 0 =
-        IsMerged (part_named fields choose) (range_with_len 0 parts) (are_apart 0 parts) (group_merge shape) in
+        IsMerged (part_named fields choose) (range_with_len 0 parts) (are_apart 0 parts) (group_merge fields shape) in
         let here : Some (query_table q g (words_of sent) k shape is.f) ≡ slice_get (tables_from q g (words_of sent) 0 (query_groups q)) k =
         sym (at g (words_of sent) is) in
         let there : (λ n. Some (query_table q (caches n) (part_words n) k shape is.f)) ≡
         (λ n. slice_get (tables_from q (caches n) (part_words n) 0 (query_groups q)) k) =
         fun_ext (λ n. sym (at (caches n) (part_words n) is)) in
         subst (λ ts. M (slice_get (tables_from q g (words_of sent) 0 (query_groups q)) k) ts) there
-        (subst (λ w. M w (λ n. Some (query_table q (caches n) (part_words n) k shape is.f))) here (by_kind k shape is shape.class class))
+        (subst (λ w. M w (λ n. Some (query_table q (caches n) (part_words n) k shape is.f))) here
+        (by_keys k shape is (has_keys fields shape.key_names) refl
+        class))
       where
         at : (h : Geometry) (words : List (List ℕ)) (is : IsGroupby q k shape)
             → slice_get (tables_from q h words 0 (query_groups q)) k ≡ Some (query_table q h words k shape is.f)
@@ -122,7 +136,8 @@ module _ (in_order : AcceptedTablesInOrder) (text : List ℕ) (q : TypedQuery) (
             table_at q h words 0 (query_groups q) have k shape is.f e (ap (fold_at q) same ∙ is.fold)
             ∙ ap (λ n. Some (query_table q h words n shape is.f)) same
 
-    by_shape : (k : ℕ) (how : Merge) (o : Option GroupShape) → slice_get (query_groups q) k ≡ o → option_map group_merge o ≡ Some how
+    by_shape : (k : ℕ) (how : Merge) (o : Option GroupShape) → slice_get (query_groups q) k ≡ o
+        → option_map (group_merge fields) o ≡ Some how
         → IsMerged (part_named fields choose) (range_with_len 0 parts) (are_apart 0 parts) how
         (slice_get (tables_from q g (words_of sent) 0 (query_groups q)) k)
         (λ n. slice_get (tables_from q (caches n) (part_words n) 0 (query_groups q)) k)
@@ -130,17 +145,19 @@ module _ (in_order : AcceptedTablesInOrder) (text : List ℕ) (q : TypedQuery) (
     by_shape k how (Some shape) at e =
         subst (λ h. IsMerged (part_named fields choose) (range_with_len 0 parts) (are_apart 0 parts) h
         (slice_get (tables_from q g (words_of sent) 0 (query_groups q)) k)
-        (λ n. slice_get (tables_from q (caches n) (part_words n) 0 (query_groups q)) k)) (same_Some (group_merge shape) how e)
+        (λ n. slice_get (tables_from q (caches n) (part_words n) 0 (query_groups q)) k)) (same_Some (group_merge fields shape) how e)
         (one_merged k shape at)
 
     pub groups_stand : (names : List (List ℕ)) (folds : List TypedFold)
-        → Stands (part_named fields choose) (range_with_len 0 parts) (are_apart 0 parts) names folds (map group_merge (query_groups q))
+        → Stands (part_named fields choose) (range_with_len 0 parts) (are_apart 0 parts) names folds
+        (map (group_merge fields) (query_groups q))
         (group_tables q g (words_of sent)) (λ n. group_tables q (caches n) (part_words n))
     unfolding group_tables
     groups_stand names folds =
-        let many = length-map (query_groups q) group_merge in
+        let many = length-map (query_groups q) (group_merge fields) in
         record {
           long = tables_long q g (words_of sent) 0 (query_groups q) have ∙ sym many;
           longs = λ n. tables_long q (caches n) (part_words n) 0 (query_groups q) have ∙ sym many;
-          each = λ k how e. by_shape k how (slice_get (query_groups q) k) refl (sym (slice_get-map group_merge (query_groups q) k) ∙ e);
+          each = λ k how e. by_shape k how (slice_get (query_groups q) k) refl
+              (sym (slice_get-map (group_merge fields) (query_groups q) k) ∙ e);
         }

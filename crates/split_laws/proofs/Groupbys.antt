@@ -1,10 +1,12 @@
 -- The groupbys of a valid query, by their numbers.
-use Rattle.std.proofs.Common.{◌≡◌, ℕ, zero, suc, ◌+◌, Bool, true, false, cond, not, List, [], ◌∷◌, ◌++◌, Option, Some, None, length, map}
+use Rattle.std.proofs.Common.{◌≡◌, ℕ, zero, suc, ◌+◌, ◌||◌, Bool, true, false, cond, not, List, [], ◌∷◌, ◌++◌, Option, Some, None, length}
+use Rattle.std.proofs.Common.{map}
 use Rattle.std.proofs.Common.{filter, refl, sym, ap, ◌∙◌, subst, arith}
-use Rattle.std.specs.Prelude.{is_some, slice_get, slice_index, option_and_then, option_map}
-use Rattle.std.specs.List.{cons_option, filter_map}
+use Rattle.std.specs.Prelude.{All, get_or, is_some, slice_get, slice_index, option_and_then, option_map}
+use Rattle.std.specs.List.{cons_option, filter_map, list_all, list_any}
 use Rattle.std.specs.Str.{bytes_eq}
 use Rattle.std.proofs.lemmas.Bool.{and_parts}
+use Rattle.std.proofs.lemmas.List.Elements.{All-nil, All-cons, All-head, All-tail}
 use Rattle.std.proofs.lemmas.Option.{same_Some}
 use mathlib.Core.Path.{fun_ext}
 use Rattle.epoch_model.specs.Epochs.{Geometry}
@@ -25,6 +27,7 @@ use Rattle.stage_plan.specs.Planned.{fold_at}
 use Rattle.stage_plan.specs.Shape.{GroupShape, query_groups, shape_made, shape_with, text_at}
 use Rattle.part_laws.specs.Parts.{HasFieldKey, first_named, groupbys, part_by}
 use Rattle.split_fields.specs.Splits.{all_keyed, is_keyed, may_split}
+use Rattle.split_laws.specs.Merging.{has_keys}
 
 -- ---- a groupby by its number
 
@@ -199,20 +202,59 @@ keyed field names (s ∷ streams) k one all e =
     by true is (suc k) e own more = more k e
     by false is k e own more = more k e
 
-pub field_key : (q : TypedQuery) (k : ℕ) (one : TypedStream) (field : Field) → slice_get (groupbys q) k ≡ Some one
-    → may_split q field ≡ true → HasFieldKey q k field
-field_key q k one field at may =
-    let both = and_parts (all_keyed field q.names q.streams) (not (makes_field field q.names q.streams)) may in
+not_false : (b : Bool) → not b ≡ true → b ≡ false
+not_false true e = absurd (cc e)
+not_false false e = refl
+
+named_same : (field : Field) (names : List (List ℕ)) (columns : List ℕ)
+    → list_any (bytes_eq (field_name field)) (map (text_at names) columns) ≡ names_field field names columns
+named_same field names [] = refl
+named_same field names (id ∷ columns) = ap (λ b. is_named field names id || b) (named_same field names columns)
+
+all_hold : {A : Type 0} (test : A → Bool) (xs : List A) → list_all test xs ≡ true → All (λ x. test x ≡ true) xs
+all_hold test [] e = All-nil (λ x. test x ≡ true)
+all_hold test (x ∷ xs) e =
+    let both = and_parts (test x) (list_all test xs) e in
+    All-cons (λ y. test y ≡ true) x xs both.0 (all_hold test xs both.1)
+
+list_holds : {A : Type 0} (test : A → Bool) (xs : List A) → All (λ x. test x ≡ true) xs → list_all test xs ≡ true
+list_holds test [] all = refl
+list_holds test (x ∷ xs) all =
+    let here : test x ≡ true = All-head (λ y. test y ≡ true) x xs all in
+    rw here (list_holds test xs (All-tail (λ y. test y ≡ true) x xs all))
+
+-- a groupby that has these fields as keys
+pub field_keys : (q : TypedQuery) (k : ℕ) (shape : GroupShape) (is : IsGroupby q k shape) (fields : List Field)
+    → has_keys fields shape.key_names ≡ true → All (λ field. makes_field field q.names q.streams ≡ false) fields
+    → All (HasFieldKey q k) fields
+field_keys q k shape is fields named unmade j d lt =
+    let field : Field = get_or fields j d in
+    let all = all_hold (λ f. list_any (bytes_eq (field_name f)) shape.key_names) fields named j d lt in
     record {
-      one = one;
-      groupby = at;
-      key = keyed field q.names q.streams k one both.0 at;
-      unmade = not_false (makes_field field q.names q.streams) both.1;
+      one = is.one;
+      groupby = is.at;
+      key = sym (named_same (get_or fields j d) q.names is.one.columns)
+          ∙ (ap (λ (s : GroupShape). list_any (bytes_eq (field_name (get_or fields j d))) s.key_names) (sym is.is) ∙ all);
+      unmade = unmade j d lt;
     }
-  where
-    not_false : (b : Bool) → not b ≡ true → b ≡ false
-    not_false true e = absurd (cc e)
-    not_false false e = refl
+
+-- fields by which traces may be split are keys of each groupby
+pub split_keys : (q : TypedQuery) → IsValidQuery q → (fields : List Field) → All (λ field. may_split q field ≡ true) fields
+    → (k : ℕ) (shape : GroupShape) → slice_get (query_groups q) k ≡ Some shape → has_keys fields shape.key_names ≡ true
+split_keys q valid fields may k shape e =
+    let is = groupby_at q valid k shape e in
+    list_holds (λ f. list_any (bytes_eq (field_name f)) shape.key_names) fields
+    (λ j d lt. ap (λ (s : GroupShape). list_any (bytes_eq (field_name (get_or fields j d))) s.key_names) is.is
+    ∙ (named_same (get_or fields j d) q.names is.one.columns
+    ∙ keyed (get_or fields j d) q.names q.streams k is.one
+    (and_parts (all_keyed (get_or fields j d) q.names q.streams) (not (makes_field (get_or fields j d) q.names q.streams)) (may j d lt)).0
+    is.at))
+
+pub split_unmade : (q : TypedQuery) (fields : List Field) → All (λ field. may_split q field ≡ true) fields
+    → All (λ field. makes_field field q.names q.streams ≡ false) fields
+split_unmade q fields may j d lt =
+    not_false (makes_field (get_or fields j d) q.names q.streams)
+    (and_parts (all_keyed (get_or fields j d) q.names q.streams) (not (makes_field (get_or fields j d) q.names q.streams)) (may j d lt)).1
 
 -- ---- the part of a key, by the names of its words
 

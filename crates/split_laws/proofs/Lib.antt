@@ -10,3 +10,4 @@ pub mod TableMerges
 pub mod ReadPackets
 pub mod WholeFacts
 pub mod OtherFacts
+pub mod LineFacts

@@ -1,8 +1,7 @@
 -- Folds with a row for each epoch, over parts, and folds that only add, over pieces.
-use Rattle.std.proofs.Common.{◌≡◌, ℕ, suc, ◌<◌, true, false, ◌==◌, cond, List, [], ◌∷◌, ◌++◌, Option, Some, None, length, map}
-use Rattle.std.proofs.Common.{filter, flat_map, fold, refl, sym, ap, ◌∙◌, subst, arith}
-use Rattle.std.specs.Prelude.{All, is_some, slice_get}
-use Rattle.std.specs.List.{cons_option}
+use Rattle.std.proofs.Common.{◌≡◌, ℕ, ◌<◌, true, false, ◌==◌, List, [], ◌∷◌, ◌++◌, Some, length, map}
+use Rattle.std.proofs.Common.{flat_map, fold, refl, sym, ap, ◌∙◌, subst, arith}
+use Rattle.std.specs.Prelude.{All, slice_get}
 use Rattle.std.proofs.lemmas.List.{map-append}
 use Rattle.std.proofs.lemmas.Option.{get_or_from_slice_get, option_and_then_some, slice_get_within}
 use Rattle.additive_laws.proofs.Counts.{not_number, same_number}
@@ -14,7 +13,7 @@ use Rattle.epoch_model.proofs.Cuts.{epochs-pieces, epochs_cut_the_rows_lem}
 use Rattle.epoch_model.proofs.KeyLists.{by_test}
 use Rattle.epoch_model.proofs.TableRows.{joined-some, some}
 use Rattle.epoch_model.specs.Epochs.{Geometry, Use, epochs}
-use Rattle.epoch_model.specs.Keys.{ArgRow, Key, ascending}
+use Rattle.epoch_model.specs.Keys.{ArgRow, Key, ascending, bucket_of}
 use Rattle.epoch_model.specs.Tables.{group_rows, key_rows, keys_used}
 use Rattle.fold_class.proofs.LawLemmas.{additive_class}
 use Rattle.fold_class.specs.Kinds.{class_of}
@@ -24,43 +23,30 @@ use Rattle.part_laws.proofs.Keeping.{others_have_none}
 use mathlib.Core.Path.{fun_ext}
 use Rattle.part_laws.proofs.Tables.{valid_rows}
 use Rattle.part_laws.specs.PartLaws.{but_for_epochs, row_of_state, valid_row}
-use Rattle.part_laws.specs.Parts.{KeepsKeys, groupbys, part_uses, whole_rows}
+use Rattle.part_laws.specs.Parts.{HasFieldKey, KeepsKeys, part_uses, whole_rows}
 use Rattle.part_laws.specs.Pieces.{in_sequence}
 use Rattle.part_texts.specs.Texts.{part_by_hash}
 use Rattle.query_lang.specs.declared.fold.TypedFold.{TypedFold}
 use Rattle.query_lang.specs.declared.typed.TypedQuery.{TypedQuery}
-use Rattle.query_lang.specs.declared.typed.TypedStream.{TypedStream}
 use Rattle.query_lang.specs.Folds.{IsValidFold, folded}
-use Rattle.query_lang.specs.Streams.{Taking, taking_of, takings}
+use Rattle.query_lang.specs.Streams.{Taking, takings}
 use Rattle.query_lang.specs.Words.{AreWords}
 use Rattle.query_laws.specs.ValidLaws.{AcceptedAreValid, AcceptedStartAsWords}
 use Rattle.query_types.specs.Uses.{uses}
-use Rattle.split_fields.specs.SplitLaws.{ByHashKeepsKeys}
+use Rattle.part_laws.specs.AcceptedParts.{AcceptedFieldsKeepKeys}
+use Rattle.split_laws.proofs.Groupbys.{field_keys, groupby_at, split_keys, split_unmade}
+use Rattle.stage_plan.specs.Shape.{query_groups}
+use Rattle.std.specs.Prelude.{get_or}
+use Rattle.std.proofs.lemmas.Option.{slice_get-get_or}
 use Rattle.split_laws.proofs.PartNumbers.{words_at_part}
 use Rattle.split_laws.proofs.WholeFacts.{all_whole, part_read}
 use Rattle.split_laws.specs.SplitTables.{words_of}
-use Rattle.split_laws.specs.WholeRuns.{EachFits, Split, SumsAreOfPieces, ValidRowsAreOfTheWhole, packets_for, uses_of_part}
+use Rattle.split_laws.specs.WholeRuns.{EachFits, Split, SplitFieldsAreKeys, SumsAreOfPieces, ValidRowsAreOfTheWhole, packets_for}
+use Rattle.split_laws.specs.WholeRuns.{uses_of_part}
 use Rattle.split_laws.specs.WholeRuns.{uses_of_whole}
 use Rattle.stage_plan.specs.Planned.{fold_at}
 
 -- ---- a groupby that has a fold
-
-groups_long : (streams : List TypedStream)
-    → length (takings streams) ≡ length (filter (λ (one : TypedStream). is_some (taking_of one.op)) streams)
-groups_long [] = refl
-groups_long (one ∷ streams) = by (taking_of one.op) (groups_long streams)
-  where
-    by : (o : Option Taking) → length (takings streams) ≡ length (filter (λ (s : TypedStream). is_some (taking_of s.op)) streams)
-        → length (cons_option o (takings streams)) ≡ length
-        (cond (is_some o) (one ∷ filter (λ (s : TypedStream). is_some (taking_of s.op)) streams)
-        (filter (λ (s : TypedStream). is_some (taking_of s.op)) streams))
-    by None e = e
-    by (Some t) e = ap suc e
-
-is_group : (q : TypedQuery) (number : ℕ) (f : TypedFold) → fold_at q number ≡ Some f → number < length (groupbys q)
-is_group q number f e =
-    option_and_then_some (λ (t : Taking). slice_get q.folds t.fold_number) (slice_get (takings q.streams) number) f e
-    (λ t at is. omega (arith, slice_get_within (takings q.streams) number t at, groups_long q.streams))
 
 fold_there : (q : TypedQuery) (number : ℕ) (f : TypedFold) (P : TypedFold → Type 0) → All P q.folds → fold_at q number ≡ Some f → P f
 fold_there q number f P all e =
@@ -80,8 +66,8 @@ no_epochs g us key none one =
     by [] e one = omega (arith, one)
     by (rows ∷ lists) e one = cc e
 
-module _ (keep : ByHashKeepsKeys) (s : Split) (fits : EachFits s) (number n : ℕ) (f : TypedFold) (g : Geometry) (key : Key)
-    (less : n < s.parts) (is : fold_at s.q number ≡ Some f) (other : per_epoch (class_of f) ≡ true)
+module _ (keep : AcceptedFieldsKeepKeys) (s : Split) (fits : EachFits s) (number n : ℕ) (f : TypedFold) (g : Geometry) (key : Key)
+    (less : n < s.parts) (keyed : All (HasFieldKey s.q number) s.fields) (other : per_epoch (class_of f) ≡ true)
     (one : length (epochs g (uses_of_part s number n) key) ≡ 1) where
   abbrev partition : List ℕ → ℕ
   partition = part_by_hash s.fields s.salt s.parts
@@ -90,7 +76,7 @@ module _ (keep : ByHashKeepsKeys) (s : Split) (fits : EachFits s) (number n : �
   all_words = words_of (packets_for s.q s.traces)
 
   kept : KeepsKeys (part_by_hash s.fields s.salt s.parts) s.q number
-  kept = keep s.text s.q number s.fields s.salt s.parts s.is_accepted (is_group s.q number f is) s.may
+  kept = keep s.text s.q number s.fields (λ words. bucket_of s.parts (s.salt ∷ words)) s.is_accepted keyed
 
   -- what the run over the part takes is what the part's packets give
   same_uses : uses_of_part s number n ≡ part_uses (part_by_hash s.fields s.salt s.parts) s.q number (words_of (packets_for s.q s.traces)) n
@@ -113,9 +99,16 @@ module _ (keep : ByHashKeepsKeys) (s : Split) (fits : EachFits s) (number n : �
       ∙ valid_rows partition s.q number kept all_words key (all_whole s) (folding_of f) g other
       (ap (λ us. length (epochs g us key)) (sym own) ∙ one)
 
-pub valid_rows_of_parts : ByHashKeepsKeys → ValidRowsAreOfTheWhole
-valid_rows_of_parts keep s fits number n f g key less is other one =
-    valid_there keep s fits number n f g key less is (ap per_epoch other) one
+pub valid_rows_of_parts : AcceptedFieldsKeepKeys → AcceptedAreValid → ValidRowsAreOfTheWhole
+valid_rows_of_parts keep valid s fits number n shape f g key less at named is other one =
+    let group = groupby_at s.q (valid s.text s.q s.is_accepted) number shape at in
+    valid_there keep s fits number n f g key less (field_keys s.q number shape group s.fields named s.unmade) (ap per_epoch other) one
+
+pub split_fields_are_keys : AcceptedAreValid → SplitFieldsAreKeys
+split_fields_are_keys valid text q fields e may = (
+  split_unmade q fields may,
+  λ k d lt. split_keys q (valid text q e) fields may k (get_or (query_groups q) k d) (slice_get-get_or (query_groups q) k d lt),
+)
 
 -- ---- sums
 

@@ -1,10 +1,11 @@
 -- The merges of a query's tables, and the keys of the tables that its joins join.
-use Rattle.std.proofs.Common.{◌≡◌, ℕ, zero, suc, ◌+◌, List, [], ◌∷◌, ◌++◌, Option, Some, Ok, length, map}
+use Rattle.std.proofs.Common.{◌≡◌, Bool, true, false, cond, ℕ, zero, suc, ◌+◌, List, [], ◌∷◌, ◌++◌, Option, Some, Ok, length, map}
 use Rattle.std.proofs.Common.{refl, sym, ap, ◌∙◌, subst, inl, inr, arith, length-append}
 use Rattle.std.specs.Prelude.{All, slice_get, option_map, unwrap_or}
 use Rattle.std.proofs.lemmas.List.{length-map}
 use Rattle.std.proofs.lemmas.Option.{same_Some, slice_get-map, slice_get_cases, slice_get_within}
 use Rattle.accepted_query.specs.Accepted.{accepted}
+use Rattle.marple_base.specs.declared.field.Field.{Field}
 use Rattle.query_lang.specs.declared.query.Query.{Query}
 use Rattle.query_lang.specs.declared.typed.Class.{Class}
 use Rattle.query_lang.specs.declared.typed.Class.TheVariants.{Linear, Other}
@@ -21,7 +22,8 @@ use Rattle.query_laws.specs.Context.{finals_in, streams_in}
 use Rattle.query_laws.specs.QueryRules.{IsTyped}
 use Rattle.stage_plan.specs.Shape.{GroupShape, query_groups, text_at}
 use Rattle.part_laws.specs.Parts.{groupbys}
-use Rattle.split_laws.specs.Merging.{Merge, InOrder, TopAgain, NotMerged, by_class, final_merge, group_merge, joined, merge_at, merges}
+use Rattle.split_laws.specs.Merging.{Merge, InOrder, TopAgain, NotMerged, by_class, final_merge, group_merge, has_keys, joined, merge_at}
+use Rattle.split_laws.specs.Merging.{merges}
 use Rattle.split_laws.specs.Merging.{merges_with, still_in_order, top_of}
 use Rattle.split_laws.proofs.FinalWalk.{JoinsMatch, here_push, merge_kept, merges_kept}
 use Rattle.split_laws.proofs.Groupbys.{groupby_at, shapes_long}
@@ -75,35 +77,44 @@ class_made : (class : Class) (names keys : List (List ℕ)) → by_class class n
 class_made Linear names keys e = cc e
 class_made Other names keys e = absurd (cc e)
 
-module _ (q : TypedQuery) (valid : IsValidQuery q) where
+group_kept : (fields : List Field) (shape : GroupShape) (keys : List (List ℕ)) → group_merge fields shape ≡ InOrder keys
+    → shape.key_names ≡ keys
+group_kept fields shape keys = by (has_keys fields shape.key_names)
+  where
+    by : (b : Bool) → cond b (by_class shape.class shape.key_names) NotMerged ≡ InOrder keys → shape.key_names ≡ keys
+    by true e = class_made shape.class shape.key_names keys e
+    by false e = absurd (cc e)
+
+module _ (fields : List Field) (q : TypedQuery) (valid : IsValidQuery q) where
   keys_long : length (group_keys q.streams) ≡ length (query_groups q)
   keys_long = length-map (groupbys q) (λ (one : TypedStream). one.columns) ∙ sym (shapes_long q valid)
 
   group_made : (j : ℕ) (columns : List ℕ) (keys : List (List ℕ)) → slice_get (group_keys q.streams) j ≡ Some columns
-      → merge_at (merges q) j ≡ InOrder keys → keys ≡ map (text_at q.names) columns
+      → merge_at (merges fields q) j ≡ InOrder keys → keys ≡ map (text_at q.names) columns
   group_made j columns keys e is = elim ((slice_get_cases (query_groups q) j).1) [
     | inl found ↦
         let shape : GroupShape = found.0 in
         let at = groupby_at q valid j found.0 found.2 in
-        let listed : slice_get (map group_merge (query_groups q)) j ≡ Some (group_merge found.0) =
-        slice_get-map group_merge (query_groups q) j ∙ ap (option_map group_merge) found.2 in
-        let here : group_merge found.0 ≡ InOrder keys = ap (λ (o : Option Merge). unwrap_or o NotMerged)
-        (sym (merges_kept q.finals (map group_merge (query_groups q)) j (group_merge found.0) listed)) ∙ is in
+        let listed : slice_get (map (group_merge fields) (query_groups q)) j ≡ Some (group_merge fields found.0) =
+        slice_get-map (group_merge fields) (query_groups q) j ∙ ap (option_map (group_merge fields)) found.2 in
+        let here : group_merge fields found.0 ≡ InOrder keys = ap (λ (o : Option Merge). unwrap_or o NotMerged)
+        (sym (merges_kept q.finals (map (group_merge fields) (query_groups q)) j (group_merge fields found.0) listed)) ∙ is in
         let own : Some at.one.columns ≡ Some columns = sym (slice_get-map (λ (one : TypedStream). one.columns) (groupbys q) j
         ∙ ap (option_map (λ (one : TypedStream). one.columns)) at.at) ∙ e in
-        sym (class_made found.0.class found.0.key_names keys here)
+        sym (group_kept fields found.0 keys here)
         ∙ (ap (λ (s : GroupShape). s.key_names) at.is ∙ ap (map (text_at q.names)) (same_Some at.one.columns columns own))
     | inr past ↦ absurd (let less = slice_get_within (group_keys q.streams) j columns e in omega (arith, less, past.0, keys_long))
   ]
 
   final_of : (j : ℕ) (one : TypedFinal) (keys : List (List ℕ)) → slice_get q.finals j ≡ Some one
-      → merge_at (merges q) (length (query_groups q) + j) ≡ InOrder keys → IsMadeOf (merges q) keys one.op
+      → merge_at (merges fields q) (length (query_groups q) + j) ≡ InOrder keys → IsMadeOf (merges fields q) keys one.op
   final_of j one keys e is =
-      final_made q.finals (map group_merge (query_groups q)) j one keys e
-      (ap (λ n. merge_at (merges q) (n + j)) (length-map (query_groups q) group_merge) ∙ is)
+      final_made q.finals (map (group_merge fields) (query_groups q)) j one keys e
+      (ap (λ n. merge_at (merges fields q) (n + j)) (length-map (query_groups q) (group_merge fields)) ∙ is)
 
-typed_match : (q : TypedQuery) → IsValidQuery q → (query : Query) → IsTyped query q → All (λ one. JoinsMatch (merges q) one.op) q.finals
-typed_match q valid query typed =
+typed_match : (fields : List Field) (q : TypedQuery) → IsValidQuery q → (query : Query) → IsTyped query q
+    → All (λ one. JoinsMatch (merges fields q) one.op) q.finals
+typed_match fields q valid query typed =
     let names : List (List ℕ) = typed_names query.names in
     let streams : q.streams ≡ streams_in typed.items = ap (λ (z : TypedQuery). z.streams) typed.is in
     let finals : q.finals ≡ finals_in typed.items = ap (λ (z : TypedQuery). z.finals) typed.is in
@@ -113,16 +124,17 @@ typed_match q valid query typed =
     let few = counted.few (omega arith) in
     let keys = counted.keys refl in
     let long : length (group_keys q.streams) ≡ length (group_keys (streams_in typed.items)) = ap (λ ss. length (group_keys ss)) streams in
-    let groups : given.groups ≡ length (query_groups q) = omega (arith, counted.count_is, few, keys, long, keys_long q valid) in
+    let groups : given.groups ≡ length (query_groups q) = omega (arith, counted.count_is, few, keys, long, keys_long fields q valid) in
     let of_group = λ (j : ℕ) (columns : List ℕ) (found : List (List ℕ)) (at : slice_get (group_keys q.streams) j ≡ Some columns)
-    (is : merge_at (merges q) j ≡ InOrder found).
-    group_made q valid j columns found at is ∙ ap (λ ns. map (text_at ns) columns) same in
-    let holds = all_items names (length (query_groups q)) (merges q) q.streams q.finals of_group (final_of q valid) given [] query.items
+    (is : merge_at (merges fields q) j ≡ InOrder found).
+    group_made fields q valid j columns found at is ∙ ap (λ ns. map (text_at ns) columns) same in
+    let holds = all_items names (length (query_groups q)) (merges fields q) q.streams q.finals
+    of_group (final_of fields q valid) given [] query.items
     typed.items groups typed.typed streams finals
-    (none_yet names (length (query_groups q)) (merges q) q.streams q.finals of_group (final_of q valid)) in
-    subst (λ fs. All (λ (one : TypedFinal). JoinsMatch (merges q) one.op) fs) (sym finals) holds.match
+    (none_yet names (length (query_groups q)) (merges fields q) q.streams q.finals of_group (final_of fields q valid)) in
+    subst (λ fs. All (λ (one : TypedFinal). JoinsMatch (merges fields q) one.op) fs) (sym finals) holds.match
 
 -- the tables that an accepted text joins have the same keys
-pub joins_match : (text : List ℕ) (q : TypedQuery) → accepted text ≡ Ok q → IsValidQuery q
-    → All (λ one. JoinsMatch (merges q) one.op) q.finals
-joins_match text q e valid = let p = accepted_sound text q e in typed_match q valid p.query p.typed
+pub joins_match : (fields : List Field) (text : List ℕ) (q : TypedQuery) → accepted text ≡ Ok q → IsValidQuery q
+    → All (λ one. JoinsMatch (merges fields q) one.op) q.finals
+joins_match fields text q e valid = let p = accepted_sound text q e in typed_match fields q valid p.query p.typed

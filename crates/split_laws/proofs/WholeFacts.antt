@@ -92,14 +92,14 @@ module _ (in_order : AcceptedTablesInOrder) (s : Split) (valid : IsValidQuery s.
   over_part n = query_tables s.q (caches n) (words_of (packets_in_part s n))
 
   all_stand : Stands (part_named s.fields (λ words. bucket_of s.parts (s.salt ∷ words))) (range_with_len 0 s.parts) (are_apart 0 s.parts)
-      s.q.names s.q.folds (merges s.q) (tables_of_whole s.q g s.traces) over_part
+      s.q.names s.q.folds (merges s.fields s.q) (tables_of_whole s.q g s.traces) over_part
   all_stand =
       walk (part_named s.fields (λ words. bucket_of s.parts (s.salt ∷ words))) (range_with_len 0 s.parts) (are_apart 0 s.parts)
-      s.q.names s.q.folds s.q.finals (map group_merge (query_groups s.q)) (group_tables s.q g (words_of sent))
+      s.q.names s.q.folds s.q.finals (map (group_merge s.fields) (query_groups s.q)) (group_tables s.q g (words_of sent))
       (λ n. group_tables s.q (caches n) (words_of (packets_in_part s n)))
-      (groups_stand in_order s.text s.q s.fields s.salt s.parts sent s.is_accepted s.may s.some (all_whole s) valid g caches s.q.names
+      (groups_stand in_order s.text s.q s.fields s.salt s.parts sent s.is_accepted s.unmade s.some (all_whole s) valid g caches s.q.names
       s.q.folds)
-      (joins_match s.text s.q s.is_accepted valid)
+      (joins_match s.fields s.text s.q s.is_accepted valid)
 
   module _ (fits : EachFits s) (number : ℕ) where
     abbrev run_at : ℕ → Option Table
@@ -124,27 +124,28 @@ module _ (in_order : AcceptedTablesInOrder) (s : Split) (valid : IsValidQuery s.
         finish (tables_of_whole s.q g s.traces) (over_part 0) number first rows
         (tables_headed s.q g (caches 0) (words_of sent) (words_of (packets_in_part s 0))) (sym (runs_agree 0 s.some) ∙ at) are ∙ e
 
-    with_first : (first table : Table) → run_at 0 ≡ Some first → (how : Merge) → merge_at (merges s.q) number ≡ how
+    with_first : (first table : Table) → run_at 0 ≡ Some first → (how : Merge) → merge_at (merges s.fields s.q) number ≡ how
         → option_map (with_rows first) (merged_rows how all_rows) ≡ Some table
         → option_map table_but_for_epochs (slice_get (tables_of_whole s.q g s.traces) number) ≡ Some table
     with_first first table at NotMerged is e = absurd (cc e)
     with_first first table at (InOrder keys) is e =
-        let here = all_stand.each number (InOrder keys) (merge_found (merges s.q) number (InOrder keys) (λ no. cc no) is) in
+        let here = all_stand.each number (InOrder keys) (merge_found (merges s.fields s.q) number (InOrder keys) (λ no. cc no) is) in
         by_rows first table at all_rows (here.are.all ∙ sym rows_agree) e
     with_first first table at (TopAgain column kept) is e =
         let here = all_stand.each number (TopAgain column kept)
-        (merge_found (merges s.q) number (TopAgain column kept) (λ no. cc no) is) in
+        (merge_found (merges s.fields s.q) number (TopAgain column kept) (λ no. cc no) is) in
         by_rows first table at (top_rows column kept all_rows) (here ∙ ap (top_rows column kept) (sym rows_agree)) e
 
-    whole_table : (table : Table) → merged (merge_at (merges s.q) number) s.parts run_at ≡ Some table
+    whole_table : (table : Table) → merged (merge_at (merges s.fields s.q) number) s.parts run_at ≡ Some table
         → option_map table_but_for_epochs (slice_get (tables_of_whole s.q g s.traces) number) ≡ Some table
     whole_table table e = by (run_at 0) refl e
       where
         by : (o : Option Table) → run_at 0 ≡ o
-            → option_and_then (λ first. option_map (with_rows first) (merged_rows (merge_at (merges s.q) number) all_rows)) o ≡ Some table
+            → option_and_then (λ first. option_map (with_rows first)
+            (merged_rows (merge_at (merges s.fields s.q) number) all_rows)) o ≡ Some table
             → option_map table_but_for_epochs (slice_get (tables_of_whole s.q g s.traces) number) ≡ Some table
         by None at e = absurd (cc e)
-        by (Some first) at e = with_first first table at (merge_at (merges s.q) number) refl e
+        by (Some first) at e = with_first first table at (merge_at (merges s.fields s.q) number) refl e
 
 pub whole_runs : AcceptedTablesInOrder → AcceptedAreValid → PartsAreTheRun
 whole_runs in_order valid s fits g caches number table e =

@@ -1,11 +1,15 @@
 -- How the tables that runs over the parts of a trace give are merged.
-use Rattle.std.specs.Prelude.{ℕ, List, [], ◌∷◌, ◌++◌, map, fold, slice_get, Option, None, Some, option_and_then, option_map, unwrap_or}
-use Rattle.std.specs.List.{range_with_len}
+use Rattle.std.specs.Prelude.{if◌then◌else◌, ℕ, Bool, List, [], ◌∷◌, ◌++◌, map, fold, slice_get, Option, None, Some, option_and_then}
+use Rattle.std.specs.Prelude.{option_map, unwrap_or}
+use Rattle.std.specs.List.{list_all, list_any, range_with_len}
+use Rattle.std.specs.Str.{bytes_eq}
 use Rattle.epoch_model.specs.declared.tables.Row.{Row}
 use Rattle.final_queries.specs.Finals.{top_rows}
 use Rattle.final_queries.specs.declared.table.Table.{Table}
 use Rattle.final_queries.specs.declared.table.TableKind.{TableKind}
 use Rattle.final_queries.specs.declared.table.TableKind.TheVariants as kind
+use Rattle.marple_base.specs.Field.{field_name}
+use Rattle.marple_base.specs.declared.field.Field.{Field}
 use Rattle.query_lang.specs.declared.typed.Class.{Class}
 use Rattle.query_lang.specs.declared.typed.Class.TheVariants.{Linear, Other}
 use Rattle.query_lang.specs.declared.typed.TypedFinal.{TypedFinal}
@@ -25,13 +29,18 @@ pub data Merge : Type 0 where
   TopAgain : ℕ → ℕ → Merge
   NotMerged : Merge
 
+-- whether each of these fields is one of the keys with these names
+abbrev pub has_keys : List Field → List (List ℕ) → Bool
+has_keys fields keys = list_all (λ field. list_any (bytes_eq (field_name field)) keys) fields
+
 -- the table of a groupby is merged where each key has one row
 abbrev pub by_class : Class → List (List ℕ) → Merge
 by_class Linear keys = InOrder keys
 by_class Other keys = NotMerged
 
-abbrev pub group_merge : GroupShape → Merge
-group_merge shape = by_class shape.class shape.key_names
+-- and where the fields by which packets are split are among its keys
+abbrev pub group_merge : List Field → GroupShape → Merge
+group_merge fields shape = if has_keys fields shape.key_names then by_class shape.class shape.key_names else NotMerged
 
 -- the merge of the table with this number
 abbrev pub merge_at : List Merge → ℕ → Merge
@@ -66,9 +75,10 @@ final_merge known (Top input column kept) = top_of column kept (merge_at known i
 abbrev pub merges_with : List Merge → List TypedFinal → List Merge
 merges_with known finals = fold (λ before one. before ++ final_merge before one.op ∷ []) known finals
 
--- How the tables of a query are merged, by their numbers: those of groupbys, and then those of finals.
-abbrev pub merges : TypedQuery → List Merge
-merges q = merges_with (map group_merge (query_groups q)) q.finals
+-- How the tables of a query are merged where packets are split by these fields, by their numbers: those of groupbys, and then those
+-- of finals.
+abbrev pub merges : List Field → TypedQuery → List Merge
+merges fields q = merges_with (map (group_merge fields) (query_groups q)) q.finals
 
 -- ---- merging
 

@@ -1,5 +1,6 @@
 -- Runs over the texts of parts give what a run over the whole gives.
-use Rattle.std.specs.Prelude.{◌≡◌, ◌≤◌, ◌<◌, ℕ, true, List, [], ◌∷◌, length, map, flat_map, fold, slice_get, All, Ok, Some, option_map}
+use Rattle.std.specs.Prelude.{◌≡◌, ◌≤◌, ◌<◌, ℕ, true, false, List, [], ◌∷◌, length, map, flat_map, fold, slice_get, All, Ok, Some}
+use Rattle.std.specs.Prelude.{option_map}
 use Rattle.accepted_query.specs.Accepted.{accepted}
 use Rattle.additive_laws.specs.Amounts.{plus, zeros}
 use Rattle.additive_laws.specs.TraceLaws.{rows_used}
@@ -21,10 +22,12 @@ use Rattle.query_lang.specs.Folds.{folded}
 use Rattle.query_tables.specs.Tables.{query_tables}
 use Rattle.query_types.specs.Uses.{uses}
 use Rattle.split_fields.specs.Splits.{may_split}
-use Rattle.split_laws.specs.Merging.{merge_at, merged, merges, table_but_for_epochs}
+use Rattle.net_laws.specs.Fields.{makes_field}
+use Rattle.split_laws.specs.Merging.{has_keys, merge_at, merged, merges, table_but_for_epochs}
 use Rattle.split_laws.specs.SplitTables.{words_of}
 use Rattle.stage_plan.specs.Fields.{reads_of}
 use Rattle.stage_plan.specs.Planned.{fold_at}
+use Rattle.stage_plan.specs.Shape.{GroupShape, query_groups}
 use Rattle.trace_reader.specs.Traces.{most_bytes, most_records, packets}
 use Rattle.trace_split.specs.Traces.{packets_of_all}
 
@@ -40,7 +43,8 @@ packets_for q traces = packets_of_all traces (reads_of q)
 abbrev pub tables_of_whole : TypedQuery → Geometry → List (List ℕ) → List Table
 tables_of_whole q g traces = query_tables q g (words_of (packets_for q traces))
 
--- Traces that are split for an accepted text: by fields that may decide the part, with a salt, into a number of parts.
+-- Traces that are split for an accepted text: by a hash of fields of which no `map` makes columns, begun with a salt, into a number of
+-- parts.
 pub record Split : Type 0 where
   pub text : List ℕ
   pub q : TypedQuery
@@ -49,7 +53,7 @@ pub record Split : Type 0 where
   pub parts : ℕ
   pub traces : List (List ℕ)
   pub is_accepted : accepted text ≡ Ok q
-  pub may : All (λ field. may_split q field ≡ true) fields
+  pub unmade : All (λ field. makes_field field q.names q.streams ≡ false) fields
   pub some : 0 < parts
 
 -- the packets of a part, and its text
@@ -68,10 +72,12 @@ abbrev pub EachFits : Split → Type 0
 EachFits s = (n : ℕ) → n < s.parts → FitsOneRun s n
 
 -- What is merged of the tables that runs over the texts of the parts give, whatever the caches of each run, is the table of the
--- whole, but for numbers of epochs: for each groupby with a row for each key, and for each final that is made of such tables.
+-- whole, but for numbers of epochs: for each groupby that has these fields as keys, and a row for each key, and for each final that is
+-- made of such tables.
 abbrev pub PartsAreTheRun : Type 0
 PartsAreTheRun = (s : Split) → EachFits s → (g : Geometry) (caches : ℕ → Geometry) (number : ℕ) (table : Table)
-    → merged (merge_at (merges s.q) number) s.parts (λ n. slice_get (tables_of_run s.q (caches n) (text_of_part s n)) number) ≡ Some table
+    → merged (merge_at (merges s.fields s.q) number) s.parts
+    (λ n. slice_get (tables_of_run s.q (caches n) (text_of_part s n)) number) ≡ Some table
     → option_map table_but_for_epochs (slice_get (tables_of_whole s.q g s.traces) number) ≡ Some table
 
 -- what the groupby with this number takes in a run over the text of a part, and of the whole
@@ -81,12 +87,21 @@ uses_of_part s number n = uses s.q number (words_of (packets (text_of_part s n) 
 abbrev pub uses_of_whole : Split → ℕ → List Use
 uses_of_whole s number = uses s.q number (words_of (packets_for s.q s.traces))
 
--- Where each epoch has a row, a key that has one epoch in a part has there the valid row of all rows that the whole gives the key.
+-- Where each epoch has a row, a key that has one epoch in a part has there the valid row of all rows that the whole gives the key, if
+-- the groupby has these fields as keys.
 abbrev pub ValidRowsAreOfTheWhole : Type 0
-ValidRowsAreOfTheWhole = (s : Split) → EachFits s → (number n : ℕ) (f : TypedFold) (g : Geometry) (key : Key) → n < s.parts
+ValidRowsAreOfTheWhole = (s : Split) → EachFits s → (number n : ℕ) (shape : GroupShape) (f : TypedFold) (g : Geometry) (key : Key)
+    → n < s.parts → slice_get (query_groups s.q) number ≡ Some shape → has_keys s.fields shape.key_names ≡ true
     → fold_at s.q number ≡ Some f → class_of f ≡ Other → length (epochs g (uses_of_part s number n) key) ≡ 1
     → key_rows (folding_of f) g (uses_of_part s number n) key
     ≡ valid_row (folding_of f) key (rows_used key (uses_of_whole s number)) ∷ []
+
+-- Fields by which `marple-tools` may split are keys of each groupby, and no `map` makes columns of their names.
+abbrev pub SplitFieldsAreKeys : Type 0
+SplitFieldsAreKeys = (text : List ℕ) (q : TypedQuery) (fields : List Field) → accepted text ≡ Ok q
+    → All (λ field. may_split q field ≡ true) fields
+    → All (λ field. makes_field field q.names q.streams ≡ false) fields
+    × All (λ shape. has_keys fields shape.key_names ≡ true) (query_groups q)
 
 -- Where a fold only adds, and packets are those of any pieces one after the other, the table over all packets has, for each key of
 -- the pieces' tables in ascending order, the row of the start and, piece after piece, what the piece's rows lead to from zeros.

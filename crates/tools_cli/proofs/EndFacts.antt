@@ -8,12 +8,13 @@ use Rattle.query_lang.specs.declared.typed.TypedQuery.{TypedQuery}
 use Rattle.trace_pieces.specs.declared.fault.WholeFault.{WholeFault}
 use Rattle.trace_split.specs.Holding.{Taken}
 use Rattle.trace_split.specs.Traces.{OneRose}
-use Rattle.tools_cli.specs.Call.{IsAfterQuery, WhereSplit}
+use Rattle.tools_cli.specs.Call.{IsAfterQuery, IsOfFacts, WhereFacts, WhereSplit}
 use Rattle.tools_cli.specs.Ends.{IsAcceptedWith, IsFirstFault, IsRefusedFor, IsSplit, SplitEnds, split_by}
+use Rattle.tools_cli.specs.FactsEnds.{FactsEnd}
 use Rattle.tools_cli.specs.Statuses.{status_of}
 use Rattle.tools_cli.specs.declared.command.SplitSetting.{SplitSetting}
 use Rattle.tools_cli.specs.declared.command.ToolCommand.{ToolCommand}
-use Rattle.tools_cli.specs.declared.command.ToolCommand.TheVariants.{Split}
+use Rattle.tools_cli.specs.declared.command.ToolCommand.TheVariants.{Facts, Split}
 use Rattle.tools_cli.specs.declared.status.ToolStatus.{ToolStatus}
 use Rattle.tools_cli.specs.declared.status.ToolStatus.TheVariants as tools
 
@@ -30,6 +31,17 @@ where_split asked setting P is holds other is_other =
 pub where_none : (asked : Option ToolCommand) (P : SplitSetting → Type 0) → asked ≡ None → WhereSplit asked P
 where_none asked P none other is_other = absurd (cc (none, is_other))
 
+-- what holds where facts aren't asked for, and where a splitting isn't
+pub where_none_facts : (asked : Option ToolCommand) (P : Type 0) → asked ≡ None → WhereFacts asked P
+where_none_facts asked P none is = absurd (cc (none, is))
+
+pub where_facts_no_split : (asked : Option ToolCommand) (P : SplitSetting → Type 0) → asked ≡ Some Facts → WhereSplit asked P
+where_facts_no_split asked P facts other is_other = absurd (cc (facts, is_other))
+
+pub where_split_no_facts : (asked : Option ToolCommand) (setting : SplitSetting) (P : Type 0) → asked ≡ Some (Split setting)
+    → WhereFacts asked P
+where_split_no_facts asked setting P split is = absurd (cc (split, is))
+
 pub fronts_of : (asked : Option ToolCommand) (setting : SplitSetting) (answer : Result (Unit {0}) ToolStatus) (P : SplitSetting → Type 0)
     → OnErr answer (P setting) → asked ≡ Some (Split setting) → status_of answer ≢ tools.Ok → WhereSplit asked P
 fronts_of asked setting (Ok done) P fronts is not = absurd (not refl)
@@ -40,67 +52,116 @@ pub accepted_so : (query : Option (List ℕ)) (P Q : TypedQuery → Type 0) → 
     → IsAcceptedWith query Q
 accepted_so query P Q so holds text is = let found = holds text is in (found.0, found.1, so found.0 found.2)
 
+-- ---- what a command answers
+
+-- a command that ended in a fault or a refusal ended so
+pub ended : (answer : Result (Unit {0}) ToolStatus) (Ends : ToolStatus → Type 0) → IfErr answer Ends → status_of answer ≢ tools.Ok
+    → Ends (status_of answer)
+ended (Ok done) Ends ends not = absurd (not refl)
+ended (Err status) Ends ends not = ends
+
+-- what a command gave that wasn't refused
+pub ok_of : (answer : Result (Unit {0}) ToolStatus) (Ends : ToolStatus → Type 0) (P : Type 0) → (Ends tools.Ok → ⊥) → OnOk answer P
+    → IfErr answer Ends → status_of answer ≡ tools.Ok → P
+ok_of (Ok done) Ends P never holds ends is = holds
+ok_of (Err status) Ends P never holds ends is = absurd (never (subst Ends is ends))
+
+-- a command that is asked for doesn't end as one that isn't
+pub not_usage : (asked : Option ToolCommand) (answer : Result (Unit {0}) ToolStatus) (Ends : ToolStatus → Type 0) → (Ends tools.Usage → ⊥)
+    → IfErr answer Ends → asked ≡ Some Facts → (status_of answer ≡ tools.Usage) ↔ (asked ≡ None)
+not_usage asked (Ok done) Ends never ends is = ((λ e. absurd (cc e)), (λ e. absurd (cc (is, e))))
+not_usage asked (Err status) Ends never ends is = ((λ e. absurd (never (subst Ends e ends))), (λ e. absurd (cc (is, e))))
+
 -- ---- what each status says
 
 module _ (query : Option (List ℕ)) (Bytes : List (List ℕ) → Type 0) (query_old query_new : ℕ) (traces_old traces_new : List ℕ)
-    (parts_old parts_new : ℕ) where
-  abbrev Ends : ToolStatus → Type 0
-  Ends = SplitEnds query Bytes query_old query_new traces_old traces_new parts_old parts_new
+    (parts_old parts_new out_old out_new : ℕ) (asked : Option ToolCommand) (status : ToolStatus) where
+  abbrev OfSplit : ToolStatus → Type 0
+  OfSplit = SplitEnds query Bytes query_old query_new traces_old traces_new parts_old parts_new
 
-  -- a splitting that ended in a fault or a refusal wasn't done
-  is_not_ok : (status : ToolStatus) → Ends status → status ≡ tools.Ok → ⊥
-  is_not_ok status ends is = subst Ends is ends
+  abbrev OfFacts : ToolStatus → Type 0
+  OfFacts = FactsEnd query_old query_new out_old out_new
 
-  -- ---- of what a splitting answers
+  module _ (usage : (status ≡ tools.Usage) ↔ (asked ≡ None)) (ends : status ≢ tools.Ok → WhereSplit asked (λ _. OfSplit status))
+      (facts_end : status ≢ tools.Ok → WhereFacts asked (OfFacts status)) where
+    -- a status other than `Ok` and `Usage` is that of a splitting or of facts
+    by_command : (P : Type 0) → status ≢ tools.Ok → status ≢ tools.Usage → (OfSplit status → P) → (OfFacts status → P) → P
+    by_command P not_ok not_usage of_split of_facts = by asked refl
+      where
+        by : (found : Option ToolCommand) → asked ≡ found → P
+        by None is = absurd (not_usage (usage.1 is))
+        by (Some (Split setting)) is = of_split (ends not_ok setting is)
+        by (Some Facts) is = of_facts (facts_end not_ok is)
 
-  pub ok_of : (asked : Option ToolCommand) (setting : SplitSetting) (answer : Result (Unit {0}) ToolStatus) (P : SplitSetting → Type 0)
-      → OnOk answer (P setting) → IfErr answer Ends → asked ≡ Some (Split setting) → status_of answer ≡ tools.Ok → WhereSplit asked P
-  ok_of asked setting (Ok done) P holds ends is e = where_split asked setting P is holds
-  ok_of asked setting (Err status) P holds ends is e = absurd (is_not_ok status ends e)
-
-  -- ---- clause by clause
-
-  module _ (status : ToolStatus) (ends : status ≢ tools.Ok → status ≢ tools.Usage → Ends status) where
     pub at_query_fault : status ≡ tools.InputFault Query → Rose query_old query_new
-    at_query_fault is = subst Ends is (ends (λ e. absurd (cc (is, e))) (λ e. absurd (cc (is, e))))
+    at_query_fault is =
+        by_command (Rose query_old query_new) (λ e. absurd (cc (is, e))) (λ e. absurd (cc (is, e))) (λ all. subst OfSplit is all)
+        (λ all. subst OfFacts is all)
 
     pub at_trace_fault : status ≡ tools.InputFault Trace → OneRose traces_old traces_new
-    at_trace_fault is = let all = subst Ends is (ends (λ e. absurd (cc (is, e))) (λ e. absurd (cc (is, e)))) in all.0
+    at_trace_fault is =
+        by_command (OneRose traces_old traces_new) (λ e. absurd (cc (is, e))) (λ e. absurd (cc (is, e)))
+        (λ all. let split = subst OfSplit is all in split.0) (λ all. absurd (subst OfFacts is all))
 
-    pub at_output_fault : status ≡ tools.OutputFault → Rose parts_old parts_new
-    at_output_fault is = let all = subst Ends is (ends (λ e. absurd (cc (is, e))) (λ e. absurd (cc (is, e)))) in all.0
+    pub at_parts_fault : status ≡ tools.OutputFault → WhereSplit asked (λ _. Rose parts_old parts_new)
+    at_parts_fault is setting split = let all = subst OfSplit is (ends (λ e. absurd (cc (is, e))) setting split) in all.0
+
+    pub at_out_fault : status ≡ tools.OutputFault → WhereFacts asked (Rose out_old out_new)
+    at_out_fault is facts = subst OfFacts is (facts_end (λ e. absurd (cc (is, e))) facts)
 
     pub at_query_refused : (fault : QueryFault) → status ≡ tools.QueryRefused fault → IsRefusedFor query fault
-    at_query_refused fault is = subst Ends is (ends (λ e. absurd (cc (is, e))) (λ e. absurd (cc (is, e))))
+    at_query_refused fault is =
+        by_command (IsRefusedFor query fault) (λ e. absurd (cc (is, e))) (λ e. absurd (cc (is, e))) (λ all. subst OfSplit is all)
+        (λ all. absurd (subst OfFacts is all))
 
     pub at_field_needed : status ≡ tools.FieldNeeded → IsAcceptedWith query (λ q. split_by q ≡ [])
-    at_field_needed is = subst Ends is (ends (λ e. absurd (cc (is, e))) (λ e. absurd (cc (is, e))))
+    at_field_needed is =
+        by_command (IsAcceptedWith query (λ q. split_by q ≡ [])) (λ e. absurd (cc (is, e))) (λ e. absurd (cc (is, e)))
+        (λ all. subst OfSplit is all) (λ all. absurd (subst OfFacts is all))
 
     pub at_trace_refused : (fault : WholeFault) → status ≡ tools.TraceRefused fault → IsAcceptedWith query (IsFirstFault Bytes fault)
     at_trace_refused fault is =
-        accepted_so query (λ q. (split_by q ≢ []) × IsFirstFault Bytes fault q) (IsFirstFault Bytes fault) (λ q holds. holds.1)
-        (subst Ends is (ends (λ e. absurd (cc (is, e))) (λ e. absurd (cc (is, e)))))
+        by_command (IsAcceptedWith query (IsFirstFault Bytes fault)) (λ e. absurd (cc (is, e))) (λ e. absurd (cc (is, e)))
+        (λ all. accepted_so query (λ q. (split_by q ≢ []) × IsFirstFault Bytes fault q) (IsFirstFault Bytes fault) (λ q holds. holds.1)
+        (subst OfSplit is all)) (λ all. absurd (subst OfFacts is all))
 
-  -- what comes after the query says that it is accepted, and that traces may be split by some field
-  pub after_query : (asked : Option ToolCommand) (old new : Taken) (status : ToolStatus) → (status ≡ tools.Usage) ↔ (asked ≡ None)
+    -- facts end in no other status
+    pub of_facts : WhereFacts asked (IsOfFacts status)
+    of_facts facts = by status refl
+      where
+        such : (found : ToolStatus) → status ≡ found → found ≢ tools.Ok → OfFacts found
+        such found is not = subst OfFacts is (facts_end (λ e. not (cc (is, e))) facts)
+
+        by : (found : ToolStatus) → status ≡ found → IsOfFacts found
+        by tools.Ok is = tt
+        by tools.Memory is = tt
+        by (tools.InputFault Query) is = tt
+        by tools.OutputFault is = tt
+        by (tools.InputFault Trace) is = such (tools.InputFault Trace) is (λ e. absurd (cc e))
+        by (tools.QueryRefused fault) is = such (tools.QueryRefused fault) is (λ e. absurd (cc e))
+        by tools.FieldNeeded is = such tools.FieldNeeded is (λ e. absurd (cc e))
+        by (tools.TraceRefused fault) is = such (tools.TraceRefused fault) is (λ e. absurd (cc e))
+        by tools.Usage is = such tools.Usage is (λ e. absurd (cc e))
+
+-- what comes after the query of a splitting says that it is accepted, and that traces may be split by some field
+module _ (query : Option (List ℕ)) (Bytes : List (List ℕ) → Type 0) (query_old query_new : ℕ) (traces_old traces_new : List ℕ)
+    (parts_old parts_new : ℕ) (asked : Option ToolCommand) (old new : Taken) where
+  abbrev Ends : ToolStatus → Type 0
+  Ends = SplitEnds query Bytes query_old query_new traces_old traces_new parts_old parts_new
+
+  pub after_query : (status : ToolStatus)
       → (status ≡ tools.Ok → WhereSplit asked (λ setting. IsAcceptedWith query (IsSplit Bytes old new setting)))
-      → (status ≢ tools.Ok → status ≢ tools.Usage → Ends status)
-      → IsAfterQuery status → IsAcceptedWith query (λ q. split_by q ≢ [])
-  after_query None old new tools.Ok usage ok ends after = absurd (ok_is_no_usage (usage.1 refl))
-    where
-      ok_is_no_usage : tools.Ok ≡ tools.Usage → ⊥
-      ok_is_no_usage e = cc
-  after_query (Some (Split setting)) old new tools.Ok usage ok ends after =
-      accepted_so query (IsSplit Bytes old new setting) (λ q. split_by q ≢ []) (λ q split. split.some) (ok refl setting refl)
-  after_query asked old new (tools.InputFault Trace) usage ok ends after =
-      let all = ends (λ e. absurd (cc e)) (λ e. absurd (cc e)) in all.1
-  after_query asked old new (tools.TraceRefused fault) usage ok ends after =
+      → (status ≢ tools.Ok → WhereSplit asked (λ _. Ends status))
+      → IsAfterQuery status → WhereSplit asked (λ _. IsAcceptedWith query (λ q. split_by q ≢ []))
+  after_query tools.Ok ok ends after setting is =
+      accepted_so query (IsSplit Bytes old new setting) (λ q. split_by q ≢ []) (λ q split. split.some) (ok refl setting is)
+  after_query (tools.InputFault Trace) ok ends after setting is = let all = ends (λ e. absurd (cc e)) setting is in all.1
+  after_query (tools.TraceRefused fault) ok ends after setting is =
       accepted_so query (λ q. (split_by q ≢ []) × IsFirstFault Bytes fault q) (λ q. split_by q ≢ []) (λ q holds. holds.0)
-      (ends (λ e. absurd (cc e)) (λ e. absurd (cc e)))
-  after_query asked old new tools.OutputFault usage ok ends after =
-      let all = ends (λ e. absurd (cc e)) (λ e. absurd (cc e)) in all.1
-  after_query asked old new tools.Memory usage ok ends after = absurd after
-  after_query asked old new tools.Usage usage ok ends after = absurd after
-  after_query asked old new (tools.InputFault Query) usage ok ends after = absurd after
-  after_query asked old new (tools.QueryRefused fault) usage ok ends after = absurd after
-  after_query asked old new tools.FieldNeeded usage ok ends after = absurd after
+      (ends (λ e. absurd (cc e)) setting is)
+  after_query tools.OutputFault ok ends after setting is = let all = ends (λ e. absurd (cc e)) setting is in all.1
+  after_query tools.Memory ok ends after setting is = absurd after
+  after_query tools.Usage ok ends after setting is = absurd after
+  after_query (tools.InputFault Query) ok ends after setting is = absurd after
+  after_query (tools.QueryRefused fault) ok ends after setting is = absurd after
+  after_query tools.FieldNeeded ok ends after setting is = absurd after

@@ -1,3 +1,4 @@
-pub mod EndFacts
-pub mod SplitFacts
 pub mod WordFacts
+pub mod EndFacts
+pub mod LineFacts
+pub mod SplitFacts

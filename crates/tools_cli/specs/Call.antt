@@ -1,10 +1,10 @@
 -- What a call of the second program is about.
 use Rattle.std.specs.Prelude.{◌≡◌, List, Option, Some, String, map, string_bytes, ⊤}
-use Rattle.marple_base.specs.declared.inputs.Which.TheVariants.{Trace}
+use Rattle.marple_base.specs.declared.inputs.Which.TheVariants.{Query, Trace}
 use Rattle.tools_cli.specs.Command.{asked}
 use Rattle.tools_cli.specs.declared.command.SplitSetting.{SplitSetting}
 use Rattle.tools_cli.specs.declared.command.ToolCommand.{ToolCommand}
-use Rattle.tools_cli.specs.declared.command.ToolCommand.TheVariants.{Split}
+use Rattle.tools_cli.specs.declared.command.ToolCommand.TheVariants.{Facts, Split}
 use Rattle.tools_cli.specs.declared.status.ToolStatus.{ToolStatus}
 use Rattle.tools_cli.specs.declared.status.ToolStatus.TheVariants as tools
 
@@ -16,6 +16,10 @@ asked_by words = asked (map string_bytes words)
 abbrev pub WhereSplit : Option ToolCommand → (SplitSetting → Type 0) → Type 0
 WhereSplit asked P = (setting : SplitSetting) → asked ≡ Some (Split setting) → P setting
 
+-- P holds, where facts are asked for.
+abbrev pub WhereFacts : Option ToolCommand → Type 0 → Type 0
+WhereFacts asked P = asked ≡ Some Facts → P
+
 -- the status comes after a query by whose fields traces may be split
 abbrev pub IsAfterQuery : ToolStatus → Type 0
 IsAfterQuery tools.Ok = ⊤
@@ -23,3 +27,11 @@ IsAfterQuery (tools.InputFault Trace) = ⊤
 IsAfterQuery (tools.TraceRefused fault) = ⊤
 IsAfterQuery tools.OutputFault = ⊤
 IsAfterQuery status = ⊥
+
+-- facts end in such a status: they are told of any query, also of one that is refused
+abbrev pub IsOfFacts : ToolStatus → Type 0
+IsOfFacts tools.Ok = ⊤
+IsOfFacts tools.Memory = ⊤
+IsOfFacts (tools.InputFault Query) = ⊤
+IsOfFacts tools.OutputFault = ⊤
+IsOfFacts status = ⊥

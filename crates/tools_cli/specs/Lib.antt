@@ -2,6 +2,8 @@ pub mod Call
 pub mod Command
 pub mod Complaint
 pub mod Ends
+pub mod FactsEnds
 pub mod Files
+pub mod Options
 pub mod Piece
 pub mod Statuses

@@ -2,11 +2,13 @@
 
 ghost use Rattle.std.specs.Prelude.{◌≡◌};
 ghost use Rattle.tools_cli.specs.Complaint.{tool_number};
+ghost use Rattle.tools_cli.specs.declared.status.ToolStatus.TheVariants.{Memory};
 ghost use Rattle.tools_cli.specs.Statuses.{IsOfQuery, status_of, status_of_query, status_of_traces};
 
 use command_answers::Status;
 use marple_base::Which;
 use query_lang::QueryFault;
+use std::alloc::AllocError;
 use trace_pieces::WholeFault;
 use trace_split::SplitError;
 
@@ -69,6 +71,15 @@ impl From<SplitError> for ToolStatus {
             SplitError::OutputFault => ToolStatus::OutputFault,
             SplitError::Memory => ToolStatus::Memory,
         }
+    }
+}
+
+/// Of facts for which memory ran out.
+impl From<AllocError> for ToolStatus {
+    ghost from_gives = { λ _ status. status ≡ Memory };
+
+    fn from(_: AllocError) -> ToolStatus {
+        ToolStatus::Memory
     }
 }
 

@@ -17,12 +17,13 @@ use trace_pieces::WholeFault;
 const COUNT: &[u8] =
     b"def count([c],[]) { c = c + 1; }\nr = groupby(pktstream, [srcip], count);\nprint r;\n";
 
-// How a call ended, its complaint, and the texts of the parts.
+/// How a call ended, what it wrote, its complaint, and the texts of the parts.
 #[derive(Drop)]
-struct Told {
-    status: ToolStatus,
-    complaint: Text,
-    texts: Vec<Vec<u8>>,
+pub(crate) struct Told {
+    pub(crate) status: ToolStatus,
+    pub(crate) written: Text,
+    pub(crate) complaint: Text,
+    pub(crate) texts: Vec<Vec<u8>>,
 }
 
 fn words_of(alloc: Global, line: &str) -> Result<Vec<String>, AllocError> {
@@ -39,6 +40,7 @@ fn call_under<L: Ledger>(
     inputs: &mut MemoryInputs,
     traces: &mut [MemoryInputs],
     parts: &mut MemoryParts,
+    out: &mut MemorySink,
     err: &mut MemorySink,
     blank: Blank,
 ) -> ToolStatus
@@ -49,11 +51,27 @@ fn call_under<L: Ledger>(
     requires whole { 0 < blank.parts }
 {
     let mut steps = Steps::<L>::new(blank);
-    marple_tools(alloc, words, inputs, traces, parts, err, &mut steps)
+    marple_tools(alloc, words, inputs, traces, parts, out, err, &mut steps)
 }
 
-// Calls the program with the words of a line, a query, traces, and sinks for two parts.
-fn called(alloc: Global, line: &str, query: &[u8], texts: &[&[u8]]) -> Result<Told, AllocError> {
+/// Calls the program with the words of a line, a query, traces, and sinks for two parts.
+pub(crate) fn called(
+    alloc: Global,
+    line: &str,
+    query: &[u8],
+    texts: &[&[u8]],
+) -> Result<Told, AllocError> {
+    called_failing(alloc, line, query, texts, Seq::new(alloc))
+}
+
+/// The same, where these writes to standard output fail.
+pub(crate) fn called_failing(
+    alloc: Global,
+    line: &str,
+    query: &[u8],
+    texts: &[&[u8]],
+    failing: Seq<u64>,
+) -> Result<Told, AllocError> {
     let words = words_of(alloc, line)?;
     let mut inputs = MemoryInputs::new(
         Text::from_slice(alloc, query)?,
@@ -62,6 +80,7 @@ fn called(alloc: Global, line: &str, query: &[u8], texts: &[&[u8]]) -> Result<To
     );
     let mut traces = traces_of(alloc, texts, 0)?;
     let mut parts = MemoryParts::new(alloc, 2, 1000, 0)?;
+    let mut out = MemorySink::new(alloc, 100, 10_000, failing)?;
     let mut err = MemorySink::new(alloc, 1000, 1000, Seq::new(alloc))?;
     let status = call_under::<Brand>(
         alloc,
@@ -69,13 +88,16 @@ fn called(alloc: Global, line: &str, query: &[u8], texts: &[&[u8]]) -> Result<To
         &mut inputs,
         traces.as_mut_slice(),
         &mut parts,
+        &mut out,
         &mut err,
         Blank::new(1),
     );
     drop(traces);
+    let written = Text::from_slice(alloc, out.taken())?;
     let complaint = Text::from_slice(alloc, err.taken())?;
     Ok(Told {
         status,
+        written,
         complaint,
         texts: parts.texts,
     })
@@ -113,18 +135,25 @@ fn splits_two_traces(rt: HostRuntime) -> Result<(), Fail> {
 fn refuses_words(rt: HostRuntime) -> Result<(), Fail> {
     for line in [
         "",
-        "facts q",
+        "facts",
+        "facts q more",
+        "fact q",
+        "Facts q",
         "split",
         "split q",
         "split q --parts 2 --into out",
         "split q a --parts 2",
-        "split q a --into out --parts 2",
+        "split --parts 2 --into out a",
+        "split q a --parts 2 --into out --parts 2",
+        "split q a --into out --into out --parts 2",
+        "split --salt 1 q a --parts 2 --into out --salt 2",
+        "split q a --parts 2 --into out --slat 1",
+        "split q --a --parts 2 --into out",
         "split q a --parts 0 --into out",
         "split q a --parts 65537 --into out",
         "split q a --parts 2 --into out --salt",
         "split q a --parts 2 --into out --salt 4294967296",
         "split q a --parts 2 --into out --salt -1",
-        "split q a --parts 2 --into out --salt 1 more",
     ] {
         let told = called(rt.alloc(), line, COUNT, &[b"srcip\n1\n"])?;
         assert_eq!(rt; told.status, ToolStatus::Usage, "{line}");
@@ -138,12 +167,16 @@ fn refuses_words(rt: HostRuntime) -> Result<(), Fail> {
     Ok(())
 }
 
+// Options anywhere.
 #[test]
-fn takes_a_salt(rt: HostRuntime) -> Result<(), Fail> {
+fn takes_options(rt: HostRuntime) -> Result<(), Fail> {
     for line in [
         "split q a --parts 2 --into out --salt 0",
         "split q a --parts 2 --into out --salt 4294967295",
         "split q a b c --parts 3 --into out",
+        "split q a --into out --parts 2",
+        "split q a --parts 2 --into out --salt 1 more",
+        "split --salt 1 q --parts 2 a --into --parts b",
     ] {
         let told = called(rt.alloc(), line, COUNT, &[])?;
         let is_usage = told.status == ToolStatus::Usage;

@@ -30,7 +30,6 @@ from marple.parts.refusals import (
     KeyTooLarge,
     OptionRefused,
     PartsRefused,
-    QueryUnread,
     TraceChanged,
     WorkerDied,
     WorkTaken,
@@ -42,8 +41,8 @@ from marple.tables import Answer, tables_of_file
 
 __all__ = [
     "Choice", "ClusterLost", "CompressionRefused", "FieldNeeded", "FieldRefused", "FinalGroupby", "FinalOfTop",
-    "KeyTooLarge", "OptionRefused", "PartsAnswer", "PartsRefused", "QueryUnread", "TraceChanged", "WorkTaken",
-    "WorkerDied", "choose", "run", "tables_file",
+    "KeyTooLarge", "OptionRefused", "PartsAnswer", "PartsRefused", "TraceChanged", "WorkTaken", "WorkerDied",
+    "choose", "run", "tables_file",
 ]  # fmt: skip
 
 PIECE = 64 << 20

@@ -2,12 +2,14 @@
 
 from collections.abc import Sequence
 from dataclasses import dataclass
+from typing import NoReturn
 
-from marple.commands import compile, plan
-from marple.parts.refusals import FieldNeeded, FieldRefused, FinalGroupby, FinalOfTop, QueryUnread
-from marple.plans import FIELDS, Group, Unread, only_adds, read_fields, read_groups
+from marple.commands import plan
+from marple.facts import Fact, facts_of
+from marple.parts.refusals import FieldNeeded, FieldRefused, FinalGroupby, FinalOfTop
+from marple.plans import FIELDS
 from marple.program import Program
-from marple.queries import Item, Items, UnreadQuery, read_query
+from marple.queries import Item, tables_of
 
 
 @dataclass(frozen=True)
@@ -62,101 +64,91 @@ def choose(query: bytes, by: str | Sequence[str] | None, program: Program | None
     if by is not None:
         by = (by,) if isinstance(by, str) else tuple(by)
     plan(query, program=program)
-    try:
-        items = read_query(query)
-        needed = items.needed()
-        compiled = _compiled(items, needed, program)
-        groups = _groups(items, needed, compiled)
-        fields = _keeping(items, groups)
-        sums = all(only_adds(group.body) for group in groups)
-    except (UnreadQuery, Unread) as unread:
-        raise QueryUnread(str(unread)) from unread
-    _refuse_finals(needed)
-    reads = read_fields(compiled)
+    facts = facts_of(query, program=program)
+    parts, refused = facts["parts"], facts["parts"]["refused"]
+    if refused and refused["kind"] in ("final groupby", "final of top"):
+        _refuse_final(facts, refused)
     if by is not None:
-        _refuse_fields(by, fields, groups)
-        return _by_fields(items, by, reads, "as asked for")
-    if fields:
-        return _by_fields(items, fields, reads, "keys of every groupby that is printed or read")
-    if not sums or any(item.final for item in needed):
-        raise FieldNeeded(_field_needed(groups, sums))
-    printed = _printed(items, groups)
-    joins = [Join(group.name, len(group.keys), starts=tuple(group.states.values())) for group in printed]
-    return Choice((), tuple(joins), "no field is a key of every groupby, and all states add", reads)
+        _refuse_fields(by, facts)
+        return _by_fields(facts, by, "as asked for")
+    if parts["by"]:
+        return _by_fields(facts, tuple(parts["by"]), "keys of every groupby that is printed or read")
+    if refused:
+        raise FieldNeeded(_field_needed(facts))
+    joins = tuple(Join(item.name, len(item.keys), starts=_starts(facts, item.name)) for item in _printed(facts))
+    return Choice((), joins, "no field is a key of every groupby, and all states add", tuple(facts["reads"]))
 
 
-def _compiled(items: Items, needed: tuple[Item, ...], program: Program | None) -> str:
-    """The plan of the groupbys that the printed tables are made from."""
-    return compile(items.printing([item.name for item in needed if not item.final]), program=program)
+def _printed(facts: Fact) -> list[Item]:
+    tables = tables_of(facts)
+    return [tables[name] for name in facts["prints"]]
 
 
-def _groups(items: Items, needed: tuple[Item, ...], compiled: str) -> list[Group]:
-    """The groupbys that the printed tables are made from, as the program compiles them."""
-    known = read_groups(compiled)
-    groups = [known[item.name] for item in needed if not item.final]
-    for group in groups:
-        if tuple(group.keys) != items.keys_of(group.name):
-            raise UnreadQuery(f"the keys of {group.name} were read otherwise than the program does")
-    return groups
+def _by_fields(facts: Fact, by: tuple[str, ...], reason: str) -> Choice:
+    joins = tuple(Join(item.name, len(item.keys), best=item.best) for item in _printed(facts))
+    # marple-tools splits by keys of all groupbys
+    splits = set(by) == set(facts["parts"]["by"]) and all(one["needed"] for one in facts["groupbys"])
+    return Choice(by, joins, reason, tuple(facts["reads"]), splits)
 
 
-def _keeping(items: Items, groups: list[Group]) -> tuple[str, ...]:
-    """The fields that are keys of each of these groupbys under their own names, where no map makes such a column."""
-    return tuple(
-        name for name in FIELDS if name not in items.made and all(group.keys.get(name) == name for group in groups)
+def _fold_of(facts: Fact, groupby: Fact) -> Fact:
+    return next(fold for fold in facts["folds"] if fold["name"] == groupby["fold"])
+
+
+def _starts(facts: Fact, name: str) -> tuple[int, ...]:
+    """The starts of the state variables of a groupby."""
+    groupby = next(one for one in facts["groupbys"] if one["name"] == name)
+    return tuple(_fold_of(facts, groupby)["initial"])
+
+
+def _needed(facts: Fact) -> list[Fact]:
+    """The groupbys that the printed tables are made from."""
+    return [one for one in facts["groupbys"] if one["needed"]]
+
+
+def _fields_of(groupby: Fact) -> list[str]:
+    """The keys of a groupby that are fields of the packet."""
+    return [key["name"] for key in groupby["keys"] if key["field"]]
+
+
+def _refuse_final(facts: Fact, refused: Fact) -> NoReturn:
+    """Refuses a final that parts don't give: it would have to see rows of several parts."""
+    final = next(one for one in facts["finals"] if one["start"] == refused["start"])
+    if refused["kind"] == "final groupby":
+        raise FinalGroupby(
+            f"{final['name']} groups rows of a table, which may be of several parts: print {final['inputs'][0]}, and group "
+            "its rows where they are put together"
+        )
+    tops = [one["name"] for one in facts["finals"] if one["operator"] == "top"]
+    top = next(name for name in final["inputs"] if name in tops)
+    raise FinalOfTop(
+        f"{final['name']} is made from {top}, which has the best rows of the whole and not of a part: "
+        f"print {top}, and do what {final['name']} does with its rows"
     )
 
 
-def _printed(items: Items, groups: list[Group]) -> list[Group]:
-    by_name = {group.name: group for group in groups}
-    return [by_name[name] for name in items.prints]
-
-
-def _by_fields(items: Items, by: tuple[str, ...], reads: tuple[str, ...], reason: str) -> Choice:
-    tables = items.tables
-    joins = [Join(name, len(items.keys_of(name)), best=tables[name].best) for name in items.prints]
-    every = [set(item.keys) for item in tables.values() if not item.final]  # marple-tools splits by keys of all groupbys
-    splits = {name for name in FIELDS if name not in items.made and all(name in keys for keys in every)} == set(by)
-    return Choice(by, tuple(joins), reason, reads, splits)
-
-
-def _refuse_finals(needed: tuple[Item, ...]) -> None:
-    """Refuses finals that parts don't give: they would have to see rows of several parts."""
-    tops = {item.name for item in needed if item.operator == "top"}
-    for item in needed:
-        if item.final and item.operator == "groupby":
-            raise FinalGroupby(
-                f"{item.name} groups rows of a table, which may be of several parts: print {item.inputs[0]}, and group its "
-                "rows where they are put together"
-            )
-        for name in item.inputs:
-            if item.final and name in tops:
-                raise FinalOfTop(
-                    f"{item.name} is made from {name}, which has the best rows of the whole and not of a part: "
-                    f"print {name}, and do what {item.name} does with its rows"
-                )
-
-
-def _refuse_fields(by: tuple[str, ...], fields: tuple[str, ...], groups: list[Group]) -> None:
+def _refuse_fields(by: tuple[str, ...], facts: Fact) -> None:
+    fields = facts["fields"]
     if not by or len(set(by)) != len(by):
         raise FieldRefused("the fields to split by are named once each")
     for name in by:
-        if name not in FIELDS:
-            raise FieldRefused(f"{name} is no field of a packet: the fields are {', '.join(FIELDS)}")
         if name not in fields:
-            lacking = [group.name for group in groups if group.keys.get(name) != name]
+            raise FieldRefused(f"{name} is no field of a packet: the fields are {', '.join(fields)}")
+        if name not in facts["parts"]["by"]:
+            lacking = [one["name"] for one in _needed(facts) if name not in _fields_of(one)]
             why = f"it isn't a key of {', '.join(lacking)}" if lacking else "a map makes a column of that name"
             raise FieldRefused(f"the packets of a key don't stay together by {name}: {why}")
 
 
-def _field_needed(groups: list[Group], sums: bool) -> str:
+def _field_needed(facts: Fact) -> str:
     """What would make parts possible."""
-    own = {group.name: [name for name, field in group.keys.items() if name == field] for group in groups}
-    shared = max(("srcip", *FIELDS), key=lambda name: sum(name in names for names in own.values()))
+    needed = _needed(facts)
+    own = {one["name"]: _fields_of(one) for one in needed}
+    shared = max(("srcip", *facts["fields"]), key=lambda name: sum(name in names for names in own.values()))
     lacking = ", ".join(name for name, names in own.items() if shared not in names)
     text = f"no field of the packet is a key of every groupby that is printed or read: group {lacking} by {shared} too"
-    if sums:
+    others = ", ".join(one["name"] for one in needed if not _fold_of(facts, one)["additive"])
+    if not others:
         return f"{text}, or print no final (the folds add, so that groupbys alone may run over any pieces)"
-    others = ", ".join(group.name for group in groups if not only_adds(group.body))
     form = "x = x + e, where e and the conditions read no state"
     return f"{text}, or make the fold of {others} additive ({form}) and print no final"

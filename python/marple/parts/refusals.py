@@ -34,10 +34,6 @@ class OptionRefused(PartsRefused):
     status = 2
 
 
-class QueryUnread(PartsRefused):
-    """The query is of a form that the choice doesn't know."""
-
-
 class KeyTooLarge(PartsRefused):
     """One key alone has more than one run takes."""
 

@@ -1,0 +1,184 @@
+//! Folds, with what spoils them.
+
+use crate::read::FoldCauses;
+use crate::values::{name_list, name_value, word_value};
+use crate::words::{algebra_word, class_word, form_word, op_word};
+use fold_class::{Algebra, Operators, Role};
+use marple_base::Seq;
+use query_facts::{AcceptedFacts, FoldFacts};
+use query_lang::{Class, Names, Op, TypedFold};
+use query_places::{Cause, Rule, Spoilt};
+use serde_json::{Value, json};
+use std::alloc::{AllocError, Global};
+
+// What the rule that fails is called, where products are those of an algebra.
+fn rule_word(rule: Rule, algebra: Option<Algebra>) -> &'static str {
+    match rule {
+        Rule::Operator(op) if is_product(op, algebra) => "product",
+        Rule::Operator(_) => "operator",
+        Rule::Negation => "operator",
+        Rule::Condition(_) => "condition",
+        Rule::Assignment => "assignment",
+    }
+}
+
+// Whether an operator is the algebra's product.
+fn is_product(op: Op, algebra: Option<Algebra>) -> bool {
+    match algebra {
+        Some(algebra) => matches!(algebra.role_of(op), Role::Product),
+        None => false,
+    }
+}
+
+// The operator of a rule, as a query writes it.
+fn operator_of(rule: Rule) -> Option<&'static str> {
+    match rule {
+        Rule::Operator(op) => Some(op_word(op)),
+        Rule::Negation => Some("!"),
+        Rule::Condition(_) => None,
+        Rule::Assignment => None,
+    }
+}
+
+// What the condition of a rule keeps.
+fn kept_by(rule: Rule) -> Option<&'static str> {
+    match rule {
+        Rule::Condition(form) => form_word(form),
+        _ => None,
+    }
+}
+
+// A cause, with the variable that it spoils, if it spoils one.
+fn cause_value(
+    alloc: Global,
+    names: &Names,
+    variable: Value,
+    cause: Cause,
+    algebra: Option<Algebra>,
+) -> Result<Value, AllocError> {
+    let reads = match cause.reads {
+        Some(name) => name_value(alloc, names, name.id)?,
+        None => Value::Null,
+    };
+    let operator = word_value(alloc, operator_of(cause.rule))?;
+    let keeps = word_value(alloc, kept_by(cause.rule))?;
+    let rule = rule_word(cause.rule, algebra);
+    json!(in alloc; {
+        "variable": variable, "start": cause.start, "rule": rule, "operator": operator, "keeps": keeps, "reads": reads
+    })
+}
+
+// The variables that are spoilt, each with its cause.
+fn spoilt_value(
+    alloc: Global,
+    names: &Names,
+    all: &[Spoilt],
+    algebra: Option<Algebra>,
+) -> Result<Value, AllocError> {
+    let mut list = Vec::new(alloc);
+    for one in all {
+        let variable = name_value(alloc, names, one.variable.id)?;
+        list.push(cause_value(alloc, names, variable, one.cause, algebra)?)?;
+    }
+    Ok(Value::Array(list))
+}
+
+// What keeps a fold from being additive.
+fn adding_value(alloc: Global, names: &Names, adding: Option<Cause>) -> Result<Value, AllocError> {
+    match adding {
+        Some(cause) => cause_value(alloc, names, Value::Null, cause, None),
+        None => Ok(Value::Null),
+    }
+}
+
+// The causes of a fold.
+fn causes_value(
+    alloc: Global,
+    names: &Names,
+    causes: Option<&FoldCauses>,
+) -> Result<Value, AllocError> {
+    let Some(all) = causes else {
+        return Ok(Value::Null);
+    };
+    let sums = spoilt_value(alloc, names, all.sums.as_slice(), Some(Algebra::Sums))?;
+    let maxima = spoilt_value(alloc, names, all.maxima.as_slice(), Some(Algebra::Maxima))?;
+    let order = spoilt_value(alloc, names, all.order.as_slice(), None)?;
+    let adding = adding_value(alloc, names, all.adding)?;
+    json!(in alloc; {"sums": sums, "maxima": maxima, "monotone": order, "additive": adding})
+}
+
+// The names of the variables with these numbers.
+fn history_value(
+    alloc: Global,
+    names: &Names,
+    f: &TypedFold,
+    history: &[u8],
+) -> Result<Value, AllocError> {
+    let mut list = Vec::new(alloc);
+    for v in history {
+        if let Some(id) = f.state_names.as_slice().get(usize::from(*v)) {
+            list.push(name_value(alloc, names, *id)?)?;
+        }
+    }
+    Ok(Value::Array(list))
+}
+
+// The algebra of a linear fold.
+fn algebra_of(facts: &FoldFacts) -> Option<&'static str> {
+    match facts.class {
+        Class::Linear => Some(algebra_word(facts.algebra)),
+        Class::Other => None,
+    }
+}
+
+// The numbers that the state variables start with.
+fn initial_value(alloc: Global, initial: &[u64]) -> Result<Value, AllocError> {
+    let mut list = Vec::new(alloc);
+    for n in initial {
+        list.push(Value::from(*n))?;
+    }
+    Ok(Value::Array(list))
+}
+
+// A fold.
+fn fold_value(
+    alloc: Global,
+    names: &Names,
+    f: &TypedFold,
+    facts: &FoldFacts,
+    causes: Option<&FoldCauses>,
+) -> Result<Value, AllocError> {
+    let name = name_value(alloc, names, f.name.id)?;
+    let states = name_list(alloc, names, f.state_names.as_slice())?;
+    let arguments = name_list(alloc, names, f.arg_names.as_slice())?;
+    let algebra = word_value(alloc, algebra_of(facts))?;
+    let history = history_value(alloc, names, f, facts.history.as_slice())?;
+    let spoilt = causes_value(alloc, names, causes)?;
+    let initial = initial_value(alloc, f.initial.as_slice())?;
+    let class = class_word(facts.class);
+    json!(in alloc; {
+        "name": name, "start": f.name.span.start, "states": states, "initial": initial, "arguments": arguments, "emits": f.emit.is_some(),
+        "class": class, "algebra": algebra, "depth": facts.depth, "history": history,
+        "additive": facts.additive, "monotone": facts.monotone, "spoilt": spoilt
+    })
+}
+
+/// The folds of an accepted query.
+pub(crate) fn folds_value(
+    alloc: Global,
+    facts: &AcceptedFacts,
+    causes: &[FoldCauses],
+) -> Result<Value, AllocError> {
+    let mut list = Vec::new(alloc);
+    let typed = &facts.typed;
+    for (f, one) in typed
+        .folds
+        .as_slice()
+        .iter()
+        .zip(facts.folds.as_slice().iter())
+    {
+        let own = causes.get(list.len());
+        list.push(fold_value(alloc, &typed.names, f, one, own)?)?;
+    }
+    Ok(Value::Array(list))
+}

@@ -1,0 +1,134 @@
+//! Tables: groupbys, finals, and what is printed of them.
+
+use crate::values::{name_list, name_value};
+use marple_base::Seq;
+use query_lang::{Names, PrintOf, TypedFinal, TypedFinalOp, TypedOp, TypedQuery};
+use serde_json::{Value, json};
+use std::alloc::{AllocError, Global};
+
+/// The names of tables by number: those of the groupbys, and then those of the finals.
+pub(crate) fn table_names(alloc: Global, q: &TypedQuery) -> Result<Seq<u32>, AllocError> {
+    let mut ids = Seq::new(alloc);
+    for one in q.streams.as_slice() {
+        if let TypedOp::Group(_, _, _, _) = &one.op {
+            ids.push(one.name.id)?;
+        }
+    }
+    for one in q.finals.as_slice() {
+        ids.push(one.name.id)?;
+    }
+    Ok(ids)
+}
+
+// The name of the table with this number.
+fn table_name(
+    alloc: Global,
+    names: &Names,
+    tables: &[u32],
+    number: u16,
+) -> Result<Value, AllocError> {
+    match tables.get(usize::from(number)) {
+        Some(id) => name_value(alloc, names, *id),
+        None => Ok(Value::Null),
+    }
+}
+
+// The word of an operator.
+fn operator_word(op: &TypedFinalOp) -> &'static str {
+    match op {
+        TypedFinalOp::Filter(_, _) => "filter",
+        TypedFinalOp::Map(_, _) => "map",
+        TypedFinalOp::Group(_, _, _, _) => "groupby",
+        TypedFinalOp::Join(_, _) => "join",
+        TypedFinalOp::Top(_, _, _) => "top",
+    }
+}
+
+// The names of an operator's inputs.
+fn inputs_value(
+    alloc: Global,
+    names: &Names,
+    tables: &[u32],
+    op: &TypedFinalOp,
+) -> Result<Value, AllocError> {
+    let mut list = Vec::new(alloc);
+    match op {
+        TypedFinalOp::Filter(input, _) => list.push(table_name(alloc, names, tables, *input)?)?,
+        TypedFinalOp::Map(input, _) => list.push(table_name(alloc, names, tables, *input)?)?,
+        TypedFinalOp::Group(input, _, _, _) => {
+            list.push(table_name(alloc, names, tables, *input)?)?
+        }
+        TypedFinalOp::Join(left, right) => {
+            list.push(table_name(alloc, names, tables, *left)?)?;
+            list.push(table_name(alloc, names, tables, *right)?)?;
+        }
+        TypedFinalOp::Top(input, _, _) => list.push(table_name(alloc, names, tables, *input)?)?,
+    }
+    Ok(Value::Array(list))
+}
+
+// The column and the number of rows of a `top`.
+fn best_value(alloc: Global, names: &Names, one: &TypedFinal) -> Result<Value, AllocError> {
+    let TypedFinalOp::Top(_, column, rows) = &one.op else {
+        return Ok(Value::Null);
+    };
+    let name = match one.columns.as_slice().get(usize::from(*column)) {
+        Some(id) => name_value(alloc, names, *id)?,
+        None => Value::Null,
+    };
+    json!(in alloc; {"column": name, "rows": *rows})
+}
+
+// A final.
+fn final_value(
+    alloc: Global,
+    names: &Names,
+    tables: &[u32],
+    one: &TypedFinal,
+) -> Result<Value, AllocError> {
+    let name = name_value(alloc, names, one.name.id)?;
+    let operator = operator_word(&one.op);
+    let inputs = inputs_value(alloc, names, tables, &one.op)?;
+    let columns = name_list(alloc, names, one.columns.as_slice())?;
+    let best = best_value(alloc, names, one)?;
+    json!(in alloc; {
+        "name": name, "start": one.name.span.start, "operator": operator, "inputs": inputs, "columns": columns,
+        "keys": one.keys, "best": best
+    })
+}
+
+/// The finals of an accepted query.
+pub(crate) fn finals_value(alloc: Global, q: &TypedQuery) -> Result<Value, AllocError> {
+    let tables = table_names(alloc, q)?;
+    let mut list = Vec::new(alloc);
+    for one in q.finals.as_slice() {
+        list.push(final_value(alloc, &q.names, tables.as_slice(), one)?)?;
+    }
+    Ok(Value::Array(list))
+}
+
+// The name of the groupby with this number.
+fn groupby_name(alloc: Global, q: &TypedQuery, number: u16) -> Result<Value, AllocError> {
+    let tables = table_names(alloc, q)?;
+    table_name(alloc, &q.names, tables.as_slice(), number)
+}
+
+// The name of the final with this number.
+fn final_name(alloc: Global, q: &TypedQuery, number: u16) -> Result<Value, AllocError> {
+    match q.finals.as_slice().get(usize::from(number)) {
+        Some(one) => name_value(alloc, &q.names, one.name.id),
+        None => Ok(Value::Null),
+    }
+}
+
+/// The names of the printed tables.
+pub(crate) fn prints_value(alloc: Global, q: &TypedQuery) -> Result<Value, AllocError> {
+    let mut list = Vec::new(alloc);
+    for place in q.prints.as_slice() {
+        match place {
+            PrintOf::Group(i) => list.push(groupby_name(alloc, q, *i)?)?,
+            PrintOf::Final(i) => list.push(final_name(alloc, q, *i)?)?,
+        }
+    }
+    Ok(Value::Array(list))
+}
