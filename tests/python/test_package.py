@@ -252,16 +252,17 @@ class OtherPythons(unittest.TestCase):
 
 class Hints(unittest.TestCase):
     def test_are_complete(self):
-        """Every argument has a hint, and mypy finds no fault."""
+        """Every argument has a hint, and mypy finds no fault: in the package, and in the modules of the commands."""
         if shutil.which("mypy") is None:
             self.skipTest("mypy")
         folder = Folder(self)
-        package = TOP / "python" / "marple"
-        modules = sorted(map(str, package.rglob("*.py")))
-        command = ["mypy", "--strict", "--python-version", "3.10", "--follow-imports", "silent", "--cache-dir"]
-        command += [folder.path("cache"), *modules]
-        done = subprocess.run(command, cwd=TOP / "python", capture_output=True, text=True, check=False)
-        self.assertEqual(done.stdout, f"Success: no issues found in {len(modules)} source files\n")
+        for place in ("python/marple", "tools"):
+            modules = sorted(map(str, (TOP / place).rglob("*.py")))
+            command = ["mypy", "--strict", "--python-version", "3.10", "--follow-imports", "silent", "--cache-dir"]
+            command += [folder.path("cache"), *modules]
+            with self.subTest(place):
+                done = subprocess.run(command, cwd=TOP / place, capture_output=True, text=True, check=False)
+                self.assertEqual(done.stdout, f"Success: no issues found in {len(modules)} source files\n")
 
 
 if __name__ == "__main__":

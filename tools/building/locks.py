@@ -5,6 +5,7 @@ from __future__ import annotations
 import fcntl
 import os
 import time
+from functools import partial
 from typing import List
 
 from building.crates import Crate
@@ -19,7 +20,7 @@ def lock(order: List[Crate], progress: Progress) -> List[int]:
         if not is_locked(held[-1]):
             progress.line(f"waiting for another ./build or rt that is at work in crates/{crate.name}")
             while not is_locked(held[-1]):
-                progress.standing(lambda it=crate: f"still waiting for crates/{it.name}")
+                progress.standing(partial("still waiting for crates/{}".format, crate.name))
                 time.sleep(0.2)
     return held
 

@@ -9,7 +9,7 @@ import signal
 import subprocess
 import time
 from dataclasses import dataclass
-from typing import Dict, List, Set
+from typing import IO, Dict, List, Set
 
 from building.crates import Crate, digest, digests, with_those_below
 from building.estimate import Cost, chains, clock_seconds, jobs_of, pace, seconds_to_go, still_to_go, time_to_go
@@ -134,7 +134,7 @@ class Proving:
         self.running.append(Proof(crate, process, jobs, time.monotonic()))
         self.progress.line(f"{self.so_far()}: begun {crate.name}" + f" with {jobs} jobs" * (jobs > 1))
 
-    def command(self, words: List[str], crate: Crate, log: object) -> "subprocess.Popen[bytes]":
+    def command(self, words: List[str], crate: Crate, log: IO[bytes]) -> "subprocess.Popen[bytes]":
         # a separate session: what a terminal sends reaches this build alone, which then ends all that it began
         return subprocess.Popen(
             words,

@@ -1,5 +1,6 @@
 """Which places in a fold's body are shown where it isn't linear, additive or monotone: those nearest to what was meant."""
 
+from collections.abc import Iterable
 from dataclasses import dataclass
 
 from query_help.facts import Fact
@@ -25,7 +26,7 @@ def cause_of(fact: Fact) -> Cause:
     return Cause(fact["operator"] or fact["keeps"] or "if", fact["start"], fact["reads"] or "")
 
 
-def distinct(causes) -> list[Cause]:
+def distinct(causes: Iterable[Cause]) -> list[Cause]:
     return sorted(set(causes), key=lambda cause: cause.start)
 
 

@@ -47,7 +47,7 @@ class Query:
         return place_of(self.name, self.data, start, words)
 
     def fold_of(self, groupby: Fact) -> Fact:
-        return next(fold for fold in self.facts["folds"] if fold["name"] == groupby["fold"])
+        return facts.named(self.facts["folds"], groupby["fold"])
 
 
 @dataclass
@@ -167,7 +167,7 @@ def command_words(query: Query, fault: str, start: int) -> str:
 def argument_words(query: Query, fault: Fact, item: Fact) -> str:
     """The arguments of a groupby's fold that are no columns, each where it stands in the fold."""
     said = ""
-    fold = next(one for one in query.facts["items"] if one["kind"] == "fold" and one["name"] == item["fold"]["name"])
+    fold = facts.named([one for one in query.facts["items"] if one["kind"] == "fold"], item["fold"]["name"])
     for missing in fault["missing"]:
         argument = facts.named(fold["arguments"], missing)
         said += query.place(argument["start"], f"this argument of {fold['name']} is no column of {item['inputs'][0]['name']}")

@@ -5,7 +5,7 @@ import os
 import subprocess
 import sys
 from pathlib import Path
-from typing import Any, Optional
+from typing import Any
 
 VERSION = 1
 Fact = dict[str, Any]
@@ -26,7 +26,7 @@ def ask(program: str, query: str) -> Fact:
     except OSError as fault:
         sys.exit(f"explain: cannot run {program}: {fault.strerror}")
     try:
-        facts = json.loads(done.stdout)
+        facts: Fact = json.loads(done.stdout)
     except ValueError:
         sys.exit(f"explain: {program} ended with status {done.returncode} and said nothing of {query}")
     if facts.get("marple_facts") != VERSION:
@@ -34,9 +34,9 @@ def ask(program: str, query: str) -> Fact:
     return facts
 
 
-def named(facts: list[Fact], name: str) -> Optional[Fact]:
-    """The one of these that has the name."""
-    return next((one for one in facts if one["name"] == name), None)
+def named(facts: list[Fact], name: str) -> Fact:
+    """The one of these that has the name, which is there."""
+    return next(one for one in facts if one["name"] == name)
 
 
 def names_of(facts: list[Fact]) -> list[str]:

@@ -250,7 +250,8 @@ class Matcher:
         """When the packet of this place came."""
         if slot >= self.arrivals - RECENT:
             return self.recent[slot % RECENT]
-        return SPLIT.unpack(os.pread(self.spool, LAYOUT.size, slot * LAYOUT.size))[-1]
+        time: int = SPLIT.unpack(os.pread(self.spool, LAYOUT.size, slot * LAYOUT.size))[-1]
+        return time
 
 
 def checksums(spool: Spool) -> bytearray:

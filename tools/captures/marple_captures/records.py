@@ -7,7 +7,7 @@ from collections.abc import Callable, Iterator
 from dataclasses import dataclass, replace
 from functools import cached_property
 from pathlib import Path
-from typing import BinaryIO, NamedTuple
+from typing import BinaryIO, NamedTuple, cast
 
 TCP = 6
 UDP = 17
@@ -73,17 +73,17 @@ class Spool:
     def fields(self) -> Iterator[Fields]:
         """The same, each as a plain tuple."""
         for block in self.blocks():
-            yield from LAYOUT.iter_unpack(block)
+            yield from cast(Iterator[Fields], LAYOUT.iter_unpack(block))
 
     def marks(self) -> Iterator[tuple[bytes, int, int]]:
         """The identity, the mark and the time of each packet, in the order of the capture."""
         for block in self.blocks():
-            yield from SPLIT.iter_unpack(block)
+            yield from cast(Iterator[tuple[bytes, int, int]], SPLIT.iter_unpack(block))
 
     @cached_property
     def longest(self) -> int:
         """The length of the longest packet."""
-        return max((max(LENGTH.iter_unpack(block)) for block in self.blocks()), default=(0,))[0]
+        return int(max((max(LENGTH.iter_unpack(block)) for block in self.blocks()), default=(0,))[0])
 
     def longest_of_pairs(self) -> dict[bytes, int]:
         """The length of the longest packet from one address to another."""
@@ -97,7 +97,8 @@ class Spool:
         """When the packet in this place came, counted from 0."""
         with self.path.open("rb") as file:
             file.seek(slot * LAYOUT.size)
-            return SPLIT.unpack(file.read(LAYOUT.size))[-1]
+            time: int = SPLIT.unpack(file.read(LAYOUT.size))[-1]
+        return time
 
     def rewritten(self, path: Path, change: Callable[[Packet], list[Packet]]) -> "Spool":
         """A spool at another path in which each packet is replaced by those that `change` makes of it."""
