@@ -1,4 +1,4 @@
-"""From which finals keys were left out: a final has the keys alone whose rows cover all packets."""
+"""From which finals keys were left out: a final has only the keys whose rows cover all packets."""
 
 import warnings
 from collections.abc import Callable, Mapping

@@ -306,7 +306,7 @@ class Files(unittest.TestCase):
 
 
 class LeftOut(unittest.TestCase):
-    """A final has the keys alone whose rows cover all their packets."""
+    """A final has only the keys whose rows cover all their packets."""
 
     FOLD = b"def last([a],[uid]) { if (uid > a) { a = uid; } else { a = a / 2; } }\n"
 

@@ -1,4 +1,4 @@
-"""A fault of a trace is reported with its file, and otherwise as by a run over that file alone."""
+"""A fault of a trace is reported with its file, and otherwise as by a run over only that file."""
 
 import random
 import unittest

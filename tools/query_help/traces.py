@@ -154,7 +154,7 @@ def field_missing(name: str, fault: TraceFault, header: Record, fields: list[str
 
 
 def sizes(trace: Path) -> str:
-    """How large the file is beside the limits, and how many bytes a packet takes in it."""
+    """How large the file is compared with the limits, and how many bytes a packet takes in it."""
     size = trace.stat().st_size
     with trace.open("rb") as stream:
         sample = stream.read(1 << 20)

@@ -149,6 +149,6 @@ def _field_needed(facts: Fact) -> str:
     text = f"no field of the packet is a key of every groupby that is printed or read: group {lacking} by {shared} too"
     others = ", ".join(one["name"] for one in needed if not _fold_of(facts, one)["additive"])
     if not others:
-        return f"{text}, or print no final (the folds add, so that groupbys alone may run over any pieces)"
+        return f"{text}, or print no final (the folds add, so that without finals it may run over any pieces)"
     form = "x = x + e, where e and the conditions read no state"
     return f"{text}, or make the fold of {others} additive ({form}) and print no final"

@@ -35,7 +35,7 @@ class OptionRefused(PartsRefused):
 
 
 class KeyTooLarge(PartsRefused):
-    """One key alone has more than one run takes."""
+    """One key has more than one run takes."""
 
     status = 5
 

@@ -140,7 +140,7 @@ def latency_groups(recipes: Recipes) -> tuple[Group, ...]:
         Group(latency, (
             Column("Greatest (ms)", "the longest time in the queue", ratio_of(latency, greatest)),
             Column("Mean (ms)", "the sum of the times in the queue by the packets that left", ratio_of(latency, mean)),
-            Column("Left", "packets that left the queue, which alone have a latency", count_of(latency, "packets")),
+            Column("Left", "packets that left the queue; only these have a latency", count_of(latency, "packets")),
         )),
     )  # fmt: skip
 
