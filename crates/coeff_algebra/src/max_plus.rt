@@ -7,7 +7,7 @@ ghost use Rattle.coeff_algebra.specs.MaxPlusLaws.{max_plus_laws, max_plus_storag
 use crate::coeff::Coeff;
 
 /// A word, or an element that is below all words.
-#[derive(Clone, Copy, Debug, PartialEq, Eq)]
+#[derive(Clone, Copy, PartialEq, Eq)]
 pub enum MaxPlus64 {
     Absent,
     Word(u64),

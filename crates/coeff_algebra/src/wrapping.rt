@@ -7,7 +7,7 @@ ghost use Rattle.coeff_algebra.specs.WrappingLaws.{wrapping_laws, wrapping_stora
 use crate::coeff::Coeff;
 
 /// A word, with sums and products modulo 2^64.
-#[derive(Clone, Copy, Debug, PartialEq, Eq)]
+#[derive(Clone, Copy, PartialEq, Eq)]
 pub struct Wrapping64 {
     pub word: u64,
 }

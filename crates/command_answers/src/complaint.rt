@@ -14,7 +14,7 @@ use query_lang::{FaultKind, Limit};
 use trace_reader::TraceFault;
 
 /// A piece of a complaint.
-#[derive(Clone, Copy, Debug)]
+#[derive(Clone, Copy)]
 enum Piece {
     Text(&'static [u8]),
     Number(u32),

@@ -8,7 +8,7 @@ use crate::number::number_within;
 use crate::setting::{NetSetting, Setting, Ways, ways_of};
 
 /// The options that were named so far.
-#[derive(Clone, Copy, Debug, PartialEq, Eq)]
+#[derive(Clone, Copy, PartialEq, Eq)]
 pub(crate) struct Options {
     pub(crate) buckets: Option<u32>,
     pub(crate) ways: Option<Ways>,

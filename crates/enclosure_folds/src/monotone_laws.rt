@@ -7,7 +7,8 @@ ghost use Rattle.query_lang.specs.Folds.{IsValidFold, fold_states, body, folded,
 ghost use Rattle.enclosure_folds.specs.Kinds.{is_monotone};
 ghost use Rattle.enclosure_folds.specs.States.{IsAtMost};
 ghost use Rattle.epoch_entry.specs.Bounds.{least_state, greatest_state};
-ghost use Rattle.enclosure_folds.specs.MonotoneExamples.{decayed_sum, clamped, wrapping_sum, shifted_left, choice_by_argument, choice_by_state};
+ghost use Rattle.enclosure_folds.specs.MonotoneExamples.{decayed_sum, clamped, wrapping_sum, shifted_left};
+ghost use Rattle.enclosure_folds.specs.MonotoneExamples.{choice_by_argument, choice_by_state};
 ghost use Rattle.enclosure_folds.specs.MonotoneExamples.{overwritten, IsFound, AreBounds};
 
 /// One step of a monotone fold keeps the order of states, word by word.

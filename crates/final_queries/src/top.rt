@@ -17,7 +17,7 @@ use table_rows::{RowRef, Rows};
 
 /// The rank of a row among others: by its column from the greatest word on, and where this is equal by its place, since
 /// rows are in the order of their keys.
-#[derive(Clone, Copy, Debug, PartialEq, Eq, PartialOrd, Ord)]
+#[derive(Clone, Copy, PartialEq, Eq, PartialOrd, Ord)]
 pub struct Rank {
     word: Reverse<u64>,
     place: usize,

@@ -15,7 +15,7 @@ const PIECE: usize = 65_536;
 
 /// The bytes of a text that wait to be written, which contracts see as a list. They are written in pieces of at least 64 KiB,
 /// and the memory of one piece serves the next.
-#[derive(Debug, Drop)]
+#[derive(Drop)]
 pub struct TextBuffer {
     bytes: Vec<u8>,
 }

@@ -107,7 +107,8 @@ module _ (q : TypedQuery) (p : PlanParts) (valid : IsValidQuery q) (text : HasPl
     beyond k r e = go (slice_get (range_with_len 0 (length (query_made q).ops)) k) refl
       where
         go : (o : Option ℕ) → slice_get (range_with_len 0 (length (query_made q).ops)) k ≡ o → 14 ≤ r
-        go None h = let none : None ≡ Some r = sym (slice_get-map (register_in (query_order q)) (range_with_len 0 (length (query_made q).ops))
+        go None h = let none : None ≡ Some r = sym (slice_get-map (register_in (query_order q))
+            (range_with_len 0 (length (query_made q).ops))
             k ∙ ap (option_map (register_in (query_order q))) h) ∙ e in cc
         go (Some c) h =
             let same : register_in (query_order q) c ≡ r = same_Some (register_in (query_order q) c) r
@@ -143,7 +144,8 @@ module _ (q : TypedQuery) (p : PlanParts) (valid : IsValidQuery q) (text : HasPl
     pub op_ok : (i : ℕ) (one : PlanOp) → slice_get (query_ops q) i ≡ Some one → IsOpOk (fields_of (reads_of q)) (take i (query_ops q)) one
     op_ok i one e = record {
       allowed = record {
-        left = operand_known (reads_of q) (take i (query_ops q)) one.left w.left (subst (λ n. IsWithin (14 + n) one.left) (sym long) s.left);
+        left = operand_known (reads_of q) (take i (query_ops q)) one.left w.left
+            (subst (λ n. IsWithin (14 + n) one.left) (sym long) s.left);
         right = operand_known (reads_of q) (take i (query_ops q)) one.right w.right
             (subst (λ n. IsWithin (14 + n) one.right) (sym long) s.right);
         staged = record {
@@ -175,7 +177,8 @@ module _ (q : TypedQuery) (p : PlanParts) (valid : IsValidQuery q) (text : HasPl
 
     -- what the groupbys take
 
-    named_taking : (sources : List (List Source)) (streams : List TypedStream) → AreNamed (reads_of q) sources streams → (i : ℕ) (t : Taking)
+    named_taking : (sources : List (List Source)) (streams : List TypedStream) → AreNamed (reads_of q) sources streams
+        → (i : ℕ) (t : Taking)
         → slice_get (takings streams) i ≡ Some t → AreRead (reads_of q) (sources_at sources t.input) (t.keys ++ t.args)
     named_taking sources [] n i t e = absurd (no e)
       where
@@ -240,7 +243,8 @@ module _ (q : TypedQuery) (p : PlanParts) (valid : IsValidQuery q) (text : HasPl
         most_args = s.most_args;
         args = operands_readable (reads_of q) (query_ops q) (wiring_of (query_registers q) (query_made q).streams t).args
             (picked_good (sources_at (all_sources q) t.input) (wires_at (query_made q).streams t.input).columns t.args
-            (good.streams t.input).columns (read_right (reads_of q) (sources_at (all_sources q) t.input) t.keys t.args read)) s.arg_registers
+            (good.streams t.input).columns (read_right (reads_of q) (sources_at (all_sources q) t.input) t.keys t.args read))
+            s.arg_registers
             few_ops;
         state_names = well.state_names;
         states_differ = well.states_differ;

@@ -18,8 +18,8 @@ HasOwnColumns folds columns (typed.Group input keys number args) =
     AreNew [] columns × ((f : TypedFold) × (slice_get folds number ≡ Some f) × AreApart columns f.state_names)
 HasOwnColumns folds columns _ = Unit {0}
 
--- The names of streams differ from one another and from that of the packets, the state variables of each fold differ, so do the columns of each
--- groupby, and some table is printed, none twice.
+-- The names of streams differ from one another and from that of the packets, the state variables of each fold differ, so do the columns
+-- of each groupby, and some table is printed, none twice.
 pub record NamesDiffer (packets : ℕ) (q : TypedQuery) : Type 0 where
   pub streams : AreNew (packets ∷ []) (map (λ one. one.name.id) q.streams)
   pub states : (i : ℕ) (f : TypedFold) → slice_get q.folds i ≡ Some f → AreNew [] f.state_names

@@ -147,7 +147,8 @@ abbrev pub begun : Made
 begun = record nothing { begun = true }
 
 pub first_written : IsWritten (line (codes "marple-plan") (codes "1" ∷ [])) nothing begun
-first_written = line_written lead.Plan (codes "marple-plan") (codes "1" ∷ []) nothing begun refl (refl, tt) plan_lead (λ cut. record { first = refl; words = cut; made = refl })
+first_written = line_written lead.Plan (codes "marple-plan") (codes "1" ∷ []) nothing begun refl (refl, tt) plan_lead
+    (λ cut. record { first = refl; words = cut; made = refl })
 
 -- the line of fields
 
@@ -157,7 +158,8 @@ reads_lead = refl
 
 pub reads_written : (reads : FieldSet) → IsWritten (reads_line reads) begun (with_ops (fields_of reads) [])
 reads_written reads =
-    line_written lead.Reads (codes "reads") (map field_name (fields_of reads)) begun (with_ops (fields_of reads) []) refl (tokens_fields (fields_of reads)) reads_lead
+    line_written lead.Reads (codes "reads") (map field_name (fields_of reads)) begun (with_ops (fields_of reads) []) refl
+    (tokens_fields (fields_of reads)) reads_lead
     (λ cut. record {
       begun = refl;
       second = refl;

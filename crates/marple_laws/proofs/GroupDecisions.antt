@@ -50,7 +50,8 @@ pub group_line : (fs : List Field) (ops : List PlanOp) (groups : List Folded) (l
     → Decided ((after : Group) × IsGroupLine fs ops groups line after)
 group_line fs ops groups line = by (named_operand fs ops (codes "group") line)
   where
-    by : Decided ((name : List ℕ) × (v : Operand) × IsNamedOperand fs ops (codes "group") line name v) → Decided ((after : Group) × IsGroupLine fs ops groups line after)
+    by : Decided ((name : List ℕ) × (v : Operand) × IsNamedOperand fs ops (codes "group") line name v)
+        → Decided ((after : Group) × IsGroupLine fs ops groups line after)
     by (inr none) = inr (λ p. none (p.0.name, p.0.present, p.1.valid))
     by (inl (n, v, valid)) =
         by_both
@@ -58,7 +59,8 @@ group_line fs ops groups line = by (named_operand fs ops (codes "group") line)
         (λ p.
         let same : p.0.name ≡ n = operand_name fs fs ops (codes "group") line p.0.name n p.0.present v p.1.valid valid in
         (p.1.room, (λ e. p.1.no_stream (same ∙ e), λ there. p.1.new (subst (Contains (names_of groups)) (sym same) there))))
-        (both (less (length groups) 8) (both (neither (same_text n (codes "pktstream"))) (neither (contains same_text (names_of groups) n))))
+        (both (less (length groups) 8) (both (neither (same_text n (codes "pktstream")))
+        (neither (contains same_text (names_of groups) n))))
 
 new_in : (group : Group) (name : List ℕ) → Decided (IsNewIn group name)
 new_in group name =
@@ -69,7 +71,8 @@ key_line : (fs : List Field) (ops : List PlanOp) (before : Group) (line : List �
     → Decided ((after : Group) × IsKeyLine fs ops before line after)
 key_line fs ops before line = by (named_operand fs ops (codes "key") line)
   where
-    by : Decided ((name : List ℕ) × (v : Operand) × IsNamedOperand fs ops (codes "key") line name v) → Decided ((after : Group) × IsKeyLine fs ops before line after)
+    by : Decided ((name : List ℕ) × (v : Operand) × IsNamedOperand fs ops (codes "key") line name v)
+        → Decided ((after : Group) × IsKeyLine fs ops before line after)
     by (inr none) = inr (λ p. none (p.1.name, p.1.value, p.1.valid))
     by (inl (n, v, valid)) =
         by_both
@@ -122,7 +125,8 @@ arg_line fs ops before line = by (one_operand fs ops (codes "arg") line)
 state_line : (before : Group) (line : List ℕ) → Decided ((after : Group) × IsStateLine before line after)
 state_line before line = by (named_number (codes "state") line)
   where
-    by : Decided ((name : List ℕ) × (v : ℕ) × IsNamedNumber (codes "state") line name v) → Decided ((after : Group) × IsStateLine before line after)
+    by : Decided ((name : List ℕ) × (v : ℕ) × IsNamedNumber (codes "state") line name v)
+        → Decided ((after : Group) × IsStateLine before line after)
     by (inr none) = inr (λ p. none (p.1.name, p.1.value, p.1.valid))
     by (inl (n, v, valid)) =
         by_both
@@ -230,7 +234,8 @@ fold_words line = by (tokens line) refl
           },
         ))
         (λ p.
-        let line_is : a ∷ c ∷ d ∷ n ∷ s ∷ [] ≡ codes "fold" ∷ class_word p.0 ∷ p.4.depth_token ∷ p.4.nodes_token ∷ p.4.statements_token ∷ [] = sym e ∙ p.4.words in
+        let line_is : a ∷ c ∷ d ∷ n ∷ s ∷ [] ≡ codes "fold" ∷ class_word p.0 ∷ p.4.depth_token ∷ p.4.nodes_token ∷ p.4.statements_token
+        ∷ [] = sym e ∙ p.4.words in
         let first : a ≡ codes "fold" = cc in
         let class : c ≡ class_word p.0 = cc in
         let depth : d ≡ p.4.depth_token = cc in

@@ -67,12 +67,15 @@ module _ (fields : List Field) (ops : List PlanOp) (groups : List Folded) (name 
   pub keys_written : (before_names : List (List ℕ)) (before : List Operand) (names : List (List ℕ)) (values : List Operand)
       → length names ≡ length values → length before + length values ≤ 8 → AreNames names → AreNew before_names names
       → AreReadable fields ops values →
-      IsWritten (named_lines (codes "key") names (map operand_word values)) (with_keys before_names before) (with_keys (before_names ++ names) (before ++ values))
+      IsWritten (named_lines (codes "key") names (map operand_word values)) (with_keys before_names before)
+      (with_keys (before_names ++ names) (before ++ values))
   keys_written bn b [] [] long few named new ok = nothing_written (with_keys bn b) (with_keys (bn ++ []) (b ++ []))
       (λ k. with_keys (append-nil bn k) (append-nil b k))
   keys_written bn b (n ∷ names) (v ∷ values) long few named new ok =
-      written_then (line (codes "key") (n ∷ operand_word v ∷ [])) (named_lines (codes "key") names (map operand_word values)) (with_keys bn b) (with_keys (bn ++ n ∷ []) (b ++ v ∷ [])) (with_keys (bn ++ n ∷ names) (b ++ v ∷ values))
-      (line_written lead.Key (codes "key") (n ∷ operand_word v ∷ []) (with_keys bn b) (with_keys (bn ++ n ∷ []) (b ++ v ∷ [])) refl (token_name n named.0, (token_operand v ok.0.fits, tt)) key_word
+      written_then (line (codes "key") (n ∷ operand_word v ∷ [])) (named_lines (codes "key") names (map operand_word values))
+      (with_keys bn b) (with_keys (bn ++ n ∷ []) (b ++ v ∷ [])) (with_keys (bn ++ n ∷ names) (b ++ v ∷ values))
+      (line_written lead.Key (codes "key") (n ∷ operand_word v ∷ []) (with_keys bn b) (with_keys (bn ++ n ∷ []) (b ++ v ∷ [])) refl
+      (token_name n named.0, (token_operand v ok.0.fits, tt)) key_word
       (λ cut. record {
         fields = fields;
         reads = refl;
@@ -92,7 +95,8 @@ module _ (fields : List Field) (ops : List PlanOp) (groups : List Folded) (name 
         };
         made = refl;
       }))
-      (subst (λ m. IsWritten (named_lines (codes "key") names (map operand_word values)) (with_keys (bn ++ n ∷ []) (b ++ v ∷ [])) m) (λ k. with_keys (append_assoc bn (n ∷ []) names k) (append_assoc b (v ∷ []) values k))
+      (subst (λ m. IsWritten (named_lines (codes "key") names (map operand_word values)) (with_keys (bn ++ n ∷ []) (b ++ v ∷ [])) m)
+      (λ k. with_keys (append_assoc bn (n ∷ []) names k) (append_assoc b (v ∷ []) values k))
       (keys_written (bn ++ n ∷ []) (b ++ v ∷ []) names values (omega (arith, long)) (omega (arith, few, length_push b v)) named.1 new.1
       ok.1))
   keys_written bn b [] (v ∷ values) long few named new ok = absurd (omega (arith, long))
@@ -110,8 +114,10 @@ module _ (fields : List Field) (ops : List PlanOp) (groups : List Folded) (name 
         IsWritten (flat_map (λ a. line (codes "arg") (operand_word a ∷ [])) values) (with_args before) (with_args (before ++ values))
     args_written b [] few ok = nothing_written (with_args b) (with_args (b ++ [])) (λ k. with_args (append-nil b k))
     args_written b (v ∷ values) few ok =
-        written_then (line (codes "arg") (operand_word v ∷ [])) (flat_map (λ a. line (codes "arg") (operand_word a ∷ [])) values) (with_args b) (with_args (b ++ v ∷ [])) (with_args (b ++ v ∷ values))
-        (line_written lead.Arg (codes "arg") (operand_word v ∷ []) (with_args b) (with_args (b ++ v ∷ [])) refl (token_operand v ok.0.fits, tt) arg_word
+        written_then (line (codes "arg") (operand_word v ∷ [])) (flat_map (λ a. line (codes "arg") (operand_word a ∷ [])) values)
+        (with_args b) (with_args (b ++ v ∷ [])) (with_args (b ++ v ∷ values))
+        (line_written lead.Arg (codes "arg") (operand_word v ∷ []) (with_args b) (with_args (b ++ v ∷ [])) refl
+        (token_operand v ok.0.fits, tt) arg_word
         (λ cut. record {
           fields = fields;
           reads = refl;
@@ -129,7 +135,8 @@ module _ (fields : List Field) (ops : List PlanOp) (groups : List Folded) (name 
           };
           made = refl;
         }))
-        (subst (λ m. IsWritten (flat_map (λ a. line (codes "arg") (operand_word a ∷ [])) values) (with_args (b ++ v ∷ [])) m) (λ k. with_args (append_assoc b (v ∷ []) values k))
+        (subst (λ m. IsWritten (flat_map (λ a. line (codes "arg") (operand_word a ∷ [])) values) (with_args (b ++ v ∷ [])) m)
+        (λ k. with_args (append_assoc b (v ∷ []) values k))
         (args_written (b ++ v ∷ []) values (omega (arith, few, length_push b v)) ok.1))
 
     module _ (args : List Operand) where
@@ -143,12 +150,15 @@ module _ (fields : List Field) (ops : List PlanOp) (groups : List Folded) (name 
       pub states_written : (before_names : List (List ℕ)) (before : List ℕ) (names : List (List ℕ)) (values : List ℕ)
           → length names ≡ length values → length before + length values ≤ 8 → AreNames names → AreNew before_names names
           → AreNoKeys key_names names → AllWords values →
-          IsWritten (named_lines (codes "state") names (map decimal values)) (with_states before_names before) (with_states (before_names ++ names) (before ++ values))
+          IsWritten (named_lines (codes "state") names (map decimal values)) (with_states before_names before)
+          (with_states (before_names ++ names) (before ++ values))
       states_written bn b [] [] long few named new apart ok = nothing_written (with_states bn b) (with_states (bn ++ []) (b ++ []))
           (λ k. with_states (append-nil bn k) (append-nil b k))
       states_written bn b (n ∷ names) (v ∷ values) long few named new apart ok =
-          written_then (line (codes "state") (n ∷ decimal v ∷ [])) (named_lines (codes "state") names (map decimal values)) (with_states bn b) (with_states (bn ++ n ∷ []) (b ++ v ∷ [])) (with_states (bn ++ n ∷ names) (b ++ v ∷ values))
-          (line_written lead.State (codes "state") (n ∷ decimal v ∷ []) (with_states bn b) (with_states (bn ++ n ∷ []) (b ++ v ∷ [])) refl (token_name n named.0, (token_decimal v ok.0, tt)) state_lead
+          written_then (line (codes "state") (n ∷ decimal v ∷ [])) (named_lines (codes "state") names (map decimal values))
+          (with_states bn b) (with_states (bn ++ n ∷ []) (b ++ v ∷ [])) (with_states (bn ++ n ∷ names) (b ++ v ∷ values))
+          (line_written lead.State (codes "state") (n ∷ decimal v ∷ []) (with_states bn b) (with_states (bn ++ n ∷ []) (b ++ v ∷ [])) refl
+          (token_name n named.0, (token_decimal v ok.0, tt)) state_lead
           (λ cut. record {
             fields = fields;
             reads = refl;
@@ -167,7 +177,8 @@ module _ (fields : List Field) (ops : List PlanOp) (groups : List Folded) (name 
             };
             made = refl;
           }))
-          (subst (λ m. IsWritten (named_lines (codes "state") names (map decimal values)) (with_states (bn ++ n ∷ []) (b ++ v ∷ [])) m) (λ k. with_states (append_assoc bn (n ∷ []) names k) (append_assoc b (v ∷ []) values k))
+          (subst (λ m. IsWritten (named_lines (codes "state") names (map decimal values)) (with_states (bn ++ n ∷ []) (b ++ v ∷ [])) m)
+          (λ k. with_states (append_assoc bn (n ∷ []) names k) (append_assoc b (v ∷ []) values k))
           (states_written (bn ++ n ∷ []) (b ++ v ∷ []) names values (omega (arith, long)) (omega (arith, few, length_push b v)) named.1
           new.1 apart.1 ok.1))
       states_written bn b [] (v ∷ values) long few named new apart ok = absurd (omega (arith, long))

@@ -133,7 +133,8 @@ group_size shape wiring f l =
     let arg_lines : List ℕ = flat_map (λ a. line (codes "arg") (operand_word a ∷ [])) wiring.args in
     let state_lines : List ℕ = named_lines (codes "state") shape.state_names (map decimal f.initial) in
     let body_line : List ℕ = line (codes "body") (block_words (length f.state_names) (fold_block f)) in
-    let fold_line : List ℕ = line (codes "fold") (class_word shape.class ∷ decimal shape.depth ∷ decimal shape.nodes ∷ decimal shape.statements ∷ []) in
+    let fold_line : List ℕ = line (codes "fold") (class_word shape.class ∷ decimal shape.depth ∷ decimal shape.nodes
+    ∷ decimal shape.statements ∷ []) in
     let a = length-append body_line fold_line in
     let b = length-append state_lines (body_line ++ fold_line) in
     let c = length-append arg_lines (state_lines ++ (body_line ++ fold_line)) in

@@ -85,9 +85,11 @@ module _ (fields : List Field) (ops : List PlanOp) (groups : List Folded) (shape
   so_far key_names keys args state_names initial body = within fields ops groups
       (group_so_far fields ops groups shape.name wiring.present key_names keys args state_names initial body)
 
-  name_written : IsWritten (line (codes "group") (shape.name ∷ operand_word wiring.present ∷ [])) (outside fields ops groups) (so_far [] [] [] [] [] None)
+  name_written : IsWritten (line (codes "group") (shape.name ∷ operand_word wiring.present ∷ [])) (outside fields ops groups)
+      (so_far [] [] [] [] [] None)
   name_written =
-      line_written lead.Group (codes "group") (shape.name ∷ operand_word wiring.present ∷ []) (outside fields ops groups) (so_far [] [] [] [] [] None) refl
+      line_written lead.Group (codes "group") (shape.name ∷ operand_word wiring.present ∷ []) (outside fields ops groups)
+      (so_far [] [] [] [] [] None) refl
       (token_name shape.name ok.named, (token_operand wiring.present ok.present.fits, tt)) group_lead
       (λ cut. record {
         fields = fields;
@@ -129,10 +131,12 @@ module _ (fields : List Field) (ops : List PlanOp) (groups : List Folded) (shape
             omega (arith, few_braces (fold_block f), ok.valid.enough_statements, ok.valid.most_statements);
       }))
 
-  body_written : IsWritten (line (codes "body") (block_words (fold_states f) (fold_block f))) (so_far shape.key_names wiring.keys wiring.args shape.state_names f.initial None)
+  body_written : IsWritten (line (codes "body") (block_words (fold_states f) (fold_block f)))
+      (so_far shape.key_names wiring.keys wiring.args shape.state_names f.initial None)
       (so_far shape.key_names wiring.keys wiring.args shape.state_names f.initial (Some (written_block (fold_states f) (fold_block f))))
   body_written =
-      line_written lead.Body (codes "body") (block_words (fold_states f) (fold_block f)) (so_far shape.key_names wiring.keys wiring.args shape.state_names f.initial None)
+      line_written lead.Body (codes "body") (block_words (fold_states f) (fold_block f))
+      (so_far shape.key_names wiring.keys wiring.args shape.state_names f.initial None)
       (so_far shape.key_names wiring.keys wiring.args shape.state_names f.initial (Some (written_block (fold_states f) (fold_block f))))
       refl
       (tokens_block (fold_states f) (fold_args f) (fold_block f) few ok.valid.statements) body_lead
@@ -164,12 +168,14 @@ module _ (fields : List Field) (ops : List PlanOp) (groups : List Folded) (shape
   quiet : TypedFold
   quiet = record f { emit = None }
 
-  bounds_written : IsWritten (line (codes "fold") (class_word shape.class ∷ decimal shape.depth ∷ decimal shape.nodes ∷ decimal shape.statements ∷ []))
+  bounds_written : IsWritten (line (codes "fold") (class_word shape.class ∷ decimal shape.depth ∷ decimal shape.nodes
+      ∷ decimal shape.statements ∷ []))
       (so_far shape.key_names wiring.keys wiring.args shape.state_names f.initial (Some (written_block (fold_states f) (fold_block f))))
       (outside fields ops (groups ++ folded_with shape wiring f ∷ []))
   unfolding quiet
   bounds_written =
-      line_written lead.Fold (codes "fold") (class_word shape.class ∷ decimal shape.depth ∷ decimal shape.nodes ∷ decimal shape.statements ∷ [])
+      line_written lead.Fold (codes "fold") (class_word shape.class ∷ decimal shape.depth ∷ decimal shape.nodes ∷ decimal shape.statements
+      ∷ [])
       (so_far shape.key_names wiring.keys wiring.args shape.state_names f.initial (Some (written_block (fold_states f) (fold_block f))))
       (outside fields ops (groups ++ folded_with shape wiring f ∷ [])) refl (
         class_token shape.class,

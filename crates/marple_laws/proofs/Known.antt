@@ -1,4 +1,5 @@
--- What holds of the operations of expressions: they read fields that the query names, numbers that fit a word, and constants where they have to.
+-- What holds of the operations of expressions: they read fields that the query names, numbers that fit a word, and constants where
+-- they have to.
 use Rattle.std.proofs.Common.{◌≡◌, ℕ, zero, suc, ◌+◌, ◌^◌, ◌<◌, true, List, [], ◌∷◌, ◌++◌, Some, None, refl, sym, subst, inl, arith}
 use Rattle.std.specs.Prelude.{map, slice_get}
 use Rattle.std.proofs.lemmas.Bool.Decides.{nat_tests}

@@ -44,7 +44,8 @@ pub record IsOpOk (fields : List Field) (before : List PlanOp) (one : PlanOp) : 
   pub single : IsSingle one.op one.right
 
 op_read : (stage : ℕ) (op : operation.Operation) (left right : Operand) → stage < 2 ^ 64 → Fits left → Fits right → IsSingle op right →
-    op_words (codes "op" ∷ decimal stage ∷ operation_words op left right) ≡ Some (record { stage = stage; op = op; left = left; right = right })
+    op_words (codes "op" ∷ decimal stage ∷ operation_words op left right) ≡ Some
+    (record { stage = stage; op = op; left = left; right = right })
 op_read stage Not left right s l r single =
     ap (λ n. not_of n (operand (operand_word left))) (number_decimal stage s)
     ∙ ap (not_of (Some stage)) (operand_read left l)
@@ -72,7 +73,8 @@ with_ops fields ops = record { begun = true; reads = Some fields; ops = ops; gro
 op_written : (fields : List Field) (before : List PlanOp) (one : PlanOp) → IsOpOk fields before one
     → IsWritten (op_line one) (with_ops fields before) (with_ops fields (before ++ one ∷ []))
 op_written fields before one ok =
-    line_written lead.Op (codes "op") (decimal one.stage ∷ operation_words one.op one.left one.right) (with_ops fields before) (with_ops fields (before ++ one ∷ [])) refl
+    line_written lead.Op (codes "op") (decimal one.stage ∷ operation_words one.op one.left one.right) (with_ops fields before)
+    (with_ops fields (before ++ one ∷ [])) refl
     (op_tokens one.stage one.op one.left one.right ok.stage ok.left ok.right) op_word
     (λ cut. record {
       fields = fields;

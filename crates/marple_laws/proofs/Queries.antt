@@ -194,11 +194,13 @@ start_good names = record {
         })) else None)) t
     known id (inr h) = absurd h
 
-pub checked_differ : (parsed : Query) (q : TypedQuery) → checked parsed ≡ Ok q → NamesDiffer (number_in (typed_names parsed.names) (codes "pktstream")) q
+pub checked_differ : (parsed : Query) (q : TypedQuery) → checked parsed ≡ Ok q
+    → NamesDiffer (number_in (typed_names parsed.names) (codes "pktstream")) q
 checked_differ parsed q ok =
     let names = typed_names parsed.names in
     let e = found_first (items_checked (given_of names parsed.items) (start_of names) parsed.items) _ q ok in
-    let good = items_good (number_in names (codes "pktstream")) (given_of names parsed.items) parsed.items (start_of names) e.0 (start_good names) e.1 in
+    let good = items_good (number_in names (codes "pktstream")) (given_of names parsed.items) parsed.items (start_of names) e.0
+    (start_good names) e.1 in
     let some = must_ok (nat_lt 0 (length e.0.prints)) NothingPrinted parsed.end _ q e.2 in
     subst (NamesDiffer (number_in names (codes "pktstream"))) (same_ok _ q some.1) (record {
       streams = good.streams;

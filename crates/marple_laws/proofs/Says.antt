@@ -88,8 +88,10 @@ prints_written fields ops groups few [] before there new = nothing_written (prin
 prints_written fields ops groups few (printed.Final i ∷ prints) before there new =
     prints_written fields ops groups few prints before there new
 prints_written fields ops groups few (printed.Group i ∷ prints) before there new =
-    written_then (line (codes "print") (decimal i ∷ [])) (flat_map print_line prints) (printing fields ops groups before) (printing fields ops groups (before ++ i ∷ [])) (printing fields ops groups (before ++ i ∷ flat_map printed_group prints))
-    (line_written lead.Print (codes "print") (decimal i ∷ []) (printing fields ops groups before) (printing fields ops groups (before ++ i ∷ [])) refl (token_decimal i small, tt) print_lead
+    written_then (line (codes "print") (decimal i ∷ [])) (flat_map print_line prints) (printing fields ops groups before)
+    (printing fields ops groups (before ++ i ∷ [])) (printing fields ops groups (before ++ i ∷ flat_map printed_group prints))
+    (line_written lead.Print (codes "print") (decimal i ∷ []) (printing fields ops groups before)
+    (printing fields ops groups (before ++ i ∷ [])) refl (token_decimal i small, tt) print_lead
     (λ cut. record {
       current = refl;
       group = i;
@@ -125,7 +127,8 @@ module _ (q : TypedQuery) (p : PlanParts) (valid : IsValidQuery q) (text : HasPl
     long : length groups ≡ length (takings q.streams)
     long =
         ap (λ n. length (flat_map (group_made q) (range_with_len 0 n))) (sym (shapes_long q p valid text plan sound))
-        ∙ groups_long fields (query_ops q) (query_groups q) (query_wiring q) (fold_at q) (group_ok q p valid text plan sound) (query_groups q)
+        ∙ groups_long fields (query_ops q) (query_groups q) (query_wiring q) (fold_at q) (group_ok q p valid text plan sound)
+        (query_groups q)
         0 (λ k. (let z : 0 + k ≡ k = omega arith in ap (slice_get (query_groups q)) z))
         ∙ shapes_long q p valid text plan sound
 

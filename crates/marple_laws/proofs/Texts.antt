@@ -218,7 +218,8 @@ id_in [] j one h = cc
 id_in (s ∷ streams) zero one h = inl (ap (λ (t : TypedStream). t.name.id) (sym (same_Some s one h)))
 id_in (s ∷ streams) (suc j) one h = inr (id_in streams j one h)
 
-shape_named : (q : TypedQuery) (packets : ℕ) → packets ≡ number_in q.names (codes "pktstream") → IsValidQuery q → AreGood q.names → NamesDiffer packets q
+shape_named : (q : TypedQuery) (packets : ℕ) → packets ≡ number_in q.names (codes "pktstream") → IsValidQuery q → AreGood q.names
+    → NamesDiffer packets q
     → (j : ℕ) (one : TypedStream) (args number : ℕ) (f : TypedFold) → slice_get q.streams j ≡ Some one → slice_get q.folds number ≡ Some f
     → AreNew [] one.columns
     → AreApart one.columns f.state_names → IsNamedWell (shape_with q.names one.name.id one.columns args f)
@@ -229,7 +230,8 @@ shape_named q packets is v good differ j one args number f here fold new apart =
     record {
       named = good.lexical one.name.id (text_at q.names one.name.id) there;
       no_stream = λ e.
-          (let same : number_in q.names (codes "pktstream") ≡ one.name.id = number_at q.names one.name.id (codes "pktstream") good.once (there ∙ ap Some e) in
+          (let same : number_in q.names (codes "pktstream") ≡ one.name.id =
+          number_at q.names one.name.id (codes "pktstream") good.once (there ∙ ap Some e) in
           new_apart (packets ∷ []) (map (λ (s : TypedStream). s.name.id) q.streams) one.name.id differ.streams (inl (sym (is ∙ same)))
           (id_in q.streams j one here));
       key_names = names_are q.names good one.columns below.1;
@@ -239,7 +241,8 @@ shape_named q packets is v good differ j one args number f here fold new apart =
       states_apart = apart_texts q.names good.once one.columns f.state_names below.1 states apart;
     }
 
-pub named_well : (q : TypedQuery) (packets : ℕ) → packets ≡ number_in q.names (codes "pktstream") → IsValidQuery q → AreGood q.names → NamesDiffer packets q
+pub named_well : (q : TypedQuery) (packets : ℕ) → packets ≡ number_in q.names (codes "pktstream") → IsValidQuery q → AreGood q.names
+    → NamesDiffer packets q
     → (i : ℕ) (shape : GroupShape) → slice_get (query_groups q) i ≡ Some shape → IsNamedWell shape
 named_well q packets is v good differ i shape e =
     let from = group_from q.names q.folds q.streams i shape e in

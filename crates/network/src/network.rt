@@ -145,7 +145,8 @@ impl<const WAYS: usize> Network<WAYS> {
     pub fn add_switch(&mut self) -> Result<(), AllocError>
         requires { self.old.switches < 64 }
         ensures grows { OnOk result (NetworkGrows WAYS self.old self.new) }
-        ensures stands { OnOk result ((events : List NetworkEvent) → NetworkStands WAYS self.old events → NetworkStands WAYS self.new events) }
+        ensures stands { OnOk result ((events : List NetworkEvent) → NetworkStands WAYS self.old events
+            → NetworkStands WAYS self.new events) }
         ensures err { OnErr result (self.new ≡ self.old) }
     {
         add_switch(

@@ -27,8 +27,10 @@ abbrev named : List ℕ → ℕ
 named name =
     if bytes_eq name (codes "switch") then 0 else if bytes_eq name (codes "qid") then 1 else if bytes_eq name (codes "uid") then 2
     else if bytes_eq name (codes "srcip") then 3 else if bytes_eq name (codes "dstip") then 4 else if bytes_eq name (codes "srcport") then 5
-    else if bytes_eq name (codes "dstport") then 6 else if bytes_eq name (codes "proto") then 7 else if bytes_eq name (codes "pkt_len") then 8
-    else if bytes_eq name (codes "payload_len") then 9 else if bytes_eq name (codes "tcpseq") then 10 else if bytes_eq name (codes "tin") then 11
+    else if bytes_eq name (codes "dstport") then 6 else if bytes_eq name (codes "proto") then 7 else if bytes_eq name (codes "pkt_len") then
+    8
+    else if bytes_eq name (codes "payload_len") then 9 else if bytes_eq name (codes "tcpseq") then 10 else if bytes_eq name (codes "tin")
+    then 11
     else if bytes_eq name (codes "tout") then 12 else 13
 
 numbered : (f : Field) → named (field_name f) ≡ number_of f

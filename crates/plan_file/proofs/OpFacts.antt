@@ -43,7 +43,8 @@ other_word word (a ∷ b ∷ c ∷ []) e = rw e refl
 other_word word (a ∷ b ∷ c ∷ d ∷ []) e = rw e refl
 other_word word (a ∷ b ∷ c ∷ d ∷ f ∷ rest) e = refl
 
-pub no_other_word : (fields : List Field) (ops : List PlanOp) (line word : List ℕ) (rest : List (List ℕ)) → tokens line ≡ word ∷ rest → bytes_eq word (codes "op") ≡ false
+pub no_other_word : (fields : List Field) (ops : List PlanOp) (line word : List ℕ) (rest : List (List ℕ)) → tokens line ≡ word ∷ rest
+    → bytes_eq word (codes "op") ≡ false
     → (op : PlanOp) → IsOpLine fields ops line op → ⊥
 no_other_word fields ops line word rest e other = no_line fields ops line (ap op_words e ∙ other_word word rest other)
 

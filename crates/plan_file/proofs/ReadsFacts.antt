@@ -110,7 +110,13 @@ pub passed_start : (line : List ℕ) (left : List (List ℕ)) → tokens line �
 passed_start line left e = record {
   words = e;
   order = omega arith;
-  all = λ fields valid. (fields, refl, valid.order, tail_is (codes "reads") (codes "reads") (map field_name fields) left (sym valid.words ∙ e));
+  all = λ fields valid. (
+    fields,
+    refl,
+    valid.order,
+    tail_is (codes "reads") (codes "reads") (map field_name fields) left
+        (sym valid.words ∙ e),
+  );
 }
 
 -- a line other than `reads`
@@ -177,7 +183,8 @@ pub passed_with : (line : List ℕ) (found : List Field) (i : ℕ) (f : Field) (
     → IsPassed line found i (t ∷ ts) → number_of f ≡ i → t ≡ field_name f
     → IsPassed line (found ++ f ∷ []) (i + 1) ts
 passed_with line found i f t ts p e name = record {
-  words = p.words ∙ ap (λ h. codes "reads" ∷ (map field_name found ++ h ∷ ts)) name ∙ ap (λ rest. codes "reads" ∷ rest) (map_with found f ts);
+  words = p.words ∙ ap (λ h. codes "reads" ∷ (map field_name found ++ h ∷ ts)) name
+      ∙ ap (λ rest. codes "reads" ∷ rest) (map_with found f ts);
   order = in_with found 0 i f p.order e;
   all = λ fields valid. let a = p.all fields valid in taken f t ts i found fields e name a.0 a.1 a.2 a.3;
 }
@@ -187,7 +194,11 @@ nil_end [] = refl
 nil_end (x ∷ xs) = ap (λ rest. x ∷ rest) (nil_end xs)
 
 pub passed_all : (line : List ℕ) (found : List Field) (i : ℕ) → IsPassed line found i [] → IsReadsLine line found
-passed_all line found i p = record { words = p.words ∙ ap (λ rest. codes "reads" ∷ rest) (nil_end (map field_name found)); order = in_from found 0 i p.order }
+passed_all line found i p = record {
+  words = p.words ∙ ap (λ rest. codes "reads" ∷ rest) (nil_end (map field_name found));
+  order =
+      in_from found 0 i p.order;
+}
 
 below_14 : (f : Field) → number_of f < 14
 below_14 Switch = omega arith

@@ -79,7 +79,8 @@ second_same w a b xs ys e = (cc, cc)
 pub words_once : (line : List ℕ) (k l : Class) (d c n m s t : ℕ) → IsFoldWords line k d n s → IsFoldWords line l c m t → (k ≡ l) × (d ≡ c)
     × (n ≡ m) × (s ≡ t)
 words_once line k l d c n m s t p q =
-    let both = second_same (codes "fold") (class_word k) (class_word l) (p.depth_token ∷ p.nodes_token ∷ p.statements_token ∷ []) (q.depth_token ∷ q.nodes_token ∷ q.statements_token ∷ []) (sym p.words ∙ q.words) in
+    let both = second_same (codes "fold") (class_word k) (class_word l) (p.depth_token ∷ p.nodes_token ∷ p.statements_token ∷ [])
+    (q.depth_token ∷ q.nodes_token ∷ q.statements_token ∷ []) (sym p.words ∙ q.words) in
     let tokens = both.1 in
     let depth : p.depth_token ≡ q.depth_token = cc in
     let nodes : p.nodes_token ≡ q.nodes_token = cc in

@@ -24,8 +24,10 @@ words_followed states (Set v e next) q =
     ap (λ l. codes "set" ∷ state_word v ∷ (term_words states e ++ l)) (words_followed states next q)
     ∙ ap (λ l. codes "set" ∷ state_word v ∷ l) (sym (append_assoc (term_words states e) (block_words states next) (block_words states q)))
 words_followed states (Fork c a b next) q =
-    ap (λ l. codes "if" ∷ (term_words states c ++ (codes "{" ∷ (block_words states a ++ (codes "}" ∷ codes "{" ∷ (block_words states b ++ (codes "}" ∷ l))))))) (words_followed states next q)
-    ∙ regrouped (codes "if") (codes "{") (codes "}") (term_words states c) (block_words states a) (block_words states b) (block_words states next) (block_words states q)
+    ap (λ l. codes "if" ∷ (term_words states c ++ (codes "{" ∷ (block_words states a
+    ++ (codes "}" ∷ codes "{" ∷ (block_words states b ++ (codes "}" ∷ l))))))) (words_followed states next q)
+    ∙ regrouped (codes "if") (codes "{") (codes "}") (term_words states c) (block_words states a) (block_words states b)
+    (block_words states next) (block_words states q)
   where
     regrouped : (i o e : List ℕ) (t x y n z : List (List ℕ)) →
         i ∷ (t ++ (o ∷ (x ++ (e ∷ o ∷ (y ++ (e ∷ (n ++ z))))))) ≡ (i ∷ (t ++ (o ∷ (x ++ (e ∷ o ∷ (y ++ (e ∷ n))))))) ++ z
@@ -61,9 +63,11 @@ choice_written states s c a b p q t0 t1 t2 t3 t4 t5 t6 t7 t8 is ea eb e1 e2 e3 e
     let x = spaced (term_words states (term_of c)) in
     let y = spaced (block_words states (block_of p)) in
     let z = spaced (block_words states (block_of q)) in
-    let all : t8 ≡ (((((((t0 ++ spaced (codes "if" ∷ [])) ++ x) ++ spaced (codes "{" ∷ [])) ++ y) ++ spaced (codes "}" ∷ [])) ++ spaced (codes "{" ∷ [])) ++ z) ++ spaced (codes "}" ∷ []) = cc in
+    let all : t8 ≡ (((((((t0 ++ spaced (codes "if" ∷ [])) ++ x) ++ spaced (codes "{" ∷ [])) ++ y) ++ spaced (codes "}" ∷ []))
+    ++ spaced (codes "{" ∷ [])) ++ z) ++ spaced (codes "}" ∷ []) = cc in
     all
-    ∙ glued t0 (codes "if") (codes "{") (codes "}") (term_words states (term_of c)) (block_words states (block_of p)) (block_words states (block_of q))
+    ∙ glued t0 (codes "if") (codes "{") (codes "}") (term_words states (term_of c)) (block_words states (block_of p))
+    (block_words states (block_of q))
     ∙ ap (λ l. t0 ++ spaced (block_words states (Fork (term_of c) (block_of l) (block_of q) End))) ea
     ∙ ap (λ l. t0 ++ spaced (block_words states (Fork (term_of c) (block_of a) (block_of l) End))) eb
     ∙ ap (λ l. t0 ++ spaced (block_words states l)) (sym (block_if c a b))
@@ -87,7 +91,8 @@ choice_written states s c a b p q t0 t1 t2 t3 t4 t5 t6 t7 t8 is ea eb e1 e2 e3 e
 
 -- the three pieces of an assignment
 pub assignment_written : (states v n : ℕ) (s : TypedStmt) (e : TypedExpr) (t0 t1 t2 t3 : List ℕ) → s ≡ Assign v e → n ≡ v →
-    t1 ≡ t0 ++ spaced (codes "set" ∷ []) → t2 ≡ t1 ++ spaced (state_word n ∷ []) → t3 ≡ t2 ++ spaced (term_words states (term_of e)) → t3 ≡ t0 ++ spaced (block_words states (stmt_block s))
+    t1 ≡ t0 ++ spaced (codes "set" ∷ []) → t2 ≡ t1 ++ spaced (state_word n ∷ []) → t3 ≡ t2 ++ spaced (term_words states (term_of e))
+    → t3 ≡ t0 ++ spaced (block_words states (stmt_block s))
 assignment_written states v n s e t0 t1 t2 t3 is same e1 e2 e3 =
     let x = spaced (term_words states (term_of e)) in
     let all : t3 ≡ ((t0 ++ spaced (codes "set" ∷ [])) ++ spaced (state_word n ∷ [])) ++ x = cc in

@@ -224,7 +224,8 @@ groups_more said i t0 t1 t2 e f =
     ∙ ap (λ l. t0 ++ flat_map said l) (sym (range_more 0 i ∙ (let z : 0 + i ≡ i = omega arith in ap (λ m. range_with_len 0 i ++ m ∷ []) z)))
 
 -- the first two lines
-pub head_is : (reads : FieldSet) (t0 t1 t2 t3 : List ℕ) → t1 ≡ t0 ++ codes "marple-plan 1\nreads" → t2 ≡ t1 ++ spaced (map field_name (fields_of reads)) → t3 ≡ t2 ++ 10 ∷ [] →
+pub head_is : (reads : FieldSet) (t0 t1 t2 t3 : List ℕ) → t1 ≡ t0 ++ codes "marple-plan 1\nreads" → t2 ≡ t1
+    ++ spaced (map field_name (fields_of reads)) → t3 ≡ t2 ++ 10 ∷ [] →
     t3 ≡ t0 ++ (line (codes "marple-plan") (codes "1" ∷ []) ++ reads_line reads)
 head_is reads t0 t1 t2 t3 e f g =
     let x = spaced (map field_name (fields_of reads)) in

@@ -12,7 +12,7 @@ use query_lang::{QueryFault, TypedQuery};
 use stage_plan::Plan;
 
 /// The fault that each of these commands finds, and `None` where it takes the query.
-#[derive(Clone, Copy, Debug)]
+#[derive(Clone, Copy)]
 pub struct Commands {
     pub net: Option<QueryFault>,
     pub enclose: Option<QueryFault>,

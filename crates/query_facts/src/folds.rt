@@ -13,7 +13,7 @@ use std::alloc::{AllocError, Global};
 
 /// What a fold is: its class, and the algebra of its maps where it is linear; its depth, and which of its variables have one;
 /// whether it only adds, and whether it keeps the order of states.
-#[derive(Debug, Drop)]
+#[derive(Drop)]
 pub struct FoldFacts {
     pub class: Class,
     pub algebra: Algebra,

@@ -15,7 +15,7 @@ use query_lang::{Span, TypedFinal, TypedFinalOp, TypedFold, TypedOp, TypedQuery,
 use std::alloc::{AllocError, Global};
 
 /// Why a trace can't be split for a query.
-#[derive(Clone, Copy, Debug, PartialEq, Eq)]
+#[derive(Clone, Copy, PartialEq, Eq)]
 pub enum Unsplit {
     /// A final groups rows of a table, which may be of several parts.
     FinalGroupby,
@@ -29,7 +29,7 @@ pub enum Unsplit {
 
 /// How a trace may be split: by these fields, which are keys of every needed groupby; into any pieces, since states add; or
 /// not, by the reason at this place.
-#[derive(Debug, Drop)]
+#[derive(Drop)]
 pub enum Parts {
     By(Seq<Field>),
     Sums,

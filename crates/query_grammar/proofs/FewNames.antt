@@ -76,7 +76,8 @@ whole_word : (w : List ℕ) (digits : ℕ) (bytes : List ℕ) → word_begins by
     → IsWholeWord (word_piece w digits) bytes
 whole_word w digits bytes begins same = whole_either (nat_eq digits (length w)) _ _ bytes
     (whole_number (below_limit (digits_value 10 w)) (length w) bytes)
-    (whole_either (bytes_eq w (codes "5tuple")) _ _ bytes tt (whole_either (nat_eq digits 0) _ _ bytes (whole_name (reserved w) (length w) bytes begins same) tt))
+    (whole_either (bytes_eq w (codes "5tuple")) _ _ bytes tt (whole_either (nat_eq digits 0) _ _ bytes
+    (whole_name (reserved w) (length w) bytes begins same) tt))
 
 whole_piece : (b : ℕ) (bytes : List ℕ) → IsWholeWord (piece (b ∷ bytes)) (b ∷ bytes)
 whole_piece b bytes = whole_either (is_blank b) _ _ (b ∷ bytes) tt (whole_either (nat_eq b 35) _ _ (b ∷ bytes) tt

@@ -1,4 +1,5 @@
--- The ways to build a parser, with the tokens that begin it and the tokens at which it goes on as lists of kinds: each side condition computes.
+-- The ways to build a parser, with the tokens that begin it and the tokens at which it goes on as lists of kinds: each
+-- side condition computes.
 use Rattle.std.proofs.Common.{◌≡◌, ℕ, Bool, true, false, cond, eqb, List, [], ◌∷◌, ◌++◌, Option, Some, None, refl, sym, ap, subst, ◌∙◌, inl}
 use Rattle.std.proofs.Common.{inr, ◌⊎◌}
 use Rattle.std.proofs.lemmas.Bool.{eqb-true}

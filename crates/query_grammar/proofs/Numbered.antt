@@ -82,7 +82,8 @@ plain_mark_at b (c ∷ bytes) = plain_mark (two_mark b c) (one_mark b)
 
 plain_word : (w : List ℕ) (digits : ℕ) → IsPlain (word_piece w digits)
 plain_word w digits = plain_either (nat_eq digits (length w)) _ _ (plain_number (below_limit (digits_value 10 w)) (length w))
-    (plain_either (bytes_eq w (codes "5tuple")) _ _ (five_tuple (length w)) (plain_either (nat_eq digits 0) _ _ (plain_name (reserved w) (length w)) tt))
+    (plain_either (bytes_eq w (codes "5tuple")) _ _ (five_tuple (length w))
+    (plain_either (nat_eq digits 0) _ _ (plain_name (reserved w) (length w)) tt))
 
 plain_piece : (b : ℕ) (bytes : List ℕ) → IsPlain (piece (b ∷ bytes))
 plain_piece b bytes = plain_either (is_blank b) _ _ tt (plain_either (nat_eq b 35) _ _ tt

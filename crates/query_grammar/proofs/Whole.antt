@@ -439,7 +439,8 @@ module _ (front : List Token) (t : Token) (more : List Token) (c : Counts) (g : 
             kind_of Statements s p j = absurd (first Statements s p j)
             kind_of Nesting s p j = absurd (first Nesting s p j)
 
-            at : Place front (t ∷ more) (tokens_of h.front) u r → ◌≡◌ {A = Outcome Value} (Stopped k (u ∷ r)) (Stopped Unexpected (t ∷ more))
+            at : Place front (t ∷ more) (tokens_of h.front) u r → ◌≡◌ {A = Outcome Value} (Stopped k (u ∷ r))
+                (Stopped Unexpected (t ∷ more))
             at (inside y p j) = absurd (not_before k (tokens_of h.front) u y r p (ap run (sym h.split) ∙ e))
             at (at_end p j) = kind_of k h.cause p j
             at (beyond z y p j) = absurd (too_far z y (y ++ u ∷ r) h.front h.more (depth 0) h.value p j h.begins)

@@ -1,4 +1,5 @@
--- Which typed queries are valid: what they name is there, conditions, words and constants are where they are allowed, and the limits are kept.
+-- Which typed queries are valid: what they name is there, conditions, words and constants are where they are allowed, and the limits
+-- are kept.
 use Rattle.std.specs.Prelude.{◌≡◌, ℕ, zero, suc, ◌+◌, ◌-◌, ◌<◌, ◌≤◌, true, false, List, [], ◌∷◌}
 use Rattle.std.specs.Prelude.{◌++◌, length, map, sum_by, All, slice_get, Option, Some, None, option_map, unwrap_or}
 use Rattle.query_lang.specs.declared.fold.TypedExpr.{TypedExpr}

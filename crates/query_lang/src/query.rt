@@ -6,7 +6,7 @@ use crate::names::Names;
 use marple_base::{Boxed, Seq};
 
 /// A name, by its number among the names of the text, and where it is.
-#[derive(Clone, Copy, PartialEq, Eq, Debug)]
+#[derive(Clone, Copy, PartialEq, Eq)]
 pub struct Name {
     pub id: u32,
     pub span: Span,
@@ -61,7 +61,7 @@ impl Drop for FoldDef {
 }
 
 /// A state variable, and the number that it starts with.
-#[derive(Clone, Copy, PartialEq, Eq, Debug)]
+#[derive(Clone, Copy, PartialEq, Eq)]
 pub struct StateVar {
     pub name: Name,
     pub initial: u64,
@@ -149,7 +149,7 @@ pub struct Column {
 }
 
 /// A key of a groupby; `5tuple` means five.
-#[derive(Clone, Copy, PartialEq, Eq, Debug)]
+#[derive(Clone, Copy, PartialEq, Eq)]
 pub enum Key {
     Named(Name),
     FiveTuple(Span),

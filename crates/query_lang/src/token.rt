@@ -3,7 +3,7 @@
 use crate::fault::{FaultKind, Span};
 
 /// A reserved word.
-#[derive(Clone, Copy, Debug, PartialEq, Eq)]
+#[derive(Clone, Copy, PartialEq, Eq)]
 pub enum Word {
     Def,
     If,
@@ -28,7 +28,7 @@ pub enum Word {
 }
 
 /// A mark.
-#[derive(Clone, Copy, Debug, PartialEq, Eq)]
+#[derive(Clone, Copy, PartialEq, Eq)]
 pub enum Mark {
     OpenParen,
     CloseParen,
@@ -61,7 +61,7 @@ pub enum Mark {
 }
 
 /// What a token is.
-#[derive(Clone, Copy, Debug, PartialEq, Eq)]
+#[derive(Clone, Copy, PartialEq, Eq)]
 pub enum TokenKind {
     /// A name, whose text is that of the span. Names are numbered from 0 by first appearance in the text.
     Name(u32),
@@ -75,14 +75,14 @@ pub enum TokenKind {
 }
 
 /// A token, and where it is.
-#[derive(Clone, Copy, Debug, PartialEq, Eq)]
+#[derive(Clone, Copy, PartialEq, Eq)]
 pub struct Token {
     pub kind: TokenKind,
     pub span: Span,
 }
 
 /// What comes first in some bytes, and how many of them it takes.
-#[derive(Clone, Copy, Debug, PartialEq, Eq)]
+#[derive(Clone, Copy, PartialEq, Eq)]
 pub enum Piece {
     /// A blank or a comment.
     Blank(usize),

@@ -6,7 +6,7 @@ use crate::typed::{PrintOf, TypedFinal, TypedFinalOp, TypedOp, TypedStream};
 use marple_base::Seq;
 
 /// What an expression gives: a number written in the text, another word, or a condition.
-#[derive(Clone, Copy, Debug, PartialEq, Eq)]
+#[derive(Clone, Copy, PartialEq, Eq)]
 pub enum Sort {
     Number(u64),
     Word,
@@ -36,14 +36,14 @@ pub struct Body {
 }
 
 /// Where a column's values come from: a packet's field, or the `map` that makes the stream with this number.
-#[derive(Clone, Copy, Debug, PartialEq, Eq)]
+#[derive(Clone, Copy, PartialEq, Eq)]
 pub enum Origin {
     Field,
     Map(u16),
 }
 
 /// A column of a stream: its name, and where it comes from.
-#[derive(Clone, Copy, Debug, PartialEq, Eq)]
+#[derive(Clone, Copy, PartialEq, Eq)]
 pub struct StreamColumn {
     pub name: u32,
     pub origin: Origin,

@@ -36,7 +36,16 @@ HasNoEntry items i = (one : Entry) → HasEntry items i one → ⊥
 -- ---- a fold, a groupby by the key 1 and a final over it, of which the groupby is printed
 
 abbrev pub a_count : TypedFold
-a_count = record { name = called 10; state_names = 3 ∷ []; initial = 0 ∷ []; arg_names = []; body = []; emit = None; nodes = 0; statements = 0 }
+a_count = record {
+  name = called 10;
+  state_names = 3 ∷ [];
+  initial = 0 ∷ [];
+  arg_names = [];
+  body = [];
+  emit = None;
+  nodes = 0;
+  statements = 0;
+}
 
 abbrev pub a_groupby : MadeStream
 a_groupby = record {

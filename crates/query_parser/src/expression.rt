@@ -148,8 +148,7 @@ fn next_expression(alloc: Global, brackets: u32, counts: Counts, rest: &[Token])
     ensures { Gives result (after Limited (sign marks.Comma) (expr_at Limited brackets) counts rest.now) }
 {
     let (_, counts, rest) = plain_mark(Mark::Comma, counts, rest)?;
-    let (next, counts, rest) = expression(alloc, brackets, counts, rest)?;
-    Ok((next, counts, rest))
+    expression(alloc, brackets, counts, rest)
 }
 
 /// Expressions with commas between them.
@@ -180,8 +179,7 @@ fn listed(alloc: Global, brackets: u32, counts: Counts, rest: &[Token]) -> Read<
     if !at_expression(rest) {
         return Ok((Seq::new(alloc), counts, rest));
     }
-    let (found, counts, rest) = expressions(alloc, brackets, counts, rest)?;
-    Ok((found, counts, rest))
+    expressions(alloc, brackets, counts, rest)
 }
 
 /// The arguments of a call, in their bracket.

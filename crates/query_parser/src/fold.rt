@@ -36,8 +36,7 @@ fn next_state_variable(counts: Counts, rest: &[Token]) -> Seen<'_, StateVar>
     ensures { Sees result (after Limited (sign marks.Comma) (state_variable_of Limited) counts rest.now) }
 {
     let (_, counts, rest) = plain_mark(Mark::Comma, counts, rest)?;
-    let (next, counts, rest) = state_variable(counts, rest)?;
-    Ok((next, counts, rest))
+    state_variable(counts, rest)
 }
 
 /// State variables with commas between them.

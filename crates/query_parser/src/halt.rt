@@ -10,14 +10,14 @@ use query_lang::Token;
 use std::alloc::AllocError;
 
 /// The first of these tokens is a fault.
-#[derive(Clone, Copy, Debug)]
+#[derive(Clone, Copy)]
 pub struct Fault<'a> {
     pub stop: Stop,
     pub rest: &'a [Token],
 }
 
 /// Why nothing was read: there is a fault, or memory ran out.
-#[derive(Debug, Drop)]
+#[derive(Clone, Copy)]
 pub enum Halt<'a> {
     At(Fault<'a>),
     Memory,
@@ -55,7 +55,7 @@ pub fn stop_at(stop: Stop, rest: &[Token]) -> Fault<'_>
 
 /// What a token counts as: nothing, a node of an expression, the first token of a statement, or the first of an item, at
 /// which the counts begin again.
-#[derive(Clone, Copy, Debug, PartialEq, Eq)]
+#[derive(Clone, Copy, PartialEq, Eq)]
 pub enum Role {
     Plain,
     Node,

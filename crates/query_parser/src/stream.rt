@@ -28,8 +28,7 @@ fn comma_condition(alloc: Global, counts: Counts, rest: &[Token]) -> Read<'_, Ex
     ensures { Gives result (after Limited (sign marks.Comma) (expr_at Limited 63) counts rest.now) }
 {
     let (_, counts, rest) = plain_mark(Mark::Comma, counts, rest)?;
-    let (value, counts, rest) = expression(alloc, WITHIN_FILTER, counts, rest)?;
-    Ok((value, counts, rest))
+    expression(alloc, WITHIN_FILTER, counts, rest)
 }
 
 /// In parentheses, a name, and a condition after a comma.
@@ -49,8 +48,7 @@ pub fn filter(alloc: Global, counts: Counts, rest: &[Token]) -> Read<'_, (Name, 
     ensures { Gives result (filter_of Limited (expr_at Limited 63) counts rest.now) }
 {
     let (_, counts, rest) = keyword(Role::Plain, Word::Filter, counts, rest)?;
-    let (operands, counts, rest) = filter_operands(alloc, counts, rest)?;
-    Ok((operands, counts, rest))
+    filter_operands(alloc, counts, rest)
 }
 
 /// A new column: its name, and its value after `=`.
@@ -68,8 +66,7 @@ fn comma_column(alloc: Global, counts: Counts, rest: &[Token]) -> Read<'_, Colum
     ensures { Gives result (after Limited (sign marks.Comma) (column_of Limited (expr_at Limited 62)) counts rest.now) }
 {
     let (_, counts, rest) = plain_mark(Mark::Comma, counts, rest)?;
-    let (next, counts, rest) = column(alloc, counts, rest)?;
-    Ok((next, counts, rest))
+    column(alloc, counts, rest)
 }
 
 /// Columns with commas between them.
@@ -122,8 +119,7 @@ pub fn mapping(alloc: Global, counts: Counts, rest: &[Token]) -> Read<'_, (Name,
     ensures { Gives result (mapping_of Limited (expr_at Limited 62) counts rest.now) }
 {
     let (_, counts, rest) = keyword(Role::Plain, Word::Map, counts, rest)?;
-    let (operands, counts, rest) = map_operands(alloc, counts, rest)?;
-    Ok((operands, counts, rest))
+    map_operands(alloc, counts, rest)
 }
 
 /// This word, and two names in parentheses.
@@ -155,8 +151,7 @@ fn comma_key(counts: Counts, rest: &[Token]) -> Seen<'_, Key>
     ensures { Sees result (after Limited (sign marks.Comma) (key_of Limited) counts rest.now) }
 {
     let (_, counts, rest) = plain_mark(Mark::Comma, counts, rest)?;
-    let (next, counts, rest) = key(counts, rest)?;
-    Ok((next, counts, rest))
+    key(counts, rest)
 }
 
 /// Keys with commas between them.

@@ -139,8 +139,7 @@ pub fn comma_name(counts: Counts, rest: &[Token]) -> Seen<'_, Name>
     ensures { Sees result (after Limited (sign marks.Comma) (plain_name Limited) counts rest.now) }
 {
     let (_, counts, rest) = plain_mark(Mark::Comma, counts, rest)?;
-    let (next, counts, rest) = name(Role::Plain, counts, rest)?;
-    Ok((next, counts, rest))
+    name(Role::Plain, counts, rest)
 }
 
 /// A number, and where it is.

@@ -13,7 +13,7 @@ use query_lang::{Expr, FoldDef, Name, Op, StateVar, Stmt};
 use std::alloc::{AllocError, Global};
 
 /// A variable that is spoilt at the end of a fold's body, and its cause.
-#[derive(Clone, Copy, Debug, PartialEq, Eq)]
+#[derive(Clone, Copy, PartialEq, Eq)]
 pub struct Spoilt {
     pub variable: Name,
     pub cause: Cause,

@@ -5,7 +5,7 @@ use query_lang::{Expr, Name, Op};
 use std::alloc::{AllocError, Global};
 
 /// A name that `tout` went into by a sum, a difference or a product, and the place where it did.
-#[derive(Clone, Copy, Debug)]
+#[derive(Clone, Copy)]
 pub(crate) struct Loss {
     pub(crate) id: u32,
     pub(crate) place: Name,

@@ -4,7 +4,7 @@ use crate::expressions::{has_node_at, has_shift_at};
 use query_lang::{Column, Expr, FinalOp, FoldDef, Item, Key, Name, Stmt, StreamOp};
 
 /// What stands at a place of a query.
-#[derive(Clone, Copy, Debug, PartialEq, Eq)]
+#[derive(Clone, Copy, PartialEq, Eq)]
 pub enum Place {
     /// The name that the item gives.
     Name,

@@ -6,7 +6,7 @@ use query_lang::{Expr, Name, Op, StateVar};
 
 /// What a condition keeps, where it keeps something: `if (x > m) { m = x; }` the greatest, and `if (x < m) { m = x; }` the
 /// least.
-#[derive(Clone, Copy, Debug, PartialEq, Eq)]
+#[derive(Clone, Copy, PartialEq, Eq)]
 pub enum Form {
     Plain,
     Greatest,
@@ -14,7 +14,7 @@ pub enum Form {
 }
 
 /// What fails of a fold's rules: an operator, `!`, a condition that reads a variable, or an assignment that doesn't add.
-#[derive(Clone, Copy, Debug, PartialEq, Eq)]
+#[derive(Clone, Copy, PartialEq, Eq)]
 pub enum Rule {
     Operator(Op),
     Negation,
@@ -23,7 +23,7 @@ pub enum Rule {
 }
 
 /// What spoils a variable: the byte where it begins, and the first variable that it reads.
-#[derive(Clone, Copy, Debug, PartialEq, Eq)]
+#[derive(Clone, Copy, PartialEq, Eq)]
 pub struct Cause {
     pub start: u32,
     pub reads: Option<Name>,
@@ -32,7 +32,7 @@ pub struct Cause {
 
 /// What is known of a value: it depends on no variable that is followed; it depends on them as the operators allow; or a
 /// cause spoils it.
-#[derive(Clone, Copy, Debug)]
+#[derive(Clone, Copy)]
 pub(crate) enum Value {
     Known,
     Carried,

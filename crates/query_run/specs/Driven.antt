@@ -15,7 +15,8 @@ use Rattle.queue_sim.specs.Generator.{simulated}
 use Rattle.switch_core.specs.PlanLanes.{HavePlaces, PipelineView, lane_is_drained}
 use Rattle.trace_drive.specs.Drives.{words_of}
 
--- the buckets and ways of each cache, and the number of packets after which it is emptied each time; the pipe's size and the lag are no part of it
+-- the buckets and ways of each cache, and the number of packets after which it is emptied each time; the pipe's size and the
+-- lag are no part of it
 abbrev pub geometry_of : Setting → Geometry
 geometry_of setting = record { buckets = setting.buckets; ways = ways_number setting.ways; refresh = setting.refresh }
 
@@ -35,7 +36,8 @@ pipeline_in (Ways8 p) = p
 pipeline_in (Ways16 p) = p
 pipeline_in (Ways32 p) = p
 
--- the caches have the setting's ways and buckets and entries for this purpose, the pipes the setting's places, and caches and pipes are empty
+-- the caches have the setting's ways and buckets and entries for this purpose, the pipes the setting's places, and caches and
+-- pipes are empty
 pub record IsLeftWith (purpose : Entries) (setting : Setting) (driven : Driven) : Type 0 where
   pub ways : ways_in driven ≡ setting.ways
   pub entries : (pipeline_in driven).entries ≡ purpose

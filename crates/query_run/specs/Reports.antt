@@ -24,7 +24,8 @@ abbrev pub MayPrint : Entries → PlanParts → (List Table → Type 0) → Type
 MayPrint entries plan May = AtEnds entries plan (λ g packets tables. May tables)
 
 -- What is printed of the tables at an end is this text over the packets.
-pub record Prints (entries : Entries) (plan : PlanParts) (printed : List Table → List ℕ) (text : Geometry → List (List ℕ) → List ℕ) : Type 0 where
+pub record Prints (entries : Entries) (plan : PlanParts) (printed : List Table → List ℕ)
+    (text : Geometry → List (List ℕ) → List ℕ) : Type 0 where
   pub at_ends : AtEnds entries plan (λ g packets tables. printed tables ≡ text g packets)
 
 -- Of the plan's tables at an end all can be printed, and what is printed is this text over the packets.

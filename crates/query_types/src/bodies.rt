@@ -272,10 +272,7 @@ pub fn check_stmt(
     ensures numbers { OnOk result (greatest_in s.now < 2 ^ 64) }
 {
     match s {
-        Stmt::Assign(name, e) => {
-            add_assignment(alloc, scope, found, *name, e)?;
-            Ok(())
-        }
+        Stmt::Assign(name, e) => add_assignment(alloc, scope, found, *name, e),
         Stmt::If(c, a, b) => {
             let choice = open_choice(alloc, scope, outer, c)?;
             let before = take_statements(alloc, found);
@@ -289,10 +286,7 @@ pub fn check_stmt(
             close_choice(found, choice, before, then_block)?;
             Ok(())
         }
-        Stmt::Emit(span) => {
-            add_emit(alloc, *span, outer, found)?;
-            Ok(())
-        }
+        Stmt::Emit(span) => add_emit(alloc, *span, outer, found),
     }
 }
 

@@ -188,15 +188,13 @@ pub fn check_expr(
         }
         Expr::Not(span, inner) => {
             let of = check_expr(alloc, columns, hidden, inner.get())?;
-            let whole = negate(alloc, *span, of)?;
-            Ok(whole)
+            negate(alloc, *span, of)
         }
         Expr::Binary(op, _, left, right) => {
             let first = check_expr(alloc, columns, hidden, left.get())?;
             let second = check_expr(alloc, columns, hidden, right.get())?;
             let at = first.at;
-            let whole = join(alloc, *op, at, first, second)?;
-            Ok(whole)
+            join(alloc, *op, at, first, second)
         }
         Expr::Call(op, span, arguments) => {
             let mut operands = Seq::new(alloc);
@@ -204,8 +202,7 @@ pub fn check_expr(
                 let operand = check_expr(alloc, columns, hidden, argument)?;
                 operands.push(operand)?;
             }
-            let whole = call(alloc, *op, *span, operands)?;
-            Ok(whole)
+            call(alloc, *op, *span, operands)
         }
     }
 }

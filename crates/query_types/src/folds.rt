@@ -216,8 +216,7 @@ fn check_parts(alloc: Global, d: &FoldDef) -> Result<TypedFold, QueryError>
     let states = check_states(alloc, d.states.as_slice())?;
     let args = fold_args(alloc, &states, d)?;
     let body = fold_body(alloc, &states, &args, d)?;
-    let whole = fold_of(alloc, d, states, args, body)?;
-    Ok(whole)
+    fold_of(alloc, d, states, args, body)
 }
 
 /// A fold: its state variables, its arguments, and then its body. A fold of a text that was read has at most 512 nodes and

@@ -15,7 +15,7 @@ use marple_base::{Failed, Sink, write_all};
 use std::alloc::{AllocError, Global};
 
 /// Why a trace wasn't written whole.
-#[derive(Clone, Copy, Debug, PartialEq, Eq)]
+#[derive(Clone, Copy, PartialEq, Eq)]
 pub enum WriteError {
     Failed,
     Memory,

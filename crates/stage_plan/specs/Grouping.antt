@@ -12,8 +12,8 @@ use Rattle.query_lang.specs.TypedQueries.{AreNames}
 use Rattle.stage_plan.specs.declared.group.GroupPlan.{GroupPlan}
 use Rattle.stage_plan.specs.Shape.{group_shape, shape_with}
 
--- a groupby of a fold with these numbers of keys and arguments: its name and those of its keys are there, there are 1 to 8 keys, and the fold
--- takes as many arguments
+-- a groupby of a fold with these numbers of keys and arguments: its name and those of its keys are there, there are 1 to 8 keys,
+-- and the fold takes as many arguments
 pub record FitsFold (q : TypedQuery) (one : TypedStream) (number keys args : ℕ) : Type 0 where
   pub name : one.name.id < length q.names
   pub key_names : AreNames (length q.names) one.columns

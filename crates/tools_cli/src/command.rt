@@ -7,14 +7,14 @@ ghost use Rattle.tools_cli.specs.Options.{AreWithin};
 use crate::options::{SplitOptions, has_traces, options_of};
 
 /// How traces are split: into how many parts, and with which salt of the hash.
-#[derive(Clone, Copy, Debug, PartialEq, Eq)]
+#[derive(Clone, Copy, PartialEq, Eq)]
 pub struct SplitSetting {
     pub parts: u32,
     pub salt: u32,
 }
 
 /// What the second program is asked for.
-#[derive(Clone, Copy, Debug, PartialEq, Eq)]
+#[derive(Clone, Copy, PartialEq, Eq)]
 pub enum ToolCommand {
     /// Splits traces into parts, by fields that each groupby of a query has as keys.
     Split(SplitSetting),

@@ -15,7 +15,7 @@ use marple_base::{Failed, Sink, write_all};
 use trace_pieces::WholeFault;
 
 /// A piece of a complaint.
-#[derive(Clone, Copy, Debug)]
+#[derive(Clone, Copy)]
 enum Piece {
     Text(&'static [u8]),
     Number(u64),

@@ -8,7 +8,7 @@ use crate::number::number_within;
 use std::alloc::{AllocError, Global};
 
 /// The options that were named so far.
-#[derive(Clone, Copy, Debug, PartialEq, Eq)]
+#[derive(Clone, Copy, PartialEq, Eq)]
 pub(crate) struct SplitOptions {
     pub(crate) parts: Option<u32>,
     pub(crate) salt: Option<u32>,

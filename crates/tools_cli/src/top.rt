@@ -8,7 +8,8 @@ ghost use Rattle.marple_base.specs.Sink.{TakesFront};
 ghost use Rattle.trace_split.specs.Traces.{AreLeft, NoneFell, OneRose, faults_of};
 ghost use Rattle.tools_cli.specs.Call.{IsAfterQuery, IsOfFacts, WhereFacts, WhereSplit, asked_by};
 ghost use Rattle.tools_cli.specs.Complaint.{tool_complaint};
-ghost use Rattle.tools_cli.specs.Ends.{IsAcceptedWith, IsBeforeTraces, IsFirstFault, IsRefusedFor, IsSplit, SplitEnds, TakeFrontsOf, split_by};
+ghost use Rattle.tools_cli.specs.Ends.{IsAcceptedWith, IsBeforeTraces, IsFirstFault, IsRefusedFor, IsSplit, SplitEnds};
+ghost use Rattle.tools_cli.specs.Ends.{TakeFrontsOf, split_by};
 ghost use Rattle.tools_cli.specs.FactsEnds.{FactsEnd, GivesFacts};
 
 use crate::command::{ToolCommand, command_of};
@@ -92,13 +93,15 @@ pub fn marple_tools<I: Inputs, T: Inputs, P: Parts, O: Sink, E: Sink, L: Ledger>
     // Faults.
     ensures query_fault { result ≡ ToolStatus.InputFault Which.Query
         → Rose (I.input inputs.old Which.Query).faults (I.input inputs.new Which.Query).faults }
-    ensures trace_fault { result ≡ ToolStatus.InputFault Which.Trace → OneRose (faults_of T.input traces.old) (faults_of T.input traces.new) }
+    ensures trace_fault { result ≡ ToolStatus.InputFault Which.Trace
+        → OneRose (faults_of T.input traces.old) (faults_of T.input traces.new) }
     ensures parts_fault { result ≡ ToolStatus.OutputFault
         → WhereSplit (asked_by words.now) (λ _. Rose (P.faults parts.old) (P.faults parts.new)) }
     ensures out_fault { result ≡ ToolStatus.OutputFault → WhereFacts (asked_by words.now) (Rose (O.faults out.old) (O.faults out.new)) }
 
     // Refusals.
-    ensures query_refused { (fault : _) → result ≡ ToolStatus.QueryRefused fault → IsRefusedFor (I.input inputs.old Which.Query).left fault }
+    ensures query_refused { (fault : _) → result ≡ ToolStatus.QueryRefused fault
+        → IsRefusedFor (I.input inputs.old Which.Query).left fault }
     ensures field_needed { result ≡ ToolStatus.FieldNeeded → IsAcceptedWith (I.input inputs.old Which.Query).left (λ q. split_by q ≡ []) }
     ensures trace_refused { (fault : _) → result ≡ ToolStatus.TraceRefused fault
         → IsAcceptedWith (I.input inputs.old Which.Query).left (IsFirstFault (AreLeft T.input traces.old) fault) }

@@ -20,7 +20,8 @@ pub fn fill<I: Inputs>(
     ensures fills { IfOk result (Fills target (I.input inputs.old Which.Trace).left (I.input inputs.new Which.Trace).left
         bytes.old.items bytes.new.items) }
     ensures opened { IsOpen (I.input inputs.new Which.Trace) }
-    ensures failed { IsErrOf result ReadAnswer.Failed → Rose (I.input inputs.old Which.Trace).faults (I.input inputs.new Which.Trace).faults }
+    ensures failed { IsErrOf result ReadAnswer.Failed
+        → Rose (I.input inputs.old Which.Trace).faults (I.input inputs.new Which.Trace).faults }
     ensures later { (I.input inputs.old Which.Trace).faults ≤ (I.input inputs.new Which.Trace).faults }
     ensures query_kept { I.input inputs.new Which.Query ≡ I.input inputs.old Which.Query }
 {

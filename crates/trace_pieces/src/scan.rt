@@ -6,7 +6,7 @@ ghost use Rattle.csv.specs.Reading.{default_config};
 ghost use Rattle.trace_pieces.specs.Machine.{next_state, state_of};
 
 /// Where the reader of CSV is in a text: between two records, perhaps after a carriage return, or in a record.
-#[derive(Clone, Copy, PartialEq, Eq, Debug)]
+#[derive(Clone, Copy, PartialEq, Eq)]
 pub(crate) enum Place {
     Between,
     AfterReturn,

@@ -16,7 +16,7 @@ use std::sync::ledger::Ledger;
 use trace_reader::{TraceAnswer, TraceFault, open_trace};
 
 /// Why not all packets of a piece went to their parts.
-#[derive(Clone, Copy, Debug, PartialEq, Eq)]
+#[derive(Clone, Copy, PartialEq, Eq)]
 pub(crate) enum PieceError {
     Refused(TraceFault),
     OutputFault,

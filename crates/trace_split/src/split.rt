@@ -134,14 +134,17 @@ fn send_rest<I: Inputs, P: Parts, L: Ledger>(
     ensures same { SameSetting texts.old texts.new }
     ensures whole { OnOk result ((rest : List ℕ) → (I.input inputs.old Which.Trace).left ≡ Some rest
         → first_fault (bytes.items ++ rest) reads ≡ None) }
-    ensures sent { OnOk result ((rest : List ℕ) (first : Taken) (before : List AnyPacket) → (I.input inputs.old Which.Trace).left ≡ Some rest
+    ensures sent { OnOk result ((rest : List ℕ) (first : Taken) (before : List AnyPacket)
+        → (I.input inputs.old Which.Trace).left ≡ Some rest
         → HoldsPackets first (P.taken parts.old) texts.old before
         → HoldsPackets first (P.taken parts.new) texts.new (before ++ all_packets (bytes.items ++ rest) reads)) }
     ensures refused { IfErr result (λ error. IfRefused error (λ found. (rest : List ℕ) → (I.input inputs.old Which.Trace).left ≡ Some rest
         → first_fault (bytes.items ++ rest) reads ≡ Some (trace_fault_of found))) }
-    ensures fronts { OnErr result ((rest : List ℕ) (first : Taken) (before : List AnyPacket) → (I.input inputs.old Which.Trace).left ≡ Some rest
+    ensures fronts { OnErr result ((rest : List ℕ) (first : Taken) (before : List AnyPacket)
+        → (I.input inputs.old Which.Trace).left ≡ Some rest
         → HoldsPackets first (P.taken parts.old) texts.old before
-        → TakeFronts (parts_of texts.old) first (P.taken parts.new) (texts_of texts.old (before ++ all_packets (bytes.items ++ rest) reads))) }
+        → TakeFronts (parts_of texts.old) first (P.taken parts.new)
+        (texts_of texts.old (before ++ all_packets (bytes.items ++ rest) reads))) }
     ensures input_failed { IsErrOf result SplitError.InputFault
         → Rose (I.input inputs.old Which.Trace).faults (I.input inputs.new Which.Trace).faults }
     ensures output_failed { IsErrOf result SplitError.OutputFault → Rose (P.faults parts.old) (P.faults parts.new) }
@@ -186,12 +189,14 @@ pub(crate) fn send_all<I: Inputs, P: Parts, L: Ledger>(
     requires setting { is_setting texts.old }
     ensures same { SameSetting texts.old texts.new }
     ensures whole { OnOk result ((trace : List ℕ) → (I.input inputs.old Which.Trace).left ≡ Some trace → first_fault trace reads ≡ None) }
-    ensures sent { OnOk result ((trace : List ℕ) (first : Taken) (before : List AnyPacket) → (I.input inputs.old Which.Trace).left ≡ Some trace
+    ensures sent { OnOk result ((trace : List ℕ) (first : Taken) (before : List AnyPacket)
+        → (I.input inputs.old Which.Trace).left ≡ Some trace
         → HoldsPackets first (P.taken parts.old) texts.old before
         → HoldsPackets first (P.taken parts.new) texts.new (before ++ all_packets trace reads)) }
     ensures refused { IfErr result (λ error. IfRefused error (λ found. (trace : List ℕ) → (I.input inputs.old Which.Trace).left ≡ Some trace
         → first_fault trace reads ≡ Some (trace_fault_of found))) }
-    ensures fronts { OnErr result ((trace : List ℕ) (first : Taken) (before : List AnyPacket) → (I.input inputs.old Which.Trace).left ≡ Some trace
+    ensures fronts { OnErr result ((trace : List ℕ) (first : Taken) (before : List AnyPacket)
+        → (I.input inputs.old Which.Trace).left ≡ Some trace
         → HoldsPackets first (P.taken parts.old) texts.old before
         → TakeFronts (parts_of texts.old) first (P.taken parts.new) (texts_of texts.old (before ++ all_packets trace reads))) }
     ensures input_failed { IsErrOf result SplitError.InputFault

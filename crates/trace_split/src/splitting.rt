@@ -9,7 +9,7 @@ use std::alloc::{AllocError, Global};
 use std::sync::ledger::Ledger;
 
 /// How a trace is split: into so many parts, by a hash of these fields that is begun with the salt.
-#[derive(Clone, Copy, Debug)]
+#[derive(Clone, Copy)]
 pub struct Splitting {
     pub by: FieldSet,
     pub salt: u64,

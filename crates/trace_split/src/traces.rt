@@ -40,12 +40,14 @@ fn send_trace<I: Inputs, P: Parts, L: Ledger>(
     requires setting { is_setting texts.old }
     ensures same { SameSetting texts.old texts.new }
     ensures whole { OnOk result ((bytes : List ℕ) → (I.input trace.old Which.Trace).left ≡ Some bytes → first_fault bytes reads ≡ None) }
-    ensures sent { OnOk result ((bytes : List ℕ) (first : Taken) (before : List AnyPacket) → (I.input trace.old Which.Trace).left ≡ Some bytes
+    ensures sent { OnOk result ((bytes : List ℕ) (first : Taken) (before : List AnyPacket)
+        → (I.input trace.old Which.Trace).left ≡ Some bytes
         → HoldsPackets first (P.taken parts.old) texts.old before
         → HoldsPackets first (P.taken parts.new) texts.new (before ++ all_packets bytes reads)) }
     ensures refused { IfErr result (λ error. IfRefused error (λ found. (bytes : List ℕ) → (I.input trace.old Which.Trace).left ≡ Some bytes
         → first_fault bytes reads ≡ Some (trace_fault_of found))) }
-    ensures fronts { OnErr result ((bytes : List ℕ) (first : Taken) (before : List AnyPacket) → (I.input trace.old Which.Trace).left ≡ Some bytes
+    ensures fronts { OnErr result ((bytes : List ℕ) (first : Taken) (before : List AnyPacket)
+        → (I.input trace.old Which.Trace).left ≡ Some bytes
         → HoldsPackets first (P.taken parts.old) texts.old before
         → TakeFronts (parts_of texts.old) first (P.taken parts.new) (texts_of texts.old (before ++ all_packets bytes reads))) }
     ensures input_failed { IsErrOf result SplitError.InputFault

@@ -9,7 +9,7 @@ use std::marker::Model;
 pub(crate) const PIECE: usize = 65_536;
 
 /// The bytes of a part that wait to be written, which contracts see as a list.
-#[derive(Debug, Drop)]
+#[derive(Drop)]
 pub(crate) struct Waiting {
     bytes: Vec<u8>,
 }

@@ -5,4 +5,5 @@ use Rattle.plan_writer.specs.PlanText.{named_lines}
 use Rattle.plan_writer.proofs.groups.push_keys.Given as goal
 
 abbrev pub invariant-loop-at : goal.invariant-loop-at
-invariant-loop-at l = l.text ++ named_lines (codes "key") (drop l.at l.names) (map operand_word (drop l.at l.values)) ≡ l.initial.text ++ named_lines (codes "key") l.names (map operand_word l.values)
+invariant-loop-at l = l.text ++ named_lines (codes "key") (drop l.at l.names) (map operand_word (drop l.at l.values)) ≡ l.initial.text
+    ++ named_lines (codes "key") l.names (map operand_word l.values)

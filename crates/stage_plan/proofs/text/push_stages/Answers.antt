@@ -9,5 +9,6 @@ pub loop-before-preserved : goal.loop-before-preserved
 loop-before-preserved c =
     c.in_ok-push_stage.ensures
     ∙ ap (λ t. t ++ line (counted (counted (codes "stage") (c.loop-before.before + 1)) c.in_stage.result)) c.loop-before.invariant
-    ∙ append_assoc c.args.text.now (stage_lines 1 (sizes_of c.loop-before.before (stages c.args.ops.now))) (line (counted (counted (codes "stage") (c.loop-before.before + 1)) c.in_stage.result))
+    ∙ append_assoc c.args.text.now (stage_lines 1 (sizes_of c.loop-before.before (stages c.args.ops.now)))
+    (line (counted (counted (codes "stage") (c.loop-before.before + 1)) c.in_stage.result))
     ∙ ap (λ l. c.args.text.now ++ l) (stage_more c.args.ops.now c.loop-before.before c.in_stage.result c.in_stage.ensures)
