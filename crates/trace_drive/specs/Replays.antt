@@ -52,11 +52,6 @@ TakesTheRest most old new =
     (schedule : Schedule) (all : List Packet) (count : ℕ) → IsUnderWay schedule all count old
     → (length all < count + most) × IsUnderWay schedule all (length all) new
 
--- All packets that were left were taken.
-abbrev pub TakesAll : {ways : ℕ} → Replay ways → Replay ways → Type 0
-TakesAll old new = (schedule : Schedule) (all : List Packet) (count : ℕ) → IsUnderWay schedule all count old
-    → IsUnderWay schedule all (length all) new
-
 -- The pipeline represents the machines at the end of all packets of the trace.
 abbrev pub ReachesTheEnd : {ways : ℕ} → Replay ways → PipelineView → Type 0
 ReachesTheEnd {ways} replay pipeline =

@@ -8,7 +8,7 @@ ghost use Rattle.switch_core.specs.PlanLanes.{AreKept, HavePlaces, PipelineStand
 ghost use Rattle.trace_drive.specs.Drives.{coming, end_machines, fault_of, geometry_for, words_of};
 ghost use Rattle.trace_drive.specs.Follows.{FollowsBy, Keeps};
 ghost use Rattle.trace_drive.specs.Replays.{Advances, IsOnItsWay, IsUnderWay, MakesTheirTurns, ReachesTheEnd};
-ghost use Rattle.trace_drive.specs.Replays.{TakesAll, TakesTheRest, fault_in, pipeline_in};
+ghost use Rattle.trace_drive.specs.Replays.{TakesTheRest, fault_in, pipeline_in};
 ghost use Rattle.trace_reader.specs.Faults.{IfRefused};
 
 use crate::clock::Clock;
@@ -144,20 +144,6 @@ impl<'a, const WAYS: usize> Replay<'a, WAYS> {
         Ok(true)
     }
 
-    // Takes all packets that are left.
-    fn take_rest<L: Ledger>(&mut self, steps: &mut Steps<L>) -> Result<(), TraceAnswer>
-        requires { IsOnItsWay self.old }
-        ensures rest { OnOk result (TakesAll self.old self.new) }
-        ensures accepted { OnOk result (fault_in self.old ≡ None) }
-        ensures keeps { OnOk result (Keeps (pipeline_in self.old) (pipeline_in self.new)) }
-        ensures refused { IfErr result (λ answer. IfRefused answer (λ fault. fault_in self.old ≡ Some fault)) }
-        ensures steps { steps.old ≤ steps.new }
-    {
-        let mut packet = Packet { words: [0; 14] };
-        'packets: while self.step(&mut packet, steps)? {}
-        Ok(())
-    }
-
     /// Takes the packets that are left, and after the last one makes a sweep, and merges until each pipe is empty: the
     /// pipeline at the trace's end.
     pub fn finish<L: Ledger>(mut self, steps: &mut Steps<L>) -> Result<Pipeline<WAYS>, TraceAnswer>
@@ -173,7 +159,8 @@ impl<'a, const WAYS: usize> Replay<'a, WAYS> {
     {
         events_keep_alike();
         sweeps_reach_the_end();
-        self.take_rest(steps)?;
+        let mut packet = Packet { words: [0; 14] };
+        'packets: while self.step(&mut packet, steps)? {}
         let Replay { mut pipeline, .. } = self;
         match drain(&mut pipeline, steps) {
             Ok(()) => {

@@ -19,7 +19,7 @@ returns-clause-moves g c =
       column_moved g.met.C.Coeff.algebra m.from_words m.WORDS g.met.C.Coeff.storage p c.requires.shape c.args.args.now c.args.history.now
           map' c.gather.new.to map'' first state after
           c.requires.history
-          (c.column_to_state.auto.state ∙ c.scatter.auto.state ∙ c.requires.state)
+          (c.column_to_state.auto.state ∙ c.scatter.auto.state ∙ (c.split_at_mut-state.ensures.front_len ∙ c.len.ensures))
           (subst (λ (l : List ℕ). (i : ℕ) → i < length l → slice_index first (slice_index l i) ≡ slice_index c.args.history.now i) eh
           c.scatter.ensures.written)
           (subst (λ (l : List ℕ). (i : ℕ) → i < length l → slice_index state (slice_index l i) ≡ m.elements.to_word

@@ -4,7 +4,7 @@ use Rattle.trace_drive.specs.Drives.{coming}
 use Rattle.trace_drive.specs.Follows.{Keeps}
 use Rattle.trace_drive.specs.Replays.{IsUnderWay, fault_in, pipeline_in}
 use Rattle.trace_drive.specs.declared.schedule.Schedule.{Schedule}
-use Rattle.trace_drive.proofs.replay.Replay.take_rest.Given as goal
+use Rattle.trace_drive.proofs.replay.Replay.finish.Given as goal
 
 -- some packets were taken
 abbrev pub invariant-packets : goal.invariant-packets
