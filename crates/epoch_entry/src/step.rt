@@ -37,6 +37,8 @@ pub(crate) fn step_history<L: Ledger>(
 }
 
 // Runs the code on the history and on the last column of the map, and writes both back. `scratch` may hold anything.
+// Not inlined, since an entry with one variable needs few of the registers that this uses.
+#[inline(never)]
 pub(crate) fn step_column<C: Coeff, L: Ledger>(
     program: &FoldProgram,
     history: &mut [u64],

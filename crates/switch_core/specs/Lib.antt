@@ -1,6 +1,5 @@
 pub mod Places
 pub mod Lanes
-pub mod Shapes
 pub mod FrontParts
 pub mod FrontEvents
 pub mod LaneEvents

@@ -14,9 +14,9 @@ ghost use Rattle.switch_core.specs.FrontEvents.{Carries, FrontMakes, MergesNext,
 ghost use Rattle.switch_core.specs.Lanes.{FrontStands, geometry};
 
 use crate::merging::merge_record;
-use crate::packet::{packet_at, push_pair};
+use crate::places::{begin_at, push_pair};
 use backing_store::BackingStore;
-use bucket_cache::BucketCache;
+use bucket_cache::{BucketCache, Touch, bucket_of, uses_are_bounded};
 use epoch_entry::EpochKind;
 use evict_pipe::EvictPipe;
 use marple_base::Steps;
@@ -106,7 +106,8 @@ impl<K: EpochKind, const WAYS: usize> Front<K, WAYS> {
         self.pipe.has_room()
     }
 
-    /// Takes a packet with this key and argument row, with the front's kind of entries, cache, pipe and scratch.
+    /// Takes a packet with this key and argument row: into the entry of its key, which is begun first if its bucket has none, and
+    /// then the least recently used entry of a full bucket goes into the pipe.
     #[inline(always)]
     pub fn packet<L: Ledger>(&mut self, key: &[u64], args: &[u64], steps: &mut Steps<L>)
         requires ready { length self.old.pipe.records < self.old.pipe.places }
@@ -120,15 +121,23 @@ impl<K: EpochKind, const WAYS: usize> Front<K, WAYS> {
             steps.new ≤ steps.old + (key_words + 2 * WAYS * (key_words + 1) + (key_words + (K.sizes self.old.kind).entry)
             + K.open_bound self.old.kind + K.absorb_bound self.old.kind) }
     {
-        packet_at(
-            &self.kind,
-            &mut self.cache,
-            &mut self.pipe,
-            key,
-            args,
-            &mut self.scratch,
-            steps,
-        );
+        uses_are_bounded();
+        let scratch: &mut [u64] = &mut self.scratch;
+        let bucket = bucket_of(key, self.cache.buckets(), steps);
+        match self.cache.touch(bucket, key, steps) {
+            Touch::Hit(place) => {
+                let entry = self.cache.entry_mut(place);
+                self.kind.absorb(entry, args, scratch, steps);
+            }
+            Touch::Free(place) => {
+                begin_at(&self.kind, &mut self.cache, place, args, scratch, steps);
+            }
+            Touch::Full(place) => {
+                push_pair(&self.cache, &mut self.pipe, place, steps);
+                let freed = self.cache.replace(bucket, key, steps);
+                begin_at(&self.kind, &mut self.cache, freed, args, scratch, steps);
+            }
+        }
     }
 
     /// Closes the least recently used epoch of a bucket: its entry goes into the pipe. False exactly where the bucket

@@ -9,7 +9,6 @@ mod lanes;
 mod laws;
 mod making;
 mod merging;
-mod packet;
 mod pipeline;
 mod places;
 mod registers;
