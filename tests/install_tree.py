@@ -11,13 +11,18 @@ import checks
 from checks import TOP, put
 
 VERSION = (TOP / "VERSION").read_text().strip()
-# Of a query with two bytes it says that its first name isn't known.
-PROGRAM = """#!/bin/sh
-if [ "$1" = plan ]; then
+# Of a query with two bytes the programs say that its first name isn't known.
+FACTS = """{"marple_facts": 1, "fields": ["tin"], "items": [{"kind": "print", "operator": "print", "name": "it", "start": 0, "end": 2}],
+"fault": {"kind": "UnknownName", "start": 0, "end": 2, "item": 0, "place": "printed", "expected": [], "names": [], "missing": []}}"""
+PROGRAM = f"""#!/bin/sh
+case $1 in
+plan)
     echo "marple: query: UnknownName at 0" >&2
     exit 4
-fi
-echo "program with $*"
+    ;;
+facts) echo '{FACTS}' ;;
+*) echo "program with $*" ;;
+esac
 """
 FOLDERS = ("docs", "examples", "python", "tools")
 FILES = ("install", "explain", "README.md", "CHANGES.md", "VERSION")
@@ -44,7 +49,7 @@ class Tree(checks.Test):
             put(self.tree / f"crates/{name}/out/{name}", PROGRAM, executable=True)
         self.program = self.tree / "crates/marple/out/marple"
         # another program that the environment names isn't the one that was installed
-        self.environment = {name: value for name, value in os.environ.items() if name != "MARPLE"}
+        self.environment = {name: value for name, value in os.environ.items() if name not in ("MARPLE", "MARPLE_TOOLS")}
         self.environment["PATH"] = f"{self.prefix}/bin:/usr/local/bin:/usr/bin:/bin"
         self.environment["HOME"] = str(self.room / "home")
         (self.room / "home").mkdir()
