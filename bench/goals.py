@@ -59,6 +59,18 @@ def instructions_for_each(bench: str, race: str, packets: int) -> Value:
     return lambda found: found[bench, race, "marple"].instructions / packets
 
 
+def own_instructions(bench: str, race: str, packets: int) -> Value:
+    """The instructions of marple for a packet, without those that find the fields of its record."""
+
+    def value(found: Figures) -> float:
+        figure = found[bench, race, "marple"]
+        if not figure.finding:
+            raise KeyError("no function that finds fields was seen")
+        return (figure.instructions - figure.finding) / packets
+
+    return value
+
+
 def growth(bench: str, first: str, last: str, subject: str, peer: str) -> Value:
     """How much more the time of the subject grows from the first race to the last than that of the peer."""
 
@@ -73,7 +85,8 @@ SIZES = ("1024 x 8", "65536 x 1", "1 x 32")
 LEAST, MILLION, MOST = "131,072 packets", "1,048,576 packets", "4,194,304 packets"
 QUERIES = ("count: packets by source", "sum: bytes by flow", "max: longest queue by source")
 OOS = "oos: packets out of sequence by flow"
-FINALS = ("filter", "map", "groupby", "join", "top")
+EIGHT = "eight: eight groupbys"
+FINALS = {"filter": 1.5, "map": 2.0, "groupby": 1.5, "join": 2.0, "top": 2.0}
 
 
 def many_goals() -> list[Goal]:
@@ -81,8 +94,8 @@ def many_goals() -> list[Goal]:
     found = []
     for size in SIZES:
         found += [
-            Goal("many", f"time in `hand`'s, a million keys, {size}", 2.0, times("many", MILLION, size, "hand")),
-            Goal("many", f"memory in `hand`'s, a million keys, {size}", 1.5, peaks("many", MILLION, size, "hand")),
+            Goal("many", f"time in `hand`'s, a million keys, {size}", 1.5, times("many", MILLION, size, "hand")),
+            Goal("many", f"memory in `hand`'s, a million keys, {size}", 1.3, peaks("many", MILLION, size, "hand")),
             Goal("many", f"time in `hand`'s, four million keys, {size}", 2.5, times("many", MOST, size, "hand")),
             Goal("many", f"MB at four million keys, {size}", 1900, megabytes("many", MOST, size)),
             Goal("many", f"growth of time in `hand`'s, {size}", 1.0, growth("many", LEAST, MOST, size, "hand")),
@@ -99,6 +112,10 @@ def query_goals() -> list[Goal]:
     for query, limit in ((QUERIES[0], 1200), (OOS, 1850)):
         value = instructions_for_each("queries", query, 100_000)
         found.append(Goal("queries", f"instructions for a packet, {query}", limit, value))
+    for query, limit in ((QUERIES[0], 480), (QUERIES[2], 480), (OOS, 1000)):
+        value = own_instructions("queries", query, 100_000)
+        found.append(Goal("queries", f"own instructions for a packet, {query}", limit, value))
+    found.append(Goal("queries", f"instructions in `hand`'s, {EIGHT}", 1.3, instructions("queries", EIGHT, "marple", "hand")))
     return found
 
 
@@ -145,8 +162,8 @@ def goals() -> list[Goal]:
     finals = {name: times("finals", name, "marple", "Rust") for name in FINALS}
     return [
         *many_goals(),
-        Goal("views", "time with ten views in that without", 1.4, views),
-        *(Goal("finals", f"time of `{name}` in Rust's", 2.0, value) for name, value in finals.items()),
+        Goal("views", "time with ten views in that without", 1.25, views),
+        *(Goal("finals", f"time of `{name}` in Rust's", FINALS[name], value) for name, value in finals.items()),
         *query_goals(),
         *parts_goals(),
         *split_goals(),

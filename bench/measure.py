@@ -3,7 +3,6 @@
 from __future__ import annotations
 
 import os
-import re
 import shutil
 import statistics
 import subprocess
@@ -52,13 +51,14 @@ class Race:
 
 @dataclass
 class Figure:
-    """What was measured of one program: seconds of processor time and KB at its peak, run by run, instructions, and the bytes that
-    it writes, where these are measured.
+    """What was measured of one program: seconds of processor time and KB at its peak, run by run, instructions, those of them that
+    find the fields of records, and the bytes that it writes, where these are measured.
     """
 
     seconds: list[float] = field(default_factory=list)
     peaks: list[int] = field(default_factory=list)
     instructions: int | None = None
+    finding: int | None = None
     written: int | None = None
 
     def time(self) -> float:
@@ -108,19 +108,47 @@ def measure(race: Race, runs: int | None = None) -> dict[str, Figure]:
             figure.seconds.append(seconds)
             figure.peaks.append(peak)
     for name, command in race.small.items():
-        figures[name].instructions = count_instructions(command)
+        figures[name].instructions, figures[name].finding = count_instructions(command)
     return figures
 
 
-def count_instructions(command: Command) -> int | None:
-    """The instructions of a run by callgrind; nothing without valgrind."""
+def count_instructions(command: Command) -> tuple[int | None, int | None]:
+    """The instructions of a run by callgrind, and how many of them find the fields of records; nothing without valgrind."""
     if shutil.which("valgrind") is None:
-        return None
+        return None, None
     with tempfile.NamedTemporaryFile(mode="r") as report:
         valgrind = ["valgrind", "--quiet", "--tool=callgrind", f"--callgrind-out-file={report.name}"]
         subprocess.run([*valgrind, *command], stdin=subprocess.DEVNULL, stdout=subprocess.DEVNULL, check=True)
-        total = re.search(r"(?m)^totals: (\d+)$", Path(report.name).read_text(errors="replace"))
-        return int(total[1]) if total else None
+        return sum_costs(Path(report.name).read_text(errors="replace").splitlines())
+
+
+# What the functions of a proved program begin with that find the fields of records, by whichever reader.
+FINDING = ("trace_reader::plain::", "csv::", "csv_core::")
+
+
+def sum_costs(lines: list[str]) -> tuple[int, int]:
+    """Of the lines of a callgrind file: all instructions, and those of the functions that find the fields of records."""
+    names: dict[str, str] = {}
+    total = finding = 0
+    function = ""
+    is_call = False
+    for line in lines:
+        if line.startswith("fn="):
+            number, _, name = line[3:].partition(" ")
+            function = names.setdefault(number, name)
+        elif line.startswith("cfn="):
+            number, _, name = line[4:].partition(" ")
+            names.setdefault(number, name)
+        elif line.startswith("calls="):
+            is_call = True
+        elif line and line[0] in "0123456789+-*":
+            # the line after `calls=` has the cost of the called function
+            if not is_call:
+                cost = int(line.split()[1])
+                total += cost
+                finding += cost if function.startswith(FINDING) else 0
+            is_call = False
+    return total, finding
 
 
 def report_progress(text: str) -> None:

@@ -1,0 +1,94 @@
+-- A packet, a sweep, and a merge of each lane where the lag is over.
+use Rattle.std.proofs.Common.{◌≡◌, ℕ, true, false, sym, subst}
+use Rattle.std.specs.List.{list_all}
+use Rattle.epoch_model.specs.Driving.{event_of}
+use Rattle.epoch_model.specs.Machine.{Machine, empty_buckets, run}
+use Rattle.stage_plan.specs.Planned.{taken}
+use Rattle.switch_core.specs.Pipelines.{geometry_of}
+use Rattle.switch_core.specs.PlanLanes.{AreKept, PipelineMakes, lane_is_ready, upkeeps_at}
+use Rattle.switch_core.specs.declared.upkeep.Upkeep.TheVariants as due
+use Rattle.trace_drive.specs.Follows.{FollowsBy, Keeps}
+use Rattle.trace_drive.specs.Turns.{MakesTurn, lag_at}
+use Rattle.trace_drive.proofs.Following.{all_ready, keeps_along, makes_keeps, on_ok, sweep_follows, upkeep_follows}
+use Rattle.trace_drive.proofs.Turning.{makes_none}
+use Rattle.trace_drive.proofs.turn.take_and_sweep.Goals as goal
+
+pub returns-then-not-lag_over-clause-follows : goal.returns-then-not-lag_over-clause-follows
+returns-then-not-lag_over-clause-follows g c after f =
+    let old = c.args.pipeline.now in
+    let past = λ (i : ℕ). run (geometry_of g.row.WAYS old.buckets) (event_of (taken old.plan i c.args.packet.now.words)) (after i) in
+    let swept = c.sweep.new.self in
+    subst (λ (n : ℕ). FollowsBy (λ i. empty_buckets n (past i)) swept) c.in_ok-take_packet.ensures.keeps.buckets
+    (sweep_follows c.events_keep_alike.ensures c.take_packet.new.pipeline swept past c.in_ok-sweep.ensures.swept
+    (c.in_ok-take_packet.ensures.follows after f))
+
+pub returns-then-not-lag_over-clause-makes : goal.returns-then-not-lag_over-clause-makes
+returns-then-not-lag_over-clause-makes g c =
+    let packed = c.take_packet.new.pipeline in
+    let swept = c.sweep.new.self in
+    let none : c.args.lag_over ≡ false = c.if-not-lag_over.true in (
+      packed,
+      swept,
+      c.in_ok-take_packet.ensures.makes,
+      c.in_ok-sweep.ensures.makes,
+      subst (λ over. PipelineMakes g.row.WAYS (lag_at over swept) swept swept) (sym none) (makes_none g.row.WAYS swept),
+    )
+
+pub returns-then-not-lag_over-clause-keeps : goal.returns-then-not-lag_over-clause-keeps
+returns-then-not-lag_over-clause-keeps g c =
+    let packed = c.take_packet.new.pipeline in
+    let swept = c.sweep.new.self in
+    keeps_along c.args.pipeline.now packed swept c.in_ok-take_packet.ensures.keeps
+    (makes_keeps g.row.WAYS (upkeeps_at due.Sweep packed.lanes) packed swept c.in_ok-sweep.ensures.makes)
+
+pub returns-clause-follows : goal.returns-clause-follows
+returns-clause-follows g c =
+    let old = c.args.pipeline.now in
+    let swept = c.sweep.new.self in
+    let new = c.keep_up.new.self in
+    let past = λ (after : ℕ → Machine) (i : ℕ). run (geometry_of g.row.WAYS old.buckets)
+    (event_of (taken old.plan i c.args.packet.now.words)) (after i) in
+    let emptied = λ (buckets : ℕ) (after : ℕ → Machine) (i : ℕ). empty_buckets buckets (past after i) in
+    on_ok (PipelineMakes g.row.WAYS (upkeeps_at due.Lag swept.lanes) swept new)
+    ((after : ℕ → Machine) → FollowsBy after old → FollowsBy (emptied old.buckets after) new) c.keep_up.result
+    (λ made after f.
+    upkeep_follows c.events_keep_alike.ensures g.row.WAYS due.Lag swept new (emptied old.buckets after) tt made
+    (subst (λ (n : ℕ). FollowsBy (emptied n after) swept) c.in_ok-take_packet.ensures.keeps.buckets
+    (sweep_follows c.events_keep_alike.ensures c.take_packet.new.pipeline swept (past after) c.in_ok-sweep.ensures.swept
+    (c.in_ok-take_packet.ensures.follows after f))))
+    c.keep_up.ensures.makes
+
+pub returns-clause-makes : goal.returns-clause-makes
+returns-clause-makes g c =
+    let old = c.args.pipeline.now in
+    let packed = c.take_packet.new.pipeline in
+    let swept = c.sweep.new.self in
+    let new = c.keep_up.new.self in
+    let over : c.args.lag_over ≡ true = c.if-not-lag_over.false in
+    on_ok (PipelineMakes g.row.WAYS (upkeeps_at due.Lag swept.lanes) swept new)
+    (MakesTurn g.row.WAYS c.args.packet.now.words true c.args.lag_over old new) c.keep_up.result
+    (λ made. (
+      packed,
+      swept,
+      c.in_ok-take_packet.ensures.makes,
+      c.in_ok-sweep.ensures.makes,
+      subst (λ late. PipelineMakes g.row.WAYS (lag_at late swept) swept new) (sym over) made,
+    ))
+    c.keep_up.ensures.makes
+
+pub returns-clause-keeps : goal.returns-clause-keeps
+returns-clause-keeps g c =
+    let packed = c.take_packet.new.pipeline in
+    let swept = c.sweep.new.self in
+    let new = c.keep_up.new.self in
+    on_ok (PipelineMakes g.row.WAYS (upkeeps_at due.Lag swept.lanes) swept new) (Keeps c.args.pipeline.now new) c.keep_up.result
+    (λ made. keeps_along c.args.pipeline.now packed new c.in_ok-take_packet.ensures.keeps
+    (keeps_along packed swept new (makes_keeps g.row.WAYS (upkeeps_at due.Sweep packed.lanes) packed swept c.in_ok-sweep.ensures.makes)
+    (makes_keeps g.row.WAYS (upkeeps_at due.Lag swept.lanes) swept new made)))
+    c.keep_up.ensures.makes
+
+pub returns-clause-merged : goal.returns-clause-merged
+returns-clause-merged g c =
+    let new = c.keep_up.new.self in
+    on_ok (AreKept due.Lag new.lanes) (c.args.lag_over ≡ true → list_all lane_is_ready new.lanes ≡ true) c.keep_up.result
+    (λ kept over. all_ready new.lanes kept) c.keep_up.ensures.left
