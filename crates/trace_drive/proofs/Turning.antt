@@ -2,12 +2,17 @@
 use Rattle.std.proofs.Common.{◌≡◌, ℕ, suc, true, false, List, [], ◌∷◌, ◌++◌, length, map, zero, refl, sym, ap, ◌∙◌, subst, arith}
 use Rattle.std.proofs.Common.{append-nil, append_assoc}
 use Rattle.std.proofs.lemmas.List.{length-map}
+use Rattle.epoch_model.specs.Driving.{EventsKeepAlike, event_of}
 use Rattle.epoch_model.specs.Epochs.{Geometry}
-use Rattle.epoch_model.specs.Machine.{Machine, Event, run, step}
+use Rattle.epoch_model.specs.Machine.{Machine, Event, empty_buckets, run, step}
+use Rattle.stage_plan.specs.Planned.{taken}
+use Rattle.stage_plan.specs.Sound.{PlanParts}
 use Rattle.switch_core.specs.Pipelines.{after_events, geometry_of, packet_events}
 use Rattle.switch_core.specs.PlanLanes.{LaneView, PipelineMakes, PipelineStands, PipelineView, upkeeps_at}
 use Rattle.switch_core.specs.declared.upkeep.Upkeep.TheVariants as due
+use Rattle.trace_drive.specs.Follows.{FollowsBy, Keeps}
 use Rattle.trace_drive.specs.Turns.{turn_at}
+use Rattle.trace_drive.proofs.Following.{keeps_along, makes_keeps, packet_follows, upkeep_follows}
 
 run_on : (g : Geometry) (xs ys : List Event) (m : Machine) → run g (xs ++ ys) m ≡ run g ys (run g xs m)
 run_on g [] ys m = refl
@@ -118,3 +123,35 @@ makes_none ways p = record {
     same : (g : Geometry) (k : ℕ) (ms : List Machine) → after_events g (λ n. []) k ms ≡ ms
     same g k [] = refl
     same g k (m ∷ ms) = ap (λ ns. m ∷ ns) (same g (suc k) ms)
+
+-- the machines after a packet with these words
+abbrev pub past : ℕ → List ℕ → PipelineView → (ℕ → Machine) → ℕ → Machine
+past ways words old after i = run (geometry_of ways old.buckets) (event_of (taken old.plan i words)) (after i)
+
+-- what the packet of a turn, with the room before it, makes of a pipeline
+pub record IsPacked (ways : ℕ) (words : List ℕ) (old packed : PipelineView) : Type 0 where
+  pub makes : PipelineMakes ways (turn_at words false old) old packed
+  pub keeps : Keeps old packed
+  pub follows : (after : ℕ → Machine) → FollowsBy after old → FollowsBy (past ways words old after) packed
+
+pub packed_by : EventsKeepAlike → (ways : ℕ) (words : List ℕ) (old roomy packed : PipelineView)
+    → PipelineMakes ways (upkeeps_at due.Room old.lanes) old roomy → PipelineMakes ways (packet_events roomy.plan words) roomy packed
+    → IsPacked ways words old packed
+packed_by alike ways words old roomy packed room took = record {
+  makes = packet_turn ways words old roomy packed room took;
+  keeps = keeps_along old roomy packed (makes_keeps ways (upkeeps_at due.Room old.lanes) old roomy room)
+      (makes_keeps ways (packet_events roomy.plan words) roomy packed took);
+  follows = λ after f.
+      let led = packet_follows alike ways words roomy packed after took (upkeep_follows alike ways due.Room old roomy after tt room f) in
+      subst (λ (n : ℕ). FollowsBy (λ i. run (geometry_of ways n) (event_of (taken old.plan i words)) (after i)) packed) room.buckets
+      (subst (λ (plan : PlanParts). FollowsBy
+      (λ i. run (geometry_of ways roomy.buckets) (event_of (taken plan i words)) (after i)) packed) room.plan led);
+}
+
+-- a sweep after it
+pub swept_after : (ways : ℕ) (words : List ℕ) (old packed new : PipelineView) → IsPacked ways words old packed
+    → ((after : ℕ → Machine) → FollowsBy after packed → FollowsBy (λ i. empty_buckets packed.buckets (after i)) new)
+    → (after : ℕ → Machine) → FollowsBy after old → FollowsBy (λ i. empty_buckets old.buckets (past ways words old after i)) new
+swept_after ways words old packed new p led after f =
+    subst (λ (n : ℕ). FollowsBy (λ i. empty_buckets n (past ways words old after i)) new) p.keeps.buckets
+    (led (past ways words old after) (p.follows after f))

@@ -1,16 +1,15 @@
 //! What happens for one packet.
 
-ghost use Rattle.std.specs.Prelude.{◌≡◌, ◌≤◌, ℕ, suc, OnOk, true, false};
+ghost use Rattle.std.specs.Prelude.{◌≡◌, ◌≤◌, ℕ, suc, OnOk, true};
 ghost use Rattle.std.specs.List.{list_all};
 ghost use Rattle.epoch_model.specs.Driving.{after_packet, event_of};
 ghost use Rattle.epoch_model.specs.Epochs.{is_refresh};
-ghost use Rattle.epoch_model.specs.Machine.{Machine, empty_buckets, run};
+ghost use Rattle.epoch_model.specs.Machine.{Machine, empty_buckets};
 ghost use Rattle.stage_plan.specs.Planned.{taken};
-ghost use Rattle.switch_core.specs.Pipelines.{geometry_of};
-ghost use Rattle.switch_core.specs.PlanLanes.{PipelineMakes, lane_is_ready};
+ghost use Rattle.switch_core.specs.PlanLanes.{PipelineMakes, PipelineView, lane_is_ready, upkeeps_at};
 ghost use Rattle.trace_drive.specs.Clocks.{HasCounted};
 ghost use Rattle.trace_drive.specs.Follows.{FollowsBy, Keeps};
-ghost use Rattle.trace_drive.specs.Turns.{MakesTurn, turn_at};
+ghost use Rattle.trace_drive.specs.Turns.{MakesTurn, lag_at};
 
 use crate::clock::Clock;
 use epoch_model::events_keep_alike;
@@ -19,65 +18,24 @@ use std::alloc::AllocError;
 use std::sync::ledger::Ledger;
 use switch_core::{Pipeline, Upkeep};
 
-// The packet event of each lane, with room for an evicted record made before.
-#[inline(always)]
-fn take_packet<const WAYS: usize, L: Ledger>(
-    pipeline: &mut Pipeline<WAYS>,
-    packet: &Packet,
-    steps: &mut Steps<L>,
-) -> Result<(), AllocError>
-    ensures follows { OnOk result ((after : ℕ → Machine) → FollowsBy after pipeline.old
-        → FollowsBy (λ i. run (geometry_of WAYS pipeline.old.buckets)
-        (event_of (taken pipeline.old.plan i packet.now.words)) (after i)) pipeline.new) }
-    ensures makes { OnOk result (PipelineMakes WAYS (turn_at packet.now.words false pipeline.old) pipeline.old pipeline.new) }
-    ensures keeps { OnOk result (Keeps pipeline.old pipeline.new) }
-    ensures steps { steps.old ≤ steps.new }
-{
-    events_keep_alike();
-    pipeline.keep_up(Upkeep::Room, steps)?;
-    pipeline.packet(packet, steps);
-    Ok(())
-}
-
-// A packet, and then a merge of each lane.
-#[inline(always)]
-fn take_and_merge<const WAYS: usize, L: Ledger>(
-    pipeline: &mut Pipeline<WAYS>,
-    packet: &Packet,
-    steps: &mut Steps<L>,
-) -> Result<(), AllocError>
-    ensures follows { OnOk result ((after : ℕ → Machine) → FollowsBy after pipeline.old
-        → FollowsBy (λ i. run (geometry_of WAYS pipeline.old.buckets)
-        (event_of (taken pipeline.old.plan i packet.now.words)) (after i)) pipeline.new) }
-    ensures makes { OnOk result (PipelineMakes WAYS (turn_at packet.now.words true pipeline.old) pipeline.old pipeline.new) }
-    ensures keeps { OnOk result (Keeps pipeline.old pipeline.new) }
-    ensures ready { OnOk result (list_all lane_is_ready pipeline.new.lanes ≡ true) }
-    ensures steps { steps.old ≤ steps.new }
-{
-    events_keep_alike();
-    take_packet(pipeline, packet, steps)?;
-    pipeline.keep_up(Upkeep::Lag, steps)
-}
-
-// A packet, a sweep, and then a merge of each lane where the lag is over. Apart, since few packets are followed by a sweep.
+// The sweep after a packet, and then a merge of each lane where the lag is over. Apart, since few packets are followed by a sweep.
 #[cold]
 #[inline(never)]
-fn take_and_sweep<const WAYS: usize, L: Ledger>(
+fn sweep_after<const WAYS: usize, L: Ledger>(
     pipeline: &mut Pipeline<WAYS>,
-    packet: &Packet,
     lag_over: bool,
     steps: &mut Steps<L>,
 ) -> Result<(), AllocError>
     ensures follows { OnOk result ((after : ℕ → Machine) → FollowsBy after pipeline.old
-        → FollowsBy (λ i. empty_buckets pipeline.old.buckets (run (geometry_of WAYS pipeline.old.buckets)
-        (event_of (taken pipeline.old.plan i packet.now.words)) (after i))) pipeline.new) }
-    ensures makes { OnOk result (MakesTurn WAYS packet.now.words true lag_over pipeline.old pipeline.new) }
+        → FollowsBy (λ i. empty_buckets pipeline.old.buckets (after i)) pipeline.new) }
+    ensures makes { OnOk result ((swept : PipelineView)
+        × PipelineMakes WAYS (upkeeps_at Upkeep.Sweep pipeline.old.lanes) pipeline.old swept
+        × PipelineMakes WAYS (lag_at lag_over swept) swept pipeline.new) }
     ensures keeps { OnOk result (Keeps pipeline.old pipeline.new) }
     ensures merged { OnOk result (lag_over ≡ true → list_all lane_is_ready pipeline.new.lanes ≡ true) }
     ensures steps { steps.old ≤ steps.new }
 {
     events_keep_alike();
-    take_packet(pipeline, packet, steps)?;
     pipeline.sweep(steps)?;
     if !lag_over {
         return Ok(());
@@ -85,7 +43,7 @@ fn take_and_sweep<const WAYS: usize, L: Ledger>(
     pipeline.keep_up(Upkeep::Lag, steps)
 }
 
-/// A packet, and then the sweep and the merges that are due by the clocks.
+/// A packet, for which full pipes make room before, and then the sweep and the merges that are due by the clocks.
 #[inline(always)]
 pub fn turn<const WAYS: usize, L: Ledger>(
     pipeline: &mut Pipeline<WAYS>,
@@ -114,13 +72,16 @@ pub fn turn<const WAYS: usize, L: Ledger>(
     ensures every { (refreshes.new.every ≡ refreshes.old.every) × (lags.new.every ≡ lags.old.every) }
     ensures steps { steps.old ≤ steps.new }
 {
+    events_keep_alike();
     let refresh_now = refreshes.is_due();
     let lag_over = lags.is_due();
+    pipeline.keep_up(Upkeep::Room, steps)?;
+    pipeline.packet(packet, steps);
     if refresh_now {
-        return take_and_sweep(pipeline, packet, lag_over, steps);
+        return sweep_after(pipeline, lag_over, steps);
     }
     if lag_over {
-        return take_and_merge(pipeline, packet, steps);
+        return pipeline.keep_up(Upkeep::Lag, steps);
     }
-    take_packet(pipeline, packet, steps)
+    Ok(())
 }
