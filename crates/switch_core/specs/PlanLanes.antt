@@ -9,6 +9,7 @@ use Rattle.epoch_entry.specs.declared.any.AnyEpochs.{AnyEpochs}
 use Rattle.epoch_entry.specs.declared.purpose.Entries.{Entries}
 use Rattle.epoch_entry.specs.contracts.any.AnyEpochsEpochKind.TheImpl.{ghosts}
 use Rattle.epoch_entry.specs.Foldings.{merge_bound}
+use Rattle.epoch_entry.specs.Programs.{program_in}
 use Rattle.fold_class.specs.Program.{IsProgramOf}
 use Rattle.query_lang.specs.declared.fold.TypedFold.{TypedFold}
 use Rattle.stage_plan.specs.declared.group.GroupPlan.{GroupPlan}
@@ -76,11 +77,16 @@ AreLanesOf entries plan buckets lanes =
 abbrev pub MergesWithin : LaneView → GroupPlan → Type 0
 MergesWithin lane group = (f : TypedFold) → IsProgramOf f group.program → ghosts.merge_bound lane.kind ≤ merge_bound f
 
+-- a lane's entries are made of its groupby's own program, and keep the bound on their merges
+pub record IsMadeFor (lane : LaneView) (group : GroupPlan) : Type 0 where
+  pub program : program_in lane.kind ≡ group.program
+  pub merges : MergesWithin lane group
+
 -- a lane for each groupby of the plan, and room for what is taken of a packet
 pub record IsPipeline (ways : ℕ) (p : PipelineView) (registers key args : List ℕ) : Type 0 where
   pub few_ways : ways ≤ 65536
   pub lanes : AreLanesOf p.entries p.plan p.buckets p.lanes
-  pub merges : Each MergesWithin p.lanes p.plan.groups
+  pub made : Each IsMadeFor p.lanes p.plan.groups
   pub rooms : HasRooms p.plan registers key args
 
 -- a lane makes these events in order
