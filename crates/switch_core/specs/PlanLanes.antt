@@ -1,5 +1,5 @@
 -- What contracts see of a pipeline.
-use Rattle.std.specs.Prelude.{◌≡◌, ℕ, ◌+◌, ◌*◌, ◌≤◌, Bool, List, [], length, map, nat_lt, slice_get}
+use Rattle.std.specs.Prelude.{◌≡◌, ℕ, ◌+◌, ◌*◌, ◌≤◌, Bool, List, [], ◌∷◌, length, map, nat_lt, slice_get}
 use Rattle.std.specs.Prelude.{sum_by, Option, Some, None, true, ◌==◌, if◌then◌else◌}
 use Rattle.std.specs.List.{All, list_all}
 use Rattle.epoch_model.specs.Machine.{Machine, Event, empty_buckets}
@@ -18,7 +18,8 @@ use Rattle.stage_plan.specs.Sound.{PlanParts}
 use Rattle.switch_core.specs.FrontParts.{LaneOf}
 use Rattle.switch_core.specs.Lanes.{LaneStands}
 use Rattle.switch_core.specs.LaneEvents.{Parts, parts, MakesAll}
-use Rattle.switch_core.specs.Pipelines.{IsLaneOf, HasRooms, after_events, geometry_of}
+use Rattle.final_queries.specs.declared.table.Table.{Table}
+use Rattle.switch_core.specs.Pipelines.{IsLaneOf, HasRooms, after_events, geometry_of, heading_of, stored_table}
 use Rattle.switch_core.specs.Closing.{held_in, is_drained}
 use Rattle.switch_core.specs.Costs.{evict_cost, merge_cost, sweep_cost}
 use Rattle.switch_core.specs.Rows.{AreFirst, Each, EachFrom}
@@ -46,6 +47,12 @@ folding_at lane = ghosts.folding lane.kind
 -- the lane represents a machine
 abbrev pub StandsFor : LaneView → Machine → Type 0
 StandsFor lane m = LaneStands (ghosts.stands lane.kind) (ghosts.folding lane.kind) lane.cache lane.pipe lane.store m
+
+-- the tables of what the lanes' stores hold, in the order of the groupbys
+abbrev pub stored_tables : List GroupPlan → List LaneView → List Table
+stored_tables (group ∷ groups) (lane ∷ lanes) = stored_table (heading_of group) (folding_at lane).row_per_epoch lane.store
+    ∷ stored_tables groups lanes
+stored_tables _ _ = []
 
 -- the places of each lane's pipe
 abbrev pub places_of : List LaneView → List ℕ

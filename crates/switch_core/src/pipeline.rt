@@ -17,7 +17,7 @@ ghost use Rattle.switch_core.specs.Costs.{evict_cost};
 ghost use Rattle.switch_core.specs.Pipelines.{empty_machines, event_at, geometry_of, packet_events, tables_of};
 ghost use Rattle.switch_core.specs.PlanLanes.{AreKept, AreLanesOf, AtLane, HavePlaces, IsMadeFor, PipelineIsSwept, PipelineMakes};
 ghost use Rattle.switch_core.specs.PlanLanes.{PipelineStands, UpkeepBreaksOff, folding_at, lane_is_drained, lane_is_ready};
-ghost use Rattle.switch_core.specs.PlanLanes.{lane_merge_cost, lane_sweep_cost, lane_upkeep_cost, pipeline_cost, upkeeps_at};
+ghost use Rattle.switch_core.specs.PlanLanes.{lane_merge_cost, lane_sweep_cost, lane_upkeep_cost, pipeline_cost, stored_tables, upkeeps_at};
 
 use crate::front::Merged;
 use crate::lane::Lane;
@@ -265,7 +265,8 @@ impl<const WAYS: usize> Pipeline<WAYS> {
     /// The tables of the closed epochs, one for each groupby in order. The pipeline doesn't change.
     pub fn close(&self) -> Result<Seq<Table>, AllocError>
         requires { list_all lane_is_drained self.now.lanes ≡ true }
-        ensures { IfOk result (λ tables. (machines : List Machine) → PipelineStands self.now machines
+        ensures stored { IfOk result (λ tables. tables ≡ stored_tables self.now.plan.groups self.now.lanes) }
+        ensures closed { IfOk result (λ tables. (machines : List Machine) → PipelineStands self.now machines
             → tables ≡ tables_of self.now.plan.groups (map folding_at self.now.lanes) machines) }
     {
         lane_tables(self.alloc, &self.plan, &self.lanes)
