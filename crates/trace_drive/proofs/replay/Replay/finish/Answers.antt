@@ -10,6 +10,9 @@ returns-in-Ok-clause-machines g c schedule all count way =
     (c.in_ok-take_rest.ensures.rest schedule all count way) c.in-Ok.ensures.keeps c.invariant.ensures
     c.in-Ok.ensures.follows c.in-Ok.ensures.empty).0
 
+pub returns-in-Ok-clause-turns : goal.returns-in-Ok-clause-turns
+returns-in-Ok-clause-turns g c = (c.take_rest.new.self.pipeline, c.in_ok-take_rest.ensures.turns, c.in-Ok.ensures.drains)
+
 pub returns-in-Ok-clause-drained : goal.returns-in-Ok-clause-drained
 returns-in-Ok-clause-drained g c =
     let r = c.requires in
