@@ -5,6 +5,7 @@ ghost use Rattle.epoch_model.specs.declared.tables.Row.{Row};
 ghost use Rattle.epoch_model.specs.Machine.{Epoch};
 ghost use Rattle.epoch_model.specs.Tables.{Folding, closed_epochs, closed_rows, epochs_shown, mark_of};
 ghost use Rattle.backing_store.specs.Merged.{StoreHolds, epochs_in, shown_row};
+ghost use Rattle.backing_store.specs.SortedRows.{sorted_rows};
 
 use crate::BackingStore;
 use crate::held::held_rows_are_the_tables;
@@ -61,7 +62,9 @@ fn shown_rows(stored: Rows, row_per_epoch: bool) -> ShownRows
 
 /// The rows of the table of the epochs that a store holds. The store stays unchanged.
 pub fn rows_held(store: &BackingStore, row_per_epoch: bool) -> Result<ShownRows, AllocError>
-    ensures { IfOk result (λ shown. (f : Folding) (epochs : List Epoch) → f.row_per_epoch ≡ row_per_epoch → StoreHolds f store.now epochs
+    ensures stored { IfOk result (λ shown. (shown.rows ≡ map (shown_row row_per_epoch) (sorted_rows store.now))
+        × (shown.epochs ≡ epochs_shown (sum_by (epochs_in row_per_epoch) (sorted_rows store.now)))) }
+    ensures held { IfOk result (λ shown. (f : Folding) (epochs : List Epoch) → f.row_per_epoch ≡ row_per_epoch → StoreHolds f store.now epochs
         → (shown.rows ≡ closed_rows f epochs) × (shown.epochs ≡ closed_epochs epochs)) }
 {
     held_rows_are_the_tables();

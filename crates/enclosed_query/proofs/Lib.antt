@@ -5,3 +5,4 @@ mod StreamWords
 mod HoldingFacts
 mod Groups
 mod AfterFacts
+mod StoredTables

@@ -5,6 +5,7 @@ use Rattle.query_lang.specs.Folds.{initial_state}
 use Rattle.query_lang.specs.Words.{AreWords}
 use Rattle.epoch_model.specs.Epochs.{Geometry}
 use Rattle.epoch_model.specs.Machine.{Event, Machine}
+use Rattle.epoch_entry.specs.contracts.any.AnyEpochsEpochKind.TheImpl.{ghosts}
 use Rattle.fold_class.specs.Kinds.{class_of}
 use Rattle.fold_class.specs.Program.{IsProgramOf}
 use Rattle.backing_store.specs.Store.{IsStore}
@@ -37,10 +38,11 @@ abbrev pub ShownHoldsAfter : PlanParts → (ℕ → List Event) → List Enclose
 ShownHoldsAfter plan events tables = (i : ℕ) (group : GroupPlan) (f : TypedFold) (t : Enclosed) → slice_get plan.groups i ≡ Some group
     → IsBoundedGroup f group → TakesWords (events i) → slice_get tables i ≡ Some t → HoldsAfter f (events i) t
 
--- the keys of a lane's store have as many words as those of its cache
-pub record HasStoredKeys (lane : LaneView) : Type 0 where
+-- the keys and the rows of a lane's store have the words of its cache's keys and of its entries' states
+pub record HasStoredRows (lane : LaneView) : Type 0 where
   pub store : IsStore lane.store
   pub words : lane.store.key_words ≡ lane.cache.key_words
+  pub state : lane.store.state_words ≡ (ghosts.sizes lane.kind).state
 
-abbrev pub HaveStoredKeys : List LaneView → Type 0
-HaveStoredKeys lanes = (n : ℕ) (lane : LaneView) → slice_get lanes n ≡ Some lane → HasStoredKeys lane
+abbrev pub HaveStoredRows : List LaneView → Type 0
+HaveStoredRows lanes = (n : ℕ) (lane : LaneView) → slice_get lanes n ≡ Some lane → HasStoredRows lane

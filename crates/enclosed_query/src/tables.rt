@@ -7,17 +7,14 @@ ghost use Rattle.epoch_entry.specs.declared.purpose.Entries.TheVariants.{Bounds}
 ghost use Rattle.epoch_model.specs.Epochs.{Geometry};
 ghost use Rattle.epoch_model.specs.Laws.{HasRoom};
 ghost use Rattle.epoch_model.specs.Machine.{Event, Machine};
-ghost use Rattle.switch_core.specs.Pipelines.{tables_of};
-ghost use Rattle.switch_core.specs.PlanLanes.{PipelineStands, folding_at, lane_is_drained};
+ghost use Rattle.switch_core.specs.PlanLanes.{PipelineStands, lane_is_drained, stored_tables};
 ghost use Rattle.enclosure_folds.specs.Shown.{MayBeShown, shown};
-ghost use Rattle.enclosed_query.specs.AfterEvents.{HaveStoredKeys, ShownHoldsAfter, machines_after, shown_tables};
+ghost use Rattle.enclosed_query.specs.AfterEvents.{HaveStoredRows, ShownHoldsAfter, machines_after, shown_tables};
 ghost use Rattle.enclosed_query.specs.EnclosedTables.{enclosed_tables, EndsAt};
 ghost use Rattle.enclosed_query.specs.Reading.{IsWhole};
 
 use crate::laws::ends_give_enclosed_tables;
-use enclosure_folds::{
-    Enclosed, closed_tables_give_bounds, closed_tables_hold, enclosed_of, triples_give_whole_tables,
-};
+use enclosure_folds::{Enclosed, closed_tables_hold, enclosed_of, triples_give_whole_tables};
 use final_queries::Table;
 use marple_base::Seq;
 use std::alloc::{AllocError, Global};
@@ -35,8 +32,9 @@ fn each_shown(alloc: Global, tables: Seq<Table>) -> Result<Seq<Enclosed>, AllocE
     Ok(made)
 }
 
-// The same, where tables of bounds have the words that their names say.
-fn all_shown(alloc: Global, tables: Seq<Table>) -> Result<Seq<Enclosed>, AllocError>
+/// What is shown of groupbys with these tables, in order: of a linear fold its table, and of any other fold its table of bounds,
+/// which has the words that its names say.
+pub fn shown_of(alloc: Global, tables: Seq<Table>) -> Result<Seq<Enclosed>, AllocError>
     requires { All MayBeShown tables }
     ensures made { IfOk result (λ made. made ≡ map shown tables) }
     ensures whole { IfOk result (All IsWhole) }
@@ -46,9 +44,9 @@ fn all_shown(alloc: Global, tables: Seq<Table>) -> Result<Seq<Enclosed>, AllocEr
     Ok(made)
 }
 
-// The stores of the lanes have keys of as many words as their caches.
+// The stores of the lanes have keys of as many words as their caches, and states of as many as their entries.
 fn stores_known<const WAYS: usize>(pipeline: &Pipeline<WAYS>)
-    ensures { HaveStoredKeys pipeline.now.lanes }
+    ensures { HaveStoredRows pipeline.now.lanes }
 {
     for i in 0..pipeline.lanes() {
         let lane = pipeline.lane(i);
@@ -57,22 +55,28 @@ fn stores_known<const WAYS: usize>(pipeline: &Pipeline<WAYS>)
     }
 }
 
-// What holds of the machines that a drained pipeline for bounds represents: the tables of their closed epochs may be shown,
-// and what is shown of them holds over all rows of whatever events led to them.
+// The tables of a pipeline for bounds may be shown.
+fn tables_known<const WAYS: usize>(pipeline: &Pipeline<WAYS>)
+    requires { pipeline.now.entries ≡ Bounds }
+    ensures { All MayBeShown (stored_tables pipeline.now.plan.groups pipeline.now.lanes) }
+{
+    pipeline.invariant();
+    pipeline.plan().invariant();
+    stores_known(pipeline);
+}
+
+// What is shown of the machines that a drained pipeline for bounds represents holds over all rows of whatever events led to
+// them.
 fn machines_known<const WAYS: usize>(pipeline: &Pipeline<WAYS>)
     requires entries { pipeline.now.entries ≡ Bounds }
     requires drained { list_all lane_is_drained pipeline.now.lanes ≡ true }
-    ensures may { (machines : List Machine) → PipelineStands pipeline.now machines
-        → All MayBeShown (tables_of pipeline.now.plan.groups (map folding_at pipeline.now.lanes) machines) }
     ensures holds { (g : Geometry) (events : ℕ → List Event) → HasRoom g
         → PipelineStands pipeline.now (machines_after pipeline.now.plan g events)
         → ShownHoldsAfter pipeline.now.plan events (shown_tables pipeline.now (machines_after pipeline.now.plan g events)) }
 {
-    closed_tables_give_bounds();
     closed_tables_hold();
     pipeline.invariant();
     pipeline.plan().invariant();
-    stores_known(pipeline);
     let _drained = pipeline.drained();
 }
 
@@ -86,7 +90,6 @@ pub fn enclosed<const WAYS: usize>(
 ) -> Result<Seq<Enclosed>, AllocError>
     requires entries { pipeline.now.entries ≡ Bounds }
     requires drained { list_all lane_is_drained pipeline.now.lanes ≡ true }
-    requires stands { (machines : List Machine) × PipelineStands pipeline.now machines }
     ensures shown { IfOk result (λ tables. (machines : List Machine) → PipelineStands pipeline.now machines
         → tables ≡ shown_tables pipeline.now machines) }
     ensures holds { IfOk result (λ tables. (g : Geometry) (events : ℕ → List Event) → HasRoom g
@@ -99,8 +102,9 @@ pub fn enclosed<const WAYS: usize>(
     ends_give_enclosed_tables();
     pipeline.invariant();
     pipeline.plan().invariant();
+    tables_known(pipeline);
     machines_known(pipeline);
     let tables = pipeline.close()?;
-    let made = all_shown(alloc, tables)?;
+    let made = shown_of(alloc, tables)?;
     Ok(made)
 }

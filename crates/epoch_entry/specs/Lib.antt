@@ -7,3 +7,4 @@ pub mod Shape
 pub mod Triples
 pub mod Bounds
 pub mod Purposes
+pub mod Programs

@@ -1,6 +1,6 @@
 // The kind of a program's entries, by its class and algebra and by what they are for.
 
-ghost use Rattle.std.specs.Prelude.{◌≤◌};
+ghost use Rattle.std.specs.Prelude.{◌≡◌, ◌≤◌};
 ghost use Rattle.fold_class.specs.Program.{IsProgram, IsProgramOf};
 
 use crate::bounds::BoundsEpochs;
@@ -37,11 +37,13 @@ impl Drop for AnyEpochs {
 impl AnyEpochs {
     ghost use Rattle.query_lang.specs.declared.fold.TypedFold.{TypedFold};
     ghost use Rattle.epoch_entry.specs.Foldings.{IsKindOf, merge_bound};
+    ghost use Rattle.epoch_entry.specs.Programs.{program_in};
     ghost use Rattle.epoch_entry.specs.Purposes.{IsKindFor};
 
     /// The entries of a program's fold: their sizes, what they are folded to and their bounds on steps are the fold's.
     pub fn of(program: FoldProgram) -> AnyEpochs
         requires { IsProgram program }
+        ensures program { program_in result ≡ program }
         ensures kind { (f : TypedFold) → IsProgramOf f program
             → IsKindOf f (⟦<AnyEpochs as EpochKind>⟧.sizes result) (⟦<AnyEpochs as EpochKind>⟧.folding result)
             (⟦<AnyEpochs as EpochKind>⟧.open_bound result) (⟦<AnyEpochs as EpochKind>⟧.absorb_bound result) }
@@ -60,6 +62,7 @@ impl AnyEpochs {
     /// its bounds.
     pub fn for_entries(entries: Entries, program: FoldProgram) -> AnyEpochs
         requires { IsProgram program }
+        ensures program { program_in result ≡ program }
         ensures kind { (f : TypedFold) → IsProgramOf f program
             → IsKindFor entries f (⟦<AnyEpochs as EpochKind>⟧.sizes result) (⟦<AnyEpochs as EpochKind>⟧.folding result)
             (⟦<AnyEpochs as EpochKind>⟧.open_bound result) (⟦<AnyEpochs as EpochKind>⟧.absorb_bound result) }

@@ -1,10 +1,8 @@
 //! What is shown of a pipeline for bounds after packets, evictions and merges in no order of a trace, compared with bounds that
 //! were worked out by hand.
 
-ghost use Rattle.std.specs.Prelude.{◌≡◌, ◌<◌, List, IfOk};
+ghost use Rattle.std.specs.Prelude.{◌≡◌, ◌<◌, IfOk};
 ghost use Rattle.epoch_entry.specs.declared.purpose.Entries.TheVariants.{Bounds};
-ghost use Rattle.epoch_model.specs.Machine.{Machine};
-ghost use Rattle.switch_core.specs.PlanLanes.{PipelineStands};
 
 use crate::lanes::packet_of;
 use accepted_query::accept;
@@ -66,7 +64,6 @@ const ROWS: [(u64, u64, u64, u64); 3] = [(1, 3, 8, 100), (2, 2, 100, 100), (3, 1
 fn made_pipeline(alloc: Global) -> Result<Pipeline<1>, Fail>
     ensures buckets { IfOk result (λ made. made.buckets ≡ 1) }
     ensures entries { IfOk result (λ made. made.entries ≡ Bounds) }
-    ensures stands { IfOk result (λ made. (machines : List Machine) × PipelineStands made machines) }
 {
     let accepted = accept(alloc, QUERY)?;
     let made = Pipeline::<1>::new(alloc, accepted.plan, Entries::Bounds, 1, 4)?;
@@ -83,10 +80,8 @@ fn take_packet<L: Ledger>(
 )
     requires buckets { pipeline.old.buckets ≡ 1 }
     requires entries { pipeline.old.entries ≡ Bounds }
-    requires stands { (machines : List Machine) × PipelineStands pipeline.old machines }
     ensures buckets { pipeline.new.buckets ≡ 1 }
     ensures entries { pipeline.new.entries ≡ Bounds }
-    ensures stands { (machines : List Machine) × PipelineStands pipeline.new machines }
 {
     assert!(rt; pipeline.ready());
     pipeline.packet(&packet_of(source, length), steps);
@@ -96,10 +91,8 @@ fn take_packet<L: Ledger>(
 fn evict_one<L: Ledger>(rt: &impl Abort, pipeline: &mut Pipeline<1>, steps: &mut Steps<L>)
     requires buckets { pipeline.old.buckets ≡ 1 }
     requires entries { pipeline.old.entries ≡ Bounds }
-    requires stands { (machines : List Machine) × PipelineStands pipeline.old machines }
     ensures buckets { pipeline.new.buckets ≡ 1 }
     ensures entries { pipeline.new.entries ≡ Bounds }
-    ensures stands { (machines : List Machine) × PipelineStands pipeline.new machines }
 {
     assert_eq!(rt; pipeline.lanes(), 1);
     assert!(rt; pipeline.lane_ready(0));
@@ -114,10 +107,8 @@ fn merge_one<L: Ledger>(
 ) -> Result<(), AllocError>
     requires buckets { pipeline.old.buckets ≡ 1 }
     requires entries { pipeline.old.entries ≡ Bounds }
-    requires stands { (machines : List Machine) × PipelineStands pipeline.old machines }
     ensures buckets { pipeline.new.buckets ≡ 1 }
     ensures entries { pipeline.new.entries ≡ Bounds }
-    ensures stands { (machines : List Machine) × PipelineStands pipeline.new machines }
 {
     assert_eq!(rt; pipeline.lanes(), 1);
     let _merged = pipeline.merge(0, steps)?;
@@ -133,10 +124,8 @@ fn make<L: Ledger>(
 ) -> Result<(), AllocError>
     requires buckets { pipeline.old.buckets ≡ 1 }
     requires entries { pipeline.old.entries ≡ Bounds }
-    requires stands { (machines : List Machine) × PipelineStands pipeline.old machines }
     ensures buckets { pipeline.new.buckets ≡ 1 }
     ensures entries { pipeline.new.entries ≡ Bounds }
-    ensures stands { (machines : List Machine) × PipelineStands pipeline.new machines }
 {
     match event {
         Event::Packet(source, length) => {
@@ -183,7 +172,6 @@ fn make_all<L: Ledger>(
 ) -> Result<(), AllocError>
     requires buckets { pipeline.old.buckets ≡ 1 }
     requires entries { pipeline.old.entries ≡ Bounds }
-    requires stands { (machines : List Machine) × PipelineStands pipeline.old machines }
 {
     for event in EVENTS {
         make(rt, pipeline, event, steps)?;

@@ -1,12 +1,11 @@
 //! The report of a query's bounds.
 
-ghost use Rattle.std.specs.Prelude.{◌≡◌, ℕ, All, List, None, map, IfOk};
+ghost use Rattle.std.specs.Prelude.{◌≡◌, ℕ, List, None};
 ghost use Rattle.query_lang.specs.TypedQueries.{IsValidQuery};
 ghost use Rattle.epoch_entry.specs.declared.purpose.Entries.TheVariants.{Bounds};
 ghost use Rattle.epoch_model.specs.Epochs.{Geometry};
 ghost use Rattle.marple_base.specs.declared.field.FieldSet.{FieldSet};
 ghost use Rattle.enclosure_folds.specs.Check.{enclose_fault};
-ghost use Rattle.enclosure_folds.specs.Shown.{MayBeShown, shown};
 ghost use Rattle.enclosed_query.specs.EnclosedTables.{enclose_text};
 ghost use Rattle.enclosed_query.specs.Holding.{ShownHolds};
 ghost use Rattle.stage_plan.specs.Planned.{IsPlanOf};
@@ -18,29 +17,17 @@ ghost use Rattle.query_run.specs.Reports.{Reports};
 
 use crate::report::Report;
 use enclosed_query::{
-    enclosed_tables_are_read, ends_give_enclosed_tables, shown_tables_hold, starts_known,
+    enclosed_tables_are_read, ends_give_enclosed_tables, shown_of, shown_tables_hold, starts_known,
     write_enclosed,
 };
-use enclosure_folds::{Enclosed, enclosed_of, triples_give_whole_tables};
+use enclosure_folds::triples_give_whole_tables;
 use epoch_entry::Entries;
 use final_queries::Table;
 use marple_base::{Seq, Sink, Steps, TextBuffer, WriteError};
 use query_lang::TypedQuery;
-use std::alloc::{AllocError, Global};
+use std::alloc::Global;
 use std::sync::ledger::Ledger;
 use trace_drive::read_packets_are_words;
-
-// What is shown of groupbys with these tables.
-fn shown_of(alloc: Global, tables: Seq<Table>) -> Result<Seq<Enclosed>, AllocError>
-    requires { All MayBeShown tables }
-    ensures { IfOk result (λ made. made ≡ map shown tables) }
-{
-    let mut made = Seq::new(alloc);
-    for table in tables.into_vec() {
-        made.push(enclosed_of(alloc, table)?)?;
-    }
-    Ok(made)
-}
 
 /// The report of a query where bounds are asked for: the tables of linear folds, the bounds of monotone folds over all packets
 /// of a key, and the tables that finals make of the rows that are exact.

@@ -5,9 +5,11 @@ ghost use Rattle.std.specs.Io.KnownBytes.{Appends};
 ghost use Rattle.std.specs.List.{list_all};
 ghost use Rattle.epoch_model.specs.Epochs.{Geometry};
 ghost use Rattle.stage_plan.specs.Packets.{AreWhole};
-ghost use Rattle.switch_core.specs.PlanLanes.{HavePlaces, PipelineStands, lane_is_drained};
+ghost use Rattle.switch_core.specs.Pipelines.{empty_machines, geometry_of};
+ghost use Rattle.switch_core.specs.PlanLanes.{HavePlaces, PipelineStands, PipelineView, lane_is_drained};
 ghost use Rattle.trace_drive.specs.Answers.{BreaksOff};
 ghost use Rattle.trace_drive.specs.Drives.{coming, end_machines, fault_of, geometry_for, words_of};
+ghost use Rattle.trace_drive.specs.Turns.{RunsInTurns};
 ghost use Rattle.query_run.specs.Reports.{MayPrint, Prints};
 ghost use Rattle.query_run.specs.Views.{CanBeViewed, views_text};
 
@@ -49,6 +51,9 @@ pub(crate) fn run_report<const WAYS: usize, R: Report, O: Sink, L: Ledger>(
     ensures entries { IfOk result (λ pipeline. pipeline.entries ≡ R.entries report.now) }
     ensures machines { IfOk result
         (λ pipeline. PipelineStands pipeline (end_machines plan (geometry_for WAYS schedule) (words_of (coming packets.entry)))) }
+    ensures turns { IfOk result (λ pipeline. (fresh : PipelineView)
+        × PipelineStands fresh (empty_machines (geometry_of WAYS schedule.buckets) plan.groups)
+        × RunsInTurns WAYS schedule.refresh schedule.lag (words_of (coming packets.entry)) fresh pipeline) }
     ensures drained { IfOk result (λ pipeline. list_all lane_is_drained pipeline.lanes ≡ true) }
     ensures buckets { IfOk result (λ pipeline. pipeline.buckets ≡ schedule.buckets) }
     ensures pipe_places { IfOk result (λ pipeline. HavePlaces schedule.pipe pipeline.lanes) }

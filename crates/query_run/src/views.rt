@@ -9,7 +9,7 @@ ghost use Rattle.switch_core.specs.PlanLanes.{PipelineStands};
 ghost use Rattle.trace_drive.specs.Answers.{BreaksOff};
 ghost use Rattle.trace_drive.specs.Drives.{coming, fault_of, geometry_for, words_of};
 ghost use Rattle.trace_drive.specs.Follows.{Keeps};
-ghost use Rattle.trace_drive.specs.Replays.{IsUnderWay, fault_in, pipeline_in};
+ghost use Rattle.trace_drive.specs.Replays.{HasTaken, IsUnderWay, fault_in, pipeline_in};
 ghost use Rattle.query_run.specs.Reports.{MayPrint, Prints};
 ghost use Rattle.query_run.specs.Views.{CanBeViewed, views_text, views_up_to};
 
@@ -45,6 +45,7 @@ pub(crate) fn write_views<'a, const WAYS: usize, R: Report, O: Sink, L: Ledger>(
         → Appends (O.taken out.old) (O.taken out.new) (views_up_to (text (geometry_for WAYS schedule)) every
         (words_of (coming packets.entry)) (length (coming packets.entry)))) }
     ensures under_way { IfOk result (λ replay. (count : ℕ) × IsUnderWay schedule (coming packets.entry) count replay) }
+    ensures turns { IfOk result (HasTaken schedule (coming packets.entry) pipeline.entry) }
     ensures fault { IfOk result (λ replay. fault_in replay ≡ fault_of packets.entry) }
     ensures keeps { IfOk result (λ replay. Keeps pipeline.entry (pipeline_in replay)) }
     ensures untouched { every ≡ 0 → out.new ≡ out.old }

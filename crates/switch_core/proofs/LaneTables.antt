@@ -9,8 +9,8 @@ use Rattle.backing_store.specs.Merged.{StoreHolds}
 use Rattle.final_queries.specs.GroupTable.{closed_table}
 use Rattle.stage_plan.specs.declared.group.GroupPlan.{GroupPlan}
 use Rattle.switch_core.specs.Rows.{EachFrom}
-use Rattle.switch_core.specs.Pipelines.{heading_of, tables_of}
-use Rattle.switch_core.specs.PlanLanes.{LaneView, StandsFor, folding_at, lane_is_drained}
+use Rattle.switch_core.specs.Pipelines.{heading_of, stored_table, tables_of}
+use Rattle.switch_core.specs.PlanLanes.{LaneView, StandsFor, folding_at, lane_is_drained, stored_tables}
 use Rattle.switch_core.proofs.ClosedTable.{all_held}
 use Rattle.switch_core.proofs.Drained.{drained_is_done, drained_parts}
 use Rattle.switch_core.proofs.LaneFacts.{both_pass}
@@ -56,6 +56,35 @@ tables_whole (g ∷ groups) (l ∷ lanes) [] (suc i) h = refl
 tables_whole (g ∷ groups) (l ∷ lanes) (m ∷ ms) zero h = absurd (omega arith)
 tables_whole (g ∷ groups) (l ∷ lanes) (m ∷ ms) (suc i) h = ap (λ ts. closed_table (heading_of g) (folding_at l) m.closed ∷ ts)
     (tables_whole groups lanes ms i (omega arith))
+
+-- the same of the tables of what the stores hold
+
+stored_next_at : (groups : List GroupPlan) (lanes : List LaneView) (i : ℕ) (group : GroupPlan) (lane : LaneView)
+    → slice_get groups i ≡ Some group → slice_get lanes i ≡ Some lane
+    → take (suc i) (stored_tables groups lanes) ≡ take i (stored_tables groups lanes)
+    ++ stored_table (heading_of group) (folding_at lane).row_per_epoch lane.store ∷ []
+stored_next_at [] lanes i group lane a b = cc
+stored_next_at (g ∷ groups) [] i group lane a b = cc
+stored_next_at (g ∷ groups) (l ∷ lanes) zero group lane a b = let x : g ≡ group = cc in let y : l ≡ lane = cc in rw (x, y) refl
+stored_next_at (g ∷ groups) (l ∷ lanes) (suc i) group lane a b =
+    ap (λ ts. stored_table (heading_of g) (folding_at l).row_per_epoch l.store ∷ ts) (stored_next_at groups lanes i group lane a b)
+
+pub stored_next : (groups : List GroupPlan) (lanes : List LaneView) (i : ℕ) (group : GroupPlan) (lane : LaneView)
+    → slice_get groups i ≡ Some group → slice_get lanes i ≡ Some lane
+    → take (i + 1) (stored_tables groups lanes) ≡ take i (stored_tables groups lanes)
+    ++ stored_table (heading_of group) (folding_at lane).row_per_epoch lane.store ∷ []
+stored_next groups lanes i group lane a b =
+    ap (λ n. take n (stored_tables groups lanes)) (let q : i + 1 ≡ suc i = omega arith in q) ∙ stored_next_at groups lanes i group lane a b
+
+pub stored_whole : (groups : List GroupPlan) (lanes : List LaneView) (i : ℕ) → length lanes ≤ i
+    → take i (stored_tables groups lanes) ≡ stored_tables groups lanes
+stored_whole [] lanes zero h = refl
+stored_whole [] lanes (suc i) h = refl
+stored_whole (g ∷ groups) [] zero h = refl
+stored_whole (g ∷ groups) [] (suc i) h = refl
+stored_whole (g ∷ groups) (l ∷ lanes) zero h = absurd (omega arith)
+stored_whole (g ∷ groups) (l ∷ lanes) (suc i) h =
+    ap (λ ts. stored_table (heading_of g) (folding_at l).row_per_epoch l.store ∷ ts) (stored_whole groups lanes i (omega arith))
 
 -- drained lanes have no open epoch, and all closed ones are merged
 pub all_done : (k : ℕ) (lanes : List LaneView) (ms : List Machine) → list_all lane_is_drained lanes ≡ true

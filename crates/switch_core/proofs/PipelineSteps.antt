@@ -8,6 +8,7 @@ use Rattle.epoch_model.specs.Driving.{EventsKeepAlike, BucketsEmptyByEvictions}
 use Rattle.epoch_model.specs.Laws.{SameEpochs}
 use Rattle.epoch_entry.specs.declared.purpose.Entries.{Entries}
 use Rattle.epoch_entry.specs.Foldings.{merge_bound}
+use Rattle.epoch_entry.specs.Programs.{program_in}
 use Rattle.epoch_entry.specs.Purposes.{IsKindFor}
 use Rattle.fold_class.specs.Program.{IsProgramOf}
 use Rattle.query_lang.specs.declared.fold.TypedFold.{TypedFold}
@@ -20,7 +21,7 @@ use Rattle.switch_core.specs.LaneEvents.{Parts, PartsStand, MakesAll}
 use Rattle.switch_core.specs.Closing.{held_in}
 use Rattle.switch_core.specs.Rows.{Each, EachFrom}
 use Rattle.switch_core.specs.Pipelines.{IsLaneOf, after_events, geometry_of}
-use Rattle.switch_core.specs.PlanLanes.{LaneView, MergesWithin, PipelineView, PipelineMakes, AreLanesOf, StandsFor}
+use Rattle.switch_core.specs.PlanLanes.{LaneView, IsMadeFor, PipelineView, PipelineMakes, AreLanesOf, StandsFor}
 use Rattle.switch_core.specs.PlanLanes.{LaneMakes, LanesMake, AreKept, PipelineIsSwept, parts_of, places_of, upkeep_at, upkeeps_at}
 use Rattle.switch_core.specs.Upkeeps.{sweep_from}
 use Rattle.switch_core.specs.declared.upkeep.Upkeep.TheVariants as due
@@ -72,19 +73,22 @@ lanes_kept R sizes entries plan buckets k (a ∷ old) (b ∷ new) (g ∷ groups)
       lanes_kept R sizes entries plan buckets (suc k) old new groups e.1 f.1,
     )
 
--- the bounds on their merges stay
-pub merges_kept : (R : ℕ → LaneView → LaneView → Type 0) → ((n : ℕ) (a b : LaneView) → R n a b → SameSizes a b)
-    → (k : ℕ) (old new : List LaneView) (groups : List GroupPlan) → EachFrom R k old new → EachFrom (λ n. MergesWithin) k old groups
-    → EachFrom (λ n. MergesWithin) k new groups
-merges_kept R sizes k [] [] [] e f = tt
-merges_kept R sizes k [] [] (g ∷ groups) e f = absurd f
-merges_kept R sizes k [] (b ∷ new) groups e f = absurd e
-merges_kept R sizes k (a ∷ old) [] groups e f = absurd e
-merges_kept R sizes k (a ∷ old) (b ∷ new) [] e f = absurd f
-merges_kept R sizes k (a ∷ old) (b ∷ new) (g ∷ groups) e f =
+-- and their entries are made of the same programs
+pub made_kept : (R : ℕ → LaneView → LaneView → Type 0) → ((n : ℕ) (a b : LaneView) → R n a b → SameSizes a b)
+    → (k : ℕ) (old new : List LaneView) (groups : List GroupPlan) → EachFrom R k old new → EachFrom (λ n. IsMadeFor) k old groups
+    → EachFrom (λ n. IsMadeFor) k new groups
+made_kept R sizes k [] [] [] e f = tt
+made_kept R sizes k [] [] (g ∷ groups) e f = absurd f
+made_kept R sizes k [] (b ∷ new) groups e f = absurd e
+made_kept R sizes k (a ∷ old) [] groups e f = absurd e
+made_kept R sizes k (a ∷ old) (b ∷ new) [] e f = absurd f
+made_kept R sizes k (a ∷ old) (b ∷ new) (g ∷ groups) e f =
     let s = sizes k a b e.0 in (
-      λ h is. subst (λ kind. ghosts.merge_bound kind ≤ merge_bound h) (sym s.kind) (f.0 h is),
-      merges_kept R sizes (suc k) old new groups e.1 f.1,
+      record {
+        program = ap program_in s.kind ∙ f.0.program;
+        merges = λ h is. subst (λ kind. ghosts.merge_bound kind ≤ merge_bound h) (sym s.kind) (f.0.merges h is);
+      },
+      made_kept R sizes (suc k) old new groups e.1 f.1,
     )
 
 -- all lanes have this many buckets
@@ -220,9 +224,9 @@ kind_at p n lane group f are here at is =
     let same : found.0 ≡ group = same_some found.0 group (sym found.1 ∙ at) in
     (subst (R n lane) same (found.2 n (omega arith))).kind f is
 
--- and merging one of them takes at most what its fold allows
-pub merges_at : (p : PipelineView) (n : ℕ) (lane : LaneView) (group : GroupPlan) → Each MergesWithin p.lanes p.plan.groups
-    → slice_get p.lanes n ≡ Some lane → slice_get p.plan.groups n ≡ Some group → MergesWithin lane group
-merges_at p n lane group within here at =
-    let found = each_at (λ i. MergesWithin) 0 n p.lanes p.plan.groups lane within here in
-    subst (MergesWithin lane) (same_some found.0 group (sym found.1 ∙ at)) (found.2 n (omega arith))
+-- and they are made of its own program
+pub made_at : (p : PipelineView) (n : ℕ) (lane : LaneView) (group : GroupPlan) → Each IsMadeFor p.lanes p.plan.groups
+    → slice_get p.lanes n ≡ Some lane → slice_get p.plan.groups n ≡ Some group → IsMadeFor lane group
+made_at p n lane group within here at =
+    let found = each_at (λ i. IsMadeFor) 0 n p.lanes p.plan.groups lane within here in
+    subst (IsMadeFor lane) (same_some found.0 group (sym found.1 ∙ at)) (found.2 n (omega arith))

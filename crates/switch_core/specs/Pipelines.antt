@@ -1,17 +1,21 @@
 -- Lanes side by side, one for each groupby of a plan.
-use Rattle.std.specs.Prelude.{◌≡◌, ℕ, suc, ◌==◌, List, [], ◌∷◌, length, if◌then◌else◌}
+use Rattle.std.specs.Prelude.{◌≡◌, ℕ, suc, ◌==◌, Bool, List, [], ◌∷◌, ◌++◌, length, map, sum_by, if◌then◌else◌}
 use Rattle.fold_class.specs.Program.{IsProgramOf}
 use Rattle.query_lang.specs.declared.fold.TypedFold.{TypedFold}
 use Rattle.epoch_model.specs.Epochs.{Geometry}
 use Rattle.epoch_model.specs.Machine.{Machine, Event, run, empty_machine}
-use Rattle.epoch_model.specs.Tables.{Folding}
+use Rattle.epoch_model.specs.Tables.{Folding, epochs_shown}
 use Rattle.epoch_model.specs.Driving.{event_of}
 use Rattle.epoch_entry.specs.declared.purpose.Entries.{Entries}
 use Rattle.epoch_entry.specs.Foldings.{per_epoch}
 use Rattle.epoch_entry.specs.Kinds.{Sizes}
 use Rattle.epoch_entry.specs.Purposes.{IsKindFor}
 use Rattle.bucket_cache.specs.Caches.{Cache}
+use Rattle.backing_store.specs.Merged.{epochs_in, shown_row}
+use Rattle.backing_store.specs.SortedRows.{sorted_rows}
+use Rattle.backing_store.specs.Store.{Store}
 use Rattle.final_queries.specs.declared.table.Table.{Table}
+use Rattle.final_queries.specs.declared.table.TableKind.TheVariants.{Group}
 use Rattle.final_queries.specs.GroupTable.{Heading, closed_table}
 use Rattle.stage_plan.specs.declared.group.GroupPlan.{GroupPlan}
 use Rattle.stage_plan.specs.declared.group.GroupWiring.{GroupWiring}
@@ -71,3 +75,13 @@ abbrev pub tables_of : List GroupPlan → List Folding → List Machine → List
 tables_of (group ∷ groups) (f ∷ foldings) (m ∷ machines) = closed_table (heading_of group) f m.closed
     ∷ tables_of groups foldings machines
 tables_of _ _ _ = []
+
+-- the table of a store's rows, whatever they are folded from: a row for each of them, by ascending key
+abbrev pub stored_table : Heading → Bool → Store → Table
+stored_table heading row_per_epoch store = record {
+  name = heading.name;
+  columns = heading.key_names ++ heading.state_names;
+  keys = length heading.key_names;
+  kind = Group heading.class heading.depth (epochs_shown (sum_by (epochs_in row_per_epoch) (sorted_rows store)));
+  rows = map (shown_row row_per_epoch) (sorted_rows store);
+}

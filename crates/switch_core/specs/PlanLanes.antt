@@ -1,5 +1,5 @@
 -- What contracts see of a pipeline.
-use Rattle.std.specs.Prelude.{◌≡◌, ℕ, ◌+◌, ◌*◌, ◌≤◌, Bool, List, [], length, map, nat_lt, slice_get}
+use Rattle.std.specs.Prelude.{◌≡◌, ℕ, ◌+◌, ◌*◌, ◌≤◌, Bool, List, [], ◌∷◌, length, map, nat_lt, slice_get}
 use Rattle.std.specs.Prelude.{sum_by, Option, Some, None, true, ◌==◌, if◌then◌else◌}
 use Rattle.std.specs.List.{All, list_all}
 use Rattle.epoch_model.specs.Machine.{Machine, Event, empty_buckets}
@@ -9,6 +9,7 @@ use Rattle.epoch_entry.specs.declared.any.AnyEpochs.{AnyEpochs}
 use Rattle.epoch_entry.specs.declared.purpose.Entries.{Entries}
 use Rattle.epoch_entry.specs.contracts.any.AnyEpochsEpochKind.TheImpl.{ghosts}
 use Rattle.epoch_entry.specs.Foldings.{merge_bound}
+use Rattle.epoch_entry.specs.Programs.{program_in}
 use Rattle.fold_class.specs.Program.{IsProgramOf}
 use Rattle.query_lang.specs.declared.fold.TypedFold.{TypedFold}
 use Rattle.stage_plan.specs.declared.group.GroupPlan.{GroupPlan}
@@ -17,7 +18,8 @@ use Rattle.stage_plan.specs.Sound.{PlanParts}
 use Rattle.switch_core.specs.FrontParts.{LaneOf}
 use Rattle.switch_core.specs.Lanes.{LaneStands}
 use Rattle.switch_core.specs.LaneEvents.{Parts, parts, MakesAll}
-use Rattle.switch_core.specs.Pipelines.{IsLaneOf, HasRooms, after_events, geometry_of}
+use Rattle.final_queries.specs.declared.table.Table.{Table}
+use Rattle.switch_core.specs.Pipelines.{IsLaneOf, HasRooms, after_events, geometry_of, heading_of, stored_table}
 use Rattle.switch_core.specs.Closing.{held_in, is_drained}
 use Rattle.switch_core.specs.Costs.{evict_cost, merge_cost, sweep_cost}
 use Rattle.switch_core.specs.Rows.{AreFirst, Each, EachFrom}
@@ -45,6 +47,12 @@ folding_at lane = ghosts.folding lane.kind
 -- the lane represents a machine
 abbrev pub StandsFor : LaneView → Machine → Type 0
 StandsFor lane m = LaneStands (ghosts.stands lane.kind) (ghosts.folding lane.kind) lane.cache lane.pipe lane.store m
+
+-- the tables of what the lanes' stores hold, in the order of the groupbys
+abbrev pub stored_tables : List GroupPlan → List LaneView → List Table
+stored_tables (group ∷ groups) (lane ∷ lanes) = stored_table (heading_of group) (folding_at lane).row_per_epoch lane.store
+    ∷ stored_tables groups lanes
+stored_tables _ _ = []
 
 -- the places of each lane's pipe
 abbrev pub places_of : List LaneView → List ℕ
@@ -76,11 +84,16 @@ AreLanesOf entries plan buckets lanes =
 abbrev pub MergesWithin : LaneView → GroupPlan → Type 0
 MergesWithin lane group = (f : TypedFold) → IsProgramOf f group.program → ghosts.merge_bound lane.kind ≤ merge_bound f
 
+-- a lane's entries are made of its groupby's own program, and keep the bound on their merges
+pub record IsMadeFor (lane : LaneView) (group : GroupPlan) : Type 0 where
+  pub program : program_in lane.kind ≡ group.program
+  pub merges : MergesWithin lane group
+
 -- a lane for each groupby of the plan, and room for what is taken of a packet
 pub record IsPipeline (ways : ℕ) (p : PipelineView) (registers key args : List ℕ) : Type 0 where
   pub few_ways : ways ≤ 65536
   pub lanes : AreLanesOf p.entries p.plan p.buckets p.lanes
-  pub merges : Each MergesWithin p.lanes p.plan.groups
+  pub made : Each IsMadeFor p.lanes p.plan.groups
   pub rooms : HasRooms p.plan registers key args
 
 -- a lane makes these events in order

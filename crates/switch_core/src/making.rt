@@ -4,10 +4,11 @@ ghost use Rattle.std.specs.Prelude.{◌≡◌, ◌*◌, ◌<◌, ◌≤◌, leng
 ghost use Rattle.fold_class.specs.Program.{IsProgram, IsProgramOf};
 ghost use Rattle.query_lang.specs.declared.fold.TypedFold.{TypedFold};
 ghost use Rattle.epoch_model.specs.Machine.{empty_machine};
+ghost use Rattle.epoch_entry.specs.Programs.{program_in};
 ghost use Rattle.epoch_entry.specs.Purposes.{IsKindFor};
 ghost use Rattle.switch_core.specs.Rows.{Each};
 ghost use Rattle.switch_core.specs.Pipelines.{empty_machines, geometry_of};
-ghost use Rattle.switch_core.specs.PlanLanes.{AreLanesOf, HavePlaces, MergesWithin, StandsFor};
+ghost use Rattle.switch_core.specs.PlanLanes.{AreLanesOf, HavePlaces, IsMadeFor, MergesWithin, StandsFor};
 
 use crate::lane::Lane;
 use epoch_entry::{AnyEpochs, Entries, EpochKind, entries_are_small, entries_suit_folds};
@@ -35,6 +36,7 @@ fn made_lane<const WAYS: usize>(
     ensures kind { IfOk result (λ lane. (f : TypedFold) → IsProgramOf f group.now.program
         → IsKindFor entries f (⟦<AnyEpochs as EpochKind>⟧.sizes lane.kind) (⟦<AnyEpochs as EpochKind>⟧.folding lane.kind)
         (⟦<AnyEpochs as EpochKind>⟧.open_bound lane.kind) (⟦<AnyEpochs as EpochKind>⟧.absorb_bound lane.kind)) }
+    ensures program { IfOk result (λ lane. program_in lane.kind ≡ group.now.program) }
     ensures merges { IfOk result (λ lane. MergesWithin lane group.now) }
 {
     entries_are_small();
@@ -55,7 +57,7 @@ pub fn made_lanes<const WAYS: usize>(
     requires places { buckets * WAYS ≤ 65536 }
     requires pipe { (0 < pipe_records) × (pipe_records ≤ 65536) }
     ensures lanes { IfOk result (λ lanes. AreLanesOf entries plan.now buckets lanes.items) }
-    ensures merges { IfOk result (λ lanes. Each MergesWithin lanes.items plan.now.groups) }
+    ensures made { IfOk result (λ lanes. Each IsMadeFor lanes.items plan.now.groups) }
     ensures pipe_places { IfOk result (λ lanes. HavePlaces pipe_records lanes.items) }
     ensures stands { IfOk result (λ lanes. Each StandsFor lanes.items
         (empty_machines (geometry_of WAYS buckets) plan.now.groups)) }

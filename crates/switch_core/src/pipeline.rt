@@ -15,9 +15,9 @@ ghost use Rattle.stage_plan.specs.Planned.{plan_bound};
 ghost use Rattle.switch_core.specs.Closing.{held_in};
 ghost use Rattle.switch_core.specs.Costs.{evict_cost};
 ghost use Rattle.switch_core.specs.Pipelines.{empty_machines, event_at, geometry_of, packet_events, tables_of};
-ghost use Rattle.switch_core.specs.PlanLanes.{AreKept, AreLanesOf, AtLane, HavePlaces, MergesWithin, PipelineIsSwept, PipelineMakes};
+ghost use Rattle.switch_core.specs.PlanLanes.{AreKept, AreLanesOf, AtLane, HavePlaces, IsMadeFor, PipelineIsSwept, PipelineMakes};
 ghost use Rattle.switch_core.specs.PlanLanes.{PipelineStands, UpkeepBreaksOff, folding_at, lane_is_drained, lane_is_ready};
-ghost use Rattle.switch_core.specs.PlanLanes.{lane_merge_cost, lane_sweep_cost, lane_upkeep_cost, pipeline_cost, upkeeps_at};
+ghost use Rattle.switch_core.specs.PlanLanes.{lane_merge_cost, lane_sweep_cost, lane_upkeep_cost, pipeline_cost, stored_tables, upkeeps_at};
 
 use crate::front::Merged;
 use crate::lane::Lane;
@@ -265,21 +265,22 @@ impl<const WAYS: usize> Pipeline<WAYS> {
     /// The tables of the closed epochs, one for each groupby in order. The pipeline doesn't change.
     pub fn close(&self) -> Result<Seq<Table>, AllocError>
         requires { list_all lane_is_drained self.now.lanes ≡ true }
-        ensures { IfOk result (λ tables. (machines : List Machine) → PipelineStands self.now machines
+        ensures stored { IfOk result (λ tables. tables ≡ stored_tables self.now.plan.groups self.now.lanes) }
+        ensures closed { IfOk result (λ tables. (machines : List Machine) → PipelineStands self.now machines
             → tables ≡ tables_of self.now.plan.groups (map folding_at self.now.lanes) machines) }
     {
         lane_tables(self.alloc, &self.plan, &self.lanes)
     }
 
-    /// The lane of a groupby. Its entries are of the kind of the groupby's fold for what they are for, so that merging one of
-    /// them takes at most the steps that the fold allows.
+    /// The lane of a groupby. Its entries are made of the groupby's own program, of the kind of its fold for what they are for,
+    /// so that merging one of them takes at most the steps that the fold allows.
     pub fn lane(&self, lane: u32) -> &Lane<AnyEpochs, WAYS>
         requires { lane < length self.now.lanes }
         ensures lane { slice_get self.now.lanes lane ≡ Some result.now }
         ensures kind { (group : GroupPlan) (f : TypedFold) → slice_get self.now.plan.groups lane ≡ Some group → IsProgramOf f group.program
             → IsKindFor self.now.entries f (⟦<AnyEpochs as EpochKind>⟧.sizes result.now.kind) (⟦<AnyEpochs as EpochKind>⟧.folding result.now.kind)
             (⟦<AnyEpochs as EpochKind>⟧.open_bound result.now.kind) (⟦<AnyEpochs as EpochKind>⟧.absorb_bound result.now.kind) }
-        ensures merges { (group : GroupPlan) → slice_get self.now.plan.groups lane ≡ Some group → MergesWithin result.now group }
+        ensures made { (group : GroupPlan) → slice_get self.now.plan.groups lane ≡ Some group → IsMadeFor result.now group }
     {
         &self.lanes[lane as usize]
     }

@@ -8,8 +8,8 @@ ghost use Rattle.epoch_entry.specs.declared.purpose.Entries.{Entries};
 ghost use Rattle.backing_store.specs.Merged.{StoreHolds};
 ghost use Rattle.final_queries.specs.GroupTable.{closed_table};
 ghost use Rattle.switch_core.specs.Rows.{Each};
-ghost use Rattle.switch_core.specs.Pipelines.{heading_of, tables_of};
-ghost use Rattle.switch_core.specs.PlanLanes.{AreLanesOf, StandsFor, folding_at, lane_is_drained};
+ghost use Rattle.switch_core.specs.Pipelines.{heading_of, stored_table, tables_of};
+ghost use Rattle.switch_core.specs.PlanLanes.{AreLanesOf, StandsFor, folding_at, lane_is_drained, stored_tables};
 
 use crate::closing::columns;
 use crate::lane::Lane;
@@ -39,7 +39,8 @@ pub fn held_table(
     row_per_epoch: bool,
 ) -> Result<Table, AllocError>
     requires { length group.now.key_names ≤ 8 }
-    ensures { IfOk result (λ table. (f : Folding) (epochs : List Epoch)
+    ensures stored { IfOk result (λ table. table ≡ stored_table (heading_of group.now) row_per_epoch store.now) }
+    ensures held { IfOk result (λ table. (f : Folding) (epochs : List Epoch)
         → f.row_per_epoch ≡ row_per_epoch → StoreHolds f store.now epochs → table ≡ closed_table (heading_of group.now) f epochs) }
 {
     let name = Text::from_slice(alloc, group.name.as_slice())?;
@@ -65,7 +66,8 @@ pub fn lane_tables<const WAYS: usize>(
 ) -> Result<Seq<Table>, AllocError>
     requires lanes { (entries : Entries) × (buckets : ℕ) × AreLanesOf entries plan.now buckets lanes.now }
     requires drained { list_all lane_is_drained lanes.now ≡ true }
-    ensures { IfOk result (λ tables. (machines : List Machine) → Each StandsFor lanes.now machines
+    ensures stored { IfOk result (λ tables. tables ≡ stored_tables plan.now.groups lanes.now) }
+    ensures closed { IfOk result (λ tables. (machines : List Machine) → Each StandsFor lanes.now machines
         → tables ≡ tables_of plan.now.groups (map folding_at lanes.now) machines) }
 {
     plan.invariant();

@@ -6,7 +6,7 @@ use Rattle.switch_core.specs.PlanLanes.{PipelineView, PipelineStands}
 use Rattle.trace_drive.specs.Clocks.{HasCounted}
 use Rattle.trace_drive.specs.Drives.{coming, end_machines, fault_of, geometry_for, uses_by, words_of}
 use Rattle.trace_drive.specs.Follows.{FollowsBy}
-use Rattle.trace_drive.specs.Turns.{MakesTurns}
+use Rattle.trace_drive.specs.Turns.{Drains, MakesTurns}
 use Rattle.trace_drive.specs.declared.replay.Replay.{Replay}
 use Rattle.trace_drive.specs.declared.schedule.Schedule.{Schedule}
 use Rattle.trace_reader.specs.declared.fault.TraceFault.{TraceFault}
@@ -45,6 +45,20 @@ Advances more old new = (schedule : Schedule) (all : List Packet) (count : ℕ) 
 abbrev pub MakesTheirTurns : {ways : ℕ} → ℕ → Replay ways → Replay ways → Type 0
 MakesTheirTurns {ways} more old new = (schedule : Schedule) (all : List Packet) (count : ℕ) → IsUnderWay schedule all count old
     → MakesTurns ways schedule.refresh schedule.lag (suc count) (words_of (take more (drop count all))) (pipeline_in old) (pipeline_in new)
+
+-- The pipeline made the turns of all packets that were left, and no other events.
+abbrev pub MakesAllTurns : {ways : ℕ} → Replay ways → PipelineView → Type 0
+MakesAllTurns {ways} old new = (schedule : Schedule) (all : List Packet) (count : ℕ) → IsUnderWay schedule all count old
+    → MakesTurns ways schedule.refresh schedule.lag (suc count) (words_of (drop count all)) (pipeline_in old) new
+
+-- It made them, and then was drained.
+abbrev pub EndsInTurns : {ways : ℕ} → Replay ways → PipelineView → Type 0
+EndsInTurns {ways} old new = (last : PipelineView) × MakesAllTurns old last × Drains ways last new
+
+-- Some first packets of a trace were taken, each with its turn, since the pipeline was this one.
+abbrev pub HasTaken : {ways : ℕ} → Schedule → List Packet → PipelineView → Replay ways → Type 0
+HasTaken {ways} schedule all first replay = (count : ℕ) × IsUnderWay schedule all count replay
+    × MakesTurns ways schedule.refresh schedule.lag 1 (words_of (take count all)) first (pipeline_in replay)
 
 -- All packets that were left were taken, which were fewer than this number.
 abbrev pub TakesTheRest : {ways : ℕ} → ℕ → Replay ways → Replay ways → Type 0

@@ -27,3 +27,12 @@ MakesTurns ways refresh lag number [] old new = new ≡ old
 MakesTurns ways refresh lag number (words ∷ packets) old new = (middle : PipelineView)
     × MakesTurn ways words (is_refresh refresh number) (is_refresh lag number) old middle
     × MakesTurns ways refresh lag (suc number) packets middle new
+
+-- After the last packet there is a sweep, and then merges until each pipe is empty, and no other event.
+abbrev pub Drains : ℕ → PipelineView → PipelineView → Type 0
+Drains ways old new = (swept : PipelineView) × PipelineMakes ways (upkeeps_at due.Sweep old.lanes) old swept
+    × PipelineMakes ways (upkeeps_at due.Rest swept.lanes) swept new
+
+-- All packets with these words take their turns, from the first one on, and then the pipeline is drained.
+abbrev pub RunsInTurns : ℕ → ℕ → ℕ → List (List ℕ) → PipelineView → PipelineView → Type 0
+RunsInTurns ways refresh lag packets old new = (last : PipelineView) × MakesTurns ways refresh lag 1 packets old last × Drains ways last new

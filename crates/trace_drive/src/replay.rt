@@ -7,8 +7,9 @@ ghost use Rattle.switch_core.specs.Pipelines.{empty_machines, geometry_of};
 ghost use Rattle.switch_core.specs.PlanLanes.{AreKept, HavePlaces, PipelineStands, lane_is_drained};
 ghost use Rattle.trace_drive.specs.Drives.{coming, end_machines, fault_of, geometry_for, words_of};
 ghost use Rattle.trace_drive.specs.Follows.{FollowsBy, Keeps};
-ghost use Rattle.trace_drive.specs.Replays.{Advances, IsOnItsWay, IsUnderWay, MakesTheirTurns, ReachesTheEnd};
-ghost use Rattle.trace_drive.specs.Replays.{TakesTheRest, fault_in, pipeline_in};
+ghost use Rattle.trace_drive.specs.Replays.{Advances, EndsInTurns, IsOnItsWay, IsUnderWay, MakesAllTurns, MakesTheirTurns};
+ghost use Rattle.trace_drive.specs.Replays.{ReachesTheEnd, TakesTheRest, fault_in, pipeline_in};
+ghost use Rattle.trace_drive.specs.Turns.{Drains, RunsInTurns};
 ghost use Rattle.trace_reader.specs.Faults.{IfRefused};
 
 use crate::clock::Clock;
@@ -41,6 +42,7 @@ fn drain<const WAYS: usize, L: Ledger>(
 ) -> Result<(), AllocError>
     ensures follows { OnOk result ((after : ℕ → Machine) → FollowsBy after pipeline.old
         → FollowsBy (λ i. empty_buckets pipeline.old.buckets (after i)) pipeline.new) }
+    ensures drains { OnOk result (Drains WAYS pipeline.old pipeline.new) }
     ensures empty { OnOk result (AreKept Upkeep.Rest pipeline.new.lanes) }
     ensures keeps { OnOk result (Keeps pipeline.old pipeline.new) }
     ensures steps { steps.old ≤ steps.new }
@@ -93,6 +95,7 @@ impl<'a, const WAYS: usize> Replay<'a, WAYS> {
         ensures next { result ≡ Ok true → Advances 1 self.old self.new }
         ensures turn { result ≡ Ok true → MakesTheirTurns 1 self.old self.new }
         ensures end { result ≡ Ok false → TakesTheRest 1 self.old self.new }
+        ensures still { result ≡ Ok false → pipeline_in self.new ≡ pipeline_in self.old }
         ensures accepted { result ≡ Ok false → fault_in self.old ≡ None }
         ensures fault { OnOk result (fault_in self.new ≡ fault_in self.old) }
         ensures keeps { OnOk result (Keeps (pipeline_in self.old) (pipeline_in self.new)) }
@@ -129,6 +132,7 @@ impl<'a, const WAYS: usize> Replay<'a, WAYS> {
         ensures all { result ≡ Ok true → Advances most self.old self.new }
         ensures turns { result ≡ Ok true → MakesTheirTurns most self.old self.new }
         ensures end { result ≡ Ok false → TakesTheRest most self.old self.new }
+        ensures all_turns { result ≡ Ok false → MakesAllTurns self.old (pipeline_in self.new) }
         ensures accepted { result ≡ Ok false → fault_in self.old ≡ None }
         ensures fault { OnOk result (fault_in self.new ≡ fault_in self.old) }
         ensures keeps { OnOk result (Keeps (pipeline_in self.old) (pipeline_in self.new)) }
@@ -144,12 +148,13 @@ impl<'a, const WAYS: usize> Replay<'a, WAYS> {
         Ok(true)
     }
 
-    /// Takes the packets that are left, and after the last one makes a sweep, and merges until each pipe is empty: the
-    /// pipeline at the trace's end.
+    /// Takes the packets that are left, as `advance` does, and after the last one makes a sweep, and merges until each pipe is
+    /// empty: the pipeline at the trace's end.
     pub fn finish<L: Ledger>(mut self, steps: &mut Steps<L>) -> Result<Pipeline<WAYS>, TraceAnswer>
         requires { IsOnItsWay self }
         ensures accepted { IfOk result (λ pipeline. fault_in self.entry ≡ None) }
         ensures machines { IfOk result (ReachesTheEnd self.entry) }
+        ensures turns { IfOk result (EndsInTurns self.entry) }
         ensures drained { IfOk result (λ pipeline. list_all lane_is_drained pipeline.lanes ≡ true) }
         ensures keeps { IfOk result (Keeps (pipeline_in self.entry)) }
         ensures pipe_places { IfOk result (λ pipeline. (places : ℕ) → HavePlaces places (pipeline_in self.entry).lanes
@@ -185,6 +190,7 @@ pub fn drive<const WAYS: usize, L: Ledger>(
     ensures accepted { IfOk result (λ found. fault_of packets.entry ≡ None) }
     ensures machines { IfOk result
         (λ found. PipelineStands found (end_machines pipeline.entry.plan (geometry_for WAYS schedule) (words_of (coming packets.entry)))) }
+    ensures turns { IfOk result (RunsInTurns WAYS schedule.refresh schedule.lag (words_of (coming packets.entry)) pipeline.entry) }
     ensures drained { IfOk result (λ found. list_all lane_is_drained found.lanes ≡ true) }
     ensures keeps { IfOk result (Keeps pipeline.entry) }
     ensures pipe_places { IfOk result (λ found. (places : ℕ) → HavePlaces places pipeline.entry.lanes

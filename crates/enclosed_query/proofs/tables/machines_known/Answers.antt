@@ -1,17 +1,9 @@
-use Rattle.std.proofs.Common.{refl, ◌∙◌, subst, arith}
+use Rattle.std.proofs.Common.{◌∙◌, subst, arith}
 use Rattle.stage_plan.specs.Sound.{IsSoundPlan}
 use Rattle.switch_core.specs.PlanLanes.{AreLanesOf}
 use Rattle.enclosed_query.specs.AfterEvents.{machines_after}
-use Rattle.enclosed_query.proofs.AfterFacts.{all_may, holds_from}
+use Rattle.enclosed_query.proofs.AfterFacts.{holds_from}
 use Rattle.enclosed_query.proofs.tables.machines_known.Goals as goal
-
-pub returns-clause-may : goal.returns-clause-may
-returns-clause-may g c machines stand =
-    let p = c.args.pipeline.now in
-    all_may p.plan p.buckets (subst IsSoundPlan c.plan.ensures c.invariant-2.ensures) c.closed_tables_give_bounds.ensures 0 0 p.lanes
-    p.plan.groups machines refl
-    (subst (λ entries. AreLanesOf entries p.plan p.buckets p.lanes) c.requires.entries c.invariant.ensures) c.stores_known.ensures stand
-    (c.drained-drained.ensures.done (c.drained-drained.ensures.value ∙ c.requires.drained) machines stand)
 
 pub returns-clause-holds : goal.returns-clause-holds
 returns-clause-holds g c of events room stand i group f t at bounded given found =

@@ -4,7 +4,7 @@ use Rattle.std.proofs.lemmas.Bool.{ltb-true, ltb-false}
 use Rattle.epoch_model.proofs.KeyLists.{by_test}
 use Rattle.backing_store.specs.Store.{IsStore}
 use Rattle.switch_core.proofs.SideBySide.{got_below, same_some}
-use Rattle.enclosed_query.specs.AfterEvents.{HasStoredKeys}
+use Rattle.enclosed_query.specs.AfterEvents.{HasStoredRows}
 use Rattle.enclosed_query.proofs.tables.stores_known.Goals as goal
 
 pub loop-i-preserved : goal.loop-i-preserved
@@ -17,10 +17,10 @@ loop-i-preserved g c n lane below at =
     let same : n ≡ i = omega (arith, below, least) in
     let is : c.lane-lane.result.now ≡ lane = same_some c.lane-lane.result.now lane
     (sym c.lane-lane.ensures.lane ∙ (ap (slice_get c.args.pipeline.now.lanes) (sym same) ∙ at)) in
-    subst HasStoredKeys is (record {
+    subst HasStoredRows is (record {
       store = subst IsStore c.store.ensures c.invariant-in-loop-i.ensures;
-      words =
-          c.invariant.ensures.store.key;
+      words = c.invariant.ensures.store.key;
+      state = c.invariant.ensures.store.state;
     }))
 
 pub returns : goal.returns

@@ -8,6 +8,7 @@ use Rattle.trace_drive.specs.Replays.{pipeline_in}
 use Rattle.trace_drive.specs.declared.answer.RunError.TheVariants.{Memory}
 use Rattle.trace_drive.proofs.Breaking.{err_is, out_of_memory}
 use Rattle.trace_drive.proofs.Ending.{places_kept}
+use Rattle.trace_drive.proofs.ReplayTurns.{turns_to_the_end}
 use Rattle.trace_reader.specs.Faults.{IfRefused}
 use Rattle.query_run.specs.Reports.{MayPrint, Prints}
 use Rattle.query_run.specs.Views.{views_text}
@@ -127,6 +128,19 @@ returns-clause-machines g c =
     let plan = c.in_ok-pipeline.ensures.keeps.plan ∙ (c.in_ok-replay.ensures.keeps.plan ∙ c.in_ok-fresh.ensures.plan) in
     subst (λ plan. PipelineStands c.in_ok-pipeline.pipeline (end_machines plan of (words_of all))) plan
     (c.in_ok-pipeline.ensures.machines c.args.schedule all way.0 way.1)
+
+pub returns-clause-turns : goal.returns-clause-turns
+returns-clause-turns g c =
+    let all = coming c.args.packets in
+    let before = c.in_ok-replay.ensures.turns in
+    let ended = c.in_ok-pipeline.ensures.turns in (
+      c.in_ok-fresh.fresh,
+      c.in_ok-fresh.ensures.stands,
+      ended.0,
+      turns_to_the_end g.row.WAYS c.args.schedule.refresh c.args.schedule.lag before.0 all c.in_ok-fresh.fresh
+          (pipeline_in c.in_ok-replay.replay) ended.0 before.1.within before.2 (ended.1 c.args.schedule all before.0 before.1),
+      ended.2,
+    )
 
 -- pipes keep their places
 pub returns-clause-pipe_places : goal.returns-clause-pipe_places

@@ -19,7 +19,7 @@ write_report-requires g c =
     let planned = subst IsSoundPlan c.plan.ensures c.invariant-2.ensures in
     let lanes = subst (λ e. AreLanesOf e p.plan p.buckets p.lanes) c.requires.entries c.invariant.ensures in
     record {
-      may_print = subst (g.R.Report.may_print c.args.report.now) (sym (c.in_ok-tables.ensures (end_machines p.plan e.0 e.1) e.4))
+      may_print = subst (g.R.Report.may_print c.args.report.now) (sym (c.in_ok-tables.ensures.closed (end_machines p.plan e.0 e.1) e.4))
           (c.requires.may_print p.buckets p.lanes e.0 e.1 planned lanes e.2 e.3);
     }
 
@@ -45,7 +45,7 @@ returns-clause-written g c =
     (λ written text of packets prints room whole stands.
     subst (Appends old new)
     (ap (λ first. first ++ g.R.Report.printed report c.in_ok-tables.tables) c.new.ensures
-    ∙ (ap (g.R.Report.printed report) (c.in_ok-tables.ensures (end_machines p.plan of packets) stands)
+    ∙ (ap (g.R.Report.printed report) (c.in_ok-tables.ensures.closed (end_machines p.plan of packets) stands)
     ∙ prints.at_ends p.buckets p.lanes of packets planned lanes room whole))
     written)
     c.write_report.ensures.written
@@ -62,7 +62,7 @@ returns-clause-breaks_off g c =
     (λ answer broke text of packets prints room whole stands.
     subst (λ written. BreaksOff g.O.Sink.taken g.O.Sink.faults written None old new answer)
     (ap (λ first. first ++ g.R.Report.printed report c.in_ok-tables.tables) c.new.ensures
-    ∙ (ap (g.R.Report.printed report) (c.in_ok-tables.ensures (end_machines p.plan of packets) stands)
+    ∙ (ap (g.R.Report.printed report) (c.in_ok-tables.ensures.closed (end_machines p.plan of packets) stands)
     ∙ prints.at_ends p.buckets p.lanes of packets planned lanes room whole))
     broke)
     c.write_report.ensures.breaks_off

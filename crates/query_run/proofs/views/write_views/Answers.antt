@@ -1,5 +1,6 @@
 use Rattle.std.proofs.Common.{◌≡◌, ℕ, ◌+◌, ◌<◌, ◌≤◌, ◌-◌, List, Some, Ok, length, refl, sym, ap, ◌∙◌, subst, arith, lit<}
 use Rattle.std.proofs.KnownBytes.{Appends-nil}
+use Rattle.std.proofs.Math.Seq.{take-length}
 use Rattle.std.specs.Io.KnownBytes.{Appends}
 use Rattle.epoch_model.specs.Epochs.{Geometry}
 use Rattle.switch_core.specs.PlanLanes.{PipelineView}
@@ -8,7 +9,9 @@ use Rattle.trace_drive.specs.Drives.{coming, fault_of, geometry_for, words_of}
 use Rattle.trace_drive.specs.Follows.{Keeps}
 use Rattle.trace_drive.specs.Replays.{pipeline_in}
 use Rattle.trace_drive.proofs.Breaking.{err_is}
+use Rattle.trace_drive.specs.Turns.{MakesTurns}
 use Rattle.trace_drive.proofs.Following.{keeps_along}
+use Rattle.trace_drive.proofs.ReplayTurns.{turns_further, turns_to_the_end}
 use Rattle.trace_reader.specs.Faults.{IfRefused}
 use Rattle.query_run.specs.Reports.{MayPrint, Prints}
 use Rattle.query_run.specs.Views.{IsAsFarAs, views_text}
@@ -24,12 +27,16 @@ returns-then-every-eq0-clause-written g c text prints =
     subst (Appends bytes bytes) (sym (none_asked (text (geometry_for g.row.WAYS c.args.schedule)) c.args.every all (length all) none))
     (Appends-nil bytes)
 
+pub returns-then-every-eq0-clause-turns : goal.returns-then-every-eq0-clause-turns
+returns-then-every-eq0-clause-turns g c = (0, c.new-replay.ensures.under_way, c.new-replay.ensures.pipeline)
+
 pub views-init : goal.views-init
 views-init g c =
     let some : 0 < c.args.every = omega arith in
     let bytes = g.O.Sink.taken c.args.out.now in
     record {
       way = c.new-replay.ensures.under_way;
+      turns = c.new-replay.ensures.pipeline;
       multiple = first_multiple c.args.every some;
       fault = c.new-replay.ensures.fault;
       keeps = subst (λ (p : PipelineView). Keeps c.args.pipeline p) (sym c.new-replay.ensures.pipeline)
@@ -101,6 +108,9 @@ views-preserved g c =
     let plan = ap (λ (p : PipelineView). p.plan) c.pipeline.ensures ∙ (done.keeps.plan ∙ was.keeps.plan) in
     record {
       way = way;
+      turns = turns_further g.row.WAYS c.args.schedule.refresh c.args.schedule.lag c.views.number c.args.every all c.args.pipeline
+          (pipeline_in c.views.replay) (pipeline_in c.advance.new.self) was.way.within was.turns
+          (done.turns (ap Ok c.if-branch.true) c.args.schedule all c.views.number was.way);
       multiple = next_multiple c.args.every c.views.number was.multiple;
       fault = done.fault ∙ was.fault;
       keeps = keeps_along c.args.pipeline (pipeline_in c.views.replay) (pipeline_in c.advance.new.self) was.keeps done.keeps;
@@ -151,3 +161,18 @@ pub returns-clause-under_way : goal.returns-clause-under_way
 returns-clause-under_way g c =
     let all = coming c.args.packets in
     (length all, (c.in_ok-advance.ensures.end (ap Ok c.if-branch.false) c.args.schedule all c.views.number c.views.invariant.way).1)
+
+pub returns-clause-turns : goal.returns-clause-turns
+returns-clause-turns g c =
+    let all = coming c.args.packets in
+    let schedule = c.args.schedule in
+    let was = c.views.invariant in
+    let done = c.in_ok-advance.ensures in
+    let whole = turns_to_the_end g.row.WAYS schedule.refresh schedule.lag c.views.number all c.args.pipeline (pipeline_in c.views.replay)
+    (pipeline_in c.advance.new.self) was.way.within was.turns
+    (done.all_turns (ap Ok c.if-branch.false) schedule all c.views.number was.way) in (
+      length all,
+      (done.end (ap Ok c.if-branch.false) schedule all c.views.number was.way).1,
+      subst (λ ps. MakesTurns g.row.WAYS schedule.refresh schedule.lag 1 (words_of ps) c.args.pipeline (pipeline_in c.advance.new.self))
+          (sym (take-length all)) whole,
+    )

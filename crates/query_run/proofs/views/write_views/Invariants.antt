@@ -1,8 +1,9 @@
-use Rattle.std.proofs.Common.{◌≡◌, ◌≤◌, ◌-◌, ◌%◌, ℕ, List, length}
+use Rattle.std.proofs.Common.{◌≡◌, ◌≤◌, ◌-◌, ◌%◌, ℕ, List, length, take}
 use Rattle.std.specs.Io.KnownBytes.{Appends}
 use Rattle.trace_drive.specs.Drives.{coming, fault_of, geometry_for, words_of}
 use Rattle.trace_drive.specs.Follows.{Keeps}
 use Rattle.trace_drive.specs.Replays.{IsUnderWay, fault_in, pipeline_in}
+use Rattle.trace_drive.specs.Turns.{MakesTurns}
 use Rattle.epoch_model.specs.Epochs.{Geometry}
 use Rattle.query_run.specs.Reports.{Prints}
 use Rattle.query_run.specs.Views.{views_up_to}
@@ -12,6 +13,8 @@ use Rattle.query_run.proofs.views.write_views.Given as goal
 abbrev pub invariant-views : goal.invariant-views
 invariant-views g l = record {
   way : IsUnderWay l.fn.schedule (coming l.fn.packets) l.number l.replay;
+  turns : MakesTurns g.row.WAYS l.fn.schedule.refresh l.fn.schedule.lag 1 (words_of (take l.number (coming l.fn.packets))) l.fn.pipeline
+      (pipeline_in l.replay);
   multiple : l.number % l.every ≡ 0;
   fault : fault_in l.replay ≡ fault_of l.fn.packets;
   keeps : Keeps l.fn.pipeline (pipeline_in l.replay);

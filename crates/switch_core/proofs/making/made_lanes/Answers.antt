@@ -7,7 +7,7 @@ use Rattle.stage_plan.specs.declared.group.GroupPlan.{GroupPlan}
 use Rattle.stage_plan.specs.Planned.{wiring_at}
 use Rattle.switch_core.specs.Rows.{Each, EachFrom}
 use Rattle.switch_core.specs.Pipelines.{IsLaneOf, empty_machines, geometry_of}
-use Rattle.switch_core.specs.PlanLanes.{HavePlaces, LaneView, MergesWithin, StandsFor}
+use Rattle.switch_core.specs.PlanLanes.{HavePlaces, LaneView, IsMadeFor, StandsFor}
 use Rattle.switch_core.proofs.SideBySide.{got_below, each_long}
 use Rattle.switch_core.proofs.LanesMade.{each_push, take_next, empties_push, group_sound, lane_made}
 use Rattle.switch_core.proofs.making.made_lanes.Goals as goal
@@ -51,9 +51,9 @@ loop-i-preserved g c =
           (subst (λ gs. EachFrom R 0 (lanes ++ lane ∷ []) gs) (sym more)
           (each_push R 0 lanes (take i plan.groups) lane group c.loop-i.invariant.lanes
           (λ n q. let is : i ≡ n = omega arith in subst (λ k. R k lane group) is own)));
-      merges = subst (λ ls. Each MergesWithin ls (take (i + 1) plan.groups)) (sym pushed)
-          (subst (λ gs. Each MergesWithin (lanes ++ lane ∷ []) gs) (sym more)
-          (each_push (λ n. MergesWithin) 0 lanes (take i plan.groups) lane group c.loop-i.invariant.merges (λ n q. made.merges)));
+      made = subst (λ ls. Each IsMadeFor ls (take (i + 1) plan.groups)) (sym pushed)
+          (subst (λ gs. Each IsMadeFor (lanes ++ lane ∷ []) gs) (sym more)
+          (each_push (λ n. IsMadeFor) 0 lanes (take i plan.groups) lane group c.loop-i.invariant.made (λ n q. record { program = made.program; merges = made.merges })));
       pipe_places = subst (HavePlaces c.args.pipe_records) (sym pushed)
           (All-append has_places lanes (lane ∷ []) c.loop-i.invariant.pipe_places
           (All-cons has_places lane [] made.pipe_places (All-nil has_places)));

@@ -3,7 +3,7 @@ use Rattle.epoch_entry.specs.contracts.any.AnyEpochsEpochKind.TheImpl.{ghosts}
 use Rattle.stage_plan.specs.Planned.{wiring_at}
 use Rattle.switch_core.specs.Rows.{Each, EachFrom}
 use Rattle.switch_core.specs.Pipelines.{IsLaneOf, empty_machines, geometry_of}
-use Rattle.switch_core.specs.PlanLanes.{HavePlaces, MergesWithin, StandsFor}
+use Rattle.switch_core.specs.PlanLanes.{HavePlaces, IsMadeFor, StandsFor}
 use Rattle.switch_core.proofs.making.made_lanes.Given as goal
 
 -- the lanes of the groupbys so far
@@ -11,7 +11,7 @@ abbrev pub invariant-loop-i : goal.invariant-loop-i
 invariant-loop-i g l = record {
   lanes : EachFrom (λ n lane group. IsLaneOf l.entries l.buckets lane.cache (ghosts.sizes lane.kind) (ghosts.folding lane.kind)
       (ghosts.open_bound lane.kind) (ghosts.absorb_bound lane.kind) group (wiring_at l.plan n)) 0 l.lanes.items (take l.i l.plan.groups);
-  merges : Each MergesWithin l.lanes.items (take l.i l.plan.groups);
+  made : Each IsMadeFor l.lanes.items (take l.i l.plan.groups);
   pipe_places : HavePlaces l.pipe_records l.lanes.items;
   stands : Each StandsFor l.lanes.items (empty_machines (geometry_of g.row.WAYS l.buckets) (take l.i l.plan.groups));
 }

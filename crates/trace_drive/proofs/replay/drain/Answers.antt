@@ -4,6 +4,7 @@ use Rattle.epoch_model.specs.Machine.{Machine, empty_buckets}
 use Rattle.switch_core.specs.PlanLanes.{PipelineMakes, upkeeps_at}
 use Rattle.switch_core.specs.declared.upkeep.Upkeep.TheVariants as due
 use Rattle.trace_drive.specs.Follows.{FollowsBy, Keeps}
+use Rattle.trace_drive.specs.Turns.{Drains}
 use Rattle.trace_drive.proofs.Following.{keeps_along, makes_keeps, on_ok, sweep_follows, upkeep_follows}
 use Rattle.trace_drive.proofs.replay.drain.Goals as goal
 
@@ -28,3 +29,10 @@ returns-clause-keeps g c =
     (λ made. keeps_along old swept new (makes_keeps g.row.WAYS (upkeeps_at due.Sweep old.lanes) old swept c.in_ok-sweep.ensures.makes)
     (makes_keeps g.row.WAYS (upkeeps_at due.Rest swept.lanes) swept new made))
     c.keep_up.ensures.makes
+
+pub returns-clause-drains : goal.returns-clause-drains
+returns-clause-drains g c =
+    let swept = c.sweep.new.self in
+    let new = c.keep_up.new.self in
+    on_ok (PipelineMakes g.row.WAYS (upkeeps_at due.Rest swept.lanes) swept new) (Drains g.row.WAYS c.args.pipeline.now new)
+    c.keep_up.result (λ made. (swept, c.in_ok-sweep.ensures.makes, made)) c.keep_up.ensures.makes

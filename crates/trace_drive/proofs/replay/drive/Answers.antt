@@ -1,6 +1,7 @@
 use Rattle.std.proofs.Common.{◌∙◌, ap, subst, sym}
-use Rattle.switch_core.specs.PlanLanes.{HavePlaces, PipelineStands}
+use Rattle.switch_core.specs.PlanLanes.{HavePlaces, PipelineStands, PipelineView}
 use Rattle.trace_drive.specs.Drives.{coming, end_machines, geometry_for, words_of}
+use Rattle.trace_drive.specs.Turns.{MakesTurns}
 use Rattle.trace_drive.proofs.replay.drive.Goals as goal
 
 pub returns-clause-machines : goal.returns-clause-machines
@@ -13,3 +14,13 @@ returns-clause-machines g c =
 pub returns-clause-pipe_places : goal.returns-clause-pipe_places
 returns-clause-pipe_places g c places have =
     c.in_ok-found.ensures.pipe_places places (subst (λ p. HavePlaces places p.lanes) (sym c.new-replay.ensures.pipeline) have)
+
+pub returns-clause-turns : goal.returns-clause-turns
+returns-clause-turns g c =
+    let all = coming c.args.packets in
+    let ended = c.in_ok-found.ensures.turns in (
+      ended.0,
+      subst (λ (first : PipelineView). MakesTurns g.row.WAYS c.args.schedule.refresh c.args.schedule.lag 1 (words_of all) first ended.0)
+          c.new-replay.ensures.pipeline (ended.1 c.args.schedule all 0 c.new-replay.ensures.under_way),
+      ended.2,
+    )

@@ -6,6 +6,7 @@ use Rattle.epoch_entry.proofs.any.AnyEpochs.for_entries.Goals as goal
 
 pub returns-in-Linear : goal.returns-in-Linear
 returns-in-Linear c = record {
+  program = c.of-in-Linear.ensures.program;
   kind = λ f is.
       let k = c.of-in-Linear.result in
       for_bounds f (ghosts.sizes k) (ghosts.folding k) (ghosts.open_bound k) (ghosts.absorb_bound k) c.args.entries c.args.program Linear is
@@ -15,6 +16,7 @@ returns-in-Linear c = record {
 
 pub returns-in-Other : goal.returns-in-Other
 returns-in-Other c = record {
+  program = c.of-in-Other.ensures.program;
   kind = λ f is.
       let p = c.of-in-Other.result.program in
       for_bounds f (bounds_sizes p) (bounds_folding p) (bounds_open p) (bounds_absorb p) c.args.entries c.args.program Other is

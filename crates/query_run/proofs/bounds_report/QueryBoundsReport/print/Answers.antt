@@ -14,10 +14,10 @@ pub returns-clause-ok : goal.returns-clause-ok
 returns-clause-ok g c =
     subst (λ groups. OnOk c.write_enclosed.result (TakesAllBut (g.O.Sink.taken c.args.out.now) (g.O.Sink.taken c.write_enclosed.new.out)
     c.write_enclosed.new.text (c.args.text.now ++ enclosed_print c.args.self.now.typed groups)))
-    c.in_ok-groups.ensures c.write_enclosed.ensures.ok
+    c.in_ok-groups.ensures.made c.write_enclosed.ensures.ok
 
 pub returns-clause-err : goal.returns-clause-err
 returns-clause-err g c =
     subst (λ groups. OnErr c.write_enclosed.result (TakesFront (g.O.Sink.taken c.args.out.now) (g.O.Sink.taken c.write_enclosed.new.out)
     (c.args.text.now ++ enclosed_print c.args.self.now.typed groups)))
-    c.in_ok-groups.ensures c.write_enclosed.ensures.err
+    c.in_ok-groups.ensures.made c.write_enclosed.ensures.err

@@ -22,7 +22,7 @@ returns g c m s =
     let held = all_held f old.store m (none_piped stands cache pipe m stood.front none) stood.kept in
     let each : f.row_per_epoch ≡ c.row_per_epoch.result = sym
     (c.row_per_epoch.ensures ∙ ap (λ k. (g.K.EpochKind.folding k).row_per_epoch) c.kind.ensures) in
-    let shown = c.in_ok-shown.ensures f m.closed each held in
+    let shown = c.in_ok-shown.ensures.held f m.closed each held in
     let heading : Heading = record {
       name = c.args.name;
       key_names = c.args.key_names;

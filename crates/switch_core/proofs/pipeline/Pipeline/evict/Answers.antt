@@ -3,9 +3,9 @@ use Rattle.std.specs.Prelude.{slice_get}
 use Rattle.epoch_model.specs.Machine.{Evict}
 use Rattle.switch_core.specs.Rows.{Each}
 use Rattle.switch_core.specs.Pipelines.{event_at}
-use Rattle.switch_core.specs.PlanLanes.{AreLanesOf, LaneMakes, LanesMake, MergesWithin, PipelineMakes, PipelineView}
+use Rattle.switch_core.specs.PlanLanes.{AreLanesOf, LaneMakes, LanesMake, IsMadeFor, PipelineMakes, PipelineView}
 use Rattle.switch_core.proofs.LaneFacts.{whole_written}
-use Rattle.switch_core.proofs.PipelineSteps.{makes_sizes, lanes_kept, merges_kept, lanes_many, pipeline_makes}
+use Rattle.switch_core.proofs.PipelineSteps.{makes_sizes, lanes_kept, made_kept, lanes_many, pipeline_makes}
 use Rattle.switch_core.proofs.pipeline.Pipeline.evict.Goals as goal
 
 pub evict_at-requires : goal.evict_at-requires
@@ -39,14 +39,14 @@ invariant_of-self g c =
     lanes_kept (λ n. LaneMakes g.row.WAYS (events n)) (λ n a b m. makes_sizes g.row.WAYS (events n) a b m)
     p.entries p.plan p.buckets 0 c.deref_mut.result.now new p.plan.groups c.evict_at.ensures.makes
     (subst (λ x. AreLanesOf p.entries p.plan p.buckets x) (sym c.deref_mut.ensures.value) c.self.invariant.lanes) in
-    let bounded : Each MergesWithin new p.plan.groups =
-    merges_kept (λ n. LaneMakes g.row.WAYS (events n)) (λ n a b m. makes_sizes g.row.WAYS (events n) a b m)
+    let bounded : Each IsMadeFor new p.plan.groups =
+    made_kept (λ n. LaneMakes g.row.WAYS (events n)) (λ n a b m. makes_sizes g.row.WAYS (events n) a b m)
     0 c.deref_mut.result.now new p.plan.groups c.evict_at.ensures.makes
-    (subst (λ x. Each MergesWithin x p.plan.groups) (sym c.deref_mut.ensures.value) c.self.invariant.merges) in
+    (subst (λ x. Each IsMadeFor x p.plan.groups) (sym c.deref_mut.ensures.value) c.self.invariant.made) in
     record {
       lanes = subst (λ x. AreLanesOf p.entries p.plan p.buckets x) (sym whole) kept;
-      merges = subst
-          (λ x. Each MergesWithin x p.plan.groups) (sym whole) bounded;
+      made = subst
+          (λ x. Each IsMadeFor x p.plan.groups) (sym whole) bounded;
       rooms = c.self.invariant.rooms;
       few_ways = c.self.invariant.few_ways;
     }

@@ -3,10 +3,10 @@ use Rattle.std.proofs.Common.{◌≡◌, ◌≤◌, ◌+◌, ◌++◌, ℕ, List
 use Rattle.std.specs.Prelude.{sum_by}
 use Rattle.epoch_model.specs.Machine.{Event}
 use Rattle.switch_core.specs.Rows.{Each}
-use Rattle.switch_core.specs.PlanLanes.{AreKept, AreLanesOf, LaneMakes, LanesBreakOff, LanesMake, MergesWithin, PipelineMakes, PipelineView}
+use Rattle.switch_core.specs.PlanLanes.{AreKept, AreLanesOf, LaneMakes, LanesBreakOff, LanesMake, IsMadeFor, PipelineMakes, PipelineView}
 use Rattle.switch_core.specs.PlanLanes.{UpkeepBreaksOff, lane_upkeep_cost, upkeeps_at, upkeeps_until}
 use Rattle.switch_core.proofs.LaneFacts.{whole_written, either_way, on_ok, on_err}
-use Rattle.switch_core.proofs.PipelineSteps.{makes_sizes, lanes_kept, merges_kept, pipeline_makes}
+use Rattle.switch_core.proofs.PipelineSteps.{makes_sizes, lanes_kept, made_kept, pipeline_makes}
 use Rattle.switch_core.proofs.pipeline.Pipeline.keep_up.Goals as goal
 
 pub invariant_of-self : goal.invariant_of-self
@@ -18,28 +18,28 @@ invariant_of-self g c =
     whole_written new (drop (length new) p.lanes.items) p.lanes.len (c.keep_lanes.auto.lanes ∙ c.deref_mut.ensures.len) in
     let are : AreLanesOf p.entries p.plan p.buckets was = subst (AreLanesOf p.entries p.plan p.buckets)
     (sym c.deref_mut.ensures.value) c.self.invariant.lanes in
-    let within : Each MergesWithin was p.plan.groups = subst (λ x. Each MergesWithin x p.plan.groups)
-    (sym c.deref_mut.ensures.value) c.self.invariant.merges in
+    let within : Each IsMadeFor was p.plan.groups = subst (λ x. Each IsMadeFor x p.plan.groups)
+    (sym c.deref_mut.ensures.value) c.self.invariant.made in
     let all = upkeeps_at c.args.upkeep was in
     let kept : (events : ℕ → List Event) → LanesMake g.row.WAYS events was new → AreLanesOf p.entries p.plan p.buckets new =
     λ events made. lanes_kept (λ n. LaneMakes g.row.WAYS (events n))
     (λ n a b m. makes_sizes g.row.WAYS (events n) a b m) p.entries p.plan p.buckets 0 was new p.plan.groups made are in
-    let bounded : (events : ℕ → List Event) → LanesMake g.row.WAYS events was new → Each MergesWithin new p.plan.groups =
-    λ events made. merges_kept (λ n. LaneMakes g.row.WAYS (events n))
+    let bounded : (events : ℕ → List Event) → LanesMake g.row.WAYS events was new → Each IsMadeFor new p.plan.groups =
+    λ events made. made_kept (λ n. LaneMakes g.row.WAYS (events n))
     (λ n a b m. makes_sizes g.row.WAYS (events n) a b m) 0 was new p.plan.groups made within in
     let lanes : AreLanesOf p.entries p.plan p.buckets new =
     either_way (LanesMake g.row.WAYS all was new) (LanesBreakOff g.row.WAYS c.args.upkeep was new)
     (AreLanesOf p.entries p.plan p.buckets new) c.keep_lanes.result
     c.keep_lanes.ensures.makes c.keep_lanes.ensures.breaks_off (kept all)
     (λ broke. kept (upkeeps_until c.args.upkeep was broke.0 broke.1) broke.3) in
-    let merges : Each MergesWithin new p.plan.groups =
+    let made : Each IsMadeFor new p.plan.groups =
     either_way (LanesMake g.row.WAYS all was new) (LanesBreakOff g.row.WAYS c.args.upkeep was new)
-    (Each MergesWithin new p.plan.groups) c.keep_lanes.result
+    (Each IsMadeFor new p.plan.groups) c.keep_lanes.result
     c.keep_lanes.ensures.makes c.keep_lanes.ensures.breaks_off (bounded all)
     (λ broke. bounded (upkeeps_until c.args.upkeep was broke.0 broke.1) broke.3) in
     record {
       lanes = subst (AreLanesOf p.entries p.plan p.buckets) (sym whole) lanes;
-      merges = subst (λ x. Each MergesWithin x p.plan.groups) (sym whole) merges;
+      made = subst (λ x. Each IsMadeFor x p.plan.groups) (sym whole) made;
       rooms = c.self.invariant.rooms;
       few_ways = c.self.invariant.few_ways;
     }

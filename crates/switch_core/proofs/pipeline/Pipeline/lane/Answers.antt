@@ -3,7 +3,7 @@ use Rattle.std.specs.Prelude.{slice_get}
 use Rattle.epoch_entry.specs.Purposes.{IsKindFor}
 use Rattle.epoch_entry.specs.contracts.any.AnyEpochsEpochKind.TheImpl.{ghosts}
 use Rattle.switch_core.specs.PlanLanes.{LaneView, PipelineView}
-use Rattle.switch_core.proofs.PipelineSteps.{kind_at, merges_at}
+use Rattle.switch_core.proofs.PipelineSteps.{kind_at, made_at}
 use Rattle.switch_core.proofs.SideBySide.{got_here}
 use Rattle.switch_core.proofs.pipeline.Pipeline.lane.Goals as goal
 
@@ -20,13 +20,13 @@ returns-clause-kind g c group f at is =
     subst (λ (v : PipelineView). IsKindFor v.entries f (ghosts.sizes lane.kind) (ghosts.folding lane.kind) (ghosts.open_bound lane.kind)
     (ghosts.absorb_bound lane.kind)) c.self.view_is own
 
-pub returns-clause-merges : goal.returns-clause-merges
-returns-clause-merges g c group at =
+pub returns-clause-made : goal.returns-clause-made
+returns-clause-made g c group at =
     let p = c.self.inside in
     let lane : LaneView = c.index.result.now in
     let view : PipelineView = record { plan = p.plan; entries = p.entries; buckets = p.buckets; lanes = p.lanes.items } in
     let long = ap (λ (v : PipelineView). length v.lanes) c.self.view_is in
     let here = got_here p.lanes.items c.args.lane c.index.result.now (let within = c.requires in omega arith) ∙ ap Some
     (sym c.index.ensures) in
-    merges_at view c.args.lane lane group c.self.invariant.merges here
+    made_at view c.args.lane lane group c.self.invariant.made here
     (subst (λ (v : PipelineView). slice_get v.plan.groups c.args.lane ≡ Some group) (sym c.self.view_is) at)

@@ -2,9 +2,9 @@ use Rattle.std.proofs.Common.{◌≡◌, ◌++◌, length, take, drop, sym, ◌�
 use Rattle.epoch_model.specs.Machine.{Merge}
 use Rattle.switch_core.specs.Rows.{Each}
 use Rattle.switch_core.specs.Pipelines.{event_at}
-use Rattle.switch_core.specs.PlanLanes.{AreLanesOf, LaneMakes, LanesMake, MergesWithin, PipelineMakes, PipelineView}
+use Rattle.switch_core.specs.PlanLanes.{AreLanesOf, LaneMakes, LanesMake, IsMadeFor, PipelineMakes, PipelineView}
 use Rattle.switch_core.proofs.LaneFacts.{whole_written, either_way, on_ok}
-use Rattle.switch_core.proofs.PipelineSteps.{makes_sizes, lanes_kept, merges_kept, pipeline_makes}
+use Rattle.switch_core.proofs.PipelineSteps.{makes_sizes, lanes_kept, made_kept, pipeline_makes}
 use Rattle.switch_core.proofs.pipeline.Pipeline.merge.Goals as goal
 
 pub invariant_of-self : goal.invariant_of-self
@@ -22,18 +22,18 @@ invariant_of-self g c =
     (λ made. lanes_kept (λ n. LaneMakes g.row.WAYS (events n))
     (λ n a b m. makes_sizes g.row.WAYS (events n) a b m) p.entries p.plan p.buckets 0 c.deref_mut.result.now new p.plan.groups made was)
     (λ same. subst (AreLanesOf p.entries p.plan p.buckets) (sym same) was) in
-    let bounded_was : Each MergesWithin c.deref_mut.result.now p.plan.groups = subst (λ x. Each MergesWithin x p.plan.groups)
-    (sym c.deref_mut.ensures.value) c.self.invariant.merges in
-    let bounded : Each MergesWithin new p.plan.groups =
+    let bounded_was : Each IsMadeFor c.deref_mut.result.now p.plan.groups = subst (λ x. Each IsMadeFor x p.plan.groups)
+    (sym c.deref_mut.ensures.value) c.self.invariant.made in
+    let bounded : Each IsMadeFor new p.plan.groups =
     either_way (LanesMake g.row.WAYS events c.deref_mut.result.now new) (new ≡ c.deref_mut.result.now)
-    (Each MergesWithin new p.plan.groups) c.merge_at.result c.merge_at.ensures.makes c.merge_at.ensures.err
-    (λ made. merges_kept (λ n. LaneMakes g.row.WAYS (events n))
+    (Each IsMadeFor new p.plan.groups) c.merge_at.result c.merge_at.ensures.makes c.merge_at.ensures.err
+    (λ made. made_kept (λ n. LaneMakes g.row.WAYS (events n))
     (λ n a b m. makes_sizes g.row.WAYS (events n) a b m) 0 c.deref_mut.result.now new p.plan.groups made bounded_was)
-    (λ same. subst (λ ls. Each MergesWithin ls p.plan.groups) (sym same) bounded_was) in
+    (λ same. subst (λ ls. Each IsMadeFor ls p.plan.groups) (sym same) bounded_was) in
     record {
       lanes = subst (λ x. AreLanesOf p.entries p.plan p.buckets x) (sym whole) kept;
-      merges = subst
-          (λ x. Each MergesWithin x p.plan.groups) (sym whole) bounded;
+      made = subst
+          (λ x. Each IsMadeFor x p.plan.groups) (sym whole) bounded;
       rooms = c.self.invariant.rooms;
       few_ways = c.self.invariant.few_ways;
     }

@@ -6,11 +6,11 @@ use Rattle.stage_plan.specs.Planned.{plan_bound, row_of, wiring_at}
 use Rattle.stage_plan.specs.Registers.{taken_at}
 use Rattle.switch_core.specs.Rows.{Each}
 use Rattle.switch_core.specs.Pipelines.{packet_events}
-use Rattle.switch_core.specs.PlanLanes.{AreLanesOf, LaneMakes, LanesMake, MergesWithin, PipelineMakes, PipelineView, lane_cost}
+use Rattle.switch_core.specs.PlanLanes.{AreLanesOf, LaneMakes, LanesMake, IsMadeFor, PipelineMakes, PipelineView, lane_cost}
 use Rattle.switch_core.specs.PlanLanes.{pipeline_cost}
 use Rattle.switch_core.proofs.LaneFacts.{whole_written}
 use Rattle.switch_core.proofs.PacketBound.{packet_within}
-use Rattle.switch_core.proofs.PipelineSteps.{makes_sizes, lanes_kept, merges_kept, pipeline_makes}
+use Rattle.switch_core.proofs.PipelineSteps.{makes_sizes, lanes_kept, made_kept, pipeline_makes}
 use Rattle.switch_core.proofs.pipeline.Pipeline.packet.Goals as goal
 
 pub registers_of-registers-requires-clause-row : goal.registers_of-registers-requires-clause-row
@@ -82,18 +82,18 @@ invariant_of-self g c =
     (λ n a b m. makes_sizes g.row.WAYS (event_of (taken_at (wiring_at p.plan n) c.registers_of-registers.result.now)) a b m)
     p.entries p.plan p.buckets 0 c.deref_mut-2.result.now new p.plan.groups made
     (subst (λ x. AreLanesOf p.entries p.plan p.buckets x) (sym c.deref_mut-2.ensures.value) c.self.invariant.lanes) in
-    let bounded : Each MergesWithin new p.plan.groups =
-    merges_kept (λ n. LaneMakes g.row.WAYS (event_of (taken_at (wiring_at p.plan n) c.registers_of-registers.result.now)))
+    let bounded : Each IsMadeFor new p.plan.groups =
+    made_kept (λ n. LaneMakes g.row.WAYS (event_of (taken_at (wiring_at p.plan n) c.registers_of-registers.result.now)))
     (λ n a b m. makes_sizes g.row.WAYS (event_of (taken_at (wiring_at p.plan n) c.registers_of-registers.result.now)) a b m)
     0 c.deref_mut-2.result.now new p.plan.groups made
-    (subst (λ x. Each MergesWithin x p.plan.groups) (sym c.deref_mut-2.ensures.value) c.self.invariant.merges) in
+    (subst (λ x. Each IsMadeFor x p.plan.groups) (sym c.deref_mut-2.ensures.value) c.self.invariant.made) in
     let filled = c.fill_registers.new.registers in
     let key = c.packet_lanes.new.key in
     let args = c.packet_lanes.new.args in
     record {
       few_ways = c.self.invariant.few_ways;
       lanes = subst (λ x. AreLanesOf p.entries p.plan p.buckets x) (sym whole) kept;
-      merges = subst (λ x. Each MergesWithin x p.plan.groups) (sym whole) bounded;
+      made = subst (λ x. Each IsMadeFor x p.plan.groups) (sym whole) bounded;
       rooms = record {
         for_row = ap length (whole_written filled (drop (length filled) p.registers.items) p.registers.len
             (c.fill_registers.auto.registers ∙ c.deref_mut.ensures.len))

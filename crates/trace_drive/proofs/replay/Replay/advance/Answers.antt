@@ -3,7 +3,7 @@ use Rattle.std.proofs.Common.{◌+◌, ◌≡◌, Ok, ap, ◌∙◌, arith, refl
 use Rattle.trace_drive.specs.Replays.{Advances, MakesTheirTurns}
 use Rattle.trace_drive.proofs.Following.{keeps_along}
 use Rattle.trace_drive.proofs.Replaying.{keeps_itself, none_taken, taken_next}
-use Rattle.trace_drive.proofs.ReplayTurns.{no_turns, turns_next}
+use Rattle.trace_drive.proofs.ReplayTurns.{no_turns, turns_next, turns_of_all}
 use Rattle.trace_drive.proofs.replay.Replay.advance.Goals as goal
 
 pub packets-init : goal.packets-init
@@ -40,6 +40,12 @@ returns-then-not-branch-clause-end g c is schedule all count way =
     let ended = c.in_ok-step.ensures.end (ap Ok c.if-not-branch.true) schedule all (count + c.packets._taken)
     (c.packets.invariant.taken schedule all count way) in
     (let few = ended.0 in let below = c.packets-test.true in omega arith, ended.1)
+
+pub returns-then-not-branch-clause-all_turns : goal.returns-then-not-branch-clause-all_turns
+returns-then-not-branch-clause-all_turns g c is =
+    let ended = c.in_ok-step.ensures in
+    turns_of_all c.packets._taken c.args.self.now c.packets.self c.step.new.self c.packets.invariant.taken c.packets.invariant.turns
+    (ended.end (ap Ok c.if-not-branch.true)) (ended.still (ap Ok c.if-not-branch.true))
 
 pub returns-clause-all : goal.returns-clause-all
 returns-clause-all g c is =

@@ -1,16 +1,13 @@
-use Rattle.std.proofs.Common.{◌≡◌, ◌≤◌, ℕ, List, length}
-use Rattle.marple_base.specs.declared.field.Packet.{Packet}
+use Rattle.std.proofs.Common.{◌≡◌, ◌≤◌, ℕ, length}
 use Rattle.trace_drive.specs.Drives.{coming}
 use Rattle.trace_drive.specs.Follows.{Keeps}
-use Rattle.trace_drive.specs.Replays.{IsUnderWay, fault_in, pipeline_in}
-use Rattle.trace_drive.specs.declared.schedule.Schedule.{Schedule}
+use Rattle.trace_drive.specs.Replays.{Advances, MakesTheirTurns, fault_in, pipeline_in}
 use Rattle.trace_drive.proofs.replay.Replay.finish.Given as goal
 
--- some packets were taken
+-- some packets were taken, each with its turn
 abbrev pub invariant-packets : goal.invariant-packets
 invariant-packets g l = record {
-  way : (schedule : Schedule) (all : List Packet) (count : ℕ) → IsUnderWay schedule all count l.initial.self → (now : ℕ)
-      × IsUnderWay schedule all now l.self;
+  taken : (number : ℕ) × Advances number l.initial.self l.self × MakesTheirTurns number l.initial.self l.self;
   fault : fault_in l.self ≡ fault_in l.initial.self;
   keeps : Keeps (pipeline_in l.initial.self) (pipeline_in l.self);
   later : l.initial.steps ≤ l.steps;

@@ -2,7 +2,7 @@ use Rattle.std.proofs.Common.{sym, subst}
 use Rattle.std.specs.List.{All}
 use Rattle.enclosed_query.specs.Reading.{IsWhole}
 use Rattle.enclosed_query.proofs.ReadTables.{all_whole}
-use Rattle.enclosed_query.proofs.tables.all_shown.Goals as goal
+use Rattle.enclosed_query.proofs.tables.shown_of.Goals as goal
 
 pub returns-clause-whole : goal.returns-clause-whole
 returns-clause-whole c = subst (All IsWhole) (sym c.in_ok-made.ensures)
