@@ -126,6 +126,32 @@ class JoinedTables(unittest.TestCase):
         self.assertTrue(any("splitting it again" in line for line in lines), lines)
         self.assertGreater(answer.parts, 15)
 
+    def test_of_ranges_side_by_side(self):
+        """A trace for several workers is split in ranges, also where the records have quotes."""
+        trace = generated(*TRACE)
+        header, *records = trace.splitlines()
+        quoted = b"\n".join([header, *(b'"%s"' % line.replace(b",", b'","') for line in records)])
+        noted = b"\n".join([header + b",note", *(line + b',"a\n1,2""\n"' for line in records)])
+        with mock.patch.multiple(job, LEAST=1_000):
+            for name in ("examples/count.query", "examples/cookbook/total.query", "examples/cookbook/heavy.query"):
+                expected = marple.run(TOP / name, trace)
+                for text in (trace, quoted, noted, trace.replace(b"\n", b"\r\n"), trace.replace(b"\n", b"\r")):
+                    lines: list[str] = []
+                    path = self.folder.write("ranges.csv", text)
+                    self.check_same(parts.run(TOP / name, path, workers=3, report=lines.append), expected)
+                    self.assertIn("split 3 of 3", lines)
+
+    def test_of_a_fault_in_a_range(self):
+        """The fault of a range is that of the whole trace."""
+        lines = generated(*TRACE).splitlines()
+        lines[500] = lines[500].replace(b",", b";")
+        path = self.folder.write("fault.csv", b"\n".join(lines))
+        with self.assertRaises(marple.TraceRefused) as whole:
+            marple.run(TOP / "examples" / "count.query", path)
+        with mock.patch.multiple(job, LEAST=1_000), self.assertRaises(marple.TraceRefused) as refused:
+            parts.run(TOP / "examples" / "count.query", path, workers=3)
+        self.assertEqual((refused.exception.fault, refused.exception.record), (whole.exception.fault, 500))
+
     def test_of_one_key_that_is_too_large(self):
         records = generated(*TRACE).splitlines()[1:]
         address, most = Counter(line.split(b",")[3] for line in records).most_common(1)[0]

@@ -95,8 +95,8 @@ _marple_trace_from_capture() {
 _marple_tools() {
     case ${COMP_WORDS[COMP_CWORD - 1]} in
     marple-tools) _marple_words "${COMP_WORDS[COMP_CWORD]}" facts split ;;
-    --parts | --salt) COMPREPLY=() ;;
-    *) _marple_files_or "${COMP_WORDS[COMP_CWORD]}" --parts --into --salt ;;
+    --parts | --salt | --range) COMPREPLY=() ;;
+    *) _marple_files_or "${COMP_WORDS[COMP_CWORD]}" --parts --into --salt --range ;;
     esac
 }
 

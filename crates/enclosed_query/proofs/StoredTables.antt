@@ -2,9 +2,10 @@
 use Rattle.std.proofs.Common.{◌≡◌, ℕ, suc, ◌+◌, ◌*◌, ◌==◌, ◌||◌, Bool, true, false, List, [], ◌∷◌, ◌++◌, Some, length, map, drop, refl, sym}
 use Rattle.std.proofs.Common.{ap, ◌∙◌, subst, arith, length-append}
 use Rattle.std.specs.List.{All, flat_map}
-use Rattle.std.specs.Prelude.{slice_get}
+use Rattle.std.specs.Prelude.{slice_get, sum_by}
 use Rattle.std.proofs.Math.Logic.{∥∥₁_elim}
 use Rattle.std.proofs.Props.{props}
+use Rattle.std.proofs.lemmas.Bool.{false≢true}
 use Rattle.std.proofs.lemmas.List.Elements.{All-nil, All-cons, All-head, All-tail, All-append, All-map, All-weaker}
 use Rattle.query_lang.specs.declared.fold.TypedFold.{TypedFold}
 use Rattle.query_lang.specs.declared.typed.Class.{Class}
@@ -12,10 +13,11 @@ use Rattle.query_lang.specs.declared.typed.Class.TheVariants as class
 use Rattle.query_lang.specs.Folds.{fold_states}
 use Rattle.epoch_model.specs.declared.tables.Mark.TheVariants.{Plain}
 use Rattle.epoch_model.specs.declared.tables.Row.{Row}
+use Rattle.epoch_model.specs.Tables.{epochs_shown}
 use Rattle.epoch_model.specs.Keys.{Key, ascending, has, key_eq}
 use Rattle.epoch_model.proofs.KeyLists.{by_test, key_eq-true}
 use Rattle.epoch_model.proofs.KeyOrder.{has-ascending}
-use Rattle.backing_store.specs.Merged.{shown_row}
+use Rattle.backing_store.specs.Merged.{epochs_in, shown_row}
 use Rattle.backing_store.specs.SortedRows.{numbered, rows_of, sorted_rows}
 use Rattle.backing_store.specs.Store.{Store, StoredKey, StoredRow, IsStore, AreKeysOf, AreRowsOf, number_of, states_at, states_of}
 use Rattle.fold_class.specs.Kinds.{class_of}
@@ -42,11 +44,11 @@ use Rattle.enclosed_query.proofs.Groups.{heading_is}
 
 -- the keys and the states of a store have its numbers of words
 
-keys_of : List StoredKey → List Key
+abbrev keys_of : List StoredKey → List Key
 keys_of keys = map (λ stored. stored.key) keys
 
 key_from : (n : ℕ) (keys : List StoredKey) → AreKeysOf n keys → (key : Key) → has key (keys_of keys) ≡ true → length key ≡ n
-key_from n [] all key e = absurd cc
+key_from n [] all key e = absurd (false≢true e)
 key_from n (stored ∷ keys) all key e = by_test (key_eq stored.key key)
     (λ t. subst (λ k. length k ≡ n) (key_eq-true stored.key key t) all.0.size)
     (λ t. key_from n keys all.1 key (sym (ap (λ b. b || has key (keys_of keys)) t) ∙ e))
@@ -108,6 +110,9 @@ module _ (plan : PlanParts) (buckets : ℕ) (sound : IsSoundPlan plan) where
   abbrev table_of : GroupPlan → LaneView → Table
   table_of group lane = stored_table (heading_of group) (folding_at lane).row_per_epoch lane.store
 
+  abbrev epochs_of : GroupPlan → LaneView → ℕ
+  epochs_of group lane = epochs_shown (sum_by (epochs_in (folding_at lane).row_per_epoch) (sorted_rows lane.store))
+
   triples : (group : GroupPlan) (lane : LaneView) (states : ℕ) → length group.state_names ≡ states
       → (ghosts.sizes lane.kind).state ≡ 3 * states → lane.cache.key_words ≡ length group.key_names → HasStoredRows lane
       → HasTriples (table_of group lane)
@@ -136,11 +141,11 @@ module _ (plan : PlanParts) (buckets : ℕ) (sound : IsSoundPlan plan) where
       → MayBeShown (table_of group lane)
   one_may i group lane at of_lane has =
       let known = group_sound plan i group sound at in
-      ∥∥₁_elim known.2.program (may_prop group.program.class _ _ (table_of group lane))
+      ∥∥₁_elim known.2.program (may_prop group.program.class group.program.depth (epochs_of group lane) (table_of group lane))
       (λ h.
       let is = heading_is (14 + length plan.ops) group known.0 h.0 known.2 h.1 in
-      subst (λ c. MayBeShownBy (Group c group.program.depth _) (table_of group lane)) (sym is.class)
-      (may_by group lane h.0 (class_of h.0) _ _ is of_lane.keys has (of_lane.kind h.0 h.1)))
+      subst (λ c. MayBeShownBy (Group c group.program.depth (epochs_of group lane)) (table_of group lane)) (sym is.class)
+      (may_by group lane h.0 (class_of h.0) group.program.depth (epochs_of group lane) is of_lane.keys has (of_lane.kind h.0 h.1)))
 
   pub all_may : (i : ℕ) (lanes : List LaneView) (groups : List GroupPlan) → drop i plan.groups ≡ groups → EachFrom IsLane i lanes groups
       → HaveStoredRows lanes → All MayBeShown (stored_tables groups lanes)

@@ -2,25 +2,39 @@
 
 use crate::reach::{InReach, in_reach};
 use crate::read::{ReadText, place_of};
-use crate::values::{bytes_value, word_value};
+use crate::values::{Members, bytes_value, put_span, word_value};
 use crate::words::{fault_word, limit_of, place_word};
 use query_facts::{RefusedFacts, spelling};
-use query_lang::TokenKind;
+use query_lang::{FaultKind, TokenKind};
 use query_places::Place;
-use serde_json::{Value, json};
+use serde_json::Value;
 use std::alloc::{AllocError, Global};
 
-// A token: of what kind it is, or its text.
-fn token_value(alloc: Global, kind: TokenKind) -> Result<Value, AllocError> {
+// The word of what kind a token is.
+fn token_word(kind: TokenKind) -> &'static str {
     match kind {
-        TokenKind::Name(_) => json!(in alloc; {"kind": "name", "text": null}),
-        TokenKind::Number(_) => json!(in alloc; {"kind": "number", "text": null}),
-        TokenKind::End => json!(in alloc; {"kind": "end", "text": null}),
+        TokenKind::Name(_) => "name",
+        TokenKind::Number(_) => "number",
+        TokenKind::End => "end",
+        TokenKind::FiveTuple | TokenKind::Word(_) | TokenKind::Mark(_) => "token",
+    }
+}
+
+// The text of a token that has only one.
+fn token_text(alloc: Global, kind: TokenKind) -> Result<Value, AllocError> {
+    match kind {
+        TokenKind::Name(_) | TokenKind::Number(_) | TokenKind::End => Ok(Value::Null),
         TokenKind::FiveTuple | TokenKind::Word(_) | TokenKind::Mark(_) => {
-            let text = bytes_value(alloc, spelling(kind))?;
-            json!(in alloc; {"kind": "token", "text": text})
+            bytes_value(alloc, spelling(kind))
         }
     }
+}
+
+fn token_value(alloc: Global, kind: TokenKind) -> Result<Value, AllocError> {
+    let mut members = Members::new(alloc);
+    members.put_text("kind", token_word(kind))?;
+    members.put("text", token_text(alloc, kind)?)?;
+    Ok(members.into_object())
 }
 
 // The tokens that may stand there.
@@ -48,27 +62,59 @@ fn word_of_place(found: Option<(usize, Place)>) -> Option<&'static str> {
     }
 }
 
+// Adds the kind of a fault, and its limit if it is of one.
+fn put_kind(alloc: Global, kind: FaultKind, to: &mut Members) -> Result<(), AllocError> {
+    to.put_text("kind", fault_word(kind))?;
+    to.put("limit", word_value(alloc, limit_of(kind))?)
+}
+
+// Adds the item and the place that a fault is in.
+fn put_place(
+    alloc: Global,
+    found: Option<(usize, Place)>,
+    to: &mut Members,
+) -> Result<(), AllocError> {
+    to.put("item", Value::from(item_number(found)))?;
+    to.put("place", word_value(alloc, word_of_place(found))?)
+}
+
+// Adds the names in reach.
+fn put_reach(found: InReach, to: &mut Members) -> Result<(), AllocError> {
+    let InReach {
+        names,
+        columns,
+        missing,
+    } = found;
+    to.put("names", names)?;
+    to.put("columns", columns)?;
+    to.put("missing", missing)
+}
+
+// Adds all that is said of a fault.
+fn put_fault(
+    alloc: Global,
+    text: &Option<ReadText>,
+    facts: &RefusedFacts,
+    to: &mut Members,
+) -> Result<(), AllocError> {
+    put_kind(alloc, facts.fault.kind, to)?;
+    put_span(to, facts.fault.span)?;
+    to.put(
+        "expected",
+        expected_value(alloc, facts.expected.as_slice())?,
+    )?;
+    let found = place_of(text, facts.fault.span.start);
+    put_place(alloc, found, to)?;
+    put_reach(in_reach(alloc, text, &facts.reach, found)?, to)
+}
+
 /// The fault of a refused query.
 pub(crate) fn fault_value(
     alloc: Global,
     text: &Option<ReadText>,
     facts: &RefusedFacts,
 ) -> Result<Value, AllocError> {
-    let kind = facts.fault.kind;
-    let span = facts.fault.span;
-    let limit = word_value(alloc, limit_of(kind))?;
-    let expected = expected_value(alloc, facts.expected.as_slice())?;
-    let found = place_of(text, span.start);
-    let item = Value::from(item_number(found));
-    let place = word_value(alloc, word_of_place(found))?;
-    let InReach {
-        names,
-        columns,
-        missing,
-    } = in_reach(alloc, text, &facts.reach, found)?;
-    let word = fault_word(kind);
-    json!(in alloc; {
-        "kind": word, "limit": limit, "start": span.start, "end": span.end, "expected": expected, "item": item,
-        "place": place, "names": names, "columns": columns, "missing": missing
-    })
+    let mut members = Members::new(alloc);
+    put_fault(alloc, text, facts, &mut members)?;
+    Ok(members.into_object())
 }

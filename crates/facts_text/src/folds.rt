@@ -1,14 +1,14 @@
 //! Folds, with what spoils them.
 
 use crate::read::FoldCauses;
-use crate::values::{name_list, name_value, word_value};
+use crate::values::{Members, name_list, name_value, word_value};
 use crate::words::{algebra_word, class_word, form_word, op_word};
 use fold_class::{Algebra, Operators, Role};
 use marple_base::Seq;
 use query_facts::{AcceptedFacts, FoldFacts};
-use query_lang::{Class, Names, Op, TypedFold};
+use query_lang::{Class, Name, Names, Op, TypedFold};
 use query_places::{Cause, Rule, Spoilt};
-use serde_json::{Value, json};
+use serde_json::Value;
 use std::alloc::{AllocError, Global};
 
 // What the rule that fails is called, where products are those of an algebra.
@@ -48,6 +48,26 @@ fn kept_by(rule: Rule) -> Option<&'static str> {
     }
 }
 
+// Adds the rule that fails.
+fn put_rule(
+    alloc: Global,
+    rule: Rule,
+    algebra: Option<Algebra>,
+    to: &mut Members,
+) -> Result<(), AllocError> {
+    to.put_text("rule", rule_word(rule, algebra))?;
+    to.put("operator", word_value(alloc, operator_of(rule))?)?;
+    to.put("keeps", word_value(alloc, kept_by(rule))?)
+}
+
+// What a cause reads.
+fn read_value(alloc: Global, names: &Names, read: Option<Name>) -> Result<Value, AllocError> {
+    match read {
+        Some(name) => name_value(alloc, names, name.id),
+        None => Ok(Value::Null),
+    }
+}
+
 // A cause, with the variable that it spoils, if it spoils one.
 fn cause_value(
     alloc: Global,
@@ -56,16 +76,12 @@ fn cause_value(
     cause: Cause,
     algebra: Option<Algebra>,
 ) -> Result<Value, AllocError> {
-    let reads = match cause.reads {
-        Some(name) => name_value(alloc, names, name.id)?,
-        None => Value::Null,
-    };
-    let operator = word_value(alloc, operator_of(cause.rule))?;
-    let keeps = word_value(alloc, kept_by(cause.rule))?;
-    let rule = rule_word(cause.rule, algebra);
-    json!(in alloc; {
-        "variable": variable, "start": cause.start, "rule": rule, "operator": operator, "keeps": keeps, "reads": reads
-    })
+    let mut members = Members::new(alloc);
+    members.put("variable", variable)?;
+    members.put("start", Value::from(cause.start))?;
+    put_rule(alloc, cause.rule, algebra, &mut members)?;
+    members.put("reads", read_value(alloc, names, cause.reads)?)?;
+    Ok(members.into_object())
 }
 
 // The variables that are spoilt, each with its cause.
@@ -91,7 +107,23 @@ fn adding_value(alloc: Global, names: &Names, adding: Option<Cause>) -> Result<V
     }
 }
 
-// The causes of a fold.
+// Adds the causes of a fold.
+fn put_causes(
+    alloc: Global,
+    names: &Names,
+    all: &FoldCauses,
+    to: &mut Members,
+) -> Result<(), AllocError> {
+    let sums = spoilt_value(alloc, names, all.sums.as_slice(), Some(Algebra::Sums))?;
+    to.put("sums", sums)?;
+    let maxima = spoilt_value(alloc, names, all.maxima.as_slice(), Some(Algebra::Maxima))?;
+    to.put("maxima", maxima)?;
+    let order = spoilt_value(alloc, names, all.order.as_slice(), None)?;
+    to.put("monotone", order)?;
+    to.put("additive", adding_value(alloc, names, all.adding)?)
+}
+
+// The causes of a fold, or null.
 fn causes_value(
     alloc: Global,
     names: &Names,
@@ -100,11 +132,9 @@ fn causes_value(
     let Some(all) = causes else {
         return Ok(Value::Null);
     };
-    let sums = spoilt_value(alloc, names, all.sums.as_slice(), Some(Algebra::Sums))?;
-    let maxima = spoilt_value(alloc, names, all.maxima.as_slice(), Some(Algebra::Maxima))?;
-    let order = spoilt_value(alloc, names, all.order.as_slice(), None)?;
-    let adding = adding_value(alloc, names, all.adding)?;
-    json!(in alloc; {"sums": sums, "maxima": maxima, "monotone": order, "additive": adding})
+    let mut members = Members::new(alloc);
+    put_causes(alloc, names, all, &mut members)?;
+    Ok(members.into_object())
 }
 
 // The names of the variables with these numbers.
@@ -140,6 +170,33 @@ fn initial_value(alloc: Global, initial: &[u64]) -> Result<Value, AllocError> {
     Ok(Value::Array(list))
 }
 
+// Adds the names, states and arguments of a fold.
+fn put_names(
+    alloc: Global,
+    names: &Names,
+    f: &TypedFold,
+    to: &mut Members,
+) -> Result<(), AllocError> {
+    to.put("name", name_value(alloc, names, f.name.id)?)?;
+    to.put("start", Value::from(f.name.span.start))?;
+    to.put("states", name_list(alloc, names, f.state_names.as_slice())?)?;
+    to.put("initial", initial_value(alloc, f.initial.as_slice())?)?;
+    to.put(
+        "arguments",
+        name_list(alloc, names, f.arg_names.as_slice())?,
+    )?;
+    to.put("emits", Value::from(f.emit.is_some()))
+}
+
+// Adds the kinds that a fold is of.
+fn put_kinds(alloc: Global, facts: &FoldFacts, to: &mut Members) -> Result<(), AllocError> {
+    to.put_text("class", class_word(facts.class))?;
+    to.put("algebra", word_value(alloc, algebra_of(facts))?)?;
+    to.put("depth", Value::from(facts.depth))?;
+    to.put("additive", Value::from(facts.additive))?;
+    to.put("monotone", Value::from(facts.monotone))
+}
+
 // A fold.
 fn fold_value(
     alloc: Global,
@@ -148,19 +205,13 @@ fn fold_value(
     facts: &FoldFacts,
     causes: Option<&FoldCauses>,
 ) -> Result<Value, AllocError> {
-    let name = name_value(alloc, names, f.name.id)?;
-    let states = name_list(alloc, names, f.state_names.as_slice())?;
-    let arguments = name_list(alloc, names, f.arg_names.as_slice())?;
-    let algebra = word_value(alloc, algebra_of(facts))?;
+    let mut members = Members::new(alloc);
+    put_names(alloc, names, f, &mut members)?;
+    put_kinds(alloc, facts, &mut members)?;
     let history = history_value(alloc, names, f, facts.history.as_slice())?;
-    let spoilt = causes_value(alloc, names, causes)?;
-    let initial = initial_value(alloc, f.initial.as_slice())?;
-    let class = class_word(facts.class);
-    json!(in alloc; {
-        "name": name, "start": f.name.span.start, "states": states, "initial": initial, "arguments": arguments, "emits": f.emit.is_some(),
-        "class": class, "algebra": algebra, "depth": facts.depth, "history": history,
-        "additive": facts.additive, "monotone": facts.monotone, "spoilt": spoilt
-    })
+    members.put("history", history)?;
+    members.put("spoilt", causes_value(alloc, names, causes)?)?;
+    Ok(members.into_object())
 }
 
 /// The folds of an accepted query.

@@ -1,13 +1,13 @@
 //! The items of a text, as they were read.
 
 use crate::read::ReadText;
-use crate::values::{bytes_value, name_value, placed, placed_list};
+use crate::values::{Members, bytes_value, name_value, placed, placed_list, put_span};
 use marple_base::Field;
-use query_lang::{Column, FinalOp, FoldDef, Item, Key, Name, Names, Span, StateVar, StreamOp};
-use serde_json::{Map, Value, json, put};
+use query_lang::{
+    Column, FinalDef, FinalOp, FoldDef, Item, Key, Name, Names, Span, StateVar, StreamDef, StreamOp,
+};
+use serde_json::Value;
 use std::alloc::{AllocError, Global};
-
-type Members = Map<String, Value>;
 
 const FIVE: [Field; 5] = [
     Field::SrcIp,
@@ -46,170 +46,182 @@ fn made_value(alloc: Global, names: &Names, columns: &[Column]) -> Result<Value,
     Ok(Value::Array(list))
 }
 
-// The state variables of a fold, with their places and initial numbers.
+// A state variable, with its place and its initial number.
+fn state_value(alloc: Global, names: &Names, state: &StateVar) -> Result<Value, AllocError> {
+    let mut members = Members::new(alloc);
+    members.put("name", name_value(alloc, names, state.name.id)?)?;
+    members.put("start", Value::from(state.name.span.start))?;
+    members.put("initial", Value::from(state.initial))?;
+    Ok(members.into_object())
+}
+
+// The state variables of a fold.
 fn states_value(alloc: Global, names: &Names, states: &[StateVar]) -> Result<Value, AllocError> {
     let mut list = Vec::new(alloc);
     for state in states {
-        let name = name_value(alloc, names, state.name.id)?;
-        let start = state.name.span.start;
-        list.push(json!(in alloc; {"name": name, "start": start, "initial": state.initial})?)?;
+        list.push(state_value(alloc, names, state)?)?;
     }
     Ok(Value::Array(list))
 }
 
-// The item's name and place.
-fn begun(
+// Adds what an item is, and its name with its place.
+fn put_begin(
     alloc: Global,
     names: &Names,
     kind: &str,
     operator: &str,
     name: Name,
-) -> Result<Members, AllocError> {
-    let mut members = Map::new(alloc);
-    put(
-        &mut members,
-        alloc,
-        "kind",
-        Value::try_from_str(alloc, kind)?,
-    )?;
-    put(
-        &mut members,
-        alloc,
-        "operator",
-        Value::try_from_str(alloc, operator)?,
-    )?;
-    put(
-        &mut members,
-        alloc,
-        "name",
-        name_value(alloc, names, name.id)?,
-    )?;
-    put(
-        &mut members,
-        alloc,
-        "name_start",
-        Value::from(name.span.start),
-    )?;
-    Ok(members)
-}
-
-// Adds the inputs.
-fn put_inputs(
-    alloc: Global,
-    names: &Names,
-    members: &mut Members,
-    inputs: &[Name],
+    to: &mut Members,
 ) -> Result<(), AllocError> {
-    let list = placed_list(alloc, names, inputs)?;
-    put(members, alloc, "inputs", list)
+    to.put_text("kind", kind)?;
+    to.put_text("operator", operator)?;
+    to.put("name", name_value(alloc, names, name.id)?)?;
+    to.put("name_start", Value::from(name.span.start))
 }
 
 // Adds the keys and the fold of a groupby.
 fn put_group(
     alloc: Global,
     names: &Names,
-    members: &mut Members,
     keys: &[Key],
     fold: Name,
+    to: &mut Members,
 ) -> Result<(), AllocError> {
-    put(members, alloc, "keys", keys_value(alloc, names, keys)?)?;
-    put(members, alloc, "fold", placed(alloc, names, fold)?)
+    to.put("keys", keys_value(alloc, names, keys)?)?;
+    to.put("fold", placed(alloc, names, fold)?)
 }
 
-fn fold_item(alloc: Global, names: &Names, d: &FoldDef) -> Result<Members, AllocError> {
-    let mut members = begun(alloc, names, "fold", "def", d.name)?;
-    let states = states_value(alloc, names, d.states.as_slice())?;
-    put(&mut members, alloc, "states", states)?;
-    let arguments = placed_list(alloc, names, d.args.as_slice())?;
-    put(&mut members, alloc, "arguments", arguments)?;
-    Ok(members)
-}
-
-fn stream_item(
+// Adds the column and the number of rows of a `top`.
+fn put_best(
     alloc: Global,
     names: &Names,
-    name: Name,
-    op: &StreamOp,
-) -> Result<Members, AllocError> {
+    best: Name,
+    rows: u64,
+    to: &mut Members,
+) -> Result<(), AllocError> {
+    let mut members = Members::new(alloc);
+    members.put("column", name_value(alloc, names, best.id)?)?;
+    members.put("rows", Value::from(rows))?;
+    to.put("best", members.into_object())
+}
+
+fn put_fold(alloc: Global, names: &Names, d: &FoldDef, to: &mut Members) -> Result<(), AllocError> {
+    put_begin(alloc, names, "fold", "def", d.name, to)?;
+    to.put("states", states_value(alloc, names, d.states.as_slice())?)?;
+    to.put("arguments", placed_list(alloc, names, d.args.as_slice())?)
+}
+
+// The word of a stream's operator.
+fn stream_word(op: &StreamOp) -> &'static str {
     match op {
-        StreamOp::Filter(input, _) => {
-            let mut members = begun(alloc, names, "stream", "filter", name)?;
-            put_inputs(alloc, names, &mut members, &[*input])?;
-            Ok(members)
-        }
-        StreamOp::Map(input, columns) => {
-            let mut members = begun(alloc, names, "stream", "map", name)?;
-            put_inputs(alloc, names, &mut members, &[*input])?;
-            let made = made_value(alloc, names, columns.as_slice())?;
-            put(&mut members, alloc, "made", made)?;
-            Ok(members)
-        }
-        StreamOp::Zip(one, other) => {
-            let mut members = begun(alloc, names, "stream", "zip", name)?;
-            put_inputs(alloc, names, &mut members, &[*one, *other])?;
-            Ok(members)
-        }
-        StreamOp::Group(input, keys, fold) => {
-            let mut members = begun(alloc, names, "stream", "groupby", name)?;
-            put_inputs(alloc, names, &mut members, &[*input])?;
-            put_group(alloc, names, &mut members, keys.as_slice(), *fold)?;
-            Ok(members)
-        }
+        StreamOp::Filter(_, _) => "filter",
+        StreamOp::Map(_, _) => "map",
+        StreamOp::Zip(_, _) => "zip",
+        StreamOp::Group(_, _, _) => "groupby",
     }
 }
 
-fn final_item(
+// The inputs of a stream, with their places.
+fn stream_inputs(alloc: Global, names: &Names, op: &StreamOp) -> Result<Value, AllocError> {
+    match op {
+        StreamOp::Filter(input, _) => placed_list(alloc, names, &[*input]),
+        StreamOp::Map(input, _) => placed_list(alloc, names, &[*input]),
+        StreamOp::Zip(one, other) => placed_list(alloc, names, &[*one, *other]),
+        StreamOp::Group(input, _, _) => placed_list(alloc, names, &[*input]),
+    }
+}
+
+// Adds what only some streams have.
+fn put_stream_rest(
     alloc: Global,
     names: &Names,
-    name: Name,
-    op: &FinalOp,
-) -> Result<Members, AllocError> {
+    op: &StreamOp,
+    to: &mut Members,
+) -> Result<(), AllocError> {
     match op {
-        FinalOp::Filter(input, _) => {
-            let mut members = begun(alloc, names, "final", "filter", name)?;
-            put_inputs(alloc, names, &mut members, &[*input])?;
-            Ok(members)
-        }
-        FinalOp::Map(input, columns) => {
-            let mut members = begun(alloc, names, "final", "map", name)?;
-            put_inputs(alloc, names, &mut members, &[*input])?;
-            let made = made_value(alloc, names, columns.as_slice())?;
-            put(&mut members, alloc, "made", made)?;
-            Ok(members)
-        }
-        FinalOp::Group(input, keys, fold) => {
-            let mut members = begun(alloc, names, "final", "groupby", name)?;
-            put_inputs(alloc, names, &mut members, &[*input])?;
-            put_group(alloc, names, &mut members, keys.as_slice(), *fold)?;
-            Ok(members)
-        }
-        FinalOp::Join(one, other) => {
-            let mut members = begun(alloc, names, "final", "join", name)?;
-            put_inputs(alloc, names, &mut members, &[*one, *other])?;
-            Ok(members)
-        }
-        FinalOp::Top(input, best, rows, _) => {
-            let mut members = begun(alloc, names, "final", "top", name)?;
-            put_inputs(alloc, names, &mut members, &[*input])?;
-            let column = name_value(alloc, names, best.id)?;
-            let best = json!(in alloc; {"column": column, "rows": *rows})?;
-            put(&mut members, alloc, "best", best)?;
-            Ok(members)
-        }
+        StreamOp::Filter(_, _) => Ok(()),
+        StreamOp::Map(_, columns) => to.put("made", made_value(alloc, names, columns.as_slice())?),
+        StreamOp::Zip(_, _) => Ok(()),
+        StreamOp::Group(_, keys, fold) => put_group(alloc, names, keys.as_slice(), *fold, to),
+    }
+}
+
+fn put_stream(
+    alloc: Global,
+    names: &Names,
+    d: &StreamDef,
+    to: &mut Members,
+) -> Result<(), AllocError> {
+    put_begin(alloc, names, "stream", stream_word(&d.op), d.name, to)?;
+    to.put("inputs", stream_inputs(alloc, names, &d.op)?)?;
+    put_stream_rest(alloc, names, &d.op, to)
+}
+
+// The word of a final's operator.
+fn final_word(op: &FinalOp) -> &'static str {
+    match op {
+        FinalOp::Filter(_, _) => "filter",
+        FinalOp::Map(_, _) => "map",
+        FinalOp::Group(_, _, _) => "groupby",
+        FinalOp::Join(_, _) => "join",
+        FinalOp::Top(_, _, _, _) => "top",
+    }
+}
+
+// The inputs of a final, with their places.
+fn final_inputs(alloc: Global, names: &Names, op: &FinalOp) -> Result<Value, AllocError> {
+    match op {
+        FinalOp::Filter(input, _) => placed_list(alloc, names, &[*input]),
+        FinalOp::Map(input, _) => placed_list(alloc, names, &[*input]),
+        FinalOp::Group(input, _, _) => placed_list(alloc, names, &[*input]),
+        FinalOp::Join(one, other) => placed_list(alloc, names, &[*one, *other]),
+        FinalOp::Top(input, _, _, _) => placed_list(alloc, names, &[*input]),
+    }
+}
+
+// Adds what only some finals have.
+fn put_final_rest(
+    alloc: Global,
+    names: &Names,
+    op: &FinalOp,
+    to: &mut Members,
+) -> Result<(), AllocError> {
+    match op {
+        FinalOp::Filter(_, _) => Ok(()),
+        FinalOp::Map(_, columns) => to.put("made", made_value(alloc, names, columns.as_slice())?),
+        FinalOp::Group(_, keys, fold) => put_group(alloc, names, keys.as_slice(), *fold, to),
+        FinalOp::Join(_, _) => Ok(()),
+        FinalOp::Top(_, best, rows, _) => put_best(alloc, names, *best, *rows, to),
+    }
+}
+
+fn put_final(
+    alloc: Global,
+    names: &Names,
+    d: &FinalDef,
+    to: &mut Members,
+) -> Result<(), AllocError> {
+    put_begin(alloc, names, "final", final_word(&d.op), d.name, to)?;
+    to.put("inputs", final_inputs(alloc, names, &d.op)?)?;
+    put_final_rest(alloc, names, &d.op, to)
+}
+
+// Adds what is said of an item.
+fn put_item(alloc: Global, names: &Names, item: &Item, to: &mut Members) -> Result<(), AllocError> {
+    match item {
+        Item::Fold(d) => put_fold(alloc, names, d, to),
+        Item::Stream(d) => put_stream(alloc, names, d, to),
+        Item::Final(d) => put_final(alloc, names, d, to),
+        Item::Print(name) => put_begin(alloc, names, "print", "print", *name, to),
     }
 }
 
 // An item at its place.
 fn item_value(alloc: Global, names: &Names, item: &Item, span: Span) -> Result<Value, AllocError> {
-    let mut members = match item {
-        Item::Fold(d) => fold_item(alloc, names, d)?,
-        Item::Stream(d) => stream_item(alloc, names, d.name, &d.op)?,
-        Item::Final(d) => final_item(alloc, names, d.name, &d.op)?,
-        Item::Print(name) => begun(alloc, names, "print", "print", *name)?,
-    };
-    put(&mut members, alloc, "start", Value::from(span.start))?;
-    put(&mut members, alloc, "end", Value::from(span.end))?;
-    Ok(Value::Object(members))
+    let mut members = Members::new(alloc);
+    put_item(alloc, names, item, &mut members)?;
+    put_span(&mut members, span)?;
+    Ok(members.into_object())
 }
 
 /// The items of a text that was read, in order; none of another.

@@ -2,7 +2,7 @@
 
 use crate::read::ReadText;
 use crate::streams::columns_value;
-use crate::values::name_value;
+use crate::values::{Members, name_value};
 use marple_base::{Field, Seq};
 use query_facts::Reach;
 use query_lang::typing::Origin;
@@ -11,7 +11,7 @@ use query_lang::{
     TypedOp, TypedStream,
 };
 use query_places::Place;
-use serde_json::{Value, json};
+use serde_json::Value;
 use std::alloc::{AllocError, Global};
 
 /// The names that may stand at a place, and the columns of the item's input; and the arguments of a groupby's fold that are none
@@ -48,9 +48,20 @@ fn known(
     kind: &str,
     start: Option<u32>,
 ) -> Result<Value, AllocError> {
-    let name = name_value(alloc, names, id)?;
-    let start = Value::from(start);
-    json!(in alloc; {"name": name, "kind": kind, "start": start})
+    let mut members = Members::new(alloc);
+    members.put("name", name_value(alloc, names, id)?)?;
+    members.put_text("kind", kind)?;
+    members.put("start", Value::from(start))?;
+    Ok(members.into_object())
+}
+
+// The stream of all packets.
+fn packets_value(alloc: Global) -> Result<Value, AllocError> {
+    let mut members = Members::new(alloc);
+    members.put_text("name", "pktstream")?;
+    members.put_text("kind", "stream")?;
+    members.put("start", Value::Null)?;
+    Ok(members.into_object())
 }
 
 // Whether a stream is a groupby.
@@ -61,7 +72,7 @@ fn groups(one: &TypedStream) -> bool {
 // The streams so far.
 fn stream_names(alloc: Global, reach: &Reach) -> Result<Value, AllocError> {
     let mut list = Vec::new(alloc);
-    list.push(json!(in alloc; {"name": "pktstream", "kind": "stream", "start": null})?)?;
+    list.push(packets_value(alloc)?)?;
     for one in streams_of(reach) {
         let kind = if groups(one) { "groupby" } else { "stream" };
         let start = Some(one.name.span.start);

@@ -1,11 +1,11 @@
 //! Streams, with where their columns come from.
 
-use crate::values::name_value;
+use crate::values::{Members, name_value};
 use crate::words::class_word;
 use query_facts::{AcceptedFacts, FoldFacts};
 use query_lang::typing::Origin;
 use query_lang::{Names, TypedOp, TypedQuery, TypedStream};
-use serde_json::{Value, json};
+use serde_json::Value;
 use std::alloc::{AllocError, Global};
 
 /// The name of the stream with this number.
@@ -27,6 +27,19 @@ fn maker(alloc: Global, q: &TypedQuery, origin: Origin) -> Result<Value, AllocEr
     }
 }
 
+// A column of this name.
+fn column_value(
+    alloc: Global,
+    q: &TypedQuery,
+    id: u32,
+    origin: Origin,
+) -> Result<Value, AllocError> {
+    let mut members = Members::new(alloc);
+    members.put("name", name_value(alloc, &q.names, id)?)?;
+    members.put("made_by", maker(alloc, q, origin)?)?;
+    Ok(members.into_object())
+}
+
 /// Columns with these names, each with the stream whose `map` makes it.
 pub(crate) fn columns_value(
     alloc: Global,
@@ -36,9 +49,7 @@ pub(crate) fn columns_value(
 ) -> Result<Value, AllocError> {
     let mut list = Vec::new(alloc);
     for (id, origin) in ids.iter().zip(origins.iter()) {
-        let name = name_value(alloc, &q.names, *id)?;
-        let made_by = maker(alloc, q, *origin)?;
-        list.push(json!(in alloc; {"name": name, "made_by": made_by})?)?;
+        list.push(column_value(alloc, q, *id, *origin)?)?;
     }
     Ok(Value::Array(list))
 }
@@ -53,19 +64,36 @@ fn operator_word(op: &TypedOp) -> &'static str {
     }
 }
 
+// The inputs of an operator: the first one, and another if there are two.
+fn inputs_of(op: &TypedOp) -> (u16, Option<u16>) {
+    match op {
+        TypedOp::Filter(input, _) => (*input, None),
+        TypedOp::Map(input, _) => (*input, None),
+        TypedOp::Zip(left, right, _) => (*left, Some(*right)),
+        TypedOp::Group(input, _, _, _) => (*input, None),
+    }
+}
+
 // The names of an operator's inputs.
 fn inputs_value(alloc: Global, q: &TypedQuery, op: &TypedOp) -> Result<Value, AllocError> {
     let mut list = Vec::new(alloc);
-    match op {
-        TypedOp::Filter(input, _) => list.push(stream_name(alloc, q, *input)?)?,
-        TypedOp::Map(input, _) => list.push(stream_name(alloc, q, *input)?)?,
-        TypedOp::Zip(left, right, _) => {
-            list.push(stream_name(alloc, q, *left)?)?;
-            list.push(stream_name(alloc, q, *right)?)?;
-        }
-        TypedOp::Group(input, _, _, _) => list.push(stream_name(alloc, q, *input)?)?,
+    let (first, second) = inputs_of(op);
+    list.push(stream_name(alloc, q, first)?)?;
+    if let Some(other) = second {
+        list.push(stream_name(alloc, q, other)?)?;
     }
     Ok(Value::Array(list))
+}
+
+// Adds the name of a stream and its place.
+fn put_begin(
+    alloc: Global,
+    names: &Names,
+    one: &TypedStream,
+    to: &mut Members,
+) -> Result<(), AllocError> {
+    to.put("name", name_value(alloc, names, one.name.id)?)?;
+    to.put("start", Value::from(one.name.span.start))
 }
 
 // A stream.
@@ -75,13 +103,13 @@ fn stream_value(
     one: &TypedStream,
     origins: &[Origin],
 ) -> Result<Value, AllocError> {
-    let name = name_value(alloc, &q.names, one.name.id)?;
-    let operator = operator_word(&one.op);
-    let inputs = inputs_value(alloc, q, &one.op)?;
+    let mut members = Members::new(alloc);
+    put_begin(alloc, &q.names, one, &mut members)?;
+    members.put_text("operator", operator_word(&one.op))?;
+    members.put("inputs", inputs_value(alloc, q, &one.op)?)?;
     let columns = columns_value(alloc, q, one.columns.as_slice(), origins)?;
-    json!(in alloc; {
-        "name": name, "start": one.name.span.start, "operator": operator, "inputs": inputs, "columns": columns
-    })
+    members.put("columns", columns)?;
+    Ok(members.into_object())
 }
 
 /// The streams of an accepted query, but for `pktstream`.
@@ -97,6 +125,14 @@ pub(crate) fn streams_value(alloc: Global, facts: &AcceptedFacts) -> Result<Valu
     Ok(Value::Array(list))
 }
 
+// A key, and whether it is a field of the packet.
+fn key_value(alloc: Global, names: &Names, id: u32, is_field: bool) -> Result<Value, AllocError> {
+    let mut members = Members::new(alloc);
+    members.put("name", name_value(alloc, names, id)?)?;
+    members.put("field", Value::from(is_field))?;
+    Ok(members.into_object())
+}
+
 // The keys of a groupby, each with whether it is a field of the packet.
 fn keys_value(
     alloc: Global,
@@ -106,29 +142,36 @@ fn keys_value(
 ) -> Result<Value, AllocError> {
     let mut list = Vec::new(alloc);
     for (id, origin) in ids.iter().zip(origins.iter()) {
-        let name = name_value(alloc, names, *id)?;
-        let is_field = matches!(origin, Origin::Field);
-        list.push(json!(in alloc; {"name": name, "field": is_field})?)?;
+        list.push(key_value(alloc, names, *id, matches!(origin, Origin::Field))?)?;
     }
     Ok(Value::Array(list))
 }
 
-// The name of the fold with this number, and the word of its class.
-fn fold_words(
+// The name of the fold with this number.
+fn fold_name(alloc: Global, q: &TypedQuery, number: u16) -> Result<Value, AllocError> {
+    match q.folds.as_slice().get(usize::from(number)) {
+        Some(f) => name_value(alloc, &q.names, f.name.id),
+        None => Ok(Value::Null),
+    }
+}
+
+// The word of the class of the fold with this number.
+fn fold_class(alloc: Global, facts: &[FoldFacts], number: u16) -> Result<Value, AllocError> {
+    match facts.get(usize::from(number)) {
+        Some(one) => Value::try_from_str(alloc, class_word(one.class)),
+        None => Ok(Value::Null),
+    }
+}
+
+// Adds the fold with this number.
+fn put_fold(
     alloc: Global,
-    q: &TypedQuery,
-    facts: &[FoldFacts],
+    facts: &AcceptedFacts,
     number: u16,
-) -> Result<(Value, Value), AllocError> {
-    let name = match q.folds.as_slice().get(usize::from(number)) {
-        Some(f) => name_value(alloc, &q.names, f.name.id)?,
-        None => Value::Null,
-    };
-    let class = match facts.get(usize::from(number)) {
-        Some(one) => Value::try_from_str(alloc, class_word(one.class))?,
-        None => Value::Null,
-    };
-    Ok((name, class))
+    to: &mut Members,
+) -> Result<(), AllocError> {
+    to.put("fold", fold_name(alloc, &facts.typed, number)?)?;
+    to.put("class", fold_class(alloc, facts.folds.as_slice(), number)?)
 }
 
 // A groupby of this fold.
@@ -140,14 +183,16 @@ fn groupby_value(
     fold: u16,
     needed: bool,
 ) -> Result<Value, AllocError> {
-    let q = &facts.typed;
-    let name = name_value(alloc, &q.names, one.name.id)?;
-    let keys = keys_value(alloc, &q.names, one.columns.as_slice(), origins)?;
-    let (fold, class) = fold_words(alloc, q, facts.folds.as_slice(), fold)?;
-    json!(in alloc; {
-        "name": name, "start": one.name.span.start, "keys": keys, "fold": fold, "class": class,
-        "needed": needed
-    })
+    let names = &facts.typed.names;
+    let mut members = Members::new(alloc);
+    put_begin(alloc, names, one, &mut members)?;
+    members.put(
+        "keys",
+        keys_value(alloc, names, one.columns.as_slice(), origins)?,
+    )?;
+    put_fold(alloc, facts, fold, &mut members)?;
+    members.put("needed", Value::from(needed))?;
+    Ok(members.into_object())
 }
 
 // Whether a place is among these.

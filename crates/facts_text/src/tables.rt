@@ -1,9 +1,9 @@
 //! Tables: groupbys, finals, and what is printed of them.
 
-use crate::values::{name_list, name_value};
+use crate::values::{Members, name_list, name_value};
 use marple_base::Seq;
 use query_lang::{Names, PrintOf, TypedFinal, TypedFinalOp, TypedOp, TypedQuery};
-use serde_json::{Value, json};
+use serde_json::Value;
 use std::alloc::{AllocError, Global};
 
 /// The names of tables by number: those of the groupbys, and then those of the finals.
@@ -44,6 +44,17 @@ fn operator_word(op: &TypedFinalOp) -> &'static str {
     }
 }
 
+// The inputs of an operator: the first one, and another if there are two.
+fn inputs_of(op: &TypedFinalOp) -> (u16, Option<u16>) {
+    match op {
+        TypedFinalOp::Filter(input, _) => (*input, None),
+        TypedFinalOp::Map(input, _) => (*input, None),
+        TypedFinalOp::Group(input, _, _, _) => (*input, None),
+        TypedFinalOp::Join(left, right) => (*left, Some(*right)),
+        TypedFinalOp::Top(input, _, _) => (*input, None),
+    }
+}
+
 // The names of an operator's inputs.
 fn inputs_value(
     alloc: Global,
@@ -52,19 +63,25 @@ fn inputs_value(
     op: &TypedFinalOp,
 ) -> Result<Value, AllocError> {
     let mut list = Vec::new(alloc);
-    match op {
-        TypedFinalOp::Filter(input, _) => list.push(table_name(alloc, names, tables, *input)?)?,
-        TypedFinalOp::Map(input, _) => list.push(table_name(alloc, names, tables, *input)?)?,
-        TypedFinalOp::Group(input, _, _, _) => {
-            list.push(table_name(alloc, names, tables, *input)?)?
-        }
-        TypedFinalOp::Join(left, right) => {
-            list.push(table_name(alloc, names, tables, *left)?)?;
-            list.push(table_name(alloc, names, tables, *right)?)?;
-        }
-        TypedFinalOp::Top(input, _, _) => list.push(table_name(alloc, names, tables, *input)?)?,
+    let (first, second) = inputs_of(op);
+    list.push(table_name(alloc, names, tables, first)?)?;
+    if let Some(other) = second {
+        list.push(table_name(alloc, names, tables, other)?)?;
     }
     Ok(Value::Array(list))
+}
+
+// The name of the column with this number.
+fn column_name(
+    alloc: Global,
+    names: &Names,
+    one: &TypedFinal,
+    number: u16,
+) -> Result<Value, AllocError> {
+    match one.columns.as_slice().get(usize::from(number)) {
+        Some(id) => name_value(alloc, names, *id),
+        None => Ok(Value::Null),
+    }
 }
 
 // The column and the number of rows of a `top`.
@@ -72,11 +89,22 @@ fn best_value(alloc: Global, names: &Names, one: &TypedFinal) -> Result<Value, A
     let TypedFinalOp::Top(_, column, rows) = &one.op else {
         return Ok(Value::Null);
     };
-    let name = match one.columns.as_slice().get(usize::from(*column)) {
-        Some(id) => name_value(alloc, names, *id)?,
-        None => Value::Null,
-    };
-    json!(in alloc; {"column": name, "rows": *rows})
+    let mut members = Members::new(alloc);
+    members.put("column", column_name(alloc, names, one, *column)?)?;
+    members.put("rows", Value::from(*rows))?;
+    Ok(members.into_object())
+}
+
+// Adds the columns of a final, and what a `top` is by.
+fn put_columns(
+    alloc: Global,
+    names: &Names,
+    one: &TypedFinal,
+    to: &mut Members,
+) -> Result<(), AllocError> {
+    to.put("columns", name_list(alloc, names, one.columns.as_slice())?)?;
+    to.put("keys", Value::from(one.keys))?;
+    to.put("best", best_value(alloc, names, one)?)
 }
 
 // A final.
@@ -86,15 +114,13 @@ fn final_value(
     tables: &[u32],
     one: &TypedFinal,
 ) -> Result<Value, AllocError> {
-    let name = name_value(alloc, names, one.name.id)?;
-    let operator = operator_word(&one.op);
-    let inputs = inputs_value(alloc, names, tables, &one.op)?;
-    let columns = name_list(alloc, names, one.columns.as_slice())?;
-    let best = best_value(alloc, names, one)?;
-    json!(in alloc; {
-        "name": name, "start": one.name.span.start, "operator": operator, "inputs": inputs, "columns": columns,
-        "keys": one.keys, "best": best
-    })
+    let mut members = Members::new(alloc);
+    members.put("name", name_value(alloc, names, one.name.id)?)?;
+    members.put("start", Value::from(one.name.span.start))?;
+    members.put_text("operator", operator_word(&one.op))?;
+    members.put("inputs", inputs_value(alloc, names, tables, &one.op)?)?;
+    put_columns(alloc, names, one, &mut members)?;
+    Ok(members.into_object())
 }
 
 /// The finals of an accepted query.

@@ -9,12 +9,12 @@ use crate::items::items_value;
 use crate::read::{ReadText, read_text, remarks_on};
 use crate::streams::{groupbys_value, streams_value};
 use crate::tables::{finals_value, prints_value};
-use crate::values::{bytes_value, name_value, word_at};
+use crate::values::{Members, bytes_value, name_value, put_span, word_at};
 use crate::words::{fault_word, unsplit_word};
 use marple_base::{Field, FieldSet};
 use query_facts::{AcceptedFacts, Commands, Facts, Parts, RefusedFacts};
 use query_lang::{Name, Names, QueryFault};
-use serde_json::{Value, json};
+use serde_json::Value;
 use std::alloc::{AllocError, Global};
 
 // What a command refuses, or null where it takes the query.
@@ -26,10 +26,11 @@ fn command_value(alloc: Global, fault: Option<QueryFault>) -> Result<Value, Allo
 }
 
 fn commands_value(alloc: Global, commands: &Commands) -> Result<Value, AllocError> {
-    let net = command_value(alloc, commands.net)?;
-    let enclose = command_value(alloc, commands.enclose)?;
-    let compile = command_value(alloc, commands.compile)?;
-    json!(in alloc; {"net": net, "enclose": enclose, "compile": compile})
+    let mut members = Members::new(alloc);
+    members.put("net", command_value(alloc, commands.net)?)?;
+    members.put("enclose", command_value(alloc, commands.enclose)?)?;
+    members.put("compile", command_value(alloc, commands.compile)?)?;
+    Ok(members.into_object())
 }
 
 // The names of fields.
@@ -52,31 +53,89 @@ fn reads_value(alloc: Global, reads: FieldSet) -> Result<Value, AllocError> {
     Ok(Value::Array(list))
 }
 
-fn parts_value(alloc: Global, parts: &Parts) -> Result<Value, AllocError> {
+// The fields by which a trace may be split.
+fn by_value(alloc: Global, parts: &Parts) -> Result<Value, AllocError> {
     match parts {
-        Parts::By(fields) => {
-            let by = fields_value(alloc, fields.as_slice())?;
-            json!(in alloc; {"by": by, "sums": false, "refused": null})
-        }
-        Parts::Sums => json!(in alloc; {"by": [], "sums": true, "refused": null}),
-        Parts::No(why, span) => {
-            let refused = word_at(alloc, unsplit_word(*why), *span)?;
-            json!(in alloc; {"by": [], "sums": false, "refused": refused})
-        }
+        Parts::By(fields) => fields_value(alloc, fields.as_slice()),
+        Parts::Sums => Ok(Value::Array(Vec::new(alloc))),
+        Parts::No(_, _) => Ok(Value::Array(Vec::new(alloc))),
     }
 }
 
-// The places where the infinity of a dropped packet is reckoned with.
+// Why a trace may not be split, or null.
+fn unsplit_value(alloc: Global, parts: &Parts) -> Result<Value, AllocError> {
+    match parts {
+        Parts::By(_) => Ok(Value::Null),
+        Parts::Sums => Ok(Value::Null),
+        Parts::No(why, span) => word_at(alloc, unsplit_word(*why), *span),
+    }
+}
+
+fn parts_value(alloc: Global, parts: &Parts) -> Result<Value, AllocError> {
+    let mut members = Members::new(alloc);
+    members.put("by", by_value(alloc, parts)?)?;
+    members.put("sums", Value::from(matches!(parts, Parts::Sums)))?;
+    members.put("refused", unsplit_value(alloc, parts)?)?;
+    Ok(members.into_object())
+}
+
+// A place where the infinity of a dropped packet is reckoned with.
+fn warning_value(alloc: Global, names: &Names, loss: Name) -> Result<Value, AllocError> {
+    let mut members = Members::new(alloc);
+    members.put_text("kind", "infinity")?;
+    members.put("name", name_value(alloc, names, loss.id)?)?;
+    put_span(&mut members, loss.span)?;
+    Ok(members.into_object())
+}
+
 fn warnings_value(alloc: Global, names: &Names, losses: &[Name]) -> Result<Value, AllocError> {
     let mut list = Vec::new(alloc);
     for loss in losses {
-        let name = name_value(alloc, names, loss.id)?;
-        let span = loss.span;
-        list.push(
-            json!(in alloc; {"kind": "infinity", "name": name, "start": span.start, "end": span.end})?,
-        )?;
+        list.push(warning_value(alloc, names, *loss)?)?;
     }
     Ok(Value::Array(list))
+}
+
+// Adds what any text has: the version of the form, the fields, the fault and the items.
+fn put_text(
+    alloc: Global,
+    text: &Option<ReadText>,
+    fault: Value,
+    to: &mut Members,
+) -> Result<(), AllocError> {
+    to.put("marple_facts", Value::from(1))?;
+    to.put("fault", fault)?;
+    to.put("fields", fields_value(alloc, &Field::ALL)?)?;
+    to.put("items", items_value(alloc, text)?)
+}
+
+// Adds what the remarks on its text say of a query.
+fn put_remarks(
+    alloc: Global,
+    text: &Option<ReadText>,
+    facts: &AcceptedFacts,
+    to: &mut Members,
+) -> Result<(), AllocError> {
+    let remarks = remarks_on(alloc, text, facts.folds.as_slice())?;
+    let folds = folds_value(alloc, facts, remarks.causes.as_slice())?;
+    to.put("folds", folds)?;
+    let warnings = warnings_value(alloc, &facts.typed.names, remarks.losses.as_slice())?;
+    to.put("warnings", warnings)
+}
+
+// Adds the streams and tables of a query.
+fn put_tables(alloc: Global, facts: &AcceptedFacts, to: &mut Members) -> Result<(), AllocError> {
+    to.put("streams", streams_value(alloc, facts)?)?;
+    to.put("groupbys", groupbys_value(alloc, facts)?)?;
+    to.put("finals", finals_value(alloc, &facts.typed)?)?;
+    to.put("prints", prints_value(alloc, &facts.typed)?)
+}
+
+// Adds what may be done with a query.
+fn put_uses(alloc: Global, facts: &AcceptedFacts, to: &mut Members) -> Result<(), AllocError> {
+    to.put("reads", reads_value(alloc, facts.reads)?)?;
+    to.put("commands", commands_value(alloc, &facts.commands)?)?;
+    to.put("parts", parts_value(alloc, &facts.parts)?)
 }
 
 fn accepted_value(
@@ -84,23 +143,12 @@ fn accepted_value(
     text: &Option<ReadText>,
     facts: &AcceptedFacts,
 ) -> Result<Value, AllocError> {
-    let q = &facts.typed;
-    let remarks = remarks_on(alloc, text, facts.folds.as_slice())?;
-    let items = items_value(alloc, text)?;
-    let folds = folds_value(alloc, facts, remarks.causes.as_slice())?;
-    let streams = streams_value(alloc, facts)?;
-    let groupbys = groupbys_value(alloc, facts)?;
-    let finals = finals_value(alloc, q)?;
-    let prints = prints_value(alloc, q)?;
-    let reads = reads_value(alloc, facts.reads)?;
-    let commands = commands_value(alloc, &facts.commands)?;
-    let parts = parts_value(alloc, &facts.parts)?;
-    let warnings = warnings_value(alloc, &q.names, remarks.losses.as_slice())?;
-    let fields = fields_value(alloc, &Field::ALL)?;
-    json!(in alloc; {
-        "marple_facts": 1, "fields": fields, "fault": null, "items": items, "folds": folds, "streams": streams, "groupbys": groupbys,
-        "finals": finals, "prints": prints, "reads": reads, "commands": commands, "parts": parts, "warnings": warnings
-    })
+    let mut members = Members::new(alloc);
+    put_text(alloc, text, Value::Null, &mut members)?;
+    put_remarks(alloc, text, facts, &mut members)?;
+    put_tables(alloc, facts, &mut members)?;
+    put_uses(alloc, facts, &mut members)?;
+    Ok(members.into_object())
 }
 
 fn refused_value(
@@ -108,10 +156,9 @@ fn refused_value(
     text: &Option<ReadText>,
     facts: &RefusedFacts,
 ) -> Result<Value, AllocError> {
-    let fault = fault_value(alloc, text, facts)?;
-    let items = items_value(alloc, text)?;
-    let fields = fields_value(alloc, &Field::ALL)?;
-    json!(in alloc; {"marple_facts": 1, "fields": fields, "fault": fault, "items": items})
+    let mut members = Members::new(alloc);
+    put_text(alloc, text, fault_value(alloc, text, facts)?, &mut members)?;
+    Ok(members.into_object())
 }
 
 /// The facts of a query's text as one JSON object.

@@ -1,8 +1,40 @@
 //! Names, places and lists as values of JSON.
 
 use query_lang::{Name, Names, Span};
-use serde_json::{Value, json};
+use serde_json::{Map, Value, put};
 use std::alloc::{AllocError, Global};
+
+/// The members of an object that is being made.
+#[derive(Drop)]
+pub(crate) struct Members {
+    alloc: Global,
+    made: Map<String, Value>,
+}
+
+impl Members {
+    /// None yet.
+    pub(crate) fn new(alloc: Global) -> Members {
+        Members {
+            alloc,
+            made: Map::new(alloc),
+        }
+    }
+
+    /// Adds a member.
+    pub(crate) fn put(&mut self, name: &str, value: Value) -> Result<(), AllocError> {
+        put(&mut self.made, self.alloc, name, value)
+    }
+
+    /// Adds a member that is a text.
+    pub(crate) fn put_text(&mut self, name: &str, text: &str) -> Result<(), AllocError> {
+        self.put(name, Value::try_from_str(self.alloc, text)?)
+    }
+
+    /// The object of these members.
+    pub(crate) fn into_object(self) -> Value {
+        Value::Object(self.made)
+    }
+}
 
 /// A text of bytes: names and tokens are ASCII.
 pub(crate) fn bytes_value(alloc: Global, bytes: &[u8]) -> Result<Value, AllocError> {
@@ -30,8 +62,10 @@ pub(crate) fn name_value(alloc: Global, names: &Names, id: u32) -> Result<Value,
 
 /// A name, and where it stands.
 pub(crate) fn placed(alloc: Global, names: &Names, name: Name) -> Result<Value, AllocError> {
-    let text = name_value(alloc, names, name.id)?;
-    json!(in alloc; {"name": text, "start": name.span.start})
+    let mut members = Members::new(alloc);
+    members.put("name", name_value(alloc, names, name.id)?)?;
+    members.put("start", Value::from(name.span.start))?;
+    Ok(members.into_object())
 }
 
 /// The texts of these names.
@@ -52,7 +86,16 @@ pub(crate) fn placed_list(alloc: Global, names: &Names, all: &[Name]) -> Result<
     Ok(Value::Array(list))
 }
 
+/// Adds where something begins and ends.
+pub(crate) fn put_span(to: &mut Members, span: Span) -> Result<(), AllocError> {
+    to.put("start", Value::from(span.start))?;
+    to.put("end", Value::from(span.end))
+}
+
 /// A word and a place.
 pub(crate) fn word_at(alloc: Global, word: &str, span: Span) -> Result<Value, AllocError> {
-    json!(in alloc; {"kind": word, "start": span.start, "end": span.end})
+    let mut members = Members::new(alloc);
+    members.put_text("kind", word)?;
+    put_span(&mut members, span)?;
+    Ok(members.into_object())
 }

@@ -74,56 +74,57 @@ not_usage asked (Err status) Ends never ends is = ((λ e. absurd (never (subst E
 
 -- ---- what each status says
 
-module _ (query : Option (List ℕ)) (Bytes : List (List ℕ) → Type 0) (query_old query_new : ℕ) (traces_old traces_new : List ℕ)
-    (parts_old parts_new out_old out_new : ℕ) (asked : Option ToolCommand) (status : ToolStatus) where
-  abbrev OfSplit : ToolStatus → Type 0
-  OfSplit = SplitEnds query Bytes query_old query_new traces_old traces_new parts_old parts_new
+module _ (query : Option (List ℕ)) (Bytes : SplitSetting → List (List ℕ) → Type 0) (query_old query_new : ℕ)
+    (traces_old traces_new : List ℕ) (parts_old parts_new out_old out_new : ℕ) (asked : Option ToolCommand) (status : ToolStatus) where
+  abbrev OfSplit : SplitSetting → ToolStatus → Type 0
+  OfSplit setting = SplitEnds query (Bytes setting) query_old query_new traces_old traces_new parts_old parts_new
 
   abbrev OfFacts : ToolStatus → Type 0
   OfFacts = FactsEnd query_old query_new out_old out_new
 
-  module _ (usage : (status ≡ tools.Usage) ↔ (asked ≡ None)) (ends : status ≢ tools.Ok → WhereSplit asked (λ _. OfSplit status))
+  module _ (usage : (status ≡ tools.Usage) ↔ (asked ≡ None)) (ends : status ≢ tools.Ok → WhereSplit asked (λ s. OfSplit s status))
       (facts_end : status ≢ tools.Ok → WhereFacts asked (OfFacts status)) where
     -- a status other than `Ok` and `Usage` is that of a splitting or of facts
-    by_command : (P : Type 0) → status ≢ tools.Ok → status ≢ tools.Usage → (OfSplit status → P) → (OfFacts status → P) → P
+    by_command : (P : Type 0) → status ≢ tools.Ok → status ≢ tools.Usage → ((setting : SplitSetting) → OfSplit setting status → P)
+        → (OfFacts status → P) → P
     by_command P not_ok not_usage of_split of_facts = by asked refl
       where
         by : (found : Option ToolCommand) → asked ≡ found → P
         by None is = absurd (not_usage (usage.1 is))
-        by (Some (Split setting)) is = of_split (ends not_ok setting is)
+        by (Some (Split setting)) is = of_split setting (ends not_ok setting is)
         by (Some Facts) is = of_facts (facts_end not_ok is)
 
     pub at_query_fault : status ≡ tools.InputFault Query → Rose query_old query_new
     at_query_fault is =
-        by_command (Rose query_old query_new) (λ e. absurd (cc (is, e))) (λ e. absurd (cc (is, e))) (λ all. subst OfSplit is all)
+        by_command (Rose query_old query_new) (λ e. absurd (cc (is, e))) (λ e. absurd (cc (is, e))) (λ s all. subst (OfSplit s) is all)
         (λ all. subst OfFacts is all)
 
     pub at_trace_fault : status ≡ tools.InputFault Trace → OneRose traces_old traces_new
     at_trace_fault is =
         by_command (OneRose traces_old traces_new) (λ e. absurd (cc (is, e))) (λ e. absurd (cc (is, e)))
-        (λ all. let split = subst OfSplit is all in split.0) (λ all. absurd (subst OfFacts is all))
+        (λ s all. let split = subst (OfSplit s) is all in split.0) (λ all. absurd (subst OfFacts is all))
 
     pub at_parts_fault : status ≡ tools.OutputFault → WhereSplit asked (λ _. Rose parts_old parts_new)
-    at_parts_fault is setting split = let all = subst OfSplit is (ends (λ e. absurd (cc (is, e))) setting split) in all.0
+    at_parts_fault is setting split = let all = subst (OfSplit setting) is (ends (λ e. absurd (cc (is, e))) setting split) in all.0
 
     pub at_out_fault : status ≡ tools.OutputFault → WhereFacts asked (Rose out_old out_new)
     at_out_fault is facts = subst OfFacts is (facts_end (λ e. absurd (cc (is, e))) facts)
 
     pub at_query_refused : (fault : QueryFault) → status ≡ tools.QueryRefused fault → IsRefusedFor query fault
     at_query_refused fault is =
-        by_command (IsRefusedFor query fault) (λ e. absurd (cc (is, e))) (λ e. absurd (cc (is, e))) (λ all. subst OfSplit is all)
+        by_command (IsRefusedFor query fault) (λ e. absurd (cc (is, e))) (λ e. absurd (cc (is, e))) (λ s all. subst (OfSplit s) is all)
         (λ all. absurd (subst OfFacts is all))
 
     pub at_field_needed : status ≡ tools.FieldNeeded → IsAcceptedWith query (λ q. split_by q ≡ [])
     at_field_needed is =
         by_command (IsAcceptedWith query (λ q. split_by q ≡ [])) (λ e. absurd (cc (is, e))) (λ e. absurd (cc (is, e)))
-        (λ all. subst OfSplit is all) (λ all. absurd (subst OfFacts is all))
+        (λ s all. subst (OfSplit s) is all) (λ all. absurd (subst OfFacts is all))
 
-    pub at_trace_refused : (fault : WholeFault) → status ≡ tools.TraceRefused fault → IsAcceptedWith query (IsFirstFault Bytes fault)
-    at_trace_refused fault is =
-        by_command (IsAcceptedWith query (IsFirstFault Bytes fault)) (λ e. absurd (cc (is, e))) (λ e. absurd (cc (is, e)))
-        (λ all. accepted_so query (λ q. (split_by q ≢ []) × IsFirstFault Bytes fault q) (IsFirstFault Bytes fault) (λ q holds. holds.1)
-        (subst OfSplit is all)) (λ all. absurd (subst OfFacts is all))
+    pub at_trace_refused : (fault : WholeFault) → status ≡ tools.TraceRefused fault
+        → WhereSplit asked (λ s. IsAcceptedWith query (IsFirstFault (Bytes s) fault))
+    at_trace_refused fault is setting split =
+        accepted_so query (λ q. (split_by q ≢ []) × IsFirstFault (Bytes setting) fault q) (IsFirstFault (Bytes setting) fault)
+        (λ q holds. holds.1) (subst (OfSplit setting) is (ends (λ e. absurd (cc (is, e))) setting split))
 
     -- facts end in no other status
     pub of_facts : WhereFacts asked (IsOfFacts status)
@@ -144,20 +145,20 @@ module _ (query : Option (List ℕ)) (Bytes : List (List ℕ) → Type 0) (query
         by tools.Usage is = such tools.Usage is (λ e. absurd (cc e))
 
 -- what comes after the query of a splitting says that it is accepted, and that traces may be split by some field
-module _ (query : Option (List ℕ)) (Bytes : List (List ℕ) → Type 0) (query_old query_new : ℕ) (traces_old traces_new : List ℕ)
-    (parts_old parts_new : ℕ) (asked : Option ToolCommand) (old new : Taken) where
-  abbrev Ends : ToolStatus → Type 0
-  Ends = SplitEnds query Bytes query_old query_new traces_old traces_new parts_old parts_new
+module _ (query : Option (List ℕ)) (Bytes : SplitSetting → List (List ℕ) → Type 0) (query_old query_new : ℕ)
+    (traces_old traces_new : List ℕ) (parts_old parts_new : ℕ) (asked : Option ToolCommand) (old new : Taken) where
+  abbrev Ends : SplitSetting → ToolStatus → Type 0
+  Ends setting = SplitEnds query (Bytes setting) query_old query_new traces_old traces_new parts_old parts_new
 
   pub after_query : (status : ToolStatus)
-      → (status ≡ tools.Ok → WhereSplit asked (λ setting. IsAcceptedWith query (IsSplit Bytes old new setting)))
-      → (status ≢ tools.Ok → WhereSplit asked (λ _. Ends status))
+      → (status ≡ tools.Ok → WhereSplit asked (λ s. IsAcceptedWith query (IsSplit (Bytes s) old new s)))
+      → (status ≢ tools.Ok → WhereSplit asked (λ s. Ends s status))
       → IsAfterQuery status → WhereSplit asked (λ _. IsAcceptedWith query (λ q. split_by q ≢ []))
   after_query tools.Ok ok ends after setting is =
-      accepted_so query (IsSplit Bytes old new setting) (λ q. split_by q ≢ []) (λ q split. split.some) (ok refl setting is)
+      accepted_so query (IsSplit (Bytes setting) old new setting) (λ q. split_by q ≢ []) (λ q split. split.some) (ok refl setting is)
   after_query (tools.InputFault Trace) ok ends after setting is = let all = ends (λ e. absurd (cc e)) setting is in all.1
   after_query (tools.TraceRefused fault) ok ends after setting is =
-      accepted_so query (λ q. (split_by q ≢ []) × IsFirstFault Bytes fault q) (λ q. split_by q ≢ []) (λ q holds. holds.0)
+      accepted_so query (λ q. (split_by q ≢ []) × IsFirstFault (Bytes setting) fault q) (λ q. split_by q ≢ []) (λ q holds. holds.0)
       (ends (λ e. absurd (cc e)) setting is)
   after_query tools.OutputFault ok ends after setting is = let all = ends (λ e. absurd (cc e)) setting is in all.1
   after_query tools.Memory ok ends after setting is = absurd after

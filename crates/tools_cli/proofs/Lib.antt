@@ -2,3 +2,4 @@ pub mod WordFacts
 pub mod EndFacts
 pub mod LineFacts
 pub mod SplitFacts
+pub mod RangeFacts

@@ -3,7 +3,9 @@ use Rattle.std.specs.Prelude.{◌≡◌, ◌≢◌, ℕ, List, [], Option, Some,
 use Rattle.accepted_query.specs.Accepted.{accepted, query_fault}
 use Rattle.marple_base.specs.Faults.{Rose}
 use Rattle.marple_base.specs.Field.{all_fields}
+use Rattle.marple_base.specs.Inputs.{Input}
 use Rattle.marple_base.specs.declared.field.Field.{Field}
+use Rattle.marple_base.specs.declared.inputs.Which.{Which}
 use Rattle.marple_base.specs.declared.inputs.Which.TheVariants.{Query, Trace}
 use Rattle.part_texts.specs.Texts.{part_by_hash, part_text}
 use Rattle.query_lang.specs.declared.fault.QueryFault.{QueryFault}
@@ -13,7 +15,9 @@ use Rattle.stage_plan.specs.Fields.{reads_of}
 use Rattle.trace_pieces.specs.Faults.{trace_fault_of}
 use Rattle.trace_pieces.specs.declared.fault.WholeFault.{WholeFault}
 use Rattle.trace_split.specs.Holding.{TakeFronts, TakeTexts, Taken}
-use Rattle.trace_split.specs.Traces.{OneRose, fault_of_all, packets_of_all}
+use Rattle.trace_ranges.specs.Ranges.{range_input}
+use Rattle.trace_ranges.specs.declared.ranged.Ranged.{Ranged}
+use Rattle.trace_split.specs.Traces.{AreLeft, OneRose, fault_of_all, packets_of_all}
 use Rattle.tools_cli.specs.declared.command.SplitSetting.{SplitSetting}
 use Rattle.tools_cli.specs.declared.status.ToolStatus.{ToolStatus}
 use Rattle.tools_cli.specs.declared.status.ToolStatus.TheVariants as tools
@@ -26,6 +30,10 @@ split_by q = filter (may_split q) all_fields
 abbrev pub texts_for : TypedQuery → SplitSetting → List (List ℕ) → ℕ → List ℕ
 texts_for q setting traces n =
     part_text (reads_of q) (part_by_hash (split_by q) setting.salt setting.parts) n (packets_of_all traces (reads_of q))
+
+-- these are the texts of the traces, of each the range that the setting names
+abbrev pub AreTexts : {T : Type 0} → (T → Which → Input) → List (Ranged T) → SplitSetting → List (List ℕ) → Type 0
+AreTexts input traces setting = AreLeft (range_input input setting.range) traces
 
 -- Where the text of the query is known, it is accepted, and this holds of what it says.
 abbrev pub IsAcceptedWith : Option (List ℕ) → (TypedQuery → Type 0) → Type 0

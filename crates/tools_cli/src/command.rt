@@ -5,12 +5,14 @@ ghost use Rattle.tools_cli.specs.Command.{IsToolCommand, IsSplitSetting, asked, 
 ghost use Rattle.tools_cli.specs.Options.{AreWithin};
 
 use crate::options::{SplitOptions, has_traces, options_of};
+use trace_ranges::Range;
 
-/// How traces are split: into how many parts, and with which salt of the hash.
+/// How traces are split: into how many parts, with which salt of the hash, and which range of a trace.
 #[derive(Clone, Copy, PartialEq, Eq)]
 pub struct SplitSetting {
     pub parts: u32,
     pub salt: u32,
+    pub range: Option<Range>,
 }
 
 /// What the second program is asked for.
@@ -34,6 +36,7 @@ fn setting_of(options: SplitOptions) -> Option<SplitSetting>
     Some(SplitSetting {
         parts: options.parts?,
         salt: options.salt.unwrap_or(1),
+        range: options.range,
     })
 }
 
@@ -41,10 +44,11 @@ fn split_of(words: &[String]) -> Option<SplitSetting>
     ensures setting { result ≡ asked_split (map string_bytes words.now) }
     ensures within { IfSome result IsSplitSetting }
 {
-    if !has_traces(words) {
+    let options = options_of(words)?;
+    if !has_traces(options.range.is_some(), words) {
         return None;
     }
-    setting_of(options_of(words)?)
+    setting_of(options)
 }
 
 // The facts of a query, which is the only operand.

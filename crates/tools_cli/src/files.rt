@@ -11,6 +11,7 @@ use marple_base::{Failed, Inputs, Which};
 use std::alloc::AllocError;
 use std::fs::{File, OpenOptions};
 use std::io::{Read, Write};
+use trace_ranges::Ranged;
 use trace_split::Parts;
 
 /// The file of a trace, which a word names. It has no query. At its end it is closed, so there may be more traces than a process may
@@ -64,12 +65,12 @@ impl<'a> TraceFile<'a> {
 pub fn trace_files<'a>(
     rt: HostRuntime,
     names: &'a [String],
-) -> Result<Vec<TraceFile<'a>>, AllocError>
-    ensures { IfOk result (λ files. All (λ file. IsClosed (trace_input file Trace)) files.items) }
+) -> Result<Vec<Ranged<TraceFile<'a>>>, AllocError>
+    ensures { IfOk result (λ files. All (λ file. IsClosed (trace_input file.inputs Trace)) files.items) }
 {
     let mut files = Vec::new(rt.alloc());
     for name in names {
-        files.push(TraceFile::new(rt, name))?;
+        files.push(Ranged::new(TraceFile::new(rt, name)))?;
     }
     Ok(files)
 }

@@ -2,10 +2,12 @@
 
 ghost use Rattle.std.specs.Prelude.{◌≡◌, ◌<◌, ◌∷◌, [], IfNone, IfOk, IfSome, length, map, string_bytes};
 ghost use Rattle.tools_cli.specs.Command.{has_traces};
-ghost use Rattle.tools_cli.specs.Options.{AreWithin, is_dashed, is_option, no_options, operands, options_from, with_option};
+ghost use Rattle.tools_cli.specs.Options.{AreWithin, is_dashed, is_option, is_range, no_options, operands, options_from, with_option};
+ghost use Rattle.tools_cli.specs.Options.{with_range};
 
-use crate::number::number_within;
+use crate::number::{large_number, number_within};
 use std::alloc::{AllocError, Global};
+use trace_ranges::Range;
 
 /// The options that were named so far.
 #[derive(Clone, Copy, PartialEq, Eq)]
@@ -13,15 +15,24 @@ pub(crate) struct SplitOptions {
     pub(crate) parts: Option<u32>,
     pub(crate) salt: Option<u32>,
     pub(crate) into: bool,
+    pub(crate) range: Option<Range>,
 }
 
 const NO_OPTIONS: SplitOptions = SplitOptions {
     parts: None,
     salt: None,
     into: false,
+    range: None,
 };
 
-// Whether the word is the name of an option.
+// Whether the word is the name of the option with two values.
+fn is_range(word: &String) -> bool
+    ensures { result ≡ is_range (string_bytes word.now) }
+{
+    word.as_str() == "--range"
+}
+
+// Whether the word is the name of an option with one value.
 fn is_option(word: &String) -> bool
     ensures { result ≡ is_option (string_bytes word.now) }
 {
@@ -54,6 +65,22 @@ impl SplitOptions {
         }
         Some(options)
     }
+
+    // The options with a range, which must not be named yet.
+    fn with_range(self, first: &String, last: &String) -> Option<SplitOptions>
+        requires within { AreWithin self }
+        ensures with_range { result ≡ with_range self (string_bytes first.now) (string_bytes last.now) }
+        ensures within { IfSome result AreWithin }
+    {
+        if self.range.is_some() {
+            return None;
+        }
+        let from = large_number(first.as_bytes())?;
+        let to = large_number(last.as_bytes())?;
+        let mut options = self;
+        options.range = Some(Range { from, to });
+        Some(options)
+    }
 }
 
 /// The options of these words.
@@ -64,9 +91,16 @@ pub(crate) fn options_of(words: &[String]) -> Option<SplitOptions>
     let mut options = NO_OPTIONS;
     let mut left = words;
     'words: while let Some((word, more)) = left.split_first() {
-        if is_option(word) {
+        if is_range(word) {
+            let (first, after) = more.split_first()?;
+            let (last, rest) = after.split_first()?;
+            let ranged = options.with_range(first, last)?;
+            options = ranged;
+            left = rest;
+        } else if is_option(word) {
             let (value, rest) = more.split_first()?;
-            options = options.with(word, value)?;
+            let named = options.with(word, value)?;
+            options = named;
             left = rest;
         } else {
             if is_dashed(word) {
@@ -87,23 +121,31 @@ fn next_operand(words: &[String]) -> Option<(&String, &[String])>
 {
     let mut left = words;
     'words: while let Some((word, more)) = left.split_first() {
-        if !is_option(word) {
+        if is_range(word) {
+            let (_first, rest) = more.split_first()?;
+            let (_last, rest) = rest.split_first()?;
+            left = rest;
+        } else if is_option(word) {
+            let (_value, rest) = more.split_first()?;
+            left = rest;
+        } else {
             return Some((word, more));
         }
-        let (_value, rest) = more.split_first()?;
-        left = rest;
     }
     None
 }
 
-/// Whether there is a query and a trace among these words.
-pub(crate) fn has_traces(words: &[String]) -> bool
-    ensures { result ≡ has_traces (operands (map string_bytes words.now)) }
+/// Whether there is a query among these words, and a trace, or more than one if there may be.
+pub(crate) fn has_traces(only: bool, words: &[String]) -> bool
+    ensures { result ≡ has_traces only (operands (map string_bytes words.now)) }
 {
     let Some((_query, more)) = next_operand(words) else {
         return false;
     };
-    next_operand(more).is_some()
+    let Some((_trace, more)) = next_operand(more) else {
+        return false;
+    };
+    next_operand(more).is_none() || !only
 }
 
 /// The words that are neither names of options nor their values.
@@ -124,7 +166,11 @@ pub fn folder_word(words: &[String]) -> Option<&String> {
     let mut left = words;
     'words: while let Some((word, more)) = left.split_first() {
         left = more;
-        if is_option(word) {
+        if is_range(word) {
+            let (_first, rest) = more.split_first()?;
+            let (_last, rest) = rest.split_first()?;
+            left = rest;
+        } else if is_option(word) {
             let (value, rest) = more.split_first()?;
             if word.as_str() == "--into" {
                 return Some(value);

@@ -5,7 +5,7 @@ ghost use Rattle.marple_base.specs.Inputs.{IsClosed};
 ghost use Rattle.marple_base.specs.MemoryInputs.{memory_input};
 ghost use Rattle.marple_base.specs.declared.inputs.Which.TheVariants.{Query, Trace};
 
-use crate::memory::{MemoryParts, traces_of};
+use crate::memory::{MemoryParts, ranged_traces_of};
 use marple_base::{Field, MemoryInputs, MemorySink, Seq, Steps, Text};
 use std::alloc::{AllocError, Global};
 use std::marker::Brand;
@@ -13,8 +13,9 @@ use std::sync::ledger::{Blank, Ledger};
 use std::test::Fail;
 use tools_cli::{ToolStatus, marple_tools};
 use trace_pieces::WholeFault;
+use trace_ranges::Ranged;
 
-const COUNT: &[u8] =
+pub(crate) const COUNT: &[u8] =
     b"def count([c],[]) { c = c + 1; }\nr = groupby(pktstream, [srcip], count);\nprint r;\n";
 
 /// How a call ended, what it wrote, its complaint, and the texts of the parts.
@@ -38,14 +39,14 @@ fn call_under<L: Ledger>(
     alloc: Global,
     words: &[String],
     inputs: &mut MemoryInputs,
-    traces: &mut [MemoryInputs],
+    traces: &mut [Ranged<MemoryInputs>],
     parts: &mut MemoryParts,
     out: &mut MemorySink,
     err: &mut MemorySink,
     blank: Blank,
 ) -> ToolStatus
     requires query { IsClosed (memory_input inputs.old Query) }
-    requires closed { All (λ trace. IsClosed (memory_input trace Trace)) traces.old }
+    requires closed { All (λ trace. IsClosed (memory_input trace.inputs Trace)) traces.old }
     requires name { blank.name ≡ L.name }
     requires share { blank.parts ≡ L.parts }
     requires whole { 0 < blank.parts }
@@ -78,7 +79,7 @@ pub(crate) fn called_failing(
         Text::new(alloc),
         Seq::new(alloc),
     );
-    let mut traces = traces_of(alloc, texts, 0)?;
+    let mut traces = ranged_traces_of(alloc, texts)?;
     let mut parts = MemoryParts::new(alloc, 2, 1000, 0)?;
     let mut out = MemorySink::new(alloc, 100, 10_000, failing)?;
     let mut err = MemorySink::new(alloc, 1000, 1000, Seq::new(alloc))?;
@@ -154,6 +155,12 @@ fn refuses_words(rt: HostRuntime) -> Result<(), Fail> {
         "split q a --parts 2 --into out --salt",
         "split q a --parts 2 --into out --salt 4294967296",
         "split q a --parts 2 --into out --salt -1",
+        "split q a --parts 2 --into out --range",
+        "split q a --parts 2 --into out --range 0",
+        "split q a --parts 2 --into out --range 0 x",
+        "split q a --parts 2 --into out --range 0 18446744073709551616",
+        "split q a --range 0 5 --parts 2 --into out --range 5 9",
+        "split q a b --parts 2 --into out --range 0 5",
     ] {
         let told = called(rt.alloc(), line, COUNT, &[b"srcip\n1\n"])?;
         assert_eq!(rt; told.status, ToolStatus::Usage, "{line}");
@@ -177,6 +184,8 @@ fn takes_options(rt: HostRuntime) -> Result<(), Fail> {
         "split q a --into out --parts 2",
         "split q a --parts 2 --into out --salt 1 more",
         "split --salt 1 q --parts 2 a --into --parts b",
+        "split --range 0 5 q --parts 2 a --into out",
+        "split q a --parts 2 --into out --range 18446744073709551615 0",
     ] {
         let told = called(rt.alloc(), line, COUNT, &[])?;
         let is_usage = told.status == ToolStatus::Usage;

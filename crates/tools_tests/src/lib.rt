@@ -8,4 +8,6 @@ mod facts;
 #[cfg(test)]
 mod memory;
 #[cfg(test)]
+mod ranges;
+#[cfg(test)]
 mod splits;

@@ -7,6 +7,7 @@ ghost use Rattle.marple_base.specs.declared.inputs.Which.TheVariants.{Trace};
 
 use marple_base::{FailAt, Failed, MemoryInputs, Seq, Text, Which};
 use std::alloc::{AllocError, Global};
+use trace_ranges::Ranged;
 use trace_split::Parts;
 
 /// Sinks in memory, by the numbers of the parts, which take at most `most` bytes in a write, and fail at one write, counted from 1.
@@ -85,6 +86,20 @@ pub fn traces_of(
     let mut traces = Vec::new(alloc);
     for text in texts {
         traces.push(trace_of(alloc, text, failing_read)?)?;
+    }
+    Ok(traces)
+}
+
+/// Traces of these texts, of which a range may be given.
+pub fn ranged_traces_of(
+    alloc: Global,
+    texts: &[&[u8]],
+) -> Result<Vec<Ranged<MemoryInputs>>, AllocError>
+    ensures { IfOk result (λ traces. All (λ trace. IsClosed (memory_input trace.inputs Trace)) traces.items) }
+{
+    let mut traces = Vec::new(alloc);
+    for text in texts {
+        traces.push(Ranged::new(trace_of(alloc, text, 0)?))?;
     }
     Ok(traces)
 }

@@ -7,7 +7,7 @@ ghost use Rattle.trace_pieces.specs.Machine.{next_state, state_of};
 
 /// Where the reader of CSV is in a text: between two records, perhaps after a carriage return, or in a record.
 #[derive(Clone, Copy, PartialEq, Eq)]
-pub(crate) enum Place {
+pub enum Place {
     Between,
     AfterReturn,
     FieldStart,
@@ -18,7 +18,7 @@ pub(crate) enum Place {
 
 impl Place {
     /// Is this between two records?
-    pub(crate) fn is_between(self) -> bool
+    pub fn is_between(self) -> bool
         ensures { result ≡ true ↔ (csv.ends_at_end (state_of self) ≡ false) }
     {
         match self {
@@ -58,7 +58,7 @@ impl Place {
     }
 
     /// The place after this byte.
-    pub(crate) fn after(self, byte: u8) -> Place
+    pub fn after(self, byte: u8) -> Place
         ensures { state_of result ≡ next_state (state_of self) byte }
     {
         match self {

@@ -6,6 +6,7 @@ import os
 import stat
 from collections.abc import Callable, Mapping, Sequence
 from dataclasses import asdict, dataclass, field
+from itertools import pairwise
 
 from marple.commands import words_of
 from marple.faults import InputError, MarpleError, OutOfMemory, OutputError, ProgramFailed, TraceRefused, refusal_of
@@ -24,6 +25,7 @@ PACKETS = 4_194_304  # and the most packets
 ROOM = 3 / 4  # how much of what one run takes a part is planned to have, since no function splits evenly
 AGAIN = 64  # into how many parts one is split that came out too large
 LEAST = 1 << 20  # no trace is cut into smaller pieces so that each worker has one
+END = 2**64 - 1  # after each byte of a trace
 Identity = list[str | int]  # of a file: its path, its size, and when it was changed
 
 
@@ -43,6 +45,15 @@ class Part:
     @property
     def bytes(self) -> int:
         return len(self.header) + sum(span.end - span.start for span in self.spans)
+
+
+@dataclass(frozen=True)
+class Share:
+    """What one process splits. name: of the folder; stretch: the bytes of the file at which the records begin, if it isn't all."""
+
+    name: str
+    path: str
+    stretch: tuple[int, int] | None = None
 
 
 @dataclass
@@ -146,26 +157,53 @@ class Job:
     def _count(self, what: str) -> Callable[[int, int], None]:
         return lambda done, of: self.report(f"{what} {done} of {of}")
 
-    def _split(self, paths: Sequence[str], number: int, level: int, name: str) -> list[Split]:
-        """Splits each of these files into this many parts; at each level otherwise."""
+    def _split(self, shares: Sequence[Share], number: int, level: int) -> list[Split]:
+        """Splits each of these into this many parts; at each level otherwise."""
         calls = [
-            (self.tools, self.splitting, path, number, level, self.work.path(f"split-{name}-{at}"), self.sums)
-            for at, path in enumerate(paths)
-        ]
+            (
+                self.tools, self.splitting if own.stretch is None else self.splitting[:1], own.path, number, level,
+                self.work.path(f"split-{own.name}"), self.sums, own.stretch,
+            )
+            for own in shares
+        ]  # fmt: skip
         return self.engine.each(split, calls, self._count("split"))
 
-    def _split_traces(self, number: int) -> list[Split]:
-        """Splits each trace. Raises the first fault; but a query that reads no field leaves the faults of fields to the run."""
-        splits = self._split(self.plain, number, 1, "whole")
-        for at, one in enumerate(splits):
-            if one.status != 0 and (self.choice.reads or not OF_FIELDS.search(one.complaint)):
-                raise self._refusal(one.status, one.complaint, at)
-        return splits
+    def _split_traces(self, number: int) -> list[tuple[int, Split]]:
+        """Splits each trace, with its number, in ranges side by side where there are more workers than traces. Raises the
+        first fault; but a query that reads no field leaves the faults of fields to the run.
+        """
+        shares = [(at, own) for at in range(len(self.plain)) for own in self._shares(at)]
+        made: dict[int, list[Split]] = {at: [] for at, _ in shares}
+        for (at, _), one in zip(shares, self._split([own for _, own in shares], number, 1), strict=True):
+            made[at].append(one)
+        # the fault of a range counts the records of the range, so the trace is split as a whole
+        again = [at for at, own in made.items() if len(own) > 1 and any(one.status != 0 for one in own)]
+        wholes = self._split([self._whole(at) for at in again], number, 1) if again else []
+        made |= {at: [one] for at, one in zip(again, wholes, strict=True)}
+        for at, own in made.items():
+            if own[0].status != 0 and (self.choice.reads or not OF_FIELDS.search(own[0].complaint)):
+                raise self._refusal(own[0].status, own[0].complaint, at)
+        return [(at, one) for at, own in made.items() for one in own]
+
+    def _whole(self, at: int) -> Share:
+        return Share(f"whole-{at}", self.plain[at])
+
+    def _shares(self, at: int) -> list[Share]:
+        """The trace with this number, or ranges of it of about one size, so that each worker has one."""
+        sizes = [os.path.getsize(path) for path in self.plain]
+        most = self.work.decide("range", max(-(-sum(sizes) // self.engine.places), LEAST))
+        ranges = -(-sizes[at] // most)
+        if ranges <= 1:
+            return [self._whole(at)]
+        bounds = [sizes[at] * number // ranges for number in range(ranges)]
+        return [
+            Share(f"whole-{at}-{start}", self.plain[at], (start, end)) for start, end in pairwise([*bounds, END])
+        ]
 
     def _split_parts(self) -> list[Part]:
         """Parts by the numbers of fields, none too large for a run."""
         number = self._parts_number()
-        whole = _parts(self._split_traces(number), number, "")
+        whole = _parts([one for _, one in self._split_traces(number)], number, "")
         return [fit for part in whole for fit in self._fitting(part, 1)]
 
     def _parts_number(self) -> int:
@@ -192,7 +230,8 @@ class Job:
             shown = ", ".join(f"{name} {word}" for name, word in zip(self.choice.by, key, strict=True))
             raise KeyTooLarge(f"{shown} has {found}: one run takes {PACKETS} in {BYTES}")
         self.report(f"part {part.name} has {found}: splitting it again")
-        splits = self._split([span.path for span in part.spans], AGAIN, level + 1, part.name)
+        shares = [Share(f"{part.name}-{at}", span.path) for at, span in enumerate(part.spans)]
+        splits = self._split(shares, AGAIN, level + 1)
         for one in splits:
             if one.status != 0:
                 raise self._refusal(one.status, one.complaint)
@@ -202,16 +241,16 @@ class Job:
     def _pieces(self) -> list[Part]:
         """Pieces of the traces, which are cut anywhere, none too large for a run."""
         splits = self._split_traces(1)
-        texts = [one.texts[0] if one.texts else _whole(path) for one, path in zip(splits, self.plain, strict=True)]
-        size = sum(text.records.end - text.records.start for text in texts)
+        texts = [(at, one.texts[0] if one.texts else _whole(self.plain[at])) for at, one in splits]
+        size = sum(text.records.end - text.records.start for _, text in texts)
         most = self.work.decide("stretch", self._stretch(size))
         calls = [
             (text.records, max(1, round((text.records.end - text.records.start) / most)), PACKETS)
-            for text in texts if text.records.packets
+            for _, text in texts if text.records.packets
         ]  # fmt: skip
         cuts = iter(self.engine.each(cut, calls, self._count("cut")))
         parts: list[Part] = []
-        for trace, text in enumerate(texts):
+        for trace, text in texts:
             for span in next(cuts) if text.records.packets else [text.records]:
                 parts.append(Part(str(len(parts)), text.header, [span], None if text.header else trace))
         return parts

@@ -50,14 +50,18 @@ class _Refused(Exception):
 
 
 def split(
-    tools: str, queries: Sequence[str], trace: str, number: int, salt: int, folder: str, sums: bool
+    tools: str, queries: Sequence[str], trace: str, number: int, salt: int, folder: str, sums: bool,
+    stretch: tuple[int, int] | None = None,
 ) -> Split:  # fmt: skip
     """Splits a trace into this many parts in a new folder, by the first of these queries whose fields it has, with a number
-    in each record. A second call finds what the first one did, if that was done to the end.
+    in each record. stretch: of the trace only the records that begin at the first of these bytes or later, and before the
+    second one. A second call finds what the first one did, if that was done to the end.
     """
+    ranged = [] if stretch is None else ["--range", *map(str, stretch)]
+
     def make() -> Made:
         for query in queries:
-            made = _split([tools, "split", query, trace], number, salt, folder)
+            made = _split([tools, "split", query, trace, *ranged], number, salt, folder)
             if not OF_FIELDS.search(made["complaint"]):
                 break
         return made

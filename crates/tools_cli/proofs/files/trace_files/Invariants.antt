@@ -6,4 +6,4 @@ use Rattle.tools_cli.proofs.files.trace_files.Given as goal
 
 -- no file is open yet
 abbrev pub invariant-loop-name : goal.invariant-loop-name
-invariant-loop-name l = record { closed : All (λ file. IsClosed (trace_input file Trace)) l.files.items }
+invariant-loop-name l = record { closed : All (λ file. IsClosed (trace_input file.inputs Trace)) l.files.items }

@@ -1,8 +1,9 @@
 use Rattle.std.proofs.Common.{◌≡◌, ◌≢◌, ◌↔◌, None, refl, rules, subst, sym}
 use Rattle.marple_base.specs.declared.inputs.Which.TheVariants.{Query}
-use Rattle.trace_split.specs.Traces.{AreLeft, faults_of}
+use Rattle.trace_ranges.specs.Ranges.{within}
+use Rattle.trace_split.specs.Traces.{faults_of}
 use Rattle.tools_cli.specs.Call.{WhereFacts, WhereSplit, asked_by}
-use Rattle.tools_cli.specs.Ends.{IsAcceptedWith, IsSplit, SplitEnds, TakeFrontsOf}
+use Rattle.tools_cli.specs.Ends.{AreTexts, IsAcceptedWith, IsSplit, SplitEnds, TakeFrontsOf}
 use Rattle.tools_cli.specs.FactsEnds.{FactsEnd, GivesFacts}
 use Rattle.tools_cli.specs.declared.command.SplitSetting.{SplitSetting}
 use Rattle.tools_cli.specs.declared.status.ToolStatus.{ToolStatus}
@@ -17,13 +18,13 @@ pub returns-in-Some-Split-clause-ok : goal.returns-in-Some-Split-clause-ok
 returns-in-Some-Split-clause-ok g c =
     let asked = asked_by c.args.words.now in
     let query = (g.I.Inputs.input c.args.inputs.now Query).left in
-    let bytes = AreLeft g.T.Inputs.input c.args.traces.now in
+    let bytes = AreTexts g.T.Inputs.input c.args.traces.now in
     let taken = g.P.Parts.taken in
     let split : SplitSetting → Type 0 = λ setting.
-    IsAcceptedWith query (IsSplit bytes (taken c.args.parts.now) (taken c.split.new.parts) setting) in
+    IsAcceptedWith query (IsSplit (bytes setting) (taken c.args.parts.now) (taken c.split.new.parts) setting) in
     let ends : ToolStatus → Type 0 =
-    SplitEnds query bytes (g.I.Inputs.input c.args.inputs.now Query).faults (g.I.Inputs.input c.split.new.inputs Query).faults
-    (faults_of g.T.Inputs.input c.args.traces.now) (faults_of g.T.Inputs.input c.split.new.traces)
+    SplitEnds query (bytes c.in-Some-Split.setting) (g.I.Inputs.input c.args.inputs.now Query).faults (g.I.Inputs.input c.split.new.inputs Query).faults
+    (faults_of (within g.T.Inputs.input) c.args.traces.now) (faults_of (within g.T.Inputs.input) c.split.new.traces)
     (g.P.Parts.faults c.args.parts.now) (g.P.Parts.faults c.split.new.parts) in
     subst (λ s. s ≡ tools.Ok → WhereSplit asked split) (sym c.status_of.ensures)
     (λ is. where_split asked _ split (search rules)
@@ -33,20 +34,24 @@ pub returns-in-Some-Split-clause-fronts : goal.returns-in-Some-Split-clause-fron
 returns-in-Some-Split-clause-fronts g c =
     let asked = asked_by c.args.words.now in
     let query = (g.I.Inputs.input c.args.inputs.now Query).left in
-    let bytes = AreLeft g.T.Inputs.input c.args.traces.now in
+    let bytes = AreTexts g.T.Inputs.input c.args.traces.now in
     let taken = g.P.Parts.taken in
-    let fronts : SplitSetting → Type 0 = TakeFrontsOf query bytes (taken c.args.parts.now) (taken c.split.new.parts) in
+    let fronts : SplitSetting → Type 0 = λ setting.
+    TakeFrontsOf query (bytes setting) (taken c.args.parts.now) (taken c.split.new.parts) setting in
     subst (λ s. s ≢ tools.Ok → WhereSplit asked fronts) (sym c.status_of.ensures)
     (fronts_of asked _ c.split.result fronts c.split.ensures.fronts (search rules))
 
 pub returns-in-Some-Split-clause-ends : goal.returns-in-Some-Split-clause-ends
-returns-in-Some-Split-clause-ends g c not setting is =
-    let ends : ToolStatus → Type 0 =
-    SplitEnds (g.I.Inputs.input c.args.inputs.now Query).left (AreLeft g.T.Inputs.input c.args.traces.now)
+returns-in-Some-Split-clause-ends g c not =
+    let asked = asked_by c.args.words.now in
+    let own = c.in-Some-Split.setting in
+    let all : SplitSetting → ToolStatus → Type 0 = λ setting.
+    SplitEnds (g.I.Inputs.input c.args.inputs.now Query).left (AreTexts g.T.Inputs.input c.args.traces.now setting)
     (g.I.Inputs.input c.args.inputs.now Query).faults (g.I.Inputs.input c.split.new.inputs Query).faults
-    (faults_of g.T.Inputs.input c.args.traces.now) (faults_of g.T.Inputs.input c.split.new.traces)
+    (faults_of (within g.T.Inputs.input) c.args.traces.now) (faults_of (within g.T.Inputs.input) c.split.new.traces)
     (g.P.Parts.faults c.args.parts.now) (g.P.Parts.faults c.split.new.parts) in
-    subst (λ s. s ≢ tools.Ok → ends s) (sym c.status_of.ensures) (ended c.split.result ends c.split.ensures.ends) not
+    where_split asked own (λ setting. all setting c.status_of.result) (search rules)
+    (subst (λ s. s ≢ tools.Ok → all own s) (sym c.status_of.ensures) (ended c.split.result (all own) c.split.ensures.ends) not)
 
 pub returns-in-Some-Split-clause-facts : goal.returns-in-Some-Split-clause-facts
 returns-in-Some-Split-clause-facts g c _ = where_split_no_facts (asked_by c.args.words.now) c.in-Some-Split.setting _ (search rules)
