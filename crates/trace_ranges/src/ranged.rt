@@ -15,7 +15,7 @@ use marple_base::{Failed, Inputs, Which};
 const CHUNK: usize = 65_536;
 
 /// The records of a trace that begin at byte `from` or later, counted from 0, and before byte `to`.
-#[derive(Clone, Copy, Debug, PartialEq, Eq)]
+#[derive(Clone, Copy, PartialEq, Eq)]
 pub struct Range {
     pub from: u64,
     pub to: u64,

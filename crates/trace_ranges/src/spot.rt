@@ -6,7 +6,7 @@ ghost use Rattle.trace_ranges.specs.Spots.{in_header, is_cut, spot_after};
 use trace_pieces::Place;
 
 /// Where a reader is in a trace.
-#[derive(Clone, Copy, PartialEq, Eq, Debug)]
+#[derive(Clone, Copy, PartialEq, Eq)]
 pub enum Spot {
     /// Before the first byte.
     Start,

@@ -7,7 +7,7 @@ use crate::places::place_over;
 use crate::spot::Spot;
 
 /// The bytes at hand: where they are, whether they are kept, and how many bytes are to go until the range begins, and until it ends.
-#[derive(Clone, Copy, Debug, PartialEq, Eq)]
+#[derive(Clone, Copy, PartialEq, Eq)]
 pub struct Window {
     spot: Spot,
     keeps: bool,

@@ -136,10 +136,12 @@ returns-clause-turns g c =
     let ended = c.in_ok-pipeline.ensures.turns in (
       c.in_ok-fresh.fresh,
       c.in_ok-fresh.ensures.stands,
-      ended.0,
-      turns_to_the_end g.row.WAYS c.args.schedule.refresh c.args.schedule.lag before.0 all c.in_ok-fresh.fresh
-          (pipeline_in c.in_ok-replay.replay) ended.0 before.1.within before.2 (ended.1 c.args.schedule all before.0 before.1),
-      ended.2,
+      (
+        ended.0,
+        turns_to_the_end g.row.WAYS c.args.schedule.refresh c.args.schedule.lag before.0 all c.in_ok-fresh.fresh
+            (pipeline_in c.in_ok-replay.replay) ended.0 before.1.within before.2 (ended.1 c.args.schedule all before.0 before.1),
+        ended.2,
+      ),
     )
 
 -- pipes keep their places
