@@ -8,7 +8,7 @@ use Rattle.query_grammar.specs.FoldTokens.{counts_as_node, begins_statement, nod
 use Rattle.query_grammar.specs.Grammar.{Fold}
 use Rattle.query_grammar.specs.Language.{Role, Plain, Node, Statement, Opening, Leaf}
 use Rattle.query_grammar.proofs.ItemWeights.{opens_fold}
-use Rattle.query_grammar.proofs.Weights.{is_node, is_statement, leaves_by, sum_total}
+use Rattle.query_grammar.proofs.Weighing.{is_node, is_statement, leaves_by, sum_total}
 
 node_is : (r : Role) → cond (counts_as_node r) 1 0 ≡ is_node r
 node_is Plain = refl

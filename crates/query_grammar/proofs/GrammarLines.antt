@@ -1,6 +1,5 @@
 -- The parser of each line meets the language of the line.
-use Rattle.std.proofs.Common.{◌≡◌, ℕ, zero, suc, Bool, true, false, cond, eqb, List, [], ◌∷◌, ◌++◌, Option, Some, None, refl, ap}
-use Rattle.std.proofs.Common.{eq-eqb}
+use Rattle.std.proofs.Common.{◌≡◌, ℕ, zero, suc, Bool, true, false, List, [], ◌∷◌, ◌++◌, Some, refl}
 use Rattle.query_lang.specs.declared.fault.Span.{Span}
 use Rattle.query_lang.specs.declared.fold.Op.{Op}
 use Rattle.query_lang.specs.declared.fold.Op.TheVariants as operations
@@ -11,143 +10,31 @@ use Rattle.query_lang.specs.declared.token.Word.TheVariants as words
 use Rattle.query_lang.specs.declared.token.Mark.TheVariants as marks
 use Rattle.query_lang.specs.declared.token.TokenKind.{TokenKind}
 use Rattle.query_lang.specs.declared.token.TokenKind.TheVariants as kinds
-use Rattle.query_lang.specs.declared.token.Token.{Token}
-use Rattle.query_grammar.specs.Language.{Role, Plain, Node, Statement, Opening, Leaf, Language, Word, Then, Repeated, Either, Meaning}
-use Rattle.query_grammar.specs.Parser.{Limits, Limited, Unlimited, Parser, word, followed_by, repeated}
-use Rattle.query_grammar.specs.Kinds.{one_of, among, kind, kind_number, is, name, name_of, number, number_of, operator, kinds_of, sign}
+use Rattle.query_grammar.specs.Language.{Plain, Node, Statement, Opening, Leaf, Language, Then, Repeated, Either, Meaning}
+use Rattle.query_grammar.specs.Parser.{Limits, Limited, Unlimited, Parser, followed_by, repeated}
+use Rattle.query_grammar.specs.Kinds.{one_of, among, kind, kind_number, is, operator, kinds_of, sign}
 use Rattle.query_grammar.specs.Kinds.{keyword}
-use Rattle.query_grammar.specs.Grammar.{Token_of, After, Before, Parens, Brackets, Separated, Listed, Operators, either_ops, both_ops}
+use Rattle.query_grammar.specs.Grammar.{Token_of, After, Parens, Listed, Operators, either_ops, both_ops}
 use Rattle.query_grammar.specs.Grammar.{comparing_ops, or_ops, xor_ops, and_ops, shift_ops, sum_ops, product_ops, functions, Level, Atom}
 use Rattle.query_grammar.specs.Grammar.{Primary, Unary, Product, Sum, Shift, BitAnd, BitXor, BitOr, Comparison, Conjunction, Disjunction}
 use Rattle.query_grammar.specs.Grammar.{Expression, Assignment, Emission, Block, IfPart, IfStatement, Statement_at, StateVariable}
 use Rattle.query_grammar.specs.Grammar.{Parameters, Fold, Filter, ColumnOf, Mapping, Pairing, KeyOf, Group, Best, Streaming, Stream}
 use Rattle.query_grammar.specs.Grammar.{Finishing, Final, Print, ItemOf, Query}
-use Rattle.query_grammar.specs.Reading.{token_of, after, before, parens, brackets, separated, listed_by, blocked, atom_starts}
+use Rattle.query_grammar.specs.Reading.{token_of, parens, listed_by, blocked, atom_starts}
 use Rattle.query_grammar.specs.Reading.{primary_starts, expr_starts, level, atom, primary, unary, product, sum, shift, bit_and, bit_xor}
 use Rattle.query_grammar.specs.Reading.{bit_or, comparison, conjunction, disjunction, expr_at, assignment, emission, stmt_starts, block}
 use Rattle.query_grammar.specs.Reading.{if_part, if_statement, statement, stmt_at, state_variable, parameters, fold_def, filter_of}
 use Rattle.query_grammar.specs.Reading.{column_of, mapping, pairing, key_of, group, best, streaming, stream, finishing, final, print, item}
 use Rattle.query_grammar.specs.Reading.{item_starts, query}
-use Rattle.query_grammar.proofs.Parses.{Parses, is_some_of, parses_wider, parses_wider_on, parses_word}
+use Rattle.query_grammar.proofs.Parses.{Parses, parses_wider, parses_wider_on, parses_word}
 use Rattle.query_grammar.proofs.Choices.{parses_blocked}
 use Rattle.query_grammar.proofs.Sequences.{parses_null_then}
-use Rattle.query_grammar.proofs.Lines.{disjoint, disjoint_is, Line, EndFree, free_word, free_both, line_word, line_then, line_then_null}
+use Rattle.query_grammar.proofs.Lines.{disjoint, disjoint_is, Line, EndFree, free_word, free_both, line_then, line_then_null}
 use Rattle.query_grammar.proofs.Lines.{line_null_then, line_either, line_once, line_repeated, line_meaning, line_sets, line_chained}
 use Rattle.query_grammar.proofs.Lines.{more_left, more_right, less_left}
-
--- ---- words
-
-abbrev no_span : Option Span
-no_span = None
-
-pub is_kind : (wanted : TokenKind) (t : Token) → is_some_of (is wanted t) ≡ true → among (kind_number wanted ∷ []) t ≡ true
-is_kind wanted t h = go (eqb (kind t) (kind_number wanted)) h
-  where
-    go : (b : Bool) → is_some_of (cond b (Some t.span) no_span) ≡ true → cond b true false ≡ true
-    go true h = refl
-    go false h = absurd cc
-
-pub operator_kind : (ops : Operators) (t : Token) → is_some_of (operator ops t) ≡ true → among (kinds_of ops) t ≡ true
-operator_kind [] t h = absurd cc
-operator_kind (o ∷ others) t h = go (eqb (kind t) (kind_number o.0)) (operator_kind others t) h
-  where
-    go : (b : Bool) → (is_some_of (operator others t) ≡ true → among (kinds_of others) t ≡ true)
-        → is_some_of (cond b (Some (o.1, t.span)) (operator others t)) ≡ true → cond b true (among (kinds_of others) t) ≡ true
-    go true ih h = refl
-    go false ih h = ih h
-
-pub name_kind_of : (k : TokenKind) (span : Span) → is_some_of (name_of k span) ≡ true → one_of (0 ∷ []) (kind_number k) ≡ true
-name_kind_of (kinds.Name id) span h = refl
-name_kind_of (kinds.Number n) span h = absurd cc
-name_kind_of kinds.FiveTuple span h = absurd cc
-name_kind_of (kinds.Word w) span h = absurd cc
-name_kind_of (kinds.Mark m) span h = absurd cc
-name_kind_of kinds.End span h = absurd cc
-
-pub number_kind_of : (k : TokenKind) (span : Span) → is_some_of (number_of k span) ≡ true → one_of (1 ∷ []) (kind_number k) ≡ true
-number_kind_of (kinds.Number n) span h = refl
-number_kind_of (kinds.Name id) span h = absurd cc
-number_kind_of kinds.FiveTuple span h = absurd cc
-number_kind_of (kinds.Word w) span h = absurd cc
-number_kind_of (kinds.Mark m) span h = absurd cc
-number_kind_of kinds.End span h = absurd cc
-
-abbrev pub no_place : Span
-no_place = record { start = 0; end = 0 }
-
-abbrev pub sample_of : TokenKind → Token
-sample_of k = record { kind = k; span = no_place }
-
-pub is_itself : (k : TokenKind) → is k (sample_of k) ≡ Some no_place
-is_itself k = ap (λ (b : Bool). cond b (Some no_place) no_span) (eq-eqb (kind_number k) (kind_number k) refl)
-
-line_is : (m : Limits) (role : Role) (k : TokenKind) → one_of (kind_number k ∷ []) 3 ≡ false
-    → Line m (Word role (is k)) (word m role (is k)) (kind_number k ∷ []) [] false
-line_is m role k other = line_word (kind_number k ∷ []) (sample_of k) no_place (is_itself k) other (is_kind k)
-
-line_operator : (m : Limits) (ops : Operators) (k : TokenKind) (op : Op) → operator ops (sample_of k) ≡ Some (op, no_place)
-    → one_of (kinds_of ops) 3 ≡ false
-    → Line m (Word Node (operator ops)) (word m Node (operator ops)) (kinds_of ops) [] false
-line_operator m ops k op e other = line_word (kinds_of ops) (sample_of k) (op, no_place) e other (operator_kind ops)
-
-line_name : (m : Limits) (role : Role) → Line m (Word role name) (word m role name) (0 ∷ []) [] false
-line_name m role = line_word (0 ∷ []) (sample_of (kinds.Name 0)) (record { id = 0; span = no_place }) refl refl
-    (λ t h. name_kind_of t.kind t.span h)
-
-line_number : (m : Limits) (role : Role) → Line m (Word role number) (word m role number) (1 ∷ []) [] false
-line_number m role = line_word (1 ∷ []) (sample_of (kinds.Number 0)) (0, no_place) refl refl (λ t h. number_kind_of t.kind t.span h)
-
--- ---- signs and words around, and lists
-
-disjoint_nil : (xs : List ℕ) → disjoint xs [] ≡ true
-disjoint_nil [] = refl
-disjoint_nil (x ∷ xs) = disjoint_nil xs
-
-line_after : {A : Type 0} {m : Limits} {L : Language A} {p : Parser A} {xs ys : List ℕ} → (k : TokenKind)
-    → one_of (kind_number k ∷ []) 3 ≡ false → Line m L p xs ys false → Line m (After k L) (after m k p) (kind_number k ∷ []) ys false
-line_after {A} {m} {L} {p} {xs} {ys} k e f = line_meaning (line_then (line_is m Plain k e) f (disjoint_nil xs))
-
-line_before : {A : Type 0} {m : Limits} {L : Language A} {p : Parser A} {xs ys : List ℕ} → (k : TokenKind)
-    → one_of (kind_number k ∷ []) 3 ≡ false → Line m L p xs ys false → disjoint (kind_number k ∷ []) ys ≡ true
-    → Line m (Before L k) (before m p k) xs [] false
-line_before {A} {m} k e f d = line_meaning (line_then f (line_is m Plain k e) d)
-
-line_before_null : {A : Type 0} {m : Limits} {L : Language A} {p : Parser A} {xs ys : List ℕ} → (k : TokenKind)
-    → one_of (kind_number k ∷ []) 3 ≡ false → Line m L p xs ys true → disjoint (kind_number k ∷ []) ys ≡ true
-    → Line m (Before L k) (before m p k) (xs ++ (kind_number k ∷ [])) [] false
-line_before_null {A} {m} k e f d = line_meaning (line_null_then f (line_is m Plain k e) d)
-
-line_parens : {A : Type 0} {m : Limits} {L : Language A} {p : Parser A} {xs ys : List ℕ} → Line m L p xs ys false
-    → disjoint (25 ∷ []) ys ≡ true → Line m (Parens L) (parens m p) (24 ∷ []) [] false
-line_parens f d = line_after (sign marks.OpenParen) refl (line_before (sign marks.CloseParen) refl f d)
-
-line_parens_null : {A : Type 0} {m : Limits} {L : Language A} {p : Parser A} {xs ys : List ℕ} → Line m L p xs ys true
-    → disjoint (25 ∷ []) ys ≡ true → Line m (Parens L) (parens m p) (24 ∷ []) [] false
-line_parens_null f d = line_after (sign marks.OpenParen) refl (line_before_null (sign marks.CloseParen) refl f d)
-
-line_brackets : {A : Type 0} {m : Limits} {L : Language A} {p : Parser A} {xs ys : List ℕ} → Line m L p xs ys false
-    → disjoint (27 ∷ []) ys ≡ true → Line m (Brackets L) (brackets m p) (26 ∷ []) [] false
-line_brackets f d = line_after (sign marks.OpenBracket) refl (line_before (sign marks.CloseBracket) refl f d)
-
-line_brackets_null : {A : Type 0} {m : Limits} {L : Language A} {p : Parser A} {xs ys : List ℕ} → Line m L p xs ys true
-    → disjoint (27 ∷ []) ys ≡ true → Line m (Brackets L) (brackets m p) (26 ∷ []) [] false
-line_brackets_null f d = line_after (sign marks.OpenBracket) refl (line_before_null (sign marks.CloseBracket) refl f d)
-
--- L { "," L }
-line_separated : {A : Type 0} {m : Limits} {L : Language A} {p : Parser A} {xs ys : List ℕ} → Line m L p xs ys false
-    → disjoint (30 ∷ []) ys ≡ true
-    → Line m (Separated L) (separated m p) xs (ys ++ ((30 ∷ []) ++ ys)) false
-line_separated f d = line_meaning (line_then_null f (line_repeated (line_after (sign marks.Comma) refl f) d) d)
-
--- [ L { "," L } ]
-line_listed : {A : Type 0} {m : Limits} {L : Language A} {p : Parser A} {xs ys : List ℕ} → Line m L p xs ys false
-    → disjoint (30 ∷ []) ys ≡ true
-    → Line m (Listed L) (listed_by m xs p) xs (xs ++ (ys ++ ((30 ∷ []) ++ ys))) true
-line_listed f d = line_meaning (line_once (line_separated f d))
-
-line_comma : {A : Type 0} {m : Limits} {L : Language A} {p : Parser A} {xs ys : List ℕ} → Line m L p xs ys false
-    → Line m (After (sign marks.Comma) L) (after m (sign marks.Comma) p) (30 ∷ []) ys false
-line_comma f = line_after (sign marks.Comma) refl f
+use Rattle.query_grammar.proofs.LineParts.{is_kind, no_place, sample_of, is_itself, line_is, line_operator, line_name, line_number}
+use Rattle.query_grammar.proofs.LineParts.{disjoint_nil, line_after, line_before, line_before_null, line_parens, line_parens_null}
+use Rattle.query_grammar.proofs.LineParts.{line_brackets, line_brackets_null, line_separated, line_listed, line_comma}
 
 -- ---- expressions
 

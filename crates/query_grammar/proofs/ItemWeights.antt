@@ -24,10 +24,10 @@ use Rattle.query_grammar.specs.Grammar.{Mapping, Pairing, KeyOf, Group, Best, St
 use Rattle.query_grammar.specs.Fault.{IsAccepted}
 use Rattle.query_grammar.proofs.Parses.{pays, pays-append}
 use Rattle.query_grammar.proofs.Runs.{Value, pays_is}
-use Rattle.query_grammar.proofs.Weights.{total, sum_total, is_node, is_statement, is_opening, leaves_by, Weight, Weighs, none, weigh_plain}
-use Rattle.query_grammar.proofs.Weights.{weigh_then, weigh_meaning, weigh_either, weigh_once, weigh_same, weigh_after, weigh_before}
-use Rattle.query_grammar.proofs.Weights.{weigh_between, weigh_separated, weigh_listed, weigh_parens, weigh_block, weigh_expr, weigh_stmt}
-use Rattle.query_grammar.proofs.Weights.{if_some, nothing_in}
+use Rattle.query_grammar.proofs.Weighing.{total, sum_total, is_node, is_statement, is_opening, leaves_by, Weight, Weighs, none, weigh_plain}
+use Rattle.query_grammar.proofs.Weighing.{weigh_then, weigh_either, weigh_once, weigh_same, weigh_after, weigh_before, weigh_meaning}
+use Rattle.query_grammar.proofs.Weighing.{weigh_between, weigh_separated, weigh_listed, if_some}
+use Rattle.query_grammar.proofs.Weights.{weigh_parens, weigh_block, weigh_expr, weigh_stmt, nothing_in}
 
 -- ---- what a limit leaves
 

@@ -4,6 +4,7 @@ pub mod Choices
 pub mod Repeats
 pub mod Chains
 pub mod Lines
+pub mod LineParts
 pub mod GrammarLines
 pub mod Nests
 pub mod NestLines
@@ -12,6 +13,7 @@ pub mod Splits
 pub mod Runs
 pub mod Whole
 pub mod TextFaults
+pub mod Weighing
 pub mod Weights
 pub mod ItemWeights
 pub mod FoldTokens

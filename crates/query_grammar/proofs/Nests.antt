@@ -18,7 +18,7 @@ use Rattle.query_grammar.specs.Reading.{blocked, blocked_at}
 use Rattle.query_grammar.specs.Fault.{opening, closing, opens, closes, opened, closed, IsShallow}
 use Rattle.query_grammar.proofs.Parses.{is_some_of}
 use Rattle.query_grammar.proofs.Lines.{disjoint, disjoint_is, less_left, less_right}
-use Rattle.query_grammar.proofs.GrammarLines.{is_kind, operator_kind, name_kind_of, number_kind_of}
+use Rattle.query_grammar.proofs.LineParts.{is_kind, operator_kind, name_kind_of, number_kind_of}
 
 opened-append : (xs ys : List Token) → opened (xs ++ ys) ≡ opened xs + opened ys
 opened-append [] ys = omega arith

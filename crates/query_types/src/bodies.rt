@@ -138,12 +138,33 @@ fn enclose(
     })
 }
 
-// A condition that doesn't hold.
-fn negation(alloc: Global, condition: &TypedExpr) -> Result<TypedExpr, AllocError>
-    ensures { IfOk result (λ e. e ≡ TypedExpr.Not condition.now) }
+// What encloses the statements of the first block of a choice.
+fn enclose_first(
+    alloc: Global,
+    states: &[u32],
+    outer: &Enclosing,
+    written: &Expr,
+    condition: &TypedExpr,
+) -> Result<Enclosing, AllocError>
+    ensures { IfOk result (λ inner. inner ≡ inside states.now outer.now written.now condition.now) }
 {
     let copy = copy_expr(alloc, condition)?;
-    Ok(TypedExpr::Not(Boxed::new(alloc, copy)?))
+    enclose(alloc, states, outer, written, copy)
+}
+
+// What encloses the statements of its second block, where the condition doesn't hold.
+fn enclose_second(
+    alloc: Global,
+    states: &[u32],
+    outer: &Enclosing,
+    written: &Expr,
+    condition: &TypedExpr,
+) -> Result<Enclosing, AllocError>
+    ensures { IfOk result (λ inner. inner ≡ inside states.now outer.now written.now (TypedExpr.Not condition.now)) }
+{
+    let copy = copy_expr(alloc, condition)?;
+    let opposite = TypedExpr::Not(Boxed::new(alloc, copy)?);
+    enclose(alloc, states, outer, written, opposite)
 }
 
 // The condition of an `emit` from those that enclose it.
@@ -176,10 +197,8 @@ fn open_choice(
     ensures numbers { IfOk result (λ _. greatest_number written.now < 2 ^ 64) }
 {
     let condition = fold_condition(alloc, scope, written)?;
-    let copy = copy_expr(alloc, &condition)?;
-    let holding = enclose(alloc, scope.states, outer, written, copy)?;
-    let opposite = negation(alloc, &condition)?;
-    let failing = enclose(alloc, scope.states, outer, written, opposite)?;
+    let holding = enclose_first(alloc, scope.states, outer, written, &condition)?;
+    let failing = enclose_second(alloc, scope.states, outer, written, &condition)?;
     let choice = Choice {
         condition,
         holding,
