@@ -70,13 +70,11 @@ fn says_what_may_stand_there(rt: HostRuntime) -> Result<(), Fail> {
 #[test]
 fn says_that_a_text_is_too_long(rt: HostRuntime) -> Result<(), Fail> {
     let alloc = rt.alloc();
-    let mut long = Vec::new(alloc);
-    for _ in 0..70_000 {
-        long.push(b' ')?;
-    }
-    assert!(rt; has_piece(alloc, &long[..65_536], "\"kind\":\"NothingPrinted\"")?);
+    let longest = vec![in alloc; b' '; 65_536]?;
+    assert!(rt; has_piece(alloc, longest.as_slice(), "\"kind\":\"NothingPrinted\"")?);
     for count in [65_537, 65_538, 70_000] {
-        assert!(rt; has_piece(alloc, &long[..count], "\"kind\":\"QueryTooLong\"")?);
+        let long = vec![in alloc; b' '; count]?;
+        assert!(rt; has_piece(alloc, long.as_slice(), "\"kind\":\"QueryTooLong\"")?);
     }
     Ok(())
 }
@@ -91,6 +89,7 @@ fn ends_where_a_write_fails(rt: HostRuntime) -> Result<(), Fail> {
     assert_eq!(rt; told.status, ToolStatus::OutputFault);
     assert_eq!(rt; told.status.number(), 6);
     assert_eq!(rt; told.written.as_slice().len(), 100);
+    assert_eq!(rt; told.texts.len(), 2);
     assert_eq!(rt; told.texts[0].len(), 0);
     Ok(())
 }

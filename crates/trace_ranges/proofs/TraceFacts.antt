@@ -1,5 +1,5 @@
 -- Ranges next to one another have the packets of the range that they are together.
-use Rattle.std.proofs.Common.{◌≡◌, ◌⊎◌, ℕ, ◌+◌, ◌-◌, ◌≤◌, true, List, [], ◌∷◌, ◌++◌, length, Option, None, Some, Result, Ok, Err, refl, sym}
+use Rattle.std.proofs.Common.{◌≡◌, ◌⊎◌, ℕ, ◌+◌, ◌-◌, ◌≤◌, List, [], ◌∷◌, ◌++◌, length, Option, None, Some, Result, Ok, Err, refl, sym}
 use Rattle.std.proofs.Common.{ap, ◌∙◌, subst, inl, inr, append-nil, length-append, arith}
 use Rattle.marple_base.specs.declared.field.FieldSet.{FieldSet}
 use Rattle.marple_base.specs.declared.field.Packet.{Packet}
@@ -8,13 +8,12 @@ use Rattle.trace_reader.specs.Reading.{records}
 use Rattle.trace_reader.specs.Traces.{Contents, Layout, layout_of, rest_of}
 use Rattle.trace_reader.specs.declared.fault.TraceFault.{TraceFault}
 use Rattle.trace_pieces.proofs.ContentFacts.{after, after_none, piece_refused, piece_sent}
-use Rattle.trace_pieces.specs.Machine.{EndsBetween, IsHead, state_of}
+use Rattle.trace_pieces.specs.Machine.{EndsBetween, IsHead}
 use Rattle.trace_pieces.specs.Wholes.{all_contents, all_packets, contents_by, contents_of, first_fault}
 use Rattle.trace_ranges.specs.Laws.{AreBounds, NoneIsFaulty, RangesAreTheTrace, packets_of_ranges}
 use Rattle.trace_ranges.specs.Ranges.{begins, kept, range_text}
-use Rattle.trace_ranges.specs.Spots.{is_between}
 use Rattle.trace_ranges.specs.declared.spot.Spot.TheVariants as spot
-use Rattle.trace_ranges.proofs.EndFacts.{IsReader, ends_or_none, first_reader}
+use Rattle.trace_ranges.proofs.EndFacts.{ends_or_none, first_reader}
 use Rattle.trace_ranges.proofs.HeaderFacts.{HasHeader, HasNoRecords, header_of}
 use Rattle.trace_ranges.proofs.RangeFacts.{begins_apart, ranges_have_all, ranges_join}
 use Rattle.trace_ranges.proofs.WindowFacts.{begun}
