@@ -14,6 +14,7 @@ use Rattle.query_lang.specs.Lexis.{fault_at}
 use Rattle.query_lang.specs.declared.fault.FaultKind.TheVariants as kinds
 use Rattle.query_lang.specs.declared.typed.TypedQuery.{TypedQuery}
 use Rattle.trace_reader.specs.Traces.{Contents, contents, opening}
+use Rattle.trace_reader.specs.declared.fault.TheConstants.{MAX_TRACE}
 use Rattle.trace_reader.specs.declared.fault.TraceFault.TheVariants as faults
 use Rattle.trace_reader.specs.declared.fault.TraceFault.{TraceFault}
 use Rattle.accepted_query.specs.Accepted.{accepted, fault_in, query_fault}
@@ -62,15 +63,15 @@ told_query : (left : Option (List ℕ)) (text : List ℕ) → IfSome left (λ by
     → IfSome left (λ bytes. accepted bytes ≡ accepted text)
 told_query left text read = told_same 65536 (Err (fault_at kinds.QueryTooLong 65536)) accepted left text long_query read
 
-long_trace : (reads : FieldSet) → IsLimited 268435456 (record { packets = []; fault = Some faults.TraceTooLong })
+long_trace : (reads : FieldSet) → IsLimited MAX_TRACE (record { packets = []; fault = Some faults.TraceTooLong })
     (λ bytes. contents bytes reads)
 unfolding contents opening
-long_trace reads bytes long = rw (test_true 268435456 (length bytes) long) refl
+long_trace reads bytes long = rw (test_true MAX_TRACE (length bytes) long) refl
 
-told_trace : (reads : FieldSet) (left : Option (List ℕ)) (text : List ℕ) → IfSome left (λ bytes. text ≡ take 268435457 bytes)
+told_trace : (reads : FieldSet) (left : Option (List ℕ)) (text : List ℕ) → IfSome left (λ bytes. text ≡ take (MAX_TRACE + 1) bytes)
     → IfSome left (λ bytes. contents bytes reads ≡ contents text reads)
 told_trace reads left text read =
-    told_same 268435456 (record { packets = []; fault = Some faults.TraceTooLong }) (λ bytes. contents bytes reads) left text
+    told_same MAX_TRACE (record { packets = []; fault = Some faults.TraceTooLong }) (λ bytes. contents bytes reads) left text
     (long_trace reads) read
 
 -- a fact that follows, where the bytes are known
@@ -95,7 +96,7 @@ query_ends before after text slice Memory read same told = tt
 
 -- What is known of the packets and the fault of the bytes that were read holds of the trace in the input.
 pub told_contents : (P : Contents → Type 0) (reads : FieldSet) (left : Option (List ℕ)) (text slice : List ℕ)
-    → IfSome left (λ bytes. text ≡ take 268435457 bytes) → slice ≡ text
+    → IfSome left (λ bytes. text ≡ take (MAX_TRACE + 1) bytes) → slice ≡ text
     → P (contents slice reads) → IfSome left (λ bytes. P (contents bytes reads))
 told_contents P reads left text slice read same known =
     IfSome-map (λ bytes. contents bytes reads ≡ contents text reads) (λ bytes. P (contents bytes reads)) left
@@ -105,7 +106,7 @@ told_contents P reads left text slice read same known =
 pub trace_ends : {O : Type 0} (taken : O → Option (List ℕ)) (faults : O → ℕ) (reads : FieldSet) (fault : Contents → Option TraceFault)
     (shown : Contents → List ℕ)
     (before after : Input) (old new : O) (text slice : List ℕ) (answer : RunError)
-    → IfSome before.left (λ bytes. text ≡ take 268435457 bytes) → slice ≡ text
+    → IfSome before.left (λ bytes. text ≡ take (MAX_TRACE + 1) bytes) → slice ≡ text
     → BreaksOff taken faults (shown (contents slice reads)) (fault (contents slice reads)) old new answer
     → TraceEnds taken faults (λ bytes. fault (contents bytes reads)) (λ bytes. shown (contents bytes reads)) before after old new
     (status_for answer)

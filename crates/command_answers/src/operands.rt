@@ -13,15 +13,13 @@ use marple_base::{Inputs, ReadAnswer, Text, Which, read_input};
 use plan_loader::{LoadedPlan, read_plan};
 use query_lang::QueryError;
 use std::alloc::{AllocError, Global};
+use trace_reader::MAX_TRACE;
 
 /// The most bytes of a query.
 pub const MAX_QUERY: usize = 65_536;
 
 /// The most bytes of the text of a plan.
 pub const MAX_PLAN: usize = 2_097_152;
-
-/// The most bytes of a trace.
-pub const MAX_TRACE: usize = 268_435_456;
 
 /// Reads the query, to its end or to one byte more than the limit, and accepts or refuses it.
 pub fn read_query<I: Inputs>(alloc: Global, inputs: &mut I) -> Result<AcceptedQuery, Status>

@@ -11,7 +11,6 @@ ghost use Rattle.epoch_model.specs.Epochs.{is_refresh};
 ghost use Rattle.trace_drive.specs.Clocks.{HasCounted};
 ghost use Rattle.trace_drive.specs.Drives.{words_of};
 ghost use Rattle.trace_reader.specs.Faults.{IfRefused};
-ghost use Rattle.trace_reader.specs.Traces.{most_records};
 ghost use Rattle.trace_reader.specs.declared.fault.TraceFault.TheVariants.{TooManySwitches as SwitchFault};
 ghost use Rattle.driven_net.specs.Follows.{NetFollows};
 ghost use Rattle.driven_net.specs.Lags.{AreLagClocks, CountsAt, HaveCounted};
@@ -24,7 +23,7 @@ use network::{Network, runs_follow_events};
 use std::alloc::{AllocError, Global};
 use std::sync::ledger::Ledger;
 use trace_drive::Clock;
-use trace_reader::{Trace, TraceAnswer, TraceFault};
+use trace_reader::{MAX_RECORDS, Trace, TraceAnswer, TraceFault};
 
 // The number of a packet's switch. A switch that is new gets caches and pipes, unless it is the 65th.
 fn switch_at<const WAYS: usize, L: Ledger>(
@@ -123,7 +122,7 @@ pub(crate) fn take_all<const WAYS: usize, L: Ledger>(
 ) -> Result<Network<WAYS>, TraceAnswer>
     requires switches { network.switches ≡ 0 }
     requires fresh { NetworkStands WAYS network [] }
-    requires few { length trace.packets ≤ most_records }
+    requires few { length trace.packets ≤ MAX_RECORDS }
     ensures accepted { IfOk result (λ found. first_fault [] 1 (words_of trace.entry.packets) trace.entry.fault ≡ None) }
     ensures follows { IfOk result (λ found. (known : List ℕ) × NetFollows WAYS known (words_of trace.entry.packets) found) }
     ensures turns { IfOk result (MakesTurns WAYS lag [] (words_of trace.entry.packets) network.entry) }

@@ -8,7 +8,6 @@ ghost use Rattle.stage_plan.specs.Planned.{IsPlanOf};
 ghost use Rattle.trace_drive.specs.Answers.{BreaksOff};
 ghost use Rattle.trace_drive.specs.Drives.{words_of};
 ghost use Rattle.trace_reader.specs.Faults.{IfRefused};
-ghost use Rattle.trace_reader.specs.Traces.{most_records};
 ghost use Rattle.net_wide.specs.Combining.{net_fault};
 ghost use Rattle.net_wide.specs.NetTables.{net_text};
 ghost use Rattle.net_wide.specs.NetLaws.{TellsSwitches};
@@ -30,7 +29,7 @@ use stage_plan::Plan;
 use std::alloc::{AllocError, Global};
 use std::sync::ledger::Ledger;
 use trace_drive::RunError;
-use trace_reader::{Trace, TraceAnswer};
+use trace_reader::{MAX_RECORDS, Trace, TraceAnswer};
 
 // The plan's network after all packets of the trace, with caches and pipes of the setting's sizes.
 fn network_after<const WAYS: usize, L: Ledger>(
@@ -44,7 +43,7 @@ fn network_after<const WAYS: usize, L: Ledger>(
     requires buckets { 0 < setting.buckets }
     requires places { setting.buckets * WAYS ≤ 65536 }
     requires pipe { (0 < setting.pipe) × (setting.pipe ≤ 65536) }
-    requires few { length trace.packets ≤ most_records }
+    requires few { length trace.packets ≤ MAX_RECORDS }
     ensures accepted { IfOk result (λ network. first_fault [] 1 (words_of trace.entry.packets) trace.entry.fault ≡ None) }
     ensures plan { IfOk result (λ network. network.plan ≡ plan) }
     ensures buckets { IfOk result (λ network. network.buckets ≡ setting.buckets) }
@@ -81,7 +80,7 @@ fn run_with<const WAYS: usize, O: Sink, L: Ledger>(
     requires combines { net_fault query.typed ≡ None }
     requires tells { TellsSwitches query.typed }
     requires whole { AreWhole (words_of trace.packets) }
-    requires few { length trace.packets ≤ most_records }
+    requires few { length trace.packets ≤ MAX_RECORDS }
     ensures accepted { OnOk result (first_fault [] 1 (words_of trace.entry.packets) trace.entry.fault ≡ None) }
     ensures written { OnOk result (Appends (O.taken out.old) (O.taken out.new)
         (net_text query.typed setting.buckets WAYS (words_of trace.entry.packets))) }
@@ -112,7 +111,7 @@ pub(crate) fn run_with_its_ways<O: Sink, L: Ledger>(
     requires combines { net_fault query.typed ≡ None }
     requires tells { TellsSwitches query.typed }
     requires whole { AreWhole (words_of trace.packets) }
-    requires few { length trace.packets ≤ most_records }
+    requires few { length trace.packets ≤ MAX_RECORDS }
     ensures accepted { OnOk result (first_fault [] 1 (words_of trace.entry.packets) trace.entry.fault ≡ None) }
     ensures written { OnOk result (Appends (O.taken out.old) (O.taken out.new)
         (net_text query.typed setting.buckets (ways_number setting.ways) (words_of trace.entry.packets))) }

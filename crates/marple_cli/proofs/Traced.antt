@@ -1,5 +1,5 @@
 -- How a command over a trace ends, phase by phase.
-use Rattle.std.proofs.Common.{◌≡◌, ℕ, true, List, take, Option, None, IfSome, Result, subst}
+use Rattle.std.proofs.Common.{◌≡◌, ◌+◌, ℕ, true, List, take, Option, None, IfSome, Result, subst}
 use Rattle.std.specs.Result.{IsErrAnd}
 use Rattle.std.specs.Io.KnownBytes.{Appends}
 use Rattle.marple_base.specs.Inputs.{Input}
@@ -7,6 +7,7 @@ use Rattle.marple_base.specs.declared.field.FieldSet.{FieldSet}
 use Rattle.marple_base.specs.declared.inputs.Which.{Which}
 use Rattle.marple_base.specs.declared.inputs.Which.TheVariants.{Query, Trace}
 use Rattle.trace_reader.specs.Traces.{Contents, contents}
+use Rattle.trace_reader.specs.declared.fault.TheConstants.{MAX_TRACE}
 use Rattle.trace_reader.specs.declared.fault.TraceFault.{TraceFault}
 use Rattle.trace_drive.specs.Answers.{BreaksOff}
 use Rattle.trace_drive.specs.declared.answer.RunError.{RunError}
@@ -55,7 +56,8 @@ module _ {O : Type 0} (taken : O → Option (List ℕ)) (faults : O → ℕ) (co
       (λ trace. text (contents trace reads)) (middle Trace) (after Trace) out status ended)
 
   -- the bytes that were read
-  module _ (bytes slice : List ℕ) (read : IfSome (middle Trace).left (λ trace. bytes ≡ take 268435457 trace)) (sliced : slice ≡ bytes) where
+  module _ (bytes slice : List ℕ) (read : IfSome (middle Trace).left (λ trace. bytes ≡ take (MAX_TRACE + 1) trace))
+      (sliced : slice ≡ bytes) where
     pub broken_off : (old new : O) (result : Result (Unit {0}) Status) (answer : RunError)
         → IsErrAnd result (λ found. found ≡ status_for answer)
         → BreaksOff taken faults (text (contents slice reads)) (fault (contents slice reads)) old new answer

@@ -12,13 +12,14 @@ ghost use Rattle.query_run.specs.Driven.{IsLeftWith, geometry_of, pipeline_in};
 ghost use Rattle.query_run.specs.Reports.{MayPrint, Prints};
 ghost use Rattle.query_run.specs.Views.{views_text};
 
-use command_answers::{MAX_TRACE, Status, read_trace};
+use command_answers::{Status, read_trace};
 use command_line::Setting;
 use marple_base::{Inputs, Sink, Steps, Which};
 use query_run::{Driven, Report, run_over_trace};
 use stage_plan::Plan;
 use std::alloc::Global;
 use std::sync::ledger::Ledger;
+use trace_reader::MAX_TRACE;
 
 /// Reads the trace, runs the plan over its packets, and writes the report: a view after each packet whose number is a
 /// multiple of `every`, none where that is 0, and the report of all packets at the end. What is left is the pipeline after

@@ -11,8 +11,9 @@ use Rattle.marple_base.specs.declared.field.FieldSet.{FieldSet}
 use Rattle.marple_base.specs.declared.field.Packet.{Packet}
 use Rattle.trace_reader.specs.Reading.{records}
 use Rattle.trace_reader.specs.Traces.{Contents, Layout, column_of, columns_named, columns_of, contents, contents_from, contents_with, each}
-use Rattle.trace_reader.specs.Traces.{layout_of, layout_with, most_bytes, most_records, only_column, opening, packet_of, packet_with}
+use Rattle.trace_reader.specs.Traces.{layout_of, layout_with, only_column, opening, packet_of, packet_with}
 use Rattle.trace_reader.specs.Traces.{rest_of, with_first, with_packet, word_at, words_of}
+use Rattle.trace_reader.specs.declared.fault.TheConstants.{MAX_RECORDS, MAX_TRACE}
 use Rattle.trace_reader.specs.declared.fault.TraceFault.{TraceFault}
 use Rattle.trace_reader.specs.declared.fault.TraceFault.TheVariants as fault
 use Rattle.marple_laws.specs.FewerFields.{zeroed, as_read, all_as_read}
@@ -132,7 +133,7 @@ module _ (reads : FieldSet) (width : ℕ) (columns : List (Option ℕ)) where
   packet_masked : (n : ℕ) (texts : List (List ℕ)) (p : Packet) → packet_of full n texts ≡ Ok p
       → packet_of fewer n texts ≡ Ok (as_read reads p)
   unfolding packet_of
-  packet_masked n texts p e = go (nat_lt most_records n) (not (length texts == width)) (words_of columns texts) refl e
+  packet_masked n texts p e = go (nat_lt MAX_RECORDS n) (not (length texts == width)) (words_of columns texts) refl e
     where
       go : (a b : Bool) (w : Result (List ℕ) Field) → words_of columns texts ≡ w
           → cond a (Err fault.TooManyPackets) (cond b (Err (fault.FieldCount n)) (packet_with n w)) ≡ Ok p
@@ -178,7 +179,7 @@ good packets = record { packets = packets; fault = None }
 pub read_fewer : (text : List ℕ) (reads : FieldSet) (sent : List Packet) → contents text whole ≡ record { packets = sent; fault = None }
     → contents text reads ≡ record { packets = all_as_read reads sent; fault = None }
 unfolding contents opening
-read_fewer text reads sent e = go (nat_lt most_bytes (length text)) (records text) e
+read_fewer text reads sent e = go (nat_lt MAX_TRACE (length text)) (records text) e
   where
     inner : (header : List (List ℕ)) (rest : List (List (List ℕ))) (r : Result (List (Option ℕ)) TraceFault) → columns_of whole header ≡ r
         → contents_with (layout_with (length header) r) rest ≡ good sent

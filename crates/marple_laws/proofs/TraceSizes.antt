@@ -8,7 +8,7 @@ use Rattle.std.proofs.lemmas.Grind.{flat_map-append}
 use Rattle.epoch_model.proofs.KeyLists.{by_test}
 use Rattle.marple_base.specs.declared.field.Field.TheVariants.{Tout}
 use Rattle.marple_base.specs.declared.field.Packet.{Packet}
-use Rattle.trace_reader.specs.Traces.{most_bytes}
+use Rattle.trace_reader.specs.declared.fault.TheConstants.{MAX_TRACE}
 use Rattle.queue_sim.specs.Generator.{Arrival, arrival_by, arrivals, drawn_after, last_time, leaves, packet_of, packets_from, simulated}
 use Rattle.queue_sim.specs.Generator.{still_there, switch_of, touts_at, with_some}
 use Rattle.queue_sim.specs.ReadBack.{ArePackets, AreWords}
@@ -256,7 +256,7 @@ module _ (start capacity : ℕ) where
   pub made_many : (n : ℕ) → n ≤ 1000000 → length (simulated n start capacity) ≡ n
   made_many n few = (all_small n few).many
 
-  pub text_fits : (n : ℕ) → n ≤ 1000000 → length (trace_text (simulated n start capacity)) ≤ most_bytes
+  pub text_fits : (n : ℕ) → n ≤ 1000000 → length (trace_text (simulated n start capacity)) ≤ MAX_TRACE
   text_fits n few =
       let text : Packet → List ℕ = λ packet. line (packet_texts packet) in
       omega (arith, (all_small n few).lines, header_long, length-append (line header) (flat_map text (simulated n start capacity)))

@@ -13,8 +13,9 @@ use Rattle.marple_base.specs.declared.field.FieldSet.{FieldSet}
 use Rattle.marple_base.specs.declared.field.Packet.{Packet}
 use Rattle.trace_reader.specs.Numbers.{without_blanks, word_of}
 use Rattle.trace_reader.specs.Reading.{records}
-use Rattle.trace_reader.specs.Traces.{Contents, Layout, column_of, columns_named, columns_of, contents, contents_from, each, most_records}
+use Rattle.trace_reader.specs.Traces.{Contents, Layout, column_of, columns_named, columns_of, contents, contents_from, each}
 use Rattle.trace_reader.specs.Traces.{only_column, packet_of, text_at, word_at, words_of}
+use Rattle.trace_reader.specs.declared.fault.TheConstants.{MAX_RECORDS}
 use Rattle.trace_reader.proofs.TraceFacts.{contents_good}
 use Rattle.queue_sim.specs.ReadBack.{ArePackets, AreWords}
 use Rattle.queue_sim.specs.TraceText.{word_text}
@@ -110,17 +111,17 @@ length-by words (f ∷ fields) = ap suc (length-by words fields)
 abbrev layout : FieldSet → Layout
 layout reads = record { width = length (map field_name (written_fields reads)); columns = map (place_if reads) all_fields }
 
-packet_here : (reads : FieldSet) (packet : Packet) (n : ℕ) → AreWords packet.words → n ≤ most_records
+packet_here : (reads : FieldSet) (packet : Packet) (n : ℕ) → AreWords packet.words → n ≤ MAX_RECORDS
     → packet_of (layout reads) n (texts_by packet.words (written_fields reads)) ≡ Ok (as_read reads packet)
 unfolding packet_of
 packet_here reads packet n are within =
-    let few : nat_lt most_records n ≡ false = grind (arith, nat_tests) in
+    let few : nat_lt MAX_RECORDS n ≡ false = grind (arith, nat_tests) in
     let fields = written_fields reads in
     let width : (length (texts_by packet.words fields) == length (map field_name fields)) ≡ true =
     eq-eqb (length (texts_by packet.words fields)) (length (map field_name fields)) (length-by packet.words fields) in
     rw (few, width, words_here reads packet.words are) refl
 
-sent_here : (reads : FieldSet) (sent : List Packet) (n : ℕ) → ArePackets sent → n + length sent ≤ most_records + 1
+sent_here : (reads : FieldSet) (sent : List Packet) (n : ℕ) → ArePackets sent → n + length sent ≤ MAX_RECORDS + 1
     → contents_from (layout reads) n (map (λ (packet : Packet). texts_by packet.words (written_fields reads)) sent) ≡ record
     { packets = map (as_read reads) sent; fault = None }
 unfolding contents_from

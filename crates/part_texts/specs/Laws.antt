@@ -4,7 +4,8 @@ use Rattle.marple_base.specs.Field.{all_fields, has_field, number_of}
 use Rattle.marple_base.specs.declared.field.Field.{Field}
 use Rattle.marple_base.specs.declared.field.FieldSet.{FieldSet}
 use Rattle.marple_base.specs.declared.field.Packet.{Packet}
-use Rattle.trace_reader.specs.Traces.{most_bytes, most_records, packets, trace_fault}
+use Rattle.trace_reader.specs.Traces.{packets, trace_fault}
+use Rattle.trace_reader.specs.declared.fault.TheConstants.{MAX_RECORDS, MAX_TRACE}
 use Rattle.queue_sim.specs.ReadBack.{ArePackets}
 use Rattle.part_texts.specs.Texts.{fields_text}
 
@@ -20,5 +21,5 @@ as_read reads packet = record { words = map (word_if_read reads packet.words) al
 -- there are not too many of them and the text is not too long for one run.
 abbrev pub FieldTextsReadBack : Type 0
 FieldTextsReadBack = (reads : FieldSet) (sent : List Packet) → ArePackets sent
-    → length sent ≤ most_records → length (fields_text reads sent) ≤ most_bytes
+    → length sent ≤ MAX_RECORDS → length (fields_text reads sent) ≤ MAX_TRACE
     → (packets (fields_text reads sent) reads ≡ map (as_read reads) sent) × (trace_fault (fields_text reads sent) reads ≡ None)

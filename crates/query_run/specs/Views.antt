@@ -9,7 +9,7 @@ use Rattle.switch_core.specs.PlanLanes.{PipelineView}
 use Rattle.trace_drive.specs.Drives.{coming, fault_of, uses_by}
 use Rattle.trace_drive.specs.Follows.{FollowsBy}
 use Rattle.trace_drive.specs.declared.packets.Packets.{Packets}
-use Rattle.trace_reader.specs.Traces.{most_records}
+use Rattle.trace_reader.specs.declared.fault.TheConstants.{MAX_RECORDS}
 
 -- the first line of the view after this number of packets
 abbrev pub view_line : ℕ → List ℕ
@@ -38,7 +38,7 @@ views_text text every packets = views_up_to text every packets (length packets) 
 -- Views of these packets may be asked for: no fault comes after them, and they are no more than a trace may have.
 pub record CanBeViewed (packets : Packets) : Type 0 where
   pub sound : fault_of packets ≡ None
-  pub few : length (coming packets) ≤ most_records
+  pub few : length (coming packets) ≤ MAX_RECORDS
 
 -- The lanes of a pipeline are as far as the machines of its plan after this number of these packets.
 pub record IsAsFarAs (g : Geometry) (packets : List (List ℕ)) (number : ℕ) (pipeline : PipelineView) : Type 0 where

@@ -5,12 +5,12 @@ ghost use Rattle.trace_drive.specs.Drives.{coming, fault_of};
 ghost use Rattle.trace_drive.specs.Kept.{kept_of, kept_words};
 ghost use Rattle.query_run.specs.Accepting.{AreKept, AreUnread};
 ghost use Rattle.trace_reader.specs.Faults.{IfRefused};
-ghost use Rattle.trace_reader.specs.Traces.{most_records, packets, trace_fault};
+ghost use Rattle.trace_reader.specs.Traces.{packets, trace_fault};
 
 use marple_base::{FieldSet, Packet};
 use std::alloc::{AllocError, Global};
 use trace_drive::{KeptPackets, Packets, read_packets_are_few, read_packets_are_kept};
-use trace_reader::{Trace, TraceAnswer, open_trace};
+use trace_reader::{MAX_RECORDS, Trace, TraceAnswer, open_trace};
 
 // Reads what is left of a trace: it has no fault.
 fn accept_rest(trace: &mut Trace) -> Result<(), TraceAnswer>
@@ -42,7 +42,7 @@ fn keep_rest(
     most_words: usize,
 ) -> Result<Option<KeptPackets>, TraceAnswer>
     requires read { All (λ packet. kept_of reads packet ≡ packet) trace.old.packets }
-    requires few { length trace.old.packets ≤ most_records }
+    requires few { length trace.old.packets ≤ MAX_RECORDS }
     ensures kept { IfOk result (λ found. IfSome found (λ kept. kept.packets ≡ trace.old.packets)) }
     ensures accepted { IfOk result (λ found. IfSome found (λ kept. trace.old.fault ≡ None)) }
     ensures within { IfOk result (λ found. IfSome found (λ kept. kept_words kept ≤ most_words)) }

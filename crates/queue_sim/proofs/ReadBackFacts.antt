@@ -16,7 +16,8 @@ use Rattle.marple_base.specs.declared.field.Field.TheVariants.{TcpSeq, Tin, Tout
 use Rattle.marple_base.specs.declared.field.FieldSet.{FieldSet}
 use Rattle.marple_base.specs.declared.field.Packet.{Packet}
 use Rattle.trace_reader.specs.Reading.{records}
-use Rattle.trace_reader.specs.Traces.{Contents, Layout, columns_of, contents, contents_from, each, most_records, packet_of, words_of}
+use Rattle.trace_reader.specs.Traces.{Contents, Layout, columns_of, contents, contents_from, each, packet_of, words_of}
+use Rattle.trace_reader.specs.declared.fault.TheConstants.{MAX_RECORDS}
 use Rattle.trace_reader.proofs.TraceFacts.{contents_good}
 use Rattle.queue_sim.specs.ReadBack.{ArePackets, AreWords, TextsReadBack}
 use Rattle.queue_sim.specs.TraceText.{continued, header, line, packet_texts, texts_of, trace_text}
@@ -157,16 +158,16 @@ row_words words size small = absurd (omega (arith, size))
 abbrev full : Layout
 full = record { width = 14; columns = places }
 
-packet_read : (packet : Packet) (n : ℕ) → length packet.words ≡ 14 → AreWords packet.words → n ≤ most_records
+packet_read : (packet : Packet) (n : ℕ) → length packet.words ≡ 14 → AreWords packet.words → n ≤ MAX_RECORDS
     → packet_of full n (packet_texts packet) ≡ Ok packet
 unfolding packet_of
 packet_read packet n size small within =
-    let few : nat_lt most_records n ≡ false = grind (arith, nat_tests) in
+    let few : nat_lt MAX_RECORDS n ≡ false = grind (arith, nat_tests) in
     let width : (length (packet_texts packet) == 14) ≡ true = eq-eqb (length (packet_texts packet)) 14
     (length-texts all_fields packet.words (sym size)) in
     rw (few, width, row_words packet.words size small) refl
 
-sent_read : (sent : List Packet) (n : ℕ) → ArePackets sent → n + length sent ≤ most_records + 1
+sent_read : (sent : List Packet) (n : ℕ) → ArePackets sent → n + length sent ≤ MAX_RECORDS + 1
     → contents_from full n (rows_of sent) ≡ record { packets = sent; fault = None }
 unfolding contents_from
 sent_read [] n are within = refl

@@ -4,7 +4,8 @@ use Rattle.marple_base.specs.Field.{HasField}
 use Rattle.marple_base.specs.declared.field.Field.{Field}
 use Rattle.marple_base.specs.declared.field.FieldSet.{FieldSet}
 use Rattle.marple_base.specs.declared.field.Packet.{Packet}
-use Rattle.trace_reader.specs.Traces.{most_bytes, most_records, packets, trace_fault}
+use Rattle.trace_reader.specs.Traces.{packets, trace_fault}
+use Rattle.trace_reader.specs.declared.fault.TheConstants.{MAX_RECORDS, MAX_TRACE}
 use Rattle.queue_sim.specs.TraceText.{trace_text}
 
 abbrev pub AreWords : List ℕ → Type 0
@@ -20,5 +21,5 @@ ArePackets (packet ∷ packets) = (length packet.words ≡ 14) × AreWords packe
 -- and the text is not too long for a trace.
 abbrev pub TextsReadBack : Type 0
 TextsReadBack = (sent : List Packet) (reads : FieldSet) → ArePackets sent → ((field : Field) → HasField reads field)
-    → length sent ≤ most_records → length (trace_text sent) ≤ most_bytes
+    → length sent ≤ MAX_RECORDS → length (trace_text sent) ≤ MAX_TRACE
     → (packets (trace_text sent) reads ≡ sent) × (trace_fault (trace_text sent) reads ≡ None)

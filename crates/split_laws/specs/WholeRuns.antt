@@ -28,7 +28,8 @@ use Rattle.split_laws.specs.SplitTables.{words_of}
 use Rattle.stage_plan.specs.Fields.{reads_of}
 use Rattle.stage_plan.specs.Planned.{fold_at}
 use Rattle.stage_plan.specs.Shape.{GroupShape, query_groups}
-use Rattle.trace_reader.specs.Traces.{most_bytes, most_records, packets}
+use Rattle.trace_reader.specs.Traces.{packets}
+use Rattle.trace_reader.specs.declared.fault.TheConstants.{MAX_RECORDS, MAX_TRACE}
 use Rattle.trace_split.specs.Traces.{packets_of_all}
 
 -- The tables of which `run` prints some, over a trace with this text.
@@ -65,8 +66,8 @@ text_of_part s n = part_text (reads_of s.q) (part_by_hash s.fields s.salt s.part
 
 -- one run takes the text
 pub record FitsOneRun (s : Split) (n : ℕ) : Type 0 where
-  pub bytes : length (text_of_part s n) ≤ most_bytes
-  pub records : length (packets_in_part s n) ≤ most_records
+  pub bytes : length (text_of_part s n) ≤ MAX_TRACE
+  pub records : length (packets_in_part s n) ≤ MAX_RECORDS
 
 abbrev pub EachFits : Split → Type 0
 EachFits s = (n : ℕ) → n < s.parts → FitsOneRun s n

@@ -9,8 +9,8 @@ use Rattle.marple_base.specs.declared.field.FieldSet.{FieldSet}
 use Rattle.marple_base.specs.declared.field.Packet.{Packet}
 use Rattle.trace_reader.specs.Reading.{records}
 use Rattle.trace_reader.specs.Traces.{Layout, Contents, each, with_first, columns_of, words_of, packet_with, packet_of, with_packet}
-use Rattle.trace_reader.specs.Traces.{contents_from, layout_with, layout_of, opening, rest_of, contents_with, contents, packets, most_bytes}
-use Rattle.trace_reader.specs.Traces.{most_records}
+use Rattle.trace_reader.specs.Traces.{contents_from, layout_with, layout_of, opening, rest_of, contents_with, contents, packets}
+use Rattle.trace_reader.specs.declared.fault.TheConstants.{MAX_RECORDS, MAX_TRACE}
 use Rattle.trace_reader.specs.declared.fault.TraceFault.{TraceFault}
 
 same_ok : {A E : Type 0} (x y : A) → (let r : Result A E = Ok x in r) ≡ Ok y → x ≡ y
@@ -53,7 +53,7 @@ with_words n (Ok ws) packet e = ap (λ p. Ok p.words) (same_ok (record { words =
 packet_words : (layout : Layout) (n : ℕ) (fields : List (List ℕ)) (packet : Packet) → packet_of layout n fields ≡ Ok packet
     → words_of layout.columns fields ≡ Ok packet.words
 unfolding packet_of
-packet_words layout n fields packet e = by_test (nat_lt most_records n)
+packet_words layout n fields packet e = by_test (nat_lt MAX_RECORDS n)
     (λ t. absurd (not_ok _ packet (rw t at e)))
     (λ t. by_test (not (length fields == layout.width))
     (λ s. absurd (not_ok _ packet (rw (t, s) at e)))
@@ -87,7 +87,7 @@ layout_columns (header ∷ left) reads layout e = (header, by_columns (columns_o
 opening_columns : (text : List ℕ) (reads : FieldSet) (layout : Layout) → opening text reads ≡ Ok layout → (header : List (List ℕ))
     × (columns_of reads header ≡ Ok layout.columns)
 unfolding opening
-opening_columns text reads layout e = by_test (nat_lt most_bytes (length text))
+opening_columns text reads layout e = by_test (nat_lt MAX_TRACE (length text))
     (λ t. absurd (not_ok _ layout (rw t at e)))
     (λ t. layout_columns (records text) reads layout (rw t at e))
 

@@ -3,7 +3,8 @@ use Rattle.std.specs.Prelude.{◌≡◌, ◌≤◌, ℕ, List, length, All}
 use Rattle.query_lang.specs.Words.{AreWords}
 use Rattle.marple_base.specs.declared.field.FieldSet.{FieldSet}
 use Rattle.stage_plan.specs.Packets.{AreWhole}
-use Rattle.trace_reader.specs.Traces.{most_records, packets}
+use Rattle.trace_reader.specs.Traces.{packets}
+use Rattle.trace_reader.specs.declared.fault.TheConstants.{MAX_RECORDS}
 use Rattle.trace_drive.specs.Drives.{words_of}
 use Rattle.trace_drive.specs.Kept.{kept_of}
 
@@ -17,7 +18,7 @@ ReadPacketsAreWhole = (text : List ℕ) (reads : FieldSet) → AreWhole (words_o
 
 -- A trace has no more packets than it may have records.
 abbrev pub ReadPacketsAreFew : Type 0
-ReadPacketsAreFew = (text : List ℕ) (reads : FieldSet) → length (packets text reads) ≤ most_records
+ReadPacketsAreFew = (text : List ℕ) (reads : FieldSet) → length (packets text reads) ≤ MAX_RECORDS
 
 -- The packets of a trace have 0 in the fields that aren't read: where the others are kept, nothing of them is lost.
 abbrev pub ReadPacketsAreKept : Type 0

@@ -3,11 +3,11 @@
 ghost use Rattle.std.specs.Prelude.{◌≡◌, [], ◌∷◌, ◌++◌, ◌+◌, ◌*◌, ◌<◌, ◌≤◌, IfOk, OnErr, OnOk, Some, drop, length, map, slice_get};
 ghost use Rattle.std.specs.Prelude.{vec_capacity, vec_len};
 ghost use Rattle.trace_drive.specs.Kept.{fields_in, kept_of, kept_words, packet_in, word_in};
-ghost use Rattle.trace_reader.specs.Traces.{most_records};
 
 use marple_base::{Field, FieldSet, Packet};
 use std::alloc::{AllocError, Global};
 use std::marker::Model;
+use trace_reader::MAX_RECORDS;
 
 /// Packets with the words of some fields alone, one after the other. Contracts see these fields, and the packets, which
 /// have 0 in all others.
@@ -132,7 +132,7 @@ impl KeptPackets {
     /// Adds a packet at the end, with 0 in the fields that aren't kept. When out of memory, the packets are unchanged.
     #[inline]
     pub fn push(&mut self, packet: &Packet) -> Result<(), AllocError>
-        requires { length self.old.packets < most_records }
+        requires { length self.old.packets < MAX_RECORDS }
         ensures ok { OnOk result (self.new ≡ record self.old { packets = self.old.packets ++ kept_of self.old.fields packet.now ∷ [] }) }
         ensures err { OnErr result (self.new ≡ self.old) }
     {

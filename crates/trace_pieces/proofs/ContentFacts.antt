@@ -7,8 +7,9 @@ use Rattle.marple_base.specs.declared.field.FieldSet.{FieldSet}
 use Rattle.marple_base.specs.declared.field.Packet.{Packet}
 use Rattle.trace_reader.specs.Reading.{records}
 use Rattle.trace_reader.specs.Traces.{Contents, Layout, columns_of, contents, contents_from, contents_with, layout_of, layout_with}
-use Rattle.trace_reader.specs.Traces.{most_bytes, most_records, opening, packet_of, packet_with, rest_of, with_packet}
+use Rattle.trace_reader.specs.Traces.{opening, packet_of, packet_with, rest_of, with_packet}
 use Rattle.trace_reader.specs.Traces.{words_of}
+use Rattle.trace_reader.specs.declared.fault.TheConstants.{MAX_RECORDS, MAX_TRACE}
 use Rattle.trace_reader.specs.declared.fault.TraceFault.{TraceFault}
 use Rattle.trace_reader.specs.declared.fault.TraceFault.TheVariants as fault
 use Rattle.trace_pieces.specs.Faults.{after_records}
@@ -23,7 +24,7 @@ run_rows : (layout : Layout) (n : ℕ) (rest : List (List (List ℕ))) → (cont
     → contents_of layout n rest ≡ contents_from layout n rest
 unfolding contents_of contents_from packet_of record_packet
 run_rows layout n [] few = refl
-run_rows layout n (fields ∷ rest) few = limit (nat_lt most_records n) few (run_rows layout (n + 1) rest)
+run_rows layout n (fields ∷ rest) few = limit (nat_lt MAX_RECORDS n) few (run_rows layout (n + 1) rest)
   where
     one : (o : Result Packet TraceFault) → (with_packet o (contents_from layout (n + 1) rest)).fault ≢ Some fault.TooManyPackets
         → ((contents_from layout (n + 1) rest).fault ≢ Some fault.TooManyPackets
@@ -43,7 +44,7 @@ run_rows layout n (fields ∷ rest) few = limit (nat_lt most_records n) few (run
 
 pub runs_read_the_whole_lem : RunsReadTheWhole
 unfolding all_contents contents opening
-runs_read_the_whole_lem text reads short few = by (nat_lt most_bytes (length text)) short few
+runs_read_the_whole_lem text reads short few = by (nat_lt MAX_TRACE (length text)) short few
   where
     laid : (o : Result Layout TraceFault) → (contents_with o (rest_of (records text))).fault ≢ Some fault.TooManyPackets
         → contents_by o (rest_of (records text)) ≡ contents_with o (rest_of (records text))

@@ -7,9 +7,10 @@ use Rattle.marple_base.specs.declared.field.Packet.{Packet}
 use Rattle.marple_base.specs.declared.field.FieldSet.{FieldSet}
 use Rattle.trace_reader.specs.Reading.{records}
 use Rattle.trace_reader.specs.Traces.{Contents, Layout, columns_of, contents, contents_from, contents_with, layout_of, layout_with}
-use Rattle.trace_reader.specs.Traces.{most_bytes, most_records, opening, packet_of, rest_of, trace_fault}
+use Rattle.trace_reader.specs.Traces.{opening, packet_of, rest_of, trace_fault}
 use Rattle.trace_reader.specs.TraceView.{upcoming_by}
 use Rattle.trace_reader.specs.Upcoming.{Gives, IsAtEnd, IsAtFault, Upcoming, upcoming_of}
+use Rattle.trace_reader.specs.declared.fault.TheConstants.{MAX_RECORDS, MAX_TRACE}
 use Rattle.trace_reader.specs.declared.fault.TraceFault.{TraceFault}
 use Rattle.trace_reader.specs.declared.fault.TraceFault.TheVariants as fault
 use Rattle.trace_reader.specs.declared.trace.Progress.{Progress}
@@ -43,42 +44,42 @@ ended old at layout n left view reading none = rw (← view, reading, none) (rec
 
 -- a packet's record is one of those that a trace may have
 pub packet_within : (layout : Layout) (n : ℕ) (fields : List (List ℕ)) (packet : Packet) → packet_of layout n fields ≡ Ok packet
-    → n ≤ most_records
+    → n ≤ MAX_RECORDS
 unfolding packet_of
-packet_within layout n fields packet is = by (nat_lt most_records n) refl is
+packet_within layout n fields packet is = by (nat_lt MAX_RECORDS n) refl is
   where
-    by : (b : Bool) → nat_lt most_records n ≡ b → packet_of layout n fields ≡ Ok packet → n ≤ most_records
+    by : (b : Bool) → nat_lt MAX_RECORDS n ≡ b → packet_of layout n fields ≡ Ok packet → n ≤ MAX_RECORDS
     by true e is = absurd (cc (rw e at is))
     by false e is = grind (arith, nat_tests)
 
-too_long_test : (text : List ℕ) (b : Bool) → nat_lt most_bytes (length text) ≡ b → (reads : FieldSet)
+too_long_test : (text : List ℕ) (b : Bool) → nat_lt MAX_TRACE (length text) ≡ b → (reads : FieldSet)
     → opening text reads ≡ cond b (Err fault.TraceTooLong) (layout_of (records text) reads)
 unfolding opening
 too_long_test text b e reads = rw e refl
 
-pub opening_long : (text : List ℕ) (reads : FieldSet) → most_bytes < length text → opening text reads ≡ Err fault.TraceTooLong
+pub opening_long : (text : List ℕ) (reads : FieldSet) → MAX_TRACE < length text → opening text reads ≡ Err fault.TraceTooLong
 opening_long text reads long = too_long_test text true (grind (arith, nat_tests)) reads
 
-pub opening_short : (text : List ℕ) (reads : FieldSet) → length text ≤ most_bytes → opening text reads ≡ layout_of (records text) reads
+pub opening_short : (text : List ℕ) (reads : FieldSet) → length text ≤ MAX_TRACE → opening text reads ≡ layout_of (records text) reads
 opening_short text reads short = too_long_test text false (grind (arith, nat_tests)) reads
 
-pub opening_empty : (text : List ℕ) (reads : FieldSet) → length text ≤ most_bytes → records text ≡ []
+pub opening_empty : (text : List ℕ) (reads : FieldSet) → length text ≤ MAX_TRACE → records text ≡ []
     → opening text reads ≡ Err fault.NoHeader
 opening_empty text reads short none = opening_short text reads short ∙ ap (λ rows. layout_of rows reads) none
 
 pub opening_bad : (text : List ℕ) (reads : FieldSet) (header : List (List ℕ)) (rest : List (List (List ℕ))) (found : TraceFault)
-    → length text ≤ most_bytes → records text ≡ header ∷ rest → Err found ≡ columns_of reads header → opening text reads ≡ Err found
+    → length text ≤ MAX_TRACE → records text ≡ header ∷ rest → Err found ≡ columns_of reads header → opening text reads ≡ Err found
 opening_bad text reads header rest found short all bad = opening_short text reads short ∙ ap (λ rows. layout_of rows reads) all
     ∙ ap (layout_with (length header)) (sym bad)
 
 pub opening_good : (text : List ℕ) (reads : FieldSet) (header : List (List ℕ)) (rest : List (List (List ℕ))) (columns : List (Option ℕ))
-    → length text ≤ most_bytes → records text ≡ header ∷ rest → Ok columns ≡ columns_of reads header
+    → length text ≤ MAX_TRACE → records text ≡ header ∷ rest → Ok columns ≡ columns_of reads header
     → opening text reads ≡ Ok (record { width = length header; columns = columns })
 opening_good text reads header rest columns short all good = opening_short text reads short ∙ ap (λ rows. layout_of rows reads) all
     ∙ ap (layout_with (length header)) (sym good)
 
 pub contents_good : (text : List ℕ) (reads : FieldSet) (header : List (List ℕ)) (rest : List (List (List ℕ))) (columns : List (Option ℕ))
-    → length text ≤ most_bytes → records text ≡ header ∷ rest → Ok columns ≡ columns_of reads header
+    → length text ≤ MAX_TRACE → records text ≡ header ∷ rest → Ok columns ≡ columns_of reads header
     → contents text reads ≡ contents_from (record { width = length header; columns = columns }) 1 rest
 unfolding contents
 contents_good text reads header rest columns short all good = rw (opening_good text reads header rest columns short all good, all) refl
@@ -89,7 +90,7 @@ seen rest = record { packets = rest.packets; fault = rest.fault; stopped = None 
 
 pub upcoming_good : (text : List ℕ) (reads : FieldSet) (header : List (List ℕ)) (rest : List (List (List ℕ))) (columns : List (Option ℕ))
     (width : ℕ)
-    → length text ≤ most_bytes → records text ≡ header ∷ rest → Ok columns ≡ columns_of reads header → width ≡ length header
+    → length text ≤ MAX_TRACE → records text ≡ header ∷ rest → Ok columns ≡ columns_of reads header → width ≡ length header
     → upcoming_by progress.Reading (contents_from (record { width = width; columns = columns }) 1 rest) ≡ upcoming_of text reads
 upcoming_good text reads header rest columns width short all good size =
     ap (λ w. seen (contents_from (record { width = w; columns = columns }) 1 rest)) size

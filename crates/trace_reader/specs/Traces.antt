@@ -11,15 +11,9 @@ use Rattle.marple_base.specs.declared.field.FieldSet.{FieldSet}
 use Rattle.marple_base.specs.declared.field.Packet.{Packet}
 use Rattle.trace_reader.specs.Numbers.{without_blanks, word_of}
 use Rattle.trace_reader.specs.Reading.{records}
+use Rattle.trace_reader.specs.declared.fault.TheConstants.{MAX_RECORDS, MAX_TRACE}
 use Rattle.trace_reader.specs.declared.fault.TraceFault.{TraceFault}
 use Rattle.trace_reader.specs.declared.fault.TraceFault.TheVariants as fault
-
--- the most bytes of a trace, and the most data records
-abbrev pub most_bytes : ℕ
-most_bytes = 268435456
-
-abbrev pub most_records : ℕ
-most_records = 4194304
 
 abbrev pub with_first : {A E : Type 0} → Result A E → Result (List A) E → Result (List A) E
 with_first (Err e) rest = Err e
@@ -76,7 +70,7 @@ packet_with n (Err field) = Err (fault.BadNumber n field)
 -- the packet of data record n, or its first fault
 unfoldable pub packet_of : Layout → ℕ → List (List ℕ) → Result Packet TraceFault
 packet_of layout n fields =
-    if nat_lt most_records n then Err fault.TooManyPackets
+    if nat_lt MAX_RECORDS n then Err fault.TooManyPackets
     else if not (length fields == layout.width) then Err (fault.FieldCount n)
     else packet_with n (words_of layout.columns fields)
 
@@ -104,7 +98,7 @@ layout_of [] reads = Err fault.NoHeader
 layout_of (header ∷ data_records) reads = layout_with (length header) (columns_of reads header)
 
 unfoldable pub opening : List ℕ → FieldSet → Result Layout TraceFault
-opening text reads = if nat_lt most_bytes (length text) then Err fault.TraceTooLong else layout_of (records text) reads
+opening text reads = if nat_lt MAX_TRACE (length text) then Err fault.TraceTooLong else layout_of (records text) reads
 
 abbrev pub rest_of : {A : Type 0} → List A → List A
 rest_of [] = []

@@ -10,5 +10,5 @@ mod record;
 mod records;
 mod trace;
 
-pub use fault::{MAX_BYTES, MAX_RECORDS, TraceAnswer, TraceFault};
+pub use fault::{MAX_RECORDS, MAX_TRACE, TraceAnswer, TraceFault};
 pub use trace::{Trace, open_trace};

@@ -6,7 +6,7 @@ ghost use Rattle.trace_reader.specs.Faults.{IfRefused, IsEarly, IsLate};
 ghost use Rattle.trace_reader.specs.Upcoming.{Gives, IsAtEnd, IsAtFault, upcoming_of};
 
 use crate::columns::Columns;
-use crate::fault::{MAX_BYTES, MAX_RECORDS, TraceAnswer, TraceFault};
+use crate::fault::{MAX_RECORDS, MAX_TRACE, TraceAnswer, TraceFault};
 use crate::record::{columns, packet_into};
 use crate::records::Records;
 use marple_base::{FieldSet, Packet};
@@ -68,7 +68,7 @@ pub fn open_trace<'a>(
     ensures opening { IfErr result (λ answer. IfRefused answer (λ fault. opening bytes.now reads ≡ Err fault)) }
     ensures early { IfErr result (λ answer. IfRefused answer IsEarly) }
 {
-    if bytes.len() > MAX_BYTES {
+    if bytes.len() > MAX_TRACE {
         return Err(TraceAnswer::Refused(TraceFault::TraceTooLong));
     }
     let mut records = Records::new(alloc, bytes);

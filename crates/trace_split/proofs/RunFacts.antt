@@ -5,8 +5,9 @@ use Rattle.std.specs.Prelude.{nat_lt, option_map}
 use Rattle.marple_base.specs.declared.field.FieldSet.{FieldSet}
 use Rattle.marple_base.specs.declared.field.Packet.{Packet}
 use Rattle.trace_reader.specs.Reading.{records}
-use Rattle.trace_reader.specs.Traces.{Contents, Layout, contents, contents_from, contents_with, layout_of, most_bytes, most_records}
+use Rattle.trace_reader.specs.Traces.{Contents, Layout, contents, contents_from, contents_with, layout_of}
 use Rattle.trace_reader.specs.Traces.{opening, packet_of, rest_of, trace_fault, with_packet}
+use Rattle.trace_reader.specs.declared.fault.TheConstants.{MAX_RECORDS, MAX_TRACE}
 use Rattle.trace_reader.specs.declared.fault.TraceFault.{TraceFault}
 use Rattle.trace_reader.specs.declared.fault.TraceFault.TheVariants as fault
 use Rattle.trace_pieces.specs.Faults.{after_records, trace_fault_of}
@@ -23,7 +24,7 @@ rows_begin : (layout : Layout) (n : ℕ) (rest : List (List (List ℕ))) → Goe
     (contents_of layout n rest).packets
 unfolding contents_of contents_from packet_of record_packet
 rows_begin layout n [] = ([], refl)
-rows_begin layout n (fields ∷ rest) = limit (nat_lt most_records n) (rows_begin layout (n + 1) rest)
+rows_begin layout n (fields ∷ rest) = limit (nat_lt MAX_RECORDS n) (rows_begin layout (n + 1) rest)
   where
     one : (o : Result Packet TraceFault) → GoesOn (contents_from layout (n + 1) rest).packets (contents_of layout (n + 1) rest).packets
         → GoesOn (with_packet o (contents_from layout (n + 1) rest)).packets (with_packet o (contents_of layout (n + 1) rest)).packets
@@ -40,7 +41,7 @@ rows_begin layout n (fields ∷ rest) = limit (nat_lt most_records n) (rows_begi
 -- the packets of one run begin all packets
 pub run_begins : (text : List ℕ) (reads : FieldSet) → GoesOn (contents text reads).packets (all_contents text reads).packets
 unfolding all_contents contents opening
-run_begins text reads = by (nat_lt most_bytes (length text))
+run_begins text reads = by (nat_lt MAX_TRACE (length text))
   where
     laid : (o : Result Layout TraceFault) → GoesOn (contents_with o (rest_of (records text))).packets
         (contents_by o (rest_of (records text))).packets
