@@ -6,7 +6,8 @@ use Rattle.query_lang.specs.declared.fault.FaultKind.TheVariants.{BadPlan}
 use Rattle.plan_file.specs.declared.made.Made.{Made}
 use Rattle.plan_file.specs.Lexis.{bytes_after_lines, lines, start_of_line}
 use Rattle.plan_file.specs.Lines.{IsLine, IsValidAfter, nothing}
-use Rattle.plan_file.specs.Texts.{IsBadAt, Make, most_bytes}
+use Rattle.plan_file.specs.Texts.{IsBadAt, Make}
+use Rattle.plan_file.specs.declared.texts.TheConstants.{MAX_PLAN}
 use Rattle.marple_laws.specs.Readings.{EveryTextIsRead, IsReadingOf}
 use Rattle.marple_laws.proofs.Decisions.{Decided, is_empty, most}
 use Rattle.marple_laws.proofs.LineDecisions.{valid_after}
@@ -50,12 +51,12 @@ some_items [] none = absurd (none refl)
 some_items (x ∷ xs) none = omega arith
 
 pub every_text : EveryTextIsRead
-every_text text = by_size (most (length text) most_bytes)
+every_text text = by_size (most (length text) MAX_PLAN)
   where
     refuse : (place : ℕ) → IsBadAt text place → (found : Checked Made) × IsReadingOf text found
     refuse place bad = (Err (record { kind = BadPlan; span = record { start = place; end = place } }), (refl, bad, refl))
 
-    ends : (plan : Made) → length text ≤ most_bytes → Make (lines text) nothing plan → Decided (bytes_after_lines text ≡ [])
+    ends : (plan : Made) → length text ≤ MAX_PLAN → Make (lines text) nothing plan → Decided (bytes_after_lines text ≡ [])
         → Decided (plan.prints ≡ []) → (found : Checked Made) × IsReadingOf text found
     ends plan size valid (inr more) printed = refuse (length text) (inr
         (size, inr (record { plan = plan; valid = valid; bad = inl (some_items (bytes_after_lines text) more) }, refl)))
@@ -72,12 +73,12 @@ every_text text = by_size (most (length text) most_bytes)
       },
     )
 
-    by_lines : length text ≤ most_bytes → Reached (lines text) nothing → (found : Checked Made) × IsReadingOf text found
+    by_lines : length text ≤ MAX_PLAN → Reached (lines text) nothing → (found : Checked Made) × IsReadingOf text found
     by_lines size (inl (plan, valid)) = ends plan size valid (is_empty (bytes_after_lines text)) (is_empty plan.prints)
     by_lines size (inr (i, b)) =
         refuse (start_of_line text i)
         (inr (size, inl (i, record { before = b.before; valid_before = b.valid_before; line = b.line; is = b.is; bad = b.bad }, refl)))
 
-    by_size : Decided (length text ≤ most_bytes) → (found : Checked Made) × IsReadingOf text found
+    by_size : Decided (length text ≤ MAX_PLAN) → (found : Checked Made) × IsReadingOf text found
     by_size (inl size) = by_lines size (reached (lines text) nothing)
-    by_size (inr long) = refuse most_bytes (inl (omega arith, refl))
+    by_size (inr long) = refuse MAX_PLAN (inl (omega arith, refl))

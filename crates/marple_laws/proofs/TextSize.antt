@@ -35,7 +35,7 @@ use Rattle.stage_plan.specs.Planned.{fold_at, query_made}
 use Rattle.stage_plan.specs.Registers.{stages_of}
 use Rattle.stage_plan.specs.Shape.{GroupShape, query_groups, shape_made, text_at}
 use Rattle.stage_plan.proofs.Sorted.{op_at, ordered}
-use Rattle.plan_file.specs.Texts.{most_bytes}
+use Rattle.plan_file.specs.declared.texts.TheConstants.{MAX_PLAN}
 use Rattle.plan_writer.specs.Ordered.{query_ops, query_order, query_registers, query_wiring, register_in}
 use Rattle.plan_writer.specs.PlanText.{compiled_text, fields_of, group_lines_of, group_text, op_line, print_line, reads_line}
 use Rattle.plan_writer.specs.Words.{spaced, line}
@@ -363,7 +363,7 @@ module _ (q : TypedQuery) (v : IsValidQuery q) (staged : stage_fault q ≡ None)
     no_group i e = ap (λ o. length (group_lines_of o (slice_get (query_wiring q) i) (fold_at q i))) e
 
     pub text_size : AreNew [] (map (λ shape. shape.name) (query_groups q)) → AreGroups q.prints → AreNew [] q.prints
-        → length (compiled_text q) ≤ most_bytes
+        → length (compiled_text q) ≤ MAX_PLAN
     unfolding compiled_text
     text_size names are new =
         let first : length (line (codes "marple-plan") (codes "1" ∷ [])) ≤ 14 =

@@ -5,7 +5,7 @@ use Rattle.query_lang.specs.declared.fold.TypedFold.{TypedFold}
 use Rattle.query_lang.specs.declared.typed.TypedQuery.{TypedQuery}
 use Rattle.stage_plan.specs.Shape.{GroupShape, query_groups}
 use Rattle.plan_file.specs.Lexis.{is_name}
-use Rattle.plan_file.specs.Texts.{most_bytes}
+use Rattle.plan_file.specs.declared.texts.TheConstants.{MAX_PLAN}
 use Rattle.plan_writer.specs.PlanText.{compiled_text}
 use Rattle.marple_laws.specs.MadeOf.{printed_group}
 
@@ -47,4 +47,4 @@ pub record HasPlanText (q : TypedQuery) : Type 0 where
   pub initial : (i : ℕ) (f : TypedFold) → slice_get q.folds i ≡ Some f → AllWords f.initial
   pub printed : 0 < length (flat_map printed_group q.prints)
   pub prints_differ : AreNew [] (flat_map printed_group q.prints)
-  pub short : length (compiled_text q) ≤ most_bytes
+  pub short : length (compiled_text q) ≤ MAX_PLAN

@@ -4,6 +4,7 @@ use Rattle.std.proofs.Common.{inl, inr}
 use Rattle.std.specs.Prelude.{slice_get}
 use Rattle.std.proofs.lemmas.List.{take_all, length-drop}
 use Rattle.plan_file.specs.declared.made.Made.{Made}
+use Rattle.plan_file.specs.declared.texts.TheConstants.{MAX_PLAN}
 use Rattle.plan_file.specs.Lexis.{lines, bytes_after_lines}
 use Rattle.plan_file.specs.Lines.{nothing, IsLine}
 use Rattle.plan_file.specs.Texts.{Make, Says, IsBadAt, IsLineStart, IsAfterLines}
@@ -38,7 +39,7 @@ reached_more text i at next made after line r e start l = record {
 }
 
 -- a line that isn't valid after those that were read
-pub bad_line : (text : List ℕ) (i at : ℕ) (made : Made) (line : List ℕ) → length text ≤ 2097152 → IsReached text i at made
+pub bad_line : (text : List ℕ) (i at : ℕ) (made : Made) (line : List ℕ) → length text ≤ MAX_PLAN → IsReached text i at made
     → slice_get (lines text) i ≡ Some line → ((after : Made) → IsLine made line after → ⊥) → IsBadAt text at
 bad_line text i at made line small r e bad = inr (
   small,
@@ -54,13 +55,13 @@ bad_line text i at made line small r e bad = inr (
 pub all_made : (text : List ℕ) (i at : ℕ) (made : Made) → IsReached text i at made → IsAfterLines text i at → Make (lines text) nothing made
 all_made text i at made r b = subst (λ ls. Make ls nothing made) (take_all i (lines text) (omega (arith, b.count))) r.valid
 
-pub bad_rest : (text : List ℕ) (i at : ℕ) (made : Made) → length text ≤ 2097152 → at < length text → IsReached text i at made
+pub bad_rest : (text : List ℕ) (i at : ℕ) (made : Made) → length text ≤ MAX_PLAN → at < length text → IsReached text i at made
     → IsAfterLines text i at → IsBadAt text (length text)
 bad_rest text i at made small lt r b =
     let size : 0 < length (bytes_after_lines text) = omega (arith, ap length b.rest, length-drop at text) in
     inr (small, inr (record { plan = made; valid = all_made text i at made r b; bad = inl size }, refl))
 
-pub no_print : (text : List ℕ) (i at : ℕ) (made : Made) → length text ≤ 2097152 → made.prints ≡ [] → IsReached text i at made
+pub no_print : (text : List ℕ) (i at : ℕ) (made : Made) → length text ≤ MAX_PLAN → made.prints ≡ [] → IsReached text i at made
     → IsAfterLines text i at → IsBadAt text (length text)
 no_print text i at made small none r b = inr (
   small,
@@ -70,7 +71,7 @@ no_print text i at made small none r b = inr (
   ),
 )
 
-pub says : (text : List ℕ) (i at : ℕ) (made : Made) → length text ≤ 2097152 → length text ≤ at → (made.prints ≡ [] → ⊥)
+pub says : (text : List ℕ) (i at : ℕ) (made : Made) → length text ≤ MAX_PLAN → length text ≤ at → (made.prints ≡ [] → ⊥)
     → IsReached text i at made → IsAfterLines text i at → Says text made
 says text i at made small le some r b = record {
   size = small;

@@ -4,6 +4,7 @@ use Rattle.query_lang.specs.declared.fault.FaultKind.TheVariants as kinds
 use Rattle.query_lang.specs.declared.error.QueryError.{QueryError}
 use Rattle.query_lang.specs.declared.error.QueryError.TheVariants as answers
 use Rattle.plan_file.specs.declared.made.Made.{Made}
+use Rattle.plan_file.specs.declared.texts.TheConstants.{MAX_PLAN}
 use Rattle.plan_file.specs.Lexis.{lines, pieces, bytes_after_lines, start_of_line}
 use Rattle.plan_file.specs.Lines.{nothing, IsLine, IsValidAfter}
 
@@ -12,13 +13,9 @@ abbrev pub Make : List (List ℕ) → Made → Made → Type 0
 Make [] before after = after ≡ before
 Make (line ∷ rest) before after = (next : Made) × IsLine before line next × Make rest next after
 
--- the most bytes that a text may have
-abbrev pub most_bytes : ℕ
-most_bytes = 2097152
-
 -- a valid text makes this: its lines are valid in sequence, an LF ends it, and something is printed
 pub record Says (text : List ℕ) (plan : Made) : Type 0 where
-  pub size : length text ≤ most_bytes
+  pub size : length text ≤ MAX_PLAN
   pub valid : Make (lines text) nothing plan
   pub ended : bytes_after_lines text ≡ []
   pub printed : 0 < length plan.prints
@@ -61,8 +58,8 @@ IsBadWithin text place =
 -- the place of BadPlan
 abbrev pub IsBadAt : List ℕ → ℕ → Type 0
 IsBadAt text place =
-    ((most_bytes < length text) × (place ≡ most_bytes))
-    ⊎ ((length text ≤ most_bytes) × IsBadWithin text place)
+    ((MAX_PLAN < length text) × (place ≡ MAX_PLAN))
+    ⊎ ((length text ≤ MAX_PLAN) × IsBadWithin text place)
 
 -- the answer for a text that is refused: BadPlan at its place, or out of memory
 abbrev pub IsRefused : List ℕ → QueryError → Type 0

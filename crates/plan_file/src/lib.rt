@@ -19,4 +19,4 @@ pub use fold_line::fold_of;
 pub use lexemes::Lexeme;
 pub use line_word::LineWord;
 pub use made::{Folded, Group, Made};
-pub use texts::read_text;
+pub use texts::{MAX_PLAN, read_text};

@@ -11,8 +11,8 @@ use crate::made::Made;
 use query_lang::{FaultKind, QueryError, QueryFault, Span};
 use std::alloc::Global;
 
-/// The most bytes that a text may have.
-const MOST_BYTES: usize = 2_097_152;
+/// The most bytes of the text of a plan.
+pub const MAX_PLAN: usize = 2_097_152;
 
 /// The line that begins at a byte, and the byte where the next line begins.
 fn next_line(text: &[u8], at: usize) -> Option<(&[u8], usize)>
@@ -31,7 +31,7 @@ fn next_line(text: &[u8], at: usize) -> Option<(&[u8], usize)>
 
 // A refusal at a byte.
 fn refused(at: usize) -> QueryError
-    requires { at ≤ 2097152 }
+    requires { at ≤ MAX_PLAN }
     ensures { result ≡ QueryError.Refused (record { kind = FaultKind.BadPlan; span = record { start = at; end = at } }) }
 {
     let at = at as u32;
@@ -46,8 +46,8 @@ fn read_lines(alloc: Global, text: &[u8], made: &mut Made) -> Result<(), QueryEr
     requires { made.old ≡ nothing_made }
     ensures { MatchResult result (λ _. Says text.now made.new) (IsRefused text.now) }
 {
-    if text.len() > MOST_BYTES {
-        return Err(refused(MOST_BYTES));
+    if text.len() > MAX_PLAN {
+        return Err(refused(MAX_PLAN));
     }
     let mut at = 0;
     'lines: while let Some((line, next)) = next_line(text, at) {
