@@ -12,6 +12,7 @@ use Rattle.query_lang.specs.Answers.{IsTold}
 use Rattle.query_lang.specs.Checks.{Checked}
 use Rattle.query_lang.specs.Lexis.{fault_at}
 use Rattle.query_lang.specs.declared.fault.FaultKind.TheVariants as kinds
+use Rattle.query_lang.specs.declared.fault.TheConstants.{MAX_QUERY}
 use Rattle.query_lang.specs.declared.typed.TypedQuery.{TypedQuery}
 use Rattle.trace_reader.specs.Traces.{Contents, contents, opening}
 use Rattle.trace_reader.specs.declared.fault.TheConstants.{MAX_TRACE}
@@ -55,13 +56,13 @@ told_same : {A : Type 0} (limit : ℕ) (beyond : A) (f : List ℕ → A) (left :
 told_same limit beyond f None text limited read = tt
 told_same limit beyond f (Some bytes) text limited read = cut_same limit beyond f bytes limited ∙ ap f (sym read)
 
-long_query : IsLimited 65536 (Err (fault_at kinds.QueryTooLong 65536)) accepted
+long_query : IsLimited MAX_QUERY (Err (fault_at kinds.QueryTooLong MAX_QUERY)) accepted
 unfolding accepted
-long_query bytes long = rw (test_true 65536 (length bytes) long) refl
+long_query bytes long = rw (test_true MAX_QUERY (length bytes) long) refl
 
-told_query : (left : Option (List ℕ)) (text : List ℕ) → IfSome left (λ bytes. text ≡ take 65537 bytes)
+told_query : (left : Option (List ℕ)) (text : List ℕ) → IfSome left (λ bytes. text ≡ take (MAX_QUERY + 1) bytes)
     → IfSome left (λ bytes. accepted bytes ≡ accepted text)
-told_query left text read = told_same 65536 (Err (fault_at kinds.QueryTooLong 65536)) accepted left text long_query read
+told_query left text read = told_same MAX_QUERY (Err (fault_at kinds.QueryTooLong MAX_QUERY)) accepted left text long_query read
 
 long_trace : (reads : FieldSet) → IsLimited MAX_TRACE (record { packets = []; fault = Some faults.TraceTooLong })
     (λ bytes. contents bytes reads)
@@ -81,15 +82,16 @@ IfSome-map P Q (Some x) f p = f x p
 
 -- What is known of the query of the bytes that were read holds of the query in the input.
 pub told_answer : (P : Checked TypedQuery → Type 0) (left : Option (List ℕ)) (text slice : List ℕ)
-    → IfSome left (λ bytes. text ≡ take 65537 bytes) → slice ≡ text
+    → IfSome left (λ bytes. text ≡ take (MAX_QUERY + 1) bytes) → slice ≡ text
     → P (accepted slice) → IfSome left (λ bytes. P (accepted bytes))
 told_answer P left text slice read same known =
     IfSome-map (λ bytes. accepted bytes ≡ accepted text) (λ bytes. P (accepted bytes)) left
     (λ bytes is. subst P (ap accepted same ∙ sym is) known) (told_query left text read)
 
 -- how the phase of the query ends, where what was read of its text isn't accepted
-pub query_ends : (before after : Input) (text slice : List ℕ) (error : QueryError) → IfSome before.left (λ bytes. text ≡ take 65537 bytes)
-    → slice ≡ text → IsTold (query_fault slice) error → QueryEnds query_fault before after (refusal_status error)
+pub query_ends : (before after : Input) (text slice : List ℕ) (error : QueryError)
+    → IfSome before.left (λ bytes. text ≡ take (MAX_QUERY + 1) bytes) → slice ≡ text → IsTold (query_fault slice) error
+    → QueryEnds query_fault before after (refusal_status error)
 query_ends before after text slice (Refused fault) read same told =
     told_answer (λ found. fault_in found ≡ Some fault) before.left text slice read same told
 query_ends before after text slice Memory read same told = tt

@@ -11,7 +11,7 @@ ghost use Rattle.plan_writer.specs.PlanText.{final_fault};
 ghost use Rattle.command_answers.specs.Phases.{QueryEnds};
 ghost use Rattle.command_answers.specs.OwnChecks.{fault_with};
 
-use crate::operands::{MAX_QUERY, read_query};
+use crate::operands::read_query;
 use crate::status::Status;
 use accepted_query::AcceptedQuery;
 use enclosure_folds::enclose_check;
@@ -19,6 +19,7 @@ use marple_base::{Inputs, Which};
 use net_laws::accepted_tell_switches;
 use net_wide::net_check;
 use plan_writer::final_in_plan;
+use query_lang::MAX_QUERY;
 use std::alloc::Global;
 
 /// Reads a query for several switches: it is accepted, and each of its groupbys combines.

@@ -8,5 +8,5 @@ mod status;
 
 pub use checked::{query_for_bounds, query_for_net, query_for_plan};
 pub use complaint::complain;
-pub use operands::{MAX_QUERY, accept_trial, read_plan_text, read_query, read_trace};
+pub use operands::{accept_trial, read_plan_text, read_query, read_trace};
 pub use status::Status;

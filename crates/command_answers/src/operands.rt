@@ -12,12 +12,9 @@ use accepted_query::{AcceptedQuery, accept, trial_is_accepted, trial_query};
 use marple_base::{Inputs, ReadAnswer, Text, Which, read_input};
 use plan_file::MAX_PLAN;
 use plan_loader::{LoadedPlan, read_plan};
-use query_lang::QueryError;
+use query_lang::{MAX_QUERY, QueryError};
 use std::alloc::{AllocError, Global};
 use trace_reader::MAX_TRACE;
-
-/// The most bytes of a query.
-pub const MAX_QUERY: usize = 65_536;
 
 /// Reads the query, to its end or to one byte more than the limit, and accepts or refuses it.
 pub fn read_query<I: Inputs>(alloc: Global, inputs: &mut I) -> Result<AcceptedQuery, Status>

@@ -3,7 +3,7 @@
 use fold_class::Algebra;
 use marple_base::Seq;
 use query_facts::FoldFacts;
-use query_lang::{FoldDef, Item, Name, Query, QueryError, Span};
+use query_lang::{FoldDef, Item, MAX_QUERY, Name, Query, QueryError, Span};
 use query_parser::{Lexed, cut_text, parse};
 use query_places::{
     Cause, Place, Spoilt, item_spans, losses_of, not_additive, not_linear, not_monotone, place_at,
@@ -37,7 +37,7 @@ fn query_of(alloc: Global, text: &[u8]) -> Result<Option<Query>, AllocError> {
 
 // Where the items of a text stand.
 fn spans_of(alloc: Global, text: &[u8]) -> Result<Seq<Span>, AllocError> {
-    if text.len() > 65536 {
+    if text.len() > MAX_QUERY {
         return Ok(Seq::new(alloc));
     }
     match cut_text(alloc, text) {

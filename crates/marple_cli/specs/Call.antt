@@ -6,12 +6,12 @@ use Rattle.marple_base.specs.Inputs.{Input, LosesUpTo}
 use Rattle.marple_base.specs.Sink.{TakesFront}
 use Rattle.marple_base.specs.declared.inputs.Which.{Which}
 use Rattle.marple_base.specs.declared.inputs.Which.TheVariants.{Query, Trace}
+use Rattle.query_lang.specs.declared.fault.TheConstants.{MAX_QUERY}
 use Rattle.trace_reader.specs.declared.fault.TheConstants.{MAX_TRACE}
 use Rattle.command_line.specs.Command.{asked}
 use Rattle.command_line.specs.declared.command.Command.{Command}
 use Rattle.command_line.specs.declared.command.Command.TheVariants.{RunPlan}
 use Rattle.plan_file.specs.declared.texts.TheConstants.{MAX_PLAN}
-use Rattle.command_answers.specs.declared.operands.TheConstants.{MAX_QUERY}
 use Rattle.marple_cli.specs.Output.{IsAccepted, IsRead, Source, output, takes}
 use Rattle.command_answers.specs.declared.status.Status.{Status}
 use Rattle.command_answers.specs.declared.status.Status.TheVariants as statuses

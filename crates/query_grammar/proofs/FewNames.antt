@@ -8,6 +8,7 @@ use Rattle.std.specs.Str.Parse.{digits_value}
 use Rattle.std.proofs.lemmas.List.{length-append, length-drop}
 use Rattle.std.proofs.lemmas.List.Folds.{length-prefix_len}
 use Rattle.query_lang.proofs.Pieces.{takes_some}
+use Rattle.query_lang.specs.declared.fault.TheConstants.{MAX_QUERY}
 use Rattle.query_lang.specs.declared.token.Mark.{Mark}
 use Rattle.query_lang.specs.declared.token.Piece.{Piece}
 use Rattle.query_lang.specs.declared.token.Piece.TheVariants as pieces
@@ -148,8 +149,8 @@ cut_few (suc n) at known (b ∷ bytes) found e =
     (λ k later got h. cut_few n (at + k) later (drop k (b ∷ bytes)) got h) e
 
 -- a text of 65,536 bytes has at most 32,768 names
-pub few_names : (text : List ℕ) (tokens : List Token) (names : List (List ℕ)) → length text ≤ 65536 → tokens_of text ≡ Ok (tokens, names)
-    → length names ≤ 32768
+pub few_names : (text : List ℕ) (tokens : List Token) (names : List (List ℕ)) → length text ≤ MAX_QUERY
+    → tokens_of text ≡ Ok (tokens, names) → length names ≤ 32768
 few_names text tokens names short e =
     let all : AreFew [] text (tokens, names) = cut_few (length text) 0 [] text (tokens, names) e in
     omega (arith, all, short, begins_once text)

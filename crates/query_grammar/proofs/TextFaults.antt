@@ -4,6 +4,7 @@ use Rattle.std.proofs.Common.{subst, ◌∙◌, arith, Ok, Err, Result, ◌⊎�
 use Rattle.std.proofs.lemmas.Bool.{le-ltb, cases_lt}
 use Rattle.query_lang.specs.declared.fault.FaultKind.TheVariants.{QueryTooLong}
 use Rattle.query_lang.specs.declared.fault.QueryFault.{QueryFault}
+use Rattle.query_lang.specs.declared.fault.TheConstants.{MAX_QUERY}
 use Rattle.query_lang.specs.declared.query.Query.{Query}
 use Rattle.query_lang.specs.declared.token.Piece.{Piece}
 use Rattle.query_lang.specs.declared.token.Piece.TheVariants as pieces
@@ -62,14 +63,14 @@ cut_end (suc n) at names (b ∷ bytes) found e =
 text_end : (text : List ℕ) (found : Pair) → tokens_of text ≡ Ok found → HasEnd found.0
 text_end text found e = cut_end (length text) 0 [] text found e
 
-short_text : (text : List ℕ) → length text ≤ 65536 → parsed_text text ≡ parsed_cut (tokens_of text)
-short_text text le = let b : ltb 65536 (length text) ≡ false = le-ltb _ _ le in rw b refl
+short_text : (text : List ℕ) → length text ≤ MAX_QUERY → parsed_text text ≡ parsed_cut (tokens_of text)
+short_text text le = let b : ltb MAX_QUERY (length text) ≡ false = le-ltb _ _ le in rw b refl
 
-long_text : (text : List ℕ) → 65536 < length text → parsed_text text ≡ Err (fault_at QueryTooLong 65536)
-long_text text lt = go (ltb 65536 (length text)) refl
+long_text : (text : List ℕ) → MAX_QUERY < length text → parsed_text text ≡ Err (fault_at QueryTooLong MAX_QUERY)
+long_text text lt = go (ltb MAX_QUERY (length text)) refl
   where
-    go : (b : Bool) → ltb 65536 (length text) ≡ b → cond {A = Result Query QueryFault} b (Err (fault_at QueryTooLong 65536))
-        (parsed_cut (tokens_of text)) ≡ Err (fault_at QueryTooLong 65536)
+    go : (b : Bool) → ltb MAX_QUERY (length text) ≡ b → cond {A = Result Query QueryFault} b (Err (fault_at QueryTooLong MAX_QUERY))
+        (parsed_cut (tokens_of text)) ≡ Err (fault_at QueryTooLong MAX_QUERY)
     go true e = refl
     go false e = grind (arith, e)
 
@@ -80,7 +81,7 @@ same_err : (f g : QueryFault) → ◌≡◌ {A = Result Query QueryFault} (Err f
 same_err f g e = cc
 
 -- what the tokens of a text say
-tokens_query : (text : List ℕ) (found : Pair) (q : Query) → length text ≤ 65536 → tokens_of text ≡ Ok found → (o : Outcome Value)
+tokens_query : (text : List ℕ) (found : Pair) (q : Query) → length text ≤ MAX_QUERY → tokens_of text ≡ Ok found → (o : Outcome Value)
     → Says found.0 o → with_names found.1 (answered o) ≡ Ok q → IsQueryOf text q
 tokens_query text found q le cut (Done v c []) h e =
     let same : record { names = found.1; items = v.0; end = v.1 } ≡ q = same_ok (record { names = found.1; items = v.0; end = v.1 }) q e in
@@ -88,35 +89,35 @@ tokens_query text found q le cut (Done v c []) h e =
 tokens_query text found q le cut (Done v c (t ∷ more)) h e = absurd h
 tokens_query text found q le cut (Stopped k rest) h e = absurd cc
 
-tokens_fault : (text : List ℕ) (found : Pair) (f : QueryFault) → length text ≤ 65536 → tokens_of text ≡ Ok found → (o : Outcome Value)
+tokens_fault : (text : List ℕ) (found : Pair) (f : QueryFault) → length text ≤ MAX_QUERY → tokens_of text ≡ Ok found → (o : Outcome Value)
     → Says found.0 o → with_names found.1 (answered o) ≡ Err f → IsFaultOf text f
 tokens_fault text found f le cut (Done v c rest) h e = absurd cc
 tokens_fault text found f le cut (Stopped k []) h e = absurd h
 tokens_fault text found f le cut (Stopped k (t ∷ more)) h e =
     in_grammar le found.1 h.0 t more k (cut ∙ ap (λ (ts : List Token). Ok (ts, found.1)) h.1) h.2 (sym (same_err (fault_of k t) f e))
 
-cut_query : (text : List ℕ) (q : Query) → length text ≤ 65536 → (o : Cut) → tokens_of text ≡ o → parsed_cut o ≡ Ok q → IsQueryOf text q
+cut_query : (text : List ℕ) (q : Query) → length text ≤ MAX_QUERY → (o : Cut) → tokens_of text ≡ o → parsed_cut o ≡ Ok q → IsQueryOf text q
 cut_query text q le (Ok found) cut e = tokens_query text found q le cut (parsed found.0) (parsed_says found.0 (text_end text found cut)) e
 cut_query text q le (Err fault) cut e = absurd cc
 
-cut_fault : (text : List ℕ) (f : QueryFault) → length text ≤ 65536 → (o : Cut) → tokens_of text ≡ o → parsed_cut o ≡ Err f
+cut_fault : (text : List ℕ) (f : QueryFault) → length text ≤ MAX_QUERY → (o : Cut) → tokens_of text ≡ o → parsed_cut o ≡ Err f
     → IsFaultOf text f
 cut_fault text f le (Ok found) cut e = tokens_fault text found f le cut (parsed found.0) (parsed_says found.0 (text_end text found cut)) e
 cut_fault text f le (Err fault) cut e = in_lexis le (cut ∙ ap (λ (g : QueryFault). Err g) (same_err fault f e))
 
 pub query_of_text : (text : List ℕ) (q : Query) → parsed_text text ≡ Ok q → IsQueryOf text q
-query_of_text text q e = go (cases_lt 65536 (length text))
+query_of_text text q e = go (cases_lt MAX_QUERY (length text))
   where
-    go : (65536 < length text) ⊎ (length text ≤ 65536) → IsQueryOf text q
-    go (inl lt) = let x : ◌≡◌ {A = Result Query QueryFault} (Err (fault_at QueryTooLong 65536)) (Ok q) = sym (long_text text lt)
+    go : (MAX_QUERY < length text) ⊎ (length text ≤ MAX_QUERY) → IsQueryOf text q
+    go (inl lt) = let x : ◌≡◌ {A = Result Query QueryFault} (Err (fault_at QueryTooLong MAX_QUERY)) (Ok q) = sym (long_text text lt)
         ∙ e in absurd cc
     go (inr le) = cut_query text q le (tokens_of text) refl (sym (short_text text le) ∙ e)
 
 pub fault_of_text : (text : List ℕ) (f : QueryFault) → parsed_text text ≡ Err f → IsFaultOf text f
-fault_of_text text f e = go (cases_lt 65536 (length text))
+fault_of_text text f e = go (cases_lt MAX_QUERY (length text))
   where
-    go : (65536 < length text) ⊎ (length text ≤ 65536) → IsFaultOf text f
-    go (inl lt) = too_long lt (sym (same_err (fault_at QueryTooLong 65536) f (sym (long_text text lt) ∙ e)))
+    go : (MAX_QUERY < length text) ⊎ (length text ≤ MAX_QUERY) → IsFaultOf text f
+    go (inl lt) = too_long lt (sym (same_err (fault_at QueryTooLong MAX_QUERY) f (sym (long_text text lt) ∙ e)))
     go (inr le) = cut_fault text f le (tokens_of text) refl (sym (short_text text le) ∙ e)
 
 pub text_of_query : (text : List ℕ) (q : Query) → IsQueryOf text q → parsed_text text ≡ Ok q

@@ -6,6 +6,7 @@ use Rattle.query_lang.specs.declared.fault.FaultKind.TheVariants.{QueryTooLong, 
 use Rattle.query_lang.specs.declared.fault.Limit.TheVariants as limits
 use Rattle.query_lang.specs.declared.fault.QueryFault.{QueryFault}
 use Rattle.query_lang.specs.declared.fault.Span.{Span}
+use Rattle.query_lang.specs.declared.fault.TheConstants.{MAX_QUERY}
 use Rattle.query_lang.specs.declared.query.Item.{Item}
 use Rattle.query_lang.specs.declared.query.Query.{Query}
 use Rattle.query_lang.specs.declared.token.Token.{Token}
@@ -28,16 +29,16 @@ fault_of k t = record { kind = kind_of k; span = t.span }
 
 -- The query of a text: its names are numbered by first appearance, and its items are those of the grammar.
 pub record IsQueryOf (text : List ℕ) (q : Query) : Type 0 where
-  pub short : length text ≤ 65536
+  pub short : length text ≤ MAX_QUERY
   pub tokens : List Token
   pub cut : tokens_of text ≡ Ok (tokens, q.names)
   pub accepted : IsAccepted tokens (q.items, q.end)
 
 -- the first fault of a text: of its length, then of the lexis, then of the grammar
 pub data IsFaultOf (text : List ℕ) (fault : QueryFault) : Type 0 where
-  too_long : 65536 < length text → fault ≡ fault_at QueryTooLong 65536 → IsFaultOf text fault
-  in_lexis : length text ≤ 65536 → tokens_of text ≡ Err fault → IsFaultOf text fault
-  in_grammar : length text ≤ 65536
+  too_long : MAX_QUERY < length text → fault ≡ fault_at QueryTooLong MAX_QUERY → IsFaultOf text fault
+  in_lexis : length text ≤ MAX_QUERY → tokens_of text ≡ Err fault → IsFaultOf text fault
+  in_grammar : length text ≤ MAX_QUERY
       → (names : List (List ℕ)) (front : List Token) (t : Token) (more : List Token) (k : Stop)
       → tokens_of text ≡ Ok (front ++ t ∷ more, names) → StandsAt k front t
       → fault ≡ fault_of k t → IsFaultOf text fault
@@ -63,4 +64,4 @@ parsed_cut (Err fault) = Err fault
 
 -- the query of a text, or its first fault
 abbrev pub parsed_text : List ℕ → Result Query QueryFault
-parsed_text text = if nat_lt 65536 (length text) then Err (fault_at QueryTooLong 65536) else parsed_cut (tokens_of text)
+parsed_text text = if nat_lt MAX_QUERY (length text) then Err (fault_at QueryTooLong MAX_QUERY) else parsed_cut (tokens_of text)

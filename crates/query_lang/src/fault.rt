@@ -1,5 +1,8 @@
 //! Places in a query's text, and the faults at them.
 
+/// The most bytes of a query.
+pub const MAX_QUERY: usize = 65_536;
+
 /// Bytes of the text, from `start` up to `end`.
 #[derive(Clone, Copy, Debug, PartialEq, Eq)]
 pub struct Span {
@@ -18,7 +21,7 @@ pub struct QueryFault {
 /// What is wrong with a query, or with the text of a plan.
 #[derive(Clone, Copy, Debug, PartialEq, Eq)]
 pub enum FaultKind {
-    /// The text has more than 65,536 bytes.
+    /// The text has more than `MAX_QUERY` bytes.
     QueryTooLong,
     /// A byte that begins no token; or the first byte that isn't a digit, of a word that begins with one and isn't `5tuple`.
     BadByte,

@@ -16,7 +16,7 @@ pub mod typing;
 
 pub use error::QueryError;
 pub use eval::eval_expr;
-pub use fault::{FaultKind, Limit, QueryFault, Span};
+pub use fault::{FaultKind, Limit, MAX_QUERY, QueryFault, Span};
 pub use fold::{Op, TypedExpr, TypedFold, TypedStmt};
 pub use names::Names;
 pub use query::{

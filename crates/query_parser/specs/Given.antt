@@ -1,6 +1,7 @@
 -- What the lexer gives, unless memory runs out.
 use Rattle.std.specs.Prelude.{◌≡◌, ◌≤◌, ℕ, List, Result, Ok, Err, length, nat_lt, if◌then◌else◌}
 use Rattle.query_lang.specs.declared.fault.QueryFault.{QueryFault}
+use Rattle.query_lang.specs.declared.fault.TheConstants.{MAX_QUERY}
 use Rattle.query_lang.specs.declared.token.Piece.{Piece}
 use Rattle.query_lang.specs.declared.token.Piece.TheVariants as pieces
 use Rattle.query_lang.specs.declared.fault.FaultKind.TheVariants.{QueryTooLong}
@@ -15,9 +16,9 @@ GivesTokens (Ok lexed) cut = cut ≡ Ok (lexed.tokens, lexed.names)
 GivesTokens (Err (Refused fault)) cut = cut ≡ Err fault
 GivesTokens (Err Memory) cut = Unit {0}
 
--- a text has at most 65,536 bytes
+-- a text is no longer than a query may be
 abbrev pub length_checked : List ℕ → Result (Unit {0}) QueryFault
-length_checked text = if nat_lt 65536 (length text) then Err (fault_at QueryTooLong 65536) else Ok tt
+length_checked text = if nat_lt MAX_QUERY (length text) then Err (fault_at QueryTooLong MAX_QUERY) else Ok tt
 
 -- the piece takes no more bytes than that
 abbrev pub IsWithin : Piece → ℕ → Type 0

@@ -8,7 +8,9 @@ ghost use Rattle.query_parser.specs.Given.{GivesTokens, IsWithin};
 
 use marple_base::Seq;
 use query_lang::lexis::{is_decimal_digit, is_in_word, is_text, number_of, reserved_of};
-use query_lang::{FaultKind, Mark, Names, Piece, QueryError, QueryFault, Span, Token, TokenKind};
+use query_lang::{
+    FaultKind, MAX_QUERY, Mark, Names, Piece, QueryError, QueryFault, Span, Token, TokenKind,
+};
 use std::alloc::{AllocError, Global};
 
 fn is_blank_at(b: u8) -> bool
@@ -125,7 +127,7 @@ fn piece_of_mark(a: u8, rest: &[u8]) -> Piece
 
 /// What the text begins with.
 fn piece_of(bytes: &[u8]) -> Piece
-    requires { length bytes.now ≤ 65536 }
+    requires { length bytes.now ≤ MAX_QUERY }
     ensures value { result ≡ piece bytes.now }
     ensures within { IsWithin result (length bytes.now) }
 {
@@ -153,8 +155,8 @@ pub struct Lexed {
 }
 
 fn token_from(kind: TokenKind, start: usize, end: usize) -> Token
-    requires start { start ≤ 65536 }
-    requires end { end ≤ 65536 }
+    requires start { start ≤ MAX_QUERY }
+    requires end { end ≤ MAX_QUERY }
     ensures { result ≡ token_at kind start end }
 {
     let span = Span {
@@ -166,7 +168,7 @@ fn token_from(kind: TokenKind, start: usize, end: usize) -> Token
 
 /// A fault at a byte.
 pub fn fault_from(kind: FaultKind, at: usize) -> QueryFault
-    requires { at ≤ 65536 }
+    requires { at ≤ MAX_QUERY }
     ensures { result ≡ fault_at kind at }
 {
     let span = Span {
@@ -179,7 +181,7 @@ pub fn fault_from(kind: FaultKind, at: usize) -> QueryFault
 /// Cuts a text into its tokens, and numbers its names by first appearance. Where a byte begins no token or a number is
 /// too large, the first such fault is the answer.
 pub fn cut_text(alloc: Global, text: &[u8]) -> Result<Lexed, QueryError>
-    requires { length text.now ≤ 65536 }
+    requires { length text.now ≤ MAX_QUERY }
     ensures { GivesTokens result (tokens_of text.now) }
 {
     let mut tokens = Seq::new(alloc);

@@ -12,7 +12,7 @@ use crate::item::query;
 use crate::lexer::{Lexed, cut_text, fault_from};
 use marple_base::Seq;
 use query_grammar::{Counts, Stop};
-use query_lang::{FaultKind, Item, Limit, Query, QueryError, QueryFault, Span, Token};
+use query_lang::{FaultKind, Item, Limit, MAX_QUERY, Query, QueryError, QueryFault, Span, Token};
 use std::alloc::Global;
 
 fn kind_of(stop: Stop) -> FaultKind
@@ -56,12 +56,12 @@ fn read_tokens(alloc: Global, tokens: &[Token]) -> Result<(Seq<Item>, Span), Que
     }
 }
 
-/// The longest text that is read has 65,536 bytes.
+/// No text is read that is longer than a query may be.
 fn check_length(text: &[u8]) -> Result<(), QueryFault>
     ensures { result ≡ length_checked text.now }
 {
-    if text.len() > 65536 {
-        return Err(fault_from(FaultKind::QueryTooLong, 65536));
+    if text.len() > MAX_QUERY {
+        return Err(fault_from(FaultKind::QueryTooLong, MAX_QUERY));
     }
     Ok(())
 }

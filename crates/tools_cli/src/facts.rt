@@ -5,10 +5,10 @@ ghost use Rattle.marple_base.specs.Inputs.{IsClosed};
 ghost use Rattle.tools_cli.specs.FactsEnds.{FactsEnd, GivesFacts, IsFactsLine, IsUnread};
 
 use crate::status::ToolStatus;
-use command_answers::MAX_QUERY;
 use facts_text::facts_text;
 use marple_base::{Inputs, ReadAnswer, Sink, Text, Which, read_input, write_all};
 use query_facts::facts_of;
+use query_lang::MAX_QUERY;
 use std::alloc::{AllocError, Global};
 
 // Reads the text of the query, to its end or to one byte more than the limit.
