@@ -11,7 +11,8 @@ from marple.parts.choice import Join
 from marple.parts.tasks import Ran
 from marple.parts.work import written
 
-BLOCK = 1 << 20
+ROWS = 1 << 24  # how many bytes of rows wait at most, of all parts together, where each may have a block
+BLOCK = 1 << 12  # the least that is read of a part at once
 MODULUS = 2**64
 Key = int | tuple[int, ...]
 KeyOf = Callable[[bytes], Key]
@@ -20,8 +21,8 @@ KeyOf = Callable[[bytes], Key]
 class PartTable:
     """A printed table of one part: its first two lines, and its rows, a block after the other."""
 
-    def __init__(self, ran: Ran, number: int):
-        self.path = ran.path
+    def __init__(self, ran: Ran, number: int, block: int):
+        self.path, self.block = ran.path, block
         with open(self.path, "rb") as file:
             file.seek(ran.tables[number])
             self.first, self.columns = file.readline(), file.readline()
@@ -38,7 +39,7 @@ class PartTable:
         with open(self.path, "rb") as file:
             file.seek(self.at)
             # readlines goes on until there are more bytes than its hint
-            rows = file.readlines(min(BLOCK, self.end - self.at) - 1) if self.at < self.end else []
+            rows = file.readlines(min(self.block, self.end - self.at) - 1) if self.at < self.end else []
         self.at += sum(map(len, rows))
         return rows
 
@@ -79,11 +80,11 @@ def merged(tables: Iterable[PartTable], key_of: KeyOf) -> Iterator[list[bytes]]:
 
 def join_tables(joins: Sequence[Join], parts: Sequence[Ran], path: str) -> list[int]:
     """Writes the printed tables of the whole into a file. Where each of them begins."""
-    starts = []
+    starts, block = [], max(ROWS // len(parts), BLOCK)
     with written(path) as file:
         for number, join in enumerate(joins):
             starts.append(file.tell())
-            _write_table(file, join, [PartTable(ran, number) for ran in parts])
+            _write_table(file, join, [PartTable(ran, number, block) for ran in parts])
     return starts
 
 
