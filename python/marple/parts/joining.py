@@ -52,10 +52,10 @@ def key_reader(keys: int) -> KeyOf:
 
 
 class _Waiting:
-    """The rows of a part that were read and not yet given."""
+    """The rows of a part that were read, of which those from `at` on weren't given yet."""
 
     def __init__(self, table: PartTable):
-        self.table, self.rows = table, table.read()
+        self.table, self.rows, self.at = table, table.read(), 0
 
     @property
     def is_last(self) -> bool:
@@ -63,8 +63,10 @@ class _Waiting:
 
     def up_to(self, bound: Key | None, key_of: KeyOf) -> list[bytes]:
         """Gives the rows whose keys are not above the bound; all rows where there is no bound."""
-        at = len(self.rows) if bound is None else bisect_right(self.rows, bound, key=key_of)
-        given, self.rows = self.rows[:at], self.rows[at:] or self.table.read()
+        end = len(self.rows) if bound is None else bisect_right(self.rows, bound, self.at, key=key_of)
+        given, self.at = self.rows[self.at : end], end
+        if self.at == len(self.rows):
+            self.rows, self.at = self.table.read(), 0
         return given
 
 
