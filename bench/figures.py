@@ -10,7 +10,7 @@ from pathlib import Path
 
 TOP = Path(__file__).resolve().parent.parent
 README, MANUAL, SCALING, START = "README.md", "docs/marple.1", "docs/SCALING.md", "docs/START.md"
-BENCH, BUILD = "bench/README.md", "bench/build/README.md"
+BENCH, BUILD, JOB = "bench/README.md", "bench/build/README.md", "python/marple/parts/job.py"
 NUMBER = r"\d[\d,]*(?:\.\d+)?"
 UNIT = r"(?:s|seconds|minutes|hours|MB|MiB|GB|TB|days|packets a second|times)"
 MEASURED = re.compile(rf"{NUMBER}(?= {UNIT}\b)|(?<=\| )\d[\d,]*[.,]\d+(?= \|)")
@@ -69,44 +69,63 @@ def least_and_greatest() -> list[float]:
     return [min(times), max(times), min(ratios), max(ratios)]
 
 
-def workers(number: int) -> list[float]:
-    """The line of so many workers: seconds, packets a second, look, split, run, join, their ratio, and two peaks."""
-    return figures(BENCH, rf"\| {number} \| N \([^)]*\) \| N \| N, N, N, N \| N \| N, N \|")
+def of_parts(case: str, program: str, cell: int = 0) -> float:
+    """Of a program of the bench of parts: its seconds, or what another cell has."""
+    found = [cells for name, one, cells in rows_of("parts") if (name, one) == (case, program)]
+    if len(found) != 1:
+        raise ValueError(f"{BENCH} has {len(found)} rows of {program} in the case {case} of parts")
+    return value(found[0][cell].split()[0])
+
+
+def workers(number: int) -> str:
+    return "1 worker" if number == 1 else f"{number} workers"
+
+
+IN_PARTS = "20,000,000 packets in parts (clock)"
+STAGES = ("splitting them (clock)", "running the parts (clock)", "joining the tables (clock)")
+WHOLE, LARGEST = "3,000,000 packets in one run, 14 columns", "4,000,000 packets in one run, the 4 columns that it reads"
+
+
+def rate(number: int) -> float:
+    """The packets that so many workers do in a second."""
+    return traces()[0] / of_parts(IN_PARTS, workers(number))
 
 
 def line_of(number: int) -> list[float]:
-    seconds, rate, *stages, ratio, _, _ = workers(number)
-    return [*stages, seconds, rate, *([ratio] if number > 1 else [])]
+    """The line of so many workers: the seconds of each stage and in all, packets a second, and their ratio."""
+    seconds = [of_parts(case, workers(number)) for case in (*STAGES, IN_PARTS)]
+    return [*seconds, rate(number), *([of_parts(IN_PARTS, workers(1)) / seconds[-1]] if number > 1 else [])]
 
 
 def lost(stage: int) -> float:
     """The seconds by which four workers took longer for a stage than a quarter of one worker's."""
-    return workers(4)[2 + stage] - workers(1)[2 + stage] / 4
+    return of_parts(STAGES[stage], workers(4)) - of_parts(STAGES[stage], workers(1)) / 4
 
 
 def traces() -> list[float]:
     return figures(BENCH, r"N packets of N keys in files of N, N GB\.")
 
 
-def whole_run() -> list[float]:
-    """Of the run over 4,000,000 packets: packets, columns, seconds, packets a second, and its peak."""
-    return figures(BENCH, rf"\| (4,000,000) packets, the N columns that it reads \| N \([^)]*\) \| [^|]* \| N \| N \|")
+def one_run(case: str) -> list[float]:
+    """Of a run of the program: packets, seconds, packets a second."""
+    packets, seconds = value(case.split()[0]), of_parts(case, "marple")
+    return [packets, seconds, packets / seconds]
 
 
 def splitting(what: str) -> list[float]:
     """Of splitting a million packets: its seconds, and those of running them."""
-    return figures(BENCH, rf"\| {what} \| N \([^)]*\) \| N \([^)]*\) \|")
+    return [of_parts(f"1,000,000 packets, {what}", program) for program in ("splitting", "running")]
 
 
 def link() -> dict[str, float]:
     """What a link of 100 Gbit/s with packets of 1,000 bytes comes to, by the traces and the rate of four workers."""
     second = 100e9 / 8 / 1000
     packets, _, _, gigabytes = traces()
-    rate = workers(4)[1] / 4
+    each = rate(4) / 4
     record = gigabytes * 1e9 / packets
     day = second * 86400
     figures_of_day = {"second": second / 1e6, "day": day / 1e12, "bytes": day * record / 1e12}
-    return figures_of_day | {"record": record, "rate": rate, "days": second / rate}
+    return figures_of_day | {"record": record, "rate": each, "days": second / each}
 
 
 def of_link(*names: str) -> Callable[[], list[float]]:
@@ -118,17 +137,18 @@ def of_building() -> list[float]:
 
 
 def of_joining() -> list[float]:
-    seconds = [workers(it)[5] for it in (1, 2, 4)]
+    seconds = [of_parts(STAGES[2], workers(it)) for it in (1, 2, 4)]
     return [min(seconds), max(seconds)]
 
 
-def greatest_peaks() -> list[float]:
-    """Of a worker and of a run of the program."""
-    return [max(workers(it)[place] for it in (1, 2, 4)) for place in (7, 8)]
+def small_part() -> list[float]:
+    """The MiB of traces that a part is planned to have the packets of."""
+    return [2 ** figures(JOB, r"\bSMALL = 1 << N")[0] / 2**20]
 
 
-def largest_part() -> list[float]:
-    return [1000 * traces()[3] / figures(SCALING, "There were N, N and N parts")[0]]
+def greatest_peak() -> float:
+    """The most MB that a process of a run in parts had."""
+    return max(of_parts(IN_PARTS, workers(it), 2) for it in (1, 2, 4))
 
 
 def section(bench: str) -> str:
@@ -158,21 +178,20 @@ OF_README: list[Sentence] = [
     (r"`rt ci` in it took N minutes", lambda: figures(BENCH, r"N minutes elapsed, of `rt ci`")),
 ]
 OF_SCALING: list[Sentence] = [
-    *((rf"\| {it} \| N \| N \| N \| N \| N \| N \|" + " N" * (it > 1), lambda it=it: line_of(it)) for it in (1, 2, 4)),
+    *((rf"\| {it} \| N \| N \| N \| N \| N \|" + " N" * (it > 1), lambda it=it: line_of(it)) for it in (1, 2, 4)),
     (r"over N packets of N keys, N GB in N files", lambda: [*traces()[:2], traces()[3], traces()[0] / traces()[2]]),
-    (r"over the first N packets, .{,60} took N s: N packets a second", lambda: [whole_run()[0], *whole_run()[2:4]]),
-    (r"\*To split\* a million packets takes N s of processor time, a third of the N s", lambda: splitting("plain")),
-    (r"which Python's `csv` reads, N s, three quarters", lambda: splitting("each field in quotes")[:1]),
+    (r"There is a part for each N MiB of the traces", small_part),
+    (r"over the first N packets, with all columns, took N s: N packets a second", lambda: one_run(WHOLE)),
+    (r"over the first N packets, with the four .{,30} took N s: N packets a second", lambda: one_run(LARGEST)),
+    (r"\*To split\* a million packets takes N s of processor time, .{,40} N s that running them takes", lambda: splitting("plain")),
+    (r"with each field in quotes N s", lambda: splitting("each field in quotes")[:1]),
     (r"N to N s for a million keys, by one worker, two or four", of_joining),
-    (r"N s at joining, .{,40} N at splitting, .{,60} N at looking", lambda: [lost(3), lost(1), lost(0)]),
-    (r"A worker had N MB at its peak, a run of the program N MB", greatest_peaks),
-    (r"the largest parts \(of some N MB\)", largest_part),
-    (r"the process that asks N MB", lambda: figures(BENCH, r"The process that asks, .{,40} has a peak of N MB")),
-    (r"One run over N packets had N MB", lambda: [whole_run()[0], whole_run()[4]]),
+    (r"N s at joining, .{,40} N at splitting", lambda: [lost(2), lost(0)]),
+    (r"No process had more than N MB", lambda: [greatest_peak()]),
+    (r"one run over N packets had N MB", lambda: [value(LARGEST.split()[0]), of_parts(LARGEST, "marple", 2)]),
     (r"N million packets a second, N trillion a day, N TB of records of N bytes", of_link("second", "day", "bytes", "record")),
     (r"At the N packets a second that each of four workers has, this is N days", of_link("rate", "days")),
     (r"N workers would keep pace .{,60} N machines like this one", lambda: [link()["days"], ceil(link()["days"] / 4)]),
-    (r"`--work` would take N TB more", of_link("bytes")),
 ]
 SENTENCES: dict[str, list[Sentence]] = {README: OF_README, MANUAL: [], SCALING: OF_SCALING, START: []}
 

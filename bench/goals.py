@@ -86,6 +86,7 @@ LEAST, MILLION, MOST = "131,072 packets", "1,048,576 packets", "4,194,304 packet
 QUERIES = ("count: packets by source", "sum: bytes by flow", "max: longest queue by source")
 OOS = "oos: packets out of sequence by flow"
 EIGHT = "eight: eight groupbys"
+ONE_RUN = "3,000,000 packets in one run, 14 columns"
 FINALS = {"filter": 1.5, "map": 2.0, "groupby": 1.5, "join": 2.0, "top": 2.0}
 
 
@@ -120,11 +121,16 @@ def query_goals() -> list[Goal]:
 
 
 def parts_goals() -> list[Goal]:
-    """Goals of runs in parts: four workers are at least three times as fast as one, and what splitting may cost."""
-    case = "20,000,000 packets in parts (clock)"
+    """Goals of runs in parts: what four workers do in a second, and more than one and than the splitter in Python did; what one
+    worker does, compared with one run; and what splitting may cost.
+    """
+    parts, four = "20,000,000 packets in parts (clock)", "4 workers"
     splits = (("plain", "plain"), ("in quotes", "each field in quotes"))
     return [
-        Goal("parts", "time of four workers in one worker's", 0.333, times("parts", case, "4 workers", "1 worker")),
+        Goal("parts", "time of four workers in one worker's", 0.333, times("parts", parts, four, "1 worker")),
+        Goal("parts", "s of the clock, four workers", 15.4, lambda found: found["parts", parts, four].time()),
+        Goal("parts", "time of four workers in that of caf00965", 0.526, times("parts", parts, four, f"{four} of caf00965")),
+        Goal("parts", "time of a packet in parts, one worker, in that of one run", 1.0, one_worker),
         *(
             Goal(
                 "parts", f"time to split a million packets, {shown}, in that to run them", 2.0,
@@ -133,6 +139,12 @@ def parts_goals() -> list[Goal]:
             for shown, name in splits
         ),
     ]  # fmt: skip
+
+
+def one_worker(found: Figures) -> float:
+    """The time that one worker takes for a packet in that of one run, by the clock, which a run has for itself."""
+    parts, run = found["parts", "20,000,000 packets in parts (clock)", "1 worker"], found["parts", ONE_RUN, "marple"]
+    return (parts.time() / 20) / (run.time() / 3)
 
 
 def split_goals() -> list[Goal]:

@@ -31,7 +31,10 @@ ITEMS = [
 ]  # fmt: skip
 
 RULE = ("product", "operator", "condition", "assignment")
-CAUSE = {"start": NUMBER, "rule": RULE, "operator": (str, None), "keeps": ("greatest", "least", None), "reads": (str, None)}
+CAUSE = {
+    "start": NUMBER, "statement": SPAN, "rule": RULE, "operator": (str, None), "keeps": ("greatest", "least", None),
+    "reads": (str, None),
+}  # fmt: skip
 SPOILT = [{"variable": str, **CAUSE}]
 FOLD = {
     **PLACED, "states": NAMES, "initial": [NUMBER], "arguments": NAMES, "emits": bool, "class": CLASS,
@@ -69,8 +72,8 @@ PLACE = (
 )  # fmt: skip
 TOKENS = [{"kind": ("name", "number", "end"), "text": None}, {"kind": "token", "text": str}]
 FAULT = {
-    "kind": str, "limit": (str, None), **SPAN, "expected": TOKENS, "item": (NUMBER, None), "place": (*PLACE, None),
-    "names": [{"name": str, "kind": KIND_OF_NAME, "start": (NUMBER, None)}], "columns": [COLUMN], "missing": NAMES,
+    "kind": str, "limit": (str, None), "most": (NUMBER, None), **SPAN, "expected": TOKENS, "item": (NUMBER, None),
+    "place": (*PLACE, None), "names": [{"name": str, "kind": KIND_OF_NAME, "start": (NUMBER, None)}], "columns": [COLUMN], "missing": NAMES,
 }  # fmt: skip
 REFUSED = {**ANY, "fault": FAULT}
 

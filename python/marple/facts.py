@@ -22,3 +22,15 @@ def facts_of(text: bytes, *, program: Optional[Program] = None, deadline: Option
     if facts.get("marple_facts") != VERSION:
         raise ProgramFailed(f"marple-tools says version {facts.get('marple_facts')} of the facts, and this reads {VERSION}")
     return facts
+
+
+def tables_of(facts: Fact) -> dict[str, Fact]:
+    """The groupbys and then the finals of an accepted query, by their names, each in the order of the text."""
+    return {one["name"]: one for one in (*facts["groupbys"], *facts["finals"])}
+
+
+def keys_of(table: Fact) -> tuple[str, ...]:
+    """The names of the keys of a groupby, or of a final, whose first columns they are."""
+    if "columns" in table:
+        return tuple(table["columns"][: table["keys"]])
+    return tuple(key["name"] for key in table["keys"])

@@ -5,8 +5,7 @@ from collections.abc import Callable, Mapping
 from dataclasses import dataclass, replace
 from typing import Optional
 
-from marple.facts import Fact
-from marple.queries import Item, tables_of
+from marple.facts import Fact, keys_of, tables_of
 from marple.tables import Answer, Table, Tables, View
 
 
@@ -90,8 +89,8 @@ def asking(text: bytes, facts: Callable[[], Fact]) -> Asking:
         return Asking(text, {}, {})
     classes = {one["name"]: one["class"] for one in known["groupbys"]}
     tables, printed = tables_of(known), known["prints"]
-    keys = {name: item.keys for name, item in tables.items() if item.final}
-    sources = {name: _sources(tables, name) for name in printed if tables[name].final}
+    keys = {one["name"]: keys_of(one) for one in known["finals"]}
+    sources = {name: _sources(tables, name) for name in printed if name in keys}
     unprinted = sorted(frozenset().union(*sources.values()) - set(printed))
     if not unprinted:
         return Asking(text, keys, sources)
@@ -101,9 +100,7 @@ def asking(text: bytes, facts: Callable[[], Fact]) -> Asking:
     return Asking(text + prints + (b"\n" if more else b""), keys, sources, linear, more)
 
 
-def _sources(tables: Mapping[str, Item], name: str) -> frozenset[str]:
-    """The groupbys of streams that a table is made from."""
-    item = tables[name]
-    if not item.final:
-        return frozenset({name})
-    return frozenset().union(*(_sources(tables, one) for one in item.inputs))
+def _sources(tables: Mapping[str, Fact], name: str) -> frozenset[str]:
+    """The groupbys of streams that a table is made from: itself, if it isn't made from tables."""
+    inputs = tables[name].get("inputs", ())
+    return frozenset().union(*(_sources(tables, one) for one in inputs)) if inputs else frozenset({name})

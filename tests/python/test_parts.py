@@ -126,6 +126,20 @@ class JoinedTables(unittest.TestCase):
         self.assertTrue(any("splitting it again" in line for line in lines), lines)
         self.assertGreater(answer.parts, 15)
 
+    def test_of_small_parts(self):
+        """There are more parts than the limits of a run ask for, but not so many that there would be many small files."""
+        query, traces = TOP / "examples" / "count.query", self.folder.traces(generated(*TRACE), 2)
+        expected, size = marple.run(query, self.whole), sum(map(os.path.getsize, traces))
+        for bounds, number in (
+            ({"SMALL": 4_000, "FILE": 1}, size // 4_000),
+            ({"SMALL": 4_000, "FILE": 3_000}, size // 6_000),
+            ({"SMALL": 4_000, "FILE": 1, "MOST": 3}, 3),
+        ):
+            with self.subTest(**bounds), mock.patch.multiple(job, **bounds):
+                answer = parts.run(query, traces)
+                self.check_same(answer, expected)
+                self.assertEqual(answer.parts, number)
+
     def test_of_ranges_side_by_side(self):
         """A trace for several workers is split in ranges, also where the records have quotes."""
         trace = generated(*TRACE)

@@ -5,8 +5,7 @@ import unittest
 from support import cases, content, words
 
 from marple import Mark, read_tables
-from marple.facts import facts_of
-from marple.queries import tables_of
+from marple.facts import facts_of, keys_of, tables_of
 from marple.tables import TableFault
 
 PRINTING = ("run", "net", "enclose", "run-plan", "trial")
@@ -69,7 +68,7 @@ class ATable(unittest.TestCase):
             b"def late([last, n], []) { n = n + last; last = 1; } "
             b"r = groupby(pktstream, [srcip], late); final worst = top(r, n, 1); print r; print worst;"
         )
-        table = read_tables(LATE, {"worst": tables_of(facts_of(query))["worst"].keys})["worst"]
+        table = read_tables(LATE, {"worst": keys_of(tables_of(facts_of(query))["worst"])})["worst"]
         self.assertEqual((table.kind, table.depth, table.epochs), ("final", None, None))
         self.assertEqual((table.keys, table.rows), (("srcip",), [(2, 1, 0)]))
         self.assertIsNone(read_tables(LATE)["worst"].keys)

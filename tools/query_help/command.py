@@ -85,24 +85,19 @@ def ask(program: str, words: list[str]) -> Answer:
 
 
 def plan_words(query: Query, plan: str) -> str:
-    """The text of a plan in words: its size, and which groupbys are exact."""
+    """A plan in words: its size, and which groupbys are exact."""
     numbers = {line.split()[0]: line.split()[1] for line in plan.splitlines()}
     stages, operations = (traces.counted(int(numbers[f"{word}s"]), word) for word in ("stage", "operation"))
     said = f"{stages}, {operations}, at most {numbers['bound']} steps for a packet.\n"
-    others = set()
-    for line in plan.splitlines():
-        if line.startswith("groupby "):
-            _, name, kind, depth = line.split()[:4]
-            if kind == "other":
-                others.add(name)
-            said += f"groupby {name}: {kind}, depth {depth}: {EXACT[kind]}\n"
-    return said + lacking_words(query, others)
+    for one in query.facts["groupbys"]:
+        said += f"groupby {one['name']}: {one['class']}, depth {query.fold_of(one)['depth']}: {EXACT[one['class']]}\n"
+    return said + lacking_words(query)
 
 
-def lacking_words(query: Query, others: set[str]) -> str:
+def lacking_words(query: Query) -> str:
     """The finals that lack keys, since they are made from a groupby of class other."""
     said = ""
-    lacking = set(others)
+    lacking = {one["name"] for one in query.facts["groupbys"] if one["class"] == "other"}
     for final in query.facts["finals"]:
         source = next((name for name in final["inputs"] if name in lacking), None)
         if source:

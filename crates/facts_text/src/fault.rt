@@ -3,7 +3,7 @@
 use crate::reach::{InReach, in_reach};
 use crate::read::{ReadText, place_of};
 use crate::values::{Members, bytes_value, put_span, word_value};
-use crate::words::{fault_word, limit_of, place_word};
+use crate::words::{fault_word, limit_of, most_of, place_word};
 use query_facts::{RefusedFacts, spelling};
 use query_lang::{FaultKind, TokenKind};
 use query_places::Place;
@@ -62,10 +62,11 @@ fn word_of_place(found: Option<(usize, Place)>) -> Option<&'static str> {
     }
 }
 
-// Adds the kind of a fault, and its limit if it is of one.
+// Adds the kind of a fault, and its limit with its number if it is of one.
 fn put_kind(alloc: Global, kind: FaultKind, to: &mut Members) -> Result<(), AllocError> {
     to.put_text("kind", fault_word(kind))?;
-    to.put("limit", word_value(alloc, limit_of(kind))?)
+    to.put("limit", word_value(alloc, limit_of(kind))?)?;
+    to.put("most", Value::from(most_of(kind)))
 }
 
 // Adds the item and the place that a fault is in.

@@ -1,13 +1,13 @@
 //! Folds, with what spoils them.
 
-use crate::read::FoldCauses;
-use crate::values::{Members, name_list, name_value, word_value};
+use crate::read::{FoldCauses, ReadText};
+use crate::values::{Members, name_list, name_value, put_span, word_value};
 use crate::words::{algebra_word, class_word, form_word, op_word};
 use fold_class::{Algebra, Operators, Role};
 use marple_base::Seq;
 use query_facts::{AcceptedFacts, FoldFacts};
-use query_lang::{Class, Name, Names, Op, TypedFold};
-use query_places::{Cause, Rule, Spoilt};
+use query_lang::{Class, Name, Names, Op, Token, TypedFold};
+use query_places::{Cause, Rule, Spoilt, statement_at};
 use serde_json::Value;
 use std::alloc::{AllocError, Global};
 
@@ -68,10 +68,18 @@ fn read_value(alloc: Global, names: &Names, read: Option<Name>) -> Result<Value,
     }
 }
 
+// The statement that a byte is in.
+fn statement_value(alloc: Global, tokens: &[Token], at: u32) -> Result<Value, AllocError> {
+    let mut members = Members::new(alloc);
+    put_span(&mut members, statement_at(tokens, at))?;
+    Ok(members.into_object())
+}
+
 // A cause, with the variable that it spoils, if it spoils one.
 fn cause_value(
     alloc: Global,
     names: &Names,
+    tokens: &[Token],
     variable: Value,
     cause: Cause,
     algebra: Option<Algebra>,
@@ -79,6 +87,8 @@ fn cause_value(
     let mut members = Members::new(alloc);
     members.put("variable", variable)?;
     members.put("start", Value::from(cause.start))?;
+    let statement = statement_value(alloc, tokens, cause.start)?;
+    members.put("statement", statement)?;
     put_rule(alloc, cause.rule, algebra, &mut members)?;
     members.put("reads", read_value(alloc, names, cause.reads)?)?;
     Ok(members.into_object())
@@ -88,21 +98,27 @@ fn cause_value(
 fn spoilt_value(
     alloc: Global,
     names: &Names,
+    tokens: &[Token],
     all: &[Spoilt],
     algebra: Option<Algebra>,
 ) -> Result<Value, AllocError> {
     let mut list = Vec::new(alloc);
     for one in all {
         let variable = name_value(alloc, names, one.variable.id)?;
-        list.push(cause_value(alloc, names, variable, one.cause, algebra)?)?;
+        list.push(cause_value(alloc, names, tokens, variable, one.cause, algebra)?)?;
     }
     Ok(Value::Array(list))
 }
 
 // What keeps a fold from being additive.
-fn adding_value(alloc: Global, names: &Names, adding: Option<Cause>) -> Result<Value, AllocError> {
+fn adding_value(
+    alloc: Global,
+    names: &Names,
+    tokens: &[Token],
+    adding: Option<Cause>,
+) -> Result<Value, AllocError> {
     match adding {
-        Some(cause) => cause_value(alloc, names, Value::Null, cause, None),
+        Some(cause) => cause_value(alloc, names, tokens, Value::Null, cause, None),
         None => Ok(Value::Null),
     }
 }
@@ -111,29 +127,33 @@ fn adding_value(alloc: Global, names: &Names, adding: Option<Cause>) -> Result<V
 fn put_causes(
     alloc: Global,
     names: &Names,
+    tokens: &[Token],
     all: &FoldCauses,
     to: &mut Members,
 ) -> Result<(), AllocError> {
-    let sums = spoilt_value(alloc, names, all.sums.as_slice(), Some(Algebra::Sums))?;
+    let sums = all.sums.as_slice();
+    let sums = spoilt_value(alloc, names, tokens, sums, Some(Algebra::Sums))?;
     to.put("sums", sums)?;
-    let maxima = spoilt_value(alloc, names, all.maxima.as_slice(), Some(Algebra::Maxima))?;
+    let maxima = all.maxima.as_slice();
+    let maxima = spoilt_value(alloc, names, tokens, maxima, Some(Algebra::Maxima))?;
     to.put("maxima", maxima)?;
-    let order = spoilt_value(alloc, names, all.order.as_slice(), None)?;
+    let order = spoilt_value(alloc, names, tokens, all.order.as_slice(), None)?;
     to.put("monotone", order)?;
-    to.put("additive", adding_value(alloc, names, all.adding)?)
+    to.put("additive", adding_value(alloc, names, tokens, all.adding)?)
 }
 
 // The causes of a fold, or null.
 fn causes_value(
     alloc: Global,
     names: &Names,
+    tokens: &[Token],
     causes: Option<&FoldCauses>,
 ) -> Result<Value, AllocError> {
     let Some(all) = causes else {
         return Ok(Value::Null);
     };
     let mut members = Members::new(alloc);
-    put_causes(alloc, names, all, &mut members)?;
+    put_causes(alloc, names, tokens, all, &mut members)?;
     Ok(members.into_object())
 }
 
@@ -201,6 +221,7 @@ fn put_kinds(alloc: Global, facts: &FoldFacts, to: &mut Members) -> Result<(), A
 fn fold_value(
     alloc: Global,
     names: &Names,
+    tokens: &[Token],
     f: &TypedFold,
     facts: &FoldFacts,
     causes: Option<&FoldCauses>,
@@ -210,18 +231,29 @@ fn fold_value(
     put_kinds(alloc, facts, &mut members)?;
     let history = history_value(alloc, names, f, facts.history.as_slice())?;
     members.put("history", history)?;
-    members.put("spoilt", causes_value(alloc, names, causes)?)?;
+    let spoilt = causes_value(alloc, names, tokens, causes)?;
+    members.put("spoilt", spoilt)?;
     Ok(members.into_object())
+}
+
+// The tokens of a text that is read; none of another.
+fn tokens_of(text: &Option<ReadText>) -> &[Token] {
+    match text {
+        Some(read) => read.tokens.as_slice(),
+        None => &[],
+    }
 }
 
 /// The folds of an accepted query.
 pub(crate) fn folds_value(
     alloc: Global,
+    text: &Option<ReadText>,
     facts: &AcceptedFacts,
     causes: &[FoldCauses],
 ) -> Result<Value, AllocError> {
     let mut list = Vec::new(alloc);
     let typed = &facts.typed;
+    let tokens = tokens_of(text);
     for (f, one) in typed
         .folds
         .as_slice()
@@ -229,7 +261,7 @@ pub(crate) fn folds_value(
         .zip(facts.folds.as_slice().iter())
     {
         let own = causes.get(list.len());
-        list.push(fold_value(alloc, &typed.names, f, one, own)?)?;
+        list.push(fold_value(alloc, &typed.names, tokens, f, one, own)?)?;
     }
     Ok(Value::Array(list))
 }

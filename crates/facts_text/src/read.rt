@@ -3,16 +3,17 @@
 use fold_class::Algebra;
 use marple_base::Seq;
 use query_facts::FoldFacts;
-use query_lang::{FoldDef, Item, MAX_QUERY, Name, Query, QueryError, Span};
+use query_lang::{FoldDef, Item, MAX_QUERY, Name, Query, QueryError, Span, Token};
 use query_parser::{Lexed, cut_text, parse};
 use query_places::{
     Cause, Place, Spoilt, item_spans, losses_of, not_additive, not_linear, not_monotone, place_at,
 };
 use std::alloc::{AllocError, Global};
 
-/// A text that is read: its items, and where each of them stands.
+/// A text that is read: its tokens, its items, and where each of them stands.
 #[derive(Drop)]
 pub(crate) struct ReadText {
+    pub(crate) tokens: Seq<Token>,
     pub(crate) query: Query,
     pub(crate) spans: Seq<Span>,
 }
@@ -35,13 +36,13 @@ fn query_of(alloc: Global, text: &[u8]) -> Result<Option<Query>, AllocError> {
     }
 }
 
-// Where the items of a text stand.
-fn spans_of(alloc: Global, text: &[u8]) -> Result<Seq<Span>, AllocError> {
+// The tokens of a text.
+fn tokens_of(alloc: Global, text: &[u8]) -> Result<Seq<Token>, AllocError> {
     if text.len() > MAX_QUERY {
         return Ok(Seq::new(alloc));
     }
     match cut_text(alloc, text) {
-        Ok(Lexed { tokens, names: _ }) => item_spans(alloc, tokens.as_slice()),
+        Ok(Lexed { tokens, names: _ }) => Ok(tokens),
         Err(QueryError::Refused(_)) => Ok(Seq::new(alloc)),
         Err(QueryError::Memory) => Err(AllocError),
     }
@@ -52,8 +53,13 @@ pub(crate) fn read_text(alloc: Global, text: &[u8]) -> Result<Option<ReadText>, 
     let Some(query) = query_of(alloc, text)? else {
         return Ok(None);
     };
-    let spans = spans_of(alloc, text)?;
-    Ok(Some(ReadText { query, spans }))
+    let tokens = tokens_of(alloc, text)?;
+    let spans = item_spans(alloc, tokens.as_slice())?;
+    Ok(Some(ReadText {
+        tokens,
+        query,
+        spans,
+    }))
 }
 
 // What spoils a fold whose variables with a depth are these.

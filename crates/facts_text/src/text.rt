@@ -117,7 +117,7 @@ fn put_remarks(
     to: &mut Members,
 ) -> Result<(), AllocError> {
     let remarks = remarks_on(alloc, text, facts.folds.as_slice())?;
-    let folds = folds_value(alloc, facts, remarks.causes.as_slice())?;
+    let folds = folds_value(alloc, text, facts, remarks.causes.as_slice())?;
     to.put("folds", folds)?;
     let warnings = warnings_value(alloc, &facts.typed.names, remarks.losses.as_slice())?;
     to.put("warnings", warnings)

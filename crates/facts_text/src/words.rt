@@ -48,6 +48,30 @@ pub(crate) fn limit_of(kind: FaultKind) -> Option<&'static str> {
     }
 }
 
+// How many there may be.
+fn allowed(limit: Limit) -> u32 {
+    match limit {
+        Limit::Groupbys => 8,
+        Limit::Keys => 8,
+        Limit::States => 8,
+        Limit::Args => 16,
+        Limit::Statements => 64,
+        Limit::Nodes => 512,
+        Limit::Bindings => 32,
+        Limit::Nesting => 64,
+        Limit::Stages => 64,
+    }
+}
+
+/// The most that the limit of a fault allows.
+pub(crate) fn most_of(kind: FaultKind) -> Option<u32> {
+    match kind {
+        FaultKind::QueryTooLong => Some(65_536),
+        FaultKind::OverLimit(limit) => Some(allowed(limit)),
+        _ => None,
+    }
+}
+
 pub(crate) fn class_word(class: Class) -> &'static str {
     match class {
         Class::Linear => "linear",

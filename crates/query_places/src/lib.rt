@@ -11,6 +11,7 @@ mod known;
 mod losses;
 mod places;
 mod reckoning;
+mod statements;
 mod values;
 
 pub use adding::not_additive;
@@ -18,4 +19,5 @@ pub use causes::{Spoilt, not_linear, not_monotone};
 pub use items::item_spans;
 pub use places::{Place, place_at};
 pub use reckoning::losses_of;
+pub use statements::statement_at;
 pub use values::{Cause, Form, Rule};

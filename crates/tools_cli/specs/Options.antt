@@ -32,10 +32,10 @@ with_option options name value =
     else if bytes_eq name (codes "--into") && not options.into then Some (record options { into = true })
     else None
 
--- a range of bytes, of at most 2^64-1
+-- a range of bytes, both of at most 2^64-1, that doesn't end before it begins
 abbrev pub range_of : List ℕ → List ℕ → Option Range
 range_of first last =
-    option_and_then (λ m. option_map (λ n. record { from = m; to = n }) (number_within 0 18446744073709551615 last))
+    option_and_then (λ m. option_map (λ n. record { from = m; to = n }) (number_within m 18446744073709551615 last))
     (number_within 0 18446744073709551615 first)
 
 -- the options with a range, if they have none

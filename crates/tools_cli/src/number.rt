@@ -32,12 +32,12 @@ pub(crate) fn number_within(least: u32, most: u32, word: &[u8]) -> Option<u32>
     Some(value as u32)
 }
 
-/// The number that a word spells, where it is below 2^64.
-pub(crate) fn large_number(word: &[u8]) -> Option<u64>
-    ensures { result ≡ number_within 0 18446744073709551615 word.now }
+/// The number that a word spells, where it is from `least` on and below 2^64.
+pub(crate) fn large_number(least: u64, word: &[u8]) -> Option<u64>
+    ensures { result ≡ number_within least 18446744073709551615 word.now }
 {
     let value = number(word)?;
-    if value > u128::from(u64::MAX) {
+    if value < u128::from(least) || value > u128::from(u64::MAX) {
         return None;
     }
     Some(value as u64)

@@ -75,8 +75,8 @@ impl SplitOptions {
         if self.range.is_some() {
             return None;
         }
-        let from = large_number(first.as_bytes())?;
-        let to = large_number(last.as_bytes())?;
+        let from = large_number(0, first.as_bytes())?;
+        let to = large_number(from, last.as_bytes())?;
         let mut options = self;
         options.range = Some(Range { from, to });
         Some(options)

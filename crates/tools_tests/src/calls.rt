@@ -159,6 +159,9 @@ fn refuses_words(rt: HostRuntime) -> Result<(), Fail> {
         "split q a --parts 2 --into out --range 0",
         "split q a --parts 2 --into out --range 0 x",
         "split q a --parts 2 --into out --range 0 18446744073709551616",
+        "split q a --parts 2 --into out --range 18446744073709551616 0",
+        "split q a --parts 2 --into out --range 9 3",
+        "split q a --parts 2 --into out --range 18446744073709551615 0",
         "split q a --range 0 5 --parts 2 --into out --range 5 9",
         "split q a b --parts 2 --into out --range 0 5",
     ] {
@@ -185,7 +188,8 @@ fn takes_options(rt: HostRuntime) -> Result<(), Fail> {
         "split q a --parts 2 --into out --salt 1 more",
         "split --salt 1 q --parts 2 a --into --parts b",
         "split --range 0 5 q --parts 2 a --into out",
-        "split q a --parts 2 --into out --range 18446744073709551615 0",
+        "split q a --parts 2 --into out --range 0 0",
+        "split q a --parts 2 --into out --range 18446744073709551615 18446744073709551615",
     ] {
         let told = called(rt.alloc(), line, COUNT, &[])?;
         let is_usage = told.status == ToolStatus::Usage;

@@ -25,7 +25,7 @@ fn says_what_a_refused_query_is(rt: HostRuntime) -> Result<(), Fail> {
     assert_eq!(rt; told.complaint.as_slice(), b"".as_slice());
     assert_eq!(rt;
         told.written.as_slice(),
-        b"{\"fault\":{\"columns\":[],\"end\":7,\"expected\":[],\"item\":0,\"kind\":\"UnknownName\",\"limit\":null,\"missing\":[],\"names\":[],\"place\":\"printed\",\"start\":6},\"fields\":[\"switch\",\"qid\",\"uid\",\"srcip\",\"dstip\",\"srcport\",\"dstport\",\"proto\",\"pkt_len\",\"payload_len\",\"tcpseq\",\"tin\",\"tout\",\"qsize\"],\"items\":[{\"end\":8,\"kind\":\"print\",\"name\":\"x\",\"name_start\":6,\"operator\":\"print\",\"start\":0}],\"marple_facts\":1}\n".as_slice()
+        b"{\"fault\":{\"columns\":[],\"end\":7,\"expected\":[],\"item\":0,\"kind\":\"UnknownName\",\"limit\":null,\"missing\":[],\"most\":null,\"names\":[],\"place\":\"printed\",\"start\":6},\"fields\":[\"switch\",\"qid\",\"uid\",\"srcip\",\"dstip\",\"srcport\",\"dstport\",\"proto\",\"pkt_len\",\"payload_len\",\"tcpseq\",\"tin\",\"tout\",\"qsize\"],\"items\":[{\"end\":8,\"kind\":\"print\",\"name\":\"x\",\"name_start\":6,\"operator\":\"print\",\"start\":0}],\"marple_facts\":1}\n".as_slice()
     );
     Ok(())
 }
@@ -35,6 +35,7 @@ fn says_what_a_refused_query_is(rt: HostRuntime) -> Result<(), Fail> {
 fn says_what_a_query_is(rt: HostRuntime) -> Result<(), Fail> {
     for piece in [
         "\"fault\":null",
+        "\"statement\":{\"end\":30,\"start\":20}",
         "\"class\":\"linear\"",
         "\"algebra\":\"sums\"",
         "\"depth\":0",

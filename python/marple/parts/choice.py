@@ -5,11 +5,10 @@ from dataclasses import dataclass
 from typing import NoReturn
 
 from marple.commands import plan
-from marple.facts import Fact, facts_of
+from marple.facts import Fact, facts_of, keys_of, tables_of
 from marple.parts.refusals import FieldNeeded, FieldRefused, FinalGroupby, FinalOfTop
 from marple.plans import FIELDS
 from marple.program import Program
-from marple.queries import Item, tables_of
 
 
 @dataclass(frozen=True)
@@ -75,17 +74,17 @@ def choose(query: bytes, by: str | Sequence[str] | None, program: Program | None
         return _by_fields(facts, tuple(parts["by"]), "keys of every groupby that is printed or read")
     if refused:
         raise FieldNeeded(_field_needed(facts))
-    joins = tuple(Join(item.name, len(item.keys), starts=_starts(facts, item.name)) for item in _printed(facts))
+    joins = tuple(Join(one["name"], len(one["keys"]), starts=_starts(facts, one)) for one in _printed(facts))
     return Choice((), joins, "no field is a key of every groupby, and all states add", tuple(facts["reads"]))
 
 
-def _printed(facts: Fact) -> list[Item]:
+def _printed(facts: Fact) -> list[Fact]:
     tables = tables_of(facts)
     return [tables[name] for name in facts["prints"]]
 
 
 def _by_fields(facts: Fact, by: tuple[str, ...], reason: str) -> Choice:
-    joins = tuple(Join(item.name, len(item.keys), best=item.best) for item in _printed(facts))
+    joins = tuple(Join(one["name"], len(keys_of(one)), best=_best(one)) for one in _printed(facts))
     # marple-tools splits by keys of all groupbys
     splits = set(by) == set(facts["parts"]["by"]) and all(one["needed"] for one in facts["groupbys"])
     return Choice(by, joins, reason, tuple(facts["reads"]), splits)
@@ -95,9 +94,14 @@ def _fold_of(facts: Fact, groupby: Fact) -> Fact:
     return next(fold for fold in facts["folds"] if fold["name"] == groupby["fold"])
 
 
-def _starts(facts: Fact, name: str) -> tuple[int, ...]:
+def _best(table: Fact) -> tuple[str, int] | None:
+    """Column and number of a `top`."""
+    best = table.get("best")
+    return (best["column"], best["rows"]) if best else None
+
+
+def _starts(facts: Fact, groupby: Fact) -> tuple[int, ...]:
     """The starts of the state variables of a groupby."""
-    groupby = next(one for one in facts["groupbys"] if one["name"] == name)
     return tuple(_fold_of(facts, groupby)["initial"])
 
 

@@ -23,6 +23,9 @@ from marple.version import __version__
 BYTES = 268_435_456  # the most bytes of one run
 PACKETS = 4_194_304  # and the most packets
 ROOM = 3 / 4  # how much of what one run takes a part is planned to have, since no function splits evenly
+SMALL = 1 << 24  # of how many bytes of traces a part is planned to have the packets, so that few of its keys leave the cache
+FILE = 1 << 18  # but of no fewer bytes of each trace, on the average
+MOST = 1024  # and no more parts than this, each of which has a block in memory while a trace is split
 AGAIN = 64  # into how many parts one is split that came out too large
 LEAST = 1 << 20  # no trace is cut into smaller pieces so that each worker has one
 END = 2**64 - 1  # after each byte of a trace
@@ -212,7 +215,8 @@ class Job:
         size, packets = sum(own for own, _ in looked), sum(own for _, own in looked)
         needed = max(math.ceil(size / (BYTES * ROOM)), math.ceil(packets / (PACKETS * ROOM)), 1)
         if self.parts is None:
-            return self.work.decide("parts", math.ceil(needed / self.engine.places) * self.engine.places)
+            useful = min(size // SMALL, size // (FILE * len(looked)), MOST)
+            return self.work.decide("parts", math.ceil(max(needed, useful) / self.engine.places) * self.engine.places)
         number = max(needed, self.parts)
         if self.work.decide("parts", number) != number:
             raise WorkTaken(f"{self.folder} has other work: its number of parts differs")

@@ -3,23 +3,26 @@
 import heapq
 from bisect import bisect_right
 from collections.abc import Callable, Iterable, Iterator, Sequence
-from itertools import chain
+from functools import partial
+from itertools import chain, groupby
 from typing import IO
 
 from marple.parts.choice import Join
 from marple.parts.tasks import Ran
 from marple.parts.work import written
 
-BLOCK = 1 << 20
+ROWS = 1 << 24  # how many bytes of rows wait at most, of all parts together, where each may have a block
+BLOCK = 1 << 12  # the least that is read of a part at once
 MODULUS = 2**64
 Key = int | tuple[int, ...]
+KeyOf = Callable[[bytes], Key]
 
 
 class PartTable:
     """A printed table of one part: its first two lines, and its rows, a block after the other."""
 
-    def __init__(self, ran: Ran, number: int):
-        self.path = ran.path
+    def __init__(self, ran: Ran, number: int, block: int):
+        self.path, self.block = ran.path, block
         with open(self.path, "rb") as file:
             file.seek(ran.tables[number])
             self.first, self.columns = file.readline(), file.readline()
@@ -36,12 +39,12 @@ class PartTable:
         with open(self.path, "rb") as file:
             file.seek(self.at)
             # readlines goes on until there are more bytes than its hint
-            rows = file.readlines(min(BLOCK, self.end - self.at) - 1) if self.at < self.end else []
+            rows = file.readlines(min(self.block, self.end - self.at) - 1) if self.at < self.end else []
         self.at += sum(map(len, rows))
         return rows
 
 
-def key_reader(keys: int) -> Callable[[bytes], Key]:
+def key_reader(keys: int) -> KeyOf:
     """A function from a row to its key."""
     if keys == 1:
         return lambda row: int(row.split(b",", 1)[0])
@@ -49,97 +52,72 @@ def key_reader(keys: int) -> Callable[[bytes], Key]:
 
 
 class _Waiting:
-    """The rows of a part that were read and not yet given, with their keys."""
+    """The rows of a part that were read, of which those from `at` on weren't given yet."""
 
-    def __init__(self, table: PartTable, key_of: Callable[[bytes], Key]):
-        self.table, self.key_of = table, key_of
-        self.rows: list[bytes] = []
-        self.keys: list[Key] = []
-        self.fill()
-
-    def fill(self) -> None:
-        if not self.rows:
-            self.rows = self.table.read()
-            self.keys = list(map(self.key_of, self.rows))
+    def __init__(self, table: PartTable):
+        self.table, self.rows, self.at = table, table.read(), 0
 
     @property
     def is_last(self) -> bool:
         return self.table.at >= self.table.end
 
-    def up_to(self, bound: Key | None) -> tuple[list[Key], list[bytes]]:
+    def up_to(self, bound: Key | None, key_of: KeyOf) -> list[bytes]:
         """Gives the rows whose keys are not above the bound; all rows where there is no bound."""
-        at = len(self.keys) if bound is None else bisect_right(self.keys, bound)
-        given = self.keys[:at], self.rows[:at]
-        self.keys, self.rows = self.keys[at:], self.rows[at:]
+        end = len(self.rows) if bound is None else bisect_right(self.rows, bound, self.at, key=key_of)
+        given, self.at = self.rows[self.at : end], end
+        if self.at == len(self.rows):
+            self.rows, self.at = self.table.read(), 0
         return given
 
 
-def merged(tables: Iterable[PartTable], keys: int) -> Iterator[tuple[list[Key], list[bytes]]]:
-    """The rows of all tables in ascending order of their keys, with these, in lists; rows of one key stand in one list,
-    but for those of one table, and in the order of their table.
+def merged(tables: Iterable[PartTable], key_of: KeyOf) -> Iterator[list[bytes]]:
+    """The rows of all tables in ascending order of their keys, in lists; rows of one key stand in one list, but for those of
+    one table, and in the order of their table.
     """
-    waiting = [_Waiting(table, key_reader(keys)) for table in tables]
+    waiting = [_Waiting(table) for table in tables]
     while waiting := [one for one in waiting if one.rows]:
-        bound = min((one.keys[-1] for one in waiting if not one.is_last), default=None)
-        given = [one.up_to(bound) for one in waiting]
-        all_keys = list(chain.from_iterable(keys for keys, _ in given))
-        all_rows = list(chain.from_iterable(rows for _, rows in given))
-        order = sorted(range(len(all_keys)), key=all_keys.__getitem__)
-        yield [all_keys[at] for at in order], [all_rows[at] for at in order]
-        for one in waiting:
-            one.fill()
+        bound = min((key_of(one.rows[-1]) for one in waiting if not one.is_last), default=None)
+        yield sorted(chain.from_iterable([one.up_to(bound, key_of) for one in waiting]), key=key_of)
 
 
 def join_tables(joins: Sequence[Join], parts: Sequence[Ran], path: str) -> list[int]:
     """Writes the printed tables of the whole into a file. Where each of them begins."""
-    starts = []
+    starts, block = [], max(ROWS // len(parts), BLOCK)
     with written(path) as file:
         for number, join in enumerate(joins):
             starts.append(file.tell())
-            _write_table(file, join, [PartTable(ran, number) for ran in parts])
+            _write_table(file, join, [PartTable(ran, number, block) for ran in parts])
     return starts
 
 
 def _write_table(file: IO[bytes], join: Join, tables: list[PartTable]) -> None:
-    words = tables[0].first.split(b" ")
-    total = sum(table.count for table in tables)
-    columns = tables[0].columns
+    words, columns = tables[0].first.split(b" "), tables[0].columns
+    total, key_of = sum(table.count for table in tables), key_reader(join.keys)
+    rows = merged(tables, key_of)
     if join.best:
         total = min(total, join.best[1])
-        rows = iter([_best(join.best, join.keys, columns, tables)])
+        rows = iter([_best(join.best, key_of, columns, rows)])
     elif join.starts is not None:
-        rows = _sums(join.starts, join.keys, tables)
-    else:
-        rows = (rows for _, rows in merged(tables, join.keys))
+        sum_of = partial(_sum, join.starts, join.keys)
+        rows = ([sum_of(list(same)) for _, same in groupby(some, key_of)] for some in rows)
     file.write(b" ".join([*words[:-1], b"%d\n" % total]) + columns)
     for some in rows:
         file.writelines(some)
 
 
-def _best(best: tuple[str, int], keys: int, columns: bytes, tables: list[PartTable]) -> list[bytes]:
+def _best(best: tuple[str, int], key_of: KeyOf, columns: bytes, rows: Iterator[list[bytes]]) -> list[bytes]:
     """The rows of the whole that are greatest in a column, among those of the parts; ties by the smaller key."""
     name, most = best
     at = columns.rstrip(b"\n").split(b",").index(name.encode())
-    every = ((key, row) for own, rows in merged(tables, keys) for key, row in zip(own, rows, strict=True))
-    greatest = heapq.nsmallest(most, every, key=lambda one: (-int(one[1].split(b",")[at]), one[0]))
-    return [row for _, row in sorted(greatest)]
+    every = chain.from_iterable(rows)
+    return sorted(heapq.nsmallest(most, every, key=lambda row: (-int(row.split(b",")[at]), key_of(row))), key=key_of)
 
 
-def _sums(starts: tuple[int, ...], keys: int, tables: list[PartTable]) -> Iterator[list[bytes]]:
-    """A row for each key: each state is its start and what the parts' states are above it, modulo 2^64; epochs are
-    summed.
+def _sum(starts: tuple[int, ...], keys: int, rows: list[bytes]) -> bytes:
+    """The row of a key from those of the parts: each state is its start and what the parts' states are above it, modulo
+    2^64; epochs are summed.
     """
-    for own_keys, rows in merged(tables, keys):
-        sums: dict[Key, list[int]] = {}
-        for key, row in zip(own_keys, rows, strict=True):
-            cells = row.split(b",")[keys + 2 :]
-            own = sums.setdefault(key, [0, *starts])
-            own[0] += int(cells[0])
-            for at, start in enumerate(starts, 1):
-                own[at] = (own[at] + int(cells[at]) - start) % MODULUS
-        yield [_exact_row(key, own) for key, own in sums.items()]
-
-
-def _exact_row(key: Key, words: list[int]) -> bytes:
-    keys = key if isinstance(key, tuple) else (key,)
-    return (",".join(map(str, keys)) + ",exact,*," + ",".join(map(str, words)) + "\n").encode()
+    head = rows[0].split(b",")[: keys + 2]
+    epochs, *states = map(sum, zip(*(map(int, row.split(b",")[keys + 2 :]) for row in rows), strict=True))
+    whole = [(state - (len(rows) - 1) * start) % MODULUS for state, start in zip(states, starts, strict=True)]
+    return b",".join([*head, *(b"%d" % word for word in (epochs, *whole))]) + b"\n"
