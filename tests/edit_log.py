@@ -77,9 +77,14 @@ def add_to_log(file: Path, tried: Mapping[str, Tried], there: Iterable[str]) -> 
     os.replace(half, file)
 
 
+def name_of(edit: Path) -> str:
+    """The name of an edit's file in the log."""
+    return str(edit.relative_to(TOP / "crates"))
+
+
 def all_edits() -> list[str]:
     """All edits of the tree, as the log names them."""
-    return [str(it.relative_to(TOP / "crates")) for row in ("must-fail", "edits") for it in sorted(TOP.glob(f"crates/*/{row}/*.edit"))]
+    return [name_of(it) for row in ("must-fail", "edits") for it in sorted(TOP.glob(f"crates/*/{row}/*.edit"))]
 
 
 def place_of(file: str) -> str:
@@ -123,6 +128,11 @@ def best_goal(tried: Tried) -> Goal:
     return min((goal for goal in map(goal_of, tried.said) if goal), key=lambda one: one.rank, default=Goal(MEANING + 2, NOTHING))
 
 
+def shows_its_meaning(tried: Tried) -> bool:
+    """Whether an edit was refused, and what the prover said names a clause, an invariant or a law, and not only a bound."""
+    return tried.verdict == "refused" and best_goal(tried).rank <= MEANING
+
+
 def refused_by(tried: Tried) -> str:
     return best_goal(tried).words if tried.verdict == "refused" else tried.verdict.lower()
 
@@ -154,7 +164,7 @@ def summary(log: Mapping[str, Tried], there: list[str]) -> str:
     """How many edits there are, and of how many the log shows by what they were refused."""
     known = [log[it] for it in there if it in log]
     ranks = [best_goal(one).rank for one in known if one.verdict == "refused"]
-    meaning, none = sum(it <= MEANING for it in ranks), sum(it > MEANING + 1 for it in ranks)
+    meaning, none = sum(map(shows_its_meaning, known)), sum(it > MEANING + 1 for it in ranks)
     return (
         f"Of the {len(there)} edits the log has {len(known)}, of which {len(ranks)} were refused: {meaning} by a clause, an invariant or a "
         f"law that the prover names, {len(ranks) - meaning - none} only by a bound, and {none} without a goal.\n"
