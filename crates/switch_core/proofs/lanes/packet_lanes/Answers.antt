@@ -29,8 +29,8 @@ overflow_cast-i g c =
     let below = c.loop-i-test.true in
     Fits-below {n = 8} tt (omega arith)
 
-pub take_packet-requires : goal.take_packet-requires
-take_packet-requires g c =
+pub take-requires : goal.take-requires
+take-requires g c =
     let i = c.loop-i.i in
     let lane = get_or c.loop-i.lanes i c.index-lanes-i.result in
     let kept = c.loop-i.auto.lanes in
@@ -60,16 +60,16 @@ loop-i-preserved g c =
     let made : ℕ → LaneView → LaneView → Type 0 = λ n. LaneMakes g.row.WAYS
     (event_of (taken_at (wiring_at c.args.plan.now n) c.args.registers.now)) in
     record {
-      makes = done_next made i first c.loop-i.lanes c.take_packet.new.lane c.loop-i.invariant.makes
+      makes = done_next made i first c.loop-i.lanes c.take.new.self c.loop-i.invariant.makes
           (λ x e. subst (λ v. LaneMakes g.row.WAYS
-          (event_of (taken_at (wiring_at c.args.plan.now i) c.args.registers.now)) v c.take_packet.new.lane)
-          (same_some lane x (sym was ∙ e)) c.take_packet.ensures.makes);
-      same = untouched_next i first c.loop-i.lanes c.take_packet.new.lane c.loop-i.invariant.same;
-      steps = let a = c.take_packet.ensures.steps in let b = c.loop-i.invariant.steps in omega arith;
-      cost = let s = sum_next (lane_cost g.row.WAYS) first i lane was in let a = c.take_packet.ensures.cost in let b =
+          (event_of (taken_at (wiring_at c.args.plan.now i) c.args.registers.now)) v c.take.new.self)
+          (same_some lane x (sym was ∙ e)) c.take.ensures.makes);
+      same = untouched_next i first c.loop-i.lanes c.take.new.self c.loop-i.invariant.same;
+      steps = let a = c.take.ensures.steps in let b = c.loop-i.invariant.steps in omega arith;
+      cost = let s = sum_next (lane_cost g.row.WAYS) first i lane was in let a = c.take.ensures.cost in let b =
           c.loop-i.invariant.cost in omega arith;
-      key = c.take_packet.auto.key ∙ c.loop-i.invariant.key;
-      args = c.take_packet.auto.args ∙ c.loop-i.invariant.args;
+      key = c.take.auto.key ∙ c.loop-i.invariant.key;
+      args = c.take.auto.args ∙ c.loop-i.invariant.args;
     }
 
 pub returns-clause-makes : goal.returns-clause-makes
