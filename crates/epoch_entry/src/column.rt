@@ -30,8 +30,8 @@ pub(crate) fn column_to_state<C: Coeff, L: Ledger>(
     for (row, v) in linear.iter().enumerate() {
         let element: C = load_at(map, row * (dimension + 1) + dimension);
         state[*v as usize] = element.to_word();
+        steps.tick();
     }
-    tick_words(dimension, steps);
 }
 
 // Writes the linear variables of a state into the column. The other columns stay.
@@ -54,6 +54,6 @@ pub(crate) fn state_to_column<C: Coeff, L: Ledger>(
     for (row, v) in linear.iter().enumerate() {
         let element: C = C::embed(state[*v as usize]);
         store_at(map, row * (dimension + 1) + dimension, element);
+        tick_words(C::WORDS, steps);
     }
-    tick_words(dimension * C::WORDS, steps);
 }

@@ -21,8 +21,8 @@ fn identity_row<C: Coeff, L: Ledger>(n: usize, row: usize, map: &mut [u64], step
     for column in 0..n + 1 {
         let element: C = if column == row { C::one() } else { C::zero() };
         store_at(map, row * (n + 1) + column, element);
+        tick_words(C::WORDS, steps);
     }
-    tick_words((n + 1) * C::WORDS, steps);
 }
 
 // `map` becomes the map of dimension n that takes each variable to itself.

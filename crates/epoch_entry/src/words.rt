@@ -8,7 +8,7 @@ ghost use Rattle.epoch_entry.specs.Shape.{IsAscending};
 use marple_base::Steps;
 use std::sync::ledger::Ledger;
 
-// A step for each word.
+// A step for each word of an element.
 pub(crate) fn tick_words<L: Ledger>(words: usize, steps: &mut Steps<L>)
     ensures { steps.new ≡ steps.old + words }
 {
@@ -24,8 +24,8 @@ pub(crate) fn gather<L: Ledger>(state: &[u64], places: &[u8], to: &mut [u64], st
 {
     for (at, v) in places.iter().enumerate() {
         to[at] = state[*v as usize];
+        steps.tick();
     }
-    tick_words(places.len(), steps);
 }
 
 // Writes words to some places of a state. The words at the other places stay.
@@ -45,8 +45,8 @@ pub(crate) fn scatter<L: Ledger>(
 {
     for (at, v) in places.iter().enumerate() {
         state[*v as usize] = words[at];
+        steps.tick();
     }
-    tick_words(places.len(), steps);
 }
 
 // Numbers of 64 bits are words.

@@ -3,6 +3,7 @@ use Rattle.std.proofs.Common.{◌≡◌, ℕ, zero, suc, ◌+◌, ◌<◌, ◌�
 use Rattle.std.proofs.Common.{arith}
 use Rattle.std.specs.List.{sum_by}
 use Rattle.std.specs.Prelude.{slice_get}
+use Rattle.std.proofs.lemmas.List.{take_all}
 use Rattle.std.proofs.lemmas.List.Sums.{sum_by-cons}
 use Rattle.switch_core.specs.Rows.{Each, EachFrom}
 
@@ -149,6 +150,11 @@ sum_next {X = X} f xs i x h = ap (λ n. sum_by f (take n xs)) (let e : i + 1 ≡
         sum_by-cons f a (take (suc i) xs) ∙ (ap (λ n. f a + n) (one_more f xs i x h)
         ∙ (let e : f a + (sum_by f (take i xs) + f x) ≡ (f a + sum_by f (take i xs)) + f x = omega arith in e
         ∙ ap (λ n. n + f x) (sym (sum_by-cons f a (take i xs)))))
+
+-- the sum over the first items is that over all, where there are no more
+pub sum_whole : {X : Type 0} (f : X → ℕ) (xs : List X) (i old new : ℕ) → length xs ≤ i → new ≤ old + sum_by f (take i xs)
+    → new ≤ old + sum_by f xs
+sum_whole f xs i old new long few = subst (λ ys. new ≤ old + sum_by f ys) (take_all i xs long) few
 
 -- one of the items is another one that fits too
 pub each_replaced : {X Y : Type 0} (R : X → Y → Type 0) (i : ℕ) (xs : List X) (ys : List Y) (new : Y) → Each R xs ys

@@ -20,11 +20,12 @@ use crate::front::{Front, Merged};
 use crate::upkeep::{Upkeep, keep_up};
 use backing_store::{BackingStore, rows_held};
 use bucket_cache::BucketCache;
-use epoch_entry::EpochKind;
+use epoch_entry::{AnyEpochs, EpochKind};
 use evict_pipe::EvictPipe;
 use final_queries::{Table, TableKind};
 use marple_base::{Seq, Steps, Text};
 use query_lang::Class;
+use stage_plan::Plan;
 use std::alloc::{AllocError, Global};
 use std::marker::Model;
 use std::sync::ledger::Ledger;
@@ -45,6 +46,46 @@ impl<K: EpochKind, const WAYS: usize> Model for Lane<K, WAYS> {
     ghost view = { λ l. record { kind = l.front.kind; cache = l.front.cache; pipe = l.front.pipe; store = l.store } };
 
     ghost invariant = { λ l. FitsStore (K.sizes l.front.kind) l.front.cache l.store };
+}
+
+impl<const WAYS: usize> Lane<AnyEpochs, WAYS> {
+    ghost use Rattle.epoch_model.specs.Driving.{event_of};
+    ghost use Rattle.stage_plan.specs.Planned.{registers_of, wiring_at};
+    ghost use Rattle.stage_plan.specs.Registers.{taken_at};
+    ghost use Rattle.switch_core.specs.PlanLanes.{LaneMakes, lane_cost, lane_is_ready};
+
+    /// The packet event of what a groupby takes of these registers, if it takes anything.
+    #[inline(always)]
+    pub(crate) fn take<L: Ledger>(
+        &mut self,
+        plan: &Plan,
+        group: u32,
+        registers: &[u64],
+        key: &mut [u64],
+        args: &mut [u64],
+        steps: &mut Steps<L>,
+    )
+        requires group { group < length plan.now.groups }
+        requires registers { length registers.now ≡ registers_of plan.now }
+        requires ready { lane_is_ready self.old ≡ true }
+        requires key { self.old.cache.key_words ≡ length (wiring_at plan.now group).keys }
+        requires args { (⟦<AnyEpochs as EpochKind>⟧.sizes self.old.kind).args ≡ length (wiring_at plan.now group).args }
+        requires key_room { length (wiring_at plan.now group).keys ≤ length key.old }
+        requires args_room { length (wiring_at plan.now group).args ≤ length args.old }
+        ensures makes { LaneMakes WAYS (event_of (taken_at (wiring_at plan.now group) registers.now)) self.old self.new }
+        ensures steps { steps.old ≤ steps.new }
+        ensures cost { steps.new ≤ steps.old + lane_cost WAYS self.old }
+    {
+        if !plan.present(group, registers) {
+            return;
+        }
+        let wiring = plan.wiring(group);
+        let key = &mut key[..wiring.keys.len()];
+        let args = &mut args[..wiring.args.len()];
+        plan.key_into(group, registers, key, steps);
+        plan.args_into(group, registers, args, steps);
+        self.front.packet(key, args, steps);
+    }
 }
 
 impl<K: EpochKind, const WAYS: usize> Lane<K, WAYS> {

@@ -4,23 +4,18 @@ ghost use Rattle.std.specs.Prelude.{◌≡◌, ◌+◌, ◌<◌, ◌≤◌, ◌=
 ghost use Rattle.std.specs.Prelude.{sum_by, if◌then◌else◌, OnOk, OnErr};
 ghost use Rattle.std.specs.List.{list_all};
 ghost use Rattle.epoch_model.specs.Machine.{Evict, Merge};
-ghost use Rattle.epoch_model.specs.Driving.{event_of};
-ghost use Rattle.epoch_entry.specs.declared.purpose.Entries.{Entries};
-ghost use Rattle.stage_plan.specs.Planned.{registers_of, wiring_at};
-ghost use Rattle.stage_plan.specs.Registers.{taken_at};
 ghost use Rattle.bucket_cache.specs.Caches.{list_at};
 ghost use Rattle.switch_core.specs.Closing.{is_drained};
 ghost use Rattle.switch_core.specs.Costs.{evict_cost};
 ghost use Rattle.switch_core.specs.Pipelines.{event_at};
-ghost use Rattle.switch_core.specs.PlanLanes.{AreKept, AreLanesOf, AtLane, LaneMakes, LanesBreakOff, LanesMake};
-ghost use Rattle.switch_core.specs.PlanLanes.{lane_cost, lane_is_ready, lane_merge_cost, lane_upkeep_cost, upkeeps_at};
+ghost use Rattle.switch_core.specs.PlanLanes.{AreKept, AtLane, LanesBreakOff, LanesMake};
+ghost use Rattle.switch_core.specs.PlanLanes.{lane_is_ready, lane_merge_cost, lane_upkeep_cost, upkeeps_at};
 
 use crate::front::Merged;
 use crate::lane::Lane;
 use crate::upkeep::Upkeep;
-use epoch_entry::{AnyEpochs, EpochKind};
+use epoch_entry::AnyEpochs;
 use marple_base::Steps;
-use stage_plan::Plan;
 use std::alloc::AllocError;
 use std::sync::ledger::Ledger;
 
@@ -34,66 +29,6 @@ pub fn all_ready<const WAYS: usize>(lanes: &[Lane<AnyEpochs, WAYS>]) -> bool
         }
     }
     true
-}
-
-/// The packet event of what a groupby takes of these registers, if it takes anything.
-#[inline(always)]
-fn take_packet<const WAYS: usize, L: Ledger>(
-    plan: &Plan,
-    group: u32,
-    registers: &[u64],
-    lane: &mut Lane<AnyEpochs, WAYS>,
-    key: &mut [u64],
-    args: &mut [u64],
-    steps: &mut Steps<L>,
-)
-    requires group { group < length plan.now.groups }
-    requires registers { length registers.now ≡ registers_of plan.now }
-    requires ready { lane_is_ready lane.old ≡ true }
-    requires key { lane.old.cache.key_words ≡ length (wiring_at plan.now group).keys }
-    requires args { (⟦<AnyEpochs as EpochKind>⟧.sizes lane.old.kind).args ≡ length (wiring_at plan.now group).args }
-    requires key_room { length (wiring_at plan.now group).keys ≤ length key.old }
-    requires args_room { length (wiring_at plan.now group).args ≤ length args.old }
-    ensures makes { LaneMakes WAYS (event_of (taken_at (wiring_at plan.now group) registers.now)) lane.old
-        lane.new }
-    ensures steps { steps.old ≤ steps.new }
-    ensures cost { steps.new ≤ steps.old + lane_cost WAYS lane.old }
-{
-    if plan.present(group, registers) {
-        let wiring = plan.wiring(group);
-        let key = &mut key[..wiring.keys.len()];
-        let args = &mut args[..wiring.args.len()];
-        plan.key_into(group, registers, key, steps);
-        plan.args_into(group, registers, args, steps);
-        lane.packet(key, args, steps);
-    }
-}
-
-/// The packet event of each lane whose groupby takes something of these registers.
-#[inline(always)]
-pub fn packet_lanes<const WAYS: usize, L: Ledger>(
-    plan: &Plan,
-    registers: &[u64],
-    lanes: &mut [Lane<AnyEpochs, WAYS>],
-    key: &mut [u64],
-    args: &mut [u64],
-    steps: &mut Steps<L>,
-)
-    requires lanes { (entries : Entries) × (buckets : ℕ) × AreLanesOf entries plan.now buckets lanes.old }
-    requires registers { length registers.now ≡ registers_of plan.now }
-    requires ready { list_all lane_is_ready lanes.old ≡ true }
-    requires key { length key.old ≡ 8 }
-    requires args { length args.old ≡ 16 }
-    ensures makes { LanesMake WAYS (λ n. event_of (taken_at (wiring_at plan.now n) registers.now))
-        lanes.old lanes.new }
-    ensures steps { steps.old ≤ steps.new }
-    ensures cost { steps.new ≤ steps.old + sum_by (lane_cost WAYS) lanes.old }
-{
-    plan.invariant();
-    for i in 0..lanes.len() {
-        let lane = &mut lanes[i];
-        take_packet(plan, i as u32, registers, lane, key, args, steps);
-    }
 }
 
 /// Closes the least recently used epoch of a bucket of one lane.

@@ -21,7 +21,7 @@ ghost use Rattle.switch_core.specs.PlanLanes.{lane_merge_cost, lane_sweep_cost, 
 
 use crate::front::Merged;
 use crate::lane::Lane;
-use crate::lanes::{all_drained, all_ready, evict_at, keep_lanes, merge_at, packet_lanes};
+use crate::lanes::{all_drained, all_ready, evict_at, keep_lanes, merge_at};
 use crate::making::made_lanes;
 use crate::registers::{fill_registers, registers_of};
 use crate::tables::lane_tables;
@@ -162,14 +162,13 @@ impl<const WAYS: usize> Pipeline<WAYS> {
         self.plan.invariant();
         fill_registers(&self.plan, p, &mut self.registers, steps);
         let registers = registers_of(&self.plan, p, &self.registers);
-        packet_lanes(
-            &self.plan,
-            registers,
-            &mut self.lanes,
-            &mut self.key,
-            &mut self.args,
-            steps,
-        );
+        let lanes: &mut [Lane<AnyEpochs, WAYS>] = &mut self.lanes;
+        let key: &mut [u64] = &mut self.key;
+        let args: &mut [u64] = &mut self.args;
+        for i in 0..lanes.len() {
+            let lane = &mut lanes[i];
+            lane.take(&self.plan, i as u32, registers, key, args, steps);
+        }
     }
 
     /// Closes the least recently used epoch of a bucket of a lane. False exactly where the bucket is empty.

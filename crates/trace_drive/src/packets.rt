@@ -8,11 +8,12 @@ use crate::kept::KeptPackets;
 use marple_base::{Packet, Seq};
 use trace_reader::{Trace, TraceAnswer};
 
-/// The packets of a trace, or packets that were made or kept, with the place of the next one.
+/// The packets of a trace, or packets that were made or kept, with the place of the next one. The last variant, which is the
+/// usual one, is tested first.
 pub enum Packets<'a> {
-    Trace(Trace<'a>),
     Made(Seq<Packet>, usize),
     Kept(KeptPackets, usize),
+    Trace(Trace<'a>),
 }
 
 // One step at each exit of an owner, where a derived drop would be one for each part.

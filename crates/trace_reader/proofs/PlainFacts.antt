@@ -1,7 +1,7 @@
 -- Fields and records that stand in a text.
 use Rattle.std.proofs.Common.{◌≡◌, ℕ, suc, zero, ◌+◌, ◌-◌, ◌<◌, ◌≤◌, Bool, true, false, cond, List, [], ◌∷◌, ◌++◌, length, get_or, take}
 use Rattle.std.proofs.Common.{drop, Option, Some, None, refl, sym, ap, subst, inl, inr, ◌∙◌, append_assoc, arith, length-drop}
-use Rattle.std.specs.Prelude.{◌||◌, ◌==◌, nat_le, IfSome}
+use Rattle.std.specs.Prelude.{◌||◌, ◌==◌, nat_le, All, IfSome}
 use Rattle.std.proofs.lemmas.Bool.Decides.{eqb_tells, leb_tells, nat_tests}
 use Rattle.std.proofs.lemmas.List.{append-nil, drop-drop, drop_more, get_or-drop, map-append}
 use Rattle.csv.specs.Machine.{after_end}
@@ -11,7 +11,7 @@ use Rattle.csv.specs.declared.parser.Action.TheVariants as act
 use Rattle.csv.specs.declared.parser.State.{State}
 use Rattle.csv.specs.declared.parser.State.TheVariants as st
 use Rattle.csv.specs.declared.parser.Terminator.TheVariants as term
-use Rattle.trace_reader.specs.Plain.{IsEnd, IsField, IsRecord, ends_field, ends_line, fields_at, part_of}
+use Rattle.trace_reader.specs.Plain.{IsEnd, IsField, IsInside, IsRecord, ends_field, ends_line, fields_at, part_of}
 use Rattle.trace_reader.specs.Reading.{records_after}
 use Rattle.trace_reader.specs.Traces.{text_at}
 use Rattle.trace_reader.specs.declared.plain.Span.{Span}
@@ -132,6 +132,24 @@ fields_more text spans more start end field grown =
     ap (λ (p : List ℕ). fields_at text spans ++ p ∷ []) (sym (at_span text start end field))
     ∙ sym (map-append (part_of text) spans (record { start = start; end = end } ∷ [])) ∙ ap (fields_at text) (sym grown)
 
+-- ---- spans within a text
+
+pub none_inside : (text : List ℕ) (spans : List Span) → spans ≡ [] → All (IsInside text) spans
+none_inside text spans none = λ k d low. absurd (let few : length spans ≡ 0 = ap length none in omega arith)
+
+with_last : {X : Type 0} (P : X → Type 0) (xs : List X) (x : X) → All P xs → P x → All P (xs ++ x ∷ [])
+with_last P [] x all last zero d low = last
+with_last P [] x all last (suc k) d low = absurd (omega arith)
+with_last P (y ∷ xs) x all last zero d low = all zero d (omega arith)
+with_last P (y ∷ xs) x all last (suc k) d low = with_last P xs x (λ j e less. all (suc j) e (omega arith)) last k d (omega arith)
+
+pub inside_more : (text : List ℕ) (spans more : List Span) (start end : ℕ) → IsField text start end
+    → more ≡ spans ++ record { start = start; end = end } ∷ [] → All (IsInside text) spans → All (IsInside text) more
+inside_more text spans more start end field grown all =
+    let span : Span = record { start = start; end = end } in
+    let last : IsInside text span = record { ordered = field.ended.ordered; within = omega (arith, field.ended.within) } in
+    subst (λ s. All (IsInside text) s) (sym grown) (with_last (IsInside text) spans span all last)
+
 -- a field that a comma ends
 pub field_more : (text : List ℕ) (all : List (List (List ℕ))) (spans more : List Span) (start end : ℕ) → IsField text start end
     → (get_or text end 0 == 44) ≡ true → more ≡ spans ++ record { start = start; end = end } ∷ []
@@ -147,10 +165,10 @@ line_of c ends none = rw none at ends
 
 -- a field that a line end ends, and the record with it
 pub record_ends : (text : List ℕ) (from : ℕ) (spans more : List Span) (start end : ℕ) → IsField text start end
-    → (get_or text end 0 == 44) ≡ false → more ≡ spans ++ record { start = start; end = end } ∷ []
+    → (get_or text end 0 == 44) ≡ false → more ≡ spans ++ record { start = start; end = end } ∷ [] → All (IsInside text) spans
     → records_after st.StartRecord (drop from text) ≡ rows_from st.StartField (fields_at text spans) [] (drop start text)
     → IsRecord text from more (end + 1)
-record_ends text from spans more start end field none grown so_far =
+record_ends text from spans more start end field none grown all so_far =
     let c = get_or text end 0 in
     let rest = drop (end + 1) text in
     let here : end + 1 - 1 ≡ end = omega arith in
@@ -165,6 +183,7 @@ record_ends text from spans more start end field none grown so_far =
           ∙ ap (λ f. f ∷ rows_from (after_end term.CRLF c) [] [] rest) (fields_more text spans more start end field grown)
           ∙ ap (λ later. fields_at text more ∷ later)
           (from_between (after_end term.CRLF c) rest (after_end_between term.CRLF c) ∙ sym (rows_are rest));
+      inside = inside_more text spans more start end field grown all;
     }
 
 -- one byte more that ends no field

@@ -1,6 +1,7 @@
 -- Records that no quote begins a field of, where they stand in a text.
 use Rattle.std.specs.Prelude.{◌≡◌, ℕ, ◌-◌, ◌<◌, ◌≤◌, ◌==◌, ◌&&◌, ◌||◌, ◌⊎◌, Bool, true, false, nat_le, if◌then◌else◌}
 use Rattle.std.specs.Prelude.{List, [], ◌∷◌, length, get_or, take, drop, map}
+use Rattle.std.specs.List.{All}
 use Rattle.csv.specs.Reading.{strip_bom}
 use Rattle.csv.specs.declared.parser.State.TheVariants as st
 use Rattle.trace_reader.specs.Reading.{records_after}
@@ -11,6 +12,11 @@ ends_line byte = (byte == 13) || (byte == 10)
 
 abbrev pub ends_field : ℕ → Bool
 ends_field byte = (byte == 44) || ends_line byte
+
+-- a span stands within a text
+pub record IsInside (text : List ℕ) (span : Span) : Type 0 where
+  pub ordered : span.start ≤ span.end
+  pub within : span.end ≤ length text
 
 -- the part of a text at a span, empty where the text ends before
 abbrev pub part_of : List ℕ → Span → List ℕ
@@ -43,6 +49,7 @@ pub record IsAfterLine (text : List ℕ) (at : ℕ) : Type 0 where
 pub record IsRecord (text : List ℕ) (from : ℕ) (spans : List Span) (next : ℕ) : Type 0 where
   pub after : IsAfterLine text next
   pub first : records_after st.StartRecord (drop from text) ≡ fields_at text spans ∷ records_after st.StartRecord (drop next text)
+  pub inside : All (IsInside text) spans
 
 -- a record may begin at this place: the text begins there, but for a byte order mark, or a line ends right before
 abbrev pub IsBetween : List ℕ → ℕ → Type 0

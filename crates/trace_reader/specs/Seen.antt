@@ -1,8 +1,9 @@
 -- What contracts see of the records of a text that are being read.
 use Rattle.std.specs.Prelude.{ℕ, ◌≤◌, ⊤, List, [], length, drop}
+use Rattle.std.specs.List.{All}
 use Rattle.csv.specs.Records.{fields_of}
 use Rattle.csv.specs.declared.parser.State.TheVariants as st
-use Rattle.trace_reader.specs.Plain.{IsBetween, fields_at}
+use Rattle.trace_reader.specs.Plain.{IsBetween, IsInside, fields_at}
 use Rattle.trace_reader.specs.Reading.{IsBetweenRecords, records_after, records_left}
 use Rattle.trace_reader.specs.declared.records.Place.{Place}
 use Rattle.trace_reader.specs.declared.records.Place.TheVariants as place
@@ -24,9 +25,9 @@ seen_by place.Ended r = record { fields = fields_of r.row; left = [] }
 abbrev pub seen_in : Inside → Seen
 seen_in r = seen_by r.place r
 
--- while records are found in the text or a reader reads, the next one may begin there
+-- while records are found in the text or a reader reads, the next one may begin there, and what was found stands in the text
 abbrev pub IsSoundAt : Place → Inside → Type 0
-IsSoundAt (place.At at) r = (at ≤ length r.text.now) × IsBetween r.text.now at
+IsSoundAt (place.At at) r = (at ≤ length r.text.now) × IsBetween r.text.now at × All (IsInside r.text.now) r.spans.items
 IsSoundAt place.Reading r = IsBetweenRecords r.reader
 IsSoundAt place.Ended r = ⊤
 

@@ -1,10 +1,10 @@
 //! Records that no quote begins a field of, found where they stand in a text.
 
-ghost use Rattle.std.specs.Prelude.{◌≡◌, ℕ, ◌+◌, ◌<◌, ◌≤◌, [], IfOk, IfSome, false, drop, get_or, length};
+ghost use Rattle.std.specs.Prelude.{◌≡◌, ℕ, ◌+◌, ◌<◌, ◌≤◌, [], All, IfOk, IfSome, false, drop, get_or, length};
 ghost use Rattle.csv.specs.Reading.{is_bom, strip_bom};
 ghost use Rattle.csv.specs.declared.parser.State.TheVariants as st;
 ghost use Rattle.trace_reader.specs.Plain as Plain;
-ghost use Rattle.trace_reader.specs.Plain.{IsEnd, IsField, IsRecord, fields_at, part_of};
+ghost use Rattle.trace_reader.specs.Plain.{IsEnd, IsField, IsInside, IsRecord, fields_at, part_of};
 ghost use Rattle.trace_reader.specs.Reading.{records_after};
 ghost use Rattle.trace_reader.specs.Traces.{text_at};
 
@@ -26,22 +26,20 @@ fn nothing<'a>() -> &'a [u8]
     b"".as_slice()
 }
 
-// The part of a text at a span, empty where the text ends before.
+// The part of a text at a span.
 #[inline(always)]
 fn part_of(text: &[u8], span: Span) -> &[u8]
+    requires { IsInside text.now span }
     ensures { result.now ≡ part_of text.now span }
 {
-    if span.start <= span.end && span.end <= text.len() {
-        &text[span.start..span.end]
-    } else {
-        nothing()
-    }
+    &text[span.start..span.end]
 }
 
 /// The field at a column of those that stand at these spans, empty where there is none.
 #[inline(always)]
 #[tactic(auto, using(crate::proofs::PlainFacts::at_column, crate::proofs::PlainFacts::past_columns))]
 pub fn field_text<'a>(text: &'a [u8], spans: &[Span], column: usize) -> &'a [u8]
+    requires { All (IsInside text.now) spans.now }
     ensures { result.now ≡ text_at (fields_at text.now spans.now) column }
 {
     if column < spans.len() {

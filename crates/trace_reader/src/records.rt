@@ -12,15 +12,15 @@ use csv::{ByteRecord, Reader, ReaderBuilder};
 use std::alloc::{AllocError, Global};
 use std::marker::Model;
 
-// Where the next record comes from.
+// Where the next record comes from. The last variant, which is the usual one, is tested first.
 #[derive(Clone, Copy)]
 enum Place {
-    /// It is looked for in the text, from this place on.
-    At(usize),
-    /// The reader gives it.
-    Reading,
     /// There is none.
     Ended,
+    /// The reader gives it.
+    Reading,
+    /// It is looked for in the text, from this place on.
+    At(usize),
 }
 
 /// The records of a text. They are found where they stand in it, up to the first one that isn't plain; a reader of CSV gives

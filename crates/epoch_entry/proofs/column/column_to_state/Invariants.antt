@@ -1,4 +1,4 @@
-use Rattle.std.proofs.Common.{◌≡◌, ◌≢◌, ℕ, ◌<◌, length, slice_index}
+use Rattle.std.proofs.Common.{◌≡◌, ◌≢◌, ℕ, ◌+◌, ◌<◌, length, slice_index}
 use Rattle.coeff_algebra.specs.Maps.{table_of}
 use Rattle.epoch_entry.proofs.column.column_to_state.Given as goal
 
@@ -7,4 +7,5 @@ invariant-loop-row g l = let m = g.C.Coeff in let n = length l.linear in record 
   written : (i : ℕ) → i < l.row → slice_index l.state (slice_index l.linear i) ≡ m.elements.to_word
       (table_of m.from_words m.WORDS n l.map i n);
   others : (v : ℕ) → ((i : ℕ) → i < l.row → slice_index l.linear i ≢ v) → slice_index l.state v ≡ slice_index l.initial.state v;
+  steps : l.steps ≡ l.initial.steps + l.row;
 }

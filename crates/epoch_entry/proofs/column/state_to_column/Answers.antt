@@ -14,4 +14,5 @@ loop-row-preserved g c =
       others = λ i k hi hk. let ne : i * (n + 1) + k ≢ r * (n + 1) + n = λ e. let same : k ≡ n =
           same_column n i k r n (omega arith) (omega arith) e in omega arith in c.store_at.ensures.others (i * (n + 1) + k) ne
           ∙ c.loop-row.invariant.others i k hi hk;
+      steps = omega (arith, c.loop-row.invariant.steps, c.tick_words.ensures, c.WORDS.ensures);
     }

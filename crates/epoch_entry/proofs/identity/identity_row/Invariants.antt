@@ -7,4 +7,5 @@ abbrev pub invariant-loop-column : goal.invariant-loop-column
 invariant-loop-column g l = let c = g.C.Coeff in record {
   entries : (j : ℕ) → j < l.column → stored_entry c.WORDS l.n l.map l.row j ≡ c.words (unit_at c.elements l.row j);
   before : (p : ℕ) → p < l.row * (l.n + 1) → stored_at c.WORDS l.map p ≡ stored_at c.WORDS l.initial.map p;
+  steps : l.steps ≡ l.initial.steps + l.column * c.WORDS;
 }

@@ -4,8 +4,8 @@ use Rattle.std.proofs.lemmas.Grind.{common_steps}
 use Rattle.std.proofs.KnownBytes.{Consumes-trans}
 use Rattle.marple_base.proofs.reading.read_input.Goals as goal
 
-pub returns-in_err-push_slice-clause-left : goal.returns-in_err-push_slice-clause-left
-returns-in_err-push_slice-clause-left g c = (
+pub returns-in_err-push_pages-clause-left : goal.returns-in_err-push_pages-clause-left
+returns-in_err-push_pages-clause-left g c = (
   _,
   Consumes-trans _ _ _ _ _ c.chunks.invariant.consumed c.in_ok-count.ensures.bytes.0,
   grind

@@ -1,7 +1,7 @@
 use Rattle.std.specs.Prelude.{◌==◌}
 use Rattle.std.proofs.Common.{◌≡◌, ◌+◌, ◌<◌, arith, false, get_or, length, refl, true}
 use Rattle.std.proofs.lemmas.Bool.Decides.{nat_tests}
-use Rattle.trace_reader.proofs.PlainFacts.{field_more, none_yet, record_ends, short_field}
+use Rattle.trace_reader.proofs.PlainFacts.{field_more, inside_more, none_inside, none_yet, record_ends, short_field}
 use Rattle.trace_reader.proofs.plain.plain_record.Goals as goal
 
 pub fields-init : goal.fields-init
@@ -10,6 +10,7 @@ fields-init c = record {
   same = λ within.
       none_yet c.args.text.now c.args.from c.after_line_ends-start.result c.clear.new.self.items c.clear.ensures.items within
       (c.after_line_ends-start.ensures.begins within) c.after_line_ends-start.ensures.same;
+  inside = none_inside c.args.text.now c.clear.new.self.items c.clear.ensures.items;
 }
 
 pub returns-then-text-end-ne44 : goal.returns-then-text-end-ne44
@@ -17,7 +18,7 @@ returns-then-text-end-ne44 c =
     let text = c.args.text.now in
     let none : (get_or text c.in-Some.end 0 == 44) ≡ false = grind (arith, nat_tests) in
     record_ends text c.args.from c.fields.spans.items c.push-in-fields.new.self.items c.fields.start c.in-Some.end c.in-Some.ensures none
-    c.in_ok-push-2.ensures.items (c.fields.invariant.same c.fields-test.true)
+    c.in_ok-push-2.ensures.items c.fields.invariant.inside (c.fields.invariant.same c.fields-test.true)
 
 pub fields-preserved-then-text-stop-eq44 : goal.fields-preserved-then-text-stop-eq44
 fields-preserved-then-text-stop-eq44 c =
@@ -27,11 +28,13 @@ fields-preserved-then-text-stop-eq44 c =
     let within : stop < length text = omega (arith, c.going.ensures.few) in
     let comma : get_or text stop 0 ≡ 44 = c.if-text-stop-eq44.true in
     let is : (get_or text stop 0 == 44) ≡ true = rw comma refl in
+    let field = short_field text start stop (omega arith) within c.going.ensures.above comma in
     record {
       within = omega (arith, within);
-      same = λ _. field_more text _ c.fields.spans.items c.push.new.self.items start stop
-          (short_field text start stop (omega arith) within c.going.ensures.above comma) is c.in_ok-push.ensures.items
+      same = λ _. field_more text _ c.fields.spans.items c.push.new.self.items start stop field is c.in_ok-push.ensures.items
           (c.fields.invariant.same c.fields-test.true);
+      inside = inside_more text c.fields.spans.items c.push.new.self.items start stop field c.in_ok-push.ensures.items
+          c.fields.invariant.inside;
     }
 
 pub fields-preserved : goal.fields-preserved
@@ -42,4 +45,6 @@ fields-preserved c =
       within = omega (arith, c.in-Some.ensures.ended.within);
       same = λ _. field_more text _ c.fields.spans.items c.push-in-fields.new.self.items c.fields.start c.in-Some.end c.in-Some.ensures is
           c.in_ok-push-2.ensures.items (c.fields.invariant.same c.fields-test.true);
+      inside = inside_more text c.fields.spans.items c.push-in-fields.new.self.items c.fields.start c.in-Some.end c.in-Some.ensures
+          c.in_ok-push-2.ensures.items c.fields.invariant.inside;
     }

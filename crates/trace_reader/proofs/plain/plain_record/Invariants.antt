@@ -1,6 +1,7 @@
 use Rattle.std.proofs.Common.{◌≡◌, ◌-◌, ◌<◌, ◌≤◌, [], drop, length}
+use Rattle.std.specs.List.{All}
 use Rattle.csv.specs.declared.parser.State.TheVariants as st
-use Rattle.trace_reader.specs.Plain.{fields_at}
+use Rattle.trace_reader.specs.Plain.{IsInside, fields_at}
 use Rattle.trace_reader.specs.Reading.{records_after}
 use Rattle.trace_reader.proofs.RowFacts.{rows_from}
 use Rattle.trace_reader.proofs.plain.plain_record.Given as goal
@@ -11,6 +12,7 @@ invariant-fields l = record {
   within : l.start ≤ length l.text;
   same : l.start < length l.text → records_after st.StartRecord (drop l.from l.text)
       ≡ rows_from st.StartField (fields_at l.text l.spans.items) [] (drop l.start l.text);
+  inside : All (IsInside l.text) l.spans.items;
 }
 
 abbrev pub decreases-fields : goal.decreases-fields

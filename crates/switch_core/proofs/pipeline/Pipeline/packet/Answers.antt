@@ -1,16 +1,23 @@
-use Rattle.std.proofs.Common.{◌≡◌, ◌+◌, ◌*◌, ◌≤◌, ◌++◌, length, take, drop, sym, ap, ◌∙◌, subst, arith}
+-- Each lane makes the packet event of what its groupby takes of the registers.
+use Rattle.std.proofs.Common.{◌≡◌, ℕ, ◌+◌, ◌*◌, ◌≤◌, ◌<◌, ◌++◌, length, take, drop, get_or, refl, sym, ap, ◌∙◌, subst, true}
+use Rattle.std.proofs.Common.{arith, lit<}
+use Rattle.std.proofs.Math.Facts.{Fits-below}
+use Rattle.std.specs.List.{list_all}
 use Rattle.std.specs.Prelude.{sum_by}
 use Rattle.epoch_model.specs.Driving.{event_of}
 use Rattle.epoch_entry.specs.Purposes.{runs_of}
 use Rattle.stage_plan.specs.Planned.{plan_bound, row_of, wiring_at}
 use Rattle.stage_plan.specs.Registers.{taken_at}
+use Rattle.stage_plan.specs.Sound.{PlanParts}
 use Rattle.switch_core.specs.Rows.{Each}
 use Rattle.switch_core.specs.Pipelines.{packet_events}
-use Rattle.switch_core.specs.PlanLanes.{AreLanesOf, LaneMakes, LanesMake, IsMadeFor, PipelineMakes, PipelineView, lane_cost}
-use Rattle.switch_core.specs.PlanLanes.{pipeline_cost}
-use Rattle.switch_core.proofs.LaneFacts.{whole_written}
+use Rattle.switch_core.specs.PlanLanes.{AreLanesOf, LaneMakes, LanesMake, LaneView, IsMadeFor, PipelineMakes, PipelineView, lane_cost}
+use Rattle.switch_core.specs.PlanLanes.{lane_is_ready, pipeline_cost}
+use Rattle.switch_core.proofs.LaneFacts.{all_at, lane_fits, whole_written}
 use Rattle.switch_core.proofs.PacketBound.{packet_within}
 use Rattle.switch_core.proofs.PipelineSteps.{makes_sizes, lanes_kept, made_kept, pipeline_makes}
+use Rattle.switch_core.proofs.SideBySide.{got_here, same_some, each_long, done_start, untouched_start, done_next, untouched_next}
+use Rattle.switch_core.proofs.SideBySide.{untouched_was, done_end, sum_next, sum_whole}
 use Rattle.switch_core.proofs.pipeline.Pipeline.packet.Goals as goal
 
 pub registers_of-registers-requires-clause-row : goal.registers_of-registers-requires-clause-row
@@ -29,21 +36,101 @@ registers_of-registers-requires-clause-room g c =
     (c.fill_registers.auto.registers ∙ c.deref_mut.ensures.len))
     ∙ (c.fill_registers.auto.registers ∙ (ap length c.deref_mut.ensures.value ∙ c.self.invariant.rooms.for_row)))
 
+pub loop-i-init : goal.loop-i-init
+loop-i-init g c = record {
+  makes = done_start (λ n. LaneMakes g.row.WAYS
+      (event_of (taken_at (wiring_at c.args.self.now.plan n) c.registers_of-registers.result.now))) 0 c.deref_mut-lanes.result.now;
+  same = untouched_start 0 0 c.deref_mut-lanes.result.now;
+  steps = omega arith;
+  cost = omega arith;
+  key = refl;
+  args = refl;
+}
+
+pub overflow_cast-i : goal.overflow_cast-i
+overflow_cast-i g c =
+    let p = c.self.inside in
+    let many = c.invariant.ensures.most_groups in
+    let value = ap length c.deref_mut-lanes.ensures.value in
+    let long : length p.lanes.items ≡ length p.plan.groups = each_long _ 0 p.lanes.items p.plan.groups c.self.invariant.lanes in
+    let kept = c.loop-i.auto.lanes in
+    let below = c.loop-i-test.true in
+    Fits-below {n = 8} tt (omega arith)
+
+pub take-requires : goal.take-requires
+take-requires g c =
+    let p = c.self.inside in
+    let first = c.deref_mut-lanes.result.now in
+    let value = c.deref_mut-lanes.ensures.value in
+    let i = c.loop-i.i in
+    let lane = get_or c.loop-i.lanes i c.index-lanes-i.result in
+    let kept = c.loop-i.auto.lanes in
+    let below : i < length c.loop-i.lanes = let b = c.loop-i-test.true in omega arith in
+    let was = untouched_was i first c.loop-i.lanes lane c.loop-i.invariant.same (omega arith)
+    (got_here c.loop-i.lanes i c.index-lanes-i.result below) in
+    let are : AreLanesOf p.entries p.plan p.buckets first = subst (λ x. AreLanesOf p.entries p.plan p.buckets x) (sym value)
+    c.self.invariant.lanes in
+    let fits = lane_fits p.entries p.plan p.buckets i first lane c.invariant.ensures are was in
+    let all : list_all lane_is_ready p.lanes.items ≡ true =
+    subst (λ (v : PipelineView). list_all lane_is_ready v.lanes ≡ true) (sym c.self.view_is) c.requires in
+    let ready = all_at lane_is_ready first i lane (ap (list_all lane_is_ready) value ∙ all) was in
+    let key8 : length c.loop-i.key ≡ 8 =
+    c.loop-i.invariant.key ∙ (ap length c.deref_mut-key.ensures.value ∙ c.self.invariant.rooms.for_key) in
+    let args16 : length c.loop-i.args ≡ 16 =
+    c.loop-i.invariant.args ∙ (ap length c.deref_mut-args.ensures.value ∙ c.self.invariant.rooms.for_args) in
+    let few_keys = fits.few_keys in
+    let few_args = fits.few_args in
+    (lit< tt, (fits.group, (c.registers_of-registers.ensures.length, (ready, (fits.keys, (fits.args, (omega arith, omega arith)))))))
+
+pub loop-i-preserved : goal.loop-i-preserved
+loop-i-preserved g c =
+    let plan = c.args.self.now.plan in
+    let same : c.self.inside.plan ≡ plan = ap (λ (v : PipelineView). v.plan) c.self.view_is in
+    let registers = c.registers_of-registers.result.now in
+    let first = c.deref_mut-lanes.result.now in
+    let i = c.loop-i.i in
+    let lane = get_or c.loop-i.lanes i c.index-lanes-i.result in
+    let kept = c.loop-i.auto.lanes in
+    let below : i < length c.loop-i.lanes = let b = c.loop-i-test.true in omega arith in
+    let was = untouched_was i first c.loop-i.lanes lane c.loop-i.invariant.same (omega arith)
+    (got_here c.loop-i.lanes i c.index-lanes-i.result below) in
+    let made : ℕ → LaneView → LaneView → Type 0 = λ n. LaneMakes g.row.WAYS (event_of (taken_at (wiring_at plan n) registers)) in
+    let taken : made i lane c.take.new.self =
+    subst (λ (x : PlanParts). LaneMakes g.row.WAYS (event_of (taken_at (wiring_at x i) registers)) lane c.take.new.self) same
+    c.take.ensures.makes in
+    record {
+      makes = done_next made i first c.loop-i.lanes c.take.new.self c.loop-i.invariant.makes
+          (λ x e. subst (λ v. made i v c.take.new.self) (same_some lane x (sym was ∙ e)) taken);
+      same = untouched_next i first c.loop-i.lanes c.take.new.self c.loop-i.invariant.same;
+      steps = let a = c.take.ensures.steps in let b = c.loop-i.invariant.steps in omega arith;
+      cost = let s = sum_next (lane_cost g.row.WAYS) first i lane was in let a = c.take.ensures.cost in let b =
+          c.loop-i.invariant.cost in omega arith;
+      key = c.take.auto.key ∙ c.loop-i.invariant.key;
+      args = c.take.auto.args ∙ c.loop-i.invariant.args;
+    }
+
 pub returns-clause-makes : goal.returns-clause-makes
 returns-clause-makes g c =
     let p = c.self.inside in
-    let new = c.packet_lanes.new.lanes in
+    let new = c.loop-i.lanes in
     let whole : take p.lanes.len (new ++ drop (length new) p.lanes.items) ≡ new = whole_written new
-    (drop (length new) p.lanes.items) p.lanes.len (c.packet_lanes.auto.lanes ∙ c.deref_mut-2.ensures.len) in
+    (drop (length new) p.lanes.items) p.lanes.len (c.loop-i.auto.lanes ∙ c.deref_mut-lanes.ensures.len) in
     let registers : c.registers_of-registers.result.now ≡ row_of p.plan c.args.p.now.words = c.registers_of-registers.ensures.row in
+    let kept = c.loop-i.auto.lanes in
+    let end = c.loop-i-test.false in
+    let same : p.plan ≡ c.args.self.now.plan = ap (λ (v : PipelineView). v.plan) c.self.view_is in
     let made : LanesMake g.row.WAYS (λ n. event_of
-    (taken_at (wiring_at p.plan n) c.registers_of-registers.result.now)) c.deref_mut-2.result.now new = c.packet_lanes.ensures.makes in
-    let taken : LanesMake g.row.WAYS (packet_events p.plan c.args.p.now.words) c.deref_mut-2.result.now new =
-    subst (λ rs. LanesMake g.row.WAYS (λ n. event_of (taken_at (wiring_at p.plan n) rs)) c.deref_mut-2.result.now new) registers made in
+    (taken_at (wiring_at p.plan n) c.registers_of-registers.result.now)) c.deref_mut-lanes.result.now new =
+    subst (λ (x : PlanParts). LanesMake g.row.WAYS (λ n. event_of (taken_at (wiring_at x n) c.registers_of-registers.result.now))
+    c.deref_mut-lanes.result.now new) (sym same)
+    (done_end (λ n. LaneMakes g.row.WAYS (event_of (taken_at (wiring_at c.args.self.now.plan n) c.registers_of-registers.result.now)))
+    c.loop-i.i c.deref_mut-lanes.result.now new c.loop-i.invariant.makes (omega arith)) in
+    let taken : LanesMake g.row.WAYS (packet_events p.plan c.args.p.now.words) c.deref_mut-lanes.result.now new =
+    subst (λ rs. LanesMake g.row.WAYS (λ n. event_of (taken_at (wiring_at p.plan n) rs)) c.deref_mut-lanes.result.now new) registers made in
     let lanes : LanesMake g.row.WAYS (packet_events p.plan c.args.p.now.words) p.lanes.items
     ((take p.lanes.len (new ++ drop (length new) p.lanes.items))) =
     subst (λ x. LanesMake g.row.WAYS (packet_events p.plan c.args.p.now.words) p.lanes.items x) (sym whole)
-    (subst (λ x. LanesMake g.row.WAYS (packet_events p.plan c.args.p.now.words) x new) c.deref_mut-2.ensures.value taken) in
+    (subst (λ x. LanesMake g.row.WAYS (packet_events p.plan c.args.p.now.words) x new) c.deref_mut-lanes.ensures.value taken) in
     let after : PipelineView = record {
       plan = p.plan;
       entries = p.entries;
@@ -55,6 +142,19 @@ returns-clause-makes g c =
     (pipeline_makes g.row.WAYS (packet_events p.plan c.args.p.now.words) p.entries p.plan p.buckets p.lanes.items after.lanes
     c.self.invariant.lanes lanes)
 
+pub returns-clause-cost : goal.returns-clause-cost
+returns-clause-cost g c =
+    let p = c.self.inside in
+    let before : PipelineView = record { plan = p.plan; entries = p.entries; buckets = p.buckets; lanes = p.lanes.items } in
+    let row = c.fill_registers.ensures.cost in
+    let kept = c.loop-i.auto.lanes in
+    let end = c.loop-i-test.false in
+    let lanes : c.loop-i.steps ≤ c.fill_registers.new.steps + sum_by (lane_cost g.row.WAYS) before.lanes =
+    subst (λ xs. c.loop-i.steps ≤ c.fill_registers.new.steps + sum_by (lane_cost g.row.WAYS) (xs)) c.deref_mut-lanes.ensures.value
+    (sum_whole (lane_cost g.row.WAYS) c.deref_mut-lanes.result.now c.loop-i.i _ _ (omega arith) c.loop-i.invariant.cost) in
+    let all : c.loop-i.steps ≤ c.args.steps.now + pipeline_cost g.row.WAYS before = omega arith in
+    subst (λ (v : PipelineView). c.loop-i.steps ≤ c.args.steps.now + pipeline_cost g.row.WAYS v) c.self.view_is all
+
 pub returns-clause-bound : goal.returns-clause-bound
 returns-clause-bound g c =
     let p = c.self.inside in
@@ -62,47 +162,54 @@ returns-clause-bound g c =
     let within : pipeline_cost g.row.WAYS before ≤ runs_of p.entries * plan_bound p.plan g.row.WAYS =
     packet_within c.depth_is_found.ensures c.entries_suit_folds.ensures g.row.WAYS before c.invariant.ensures c.self.invariant.lanes in
     let row = c.fill_registers.ensures.cost in
-    let lanes : c.packet_lanes.new.steps ≤ c.fill_registers.new.steps + sum_by (lane_cost g.row.WAYS) before.lanes =
-    subst (λ xs. c.packet_lanes.new.steps ≤ c.fill_registers.new.steps + sum_by (lane_cost g.row.WAYS)
-    (xs)) c.deref_mut-2.ensures.value c.packet_lanes.ensures.cost in
-    let all : c.packet_lanes.new.steps ≤ c.args.steps.now + runs_of p.entries * plan_bound p.plan g.row.WAYS = omega arith in
-    subst (λ (v : PipelineView). c.packet_lanes.new.steps ≤ c.args.steps.now + runs_of v.entries * plan_bound v.plan g.row.WAYS)
+    let kept = c.loop-i.auto.lanes in
+    let end = c.loop-i-test.false in
+    let lanes : c.loop-i.steps ≤ c.fill_registers.new.steps + sum_by (lane_cost g.row.WAYS) before.lanes =
+    subst (λ xs. c.loop-i.steps ≤ c.fill_registers.new.steps + sum_by (lane_cost g.row.WAYS) (xs)) c.deref_mut-lanes.ensures.value
+    (sum_whole (lane_cost g.row.WAYS) c.deref_mut-lanes.result.now c.loop-i.i _ _ (omega arith) c.loop-i.invariant.cost) in
+    let all : c.loop-i.steps ≤ c.args.steps.now + runs_of p.entries * plan_bound p.plan g.row.WAYS = omega arith in
+    subst (λ (v : PipelineView). c.loop-i.steps ≤ c.args.steps.now + runs_of v.entries * plan_bound v.plan g.row.WAYS)
     c.self.view_is all
 
 pub invariant_of-self : goal.invariant_of-self
 invariant_of-self g c =
     let p = c.self.inside in
-    let new = c.packet_lanes.new.lanes in
+    let first = c.deref_mut-lanes.result.now in
+    let new = c.loop-i.lanes in
+    let kept = c.loop-i.auto.lanes in
+    let end = c.loop-i-test.false in
+    let makes : ℕ → LaneView → LaneView → Type 0 =
+    λ n. LaneMakes g.row.WAYS (event_of (taken_at (wiring_at p.plan n) c.registers_of-registers.result.now)) in
+    let sizes = λ (n : ℕ) (a b : LaneView) (m : makes n a b).
+    makes_sizes g.row.WAYS (event_of (taken_at (wiring_at p.plan n) c.registers_of-registers.result.now)) a b m in
     let whole : take p.lanes.len (new ++ drop (length new) p.lanes.items) ≡ new = whole_written new
-    (drop (length new) p.lanes.items) p.lanes.len (c.packet_lanes.auto.lanes ∙ c.deref_mut-2.ensures.len) in
-    let made : LanesMake g.row.WAYS (λ n. event_of
-    (taken_at (wiring_at p.plan n) c.registers_of-registers.result.now)) c.deref_mut-2.result.now new = c.packet_lanes.ensures.makes in
-    let kept : AreLanesOf p.entries p.plan p.buckets new =
-    lanes_kept (λ n. LaneMakes g.row.WAYS (event_of (taken_at (wiring_at p.plan n) c.registers_of-registers.result.now)))
-    (λ n a b m. makes_sizes g.row.WAYS (event_of (taken_at (wiring_at p.plan n) c.registers_of-registers.result.now)) a b m)
-    p.entries p.plan p.buckets 0 c.deref_mut-2.result.now new p.plan.groups made
-    (subst (λ x. AreLanesOf p.entries p.plan p.buckets x) (sym c.deref_mut-2.ensures.value) c.self.invariant.lanes) in
-    let bounded : Each IsMadeFor new p.plan.groups =
-    made_kept (λ n. LaneMakes g.row.WAYS (event_of (taken_at (wiring_at p.plan n) c.registers_of-registers.result.now)))
-    (λ n a b m. makes_sizes g.row.WAYS (event_of (taken_at (wiring_at p.plan n) c.registers_of-registers.result.now)) a b m)
-    0 c.deref_mut-2.result.now new p.plan.groups made
-    (subst (λ x. Each IsMadeFor x p.plan.groups) (sym c.deref_mut-2.ensures.value) c.self.invariant.made) in
+    (drop (length new) p.lanes.items) p.lanes.len (c.loop-i.auto.lanes ∙ c.deref_mut-lanes.ensures.len) in
+    let same : p.plan ≡ c.args.self.now.plan = ap (λ (v : PipelineView). v.plan) c.self.view_is in
+    let made : LanesMake g.row.WAYS (λ n. event_of (taken_at (wiring_at p.plan n) c.registers_of-registers.result.now)) first new =
+    subst (λ (x : PlanParts). LanesMake g.row.WAYS (λ n. event_of (taken_at (wiring_at x n) c.registers_of-registers.result.now)) first new)
+    (sym same)
+    (done_end (λ n. LaneMakes g.row.WAYS (event_of (taken_at (wiring_at c.args.self.now.plan n) c.registers_of-registers.result.now)))
+    c.loop-i.i first new c.loop-i.invariant.makes (omega arith)) in
+    let are : AreLanesOf p.entries p.plan p.buckets new = lanes_kept makes sizes p.entries p.plan p.buckets 0 first new p.plan.groups made
+    (subst (λ x. AreLanesOf p.entries p.plan p.buckets x) (sym c.deref_mut-lanes.ensures.value) c.self.invariant.lanes) in
+    let bounded : Each IsMadeFor new p.plan.groups = made_kept makes sizes 0 first new p.plan.groups made
+    (subst (λ x. Each IsMadeFor x p.plan.groups) (sym c.deref_mut-lanes.ensures.value) c.self.invariant.made) in
     let filled = c.fill_registers.new.registers in
-    let key = c.packet_lanes.new.key in
-    let args = c.packet_lanes.new.args in
+    let key = c.loop-i.key in
+    let args = c.loop-i.args in
     record {
       few_ways = c.self.invariant.few_ways;
-      lanes = subst (λ x. AreLanesOf p.entries p.plan p.buckets x) (sym whole) kept;
+      lanes = subst (λ x. AreLanesOf p.entries p.plan p.buckets x) (sym whole) are;
       made = subst (λ x. Each IsMadeFor x p.plan.groups) (sym whole) bounded;
       rooms = record {
         for_row = ap length (whole_written filled (drop (length filled) p.registers.items) p.registers.len
             (c.fill_registers.auto.registers ∙ c.deref_mut.ensures.len))
             ∙ (c.fill_registers.auto.registers ∙ (ap length c.deref_mut.ensures.value ∙ c.self.invariant.rooms.for_row));
         for_key = ap length (whole_written key (drop (length key) p.key.items) p.key.len
-            (c.packet_lanes.auto.key ∙ c.deref_mut-3.ensures.len))
-            ∙ (c.packet_lanes.auto.key ∙ (ap length c.deref_mut-3.ensures.value ∙ c.self.invariant.rooms.for_key));
+            (c.loop-i.invariant.key ∙ c.deref_mut-key.ensures.len))
+            ∙ (c.loop-i.invariant.key ∙ (ap length c.deref_mut-key.ensures.value ∙ c.self.invariant.rooms.for_key));
         for_args = ap length (whole_written args (drop (length args) p.args.items) p.args.len
-            (c.packet_lanes.auto.args ∙ c.deref_mut-4.ensures.len))
-            ∙ (c.packet_lanes.auto.args ∙ (ap length c.deref_mut-4.ensures.value ∙ c.self.invariant.rooms.for_args));
+            (c.loop-i.invariant.args ∙ c.deref_mut-args.ensures.len))
+            ∙ (c.loop-i.invariant.args ∙ (ap length c.deref_mut-args.ensures.value ∙ c.self.invariant.rooms.for_args));
       };
     }
