@@ -1,6 +1,7 @@
 //! The rows of each key, into which epochs are merged, and what they show: the rows of a table.
 #![tactic(auto)]
 
+mod digits;
 mod fetching;
 mod held;
 mod keys;
