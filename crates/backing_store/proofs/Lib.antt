@@ -9,6 +9,7 @@ pub mod StableSorts
 pub mod SameRows
 pub mod SortedFacts
 pub mod PlaceFacts
+pub mod DigitFacts
 pub mod LentFacts
 pub mod LawFacts
 mod StoredStates

@@ -10,6 +10,7 @@ pub mod Stored
 pub mod RowOrder
 pub mod SortedRows
 pub mod Places
+pub mod Digits
 pub mod LendingStates
 pub mod LendingRows
 pub mod StoreLaws

@@ -1,6 +1,8 @@
 //! The rows of each key, into which epochs are merged, and what they show: the rows of a table.
 #![tactic(auto)]
 
+mod digits;
+mod fetching;
 mod held;
 mod keys;
 mod laws;

@@ -10,6 +10,7 @@ ghost use Rattle.backing_store.specs.Stored.{stored};
 ghost use Rattle.backing_store.specs.Places.{AreByKey};
 ghost use Rattle.backing_store.specs.RowOrder.{Ascends};
 
+use crate::fetching::fetch_next;
 use crate::keys::Keys;
 use crate::marks::Search;
 use crate::order::{Place, sorted_places};
@@ -21,9 +22,9 @@ use table_rows::Rows;
 
 // How often a key was merged, and the place of its last row.
 #[derive(Clone, Copy, Drop)]
-struct Merged {
-    epochs: u64,
-    last: usize,
+pub struct Merged {
+    pub epochs: u64,
+    pub last: usize,
 }
 
 /// Keys in the order of their first epochs, each with its number of epochs, and the rows in the order of their
@@ -68,6 +69,7 @@ fn made_rows(
     let mut last = keys.len();
     let mut epoch = 0u64;
     for place in places {
+        fetch_next(&mut made, keys, merged.as_slice(), states, places)?;
         let of = states.of(place.at);
         epoch = if of == last { epoch + 1 } else { 1 };
         last = of;

@@ -41,20 +41,17 @@ fn words_before(room: &mut [u8], end: usize, words: &[u64]) -> usize
 }
 
 // Writes a comma and a part of a line before a place, and returns where the comma is.
+#[inline(always)]
 fn part_before(room: &mut [u8], end: usize, part: &[u8]) -> usize
     requires { (length part.now + 1 ≤ end) × (end ≤ length room.old) }
     ensures start { result + (length part.now + 1) ≡ end }
     ensures written { drop result room.new ≡ continued (part.now ∷ []) ++ drop end room.old }
     ensures len { length room.new ≡ length room.old }
 {
-    let mut at = end;
-    'bytes: for later in 0..part.len() {
-        at -= 1;
-        room[at] = part[part.len() - 1 - later];
-    }
-    at -= 1;
-    room[at] = b',';
-    at
+    let at = end - part.len();
+    room[at..end].copy_from_slice(part);
+    room[at - 1] = b',';
+    at - 1
 }
 
 // Writes before a place what a groupby's row says of its key's epochs, and returns where it begins.

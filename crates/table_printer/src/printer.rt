@@ -11,7 +11,7 @@ ghost use Rattle.marple_base.specs.Pieces.{TakesAllBut};
 use crate::backwards::{MOST_COLUMNS, ROOM, line_before};
 use crate::parts::{push_names, push_number, push_part, push_word, push_words};
 use crate::words::{class_word, mark_word};
-use final_queries::{Mark, RowRef, Rows, Table, TableKind};
+use final_queries::{Mark, RowRef, Table, TableKind};
 use marple_base::{Sink, Text, TextBuffer, WriteError};
 use std::alloc::AllocError;
 
@@ -140,25 +140,15 @@ fn push_head(text: &mut TextBuffer, table: &Table) -> Result<(), AllocError>
 // The number of rows for whose text memory is taken at once.
 const ROWS_AT_ONCE: usize = 16;
 
-// The most bytes that the text of so many rows takes, from a place on: 21 for a column with its comma, of which a groupby's
-// table has three more than its rows have words.
-fn room_for(rows: &Rows, from: usize) -> usize {
-    let mut columns = 0usize;
-    for at in from..rows.len().min(from.saturating_add(ROWS_AT_ONCE)) {
-        columns = columns.saturating_add(rows.columns(at).len().saturating_add(3));
-    }
-    columns.saturating_mul(21)
-}
-
-// Takes memory for the text of the next rows, once for so many of them. Their lengths are read one after the other, so that
-// rows that a sort put far from each other are fetched side by side, before their text is made.
-fn take_room(text: &mut TextBuffer, rows: &Rows, at: usize) -> Result<(), AllocError>
+// Takes memory for the text of the next rows, once for so many of them: at most 21 bytes for a column with its comma, of which a
+// groupby's table has three more than its rows have words.
+fn take_room(text: &mut TextBuffer, columns: usize, at: usize) -> Result<(), AllocError>
     ensures { text.new ≡ text.old }
 {
     if at % ROWS_AT_ONCE != 0 {
         return Ok(());
     }
-    text.reserve(room_for(rows, at))
+    text.reserve(columns.saturating_add(3).saturating_mul(21 * ROWS_AT_ONCE))
 }
 
 /// Writes the text of a table after the bytes that wait in the buffer: a line that says what it is, a heading, and a line for
@@ -177,7 +167,7 @@ pub fn write_table<O: Sink>(
     push_head(text, table)?;
     let mut room = [0u8; ROOM];
     'rows: for at in 0..table.rows.len() {
-        take_room(text, &table.rows, at)?;
+        take_room(text, table.columns.len(), at)?;
         push_line(text, table.kind, &table.rows.get(at), &mut room)?;
         text.write_when_full(out)?;
     }

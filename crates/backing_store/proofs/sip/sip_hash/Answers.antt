@@ -1,7 +1,7 @@
-use Rattle.std.proofs.Common.{◌≡◌, ◌∙◌, ap, fold, get_or, refl, sym}
+use Rattle.std.proofs.Common.{◌∙◌, ap, fold, get_or, refl, sym}
 use Rattle.std.proofs.lemmas.List.{take_all}
 use Rattle.std.proofs.lemmas.List.Sums.{fold_more}
-use Rattle.backing_store.specs.SipHash.{finish, start, with_word}
+use Rattle.backing_store.specs.SipHash.{start, with_word}
 use Rattle.backing_store.proofs.sip.sip_hash.Goals as goal
 
 pub words-preserved : goal.words-preserved

@@ -1,4 +1,4 @@
-use Rattle.std.proofs.Common.{◌≡◌, ◌+◌, ◌<◌, ℕ, ◌∙◌, [], ap, arith, get_or, inl, inr, length, map, refl, sym, take}
+use Rattle.std.proofs.Common.{◌≡◌, ◌+◌, ℕ, ◌∙◌, [], ap, arith, get_or, inl, inr, length, map, refl, sym, take}
 use Rattle.std.specs.List.{zip}
 use Rattle.std.proofs.lemmas.List.{take_all}
 use Rattle.std.proofs.lemmas.Option.{get_or_from_slice_get, slice_get_read}
@@ -64,8 +64,8 @@ loop-place-preserved c =
     let made = made_push (map stored (zip keys merged)) (record { key = c.key.result.now; epochs = kept.epochs }) c.loop-place.made
     (rows_there rows (take i places)) row c.requires.once there c.loop-place.invariant.made in
     record {
-      made = rw (c.in_ok-push.ensures.ok, more, counted) made;
-      keys = rw c.in_ok-push.ensures.ok (key_pushed keys rows places i d c.loop-place.made _ within (sym key) c.loop-place.invariant.keys);
+      made = rw (c.in_ok-push.ensures.ok, c.fetch_next.ensures, more, counted) made;
+      keys = rw (c.in_ok-push.ensures.ok, c.fetch_next.ensures) (key_pushed keys rows places i d c.loop-place.made _ within (sym key) c.loop-place.invariant.keys);
       before = λ e begun. sym number ∙ ap (place_number rows) (last_is places i d e within);
       begins = λ none. absurd (omega (arith, none));
       counted = λ begun. rw more (counted_pushed (rows_there rows (take i places)) row c.if-of-last.epoch counted);

@@ -2,7 +2,7 @@ use Rattle.std.proofs.Common.{◌∙◌, subst}
 use Rattle.std.specs.List.{zip}
 use Rattle.std.proofs.lemmas.Result.{IfOk-weaker}
 use Rattle.backing_store.specs.Store.{AreRowsOf}
-use Rattle.backing_store.proofs.PlaceFacts.{distinct_keys, widths_of}
+use Rattle.backing_store.proofs.PlaceFacts.{widths_of}
 use Rattle.backing_store.proofs.SortedFacts.{rows_sorted}
 use Rattle.backing_store.proofs.ZipFacts.{length-zip, length-stored}
 use Rattle.backing_store.proofs.store.BackingStore.sorted.Goals as goal
@@ -12,11 +12,6 @@ sorted_places-requires-clause-rows c =
     let a = c.self.inside in
     subst (λ n. AreRowsOf n a.states.width a.states.rows) (length-stored (zip a.keys.keys a.merged.items)
     ∙ length-zip a.keys.keys a.merged.items c.self.invariant.many) c.self.invariant.whole.0.rows
-
-pub sorted_places-requires-clause-distinct : goal.sorted_places-requires-clause-distinct
-sorted_places-requires-clause-distinct c =
-    let a = c.self.inside in
-    distinct_keys a.keys.keys a.merged.items c.self.invariant.many c.self.invariant.whole.0.once
 
 pub sorted_places-requires-clause-widths : goal.sorted_places-requires-clause-widths
 sorted_places-requires-clause-widths c =
