@@ -15,6 +15,8 @@ SECONDS_FOR_A_KILOBYTE = 1.2
 MEGABYTES = 2500
 # What of a proof its jobs don't share: reading the crate, and putting together what they proved.
 NOT_SHARED = 0.2
+# A proof that takes less has one job: each further one reads all crates below once more, for which it gains too little.
+SECONDS_FOR_JOBS = 200.0
 # The table counts as much as this many seconds that were measured on this machine.
 TRUST_IN_TABLE = 60.0
 
@@ -66,13 +68,15 @@ def still_to_go(whole: float, elapsed: float) -> float:
     return max(whole - elapsed, elapsed / 10)
 
 
-def jobs_of(chain: float, work: float, places: int, ready: int, idle: int) -> int:
+def jobs_of(seconds: float, chain: float, work: float, places: int, ready: int, idle: int) -> int:
     """Returns the jobs for the crate that is begun next, the first of those that are ready, where this many places are idle.
 
-    They are its chain's part of all places, as long as the chain is beside all work that isn't begun, this crate's included:
-    with one job a long chain would be at work alone in the end. And they are no fewer than the crate's share of the places that
-    nothing else can use now.
+    A crate that takes long has its chain's part of all places, as long as the chain is compared with all work that isn't begun,
+    this crate's included: with one job a long chain would be at work alone in the end. And it has no fewer than its share of the
+    places that nothing else can use now.
     """
+    if seconds < SECONDS_FOR_JOBS:
+        return 1
     return max(min(round(places * chain / work), idle), idle // ready, 1)
 
 
@@ -94,7 +98,7 @@ def seconds_to_go(order: List[Crate], left: Dict[str, float], running: Dict[str,
         idle = places - sum(jobs for _, _, jobs in ends)
         while ready and idle > 0:
             first = ready[0]
-            jobs = jobs_of(chain_of[first], sum(left[it] for it in waiting), places, len(ready), idle)
+            jobs = jobs_of(left[first], chain_of[first], sum(left[it] for it in waiting), places, len(ready), idle)
             heapq.heappush(ends, (now + clock_seconds(left[first], jobs), first, jobs))
             ready.remove(first)
             waiting.remove(first)

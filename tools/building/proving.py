@@ -117,7 +117,8 @@ class Proving:
         if crate.name in self.alone:
             return 1
         work = sum(self.costs[it.name].seconds for it in self.waiting())
-        wanted = jobs_of(self.chains[crate.name], work, self.machine.processors, ready, idle)
+        seconds = self.costs[crate.name].seconds
+        wanted = jobs_of(seconds, self.chains[crate.name], work, self.machine.processors, ready, idle)
         by_memory = 1 + max(room - self.costs[crate.name].megabytes, 0) // MEGABYTES_FOR_A_JOB
         return min(wanted, by_memory)
 

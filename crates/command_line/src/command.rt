@@ -9,14 +9,14 @@ use crate::options::{net_setting_from, options_of, setting_from};
 use crate::setting::{NetSetting, Setting, Ways, ways_of};
 
 /// The packets that the generator makes: how many, and the number that they are drawn from.
-#[derive(Clone, Copy, PartialEq, Eq)]
+#[derive(Clone, Copy)]
 pub struct Generation {
     pub packets: u32,
     pub start: u32,
 }
 
 /// What a command line asks for. Its operands are words by their places.
-#[derive(Clone, Copy, PartialEq, Eq)]
+#[derive(Clone, Copy)]
 pub enum Command {
     /// Writes the tables of a query over a trace, and before them a view after each this many packets: none where that is 0.
     Run(Setting, u32),

@@ -1,14 +1,14 @@
 //! Options, as pairs of words.
 
 ghost use Rattle.std.specs.Prelude.{◌≡◌, ◌≤◌, ◌*◌, map, string_bytes, IfSome, ⊤};
-ghost use Rattle.command_line.specs.Command.{IsSetting, IsNetSetting, no_options, with_option, options_from, setting_of, setting_from};
+ghost use Rattle.command_line.specs.Command.{IsSetting, IsNetSetting, is_new, no_options, with_option, options_from, setting_of, setting_from};
 ghost use Rattle.command_line.specs.Command.{net_setting_of, net_setting_from, AreWithin};
 
 use crate::number::number_within;
 use crate::setting::{NetSetting, Setting, Ways, ways_of};
 
 /// The options that were named so far.
-#[derive(Clone, Copy, PartialEq, Eq)]
+#[derive(Clone, Copy)]
 pub(crate) struct Options {
     pub(crate) buckets: Option<u32>,
     pub(crate) ways: Option<Ways>,
@@ -27,6 +27,13 @@ const NO_OPTIONS: Options = Options {
     every: None,
 };
 
+// Whether a word names the option whose value this is, which isn't set yet.
+fn is_new<T>(option: &str, name: &String, value: &Option<T>) -> bool
+    ensures { result ≡ is_new option.now (string_bytes name.now) value.now }
+{
+    name.as_str() == option && value.is_none()
+}
+
 impl Options {
     // The options with one more, which must not be set yet.
     fn with(self, name: &String, value: &String) -> Option<Options>
@@ -34,19 +41,20 @@ impl Options {
         ensures with_option { result ≡ with_option self (string_bytes name.now) (string_bytes value.now) }
         ensures within { IfSome result AreWithin }
     {
+        let text = value.as_bytes();
         let mut options = self;
-        if name.as_str() == "--buckets" && self.buckets.is_none() {
-            options.buckets = Some(number_within(1, 65_536, value.as_bytes())?);
-        } else if name.as_str() == "--ways" && self.ways.is_none() {
-            options.ways = Some(ways_of(value.as_bytes())?);
-        } else if name.as_str() == "--pipe" && self.pipe.is_none() {
-            options.pipe = Some(number_within(1, 65_536, value.as_bytes())?);
-        } else if name.as_str() == "--lag" && self.lag.is_none() {
-            options.lag = Some(number_within(1, 1_000_000, value.as_bytes())?);
-        } else if name.as_str() == "--refresh" && self.refresh.is_none() {
-            options.refresh = Some(number_within(0, 4_194_304, value.as_bytes())?);
-        } else if name.as_str() == "--every" && self.every.is_none() {
-            options.every = Some(number_within(0, 4_194_304, value.as_bytes())?);
+        if is_new("--buckets", name, &self.buckets) {
+            options.buckets = Some(number_within(1, 65_536, text)?);
+        } else if is_new("--ways", name, &self.ways) {
+            options.ways = Some(ways_of(text)?);
+        } else if is_new("--pipe", name, &self.pipe) {
+            options.pipe = Some(number_within(1, 65_536, text)?);
+        } else if is_new("--lag", name, &self.lag) {
+            options.lag = Some(number_within(1, 1_000_000, text)?);
+        } else if is_new("--refresh", name, &self.refresh) {
+            options.refresh = Some(number_within(0, 4_194_304, text)?);
+        } else if is_new("--every", name, &self.every) {
+            options.every = Some(number_within(0, 4_194_304, text)?);
         } else {
             return None;
         }

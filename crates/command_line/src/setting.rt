@@ -6,7 +6,7 @@ ghost use Rattle.command_line.specs.Command.{ways_number, ways_of, ways_with};
 use crate::number::number_within;
 
 /// How many keys a bucket of the cache holds.
-#[derive(Clone, Copy, PartialEq, Eq)]
+#[derive(Clone, Copy)]
 pub enum Ways {
     One,
     Two,
@@ -33,7 +33,7 @@ impl Ways {
 }
 
 /// The caches and pipes of a run, and when entries are merged and caches emptied.
-#[derive(Clone, Copy, PartialEq, Eq)]
+#[derive(Clone, Copy)]
 pub struct Setting {
     /// The buckets of each groupby's cache.
     pub buckets: u32,
@@ -47,7 +47,7 @@ pub struct Setting {
 }
 
 /// The caches and pipes of each switch, where several switches share one store, and when entries are merged.
-#[derive(Clone, Copy, PartialEq, Eq)]
+#[derive(Clone, Copy)]
 pub struct NetSetting {
     /// The buckets of the cache that a switch has for each groupby.
     pub buckets: u32,

@@ -11,6 +11,7 @@ pub mod NestLines
 pub mod Depths
 pub mod Splits
 pub mod Runs
+pub mod Parsed
 pub mod Whole
 pub mod TextFaults
 pub mod Weighing

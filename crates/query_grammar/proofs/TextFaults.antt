@@ -17,7 +17,8 @@ use Rattle.query_grammar.specs.Reading.{parsed}
 use Rattle.query_grammar.specs.Texts.{IsQueryOf, IsFaultOf, too_long, in_lexis, in_grammar, answered, fault_of, with_names, parsed_cut}
 use Rattle.query_grammar.specs.Texts.{parsed_text}
 use Rattle.query_grammar.proofs.Runs.{Value}
-use Rattle.query_grammar.proofs.Whole.{parsed_says, accepted_parsed, fault_found}
+use Rattle.query_grammar.proofs.Parsed.{parsed_says}
+use Rattle.query_grammar.proofs.Whole.{accepted_parsed, fault_found}
 
 -- ---- tokens end with the end
 

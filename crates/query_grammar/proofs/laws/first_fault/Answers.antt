@@ -1,4 +1,4 @@
-use Rattle.query_grammar.proofs.Whole as lemmas
+use Rattle.query_grammar.proofs.Parsed as lemmas
 use Rattle.query_grammar.proofs.laws.first_fault.Goals as goal
 
 pub returns : goal.returns
