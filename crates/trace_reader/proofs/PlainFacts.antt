@@ -210,13 +210,6 @@ at_column text [] column d within = absurd (omega arith)
 at_column text (span ∷ spans) zero d within = refl
 at_column text (span ∷ spans) (suc column) d within = at_column text spans column d (omega arith)
 
--- no field
-pub past_columns : (text : List ℕ) (spans : List Span) (column : ℕ) → length spans ≤ column → text_at (fields_at text spans) column ≡ []
-unfolding field_at
-past_columns text [] column past = refl
-past_columns text (span ∷ spans) zero past = absurd (omega arith)
-past_columns text (span ∷ spans) (suc column) past = past_columns text spans column (omega arith)
-
 -- no field ends between two places, nor from the second one up to a third one
 pub joined : (text : List ℕ) (from at end : ℕ) → ((k : ℕ) → from ≤ k → k < at → ends_field (get_or text k 0) ≡ false)
     → ((k : ℕ) → at ≤ k → k < end → ends_field (get_or text k 0) ≡ false)

@@ -1,6 +1,6 @@
 -- The fields that are read of a trace, with their columns.
-use Rattle.std.specs.Prelude.{ℕ, List, [], ◌∷◌, Option, Some, None}
-use Rattle.std.specs.List.{zip}
+use Rattle.std.specs.Prelude.{ℕ, ◌<◌, List, [], ◌∷◌, Option, Some, None, IfSome}
+use Rattle.std.specs.List.{All, zip}
 use Rattle.marple_base.specs.Field.{all_fields}
 use Rattle.marple_base.specs.declared.field.Field.{Field}
 
@@ -17,3 +17,7 @@ read_of (p ∷ rest) = with_column p.0 p.1 (read_of rest)
 -- the fields that are read, with their columns, in the order of the fields
 unfoldable pub read_columns : List (Option ℕ) → List (Field × ℕ)
 read_columns columns = read_of (zip all_fields columns)
+
+-- the columns that are read are those of a record with so many fields
+abbrev pub AreWithin : ℕ → List (Option ℕ) → Type 0
+AreWithin width columns = All (λ found. IfSome found (λ column. column < width)) columns

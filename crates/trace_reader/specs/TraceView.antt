@@ -1,5 +1,6 @@
 -- How the fields of a `Trace` show what is still to come.
 use Rattle.std.specs.Prelude.{◌+◌, ◌≤◌, ⊤, [], Some, None}
+use Rattle.trace_reader.specs.Columns.{AreWithin}
 use Rattle.trace_reader.specs.Faults.{IsLate}
 use Rattle.trace_reader.specs.Traces.{Contents, contents_from}
 use Rattle.trace_reader.specs.Upcoming.{Upcoming}
@@ -27,7 +28,7 @@ upcoming_in trace =
 -- while a trace is read, no more packets were given than a trace may have;
 -- where a fault stopped it, a data record has that fault
 abbrev pub IsSoundAt : Progress → Inside → Type 0
-IsSoundAt progress.Reading trace = trace.given ≤ MAX_RECORDS
+IsSoundAt progress.Reading trace = (trace.given ≤ MAX_RECORDS) × AreWithin trace.width trace.columns
 IsSoundAt progress.Ended trace = ⊤
 IsSoundAt (progress.Stopped (answer.Refused found)) trace = IsLate found
 IsSoundAt (progress.Stopped answer.Memory) trace = ⊤

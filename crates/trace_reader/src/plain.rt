@@ -1,6 +1,6 @@
 //! Records that no quote begins a field of, found where they stand in a text.
 
-ghost use Rattle.std.specs.Prelude.{◌≡◌, ℕ, ◌+◌, ◌<◌, ◌≤◌, [], All, IfOk, IfSome, false, drop, get_or, length};
+ghost use Rattle.std.specs.Prelude.{◌≡◌, ℕ, ◌+◌, ◌<◌, ◌≤◌, All, IfOk, IfSome, false, drop, get_or, length};
 ghost use Rattle.csv.specs.Reading.{is_bom, strip_bom};
 ghost use Rattle.csv.specs.declared.parser.State.TheVariants as st;
 ghost use Rattle.trace_reader.specs.Plain as Plain;
@@ -17,15 +17,6 @@ pub struct Span {
     pub end: usize,
 }
 
-// No bytes. Cold, so that where a field stands is found by branches, which take fewer instructions than a choice of values.
-#[cold]
-#[inline(never)]
-fn nothing<'a>() -> &'a [u8]
-    ensures { result.now ≡ [] }
-{
-    b"".as_slice()
-}
-
 // The part of a text at a span.
 #[inline(always)]
 fn part_of(text: &[u8], span: Span) -> &[u8]
@@ -35,18 +26,15 @@ fn part_of(text: &[u8], span: Span) -> &[u8]
     &text[span.start..span.end]
 }
 
-/// The field at a column of those that stand at these spans, empty where there is none.
+/// The field at a column of those that stand at these spans.
 #[inline(always)]
-#[tactic(auto, using(crate::proofs::PlainFacts::at_column, crate::proofs::PlainFacts::past_columns))]
+#[tactic(auto, using(crate::proofs::PlainFacts::at_column))]
 pub fn field_text<'a>(text: &'a [u8], spans: &[Span], column: usize) -> &'a [u8]
-    requires { All (IsInside text.now) spans.now }
+    requires inside { All (IsInside text.now) spans.now }
+    requires column { column < length spans.now }
     ensures { result.now ≡ text_at (fields_at text.now spans.now) column }
 {
-    if column < spans.len() {
-        part_of(text, spans[column])
-    } else {
-        nothing()
-    }
+    part_of(text, spans[column])
 }
 
 /// Does this byte end a line?

@@ -1,6 +1,7 @@
 //! One record of a trace.
 
-ghost use Rattle.std.specs.Prelude.{◌≡◌, Err, IfErr, Ok, OnOk, Some};
+ghost use Rattle.std.specs.Prelude.{◌≡◌, ◌<◌, Err, IfErr, IfOk, IfSome, Ok, OnOk, Some, length};
+ghost use Rattle.trace_reader.specs.Columns.{AreWithin};
 ghost use Rattle.trace_reader.specs.Faults.{IsEarly, IsLate};
 ghost use Rattle.marple_base.specs.Field.{field_name};
 ghost use Rattle.trace_reader.specs.Traces as Traces;
@@ -15,6 +16,7 @@ use marple_base::{Field, FieldSet, Packet};
 // Finds the column of a header that has a field's name. Two of the name are a fault, and so is none.
 fn only_column(header: &Records<'_>, field: Field) -> Result<Option<usize>, TraceFault>
     ensures value { result ≡ Traces.only_column field (columns_named (field_name field) 0 header.now.fields) }
+    ensures within { IfOk result (λ found. IfSome found (λ column. column < length header.now.fields)) }
     ensures early { IfErr result IsEarly }
 {
     let mut found: Option<usize> = None;
@@ -35,6 +37,7 @@ fn only_column(header: &Records<'_>, field: Field) -> Result<Option<usize>, Trac
 // The column of a field in a header, none where it isn't read.
 fn column(header: &Records<'_>, reads: FieldSet, field: Field) -> Result<Option<usize>, TraceFault>
     ensures value { result ≡ column_of reads header.now.fields field }
+    ensures within { IfOk result (λ found. IfSome found (λ column. column < length header.now.fields)) }
     ensures early { IfErr result IsEarly }
 {
     if reads.has(field) {
@@ -47,6 +50,7 @@ fn column(header: &Records<'_>, reads: FieldSet, field: Field) -> Result<Option<
 /// The column of each field in a header.
 pub fn columns(header: &Records<'_>, reads: FieldSet) -> Result<[Option<usize>; 14], TraceFault>
     ensures value { result ≡ columns_of reads header.now.fields }
+    ensures within { IfOk result (AreWithin (length header.now.fields)) }
     ensures early { IfErr result IsEarly }
 {
     let mut columns = [None; 14];
@@ -62,6 +66,7 @@ pub fn columns(header: &Records<'_>, reads: FieldSet) -> Result<[Option<usize>; 
 // The word of a field in a record.
 #[inline(always)]
 fn word_of_field(row: &Records<'_>, field: Field, column: usize) -> Result<u64, Field>
+    requires { column < length row.now.fields }
     ensures { result ≡ word_at row.now.fields field (Some column) }
 {
     word(field, row.text(column)).ok_or(field)
@@ -70,6 +75,7 @@ fn word_of_field(row: &Records<'_>, field: Field, column: usize) -> Result<u64, 
 // The word of each field in a record, into `words`: 0 where it isn't read.
 #[inline(always)]
 fn words_into(row: &Records<'_>, columns: &Columns, words: &mut [u64; 14]) -> Result<(), Field>
+    requires { AreWithin (length row.now.fields) columns.now }
     ensures ok { OnOk result (words_of columns.now row.now.fields ≡ Ok words.new) }
     ensures err { IfErr result (λ field. words_of columns.now row.now.fields ≡ Err field) }
 {
@@ -93,6 +99,7 @@ pub fn packet_into(
     columns: &Columns,
     packet: &mut Packet,
 ) -> Result<(), TraceFault>
+    requires { AreWithin width columns.now }
     ensures ok { OnOk result (packet_of (record { width = width; columns = columns.now }) n row.now.fields ≡ Ok packet.new) }
     ensures err { IfErr result (λ fault. packet_of (record { width = width; columns = columns.now }) n row.now.fields ≡ Err fault) }
     ensures late { IfErr result IsLate }

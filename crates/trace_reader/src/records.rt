@@ -1,6 +1,6 @@
 //! The records of a text, one after the other.
 
-ghost use Rattle.std.specs.Prelude.{◌≡◌, ◌≤◌, ◌∷◌, [], IfErr, IfOk, drop, false, length, true};
+ghost use Rattle.std.specs.Prelude.{◌≡◌, ◌<◌, ◌≤◌, ◌∷◌, [], IfErr, IfOk, drop, false, length, true};
 ghost use Rattle.csv.specs.Records.{fields_of};
 ghost use Rattle.csv.specs.declared.parser.State.TheVariants as st;
 ghost use Rattle.trace_reader.specs.Plain.{IsBetween};
@@ -187,9 +187,10 @@ impl<'a> Records<'a> {
         }
     }
 
-    /// The text at a column, empty where there is none.
+    /// The text at a column.
     #[inline(always)]
     pub fn text(&self, column: usize) -> &[u8]
+        requires { column < length self.now.fields }
         ensures { result.now ≡ text_at self.now.fields column }
     {
         match self.place {

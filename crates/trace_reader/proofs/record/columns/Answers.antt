@@ -1,9 +1,10 @@
-use Rattle.std.proofs.Common.{arith, refl}
+use Rattle.std.proofs.Common.{arith, length, refl, rules}
 use Rattle.std.proofs.Math.ListN.{length-set}
 use Rattle.std.proofs.lemmas.List.{drop_all}
 use Rattle.marple_base.specs.Field.{all_fields}
 use Rattle.marple_base.specs.declared.field.Field.TheVariants as f
 use Rattle.trace_reader.specs.Traces.{column_of, each}
+use Rattle.trace_reader.proofs.ColumnFacts.{none_within, within_set}
 use Rattle.trace_reader.proofs.EachFacts.{all_written, each_more, error_met, value_written}
 use Rattle.trace_reader.proofs.record.columns.Goals as goal
 
@@ -12,6 +13,13 @@ returns-in-Err-clause-value c =
     let step = each_more (column_of c.args.reads c.args.header.now.fields) all_fields c.loop-i.i f.Switch c.loop-i-test.true in
     error_met _ _ _ _ _ _ c.loop-i.invariant.filled step c.in-Err.ensures.value
 
+pub loop-i-init : goal.loop-i-init
+loop-i-init c = record {
+  filled = search rules;
+  size = search rules;
+  within = none_within (length c.args.header.now.fields) 14;
+}
+
 pub loop-i-preserved : goal.loop-i-preserved
 loop-i-preserved c =
     let step = each_more (column_of c.args.reads c.args.header.now.fields) all_fields c.loop-i.i f.Switch c.loop-i-test.true in
@@ -19,6 +27,8 @@ loop-i-preserved c =
       filled = value_written _ _ _ _ c.loop-i.columns c.loop-i.i c.in-Ok.found (omega arith) c.loop-i.invariant.filled step
           c.in-Ok.ensures.value;
       size = simp length-set c.loop-i.invariant.size;
+      within = within_set (length c.args.header.now.fields) c.loop-i.columns c.loop-i.i c.in-Ok.found c.in-Ok.ensures.within
+          c.loop-i.invariant.within;
     }
 
 pub returns-clause-value : goal.returns-clause-value

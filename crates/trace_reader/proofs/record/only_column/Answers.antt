@@ -13,7 +13,7 @@ returns-then-is_some-clause-value c =
     let fields = c.args.header.now.fields in
     let here : bytes_eq (without_blanks (text_at fields c.loop-i.i)) (field_name c.args.field) ≡ true = search rules in
     let some : is_some c.loop-i.found ≡ true = search rules in
-    found_twice c.args.field c.loop-i.found _ _ _ c.loop-i.i some c.loop-i.invariant
+    found_twice c.args.field c.loop-i.found _ _ _ c.loop-i.i some c.loop-i.invariant.named
     (named_here (field_name c.args.field) fields c.loop-i.i (search rules) here)
 
 pub loop-i-preserved : goal.loop-i-preserved
@@ -23,10 +23,16 @@ loop-i-preserved c =
       | then-eq+else-is_some w ↦
           let here : bytes_eq (without_blanks (text_at fields c.loop-i.i)) (field_name c.args.field) ≡ true = search rules in
           let none : is_some c.loop-i.found ≡ false = search rules in
-          rw w.found-is (found_first c.loop-i.found _ _ _ c.loop-i.i none c.loop-i.invariant
-          (named_here (field_name c.args.field) fields c.loop-i.i (search rules) here))
+          rw w.found-is (record {
+            named = found_first c.loop-i.found _ _ _ c.loop-i.i none c.loop-i.invariant.named
+                (named_here (field_name c.args.field) fields c.loop-i.i (search rules) here);
+            within = search rules;
+          })
       | else-eq w ↦
           let other : bytes_eq (without_blanks (text_at fields c.loop-i.i)) (field_name c.args.field) ≡ false = search rules in
-          rw w.found-is (c.loop-i.invariant ∙ ap (λ rest. option_to_list c.loop-i.found ++ rest)
-          (named_later (field_name c.args.field) fields c.loop-i.i (search rules) other))
+          rw w.found-is (record {
+            named = c.loop-i.invariant.named ∙ ap (λ rest. option_to_list c.loop-i.found ++ rest)
+                (named_later (field_name c.args.field) fields c.loop-i.i (search rules) other);
+            within = c.loop-i.invariant.within;
+          })
     ]

@@ -1,13 +1,19 @@
-use Rattle.std.proofs.Common.{rules}
+use Rattle.std.proofs.Common.{length, rules}
 use Rattle.std.proofs.Math.ListN.{length-set}
 use Rattle.marple_base.specs.declared.field.Field.TheVariants as f
 use Rattle.trace_reader.specs.Columns.{read_columns}
+use Rattle.trace_reader.proofs.ColumnFacts.{all_within}
 use Rattle.trace_reader.proofs.WordFacts.{field_met, word_written, words_are, words_filled}
 use Rattle.trace_reader.proofs.record.words_into.Goals as goal
 
 pub loop-field-init : goal.loop-field-init
 loop-field-init c =
     record { filled = words_filled c.args.row.now.fields c.args.columns.now c.read-field-items.ensures.all; size = search rules }
+
+pub word_of_field-requires : goal.word_of_field-requires
+word_of_field-requires c =
+    rw c.read-field-items.ensures.read (all_within (length c.args.row.now.fields) c.args.columns.now c.requires c.loop-field.field-index
+    (f.Switch, 0) (search rules))
 
 pub returns-in-Err-clause-err : goal.returns-in-Err-clause-err
 returns-in-Err-clause-err c =

@@ -1,5 +1,7 @@
 use Rattle.std.proofs.Common.{◌+◌, refl}
 use Rattle.trace_reader.specs.Traces.{Layout}
+use Rattle.trace_reader.specs.TraceView.{IsSoundAt}
+use Rattle.trace_reader.specs.declared.trace.Progress.TheVariants as progress
 use Rattle.trace_reader.proofs.TraceFacts.{ended, packet_within, refused, taken}
 use Rattle.trace_reader.proofs.trace.Trace.next_into.Goals as goal
 
@@ -7,7 +9,9 @@ pub invariant_of-self-in-Ok : goal.invariant_of-self-in-Ok
 invariant_of-self-in-Ok c =
     let trace = c.self.inside in
     let layout : Layout = record { width = trace.width; columns = trace.columns } in
-    rw c.in-Reading.is (packet_within layout (trace.given + 1) c.next.new.self.fields c.packet_into.new.packet c.in-Ok.ensures.ok)
+    let sound : IsSoundAt progress.Reading trace = rw c.in-Reading.is at c.self.invariant in
+    rw c.in-Reading.is
+    (packet_within layout (trace.given + 1) c.next.new.self.fields c.packet_into.new.packet c.in-Ok.ensures.ok, sound.1)
 
 pub returns-in-Ok-clause-packet : goal.returns-in-Ok-clause-packet
 returns-in-Ok-clause-packet c _ =
