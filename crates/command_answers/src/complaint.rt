@@ -7,36 +7,13 @@ ghost use Rattle.marple_base.specs.Sink.{TakesFront};
 ghost use Rattle.command_answers.specs.Complaint.{complaint, kind_text};
 ghost use Rattle.command_answers.specs.Piece.{piece_text};
 
+use crate::pieces::{
+    Line, Piece, plain_line, query_line, trace_line, trace_line_in_record, write_pieces,
+};
 use crate::status::Status;
-use itoa::Buffer;
-use marple_base::{Failed, Sink, Which, write_all};
+use marple_base::{Failed, Sink, Which};
 use query_lang::{FaultKind, Limit};
 use trace_reader::TraceFault;
-
-/// A piece of a complaint.
-#[derive(Clone, Copy)]
-enum Piece {
-    Text(&'static [u8]),
-    Number(u32),
-}
-
-const NONE: Piece = Piece::Text(b"");
-
-impl Piece {
-    fn write<O: Sink>(&self, out: &mut O) -> Result<(), Failed>
-        ensures ok { OnOk result (Appends (O.taken out.old) (O.taken out.new) (piece_text self.now)) }
-        ensures front { TakesFront (O.taken out.old) (O.taken out.new) (piece_text self.now) }
-        ensures cause { HasCause (O.faults out.old) (O.faults out.new) result }
-    {
-        match self {
-            Piece::Text(text) => write_all(out, text),
-            Piece::Number(number) => {
-                let mut buffer = Buffer::new();
-                write_all(out, buffer.format(*number).as_bytes())
-            }
-        }
-    }
-}
 
 /// The name of a kind of fault.
 fn kind_text(kind: FaultKind) -> &'static [u8]
@@ -70,104 +47,41 @@ fn kind_text(kind: FaultKind) -> &'static [u8]
     }
 }
 
-fn trace_pieces(fault: TraceFault) -> [Piece; 5]
+fn trace_pieces(fault: TraceFault) -> Line
     ensures { flat_map piece_text result ≡ complaint (Status.TraceRefused fault) }
 {
-    let close = Piece::Text(b")\n");
     match fault {
-        TraceFault::TraceTooLong => alone(b"marple: trace: TraceTooLong\n"),
-        TraceFault::NoHeader => alone(b"marple: trace: NoHeader\n"),
-        TraceFault::FieldTwice(field) => {
-            let name = Piece::Text(field.name());
-            [
-                Piece::Text(b"marple: trace: FieldTwice("),
-                name,
-                close,
-                NONE,
-                NONE,
-            ]
-        }
-        TraceFault::FieldMissing(field) => {
-            let name = Piece::Text(field.name());
-            [
-                Piece::Text(b"marple: trace: FieldMissing("),
-                name,
-                close,
-                NONE,
-                NONE,
-            ]
-        }
+        TraceFault::TraceTooLong => plain_line(b"marple: trace: TraceTooLong\n"),
+        TraceFault::NoHeader => plain_line(b"marple: trace: NoHeader\n"),
+        TraceFault::FieldTwice(field) => trace_line(b"FieldTwice(", Piece::Text(field.name())),
+        TraceFault::FieldMissing(field) => trace_line(b"FieldMissing(", Piece::Text(field.name())),
         TraceFault::FieldCount(record) => {
-            let number = Piece::Number(record);
-            [
-                Piece::Text(b"marple: trace: FieldCount("),
-                number,
-                close,
-                NONE,
-                NONE,
-            ]
+            trace_line(b"FieldCount(", Piece::Number(u64::from(record)))
         }
         TraceFault::BadNumber(record, field) => {
-            let number = Piece::Number(record);
-            let name = Piece::Text(field.name());
-            [
-                Piece::Text(b"marple: trace: BadNumber("),
-                number,
-                Piece::Text(b","),
-                name,
-                close,
-            ]
+            let number = Piece::Number(u64::from(record));
+            trace_line_in_record(b"BadNumber(", number, Piece::Text(field.name()))
         }
-        TraceFault::TooManyPackets => alone(b"marple: trace: TooManyPackets\n"),
+        TraceFault::TooManyPackets => plain_line(b"marple: trace: TooManyPackets\n"),
         TraceFault::TooManySwitches(record) => {
-            let number = Piece::Number(record);
-            [
-                Piece::Text(b"marple: trace: TooManySwitches("),
-                number,
-                close,
-                NONE,
-                NONE,
-            ]
+            trace_line(b"TooManySwitches(", Piece::Number(u64::from(record)))
         }
     }
 }
 
-fn alone(text: &'static [u8]) -> [Piece; 5]
-    ensures { flat_map piece_text result ≡ text.now }
-{
-    [Piece::Text(text), NONE, NONE, NONE, NONE]
-}
-
-fn pieces_of(status: Status) -> [Piece; 5]
+fn pieces_of(status: Status) -> Line
     ensures { flat_map piece_text result ≡ complaint status }
 {
     match status {
-        Status::Ok => alone(b""),
-        Status::Memory => alone(b"marple: out of memory\n"),
-        Status::Usage => alone(b"marple: bad command line\n"),
-        Status::InputFault(Which::Query) => alone(b"marple: cannot read the query\n"),
-        Status::InputFault(Which::Trace) => alone(b"marple: cannot read the trace\n"),
-        Status::QueryRefused(fault) => [
-            Piece::Text(b"marple: query: "),
-            Piece::Text(kind_text(fault.kind)),
-            Piece::Text(b" at "),
-            Piece::Number(fault.span.start),
-            Piece::Text(b"\n"),
-        ],
+        Status::Ok => plain_line(b""),
+        Status::Memory => plain_line(b"marple: out of memory\n"),
+        Status::Usage => plain_line(b"marple: bad command line\n"),
+        Status::InputFault(Which::Query) => plain_line(b"marple: cannot read the query\n"),
+        Status::InputFault(Which::Trace) => plain_line(b"marple: cannot read the trace\n"),
+        Status::QueryRefused(fault) => query_line(kind_text(fault.kind), fault.span.start),
         Status::TraceRefused(fault) => trace_pieces(fault),
-        Status::OutputFault => alone(b"marple: cannot write\n"),
+        Status::OutputFault => plain_line(b"marple: cannot write\n"),
     }
-}
-
-fn write_pieces<O: Sink>(out: &mut O, pieces: &[Piece]) -> Result<(), Failed>
-    ensures ok { OnOk result (Appends (O.taken out.old) (O.taken out.new) (flat_map piece_text pieces.now)) }
-    ensures front { TakesFront (O.taken out.old) (O.taken out.new) (flat_map piece_text pieces.now) }
-    ensures cause { HasCause (O.faults out.old) (O.faults out.new) result }
-{
-    for piece in pieces {
-        piece.write(out)?;
-    }
-    Ok(())
 }
 
 /// Writes the complaint of the status, or some prefix of it.

@@ -4,6 +4,7 @@
 mod checked;
 mod complaint;
 mod operands;
+pub mod pieces;
 mod status;
 
 pub use checked::{query_for_bounds, query_for_net, query_for_plan};

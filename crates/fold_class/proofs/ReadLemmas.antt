@@ -83,6 +83,61 @@ or_true : (a : Bool) → (a || true) ≡ true
 or_true true = refl
 or_true false = refl
 
+-- the kinds after a choice
+module _ (c : Term) (x y : Block) (reads : ℕ → ℕ → Bool) (u : ℕ) where
+  -- the joined kind of one variable
+  joined_kind : (v : ℕ) (k a : Bool) → (assigns x v || assigns y v) ≡ a →
+      chosen_kinds (other_where k) (λ (v : ℕ). other_where (reads_after x reads v u)) (λ (v : ℕ). other_where (reads_after y reads v u))
+      (marked y (marked x (λ s. other_where (reads s u)))) v
+      ≡ other_where (if a then (reads_after x reads v u || reads_after y reads v u) || k else reads v u)
+  joined_kind v true true e =
+      marked_is y (marked x (λ s. other_where (reads s u))) v ∙ ap (λ z. if assigns y v then Kind.Other else z)
+      (marked_is x (λ s. other_where (reads s u)) v)
+      ∙ two (assigns x v) (assigns y v) e ∙ sym (ap other_where (or_true (reads_after x reads v u || reads_after y reads v u)))
+    where
+      two : (p q : Bool) → (p || q) ≡ true → (if q then Kind.Other else (if p then Kind.Other else other_where (reads v u))) ≡ Kind.Other
+      two true true h = refl
+      two true false h = refl
+      two false true h = refl
+      two false false h = cc
+  joined_kind v true false e =
+      marked_is y (marked x (λ s. other_where (reads s u))) v ∙ ap (λ z. if assigns y v then Kind.Other else z)
+      (marked_is x (λ s. other_where (reads s u)) v)
+      ∙ ap (λ z. if z then Kind.Other else (if assigns x v then Kind.Other else other_where (reads v u)))
+      (or_false_right (assigns x v) (assigns y v) e)
+      ∙ ap (λ z. if z then Kind.Other else other_where (reads v u)) (or_false_left (assigns x v) (assigns y v) e)
+  joined_kind v false true e = greater_or (reads_after x reads v u) (reads_after y reads v u)
+      ∙ sym (ap other_where (or_end (reads_after x reads v u || reads_after y reads v u)))
+  joined_kind v false false e =
+      ap (λ z. greater (other_where z) (other_where (reads_after y reads v u)))
+      (reads_kept x reads v u (or_false_left (assigns x v) (assigns y v) e))
+      ∙ ap (λ z. greater (other_where (reads v u)) (other_where z)) (reads_kept y reads v u
+      (or_false_right (assigns x v) (assigns y v) e))
+      ∙ greater_or (reads v u) (reads v u) ∙ ap other_where (or_same (reads v u))
+
+  spread : (v : ℕ) (a : Bool) → other_where (if a then (reads_after x reads v u || reads_after y reads v u) || expr_reads c reads u else
+      reads v u)
+      ≡ other_where ((if a then (λ u. (reads_after x reads v u || reads_after y reads v u) || expr_reads c reads u) else reads v) u)
+  spread v true = refl
+  spread v false = refl
+
+  choice_joins : (v : ℕ) → kinds_after outside x (λ s. other_where (reads s u)) ≡ (λ (v : ℕ). other_where (reads_after x reads v u))
+      → kinds_after outside y (λ s. other_where (reads s u)) ≡ (λ (v : ℕ). other_where (reads_after y reads v u)) →
+      chosen_kinds (expr_kind outside c (λ s. other_where (reads s u))) (kinds_after outside x (λ s. other_where (reads s u)))
+      (kinds_after outside y (λ s. other_where (reads s u))) (marked y (marked x (λ s. other_where (reads s u)))) v
+      ≡ other_where ((if assigns x v || assigns y v then (λ u. (reads_after x reads v u || reads_after y reads v u) || expr_reads c reads
+      u) else reads v) u)
+  choice_joins v ex ey =
+      ap (λ z. chosen_kinds z (kinds_after outside x (λ s. other_where (reads s u)))
+      (kinds_after outside y (λ s. other_where (reads s u))) (marked y (marked x (λ s. other_where (reads s u)))) v)
+      (expr_shows c reads u)
+      ∙ ap (λ z. chosen_kinds (other_where (expr_reads c reads u)) z (kinds_after outside y (λ s. other_where (reads s u)))
+      (marked y (marked x (λ s. other_where (reads s u)))) v) ex
+      ∙ ap (λ z. chosen_kinds (other_where (expr_reads c reads u)) (λ (v : ℕ). other_where (reads_after x reads v u)) z
+      (marked y (marked x (λ s. other_where (reads s u)))) v) ey
+      ∙ joined_kind v (expr_reads c reads u) (assigns x v || assigns y v) refl
+      ∙ spread v (assigns x v || assigns y v)
+
 pub walk_shows : (b : Block) (reads : ℕ → ℕ → Bool) (u : ℕ) → kinds_after outside b (λ s. other_where (reads s u))
     ≡ (λ (v : ℕ). other_where (reads_after b reads v u))
 walk_shows End reads u = refl
@@ -94,65 +149,9 @@ walk_shows (Set w e rest) reads u =
     at s true = expr_shows e reads u
     at s false = refl
 walk_shows (Fork c x y rest) reads u =
-    ap (kinds_after outside rest) (fun_ext (λ v. joins v (walk_shows x reads u) (walk_shows y reads u)))
+    ap (kinds_after outside rest) (fun_ext (λ v. choice_joins c x y reads u v (walk_shows x reads u) (walk_shows y reads u)))
     ∙ walk_shows rest (λ v. if assigns x v || assigns y v then (λ u. (reads_after x reads v u || reads_after y reads v u) || expr_reads c
     reads u) else reads v) u
-  where
-    table : ℕ → Kind
-    table s = other_where (reads s u)
-
-    -- the joined kind of one variable
-    one : (v : ℕ) (k a : Bool) → (assigns x v || assigns y v) ≡ a →
-        chosen_kinds (other_where k) (λ (v : ℕ). other_where (reads_after x reads v u)) (λ (v : ℕ). other_where (reads_after y reads v u))
-        (marked y (marked x (λ s. other_where (reads s u)))) v
-        ≡ other_where (if a then (reads_after x reads v u || reads_after y reads v u) || k else reads v u)
-    one v true true e =
-        marked_is y (marked x (λ s. other_where (reads s u))) v ∙ ap (λ z. if assigns y v then Kind.Other else z)
-        (marked_is x (λ s. other_where (reads s u)) v)
-        ∙ two (assigns x v) (assigns y v) e ∙ sym (ap other_where (or_true (reads_after x reads v u || reads_after y reads v u)))
-      where
-        two : (p q : Bool) → (p || q) ≡ true → (if q then Kind.Other else (if p then Kind.Other else other_where (reads v u))) ≡ Kind.Other
-        two true true h = refl
-        two true false h = refl
-        two false true h = refl
-        two false false h = cc
-    one v true false e =
-        marked_is y (marked x (λ s. other_where (reads s u))) v ∙ ap (λ z. if assigns y v then Kind.Other else z)
-        (marked_is x (λ s. other_where (reads s u)) v)
-        ∙ ap (λ z. if z then Kind.Other else (if assigns x v then Kind.Other else other_where (reads v u)))
-        (or_false_right (assigns x v) (assigns y v) e)
-        ∙ ap (λ z. if z then Kind.Other else other_where (reads v u)) (or_false_left (assigns x v) (assigns y v) e)
-    one v false true e = greater_or (reads_after x reads v u) (reads_after y reads v u)
-        ∙ sym (ap other_where (or_end (reads_after x reads v u || reads_after y reads v u)))
-    one v false false e =
-        ap (λ z. greater (other_where z) (other_where (reads_after y reads v u)))
-        (reads_kept x reads v u (or_false_left (assigns x v) (assigns y v) e))
-        ∙ ap (λ z. greater (other_where (reads v u)) (other_where z)) (reads_kept y reads v u
-        (or_false_right (assigns x v) (assigns y v) e))
-        ∙ greater_or (reads v u) (reads v u) ∙ ap other_where (or_same (reads v u))
-
-    spread : (v : ℕ) (a : Bool) → other_where (if a then (reads_after x reads v u || reads_after y reads v u) || expr_reads c reads u else
-        reads v u)
-        ≡ other_where ((if a then (λ u. (reads_after x reads v u || reads_after y reads v u) || expr_reads c reads u) else reads v) u)
-    spread v true = refl
-    spread v false = refl
-
-    joins : (v : ℕ) → kinds_after outside x (λ s. other_where (reads s u)) ≡ (λ (v : ℕ). other_where (reads_after x reads v u))
-        → kinds_after outside y (λ s. other_where (reads s u)) ≡ (λ (v : ℕ). other_where (reads_after y reads v u)) →
-        chosen_kinds (expr_kind outside c (λ s. other_where (reads s u))) (kinds_after outside x (λ s. other_where (reads s u)))
-        (kinds_after outside y (λ s. other_where (reads s u))) (marked y (marked x (λ s. other_where (reads s u)))) v
-        ≡ other_where ((if assigns x v || assigns y v then (λ u. (reads_after x reads v u || reads_after y reads v u) || expr_reads c reads
-        u) else reads v) u)
-    joins v ex ey =
-        ap (λ z. chosen_kinds z (kinds_after outside x (λ s. other_where (reads s u)))
-        (kinds_after outside y (λ s. other_where (reads s u))) (marked y (marked x (λ s. other_where (reads s u)))) v)
-        (expr_shows c reads u)
-        ∙ ap (λ z. chosen_kinds (other_where (expr_reads c reads u)) z (kinds_after outside y (λ s. other_where (reads s u)))
-        (marked y (marked x (λ s. other_where (reads s u)))) v) ex
-        ∙ ap (λ z. chosen_kinds (other_where (expr_reads c reads u)) (λ (v : ℕ). other_where (reads_after x reads v u)) z
-        (marked y (marked x (λ s. other_where (reads s u)))) v) ey
-        ∙ one v (expr_reads c reads u) (assigns x v || assigns y v) refl
-        ∙ spread v (assigns x v || assigns y v)
 
 -- a valid block assigns below any number that the variables are below
 pub valid_below : (n states args : ℕ) (b : Block) → states ≤ n → IsValidBlock states args b → AssignsBelow n b

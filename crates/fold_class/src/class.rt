@@ -8,7 +8,7 @@ pub enum Algebra {
 }
 
 /// What a walk knows of the value of an expression, or of a variable.
-#[derive(Clone, Copy, PartialEq, Eq)]
+#[derive(Clone, Copy)]
 pub enum Kind {
     /// It depends on none of the variables that the walk follows.
     Pure,
@@ -19,7 +19,7 @@ pub enum Kind {
 }
 
 /// What an operator is to a walk: how the kind of its result follows from those of its operands.
-#[derive(Clone, Copy, PartialEq, Eq)]
+#[derive(Clone, Copy)]
 pub enum Role {
     /// The greater kind of its operands.
     Sum,

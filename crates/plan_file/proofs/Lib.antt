@@ -1,4 +1,6 @@
 pub mod LexisFacts
+pub mod WantedTerms
+pub mod WantedBlocks
 pub mod Wanted
 pub mod OperandFacts
 pub mod OpFacts

@@ -1,6 +1,6 @@
 //! The statements of a body as a tree. It is built only for bodies within the bounds of a fold, so it isn't deep.
 
-ghost use Rattle.std.specs.Prelude.{◌≡◌, ◌≤◌, ◌↔◌, IsTrue, true, ◌+◌, ◌-◌, ◌<◌, ◌++◌, ◌∷◌, []};
+ghost use Rattle.std.specs.Prelude.{◌≡◌, ◌≤◌, ◌↔◌, IsTrue, true, false, ◌+◌, ◌-◌, ◌<◌, ◌++◌, ◌∷◌, []};
 ghost use Rattle.std.specs.Prelude.{List, length, count_by, IfOk, IfSome, MatchOption};
 ghost use Rattle.query_lang.specs.Blocks.{Block, End, Fork, block_of, stmt_block};
 ghost use Rattle.query_lang.specs.Terms.{Term, term_of};
@@ -147,6 +147,35 @@ fn after_brace(words: &[Lexeme], opens: bool) -> Option<&[Lexeme]>
     }
 }
 
+// The statements in braces that tokens begin with, and the tokens after the closing brace.
+#[cycle(statements)]
+fn braced<'a>(
+    alloc: Global,
+    states: u64,
+    slots: u64,
+    words: &'a [Lexeme],
+) -> Result<Option<(Seq<TypedStmt>, &'a [Lexeme])>, AllocError>
+    requires states { states ≤ slots }
+    requires slots { slots ≤ 24 }
+    ensures found { IfOk result (λ found. (b : Block) → (rest : List Lexeme) → IsValidBlock states (slots - states) b
+        → words.now ≡ Trees.brace true ∷ (written_block states b ++ Trees.brace false ∷ rest)
+        → MatchOption found ⊥ (λ r. (block_of r.0 ≡ b) × (r.1.now ≡ rest))) }
+    ensures shorter { IfOk result (λ found. IfSome found (λ r. length r.1.now < length words.now)) }
+{
+    let inside = match after_brace(words, true) {
+        Some(inside) => inside,
+        None => return Ok(None),
+    };
+    let (body, left) = match statements(alloc, states, slots, inside)? {
+        Some(found) => found,
+        None => return Ok(None),
+    };
+    match after_brace(left, false) {
+        Some(rest) => Ok(Some((body, rest))),
+        None => Ok(None),
+    }
+}
+
 // A choice after its `if`, and the tokens after the choice.
 #[cycle(statements)]
 fn choice<'a>(
@@ -167,28 +196,14 @@ fn choice<'a>(
         Some(found) => found,
         None => return Ok(None),
     };
-    let rest = match after_brace(rest, true) {
-        Some(rest) => rest,
-        None => return Ok(None),
-    };
-    let (then_block, rest) = match statements(alloc, states, slots, rest)? {
+    let (then_block, rest) = match braced(alloc, states, slots, rest)? {
         Some(found) => found,
         None => return Ok(None),
     };
-    let rest = match after_brace(rest, false) {
-        Some(rest) => rest,
-        None => return Ok(None),
-    };
-    let rest = match after_brace(rest, true) {
-        Some(rest) => rest,
-        None => return Ok(None),
-    };
-    let (else_block, rest) = match statements(alloc, states, slots, rest)? {
-        Some(found) => found,
-        None => return Ok(None),
-    };
-    match after_brace(rest, false) {
-        Some(rest) => Ok(Some((TypedStmt::If(condition, then_block, else_block), rest))),
+    match braced(alloc, states, slots, rest)? {
+        Some((else_block, rest)) => {
+            Ok(Some((TypedStmt::If(condition, then_block, else_block), rest)))
+        }
         None => Ok(None),
     }
 }

@@ -14,10 +14,10 @@ use Rattle.stage_plan.specs.declared.op.Operand.TheVariants.{Register, Number}
 use Rattle.stage_plan.specs.declared.op.PlanOp.{PlanOp}
 use Rattle.stage_plan.specs.Registers.{operand_stage}
 use Rattle.stage_plan.specs.Sound.{AreSoundOps, IsSoundOp, IsWithin}
-use Rattle.stage_plan.proofs.Deep.{same_stage}
+use Rattle.stage_plan.proofs.Depths.{same_stage}
 use Rattle.stage_plan.proofs.Lists.{push_cases}
 use Rattle.stage_plan.proofs.Runs.{within_more}
-use Rattle.stage_plan.proofs.Values.{one_more}
+use Rattle.stage_plan.proofs.Extending.{one_more}
 use Rattle.plan_file.specs.Operations.{IsKnown, IsAllowed, last_stage, stage_at, stage_of}
 
 number_below : (f : Field) → number_of f < 14

@@ -1,9 +1,8 @@
 -- The operations and the wiring of each plan of a query are those that its text has.
-use Rattle.std.proofs.Common.{◌≡◌, ℕ, zero, suc, ◌+◌, ◌<◌, ◌≤◌, ◌-◌, true, get_or, List, [], ◌∷◌, ◌++◌, length, Option, Some, None, refl}
-use Rattle.std.proofs.Common.{sym, ap, subst, ◌∙◌, arith, lit<, append_assoc, append-nil}
+use Rattle.std.proofs.Common.{◌≡◌, ℕ, zero, suc, ◌+◌, ◌<◌, ◌≤◌, ◌-◌, get_or, List, [], ◌∷◌, ◌++◌, length, Option, Some, None, refl}
+use Rattle.std.proofs.Common.{sym, ap, subst, ◌∙◌, arith, append_assoc, append-nil}
 use Rattle.std.specs.List.{range_with_len}
-use Rattle.std.specs.Prelude.{All, map, flat_map, codes, take, nat_lt, slice_get, option_map, option_and_then, unwrap_or, if◌then◌else◌}
-use Rattle.std.proofs.lemmas.Bool.Decides.{nat_tests}
+use Rattle.std.specs.Prelude.{All, map, flat_map, codes, take, slice_get, option_map, option_and_then}
 use Rattle.std.proofs.lemmas.Grind.{flat_map-append}
 use Rattle.std.proofs.lemmas.List.{take_more}
 use Rattle.std.proofs.lemmas.Option.{slice_get-map, same_Some, slice_get_within, slice_get-get_or, get_or_from_slice_get}
@@ -22,77 +21,20 @@ use Rattle.query_lang.specs.Streams.{Taking, takings}
 use Rattle.query_lang.specs.TypedQueries.{AreValidStreams, IsValidOp, IsValidQuery}
 use Rattle.stage_plan.specs.declared.group.GroupPlan.{GroupPlan}
 use Rattle.stage_plan.specs.declared.group.GroupWiring.{GroupWiring}
-use Rattle.stage_plan.specs.declared.op.Operand.TheVariants.{Register}
-use Rattle.stage_plan.specs.declared.op.PlanOp.{PlanOp}
-use Rattle.stage_plan.specs.Depths.{packet_depths, depths_at}
-use Rattle.stage_plan.specs.Making.{packet_wires, wires_at}
+use Rattle.stage_plan.specs.Depths.{packet_depths}
+use Rattle.stage_plan.specs.Making.{packet_wires}
 use Rattle.stage_plan.specs.Ordering.{moved_op, op_numbered, wiring_of}
 use Rattle.stage_plan.specs.Planned.{IsPlanOf, fold_at, query_made}
 use Rattle.stage_plan.specs.Registers.{stages_of}
 use Rattle.stage_plan.specs.Shape.{group_shape, query_groups}
 use Rattle.stage_plan.specs.Sound.{PlanParts}
-use Rattle.stage_plan.proofs.Deep.{IsAt, WiresAt, AreMade, AllMakes, all_make, number_at}
+use Rattle.stage_plan.proofs.Deep.{AllMakes, all_make}
+use Rattle.stage_plan.proofs.Faults.{made_none, packets_at}
 use Rattle.stage_plan.proofs.Runs.{stage_below}
 use Rattle.stage_plan.proofs.Sorted.{Staged}
 use Rattle.plan_writer.specs.Ordered.{query_order, query_registers, query_ops, query_wiring}
 use Rattle.plan_writer.specs.PlanText.{fields_of, reads_line, op_line, print_line, compiled_text, group_lines, group_lines_of, group_text}
 use Rattle.plan_writer.proofs.Once.{registers_are}
-
--- the packets' columns are fields, before any operation
-
-field_at : (k : ℕ) → k < 14 → IsAt [] (Register k) 0
-field_at k lt =
-    let early : nat_lt k 14 ≡ true = grind (arith, nat_tests) in
-    record {
-      within = omega arith;
-      stage = ap (λ b. if b then 0 else unwrap_or (option_map (λ (x : PlanOp). x.stage) (slice_get [] (k - 14))) 0) early;
-    }
-
-packets_at : (j : ℕ) → WiresAt [] (wires_at (packet_wires ∷ []) j) (depths_at (packet_depths ∷ []) j)
-packets_at zero = record {
-  present = number_at [] 1;
-  columns = (
-    field_at 0 (lit< tt),
-    (
-      field_at 1 (lit< tt),
-      (
-        field_at 2 (lit< tt),
-        (
-          field_at 3 (lit< tt),
-          (
-            field_at 4 (lit< tt),
-            (
-              field_at 5 (lit< tt),
-              (
-                field_at 6 (lit< tt),
-                (
-                  field_at 7 (lit< tt),
-                  (
-                    field_at 8 (lit< tt),
-                    (
-                      field_at 9 (lit< tt),
-                      (
-                        field_at 10 (lit< tt),
-                        (
-                          field_at 11 (lit< tt),
-                          (field_at 12 (lit< tt), (field_at 13 (lit< tt), tt)),
-                        ),
-                      ),
-                    ),
-                  ),
-                ),
-              ),
-            ),
-          ),
-        ),
-      ),
-    ),
-  );
-}
-packets_at (suc j) = record { present = number_at [] 0; columns = tt }
-
-made_none : AreMade []
-made_none = record { each = λ i one found. cc }
 
 -- all operations of a query have a stage from 1 on
 pub made_staged : (q : TypedQuery) → Staged (query_made q).ops (stages_of (query_made q).ops)

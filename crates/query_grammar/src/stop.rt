@@ -1,7 +1,7 @@
 //! Why a parser stops, and what it counts.
 
 /// Why no query goes on with a token.
-#[derive(Clone, Copy, PartialEq, Eq)]
+#[derive(Clone, Copy)]
 pub enum Stop {
     /// No query's tokens begin so.
     Unexpected,
@@ -14,7 +14,7 @@ pub enum Stop {
 }
 
 /// What an item has counted so far.
-#[derive(Clone, Copy, PartialEq, Eq)]
+#[derive(Clone, Copy)]
 pub struct Counts {
     pub nodes: u32,
     pub statements: u32,

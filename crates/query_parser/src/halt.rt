@@ -55,7 +55,7 @@ pub fn stop_at(stop: Stop, rest: &[Token]) -> Fault<'_>
 
 /// What a token counts as: nothing, a node of an expression, the first token of a statement, or the first of an item, at
 /// which the counts begin again.
-#[derive(Clone, Copy, PartialEq, Eq)]
+#[derive(Clone, Copy)]
 pub enum Role {
     Plain,
     Node,

@@ -15,7 +15,7 @@ use query_lang::{Mark, Op, Span, Token, TokenKind, Word};
 
 /// Operators that bind alike, beginning with the closest. Those of one level group from the left, but for comparisons, which
 /// don't group.
-#[derive(Clone, Copy, PartialEq, Eq)]
+#[derive(Clone, Copy)]
 pub enum Level {
     Product,
     Sum,

@@ -10,8 +10,13 @@ use Rattle.std.proofs.lemmas.Option.{slice_get_within}
 use Rattle.std.proofs.lemmas.List.{length-append, length-map, length-take, map-append}
 use Rattle.std.proofs.lemmas.List.Elements.{All-nil, All-append, All-tail}
 use Rattle.query_lang.specs.declared.fault.FaultKind.TheVariants.{NameTaken, WrongKind, BadConstant}
+use Rattle.query_lang.specs.declared.fault.Span.{Span}
+use Rattle.query_lang.specs.declared.query.Column.{Column}
+use Rattle.query_lang.specs.declared.query.Expr.{Expr}
 use Rattle.query_lang.specs.declared.query.FinalOp.{FinalOp}
 use Rattle.query_lang.specs.declared.query.FinalOp.TheVariants as ops
+use Rattle.query_lang.specs.declared.query.Key.{Key}
+use Rattle.query_lang.specs.declared.query.Name.{Name}
 use Rattle.query_lang.specs.declared.fold.TypedFold.{TypedFold}
 use Rattle.query_lang.specs.declared.typed.PrintOf.{PrintOf}
 use Rattle.query_lang.specs.declared.typed.PrintOf.TheVariants as place
@@ -106,169 +111,197 @@ drop_names names zero list v = v
 drop_names names (suc n) [] v = v
 drop_names names (suc n) (x ∷ rest) v = drop_names names n rest (All-tail (IsName names) x rest v)
 
+module _ (w : Whole) (given : Given) (e : Earlier) (made : MadeFinal) (part : IsPart w e) (count : length (takings w.streams) ≡ w.groups)
+    (same : given.groups ≡ w.groups) (known : AreKnown w (length e.streams) (length e.finals) e.known) where
+  filter_valid : (input : Name) (c : Expr) → final_nodes (ops.Filter input c) ≤ 512 → final_number (ops.Filter input c) < 2 ^ 64
+      → made_final given e (ops.Filter input c) ≡ Ok made → IsMadeFinal w e made
+  filter_valid input c nodes words h =
+      let source = found_first (table_named e.known input) _ made h in
+      let condition = found_first (condition_of source.0.columns [] c) _ made source.2 in
+      let v = table_known w (length e.streams) (length e.finals) e.known input source.0 known source.1 in
+      let t = there w e source.0 part count v in
+      let fits = condition_fits (length source.0.columns) (expr_nodes c) condition.0 nodes
+      (condition_valid source.0.columns [] c condition.0 words condition.1) in
+      let C : Shape → Type 0 = λ s. IsValidCondition s.width condition.0 in
+      let M : MadeFinal → Type 0 = λ m. IsMadeFinal w e m in
+      let P : ℕ → Type 0 = λ g. IsMadeFinal w e (record {
+        op = typed.Filter (table_number g source.0.place) condition.0;
+        columns =
+            source.0.columns;
+        keys = source.0.keys;
+      }) in
+      subst M (same_ok _ made condition.2) (subst P (sym same) (record {
+        operator =
+            (t.within, subst C (sym t.shape) fits, sym t.shape);
+        names = v.names;
+        keys = v.keys;
+      }))
+
+  map_valid : (input : Name) (columns : List Column) → final_nodes (ops.Map input columns) ≤ 512
+      → IsNumberedFinal w.names (ops.Map input columns) → final_number (ops.Map input columns) < 2 ^ 64
+      → made_final given e (ops.Map input columns) ≡ Ok made → IsMadeFinal w e made
+  map_valid input columns nodes numbered words h =
+      let source = found_first (table_named e.known input) _ made h in
+      let ids = source.0.columns in
+      let new = found_first (new_columns ids [] no_new_columns columns) _ made source.2 in
+      let v = table_known w (length e.streams) (length e.finals) e.known input source.0 known source.1 in
+      let t = there w e source.0 part count v in
+      let none : AreNew w.names (length ids) no_new_columns = record {
+        ids = All-nil (IsName w.names);
+        values =
+            All-nil (IsValidWord (length ids));
+        same = refl;
+      } in
+      let fits = new_valid ids [] w.names no_new_columns new.0 columns none (omega arith) numbered words new.1 in
+      let C : Shape → Type 0 = λ s. AreValidWords s.width new.0.values in
+      let M : MadeFinal → Type 0 = λ m. IsMadeFinal w e m in
+      let P : ℕ → Type 0 = λ g. IsMadeFinal w e (record {
+        op = typed.Map (table_number g source.0.place) new.0.values;
+        columns = ids
+            ++ new.0.names;
+        keys = source.0.keys;
+      }) in
+      subst M (same_ok _ made new.2) (subst P (sym same) (record {
+        operator = (
+          t.within,
+          subst C (sym t.shape) (fits.0.values, fits.1),
+          omega
+              (arith, ap (λ (s : Shape). s.width) t.shape, length-append ids new.0.names, fits.0.same),
+          sym
+              (ap (λ (s : Shape). s.keys) t.shape),
+        );
+        names = All-append (IsName w.names) ids new.0.names v.names fits.0.ids;
+        keys = omega (arith, v.keys, length-append ids new.0.names);
+      }))
+
+  group_made : (input : Name) (keys : List Key) (fold_name : Name) → (0 < length (five_fields given.fields))
+      × HasFinalKeys (ops.Group input keys fold_name) → made_final given e (ops.Group input keys fold_name) ≡ Ok made → IsMadeFinal w e made
+  group_made input keys fold_name some h =
+      let source = found_first (table_named e.known input) _ made h in
+      let ids = source.0.columns in
+      let five = five_fields given.fields in
+      let picked = found_first (keys_checked five ids [] keys) _ made source.2 in
+      let f = found_first (quiet_fold e.known fold_name) _ made picked.2 in
+      let arguments = found_first (arguments_of ids [] picked.0.names f.0 fold_name.span) _ made f.2 in
+      let v = table_known w (length e.streams) (length e.finals) e.known input source.0 known source.1 in
+      let t = there w e source.0 part count v in
+      let quiet = quiet_known e.known fold_name f.0 f.1 in
+      let vf = fold_known w (length e.streams) (length e.finals) e.known fold_name f.0 known quiet.0 in
+      let none : ArePicked w.names (length ids) (record { names = []; slots = [] }) =
+      record { ids = All-nil (IsName w.names); slots_in = All-nil (IsName (length ids)); same = refl; most = omega arith } in
+      let vp = keys_valid ids [] w.names (record { names = []; slots = [] }) picked.0 (flat_map (key_names five) keys) v.names none
+      picked.1 in
+      let va = arguments_valid ids [] picked.0.names f.0 fold_name.span arguments.0 arguments.1 in
+      let one_key = picked_some five ids [] picked.0 keys some.0 some.1 picked.1 in
+      let group = group_valid w ids arguments.0 picked.0 f.0 vf vp one_key va.0 va.1 in
+      let G : Shape → Type 0 = λ s. IsValidGroup w.folds s.width picked.0.slots f.0.number arguments.0 in
+      let Q : Option TypedFold → Type 0 = λ o. IsQuiet o in
+      let emits : IsQuiet (Some vf.one) = no_emit vf.one.emit (vf.emits ∙ quiet.1) in
+      let M : MadeFinal → Type 0 = λ m. IsMadeFinal w e m in
+      let P : ℕ → Type 0 = λ g. IsMadeFinal w e (record {
+        op = typed.Group (table_number g source.0.place) picked.0.slots f.0.number
+            arguments.0;
+        columns = picked.0.names ++ f.0.states;
+        keys = length picked.0.names;
+      }) in
+      subst M (same_ok _ made arguments.2) (subst P (sym same) (record {
+        operator = (
+          t.within,
+          subst G (sym t.shape) group,
+          subst Q (sym vf.is) emits,
+          sym
+              (group_is w ids arguments.0 (table_number w.groups source.0.place) picked.0 f.0 vf vp),
+        );
+        names = All-append (IsName w.names) picked.0.names f.0.states vp.ids vf.names;
+        keys = omega (arith, length-append picked.0.names f.0.states);
+      }))
+
+  join_valid : (first second : Name) → made_final given e (ops.Join first second) ≡ Ok made → IsMadeFinal w e made
+  join_valid first second h =
+      let left = found_first (table_named e.known first) _ made h in
+      let right = found_first (table_named e.known second) _ made left.2 in
+      let equal = must_ok (same_names (key_columns left.0) (key_columns right.0)) WrongKind second.span _ made right.2 in
+      let free = must_not_ok (list_any (λ name. is_among name left.0.columns) (other_columns right.0)) NameTaken second.span _ made
+      equal.1 in
+      let vl = table_known w (length e.streams) (length e.finals) e.known first left.0 known left.1 in
+      let vr = table_known w (length e.streams) (length e.finals) e.known second right.0 known right.1 in
+      let tl = there w e left.0 part count vl in
+      let tr = there w e right.0 part count vr in
+      let lengths = same_length (key_columns left.0) (key_columns right.0) equal.0 in
+      let keys : left.0.keys ≡ right.0.keys = omega (
+        arith,
+        lengths,
+        length-take left.0.keys left.0.columns,
+        length-take right.0.keys
+            right.0.columns,
+        vl.keys,
+        vr.keys,
+      ) in
+      let lk = ap (λ (s : Shape). s.keys) tl.shape in
+      let rk = ap (λ (s : Shape). s.keys) tr.shape in
+      let lw = ap (λ (s : Shape). s.width) tl.shape in
+      let rw' = ap (λ (s : Shape). s.width) tr.shape in
+      let M : MadeFinal → Type 0 = λ m. IsMadeFinal w e m in
+      let P : ℕ → Type 0 = λ g. IsMadeFinal w e (record {
+        op = typed.Join (table_number g left.0.place) (table_number g right.0.place);
+        columns = left.0.columns ++ other_columns right.0;
+        keys = left.0.keys;
+      }) in
+      subst M (same_ok _ made free.1) (subst P (sym same) (record {
+        operator = (
+          tl.within,
+          tr.within,
+          omega (arith, keys, lk, rk),
+          omega
+              (arith, lw, rw', rk, length-append left.0.columns (other_columns right.0), length-drop right.0.keys right.0.columns),
+          omega
+              (arith, lk),
+        );
+        names = All-append (IsName w.names) left.0.columns (other_columns right.0) vl.names
+            (drop_names w.names right.0.keys right.0.columns vr.names);
+        keys = omega (arith, vl.keys, length-append left.0.columns (other_columns right.0));
+      }))
+
+  top_valid : (input column : Name) (kept : ℕ) (span : Span) → made_final given e (ops.Top input column kept span) ≡ Ok made
+      → IsMadeFinal w e made
+  top_valid input column kept span h =
+      let source = found_first (table_named e.known input) _ made h in
+      let slot = found_first (slot_of source.0.columns [] column) _ made source.2 in
+      let test = must_ok (nat_lt 0 kept && nat_le kept 65536) BadConstant span _ made slot.2 in
+      let both = both_true (nat_lt 0 kept) (nat_le kept 65536) test.0 in
+      let v = table_known w (length e.streams) (length e.finals) e.known input source.0 known source.1 in
+      let t = there w e source.0 part count v in
+      let M : MadeFinal → Type 0 = λ m. IsMadeFinal w e m in
+      let P : ℕ → Type 0 = λ g. IsMadeFinal w e (record {
+        op = typed.Top (table_number g source.0.place) slot.0 kept;
+        columns =
+            source.0.columns;
+        keys = source.0.keys;
+      }) in
+      subst M (same_ok _ made test.1) (subst P (sym same) (record {
+        operator = (
+          t.within,
+          omega (arith, slot_bound source.0.columns [] column slot.0 slot.1, ap (λ (s : Shape). s.width) t.shape),
+          ltb-true _ _ both.0,
+          leb-true _ _ both.1,
+          sym t.shape,
+        );
+        names = v.names;
+        keys = v.keys;
+      }))
+
 pub final_valid : (w : Whole) (given : Given) (e : Earlier) (op : FinalOp) (made : MadeFinal) → IsPart w e
     → length (takings w.streams) ≡ w.groups → given.groups ≡ w.groups
     → AreKnown w (length e.streams) (length e.finals) e.known → final_nodes op ≤ 512 → IsNumberedFinal w.names op
     → (0 < length (five_fields given.fields)) × HasFinalKeys op → final_number op < 2 ^ 64 → made_final given e op ≡ Ok made
     → IsMadeFinal w e made
 final_valid w given e (ops.Filter input c) made part count same known nodes numbered some words h =
-    let source = found_first (table_named e.known input) _ made h in
-    let condition = found_first (condition_of source.0.columns [] c) _ made source.2 in
-    let v = table_known w (length e.streams) (length e.finals) e.known input source.0 known source.1 in
-    let t = there w e source.0 part count v in
-    let fits = condition_fits (length source.0.columns) (expr_nodes c) condition.0 nodes
-    (condition_valid source.0.columns [] c condition.0 words condition.1) in
-    let C : Shape → Type 0 = λ s. IsValidCondition s.width condition.0 in
-    let M : MadeFinal → Type 0 = λ m. IsMadeFinal w e m in
-    let P : ℕ → Type 0 = λ g. IsMadeFinal w e (record {
-      op = typed.Filter (table_number g source.0.place) condition.0;
-      columns =
-          source.0.columns;
-      keys = source.0.keys;
-    }) in
-    subst M (same_ok _ made condition.2) (subst P (sym same) (record {
-      operator =
-          (t.within, subst C (sym t.shape) fits, sym t.shape);
-      names = v.names;
-      keys = v.keys;
-    }))
+    filter_valid w given e made part count same known input c nodes words h
 final_valid w given e (ops.Map input columns) made part count same known nodes numbered some words h =
-    let source = found_first (table_named e.known input) _ made h in
-    let ids = source.0.columns in
-    let new = found_first (new_columns ids [] no_new_columns columns) _ made source.2 in
-    let v = table_known w (length e.streams) (length e.finals) e.known input source.0 known source.1 in
-    let t = there w e source.0 part count v in
-    let none : AreNew w.names (length ids) no_new_columns = record {
-      ids = All-nil (IsName w.names);
-      values =
-          All-nil (IsValidWord (length ids));
-      same = refl;
-    } in
-    let fits = new_valid ids [] w.names no_new_columns new.0 columns none (omega arith) numbered words new.1 in
-    let C : Shape → Type 0 = λ s. AreValidWords s.width new.0.values in
-    let M : MadeFinal → Type 0 = λ m. IsMadeFinal w e m in
-    let P : ℕ → Type 0 = λ g. IsMadeFinal w e (record {
-      op = typed.Map (table_number g source.0.place) new.0.values;
-      columns = ids
-          ++ new.0.names;
-      keys = source.0.keys;
-    }) in
-    subst M (same_ok _ made new.2) (subst P (sym same) (record {
-      operator = (
-        t.within,
-        subst C (sym t.shape) (fits.0.values, fits.1),
-        omega
-            (arith, ap (λ (s : Shape). s.width) t.shape, length-append ids new.0.names, fits.0.same),
-        sym
-            (ap (λ (s : Shape). s.keys) t.shape),
-      );
-      names = All-append (IsName w.names) ids new.0.names v.names fits.0.ids;
-      keys = omega (arith, v.keys, length-append ids new.0.names);
-    }))
+    map_valid w given e made part count same known input columns nodes numbered words h
 final_valid w given e (ops.Group input keys fold_name) made part count same known nodes numbered some words h =
-    let source = found_first (table_named e.known input) _ made h in
-    let ids = source.0.columns in
-    let five = five_fields given.fields in
-    let picked = found_first (keys_checked five ids [] keys) _ made source.2 in
-    let f = found_first (quiet_fold e.known fold_name) _ made picked.2 in
-    let arguments = found_first (arguments_of ids [] picked.0.names f.0 fold_name.span) _ made f.2 in
-    let v = table_known w (length e.streams) (length e.finals) e.known input source.0 known source.1 in
-    let t = there w e source.0 part count v in
-    let quiet = quiet_known e.known fold_name f.0 f.1 in
-    let vf = fold_known w (length e.streams) (length e.finals) e.known fold_name f.0 known quiet.0 in
-    let none : ArePicked w.names (length ids) (record { names = []; slots = [] }) =
-    record { ids = All-nil (IsName w.names); slots_in = All-nil (IsName (length ids)); same = refl; most = omega arith } in
-    let vp = keys_valid ids [] w.names (record { names = []; slots = [] }) picked.0 (flat_map (key_names five) keys) v.names none
-    picked.1 in
-    let va = arguments_valid ids [] picked.0.names f.0 fold_name.span arguments.0 arguments.1 in
-    let one_key = picked_some five ids [] picked.0 keys some.0 some.1 picked.1 in
-    let group = group_valid w ids arguments.0 picked.0 f.0 vf vp one_key va.0 va.1 in
-    let G : Shape → Type 0 = λ s. IsValidGroup w.folds s.width picked.0.slots f.0.number arguments.0 in
-    let Q : Option TypedFold → Type 0 = λ o. IsQuiet o in
-    let emits : IsQuiet (Some vf.one) = no_emit vf.one.emit (vf.emits ∙ quiet.1) in
-    let M : MadeFinal → Type 0 = λ m. IsMadeFinal w e m in
-    let P : ℕ → Type 0 = λ g. IsMadeFinal w e (record {
-      op = typed.Group (table_number g source.0.place) picked.0.slots f.0.number
-          arguments.0;
-      columns = picked.0.names ++ f.0.states;
-      keys = length picked.0.names;
-    }) in
-    subst M (same_ok _ made arguments.2) (subst P (sym same) (record {
-      operator = (
-        t.within,
-        subst G (sym t.shape) group,
-        subst Q (sym vf.is) emits,
-        sym
-            (group_is w ids arguments.0 (table_number w.groups source.0.place) picked.0 f.0 vf vp),
-      );
-      names = All-append (IsName w.names) picked.0.names f.0.states vp.ids vf.names;
-      keys = omega (arith, length-append picked.0.names f.0.states);
-    }))
+    group_made w given e made part count same known input keys fold_name some h
 final_valid w given e (ops.Join first second) made part count same known nodes numbered some words h =
-    let left = found_first (table_named e.known first) _ made h in
-    let right = found_first (table_named e.known second) _ made left.2 in
-    let equal = must_ok (same_names (key_columns left.0) (key_columns right.0)) WrongKind second.span _ made right.2 in
-    let free = must_not_ok (list_any (λ name. is_among name left.0.columns) (other_columns right.0)) NameTaken second.span _ made equal.1 in
-    let vl = table_known w (length e.streams) (length e.finals) e.known first left.0 known left.1 in
-    let vr = table_known w (length e.streams) (length e.finals) e.known second right.0 known right.1 in
-    let tl = there w e left.0 part count vl in
-    let tr = there w e right.0 part count vr in
-    let lengths = same_length (key_columns left.0) (key_columns right.0) equal.0 in
-    let keys : left.0.keys ≡ right.0.keys = omega (
-      arith,
-      lengths,
-      length-take left.0.keys left.0.columns,
-      length-take right.0.keys
-          right.0.columns,
-      vl.keys,
-      vr.keys,
-    ) in
-    let lk = ap (λ (s : Shape). s.keys) tl.shape in
-    let rk = ap (λ (s : Shape). s.keys) tr.shape in
-    let lw = ap (λ (s : Shape). s.width) tl.shape in
-    let rw' = ap (λ (s : Shape). s.width) tr.shape in
-    let M : MadeFinal → Type 0 = λ m. IsMadeFinal w e m in
-    let P : ℕ → Type 0 = λ g. IsMadeFinal w e (record {
-      op = typed.Join (table_number g left.0.place) (table_number g right.0.place);
-      columns = left.0.columns ++ other_columns right.0;
-      keys = left.0.keys;
-    }) in
-    subst M (same_ok _ made free.1) (subst P (sym same) (record {
-      operator = (
-        tl.within,
-        tr.within,
-        omega (arith, keys, lk, rk),
-        omega
-            (arith, lw, rw', rk, length-append left.0.columns (other_columns right.0), length-drop right.0.keys right.0.columns),
-        omega
-            (arith, lk),
-      );
-      names = All-append (IsName w.names) left.0.columns (other_columns right.0) vl.names
-          (drop_names w.names right.0.keys right.0.columns vr.names);
-      keys = omega (arith, vl.keys, length-append left.0.columns (other_columns right.0));
-    }))
+    join_valid w given e made part count same known first second h
 final_valid w given e (ops.Top input column kept span) made part count same known nodes numbered some words h =
-    let source = found_first (table_named e.known input) _ made h in
-    let slot = found_first (slot_of source.0.columns [] column) _ made source.2 in
-    let test = must_ok (nat_lt 0 kept && nat_le kept 65536) BadConstant span _ made slot.2 in
-    let both = both_true (nat_lt 0 kept) (nat_le kept 65536) test.0 in
-    let v = table_known w (length e.streams) (length e.finals) e.known input source.0 known source.1 in
-    let t = there w e source.0 part count v in
-    let M : MadeFinal → Type 0 = λ m. IsMadeFinal w e m in
-    let P : ℕ → Type 0 = λ g. IsMadeFinal w e (record {
-      op = typed.Top (table_number g source.0.place) slot.0 kept;
-      columns =
-          source.0.columns;
-      keys = source.0.keys;
-    }) in
-    subst M (same_ok _ made test.1) (subst P (sym same) (record {
-      operator = (
-        t.within,
-        omega (arith, slot_bound source.0.columns [] column slot.0 slot.1, ap (λ (s : Shape). s.width) t.shape),
-        ltb-true _ _ both.0,
-        leb-true _ _ both.1,
-        sym t.shape,
-      );
-      names = v.names;
-      keys = v.keys;
-    }))
+    top_valid w given e made part count same known input column kept span h

@@ -3,6 +3,8 @@ pub mod BodyLaws
 pub mod CheckLemmas
 pub mod ExprLaws
 pub mod FinalLaws
+pub mod NamedFits
+pub mod MadeFits
 pub mod FitLaws
 pub mod ItemLaws
 pub mod MadeLaws

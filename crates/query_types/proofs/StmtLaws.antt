@@ -13,6 +13,7 @@ use Rattle.query_lang.specs.declared.fold.TypedFold.{TypedFold}
 use Rattle.query_lang.specs.declared.query.FoldDef.{FoldDef}
 use Rattle.query_lang.specs.declared.query.Name.{Name}
 use Rattle.query_lang.specs.declared.query.StateVar.{StateVar}
+use Rattle.query_lang.specs.declared.query.Expr.{Expr}
 use Rattle.query_lang.specs.declared.query.Stmt.{Stmt, fold-roll-Stmt, ind-Stmt, roll-Stmt, map-Stmt}
 use Rattle.query_lang.specs.declared.query.Stmt.TheOpen as stmt
 use Rattle.query_lang.specs.declared.typing.Body.{Body}
@@ -124,20 +125,10 @@ as_zero states args n k made v = record {
   emit = v.emit;
 }
 
-step : (states args : List ℕ) (y : stmt.Stmt-F (Sound states args)) → IsSoundLayer states args
-    (map-Stmt (Sound states args) Stmt (λ s. s.0) y)
-step states args (stmt.Assign name value) n d p c outer found made h va hn hd vf e =
-    let target = found_first (target_of states args name) _ made e in
-    let word = found_first (word_of (states ++ args) [] value) _ made target.2 in
-    let B : Body → Type 0 = λ b. IsBody (length states) (length args) (p + expr_nodes value) (c + 1) b in
-    let w = word_over_both states args (expr_nodes value) word.0 (word_valid (states ++ args) [] value word.0 h word.1) in
-    subst B (same_ok _ made word.2) (record {
-      block = added (length states) (length args) p c (expr_nodes value) 1 found _ vf
-          (assign_block (length states) (length args) (expr_nodes value) target.0 word.0 (target_bound states args name target.0 target.1)
-          w);
-      emit = vf.emit;
-    })
-step states args (stmt.If t a b) n d p c outer found made h va hn hd vf e =
+-- a choice
+if_step : (states args : List ℕ) (t : Expr) (a b : List (Sound states args)) → IsSoundLayer states args
+    (map-Stmt (Sound states args) Stmt (λ s. s.0) (stmt.If t a b))
+if_step states args t a b n d p c outer found made h va hn hd vf e =
     let S = length states in
     let A = length args in
     let firsts = map (λ (s : Sound states args). s.0) a in
@@ -182,6 +173,22 @@ step states args (stmt.If t a b) n d p c outer found made h va hn hd vf e =
           (if_block S A (expr_nodes t) x y i j k one.0.statements two.0.statements vc w1 w2);
       emit = v2.emit;
     })
+
+step : (states args : List ℕ) (y : stmt.Stmt-F (Sound states args)) → IsSoundLayer states args
+    (map-Stmt (Sound states args) Stmt (λ s. s.0) y)
+step states args (stmt.Assign name value) n d p c outer found made h va hn hd vf e =
+    let target = found_first (target_of states args name) _ made e in
+    let word = found_first (word_of (states ++ args) [] value) _ made target.2 in
+    let B : Body → Type 0 = λ b. IsBody (length states) (length args) (p + expr_nodes value) (c + 1) b in
+    let w = word_over_both states args (expr_nodes value) word.0 (word_valid (states ++ args) [] value word.0 h word.1) in
+    subst B (same_ok _ made word.2) (record {
+      block = added (length states) (length args) p c (expr_nodes value) 1 found _ vf
+          (assign_block (length states) (length args) (expr_nodes value) target.0 word.0 (target_bound states args name target.0 target.1)
+          w);
+      emit = vf.emit;
+    })
+step states args (stmt.If t a b) n d p c outer found made h va hn hd vf e =
+    if_step states args t a b n d p c outer found made h va hn hd vf e
 step states args (stmt.Emit span) n d p c outer found made h va hn hd vf e =
     let once = must_not_ok (is_some found.emit) WrongArity span _ made e in
     let none = no_state_ok outer.state _ made once.1 in

@@ -1,6 +1,6 @@
 //! Columns: those that a `map` adds, those of a `zip`, keys, and the arguments of a fold.
 
-ghost use Rattle.std.specs.Prelude.{◌≡◌, ◌<◌, ◌≤◌, ◌^◌, ◌++◌, [], Ok, IfOk, OnOk, length, map, flat_map, slice_get};
+ghost use Rattle.std.specs.Prelude.{◌≡◌, ◌<◌, ◌≤◌, ◌^◌, ◌++◌, ◌||◌, [], Ok, IfOk, OnOk, length, map, flat_map, slice_get};
 ghost use Rattle.std.specs.List.{list_any};
 ghost use Rattle.query_lang.specs.Checks.{collected, is_among};
 ghost use Rattle.query_lang.specs.TypedExprs.{slot_of};
@@ -16,6 +16,13 @@ use marple_base::Seq;
 use query_lang::typing::{FoldView, NewColumns, Origin, Picked, StreamColumn};
 use query_lang::{Column, FaultKind, Key, Limit, Name, QueryError, Span};
 use std::alloc::{AllocError, Global};
+
+// Has a column, a hidden state or a new column before it this name?
+fn is_taken(columns: &[u32], hidden: &[u32], made: &[u32], id: u32) -> bool
+    ensures { result ≡ (is_among id columns.now || (is_among id hidden.now || is_among id made.now)) }
+{
+    has_name(columns, id) || has_name(hidden, id) || has_name(made, id)
+}
 
 /// The columns that a `map` adds to these columns, beside these hidden states.
 pub fn check_columns(
@@ -34,10 +41,7 @@ pub fn check_columns(
     };
     for column in new {
         let name = column.name;
-        let is_column = has_name(columns, name.id);
-        let is_hidden = has_name(hidden, name.id);
-        let is_new = has_name(made.names.as_slice(), name.id);
-        if is_column || is_hidden || is_new {
+        if is_taken(columns, hidden, made.names.as_slice(), name.id) {
             return Err(refused(FaultKind::NameTaken, name.span));
         }
         let value = check_word(alloc, columns, hidden, &column.value)?;

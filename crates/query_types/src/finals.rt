@@ -15,7 +15,7 @@ use crate::answer::refused;
 use crate::columns::{check_arguments, check_columns, check_keys};
 use crate::copies::{copy_words, names_of_both};
 use crate::exprs::{check_condition, find_slot};
-use crate::streams::key_count;
+use crate::groupbys::key_count;
 use crate::tables::{number_of_table, others_clash, others_of, same_keys};
 use crate::views::{check_binding, find_quiet_fold, find_table};
 use marple_base::Seq;
@@ -52,7 +52,7 @@ fn made_filter(
     })
 }
 
-#[tactic(auto, using(crate::proofs::FitLaws::table_narrow, crate::proofs::FitLaws::table_early))]
+#[tactic(auto, using(crate::proofs::NamedFits::table_narrow, crate::proofs::NamedFits::table_early))]
 fn check_filter(
     alloc: Global,
     groups: u16,
@@ -112,7 +112,7 @@ fn made_map(
     })
 }
 
-#[tactic(auto, using(crate::proofs::FitLaws::table_narrow, crate::proofs::FitLaws::table_early))]
+#[tactic(auto, using(crate::proofs::NamedFits::table_narrow, crate::proofs::NamedFits::table_early))]
 fn check_map(
     alloc: Global,
     groups: u16,
@@ -203,7 +203,7 @@ fn made_group(
     })
 }
 
-#[tactic(auto, using(crate::proofs::FitLaws::table_narrow, crate::proofs::FitLaws::table_early))]
+#[tactic(auto, using(crate::proofs::NamedFits::table_narrow, crate::proofs::NamedFits::table_early))]
 fn check_group(
     alloc: Global,
     given: &Given,
@@ -245,7 +245,7 @@ fn made_join(
     })
 }
 
-#[tactic(auto, using(crate::proofs::FitLaws::table_narrow, crate::proofs::FitLaws::table_early))]
+#[tactic(auto, using(crate::proofs::NamedFits::table_narrow, crate::proofs::NamedFits::table_early))]
 fn check_join(
     alloc: Global,
     groups: u16,
@@ -297,7 +297,7 @@ fn made_top(
     })
 }
 
-#[tactic(auto, using(crate::proofs::FitLaws::table_narrow, crate::proofs::FitLaws::table_early))]
+#[tactic(auto, using(crate::proofs::NamedFits::table_narrow, crate::proofs::NamedFits::table_early))]
 fn check_top(
     alloc: Global,
     groups: u16,

@@ -9,6 +9,7 @@ mod copies;
 mod exprs;
 mod finals;
 mod folds;
+mod groupbys;
 mod items;
 pub mod laws;
 mod names;

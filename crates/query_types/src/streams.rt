@@ -1,31 +1,29 @@
 //! Streams.
 
-ghost use Rattle.std.specs.Prelude.{◌≡◌, ◌+◌, ◌<◌, ◌≤◌, ◌^◌, ◌++◌, Ok, None, IfOk, OnOk, length, map, is_some};
+ghost use Rattle.std.specs.Prelude.{◌≡◌, ◌+◌, ◌<◌, ◌^◌, ◌++◌, Ok, None, IfOk, OnOk, length, map, is_some};
 ghost use Rattle.std.specs.Prelude.{if◌then◌else◌};
 ghost use Rattle.query_lang.specs.TypedExprs.{condition_of};
-ghost use Rattle.query_lang.specs.TypedStreams.{column_names, new_columns, no_new_columns, others_from, keys_checked, arguments_of};
-ghost use Rattle.query_lang.specs.TypedStreams.{filtered, next_stream, mapped, zipped, grouped, made_stream, with_stream, stream_checked};
+ghost use Rattle.query_lang.specs.TypedStreams.{column_names, new_columns, no_new_columns, others_from};
+ghost use Rattle.query_lang.specs.TypedStreams.{filtered, next_stream, mapped, zipped, made_stream, with_stream, stream_checked};
 ghost use Rattle.query_lang.specs.Answers.{Answers};
 ghost use Rattle.query_types.specs.Answers.{Leaves};
 ghost use Rattle.query_types.specs.Fitting.{Fits, IsNarrow};
-ghost use Rattle.query_types.specs.MadeStreams.{with_columns, with_slots, with_keys};
+ghost use Rattle.query_types.specs.MadeStreams.{with_columns, with_slots};
 ghost use Rattle.query_types.specs.Numbers.{greatest_number, columns_number, stream_number};
 
 use crate::answer::refused;
-use crate::columns::{
-    check_arguments, check_columns, check_keys, columns_clash, names_of, other_slots, pick_columns,
-};
+use crate::columns::{check_columns, columns_clash, names_of, other_slots, pick_columns};
 use crate::copies::{copy_words, names_of_both};
 use crate::exprs::check_condition;
-use crate::views::{check_binding, find_fold, find_stream};
+use crate::groupbys::check_group;
+use crate::views::{check_binding, find_stream};
 use marple_base::Seq;
 use query_lang::typing::{
-    Earlier, FoldView, Known, MadeStream, Meaning, NewColumns, Origin, Picked, StreamColumn,
-    StreamView, TableView,
+    Earlier, Known, MadeStream, Meaning, NewColumns, Origin, StreamColumn, StreamView, TableView,
 };
 use query_lang::{
-    Column, Expr, FaultKind, Key, Limit, Name, PrintOf, QueryError, StreamDef, StreamOp, TypedExpr,
-    TypedOp, TypedStream,
+    Column, Expr, FaultKind, Limit, Name, QueryError, StreamDef, StreamOp, TypedExpr, TypedOp,
+    TypedStream,
 };
 use std::alloc::{AllocError, Global};
 
@@ -81,7 +79,7 @@ fn made_filter(
     })
 }
 
-#[tactic(auto, using(crate::proofs::FitLaws::stream_narrow))]
+#[tactic(auto, using(crate::proofs::NamedFits::stream_narrow))]
 fn check_filter(
     alloc: Global,
     earlier: &Earlier,
@@ -157,7 +155,7 @@ fn next_number(earlier: &Earlier) -> u16
     (count + 1) as u16
 }
 
-#[tactic(auto, using(crate::proofs::FitLaws::stream_narrow))]
+#[tactic(auto, using(crate::proofs::NamedFits::stream_narrow))]
 fn check_map(
     alloc: Global,
     earlier: &Earlier,
@@ -208,7 +206,7 @@ fn made_zip(
     })
 }
 
-#[tactic(auto, using(crate::proofs::FitLaws::stream_narrow))]
+#[tactic(auto, using(crate::proofs::NamedFits::stream_narrow))]
 fn check_zip(
     alloc: Global,
     earlier: &Earlier,
@@ -225,122 +223,6 @@ fn check_zip(
     }
     let slots = slots_of_right(alloc, left, right)?;
     made_zip(alloc, left, right, slots)
-}
-
-// The keys of a groupby over a stream.
-fn stream_keys(
-    alloc: Global,
-    five: &[u32],
-    source: &StreamView,
-    keys: &[Key],
-) -> Result<Picked, QueryError>
-    requires { IsNarrow (column_names source.now.columns) }
-    ensures given { Answers result (keys_checked five.now (column_names source.now.columns) source.now.hidden keys.now) }
-    ensures most { IfOk result (λ picked. length picked.names ≤ 8) }
-{
-    let names = names_of(alloc, source.columns.as_slice())?;
-    check_keys(
-        alloc,
-        five,
-        names.as_slice(),
-        source.hidden.as_slice(),
-        keys,
-    )
-}
-
-// The arguments of a groupby's fold over a stream.
-fn stream_arguments(
-    alloc: Global,
-    source: &StreamView,
-    picked: &Picked,
-    f: &FoldView,
-    name: Name,
-) -> Result<Seq<u16>, QueryError>
-    requires { IsNarrow (column_names source.now.columns) }
-    ensures { Answers result (arguments_of (column_names source.now.columns) source.now.hidden picked.now.names f.now name.span) }
-{
-    let names = names_of(alloc, source.columns.as_slice())?;
-    check_arguments(
-        alloc,
-        names.as_slice(),
-        source.hidden.as_slice(),
-        picked.names.as_slice(),
-        f,
-        name.span,
-    )
-}
-
-/// How many keys there are.
-pub fn key_count(picked: &Picked) -> u8
-    requires { length picked.now.names ≤ 8 }
-    ensures { result ≡ length picked.now.names }
-{
-    picked.names.len() as u8
-}
-
-// A groupby's table: the keys, and then the fold's variables.
-fn made_table(
-    alloc: Global,
-    number: u16,
-    picked: &Picked,
-    f: &FoldView,
-) -> Result<TableView, AllocError>
-    requires { length picked.now.names ≤ 8 }
-    ensures { IfOk result (λ table. table ≡ record {
-      place = PrintOf.Group number;
-      columns = picked.now.names ++ f.now.states;
-      keys = length picked.now.names;
-    }) }
-{
-    let keys = key_count(picked);
-    let columns = names_of_both(alloc, picked.names.as_slice(), f.states.as_slice())?;
-    Ok(TableView {
-        place: PrintOf::Group(number),
-        columns,
-        keys,
-    })
-}
-
-// A groupby: its key columns, and the variables of its fold as hidden states.
-fn made_group(
-    alloc: Global,
-    number: u16,
-    source: &StreamView,
-    picked: Picked,
-    f: &FoldView,
-    arguments: Seq<u16>,
-) -> Result<MadeStream, QueryError>
-    requires { length picked.names ≤ 8 }
-    ensures { Answers result (Ok (with_keys number source.now picked f.now arguments)) }
-{
-    let table = made_table(alloc, number, &picked, f)?;
-    let columns = pick_columns(alloc, source.columns.as_slice(), picked.slots.as_slice())?;
-    let hidden = copy_words(alloc, f.states.as_slice())?;
-    Ok(MadeStream {
-        op: TypedOp::Group(source.number, picked.slots, f.number, arguments),
-        columns,
-        hidden,
-        table: Some(table),
-    })
-}
-
-#[tactic(auto, using(crate::proofs::FitLaws::stream_narrow))]
-fn check_group(
-    alloc: Global,
-    five: &[u32],
-    earlier: &Earlier,
-    input: Name,
-    keys: &[Key],
-    fold_name: Name,
-) -> Result<MadeStream, QueryError>
-    requires { Fits earlier.now }
-    ensures { Answers result (grouped five.now earlier.now input keys.now fold_name) }
-{
-    let source = find_stream(earlier, input)?;
-    let picked = stream_keys(alloc, five, source, keys)?;
-    let f = find_fold(earlier, fold_name)?;
-    let arguments = stream_arguments(alloc, source, &picked, f, fold_name)?;
-    made_group(alloc, earlier.groups, source, picked, f, arguments)
 }
 
 // What the operator of the stream with this name makes. There are at most 8 groupbys.

@@ -1,11 +1,9 @@
 -- The stages of operations that are made are the depths of the query, and each reads what is before it.
-use Rattle.std.proofs.Common.{◌≡◌, ℕ, zero, suc, ◌+◌, ◌-◌, ◌<◌, max, min, true, List, [], ◌∷◌, ◌++◌, length, Some, None, Option, refl, sym}
+use Rattle.std.proofs.Common.{◌≡◌, ℕ, ◌+◌, ◌-◌, max, List, [], ◌∷◌, ◌++◌, length, Some, None, Option, sym}
 use Rattle.std.proofs.Common.{ap, subst, ◌∙◌, inl, inr, arith, append_assoc, append-nil}
-use Rattle.std.specs.Prelude.{map, fold, flat_map, replicate, nat_lt, slice_get, slice_index, option_map, unwrap_or, if◌then◌else◌}
+use Rattle.std.specs.Prelude.{map, fold, flat_map, replicate, slice_get}
 use Rattle.std.proofs.lemmas.Bool.{cases_eq, cases_lt}
-use Rattle.std.proofs.lemmas.Bool.Decides.{nat_tests}
-use Rattle.std.proofs.lemmas.List.{length_push, map-append}
-use Rattle.std.proofs.lemmas.Option.{slice_get_within, slice_get_cases}
+use Rattle.std.proofs.lemmas.List.{length_push}
 use Rattle.query_lang.specs.declared.fold.Op.TheVariants.{Both}
 use Rattle.query_lang.specs.declared.fold.TypedExpr.{TypedExpr}
 use Rattle.query_lang.specs.declared.fold.TypedFold.{TypedFold}
@@ -16,179 +14,18 @@ use Rattle.query_lang.specs.declared.typed.TypedStream.{TypedStream}
 use Rattle.query_lang.specs.Streams.{values_at}
 use Rattle.query_lang.specs.Terms.{Term, Literal, Read, Negation, Operation, term_of}
 use Rattle.stage_plan.specs.declared.op.Operand.{Operand}
-use Rattle.stage_plan.specs.declared.op.Operand.TheVariants.{Register, Number}
-use Rattle.stage_plan.specs.declared.op.Operation as operation
+use Rattle.stage_plan.specs.declared.op.Operand.TheVariants.{Number}
 use Rattle.stage_plan.specs.declared.op.Operation.TheVariants.{Not, Two}
 use Rattle.stage_plan.specs.declared.op.PlanOp.{PlanOp}
 use Rattle.stage_plan.specs.declared.wires.StreamWires.{StreamWires}
-use Rattle.stage_plan.specs.Registers.{operand_stage}
 use Rattle.stage_plan.specs.Depths.{term_depth, term_depths, StreamDepths, packet_depths, depths_at, joined_depths, emit_depths}
 use Rattle.stage_plan.specs.Depths.{group_depths, depths_made, all_depths}
-use Rattle.stage_plan.specs.Making.{stage_after, compiled, compiled_all, op_on, operand_at, wires_at, conditioned, emit_columns, emitted}
+use Rattle.stage_plan.specs.Making.{compiled, compiled_all, op_on, operand_at, wires_at, conditioned, emit_columns, emitted}
 use Rattle.stage_plan.specs.Making.{grouped, made_by, all_made}
-use Rattle.stage_plan.specs.Sound.{IsWithin}
-use Rattle.stage_plan.proofs.Lists.{push_cases, slice_get-last}
-use Rattle.stage_plan.proofs.Runs.{within_more, stage_of_register}
 use Rattle.stage_plan.proofs.StreamRows.{at_earlier, at_last, at_past}
-use Rattle.stage_plan.proofs.Values.{Extends, same_ops, and_more, one_more}
-
--- an operand that is there keeps its stage while operations are added
-pub same_stage : (ops more : List PlanOp) (o : Operand) → Extends ops more → IsWithin (14 + length ops) o
-    → operand_stage more o ≡ operand_stage ops o
-same_stage ops more (Number n) e w = refl
-same_stage ops more (Register r) e w =
-    elim (cases_lt r 14) [
-      | inl field ↦
-          let early : nat_lt r 14 ≡ true = grind (arith, nat_tests) in
-          ap (λ b. if b then 0 else unwrap_or (option_map (λ (x : PlanOp). x.stage) (slice_get more (r - 14))) 0) early
-          ∙ ap (λ b. if b then 0 else unwrap_or (option_map (λ (x : PlanOp). x.stage) (slice_get ops (r - 14))) 0) (sym early)
-      | inr later ↦
-          let j : ℕ = r - 14 in
-          let at : r ≡ 14 + j = omega arith in
-          let lt : j < length ops = omega arith in
-          elim ((slice_get_cases ops j).1) [
-            | inl found ↦
-                ap (λ n. operand_stage more (Register n)) at ∙ stage_of_register more j found.0 (e.keeps j found.0 found.2)
-                ∙ sym (stage_of_register ops j found.0 found.2) ∙ ap (λ n. operand_stage ops (Register n)) (sym at)
-            | inr past ↦ absurd (omega arith)
-          ]
-    ]
-
--- an operand that is there, whose stage is this depth, and 65 for all above 64
-pub record IsAt (ops : List PlanOp) (o : Operand) (depth : ℕ) : Type 0 where
-  pub within : IsWithin (14 + length ops) o
-  pub stage : operand_stage ops o ≡ min 65 depth
-
-pub is_more : (ops more : List PlanOp) (o : Operand) (depth : ℕ) → Extends ops more → IsAt ops o depth → IsAt more o depth
-is_more ops more o depth e h = record {
-  within = (let g = e.grows in within_more (14 + length ops) (14 + length more) o (omega arith) h.within);
-  stage = same_stage ops more o e h.within ∙ h.stage;
-}
-
-pub number_at : (ops : List PlanOp) (n : ℕ) → IsAt ops (Number n) 0
-number_at ops n = record { within = tt; stage = refl }
-
-abbrev pub AreAt : List PlanOp → List Operand → List ℕ → Type 0
-AreAt ops [] [] = Unit {0}
-AreAt ops (o ∷ columns) (d ∷ depths) = IsAt ops o d × AreAt ops columns depths
-AreAt ops _ _ = ⊥
-
-pub are_more : (ops more : List PlanOp) (columns : List Operand) (depths : List ℕ) → Extends ops more → AreAt ops columns depths
-    → AreAt more columns depths
-are_more ops more [] [] e h = tt
-are_more ops more (o ∷ columns) (d ∷ depths) e h = (is_more ops more o d e h.0, are_more ops more columns depths e h.1)
-are_more ops more [] (d ∷ depths) e h = absurd h
-are_more ops more (o ∷ columns) [] e h = absurd h
-
-pub column_is : (ops : List PlanOp) (columns : List Operand) (depths : List ℕ) (slot : ℕ) → AreAt ops columns depths
-    → IsAt ops (operand_at columns slot) (slice_index depths slot)
-column_is ops [] [] slot h = number_at ops 0
-column_is ops (o ∷ columns) (d ∷ depths) zero h = h.0
-column_is ops (o ∷ columns) (d ∷ depths) (suc slot) h = column_is ops columns depths slot h.1
-column_is ops [] (d ∷ depths) slot h = absurd h
-column_is ops (o ∷ columns) [] slot h = absurd h
-
-are_picked : (ops : List PlanOp) (columns : List Operand) (depths : List ℕ) (slots : List ℕ) → AreAt ops columns depths
-    → AreAt ops (map (operand_at columns) slots) (values_at depths slots)
-are_picked ops columns depths [] h = tt
-are_picked ops columns depths (slot ∷ slots) h = (column_is ops columns depths slot h, are_picked ops columns depths slots h)
-
-are_append : (ops : List PlanOp) (xs ys : List Operand) (ds es : List ℕ) → AreAt ops xs ds → AreAt ops ys es
-    → AreAt ops (xs ++ ys) (ds ++ es)
-are_append ops [] ys [] es h k = k
-are_append ops (x ∷ xs) ys (d ∷ ds) es h k = (h.0, are_append ops xs ys ds es h.1 k)
-are_append ops [] ys (d ∷ ds) es h k = absurd h
-are_append ops (x ∷ xs) ys [] es h k = absurd h
-
-are_numbers : (ops : List PlanOp) (initial : List ℕ) → AreAt ops (map Number initial) (replicate (length initial) 0)
-are_numbers ops [] = tt
-are_numbers ops (n ∷ initial) = (number_at ops n, are_numbers ops initial)
-
--- operation number i reads what is before it
-pub record IsMade (ops : List PlanOp) (i : ℕ) (one : PlanOp) : Type 0 where
-  pub left : IsWithin (14 + i) one.left
-  pub right : IsWithin (14 + i) one.right
-  pub stage : one.stage ≡ stage_after (operand_stage ops one.left) (operand_stage ops one.right)
-
-pub record AreMade (ops : List PlanOp) : Type 0 where
-  pub each : (i : ℕ) (one : PlanOp) → slice_get ops i ≡ Some one → IsMade ops i one
-
-made_more : (ops : List PlanOp) (op : operation.Operation) (left right : Operand) → AreMade ops → IsWithin (14 + length ops) left
-    → IsWithin (14 + length ops) right →
-    AreMade (ops ++ op_on ops op left right ∷ [])
-made_more ops op left right made l r = record {
-  each = λ i one found. elim (push_cases ops new i one found) [
-    | inl old ↦
-        let h = made.each i one old in
-        let lt : i < length ops = slice_get_within ops i one old in
-        record {
-          left = h.left;
-          right = h.right;
-          stage = h.stage
-              ∙ ap (λ s. stage_after s (operand_stage ops one.right)) (sym
-              (same_stage ops (ops ++ new ∷ []) one.left (one_more ops new)
-              (within_more (14 + i) (14 + length ops) one.left (omega arith) h.left)))
-              ∙ ap (λ s. stage_after (operand_stage (ops ++ new ∷ []) one.left) s)
-              (sym (same_stage ops (ops ++ new ∷ []) one.right (one_more ops new)
-              (within_more (14 + i) (14 + length ops) one.right (omega arith) h.right)));
-        }
-    | inr last ↦ subst (IsMade (ops ++ new ∷ []) i) last.1 (subst (λ k. IsMade (ops ++ new ∷ []) k new) (sym last.0) (record {
-      left = l;
-      right = r;
-      stage =
-          ap (λ s. stage_after s (operand_stage ops right)) (sym (same_stage ops (ops ++ new ∷ []) left (one_more ops new) l))
-          ∙ ap (λ s. stage_after (operand_stage (ops ++ new ∷ []) left) s)
-          (sym (same_stage ops (ops ++ new ∷ []) right (one_more ops new) r));
-    }))
-  ];
-}
-  where
-    new : PlanOp
-    new = op_on ops op left right
-
-abbrev pub capped : List ℕ → List ℕ
-capped depths = map (λ depth. min 65 depth) depths
-
-abbrev pub stages : List PlanOp → List ℕ
-stages ops = map (λ one. one.stage) ops
-
--- what operations were added, where their depths are these and an operand has this depth
-pub record Added (ops more : List PlanOp) (depths : List ℕ) : Type 0 where
-  pub extends : Extends ops more
-  pub made : AreMade more
-  pub stages_are : stages more ≡ stages ops ++ capped depths
-
-added_none : (ops : List PlanOp) → AreMade ops → Added ops ops []
-added_none ops made = record { extends = same_ops ops; made = made; stages_are = sym (append-nil (stages ops)) }
-
-added_then : (a b c : List PlanOp) (ds es : List ℕ) → Added a b ds → Added b c es → Added a c (ds ++ es)
-added_then a b c ds es p q = record {
-  extends = and_more a b c p.extends q.extends;
-  made = q.made;
-  stages_are = q.stages_are ∙ ap (λ l. l ++ capped es) p.stages_are ∙ append_assoc (stages a) (capped ds) (capped es)
-      ∙ ap (λ l. stages a ++ l) (sym (map-append (λ depth. min 65 depth) ds es));
-}
-
-added_one : (ops : List PlanOp) (op : operation.Operation) (left right : Operand) (d e : ℕ) → AreMade ops → IsAt ops left d
-    → IsAt ops right e → Added ops (ops ++ op_on ops op left right ∷ []) ((1 + max d e) ∷ [])
-added_one ops op left right d e made l r =
-    let stage : stage_after (operand_stage ops left) (operand_stage ops right) ≡ min 65 (1 + max d e) =
-    (let a = l.stage in let b = r.stage in omega arith) in
-    record {
-      extends = one_more ops (op_on ops op left right);
-      made = made_more ops op left right made l.within r.within;
-      stages_are = map-append (λ (one : PlanOp). one.stage) ops (op_on ops op left right ∷ []) ∙ ap (λ s. stages ops ++ s ∷ []) stage;
-    }
-
-last_at : (ops : List PlanOp) (op : operation.Operation) (left right : Operand) (d e : ℕ) → IsAt ops left d → IsAt ops right e →
-    IsAt (ops ++ op_on ops op left right ∷ []) (Register (14 + length ops)) (1 + max d e)
-last_at ops op left right d e l r = record {
-  within = (let n = length_push ops (op_on ops op left right) in omega arith);
-  stage =
-      stage_of_register (ops ++ op_on ops op left right ∷ []) (length ops) (op_on ops op left right)
-      (slice_get-last ops (op_on ops op left right))
-      ∙ (let a = l.stage in let b = r.stage in omega arith);
-}
+use Rattle.stage_plan.proofs.Extending.{Extends}
+use Rattle.stage_plan.proofs.Depths.{IsAt, is_more, number_at, AreAt, are_more, column_is, are_picked, are_append, are_numbers, AreMade}
+use Rattle.stage_plan.proofs.Depths.{Added, added_none, added_then, added_one, last_at}
 
 -- an expression
 pub record Compiles (ops : List PlanOp) (columns : List Operand) (depths : List ℕ) (e : Term) : Type 0 where

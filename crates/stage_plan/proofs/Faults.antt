@@ -19,7 +19,8 @@ use Rattle.stage_plan.specs.declared.wires.StreamWires.{StreamWires}
 use Rattle.stage_plan.specs.Depths.{StreamDepths, packet_depths, depths_at, depths_made, query_depths, is_too_deep, first_too_deep}
 use Rattle.stage_plan.specs.Depths.{stage_fault}
 use Rattle.stage_plan.specs.Making.{wires_at, packet_wires, made_by, all_made, are_deep, made_fault}
-use Rattle.stage_plan.proofs.Deep.{IsAt, number_at, AreMade, capped, stages, Added, WiresAt, Makes, AllAt, op_makes, depths_after}
+use Rattle.stage_plan.proofs.Depths.{IsAt, number_at, AreMade, capped, stages, Added}
+use Rattle.stage_plan.proofs.Deep.{WiresAt, Makes, AllAt, op_makes, depths_after}
 use Rattle.stage_plan.proofs.Deep.{depths_are, all_more, AllMakes, all_make}
 
 -- where an operation is too deep, some depth is
@@ -107,7 +108,7 @@ field_at k lt =
     }
 
 -- the packets' operands
-packets_at : (j : ℕ) → WiresAt [] (wires_at (packet_wires ∷ []) j) (depths_at (packet_depths ∷ []) j)
+pub packets_at : (j : ℕ) → WiresAt [] (wires_at (packet_wires ∷ []) j) (depths_at (packet_depths ∷ []) j)
 packets_at zero = record {
   present = number_at [] 1;
   columns = (
@@ -150,7 +151,7 @@ packets_at zero = record {
 }
 packets_at (suc j) = record { present = number_at [] 0; columns = tt }
 
-made_none : AreMade []
+pub made_none : AreMade []
 made_none = record { each = λ i one found. cc }
 
 capped_none : (depths : List ℕ) → list_any (λ s. nat_lt 64 s) (capped depths) ≡ false → capped depths ≡ depths

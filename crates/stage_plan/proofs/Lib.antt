@@ -6,7 +6,9 @@ pub mod Wirings
 pub mod Groupings
 pub mod Markings
 pub mod StreamRows
+pub mod Extending
 pub mod Values
+pub mod Depths
 pub mod Deep
 pub mod Faults
 pub mod Sorted

@@ -32,7 +32,7 @@ use Rattle.stage_plan.specs.Ordering.{IsStaged, order_of, ArePlaced, moved, move
 use Rattle.stage_plan.specs.Planned.{wiring_at, taken, shape_of, fold_at, IsPlanOf}
 use Rattle.stage_plan.specs.Shape.{PlanShape, GroupShape, greatest, up_to, sizes_of, group_shape, query_groups, query_shape}
 use Rattle.stage_plan.specs.Sound.{PlanParts, IsWithin, IsSoundOp, AreSoundOps, IsSoundGroup, IsSoundPlan}
-use Rattle.stage_plan.proofs.Deep.{IsMade, column_is, stages}
+use Rattle.stage_plan.proofs.Depths.{IsMade, column_is, stages}
 use Rattle.stage_plan.proofs.Faults.{QueryMade}
 use Rattle.stage_plan.proofs.Runs.{within_more, stage_below, Filled, after_filled}
 use Rattle.stage_plan.proofs.Sorted.{Staged, whole_sum}

@@ -8,7 +8,7 @@ use Rattle.stage_plan.specs.Registers.{stages_of}
 use Rattle.stage_plan.specs.Planned.{shape_of, plan_bound}
 use Rattle.stage_plan.specs.Shape.{up_to, sizes_of, counted, line, stage_lines, group_line, group_shape, plan_text_of}
 use Rattle.stage_plan.specs.Sound.{PlanParts}
-use Rattle.stage_plan.proofs.Deep.{stages}
+use Rattle.stage_plan.proofs.Depths.{stages}
 use Rattle.stage_plan.proofs.PlanParts.{sum_map}
 
 up_to_long : (n : ℕ) → length (up_to n) ≡ n

@@ -1,8 +1,8 @@
 use Rattle.std.proofs.Common.{[]}
 use Rattle.command_answers.specs.Piece.{piece_text}
-use Rattle.command_answers.specs.declared.complaint.Piece.TheVariants.{Text}
+use Rattle.command_answers.specs.declared.pieces.Piece.TheVariants.{Text}
 use Rattle.trace_drive.proofs.Pieces.{TakesFront-piece}
-use Rattle.command_answers.proofs.complaint.write_pieces.Goals as goal
+use Rattle.command_answers.proofs.pieces.write_pieces.Goals as goal
 
 pub returns-in_err-write-clause-front : goal.returns-in_err-write-clause-front
 returns-in_err-write-clause-front g c =

@@ -2,7 +2,7 @@ use Rattle.std.proofs.Common.{◌≤◌, take}
 use Rattle.std.specs.List.{flat_map}
 use Rattle.std.specs.Io.KnownBytes.{Appends}
 use Rattle.command_answers.specs.Piece.{piece_text}
-use Rattle.command_answers.proofs.complaint.write_pieces.Given as goal
+use Rattle.command_answers.proofs.pieces.write_pieces.Given as goal
 
 -- the pieces so far were taken, and the count of faults has not fallen
 abbrev pub invariant-loop-piece : goal.invariant-loop-piece

@@ -7,47 +7,34 @@ use Rattle.plan_file.specs.Trees.{begins_statement}
 use Rattle.plan_file.proofs.TreeFacts.{tail_same, choice_front, IsLeft, left_last, left_ahead, left_more}
 use Rattle.plan_file.proofs.tree.+statements.Goals as goal
 
-pub choice-returns-in-Some-after_brace-4-clause-found : goal.choice-returns-in-Some-after_brace-4-clause-found
-choice-returns-in-Some-after_brace-4-clause-found t c t' a b rest vc va vb is =
-    let st = c.args.states in
-    let wa = written_block st a in
-    let wb = written_block st b in
-    let e1 = is ∙ choice_front (written st t') wa wb rest in
-    let h1 = rw c.in-Some.is at (c.in_ok-found.ensures.found t' (word.Open ∷ (wa ++ (word.Close ∷ word.Open ∷ (wb ++ word.Close ∷ rest))))
-    vc e1) in
-    let e2 = tail_same word.Open word.Open c.in-Some-after_brace.rest.now (wa ++ (word.Close ∷ word.Open ∷ (wb ++ word.Close ∷ rest)))
-    (sym c.in-Some-after_brace.ensures ∙ h1.1) in
-    let h2 = rw c.in-Some-2.is at (c.in_ok-found-2.ensures.found a (word.Close ∷ word.Open ∷ (wb ++ word.Close ∷ rest)) tt va e2) in
-    let e3 = tail_same word.Close word.Close c.in-Some-after_brace-2.rest.now (word.Open ∷ (wb ++ word.Close ∷ rest))
-    (sym c.in-Some-after_brace-2.ensures ∙ h2.1) in
-    let e4 = tail_same word.Open word.Open c.in-Some-after_brace-3.rest.now (wb ++ word.Close ∷ rest)
-    (sym c.in-Some-after_brace-3.ensures ∙ e3) in
-    let h3 = rw c.in-Some-3.is at (c.in_ok-found-3.ensures.found b (word.Close ∷ rest) tt vb e4) in
-    let e5 = tail_same word.Close word.Close c.in-Some-after_brace-4.rest.now rest (sym c.in-Some-after_brace-4.ensures ∙ h3.1) in (
-      block_if c.in-Some.found.0 c.in-Some-2.found.0 c.in-Some-3.found.0
-          ∙ ap (λ x. Fork x (block_of c.in-Some-2.found.0) (block_of c.in-Some-3.found.0) End) h1.0
-          ∙ ap (λ x. Fork t' x (block_of c.in-Some-3.found.0) End) h2.0
-          ∙ ap (λ x. Fork t' a x End) h3.0,
-      e5,
-    )
+pub braced-returns-in-Some-after_brace-clause-found : goal.braced-returns-in-Some-after_brace-clause-found
+braced-returns-in-Some-after_brace-clause-found t c b rest valid is =
+    let e = tail_same word.Open word.Open c.in-Some.inside.now (written_block c.args.states b ++ word.Close ∷ rest)
+    (sym c.in-Some.ensures ∙ is) in
+    let h = rw c.in-Some-2.is at (c.in_ok-found.ensures.found b (word.Close ∷ rest) tt valid e) in
+    (h.0, tail_same word.Close word.Close c.in-Some-after_brace.rest.now rest (sym c.in-Some-after_brace.ensures ∙ h.1))
 
-pub choice-returns-in-None-after_brace-4-clause-found : goal.choice-returns-in-None-after_brace-4-clause-found
-choice-returns-in-None-after_brace-4-clause-found t c t' a b rest vc va vb is =
-    let st = c.args.states in
-    let wa = written_block st a in
-    let wb = written_block st b in
-    let e1 = is ∙ choice_front (written st t') wa wb rest in
-    let h1 = rw c.in-Some.is at (c.in_ok-found.ensures.found t' (word.Open ∷ (wa ++ (word.Close ∷ word.Open ∷ (wb ++ word.Close ∷ rest))))
-    vc e1) in
-    let e2 = tail_same word.Open word.Open c.in-Some-after_brace.rest.now (wa ++ (word.Close ∷ word.Open ∷ (wb ++ word.Close ∷ rest)))
-    (sym c.in-Some-after_brace.ensures ∙ h1.1) in
-    let h2 = rw c.in-Some-2.is at (c.in_ok-found-2.ensures.found a (word.Close ∷ word.Open ∷ (wb ++ word.Close ∷ rest)) tt va e2) in
-    let e3 = tail_same word.Close word.Close c.in-Some-after_brace-2.rest.now (word.Open ∷ (wb ++ word.Close ∷ rest))
-    (sym c.in-Some-after_brace-2.ensures ∙ h2.1) in
-    let e4 = tail_same word.Open word.Open c.in-Some-after_brace-3.rest.now (wb ++ word.Close ∷ rest)
-    (sym c.in-Some-after_brace-3.ensures ∙ e3) in
-    let h3 = rw c.in-Some-3.is at (c.in_ok-found-3.ensures.found b (word.Close ∷ rest) tt vb e4) in
-    c.in-None-after_brace-4.ensures rest h3.1
+pub braced-returns-in-None-after_brace-clause-found : goal.braced-returns-in-None-after_brace-clause-found
+braced-returns-in-None-after_brace-clause-found t c b rest valid is =
+    let e = tail_same word.Open word.Open c.in-Some.inside.now (written_block c.args.states b ++ word.Close ∷ rest)
+    (sym c.in-Some.ensures ∙ is) in
+    let h = rw c.in-Some-2.is at (c.in_ok-found.ensures.found b (word.Close ∷ rest) tt valid e) in
+    c.in-None-after_brace.ensures rest h.1
+
+pub choice-returns-in-Some-3-clause-found : goal.choice-returns-in-Some-3-clause-found
+choice-returns-in-Some-3-clause-found t c t' a b rest vc va vb is =
+    let wb = written_block c.args.states b in
+    let after = word.Open ∷ (wb ++ word.Close ∷ rest) in
+    let h1 = rw c.in-Some.is at (c.in_ok-found.ensures.found t' (word.Open ∷ (written_block c.args.states a ++ word.Close ∷ after)) vc
+    (is ∙ choice_front (written c.args.states t') (written_block c.args.states a) wb rest)) in
+    let h2 = rw c.in-Some-2.is at (c.in_ok-found-2.ensures.found a after va h1.1) in
+    let h3 = rw c.in-Some-3.is at (c.in_ok-else_block.ensures.found b rest vb h2.1) in (
+      block_if c.in-Some.found.0 c.in-Some-2.found.0 c.in-Some-3.else_block
+          ∙ ap (λ x. Fork x (block_of c.in-Some-2.found.0) (block_of c.in-Some-3.else_block) End) h1.0
+          ∙ ap (λ x. Fork t' x (block_of c.in-Some-3.else_block) End) h2.0
+          ∙ ap (λ x. Fork t' a x End) h3.0,
+      h3.1,
+    )
 
 pub statements-statements-preserved : goal.statements-statements-preserved
 statements-statements-preserved t c = record {

@@ -7,6 +7,9 @@ use Rattle.plan_file.specs.Trees.{Closes}
 use Rattle.plan_file.proofs.TreeFacts.{IsLeft}
 use Rattle.plan_file.proofs.tree.+statements.Given as goal
 
+abbrev pub decreases-braced : goal.decreases-braced
+decreases-braced l = 2 * length l.words.now
+
 abbrev pub decreases-choice : goal.decreases-choice
 decreases-choice l = 2 * length l.words.now
 
