@@ -2,7 +2,7 @@
 
 use crate::reach::{InReach, in_reach};
 use crate::read::{ReadText, place_of};
-use crate::values::{Members, bytes_value, put_span, word_value};
+use crate::values::{Members, bytes_value, push_made, put_span, word_value};
 use crate::words::{fault_word, limit_of, most_of, place_word};
 use query_facts::{RefusedFacts, spelling};
 use query_lang::{FaultKind, TokenKind};
@@ -33,7 +33,7 @@ fn token_text(alloc: Global, kind: TokenKind) -> Result<Value, AllocError> {
 fn token_value(alloc: Global, kind: TokenKind) -> Result<Value, AllocError> {
     let mut members = Members::new(alloc);
     members.put_text("kind", token_word(kind))?;
-    members.put("text", token_text(alloc, kind)?)?;
+    members.put_made("text", token_text(alloc, kind))?;
     Ok(members.into_object())
 }
 
@@ -41,7 +41,7 @@ fn token_value(alloc: Global, kind: TokenKind) -> Result<Value, AllocError> {
 fn expected_value(alloc: Global, kinds: &[TokenKind]) -> Result<Value, AllocError> {
     let mut list = Vec::new(alloc);
     for kind in kinds {
-        list.push(token_value(alloc, *kind)?)?;
+        push_made(&mut list, token_value(alloc, *kind))?;
     }
     Ok(Value::Array(list))
 }
@@ -65,7 +65,7 @@ fn word_of_place(found: Option<(usize, Place)>) -> Option<&'static str> {
 // Adds the kind of a fault, and its limit with its number if it is of one.
 fn put_kind(alloc: Global, kind: FaultKind, to: &mut Members) -> Result<(), AllocError> {
     to.put_text("kind", fault_word(kind))?;
-    to.put("limit", word_value(alloc, limit_of(kind))?)?;
+    to.put_made("limit", word_value(alloc, limit_of(kind)))?;
     to.put("most", Value::from(most_of(kind)))
 }
 
@@ -76,7 +76,7 @@ fn put_place(
     to: &mut Members,
 ) -> Result<(), AllocError> {
     to.put("item", Value::from(item_number(found)))?;
-    to.put("place", word_value(alloc, word_of_place(found))?)
+    to.put_made("place", word_value(alloc, word_of_place(found)))
 }
 
 // Adds the names in reach.
@@ -100,10 +100,7 @@ fn put_fault(
 ) -> Result<(), AllocError> {
     put_kind(alloc, facts.fault.kind, to)?;
     put_span(to, facts.fault.span)?;
-    to.put(
-        "expected",
-        expected_value(alloc, facts.expected.as_slice())?,
-    )?;
+    to.put_made("expected", expected_value(alloc, facts.expected.as_slice()))?;
     let found = place_of(text, facts.fault.span.start);
     put_place(alloc, found, to)?;
     put_reach(in_reach(alloc, text, &facts.reach, found)?, to)

@@ -1,7 +1,7 @@
 //! Folds, with what spoils them.
 
 use crate::read::{FoldCauses, ReadText};
-use crate::values::{Members, name_list, name_value, put_span, word_value};
+use crate::values::{Members, name_list, name_value, push_made, put_span, word_value};
 use crate::words::{algebra_word, class_word, form_word, op_word};
 use fold_class::{Algebra, Operators, Role};
 use marple_base::Seq;
@@ -56,13 +56,13 @@ fn put_rule(
     to: &mut Members,
 ) -> Result<(), AllocError> {
     to.put_text("rule", rule_word(rule, algebra))?;
-    to.put("operator", word_value(alloc, operator_of(rule))?)?;
-    to.put("keeps", word_value(alloc, kept_by(rule))?)
+    to.put_made("operator", word_value(alloc, operator_of(rule)))?;
+    to.put_made("keeps", word_value(alloc, kept_by(rule)))
 }
 
-// What a cause reads.
-fn read_value(alloc: Global, names: &Names, read: Option<Name>) -> Result<Value, AllocError> {
-    match read {
+// The text of a name, or null.
+fn maybe_name(alloc: Global, names: &Names, name: Option<Name>) -> Result<Value, AllocError> {
+    match name {
         Some(name) => name_value(alloc, names, name.id),
         None => Ok(Value::Null),
     }
@@ -80,17 +80,16 @@ fn cause_value(
     alloc: Global,
     names: &Names,
     tokens: &[Token],
-    variable: Value,
+    variable: Option<Name>,
     cause: Cause,
     algebra: Option<Algebra>,
 ) -> Result<Value, AllocError> {
     let mut members = Members::new(alloc);
-    members.put("variable", variable)?;
+    members.put_made("variable", maybe_name(alloc, names, variable))?;
     members.put("start", Value::from(cause.start))?;
-    let statement = statement_value(alloc, tokens, cause.start)?;
-    members.put("statement", statement)?;
+    members.put_made("statement", statement_value(alloc, tokens, cause.start))?;
     put_rule(alloc, cause.rule, algebra, &mut members)?;
-    members.put("reads", read_value(alloc, names, cause.reads)?)?;
+    members.put_made("reads", maybe_name(alloc, names, cause.reads))?;
     Ok(members.into_object())
 }
 
@@ -104,8 +103,11 @@ fn spoilt_value(
 ) -> Result<Value, AllocError> {
     let mut list = Vec::new(alloc);
     for one in all {
-        let variable = name_value(alloc, names, one.variable.id)?;
-        list.push(cause_value(alloc, names, tokens, variable, one.cause, algebra)?)?;
+        let variable = Some(one.variable);
+        push_made(
+            &mut list,
+            cause_value(alloc, names, tokens, variable, one.cause, algebra),
+        )?;
     }
     Ok(Value::Array(list))
 }
@@ -118,7 +120,7 @@ fn adding_value(
     adding: Option<Cause>,
 ) -> Result<Value, AllocError> {
     match adding {
-        Some(cause) => cause_value(alloc, names, tokens, Value::Null, cause, None),
+        Some(cause) => cause_value(alloc, names, tokens, None, cause, None),
         None => Ok(Value::Null),
     }
 }
@@ -132,14 +134,18 @@ fn put_causes(
     to: &mut Members,
 ) -> Result<(), AllocError> {
     let sums = all.sums.as_slice();
-    let sums = spoilt_value(alloc, names, tokens, sums, Some(Algebra::Sums))?;
-    to.put("sums", sums)?;
+    to.put_made(
+        "sums",
+        spoilt_value(alloc, names, tokens, sums, Some(Algebra::Sums)),
+    )?;
     let maxima = all.maxima.as_slice();
-    let maxima = spoilt_value(alloc, names, tokens, maxima, Some(Algebra::Maxima))?;
-    to.put("maxima", maxima)?;
-    let order = spoilt_value(alloc, names, tokens, all.order.as_slice(), None)?;
-    to.put("monotone", order)?;
-    to.put("additive", adding_value(alloc, names, tokens, all.adding)?)
+    to.put_made(
+        "maxima",
+        spoilt_value(alloc, names, tokens, maxima, Some(Algebra::Maxima)),
+    )?;
+    let order = all.order.as_slice();
+    to.put_made("monotone", spoilt_value(alloc, names, tokens, order, None))?;
+    to.put_made("additive", adding_value(alloc, names, tokens, all.adding))
 }
 
 // The causes of a fold, or null.
@@ -167,7 +173,7 @@ fn history_value(
     let mut list = Vec::new(alloc);
     for v in history {
         if let Some(id) = f.state_names.as_slice().get(usize::from(*v)) {
-            list.push(name_value(alloc, names, *id)?)?;
+            push_made(&mut list, name_value(alloc, names, *id))?;
         }
     }
     Ok(Value::Array(list))
@@ -197,21 +203,18 @@ fn put_names(
     f: &TypedFold,
     to: &mut Members,
 ) -> Result<(), AllocError> {
-    to.put("name", name_value(alloc, names, f.name.id)?)?;
+    to.put_made("name", name_value(alloc, names, f.name.id))?;
     to.put("start", Value::from(f.name.span.start))?;
-    to.put("states", name_list(alloc, names, f.state_names.as_slice())?)?;
-    to.put("initial", initial_value(alloc, f.initial.as_slice())?)?;
-    to.put(
-        "arguments",
-        name_list(alloc, names, f.arg_names.as_slice())?,
-    )?;
+    to.put_made("states", name_list(alloc, names, f.state_names.as_slice()))?;
+    to.put_made("initial", initial_value(alloc, f.initial.as_slice()))?;
+    to.put_made("arguments", name_list(alloc, names, f.arg_names.as_slice()))?;
     to.put("emits", Value::from(f.emit.is_some()))
 }
 
 // Adds the kinds that a fold is of.
 fn put_kinds(alloc: Global, facts: &FoldFacts, to: &mut Members) -> Result<(), AllocError> {
     to.put_text("class", class_word(facts.class))?;
-    to.put("algebra", word_value(alloc, algebra_of(facts))?)?;
+    to.put_made("algebra", word_value(alloc, algebra_of(facts)))?;
     to.put("depth", Value::from(facts.depth))?;
     to.put("additive", Value::from(facts.additive))?;
     to.put("monotone", Value::from(facts.monotone))
@@ -229,10 +232,9 @@ fn fold_value(
     let mut members = Members::new(alloc);
     put_names(alloc, names, f, &mut members)?;
     put_kinds(alloc, facts, &mut members)?;
-    let history = history_value(alloc, names, f, facts.history.as_slice())?;
-    members.put("history", history)?;
-    let spoilt = causes_value(alloc, names, tokens, causes)?;
-    members.put("spoilt", spoilt)?;
+    let history = history_value(alloc, names, f, facts.history.as_slice());
+    members.put_made("history", history)?;
+    members.put_made("spoilt", causes_value(alloc, names, tokens, causes))?;
     Ok(members.into_object())
 }
 
@@ -261,7 +263,10 @@ pub(crate) fn folds_value(
         .zip(facts.folds.as_slice().iter())
     {
         let own = causes.get(list.len());
-        list.push(fold_value(alloc, &typed.names, tokens, f, one, own)?)?;
+        push_made(
+            &mut list,
+            fold_value(alloc, &typed.names, tokens, f, one, own),
+        )?;
     }
     Ok(Value::Array(list))
 }

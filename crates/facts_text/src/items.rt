@@ -1,7 +1,7 @@
 //! The items of a text, as they were read.
 
 use crate::read::ReadText;
-use crate::values::{Members, bytes_value, name_value, placed, placed_list, put_span};
+use crate::values::{Members, bytes_value, name_value, placed, placed_list, push_made, put_span};
 use marple_base::Field;
 use query_lang::{
     Column, FinalDef, FinalOp, FoldDef, Item, Key, Name, Names, Span, StateVar, StreamDef, StreamOp,
@@ -20,7 +20,7 @@ const FIVE: [Field; 5] = [
 // Adds the five fields that `5tuple` stands for.
 fn push_five(alloc: Global, list: &mut Vec<Value>) -> Result<(), AllocError> {
     for field in FIVE {
-        list.push(bytes_value(alloc, field.name())?)?;
+        push_made(list, bytes_value(alloc, field.name()))?;
     }
     Ok(())
 }
@@ -30,7 +30,7 @@ fn keys_value(alloc: Global, names: &Names, keys: &[Key]) -> Result<Value, Alloc
     let mut list = Vec::new(alloc);
     for key in keys {
         match key {
-            Key::Named(name) => list.push(name_value(alloc, names, name.id)?)?,
+            Key::Named(name) => push_made(&mut list, name_value(alloc, names, name.id))?,
             Key::FiveTuple(_) => push_five(alloc, &mut list)?,
         }
     }
@@ -41,7 +41,7 @@ fn keys_value(alloc: Global, names: &Names, keys: &[Key]) -> Result<Value, Alloc
 fn made_value(alloc: Global, names: &Names, columns: &[Column]) -> Result<Value, AllocError> {
     let mut list = Vec::new(alloc);
     for column in columns {
-        list.push(placed(alloc, names, column.name)?)?;
+        push_made(&mut list, placed(alloc, names, column.name))?;
     }
     Ok(Value::Array(list))
 }
@@ -49,7 +49,7 @@ fn made_value(alloc: Global, names: &Names, columns: &[Column]) -> Result<Value,
 // A state variable, with its place and its initial number.
 fn state_value(alloc: Global, names: &Names, state: &StateVar) -> Result<Value, AllocError> {
     let mut members = Members::new(alloc);
-    members.put("name", name_value(alloc, names, state.name.id)?)?;
+    members.put_made("name", name_value(alloc, names, state.name.id))?;
     members.put("start", Value::from(state.name.span.start))?;
     members.put("initial", Value::from(state.initial))?;
     Ok(members.into_object())
@@ -59,7 +59,7 @@ fn state_value(alloc: Global, names: &Names, state: &StateVar) -> Result<Value, 
 fn states_value(alloc: Global, names: &Names, states: &[StateVar]) -> Result<Value, AllocError> {
     let mut list = Vec::new(alloc);
     for state in states {
-        list.push(state_value(alloc, names, state)?)?;
+        push_made(&mut list, state_value(alloc, names, state))?;
     }
     Ok(Value::Array(list))
 }
@@ -75,7 +75,7 @@ fn put_begin(
 ) -> Result<(), AllocError> {
     to.put_text("kind", kind)?;
     to.put_text("operator", operator)?;
-    to.put("name", name_value(alloc, names, name.id)?)?;
+    to.put_made("name", name_value(alloc, names, name.id))?;
     to.put("name_start", Value::from(name.span.start))
 }
 
@@ -87,8 +87,8 @@ fn put_group(
     fold: Name,
     to: &mut Members,
 ) -> Result<(), AllocError> {
-    to.put("keys", keys_value(alloc, names, keys)?)?;
-    to.put("fold", placed(alloc, names, fold)?)
+    to.put_made("keys", keys_value(alloc, names, keys))?;
+    to.put_made("fold", placed(alloc, names, fold))
 }
 
 // Adds the column and the number of rows of a `top`.
@@ -100,15 +100,15 @@ fn put_best(
     to: &mut Members,
 ) -> Result<(), AllocError> {
     let mut members = Members::new(alloc);
-    members.put("column", name_value(alloc, names, best.id)?)?;
+    members.put_made("column", name_value(alloc, names, best.id))?;
     members.put("rows", Value::from(rows))?;
     to.put("best", members.into_object())
 }
 
 fn put_fold(alloc: Global, names: &Names, d: &FoldDef, to: &mut Members) -> Result<(), AllocError> {
     put_begin(alloc, names, "fold", "def", d.name, to)?;
-    to.put("states", states_value(alloc, names, d.states.as_slice())?)?;
-    to.put("arguments", placed_list(alloc, names, d.args.as_slice())?)
+    to.put_made("states", states_value(alloc, names, d.states.as_slice()))?;
+    to.put_made("arguments", placed_list(alloc, names, d.args.as_slice()))
 }
 
 // The word of a stream's operator.
@@ -140,7 +140,10 @@ fn put_stream_rest(
 ) -> Result<(), AllocError> {
     match op {
         StreamOp::Filter(_, _) => Ok(()),
-        StreamOp::Map(_, columns) => to.put("made", made_value(alloc, names, columns.as_slice())?),
+        StreamOp::Map(_, columns) => to.put_made(
+            "made",
+            made_value(alloc, names, columns.as_slice()),
+        ),
         StreamOp::Zip(_, _) => Ok(()),
         StreamOp::Group(_, keys, fold) => put_group(alloc, names, keys.as_slice(), *fold, to),
     }
@@ -153,7 +156,7 @@ fn put_stream(
     to: &mut Members,
 ) -> Result<(), AllocError> {
     put_begin(alloc, names, "stream", stream_word(&d.op), d.name, to)?;
-    to.put("inputs", stream_inputs(alloc, names, &d.op)?)?;
+    to.put_made("inputs", stream_inputs(alloc, names, &d.op))?;
     put_stream_rest(alloc, names, &d.op, to)
 }
 
@@ -188,7 +191,10 @@ fn put_final_rest(
 ) -> Result<(), AllocError> {
     match op {
         FinalOp::Filter(_, _) => Ok(()),
-        FinalOp::Map(_, columns) => to.put("made", made_value(alloc, names, columns.as_slice())?),
+        FinalOp::Map(_, columns) => to.put_made(
+            "made",
+            made_value(alloc, names, columns.as_slice()),
+        ),
         FinalOp::Group(_, keys, fold) => put_group(alloc, names, keys.as_slice(), *fold, to),
         FinalOp::Join(_, _) => Ok(()),
         FinalOp::Top(_, best, rows, _) => put_best(alloc, names, *best, *rows, to),
@@ -202,7 +208,7 @@ fn put_final(
     to: &mut Members,
 ) -> Result<(), AllocError> {
     put_begin(alloc, names, "final", final_word(&d.op), d.name, to)?;
-    to.put("inputs", final_inputs(alloc, names, &d.op)?)?;
+    to.put_made("inputs", final_inputs(alloc, names, &d.op))?;
     put_final_rest(alloc, names, &d.op, to)
 }
 
@@ -231,7 +237,7 @@ pub(crate) fn items_value(alloc: Global, text: &Option<ReadText>) -> Result<Valu
         let spans = read.spans.as_slice();
         for (number, item) in read.query.items.as_slice().iter().enumerate() {
             if let Some(span) = spans.get(number) {
-                list.push(item_value(alloc, &read.query.names, item, *span)?)?;
+                push_made(&mut list, item_value(alloc, &read.query.names, item, *span))?;
             }
         }
     }

@@ -2,7 +2,7 @@
 
 use crate::read::ReadText;
 use crate::streams::columns_value;
-use crate::values::{Members, name_value};
+use crate::values::{Members, name_value, push_made};
 use marple_base::{Field, Seq};
 use query_facts::Reach;
 use query_lang::typing::Origin;
@@ -49,7 +49,7 @@ fn known(
     start: Option<u32>,
 ) -> Result<Value, AllocError> {
     let mut members = Members::new(alloc);
-    members.put("name", name_value(alloc, names, id)?)?;
+    members.put_made("name", name_value(alloc, names, id))?;
     members.put_text("kind", kind)?;
     members.put("start", Value::from(start))?;
     Ok(members.into_object())
@@ -72,11 +72,14 @@ fn groups(one: &TypedStream) -> bool {
 // The streams so far.
 fn stream_names(alloc: Global, reach: &Reach) -> Result<Value, AllocError> {
     let mut list = Vec::new(alloc);
-    list.push(packets_value(alloc)?)?;
+    push_made(&mut list, packets_value(alloc))?;
     for one in streams_of(reach) {
         let kind = if groups(one) { "groupby" } else { "stream" };
         let start = Some(one.name.span.start);
-        list.push(known(alloc, &reach.typed.names, one.name.id, kind, start)?)?;
+        push_made(
+            &mut list,
+            known(alloc, &reach.typed.names, one.name.id, kind, start),
+        )?;
     }
     Ok(Value::Array(list))
 }
@@ -86,7 +89,10 @@ fn fold_names(alloc: Global, reach: &Reach) -> Result<Value, AllocError> {
     let mut list = Vec::new(alloc);
     for f in folds_of(reach) {
         let start = Some(f.name.span.start);
-        list.push(known(alloc, &reach.typed.names, f.name.id, "fold", start)?)?;
+        push_made(
+            &mut list,
+            known(alloc, &reach.typed.names, f.name.id, "fold", start),
+        )?;
     }
     Ok(Value::Array(list))
 }
@@ -97,12 +103,18 @@ fn table_names(alloc: Global, reach: &Reach) -> Result<Value, AllocError> {
     for one in streams_of(reach) {
         if groups(one) {
             let start = Some(one.name.span.start);
-            list.push(known(alloc, &reach.typed.names, one.name.id, "groupby", start)?)?;
+            push_made(
+                &mut list,
+                known(alloc, &reach.typed.names, one.name.id, "groupby", start),
+            )?;
         }
     }
     for one in reach.typed.finals.as_slice() {
         let start = Some(one.name.span.start);
-        list.push(known(alloc, &reach.typed.names, one.name.id, "final", start)?)?;
+        push_made(
+            &mut list,
+            known(alloc, &reach.typed.names, one.name.id, "final", start),
+        )?;
     }
     Ok(Value::Array(list))
 }
@@ -111,7 +123,7 @@ fn table_names(alloc: Global, reach: &Reach) -> Result<Value, AllocError> {
 fn column_names(alloc: Global, names: &Names, ids: &[u32]) -> Result<Value, AllocError> {
     let mut list = Vec::new(alloc);
     for id in ids {
-        list.push(known(alloc, names, *id, "column", None)?)?;
+        push_made(&mut list, known(alloc, names, *id, "column", None))?;
     }
     Ok(Value::Array(list))
 }
@@ -121,11 +133,14 @@ fn variable_names(alloc: Global, names: &Names, d: &FoldDef) -> Result<Value, Al
     let mut list = Vec::new(alloc);
     for state in d.states.as_slice() {
         let start = Some(state.name.span.start);
-        list.push(known(alloc, names, state.name.id, "state", start)?)?;
+        push_made(
+            &mut list,
+            known(alloc, names, state.name.id, "state", start),
+        )?;
     }
     for arg in d.args.as_slice() {
         let start = Some(arg.span.start);
-        list.push(known(alloc, names, arg.id, "argument", start)?)?;
+        push_made(&mut list, known(alloc, names, arg.id, "argument", start))?;
     }
     Ok(Value::Array(list))
 }
@@ -245,7 +260,7 @@ fn missing(alloc: Global, names: &Names, f: &TypedFold, ids: &[u32]) -> Result<V
     let mut list = Vec::new(alloc);
     for arg in f.arg_names.as_slice() {
         if !is_among(*arg, ids) {
-            list.push(name_value(alloc, names, *arg)?)?;
+            push_made(&mut list, name_value(alloc, names, *arg))?;
         }
     }
     Ok(Value::Array(list))

@@ -1,6 +1,6 @@
 //! Streams, with where their columns come from.
 
-use crate::values::{Members, name_value};
+use crate::values::{Members, name_value, push_made};
 use crate::words::class_word;
 use query_facts::{AcceptedFacts, FoldFacts};
 use query_lang::typing::Origin;
@@ -35,8 +35,8 @@ fn column_value(
     origin: Origin,
 ) -> Result<Value, AllocError> {
     let mut members = Members::new(alloc);
-    members.put("name", name_value(alloc, &q.names, id)?)?;
-    members.put("made_by", maker(alloc, q, origin)?)?;
+    members.put_made("name", name_value(alloc, &q.names, id))?;
+    members.put_made("made_by", maker(alloc, q, origin))?;
     Ok(members.into_object())
 }
 
@@ -49,7 +49,7 @@ pub(crate) fn columns_value(
 ) -> Result<Value, AllocError> {
     let mut list = Vec::new(alloc);
     for (id, origin) in ids.iter().zip(origins.iter()) {
-        list.push(column_value(alloc, q, *id, *origin)?)?;
+        push_made(&mut list, column_value(alloc, q, *id, *origin))?;
     }
     Ok(Value::Array(list))
 }
@@ -78,9 +78,9 @@ fn inputs_of(op: &TypedOp) -> (u16, Option<u16>) {
 fn inputs_value(alloc: Global, q: &TypedQuery, op: &TypedOp) -> Result<Value, AllocError> {
     let mut list = Vec::new(alloc);
     let (first, second) = inputs_of(op);
-    list.push(stream_name(alloc, q, first)?)?;
+    push_made(&mut list, stream_name(alloc, q, first))?;
     if let Some(other) = second {
-        list.push(stream_name(alloc, q, other)?)?;
+        push_made(&mut list, stream_name(alloc, q, other))?;
     }
     Ok(Value::Array(list))
 }
@@ -92,7 +92,7 @@ fn put_begin(
     one: &TypedStream,
     to: &mut Members,
 ) -> Result<(), AllocError> {
-    to.put("name", name_value(alloc, names, one.name.id)?)?;
+    to.put_made("name", name_value(alloc, names, one.name.id))?;
     to.put("start", Value::from(one.name.span.start))
 }
 
@@ -106,7 +106,7 @@ fn stream_value(
     let mut members = Members::new(alloc);
     put_begin(alloc, &q.names, one, &mut members)?;
     members.put_text("operator", operator_word(&one.op))?;
-    members.put("inputs", inputs_value(alloc, q, &one.op)?)?;
+    members.put_made("inputs", inputs_value(alloc, q, &one.op))?;
     let columns = columns_value(alloc, q, one.columns.as_slice(), origins)?;
     members.put("columns", columns)?;
     Ok(members.into_object())
@@ -119,7 +119,7 @@ pub(crate) fn streams_value(alloc: Global, facts: &AcceptedFacts) -> Result<Valu
     let origins = facts.origins.as_slice();
     for one in q.streams.as_slice() {
         if let Some(columns) = origins.get(list.len() + 1) {
-            list.push(stream_value(alloc, q, one, columns.as_slice())?)?;
+            push_made(&mut list, stream_value(alloc, q, one, columns.as_slice()))?;
         }
     }
     Ok(Value::Array(list))
@@ -128,7 +128,7 @@ pub(crate) fn streams_value(alloc: Global, facts: &AcceptedFacts) -> Result<Valu
 // A key, and whether it is a field of the packet.
 fn key_value(alloc: Global, names: &Names, id: u32, is_field: bool) -> Result<Value, AllocError> {
     let mut members = Members::new(alloc);
-    members.put("name", name_value(alloc, names, id)?)?;
+    members.put_made("name", name_value(alloc, names, id))?;
     members.put("field", Value::from(is_field))?;
     Ok(members.into_object())
 }
@@ -142,7 +142,10 @@ fn keys_value(
 ) -> Result<Value, AllocError> {
     let mut list = Vec::new(alloc);
     for (id, origin) in ids.iter().zip(origins.iter()) {
-        list.push(key_value(alloc, names, *id, matches!(origin, Origin::Field))?)?;
+        push_made(
+            &mut list,
+            key_value(alloc, names, *id, matches!(origin, Origin::Field)),
+        )?;
     }
     Ok(Value::Array(list))
 }
@@ -170,8 +173,8 @@ fn put_fold(
     number: u16,
     to: &mut Members,
 ) -> Result<(), AllocError> {
-    to.put("fold", fold_name(alloc, &facts.typed, number)?)?;
-    to.put("class", fold_class(alloc, facts.folds.as_slice(), number)?)
+    to.put_made("fold", fold_name(alloc, &facts.typed, number))?;
+    to.put_made("class", fold_class(alloc, facts.folds.as_slice(), number))
 }
 
 // A groupby of this fold.
@@ -186,9 +189,9 @@ fn groupby_value(
     let names = &facts.typed.names;
     let mut members = Members::new(alloc);
     put_begin(alloc, names, one, &mut members)?;
-    members.put(
+    members.put_made(
         "keys",
-        keys_value(alloc, names, one.columns.as_slice(), origins)?,
+        keys_value(alloc, names, one.columns.as_slice(), origins),
     )?;
     put_fold(alloc, facts, fold, &mut members)?;
     members.put("needed", Value::from(needed))?;
@@ -213,7 +216,10 @@ pub(crate) fn groupbys_value(alloc: Global, facts: &AcceptedFacts) -> Result<Val
         if let TypedOp::Group(_, _, fold, _) = &one.op {
             if let Some(columns) = origins.get(place + 1) {
                 let needed = is_among(place, facts.needed.as_slice());
-                list.push(groupby_value(alloc, facts, one, columns.as_slice(), *fold, needed)?)?;
+                push_made(
+                    &mut list,
+                    groupby_value(alloc, facts, one, columns.as_slice(), *fold, needed),
+                )?;
             }
         }
     }

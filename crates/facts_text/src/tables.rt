@@ -1,6 +1,6 @@
 //! Tables: groupbys, finals, and what is printed of them.
 
-use crate::values::{Members, name_list, name_value};
+use crate::values::{Members, name_list, name_value, push_made};
 use marple_base::Seq;
 use query_lang::{Names, PrintOf, TypedFinal, TypedFinalOp, TypedOp, TypedQuery};
 use serde_json::Value;
@@ -64,9 +64,9 @@ fn inputs_value(
 ) -> Result<Value, AllocError> {
     let mut list = Vec::new(alloc);
     let (first, second) = inputs_of(op);
-    list.push(table_name(alloc, names, tables, first)?)?;
+    push_made(&mut list, table_name(alloc, names, tables, first))?;
     if let Some(other) = second {
-        list.push(table_name(alloc, names, tables, other)?)?;
+        push_made(&mut list, table_name(alloc, names, tables, other))?;
     }
     Ok(Value::Array(list))
 }
@@ -90,7 +90,7 @@ fn best_value(alloc: Global, names: &Names, one: &TypedFinal) -> Result<Value, A
         return Ok(Value::Null);
     };
     let mut members = Members::new(alloc);
-    members.put("column", column_name(alloc, names, one, *column)?)?;
+    members.put_made("column", column_name(alloc, names, one, *column))?;
     members.put("rows", Value::from(*rows))?;
     Ok(members.into_object())
 }
@@ -102,9 +102,9 @@ fn put_columns(
     one: &TypedFinal,
     to: &mut Members,
 ) -> Result<(), AllocError> {
-    to.put("columns", name_list(alloc, names, one.columns.as_slice())?)?;
+    to.put_made("columns", name_list(alloc, names, one.columns.as_slice()))?;
     to.put("keys", Value::from(one.keys))?;
-    to.put("best", best_value(alloc, names, one)?)
+    to.put_made("best", best_value(alloc, names, one))
 }
 
 // A final.
@@ -115,10 +115,10 @@ fn final_value(
     one: &TypedFinal,
 ) -> Result<Value, AllocError> {
     let mut members = Members::new(alloc);
-    members.put("name", name_value(alloc, names, one.name.id)?)?;
+    members.put_made("name", name_value(alloc, names, one.name.id))?;
     members.put("start", Value::from(one.name.span.start))?;
     members.put_text("operator", operator_word(&one.op))?;
-    members.put("inputs", inputs_value(alloc, names, tables, &one.op)?)?;
+    members.put_made("inputs", inputs_value(alloc, names, tables, &one.op))?;
     put_columns(alloc, names, one, &mut members)?;
     Ok(members.into_object())
 }
@@ -128,7 +128,10 @@ pub(crate) fn finals_value(alloc: Global, q: &TypedQuery) -> Result<Value, Alloc
     let tables = table_names(alloc, q)?;
     let mut list = Vec::new(alloc);
     for one in q.finals.as_slice() {
-        list.push(final_value(alloc, &q.names, tables.as_slice(), one)?)?;
+        push_made(
+            &mut list,
+            final_value(alloc, &q.names, tables.as_slice(), one),
+        )?;
     }
     Ok(Value::Array(list))
 }
@@ -152,8 +155,8 @@ pub(crate) fn prints_value(alloc: Global, q: &TypedQuery) -> Result<Value, Alloc
     let mut list = Vec::new(alloc);
     for place in q.prints.as_slice() {
         match place {
-            PrintOf::Group(i) => list.push(groupby_name(alloc, q, *i)?)?,
-            PrintOf::Final(i) => list.push(final_name(alloc, q, *i)?)?,
+            PrintOf::Group(i) => push_made(&mut list, groupby_name(alloc, q, *i))?,
+            PrintOf::Final(i) => push_made(&mut list, final_name(alloc, q, *i))?,
         }
     }
     Ok(Value::Array(list))

@@ -9,7 +9,7 @@ use crate::items::items_value;
 use crate::read::{ReadText, read_text, remarks_on};
 use crate::streams::{groupbys_value, streams_value};
 use crate::tables::{finals_value, prints_value};
-use crate::values::{Members, bytes_value, name_value, put_span, word_at};
+use crate::values::{Members, bytes_value, name_value, push_made, put_span, word_at};
 use crate::words::{fault_word, unsplit_word};
 use marple_base::{Field, FieldSet};
 use query_facts::{AcceptedFacts, Commands, Facts, Parts, RefusedFacts};
@@ -27,9 +27,9 @@ fn command_value(alloc: Global, fault: Option<QueryFault>) -> Result<Value, Allo
 
 fn commands_value(alloc: Global, commands: &Commands) -> Result<Value, AllocError> {
     let mut members = Members::new(alloc);
-    members.put("net", command_value(alloc, commands.net)?)?;
-    members.put("enclose", command_value(alloc, commands.enclose)?)?;
-    members.put("compile", command_value(alloc, commands.compile)?)?;
+    members.put_made("net", command_value(alloc, commands.net))?;
+    members.put_made("enclose", command_value(alloc, commands.enclose))?;
+    members.put_made("compile", command_value(alloc, commands.compile))?;
     Ok(members.into_object())
 }
 
@@ -37,7 +37,7 @@ fn commands_value(alloc: Global, commands: &Commands) -> Result<Value, AllocErro
 fn fields_value(alloc: Global, fields: &[Field]) -> Result<Value, AllocError> {
     let mut list = Vec::new(alloc);
     for field in fields {
-        list.push(bytes_value(alloc, field.name())?)?;
+        push_made(&mut list, bytes_value(alloc, field.name()))?;
     }
     Ok(Value::Array(list))
 }
@@ -47,7 +47,7 @@ fn reads_value(alloc: Global, reads: FieldSet) -> Result<Value, AllocError> {
     let mut list = Vec::new(alloc);
     for field in Field::ALL {
         if reads.has(field) {
-            list.push(bytes_value(alloc, field.name())?)?;
+            push_made(&mut list, bytes_value(alloc, field.name()))?;
         }
     }
     Ok(Value::Array(list))
@@ -73,9 +73,9 @@ fn unsplit_value(alloc: Global, parts: &Parts) -> Result<Value, AllocError> {
 
 fn parts_value(alloc: Global, parts: &Parts) -> Result<Value, AllocError> {
     let mut members = Members::new(alloc);
-    members.put("by", by_value(alloc, parts)?)?;
+    members.put_made("by", by_value(alloc, parts))?;
     members.put("sums", Value::from(matches!(parts, Parts::Sums)))?;
-    members.put("refused", unsplit_value(alloc, parts)?)?;
+    members.put_made("refused", unsplit_value(alloc, parts))?;
     Ok(members.into_object())
 }
 
@@ -83,7 +83,7 @@ fn parts_value(alloc: Global, parts: &Parts) -> Result<Value, AllocError> {
 fn warning_value(alloc: Global, names: &Names, loss: Name) -> Result<Value, AllocError> {
     let mut members = Members::new(alloc);
     members.put_text("kind", "infinity")?;
-    members.put("name", name_value(alloc, names, loss.id)?)?;
+    members.put_made("name", name_value(alloc, names, loss.id))?;
     put_span(&mut members, loss.span)?;
     Ok(members.into_object())
 }
@@ -91,7 +91,7 @@ fn warning_value(alloc: Global, names: &Names, loss: Name) -> Result<Value, Allo
 fn warnings_value(alloc: Global, names: &Names, losses: &[Name]) -> Result<Value, AllocError> {
     let mut list = Vec::new(alloc);
     for loss in losses {
-        list.push(warning_value(alloc, names, *loss)?)?;
+        push_made(&mut list, warning_value(alloc, names, *loss))?;
     }
     Ok(Value::Array(list))
 }
@@ -105,8 +105,8 @@ fn put_text(
 ) -> Result<(), AllocError> {
     to.put("marple_facts", Value::from(1))?;
     to.put("fault", fault)?;
-    to.put("fields", fields_value(alloc, &Field::ALL)?)?;
-    to.put("items", items_value(alloc, text)?)
+    to.put_made("fields", fields_value(alloc, &Field::ALL))?;
+    to.put_made("items", items_value(alloc, text))
 }
 
 // Adds what the remarks on its text say of a query.
@@ -125,17 +125,17 @@ fn put_remarks(
 
 // Adds the streams and tables of a query.
 fn put_tables(alloc: Global, facts: &AcceptedFacts, to: &mut Members) -> Result<(), AllocError> {
-    to.put("streams", streams_value(alloc, facts)?)?;
-    to.put("groupbys", groupbys_value(alloc, facts)?)?;
-    to.put("finals", finals_value(alloc, &facts.typed)?)?;
-    to.put("prints", prints_value(alloc, &facts.typed)?)
+    to.put_made("streams", streams_value(alloc, facts))?;
+    to.put_made("groupbys", groupbys_value(alloc, facts))?;
+    to.put_made("finals", finals_value(alloc, &facts.typed))?;
+    to.put_made("prints", prints_value(alloc, &facts.typed))
 }
 
 // Adds what may be done with a query.
 fn put_uses(alloc: Global, facts: &AcceptedFacts, to: &mut Members) -> Result<(), AllocError> {
-    to.put("reads", reads_value(alloc, facts.reads)?)?;
-    to.put("commands", commands_value(alloc, &facts.commands)?)?;
-    to.put("parts", parts_value(alloc, &facts.parts)?)
+    to.put_made("reads", reads_value(alloc, facts.reads))?;
+    to.put_made("commands", commands_value(alloc, &facts.commands))?;
+    to.put_made("parts", parts_value(alloc, &facts.parts))
 }
 
 fn accepted_value(

@@ -25,15 +25,33 @@ impl Members {
         put(&mut self.made, self.alloc, name, value)
     }
 
+    /// Adds a member that is made, if it could be.
+    pub(crate) fn put_made(
+        &mut self,
+        name: &str,
+        made: Result<Value, AllocError>,
+    ) -> Result<(), AllocError> {
+        self.put(name, made?)
+    }
+
     /// Adds a member that is a text.
     pub(crate) fn put_text(&mut self, name: &str, text: &str) -> Result<(), AllocError> {
-        self.put(name, Value::try_from_str(self.alloc, text)?)
+        self.put_made(name, Value::try_from_str(self.alloc, text))
     }
 
     /// The object of these members.
     pub(crate) fn into_object(self) -> Value {
         Value::Object(self.made)
     }
+}
+
+/// Adds an element that is made, if it could be.
+pub(crate) fn push_made(
+    list: &mut Vec<Value>,
+    made: Result<Value, AllocError>,
+) -> Result<(), AllocError> {
+    list.push(made?)?;
+    Ok(())
 }
 
 /// A text of bytes: names and tokens are ASCII.
@@ -63,7 +81,7 @@ pub(crate) fn name_value(alloc: Global, names: &Names, id: u32) -> Result<Value,
 /// A name, and where it stands.
 pub(crate) fn placed(alloc: Global, names: &Names, name: Name) -> Result<Value, AllocError> {
     let mut members = Members::new(alloc);
-    members.put("name", name_value(alloc, names, name.id)?)?;
+    members.put_made("name", name_value(alloc, names, name.id))?;
     members.put("start", Value::from(name.span.start))?;
     Ok(members.into_object())
 }
@@ -72,7 +90,7 @@ pub(crate) fn placed(alloc: Global, names: &Names, name: Name) -> Result<Value, 
 pub(crate) fn name_list(alloc: Global, names: &Names, ids: &[u32]) -> Result<Value, AllocError> {
     let mut list = Vec::new(alloc);
     for id in ids {
-        list.push(name_value(alloc, names, *id)?)?;
+        push_made(&mut list, name_value(alloc, names, *id))?;
     }
     Ok(Value::Array(list))
 }
@@ -81,7 +99,7 @@ pub(crate) fn name_list(alloc: Global, names: &Names, ids: &[u32]) -> Result<Val
 pub(crate) fn placed_list(alloc: Global, names: &Names, all: &[Name]) -> Result<Value, AllocError> {
     let mut list = Vec::new(alloc);
     for name in all {
-        list.push(placed(alloc, names, *name)?)?;
+        push_made(&mut list, placed(alloc, names, *name))?;
     }
     Ok(Value::Array(list))
 }
