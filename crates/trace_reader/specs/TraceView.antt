@@ -25,7 +25,7 @@ upcoming_in trace =
     upcoming_by trace.progress (contents_from (record { width = trace.width; columns = trace.columns }) (trace.given + 1)
     trace.records.left)
 
--- while a trace is read, no more packets were given than a trace may have;
+-- while a trace is read, no more packets were given than a trace may have, and each column is within its records;
 -- where a fault stopped it, a data record has that fault
 abbrev pub IsSoundAt : Progress → Inside → Type 0
 IsSoundAt progress.Reading trace = (trace.given ≤ MAX_RECORDS) × AreWithin trace.width trace.columns
