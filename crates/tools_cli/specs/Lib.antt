@@ -5,5 +5,4 @@ pub mod Ends
 pub mod FactsEnds
 pub mod Files
 pub mod Options
-pub mod Piece
 pub mod Statuses

@@ -6,104 +6,32 @@ ghost use Rattle.std.specs.Io.KnownBytes.{Appends};
 ghost use Rattle.marple_base.specs.Faults.{HasCause};
 ghost use Rattle.marple_base.specs.Sink.{TakesFront};
 ghost use Rattle.tools_cli.specs.Complaint.{tool_complaint};
-ghost use Rattle.tools_cli.specs.Piece.{piece_text};
+ghost use Rattle.command_answers.specs.Piece.{piece_text};
 
 use crate::status::ToolStatus;
+use command_answers::pieces::{
+    Line, Piece, plain_line, trace_line, trace_line_in_record, write_pieces,
+};
 use command_answers::{Status, complain};
-use itoa::Buffer;
 use marple_base::{Failed, Sink, write_all};
 use trace_pieces::WholeFault;
 
-/// A piece of a complaint.
-#[derive(Clone, Copy)]
-enum Piece {
-    Text(&'static [u8]),
-    Number(u64),
-}
-
-const NONE: Piece = Piece::Text(b"");
-
-impl Piece {
-    fn write<E: Sink>(&self, err: &mut E) -> Result<(), Failed>
-        ensures ok { OnOk result (Appends (E.taken err.old) (E.taken err.new) (piece_text self.now)) }
-        ensures front { TakesFront (E.taken err.old) (E.taken err.new) (piece_text self.now) }
-        ensures cause { HasCause (E.faults err.old) (E.faults err.new) result }
-    {
-        match self {
-            Piece::Text(text) => write_all(err, text),
-            Piece::Number(number) => {
-                let mut buffer = Buffer::new();
-                write_all(err, buffer.format(*number).as_bytes())
-            }
-        }
-    }
-}
-
-fn alone(text: &'static [u8]) -> [Piece; 5]
-    ensures { flat_map piece_text result ≡ text.now }
-{
-    [Piece::Text(text), NONE, NONE, NONE, NONE]
-}
-
-fn trace_pieces(fault: WholeFault) -> [Piece; 5]
+fn trace_pieces(fault: WholeFault) -> Line
     ensures { flat_map piece_text result ≡ tool_complaint (ToolStatus.TraceRefused fault) }
 {
-    let close = Piece::Text(b")\n");
     match fault {
-        WholeFault::NoHeader => alone(b"marple: trace: NoHeader\n"),
-        WholeFault::FieldTwice(field) => {
-            let name = Piece::Text(field.name());
-            [
-                Piece::Text(b"marple: trace: FieldTwice("),
-                name,
-                close,
-                NONE,
-                NONE,
-            ]
-        }
-        WholeFault::FieldMissing(field) => {
-            let name = Piece::Text(field.name());
-            [
-                Piece::Text(b"marple: trace: FieldMissing("),
-                name,
-                close,
-                NONE,
-                NONE,
-            ]
-        }
-        WholeFault::FieldCount(record) => {
-            let number = Piece::Number(record);
-            [
-                Piece::Text(b"marple: trace: FieldCount("),
-                number,
-                close,
-                NONE,
-                NONE,
-            ]
-        }
+        WholeFault::NoHeader => plain_line(b"marple: trace: NoHeader\n"),
+        WholeFault::FieldTwice(field) => trace_line(b"FieldTwice(", Piece::Text(field.name())),
+        WholeFault::FieldMissing(field) => trace_line(b"FieldMissing(", Piece::Text(field.name())),
+        WholeFault::FieldCount(record) => trace_line(b"FieldCount(", Piece::Number(record)),
         WholeFault::BadNumber(record, field) => {
-            let number = Piece::Number(record);
-            let name = Piece::Text(field.name());
-            [
-                Piece::Text(b"marple: trace: BadNumber("),
-                number,
-                Piece::Text(b","),
-                name,
-                close,
-            ]
+            trace_line_in_record(
+                b"BadNumber(",
+                Piece::Number(record),
+                Piece::Text(field.name()),
+            )
         }
     }
-}
-
-fn write_pieces<E: Sink>(err: &mut E, pieces: &[Piece]) -> Result<(), Failed>
-    ensures ok { OnOk result (Appends (E.taken err.old) (E.taken err.new) (flat_map piece_text pieces.now)) }
-    ensures front { TakesFront (E.taken err.old) (E.taken err.new) (flat_map piece_text pieces.now) }
-    ensures cause { HasCause (E.faults err.old) (E.faults err.new) result }
-{
-    for piece in pieces {
-        piece.write(err)?;
-    }
-    Ok(())
 }
 
 // Writes the complaint of a trace that is refused, or some prefix of it.
