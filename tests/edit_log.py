@@ -27,6 +27,8 @@ ASKED = re.compile(r"what `([^`]+)` requires")
 OWNER = re.compile(r"; in `(\w+)`$")
 # A goal of safety: that a sum fits, that an index is in range. It says nothing of what a function means.
 BOUND = re.compile(r"(?:overflow_|slice_bounds|cast|unreachable-|(?:index|slice)(?:_mut)?-(?:.*-)?requires)")
+# A goal of a loop, in which the branch may stand after it.
+KEPT = re.compile(r"-(?:preserved|init)\b")
 MEANING = 5  # goals of this rank or a lower one are about what a function means, or about a law
 NOTHING = "not shown"
 GATE = "the gate"  # which tries the edits of must-fail in each run
@@ -118,7 +120,7 @@ def goal_at(place: str, goal: str, words: str) -> Goal:
         return Goal(0, f"clause `{clause}` of {place}") if clause else Goal(1, f"what {place} ensures")
     if start.startswith("invariant_of"):
         return Goal(2, f"the invariant in {place}")
-    if start == "loop" or goal.endswith(("-preserved", "-init")):
+    if start == "loop" or KEPT.search(goal):
         return Goal(3, f"a loop's invariant in {place}")
     return Goal(MEANING, f"goal `{goal}` in {place}")
 

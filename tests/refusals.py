@@ -12,6 +12,8 @@ VANISHED = re.compile(
     r"`goal\.[^`]*`: module `|: record `[^`]*(?:$|`\s+has no)|can be named from here|is not in scope(?! here, so what is shown)|has no field"
     r"|is no name|operand is missing|expected the end|cannot continue"
 )
+# A file of invariants has no proof: an error there says that a variable of a loop is gone, or has another type.
+INVARIANTS = re.compile(r"\S+/Invariants\.antt:")
 # An error has lines after the first one, which begin with blanks.
 ERROR = re.compile(r"(?m)^(?:\./)?(\S+?:\d+:\d+: error: .*(?:\n[ \t]+.*)*)")
 # A goal that the prover was to find an answer for itself.
@@ -31,7 +33,7 @@ def joined(text: str) -> str:
 
 def vanished(said: list[str]) -> str:
     """The first of these errors that is about a text which the prover can't read, if one is."""
-    return next((it for it in said if VANISHED.search(it)), "")
+    return next((it for it in said if VANISHED.search(it) or INVARIANTS.match(it)), "")
 
 
 def said_against(status: int, text: str) -> list[str]:
