@@ -8,7 +8,7 @@ from __future__ import annotations
 from measure import Race
 from workshop import Workshop
 
-PACKETS = (131_072, 262_144, 524_288, 1_048_576, 2_097_152, 4_194_304)
+PACKETS = (131_072, 1_048_576, 4_194_304)
 SIZES = {
     "1024 x 8": ["--buckets", "1024", "--ways", "8"],
     "65536 x 1": ["--buckets", "65536", "--ways", "1"],
