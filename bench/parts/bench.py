@@ -79,9 +79,7 @@ def packages() -> list[Package]:
 
 
 def run_in_parts(package: Package, shop: Workshop, traces: Traces) -> tuple[dict[str, float], int]:
-    """The seconds of a run by what they are of, with most workers its stages too, and its peak in KB. Its rows must be those of the
-    plain program.
-    """
+    """The seconds of a run by what they are of, and its peak in KB. Its rows must be those of the plain program."""
     command = [sys.executable, "-m", "marple.parts", shop.query("keys"), *traces.paths, "--workers", str(package.workers)]
     given = {"PYTHONPATH": str(package.top / "python"), "TMPDIR": str(traces.folder), "PYTHONDONTWRITEBYTECODE": "1"}
     given |= {"MARPLE": shop.marple, "MARPLE_TOOLS": tools_program()}
@@ -99,9 +97,8 @@ def run_in_parts(package: Package, shop: Workshop, traces: Traces) -> tuple[dict
         raise BenchError(f"the rows of {package.name} aren't those of the plain program")
     case = f"{traces.packets:,} packets in parts"
     whole = {f"{case} (clock)": ends["end"] - ends["by"], case: used.ru_utime + used.ru_stime}
-    if package.workers == WORKERS[0]:
-        whole |= {f"{stage} (clock)": ends[end] - ends[begin] for stage, (begin, end) in STAGES.items()}
-    return whole, used.ru_maxrss
+    stages = {f"{stage} (clock)": ends[end] - ends[begin] for stage, (begin, end) in STAGES.items()}
+    return whole | stages, used.ru_maxrss
 
 
 def parts_races(shop: Workshop, traces: Traces, runs: int) -> Measured:
