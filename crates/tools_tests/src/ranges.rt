@@ -78,7 +78,7 @@ fn splits_a_range(rt: HostRuntime) -> Result<(), Fail> {
         ("7 10", "2\n"),
         ("7 11", "2\n3\n"),
         ("9 18446744073709551615", "3\n"),
-        ("10 9", ""),
+        ("10 10", ""),
     ] {
         let alloc = rt.alloc();
         let words = format!(in alloc; "split q a --parts 1 --into out --range {line}")?;
