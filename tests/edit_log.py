@@ -29,7 +29,7 @@ OWNER = re.compile(r"; in `(\w+)`$")
 BOUND = re.compile(r"(?:overflow_|slice_bounds|cast|unreachable-|(?:index|slice)(?:_mut)?-(?:.*-)?requires)")
 # A goal of a loop, in which the branch may stand after it.
 KEPT = re.compile(r"-(?:preserved|init)\b")
-MEANING = 5  # goals of this rank or a lower one are about what a function means, or about a law
+MEANING = 3  # goals of this rank or a lower one are about what a function promises or a call requires, or about a law
 NOTHING = "not shown"
 GATE = "the gate"  # which tries the edits of must-fail in each run
 
@@ -90,9 +90,9 @@ def all_edits() -> list[str]:
 
 
 def place_of(file: str) -> str:
-    """The function whose goals a file of proofs has, or else the file."""
+    """The function whose proof a file is of, or else the file."""
     parts = file.split("/")
-    return f"`{parts[-2]}`" if parts[-1] == "Answers.antt" and len(parts) > 2 else f"`{file}`"
+    return f"`{parts[-2]}`" if parts[-1] in ("Answers.antt", "Invariants.antt") and len(parts) > 2 else f"`{file}`"
 
 
 def goal_of(said: str) -> Goal | None:
@@ -112,26 +112,30 @@ def goal_at(place: str, goal: str, words: str) -> Goal:
         place, goal = f"`{ensured[1]}`", ensured[2]
     start, clause = goal.split("-", 1)[0], goal.partition("-clause-")[2]
     if BOUND.match(goal):
-        return Goal(MEANING + 1, f"the bound `{goal}` in {place}")
+        return Goal(MEANING + 2, f"the bound `{goal}` in {place}")
     called = ASKED.match(words) or re.match(r"(.+?)(?:-\w+)*?-requires\b", goal)
     if called:
-        return Goal(4, f"what `{called[1]}` requires{f', clause `{clause}`,' * bool(clause)} in {place}")
+        return Goal(2, f"what `{called[1]}` requires{f', clause `{clause}`,' * bool(clause)} in {place}")
     if start.startswith("returns"):
         return Goal(0, f"clause `{clause}` of {place}") if clause else Goal(1, f"what {place} ensures")
     if start.startswith("invariant_of"):
-        return Goal(2, f"the invariant in {place}")
+        return Goal(MEANING + 1, f"the invariant in {place}")
     if start == "loop" or KEPT.search(goal):
-        return Goal(3, f"a loop's invariant in {place}")
-    return Goal(MEANING, f"goal `{goal}` in {place}")
+        return Goal(MEANING + 1, f"a loop's invariant in {place}")
+    is_law = place.endswith(".antt`")
+    return Goal(MEANING if is_law else MEANING + 1, f"goal `{goal}` in {place}")
 
 
 def best_goal(tried: Tried) -> Goal:
     """The goal that says most of the contract, among those at which an edit was refused."""
-    return min((goal for goal in map(goal_of, tried.said) if goal), key=lambda one: one.rank, default=Goal(MEANING + 2, NOTHING))
+    return min((goal for goal in map(goal_of, tried.said) if goal), key=lambda one: one.rank, default=Goal(MEANING + 3, NOTHING))
 
 
 def shows_its_meaning(tried: Tried) -> bool:
-    """Whether an edit was refused, and what the prover said names a clause, an invariant or a law, and not only a bound."""
+    """Whether an edit was refused, and what the prover said names what a function ensures, what a call requires, or a law.
+
+    An invariant is a step of a proof, which could be another for the same contract: it shows nothing, and a bound neither.
+    """
     return tried.verdict == "refused" and best_goal(tried).rank <= MEANING
 
 
@@ -166,10 +170,10 @@ def summary(log: Mapping[str, Tried], there: list[str]) -> str:
     """How many edits there are, and of how many the log shows by what they were refused."""
     known = [log[it] for it in there if it in log]
     ranks = [best_goal(one).rank for one in known if one.verdict == "refused"]
-    meaning, none = sum(map(shows_its_meaning, known)), sum(it > MEANING + 1 for it in ranks)
+    meaning, none = sum(map(shows_its_meaning, known)), sum(it > MEANING + 2 for it in ranks)
     return (
-        f"Of the {len(there)} edits the log has {len(known)}, of which {len(ranks)} were refused: {meaning} by a clause, an invariant or a "
-        f"law that the prover names, {len(ranks) - meaning - none} only by a bound, and {none} without a goal.\n"
+        f"Of the {len(there)} edits the log has {len(known)}, of which {len(ranks)} were refused: {meaning} by a clause or a law that the "
+        f"prover names, {len(ranks) - meaning - none} only by an invariant or a bound, and {none} without a goal.\n"
     )
 
 
