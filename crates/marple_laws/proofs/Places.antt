@@ -283,17 +283,50 @@ stream_made packets five e name (ops.Group input keys fold_name) made good ok =
     grouped_made packets five e input keys fold_name made good (must_ok (nat_lt e.groups 8) (OverLimit Groupbys) name.span
     (grouped five e input keys fold_name) made ok).1
 
+-- what an added stream's name means
+abbrev entry_of : Earlier → Name → MadeStream → Known
+entry_of e name made = record {
+  name = name.id;
+  meaning = meaning.Stream
+      (record { number = next_stream e; columns = made.columns; hidden = made.hidden; table = made.table });
+}
+
+-- how many groupbys there are with an added stream's
+abbrev groups_with : Earlier → MadeStream → ℕ
+groups_with e made = e.groups + (if is_some made.table then 1 else 0)
+
+abbrev HasTable : MadeStream → PrintOf → Type 0
+HasTable made p = option_map (λ (t : TableView). t.place) made.table ≡ Some p
+
+place_of_table : (e : Earlier) (made : MadeStream) → IsMade e made → (p : PrintOf) → HasTable made p
+    → (place.Group e.groups ≡ p) × (groups_with e made ≡ e.groups + 1)
+place_of_table e made is p h = elim is.table [
+  | inl none ↦ (let z : None ≡ Some p = sym (ap (option_map (λ (t : TableView). t.place)) none) ∙ h in cc)
+  | inr some ↦
+      let z : Some some.0.place ≡ Some p = sym (ap (option_map (λ (t : TableView). t.place)) some.1) ∙ h in
+      (cc, ap (λ o. e.groups + (if is_some o then 1 else 0)) some.1)
+]
+
+fresh_table : (e : Earlier) (made : MadeStream) → IsMade e made → (p : PrintOf) → HasTable made p
+    → IsBelow e.groups (length e.finals) p → ⊥
+fresh_table e made is p h l =
+    let low : e.groups < e.groups = subst (IsBelow e.groups (length e.finals)) (sym (place_of_table e made is p h).0) l in
+    omega (arith, low)
+
+table_below : (e : Earlier) (made : MadeStream) → IsMade e made → (p : PrintOf) → HasTable made p
+    → IsBelow (groups_with e made) (length e.finals) p
+table_below e made is p h =
+    let at = place_of_table e made is p h in
+    let one = at.1 in
+    subst (IsBelow (groups_with e made) (length e.finals)) at.0 (omega (arith, one))
+
 -- one more stream
 with_stream_good : (packets : ℕ) (e : Earlier) (name : Name) (made : MadeStream) → Good packets e
     → is_some (meaning_of e.known name.id) ≡ false → IsMade e made → Good packets (with_stream e name made)
 with_stream_good packets e name made good free is =
-    let entry : Known = record {
-      name = name.id;
-      meaning = meaning.Stream
-          (record { number = next_stream e; columns = made.columns; hidden = made.hidden; table = made.table });
-    } in
-    let groups : ℕ = e.groups + (if is_some made.table then 1 else 0) in
-    let g = grown packets e entry groups (length e.finals) good (omega arith) (omega arith) fresh below in
+    let entry = entry_of e name made in
+    let g = grown packets e entry (groups_with e made) (length e.finals) good (omega arith) (omega arith) (fresh_table e made is)
+    (table_below e made is) in
     record {
       places = g.places;
       bounds = g.bounds;
@@ -318,64 +351,16 @@ with_stream_good packets e name made good free is =
     ids = map-append (λ (one : TypedStream). one.name.id) e.streams (record
         { name = name; columns = column_names made.columns; op = made.op } ∷ [])
 
-    no : (v : FoldView) → meaning.Stream (record {
-      number = next_stream e;
-      columns = made.columns;
-      hidden = made.hidden;
-      table =
-          made.table;
-    }) ≡ meaning.Fold v → ⊥
+    no : (v : FoldView) → (entry_of e name made).meaning ≡ meaning.Fold v → ⊥
     no v h = cc
 
     known : (id : ℕ) → IsIn id (packets ∷ (stream_ids e.streams ++ name.id ∷ [])) →
-        ((id : ℕ) → IsIn id (packets ∷ stream_ids e.streams) → is_some
-        (meaning_of (e.known ++ record {
-          name = name.id;
-          meaning =
-              meaning.Stream (record { number = next_stream e; columns = made.columns; hidden = made.hidden; table = made.table });
-        } ∷ []) id)
-        ≡ true) →
-        is_some (meaning_of (e.known ++ record {
-          name = name.id;
-          meaning =
-              meaning.Stream (record { number = next_stream e; columns = made.columns; hidden = made.hidden; table = made.table });
-        } ∷ []) id)
-        ≡ true
+        ((id : ℕ) → IsIn id (packets ∷ stream_ids e.streams) → is_some (meaning_of (e.known ++ entry_of e name made ∷ []) id) ≡ true) →
+        is_some (meaning_of (e.known ++ entry_of e name made ∷ []) id) ≡ true
     known id i old = elim (in_push (packets ∷ stream_ids e.streams) name.id id i) [
       | inl h ↦ old id h
-      | inr same ↦ subst (λ n. is_some (meaning_of (e.known ++ record {
-        name = name.id;
-        meaning =
-            meaning.Stream (record { number = next_stream e; columns = made.columns; hidden = made.hidden; table = made.table });
-      } ∷ []) n)
-          ≡ true) (sym same)
-          (some_new e.known (record {
-            name = name.id;
-            meaning = meaning.Stream
-                (record { number = next_stream e; columns = made.columns; hidden = made.hidden; table = made.table });
-          }))
-    ]
-
-    fresh : (p : PrintOf) → option_map (λ (t : TableView). t.place) made.table ≡ Some p → IsBelow e.groups (length e.finals) p → ⊥
-    fresh p h l = elim is.table [
-      | inl none ↦ (let z : None ≡ Some p = sym (ap (option_map (λ (t : TableView). t.place)) none) ∙ h in cc)
-      | inr some ↦
-          let z : Some some.0.place ≡ Some p = sym (ap (option_map (λ (t : TableView). t.place)) some.1) ∙ h in
-          let is_p : place.Group e.groups ≡ p = cc in
-          let low : e.groups < e.groups = subst (IsBelow e.groups (length e.finals)) (sym is_p) l in
-          omega (arith, low)
-    ]
-
-    below : (p : PrintOf) → option_map (λ (t : TableView). t.place) made.table ≡ Some p
-        → IsBelow (e.groups + (if is_some made.table then 1 else 0)) (length e.finals) p
-    below p h = elim is.table [
-      | inl none ↦ (let z : None ≡ Some p = sym (ap (option_map (λ (t : TableView). t.place)) none) ∙ h in cc)
-      | inr some ↦
-          let z : Some some.0.place ≡ Some p = sym (ap (option_map (λ (t : TableView). t.place)) some.1) ∙ h in
-          let is_p : place.Group e.groups ≡ p = cc in
-          let one : e.groups + (if is_some made.table then 1 else 0) ≡ e.groups + 1 =
-          ap (λ o. e.groups + (if is_some o then 1 else 0)) some.1 in
-          subst (IsBelow (e.groups + (if is_some made.table then 1 else 0)) (length e.finals)) is_p (omega (arith, one))
+      | inr same ↦ subst (λ n. is_some (meaning_of (e.known ++ entry_of e name made ∷ []) n) ≡ true) (sym same)
+          (some_new e.known (entry_of e name made))
     ]
 
 begun_free : (e : Earlier) (name : Name) (u : Unit {0}) → begun e name ≡ Ok u → is_some (meaning_of e.known name.id) ≡ false

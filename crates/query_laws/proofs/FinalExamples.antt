@@ -21,7 +21,7 @@ use Rattle.query_laws.proofs.NameLaws.{fold_name_sound, fold_name_complete, tabl
 use Rattle.query_laws.proofs.Steps.{same_ok, place_stands}
 use Rattle.query_laws.specs.TypingExamples.{here, called, first, is_above_0, new_column}
 use Rattle.query_laws.specs.FinalExamples.{group_table, final_table, without_emit, with_emit, tables, three_groupbys, MakesNoTable}
-use Rattle.query_laws.specs.FinalExamples.{table_by, MakesRows, FinalExamples}
+use Rattle.query_laws.specs.FinalExamples.{table_by, MakesRows, FilteredTables, MappedTables, GroupedTables, JoinedTables, RankedTables, FinalExamples}
 use Rattle.query_laws.proofs.TypingExamples.{no_place, right_of_0}
 
 ten : IsTable tables 10 (group_table 0 1 3)
@@ -74,8 +74,8 @@ quiet h =
 
 -- ---- all
 
-pub final_examples : FinalExamples
-final_examples = record {
+filtered_tables : FilteredTables
+filtered_tables = record {
   filter_of_a_groupby = record {
     source = group_table 0 1 3;
     condition = typed.Binary Lt (typed.Number 0) (typed.Slot 1);
@@ -98,6 +98,10 @@ final_examples = record {
       (λ h. no_fault h.0 (record { kind = WrongKind; span = here }) (sym (table_complete tables (called 14) h.0 h.1)));
   filter_of_a_fold = unmet (Filter (called 15) (is_above_0 3)) (Stands ATable (called 15)) (asks.of_filtered (called 15) (is_above_0 3))
       (λ h. no_fault h.0 (record { kind = WrongKind; span = here }) (sym (table_complete tables (called 15) h.0 h.1)));
+}
+
+mapped_tables : MappedTables
+mapped_tables = record {
   map_of_a_sum = record {
     source = group_table 0 1 3;
     values = typed.Binary Add (typed.Slot 0) (typed.Slot 1) ∷ [];
@@ -113,6 +117,10 @@ final_examples = record {
       (asks.of_columns (called 10) (new_column 3 first ∷ []) (group_table 0 1 3) (New (1 ∷ 3 ∷ []) 3 here) ten
       (asks.of_name [] (new_column 3 first) [] refl))
       (λ new. new.1.0 refl);
+}
+
+grouped_tables : GroupedTables
+grouped_tables = record {
   groupby_of_a_key = record {
     source = group_table 0 1 3;
     slots = 0 ∷ [];
@@ -136,6 +144,10 @@ final_examples = record {
       (AColumn (1 ∷ 4 ∷ []) [] 3 here) eleven fifteen
       (asks.of_argument [] 3 [] refl))
       (no_place (1 ∷ 4 ∷ []) 3 refl);
+}
+
+joined_tables : JoinedTables
+joined_tables = record {
   join_by_the_same_keys = record {
     left = group_table 0 1 3;
     right = group_table 1 1 4;
@@ -151,6 +163,10 @@ final_examples = record {
   join_of_one_name = unmet (Join (called 10) (called 13)) (Apart (3 ∷ []) (1 ∷ 3 ∷ []) here)
       (asks.of_others (called 10) (called 13) (group_table 0 1 3) final_table ten thirteen)
       (λ apart. apart.0.1.0 refl);
+}
+
+ranked_tables : RankedTables
+ranked_tables = record {
   top_0 = λ made h. absurd (omega (arith, h.some));
   top_1 = rows_are 1 (omega arith) (omega arith);
   top_5 = rows_are 5 (omega arith) (omega arith);
@@ -159,4 +175,13 @@ final_examples = record {
   top_by_no_column = unmet (Top (called 10) (called 4) 5 here) (AColumn (1 ∷ 3 ∷ []) [] 4 here)
       (asks.of_column (called 10) (called 4) 5 here (group_table 0 1 3) ten)
       (no_place (1 ∷ 3 ∷ []) 4 refl);
+}
+
+pub final_examples : FinalExamples
+final_examples = record {
+  filters = filtered_tables;
+  maps = mapped_tables;
+  groupbys = grouped_tables;
+  joins = joined_tables;
+  tops = ranked_tables;
 }

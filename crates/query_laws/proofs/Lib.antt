@@ -13,6 +13,7 @@ pub mod FaultSteps
 pub mod ExprFaults
 pub mod NameFaults
 pub mod StreamFaults
+pub mod StateFaults
 pub mod BodyFaults
 pub mod FoldFaults
 pub mod Unmet

@@ -5,11 +5,15 @@ use Rattle.std.specs.List.{list_any}
 use Rattle.query_lang.specs.declared.fault.FaultKind.TheVariants.{NameTaken, WrongKind, BadConstant, OverLimit}
 use Rattle.query_lang.specs.declared.fault.Limit.TheVariants.{Groupbys}
 use Rattle.query_lang.specs.declared.fault.QueryFault.{QueryFault}
+use Rattle.query_lang.specs.declared.query.Column.{Column}
+use Rattle.query_lang.specs.declared.query.Expr.{Expr}
 use Rattle.query_lang.specs.declared.query.FinalOp.{FinalOp}
 use Rattle.query_lang.specs.declared.query.FinalOp.TheVariants as final
+use Rattle.query_lang.specs.declared.query.Key.{Key}
 use Rattle.query_lang.specs.declared.query.Name.{Name}
 use Rattle.query_lang.specs.declared.query.StreamOp.{StreamOp}
 use Rattle.query_lang.specs.declared.query.StreamOp.TheVariants as stream
+use Rattle.query_lang.specs.declared.fault.Span.{Span}
 use Rattle.query_lang.specs.declared.typing.Earlier.{Earlier}
 use Rattle.query_lang.specs.declared.typing.FoldView.{FoldView}
 use Rattle.query_lang.specs.declared.typing.Given.{Given}
@@ -34,10 +38,13 @@ use Rattle.query_laws.proofs.NameLaws.{stream_sound, fold_name_sound, table_soun
 use Rattle.query_laws.proofs.Steps.{must_not_ok, same_ok, found_first}
 use Rattle.query_laws.proofs.StreamLaws.{all_same_complete, picked_sound}
 
-pub stream_op_told : (five : List ℕ) (earlier : Earlier) (name : Name) (op : StreamOp) (fault : QueryFault)
-    → made_stream five earlier name op ≡ Err fault
+-- what each fault in this operator of a stream breaks
+abbrev StreamTold : List ℕ → Earlier → Name → StreamOp → Type 0
+StreamTold five earlier name op = (fault : QueryFault) → made_stream five earlier name op ≡ Err fault
     → Broken (StreamAsks five earlier.known earlier.groups name op) earlier.known fault
-stream_op_told five earlier name (stream.Filter input e) fault is =
+
+stream_filter_told : (five : List ℕ) (earlier : Earlier) (name : Name) (input : Name) (e : Expr) → StreamTold five earlier name (stream.Filter input e)
+stream_filter_told five earlier name input e fault is =
     by_next (stream_named earlier.known input) _ fault is (λ is. record {
       demand = Stands AStream input;
       asks = of_filtered input e;
@@ -52,7 +59,9 @@ stream_op_told five earlier name (stream.Filter input e) fault is =
           b.tells earlier.known;
     })
     (λ condition q is. no_fault _ fault is))
-stream_op_told five earlier name (stream.Map input new) fault is =
+
+stream_map_told : (five : List ℕ) (earlier : Earlier) (name : Name) (input : Name) (new : List Column) → StreamTold five earlier name (stream.Map input new)
+stream_map_told five earlier name input new fault is =
     by_next (stream_named earlier.known input) _ fault is (λ is. record {
       demand = Stands AStream input;
       asks = of_mapped input new;
@@ -62,7 +71,9 @@ stream_op_told five earlier name (stream.Map input new) fault is =
     broken_in _ _ earlier.known fault (λ d asked. of_columns input new source d (stream_sound earlier.known input source p) asked)
     (columns_told (column_names source.columns) source.hidden new [] new no_new_columns earlier.known fault refl refl is))
     (λ made q is. no_fault _ fault is))
-stream_op_told five earlier name (stream.Zip first second) fault is =
+
+stream_zip_told : (five : List ℕ) (earlier : Earlier) (name : Name) (first second : Name) → StreamTold five earlier name (stream.Zip first second)
+stream_zip_told five earlier name first second fault is =
     by_next (stream_named earlier.known first) _ fault is (λ is. record {
       demand = Stands AStream first;
       asks = of_first first second;
@@ -79,7 +90,9 @@ stream_op_told five earlier name (stream.Zip first second) fault is =
       tells = told earlier.known (Same left.columns right.columns second.span) NameTaken second.span fault at
           (refl, λ same. not_both _ (all_same_complete left.columns right.columns same) clashes);
     }) (λ none is. no_fault _ fault is)))
-stream_op_told five earlier name (stream.Group input keys fold_name) fault is =
+
+stream_groupby_told : (five : List ℕ) (earlier : Earlier) (name : Name) (input : Name) (keys : List Key) (fold_name : Name) → StreamTold five earlier name (stream.Group input keys fold_name)
+stream_groupby_told five earlier name input keys fold_name fault is =
     by_must (nat_lt earlier.groups 8) (OverLimit Groupbys) name.span _ fault is (λ full at. record {
       demand = Fewer Groupbys earlier.groups name.span;
       asks = of_limit input keys fold_name;
@@ -110,6 +123,12 @@ stream_op_told five earlier name (stream.Group input keys fold_name) fault is =
     (arguments_told (column_names source.columns) source.hidden (key_ids five keys) f fold_name.span earlier.known fault
     (subst A (ap (λ (z : Picked). z.names) k.2) is))) (λ arguments s is. no_fault _ fault is)))))
 
+pub stream_op_told : (five : List ℕ) (earlier : Earlier) (name : Name) (op : StreamOp) → StreamTold five earlier name op
+stream_op_told five earlier name (stream.Filter input e) = stream_filter_told five earlier name input e
+stream_op_told five earlier name (stream.Map input new) = stream_map_told five earlier name input new
+stream_op_told five earlier name (stream.Zip first second) = stream_zip_told five earlier name first second
+stream_op_told five earlier name (stream.Group input keys fold_name) = stream_groupby_told five earlier name input keys fold_name
+
 quiet_stands : (earlier : Earlier) (name : Name) (f : FoldView) → quiet_fold earlier.known name ≡ Ok f → IsFold earlier.known name.id f
 quiet_stands earlier name f e =
     let loud = found_first (fold_named earlier.known name) _ f e in
@@ -120,9 +139,13 @@ quiet_stands earlier name f e =
 kept : (rows : ℕ) → 1 ≤ rows → rows ≤ 65536 → (nat_lt 0 rows && nat_le rows 65536) ≡ true
 kept rows some few = both_hold (nat_lt 0 rows) (nat_le rows 65536) (below 0 rows (omega (arith, some))) (at_most rows 65536 few)
 
-pub final_op_told : (given : Given) (earlier : Earlier) (op : FinalOp) (fault : QueryFault) → made_final given earlier op ≡ Err fault
+-- what each fault in this operator of a final breaks
+abbrev FinalTold : Given → Earlier → FinalOp → Type 0
+FinalTold given earlier op = (fault : QueryFault) → made_final given earlier op ≡ Err fault
     → Broken (FinalAsks (five_fields given.fields) earlier.known op) earlier.known fault
-final_op_told given earlier (final.Filter input e) fault is =
+
+final_filter_told : (given : Given) (earlier : Earlier) (input : Name) (e : Expr) → FinalTold given earlier (final.Filter input e)
+final_filter_told given earlier input e fault is =
     by_next (table_named earlier.known input) _ fault is (λ is. record {
       demand = Stands ATable input;
       asks = asks.of_filtered input e;
@@ -137,7 +160,9 @@ final_op_told given earlier (final.Filter input e) fault is =
           b.tells earlier.known;
     })
     (λ condition q is. no_fault _ fault is))
-final_op_told given earlier (final.Map input new) fault is =
+
+final_map_told : (given : Given) (earlier : Earlier) (input : Name) (new : List Column) → FinalTold given earlier (final.Map input new)
+final_map_told given earlier input new fault is =
     by_next (table_named earlier.known input) _ fault is (λ is. record {
       demand = Stands ATable input;
       asks = asks.of_mapped input new;
@@ -147,7 +172,9 @@ final_op_told given earlier (final.Map input new) fault is =
     broken_in _ _ earlier.known fault (λ d asked. asks.of_columns input new source d (table_sound earlier.known input source p) asked)
     (columns_told source.columns [] new [] new no_new_columns earlier.known fault refl refl is))
     (λ made q is. no_fault _ fault is))
-final_op_told given earlier (final.Group input keys fold_name) fault is =
+
+final_groupby_told : (given : Given) (earlier : Earlier) (input : Name) (keys : List Key) (fold_name : Name) → FinalTold given earlier (final.Group input keys fold_name)
+final_groupby_told given earlier input keys fold_name fault is =
     let five = five_fields given.fields in
     by_next (table_named earlier.known input) _ fault is (λ is. record {
       demand = Stands ATable input;
@@ -173,7 +200,9 @@ final_op_told given earlier (final.Group input keys fold_name) fault is =
     (arguments_told source.columns [] (key_ids five keys) f fold_name.span earlier.known fault
     (subst A (ap (λ (z : Picked). z.names) k.2) is)))
     (λ arguments s is. no_fault _ fault is))))
-final_op_told given earlier (final.Join first second) fault is =
+
+final_join_told : (given : Given) (earlier : Earlier) (first second : Name) → FinalTold given earlier (final.Join first second)
+final_join_told given earlier first second fault is =
     by_next (table_named earlier.known first) _ fault is (λ is. record {
       demand = Stands ATable first;
       asks = asks.of_first first second;
@@ -196,7 +225,9 @@ final_op_told given earlier (final.Join first second) fault is =
       tells = told earlier.known (Apart (other_columns right) left.columns second.span) NameTaken second.span fault at
           (refl, λ apart. not_both _ (apart_complete (other_columns right) left.columns apart) among);
     }) (λ none is. no_fault _ fault is))))
-final_op_told given earlier (final.Top input column rows span) fault is =
+
+final_top_told : (given : Given) (earlier : Earlier) (input column : Name) (rows : ℕ) (span : Span) → FinalTold given earlier (final.Top input column rows span)
+final_top_told given earlier input column rows span fault is =
     by_next (table_named earlier.known input) _ fault is (λ is. record {
       demand = Stands ATable input;
       asks = asks.of_ranked input column rows span;
@@ -212,3 +243,10 @@ final_op_told given earlier (final.Top input column rows span) fault is =
       asks = asks.of_rows input column rows span;
       tells = told earlier.known (Kept rows span) BadConstant span fault at (refl, λ h. not_both _ bad (kept rows h.0 h.1));
     }) (λ good is. no_fault _ fault is)))
+
+pub final_op_told : (given : Given) (earlier : Earlier) (op : FinalOp) → FinalTold given earlier op
+final_op_told given earlier (final.Filter input e) = final_filter_told given earlier input e
+final_op_told given earlier (final.Map input new) = final_map_told given earlier input new
+final_op_told given earlier (final.Group input keys fold_name) = final_groupby_told given earlier input keys fold_name
+final_op_told given earlier (final.Join first second) = final_join_told given earlier first second
+final_op_told given earlier (final.Top input column rows span) = final_top_told given earlier input column rows span

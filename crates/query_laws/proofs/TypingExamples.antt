@@ -11,7 +11,7 @@ use Rattle.query_lang.specs.declared.query.Expr.{Expr}
 use Rattle.query_lang.specs.declared.query.Expr.TheVariants.{Number, Named, Not, Binary, Call}
 use Rattle.query_lang.specs.declared.query.Key.TheVariants as key
 use Rattle.query_lang.specs.declared.query.StreamOp.{StreamOp}
-use Rattle.query_lang.specs.declared.query.StreamOp.TheVariants.{Filter, Map, Zip}
+use Rattle.query_lang.specs.declared.query.StreamOp.TheVariants.{Filter, Map, Zip, Group}
 use Rattle.query_lang.specs.declared.typing.Found.{Found}
 use Rattle.query_lang.specs.declared.typing.Origin.TheVariants as origin
 use Rattle.query_lang.specs.declared.typing.Sort.{Sort}
@@ -25,6 +25,7 @@ use Rattle.query_laws.specs.Demands.{HasPart, AStream, Demand, Stands, AColumn, 
 use Rattle.query_laws.specs.Demands as parts
 use Rattle.query_laws.specs.ExprRules.{Kind, Word, Condition, StandsAt, HasKind, of_number, of_name, of_not, of_binary, of_call}
 use Rattle.query_laws.specs.FoldRules.{IsNew}
+use Rattle.query_laws.specs.StreamRules.{HasStream}
 use Rattle.query_laws.specs.StreamRules as rules
 use Rattle.query_laws.proofs.ExprComplete.{complete, word_complete, number_is, named_is, not_is, binary_is, call_is}
 use Rattle.query_laws.proofs.FaultSteps.{no_fault}
@@ -35,7 +36,8 @@ use Rattle.query_laws.proofs.Steps.{then_next, place_stands, stands_place}
 use Rattle.query_laws.specs.TypingExamples.{here, called, two_columns, first, second, is_less, typed_is_less, with_first, RefusesNumber}
 use Rattle.query_laws.specs.TypingExamples.{RefusesColumn, ExpressionExamples}
 use Rattle.query_laws.specs.TypingExamples.{fields, zipped, a_field, by_key, mapped, unmapped, of_one_argument, of_no_argument}
-use Rattle.query_laws.specs.TypingExamples.{items_before, MakesNothing, is_above_0, new_column, grouped_by, StreamExamples}
+use Rattle.query_laws.specs.TypingExamples.{items_before, Makes, MakesNothing, is_above_0, new_column, grouped_by, keys_named, eight_keys}
+use Rattle.query_laws.specs.TypingExamples.{five_names, by_fields, FilterExamples, MapExamples, ZipExamples, GroupExamples, StreamExamples}
 
 -- ---- expressions
 
@@ -185,8 +187,8 @@ new id names is = among_new id names is
 unmet : (op : StreamOp) (d : Demand) → StreamAsks [] items_before 1 (called 20) op d → (Holds items_before d → ⊥) → MakesNothing op
 unmet op d asked fails = λ made h. fails (stream_meets [] items_before 4 1 (called 20) op made d h asked)
 
-pub stream_examples : StreamExamples
-stream_examples = record {
+filter_examples : FilterExamples
+filter_examples = record {
   filter_on_the_key = record {
     source = by_key;
     condition = typed.Binary Lt (typed.Number 0) (typed.Slot 0);
@@ -208,6 +210,10 @@ stream_examples = record {
         (of_name (called 3) 1 (place_stands (1 ∷ 3 ∷ []) 3 1 refl)) tt;
     is = refl;
   };
+}
+
+map_examples : MapExamples
+map_examples = record {
   map_of_a_sum = record {
     source = unmapped;
     values = typed.Binary Add (typed.Slot 0) (typed.Slot 1) ∷ [];
@@ -238,6 +244,10 @@ stream_examples = record {
       (asks.of_value (new_column 5 first ∷ []) (new_column 6 (Named (called 5))) [] (AColumn two_columns [] 5 here) refl
       (asks.of_name Word (called 5) (parts.whole Word (Named (called 5))))))
       (no_place two_columns 5 refl);
+}
+
+zip_examples : ZipExamples
+zip_examples = record {
   zip_of_one_column = record {
     left = by_key;
     right = mapped;
@@ -254,6 +264,91 @@ stream_examples = record {
   zip_of_a_mapped_column = unmet (Zip (called 11) (called 12)) (Same mapped.columns unmapped.columns here)
       (asks.of_both (called 11) (called 12) mapped unmapped eleven twelve)
       (λ same. let e = same.1.0.1.0 refl in cc e);
+}
+
+eight_fields : Makes (Group (called 15) (keys_named eight_keys) (called 13))
+    (by_fields eight_keys (1 ∷ 2 ∷ 3 ∷ 4 ∷ 5 ∷ 6 ∷ 7 ∷ 8 ∷ []))
+eight_fields = record {
+  few = omega arith;
+  source = fields;
+  slots = 1 ∷ 2 ∷ 3 ∷ 4 ∷ 5 ∷ 6 ∷ 7 ∷ 8 ∷ [];
+  columns = a_field 21 ∷ a_field 22 ∷ a_field 23 ∷ a_field 24 ∷ a_field 25 ∷ a_field 26 ∷ a_field 27 ∷ a_field 28 ∷ [];
+  f = of_one_argument;
+  arguments = 0 ∷ [];
+  stream = fifteen;
+  picked = record {
+    places = (
+      field 21 1 refl,
+      (
+        field 22 2 refl,
+        (
+          field 23 3 refl,
+          (field 24 4 refl, (field 25 5 refl, (field 26 6 refl, (field 27 7 refl, (field 28 8 refl, tt))))),
+        ),
+      ),
+    );
+    distinct = (
+      new 21 ([]) refl,
+      (
+        new 22 (21 ∷ []) refl,
+        (
+          new 23 (21 ∷ 22 ∷ []) refl,
+          (
+            new 24 (21 ∷ 22 ∷ 23 ∷ []) refl,
+            (
+              new 25 (21 ∷ 22 ∷ 23 ∷ 24 ∷ []) refl,
+              (
+                new 26 (21 ∷ 22 ∷ 23 ∷ 24 ∷ 25 ∷ []) refl,
+                (
+                  new 27 (21 ∷ 22 ∷ 23 ∷ 24 ∷ 25 ∷ 26 ∷ []) refl,
+                  (new 28 (21 ∷ 22 ∷ 23 ∷ 24 ∷ 25 ∷ 26 ∷ 27 ∷ []) refl, tt),
+                ),
+              ),
+            ),
+          ),
+        ),
+      ),
+    );
+    few = omega arith;
+  };
+  there = (refl, (refl, (refl, (refl, (refl, (refl, (refl, (refl, tt))))))));
+  fold = thirteen;
+  taken = record { places = (field 2 0 refl, tt); apart = apart_sound (3 ∷ []) (21 ∷ 22 ∷ 23 ∷ 24 ∷ 25 ∷ 26 ∷ 27 ∷ 28 ∷ []) refl };
+  is = refl;
+}
+
+five_tuple : HasStream five_names items_before 4 1 (Group (called 15) (key.FiveTuple here ∷ []) (called 13))
+    (by_fields five_names (1 ∷ 2 ∷ 3 ∷ 4 ∷ 5 ∷ []))
+five_tuple = record {
+  few = omega arith;
+  source = fields;
+  slots = 1 ∷ 2 ∷ 3 ∷ 4 ∷ 5 ∷ [];
+  columns = a_field 21 ∷ a_field 22 ∷ a_field 23 ∷ a_field 24 ∷ a_field 25 ∷ [];
+  f = of_one_argument;
+  arguments = 0 ∷ [];
+  stream = fifteen;
+  picked = record {
+    places = (field 21 1 refl, (field 22 2 refl, (field 23 3 refl, (field 24 4 refl, (field 25 5 refl, tt)))));
+    distinct = (
+      new 21 ([]) refl,
+      (
+        new 22 (21 ∷ []) refl,
+        (
+          new 23 (21 ∷ 22 ∷ []) refl,
+          (new 24 (21 ∷ 22 ∷ 23 ∷ []) refl, (new 25 (21 ∷ 22 ∷ 23 ∷ 24 ∷ []) refl, tt)),
+        ),
+      ),
+    );
+    few = omega arith;
+  };
+  there = (refl, (refl, (refl, (refl, (refl, tt)))));
+  fold = thirteen;
+  taken = record { places = (field 2 0 refl, tt); apart = apart_sound (3 ∷ []) (21 ∷ 22 ∷ 23 ∷ 24 ∷ 25 ∷ []) refl };
+  is = refl;
+}
+
+group_examples : GroupExamples
+group_examples = record {
   groupby_of_a_key = record {
     few = omega arith;
     source = unmapped;
@@ -286,81 +381,11 @@ stream_examples = record {
       (asks.of_arguments (called 12) (key.Named (called 1) ∷ []) (called 14) unmapped of_no_argument (Apart (1 ∷ []) (1 ∷ []) here) twelve
       fourteen asks.of_states)
       (λ apart. apart.0.0 refl);
-  eight_fields = record {
-    few = omega arith;
-    source = fields;
-    slots = 1 ∷ 2 ∷ 3 ∷ 4 ∷ 5 ∷ 6 ∷ 7 ∷ 8 ∷ [];
-    columns = a_field 21 ∷ a_field 22 ∷ a_field 23 ∷ a_field 24 ∷ a_field 25 ∷ a_field 26 ∷ a_field 27 ∷ a_field 28 ∷ [];
-    f = of_one_argument;
-    arguments = 0 ∷ [];
-    stream = fifteen;
-    picked = record {
-      places = (
-        field 21 1 refl,
-        (
-          field 22 2 refl,
-          (
-            field 23 3 refl,
-            (field 24 4 refl, (field 25 5 refl, (field 26 6 refl, (field 27 7 refl, (field 28 8 refl, tt))))),
-          ),
-        ),
-      );
-      distinct = (
-        new 21 ([]) refl,
-        (
-          new 22 (21 ∷ []) refl,
-          (
-            new 23 (21 ∷ 22 ∷ []) refl,
-            (
-              new 24 (21 ∷ 22 ∷ 23 ∷ []) refl,
-              (
-                new 25 (21 ∷ 22 ∷ 23 ∷ 24 ∷ []) refl,
-                (
-                  new 26 (21 ∷ 22 ∷ 23 ∷ 24 ∷ 25 ∷ []) refl,
-                  (
-                    new 27 (21 ∷ 22 ∷ 23 ∷ 24 ∷ 25 ∷ 26 ∷ []) refl,
-                    (new 28 (21 ∷ 22 ∷ 23 ∷ 24 ∷ 25 ∷ 26 ∷ 27 ∷ []) refl, tt),
-                  ),
-                ),
-              ),
-            ),
-          ),
-        ),
-      );
-      few = omega arith;
-    };
-    there = (refl, (refl, (refl, (refl, (refl, (refl, (refl, (refl, tt))))))));
-    fold = thirteen;
-    taken = record { places = (field 2 0 refl, tt); apart = apart_sound (3 ∷ []) (21 ∷ 22 ∷ 23 ∷ 24 ∷ 25 ∷ 26 ∷ 27 ∷ 28 ∷ []) refl };
-    is = refl;
-  };
+  eight_fields = eight_fields;
   nine_fields = λ made h. absurd (omega (arith, h.picked.few));
-  five_tuple = record {
-    few = omega arith;
-    source = fields;
-    slots = 1 ∷ 2 ∷ 3 ∷ 4 ∷ 5 ∷ [];
-    columns = a_field 21 ∷ a_field 22 ∷ a_field 23 ∷ a_field 24 ∷ a_field 25 ∷ [];
-    f = of_one_argument;
-    arguments = 0 ∷ [];
-    stream = fifteen;
-    picked = record {
-      places = (field 21 1 refl, (field 22 2 refl, (field 23 3 refl, (field 24 4 refl, (field 25 5 refl, tt)))));
-      distinct = (
-        new 21 ([]) refl,
-        (
-          new 22 (21 ∷ []) refl,
-          (
-            new 23 (21 ∷ 22 ∷ []) refl,
-            (new 24 (21 ∷ 22 ∷ 23 ∷ []) refl, (new 25 (21 ∷ 22 ∷ 23 ∷ 24 ∷ []) refl, tt)),
-          ),
-        ),
-      );
-      few = omega arith;
-    };
-    there = (refl, (refl, (refl, (refl, (refl, tt)))));
-    fold = thirteen;
-    taken = record { places = (field 2 0 refl, tt); apart = apart_sound (3 ∷ []) (21 ∷ 22 ∷ 23 ∷ 24 ∷ 25 ∷ []) refl };
-    is = refl;
-  };
+  five_tuple = five_tuple;
   ninth_groupby = λ made h. absurd (omega (arith, h.few));
 }
+
+pub stream_examples : StreamExamples
+stream_examples = record { filters = filter_examples; maps = map_examples; zips = zip_examples; groupbys = group_examples }

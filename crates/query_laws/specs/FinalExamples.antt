@@ -74,7 +74,8 @@ first_rows rows = Top (called 10) (called 3) rows here
 abbrev pub MakesRows : ℕ → Type 0
 MakesRows rows = MakesTable (first_rows rows) (record { op = made_by.Top 0 1 rows; columns = 1 ∷ 3 ∷ []; keys = 1 })
 
-pub record FinalExamples : Type 0 where
+-- Filters of a table.
+pub record FilteredTables : Type 0 where
   -- a filter on the fold's variable, of a groupby and of a final; tables of finals are numbered after those of groupbys
   pub filter_of_a_groupby : MakesTable (Filter (called 10) (is_above_0 3)) (record {
     op = made_by.Filter 0 (typed.Binary Lt (typed.Number 0) (typed.Slot 1));
@@ -90,12 +91,18 @@ pub record FinalExamples : Type 0 where
   -- a stream of a `map` has no table, and neither has a fold
   pub filter_of_no_table : MakesNoTable (Filter (called 14) (is_above_0 1))
   pub filter_of_a_fold : MakesNoTable (Filter (called 15) (is_above_0 3))
+
+-- New columns of a table.
+pub record MappedTables : Type 0 where
   pub map_of_a_sum : MakesTable (Map (called 10) (new_column 5 (Binary Add here first (Named (called 3))) ∷ [])) (record {
     op = made_by.Map 0 (typed.Binary Add (typed.Slot 0) (typed.Slot 1) ∷ []);
     columns = 1 ∷ 3 ∷ 5 ∷ [];
     keys = 1;
   })
   pub map_to_a_column : MakesNoTable (Map (called 10) (new_column 3 first ∷ []))
+
+-- Groupbys of a table.
+pub record GroupedTables : Type 0 where
   -- the fold of a groupby has no `emit`
   pub groupby_of_a_key : MakesTable (table_by 10 1 15) (record {
     op = made_by.Group 0 (0 ∷ []) 0 (1 ∷ []);
@@ -105,6 +112,9 @@ pub record FinalExamples : Type 0 where
   pub groupby_with_an_emit : MakesNoTable (table_by 10 1 16)
   pub key_without_a_column : MakesNoTable (table_by 10 2 15)
   pub argument_without_a_column : MakesNoTable (table_by 11 1 15)
+
+-- Two tables joined.
+pub record JoinedTables : Type 0 where
   -- two tables with the same keys, and no other column of one name
   pub join_by_the_same_keys : MakesTable (Join (called 10) (called 11)) (record {
     op = made_by.Join 0 1;
@@ -113,6 +123,9 @@ pub record FinalExamples : Type 0 where
   })
   pub join_by_other_keys : MakesNoTable (Join (called 10) (called 12))
   pub join_of_one_name : MakesNoTable (Join (called 10) (called 13))
+
+-- The greatest rows of a table.
+pub record RankedTables : Type 0 where
   -- at least one row, and at most 65,536, by a column
   pub top_0 : MakesNoTable (first_rows 0)
   pub top_1 : MakesRows 1
@@ -120,3 +133,10 @@ pub record FinalExamples : Type 0 where
   pub top_65536 : MakesRows 65536
   pub top_65537 : MakesNoTable (first_rows 65537)
   pub top_by_no_column : MakesNoTable (Top (called 10) (called 4) 5 here)
+
+pub record FinalExamples : Type 0 where
+  pub filters : FilteredTables
+  pub maps : MappedTables
+  pub groupbys : GroupedTables
+  pub joins : JoinedTables
+  pub tops : RankedTables

@@ -205,7 +205,8 @@ by_fields ids slots = record {
   table = Some (record { place = place.Group 1; columns = ids ++ 3 ∷ []; keys = length ids });
 }
 
-pub record StreamExamples : Type 0 where
+-- Filters of a stream.
+pub record FilterExamples : Type 0 where
   -- a filter on the key, and none on the fold's state; and a fold is no stream
   pub filter_on_the_key : Makes (Filter (called 10) (is_above_0 1)) (record {
     op = made_by.Filter 1 (typed.Binary Lt (typed.Number 0) (typed.Slot 0));
@@ -222,6 +223,9 @@ pub record StreamExamples : Type 0 where
     hidden = 3 ∷ [];
     table = None;
   })
+
+-- New columns of a stream.
+pub record MapExamples : Type 0 where
   -- a new column, after those of the input
   pub map_of_a_sum : Makes (Map (called 12) (new_column 5 (Binary Add here first second) ∷ [])) (record {
     op = made_by.Map 3 (typed.Binary Add (typed.Slot 0) (typed.Slot 1) ∷ []);
@@ -235,6 +239,9 @@ pub record StreamExamples : Type 0 where
   pub map_to_one_name : MakesNothing (Map (called 12) (new_column 5 first ∷ new_column 5 second ∷ []))
   pub map_of_a_condition : MakesNothing (Map (called 12) (new_column 5 is_less ∷ []))
   pub map_of_a_new_column : MakesNothing (Map (called 12) (new_column 5 first ∷ new_column 6 (Named (called 5)) ∷ []))
+
+-- Two streams side by side.
+pub record ZipExamples : Type 0 where
   -- the key and the mapped column side by side; but a mapped column isn't the packet's field of its name
   pub zip_of_one_column : Makes (Zip (called 10) (called 11)) (record {
     op = made_by.Zip 1 2 (1 ∷ []);
@@ -243,6 +250,9 @@ pub record StreamExamples : Type 0 where
     table = None;
   })
   pub zip_of_a_mapped_column : MakesNothing (Zip (called 11) (called 12))
+
+-- Groupbys of a stream.
+pub record GroupExamples : Type 0 where
   -- the second column is the fold's argument; the table has the key and then the fold's variable
   pub groupby_of_a_key : Makes (grouped_by 12 1 13) (record {
     op = made_by.Group 3 (0 ∷ []) 0 (1 ∷ []);
@@ -263,3 +273,9 @@ pub record StreamExamples : Type 0 where
   pub five_tuple : HasStream five_names items_before 4 1 (Group (called 15) (key.FiveTuple here ∷ []) (called 13))
       (by_fields five_names (1 ∷ 2 ∷ 3 ∷ 4 ∷ 5 ∷ []))
   pub ninth_groupby : (made : MadeStream) → HasStream [] items_before 4 8 (grouped_by 12 1 13) made → ⊥
+
+pub record StreamExamples : Type 0 where
+  pub filters : FilterExamples
+  pub maps : MapExamples
+  pub zips : ZipExamples
+  pub groupbys : GroupExamples
