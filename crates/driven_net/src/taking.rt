@@ -17,7 +17,7 @@ ghost use Rattle.driven_net.specs.Lags.{AreLagClocks, CountsAt, HaveCounted};
 ghost use Rattle.driven_net.specs.NetTraces.{first_fault};
 ghost use Rattle.driven_net.specs.Turns.{MakesTurn, MakesTurns, Meets, known_after};
 
-use marple_base::{Field, Packet, Seq, Steps};
+use marple_base::{FIELDS, Field, Packet, Seq, Steps};
 use net_wide::number_switch;
 use network::{Network, runs_follow_events};
 use std::alloc::{AllocError, Global};
@@ -136,7 +136,7 @@ pub(crate) fn take_all<const WAYS: usize, L: Ledger>(
     let mut network = network;
     let mut known = Seq::new(alloc);
     let mut clocks = [Clock::new(lag); 64];
-    let mut packet = Packet { words: [0; 14] };
+    let mut packet = Packet { words: [0; FIELDS] };
     let mut number = 0;
     'packets: while trace.next_into(&mut packet)? {
         number += 1;

@@ -7,6 +7,7 @@ use Rattle.std.proofs.Math.Logic.{∥∥₁_elim}
 use Rattle.std.proofs.Props.{props}
 use Rattle.std.proofs.lemmas.Bool.{false≢true}
 use Rattle.std.proofs.lemmas.List.Elements.{All-nil, All-cons, All-head, All-tail, All-append, All-map, All-weaker}
+use Rattle.marple_base.specs.declared.field.TheConstants.{FIELDS}
 use Rattle.query_lang.specs.declared.fold.TypedFold.{TypedFold}
 use Rattle.query_lang.specs.declared.typed.Class.{Class}
 use Rattle.query_lang.specs.declared.typed.Class.TheVariants as class
@@ -143,7 +144,7 @@ module _ (plan : PlanParts) (buckets : ℕ) (sound : IsSoundPlan plan) where
       let known = group_sound plan i group sound at in
       ∥∥₁_elim known.2.program (may_prop group.program.class group.program.depth (epochs_of group lane) (table_of group lane))
       (λ h.
-      let is = heading_is (14 + length plan.ops) group known.0 h.0 known.2 h.1 in
+      let is = heading_is (FIELDS + length plan.ops) group known.0 h.0 known.2 h.1 in
       subst (λ c. MayBeShownBy (Group c group.program.depth (epochs_of group lane)) (table_of group lane)) (sym is.class)
       (may_by group lane h.0 (class_of h.0) group.program.depth (epochs_of group lane) is of_lane.keys has (of_lane.kind h.0 h.1)))
 

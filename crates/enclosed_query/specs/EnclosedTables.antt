@@ -37,7 +37,7 @@ abbrev pub enclosed_from : TypedQuery → Geometry → List (List ℕ) → ℕ �
 enclosed_from q g packets i [] = []
 enclosed_from q g packets i (shape ∷ shapes) = enclosed_if q g packets i shape (fold_at q i) ++ enclosed_from q g packets (suc i) shapes
 
--- What is shown of a query's groupbys over these packets, each of 14 words.
+-- What is shown of a query's groupbys over these packets, each with a word for each field.
 unfoldable pub enclosed_tables : TypedQuery → Geometry → List (List ℕ) → List Enclosed
 enclosed_tables q g packets = enclosed_from q g packets 0 (query_groups q)
 

@@ -6,6 +6,7 @@ use Rattle.std.proofs.lemmas.Bool.Decides.{nat_tests}
 use Rattle.marple_base.specs.declared.field.Field.{Field}
 use Rattle.marple_base.specs.declared.field.FieldSet.{FieldSet}
 use Rattle.marple_base.specs.Field.{number_of, HasField}
+use Rattle.marple_base.specs.declared.field.TheConstants.{FIELDS}
 use Rattle.query_lang.specs.declared.fold.Op.{Op}
 use Rattle.query_lang.specs.declared.fold.Op.TheVariants as two
 use Rattle.query_lang.specs.Terms.{Term, Literal, Read, Negation, Operation}
@@ -22,7 +23,7 @@ use Rattle.marple_laws.proofs.Listed.{IsIn', in_left', in_right'}
 
 -- an operand that is allowed: a field that is read, another register, or a number that fits a word
 abbrev pub IsGood : FieldSet → Operand → Type 0
-IsGood reads (Register r) = r < 14 → (f : Field) × (number_of f ≡ r) × HasField reads f
+IsGood reads (Register r) = r < FIELDS → (f : Field) × (number_of f ≡ r) × HasField reads f
 IsGood reads (Number n) = n < 2 ^ 64
 
 -- `not` has the number 0 as its second operand

@@ -4,6 +4,7 @@ use Rattle.std.specs.Prelude.{◌⊎◌, codes}
 use Rattle.marple_base.specs.declared.field.Field.{Field}
 use Rattle.marple_base.specs.declared.field.Field.TheVariants as fields
 use Rattle.marple_base.specs.Field.{all_fields, field_name, number_of}
+use Rattle.marple_base.specs.declared.field.TheConstants.{FIELDS}
 use Rattle.stage_plan.specs.declared.op.Operand.{Operand}
 use Rattle.stage_plan.specs.declared.op.Operand.TheVariants.{Register, Number}
 use Rattle.stage_plan.specs.declared.op.PlanOp.{PlanOp}
@@ -101,7 +102,7 @@ reads_line line = by (tokens line) refl
 -- operands and the lines `op`
 
 pub known : (fs : List Field) (ops : List PlanOp) (o : Operand) → Decided (IsKnown fs ops o)
-known fs ops (Register r) = either (contains same_number (map number_of fs) r) (both (most 14 r) (less r (14 + length ops)))
+known fs ops (Register r) = either (contains same_number (map number_of fs) r) (both (most FIELDS r) (less r (FIELDS + length ops)))
 known fs ops (Number n) = inl tt
 
 staged : (ops : List PlanOp) (op : PlanOp) → Decided (IsStaged ops op)

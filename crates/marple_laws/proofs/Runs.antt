@@ -5,6 +5,7 @@ use Rattle.std.specs.List.{range_with_len}
 use Rattle.std.proofs.lemmas.List.{length-map}
 use Rattle.std.proofs.lemmas.List.Elements.{All-head, All-tail}
 use Rattle.std.proofs.lemmas.Option.{slice_get_within, slice_get_cases, slice_get-map}
+use Rattle.marple_base.specs.declared.field.TheConstants.{FIELDS}
 use Rattle.query_lang.specs.declared.fold.TypedFold.{TypedFold}
 use Rattle.query_lang.specs.declared.typed.PrintOf.{PrintOf}
 use Rattle.query_lang.specs.declared.typed.PrintOf.TheVariants as printed
@@ -111,7 +112,7 @@ module _ (q : TypedQuery) (p : PlanParts) (valid : IsValidQuery q) (plan : IsPla
       wired = slice_get-map (wiring_of (query_registers q) (query_made q).streams) (takings q.streams) i
           ∙ ap (option_map (wiring_of (query_registers q) (query_made q).streams)) e
 
-      s : IsSoundGroup (14 + length p.ops) group (wiring_of (query_registers q) (query_made q).streams t)
+      s : IsSoundGroup (FIELDS + length p.ops) group (wiring_of (query_registers q) (query_made q).streams t)
       s = sound.each i group (wiring_of (query_registers q) (query_made q).streams t) g
           (ap (λ l. slice_get l i) (wiring_is q p plan) ∙ wired)
 
@@ -135,7 +136,7 @@ module _ (q : TypedQuery) (p : PlanParts) (valid : IsValidQuery q) (plan : IsPla
     | inr past ↦ absurd (let l = slice_get_within (query_groups q) i shape e in omega (arith, past.0, l, shapes_long))
   ]
 
-  module _ (g : Geometry) (packets : List (List ℕ)) (whole : All (λ words. length words ≡ 14) packets) where
+  module _ (g : Geometry) (packets : List (List ℕ)) (whole : All (λ words. length words ≡ FIELDS) packets) where
     same_uses : (i : ℕ) (shape : GroupShape) (h : HasParts q i) → i < length p.groups
         → uses_in (made_of q) (folded_with shape h.wiring h.fold) packets ≡ uses q i packets
     same_uses i shape h lt = sym (

@@ -13,6 +13,7 @@ use Rattle.std.proofs.lemmas.Option.{same_Some, slice_get-map}
 use Rattle.marple_base.specs.declared.field.Field.{Field}
 use Rattle.marple_base.specs.declared.field.FieldSet.{FieldSet}
 use Rattle.marple_base.specs.Field.{all_fields, field_name, has_field}
+use Rattle.marple_base.specs.declared.field.TheConstants.{FIELDS}
 use Rattle.query_lang.specs.declared.fold.TypedFold.{TypedFold}
 use Rattle.query_lang.specs.declared.typed.PrintOf.{PrintOf}
 use Rattle.query_lang.specs.declared.typed.PrintOf.TheVariants as place
@@ -154,15 +155,15 @@ AreSmall registers = (k r : ℕ) → slice_get registers k ≡ Some r → r < 2 
 
 moved_fits : (registers : List ℕ) → AreSmall registers → (o : Operand) → NumFits o → Fits (moved registers o)
 moved_fits registers small (Number n) g = g
-moved_fits registers small (Register r) g = by (nat_lt r 14) refl
+moved_fits registers small (Register r) g = by (nat_lt r FIELDS) refl
   where
-    new : (o : Option ℕ) → slice_get registers (r - 14) ≡ o → Fits (register_or_none o)
+    new : (o : Option ℕ) → slice_get registers (r - FIELDS) ≡ o → Fits (register_or_none o)
     new None e = omega arith
-    new (Some x) e = small (r - 14) x e
+    new (Some x) e = small (r - FIELDS) x e
 
-    by : (b : Bool) → nat_lt r 14 ≡ b → Fits (if b then Register r else register_or_none (slice_get registers (r - 14)))
-    by true e = let lt : r < 14 = grind (arith, nat_tests) in omega (arith, lt)
-    by false e = new (slice_get registers (r - 14)) refl
+    by : (b : Bool) → nat_lt r FIELDS ≡ b → Fits (if b then Register r else register_or_none (slice_get registers (r - FIELDS)))
+    by true e = let lt : r < FIELDS = grind (arith, nat_tests) in omega (arith, lt)
+    by false e = new (slice_get registers (r - FIELDS)) refl
 
 slots_fit : (registers : List ℕ) → AreSmall registers → (reads : FieldSet) (sources : List Source) (columns : List Operand)
     → AreFrom reads sources columns → (slots : List ℕ)

@@ -8,6 +8,7 @@ use Rattle.std.proofs.lemmas.Grind.{flat_map-append}
 use Rattle.epoch_model.proofs.KeyLists.{by_test}
 use Rattle.marple_base.specs.declared.field.Field.TheVariants.{Tout}
 use Rattle.marple_base.specs.declared.field.Packet.{Packet}
+use Rattle.marple_base.specs.declared.field.TheConstants.{FIELDS}
 use Rattle.trace_reader.specs.declared.fault.TheConstants.{MAX_TRACE}
 use Rattle.queue_sim.specs.Generator.{Arrival, arrival_by, arrivals, drawn_after, last_time, leaves, packet_of, packets_from, simulated}
 use Rattle.queue_sim.specs.Generator.{still_there, switch_of, touts_at, with_some}
@@ -212,7 +213,7 @@ module _ (start capacity : ℕ) where
       go true = inl leaving
       go false = inr refl
 
-  are_push : (packets : List Packet) (p : Packet) → ArePackets packets → length p.words ≡ 14 → AreWords p.words
+  are_push : (packets : List Packet) (p : Packet) → ArePackets packets → length p.words ≡ FIELDS → AreWords p.words
       → ArePackets (packets ++ p ∷ [])
   are_push [] p are size words = (size, words, tt)
   are_push (first ∷ packets) p are size words = (are.0, are.1, are_push packets p are.2 size words)

@@ -7,6 +7,7 @@ use Rattle.std.proofs.lemmas.List.{length_push}
 use Rattle.std.proofs.lemmas.List.Elements.{All-nil, All-cons, All-push, All-weaker}
 use Rattle.marple_base.specs.declared.field.Field.{Field}
 use Rattle.marple_base.specs.Field.{all_fields}
+use Rattle.marple_base.specs.declared.field.TheConstants.{FIELDS}
 use Rattle.query_lang.specs.declared.fold.TypedFold.{TypedFold}
 use Rattle.query_lang.specs.declared.query.Item.{Item}
 use Rattle.query_lang.specs.declared.query.Item.TheVariants as item
@@ -89,7 +90,7 @@ none_before test (y ∷ xs) x e = go (test y) (λ k. none_before test xs x k) e
 
 module _ (field : Field) (names : List (List ℕ)) (folds : List TypedFold) (five : List ℕ) (known : AreKnown names all_fields)
     (words : List ℕ)
-    (size : length words ≡ 14) where
+    (size : length words ≡ FIELDS) where
   abbrev rows : List Entry → List Row
   rows items = rows_from folds (Some words ∷ []) (streams_in items)
 
@@ -162,7 +163,7 @@ module _ (field : Field) (names : List (List ℕ)) (folds : List TypedFold) (fiv
 -- what the rows of each whole packet say of an operator
 abbrev pub AlwaysTells : TypedQuery → Field → List ℕ → TypedOp → Type 0
 AlwaysTells q field columns op =
-    (words : List ℕ) → length words ≡ 14 → KeysTell field q.names (word_of field words) (all_rows q words) columns op
+    (words : List ℕ) → length words ≡ FIELDS → KeysTell field q.names (word_of field words) (all_rows q words) columns op
 
 -- so in each typed query where no `map` makes a column of the field's name
 pub always_tells : (query : Query) (q : TypedQuery) (field : Field) → IsTyped query q → makes_field field q.names q.streams ≡ false

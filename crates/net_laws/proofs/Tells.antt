@@ -7,6 +7,7 @@ use Rattle.marple_base.specs.declared.field.Field.{Field}
 use Rattle.marple_base.specs.declared.field.Field.TheVariants.{Switch, Qid, Uid, SrcIp, DstIp, SrcPort, DstPort, Proto, PktLen, PayloadLen}
 use Rattle.marple_base.specs.declared.field.Field.TheVariants.{TcpSeq, Tin, Tout, QSize}
 use Rattle.marple_base.specs.Field.{all_fields, field_name, number_of}
+use Rattle.marple_base.specs.declared.field.TheConstants.{FIELDS}
 use Rattle.query_lang.specs.Names.{number_in}
 use Rattle.query_lang.specs.Streams.{values_at}
 use Rattle.query_lang.specs.Typing.{field_numbers}
@@ -119,7 +120,7 @@ module _ (field : Field) (names : List (List ℕ)) (all : List ℕ) where
       )
 
 -- a packet's words, under the names of the fields
-pub packet_tells : (field : Field) (names : List (List ℕ)) (words : List ℕ) → AreKnown names all_fields → length words ≡ 14
+pub packet_tells : (field : Field) (names : List (List ℕ)) (words : List ℕ) → AreKnown names all_fields → length words ≡ FIELDS
     → Tells field names (word_of field words) (field_numbers names) words
 packet_tells field names words known size =
     fields_tell field names words 0 all_fields words known size

@@ -4,6 +4,7 @@ use Rattle.std.proofs.Common.{slice_index, Option, Some, None, refl, sym, ap, �
 use Rattle.std.specs.Prelude.{slice_get, option_map, option_and_then, if◌then◌else◌}
 use Rattle.std.specs.List.{list_any}
 use Rattle.std.proofs.lemmas.List.Elements.{All-nil, All-cons, All-head, All-tail, All-filter}
+use Rattle.marple_base.specs.declared.field.TheConstants.{FIELDS}
 use Rattle.query_lang.specs.declared.fold.TypedFold.{TypedFold}
 use Rattle.query_lang.specs.declared.typed.Class.TheVariants.{Linear}
 use Rattle.query_lang.specs.declared.typed.TypedQuery.{TypedQuery}
@@ -107,15 +108,16 @@ module _ (number : ℕ → ℕ) (take : List ℕ → Option Taken) (all : List (
       rw (t, u) rest)
 
   -- what a key takes of one number alone, where each packet that gives it has that number
-  module _ (key : Key) (one : ℕ) (only : (words : List ℕ) (t : Taken) → length words ≡ 14 → take words ≡ Some t → key_eq t.key key ≡ true
+  module _ (key : Key) (one : ℕ) (only : (words : List ℕ) (t : Taken) → length words ≡ FIELDS → take words ≡ Some t
+      → key_eq t.key key ≡ true
       → number (switch_in words) ≡ one) where
     rows_of_one : (n m : ℕ) (packets : List (List ℕ)) → AreWhole packets
         → rows_used key (uses_taken n (taken_of one (steps_of number take packets))) ≡ rows_used key (uses_taken m (map take packets))
     rows_of_one n m [] whole = refl
     rows_of_one n m (words ∷ packets) whole =
         by_test (number (switch_in words) == one)
-        (λ t. rw t (here (take words) (rows_of_one (suc n) (suc m) packets (All-tail (λ w. length w ≡ 14) words packets whole))))
-        (λ t. rw t (there t (take words) refl (rows_of_one n (suc m) packets (All-tail (λ w. length w ≡ 14) words packets whole))))
+        (λ t. rw t (here (take words) (rows_of_one (suc n) (suc m) packets (All-tail (λ w. length w ≡ FIELDS) words packets whole))))
+        (λ t. rw t (there t (take words) refl (rows_of_one n (suc m) packets (All-tail (λ w. length w ≡ FIELDS) words packets whole))))
       where
         here : (o : Option Taken) → rows_used key (uses_taken (suc n) (taken_of one (steps_of number take packets))) ≡ rows_used key
             (uses_taken (suc m) (map take packets))
@@ -131,7 +133,8 @@ module _ (number : ℕ → ℕ) (take : List ℕ → Option Taken) (all : List (
             (use_at m o ++ uses_taken (suc m) (map take packets))
         there t None is h = h
         there t (Some x) is h = by_test (key_eq x.key key)
-            (λ k. absurd (not_number (number (switch_in words)) one t (only words x (All-head (λ w. length w ≡ 14) words packets whole) is
+            (λ k. absurd (not_number (number (switch_in words)) one t (only words x (All-head (λ w. length w ≡ FIELDS) words packets whole)
+            is
             k)))
             (λ k. rw k h)
 
@@ -140,8 +143,8 @@ module _ (number : ℕ → ℕ) (take : List ℕ → Option Taken) (all : List (
     rows_of_other k n d [] whole = refl
     rows_of_other k n d (words ∷ packets) whole =
         by_test (number (switch_in words) == k)
-        (λ t. rw t (here t (take words) refl (rows_of_other k (suc n) d packets (All-tail (λ w. length w ≡ 14) words packets whole))))
-        (λ t. rw t (rows_of_other k n d packets (All-tail (λ w. length w ≡ 14) words packets whole)))
+        (λ t. rw t (here t (take words) refl (rows_of_other k (suc n) d packets (All-tail (λ w. length w ≡ FIELDS) words packets whole))))
+        (λ t. rw t (rows_of_other k n d packets (All-tail (λ w. length w ≡ FIELDS) words packets whole)))
       where
         here : (number (switch_in words) == k) ≡ true → (o : Option Taken) → take words ≡ o
             → rows_used key (uses_taken (suc n) (taken_of k (steps_of number take packets))) ≡ []
@@ -149,7 +152,7 @@ module _ (number : ℕ → ℕ) (take : List ℕ → Option Taken) (all : List (
         here t None is h = h
         here t (Some x) is h = by_test (key_eq x.key key)
             (λ e. absurd (d (sym (same_number (number (switch_in words)) k t)
-            ∙ only words x (All-head (λ w. length w ≡ 14) words packets whole) is e)))
+            ∙ only words x (All-head (λ w. length w ≡ FIELDS) words packets whole) is e)))
             (λ e. rw e h)
 
 whole_taken : (number : ℕ → ℕ) (take : List ℕ → Option Taken) (packets : List (List ℕ))
@@ -249,15 +252,16 @@ module _ (q : TypedQuery) (plan : PlanParts) (buckets ways : ℕ) (packets : Lis
     abbrev read : List ℕ → Option Taken
     read words = option_map (packetwise.row_taken t) (packetwise.row_at (packetwise.all_rows q words) t.input)
 
-    alone : (words : List ℕ) → length words ≡ 14 → AreWhole (words ∷ [])
-    alone words size = All-cons (λ ws. length ws ≡ 14) words [] size (All-nil (λ ws. length ws ≡ 14))
+    alone : (words : List ℕ) → length words ≡ FIELDS → AreWhole (words ∷ [])
+    alone words size = All-cons (λ ws. length ws ≡ FIELDS) words [] size (All-nil (λ ws. length ws ≡ FIELDS))
 
-    take_is : (words : List ℕ) → length words ≡ 14 → take words ≡ read words
+    take_is : (words : List ℕ) → length words ≡ FIELDS → take words ≡ read words
     take_is words size = same_taken (take words) (read words)
         (sym (p.takes i (words ∷ []) within (alone words size)) ∙ packetwise.uses_are q i t read at (λ ws long. refl) (words ∷ [])
         (alone words size))
 
-    only : (words : List ℕ) (x : Taken) → length words ≡ 14 → take words ≡ Some x → key_eq x.key key ≡ true → number (switch_in words) ≡ one
+    only : (words : List ℕ) (x : Taken) → length words ≡ FIELDS → take words ≡ Some x → key_eq x.key key ≡ true
+        → number (switch_in words) ≡ one
     only words x size is e = ap number (tells_switch q i t at packets packets whole whole (λ s. refl) k key words x size
         (sym (take_is words size) ∙ is) e)
 
@@ -339,7 +343,7 @@ module _ (q : TypedQuery) (plan : PlanParts) (buckets ways : ℕ) (packets : Lis
   uses_of : (s : ℕ) → IsSeen s packets → own_uses (number s) (steps_of number (taken plan i) packets) ≡ uses_at q i packets s
   uses_of s seen =
       ap (uses_taken 1) (taken_own number (taken plan i) packets numbered s seen packets (λ a some. some))
-      ∙ sym (p.takes i (packets_at s packets) within (All-filter (λ words. switch_in words == s) (λ words. length words ≡ 14) packets
+      ∙ sym (p.takes i (packets_at s packets) within (All-filter (λ words. switch_in words == s) (λ words. length words ≡ FIELDS) packets
       whole))
 
   epochs_of : (s : ℕ) → IsSeen s packets → lists_of key (machine_at cuts (number s) events).closed ≡ epochs cuts (uses_at q i packets s) key

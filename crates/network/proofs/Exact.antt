@@ -7,6 +7,7 @@ use Rattle.std.proofs.lemmas.Bool.{true≢false}
 use Rattle.std.proofs.lemmas.Bool.Decides.{nat_tests}
 use Rattle.std.proofs.lemmas.Cmp.{nat_list_cmp_total, tied_itself}
 use Rattle.std.proofs.lemmas.List.Elements.{All-head, All-tail, filter-append}
+use Rattle.marple_base.specs.declared.field.TheConstants.{FIELDS}
 use Rattle.query_lang.specs.declared.fold.TypedFold.{TypedFold}
 use Rattle.query_lang.specs.declared.typed.Class.TheVariants.{Linear}
 use Rattle.query_lang.specs.Folds.{initial_state}
@@ -136,7 +137,7 @@ store_keys g events merged room all = same_keys (all_epochs merged) (keys_given 
 -- ---- what other switches are given of a key
 
 module _ (plan : PlanParts) (n j at : ℕ) (key : Key) (place : IsSwitchPlace plan n j) (other : ℕ) (far : other ≢ at) where
-  one_given : (switch : ℕ) (words : List ℕ) (o : Option Taken) (more : List SwitchEvent) → taken plan n words ≡ o → length words ≡ 14
+  one_given : (switch : ℕ) (words : List ℕ) (o : Option Taken) (more : List SwitchEvent) → taken plan n words ≡ o → length words ≡ FIELDS
       → (switch_in words ≡ slice_index key j → switch ≡ at)
       → rows_given key (events_at other more) ≡ [] → rows_given key (events_at other (from_switch switch (event_of o) ++ more)) ≡ []
   one_given switch words None more is whole theirs rest = rest
@@ -165,8 +166,8 @@ module _ (plan : PlanParts) (n j at : ℕ) (key : Key) (place : IsSwitchPlace pl
   others_given [] whole theirs = refl
   others_given (Takes switch words ∷ events) whole theirs =
       one_given switch words (taken plan n words) (all_given plan n events) refl
-      (All-head (λ w. length w ≡ 14) words (packets_taken events) whole) theirs.0
-      (others_given events (All-tail (λ w. length w ≡ 14) words (packets_taken events) whole) theirs.1)
+      (All-head (λ w. length w ≡ FIELDS) words (packets_taken events) whole) theirs.0
+      (others_given events (All-tail (λ w. length w ≡ FIELDS) words (packets_taken events) whole) theirs.1)
   others_given (Evicts switch lane bucket ∷ events) whole theirs = none_evicted lane switch bucket (all_given plan n events)
       (others_given events whole theirs)
   others_given (Merges switch lane ∷ events) whole theirs = none_given lane switch (all_given plan n events)

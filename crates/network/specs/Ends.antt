@@ -1,6 +1,7 @@
 -- What the tables of a drained network are.
 use Rattle.std.specs.Prelude.{◌≡◌, ℕ, None, Some, List, [], ◌∷◌, ◌++◌, length, slice_get, slice_index, true}
 use Rattle.std.specs.List.{list_all}
+use Rattle.marple_base.specs.declared.field.TheConstants.{FIELDS}
 use Rattle.query_lang.specs.declared.fold.TypedFold.{TypedFold}
 use Rattle.query_lang.specs.declared.typed.TypedQuery.{TypedQuery}
 use Rattle.query_lang.specs.TypedQueries.{IsValidQuery}
@@ -72,7 +73,7 @@ AreTakenAt at word (Merges switch lane ∷ events) = AreTakenAt at word events
 
 -- at this place the groupby's keys have the switch of the packet that they are taken from
 abbrev pub IsSwitchPlace : PlanParts → ℕ → ℕ → Type 0
-IsSwitchPlace plan n j = (words : List ℕ) (t : Taken) → length words ≡ 14 → taken plan n words ≡ Some t
+IsSwitchPlace plan n j = (words : List ℕ) (t : Taken) → length words ≡ FIELDS → taken plan n words ≡ Some t
     → slice_index t.key j ≡ switch_in words
 
 -- A drained network represents these events, and this is the fold of its groupby with this number.

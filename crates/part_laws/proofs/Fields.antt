@@ -9,6 +9,7 @@ use Rattle.std.proofs.lemmas.List.Elements.{All-nil, All-cons, All-head, All-tai
 use Rattle.epoch_model.specs.Epochs.{Use}
 use Rattle.epoch_model.proofs.KeyLists.{by_test}
 use Rattle.marple_base.specs.declared.field.Field.{Field}
+use Rattle.marple_base.specs.declared.field.TheConstants.{FIELDS}
 use Rattle.query_lang.specs.declared.query.Query.{Query}
 use Rattle.query_lang.specs.declared.typed.TypedOp.{TypedOp}
 use Rattle.query_lang.specs.declared.typed.TypedOp.TheVariants as typed
@@ -70,7 +71,7 @@ key_tells t value j (Some row) lt h =
 
 -- each key that a packet gives to the groupby has the packet's word of the field, in the first column of its name
 abbrev GivesWords : TypedQuery → ℕ → Field → List ℕ → Type 0
-GivesWords q i field columns = (words : List ℕ) → length words ≡ 14
+GivesWords q i field columns = (words : List ℕ) → length words ≡ FIELDS
     → All (λ u. word_of field words ≡ slice_index u.key (first_named field q.names columns)) (uses q i (words ∷ []))
 
 gives_words : (q : TypedQuery) (i : ℕ) (field : Field) (columns : List ℕ) (op : TypedOp)
@@ -106,7 +107,7 @@ fields_keep query q i field choose h has = record {
 -- ---- several fields
 
 all_give : (query : Query) (q : TypedQuery) (i : ℕ) → IsTyped query q → (one : TypedStream) → slice_get (groupbys q) i ≡ Some one
-    → (fields : List Field) → All (HasFieldKey q i) fields → (words : List ℕ) → length words ≡ 14
+    → (fields : List Field) → All (HasFieldKey q i) fields → (words : List ℕ) → length words ≡ FIELDS
     → All (λ u. map (λ field. word_of field words) fields ≡ map (λ field. slice_index u.key (first_named field q.names one.columns)) fields)
     (uses q i (words ∷ []))
 all_give query q i h one at [] all words size k d lt = refl

@@ -2,6 +2,7 @@
 use Rattle.std.specs.Prelude.{◌≡◌, ℕ, ◌==◌, true, false, is_some, List, [], ◌∷◌, length, map, filter, All}
 use Rattle.std.specs.Prelude.{suc, if◌then◌else◌, Some, slice_get, slice_index}
 use Rattle.marple_base.specs.declared.field.Field.{Field}
+use Rattle.marple_base.specs.declared.field.TheConstants.{FIELDS}
 use Rattle.query_lang.specs.declared.typed.TypedQuery.{TypedQuery}
 use Rattle.query_lang.specs.declared.typed.TypedStream.{TypedStream}
 use Rattle.query_lang.specs.Streams.{taking_of}
@@ -23,7 +24,7 @@ part_at partition n packets = filter (λ words. partition words == n) packets
 -- part of that key.
 pub record KeepsKeys (partition : Partition) (q : TypedQuery) (i : ℕ) : Type 0 where
   pub part_of : Key → ℕ
-  pub goes : (words : List ℕ) → length words ≡ 14 → All (λ u. partition words ≡ part_of u.key) (uses q i (words ∷ []))
+  pub goes : (words : List ℕ) → length words ≡ FIELDS → All (λ u. partition words ≡ part_of u.key) (uses q i (words ∷ []))
 
 -- the list has the part of each packet, and perhaps other parts, each once
 pub record AreTheParts (partition : Partition) (packets : List (List ℕ)) (parts : List ℕ) : Type 0 where

@@ -5,6 +5,7 @@ use Rattle.std.specs.Prelude.{◌⊎◌}
 use Rattle.std.specs.Str.{bytes_eq}
 use Rattle.marple_base.specs.declared.field.Field.{Field}
 use Rattle.marple_base.specs.Field.{field_name, number_of}
+use Rattle.marple_base.specs.declared.field.TheConstants.{FIELDS}
 use Rattle.query_lang.specs.declared.fold.Op.{Op}
 use Rattle.query_lang.specs.declared.fold.Op.TheVariants.{Div, Rem, Shl, Shr, Decay}
 use Rattle.stage_plan.specs.declared.op.Operand.{Operand}
@@ -36,10 +37,10 @@ pub record IsReadsLine (line : List ℕ) (fields : List Field) : Type 0 where
   pub words : tokens line ≡ codes "reads" ∷ map field_name fields
   pub order : AreFrom 0 fields
 
--- The registers 0 to 13 are the fields, and each operation writes the next one, from 14 on.
+-- The first registers are the fields, and each operation writes the next one after them.
 -- A register is known where the `reads` line names the field, or an earlier line writes it.
 abbrev pub IsKnownRegister : List Field → List PlanOp → ℕ → Type 0
-IsKnownRegister fields ops r = Contains (map number_of fields) r ⊎ ((14 ≤ r) × (r < 14 + length ops))
+IsKnownRegister fields ops r = Contains (map number_of fields) r ⊎ ((FIELDS ≤ r) × (r < FIELDS + length ops))
 
 abbrev pub IsKnown : List Field → List PlanOp → Operand → Type 0
 IsKnown fields ops (Register r) = IsKnownRegister fields ops r
@@ -52,7 +53,7 @@ stage_at None = 0
 
 -- A register that a line writes has that line's stage. Fields and numbers have stage 0.
 abbrev pub stage_of : List PlanOp → Operand → ℕ
-stage_of ops (Register r) = if nat_lt r 14 then 0 else stage_at (slice_get ops (r - 14))
+stage_of ops (Register r) = if nat_lt r FIELDS then 0 else stage_at (slice_get ops (r - FIELDS))
 stage_of ops (Number n) = 0
 
 -- the stage of the last operation, or 0 before the first

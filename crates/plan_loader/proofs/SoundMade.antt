@@ -4,6 +4,7 @@ use Rattle.std.specs.Prelude.{IfSome, All}
 use Rattle.std.proofs.lemmas.List.{length_push}
 use Rattle.std.proofs.lemmas.List.Elements.{All-nil, All-push, All-weaker}
 use Rattle.marple_base.specs.declared.field.Field.{Field}
+use Rattle.marple_base.specs.declared.field.TheConstants.{FIELDS}
 use Rattle.stage_plan.specs.declared.op.PlanOp.{PlanOp}
 use Rattle.stage_plan.specs.Sound.{AreSoundOps, IsWithin}
 use Rattle.plan_file.specs.declared.lexemes.Lexeme.{Lexeme}
@@ -37,8 +38,8 @@ record IsBegun (registers : ℕ) (group : Group) : Type 0 where
 record IsSoundSoFar (made : Made) : Type 0 where
   ops : AreSoundOps made.ops
   most_groups : length made.groups ≤ 8
-  groups : All (IsSoundFolded (14 + length made.ops)) made.groups
-  current : IfSome made.current (λ group. IsBegun (14 + length made.ops) group × (length made.groups < 8))
+  groups : All (IsSoundFolded (FIELDS + length made.ops)) made.groups
+  current : IfSome made.current (λ group. IsBegun (FIELDS + length made.ops) group × (length made.groups < 8))
   prints : All (λ number. number < length made.groups) made.prints
 
 nothing_some : {X : Type 0} (x : X) → None ≡ Some x → ⊥
@@ -55,17 +56,17 @@ first_sound : IsSoundSoFar nothing
 first_sound = record {
   ops = no_ops;
   most_groups = omega arith;
-  groups = All-nil (IsSoundFolded (14 + length nothing.ops));
+  groups = All-nil (IsSoundFolded (FIELDS + length nothing.ops));
   current = tt;
   prints = All-nil (λ number. number < length nothing.groups);
 }
 
 key_begun : (fs : List Field) (ops : List PlanOp) (g : Group) (line : List ℕ) (n : Group) → IsKeyLine fs ops g line n
-    → IsBegun (14 + length ops) g → IsBegun (14 + length ops) n
+    → IsBegun (FIELDS + length ops) g → IsBegun (FIELDS + length ops) n
 key_begun fs ops g line n p b =
     let room : length g.keys < 8 = p.room in
     let names = b.key_names in
-    let registers = 14 + length ops in
+    let registers = FIELDS + length ops in
     let B = λ (o : Option (List Lexeme)). IfSome o (λ words. 0 < length (g.keys ++ p.value ∷ [])) in
     subst (IsBegun registers) (sym p.made) (record {
       most_keys = omega (arith, room, length_push g.keys p.value);
@@ -80,10 +81,10 @@ key_begun fs ops g line n p b =
     })
 
 arg_begun : (fs : List Field) (ops : List PlanOp) (g : Group) (line : List ℕ) (n : Group) → IsArgLine fs ops g line n
-    → IsBegun (14 + length ops) g → IsBegun (14 + length ops) n
+    → IsBegun (FIELDS + length ops) g → IsBegun (FIELDS + length ops) n
 arg_begun fs ops g line n p b =
     let room : length g.args < 16 = p.room in
-    let registers = 14 + length ops in
+    let registers = FIELDS + length ops in
     subst (IsBegun registers) (sym p.made) (record {
       most_keys = b.most_keys;
       key_names = b.key_names;
@@ -127,11 +128,11 @@ body_begun registers g line n p b =
     })
 
 group_begun : (word : LineWord) (fs : List Field) (ops : List PlanOp) (g : Group) (line : List ℕ) (n : Group)
-    → IsInGroup word fs ops g line n → IsBegun (14 + length ops) g → IsBegun (14 + length ops) n
+    → IsInGroup word fs ops g line n → IsBegun (FIELDS + length ops) g → IsBegun (FIELDS + length ops) n
 group_begun words.Key fs ops g line n p b = key_begun fs ops g line n p b
 group_begun words.Arg fs ops g line n p b = arg_begun fs ops g line n p b
-group_begun words.State fs ops g line n p b = state_begun (14 + length ops) g line n p b
-group_begun words.Body fs ops g line n p b = body_begun (14 + length ops) g line n p b
+group_begun words.State fs ops g line n p b = state_begun (FIELDS + length ops) g line n p b
+group_begun words.Body fs ops g line n p b = body_begun (FIELDS + length ops) g line n p b
 group_begun words.Plan fs ops g line n p b = absurd p
 group_begun words.Reads fs ops g line n p b = absurd p
 group_begun words.Op fs ops g line n p b = absurd p
@@ -184,7 +185,7 @@ reads_more b line a p s = subst IsSoundSoFar (sym p.made) (record {
 
 op_more : (b : Made) (line : List ℕ) (a : Made) → IsOp b line a → IsSoundSoFar b → IsSoundSoFar a
 op_more b line a p s =
-    let registers = 14 + length (b.ops ++ p.op ∷ []) in
+    let registers = FIELDS + length (b.ops ++ p.op ∷ []) in
     let C = λ (o : Option Group). IfSome o (λ group. IsBegun registers group × (length b.groups < 8)) in
     subst IsSoundSoFar (sym p.made) (record {
       ops = ops_more p.fields b.ops p.op s.ops p.valid.allowed;
@@ -196,7 +197,7 @@ op_more b line a p s =
 
 begun_more : (b : Made) (line : List ℕ) (a : Made) → IsGroup b line a → IsSoundSoFar b → IsSoundSoFar a
 begun_more b line a p s =
-    let registers = 14 + length b.ops in
+    let registers = FIELDS + length b.ops in
     let new : IsBegun registers (group_with p.group.name p.group.present) = record {
       most_keys = omega arith;
       key_names = refl;
@@ -218,7 +219,7 @@ begun_more b line a p s =
 
 part_more : (word : LineWord) (b : Made) (line : List ℕ) (a : Made) → IsPart word b line a → IsSoundSoFar b → IsSoundSoFar a
 part_more word b line a p s =
-    let registers = 14 + length b.ops in
+    let registers = FIELDS + length b.ops in
     let old = subst (λ (o : Option Group). IfSome o (λ group. IsBegun registers group × (length b.groups < 8))) p.current s.current in
     subst IsSoundSoFar (sym p.made) (record {
       ops = s.ops;
@@ -230,7 +231,7 @@ part_more word b line a p s =
 
 fold_more : (b : Made) (line : List ℕ) (a : Made) → IsFold b line a → IsSoundSoFar b → IsSoundSoFar a
 fold_more b line a p s =
-    let registers = 14 + length b.ops in
+    let registers = FIELDS + length b.ops in
     let old = subst (λ (o : Option Group). IfSome o (λ group. IsBegun registers group × (length b.groups < 8))) p.current s.current in
     let room : length b.groups < 8 = old.1 in
     let long = length_push b.groups p.folded in

@@ -68,7 +68,7 @@ heading_in one = record {
 abbrev pub table_in : Made → Geometry → List (List ℕ) → Folded → Table
 table_in made g packets one = group_table (heading_in one) (folding_of (fold_in one)) g (uses_in made one packets)
 
--- The tables of a plan's groups over packets, each of 14 words.
+-- The tables of a plan's groups over packets, each with a word for each field.
 unfoldable pub plan_tables : Made → Geometry → List (List ℕ) → List Table
 plan_tables made g packets = map (table_in made g packets) made.groups
 

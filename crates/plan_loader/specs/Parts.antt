@@ -1,6 +1,7 @@
 -- The plan that a text makes, and what holds of all that the lines of a valid text make.
 use Rattle.std.specs.Prelude.{◌≡◌, ℕ, ◌+◌, ◌<◌, ◌≤◌, List, length, map, All}
 use Rattle.std.specs.List.{AllZip}
+use Rattle.marple_base.specs.declared.field.TheConstants.{FIELDS}
 use Rattle.query_lang.specs.declared.fold.TypedFold.{TypedFold}
 use Rattle.fold_class.specs.Depth.{IsDepth}
 use Rattle.fold_class.specs.Kinds.{class_of}
@@ -65,5 +66,5 @@ pub record IsWhole (one : Folded) : Type 0 where
 pub record IsSoundMade (made : Made) : Type 0 where
   pub ops : AreSoundOps made.ops
   pub most_groups : length made.groups ≤ 8
-  pub groups : All (IsSoundFolded (14 + length made.ops)) made.groups
+  pub groups : All (IsSoundFolded (FIELDS + length made.ops)) made.groups
   pub prints : All (λ number. number < length made.groups) made.prints

@@ -2,6 +2,7 @@
 -- are kept.
 use Rattle.std.specs.Prelude.{◌≡◌, ℕ, zero, suc, ◌+◌, ◌-◌, ◌<◌, ◌≤◌, true, false, List, [], ◌∷◌}
 use Rattle.std.specs.Prelude.{◌++◌, length, map, sum_by, All, slice_get, Option, Some, None, option_map, unwrap_or}
+use Rattle.marple_base.specs.declared.field.TheConstants.{FIELDS}
 use Rattle.query_lang.specs.declared.fold.TypedExpr.{TypedExpr}
 use Rattle.query_lang.specs.declared.fold.TypedFold.{TypedFold}
 use Rattle.query_lang.specs.declared.typed.PrintOf.{PrintOf}
@@ -43,9 +44,9 @@ pub record IsValidGroup (folds : List TypedFold) (slots : ℕ) (keys : List ℕ)
   pub args_are_slots : AreSlots slots args
   pub all_args : option_map fold_args (slice_get folds fold_number) ≡ Some (length args)
 
--- how many slots a row of the stream with this number has: the packets' stream has 14
+-- how many slots a row of the stream with this number has: the packets' stream has one for each field
 abbrev pub stream_width : List TypedStream → ℕ → ℕ
-stream_width streams zero = 14
+stream_width streams zero = FIELDS
 stream_width streams (suc i) = unwrap_or (option_map (λ one. length one.columns) (slice_get streams i)) 0
 
 -- an operator on the streams before it, which makes rows of this many slots

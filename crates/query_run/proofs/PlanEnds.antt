@@ -6,6 +6,7 @@ use Rattle.std.specs.List.{All}
 use Rattle.std.proofs.lemmas.List.{length-map}
 use Rattle.std.proofs.lemmas.List.Elements.{All-map}
 use Rattle.std.proofs.lemmas.Option.{slice_get-map}
+use Rattle.marple_base.specs.declared.field.TheConstants.{FIELDS}
 use Rattle.epoch_entry.specs.contracts.any.AnyEpochsEpochKind.TheImpl.{ghosts}
 use Rattle.epoch_entry.specs.declared.purpose.Entries.TheVariants.{Folds}
 use Rattle.epoch_entry.specs.Foldings.{folding_of}
@@ -91,7 +92,7 @@ module _ (law : AlikeFoldingsMakeOneTable) (closed : ClosedGiveTheGroupTable) (o
       let alike : AreAlike (folding_at lane) (folding_of is.fold) = record
       { row_per_epoch = kind.row_per_epoch; states = λ rows. kind.folded rows } in
       let fold = is.is_fold.is_fold in
-      let registers = 14 + length made.ops in
+      let registers = FIELDS + length made.ops in
       law.by_closed (heading_of group) (folding_at lane) (folding_of is.fold) (end_of g (uses_by plan i packets) (length packets)).closed
       alike
       ∙ closed (heading_of group) (folding_of is.fold) g (uses_by plan i packets) (length packets) room (in_trace i)

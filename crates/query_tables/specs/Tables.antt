@@ -41,7 +41,7 @@ abbrev pub tables_from : TypedQuery → Geometry → List (List ℕ) → ℕ →
 tables_from q g packets i [] = []
 tables_from q g packets i (shape ∷ shapes) = table_if q g packets i shape (fold_at q i) ++ tables_from q g packets (suc i) shapes
 
--- The tables of a query's groupbys over these packets, each of 14 words.
+-- The tables of a query's groupbys over these packets, each with a word for each field.
 unfoldable pub group_tables : TypedQuery → Geometry → List (List ℕ) → List Table
 group_tables q g packets = tables_from q g packets 0 (query_groups q)
 

@@ -13,6 +13,7 @@ use Rattle.marple_base.specs.declared.field.Field.{Field}
 use Rattle.marple_base.specs.declared.field.Field.TheVariants as f
 use Rattle.marple_base.specs.declared.field.FieldSet.{FieldSet}
 use Rattle.marple_base.specs.declared.field.Packet.{Packet}
+use Rattle.marple_base.specs.declared.field.TheConstants.{FIELDS}
 use Rattle.trace_reader.specs.Numbers.{decimal_word, first_some, further_word, infinity_word, is_dot, octet_word, quad_of}
 use Rattle.trace_reader.specs.Numbers.{without_blanks, word_of}
 use Rattle.trace_reader.specs.Reading.{records}
@@ -137,7 +138,7 @@ words_if reads header fields (field ∷ fs) columns words c w =
 -- ---- each packet
 
 pub record ReadsBack (reads : FieldSet) (packet : Packet) : Type 0 where
-  pub long : length packet.words ≡ 14
+  pub long : length packet.words ≡ FIELDS
   pub words : AreWords packet.words
   pub same : as_read reads packet ≡ packet
 

@@ -7,6 +7,7 @@ use Rattle.std.proofs.lemmas.Bool.{cases_lt}
 use Rattle.std.proofs.lemmas.Bool.Decides.{nat_tests}
 use Rattle.std.proofs.lemmas.List.{length_push}
 use Rattle.std.proofs.lemmas.List.Folds.{list_any-append}
+use Rattle.marple_base.specs.declared.field.TheConstants.{FIELDS}
 use Rattle.query_lang.specs.declared.fault.FaultKind.TheVariants.{OverLimit}
 use Rattle.query_lang.specs.declared.fault.Limit.TheVariants.{Stages}
 use Rattle.query_lang.specs.declared.fault.QueryFault.{QueryFault}
@@ -99,12 +100,12 @@ no_deep folds ops streams (one ∷ list) none e = go (are_deep (made_by folds st
         (made_fault folds (made_by folds streams one.op ops).ops (streams ++ (made_by folds streams one.op ops).wires ∷ []) list)) is)
         ∙ e)
 
-field_at : (k : ℕ) → k < 14 → IsAt [] (Register k) 0
+field_at : (k : ℕ) → k < FIELDS → IsAt [] (Register k) 0
 field_at k lt =
-    let early : nat_lt k 14 ≡ true = grind (arith, nat_tests) in
+    let early : nat_lt k FIELDS ≡ true = grind (arith, nat_tests) in
     record {
       within = omega arith;
-      stage = ap (λ b. if b then 0 else unwrap_or (option_map (λ (x : PlanOp). x.stage) (slice_get [] (k - 14))) 0) early;
+      stage = ap (λ b. if b then 0 else unwrap_or (option_map (λ (x : PlanOp). x.stage) (slice_get [] (k - FIELDS))) 0) early;
     }
 
 -- the packets' operands

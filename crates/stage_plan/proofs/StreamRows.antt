@@ -7,6 +7,7 @@ use Rattle.std.proofs.lemmas.Bool.{cases_eq, cases_lt}
 use Rattle.std.proofs.lemmas.Bool.Decides.{nat_tests}
 use Rattle.std.proofs.lemmas.Option.{slice_get_past}
 use Rattle.std.proofs.lemmas.List.{length_push}
+use Rattle.marple_base.specs.declared.field.TheConstants.{FIELDS}
 use Rattle.epoch_model.specs.Driving.{Taken, uses_taken}
 use Rattle.query_lang.specs.Words.{holds}
 use Rattle.query_lang.specs.declared.fold.TypedExpr.{TypedExpr}
@@ -307,8 +308,8 @@ abbrev pub row_taken : Taking → List ℕ → Taken
 row_taken t row = record { key = values_at row t.keys; row = values_at row t.args }
 
 uses_along : (t : Taking) (f : List ℕ → Row) (g : List ℕ → Option Taken)
-    → ((words : List ℕ) → length words ≡ 14 → option_map (row_taken t) (f words) ≡ g words) →
-    (n : ℕ) (packets : List (List ℕ)) → ((k : ℕ) (d : List ℕ) → k < length packets → length (get_or packets k d) ≡ 14) →
+    → ((words : List ℕ) → length words ≡ FIELDS → option_map (row_taken t) (f words) ≡ g words) →
+    (n : ℕ) (packets : List (List ℕ)) → ((k : ℕ) (d : List ℕ) → k < length packets → length (get_or packets k d) ≡ FIELDS) →
     map (use_of t) (tuples f n packets) ≡ uses_taken n (map g packets)
 uses_along t f g same n [] all = refl
 uses_along t f g same n (words ∷ packets) all =
@@ -322,8 +323,8 @@ uses_along t f g same n (words ∷ packets) all =
 
 -- what a groupby takes, packet by packet
 pub uses_are : (q : TypedQuery) (i : ℕ) (t : Taking) (g : List ℕ → Option Taken) → slice_get (takings q.streams) i ≡ Some t →
-    ((words : List ℕ) → length words ≡ 14 → option_map (row_taken t) (row_at (all_rows q words) t.input) ≡ g words) →
-    (packets : List (List ℕ)) → All (λ words. length words ≡ 14) packets → uses q i packets ≡ uses_taken 1 (map g packets)
+    ((words : List ℕ) → length words ≡ FIELDS → option_map (row_taken t) (row_at (all_rows q words) t.input) ≡ g words) →
+    (packets : List (List ℕ)) → All (λ words. length words ≡ FIELDS) packets → uses q i packets ≡ uses_taken 1 (map g packets)
 uses_are q i t g found same packets all =
     ap (taken_by q packets) found
     ∙ ap (map (use_of t)) (stream_rows q t.input packets)

@@ -4,6 +4,7 @@ use Rattle.std.proofs.Common.{None, Option, refl, sym, ap, subst, ◌∙◌, inl
 use Rattle.std.specs.Prelude.{map, not, ◌&&◌, slice_get, slice_index, if◌then◌else◌}
 use Rattle.std.proofs.lemmas.Bool.{cases_eq, cases_lt}
 use Rattle.std.proofs.lemmas.List.{length_push, map-append}
+use Rattle.marple_base.specs.declared.field.TheConstants.{FIELDS}
 use Rattle.query_lang.specs.Words.{flag, holds, op_value}
 use Rattle.query_lang.specs.declared.fold.Op.TheVariants.{Both}
 use Rattle.query_lang.specs.declared.fold.TypedExpr.{TypedExpr}
@@ -29,13 +30,13 @@ use Rattle.stage_plan.proofs.Extending.{Extends, one_more, compiled_extends, all
 
 -- each operation's register holds its result
 pub record Solved (ops : List PlanOp) (registers : List ℕ) : Type 0 where
-  pub each : (i : ℕ) (one : PlanOp) → slice_get ops i ≡ Some one → get_or registers (14 + i) 0 ≡ result_of registers one
+  pub each : (i : ℕ) (one : PlanOp) → slice_get ops i ≡ Some one → get_or registers (FIELDS + i) 0 ≡ result_of registers one
 
 pub solved_before : (ops more : List PlanOp) (registers : List ℕ) → Extends ops more → Solved more registers → Solved ops registers
 solved_before ops more registers e s = record { each = λ i one f. s.each i one (e.keeps i one f) }
 
 pub solved_last : (ops : List PlanOp) (one : PlanOp) (registers : List ℕ) → Solved (ops ++ one ∷ []) registers
-    → get_or registers (14 + length ops) 0 ≡ result_of registers one
+    → get_or registers (FIELDS + length ops) 0 ≡ result_of registers one
 solved_last ops one registers s = s.each (length ops) one (slice_get-last ops one)
 
 pub column_value : (registers : List ℕ) (columns : List Operand) (slot : ℕ)
@@ -326,7 +327,7 @@ first_registers registers k (suc n) le =
     ap (λ l. get_or registers k 0 ∷ l) (first_registers registers (suc k) n (omega arith))
     ∙ ap (take (suc n)) (sym (drop-cons registers k 0 lt))
 
-pub packets_matched : (registers words : List ℕ) → 14 ≤ length registers → take 14 registers ≡ words
+pub packets_matched : (registers words : List ℕ) → FIELDS ≤ length registers → take FIELDS registers ≡ words
     → Matched registers (packet_wires ∷ []) (Some words ∷ [])
 unfolding registers_from
 packets_matched registers words le is = record {
@@ -335,5 +336,5 @@ packets_matched registers words le is = record {
 }
   where
     first : (j : ℕ) → Matches registers (wires_at (packet_wires ∷ []) j) (row_at (Some words ∷ []) j)
-    first zero = (refl, first_registers registers 0 14 le ∙ is)
+    first zero = (refl, first_registers registers 0 FIELDS le ∙ is)
     first (suc j) = refl

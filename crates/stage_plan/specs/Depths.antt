@@ -3,6 +3,7 @@ use Rattle.std.specs.Prelude.{ℕ, ◌+◌, max, nat_lt, Bool, if◌then◌else�
 use Rattle.std.specs.Prelude.{flat_map, drop, replicate}
 use Rattle.std.specs.Prelude.{slice_get, slice_index, Option, Some, None, unwrap_or}
 use Rattle.std.specs.List.{list_any}
+use Rattle.marple_base.specs.declared.field.TheConstants.{FIELDS}
 use Rattle.query_lang.specs.declared.fault.FaultKind.TheVariants.{OverLimit}
 use Rattle.query_lang.specs.declared.fault.Limit.TheVariants.{Stages}
 use Rattle.query_lang.specs.declared.fault.QueryFault.{QueryFault}
@@ -39,7 +40,7 @@ pub record StreamDepths : Type 0 where
 
 -- the packets: nothing is computed for them
 abbrev pub packet_depths : StreamDepths
-packet_depths = record { operations = []; present = 0; columns = replicate 14 0 }
+packet_depths = record { operations = []; present = 0; columns = replicate FIELDS 0 }
 
 abbrev pub depths_at : List StreamDepths → ℕ → StreamDepths
 depths_at streams number = unwrap_or (slice_get streams number) (record { operations = []; present = 0; columns = [] })

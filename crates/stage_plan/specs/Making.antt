@@ -3,6 +3,7 @@ use Rattle.std.specs.Prelude.{ℕ, suc, ◌+◌, max, min, nat_lt, Bool, if◌th
 use Rattle.std.specs.Prelude.{length, map, slice_get}
 use Rattle.std.specs.Prelude.{Option, Some, None, unwrap_or}
 use Rattle.std.specs.List.{list_any}
+use Rattle.marple_base.specs.declared.field.TheConstants.{FIELDS}
 use Rattle.query_lang.specs.declared.fault.FaultKind.TheVariants.{OverLimit}
 use Rattle.query_lang.specs.declared.fault.Limit.TheVariants.{Stages}
 use Rattle.query_lang.specs.declared.fault.QueryFault.{QueryFault}
@@ -43,7 +44,7 @@ op_on ops op left right = record {
 }
 
 abbrev pub with_op : operation.Operation → List PlanOp → Operand → Operand → Compiled
-with_op op ops left right = record { ops = ops ++ op_on ops op left right ∷ []; value = Register (14 + length ops) }
+with_op op ops left right = record { ops = ops ++ op_on ops op left right ∷ []; value = Register (FIELDS + length ops) }
 
 abbrev pub operand_at : List Operand → ℕ → Operand
 operand_at columns slot = unwrap_or (slice_get columns slot) (Number 0)

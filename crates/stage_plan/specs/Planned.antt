@@ -1,6 +1,7 @@
 -- Which plan is a query's.
 use Rattle.std.specs.Prelude.{◌≡◌, ℕ, ◌+◌, ◌<◌, List, [], ◌∷◌, length, map, All, slice_get, Option, Some}
 use Rattle.std.specs.Prelude.{option_and_then, unwrap_or}
+use Rattle.marple_base.specs.declared.field.TheConstants.{FIELDS}
 use Rattle.epoch_model.specs.Driving.{Taken, uses_taken}
 use Rattle.fold_class.specs.Program.{IsProgramOf}
 use Rattle.query_lang.specs.declared.fold.TypedFold.{TypedFold}
@@ -19,9 +20,9 @@ use Rattle.stage_plan.specs.Sound.{PlanParts}
 
 -- how many registers a plan needs: one for each field, and one for each operation
 abbrev pub registers_of : PlanParts → ℕ
-registers_of plan = 14 + length plan.ops
+registers_of plan = FIELDS + length plan.ops
 
--- The registers of a packet with these 14 words after the last stage.
+-- The registers of a packet with these words after the last stage.
 abbrev pub row_of : PlanParts → List ℕ → List ℕ
 row_of plan words = after plan.ops words (stages_of plan.ops)
 
@@ -51,7 +52,7 @@ query_made q = all_made q.folds [] (packet_wires ∷ []) q.streams
 -- The plan of a query: it takes of each packet what the query's groupbys take of the streams, with the programs of their folds.
 pub record IsPlanOf (q : TypedQuery) (plan : PlanParts) : Type 0 where
   pub groups : length plan.groups ≡ length (takings q.streams)
-  pub takes : (i : ℕ) (packets : List (List ℕ)) → i < length plan.groups → All (λ words. length words ≡ 14) packets
+  pub takes : (i : ℕ) (packets : List (List ℕ)) → i < length plan.groups → All (λ words. length words ≡ FIELDS) packets
       → uses q i packets ≡ uses_taken 1 (map (taken plan i) packets)
   pub programs : (i : ℕ) (f : TypedFold) (group : GroupPlan) → fold_at q i ≡ Some f → slice_get plan.groups i ≡ Some group
       → IsProgramOf f group.program

@@ -9,9 +9,9 @@ ghost use Rattle.stage_plan.specs.Making.{stage_after, with_op, operand_at, comp
 ghost use Rattle.stage_plan.specs.Making.{zipped, emit_columns, grouped};
 ghost use Rattle.stage_plan.specs.Counting.{condition_most, values_most, emit_most};
 
-use crate::op::{Operand, Operation, PlanOp};
+use crate::op::{FIRST_RESULT, Operand, Operation, PlanOp};
 use crate::wires::StreamWires;
-use marple_base::Seq;
+use marple_base::{FIELDS, Seq};
 use query_lang::{Op, TypedExpr, TypedFold};
 use std::alloc::{AllocError, Global};
 
@@ -22,10 +22,10 @@ fn stage_of(ops: &[PlanOp], operand: Operand) -> u32
     match operand {
         Operand::Number(_) => 0,
         Operand::Register(r) => {
-            if r < 14 {
+            if r < FIRST_RESULT {
                 return 0;
             }
-            match ops.get(r as usize - 14) {
+            match ops.get(r as usize - FIELDS) {
                 Some(one) => one.stage,
                 None => 0,
             }
@@ -67,7 +67,7 @@ fn make_op(
         left,
         right,
     })?;
-    Ok(Operand::Register(14 + at as u32))
+    Ok(Operand::Register(FIRST_RESULT + at as u32))
 }
 
 // The column in a slot.

@@ -12,7 +12,7 @@ use crate::chain::longest_chain;
 use crate::group::{GroupPlan, GroupWiring};
 use crate::op::PlanOp;
 use crate::rows::{copy_into, fill, operand_in};
-use marple_base::{FieldSet, Packet, Seq, Steps};
+use marple_base::{FIELDS, FieldSet, Packet, Seq, Steps};
 use std::alloc::{AllocError, Global};
 use std::marker::Model;
 use std::sync::ledger::Ledger;
@@ -84,7 +84,7 @@ impl Plan {
     pub fn registers(&self) -> usize
         ensures { result ≡ registers_of self.now }
     {
-        14 + self.ops.len()
+        FIELDS + self.ops.len()
     }
 
     /// The number of operations.
@@ -174,7 +174,7 @@ impl Plan {
     pub fn bound(&self, ways: u32) -> u64
         ensures { result ≡ plan_bound self.now ways }
     {
-        14 + self.ops.len() as u64 + most_of_groups(self.groups.as_slice(), ways)
+        FIELDS as u64 + self.ops.len() as u64 + most_of_groups(self.groups.as_slice(), ways)
     }
 
     /// The registers of a packet: its words, and what each operation gives. All operations of a stage read the registers as

@@ -4,6 +4,7 @@ use Rattle.marple_base.specs.Field.{all_fields, has_field, number_of}
 use Rattle.marple_base.specs.declared.field.Field.{Field}
 use Rattle.marple_base.specs.declared.field.FieldSet.{FieldSet}
 use Rattle.marple_base.specs.declared.field.Packet.{Packet}
+use Rattle.marple_base.specs.declared.field.TheConstants.{FIELDS}
 
 -- the fields that are kept, and the packets, which have 0 in all others
 pub record Kept : Type 0 where
@@ -34,7 +35,7 @@ written (field ∷ fields) (word ∷ words) old = written fields words (set old 
 
 -- the packet in which these fields have these words, and all others 0
 abbrev pub packet_in : List Field → List ℕ → Packet
-packet_in fields words = record { words = written fields words (replicate 14 0) }
+packet_in fields words = record { words = written fields words (replicate FIELDS 0) }
 
 -- the number of words that the packets take
 abbrev pub kept_words : Kept → ℕ

@@ -19,7 +19,7 @@ use crate::turn::turn;
 use epoch_model::{
     events_keep_alike, packets_follow_the_trace, sweeps_reach_the_end, taken_uses_are_in_trace,
 };
-use marple_base::{Packet, Steps};
+use marple_base::{FIELDS, Packet, Steps};
 use std::alloc::AllocError;
 use std::sync::ledger::Ledger;
 use switch_core::{Pipeline, Upkeep};
@@ -139,7 +139,7 @@ impl<'a, const WAYS: usize> Replay<'a, WAYS> {
         ensures refused { IfErr result (λ answer. IfRefused answer (λ fault. fault_in self.old ≡ Some fault)) }
         ensures steps { steps.old ≤ steps.new }
     {
-        let mut packet = Packet { words: [0; 14] };
+        let mut packet = Packet { words: [0; FIELDS] };
         'packets: for _taken in 0..most {
             if !self.step(&mut packet, steps)? {
                 return Ok(false);
@@ -164,7 +164,7 @@ impl<'a, const WAYS: usize> Replay<'a, WAYS> {
     {
         events_keep_alike();
         sweeps_reach_the_end();
-        let mut packet = Packet { words: [0; 14] };
+        let mut packet = Packet { words: [0; FIELDS] };
         'packets: while self.step(&mut packet, steps)? {}
         let Replay { mut pipeline, .. } = self;
         match drain(&mut pipeline, steps) {

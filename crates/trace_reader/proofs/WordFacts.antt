@@ -6,6 +6,7 @@ use Rattle.std.specs.List.{zip}
 use Rattle.std.proofs.lemmas.List.{drop_all, drop_more}
 use Rattle.marple_base.specs.Field.{all_fields, number_of}
 use Rattle.marple_base.specs.declared.field.Field.{Field}
+use Rattle.marple_base.specs.declared.field.TheConstants.{FIELDS}
 use Rattle.trace_reader.specs.Columns.{read_columns, read_of, with_column}
 use Rattle.trace_reader.specs.Traces.{each, with_first, word_at, words_of}
 use Rattle.trace_reader.proofs.EachFacts.{onto, onto_value}
@@ -74,8 +75,8 @@ onto_nothing (Ok xs) = refl
 onto_nothing (Err e) = refl
 
 -- all words of a record
-pub words_filled : (fields : List (List ℕ)) (columns : List (Option ℕ)) → length columns ≡ 14
-    → words_of columns fields ≡ fill fields (read_columns columns) (replicate 14 0)
+pub words_filled : (fields : List (List ℕ)) (columns : List (Option ℕ)) → length columns ≡ FIELDS
+    → words_of columns fields ≡ fill fields (read_columns columns) (replicate FIELDS 0)
 unfolding read_columns
 words_filled fields columns size =
     sym (filled fields [] all_fields columns all_from size ∙ onto_nothing (words_of columns fields))

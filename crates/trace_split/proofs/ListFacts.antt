@@ -9,6 +9,7 @@ use Rattle.marple_base.specs.Field.{all_fields, has_field, number_of}
 use Rattle.marple_base.specs.declared.field.Field.{Field}
 use Rattle.marple_base.specs.declared.field.Field.TheVariants.{Switch}
 use Rattle.marple_base.specs.declared.field.FieldSet.{FieldSet}
+use Rattle.marple_base.specs.declared.field.TheConstants.{FIELDS}
 use Rattle.part_texts.specs.Texts.{one_at_least, words_at}
 
 -- ---- fields
@@ -28,7 +29,7 @@ filter_push test (y ∷ xs) x = by (test y) (filter_push test xs x)
     by false rest = rest
 
 -- one more field that is in the set
-pub field_with : (fields : FieldSet) (list : List Field) (i : ℕ) → i < 14 → list ≡ filter (has_field fields) (take i all_fields)
+pub field_with : (fields : FieldSet) (list : List Field) (i : ℕ) → i < FIELDS → list ≡ filter (has_field fields) (take i all_fields)
     → has_field fields (get_or all_fields i Switch) ≡ true
     → list ++ get_or all_fields i Switch ∷ [] ≡ filter (has_field fields) (take (i + 1) all_fields)
 field_with fields list i within so_far has =
@@ -39,7 +40,7 @@ field_with fields list i within so_far has =
     ∙ ap (filter (has_field fields)) (sym (take_more all_fields i Switch within))
 
 -- one that isn't
-pub field_without : (fields : FieldSet) (list : List Field) (i : ℕ) → i < 14 → list ≡ filter (has_field fields) (take i all_fields)
+pub field_without : (fields : FieldSet) (list : List Field) (i : ℕ) → i < FIELDS → list ≡ filter (has_field fields) (take i all_fields)
     → has_field fields (get_or all_fields i Switch) ≡ false
     → list ≡ filter (has_field fields) (take (i + 1) all_fields)
 field_without fields list i within so_far has =

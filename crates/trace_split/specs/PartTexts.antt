@@ -2,6 +2,7 @@
 use Rattle.std.specs.Prelude.{◌≡◌, ℕ, ◌<◌, ◌≤◌, List, length}
 use Rattle.marple_base.specs.declared.field.FieldSet.{FieldSet}
 use Rattle.marple_base.specs.declared.field.Packet.{Packet}
+use Rattle.marple_base.specs.declared.field.TheConstants.{FIELDS}
 use Rattle.trace_split.specs.Holding.{Holds, Taken}
 use Rattle.part_texts.specs.Texts.{fields_in, lines_of, packets_at, part_by_hash, written_fields}
 use Rattle.trace_split.specs.declared.splitting.Splitting.{Splitting}
@@ -23,8 +24,8 @@ pub record is_setting (texts : PartTexts) : Type 0 where
   pub parts : 0 < texts.parts
   pub buffers : length texts.waiting.items ≡ texts.parts
   pub some : 0 < length texts.columns.items
-  pub few : length texts.columns.items ≤ 14
-  pub few_keys : length texts.by.items ≤ 14
+  pub few : length texts.columns.items ≤ FIELDS
+  pub few_keys : length texts.by.items ≤ FIELDS
 
 -- the same columns and parts
 pub record SameSetting (old new : PartTexts) : Type 0 where

@@ -3,6 +3,7 @@ use Rattle.std.proofs.Math.ListN.{length-set}
 use Rattle.std.proofs.lemmas.List.{drop_all}
 use Rattle.marple_base.specs.Field.{all_fields}
 use Rattle.marple_base.specs.declared.field.Field.TheVariants as f
+use Rattle.marple_base.specs.declared.field.TheConstants.{FIELDS}
 use Rattle.trace_reader.specs.Traces.{column_of, each}
 use Rattle.trace_reader.proofs.ColumnFacts.{none_within, within_set}
 use Rattle.trace_reader.proofs.EachFacts.{all_written, each_more, error_met, value_written}
@@ -17,7 +18,7 @@ pub loop-i-init : goal.loop-i-init
 loop-i-init c = record {
   filled = search rules;
   size = search rules;
-  within = none_within (length c.args.header.now.fields) 14;
+  within = none_within (length c.args.header.now.fields) FIELDS;
 }
 
 pub loop-i-preserved : goal.loop-i-preserved

@@ -1,5 +1,6 @@
 use Rattle.std.proofs.Common.{◌≡◌, length, take, drop}
 use Rattle.marple_base.specs.Field.{all_fields}
+use Rattle.marple_base.specs.declared.field.TheConstants.{FIELDS}
 use Rattle.trace_reader.specs.Columns.{AreWithin}
 use Rattle.trace_reader.specs.Traces.{column_of, columns_of, each}
 use Rattle.trace_reader.proofs.EachFacts.{onto}
@@ -10,6 +11,6 @@ invariant-loop-i l =
     record {
       filled : columns_of l.reads l.fn.header.fields ≡ onto (take l.i l.columns)
           (each (column_of l.reads l.fn.header.fields) (drop l.i all_fields));
-      size : length l.columns ≡ 14;
+      size : length l.columns ≡ FIELDS;
       within : AreWithin (length l.fn.header.fields) l.columns;
     }
