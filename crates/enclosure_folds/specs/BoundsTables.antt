@@ -5,6 +5,7 @@ use Rattle.query_lang.specs.declared.typed.Class.TheVariants.{Other}
 use Rattle.epoch_model.specs.declared.tables.Mark.TheVariants.{Exact}
 use Rattle.epoch_model.specs.declared.tables.Row.{Row}
 use Rattle.epoch_model.specs.Keys.{IsAscending}
+use Rattle.query_lang.specs.declared.fault.TheConstants.{MAX_KEYS}
 use Rattle.final_queries.specs.declared.table.Table.{Table}
 use Rattle.final_queries.specs.declared.table.TableKind.TheVariants.{Group}
 use Rattle.final_queries.specs.Finals.{IsTable}
@@ -22,7 +23,7 @@ pub record HasBounds (keys states : ℕ) (row : BoundsRow) : Type 0 where
 -- there are 1 to 8 keys, and the rows have a word for each of them and a word in each bound for each state
 pub record IsBoundsTable (t : BoundsTable) : Type 0 where
   pub some_keys : 0 < length t.key_names
-  pub most_keys : length t.key_names ≤ 8
+  pub most_keys : length t.key_names ≤ MAX_KEYS
   pub rows : All (HasBounds (length t.key_names) (length t.state_names)) t.rows
 
 -- whether a row's bounds are equal

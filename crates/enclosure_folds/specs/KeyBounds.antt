@@ -12,6 +12,7 @@ use Rattle.epoch_model.specs.declared.tables.Row.{Row}
 use Rattle.epoch_model.specs.Keys.{Key, ArgRow, key_eq}
 use Rattle.epoch_model.specs.Epochs.{Use, Geometry, is_use_of, epochs}
 use Rattle.epoch_model.specs.Tables.{Folding, epochs_shown, keys_used, group_epochs}
+use Rattle.query_lang.specs.declared.fault.TheConstants.{MAX_KEYS}
 use Rattle.fold_class.specs.Kinds.{class_of}
 use Rattle.enclosure_folds.specs.Kinds.{is_monotone}
 use Rattle.epoch_entry.specs.Bounds.{bounds_after, IsBoundsKindOf}
@@ -140,4 +141,4 @@ KeyBoundsEnclose = (f : TypedFold) (g : Geometry) (uses : List Use) (key : Key) 
 
 -- The table of bounds that a table of three states gives has as many words in its rows as names.
 abbrev pub TriplesGiveWholeTables : Type 0
-TriplesGiveWholeTables = (t : Table) → HasTriples t → 0 < t.keys → t.keys ≤ 8 → IsBoundsTable (table_bounds t)
+TriplesGiveWholeTables = (t : Table) → HasTriples t → 0 < t.keys → t.keys ≤ MAX_KEYS → IsBoundsTable (table_bounds t)

@@ -1,6 +1,7 @@
 -- The rows of one step of a fold, as code computes them: one run for each column, over the parts of the variables.
 use Rattle.std.specs.Prelude.{◌≡◌, ℕ, ◌+◌, ◌*◌, ◌<◌, ◌≤◌, ◌==◌, if◌then◌else◌, List, [], map, length}
 use Rattle.std.specs.Prelude.{slice_index, All}
+use Rattle.query_lang.specs.declared.fault.TheConstants.{MAX_STATES}
 use Rattle.fold_code.specs.Machine.{run, at, steps_of}
 use Rattle.fold_code.specs.Meaning.{Code}
 use Rattle.coeff_algebra.specs.Elements.{Elements}
@@ -103,5 +104,5 @@ pub record AreSoundRows (rows : Rows) : Type 0 where
   pub within : All (IsWithin (length rows.history)) rows.origins
   pub linear : All (λ v. v < rows.code.states) rows.linear
   pub history : All (λ v. v < rows.code.states) rows.history
-  pub few : length rows.linear ≤ 8
+  pub few : length rows.linear ≤ MAX_STATES
   pub short : rows_scratch rows ≤ 65536

@@ -24,6 +24,7 @@ use Rattle.query_lang.specs.declared.typed.TypedStream.{TypedStream}
 use Rattle.query_lang.specs.Folds.{IsValidFold}
 use Rattle.query_lang.specs.Streams.{Taking, takings}
 use Rattle.query_lang.specs.TypedQueries.{AreValidStreams, HasNames, IsTable, IsValidOp, IsValidQuery}
+use Rattle.query_lang.specs.declared.fault.TheConstants.{MAX_GROUPBYS, MAX_KEYS}
 use Rattle.fold_class.specs.Depth.{depth_of}
 use Rattle.stage_plan.specs.declared.op.Operand.{Operand}
 use Rattle.stage_plan.specs.declared.op.Operand.TheVariants.{Register, Number}
@@ -75,7 +76,7 @@ reads_size reads =
     let h = fields_size reads all_fields in
     omega (arith, n, h)
 
-prints_size : (q : TypedQuery) → length (takings q.streams) ≤ 8 → (prints : List PrintOf) → All (IsTable q) prints
+prints_size : (q : TypedQuery) → length (takings q.streams) ≤ MAX_GROUPBYS → (prints : List PrintOf) → All (IsTable q) prints
     → length (flat_map print_line prints) ≤ 27 * length prints
 prints_size q few [] all = omega arith
 prints_size q few (place.Group i ∷ prints) all =
@@ -119,7 +120,7 @@ prints_in q (place.Group n ∷ prints) all are p (inl e) =
 prints_in q (place.Group n ∷ prints) all are p (inr i) = prints_in q prints (All-tail (IsTable q) (place.Group n) prints all) are p i
 prints_in q (place.Final n ∷ prints) all are p i = absurd are
 
-few_prints : (q : TypedQuery) → IsValidQuery q → AreGroups q.prints → AreNew [] q.prints → length q.prints ≤ 8
+few_prints : (q : TypedQuery) → IsValidQuery q → AreGroups q.prints → AreNew [] q.prints → length q.prints ≤ MAX_GROUPBYS
 few_prints q v are new =
     let t = taken (λ p. 1) q.prints (up (length (takings q.streams))) [] new (prints_in q q.prints v.prints are) in
     let s = t.sum in
@@ -188,7 +189,7 @@ ops_size (one ∷ ops) each =
 
 keys_few : (folds : List TypedFold) (before : List TypedStream) (names : List (List ℕ)) (one : TypedStream) (width : ℕ) (op : TypedOp)
     (shape : GroupShape)
-    → IsValidOp folds before width op → shape_made names folds one op ≡ Some shape → width ≤ 8
+    → IsValidOp folds before width op → shape_made names folds one op ≡ Some shape → width ≤ MAX_KEYS
 keys_few folds before names one width (typed.Filter input condition) shape w e = cc
 keys_few folds before names one width (typed.Map input values) shape w e = cc
 keys_few folds before names one width (typed.Zip left right slots) shape w e = cc
@@ -200,7 +201,7 @@ keys_few folds before names one width (typed.Group input keys f args) shape w e 
 columns_few : (count : ℕ) (names : List (List ℕ)) (folds : List TypedFold) (before streams : List TypedStream)
     → AreValidStreams count folds before streams
     → (j : ℕ) (one : TypedStream) (shape : GroupShape) → slice_get streams j ≡ Some one → shape_made names folds one one.op ≡ Some shape
-    → length one.columns ≤ 8
+    → length one.columns ≤ MAX_KEYS
 columns_few count names folds before [] v j one shape e made = cc
 columns_few count names folds before (s ∷ streams) v zero one shape e made =
     let same : s ≡ one = same_Some s one e in

@@ -15,6 +15,7 @@ use Rattle.switch_core.specs.FrontParts.{FrontOf}
 use Rattle.std.specs.Prelude.{slice_get}
 use Rattle.marple_base.specs.declared.field.TheConstants.{FIELDS}
 use Rattle.epoch_model.specs.Machine.{Epoch}
+use Rattle.query_lang.specs.declared.fault.TheConstants.{MAX_ARGS, MAX_KEYS}
 use Rattle.epoch_entry.specs.Foldings.{IsKindOf}
 use Rattle.epoch_entry.specs.contracts.any.AnyEpochsEpochKind.TheImpl.{ghosts}
 use Rattle.final_queries.specs.GroupTable.{closed_table}
@@ -51,8 +52,8 @@ pub record HasPart (plan : PlanParts) (switches n : ℕ) (group : GroupView) : T
   pub registers : ℕ
   pub sound : IsSoundGroup registers part (wiring_at plan n)
   pub keys : group.store.key_words ≡ length (wiring_at plan n).keys
-  pub few_keys : length (wiring_at plan n).keys ≤ 8
-  pub few_args : length (wiring_at plan n).args ≤ 16
+  pub few_keys : length (wiring_at plan n).keys ≤ MAX_KEYS
+  pub few_args : length (wiring_at plan n).args ≤ MAX_ARGS
 
 pub part_of : (plan : PlanParts) (switches n : ℕ) (groups : List GroupView) (group : GroupView) → IsSoundPlan plan
     → AreGroups plan switches groups → slice_get groups n ≡ Some group

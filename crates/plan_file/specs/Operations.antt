@@ -8,6 +8,7 @@ use Rattle.marple_base.specs.Field.{field_name, number_of}
 use Rattle.marple_base.specs.declared.field.TheConstants.{FIELDS}
 use Rattle.query_lang.specs.declared.fold.Op.{Op}
 use Rattle.query_lang.specs.declared.fold.Op.TheVariants.{Div, Rem, Shl, Shr, Decay}
+use Rattle.query_lang.specs.declared.fault.TheConstants.{MAX_STAGES}
 use Rattle.stage_plan.specs.declared.op.Operand.{Operand}
 use Rattle.stage_plan.specs.declared.op.Operand.TheVariants.{Register, Number}
 use Rattle.stage_plan.specs.declared.op.Operation.{Operation}
@@ -94,12 +95,12 @@ op_words (word ∷ stage ∷ function ∷ a ∷ b ∷ []) =
     if bytes_eq word (codes "op") then two_of (number stage) (function_named function) (operand a) (operand b) else None
 op_words _ = None
 
--- An operation in its stage, after these: there are at most 32,768, in ascending stages from 1 to 64, and an operation's stage is 1
+-- An operation in its stage, after these: there are at most 32,768, in ascending stages from 1 to MAX_STAGES, and an operation's stage is 1
 -- more than the greatest of its operands.
 pub record IsStaged (ops : List PlanOp) (op : PlanOp) : Type 0 where
   pub room : length ops < 32768
   pub least : 1 ≤ op.stage
-  pub most : op.stage ≤ 64
+  pub most : op.stage ≤ MAX_STAGES
   pub order : last_stage ops ≤ op.stage
   pub stage : op.stage ≡ 1 + max (stage_of ops op.left) (stage_of ops op.right)
   pub constant : is_right_of op.op op.right ≡ true

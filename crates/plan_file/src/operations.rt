@@ -10,8 +10,8 @@ ghost use Rattle.plan_file.specs.Operations.{two_of};
 
 use crate::lexis::{cut_at_space, function_named, number, past};
 use marple_base::{FIELDS, Field};
-use query_lang::Op;
 use query_lang::lexis::is_text;
+use query_lang::{MAX_STAGES, Op};
 use stage_plan::{FIRST_RESULT, Operand, Operation, PlanOp};
 
 // Whether a field has this number.
@@ -125,7 +125,7 @@ fn staged(
     ensures { MatchOption result (IsStaged ops.now (record { stage = stage; op = op; left = left; right = right })
         → ⊥) (λ r. (r ≡ record { stage = stage; op = op; left = left; right = right }) × IsStaged ops.now r) }
 {
-    if ops.len() >= 32768 || stage < 1 || stage > 64 {
+    if ops.len() >= 32768 || stage < 1 || stage > MAX_STAGES as u64 {
         return None;
     }
     let stage = stage as u32;

@@ -10,6 +10,7 @@ use Rattle.marple_base.specs.declared.field.Field.{Field}
 use Rattle.marple_base.specs.declared.field.Field.TheVariants as fields
 use Rattle.marple_base.specs.Field.{number_of}
 use Rattle.marple_base.specs.declared.field.TheConstants.{FIELDS}
+use Rattle.query_lang.specs.declared.fault.TheConstants.{MAX_STAGES}
 use Rattle.stage_plan.specs.declared.op.Operand.{Operand}
 use Rattle.stage_plan.specs.declared.op.Operand.TheVariants.{Register, Number}
 use Rattle.stage_plan.specs.declared.op.PlanOp.{PlanOp}
@@ -93,7 +94,7 @@ module _ (ops : List PlanOp) (op : PlanOp) (sound : AreSoundOps ops) (left : IsW
       kept one.right (within_more (FIELDS + i) (FIELDS + length ops) one.right (omega arith) s.right) in
       record { left = s.left; right = s.right; stage = s.stage ∙ sym (ap₂ (λ a b. suc (max a b)) l r); most = s.most }
 
-  new_op : op.stage ≡ 1 + max (stage_of ops op.left) (stage_of ops op.right) → op.stage ≤ 64 → IsSoundOp more (length ops) op
+  new_op : op.stage ≡ 1 + max (stage_of ops op.left) (stage_of ops op.right) → op.stage ≤ MAX_STAGES → IsSoundOp more (length ops) op
   new_op stage most =
       let l : operand_stage more op.left ≡ stage_of ops op.left = kept op.left left ∙ sym (stages_alike ops op.left) in
       let r : operand_stage more op.right ≡ stage_of ops op.right = kept op.right right ∙ sym (stages_alike ops op.right) in

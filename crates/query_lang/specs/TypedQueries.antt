@@ -17,10 +17,11 @@ use Rattle.query_lang.specs.declared.typed.TypedStream.{TypedStream}
 use Rattle.query_lang.specs.Terms.{term_of}
 use Rattle.query_lang.specs.Folds.{IsValidTerm, is_condition, term_nodes, IsValidFold, fold_states, fold_args}
 use Rattle.query_lang.specs.Streams.{Taking, takings}
+use Rattle.query_lang.specs.declared.fault.TheConstants.{MAX_BINDINGS, MAX_GROUPBYS, MAX_KEYS, MAX_NODES}
 
 -- an expression over a row of this many slots
 abbrev pub IsValidExpr : ℕ → TypedExpr → Type 0
-IsValidExpr slots e = IsValidTerm slots (term_of e) × (term_nodes (term_of e) ≤ 512)
+IsValidExpr slots e = IsValidTerm slots (term_of e) × (term_nodes (term_of e) ≤ MAX_NODES)
 
 abbrev pub IsValidCondition : ℕ → TypedExpr → Type 0
 IsValidCondition slots e = IsValidExpr slots e × (is_condition (term_of e) ≡ true)
@@ -30,7 +31,7 @@ IsValidWord slots e = IsValidExpr slots e × (is_condition (term_of e) ≡ false
 
 -- the new columns of one `map`
 abbrev pub AreValidWords : ℕ → List TypedExpr → Type 0
-AreValidWords slots values = All (IsValidWord slots) values × (sum_by (λ e. term_nodes (term_of e)) values ≤ 512)
+AreValidWords slots values = All (IsValidWord slots) values × (sum_by (λ e. term_nodes (term_of e)) values ≤ MAX_NODES)
 
 abbrev pub AreSlots : ℕ → List ℕ → Type 0
 AreSlots slots list = All (λ slot. slot < slots) list
@@ -39,7 +40,7 @@ AreSlots slots list = All (λ slot. slot < slots) list
 pub record IsValidGroup (folds : List TypedFold) (slots : ℕ) (keys : List ℕ) (fold_number : ℕ) (args : List ℕ) : Type 0 where
   pub keys_are_slots : AreSlots slots keys
   pub some_keys : 0 < length keys
-  pub most_keys : length keys ≤ 8
+  pub most_keys : length keys ≤ MAX_KEYS
   pub is_fold : fold_number < length folds
   pub args_are_slots : AreSlots slots args
   pub all_args : option_map fold_args (slice_get folds fold_number) ≡ Some (length args)
@@ -150,5 +151,5 @@ pub record IsValidQuery (q : TypedQuery) : Type 0 where
   pub streams : AreValidStreams (length q.names) q.folds [] q.streams
   pub finals : AreValidFinals (length q.names) q.folds (shapes q.folds q.streams []) q.finals
   pub prints : All (IsTable q) q.prints
-  pub most_bindings : length q.streams + length q.finals ≤ 32
-  pub most_groupbys : length (takings q.streams) ≤ 8
+  pub most_bindings : length q.streams + length q.finals ≤ MAX_BINDINGS
+  pub most_groupbys : length (takings q.streams) ≤ MAX_GROUPBYS

@@ -15,6 +15,7 @@ use Rattle.query_lang.specs.declared.typing.Found.{Found}
 use Rattle.query_lang.specs.declared.typing.Known.{Known}
 use Rattle.query_lang.specs.Checks.{and_then, collected}
 use Rattle.query_lang.specs.TypedExprs.{slot_of, is_condition_sort, of_two, call_of, negated, expr_checked}
+use Rattle.query_lang.specs.declared.fault.TheConstants.{MAX_KEYS}
 use Rattle.query_laws.specs.Asked.{ExprAsks, of_part, of_name, of_call, of_right, of_second, ColumnsAsk, of_value, KeysAsk, of_key, of_new}
 use Rattle.query_laws.specs.Asked.{of_limit, ArgumentsAsk, of_argument, of_states, ids_of}
 use Rattle.query_laws.specs.Asked as asks
@@ -211,7 +212,7 @@ keys_meet known columns hidden keys slots _ h (of_key front key back split) =
 keys_meet known columns hidden keys slots _ h (of_new front key back split) = names_new [] keys front key back split h.distinct
 keys_meet known columns hidden keys slots _ h (of_limit front key back split) =
     let long = length-map keys (λ (n : Name). n.id) in
-    few_before keys front key back 8 split (omega (arith, h.few, long))
+    few_before keys front key back MAX_KEYS split (omega (arith, h.few, long))
 
 pub arguments_meet : (known : List Known) (columns hidden keys : List ℕ) (f : FoldView) (span : Span) (slots : List ℕ) (d : Demand)
     → HasArguments columns keys f slots

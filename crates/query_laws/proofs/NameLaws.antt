@@ -21,6 +21,7 @@ use Rattle.query_lang.specs.Checks.{Checked, collected, is_among}
 use Rattle.query_lang.specs.TypedExprs.{slot_at, slot_of, word_of}
 use Rattle.query_lang.specs.TypedStreams.{meaning_of, as_stream, stream_named, as_fold, fold_named, new_columns, keys_from, arguments_of}
 use Rattle.query_lang.specs.TypedFinals.{table_at, as_table, table_named}
+use Rattle.query_lang.specs.declared.fault.TheConstants.{MAX_KEYS}
 use Rattle.query_laws.specs.ExprRules.{StandsAt}
 use Rattle.query_laws.specs.FoldRules.{AreNew}
 use Rattle.query_laws.specs.Context.{StandsFor, IsFree, IsStream, IsFold, IsTable}
@@ -189,10 +190,10 @@ picked_same : (ns ms ss ts : List ℕ) → ns ≡ ms → ss ≡ ts → (let r : 
 picked_same ns ms ss ts e f = ap (λ (z : List ℕ). let r : Picked = record { names = z; slots = ss } in r) e
     ∙ ap (λ (z : List ℕ). let r : Picked = record { names = ms; slots = z } in r) f
 
-pub keys_sound : (columns hidden : List ℕ) (keys : List Name) (found all : Picked) → length found.names ≤ 8
+pub keys_sound : (columns hidden : List ℕ) (keys : List Name) (found all : Picked) → length found.names ≤ MAX_KEYS
     → keys_from columns hidden found keys ≡ Ok all
     → (slots : List ℕ) × HasSlots columns (name_ids keys) slots × AreNew found.names (name_ids keys)
-    × (length found.names + length keys ≤ 8)
+    × (length found.names + length keys ≤ MAX_KEYS)
     × (all ≡ record { names = found.names ++ name_ids keys; slots = found.slots ++ slots })
 keys_sound columns hidden [] found all h e = (
   [],
@@ -206,7 +207,7 @@ keys_sound columns hidden (key ∷ keys) found all h e =
     let slot = found_first (slot_of columns hidden key) _ all e in
     let one = must_not_ok _ _ _ _ all slot.2 in
     let two = must_ok _ _ _ _ all one.1 in
-    let few = ltb-true (length found.names) 8 two.0 in
+    let few = ltb-true (length found.names) MAX_KEYS two.0 in
     let long = length-append found.names (key.id ∷ []) in
     let rest = keys_sound columns hidden keys (record { names = found.names ++ key.id ∷ []; slots = found.slots ++ slot.0 ∷ [] }) all
     (omega (arith, long, few)) two.1 in (
@@ -218,7 +219,7 @@ keys_sound columns hidden (key ∷ keys) found all h e =
     )
 
 pub keys_complete : (columns hidden : List ℕ) (keys : List Name) (slots : List ℕ) (found : Picked) → HasSlots columns (name_ids keys) slots
-    → AreNew found.names (name_ids keys) → length found.names + length keys ≤ 8
+    → AreNew found.names (name_ids keys) → length found.names + length keys ≤ MAX_KEYS
     → keys_from columns hidden found keys ≡ Ok (record { names = found.names ++ name_ids keys; slots = found.slots ++ slots })
 keys_complete columns hidden [] [] found h new few = ok _ _ (picked_same found.names (found.names ++ []) found.slots (found.slots ++ [])
     (sym (append-nil found.names)) (sym (append-nil found.slots)))
@@ -226,7 +227,8 @@ keys_complete columns hidden [] (s ∷ slots) found h new few = absurd h
 keys_complete columns hidden (key ∷ keys) [] found h new few = absurd h
 keys_complete columns hidden (key ∷ keys) (s ∷ slots) found h new few =
     then_next _ _ s (slot_complete columns hidden key s h.0)
-    ∙ must_not_holds _ _ _ _ (new_among key.id found.names new.0) ∙ must_holds _ _ _ _ (below (length found.names) 8 (omega (arith, few)))
+    ∙ must_not_holds _ _ _ _ (new_among key.id found.names new.0) ∙ must_holds _ _ _ _
+    (below (length found.names) MAX_KEYS (omega (arith, few)))
     ∙ keys_complete columns hidden keys slots (record { names = found.names ++ key.id ∷ []; slots = found.slots ++ s ∷ [] }) h.1 new.1
     (omega (arith, few, length-append found.names (key.id ∷ [])))
     ∙ ok _ _ (picked_same _ _ _ _ (append_assoc found.names (key.id ∷ []) (name_ids keys)) (append_assoc found.slots (s ∷ []) slots))

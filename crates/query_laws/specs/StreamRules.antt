@@ -17,6 +17,7 @@ use Rattle.query_lang.specs.declared.typing.MadeStream.{MadeStream}
 use Rattle.query_lang.specs.declared.typing.Origin.TheVariants as origin
 use Rattle.query_lang.specs.declared.typing.StreamColumn.{StreamColumn}
 use Rattle.query_lang.specs.TypedStreams.{column_names, key_names}
+use Rattle.query_lang.specs.declared.fault.TheConstants.{MAX_GROUPBYS, MAX_KEYS}
 use Rattle.query_laws.specs.ExprRules.{Word, Condition, StandsAt, HasKind}
 use Rattle.query_laws.specs.FoldRules.{IsNew, AreNew}
 use Rattle.query_laws.specs.Context.{IsStream, IsFold}
@@ -49,11 +50,11 @@ AreApart (id ∷ ids) others = IsNew id others × AreApart ids others
 abbrev pub key_ids : List ℕ → List Key → List ℕ
 key_ids five keys = map (λ key. key.id) (flat_map (key_names five) keys)
 
--- keys are at most 8 columns, and no name is two of them
+-- keys are at most MAX_KEYS columns, and no name is two of them
 pub record HasKeys (columns ids slots : List ℕ) : Type 0 where
   pub places : HasSlots columns ids slots
   pub distinct : AreNew [] ids
-  pub few : length ids ≤ 8
+  pub few : length ids ≤ MAX_KEYS
 
 -- the arguments of a fold are columns, and none of its variables has the name of a key
 pub record HasArguments (columns keys : List ℕ) (f : FoldView) (slots : List ℕ) : Type 0 where
@@ -125,7 +126,7 @@ pub record OfZip (known : List Known) (first second : Name) (made : MadeStream) 
 -- the columns of the input that are keys
 pub record OfGroup (five : List ℕ) (known : List Known) (groups : ℕ) (input : Name) (keys : List Key)
     (fold_name : Name) (made : MadeStream) : Type 0 where
-  pub few : groups < 8
+  pub few : groups < MAX_GROUPBYS
   pub source : StreamView
   pub slots : List ℕ
   pub columns : List StreamColumn

@@ -22,9 +22,9 @@ abbrev pub PacketsAreOfTheTrace : Type 0
 PacketsAreOfTheTrace = (q : TypedQuery) (number : ℕ) (packets : List (List ℕ))
     → All (λ n. (1 ≤ n) × (n ≤ length packets)) (packet_numbers (stream q number packets))
 
--- ---- queries that are typed, over packets of 14 fields
+-- ---- queries that are typed, over packets with all fields
 
--- this holds of each typed query and all packets of 14 fields
+-- this holds of each typed query and all packets with all fields
 abbrev pub OfTypedQueries : (TypedQuery → List (List ℕ) → Type 0) → Type 0
 OfTypedQueries Q = (query : Query) (q : TypedQuery) (packets : List (List ℕ))
     → IsTyped query q → All (λ words. length words ≡ FIELDS) packets → Q q packets

@@ -13,7 +13,7 @@ ghost use Rattle.marple_base.specs.Pieces.{TakesAllBut};
 
 use final_queries::{Table, run_final};
 use marple_base::{Seq, Sink, Steps, TextBuffer, WriteError};
-use query_lang::{PrintOf, TypedQuery};
+use query_lang::{MAX_GROUPBYS, PrintOf, TypedQuery};
 use std::alloc::{AllocError, Global};
 use std::sync::ledger::Ledger;
 use table_printer::write_table;
@@ -43,7 +43,7 @@ pub fn add_finals<L: Ledger>(
 
 /// The number of a printed table, where there are `groups` groupbys.
 pub fn table_number(groups: usize, one: PrintOf) -> usize
-    requires { groups ≤ 8 }
+    requires { groups ≤ MAX_GROUPBYS }
     ensures { result ≡ table_number groups one }
 {
     match one {
@@ -77,7 +77,7 @@ fn write_printed<O: Sink>(
     text: &mut TextBuffer,
     out: &mut O,
 ) -> Result<(), WriteError>
-    requires groups { groups ≤ 8 }
+    requires groups { groups ≤ MAX_GROUPBYS }
     requires prints { All (λ one. table_number groups one < length tables.now) prints.now }
     requires tables { All IsTable tables.now }
     ensures ok { OnOk result (TakesAllBut (O.taken out.old) (O.taken out.new) text.new

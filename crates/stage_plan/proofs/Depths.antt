@@ -9,6 +9,7 @@ use Rattle.std.proofs.lemmas.Option.{slice_get_within, slice_get_cases}
 use Rattle.marple_base.specs.declared.field.TheConstants.{FIELDS}
 use Rattle.query_lang.specs.Streams.{values_at}
 use Rattle.query_lang.specs.Terms.{Operation}
+use Rattle.query_lang.specs.declared.fault.TheConstants.{MAX_STAGES}
 use Rattle.stage_plan.specs.declared.op.Operand.{Operand}
 use Rattle.stage_plan.specs.declared.op.Operand.TheVariants.{Register, Number}
 use Rattle.stage_plan.specs.declared.op.Operation as operation
@@ -42,10 +43,10 @@ same_stage ops more (Register r) e w =
           ]
     ]
 
--- an operand that is there, whose stage is this depth, and 65 for all above 64
+-- an operand that is there, whose stage is this depth, and one more than the most for all above
 pub record IsAt (ops : List PlanOp) (o : Operand) (depth : ℕ) : Type 0 where
   pub within : IsWithin (FIELDS + length ops) o
-  pub stage : operand_stage ops o ≡ min 65 depth
+  pub stage : operand_stage ops o ≡ min (MAX_STAGES + 1) depth
 
 pub is_more : (ops more : List PlanOp) (o : Operand) (depth : ℕ) → Extends ops more → IsAt ops o depth → IsAt more o depth
 is_more ops more o depth e h = record {
@@ -135,7 +136,7 @@ made_more ops op left right made l r = record {
     new = op_on ops op left right
 
 abbrev pub capped : List ℕ → List ℕ
-capped depths = map (λ depth. min 65 depth) depths
+capped depths = map (λ depth. min (MAX_STAGES + 1) depth) depths
 
 abbrev pub stages : List PlanOp → List ℕ
 stages ops = map (λ one. one.stage) ops
@@ -154,13 +155,13 @@ added_then a b c ds es p q = record {
   extends = and_more a b c p.extends q.extends;
   made = q.made;
   stages_are = q.stages_are ∙ ap (λ l. l ++ capped es) p.stages_are ∙ append_assoc (stages a) (capped ds) (capped es)
-      ∙ ap (λ l. stages a ++ l) (sym (map-append (λ depth. min 65 depth) ds es));
+      ∙ ap (λ l. stages a ++ l) (sym (map-append (λ depth. min (MAX_STAGES + 1) depth) ds es));
 }
 
 pub added_one : (ops : List PlanOp) (op : operation.Operation) (left right : Operand) (d e : ℕ) → AreMade ops → IsAt ops left d
     → IsAt ops right e → Added ops (ops ++ op_on ops op left right ∷ []) ((1 + max d e) ∷ [])
 added_one ops op left right d e made l r =
-    let stage : stage_after (operand_stage ops left) (operand_stage ops right) ≡ min 65 (1 + max d e) =
+    let stage : stage_after (operand_stage ops left) (operand_stage ops right) ≡ min (MAX_STAGES + 1) (1 + max d e) =
     (let a = l.stage in let b = r.stage in omega arith) in
     record {
       extends = one_more ops (op_on ops op left right);

@@ -17,6 +17,7 @@ use Rattle.query_lang.specs.declared.fold.TypedFold.{TypedFold}
 use Rattle.query_lang.specs.declared.typed.TypedQuery.{TypedQuery}
 use Rattle.query_lang.specs.Streams.{Taking, takings, values_at}
 use Rattle.query_lang.specs.TypedQueries.{IsValidQuery}
+use Rattle.query_lang.specs.declared.fault.TheConstants.{MAX_STAGES}
 use Rattle.query_types.specs.Uses.{uses}
 use Rattle.stage_plan.specs.declared.group.GroupPlan.{GroupPlan}
 use Rattle.stage_plan.specs.declared.group.GroupWiring.{GroupWiring}
@@ -49,17 +50,18 @@ or_false true b e = absurd (no e)
     no f = cc
 or_false false b e = (refl, e)
 
-each_shallow : (ops : List PlanOp) (i : ℕ) (one : PlanOp) → are_deep ops ≡ false → slice_get ops i ≡ Some one → one.stage ≤ 64
+each_shallow : (ops : List PlanOp) (i : ℕ) (one : PlanOp) → are_deep ops ≡ false → slice_get ops i ≡ Some one → one.stage ≤ MAX_STAGES
 each_shallow [] i one none e = absurd (no e)
   where
     no : None ≡ Some one → ⊥
     no f = cc
 each_shallow (first ∷ ops) zero one none e =
     let same : first.stage ≡ one.stage = ap (λ (x : PlanOp). x.stage) (same_Some first one e) in
-    let test : nat_lt 64 first.stage ≡ false = (or_false (nat_lt 64 first.stage) (list_any (λ x. nat_lt 64 x.stage) ops) none).0 in
+    let test : nat_lt MAX_STAGES first.stage ≡ false = (or_false (nat_lt MAX_STAGES first.stage)
+    (list_any (λ x. nat_lt MAX_STAGES x.stage) ops) none).0 in
     grind (arith, nat_tests)
 each_shallow (first ∷ ops) (suc i) one none e = each_shallow ops i one
-    ((or_false (nat_lt 64 first.stage) (list_any (λ x. nat_lt 64 x.stage) ops) none).1) e
+    ((or_false (nat_lt MAX_STAGES first.stage) (list_any (λ x. nat_lt MAX_STAGES x.stage) ops) none).1) e
 
 pub stages_within : (xs : List PlanOp) (b : ℕ) → ((i : ℕ) (x : PlanOp) → slice_get xs i ≡ Some x → x.stage ≤ b) → stages_of xs ≤ b
 stages_within [] b h = omega arith
@@ -117,7 +119,7 @@ module _ (q : TypedQuery) (valid : IsValidQuery q) (ops : List PlanOp) (streams 
       let lt : c.number < length ops = slice_get_within ops c.number c.one c.found in
       let l = kept c.one.left (within_more (FIELDS + c.number) (FIELDS + length ops) c.one.left (omega arith) m.left) in
       let r = kept c.one.right (within_more (FIELDS + c.number) (FIELDS + length ops) c.one.right (omega arith) m.right) in
-      let low : c.one.stage ≤ 64 = each_shallow ops c.number c.one made.none c.found in
+      let low : c.one.stage ≤ MAX_STAGES = each_shallow ops c.number c.one made.none c.found in
       let stage : c.one.stage ≡ suc (max (operand_stage sorted (moved registers c.one.left))
       (operand_stage sorted (moved registers c.one.right))) =
       (let a = m.stage in let b = l.stage in let d = r.stage in omega arith)

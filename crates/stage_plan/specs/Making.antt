@@ -14,6 +14,7 @@ use Rattle.query_lang.specs.declared.typed.TypedOp.{TypedOp}
 use Rattle.query_lang.specs.declared.typed.TypedOp.TheVariants.{Filter, Map, Zip, Group}
 use Rattle.query_lang.specs.declared.typed.TypedStream.{TypedStream}
 use Rattle.query_lang.specs.Terms.{Term, Literal, Read, Negation, Operation, term_of}
+use Rattle.query_lang.specs.declared.fault.TheConstants.{MAX_STAGES}
 use Rattle.stage_plan.specs.declared.op.Operand.{Operand}
 use Rattle.stage_plan.specs.declared.op.Operand.TheVariants.{Register, Number}
 use Rattle.stage_plan.specs.declared.op.Operation as operation
@@ -30,9 +31,9 @@ pub record Compiled : Type 0 where
 abbrev pub compiled_then : {A : Type 0} → Compiled → (List PlanOp → Operand → A) → A
 compiled_then c next = next c.ops c.value
 
--- the stage after these two. All above 64 are 65
+-- the stage after these two. All above MAX_STAGES are one
 abbrev pub stage_after : ℕ → ℕ → ℕ
-stage_after a b = min 65 (suc (max a b))
+stage_after a b = min (MAX_STAGES + 1) (suc (max a b))
 
 -- one more operation
 abbrev pub op_on : List PlanOp → operation.Operation → Operand → Operand → PlanOp
@@ -143,7 +144,7 @@ all_made folds ops streams (one ∷ rest) =
     made_then (made_by folds streams one.op ops) (λ more wires. all_made folds more (streams ++ wires ∷ []) rest)
 
 abbrev pub are_deep : List PlanOp → Bool
-are_deep ops = list_any (λ one. nat_lt 64 one.stage) ops
+are_deep ops = list_any (λ one. nat_lt MAX_STAGES one.stage) ops
 
 -- the first of streams after which an operation is too deep
 abbrev pub made_fault : List TypedFold → List PlanOp → List StreamWires → List TypedStream → Option QueryFault

@@ -4,6 +4,7 @@ use Rattle.std.specs.Prelude.{Option, Some, None, ◌⊎◌}
 use Rattle.fold_class.specs.Program.{IsProgram}
 use Rattle.marple_base.specs.declared.field.FieldSet.{FieldSet}
 use Rattle.marple_base.specs.declared.field.TheConstants.{FIELDS}
+use Rattle.query_lang.specs.declared.fault.TheConstants.{MAX_ARGS, MAX_GROUPBYS, MAX_KEYS, MAX_STAGES, MAX_STATES}
 use Rattle.stage_plan.specs.declared.op.Operand.{Operand}
 use Rattle.stage_plan.specs.declared.op.Operand.TheVariants.{Register, Number}
 use Rattle.stage_plan.specs.declared.op.PlanOp.{PlanOp}
@@ -29,7 +30,7 @@ pub record IsSoundOp (ops : List PlanOp) (i : ℕ) (one : PlanOp) : Type 0 where
   pub left : IsWithin (FIELDS + i) one.left
   pub right : IsWithin (FIELDS + i) one.right
   pub stage : one.stage ≡ suc (max (operand_stage ops one.left) (operand_stage ops one.right))
-  pub most : one.stage ≤ 64
+  pub most : one.stage ≤ MAX_STAGES
 
 -- the operations are in the order of their stages
 pub record AreSoundOps (ops : List PlanOp) : Type 0 where
@@ -43,19 +44,19 @@ pub record AreSoundOps (ops : List PlanOp) : Type 0 where
 pub record IsSoundGroup (registers : ℕ) (group : GroupPlan) (wiring : GroupWiring) : Type 0 where
   pub program : IsProgram group.program
   pub some_keys : 0 < length group.key_names
-  pub most_keys : length group.key_names ≤ 8
-  pub most_states : length group.state_names ≤ 8
+  pub most_keys : length group.key_names ≤ MAX_KEYS
+  pub most_states : length group.state_names ≤ MAX_STATES
   pub states : length group.state_names ≡ length group.program.layout.initial
   pub keys : length wiring.keys ≡ length group.key_names
   pub args : length wiring.args ≡ group.program.layout.args
-  pub most_args : length wiring.args ≤ 16
+  pub most_args : length wiring.args ≤ MAX_ARGS
   pub present : IsWithin registers wiring.present
   pub key_registers : All (IsWithin registers) wiring.keys
   pub arg_registers : All (IsWithin registers) wiring.args
 
 pub record IsSoundPlan (plan : PlanParts) : Type 0 where
   pub ops : AreSoundOps plan.ops
-  pub most_groups : length plan.groups ≤ 8
+  pub most_groups : length plan.groups ≤ MAX_GROUPBYS
   pub wired : length plan.wiring ≡ length plan.groups
   pub each : (i : ℕ) (group : GroupPlan) (wiring : GroupWiring) → slice_get plan.groups i ≡ Some group
       → slice_get plan.wiring i ≡ Some wiring

@@ -12,7 +12,7 @@ ghost use Rattle.stage_plan.specs.Counting.{condition_most, values_most, emit_mo
 use crate::op::{FIRST_RESULT, Operand, Operation, PlanOp};
 use crate::wires::StreamWires;
 use marple_base::{FIELDS, Seq};
-use query_lang::{Op, TypedExpr, TypedFold};
+use query_lang::{MAX_STAGES, Op, TypedExpr, TypedFold};
 use std::alloc::{AllocError, Global};
 
 // The stage of an operand.
@@ -33,14 +33,14 @@ fn stage_of(ops: &[PlanOp], operand: Operand) -> u32
     }
 }
 
-// The stage after two others, and 65 for all above 64.
+// The stage after two others, and the same one for all above the most.
 fn beyond(left: u32, right: u32) -> u32
     ensures { result ≡ stage_after left right }
 {
-    if left < 64 && right < 64 {
+    if left < MAX_STAGES && right < MAX_STAGES {
         left.max(right) + 1
     } else {
-        65
+        MAX_STAGES + 1
     }
 }
 

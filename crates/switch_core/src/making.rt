@@ -12,6 +12,7 @@ ghost use Rattle.switch_core.specs.PlanLanes.{AreLanesOf, HavePlaces, IsMadeFor,
 
 use crate::lane::Lane;
 use epoch_entry::{AnyEpochs, Entries, EpochKind, entries_are_small, entries_suit_folds};
+use query_lang::MAX_KEYS;
 use stage_plan::{GroupPlan, Plan};
 use std::alloc::{AllocError, Global};
 
@@ -28,7 +29,7 @@ fn made_lane<const WAYS: usize>(
     requires places { buckets * WAYS ≤ 65536 }
     requires pipe { (0 < pipe_records) × (pipe_records ≤ 65536) }
     requires program { IsProgram group.now.program }
-    requires keys { (0 < length group.now.key_names) × (length group.now.key_names ≤ 8) }
+    requires keys { (0 < length group.now.key_names) × (length group.now.key_names ≤ MAX_KEYS) }
     ensures stands { IfOk result (λ lane. StandsFor lane (empty_machine (geometry_of WAYS buckets))) }
     ensures buckets { IfOk result (λ lane. length lane.cache.lists ≡ buckets) }
     ensures pipe_places { IfOk result (λ lane. lane.pipe.places ≡ pipe_records) }

@@ -31,6 +31,7 @@ use epoch_model::{buckets_empty_by_evictions, events_keep_alike};
 use final_queries::Table;
 use fold_class::depth_is_found;
 use marple_base::{Packet, Seq, Steps};
+use query_lang::{MAX_ARGS, MAX_KEYS};
 use stage_plan::Plan;
 use std::alloc::{AllocError, Global};
 use std::marker::Model;
@@ -103,8 +104,8 @@ impl<const WAYS: usize> Pipeline<WAYS> {
     {
         let lanes = made_lanes(alloc, &plan, entries, buckets, pipe_records)?;
         let registers = vec![in alloc; 0; plan.registers()]?;
-        let key = vec![in alloc; 0; 8]?;
-        let args = vec![in alloc; 0; 16]?;
+        let key = vec![in alloc; 0; MAX_KEYS]?;
+        let args = vec![in alloc; 0; MAX_ARGS]?;
         Ok(Pipeline {
             alloc,
             plan,
