@@ -28,7 +28,7 @@ use Rattle.stage_plan.specs.Packets.{AreWhole}
 use Rattle.stage_plan.specs.declared.group.GroupPlan.{GroupPlan}
 use Rattle.stage_plan.specs.declared.group.GroupWiring.{GroupWiring}
 use Rattle.stage_plan.specs.declared.op.Operand.TheVariants.{Number}
-use Rattle.stage_plan.specs.Planned.{IsPlanOf, fold_at, taken, wiring_at, row_of}
+use Rattle.stage_plan.specs.Planned.{IsPlanOf, fold_at, taken, wiring_at, packet_registers}
 use Rattle.stage_plan.specs.Registers.{operand_value}
 use Rattle.stage_plan.specs.Shape.{group_shape}
 use Rattle.stage_plan.specs.Sound.{PlanParts, IsSoundPlan}
@@ -82,7 +82,7 @@ module _ (law : TablesGiveBounds) (closed : ClosedGiveTheGroupTable) (order : Ta
       → All (λ u. length u.key ≡ n) (uses_taken number (map (taken plan i) rows))
   taken_keys i n number [] e = All-nil (λ u. length u.key ≡ n)
   taken_keys i n number (words ∷ rows) e =
-      let registers = row_of plan words in
+      let registers = packet_registers plan words in
       let later = taken_keys i n (suc number) rows e in
       let rest = uses_taken (suc number) (map (taken plan i) rows) in
       by_test (holds (operand_value registers (wiring_at plan i).present))

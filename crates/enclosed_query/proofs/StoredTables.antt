@@ -19,7 +19,7 @@ use Rattle.epoch_model.specs.Keys.{Key, ascending, has, key_eq}
 use Rattle.epoch_model.proofs.KeyLists.{by_test, key_eq-true}
 use Rattle.epoch_model.proofs.KeyOrder.{has-ascending}
 use Rattle.backing_store.specs.Merged.{epochs_in, shown_row}
-use Rattle.backing_store.specs.SortedRows.{numbered, rows_of, sorted_rows}
+use Rattle.backing_store.specs.SortedRows.{numbered, stored_rows, sorted_rows}
 use Rattle.backing_store.specs.Store.{Store, StoredKey, StoredRow, IsStore, AreKeysOf, AreRowsOf, number_of, states_at, states_of}
 use Rattle.fold_class.specs.Kinds.{class_of}
 use Rattle.epoch_entry.specs.declared.purpose.Entries.TheVariants.{Bounds}
@@ -81,10 +81,10 @@ numbered_have words n key epochs first (state ∷ states) e all =
     (numbered_have words n key epochs (suc first) states e (All-tail (λ (x : List ℕ). length x ≡ n) state states all))
 
 rows_have : (store : Store) (keys : List Key) → IsStore store → All (λ key. length key ≡ store.key_words) keys
-    → All (HasColumns store.key_words store.state_words) (flat_map (rows_of store) keys)
+    → All (HasColumns store.key_words store.state_words) (flat_map (stored_rows store) keys)
 rows_have store [] is all = All-nil (HasColumns store.key_words store.state_words)
 rows_have store (key ∷ keys) is all =
-    All-append (HasColumns store.key_words store.state_words) (rows_of store key) (flat_map (rows_of store) keys)
+    All-append (HasColumns store.key_words store.state_words) (stored_rows store key) (flat_map (stored_rows store) keys)
     (numbered_have store.key_words store.state_words key _ 1 (states_of store key)
     (All-head (λ (k : Key). length k ≡ store.key_words) key keys all)
     (states_have (length store.keys) store.state_words (number_of store.keys key) store.rows is.rows))

@@ -9,7 +9,7 @@ use Rattle.query_lang.specs.declared.fault.TheConstants.{MAX_KEYS}
 use Rattle.final_queries.specs.declared.table.Table.{Table}
 use Rattle.final_queries.specs.declared.table.TableKind.TheVariants.{Group}
 use Rattle.final_queries.specs.Finals.{IsTable}
-use Rattle.table_printer.specs.TableText.{line, numbers}
+use Rattle.table_printer.specs.TableText.{table_line, numbers}
 use Rattle.enclosure_folds.specs.declared.table.BoundsTable.{BoundsTable}
 use Rattle.enclosure_folds.specs.declared.table.BoundsRow.{BoundsRow}
 use Rattle.enclosure_folds.specs.Bounds.{is_exact}
@@ -57,7 +57,7 @@ bounds_parts row = numbers row.key ++ (mark_text (row_is_exact row) ∷ decimal 
 
 -- The text of a table of bounds: a line that says what it is, a heading, and a line for each row.
 abbrev pub bounds_text : BoundsTable → List ℕ
-bounds_text t = bounds_title t ++ line (bounds_heading t) ++ flat_map (λ row. line (bounds_parts row)) t.rows
+bounds_text t = bounds_title t ++ table_line (bounds_heading t) ++ flat_map (λ row. table_line (bounds_parts row)) t.rows
 
 -- What finals read.
 

@@ -2,7 +2,7 @@
 use Rattle.std.specs.Prelude.{◌≡◌, ℕ, ◌+◌, ◌*◌, ◌<◌, ◌≤◌, ◌==◌, if◌then◌else◌, List, [], map, length}
 use Rattle.std.specs.Prelude.{slice_index, All}
 use Rattle.query_lang.specs.declared.fault.TheConstants.{MAX_STATES}
-use Rattle.fold_code.specs.Machine.{run, at, steps_of}
+use Rattle.fold_code.specs.Machine.{run_code, at, steps_of}
 use Rattle.fold_code.specs.Meaning.{Code}
 use Rattle.coeff_algebra.specs.Elements.{Elements}
 use Rattle.coeff_algebra.specs.Maps.{stored_entry}
@@ -60,7 +60,7 @@ module _ {C : Type 0} (k : Elements C) where
   -- the parts of the variables at the end of a column
   abbrev pub column_after : Rows → ℕ → List ℕ → List ℕ → List (Part C)
   column_after rows column history args =
-      run (parts (column_shares k (rows_dimension rows) column) rows.algebra) rows.code.instrs (map (λ w. Fixed w) args)
+      run_code (parts (column_shares k (rows_dimension rows) column) rows.algebra) rows.code.instrs (map (λ w. Fixed w) args)
       (map (first_part column history) rows.origins) []
 
   -- the element of the map in this row and column

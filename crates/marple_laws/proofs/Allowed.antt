@@ -21,7 +21,7 @@ use Rattle.stage_plan.specs.declared.group.GroupPlan.{GroupPlan}
 use Rattle.stage_plan.specs.declared.op.Operand.{Operand}
 use Rattle.stage_plan.specs.declared.op.Operand.TheVariants.{Register, Number}
 use Rattle.stage_plan.specs.declared.op.PlanOp.{PlanOp}
-use Rattle.stage_plan.specs.Fields.{Source, reads_of, all_sources, sources_at, named_input, named_slots}
+use Rattle.stage_plan.specs.Fields.{FieldSource, reads_of, all_sources, sources_at, named_input, named_slots}
 use Rattle.stage_plan.specs.Making.{operand_at, wires_at}
 use Rattle.stage_plan.specs.Ordering.{moved, moved_op, op_numbered, wiring_of}
 use Rattle.stage_plan.specs.Planned.{IsPlanOf, fold_at, query_made}
@@ -178,7 +178,7 @@ module _ (q : TypedQuery) (p : PlanParts) (valid : IsValidQuery q) (text : HasPl
 
     -- what the groupbys take
 
-    named_taking : (sources : List (List Source)) (streams : List TypedStream) → AreNamed (reads_of q) sources streams
+    named_taking : (sources : List (List FieldSource)) (streams : List TypedStream) → AreNamed (reads_of q) sources streams
         → (i : ℕ) (t : Taking)
         → slice_get (takings streams) i ≡ Some t → AreRead (reads_of q) (sources_at sources t.input) (t.keys ++ t.args)
     named_taking sources [] n i t e = absurd (no e)
@@ -200,7 +200,7 @@ module _ (q : TypedQuery) (p : PlanParts) (valid : IsValidQuery q) (text : HasPl
             subst (λ (t : Taking). AreRead (reads_of q) (sources_at sources t.input) (t.keys ++ t.args)) same r
         by (op.Group input keys f args) r rest (suc i) e = rest i t e
 
-    picked_good : (sources : List Source) (columns : List Operand) (slots : List ℕ) → AreFrom (reads_of q) sources columns
+    picked_good : (sources : List FieldSource) (columns : List Operand) (slots : List ℕ) → AreFrom (reads_of q) sources columns
         → AreRead (reads_of q) sources slots →
         AllGood (reads_of q) (map (λ slot. moved (query_registers q) (operand_at columns slot)) slots)
     picked_good sources columns [] from r = tt

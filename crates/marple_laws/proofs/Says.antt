@@ -10,7 +10,7 @@ use Rattle.query_lang.specs.declared.typed.PrintOf.{PrintOf}
 use Rattle.query_lang.specs.declared.typed.PrintOf.TheVariants as printed
 use Rattle.query_lang.specs.declared.typed.TypedQuery.{TypedQuery}
 use Rattle.query_lang.specs.Streams.{takings}
-use Rattle.query_lang.specs.TypedQueries.{IsValidQuery, IsTable}
+use Rattle.query_lang.specs.TypedQueries.{IsValidQuery, IsQueryTable}
 use Rattle.query_lang.specs.declared.fault.TheConstants.{MAX_GROUPBYS}
 use Rattle.stage_plan.specs.declared.group.GroupWiring.{GroupWiring}
 use Rattle.stage_plan.specs.declared.op.PlanOp.{PlanOp}
@@ -108,14 +108,14 @@ prints_written fields ops groups few (printed.Group i ∷ prints) before there n
     small : i < 2 ^ 64
     small = omega (arith, there.0, few)
 
-tables_there : (q : TypedQuery) (prints : List PrintOf) → All (IsTable q) prints → AreThere (length (takings q.streams)) prints
+tables_there : (q : TypedQuery) (prints : List PrintOf) → All (IsQueryTable q) prints → AreThere (length (takings q.streams)) prints
 tables_there q [] h = tt
 tables_there q (printed.Group i ∷ prints) h = (
-  All-head (IsTable q) (printed.Group i) prints h,
+  All-head (IsQueryTable q) (printed.Group i) prints h,
   tables_there q prints
-      (All-tail (IsTable q) (printed.Group i) prints h),
+      (All-tail (IsQueryTable q) (printed.Group i) prints h),
 )
-tables_there q (printed.Final i ∷ prints) h = tables_there q prints (All-tail (IsTable q) (printed.Final i) prints h)
+tables_there q (printed.Final i ∷ prints) h = tables_there q prints (All-tail (IsQueryTable q) (printed.Final i) prints h)
 
 module _ (q : TypedQuery) (p : PlanParts) (valid : IsValidQuery q) (text : HasPlanText q) (plan : IsPlanOf q p) (sound : IsSoundPlan p)
   where

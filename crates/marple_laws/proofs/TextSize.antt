@@ -23,14 +23,14 @@ use Rattle.query_lang.specs.declared.typed.TypedQuery.{TypedQuery}
 use Rattle.query_lang.specs.declared.typed.TypedStream.{TypedStream}
 use Rattle.query_lang.specs.Folds.{IsValidFold}
 use Rattle.query_lang.specs.Streams.{Taking, takings}
-use Rattle.query_lang.specs.TypedQueries.{AreValidStreams, HasNames, IsTable, IsValidOp, IsValidQuery}
+use Rattle.query_lang.specs.TypedQueries.{AreValidStreams, HasNames, IsQueryTable, IsValidOp, IsValidQuery}
 use Rattle.query_lang.specs.declared.fault.TheConstants.{MAX_GROUPBYS, MAX_KEYS}
 use Rattle.fold_class.specs.Depth.{depth_of}
 use Rattle.stage_plan.specs.declared.op.Operand.{Operand}
 use Rattle.stage_plan.specs.declared.op.Operand.TheVariants.{Register, Number}
 use Rattle.stage_plan.specs.declared.op.PlanOp.{PlanOp}
 use Rattle.stage_plan.specs.Depths.{stage_fault}
-use Rattle.stage_plan.specs.Fields.{Source, all_sources, reads_of, sources_at}
+use Rattle.stage_plan.specs.Fields.{FieldSource, all_sources, reads_of, sources_at}
 use Rattle.stage_plan.specs.Making.{operand_at, wires_at}
 use Rattle.stage_plan.specs.Ordering.{moved, moved_op, op_numbered, register_or_none, wiring_of}
 use Rattle.stage_plan.specs.Planned.{fold_at, query_made}
@@ -76,19 +76,19 @@ reads_size reads =
     let h = fields_size reads all_fields in
     omega (arith, n, h)
 
-prints_size : (q : TypedQuery) → length (takings q.streams) ≤ MAX_GROUPBYS → (prints : List PrintOf) → All (IsTable q) prints
+prints_size : (q : TypedQuery) → length (takings q.streams) ≤ MAX_GROUPBYS → (prints : List PrintOf) → All (IsQueryTable q) prints
     → length (flat_map print_line prints) ≤ 27 * length prints
 prints_size q few [] all = omega arith
 prints_size q few (place.Group i ∷ prints) all =
-    let lt : i < length (takings q.streams) = All-head (IsTable q) (place.Group i) prints all in
+    let lt : i < length (takings q.streams) = All-head (IsQueryTable q) (place.Group i) prints all in
     let n = length-append (line (codes "print") (decimal i ∷ [])) (flat_map print_line prints) in
     let l = line_size (codes "print") (decimal i ∷ []) in
     let b = after_size (decimal i) [] in
     let d = decimal_size i (omega (arith, lt, few)) in
-    let h = prints_size q few prints (All-tail (IsTable q) (place.Group i) prints all) in
+    let h = prints_size q few prints (All-tail (IsQueryTable q) (place.Group i) prints all) in
     omega (arith, n, l, b, d, h)
 prints_size q few (place.Final i ∷ prints) all =
-    let h = prints_size q few prints (All-tail (IsTable q) (place.Final i) prints all) in
+    let h = prints_size q few prints (All-tail (IsQueryTable q) (place.Final i) prints all) in
     omega (arith, h)
 
 abbrev up : ℕ → List PrintOf
@@ -111,13 +111,13 @@ in_up i (suc n) lt = go (nat_eq i n) refl (in_up i n)
     go true e more = let same : i ≡ n = grind (arith, nat_tests) in inl (ap place.Group same)
     go false e more = let other = eqb-false i n e in inr (more (omega (arith, lt, other)))
 
-prints_in : (q : TypedQuery) (prints : List PrintOf) → All (IsTable q) prints → AreGroups prints → (p : PrintOf) → IsIn p prints
+prints_in : (q : TypedQuery) (prints : List PrintOf) → All (IsQueryTable q) prints → AreGroups prints → (p : PrintOf) → IsIn p prints
     → IsIn p (up (length (takings q.streams)))
 prints_in q [] all are p i = absurd i
 prints_in q (place.Group n ∷ prints) all are p (inl e) =
     subst (λ x. IsIn x (up (length (takings q.streams)))) (sym e) (in_up n (length (takings q.streams))
-    (All-head (IsTable q) (place.Group n) prints all))
-prints_in q (place.Group n ∷ prints) all are p (inr i) = prints_in q prints (All-tail (IsTable q) (place.Group n) prints all) are p i
+    (All-head (IsQueryTable q) (place.Group n) prints all))
+prints_in q (place.Group n ∷ prints) all are p (inr i) = prints_in q prints (All-tail (IsQueryTable q) (place.Group n) prints all) are p i
 prints_in q (place.Final n ∷ prints) all are p i = absurd are
 
 few_prints : (q : TypedQuery) → IsValidQuery q → AreGroups q.prints → AreNew [] q.prints → length q.prints ≤ MAX_GROUPBYS
@@ -139,11 +139,11 @@ good_fits : (reads : FieldSet) (o : Operand) → IsGood reads o → NumFits o
 good_fits reads (Register r) g = tt
 good_fits reads (Number n) g = g
 
-from_fits : (reads : FieldSet) (s : Source) (o : Operand) → IsFrom reads s o → NumFits o
+from_fits : (reads : FieldSet) (s : FieldSource) (o : Operand) → IsFrom reads s o → NumFits o
 from_fits reads None o h = good_fits reads o h
 from_fits reads (Some f) o h = subst NumFits (sym h) tt
 
-column_fits : (reads : FieldSet) (sources : List Source) (columns : List Operand) (slot : ℕ) → AreFrom reads sources columns
+column_fits : (reads : FieldSet) (sources : List FieldSource) (columns : List Operand) (slot : ℕ) → AreFrom reads sources columns
     → NumFits (operand_at columns slot)
 column_fits reads [] [] slot h = omega arith
 column_fits reads (s ∷ sources) (o ∷ columns) zero h = from_fits reads s o h.0
@@ -166,7 +166,7 @@ moved_fits registers small (Register r) g = by (nat_lt r FIELDS) refl
     by true e = let lt : r < FIELDS = grind (arith, nat_tests) in omega (arith, lt)
     by false e = new (slice_get registers (r - FIELDS)) refl
 
-slots_fit : (registers : List ℕ) → AreSmall registers → (reads : FieldSet) (sources : List Source) (columns : List Operand)
+slots_fit : (registers : List ℕ) → AreSmall registers → (reads : FieldSet) (sources : List FieldSource) (columns : List Operand)
     → AreFrom reads sources columns → (slots : List ℕ)
     → AllFit (map (λ slot. moved registers (operand_at columns slot)) slots)
 slots_fit registers small reads sources columns from [] = tt

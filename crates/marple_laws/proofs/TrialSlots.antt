@@ -29,7 +29,7 @@ use Rattle.query_lang.specs.Streams.{Taking, stream, takings, values_at}
 use Rattle.query_lang.specs.Typing.{given_of, start_of, typed_names, items_checked, ended, with_fold, checked}
 use Rattle.query_grammar.specs.Reading.{expr_at, stmt_at}
 use Rattle.query_grammar.specs.Texts.{parsed_text}
-use Rattle.query_tables.specs.Tables.{group_tables, heading_of, printed, query_text, table_if, tables_from}
+use Rattle.query_tables.specs.Tables.{group_tables, heading_of_shape, printed, query_text, table_if, tables_from}
 use Rattle.query_types.specs.Uses.{taken_by, use_of, uses}
 use Rattle.stage_plan.specs.Fields.{read_fields, reads_of}
 use Rattle.stage_plan.specs.Packets.{AreWhole}
@@ -216,7 +216,7 @@ module _ (q : TypedQuery) where
     where
       go : (o : Option TypedFold) → table_if q g a i shape o ≡ table_if q g b i shape o
       go None = refl
-      go (Some f) = ap (λ given. group_table (heading_of shape) (folding_of f) g given ∷ []) (same i)
+      go (Some f) = ap (λ given. group_table (heading_of_shape shape) (folding_of f) g given ∷ []) (same i)
 
   text_same : (g : Geometry) (a b : List (List ℕ)) → ((i : ℕ) → uses q i a ≡ uses q i b) → query_text q g a ≡ query_text q g b
   unfolding query_text group_tables

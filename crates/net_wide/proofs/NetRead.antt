@@ -26,7 +26,7 @@ use Rattle.query_lang.specs.Words.{holds}
 use Rattle.stage_plan.specs.Packets.{AreWhole}
 use Rattle.stage_plan.specs.declared.group.GroupPlan.{GroupPlan}
 use Rattle.stage_plan.specs.declared.group.GroupWiring.{GroupWiring}
-use Rattle.stage_plan.specs.Planned.{IsPlanOf, fold_at, row_of, taken, wiring_at}
+use Rattle.stage_plan.specs.Planned.{IsPlanOf, fold_at, packet_registers, taken, wiring_at}
 use Rattle.stage_plan.specs.Registers.{operand_value}
 use Rattle.stage_plan.specs.Shape.{GroupShape, group_shape, query_groups}
 use Rattle.stage_plan.specs.Sound.{PlanParts, IsSoundGroup, IsSoundPlan}
@@ -112,7 +112,7 @@ taken_long plan i n words (one ∷ packets) wide = by_test (holds (operand_value
     (λ t. rw t (taken_long plan i (suc n) words packets wide))
   where
     registers : List ℕ
-    registers = row_of plan one
+    registers = packet_registers plan one
 
     wiring : GroupWiring
     wiring = wiring_at plan i

@@ -35,8 +35,8 @@ use Rattle.stage_plan.proofs.StreamRows as packetwise
 use Rattle.final_queries.specs.declared.table.Table.{Table}
 use Rattle.final_queries.specs.declared.table.TableKind.TheVariants as kind
 use Rattle.final_queries.specs.GroupTable.{closed_table}
-use Rattle.query_tables.specs.Tables.{heading_of}
-use Rattle.additive_laws.specs.Pieces.{joined}
+use Rattle.query_tables.specs.Tables.{heading_of_shape}
+use Rattle.additive_laws.specs.Pieces.{rows_joined}
 use Rattle.additive_laws.specs.Network.{SwitchEvent, SwitchEpoch, all_events, all_epochs, epochs_at, events_at, machine_at, AllMerged}
 use Rattle.additive_laws.proofs.StoreTables.{store_table}
 use Rattle.additive_laws.specs.Traces.{Step, HasPackets, IsRun, own_uses, whole_uses, taken_of}
@@ -49,7 +49,7 @@ use Rattle.net_wide.specs.NetTables.{net_table}
 use Rattle.net_wide.proofs.Combined.{HasSwitchKey, Combines, all_combine}
 use Rattle.net_wide.proofs.OneSwitch.{none_closed}
 use Rattle.net_wide.proofs.SameTexts.{flat_maps_alike, sums_alike, tells_switch, at_place}
-use Rattle.net_wide.specs.NetEnds.{IsSeen, AreNumbered, steps_of, closed_pieces, MergedMakeTheTable, PiecesAreTheEpochs}
+use Rattle.net_wide.specs.NetEnds.{IsSeen, AreSwitchesNumbered, net_steps, closed_pieces, MergedMakeTheTable, PiecesAreTheEpochs}
 use Rattle.net_wide.proofs.SwitchLists.{AreOnes, first, keys_of, ones, ones_rest, one_first, no_number, all_apart}
 
 -- two ways to take, where the uses of one packet are the same
@@ -85,15 +85,16 @@ module _ (number : ℕ → ℕ) (take : List ℕ → Option Taken) (all : List (
   -- a number that no switch has gives nothing
   none_taken : (k : ℕ) → ((s : ℕ) → IsSeen s all → (number s == k) ≡ false) → (packets : List (List ℕ))
       → ((s : ℕ) → IsSeen s packets → IsSeen s all)
-      → taken_of k (steps_of number take packets) ≡ []
+      → taken_of k (net_steps number take packets) ≡ []
   none_taken k none [] sub = refl
   none_taken k none (words ∷ packets) sub =
       let t : (number (switch_in words) == k) ≡ false = none (switch_in words) (sub (switch_in words) (seen_first words packets)) in
       rw t (none_taken k none packets (λ s seen. sub s (seen_more words packets s seen)))
 
   -- a switch's number has what is taken of the switch's packets
-  taken_own : AreNumbered number all → (s : ℕ) → IsSeen s all → (packets : List (List ℕ)) → ((a : ℕ) → IsSeen a packets → IsSeen a all)
-      → taken_of (number s) (steps_of number take packets) ≡ map take (packets_at s packets)
+  taken_own : AreSwitchesNumbered number all → (s : ℕ) → IsSeen s all → (packets : List (List ℕ))
+      → ((a : ℕ) → IsSeen a packets → IsSeen a all)
+      → taken_of (number s) (net_steps number take packets) ≡ map take (packets_at s packets)
   taken_own numbered s seen [] sub = refl
   taken_own numbered s seen (words ∷ packets) sub =
       let rest = taken_own numbered s seen packets (λ a some. sub a (seen_more words packets a some)) in
@@ -112,24 +113,24 @@ module _ (number : ℕ → ℕ) (take : List ℕ → Option Taken) (all : List (
       → key_eq t.key key ≡ true
       → number (switch_in words) ≡ one) where
     rows_of_one : (n m : ℕ) (packets : List (List ℕ)) → AreWhole packets
-        → rows_used key (uses_taken n (taken_of one (steps_of number take packets))) ≡ rows_used key (uses_taken m (map take packets))
+        → rows_used key (uses_taken n (taken_of one (net_steps number take packets))) ≡ rows_used key (uses_taken m (map take packets))
     rows_of_one n m [] whole = refl
     rows_of_one n m (words ∷ packets) whole =
         by_test (number (switch_in words) == one)
         (λ t. rw t (here (take words) (rows_of_one (suc n) (suc m) packets (All-tail (λ w. length w ≡ FIELDS) words packets whole))))
         (λ t. rw t (there t (take words) refl (rows_of_one n (suc m) packets (All-tail (λ w. length w ≡ FIELDS) words packets whole))))
       where
-        here : (o : Option Taken) → rows_used key (uses_taken (suc n) (taken_of one (steps_of number take packets))) ≡ rows_used key
+        here : (o : Option Taken) → rows_used key (uses_taken (suc n) (taken_of one (net_steps number take packets))) ≡ rows_used key
             (uses_taken (suc m) (map take packets))
-            → rows_used key (use_at n o ++ uses_taken (suc n) (taken_of one (steps_of number take packets))) ≡ rows_used key
+            → rows_used key (use_at n o ++ uses_taken (suc n) (taken_of one (net_steps number take packets))) ≡ rows_used key
             (use_at m o ++ uses_taken (suc m) (map take packets))
         here None h = h
         here (Some x) h = by_test (key_eq x.key key) (λ k. rw k (ap (λ rs. x.row ∷ rs) h)) (λ k. rw k h)
 
         there : (number (switch_in words) == one) ≡ false → (o : Option Taken) → take words ≡ o
-            → rows_used key (uses_taken n (taken_of one (steps_of number take packets))) ≡ rows_used key
+            → rows_used key (uses_taken n (taken_of one (net_steps number take packets))) ≡ rows_used key
             (uses_taken (suc m) (map take packets))
-            → rows_used key (uses_taken n (taken_of one (steps_of number take packets))) ≡ rows_used key
+            → rows_used key (uses_taken n (taken_of one (net_steps number take packets))) ≡ rows_used key
             (use_at m o ++ uses_taken (suc m) (map take packets))
         there t None is h = h
         there t (Some x) is h = by_test (key_eq x.key key)
@@ -139,7 +140,7 @@ module _ (number : ℕ → ℕ) (take : List ℕ → Option Taken) (all : List (
             (λ k. rw k h)
 
     rows_of_other : (k n : ℕ) → k ≢ one → (packets : List (List ℕ)) → AreWhole packets
-        → rows_used key (uses_taken n (taken_of k (steps_of number take packets))) ≡ []
+        → rows_used key (uses_taken n (taken_of k (net_steps number take packets))) ≡ []
     rows_of_other k n d [] whole = refl
     rows_of_other k n d (words ∷ packets) whole =
         by_test (number (switch_in words) == k)
@@ -147,8 +148,8 @@ module _ (number : ℕ → ℕ) (take : List ℕ → Option Taken) (all : List (
         (λ t. rw t (rows_of_other k n d packets (All-tail (λ w. length w ≡ FIELDS) words packets whole)))
       where
         here : (number (switch_in words) == k) ≡ true → (o : Option Taken) → take words ≡ o
-            → rows_used key (uses_taken (suc n) (taken_of k (steps_of number take packets))) ≡ []
-            → rows_used key (use_at n o ++ uses_taken (suc n) (taken_of k (steps_of number take packets))) ≡ []
+            → rows_used key (uses_taken (suc n) (taken_of k (net_steps number take packets))) ≡ []
+            → rows_used key (use_at n o ++ uses_taken (suc n) (taken_of k (net_steps number take packets))) ≡ []
         here t None is h = h
         here t (Some x) is h = by_test (key_eq x.key key)
             (λ e. absurd (d (sym (same_number (number (switch_in words)) k t)
@@ -156,14 +157,14 @@ module _ (number : ℕ → ℕ) (take : List ℕ → Option Taken) (all : List (
             (λ e. rw e h)
 
 whole_taken : (number : ℕ → ℕ) (take : List ℕ → Option Taken) (packets : List (List ℕ))
-    → map (λ one. one.taken) (steps_of number take packets) ≡ map take packets
+    → map (λ one. one.taken) (net_steps number take packets) ≡ map take packets
 whole_taken number take [] = refl
 whole_taken number take (words ∷ packets) = ap (λ ts. take words ∷ ts) (whole_taken number take packets)
 
 module _ (q : TypedQuery) (plan : PlanParts) (buckets ways : ℕ) (packets : List (List ℕ)) (number : ℕ → ℕ) (p : IsPlanOf q plan)
-    (room : HasRoom (caches_of buckets ways)) (whole : AreWhole packets) (numbered : AreNumbered number packets) (i : ℕ)
+    (room : HasRoom (caches_of buckets ways)) (whole : AreWhole packets) (numbered : AreSwitchesNumbered number packets) (i : ℕ)
     (within : i < length plan.groups)
-    (events : List SwitchEvent) (merged : List SwitchEpoch) (has : HasPackets (steps_of number (taken plan i) packets) events)
+    (events : List SwitchEvent) (merged : List SwitchEpoch) (has : HasPackets (net_steps number (taken plan i) packets) events)
     (all : AllMerged (caches_of buckets ways) events merged) where
   abbrev g : Geometry
   g = caches_of buckets ways
@@ -172,7 +173,7 @@ module _ (q : TypedQuery) (plan : PlanParts) (buckets ways : ℕ) (packets : Lis
   take words = taken plan i words
 
   abbrev steps : List Step
-  steps = steps_of number take packets
+  steps = net_steps number take packets
 
   uses_are : whole_uses steps ≡ uses q i packets
   uses_are = ap (uses_taken 1) (whole_taken number take packets) ∙ sym (p.takes i packets within whole)
@@ -271,10 +272,10 @@ module _ (q : TypedQuery) (plan : PlanParts) (buckets ways : ℕ) (packets : Lis
     lists : lists_of key (all_epochs merged) ≡ pieces key
     lists = of_one_switch key merged (map number (switches packets)) one (switches_of key) others ∙ pieces_are key
 
-    args : joined (lists_of key (all_epochs merged)) ≡ key_args key (uses q i packets)
+    args : rows_joined (lists_of key (all_epochs merged)) ≡ key_args key (uses q i packets)
     args =
-        ap joined (of_one key one merged others ∙ own_lists key one)
-        ∙ (ap joined (closed-lists g (machine_at g one events) key (all.swept one))
+        ap rows_joined (of_one key one merged others ∙ own_lists key one)
+        ∙ (ap rows_joined (closed-lists g (machine_at g one events) key (all.swept one))
         ∙ (no_row_is_lost_lem g (events_at one events) key room
         ∙ ((gives steps events has).own one key
         ∙ (rows_of_one number take packets key one only 1 1 packets whole
@@ -295,7 +296,7 @@ module _ (q : TypedQuery) (plan : PlanParts) (buckets ways : ℕ) (packets : Lis
 
   table_is : (shape : GroupShape) (f : TypedFold) → closed_rows (folding_of f) (all_epochs merged) ≡ net_rows q i packets pieces
       (folding_of f)
-      → closed_table (heading_of shape) (folding_of f) (all_epochs merged) ≡ net_table q packets pieces i shape f
+      → closed_table (heading_of_shape shape) (folding_of f) (all_epochs merged) ≡ net_table q packets pieces i shape f
   table_is shape f rows =
       ap (λ n. made n (closed_rows (folding_of f) (all_epochs merged))) epochs_same ∙ ap (made (net_count q i packets pieces)) rows
     where
@@ -333,14 +334,14 @@ make_the_table linear q plan buckets ways packets number valid none tells p room
 
 -- where no eviction comes before the end
 module _ (q : TypedQuery) (plan : PlanParts) (buckets ways : ℕ) (packets : List (List ℕ)) (number : ℕ → ℕ) (p : IsPlanOf q plan)
-    (room : HasRoom (caches_of buckets ways)) (whole : AreWhole packets) (numbered : AreNumbered number packets) (i : ℕ)
+    (room : HasRoom (caches_of buckets ways)) (whole : AreWhole packets) (numbered : AreSwitchesNumbered number packets) (i : ℕ)
     (within : i < length plan.groups)
-    (events : List SwitchEvent) (merged : List SwitchEpoch) (ran : IsRun (steps_of number (taken plan i) packets) events)
+    (events : List SwitchEvent) (merged : List SwitchEpoch) (ran : IsRun (net_steps number (taken plan i) packets) events)
     (all : AllMerged (caches_of buckets ways) events merged) (key : Key) where
   abbrev cuts : Geometry
   cuts = caches_of buckets ways
 
-  uses_of : (s : ℕ) → IsSeen s packets → own_uses (number s) (steps_of number (taken plan i) packets) ≡ uses_at q i packets s
+  uses_of : (s : ℕ) → IsSeen s packets → own_uses (number s) (net_steps number (taken plan i) packets) ≡ uses_at q i packets s
   uses_of s seen =
       ap (uses_taken 1) (taken_own number (taken plan i) packets numbered s seen packets (λ a some. some))
       ∙ sym (p.takes i (packets_at s packets) within (All-filter (λ words. switch_in words == s) (λ words. length words ≡ FIELDS) packets
@@ -349,7 +350,7 @@ module _ (q : TypedQuery) (plan : PlanParts) (buckets ways : ℕ) (packets : Lis
   epochs_of : (s : ℕ) → IsSeen s packets → lists_of key (machine_at cuts (number s) events).closed ≡ epochs cuts (uses_at q i packets s) key
   epochs_of s seen =
       ap (lists_of key) (sym (all.epochs (number s)))
-      ∙ (own buckets ways (steps_of number (taken plan i) packets) events merged key (number s) room ran all
+      ∙ (own buckets ways (net_steps number (taken plan i) packets) events merged key (number s) room ran all
       ∙ ap (λ us. epochs cuts us key) (uses_of s seen))
 
   epochs_from : (keys : List Key) → AreOnes packets keys

@@ -40,7 +40,7 @@ use Rattle.switch_core.specs.Rows.{EachFrom}
 use Rattle.switch_core.proofs.LaneFacts.{all_at}
 use Rattle.switch_core.proofs.SideBySide.{same_some}
 use Rattle.additive_laws.specs.Laws.{IsAdditiveFrom}
-use Rattle.additive_laws.specs.Pieces.{joined}
+use Rattle.additive_laws.specs.Pieces.{rows_joined}
 use Rattle.additive_laws.specs.Network.{AllMerged, SwitchEvent, SwitchEpoch, all_epochs, all_events, events_at, machine_at}
 use Rattle.additive_laws.specs.Traces.{from_switch}
 use Rattle.additive_laws.proofs.StoreTables.{as_many, pieces, same_some as same_length, store_table}
@@ -131,7 +131,7 @@ store_keys : (g : Geometry) (events : List SwitchEvent) (merged : List SwitchEpo
     → closed_keys (all_epochs merged) ≡ ascending (keys_given (all_events events))
 store_keys g events merged room all = same_keys (all_epochs merged) (keys_given (all_events events)) (λ k.
     given-some k (all_events events)
-    ∙ same_length (rows_given k (all_events events)) (joined (lists_of k (all_epochs merged))) (as_many g events merged room all k)
+    ∙ same_length (rows_given k (all_events events)) (rows_joined (lists_of k (all_epochs merged))) (as_many g events merged room all k)
     ∙ joined-some (lists_of k (all_epochs merged)) (pieces g events merged room all k))
 
 -- ---- what other switches are given of a key

@@ -15,7 +15,7 @@ use Rattle.stage_plan.specs.Sound.{PlanParts}
 use Rattle.net_wide.specs.Combining.{net_fault}
 use Rattle.net_wide.specs.NetLaws.{TellsSwitches}
 use Rattle.net_wide.specs.NetTables.{caches_of, switch_in}
-use Rattle.net_wide.specs.NetEnds.{AreNumbered, closed_pieces}
+use Rattle.net_wide.specs.NetEnds.{AreSwitchesNumbered, closed_pieces}
 use Rattle.network.specs.Groups.{group_is_drained}
 use Rattle.network.specs.Networks.{NetworkView}
 use Rattle.network.specs.Running.{Evicts, Merges, NetworkEvent, NetworkStands, Takes, all_given}
@@ -41,7 +41,7 @@ pub record CombineOver (q : TypedQuery) (plan : PlanParts) (number : ℕ → ℕ
   pub tells : TellsSwitches q
   pub planned : IsPlanOf q plan
   pub whole : AreWhole (packets_taken events)
-  pub numbered : AreNumbered number (packets_taken events)
+  pub numbered : AreSwitchesNumbered number (packets_taken events)
   pub switches : AreAtTheirSwitches number events
 
 -- by groupby and key, the row lists that the machines of all switches closed

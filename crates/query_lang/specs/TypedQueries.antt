@@ -135,9 +135,9 @@ AreValidFinals names folds tables [] = Unit {0}
 AreValidFinals names folds tables (one ∷ rest) = IsValidFinal names folds tables one
     × AreValidFinals names folds (tables ++ final_shape one ∷ []) rest
 
-abbrev pub IsTable : TypedQuery → PrintOf → Type 0
-IsTable q (printed.Group number) = number < length (takings q.streams)
-IsTable q (printed.Final number) = number < length q.finals
+abbrev pub IsQueryTable : TypedQuery → PrintOf → Type 0
+IsQueryTable q (printed.Group number) = number < length (takings q.streams)
+IsQueryTable q (printed.Final number) = number < length q.finals
 
 -- the numbers of names that a fold has
 pub record HasNames (names : ℕ) (f : TypedFold) : Type 0 where
@@ -150,6 +150,6 @@ pub record IsValidQuery (q : TypedQuery) : Type 0 where
   pub fold_names : All (HasNames (length q.names)) q.folds
   pub streams : AreValidStreams (length q.names) q.folds [] q.streams
   pub finals : AreValidFinals (length q.names) q.folds (shapes q.folds q.streams []) q.finals
-  pub prints : All (IsTable q) q.prints
+  pub prints : All (IsQueryTable q) q.prints
   pub most_bindings : length q.streams + length q.finals ≤ MAX_BINDINGS
   pub most_groupbys : length (takings q.streams) ≤ MAX_GROUPBYS

@@ -24,8 +24,8 @@ use Rattle.query_lang.specs.TypedFinals.{table_at, as_table, table_named}
 use Rattle.query_lang.specs.declared.fault.TheConstants.{MAX_KEYS}
 use Rattle.query_laws.specs.ExprRules.{StandsAt}
 use Rattle.query_laws.specs.FoldRules.{AreNew}
-use Rattle.query_laws.specs.Context.{StandsFor, IsFree, IsStream, IsFold, IsTable}
-use Rattle.query_laws.specs.StreamRules.{HasColumns, new_names, HasSlots, AreApart, HasArguments}
+use Rattle.query_laws.specs.Context.{NameStandsFor, IsFree, IsStream, IsFold, IsTable}
+use Rattle.query_laws.specs.StreamRules.{HasTypedColumns, new_names, HasSlots, AreApart, HasArguments}
 use Rattle.query_laws.proofs.Steps.{must_ok, must_not_ok, must_holds, must_not_holds, same_ok, found_first, then_next, nat_same, nat_other}
 use Rattle.query_laws.proofs.Steps.{nat_is, nat_is_not, stands_place}
 use Rattle.query_laws.proofs.ExprSound.{slot_stands, word_sound}
@@ -40,16 +40,16 @@ ok {A} x y e = ap (λ (z : A). let r : Checked A = Ok z in r) e
 same_some : (m n : Meaning) → (let o : Option Meaning = Some m in o) ≡ Some n → m ≡ n
 same_some m n e = cc e
 
-pub meaning_sound : (known : List Known) (id : ℕ) (m : Meaning) → meaning_of known id ≡ Some m → StandsFor known id m
+pub meaning_sound : (known : List Known) (id : ℕ) (m : Meaning) → meaning_of known id ≡ Some m → NameStandsFor known id m
 meaning_sound [] id m e = cc e
 meaning_sound (one ∷ rest) id m e = go (nat_eq one.name id) refl (λ k. meaning_sound rest id m k) e
   where
-    go : (b : Bool) → nat_eq one.name id ≡ b → (meaning_of rest id ≡ Some m → StandsFor rest id m)
-        → cond b (Some one.meaning) (meaning_of rest id) ≡ Some m → StandsFor (one ∷ rest) id m
+    go : (b : Bool) → nat_eq one.name id ≡ b → (meaning_of rest id ≡ Some m → NameStandsFor rest id m)
+        → cond b (Some one.meaning) (meaning_of rest id) ≡ Some m → NameStandsFor (one ∷ rest) id m
     go true is more e = inl (nat_same one.name id is, same_some one.meaning m e)
     go false is more e = inr (nat_other one.name id is, more e)
 
-pub meaning_complete : (known : List Known) (id : ℕ) (m : Meaning) → StandsFor known id m → meaning_of known id ≡ Some m
+pub meaning_complete : (known : List Known) (id : ℕ) (m : Meaning) → NameStandsFor known id m → meaning_of known id ≡ Some m
 meaning_complete [] id m h = absurd h
 meaning_complete (one ∷ rest) id m (inl p) = ap (λ (b : Bool). cond b (Some one.meaning) (meaning_of rest id)) (nat_is one.name id p.0)
     ∙ ap Some p.1
@@ -134,7 +134,7 @@ taken_more id columns hidden names = append_assoc columns (hidden ++ names) (id 
     ∙ ap (λ (z : List ℕ). columns ++ z) (append_assoc hidden names (id ∷ []))
 
 pub columns_sound : (columns hidden : List ℕ) (cs : List Column) (made all : NewColumns) → new_columns columns hidden made cs ≡ Ok all
-    → (values : List TypedExpr) × HasColumns columns (columns ++ (hidden ++ made.names)) cs values
+    → (values : List TypedExpr) × HasTypedColumns columns (columns ++ (hidden ++ made.names)) cs values
     × (all ≡ record { names = made.names ++ new_names cs; values = made.values ++ values })
 columns_sound columns hidden [] made all e = (
   [],
@@ -148,7 +148,7 @@ columns_sound columns hidden (c ∷ cs) made all e =
     let word = found_first (word_of columns hidden c.value) _ all one.1 in
     let rest = columns_sound columns hidden cs (record { names = made.names ++ c.name.id ∷ []; values = made.values ++ word.0 ∷ [] }) all
     word.2 in
-    let N : List ℕ → Type 0 = λ z. HasColumns columns z cs rest.0 in (
+    let N : List ℕ → Type 0 = λ z. HasTypedColumns columns z cs rest.0 in (
       word.0 ∷ rest.0,
       (
         among_new c.name.id _ (taken_is c.name.id columns hidden made.names ∙ one.0),
@@ -161,14 +161,14 @@ columns_sound columns hidden (c ∷ cs) made all e =
     )
 
 pub columns_complete : (columns hidden : List ℕ) (cs : List Column) (values : List TypedExpr) (made : NewColumns)
-    → HasColumns columns (columns ++ (hidden ++ made.names)) cs values
+    → HasTypedColumns columns (columns ++ (hidden ++ made.names)) cs values
     → new_columns columns hidden made cs ≡ Ok (record { names = made.names ++ new_names cs; values = made.values ++ values })
 columns_complete columns hidden [] [] made h = ok _ _ (columns_same made.names (made.names ++ []) made.values (made.values ++ [])
     (sym (append-nil made.names)) (sym (append-nil made.values)))
 columns_complete columns hidden [] (v ∷ values) made h = absurd h
 columns_complete columns hidden (c ∷ cs) [] made h = absurd h
 columns_complete columns hidden (c ∷ cs) (v ∷ values) made h =
-    let N : List ℕ → Type 0 = λ z. HasColumns columns z cs values in
+    let N : List ℕ → Type 0 = λ z. HasTypedColumns columns z cs values in
     must_not_holds _ _ _ _ (sym (taken_is c.name.id columns hidden made.names) ∙ new_among c.name.id _ h.0)
     ∙ then_next _ _ v (word_complete columns hidden c.value v h.1)
     ∙ columns_complete columns hidden cs values (record { names = made.names ++ c.name.id ∷ []; values = made.values ++ v ∷ [] })

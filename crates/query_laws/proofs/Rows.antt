@@ -13,7 +13,7 @@ use Rattle.query_lang.specs.declared.typed.TypedQuery.{TypedQuery}
 use Rattle.query_lang.specs.declared.typed.TypedStream.{TypedStream}
 use Rattle.query_lang.specs.declared.typing.Origin.TheVariants as origin
 use Rattle.query_lang.specs.declared.typing.StreamColumn.{StreamColumn}
-use Rattle.query_lang.specs.Streams.{Tuple, numbered, list_at, made_of, all_streams, stream}
+use Rattle.query_lang.specs.Streams.{Tuple, numbered, tuples_at, made_of, all_streams, stream}
 use Rattle.query_lang.specs.TypedStreams.{column_names}
 use Rattle.query_lang.specs.Typing.{field_numbers, checked}
 use Rattle.query_laws.specs.Columns.{columns_of}
@@ -157,7 +157,7 @@ all_long V view n (t ∷ tuples) e h = go (all_long V view n tuples e h.1)
     go more (suc k) d lt = more k d (omega (arith, lt))
 
 none_past : (number : ℕ) (V : Values) (views : List View) (lists : List (List Tuple)) (i : ℕ) → AllHave number V views lists
-    → slice_get views i ≡ None → list_at lists i ≡ []
+    → slice_get views i ≡ None → tuples_at lists i ≡ []
 none_past number V [] [] i h e = refl
 none_past number V [] (l ∷ lists) i h e = absurd h
 none_past number V (v ∷ views) [] i h e = absurd h

@@ -24,12 +24,13 @@ use Rattle.query_laws.specs.Context.{IsStream, IsFold}
 
 -- the new columns of a `map`: their names are new beside those taken and among themselves, and their expressions over these
 -- columns are words
-abbrev pub HasColumns : List ℕ → List ℕ → List Column → List TypedExpr → Type 0
-HasColumns columns taken [] [] = Unit {0}
-HasColumns columns taken [] (value ∷ values) = ⊥
-HasColumns columns taken (column ∷ rest) [] = ⊥
-HasColumns columns taken (column ∷ rest) (value ∷ values) =
-    IsNew column.name.id taken × HasKind columns Word column.value value × HasColumns columns (taken ++ column.name.id ∷ []) rest values
+abbrev pub HasTypedColumns : List ℕ → List ℕ → List Column → List TypedExpr → Type 0
+HasTypedColumns columns taken [] [] = Unit {0}
+HasTypedColumns columns taken [] (value ∷ values) = ⊥
+HasTypedColumns columns taken (column ∷ rest) [] = ⊥
+HasTypedColumns columns taken (column ∷ rest) (value ∷ values) =
+    IsNew column.name.id taken × HasKind columns Word column.value value
+    × HasTypedColumns columns (taken ++ column.name.id ∷ []) rest values
 
 abbrev pub new_names : List Column → List ℕ
 new_names columns = map (λ column. column.name.id) columns
@@ -97,7 +98,7 @@ pub record OfMap (known : List Known) (number : ℕ) (input : Name) (columns : L
   pub source : StreamView
   pub values : List TypedExpr
   pub stream : IsStream known input.id source
-  pub typed : HasColumns (column_names source.columns) (column_names source.columns ++ source.hidden) columns values
+  pub typed : HasTypedColumns (column_names source.columns) (column_names source.columns ++ source.hidden) columns values
   pub is : made ≡ record {
     op = made_by.Map source.number values;
     columns = source.columns ++ map (λ name. record { name = name; origin = origin.Map number }) (new_names columns);

@@ -8,7 +8,7 @@ ghost use Rattle.query_lang.specs.Folds.{IsValidFold};
 ghost use Rattle.query_lang.specs.Streams.{takings};
 ghost use Rattle.query_lang.specs.TypedFinals.{table_number};
 ghost use Rattle.final_queries.specs.Finals.{IsTable, table_shape, with_finals};
-ghost use Rattle.query_tables.specs.Tables.{printed, text_at};
+ghost use Rattle.query_tables.specs.Tables.{printed, table_text_at};
 ghost use Rattle.marple_base.specs.Pieces.{TakesAllBut};
 
 use final_queries::{Table, run_final};
@@ -61,8 +61,8 @@ fn write_table_at<O: Sink>(
 ) -> Result<(), WriteError>
     requires number { number < length tables.now }
     requires tables { All IsTable tables.now }
-    ensures ok { OnOk result (TakesAllBut (O.taken out.old) (O.taken out.new) text.new (text.old ++ text_at tables.now number)) }
-    ensures err { OnErr result (TakesFront (O.taken out.old) (O.taken out.new) (text.old ++ text_at tables.now number)) }
+    ensures ok { OnOk result (TakesAllBut (O.taken out.old) (O.taken out.new) text.new (text.old ++ table_text_at tables.now number)) }
+    ensures err { OnErr result (TakesFront (O.taken out.old) (O.taken out.new) (text.old ++ table_text_at tables.now number)) }
     ensures failed { IsErrOf result WriteError.Failed → Rose (O.faults out.old) (O.faults out.new) }
     ensures out_later { O.faults out.old ≤ O.faults out.new }
 {
@@ -81,9 +81,9 @@ fn write_printed<O: Sink>(
     requires prints { All (λ one. table_number groups one < length tables.now) prints.now }
     requires tables { All IsTable tables.now }
     ensures ok { OnOk result (TakesAllBut (O.taken out.old) (O.taken out.new) text.new
-        (text.old ++ flat_map (λ one. text_at tables.now (table_number groups one)) prints.now)) }
+        (text.old ++ flat_map (λ one. table_text_at tables.now (table_number groups one)) prints.now)) }
     ensures err { OnErr result (TakesFront (O.taken out.old) (O.taken out.new)
-        (text.old ++ flat_map (λ one. text_at tables.now (table_number groups one)) prints.now)) }
+        (text.old ++ flat_map (λ one. table_text_at tables.now (table_number groups one)) prints.now)) }
     ensures failed { IsErrOf result WriteError.Failed → Rose (O.faults out.old) (O.faults out.new) }
     ensures out_later { O.faults out.old ≤ O.faults out.new }
 {

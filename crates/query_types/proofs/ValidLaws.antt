@@ -28,7 +28,7 @@ use Rattle.query_lang.specs.Limits.{IsNumbered, IsNumberedStream, IsNumberedFina
 use Rattle.query_lang.specs.Names.{number_in, with_name}
 use Rattle.query_lang.specs.Streams.{takings}
 use Rattle.query_lang.specs.TypedStreams.{column_names}
-use Rattle.query_lang.specs.TypedQueries.{AreNames, HasNames, IsTable, IsValidQuery}
+use Rattle.query_lang.specs.TypedQueries.{AreNames, HasNames, IsQueryTable, IsValidQuery}
 use Rattle.query_lang.specs.Typing.{items_checked, with_fields, typed_names, field_numbers, is_groupby, given_of, start_of, checked}
 use Rattle.query_lang.specs.declared.fault.TheConstants.{MAX_GROUPBYS}
 use Rattle.query_types.specs.Numbers.{greatest_of, item_number}
@@ -166,7 +166,7 @@ start_sound w names is =
       prints = All-nil (IsPrinted w);
     }
 
-table_there : (q : TypedQuery) (w : Whole) (p : PrintOf) → w.streams ≡ q.streams → w.finals ≡ q.finals → IsPrinted w p → IsTable q p
+table_there : (q : TypedQuery) (w : Whole) (p : PrintOf) → w.streams ≡ q.streams → w.finals ≡ q.finals → IsPrinted w p → IsQueryTable q p
 table_there q w (place.Group number) s f h = omega (arith, ap (λ l. length (takings l)) s)
 table_there q w (place.Final number) s f h = omega (arith, ap length f)
 

@@ -28,7 +28,7 @@ use Rattle.part_laws.proofs.FinalRows.{same_members}
 use Rattle.part_texts.proofs.BackFacts.{field_texts_read_back_lem}
 use Rattle.split_laws.specs.Merging.{Merge, InOrder, TopAgain, NotMerged, group_merge, merge_at, merged, merged_rows, merges, rows_in}
 use Rattle.split_laws.specs.Merging.{table_but_for_epochs, with_rows}
-use Rattle.split_laws.specs.SplitTables.{words_of}
+use Rattle.trace_drive.specs.Drives.{words_of}
 use Rattle.split_laws.specs.WholeRuns.{EachFits, FitsOneRun, PartsAreTheRun, Split, packets_for, packets_in_part}
 use Rattle.split_laws.specs.WholeRuns.{tables_of_run, tables_of_whole, text_of_part}
 use Rattle.split_laws.proofs.FinalWalk.{Stands, walk}

@@ -25,7 +25,7 @@ use Rattle.stage_plan.specs.declared.op.Operand.{Operand}
 use Rattle.stage_plan.specs.declared.op.Operand.TheVariants.{Number}
 use Rattle.stage_plan.specs.declared.op.PlanOp.{PlanOp}
 use Rattle.stage_plan.specs.declared.wires.StreamWires.{StreamWires}
-use Rattle.stage_plan.specs.Registers.{operand_value, operand_stage, after, stages_of, taken_at}
+use Rattle.stage_plan.specs.Registers.{operand_value, operand_stage, registers_after, stages_of, taken_at}
 use Rattle.stage_plan.specs.Depths.{query_depths}
 use Rattle.stage_plan.specs.Fields.{reads_of}
 use Rattle.stage_plan.specs.Grouping.{IsGroupFor, AreGroupsOf}
@@ -197,10 +197,10 @@ module _ (q : TypedQuery) (valid : IsValidQuery q) (ops : List PlanOp) (streams 
 
   packet_taken : (t : Taking) (words : List ℕ) → length words ≡ FIELDS
       → option_map (row_taken t) (row_at (all_rows q words) t.input) ≡ taken_at
-      (wiring_of registers streams t) (after sorted words (stages_of sorted))
+      (wiring_of registers streams t) (registers_after sorted words (stages_of sorted))
   packet_taken t words words_long =
-      let filled : Filled sorted words (after sorted words (stages_of sorted)) = after_filled sorted words sound_ops words_long in
-      let row : List ℕ = after sorted words (stages_of sorted) in
+      let filled : Filled sorted words (registers_after sorted words (stages_of sorted)) = after_filled sorted words sound_ops words_long in
+      let row : List ℕ = registers_after sorted words (stages_of sorted) in
       let fields : FIELDS ≤ length row = (let l = filled.long in omega arith) in
       let solved : Solved ops (unmoved ops (stages_of ops) staged registers placed long row) =
       unmoved_solved ops (stages_of ops) staged registers placed long row fields (record { each = filled.each }) in
@@ -284,7 +284,7 @@ module _ (q : TypedQuery) (valid : IsValidQuery q) (ops : List PlanOp) (streams 
           let w : wiring_at parts i ≡ wiring_of registers streams t = ap
           (λ o. unwrap_or o (record { present = Number 0; keys = []; args = [] })) (wiring_is i t found.2) in
           uses_are q i t (taken parts i) found.2 (λ words words_long. packet_taken t words words_long
-          ∙ ap (λ x. taken_at x (after sorted words (stages_of sorted))) (sym w)) packets all14
+          ∙ ap (λ x. taken_at x (registers_after sorted words (stages_of sorted))) (sym w)) packets all14
       | inr past ↦ absurd (omega arith)
     ]
 

@@ -11,7 +11,7 @@ use Rattle.marple_base.specs.declared.field.TheConstants.{FIELDS}
 use Rattle.stage_plan.specs.declared.op.Operand.{Operand}
 use Rattle.stage_plan.specs.declared.op.Operand.TheVariants.{Register, Number}
 use Rattle.stage_plan.specs.declared.op.PlanOp.{PlanOp}
-use Rattle.stage_plan.specs.Registers.{operand_value, operation_value, result_of, stage_results, after, stages_of, operand_stage}
+use Rattle.stage_plan.specs.Registers.{operand_value, operation_value, result_of, stage_results, registers_after, stages_of, operand_stage}
 use Rattle.stage_plan.specs.Sound.{IsWithin, IsSoundOp, AreSoundOps}
 
 -- two lists of registers that agree below a number give an operand below it one value
@@ -193,23 +193,24 @@ kept_result ops r stage long i one lt sound le =
     ap (λ x. operation_value one.op x (operand_value (next ops r stage long) one.right)) a
     ∙ ap (λ y. operation_value one.op (operand_value r one.left) y) b
 
-pub length_after : (ops : List PlanOp) (words : List ℕ) → length words ≡ FIELDS → (s : ℕ) → length (after ops words s) ≡ FIELDS + length ops
+pub length_after : (ops : List PlanOp) (words : List ℕ) → length words ≡ FIELDS → (s : ℕ) → length (registers_after ops words s) ≡ FIELDS
+    + length ops
 length_after ops words long zero = omega (arith, length-append words (replicate (length ops) 0), length-replicate {A = ℕ} (length ops) 0)
-length_after ops words long (suc s) = length_stage ops (after ops words s) (suc s) (length_after ops words long s)
+length_after ops words long (suc s) = length_stage ops (registers_after ops words s) (suc s) (length_after ops words long s)
 
-pub front_after : (ops : List PlanOp) (words : List ℕ) → length words ≡ FIELDS → (s : ℕ) → take FIELDS (after ops words s) ≡ words
+pub front_after : (ops : List PlanOp) (words : List ℕ) → length words ≡ FIELDS → (s : ℕ) → take FIELDS (registers_after ops words s) ≡ words
 front_after ops words long zero = take_at words (replicate (length ops) 0) FIELDS long
-front_after ops words long (suc s) = front_stage ops (after ops words s) (suc s) (length_after ops words long s)
+front_after ops words long (suc s) = front_stage ops (registers_after ops words s) (suc s) (length_after ops words long s)
     ∙ front_after ops words long s
 
 -- once an operation's stage is over, its register holds its result
 pub settled : (ops : List PlanOp) (words : List ℕ) → AreSoundOps ops → length words ≡ FIELDS → (s i : ℕ) (one : PlanOp)
     → slice_get ops i ≡ Some one → one.stage ≤ s →
-    get_or (after ops words s) (FIELDS + i) 0 ≡ result_of (after ops words s) one
+    get_or (registers_after ops words s) (FIELDS + i) 0 ≡ result_of (registers_after ops words s) one
 settled ops words sound long zero i one found le = absurd (omega (arith, (sound.each i one found).stage))
 settled ops words sound long (suc s) i one found le =
     let lt : i < length ops = slice_get_within ops i one found in
-    let r : List ℕ = after ops words s in
+    let r : List ℕ = registers_after ops words s in
     let size : length r ≡ FIELDS + length ops = length_after ops words long s in
     let here : get_or (next ops r (suc s) size) (FIELDS + i) 0 ≡ (if one.stage == suc s then result_of r one else get_or r (FIELDS + i) 0) =
     at_stage ops r (suc s) size i one found in
@@ -233,7 +234,7 @@ stage_below (first ∷ ops) (suc i) one found = omega (arith, stage_below ops i 
 
 -- after the last stage each operation's register holds its result
 pub after_filled : (ops : List PlanOp) (words : List ℕ) → AreSoundOps ops → length words ≡ FIELDS
-    → Filled ops words (after ops words (stages_of ops))
+    → Filled ops words (registers_after ops words (stages_of ops))
 after_filled ops words sound long = record {
   long = length_after ops words long (stages_of ops);
   front = front_after ops words long (stages_of ops);
@@ -242,6 +243,6 @@ after_filled ops words sound long = record {
 
 -- registers that were filled in turn are those after the last stage
 pub filled_is_after : (ops : List PlanOp) (words r : List ℕ) → AreSoundOps ops → length words ≡ FIELDS → Filled ops words r
-    → r ≡ after ops words (stages_of ops)
-filled_is_after ops words r sound long filled = one_filling ops words r (after ops words (stages_of ops)) sound filled
+    → r ≡ registers_after ops words (stages_of ops)
+filled_is_after ops words r sound long filled = one_filling ops words r (registers_after ops words (stages_of ops)) sound filled
     (after_filled ops words sound long)

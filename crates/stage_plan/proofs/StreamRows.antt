@@ -17,7 +17,7 @@ use Rattle.query_lang.specs.declared.typed.TypedOp.TheVariants.{Filter, Map, Zip
 use Rattle.query_lang.specs.declared.typed.TypedQuery.{TypedQuery}
 use Rattle.query_lang.specs.declared.typed.TypedStream.{TypedStream}
 use Rattle.query_lang.specs.Streams.{Tuple, numbered, values_at, expr_value, emits_at, filter_stream, map_stream, zip_stream, group_stream}
-use Rattle.query_lang.specs.Streams.{list_at, made_of, stream, Taking, takings}
+use Rattle.query_lang.specs.Streams.{tuples_at, made_of, stream, Taking, takings}
 use Rattle.query_types.specs.Uses.{use_of, taken_by, uses}
 use Rattle.stage_plan.proofs.Lists.{slice_get-last}
 
@@ -221,7 +221,7 @@ zip_are slots f g n before (words ∷ packets) h =
 -- streams against their rows
 pub record AreRows (packets : List (List ℕ)) (streams : List (List Tuple)) (rows : List ℕ → List Row) : Type 0 where
   pub long : (words : List ℕ) → length (rows words) ≡ length streams
-  pub each : (j : ℕ) → list_at streams j ≡ tuples (λ words. row_at (rows words) j) 1 packets
+  pub each : (j : ℕ) → tuples_at streams j ≡ tuples (λ words. row_at (rows words) j) 1 packets
 
 rows_of_op : (folds : List TypedFold) (packets : List (List ℕ)) (streams : List (List Tuple)) (rows : List ℕ → List Row) (op : TypedOp)
     → AreRows packets streams rows →
@@ -231,7 +231,7 @@ rows_of_op folds packets streams rows (Filter input condition) are =
 rows_of_op folds packets streams rows (Map input values) are =
     ap (map_stream values) (are.each input) ∙ map_are values (λ words. row_at (rows words) input) 1 packets
 rows_of_op folds packets streams rows (Zip left right slots) are =
-    ap (λ l. zip_stream slots l (list_at streams right)) (are.each left)
+    ap (λ l. zip_stream slots l (tuples_at streams right)) (are.each left)
     ∙ ap (zip_stream slots (tuples (λ words. row_at (rows words) left) 1 packets)) (are.each right)
     ∙ zip_are slots (λ words. row_at (rows words) left) (λ words. row_at (rows words) right) 1 [] packets tt
 rows_of_op folds packets streams rows (Group input keys f args) are =
@@ -293,7 +293,7 @@ first_rows packets = record {
   each = first;
 }
   where
-    first : (j : ℕ) → list_at (numbered 1 packets ∷ []) j ≡ tuples (λ words. row_at (Some words ∷ []) j) 1 packets
+    first : (j : ℕ) → tuples_at (numbered 1 packets ∷ []) j ≡ tuples (λ words. row_at (Some words ∷ []) j) 1 packets
     first zero = numbered_are 1 packets
     first (suc j) = none_are 1 packets
 

@@ -21,8 +21,9 @@ use Rattle.stage_plan.specs.declared.op.Operation.TheVariants.{Not, Two}
 use Rattle.stage_plan.specs.declared.op.PlanOp.{PlanOp}
 use Rattle.stage_plan.specs.declared.wires.StreamWires.{StreamWires}
 use Rattle.stage_plan.specs.Registers.{operand_value, result_of}
-use Rattle.stage_plan.specs.Making.{compiled, compiled_all, op_on, operand_at, wires_at, packet_wires, joined, conditioned, mapped, zipped}
-use Rattle.stage_plan.specs.Making.{emit_columns, emitted, grouped, made_by, all_made}
+use Rattle.stage_plan.specs.Making.{compiled, compiled_all, op_on, operand_at, wires_at, packet_wires, made_join, conditioned, made_map}
+use Rattle.stage_plan.specs.Making.{made_zip}
+use Rattle.stage_plan.specs.Making.{emit_columns, made_emit, made_group, made_by, all_made}
 use Rattle.stage_plan.proofs.Lists.{slice_get-last}
 use Rattle.stage_plan.proofs.StreamRows.{Row, row_at, filter_row, map_row, zip_row, emit_row, group_row, row_made, rows_from, at_earlier}
 use Rattle.stage_plan.proofs.StreamRows.{at_last, at_past}
@@ -112,8 +113,8 @@ unfolding op_value
 both_holds x y = holds_flag (holds x && holds y)
 
 joined_holds : (registers : List ℕ) (ops : List PlanOp) (present condition : Operand) (columns : List Operand)
-    → Solved (joined ops present condition columns).ops registers →
-    holds (operand_value registers (joined ops present condition columns).wires.present)
+    → Solved (made_join ops present condition columns).ops registers →
+    holds (operand_value registers (made_join ops present condition columns).wires.present)
     ≡ (holds (operand_value registers present) && holds (operand_value registers condition))
 joined_holds registers ops present condition columns s =
     ap holds (solved_last ops (op_on ops (Two Both) present condition) registers s)
@@ -161,7 +162,7 @@ filter_matches registers source condition ops (Some row) m s = pick (holds (expr
 
 map_matches : (registers : List ℕ) (source : StreamWires) (values : List TypedExpr) (ops : List PlanOp) (row : Row)
     → Matches registers source row →
-    Solved (mapped source values ops).ops registers → Matches registers (mapped source values ops).wires (map_row values row)
+    Solved (made_map source values ops).ops registers → Matches registers (made_map source values ops).wires (map_row values row)
 map_matches registers source values ops None m s = m
 map_matches registers source values ops (Some row) m s = (
   m.0,
@@ -170,7 +171,7 @@ map_matches registers source values ops (Some row) m s = (
 
 zip_matches : (registers : List ℕ) (left right : StreamWires) (slots : List ℕ) (ops : List PlanOp) (row other : Row)
     → Matches registers left row → Matches registers right other →
-    Solved (zipped left right slots ops).ops registers → Matches registers (zipped left right slots ops).wires (zip_row slots row other)
+    Solved (made_zip left right slots ops).ops registers → Matches registers (made_zip left right slots ops).wires (zip_row slots row other)
 zip_matches registers left right slots ops None other m n s =
     joined_holds registers ops left.present right.present (left.columns ++ map (operand_at right.columns) slots) s ∙ and_false _ _ m
 zip_matches registers left right slots ops (Some row) None m n s =
@@ -235,8 +236,8 @@ some_matches registers initial source condition keys args ops (Some row) m s =
 
 emitted_matches : (registers initial : List ℕ) (source : StreamWires) (o : Option TypedExpr) (keys args : List ℕ) (ops : List PlanOp)
     (row : Row) → Matches registers source row →
-    Solved (emitted o (emit_columns initial source.columns args) source (map (operand_at source.columns) keys) ops).ops registers →
-    Matches registers (emitted o (emit_columns initial source.columns args) source (map (operand_at source.columns) keys) ops).wires
+    Solved (made_emit o (emit_columns initial source.columns args) source (map (operand_at source.columns) keys) ops).ops registers →
+    Matches registers (made_emit o (emit_columns initial source.columns args) source (map (operand_at source.columns) keys) ops).wires
     (emit_row_with o initial keys args row)
 emitted_matches registers initial source None keys args ops row m s = none_matches registers initial source keys args row
 emitted_matches registers initial source (Some condition) keys args ops row m s =
@@ -249,11 +250,11 @@ emit_rows f keys args (Some row) = refl
 
 group_matches : (registers : List ℕ) (o : Option TypedFold) (source : StreamWires) (keys args : List ℕ) (ops : List PlanOp) (row : Row)
     → Matches registers source row →
-    Solved (grouped o source keys args ops).ops registers → Matches registers (grouped o source keys args ops).wires
+    Solved (made_group o source keys args ops).ops registers → Matches registers (made_group o source keys args ops).wires
     (group_row o keys args row)
 group_matches registers None source keys args ops row m s = refl
 group_matches registers (Some f) source keys args ops row m s =
-    subst (Matches registers (grouped (Some f) source keys args ops).wires) (emit_rows f keys args row)
+    subst (Matches registers (made_group (Some f) source keys args ops).wires) (emit_rows f keys args row)
     (emitted_matches registers f.initial source f.emit keys args ops row m s)
 
 -- all streams so far against their rows

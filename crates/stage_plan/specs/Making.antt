@@ -90,47 +90,47 @@ packet_wires = record {
 }
 
 -- one operation that joins a presence with another condition
-abbrev pub joined : List PlanOp → Operand → Operand → List Operand → Made
-joined ops present condition columns =
+abbrev pub made_join : List PlanOp → Operand → Operand → List Operand → Made
+made_join ops present condition columns =
     compiled_then (with_op (Two Both) ops present condition) (λ more value.
     record { ops = more; wires = record { present = value; columns = columns } })
 
 -- a condition over columns, joined with a presence
 abbrev pub conditioned : List Operand → Term → List PlanOp → Operand → List Operand → Made
 conditioned over condition ops present columns =
-    compiled_then (compiled over condition ops) (λ more value. joined more present value columns)
+    compiled_then (compiled over condition ops) (λ more value. made_join more present value columns)
 
 -- `filter`: the input's columns, where a condition over them holds
-abbrev pub filtered : StreamWires → Term → List PlanOp → Made
-filtered input condition ops = conditioned input.columns condition ops input.present input.columns
+abbrev pub made_filter : StreamWires → Term → List PlanOp → Made
+made_filter input condition ops = conditioned input.columns condition ops input.present input.columns
 
-abbrev pub mapped : StreamWires → List TypedExpr → List PlanOp → Made
-mapped input values ops =
+abbrev pub made_map : StreamWires → List TypedExpr → List PlanOp → Made
+made_map input values ops =
     let all = compiled_all input.columns input.columns (map term_of values) ops in
     record { ops = all.ops; wires = record { present = input.present; columns = all.values } }
 
-abbrev pub zipped : StreamWires → StreamWires → List ℕ → List PlanOp → Made
-zipped left right slots ops = joined ops left.present right.present (left.columns ++ map (operand_at right.columns) slots)
+abbrev pub made_zip : StreamWires → StreamWires → List ℕ → List PlanOp → Made
+made_zip left right slots ops = made_join ops left.present right.present (left.columns ++ map (operand_at right.columns) slots)
 
 -- what a fold's emit condition reads: its initial state, and its arguments
 abbrev pub emit_columns : List ℕ → List Operand → List ℕ → List Operand
 emit_columns initial columns args = map Number initial ++ map (operand_at columns) args
 
-abbrev pub emitted : Option TypedExpr → List Operand → StreamWires → List Operand → List PlanOp → Made
-emitted None over input keys ops = record { ops = ops; wires = record { present = Number 0; columns = keys } }
-emitted (Some condition) over input keys ops = conditioned over (term_of condition) ops input.present keys
+abbrev pub made_emit : Option TypedExpr → List Operand → StreamWires → List Operand → List PlanOp → Made
+made_emit None over input keys ops = record { ops = ops; wires = record { present = Number 0; columns = keys } }
+made_emit (Some condition) over input keys ops = conditioned over (term_of condition) ops input.present keys
 
-abbrev pub grouped : Option TypedFold → StreamWires → List ℕ → List ℕ → List PlanOp → Made
-grouped None input keys args ops =
+abbrev pub made_group : Option TypedFold → StreamWires → List ℕ → List ℕ → List PlanOp → Made
+made_group None input keys args ops =
     record { ops = ops; wires = record { present = Number 0; columns = map (operand_at input.columns) keys } }
-grouped (Some f) input keys args ops =
-    emitted f.emit (emit_columns f.initial input.columns args) input (map (operand_at input.columns) keys) ops
+made_group (Some f) input keys args ops =
+    made_emit f.emit (emit_columns f.initial input.columns args) input (map (operand_at input.columns) keys) ops
 
 abbrev pub made_by : List TypedFold → List StreamWires → TypedOp → List PlanOp → Made
-made_by folds streams (Filter input condition) ops = filtered (wires_at streams input) (term_of condition) ops
-made_by folds streams (Map input values) ops = mapped (wires_at streams input) values ops
-made_by folds streams (Zip left right slots) ops = zipped (wires_at streams left) (wires_at streams right) slots ops
-made_by folds streams (Group input keys f args) ops = grouped (slice_get folds f) (wires_at streams input) keys args ops
+made_by folds streams (Filter input condition) ops = made_filter (wires_at streams input) (term_of condition) ops
+made_by folds streams (Map input values) ops = made_map (wires_at streams input) values ops
+made_by folds streams (Zip left right slots) ops = made_zip (wires_at streams left) (wires_at streams right) slots ops
+made_by folds streams (Group input keys f args) ops = made_group (slice_get folds f) (wires_at streams input) keys args ops
 
 -- all operations, and all streams in order
 pub record AllMade : Type 0 where

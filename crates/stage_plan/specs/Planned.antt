@@ -14,7 +14,7 @@ use Rattle.stage_plan.specs.declared.op.Operand.TheVariants.{Number}
 use Rattle.stage_plan.specs.Fields.{reads_of}
 use Rattle.stage_plan.specs.Making.{AllMade, packet_wires, all_made}
 use Rattle.stage_plan.specs.Ordering.{IsStaged}
-use Rattle.stage_plan.specs.Registers.{after, stages_of, taken_at}
+use Rattle.stage_plan.specs.Registers.{registers_after, stages_of, taken_at}
 use Rattle.stage_plan.specs.Shape.{PlanShape, parts_shape, query_shape, bound_of}
 use Rattle.stage_plan.specs.Sound.{PlanParts}
 
@@ -23,8 +23,8 @@ abbrev pub registers_of : PlanParts → ℕ
 registers_of plan = FIELDS + length plan.ops
 
 -- The registers of a packet with these words after the last stage.
-abbrev pub row_of : PlanParts → List ℕ → List ℕ
-row_of plan words = after plan.ops words (stages_of plan.ops)
+abbrev pub packet_registers : PlanParts → List ℕ → List ℕ
+packet_registers plan words = registers_after plan.ops words (stages_of plan.ops)
 
 -- what the groupby with this number takes, and nothing where there is none
 abbrev pub wiring_at : PlanParts → ℕ → GroupWiring
@@ -32,7 +32,7 @@ wiring_at plan i = unwrap_or (slice_get plan.wiring i) (record { present = Numbe
 
 -- What the groupby with this number takes of a packet with these words.
 abbrev pub taken : PlanParts → ℕ → List ℕ → Option Taken
-taken plan i words = taken_at (wiring_at plan i) (row_of plan words)
+taken plan i words = taken_at (wiring_at plan i) (packet_registers plan words)
 
 abbrev pub shape_of : PlanParts → PlanShape
 shape_of plan = parts_shape plan.ops plan.groups

@@ -34,9 +34,10 @@ stage_results stage registers _ _ = []
 
 -- The registers after a stage: first the packet's words, and then one for each operation in order. After stage 0 the operations'
 -- registers hold 0, and each stage reads only what was there before it.
-abbrev pub after : List PlanOp → List ℕ → ℕ → List ℕ
-after ops words zero = words ++ replicate (length ops) 0
-after ops words (suc s) = take FIELDS (after ops words s) ++ stage_results (suc s) (after ops words s) ops (drop FIELDS (after ops words s))
+abbrev pub registers_after : List PlanOp → List ℕ → ℕ → List ℕ
+registers_after ops words zero = words ++ replicate (length ops) 0
+registers_after ops words (suc s) = take FIELDS (registers_after ops words s)
+    ++ stage_results (suc s) (registers_after ops words s) ops (drop FIELDS (registers_after ops words s))
 
 -- the greatest stage of an operation, or 0
 abbrev pub stages_of : List PlanOp → ℕ

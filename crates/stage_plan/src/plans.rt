@@ -4,7 +4,7 @@ ghost use Rattle.std.specs.Prelude.{◌≡◌, ℕ, ◌+◌, ◌*◌, ◌^◌, �
 ghost use Rattle.std.specs.Prelude.{count_by, Some, IfOk};
 ghost use Rattle.query_lang.specs.Words.{holds};
 ghost use Rattle.stage_plan.specs.Registers.{operand_value, stages_of};
-ghost use Rattle.stage_plan.specs.Planned.{registers_of, row_of, wiring_at, plan_bound};
+ghost use Rattle.stage_plan.specs.Planned.{registers_of, packet_registers, wiring_at, plan_bound};
 ghost use Rattle.stage_plan.specs.Sound.{PlanParts, IsSoundPlan, IsChain};
 
 use crate::bound::most_of_groups;
@@ -181,7 +181,7 @@ impl Plan {
     /// they were before it.
     pub fn row<L: Ledger>(&self, p: &Packet, registers: &mut [u64], steps: &mut Steps<L>)
         requires { length registers.old ≡ registers_of self.now }
-        ensures row { registers.new ≡ row_of self.now p.now.words }
+        ensures row { registers.new ≡ packet_registers self.now p.now.words }
         ensures steps { steps.new ≡ steps.old + registers_of self.now }
     {
         fill(&p.words, self.ops.as_slice(), registers, steps);

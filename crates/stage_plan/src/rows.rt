@@ -2,7 +2,7 @@
 
 ghost use Rattle.std.specs.Prelude.{◌≡◌, ℕ, ◌+◌, ◌<◌, ◌≤◌, length, take, slice_get, slice_index, Some, map, All};
 ghost use Rattle.stage_plan.specs.declared.op.PlanOp.{PlanOp};
-ghost use Rattle.stage_plan.specs.Registers.{operand_value, result_of, after, stages_of};
+ghost use Rattle.stage_plan.specs.Registers.{operand_value, result_of, registers_after, stages_of};
 ghost use Rattle.stage_plan.specs.Sound.{IsWithin, AreSoundOps};
 
 use crate::op::{Operand, Operation, PlanOp};
@@ -70,7 +70,7 @@ pub(crate) fn fill<L: Ledger>(
     requires sound { AreSoundOps ops.now }
     requires words { length words.now ≡ FIELDS }
     requires room { length registers.old ≡ FIELDS + length ops.now }
-    ensures row { registers.new ≡ after ops.now words.now (stages_of ops.now) }
+    ensures row { registers.new ≡ registers_after ops.now words.now (stages_of ops.now) }
     ensures steps { steps.new ≡ steps.old + (FIELDS + length ops.now) }
 {
     fill_fields(words, registers, steps);

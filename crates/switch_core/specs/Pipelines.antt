@@ -40,8 +40,8 @@ pub record HasRooms (plan : PlanParts) (registers key args : List ℕ) : Type 0 
   pub for_args : length args ≡ MAX_ARGS
 
 -- the geometry of caches with these numbers of ways and buckets
-abbrev pub geometry_of : ℕ → ℕ → Geometry
-geometry_of ways buckets = record { buckets = buckets; ways = ways; refresh = 0 }
+abbrev pub geometry_without_refresh : ℕ → ℕ → Geometry
+geometry_without_refresh ways buckets = record { buckets = buckets; ways = ways; refresh = 0 }
 
 -- one machine for each of the groupbys, without an epoch
 abbrev pub empty_machines : Geometry → List GroupPlan → List Machine

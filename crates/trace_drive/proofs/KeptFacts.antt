@@ -9,7 +9,7 @@ use Rattle.marple_base.specs.declared.field.Field.{Field}
 use Rattle.marple_base.specs.declared.field.FieldSet.{FieldSet}
 use Rattle.marple_base.specs.declared.field.Packet.{Packet}
 use Rattle.marple_base.specs.declared.field.TheConstants.{FIELDS}
-use Rattle.trace_drive.specs.Kept.{fields_among, fields_in, kept_of, packet_in, word_in, written}
+use Rattle.trace_drive.specs.Kept.{fields_among, fields_kept, kept_of, packet_in, word_in, written}
 use Rattle.trace_drive.specs.KeptView.{packets_in}
 
 -- the fields have the numbers from n on
@@ -45,7 +45,7 @@ spread set h (f ∷ fs) n front at from =
     (λ word. spread set h fs (n + 1) (front ++ word ∷ []) (one_longer n front word at) from.1)
 
 -- of a packet whose words are kept, the fields that aren't kept are 0
-pub kept_is : (set : FieldSet) (packet : Packet) → packet_in (fields_in set) (map (word_in packet) (fields_in set)) ≡ kept_of set packet
+pub kept_is : (set : FieldSet) (packet : Packet) → packet_in (fields_kept set) (map (word_in packet) (fields_kept set)) ≡ kept_of set packet
 unfolding kept_of
 kept_is set packet = ap (λ words. let p : Packet = record { words = words } in p)
     (spread set (word_in packet) all_fields 0 [] refl all_from)
@@ -142,7 +142,7 @@ place_within (suc at) (suc count) width within = omega (
 )
 
 -- a packet more, with 0 in the fields that aren't kept
-pub kept_more : (set : FieldSet) (fields : List Field) (count : ℕ) (words : List ℕ) (packet : Packet) → fields ≡ fields_in set
+pub kept_more : (set : FieldSet) (fields : List Field) (count : ℕ) (words : List ℕ) (packet : Packet) → fields ≡ fields_kept set
     → length words ≡ count * length fields
     → packets_in fields (count + 1) (words ++ map (word_in packet) fields) ≡ packets_in fields count words ++ kept_of set packet ∷ []
 kept_more set fields count words packet all long =

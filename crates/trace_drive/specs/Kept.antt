@@ -16,8 +16,8 @@ unfoldable pub fields_among : List Field → FieldSet → List Field
 fields_among fields set = filter (has_field set) fields
 
 -- the fields of a set, in their order
-abbrev pub fields_in : FieldSet → List Field
-fields_in set = fields_among all_fields set
+abbrev pub fields_kept : FieldSet → List Field
+fields_kept set = fields_among all_fields set
 
 -- a field's word
 abbrev pub word_in : Packet → Field → ℕ
@@ -39,4 +39,4 @@ packet_in fields words = record { words = written fields words (replicate FIELDS
 
 -- the number of words that the packets take
 abbrev pub kept_words : Kept → ℕ
-kept_words kept = length kept.packets * length (fields_in kept.fields)
+kept_words kept = length kept.packets * length (fields_kept kept.fields)

@@ -2,7 +2,7 @@
 
 ghost use Rattle.std.specs.Prelude.{◌≡◌, [], ◌∷◌, ◌++◌, ◌+◌, ◌*◌, ◌<◌, ◌≤◌, IfOk, OnErr, OnOk, Some, drop, length, map, slice_get};
 ghost use Rattle.std.specs.Prelude.{vec_capacity, vec_len};
-ghost use Rattle.trace_drive.specs.Kept.{fields_in, kept_of, kept_words, packet_in, word_in};
+ghost use Rattle.trace_drive.specs.Kept.{fields_kept, kept_of, kept_words, packet_in, word_in};
 
 use marple_base::{FIELDS, Field, FieldSet, Packet};
 use std::alloc::{AllocError, Global};
@@ -46,7 +46,7 @@ impl Model for KeptPackets {
 
 // The fields of a set.
 fn fields_of(alloc: Global, set: FieldSet) -> Result<Vec<Field>, AllocError>
-    ensures { IfOk result (λ fields. fields.items ≡ fields_in set) }
+    ensures { IfOk result (λ fields. fields.items ≡ fields_kept set) }
 {
     let mut fields = Vec::new(alloc);
     for field in Field::ALL {

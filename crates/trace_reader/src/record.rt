@@ -5,7 +5,7 @@ ghost use Rattle.trace_reader.specs.Columns.{AreWithin};
 ghost use Rattle.trace_reader.specs.Faults.{IsEarly, IsLate};
 ghost use Rattle.marple_base.specs.Field.{field_name};
 ghost use Rattle.trace_reader.specs.Traces as Traces;
-ghost use Rattle.trace_reader.specs.Traces.{column_of, columns_named, columns_of, packet_of, word_at, words_of};
+ghost use Rattle.trace_reader.specs.Traces.{column_of_field, columns_named, columns_of_fields, packet_of, word_at, words_in_columns};
 
 use crate::columns::Columns;
 use crate::fault::{MAX_RECORDS, TraceFault};
@@ -36,7 +36,7 @@ fn only_column(header: &Records<'_>, field: Field) -> Result<Option<usize>, Trac
 
 // The column of a field in a header, none where it isn't read.
 fn column(header: &Records<'_>, reads: FieldSet, field: Field) -> Result<Option<usize>, TraceFault>
-    ensures value { result ≡ column_of reads header.now.fields field }
+    ensures value { result ≡ column_of_field reads header.now.fields field }
     ensures within { IfOk result (λ found. IfSome found (λ column. column < length header.now.fields)) }
     ensures early { IfErr result IsEarly }
 {
@@ -49,7 +49,7 @@ fn column(header: &Records<'_>, reads: FieldSet, field: Field) -> Result<Option<
 
 /// The column of each field in a header.
 pub fn columns(header: &Records<'_>, reads: FieldSet) -> Result<[Option<usize>; FIELDS], TraceFault>
-    ensures value { result ≡ columns_of reads header.now.fields }
+    ensures value { result ≡ columns_of_fields reads header.now.fields }
     ensures within { IfOk result (AreWithin (length header.now.fields)) }
     ensures early { IfErr result IsEarly }
 {
@@ -76,8 +76,8 @@ fn word_of_field(row: &Records<'_>, field: Field, column: usize) -> Result<u64, 
 #[inline(always)]
 fn words_into(row: &Records<'_>, columns: &Columns, words: &mut [u64; FIELDS]) -> Result<(), Field>
     requires { AreWithin (length row.now.fields) columns.now }
-    ensures ok { OnOk result (words_of columns.now row.now.fields ≡ Ok words.new) }
-    ensures err { IfErr result (λ field. words_of columns.now row.now.fields ≡ Err field) }
+    ensures ok { OnOk result (words_in_columns columns.now row.now.fields ≡ Ok words.new) }
+    ensures err { IfErr result (λ field. words_in_columns columns.now row.now.fields ≡ Err field) }
 {
     *words = [0; FIELDS];
     for (field, column) in columns.read() {

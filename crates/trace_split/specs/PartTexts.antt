@@ -4,7 +4,7 @@ use Rattle.marple_base.specs.declared.field.FieldSet.{FieldSet}
 use Rattle.marple_base.specs.declared.field.Packet.{Packet}
 use Rattle.marple_base.specs.declared.field.TheConstants.{FIELDS}
 use Rattle.trace_split.specs.Holding.{Holds, Taken}
-use Rattle.part_texts.specs.Texts.{fields_in, lines_of, packets_at, part_by_hash, written_fields}
+use Rattle.part_texts.specs.Texts.{fields_in, lines_of, packets_of_part, part_by_hash, written_fields}
 use Rattle.trace_split.specs.declared.splitting.Splitting.{Splitting}
 use Rattle.trace_split.specs.declared.texts.PartTexts.{PartTexts}
 
@@ -17,7 +17,7 @@ partition_of texts = part_by_hash texts.by.items texts.salt texts.parts
 
 -- the text of each part of these packets
 abbrev pub texts_of : PartTexts → List Packet → ℕ → List ℕ
-texts_of texts sent n = lines_of texts.columns.items (packets_at (partition_of texts) n sent)
+texts_of texts sent n = lines_of texts.columns.items (packets_of_part (partition_of texts) n sent)
 
 -- there is a buffer for each part, and a line has room
 pub record is_setting (texts : PartTexts) : Type 0 where

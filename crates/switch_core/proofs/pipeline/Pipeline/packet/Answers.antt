@@ -7,7 +7,7 @@ use Rattle.std.specs.Prelude.{sum_by}
 use Rattle.epoch_model.specs.Driving.{event_of}
 use Rattle.query_lang.specs.declared.fault.TheConstants.{MAX_ARGS, MAX_KEYS}
 use Rattle.epoch_entry.specs.Purposes.{runs_of}
-use Rattle.stage_plan.specs.Planned.{plan_bound, row_of, wiring_at}
+use Rattle.stage_plan.specs.Planned.{plan_bound, packet_registers, wiring_at}
 use Rattle.stage_plan.specs.Registers.{taken_at}
 use Rattle.stage_plan.specs.Sound.{PlanParts}
 use Rattle.switch_core.specs.Rows.{Each}
@@ -116,7 +116,8 @@ returns-clause-makes g c =
     let new = c.loop-i.lanes in
     let whole : take p.lanes.len (new ++ drop (length new) p.lanes.items) ≡ new = whole_written new
     (drop (length new) p.lanes.items) p.lanes.len (c.loop-i.auto.lanes ∙ c.deref_mut-lanes.ensures.len) in
-    let registers : c.registers_of-registers.result.now ≡ row_of p.plan c.args.p.now.words = c.registers_of-registers.ensures.row in
+    let registers : c.registers_of-registers.result.now ≡ packet_registers p.plan c.args.p.now.words =
+    c.registers_of-registers.ensures.row in
     let kept = c.loop-i.auto.lanes in
     let end = c.loop-i-test.false in
     let same : p.plan ≡ c.args.self.now.plan = ap (λ (v : PipelineView). v.plan) c.self.view_is in
