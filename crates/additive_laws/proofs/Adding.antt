@@ -12,7 +12,7 @@ use Rattle.query_lang.specs.Words.{holds, op_value, IsWord, AreWords}
 use Rattle.query_lang.specs.Terms.{Term, Literal, Read, Negation, Operation}
 use Rattle.query_lang.specs.Blocks.{Block, End, Set, Fork}
 use Rattle.query_lang.specs.Folds.{term_value, after, body, fold_states, fold_args, fold_block, IsValidBlock}
-use Rattle.fold_code.specs.Additive.{no_state, names_no_state, adds_or_subtracts, is_variable, is_increment, is_additive_block}
+use Rattle.fold_code.specs.Additive.{no_variable, names_no_state, adds_or_subtracts, is_variable, is_increment, is_additive_block}
 use Rattle.fold_code.proofs.BlockLemmas.{and_true_left, and_true_right, length-after, known_value, idle}
 use Rattle.additive_laws.specs.Amounts.{zeros, amount, plus}
 use Rattle.additive_laws.specs.Laws.{IsAdditiveFrom}
@@ -80,7 +80,7 @@ module _ (states : ℕ) where
       let free = and_true_right (is_variable v a) (names_no_state states b) right in
       let w = term_value b (zs ++ args) in
       ap (λ n. set ps v (op_value op n (term_value b (ps ++ args)))) (variable_value v a args ps is_v (subst (λ n. v < n) (sym ep) lt))
-      ∙ ap (λ n. set ps v (op_value op (slice_index ps v) n)) (known_value states no_state args ps zs b ep ez (λ s lt k. cc) free)
+      ∙ ap (λ n. set ps v (op_value op (slice_index ps v) n)) (known_value states no_variable args ps zs b ep ez (λ s lt k. cc) free)
       ∙ plus_set op adds xs zs v w (ex ∙ sym ez)
       ∙ ap (λ n. plus xs (set zs v (op_value op n w))) (sym (variable_value v a args zs is_v (subst (λ n. v < n) (sym ez) lt)))
 
@@ -134,12 +134,12 @@ module _ (states : ℕ) where
           ≡ plus xs (if holds (term_value c (zs ++ args)) then after a args zs else after b args zs)
       branch true e ga gb ia ib =
           same (holds (term_value c (plus xs zs ++ args))) (holds (term_value c (zs ++ args)))
-          (ap holds (known_value states no_state args (plus xs zs) zs c (length-plus xs zs ∙ ex) ez (λ s lt k. cc) e)) (ia ga) (ib gb)
+          (ap holds (known_value states no_variable args (plus xs zs) zs c (length-plus xs zs ∙ ex) ez (λ s lt k. cc) e)) (ia ga) (ib gb)
       branch false e ga gb ia ib =
           still (holds (term_value c (plus xs zs ++ args))) (holds (term_value c (zs ++ args)))
-          (idle states no_state (is_increment states) a args (plus xs zs) ga)
-          (idle states no_state (is_increment states) b args (plus xs zs) gb)
-          (idle states no_state (is_increment states) a args zs ga) (idle states no_state (is_increment states) b args zs gb)
+          (idle states no_variable (is_increment states) a args (plus xs zs) ga)
+          (idle states no_variable (is_increment states) b args (plus xs zs) gb)
+          (idle states no_variable (is_increment states) a args zs ga) (idle states no_variable (is_increment states) b args zs gb)
 
 pub length-amount : (f : TypedFold) (row : ArgRow) → length (amount f row) ≡ fold_states f
 length-amount f row = length-after (fold_block f) row (zeros f) ∙ length-replicate (fold_states f) 0

@@ -9,11 +9,11 @@ use Rattle.epoch_model.specs.TableLaws.{keys_given}
 use Rattle.epoch_model.specs.Driving.{Taken, event_of, use_at, uses_taken}
 use Rattle.epoch_model.proofs.KeyLists.{by_test}
 use Rattle.epoch_model.proofs.TableRows.{given-some, joined-some, same_keys}
-use Rattle.additive_laws.specs.Pieces.{joined}
+use Rattle.additive_laws.specs.Pieces.{rows_joined}
 use Rattle.additive_laws.specs.Network.{SwitchEvent, all_events, events_at, all_epochs}
 use Rattle.additive_laws.proofs.StoreTables.{same_some, as_many, pieces}
 use Rattle.additive_laws.specs.Traces.{Step, from_switch, given, if_packet, packets_among, taken_of, whole_uses, unless_merge}
-use Rattle.additive_laws.specs.Traces.{without_merges, unrefreshed}
+use Rattle.additive_laws.specs.Traces.{without_switch_merges, unrefreshed}
 use Rattle.additive_laws.specs.TraceLaws.{rows_used, RunsGiveTheTrace, RunsHavePackets, MergedKeysAreUsed}
 use Rattle.additive_laws.proofs.Runs.{given_other}
 
@@ -39,9 +39,10 @@ packets_none (e ∷ events) n = none e.switch e.event events (λ more. packets_n
     none k (Evict bucket) events rest n = rest n
     none k Merge events rest n = rest n
 
-packets_unmerged : (events : List SwitchEvent) → packets_among events ≡ packets_among (without_merges events)
+packets_unmerged : (events : List SwitchEvent) → packets_among events ≡ packets_among (without_switch_merges events)
 packets_unmerged [] = refl
-packets_unmerged (e ∷ events) = ap (if_packet e.switch e.event) (packets_unmerged events) ∙ unless e.switch e.event (without_merges events)
+packets_unmerged (e ∷ events) = ap (if_packet e.switch e.event) (packets_unmerged events)
+    ∙ unless e.switch e.event (without_switch_merges events)
   where
     unless : (k : ℕ) (event : Event) (others : List SwitchEvent) → if_packet k event (packets_among others) ≡ packets_among
         (unless_merge k event others)
@@ -161,6 +162,6 @@ pub keys_are : MergedKeysAreUsed
 keys_are buckets ways steps events merged room r all = same_keys (all_epochs merged) (map (λ u. u.key) (whole_uses steps))
     (λ k. ap (has k) (sym (gives steps events r).keys)
     ∙ (given-some k (all_events events)
-    ∙ (same_some (rows_given k (all_events events)) (joined (lists_of k (all_epochs merged)))
+    ∙ (same_some (rows_given k (all_events events)) (rows_joined (lists_of k (all_epochs merged)))
     (as_many (unrefreshed buckets ways) events merged room all k)
     ∙ joined-some (lists_of k (all_epochs merged)) (pieces (unrefreshed buckets ways) events merged room all k))))

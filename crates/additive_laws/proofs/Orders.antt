@@ -13,7 +13,7 @@ use Rattle.epoch_model.specs.Keys.{ArgRow}
 use Rattle.query_lang.specs.declared.fold.TypedFold.{TypedFold}
 use Rattle.query_lang.specs.Folds.{folded}
 use Rattle.additive_laws.specs.Amounts.{amount}
-use Rattle.additive_laws.specs.Pieces.{Given, Piece, joined, all_rows, rows_from, lists_merged, lists_from, Interleaves}
+use Rattle.additive_laws.specs.Pieces.{Given, Piece, rows_joined, all_rows, rows_from, lists_merged, lists_from, Interleaves}
 use Rattle.additive_laws.specs.Laws.{IsAdditiveFrom}
 use Rattle.additive_laws.proofs.Sums.{total, same_totals, any_order}
 
@@ -119,7 +119,7 @@ rows_under : (s : ℕ) (rows : List ArgRow) → all_rows (under s rows) ≡ rows
 rows_under s [] = refl
 rows_under s (row ∷ rows) = ap (λ rs. row ∷ rs) (rows_under s rows)
 
-rows_spread : (pieces : List Piece) → all_rows (spread pieces) ≡ joined (lists_merged pieces)
+rows_spread : (pieces : List Piece) → all_rows (spread pieces) ≡ rows_joined (lists_merged pieces)
 rows_spread [] = refl
 rows_spread (p ∷ pieces) =
     map-append (λ g. g.row) (under p.switch p.rows) (spread pieces)
@@ -137,38 +137,40 @@ all_of s k (row ∷ rows) e =
     ap (λ b. all_rows (cond b (from_switch k row ∷ at_switch s (under k rows)) (at_switch s (under k rows)))) e
     ∙ ap (λ rs. row ∷ rs) (all_of s k rows e)
 
-spread_at : (s : ℕ) (pieces : List Piece) → rows_from s (spread pieces) ≡ joined (lists_from s pieces)
+spread_at : (s : ℕ) (pieces : List Piece) → rows_from s (spread pieces) ≡ rows_joined (lists_from s pieces)
 spread_at s [] = refl
 spread_at s (p ∷ pieces) =
     ap all_rows (filter-append (λ g. g.switch == s) (under p.switch p.rows) (spread pieces))
     ∙ map-append (λ g. g.row) (at_switch s (under p.switch p.rows)) (at_switch s (spread pieces))
     ∙ at (spread_at s pieces) (p.switch == s) refl
   where
-    at : rows_from s (spread pieces) ≡ joined (lists_from s pieces) → (t : Bool) → (p.switch == s) ≡ t → rows_from s (under p.switch p.rows)
-        ++ rows_from s (spread pieces) ≡ joined (lists_merged (cond t (p ∷ filter (λ q. q.switch == s) pieces)
+    at : rows_from s (spread pieces) ≡ rows_joined (lists_from s pieces) → (t : Bool) → (p.switch == s) ≡ t
+        → rows_from s (under p.switch p.rows)
+        ++ rows_from s (spread pieces) ≡ rows_joined (lists_merged (cond t (p ∷ filter (λ q. q.switch == s) pieces)
         (filter (λ q. q.switch == s) pieces)))
     at rest true e = ap (λ rs. rs ++ rows_from s (spread pieces)) (all_of s p.switch p.rows e) ∙ ap (λ rs. p.rows ++ rs) rest
     at rest false e = ap (λ rs. rs ++ rows_from s (spread pieces)) (none_of s p.switch p.rows e) ∙ rest
 
 -- the rows of the pieces are those of the trace in another order
 pub interleaved_rows : (given : List Given) (pieces : List Piece) → Interleaves given pieces
-    → IsPermutation (joined (lists_merged pieces)) (all_rows given)
+    → IsPermutation (rows_joined (lists_merged pieces)) (all_rows given)
 interleaved_rows given pieces e = subst (λ rs. IsPermutation rs (all_rows given)) (rows_spread pieces)
     (same_rows (spread pieces) given (λ s. spread_at s pieces ∙ sym (e s)))
 
 -- a sum over the rows of pieces is one over the pieces
-total_joined : (f : TypedFold) (v : ℕ) (pieces : List Piece) → total f v (joined (lists_merged pieces)) ≡ sum_by (λ p. total f v p.rows)
+total_joined : (f : TypedFold) (v : ℕ) (pieces : List Piece) → total f v (rows_joined (lists_merged pieces)) ≡ sum_by
+    (λ p. total f v p.rows)
     pieces
 total_joined f v [] = refl
 total_joined f v (p ∷ pieces) =
-    sum_by-append (λ row. slice_index (amount f row) v) p.rows (joined (lists_merged pieces))
+    sum_by-append (λ row. slice_index (amount f row) v) p.rows (rows_joined (lists_merged pieces))
     ∙ ap (λ n. total f v p.rows + n) (total_joined f v pieces)
     ∙ sym (sum_by-cons (λ q. total f v q.rows) p pieces)
 
 pub merged_any_order : (f : TypedFold) (state : List ℕ) (given : List Given) (pieces merged : List Piece) → IsAdditiveFrom f state
     → Interleaves given pieces → IsPermutation pieces merged →
-    folded f state (joined (lists_merged merged)) ≡ folded f state (all_rows given)
+    folded f state (rows_joined (lists_merged merged)) ≡ folded f state (all_rows given)
 merged_any_order f state given pieces merged h e p =
-    same_totals f state (joined (lists_merged merged)) (joined (lists_merged pieces)) h
+    same_totals f state (rows_joined (lists_merged merged)) (rows_joined (lists_merged pieces)) h
     (λ v. total_joined f v merged ∙ sum_by-IsPermutation (λ q. total f v q.rows) pieces merged p ∙ sym (total_joined f v pieces))
-    ∙ any_order f state (joined (lists_merged pieces)) (all_rows given) h (interleaved_rows given pieces e)
+    ∙ any_order f state (rows_joined (lists_merged pieces)) (all_rows given) h (interleaved_rows given pieces e)

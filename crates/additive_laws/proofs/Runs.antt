@@ -5,12 +5,12 @@ use Rattle.std.proofs.lemmas.List.{map-append}
 use Rattle.std.proofs.lemmas.List.Elements.{filter-append}
 use Rattle.epoch_model.specs.Machine.{Machine, Event, Packet, Evict, Merge, run}
 use Rattle.epoch_model.specs.Laws.{unmerged}
-use Rattle.epoch_model.specs.Timeline.{Turn, NoEvict, NoPacket, AreTurns, turn_events}
+use Rattle.epoch_model.specs.Timeline.{Turn, NoEvict, NoPacket, AreTurns, events_of_turn}
 use Rattle.epoch_model.specs.Timeline as timeline
 use Rattle.epoch_model.specs.Driving.{Taken, event_of, uses_taken}
 use Rattle.epoch_model.proofs.KeyLists.{by_test}
 use Rattle.additive_laws.specs.Network.{SwitchEvent, all_events, events_at}
-use Rattle.additive_laws.specs.Traces.{Step, from_switch, given, taken_of, unless_merge, without_merges, unrefreshed}
+use Rattle.additive_laws.specs.Traces.{Step, from_switch, given, taken_of, unless_merge, without_switch_merges, unrefreshed}
 
 pub events_append : (s : ℕ) (xs ys : List SwitchEvent) → events_at s (xs ++ ys) ≡ events_at s xs ++ events_at s ys
 events_append s xs ys =
@@ -48,13 +48,13 @@ unmerged_other k s t (Evict bucket) events = rw t refl
 unmerged_other k s t Merge events = refl
 
 -- merges are left out before or after
-pub unmerged_at : (s : ℕ) (events : List SwitchEvent) → unmerged (events_at s events) ≡ events_at s (without_merges events)
+pub unmerged_at : (s : ℕ) (events : List SwitchEvent) → unmerged (events_at s events) ≡ events_at s (without_switch_merges events)
 unmerged_at s [] = refl
 unmerged_at s (e ∷ events) =
     let rest = unmerged_at s events in
     by_test (e.switch == s)
-    (λ t. rw t (unmerged_own e.switch s t e.event (events_at s events) (without_merges events) rest))
-    (λ t. rw t (rest ∙ sym (unmerged_other e.switch s t e.event (without_merges events))))
+    (λ t. rw t (unmerged_own e.switch s t e.event (events_at s events) (without_switch_merges events) rest))
+    (λ t. rw t (rest ∙ sym (unmerged_other e.switch s t e.event (without_switch_merges events))))
 
 pub unmerged_append : (xs ys : List Event) → unmerged (xs ++ ys) ≡ unmerged xs ++ unmerged ys
 unmerged_append [] ys = refl
@@ -100,7 +100,7 @@ pub are_turns : (buckets ways number : ℕ) (m : Machine) (taken : List (Option 
 are_turns buckets ways number m [] = tt
 are_turns buckets ways number m (one ∷ taken) = (
   record { packets = no_evict one; sweep = tt; at_refresh = λ e. absurd (false≢true e); elsewhere = λ e. tt },
-  are_turns buckets ways (suc number) (run (unrefreshed buckets ways) (turn_events (turn_of one)) m) taken,
+  are_turns buckets ways (suc number) (run (unrefreshed buckets ways) (events_of_turn (turn_of one)) m) taken,
 )
 
 pub turn_uses : (number : ℕ) (taken : List (Option Taken)) → timeline.all_uses number (turns taken) ≡ uses_taken number taken

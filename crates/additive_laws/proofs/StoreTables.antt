@@ -16,7 +16,7 @@ use Rattle.epoch_model.proofs.Cuts.{IsPiece}
 use Rattle.epoch_model.proofs.TableRows.{some, given-some, joined-some, same_keys, flat_map-single, pieces_kept, closed-lists}
 use Rattle.query_lang.specs.declared.fold.TypedFold.{TypedFold}
 use Rattle.query_lang.specs.Folds.{body}
-use Rattle.additive_laws.specs.Pieces.{joined, all_rows, lists_merged}
+use Rattle.additive_laws.specs.Pieces.{rows_joined, all_rows, lists_merged}
 use Rattle.additive_laws.specs.Network.{SwitchEvent, SwitchEpoch, all_events, events_at, all_epochs, epochs_at, machine_at, AllMerged}
 use Rattle.additive_laws.specs.Laws.{IsAdditiveFrom}
 use Rattle.additive_laws.proofs.Orders.{interleaved_rows}
@@ -57,12 +57,12 @@ module _ (g : Geometry) (events : List SwitchEvent) (merged : List SwitchEpoch) 
       (subst (AllByRecursion IsPiece) (sym (starts-lists g key)) tt))))
 
   -- a key has as many rows as the merged epochs have of it
-  pub as_many : length (rows_given key (all_events events)) ≡ length (joined (lists_of key (all_epochs merged)))
+  pub as_many : length (rows_given key (all_events events)) ≡ length (rows_joined (lists_of key (all_epochs merged)))
   as_many =
       ap length (sym (given_rows key events))
-      ∙ (length_permutation (joined (lists_merged (pieces_at key merged))) (all_rows (given_at key events))
+      ∙ (length_permutation (rows_joined (lists_merged (pieces_at key merged))) (all_rows (given_at key events))
       (interleaved_rows (given_at key events) (pieces_at key merged) (events_interleave key g events merged room all))
-      ∙ ap (λ ls. length (joined ls)) (lists_all key merged))
+      ∙ ap (λ ls. length (rows_joined ls)) (lists_all key merged))
 
 pub store_table : (f : TypedFold) (folding : Folding) (g : Geometry) (events : List SwitchEvent) (merged : List SwitchEpoch)
     → folding.step ≡ body f → folding.row_per_epoch ≡ false → IsAdditiveFrom f folding.initial → HasRoom g → AllMerged g events merged
@@ -79,13 +79,14 @@ store_table f folding g events merged step one h room a =
     epochs : List Epoch
     epochs = all_epochs merged
 
-    state : (key : Key) → fold folding.step folding.initial (joined (lists_of key (all_epochs merged))) ≡ fold folding.step folding.initial
+    state : (key : Key) → fold folding.step folding.initial (rows_joined (lists_of key (all_epochs merged))) ≡ fold folding.step
+        folding.initial
         (rows_given key (all_events events))
-    state key = ap (λ st. fold st folding.initial (joined (lists_of key (all_epochs merged)))) step
+    state key = ap (λ st. fold st folding.initial (rows_joined (lists_of key (all_epochs merged)))) step
         ∙ store_folds f folding.initial g events merged key h room a
         ∙ ap (λ st. fold st folding.initial (rows_given key (all_events events))) (sym step)
 
     keys : closed_keys (all_epochs merged) ≡ ascending (keys_given (all_events events))
     keys = same_keys (all_epochs merged) (keys_given (all_events events))
-        (λ k. given-some k (all_events events) ∙ same_some (rows_given k (all_events events)) (joined (lists_of k (all_epochs merged)))
+        (λ k. given-some k (all_events events) ∙ same_some (rows_given k (all_events events)) (rows_joined (lists_of k (all_epochs merged)))
         (as_many g events merged room a k) ∙ joined-some (lists_of k (all_epochs merged)) (pieces g events merged room a k))

@@ -11,7 +11,7 @@ use Rattle.epoch_model.proofs.Rows.{no_row_is_lost_lem}
 use Rattle.epoch_model.proofs.TableRows.{closed-lists}
 use Rattle.query_lang.specs.declared.fold.TypedFold.{TypedFold}
 use Rattle.query_lang.specs.Folds.{folded}
-use Rattle.additive_laws.specs.Pieces.{Given, Piece, joined, all_rows, rows_from, lists_merged, lists_from, Interleaves}
+use Rattle.additive_laws.specs.Pieces.{Given, Piece, rows_joined, all_rows, rows_from, lists_merged, lists_from, Interleaves}
 use Rattle.additive_laws.specs.Network.{SwitchEvent, SwitchEpoch, all_events, events_at, all_epochs, epochs_at, machine_at, AllMerged}
 use Rattle.additive_laws.specs.Laws.{IsAdditiveFrom}
 use Rattle.additive_laws.proofs.Orders.{merged_any_order}
@@ -80,15 +80,15 @@ module _ (key : Key) where
   events_interleave g events merged room h s =
       given_from s events
       ∙ sym (no_row_is_lost_lem g (events_at s events) key room)
-      ∙ ap joined (sym (closed-lists g (machine_at g s events) key (h.swept s)))
-      ∙ ap (λ es. joined (lists_of key es)) (sym (h.epochs s))
-      ∙ ap joined (sym (lists_at s merged))
+      ∙ ap rows_joined (sym (closed-lists g (machine_at g s events) key (h.swept s)))
+      ∙ ap (λ es. rows_joined (lists_of key es)) (sym (h.epochs s))
+      ∙ ap rows_joined (sym (lists_at s merged))
 
 pub store_folds : (f : TypedFold) (state : List ℕ) (g : Geometry) (events : List SwitchEvent) (merged : List SwitchEpoch) (key : Key)
     → IsAdditiveFrom f state → HasRoom g → AllMerged g events merged →
-    folded f state (joined (lists_of key (all_epochs merged))) ≡ folded f state (rows_given key (all_events events))
+    folded f state (rows_joined (lists_of key (all_epochs merged))) ≡ folded f state (rows_given key (all_events events))
 store_folds f state g events merged key h room a =
-    ap (λ ls. folded f state (joined ls)) (sym (lists_all key merged))
+    ap (λ ls. folded f state (rows_joined ls)) (sym (lists_all key merged))
     ∙ merged_any_order f state (given_at key events) (pieces_at key merged) (pieces_at key merged) h
     (events_interleave key g events merged room a) (IsPermutation-refl (pieces_at key merged))
     ∙ ap (folded f state) (given_rows key events)

@@ -13,7 +13,7 @@ use Rattle.query_lang.specs.Words.{AreWords}
 use Rattle.query_lang.specs.Folds.{IsValidFold, fold_states, body, folded}
 use Rattle.fold_code.specs.Additive.{is_additive}
 use Rattle.additive_laws.specs.Amounts.{amount, plus}
-use Rattle.additive_laws.specs.Pieces.{Given, Piece, joined, all_rows, rows_from, lists_merged, Interleaves}
+use Rattle.additive_laws.specs.Pieces.{Given, Piece, rows_joined, all_rows, rows_from, lists_merged, Interleaves}
 use Rattle.additive_laws.specs.Network.{SwitchEvent, SwitchEpoch, all_events, all_epochs, AllMerged}
 
 -- a valid additive fold, and a state for it
@@ -52,14 +52,14 @@ SwitchesInterleaveAnyWay = (f : TypedFold) (state : List ℕ) (given other : Lis
 abbrev pub PiecesMergeInAnyOrder : Type 0
 PiecesMergeInAnyOrder = (f : TypedFold) (state : List ℕ) (given : List Given) (pieces merged : List Piece) → IsAdditiveFrom f state
     → Interleaves given pieces → IsPermutation pieces merged
-    → folded f state (joined (lists_merged merged)) ≡ folded f state (all_rows given)
+    → folded f state (rows_joined (lists_merged merged)) ≡ folded f state (all_rows given)
 
 -- One store merges the epochs of several switches: the state of a key is the fold over the rows of all its packets in the order
 -- of the events, whatever the order of the merges and of the events between switches.
 abbrev pub StoreFoldsAllPackets : Type 0
 StoreFoldsAllPackets = (f : TypedFold) (state : List ℕ) (g : Geometry) (events : List SwitchEvent) (merged : List SwitchEpoch) (key : Key)
     → IsAdditiveFrom f state → HasRoom g → AllMerged g events merged
-    → folded f state (joined (lists_of key (all_epochs merged))) ≡ folded f state (rows_given key (all_events events))
+    → folded f state (rows_joined (lists_of key (all_epochs merged))) ≡ folded f state (rows_given key (all_events events))
 
 -- The table of such a store, of an additive fold: each key of the events has one row, whose state is the fold over the rows of all
 -- its packets in the order of the events. Only the number of epochs beside it is of the merged epochs.

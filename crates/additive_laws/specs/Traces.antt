@@ -39,9 +39,9 @@ unless_merge switch (Evict bucket) events = record { switch = switch; event = Ev
 unless_merge switch Merge events = events
 
 -- all events but the merges
-abbrev pub without_merges : List SwitchEvent → List SwitchEvent
-without_merges [] = []
-without_merges (e ∷ events) = unless_merge e.switch e.event (without_merges events)
+abbrev pub without_switch_merges : List SwitchEvent → List SwitchEvent
+without_switch_merges [] = []
+without_switch_merges (e ∷ events) = unless_merge e.switch e.event (without_switch_merges events)
 
 -- the event before these, where it is a packet's
 abbrev pub if_packet : ℕ → Event → List SwitchEvent → List SwitchEvent
@@ -63,7 +63,7 @@ pub record IsRun (steps : List Step) (events : List SwitchEvent) : Type 0 where
   pub first : List SwitchEvent
   pub rest : List SwitchEvent
   pub parts : events ≡ first ++ rest
-  pub packets : without_merges first ≡ given steps
+  pub packets : without_switch_merges first ≡ given steps
   pub ending : NoPacket (all_events rest)
 
 -- caches with this number of buckets and ways, which no refresh empties

@@ -18,7 +18,7 @@ use Rattle.epoch_model.proofs.KeyLists.{by_test, key_eq-true, key_eq-refl, key_e
 use Rattle.epoch_model.proofs.KeyOrder.{ascending-ascends, has-ascending, same_ascending}
 use Rattle.backing_store.specs.Store.{Store, StoredKey, IsStore, AreKeysOf, epochs_of, states_of}
 use Rattle.backing_store.specs.StoreLaws.{keys_of}
-use Rattle.backing_store.specs.SortedRows.{numbered, rows_of, sorted_rows}
+use Rattle.backing_store.specs.SortedRows.{numbered, stored_rows, sorted_rows}
 use Rattle.backing_store.specs.Merged.{StoreHolds, stored, shown_row, epochs_in}
 use Rattle.backing_store.specs.HeldRows.{HeldRowsAreTheTables}
 
@@ -90,7 +90,7 @@ key_shown f key (rows ∷ lists) h = by_test f.row_per_epoch
 
 key_rows_shown : (f : Folding) (store : Store) (closed : List Epoch) (key : Key) → StoreHolds f store closed
     → has key (closed_keys closed) ≡ true
-    → map (shown_row f.row_per_epoch) (rows_of store key) ≡ closed_key_rows f closed key
+    → map (shown_row f.row_per_epoch) (stored_rows store key) ≡ closed_key_rows f closed key
 key_rows_shown f store closed key h there =
     ap (λ n. map (shown_row f.row_per_epoch) (numbered key n 1 (states_of store key))) (h.count key)
     ∙ (ap (λ states. map (shown_row f.row_per_epoch) (numbered key (epochs_shown (length (lists_of key closed))) 1 states)) (h.rows key)
@@ -115,9 +115,9 @@ map_flat_map F G (k ∷ keys) = map-append F (G k) (flat_map G keys) ∙ ap (λ 
 pub rows_shown : (f : Folding) (store : Store) (closed : List Epoch) → IsStore store → StoreHolds f store closed
     → map (shown_row f.row_per_epoch) (sorted_rows store) ≡ closed_rows f closed
 rows_shown f store closed s h =
-    map_flat_map (shown_row f.row_per_epoch) (rows_of store) (ascending (map (λ stored. stored.key) store.keys))
-    ∙ (ap (flat_map (λ k. map (shown_row f.row_per_epoch) (rows_of store k))) (same_keys f store closed s h)
-    ∙ flat_map_alike (λ k. map (shown_row f.row_per_epoch) (rows_of store k)) (closed_key_rows f closed) (closed_keys closed)
+    map_flat_map (shown_row f.row_per_epoch) (stored_rows store) (ascending (map (λ stored. stored.key) store.keys))
+    ∙ (ap (flat_map (λ k. map (shown_row f.row_per_epoch) (stored_rows store k))) (same_keys f store closed s h)
+    ∙ flat_map_alike (λ k. map (shown_row f.row_per_epoch) (stored_rows store k)) (closed_key_rows f closed) (closed_keys closed)
     (λ k there. key_rows_shown f store closed k h there))
 
 -- the number of epochs
@@ -163,9 +163,10 @@ key_epochs f key (rows ∷ lists) h = by_test f.row_per_epoch
 pub epochs_are_shown : (f : Folding) (store : Store) (closed : List Epoch) → IsStore store → StoreHolds f store closed
     → epochs_shown (sum_by (epochs_in f.row_per_epoch) (sorted_rows store)) ≡ closed_epochs closed
 epochs_are_shown f store closed s h =
-    ap epochs_shown (sum_flat_map (epochs_in f.row_per_epoch) (rows_of store) (ascending (map (λ stored. stored.key) store.keys)))
-    ∙ (ap (λ keys. epochs_shown (sum_by (λ k. sum_by (epochs_in f.row_per_epoch) (rows_of store k)) keys)) (same_keys f store closed s h)
-    ∙ sums_shown (λ k. sum_by (epochs_in f.row_per_epoch) (rows_of store k)) (λ k. length (lists_of k closed)) (closed_keys closed)
+    ap epochs_shown (sum_flat_map (epochs_in f.row_per_epoch) (stored_rows store) (ascending (map (λ stored. stored.key) store.keys)))
+    ∙ (ap (λ keys. epochs_shown (sum_by (λ k. sum_by (epochs_in f.row_per_epoch) (stored_rows store k)) keys))
+    (same_keys f store closed s h)
+    ∙ sums_shown (λ k. sum_by (epochs_in f.row_per_epoch) (stored_rows store k)) (λ k. length (lists_of k closed)) (closed_keys closed)
     (λ k there.
     ap (λ n. epochs_shown (sum_by (epochs_in f.row_per_epoch) (numbered k n 1 (states_of store k)))) (h.count k)
     ∙ (ap (λ states. epochs_shown (sum_by (epochs_in f.row_per_epoch) (numbered k (epochs_shown (length (lists_of k closed))) 1 states)))

@@ -11,7 +11,8 @@ use Rattle.std.specs.Prelude.{slice_get}
 use Rattle.bucket_cache.specs.Slices.{at_front, rows_of}
 use Rattle.bucket_cache.specs.Touches.{IsLeast}
 use Rattle.bucket_cache.proofs.FlatRows.{length-rows_of, rows_of-words}
-use Rattle.bucket_cache.specs.Buckets.{Pair, has_key, place_of, places_of, without_key, AreOnce, pair_at, pairs_at, IsBucket, IsSound}
+use Rattle.bucket_cache.specs.Buckets.{Pair, has_key, place_of_key, places_of, without_key, AreKeysOnce, pair_at, pairs_at, IsBucket}
+use Rattle.bucket_cache.specs.Buckets.{IsSound}
 use Rattle.bucket_cache.proofs.Fronts.{length-at_front, take-at_front, map-at_front, take_more-at_front, All-at_front, AllPairs-at_front}
 use Rattle.bucket_cache.proofs.PairLists.{absent_head, has-at, place-at, front-pair, once-front, has-front, once-take}
 
@@ -48,7 +49,7 @@ hit-has first at ways keys key h e = has-at at (pair_at first keys 0) key (pairs
 
 pub hit-place : (first kw used at : ℕ) (order : List ℕ) (keys : List Key) (key : Key) → IsBucket first kw used order keys
     → at < length (take used order) → at < used → Matches keys (take used order) at key true
-    → place_of key (pairs_at first keys (take used order)) ≡ Some (first + get_or order at 0)
+    → place_of_key key (pairs_at first keys (take used order)) ≡ Some (first + get_or order at 0)
 hit-place first kw used at order keys key b h l e =
     place-at at (pair_at first keys 0) key (pairs_at first keys (take used order))
     (let n = long_pairs first (take used order) keys in omega arith) b.once (matching first at (take used order) keys key h e)
@@ -84,7 +85,7 @@ hit-bucket first kw used at order keys key b h l e =
       places = omega arith;
       ways = subst (λ n. All (λ way. way < n) (at_front at order)) (sym long) (All-at_front (λ way. way < length order) at order b.ways);
       apart = AllPairs-at_front at order here b.apart;
-      once = subst AreOnce (sym (hit-pairs first kw used at order keys key b h l e))
+      once = subst AreKeysOnce (sym (hit-pairs first kw used at order keys key b h l e))
           (once-front key (first + get_or order at 0) (pairs_at first keys (take used order)) b.once);
     }
 
@@ -155,7 +156,7 @@ free-bucket first kw used order keys keys' key b h none w s =
       ways = subst (λ n. All (λ way. way < n) (at_front used order)) (sym long)
           (All-at_front (λ way. way < length order) used order b.ways);
       apart = AllPairs-at_front used order h b.apart;
-      once = subst AreOnce (sym (free-pairs first kw used order keys keys' key b h s)) (none, b.once);
+      once = subst AreKeysOnce (sym (free-pairs first kw used order keys keys' key b h s)) (none, b.once);
     }
 
 pub some-get : {X : Type 0} (xs : List X) (i : ℕ) (x : X) → slice_get xs i ≡ Some x → i < length xs
@@ -219,7 +220,7 @@ fewer-bucket first kw used order keys b =
       places = b.places;
       ways = b.ways;
       apart = b.apart;
-      once = subst AreOnce (sym (fewer-pairs first used order keys b.within))
+      once = subst AreKeysOnce (sym (fewer-pairs first used order keys b.within))
           (once-take (length (pairs_at first keys (take used order)) - 1) (pairs_at first keys (take used order)) b.once);
     }
 

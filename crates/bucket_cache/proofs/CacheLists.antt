@@ -8,7 +8,7 @@ use Rattle.std.proofs.lemmas.List.{get_or-map, length-map, get_or_past}
 use Rattle.std.proofs.lemmas.List.Elements.{All-nil}
 use Rattle.std.proofs.lemmas.List.Sums.{sum_by_more}
 use Rattle.std.proofs.lemmas.Option.{get_or_from_slice_get}
-use Rattle.bucket_cache.specs.Buckets.{Pair, Recency, AreOnce}
+use Rattle.bucket_cache.specs.Buckets.{Pair, Recency, AreKeysOnce}
 use Rattle.bucket_cache.specs.Caches.{IsSoundCache}
 use Rattle.bucket_cache.proofs.Shapes.{IsHome, IsShaped}
 use Rattle.bucket_cache.proofs.FlatRows.{row_fits}
@@ -88,7 +88,7 @@ cache_sound ways kw ew buckets entries s =
     record {
       few = on_lists buckets (λ b ps. length ps ≤ ways) (λ b. omega arith)
           (λ b l. let h = s.each b nothing l in subst (λ n. length (get_or buckets b nothing).pairs ≤ n) h.of_ways h.sound.few);
-      once = on_lists buckets (λ b ps. AreOnce ps) (λ b. tt) (λ b l. (s.each b nothing l).sound.once);
+      once = on_lists buckets (λ b ps. AreKeysOnce ps) (λ b. tt) (λ b l. (s.each b nothing l).sound.once);
       words = on_lists buckets (λ b ps. All (λ pair. length pair.key ≡ kw) ps) (λ b. All-nil (λ pair. length pair.key ≡ kw))
           (λ b l. let h = s.each b nothing l in subst (λ n. All (λ pair. length pair.key ≡ n) (get_or buckets b nothing).pairs)
           h.of_key_words h.sound.words);

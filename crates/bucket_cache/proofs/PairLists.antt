@@ -6,7 +6,7 @@ use Rattle.std.proofs.lemmas.Bool.{true≢false}
 use Rattle.epoch_model.specs.Keys.{Key, key_eq}
 use Rattle.epoch_model.proofs.KeyLists.{key_eq-refl, key_eq-true}
 use Rattle.bucket_cache.specs.Slices.{at_front}
-use Rattle.bucket_cache.specs.Buckets.{Pair, is_pair_of, has_key, place_of, places_of, without_key, AreOnce}
+use Rattle.bucket_cache.specs.Buckets.{Pair, is_pair_of, has_key, place_of_key, places_of, without_key, AreKeysOnce}
 use Rattle.bucket_cache.proofs.Fronts.{by_test, front-cons}
 
 pub absent_head : (key : Key) (pair : Pair) (pairs : List Pair) → has_key key (pair ∷ pairs) ≡ false → (key_eq pair.key key ≡ false)
@@ -31,14 +31,14 @@ has-without_same key (pair ∷ pairs) = by_test (key_eq pair.key key)
     (λ e. rw e (has-without_same key pairs))
     (λ e. rw (e, e) (has-without_same key pairs))
 
-pub once-without : (key : Key) (pairs : List Pair) → AreOnce pairs → AreOnce (without_key key pairs)
+pub once-without : (key : Key) (pairs : List Pair) → AreKeysOnce pairs → AreKeysOnce (without_key key pairs)
 once-without key [] o = tt
 once-without key (pair ∷ pairs) o = by_test (key_eq pair.key key)
     (λ e. rw e (once-without key pairs o.1))
     (λ e. rw e (has-without key pair.key pairs o.0, once-without key pairs o.1))
 
-pub once-front : (key : Key) (place : ℕ) (pairs : List Pair) → AreOnce pairs
-    → AreOnce (record { key = key; place = place } ∷ without_key key pairs)
+pub once-front : (key : Key) (place : ℕ) (pairs : List Pair) → AreKeysOnce pairs
+    → AreKeysOnce (record { key = key; place = place } ∷ without_key key pairs)
 once-front key place pairs o = (has-without_same key pairs, once-without key pairs o)
 
 pub has-at : (at : ℕ) (d : Pair) (key : Key) (pairs : List Pair) → at < length pairs → key_eq (get_or pairs at d).key key ≡ true
@@ -48,7 +48,7 @@ has-at zero d key (pair ∷ pairs) h e = rw e refl
 has-at (suc at) d key (pair ∷ pairs) h e = by_test (key_eq pair.key key) (λ t. rw t refl)
     (λ t. rw t (has-at at d key pairs (omega arith) e))
 
-pub find-at : (at : ℕ) (d : Pair) (key : Key) (pairs : List Pair) → at < length pairs → AreOnce pairs
+pub find-at : (at : ℕ) (d : Pair) (key : Key) (pairs : List Pair) → at < length pairs → AreKeysOnce pairs
     → key_eq (get_or pairs at d).key key ≡ true → find (is_pair_of key) pairs ≡ Some (get_or pairs at d)
 find-at at d key [] h o e = absurd (omega arith)
 find-at zero d key (pair ∷ pairs) h o e = rw e refl
@@ -57,12 +57,12 @@ find-at (suc at) d key (pair ∷ pairs) h o e = by_test (key_eq pair.key key)
     ∙ subst (λ k. has_key k pairs ≡ false) (key_eq-true pair.key key t) o.0)))
     (λ t. rw t (find-at at d key pairs (omega arith) o.1 e))
 
-pub place-at : (at : ℕ) (d : Pair) (key : Key) (pairs : List Pair) → at < length pairs → AreOnce pairs
-    → key_eq (get_or pairs at d).key key ≡ true → place_of key pairs ≡ Some (get_or pairs at d).place
+pub place-at : (at : ℕ) (d : Pair) (key : Key) (pairs : List Pair) → at < length pairs → AreKeysOnce pairs
+    → key_eq (get_or pairs at d).key key ≡ true → place_of_key key pairs ≡ Some (get_or pairs at d).place
 place-at at d key pairs h o e = ap (option_map (λ pair. pair.place)) (find-at at d key pairs h o e)
 
 -- of distinct keys the one at this place goes, and no other
-pub without-at : (at : ℕ) (d : Pair) (key : Key) (pairs : List Pair) → at < length pairs → AreOnce pairs
+pub without-at : (at : ℕ) (d : Pair) (key : Key) (pairs : List Pair) → at < length pairs → AreKeysOnce pairs
     → key_eq (get_or pairs at d).key key ≡ true → take at pairs ++ drop (suc at) pairs ≡ without_key key pairs
 without-at at d key [] h o e = absurd (omega arith)
 without-at zero d key (pair ∷ pairs) h o e = rw e (sym (without_absent key pairs
@@ -72,7 +72,7 @@ without-at (suc at) d key (pair ∷ pairs) h o e = by_test (key_eq pair.key key)
     ∙ subst (λ k. has_key k pairs ≡ false) (key_eq-true pair.key key t) o.0)))
     (λ t. rw t (ap (λ ps. pair ∷ ps) (without-at at d key pairs (omega arith) o.1 e)))
 
-pub front-pair : (at : ℕ) (d : Pair) (key : Key) (pairs : List Pair) → at < length pairs → AreOnce pairs
+pub front-pair : (at : ℕ) (d : Pair) (key : Key) (pairs : List Pair) → at < length pairs → AreKeysOnce pairs
     → key_eq (get_or pairs at d).key key ≡ true
     → at_front at pairs ≡ record { key = key; place = (get_or pairs at d).place } ∷ without_key key pairs
 front-pair at d key pairs h o e =
@@ -85,7 +85,7 @@ has-front key zero pairs h = refl
 has-front key (suc n) [] h = refl
 has-front key (suc n) (pair ∷ pairs) h = let a = absent_head key pair pairs h in rw a.0 (has-front key n pairs a.1)
 
-pub once-take : (n : ℕ) (pairs : List Pair) → AreOnce pairs → AreOnce (take n pairs)
+pub once-take : (n : ℕ) (pairs : List Pair) → AreKeysOnce pairs → AreKeysOnce (take n pairs)
 once-take zero pairs o = tt
 once-take (suc n) [] o = tt
 once-take (suc n) (pair ∷ pairs) o = (has-front pair.key n pairs o.0, once-take n pairs o.1)
@@ -111,9 +111,10 @@ other-key [] pair key at e = refl
 other-key (first ∷ pairs) pair key at e = rw (ap (λ (p : Pair). key_eq p.key key) (let same : first ≡ pair = cc in same) ∙ e) refl
 
 -- a key that comes first stays there
-pub first-stays : (key : Key) (place : ℕ) (pairs : List Pair) → AreOnce pairs
+pub first-stays : (key : Key) (place : ℕ) (pairs : List Pair) → AreKeysOnce pairs
     → slice_get pairs 0 ≡ Some (record { key = key; place = place })
-    → (has_key key pairs ≡ true) × (place_of key pairs ≡ Some place) × (pairs ≡ record { key = key; place = place } ∷ without_key key pairs)
+    → (has_key key pairs ≡ true) × (place_of_key key pairs ≡ Some place)
+    × (pairs ≡ record { key = key; place = place } ∷ without_key key pairs)
 first-stays key place [] o e = cc
 first-stays key place (pair ∷ pairs) o e =
     let same : pair ≡ record { key = key; place = place } = cc in

@@ -26,16 +26,16 @@ has_key key pairs = list_any (is_pair_of key) pairs
 abbrev pub places_of : List Pair → List ℕ
 places_of pairs = map (λ pair. pair.place) pairs
 
-abbrev pub place_of : Key → List Pair → Option ℕ
-place_of key pairs = option_map (λ pair. pair.place) (find (is_pair_of key) pairs)
+abbrev pub place_of_key : Key → List Pair → Option ℕ
+place_of_key key pairs = option_map (λ pair. pair.place) (find (is_pair_of key) pairs)
 
 abbrev pub without_key : Key → List Pair → List Pair
 without_key key pairs = filter (λ pair. not (is_pair_of key pair)) pairs
 
 -- distinct keys
-abbrev pub AreOnce : List Pair → Type 0
-AreOnce [] = Unit {0}
-AreOnce (pair ∷ pairs) = (has_key pair.key pairs ≡ false) × AreOnce pairs
+abbrev pub AreKeysOnce : List Pair → Type 0
+AreKeysOnce [] = Unit {0}
+AreKeysOnce (pair ∷ pairs) = (has_key pair.key pairs ≡ false) × AreKeysOnce pairs
 
 -- the keys of the ways in this order, whose words are stored one after another, each of as many words as this key
 abbrev pub way_keys : Key → List ℕ → List ℕ → List Key
@@ -58,12 +58,12 @@ pub record IsBucket (first key_words used : ℕ) (order : List ℕ) (keys : List
   pub places : first + length order ≤ 65536
   pub ways : All (λ way. way < length order) order
   pub apart : AllPairs (λ way other. way ≢ other) order
-  pub once : AreOnce (pairs_at first keys (take used order))
+  pub once : AreKeysOnce (pairs_at first keys (take used order))
 
 -- distinct keys of the bucket's number of words, at distinct places of the bucket, and no more of them than it has places
 pub record IsSound (r : Recency) : Type 0 where
   pub few : length r.pairs ≤ r.ways
-  pub once : AreOnce r.pairs
+  pub once : AreKeysOnce r.pairs
   pub words : All (λ pair. length pair.key ≡ r.key_words) r.pairs
   pub places : All (λ pair. (r.first ≤ pair.place) × (pair.place < r.first + r.ways)) r.pairs
   pub apart : AllPairs (λ pair other. pair.place ≢ other.place) r.pairs

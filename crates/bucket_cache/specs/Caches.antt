@@ -1,7 +1,7 @@
 -- A cache: for each bucket its pairs, and the entry words by place.
 use Rattle.std.specs.Prelude.{◌≡◌, ℕ, List, [], Some, ◌+◌, ◌*◌, ◌<◌, ◌≤◌, length, slice_get, slice_index_or}
 use Rattle.std.specs.Prelude.{slice_set, replicate, All}
-use Rattle.bucket_cache.specs.Buckets.{Pair, AreOnce}
+use Rattle.bucket_cache.specs.Buckets.{Pair, AreKeysOnce}
 
 pub record Cache : Type 0 where
   pub key_words : ℕ
@@ -22,7 +22,7 @@ with_list cache bucket pairs = record cache { lists = slice_set cache.lists buck
 -- place is that of one pair at most; and each place of a bucket has an entry of the cache's number of words.
 pub record IsSoundCache (ways : ℕ) (cache : Cache) : Type 0 where
   pub few : (bucket : ℕ) → length (list_at cache bucket) ≤ ways
-  pub once : (bucket : ℕ) → AreOnce (list_at cache bucket)
+  pub once : (bucket : ℕ) → AreKeysOnce (list_at cache bucket)
   pub words : (bucket : ℕ) → All (λ pair. length pair.key ≡ cache.key_words) (list_at cache bucket)
   pub places : (bucket : ℕ) → All (λ pair. (bucket * ways ≤ pair.place)
       × (pair.place < bucket * ways + ways)) (list_at cache bucket)

@@ -3,7 +3,7 @@
 ghost use Rattle.std.specs.Prelude.{◌≡◌, ◌+◌, ◌-◌, ◌<◌, ◌≤◌, length, take, false, slice_set};
 ghost use Rattle.bucket_cache.specs.Buckets.{has_key};
 ghost use Rattle.bucket_cache.specs.FlatBuckets.{lists_in, list_in, AreBuckets};
-ghost use Rattle.bucket_cache.specs.Touches.{Touches, IsLeast, IsNotFirst, with_front, touch_cost, replace_cost};
+ghost use Rattle.bucket_cache.specs.Touches.{Touches, IsLeast, IsNotFirst, with_pair_first, touch_cost, replace_cost};
 
 use crate::bucket::Touch;
 use crate::ways::{replace_way, touch_ways};
@@ -71,7 +71,7 @@ pub fn replace_in_bucket<L: Ledger>(
     ensures pairs { let old = list_in ways (length key.now) used.now order.old words.old bucket in
         lists_in ways (length key.now) used.now order.new words.new
         ≡ slice_set (lists_in ways (length key.now) used.now order.old words.old) bucket
-        (with_front key.now result (take (length old - 1) old)) }
+        (with_pair_first key.now result (take (length old - 1) old)) }
     ensures cost { steps.new ≡ steps.old + replace_cost ways (length key.now) }
 {
     let first = bucket * ways;

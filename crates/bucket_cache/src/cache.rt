@@ -4,7 +4,7 @@ ghost use Rattle.std.specs.Prelude.{◌≡◌, ℕ, List, ◌+◌, ◌-◌, ◌*
 ghost use Rattle.std.specs.Prelude.{slice_get, slice_set, sum_by};
 ghost use Rattle.std.specs.Borrow.{sem};
 ghost use Rattle.bucket_cache.specs.Buckets.{Pair, has_key, places_of};
-ghost use Rattle.bucket_cache.specs.Touches.{Touches, IsLeast, IsNotFirst, least_place, with_front, touch_cost, replace_cost};
+ghost use Rattle.bucket_cache.specs.Touches.{Touches, IsLeast, IsNotFirst, least_place, with_pair_first, touch_cost, replace_cost};
 ghost use Rattle.bucket_cache.specs.LendingRows.{with_entry};
 ghost use Rattle.bucket_cache.specs.Caches.{Cache, list_at, entry_at, with_list, empty_cache, IsSoundCache};
 
@@ -192,7 +192,7 @@ impl<const WAYS: usize> BucketCache<WAYS> {
         requires absent { has_key key.now (list_at self.old bucket) ≡ false }
         ensures place { IsLeast (list_at self.old bucket) result }
         ensures pairs { let old = list_at self.old bucket in self.new
-            ≡ with_list self.old bucket (with_front key.now result (take (length old - 1) old)) }
+            ≡ with_list self.old bucket (with_pair_first key.now result (take (length old - 1) old)) }
         ensures sound { IsSoundCache WAYS self.new }
         ensures cost { steps.new ≡ steps.old + replace_cost WAYS self.old.key_words }
     {

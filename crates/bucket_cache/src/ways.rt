@@ -5,7 +5,7 @@ ghost use Rattle.std.specs.Prelude.{slice_index_or, slice_set, IfSome, IfNone, t
 ghost use Rattle.epoch_model.specs.Keys.{key_eq};
 ghost use Rattle.bucket_cache.specs.Slices.{at_front};
 ghost use Rattle.bucket_cache.specs.Buckets.{pairs_at, has_key, way_keys, IsBucket};
-ghost use Rattle.bucket_cache.specs.Touches.{Touches, IsLeast, IsNotFirst, with_front, touch_cost, replace_cost};
+ghost use Rattle.bucket_cache.specs.Touches.{Touches, IsLeast, IsNotFirst, with_pair_first, touch_cost, replace_cost};
 
 use crate::bucket::Touch;
 use crate::slices;
@@ -131,7 +131,7 @@ pub fn replace_way<L: Ledger>(
     ensures place { IsLeast (pairs_at first (way_keys key.now order.old words.old) (take (length order.old) order.old)) result }
     ensures pairs { let old = pairs_at first (way_keys key.now order.old words.old) (take (length order.old) order.old) in
         pairs_at first (way_keys key.now order.old words.new) (take (length order.old) order.new)
-        ≡ with_front key.now result (take (length old - 1) old) }
+        ≡ with_pair_first key.now result (take (length old - 1) old) }
     ensures cost { steps.new ≡ steps.old + replace_cost (length order.old) (length key.now) }
 {
     let last = order.len() - 1;

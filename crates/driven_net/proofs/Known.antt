@@ -10,7 +10,7 @@ use Rattle.epoch_model.proofs.KeyLists.{by_test}
 use Rattle.additive_laws.proofs.Counts.{same_number, own_number}
 use Rattle.net_wide.specs.NetTables.{switch_in}
 use Rattle.net_wide.specs.Numbering.{place_among, switch_number, with_switch}
-use Rattle.net_wide.specs.NetEnds.{IsSeen, AreNumbered, steps_of}
+use Rattle.net_wide.specs.NetEnds.{IsSeen, AreSwitchesNumbered, net_steps}
 
 place_of : (known : List ℕ) (s : ℕ) → place_among known s < length known → slice_index known (place_among known s) ≡ s
 place_of [] s h = absurd (omega arith)
@@ -24,7 +24,7 @@ place_tells known a b h e = sym (place_of known a (subst (λ n. n < length known
     ∙ (ap (slice_index known) e ∙ place_of known b h)
 
 pub numbered : (known : List ℕ) (packets : List (List ℕ)) → ((s : ℕ) → IsSeen s packets → place_among known s < length known)
-    → AreNumbered (place_among known) packets
+    → AreSwitchesNumbered (place_among known) packets
 numbered known packets h a b sa sb e = place_tells known a b (h b sb) e
 
 place_within : (known : List ℕ) (s : ℕ) → place_among known s ≤ length known
@@ -111,10 +111,10 @@ seen_last (one ∷ packets) words s h = by_test (switch_in one == s)
 
 pub steps_same : (number other : ℕ → ℕ) (take : List ℕ → Option Taken) (packets : List (List ℕ))
     → ((s : ℕ) → IsSeen s packets → number s ≡ other s)
-    → steps_of number take packets ≡ steps_of other take packets
+    → net_steps number take packets ≡ net_steps other take packets
 steps_same number other take [] h = refl
 steps_same number other take (words ∷ packets) h =
-    ap (λ n. record { switch = n; taken = take words } ∷ steps_of number take packets) (h (switch_in words) (seen_first words packets))
+    ap (λ n. record { switch = n; taken = take words } ∷ net_steps number take packets) (h (switch_in words) (seen_first words packets))
     ∙ ap (λ ss. record { switch = other (switch_in words); taken = take words } ∷ ss)
     (steps_same number other take packets (λ s seen. h s (seen_more words packets s seen)))
 

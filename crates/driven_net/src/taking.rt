@@ -3,7 +3,7 @@
 ghost use Rattle.std.specs.Prelude.{◌≡◌, ◌+◌, ◌<◌, ◌≤◌, ℕ, suc, List, [], ◌∷◌, ◌++◌, All, None, Some, true};
 ghost use Rattle.std.specs.Prelude.{length, slice_get};
 ghost use Rattle.std.specs.Prelude.{IfErr, IfOk, OnOk};
-ghost use Rattle.network.specs.Networks.{IsNetwork, Keeps};
+ghost use Rattle.network.specs.Networks.{IsNetwork, KeepsNetwork};
 ghost use Rattle.network.specs.Running.{NetworkStands};
 ghost use Rattle.net_wide.specs.NetTables.{switch_in};
 ghost use Rattle.net_wide.specs.Numbering.{switch_number, with_switch};
@@ -17,7 +17,7 @@ ghost use Rattle.driven_net.specs.Lags.{AreLagClocks, CountsAt, HaveCounted};
 ghost use Rattle.driven_net.specs.NetTraces.{first_fault};
 ghost use Rattle.driven_net.specs.Turns.{MakesTurn, MakesTurns, Meets, known_after};
 
-use marple_base::{Field, Packet, Seq, Steps};
+use marple_base::{FIELDS, Field, Packet, Seq, Steps};
 use net_wide::number_switch;
 use network::{Network, runs_follow_events};
 use std::alloc::{AllocError, Global};
@@ -37,7 +37,7 @@ fn switch_at<const WAYS: usize, L: Ledger>(
     ensures at { IfOk result (λ at. switch_number known.old switch ≡ Some at) }
     ensures known { OnOk result (known.new ≡ with_switch known.old switch) }
     ensures switches { OnOk result (network.new.switches ≡ length known.new) }
-    ensures keeps { OnOk result (Keeps network.old network.new) }
+    ensures keeps { OnOk result (KeepsNetwork network.old network.new) }
     ensures meets { OnOk result (Meets WAYS known.old switch network.old network.new) }
     ensures follows { OnOk result ((packets : List (List ℕ)) (f : NetFollows WAYS known.old packets network.old)
         → (n : NetFollows WAYS known.new packets network.new) × (n.events ≡ f.events)) }
@@ -89,7 +89,7 @@ fn take_one<const WAYS: usize, L: Ledger>(
     requires clocks { (lag : ℕ) × AreLagClocks lag clocks.old }
     ensures known { OnOk result (known.new ≡ with_switch known.old (switch_in packet.now.words)) }
     ensures numbered { OnOk result ((at : ℕ) × (switch_number known.old (switch_in packet.now.words) ≡ Some at)) }
-    ensures keeps { OnOk result (Keeps network.old network.new) }
+    ensures keeps { OnOk result (KeepsNetwork network.old network.new) }
     ensures follows { OnOk result ((lag : ℕ) (packets : List (List ℕ)) (f : NetFollows WAYS known.old packets network.old)
         → AreLagClocks lag clocks.old → HaveCounted f.events clocks.old
         → (n : NetFollows WAYS known.new (packets ++ packet.now.words ∷ []) network.new) × HaveCounted n.events clocks.new) }
@@ -126,7 +126,7 @@ pub(crate) fn take_all<const WAYS: usize, L: Ledger>(
     ensures accepted { IfOk result (λ found. first_fault [] 1 (words_of trace.entry.packets) trace.entry.fault ≡ None) }
     ensures follows { IfOk result (λ found. (known : List ℕ) × NetFollows WAYS known (words_of trace.entry.packets) found) }
     ensures turns { IfOk result (MakesTurns WAYS lag [] (words_of trace.entry.packets) network.entry) }
-    ensures keeps { IfOk result (Keeps network.entry) }
+    ensures keeps { IfOk result (KeepsNetwork network.entry) }
     ensures known { IfOk result (IsNetwork WAYS) }
     ensures refused { IfErr result (λ answer. IfRefused answer (λ fault.
         first_fault [] 1 (words_of trace.entry.packets) trace.entry.fault ≡ Some fault)) }
@@ -136,7 +136,7 @@ pub(crate) fn take_all<const WAYS: usize, L: Ledger>(
     let mut network = network;
     let mut known = Seq::new(alloc);
     let mut clocks = [Clock::new(lag); 64];
-    let mut packet = Packet { words: [0; 14] };
+    let mut packet = Packet { words: [0; FIELDS] };
     let mut number = 0;
     'packets: while trace.next_into(&mut packet)? {
         number += 1;

@@ -2,6 +2,7 @@
 use Rattle.std.proofs.Common.{◌≡◌, ℕ, zero, suc, ◌+◌, List, [], ◌∷◌, Some, length, map, sym, ap, ◌∙◌, subst}
 use Rattle.std.proofs.Common.{arith}
 use Rattle.std.specs.Prelude.{slice_get}
+use Rattle.marple_base.specs.declared.field.TheConstants.{FIELDS}
 use Rattle.query_lang.specs.declared.fold.TypedFold.{TypedFold}
 use Rattle.epoch_model.specs.Epochs.{Geometry}
 use Rattle.epoch_model.specs.Laws.{HasRoom}
@@ -42,7 +43,7 @@ module _ (plan : PlanParts) (buckets : ℕ) (sound : IsSoundPlan plan) where
       (f : TypedFold) (at : slice_get plan.groups number ≡ Some group)
       (bounded : IsBoundedGroup f group) (given : TakesWords (events number)) where
     heading : IsHeadingOf f (heading_of group)
-    heading = let known = group_sound plan number group sound at in heading_is (14 + length plan.ops) group known.0 f known.2
+    heading = let known = group_sound plan number group sound at in heading_is (FIELDS + length plan.ops) group known.0 f known.2
         bounded.program
 
     one_holds : (n : ℕ) (lane : LaneView) → IsLane n lane group → IsSwept (run g (events number) (empty_machine g))

@@ -5,6 +5,7 @@ use Rattle.std.specs.Prelude.{option_and_then, unwrap_or}
 use Rattle.std.specs.List.{All, slice_get}
 use Rattle.std.proofs.lemmas.List.{length-map}
 use Rattle.std.proofs.lemmas.List.Elements.{All-nil, All-cons}
+use Rattle.marple_base.specs.declared.field.TheConstants.{FIELDS}
 use Rattle.query_lang.specs.declared.fold.TypedFold.{TypedFold}
 use Rattle.query_lang.specs.declared.typed.TypedOp.{TypedOp}
 use Rattle.query_lang.specs.declared.typed.TypedOp.TheVariants as op
@@ -27,7 +28,7 @@ use Rattle.stage_plan.specs.Packets.{AreWhole}
 use Rattle.stage_plan.specs.declared.group.GroupPlan.{GroupPlan}
 use Rattle.stage_plan.specs.declared.group.GroupWiring.{GroupWiring}
 use Rattle.stage_plan.specs.declared.op.Operand.TheVariants.{Number}
-use Rattle.stage_plan.specs.Planned.{IsPlanOf, fold_at, taken, wiring_at, row_of}
+use Rattle.stage_plan.specs.Planned.{IsPlanOf, fold_at, taken, wiring_at, packet_registers}
 use Rattle.stage_plan.specs.Registers.{operand_value}
 use Rattle.stage_plan.specs.Shape.{group_shape}
 use Rattle.stage_plan.specs.Sound.{PlanParts, IsSoundPlan}
@@ -81,7 +82,7 @@ module _ (law : TablesGiveBounds) (closed : ClosedGiveTheGroupTable) (order : Ta
       → All (λ u. length u.key ≡ n) (uses_taken number (map (taken plan i) rows))
   taken_keys i n number [] e = All-nil (λ u. length u.key ≡ n)
   taken_keys i n number (words ∷ rows) e =
-      let registers = row_of plan words in
+      let registers = packet_registers plan words in
       let later = taken_keys i n (suc number) rows e in
       let rest = uses_taken (suc number) (map (taken plan i) rows) in
       by_test (holds (operand_value registers (wiring_at plan i).present))
@@ -112,7 +113,7 @@ module _ (law : TablesGiveBounds) (closed : ClosedGiveTheGroupTable) (order : Ta
       let wired = got_at plan.wiring i (omega (arith, within, sound.wired)) in
       let known = sound.each i group wired.0 at wired.1 in
       let given = uses_by plan i packets in
-      let heading = heading_is (14 + length plan.ops) group wired.0 f known program in
+      let heading = heading_is (FIELDS + length plan.ops) group wired.0 f known program in
       let words : length (wiring_at plan i).keys ≡ length group.key_names =
       ap (λ (o : Option GroupWiring). length (unwrap_or {T = GroupWiring} o (record { present = Number 0; keys = []; args = [] })).keys)
       wired.1 ∙ known.keys in

@@ -24,12 +24,12 @@ use Rattle.fold_class.specs.Kinds.{class_of}
 use Rattle.final_queries.specs.GroupTable.{Heading}
 use Rattle.stage_plan.specs.Planned.{fold_at}
 use Rattle.stage_plan.specs.Shape.{GroupShape, query_groups}
-use Rattle.query_tables.specs.Tables.{heading_of}
+use Rattle.query_tables.specs.Tables.{heading_of_shape}
 use Rattle.enclosure_folds.specs.declared.table.BoundsRow.{BoundsRow}
 use Rattle.enclosure_folds.specs.declared.table.Enclosed.{Enclosed}
 use Rattle.enclosure_folds.specs.Bounds.{Encloses}
 use Rattle.enclosure_folds.specs.Check.{is_bounded, NoFaultMeansBounds}
-use Rattle.enclosure_folds.specs.KeyBounds.{KeyBoundsEnclose, enclosed_by, enclosed_table, key_bounds, rows_of}
+use Rattle.enclosure_folds.specs.KeyBounds.{KeyBoundsEnclose, enclosed_by, enclosed_table, key_bounds, use_rows}
 use Rattle.enclosure_folds.proofs.RowFacts.{all_of, has_use}
 use Rattle.enclosed_query.specs.EnclosedTables.{enclosed_from, enclosed_if, enclosed_tables}
 use Rattle.enclosed_query.specs.Holding.{HoldsOver, ShownTablesHold}
@@ -38,9 +38,9 @@ use Rattle.enclosed_query.proofs.ReadTables.{keys_bounded}
 use Rattle.enclosed_query.proofs.StreamWords.{uses_words}
 
 -- each key of the table has a packet
-some_rows : (given : List Use) → All (λ key. 0 < length (rows_of given key)) (keys_used given)
+some_rows : (given : List Use) → All (λ key. 0 < length (use_rows given key)) (keys_used given)
 some_rows given =
-    all_of (λ key. 0 < length (rows_of given key)) (keys_used given)
+    all_of (λ key. 0 < length (use_rows given key)) (keys_used given)
     (λ key e. omega (
       arith,
       has_use key given (sym (has-ascending key (map (λ u. u.key) given)) ∙ e),
@@ -51,11 +51,11 @@ some_rows given =
 
 -- the fold over all packets of a key, from the initial state
 abbrev key_fold : TypedFold → List Use → Key → List ℕ
-key_fold f given key = folded f (initial_state f) (rows_of given key)
+key_fold f given key = folded f (initial_state f) (use_rows given key)
 
 module _ (f : TypedFold) (g : Geometry) (given : List Use) where
   abbrev whole_row : Key → Row
-  whole_row key = exact_row (folding_of f) key (length (epochs g given key)) (rows_of given key)
+  whole_row key = exact_row (folding_of f) key (length (epochs g given key)) (use_rows given key)
 
   one_whole_row : class_of f ≡ Linear → (key : Key) → key_rows (folding_of f) g given key ≡ whole_row key ∷ []
   one_whole_row e key =
@@ -111,7 +111,7 @@ first_is e = cc
 
 module _ (q : TypedQuery) (g : Geometry) (packets : List (List ℕ)) (number : ℕ) (f : TypedFold) (at : fold_at q number ≡ Some f) where
   abbrev IsShownBy : Enclosed → Type 0
-  IsShownBy t = (shape : GroupShape) × (t ≡ enclosed_table (heading_of shape) f g (uses q number packets))
+  IsShownBy t = (shape : GroupShape) × (t ≡ enclosed_table (heading_of_shape shape) f g (uses q number packets))
 
   shown_at : ((j : ℕ) → j < number → (h : TypedFold) × (fold_at q j ≡ Some h))
       → (start : ℕ) (shapes : List GroupShape) (n : ℕ) (t : Enclosed) → number ≡ start + n
@@ -119,13 +119,14 @@ module _ (q : TypedQuery) (g : Geometry) (packets : List (List ℕ)) (number : �
   shown_at before start [] n t e found = absurd cc
   shown_at before start (shape ∷ shapes) zero t e found =
       let same : start ≡ number = omega (arith, e) in
-      let here : enclosed_if q g packets start shape (fold_at q start) ≡ enclosed_table (heading_of shape) f g (uses q number packets)
+      let here : enclosed_if q g packets start shape (fold_at q start) ≡ enclosed_table (heading_of_shape shape) f g (uses q number packets)
       ∷ [] =
       ap (λ i. enclosed_if q g packets i shape (fold_at q i)) same ∙ ap (enclosed_if q g packets number shape) at in
       (shape, first_is (sym (ap (λ ts. slice_get (ts ++ enclosed_from q g packets (suc start) shapes) 0) here) ∙ found))
   shown_at before start (shape ∷ shapes) (suc n) t e found =
       let h = before start (omega (arith, e)) in
-      let here : enclosed_if q g packets start shape (fold_at q start) ≡ enclosed_table (heading_of shape) h.0 g (uses q start packets)
+      let here : enclosed_if q g packets start shape (fold_at q start) ≡ enclosed_table (heading_of_shape shape) h.0 g
+      (uses q start packets)
       ∷ [] = ap (enclosed_if q g packets start shape) h.1 in
       shown_at before (suc start) shapes n t (omega (arith, e)) (sym (ap
       (λ ts. slice_get (ts ++ enclosed_from q g packets (suc start) shapes) (suc n)) here) ∙ found)
@@ -156,4 +157,4 @@ tables_hold law no_fault q g packets valid none words packets_words i f t at fou
     subst (HoldsOver f (uses q i packets)) (sym shown.1)
     (one_holds f g (uses q i packets) law (one_of IsValidFold q i f valid.folds at) (no_fault q i f none at)
     (one_of (λ (h : TypedFold). AreWords (initial_state h)) q i f words at)
-    (uses_words q i packets valid packets_words) (heading_of shown.0) (class_of f) refl)
+    (uses_words q i packets valid packets_words) (heading_of_shape shown.0) (class_of f) refl)

@@ -22,7 +22,7 @@ use Rattle.final_queries.specs.Finals.{IsTable, table_shape}
 use Rattle.final_queries.specs.GroupTable.{group_table}
 use Rattle.stage_plan.specs.Planned.{fold_at}
 use Rattle.stage_plan.specs.Shape.{GroupShape, query_groups}
-use Rattle.query_tables.specs.Tables.{heading_of, table_if, tables_from, group_tables}
+use Rattle.query_tables.specs.Tables.{heading_of_shape, table_if, tables_from, group_tables}
 use Rattle.query_tables.specs.TableLaws.{QueryTablesAreRead}
 use Rattle.enclosure_folds.specs.declared.table.BoundsRow.{BoundsRow}
 use Rattle.enclosure_folds.specs.BoundsTables.{ExactTablesAreRead}
@@ -39,11 +39,12 @@ keys_bounded f g given (key ∷ keys) = ap (λ ks. key ∷ ks) (keys_bounded f g
 
 module _ (exact : ExactTablesAreRead) (q : TypedQuery) (g : Geometry) (packets : List (List ℕ)) where
   one_read : (class : Class) (shape : GroupShape) (f : TypedFold) (given : List Use)
-      → IsTable (group_table (heading_of shape) (folding_of f) g given)
-      → IsWhole (enclosed_by class (heading_of shape) f g given) → IsTable (table_read (enclosed_by class (heading_of shape) f g given))
+      → IsTable (group_table (heading_of_shape shape) (folding_of f) g given)
+      → IsWhole (enclosed_by class (heading_of_shape shape) f g given)
+      → IsTable (table_read (enclosed_by class (heading_of_shape shape) f g given))
   one_read Linear shape f given table whole = table
   one_read Other shape f given table whole =
-      exact (bounds_table (heading_of shape) f g given) whole (subst IsAscending (sym (keys_bounded f g given (keys_used given)))
+      exact (bounds_table (heading_of_shape shape) f g given) whole (subst IsAscending (sym (keys_bounded f g given (keys_used given)))
       (ascending-ascends (map (λ u. u.key) given)))
 
   read_if : (o : Option TypedFold) (i : ℕ) (shape : GroupShape) (shapes : List GroupShape)
@@ -54,8 +55,8 @@ module _ (exact : ExactTablesAreRead) (q : TypedQuery) (g : Geometry) (packets :
       → All IsTable (map table_read (enclosed_if q g packets i shape o ++ enclosed_from q g packets (suc i) shapes))
   read_if None i shape shapes later tables whole = later tables whole
   read_if (Some f) i shape shapes later tables whole =
-      let table = group_table (heading_of shape) (folding_of f) g (uses q i packets) in
-      let here = enclosed_by (class_of f) (heading_of shape) f g (uses q i packets) in
+      let table = group_table (heading_of_shape shape) (folding_of f) g (uses q i packets) in
+      let here = enclosed_by (class_of f) (heading_of_shape shape) f g (uses q i packets) in
       let more = tables_from q g packets (suc i) shapes in
       let rest = enclosed_from q g packets (suc i) shapes in
       All-cons IsTable (table_read here) (map table_read rest) (one_read (class_of f) shape f (uses q i packets)
@@ -69,8 +70,8 @@ module _ (exact : ExactTablesAreRead) (q : TypedQuery) (g : Geometry) (packets :
 
 module _ (q : TypedQuery) (g : Geometry) (packets : List (List ℕ)) where
   one_shape : (class : Class) (shape : GroupShape) (f : TypedFold) (given : List Use)
-      → table_shape (table_read (enclosed_by class (heading_of shape) f g given)) ≡ table_shape
-      (group_table (heading_of shape) (folding_of f) g given)
+      → table_shape (table_read (enclosed_by class (heading_of_shape shape) f g given)) ≡ table_shape
+      (group_table (heading_of_shape shape) (folding_of f) g given)
   one_shape Linear shape f given = refl
   one_shape Other shape f given = refl
 
@@ -83,7 +84,7 @@ module _ (q : TypedQuery) (g : Geometry) (packets : List (List ℕ)) where
   shapes_if (Some f) i shape shapes later =
       let rest = map table_shape (map table_read (enclosed_from q g packets (suc i) shapes)) in
       ap (λ s. s ∷ rest) (one_shape (class_of f) shape f (uses q i packets))
-      ∙ ap (λ ss. table_shape (group_table (heading_of shape) (folding_of f) g (uses q i packets)) ∷ ss) later
+      ∙ ap (λ ss. table_shape (group_table (heading_of_shape shape) (folding_of f) g (uses q i packets)) ∷ ss) later
 
   shapes_from : (i : ℕ) (shapes : List GroupShape) → map table_shape (map table_read (enclosed_from q g packets i shapes)) ≡ map table_shape
       (tables_from q g packets i shapes)

@@ -7,6 +7,7 @@ use Rattle.std.proofs.Math.Logic.{∥∥₁_elim}
 use Rattle.std.proofs.Props.{props}
 use Rattle.std.proofs.lemmas.Bool.{false≢true}
 use Rattle.std.proofs.lemmas.List.Elements.{All-nil, All-cons, All-head, All-tail, All-append, All-map, All-weaker}
+use Rattle.marple_base.specs.declared.field.TheConstants.{FIELDS}
 use Rattle.query_lang.specs.declared.fold.TypedFold.{TypedFold}
 use Rattle.query_lang.specs.declared.typed.Class.{Class}
 use Rattle.query_lang.specs.declared.typed.Class.TheVariants as class
@@ -18,7 +19,7 @@ use Rattle.epoch_model.specs.Keys.{Key, ascending, has, key_eq}
 use Rattle.epoch_model.proofs.KeyLists.{by_test, key_eq-true}
 use Rattle.epoch_model.proofs.KeyOrder.{has-ascending}
 use Rattle.backing_store.specs.Merged.{epochs_in, shown_row}
-use Rattle.backing_store.specs.SortedRows.{numbered, rows_of, sorted_rows}
+use Rattle.backing_store.specs.SortedRows.{numbered, stored_rows, sorted_rows}
 use Rattle.backing_store.specs.Store.{Store, StoredKey, StoredRow, IsStore, AreKeysOf, AreRowsOf, number_of, states_at, states_of}
 use Rattle.fold_class.specs.Kinds.{class_of}
 use Rattle.epoch_entry.specs.declared.purpose.Entries.TheVariants.{Bounds}
@@ -80,10 +81,10 @@ numbered_have words n key epochs first (state ∷ states) e all =
     (numbered_have words n key epochs (suc first) states e (All-tail (λ (x : List ℕ). length x ≡ n) state states all))
 
 rows_have : (store : Store) (keys : List Key) → IsStore store → All (λ key. length key ≡ store.key_words) keys
-    → All (HasColumns store.key_words store.state_words) (flat_map (rows_of store) keys)
+    → All (HasColumns store.key_words store.state_words) (flat_map (stored_rows store) keys)
 rows_have store [] is all = All-nil (HasColumns store.key_words store.state_words)
 rows_have store (key ∷ keys) is all =
-    All-append (HasColumns store.key_words store.state_words) (rows_of store key) (flat_map (rows_of store) keys)
+    All-append (HasColumns store.key_words store.state_words) (stored_rows store key) (flat_map (stored_rows store) keys)
     (numbered_have store.key_words store.state_words key _ 1 (states_of store key)
     (All-head (λ (k : Key). length k ≡ store.key_words) key keys all)
     (states_have (length store.keys) store.state_words (number_of store.keys key) store.rows is.rows))
@@ -143,7 +144,7 @@ module _ (plan : PlanParts) (buckets : ℕ) (sound : IsSoundPlan plan) where
       let known = group_sound plan i group sound at in
       ∥∥₁_elim known.2.program (may_prop group.program.class group.program.depth (epochs_of group lane) (table_of group lane))
       (λ h.
-      let is = heading_is (14 + length plan.ops) group known.0 h.0 known.2 h.1 in
+      let is = heading_is (FIELDS + length plan.ops) group known.0 h.0 known.2 h.1 in
       subst (λ c. MayBeShownBy (Group c group.program.depth (epochs_of group lane)) (table_of group lane)) (sym is.class)
       (may_by group lane h.0 (class_of h.0) group.program.depth (epochs_of group lane) is of_lane.keys has (of_lane.kind h.0 h.1)))
 

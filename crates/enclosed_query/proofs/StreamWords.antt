@@ -13,7 +13,7 @@ use Rattle.query_lang.specs.declared.typed.TypedOp.TheVariants as op
 use Rattle.query_lang.specs.declared.typed.TypedQuery.{TypedQuery}
 use Rattle.query_lang.specs.declared.typed.TypedStream.{TypedStream}
 use Rattle.query_lang.specs.Folds.{IsValidTerm, term_value}
-use Rattle.query_lang.specs.Streams.{Tuple, Taking, all_streams, emits_at, expr_value, group_stream, list_at, made_of, numbered, takings}
+use Rattle.query_lang.specs.Streams.{Tuple, Taking, all_streams, emits_at, expr_value, group_stream, tuples_at, made_of, numbered, takings}
 use Rattle.query_lang.specs.Streams.{values_at}
 use Rattle.query_lang.specs.Terms.{Term, Literal, Read, Negation, Operation, term_of}
 use Rattle.query_lang.specs.TypedQueries.{IsValidOp, IsValidQuery, IsValidWord, AreValidStreams}
@@ -87,7 +87,7 @@ keys_words (Some f) keys args input h =
     (λ k d lt. values_words (get_or emitted k d).row keys (All-filter (λ (t : Tuple). emits_at f (values_at t.row args)) HasWords input h k
     d lt))
 
-listed_words : (streams : List (List Tuple)) (number : ℕ) → All HaveWords streams → HaveWords (list_at streams number)
+listed_words : (streams : List (List Tuple)) (number : ℕ) → All HaveWords streams → HaveWords (tuples_at streams number)
 listed_words [] number h = All-nil HasWords
 listed_words (given ∷ streams) zero h = All-head HaveWords given streams h
 listed_words (given ∷ streams) (suc number) h = listed_words streams number (All-tail HaveWords given streams h)
@@ -95,16 +95,16 @@ listed_words (given ∷ streams) (suc number) h = listed_words streams number (A
 made_words : (folds : List TypedFold) (before : List TypedStream) (width : ℕ) (streams : List (List Tuple)) (o : TypedOp)
     → IsValidOp folds before width o → All HaveWords streams → HaveWords (made_of folds streams o)
 made_words folds before width streams (op.Filter input condition) v h =
-    All-filter (λ (t : Tuple). holds (expr_value condition t.row)) HasWords (list_at streams input) (listed_words streams input h)
+    All-filter (λ (t : Tuple). holds (expr_value condition t.row)) HasWords (tuples_at streams input) (listed_words streams input h)
 made_words folds before width streams (op.Map input values) v h =
-    let given = list_at streams input in
+    let given = tuples_at streams input in
     All-map HasWords (λ (t : Tuple). record { packet = t.packet; row = t.row ++ map (λ e. expr_value e t.row) values }) given
     (λ k d lt. let t = get_or given k d in let words = listed_words streams input h k d lt in
     All-append IsWord t.row (map (λ e. expr_value e t.row) values) words (exprs_words _ values t.row v.1.0 words))
-made_words folds before width streams (op.Zip left right slots) v h = joined_words slots (list_at streams left) (list_at streams right)
+made_words folds before width streams (op.Zip left right slots) v h = joined_words slots (tuples_at streams left) (tuples_at streams right)
     (listed_words streams left h) (listed_words streams right h)
 made_words folds before width streams (op.Group input keys f args) v h =
-    keys_words (slice_get folds f) keys args (list_at streams input) (listed_words streams input h)
+    keys_words (slice_get folds f) keys args (tuples_at streams input) (listed_words streams input h)
 
 streams_words : (names : ℕ) (folds : List TypedFold) (before rest : List TypedStream) (made : List (List Tuple))
     → AreValidStreams names folds before rest → All HaveWords made
@@ -127,6 +127,6 @@ uses_words q i packets valid h = by_taking (slice_get (takings q.streams) i)
     by_taking : (o : Option Taking) → All (λ (u : Use). AreWords u.row) (taken_by q packets o)
     by_taking None = All-nil (λ (u : Use). AreWords u.row)
     by_taking (Some t) =
-        let given = list_at (all_streams q packets) t.input in
+        let given = tuples_at (all_streams q packets) t.input in
         All-map (λ (u : Use). AreWords u.row) (use_of t) given (λ k d lt. values_words (get_or given k d).row t.args
         (listed_words (all_streams q packets) t.input all k d lt))

@@ -17,7 +17,7 @@ use Rattle.stage_plan.specs.Sound.{PlanParts, IsSoundPlan}
 use Rattle.final_queries.specs.declared.table.Table.{Table}
 use Rattle.final_queries.specs.Finals.{with_finals}
 use Rattle.table_printer.specs.TableText.{table_text}
-use Rattle.query_tables.specs.Tables.{heading_of}
+use Rattle.query_tables.specs.Tables.{heading_of_shape}
 use Rattle.switch_core.specs.Pipelines.{tables_of}
 use Rattle.switch_core.specs.PlanLanes.{LaneView, PipelineView, AreLanesOf, PipelineStands, folding_at}
 use Rattle.trace_drive.specs.Drives.{end_machines}
@@ -30,14 +30,14 @@ use Rattle.enclosure_folds.specs.Shown.{MayBeShown, shown}
 -- what is shown of a groupby with this number; one whose fold isn't there shows nothing, and each groupby of a valid query has a fold
 abbrev pub enclosed_if : TypedQuery → Geometry → List (List ℕ) → ℕ → GroupShape → Option TypedFold → List Enclosed
 enclosed_if q g packets i shape None = []
-enclosed_if q g packets i shape (Some f) = enclosed_table (heading_of shape) f g (uses q i packets) ∷ []
+enclosed_if q g packets i shape (Some f) = enclosed_table (heading_of_shape shape) f g (uses q i packets) ∷ []
 
 -- of groupbys in order, where the first has this number
 abbrev pub enclosed_from : TypedQuery → Geometry → List (List ℕ) → ℕ → List GroupShape → List Enclosed
 enclosed_from q g packets i [] = []
 enclosed_from q g packets i (shape ∷ shapes) = enclosed_if q g packets i shape (fold_at q i) ++ enclosed_from q g packets (suc i) shapes
 
--- What is shown of a query's groupbys over these packets, each of 14 words.
+-- What is shown of a query's groupbys over these packets, each with a word for each field.
 unfoldable pub enclosed_tables : TypedQuery → Geometry → List (List ℕ) → List Enclosed
 enclosed_tables q g packets = enclosed_from q g packets 0 (query_groups q)
 

@@ -12,12 +12,12 @@ use Rattle.stage_plan.specs.Planned.{fold_at}
 use Rattle.enclosure_folds.specs.declared.table.Enclosed.{Enclosed}
 use Rattle.enclosure_folds.specs.Check.{enclose_fault}
 use Rattle.enclosure_folds.specs.Holding.{HoldsFor}
-use Rattle.enclosure_folds.specs.KeyBounds.{rows_of}
+use Rattle.enclosure_folds.specs.KeyBounds.{use_rows}
 use Rattle.enclosed_query.specs.EnclosedTables.{enclosed_tables}
 
 -- there is a row for each key that has a packet, in ascending order, and the rows hold over all packets of their key
 abbrev pub HoldsOver : TypedFold → List Use → Enclosed → Type 0
-HoldsOver f given t = HoldsFor f (keys_used given) (rows_of given) t
+HoldsOver f given t = HoldsFor f (keys_used given) (use_rows given) t
 
 -- What is shown of each groupby of the query holds over all of these packets.
 abbrev pub ShownHolds : TypedQuery → Geometry → List (List ℕ) → Type 0

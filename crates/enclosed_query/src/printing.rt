@@ -16,7 +16,7 @@ ghost use Rattle.marple_base.specs.Pieces.{TakesAllBut};
 use enclosure_folds::{BoundsTable, Enclosed, exact_rows, write_bounds};
 use final_queries::Table;
 use marple_base::{Seq, Sink, Steps, TextBuffer, WriteError};
-use query_lang::{PrintOf, TypedQuery};
+use query_lang::{MAX_GROUPBYS, PrintOf, TypedQuery};
 use query_tables::{add_finals, table_number};
 use std::alloc::{AllocError, Global};
 use std::sync::ledger::Ledger;
@@ -98,7 +98,7 @@ fn write_printed<O: Sink>(
     text: &mut TextBuffer,
     out: &mut O,
 ) -> Result<(), WriteError>
-    requires groups { groups ≤ 8 }
+    requires groups { groups ≤ MAX_GROUPBYS }
     requires prints { All (λ one. table_number groups one < length tables.now) prints.now }
     requires bounds { All IsWholeIfThere bounds.now }
     requires tables { All IsTable tables.now }

@@ -32,7 +32,7 @@ use Rattle.enclosure_folds.specs.declared.table.BoundsTable.{BoundsTable}
 use Rattle.enclosure_folds.specs.Bounds.{last_or, all_rows, Encloses}
 use Rattle.enclosure_folds.specs.BoundsTables.{HasBounds}
 use Rattle.enclosure_folds.specs.KeyBounds.{key_bounds, listed_bounds, table_bounds, goes_on, row_bounds, bounds_in, low_in, high_in}
-use Rattle.enclosure_folds.specs.KeyBounds.{states_in, rows_of, EpochRowsGiveBounds, KeyBoundsEnclose, TriplesGiveWholeTables}
+use Rattle.enclosure_folds.specs.KeyBounds.{states_in, use_rows, EpochRowsGiveBounds, KeyBoundsEnclose, TriplesGiveWholeTables}
 use Rattle.enclosure_folds.proofs.BoundLemmas.{last_map, some_pieces, enclosed}
 
 -- each key that is used has an epoch
@@ -202,9 +202,9 @@ give_bounds heading f sizes folding opening absorbing g uses h states =
 pub keys_enclose : KeyBoundsEnclose
 keys_enclose f g uses key valid mono words rows some =
     let pieces = epochs g uses key in
-    let cut : all_rows pieces ≡ rows_of uses key = (epochs_cut_the_rows_lem g uses key).0 in
+    let cut : all_rows pieces ≡ use_rows uses key = (epochs_cut_the_rows_lem g uses key).0 in
     subst (λ z. Encloses (key_bounds f g uses key).low (key_bounds f g uses key).high (Folds.folded f (initial_state f) z)) cut
-    (enclosed f valid mono words pieces (subst (All AreWords) (sym cut) rows) (some_pieces pieces (rows_of uses key) cut some))
+    (enclosed f valid mono words pieces (subst (All AreWords) (sym cut) rows) (some_pieces pieces (use_rows uses key) cut some))
 
 -- the bounds have as many words as there are states
 

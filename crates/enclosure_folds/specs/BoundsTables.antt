@@ -5,10 +5,11 @@ use Rattle.query_lang.specs.declared.typed.Class.TheVariants.{Other}
 use Rattle.epoch_model.specs.declared.tables.Mark.TheVariants.{Exact}
 use Rattle.epoch_model.specs.declared.tables.Row.{Row}
 use Rattle.epoch_model.specs.Keys.{IsAscending}
+use Rattle.query_lang.specs.declared.fault.TheConstants.{MAX_KEYS}
 use Rattle.final_queries.specs.declared.table.Table.{Table}
 use Rattle.final_queries.specs.declared.table.TableKind.TheVariants.{Group}
 use Rattle.final_queries.specs.Finals.{IsTable}
-use Rattle.table_printer.specs.TableText.{line, numbers}
+use Rattle.table_printer.specs.TableText.{table_line, numbers}
 use Rattle.enclosure_folds.specs.declared.table.BoundsTable.{BoundsTable}
 use Rattle.enclosure_folds.specs.declared.table.BoundsRow.{BoundsRow}
 use Rattle.enclosure_folds.specs.Bounds.{is_exact}
@@ -22,7 +23,7 @@ pub record HasBounds (keys states : ℕ) (row : BoundsRow) : Type 0 where
 -- there are 1 to 8 keys, and the rows have a word for each of them and a word in each bound for each state
 pub record IsBoundsTable (t : BoundsTable) : Type 0 where
   pub some_keys : 0 < length t.key_names
-  pub most_keys : length t.key_names ≤ 8
+  pub most_keys : length t.key_names ≤ MAX_KEYS
   pub rows : All (HasBounds (length t.key_names) (length t.state_names)) t.rows
 
 -- whether a row's bounds are equal
@@ -56,7 +57,7 @@ bounds_parts row = numbers row.key ++ (mark_text (row_is_exact row) ∷ decimal 
 
 -- The text of a table of bounds: a line that says what it is, a heading, and a line for each row.
 abbrev pub bounds_text : BoundsTable → List ℕ
-bounds_text t = bounds_title t ++ line (bounds_heading t) ++ flat_map (λ row. line (bounds_parts row)) t.rows
+bounds_text t = bounds_title t ++ table_line (bounds_heading t) ++ flat_map (λ row. table_line (bounds_parts row)) t.rows
 
 -- What finals read.
 

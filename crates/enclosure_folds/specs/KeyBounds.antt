@@ -12,6 +12,7 @@ use Rattle.epoch_model.specs.declared.tables.Row.{Row}
 use Rattle.epoch_model.specs.Keys.{Key, ArgRow, key_eq}
 use Rattle.epoch_model.specs.Epochs.{Use, Geometry, is_use_of, epochs}
 use Rattle.epoch_model.specs.Tables.{Folding, epochs_shown, keys_used, group_epochs}
+use Rattle.query_lang.specs.declared.fault.TheConstants.{MAX_KEYS}
 use Rattle.fold_class.specs.Kinds.{class_of}
 use Rattle.enclosure_folds.specs.Kinds.{is_monotone}
 use Rattle.epoch_entry.specs.Bounds.{bounds_after, IsBoundsKindOf}
@@ -127,17 +128,17 @@ EpochRowsGiveBounds = (heading : Heading) (f : TypedFold) (sizes : Sizes) (foldi
     → table_bounds (group_table heading folding g uses) ≡ bounds_table heading f g uses
 
 -- the argument rows of all uses of a key
-abbrev pub rows_of : List Use → Key → List ArgRow
-rows_of uses key = map (λ u. u.row) (filter (is_use_of key) uses)
+abbrev pub use_rows : List Use → Key → List ArgRow
+use_rows uses key = map (λ u. u.row) (filter (is_use_of key) uses)
 
 -- For each key that has a use, the bounds of a monotone fold enclose the fold over the rows of all uses of the key,
 -- word by word. Where they are equal, both are that fold.
 abbrev pub KeyBoundsEnclose : Type 0
 KeyBoundsEnclose = (f : TypedFold) (g : Geometry) (uses : List Use) (key : Key) → IsValidFold f → is_monotone f ≡ true
-    → AreWords (initial_state f) → All AreWords (rows_of uses key)
-    → 0 < length (rows_of uses key)
-    → Encloses (key_bounds f g uses key).low (key_bounds f g uses key).high (folded f (initial_state f) (rows_of uses key))
+    → AreWords (initial_state f) → All AreWords (use_rows uses key)
+    → 0 < length (use_rows uses key)
+    → Encloses (key_bounds f g uses key).low (key_bounds f g uses key).high (folded f (initial_state f) (use_rows uses key))
 
 -- The table of bounds that a table of three states gives has as many words in its rows as names.
 abbrev pub TriplesGiveWholeTables : Type 0
-TriplesGiveWholeTables = (t : Table) → HasTriples t → 0 < t.keys → t.keys ≤ 8 → IsBoundsTable (table_bounds t)
+TriplesGiveWholeTables = (t : Table) → HasTriples t → 0 < t.keys → t.keys ≤ MAX_KEYS → IsBoundsTable (table_bounds t)

@@ -5,6 +5,7 @@ use Rattle.query_lang.specs.declared.typed.Class.TheVariants as class
 use Rattle.query_lang.specs.Folds.{fold_states, IsValidFold}
 use Rattle.epoch_model.specs.Epochs.{Use, Geometry}
 use Rattle.epoch_model.specs.Tables.{Folding}
+use Rattle.query_lang.specs.declared.fault.TheConstants.{MAX_KEYS}
 use Rattle.fold_class.specs.Kinds.{class_of}
 use Rattle.epoch_entry.specs.declared.purpose.Entries.TheVariants.{Bounds}
 use Rattle.epoch_entry.specs.Kinds.{Sizes}
@@ -29,7 +30,7 @@ shown t = shown_by t.kind t
 pub record HasBoundsRows (t : Table) : Type 0 where
   pub triples : HasTriples t
   pub some_keys : 0 < t.keys
-  pub most_keys : t.keys ≤ 8
+  pub most_keys : t.keys ≤ MAX_KEYS
 
 abbrev pub MayBeShownBy : TableKind → Table → Type 0
 MayBeShownBy (Group class.Other depth epochs) t = HasBoundsRows t
@@ -43,7 +44,7 @@ pub record IsHeadingOf (f : TypedFold) (heading : Heading) : Type 0 where
   pub class : heading.class ≡ class_of f
   pub states : length heading.state_names ≡ fold_states f
   pub some_keys : 0 < length heading.key_names
-  pub most_keys : length heading.key_names ≤ 8
+  pub most_keys : length heading.key_names ≤ MAX_KEYS
 
 -- The table of a groupby's uses by entries for bounds gives what is shown of the groupby by its fold.
 pub record TablesGiveBounds : Type 0 where

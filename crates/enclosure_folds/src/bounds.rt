@@ -12,6 +12,7 @@ use crate::laws::triples_give_whole_tables;
 use crate::table::{BoundsRow, BoundsTable};
 use final_queries::{Mark, RowRef, Rows, Table, TableKind};
 use marple_base::{Seq, Text};
+use query_lang::MAX_KEYS;
 use std::alloc::{AllocError, Global};
 
 #[tactic(auto, unfolding(epoch_model::specs::Keys::key_eq))]
@@ -117,7 +118,7 @@ fn made_bounds(alloc: Global, table: &Table) -> Result<BoundsTable, AllocError>
 pub fn bounds_of(alloc: Global, table: &Table) -> Result<BoundsTable, AllocError>
     requires triples { HasTriples table.now }
     requires some_keys { 0 < table.now.keys }
-    requires most_keys { table.now.keys ≤ 8 }
+    requires most_keys { table.now.keys ≤ MAX_KEYS }
     ensures table { IfOk result (λ bounds. bounds ≡ table_bounds table.now) }
     ensures whole { IfOk result IsBoundsTable }
 {

@@ -5,7 +5,7 @@ ghost use Rattle.query_lang.specs.Folds.{IsValidFold};
 ghost use Rattle.enclosure_folds.specs.Kinds as Kinds;
 
 use fold_class::{Operators, Role, has_no_other};
-use query_lang::{Op, TypedFold};
+use query_lang::{MAX_STATES, Op, TypedFold};
 
 // What the operators make of the order of states.
 #[derive(Clone, Copy)]
@@ -32,5 +32,5 @@ pub fn is_monotone(f: &TypedFold) -> bool
     requires { IsValidFold f.now }
     ensures { result ≡ Kinds.is_monotone f.now }
 {
-    has_no_other(&Order, f, &[false; 8])
+    has_no_other(&Order, f, &[false; MAX_STATES])
 }

@@ -3,7 +3,7 @@
 ghost use Rattle.std.specs.Prelude.{◌≡◌, ◌<◌, ◌≤◌, ◌++◌, ◌∷◌, [], length, flat_map, codes, decimal, IsErrOf, OnErr, OnOk};
 ghost use Rattle.marple_base.specs.Faults.{Rose};
 ghost use Rattle.marple_base.specs.Sink.{TakesFront};
-ghost use Rattle.table_printer.specs.TableText.{continued, joined, line, numbers};
+ghost use Rattle.table_printer.specs.TableText.{cells_continued, cells_joined, table_line, numbers};
 ghost use Rattle.enclosure_folds.specs.BoundsTables.{IsBoundsTable, row_is_exact, mark_text, in_turn, bound_names, bounds_title};
 ghost use Rattle.enclosure_folds.specs.BoundsTables.{bounds_heading, bounds_parts, bounds_text};
 ghost use Rattle.marple_base.specs.Pieces.{TakesAllBut};
@@ -39,7 +39,7 @@ fn push_next_number(text: &mut TextBuffer, n: u64) -> Result<(), AllocError>
 
 // Writes more numbers into a line.
 fn push_next_numbers(text: &mut TextBuffer, words: &[u64]) -> Result<(), AllocError>
-    ensures { OnOk result (text.new ≡ text.old ++ continued (numbers words.now)) }
+    ensures { OnOk result (text.new ≡ text.old ++ cells_continued (numbers words.now)) }
 {
     for word in words {
         push_next_number(text, *word)?;
@@ -49,7 +49,7 @@ fn push_next_numbers(text: &mut TextBuffer, words: &[u64]) -> Result<(), AllocEr
 
 // Writes more names into a line.
 fn push_next_names(text: &mut TextBuffer, names: &[Text]) -> Result<(), AllocError>
-    ensures { OnOk result (text.new ≡ text.old ++ continued names.now) }
+    ensures { OnOk result (text.new ≡ text.old ++ cells_continued names.now) }
 {
     for name in names {
         push_next(text, name.as_slice())?;
@@ -59,7 +59,7 @@ fn push_next_names(text: &mut TextBuffer, names: &[Text]) -> Result<(), AllocErr
 
 // Writes the numbers that begin a line.
 fn push_numbers(text: &mut TextBuffer, words: &[u64]) -> Result<(), AllocError>
-    ensures { OnOk result (text.new ≡ text.old ++ joined (numbers words.now)) }
+    ensures { OnOk result (text.new ≡ text.old ++ cells_joined (numbers words.now)) }
 {
     if let Some((first, rest)) = words.split_first() {
         push_number(text, *first)?;
@@ -70,7 +70,7 @@ fn push_numbers(text: &mut TextBuffer, words: &[u64]) -> Result<(), AllocError>
 
 // Writes the names that begin a line.
 fn push_names(text: &mut TextBuffer, names: &[Text]) -> Result<(), AllocError>
-    ensures { OnOk result (text.new ≡ text.old ++ joined names.now) }
+    ensures { OnOk result (text.new ≡ text.old ++ cells_joined names.now) }
 {
     if let Some((first, rest)) = names.split_first() {
         text.push_slice(first.as_slice())?;
@@ -82,7 +82,7 @@ fn push_names(text: &mut TextBuffer, names: &[Text]) -> Result<(), AllocError>
 // Writes the bounds of each state in turn.
 fn push_bounds(text: &mut TextBuffer, low: &[u64], high: &[u64]) -> Result<(), AllocError>
     requires { length low.now ≡ length high.now }
-    ensures { OnOk result (text.new ≡ text.old ++ continued (numbers (in_turn low.now high.now))) }
+    ensures { OnOk result (text.new ≡ text.old ++ cells_continued (numbers (in_turn low.now high.now))) }
 {
     for i in 0..low.len() {
         push_next_number(text, low[i])?;
@@ -93,7 +93,7 @@ fn push_bounds(text: &mut TextBuffer, low: &[u64], high: &[u64]) -> Result<(), A
 
 // Writes the names of a state's columns.
 fn push_state(text: &mut TextBuffer, name: &[u8]) -> Result<(), AllocError>
-    ensures { OnOk result (text.new ≡ text.old ++ continued (bound_names name.now)) }
+    ensures { OnOk result (text.new ≡ text.old ++ cells_continued (bound_names name.now)) }
 {
     push_next(text, name)?;
     text.push_slice(b".lo")?;
@@ -102,7 +102,7 @@ fn push_state(text: &mut TextBuffer, name: &[u8]) -> Result<(), AllocError>
 }
 
 fn push_states(text: &mut TextBuffer, names: &[Text]) -> Result<(), AllocError>
-    ensures { OnOk result (text.new ≡ text.old ++ continued (flat_map bound_names names.now)) }
+    ensures { OnOk result (text.new ≡ text.old ++ cells_continued (flat_map bound_names names.now)) }
 {
     for name in names {
         push_state(text, name.as_slice())?;
@@ -125,7 +125,7 @@ fn push_title(text: &mut TextBuffer, t: &BoundsTable) -> Result<(), AllocError>
 
 // Writes the names of the two columns that every table of bounds has.
 fn push_own_names(text: &mut TextBuffer) -> Result<(), AllocError>
-    ensures { OnOk result (text.new ≡ text.old ++ continued (codes "mark" ∷ codes "epochs" ∷ [])) }
+    ensures { OnOk result (text.new ≡ text.old ++ cells_continued (codes "mark" ∷ codes "epochs" ∷ [])) }
 {
     push_next(text, b"mark")?;
     push_next(text, b"epochs")
@@ -135,7 +135,7 @@ fn push_own_names(text: &mut TextBuffer) -> Result<(), AllocError>
 fn push_columns(text: &mut TextBuffer, keys: &[Text], states: &[Text]) -> Result<(), AllocError>
     requires { 0 < length keys.now }
     ensures { OnOk result (text.new
-        ≡ text.old ++ joined (keys.now ++ (codes "mark" ∷ codes "epochs" ∷ []) ++ flat_map bound_names states.now)) }
+        ≡ text.old ++ cells_joined (keys.now ++ (codes "mark" ∷ codes "epochs" ∷ []) ++ flat_map bound_names states.now)) }
 {
     push_names(text, keys)?;
     push_own_names(text)?;
@@ -145,7 +145,7 @@ fn push_columns(text: &mut TextBuffer, keys: &[Text], states: &[Text]) -> Result
 
 fn push_heading(text: &mut TextBuffer, t: &BoundsTable) -> Result<(), AllocError>
     requires { 0 < length t.now.key_names }
-    ensures { OnOk result (text.new ≡ text.old ++ line (bounds_heading t.now)) }
+    ensures { OnOk result (text.new ≡ text.old ++ table_line (bounds_heading t.now)) }
 {
     push_columns(text, t.key_names.as_slice(), t.state_names.as_slice())?;
     text.push(b'\n')
@@ -160,7 +160,7 @@ fn mark_word(row: &BoundsRow) -> &'static [u8]
 fn push_row(text: &mut TextBuffer, row: &BoundsRow) -> Result<(), AllocError>
     requires key { 0 < length row.now.key }
     requires bounds { length row.now.low ≡ length row.now.high }
-    ensures { OnOk result (text.new ≡ text.old ++ line (bounds_parts row.now)) }
+    ensures { OnOk result (text.new ≡ text.old ++ table_line (bounds_parts row.now)) }
 {
     push_numbers(text, row.key.as_slice())?;
     push_next(text, mark_word(row))?;
@@ -172,7 +172,7 @@ fn push_row(text: &mut TextBuffer, row: &BoundsRow) -> Result<(), AllocError>
 // Writes the two lines before the rows.
 fn push_head(text: &mut TextBuffer, t: &BoundsTable) -> Result<(), AllocError>
     requires { 0 < length t.now.key_names }
-    ensures { OnOk result (text.new ≡ text.old ++ bounds_title t.now ++ line (bounds_heading t.now)) }
+    ensures { OnOk result (text.new ≡ text.old ++ bounds_title t.now ++ table_line (bounds_heading t.now)) }
 {
     push_title(text, t)?;
     push_heading(text, t)

@@ -8,6 +8,7 @@ use Rattle.query_lang.specs.declared.fold.TypedFold.{TypedFold}
 use Rattle.query_lang.specs.declared.typed.Class.{Class}
 use Rattle.query_lang.specs.declared.typed.Class.TheVariants.{Linear}
 use Rattle.query_lang.specs.Folds.{fold_states, fold_args, initial_state, IsValidFold}
+use Rattle.query_lang.specs.declared.fault.TheConstants.{MAX_ARGS, MAX_KEYS, MAX_STATES}
 use Rattle.coeff_algebra.specs.WrappingModel.{wrapping_from_words}
 use Rattle.coeff_algebra.specs.MaxPlusModel.{max_plus_from_words}
 use Rattle.fold_code.specs.Meaning.{code_step, code_steps}
@@ -148,17 +149,17 @@ writes_maxima p sound linear e = record {
 }
 
 -- an entry with its key has few words
-words_fit : (a : Algebra) (n k args key : ℕ) → n ≤ 8 → k ≤ n → args ≤ 16 → (a ≡ Maxima → k < n) → key ≤ 8 → key
+words_fit : (a : Algebra) (n k args key : ℕ) → n ≤ MAX_STATES → k ≤ n → args ≤ MAX_ARGS → (a ≡ Maxima → k < n) → key ≤ MAX_KEYS → key
     + (element_size a * n * (n + 1) + n + k * args + 2) ≤ 274
 words_fit Sums n k args key hn hk ha few hkey =
-    let le : k ≤ 8 = omega arith in
-    omega (arith, square n 8 hn, mul-le-mul_right args le)
+    let le : k ≤ MAX_STATES = omega arith in
+    omega (arith, square n MAX_STATES hn, mul-le-mul_right args le)
 words_fit Maxima n k args key hn hk ha few hkey =
     let less = few refl in
     let le : k ≤ 7 = omega arith in
-    omega (arith, square n 8 hn, mul-le-mul_right args le)
+    omega (arith, square n MAX_STATES hn, mul-le-mul_right args le)
 
-pub entry_fits : (f : TypedFold) (key : ℕ) → IsValidFold f → key ≤ 8 → key + entry_bound f ≤ 274
+pub entry_fits : (f : TypedFold) (key : ℕ) → IsValidFold f → key ≤ MAX_KEYS → key + entry_bound f ≤ 274
 entry_fits f key valid h =
     let deep : IsDepth f (depth_of f) = depth_found_is f in
     words_fit (algebra_of f) (fold_states f) (depth_of f) (fold_args f) key valid.states

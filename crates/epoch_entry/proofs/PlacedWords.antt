@@ -6,7 +6,7 @@ use Rattle.query_lang.specs.Folds.{body, fold_states, IsValidFold}
 use Rattle.fold_class.specs.declared.class.Algebra.{Algebra}
 use Rattle.fold_class.specs.Depth.{is_history}
 use Rattle.fold_class.specs.Step.{dimension, places, linear_places, history_places, words_at}
-use Rattle.fold_class.specs.Translations.{moved, SameHistory, AreMoved}
+use Rattle.fold_class.specs.Translations.{translated, SameHistory, AreMoved}
 use Rattle.fold_class.proofs.PlaceLemmas.{map_at, length-map, places_less, place_at, placed, rank_size}
 use Rattle.fold_class.proofs.TranslationLaws.{step_history}
 
@@ -56,20 +56,21 @@ module _ (f : TypedFold) where
       (step_history f args xs ys valid hx hy (history_same xs ys e))
 
   pub moved_from : (algebra : Algebra) (base xs ys : List ℕ) → ((i : ℕ) → i < dimension f
-      → linear_words f ys i ≡ moved algebra (linear_words f base i) (linear_words f xs i)) → AreMoved algebra f (slice_index base) xs ys
+      → linear_words f ys i ≡ translated algebra (linear_words f base i) (linear_words f xs i))
+      → AreMoved algebra f (slice_index base) xs ys
   moved_from algebra base xs ys h v lt e =
       let k : linear v ≡ true = ap (λ z. not z) e in
       let i = length (places linear v) in
       sym (at_place linear ys v lt k) ∙ h i (omega (arith, places_less linear v n lt k, rank_size f n))
-      ∙ ap (λ z. moved algebra z (linear_words f xs i)) (at_place linear base v lt k)
-      ∙ ap (moved algebra (slice_index base v)) (at_place linear xs v lt k)
+      ∙ ap (λ z. translated algebra z (linear_words f xs i)) (at_place linear base v lt k)
+      ∙ ap (translated algebra (slice_index base v)) (at_place linear xs v lt k)
 
   pub moved_back : (algebra : Algebra) (base xs ys : List ℕ) → AreMoved algebra f (slice_index base) xs ys → (i : ℕ) → i < dimension f
-      → linear_words f ys i ≡ moved algebra (linear_words f base i) (linear_words f xs i)
+      → linear_words f ys i ≡ translated algebra (linear_words f base i) (linear_words f xs i)
   moved_back algebra base xs ys h i lt =
       let less : i < length (linear_places f) = omega (arith, lt, rank_size f n) in
       let r = placed linear n i less in
       let v = slice_index (linear_places f) i in
       map_at (slice_index ys) (linear_places f) i less ∙ h v r.0 (not_true (is_history f v) r.1)
-      ∙ ap (λ z. moved algebra z (slice_index xs v)) (sym (map_at (slice_index base) (linear_places f) i less))
-      ∙ ap (moved algebra (linear_words f base i)) (sym (map_at (slice_index xs) (linear_places f) i less))
+      ∙ ap (λ z. translated algebra z (slice_index xs v)) (sym (map_at (slice_index base) (linear_places f) i less))
+      ∙ ap (translated algebra (linear_words f base i)) (sym (map_at (slice_index xs) (linear_places f) i less))

@@ -6,6 +6,7 @@ use Rattle.query_lang.specs.declared.typed.Class.{Class}
 use Rattle.query_lang.specs.declared.typed.Class.TheVariants.{Linear, Other}
 use Rattle.query_lang.specs.Folds.{fold_states, IsValidFold}
 use Rattle.epoch_model.specs.Tables.{Folding}
+use Rattle.query_lang.specs.declared.fault.TheConstants.{MAX_KEYS}
 use Rattle.fold_class.specs.declared.program.FoldProgram.{FoldProgram}
 use Rattle.fold_class.specs.Kinds.{class_of}
 use Rattle.fold_class.specs.Program.{IsProgramOf}
@@ -62,18 +63,18 @@ module _ (f : TypedFold) (sizes : Sizes) (folding : Folding) (opening absorbing 
   kind_suits Folds h = own_suits h
   kind_suits Bounds h = bounding_suits (class_of f) refl h
 
-  own_fits : (key : ℕ) → IsValidFold f → key ≤ 8 → IsKindOf f sizes folding opening absorbing → key + sizes.entry ≤ 274
+  own_fits : (key : ℕ) → IsValidFold f → key ≤ MAX_KEYS → IsKindOf f sizes folding opening absorbing → key + sizes.entry ≤ 274
   own_fits key valid few h = omega (arith, h.entry, entry_fits f key valid few)
 
-  bounds_fit : (key : ℕ) → IsValidFold f → key ≤ 8 → IsBoundsKindOf f sizes folding opening absorbing → key + sizes.entry ≤ 274
+  bounds_fit : (key : ℕ) → IsValidFold f → key ≤ MAX_KEYS → IsBoundsKindOf f sizes folding opening absorbing → key + sizes.entry ≤ 274
   bounds_fit key valid few h = omega (arith, h.entry, valid.states)
 
-  bounding_fits : (key : ℕ) → IsValidFold f → key ≤ 8 → (c : Class) → IsBoundingKind c f sizes folding opening absorbing → key
+  bounding_fits : (key : ℕ) → IsValidFold f → key ≤ MAX_KEYS → (c : Class) → IsBoundingKind c f sizes folding opening absorbing → key
       + sizes.entry ≤ 274
   bounding_fits key valid few Linear h = own_fits key valid few h
   bounding_fits key valid few Other h = bounds_fit key valid few h
 
-  pub kind_fits : (entries : Entries) (key : ℕ) → IsValidFold f → IsKindFor entries f sizes folding opening absorbing → key ≤ 8 → key
+  pub kind_fits : (entries : Entries) (key : ℕ) → IsValidFold f → IsKindFor entries f sizes folding opening absorbing → key ≤ MAX_KEYS → key
       + sizes.entry ≤ 274
   kind_fits Folds key valid h few = own_fits key valid few h
   kind_fits Bounds key valid h few = bounding_fits key valid few (class_of f) h

@@ -5,6 +5,7 @@ use Rattle.query_lang.specs.declared.typed.Class.{Class}
 use Rattle.query_lang.specs.declared.typed.Class.TheVariants.{Linear, Other}
 use Rattle.query_lang.specs.Folds.{IsValidFold, fold_args}
 use Rattle.epoch_model.specs.Tables.{Folding}
+use Rattle.query_lang.specs.declared.fault.TheConstants.{MAX_KEYS}
 use Rattle.fold_class.specs.Kinds.{class_of}
 use Rattle.epoch_entry.specs.declared.purpose.Entries.{Entries}
 use Rattle.epoch_entry.specs.declared.purpose.Entries.TheVariants.{Folds, Bounds}
@@ -43,4 +44,4 @@ EntriesSuitFolds = (entries : Entries) (f : TypedFold) (sizes : Sizes) (folding 
 -- an entry with its key of at most 8 words has at most 274 words
 abbrev pub EntriesAreSmall : Type 0
 EntriesAreSmall = (entries : Entries) (f : TypedFold) (sizes : Sizes) (folding : Folding) (opening absorbing key : ℕ)
-    → IsValidFold f → IsKindFor entries f sizes folding opening absorbing → key ≤ 8 → key + sizes.entry ≤ 274
+    → IsValidFold f → IsKindFor entries f sizes folding opening absorbing → key ≤ MAX_KEYS → key + sizes.entry ≤ 274

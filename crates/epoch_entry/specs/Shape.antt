@@ -1,5 +1,6 @@
 -- What the parts of a program have in common, whatever its fold is.
 use Rattle.std.specs.Prelude.{◌≡◌, ◌≢◌, ℕ, ◌+◌, ◌<◌, ◌≤◌, true, List, length, slice_index, All}
+use Rattle.query_lang.specs.declared.fault.TheConstants.{MAX_ARGS, MAX_STATES}
 use Rattle.fold_class.specs.declared.program.FoldProgram.{FoldProgram}
 
 -- each place comes after those before it
@@ -13,9 +14,9 @@ pub record IsShaped (p : FoldProgram) : Type 0 where
   pub rows_linear : p.rows.linear ≡ p.layout.linear
   pub rows_history : p.rows.history ≡ p.layout.history
   pub sorts : length p.layout.linear + length p.layout.history ≡ length p.layout.initial
-  pub states : length p.layout.initial ≤ 8
-  pub args : p.layout.args ≤ 16
-  pub depth : p.depth ≤ 8
+  pub states : length p.layout.initial ≤ MAX_STATES
+  pub args : p.layout.args ≤ MAX_ARGS
+  pub depth : p.depth ≤ MAX_STATES
   pub linear_inside : All (λ v. v < length p.layout.initial) p.layout.linear
   pub history_inside : All (λ v. v < length p.layout.initial) p.layout.history
   pub linear_ascends : IsAscending p.layout.linear

@@ -7,6 +7,7 @@ ghost use Rattle.epoch_entry.specs.Shape.{IsAscending};
 use crate::words::tick_words;
 use coeff_algebra::{Coeff, load_at, store_at};
 use marple_base::Steps;
+use query_lang::MAX_STATES;
 use std::sync::ledger::Ledger;
 
 // Writes the words of the column to the linear variables of a state. The other variables stay.
@@ -17,7 +18,7 @@ pub(crate) fn column_to_state<C: Coeff, L: Ledger>(
     steps: &mut Steps<L>,
 )
     requires map { length map.now ≡ length linear.now * (length linear.now + 1) * C.WORDS }
-    requires few { length linear.now ≤ 8 }
+    requires few { length linear.now ≤ MAX_STATES }
     requires inside { All (λ v. v < length state.old) linear.now }
     requires ascending { IsAscending linear.now }
     ensures written { (i : ℕ) → i < length linear.now → slice_index state.new (slice_index linear.now i)
@@ -42,7 +43,7 @@ pub(crate) fn state_to_column<C: Coeff, L: Ledger>(
     steps: &mut Steps<L>,
 )
     requires map { length map.old ≡ length linear.now * (length linear.now + 1) * C.WORDS }
-    requires few { length linear.now ≤ 8 }
+    requires few { length linear.now ≤ MAX_STATES }
     requires inside { All (λ v. v < length state.now) linear.now }
     ensures written { (i : ℕ) → i < length linear.now → stored_entry C.WORDS (length linear.now) map.new i (length linear.now)
         ≡ C.words (C.elements.embed (slice_index state.now (slice_index linear.now i))) }

@@ -7,11 +7,12 @@ ghost use Rattle.epoch_entry.specs.Identity.{unit_at};
 use crate::words::tick_words;
 use coeff_algebra::{Coeff, store_at};
 use marple_base::Steps;
+use query_lang::MAX_STATES;
 use std::sync::ledger::Ledger;
 
 // One row of it.
 fn identity_row<C: Coeff, L: Ledger>(n: usize, row: usize, map: &mut [u64], steps: &mut Steps<L>)
-    requires size { n ≤ 8 }
+    requires size { n ≤ MAX_STATES }
     requires map { length map.old ≡ n * (n + 1) * C.WORDS }
     requires row { row < n }
     ensures entries { (j : ℕ) → j ≤ n → stored_entry C.WORDS n map.new row j ≡ C.words (unit_at C.elements row j) }
@@ -27,7 +28,7 @@ fn identity_row<C: Coeff, L: Ledger>(n: usize, row: usize, map: &mut [u64], step
 
 // `map` becomes the map of dimension n that takes each variable to itself.
 pub(crate) fn identity_into<C: Coeff, L: Ledger>(n: usize, map: &mut [u64], steps: &mut Steps<L>)
-    requires size { n ≤ 8 }
+    requires size { n ≤ MAX_STATES }
     requires map { length map.old ≡ n * (n + 1) * C.WORDS }
     ensures entries { (i j : ℕ) → i < n → j ≤ n → table_of C.from_words C.WORDS n map.new i j ≡ unit_at C.elements i j }
     ensures steps { steps.new ≡ steps.old + n * (n + 1) * C.WORDS }

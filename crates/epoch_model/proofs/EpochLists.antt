@@ -7,7 +7,8 @@ use Rattle.std.proofs.lemmas.List.{map-append}
 use Rattle.std.proofs.lemmas.List.Elements.{filter-append}
 use Rattle.epoch_model.specs.Keys.{Key, ArgRow, key_eq, others, has}
 use Rattle.epoch_model.specs.Epochs.{onto_last}
-use Rattle.epoch_model.specs.Machine.{Epoch, is_of, is_open, rows_of, without, with_row, with_new, all_but_last, last_alone, lists_of}
+use Rattle.epoch_model.specs.Machine.{Epoch, is_of, is_open, rows_in_epochs, without, with_row, with_new, all_but_last, last_alone}
+use Rattle.epoch_model.specs.Machine.{lists_of}
 use Rattle.epoch_model.proofs.KeyLists.{by_test, key_eq-true, key_eq-refl, key_eq-along, before, has-take, IsDistinct, absent_head}
 
 -- the keys of these epochs
@@ -48,7 +49,7 @@ lists_of-without_other k j (e ∷ es) h = by_test (key_eq e.key k)
 
 -- of distinct keys one has one list
 pub lists_of-open : (k : Key) (epochs : List Epoch) → IsDistinct (keys_of epochs) → has k (keys_of epochs) ≡ true
-    → lists_of k epochs ≡ rows_of k epochs ∷ []
+    → lists_of k epochs ≡ rows_in_epochs k epochs ∷ []
 lists_of-open k [] d h = absurd (false≢true h)
 lists_of-open k (e ∷ es) d h = by_test (key_eq e.key k)
     (λ i. rw i (ap (λ ls. e.rows ∷ ls) (lists_of-absent k es (subst (λ j. has j (keys_of es) ≡ false) (key_eq-true e.key k i) d.0))))
@@ -90,7 +91,7 @@ distinct-take zero xs d = tt
 distinct-take (suc n) [] d = tt
 distinct-take (suc n) (x ∷ xs) d = (has-front n x xs d.0, distinct-take n xs d.1)
 
-pub rows_of-absent : (k : Key) (epochs : List Epoch) → has k (keys_of epochs) ≡ false → rows_of k epochs ≡ []
+pub rows_of-absent : (k : Key) (epochs : List Epoch) → has k (keys_of epochs) ≡ false → rows_in_epochs k epochs ≡ []
 rows_of-absent k [] h = refl
 rows_of-absent k (e ∷ es) h = let a = absent_head k e.key (keys_of es) h in rw a.0 (rows_of-absent k es a.1)
 
@@ -101,8 +102,9 @@ onto_last-append row (x ∷ []) rows = refl
 onto_last-append row (x ∷ y ∷ xs) rows = ap (λ ls. x ∷ ls) (onto_last-append row (y ∷ xs) rows)
 
 pub lists_of-with_row_same : (k : Key) (row : ArgRow) (epochs : List Epoch)
-    → lists_of k (with_row k row epochs) ≡ (rows_of k epochs ++ row ∷ []) ∷ []
-lists_of-with_row_same k row epochs = rw (key_eq-refl k) (ap (λ ls. (rows_of k epochs ++ row ∷ []) ∷ ls) (lists_of-without_same k epochs))
+    → lists_of k (with_row k row epochs) ≡ (rows_in_epochs k epochs ++ row ∷ []) ∷ []
+lists_of-with_row_same k row epochs = rw (key_eq-refl k) (ap (λ ls. (rows_in_epochs k epochs ++ row ∷ []) ∷ ls)
+    (lists_of-without_same k epochs))
 
 pub lists_of-with_row_other : (k j : Key) (row : ArgRow) (epochs : List Epoch) → key_eq k j ≡ false
     → lists_of j (with_row k row epochs) ≡ lists_of j epochs

@@ -7,7 +7,7 @@ use Rattle.std.proofs.lemmas.List.{length-map}
 use Rattle.epoch_model.specs.Keys.{Key, ArgRow, key_eq, bucket_of, others, has}
 use Rattle.epoch_model.specs.Epochs.{Geometry, onto_last}
 use Rattle.epoch_model.specs.Machine.{Epoch, Machine, open_in, is_open, with_row, with_new, all_but_last, set_open, evict, packet, lists_of}
-use Rattle.epoch_model.specs.Machine.{row_lists, rows_of, without}
+use Rattle.epoch_model.specs.Machine.{row_lists, rows_in_epochs, without}
 use Rattle.epoch_model.proofs.KeyLists.{by_test, key_eq-true, IsDistinct, has-others_same, has-others_false, others-distinct, front_known}
 use Rattle.epoch_model.proofs.KeyLists.{front_new}
 use Rattle.epoch_model.proofs.EpochLists.{keys_of, is_open-has, keys_of-without, lists_of-absent, lists_of-open, has-front}
@@ -118,7 +118,7 @@ packet-lists_other g m k j row t h n = packet_cases g m k row (λ x. row_lists g
 
 -- the row lists of an open key end in its open rows
 pub row_lists-open : (g : Geometry) (m : Machine) (k : Key) → IsTidy g m → is_open k (open_in m (own g k)) ≡ true
-    → row_lists g m k ≡ lists_of k m.closed ++ rows_of k (open_in m (own g k)) ∷ []
+    → row_lists g m k ≡ lists_of k m.closed ++ rows_in_epochs k (open_in m (own g k)) ∷ []
 unfolding row_lists
 row_lists-open g m k t e = ap (λ ls. lists_of k m.closed ++ ls) (lists_of-open k (open_in m (own g k)) (t.distinct (own g k))
     (sym (is_open-has k (open_in m (own g k))) ∙ e))
@@ -131,7 +131,7 @@ packet-lists_open g m k row t h e =
     ap (λ x. row_lists g x k) (packet_open g m k row e)
     ∙ (row_lists-set_own g m k (with_row k row epochs) (in_own g m k t h)
     ∙ (ap (λ ls. lists_of k m.closed ++ ls) (lists_of-with_row_same k row epochs)
-    ∙ (sym (onto_last-append row (lists_of k m.closed) (rows_of k epochs))
+    ∙ (sym (onto_last-append row (lists_of k m.closed) (rows_in_epochs k epochs))
     ∙ ap (onto_last row) (sym (row_lists-open g m k t e)))))
 
 with_new-lists_same : (g : Geometry) (m : Machine) (k : Key) (row : ArgRow) → IsTidy g m → 0 < g.buckets

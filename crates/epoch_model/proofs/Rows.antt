@@ -4,7 +4,7 @@ use Rattle.std.proofs.lemmas.List.Concat.{flat_map-append}
 use Rattle.epoch_model.specs.Keys.{Key, ArgRow, key_eq}
 use Rattle.epoch_model.specs.Epochs.{Geometry, onto_last}
 use Rattle.epoch_model.specs.Machine.{Machine, Event, Packet, Evict, Merge, empty_machine, open_in, is_open, evict, packet, merge, run}
-use Rattle.epoch_model.specs.Machine.{lists_of, row_lists, rows_of}
+use Rattle.epoch_model.specs.Machine.{lists_of, row_lists, rows_in_epochs}
 use Rattle.epoch_model.specs.Laws.{HasRoom, rows_given, NoRowIsLost}
 use Rattle.epoch_model.proofs.KeyLists.{by_test, key_eq-true}
 use Rattle.epoch_model.proofs.EpochLists.{onto_last-append}
@@ -32,7 +32,7 @@ packet-joined : (g : Geometry) (m : Machine) (k : Key) (row : ArgRow) → HasRoo
 packet-joined g m k row room t = by_test (is_open k (open_in m (own g k)))
     (λ h. let e = row_lists-open g m k t h in
     ap joined (packet-lists_open g m k row t room.0 h ∙ ap (onto_last row) e)
-    ∙ (joined-onto_last row (lists_of k m.closed) (rows_of k (open_in m (own g k))) ∙ ap (λ ls. joined ls ++ row ∷ []) (sym e)))
+    ∙ (joined-onto_last row (lists_of k m.closed) (rows_in_epochs k (open_in m (own g k))) ∙ ap (λ ls. joined ls ++ row ∷ []) (sym e)))
     (λ h. ap joined (packet-lists_new g m k row t room.0 h) ∙ joined-append (row_lists g m k) ((row ∷ []) ∷ []))
 
 rows_kept : (g : Geometry) (events : List Event) (m : Machine) (k : Key) → HasRoom g → IsTidy g m

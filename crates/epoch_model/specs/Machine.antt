@@ -34,16 +34,16 @@ abbrev pub is_open : Key → List Epoch → Bool
 is_open key epochs = list_any (is_of key) epochs
 
 -- the rows of the key's epoch, if it has one
-abbrev pub rows_of : Key → List Epoch → List ArgRow
-rows_of key [] = []
-rows_of key (epoch ∷ epochs) = if is_of key epoch then epoch.rows else rows_of key epochs
+abbrev pub rows_in_epochs : Key → List Epoch → List ArgRow
+rows_in_epochs key [] = []
+rows_in_epochs key (epoch ∷ epochs) = if is_of key epoch then epoch.rows else rows_in_epochs key epochs
 
 abbrev pub without : Key → List Epoch → List Epoch
 without key epochs = filter (λ epoch. not (is_of key epoch)) epochs
 
 -- the key's epoch at the front, with one more row
 abbrev pub with_row : Key → ArgRow → List Epoch → List Epoch
-with_row key row epochs = record { key = key; rows = rows_of key epochs ++ row ∷ [] } ∷ without key epochs
+with_row key row epochs = record { key = key; rows = rows_in_epochs key epochs ++ row ∷ [] } ∷ without key epochs
 
 -- an epoch of this row alone at the front
 abbrev pub with_new : Key → ArgRow → List Epoch → List Epoch

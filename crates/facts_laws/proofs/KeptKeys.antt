@@ -11,8 +11,9 @@ use Rattle.net_laws.specs.Fields.{makes_field, names_field}
 use Rattle.part_laws.specs.AcceptedParts.{AcceptedFieldsKeepKeys}
 use Rattle.part_laws.specs.Parts.{HasFieldKey, groupbys}
 use Rattle.query_facts.specs.Needs as needs
-use Rattle.query_facts.specs.Needs.{is_in, needed_from, needed_groupbys, needed_tables}
-use Rattle.query_facts.specs.Parts.{all_have, by_or, first_blocked, first_needed, first_not_additive, has_field, keeps, names_it, parts_of}
+use Rattle.query_facts.specs.Needs.{is_one_of, needed_from, needed_groupbys, needed_tables}
+use Rattle.query_facts.specs.Parts.{all_have, by_or, first_blocked, first_needed, first_not_additive, place_has_field, keeps, names_it}
+use Rattle.query_facts.specs.Parts.{parts_of}
 use Rattle.query_facts.specs.Parts.{shared_fields, sums_by, unless_blocked}
 use Rattle.query_facts.specs.declared.parts.Parts.{Parts}
 use Rattle.query_facts.specs.declared.parts.Parts.TheVariants.{By}
@@ -89,13 +90,13 @@ module _ (q : TypedQuery) (field : Field) (numbers : List ℕ) where
       let same : place + 1 + j ≡ place + suc j = omega arith in
       ap (slice_get q.streams) same ∙ are (suc j)
 
-  next : (group k : ℕ) → is_in numbers (group + suc k) ≡ true → is_in numbers (group + 1 + k) ≡ true
+  next : (group k : ℕ) → is_one_of numbers (group + suc k) ≡ true → is_one_of numbers (group + 1 + k) ≡ true
   next group k needed =
       let same : group + suc k ≡ group + 1 + k = omega arith in
-      subst (λ n. is_in numbers n ≡ true) same needed
+      subst (λ n. is_one_of numbers n ≡ true) same needed
 
   first_has : (place : ℕ) (one : TypedStream) (streams : List TypedStream) → AreFrom place (one ∷ streams)
-      → has_field q field place ≡ true → names_field field q.names one.columns ≡ true
+      → place_has_field q field place ≡ true → names_field field q.names one.columns ≡ true
   first_has place one streams are has =
       let same : place ≡ place + 0 = omega arith in
       let there : slice_get q.streams place ≡ Some one = ap (slice_get q.streams) same ∙ are 0 in
@@ -104,28 +105,28 @@ module _ (q : TypedQuery) (field : Field) (numbers : List ℕ) where
   -- what is known of further streams
   abbrev More : List TypedStream → Type 0
   More streams = (place group k : ℕ) → AreFrom place streams
-      → list_all (has_field q field) (needed_from numbers place group streams) ≡ true → k < length (grouped streams)
-      → is_in numbers (group + k) ≡ true → Keyed streams k
+      → list_all (place_has_field q field) (needed_from numbers place group streams) ≡ true → k < length (grouped streams)
+      → is_one_of numbers (group + k) ≡ true → Keyed streams k
 
   -- the same with a stream before them, which is a groupby or isn't, and of which the number is needed or isn't
   step : (one : TypedStream) (streams : List TypedStream) (place group k : ℕ) → AreFrom place (one ∷ streams) → More streams
-      → (groups asked : Bool) → is_in numbers group ≡ asked
-      → list_all (has_field q field) (cond groups (cond asked (place ∷ needed_from numbers (place + 1) (group + 1) streams)
+      → (groups asked : Bool) → is_one_of numbers group ≡ asked
+      → list_all (place_has_field q field) (cond groups (cond asked (place ∷ needed_from numbers (place + 1) (group + 1) streams)
       (needed_from numbers (place + 1) (group + 1) streams)) (needed_from numbers (place + 1) group streams)) ≡ true
-      → k < length (cond groups (one ∷ grouped streams) (grouped streams)) → is_in numbers (group + k) ≡ true
+      → k < length (cond groups (one ∷ grouped streams) (grouped streams)) → is_one_of numbers (group + k) ≡ true
       → (found : TypedStream) × (slice_get (cond groups (one ∷ grouped streams) (grouped streams)) k ≡ Some found)
       × (names_field field q.names found.columns ≡ true)
   step one streams place group zero are more true true is all within needed =
-      let both = and_parts (has_field q field place)
-      (list_all (has_field q field) (needed_from numbers (place + 1) (group + 1) streams)) all in
+      let both = and_parts (place_has_field q field place)
+      (list_all (place_has_field q field) (needed_from numbers (place + 1) (group + 1) streams)) all in
       (one, refl, first_has place one streams are both.0)
   step one streams place group (suc k) are more true true is all within needed =
-      let both = and_parts (has_field q field place)
-      (list_all (has_field q field) (needed_from numbers (place + 1) (group + 1) streams)) all in
+      let both = and_parts (place_has_field q field place)
+      (list_all (place_has_field q field) (needed_from numbers (place + 1) (group + 1) streams)) all in
       more (place + 1) (group + 1) k (later place one streams are) both.1 (omega arith) (next group k needed)
   step one streams place group zero are more true false is all within needed =
       let same : group + 0 ≡ group = omega arith in
-      let asked : is_in numbers group ≡ true = subst (λ n. is_in numbers n ≡ true) same needed in
+      let asked : is_one_of numbers group ≡ true = subst (λ n. is_one_of numbers n ≡ true) same needed in
       absurd (cc (is, asked))
   step one streams place group (suc k) are more true false is all within needed =
       more (place + 1) (group + 1) k (later place one streams are) all (omega arith) (next group k needed)
@@ -145,7 +146,7 @@ module _ (q : TypedQuery) (field : Field) (numbers : List ℕ) where
       subst (λ groups. k < length (cond groups (one ∷ grouped streams) (grouped streams))
       → (found : TypedStream) × (slice_get (cond groups (one ∷ grouped streams) (grouped streams)) k ≡ Some found)
       × (names_field field q.names found.columns ≡ true)) (sym (groups_same one.op))
-      (λ less. step one streams place group k are (keyed streams) (needs.is_groupby one.op) (is_in numbers group) refl all less needed)
+      (λ less. step one streams place group k are (keyed streams) (needs.is_groupby one.op) (is_one_of numbers group) refl all less needed)
       within
 
 -- ---- the law
@@ -153,11 +154,11 @@ module _ (q : TypedQuery) (field : Field) (numbers : List ℕ) where
 from_zero : (j : ℕ) → 0 + j ≡ j
 from_zero j = omega arith
 
-has_key : (q : TypedQuery) (i : ℕ) (field : Field) → i < length (groupbys q) → is_in (needed_tables q) i ≡ true
+has_key : (q : TypedQuery) (i : ℕ) (field : Field) → i < length (groupbys q) → is_one_of (needed_tables q) i ≡ true
     → keeps q (places q) field ≡ true → HasFieldKey q i field
 has_key q i field within needed keep =
     let both = and_parts (not (makes_field field q.names q.streams)) (all_have q (places q) field) keep in
-    let asked : is_in (needed_tables q) (0 + i) ≡ true = subst (λ n. is_in (needed_tables q) n ≡ true) (sym (from_zero i)) needed in
+    let asked : is_one_of (needed_tables q) (0 + i) ≡ true = subst (λ n. is_one_of (needed_tables q) n ≡ true) (sym (from_zero i)) needed in
     let found = keyed q field (needed_tables q) q.streams 0 0 i (λ j. ap (slice_get q.streams) (from_zero j)) both.1 within asked in
     record { one = found.0; groupby = found.1; key = found.2; unmade = not_false (makes_field field q.names q.streams) both.0 }
   where
@@ -165,7 +166,7 @@ has_key q i field within needed keep =
     not_false true e = absurd (cc e)
     not_false false e = refl
 
-have_keys : (q : TypedQuery) (i : ℕ) (fields : List Field) → i < length (groupbys q) → is_in (needed_tables q) i ≡ true
+have_keys : (q : TypedQuery) (i : ℕ) (fields : List Field) → i < length (groupbys q) → is_one_of (needed_tables q) i ≡ true
     → All (λ field. keeps q (places q) field ≡ true) fields → All (HasFieldKey q i) fields
 have_keys q i fields within needed all = All-weaker _ _ (λ field keep. has_key q i field within needed keep) fields all
 

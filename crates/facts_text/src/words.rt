@@ -2,7 +2,10 @@
 
 use fold_class::Algebra;
 use query_facts::Unsplit;
-use query_lang::{Class, FaultKind, Limit, Op};
+use query_lang::{
+    Class, FaultKind, Limit, MAX_ARGS, MAX_BINDINGS, MAX_GROUPBYS, MAX_KEYS, MAX_NESTING,
+    MAX_NODES, MAX_QUERY, MAX_STAGES, MAX_STATEMENTS, MAX_STATES, Op,
+};
 use query_places::{Form, Place};
 
 pub(crate) fn fault_word(kind: FaultKind) -> &'static str {
@@ -51,22 +54,22 @@ pub(crate) fn limit_of(kind: FaultKind) -> Option<&'static str> {
 // How many there may be.
 fn allowed(limit: Limit) -> u32 {
     match limit {
-        Limit::Groupbys => 8,
-        Limit::Keys => 8,
-        Limit::States => 8,
-        Limit::Args => 16,
-        Limit::Statements => 64,
-        Limit::Nodes => 512,
-        Limit::Bindings => 32,
-        Limit::Nesting => 64,
-        Limit::Stages => 64,
+        Limit::Groupbys => MAX_GROUPBYS as u32,
+        Limit::Keys => MAX_KEYS as u32,
+        Limit::States => MAX_STATES as u32,
+        Limit::Args => MAX_ARGS as u32,
+        Limit::Statements => MAX_STATEMENTS,
+        Limit::Nodes => MAX_NODES,
+        Limit::Bindings => MAX_BINDINGS as u32,
+        Limit::Nesting => MAX_NESTING,
+        Limit::Stages => MAX_STAGES,
     }
 }
 
 /// The most that the limit of a fault allows.
 pub(crate) fn most_of(kind: FaultKind) -> Option<u32> {
     match kind {
-        FaultKind::QueryTooLong => Some(65_536),
+        FaultKind::QueryTooLong => Some(MAX_QUERY as u32),
         FaultKind::OverLimit(limit) => Some(allowed(limit)),
         _ => None,
     }

@@ -7,7 +7,7 @@ use Rattle.query_lang.specs.declared.fold.TypedFold.{TypedFold}
 use Rattle.query_lang.specs.Words.{IsWord, AreWords}
 use Rattle.query_lang.specs.Folds.{body, fold_states, fold_args, fold_block, IsValidFold}
 use Rattle.fold_code.specs.Code.{fold_instrs}
-use Rattle.fold_code.specs.Machine.{at, run}
+use Rattle.fold_code.specs.Machine.{at, run_code}
 use Rattle.fold_code.proofs.Runs.{code_runs}
 use Rattle.coeff_algebra.specs.Elements.{Elements, ElementLaws, IsWordOf}
 use Rattle.coeff_algebra.specs.Maps.{sum_below, map_apply, table_of, stored_entry, HasWord}
@@ -121,10 +121,11 @@ module _ {C : Type 0} {is_element : C → Type 0} {k : Elements C} (laws : Eleme
   column_is c =
       let args' = map (λ w. Fixed w) args in
       let dom = parts (column_shares k d c) algebra in
-      ap (λ z. run (parts (column_shares k z c) rows.algebra) rows.code.instrs args' (map (first_part k c history) rows.origins) []) dim
-      ∙ ap (λ z. run (parts (column_shares k d c) z) rows.code.instrs args' (map (first_part k c history) rows.origins) []) ea
-      ∙ ap (λ z. run dom z args' (map (first_part k c history) rows.origins) []) ei
-      ∙ ap (λ z. run dom (fold_instrs f) args' z []) (start_is c)
+      ap (λ z. run_code (parts (column_shares k z c) rows.algebra) rows.code.instrs args' (map (first_part k c history) rows.origins) [])
+      dim
+      ∙ ap (λ z. run_code (parts (column_shares k d c) z) rows.code.instrs args' (map (first_part k c history) rows.origins) []) ea
+      ∙ ap (λ z. run_code dom z args' (map (first_part k c history) rows.origins) []) ei
+      ∙ ap (λ z. run_code dom (fold_instrs f) args' z []) (start_is c)
       ∙ code_runs dom args' n (fold_block f) (list_of n (first_column k algebra f c state))
       (length-list_of n (first_column k algebra f c state))
 

@@ -1,7 +1,8 @@
 -- The rows of one step of a fold, as code computes them: one run for each column, over the parts of the variables.
 use Rattle.std.specs.Prelude.{◌≡◌, ℕ, ◌+◌, ◌*◌, ◌<◌, ◌≤◌, ◌==◌, if◌then◌else◌, List, [], map, length}
 use Rattle.std.specs.Prelude.{slice_index, All}
-use Rattle.fold_code.specs.Machine.{run, at, steps_of}
+use Rattle.query_lang.specs.declared.fault.TheConstants.{MAX_STATES}
+use Rattle.fold_code.specs.Machine.{run_code, at, steps_of}
 use Rattle.fold_code.specs.Meaning.{Code}
 use Rattle.coeff_algebra.specs.Elements.{Elements}
 use Rattle.coeff_algebra.specs.Maps.{stored_entry}
@@ -59,7 +60,7 @@ module _ {C : Type 0} (k : Elements C) where
   -- the parts of the variables at the end of a column
   abbrev pub column_after : Rows → ℕ → List ℕ → List ℕ → List (Part C)
   column_after rows column history args =
-      run (parts (column_shares k (rows_dimension rows) column) rows.algebra) rows.code.instrs (map (λ w. Fixed w) args)
+      run_code (parts (column_shares k (rows_dimension rows) column) rows.algebra) rows.code.instrs (map (λ w. Fixed w) args)
       (map (first_part column history) rows.origins) []
 
   -- the element of the map in this row and column
@@ -103,5 +104,5 @@ pub record AreSoundRows (rows : Rows) : Type 0 where
   pub within : All (IsWithin (length rows.history)) rows.origins
   pub linear : All (λ v. v < rows.code.states) rows.linear
   pub history : All (λ v. v < rows.code.states) rows.history
-  pub few : length rows.linear ≤ 8
+  pub few : length rows.linear ≤ MAX_STATES
   pub short : rows_scratch rows ≤ 65536

@@ -14,9 +14,9 @@ use Rattle.fold_class.specs.Depth.{is_history}
 use Rattle.fold_class.specs.Kinds.{algebra_of}
 
 -- a word moved by another: their sum modulo 2^64, or the greater
-abbrev pub moved : Algebra → ℕ → ℕ → ℕ
-moved Sums x b = (x + b) % 2 ^ 64
-moved Maxima x b = max x b
+abbrev pub translated : Algebra → ℕ → ℕ → ℕ
+translated Sums x b = (x + b) % 2 ^ 64
+translated Maxima x b = max x b
 
 -- an operator that moves its left operand by its right one, and one that moves its right operand by its left one
 abbrev pub moves_left : Algebra → Op → Bool
@@ -68,10 +68,10 @@ SameHistory f xs ys = (v : ℕ) → v < fold_states f → is_history f v ≡ tru
 -- each linear variable of the second state is a word of a table, moved by that variable of the first state
 abbrev pub AreMoved : Algebra → TypedFold → (ℕ → ℕ) → List ℕ → List ℕ → Type 0
 AreMoved algebra f table xs ys =
-    (v : ℕ) → v < fold_states f → is_history f v ≡ false → slice_index ys v ≡ moved algebra (table v) (slice_index xs v)
+    (v : ℕ) → v < fold_states f → is_history f v ≡ false → slice_index ys v ≡ translated algebra (table v) (slice_index xs v)
 
 -- two states of a translation with the same history
-pub record AreAlike (algebra : Algebra) (f : TypedFold) (xs ys : List ℕ) : Type 0 where
+pub record AreAlikeStates (algebra : Algebra) (f : TypedFold) (xs ys : List ℕ) : Type 0 where
   pub valid : IsValidFold f
   pub translates : is_translation_by algebra f ≡ true
   pub first_long : length xs ≡ fold_states f

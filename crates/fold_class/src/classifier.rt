@@ -17,13 +17,13 @@ use crate::rows::AffineRows;
 use crate::translation::is_translation;
 use fold_code::{FoldCode, compile};
 use marple_base::Seq;
-use query_lang::{Class, TypedFold};
+use query_lang::{Class, MAX_STATES, TypedFold};
 use std::alloc::{AllocError, Global};
 
 // Whether a fold is linear by the sums and products of an algebra.
 fn is_linear(f: &TypedFold, algebra: Algebra, history: &[bool]) -> bool
     requires valid { IsValidFold f.now }
-    requires size { length history.now ≡ 8 }
+    requires size { length history.now ≡ MAX_STATES }
     requires history { (v : ℕ) → v < fold_states f.now → flag_in history.now v ≡ is_history f.now v }
     ensures { result ≡ is_linear_by algebra f.now }
 {
@@ -33,7 +33,7 @@ fn is_linear(f: &TypedFold, algebra: Algebra, history: &[bool]) -> bool
 // The class of a fold and its algebra.
 fn class_and_algebra(f: &TypedFold, history: &[bool]) -> (Class, Algebra)
     requires valid { IsValidFold f.now }
-    requires size { length history.now ≡ 8 }
+    requires size { length history.now ≡ MAX_STATES }
     requires history { (v : ℕ) → v < fold_states f.now → flag_in history.now v ≡ is_history f.now v }
     ensures class { result.0 ≡ class_of f.now }
     ensures algebra { result.1 ≡ algebra_of f.now }
@@ -56,7 +56,7 @@ fn rows_of(
 ) -> Result<AffineRows, AllocError>
     requires valid { IsValidFold f.now }
     requires algebra { algebra ≡ algebra_of f.now }
-    requires size { length history.now ≡ 8 }
+    requires size { length history.now ≡ MAX_STATES }
     requires history { (v : ℕ) → v < fold_states f.now → flag_in history.now v ≡ is_history f.now v }
     ensures { IfOk result (λ rows. IsRowsOf f.now rows) }
 {
@@ -73,7 +73,7 @@ fn rows_of(
 // The layout of a fold.
 fn layout_of(alloc: Global, f: &TypedFold, history: &[bool]) -> Result<Layout, AllocError>
     requires valid { IsValidFold f.now }
-    requires size { length history.now ≡ 8 }
+    requires size { length history.now ≡ MAX_STATES }
     requires history { (v : ℕ) → v < fold_states f.now → flag_in history.now v ≡ is_history f.now v }
     ensures { IfOk result (λ layout. IsLayoutOf f.now layout) }
 {

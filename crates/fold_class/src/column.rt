@@ -2,7 +2,7 @@
 
 ghost use Rattle.std.specs.Prelude.{◌≡◌, ◌≢◌, ℕ, ◌+◌, ◌*◌, ◌<◌, ◌≤◌, [], ◌∷◌, ◌++◌, map, length};
 ghost use Rattle.query_lang.specs.Words.{op_value};
-ghost use Rattle.fold_code.specs.Machine.{Fits, AllFit, instr_value, vars_after, run, instr_steps, steps_of};
+ghost use Rattle.fold_code.specs.Machine.{Fits, AllFit, instr_value, vars_after, run_code, instr_steps, steps_of};
 ghost use Rattle.fold_class.specs.Kinds.{role};
 ghost use Rattle.fold_class.specs.Parts.{parts, part_operation, part_negation, part_mask, part_choice, column_shares};
 ghost use Rattle.fold_class.specs.Step.{list_of};
@@ -344,7 +344,7 @@ pub(crate) fn run_column<C: Coeff, L: Ledger>(
     requires fits { AllFit states (length args.now) 0 instrs.now }
     requires room { (states + length instrs.now) * 3 ≤ length scratch.old }
     ensures vars { list_of states (part_at C.from_words C.WORDS scratch.new)
-        ≡ run (parts (column_shares C.elements dimension column) algebra) instrs.now (map (λ w. Part.Fixed w) args.now)
+        ≡ run_code (parts (column_shares C.elements dimension column) algebra) instrs.now (map (λ w. Part.Fixed w) args.now)
         (list_of states (part_at C.from_words C.WORDS scratch.old)) [] }
     ensures steps { steps.new ≡ steps.old + steps_of instrs.now }
 {

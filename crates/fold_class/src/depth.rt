@@ -9,15 +9,15 @@ ghost use Rattle.fold_class.specs.Walk.{kinds_in, is_other, flag_in};
 use crate::class::Kind;
 use crate::operators::Reads;
 use crate::walk::walk_block;
-use query_lang::TypedFold;
+use query_lang::{MAX_STATES, TypedFold};
 
 // A kind for each variable: Other where the old value of variable u reaches it.
-fn readers_of(f: &TypedFold, u: usize) -> [Kind; 8]
+fn readers_of(f: &TypedFold, u: usize) -> [Kind; MAX_STATES]
     requires valid { IsValidFold f.now }
     requires variable { u < fold_states f.now }
     ensures { (v : ℕ) → is_other (kinds_in result v) ≡ fold_reads f.now v u }
 {
-    let mut kinds = [Kind::Pure; 8];
+    let mut kinds = [Kind::Pure; MAX_STATES];
     kinds[u] = Kind::Other;
     walk_block(&Reads, &mut kinds, f.body.as_slice());
     kinds
@@ -37,13 +37,13 @@ fn strike(flags: &mut [bool], kinds: &[Kind])
 }
 
 // By the variables up to some depth, those up to one more: a variable is among them if all variables that it reads were.
-fn next_round(f: &TypedFold, within: &[bool]) -> [bool; 8]
+fn next_round(f: &TypedFold, within: &[bool]) -> [bool; MAX_STATES]
     requires valid { IsValidFold f.now }
-    requires size { length within.now ≡ 8 }
+    requires size { length within.now ≡ MAX_STATES }
     ensures { (v : ℕ) → v < fold_states f.now
         → flag_in result v ≡ all_below (fold_states f.now) (λ u. not (fold_reads f.now v u) || flag_in within.now u) }
 {
-    let mut next = [true; 8];
+    let mut next = [true; MAX_STATES];
     for u in 0..f.state_names.len() {
         if !within[u] {
             let readers = readers_of(f, u);
@@ -56,7 +56,7 @@ fn next_round(f: &TypedFold, within: &[bool]) -> [bool; 8]
 // The same in place.
 fn advance(f: &TypedFold, within: &mut [bool])
     requires valid { IsValidFold f.now }
-    requires size { length within.old ≡ 8 }
+    requires size { length within.old ≡ MAX_STATES }
     ensures { (v : ℕ) → v < fold_states f.now
         → flag_in within.new v ≡ all_below (fold_states f.now) (λ u. not (fold_reads f.now v u) || flag_in within.old u) }
 {
@@ -65,11 +65,11 @@ fn advance(f: &TypedFold, within: &mut [bool])
 }
 
 /// Which variables have a depth.
-pub(crate) fn history_of(f: &TypedFold) -> [bool; 8]
+pub(crate) fn history_of(f: &TypedFold) -> [bool; MAX_STATES]
     requires { IsValidFold f.now }
     ensures { (v : ℕ) → v < fold_states f.now → flag_in result v ≡ is_history f.now v }
 {
-    let mut within = [false; 8];
+    let mut within = [false; MAX_STATES];
     for _round in 0..f.state_names.len() {
         advance(f, &mut within);
     }
@@ -92,11 +92,11 @@ fn covers(states: usize, flags: &[bool], others: &[bool]) -> bool
 /// The least number that no variable's depth exceeds.
 pub(crate) fn depth_of(f: &TypedFold, history: &[bool]) -> u8
     requires valid { IsValidFold f.now }
-    requires size { length history.now ≡ 8 }
+    requires size { length history.now ≡ MAX_STATES }
     requires history { (v : ℕ) → v < fold_states f.now → flag_in history.now v ≡ is_history f.now v }
     ensures { IsDepth f.now result }
 {
-    let mut within = [false; 8];
+    let mut within = [false; MAX_STATES];
     let states = f.state_names.len();
     for depth in 0..states {
         if covers(states, history, &within) {

@@ -10,7 +10,7 @@ ghost use Rattle.fold_class.specs.Walk.{kinds_in, flag_in};
 use crate::class::Kind;
 use crate::operators::Operators;
 use crate::walk::walk_block;
-use query_lang::TypedFold;
+use query_lang::{MAX_STATES, TypedFold};
 
 // The kind of a variable at the start of a body.
 fn start_kind(is_fixed: bool) -> Kind
@@ -20,13 +20,13 @@ fn start_kind(is_fixed: bool) -> Kind
 }
 
 // The kinds at the start of a body: Pure for a fixed variable, and Affine for the others.
-fn first_kinds(states: usize, fixed: &[bool]) -> [Kind; 8]
-    requires size { length fixed.now ≡ 8 }
-    requires few { states ≤ 8 }
+fn first_kinds(states: usize, fixed: &[bool]) -> [Kind; MAX_STATES]
+    requires size { length fixed.now ≡ MAX_STATES }
+    requires few { states ≤ MAX_STATES }
     ensures { (s : ℕ) → kinds_in result s
         ≡ (if nat_lt s states then (if flag_in fixed.now s then Kind.Pure else Kind.Affine) else Kind.Pure) }
 {
-    let mut kinds = [Kind::Pure; 8];
+    let mut kinds = [Kind::Pure; MAX_STATES];
     for v in 0..states {
         kinds[v] = start_kind(fixed[v]);
     }
@@ -51,7 +51,7 @@ fn none_other(states: usize, kinds: &[Kind]) -> bool
 /// argument and Affine for each other variable. There is a flag for each of eight variables.
 pub fn has_no_other<O: Operators>(operators: &O, f: &TypedFold, fixed: &[bool]) -> bool
     requires valid { IsValidFold f.now }
-    requires size { length fixed.now ≡ 8 }
+    requires size { length fixed.now ≡ MAX_STATES }
     ensures { result ≡ Kinds.has_no_other (O.roles operators.now) (flag_in fixed.now) f.now }
 {
     let states = f.state_names.len();

@@ -10,7 +10,7 @@ ghost use Rattle.fold_class.specs.Depth.{IsHistory, is_history, IsDepth, depth_o
 ghost use Rattle.fold_class.specs.Kinds.{class_of, algebra_of};
 ghost use Rattle.fold_class.specs.declared.class.Algebra.{Algebra as AlgebraOf};
 ghost use Rattle.fold_class.specs.Step.{history_places, words_at};
-ghost use Rattle.fold_class.specs.Translations.{SameHistory, AreAlike, AreMoved, HasZeros};
+ghost use Rattle.fold_class.specs.Translations.{SameHistory, AreAlikeStates, AreMoved, HasZeros};
 
 use crate::class::Algebra;
 use query_lang::Class;
@@ -53,12 +53,12 @@ pub fn history_steps_alone()
 /// If the linear variables of one state are those of another, moved by the words of a table, they still are after one step of a
 /// translation. One by sums adds the same to both, and one by maxima takes the greater of each and the same word.
 pub fn step_translates()
-    ensures moves { (algebra : AlgebraOf) (f : TypedFold) (table : ℕ → ℕ) (args xs ys : List ℕ) → AreAlike algebra f xs ys
+    ensures moves { (algebra : AlgebraOf) (f : TypedFold) (table : ℕ → ℕ) (args xs ys : List ℕ) → AreAlikeStates algebra f xs ys
         → AreMoved algebra f table xs ys → AreMoved algebra f table (body f xs args) (body f ys args) }
-    ensures sums { (f : TypedFold) (args xs ys : List ℕ) (v : ℕ) → AreAlike Algebra.Sums f xs ys → v < fold_states f
+    ensures sums { (f : TypedFold) (args xs ys : List ℕ) (v : ℕ) → AreAlikeStates Algebra.Sums f xs ys → v < fold_states f
         → is_history f v ≡ false
         → (slice_index (body f xs args) v + slice_index ys v) % 2 ^ 64 ≡ (slice_index (body f ys args) v + slice_index xs v) % 2 ^ 64 }
-    ensures maxima { (f : TypedFold) (args xs ys : List ℕ) (v : ℕ) → AreAlike Algebra.Maxima f xs ys → v < fold_states f
+    ensures maxima { (f : TypedFold) (args xs ys : List ℕ) (v : ℕ) → AreAlikeStates Algebra.Maxima f xs ys → v < fold_states f
         → is_history f v ≡ false
         → (b : ℕ) × (slice_index (body f xs args) v ≡ max (slice_index xs v) b)
         × (slice_index (body f ys args) v ≡ max (slice_index ys v) b) }
@@ -68,8 +68,8 @@ pub fn step_translates()
 /// with the state's history.
 pub fn rows_translate()
     ensures moves { (algebra : AlgebraOf) (f : TypedFold) (table : ℕ → ℕ) (rows : List (List ℕ)) (xs ys : List ℕ)
-        → AreAlike algebra f xs ys → AreMoved algebra f table xs ys → AreMoved algebra f table (folded f xs rows) (folded f ys rows) }
+        → AreAlikeStates algebra f xs ys → AreMoved algebra f table xs ys → AreMoved algebra f table (folded f xs rows) (folded f ys rows) }
     ensures from_zeros { (algebra : AlgebraOf) (f : TypedFold) (rows : List (List ℕ)) (zeros state : List ℕ)
-        → AreAlike algebra f zeros state → AreWords state → HasZeros f zeros
+        → AreAlikeStates algebra f zeros state → AreWords state → HasZeros f zeros
         → AreMoved algebra f (slice_index state) (folded f zeros rows) (folded f state rows) }
 {}

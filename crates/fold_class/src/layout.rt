@@ -9,7 +9,7 @@ ghost use Rattle.fold_class.specs.Walk.{flag_in};
 
 use crate::origin::Origin;
 use marple_base::Seq;
-use query_lang::TypedFold;
+use query_lang::{MAX_STATES, TypedFold};
 use std::alloc::{AllocError, Global};
 
 /// Which variables have a depth, and what else of a fold its entries need. The lists of variables are in the order of
@@ -48,7 +48,7 @@ pub(crate) struct Places {
 /// The places of a fold's variables, by which of them have a depth.
 pub(crate) fn places_of(alloc: Global, f: &TypedFold, flags: &[bool]) -> Result<Places, AllocError>
     requires valid { IsValidFold f.now }
-    requires size { length flags.now ≡ 8 }
+    requires size { length flags.now ≡ MAX_STATES }
     requires history { (v : ℕ) → v < fold_states f.now → flag_in flags.now v ≡ is_history f.now v }
     ensures linear { IfOk result (λ p. p.linear ≡ linear_places f.now) }
     ensures history { IfOk result (λ p. p.history ≡ history_places f.now) }

@@ -9,7 +9,7 @@ ghost use Rattle.fold_class.specs.Walk.{kinds_in, AssignsBelow};
 
 use crate::class::{Kind, Role};
 use crate::operators::Operators;
-use query_lang::{TypedExpr, TypedStmt};
+use query_lang::{MAX_STATES, TypedExpr, TypedStmt};
 
 // The greater kind.
 fn greater_of(left: Kind, right: Kind) -> Kind
@@ -118,19 +118,19 @@ fn mark_stmt(kinds: &mut [Kind], s: &TypedStmt)
 }
 
 // A copy of a table of kinds.
-fn copied(kinds: &[Kind]) -> [Kind; 8]
-    requires { length kinds.now ≡ 8 }
+fn copied(kinds: &[Kind]) -> [Kind; MAX_STATES]
+    requires { length kinds.now ≡ MAX_STATES }
     ensures { result ≡ kinds.now }
 {
-    let mut copy = [Kind::Pure; 8];
+    let mut copy = [Kind::Pure; MAX_STATES];
     copy.copy_from_slice(kinds);
     copy
 }
 
 // The kinds after a statement.
 fn walk_stmt<O: Operators>(operators: &O, kinds: &mut [Kind], s: &TypedStmt)
-    requires size { length kinds.old ≡ 8 }
-    requires below { AssignsBelow 8 (stmt_block s.now) }
+    requires size { length kinds.old ≡ MAX_STATES }
+    requires below { AssignsBelow MAX_STATES (stmt_block s.now) }
     ensures { kinds_in kinds.new ≡ kinds_after (O.roles operators.now) (stmt_block s.now) (kinds_in kinds.old) }
 {
     match s {
@@ -156,8 +156,8 @@ fn walk_stmt<O: Operators>(operators: &O, kinds: &mut [Kind], s: &TypedStmt)
 
 /// The kinds after statements.
 pub(crate) fn walk_block<O: Operators>(operators: &O, kinds: &mut [Kind], block: &[TypedStmt])
-    requires size { length kinds.old ≡ 8 }
-    requires below { AssignsBelow 8 (block_of block.now) }
+    requires size { length kinds.old ≡ MAX_STATES }
+    requires below { AssignsBelow MAX_STATES (block_of block.now) }
     ensures { kinds_in kinds.new ≡ kinds_after (O.roles operators.now) (block_of block.now) (kinds_in kinds.old) }
 {
     for s in block {

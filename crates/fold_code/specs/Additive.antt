@@ -9,12 +9,12 @@ use Rattle.query_lang.specs.Folds.{fold_states, fold_block}
 use Rattle.fold_code.specs.Checks.{is_in, names_known, all_pass}
 
 -- no state variable counts as known
-abbrev pub no_state : ℕ → Bool
-no_state = is_in []
+abbrev pub no_variable : ℕ → Bool
+no_variable = is_in []
 
 -- whether an expression names no state variable
 abbrev pub names_no_state : ℕ → Term → Bool
-names_no_state states e = names_known states no_state e
+names_no_state states e = names_known states no_variable e
 
 abbrev pub adds_or_subtracts : Op → Bool
 adds_or_subtracts Add = true
@@ -33,11 +33,11 @@ adds_known states known v _ = false
 
 -- plus or minus what names no state variable
 abbrev pub is_increment : ℕ → ℕ → Term → Bool
-is_increment states v e = adds_known states no_state v e
+is_increment states v e = adds_known states no_variable v e
 
 -- whether each assignment is an increment under conditions that name no state variable; `free` says so of those around the block
 abbrev pub is_additive_block : ℕ → Bool → Block → Bool
-is_additive_block states free b = all_pass states no_state (is_increment states) free b
+is_additive_block states free b = all_pass states no_variable (is_increment states) free b
 
 -- whether a fold is additive
 abbrev pub is_additive : TypedFold → Bool

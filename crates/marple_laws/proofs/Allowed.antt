@@ -6,6 +6,7 @@ use Rattle.std.specs.List.{range_with_len}
 use Rattle.std.proofs.lemmas.Bool.Decides.{nat_tests}
 use Rattle.std.proofs.lemmas.List.{length-take-le, length-map}
 use Rattle.std.proofs.lemmas.Option.{slice_get_within, slice_get_cases, slice_get-map, get_or_from_slice_get, same_Some}
+use Rattle.marple_base.specs.declared.field.TheConstants.{FIELDS}
 use Rattle.query_lang.specs.declared.fold.TypedFold.{TypedFold}
 use Rattle.query_lang.specs.declared.typed.TypedOp.{TypedOp}
 use Rattle.query_lang.specs.declared.typed.TypedOp.TheVariants as op
@@ -20,7 +21,7 @@ use Rattle.stage_plan.specs.declared.group.GroupPlan.{GroupPlan}
 use Rattle.stage_plan.specs.declared.op.Operand.{Operand}
 use Rattle.stage_plan.specs.declared.op.Operand.TheVariants.{Register, Number}
 use Rattle.stage_plan.specs.declared.op.PlanOp.{PlanOp}
-use Rattle.stage_plan.specs.Fields.{Source, reads_of, all_sources, sources_at, named_input, named_slots}
+use Rattle.stage_plan.specs.Fields.{FieldSource, reads_of, all_sources, sources_at, named_input, named_slots}
 use Rattle.stage_plan.specs.Making.{operand_at, wires_at}
 use Rattle.stage_plan.specs.Ordering.{moved, moved_op, op_numbered, wiring_of}
 use Rattle.stage_plan.specs.Planned.{IsPlanOf, fold_at, query_made}
@@ -55,16 +56,16 @@ stage_found None = refl
 stage_found (Some one) = refl
 
 -- an operand of an earlier operation keeps its stage
-stage_before : (ops : List PlanOp) (i : ℕ) (o : Operand) → IsWithin (14 + i) o → stage_of (take i ops) o ≡ operand_stage ops o
+stage_before : (ops : List PlanOp) (i : ℕ) (o : Operand) → IsWithin (FIELDS + i) o → stage_of (take i ops) o ≡ operand_stage ops o
 stage_before ops i (Number n) inside = refl
-stage_before ops i (Register r) inside = by (nat_lt r 14) refl
+stage_before ops i (Register r) inside = by (nat_lt r FIELDS) refl
   where
-    by : (b : Bool) → nat_lt r 14 ≡ b → (if b then 0 else stage_at (slice_get (take i ops) (r - 14)))
-        ≡ (if b then 0 else unwrap_or (option_map (λ one. one.stage) (slice_get ops (r - 14))) 0)
+    by : (b : Bool) → nat_lt r FIELDS ≡ b → (if b then 0 else stage_at (slice_get (take i ops) (r - FIELDS)))
+        ≡ (if b then 0 else unwrap_or (option_map (λ one. one.stage) (slice_get ops (r - FIELDS))) 0)
     by true e = refl
     by false e =
-        let late : 14 ≤ r = grind (arith, nat_tests) in
-        ap stage_at (front_at ops i (r - 14) (omega (arith, late, inside))) ∙ stage_found (slice_get ops (r - 14))
+        let late : FIELDS ≤ r = grind (arith, nat_tests) in
+        ap stage_at (front_at ops i (r - FIELDS) (omega (arith, late, inside))) ∙ stage_found (slice_get ops (r - FIELDS))
 
 last_before : (ops : List PlanOp) (i : ℕ) (one : PlanOp) → AreSoundOps ops → slice_get ops i ≡ Some one
     → last_stage (take i ops) ≤ one.stage
@@ -106,7 +107,7 @@ module _ (q : TypedQuery) (p : PlanParts) (valid : IsValidQuery q) (text : HasPl
     beyond : AreAfterFields (query_registers q)
     beyond k r e = go (slice_get (range_with_len 0 (length (query_made q).ops)) k) refl
       where
-        go : (o : Option ℕ) → slice_get (range_with_len 0 (length (query_made q).ops)) k ≡ o → 14 ≤ r
+        go : (o : Option ℕ) → slice_get (range_with_len 0 (length (query_made q).ops)) k ≡ o → FIELDS ≤ r
         go None h = let none : None ≡ Some r = sym (slice_get-map (register_in (query_order q))
             (range_with_len 0 (length (query_made q).ops))
             k ∙ ap (option_map (register_in (query_order q))) h) ∙ e in cc
@@ -145,9 +146,9 @@ module _ (q : TypedQuery) (p : PlanParts) (valid : IsValidQuery q) (text : HasPl
     op_ok i one e = record {
       allowed = record {
         left = operand_known (reads_of q) (take i (query_ops q)) one.left w.left
-            (subst (λ n. IsWithin (14 + n) one.left) (sym long) s.left);
+            (subst (λ n. IsWithin (FIELDS + n) one.left) (sym long) s.left);
         right = operand_known (reads_of q) (take i (query_ops q)) one.right w.right
-            (subst (λ n. IsWithin (14 + n) one.right) (sym long) s.right);
+            (subst (λ n. IsWithin (FIELDS + n) one.right) (sym long) s.right);
         staged = record {
           room = omega (arith, long, within, few_ops);
           least = omega (arith, s.stage);
@@ -158,8 +159,8 @@ module _ (q : TypedQuery) (p : PlanParts) (valid : IsValidQuery q) (text : HasPl
         };
       };
       stage = omega (arith, s.most);
-      left = operand_fits (reads_of q) (14 + i) one.left w.left s.left (omega (arith, within, few_ops));
-      right = operand_fits (reads_of q) (14 + i) one.right w.right s.right (omega (arith, within, few_ops));
+      left = operand_fits (reads_of q) (FIELDS + i) one.left w.left s.left (omega (arith, within, few_ops));
+      right = operand_fits (reads_of q) (FIELDS + i) one.right w.right s.right (omega (arith, within, few_ops));
       single = w.single;
     }
       where
@@ -177,7 +178,7 @@ module _ (q : TypedQuery) (p : PlanParts) (valid : IsValidQuery q) (text : HasPl
 
     -- what the groupbys take
 
-    named_taking : (sources : List (List Source)) (streams : List TypedStream) → AreNamed (reads_of q) sources streams
+    named_taking : (sources : List (List FieldSource)) (streams : List TypedStream) → AreNamed (reads_of q) sources streams
         → (i : ℕ) (t : Taking)
         → slice_get (takings streams) i ≡ Some t → AreRead (reads_of q) (sources_at sources t.input) (t.keys ++ t.args)
     named_taking sources [] n i t e = absurd (no e)
@@ -199,7 +200,7 @@ module _ (q : TypedQuery) (p : PlanParts) (valid : IsValidQuery q) (text : HasPl
             subst (λ (t : Taking). AreRead (reads_of q) (sources_at sources t.input) (t.keys ++ t.args)) same r
         by (op.Group input keys f args) r rest (suc i) e = rest i t e
 
-    picked_good : (sources : List Source) (columns : List Operand) (slots : List ℕ) → AreFrom (reads_of q) sources columns
+    picked_good : (sources : List FieldSource) (columns : List Operand) (slots : List ℕ) → AreFrom (reads_of q) sources columns
         → AreRead (reads_of q) sources slots →
         AllGood (reads_of q) (map (λ slot. moved (query_registers q) (operand_at columns slot)) slots)
     picked_good sources columns [] from r = tt
@@ -265,8 +266,9 @@ module _ (q : TypedQuery) (p : PlanParts) (valid : IsValidQuery q) (text : HasPl
         wired_here = slice_get-map (wiring_of (query_registers q) (query_made q).streams) (takings q.streams) i
             ∙ ap (option_map (wiring_of (query_registers q) (query_made q).streams)) e
 
-        s : IsSoundGroup (14 + length (query_ops q)) group (wiring_of (query_registers q) (query_made q).streams t)
-        s = subst (λ ops. IsSoundGroup (14 + length ops) group (wiring_of (query_registers q) (query_made q).streams t)) (ops_are q p plan)
+        s : IsSoundGroup (FIELDS + length (query_ops q)) group (wiring_of (query_registers q) (query_made q).streams t)
+        s = subst (λ ops. IsSoundGroup (FIELDS + length ops) group (wiring_of (query_registers q) (query_made q).streams t))
+            (ops_are q p plan)
             (sound.each i group (wiring_of (query_registers q) (query_made q).streams t) g
             (ap (λ l. slice_get l i) (wiring_is q p plan) ∙ wired_here))
 

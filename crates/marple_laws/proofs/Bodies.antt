@@ -12,6 +12,7 @@ use Rattle.query_lang.specs.declared.fold.Op.TheVariants as ops
 use Rattle.query_lang.specs.Blocks.{Block, End, Set, Fork}
 use Rattle.query_lang.specs.Terms.{Term, Literal, Read, Negation, Operation}
 use Rattle.query_lang.specs.Folds.{IsValidTerm, IsValidBlock, block_count}
+use Rattle.query_lang.specs.declared.fault.TheConstants.{MAX_STATEMENTS}
 use Rattle.plan_file.specs.declared.lexemes.Lexeme.TheVariants as word
 use Rattle.plan_file.specs.Lexis.{number, function_named}
 use Rattle.plan_file.specs.Lexemes.{lexeme_among, lexeme_of}
@@ -259,7 +260,8 @@ tokens_block states args (Fork c a b next) few v = (
 )
 
 -- the words write the body
-pub body_written : (states args : ℕ) (body : Block) → AreFew (states + args) → IsValidBlock states args body → block_count body ≤ 64
+pub body_written : (states args : ℕ) (body : Block) → AreFew (states + args) → IsValidBlock states args body
+    → block_count body ≤ MAX_STATEMENTS
     → IsBody states args (map lexeme_of (block_words states body)) body
 body_written states args body few v least = record {
   statements = block_read states args body few v;

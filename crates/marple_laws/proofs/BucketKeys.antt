@@ -6,7 +6,7 @@ use Rattle.epoch_model.specs.Keys.{Key, key_eq, bucket_of, has}
 use Rattle.epoch_model.specs.Laws.{IsWellFormed}
 use Rattle.epoch_model.specs.Machine.{Epoch, Machine, open_in}
 use Rattle.epoch_model.proofs.KeyLists.{IsDistinct, distinct-distinct}
-use Rattle.bucket_cache.specs.Buckets.{Pair, has_key, AreOnce}
+use Rattle.bucket_cache.specs.Buckets.{Pair, has_key, AreKeysOnce}
 use Rattle.bucket_cache.specs.Caches.{Cache, list_at}
 use Rattle.switch_core.specs.Lanes.{Standing, PairStands, PairsStand, CacheStands, geometry}
 use Rattle.marple_laws.specs.LaneLaws.{HasKeysInBuckets}
@@ -27,7 +27,7 @@ has_same : (key : Key) (pairs : List Pair) → has_key key pairs ≡ has key (ma
 has_same key [] = refl
 has_same key (p ∷ pairs) = ap (λ b. key_eq p.key key || b) (has_same key pairs)
 
-distinct_once : (pairs : List Pair) → IsDistinct (map (λ pair. pair.key) pairs) → AreOnce pairs
+distinct_once : (pairs : List Pair) → IsDistinct (map (λ pair. pair.key) pairs) → AreKeysOnce pairs
 distinct_once [] d = tt
 distinct_once (p ∷ pairs) d = (has_same p.key pairs ∙ d.0, distinct_once pairs d.1)
 

@@ -18,6 +18,7 @@ use Rattle.query_lang.specs.Checks.{must, is_among, place_from, place_of, collec
 use Rattle.query_lang.specs.TypedExprs.{slot_at, slot_of}
 use Rattle.query_lang.specs.TypedFolds.{states_from, args_from, body_checked, fold_checked}
 use Rattle.query_lang.specs.TypedStreams.{column_names, columns_at, keys_from, arguments_of}
+use Rattle.query_lang.specs.declared.fault.TheConstants.{MAX_KEYS, MAX_STATES}
 use Rattle.marple_laws.proofs.Items.{must_ok, must_not_ok, found_first, same_ok, IsIn, not_in, new_push, apart_from}
 use Rattle.marple_laws.specs.WellNamed.{AreNew}
 use Rattle.marple_laws.proofs.Differ.{AreApart}
@@ -28,8 +29,9 @@ states_new : (found : List ℕ) (states : List StateVar) (all : List ℕ) → Ar
 states_new found [] all new e = subst (AreNew []) (same_ok found all e) new
 states_new found (s ∷ states) all new e =
     let a = must_not_ok (is_among s.name.id found) NameTaken s.name.span
-    (must (nat_lt (length found) 8) (OverLimit States) s.name.span (states_from (found ++ s.name.id ∷ []) states)) all e in
-    let b = must_ok (nat_lt (length found) 8) (OverLimit States) s.name.span (states_from (found ++ s.name.id ∷ []) states) all a.1 in
+    (must (nat_lt (length found) MAX_STATES) (OverLimit States) s.name.span (states_from (found ++ s.name.id ∷ []) states)) all e in
+    let b = must_ok (nat_lt (length found) MAX_STATES) (OverLimit States) s.name.span (states_from (found ++ s.name.id ∷ []) states) all
+    a.1 in
     states_new (found ++ s.name.id ∷ []) states all (new_push [] found s.name.id new (not_in found s.name.id a.0)) b.1
 
 pub fold_new : (d : FoldDef) (f : TypedFold) → fold_checked d ≡ Ok f → AreNew [] f.state_names
@@ -87,7 +89,7 @@ keys_new columns hidden found [] all k e = subst (AreKeys columns) (same_ok foun
 keys_new columns hidden found (key ∷ keys) all k e =
     let s = found_first (slot_of columns hidden key) _ all e in
     let a = must_not_ok (is_among key.id found.names) NameTaken key.span _ all s.2 in
-    let b = must_ok (nat_lt (length found.names) 8) (OverLimit Keys) key.span _ all a.1 in
+    let b = must_ok (nat_lt (length found.names) MAX_KEYS) (OverLimit Keys) key.span _ all a.1 in
     keys_new columns hidden (record { names = found.names ++ key.id ∷ []; slots = found.slots ++ s.0 ∷ [] }) keys all
     (record {
       new = new_push [] found.names key.id k.new (not_in found.names key.id a.0);

@@ -14,6 +14,7 @@ use Rattle.query_lang.specs.Folds.{IsValidEmit, IsValidFold, fold_args, fold_sta
 use Rattle.query_lang.specs.Streams.{values_at}
 use Rattle.query_lang.specs.Terms.{Term, Literal, Read, Negation, Operation, term_of}
 use Rattle.query_lang.specs.TypedQueries.{AreValidStreams, IsValidOp, IsValidQuery}
+use Rattle.query_lang.specs.declared.fault.TheConstants.{MAX_NODES}
 use Rattle.stage_plan.specs.Depths.{StreamDepths, depths_at, depths_made, emit_depths, group_depths, joined_depths, packet_depths}
 use Rattle.stage_plan.specs.Depths.{query_depths, stage_fault, term_depth, term_depths}
 use Rattle.stage_plan.specs.Planned.{query_made}
@@ -80,11 +81,11 @@ made_few : (folds : List TypedFold) → All IsValidFold folds → (before : List
 made_few folds valid before width (typed.Filter input condition) v streams =
     let j = joined_few (depths_at streams input).columns (term_of condition) (depths_at streams input).present
     (depths_at streams input).columns in
-    let n : term_nodes (term_of condition) ≤ 512 = v.1.0.1 in
+    let n : term_nodes (term_of condition) ≤ MAX_NODES = v.1.0.1 in
     omega (arith, j, n)
 made_few folds valid before width (typed.Map input values) v streams =
     let j = values_few (depths_at streams input).columns values in
-    let n : sum_by (λ e. term_nodes (term_of e)) values ≤ 512 = v.1.1 in
+    let n : sum_by (λ e. term_nodes (term_of e)) values ≤ MAX_NODES = v.1.1 in
     omega (arith, j, n)
 made_few folds valid before width (typed.Zip left right slots) v streams = omega arith
 made_few folds valid before width (typed.Group input keys f args) v streams =

@@ -9,6 +9,7 @@ use Rattle.marple_base.specs.declared.field.Field.TheVariants.{Switch, Qid, Uid,
 use Rattle.marple_base.specs.declared.field.Field.TheVariants.{TcpSeq, Tin, Tout, QSize}
 use Rattle.marple_base.specs.declared.field.FieldSet.{FieldSet}
 use Rattle.marple_base.specs.Field.{number_of, field_name, all_fields, has_field}
+use Rattle.marple_base.specs.declared.field.TheConstants.{FIELDS}
 use Rattle.stage_plan.specs.declared.op.Operand.{Operand}
 use Rattle.stage_plan.specs.declared.op.Operand.TheVariants.{Register, Number}
 use Rattle.stage_plan.specs.declared.op.PlanOp.{PlanOp}
@@ -169,10 +170,10 @@ reads_written reads =
     })
 
 -- an operand that is allowed is known after the operations before it
-pub operand_known : (reads : FieldSet) (ops : List PlanOp) (o : Operand) → IsGood reads o → IsWithin (14 + length ops) o
+pub operand_known : (reads : FieldSet) (ops : List PlanOp) (o : Operand) → IsGood reads o → IsWithin (FIELDS + length ops) o
     → IsKnown (fields_of reads) ops o
 operand_known reads ops (Number n) good inside = tt
-operand_known reads ops (Register r) good inside = elim (cases_lt r 14) [
+operand_known reads ops (Register r) good inside = elim (cases_lt r FIELDS) [
   | inl early ↦ (let g = good early in inl (subst (Contains (map number_of (fields_of reads))) g.1
       (number_there g.0 (fields_of reads) (in_filter (has_field reads) g.0 all_fields g.2 (all_in g.0)))))
   | inr late ↦ inr (late, inside)
@@ -182,19 +183,19 @@ pub operand_fits : (reads : FieldSet) (n : ℕ) (o : Operand) → IsGood reads o
 operand_fits reads n (Number m) good inside small = good
 operand_fits reads n (Register r) good inside small = omega (arith, inside, small)
 
-pub operand_readable : (reads : FieldSet) (ops : List PlanOp) (o : Operand) → IsGood reads o → IsWithin (14 + length ops) o
+pub operand_readable : (reads : FieldSet) (ops : List PlanOp) (o : Operand) → IsGood reads o → IsWithin (FIELDS + length ops) o
     → length ops ≤ 32768 → IsReadable (fields_of reads) ops o
 operand_readable reads ops o good inside few = record {
   known = operand_known reads ops o good inside;
   fits =
-      operand_fits reads (14 + length ops) o good inside (omega (arith, few));
+      operand_fits reads (FIELDS + length ops) o good inside (omega (arith, few));
 }
 
 pub operands_readable : (reads : FieldSet) (ops : List PlanOp) (operands : List Operand) → AllGood reads operands
-    → All (IsWithin (14 + length ops)) operands → length ops ≤ 32768 → AreReadable (fields_of reads) ops operands
+    → All (IsWithin (FIELDS + length ops)) operands → length ops ≤ 32768 → AreReadable (fields_of reads) ops operands
 operands_readable reads ops [] good inside few = tt
 operands_readable reads ops (o ∷ operands) good inside few = (
-  operand_readable reads ops o good.0 (All-head (IsWithin (14 + length ops)) o operands inside) few,
+  operand_readable reads ops o good.0 (All-head (IsWithin (FIELDS + length ops)) o operands inside) few,
   operands_readable reads ops operands
-      good.1 (All-tail (IsWithin (14 + length ops)) o operands inside) few,
+      good.1 (All-tail (IsWithin (FIELDS + length ops)) o operands inside) few,
 )

@@ -8,6 +8,7 @@ use Rattle.query_lang.specs.declared.fold.TypedFold.{TypedFold}
 use Rattle.query_lang.specs.declared.typed.Class.{Class}
 use Rattle.query_lang.specs.declared.typed.Class.TheVariants.{Linear}
 use Rattle.query_lang.specs.Folds.{block_count, block_nodes, fold_block}
+use Rattle.query_lang.specs.declared.fault.TheConstants.{MAX_ARGS, MAX_GROUPBYS, MAX_KEYS, MAX_NODES, MAX_STATEMENTS, MAX_STATES}
 use Rattle.fold_class.specs.Depth.{IsDepth, depth_of}
 use Rattle.fold_class.specs.Kinds.{class_of}
 use Rattle.fold_class.proofs.LawLemmas.{depth_found_is}
@@ -59,7 +60,7 @@ group_line fs ops groups line = by (named_operand fs ops (codes "group") line)
         (λ p.
         let same : p.0.name ≡ n = operand_name fs fs ops (codes "group") line p.0.name n p.0.present v p.1.valid valid in
         (p.1.room, (λ e. p.1.no_stream (same ∙ e), λ there. p.1.new (subst (Contains (names_of groups)) (sym same) there))))
-        (both (less (length groups) 8) (both (neither (same_text n (codes "pktstream")))
+        (both (less (length groups) MAX_GROUPBYS) (both (neither (same_text n (codes "pktstream")))
         (neither (contains same_text (names_of groups) n))))
 
 new_in : (group : Group) (name : List ℕ) → Decided (IsNewIn group name)
@@ -95,7 +96,7 @@ key_line fs ops before line = by (named_operand fs ops (codes "key") line)
         let same : p.1.name ≡ n = operand_name fs fs ops (codes "key") line p.1.name n p.1.value v p.1.valid valid in
         ((p.1.args, p.1.states), (p.1.body, (p.1.room, subst (IsNewIn before) same p.1.new))))
         (both (both (is_empty before.args) (is_empty before.state_names))
-        (both (is_none before.body) (both (less (length before.keys) 8) (new_in before n))))
+        (both (is_none before.body) (both (less (length before.keys) MAX_KEYS) (new_in before n))))
 
 arg_line : (fs : List Field) (ops : List PlanOp) (before : Group) (line : List ℕ)
     → Decided ((after : Group) × IsArgLine fs ops before line after)
@@ -120,7 +121,7 @@ arg_line fs ops before line = by (one_operand fs ops (codes "arg") line)
         ))
         (λ p. ((p.1.keys, p.1.states), (p.1.body, p.1.room)))
         (both (both (less 0 (length before.keys)) (is_empty before.state_names))
-        (both (is_none before.body) (less (length before.args) 16)))
+        (both (is_none before.body) (less (length before.args) MAX_ARGS)))
 
 state_line : (before : Group) (line : List ℕ) → Decided ((after : Group) × IsStateLine before line after)
 state_line before line = by (named_number (codes "state") line)
@@ -137,7 +138,7 @@ state_line before line = by (named_number (codes "state") line)
         (λ p.
         let same : p.1.name ≡ n = number_name (codes "state") line p.1.name n p.1.value v p.1.valid valid in
         ((p.1.keys, p.1.body), (p.1.room, subst (IsNewIn before) same p.1.new)))
-        (both (both (less 0 (length before.keys)) (is_none before.body)) (both (less (length before.initial) 8) (new_in before n)))
+        (both (both (less 0 (length before.keys)) (is_none before.body)) (both (less (length before.initial) MAX_STATES) (new_in before n)))
 
 body_words : (states args : ℕ) (line : List ℕ) → Decided ((ws : List Lexeme) × IsBodyLine states args line ws)
 body_words states args line = by (tokens line) refl
@@ -256,8 +257,8 @@ bounds : (f : TypedFold) (nodes statements : ℕ) → Decided (AreBounds f nodes
 bounds f nodes statements =
     by_both (λ p. record { enough_nodes = p.0.0; most_nodes = p.0.1; enough_statements = p.1.0; most_statements = p.1.1 })
     (λ b. ((b.enough_nodes, b.most_nodes), (b.enough_statements, b.most_statements)))
-    (both (both (most (block_nodes (fold_block f)) nodes) (most nodes 512))
-    (both (most (block_count (fold_block f)) statements) (most statements 64)))
+    (both (both (most (block_nodes (fold_block f)) nodes) (most nodes MAX_NODES))
+    (both (most (block_count (fold_block f)) statements) (most statements MAX_STATEMENTS)))
 
 -- the fold that a `fold` line of these words ends
 fold_is : (one : Folded) (ws : List Lexeme) (b : Block) → one.group.body ≡ Some ws
@@ -311,10 +312,10 @@ ended before line class depth nodes statements valid ws b has is =
         record {
           enough_nodes = subst (λ n. block_nodes (fold_block f) ≤ n) once.2
               (subst (λ x. block_nodes x ≤ p.0.nodes) same p.1.bounds.enough_nodes);
-          most_nodes = subst (λ n. n ≤ 512) once.2 p.1.bounds.most_nodes;
+          most_nodes = subst (λ n. n ≤ MAX_NODES) once.2 p.1.bounds.most_nodes;
           enough_statements = subst (λ n. block_count (fold_block f) ≤ n) once.3
               (subst (λ x. block_count x ≤ p.0.statements) same p.1.bounds.enough_statements);
-          most_statements = subst (λ n. n ≤ 64) once.3 p.1.bounds.most_statements;
+          most_statements = subst (λ n. n ≤ MAX_STATEMENTS) once.3 p.1.bounds.most_statements;
         },
       ),
     ))

@@ -4,6 +4,7 @@ use Rattle.std.proofs.Common.{append_assoc, append-nil, Contains}
 use Rattle.std.specs.Prelude.{flat_map, map, codes, decimal}
 use Rattle.std.proofs.lemmas.List.{length_push}
 use Rattle.marple_base.specs.declared.field.Field.{Field}
+use Rattle.query_lang.specs.declared.fault.TheConstants.{MAX_ARGS, MAX_STATES}
 use Rattle.plan_file.specs.declared.lexemes.Lexeme.{Lexeme}
 use Rattle.plan_file.specs.declared.line_word.LineWord.TheVariants as lead
 use Rattle.plan_file.specs.declared.made.Folded.{Folded}
@@ -65,7 +66,7 @@ module _ (fields : List Field) (ops : List PlanOp) (groups : List Folded) (name 
   key_word = refl
 
   pub keys_written : (before_names : List (List ℕ)) (before : List Operand) (names : List (List ℕ)) (values : List Operand)
-      → length names ≡ length values → length before + length values ≤ 8 → AreNames names → AreNew before_names names
+      → length names ≡ length values → length before + length values ≤ MAX_STATES → AreNames names → AreNew before_names names
       → AreReadable fields ops values →
       IsWritten (named_lines (codes "key") names (map operand_word values)) (with_keys before_names before)
       (with_keys (before_names ++ names) (before ++ values))
@@ -110,7 +111,7 @@ module _ (fields : List Field) (ops : List PlanOp) (groups : List Folded) (name 
     unfolding word_named
     arg_word = refl
 
-    pub args_written : (before values : List Operand) → length before + length values ≤ 16 → AreReadable fields ops values →
+    pub args_written : (before values : List Operand) → length before + length values ≤ MAX_ARGS → AreReadable fields ops values →
         IsWritten (flat_map (λ a. line (codes "arg") (operand_word a ∷ [])) values) (with_args before) (with_args (before ++ values))
     args_written b [] few ok = nothing_written (with_args b) (with_args (b ++ [])) (λ k. with_args (append-nil b k))
     args_written b (v ∷ values) few ok =
@@ -148,7 +149,7 @@ module _ (fields : List Field) (ops : List PlanOp) (groups : List Folded) (name 
       state_lead = refl
 
       pub states_written : (before_names : List (List ℕ)) (before : List ℕ) (names : List (List ℕ)) (values : List ℕ)
-          → length names ≡ length values → length before + length values ≤ 8 → AreNames names → AreNew before_names names
+          → length names ≡ length values → length before + length values ≤ MAX_STATES → AreNames names → AreNew before_names names
           → AreNoKeys key_names names → AllWords values →
           IsWritten (named_lines (codes "state") names (map decimal values)) (with_states before_names before)
           (with_states (before_names ++ names) (before ++ values))

@@ -14,6 +14,7 @@ use Rattle.query_lang.specs.declared.typed.TypedStream.{TypedStream}
 use Rattle.query_lang.specs.Folds.{IsValidFold, fold_args, fold_block, fold_states}
 use Rattle.query_lang.specs.Streams.{Taking, taking_of, takings}
 use Rattle.query_lang.specs.TypedQueries.{AreValidStreams, IsValidOp}
+use Rattle.query_lang.specs.declared.fault.TheConstants.{MAX_ARGS, MAX_KEYS, MAX_NODES, MAX_STATEMENTS, MAX_STATES}
 use Rattle.fold_class.specs.Depth.{depth_of, is_enough, least_from}
 use Rattle.stage_plan.specs.declared.group.GroupWiring.{GroupWiring}
 use Rattle.stage_plan.specs.declared.op.Operand.{Operand}
@@ -76,13 +77,13 @@ pub record IsLimited (shape : GroupShape) (wiring : GroupWiring) (f : TypedFold)
   pub keys : AllFit wiring.keys
   pub args : AllFit wiring.args
   pub initial : AllWords f.initial
-  pub most_keys : length shape.key_names ≤ 8
-  pub most_args : length wiring.args ≤ 16
-  pub most_states : length shape.state_names ≤ 8
+  pub most_keys : length shape.key_names ≤ MAX_KEYS
+  pub most_args : length wiring.args ≤ MAX_ARGS
+  pub most_states : length shape.state_names ≤ MAX_STATES
   pub valid : IsValidFold f
-  pub depth : shape.depth ≤ 8
-  pub nodes : shape.nodes ≤ 512
-  pub statements : shape.statements ≤ 64
+  pub depth : shape.depth ≤ MAX_STATES
+  pub nodes : shape.nodes ≤ MAX_NODES
+  pub statements : shape.statements ≤ MAX_STATEMENTS
 
 head_size : (shape : GroupShape) (wiring : GroupWiring) (f : TypedFold) → IsLimited shape wiring f
     → length (line (codes "group") (shape.name ∷ operand_word wiring.present ∷ [])) ≤ 29 + length shape.name
@@ -105,7 +106,7 @@ body_size f v =
     let g = v.most_statements in
     omega (arith, n, b, c, d, e, g)
 
-fold_size : (shape : GroupShape) → shape.depth ≤ 8 → shape.nodes ≤ 512 → shape.statements ≤ 64
+fold_size : (shape : GroupShape) → shape.depth ≤ MAX_STATES → shape.nodes ≤ MAX_NODES → shape.statements ≤ MAX_STATEMENTS
     → length (line (codes "fold") (class_word shape.class ∷ decimal shape.depth ∷ decimal shape.nodes ∷ decimal shape.statements ∷ [])) ≤ 75
 fold_size shape depth nodes statements =
     let n = line_size (codes "fold") (class_word shape.class ∷ decimal shape.depth ∷ decimal shape.nodes ∷ decimal shape.statements ∷ []) in
@@ -157,16 +158,17 @@ depth_below f (suc tries) d = by (is_enough f d) (depth_below f tries (suc d))
     by true h = omega arith
     by false h = omega (arith, h)
 
-pub shallow : (f : TypedFold) → IsValidFold f → depth_of f ≤ 8
+pub shallow : (f : TypedFold) → IsValidFold f → depth_of f ≤ MAX_STATES
 shallow f v =
     let b = depth_below f (fold_states f) 0 in
     let s = v.states in
     omega (arith, b, s)
 
-args_few : (folds : List TypedFold) (number n : ℕ) → All IsValidFold folds → option_map fold_args (slice_get folds number) ≡ Some n → n ≤ 16
+args_few : (folds : List TypedFold) (number n : ℕ) → All IsValidFold folds → option_map fold_args (slice_get folds number) ≡ Some n
+    → n ≤ MAX_ARGS
 args_few folds number n valid e = by (slice_get folds number) refl e
   where
-    by : (o : Option TypedFold) → slice_get folds number ≡ o → option_map fold_args o ≡ Some n → n ≤ 16
+    by : (o : Option TypedFold) → slice_get folds number ≡ o → option_map fold_args o ≡ Some n → n ≤ MAX_ARGS
     by None h e = absurd (no e)
       where
         no : None ≡ Some n → ⊥
@@ -178,7 +180,7 @@ args_few folds number n valid e = by (slice_get folds number) refl e
 
 pub taking_few : (names : ℕ) (folds : List TypedFold) → All IsValidFold folds → (before streams : List TypedStream)
     → AreValidStreams names folds before streams
-    → (i : ℕ) (t : Taking) → slice_get (takings streams) i ≡ Some t → length t.args ≤ 16
+    → (i : ℕ) (t : Taking) → slice_get (takings streams) i ≡ Some t → length t.args ≤ MAX_ARGS
 taking_few names folds valid before [] v i t e = absurd (no e)
   where
     no : None ≡ Some t → ⊥
@@ -187,14 +189,14 @@ taking_few names folds valid before (one ∷ rest) v i t e =
     by one.op v.0.operator (taking_few names folds valid (before ++ one ∷ []) rest v.1) i e
   where
     by : (o : TypedOp) → IsValidOp folds before (length one.columns) o
-        → ((i : ℕ) (t : Taking) → slice_get (takings rest) i ≡ Some t → length t.args ≤ 16)
-        → (i : ℕ) → slice_get (cons_option (taking_of o) (takings rest)) i ≡ Some t → length t.args ≤ 16
+        → ((i : ℕ) (t : Taking) → slice_get (takings rest) i ≡ Some t → length t.args ≤ MAX_ARGS)
+        → (i : ℕ) → slice_get (cons_option (taking_of o) (takings rest)) i ≡ Some t → length t.args ≤ MAX_ARGS
     by (typed.Filter input condition) w more i e = more i t e
     by (typed.Map input values) w more i e = more i t e
     by (typed.Zip left right slots) w more i e = more i t e
     by (typed.Group input keys f args) w more zero e =
         let same : record { input = input; keys = keys; fold_number = f; args = args } ≡ t = same_Some _ t e in
-        subst (λ (u : Taking). length u.args ≤ 16) same (args_few folds f (length args) valid w.1.all_args)
+        subst (λ (u : Taking). length u.args ≤ MAX_ARGS) same (args_few folds f (length args) valid w.1.all_args)
     by (typed.Group input keys f args) w more (suc i) e = more i t e
 
 -- the lines of groupbys with these names, each of at most 79,690 bytes beside its name

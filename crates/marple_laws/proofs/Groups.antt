@@ -9,6 +9,7 @@ use Rattle.query_lang.specs.declared.fold.TypedFold.{TypedFold}
 use Rattle.query_lang.specs.declared.typed.Class.{Class}
 use Rattle.query_lang.specs.declared.typed.Class.TheVariants.{Linear}
 use Rattle.query_lang.specs.Folds.{IsValidFold, fold_block, fold_states, fold_args}
+use Rattle.query_lang.specs.declared.fault.TheConstants.{MAX_ARGS, MAX_GROUPBYS, MAX_KEYS}
 use Rattle.fold_class.specs.Depth.{IsDepth}
 use Rattle.fold_class.specs.Kinds.{class_of}
 use Rattle.stage_plan.specs.declared.group.GroupWiring.{GroupWiring}
@@ -46,9 +47,9 @@ pub record IsGroupOk (fields : List Field) (ops : List PlanOp) (shape : GroupSha
   pub keys_differ : AreNew [] shape.key_names
   pub all_keys : length shape.key_names ≡ length wiring.keys
   pub some_keys : 0 < length wiring.keys
-  pub most_keys : length wiring.keys ≤ 8
+  pub most_keys : length wiring.keys ≤ MAX_KEYS
   pub keys : AreReadable fields ops wiring.keys
-  pub most_args : length wiring.args ≤ 16
+  pub most_args : length wiring.args ≤ MAX_ARGS
   pub args : AreReadable fields ops wiring.args
   pub state_names : AreNames shape.state_names
   pub states_differ : AreNew [] shape.state_names
@@ -80,7 +81,7 @@ unfolding word_named
 fold_lead = refl
 
 module _ (fields : List Field) (ops : List PlanOp) (groups : List Folded) (shape : GroupShape) (wiring : GroupWiring) (f : TypedFold)
-    (ok : IsGroupOk fields ops shape wiring f) (room : length groups < 8) (new : Contains (names_of groups) shape.name → ⊥) where
+    (ok : IsGroupOk fields ops shape wiring f) (room : length groups < MAX_GROUPBYS) (new : Contains (names_of groups) shape.name → ⊥) where
   abbrev so_far : List (List ℕ) → List Operand → List Operand → List (List ℕ) → List ℕ → Option (List Lexeme) → Made
   so_far key_names keys args state_names initial body = within fields ops groups
       (group_so_far fields ops groups shape.name wiring.present key_names keys args state_names initial body)
@@ -267,7 +268,7 @@ pub record HasGroup (fields : List Field) (ops : List PlanOp) (shape : GroupShap
 
 -- the lines of all groupbys
 pub groups_written : (fields : List Field) (ops : List PlanOp) (shapes : List GroupShape) (wirings : List GroupWiring)
-    (folds : ℕ → Option TypedFold) → length shapes ≤ 8 →
+    (folds : ℕ → Option TypedFold) → length shapes ≤ MAX_GROUPBYS →
     ((i : ℕ) (shape : GroupShape) → slice_get shapes i ≡ Some shape → HasGroup fields ops shape wirings folds i) →
     (rest : List GroupShape) (i : ℕ) (groups : List Folded) → i + length rest ≡ length shapes → length groups ≡ i
     → ((k : ℕ) → slice_get shapes (i + k) ≡ slice_get rest k) → AreNew (names_of groups) (map (λ s. s.name) rest) →

@@ -6,6 +6,7 @@ use Rattle.std.proofs.lemmas.Bool.Decides.{nat_tests}
 use Rattle.marple_base.specs.declared.field.Field.{Field}
 use Rattle.marple_base.specs.declared.field.FieldSet.{FieldSet}
 use Rattle.marple_base.specs.Field.{number_of, HasField}
+use Rattle.marple_base.specs.declared.field.TheConstants.{FIELDS}
 use Rattle.query_lang.specs.declared.fold.Op.{Op}
 use Rattle.query_lang.specs.declared.fold.Op.TheVariants as two
 use Rattle.query_lang.specs.Terms.{Term, Literal, Read, Negation, Operation}
@@ -15,14 +16,14 @@ use Rattle.stage_plan.specs.declared.op.Operand.TheVariants.{Register, Number}
 use Rattle.stage_plan.specs.declared.op.Operation as operation
 use Rattle.stage_plan.specs.declared.op.Operation.TheVariants.{Not, Two}
 use Rattle.stage_plan.specs.declared.op.PlanOp.{PlanOp}
-use Rattle.stage_plan.specs.Fields.{Source, source_at, term_slots}
+use Rattle.stage_plan.specs.Fields.{FieldSource, source_at, term_slots}
 use Rattle.stage_plan.specs.Making.{Compiled, compiled, op_on, with_op, operand_at}
 use Rattle.plan_file.specs.Operations.{is_right_of, takes_right}
 use Rattle.marple_laws.proofs.Listed.{IsIn', in_left', in_right'}
 
 -- an operand that is allowed: a field that is read, another register, or a number that fits a word
 abbrev pub IsGood : FieldSet → Operand → Type 0
-IsGood reads (Register r) = r < 14 → (f : Field) × (number_of f ≡ r) × HasField reads f
+IsGood reads (Register r) = r < FIELDS → (f : Field) × (number_of f ≡ r) × HasField reads f
 IsGood reads (Number n) = n < 2 ^ 64
 
 -- `not` has the number 0 as its second operand
@@ -55,32 +56,34 @@ writable_at reads (x ∷ ops) zero one a e = let same : x ≡ one = cc in subst 
 writable_at reads (x ∷ ops) (suc i) one a e = writable_at reads ops i one a.1 e
 
 -- a column and where it comes from
-abbrev pub IsFrom : FieldSet → Source → Operand → Type 0
+abbrev pub IsFrom : FieldSet → FieldSource → Operand → Type 0
 IsFrom reads (Some f) o = o ≡ Register (number_of f)
 IsFrom reads None o = IsGood reads o
 
-abbrev pub AreFrom : FieldSet → List Source → List Operand → Type 0
+abbrev pub AreFrom : FieldSet → List FieldSource → List Operand → Type 0
 AreFrom reads [] [] = Unit {0}
 AreFrom reads (s ∷ sources) (o ∷ columns) = IsFrom reads s o × AreFrom reads sources columns
 AreFrom reads _ _ = ⊥
 
 -- the fields in these slots are read
-abbrev pub AreRead : FieldSet → List Source → List ℕ → Type 0
+abbrev pub AreRead : FieldSet → List FieldSource → List ℕ → Type 0
 AreRead reads sources [] = Unit {0}
 AreRead reads sources (slot ∷ slots) = ((f : Field) → source_at sources slot ≡ Some f → HasField reads f) × AreRead reads sources slots
 
-pub read_left : (reads : FieldSet) (sources : List Source) (xs ys : List ℕ) → AreRead reads sources (xs ++ ys) → AreRead reads sources xs
+pub read_left : (reads : FieldSet) (sources : List FieldSource) (xs ys : List ℕ) → AreRead reads sources (xs ++ ys)
+    → AreRead reads sources xs
 read_left reads sources [] ys h = tt
 read_left reads sources (x ∷ xs) ys h = (h.0, read_left reads sources xs ys h.1)
 
-pub read_right : (reads : FieldSet) (sources : List Source) (xs ys : List ℕ) → AreRead reads sources (xs ++ ys) → AreRead reads sources ys
+pub read_right : (reads : FieldSet) (sources : List FieldSource) (xs ys : List ℕ) → AreRead reads sources (xs ++ ys)
+    → AreRead reads sources ys
 read_right reads sources [] ys h = h
 read_right reads sources (x ∷ xs) ys h = read_right reads sources xs ys h.1
 
 pub below_two : (n : ℕ) → n ≡ 0 → n < 2 ^ 64
 below_two n e = omega arith
 
-pub from_at : (reads : FieldSet) (sources : List Source) (columns : List Operand) (slot : ℕ) → AreFrom reads sources columns
+pub from_at : (reads : FieldSet) (sources : List FieldSource) (columns : List Operand) (slot : ℕ) → AreFrom reads sources columns
     → IsFrom reads (source_at sources slot) (operand_at columns slot)
 from_at reads [] [] slot h = below_two 0 refl
 from_at reads (s ∷ sources) (o ∷ columns) zero h = h.0
@@ -89,12 +92,12 @@ from_at reads [] (o ∷ columns) slot h = absurd h
 from_at reads (s ∷ sources) [] slot h = absurd h
 
 -- a column whose field is read
-good_from : (reads : FieldSet) (s : Source) (o : Operand) → IsFrom reads s o → ((f : Field) → s ≡ Some f → HasField reads f)
+good_from : (reads : FieldSet) (s : FieldSource) (o : Operand) → IsFrom reads s o → ((f : Field) → s ≡ Some f → HasField reads f)
     → IsGood reads o
 good_from reads None o h named = h
 good_from reads (Some f) o h named = subst (IsGood reads) (sym h) (λ _. (f, refl, named f refl))
 
-pub column_good : (reads : FieldSet) (sources : List Source) (columns : List Operand) (slot : ℕ) → AreFrom reads sources columns
+pub column_good : (reads : FieldSet) (sources : List FieldSource) (columns : List Operand) (slot : ℕ) → AreFrom reads sources columns
     → ((f : Field) → source_at sources slot ≡ Some f → HasField reads f) → IsGood reads (operand_at columns slot)
 column_good reads sources columns slot h named = good_from reads (source_at sources slot) (operand_at columns slot)
     (from_at reads sources columns slot h) named
@@ -103,7 +106,7 @@ abbrev pub AllGood : FieldSet → List Operand → Type 0
 AllGood reads [] = Unit {0}
 AllGood reads (o ∷ columns) = IsGood reads o × AllGood reads columns
 
-pub columns_good : (reads : FieldSet) (sources : List Source) (columns : List Operand) (slots : List ℕ) → AreFrom reads sources columns
+pub columns_good : (reads : FieldSet) (sources : List FieldSource) (columns : List Operand) (slots : List ℕ) → AreFrom reads sources columns
     → AreRead reads sources slots → AllGood reads (map (operand_at columns) slots)
 columns_good reads sources columns [] h named = tt
 columns_good reads sources columns (slot ∷ slots) h named = (

@@ -22,10 +22,10 @@ use Rattle.stage_plan.specs.declared.op.Operand.{Operand}
 use Rattle.stage_plan.specs.declared.op.Operand.TheVariants.{Number}
 use Rattle.stage_plan.specs.declared.op.Operation.TheVariants.{Two}
 use Rattle.stage_plan.specs.declared.op.PlanOp.{PlanOp}
-use Rattle.stage_plan.specs.Fields.{Source, source_at, sources_at, packet_sources, sources_made, term_slots, named_fields, named_slots}
+use Rattle.stage_plan.specs.Fields.{FieldSource, source_at, sources_at, packet_sources, sources_made, term_slots, named_fields, named_slots}
 use Rattle.stage_plan.specs.Fields.{named_input}
-use Rattle.stage_plan.specs.Making.{Made, AllMade, compiled, compiled_all, operand_at, wires_at, packet_wires, joined, conditioned}
-use Rattle.stage_plan.specs.Making.{emit_columns, emitted, grouped, made_by, all_made}
+use Rattle.stage_plan.specs.Making.{Made, AllMade, compiled, compiled_all, operand_at, wires_at, packet_wires, made_join, conditioned}
+use Rattle.stage_plan.specs.Making.{emit_columns, made_emit, made_group, made_by, all_made}
 use Rattle.marple_laws.specs.WellNamed.{AllWords}
 use Rattle.stage_plan.proofs.StreamRows.{at_earlier, at_last, at_past}
 use Rattle.marple_laws.proofs.Listed.{IsIn', IsIn, in_left, in_right, in_set}
@@ -41,29 +41,29 @@ abbrev pub Wires : Type 0
 Wires = type_of packet_wires
 
 -- a stream, where its columns come from these fields or were made
-pub record IsStream (reads : FieldSet) (sources : List Source) (wires : Wires) : Type 0 where
+pub record IsStream (reads : FieldSet) (sources : List FieldSource) (wires : Wires) : Type 0 where
   pub present : IsGood reads wires.present
   pub columns : AreFrom reads sources wires.columns
 
-record IsMadeGood (reads : FieldSet) (sources : List Source) (m : Made) : Type 0 where
+record IsMadeGood (reads : FieldSet) (sources : List FieldSource) (m : Made) : Type 0 where
   written : AreWritable reads m.ops
   stream : IsStream reads sources m.wires
 
-joined_good : (reads : FieldSet) (sources : List Source) (ops : List PlanOp) (present condition : Operand) (columns : List Operand)
+joined_good : (reads : FieldSet) (sources : List FieldSource) (ops : List PlanOp) (present condition : Operand) (columns : List Operand)
     → AreWritable reads ops → IsGood reads present → IsGood reads condition → AreFrom reads sources columns →
-    IsMadeGood reads sources (joined ops present condition columns)
+    IsMadeGood reads sources (made_join ops present condition columns)
 joined_good reads sources ops present condition columns w p c from =
     let one = with_one reads (Two two.Both) ops present condition w p c refl tt in
     record { written = one.written; stream = record { present = one.value; columns = from } }
 
-slot_good : (reads : FieldSet) (sources : List Source) (columns : List Operand) (slots : List ℕ) → AreFrom reads sources columns
+slot_good : (reads : FieldSet) (sources : List FieldSource) (columns : List Operand) (slots : List ℕ) → AreFrom reads sources columns
     → AreRead reads sources slots → (s : ℕ) → IsIn' s slots → IsGood reads (operand_at columns s)
 slot_good reads sources columns (slot ∷ slots) from named s (inl e) = subst (λ n. IsGood reads (operand_at columns n)) (sym e)
     (column_good reads sources columns slot from named.0)
 slot_good reads sources columns (slot ∷ slots) from named s (inr h) = slot_good reads sources columns slots from named.1 s h
 slot_good reads sources columns [] from named s h = absurd h
 
-conditioned_good : (reads : FieldSet) (sources : List Source) (over : List Operand) (slots : ℕ) (e : Term) (ops : List PlanOp)
+conditioned_good : (reads : FieldSet) (sources : List FieldSource) (over : List Operand) (slots : ℕ) (e : Term) (ops : List PlanOp)
     (present : Operand) (columns : List Operand) → ((s : ℕ) → IsIn' s (term_slots e) → IsGood reads (operand_at over s)) →
     IsValidTerm slots e → AreWritable reads ops → IsGood reads present → AreFrom reads sources columns
     → IsMadeGood reads sources (conditioned over e ops present columns)
@@ -71,23 +71,24 @@ conditioned_good reads sources over slots e ops present columns good v w p from 
     let c = compiled_good reads over slots e ops good v w in
     joined_good reads sources (compiled over e ops).ops present (compiled over e ops).value columns c.written p c.value from
 
-from_append : (reads : FieldSet) (ss ts : List Source) (os ps : List Operand) → AreFrom reads ss os → AreFrom reads ts ps
+from_append : (reads : FieldSet) (ss ts : List FieldSource) (os ps : List Operand) → AreFrom reads ss os → AreFrom reads ts ps
     → AreFrom reads (ss ++ ts) (os ++ ps)
 from_append reads [] ts [] ps a b = b
 from_append reads (s ∷ ss) ts (o ∷ os) ps a b = (a.0, from_append reads ss ts os ps a.1 b)
 from_append reads [] ts (o ∷ os) ps a b = absurd a
 from_append reads (s ∷ ss) ts [] ps a b = absurd a
 
-from_picked : (reads : FieldSet) (sources : List Source) (columns : List Operand) (slots : List ℕ) → AreFrom reads sources columns
+from_picked : (reads : FieldSet) (sources : List FieldSource) (columns : List Operand) (slots : List ℕ) → AreFrom reads sources columns
     → AreFrom reads (map (source_at sources) slots) (map (operand_at columns) slots)
 from_picked reads sources columns [] h = tt
 from_picked reads sources columns (slot ∷ slots) h = (from_at reads sources columns slot h, from_picked reads sources columns slots h)
 
-record AreMapped (reads : FieldSet) (sources : List Source) (ops : List PlanOp) (values : List Operand) : Type 0 where
+record AreMapped (reads : FieldSet) (sources : List FieldSource) (ops : List PlanOp) (values : List Operand) : Type 0 where
   written : AreWritable reads ops
   are : AreFrom reads sources values
 
-mapped_good : (reads : FieldSet) (sources : List Source) (columns : List Operand) (slots : ℕ) (values : List TypedExpr) (ss : List Source)
+mapped_good : (reads : FieldSet) (sources : List FieldSource) (columns : List Operand) (slots : ℕ) (values : List TypedExpr)
+    (ss : List FieldSource)
     (found : List Operand) (ops : List PlanOp) →
     AreFrom reads sources columns → AreFrom reads ss found → All (IsValidWord slots) values
     → AreRead reads sources (flat_map (λ e. term_slots (term_of e)) values) → AreWritable reads ops →
@@ -115,10 +116,11 @@ numbers_good : (reads : FieldSet) (numbers : List ℕ) → AllWords numbers → 
 numbers_good reads [] h = tt
 numbers_good reads (n ∷ numbers) h = (h.0, numbers_good reads numbers h.1)
 
-emitted_good : (reads : FieldSet) (sources : List Source) (o : Option TypedExpr) (states args : ℕ) (over : List Operand) (input : Wires)
+emitted_good : (reads : FieldSet) (sources : List FieldSource) (o : Option TypedExpr) (states args : ℕ) (over : List Operand)
+    (input : Wires)
     (keys : List Operand) (ops : List PlanOp) →
     IfSome o (λ e. IsValidEmit states args (term_of e)) → AllGood reads over → IsGood reads input.present → AreFrom reads sources keys
-    → AreWritable reads ops → IsMadeGood reads sources (emitted o over input keys ops)
+    → AreWritable reads ops → IsMadeGood reads sources (made_emit o over input keys ops)
 emitted_good reads sources None states args over input keys ops v good p from w =
     record { written = w; stream = record { present = below_two 0 refl; columns = from } }
 emitted_good reads sources (Some e) states args over input keys ops v good p from w =
@@ -129,10 +131,11 @@ emitted_good reads sources (Some e) states args over input keys ops v good p fro
 abbrev pub AreFit : List TypedFold → Type 0
 AreFit folds = (i : ℕ) (f : TypedFold) → slice_get folds i ≡ Some f → IsValidFold f × AllWords f.initial
 
-grouped_good : (reads : FieldSet) (sources : List Source) (o : Option TypedFold) (input : Wires) (keys args : List ℕ) (ops : List PlanOp) →
+grouped_good : (reads : FieldSet) (sources : List FieldSource) (o : Option TypedFold) (input : Wires) (keys args : List ℕ)
+    (ops : List PlanOp) →
     ((f : TypedFold) → o ≡ Some f → IsValidFold f × AllWords f.initial) → IsStream reads sources input
     → AreRead reads sources (keys ++ args) → AreWritable reads ops →
-    IsMadeGood reads (map (source_at sources) keys) (grouped o input keys args ops)
+    IsMadeGood reads (map (source_at sources) keys) (made_group o input keys args ops)
 grouped_good reads sources None input keys args ops fit s named w =
     record { written = w; stream = record { present = below_two 0 refl; columns = from_picked reads sources input.columns keys s.columns } }
 grouped_good reads sources (Some f) input keys args ops fit s named w =
@@ -143,10 +146,10 @@ grouped_good reads sources (Some f) input keys args ops fit s named w =
     (columns_good reads sources input.columns args s.columns (read_right reads sources keys args named)))
     s.present (from_picked reads sources input.columns keys s.columns) w
 
-abbrev pub AreStreams : FieldSet → List (List Source) → List Wires → Type 0
+abbrev pub AreStreams : FieldSet → List (List FieldSource) → List Wires → Type 0
 AreStreams reads sources streams = (j : ℕ) → IsStream reads (sources_at sources j) (wires_at streams j)
 
-made_good : (reads : FieldSet) (folds : List TypedFold) (before : List TypedStream) (width : ℕ) (sources : List (List Source))
+made_good : (reads : FieldSet) (folds : List TypedFold) (before : List TypedStream) (width : ℕ) (sources : List (List FieldSource))
     (streams : List Wires) (op : TypedOp) (ops : List PlanOp) →
     AreFit folds → IsValidOp folds before width op → AreStreams reads sources streams
     → AreRead reads (sources_at sources (named_input op)) (named_slots op) → AreWritable reads ops →
@@ -180,7 +183,7 @@ input_before folds before width (Zip left right slots) v = v.0
 input_before folds before width (Group input keys f args) v = v.0
 
 -- one more stream
-more_streams : (reads : FieldSet) (sources : List (List Source)) (streams : List Wires) (made : List Source) (wires : Wires)
+more_streams : (reads : FieldSet) (sources : List (List FieldSource)) (streams : List Wires) (made : List FieldSource) (wires : Wires)
     → length streams ≡ length sources → AreStreams reads sources streams → IsStream reads made wires →
     AreStreams reads (sources ++ made ∷ []) (streams ++ wires ∷ [])
 more_streams reads sources streams made wires long all new j = elim (cases_lt j (length streams)) [
@@ -198,15 +201,15 @@ more_streams reads sources streams made wires long all new j = elim (cases_lt j 
     no_wires : Wires
     no_wires = wires_at [] 0
 
-    place : (w : Wires) (s : List Source) → wires_at (streams ++ wires ∷ []) j ≡ w → sources_at (sources ++ made ∷ []) j ≡ s
+    place : (w : Wires) (s : List FieldSource) → wires_at (streams ++ wires ∷ []) j ≡ w → sources_at (sources ++ made ∷ []) j ≡ s
         → IsStream reads s w → IsStream reads (sources_at (sources ++ made ∷ []) j) (wires_at (streams ++ wires ∷ []) j)
     place w s p q h = subst (IsStream reads (sources_at (sources ++ made ∷ []) j)) (sym p) (subst (λ x. IsStream reads x w) (sym q) h)
 
 -- where the columns of streams after others come from
-abbrev pub sources_after : List (List Source) → List TypedStream → List (List Source)
+abbrev pub sources_after : List (List FieldSource) → List TypedStream → List (List FieldSource)
 sources_after sources list = fold (λ streams one. streams ++ sources_made streams one.op ∷ []) sources list
 
-kept_sources : (list : List TypedStream) (sources : List (List Source)) (j : ℕ) → j < length sources
+kept_sources : (list : List TypedStream) (sources : List (List FieldSource)) (j : ℕ) → j < length sources
     → sources_at (sources_after sources list) j ≡ sources_at sources j
 kept_sources [] sources j lt = refl
 kept_sources (one ∷ list) sources j lt =
@@ -214,24 +217,24 @@ kept_sources (one ∷ list) sources j lt =
     ∙ at_earlier sources (sources_made sources one.op) [] j lt
 
 -- the fields that streams name are read
-abbrev pub AreNamed : FieldSet → List (List Source) → List TypedStream → Type 0
+abbrev pub AreNamed : FieldSet → List (List FieldSource) → List TypedStream → Type 0
 AreNamed reads sources [] = Unit {0}
 AreNamed reads sources (one ∷ list) = AreRead reads (sources_at sources (named_input one.op)) (named_slots one.op)
     × AreNamed reads sources list
 
 -- what all streams make
-pub record AllAreGood (reads : FieldSet) (sources : List (List Source)) (made : AllMade) : Type 0 where
+pub record AllAreGood (reads : FieldSet) (sources : List (List FieldSource)) (made : AllMade) : Type 0 where
   pub written : AreWritable reads made.ops
   pub streams : AreStreams reads sources made.streams
 
 pub all_good : (reads : FieldSet) (folds : List TypedFold) (names : ℕ) (before list : List TypedStream) (ops : List PlanOp)
-    (streams : List Wires) (sources : List (List Source)) →
+    (streams : List Wires) (sources : List (List FieldSource)) →
     AreFit folds → AreValidStreams names folds before list → length sources ≡ length before + 1 → length streams ≡ length sources
     → AreStreams reads sources streams → AreNamed reads (sources_after sources list) list → AreWritable reads ops →
     AllAreGood reads (sources_after sources list) (all_made folds ops streams list)
 all_good reads folds names before [] ops streams sources fit v few long all named w = record { written = w; streams = all }
 all_good reads folds names before (one ∷ list) ops streams sources fit v few long all named w =
-    let made : List Source = sources_made sources one.op in
+    let made : List FieldSource = sources_made sources one.op in
     let within : named_input one.op < length sources = omega (
       arith,
       few,
@@ -248,7 +251,7 @@ all_good reads folds names before (one ∷ list) ops streams sources fit v few l
     (more_streams reads sources streams made (made_by folds streams one.op ops).wires long all m.stream) named.1 m.written
 
 -- what the fields of these streams are, where their set is known
-read_from : (reads : FieldSet) (sources : List Source) (slots : List ℕ)
+read_from : (reads : FieldSet) (sources : List FieldSource) (slots : List ℕ)
     → ((f : Field) → IsIn f (filter_map (source_at sources) slots) → HasField reads f) → AreRead reads sources slots
 read_from reads sources [] h = tt
 read_from reads sources (slot ∷ slots) h = (
@@ -257,12 +260,12 @@ read_from reads sources (slot ∷ slots) h = (
   read_from reads sources slots (λ f i. h f (later f (source_at sources slot) i)),
 )
   where
-    later : (f : Field) (o : Source) → IsIn f (filter_map (source_at sources) slots)
+    later : (f : Field) (o : FieldSource) → IsIn f (filter_map (source_at sources) slots)
         → IsIn f (cons_option o (filter_map (source_at sources) slots))
     later f None i = i
     later f (Some g) i = inr i
 
-pub named_from : (reads : FieldSet) (sources : List (List Source)) (list : List TypedStream)
+pub named_from : (reads : FieldSet) (sources : List (List FieldSource)) (list : List TypedStream)
     → ((f : Field) → IsIn f (flat_map (λ one. named_fields sources one.op) list) → HasField reads f) → AreNamed reads sources list
 named_from reads sources [] h = tt
 named_from reads sources (one ∷ list) h = (

@@ -2,6 +2,7 @@
 use Rattle.std.proofs.Common.{◌≡◌, ℕ, ◌-◌, ◌≤◌, Bool, true, false, List, Some, None, Option, refl, ap, arith}
 use Rattle.std.specs.Prelude.{nat_lt, slice_get, if◌then◌else◌}
 use Rattle.marple_base.specs.declared.field.FieldSet.{FieldSet}
+use Rattle.marple_base.specs.declared.field.TheConstants.{FIELDS}
 use Rattle.query_lang.specs.declared.fold.Op.{Op}
 use Rattle.query_lang.specs.declared.fold.Op.TheVariants as two
 use Rattle.query_lang.specs.Terms.{Operation}
@@ -17,20 +18,20 @@ use Rattle.marple_laws.proofs.Known.{IsGood, IsSingle, IsWritable, below_two}
 -- what is moved with the registers of operations
 
 abbrev pub AreAfterFields : List ℕ → Type 0
-AreAfterFields registers = (k r : ℕ) → slice_get registers k ≡ Some r → 14 ≤ r
+AreAfterFields registers = (k r : ℕ) → slice_get registers k ≡ Some r → FIELDS ≤ r
 
 pub moved_good : (reads : FieldSet) (registers : List ℕ) (o : Operand) → AreAfterFields registers → IsGood reads o
     → IsGood reads (moved registers o)
 moved_good reads registers (Number n) beyond g = g
-moved_good reads registers (Register r) beyond g = by (nat_lt r 14) refl
+moved_good reads registers (Register r) beyond g = by (nat_lt r FIELDS) refl
   where
-    new : (o : Option ℕ) → slice_get registers (r - 14) ≡ o → IsGood reads (register_or_none o)
+    new : (o : Option ℕ) → slice_get registers (r - FIELDS) ≡ o → IsGood reads (register_or_none o)
     new None e = below_two 0 refl
-    new (Some x) e = λ early. absurd (omega (arith, early, beyond (r - 14) x e))
+    new (Some x) e = λ early. absurd (omega (arith, early, beyond (r - FIELDS) x e))
 
-    by : (b : Bool) → nat_lt r 14 ≡ b → IsGood reads (if b then Register r else register_or_none (slice_get registers (r - 14)))
+    by : (b : Bool) → nat_lt r FIELDS ≡ b → IsGood reads (if b then Register r else register_or_none (slice_get registers (r - FIELDS)))
     by true e = g
-    by false e = new (slice_get registers (r - 14)) refl
+    by false e = new (slice_get registers (r - FIELDS)) refl
 
 moved_right : (registers : List ℕ) (op : operation.Operation) (right : Operand) → is_right_of op right ≡ true
     → is_right_of op (moved registers right) ≡ true

@@ -4,6 +4,8 @@ use Rattle.std.specs.Prelude.{◌⊎◌, codes}
 use Rattle.marple_base.specs.declared.field.Field.{Field}
 use Rattle.marple_base.specs.declared.field.Field.TheVariants as fields
 use Rattle.marple_base.specs.Field.{all_fields, field_name, number_of}
+use Rattle.marple_base.specs.declared.field.TheConstants.{FIELDS}
+use Rattle.query_lang.specs.declared.fault.TheConstants.{MAX_STAGES}
 use Rattle.stage_plan.specs.declared.op.Operand.{Operand}
 use Rattle.stage_plan.specs.declared.op.Operand.TheVariants.{Register, Number}
 use Rattle.stage_plan.specs.declared.op.PlanOp.{PlanOp}
@@ -101,7 +103,7 @@ reads_line line = by (tokens line) refl
 -- operands and the lines `op`
 
 pub known : (fs : List Field) (ops : List PlanOp) (o : Operand) → Decided (IsKnown fs ops o)
-known fs ops (Register r) = either (contains same_number (map number_of fs) r) (both (most 14 r) (less r (14 + length ops)))
+known fs ops (Register r) = either (contains same_number (map number_of fs) r) (both (most FIELDS r) (less r (FIELDS + length ops)))
 known fs ops (Number n) = inl tt
 
 staged : (ops : List PlanOp) (op : PlanOp) → Decided (IsStaged ops op)
@@ -110,7 +112,7 @@ staged ops op =
     (λ p. record { room = p.0.0; least = p.0.1; most = p.1.0.0; order = p.1.0.1; stage = p.1.1.0; constant = p.1.1.1 })
     (λ s. ((s.room, s.least), ((s.most, s.order), (s.stage, s.constant))))
     (both (both (less (length ops) 32768) (most 1 op.stage))
-    (both (both (most op.stage 64) (most (last_stage ops) op.stage))
+    (both (both (most op.stage MAX_STAGES) (most (last_stage ops) op.stage))
     (both (same_number op.stage (1 + max (stage_of ops op.left) (stage_of ops op.right))) (is_true (is_right_of op.op op.right)))))
 
 allowed : (fs : List Field) (ops : List PlanOp) (op : PlanOp) → Decided (IsAllowed fs ops op)

@@ -31,6 +31,7 @@ use Rattle.query_lang.specs.TypedStreams.{no_new_columns, keys_checked, key_name
 use Rattle.query_lang.specs.TypedStreams.{stream_checked, next_stream}
 use Rattle.query_lang.specs.TypedExprs.{condition_of}
 use Rattle.query_lang.specs.Typing.{with_fold, fold_added}
+use Rattle.query_lang.specs.declared.fault.TheConstants.{MAX_GROUPBYS}
 use Rattle.marple_laws.proofs.Items.{must_ok, must_not_ok, found_first, same_ok, IsIn, in_push, new_push}
 use Rattle.marple_laws.proofs.Columns.{fold_new, states_apart, AreKeyColumns, key_columns_are}
 use Rattle.marple_laws.specs.WellNamed.{AreNew}
@@ -280,7 +281,7 @@ stream_made packets five e name (ops.Zip first second) made good ok =
     let none = must_not_ok (clash left.0.columns right.0.columns) NameTaken second.span _ made right.2 in
     subst (IsMade e) (same_ok _ made none.1) (record { table = inl refl; columns = tt })
 stream_made packets five e name (ops.Group input keys fold_name) made good ok =
-    grouped_made packets five e input keys fold_name made good (must_ok (nat_lt e.groups 8) (OverLimit Groupbys) name.span
+    grouped_made packets five e input keys fold_name made good (must_ok (nat_lt e.groups MAX_GROUPBYS) (OverLimit Groupbys) name.span
     (grouped five e input keys fold_name) made ok).1
 
 -- what an added stream's name means

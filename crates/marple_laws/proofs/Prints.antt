@@ -7,7 +7,7 @@ use Rattle.query_lang.specs.declared.typed.PrintOf.{PrintOf}
 use Rattle.query_lang.specs.declared.typed.PrintOf.TheVariants as place
 use Rattle.query_lang.specs.declared.typed.TypedFinal.{TypedFinal}
 use Rattle.query_lang.specs.declared.typed.TypedQuery.{TypedQuery}
-use Rattle.query_lang.specs.TypedQueries.{IsTable}
+use Rattle.query_lang.specs.TypedQueries.{IsQueryTable}
 use Rattle.query_lang.specs.Words.{AreWords, IsWord}
 use Rattle.plan_writer.specs.PlanText.{final_fault, first_final}
 use Rattle.marple_laws.specs.MadeOf.{printed_group}
@@ -26,11 +26,11 @@ AreGroups [] = Unit {0}
 AreGroups (place.Group i ∷ prints) = AreGroups prints
 AreGroups (place.Final i ∷ prints) = ⊥
 
-pub only_groups : (q : TypedQuery) (prints : List PrintOf) → All (IsTable q) prints → final_fault q ≡ None → AreGroups prints
+pub only_groups : (q : TypedQuery) (prints : List PrintOf) → All (IsQueryTable q) prints → final_fault q ≡ None → AreGroups prints
 only_groups q [] all none = tt
-only_groups q (place.Group i ∷ prints) all none = only_groups q prints (All-tail (IsTable q) (place.Group i) prints all) none
+only_groups q (place.Group i ∷ prints) all none = only_groups q prints (All-tail (IsQueryTable q) (place.Group i) prints all) none
 only_groups q (place.Final i ∷ prints) all none =
-    let lt : i < length q.finals = All-head (IsTable q) (place.Final i) prints all in
+    let lt : i < length q.finals = All-head (IsQueryTable q) (place.Final i) prints all in
     let no : length q.finals ≡ 0 = none_first q.finals none in
     omega (arith, lt, no)
 

@@ -10,9 +10,10 @@ use Rattle.marple_base.specs.declared.field.Field.TheVariants.{TcpSeq, Tin, Tout
 use Rattle.marple_base.specs.declared.field.FieldSet.{FieldSet}
 use Rattle.marple_base.specs.declared.field.Packet.{Packet}
 use Rattle.trace_reader.specs.Reading.{records}
-use Rattle.trace_reader.specs.Traces.{Contents, Layout, column_of, columns_named, columns_of, contents, contents_from, contents_with, each}
+use Rattle.trace_reader.specs.Traces.{Contents, Layout, column_of_field, columns_named, columns_of_fields, contents, contents_from}
+use Rattle.trace_reader.specs.Traces.{contents_with, each}
 use Rattle.trace_reader.specs.Traces.{layout_of, layout_with, only_column, opening, packet_of, packet_with}
-use Rattle.trace_reader.specs.Traces.{rest_of, with_first, with_packet, word_at, words_of}
+use Rattle.trace_reader.specs.Traces.{rest_of, with_first, with_packet, word_at, words_in_columns}
 use Rattle.trace_reader.specs.declared.fault.TheConstants.{MAX_RECORDS, MAX_TRACE}
 use Rattle.trace_reader.specs.declared.fault.TraceFault.{TraceFault}
 use Rattle.trace_reader.specs.declared.fault.TraceFault.TheVariants as fault
@@ -43,8 +44,8 @@ abbrev masked : FieldSet → List Field → List (Option ℕ) → List (Option �
 masked reads (f ∷ fields) (column ∷ columns) = cond (has_field reads f) column None ∷ masked reads fields columns
 masked reads _ _ = []
 
-column_masked : (reads : FieldSet) (header : List (List ℕ)) (f : Field) (column : Option ℕ) → column_of whole header f ≡ Ok column
-    → column_of reads header f ≡ Ok (cond (has_field reads f) column None)
+column_masked : (reads : FieldSet) (header : List (List ℕ)) (f : Field) (column : Option ℕ) → column_of_field whole header f ≡ Ok column
+    → column_of_field reads header f ≡ Ok (cond (has_field reads f) column None)
 column_masked reads header f column e = go (has_field reads f)
   where
     found : Result (Option ℕ) TraceFault
@@ -58,22 +59,24 @@ column_masked reads header f column e = go (has_field reads f)
     go false = refl
 
 columns_masked : (reads : FieldSet) (header : List (List ℕ)) (fields : List Field) (columns : List (Option ℕ))
-    → each (column_of whole header) fields ≡ Ok columns → each (column_of reads header) fields ≡ Ok (masked reads fields columns)
+    → each (column_of_field whole header) fields ≡ Ok columns → each (column_of_field reads header) fields ≡ Ok
+    (masked reads fields columns)
 unfolding each
 columns_masked reads header [] columns e = refl
 columns_masked reads header (f ∷ fields) columns e =
-    go (columns_masked reads header fields) (column_of whole header f) refl (each (column_of whole header) fields) refl e
+    go (columns_masked reads header fields) (column_of_field whole header f) refl (each (column_of_field whole header) fields) refl e
   where
-    go : ((cs : List (Option ℕ)) → each (column_of whole header) fields ≡ Ok cs
-        → each (column_of reads header) fields ≡ Ok (masked reads fields cs))
-        → (a : Result (Option ℕ) TraceFault) → column_of whole header f ≡ a → (b : Result (List (Option ℕ)) TraceFault)
-        → each (column_of whole header) fields ≡ b → with_first a b ≡ Ok columns
-        → with_first (column_of reads header f) (each (column_of reads header) fields) ≡ Ok (masked reads (f ∷ fields) columns)
+    go : ((cs : List (Option ℕ)) → each (column_of_field whole header) fields ≡ Ok cs
+        → each (column_of_field reads header) fields ≡ Ok (masked reads fields cs))
+        → (a : Result (Option ℕ) TraceFault) → column_of_field whole header f ≡ a → (b : Result (List (Option ℕ)) TraceFault)
+        → each (column_of_field whole header) fields ≡ b → with_first a b ≡ Ok columns
+        → with_first (column_of_field reads header f) (each (column_of_field reads header) fields) ≡ Ok (masked reads (f ∷ fields) columns)
     go rest (Err x) ea b eb h = absurd (cc h)
     go rest (Ok c) ea (Err x) eb h = absurd (cc h)
     go rest (Ok c) ea (Ok cs) eb h =
         let same : c ∷ cs ≡ columns = cc in
-        subst (λ l. with_first (column_of reads header f) (each (column_of reads header) fields) ≡ Ok (masked reads (f ∷ fields) l)) same
+        subst (λ l. with_first (column_of_field reads header f) (each (column_of_field reads header) fields) ≡ Ok
+        (masked reads (f ∷ fields) l)) same
         (rw (column_masked reads header f c ea, rest cs eb) refl)
 
 -- the words of a record
@@ -133,19 +136,19 @@ module _ (reads : FieldSet) (width : ℕ) (columns : List (Option ℕ)) where
   packet_masked : (n : ℕ) (texts : List (List ℕ)) (p : Packet) → packet_of full n texts ≡ Ok p
       → packet_of fewer n texts ≡ Ok (as_read reads p)
   unfolding packet_of
-  packet_masked n texts p e = go (nat_lt MAX_RECORDS n) (not (length texts == width)) (words_of columns texts) refl e
+  packet_masked n texts p e = go (nat_lt MAX_RECORDS n) (not (length texts == width)) (words_in_columns columns texts) refl e
     where
-      go : (a b : Bool) (w : Result (List ℕ) Field) → words_of columns texts ≡ w
+      go : (a b : Bool) (w : Result (List ℕ) Field) → words_in_columns columns texts ≡ w
           → cond a (Err fault.TooManyPackets) (cond b (Err (fault.FieldCount n)) (packet_with n w)) ≡ Ok p
           → cond a (Err fault.TooManyPackets) (cond b (Err (fault.FieldCount n))
-          (packet_with n (words_of (masked reads all_fields columns) texts)))
+          (packet_with n (words_in_columns (masked reads all_fields columns) texts)))
           ≡ Ok (as_read reads p)
       go true b w ew h = absurd (cc h)
       go false true w ew h = absurd (cc h)
       go false false (Err f) ew h = absurd (cc h)
       go false false (Ok ws) ew h =
           let same : record { words = ws } ≡ p = cc in
-          subst (λ x. packet_with n (words_of (masked reads all_fields columns) texts) ≡ Ok (as_read reads x)) same
+          subst (λ x. packet_with n (words_in_columns (masked reads all_fields columns) texts) ≡ Ok (as_read reads x)) same
           (ap (packet_with n) (words_masked reads texts all_fields columns ws ew))
 
   contents_masked : (n : ℕ) (rest : List (List (List ℕ))) (sent : List Packet)
@@ -181,9 +184,10 @@ pub read_fewer : (text : List ℕ) (reads : FieldSet) (sent : List Packet) → c
 unfolding contents opening
 read_fewer text reads sent e = go (nat_lt MAX_TRACE (length text)) (records text) e
   where
-    inner : (header : List (List ℕ)) (rest : List (List (List ℕ))) (r : Result (List (Option ℕ)) TraceFault) → columns_of whole header ≡ r
+    inner : (header : List (List ℕ)) (rest : List (List (List ℕ))) (r : Result (List (Option ℕ)) TraceFault)
+        → columns_of_fields whole header ≡ r
         → contents_with (layout_with (length header) r) rest ≡ good sent
-        → contents_with (layout_with (length header) (columns_of reads header)) rest ≡ good (all_as_read reads sent)
+        → contents_with (layout_with (length header) (columns_of_fields reads header)) rest ≡ good (all_as_read reads sent)
     inner header rest (Err x) er h = let none : Some x ≡ None = ap (λ (c : Contents). c.fault) h in absurd (cc none)
     inner header rest (Ok columns) er h =
         rw (columns_masked reads header all_fields columns er) (contents_masked reads (length header) columns 1 rest sent h)
@@ -193,4 +197,4 @@ read_fewer text reads sent e = go (nat_lt MAX_TRACE (length text)) (records text
         → contents_with (cond b (Err fault.TraceTooLong) (layout_of rs reads)) (rest_of rs) ≡ good (all_as_read reads sent)
     go true rs h = let none : Some fault.TraceTooLong ≡ None = ap (λ (c : Contents). c.fault) h in absurd (cc none)
     go false [] h = let none : Some fault.NoHeader ≡ None = ap (λ (c : Contents). c.fault) h in absurd (cc none)
-    go false (header ∷ rest) h = inner header rest (columns_of whole header) refl h
+    go false (header ∷ rest) h = inner header rest (columns_of_fields whole header) refl h

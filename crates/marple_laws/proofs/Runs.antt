@@ -5,6 +5,7 @@ use Rattle.std.specs.List.{range_with_len}
 use Rattle.std.proofs.lemmas.List.{length-map}
 use Rattle.std.proofs.lemmas.List.Elements.{All-head, All-tail}
 use Rattle.std.proofs.lemmas.Option.{slice_get_within, slice_get_cases, slice_get-map}
+use Rattle.marple_base.specs.declared.field.TheConstants.{FIELDS}
 use Rattle.query_lang.specs.declared.fold.TypedFold.{TypedFold}
 use Rattle.query_lang.specs.declared.typed.PrintOf.{PrintOf}
 use Rattle.query_lang.specs.declared.typed.PrintOf.TheVariants as printed
@@ -13,7 +14,7 @@ use Rattle.query_lang.specs.declared.typed.TypedQuery.{TypedQuery}
 use Rattle.query_lang.specs.Folds.{IsValidFold, body, fold_block, fold_states, fold_args}
 use Rattle.query_lang.specs.Streams.{Taking, takings}
 use Rattle.query_lang.specs.TypedFinals.{table_number}
-use Rattle.query_lang.specs.TypedQueries.{IsValidQuery, IsTable}
+use Rattle.query_lang.specs.TypedQueries.{IsValidQuery, IsQueryTable}
 use Rattle.query_types.specs.Uses.{uses}
 use Rattle.epoch_model.specs.Driving.{uses_taken}
 use Rattle.epoch_model.specs.Epochs.{Geometry}
@@ -22,13 +23,13 @@ use Rattle.final_queries.specs.declared.table.Table.{Table}
 use Rattle.final_queries.specs.Finals.{with_finals}
 use Rattle.final_queries.specs.GroupTable.{group_table}
 use Rattle.fold_class.specs.Program.{IsProgramOf}
-use Rattle.query_tables.specs.Tables.{heading_of, query_table, table_if, tables_from, group_tables, text_at, query_text}
+use Rattle.query_tables.specs.Tables.{heading_of_shape, query_table, table_if, tables_from, group_tables, table_text_at, query_text}
 use Rattle.stage_plan.specs.declared.group.GroupPlan.{GroupPlan}
 use Rattle.stage_plan.specs.declared.group.GroupWiring.{GroupWiring}
 use Rattle.stage_plan.specs.declared.op.Operand.TheVariants.{Number}
 use Rattle.stage_plan.specs.Ordering.{wiring_of}
 use Rattle.stage_plan.specs.Planned.{IsPlanOf, fold_at, query_made, wiring_at}
-use Rattle.stage_plan.specs.Registers.{after, stages_of, taken_at}
+use Rattle.stage_plan.specs.Registers.{registers_after, stages_of, taken_at}
 use Rattle.stage_plan.specs.Shape.{GroupShape, group_shape, query_groups}
 use Rattle.stage_plan.specs.Sound.{PlanParts, IsSoundGroup, IsSoundPlan}
 use Rattle.plan_file.specs.declared.made.Folded.{Folded}
@@ -111,7 +112,7 @@ module _ (q : TypedQuery) (p : PlanParts) (valid : IsValidQuery q) (plan : IsPla
       wired = slice_get-map (wiring_of (query_registers q) (query_made q).streams) (takings q.streams) i
           ∙ ap (option_map (wiring_of (query_registers q) (query_made q).streams)) e
 
-      s : IsSoundGroup (14 + length p.ops) group (wiring_of (query_registers q) (query_made q).streams t)
+      s : IsSoundGroup (FIELDS + length p.ops) group (wiring_of (query_registers q) (query_made q).streams t)
       s = sound.each i group (wiring_of (query_registers q) (query_made q).streams t) g
           (ap (λ l. slice_get l i) (wiring_is q p plan) ∙ wired)
 
@@ -135,13 +136,14 @@ module _ (q : TypedQuery) (p : PlanParts) (valid : IsValidQuery q) (plan : IsPla
     | inr past ↦ absurd (let l = slice_get_within (query_groups q) i shape e in omega (arith, past.0, l, shapes_long))
   ]
 
-  module _ (g : Geometry) (packets : List (List ℕ)) (whole : All (λ words. length words ≡ 14) packets) where
+  module _ (g : Geometry) (packets : List (List ℕ)) (whole : All (λ words. length words ≡ FIELDS) packets) where
     same_uses : (i : ℕ) (shape : GroupShape) (h : HasParts q i) → i < length p.groups
         → uses_in (made_of q) (folded_with shape h.wiring h.fold) packets ≡ uses q i packets
     same_uses i shape h lt = sym (
         plan.takes i packets lt whole
-        ∙ ap (λ w. uses_taken 1 (map (λ words. taken_at w (after p.ops words (stages_of p.ops))) packets)) wiring
-        ∙ ap (λ ops. uses_taken 1 (map (λ words. taken_at h.wiring (after ops words (stages_of ops))) packets)) (ops_are q p plan))
+        ∙ ap (λ w. uses_taken 1 (map (λ words. taken_at w (registers_after p.ops words (stages_of p.ops))) packets)) wiring
+        ∙ ap (λ ops. uses_taken 1 (map (λ words. taken_at h.wiring (registers_after ops words (stages_of ops))) packets))
+        (ops_are q p plan))
       where
         wiring : wiring_at p i ≡ h.wiring
         wiring = ap (λ o. unwrap_or o (record { present = Number 0; keys = []; args = [] }))
@@ -150,9 +152,9 @@ module _ (q : TypedQuery) (p : PlanParts) (valid : IsValidQuery q) (plan : IsPla
     same_table : (i : ℕ) (shape : GroupShape) (h : HasParts q i) → i < length p.groups
         → table_in (made_of q) g packets (folded_with shape h.wiring h.fold) ≡ query_table q g packets i shape h.fold
     same_table i shape h lt =
-        ap (λ f. group_table (heading_of shape) f g (uses_in (made_of q) (folded_with shape h.wiring h.fold) packets))
+        ap (λ f. group_table (heading_of_shape shape) f g (uses_in (made_of q) (folded_with shape h.wiring h.fold) packets))
         (one_folding shape h.wiring h.fold h.valid h.args)
-        ∙ ap (group_table (heading_of shape) (folding_of h.fold) g) (same_uses i shape h lt)
+        ∙ ap (group_table (heading_of_shape shape) (folding_of h.fold) g) (same_uses i shape h lt)
 
     same_tables : (rest : List GroupShape) (i : ℕ) → i + length rest ≡ length p.groups
         → ((k : ℕ) → slice_get (query_groups q) (i + k) ≡ slice_get rest k) →
@@ -174,14 +176,14 @@ module _ (q : TypedQuery) (p : PlanParts) (valid : IsValidQuery q) (plan : IsPla
         ∙ ap (λ l. query_table q g packets i shape h.fold ∷ l) more
         ∙ ap (λ o. table_if q g packets i shape o ++ tables_from q g packets (suc i) rest) (sym h.fold_is)
 
-    printed_same : (tables : List Table) (prints : List PrintOf) → q.finals ≡ [] → All (IsTable q) prints →
-        flat_map (text_at tables) (flat_map printed_group prints) ≡ flat_map
-        (λ one. text_at tables (table_number (length (takings q.streams)) one)) prints
+    printed_same : (tables : List Table) (prints : List PrintOf) → q.finals ≡ [] → All (IsQueryTable q) prints →
+        flat_map (table_text_at tables) (flat_map printed_group prints) ≡ flat_map
+        (λ one. table_text_at tables (table_number (length (takings q.streams)) one)) prints
     printed_same tables [] none all = refl
-    printed_same tables (printed.Group i ∷ prints) none all = ap (λ l. text_at tables i ++ l)
-        (printed_same tables prints none (All-tail (IsTable q) (printed.Group i) prints all))
+    printed_same tables (printed.Group i ∷ prints) none all = ap (λ l. table_text_at tables i ++ l)
+        (printed_same tables prints none (All-tail (IsQueryTable q) (printed.Group i) prints all))
     printed_same tables (printed.Final i ∷ prints) none all = absurd (let lt =
-        All-head (IsTable q) (printed.Final i) prints all in omega (arith, lt, ap length none))
+        All-head (IsQueryTable q) (printed.Final i) prints all in omega (arith, lt, ap length none))
 
     pub one_output : final_fault q ≡ None → plan_output (made_of q) g packets ≡ query_text q g packets
     unfolding plan_output plan_tables query_text group_tables
@@ -193,7 +195,7 @@ module _ (q : TypedQuery) (p : PlanParts) (valid : IsValidQuery q) (plan : IsPla
         ∙ same_tables (query_groups q) 0 (omega (arith, shapes_long)) (λ k.
         (let z : 0 + k ≡ k = omega arith in ap (slice_get (query_groups q)) z))
         in
-        ap (λ l. flat_map (text_at l) (flat_map printed_group q.prints)) tables
+        ap (λ l. flat_map (table_text_at l) (flat_map printed_group q.prints)) tables
         ∙ printed_same (group_tables q g packets) q.prints none valid.prints
-        ∙ ap (λ finals. flat_map (λ one. text_at (with_finals q.names q.folds (group_tables q g packets) finals)
+        ∙ ap (λ finals. flat_map (λ one. table_text_at (with_finals q.names q.folds (group_tables q g packets) finals)
         (table_number (length (takings q.streams)) one)) q.prints) (sym none)

@@ -10,7 +10,8 @@ use Rattle.query_lang.specs.declared.typed.PrintOf.{PrintOf}
 use Rattle.query_lang.specs.declared.typed.PrintOf.TheVariants as printed
 use Rattle.query_lang.specs.declared.typed.TypedQuery.{TypedQuery}
 use Rattle.query_lang.specs.Streams.{takings}
-use Rattle.query_lang.specs.TypedQueries.{IsValidQuery, IsTable}
+use Rattle.query_lang.specs.TypedQueries.{IsValidQuery, IsQueryTable}
+use Rattle.query_lang.specs.declared.fault.TheConstants.{MAX_GROUPBYS}
 use Rattle.stage_plan.specs.declared.group.GroupWiring.{GroupWiring}
 use Rattle.stage_plan.specs.declared.op.PlanOp.{PlanOp}
 use Rattle.stage_plan.specs.Fields.{reads_of}
@@ -79,7 +80,7 @@ AreThere groups [] = Unit {0}
 AreThere groups (printed.Group i ∷ prints) = (i < groups) × AreThere groups prints
 AreThere groups (printed.Final i ∷ prints) = AreThere groups prints
 
-prints_written : (fields : List Field) (ops : List PlanOp) (groups : List Folded) → length groups ≤ 8
+prints_written : (fields : List Field) (ops : List PlanOp) (groups : List Folded) → length groups ≤ MAX_GROUPBYS
     → (prints : List PrintOf) (before : List ℕ) → AreThere (length groups) prints → AreNew before (flat_map printed_group prints) →
     IsWritten (flat_map print_line prints) (printing fields ops groups before)
     (printing fields ops groups (before ++ flat_map printed_group prints))
@@ -107,14 +108,14 @@ prints_written fields ops groups few (printed.Group i ∷ prints) before there n
     small : i < 2 ^ 64
     small = omega (arith, there.0, few)
 
-tables_there : (q : TypedQuery) (prints : List PrintOf) → All (IsTable q) prints → AreThere (length (takings q.streams)) prints
+tables_there : (q : TypedQuery) (prints : List PrintOf) → All (IsQueryTable q) prints → AreThere (length (takings q.streams)) prints
 tables_there q [] h = tt
 tables_there q (printed.Group i ∷ prints) h = (
-  All-head (IsTable q) (printed.Group i) prints h,
+  All-head (IsQueryTable q) (printed.Group i) prints h,
   tables_there q prints
-      (All-tail (IsTable q) (printed.Group i) prints h),
+      (All-tail (IsQueryTable q) (printed.Group i) prints h),
 )
-tables_there q (printed.Final i ∷ prints) h = tables_there q prints (All-tail (IsTable q) (printed.Final i) prints h)
+tables_there q (printed.Final i ∷ prints) h = tables_there q prints (All-tail (IsQueryTable q) (printed.Final i) prints h)
 
 module _ (q : TypedQuery) (p : PlanParts) (valid : IsValidQuery q) (text : HasPlanText q) (plan : IsPlanOf q p) (sound : IsSoundPlan p)
   where

@@ -15,7 +15,7 @@ use Rattle.stage_plan.specs.declared.group.GroupWiring.{GroupWiring}
 use Rattle.stage_plan.specs.declared.op.Operand.TheVariants.{Number}
 use Rattle.stage_plan.specs.declared.op.PlanOp.{PlanOp}
 use Rattle.stage_plan.specs.Planned.{wiring_at}
-use Rattle.stage_plan.specs.Registers.{after, stages_of, taken_at}
+use Rattle.stage_plan.specs.Registers.{registers_after, stages_of, taken_at}
 use Rattle.stage_plan.specs.Sound.{PlanParts}
 use Rattle.switch_core.specs.PlanLanes.{PipelineStands}
 use Rattle.trace_drive.specs.Drives.{end_machines, ends_from, uses_by}
@@ -42,7 +42,8 @@ module _ (made : Made) (plan : PlanParts) (from : IsPlanFrom made plan) (g : Geo
 
   uses_same : (i : ℕ) (one : Folded) → slice_get made.groups i ≡ Some one → uses_by plan i list ≡ uses_in made one list
   uses_same i one at =
-      let take : GroupWiring → List PlanOp → List ℕ → Option Taken = λ w ops words. taken_at w (after ops words (stages_of ops)) in
+      let take : GroupWiring → List PlanOp → List ℕ → Option Taken = λ w ops words. taken_at w
+      (registers_after ops words (stages_of ops)) in
       ap (λ w. uses_taken 1 (map (take w plan.ops) list)) (wiring_same i one at)
       ∙ ap (λ ops. uses_taken 1 (map (take (wiring_in one) ops) list)) from.ops
 

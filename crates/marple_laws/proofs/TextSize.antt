@@ -13,6 +13,7 @@ use Rattle.std.proofs.lemmas.Option.{same_Some, slice_get-map}
 use Rattle.marple_base.specs.declared.field.Field.{Field}
 use Rattle.marple_base.specs.declared.field.FieldSet.{FieldSet}
 use Rattle.marple_base.specs.Field.{all_fields, field_name, has_field}
+use Rattle.marple_base.specs.declared.field.TheConstants.{FIELDS}
 use Rattle.query_lang.specs.declared.fold.TypedFold.{TypedFold}
 use Rattle.query_lang.specs.declared.typed.PrintOf.{PrintOf}
 use Rattle.query_lang.specs.declared.typed.PrintOf.TheVariants as place
@@ -22,13 +23,14 @@ use Rattle.query_lang.specs.declared.typed.TypedQuery.{TypedQuery}
 use Rattle.query_lang.specs.declared.typed.TypedStream.{TypedStream}
 use Rattle.query_lang.specs.Folds.{IsValidFold}
 use Rattle.query_lang.specs.Streams.{Taking, takings}
-use Rattle.query_lang.specs.TypedQueries.{AreValidStreams, HasNames, IsTable, IsValidOp, IsValidQuery}
+use Rattle.query_lang.specs.TypedQueries.{AreValidStreams, HasNames, IsQueryTable, IsValidOp, IsValidQuery}
+use Rattle.query_lang.specs.declared.fault.TheConstants.{MAX_GROUPBYS, MAX_KEYS}
 use Rattle.fold_class.specs.Depth.{depth_of}
 use Rattle.stage_plan.specs.declared.op.Operand.{Operand}
 use Rattle.stage_plan.specs.declared.op.Operand.TheVariants.{Register, Number}
 use Rattle.stage_plan.specs.declared.op.PlanOp.{PlanOp}
 use Rattle.stage_plan.specs.Depths.{stage_fault}
-use Rattle.stage_plan.specs.Fields.{Source, all_sources, reads_of, sources_at}
+use Rattle.stage_plan.specs.Fields.{FieldSource, all_sources, reads_of, sources_at}
 use Rattle.stage_plan.specs.Making.{operand_at, wires_at}
 use Rattle.stage_plan.specs.Ordering.{moved, moved_op, op_numbered, register_or_none, wiring_of}
 use Rattle.stage_plan.specs.Planned.{fold_at, query_made}
@@ -74,19 +76,19 @@ reads_size reads =
     let h = fields_size reads all_fields in
     omega (arith, n, h)
 
-prints_size : (q : TypedQuery) → length (takings q.streams) ≤ 8 → (prints : List PrintOf) → All (IsTable q) prints
+prints_size : (q : TypedQuery) → length (takings q.streams) ≤ MAX_GROUPBYS → (prints : List PrintOf) → All (IsQueryTable q) prints
     → length (flat_map print_line prints) ≤ 27 * length prints
 prints_size q few [] all = omega arith
 prints_size q few (place.Group i ∷ prints) all =
-    let lt : i < length (takings q.streams) = All-head (IsTable q) (place.Group i) prints all in
+    let lt : i < length (takings q.streams) = All-head (IsQueryTable q) (place.Group i) prints all in
     let n = length-append (line (codes "print") (decimal i ∷ [])) (flat_map print_line prints) in
     let l = line_size (codes "print") (decimal i ∷ []) in
     let b = after_size (decimal i) [] in
     let d = decimal_size i (omega (arith, lt, few)) in
-    let h = prints_size q few prints (All-tail (IsTable q) (place.Group i) prints all) in
+    let h = prints_size q few prints (All-tail (IsQueryTable q) (place.Group i) prints all) in
     omega (arith, n, l, b, d, h)
 prints_size q few (place.Final i ∷ prints) all =
-    let h = prints_size q few prints (All-tail (IsTable q) (place.Final i) prints all) in
+    let h = prints_size q few prints (All-tail (IsQueryTable q) (place.Final i) prints all) in
     omega (arith, h)
 
 abbrev up : ℕ → List PrintOf
@@ -109,16 +111,16 @@ in_up i (suc n) lt = go (nat_eq i n) refl (in_up i n)
     go true e more = let same : i ≡ n = grind (arith, nat_tests) in inl (ap place.Group same)
     go false e more = let other = eqb-false i n e in inr (more (omega (arith, lt, other)))
 
-prints_in : (q : TypedQuery) (prints : List PrintOf) → All (IsTable q) prints → AreGroups prints → (p : PrintOf) → IsIn p prints
+prints_in : (q : TypedQuery) (prints : List PrintOf) → All (IsQueryTable q) prints → AreGroups prints → (p : PrintOf) → IsIn p prints
     → IsIn p (up (length (takings q.streams)))
 prints_in q [] all are p i = absurd i
 prints_in q (place.Group n ∷ prints) all are p (inl e) =
     subst (λ x. IsIn x (up (length (takings q.streams)))) (sym e) (in_up n (length (takings q.streams))
-    (All-head (IsTable q) (place.Group n) prints all))
-prints_in q (place.Group n ∷ prints) all are p (inr i) = prints_in q prints (All-tail (IsTable q) (place.Group n) prints all) are p i
+    (All-head (IsQueryTable q) (place.Group n) prints all))
+prints_in q (place.Group n ∷ prints) all are p (inr i) = prints_in q prints (All-tail (IsQueryTable q) (place.Group n) prints all) are p i
 prints_in q (place.Final n ∷ prints) all are p i = absurd are
 
-few_prints : (q : TypedQuery) → IsValidQuery q → AreGroups q.prints → AreNew [] q.prints → length q.prints ≤ 8
+few_prints : (q : TypedQuery) → IsValidQuery q → AreGroups q.prints → AreNew [] q.prints → length q.prints ≤ MAX_GROUPBYS
 few_prints q v are new =
     let t = taken (λ p. 1) q.prints (up (length (takings q.streams))) [] new (prints_in q q.prints v.prints are) in
     let s = t.sum in
@@ -137,11 +139,11 @@ good_fits : (reads : FieldSet) (o : Operand) → IsGood reads o → NumFits o
 good_fits reads (Register r) g = tt
 good_fits reads (Number n) g = g
 
-from_fits : (reads : FieldSet) (s : Source) (o : Operand) → IsFrom reads s o → NumFits o
+from_fits : (reads : FieldSet) (s : FieldSource) (o : Operand) → IsFrom reads s o → NumFits o
 from_fits reads None o h = good_fits reads o h
 from_fits reads (Some f) o h = subst NumFits (sym h) tt
 
-column_fits : (reads : FieldSet) (sources : List Source) (columns : List Operand) (slot : ℕ) → AreFrom reads sources columns
+column_fits : (reads : FieldSet) (sources : List FieldSource) (columns : List Operand) (slot : ℕ) → AreFrom reads sources columns
     → NumFits (operand_at columns slot)
 column_fits reads [] [] slot h = omega arith
 column_fits reads (s ∷ sources) (o ∷ columns) zero h = from_fits reads s o h.0
@@ -154,17 +156,17 @@ AreSmall registers = (k r : ℕ) → slice_get registers k ≡ Some r → r < 2 
 
 moved_fits : (registers : List ℕ) → AreSmall registers → (o : Operand) → NumFits o → Fits (moved registers o)
 moved_fits registers small (Number n) g = g
-moved_fits registers small (Register r) g = by (nat_lt r 14) refl
+moved_fits registers small (Register r) g = by (nat_lt r FIELDS) refl
   where
-    new : (o : Option ℕ) → slice_get registers (r - 14) ≡ o → Fits (register_or_none o)
+    new : (o : Option ℕ) → slice_get registers (r - FIELDS) ≡ o → Fits (register_or_none o)
     new None e = omega arith
-    new (Some x) e = small (r - 14) x e
+    new (Some x) e = small (r - FIELDS) x e
 
-    by : (b : Bool) → nat_lt r 14 ≡ b → Fits (if b then Register r else register_or_none (slice_get registers (r - 14)))
-    by true e = let lt : r < 14 = grind (arith, nat_tests) in omega (arith, lt)
-    by false e = new (slice_get registers (r - 14)) refl
+    by : (b : Bool) → nat_lt r FIELDS ≡ b → Fits (if b then Register r else register_or_none (slice_get registers (r - FIELDS)))
+    by true e = let lt : r < FIELDS = grind (arith, nat_tests) in omega (arith, lt)
+    by false e = new (slice_get registers (r - FIELDS)) refl
 
-slots_fit : (registers : List ℕ) → AreSmall registers → (reads : FieldSet) (sources : List Source) (columns : List Operand)
+slots_fit : (registers : List ℕ) → AreSmall registers → (reads : FieldSet) (sources : List FieldSource) (columns : List Operand)
     → AreFrom reads sources columns → (slots : List ℕ)
     → AllFit (map (λ slot. moved registers (operand_at columns slot)) slots)
 slots_fit registers small reads sources columns from [] = tt
@@ -187,7 +189,7 @@ ops_size (one ∷ ops) each =
 
 keys_few : (folds : List TypedFold) (before : List TypedStream) (names : List (List ℕ)) (one : TypedStream) (width : ℕ) (op : TypedOp)
     (shape : GroupShape)
-    → IsValidOp folds before width op → shape_made names folds one op ≡ Some shape → width ≤ 8
+    → IsValidOp folds before width op → shape_made names folds one op ≡ Some shape → width ≤ MAX_KEYS
 keys_few folds before names one width (typed.Filter input condition) shape w e = cc
 keys_few folds before names one width (typed.Map input values) shape w e = cc
 keys_few folds before names one width (typed.Zip left right slots) shape w e = cc
@@ -199,7 +201,7 @@ keys_few folds before names one width (typed.Group input keys f args) shape w e 
 columns_few : (count : ℕ) (names : List (List ℕ)) (folds : List TypedFold) (before streams : List TypedStream)
     → AreValidStreams count folds before streams
     → (j : ℕ) (one : TypedStream) (shape : GroupShape) → slice_get streams j ≡ Some one → shape_made names folds one one.op ≡ Some shape
-    → length one.columns ≤ 8
+    → length one.columns ≤ MAX_KEYS
 columns_few count names folds before [] v j one shape e made = cc
 columns_few count names folds before (s ∷ streams) v zero one shape e made =
     let same : s ≡ one = same_Some s one e in

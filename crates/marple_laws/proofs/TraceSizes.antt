@@ -8,10 +8,12 @@ use Rattle.std.proofs.lemmas.Grind.{flat_map-append}
 use Rattle.epoch_model.proofs.KeyLists.{by_test}
 use Rattle.marple_base.specs.declared.field.Field.TheVariants.{Tout}
 use Rattle.marple_base.specs.declared.field.Packet.{Packet}
+use Rattle.marple_base.specs.declared.field.TheConstants.{FIELDS}
 use Rattle.trace_reader.specs.declared.fault.TheConstants.{MAX_TRACE}
-use Rattle.queue_sim.specs.Generator.{Arrival, arrival_by, arrivals, drawn_after, last_time, leaves, packet_of, packets_from, simulated}
+use Rattle.queue_sim.specs.Generator.{Arrival, arrival_by, arrivals, drawn_after, last_time, leaves, generated_packet, packets_from}
+use Rattle.queue_sim.specs.Generator.{simulated}
 use Rattle.queue_sim.specs.Generator.{still_there, switch_of, touts_at, with_some}
-use Rattle.queue_sim.specs.ReadBack.{ArePackets, AreWords}
+use Rattle.queue_sim.specs.ReadBack.{ArePackets, ArePacketWords}
 use Rattle.queue_sim.specs.TraceText.{continued, header, line, packet_texts, trace_text, word_text}
 use Rattle.queue_sim.proofs.Bounds.{drawn_small, number_small, time_small, tout_small}
 
@@ -57,8 +59,8 @@ tout_word w (inl small) = omega arith
 tout_word w (inr e) = omega (arith, e)
 
 module _ (n : ℕ) (a : Arrival) (few : n ≤ 1000000) (small : IsSmall a) where
-  packet_line : length (line (packet_texts (packet_of n a))) ≤ 165
-  packet_line = line_short (packet_texts (packet_of n a)) (
+  packet_line : length (line (packet_texts (generated_packet n a))) ≤ 165
+  packet_line = line_short (packet_texts (generated_packet n a)) (
     short (1 + switch_of a.flow) (omega arith),
     (
       short 0 (omega arith),
@@ -99,7 +101,7 @@ module _ (n : ℕ) (a : Arrival) (few : n ≤ 1000000) (small : IsSmall a) where
     ),
   )
 
-  packet_words : AreWords (packet_of n a).words
+  packet_words : ArePacketWords (generated_packet n a).words
   packet_words = (
     omega arith,
     (
@@ -212,7 +214,7 @@ module _ (start capacity : ℕ) where
       go true = inl leaving
       go false = inr refl
 
-  are_push : (packets : List Packet) (p : Packet) → ArePackets packets → length p.words ≡ 14 → AreWords p.words
+  are_push : (packets : List Packet) (p : Packet) → ArePackets packets → length p.words ≡ FIELDS → ArePacketWords p.words
       → ArePackets (packets ++ p ∷ [])
   are_push [] p are size words = (size, words, tt)
   are_push (first ∷ packets) p are size words = (are.0, are.1, are_push packets p are.2 size words)
@@ -232,7 +234,7 @@ module _ (start capacity : ℕ) where
       let next = arrival_by (drawn_after start (4 * n)) capacity earlier in
       let number : length (next ∷ earlier) ≤ 1000000 = omega (arith, arrivals_many n) in
       let small = next_small n (omega arith) in
-      let p : Packet = packet_of (length (next ∷ earlier)) next in
+      let p : Packet = generated_packet (length (next ∷ earlier)) next in
       let text : Packet → List ℕ = λ packet. line (packet_texts packet) in
       record {
         are = are_push (packets_from earlier) p before.are refl (packet_words (length (next ∷ earlier)) next number small);

@@ -16,6 +16,7 @@ use Rattle.marple_base.specs.declared.field.Field.{Field}
 use Rattle.marple_base.specs.declared.field.Field.TheVariants.{Switch, Qid, Uid, SrcIp, DstIp, SrcPort, DstPort, Proto, PktLen, PayloadLen}
 use Rattle.marple_base.specs.declared.field.Field.TheVariants.{TcpSeq, Tin, Tout, QSize}
 use Rattle.marple_base.specs.declared.field.FieldSet.{FieldSet}
+use Rattle.marple_base.specs.declared.field.TheConstants.{FIELDS}
 use Rattle.query_lang.specs.declared.fold.TypedFold.{TypedFold}
 use Rattle.query_lang.specs.declared.query.Item.TheVariants as item
 use Rattle.query_lang.specs.declared.typed.TypedQuery.{TypedQuery}
@@ -28,7 +29,7 @@ use Rattle.query_lang.specs.Streams.{Taking, stream, takings, values_at}
 use Rattle.query_lang.specs.Typing.{given_of, start_of, typed_names, items_checked, ended, with_fold, checked}
 use Rattle.query_grammar.specs.Reading.{expr_at, stmt_at}
 use Rattle.query_grammar.specs.Texts.{parsed_text}
-use Rattle.query_tables.specs.Tables.{group_tables, heading_of, printed, query_text, table_if, tables_from}
+use Rattle.query_tables.specs.Tables.{group_tables, heading_of_shape, printed, query_text, table_if, tables_from}
 use Rattle.query_types.specs.Uses.{taken_by, use_of, uses}
 use Rattle.stage_plan.specs.Fields.{read_fields, reads_of}
 use Rattle.stage_plan.specs.Packets.{AreWhole}
@@ -102,7 +103,7 @@ trial_is_plain q e = ap plain_in (sym e) ∙ plain
 abbrev IsKeptAt : FieldSet → List ℕ → Field → Type 0
 IsKeptAt reads words f = slice_index (zeroed reads all_fields words) (number_of f) ≡ slice_index words (number_of f)
 
-word_kept : (reads : FieldSet) (words : List ℕ) → length words ≡ 14 → (f : Field) → has_field reads f ≡ true → IsKeptAt reads words f
+word_kept : (reads : FieldSet) (words : List ℕ) → length words ≡ FIELDS → (f : Field) → has_field reads f ≡ true → IsKeptAt reads words f
 word_kept reads (a ∷ b ∷ c ∷ d ∷ e ∷ g ∷ h ∷ i ∷ j ∷ k ∷ l ∷ m ∷ n ∷ o ∷ []) size f has = by f has
   where
     by : (f : Field) → has_field reads f ≡ true → IsKeptAt reads (a ∷ b ∷ c ∷ d ∷ e ∷ g ∷ h ∷ i ∷ j ∷ k ∷ l ∷ m ∷ n ∷ o ∷ []) f
@@ -133,14 +134,14 @@ module _ (q : TypedQuery) where
   abbrev kept : List ℕ → List ℕ
   kept words = zeroed (reads_of q) all_fields words
 
-  slot_kept : (words : List ℕ) (slot : ℕ) → length words ≡ 14 → is_slot_read q slot ≡ true
+  slot_kept : (words : List ℕ) (slot : ℕ) → length words ≡ FIELDS → is_slot_read q slot ≡ true
       → slice_index (kept words) slot ≡ slice_index words slot
   slot_kept words slot size e =
       let f = found_field (read_fields q) slot e in
       subst (λ k. slice_index (kept words) k ≡ slice_index words k) f.2
       (word_kept (reads_of q) words size f.0 (in_set (read_fields q) f.0 f.1))
 
-  values_kept : (words slots : List ℕ) → length words ≡ 14 → list_all (is_slot_read q) slots ≡ true
+  values_kept : (words slots : List ℕ) → length words ≡ FIELDS → list_all (is_slot_read q) slots ≡ true
       → values_at (kept words) slots ≡ values_at words slots
   values_kept words [] size e = refl
   values_kept words (slot ∷ slots) size e =
@@ -171,11 +172,11 @@ module _ (q : TypedQuery) where
       (tuples (λ words. Some words) n packets)
   along t keys args n [] whole = refl
   along t keys args n (words ∷ packets) whole =
-      let size : length words ≡ 14 = All-head (λ (ws : List ℕ). length ws ≡ 14) words packets whole in
+      let size : length words ≡ FIELDS = All-head (λ (ws : List ℕ). length ws ≡ FIELDS) words packets whole in
       ap₂ (λ u us. u ∷ us)
       (ap₂ (λ key row. record { packet = n; key = key; row = row }) (values_kept words t.keys size keys)
       (values_kept words t.args size args))
-      (along t keys args (suc n) packets (All-tail (λ (ws : List ℕ). length ws ≡ 14) words packets whole))
+      (along t keys args (suc n) packets (All-tail (λ (ws : List ℕ). length ws ≡ FIELDS) words packets whole))
 
   taking_at : (list : List Taking) (i : ℕ) (t : Taking) → list_all (takes_packets q) list ≡ true → slice_get list i ≡ Some t
       → takes_packets q t ≡ true
@@ -215,7 +216,7 @@ module _ (q : TypedQuery) where
     where
       go : (o : Option TypedFold) → table_if q g a i shape o ≡ table_if q g b i shape o
       go None = refl
-      go (Some f) = ap (λ given. group_table (heading_of shape) (folding_of f) g given ∷ []) (same i)
+      go (Some f) = ap (λ given. group_table (heading_of_shape shape) (folding_of f) g given ∷ []) (same i)
 
   text_same : (g : Geometry) (a b : List (List ℕ)) → ((i : ℕ) → uses q i a ≡ uses q i b) → query_text q g a ≡ query_text q g b
   unfolding query_text group_tables

@@ -4,6 +4,7 @@ use Rattle.std.proofs.lemmas.List.Elements.{All-nil, All-cons}
 use Rattle.marple_base.specs.Field.{all_fields}
 use Rattle.marple_base.specs.declared.field.FieldSet.{FieldSet}
 use Rattle.marple_base.specs.declared.field.Packet.{Packet}
+use Rattle.marple_base.specs.declared.field.TheConstants.{FIELDS}
 use Rattle.query_tables.specs.Tables.{query_text}
 use Rattle.queue_sim.specs.Generator.{simulated}
 use Rattle.queue_sim.specs.ReadBack.{ArePackets}
@@ -24,8 +25,9 @@ words_as_read reads [] = refl
 words_as_read reads (packet ∷ list) = ap (λ l. zeroed reads all_fields packet.words ∷ l) (words_as_read reads list)
 
 are_whole : (list : List Packet) → ArePackets list → AreWhole (words_of list)
-are_whole [] are = All-nil (λ (words : List ℕ). length words ≡ 14)
-are_whole (packet ∷ list) are = All-cons (λ (words : List ℕ). length words ≡ 14) packet.words (words_of list) are.0 (are_whole list are.2)
+are_whole [] are = All-nil (λ (words : List ℕ). length words ≡ FIELDS)
+are_whole (packet ∷ list) are = All-cons (λ (words : List ℕ). length words ≡ FIELDS) packet.words (words_of list) are.0
+    (are_whole list are.2)
 
 pub run_over_texts : TrialsRunOverTexts
 run_over_texts q count start capacity e few =

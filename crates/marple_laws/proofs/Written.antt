@@ -3,7 +3,7 @@ use Rattle.std.proofs.Common.{◌≡◌, ℕ, true, List, [], ◌∷◌, ◌++�
 use Rattle.std.proofs.lemmas.Grind.{flat_map-append}
 use Rattle.plan_file.specs.declared.line_word.LineWord.{LineWord}
 use Rattle.plan_file.specs.declared.made.Made.{Made}
-use Rattle.plan_file.specs.LineWords.{first_of, line_word, word_named}
+use Rattle.plan_file.specs.LineWords.{first_line_word, line_word, word_named}
 use Rattle.plan_file.specs.Lexis.{tokens}
 use Rattle.plan_file.specs.Lines.{IsLineOf}
 use Rattle.plan_file.specs.Texts.{Make}
@@ -51,4 +51,4 @@ line_written word first words before after t are named valid = record {
 }
   where
     first_is : line_word (first ++ spaced words) ≡ word_named first
-    first_is = ap (λ l. word_named (first_of l)) (tokens_of first words t are)
+    first_is = ap (λ l. word_named (first_line_word l)) (tokens_of first words t are)

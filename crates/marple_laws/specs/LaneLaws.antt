@@ -3,7 +3,7 @@ use Rattle.std.specs.Prelude.{◌≡◌, ◌≤◌, ℕ, List, length, All}
 use Rattle.epoch_model.specs.Keys.{bucket_of}
 use Rattle.epoch_model.specs.Laws.{HasRoom}
 use Rattle.epoch_model.specs.Machine.{Event, run, empty_machine}
-use Rattle.bucket_cache.specs.Buckets.{AreOnce}
+use Rattle.bucket_cache.specs.Buckets.{AreKeysOnce}
 use Rattle.bucket_cache.specs.Caches.{Cache, list_at}
 use Rattle.switch_core.specs.Lanes.{geometry}
 use Rattle.switch_core.specs.PlanLanes.{LaneView, StandsFor}
@@ -11,7 +11,7 @@ use Rattle.switch_core.specs.PlanLanes.{LaneView, StandsFor}
 -- Each bucket of the cache has distinct keys of that bucket, and at most as many as there are ways.
 pub record HasKeysInBuckets (ways : ℕ) (cache : Cache) : Type 0 where
   pub few : (bucket : ℕ) → length (list_at cache bucket) ≤ ways
-  pub once : (bucket : ℕ) → AreOnce (list_at cache bucket)
+  pub once : (bucket : ℕ) → AreKeysOnce (list_at cache bucket)
   pub home : (bucket : ℕ) → All (λ pair. bucket_of (length cache.lists) pair.key ≡ bucket) (list_at cache bucket)
 
 -- A lane that represents the machine after some events has the keys of its cache in their buckets.

@@ -6,7 +6,7 @@ use crate::call::called;
 use crate::sources::{COUNT, QUERY, RUN, SOURCES};
 use accepted_query::{AcceptedQuery, accept};
 use epoch_entry::Entries;
-use marple_base::{Field, Packet, Steps};
+use marple_base::{FIELDS, Field, Packet, Steps};
 use marple_cli::Status;
 use std::alloc::{AllocError, Global};
 use std::marker::Brand;
@@ -23,7 +23,7 @@ const STEPS: u64 = 4 * 15 + 2 * 5 + 12 + 2 * 5 + 4 * 4;
 
 // A packet of this source.
 fn packet_of(source: u64) -> Packet {
-    let mut packet = Packet { words: [0; 14] };
+    let mut packet = Packet { words: [0; FIELDS] };
     packet.words[Field::SrcIp.number()] = source;
     packet
 }

@@ -7,6 +7,7 @@ use Rattle.std.proofs.lemmas.List.{length_push}
 use Rattle.std.proofs.lemmas.List.Elements.{All-nil, All-cons, All-push, All-weaker}
 use Rattle.marple_base.specs.declared.field.Field.{Field}
 use Rattle.marple_base.specs.Field.{all_fields}
+use Rattle.marple_base.specs.declared.field.TheConstants.{FIELDS}
 use Rattle.query_lang.specs.declared.fold.TypedFold.{TypedFold}
 use Rattle.query_lang.specs.declared.query.Item.{Item}
 use Rattle.query_lang.specs.declared.query.Item.TheVariants as item
@@ -30,7 +31,7 @@ use Rattle.query_laws.specs.StreamRules.{HasStream}
 use Rattle.stage_plan.proofs.StreamRows.{Row, row_at, row_made, rows_from, all_rows, tuple_of, at_last, stream_rows}
 use Rattle.net_wide.specs.Combining.{columns_made}
 use Rattle.query_laws.proofs.FieldColumns.{AreKnown, all_known}
-use Rattle.net_laws.specs.Fields.{makes_field, names_field, word_of}
+use Rattle.net_laws.specs.Fields.{makes_field, names_field, field_word}
 use Rattle.net_laws.specs.FieldLaws.{KeysAreFields, KeysAreTheField}
 use Rattle.net_laws.proofs.Tells.{packet_tells}
 use Rattle.net_laws.proofs.Rows.{RowTells, SlotTells, rows_last}
@@ -89,29 +90,29 @@ none_before test (y ∷ xs) x e = go (test y) (λ k. none_before test xs x k) e
 
 module _ (field : Field) (names : List (List ℕ)) (folds : List TypedFold) (five : List ℕ) (known : AreKnown names all_fields)
     (words : List ℕ)
-    (size : length words ≡ 14) where
+    (size : length words ≡ FIELDS) where
   abbrev rows : List Entry → List Row
   rows items = rows_from folds (Some words ∷ []) (streams_in items)
 
-  packets_tell : RowsTell field names (word_of field words) [] (Some words ∷ [])
+  packets_tell : RowsTell field names (field_word field words) [] (Some words ∷ [])
   packets_tell = record {
     long = refl;
     known = (
       (
         omega arith,
-        subst (λ l. RowTells field names (word_of field words) l (Some words)) (sym (names_of_new origin.Field (field_numbers names)))
+        subst (λ l. RowTells field names (field_word field words) l (Some words)) (sym (names_of_new origin.Field (field_numbers names)))
             (packet_tells field names words known size),
       ),
       tt,
     );
-    keys = All-nil (λ one. KeysTell field names (word_of field words) (Some words ∷ []) one.columns one.op);
+    keys = All-nil (λ one. KeysTell field names (field_word field words) (Some words ∷ []) one.columns one.op);
   }
 
-  stream_more : (name : Name) (made : MadeStream) (items : List Entry) → RowsTell field names (word_of field words) items (rows items)
-      → MadeTells field names (word_of field words) folds (rows items) made
-      → RowsTell field names (word_of field words) (AStream name made ∷ items) (rows items ++ row_made folds (rows items) made.op ∷ [])
+  stream_more : (name : Name) (made : MadeStream) (items : List Entry) → RowsTell field names (field_word field words) items (rows items)
+      → MadeTells field names (field_word field words) folds (rows items) made
+      → RowsTell field names (field_word field words) (AStream name made ∷ items) (rows items ++ row_made folds (rows items) made.op ∷ [])
   stream_more name made items h t =
-      let value = word_of field words in
+      let value = field_word field words in
       let r : Row = row_made folds (rows items) made.op in
       let one : TypedStream = record { name = name; columns = column_names made.columns; op = made.op } in
       let size : length (rows items ++ r ∷ []) ≡ length (rows items) + 1 = length_push (rows items) r in
@@ -131,20 +132,20 @@ module _ (field : Field) (names : List (List ℕ)) (folds : List TypedFold) (fiv
       }
 
   pub rows_tell : (items : List Entry) → AreMade five names items → makes_field field names (streams_in items) ≡ false
-      → RowsTell field names (word_of field words) items (rows items)
+      → RowsTell field names (field_word field words) items (rows items)
   rows_tell [] made none = packets_tell
   rows_tell (AFold f ∷ items) made none =
       let h = rows_tell items made none in record {
         long = h.long;
         known =
-            all_last field names (word_of field words) (rows items) (known_in names items) _ h.known tt;
+            all_last field names (field_word field words) (rows items) (known_in names items) _ h.known tt;
         keys = h.keys;
       }
   rows_tell (AFinal name t ∷ items) made none =
       let h = rows_tell items made none in record {
         long = h.long;
         known =
-            all_last field names (word_of field words) (rows items) (known_in names items) _ h.known tt;
+            all_last field names (field_word field words) (rows items) (known_in names items) _ h.known tt;
         keys = h.keys;
       }
   rows_tell (APrint name table ∷ items) made none =
@@ -153,16 +154,17 @@ module _ (field : Field) (names : List (List ℕ)) (folds : List TypedFold) (fiv
       let one : TypedStream = record { name = name; columns = column_names m.columns; op = m.op } in
       let apart = none_before (λ s. names_field field names (columns_made s.columns s.op)) (streams_in items) one none in
       let h = rows_tell items made.1 apart.0 in
-      let t = stream_tells field names (word_of field words) folds (rows items) five (known_in names items) (length (streams_in items) + 1)
+      let t = stream_tells field names (field_word field words) folds (rows items) five (known_in names items)
+      (length (streams_in items) + 1)
       (groups_in items) made.0.0 m h.known made.0.1 apart.1 in
-      subst (RowsTell field names (word_of field words) (AStream name m ∷ items))
+      subst (RowsTell field names (field_word field words) (AStream name m ∷ items))
       (sym (rows_last folds (Some words ∷ []) (streams_in items) one))
       (stream_more name m items h t)
 
 -- what the rows of each whole packet say of an operator
 abbrev pub AlwaysTells : TypedQuery → Field → List ℕ → TypedOp → Type 0
 AlwaysTells q field columns op =
-    (words : List ℕ) → length words ≡ 14 → KeysTell field q.names (word_of field words) (all_rows q words) columns op
+    (words : List ℕ) → length words ≡ FIELDS → KeysTell field q.names (field_word field words) (all_rows q words) columns op
 
 -- so in each typed query where no `map` makes a column of the field's name
 pub always_tells : (query : Query) (q : TypedQuery) (field : Field) → IsTyped query q → makes_field field q.names q.streams ≡ false
@@ -192,8 +194,8 @@ keys_of q field columns (typed.Filter input condition) h = tt
 keys_of q field columns (typed.Map input values) h = tt
 keys_of q field columns (typed.Zip left right slots) h = tt
 keys_of q field columns (typed.Group input keys f args) h = λ j lt is none words size.
-    subst (All (λ (t : Tuple). slice_index t.row (slice_index keys j) ≡ word_of field words)) (sym (stream_rows q input (words ∷ [])))
-    (slot_of (word_of field words) (slice_index keys j) (row_at (all_rows q words) input) ((h none words size).1 j lt is))
+    subst (All (λ (t : Tuple). slice_index t.row (slice_index keys j) ≡ field_word field words)) (sym (stream_rows q input (words ∷ [])))
+    (slot_of (field_word field words) (slice_index keys j) (row_at (all_rows q words) input) ((h none words size).1 j lt is))
 
 pub keys_are : KeysAreFields
 keys_are query q field h = λ k d lt. keys_of q field _ _ (λ none. always_tells query q field h none k d lt)

@@ -23,8 +23,8 @@ use Rattle.query_lang.specs.declared.typing.Origin.TheVariants as origin
 use Rattle.query_lang.specs.declared.typing.StreamColumn.{StreamColumn}
 use Rattle.query_lang.specs.Streams.{values_at}
 use Rattle.query_lang.specs.TypedStreams.{column_names, others_from, columns_at}
-use Rattle.query_laws.specs.Context.{StandsFor}
-use Rattle.query_laws.specs.StreamRules.{HasColumns, new_names, OfFilter, OfMap, OfZip, OfGroup, HasStream, key_ids}
+use Rattle.query_laws.specs.Context.{NameStandsFor}
+use Rattle.query_laws.specs.StreamRules.{HasTypedColumns, new_names, OfFilter, OfMap, OfZip, OfGroup, HasStream, key_ids}
 use Rattle.query_laws.proofs.StreamLaws.{zip_is, group_is}
 use Rattle.stage_plan.proofs.StreamRows.{Row, row_at, row_made, at_earlier}
 use Rattle.net_wide.specs.Combining.{columns_made}
@@ -64,7 +64,7 @@ pub names_of_new : (o : Origin) (ids : List ℕ)
 names_of_new o [] = refl
 names_of_new o (id ∷ ids) = ap (λ l. id ∷ l) (names_of_new o ids)
 
-new_long : (columns taken : List ℕ) (new : List Column) (values : List TypedExpr) → HasColumns columns taken new values
+new_long : (columns taken : List ℕ) (new : List Column) (values : List TypedExpr) → HasTypedColumns columns taken new values
     → length (new_names new) ≡ length values
 new_long columns taken [] [] h = refl
 new_long columns taken [] (v ∷ values) h = absurd h
@@ -98,7 +98,7 @@ module _ (field : Field) (names : List (List ℕ)) (value : ℕ) where
   all_more rows r [] h = tt
   all_more rows r (one ∷ known) h = (meaning_more rows r one.meaning h.0, all_more rows r known h.1)
 
-  tells_of : (rows : List Row) (known : List Known) (id : ℕ) (m : Meaning) → AllTell field names value rows known → StandsFor known id m
+  tells_of : (rows : List Row) (known : List Known) (id : ℕ) (m : Meaning) → AllTell field names value rows known → NameStandsFor known id m
       → MeaningTells field names value rows m
   tells_of rows [] id m h s = absurd s
   tells_of rows (one ∷ known) id m h (inl p) = subst (MeaningTells field names value rows) p.1 h.0

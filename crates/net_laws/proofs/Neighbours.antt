@@ -3,12 +3,13 @@ use Rattle.std.proofs.Common.{◌≡◌, ◌≢◌, ℕ, Bool, true, false, cond
 use Rattle.std.specs.Prelude.{All}
 use Rattle.std.proofs.lemmas.Bool.Decides.{nat_tests}
 use Rattle.std.proofs.lemmas.List.Elements.{All-cons, All-head, All-tail}
+use Rattle.marple_base.specs.declared.field.TheConstants.{FIELDS}
 use Rattle.stage_plan.specs.Packets.{AreWhole}
 use Rattle.net_wide.specs.NetLaws.{SameOfEachSwitch}
 use Rattle.net_wide.specs.NetTables.{switch_in, packets_at}
 
 abbrev is_whole : List ℕ → Type 0
-is_whole words = length words ≡ 14
+is_whole words = length words ≡ FIELDS
 
 pub swapped_whole : (front back : List (List ℕ)) (a b : List ℕ) → AreWhole (front ++ a ∷ b ∷ back) → AreWhole (front ++ b ∷ a ∷ back)
 swapped_whole [] back a b h =

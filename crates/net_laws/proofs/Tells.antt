@@ -7,10 +7,11 @@ use Rattle.marple_base.specs.declared.field.Field.{Field}
 use Rattle.marple_base.specs.declared.field.Field.TheVariants.{Switch, Qid, Uid, SrcIp, DstIp, SrcPort, DstPort, Proto, PktLen, PayloadLen}
 use Rattle.marple_base.specs.declared.field.Field.TheVariants.{TcpSeq, Tin, Tout, QSize}
 use Rattle.marple_base.specs.Field.{all_fields, field_name, number_of}
+use Rattle.marple_base.specs.declared.field.TheConstants.{FIELDS}
 use Rattle.query_lang.specs.Names.{number_in}
 use Rattle.query_lang.specs.Streams.{values_at}
 use Rattle.query_lang.specs.Typing.{field_numbers}
-use Rattle.net_laws.specs.Fields.{is_named, names_field, word_of}
+use Rattle.net_laws.specs.Fields.{is_named, names_field, field_word}
 use Rattle.std.proofs.lemmas.Bool.Decides.{nat_tests}
 use Rattle.query_laws.proofs.FieldColumns.{AreKnown}
 use Rattle.query_laws.proofs.Views.{AreBelow}
@@ -102,7 +103,7 @@ follows false b e t = cc
 module _ (field : Field) (names : List (List ℕ)) (all : List ℕ) where
   fields_tell : (n : ℕ) (fields : List Field) (words : List ℕ) → AreKnown names fields → length words ≡ length fields
       → ((j : ℕ) → slice_index words j ≡ slice_index all (n + j)) → stands_once field n fields ≡ true
-      → Tells field names (word_of field all) (numbers_of names fields) words
+      → Tells field names (field_word field all) (numbers_of names fields) words
   fields_tell n [] [] known size same once = tt
   fields_tell n [] (w ∷ words) known size same once = absurd (omega (arith, size))
   fields_tell n (f ∷ fields) [] known size same once = absurd (omega (arith, size))
@@ -119,8 +120,8 @@ module _ (field : Field) (names : List (List ℕ)) (all : List ℕ) where
       )
 
 -- a packet's words, under the names of the fields
-pub packet_tells : (field : Field) (names : List (List ℕ)) (words : List ℕ) → AreKnown names all_fields → length words ≡ 14
-    → Tells field names (word_of field words) (field_numbers names) words
+pub packet_tells : (field : Field) (names : List (List ℕ)) (words : List ℕ) → AreKnown names all_fields → length words ≡ FIELDS
+    → Tells field names (field_word field words) (field_numbers names) words
 packet_tells field names words known size =
     fields_tell field names words 0 all_fields words known size
     (λ j. ap (slice_index words) (let z : j ≡ 0 + j = omega arith in z)) (all_once field)

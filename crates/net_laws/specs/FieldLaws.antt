@@ -1,18 +1,19 @@
 -- That such columns have the packet's word of the field.
 use Rattle.std.specs.Prelude.{◌≡◌, ℕ, ◌<◌, true, false, List, [], ◌∷◌, length, slice_index, All}
 use Rattle.marple_base.specs.declared.field.Field.{Field}
+use Rattle.marple_base.specs.declared.field.TheConstants.{FIELDS}
 use Rattle.query_lang.specs.declared.query.Query.{Query}
 use Rattle.query_lang.specs.declared.typed.TypedOp.{TypedOp}
 use Rattle.query_lang.specs.declared.typed.TypedOp.TheVariants.{Filter, Map, Zip, Group}
 use Rattle.query_lang.specs.declared.typed.TypedQuery.{TypedQuery}
 use Rattle.query_lang.specs.Streams.{stream}
 use Rattle.query_laws.specs.QueryRules.{IsTyped}
-use Rattle.net_laws.specs.Fields.{is_named, makes_field, word_of}
+use Rattle.net_laws.specs.Fields.{is_named, makes_field, field_word}
 
 -- this slot of the stream is the packet's word of the field, whatever the packet
 abbrev pub IsFieldSlot : TypedQuery → Field → ℕ → ℕ → Type 0
-IsFieldSlot q field input slot = (words : List ℕ) → length words ≡ 14
-    → All (λ t. slice_index t.row slot ≡ word_of field words) (stream q input (words ∷ []))
+IsFieldSlot q field input slot = (words : List ℕ) → length words ≡ FIELDS
+    → All (λ t. slice_index t.row slot ≡ field_word field words) (stream q input (words ∷ []))
 
 -- each key of a groupby that has the field's name is the packet's word of it, unless some `map` makes a column of that name
 abbrev pub KeysAreTheField : TypedQuery → Field → List ℕ → TypedOp → Type 0

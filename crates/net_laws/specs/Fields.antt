@@ -9,8 +9,8 @@ use Rattle.stage_plan.specs.Shape.{text_at}
 use Rattle.net_wide.specs.Combining.{columns_made}
 
 -- the packet's word of the field
-abbrev pub word_of : Field → List ℕ → ℕ
-word_of field words = slice_index words (number_of field)
+abbrev pub field_word : Field → List ℕ → ℕ
+field_word field words = slice_index words (number_of field)
 
 -- whether the name with this number is the field's
 abbrev pub is_named : Field → List (List ℕ) → ℕ → Bool

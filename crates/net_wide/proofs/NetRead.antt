@@ -7,6 +7,7 @@ use Rattle.std.proofs.lemmas.Bool.{true≢false}
 use Rattle.std.proofs.lemmas.List.{length-map}
 use Rattle.std.proofs.lemmas.Option.{slice_get_cases, slice_get_within}
 use Rattle.std.proofs.lemmas.List.Elements.{All-nil, All-cons, All-append, All-head, All-tail}
+use Rattle.marple_base.specs.declared.field.TheConstants.{FIELDS}
 use Rattle.query_lang.specs.declared.fold.TypedFold.{TypedFold}
 use Rattle.query_lang.specs.declared.typed.TypedQuery.{TypedQuery}
 use Rattle.query_lang.specs.Streams.{takings}
@@ -25,7 +26,7 @@ use Rattle.query_lang.specs.Words.{holds}
 use Rattle.stage_plan.specs.Packets.{AreWhole}
 use Rattle.stage_plan.specs.declared.group.GroupPlan.{GroupPlan}
 use Rattle.stage_plan.specs.declared.group.GroupWiring.{GroupWiring}
-use Rattle.stage_plan.specs.Planned.{IsPlanOf, fold_at, row_of, taken, wiring_at}
+use Rattle.stage_plan.specs.Planned.{IsPlanOf, fold_at, packet_registers, taken, wiring_at}
 use Rattle.stage_plan.specs.Registers.{operand_value}
 use Rattle.stage_plan.specs.Shape.{GroupShape, group_shape, query_groups}
 use Rattle.stage_plan.specs.Sound.{PlanParts, IsSoundGroup, IsSoundPlan}
@@ -111,7 +112,7 @@ taken_long plan i n words (one ∷ packets) wide = by_test (holds (operand_value
     (λ t. rw t (taken_long plan i (suc n) words packets wide))
   where
     registers : List ℕ
-    registers = row_of plan one
+    registers = packet_registers plan one
 
     wiring : GroupWiring
     wiring = wiring_at plan i
@@ -119,7 +120,7 @@ taken_long plan i n words (one ∷ packets) wide = by_test (holds (operand_value
 module _ (q : TypedQuery) (plan : PlanParts) (g : Geometry) (packets : List (List ℕ)) (valid : IsValidQuery q) (p : IsPlanOf q plan)
     (sound : IsSoundPlan plan) (whole : AreWhole packets) where
   wired : (i : ℕ) (part : GroupPlan) → slice_get plan.groups i ≡ Some part → (w : GroupWiring) × (wiring_at plan i ≡ w)
-      × IsSoundGroup (14 + length plan.ops) part w
+      × IsSoundGroup (FIELDS + length plan.ops) part w
   wired i part at = elim ((slice_get_cases plan.wiring i).1) [
     | inl there ↦ (there.0, rw there.2 refl, sound.each i part there.0 at there.2)
     | inr past ↦ absurd (let less = slice_get_within plan.groups i part at in let many = sound.wired in omega arith)

@@ -4,6 +4,7 @@ use Rattle.std.proofs.Common.{slice_index, Option, Some, None, refl, sym, ap, �
 use Rattle.std.specs.Prelude.{slice_get, option_map, option_and_then, if◌then◌else◌}
 use Rattle.std.specs.List.{list_any}
 use Rattle.std.proofs.lemmas.List.Elements.{All-nil, All-cons, All-head, All-tail, All-filter}
+use Rattle.marple_base.specs.declared.field.TheConstants.{FIELDS}
 use Rattle.query_lang.specs.declared.fold.TypedFold.{TypedFold}
 use Rattle.query_lang.specs.declared.typed.Class.TheVariants.{Linear}
 use Rattle.query_lang.specs.declared.typed.TypedQuery.{TypedQuery}
@@ -34,8 +35,8 @@ use Rattle.stage_plan.proofs.StreamRows as packetwise
 use Rattle.final_queries.specs.declared.table.Table.{Table}
 use Rattle.final_queries.specs.declared.table.TableKind.TheVariants as kind
 use Rattle.final_queries.specs.GroupTable.{closed_table}
-use Rattle.query_tables.specs.Tables.{heading_of}
-use Rattle.additive_laws.specs.Pieces.{joined}
+use Rattle.query_tables.specs.Tables.{heading_of_shape}
+use Rattle.additive_laws.specs.Pieces.{rows_joined}
 use Rattle.additive_laws.specs.Network.{SwitchEvent, SwitchEpoch, all_events, all_epochs, epochs_at, events_at, machine_at, AllMerged}
 use Rattle.additive_laws.proofs.StoreTables.{store_table}
 use Rattle.additive_laws.specs.Traces.{Step, HasPackets, IsRun, own_uses, whole_uses, taken_of}
@@ -48,7 +49,7 @@ use Rattle.net_wide.specs.NetTables.{net_table}
 use Rattle.net_wide.proofs.Combined.{HasSwitchKey, Combines, all_combine}
 use Rattle.net_wide.proofs.OneSwitch.{none_closed}
 use Rattle.net_wide.proofs.SameTexts.{flat_maps_alike, sums_alike, tells_switch, at_place}
-use Rattle.net_wide.specs.NetEnds.{IsSeen, AreNumbered, steps_of, closed_pieces, MergedMakeTheTable, PiecesAreTheEpochs}
+use Rattle.net_wide.specs.NetEnds.{IsSeen, AreSwitchesNumbered, net_steps, closed_pieces, MergedMakeTheTable, PiecesAreTheEpochs}
 use Rattle.net_wide.proofs.SwitchLists.{AreOnes, first, keys_of, ones, ones_rest, one_first, no_number, all_apart}
 
 -- two ways to take, where the uses of one packet are the same
@@ -84,15 +85,16 @@ module _ (number : ℕ → ℕ) (take : List ℕ → Option Taken) (all : List (
   -- a number that no switch has gives nothing
   none_taken : (k : ℕ) → ((s : ℕ) → IsSeen s all → (number s == k) ≡ false) → (packets : List (List ℕ))
       → ((s : ℕ) → IsSeen s packets → IsSeen s all)
-      → taken_of k (steps_of number take packets) ≡ []
+      → taken_of k (net_steps number take packets) ≡ []
   none_taken k none [] sub = refl
   none_taken k none (words ∷ packets) sub =
       let t : (number (switch_in words) == k) ≡ false = none (switch_in words) (sub (switch_in words) (seen_first words packets)) in
       rw t (none_taken k none packets (λ s seen. sub s (seen_more words packets s seen)))
 
   -- a switch's number has what is taken of the switch's packets
-  taken_own : AreNumbered number all → (s : ℕ) → IsSeen s all → (packets : List (List ℕ)) → ((a : ℕ) → IsSeen a packets → IsSeen a all)
-      → taken_of (number s) (steps_of number take packets) ≡ map take (packets_at s packets)
+  taken_own : AreSwitchesNumbered number all → (s : ℕ) → IsSeen s all → (packets : List (List ℕ))
+      → ((a : ℕ) → IsSeen a packets → IsSeen a all)
+      → taken_of (number s) (net_steps number take packets) ≡ map take (packets_at s packets)
   taken_own numbered s seen [] sub = refl
   taken_own numbered s seen (words ∷ packets) sub =
       let rest = taken_own numbered s seen packets (λ a some. sub a (seen_more words packets a some)) in
@@ -107,60 +109,62 @@ module _ (number : ℕ → ℕ) (take : List ℕ → Option Taken) (all : List (
       rw (t, u) rest)
 
   -- what a key takes of one number alone, where each packet that gives it has that number
-  module _ (key : Key) (one : ℕ) (only : (words : List ℕ) (t : Taken) → length words ≡ 14 → take words ≡ Some t → key_eq t.key key ≡ true
+  module _ (key : Key) (one : ℕ) (only : (words : List ℕ) (t : Taken) → length words ≡ FIELDS → take words ≡ Some t
+      → key_eq t.key key ≡ true
       → number (switch_in words) ≡ one) where
     rows_of_one : (n m : ℕ) (packets : List (List ℕ)) → AreWhole packets
-        → rows_used key (uses_taken n (taken_of one (steps_of number take packets))) ≡ rows_used key (uses_taken m (map take packets))
+        → rows_used key (uses_taken n (taken_of one (net_steps number take packets))) ≡ rows_used key (uses_taken m (map take packets))
     rows_of_one n m [] whole = refl
     rows_of_one n m (words ∷ packets) whole =
         by_test (number (switch_in words) == one)
-        (λ t. rw t (here (take words) (rows_of_one (suc n) (suc m) packets (All-tail (λ w. length w ≡ 14) words packets whole))))
-        (λ t. rw t (there t (take words) refl (rows_of_one n (suc m) packets (All-tail (λ w. length w ≡ 14) words packets whole))))
+        (λ t. rw t (here (take words) (rows_of_one (suc n) (suc m) packets (All-tail (λ w. length w ≡ FIELDS) words packets whole))))
+        (λ t. rw t (there t (take words) refl (rows_of_one n (suc m) packets (All-tail (λ w. length w ≡ FIELDS) words packets whole))))
       where
-        here : (o : Option Taken) → rows_used key (uses_taken (suc n) (taken_of one (steps_of number take packets))) ≡ rows_used key
+        here : (o : Option Taken) → rows_used key (uses_taken (suc n) (taken_of one (net_steps number take packets))) ≡ rows_used key
             (uses_taken (suc m) (map take packets))
-            → rows_used key (use_at n o ++ uses_taken (suc n) (taken_of one (steps_of number take packets))) ≡ rows_used key
+            → rows_used key (use_at n o ++ uses_taken (suc n) (taken_of one (net_steps number take packets))) ≡ rows_used key
             (use_at m o ++ uses_taken (suc m) (map take packets))
         here None h = h
         here (Some x) h = by_test (key_eq x.key key) (λ k. rw k (ap (λ rs. x.row ∷ rs) h)) (λ k. rw k h)
 
         there : (number (switch_in words) == one) ≡ false → (o : Option Taken) → take words ≡ o
-            → rows_used key (uses_taken n (taken_of one (steps_of number take packets))) ≡ rows_used key
+            → rows_used key (uses_taken n (taken_of one (net_steps number take packets))) ≡ rows_used key
             (uses_taken (suc m) (map take packets))
-            → rows_used key (uses_taken n (taken_of one (steps_of number take packets))) ≡ rows_used key
+            → rows_used key (uses_taken n (taken_of one (net_steps number take packets))) ≡ rows_used key
             (use_at m o ++ uses_taken (suc m) (map take packets))
         there t None is h = h
         there t (Some x) is h = by_test (key_eq x.key key)
-            (λ k. absurd (not_number (number (switch_in words)) one t (only words x (All-head (λ w. length w ≡ 14) words packets whole) is
+            (λ k. absurd (not_number (number (switch_in words)) one t (only words x (All-head (λ w. length w ≡ FIELDS) words packets whole)
+            is
             k)))
             (λ k. rw k h)
 
     rows_of_other : (k n : ℕ) → k ≢ one → (packets : List (List ℕ)) → AreWhole packets
-        → rows_used key (uses_taken n (taken_of k (steps_of number take packets))) ≡ []
+        → rows_used key (uses_taken n (taken_of k (net_steps number take packets))) ≡ []
     rows_of_other k n d [] whole = refl
     rows_of_other k n d (words ∷ packets) whole =
         by_test (number (switch_in words) == k)
-        (λ t. rw t (here t (take words) refl (rows_of_other k (suc n) d packets (All-tail (λ w. length w ≡ 14) words packets whole))))
-        (λ t. rw t (rows_of_other k n d packets (All-tail (λ w. length w ≡ 14) words packets whole)))
+        (λ t. rw t (here t (take words) refl (rows_of_other k (suc n) d packets (All-tail (λ w. length w ≡ FIELDS) words packets whole))))
+        (λ t. rw t (rows_of_other k n d packets (All-tail (λ w. length w ≡ FIELDS) words packets whole)))
       where
         here : (number (switch_in words) == k) ≡ true → (o : Option Taken) → take words ≡ o
-            → rows_used key (uses_taken (suc n) (taken_of k (steps_of number take packets))) ≡ []
-            → rows_used key (use_at n o ++ uses_taken (suc n) (taken_of k (steps_of number take packets))) ≡ []
+            → rows_used key (uses_taken (suc n) (taken_of k (net_steps number take packets))) ≡ []
+            → rows_used key (use_at n o ++ uses_taken (suc n) (taken_of k (net_steps number take packets))) ≡ []
         here t None is h = h
         here t (Some x) is h = by_test (key_eq x.key key)
             (λ e. absurd (d (sym (same_number (number (switch_in words)) k t)
-            ∙ only words x (All-head (λ w. length w ≡ 14) words packets whole) is e)))
+            ∙ only words x (All-head (λ w. length w ≡ FIELDS) words packets whole) is e)))
             (λ e. rw e h)
 
 whole_taken : (number : ℕ → ℕ) (take : List ℕ → Option Taken) (packets : List (List ℕ))
-    → map (λ one. one.taken) (steps_of number take packets) ≡ map take packets
+    → map (λ one. one.taken) (net_steps number take packets) ≡ map take packets
 whole_taken number take [] = refl
 whole_taken number take (words ∷ packets) = ap (λ ts. take words ∷ ts) (whole_taken number take packets)
 
 module _ (q : TypedQuery) (plan : PlanParts) (buckets ways : ℕ) (packets : List (List ℕ)) (number : ℕ → ℕ) (p : IsPlanOf q plan)
-    (room : HasRoom (caches_of buckets ways)) (whole : AreWhole packets) (numbered : AreNumbered number packets) (i : ℕ)
+    (room : HasRoom (caches_of buckets ways)) (whole : AreWhole packets) (numbered : AreSwitchesNumbered number packets) (i : ℕ)
     (within : i < length plan.groups)
-    (events : List SwitchEvent) (merged : List SwitchEpoch) (has : HasPackets (steps_of number (taken plan i) packets) events)
+    (events : List SwitchEvent) (merged : List SwitchEpoch) (has : HasPackets (net_steps number (taken plan i) packets) events)
     (all : AllMerged (caches_of buckets ways) events merged) where
   abbrev g : Geometry
   g = caches_of buckets ways
@@ -169,7 +173,7 @@ module _ (q : TypedQuery) (plan : PlanParts) (buckets ways : ℕ) (packets : Lis
   take words = taken plan i words
 
   abbrev steps : List Step
-  steps = steps_of number take packets
+  steps = net_steps number take packets
 
   uses_are : whole_uses steps ≡ uses q i packets
   uses_are = ap (uses_taken 1) (whole_taken number take packets) ∙ sym (p.takes i packets within whole)
@@ -249,15 +253,16 @@ module _ (q : TypedQuery) (plan : PlanParts) (buckets ways : ℕ) (packets : Lis
     abbrev read : List ℕ → Option Taken
     read words = option_map (packetwise.row_taken t) (packetwise.row_at (packetwise.all_rows q words) t.input)
 
-    alone : (words : List ℕ) → length words ≡ 14 → AreWhole (words ∷ [])
-    alone words size = All-cons (λ ws. length ws ≡ 14) words [] size (All-nil (λ ws. length ws ≡ 14))
+    alone : (words : List ℕ) → length words ≡ FIELDS → AreWhole (words ∷ [])
+    alone words size = All-cons (λ ws. length ws ≡ FIELDS) words [] size (All-nil (λ ws. length ws ≡ FIELDS))
 
-    take_is : (words : List ℕ) → length words ≡ 14 → take words ≡ read words
+    take_is : (words : List ℕ) → length words ≡ FIELDS → take words ≡ read words
     take_is words size = same_taken (take words) (read words)
         (sym (p.takes i (words ∷ []) within (alone words size)) ∙ packetwise.uses_are q i t read at (λ ws long. refl) (words ∷ [])
         (alone words size))
 
-    only : (words : List ℕ) (x : Taken) → length words ≡ 14 → take words ≡ Some x → key_eq x.key key ≡ true → number (switch_in words) ≡ one
+    only : (words : List ℕ) (x : Taken) → length words ≡ FIELDS → take words ≡ Some x → key_eq x.key key ≡ true
+        → number (switch_in words) ≡ one
     only words x size is e = ap number (tells_switch q i t at packets packets whole whole (λ s. refl) k key words x size
         (sym (take_is words size) ∙ is) e)
 
@@ -267,10 +272,10 @@ module _ (q : TypedQuery) (plan : PlanParts) (buckets ways : ℕ) (packets : Lis
     lists : lists_of key (all_epochs merged) ≡ pieces key
     lists = of_one_switch key merged (map number (switches packets)) one (switches_of key) others ∙ pieces_are key
 
-    args : joined (lists_of key (all_epochs merged)) ≡ key_args key (uses q i packets)
+    args : rows_joined (lists_of key (all_epochs merged)) ≡ key_args key (uses q i packets)
     args =
-        ap joined (of_one key one merged others ∙ own_lists key one)
-        ∙ (ap joined (closed-lists g (machine_at g one events) key (all.swept one))
+        ap rows_joined (of_one key one merged others ∙ own_lists key one)
+        ∙ (ap rows_joined (closed-lists g (machine_at g one events) key (all.swept one))
         ∙ (no_row_is_lost_lem g (events_at one events) key room
         ∙ ((gives steps events has).own one key
         ∙ (rows_of_one number take packets key one only 1 1 packets whole
@@ -291,7 +296,7 @@ module _ (q : TypedQuery) (plan : PlanParts) (buckets ways : ℕ) (packets : Lis
 
   table_is : (shape : GroupShape) (f : TypedFold) → closed_rows (folding_of f) (all_epochs merged) ≡ net_rows q i packets pieces
       (folding_of f)
-      → closed_table (heading_of shape) (folding_of f) (all_epochs merged) ≡ net_table q packets pieces i shape f
+      → closed_table (heading_of_shape shape) (folding_of f) (all_epochs merged) ≡ net_table q packets pieces i shape f
   table_is shape f rows =
       ap (λ n. made n (closed_rows (folding_of f) (all_epochs merged))) epochs_same ∙ ap (made (net_count q i packets pieces)) rows
     where
@@ -329,23 +334,23 @@ make_the_table linear q plan buckets ways packets number valid none tells p room
 
 -- where no eviction comes before the end
 module _ (q : TypedQuery) (plan : PlanParts) (buckets ways : ℕ) (packets : List (List ℕ)) (number : ℕ → ℕ) (p : IsPlanOf q plan)
-    (room : HasRoom (caches_of buckets ways)) (whole : AreWhole packets) (numbered : AreNumbered number packets) (i : ℕ)
+    (room : HasRoom (caches_of buckets ways)) (whole : AreWhole packets) (numbered : AreSwitchesNumbered number packets) (i : ℕ)
     (within : i < length plan.groups)
-    (events : List SwitchEvent) (merged : List SwitchEpoch) (ran : IsRun (steps_of number (taken plan i) packets) events)
+    (events : List SwitchEvent) (merged : List SwitchEpoch) (ran : IsRun (net_steps number (taken plan i) packets) events)
     (all : AllMerged (caches_of buckets ways) events merged) (key : Key) where
   abbrev cuts : Geometry
   cuts = caches_of buckets ways
 
-  uses_of : (s : ℕ) → IsSeen s packets → own_uses (number s) (steps_of number (taken plan i) packets) ≡ uses_at q i packets s
+  uses_of : (s : ℕ) → IsSeen s packets → own_uses (number s) (net_steps number (taken plan i) packets) ≡ uses_at q i packets s
   uses_of s seen =
       ap (uses_taken 1) (taken_own number (taken plan i) packets numbered s seen packets (λ a some. some))
-      ∙ sym (p.takes i (packets_at s packets) within (All-filter (λ words. switch_in words == s) (λ words. length words ≡ 14) packets
+      ∙ sym (p.takes i (packets_at s packets) within (All-filter (λ words. switch_in words == s) (λ words. length words ≡ FIELDS) packets
       whole))
 
   epochs_of : (s : ℕ) → IsSeen s packets → lists_of key (machine_at cuts (number s) events).closed ≡ epochs cuts (uses_at q i packets s) key
   epochs_of s seen =
       ap (lists_of key) (sym (all.epochs (number s)))
-      ∙ (own buckets ways (steps_of number (taken plan i) packets) events merged key (number s) room ran all
+      ∙ (own buckets ways (net_steps number (taken plan i) packets) events merged key (number s) room ran all
       ∙ ap (λ us. epochs cuts us key) (uses_of s seen))
 
   epochs_from : (keys : List Key) → AreOnes packets keys

@@ -12,11 +12,11 @@ use Rattle.epoch_model.proofs.Following.{starts-tidy, starts-lists}
 use Rattle.epoch_model.proofs.Cuts.{IsPiece}
 use Rattle.epoch_model.proofs.Rows.{no_row_is_lost_lem}
 use Rattle.epoch_model.proofs.TableRows.{pieces_kept, closed-lists}
-use Rattle.additive_laws.specs.Pieces.{joined}
+use Rattle.additive_laws.specs.Pieces.{rows_joined}
 use Rattle.additive_laws.specs.Network.{SwitchEvent, SwitchEpoch, events_at, all_epochs, epochs_at, machine_at, AllMerged}
 use Rattle.net_wide.specs.NetLaws.{KeysOfOneSwitch}
 
-no_pieces : (lists : List (List ArgRow)) → AllByRecursion IsPiece lists → joined lists ≡ [] → lists ≡ []
+no_pieces : (lists : List (List ArgRow)) → AllByRecursion IsPiece lists → rows_joined lists ≡ [] → lists ≡ []
 no_pieces [] a e = refl
 no_pieces ([] ∷ lists) a e = absurd (omega (arith, a.0))
 no_pieces ((row ∷ rows) ∷ lists) a e = cc
@@ -56,7 +56,8 @@ module _ (key : Key) (s : ℕ) where
         (subst (AllByRecursion IsPiece) (sym (closed-lists g (machine_at g k events) key (all.swept k)))
         (pieces_kept g (events_at k events) (empty_machine g) key room (starts-tidy g)
         (subst (AllByRecursion IsPiece) (sym (starts-lists g key)) tt)))
-        (ap joined (closed-lists g (machine_at g k events) key (all.swept k)) ∙ (no_row_is_lost_lem g (events_at k events) key room ∙ none))
+        (ap rows_joined (closed-lists g (machine_at g k events) key (all.swept k))
+        ∙ (no_row_is_lost_lem g (events_at k events) key room ∙ none))
 
     lists_are : ((k : ℕ) → k ≢ s → rows_given key (events_at k events) ≡ [])
         → lists_of key (all_epochs merged) ≡ lists_of key (machine_at g s events).closed

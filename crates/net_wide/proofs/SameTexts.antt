@@ -6,6 +6,7 @@ use Rattle.std.specs.List.{All}
 use Rattle.std.proofs.lemmas.List.{get_or-map}
 use Rattle.std.proofs.lemmas.List.Elements.{All-head}
 use Rattle.std.proofs.lemmas.Option.{slice_get_within, get_or_from_slice_get}
+use Rattle.marple_base.specs.declared.field.TheConstants.{FIELDS}
 use Rattle.epoch_model.specs.declared.tables.Mark.TheVariants.{Exact}
 use Rattle.epoch_model.specs.declared.tables.Row.{Row}
 use Rattle.epoch_model.specs.Keys.{Key, ArgRow, key_eq}
@@ -73,7 +74,7 @@ module _ (q : TypedQuery) (i : ℕ) (t : Taking) (at : slice_get (takings q.stre
       ∙ ap keys_used (sym (taken_of other other_whole)))
 
   -- a packet that gives the key has the switch that is in the key
-  pub tells_switch : (k : HasSwitchKey q t) (key : Key) (words : List ℕ) (one : Taken) → length words ≡ 14 → take words ≡ Some one
+  pub tells_switch : (k : HasSwitchKey q t) (key : Key) (words : List ℕ) (one : Taken) → length words ≡ FIELDS → take words ≡ Some one
       → key_eq one.key key ≡ true → switch_in words ≡ slice_index key k.at
   tells_switch k key words one size is e = go (packetwise.row_at (packetwise.all_rows q words) t.input) refl is
     where

@@ -10,7 +10,7 @@ use Rattle.epoch_model.proofs.KeyOrder.{ascending-ascends, has-ascending}
 use Rattle.additive_laws.specs.TraceLaws.{has_number, AreApart}
 use Rattle.additive_laws.proofs.Counts.{both_fail, either, same_number, own_number}
 use Rattle.net_wide.specs.NetTables.{switch_in, switches}
-use Rattle.net_wide.specs.NetEnds.{IsSeen, AreNumbered}
+use Rattle.net_wide.specs.NetEnds.{IsSeen, AreSwitchesNumbered}
 
 less_equal : Less ≡ Equal → ⊥
 less_equal e = cc
@@ -89,7 +89,8 @@ pub one_first : (packets : List (List ℕ)) (key : Key) (keys : List Key) → Ar
 one_first packets key keys o = o key (ap (λ b. b || has key keys) (key_eq-refl key))
 
 module _ (packets : List (List ℕ)) (number : ℕ → ℕ) where
-  not_in : AreNumbered number packets → (s : ℕ) → IsSeen s packets → (keys : List Key) → AreOnes packets keys → has (single s) keys ≡ false
+  not_in : AreSwitchesNumbered number packets → (s : ℕ) → IsSeen s packets → (keys : List Key) → AreOnes packets keys
+      → has (single s) keys ≡ false
       → has_number (number s) (map number (map first keys)) ≡ false
   not_in numbered s seen [] o h = refl
   not_in numbered s seen (key ∷ keys) o h =
@@ -104,7 +105,7 @@ module _ (packets : List (List ℕ)) (number : ℕ → ℕ) where
       (λ t. t))
       (not_in numbered s seen keys (ones_rest packets key keys o) both.1)
 
-  pub apart : AreNumbered number packets → (keys : List Key) → IsAscending keys → AreOnes packets keys
+  pub apart : AreSwitchesNumbered number packets → (keys : List Key) → IsAscending keys → AreOnes packets keys
       → AreApart (map number (map first keys))
   apart numbered [] ascends o = tt
   apart numbered (key ∷ keys) ascends o =
@@ -128,5 +129,5 @@ module _ (packets : List (List ℕ)) (number : ℕ → ℕ) where
   pub no_number : (k s : ℕ) → IsSeen s packets → has_number k (map number (switches packets)) ≡ false → (number s == k) ≡ false
   no_number k s seen none = in_keys k s (keys_of packets) (has-ascending (single s) (keyed packets) ∙ (has_seen s packets ∙ seen)) none
 
-  pub all_apart : AreNumbered number packets → AreApart (map number (switches packets))
+  pub all_apart : AreSwitchesNumbered number packets → AreApart (map number (switches packets))
   all_apart numbered = apart numbered (keys_of packets) (ascending-ascends (keyed packets)) (ones packets)

@@ -5,6 +5,7 @@ use Rattle.std.specs.List.{flat_map}
 use Rattle.std.proofs.lemmas.Bool.Decides.{nat_tests}
 use Rattle.std.proofs.lemmas.List.Elements.{All-head, All-tail}
 use Rattle.std.proofs.lemmas.List.Sorted.{length_permutation}
+use Rattle.marple_base.specs.declared.field.TheConstants.{FIELDS}
 use Rattle.epoch_model.specs.Keys.{Key, key_eq, has, ascending}
 use Rattle.epoch_model.specs.Epochs.{Use}
 use Rattle.epoch_model.specs.Driving.{Taken, use_at, uses_taken}
@@ -79,18 +80,18 @@ module _ (take : List ℕ → Option Taken) (key : Key) where
       ∙ sym (keys_some 1 other))
 
   -- where the key gives the switch, all its rows are of that switch
-  pub alone : (s : ℕ) → ((words : List ℕ) (t : Taken) → length words ≡ 14 → take words ≡ Some t → key_eq t.key key ≡ true
+  pub alone : (s : ℕ) → ((words : List ℕ) (t : Taken) → length words ≡ FIELDS → take words ≡ Some t → key_eq t.key key ≡ true
       → switch_in words ≡ s)
       → (packets : List (List ℕ)) → AreWhole packets → all_rows (given packets) ≡ rows_from s (given packets)
   alone s tells [] whole = refl
   alone s tells (words ∷ packets) whole =
-      go (take words) refl (alone s tells packets (All-tail (λ w. length w ≡ 14) words packets whole))
+      go (take words) refl (alone s tells packets (All-tail (λ w. length w ≡ FIELDS) words packets whole))
     where
       go : (o : Option Taken) → take words ≡ o → all_rows (given packets) ≡ rows_from s (given packets)
           → all_rows (given_of (switch_in words) o ++ given packets) ≡ rows_from s (given_of (switch_in words) o ++ given packets)
       go None e h = h
       go (Some t) e h = by_test (key_eq t.key key)
-          (λ k. let same : switch_in words ≡ s = tells words t (All-head (λ w. length w ≡ 14) words packets whole) e k in
+          (λ k. let same : switch_in words ≡ s = tells words t (All-head (λ w. length w ≡ FIELDS) words packets whole) e k in
           let is : (switch_in words == s) ≡ true = grind (arith, nat_tests) in
           rw k (rw is (ap (λ rs. t.row ∷ rs) h)))
           (λ k. rw k h)

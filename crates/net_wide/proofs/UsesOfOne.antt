@@ -3,6 +3,7 @@ use Rattle.std.proofs.Common.{◌≡◌, ℕ, suc, ◌+◌, ◌-◌, ◌<◌, Bo
 use Rattle.std.proofs.Common.{Some, None, refl, sym, ap, ◌∙◌, arith}
 use Rattle.std.specs.Prelude.{slice_get, option_map}
 use Rattle.std.proofs.lemmas.List.Elements.{All-filter}
+use Rattle.marple_base.specs.declared.field.TheConstants.{FIELDS}
 use Rattle.epoch_model.specs.Epochs.{Use}
 use Rattle.epoch_model.specs.Driving.{Taken, use_at, uses_taken}
 use Rattle.epoch_model.proofs.KeyLists.{by_test}
@@ -61,7 +62,7 @@ uses_of_one q i packets s whole = go (slice_get (takings q.streams) i) refl
         let take : List ℕ → Option Taken = λ words. option_map (packetwise.row_taken t)
         (packetwise.row_at (packetwise.all_rows q words) t.input) in
         ap (map taken_in) (packetwise.uses_are q i t take e (λ words size. refl) (packets_at s packets)
-        (All-filter (λ words. switch_in words == s) (λ words. length words ≡ 14) packets whole))
+        (All-filter (λ words. switch_in words == s) (λ words. length words ≡ FIELDS) packets whole))
         ∙ (kept take s packets 1 0 packets (λ j lt. ap (λ z. get_or packets z []) (let same : 0 + j ≡ j = omega arith in same))
         ∙ ap (λ us. map taken_in (filter (λ u. switch_of packets u.packet == s) us))
         (sym (packetwise.uses_are q i t take e (λ words size. refl) packets whole)))

@@ -17,7 +17,7 @@ use Rattle.final_queries.specs.Finals.{IsTable, table_shape}
 use Rattle.final_queries.specs.GroupTable.{closed_table}
 use Rattle.query_lang.specs.Streams.{takings}
 use Rattle.epoch_model.specs.Epochs.{Geometry}
-use Rattle.query_tables.specs.Tables.{heading_of}
+use Rattle.query_tables.specs.Tables.{heading_of_shape}
 use Rattle.additive_laws.specs.Network.{SwitchEvent, SwitchEpoch, all_epochs, machine_at, AllMerged}
 use Rattle.additive_laws.specs.Traces.{Step, HasPackets, IsRun}
 use Rattle.net_wide.specs.Combining.{net_fault}
@@ -29,12 +29,12 @@ abbrev pub IsSeen : ℕ → List (List ℕ) → Type 0
 IsSeen switch packets = list_any (λ words. switch_in words == switch) packets ≡ true
 
 -- different switches of these packets have different numbers
-abbrev pub AreNumbered : (ℕ → ℕ) → List (List ℕ) → Type 0
-AreNumbered number packets = (a b : ℕ) → IsSeen a packets → IsSeen b packets → number a ≡ number b → a ≡ b
+abbrev pub AreSwitchesNumbered : (ℕ → ℕ) → List (List ℕ) → Type 0
+AreSwitchesNumbered number packets = (a b : ℕ) → IsSeen a packets → IsSeen b packets → number a ≡ number b → a ≡ b
 
 -- the packets by the numbers of their switches, with what is taken of each
-abbrev pub steps_of : (ℕ → ℕ) → (List ℕ → Option Taken) → List (List ℕ) → List Step
-steps_of number taken packets = map (λ words. record { switch = number (switch_in words); taken = taken words }) packets
+abbrev pub net_steps : (ℕ → ℕ) → (List ℕ → Option Taken) → List (List ℕ) → List Step
+net_steps number taken packets = map (λ words. record { switch = number (switch_in words); taken = taken words }) packets
 
 -- The row lists of a key that the machines of all switches closed: switch by switch, in ascending order.
 abbrev pub closed_pieces : (ℕ → ℕ) → Geometry → List SwitchEvent → List (List ℕ) → Key → List (List ArgRow)
@@ -46,19 +46,19 @@ closed_pieces number g events packets key =
 abbrev pub MergedMakeTheTable : Type 0
 MergedMakeTheTable = (q : TypedQuery) (plan : PlanParts) (buckets ways : ℕ) (packets : List (List ℕ)) (number : ℕ → ℕ)
     → IsValidQuery q → net_fault q ≡ None → TellsSwitches q → IsPlanOf q plan → HasRoom (caches_of buckets ways)
-    → AreWhole packets → AreNumbered number packets
+    → AreWhole packets → AreSwitchesNumbered number packets
     → (i : ℕ) (shape : GroupShape) (f : TypedFold) (events : List SwitchEvent) (merged : List SwitchEpoch)
     → i < length plan.groups → fold_at q i ≡ Some f
-    → HasPackets (steps_of number (taken plan i) packets) events → AllMerged (caches_of buckets ways) events merged
-    → closed_table (heading_of shape) (folding_of f) (all_epochs merged)
+    → HasPackets (net_steps number (taken plan i) packets) events → AllMerged (caches_of buckets ways) events merged
+    → closed_table (heading_of_shape shape) (folding_of f) (all_epochs merged)
     ≡ net_table q packets (closed_pieces number (caches_of buckets ways) events packets) i shape f
 
 -- Where no eviction comes before the end of a trace, those pieces are the epochs of the definition.
 abbrev pub PiecesAreTheEpochs : Type 0
 PiecesAreTheEpochs = (q : TypedQuery) (plan : PlanParts) (buckets ways : ℕ) (packets : List (List ℕ)) (number : ℕ → ℕ)
-    → IsPlanOf q plan → HasRoom (caches_of buckets ways) → AreWhole packets → AreNumbered number packets
+    → IsPlanOf q plan → HasRoom (caches_of buckets ways) → AreWhole packets → AreSwitchesNumbered number packets
     → (i : ℕ) (events : List SwitchEvent) (merged : List SwitchEpoch) (key : Key) → i < length plan.groups
-    → IsRun (steps_of number (taken plan i) packets) events → AllMerged (caches_of buckets ways) events merged
+    → IsRun (net_steps number (taken plan i) packets) events → AllMerged (caches_of buckets ways) events merged
     → closed_pieces number (caches_of buckets ways) events packets key ≡ net_epochs q i (caches_of buckets ways) packets key
 
 -- Finals can read the tables of the definition, which have the shapes of what the groupbys take.

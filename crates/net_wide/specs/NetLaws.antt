@@ -1,6 +1,7 @@
 -- That the order of packets of different switches makes no difference.
 use Rattle.std.specs.Prelude.{◌≡◌, ◌≢◌, ◌==◌, ℕ, ◌-◌, ◌<◌, true, false, None}
 use Rattle.std.specs.Prelude.{List, [], ◌∷◌, length, map, filter, slice_index, slice_index_or, All}
+use Rattle.marple_base.specs.declared.field.TheConstants.{FIELDS}
 use Rattle.query_lang.specs.declared.typed.TypedOp.{TypedOp}
 use Rattle.query_lang.specs.declared.typed.TypedOp.TheVariants.{Filter, Map, Zip, Group}
 use Rattle.query_lang.specs.declared.typed.TypedQuery.{TypedQuery}
@@ -24,7 +25,7 @@ SameOfEachSwitch packets other = (switch : ℕ) → packets_at switch packets �
 
 -- this slot of the stream is the packet's switch, whatever the packet
 abbrev pub IsSwitchSlot : TypedQuery → ℕ → ℕ → Type 0
-IsSwitchSlot q input slot = (words : List ℕ) → length words ≡ 14
+IsSwitchSlot q input slot = (words : List ℕ) → length words ≡ FIELDS
     → All (λ t. slice_index t.row slot ≡ switch_in words) (stream q input (words ∷ []))
 
 -- each key of a groupby that is named `switch` is the packet's switch, unless some `map` makes a column of that name

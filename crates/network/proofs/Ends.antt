@@ -31,10 +31,10 @@ use Rattle.switch_core.specs.Rows.{EachFrom}
 use Rattle.switch_core.proofs.LaneFacts.{all_at}
 use Rattle.switch_core.proofs.SideBySide.{each_long}
 use Rattle.additive_laws.specs.Network.{SwitchEvent, SwitchEpoch, all_epochs, all_events, AllMerged}
-use Rattle.additive_laws.specs.Traces.{HasPackets, IsRun, from_switch, given, packets_among, without_merges}
+use Rattle.additive_laws.specs.Traces.{HasPackets, IsRun, from_switch, given, packets_among, without_switch_merges}
 use Rattle.net_wide.specs.NetTables.{caches_of, net_pieces, net_table, net_table_if, net_tables, net_tables_from, tables_of_pieces}
 use Rattle.net_wide.proofs.SameTexts.{at_place}
-use Rattle.net_wide.specs.NetEnds.{MergedMakeTheTable, PiecesAreTheEpochs, steps_of}
+use Rattle.net_wide.specs.NetEnds.{MergedMakeTheTable, PiecesAreTheEpochs, net_steps}
 use Rattle.net_wide.proofs.PieceTables.{pieces_same}
 use Rattle.net_wide.proofs.Places.{first_at}
 use Rattle.network.specs.Ends.{AreAtTheirSwitches, CombineOver, EvictsLast, NoEviction, packets_taken, pieces_closed}
@@ -54,7 +54,7 @@ module _ (plan : PlanParts) (n : ℕ) where
   packets_more at (Some t) more = refl
 
   unmerged_more : (at : ℕ) (t : Option Taken) (more : List SwitchEvent)
-      → without_merges (from_switch at (event_of t) ++ more) ≡ from_switch at (event_of t) ++ without_merges more
+      → without_switch_merges (from_switch at (event_of t) ++ more) ≡ from_switch at (event_of t) ++ without_switch_merges more
   unmerged_more at None more = refl
   unmerged_more at (Some t) more = refl
 
@@ -66,31 +66,32 @@ module _ (plan : PlanParts) (n : ℕ) where
       ≡ packets_among more
   no_packet_merged at lane more = by_test (n == lane) (λ t. rw t refl) (λ t. rw t refl)
 
-  merged_more : (at lane : ℕ) (more : List SwitchEvent) → without_merges (from_switch at (event_at lane Merge n) ++ more) ≡ without_merges
+  merged_more : (at lane : ℕ) (more : List SwitchEvent) → without_switch_merges (from_switch at (event_at lane Merge n) ++ more)
+      ≡ without_switch_merges
       more
   merged_more at lane more = by_test (n == lane) (λ t. rw t refl) (λ t. rw t refl)
 
   pub has_packets : (number : ℕ → ℕ) (events : List NetworkEvent) → AreAtTheirSwitches number events
-      → HasPackets (steps_of number (taken plan n) (packets_taken events)) (all_given plan n events)
+      → HasPackets (net_steps number (taken plan n) (packets_taken events)) (all_given plan n events)
   has_packets number [] at = refl
   has_packets number (Takes switch words ∷ events) at =
       let t = taken plan n words in
       packets_more switch t (all_given plan n events)
       ∙ (ap (λ es. from_switch switch (event_of t) ++ es) (has_packets number events at.1)
-      ∙ ap (λ k. from_switch k (event_of t) ++ given (steps_of number (taken plan n) (packets_taken events))) at.0)
+      ∙ ap (λ k. from_switch k (event_of t) ++ given (net_steps number (taken plan n) (packets_taken events))) at.0)
   has_packets number (Evicts switch lane bucket ∷ events) at = no_packet_more switch lane bucket (all_given plan n events)
       ∙ has_packets number events at
   has_packets number (Merges switch lane ∷ events) at = no_packet_merged switch lane (all_given plan n events)
       ∙ has_packets number events at
 
   first_given : (number : ℕ → ℕ) (events : List NetworkEvent) → NoEviction events → AreAtTheirSwitches number events
-      → without_merges (all_given plan n events) ≡ given (steps_of number (taken plan n) (packets_taken events))
+      → without_switch_merges (all_given plan n events) ≡ given (net_steps number (taken plan n) (packets_taken events))
   first_given number [] none at = refl
   first_given number (Takes switch words ∷ events) none at =
       let t = taken plan n words in
       unmerged_more switch t (all_given plan n events)
       ∙ (ap (λ es. from_switch switch (event_of t) ++ es) (first_given number events none at.1)
-      ∙ ap (λ k. from_switch k (event_of t) ++ given (steps_of number (taken plan n) (packets_taken events))) at.0)
+      ∙ ap (λ k. from_switch k (event_of t) ++ given (net_steps number (taken plan n) (packets_taken events))) at.0)
   first_given number (Evicts switch lane bucket ∷ events) none at = absurd none
   first_given number (Merges switch lane ∷ events) none at = merged_more switch lane (all_given plan n events)
       ∙ first_given number events none at
@@ -104,7 +105,7 @@ module _ (plan : PlanParts) (n : ℕ) where
       (λ t. rw t (rest_given events none))
 
 is_run : (plan : PlanParts) (n : ℕ) (number : ℕ → ℕ) (events : List NetworkEvent) → EvictsLast events → AreAtTheirSwitches number events
-    → IsRun (steps_of number (taken plan n) (packets_taken events)) (all_given plan n events)
+    → IsRun (net_steps number (taken plan n) (packets_taken events)) (all_given plan n events)
 is_run plan n number events last at =
     let all : packets_taken events ≡ packets_taken last.first =
     ap packets_taken last.parts ∙ (taken_on last.first last.rest ∙ (ap (λ ps. packets_taken last.first ++ ps) last.after
@@ -116,7 +117,7 @@ is_run plan n number events last at =
       packets =
           first_given plan n number last.first last.before (first_theirs number last.first last.rest
           (subst (AreAtTheirSwitches number) last.parts at))
-          ∙ ap (λ ps. given (steps_of number (taken plan n) ps)) (sym all);
+          ∙ ap (λ ps. given (net_steps number (taken plan n) ps)) (sym all);
       ending = rest_given plan n last.rest last.after;
     }
 

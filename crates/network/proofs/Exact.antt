@@ -7,6 +7,7 @@ use Rattle.std.proofs.lemmas.Bool.{true≢false}
 use Rattle.std.proofs.lemmas.Bool.Decides.{nat_tests}
 use Rattle.std.proofs.lemmas.Cmp.{nat_list_cmp_total, tied_itself}
 use Rattle.std.proofs.lemmas.List.Elements.{All-head, All-tail, filter-append}
+use Rattle.marple_base.specs.declared.field.TheConstants.{FIELDS}
 use Rattle.query_lang.specs.declared.fold.TypedFold.{TypedFold}
 use Rattle.query_lang.specs.declared.typed.Class.TheVariants.{Linear}
 use Rattle.query_lang.specs.Folds.{initial_state}
@@ -39,7 +40,7 @@ use Rattle.switch_core.specs.Rows.{EachFrom}
 use Rattle.switch_core.proofs.LaneFacts.{all_at}
 use Rattle.switch_core.proofs.SideBySide.{same_some}
 use Rattle.additive_laws.specs.Laws.{IsAdditiveFrom}
-use Rattle.additive_laws.specs.Pieces.{joined}
+use Rattle.additive_laws.specs.Pieces.{rows_joined}
 use Rattle.additive_laws.specs.Network.{AllMerged, SwitchEvent, SwitchEpoch, all_epochs, all_events, events_at, machine_at}
 use Rattle.additive_laws.specs.Traces.{from_switch}
 use Rattle.additive_laws.proofs.StoreTables.{as_many, pieces, same_some as same_length, store_table}
@@ -130,13 +131,13 @@ store_keys : (g : Geometry) (events : List SwitchEvent) (merged : List SwitchEpo
     → closed_keys (all_epochs merged) ≡ ascending (keys_given (all_events events))
 store_keys g events merged room all = same_keys (all_epochs merged) (keys_given (all_events events)) (λ k.
     given-some k (all_events events)
-    ∙ same_length (rows_given k (all_events events)) (joined (lists_of k (all_epochs merged))) (as_many g events merged room all k)
+    ∙ same_length (rows_given k (all_events events)) (rows_joined (lists_of k (all_epochs merged))) (as_many g events merged room all k)
     ∙ joined-some (lists_of k (all_epochs merged)) (pieces g events merged room all k))
 
 -- ---- what other switches are given of a key
 
 module _ (plan : PlanParts) (n j at : ℕ) (key : Key) (place : IsSwitchPlace plan n j) (other : ℕ) (far : other ≢ at) where
-  one_given : (switch : ℕ) (words : List ℕ) (o : Option Taken) (more : List SwitchEvent) → taken plan n words ≡ o → length words ≡ 14
+  one_given : (switch : ℕ) (words : List ℕ) (o : Option Taken) (more : List SwitchEvent) → taken plan n words ≡ o → length words ≡ FIELDS
       → (switch_in words ≡ slice_index key j → switch ≡ at)
       → rows_given key (events_at other more) ≡ [] → rows_given key (events_at other (from_switch switch (event_of o) ++ more)) ≡ []
   one_given switch words None more is whole theirs rest = rest
@@ -165,8 +166,8 @@ module _ (plan : PlanParts) (n j at : ℕ) (key : Key) (place : IsSwitchPlace pl
   others_given [] whole theirs = refl
   others_given (Takes switch words ∷ events) whole theirs =
       one_given switch words (taken plan n words) (all_given plan n events) refl
-      (All-head (λ w. length w ≡ 14) words (packets_taken events) whole) theirs.0
-      (others_given events (All-tail (λ w. length w ≡ 14) words (packets_taken events) whole) theirs.1)
+      (All-head (λ w. length w ≡ FIELDS) words (packets_taken events) whole) theirs.0
+      (others_given events (All-tail (λ w. length w ≡ FIELDS) words (packets_taken events) whole) theirs.1)
   others_given (Evicts switch lane bucket ∷ events) whole theirs = none_evicted lane switch bucket (all_given plan n events)
       (others_given events whole theirs)
   others_given (Merges switch lane ∷ events) whole theirs = none_given lane switch (all_given plan n events)

@@ -13,7 +13,9 @@ use Rattle.final_queries.specs.FinalLaws.{AreAlike}
 use Rattle.stage_plan.specs.declared.group.GroupWiring.{GroupWiring}
 use Rattle.switch_core.specs.FrontParts.{FrontOf}
 use Rattle.std.specs.Prelude.{slice_get}
+use Rattle.marple_base.specs.declared.field.TheConstants.{FIELDS}
 use Rattle.epoch_model.specs.Machine.{Epoch}
+use Rattle.query_lang.specs.declared.fault.TheConstants.{MAX_ARGS, MAX_KEYS}
 use Rattle.epoch_entry.specs.Foldings.{IsKindOf}
 use Rattle.epoch_entry.specs.contracts.any.AnyEpochsEpochKind.TheImpl.{ghosts}
 use Rattle.final_queries.specs.GroupTable.{closed_table}
@@ -50,8 +52,8 @@ pub record HasPart (plan : PlanParts) (switches n : ℕ) (group : GroupView) : T
   pub registers : ℕ
   pub sound : IsSoundGroup registers part (wiring_at plan n)
   pub keys : group.store.key_words ≡ length (wiring_at plan n).keys
-  pub few_keys : length (wiring_at plan n).keys ≤ 8
-  pub few_args : length (wiring_at plan n).args ≤ 16
+  pub few_keys : length (wiring_at plan n).keys ≤ MAX_KEYS
+  pub few_args : length (wiring_at plan n).args ≤ MAX_ARGS
 
 pub part_of : (plan : PlanParts) (switches n : ℕ) (groups : List GroupView) (group : GroupView) → IsSoundPlan plan
     → AreGroups plan switches groups → slice_get groups n ≡ Some group
@@ -60,14 +62,14 @@ part_of plan switches n groups group sound are here =
     let found = each_at (λ i g part. IsGroup switches part (wiring_at plan i) g) 0 n groups plan.groups group are here in
     let own = found.2 n (omega arith) in
     let wired = group_sound plan n found.0 sound found.1 in
-    let good : IsSoundGroup (14 + length plan.ops) found.0 (wiring_at plan n) =
-    subst (IsSoundGroup (14 + length plan.ops) found.0) (sym wired.1) wired.2 in
+    let good : IsSoundGroup (FIELDS + length plan.ops) found.0 (wiring_at plan n) =
+    subst (IsSoundGroup (FIELDS + length plan.ops) found.0) (sym wired.1) wired.2 in
     record {
       part = found.0;
       there = found.1;
       within = got_below plan.groups n found.0 found.1;
       is = own;
-      registers = 14 + length plan.ops;
+      registers = FIELDS + length plan.ops;
       sound = good;
       keys = own.keys ∙ sym good.keys;
       few_keys = let a = good.keys in let b = good.most_keys in omega arith;

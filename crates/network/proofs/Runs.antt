@@ -10,7 +10,7 @@ use Rattle.switch_core.specs.declared.upkeep.Upkeep.TheVariants as due
 use Rattle.switch_core.proofs.SideBySide.{each_long}
 use Rattle.network.specs.Groups.{GroupKept, GroupView}
 use Rattle.network.specs.Costs.{group_cost}
-use Rattle.network.specs.Networks.{IsNetwork, Keeps, NetworkView, network_cost, upkeeps_cost}
+use Rattle.network.specs.Networks.{IsNetwork, KeepsNetwork, NetworkView, network_cost, upkeeps_cost}
 use Rattle.network.specs.Running.{Evicts, Merges, MergingBreaksOff, NetworkEvent, NetworkMakes, NetworkRuns, RunBreaksOff, RunsWithMerges}
 use Rattle.network.specs.Running.{Takes, gives, joined_below, switch_of, without_merges}
 use Rattle.network.proofs.CostSteps.{costs_kept, merges_kept}
@@ -75,7 +75,7 @@ runs_is ways (e ∷ events) a b ran is = runs_is ways events ran.0 b ran.2 (made
 
 -- the sizes of a network are unchanged
 pub record NetworkKept (a b : NetworkView) : Type 0 where
-  pub keeps : Keeps a b
+  pub keeps : KeepsNetwork a b
   pub switches : b.switches ≡ a.switches
   pub groups : Each GroupKept a.groups b.groups
 

@@ -1,6 +1,7 @@
 -- What the tables of a drained network are.
 use Rattle.std.specs.Prelude.{◌≡◌, ℕ, None, Some, List, [], ◌∷◌, ◌++◌, length, slice_get, slice_index, true}
 use Rattle.std.specs.List.{list_all}
+use Rattle.marple_base.specs.declared.field.TheConstants.{FIELDS}
 use Rattle.query_lang.specs.declared.fold.TypedFold.{TypedFold}
 use Rattle.query_lang.specs.declared.typed.TypedQuery.{TypedQuery}
 use Rattle.query_lang.specs.TypedQueries.{IsValidQuery}
@@ -14,7 +15,7 @@ use Rattle.stage_plan.specs.Sound.{PlanParts}
 use Rattle.net_wide.specs.Combining.{net_fault}
 use Rattle.net_wide.specs.NetLaws.{TellsSwitches}
 use Rattle.net_wide.specs.NetTables.{caches_of, switch_in}
-use Rattle.net_wide.specs.NetEnds.{AreNumbered, closed_pieces}
+use Rattle.net_wide.specs.NetEnds.{AreSwitchesNumbered, closed_pieces}
 use Rattle.network.specs.Groups.{group_is_drained}
 use Rattle.network.specs.Networks.{NetworkView}
 use Rattle.network.specs.Running.{Evicts, Merges, NetworkEvent, NetworkStands, Takes, all_given}
@@ -40,7 +41,7 @@ pub record CombineOver (q : TypedQuery) (plan : PlanParts) (number : ℕ → ℕ
   pub tells : TellsSwitches q
   pub planned : IsPlanOf q plan
   pub whole : AreWhole (packets_taken events)
-  pub numbered : AreNumbered number (packets_taken events)
+  pub numbered : AreSwitchesNumbered number (packets_taken events)
   pub switches : AreAtTheirSwitches number events
 
 -- by groupby and key, the row lists that the machines of all switches closed
@@ -72,7 +73,7 @@ AreTakenAt at word (Merges switch lane ∷ events) = AreTakenAt at word events
 
 -- at this place the groupby's keys have the switch of the packet that they are taken from
 abbrev pub IsSwitchPlace : PlanParts → ℕ → ℕ → Type 0
-IsSwitchPlace plan n j = (words : List ℕ) (t : Taken) → length words ≡ 14 → taken plan n words ≡ Some t
+IsSwitchPlace plan n j = (words : List ℕ) (t : Taken) → length words ≡ FIELDS → taken plan n words ≡ Some t
     → slice_index t.key j ≡ switch_in words
 
 -- A drained network represents these events, and this is the fold of its groupby with this number.

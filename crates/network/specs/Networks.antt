@@ -30,7 +30,7 @@ pub record IsNetwork (ways : ℕ) (net : NetworkView) : Type 0 where
   pub most_records : net.pipe_records ≤ 65536
 
 -- the plan, the number of buckets and the number of records of a pipe are unchanged
-pub record Keeps (old new : NetworkView) : Type 0 where
+pub record KeepsNetwork (old new : NetworkView) : Type 0 where
   pub plan : new.plan ≡ old.plan
   pub buckets : new.buckets ≡ old.buckets
   pub pipe_records : new.pipe_records ≡ old.pipe_records
@@ -39,7 +39,7 @@ pub record Keeps (old new : NetworkView) : Type 0 where
 pub record NetworkGrows (ways : ℕ) (old new : NetworkView) : Type 0 where
   pub groups : Each (GroupGrows ways old.buckets old.pipe_records) old.groups new.groups
   pub switches : new.switches ≡ old.switches + 1
-  pub keeps : Keeps old new
+  pub keeps : KeepsNetwork old new
 
 -- the most steps that a packet of this switch takes: its registers, and what the switch's front takes at each groupby
 abbrev pub network_cost : ℕ → ℕ → NetworkView → ℕ

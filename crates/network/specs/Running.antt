@@ -13,7 +13,7 @@ use Rattle.additive_laws.specs.Network.{SwitchEvent, SwitchEpoch}
 use Rattle.additive_laws.specs.Traces.{from_switch}
 use Rattle.network.specs.Groups.{GroupStands, GroupView}
 use Rattle.network.specs.Events.{AtGroup, GroupsMake, upkeep_in}
-use Rattle.network.specs.Networks.{Keeps, NetworkView}
+use Rattle.network.specs.Networks.{KeepsNetwork, NetworkView}
 use Rattle.network.specs.Shared.{merged_by}
 
 -- a packet with these words comes to a switch; or a switch evicts from a bucket, or merges a record, at one groupby
@@ -55,7 +55,7 @@ NetworkStands ways net events = (n : ℕ) → AtGroup (λ group. let given = all
 pub record NetworkMakes (ways : ℕ) (event : NetworkEvent) (old new : NetworkView) : Type 0 where
   pub groups : GroupsMake ways (switch_of event) (gives old.plan event) old.groups new.groups
   pub switches : new.switches ≡ old.switches
-  pub keeps : Keeps old new
+  pub keeps : KeepsNetwork old new
 
 -- It makes these events in sequence.
 abbrev pub NetworkRuns : ℕ → List NetworkEvent → NetworkView → NetworkView → Type 0

@@ -29,6 +29,7 @@ use backing_store::BackingStore;
 use epoch_entry::{AnyEpochs, EpochKind, entries_are_small, entries_suit_folds};
 use final_queries::Table;
 use marple_base::Steps;
+use query_lang::MAX_KEYS;
 use stage_plan::{GroupPlan, Plan};
 use std::alloc::{AllocError, Global};
 use std::marker::Model;
@@ -103,7 +104,7 @@ impl<const WAYS: usize> Group<WAYS> {
         requires places { buckets * WAYS ≤ 65536 }
         requires pipe { (0 < pipe_records) × (pipe_records ≤ 65536) }
         requires program { IsProgram part.now.program }
-        requires keys { (0 < length part.now.key_names) × (length part.now.key_names ≤ 8) }
+        requires keys { (0 < length part.now.key_names) × (length part.now.key_names ≤ MAX_KEYS) }
         ensures is { OnOk result ((switches registers : ℕ) (wiring : GroupWiring) → IsSoundGroup registers part.now wiring
             → IsGroup switches part.now wiring self.old → IsGroup (switches + 1) part.now wiring self.new) }
         ensures grows { OnOk result (GroupGrows WAYS buckets pipe_records self.old self.new) }
@@ -229,7 +230,7 @@ impl<const WAYS: usize> Group<WAYS> {
 
     /// The table of the epochs that the store holds.
     pub fn table(&self, alloc: Global, part: &GroupPlan) -> Result<Table, AllocError>
-        requires { length part.now.key_names ≤ 8 }
+        requires { length part.now.key_names ≤ MAX_KEYS }
         ensures { IfOk result (λ table. (epochs : List Epoch) → StoreHolds (folding_in self.now) self.now.store epochs
             → table ≡ closed_table (heading_of part.now) (folding_in self.now) epochs) }
     {

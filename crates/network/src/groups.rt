@@ -16,6 +16,7 @@ ghost use Rattle.network.specs.Costs.{group_cost};
 use crate::group::Group;
 use final_queries::Table;
 use marple_base::{Seq, Steps};
+use query_lang::{MAX_ARGS, MAX_KEYS};
 use stage_plan::Plan;
 use std::alloc::{AllocError, Global};
 use std::sync::ledger::Ledger;
@@ -127,8 +128,8 @@ pub fn packet_groups<const WAYS: usize, L: Ledger>(
     requires groups { (switches : ℕ) × (at < switches) × AreGroups plan.now switches groups.old }
     requires ready { list_all (is_ready_at at) groups.old ≡ true }
     requires registers { length registers.now ≡ registers_of plan.now }
-    requires key { length key.old ≡ 8 }
-    requires args { length args.old ≡ 16 }
+    requires key { length key.old ≡ MAX_KEYS }
+    requires args { length args.old ≡ MAX_ARGS }
     ensures makes { GroupsMake WAYS at (λ n. event_of (taken_at (wiring_at plan.now n) registers.now)) groups.old groups.new }
     ensures stores { StoresStay groups.old groups.new }
     ensures steps { steps.old ≤ steps.new }

@@ -37,6 +37,7 @@ use final_queries::{Table, alike_foldings_make_one_table};
 use fold_class::depth_is_found;
 use marple_base::{Packet, Seq, Steps};
 use net_wide::{merged_make_the_table, pieces_are_the_epochs};
+use query_lang::{MAX_ARGS, MAX_KEYS};
 use stage_plan::Plan;
 use std::alloc::{AllocError, Global};
 use std::marker::Model;
@@ -118,8 +119,8 @@ impl<const WAYS: usize> Network<WAYS> {
     {
         let groups = made_groups(alloc, &plan)?;
         let registers = vec![in alloc; 0; plan.registers()]?;
-        let key = vec![in alloc; 0; 8]?;
-        let args = vec![in alloc; 0; 16]?;
+        let key = vec![in alloc; 0; MAX_KEYS]?;
+        let args = vec![in alloc; 0; MAX_ARGS]?;
         Ok(Network {
             alloc,
             plan,

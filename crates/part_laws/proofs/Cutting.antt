@@ -6,6 +6,7 @@ use mathlib.Core.List.{reverse_aux}
 use Rattle.std.specs.Prelude.{All}
 use Rattle.std.proofs.lemmas.List.Elements.{All-head, All-tail}
 use Rattle.std.proofs.lemmas.Bool.{true≢false, false≢true, lt-ltb, ltb-true}
+use Rattle.marple_base.specs.declared.field.TheConstants.{FIELDS}
 use Rattle.epoch_model.specs.Keys.{Key, ArgRow, key_eq, others, distinct, has}
 use Rattle.epoch_model.specs.Epochs.{Use, Geometry, is_refresh, refresh_between, is_rival, rivals, in_one_epoch, is_use_of, last_use}
 use Rattle.epoch_model.specs.Epochs.{since_last_use, goes_on, goes_on_after, onto_last, epochs_back, epochs}
@@ -184,7 +185,7 @@ module _ (partition : Partition) (q : TypedQuery) (i : ℕ) (kept : KeepsKeys pa
   use_with n row = use_of t (record { packet = n; row = row })
 
   -- a packet of another part gives no use of the key
-  not_here : (words row : List ℕ) → length words ≡ 14 → (partition words == kept.part_of key) ≡ false → row_of words ≡ Some row
+  not_here : (words row : List ℕ) → length words ≡ FIELDS → (partition words == kept.part_of key) ≡ false → row_of words ≡ Some row
       → key_eq (values_at row t.keys) key ≡ false
   not_here words row size apart is = by_test (key_eq (values_at row t.keys) key)
       (λ e. absurd (not_number (partition words) (kept.part_of key) apart
@@ -213,7 +214,7 @@ module _ (partition : Partition) (q : TypedQuery) (i : ℕ) (kept : KeepsKeys pa
       → Thinned key (back n packets us) (back m (own packets) ps)
   thin [] whole n m us ps h = h
   thin (words ∷ packets) whole n m us ps h =
-      let more = thin packets (All-tail (λ ws. length ws ≡ 14) words packets whole) in
+      let more = thin packets (All-tail (λ ws. length ws ≡ FIELDS) words packets whole) in
       by_test (partition words == kept.part_of key)
       (λ e. rw e (here more (row_of words)))
       (λ e. rw e (there more e (row_of words) refl))
@@ -230,7 +231,7 @@ module _ (partition : Partition) (q : TypedQuery) (i : ℕ) (kept : KeepsKeys pa
       there more e None is = more (suc n) m us ps h
       there more e (Some row) is =
           more (suc n) m (use_with n row ∷ us) ps
-          (of_first (use_with n row) us ps (not_here words row (All-head (λ ws. length ws ≡ 14) words packets whole) e is) h)
+          (of_first (use_with n row) us ps (not_here words row (All-head (λ ws. length ws ≡ FIELDS) words packets whole) e is) h)
 
 pub cut_no_more : PartsCutNoMore
 unfolding epochs

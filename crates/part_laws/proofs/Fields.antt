@@ -9,6 +9,7 @@ use Rattle.std.proofs.lemmas.List.Elements.{All-nil, All-cons, All-head, All-tai
 use Rattle.epoch_model.specs.Epochs.{Use}
 use Rattle.epoch_model.proofs.KeyLists.{by_test}
 use Rattle.marple_base.specs.declared.field.Field.{Field}
+use Rattle.marple_base.specs.declared.field.TheConstants.{FIELDS}
 use Rattle.query_lang.specs.declared.query.Query.{Query}
 use Rattle.query_lang.specs.declared.typed.TypedOp.{TypedOp}
 use Rattle.query_lang.specs.declared.typed.TypedOp.TheVariants as typed
@@ -18,7 +19,7 @@ use Rattle.query_lang.specs.Streams.{Taking, taking_of, takings}
 use Rattle.query_laws.specs.QueryRules.{IsTyped}
 use Rattle.query_types.specs.Uses.{use_of, taken_by, uses}
 use Rattle.stage_plan.proofs.StreamRows.{Row, row_at, all_rows, tuple_of, stream_rows}
-use Rattle.net_laws.specs.Fields.{word_of, is_named, names_field}
+use Rattle.net_laws.specs.Fields.{field_word, is_named, names_field}
 use Rattle.net_laws.proofs.Fields.{AlwaysTells, always_tells}
 use Rattle.net_laws.proofs.Rows.{SlotTells}
 use Rattle.part_laws.specs.Parts.{groupbys, first_named, part_by, HasFieldKey}
@@ -70,8 +71,8 @@ key_tells t value j (Some row) lt h =
 
 -- each key that a packet gives to the groupby has the packet's word of the field, in the first column of its name
 abbrev GivesWords : TypedQuery → ℕ → Field → List ℕ → Type 0
-GivesWords q i field columns = (words : List ℕ) → length words ≡ 14
-    → All (λ u. word_of field words ≡ slice_index u.key (first_named field q.names columns)) (uses q i (words ∷ []))
+GivesWords q i field columns = (words : List ℕ) → length words ≡ FIELDS
+    → All (λ u. field_word field words ≡ slice_index u.key (first_named field q.names columns)) (uses q i (words ∷ []))
 
 gives_words : (q : TypedQuery) (i : ℕ) (field : Field) (columns : List ℕ) (op : TypedOp)
     → slice_get (takings q.streams) i ≡ taking_of op → is_some (taking_of op) ≡ true → names_field field q.names columns ≡ true
@@ -85,9 +86,9 @@ gives_words q i field columns (typed.Group input keys f args) at is named tells 
     let t : Taking = record { input = input; keys = keys; fold_number = f; args = args } in
     let here = tells words size in
     let lt : slot < length keys = omega (arith, is_there.0, here.2) in
-    subst (All (λ (u : Use). word_of field words ≡ slice_index u.key slot))
+    subst (All (λ (u : Use). field_word field words ≡ slice_index u.key slot))
     (sym (ap (taken_by q (words ∷ [])) at ∙ ap (map (use_of t)) (stream_rows q input (words ∷ []))))
-    (key_tells t (word_of field words) slot (row_at (all_rows q words) input) lt (here.1 slot lt is_there.1))
+    (key_tells t (field_word field words) slot (row_at (all_rows q words) input) lt (here.1 slot lt is_there.1))
 
 -- so in each typed query
 field_gives : (query : Query) (q : TypedQuery) (i : ℕ) (field : Field) → IsTyped query q → (has : HasFieldKey q i field)
@@ -106,8 +107,9 @@ fields_keep query q i field choose h has = record {
 -- ---- several fields
 
 all_give : (query : Query) (q : TypedQuery) (i : ℕ) → IsTyped query q → (one : TypedStream) → slice_get (groupbys q) i ≡ Some one
-    → (fields : List Field) → All (HasFieldKey q i) fields → (words : List ℕ) → length words ≡ 14
-    → All (λ u. map (λ field. word_of field words) fields ≡ map (λ field. slice_index u.key (first_named field q.names one.columns)) fields)
+    → (fields : List Field) → All (HasFieldKey q i) fields → (words : List ℕ) → length words ≡ FIELDS
+    → All (λ u. map (λ field. field_word field words) fields ≡ map (λ field. slice_index u.key (first_named field q.names one.columns))
+    fields)
     (uses q i (words ∷ []))
 all_give query q i h one at [] all words size k d lt = refl
 all_give query q i h one at (field ∷ fields) all words size k d lt =
@@ -115,7 +117,7 @@ all_give query q i h one at (field ∷ fields) all words size k d lt =
     let same : has.one ≡ one = same_Some has.one one (sym has.groupby ∙ at) in
     let u : Use = slice_index_or (uses q i (words ∷ [])) k d in
     let rest = all_give query q i h one at fields (All-tail (HasFieldKey q i) field fields all) words size k d lt in
-    ap (λ word. word ∷ map (λ f. word_of f words) fields)
+    ap (λ word. word ∷ map (λ f. field_word f words) fields)
     (field_gives query q i field h has words size k d lt ∙ ap (λ (s : TypedStream). slice_index u.key (first_named field q.names s.columns))
     same)
     ∙ ap (λ list. slice_index u.key (first_named field q.names one.columns) ∷ list) rest

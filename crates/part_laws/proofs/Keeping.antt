@@ -4,6 +4,7 @@ use Rattle.std.proofs.Common.{refl, sym, ap, ◌∙◌, arith, Contains}
 use Rattle.std.specs.Prelude.{slice_index_or}
 use Rattle.std.proofs.lemmas.Bool.{true≢false, false≢true}
 use Rattle.std.proofs.lemmas.List.Elements.{All-head, All-tail}
+use Rattle.marple_base.specs.declared.field.TheConstants.{FIELDS}
 use Rattle.epoch_model.specs.Keys.{Key, ArgRow, key_eq, has}
 use Rattle.epoch_model.specs.Epochs.{Use}
 use Rattle.epoch_model.specs.Tables.{keys_used}
@@ -24,7 +25,7 @@ module _ (partition : Partition) (q : TypedQuery) (i : ℕ) (kept : KeepsKeys pa
   rows = rows_of_one q i key
 
   -- a packet that goes elsewhere gives the key no row
-  none_elsewhere : (words : List ℕ) → length words ≡ 14 → partition words ≢ kept.part_of key → rows words ≡ []
+  none_elsewhere : (words : List ℕ) → length words ≡ FIELDS → partition words ≢ kept.part_of key → rows words ≡ []
   none_elsewhere words size other = none (uses q i (words ∷ [])) (kept.goes words size)
     where
       none : (us : List Use) → All (λ u. partition words ≡ kept.part_of u.key) us → rows_used key us ≡ []
@@ -38,21 +39,21 @@ module _ (partition : Partition) (q : TypedQuery) (i : ℕ) (kept : KeepsKeys pa
       → flat_map rows packets ≡ flat_map rows (part_at partition n packets)
   own_part n is [] whole = refl
   own_part n is (words ∷ packets) whole =
-      let rest = own_part n is packets (All-tail (λ ws. length ws ≡ 14) words packets whole) in
+      let rest = own_part n is packets (All-tail (λ ws. length ws ≡ FIELDS) words packets whole) in
       by_test (partition words == n)
       (λ e. rw e (ap (λ rs. rows words ++ rs) rest))
       (λ e. rw e (ap (λ rs. rs ++ flat_map rows packets)
-      (none_elsewhere words (All-head (λ ws. length ws ≡ 14) words packets whole)
+      (none_elsewhere words (All-head (λ ws. length ws ≡ FIELDS) words packets whole)
       (λ same. not_number (partition words) n e (same ∙ sym is))) ∙ rest))
 
   other_part : (n : ℕ) → n ≢ kept.part_of key → (packets : List (List ℕ)) → AreWhole packets
       → flat_map rows (part_at partition n packets) ≡ []
   other_part n other [] whole = refl
   other_part n other (words ∷ packets) whole =
-      let rest = other_part n other packets (All-tail (λ ws. length ws ≡ 14) words packets whole) in
+      let rest = other_part n other packets (All-tail (λ ws. length ws ≡ FIELDS) words packets whole) in
       by_test (partition words == n)
       (λ e. rw e (ap (λ rs. rs ++ flat_map rows (part_at partition n packets))
-      (none_elsewhere words (All-head (λ ws. length ws ≡ 14) words packets whole)
+      (none_elsewhere words (All-head (λ ws. length ws ≡ FIELDS) words packets whole)
       (λ same. other (sym (same_number (partition words) n e) ∙ same))) ∙ rest))
       (λ e. rw e rest)
 

@@ -2,13 +2,14 @@
 use Rattle.std.specs.Prelude.{◌≡◌, ℕ, ◌==◌, true, false, is_some, List, [], ◌∷◌, length, map, filter, All}
 use Rattle.std.specs.Prelude.{suc, if◌then◌else◌, Some, slice_get, slice_index}
 use Rattle.marple_base.specs.declared.field.Field.{Field}
+use Rattle.marple_base.specs.declared.field.TheConstants.{FIELDS}
 use Rattle.query_lang.specs.declared.typed.TypedQuery.{TypedQuery}
 use Rattle.query_lang.specs.declared.typed.TypedStream.{TypedStream}
 use Rattle.query_lang.specs.Streams.{taking_of}
 use Rattle.epoch_model.specs.Keys.{Key, ArgRow}
 use Rattle.epoch_model.specs.Epochs.{Use}
 use Rattle.query_types.specs.Uses.{uses}
-use Rattle.net_laws.specs.Fields.{is_named, makes_field, names_field, word_of}
+use Rattle.net_laws.specs.Fields.{is_named, makes_field, names_field, field_word}
 use Rattle.additive_laws.specs.TraceLaws.{AreApart, has_number, rows_used}
 
 -- the part that a packet with these words goes to
@@ -23,7 +24,7 @@ part_at partition n packets = filter (λ words. partition words == n) packets
 -- part of that key.
 pub record KeepsKeys (partition : Partition) (q : TypedQuery) (i : ℕ) : Type 0 where
   pub part_of : Key → ℕ
-  pub goes : (words : List ℕ) → length words ≡ 14 → All (λ u. partition words ≡ part_of u.key) (uses q i (words ∷ []))
+  pub goes : (words : List ℕ) → length words ≡ FIELDS → All (λ u. partition words ≡ part_of u.key) (uses q i (words ∷ []))
 
 -- the list has the part of each packet, and perhaps other parts, each once
 pub record AreTheParts (partition : Partition) (packets : List (List ℕ)) (parts : List ℕ) : Type 0 where
@@ -48,11 +49,11 @@ part_rows partition q i key packets n = rows_used key (part_uses partition q i p
 
 -- by this function of that word
 abbrev pub by_field : Field → (ℕ → ℕ) → Partition
-by_field field choose words = choose (word_of field words)
+by_field field choose words = choose (field_word field words)
 
 -- by this function of the packet's words of these fields
 abbrev pub by_fields : List Field → (List ℕ → ℕ) → Partition
-by_fields fields choose words = choose (map (λ field. word_of field words) fields)
+by_fields fields choose words = choose (map (λ field. field_word field words) fields)
 
 -- the place of the first of these columns that has the field's name
 abbrev pub first_named : Field → List (List ℕ) → List ℕ → ℕ

@@ -5,7 +5,7 @@ use crate::direct::{Event, Key, QUERY, TwoKeys};
 use accepted_query::accept;
 use epoch_entry::Entries;
 use epoch_model::Mark;
-use marple_base::{Field, Packet, Steps};
+use marple_base::{FIELDS, Field, Packet, Steps};
 use std::alloc::{AllocError, Global};
 use std::marker::Brand;
 use std::process::Abort;
@@ -25,7 +25,7 @@ pub struct OneBucket<const WAYS: usize> {
 
 /// The words of a packet that has only a source and a length.
 pub fn packet_of(source: u64, length: u64) -> Packet {
-    let mut packet = Packet { words: [0; 14] };
+    let mut packet = Packet { words: [0; FIELDS] };
     packet.words[Field::SrcIp.number()] = source;
     packet.words[Field::PktLen.number()] = length;
     packet

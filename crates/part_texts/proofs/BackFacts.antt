@@ -11,13 +11,13 @@ use Rattle.marple_base.specs.declared.field.Field.{Field}
 use Rattle.marple_base.specs.declared.field.Field.TheVariants.{Uid}
 use Rattle.marple_base.specs.declared.field.FieldSet.{FieldSet}
 use Rattle.marple_base.specs.declared.field.Packet.{Packet}
-use Rattle.trace_reader.specs.Numbers.{without_blanks, word_of}
+use Rattle.trace_reader.specs.Numbers.{without_blanks, word_of_text}
 use Rattle.trace_reader.specs.Reading.{records}
-use Rattle.trace_reader.specs.Traces.{Contents, Layout, column_of, columns_named, columns_of, contents, contents_from, each}
-use Rattle.trace_reader.specs.Traces.{only_column, packet_of, text_at, word_at, words_of}
+use Rattle.trace_reader.specs.Traces.{Contents, Layout, column_of_field, columns_named, columns_of_fields, contents, contents_from, each}
+use Rattle.trace_reader.specs.Traces.{only_column, packet_of, field_text_at, word_at, words_in_columns}
 use Rattle.trace_reader.specs.declared.fault.TheConstants.{MAX_RECORDS}
 use Rattle.trace_reader.proofs.TraceFacts.{contents_good}
-use Rattle.queue_sim.specs.ReadBack.{ArePackets, AreWords}
+use Rattle.queue_sim.specs.ReadBack.{ArePackets, ArePacketWords}
 use Rattle.queue_sim.specs.TraceText.{word_text}
 use Rattle.queue_sim.proofs.DigitFacts.{word_read}
 use Rattle.part_texts.specs.Laws.{FieldTextsReadBack, as_read, word_if_read}
@@ -49,7 +49,7 @@ written_are reads f read = by (fields_in reads) refl
     by [] e = absurd (some_read reads f read e)
     by (g ∷ gs) e = refl
 
-column_here : (reads : FieldSet) (f : Field) → column_of reads (map field_name (written_fields reads)) f ≡ Ok (place_if reads f)
+column_here : (reads : FieldSet) (f : Field) → column_of_field reads (map field_name (written_fields reads)) f ≡ Ok (place_if reads f)
 column_here reads f = by (has_field reads f) refl
   where
     by : (b : Bool) → has_field reads f ≡ b
@@ -70,10 +70,10 @@ unfolding each
 each_ok F G [] is = refl
 each_ok F G (f ∷ fs) is = rw (is f, each_ok F G fs is) refl
 
-columns_here : (reads : FieldSet) → columns_of reads (map field_name (written_fields reads)) ≡ Ok (map (place_if reads) all_fields)
-columns_here reads = each_ok (column_of reads (map field_name (written_fields reads))) (place_if reads) all_fields (column_here reads)
+columns_here : (reads : FieldSet) → columns_of_fields reads (map field_name (written_fields reads)) ≡ Ok (map (place_if reads) all_fields)
+columns_here reads = each_ok (column_of_field reads (map field_name (written_fields reads))) (place_if reads) all_fields (column_here reads)
 
-word_here : (reads : FieldSet) (words : List ℕ) (f : Field) → AreWords words
+word_here : (reads : FieldSet) (words : List ℕ) (f : Field) → ArePacketWords words
     → word_at (texts_by words (written_fields reads)) f (place_if reads f) ≡ Ok (word_if_read reads words f)
 word_here reads words f are = by (has_field reads f) refl
   where
@@ -81,11 +81,12 @@ word_here reads words f are = by (has_field reads f) refl
         → word_at (texts_by words (written_fields reads)) f (cond b (Some (place_of reads f)) None) ≡ Ok
         (cond b (slice_index words (number_of f)) 0)
     by true read =
-        let text : text_at (texts_by words (written_fields reads)) (place_of reads f) ≡ word_text f (slice_index words (number_of f)) =
-        ap (λ gs. text_at (texts_by words gs) (place_of reads f))
+        let text : field_text_at (texts_by words (written_fields reads)) (place_of reads f) ≡ word_text f
+        (slice_index words (number_of f)) =
+        ap (λ gs. field_text_at (texts_by words gs) (place_of reads f))
         (written_are reads f read ∙ ap (filter (has_field reads)) (parted f))
         ∙ text_after (has_field reads) (λ g. word_text g (slice_index words (number_of g))) f (before f) (later f) read in
-        ap (λ t. ok_or (word_of f (without_blanks t)) f) text
+        ap (λ t. ok_or (word_of_text f (without_blanks t)) f) text
         ∙ ap (λ (o : Option ℕ). ok_or o f) (word_read f (slice_index words (number_of f)) (word_small words (number_of f) are))
     by false read = refl
 
@@ -96,8 +97,9 @@ unfolding each
 each_zip W G V [] is = refl
 each_zip W G V (f ∷ fs) is = rw (is f, each_zip W G V fs is) refl
 
-words_here : (reads : FieldSet) (words : List ℕ) → AreWords words
-    → words_of (map (place_if reads) all_fields) (texts_by words (written_fields reads)) ≡ Ok (map (word_if_read reads words) all_fields)
+words_here : (reads : FieldSet) (words : List ℕ) → ArePacketWords words
+    → words_in_columns (map (place_if reads) all_fields) (texts_by words (written_fields reads)) ≡ Ok
+    (map (word_if_read reads words) all_fields)
 words_here reads words are =
     each_zip (λ p. word_at (texts_by words (written_fields reads)) p.0 p.1) (place_if reads) (word_if_read reads words) all_fields
     (λ f. word_here reads words f are)
@@ -111,7 +113,7 @@ length-by words (f ∷ fields) = ap suc (length-by words fields)
 abbrev layout : FieldSet → Layout
 layout reads = record { width = length (map field_name (written_fields reads)); columns = map (place_if reads) all_fields }
 
-packet_here : (reads : FieldSet) (packet : Packet) (n : ℕ) → AreWords packet.words → n ≤ MAX_RECORDS
+packet_here : (reads : FieldSet) (packet : Packet) (n : ℕ) → ArePacketWords packet.words → n ≤ MAX_RECORDS
     → packet_of (layout reads) n (texts_by packet.words (written_fields reads)) ≡ Ok (as_read reads packet)
 unfolding packet_of
 packet_here reads packet n are within =

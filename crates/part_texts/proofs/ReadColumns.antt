@@ -16,7 +16,7 @@ use Rattle.marple_base.specs.declared.field.Field.TheVariants.{Switch, Qid, Uid,
 use Rattle.marple_base.specs.declared.field.Field.TheVariants.{TcpSeq, Tin, Tout, QSize}
 use Rattle.trace_reader.specs.Numbers.{without_blanks}
 use Rattle.trace_reader.specs.Traces.{columns_named}
-use Rattle.trace_reader.specs.Traces.{text_at}
+use Rattle.trace_reader.specs.Traces.{field_text_at}
 
 -- whether two fields are one, by their numbers
 abbrev is_same : Field → Field → Bool
@@ -132,13 +132,13 @@ place_after has f at (g ∷ pre) post before later read =
     by false without with = without
 
 pub text_after : (has : Field → Bool) (T : Field → List ℕ) (f : Field) (pre post : List Field) → has f ≡ true
-    → text_at (map T (filter has (pre ++ f ∷ post))) (length (filter has pre)) ≡ T f
+    → field_text_at (map T (filter has (pre ++ f ∷ post))) (length (filter has pre)) ≡ T f
 unfolding field_at
 text_after has T f [] post read = rw read refl
 text_after has T f (g ∷ pre) post read = by (has g) (text_after has T f pre post read)
   where
-    by : (b : Bool) → text_at (map T (filter has (pre ++ f ∷ post))) (length (filter has pre)) ≡ T f
-        → text_at (map T (cond b (g ∷ filter has (pre ++ f ∷ post)) (filter has (pre ++ f ∷ post))))
+    by : (b : Bool) → field_text_at (map T (filter has (pre ++ f ∷ post))) (length (filter has pre)) ≡ T f
+        → field_text_at (map T (cond b (g ∷ filter has (pre ++ f ∷ post)) (filter has (pre ++ f ∷ post))))
         (length (cond b (g ∷ filter has pre) (filter has pre))) ≡ T f
     by true rest = rest
     by false rest = rest

@@ -19,7 +19,7 @@ use Rattle.marple_base.specs.declared.field.Field.TheVariants.{Switch, Qid, Uid,
 use Rattle.marple_base.specs.declared.field.Field.TheVariants.{TcpSeq, Tin, Tout, QSize}
 use Rattle.marple_base.specs.declared.field.Packet.{Packet}
 use Rattle.trace_reader.specs.Reading.{records}
-use Rattle.queue_sim.specs.ReadBack.{ArePackets, AreWords}
+use Rattle.queue_sim.specs.ReadBack.{ArePackets, ArePacketWords}
 use Rattle.queue_sim.specs.TraceText.{continued, line, word_text}
 use Rattle.queue_sim.proofs.DigitFacts.{word_plain}
 use Rattle.trace_pieces.specs.Machine.{rows}
@@ -126,7 +126,7 @@ record_rows part parts more are =
 abbrev pub texts_by : List ℕ → List Field → List (List ℕ)
 texts_by words fields = map (λ field. word_text field (slice_index words (number_of field))) fields
 
-pub word_small : (words : List ℕ) (k : ℕ) → AreWords words → slice_index words k < 2 ^ 64
+pub word_small : (words : List ℕ) (k : ℕ) → ArePacketWords words → slice_index words k < 2 ^ 64
 word_small [] k are = lit< tt
 word_small (word ∷ words) zero are = are.0
 word_small (word ∷ words) (suc k) are = word_small words k are.1
@@ -154,7 +154,7 @@ word_some Tout n small = by (n == 2 ^ 64 - 1)
     by false = decimal_some n small
 word_some QSize n small = decimal_some n small
 
-word_parts : (words : List ℕ) (fields : List Field) → AreWords words → AreParts (texts_by words fields)
+word_parts : (words : List ℕ) (fields : List Field) → ArePacketWords words → AreParts (texts_by words fields)
 word_parts words [] are = tt
 word_parts words (field ∷ fields) are =
     let small = word_small words (number_of field) are in (

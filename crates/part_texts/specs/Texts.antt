@@ -21,8 +21,8 @@ abbrev pub written_fields : FieldSet → List Field
 written_fields reads = one_at_least (fields_in reads)
 
 -- the packet's words of these fields
-abbrev pub words_at : List Field → List ℕ → List ℕ
-words_at fields words = map (λ field. slice_index words (number_of field)) fields
+abbrev pub field_words : List Field → List ℕ → List ℕ
+field_words fields words = map (λ field. slice_index words (number_of field)) fields
 
 -- the line of a packet with these words
 abbrev pub fields_line : List Field → List ℕ → List ℕ
@@ -38,12 +38,12 @@ fields_text reads packets = lines_of (written_fields reads) packets
 
 -- the part that a packet with these words goes to, by a hash of its words of the fields, begun with the salt
 abbrev pub part_by_hash : List Field → ℕ → ℕ → List ℕ → ℕ
-part_by_hash fields salt parts words = bucket_of parts (salt ∷ words_at fields words)
+part_by_hash fields salt parts words = bucket_of parts (salt ∷ field_words fields words)
 
 -- the packets of a part, in order
-abbrev pub packets_at : (List ℕ → ℕ) → ℕ → List Packet → List Packet
-packets_at partition n packets = filter (λ packet. partition packet.words == n) packets
+abbrev pub packets_of_part : (List ℕ → ℕ) → ℕ → List Packet → List Packet
+packets_of_part partition n packets = filter (λ packet. partition packet.words == n) packets
 
 -- The text of a part.
 abbrev pub part_text : FieldSet → (List ℕ → ℕ) → ℕ → List Packet → List ℕ
-part_text reads partition n packets = fields_text reads (packets_at partition n packets)
+part_text reads partition n packets = fields_text reads (packets_of_part partition n packets)

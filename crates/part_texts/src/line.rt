@@ -6,11 +6,11 @@ ghost use Rattle.queue_sim.specs.TraceText.{line, word_text};
 ghost use Rattle.part_texts.specs.Texts.{fields_line};
 
 use itoa::write_digits;
-use marple_base::{Field, Packet, Text};
+use marple_base::{FIELDS, Field, Packet, Text};
 use std::alloc::{AllocError, Global};
 
-// 14 words of at most 20 digits, 13 commas, and the end of the line.
-const LONGEST_LINE: usize = 294;
+// Each word has at most 20 digits, and a comma or the end of the line after it.
+const LONGEST_LINE: usize = FIELDS * 21;
 
 /// Room for the line of a packet, which is written from its end to its beginning.
 #[derive(Clone, Copy)]
@@ -55,7 +55,7 @@ impl LineBuffer {
     /// The line of a packet.
     pub fn format(&mut self, fields: &[Field], packet: &Packet) -> &[u8]
         requires some { 0 < length fields.now }
-        requires few { length fields.now ≤ 14 }
+        requires few { length fields.now ≤ FIELDS }
         ensures { result.now ≡ fields_line fields.now packet.now.words }
     {
         let mut start = put_byte(&mut self.bytes, LONGEST_LINE, b'\n');

@@ -7,6 +7,7 @@ use Rattle.marple_base.specs.declared.field.Field.{Field}
 use Rattle.marple_base.specs.declared.field.Field.TheVariants.{Switch, Qid, Uid, SrcIp, DstIp, SrcPort, DstPort, Proto, PktLen, PayloadLen}
 use Rattle.marple_base.specs.declared.field.Field.TheVariants.{TcpSeq, Tin, Tout, QSize}
 use Rattle.marple_base.specs.Field.{number_of}
+use Rattle.marple_base.specs.declared.field.TheConstants.{FIELDS}
 use Rattle.stage_plan.specs.declared.op.Operand.{Operand}
 use Rattle.stage_plan.specs.declared.op.Operand.TheVariants.{Register, Number}
 use Rattle.stage_plan.specs.declared.op.PlanOp.{PlanOp}
@@ -44,31 +45,31 @@ pub not_among : (fields : List Field) (n : ℕ) → ((k : ℕ) → k < length fi
 not_among fields n none found =
     none found.0 (omega (arith, size_of_map fields, found.1)) (same_default (map number_of fields) found.0 0 n found.1 ∙ found.2)
 
-below_14 : (f : Field) → number_of f < 14
-below_14 Switch = omega arith
-below_14 Qid = omega arith
-below_14 Uid = omega arith
-below_14 SrcIp = omega arith
-below_14 DstIp = omega arith
-below_14 SrcPort = omega arith
-below_14 DstPort = omega arith
-below_14 Proto = omega arith
-below_14 PktLen = omega arith
-below_14 PayloadLen = omega arith
-below_14 TcpSeq = omega arith
-below_14 Tin = omega arith
-below_14 Tout = omega arith
-below_14 QSize = omega arith
+number_below : (f : Field) → number_of f < FIELDS
+number_below Switch = omega arith
+number_below Qid = omega arith
+number_below Uid = omega arith
+number_below SrcIp = omega arith
+number_below DstIp = omega arith
+number_below SrcPort = omega arith
+number_below DstPort = omega arith
+number_below Proto = omega arith
+number_below PktLen = omega arith
+number_below PayloadLen = omega arith
+number_below TcpSeq = omega arith
+number_below Tin = omega arith
+number_below Tout = omega arith
+number_below QSize = omega arith
 
-each_below : (fields : List Field) (k d : ℕ) → k < length (map number_of fields) → get_or (map number_of fields) k d < 14
+each_below : (fields : List Field) (k d : ℕ) → k < length (map number_of fields) → get_or (map number_of fields) k d < FIELDS
 each_below [] k d h = elim h [ ]
-each_below (f ∷ fields) zero d h = below_14 f
+each_below (f ∷ fields) zero d h = number_below f
 each_below (f ∷ fields) (suc k) d h = each_below fields k d (omega (arith, h))
 
-pub field_below : (fields : List Field) (n : ℕ) → Contains (map number_of fields) n → n < 14
+pub field_below : (fields : List Field) (n : ℕ) → Contains (map number_of fields) n → n < FIELDS
 field_below fields n found = omega (arith, each_below fields found.0 n found.1, found.2)
 
-pub not_known : (fields : List Field) (ops : List PlanOp) (n : ℕ) → 14 ≤ n → 14 + length ops ≤ n → IsKnownRegister fields ops n → ⊥
+pub not_known : (fields : List Field) (ops : List PlanOp) (n : ℕ) → FIELDS ≤ n → FIELDS + length ops ≤ n → IsKnownRegister fields ops n → ⊥
 not_known fields ops n large past (inl found) = omega (arith, field_below fields n found, large)
 not_known fields ops n large past (inr made) = omega (arith, made.1, past)
 

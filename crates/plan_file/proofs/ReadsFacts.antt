@@ -9,6 +9,7 @@ use Rattle.marple_base.specs.declared.field.Field.{Field}
 use Rattle.marple_base.specs.declared.field.Field.TheVariants.{Switch, Qid, Uid, SrcIp, DstIp, SrcPort, DstPort, Proto, PktLen, PayloadLen}
 use Rattle.marple_base.specs.declared.field.Field.TheVariants.{TcpSeq, Tin, Tout, QSize}
 use Rattle.marple_base.specs.Field.{number_of, field_name}
+use Rattle.marple_base.specs.declared.field.TheConstants.{FIELDS}
 use Rattle.plan_file.specs.Lexis.{is_space, tokens}
 use Rattle.plan_file.specs.Operations.{AreFrom, IsReadsLine}
 
@@ -200,28 +201,29 @@ passed_all line found i p = record {
       in_from found 0 i p.order;
 }
 
-below_14 : (f : Field) → number_of f < 14
-below_14 Switch = omega arith
-below_14 Qid = omega arith
-below_14 Uid = omega arith
-below_14 SrcIp = omega arith
-below_14 DstIp = omega arith
-below_14 SrcPort = omega arith
-below_14 DstPort = omega arith
-below_14 Proto = omega arith
-below_14 PktLen = omega arith
-below_14 PayloadLen = omega arith
-below_14 TcpSeq = omega arith
-below_14 Tin = omega arith
-below_14 Tout = omega arith
-below_14 QSize = omega arith
+number_below : (f : Field) → number_of f < FIELDS
+number_below Switch = omega arith
+number_below Qid = omega arith
+number_below Uid = omega arith
+number_below SrcIp = omega arith
+number_below DstIp = omega arith
+number_below SrcPort = omega arith
+number_below DstPort = omega arith
+number_below Proto = omega arith
+number_below PktLen = omega arith
+number_below PayloadLen = omega arith
+number_below TcpSeq = omega arith
+number_below Tin = omega arith
+number_below Tout = omega arith
+number_below QSize = omega arith
 
-past_all : (more : List Field) (i : ℕ) (t : List ℕ) (ts : List (List ℕ)) → 14 ≤ i → AreFrom i more → map field_name more ≡ t ∷ ts → ⊥
+past_all : (more : List Field) (i : ℕ) (t : List ℕ) (ts : List (List ℕ)) → FIELDS ≤ i → AreFrom i more → map field_name more ≡ t ∷ ts → ⊥
 past_all [] i t ts past order words = cc
-past_all (f ∷ rest) i t ts past order words = omega (arith, below_14 f, order.0, past)
+past_all (f ∷ rest) i t ts past order words = omega (arith, number_below f, order.0, past)
 
 -- a token is left after all fields
-pub passed_none : (line : List ℕ) (found : List Field) (i : ℕ) (t : List ℕ) (ts : List (List ℕ)) → 14 ≤ i → IsPassed line found i (t ∷ ts)
+pub passed_none : (line : List ℕ) (found : List Field) (i : ℕ) (t : List ℕ) (ts : List (List ℕ)) → FIELDS ≤ i
+    → IsPassed line found i (t ∷ ts)
     → (fields : List Field) → IsReadsLine line fields → ⊥
 passed_none line found i t ts past p fields valid =
     let a = p.all fields valid in
@@ -248,7 +250,7 @@ step_end line found i left p is = subst (λ xs. IsPassed line found (i + 1) xs) 
     (passed_end line found i (subst (λ xs. IsPassed line found i xs) is p))
 
 -- tokens are left after all fields
-pub left_over : (line text : List ℕ) (found : List Field) (i : ℕ) → 14 ≤ i → IsPassed line found i (tokens text) → (fields : List Field)
+pub left_over : (line text : List ℕ) (found : List Field) (i : ℕ) → FIELDS ≤ i → IsPassed line found i (tokens text) → (fields : List Field)
     → IsReadsLine line fields → ⊥
 left_over line text found i past p = by (tokens text) refl p
   where

@@ -6,6 +6,7 @@ use Rattle.std.proofs.lemmas.Bool.Decides.{nat_tests}
 use Rattle.std.proofs.lemmas.List.{reverse-append}
 use Rattle.query_lang.specs.Blocks as blocks
 use Rattle.query_lang.specs.Terms.{Term}
+use Rattle.query_lang.specs.declared.fault.TheConstants.{MAX_NESTING}
 use Rattle.plan_file.specs.declared.lexemes.Lexeme.{Lexeme}
 use Rattle.plan_file.specs.declared.lexemes.Lexeme.TheVariants as word
 use Rattle.plan_file.specs.declared.wants.Want.{Want}
@@ -251,12 +252,12 @@ module _ (states args : ℕ) where
 
   -- a body is a block without its closing brace
   pub body_read : (words : List Lexeme) (body : blocks.Block) → IsBody states args words body
-      → StackReads (Block 64 ∷ []) (words ++ word.Close ∷ [])
-  body_read words body b = one_read states args (Block 64) (words ++ word.Close ∷ [])
+      → StackReads (Block MAX_NESTING ∷ []) (words ++ word.Close ∷ [])
+  body_read words body b = one_read states args (Block MAX_NESTING) (words ++ word.Close ∷ [])
       (body, ap (λ l. l ++ word.Close ∷ []) b.statements, b.typed, b.nesting)
 
-  pub read_body : (words : List Lexeme) → StackReads (Block 64 ∷ []) (words ++ word.Close ∷ []) → (body : blocks.Block)
+  pub read_body : (words : List Lexeme) → StackReads (Block MAX_NESTING ∷ []) (words ++ word.Close ∷ []) → (body : blocks.Block)
       × IsBody states args words body
   read_body words p =
-      let q = only_one states args (Block 64) (words ++ word.Close ∷ []) p in
+      let q = only_one states args (Block MAX_NESTING) (words ++ word.Close ∷ []) p in
       (q.0, record { statements = snoc_same words (written_block states q.0) word.Close q.1; typed = q.2; nesting = q.3 })

@@ -3,6 +3,7 @@ use Rattle.std.proofs.Common.{ℕ, ◌<◌, List, [], ◌∷◌, ◌++◌, lengt
 use Rattle.std.specs.Prelude.{IfSome}
 use Rattle.marple_base.specs.declared.field.Field.{Field}
 use Rattle.query_lang.specs.Blocks.{Block}
+use Rattle.query_lang.specs.declared.fault.TheConstants.{MAX_ARGS, MAX_GROUPBYS, MAX_STATES}
 use Rattle.stage_plan.specs.declared.op.PlanOp.{PlanOp}
 use Rattle.plan_file.specs.declared.lexemes.Lexeme.{Lexeme}
 use Rattle.plan_file.specs.declared.line_word.LineWord.{LineWord}
@@ -28,7 +29,7 @@ key_within fields ops g line n p w = subst IsGroupWithin (sym p.made) (record { 
 arg_within : (fields : List Field) (ops : List PlanOp) (g : Group) (line : List ℕ) (n : Group) → IsArgLine fields ops g line n
     → IsGroupWithin g → IsGroupWithin n
 arg_within fields ops g line n p w =
-    let room : length g.args < 16 = p.room in
+    let room : length g.args < MAX_ARGS = p.room in
     let B = λ (o : Option (List Lexeme)). IfSome o (λ tokens. (body : Block)
     × IsBody (length g.initial) (length (g.args ++ p.value ∷ [])) tokens body) in
     subst IsGroupWithin (sym p.made) (record {
@@ -40,7 +41,7 @@ arg_within fields ops g line n p w =
 
 state_within : (g : Group) (line : List ℕ) (n : Group) → IsStateLine g line n → IsGroupWithin g → IsGroupWithin n
 state_within g line n p w =
-    let room : length g.initial < 8 = p.room in
+    let room : length g.initial < MAX_STATES = p.room in
     let B = λ (o : Option (List Lexeme)). IfSome o (λ tokens. (body : Block)
     × IsBody (length (g.initial ++ p.value ∷ [])) (length g.args) tokens body) in
     subst IsGroupWithin (sym p.made) (record {
@@ -102,7 +103,7 @@ begun_within b line a p w =
 
 part_within : (word : LineWord) (b : Made) (line : List ℕ) (a : Made) → IsPart word b line a → IsWithin b → IsWithin a
 part_within word b line a p w =
-    let room = subst (λ o. IfSome o (λ group. length b.groups < 8)) p.current w.room in
+    let room = subst (λ o. IfSome o (λ group. length b.groups < MAX_GROUPBYS)) p.current w.room in
     let old = subst (λ o. IfSome o IsGroupWithin) p.current w.current in
     subst IsWithin (sym p.made) (record {
       ops = w.ops;
@@ -114,7 +115,7 @@ part_within word b line a p w =
 
 fold_within : (b : Made) (line : List ℕ) (a : Made) → IsFold b line a → IsWithin b → IsWithin a
 fold_within b line a p w =
-    let room : length b.groups < 8 = subst (λ o. IfSome o (λ group. length b.groups < 8)) p.current w.room in
+    let room : length b.groups < MAX_GROUPBYS = subst (λ o. IfSome o (λ group. length b.groups < MAX_GROUPBYS)) p.current w.room in
     subst IsWithin (sym p.made) (record {
       ops = w.ops;
       groups = omega (arith, length-append b.groups (p.folded ∷ []), room);

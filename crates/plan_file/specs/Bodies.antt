@@ -4,6 +4,7 @@ use Rattle.std.specs.Prelude.{◌++◌, map, codes}
 use Rattle.query_lang.specs.Blocks.{Block, End, Set, Fork}
 use Rattle.query_lang.specs.Terms.{Term, Literal, Read, Negation, Operation}
 use Rattle.query_lang.specs.Folds.{IsValidBlock}
+use Rattle.query_lang.specs.declared.fault.TheConstants.{MAX_NESTING}
 use Rattle.plan_file.specs.declared.lexemes.Lexeme.{Lexeme}
 use Rattle.plan_file.specs.declared.lexemes.Lexeme.TheVariants as word
 use Rattle.plan_file.specs.Lexis.{tokens}
@@ -37,11 +38,11 @@ open_braces (Set v e next) = open_braces next
 open_braces (Fork c a b next) = max (1 + max (open_braces a) (open_braces b)) (open_braces next)
 
 -- these tokens are the statements of a body with these numbers of state variables and arguments, typed as a fold's body is, with at most
--- 64 braces open at once
+-- MAX_NESTING braces open at once
 pub record IsBody (states args : ℕ) (words : List Lexeme) (body : Block) : Type 0 where
   pub statements : words ≡ written_block states body
   pub typed : IsValidBlock states args body
-  pub nesting : open_braces body ≤ 64
+  pub nesting : open_braces body ≤ MAX_NESTING
 
 -- `body` and the tokens of a body
 pub record IsBodyLine (states args : ℕ) (line : List ℕ) (words : List Lexeme) : Type 0 where

@@ -3,6 +3,7 @@ use Rattle.std.specs.Prelude.{◌≡◌, ℕ, ◌≤◌, List, [], ◌∷◌, le
 use Rattle.query_lang.specs.declared.fold.TypedFold.{TypedFold}
 use Rattle.query_lang.specs.declared.typed.Class.{Class}
 use Rattle.query_lang.specs.Folds.{block_count, block_nodes, fold_args, fold_block, fold_states}
+use Rattle.query_lang.specs.declared.fault.TheConstants.{MAX_NODES, MAX_STATEMENTS}
 use Rattle.fold_class.specs.Kinds.{class_of}
 use Rattle.fold_class.specs.Depth.{IsDepth}
 use Rattle.stage_plan.specs.Shape.{class_word}
@@ -32,12 +33,12 @@ pub record IsFoldWords (line : List ℕ) (class : Class) (depth nodes statements
   pub nodes_are : number nodes_token ≡ Some nodes
   pub statements_are : number statements_token ≡ Some statements
 
--- bounds that a fold's nodes and statements don't exceed, at most 512 and 64
+-- bounds that a fold's nodes and statements don't exceed, at most MAX_NODES and MAX_STATEMENTS
 pub record AreBounds (fold : TypedFold) (nodes statements : ℕ) : Type 0 where
   pub enough_nodes : block_nodes (fold_block fold) ≤ nodes
-  pub most_nodes : nodes ≤ 512
+  pub most_nodes : nodes ≤ MAX_NODES
   pub enough_statements : block_count (fold_block fold) ≤ statements
-  pub most_statements : statements ≤ 64
+  pub most_statements : statements ≤ MAX_STATEMENTS
 
 -- `fold CLASS K n s`, with the class and the depth of the group's fold, and bounds on its nodes and statements
 pub record IsFoldLine (before : Group) (line : List ℕ) (after : Folded) : Type 0 where

@@ -1,6 +1,7 @@
 -- The lines of a group, from `group` to `body`.
 use Rattle.std.specs.Prelude.{◌≡◌, ℕ, ◌<◌, List, [], ◌∷◌, ◌++◌, length, map, codes, Some, None, Contains}
 use Rattle.marple_base.specs.declared.field.Field.{Field}
+use Rattle.query_lang.specs.declared.fault.TheConstants.{MAX_ARGS, MAX_GROUPBYS, MAX_KEYS, MAX_STATES}
 use Rattle.stage_plan.specs.declared.op.Operand.{Operand}
 use Rattle.stage_plan.specs.declared.op.PlanOp.{PlanOp}
 use Rattle.plan_file.specs.declared.lexemes.Lexeme.{Lexeme}
@@ -28,9 +29,9 @@ group_with name present = record {
   body = None;
 }
 
--- `group NAME P`, with a new name; there are at most 8
+-- `group NAME P`, with a new name; there are at most MAX_GROUPBYS
 pub record IsGroupLine (fields : List Field) (ops : List PlanOp) (groups : List Folded) (line : List ℕ) (after : Group) : Type 0 where
-  pub room : length groups < 8
+  pub room : length groups < MAX_GROUPBYS
   pub valid : IsNamedOperand fields ops (codes "group") line after.name after.present
   pub no_stream : after.name ≡ codes "pktstream" → ⊥
   pub new : Contains (names_of groups) after.name → ⊥
@@ -41,33 +42,33 @@ pub record IsNewIn (group : Group) (name : List ℕ) : Type 0 where
   pub no_key : Contains group.key_names name → ⊥
   pub no_state : Contains group.state_names name → ⊥
 
--- `key NAME A`, before the group's other lines; there are at most 8
+-- `key NAME A`, before the group's other lines; there are at most MAX_KEYS
 pub record IsKeyLine (fields : List Field) (ops : List PlanOp) (before : Group) (line : List ℕ) (after : Group) : Type 0 where
   pub args : before.args ≡ []
   pub states : before.state_names ≡ []
   pub body : before.body ≡ None
-  pub room : length before.keys < 8
+  pub room : length before.keys < MAX_KEYS
   pub name : List ℕ
   pub value : Operand
   pub valid : IsNamedOperand fields ops (codes "key") line name value
   pub new : IsNewIn before name
   pub made : after ≡ record before { key_names = before.key_names ++ name ∷ []; keys = before.keys ++ value ∷ [] }
 
--- `arg A`, after a key; there are at most 16
+-- `arg A`, after a key; there are at most MAX_ARGS
 pub record IsArgLine (fields : List Field) (ops : List PlanOp) (before : Group) (line : List ℕ) (after : Group) : Type 0 where
   pub keys : 0 < length before.keys
   pub states : before.state_names ≡ []
   pub body : before.body ≡ None
-  pub room : length before.args < 16
+  pub room : length before.args < MAX_ARGS
   pub value : Operand
   pub valid : IsOneOperand fields ops (codes "arg") line value
   pub made : after ≡ record before { args = before.args ++ value ∷ [] }
 
--- `state NAME NUMBER`, after a key; there are at most 8
+-- `state NAME NUMBER`, after a key; there are at most MAX_STATES
 pub record IsStateLine (before : Group) (line : List ℕ) (after : Group) : Type 0 where
   pub keys : 0 < length before.keys
   pub body : before.body ≡ None
-  pub room : length before.initial < 8
+  pub room : length before.initial < MAX_STATES
   pub name : List ℕ
   pub value : ℕ
   pub valid : IsNamedNumber (codes "state") line name value

@@ -19,10 +19,10 @@ word_named token =
     if bytes_eq token (codes "print") then words.Print else
     words.Other
 
-abbrev pub first_of : List (List ℕ) → List ℕ
-first_of [] = []
-first_of (token ∷ rest) = token
+abbrev pub first_line_word : List (List ℕ) → List ℕ
+first_line_word [] = []
+first_line_word (token ∷ rest) = token
 
 -- the kind of a line by its first word
 abbrev pub line_word : List ℕ → LineWord
-line_word line = word_named (first_of (tokens line))
+line_word line = word_named (first_line_word (tokens line))

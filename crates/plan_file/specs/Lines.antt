@@ -3,6 +3,7 @@ use Rattle.std.specs.Prelude.{◌≡◌, ℕ, ◌<◌, ◌≤◌, true, false, L
 use Rattle.std.specs.Prelude.{Contains, IfSome}
 use Rattle.marple_base.specs.declared.field.Field.{Field}
 use Rattle.query_lang.specs.Blocks.{Block}
+use Rattle.query_lang.specs.declared.fault.TheConstants.{MAX_ARGS, MAX_GROUPBYS, MAX_STATES}
 use Rattle.stage_plan.specs.declared.op.PlanOp.{PlanOp}
 use Rattle.plan_file.specs.declared.line_word.LineWord.{LineWord}
 use Rattle.plan_file.specs.declared.line_word.LineWord.TheVariants as words
@@ -104,13 +105,13 @@ IsValidAfter before line = (after : Made) × IsLine before line after
 
 -- what holds of each group while its lines are read
 pub record IsGroupWithin (group : Group) : Type 0 where
-  pub states : length group.initial ≤ 8
-  pub args : length group.args ≤ 16
+  pub states : length group.initial ≤ MAX_STATES
+  pub args : length group.args ≤ MAX_ARGS
   pub body : IfSome group.body (λ tokens. (body : Block) × IsBody (length group.initial) (length group.args) tokens body)
 
 -- what holds of all that lines make
 pub record IsWithin (made : Made) : Type 0 where
   pub ops : length made.ops ≤ 32768
-  pub groups : length made.groups ≤ 8
-  pub room : IfSome made.current (λ group. length made.groups < 8)
+  pub groups : length made.groups ≤ MAX_GROUPBYS
+  pub room : IfSome made.current (λ group. length made.groups < MAX_GROUPBYS)
   pub current : IfSome made.current IsGroupWithin

@@ -5,8 +5,10 @@ use Rattle.std.specs.Prelude.{◌⊎◌}
 use Rattle.std.specs.Str.{bytes_eq}
 use Rattle.marple_base.specs.declared.field.Field.{Field}
 use Rattle.marple_base.specs.Field.{field_name, number_of}
+use Rattle.marple_base.specs.declared.field.TheConstants.{FIELDS}
 use Rattle.query_lang.specs.declared.fold.Op.{Op}
 use Rattle.query_lang.specs.declared.fold.Op.TheVariants.{Div, Rem, Shl, Shr, Decay}
+use Rattle.query_lang.specs.declared.fault.TheConstants.{MAX_STAGES}
 use Rattle.stage_plan.specs.declared.op.Operand.{Operand}
 use Rattle.stage_plan.specs.declared.op.Operand.TheVariants.{Register, Number}
 use Rattle.stage_plan.specs.declared.op.Operation.{Operation}
@@ -36,10 +38,10 @@ pub record IsReadsLine (line : List ℕ) (fields : List Field) : Type 0 where
   pub words : tokens line ≡ codes "reads" ∷ map field_name fields
   pub order : AreFrom 0 fields
 
--- The registers 0 to 13 are the fields, and each operation writes the next one, from 14 on.
+-- The first registers are the fields, and each operation writes the next one after them.
 -- A register is known where the `reads` line names the field, or an earlier line writes it.
 abbrev pub IsKnownRegister : List Field → List PlanOp → ℕ → Type 0
-IsKnownRegister fields ops r = Contains (map number_of fields) r ⊎ ((14 ≤ r) × (r < 14 + length ops))
+IsKnownRegister fields ops r = Contains (map number_of fields) r ⊎ ((FIELDS ≤ r) × (r < FIELDS + length ops))
 
 abbrev pub IsKnown : List Field → List PlanOp → Operand → Type 0
 IsKnown fields ops (Register r) = IsKnownRegister fields ops r
@@ -52,7 +54,7 @@ stage_at None = 0
 
 -- A register that a line writes has that line's stage. Fields and numbers have stage 0.
 abbrev pub stage_of : List PlanOp → Operand → ℕ
-stage_of ops (Register r) = if nat_lt r 14 then 0 else stage_at (slice_get ops (r - 14))
+stage_of ops (Register r) = if nat_lt r FIELDS then 0 else stage_at (slice_get ops (r - FIELDS))
 stage_of ops (Number n) = 0
 
 -- the stage of the last operation, or 0 before the first
@@ -93,12 +95,12 @@ op_words (word ∷ stage ∷ function ∷ a ∷ b ∷ []) =
     if bytes_eq word (codes "op") then two_of (number stage) (function_named function) (operand a) (operand b) else None
 op_words _ = None
 
--- An operation in its stage, after these: there are at most 32,768, in ascending stages from 1 to 64, and an operation's stage is 1
+-- An operation in its stage, after these: there are at most 32,768, in ascending stages from 1 to MAX_STAGES, and an operation's stage is 1
 -- more than the greatest of its operands.
 pub record IsStaged (ops : List PlanOp) (op : PlanOp) : Type 0 where
   pub room : length ops < 32768
   pub least : 1 ≤ op.stage
-  pub most : op.stage ≤ 64
+  pub most : op.stage ≤ MAX_STAGES
   pub order : last_stage ops ≤ op.stage
   pub stage : op.stage ≡ 1 + max (stage_of ops op.left) (stage_of ops op.right)
   pub constant : is_right_of op.op op.right ≡ true

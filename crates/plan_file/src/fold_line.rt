@@ -21,7 +21,7 @@ use fold_class::classify;
 use fold_code::compile;
 use marple_base::Seq;
 use query_lang::lexis::is_text;
-use query_lang::{Class, Name, Span, TypedFold};
+use query_lang::{Class, MAX_ARGS, MAX_NODES, MAX_STATEMENTS, MAX_STATES, Name, Span, TypedFold};
 use std::alloc::{AllocError, Global};
 
 /// What a valid line `fold` says of its group's fold.
@@ -89,8 +89,8 @@ fn is_said(words: FoldWords, class: Class, depth: u32) -> bool
 
 // The first N numbers from a given one on.
 fn numbers(alloc: Global, from: u32, count: usize) -> Result<Seq<u32>, AllocError>
-    requires from { from ≤ 8 }
-    requires count { count ≤ 16 }
+    requires from { from ≤ MAX_STATES }
+    requires count { count ≤ MAX_ARGS }
     ensures { IfOk result (λ all. length all ≡ count) }
 {
     let mut all = Seq::new(alloc);
@@ -106,7 +106,7 @@ fn words_copied(alloc: Global, words: &[u64]) -> Result<Seq<u64>, AllocError>
     Ok(Seq::from_vec(Vec::from_slice(alloc, words)?))
 }
 
-/// The fold of a group whose body has at most the given nodes and statements: 512 nodes and 64 statements at most.
+/// The fold of a group whose body has at most the given nodes and statements, which are at most `MAX_NODES` and `MAX_STATEMENTS`.
 pub fn fold_of(
     alloc: Global,
     group: &Group,
@@ -114,8 +114,8 @@ pub fn fold_of(
     statements: u32,
 ) -> Result<Option<TypedFold>, AllocError>
     requires within { IsGroupWithin group.now }
-    requires nodes { nodes ≤ 512 }
-    requires statements { statements ≤ 64 }
+    requires nodes { nodes ≤ MAX_NODES }
+    requires statements { statements ≤ MAX_STATEMENTS }
     ensures { IfOk result (λ found. MatchOption found ((other : TypedFold) → IsFoldOf group.now other
         → AreBounds other nodes statements → ⊥) (λ f. IsFoldOf group.now f × AreBounds f nodes statements × IsValidFold f
         × (f.nodes ≡ nodes) × (f.statements ≡ statements)
@@ -169,7 +169,7 @@ pub(crate) fn fold_line(
         Some(words) => words,
         None => return Ok(None),
     };
-    if words.nodes > 512 || words.statements > 64 {
+    if words.nodes > MAX_NODES as u64 || words.statements > MAX_STATEMENTS as u64 {
         return Ok(None);
     }
     let nodes = words.nodes as u32;

@@ -15,6 +15,7 @@ use crate::named::{named_number, named_operand, one_operand};
 use crate::wants::is_body;
 use marple_base::{Field, Seq, Text};
 use query_lang::lexis::is_text;
+use query_lang::{MAX_ARGS, MAX_GROUPBYS, MAX_KEYS, MAX_STATES};
 use stage_plan::{Operand, PlanOp};
 use std::alloc::{AllocError, Global};
 
@@ -79,7 +80,7 @@ pub(crate) fn group_line(
     requires few { length ops.now ≤ 32768 }
     ensures { IfOk result (λ made. Finds made (IsGroupLine fields.now ops.now groups.now line.now)) }
 {
-    if groups.len() >= 8 {
+    if groups.len() >= MAX_GROUPBYS as usize {
         return Ok(None);
     }
     let (name, present) = match named_operand(fields, ops, b"group", line) {
@@ -109,7 +110,7 @@ fn key_line(
     if !group.args.is_empty()
         || !group.state_names.is_empty()
         || group.body.is_some()
-        || group.keys.len() >= 8
+        || group.keys.len() >= MAX_KEYS
     {
         return Ok(false);
     }
@@ -138,7 +139,7 @@ fn arg_line(
     if group.keys.is_empty()
         || !group.state_names.is_empty()
         || group.body.is_some()
-        || group.args.len() >= 16
+        || group.args.len() >= MAX_ARGS
     {
         return Ok(false);
     }
@@ -154,7 +155,7 @@ fn arg_line(
 fn state_line(alloc: Global, group: &mut Group, line: &[u8]) -> Result<bool, AllocError>
     ensures { IfOk result (λ valid. Makes valid group.new (IsStateLine group.old line.now)) }
 {
-    if group.keys.is_empty() || group.body.is_some() || group.initial.len() >= 8 {
+    if group.keys.is_empty() || group.body.is_some() || group.initial.len() >= MAX_STATES {
         return Ok(false);
     }
     let (name, value) = match named_number(b"state", line) {
@@ -193,8 +194,8 @@ fn body_words(
 
 // The same of a line `body`.
 fn body_line(alloc: Global, group: &mut Group, line: &[u8]) -> Result<bool, AllocError>
-    requires states { length group.old.initial ≤ 8 }
-    requires args { length group.old.args ≤ 16 }
+    requires states { length group.old.initial ≤ MAX_STATES }
+    requires args { length group.old.args ≤ MAX_ARGS }
     ensures { IfOk result (λ valid. Makes valid group.new (IsGroupBody group.old line.now)) }
 {
     if group.keys.is_empty() || group.body.is_some() {
@@ -221,8 +222,8 @@ pub(crate) fn in_group(
     line: &[u8],
 ) -> Result<bool, AllocError>
     requires few { length ops.now ≤ 32768 }
-    requires states { length group.old.initial ≤ 8 }
-    requires args { length group.old.args ≤ 16 }
+    requires states { length group.old.initial ≤ MAX_STATES }
+    requires args { length group.old.args ≤ MAX_ARGS }
     ensures { IfOk result (λ valid. Makes valid group.new (IsInGroup word fields.now ops.now group.old line.now)) }
 {
     match word {

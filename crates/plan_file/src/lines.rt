@@ -13,6 +13,7 @@ use crate::named::{is_first_line, one_number};
 use crate::operations::op_line;
 use crate::reads::reads_line;
 use marple_base::Seq;
+use query_lang::MAX_GROUPBYS;
 use std::alloc::{AllocError, Global};
 use std::mem;
 
@@ -157,7 +158,7 @@ fn has_print(prints: &[u16], n: u64) -> bool
 }
 
 fn print(made: &mut Made, line: &[u8]) -> Result<bool, AllocError>
-    requires { length made.old.groups ≤ 8 }
+    requires { length made.old.groups ≤ MAX_GROUPBYS }
     ensures { IfOk result (λ valid. Makes valid made.new (IsPrint made.old line.now)) }
 {
     if made.current.is_some() {

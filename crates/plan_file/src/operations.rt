@@ -9,10 +9,10 @@ ghost use Rattle.plan_file.specs.Operations.{IsAllowed, IsKnown, IsKnownRegister
 ghost use Rattle.plan_file.specs.Operations.{two_of};
 
 use crate::lexis::{cut_at_space, function_named, number, past};
-use marple_base::Field;
-use query_lang::Op;
+use marple_base::{FIELDS, Field};
 use query_lang::lexis::is_text;
-use stage_plan::{Operand, Operation, PlanOp};
+use query_lang::{MAX_STAGES, Op};
+use stage_plan::{FIRST_RESULT, Operand, Operation, PlanOp};
 
 // Whether a field has this number.
 fn has_number(fields: &[Field], n: u64) -> bool
@@ -33,10 +33,10 @@ fn is_known(fields: &[Field], ops: &[PlanOp], n: u64) -> bool
     ensures yes { result ≡ true → IsKnownRegister fields.now ops.now n }
     ensures no { result ≡ false → IsKnownRegister fields.now ops.now n → ⊥ }
 {
-    if n < 14 {
+    if n < FIELDS as u64 {
         has_number(fields, n)
     } else {
-        n < 14 + ops.len() as u64
+        n < FIELDS as u64 + ops.len() as u64
     }
 }
 
@@ -67,10 +67,10 @@ fn stage_of(ops: &[PlanOp], operand: Operand) -> u32
 {
     match operand {
         Operand::Register(r) => {
-            if r < 14 || r as usize - 14 >= ops.len() {
+            if r < FIRST_RESULT || r as usize - FIELDS >= ops.len() {
                 0
             } else {
-                ops[r as usize - 14].stage
+                ops[r as usize - FIELDS].stage
             }
         }
         Operand::Number(_) => 0,
@@ -125,7 +125,7 @@ fn staged(
     ensures { MatchOption result (IsStaged ops.now (record { stage = stage; op = op; left = left; right = right })
         → ⊥) (λ r. (r ≡ record { stage = stage; op = op; left = left; right = right }) × IsStaged ops.now r) }
 {
-    if ops.len() >= 32768 || stage < 1 || stage > 64 {
+    if ops.len() >= 32768 || stage < 1 || stage > MAX_STAGES as u64 {
         return None;
     }
     let stage = stage as u32;

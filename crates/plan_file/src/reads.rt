@@ -6,13 +6,13 @@ ghost use Rattle.plan_file.specs.Finding.{Finds};
 ghost use Rattle.plan_file.specs.Operations.{IsReadsLine};
 
 use crate::lexis::first_token;
-use marple_base::{Field, Seq};
+use marple_base::{FIELDS, Field, Seq};
 use query_lang::lexis::is_text;
 use std::alloc::{AllocError, Global};
 
 // The field with this number.
 fn field_at(n: usize) -> Field
-    requires { n < 14 }
+    requires { n < FIELDS }
     ensures { number_of result ≡ n }
 {
     match n {
@@ -42,7 +42,7 @@ pub(crate) fn reads_line(alloc: Global, line: &[u8]) -> Result<Option<Seq<Field>
         return Ok(None);
     }
     let mut found = Seq::new(alloc);
-    for i in 0..14 {
+    for i in 0..FIELDS {
         if left {
             let (token, past, more) = first_token(rest);
             let field = field_at(i);

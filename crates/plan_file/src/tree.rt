@@ -12,7 +12,7 @@ ghost use Rattle.plan_file.specs.Trees.{AreSmall, Closes, IsStatement, is_leaf, 
 
 use crate::lexemes::Lexeme;
 use marple_base::{Boxed, Seq};
-use query_lang::{TypedExpr, TypedStmt};
+use query_lang::{MAX_ARGS, MAX_STATES, TypedExpr, TypedStmt};
 use std::alloc::{AllocError, Global};
 
 fn is_node(word: Lexeme) -> bool
@@ -283,8 +283,8 @@ pub(crate) fn body_of(
     nodes: u32,
     most: u32,
 ) -> Result<Option<Seq<TypedStmt>>, AllocError>
-    requires states { states ≤ 8 }
-    requires args { args ≤ 16 }
+    requires states { states ≤ MAX_STATES }
+    requires args { args ≤ MAX_ARGS }
     ensures { IfOk result (λ found. (b : Block) → IsBody states args words.now b
         → MatchOption found (block_nodes b ≤ nodes → block_count b ≤ most
         → ⊥) (λ body. (block_of body ≡ b) × (block_nodes b ≤ nodes) × (block_count b ≤ most))) }

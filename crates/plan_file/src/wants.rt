@@ -10,7 +10,7 @@ ghost use Rattle.plan_file.specs.Wants.{past_word, after_condition, after_number
 ghost use Rattle.plan_file.specs.Wants.{after_block, past, GoesOn, Steps, Sticks};
 
 use crate::lexemes::Lexeme;
-use query_lang::Op;
+use query_lang::{MAX_NESTING, Op};
 use std::alloc::{AllocError, Global};
 
 /// What is expected of the next tokens: an expression of a kind, a divisor, a number of bits to shift by, the variable of
@@ -191,7 +191,7 @@ pub(crate) fn is_body(
 {
     let slots = states + args;
     let mut wants = Vec::new(alloc);
-    wants.push(Want::Block(64))?;
+    wants.push(Want::Block(MAX_NESTING))?;
     for word in words {
         let fits = step(&mut wants, states, slots, *word)?;
         if !fits {

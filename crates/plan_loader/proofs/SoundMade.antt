@@ -4,6 +4,8 @@ use Rattle.std.specs.Prelude.{IfSome, All}
 use Rattle.std.proofs.lemmas.List.{length_push}
 use Rattle.std.proofs.lemmas.List.Elements.{All-nil, All-push, All-weaker}
 use Rattle.marple_base.specs.declared.field.Field.{Field}
+use Rattle.marple_base.specs.declared.field.TheConstants.{FIELDS}
+use Rattle.query_lang.specs.declared.fault.TheConstants.{MAX_ARGS, MAX_GROUPBYS, MAX_KEYS, MAX_STATES}
 use Rattle.stage_plan.specs.declared.op.PlanOp.{PlanOp}
 use Rattle.stage_plan.specs.Sound.{AreSoundOps, IsWithin}
 use Rattle.plan_file.specs.declared.lexemes.Lexeme.{Lexeme}
@@ -23,10 +25,10 @@ use Rattle.plan_loader.proofs.SoundOps.{known_within, ops_more}
 
 -- a group while its lines are read, where there are this many registers
 record IsBegun (registers : ℕ) (group : Group) : Type 0 where
-  most_keys : length group.keys ≤ 8
+  most_keys : length group.keys ≤ MAX_KEYS
   key_names : length group.key_names ≡ length group.keys
-  most_args : length group.args ≤ 16
-  most_states : length group.initial ≤ 8
+  most_args : length group.args ≤ MAX_ARGS
+  most_states : length group.initial ≤ MAX_STATES
   state_names : length group.state_names ≡ length group.initial
   present : IsWithin registers group.present
   key_registers : All (IsWithin registers) group.keys
@@ -36,9 +38,9 @@ record IsBegun (registers : ℕ) (group : Group) : Type 0 where
 -- what lines make while they are read
 record IsSoundSoFar (made : Made) : Type 0 where
   ops : AreSoundOps made.ops
-  most_groups : length made.groups ≤ 8
-  groups : All (IsSoundFolded (14 + length made.ops)) made.groups
-  current : IfSome made.current (λ group. IsBegun (14 + length made.ops) group × (length made.groups < 8))
+  most_groups : length made.groups ≤ MAX_GROUPBYS
+  groups : All (IsSoundFolded (FIELDS + length made.ops)) made.groups
+  current : IfSome made.current (λ group. IsBegun (FIELDS + length made.ops) group × (length made.groups < MAX_GROUPBYS))
   prints : All (λ number. number < length made.groups) made.prints
 
 nothing_some : {X : Type 0} (x : X) → None ≡ Some x → ⊥
@@ -55,17 +57,17 @@ first_sound : IsSoundSoFar nothing
 first_sound = record {
   ops = no_ops;
   most_groups = omega arith;
-  groups = All-nil (IsSoundFolded (14 + length nothing.ops));
+  groups = All-nil (IsSoundFolded (FIELDS + length nothing.ops));
   current = tt;
   prints = All-nil (λ number. number < length nothing.groups);
 }
 
 key_begun : (fs : List Field) (ops : List PlanOp) (g : Group) (line : List ℕ) (n : Group) → IsKeyLine fs ops g line n
-    → IsBegun (14 + length ops) g → IsBegun (14 + length ops) n
+    → IsBegun (FIELDS + length ops) g → IsBegun (FIELDS + length ops) n
 key_begun fs ops g line n p b =
-    let room : length g.keys < 8 = p.room in
+    let room : length g.keys < MAX_KEYS = p.room in
     let names = b.key_names in
-    let registers = 14 + length ops in
+    let registers = FIELDS + length ops in
     let B = λ (o : Option (List Lexeme)). IfSome o (λ words. 0 < length (g.keys ++ p.value ∷ [])) in
     subst (IsBegun registers) (sym p.made) (record {
       most_keys = omega (arith, room, length_push g.keys p.value);
@@ -80,10 +82,10 @@ key_begun fs ops g line n p b =
     })
 
 arg_begun : (fs : List Field) (ops : List PlanOp) (g : Group) (line : List ℕ) (n : Group) → IsArgLine fs ops g line n
-    → IsBegun (14 + length ops) g → IsBegun (14 + length ops) n
+    → IsBegun (FIELDS + length ops) g → IsBegun (FIELDS + length ops) n
 arg_begun fs ops g line n p b =
-    let room : length g.args < 16 = p.room in
-    let registers = 14 + length ops in
+    let room : length g.args < MAX_ARGS = p.room in
+    let registers = FIELDS + length ops in
     subst (IsBegun registers) (sym p.made) (record {
       most_keys = b.most_keys;
       key_names = b.key_names;
@@ -98,7 +100,7 @@ arg_begun fs ops g line n p b =
 
 state_begun : (registers : ℕ) (g : Group) (line : List ℕ) (n : Group) → IsStateLine g line n → IsBegun registers g → IsBegun registers n
 state_begun registers g line n p b =
-    let room : length g.initial < 8 = p.room in
+    let room : length g.initial < MAX_STATES = p.room in
     let names = b.state_names in
     subst (IsBegun registers) (sym p.made) (record {
       most_keys = b.most_keys;
@@ -127,11 +129,11 @@ body_begun registers g line n p b =
     })
 
 group_begun : (word : LineWord) (fs : List Field) (ops : List PlanOp) (g : Group) (line : List ℕ) (n : Group)
-    → IsInGroup word fs ops g line n → IsBegun (14 + length ops) g → IsBegun (14 + length ops) n
+    → IsInGroup word fs ops g line n → IsBegun (FIELDS + length ops) g → IsBegun (FIELDS + length ops) n
 group_begun words.Key fs ops g line n p b = key_begun fs ops g line n p b
 group_begun words.Arg fs ops g line n p b = arg_begun fs ops g line n p b
-group_begun words.State fs ops g line n p b = state_begun (14 + length ops) g line n p b
-group_begun words.Body fs ops g line n p b = body_begun (14 + length ops) g line n p b
+group_begun words.State fs ops g line n p b = state_begun (FIELDS + length ops) g line n p b
+group_begun words.Body fs ops g line n p b = body_begun (FIELDS + length ops) g line n p b
 group_begun words.Plan fs ops g line n p b = absurd p
 group_begun words.Reads fs ops g line n p b = absurd p
 group_begun words.Op fs ops g line n p b = absurd p
@@ -147,10 +149,10 @@ folded_sound registers g line after p b =
     let group = sym p.made in
     record {
       some_keys = subst (λ (x : Group). 0 < length x.keys) group keys;
-      most_keys = subst (λ (x : Group). length x.keys ≤ 8) group b.most_keys;
+      most_keys = subst (λ (x : Group). length x.keys ≤ MAX_KEYS) group b.most_keys;
       key_names = subst (λ (x : Group). length x.key_names ≡ length x.keys) group b.key_names;
-      most_args = subst (λ (x : Group). length x.args ≤ 16) group b.most_args;
-      most_states = subst (λ (x : Group). length x.initial ≤ 8) group b.most_states;
+      most_args = subst (λ (x : Group). length x.args ≤ MAX_ARGS) group b.most_args;
+      most_states = subst (λ (x : Group). length x.initial ≤ MAX_STATES) group b.most_states;
       state_names = subst (λ (x : Group). length x.state_names ≡ length x.initial) group b.state_names;
       present = subst (λ (x : Group). IsWithin registers x.present) group b.present;
       key_registers = subst (λ (x : Group). All (IsWithin registers) x.keys) group b.key_registers;
@@ -184,8 +186,8 @@ reads_more b line a p s = subst IsSoundSoFar (sym p.made) (record {
 
 op_more : (b : Made) (line : List ℕ) (a : Made) → IsOp b line a → IsSoundSoFar b → IsSoundSoFar a
 op_more b line a p s =
-    let registers = 14 + length (b.ops ++ p.op ∷ []) in
-    let C = λ (o : Option Group). IfSome o (λ group. IsBegun registers group × (length b.groups < 8)) in
+    let registers = FIELDS + length (b.ops ++ p.op ∷ []) in
+    let C = λ (o : Option Group). IfSome o (λ group. IsBegun registers group × (length b.groups < MAX_GROUPBYS)) in
     subst IsSoundSoFar (sym p.made) (record {
       ops = ops_more p.fields b.ops p.op s.ops p.valid.allowed;
       most_groups = s.most_groups;
@@ -196,7 +198,7 @@ op_more b line a p s =
 
 begun_more : (b : Made) (line : List ℕ) (a : Made) → IsGroup b line a → IsSoundSoFar b → IsSoundSoFar a
 begun_more b line a p s =
-    let registers = 14 + length b.ops in
+    let registers = FIELDS + length b.ops in
     let new : IsBegun registers (group_with p.group.name p.group.present) = record {
       most_keys = omega arith;
       key_names = refl;
@@ -218,8 +220,9 @@ begun_more b line a p s =
 
 part_more : (word : LineWord) (b : Made) (line : List ℕ) (a : Made) → IsPart word b line a → IsSoundSoFar b → IsSoundSoFar a
 part_more word b line a p s =
-    let registers = 14 + length b.ops in
-    let old = subst (λ (o : Option Group). IfSome o (λ group. IsBegun registers group × (length b.groups < 8))) p.current s.current in
+    let registers = FIELDS + length b.ops in
+    let old = subst (λ (o : Option Group). IfSome o (λ group. IsBegun registers group × (length b.groups < MAX_GROUPBYS))) p.current
+    s.current in
     subst IsSoundSoFar (sym p.made) (record {
       ops = s.ops;
       most_groups = s.most_groups;
@@ -230,9 +233,10 @@ part_more word b line a p s =
 
 fold_more : (b : Made) (line : List ℕ) (a : Made) → IsFold b line a → IsSoundSoFar b → IsSoundSoFar a
 fold_more b line a p s =
-    let registers = 14 + length b.ops in
-    let old = subst (λ (o : Option Group). IfSome o (λ group. IsBegun registers group × (length b.groups < 8))) p.current s.current in
-    let room : length b.groups < 8 = old.1 in
+    let registers = FIELDS + length b.ops in
+    let old = subst (λ (o : Option Group). IfSome o (λ group. IsBegun registers group × (length b.groups < MAX_GROUPBYS))) p.current
+    s.current in
+    let room : length b.groups < MAX_GROUPBYS = old.1 in
     let long = length_push b.groups p.folded in
     subst IsSoundSoFar (sym p.made) (record {
       ops = s.ops;

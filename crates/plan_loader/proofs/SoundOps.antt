@@ -9,6 +9,8 @@ use Rattle.std.proofs.lemmas.Option.{slice_get_within, slice_get_cases, same_Som
 use Rattle.marple_base.specs.declared.field.Field.{Field}
 use Rattle.marple_base.specs.declared.field.Field.TheVariants as fields
 use Rattle.marple_base.specs.Field.{number_of}
+use Rattle.marple_base.specs.declared.field.TheConstants.{FIELDS}
+use Rattle.query_lang.specs.declared.fault.TheConstants.{MAX_STAGES}
 use Rattle.stage_plan.specs.declared.op.Operand.{Operand}
 use Rattle.stage_plan.specs.declared.op.Operand.TheVariants.{Register, Number}
 use Rattle.stage_plan.specs.declared.op.PlanOp.{PlanOp}
@@ -20,7 +22,7 @@ use Rattle.stage_plan.proofs.Runs.{within_more}
 use Rattle.stage_plan.proofs.Extending.{one_more}
 use Rattle.plan_file.specs.Operations.{IsKnown, IsAllowed, last_stage, stage_at, stage_of}
 
-number_below : (f : Field) → number_of f < 14
+number_below : (f : Field) → number_of f < FIELDS
 number_below fields.Switch = omega arith
 number_below fields.Qid = omega arith
 number_below fields.Uid = omega arith
@@ -36,15 +38,15 @@ number_below fields.Tin = omega arith
 number_below fields.Tout = omega arith
 number_below fields.QSize = omega arith
 
-all_below : (fs : List Field) → All (λ f. number_of f < 14) fs
-all_below [] = All-nil (λ f. number_of f < 14)
-all_below (f ∷ fs) = All-cons (λ g. number_of g < 14) f fs (number_below f) (all_below fs)
+all_below : (fs : List Field) → All (λ f. number_of f < FIELDS) fs
+all_below [] = All-nil (λ f. number_of f < FIELDS)
+all_below (f ∷ fs) = All-cons (λ g. number_of g < FIELDS) f fs (number_below f) (all_below fs)
 
-field_within : (fs : List Field) (r : ℕ) → Contains (map number_of fs) r → r < 14
-field_within fs r there = All-contains (λ n. n < 14) (map number_of fs) r (All-map (λ n. n < 14) number_of fs (all_below fs)) there
+field_within : (fs : List Field) (r : ℕ) → Contains (map number_of fs) r → r < FIELDS
+field_within fs r there = All-contains (λ n. n < FIELDS) (map number_of fs) r (All-map (λ n. n < FIELDS) number_of fs (all_below fs)) there
 
 -- a known register is there
-pub known_within : (fs : List Field) (ops : List PlanOp) (o : Operand) → IsKnown fs ops o → IsWithin (14 + length ops) o
+pub known_within : (fs : List Field) (ops : List PlanOp) (o : Operand) → IsKnown fs ops o → IsWithin (FIELDS + length ops) o
 known_within fs ops (Register r) (inl field) = (let lt = field_within fs r field in omega arith)
 known_within fs ops (Register r) (inr later) = later.1
 known_within fs ops (Number n) known = tt
@@ -54,7 +56,7 @@ stage_alike None = refl
 stage_alike (Some one) = refl
 
 stages_alike : (ops : List PlanOp) (o : Operand) → stage_of ops o ≡ operand_stage ops o
-stages_alike ops (Register r) = ap (λ n. if nat_lt r 14 then 0 else n) (stage_alike (slice_get ops (r - 14)))
+stages_alike ops (Register r) = ap (λ n. if nat_lt r FIELDS then 0 else n) (stage_alike (slice_get ops (r - FIELDS)))
 stages_alike ops (Number n) = refl
 
 -- the last operation is in the greatest stage
@@ -74,12 +76,12 @@ most_last ops i one sound found =
       | inr past ↦ absurd (let p = past.0 in omega arith)
     ]
 
-module _ (ops : List PlanOp) (op : PlanOp) (sound : AreSoundOps ops) (left : IsWithin (14 + length ops) op.left)
-    (right : IsWithin (14 + length ops) op.right) where
+module _ (ops : List PlanOp) (op : PlanOp) (sound : AreSoundOps ops) (left : IsWithin (FIELDS + length ops) op.left)
+    (right : IsWithin (FIELDS + length ops) op.right) where
   abbrev more : List PlanOp
   more = ops ++ op ∷ []
 
-  kept : (o : Operand) → IsWithin (14 + length ops) o → operand_stage more o ≡ operand_stage ops o
+  kept : (o : Operand) → IsWithin (FIELDS + length ops) o → operand_stage more o ≡ operand_stage ops o
   kept o within = same_stage ops more o (one_more ops op) within
 
   old_op : (i : ℕ) (one : PlanOp) → slice_get ops i ≡ Some one → IsSoundOp more i one
@@ -87,12 +89,12 @@ module _ (ops : List PlanOp) (op : PlanOp) (sound : AreSoundOps ops) (left : IsW
       let s = sound.each i one found in
       let lt : i < length ops = slice_get_within ops i one found in
       let l : operand_stage more one.left ≡ operand_stage ops one.left =
-      kept one.left (within_more (14 + i) (14 + length ops) one.left (omega arith) s.left) in
+      kept one.left (within_more (FIELDS + i) (FIELDS + length ops) one.left (omega arith) s.left) in
       let r : operand_stage more one.right ≡ operand_stage ops one.right =
-      kept one.right (within_more (14 + i) (14 + length ops) one.right (omega arith) s.right) in
+      kept one.right (within_more (FIELDS + i) (FIELDS + length ops) one.right (omega arith) s.right) in
       record { left = s.left; right = s.right; stage = s.stage ∙ sym (ap₂ (λ a b. suc (max a b)) l r); most = s.most }
 
-  new_op : op.stage ≡ 1 + max (stage_of ops op.left) (stage_of ops op.right) → op.stage ≤ 64 → IsSoundOp more (length ops) op
+  new_op : op.stage ≡ 1 + max (stage_of ops op.left) (stage_of ops op.right) → op.stage ≤ MAX_STAGES → IsSoundOp more (length ops) op
   new_op stage most =
       let l : operand_stage more op.left ≡ stage_of ops op.left = kept op.left left ∙ sym (stages_alike ops op.left) in
       let r : operand_stage more op.right ≡ stage_of ops op.right = kept op.right right ∙ sym (stages_alike ops op.right) in

@@ -5,6 +5,7 @@ use Rattle.std.specs.List.{AllZip}
 use Rattle.std.proofs.lemmas.List.{length-map}
 use Rattle.std.proofs.lemmas.List.Elements.{All-get_or, All-head, All-tail, All-weaker}
 use Rattle.std.proofs.lemmas.Option.{get_or_from_slice_get, same_Some, slice_get-map, slice_get_within}
+use Rattle.marple_base.specs.declared.field.TheConstants.{FIELDS}
 use Rattle.fold_class.specs.Kinds.{algebra_of}
 use Rattle.stage_plan.specs.declared.group.GroupPlan.{GroupPlan}
 use Rattle.stage_plan.specs.declared.op.PlanOp.{PlanOp}
@@ -83,10 +84,10 @@ sound_plan made plan sound from =
           let wired : wiring_in one.0 ≡ wiring = same_Some (wiring_in one.0) wiring
           (ap (option_map wiring_in) (sym one.1) ∙ sym (slice_get-map wiring_in made.groups i)
           ∙ ap (λ w. slice_get w i) (sym from.wiring) ∙ at_wiring) in
-          let s = all_at (IsSoundFolded (14 + length made.ops)) made.groups i one.0 sound.groups one.1 in
-          let g = sound_group (14 + length made.ops) one.0 group s one.2 in
-          subst (λ ops. IsSoundGroup (14 + length ops) group wiring) (sym from.ops)
-          (subst (IsSoundGroup (14 + length made.ops) group) wired g);
+          let s = all_at (IsSoundFolded (FIELDS + length made.ops)) made.groups i one.0 sound.groups one.1 in
+          let g = sound_group (FIELDS + length made.ops) one.0 group s one.2 in
+          subst (λ ops. IsSoundGroup (FIELDS + length ops) group wiring) (sym from.ops)
+          (subst (IsSoundGroup (FIELDS + length made.ops) group) wired g);
     }
 
 -- a groupby has the sizes of its group
@@ -119,11 +120,11 @@ shapes_same registers (g ∷ groups) (p ∷ plans) all from =
 
 pub shape_is : (made : Made) (plan : PlanParts) → IsSoundMade made → IsPlanFrom made plan → shape_of plan ≡ text_shape made
 shape_is made plan sound from =
-    let groups = shapes_same (14 + length made.ops) made.groups plan.groups sound.groups from.groups in
+    let groups = shapes_same (FIELDS + length made.ops) made.groups plan.groups sound.groups from.groups in
     let make : List PlanOp → List GroupShape → PlanShape = λ ops shapes. record
     { operations = length ops; stage_sizes = sizes_of (stages_of ops) (map (λ (one : PlanOp). one.stage) ops); groups = shapes } in
     ap (λ ops. make ops (map group_shape plan.groups)) from.ops ∙ ap (make made.ops) groups
 
 pub all_whole : (made : Made) → IsSoundMade made → All IsWhole made.groups
-all_whole made sound = All-weaker (IsSoundFolded (14 + length made.ops)) IsWhole
-    (λ one s. record { registers = 14 + length made.ops; sound = s }) made.groups sound.groups
+all_whole made sound = All-weaker (IsSoundFolded (FIELDS + length made.ops)) IsWhole
+    (λ one s. record { registers = FIELDS + length made.ops; sound = s }) made.groups sound.groups

@@ -11,9 +11,9 @@ use Rattle.epoch_entry.specs.Foldings.{folding_of}
 use Rattle.fold_class.specs.Kinds.{algebra_of}
 use Rattle.final_queries.specs.declared.table.Table.{Table}
 use Rattle.final_queries.specs.GroupTable.{Heading, group_table}
-use Rattle.query_tables.specs.Tables.{text_at}
+use Rattle.query_tables.specs.Tables.{table_text_at}
 use Rattle.stage_plan.specs.declared.group.GroupWiring.{GroupWiring}
-use Rattle.stage_plan.specs.Registers.{after, stages_of, taken_at}
+use Rattle.stage_plan.specs.Registers.{registers_after, stages_of, taken_at}
 use Rattle.stage_plan.specs.Shape.{GroupShape, PlanShape, bound_of, sizes_of}
 use Rattle.plan_file.specs.declared.made.Folded.{Folded}
 use Rattle.plan_file.specs.declared.made.Group.{Group}
@@ -48,7 +48,7 @@ wiring_in one = record { present = one.group.present; keys = one.group.keys; arg
 
 -- what a group takes of a packet with these words: nothing where its presence operand is 0
 abbrev pub taken_in : Made → Folded → List ℕ → Option Taken
-taken_in made one words = taken_at (wiring_in one) (after made.ops words (stages_of made.ops))
+taken_in made one words = taken_at (wiring_in one) (registers_after made.ops words (stages_of made.ops))
 
 -- what a group takes of packets, which have the numbers from 1 on
 abbrev pub uses_in : Made → Folded → List (List ℕ) → List Use
@@ -68,13 +68,13 @@ heading_in one = record {
 abbrev pub table_in : Made → Geometry → List (List ℕ) → Folded → Table
 table_in made g packets one = group_table (heading_in one) (folding_of (fold_in one)) g (uses_in made one packets)
 
--- The tables of a plan's groups over packets, each of 14 words.
+-- The tables of a plan's groups over packets, each with a word for each field.
 unfoldable pub plan_tables : Made → Geometry → List (List ℕ) → List Table
 plan_tables made g packets = map (table_in made g packets) made.groups
 
 -- What a plan prints over packets: the texts of the tables that its `print` lines name, in their order.
 unfoldable pub plan_output : Made → Geometry → List (List ℕ) → List ℕ
-plan_output made g packets = flat_map (text_at (plan_tables made g packets)) made.prints
+plan_output made g packets = flat_map (table_text_at (plan_tables made g packets)) made.prints
 
 -- a group with the sizes that its lines give
 abbrev pub shape_in : Folded → GroupShape

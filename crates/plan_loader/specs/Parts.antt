@@ -1,7 +1,9 @@
 -- The plan that a text makes, and what holds of all that the lines of a valid text make.
 use Rattle.std.specs.Prelude.{◌≡◌, ℕ, ◌+◌, ◌<◌, ◌≤◌, List, length, map, All}
 use Rattle.std.specs.List.{AllZip}
+use Rattle.marple_base.specs.declared.field.TheConstants.{FIELDS}
 use Rattle.query_lang.specs.declared.fold.TypedFold.{TypedFold}
+use Rattle.query_lang.specs.declared.fault.TheConstants.{MAX_ARGS, MAX_GROUPBYS, MAX_KEYS, MAX_STATES}
 use Rattle.fold_class.specs.Depth.{IsDepth}
 use Rattle.fold_class.specs.Kinds.{class_of}
 use Rattle.fold_class.specs.Program.{IsProgramOf}
@@ -42,10 +44,10 @@ pub record IsPlanFrom (made : Made) (plan : PlanParts) : Type 0 where
 -- a group with all its lines, where there are this many registers
 pub record IsSoundFolded (registers : ℕ) (one : Folded) : Type 0 where
   pub some_keys : 0 < length one.group.keys
-  pub most_keys : length one.group.keys ≤ 8
+  pub most_keys : length one.group.keys ≤ MAX_KEYS
   pub key_names : length one.group.key_names ≡ length one.group.keys
-  pub most_args : length one.group.args ≤ 16
-  pub most_states : length one.group.initial ≤ 8
+  pub most_args : length one.group.args ≤ MAX_ARGS
+  pub most_states : length one.group.initial ≤ MAX_STATES
   pub state_names : length one.group.state_names ≡ length one.group.initial
   pub present : IsWithin registers one.group.present
   pub key_registers : All (IsWithin registers) one.group.keys
@@ -64,6 +66,6 @@ pub record IsWhole (one : Folded) : Type 0 where
 -- what a text's lines make
 pub record IsSoundMade (made : Made) : Type 0 where
   pub ops : AreSoundOps made.ops
-  pub most_groups : length made.groups ≤ 8
-  pub groups : All (IsSoundFolded (14 + length made.ops)) made.groups
+  pub most_groups : length made.groups ≤ MAX_GROUPBYS
+  pub groups : All (IsSoundFolded (FIELDS + length made.ops)) made.groups
   pub prints : All (λ number. number < length made.groups) made.prints

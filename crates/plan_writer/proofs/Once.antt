@@ -8,6 +8,7 @@ use Rattle.std.proofs.lemmas.Grind.{same_number_lists}
 use Rattle.std.proofs.lemmas.List.Sums.{position_or_len_is}
 use Rattle.std.proofs.lemmas.List.FromFn.{get_or-map-range_with_len, length-map-range_with_len}
 use Rattle.std.proofs.lemmas.Option.{slice_get_within, same_Some, slice_get-get_or, get_or_from_slice_get}
+use Rattle.marple_base.specs.declared.field.TheConstants.{FIELDS}
 use Rattle.stage_plan.specs.declared.op.PlanOp.{PlanOp}
 use Rattle.stage_plan.specs.Ordering.{numbers_at, order_of, IsPlaced, ArePlaced}
 use Rattle.stage_plan.proofs.Sorted.{ordered, Has, order_has, Staged}
@@ -139,11 +140,11 @@ registers_are ops s registers staged placed long =
         let here : get_or (order_of ops s) h.place 0 ≡ c = get_or_from_slice_get (order_of ops s) h.place c 0 h.found in
         let p : IsPlaced (order_of ops s) c (get_or registers c 0) = subst (λ x. IsPlaced (order_of ops s) x (get_or registers x 0)) here
         (placed h.place in_order) in
-        let k : ℕ = get_or registers c 0 - 14 in
-        let at : get_or registers c 0 ≡ 14 + k = omega (arith, p.beyond) in
+        let k : ℕ = get_or registers c 0 - FIELDS in
+        let at : get_or registers c 0 ≡ FIELDS + k = omega (arith, p.beyond) in
         let within : k < length (order_of ops s) = omega (arith, p.within, p.beyond) in
         let number : slice_get (order_of ops s) k ≡ Some c = slice_get-get_or (order_of ops s) k 0 within ∙ ap Some p.place in
-        at ∙ ap (λ n. 14 + n) (sym (place_is ops s k c number))
+        at ∙ ap (λ n. FIELDS + n) (sym (place_is ops s k c number))
       where
         found_at : {A : Type 0} (xs : List A) (i : ℕ) → i < length xs → (x : A) × (slice_get xs i ≡ Some x)
         found_at [] i h = absurd (omega arith)
@@ -156,7 +157,7 @@ pub registers_placed : (ops : List PlanOp) (s : ℕ) → ArePlaced (order_of ops
 registers_placed ops s k lt = subst (IsPlaced (order_of ops s) number) (sym register) (record {
   beyond = omega arith;
   within = omega (arith, lt);
-  place = (let back : 14 + k - 14 ≡ k = omega arith in ap (λ place. get_or (order_of ops s) place 0) back);
+  place = (let back : FIELDS + k - FIELDS ≡ k = omega arith in ap (λ place. get_or (order_of ops s) place 0) back);
 })
   where
     number : ℕ
@@ -165,9 +166,9 @@ registers_placed ops s k lt = subst (IsPlaced (order_of ops s) number) (sym regi
     found : slice_get (order_of ops s) k ≡ Some number
     found = slice_get-get_or (order_of ops s) k 0 lt
 
-    register : get_or (registers_in (order_of ops s) (length ops)) number 0 ≡ 14 + k
+    register : get_or (registers_in (order_of ops s) (length ops)) number 0 ≡ FIELDS + k
     register =
         let here = ordered ops s k number found in
         let in_ops : number < length ops = slice_get_within ops number here.one here.found in
         get_or-map-range_with_len (register_in (order_of ops s)) 0 (length ops) number number 0 in_ops (omega arith)
-        ∙ ap (λ place. 14 + place) (place_is ops s k number found)
+        ∙ ap (λ place. FIELDS + place) (place_is ops s k number found)

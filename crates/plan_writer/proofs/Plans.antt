@@ -19,6 +19,7 @@ use Rattle.query_lang.specs.declared.typed.TypedStream.{TypedStream}
 use Rattle.query_lang.specs.Folds.{IsValidFold}
 use Rattle.query_lang.specs.Streams.{Taking, takings}
 use Rattle.query_lang.specs.TypedQueries.{AreValidStreams, IsValidOp, IsValidQuery}
+use Rattle.query_lang.specs.declared.fault.TheConstants.{MAX_STATES}
 use Rattle.stage_plan.specs.declared.group.GroupPlan.{GroupPlan}
 use Rattle.stage_plan.specs.declared.group.GroupWiring.{GroupWiring}
 use Rattle.stage_plan.specs.Depths.{packet_depths}
@@ -128,7 +129,7 @@ number_at_place numbers i number d lt e = slice_get-get_or numbers i d lt ∙ ap
 
 -- a fold of a valid query has few state variables
 pub few_states : (folds : List TypedFold) (number : ℕ) (f : TypedFold) → All IsValidFold folds → slice_get folds number ≡ Some f
-    → length f.state_names ≤ 8
+    → length f.state_names ≤ MAX_STATES
 few_states folds number f valid e =
     let v : IsValidFold f = subst IsValidFold (get_or_from_slice_get folds number f f e)
     (valid number f (slice_get_within folds number f e)) in

@@ -1,6 +1,7 @@
 -- The operations and the wiring of the one plan that a query has.
 use Rattle.std.specs.Prelude.{ℕ, ◌+◌, ◌==◌, List, length, map}
 use Rattle.std.specs.List.{position_or_len, range_with_len}
+use Rattle.marple_base.specs.declared.field.TheConstants.{FIELDS}
 use Rattle.query_lang.specs.declared.typed.TypedQuery.{TypedQuery}
 use Rattle.query_lang.specs.Streams.{takings}
 use Rattle.stage_plan.specs.declared.op.PlanOp.{PlanOp}
@@ -13,9 +14,9 @@ use Rattle.stage_plan.specs.Registers.{stages_of}
 abbrev pub query_order : TypedQuery → List ℕ
 query_order q = order_of (query_made q).ops (stages_of (query_made q).ops)
 
--- the register of the operation with this number: registers 0 to 13 are the fields, and the next ones belong to the operations in order
+-- the register of the operation with this number: the first registers are the fields, and the next ones belong to the operations in order
 abbrev pub register_in : List ℕ → ℕ → ℕ
-register_in order number = 14 + position_or_len (λ other. other == number) order
+register_in order number = FIELDS + position_or_len (λ other. other == number) order
 
 -- the registers of this many operations
 abbrev pub registers_in : List ℕ → ℕ → List ℕ

@@ -14,7 +14,7 @@ ghost use Rattle.plan_writer.specs.PlanText.{named_lines, group_lines, group_tex
 use crate::bodies::push_body;
 use crate::words::{push_number, push_operand, push_word};
 use marple_base::{Seq, Text};
-use query_lang::{Class, TypedFold, TypedOp, TypedQuery, TypedStream};
+use query_lang::{Class, MAX_STATES, TypedFold, TypedOp, TypedQuery, TypedStream};
 use stage_plan::{GroupPlan, GroupWiring, Operand, Plan};
 use std::alloc::{AllocError, Global};
 
@@ -185,7 +185,7 @@ fn fold_of<'a>(q: &'a TypedQuery, numbers: &[u16], i: u32) -> &'a TypedFold
     requires numbers { numbers.now ≡ map (λ t. t.fold_number) (takings q.now.streams) }
     requires groupby { i < length numbers.now }
     ensures found { fold_at q.now i ≡ Some result.now }
-    ensures states { length result.now.state_names ≤ 8 }
+    ensures states { length result.now.state_names ≤ MAX_STATES }
 {
     q.folds.get(usize::from(numbers[i as usize]))
 }

@@ -11,8 +11,8 @@ use Rattle.query_lang.specs.declared.typed.TypedOp.TheVariants as op
 use Rattle.query_lang.specs.declared.typed.TypedQuery.{TypedQuery}
 use Rattle.query_lang.specs.declared.typed.TypedStream.{TypedStream}
 
-abbrev pub is_in : List ℕ → ℕ → Bool
-is_in numbers n = list_any (λ one. nat_eq one n) numbers
+abbrev pub is_one_of : List ℕ → ℕ → Bool
+is_one_of numbers n = list_any (λ one. nat_eq one n) numbers
 
 abbrev pub is_groupby : TypedOp → Bool
 is_groupby (op.Group input keys f args) = true
@@ -36,7 +36,7 @@ inputs_of (final.Top input column kept) = input ∷ []
 
 -- the needed tables with those that the final with this number reads, where it is needed
 abbrev pub with_inputs : List ℕ → ℕ → TypedFinalOp → List ℕ
-with_inputs needs number op = if is_in needs number then needs ++ inputs_of op else needs
+with_inputs needs number op = if is_one_of needs number then needs ++ inputs_of op else needs
 
 -- Finals read earlier tables, so what they need is found from the last to the first. The first has this number.
 abbrev pub needs_from : ℕ → List TypedFinal → List ℕ → List ℕ
@@ -52,7 +52,7 @@ abbrev pub needed_from : List ℕ → ℕ → ℕ → List TypedStream → List 
 needed_from needs place group [] = []
 needed_from needs place group (one ∷ rest) =
     if is_groupby one.op
-    then (if is_in needs group then place ∷ needed_from needs (place + 1) (group + 1) rest
+    then (if is_one_of needs group then place ∷ needed_from needs (place + 1) (group + 1) rest
     else needed_from needs (place + 1) (group + 1) rest)
     else needed_from needs (place + 1) group rest
 

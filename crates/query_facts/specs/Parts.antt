@@ -18,7 +18,7 @@ use Rattle.query_facts.specs.declared.parts.Parts.{Parts}
 use Rattle.query_facts.specs.declared.parts.Parts.TheVariants as parts
 use Rattle.query_facts.specs.declared.parts.Unsplit.{Unsplit}
 use Rattle.query_facts.specs.declared.parts.Unsplit.TheVariants as why
-use Rattle.query_facts.specs.Needs.{groupbys, inputs_of, is_in, needed_tables, needed_groupbys}
+use Rattle.query_facts.specs.Needs.{groupbys, inputs_of, is_one_of, needed_tables, needed_groupbys}
 
 -- ---- fields
 
@@ -27,11 +27,11 @@ abbrev pub names_it : Field → List (List ℕ) → Option TypedStream → Bool
 names_it field names None = false
 names_it field names (Some one) = names_field field names one.columns
 
-abbrev pub has_field : TypedQuery → Field → ℕ → Bool
-has_field q field place = names_it field q.names (slice_get q.streams place)
+abbrev pub place_has_field : TypedQuery → Field → ℕ → Bool
+place_has_field q field place = names_it field q.names (slice_get q.streams place)
 
 abbrev pub all_have : TypedQuery → List ℕ → Field → Bool
-all_have q places field = list_all (has_field q field) places
+all_have q places field = list_all (place_has_field q field) places
 
 -- The field is a key of each groupby at these places, and no `map` makes a column of its name: then a partition by it keeps the
 -- keys of these groupbys.
@@ -74,13 +74,13 @@ or_blocked None span others = others
 abbrev pub first_blocked : TypedQuery → ℕ → List ℕ → ℕ → List TypedFinal → Option (Unsplit × Span)
 first_blocked q groups needs number [] = None
 first_blocked q groups needs number (one ∷ rest) =
-    if is_in needs number
+    if is_one_of needs number
     then or_blocked (blocks q groups one.op) one.name.span (first_blocked q groups needs (number + 1) rest)
     else first_blocked q groups needs (number + 1) rest
 
 abbrev pub first_needed : List ℕ → ℕ → List TypedFinal → Option Span
 first_needed needs number [] = None
-first_needed needs number (one ∷ rest) = if is_in needs number then Some one.name.span else first_needed needs (number + 1) rest
+first_needed needs number (one ∷ rest) = if is_one_of needs number then Some one.name.span else first_needed needs (number + 1) rest
 
 -- ---- sums
 

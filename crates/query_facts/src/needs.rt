@@ -1,7 +1,7 @@
 //! The tables that a query's prints need. Tables are numbered with the groupbys first, and then the finals.
 
 ghost use Rattle.std.specs.Prelude.{◌≡◌, ℕ, ◌+◌, ◌^◌, ◌<◌, ◌≤◌, ◌++◌, length, map, IfOk, OnOk};
-ghost use Rattle.query_facts.specs.Needs.{is_in, is_groupby, groupbys, table_of, with_inputs, needs_from, needed_tables};
+ghost use Rattle.query_facts.specs.Needs.{is_one_of, is_groupby, groupbys, table_of, with_inputs, needs_from, needed_tables};
 ghost use Rattle.query_facts.specs.Needs.{inputs_of, needed_from, needed_groupbys};
 
 use marple_base::Seq;
@@ -10,7 +10,7 @@ use std::alloc::{AllocError, Global};
 
 /// Whether a number is among these.
 pub(crate) fn is_in(numbers: &[usize], number: usize) -> bool
-    ensures { result ≡ is_in numbers.now number }
+    ensures { result ≡ is_one_of numbers.now number }
 {
     for one in numbers {
         if *one == number {

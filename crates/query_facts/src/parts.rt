@@ -4,7 +4,7 @@ ghost use Rattle.std.specs.Prelude.{◌≡◌, ◌+◌, ◌^◌, ◌<◌, All, l
 ghost use Rattle.net_laws.specs.Fields.{names_field, makes_field};
 ghost use Rattle.net_wide.specs.Combining.{adds};
 ghost use Rattle.query_lang.specs.Folds.{IsValidFold};
-ghost use Rattle.query_facts.specs.Parts.{has_field, all_have, keeps, shared_among, shared_fields, is_top, is_top_table};
+ghost use Rattle.query_facts.specs.Parts.{place_has_field, all_have, keeps, shared_among, shared_fields, is_top, is_top_table};
 ghost use Rattle.query_facts.specs.Parts.{reads_top, blocks, first_blocked, first_needed, adds_at, first_not_additive};
 ghost use Rattle.query_facts.specs.Parts.{by_or, unless_blocked, sums_by, parts_of};
 
@@ -38,7 +38,7 @@ pub enum Parts {
 
 // Whether the stream at a place has a column of the field's name.
 fn has_field(q: &TypedQuery, field: Field, place: usize) -> bool
-    ensures { result ≡ has_field q.now field place }
+    ensures { result ≡ place_has_field q.now field place }
 {
     match q.streams.as_slice().get(place) {
         Some(one) => names_field(field, &q.names, one.columns.as_slice()),

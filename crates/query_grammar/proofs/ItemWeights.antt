@@ -15,6 +15,7 @@ use Rattle.query_lang.specs.declared.token.TokenKind.{TokenKind}
 use Rattle.query_lang.specs.declared.token.Token.{Token}
 use Rattle.query_lang.specs.TypedFolds.{expr_nodes, stmt_nodes, stmt_count}
 use Rattle.query_lang.specs.Limits.{columns_nodes, stream_nodes, final_nodes, KeepsLimits}
+use Rattle.query_lang.specs.declared.fault.TheConstants.{MAX_NODES, MAX_STATEMENTS}
 use Rattle.query_grammar.specs.declared.stop.Counts.{Counts}
 use Rattle.query_grammar.specs.Kinds.{sign, keyword}
 use Rattle.query_grammar.specs.Language.{Role, Plain, Node, Statement, Opening, Leaf, Language, Word, Then, Repeated, Either, Meaning}
@@ -33,39 +34,42 @@ use Rattle.query_grammar.proofs.Weights.{weigh_parens, weigh_block, weigh_expr, 
 
 -- leaves that are counted from these counts on keep the limits
 abbrev Bounded : List Leaf → Counts → Counts → Type 0
-Bounded w c e = leaves_by is_opening w ≡ 0 → pays Limited c w ≡ Some e → c.nodes ≤ 512 → c.statements ≤ 64
-    → (c.nodes + leaves_by is_node w ≤ 512) × (c.statements + leaves_by is_statement w ≤ 64)
+Bounded w c e = leaves_by is_opening w ≡ 0 → pays Limited c w ≡ Some e → c.nodes ≤ MAX_NODES → c.statements ≤ MAX_STATEMENTS
+    → (c.nodes + leaves_by is_node w ≤ MAX_NODES) × (c.statements + leaves_by is_statement w ≤ MAX_STATEMENTS)
 
-node_more : (w : List Leaf) (c e : Counts) → ((m : Counts) → Bounded w m e) → c.statements ≤ 64 → (b : Bool) → ltb c.nodes 512 ≡ b
+node_more : (w : List Leaf) (c e : Counts) → ((m : Counts) → Bounded w m e) → c.statements ≤ MAX_STATEMENTS → (b : Bool)
+    → ltb c.nodes MAX_NODES ≡ b
     → leaves_by is_opening w ≡ 0
     → option_and_then (λ d. pays Limited d w) (cond {A = Option Counts} b (Some (record { nodes = c.nodes + 1; statements = c.statements }))
     None) ≡ Some e
-    → (c.nodes + (1 + leaves_by is_node w) ≤ 512) × (c.statements + (0 + leaves_by is_statement w) ≤ 64)
+    → (c.nodes + (1 + leaves_by is_node w) ≤ MAX_NODES) × (c.statements + (0 + leaves_by is_statement w) ≤ MAX_STATEMENTS)
 node_more w c e ih s true t i k =
-    let small : c.nodes < 512 = ltb-true c.nodes 512 t in
+    let small : c.nodes < MAX_NODES = ltb-true c.nodes MAX_NODES t in
     let r = ih (record { nodes = c.nodes + 1; statements = c.statements }) i k (omega (arith, small)) s in
     (omega (arith, r.0), omega (arith, r.1))
 node_more w c e ih s false t i k = absurd cc
 
-statement_more : (w : List Leaf) (c e : Counts) → ((m : Counts) → Bounded w m e) → c.nodes ≤ 512 → (b : Bool) → ltb c.statements 64 ≡ b
+statement_more : (w : List Leaf) (c e : Counts) → ((m : Counts) → Bounded w m e) → c.nodes ≤ MAX_NODES → (b : Bool)
+    → ltb c.statements MAX_STATEMENTS ≡ b
     → leaves_by is_opening w ≡ 0
     → option_and_then (λ d. pays Limited d w) (cond {A = Option Counts} b (Some (record { nodes = c.nodes; statements = c.statements + 1 }))
     None) ≡ Some e
-    → (c.nodes + (0 + leaves_by is_node w) ≤ 512) × (c.statements + (1 + leaves_by is_statement w) ≤ 64)
+    → (c.nodes + (0 + leaves_by is_node w) ≤ MAX_NODES) × (c.statements + (1 + leaves_by is_statement w) ≤ MAX_STATEMENTS)
 statement_more w c e ih n true t i k =
-    let small : c.statements < 64 = ltb-true c.statements 64 t in
+    let small : c.statements < MAX_STATEMENTS = ltb-true c.statements MAX_STATEMENTS t in
     let r = ih (record { nodes = c.nodes; statements = c.statements + 1 }) i k n (omega (arith, small)) in
     (omega (arith, r.0), omega (arith, r.1))
 statement_more w c e ih n false t i k = absurd cc
 
-one_more : (w : List Leaf) (c e : Counts) → ((m : Counts) → Bounded w m e) → c.nodes ≤ 512 → c.statements ≤ 64 → (r : Role) → is_opening r
+one_more : (w : List Leaf) (c e : Counts) → ((m : Counts) → Bounded w m e) → c.nodes ≤ MAX_NODES → c.statements ≤ MAX_STATEMENTS
+    → (r : Role) → is_opening r
     + leaves_by is_opening w ≡ 0
-    → option_and_then (λ d. pays Limited d w) (charge Limited r c) ≡ Some e → (c.nodes + (is_node r + leaves_by is_node w) ≤ 512)
-    × (c.statements + (is_statement r + leaves_by is_statement w) ≤ 64)
+    → option_and_then (λ d. pays Limited d w) (charge Limited r c) ≡ Some e → (c.nodes + (is_node r + leaves_by is_node w) ≤ MAX_NODES)
+    × (c.statements + (is_statement r + leaves_by is_statement w) ≤ MAX_STATEMENTS)
 one_more w c e ih n s Plain i k = let r = ih c (omega (arith, i)) k n s in (omega (arith, r.0), omega (arith, r.1))
 one_more w c e ih n s Opening i k = absurd (omega (arith, i))
-one_more w c e ih n s Node i k = node_more w c e ih s (ltb c.nodes 512) refl (omega (arith, i)) k
-one_more w c e ih n s Statement i k = statement_more w c e ih n (ltb c.statements 64) refl (omega (arith, i)) k
+one_more w c e ih n s Node i k = node_more w c e ih s (ltb c.nodes MAX_NODES) refl (omega (arith, i)) k
+one_more w c e ih n s Statement i k = statement_more w c e ih n (ltb c.statements MAX_STATEMENTS) refl (omega (arith, i)) k
 
 bound : (w : List Leaf) (c e : Counts) → Bounded w c e
 bound [] c e inner h n s = (omega arith, omega arith)
@@ -244,7 +248,7 @@ opens_item d = opens_either item_nodes item_count (opens_fold d) (opens_either i
 
 -- ---- limits
 
-keeps : (a : Item) → item_nodes a ≤ 512 → item_count a ≤ 64 → KeepsLimits a
+keeps : (a : Item) → item_nodes a ≤ MAX_NODES → item_count a ≤ MAX_STATEMENTS → KeepsLimits a
 keeps (items.Fold d) n s = (omega (arith, n, sum_total stmt_nodes d.body), omega (arith, s, sum_total stmt_count d.body))
 keeps (items.Stream d) n s = n
 keeps (items.Final d) n s = n

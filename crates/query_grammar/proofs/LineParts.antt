@@ -9,7 +9,7 @@ use Rattle.query_lang.specs.declared.token.TokenKind.TheVariants as kinds
 use Rattle.query_lang.specs.declared.token.Token.{Token}
 use Rattle.query_grammar.specs.Language.{Role, Plain, Node, Language, Word}
 use Rattle.query_grammar.specs.Parser.{Limits, Parser, word}
-use Rattle.query_grammar.specs.Kinds.{one_of, among, kind, kind_number, is, name, name_of, number, number_of, operator, kinds_of, sign}
+use Rattle.query_grammar.specs.Kinds.{one_of, among, kind, kind_number, is, name, name_of, number, token_number, operator, kinds_of, sign}
 use Rattle.query_grammar.specs.Grammar.{After, Before, Parens, Brackets, Separated, Listed, Operators}
 use Rattle.query_grammar.specs.Reading.{after, before, parens, brackets, separated, listed_by}
 use Rattle.query_grammar.proofs.Parses.{is_some_of}
@@ -25,7 +25,7 @@ use Rattle.query_lang.specs.declared.token.TokenKind.TheVariants as kinds
 use Rattle.query_lang.specs.declared.token.Token.{Token}
 use Rattle.query_grammar.specs.Language.{Role, Plain, Node, Language, Word}
 use Rattle.query_grammar.specs.Parser.{Limits, Parser, word}
-use Rattle.query_grammar.specs.Kinds.{one_of, among, kind, kind_number, is, name, name_of, number, number_of, operator, kinds_of, sign}
+use Rattle.query_grammar.specs.Kinds.{one_of, among, kind, kind_number, is, name, name_of, number, token_number, operator, kinds_of, sign}
 use Rattle.query_grammar.specs.Grammar.{After, Before, Parens, Brackets, Separated, Listed, Operators}
 use Rattle.query_grammar.specs.Reading.{after, before, parens, brackets, separated, listed_by}
 use Rattle.query_grammar.proofs.Parses.{is_some_of}
@@ -61,7 +61,7 @@ name_kind_of (kinds.Word w) span h = absurd cc
 name_kind_of (kinds.Mark m) span h = absurd cc
 name_kind_of kinds.End span h = absurd cc
 
-pub number_kind_of : (k : TokenKind) (span : Span) → is_some_of (number_of k span) ≡ true → one_of (1 ∷ []) (kind_number k) ≡ true
+pub number_kind_of : (k : TokenKind) (span : Span) → is_some_of (token_number k span) ≡ true → one_of (1 ∷ []) (kind_number k) ≡ true
 number_kind_of (kinds.Number n) span h = refl
 number_kind_of (kinds.Name id) span h = absurd cc
 number_kind_of kinds.FiveTuple span h = absurd cc

@@ -5,6 +5,7 @@ use Rattle.std.proofs.lemmas.Bool.{eqb-true}
 use Rattle.query_lang.specs.declared.fault.Span.{Span}
 use Rattle.query_lang.specs.declared.token.TokenKind.{TokenKind}
 use Rattle.query_lang.specs.declared.token.Token.{Token}
+use Rattle.query_lang.specs.declared.fault.TheConstants.{MAX_NESTING}
 use Rattle.query_grammar.specs.declared.stop.Counts.{Counts}
 use Rattle.query_grammar.specs.declared.stop.Stop.{Stop}
 use Rattle.query_grammar.specs.declared.stop.Stop.TheVariants.{Unexpected, Nodes, Statements, Nesting}
@@ -51,13 +52,17 @@ shallow_append e o c (t ∷ f) g h k = (
 )
 
 -- in the words of the definition
-pub shallow_at : (o c : ℕ) (front more : List Token) (t : Token) → Shallow 64 o c (front ++ t ∷ more) → opens (kind t) ≡ 1 → o
-    + opened front < c + closed front + 64
+pub shallow_at : (o c : ℕ) (front more : List Token) (t : Token) → Shallow MAX_NESTING o c (front ++ t ∷ more) → opens (kind t) ≡ 1 → o
+    + opened front < c + closed front + MAX_NESTING
 shallow_at o c [] more t h e = omega (arith, h.0)
 shallow_at o c (x ∷ front) more t h e = omega (arith, shallow_at (o + opens (kind x)) (c + closes (kind x)) front more t h.1 e)
 
-pub shallow_is : (ts : List Token) → Shallow 64 0 0 ts → IsShallow ts
-shallow_is ts h = λ front more t e o. omega (arith, shallow_at 0 0 front more t (subst (λ (x : List Token). Shallow 64 0 0 x) e h) o)
+pub shallow_is : (ts : List Token) → Shallow MAX_NESTING 0 0 ts → IsShallow ts
+shallow_is ts h = λ front more t e o. omega (
+  arith,
+  shallow_at 0 0 front more t (subst (λ (x : List Token). Shallow MAX_NESTING 0 0 x) e h)
+      o,
+)
 
 -- what was read opens that many brackets more than it closes, and none that would be one too many
 pub record Level_is (up down e : ℕ) (ts rest : List Token) : Type 0 where

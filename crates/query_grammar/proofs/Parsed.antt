@@ -6,6 +6,7 @@ use Rattle.std.proofs.lemmas.Bool.{cases_lt}
 use Rattle.query_lang.specs.declared.token.TokenKind.{TokenKind}
 use Rattle.query_lang.specs.declared.token.TokenKind.TheVariants as kinds
 use Rattle.query_lang.specs.declared.token.Token.{Token}
+use Rattle.query_lang.specs.declared.fault.TheConstants.{MAX_NESTING, MAX_NODES, MAX_STATEMENTS}
 use Rattle.query_grammar.specs.declared.stop.Counts.{Counts}
 use Rattle.query_grammar.specs.declared.stop.Stop.{Stop}
 use Rattle.query_grammar.specs.declared.stop.Stop.TheVariants.{Unexpected, Nodes, Statements, Nesting}
@@ -54,7 +55,8 @@ no_query front t h b = go (run_of b.2.0 b.2.1 b.1 b.2.3)
         (stops_limit Limited k d l i)
 
 -- nor does one that reads all before t as a query
-pub no_more : (front : List Token) (t : Token) (p : Value) (c : Counts) → ((more : List Token) → run (front ++ t ∷ more) ≡ Done p c (t ∷ more))
+pub no_more : (front : List Token) (t : Token) (p : Value) (c : Counts)
+    → ((more : List Token) → run (front ++ t ∷ more) ≡ Done p c (t ∷ more))
     → BeginsQuery (front ++ t ∷ []) → ⊥
 no_more front t p c h b = go (run_of b.2.0 b.2.1 b.1 b.2.3)
   where
@@ -69,27 +71,28 @@ no_more front t p c h b = go (run_of b.2.0 b.2.1 b.1 b.2.3)
 
 module _ (ts : List Token) where
   -- the limit at a leaf
-  over_nodes : (c : Counts) (l : Leaf) → l.role ≡ Node → charge Limited l.role c ≡ None → 512 ≤ c.nodes
-  over_nodes c l r e = go (ltb c.nodes 512) refl (ap (λ (x : Role). charge Limited x c) (sym r) ∙ e)
+  over_nodes : (c : Counts) (l : Leaf) → l.role ≡ Node → charge Limited l.role c ≡ None → MAX_NODES ≤ c.nodes
+  over_nodes c l r e = go (ltb c.nodes MAX_NODES) refl (ap (λ (x : Role). charge Limited x c) (sym r) ∙ e)
     where
-      go : (b : Bool) → ltb c.nodes 512 ≡ b → cond {A = Option Counts} b (Some (record { nodes = c.nodes + 1; statements = c.statements }))
-          None ≡ None → 512 ≤ c.nodes
+      go : (b : Bool) → ltb c.nodes MAX_NODES ≡ b → cond {A = Option Counts} b
+          (Some (record { nodes = c.nodes + 1; statements = c.statements }))
+          None ≡ None → MAX_NODES ≤ c.nodes
       go true h k = absurd cc
       go false h k = big (cases_lt 511 c.nodes)
         where
-          big : (511 < c.nodes) ⊎ (c.nodes ≤ 511) → 512 ≤ c.nodes
+          big : (511 < c.nodes) ⊎ (c.nodes ≤ 511) → MAX_NODES ≤ c.nodes
           big (inl lt) = omega arith
           big (inr le) = grind (arith, h)
 
-  over_statements : (c : Counts) (l : Leaf) → l.role ≡ Statement → charge Limited l.role c ≡ None → 64 ≤ c.statements
-  over_statements c l r e = go (ltb c.statements 64) refl (ap (λ (x : Role). charge Limited x c) (sym r) ∙ e)
+  over_statements : (c : Counts) (l : Leaf) → l.role ≡ Statement → charge Limited l.role c ≡ None → MAX_STATEMENTS ≤ c.statements
+  over_statements c l r e = go (ltb c.statements MAX_STATEMENTS) refl (ap (λ (x : Role). charge Limited x c) (sym r) ∙ e)
     where
-      go : (b : Bool) → ltb c.statements 64 ≡ b → cond {A = Option Counts} b
-          (Some (record { nodes = c.nodes; statements = c.statements + 1 })) None ≡ None → 64 ≤ c.statements
+      go : (b : Bool) → ltb c.statements MAX_STATEMENTS ≡ b → cond {A = Option Counts} b
+          (Some (record { nodes = c.nodes; statements = c.statements + 1 })) None ≡ None → MAX_STATEMENTS ≤ c.statements
       go true h k = absurd cc
       go false h k = big (cases_lt 63 c.statements)
         where
-          big : (63 < c.statements) ⊎ (c.statements ≤ 63) → 64 ≤ c.statements
+          big : (63 < c.statements) ⊎ (c.statements ≤ 63) → MAX_STATEMENTS ≤ c.statements
           big (inl lt) = omega arith
           big (inr le) = grind (arith, h)
 
@@ -112,12 +115,13 @@ module _ (ts : List Token) where
     token = sym (head_is t g.0.token more g.2 g.4);
   }
 
-  shallow_front : (k : Stop) (t : Token) (more : List Token) → StopLevel 64 ts k (t ∷ more) → (front : List Token) → ts ≡ front ++ t ∷ more
+  shallow_front : (k : Stop) (t : Token) (more : List Token) → StopLevel MAX_NESTING ts k (t ∷ more) → (front : List Token) → ts ≡ front
+      ++ t ∷ more
       → IsShallow front
   shallow_front k t more n front e = shallow_is front (stop_shallow front (t ∷ more) k
-      (subst (λ (x : List Token). StopLevel 64 x k (t ∷ more)) e n))
+      (subst (λ (x : List Token). StopLevel MAX_NESTING x k (t ∷ more)) e n))
 
-  stands : (k : Stop) (t : Token) (more : List Token) → StopLevel 64 ts k (t ∷ more)
+  stands : (k : Stop) (t : Token) (more : List Token) → StopLevel MAX_NESTING ts k (t ∷ more)
       → Halted Limited (Query (depth 0)) (query Limited 63 62) no_counts ts k (t ∷ more) → Says ts (Stopped k (t ∷ more))
   stands Unexpected t more n h = (
     tokens_of h.front,
@@ -161,7 +165,8 @@ module _ (ts : List Token) where
     ),
   )
   stands Nesting t more n h =
-      let f = stop_facts (tokens_of h.front) t more Nesting (subst (λ (x : List Token). StopLevel 64 x Nesting (t ∷ more)) h.split n) in (
+      let f = stop_facts (tokens_of h.front) t more Nesting (subst (λ (x : List Token). StopLevel MAX_NESTING x Nesting (t ∷ more)) h.split
+      n) in (
         tokens_of h.front,
         h.split,
         (
@@ -219,7 +224,7 @@ never_at ts k end e h = go (place h.front h.more h.begins.0 (record { role = Pla
 
 -- ---- forwards
 
-says : (ts : List Token) → HasEnd ts → (o : Outcome Value) → run ts ≡ o → LevelMeets 0 0 64 ts o
+says : (ts : List Token) → HasEnd ts → (o : Outcome Value) → run ts ≡ o → LevelMeets 0 0 MAX_NESTING ts o
     → Meets Limited (Query (depth 0)) (query Limited 63 62) no_counts ts o → Says ts (all_read o)
 says ts end (Done q c []) e n f =
     let all : tokens_of f.front ≡ ts = sym (f.split ∙ append-nil (tokens_of f.front)) in
@@ -230,7 +235,7 @@ says ts end (Done q c []) e n f =
       means = f.means;
       counts = c;
       within = sym (pays_is Limited no_counts f.front) ∙ f.pays;
-      shallow = shallow_is ts (subst (λ (x : List Token). Shallow 64 0 0 x) (sym (n.split ∙ append-nil n.front)) n.shallow);
+      shallow = shallow_is ts (subst (λ (x : List Token). Shallow MAX_NESTING 0 0 x) (sym (n.split ∙ append-nil n.front)) n.shallow);
     }
 says ts end (Done q c (t ∷ more)) e n f = (
   tokens_of f.front,
@@ -242,7 +247,7 @@ says ts end (Done q c (t ∷ more)) e n f = (
       tokens = refl;
       begins = ([], depth 0, q, subst (λ (x : List Leaf). Query (depth 0) x q) (sym (append-nil f.front)) f.means);
       within = sym (pays_is Limited no_counts f.front) ∙ f.pays;
-      shallow = shallow_is (tokens_of f.front) (subst (λ (x : List Token). Shallow 64 0 0 x)
+      shallow = shallow_is (tokens_of f.front) (subst (λ (x : List Token). Shallow MAX_NESTING 0 0 x)
           (append_cancel_right n.front (tokens_of f.front) (t ∷ more) (sym n.split ∙ f.split)) n.shallow);
     },
     no_more (tokens_of f.front) t q c (λ x. f.again (t ∷ x) (x, refl)),

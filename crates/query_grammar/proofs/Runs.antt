@@ -6,6 +6,7 @@ use Rattle.std.specs.Option.{option_and_then}
 use Rattle.query_lang.specs.declared.fault.Span.{Span}
 use Rattle.query_lang.specs.declared.query.Item.{Item}
 use Rattle.query_lang.specs.declared.token.Token.{Token}
+use Rattle.query_lang.specs.declared.fault.TheConstants.{MAX_NESTING}
 use Rattle.query_grammar.specs.declared.stop.Counts.{Counts}
 use Rattle.query_grammar.specs.declared.stop.Stop.{Stop}
 use Rattle.query_grammar.specs.declared.stop.Stop.TheVariants.{Unexpected, Nodes, Statements, Nesting}
@@ -96,23 +97,23 @@ pub found_of : (ts : List Token) (q : Value) (c : Counts) (rest : List Token) �
     → Found Limited (Query (depth 0)) (query Limited 63 62) no_counts ts q c rest
 found_of ts q c rest e = subst (λ (o : Outcome Value). Meets Limited (Query (depth 0)) (query Limited 63 62) no_counts ts o) e (met ts)
 
-pub leveled : (ts : List Token) → LevelMeets 0 0 64 ts (run ts)
+pub leveled : (ts : List Token) → LevelMeets 0 0 MAX_NESTING ts (run ts)
 leveled ts = (nests_query 62).meets no_counts ts
 
-stop_level : (ts : List Token) (k : Stop) (rest : List Token) → run ts ≡ Stopped k rest → StopLevel 64 ts k rest
-stop_level ts k rest e = subst (λ (o : Outcome Value). LevelMeets 0 0 64 ts o) e (leveled ts)
+stop_level : (ts : List Token) (k : Stop) (rest : List Token) → run ts ≡ Stopped k rest → StopLevel MAX_NESTING ts k rest
+stop_level ts k rest e = subst (λ (o : Outcome Value). LevelMeets 0 0 MAX_NESTING ts o) e (leveled ts)
 
-done_level : (ts : List Token) (q : Value) (c : Counts) (rest : List Token) → run ts ≡ Done q c rest → Level_is 0 0 64 ts rest
-done_level ts q c rest e = subst (λ (o : Outcome Value). LevelMeets 0 0 64 ts o) e (leveled ts)
+done_level : (ts : List Token) (q : Value) (c : Counts) (rest : List Token) → run ts ≡ Done q c rest → Level_is 0 0 MAX_NESTING ts rest
+done_level ts q c rest e = subst (λ (o : Outcome Value). LevelMeets 0 0 MAX_NESTING ts o) e (leveled ts)
 
 -- what is known of the brackets where it stops
 abbrev pub StopFacts : Stop → List Token → Token → Type 0
 StopFacts Unexpected front t = Unit {0}
 StopFacts Nodes front t = Unit {0}
 StopFacts Statements front t = Unit {0}
-StopFacts Nesting front t = (opens (kind t) ≡ 1) × (opened front ≡ closed front + 64)
+StopFacts Nesting front t = (opens (kind t) ≡ 1) × (opened front ≡ closed front + MAX_NESTING)
 
-pub stop_facts : (front : List Token) (t : Token) (more : List Token) (k : Stop) → StopLevel 64 (front ++ t ∷ more) k (t ∷ more)
+pub stop_facts : (front : List Token) (t : Token) (more : List Token) (k : Stop) → StopLevel MAX_NESTING (front ++ t ∷ more) k (t ∷ more)
     → StopFacts k front t
 stop_facts front t more Unexpected n = tt
 stop_facts front t more Nodes n = tt
@@ -121,9 +122,9 @@ stop_facts front t more Nesting n =
     let e : n.0.front ≡ front = append_cancel_right n.0.front front (t ∷ more) (sym n.0.split) in
     (n.1, omega (arith, n.0.net, ap opened e, ap closed e))
 
-pub stop_shallow : (front rest : List Token) (k : Stop) → StopLevel 64 (front ++ rest) k rest → Shallow 64 0 0 front
-stop_shallow front rest k n = let r = reached_of 64 (front ++ rest) k rest n in
-    subst (λ (x : List Token). Shallow 64 0 0 x) (append_cancel_right r.front front rest (sym r.split)) r.shallow
+pub stop_shallow : (front rest : List Token) (k : Stop) → StopLevel MAX_NESTING (front ++ rest) k rest → Shallow MAX_NESTING 0 0 front
+stop_shallow front rest k n = let r = reached_of MAX_NESTING (front ++ rest) k rest n in
+    subst (λ (x : List Token). Shallow MAX_NESTING 0 0 x) (append_cancel_right r.front front rest (sym r.split)) r.shallow
 
 -- what follows the fault changes nothing
 pub same_stop : (front : List Token) (t : Token) (more other : List Token) (k : Stop) → run (front ++ t ∷ more) ≡ Stopped k (t ∷ more)
@@ -140,10 +141,11 @@ tokens_cons u l x = map-append (λ (l : Leaf). l.token) u (l ∷ x)
 
 -- the word is read whole, or the parser stops at one of its leaves
 pub data Run (w : List Leaf) (q : Value) : Type 0 where
-  whole : (d : Counts) → pays Limited no_counts w ≡ Some d → Shallow 64 0 0 (tokens_of w) → run (tokens_of w) ≡ Done q d [] → Run w q
+  whole : (d : Counts) → pays Limited no_counts w ≡ Some d → Shallow MAX_NESTING 0 0 (tokens_of w) → run (tokens_of w) ≡ Done q d []
+      → Run w q
   halts : (k : Stop) (u : List Leaf) (l : Leaf) (x : List Leaf) (d : Counts) → w ≡ u ++ l ∷ x → pays Limited no_counts u ≡ Some d
       → Stops Limited k d l → StopFacts k (tokens_of u) l.token
-      → Shallow 64 0 0 (tokens_of u) → run (tokens_of w) ≡ Stopped k (l.token ∷ tokens_of x) → Run w q
+      → Shallow MAX_NESTING 0 0 (tokens_of u) → run (tokens_of w) ≡ Stopped k (l.token ∷ tokens_of x) → Run w q
 
 pub run_of : (d : ℕ) (w : List Leaf) (q : Value) → Query d w q → Run w q
 run_of d w q h = go ((limited d).complete no_counts w q [] ((deeper_query (depth d) d (depth_le d)).is w q h) refl)
@@ -151,15 +153,16 @@ run_of d w q h = go ((limited d).complete no_counts w q [] ((deeper_query (depth
     nil : run (tokens_of w) ≡ run (tokens_of w ++ [])
     nil = ap run (sym (append-nil (tokens_of w)))
 
-    all : (c : Counts) → run (tokens_of w) ≡ Done q c [] → Shallow 64 0 0 (tokens_of w)
-    all c e = let n = done_level (tokens_of w) q c [] e in subst (λ (x : List Token). Shallow 64 0 0 x) (sym (n.split ∙ append-nil n.front))
+    all : (c : Counts) → run (tokens_of w) ≡ Done q c [] → Shallow MAX_NESTING 0 0 (tokens_of w)
+    all c e = let n = done_level (tokens_of w) q c [] e in subst (λ (x : List Token). Shallow MAX_NESTING 0 0 x)
+        (sym (n.split ∙ append-nil n.front))
         n.shallow
 
     part : (k : Stop) (u : List Leaf) (l : Leaf) (x : List Leaf) (c : Counts) → w ≡ u ++ l ∷ x → pays Limited no_counts u ≡ Some c
         → Stops Limited k c l → run (tokens_of w) ≡ Stopped k (l.token ∷ tokens_of x) → Run w q
     part k u l x c e n i s =
         let ts : tokens_of w ≡ tokens_of u ++ l.token ∷ tokens_of x = ap tokens_of e ∙ tokens_cons u l x in
-        let lv : StopLevel 64 (tokens_of u ++ l.token ∷ tokens_of x) k (l.token ∷ tokens_of x) =
+        let lv : StopLevel MAX_NESTING (tokens_of u ++ l.token ∷ tokens_of x) k (l.token ∷ tokens_of x) =
         stop_level (tokens_of u ++ l.token ∷ tokens_of x) k (l.token ∷ tokens_of x) (ap run (sym ts) ∙ s) in
         halts k u l x c e n i (stop_facts (tokens_of u) l.token (tokens_of x) k lv)
         (stop_shallow (tokens_of u) (l.token ∷ tokens_of x) k lv) s

@@ -4,6 +4,7 @@ use Rattle.std.proofs.Common.{None, refl, sym, ap, subst, ◌∙◌, append_asso
 use Rattle.std.proofs.lemmas.List.{append-nil, map-append, length-append}
 use Rattle.std.proofs.lemmas.Bool.{le-ltb}
 use Rattle.query_lang.specs.declared.token.Token.{Token}
+use Rattle.query_lang.specs.declared.fault.TheConstants.{MAX_NODES, MAX_STATEMENTS}
 use Rattle.query_grammar.specs.declared.stop.Counts.{Counts}
 use Rattle.query_grammar.specs.declared.stop.Stop.{Stop}
 use Rattle.query_grammar.specs.declared.stop.Stop.TheVariants.{Unexpected, Nodes, Statements, Nesting}
@@ -215,9 +216,9 @@ pub fault_found : (k : Stop) (front : List Token) (t : Token) (more : List Token
     → parsed (front ++ t ∷ more) ≡ Stopped k (t ∷ more)
 fault_found Unexpected front t more h = unexpected_at front t more h.0 h.1 h.2 (run (front ++ t ∷ more)) refl
 fault_found Nodes front t more h =
-    let none : charge Limited h.1.role h.0 ≡ None = rw (h.3, le-ltb h.0.nodes 512 h.4) refl in
+    let none : charge Limited h.1.role h.0 ≡ None = rw (h.3, le-ltb h.0.nodes MAX_NODES h.4) refl in
     ap all_read (limit_found Nodes front t more h.1 h.0 h.2 (h.3, none) tt)
 fault_found Statements front t more h =
-    let none : charge Limited h.1.role h.0 ≡ None = rw (h.3, le-ltb h.0.statements 64 h.4) refl in
+    let none : charge Limited h.1.role h.0 ≡ None = rw (h.3, le-ltb h.0.statements MAX_STATEMENTS h.4) refl in
     ap all_read (limit_found Statements front t more h.1 h.0 h.2 (h.3, none) tt)
 fault_found Nesting front t more h = ap all_read (limit_found Nesting front t more h.1 h.0 h.2 h.3 (h.4, h.5))

@@ -6,6 +6,7 @@ use Rattle.query_lang.specs.declared.query.Item.{Item}
 use Rattle.query_lang.specs.declared.token.Mark.TheVariants as marks
 use Rattle.query_lang.specs.declared.token.TokenKind.TheVariants as kinds
 use Rattle.query_lang.specs.declared.token.Token.{Token}
+use Rattle.query_lang.specs.declared.fault.TheConstants.{MAX_NESTING, MAX_NODES, MAX_STATEMENTS}
 use Rattle.query_grammar.specs.declared.stop.Counts.{Counts}
 use Rattle.query_grammar.specs.declared.stop.Stop.{Stop}
 use Rattle.query_grammar.specs.declared.stop.Stop.TheVariants.{Unexpected, Nodes, Statements, Nesting}
@@ -41,7 +42,7 @@ closed (t ∷ ts) = closes (kind t) + closed ts
 -- no bracket would be the 65th that is open at once
 abbrev pub IsShallow : List Token → Type 0
 IsShallow ts = (front more : List Token) (t : Token) → ts ≡ front ++ t ∷ more → opens (kind t) ≡ 1
-    → opened front < closed front + 64
+    → opened front < closed front + MAX_NESTING
 
 -- ---- beginnings of queries
 
@@ -79,14 +80,14 @@ pub record IsGrammatical (front : List Token) (t : Token) (leaf : Leaf) (c : Cou
 abbrev pub StandsAt : Stop → List Token → Token → Type 0
 -- no query's tokens begin with those up to and including t
 StandsAt Unexpected front t = (c : Counts) × IsSound front c × (BeginsQuery (front ++ t ∷ []) → ⊥)
--- t is grammatical there, and is a node after 512 others of its item
-StandsAt Nodes front t = (c : Counts) × (leaf : Leaf) × IsGrammatical front t leaf c × (leaf.role ≡ Node) × (512 ≤ c.nodes)
--- t is grammatical there, and begins a statement after 64 others of its fold
+-- t is grammatical there, and is a node after MAX_NODES others of its item
+StandsAt Nodes front t = (c : Counts) × (leaf : Leaf) × IsGrammatical front t leaf c × (leaf.role ≡ Node) × (MAX_NODES ≤ c.nodes)
+-- t is grammatical there, and begins a statement after MAX_STATEMENTS others of its fold
 StandsAt Statements front t = (c : Counts) × (leaf : Leaf) × IsGrammatical front t leaf c × (leaf.role ≡ Statement)
-    × (64 ≤ c.statements)
+    × (MAX_STATEMENTS ≤ c.statements)
 -- t is grammatical there, and is a bracket that would be the 65th open at once
 StandsAt Nesting front t = (c : Counts) × (leaf : Leaf) × IsGrammatical front t leaf c × (leaf.role ≡ Plain)
-    × (opens (kind t) ≡ 1) × (opened front ≡ closed front + 64)
+    × (opens (kind t) ≡ 1) × (opened front ≡ closed front + MAX_NESTING)
 
 -- ---- what parsing says
 

@@ -88,12 +88,12 @@ abbrev pub name : Token → Option Name
 name t = name_of t.kind t.span
 
 -- a number
-abbrev pub number_of : TokenKind → Span → Option (ℕ × Span)
-number_of (kinds.Number n) span = Some (n, span)
-number_of _ span = None
+abbrev pub token_number : TokenKind → Span → Option (ℕ × Span)
+token_number (kinds.Number n) span = Some (n, span)
+token_number _ span = None
 
 abbrev pub number : Token → Option (ℕ × Span)
-number t = number_of t.kind t.span
+number t = token_number t.kind t.span
 
 -- one of these operators or functions
 abbrev pub operator : List (TokenKind × Op) → Token → Option (Op × Span)

@@ -3,6 +3,7 @@ use Rattle.std.specs.Prelude.{ℕ, zero, suc, ◌+◌, Bool, false, List, [], �
 use Rattle.std.specs.Prelude.{if◌then◌else◌, ◌⊎◌}
 use Rattle.std.proofs.Common.{inl, inr}
 use Rattle.query_lang.specs.declared.token.Token.{Token}
+use Rattle.query_lang.specs.declared.fault.TheConstants.{MAX_NODES, MAX_STATEMENTS}
 use Rattle.query_grammar.specs.declared.stop.Counts.{Counts}
 use Rattle.query_grammar.specs.declared.stop.Stop.{Stop}
 use Rattle.query_grammar.specs.declared.stop.Stop.TheVariants.{Unexpected, Nodes, Statements}
@@ -17,8 +18,9 @@ pub data Limits : Type 0 where
 abbrev pub charge : Limits → Role → Counts → Option Counts
 charge m Plain c = Some c
 charge m Opening c = Some (record { nodes = 0; statements = 0 })
-charge Limited Node c = if nat_lt c.nodes 512 then Some (record { nodes = c.nodes + 1; statements = c.statements }) else None
-charge Limited Statement c = if nat_lt c.statements 64 then Some (record { nodes = c.nodes; statements = c.statements + 1 }) else None
+charge Limited Node c = if nat_lt c.nodes MAX_NODES then Some (record { nodes = c.nodes + 1; statements = c.statements }) else None
+charge Limited Statement c = if nat_lt c.statements MAX_STATEMENTS then Some (record { nodes = c.nodes; statements = c.statements + 1 })
+    else None
 charge Unlimited Node c = Some c
 charge Unlimited Statement c = Some c
 

@@ -21,6 +21,7 @@ use Rattle.query_lang.specs.declared.token.Mark.TheVariants as marks
 use Rattle.query_lang.specs.declared.token.TokenKind.{TokenKind}
 use Rattle.query_lang.specs.declared.token.TokenKind.TheVariants as kinds
 use Rattle.query_lang.specs.declared.token.Token.{Token}
+use Rattle.query_lang.specs.declared.fault.TheConstants.{MAX_NESTING}
 use Rattle.query_grammar.specs.declared.stop.Stop.TheVariants.{Unexpected, Nesting}
 use Rattle.query_grammar.specs.Language.{Plain, Node, Statement, Opening}
 use Rattle.query_grammar.specs.Kinds.{among, is, name, number, operator, kinds_of, sign, keyword}
@@ -263,7 +264,7 @@ all_read (Done a c []) = Done a c []
 all_read (Done a c (t ∷ ts)) = Stopped Unexpected (t ∷ ts)
 all_read (Stopped k ts) = Stopped k ts
 
--- What parsing gives. At most 64 brackets are open at once, one of which is that of a fold's body or of a filter, and two are those
--- of a map's columns.
+-- What parsing gives. At most MAX_NESTING brackets are open at once, one of which is that of a fold's body or of a filter, and
+-- two are those of a map's columns.
 abbrev pub parsed : List Token → Outcome (List Item × Span)
-parsed ts = all_read (query Limited 63 62 no_counts ts)
+parsed ts = all_read (query Limited (MAX_NESTING - 1) (MAX_NESTING - 2) no_counts ts)

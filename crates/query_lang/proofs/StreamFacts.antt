@@ -10,7 +10,7 @@ use Rattle.query_lang.specs.declared.typed.TypedStream.{TypedStream}
 use Rattle.query_lang.specs.Words.{holds, op_value}
 use Rattle.query_lang.specs.Terms.{Term, Literal, Read, Operation}
 use Rattle.query_lang.specs.Folds.{term_value}
-use Rattle.query_lang.specs.Streams.{Tuple, numbered, values_at, holds_at, filter_stream, made_of, list_at}
+use Rattle.query_lang.specs.Streams.{Tuple, numbered, values_at, holds_at, filter_stream, made_of, tuples_at}
 use Rattle.query_lang.specs.StreamExamples.{three_packets, tuple, FilterExample, MapExample, ZipExample, GroupExample}
 
 pub filter_example : FilterExample
@@ -36,7 +36,7 @@ unfolding op_value
 group_example q f first second emit below parts emits starts groups filters emit_is below_is =
     let packets = numbered 1 three_packets in
     let whole : List TypedFold → List TypedStream → List Tuple = λ folds streams.
-    list_at (fold (λ made one. made ++ made_of folds made one.op ∷ []) (packets ∷ []) streams) 2 in
+    tuples_at (fold (λ made one. made ++ made_of folds made one.op ∷ []) (packets ∷ []) streams) 2 in
     let two : TypedOp → TypedOp → List Tuple = λ a b.
     made_of (f ∷ []) (packets ∷ made_of (f ∷ []) (packets ∷ []) a ∷ []) b in
     let keys : Option TypedExpr → List ℕ → List Tuple = λ o start.

@@ -10,6 +10,7 @@ use Rattle.query_lang.specs.declared.query.Query.{Query}
 use Rattle.query_lang.specs.declared.query.StreamOp.{StreamOp}
 use Rattle.query_lang.specs.declared.query.StreamOp.TheVariants as stream
 use Rattle.query_lang.specs.TypedFolds.{expr_nodes, fold_nodes, fold_statements}
+use Rattle.query_lang.specs.declared.fault.TheConstants.{MAX_NODES, MAX_STATEMENTS}
 
 abbrev pub columns_nodes : List Column → ℕ
 columns_nodes columns = sum_by (λ column. expr_nodes column.value) columns
@@ -27,11 +28,11 @@ final_nodes (final.Group input keys f) = 0
 final_nodes (final.Join left right) = 0
 final_nodes (final.Top input column kept span) = 0
 
--- an item has at most 512 nodes, and a fold at most 64 statements
+-- an item has at most MAX_NODES nodes, and a fold at most MAX_STATEMENTS statements
 abbrev pub KeepsLimits : Item → Type 0
-KeepsLimits (item.Fold d) = (fold_nodes d ≤ 512) × (fold_statements d ≤ 64)
-KeepsLimits (item.Stream d) = stream_nodes d.op ≤ 512
-KeepsLimits (item.Final d) = final_nodes d.op ≤ 512
+KeepsLimits (item.Fold d) = (fold_nodes d ≤ MAX_NODES) × (fold_statements d ≤ MAX_STATEMENTS)
+KeepsLimits (item.Stream d) = stream_nodes d.op ≤ MAX_NODES
+KeepsLimits (item.Final d) = final_nodes d.op ≤ MAX_NODES
 KeepsLimits (item.Print name) = Unit {0}
 
 abbrev pub AreNumbered : ℕ → List Column → Type 0

@@ -57,15 +57,15 @@ group_stream (Some f) keys args input =
     map (λ t. record { packet = t.packet; row = values_at t.row keys }) (filter (λ t. emits_at f (values_at t.row args)) input)
 
 -- the stream with this number, of streams in order
-abbrev pub list_at : List (List Tuple) → ℕ → List Tuple
-list_at streams number = unwrap_or (slice_get streams number) []
+abbrev pub tuples_at : List (List Tuple) → ℕ → List Tuple
+tuples_at streams number = unwrap_or (slice_get streams number) []
 
 -- what an operator makes of the streams before it
 abbrev pub made_of : List TypedFold → List (List Tuple) → TypedOp → List Tuple
-made_of folds streams (Filter input condition) = filter_stream condition (list_at streams input)
-made_of folds streams (Map input values) = map_stream values (list_at streams input)
-made_of folds streams (Zip left right slots) = zip_stream slots (list_at streams left) (list_at streams right)
-made_of folds streams (Group input keys f args) = group_stream (slice_get folds f) keys args (list_at streams input)
+made_of folds streams (Filter input condition) = filter_stream condition (tuples_at streams input)
+made_of folds streams (Map input values) = map_stream values (tuples_at streams input)
+made_of folds streams (Zip left right slots) = zip_stream slots (tuples_at streams left) (tuples_at streams right)
+made_of folds streams (Group input keys f args) = group_stream (slice_get folds f) keys args (tuples_at streams input)
 
 -- all streams in order: the packets, numbered from 1, and then what each operator makes
 abbrev pub all_streams : TypedQuery → List (List ℕ) → List (List Tuple)
@@ -73,7 +73,7 @@ all_streams q packets = fold (λ streams one. streams ++ made_of q.folds streams
 
 -- The stream with this number, where each packet is the list of its fields' words.
 abbrev pub stream : TypedQuery → ℕ → List (List ℕ) → List Tuple
-stream q number packets = list_at (all_streams q packets) number
+stream q number packets = tuples_at (all_streams q packets) number
 
 -- what a groupby takes: a stream, the slots of its keys, a fold, and the slots of the fold's arguments
 pub record Taking : Type 0 where

@@ -68,15 +68,16 @@ abbrev pub call_of : Op → Span → List Found → Checked Found
 call_of op span (a ∷ b ∷ []) = of_two op span a b
 call_of op span _ = refused WrongArity span
 
-abbrev pub negated : Span → Found → Checked Found
-negated span e = must (is_condition_sort e.sort) WrongKind e.at (Ok (record { tree = typed.Not e.tree; sort = Condition; at = span }))
+abbrev pub negation_checked : Span → Found → Checked Found
+negation_checked span e = must (is_condition_sort e.sort) WrongKind e.at
+    (Ok (record { tree = typed.Not e.tree; sort = Condition; at = span }))
 
 -- one expression, with what each expression inside gives: the operands first, from left to right, and then the node
 abbrev pub expr_step : List ℕ → List ℕ → expr.Expr-F (Checked Found) → Checked Found
 expr_step columns hidden (expr.Number n span) = Ok (record { tree = typed.Number n; sort = Number n; at = span })
 expr_step columns hidden (expr.Named name) =
     and_then (slot_of columns hidden name) (λ slot. Ok (record { tree = typed.Slot slot; sort = Word; at = name.span }))
-expr_step columns hidden (expr.Not span e) = and_then e (negated span)
+expr_step columns hidden (expr.Not span e) = and_then e (negation_checked span)
 expr_step columns hidden (expr.Binary op span a b) = and_then a (λ x. and_then b (λ y. of_two op x.at x y))
 expr_step columns hidden (expr.Call op span arguments) = and_then (collected [] arguments) (call_of op span)
 

@@ -20,21 +20,22 @@ use Rattle.query_lang.specs.declared.typing.Enclosing.{Enclosing}
 use Rattle.query_lang.specs.declared.typing.Body.{Body}
 use Rattle.query_lang.specs.Checks.{Checked, refused, and_then, must, must_not, is_among, place_of}
 use Rattle.query_lang.specs.TypedExprs.{condition_of, word_of}
+use Rattle.query_lang.specs.declared.fault.TheConstants.{MAX_ARGS, MAX_STATES}
 
--- each state variable is new, and there are at most 8
+-- each state variable is new, and there are at most MAX_STATES
 abbrev pub states_from : List ℕ → List StateVar → Checked (List ℕ)
 states_from found [] = Ok found
 states_from found (state ∷ rest) =
     must_not (is_among state.name.id found) NameTaken state.name.span (
-    must (nat_lt (length found) 8) (OverLimit States) state.name.span (
+    must (nat_lt (length found) MAX_STATES) (OverLimit States) state.name.span (
     states_from (found ++ state.name.id ∷ []) rest))
 
--- each argument is no variable and new, and there are at most 16
+-- each argument is no variable and new, and there are at most MAX_ARGS
 abbrev pub args_from : List ℕ → List ℕ → List Name → Checked (List ℕ)
 args_from states found [] = Ok found
 args_from states found (arg ∷ rest) =
     must_not (is_among arg.id states || is_among arg.id found) NameTaken arg.span (
-    must (nat_lt (length found) 16) (OverLimit Args) arg.span (
+    must (nat_lt (length found) MAX_ARGS) (OverLimit Args) arg.span (
     args_from states (found ++ arg.id ∷ []) rest))
 
 -- an assignment's target is a state variable

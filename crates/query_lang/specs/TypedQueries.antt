@@ -2,6 +2,7 @@
 -- are kept.
 use Rattle.std.specs.Prelude.{◌≡◌, ℕ, zero, suc, ◌+◌, ◌-◌, ◌<◌, ◌≤◌, true, false, List, [], ◌∷◌}
 use Rattle.std.specs.Prelude.{◌++◌, length, map, sum_by, All, slice_get, Option, Some, None, option_map, unwrap_or}
+use Rattle.marple_base.specs.declared.field.TheConstants.{FIELDS}
 use Rattle.query_lang.specs.declared.fold.TypedExpr.{TypedExpr}
 use Rattle.query_lang.specs.declared.fold.TypedFold.{TypedFold}
 use Rattle.query_lang.specs.declared.typed.PrintOf.{PrintOf}
@@ -16,10 +17,11 @@ use Rattle.query_lang.specs.declared.typed.TypedStream.{TypedStream}
 use Rattle.query_lang.specs.Terms.{term_of}
 use Rattle.query_lang.specs.Folds.{IsValidTerm, is_condition, term_nodes, IsValidFold, fold_states, fold_args}
 use Rattle.query_lang.specs.Streams.{Taking, takings}
+use Rattle.query_lang.specs.declared.fault.TheConstants.{MAX_BINDINGS, MAX_GROUPBYS, MAX_KEYS, MAX_NODES}
 
 -- an expression over a row of this many slots
 abbrev pub IsValidExpr : ℕ → TypedExpr → Type 0
-IsValidExpr slots e = IsValidTerm slots (term_of e) × (term_nodes (term_of e) ≤ 512)
+IsValidExpr slots e = IsValidTerm slots (term_of e) × (term_nodes (term_of e) ≤ MAX_NODES)
 
 abbrev pub IsValidCondition : ℕ → TypedExpr → Type 0
 IsValidCondition slots e = IsValidExpr slots e × (is_condition (term_of e) ≡ true)
@@ -29,7 +31,7 @@ IsValidWord slots e = IsValidExpr slots e × (is_condition (term_of e) ≡ false
 
 -- the new columns of one `map`
 abbrev pub AreValidWords : ℕ → List TypedExpr → Type 0
-AreValidWords slots values = All (IsValidWord slots) values × (sum_by (λ e. term_nodes (term_of e)) values ≤ 512)
+AreValidWords slots values = All (IsValidWord slots) values × (sum_by (λ e. term_nodes (term_of e)) values ≤ MAX_NODES)
 
 abbrev pub AreSlots : ℕ → List ℕ → Type 0
 AreSlots slots list = All (λ slot. slot < slots) list
@@ -38,14 +40,14 @@ AreSlots slots list = All (λ slot. slot < slots) list
 pub record IsValidGroup (folds : List TypedFold) (slots : ℕ) (keys : List ℕ) (fold_number : ℕ) (args : List ℕ) : Type 0 where
   pub keys_are_slots : AreSlots slots keys
   pub some_keys : 0 < length keys
-  pub most_keys : length keys ≤ 8
+  pub most_keys : length keys ≤ MAX_KEYS
   pub is_fold : fold_number < length folds
   pub args_are_slots : AreSlots slots args
   pub all_args : option_map fold_args (slice_get folds fold_number) ≡ Some (length args)
 
--- how many slots a row of the stream with this number has: the packets' stream has 14
+-- how many slots a row of the stream with this number has: the packets' stream has one for each field
 abbrev pub stream_width : List TypedStream → ℕ → ℕ
-stream_width streams zero = 14
+stream_width streams zero = FIELDS
 stream_width streams (suc i) = unwrap_or (option_map (λ one. length one.columns) (slice_get streams i)) 0
 
 -- an operator on the streams before it, which makes rows of this many slots
@@ -133,9 +135,9 @@ AreValidFinals names folds tables [] = Unit {0}
 AreValidFinals names folds tables (one ∷ rest) = IsValidFinal names folds tables one
     × AreValidFinals names folds (tables ++ final_shape one ∷ []) rest
 
-abbrev pub IsTable : TypedQuery → PrintOf → Type 0
-IsTable q (printed.Group number) = number < length (takings q.streams)
-IsTable q (printed.Final number) = number < length q.finals
+abbrev pub IsQueryTable : TypedQuery → PrintOf → Type 0
+IsQueryTable q (printed.Group number) = number < length (takings q.streams)
+IsQueryTable q (printed.Final number) = number < length q.finals
 
 -- the numbers of names that a fold has
 pub record HasNames (names : ℕ) (f : TypedFold) : Type 0 where
@@ -148,6 +150,6 @@ pub record IsValidQuery (q : TypedQuery) : Type 0 where
   pub fold_names : All (HasNames (length q.names)) q.folds
   pub streams : AreValidStreams (length q.names) q.folds [] q.streams
   pub finals : AreValidFinals (length q.names) q.folds (shapes q.folds q.streams []) q.finals
-  pub prints : All (IsTable q) q.prints
-  pub most_bindings : length q.streams + length q.finals ≤ 32
-  pub most_groupbys : length (takings q.streams) ≤ 8
+  pub prints : All (IsQueryTable q) q.prints
+  pub most_bindings : length q.streams + length q.finals ≤ MAX_BINDINGS
+  pub most_groupbys : length (takings q.streams) ≤ MAX_GROUPBYS

@@ -29,17 +29,18 @@ use Rattle.query_lang.specs.declared.typing.Picked.{Picked}
 use Rattle.query_lang.specs.declared.typing.StreamColumn.{StreamColumn}
 use Rattle.query_lang.specs.Checks.{Checked, refused, and_then, must, must_not, collected, is_among}
 use Rattle.query_lang.specs.TypedExprs.{slot_of, condition_of, word_of}
+use Rattle.query_lang.specs.declared.fault.TheConstants.{MAX_BINDINGS, MAX_GROUPBYS, MAX_KEYS}
 
 -- what a name denotes, of the names that earlier items have
 abbrev pub meaning_of : List Known → ℕ → Option Meaning
 meaning_of [] id = None
 meaning_of (one ∷ rest) id = if nat_eq one.name id then Some one.meaning else meaning_of rest id
 
--- A new stream or final. Its name is free, and there are at most 32 of them.
+-- A new stream or final. Its name is free, and there are at most MAX_BINDINGS of them.
 abbrev pub begun : Earlier → Name → Checked (Unit {0})
 begun earlier name =
     must_not (is_some (meaning_of earlier.known name.id)) NameTaken name.span (
-    must (nat_lt (length earlier.streams + length earlier.finals) 32) (OverLimit Bindings) name.span (Ok tt))
+    must (nat_lt (length earlier.streams + length earlier.finals) MAX_BINDINGS) (OverLimit Bindings) name.span (Ok tt))
 
 -- a name that has to denote a stream
 abbrev pub as_stream : Option Meaning → Span → Checked StreamView
@@ -105,13 +106,13 @@ abbrev pub key_names : List ℕ → Key → List Name
 key_names five (Named name) = name ∷ []
 key_names five (FiveTuple span) = map (λ id. record { id = id; span = span }) five
 
--- Each key in turn: it is a column, it is new, and there are at most 8.
+-- Each key in turn: it is a column, it is new, and there are at most MAX_KEYS.
 abbrev pub keys_from : List ℕ → List ℕ → Picked → List Name → Checked Picked
 keys_from columns hidden found [] = Ok found
 keys_from columns hidden found (key ∷ rest) =
     and_then (slot_of columns hidden key) (λ slot.
     must_not (is_among key.id found.names) NameTaken key.span (
-    must (nat_lt (length found.names) 8) (OverLimit Keys) key.span (
+    must (nat_lt (length found.names) MAX_KEYS) (OverLimit Keys) key.span (
     keys_from columns hidden (record { names = found.names ++ key.id ∷ []; slots = found.slots ++ slot ∷ [] }) rest)))
 
 abbrev pub keys_checked : List ℕ → List ℕ → List ℕ → List Key → Checked Picked
@@ -174,13 +175,13 @@ grouped five earlier input keys fold_name =
       table = Some (record { place = place.Group earlier.groups; columns = picked.names ++ f.states; keys = length picked.names });
     })))))
 
--- what the operator of the stream with this name makes; there are at most 8 groupbys
+-- what the operator of the stream with this name makes; there are at most MAX_GROUPBYS groupbys
 abbrev pub made_stream : List ℕ → Earlier → Name → StreamOp → Checked MadeStream
 made_stream five earlier name (ops.Filter input e) = filtered earlier input e
 made_stream five earlier name (ops.Map input columns) = mapped earlier input columns
 made_stream five earlier name (ops.Zip first second) = zipped earlier first second
 made_stream five earlier name (ops.Group input keys fold_name) =
-    must (nat_lt earlier.groups 8) (OverLimit Groupbys) name.span (grouped five earlier input keys fold_name)
+    must (nat_lt earlier.groups MAX_GROUPBYS) (OverLimit Groupbys) name.span (grouped five earlier input keys fold_name)
 
 -- with one more stream
 abbrev pub with_stream : Earlier → Name → MadeStream → Earlier

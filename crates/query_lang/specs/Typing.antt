@@ -23,6 +23,7 @@ use Rattle.query_lang.specs.Checks.{Checked, and_then, must, must_not, is_among}
 use Rattle.query_lang.specs.TypedFolds.{fold_checked}
 use Rattle.query_lang.specs.TypedStreams.{meaning_of, stream_checked}
 use Rattle.query_lang.specs.TypedFinals.{table_named, five_fields, final_checked}
+use Rattle.query_lang.specs.declared.fault.TheConstants.{MAX_GROUPBYS}
 
 -- with one more fold
 abbrev pub with_fold : Earlier → TypedFold → Earlier
@@ -79,7 +80,7 @@ is_groupby _ = false
 
 -- what is known from the start, where the names are these and those of all fields; a ninth groupby is refused
 abbrev pub given_of : List (List ℕ) → List Item → Given
-given_of names items = record { fields = field_numbers names; groups = min (count_by is_groupby items) 8 }
+given_of names items = record { fields = field_numbers names; groups = min (count_by is_groupby items) MAX_GROUPBYS }
 
 -- The stream of all packets, whose columns are the fields, is there from the start.
 abbrev pub start_of : List (List ℕ) → Earlier

@@ -3,6 +3,33 @@
 /// The most bytes of a query.
 pub const MAX_QUERY: usize = 65_536;
 
+/// The most groupbys while packets pass.
+pub const MAX_GROUPBYS: u16 = 8;
+
+/// The most keys of a groupby.
+pub const MAX_KEYS: usize = 8;
+
+/// The most state variables of a fold.
+pub const MAX_STATES: usize = 8;
+
+/// The most arguments of a fold.
+pub const MAX_ARGS: usize = 16;
+
+/// The most statements of a fold.
+pub const MAX_STATEMENTS: u32 = 64;
+
+/// The most nodes of an item.
+pub const MAX_NODES: u32 = 512;
+
+/// The most streams and finals together.
+pub const MAX_BINDINGS: usize = 32;
+
+/// The most brackets that are open at once.
+pub const MAX_NESTING: u32 = 64;
+
+/// The most stages of a stream's operations.
+pub const MAX_STAGES: u32 = 64;
+
 /// Bytes of the text, from `start` up to `end`.
 #[derive(Clone, Copy, Debug, PartialEq, Eq)]
 pub struct Span {

@@ -16,7 +16,10 @@ pub mod typing;
 
 pub use error::QueryError;
 pub use eval::eval_expr;
-pub use fault::{FaultKind, Limit, MAX_QUERY, QueryFault, Span};
+pub use fault::{
+    FaultKind, Limit, MAX_ARGS, MAX_BINDINGS, MAX_GROUPBYS, MAX_KEYS, MAX_NESTING, MAX_NODES,
+    MAX_QUERY, MAX_STAGES, MAX_STATEMENTS, MAX_STATES, QueryFault, Span,
+};
 pub use fold::{Op, TypedExpr, TypedFold, TypedStmt};
 pub use names::Names;
 pub use query::{

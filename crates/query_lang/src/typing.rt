@@ -166,7 +166,7 @@ pub struct Earlier {
     pub printed: Seq<u32>,
 }
 
-/// What is known of the whole query from the start: the fields' names by number, and how many groupbys there are, at most 8.
+/// What is known of the whole query from the start: the fields' names by number, and how many groupbys there are, at most `MAX_GROUPBYS`.
 #[derive(Drop)]
 pub struct Given {
     pub fields: Seq<u32>,

@@ -10,7 +10,7 @@ use Rattle.query_lang.specs.declared.typed.TypedOp.TheVariants.{Filter, Map, Zip
 use Rattle.query_lang.specs.declared.typed.TypedQuery.{TypedQuery}
 use Rattle.query_lang.specs.declared.typed.TypedStream.{TypedStream}
 use Rattle.query_lang.specs.Words.{holds}
-use Rattle.query_lang.specs.Streams.{Tuple, numbered, values_at, expr_value, emits_at, zip_stream, group_stream, list_at, made_of, stream}
+use Rattle.query_lang.specs.Streams.{Tuple, numbered, values_at, expr_value, emits_at, zip_stream, group_stream, tuples_at, made_of, stream}
 use Rattle.query_laws.specs.TupleLaws.{packet_numbers}
 
 -- the packets' numbers rise from this one on, and stay below that one
@@ -66,7 +66,7 @@ abbrev AllRise : ℕ → List (List Tuple) → Type 0
 AllRise end [] = Unit {0}
 AllRise end (one ∷ streams) = Rises 1 end one × AllRise end streams
 
-rise_at : (end : ℕ) (streams : List (List Tuple)) (number : ℕ) → AllRise end streams → Rises 1 end (list_at streams number)
+rise_at : (end : ℕ) (streams : List (List Tuple)) (number : ℕ) → AllRise end streams → Rises 1 end (tuples_at streams number)
 rise_at end [] number h = tt
 rise_at end (one ∷ streams) zero h = h.0
 rise_at end (one ∷ streams) (suc number) h = rise_at end streams number h.1
@@ -79,13 +79,13 @@ rise_last end (first ∷ streams) one h k = (h.0, rise_last end streams one h.1 
 made_rises : (folds : List TypedFold) (end : ℕ) (streams : List (List Tuple)) (op : TypedOp) → AllRise end streams
     → Rises 1 end (made_of folds streams op)
 made_rises folds end streams (Filter input condition) h =
-    filter_rises (λ t. holds (expr_value condition t.row)) 1 end (list_at streams input) (rise_at end streams input h)
+    filter_rises (λ t. holds (expr_value condition t.row)) 1 end (tuples_at streams input) (rise_at end streams input h)
 made_rises folds end streams (Map input values) h =
-    map_rises (λ t. t.row ++ map (λ e. expr_value e t.row) values) 1 end (list_at streams input) (rise_at end streams input h)
+    map_rises (λ t. t.row ++ map (λ e. expr_value e t.row) values) 1 end (tuples_at streams input) (rise_at end streams input h)
 made_rises folds end streams (Zip left right slots) h =
-    zip_rises slots (list_at streams right) 1 end (list_at streams left) (rise_at end streams left h)
+    zip_rises slots (tuples_at streams right) 1 end (tuples_at streams left) (rise_at end streams left h)
 made_rises folds end streams (Group input keys f args) h =
-    group_rises (slice_get folds f) keys args 1 end (list_at streams input) (rise_at end streams input h)
+    group_rises (slice_get folds f) keys args 1 end (tuples_at streams input) (rise_at end streams input h)
 
 rise_along : (folds : List TypedFold) (end : ℕ) (list : List TypedStream) (streams : List (List Tuple)) → AllRise end streams
     → AllRise end (fold (λ streams one. streams ++ made_of folds streams one.op ∷ []) streams list)

@@ -15,7 +15,7 @@ use Rattle.query_lang.specs.declared.typing.Sort.{Sort}
 use Rattle.query_lang.specs.declared.typing.Sort.TheVariants as sort
 use Rattle.query_lang.specs.Checks.{Checked, and_then, collected, is_among}
 use Rattle.query_lang.specs.TypedExprs.{slot_at, is_condition_sort, is_operand, is_number_with, is_right_constant, sort_of, of_two, call_of}
-use Rattle.query_lang.specs.TypedExprs.{negated, expr_step, expr_checked, condition_of, word_of}
+use Rattle.query_lang.specs.TypedExprs.{negation_checked, expr_step, expr_checked, condition_of, word_of}
 use Rattle.query_laws.specs.ExprRules.{Kind, Word, Condition, operand_kind, IsNumberWith, IsRightOperand, HasKind, of_number, of_name}
 use Rattle.query_laws.specs.ExprRules.{of_not, of_binary, of_call}
 use Rattle.query_laws.proofs.Steps.{must_holds, same_ok, then_next, stands_place}
@@ -33,7 +33,7 @@ named_is columns hidden x = ap (expr_checked columns hidden) (sym (rolls-Named x
     ∙ fold-roll-Expr (Checked Found) (expr_step columns hidden) (expr.Named x)
 
 pub not_is : (columns hidden : List ℕ) (span : Span) (e : Expr) → expr_checked columns hidden (whole.Not span e) ≡ and_then
-    (expr_checked columns hidden e) (negated span)
+    (expr_checked columns hidden e) (negation_checked span)
 not_is columns hidden span e = ap (expr_checked columns hidden) (sym (rolls-Not span e))
     ∙ fold-roll-Expr (Checked Found) (expr_step columns hidden) (expr.Not span e)
 
@@ -122,7 +122,8 @@ complete columns hidden _ _ _ (of_not span e t h) =
     let x = complete columns hidden _ _ _ h in
     record {
       found = record { tree = typed.Not x.found.tree; sort = sort.Condition; at = span };
-      is = not_is columns hidden span e ∙ then_next _ (negated span) x.found x.is ∙ must_holds _ _ _ _ (kind_condition x.found.sort x.kind);
+      is = not_is columns hidden span e ∙ then_next _ (negation_checked span) x.found x.is
+          ∙ must_holds _ _ _ _ (kind_condition x.found.sort x.kind);
       tree = ap typed.Not x.tree;
       kind = refl;
     }

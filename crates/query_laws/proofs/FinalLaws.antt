@@ -22,7 +22,7 @@ use Rattle.query_lang.specs.TypedExprs.{slot_of, condition_of}
 use Rattle.query_lang.specs.TypedStreams.{fold_named, new_columns, no_new_columns, keys_checked, arguments_of}
 use Rattle.query_lang.specs.TypedFinals.{table_named, table_number, five_fields, final_filter, final_map, quiet_fold, final_group}
 use Rattle.query_lang.specs.TypedFinals.{key_columns, other_columns, final_join, final_top, made_final}
-use Rattle.query_laws.specs.StreamRules.{HasColumns, HasArguments, key_ids}
+use Rattle.query_laws.specs.StreamRules.{HasTypedColumns, HasArguments, key_ids}
 use Rattle.query_laws.specs.FinalRules.{OfFilter, OfMap, OfGroup, OfJoin, OfTop, HasFinal}
 use Rattle.query_laws.proofs.Steps.{must_ok, must_not_ok, must_holds, must_not_holds, same_ok, found_first, then_next, nat_same, nat_is}
 use Rattle.query_laws.proofs.ExprSound.{slot_stands, condition_sound}
@@ -88,7 +88,7 @@ map_sound groups earlier input cs made is =
     let source = found_first (table_named earlier.known input) _ made is in
     let n = found_first (new_columns source.0.columns [] no_new_columns cs) _ made source.2 in
     let c = columns_sound source.0.columns [] cs no_new_columns n.0 n.1 in
-    let N : List ℕ → Type 0 = λ z. HasColumns source.0.columns z cs c.0 in
+    let N : List ℕ → Type 0 = λ z. HasTypedColumns source.0.columns z cs c.0 in
     record {
       source = source.0;
       values = c.0;
@@ -100,7 +100,7 @@ map_sound groups earlier input cs made is =
 map_complete : (groups : ℕ) (earlier : Earlier) (input : Name) (cs : List Column) (made : MadeFinal)
     → OfMap groups earlier.known input cs made → final_map groups earlier input cs ≡ Ok made
 map_complete groups earlier input cs made h =
-    let N : List ℕ → Type 0 = λ z. HasColumns h.source.columns z cs h.values in
+    let N : List ℕ → Type 0 = λ z. HasTypedColumns h.source.columns z cs h.values in
     then_next _ _ h.source (table_complete earlier.known input h.source h.table)
     ∙ then_next _ _ _ (columns_complete h.source.columns [] cs h.values no_new_columns
     (subst N (sym (append-nil h.source.columns)) h.typed)) ∙ ok _ _ (sym h.is)

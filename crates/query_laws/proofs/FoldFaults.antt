@@ -11,6 +11,7 @@ use Rattle.query_lang.specs.declared.query.StateVar.{StateVar}
 use Rattle.query_lang.specs.declared.typing.Known.{Known}
 use Rattle.query_lang.specs.Checks.{and_then, is_among}
 use Rattle.query_lang.specs.TypedFolds.{states_from, args_from, body_checked, fold_checked}
+use Rattle.query_lang.specs.declared.fault.TheConstants.{MAX_ARGS, MAX_STATES}
 use Rattle.query_laws.specs.Asked.{FoldAsks, of_state, of_states, of_arg, of_args, of_statement, of_emits, ids_of}
 use Rattle.query_laws.specs.Demands.{New, Fewer, OneEmit}
 use Rattle.query_laws.specs.FoldRules.{IsNew, state_names_of, arg_names_of}
@@ -44,11 +45,11 @@ states_told d front (s ∷ ss) found known fault split same e =
       tells = told known (New (ids front) s.name.id s.name.span) NameTaken s.name.span fault at
           (refl, λ fresh. not_new s.name.id found among (subst N (sym same) fresh));
     }) (λ none e.
-    by_must (nat_lt (length found) 8) (OverLimit States) s.name.span _ fault e (λ full at. record {
+    by_must (nat_lt (length found) MAX_STATES) (OverLimit States) s.name.span _ fault e (λ full at. record {
       demand = Fewer States (length front) s.name.span;
       asks = of_states front s ss split;
       tells = told known (Fewer States (length front) s.name.span) (OverLimit States) s.name.span fault at
-          (refl, refl, at_least (length found) (length front) 8 (ap length same ∙ states_long front) full);
+          (refl, refl, at_least (length found) (length front) MAX_STATES (ap length same ∙ states_long front) full);
     }) (λ few e.
     states_told d (front ++ s ∷ []) ss (found ++ s.name.id ∷ []) known fault (split ∙ sym (append_assoc front (s ∷ []) ss))
     (ap (λ (z : List ℕ). z ++ s.name.id ∷ []) same ∙ sym (state_last front s)) e))
@@ -68,11 +69,11 @@ args_told d front (a ∷ args) found known fault split same e =
             (subst N (sym same) fresh),
       );
     }) (λ none e.
-    by_must (nat_lt (length found) 16) (OverLimit Args) a.span _ fault e (λ full at. record {
+    by_must (nat_lt (length found) MAX_ARGS) (OverLimit Args) a.span _ fault e (λ full at. record {
       demand = Fewer Args (length front) a.span;
       asks = of_args front a args split;
       tells = told known (Fewer Args (length front) a.span) (OverLimit Args) a.span fault at
-          (refl, refl, at_least (length found) (length front) 16 (ap length same ∙ ids_long front) full);
+          (refl, refl, at_least (length found) (length front) MAX_ARGS (ap length same ∙ ids_long front) full);
     }) (λ few e.
     args_told d (front ++ a ∷ []) args (found ++ a.id ∷ []) known fault (split ∙ sym (append_assoc front (a ∷ []) args))
     (ap (λ (z : List ℕ). z ++ a.id ∷ []) same ∙ sym (ids_last front a)) e))

@@ -17,6 +17,7 @@ use Rattle.query_lang.specs.Folds.{ReadsArguments}
 use Rattle.query_lang.specs.Checks.{Checked, is_among}
 use Rattle.query_lang.specs.TypedFolds.{states_from, args_from, or_else, state_step, state_in}
 use Rattle.query_lang.proofs.TreeLemmas.{term_number, term_slot, term_not, term_binary}
+use Rattle.query_lang.specs.declared.fault.TheConstants.{MAX_ARGS, MAX_STATES}
 use Rattle.query_laws.specs.ExprRules.{Kind, StandsAt, HasKind, of_number, of_name, of_not, of_binary, of_call}
 use Rattle.query_laws.specs.FoldRules.{IsNew, AreNew}
 use Rattle.query_laws.proofs.Steps.{must_ok, must_not_ok, must_holds, must_not_holds, same_ok, nat_other, nat_is, nat_is_not}
@@ -50,35 +51,36 @@ below k n h = grind arith
 abbrev ids : List StateVar → List ℕ
 ids ss = map (λ s. s.name.id) ss
 
-pub states_sound : (ss : List StateVar) (found all : List ℕ) → length found ≤ 8 → states_from found ss ≡ Ok all → (all ≡ found ++ ids ss)
-    × AreNew found (ids ss) × (length found + length ss ≤ 8)
+pub states_sound : (ss : List StateVar) (found all : List ℕ) → length found ≤ MAX_STATES → states_from found ss ≡ Ok all
+    → (all ≡ found ++ ids ss)
+    × AreNew found (ids ss) × (length found + length ss ≤ MAX_STATES)
 states_sound [] found all h e = (sym (same_ok _ all e) ∙ sym (append-nil found), tt, omega (arith, h))
 states_sound (s ∷ ss) found all h e =
     let one = must_not_ok _ _ _ _ all e in
     let two = must_ok _ _ _ _ all one.1 in
-    let few = ltb-true (length found) 8 two.0 in
+    let few = ltb-true (length found) MAX_STATES two.0 in
     let long = length-append found (s.name.id ∷ []) in
     let more = states_sound ss (found ++ s.name.id ∷ []) all (omega (arith, long, few)) two.1 in
     (more.0 ∙ append_assoc found (s.name.id ∷ []) (ids ss), (among_new s.name.id found one.0, more.1), omega (arith, long, more.2))
 
-pub states_complete : (ss : List StateVar) (found : List ℕ) → AreNew found (ids ss) → length found + length ss ≤ 8
+pub states_complete : (ss : List StateVar) (found : List ℕ) → AreNew found (ids ss) → length found + length ss ≤ MAX_STATES
     → states_from found ss ≡ Ok (found ++ ids ss)
 states_complete [] found h few = ap (λ (z : List ℕ). let r : Checked (List ℕ) = Ok z in r) (sym (append-nil found))
 states_complete (s ∷ ss) found h few =
-    must_not_holds _ _ _ _ (new_among s.name.id found h.0) ∙ must_holds _ _ _ _ (below (length found) 8 (omega (arith, few)))
+    must_not_holds _ _ _ _ (new_among s.name.id found h.0) ∙ must_holds _ _ _ _ (below (length found) MAX_STATES (omega (arith, few)))
     ∙ states_complete ss (found ++ s.name.id ∷ []) h.1 (omega (arith, few, length-append found (s.name.id ∷ [])))
     ∙ ap (λ (z : List ℕ). let r : Checked (List ℕ) = Ok z in r) (append_assoc found (s.name.id ∷ []) (ids ss))
 
 abbrev arg_ids : List Name → List ℕ
 arg_ids more = map (λ a. a.id) more
 
-pub args_sound : (states : List ℕ) (more : List Name) (found all : List ℕ) → length found ≤ 16 → args_from states found more ≡ Ok all
-    → (all ≡ found ++ arg_ids more) × AreNew (states ++ found) (arg_ids more) × (length found + length more ≤ 16)
+pub args_sound : (states : List ℕ) (more : List Name) (found all : List ℕ) → length found ≤ MAX_ARGS → args_from states found more ≡ Ok all
+    → (all ≡ found ++ arg_ids more) × AreNew (states ++ found) (arg_ids more) × (length found + length more ≤ MAX_ARGS)
 args_sound states [] found all h e = (sym (same_ok _ all e) ∙ sym (append-nil found), tt, omega (arith, h))
 args_sound states (a ∷ more) found all h e =
     let one = must_not_ok _ _ _ _ all e in
     let two = must_ok _ _ _ _ all one.1 in
-    let few = ltb-true (length found) 16 two.0 in
+    let few = ltb-true (length found) MAX_ARGS two.0 in
     let long = length-append found (a.id ∷ []) in
     let found_rest = args_sound states more (found ++ a.id ∷ []) all (omega (arith, long, few)) two.1 in
     let N : List ℕ → Type 0 = λ z. AreNew z (arg_ids more) in (
@@ -93,12 +95,12 @@ args_sound states (a ∷ more) found all h e =
     )
 
 pub args_complete : (states : List ℕ) (more : List Name) (found : List ℕ) → AreNew (states ++ found) (arg_ids more) → length found
-    + length more ≤ 16 → args_from states found more ≡ Ok (found ++ arg_ids more)
+    + length more ≤ MAX_ARGS → args_from states found more ≡ Ok (found ++ arg_ids more)
 args_complete states [] found h few = ap (λ (z : List ℕ). let r : Checked (List ℕ) = Ok z in r) (sym (append-nil found))
 args_complete states (a ∷ more) found h few =
     let N : List ℕ → Type 0 = λ z. AreNew z (arg_ids more) in
     must_not_holds _ _ _ _ (sym (among_append a.id states found) ∙ new_among a.id (states ++ found) h.0)
-    ∙ must_holds _ _ _ _ (below (length found) 16 (omega (arith, few)))
+    ∙ must_holds _ _ _ _ (below (length found) MAX_ARGS (omega (arith, few)))
     ∙ args_complete states more (found ++ a.id ∷ []) (subst N (append_assoc states found (a.id ∷ [])) h.1)
     (omega (arith, few, length-append found (a.id ∷ [])))
     ∙ ap (λ (z : List ℕ). let r : Checked (List ℕ) = Ok z in r) (append_assoc found (a.id ∷ []) (arg_ids more))

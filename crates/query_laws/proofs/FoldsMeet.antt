@@ -23,6 +23,7 @@ use Rattle.query_lang.specs.declared.typing.Known.{Known}
 use Rattle.query_lang.specs.Checks.{Checked, and_then, is_among}
 use Rattle.query_lang.specs.TypedExprs.{condition_of, word_of}
 use Rattle.query_lang.specs.TypedFolds.{target_of, first_of, state_step, state_in, inside, Adding, in_order, stmt_step, stmt_checked}
+use Rattle.query_lang.specs.declared.fault.TheConstants.{MAX_ARGS, MAX_STATES}
 use Rattle.query_laws.specs.Asked.{StmtAsks, of_target, of_value, of_condition, of_emit, FoldAsks, of_state, of_states, of_arg, of_args}
 use Rattle.query_laws.specs.Asked.{of_statement, of_emits}
 use Rattle.query_laws.specs.Demands.{HasPart, StandsInside, StandsIn, FollowsEmit, Demand, Holds}
@@ -283,9 +284,9 @@ pub fold_meets : (known : List Known) (d : FoldDef) (f : TypedFold) (q : Demand)
 fold_meets known d f _ h (of_state front s back split) =
     let N : List ℕ → Type 0 = λ z. AreNew [] z in
     new_at [] (ids front) s.name.id (ids back) (subst N (ap ids split ∙ states_split front s back) h.states)
-fold_meets known d f _ h (of_states front s back split) = few_before d.states front s back 8 split h.few_states
+fold_meets known d f _ h (of_states front s back split) = few_before d.states front s back MAX_STATES split h.few_states
 fold_meets known d f _ h (of_arg front a back split) = names_new (state_names_of d) d.args front a back split h.args
-fold_meets known d f _ h (of_args front a back split) = few_before d.args front a back 16 split h.few_args
+fold_meets known d f _ h (of_args front a back split) = few_before d.args front a back MAX_ARGS split h.few_args
 fold_meets known d f _ h (of_statement around s q stands asked) =
     statement_meets (state_names_of d) (arg_names_of d) known around s q
     (at_statement (state_names_of d) (arg_names_of d) [] d.body around s stands _ _ _ (λ none. tt) (body_checks d f h)) asked

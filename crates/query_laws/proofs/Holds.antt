@@ -8,7 +8,7 @@ use Rattle.query_lang.specs.declared.token.TokenKind.{TokenKind}
 use Rattle.query_lang.specs.declared.token.TokenKind.TheVariants as kinds
 use Rattle.query_lang.specs.Words.{IsWord}
 use Rattle.query_grammar.specs.Grammar.{After, Before, Between, Brackets, Listed, Parens, Separated, listed}
-use Rattle.query_grammar.specs.Kinds.{number, number_of, sign}
+use Rattle.query_grammar.specs.Kinds.{number, token_number, sign}
 use Rattle.query_grammar.specs.Language as language
 use Rattle.query_grammar.specs.Language.{AtMostOnce, Either, Language, Leaf, Meaning, Repeated, Role, Then}
 use Rattle.query_grammar.proofs.ItemWeights.{all_cons, all_none}
@@ -35,7 +35,7 @@ any v = Unit {0}
 pub any_holds : {A : Type 0} {L : Language A} → Holds L any
 any_holds = record { is = λ w v h b. tt }
 
-word_of : (k : TokenKind) (span : Span) (v : ℕ × Span) → IsWordKind k → number_of k span ≡ Some v → IsWord v.0
+word_of : (k : TokenKind) (span : Span) (v : ℕ × Span) → IsWordKind k → token_number k span ≡ Some v → IsWord v.0
 word_of (kinds.Number n) span v w e = subst (λ (z : ℕ × Span). IsWord z.0) (same_Some (n, span) v e) w
 word_of (kinds.Name id) span v w e = absurd (cc e)
 word_of kinds.FiveTuple span v w e = absurd (cc e)

@@ -21,7 +21,7 @@ use Rattle.query_laws.specs.Demands.{Demand, Holds}
 use Rattle.query_laws.specs.ExprRules.{Condition, StandsAt, HasKind}
 use Rattle.query_laws.specs.FinalRules.{HasFinal}
 use Rattle.query_laws.specs.QueryRules.{HasItem}
-use Rattle.query_laws.specs.StreamRules.{HasColumns, HasKeys, HasArguments, AreApart, AreSame, key_ids, HasStream}
+use Rattle.query_laws.specs.StreamRules.{HasTypedColumns, HasKeys, HasArguments, AreApart, AreSame, key_ids, HasStream}
 use Rattle.query_laws.proofs.FoldsMeet.{fold_meets}
 use Rattle.query_laws.proofs.Meets.{expr_meets, columns_meet, keys_meet, arguments_meet}
 use Rattle.query_laws.proofs.NameLaws.{stream_complete, fold_name_complete, table_complete}
@@ -47,7 +47,7 @@ stream_meets five known number groups name _ made _ h (asks.of_condition input e
     (h.condition, subst S (one_stream known input h.source source h.stream is) h.typed) asked
 stream_meets five known number groups name _ made _ h (asks.of_mapped input new) = (h.source, h.stream)
 stream_meets five known number groups name _ made _ h (asks.of_columns input new source d is asked) =
-    let S : StreamView → Type 0 = λ z. HasColumns (column_names z.columns) (column_names z.columns ++ z.hidden) new h.values in
+    let S : StreamView → Type 0 = λ z. HasTypedColumns (column_names z.columns) (column_names z.columns ++ z.hidden) new h.values in
     columns_meet known (column_names source.columns) source.hidden new h.values d
     (subst S (one_stream known input h.source source h.stream is) h.typed) asked
 stream_meets five known number groups name _ made _ h (asks.of_first first second) = (h.left, h.one)
@@ -77,8 +77,8 @@ final_meets given known _ made _ h (asks.of_condition input e source d is asked)
     expr_meets known source.columns [] Condition e d (h.condition, subst S (one_table known input h.source source h.table is) h.typed) asked
 final_meets given known _ made _ h (asks.of_mapped input new) = (h.source, h.table)
 final_meets given known _ made _ h (asks.of_columns input new source d is asked) =
-    let S : TableView → Type 0 = λ z. HasColumns z.columns z.columns new h.values in
-    let N : List ℕ → Type 0 = λ z. HasColumns source.columns z new h.values in
+    let S : TableView → Type 0 = λ z. HasTypedColumns z.columns z.columns new h.values in
+    let N : List ℕ → Type 0 = λ z. HasTypedColumns source.columns z new h.values in
     columns_meet known source.columns [] new h.values d
     (subst N (sym (append-nil source.columns)) (subst S (one_table known input h.source source h.table is) h.typed)) asked
 final_meets given known _ made _ h (asks.of_grouped input keys fold_name) = (h.source, h.table)

@@ -14,7 +14,8 @@ use Rattle.query_lang.specs.declared.typing.FoldView.{FoldView}
 use Rattle.query_lang.specs.declared.typing.Found.{Found}
 use Rattle.query_lang.specs.declared.typing.Known.{Known}
 use Rattle.query_lang.specs.Checks.{and_then, collected}
-use Rattle.query_lang.specs.TypedExprs.{slot_of, is_condition_sort, of_two, call_of, negated, expr_checked}
+use Rattle.query_lang.specs.TypedExprs.{slot_of, is_condition_sort, of_two, call_of, negation_checked, expr_checked}
+use Rattle.query_lang.specs.declared.fault.TheConstants.{MAX_KEYS}
 use Rattle.query_laws.specs.Asked.{ExprAsks, of_part, of_name, of_call, of_right, of_second, ColumnsAsk, of_value, KeysAsk, of_key, of_new}
 use Rattle.query_laws.specs.Asked.{of_limit, ArgumentsAsk, of_argument, of_states, ids_of}
 use Rattle.query_laws.specs.Asked as asks
@@ -22,7 +23,7 @@ use Rattle.query_laws.specs.Demands.{IsOneOf, HasPart, Demand, Holds}
 use Rattle.query_laws.specs.Demands as parts
 use Rattle.query_laws.specs.ExprRules.{Kind, Word, Condition, StandsAt, operand_kind, IsRightOperand, HasKind}
 use Rattle.query_laws.specs.FoldRules.{IsNew, AreNew}
-use Rattle.query_laws.specs.StreamRules.{HasColumns, new_names, HasSlots, HasKeys, HasArguments}
+use Rattle.query_laws.specs.StreamRules.{HasTypedColumns, new_names, HasSlots, HasKeys, HasArguments}
 use Rattle.query_laws.proofs.ExprComplete.{complete, named_is, not_is, binary_is, call_is}
 use Rattle.query_laws.proofs.ExprSound.{slot_stands, condition_kind, Operands, two, Each, collected_each, expr_sound}
 use Rattle.query_laws.proofs.Steps.{must_ok, found_first}
@@ -54,7 +55,7 @@ of_not : (columns : List ℕ) (k : Kind) (span : Span) (e : Expr) (t : TypedExpr
     → HasForm columns Condition e
 of_not columns k span e t h =
     let g = complete columns [] k (whole.Not span e) t h in
-    let first = found_first (expr_checked columns [] e) (negated span) g.found (sym (not_is columns [] span e) ∙ g.is) in
+    let first = found_first (expr_checked columns [] e) (negation_checked span) g.found (sym (not_is columns [] span e) ∙ g.is) in
     let one = must_ok (is_condition_sort first.0.sort) WrongKind first.0.at _ g.found first.2 in
     let K : Kind → Type 0 = λ z. HasKind columns z e first.0.tree in
     (first.0.tree, subst K (condition_kind first.0.sort one.0) (expr_sound columns [] e first.0 first.1).rule)
@@ -172,7 +173,7 @@ abbrev AtColumn : List ℕ → List ℕ → Column → Type 0
 AtColumn columns taken c = IsNew c.name.id taken × HasForm columns Word c.value
 
 column_at : (columns taken : List ℕ) (front : List Column) (c : Column) (back : List Column) (values : List TypedExpr)
-    → HasColumns columns taken (front ++ c ∷ back) values
+    → HasTypedColumns columns taken (front ++ c ∷ back) values
     → AtColumn columns (taken ++ new_names front) c
 column_at columns taken [] c back [] h = absurd h
 column_at columns taken [] c back (v ∷ values) h =
@@ -183,14 +184,14 @@ column_at columns taken (x ∷ front) c back (v ∷ values) h =
     subst A (append_assoc taken (x.name.id ∷ []) (new_names front)) (column_at columns (taken ++ x.name.id ∷ []) front c back values h.2)
 
 pub columns_meet : (known : List Known) (columns hidden : List ℕ) (new : List Column) (values : List TypedExpr) (d : Demand)
-    → HasColumns columns (columns ++ hidden) new values
+    → HasTypedColumns columns (columns ++ hidden) new values
     → ColumnsAsk columns hidden new d → Holds known d
 columns_meet known columns hidden new values _ h (asks.of_name front c back split) =
-    let C : List Column → Type 0 = λ z. HasColumns columns (columns ++ hidden) z values in
+    let C : List Column → Type 0 = λ z. HasTypedColumns columns (columns ++ hidden) z values in
     let N : List ℕ → Type 0 = λ z. IsNew c.name.id z in
     subst N (append_assoc columns hidden (new_names front)) (column_at columns (columns ++ hidden) front c back values (subst C split h)).0
 columns_meet known columns hidden new values _ h (of_value front c back d split asked) =
-    let C : List Column → Type 0 = λ z. HasColumns columns (columns ++ hidden) z values in
+    let C : List Column → Type 0 = λ z. HasTypedColumns columns (columns ++ hidden) z values in
     expr_meets known columns hidden Word c.value d (column_at columns (columns ++ hidden) front c back values (subst C split h)).1 asked
 
 -- ---- keys and arguments
@@ -211,7 +212,7 @@ keys_meet known columns hidden keys slots _ h (of_key front key back split) =
 keys_meet known columns hidden keys slots _ h (of_new front key back split) = names_new [] keys front key back split h.distinct
 keys_meet known columns hidden keys slots _ h (of_limit front key back split) =
     let long = length-map keys (λ (n : Name). n.id) in
-    few_before keys front key back 8 split (omega (arith, h.few, long))
+    few_before keys front key back MAX_KEYS split (omega (arith, h.few, long))
 
 pub arguments_meet : (known : List Known) (columns hidden keys : List ℕ) (f : FoldView) (span : Span) (slots : List ℕ) (d : Demand)
     → HasArguments columns keys f slots

@@ -21,6 +21,7 @@ use Rattle.query_lang.specs.Checks.{Checked, and_then, must_not, collected, is_a
 use Rattle.query_lang.specs.TypedExprs.{slot_of, word_of}
 use Rattle.query_lang.specs.TypedStreams.{meaning_of, as_stream, stream_named, as_fold, fold_named, new_columns, keys_from, arguments_of}
 use Rattle.query_lang.specs.TypedFinals.{table_at, as_table, table_named, quiet_fold}
+use Rattle.query_lang.specs.declared.fault.TheConstants.{MAX_KEYS}
 use Rattle.query_laws.specs.Asked.{ColumnsAsk, of_name, of_value, KeysAsk, of_key, of_new, of_limit, ArgumentsAsk, of_argument, of_states}
 use Rattle.query_laws.specs.Asked.{ids_of}
 use Rattle.query_laws.specs.Context.{IsFree}
@@ -195,13 +196,13 @@ keys_told columns hidden all front (key ∷ keys) found known fault split same e
       tells = told known (New (ids_of front) key.id key.span) NameTaken key.span fault at
           (refl, λ fresh. not_new key.id found.names among (subst N (sym same) fresh));
     }) (λ none e.
-    by_must (nat_lt (length found.names) 8) (OverLimit Keys) key.span _ fault e (λ full at.
+    by_must (nat_lt (length found.names) MAX_KEYS) (OverLimit Keys) key.span _ fault e (λ full at.
     let long : length found.names ≡ length front = ap length same ∙ ids_long front in
     record {
       demand = Fewer Keys (length front) key.span;
       asks = of_limit front key keys split;
       tells = told known (Fewer Keys (length front) key.span) (OverLimit Keys) key.span fault at
-          (refl, refl, at_least (length found.names) (length front) 8 long full);
+          (refl, refl, at_least (length found.names) (length front) MAX_KEYS long full);
     }) (λ few e.
     keys_told columns hidden all (front ++ key ∷ []) keys (record { names = found.names ++ key.id ∷ []; slots = found.slots ++ slot ∷ [] })
     known fault

@@ -21,10 +21,11 @@ use Rattle.query_lang.specs.Checks.{Checked, collected, is_among}
 use Rattle.query_lang.specs.TypedExprs.{slot_at, slot_of, word_of}
 use Rattle.query_lang.specs.TypedStreams.{meaning_of, as_stream, stream_named, as_fold, fold_named, new_columns, keys_from, arguments_of}
 use Rattle.query_lang.specs.TypedFinals.{table_at, as_table, table_named}
+use Rattle.query_lang.specs.declared.fault.TheConstants.{MAX_KEYS}
 use Rattle.query_laws.specs.ExprRules.{StandsAt}
 use Rattle.query_laws.specs.FoldRules.{AreNew}
-use Rattle.query_laws.specs.Context.{StandsFor, IsFree, IsStream, IsFold, IsTable}
-use Rattle.query_laws.specs.StreamRules.{HasColumns, new_names, HasSlots, AreApart, HasArguments}
+use Rattle.query_laws.specs.Context.{NameStandsFor, IsFree, IsStream, IsFold, IsTable}
+use Rattle.query_laws.specs.StreamRules.{HasTypedColumns, new_names, HasSlots, AreApart, HasArguments}
 use Rattle.query_laws.proofs.Steps.{must_ok, must_not_ok, must_holds, must_not_holds, same_ok, found_first, then_next, nat_same, nat_other}
 use Rattle.query_laws.proofs.Steps.{nat_is, nat_is_not, stands_place}
 use Rattle.query_laws.proofs.ExprSound.{slot_stands, word_sound}
@@ -39,16 +40,16 @@ ok {A} x y e = ap (λ (z : A). let r : Checked A = Ok z in r) e
 same_some : (m n : Meaning) → (let o : Option Meaning = Some m in o) ≡ Some n → m ≡ n
 same_some m n e = cc e
 
-pub meaning_sound : (known : List Known) (id : ℕ) (m : Meaning) → meaning_of known id ≡ Some m → StandsFor known id m
+pub meaning_sound : (known : List Known) (id : ℕ) (m : Meaning) → meaning_of known id ≡ Some m → NameStandsFor known id m
 meaning_sound [] id m e = cc e
 meaning_sound (one ∷ rest) id m e = go (nat_eq one.name id) refl (λ k. meaning_sound rest id m k) e
   where
-    go : (b : Bool) → nat_eq one.name id ≡ b → (meaning_of rest id ≡ Some m → StandsFor rest id m)
-        → cond b (Some one.meaning) (meaning_of rest id) ≡ Some m → StandsFor (one ∷ rest) id m
+    go : (b : Bool) → nat_eq one.name id ≡ b → (meaning_of rest id ≡ Some m → NameStandsFor rest id m)
+        → cond b (Some one.meaning) (meaning_of rest id) ≡ Some m → NameStandsFor (one ∷ rest) id m
     go true is more e = inl (nat_same one.name id is, same_some one.meaning m e)
     go false is more e = inr (nat_other one.name id is, more e)
 
-pub meaning_complete : (known : List Known) (id : ℕ) (m : Meaning) → StandsFor known id m → meaning_of known id ≡ Some m
+pub meaning_complete : (known : List Known) (id : ℕ) (m : Meaning) → NameStandsFor known id m → meaning_of known id ≡ Some m
 meaning_complete [] id m h = absurd h
 meaning_complete (one ∷ rest) id m (inl p) = ap (λ (b : Bool). cond b (Some one.meaning) (meaning_of rest id)) (nat_is one.name id p.0)
     ∙ ap Some p.1
@@ -133,7 +134,7 @@ taken_more id columns hidden names = append_assoc columns (hidden ++ names) (id 
     ∙ ap (λ (z : List ℕ). columns ++ z) (append_assoc hidden names (id ∷ []))
 
 pub columns_sound : (columns hidden : List ℕ) (cs : List Column) (made all : NewColumns) → new_columns columns hidden made cs ≡ Ok all
-    → (values : List TypedExpr) × HasColumns columns (columns ++ (hidden ++ made.names)) cs values
+    → (values : List TypedExpr) × HasTypedColumns columns (columns ++ (hidden ++ made.names)) cs values
     × (all ≡ record { names = made.names ++ new_names cs; values = made.values ++ values })
 columns_sound columns hidden [] made all e = (
   [],
@@ -147,7 +148,7 @@ columns_sound columns hidden (c ∷ cs) made all e =
     let word = found_first (word_of columns hidden c.value) _ all one.1 in
     let rest = columns_sound columns hidden cs (record { names = made.names ++ c.name.id ∷ []; values = made.values ++ word.0 ∷ [] }) all
     word.2 in
-    let N : List ℕ → Type 0 = λ z. HasColumns columns z cs rest.0 in (
+    let N : List ℕ → Type 0 = λ z. HasTypedColumns columns z cs rest.0 in (
       word.0 ∷ rest.0,
       (
         among_new c.name.id _ (taken_is c.name.id columns hidden made.names ∙ one.0),
@@ -160,14 +161,14 @@ columns_sound columns hidden (c ∷ cs) made all e =
     )
 
 pub columns_complete : (columns hidden : List ℕ) (cs : List Column) (values : List TypedExpr) (made : NewColumns)
-    → HasColumns columns (columns ++ (hidden ++ made.names)) cs values
+    → HasTypedColumns columns (columns ++ (hidden ++ made.names)) cs values
     → new_columns columns hidden made cs ≡ Ok (record { names = made.names ++ new_names cs; values = made.values ++ values })
 columns_complete columns hidden [] [] made h = ok _ _ (columns_same made.names (made.names ++ []) made.values (made.values ++ [])
     (sym (append-nil made.names)) (sym (append-nil made.values)))
 columns_complete columns hidden [] (v ∷ values) made h = absurd h
 columns_complete columns hidden (c ∷ cs) [] made h = absurd h
 columns_complete columns hidden (c ∷ cs) (v ∷ values) made h =
-    let N : List ℕ → Type 0 = λ z. HasColumns columns z cs values in
+    let N : List ℕ → Type 0 = λ z. HasTypedColumns columns z cs values in
     must_not_holds _ _ _ _ (sym (taken_is c.name.id columns hidden made.names) ∙ new_among c.name.id _ h.0)
     ∙ then_next _ _ v (word_complete columns hidden c.value v h.1)
     ∙ columns_complete columns hidden cs values (record { names = made.names ++ c.name.id ∷ []; values = made.values ++ v ∷ [] })
@@ -189,10 +190,10 @@ picked_same : (ns ms ss ts : List ℕ) → ns ≡ ms → ss ≡ ts → (let r : 
 picked_same ns ms ss ts e f = ap (λ (z : List ℕ). let r : Picked = record { names = z; slots = ss } in r) e
     ∙ ap (λ (z : List ℕ). let r : Picked = record { names = ms; slots = z } in r) f
 
-pub keys_sound : (columns hidden : List ℕ) (keys : List Name) (found all : Picked) → length found.names ≤ 8
+pub keys_sound : (columns hidden : List ℕ) (keys : List Name) (found all : Picked) → length found.names ≤ MAX_KEYS
     → keys_from columns hidden found keys ≡ Ok all
     → (slots : List ℕ) × HasSlots columns (name_ids keys) slots × AreNew found.names (name_ids keys)
-    × (length found.names + length keys ≤ 8)
+    × (length found.names + length keys ≤ MAX_KEYS)
     × (all ≡ record { names = found.names ++ name_ids keys; slots = found.slots ++ slots })
 keys_sound columns hidden [] found all h e = (
   [],
@@ -206,7 +207,7 @@ keys_sound columns hidden (key ∷ keys) found all h e =
     let slot = found_first (slot_of columns hidden key) _ all e in
     let one = must_not_ok _ _ _ _ all slot.2 in
     let two = must_ok _ _ _ _ all one.1 in
-    let few = ltb-true (length found.names) 8 two.0 in
+    let few = ltb-true (length found.names) MAX_KEYS two.0 in
     let long = length-append found.names (key.id ∷ []) in
     let rest = keys_sound columns hidden keys (record { names = found.names ++ key.id ∷ []; slots = found.slots ++ slot.0 ∷ [] }) all
     (omega (arith, long, few)) two.1 in (
@@ -218,7 +219,7 @@ keys_sound columns hidden (key ∷ keys) found all h e =
     )
 
 pub keys_complete : (columns hidden : List ℕ) (keys : List Name) (slots : List ℕ) (found : Picked) → HasSlots columns (name_ids keys) slots
-    → AreNew found.names (name_ids keys) → length found.names + length keys ≤ 8
+    → AreNew found.names (name_ids keys) → length found.names + length keys ≤ MAX_KEYS
     → keys_from columns hidden found keys ≡ Ok (record { names = found.names ++ name_ids keys; slots = found.slots ++ slots })
 keys_complete columns hidden [] [] found h new few = ok _ _ (picked_same found.names (found.names ++ []) found.slots (found.slots ++ [])
     (sym (append-nil found.names)) (sym (append-nil found.slots)))
@@ -226,7 +227,8 @@ keys_complete columns hidden [] (s ∷ slots) found h new few = absurd h
 keys_complete columns hidden (key ∷ keys) [] found h new few = absurd h
 keys_complete columns hidden (key ∷ keys) (s ∷ slots) found h new few =
     then_next _ _ s (slot_complete columns hidden key s h.0)
-    ∙ must_not_holds _ _ _ _ (new_among key.id found.names new.0) ∙ must_holds _ _ _ _ (below (length found.names) 8 (omega (arith, few)))
+    ∙ must_not_holds _ _ _ _ (new_among key.id found.names new.0) ∙ must_holds _ _ _ _
+    (below (length found.names) MAX_KEYS (omega (arith, few)))
     ∙ keys_complete columns hidden keys slots (record { names = found.names ++ key.id ∷ []; slots = found.slots ++ s ∷ [] }) h.1 new.1
     (omega (arith, few, length-append found.names (key.id ∷ [])))
     ∙ ok _ _ (picked_same _ _ _ _ (append_assoc found.names (key.id ∷ []) (name_ids keys)) (append_assoc found.slots (s ∷ []) slots))

@@ -20,6 +20,7 @@ use Rattle.query_lang.specs.TypedFinals.{table_named, five_fields, made_final}
 use Rattle.query_lang.specs.TypedFolds.{fold_checked}
 use Rattle.query_lang.specs.TypedStreams.{meaning_of, begun, made_stream}
 use Rattle.query_lang.specs.Typing.{item_checked, items_checked, ended, start_of, checked, typed_names, given_of}
+use Rattle.query_lang.specs.declared.fault.TheConstants.{MAX_BINDINGS}
 use Rattle.query_laws.specs.Asked.{ItemAsks, of_fold_name, of_fold, of_stream_name, of_one_stream, of_stream, of_final_name, of_one_final}
 use Rattle.query_laws.specs.Asked.{of_final, of_print, of_once}
 use Rattle.query_laws.specs.Context.{Entry, streams_in, finals_in, prints_in, printed_in, known_in, earlier_of}
@@ -44,7 +45,7 @@ taken_told known x fault taken e = told known (Free x) NameTaken x.span fault e
     (refl, λ free. not_both _ (free_complete known x.id free) taken)
 
 bindings_told : (names : List (List ℕ)) (items : List Entry) (x : Name) (fault : QueryFault)
-    → nat_lt (length (streams_in items) + length (finals_in items)) 32 ≡ false
+    → nat_lt (length (streams_in items) + length (finals_in items)) MAX_BINDINGS ≡ false
     → at_span (OverLimit Bindings) x.span ≡ fault
     → Tells (known_in names items) fault.kind fault.span (Fewer Bindings (length (streams_in items) + length (finals_in items)) x.span)
 bindings_told names items x fault full e =
@@ -52,7 +53,7 @@ bindings_told names items x fault full e =
     fault e (
       refl,
       refl,
-      at_least (length (streams_in items) + length (finals_in items)) (length (streams_in items) + length (finals_in items)) 32
+      at_least (length (streams_in items) + length (finals_in items)) (length (streams_in items) + length (finals_in items)) MAX_BINDINGS
           refl full,
     )
 
@@ -63,7 +64,8 @@ begun_told : (names : List (List ℕ)) (items : List Entry) (x : Name) (fault : 
 begun_told names items x fault Asks e free one =
     by_must_not (is_some (meaning_of (known_in names items) x.id)) NameTaken x.span _ fault e
     (λ taken at. record { demand = Free x; asks = free; tells = taken_told (known_in names items) x fault taken at }) (λ none e.
-    by_must (nat_lt (length (streams_in items) + length (finals_in items)) 32) (OverLimit Bindings) x.span _ fault e (λ full at. record {
+    by_must (nat_lt (length (streams_in items) + length (finals_in items)) MAX_BINDINGS) (OverLimit Bindings) x.span _ fault e
+    (λ full at. record {
       demand = Fewer Bindings (length (streams_in items) + length (finals_in items)) x.span;
       asks = one;
       tells = bindings_told names items x fault full at;

@@ -17,6 +17,7 @@ use Rattle.query_lang.specs.TypedFolds.{fold_checked}
 use Rattle.query_lang.specs.TypedStreams.{begun, made_stream, stream_checked}
 use Rattle.query_lang.specs.TypedFinals.{table_named, five_fields, made_final, final_checked}
 use Rattle.query_lang.specs.Typing.{fold_added, print_checked, item_checked, items_checked, typed_names, given_of, start_of, ended, checked}
+use Rattle.query_lang.specs.declared.fault.TheConstants.{MAX_BINDINGS}
 use Rattle.query_laws.specs.Context.{Entry, AFold, AStream, AFinal, APrint, known_in, prints_in, printed_in, earlier_of}
 use Rattle.query_laws.specs.QueryRules.{IsBinding, HasItem, HasItems, of_none, of_more, IsTyped}
 use Rattle.query_laws.proofs.Steps.{must_ok, must_not_ok, must_holds, must_not_holds, same_ok, found_first, then_next}
@@ -31,12 +32,12 @@ binding_sound : (names : List (List ℕ)) (items : List Entry) (name : Name) (u 
 binding_sound names items name u e =
     let one = must_not_ok _ _ _ _ u e in
     let two = must_ok _ _ _ _ u one.1 in
-    record { free = free_sound (known_in names items) name.id one.0; few = ltb-true _ 32 two.0 }
+    record { free = free_sound (known_in names items) name.id one.0; few = ltb-true _ MAX_BINDINGS two.0 }
 
 binding_complete : (names : List (List ℕ)) (items : List Entry) (name : Name) → IsBinding names items name
     → begun (earlier_of names items) name ≡ Ok tt
 binding_complete names items name h = must_not_holds _ _ _ _ (free_complete (known_in names items) name.id h.free)
-    ∙ must_holds _ _ _ _ (below _ 32 h.few)
+    ∙ must_holds _ _ _ _ (below _ MAX_BINDINGS h.few)
 
 -- what an item adds to the tables is what its typed form adds
 abbrev Adds : Given → List (List ℕ) → List Entry → Item → Earlier → Type 0

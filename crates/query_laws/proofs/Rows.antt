@@ -4,6 +4,7 @@ use Rattle.std.proofs.Common.{subst, ◌∙◌, append_assoc, append-nil, arith}
 use Rattle.std.specs.Prelude.{All, Contains, fold, slice_get, slice_index_or, unwrap_or}
 use Rattle.std.proofs.lemmas.List.{length_push, length-map}
 use Rattle.std.proofs.lemmas.Option.{same_Some, slice_get_within, get_or_from_slice_get}
+use Rattle.marple_base.specs.declared.field.TheConstants.{FIELDS}
 use Rattle.query_lang.specs.declared.fold.TypedFold.{TypedFold}
 use Rattle.query_lang.specs.declared.query.Query.{Query}
 use Rattle.query_lang.specs.declared.typed.TypedOp.{TypedOp}
@@ -12,7 +13,7 @@ use Rattle.query_lang.specs.declared.typed.TypedQuery.{TypedQuery}
 use Rattle.query_lang.specs.declared.typed.TypedStream.{TypedStream}
 use Rattle.query_lang.specs.declared.typing.Origin.TheVariants as origin
 use Rattle.query_lang.specs.declared.typing.StreamColumn.{StreamColumn}
-use Rattle.query_lang.specs.Streams.{Tuple, numbered, list_at, made_of, all_streams, stream}
+use Rattle.query_lang.specs.Streams.{Tuple, numbered, tuples_at, made_of, all_streams, stream}
 use Rattle.query_lang.specs.TypedStreams.{column_names}
 use Rattle.query_lang.specs.Typing.{field_numbers, checked}
 use Rattle.query_laws.specs.Columns.{columns_of}
@@ -83,7 +84,7 @@ numbered_have V view n (words ∷ packets) are = (
 )
 
 packets_have : (names : List (List ℕ)) (packets : List (List ℕ)) → AreDistinct (field_numbers names)
-    → All (λ words. length words ≡ 14) packets
+    → All (λ words. length words ≡ FIELDS) packets
     → HaveValues (field_values (field_numbers names) packets) (field_view names) (numbered 1 packets)
 packets_have names packets distinct whole = numbered_have V (field_view names) 1 packets are
   where
@@ -95,7 +96,7 @@ packets_have names packets distinct whole = numbered_have V (field_view names) 1
 
     are : (k : ℕ) (words : List ℕ) → slice_get packets k ≡ Some words → words ≡ row_of V (1 + k) (field_view names)
     are k words e =
-        let long : length words ≡ 14 = ap length (sym (get_or_from_slice_get packets k words [] e))
+        let long : length words ≡ FIELDS = ap length (sym (get_or_from_slice_get packets k words [] e))
         ∙ whole k [] (slice_get_within packets k words e) in
         let here : words_of packets (1 + k) ≡ words =
         ap (λ i. unwrap_or (slice_get packets i) []) (let same : (1 + k) - 1 ≡ k = omega arith in same) ∙ ap (λ o. unwrap_or o []) e in
@@ -110,7 +111,8 @@ pub record HasRows (q : TypedQuery) (packets : List (List ℕ)) : Type 0 where
   pub values : Values
   pub have : AllHave (length (field_view q.names ∷ views)) values (field_view q.names ∷ views) (all_streams q packets)
 
-pub has_rows : (query : Query) (q : TypedQuery) (packets : List (List ℕ)) → checked query ≡ Ok q → All (λ words. length words ≡ 14) packets
+pub has_rows : (query : Query) (q : TypedQuery) (packets : List (List ℕ)) → checked query ≡ Ok q
+    → All (λ words. length words ≡ FIELDS) packets
     → HasRows q packets
 has_rows query q packets e whole =
     let v = viewed query q e in
@@ -155,7 +157,7 @@ all_long V view n (t ∷ tuples) e h = go (all_long V view n tuples e h.1)
     go more (suc k) d lt = more k d (omega (arith, lt))
 
 none_past : (number : ℕ) (V : Values) (views : List View) (lists : List (List Tuple)) (i : ℕ) → AllHave number V views lists
-    → slice_get views i ≡ None → list_at lists i ≡ []
+    → slice_get views i ≡ None → tuples_at lists i ≡ []
 none_past number V [] [] i h e = refl
 none_past number V [] (l ∷ lists) i h e = absurd h
 none_past number V (v ∷ views) [] i h e = absurd h

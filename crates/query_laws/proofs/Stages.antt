@@ -9,11 +9,12 @@ use Rattle.query_lang.specs.declared.fault.QueryFault.{QueryFault}
 use Rattle.query_lang.specs.declared.fold.TypedFold.{TypedFold}
 use Rattle.query_lang.specs.declared.typed.TypedQuery.{TypedQuery}
 use Rattle.query_lang.specs.declared.typed.TypedStream.{TypedStream}
+use Rattle.query_lang.specs.declared.fault.TheConstants.{MAX_STAGES}
 use Rattle.stage_plan.specs.Depths.{StreamDepths, packet_depths, depths_made, all_depths, is_too_deep, first_too_deep, stage_fault}
 use Rattle.query_laws.specs.ByRules.{FitsStages}
 
 abbrev Fits : ℕ → Type 0
-Fits depth = depth ≤ 64
+Fits depth = depth ≤ MAX_STAGES
 
 abbrev operations : List StreamDepths → List ℕ
 operations streams = flat_map (λ (one : StreamDepths). one.operations) streams
@@ -33,17 +34,17 @@ all_back : (xs ys : List ℕ) → All Fits (xs ++ ys) → All Fits ys
 all_back [] ys h = h
 all_back (x ∷ xs) ys h = all_back xs ys (All-tail Fits x (xs ++ ys) h)
 
-not_deep : (depth : ℕ) → nat_lt 64 depth ≡ false → depth ≤ 64
+not_deep : (depth : ℕ) → nat_lt MAX_STAGES depth ≡ false → depth ≤ MAX_STAGES
 not_deep depth e = grind arith
 
-is_fit : (depth : ℕ) → depth ≤ 64 → nat_lt 64 depth ≡ false
+is_fit : (depth : ℕ) → depth ≤ MAX_STAGES → nat_lt MAX_STAGES depth ≡ false
 is_fit depth h = grind arith
 
 shallow_fits : (depths : List ℕ) → is_too_deep depths ≡ false → All Fits depths
 shallow_fits [] e = All-nil Fits
-shallow_fits (depth ∷ depths) e = go (nat_lt 64 depth) refl (λ k. shallow_fits depths k) e
+shallow_fits (depth ∷ depths) e = go (nat_lt MAX_STAGES depth) refl (λ k. shallow_fits depths k) e
   where
-    go : (b : Bool) → nat_lt 64 depth ≡ b → (is_too_deep depths ≡ false → All Fits depths) → (b || is_too_deep depths) ≡ false
+    go : (b : Bool) → nat_lt MAX_STAGES depth ≡ b → (is_too_deep depths ≡ false → All Fits depths) → (b || is_too_deep depths) ≡ false
         → All Fits (depth ∷ depths)
     go true is more e = cc e
     go false is more e = All-cons Fits depth depths (not_deep depth is) (more e)

@@ -23,6 +23,7 @@ use Rattle.query_lang.specs.TypedExprs.{slot_of, condition_of}
 use Rattle.query_lang.specs.TypedFinals.{table_named, quiet_fold, five_fields, same_names, key_columns, other_columns, made_final}
 use Rattle.query_lang.specs.TypedStreams.{column_names, key_names, no_new_columns, new_columns, clash, stream_named, fold_named}
 use Rattle.query_lang.specs.TypedStreams.{keys_checked, arguments_of, made_stream}
+use Rattle.query_lang.specs.declared.fault.TheConstants.{MAX_GROUPBYS}
 use Rattle.query_laws.specs.Asked.{StreamAsks, FinalAsks, of_filtered, of_condition, of_mapped, of_columns, of_first, of_second, of_both}
 use Rattle.query_laws.specs.Asked.{of_limit, of_grouped, of_keys, of_fold, of_arguments}
 use Rattle.query_laws.specs.Asked as asks
@@ -93,11 +94,11 @@ stream_zip_told five earlier name first second fault is =
 
 stream_groupby_told : (five : List ℕ) (earlier : Earlier) (name : Name) (input : Name) (keys : List Key) (fold_name : Name) → StreamTold five earlier name (stream.Group input keys fold_name)
 stream_groupby_told five earlier name input keys fold_name fault is =
-    by_must (nat_lt earlier.groups 8) (OverLimit Groupbys) name.span _ fault is (λ full at. record {
+    by_must (nat_lt earlier.groups MAX_GROUPBYS) (OverLimit Groupbys) name.span _ fault is (λ full at. record {
       demand = Fewer Groupbys earlier.groups name.span;
       asks = of_limit input keys fold_name;
       tells = told earlier.known (Fewer Groupbys earlier.groups name.span) (OverLimit Groupbys) name.span fault at
-          (refl, refl, at_least earlier.groups earlier.groups 8 refl full);
+          (refl, refl, at_least earlier.groups earlier.groups MAX_GROUPBYS refl full);
     }) (λ few is.
     by_next (stream_named earlier.known input) _ fault is (λ is. record {
       demand = Stands AStream input;

@@ -26,7 +26,8 @@ use Rattle.query_lang.specs.TypedExprs.{condition_of}
 use Rattle.query_lang.specs.TypedStreams.{stream_named, fold_named, column_names, key_names, new_columns, no_new_columns, keys_checked}
 use Rattle.query_lang.specs.TypedStreams.{arguments_of, same_origin, clashes_with, clash, others_from, columns_at, filtered, mapped, zipped}
 use Rattle.query_lang.specs.TypedStreams.{next_stream, made_stream}
-use Rattle.query_laws.specs.StreamRules.{HasColumns, HasKeys, HasArguments, key_ids, IsSame, AreSame, OfFilter, OfMap, OfZip, OfGroup}
+use Rattle.query_lang.specs.declared.fault.TheConstants.{MAX_GROUPBYS}
+use Rattle.query_laws.specs.StreamRules.{HasTypedColumns, HasKeys, HasArguments, key_ids, IsSame, AreSame, OfFilter, OfMap, OfZip, OfGroup}
 use Rattle.query_laws.specs.StreamRules.{HasStream}
 use Rattle.query_laws.proofs.Steps.{must_ok, must_not_ok, must_holds, must_not_holds, same_ok, found_first, then_next, nat_same, nat_other}
 use Rattle.query_laws.proofs.Steps.{nat_is}
@@ -74,7 +75,7 @@ map_sound earlier input cs made is =
     let source = found_first (stream_named earlier.known input) _ made is in
     let n = found_first (new_columns (column_names source.0.columns) source.0.hidden no_new_columns cs) _ made source.2 in
     let c = columns_sound (column_names source.0.columns) source.0.hidden cs no_new_columns n.0 n.1 in
-    let N : List ℕ → Type 0 = λ z. HasColumns (column_names source.0.columns) z cs c.0 in
+    let N : List ℕ → Type 0 = λ z. HasTypedColumns (column_names source.0.columns) z cs c.0 in
     record {
       source = source.0;
       values = c.0;
@@ -86,7 +87,7 @@ map_sound earlier input cs made is =
 map_complete : (earlier : Earlier) (input : Name) (cs : List Column) (made : MadeStream)
     → OfMap earlier.known (next_stream earlier) input cs made → mapped earlier input cs ≡ Ok made
 map_complete earlier input cs made h =
-    let N : List ℕ → Type 0 = λ z. HasColumns (column_names h.source.columns) z cs h.values in
+    let N : List ℕ → Type 0 = λ z. HasTypedColumns (column_names h.source.columns) z cs h.values in
     then_next _ _ h.source (stream_complete earlier.known input h.source h.stream)
     ∙ then_next _ _ _ (columns_complete (column_names h.source.columns) h.source.hidden cs h.values no_new_columns
     (subst N (sym (taken_start _ h.source.hidden)) h.typed)) ∙ ok _ _ (sym h.is)
@@ -239,7 +240,7 @@ group_sound five earlier name input keys fold_name made is =
     let k = picked_sound five (column_names source.0.columns) source.0.hidden keys picked.0 picked.1 in
     let A : Picked → Type 0 = λ z. HasArguments (column_names source.0.columns) z.names f.0 arguments.0 in
     record {
-      few = ltb-true earlier.groups 8 few.0;
+      few = ltb-true earlier.groups MAX_GROUPBYS few.0;
       source = source.0;
       slots = k.0;
       columns = columns_at source.0.columns k.0;
@@ -257,7 +258,7 @@ group_complete : (five : List ℕ) (earlier : Earlier) (name input : Name) (keys
     → OfGroup five earlier.known earlier.groups input keys fold_name made
     → made_stream five earlier name (ops.Group input keys fold_name) ≡ Ok made
 group_complete five earlier name input keys fold_name made h =
-    must_holds _ _ _ _ (below earlier.groups 8 h.few)
+    must_holds _ _ _ _ (below earlier.groups MAX_GROUPBYS h.few)
     ∙ then_next _ _ h.source (stream_complete earlier.known input h.source h.stream)
     ∙ then_next _ _ _ (picked_complete five _ h.source.hidden keys h.slots h.picked)
     ∙ then_next _ _ h.f (fold_name_complete earlier.known fold_name h.f h.fold)

@@ -17,7 +17,7 @@ use Rattle.query_lang.specs.declared.typing.Origin.TheVariants as origin
 use Rattle.query_lang.specs.declared.typing.Sort.{Sort}
 use Rattle.query_lang.specs.declared.typing.Sort.TheVariants as sort
 use Rattle.query_lang.specs.Checks.{Checked, and_then, collected, is_among, place_of}
-use Rattle.query_lang.specs.TypedExprs.{of_two, call_of, negated, expr_checked}
+use Rattle.query_lang.specs.TypedExprs.{of_two, call_of, negation_checked, expr_checked}
 use Rattle.query_laws.specs.Asked.{StreamAsks}
 use Rattle.query_laws.specs.Asked as asks
 use Rattle.query_laws.specs.Context.{IsStream, IsFold}
@@ -120,7 +120,7 @@ expression_examples = record {
   either_of_words = by_column Either _ (two two_columns Either first second _ _ first_is second_is);
   negation = of_not here is_less typed_is_less is_condition;
   negation_of_a_word = refuse two_columns (Not here first) _ (not_is two_columns [] here first
-      ∙ then_next (expr_checked two_columns [] first) (negated here) _ first_is);
+      ∙ then_next (expr_checked two_columns [] first) (negation_checked here) _ first_is);
   quotient = of_binary Div here first (Number 1 here) (typed.Slot 0) (typed.Number 1) first_word (of_number 1 here)
       (1, here, refl, omega arith);
   divided_by_zero = by_number Div 0 _ (two two_columns Div first (Number 0 here) _ _ first_is (number 0));

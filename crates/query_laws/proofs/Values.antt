@@ -13,7 +13,7 @@ use Rattle.query_lang.specs.declared.typing.Origin.{Origin}
 use Rattle.query_lang.specs.declared.typing.Origin.TheVariants as origin
 use Rattle.query_lang.specs.declared.typing.StreamColumn.{StreamColumn}
 use Rattle.query_lang.specs.Checks.{is_among}
-use Rattle.query_lang.specs.Streams.{Tuple, values_at, expr_value, emits_at, map_stream, zip_stream, group_stream, list_at, made_of}
+use Rattle.query_lang.specs.Streams.{Tuple, values_at, expr_value, emits_at, map_stream, zip_stream, group_stream, tuples_at, made_of}
 use Rattle.query_lang.specs.TypedStreams.{columns_at}
 use Rattle.query_lang.specs.Words.{holds}
 use Rattle.query_laws.proofs.Steps.{nat_is, nat_is_not}
@@ -231,7 +231,7 @@ AllHave number V (view ∷ views) [] = ⊥
 AllHave number V (view ∷ views) (tuples ∷ lists) = (AreEarlier number view × HaveValues V view tuples) × AllHave number V views lists
 
 pub have_at : (number : ℕ) (V : Values) (views : List View) (lists : List (List Tuple)) (i : ℕ) (view : View) → AllHave number V views lists
-    → slice_get views i ≡ Some view → AreEarlier number view × HaveValues V view (list_at lists i)
+    → slice_get views i ≡ Some view → AreEarlier number view × HaveValues V view (tuples_at lists i)
 have_at number V [] lists i view h e = cc e
 have_at number V (v ∷ views) [] i view h e = absurd h
 have_at number V (v ∷ views) (l ∷ lists) zero view h e =
@@ -265,7 +265,7 @@ module _ (folds : List TypedFold) (number : ℕ) (V : Values) (views : List View
       let source = have_at number V views lists input view h e in (
         V,
         have_last number V views lists view _ h (are_earlier_later number view source.0)
-            (filter_has V view (λ t. holds (expr_value condition t.row)) (list_at lists input) source.1),
+            (filter_has V view (λ t. holds (expr_value condition t.row)) (tuples_at lists input) source.1),
       )
 
   pub of_map : (input : ℕ) (values : List TypedExpr) (view : View) → OfMap views number input values view
@@ -277,9 +277,9 @@ module _ (folds : List TypedFold) (number : ℕ) (V : Values) (views : List View
             (subst (AreEarlier (suc number)) (sym m.is)
             (both_earlier (suc number) m.source (mapped_columns number m.names) (are_earlier_later number m.source from.0)
             (mapped_earlier number m.names)))
-            (subst (λ z. HaveValues next z (map_stream values (list_at lists input))) (sym m.is)
-            (map_has next m.source (mapped_columns number m.names) values (are from.0) (list_at lists input)
-            (have_same V number new m.source (list_at lists input) from.0 from.1))),
+            (subst (λ z. HaveValues next z (map_stream values (tuples_at lists input))) (sym m.is)
+            (map_has next m.source (mapped_columns number m.names) values (are from.0) (tuples_at lists input)
+            (have_same V number new m.source (tuples_at lists input) from.0 from.1))),
       )
     where
       results : ℕ → List ℕ
@@ -309,8 +309,8 @@ module _ (folds : List TypedFold) (number : ℕ) (V : Values) (views : List View
             (subst (AreEarlier (suc number)) (sym z.is)
             (are_earlier_later number (z.first ++ columns_at z.second slots)
             (both_earlier number z.first (columns_at z.second slots) one.0 (picked_earlier number z.second slots other.0))))
-            (subst (λ v. HaveValues V v (zip_stream slots (list_at lists left) (list_at lists right))) (sym z.is)
-            (zip_has V z.first z.second slots below (list_at lists right) other.1 (list_at lists left) one.1)),
+            (subst (λ v. HaveValues V v (zip_stream slots (tuples_at lists left) (tuples_at lists right))) (sym z.is)
+            (zip_has V z.first z.second slots below (tuples_at lists right) other.1 (tuples_at lists left) one.1)),
       )
 
   pub of_group : (input : ℕ) (keys : List ℕ) (f : ℕ) (args : List ℕ) (view : View) → OfGroup views input keys view
@@ -321,6 +321,6 @@ module _ (folds : List TypedFold) (number : ℕ) (V : Values) (views : List View
         have_last number V views lists view _ h
             (subst (AreEarlier (suc number)) (sym g.is)
             (are_earlier_later number (columns_at g.source keys) (picked_earlier number g.source keys from.0)))
-            (subst (λ v. HaveValues V v (group_stream (slice_get folds f) keys args (list_at lists input))) (sym g.is)
-            (group_has V g.source (slice_get folds f) keys args g.below (list_at lists input) from.1)),
+            (subst (λ v. HaveValues V v (group_stream (slice_get folds f) keys args (tuples_at lists input))) (sym g.is)
+            (group_has V g.source (slice_get folds f) keys args g.below (tuples_at lists input) from.1)),
       )

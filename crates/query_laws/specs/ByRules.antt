@@ -5,6 +5,7 @@ use Rattle.query_lang.specs.declared.fault.QueryFault.{QueryFault}
 use Rattle.query_lang.specs.declared.query.Query.{Query}
 use Rattle.query_lang.specs.declared.typed.TypedQuery.{TypedQuery}
 use Rattle.query_lang.specs.Typing.{checked}
+use Rattle.query_lang.specs.declared.fault.TheConstants.{MAX_STAGES}
 use Rattle.query_grammar.specs.Texts.{IsQueryOf, IsFaultOf}
 use Rattle.query_laws.specs.Demands.{Tells}
 use Rattle.query_laws.specs.FaultLaws.{Breaks, PrintsNothing}
@@ -14,7 +15,7 @@ use Rattle.accepted_query.specs.Accepted.{accepted}
 
 -- no operation needs a stage past the 64th
 abbrev pub FitsStages : TypedQuery → Type 0
-FitsStages t = All (λ depth. depth ≤ 64) (query_depths t)
+FitsStages t = All (λ depth. depth ≤ MAX_STAGES) (query_depths t)
 
 -- The text is accepted with this typed form: a query derives from it, has this form by the rules, and fits the stages.
 pub record IsAcceptedAs (text : List ℕ) (t : TypedQuery) : Type 0 where

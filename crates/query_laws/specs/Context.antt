@@ -120,9 +120,9 @@ earlier_of names items = record {
 -- ---- names
 
 -- the first with this name stands for this
-abbrev pub StandsFor : List Known → ℕ → Meaning → Type 0
-StandsFor [] id m = ⊥
-StandsFor (one ∷ rest) id m = ((one.name ≡ id) × (one.meaning ≡ m)) ⊎ ((one.name ≡ id → ⊥) × StandsFor rest id m)
+abbrev pub NameStandsFor : List Known → ℕ → Meaning → Type 0
+NameStandsFor [] id m = ⊥
+NameStandsFor (one ∷ rest) id m = ((one.name ≡ id) × (one.meaning ≡ m)) ⊎ ((one.name ≡ id → ⊥) × NameStandsFor rest id m)
 
 -- no item has this name
 abbrev pub IsFree : List Known → ℕ → Type 0
@@ -130,13 +130,13 @@ IsFree [] id = Unit {0}
 IsFree (one ∷ rest) id = (one.name ≡ id → ⊥) × IsFree rest id
 
 abbrev pub IsStream : List Known → ℕ → StreamView → Type 0
-IsStream known id stream = StandsFor known id (meaning.Stream stream)
+IsStream known id stream = NameStandsFor known id (meaning.Stream stream)
 
 abbrev pub IsFold : List Known → ℕ → FoldView → Type 0
-IsFold known id f = StandsFor known id (meaning.Fold f)
+IsFold known id f = NameStandsFor known id (meaning.Fold f)
 
 -- a table is a final's, or that of a groupby
 abbrev pub IsTable : List Known → ℕ → TableView → Type 0
 IsTable known id table =
-    StandsFor known id (meaning.Final table)
-    ⊎ ((stream : StreamView) × StandsFor known id (meaning.Stream stream) × (stream.table ≡ Some table))
+    NameStandsFor known id (meaning.Final table)
+    ⊎ ((stream : StreamView) × NameStandsFor known id (meaning.Stream stream) × (stream.table ≡ Some table))

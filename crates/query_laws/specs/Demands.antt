@@ -19,6 +19,8 @@ use Rattle.query_lang.specs.declared.typing.StreamColumn.{StreamColumn}
 use Rattle.query_lang.specs.declared.typing.StreamView.{StreamView}
 use Rattle.query_lang.specs.declared.typing.TableView.{TableView}
 use Rattle.query_lang.specs.TypedFinals.{key_columns}
+use Rattle.query_lang.specs.declared.fault.TheConstants.{MAX_ARGS, MAX_BINDINGS, MAX_GROUPBYS, MAX_KEYS, MAX_NESTING, MAX_NODES, MAX_STAGES}
+use Rattle.query_lang.specs.declared.fault.TheConstants.{MAX_STATEMENTS, MAX_STATES}
 use Rattle.query_laws.specs.Context.{IsFree, IsStream, IsFold, IsTable}
 use Rattle.query_laws.specs.ExprRules.{Kind, Condition, StandsAt, operand_kind, IsRightOperand, other_kind, HasKind}
 use Rattle.query_laws.specs.FoldRules.{IsNew}
@@ -132,15 +134,15 @@ pub data Demand : Type 0 where
 
 -- how many there may be
 abbrev pub most : Limit → ℕ
-most limits.Groupbys = 8
-most limits.Keys = 8
-most limits.States = 8
-most limits.Args = 16
-most limits.Bindings = 32
-most limits.Statements = 64
-most limits.Nodes = 512
-most limits.Nesting = 64
-most limits.Stages = 64
+most limits.Groupbys = MAX_GROUPBYS
+most limits.Keys = MAX_KEYS
+most limits.States = MAX_STATES
+most limits.Args = MAX_ARGS
+most limits.Bindings = MAX_BINDINGS
+most limits.Statements = MAX_STATEMENTS
+most limits.Nodes = MAX_NODES
+most limits.Nesting = MAX_NESTING
+most limits.Stages = MAX_STAGES
 
 -- What is asked is so, after items of which this is known.
 abbrev pub Holds : List Known → Demand → Type 0

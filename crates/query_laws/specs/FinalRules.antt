@@ -16,7 +16,7 @@ use Rattle.query_lang.specs.declared.typing.MadeFinal.{MadeFinal}
 use Rattle.query_lang.specs.TypedFinals.{table_number, five_fields, key_columns, other_columns}
 use Rattle.query_laws.specs.ExprRules.{Condition, StandsAt, HasKind}
 use Rattle.query_laws.specs.Context.{IsFold, IsTable}
-use Rattle.query_laws.specs.StreamRules.{HasColumns, new_names, key_ids, HasKeys, HasArguments, AreApart}
+use Rattle.query_laws.specs.StreamRules.{HasTypedColumns, new_names, key_ids, HasKeys, HasArguments, AreApart}
 
 pub record OfFilter (groups : ℕ) (known : List Known) (input : Name) (e : Expr) (made : MadeFinal) : Type 0 where
   pub source : TableView
@@ -33,7 +33,7 @@ pub record OfMap (groups : ℕ) (known : List Known) (input : Name) (columns : L
   pub source : TableView
   pub values : List TypedExpr
   pub table : IsTable known input.id source
-  pub typed : HasColumns source.columns source.columns columns values
+  pub typed : HasTypedColumns source.columns source.columns columns values
   pub is : made ≡ record {
     op = made_by.Map (table_number groups source.place) values;
     columns = source.columns ++ new_names columns;

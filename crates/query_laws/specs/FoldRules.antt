@@ -15,6 +15,7 @@ use Rattle.query_lang.specs.declared.query.Stmt.TheVariants as stmt
 use Rattle.query_lang.specs.Folds.{ReadsArguments}
 use Rattle.query_lang.specs.Terms.{term_of}
 use Rattle.query_lang.specs.TypedFolds.{fold_nodes, fold_statements}
+use Rattle.query_lang.specs.declared.fault.TheConstants.{MAX_ARGS, MAX_STATES}
 use Rattle.query_laws.specs.ExprRules.{Word, Condition, StandsAt, HasKind}
 
 -- none of these names is id
@@ -82,13 +83,13 @@ fold_of d statements emit = record {
   statements = fold_statements d;
 }
 
--- A fold has this typed form: its names are distinct, and it has at most 8 state variables, 16 arguments and one `emit`.
+-- A fold has this typed form: its names are distinct, and it has at most MAX_STATES state variables, MAX_ARGS arguments and one `emit`.
 pub record HasFold (d : FoldDef) (f : TypedFold) : Type 0 where
   pub body : List TypedStmt
   pub emit : Option TypedExpr
   pub is : f ≡ fold_of d body emit
   pub states : AreNew [] (state_names_of d)
   pub args : AreNew (state_names_of d) (arg_names_of d)
-  pub few_states : length d.states ≤ 8
-  pub few_args : length d.args ≤ 16
+  pub few_states : length d.states ≤ MAX_STATES
+  pub few_args : length d.args ≤ MAX_ARGS
   pub statements : HasBlock (state_names_of d) (arg_names_of d) [] d.body body (at_most_one emit)

@@ -15,16 +15,17 @@ use Rattle.query_lang.specs.declared.typing.MadeFinal.{MadeFinal}
 use Rattle.query_lang.specs.declared.typing.TableView.{TableView}
 use Rattle.query_lang.specs.TypedFinals.{five_fields}
 use Rattle.query_lang.specs.Typing.{typed_names, given_of}
+use Rattle.query_lang.specs.declared.fault.TheConstants.{MAX_BINDINGS}
 use Rattle.query_laws.specs.FoldRules.{IsNew, HasFold}
 use Rattle.query_laws.specs.Context.{Entry, AFold, AStream, AFinal, APrint}
 use Rattle.query_laws.specs.Context.{folds_in, streams_in, finals_in, prints_in, printed_in, groups_in, known_in, IsFree, IsTable}
 use Rattle.query_laws.specs.StreamRules.{HasStream}
 use Rattle.query_laws.specs.FinalRules.{HasFinal}
 
--- a new stream or final: its name is free, and there are at most 32 of them
+-- a new stream or final: its name is free, and there are at most MAX_BINDINGS of them
 pub record IsBinding (names : List (List ℕ)) (items : List Entry) (name : Name) : Type 0 where
   pub free : IsFree (known_in names items) name.id
-  pub few : length (streams_in items) + length (finals_in items) < 32
+  pub few : length (streams_in items) + length (finals_in items) < MAX_BINDINGS
 
 pub record OfFold (names : List (List ℕ)) (items : List Entry) (d : FoldDef) (one : Entry) : Type 0 where
   pub f : TypedFold

@@ -17,18 +17,20 @@ use Rattle.query_lang.specs.declared.typing.MadeStream.{MadeStream}
 use Rattle.query_lang.specs.declared.typing.Origin.TheVariants as origin
 use Rattle.query_lang.specs.declared.typing.StreamColumn.{StreamColumn}
 use Rattle.query_lang.specs.TypedStreams.{column_names, key_names}
+use Rattle.query_lang.specs.declared.fault.TheConstants.{MAX_GROUPBYS, MAX_KEYS}
 use Rattle.query_laws.specs.ExprRules.{Word, Condition, StandsAt, HasKind}
 use Rattle.query_laws.specs.FoldRules.{IsNew, AreNew}
 use Rattle.query_laws.specs.Context.{IsStream, IsFold}
 
 -- the new columns of a `map`: their names are new beside those taken and among themselves, and their expressions over these
 -- columns are words
-abbrev pub HasColumns : List ℕ → List ℕ → List Column → List TypedExpr → Type 0
-HasColumns columns taken [] [] = Unit {0}
-HasColumns columns taken [] (value ∷ values) = ⊥
-HasColumns columns taken (column ∷ rest) [] = ⊥
-HasColumns columns taken (column ∷ rest) (value ∷ values) =
-    IsNew column.name.id taken × HasKind columns Word column.value value × HasColumns columns (taken ++ column.name.id ∷ []) rest values
+abbrev pub HasTypedColumns : List ℕ → List ℕ → List Column → List TypedExpr → Type 0
+HasTypedColumns columns taken [] [] = Unit {0}
+HasTypedColumns columns taken [] (value ∷ values) = ⊥
+HasTypedColumns columns taken (column ∷ rest) [] = ⊥
+HasTypedColumns columns taken (column ∷ rest) (value ∷ values) =
+    IsNew column.name.id taken × HasKind columns Word column.value value
+    × HasTypedColumns columns (taken ++ column.name.id ∷ []) rest values
 
 abbrev pub new_names : List Column → List ℕ
 new_names columns = map (λ column. column.name.id) columns
@@ -49,11 +51,11 @@ AreApart (id ∷ ids) others = IsNew id others × AreApart ids others
 abbrev pub key_ids : List ℕ → List Key → List ℕ
 key_ids five keys = map (λ key. key.id) (flat_map (key_names five) keys)
 
--- keys are at most 8 columns, and no name is two of them
+-- keys are at most MAX_KEYS columns, and no name is two of them
 pub record HasKeys (columns ids slots : List ℕ) : Type 0 where
   pub places : HasSlots columns ids slots
   pub distinct : AreNew [] ids
-  pub few : length ids ≤ 8
+  pub few : length ids ≤ MAX_KEYS
 
 -- the arguments of a fold are columns, and none of its variables has the name of a key
 pub record HasArguments (columns keys : List ℕ) (f : FoldView) (slots : List ℕ) : Type 0 where
@@ -96,7 +98,7 @@ pub record OfMap (known : List Known) (number : ℕ) (input : Name) (columns : L
   pub source : StreamView
   pub values : List TypedExpr
   pub stream : IsStream known input.id source
-  pub typed : HasColumns (column_names source.columns) (column_names source.columns ++ source.hidden) columns values
+  pub typed : HasTypedColumns (column_names source.columns) (column_names source.columns ++ source.hidden) columns values
   pub is : made ≡ record {
     op = made_by.Map source.number values;
     columns = source.columns ++ map (λ name. record { name = name; origin = origin.Map number }) (new_names columns);
@@ -125,7 +127,7 @@ pub record OfZip (known : List Known) (first second : Name) (made : MadeStream) 
 -- the columns of the input that are keys
 pub record OfGroup (five : List ℕ) (known : List Known) (groups : ℕ) (input : Name) (keys : List Key)
     (fold_name : Name) (made : MadeStream) : Type 0 where
-  pub few : groups < 8
+  pub few : groups < MAX_GROUPBYS
   pub source : StreamView
   pub slots : List ℕ
   pub columns : List StreamColumn

@@ -1,6 +1,7 @@
 -- What holds of the tuples of each stream of a query.
 use Rattle.std.specs.Prelude.{◌≡◌, ℕ, ◌≤◌, List, length, map, Some, All, Contains}
 use Rattle.std.specs.List.Sorted.{IsStrictlyIncreasing}
+use Rattle.marple_base.specs.declared.field.TheConstants.{FIELDS}
 use Rattle.query_lang.specs.declared.query.Query.{Query}
 use Rattle.query_lang.specs.declared.typed.TypedQuery.{TypedQuery}
 use Rattle.query_lang.specs.Streams.{Tuple, stream}
@@ -21,12 +22,12 @@ abbrev pub PacketsAreOfTheTrace : Type 0
 PacketsAreOfTheTrace = (q : TypedQuery) (number : ℕ) (packets : List (List ℕ))
     → All (λ n. (1 ≤ n) × (n ≤ length packets)) (packet_numbers (stream q number packets))
 
--- ---- queries that are typed, over packets of 14 fields
+-- ---- queries that are typed, over packets with all fields
 
--- this holds of each typed query and all packets of 14 fields
+-- this holds of each typed query and all packets with all fields
 abbrev pub OfTypedQueries : (TypedQuery → List (List ℕ) → Type 0) → Type 0
 OfTypedQueries Q = (query : Query) (q : TypedQuery) (packets : List (List ℕ))
-    → IsTyped query q → All (λ words. length words ≡ 14) packets → Q q packets
+    → IsTyped query q → All (λ words. length words ≡ FIELDS) packets → Q q packets
 
 -- Each row of a stream has a word for each of its columns.
 abbrev pub RowsFillTheirColumns : Type 0

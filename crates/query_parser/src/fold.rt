@@ -13,11 +13,11 @@ use crate::statement::block_within;
 use crate::word::{at_mark, at_name, comma_name, keyword, name, number, plain_mark};
 use marple_base::Seq;
 use query_grammar::Counts;
-use query_lang::{FoldDef, Item, Mark, Name, StateVar, Token, Word};
+use query_lang::{FoldDef, Item, MAX_NESTING, Mark, Name, StateVar, Token, Word};
 use std::alloc::Global;
 
-/// How many brackets may be opened inside the one of a fold's body: at most 64 are open at once.
-const WITHIN_BODY: u32 = 63;
+/// How many brackets may be opened inside the one of a fold's body.
+const WITHIN_BODY: u32 = MAX_NESTING - 1;
 
 /// A state variable, with the number that it starts at: 0 where none is given.
 fn state_variable(counts: Counts, rest: &[Token]) -> Seen<'_, StateVar>

@@ -6,7 +6,7 @@ ghost use Rattle.query_parser.specs.declared.halt.Halt.TheVariants.{At, Memory};
 ghost use Rattle.query_parser.specs.Reads.{Charges, role_of};
 
 use query_grammar::{Counts, Stop};
-use query_lang::Token;
+use query_lang::{MAX_NODES, MAX_STATEMENTS, Token};
 use std::alloc::AllocError;
 
 /// The first of these tokens is a fault.
@@ -70,12 +70,12 @@ pub fn charged(role: Role, counts: Counts, rest: &[Token]) -> Result<Counts, Fau
     let Counts { nodes, statements } = counts;
     match role {
         Role::Plain => Ok(counts),
-        Role::Node if nodes < 512 => Ok(Counts {
+        Role::Node if nodes < MAX_NODES => Ok(Counts {
             nodes: nodes + 1,
             statements,
         }),
         Role::Node => Err(stop_at(Stop::Nodes, rest)),
-        Role::Statement if statements < 64 => Ok(Counts {
+        Role::Statement if statements < MAX_STATEMENTS => Ok(Counts {
             nodes,
             statements: statements + 1,
         }),

@@ -14,14 +14,16 @@ use crate::halt::{Read, Role, Seen};
 use crate::word::{at_mark, at_name, at_word, comma_name, five_tuple, keyword, name, plain_mark};
 use marple_base::Seq;
 use query_grammar::Counts;
-use query_lang::{Column, Expr, Item, Key, Mark, Name, StreamDef, StreamOp, Token, Word};
+use query_lang::{
+    Column, Expr, Item, Key, MAX_NESTING, Mark, Name, StreamDef, StreamOp, Token, Word,
+};
 use std::alloc::Global;
 
-/// How many brackets may be opened inside the one of a filter: at most 64 are open at once.
-const WITHIN_FILTER: u32 = 63;
+/// How many brackets may be opened inside the one of a filter.
+const WITHIN_FILTER: u32 = MAX_NESTING - 1;
 
 /// How many brackets may be opened inside the two of a map's columns.
-const WITHIN_COLUMNS: u32 = 62;
+const WITHIN_COLUMNS: u32 = MAX_NESTING - 2;
 
 /// A comma, and a condition after it.
 fn comma_condition(alloc: Global, counts: Counts, rest: &[Token]) -> Read<'_, Expr>

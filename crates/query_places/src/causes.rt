@@ -9,7 +9,7 @@ use crate::values::{
 };
 use fold_class::{Algebra, Operators, Role};
 use marple_base::Seq;
-use query_lang::{Expr, FoldDef, Name, Op, StateVar, Stmt};
+use query_lang::{Expr, FoldDef, MAX_STATES, Name, Op, StateVar, Stmt};
 use std::alloc::{AllocError, Global};
 
 /// A variable that is spoilt at the end of a fold's body, and its cause.
@@ -187,7 +187,7 @@ fn spoilt_at_end(
 ) -> Result<Seq<Spoilt>, AllocError> {
     let mut found = Seq::new(alloc);
     for (v, state) in states.iter().enumerate() {
-        if v < 8 {
+        if v < MAX_STATES {
             if let Value::Spoilt(cause) = values[v] {
                 found.push(Spoilt {
                     variable: state.name,
@@ -201,15 +201,15 @@ fn spoilt_at_end(
 
 // The values at the start: known where a variable has a depth, and carried otherwise.
 fn first_values(states: &[StateVar], history: &[u8]) -> Values {
-    let mut values = [Value::Known; 8];
+    let mut values = [Value::Known; MAX_STATES];
     for (v, _state) in states.iter().enumerate() {
-        if v < 8 {
+        if v < MAX_STATES {
             values[v] = Value::Carried;
         }
     }
     for v in history {
         let v = usize::from(*v);
-        if v < 8 {
+        if v < MAX_STATES {
             values[v] = Value::Known;
         }
     }

@@ -2,7 +2,7 @@
 
 use crate::expressions::start_of;
 use fold_class::Role;
-use query_lang::{Expr, Name, Op, StateVar};
+use query_lang::{Expr, MAX_STATES, Name, Op, StateVar};
 
 /// What a condition keeps, where it keeps something: `if (x > m) { m = x; }` the greatest, and `if (x < m) { m = x; }` the
 /// least.
@@ -39,13 +39,13 @@ pub(crate) enum Value {
     Spoilt(Cause),
 }
 
-/// The values of a fold's variables, of which there are at most 8 in an accepted query.
-pub(crate) type Values = [Value; 8];
+/// The values of a fold's variables, of which there are at most `MAX_STATES` in an accepted query.
+pub(crate) type Values = [Value; MAX_STATES];
 
 /// The value of a name: that of the variable, and known where it is none.
 pub(crate) fn value_of(states: &[StateVar], values: &Values, id: u32) -> Value {
     for (v, state) in states.iter().enumerate() {
-        if state.name.id == id && v < 8 {
+        if state.name.id == id && v < MAX_STATES {
             return values[v];
         }
     }
@@ -55,7 +55,7 @@ pub(crate) fn value_of(states: &[StateVar], values: &Values, id: u32) -> Value {
 /// Gives a variable a value.
 pub(crate) fn set_value(states: &[StateVar], values: &mut Values, id: u32, value: Value) {
     for (v, state) in states.iter().enumerate() {
-        if state.name.id == id && v < 8 {
+        if state.name.id == id && v < MAX_STATES {
             values[v] = value;
         }
     }

@@ -6,7 +6,7 @@ use Rattle.std.proofs.Math.Nat.{le-add_right, mul-le-mul_right}
 use Rattle.std.proofs.lemmas.List.Elements.{All-head, All-tail}
 use Rattle.marple_base.specs.declared.field.FieldSet.{FieldSet}
 use Rattle.marple_base.specs.declared.field.Packet.{Packet}
-use Rattle.trace_drive.specs.Kept.{Kept, fields_in, kept_of, kept_words}
+use Rattle.trace_drive.specs.Kept.{Kept, fields_kept, kept_of, kept_words}
 
 -- These packets are those that were kept and those that are left, of which nothing is lost when they are kept too.
 pub record IsKeptSoFar (reads : FieldSet) (all : List Packet) (kept : Kept) (left : List Packet) : Type 0 where
@@ -38,6 +38,6 @@ pub beyond_whole : (reads : FieldSet) (all left : List Packet) (kept : Kept) (mo
     → most < kept_words (record { fields = reads; packets = all })
 beyond_whole reads all left kept most so_far over =
     let long : length all ≡ length kept.packets + length left = ap length so_far.parts ∙ length-append kept.packets left in
-    subst (λ n. most < n * length (fields_in reads)) (sym long)
-    (subst (λ fields. most < (length kept.packets + length left) * length (fields_in fields)) so_far.fields
-    (more_words (length kept.packets) (length left) (length (fields_in kept.fields)) most over))
+    subst (λ n. most < n * length (fields_kept reads)) (sym long)
+    (subst (λ fields. most < (length kept.packets + length left) * length (fields_kept fields)) so_far.fields
+    (more_words (length kept.packets) (length left) (length (fields_kept kept.fields)) most over))

@@ -3,17 +3,18 @@ use Rattle.std.proofs.Common.{◌≡◌, ℕ, List, [], ◌∷◌, length, refl,
 use Rattle.std.proofs.lemmas.List.{map-append}
 use Rattle.std.proofs.lemmas.List.Elements.{All-append, All-nil, All-cons}
 use Rattle.marple_base.specs.declared.field.Packet.{Packet}
-use Rattle.queue_sim.specs.Generator.{Arrival, arrivals, packet_of, packets_from, simulated}
+use Rattle.marple_base.specs.declared.field.TheConstants.{FIELDS}
+use Rattle.queue_sim.specs.Generator.{Arrival, arrivals, generated_packet, packets_from, simulated}
 use Rattle.stage_plan.specs.Packets.{AreWhole}
 use Rattle.trace_drive.specs.Drives.{words_of}
 
 abbrev IsWhole : List ℕ → Type 0
-IsWhole words = length words ≡ 14
+IsWhole words = length words ≡ FIELDS
 
 from_whole : (coming : List Arrival) → AreWhole (words_of (packets_from coming))
 from_whole [] = All-nil IsWhole
 from_whole (arrival ∷ earlier) =
-    let last = packet_of (length (arrival ∷ earlier)) arrival in
+    let last = generated_packet (length (arrival ∷ earlier)) arrival in
     subst AreWhole (sym (map-append (λ (packet : Packet). packet.words) (packets_from earlier) (last ∷ [])))
     (All-append IsWhole (words_of (packets_from earlier)) (last.words ∷ []) (from_whole earlier)
     (All-cons IsWhole last.words [] refl (All-nil IsWhole)))

@@ -6,6 +6,7 @@ use Rattle.std.specs.List.{All}
 use Rattle.std.proofs.lemmas.List.{length-map}
 use Rattle.std.proofs.lemmas.List.Elements.{All-map}
 use Rattle.std.proofs.lemmas.Option.{slice_get-map}
+use Rattle.marple_base.specs.declared.field.TheConstants.{FIELDS}
 use Rattle.epoch_entry.specs.contracts.any.AnyEpochsEpochKind.TheImpl.{ghosts}
 use Rattle.epoch_entry.specs.declared.purpose.Entries.TheVariants.{Folds}
 use Rattle.epoch_entry.specs.Foldings.{folding_of}
@@ -21,13 +22,13 @@ use Rattle.plan_loader.specs.Meaning.{fold_in, heading_in, plan_output, plan_tab
 use Rattle.plan_loader.specs.Parts.{AreGroupsFrom, IsGroupFrom, IsPlanFrom, IsSoundFolded, IsSoundMade}
 use Rattle.plan_loader.proofs.Folds.{fold_in_is, foldings}
 use Rattle.plan_loader.proofs.SoundPlan.{all_at, shape_same}
-use Rattle.query_tables.specs.Tables.{text_at}
+use Rattle.query_tables.specs.Tables.{table_text_at}
 use Rattle.stage_plan.specs.declared.group.GroupPlan.{GroupPlan}
 use Rattle.stage_plan.specs.declared.group.GroupWiring.{GroupWiring}
 use Rattle.stage_plan.specs.declared.op.Operand.TheVariants.{Number}
 use Rattle.stage_plan.specs.declared.op.PlanOp.{PlanOp}
 use Rattle.stage_plan.specs.Planned.{taken, wiring_at}
-use Rattle.stage_plan.specs.Registers.{after, stages_of, taken_at}
+use Rattle.stage_plan.specs.Registers.{registers_after, stages_of, taken_at}
 use Rattle.stage_plan.specs.Shape.{GroupShape}
 use Rattle.stage_plan.specs.Sound.{PlanParts}
 use Rattle.switch_core.specs.Pipelines.{IsLaneOf, heading_of, tables_of}
@@ -77,7 +78,8 @@ module _ (law : AlikeFoldingsMakeOneTable) (closed : ClosedGiveTheGroupTable) (o
 
   uses_same : (i : ℕ) (one : Folded) → slice_get made.groups i ≡ Some one → uses_by plan i packets ≡ uses_in made one packets
   uses_same i one at =
-      let take : GroupWiring → List PlanOp → List ℕ → Option Taken = λ w ops words. taken_at w (after ops words (stages_of ops)) in
+      let take : GroupWiring → List PlanOp → List ℕ → Option Taken = λ w ops words. taken_at w
+      (registers_after ops words (stages_of ops)) in
       ap (λ w. uses_taken 1 (map (take w plan.ops) packets)) (wiring_same i one at)
       ∙ ap (λ ops. uses_taken 1 (map (take (wiring_in one) ops) packets)) from.ops
 
@@ -91,7 +93,7 @@ module _ (law : AlikeFoldingsMakeOneTable) (closed : ClosedGiveTheGroupTable) (o
       let alike : AreAlike (folding_at lane) (folding_of is.fold) = record
       { row_per_epoch = kind.row_per_epoch; states = λ rows. kind.folded rows } in
       let fold = is.is_fold.is_fold in
-      let registers = 14 + length made.ops in
+      let registers = FIELDS + length made.ops in
       law.by_closed (heading_of group) (folding_at lane) (folding_of is.fold) (end_of g (uses_by plan i packets) (length packets)).closed
       alike
       ∙ closed (heading_of group) (folding_of is.fold) g (uses_by plan i packets) (length packets) room (in_trace i)
@@ -150,7 +152,7 @@ module _ (law : EndsAreTheTexts) (made : Made) (plan : PlanParts) (prints : List
 
   output_is : (g : Geometry) (packets : List (List ℕ)) → numbered_print prints (plan_tables made g packets) ≡ plan_output made g packets
   unfolding plan_output
-  output_is g packets = ap (flat_map (text_at (plan_tables made g packets))) same
+  output_is g packets = ap (flat_map (table_text_at (plan_tables made g packets))) same
 
   pub plan_reports : Reports Folds plan (HaveNumbers prints) (numbered_print prints) (plan_output made)
   plan_reports = record {

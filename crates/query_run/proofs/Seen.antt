@@ -2,6 +2,7 @@
 use Rattle.std.proofs.Common.{◌≡◌, ℕ, suc, ◌≤◌, List, [], ◌∷◌, length, map, take, refl, sym, ap, ap₂, ◌∙◌, arith}
 use Rattle.std.proofs.lemmas.List.{length-map, length-take-le, take-map}
 use Rattle.std.proofs.lemmas.List.Elements.{All-take}
+use Rattle.marple_base.specs.declared.field.TheConstants.{FIELDS}
 use Rattle.final_queries.specs.declared.table.Table.{Table}
 use Rattle.epoch_entry.specs.declared.purpose.Entries.{Entries}
 use Rattle.epoch_model.specs.Driving.{uses_taken}
@@ -58,4 +59,4 @@ seen_tables law entries g packets number p tables lanes shown far =
 -- the packets so far have the words of all fields
 pub seen_whole : (g : Geometry) (packets : List (List ℕ)) (number : ℕ) (p : PipelineView) → IsAsFarAs g packets number p
     → AreWhole (take number packets)
-seen_whole g packets number p far = All-take (λ (words : List ℕ). length words ≡ 14) number packets far.whole
+seen_whole g packets number p far = All-take (λ (words : List ℕ). length words ≡ FIELDS) number packets far.whole

@@ -9,7 +9,7 @@ use Rattle.marple_base.specs.declared.field.Packet.{Packet}
 use Rattle.stage_plan.specs.Packets.{AreWhole}
 use Rattle.trace_drive.specs.Answers.{BreaksOff, answer_for}
 use Rattle.trace_drive.specs.Drives.{geometry_for, words_of}
-use Rattle.trace_drive.specs.Replays.{IsUnderWay, pipeline_in}
+use Rattle.trace_drive.specs.Replays.{IsUnderWay, replay_pipeline}
 use Rattle.trace_drive.specs.declared.answer.RunError.{RunError}
 use Rattle.trace_drive.specs.declared.replay.Replay.{Replay}
 use Rattle.trace_drive.specs.declared.schedule.Schedule.{Schedule}
@@ -27,7 +27,7 @@ as_long all = length-map all (λ packet. packet.words)
 -- the pipeline is as far as the packets that were taken
 pub as_far : {ways : ℕ} (schedule : Schedule) (all : List Packet) (count : ℕ) (replay : Replay ways) → 0 < ways → 0 < schedule.buckets
     → AreWhole (words_of all) → IsUnderWay schedule all count replay
-    → IsAsFarAs (geometry_for ways schedule) (words_of all) count (pipeline_in replay)
+    → IsAsFarAs (geometry_for ways schedule) (words_of all) count (replay_pipeline replay)
 as_far schedule all count replay some_ways some_buckets whole way = record {
   room = (some_buckets, some_ways);
   whole = whole;

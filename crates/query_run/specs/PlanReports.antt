@@ -8,7 +8,7 @@ use Rattle.plan_file.specs.declared.made.Made.{Made}
 use Rattle.plan_loader.specs.Meaning.{plan_tables}
 use Rattle.plan_loader.specs.Parts.{IsPlanFrom, IsSoundMade}
 use Rattle.query_run.specs.Reports.{end_tables}
-use Rattle.query_tables.specs.Tables.{text_at}
+use Rattle.query_tables.specs.Tables.{table_text_at}
 use Rattle.stage_plan.specs.Sound.{PlanParts}
 use Rattle.switch_core.specs.PlanLanes.{AreLanesOf, LaneView}
 
@@ -23,7 +23,7 @@ pub record HaveNumbers (numbers : List ℕ) (tables : List Table) : Type 0 where
 
 -- the texts of the tables with these numbers, in order
 abbrev pub numbered_print : List ℕ → List Table → List ℕ
-numbered_print numbers tables = flat_map (text_at tables) numbers
+numbered_print numbers tables = flat_map (table_text_at tables) numbers
 
 -- The tables of a plan's machines at the end of packets are those that its text means.
 abbrev pub EndsAreTheTexts : Type 0

@@ -14,7 +14,7 @@ use Rattle.trace_drive.specs.Drives.{end_machines}
 abbrev pub end_tables : PlanParts → List LaneView → Geometry → List (List ℕ) → List Table
 end_tables plan lanes g packets = tables_of plan.groups (map folding_at lanes) (end_machines plan g packets)
 
--- P holds of any packets, each of 14 words, and the tables that lanes of the plan, with entries for this, give at their end.
+-- P holds of any packets, each with a word for each field, and the tables that lanes of the plan, with entries for this, give at their end.
 abbrev pub AtEnds : Entries → PlanParts → (Geometry → List (List ℕ) → List Table → Type 0) → Type 0
 AtEnds entries plan P = (buckets : ℕ) (lanes : List LaneView) (g : Geometry) (packets : List (List ℕ)) → IsSoundPlan plan
     → AreLanesOf entries plan buckets lanes → HasRoom g → AreWhole packets → P g packets (end_tables plan lanes g packets)

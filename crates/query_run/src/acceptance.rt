@@ -7,7 +7,7 @@ ghost use Rattle.query_run.specs.Accepting.{AreKept, AreUnread};
 ghost use Rattle.trace_reader.specs.Faults.{IfRefused};
 ghost use Rattle.trace_reader.specs.Traces.{packets, trace_fault};
 
-use marple_base::{FieldSet, Packet};
+use marple_base::{FIELDS, FieldSet, Packet};
 use std::alloc::{AllocError, Global};
 use trace_drive::{KeptPackets, Packets, read_packets_are_few, read_packets_are_kept};
 use trace_reader::{MAX_RECORDS, Trace, TraceAnswer, open_trace};
@@ -17,7 +17,7 @@ fn accept_rest(trace: &mut Trace) -> Result<(), TraceAnswer>
     ensures accepted { OnOk result (trace.old.fault ≡ None) }
     ensures refused { IfErr result (λ answer. IfRefused answer (λ fault. trace.old.fault ≡ Some fault)) }
 {
-    let mut packet = Packet { words: [0; 14] };
+    let mut packet = Packet { words: [0; FIELDS] };
     'packets: while trace.next_into(&mut packet)? {}
     Ok(())
 }
@@ -52,7 +52,7 @@ fn keep_rest(
     ensures refused { IfErr result (λ answer. IfRefused answer (λ fault. trace.old.fault ≡ Some fault)) }
 {
     let mut kept = none_kept(alloc, reads)?;
-    let mut packet = Packet { words: [0; 14] };
+    let mut packet = Packet { words: [0; FIELDS] };
     'packets: while trace.next_into(&mut packet)? {
         if let Err(AllocError) = kept.push(&packet) {
             return Err(TraceAnswer::Memory);

@@ -7,7 +7,7 @@ ghost use Rattle.marple_base.specs.Sink.{TakesFront};
 ghost use Rattle.plan_file.specs.declared.made.Made.{Made};
 ghost use Rattle.plan_loader.specs.Meaning.{plan_output};
 ghost use Rattle.plan_loader.specs.Parts.{IsPlanFrom, IsSoundMade};
-ghost use Rattle.query_tables.specs.Tables.{text_at};
+ghost use Rattle.query_tables.specs.Tables.{table_text_at};
 ghost use Rattle.stage_plan.specs.Sound.{PlanParts};
 ghost use Rattle.query_run.specs.PlanReports.{HasKeys, HaveNumbers, numbered_print};
 ghost use Rattle.query_run.specs.Reports.{Reports};
@@ -31,8 +31,8 @@ fn write_at<O: Sink>(
 ) -> Result<(), WriteError>
     requires number { number < length tables.now }
     requires tables { All HasKeys tables.now }
-    ensures ok { OnOk result (TakesAllBut (O.taken out.old) (O.taken out.new) text.new (text.old ++ text_at tables.now number)) }
-    ensures err { OnErr result (TakesFront (O.taken out.old) (O.taken out.new) (text.old ++ text_at tables.now number)) }
+    ensures ok { OnOk result (TakesAllBut (O.taken out.old) (O.taken out.new) text.new (text.old ++ table_text_at tables.now number)) }
+    ensures err { OnErr result (TakesFront (O.taken out.old) (O.taken out.new) (text.old ++ table_text_at tables.now number)) }
     ensures failed { IsErrOf result WriteError.Failed → Rose (O.faults out.old) (O.faults out.new) }
     ensures out_later { O.faults out.old ≤ O.faults out.new }
 {

@@ -5,7 +5,7 @@ ghost use Rattle.std.specs.Io.KnownBytes.{Appends};
 ghost use Rattle.std.specs.List.{list_all};
 ghost use Rattle.epoch_model.specs.Epochs.{Geometry};
 ghost use Rattle.stage_plan.specs.Packets.{AreWhole};
-ghost use Rattle.switch_core.specs.Pipelines.{empty_machines, geometry_of};
+ghost use Rattle.switch_core.specs.Pipelines.{empty_machines, geometry_without_refresh};
 ghost use Rattle.switch_core.specs.PlanLanes.{HavePlaces, PipelineStands, PipelineView, lane_is_drained};
 ghost use Rattle.trace_drive.specs.Answers.{BreaksOff};
 ghost use Rattle.trace_drive.specs.Drives.{coming, end_machines, fault_of, geometry_for, words_of};
@@ -52,7 +52,7 @@ pub(crate) fn run_report<const WAYS: usize, R: Report, O: Sink, L: Ledger>(
     ensures machines { IfOk result
         (λ pipeline. PipelineStands pipeline (end_machines plan (geometry_for WAYS schedule) (words_of (coming packets.entry)))) }
     ensures turns { IfOk result (λ pipeline. (fresh : PipelineView)
-        × PipelineStands fresh (empty_machines (geometry_of WAYS schedule.buckets) plan.groups)
+        × PipelineStands fresh (empty_machines (geometry_without_refresh WAYS schedule.buckets) plan.groups)
         × RunsInTurns WAYS schedule.refresh schedule.lag (words_of (coming packets.entry)) fresh pipeline) }
     ensures drained { IfOk result (λ pipeline. list_all lane_is_drained pipeline.lanes ≡ true) }
     ensures buckets { IfOk result (λ pipeline. pipeline.buckets ≡ schedule.buckets) }

@@ -4,12 +4,12 @@ ghost use Rattle.std.specs.Prelude.{◌≡◌, ◌<◌, ◌≤◌, ℕ, List, If
 ghost use Rattle.std.specs.Io.KnownBytes.{Appends};
 ghost use Rattle.epoch_model.specs.Epochs.{Geometry};
 ghost use Rattle.stage_plan.specs.Packets.{AreWhole};
-ghost use Rattle.switch_core.specs.Pipelines.{empty_machines, geometry_of};
+ghost use Rattle.switch_core.specs.Pipelines.{empty_machines, geometry_without_refresh};
 ghost use Rattle.switch_core.specs.PlanLanes.{PipelineStands};
 ghost use Rattle.trace_drive.specs.Answers.{BreaksOff};
 ghost use Rattle.trace_drive.specs.Drives.{coming, fault_of, geometry_for, words_of};
 ghost use Rattle.trace_drive.specs.Follows.{Keeps};
-ghost use Rattle.trace_drive.specs.Replays.{HasTaken, IsUnderWay, fault_in, pipeline_in};
+ghost use Rattle.trace_drive.specs.Replays.{HasTaken, IsUnderWay, replay_fault, replay_pipeline};
 ghost use Rattle.query_run.specs.Reports.{MayPrint, Prints};
 ghost use Rattle.query_run.specs.Views.{CanBeViewed, views_text, views_up_to};
 
@@ -33,7 +33,7 @@ pub(crate) fn write_views<'a, const WAYS: usize, R: Report, O: Sink, L: Ledger>(
     out: &mut O,
     steps: &mut Steps<L>,
 ) -> Result<Replay<'a, WAYS>, RunError>
-    requires fresh { PipelineStands pipeline (empty_machines (geometry_of WAYS pipeline.buckets) pipeline.plan.groups) }
+    requires fresh { PipelineStands pipeline (empty_machines (geometry_without_refresh WAYS pipeline.buckets) pipeline.plan.groups) }
     requires buckets { pipeline.buckets ≡ schedule.buckets }
     requires room { (0 < WAYS) × (0 < schedule.buckets) }
     requires may_print { MayPrint (R.entries report.now) pipeline.plan (R.may_print report.now) }
@@ -46,8 +46,8 @@ pub(crate) fn write_views<'a, const WAYS: usize, R: Report, O: Sink, L: Ledger>(
         (words_of (coming packets.entry)) (length (coming packets.entry)))) }
     ensures under_way { IfOk result (λ replay. (count : ℕ) × IsUnderWay schedule (coming packets.entry) count replay) }
     ensures turns { IfOk result (HasTaken schedule (coming packets.entry) pipeline.entry) }
-    ensures fault { IfOk result (λ replay. fault_in replay ≡ fault_of packets.entry) }
-    ensures keeps { IfOk result (λ replay. Keeps pipeline.entry (pipeline_in replay)) }
+    ensures fault { IfOk result (λ replay. replay_fault replay ≡ fault_of packets.entry) }
+    ensures keeps { IfOk result (λ replay. Keeps pipeline.entry (replay_pipeline replay)) }
     ensures untouched { every ≡ 0 → out.new ≡ out.old }
     ensures breaks_off { IfErr result (λ answer. (text : Geometry → List (List ℕ) → List ℕ)
         → Prints (R.entries report.now) pipeline.entry.plan (R.printed report.now) text → BreaksOff O.taken O.faults

@@ -16,8 +16,8 @@ use Rattle.final_queries.specs.GroupTable.{Heading, group_table}
 use Rattle.table_printer.specs.TableText.{table_text}
 
 -- what a groupby's table says besides its rows
-abbrev pub heading_of : GroupShape → Heading
-heading_of shape = record {
+abbrev pub heading_of_shape : GroupShape → Heading
+heading_of_shape shape = record {
   name = shape.name;
   key_names = shape.key_names;
   state_names = shape.state_names;
@@ -29,7 +29,7 @@ heading_of shape = record {
 -- in its state has a row for each key, over all packets of the key; any other fold has a row for each epoch, over the
 -- packets of that epoch.
 abbrev pub query_table : TypedQuery → Geometry → List (List ℕ) → ℕ → GroupShape → TypedFold → Table
-query_table q g packets i shape f = group_table (heading_of shape) (folding_of f) g (uses q i packets)
+query_table q g packets i shape f = group_table (heading_of_shape shape) (folding_of f) g (uses q i packets)
 
 -- a groupby whose fold isn't there has no table; each groupby of a valid query has a fold
 abbrev pub table_if : TypedQuery → Geometry → List (List ℕ) → ℕ → GroupShape → Option TypedFold → List Table
@@ -41,7 +41,7 @@ abbrev pub tables_from : TypedQuery → Geometry → List (List ℕ) → ℕ →
 tables_from q g packets i [] = []
 tables_from q g packets i (shape ∷ shapes) = table_if q g packets i shape (fold_at q i) ++ tables_from q g packets (suc i) shapes
 
--- The tables of a query's groupbys over these packets, each of 14 words.
+-- The tables of a query's groupbys over these packets, each with a word for each field.
 unfoldable pub group_tables : TypedQuery → Geometry → List (List ℕ) → List Table
 group_tables q g packets = tables_from q g packets 0 (query_groups q)
 
@@ -50,12 +50,12 @@ abbrev pub query_tables : TypedQuery → Geometry → List (List ℕ) → List T
 query_tables q g packets = with_finals q.names q.folds (group_tables q g packets) q.finals
 
 -- the text of the table with this number
-abbrev pub text_at : List Table → ℕ → List ℕ
-text_at tables number = unwrap_or (option_map table_text (slice_get tables number)) []
+abbrev pub table_text_at : List Table → ℕ → List ℕ
+table_text_at tables number = unwrap_or (option_map table_text (slice_get tables number)) []
 
 -- the texts of the printed tables, in the order of the prints
 abbrev pub printed : TypedQuery → List Table → List ℕ
-printed q tables = flat_map (λ one. text_at tables (table_number (length (takings q.streams)) one)) q.prints
+printed q tables = flat_map (λ one. table_text_at tables (table_number (length (takings q.streams)) one)) q.prints
 
 -- What a query prints over these packets.
 unfoldable pub query_text : TypedQuery → Geometry → List (List ℕ) → List ℕ

@@ -8,12 +8,12 @@ ghost use Rattle.query_lang.specs.Folds.{IsValidFold};
 ghost use Rattle.query_lang.specs.Streams.{takings};
 ghost use Rattle.query_lang.specs.TypedFinals.{table_number};
 ghost use Rattle.final_queries.specs.Finals.{IsTable, table_shape, with_finals};
-ghost use Rattle.query_tables.specs.Tables.{printed, text_at};
+ghost use Rattle.query_tables.specs.Tables.{printed, table_text_at};
 ghost use Rattle.marple_base.specs.Pieces.{TakesAllBut};
 
 use final_queries::{Table, run_final};
 use marple_base::{Seq, Sink, Steps, TextBuffer, WriteError};
-use query_lang::{PrintOf, TypedQuery};
+use query_lang::{MAX_GROUPBYS, PrintOf, TypedQuery};
 use std::alloc::{AllocError, Global};
 use std::sync::ledger::Ledger;
 use table_printer::write_table;
@@ -43,7 +43,7 @@ pub fn add_finals<L: Ledger>(
 
 /// The number of a printed table, where there are `groups` groupbys.
 pub fn table_number(groups: usize, one: PrintOf) -> usize
-    requires { groups ≤ 8 }
+    requires { groups ≤ MAX_GROUPBYS }
     ensures { result ≡ table_number groups one }
 {
     match one {
@@ -61,8 +61,8 @@ fn write_table_at<O: Sink>(
 ) -> Result<(), WriteError>
     requires number { number < length tables.now }
     requires tables { All IsTable tables.now }
-    ensures ok { OnOk result (TakesAllBut (O.taken out.old) (O.taken out.new) text.new (text.old ++ text_at tables.now number)) }
-    ensures err { OnErr result (TakesFront (O.taken out.old) (O.taken out.new) (text.old ++ text_at tables.now number)) }
+    ensures ok { OnOk result (TakesAllBut (O.taken out.old) (O.taken out.new) text.new (text.old ++ table_text_at tables.now number)) }
+    ensures err { OnErr result (TakesFront (O.taken out.old) (O.taken out.new) (text.old ++ table_text_at tables.now number)) }
     ensures failed { IsErrOf result WriteError.Failed → Rose (O.faults out.old) (O.faults out.new) }
     ensures out_later { O.faults out.old ≤ O.faults out.new }
 {
@@ -77,13 +77,13 @@ fn write_printed<O: Sink>(
     text: &mut TextBuffer,
     out: &mut O,
 ) -> Result<(), WriteError>
-    requires groups { groups ≤ 8 }
+    requires groups { groups ≤ MAX_GROUPBYS }
     requires prints { All (λ one. table_number groups one < length tables.now) prints.now }
     requires tables { All IsTable tables.now }
     ensures ok { OnOk result (TakesAllBut (O.taken out.old) (O.taken out.new) text.new
-        (text.old ++ flat_map (λ one. text_at tables.now (table_number groups one)) prints.now)) }
+        (text.old ++ flat_map (λ one. table_text_at tables.now (table_number groups one)) prints.now)) }
     ensures err { OnErr result (TakesFront (O.taken out.old) (O.taken out.new)
-        (text.old ++ flat_map (λ one. text_at tables.now (table_number groups one)) prints.now)) }
+        (text.old ++ flat_map (λ one. table_text_at tables.now (table_number groups one)) prints.now)) }
     ensures failed { IsErrOf result WriteError.Failed → Rose (O.faults out.old) (O.faults out.new) }
     ensures out_later { O.faults out.old ≤ O.faults out.new }
 {

@@ -20,6 +20,7 @@ use Rattle.query_lang.specs.Folds.{block_count}
 use Rattle.query_lang.specs.Checks.{Checked, must_not, is_among, place_of}
 use Rattle.query_lang.specs.TypedFolds.{target_at, target_of, or_else, state_in, joined, inside, emit_condition, no_state}
 use Rattle.query_lang.proofs.TreeLemmas.{term_number, term_not, term_binary, block_assign, block_if}
+use Rattle.query_lang.specs.declared.fault.TheConstants.{MAX_NODES, MAX_STATEMENTS}
 use Rattle.query_types.proofs.ExprLaws.{place_bound, IsConditionIn, IsWordIn}
 
 pub must_not_ok : {A : Type 0} (test : Bool) (kind : FaultKind) (span : Span) (next : Checked A) (x : A)
@@ -168,7 +169,8 @@ not_in slots n c v =
           omega (arith, ap term_nodes is, v.nodes);
     }
 
-pub emit_valid : (states args n d : ℕ) (outer : Enclosing) → n ≤ 512 → d + 1 ≤ 64 → IsAround states args n d outer → outer.state ≡ None
+pub emit_valid : (states args n d : ℕ) (outer : Enclosing) → n ≤ MAX_NODES → d + 1 ≤ MAX_STATEMENTS → IsAround states args n d outer
+    → outer.state ≡ None
     → IsValidEmit states args (term_of (emit_condition outer.condition))
 emit_valid states args n d outer hn hd va none = go outer.condition va.condition (va.reads none)
   where

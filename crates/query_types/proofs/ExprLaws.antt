@@ -17,7 +17,7 @@ use Rattle.query_lang.specs.Terms.{Term, Literal, term_of}
 use Rattle.query_lang.specs.Folds.{IsValidTerm, IsConstant, TakesOperands, is_condition, gives_condition, term_nodes}
 use Rattle.query_lang.specs.Checks.{Checked, and_then, must, collected, is_among, place_from, place_of}
 use Rattle.query_lang.specs.TypedExprs.{slot_at, slot_of, is_condition_sort, is_operand, is_number_with, is_right_constant, of_two, call_of}
-use Rattle.query_lang.specs.TypedExprs.{negated, expr_step, expr_checked, condition_of, word_of}
+use Rattle.query_lang.specs.TypedExprs.{negation_checked, expr_step, expr_checked, condition_of, word_of}
 use Rattle.query_lang.specs.TypedFolds.{nodes_step, expr_nodes}
 use Rattle.query_lang.proofs.TreeLemmas.{term_number, term_slot, term_not, term_binary}
 use Rattle.query_types.specs.Numbers.{greatest_of, number_step, greatest_number}
@@ -134,7 +134,7 @@ of_two_valid op at slots n m a b found va vb e =
       nodes = omega (arith, ap term_nodes is, va.nodes, vb.nodes);
     })
 
-pub negated_valid : (span : Span) (slots n : ℕ) (a found : Found) → IsFound slots n a → negated span a ≡ Ok found
+pub negated_valid : (span : Span) (slots n : ℕ) (a found : Found) → IsFound slots n a → negation_checked span a ≡ Ok found
     → IsFound slots (1 + n) found
 negated_valid span slots n a found va e =
     let one = must_ok _ _ _ _ found e in

@@ -35,6 +35,7 @@ use Rattle.query_lang.specs.TypedFinals.{table_named, table_number, five_fields,
 use Rattle.query_lang.specs.TypedFinals.{made_final}
 use Rattle.query_lang.specs.TypedQueries.{AreNames, AreValidWords, IsValidWord, IsValidCondition, IsValidGroup, IsValidFinalOp, IsQuiet}
 use Rattle.query_lang.specs.TypedQueries.{Shape, shapes, shape_at, group_shape, final_shape}
+use Rattle.query_lang.specs.declared.fault.TheConstants.{MAX_NODES}
 use Rattle.query_types.specs.Numbers.{final_number}
 use Rattle.query_types.proofs.ExprLaws.{same_ok, found_first, must_ok, slot_bound, condition_valid}
 use Rattle.query_types.proofs.BodyLaws.{must_not_ok}
@@ -113,7 +114,7 @@ drop_names names (suc n) (x ∷ rest) v = drop_names names n rest (All-tail (IsN
 
 module _ (w : Whole) (given : Given) (e : Earlier) (made : MadeFinal) (part : IsPart w e) (count : length (takings w.streams) ≡ w.groups)
     (same : given.groups ≡ w.groups) (known : AreKnown w (length e.streams) (length e.finals) e.known) where
-  filter_valid : (input : Name) (c : Expr) → final_nodes (ops.Filter input c) ≤ 512 → final_number (ops.Filter input c) < 2 ^ 64
+  filter_valid : (input : Name) (c : Expr) → final_nodes (ops.Filter input c) ≤ MAX_NODES → final_number (ops.Filter input c) < 2 ^ 64
       → made_final given e (ops.Filter input c) ≡ Ok made → IsMadeFinal w e made
   filter_valid input c nodes words h =
       let source = found_first (table_named e.known input) _ made h in
@@ -137,7 +138,7 @@ module _ (w : Whole) (given : Given) (e : Earlier) (made : MadeFinal) (part : Is
         keys = v.keys;
       }))
 
-  map_valid : (input : Name) (columns : List Column) → final_nodes (ops.Map input columns) ≤ 512
+  map_valid : (input : Name) (columns : List Column) → final_nodes (ops.Map input columns) ≤ MAX_NODES
       → IsNumberedFinal w.names (ops.Map input columns) → final_number (ops.Map input columns) < 2 ^ 64
       → made_final given e (ops.Map input columns) ≡ Ok made → IsMadeFinal w e made
   map_valid input columns nodes numbered words h =
@@ -292,7 +293,7 @@ module _ (w : Whole) (given : Given) (e : Earlier) (made : MadeFinal) (part : Is
 
 pub final_valid : (w : Whole) (given : Given) (e : Earlier) (op : FinalOp) (made : MadeFinal) → IsPart w e
     → length (takings w.streams) ≡ w.groups → given.groups ≡ w.groups
-    → AreKnown w (length e.streams) (length e.finals) e.known → final_nodes op ≤ 512 → IsNumberedFinal w.names op
+    → AreKnown w (length e.streams) (length e.finals) e.known → final_nodes op ≤ MAX_NODES → IsNumberedFinal w.names op
     → (0 < length (five_fields given.fields)) × HasFinalKeys op → final_number op < 2 ^ 64 → made_final given e op ≡ Ok made
     → IsMadeFinal w e made
 final_valid w given e (ops.Filter input c) made part count same known nodes numbered some words h =

@@ -31,6 +31,7 @@ use Rattle.query_lang.specs.TypedStreams.{next_stream, made_stream, with_stream}
 use Rattle.query_lang.specs.TypedFinals.{table_named, five_fields}
 use Rattle.query_lang.specs.TypedFinals.{made_final, with_final}
 use Rattle.query_lang.specs.Typing.{with_fold, item_checked}
+use Rattle.query_lang.specs.declared.fault.TheConstants.{MAX_BINDINGS}
 use Rattle.query_types.specs.Fitting.{AreApart, FitsKnown, Fits}
 use Rattle.query_types.proofs.ApartLaws.{apart_within, apart_push}
 use Rattle.query_types.proofs.ExprLaws.{same_ok, found_first}
@@ -158,5 +159,5 @@ folds_within e v = omega (
       (λ (one : Known). one.name),
 )
 
-pub groups_within : (e : Earlier) → Fits e → length e.streams + length e.finals < 32 → e.groups < 32
+pub groups_within : (e : Earlier) → Fits e → length e.streams + length e.finals < MAX_BINDINGS → e.groups < MAX_BINDINGS
 groups_within e v room = omega (arith, v.groups, room)

@@ -34,6 +34,7 @@ use Rattle.query_lang.specs.TypedStreams.{keys_checked, arguments_of, made_strea
 use Rattle.query_lang.specs.TypedFinals.{table_named, five_fields, made_final, with_final}
 use Rattle.query_lang.specs.TypedQueries.{AreNames, HasNames}
 use Rattle.query_lang.specs.Typing.{with_fold, item_checked, items_checked}
+use Rattle.query_lang.specs.declared.fault.TheConstants.{MAX_ARGS, MAX_BINDINGS, MAX_GROUPBYS, MAX_STATES}
 use Rattle.query_types.specs.Numbers.{greatest_of, item_number}
 use Rattle.query_types.proofs.ExprLaws.{same_ok, found_first, must_ok}
 use Rattle.query_types.proofs.BodyLaws.{must_not_ok}
@@ -48,7 +49,7 @@ states_names names found states [] h all e = let A : List ℕ → Type 0 = λ l.
 states_names names found states (one ∷ rest) h all e =
     let P : StateVar → Type 0 = λ state. state.name.id < names in
     let new = must_not_ok (is_among one.name.id found) NameTaken one.name.span _ states e in
-    let room = must_ok (nat_lt (length found) 8) (OverLimit States) one.name.span _ states new.1 in
+    let room = must_ok (nat_lt (length found) MAX_STATES) (OverLimit States) one.name.span _ states new.1 in
     states_names names (found ++ one.name.id ∷ []) states rest (All-push (IsName names) found one.name.id h (All-head P one rest all))
     (All-tail P one rest all) room.1
 
@@ -58,7 +59,7 @@ args_names names states found args [] h all e = let A : List ℕ → Type 0 = λ
 args_names names states found args (one ∷ rest) h all e =
     let P : Name → Type 0 = λ arg. arg.id < names in
     let new = must_not_ok (is_among one.id states || is_among one.id found) NameTaken one.span _ args e in
-    let room = must_ok (nat_lt (length found) 16) (OverLimit Args) one.span _ args new.1 in
+    let room = must_ok (nat_lt (length found) MAX_ARGS) (OverLimit Args) one.span _ args new.1 in
     args_names names states (found ++ one.id ∷ []) args rest (All-push (IsName names) found one.id h (All-head P one rest all))
     (All-tail P one rest all) room.1
 
@@ -76,15 +77,15 @@ fold_named_well names d f h e =
 
 -- the groupbys are those with tables, and there are at most 8
 abbrev IsCounted : Earlier → TypedOp → Bool → Type 0
-IsCounted earlier op true = (taking_of op ≡ None → ⊥) × (earlier.groups < 8)
+IsCounted earlier op true = (taking_of op ≡ None → ⊥) × (earlier.groups < MAX_GROUPBYS)
 IsCounted earlier op false = taking_of op ≡ None
 
 pub record Standing (names : ℕ) (e : Earlier) : Type 0 where
   pub folds : All IsValidFold e.folds
   pub fold_names : All (HasNames names) e.folds
-  pub bindings : length e.streams + length e.finals ≤ 32
+  pub bindings : length e.streams + length e.finals ≤ MAX_BINDINGS
   pub groups : e.groups ≡ length (takings e.streams)
-  pub most : e.groups ≤ 8
+  pub most : e.groups ≤ MAX_GROUPBYS
 
 with_fold_stands : (names : ℕ) (e : Earlier) (f : TypedFold) → Standing names e → IsValidFold f → HasNames names f
     → Standing names (with_fold e f)
@@ -96,10 +97,10 @@ with_fold_stands names e f s v n = record {
   most = s.most;
 }
 
-pub room_for_one : (e : Earlier) (name : Name) → begun e name ≡ Ok tt → length e.streams + length e.finals < 32
+pub room_for_one : (e : Earlier) (name : Name) → begun e name ≡ Ok tt → length e.streams + length e.finals < MAX_BINDINGS
 room_for_one e name h =
     let new = must_not_ok (is_some (meaning_of e.known name.id)) NameTaken name.span _ tt h in
-    let room = must_ok (nat_lt (length e.streams + length e.finals) 32) (OverLimit Bindings) name.span _ tt new.1 in
+    let room = must_ok (nat_lt (length e.streams + length e.finals) MAX_BINDINGS) (OverLimit Bindings) name.span _ tt new.1 in
     ltb-true _ _ room.0
 
 some_none : (t : Taking) → (let o : Option Taking = Some t in o) ≡ None → ⊥
@@ -124,7 +125,7 @@ made_counted five e name (ops.Zip first second) made h =
     let C : MadeStream → Type 0 = λ m. IsCounted e m.op (is_some m.table) in
     subst C (same_ok _ made free.1) refl
 made_counted five e name (ops.Group input keys fold_name) made h =
-    let room = must_ok (nat_lt e.groups 8) (OverLimit Groupbys) name.span _ made h in
+    let room = must_ok (nat_lt e.groups MAX_GROUPBYS) (OverLimit Groupbys) name.span _ made h in
     let source = found_first (stream_named e.known input) _ made room.1 in
     let picked = found_first (keys_checked five (column_names source.0.columns) source.0.hidden keys) _ made source.2 in
     let f = found_first (fold_named e.known fold_name) _ made picked.2 in
@@ -133,19 +134,19 @@ made_counted five e name (ops.Group input keys fold_name) made h =
     let C : MadeStream → Type 0 = λ m. IsCounted e m.op (is_some m.table) in
     subst C (same_ok _ made arguments.2) (λ none. some_none _ none, ltb-true _ _ room.0)
 
-last_counted : (e : Earlier) (name : Name) (columns : List ℕ) (op : TypedOp) (b : Bool) → IsCounted e op b → e.groups ≤ 8
-    → (length (takings (record { name = name; columns = columns; op = op } ∷ [])) ≡ cond b 1 0) × (e.groups + cond b 1 0 ≤ 8)
+last_counted : (e : Earlier) (name : Name) (columns : List ℕ) (op : TypedOp) (b : Bool) → IsCounted e op b → e.groups ≤ MAX_GROUPBYS
+    → (length (takings (record { name = name; columns = columns; op = op } ∷ [])) ≡ cond b 1 0) × (e.groups + cond b 1 0 ≤ MAX_GROUPBYS)
 last_counted e name columns op b = go (taking_of op) refl b
   where
-    go : (t : Option Taking) → taking_of op ≡ t → (b : Bool) → IsCounted e op b → e.groups ≤ 8
-        → (length (takings (record { name = name; columns = columns; op = op } ∷ [])) ≡ cond b 1 0) × (e.groups + cond b 1 0 ≤ 8)
+    go : (t : Option Taking) → taking_of op ≡ t → (b : Bool) → IsCounted e op b → e.groups ≤ MAX_GROUPBYS
+        → (length (takings (record { name = name; columns = columns; op = op } ∷ [])) ≡ cond b 1 0) × (e.groups + cond b 1 0 ≤ MAX_GROUPBYS)
     go None is true c h = absurd (c.0 is)
     go None is false c h = (rw is refl, omega arith)
     go (Some t) is true c h = (rw is refl, omega (arith, c.1))
     go (Some t) is false c h = absurd (some_none t (sym is ∙ c))
 
 with_stream_stands : (names : ℕ) (e : Earlier) (name : Name) (made : MadeStream) → Standing names e → length e.streams
-    + length e.finals < 32 → IsCounted e made.op (is_some made.table)
+    + length e.finals < MAX_BINDINGS → IsCounted e made.op (is_some made.table)
     → Standing names (with_stream e name made)
 with_stream_stands names e name made s room counted =
     let one : TypedStream = record { name = name; columns = column_names made.columns; op = made.op } in
@@ -162,7 +163,8 @@ with_stream_stands names e name made s room counted =
       most = omega (arith, last.1, s.most);
     }
 
-with_final_stands : (names : ℕ) (e : Earlier) (name : Name) (made : MadeFinal) → Standing names e → length e.streams + length e.finals < 32
+with_final_stands : (names : ℕ) (e : Earlier) (name : Name) (made : MadeFinal) → Standing names e → length e.streams
+    + length e.finals < MAX_BINDINGS
     → Standing names (with_final e name made)
 with_final_stands names e name made s room =
     let one : TypedFinal = record { name = name; columns = made.columns; keys = made.keys; op = made.op } in

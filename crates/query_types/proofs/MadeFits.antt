@@ -39,6 +39,7 @@ use Rattle.query_lang.specs.TypedStreams.{next_stream, made_stream}
 use Rattle.query_lang.specs.TypedFinals.{table_named, quiet_fold, five_fields, same_names, key_columns, other_columns}
 use Rattle.query_lang.specs.TypedFinals.{made_final}
 use Rattle.query_lang.specs.TypedQueries.{AreNames}
+use Rattle.query_lang.specs.declared.fault.TheConstants.{MAX_GROUPBYS, MAX_KEYS, MAX_STATES}
 use Rattle.query_types.specs.Fitting.{AreApart, AreDifferent, FitsTable, FitsKnown, Fits}
 use Rattle.query_types.proofs.ApartLaws.{or_false, among_both, apart_append, apart_push, apart_none, apart_drop}
 use Rattle.query_types.proofs.ApartLaws.{different_push, others_taken}
@@ -77,7 +78,7 @@ keys_different columns hidden found picked [] all v e = let P : Picked → Type 
 keys_different columns hidden found picked (key ∷ rest) all v e =
     let slot = found_first (slot_of columns hidden key) _ picked e in
     let new = must_not_ok (is_among key.id found.names) NameTaken key.span _ picked slot.2 in
-    let room = must_ok (nat_lt (length found.names) 8) (OverLimit Keys) key.span _ picked new.1 in
+    let room = must_ok (nat_lt (length found.names) MAX_KEYS) (OverLimit Keys) key.span _ picked new.1 in
     keys_different columns hidden (record { names = found.names ++ key.id ∷ []; slots = found.slots ++ slot.0 ∷ [] }) picked rest all
     (apart_push found.names key.id v (slot_name 65536 columns hidden key slot.0 all slot.1) new.0) room.1
 
@@ -127,7 +128,7 @@ keys_named columns hidden found picked [] same e = let P : Picked → Type 0 =
 keys_named columns hidden found picked (key ∷ rest) same e =
     let slot = found_first (slot_of (column_names columns) hidden key) _ picked e in
     let new = must_not_ok (is_among key.id found.names) NameTaken key.span _ picked slot.2 in
-    let room = must_ok (nat_lt (length found.names) 8) (OverLimit Keys) key.span _ picked new.1 in
+    let room = must_ok (nat_lt (length found.names) MAX_KEYS) (OverLimit Keys) key.span _ picked new.1 in
     let named = named_at columns hidden key slot.0 slot.1 in
     let last : column_names (columns_at columns (slot.0 ∷ [])) ≡ key.id ∷ [] = rw named.is (ap (λ n. n ∷ []) named.name) in
     let split : columns_at columns (found.slots ++ slot.0 ∷ []) ≡ columns_at columns found.slots ++ columns_at columns (slot.0 ∷ []) =
@@ -186,7 +187,7 @@ made_fits five e name (ops.Zip first second) made known numbered h =
       table = tt;
     })
 made_fits five e name (ops.Group input keys fold_name) made known numbered h =
-    let room = must_ok (nat_lt e.groups 8) (OverLimit Groupbys) name.span _ made h in
+    let room = must_ok (nat_lt e.groups MAX_GROUPBYS) (OverLimit Groupbys) name.span _ made h in
     let source = found_first (stream_named e.known input) _ made room.1 in
     let ids = column_names source.0.columns in
     let picked = found_first (keys_checked five ids source.0.hidden keys) _ made source.2 in
@@ -258,7 +259,7 @@ states_different : (found states : List ℕ) (list : List StateVar) → AreDiffe
 states_different found states [] h e = let A : List ℕ → Type 0 = λ l. AreDifferent l in subst A (same_ok found states e) h
 states_different found states (one ∷ rest) h e =
     let new = must_not_ok (is_among one.name.id found) NameTaken one.name.span _ states e in
-    let room = must_ok (nat_lt (length found) 8) (OverLimit States) one.name.span _ states new.1 in
+    let room = must_ok (nat_lt (length found) MAX_STATES) (OverLimit States) one.name.span _ states new.1 in
     states_different (found ++ one.name.id ∷ []) states rest (different_push found one.name.id h new.0) room.1
 
 pub fold_states_apart : (d : FoldDef) (f : TypedFold) → IsNumbered 65536 (item.Fold d) → fold_checked d ≡ Ok f → AreApart f.state_names

@@ -31,6 +31,7 @@ use Rattle.query_lang.specs.TypedStreams.{stream_named, fold_named, column_names
 use Rattle.query_lang.specs.TypedStreams.{columns_at, key_names, keys_checked, arguments_of, next_stream, made_stream}
 use Rattle.query_lang.specs.TypedQueries.{AreNames, AreSlots, AreValidWords, IsValidWord, IsValidCondition, IsValidGroup, IsValidOp}
 use Rattle.query_lang.specs.TypedQueries.{group_shape, stream_width}
+use Rattle.query_lang.specs.declared.fault.TheConstants.{MAX_GROUPBYS, MAX_NODES}
 use Rattle.query_types.specs.Numbers.{stream_number}
 use Rattle.query_types.proofs.ExprLaws.{same_ok, found_first, must_ok, condition_valid}
 use Rattle.query_types.proofs.BodyLaws.{must_not_ok}
@@ -79,7 +80,7 @@ columns_length columns = simp length-map
 
 module _ (w : Whole) (five : List ℕ) (e : Earlier) (name : Name) (made : MadeStream) (part : IsPart w e)
     (known : AreKnown w (length e.streams) (length e.finals) e.known) where
-  filter_valid : (input : Name) (c : Expr) → stream_nodes (ops.Filter input c) ≤ 512 → stream_number (ops.Filter input c) < 2 ^ 64
+  filter_valid : (input : Name) (c : Expr) → stream_nodes (ops.Filter input c) ≤ MAX_NODES → stream_number (ops.Filter input c) < 2 ^ 64
       → made_stream five e name (ops.Filter input c) ≡ Ok made → IsMade w e made
   filter_valid input c nodes words h =
       let source = found_first (stream_named e.known input) _ made h in
@@ -97,7 +98,7 @@ module _ (w : Whole) (five : List ℕ) (e : Earlier) (name : Name) (made : MadeS
             refl;
       })
 
-  map_valid : (input : Name) (columns : List Column) → stream_nodes (ops.Map input columns) ≤ 512
+  map_valid : (input : Name) (columns : List Column) → stream_nodes (ops.Map input columns) ≤ MAX_NODES
       → IsNumberedStream w.names (ops.Map input columns) → stream_number (ops.Map input columns) < 2 ^ 64
       → made_stream five e name (ops.Map input columns) ≡ Ok made → IsMade w e made
   map_valid input columns nodes numbered words h =
@@ -164,7 +165,7 @@ module _ (w : Whole) (five : List ℕ) (e : Earlier) (name : Name) (made : MadeS
   groupby_valid : (input : Name) (keys : List Key) (fold_name : Name) → (0 < length five) × HasStreamKeys (ops.Group input keys fold_name)
       → made_stream five e name (ops.Group input keys fold_name) ≡ Ok made → IsMade w e made
   groupby_valid input keys fold_name some h =
-      let room = must_ok (nat_lt e.groups 8) (OverLimit Groupbys) name.span _ made h in
+      let room = must_ok (nat_lt e.groups MAX_GROUPBYS) (OverLimit Groupbys) name.span _ made h in
       let source = found_first (stream_named e.known input) _ made room.1 in
       let ids = column_names source.0.columns in
       let picked = found_first (keys_checked five ids source.0.hidden keys) _ made source.2 in
@@ -200,7 +201,7 @@ module _ (w : Whole) (five : List ℕ) (e : Earlier) (name : Name) (made : MadeS
 
 pub made_valid : (w : Whole) (five : List ℕ) (e : Earlier) (name : Name) (op : StreamOp) (made : MadeStream) → IsPart w e
     → AreKnown w (length e.streams) (length e.finals) e.known
-    → stream_nodes op ≤ 512 → IsNumberedStream w.names op → (0 < length five) × HasStreamKeys op → stream_number op < 2 ^ 64
+    → stream_nodes op ≤ MAX_NODES → IsNumberedStream w.names op → (0 < length five) × HasStreamKeys op → stream_number op < 2 ^ 64
     → made_stream five e name op ≡ Ok made → IsMade w e made
 made_valid w five e name (ops.Filter input c) made part known nodes numbered some words h =
     filter_valid w five e name made part known input c nodes words h

@@ -37,6 +37,7 @@ use Rattle.query_lang.specs.TypedStreams.{keys_checked, arguments_of, next_strea
 use Rattle.query_lang.specs.TypedFinals.{table_named, five_fields, made_final, with_final}
 use Rattle.query_lang.specs.TypedQueries.{HasNames, shapes, group_shape, final_shape}
 use Rattle.query_lang.specs.Typing.{with_fold, item_checked, items_checked, is_group, is_groupby}
+use Rattle.query_lang.specs.declared.fault.TheConstants.{MAX_GROUPBYS}
 use Rattle.query_types.specs.Numbers.{greatest_of, item_number}
 use Rattle.query_types.proofs.ExprLaws.{same_ok, found_first, must_ok}
 use Rattle.query_types.proofs.BodyLaws.{must_not_ok}
@@ -205,7 +206,7 @@ group_made five e name (ops.Zip first second) made h =
     let free = must_not_ok (clash left.0.columns right.0.columns) NameTaken second.span _ made right.2 in
     ap (λ (m : MadeStream). is_some m.table) (sym (same_ok _ made free.1))
 group_made five e name (ops.Group input keys fold_name) made h =
-    let room = must_ok (nat_lt e.groups 8) (OverLimit Groupbys) name.span _ made h in
+    let room = must_ok (nat_lt e.groups MAX_GROUPBYS) (OverLimit Groupbys) name.span _ made h in
     let source = found_first (stream_named e.known input) _ made room.1 in
     let picked = found_first (keys_checked five (column_names source.0.columns) source.0.hidden keys) _ made source.2 in
     let f = found_first (fold_named e.known fold_name) _ made picked.2 in

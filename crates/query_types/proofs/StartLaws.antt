@@ -20,6 +20,7 @@ use Rattle.query_lang.specs.Limits.{IsReadable}
 use Rattle.query_lang.specs.Names.{number_in, with_name}
 use Rattle.query_lang.specs.Checks.{is_among}
 use Rattle.query_lang.specs.Typing.{field_numbers, given_of, is_groupby, start_of, typed_names, with_fields}
+use Rattle.query_lang.specs.declared.fault.TheConstants.{MAX_GROUPBYS}
 use Rattle.query_types.specs.Fitting.{AreApart, AreDifferent, AreReady, Fits, FitsKnown}
 use Rattle.query_types.proofs.ApartLaws.{both_false, or_false, apart_none, apart_push}
 use Rattle.query_types.proofs.MadeLaws.{names_of_made}
@@ -150,6 +151,6 @@ pub start_is : (names : List (List ℕ)) (items : List Item) (start : Earlier) �
 start_is names items start r same = let F : Earlier → Type 0 = λ e. Fits e in subst F (sym same) r.start
 
 -- a ninth groupby isn't counted
-pub given_few : (given : Given) (names : List (List ℕ)) (items : List Item) → given ≡ given_of names items → given.groups ≤ 8
-given_few given names items same = let groups : given.groups ≡ min (count_by is_groupby items) 8 =
+pub given_few : (given : Given) (names : List (List ℕ)) (items : List Item) → given ≡ given_of names items → given.groups ≤ MAX_GROUPBYS
+given_few given names items same = let groups : given.groups ≡ min (count_by is_groupby items) MAX_GROUPBYS =
     ap (λ (g : Given). g.groups) same in omega (arith, groups)

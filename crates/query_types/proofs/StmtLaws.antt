@@ -27,6 +27,7 @@ use Rattle.query_lang.specs.TypedFolds.{states_from, args_from, target_of, state
 use Rattle.query_lang.specs.TypedFolds.{expr_nodes, stmt_nodes_step, stmt_nodes, count_step, stmt_count, body_checked, fold_nodes}
 use Rattle.query_lang.specs.TypedFolds.{fold_statements, fold_checked}
 use Rattle.query_lang.proofs.TreeLemmas.{term_not}
+use Rattle.query_lang.specs.declared.fault.TheConstants.{MAX_ARGS, MAX_NODES, MAX_STATEMENTS, MAX_STATES}
 use Rattle.query_types.specs.Numbers.{greatest_of, stmt_number_step, greatest_in}
 use Rattle.query_types.proofs.ExprLaws.{same_ok, found_first, must_ok, IsConditionIn, IsWordIn, condition_valid, word_valid}
 use Rattle.query_types.proofs.ReadLaws.{condition_past}
@@ -36,7 +37,7 @@ use Rattle.query_types.proofs.BodyLaws.{not_in, emit_valid, no_state_ok}
 abbrev IsSound : List ℕ → List ℕ → Stmt → Type 0
 IsSound states args s = (n d p c : ℕ) (outer : Enclosing) (found made : Body) → greatest_in s < 2 ^ 64
     → IsAround (length states) (length args) n d outer
-    → n + stmt_nodes s ≤ 512 → d + stmt_count s ≤ 64 → IsBody (length states) (length args) p c found
+    → n + stmt_nodes s ≤ MAX_NODES → d + stmt_count s ≤ MAX_STATEMENTS → IsBody (length states) (length args) p c found
     → stmt_checked states args s outer found ≡ Ok made
     → IsBody (length states) (length args) (p + stmt_nodes s) (c + stmt_count s) made
 
@@ -46,7 +47,7 @@ Sound states args = (s : Stmt) × IsSound states args s
 abbrev IsSoundLayer : List ℕ → List ℕ → stmt.Stmt-F Stmt → Type 0
 IsSoundLayer states args x = (n d p c : ℕ) (outer : Enclosing) (found made : Body)
     → stmt_number_step (map-Stmt Stmt ℕ greatest_in x) < 2 ^ 64 → IsAround (length states) (length args) n d outer
-    → n + stmt_nodes_step (map-Stmt Stmt ℕ stmt_nodes x) ≤ 512 → d + count_step (map-Stmt Stmt ℕ stmt_count x) ≤ 64
+    → n + stmt_nodes_step (map-Stmt Stmt ℕ stmt_nodes x) ≤ MAX_NODES → d + count_step (map-Stmt Stmt ℕ stmt_count x) ≤ MAX_STATEMENTS
     → IsBody (length states) (length args) p c found
     → stmt_step states args (map-Stmt Stmt Adding (stmt_checked states args) x) outer found ≡ Ok made
     → IsBody (length states) (length args) (p + stmt_nodes_step (map-Stmt Stmt ℕ stmt_nodes x))
@@ -58,8 +59,8 @@ of_layer states args x layer n d p c outer found made h va hn hd vf e =
     let count = fold-roll-Stmt ℕ count_step x in
     let B : ℕ → ℕ → Type 0 = λ a b. IsBody (length states) (length args) (p + a) (c + b) made in
     let G : ℕ → Type 0 = λ a. a < 2 ^ 64 in
-    let N : ℕ → Type 0 = λ a. n + a ≤ 512 in
-    let C : ℕ → Type 0 = λ a. d + a ≤ 64 in
+    let N : ℕ → Type 0 = λ a. n + a ≤ MAX_NODES in
+    let C : ℕ → Type 0 = λ a. d + a ≤ MAX_STATEMENTS in
     let steps = ap (λ (f : Adding). f outer found) (fold-roll-Stmt Adding (stmt_step states args) x) in
     let whole = layer n d p c outer found made (subst G (fold-roll-Stmt ℕ stmt_number_step x) h) va (subst N nodes hn) (subst C count hd) vf
     (sym steps ∙ e) in
@@ -73,7 +74,7 @@ sum_cons f s rest = sum-map f (s ∷ rest) ∙ sum_by-cons f s rest ∙ ap (λ n
 -- the statements of a block, each of which is sound
 block_sound : (states args : List ℕ) (ss : List (Sound states args)) (n d p c : ℕ) (outer : Enclosing) (found made : Body)
     → greatest_of (map greatest_in (map (λ s. s.0) ss)) < 2 ^ 64 → IsAround (length states) (length args) n d outer
-    → n + sum (map stmt_nodes (map (λ s. s.0) ss)) ≤ 512 → d + sum (map stmt_count (map (λ s. s.0) ss)) ≤ 64
+    → n + sum (map stmt_nodes (map (λ s. s.0) ss)) ≤ MAX_NODES → d + sum (map stmt_count (map (λ s. s.0) ss)) ≤ MAX_STATEMENTS
     → IsBody (length states) (length args) p c found
     → in_order (map (stmt_checked states args) (map (λ s. s.0) ss)) outer found ≡ Ok made
     → IsBody (length states) (length args) (p + sum (map stmt_nodes (map (λ s. s.0) ss))) (c + sum (map stmt_count (map (λ s. s.0) ss)))
@@ -212,8 +213,9 @@ unfolding sounds
 sounds_are states args [] = refl
 sounds_are states args (s ∷ ss) = ap (λ rest. s ∷ rest) (sounds_are states args ss)
 
-body_valid : (states args : List ℕ) (ss : List Stmt) (made : Body) → greatest_of (map greatest_in ss) < 2 ^ 64 → sum_by stmt_nodes ss ≤ 512
-    → sum_by stmt_count ss ≤ 64
+body_valid : (states args : List ℕ) (ss : List Stmt) (made : Body) → greatest_of (map greatest_in ss) < 2 ^ 64
+    → sum_by stmt_nodes ss ≤ MAX_NODES
+    → sum_by stmt_count ss ≤ MAX_STATEMENTS
     → body_checked states args ss ≡ Ok made → IsBody (length states) (length args) (sum_by stmt_nodes ss) (sum_by stmt_count ss) made
 body_valid states args ss made h hn hd e =
     let S = length states in
@@ -223,8 +225,8 @@ body_valid states args ss made h hn hd e =
     let start : Body = record { statements = []; emit = None } in
     let around : IsAround S A 0 0 outer = record { condition = tt; reads = λ _. tt } in
     let v : IsBody S A 0 0 start = record { block = empty_block S A; emit = tt } in
-    let Q : List Stmt → Type 0 = λ list. greatest_of (map greatest_in list) < 2 ^ 64 → sum (map stmt_nodes list) ≤ 512
-    → sum (map stmt_count list) ≤ 64
+    let Q : List Stmt → Type 0 = λ list. greatest_of (map greatest_in list) < 2 ^ 64 → sum (map stmt_nodes list) ≤ MAX_NODES
+    → sum (map stmt_count list) ≤ MAX_STATEMENTS
     → in_order (map (stmt_checked states args) list) outer start ≡ Ok made
     → IsBody S A (sum (map stmt_nodes list)) (sum (map stmt_count list)) made in
     let whole : Q ss = subst Q is (λ g a b k. as_zero S A _ _ made (block_sound states args (sounds states args ss) 0 0 0 0 outer start made
@@ -237,28 +239,30 @@ body_valid states args ss made h hn hd e =
       emit = done.emit;
     }
 
-states_length : (found states : List ℕ) (list : List StateVar) → length found ≤ 8 → states_from found list ≡ Ok states
-    → (length states ≡ length found + length list) × (length states ≤ 8)
+states_length : (found states : List ℕ) (list : List StateVar) → length found ≤ MAX_STATES → states_from found list ≡ Ok states
+    → (length states ≡ length found + length list) × (length states ≤ MAX_STATES)
 states_length found states [] h e =
     let same = ap length (same_ok found states e) in
     (omega arith, omega arith)
 states_length found states (one ∷ rest) h e =
     let new = must_not_ok (is_among one.name.id found) NameTaken one.name.span _ states e in
-    let room = must_ok (nat_lt (length found) 8) (OverLimit States) one.name.span _ states new.1 in
-    let below : length found < 8 = ltb-true _ _ room.0 in
+    let room = must_ok (nat_lt (length found) MAX_STATES) (OverLimit States) one.name.span _ states new.1 in
+    let below : length found < MAX_STATES = ltb-true _ _ room.0 in
     let more = states_length (found ++ one.name.id ∷ []) states rest (omega (arith, length-append found (one.name.id ∷ []))) room.1 in
     (omega (arith, more.0, length-append found (one.name.id ∷ [])), more.1)
 
-args_length : (states found args : List ℕ) (list : List Name) → length found ≤ 16 → args_from states found list ≡ Ok args → length args ≤ 16
+args_length : (states found args : List ℕ) (list : List Name) → length found ≤ MAX_ARGS → args_from states found list ≡ Ok args
+    → length args ≤ MAX_ARGS
 args_length states found args [] h e = let same = ap length (same_ok found args e) in omega arith
 args_length states found args (one ∷ rest) h e =
     let new = must_not_ok (is_among one.id states || is_among one.id found) NameTaken one.span _ args e in
-    let room = must_ok (nat_lt (length found) 16) (OverLimit Args) one.span _ args new.1 in
-    let below : length found < 16 = ltb-true _ _ room.0 in
+    let room = must_ok (nat_lt (length found) MAX_ARGS) (OverLimit Args) one.span _ args new.1 in
+    let below : length found < MAX_ARGS = ltb-true _ _ room.0 in
     args_length states (found ++ one.id ∷ []) args rest (omega (arith, length-append found (one.id ∷ []))) room.1
 
 -- what the check of a fold gives is valid, where the fold keeps its limits and its numbers are words
-pub fold_valid : (d : FoldDef) (f : TypedFold) → greatest_of (map greatest_in d.body) < 2 ^ 64 → fold_nodes d ≤ 512 → fold_statements d ≤ 64
+pub fold_valid : (d : FoldDef) (f : TypedFold) → greatest_of (map greatest_in d.body) < 2 ^ 64 → fold_nodes d ≤ MAX_NODES
+    → fold_statements d ≤ MAX_STATEMENTS
     → fold_checked d ≡ Ok f → IsValidFold f
 fold_valid d f h hn hd e =
     let states = found_first (states_from [] d.states) _ f e in

@@ -29,6 +29,7 @@ use Rattle.query_lang.specs.TypedFolds.{expr_nodes}
 use Rattle.query_lang.specs.TypedStreams.{column_names, new_columns, others_from, columns_at, key_names, keys_from, keys_checked}
 use Rattle.query_lang.specs.TypedStreams.{arguments_of}
 use Rattle.query_lang.specs.TypedQueries.{AreNames, AreSlots, IsValidWord, IsValidCondition, IsValidGroup, Shape, group_shape}
+use Rattle.query_lang.specs.declared.fault.TheConstants.{MAX_KEYS, MAX_NODES}
 use Rattle.query_types.specs.Numbers.{columns_number}
 use Rattle.query_types.proofs.ExprLaws.{same_ok, found_first, must_ok, slot_bound, IsConditionIn, word_valid}
 use Rattle.query_types.proofs.BodyLaws.{must_not_ok}
@@ -43,7 +44,7 @@ StreamName = ℕ → Name
 abbrev pub IsName : ℕ → ℕ → Type 0
 IsName names id = id < names
 
-pub condition_fits : (slots n : ℕ) (e : TypedExpr) → n ≤ 512 → IsConditionIn slots n e → IsValidCondition slots e
+pub condition_fits : (slots n : ℕ) (e : TypedExpr) → n ≤ MAX_NODES → IsConditionIn slots n e → IsValidCondition slots e
 condition_fits slots n e h v = ((v.term, omega (arith, v.nodes)), v.condition)
 
 -- the new columns of a `map`
@@ -53,11 +54,12 @@ pub record AreNew (names slots : ℕ) (made : NewColumns) : Type 0 where
   pub same : length made.values ≡ length made.names
 
 pub new_valid : (columns hidden : List ℕ) (names : ℕ) (made result : NewColumns) (rest : List Column) → AreNew names (length columns) made
-    → sum_by (λ e. term_nodes (term_of e)) made.values + columns_nodes rest ≤ 512 → AreNumbered names rest → columns_number rest < 2 ^ 64
+    → sum_by (λ e. term_nodes (term_of e)) made.values + columns_nodes rest ≤ MAX_NODES → AreNumbered names rest
+    → columns_number rest < 2 ^ 64
     → new_columns columns hidden made rest ≡ Ok result
-    → AreNew names (length columns) result × (sum_by (λ e. term_nodes (term_of e)) result.values ≤ 512)
+    → AreNew names (length columns) result × (sum_by (λ e. term_nodes (term_of e)) result.values ≤ MAX_NODES)
 new_valid columns hidden names made result [] v nodes numbered words e =
-    let P : NewColumns → Type 0 = λ z. AreNew names (length columns) z × (sum_by (λ e. term_nodes (term_of e)) z.values ≤ 512) in
+    let P : NewColumns → Type 0 = λ z. AreNew names (length columns) z × (sum_by (λ e. term_nodes (term_of e)) z.values ≤ MAX_NODES) in
     subst P (same_ok made result e) (v, omega arith)
 new_valid columns hidden names made result (column ∷ rest) v nodes numbered words e =
     let N : Column → Type 0 = λ column. column.name.id < names in
@@ -104,7 +106,7 @@ pub record ArePicked (names slots : ℕ) (picked : Picked) : Type 0 where
   pub ids : AreNames names picked.names
   pub slots_in : AreSlots slots picked.slots
   pub same : length picked.slots ≡ length picked.names
-  pub most : length picked.names ≤ 8
+  pub most : length picked.names ≤ MAX_KEYS
 
 pub keys_valid : (columns hidden : List ℕ) (names : ℕ) (found picked : Picked) (keys : List Name) → AreNames names columns
     → ArePicked names (length columns) found → keys_from columns hidden found keys ≡ Ok picked
@@ -114,8 +116,8 @@ keys_valid columns hidden names found picked [] all v e = let P : Picked → Typ
 keys_valid columns hidden names found picked (key ∷ rest) all v e =
     let slot = found_first (slot_of columns hidden key) _ picked e in
     let new = must_not_ok (is_among key.id found.names) NameTaken key.span _ picked slot.2 in
-    let room = must_ok (nat_lt (length found.names) 8) (OverLimit Keys) key.span _ picked new.1 in
-    let below : length found.names < 8 = ltb-true _ _ room.0 in
+    let room = must_ok (nat_lt (length found.names) MAX_KEYS) (OverLimit Keys) key.span _ picked new.1 in
+    let below : length found.names < MAX_KEYS = ltb-true _ _ room.0 in
     keys_valid columns hidden names (record { names = found.names ++ key.id ∷ []; slots = found.slots ++ slot.0 ∷ [] }) picked rest all
     (record {
       ids = All-push (IsName names) found.names key.id v.ids (slot_name names columns hidden key slot.0 all slot.1);
@@ -132,7 +134,7 @@ keys_count columns hidden found picked [] e = let same : length found.names ≡ 
 keys_count columns hidden found picked (key ∷ rest) e =
     let slot = found_first (slot_of columns hidden key) _ picked e in
     let new = must_not_ok (is_among key.id found.names) NameTaken key.span _ picked slot.2 in
-    let room = must_ok (nat_lt (length found.names) 8) (OverLimit Keys) key.span _ picked new.1 in
+    let room = must_ok (nat_lt (length found.names) MAX_KEYS) (OverLimit Keys) key.span _ picked new.1 in
     let more = keys_count columns hidden (record { names = found.names ++ key.id ∷ []; slots = found.slots ++ slot.0 ∷ [] }) picked rest
     room.1 in
     omega (arith, more, length-append found.names (key.id ∷ []))

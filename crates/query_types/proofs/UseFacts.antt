@@ -11,14 +11,14 @@ use Rattle.query_lang.specs.declared.typed.TypedStream.{TypedStream}
 use Rattle.query_lang.specs.Words.{holds, op_value}
 use Rattle.query_lang.specs.Terms.{Term}
 use Rattle.query_lang.specs.Folds.{term_value}
-use Rattle.query_lang.specs.Streams.{Tuple, Taking, numbered, values_at, holds_at, made_of, list_at, taking_of}
+use Rattle.query_lang.specs.Streams.{Tuple, Taking, numbered, values_at, holds_at, made_of, tuples_at, taking_of}
 use Rattle.query_lang.specs.StreamExamples.{three_packets, tuple, HasParts}
 use Rattle.query_types.specs.Uses.{use_of, taken_by, uses}
 use Rattle.query_types.specs.UseExamples.{use_at, FilteredUses, MappedUses, ZippedUses, FedUses}
 
 abbrev taken : List (List Tuple) → Option Taking → List Use
 taken streams None = []
-taken streams (Some t) = map (use_of t) (list_at streams t.input)
+taken streams (Some t) = map (use_of t) (tuples_at streams t.input)
 
 -- the uses by the operators alone
 abbrev by_ops : List TypedFold → List TypedOp → ℕ → List Use

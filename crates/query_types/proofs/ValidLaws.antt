@@ -28,8 +28,9 @@ use Rattle.query_lang.specs.Limits.{IsNumbered, IsNumberedStream, IsNumberedFina
 use Rattle.query_lang.specs.Names.{number_in, with_name}
 use Rattle.query_lang.specs.Streams.{takings}
 use Rattle.query_lang.specs.TypedStreams.{column_names}
-use Rattle.query_lang.specs.TypedQueries.{AreNames, HasNames, IsTable, IsValidQuery}
+use Rattle.query_lang.specs.TypedQueries.{AreNames, HasNames, IsQueryTable, IsValidQuery}
 use Rattle.query_lang.specs.Typing.{items_checked, with_fields, typed_names, field_numbers, is_groupby, given_of, start_of, checked}
+use Rattle.query_lang.specs.declared.fault.TheConstants.{MAX_GROUPBYS}
 use Rattle.query_types.specs.Numbers.{greatest_of, item_number}
 use Rattle.query_types.proofs.ExprLaws.{same_ok, found_first, must_ok}
 use Rattle.query_types.proofs.ItemLaws.{Standing, items_stand}
@@ -165,7 +166,7 @@ start_sound w names is =
       prints = All-nil (IsPrinted w);
     }
 
-table_there : (q : TypedQuery) (w : Whole) (p : PrintOf) → w.streams ≡ q.streams → w.finals ≡ q.finals → IsPrinted w p → IsTable q p
+table_there : (q : TypedQuery) (w : Whole) (p : PrintOf) → w.streams ≡ q.streams → w.finals ≡ q.finals → IsPrinted w p → IsQueryTable q p
 table_there q w (place.Group number) s f h = omega (arith, ap (λ l. length (takings l)) s)
 table_there q w (place.Final number) s f h = omega (arith, ap length f)
 
@@ -200,7 +201,8 @@ query_valid q typed readable words e =
     let stands = items_stand (length names) (given_of names q.items) q.items (start_of names) end readable.limits numbered words
     (start_stands q.names) first.1 in
     let count = items_count (given_of names q.items) q.items (start_of names) end first.1 in
-    let same : min (count_by is_groupby q.items) 8 ≡ length (takings end.streams) = omega (arith, count, stands.groups, stands.most) in
+    let same : min (count_by is_groupby q.items) MAX_GROUPBYS ≡ length (takings end.streams) =
+    omega (arith, count, stands.groups, stands.most) in
     let s = items_sound w (given_of names q.items) q.items (start_of names) end refl same readable.limits numbered (omega arith)
     readable.keys words (start_sound w q.names refl) first.1 part in
     let typed_is : TypedQuery = record {

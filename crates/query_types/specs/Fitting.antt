@@ -14,6 +14,7 @@ use Rattle.query_lang.specs.Limits.{KeepsLimits, IsNumbered}
 use Rattle.query_lang.specs.TypedStreams.{column_names}
 use Rattle.query_lang.specs.Typing.{start_of}
 use Rattle.query_lang.specs.TypedQueries.{AreNames}
+use Rattle.query_lang.specs.declared.fault.TheConstants.{MAX_BINDINGS}
 
 abbrev pub AreDifferent : List ℕ → Type 0
 AreDifferent [] = Unit {0}
@@ -24,10 +25,10 @@ pub record AreApart (ids : List ℕ) : Type 0 where
   pub below : AreNames 65536 ids
   pub once : AreDifferent ids
 
--- a groupby's table, or that of one of at most 32 finals
+-- a groupby's table, or that of one of at most MAX_BINDINGS finals
 abbrev pub IsEarly : PrintOf → Type 0
 IsEarly (place.Group number) = Unit {0}
-IsEarly (place.Final number) = number < 32
+IsEarly (place.Final number) = number < MAX_BINDINGS
 
 pub record FitsTable (t : TableView) : Type 0 where
   pub columns : AreApart t.columns
@@ -50,7 +51,7 @@ pub record Fits (e : Earlier) : Type 0 where
   pub known : All FitsKnown e.known
   pub names : AreApart (map (λ one. one.name) e.known)
   pub folds : length e.folds < length e.known
-  pub bindings : length e.streams + length e.finals ≤ 32
+  pub bindings : length e.streams + length e.finals ≤ MAX_BINDINGS
   pub groups : e.groups ≤ length e.streams
 
 -- columns by their names, each of which has a slot

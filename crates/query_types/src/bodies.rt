@@ -15,7 +15,8 @@ use crate::exprs::{check_condition, check_word, find_place, has_name};
 use marple_base::{Boxed, Seq};
 use query_lang::typing::{Body, Enclosing};
 use query_lang::{
-    Expr, FaultKind, Name, Op, QueryError, QueryFault, Span, Stmt, TypedExpr, TypedStmt,
+    Expr, FaultKind, MAX_ARGS, MAX_STATES, Name, Op, QueryError, QueryFault, Span, Stmt, TypedExpr,
+    TypedStmt,
 };
 use std::alloc::{AllocError, Global};
 use std::mem;
@@ -354,8 +355,8 @@ pub fn check_body(
     args: &[u32],
     body: &[Stmt],
 ) -> Result<Body, QueryError>
-    requires states { length states.now ≤ 8 }
-    requires args { length args.now ≤ 16 }
+    requires states { length states.now ≤ MAX_STATES }
+    requires args { length args.now ≤ MAX_ARGS }
     ensures given { Answers result (body_checked states.now args.now body.now) }
     ensures numbers { IfOk result (λ _. greatest_of (map greatest_in body.now) < 2 ^ 64) }
 {

@@ -14,7 +14,7 @@ use crate::answer::refused;
 use crate::exprs::{check_word, find_slot, has_name};
 use marple_base::Seq;
 use query_lang::typing::{FoldView, NewColumns, Origin, Picked, StreamColumn};
-use query_lang::{Column, FaultKind, Key, Limit, Name, QueryError, Span};
+use query_lang::{Column, FaultKind, Key, Limit, MAX_KEYS, Name, QueryError, Span};
 use std::alloc::{AllocError, Global};
 
 // Has a column, a hidden state or a new column before it this name?
@@ -185,7 +185,7 @@ fn pick_keys(
 ) -> Result<Picked, QueryError>
     requires { IsNarrow columns.now }
     ensures given { Answers result (keys_from columns.now hidden.now (record { names = []; slots = [] }) keys.now) }
-    ensures most { IfOk result (λ picked. length picked.names ≤ 8) }
+    ensures most { IfOk result (λ picked. length picked.names ≤ MAX_KEYS) }
 {
     let mut found = Picked {
         names: Seq::new(alloc),
@@ -196,7 +196,7 @@ fn pick_keys(
         if has_name(found.names.as_slice(), key.id) {
             return Err(refused(FaultKind::NameTaken, key.span));
         }
-        if found.names.len() >= 8 {
+        if found.names.len() >= MAX_KEYS {
             return Err(refused(FaultKind::OverLimit(Limit::Keys), key.span));
         }
         found.names.push(key.id)?;
@@ -215,7 +215,7 @@ pub fn check_keys(
 ) -> Result<Picked, QueryError>
     requires { IsNarrow columns.now }
     ensures given { Answers result (keys_checked five.now columns.now hidden.now keys.now) }
-    ensures most { IfOk result (λ picked. length picked.names ≤ 8) }
+    ensures most { IfOk result (λ picked. length picked.names ≤ MAX_KEYS) }
 {
     let names = list_keys(alloc, five, keys)?;
     pick_keys(alloc, columns, hidden, names.as_slice())

@@ -3,7 +3,7 @@
 ghost use Rattle.std.specs.Prelude.{◌≡◌, ◌<◌, ◌^◌, ◌∷◌, [], Ok, IfOk, IfSome, length};
 ghost use Rattle.query_lang.specs.Checks.{is_among, place_of};
 ghost use Rattle.query_lang.specs.TypedExprs.{slot_of, is_condition_sort, is_operand, is_right_constant, sort_of, of_two, call_of};
-ghost use Rattle.query_lang.specs.TypedExprs.{negated, expr_checked, condition_of, word_of};
+ghost use Rattle.query_lang.specs.TypedExprs.{negation_checked, expr_checked, condition_of, word_of};
 ghost use Rattle.query_lang.specs.Answers.{Answers};
 ghost use Rattle.query_types.specs.Fitting.{IsNarrow};
 ghost use Rattle.query_types.specs.Numbers.{greatest_number};
@@ -148,7 +148,7 @@ fn call(alloc: Global, op: Op, span: Span, operands: Seq<Found>) -> Result<Found
 
 // `!` before an expression.
 fn negate(alloc: Global, span: Span, inner: Found) -> Result<Found, QueryError>
-    ensures { Answers result (negated span inner) }
+    ensures { Answers result (negation_checked span inner) }
 {
     if !is_condition(inner.sort) {
         return Err(refused(FaultKind::WrongKind, inner.at));

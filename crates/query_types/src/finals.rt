@@ -23,8 +23,8 @@ use query_lang::typing::{
     Earlier, FoldView, Given, Known, MadeFinal, Meaning, NewColumns, Picked, TableView,
 };
 use query_lang::{
-    Column, Expr, FaultKind, FinalDef, FinalOp, Key, Name, PrintOf, QueryError, QueryFault, Span,
-    TypedExpr, TypedFinal, TypedFinalOp,
+    Column, Expr, FaultKind, FinalDef, FinalOp, Key, MAX_BINDINGS, MAX_GROUPBYS, MAX_KEYS, Name,
+    PrintOf, QueryError, QueryFault, Span, TypedExpr, TypedFinal, TypedFinalOp,
 };
 use std::alloc::{AllocError, Global};
 
@@ -35,7 +35,7 @@ fn made_filter(
     source: &TableView,
     condition: TypedExpr,
 ) -> Result<MadeFinal, QueryError>
-    requires groups { groups ≤ 8 }
+    requires groups { groups ≤ MAX_GROUPBYS }
     requires early { IsEarly source.now.place }
     ensures { Answers result (Ok (record {
       op = TypedFinalOp.Filter (table_number groups source.now.place) condition;
@@ -61,7 +61,7 @@ fn check_filter(
     e: &Expr,
 ) -> Result<MadeFinal, QueryError>
     requires fits { Fits earlier.now }
-    requires groups { groups ≤ 8 }
+    requires groups { groups ≤ MAX_GROUPBYS }
     ensures given { Answers result (final_filter groups earlier.now input e.now) }
     ensures numbers { IfOk result (λ _. greatest_number e.now < 2 ^ 64) }
 {
@@ -99,7 +99,7 @@ fn made_map(
     source: &TableView,
     new: NewColumns,
 ) -> Result<MadeFinal, QueryError>
-    requires groups { groups ≤ 8 }
+    requires groups { groups ≤ MAX_GROUPBYS }
     requires early { IsEarly source.now.place }
     ensures { Answers result (Ok (with_values groups source.now new)) }
 {
@@ -121,7 +121,7 @@ fn check_map(
     columns: &[Column],
 ) -> Result<MadeFinal, QueryError>
     requires fits { Fits earlier.now }
-    requires groups { groups ≤ 8 }
+    requires groups { groups ≤ MAX_GROUPBYS }
     ensures given { Answers result (final_map groups earlier.now input columns.now) }
     ensures numbers { IfOk result (λ _. columns_number columns.now < 2 ^ 64) }
 {
@@ -152,7 +152,7 @@ fn table_keys(
 ) -> Result<Picked, QueryError>
     requires { IsNarrow source.now.columns }
     ensures given { Answers result (keys_checked (five_fields given.now.fields) source.now.columns [] keys.now) }
-    ensures most { IfOk result (λ picked. length picked.names ≤ 8) }
+    ensures most { IfOk result (λ picked. length picked.names ≤ MAX_KEYS) }
 {
     let five = five_of(&given.fields);
     check_keys(alloc, five, source.columns.as_slice(), &[], keys)
@@ -188,9 +188,9 @@ fn made_group(
     f: &FoldView,
     arguments: Seq<u16>,
 ) -> Result<MadeFinal, QueryError>
-    requires groups { groups ≤ 8 }
+    requires groups { groups ≤ MAX_GROUPBYS }
     requires early { IsEarly source.now.place }
-    requires keys { length picked.names ≤ 8 }
+    requires keys { length picked.names ≤ MAX_KEYS }
     ensures { Answers result (Ok (with_table_keys groups source.now picked f.now arguments)) }
 {
     let number = number_of_table(groups, source.place);
@@ -213,7 +213,7 @@ fn check_group(
     fold_name: Name,
 ) -> Result<MadeFinal, QueryError>
     requires fits { Fits earlier.now }
-    requires groups { given.now.groups ≤ 8 }
+    requires groups { given.now.groups ≤ MAX_GROUPBYS }
     ensures { Answers result (final_group given.now earlier.now input keys.now fold_name) }
 {
     let source = find_table(earlier, input)?;
@@ -230,7 +230,7 @@ fn made_join(
     left: &TableView,
     right: &TableView,
 ) -> Result<MadeFinal, QueryError>
-    requires groups { groups ≤ 8 }
+    requires groups { groups ≤ MAX_GROUPBYS }
     requires left { IsEarly left.now.place }
     requires right { IsEarly right.now.place }
     ensures { Answers result (Ok (with_others groups left.now right.now)) }
@@ -254,7 +254,7 @@ fn check_join(
     second: Name,
 ) -> Result<MadeFinal, QueryError>
     requires fits { Fits earlier.now }
-    requires groups { groups ≤ 8 }
+    requires groups { groups ≤ MAX_GROUPBYS }
     ensures { Answers result (final_join groups earlier.now first second) }
 {
     let left = find_table(earlier, first)?;
@@ -284,7 +284,7 @@ fn made_top(
     slot: u16,
     kept: u64,
 ) -> Result<MadeFinal, QueryError>
-    requires groups { groups ≤ 8 }
+    requires groups { groups ≤ MAX_GROUPBYS }
     requires early { IsEarly source.now.place }
     ensures { Answers result (Ok (with_kept groups source.now slot kept)) }
 {
@@ -308,7 +308,7 @@ fn check_top(
     span: Span,
 ) -> Result<MadeFinal, QueryError>
     requires fits { Fits earlier.now }
-    requires groups { groups ≤ 8 }
+    requires groups { groups ≤ MAX_GROUPBYS }
     ensures { Answers result (final_top groups earlier.now input column kept span) }
 {
     let source = find_table(earlier, input)?;
@@ -327,7 +327,7 @@ fn check_operator(
     op: &FinalOp,
 ) -> Result<MadeFinal, QueryError>
     requires fits { Fits earlier.now }
-    requires groups { given.now.groups ≤ 8 }
+    requires groups { given.now.groups ≤ MAX_GROUPBYS }
     ensures given { Answers result (made_final given.now earlier.now op.now) }
     ensures numbers { IfOk result (λ _. final_number op.now < 2 ^ 64) }
 {
@@ -354,7 +354,7 @@ fn add_final(
     name: Name,
     made: MadeFinal,
 ) -> Result<(), AllocError>
-    requires { length earlier.old.streams + length earlier.old.finals < 32 }
+    requires { length earlier.old.streams + length earlier.old.finals < MAX_BINDINGS }
     ensures { OnOk result (earlier.new ≡ with_final earlier.old name made) }
 {
     let number = earlier.finals.len() as u16;
@@ -384,7 +384,7 @@ pub fn check_final(
     d: &FinalDef,
 ) -> Result<(), QueryError>
     requires fits { Fits earlier.old }
-    requires groups { given.now.groups ≤ 8 }
+    requires groups { given.now.groups ≤ MAX_GROUPBYS }
     ensures given { Leaves result earlier.new (final_checked given.now earlier.old d.now) }
     ensures numbers { OnOk result (final_number d.now.op < 2 ^ 64) }
 {

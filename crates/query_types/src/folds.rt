@@ -13,13 +13,16 @@ use crate::bodies::check_body;
 use crate::exprs::has_name;
 use marple_base::Seq;
 use query_lang::typing::Body;
-use query_lang::{Expr, FaultKind, FoldDef, Limit, Name, QueryError, StateVar, Stmt, TypedFold};
+use query_lang::{
+    Expr, FaultKind, FoldDef, Limit, MAX_ARGS, MAX_NODES, MAX_STATEMENTS, MAX_STATES, Name,
+    QueryError, StateVar, Stmt, TypedFold,
+};
 use std::alloc::{AllocError, Global};
 
 // The state variables: each is new.
 fn check_states(alloc: Global, states: &[StateVar]) -> Result<Seq<u32>, QueryError>
     ensures given { Answers result (states_from [] states.now) }
-    ensures most { IfOk result (λ found. length found ≤ 8) }
+    ensures most { IfOk result (λ found. length found ≤ MAX_STATES) }
 {
     let mut found = Seq::new(alloc);
     for state in states {
@@ -27,7 +30,7 @@ fn check_states(alloc: Global, states: &[StateVar]) -> Result<Seq<u32>, QueryErr
         if has_name(found.as_slice(), name.id) {
             return Err(refused(FaultKind::NameTaken, name.span));
         }
-        if found.len() >= 8 {
+        if found.len() >= MAX_STATES {
             return Err(refused(FaultKind::OverLimit(Limit::States), name.span));
         }
         found.push(name.id)?;
@@ -38,7 +41,7 @@ fn check_states(alloc: Global, states: &[StateVar]) -> Result<Seq<u32>, QueryErr
 // The arguments: each is no state variable and new.
 fn check_args(alloc: Global, states: &[u32], args: &[Name]) -> Result<Seq<u32>, QueryError>
     ensures given { Answers result (args_from states.now [] args.now) }
-    ensures most { IfOk result (λ found. length found ≤ 16) }
+    ensures most { IfOk result (λ found. length found ≤ MAX_ARGS) }
 {
     let mut found = Seq::new(alloc);
     for arg in args {
@@ -47,7 +50,7 @@ fn check_args(alloc: Global, states: &[u32], args: &[Name]) -> Result<Seq<u32>, 
         if is_state || is_arg {
             return Err(refused(FaultKind::NameTaken, arg.span));
         }
-        if found.len() >= 16 {
+        if found.len() >= MAX_ARGS {
             return Err(refused(FaultKind::OverLimit(Limit::Args), arg.span));
         }
         found.push(arg.id)?;
@@ -155,7 +158,7 @@ fn count_fold_statements(body: &[Stmt]) -> u32
 // The fold's arguments, beside its state variables.
 fn fold_args(alloc: Global, states: &Seq<u32>, d: &FoldDef) -> Result<Seq<u32>, QueryError>
     ensures given { Answers result (args_from states.now [] d.now.args) }
-    ensures most { IfOk result (λ found. length found ≤ 16) }
+    ensures most { IfOk result (λ found. length found ≤ MAX_ARGS) }
 {
     check_args(alloc, states.as_slice(), d.args.as_slice())
 }
@@ -167,8 +170,8 @@ fn fold_body(
     args: &Seq<u32>,
     d: &FoldDef,
 ) -> Result<Body, QueryError>
-    requires states { length states.now ≤ 8 }
-    requires args { length args.now ≤ 16 }
+    requires states { length states.now ≤ MAX_STATES }
+    requires args { length args.now ≤ MAX_ARGS }
     ensures given { Answers result (body_checked states.now args.now d.now.body) }
     ensures numbers { IfOk result (λ _. greatest_of (map greatest_in d.now.body) < 2 ^ 64) }
 {
@@ -183,8 +186,8 @@ fn fold_of(
     arg_names: Seq<u32>,
     found: Body,
 ) -> Result<TypedFold, QueryError>
-    requires nodes { fold_nodes d.now ≤ 512 }
-    requires statements { fold_statements d.now ≤ 64 }
+    requires nodes { fold_nodes d.now ≤ MAX_NODES }
+    requires statements { fold_statements d.now ≤ MAX_STATEMENTS }
     ensures { Answers result (Ok (with_parts d.now state_names arg_names found)) }
 {
     let initial = initial_numbers(alloc, d.states.as_slice())?;
@@ -208,8 +211,8 @@ fn fold_of(
 
 // A fold's parts in order.
 fn check_parts(alloc: Global, d: &FoldDef) -> Result<TypedFold, QueryError>
-    requires nodes { fold_nodes d.now ≤ 512 }
-    requires statements { fold_statements d.now ≤ 64 }
+    requires nodes { fold_nodes d.now ≤ MAX_NODES }
+    requires statements { fold_statements d.now ≤ MAX_STATEMENTS }
     ensures given { Answers result (fold_checked d.now) }
     ensures numbers { IfOk result (λ _. greatest_of (map greatest_in d.now.body) < 2 ^ 64) }
 {
@@ -219,11 +222,11 @@ fn check_parts(alloc: Global, d: &FoldDef) -> Result<TypedFold, QueryError>
     fold_of(alloc, d, states, args, body)
 }
 
-/// A fold: its state variables, its arguments, and then its body. A fold of a text that was read has at most 512 nodes and
-/// 64 statements.
+/// A fold: its state variables, its arguments, and then its body. A fold of a text that was read has at most
+/// `MAX_NODES` nodes and `MAX_STATEMENTS` statements.
 pub fn check_fold(alloc: Global, d: &FoldDef) -> Result<TypedFold, QueryError>
-    requires nodes { fold_nodes d.now ≤ 512 }
-    requires statements { fold_statements d.now ≤ 64 }
+    requires nodes { fold_nodes d.now ≤ MAX_NODES }
+    requires statements { fold_statements d.now ≤ MAX_STATEMENTS }
     ensures given { Answers result (fold_checked d.now) }
     ensures valid { IfOk result IsValidFold }
     ensures numbers { IfOk result (λ _. greatest_of (map greatest_in d.now.body) < 2 ^ 64) }

@@ -11,7 +11,7 @@ use crate::copies::{copy_words, names_of_both};
 use crate::views::{find_fold, find_stream};
 use marple_base::Seq;
 use query_lang::typing::{Earlier, FoldView, MadeStream, Picked, StreamView, TableView};
-use query_lang::{Key, Name, PrintOf, QueryError, TypedOp};
+use query_lang::{Key, MAX_KEYS, Name, PrintOf, QueryError, TypedOp};
 use std::alloc::{AllocError, Global};
 
 // The keys of a groupby over a stream.
@@ -23,7 +23,7 @@ fn stream_keys(
 ) -> Result<Picked, QueryError>
     requires { IsNarrow (column_names source.now.columns) }
     ensures given { Answers result (keys_checked five.now (column_names source.now.columns) source.now.hidden keys.now) }
-    ensures most { IfOk result (λ picked. length picked.names ≤ 8) }
+    ensures most { IfOk result (λ picked. length picked.names ≤ MAX_KEYS) }
 {
     let names = names_of(alloc, source.columns.as_slice())?;
     check_keys(
@@ -59,7 +59,7 @@ fn stream_arguments(
 
 /// How many keys there are.
 pub fn key_count(picked: &Picked) -> u8
-    requires { length picked.now.names ≤ 8 }
+    requires { length picked.now.names ≤ MAX_KEYS }
     ensures { result ≡ length picked.now.names }
 {
     picked.names.len() as u8
@@ -72,7 +72,7 @@ fn made_table(
     picked: &Picked,
     f: &FoldView,
 ) -> Result<TableView, AllocError>
-    requires { length picked.now.names ≤ 8 }
+    requires { length picked.now.names ≤ MAX_KEYS }
     ensures { IfOk result (λ table. table ≡ record {
       place = PrintOf.Group number;
       columns = picked.now.names ++ f.now.states;
@@ -97,7 +97,7 @@ fn made_group(
     f: &FoldView,
     arguments: Seq<u16>,
 ) -> Result<MadeStream, QueryError>
-    requires { length picked.names ≤ 8 }
+    requires { length picked.names ≤ MAX_KEYS }
     ensures { Answers result (Ok (with_keys number source.now picked f.now arguments)) }
 {
     let table = made_table(alloc, number, &picked, f)?;

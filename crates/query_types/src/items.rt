@@ -16,7 +16,9 @@ use crate::folds::check_fold;
 use crate::streams::check_stream;
 use crate::views::{find_table, is_taken};
 use query_lang::typing::{Earlier, FoldView, Given, Known, Meaning};
-use query_lang::{FaultKind, FoldDef, Item, Name, QueryError, TypedFold};
+use query_lang::{
+    FaultKind, FoldDef, Item, MAX_GROUPBYS, MAX_NODES, MAX_STATEMENTS, Name, QueryError, TypedFold,
+};
 use std::alloc::{AllocError, Global};
 
 // What the name of a fold stands for, where the fold has this number.
@@ -57,8 +59,8 @@ fn add_fold(alloc: Global, earlier: &mut Earlier, f: TypedFold) -> Result<(), Al
 #[tactic(auto, using(crate::proofs::FitLaws::folds_within))]
 fn check_fold_item(alloc: Global, earlier: &mut Earlier, d: &FoldDef) -> Result<(), QueryError>
     requires fits { Fits earlier.old }
-    requires nodes { fold_nodes d.now ≤ 512 }
-    requires statements { fold_statements d.now ≤ 64 }
+    requires nodes { fold_nodes d.now ≤ MAX_NODES }
+    requires statements { fold_statements d.now ≤ MAX_STATEMENTS }
     ensures given { Leaves result earlier.new (fold_added earlier.old d.now) }
     ensures numbers { OnOk result (greatest_of (map greatest_in d.now.body) < 2 ^ 64) }
 {
@@ -91,7 +93,7 @@ fn check_item(
     item: &Item,
 ) -> Result<(), QueryError>
     requires limits { KeepsLimits item.now }
-    requires groups { given.now.groups ≤ 8 }
+    requires groups { given.now.groups ≤ MAX_GROUPBYS }
     requires fits { Fits earlier.old }
     ensures given { Leaves result earlier.new (item_checked given.now earlier.old item.now) }
     ensures numbers { OnOk result (item_number item.now < 2 ^ 64) }
@@ -116,7 +118,7 @@ fn check_next(
 ) -> Result<(), QueryError>
     requires limits { KeepsLimits item.now }
     requires names { IsNumbered 65536 item.now }
-    requires groups { given.now.groups ≤ 8 }
+    requires groups { given.now.groups ≤ MAX_GROUPBYS }
     requires fits { Fits earlier.old }
     ensures given { Leaves result earlier.new (item_checked given.now earlier.old item.now) }
     ensures fits { OnOk result (Fits earlier.new) }
@@ -135,7 +137,7 @@ pub fn check_items(
 ) -> Result<(), QueryError>
     requires limits { All KeepsLimits items.now }
     requires names { All (IsNumbered 65536) items.now }
-    requires groups { given.now.groups ≤ 8 }
+    requires groups { given.now.groups ≤ MAX_GROUPBYS }
     requires fits { Fits earlier.old }
     ensures given { Leaves result earlier.new (items_checked given.now earlier.old items.now) }
     ensures numbers { OnOk result (greatest_of (map item_number items.now) < 2 ^ 64) }

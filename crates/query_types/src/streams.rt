@@ -22,8 +22,8 @@ use query_lang::typing::{
     Earlier, Known, MadeStream, Meaning, NewColumns, Origin, StreamColumn, StreamView, TableView,
 };
 use query_lang::{
-    Column, Expr, FaultKind, Limit, Name, QueryError, StreamDef, StreamOp, TypedExpr, TypedOp,
-    TypedStream,
+    Column, Expr, FaultKind, Limit, MAX_BINDINGS, MAX_GROUPBYS, Name, QueryError, StreamDef,
+    StreamOp, TypedExpr, TypedOp, TypedStream,
 };
 use std::alloc::{AllocError, Global};
 
@@ -148,7 +148,7 @@ fn made_map(
 
 // The number of the stream after those before it.
 fn next_number(earlier: &Earlier) -> u16
-    requires { length earlier.now.streams + length earlier.now.finals < 32 }
+    requires { length earlier.now.streams + length earlier.now.finals < MAX_BINDINGS }
     ensures { result ≡ next_stream earlier.now }
 {
     let count = earlier.streams.len();
@@ -163,7 +163,7 @@ fn check_map(
     columns: &[Column],
 ) -> Result<MadeStream, QueryError>
     requires fits { Fits earlier.now }
-    requires room { length earlier.now.streams + length earlier.now.finals < 32 }
+    requires room { length earlier.now.streams + length earlier.now.finals < MAX_BINDINGS }
     ensures given { Answers result (mapped earlier.now input columns.now) }
     ensures numbers { IfOk result (λ _. columns_number columns.now < 2 ^ 64) }
 {
@@ -225,7 +225,7 @@ fn check_zip(
     made_zip(alloc, left, right, slots)
 }
 
-// What the operator of the stream with this name makes. There are at most 8 groupbys.
+// What the operator of the stream with this name makes. There are at most `MAX_GROUPBYS` groupbys.
 fn check_operator(
     alloc: Global,
     five: &[u32],
@@ -234,7 +234,7 @@ fn check_operator(
     op: &StreamOp,
 ) -> Result<MadeStream, QueryError>
     requires fits { Fits earlier.now }
-    requires room { length earlier.now.streams + length earlier.now.finals < 32 }
+    requires room { length earlier.now.streams + length earlier.now.finals < MAX_BINDINGS }
     ensures given { Answers result (made_stream five.now earlier.now name op.now) }
     ensures numbers { IfOk result (λ _. stream_number op.now < 2 ^ 64) }
 {
@@ -243,7 +243,7 @@ fn check_operator(
         StreamOp::Map(input, columns) => check_map(alloc, earlier, *input, columns.as_slice()),
         StreamOp::Zip(first, second) => check_zip(alloc, earlier, *first, *second),
         StreamOp::Group(input, keys, fold_name) => {
-            if earlier.groups >= 8 {
+            if earlier.groups >= MAX_GROUPBYS {
                 return Err(refused(FaultKind::OverLimit(Limit::Groupbys), name.span));
             }
             check_group(alloc, five, earlier, *input, keys.as_slice(), *fold_name)
@@ -253,7 +253,7 @@ fn check_operator(
 
 // The number of groupbys after a stream, where it has this table.
 fn groups_with(groups: u16, table: &Option<TableView>) -> u16
-    requires { groups < 32 }
+    requires { groups < MAX_BINDINGS }
     ensures { result ≡ groups + (if is_some table.now then 1 else 0) }
 {
     if table.is_some() { groups + 1 } else { groups }
@@ -268,7 +268,7 @@ fn add_stream(
     made: MadeStream,
 ) -> Result<(), AllocError>
     requires fits { Fits earlier.old }
-    requires room { length earlier.old.streams + length earlier.old.finals < 32 }
+    requires room { length earlier.old.streams + length earlier.old.finals < MAX_BINDINGS }
     ensures { OnOk result (earlier.new ≡ with_stream earlier.old name made) }
 {
     let number = next_number(earlier);

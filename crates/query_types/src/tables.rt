@@ -7,12 +7,12 @@ ghost use Rattle.query_lang.specs.TypedFinals.{table_number, same_names, key_col
 ghost use Rattle.query_types.specs.Fitting.{IsEarly};
 
 use crate::exprs::has_name;
-use query_lang::PrintOf;
 use query_lang::typing::TableView;
+use query_lang::{MAX_GROUPBYS, PrintOf};
 
 /// The number of a table, where the query has that many groupbys.
 pub fn number_of_table(groups: u16, place: PrintOf) -> u16
-    requires groups { groups ≤ 8 }
+    requires groups { groups ≤ MAX_GROUPBYS }
     requires place { IsEarly place }
     ensures { result ≡ table_number groups place }
 {

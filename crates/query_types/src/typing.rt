@@ -15,7 +15,7 @@ use crate::names::{add_fields, number_fields};
 use marple_base::{Field, Seq};
 use query_lang::typing::{Earlier, Given, Known, Meaning, Origin, StreamColumn, StreamView};
 use query_lang::{
-    FaultKind, Item, Names, Query, QueryError, QueryFault, Span, StreamOp, TypedQuery,
+    FaultKind, Item, MAX_GROUPBYS, Names, Query, QueryError, QueryFault, Span, StreamOp, TypedQuery,
 };
 use std::alloc::{AllocError, Global};
 
@@ -29,13 +29,13 @@ fn is_group_item(item: &Item) -> bool
     }
 }
 
-// How many groupbys there are, or 8.
+// How many groupbys there are, or the most that there may be.
 fn count_groups(items: &[Item]) -> u16
-    ensures { result ≡ min (count_by is_groupby items.now) 8 }
+    ensures { result ≡ min (count_by is_groupby items.now) MAX_GROUPBYS }
 {
     let mut count = 0;
     for item in items {
-        if is_group_item(item) && count < 8 {
+        if is_group_item(item) && count < MAX_GROUPBYS {
             count += 1;
         }
     }
@@ -141,7 +141,7 @@ fn check_from(
 ) -> Result<Earlier, QueryError>
     requires limits { All KeepsLimits items.now }
     requires names { All (IsNumbered 65536) items.now }
-    requires groups { given.now.groups ≤ 8 }
+    requires groups { given.now.groups ≤ MAX_GROUPBYS }
     requires fits { Fits start }
     ensures given { Answers result (items_checked given.now start items.now) }
     ensures numbers { IfOk result (λ _. greatest_of (map item_number items.now) < 2 ^ 64) }

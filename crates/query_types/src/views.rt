@@ -7,7 +7,7 @@ ghost use Rattle.query_types.specs.Answers.{Finds};
 
 use crate::answer::fault;
 use query_lang::typing::{Earlier, FoldView, Known, Meaning, StreamView, TableView};
-use query_lang::{FaultKind, Limit, Name, QueryFault};
+use query_lang::{FaultKind, Limit, MAX_BINDINGS, Name, QueryFault};
 
 // What a name stands for.
 fn find_meaning(known: &[Known], id: u32) -> Option<&Meaning>
@@ -28,17 +28,17 @@ pub fn is_taken(earlier: &Earlier, id: u32) -> bool
     find_meaning(earlier.known.as_slice(), id).is_some()
 }
 
-/// A new stream or final: its name is free, and there are at most 32 of them.
+/// A new stream or final: its name is free, and there are at most `MAX_BINDINGS` of them.
 pub fn check_binding(earlier: &Earlier, name: Name) -> Result<(), QueryFault>
     ensures given { result ≡ begun earlier.now name }
-    ensures room { IfOk result (λ _. length earlier.now.streams + length earlier.now.finals < 32) }
+    ensures room { IfOk result (λ _. length earlier.now.streams + length earlier.now.finals < MAX_BINDINGS) }
 {
     if is_taken(earlier, name.id) {
         return Err(fault(FaultKind::NameTaken, name.span));
     }
     let streams = earlier.streams.len();
     let finals = earlier.finals.len();
-    if streams >= 32 || finals >= 32 || streams + finals >= 32 {
+    if streams >= MAX_BINDINGS || finals >= MAX_BINDINGS || streams + finals >= MAX_BINDINGS {
         return Err(fault(FaultKind::OverLimit(Limit::Bindings), name.span));
     }
     Ok(())

@@ -10,7 +10,7 @@ use Rattle.std.proofs.lemmas.Fmt.{decimal_is_IsNumeral, length-decimal-le}
 use Rattle.std.proofs.lemmas.Str.Parse.{digit_at}
 use Rattle.csv.specs.Quoting.{needs_byte}
 use Rattle.csv.specs.Writing.{default_writer}
-use Rattle.trace_reader.specs.Numbers.{before_last_blanks, decimal_word, is_blank, without_blanks, without_last_blanks, word_of}
+use Rattle.trace_reader.specs.Numbers.{before_last_blanks, decimal_word, is_field_blank, without_blanks, without_last_blanks, word_of_text}
 use Rattle.trace_reader.proofs.NumberFacts.{number_some}
 use Rattle.marple_base.specs.declared.field.Field.{Field}
 use Rattle.marple_base.specs.declared.field.Field.TheVariants.{Switch, Qid, Uid, SrcIp, DstIp, SrcPort, DstPort, Proto, PktLen, PayloadLen}
@@ -30,7 +30,7 @@ first_digit c cs all =
 digit_test : (c : ℕ) → IsDigit c → is_ascii_digit c ≡ true
 digit_test c d = grind (arith, nat_tests)
 
-digit_blank : (c : ℕ) → IsDigit c → is_blank c ≡ false
+digit_blank : (c : ℕ) → IsDigit c → is_field_blank c ≡ false
 digit_blank c d = rw (ne_eqb c 32 (λ e. absurd (omega (arith, d, e))), ne_eqb c 9 (λ e. absurd (omega (arith, d, e)))) refl
 
 digit_plain : (c : ℕ) → IsDigit c → needs_byte default_writer c ≡ false
@@ -72,7 +72,7 @@ decimal_read n word =
     (all_digits (decimal n) numeral.0.1) small ∙ ap Some numeral.1)
 
 -- what is written for a word of a field is read as that word
-pub word_read : (field : Field) (n : ℕ) → n < 2 ^ 64 → word_of field (without_blanks (word_text field n)) ≡ Some n
+pub word_read : (field : Field) (n : ℕ) → n < 2 ^ 64 → word_of_text field (without_blanks (word_text field n)) ≡ Some n
 word_read Switch n word = rw (decimal_read n word) refl
 word_read Qid n word = rw (decimal_read n word) refl
 word_read Uid n word = rw (decimal_read n word) refl

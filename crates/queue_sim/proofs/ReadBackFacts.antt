@@ -15,11 +15,12 @@ use Rattle.marple_base.specs.declared.field.Field.TheVariants.{Switch, Qid, Uid,
 use Rattle.marple_base.specs.declared.field.Field.TheVariants.{TcpSeq, Tin, Tout, QSize}
 use Rattle.marple_base.specs.declared.field.FieldSet.{FieldSet}
 use Rattle.marple_base.specs.declared.field.Packet.{Packet}
+use Rattle.marple_base.specs.declared.field.TheConstants.{FIELDS}
 use Rattle.trace_reader.specs.Reading.{records}
-use Rattle.trace_reader.specs.Traces.{Contents, Layout, columns_of, contents, contents_from, each, packet_of, words_of}
+use Rattle.trace_reader.specs.Traces.{Contents, Layout, columns_of_fields, contents, contents_from, each, packet_of, words_in_columns}
 use Rattle.trace_reader.specs.declared.fault.TheConstants.{MAX_RECORDS}
 use Rattle.trace_reader.proofs.TraceFacts.{contents_good}
-use Rattle.queue_sim.specs.ReadBack.{ArePackets, AreWords, TextsReadBack}
+use Rattle.queue_sim.specs.ReadBack.{ArePackets, ArePacketWords, TextsReadBack}
 use Rattle.queue_sim.specs.TraceText.{continued, header, line, packet_texts, texts_of, trace_text}
 use Rattle.queue_sim.proofs.DigitFacts.{word_plain, word_read}
 use Rattle.queue_sim.proofs.TextFacts.{length-texts}
@@ -39,13 +40,13 @@ plain_row : (x y : List ℕ) (ys : List (List ℕ)) → ArePlain (x ∷ y ∷ ys
 unfolding is_blank
 plain_row x y ys plain = rw plain.0 (ap (λ rest. (x ++ rest) ++ 10 ∷ []) (plain_fields (y ∷ ys) plain.1))
 
-plain_texts : (fields : List Field) (words : List ℕ) → AreWords words → ArePlain (texts_of fields words)
+plain_texts : (fields : List Field) (words : List ℕ) → ArePacketWords words → ArePlain (texts_of fields words)
 plain_texts [] words small = tt
 plain_texts (f ∷ fields) [] small = tt
 plain_texts (f ∷ fields) (w ∷ words) small = (word_plain f w small.0, plain_texts fields words small.1)
 
 -- the line of a packet is the text of its record
-packet_row : (words : List ℕ) → length words ≡ 14 → AreWords words → row_text default_writer (texts_of all_fields words) ≡ line
+packet_row : (words : List ℕ) → length words ≡ FIELDS → ArePacketWords words → row_text default_writer (texts_of all_fields words) ≡ line
     (texts_of all_fields words)
 packet_row [] size small = absurd (omega arith)
 packet_row (w ∷ []) size small = absurd (omega (arith, size))
@@ -72,7 +73,8 @@ text_rows : (sent : List Packet) → ArePackets sent → rows_text (header ∷ r
 unfolding rows_text
 text_rows sent are = ap (λ t. t ++ rows_text (rows_of sent)) header_row ∙ ap (λ t. line header ++ t) (lines_rows sent are)
 
-many_first : (words : List ℕ) (rows : List (List (List ℕ))) → length words ≡ 14 → AllMany rows → AllMany (texts_of all_fields words ∷ rows)
+many_first : (words : List ℕ) (rows : List (List (List ℕ))) → length words ≡ FIELDS → AllMany rows
+    → AllMany (texts_of all_fields words ∷ rows)
 many_first [] rows size many = absurd (omega arith)
 many_first (w ∷ []) rows size many = absurd (omega (arith, size))
 many_first (v ∷ w ∷ words) rows size many = many
@@ -96,7 +98,7 @@ abbrev places : List (Option ℕ)
 places = Some 0 ∷ Some 1 ∷ Some 2 ∷ Some 3 ∷ Some 4 ∷ Some 5 ∷ Some 6 ∷ Some 7 ∷ Some 8 ∷ Some 9 ∷ Some 10 ∷ Some 11 ∷ Some 12 ∷ Some 13
     ∷ []
 
-header_columns : (reads : FieldSet) → ((field : Field) → HasField reads field) → Ok places ≡ columns_of reads header
+header_columns : (reads : FieldSet) → ((field : Field) → HasField reads field) → Ok places ≡ columns_of_fields reads header
 unfolding each
 header_columns reads all =
     rw (
@@ -118,7 +120,7 @@ header_columns reads all =
     ) refl
 
 -- the words that a record gives
-row_words : (words : List ℕ) → length words ≡ 14 → AreWords words → words_of places (texts_of all_fields words) ≡ Ok words
+row_words : (words : List ℕ) → length words ≡ FIELDS → ArePacketWords words → words_in_columns places (texts_of all_fields words) ≡ Ok words
 unfolding each field_at
 row_words (a ∷ b ∷ c ∷ d ∷ e ∷ f ∷ g ∷ h ∷ i ∷ j ∷ k ∷ l ∷ m ∷ n ∷ []) size small =
     let rest1 = small.1 in
@@ -156,14 +158,14 @@ row_words words size small = absurd (omega (arith, size))
 
 -- the layout of a trace with the whole header
 abbrev full : Layout
-full = record { width = 14; columns = places }
+full = record { width = FIELDS; columns = places }
 
-packet_read : (packet : Packet) (n : ℕ) → length packet.words ≡ 14 → AreWords packet.words → n ≤ MAX_RECORDS
+packet_read : (packet : Packet) (n : ℕ) → length packet.words ≡ FIELDS → ArePacketWords packet.words → n ≤ MAX_RECORDS
     → packet_of full n (packet_texts packet) ≡ Ok packet
 unfolding packet_of
 packet_read packet n size small within =
     let few : nat_lt MAX_RECORDS n ≡ false = grind (arith, nat_tests) in
-    let width : (length (packet_texts packet) == 14) ≡ true = eq-eqb (length (packet_texts packet)) 14
+    let width : (length (packet_texts packet) == FIELDS) ≡ true = eq-eqb (length (packet_texts packet)) FIELDS
     (length-texts all_fields packet.words (sym size)) in
     rw (few, width, row_words packet.words size small) refl
 

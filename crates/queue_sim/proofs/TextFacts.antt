@@ -7,6 +7,7 @@ use Rattle.marple_base.specs.Field.{all_fields}
 use Rattle.marple_base.specs.declared.field.Field.TheVariants.{Switch}
 use Rattle.marple_base.specs.declared.field.Packet.{Packet}
 use Rattle.marple_base.specs.declared.field.Field.{Field}
+use Rattle.marple_base.specs.declared.field.TheConstants.{FIELDS}
 use Rattle.queue_sim.specs.TraceText.{continued, header, line, packet_texts, texts_of, trace_text, word_text}
 
 -- the texts from a place on
@@ -29,12 +30,12 @@ abbrev pub text_from : ℕ → List ℕ → List ℕ
 text_from i words = continued (drop i (texts_of all_fields words)) ++ 10 ∷ []
 
 -- nothing but the end
-pub none_left : (words : List ℕ) → length words ≡ 14 → text_from 14 words ≡ 10 ∷ []
-none_left words size = ap (λ parts. continued parts ++ 10 ∷ []) (drop_all 14 (texts_of all_fields words)
+pub none_left : (words : List ℕ) → length words ≡ FIELDS → text_from FIELDS words ≡ 10 ∷ []
+none_left words size = ap (λ parts. continued parts ++ 10 ∷ []) (drop_all FIELDS (texts_of all_fields words)
     (omega (arith, length-texts all_fields words (sym size))))
 
 -- one word more, and a comma before it
-pub one_before : (words : List ℕ) (i : ℕ) → length words ≡ 14 → i < 14
+pub one_before : (words : List ℕ) (i : ℕ) → length words ≡ FIELDS → i < FIELDS
     → text_from i words ≡ 44 ∷ (word_text (get_or all_fields i Switch) (get_or words i 0) ++ text_from (i + 1) words)
 one_before words i size within =
     let text = word_text (get_or all_fields i Switch) (get_or words i 0) in
@@ -42,7 +43,7 @@ one_before words i size within =
     ∙ ap (λ rest. 44 ∷ rest) (append_assoc text (continued (drop (i + 1) (texts_of all_fields words))) (10 ∷ []))
 
 -- the first word, and the line is whole
-pub whole_line : (words : List ℕ) → length words ≡ 14 → word_text Switch (get_or words 0 0)
+pub whole_line : (words : List ℕ) → length words ≡ FIELDS → word_text Switch (get_or words 0 0)
     ++ text_from 1 words ≡ line (texts_of all_fields words)
 whole_line [] size = absurd (omega arith)
 whole_line (w ∷ words) size = sym (append_assoc (word_text Switch w) (continued (drop 1 (texts_of all_fields (w ∷ words)))) (10 ∷ []))

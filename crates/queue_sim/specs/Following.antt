@@ -2,7 +2,7 @@
 use Rattle.std.specs.Prelude.{ℕ, suc, ◌≡◌, ◌*◌, ◌<◌, length, slice_get, List, [], ◌∷◌, ⊤, Some}
 use Rattle.std.specs.List.{slice_index_or}
 use Rattle.marple_base.specs.declared.field.Packet.{Packet}
-use Rattle.queue_sim.specs.Generator.{arrival_by, arrivals, drawn_after, last_time, next_number, packet_of, state_after, touts_at}
+use Rattle.queue_sim.specs.Generator.{arrival_by, arrivals, drawn_after, last_time, next_number, generated_packet, state_after, touts_at}
 use Rattle.queue_sim.specs.Queue.{Holds}
 use Rattle.queue_sim.specs.declared.generator.Generator.{Generator}
 use Rattle.queue_sim.specs.declared.queue.Queue.{Queue}
@@ -23,4 +23,4 @@ pub record Follows (g : Generator) : Type 0 where
 
 -- the packet after the first n
 abbrev pub nth_packet : ℕ → ℕ → ℕ → Packet
-nth_packet start capacity n = packet_of (suc n) (arrival_by (drawn_after start (4 * n)) capacity (arrivals start capacity n))
+nth_packet start capacity n = generated_packet (suc n) (arrival_by (drawn_after start (4 * n)) capacity (arrivals start capacity n))

@@ -102,8 +102,8 @@ arrivals start capacity zero = []
 arrivals start capacity (suc n) = arrival_by (drawn_after start (4 * n)) capacity (arrivals start capacity n) ∷ arrivals start capacity n
 
 -- the words of a packet, which is the nth
-abbrev pub packet_of : ℕ → Arrival → Packet
-packet_of n a = record {
+abbrev pub generated_packet : ℕ → Arrival → Packet
+generated_packet n a = record {
   words =
       (1 + switch_of a.flow) ∷ 0 ∷ n
       ∷ (167772160 + a.flow) ∷ (167837696 + a.flow % 8) ∷ (1024 + a.flow) ∷ 80 ∷ 6
@@ -114,7 +114,7 @@ packet_of n a = record {
 -- these packets in the order in which they come, numbered up to n
 abbrev pub packets_from : List Arrival → List Packet
 packets_from [] = []
-packets_from (arrival ∷ earlier) = packets_from earlier ++ packet_of (length (arrival ∷ earlier)) arrival ∷ []
+packets_from (arrival ∷ earlier) = packets_from earlier ++ generated_packet (length (arrival ∷ earlier)) arrival ∷ []
 
 -- The first n packets of the generator.
 abbrev pub simulated : ℕ → ℕ → ℕ → List Packet

@@ -4,18 +4,19 @@ use Rattle.marple_base.specs.Field.{HasField}
 use Rattle.marple_base.specs.declared.field.Field.{Field}
 use Rattle.marple_base.specs.declared.field.FieldSet.{FieldSet}
 use Rattle.marple_base.specs.declared.field.Packet.{Packet}
+use Rattle.marple_base.specs.declared.field.TheConstants.{FIELDS}
 use Rattle.trace_reader.specs.Traces.{packets, trace_fault}
 use Rattle.trace_reader.specs.declared.fault.TheConstants.{MAX_RECORDS, MAX_TRACE}
 use Rattle.queue_sim.specs.TraceText.{trace_text}
 
-abbrev pub AreWords : List ℕ → Type 0
-AreWords [] = ⊤
-AreWords (word ∷ words) = (word < 2 ^ 64) × AreWords words
+abbrev pub ArePacketWords : List ℕ → Type 0
+ArePacketWords [] = ⊤
+ArePacketWords (word ∷ words) = (word < 2 ^ 64) × ArePacketWords words
 
 -- each packet has a word for each field, as every packet of the program has
 abbrev pub ArePackets : List Packet → Type 0
 ArePackets [] = ⊤
-ArePackets (packet ∷ packets) = (length packet.words ≡ 14) × AreWords packet.words × ArePackets packets
+ArePackets (packet ∷ packets) = (length packet.words ≡ FIELDS) × ArePacketWords packet.words × ArePackets packets
 
 -- The text of packets, with all fields read, contains these packets and no fault, if there are not too many of them
 -- and the text is not too long for a trace.

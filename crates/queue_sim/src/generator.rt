@@ -2,7 +2,7 @@
 
 ghost use Rattle.std.specs.Prelude.{◌≡◌, ◌≤◌, ◌<◌, ◌+◌, ◌^◌, IfOk, OnOk, length};
 ghost use Rattle.std.specs.List.{slice_index_or, slice_set};
-ghost use Rattle.queue_sim.specs.Generator.{packet_of, simulated};
+ghost use Rattle.queue_sim.specs.Generator.{generated_packet, simulated};
 ghost use Rattle.queue_sim.specs.Following.{AreEmpty, Follows, nth_packet};
 
 use crate::draws::{Drawn, Draws};
@@ -39,7 +39,7 @@ impl Drop for Generator {
 // The words of a packet.
 fn packet_of(number: u64, time: u64, seq: u64, drawn: Drawn, place: Place) -> Packet
     requires small { (number < 2 ^ 32) × (time < 2 ^ 32) × (seq < 2 ^ 32) × (drawn.flow < 64) × (drawn.payload < 1461) }
-    ensures { result ≡ packet_of number (record {
+    ensures { result ≡ generated_packet number (record {
       time = time;
       flow = drawn.flow;
       payload = drawn.payload;

@@ -5,15 +5,15 @@ ghost use Rattle.queue_sim.specs.ReadBack.{TextsReadBack};
 ghost use Rattle.queue_sim.specs.TraceText.{line, packet_texts, trace_text, word_text};
 
 use itoa::write_digits;
-use marple_base::{Field, Packet, Seq, Text};
+use marple_base::{FIELDS, Field, Packet, Seq, Text};
 use std::alloc::{AllocError, Global};
 
 /// The first line of a trace.
 pub(crate) const HEADER: &[u8] =
     b"switch,qid,uid,srcip,dstip,srcport,dstport,proto,pkt_len,payload_len,tcpseq,tin,tout,qsize\n";
 
-// 14 words of at most 20 digits, 13 commas, and the end of the line.
-const LONGEST_LINE: usize = 294;
+// Each word has at most 20 digits, and a comma or the end of the line after it.
+const LONGEST_LINE: usize = FIELDS * 21;
 
 /// Room for the line of a packet, which is written from its end to its beginning.
 #[derive(Clone, Copy)]
@@ -59,7 +59,7 @@ impl LineBuffer {
         ensures { result.now ≡ line (packet_texts packet.now) }
     {
         let mut start = put_byte(&mut self.bytes, LONGEST_LINE, b'\n');
-        for i in (1..14).rev() {
+        for i in (1..FIELDS).rev() {
             start = put_word(&mut self.bytes, start, Field::ALL[i], packet.words[i]);
             start = put_byte(&mut self.bytes, start, b',');
         }

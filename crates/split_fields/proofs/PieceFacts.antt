@@ -2,7 +2,7 @@
 use Rattle.std.proofs.Common.{◌≡◌, ℕ, List, [], ◌∷◌, ◌++◌, refl, ap, ◌∙◌}
 use Rattle.std.specs.Prelude.{flat_map}
 use Rattle.marple_base.specs.declared.field.Packet.{Packet}
-use Rattle.part_texts.specs.Texts.{packets_at}
+use Rattle.part_texts.specs.Texts.{packets_of_part}
 use Rattle.part_texts.proofs.TextFacts.{packets_append}
 use Rattle.split_fields.specs.SplitLaws.{SplitsAreOfPackets}
 
@@ -10,4 +10,4 @@ pub splits_are_of_packets_lem : SplitsAreOfPackets
 splits_are_of_packets_lem partition n [] = refl
 splits_are_of_packets_lem partition n (piece ∷ pieces) =
     packets_append partition n piece (flat_map (λ (p : List Packet). p) pieces)
-    ∙ ap (λ (rest : List Packet). packets_at partition n piece ++ rest) (splits_are_of_packets_lem partition n pieces)
+    ∙ ap (λ (rest : List Packet). packets_of_part partition n piece ++ rest) (splits_are_of_packets_lem partition n pieces)

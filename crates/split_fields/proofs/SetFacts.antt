@@ -8,6 +8,7 @@ use Rattle.marple_base.specs.declared.field.Field.{Field}
 use Rattle.marple_base.specs.declared.field.Field.TheVariants.{Switch, Qid, Uid, SrcIp, DstIp, SrcPort, DstPort, Proto}
 use Rattle.marple_base.specs.declared.field.Field.TheVariants.{PktLen, PayloadLen, TcpSeq, Tin, Tout, QSize}
 use Rattle.marple_base.specs.declared.field.FieldSet.{FieldSet}
+use Rattle.marple_base.specs.declared.field.TheConstants.{FIELDS}
 
 none_there : (f : Field) → has_field no_fields f ≡ false
 none_there Switch = refl
@@ -25,7 +26,7 @@ none_there Tin = refl
 none_there Tout = refl
 none_there QSize = refl
 
-small : (f : Field) → number_of f < 14
+small : (f : Field) → number_of f < FIELDS
 small Switch = omega arith
 small Qid = omega arith
 small Uid = omega arith
@@ -41,7 +42,7 @@ small Tin = omega arith
 small Tout = omega arith
 small QSize = omega arith
 
-number_at : (i : ℕ) → i < 14 → number_of (get_or all_fields i Switch) ≡ i
+number_at : (i : ℕ) → i < FIELDS → number_of (get_or all_fields i Switch) ≡ i
 number_at zero within = refl
 number_at (suc zero) within = refl
 number_at (suc (suc zero)) within = refl
@@ -65,7 +66,7 @@ AreBelow test fields i = (f : Field) → HasField fields f ↔ ((test f ≡ true
 pub below_none : (test : Field → Bool) → AreBelow test no_fields 0
 below_none test f = ((λ has. absurd (cc (none_there f, has))), (λ both. absurd (omega (arith, both.1))))
 
-pub below_with : (test : Field → Bool) (old new : FieldSet) (i : ℕ) → i < 14
+pub below_with : (test : Field → Bool) (old new : FieldSet) (i : ℕ) → i < FIELDS
     → test (get_or all_fields i Switch) ≡ true → AreBelow test old i
     → ((f : Field) → HasField new f ↔ (HasField old f ⊎ (f ≡ get_or all_fields i Switch))) → AreBelow test new (i + 1)
 below_with test old new i within holds below with f = (
@@ -81,7 +82,7 @@ below_with test old new i within holds below with f = (
   ]),
 )
 
-pub below_without : (test : Field → Bool) (fields : FieldSet) (i : ℕ) → i < 14
+pub below_without : (test : Field → Bool) (fields : FieldSet) (i : ℕ) → i < FIELDS
     → test (get_or all_fields i Switch) ≡ false → AreBelow test fields i
     → AreBelow test fields (i + 1)
 below_without test fields i within fails below f = (
@@ -100,7 +101,7 @@ same_bool true false to from = sym (to refl)
 same_bool false true to from = from refl
 same_bool false false to from = refl
 
-pub below_all : (test : Field → Bool) (fields : FieldSet) (i : ℕ) → 14 ≤ i → AreBelow test fields i
+pub below_all : (test : Field → Bool) (fields : FieldSet) (i : ℕ) → FIELDS ≤ i → AreBelow test fields i
     → (f : Field) → has_field fields f ≡ test f
 below_all test fields i all below f =
     same_bool (has_field fields f) (test f) (λ has. ((below f).0 has).0) (λ holds. (below f).1 (holds, omega (arith, small f)))

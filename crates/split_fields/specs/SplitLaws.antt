@@ -4,7 +4,7 @@ use Rattle.accepted_query.specs.Accepted.{accepted}
 use Rattle.marple_base.specs.declared.field.Field.{Field}
 use Rattle.marple_base.specs.declared.field.Packet.{Packet}
 use Rattle.part_laws.specs.Parts.{KeepsKeys, Partition, by_fields, groupbys}
-use Rattle.part_texts.specs.Texts.{packets_at, part_by_hash}
+use Rattle.part_texts.specs.Texts.{packets_of_part, part_by_hash}
 use Rattle.query_lang.specs.declared.typed.TypedQuery.{TypedQuery}
 use Rattle.split_fields.specs.Splits.{may_split}
 
@@ -17,4 +17,4 @@ ByHashKeepsKeys = (text : List ℕ) (q : TypedQuery) (i : ℕ) (fields : List Fi
 -- Whichever pieces a trace has, its part is the parts of the pieces, one after the other: so pieces may be split side by side.
 abbrev pub SplitsAreOfPackets : Type 0
 SplitsAreOfPackets = (partition : Partition) (n : ℕ) (pieces : List (List Packet))
-    → packets_at partition n (flat_map (λ piece. piece) pieces) ≡ flat_map (λ piece. packets_at partition n piece) pieces
+    → packets_of_part partition n (flat_map (λ piece. piece) pieces) ≡ flat_map (λ piece. packets_of_part partition n piece) pieces

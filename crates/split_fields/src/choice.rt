@@ -7,7 +7,7 @@ ghost use Rattle.net_laws.specs.Fields.{is_named, makes_field, names_field};
 ghost use Rattle.net_wide.specs.Combining.{columns_made};
 ghost use Rattle.split_fields.specs.Splits.{all_keyed, is_keyed, may_split};
 
-use marple_base::{Field, FieldSet};
+use marple_base::{FIELDS, Field, FieldSet};
 use query_lang::{Names, TypedOp, TypedQuery, TypedStream};
 
 // Whether the name with this number is the field's.
@@ -93,7 +93,7 @@ pub fn split_fields(q: &TypedQuery) -> FieldSet
     ensures { (field : AnyField) → has_field result field ≡ may_split q.now field }
 {
     let mut fields = FieldSet::EMPTY;
-    for i in 0..14 {
+    for i in 0..FIELDS {
         let field = Field::ALL[i];
         if may_split(q, field) {
             fields = fields.with(field);

@@ -31,10 +31,10 @@ use Rattle.part_laws.specs.AcceptedParts.{AcceptedTablesInOrder}
 use Rattle.part_laws.specs.FinalParts.{AreOfParts}
 use Rattle.part_laws.specs.PartLaws.{but_for_epochs}
 use Rattle.part_laws.specs.Parts.{HasFieldKey, part_at, part_by}
-use Rattle.part_texts.specs.Texts.{packets_at, part_by_hash}
+use Rattle.part_texts.specs.Texts.{packets_of_part, part_by_hash}
 use Rattle.net_laws.specs.Fields.{makes_field}
 use Rattle.split_laws.specs.Merging.{Merge, NotMerged, by_class, group_merge, has_keys}
-use Rattle.split_laws.specs.SplitTables.{words_of}
+use Rattle.trace_drive.specs.Drives.{words_of}
 use Rattle.split_laws.proofs.FinalWalk.{InParts, IsMerged, Stands}
 use Rattle.split_laws.proofs.Groupbys.{IsGroupby, field_keys, groupby_at, part_named, same_part, table_at, tables_long}
 use Rattle.split_laws.proofs.PartNumbers.{are_apart, are_the_parts, words_at_part}
@@ -60,7 +60,7 @@ module _ (in_order : AcceptedTablesInOrder) (text : List ℕ) (q : TypedQuery) (
 
   -- the words of a part's packets
   abbrev pub part_words : ℕ → List (List ℕ)
-  part_words n = words_of (packets_at (part_by_hash fields salt parts) n sent)
+  part_words n = words_of (packets_of_part (part_by_hash fields salt parts) n sent)
 
   module _ (g : Geometry) (caches : ℕ → Geometry) where
     have : (k : ℕ) (shape : GroupShape) → slice_get (query_groups q) k ≡ Some shape → (f : TypedFold) × (fold_at q (0 + k) ≡ Some f)

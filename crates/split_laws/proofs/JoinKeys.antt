@@ -25,7 +25,7 @@ use Rattle.query_lang.specs.declared.typing.TableView.{TableView}
 use Rattle.query_lang.specs.Streams.{taking_of}
 use Rattle.query_lang.specs.TypedFinals.{five_fields, key_columns, other_columns, table_number}
 use Rattle.query_lang.specs.TypedStreams.{column_names}
-use Rattle.query_laws.specs.Context.{IsTable, StandsFor}
+use Rattle.query_laws.specs.Context.{IsTable, NameStandsFor}
 use Rattle.query_laws.specs.ExprRules.{StandsAt}
 use Rattle.query_laws.specs.FinalRules.{HasFinal}
 use Rattle.query_laws.specs.StreamRules.{AreAt, HasSlots, HasStream, key_ids, new_names}
@@ -110,7 +110,7 @@ module _ (names : List (List ℕ)) (groups : ℕ) (merges : List Merge) (streams
   abbrev pub OneNamed : Known → Type 0
   OneNamed one = MeansNamed one.meaning
 
-  stands_named : (known : List Known) (id : ℕ) (m : Meaning) → StandsFor known id m → All OneNamed known → MeansNamed m
+  stands_named : (known : List Known) (id : ℕ) (m : Meaning) → NameStandsFor known id m → All OneNamed known → MeansNamed m
   stands_named [] id m stands all = absurd stands
   stands_named (one ∷ known) id m stands all = elim stands [
     | inl here ↦ subst MeansNamed here.1 (All-head OneNamed one known all)

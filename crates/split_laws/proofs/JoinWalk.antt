@@ -17,6 +17,7 @@ use Rattle.query_lang.specs.Streams.{taking_of}
 use Rattle.query_lang.specs.TypedFinals.{five_fields}
 use Rattle.query_lang.specs.TypedStreams.{column_names}
 use Rattle.query_lang.specs.Typing.{is_group, is_groupby}
+use Rattle.query_lang.specs.declared.fault.TheConstants.{MAX_GROUPBYS}
 use Rattle.query_laws.specs.Context.{Entry, AFold, AStream, AFinal, APrint, finals_in, groups_in, known_in, streams_in}
 use Rattle.query_laws.specs.QueryRules.{HasItem, HasItems, of_none, of_more}
 use Rattle.query_laws.specs.StreamRules.{HasStream}
@@ -85,7 +86,7 @@ grows given names _ _ _ (of_more before i one rest all h more) =
 pub record IsCounted (op : StreamOp) (made : MadeStream) (before : ℕ) : Type 0 where
   pub tables : is_some made.table ≡ is_some (taking_of made.op)
   pub groups : is_some made.table ≡ is_group op
-  pub few : before ≤ 8 → before + cond (is_some made.table) 1 0 ≤ 8
+  pub few : before ≤ MAX_GROUPBYS → before + cond (is_some made.table) 1 0 ≤ MAX_GROUPBYS
 
 counted : (five : List ℕ) (known : List Known) (number before : ℕ) (op : StreamOp) (made : MadeStream)
     → HasStream five known number before op made → IsCounted op made before
@@ -116,7 +117,7 @@ one_key before one b same count =
 
 pub record Counts (before : List Entry) (count : ℕ) (all : List Entry) : Type 0 where
   pub count_is : groups_in all ≡ groups_in before + count
-  pub few : groups_in before ≤ 8 → groups_in all ≤ 8
+  pub few : groups_in before ≤ MAX_GROUPBYS → groups_in all ≤ MAX_GROUPBYS
   pub keys : length (group_keys (streams_in before)) ≡ groups_in before → length (group_keys (streams_in all)) ≡ groups_in all
 
 no_counts : (before : List Entry) → Counts before 0 before

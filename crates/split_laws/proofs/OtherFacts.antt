@@ -40,7 +40,7 @@ use Rattle.std.specs.Prelude.{get_or}
 use Rattle.std.proofs.lemmas.Option.{slice_get-get_or}
 use Rattle.split_laws.proofs.PartNumbers.{words_at_part}
 use Rattle.split_laws.proofs.WholeFacts.{all_whole, part_read}
-use Rattle.split_laws.specs.SplitTables.{words_of}
+use Rattle.trace_drive.specs.Drives.{words_of}
 use Rattle.split_laws.specs.WholeRuns.{EachFits, Split, SplitFieldsAreKeys, SumsAreOfPieces, ValidRowsAreOfTheWhole, packets_for}
 use Rattle.split_laws.specs.WholeRuns.{uses_of_part}
 use Rattle.split_laws.specs.WholeRuns.{uses_of_whole}

@@ -18,9 +18,10 @@ use Rattle.part_laws.proofs.FinalRows.{same_members}
 use Rattle.part_laws.specs.FinalParts.{AreOfParts, ExactTablesInOrder, by_key}
 use Rattle.part_laws.specs.PartLaws.{but_for_epochs}
 use Rattle.part_laws.specs.Parts.{AreTheParts, KeepsKeys, part_at}
-use Rattle.part_texts.specs.Texts.{packets_at, part_by_hash, words_at}
+use Rattle.part_texts.specs.Texts.{packets_of_part, part_by_hash, field_words}
 use Rattle.split_fields.specs.SplitLaws.{ByHashKeepsKeys}
-use Rattle.split_laws.specs.SplitTables.{SplitTablesAreInOrder, words_of}
+use Rattle.trace_drive.specs.Drives.{words_of}
+use Rattle.split_laws.specs.SplitTables.{SplitTablesAreInOrder}
 
 -- ---- these numbers, each once
 
@@ -51,20 +52,21 @@ module _ (fields : List Field) (salt parts : ℕ) (some : 0 < parts) where
   each_below [] = All-nil (λ words. has_number (partition words) (range_with_len 0 parts) ≡ true)
   each_below (words ∷ packets) =
       All-cons (λ some_words. has_number (partition some_words) (range_with_len 0 parts) ≡ true) words packets
-      (has_in 0 parts (partition words) (omega arith) (omega (arith, bucket_of-lt parts (salt ∷ words_at fields words) some)))
+      (has_in 0 parts (partition words) (omega arith) (omega (arith, bucket_of-lt parts (salt ∷ field_words fields words) some)))
       (each_below packets)
 
   pub are_the_parts : (packets : List (List ℕ)) → AreTheParts partition packets (range_with_len 0 parts)
   are_the_parts packets = record { apart = are_apart 0 parts; each = each_below packets }
 
   -- the words of a part's packets are those of the part
-  pub words_at_part : (n : ℕ) (packets : List Packet) → part_at partition n (words_of packets) ≡ words_of (packets_at partition n packets)
+  pub words_at_part : (n : ℕ) (packets : List Packet) → part_at partition n (words_of packets) ≡ words_of
+      (packets_of_part partition n packets)
   words_at_part n [] = refl
   words_at_part n (packet ∷ packets) = by (partition packet.words == n) (words_at_part n packets)
     where
-      by : (b : Bool) → part_at partition n (words_of packets) ≡ words_of (packets_at partition n packets)
+      by : (b : Bool) → part_at partition n (words_of packets) ≡ words_of (packets_of_part partition n packets)
           → cond b (packet.words ∷ part_at partition n (words_of packets)) (part_at partition n (words_of packets))
-          ≡ words_of (cond b (packet ∷ packets_at partition n packets) (packets_at partition n packets))
+          ≡ words_of (cond b (packet ∷ packets_of_part partition n packets) (packets_of_part partition n packets))
       by true rest = ap (λ (ws : List (List ℕ)). packet.words ∷ ws) rest
       by false rest = rest
 
@@ -85,8 +87,9 @@ split_tables_lem keep exact text q i fields salt parts packets is within may som
           let found = exact partition q i kept (words_of packets) (range_with_len 0 parts) whole
           (are_the_parts fields salt parts some (words_of packets)) f g caches one_row in
           let table : ℕ → List (List ℕ) → List Row = λ n words. map but_for_epochs (group_rows f (caches n) (uses q i words)) in
-          let same : (n : ℕ) → table n (part_at partition n (words_of packets)) ≡ table n (words_of (packets_at partition n packets)) =
+          let same : (n : ℕ) → table n (part_at partition n (words_of packets)) ≡ table n (words_of (packets_of_part partition n packets)) =
           λ n. ap (table n) (words_at_part fields salt parts some n packets) in
           of_same kept.part_of (range_with_len 0 parts) (map but_for_epochs (group_rows f g (uses q i (words_of packets))))
-          (λ n. table n (part_at partition n (words_of packets))) (λ n. table n (words_of (packets_at partition n packets))) same found,
+          (λ n. table n (part_at partition n (words_of packets))) (λ n. table n (words_of (packets_of_part partition n packets))) same
+          found,
     )

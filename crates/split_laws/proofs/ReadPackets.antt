@@ -13,14 +13,16 @@ use Rattle.marple_base.specs.declared.field.Field.{Field}
 use Rattle.marple_base.specs.declared.field.Field.TheVariants as f
 use Rattle.marple_base.specs.declared.field.FieldSet.{FieldSet}
 use Rattle.marple_base.specs.declared.field.Packet.{Packet}
+use Rattle.marple_base.specs.declared.field.TheConstants.{FIELDS}
 use Rattle.trace_reader.specs.Numbers.{decimal_word, first_some, further_word, infinity_word, is_dot, octet_word, quad_of}
-use Rattle.trace_reader.specs.Numbers.{without_blanks, word_of}
+use Rattle.trace_reader.specs.Numbers.{without_blanks, word_of_text}
 use Rattle.trace_reader.specs.Reading.{records}
-use Rattle.trace_reader.specs.Traces.{Contents, Layout, column_of, columns_of, each, layout_of, layout_with, packet_with, rest_of, text_at}
-use Rattle.trace_reader.specs.Traces.{with_packet, word_at, words_of}
+use Rattle.trace_reader.specs.Traces.{Contents, Layout, column_of_field, columns_of_fields, each, layout_of, layout_with, packet_with}
+use Rattle.trace_reader.specs.Traces.{rest_of, field_text_at}
+use Rattle.trace_reader.specs.Traces.{with_packet, word_at, words_in_columns}
 use Rattle.trace_reader.specs.declared.fault.TraceFault.{TraceFault}
 use Rattle.trace_reader.proofs.NumberFacts.{number_parts}
-use Rattle.queue_sim.specs.ReadBack.{ArePackets, AreWords}
+use Rattle.queue_sim.specs.ReadBack.{ArePackets, ArePacketWords}
 use Rattle.trace_drive.specs.Kept.{kept_of}
 use Rattle.trace_drive.proofs.EachPacket.{HoldsOfRead, first_ok, not_ok}
 use Rattle.trace_drive.proofs.KeptFacts.{kept_words_are}
@@ -80,7 +82,7 @@ further_small f.Tin text n e = cc e
 further_small f.Tout text n e = infinity_small text n e
 further_small f.QSize text n e = cc e
 
-word_small : (field : Field) (text : List ℕ) (n : ℕ) → word_of field text ≡ Some n → n < 2 ^ 64
+word_small : (field : Field) (text : List ℕ) (n : ℕ) → word_of_text field text ≡ Some n → n < 2 ^ 64
 word_small field text n = by (decimal_word text) refl
   where
     by : (o : Option ℕ) → decimal_word text ≡ o → first_some o (further_word field text) ≡ Some n → n < 2 ^ 64
@@ -94,17 +96,17 @@ word_small field text n = by (decimal_word text) refl
 
 at_column : (fields : List (List ℕ)) (field : Field) (o : Option ℕ) (word : ℕ) → word_at fields field o ≡ Ok word → word < 2 ^ 64
 at_column fields field None word e = let is : 0 ≡ word = cc e in omega (arith, is)
-at_column fields field (Some column) word e = by (word_of field (without_blanks (text_at fields column))) refl e
+at_column fields field (Some column) word e = by (word_of_text field (without_blanks (field_text_at fields column))) refl e
   where
-    by : (o : Option ℕ) → word_of field (without_blanks (text_at fields column)) ≡ o → ok_or o field ≡ Ok word → word < 2 ^ 64
+    by : (o : Option ℕ) → word_of_text field (without_blanks (field_text_at fields column)) ≡ o → ok_or o field ≡ Ok word → word < 2 ^ 64
     by None is e = cc e
     by (Some n) is e =
         let same : n ≡ word = cc e in
-        let small = word_small field (without_blanks (text_at fields column)) n is in
+        let small = word_small field (without_blanks (field_text_at fields column)) n is in
         omega (arith, same, small)
 
 are_words : (fields : List (List ℕ)) (places : List (Field × Option ℕ)) (words : List ℕ)
-    → each (λ p. word_at fields p.0 p.1) places ≡ Ok words → AreWords words
+    → each (λ p. word_at fields p.0 p.1) places ≡ Ok words → ArePacketWords words
 unfolding each
 are_words fields [] words e = let none : [] ≡ words = cc e in rw (sym none) tt
 are_words fields (place ∷ places) words e =
@@ -122,13 +124,13 @@ unread false column fields field o word c w =
 
 -- a word whose field isn't read is 0
 words_if : (reads : FieldSet) (header fields : List (List ℕ)) (fs : List Field) (columns : List (Option ℕ)) (words : List ℕ)
-    → each (column_of reads header) fs ≡ Ok columns
+    → each (column_of_field reads header) fs ≡ Ok columns
     → each (λ p. word_at fields p.0 p.1) (zip fs columns) ≡ Ok words
     → map (λ p. if has_field reads p.0 then p.1 else 0) (zip fs words) ≡ words
 unfolding each
 words_if reads header fields [] columns words c w = let none : [] ≡ words = cc in none
 words_if reads header fields (field ∷ fs) columns words c w =
-    let column = first_ok (column_of reads header field) (each (column_of reads header) fs) columns c in
+    let column = first_ok (column_of_field reads header field) (each (column_of_field reads header) fs) columns c in
     let given = rw column.4 at w in
     let word = first_ok (word_at fields field column.0) (each (λ p. word_at fields p.0 p.1) (zip fs column.1)) words given in
     let here = unread (has_field reads field) _ fields field column.0 word.0 column.2 word.2 in
@@ -137,8 +139,8 @@ words_if reads header fields (field ∷ fs) columns words c w =
 -- ---- each packet
 
 pub record ReadsBack (reads : FieldSet) (packet : Packet) : Type 0 where
-  pub long : length packet.words ≡ 14
-  pub words : AreWords packet.words
+  pub long : length packet.words ≡ FIELDS
+  pub words : ArePacketWords packet.words
   pub same : as_read reads packet ≡ packet
 
 kept_same : (reads : FieldSet) (packet : Packet) → as_read reads packet ≡ kept_of reads packet
@@ -160,11 +162,11 @@ with_words n (Err field) packet e = absurd (not_ok _ packet e)
 with_words n (Ok ws) packet e = let is : record { words = ws } ≡ packet = cc e in ap (λ (p : Packet). Ok p.words) is
 
 record_words : (layout : Layout) (n : ℕ) (fields : List (List ℕ)) (packet : Packet) → record_packet layout n fields ≡ Ok packet
-    → words_of layout.columns fields ≡ Ok packet.words
+    → words_in_columns layout.columns fields ≡ Ok packet.words
 unfolding record_packet
 record_words layout n fields packet e = by_test (not (length fields == layout.width))
     (λ t. absurd (not_ok _ packet (rw t at e)))
-    (λ t. with_words n (words_of layout.columns fields) packet (rw t at e))
+    (λ t. with_words n (words_in_columns layout.columns fields) packet (rw t at e))
 
 module _ (reads : FieldSet) where
   with_one : (one : Result Packet TraceFault) (more : Contents) → ((packet : Packet) → one ≡ Ok packet → ReadsBack reads packet)
@@ -173,7 +175,7 @@ module _ (reads : FieldSet) where
   with_one (Ok packet) more here rest = All-cons (ReadsBack reads) packet more.packets (here packet refl) rest
 
   each_record : (header : List (List ℕ)) (layout : Layout) (n : ℕ) (left : List (List (List ℕ)))
-      → columns_of reads header ≡ Ok layout.columns → All (ReadsBack reads) (contents_of layout n left).packets
+      → columns_of_fields reads header ≡ Ok layout.columns → All (ReadsBack reads) (contents_of layout n left).packets
   unfolding contents_of
   each_record header layout n [] is = All-nil (ReadsBack reads)
   each_record header layout n (fields ∷ left) is =
@@ -182,14 +184,14 @@ module _ (reads : FieldSet) where
       (each_record header layout (n + 1) left is)
 
   by_header : (header : List (List ℕ)) (columns : Result (List (Option ℕ)) TraceFault) (left : List (List (List ℕ)))
-      → columns_of reads header ≡ columns
+      → columns_of_fields reads header ≡ columns
       → All (ReadsBack reads) (contents_by (layout_with (length header) columns) left).packets
   by_header header (Err found) left is = All-nil (ReadsBack reads)
   by_header header (Ok columns) left is = each_record header (record { width = length header; columns = columns }) 1 left is
 
   by_records : (all : List (List (List ℕ))) → All (ReadsBack reads) (contents_by (layout_of all reads) (rest_of all)).packets
   by_records [] = All-nil (ReadsBack reads)
-  by_records (header ∷ left) = by_header header (columns_of reads header) left refl
+  by_records (header ∷ left) = by_header header (columns_of_fields reads header) left refl
 
   one_trace : (text : List ℕ) → All (ReadsBack reads) (all_packets text reads)
   unfolding all_contents

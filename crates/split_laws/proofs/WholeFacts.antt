@@ -12,6 +12,7 @@ use Rattle.epoch_model.specs.declared.tables.Row.{Row}
 use Rattle.final_queries.specs.Finals.{top_rows}
 use Rattle.final_queries.specs.declared.table.Table.{Table}
 use Rattle.marple_base.specs.declared.field.Packet.{Packet}
+use Rattle.marple_base.specs.declared.field.TheConstants.{FIELDS}
 use Rattle.query_lang.specs.TypedQueries.{IsValidQuery}
 use Rattle.query_laws.specs.ValidLaws.{AcceptedAreValid}
 use Rattle.query_tables.specs.Tables.{group_tables, query_tables}
@@ -27,7 +28,7 @@ use Rattle.part_laws.proofs.FinalRows.{same_members}
 use Rattle.part_texts.proofs.BackFacts.{field_texts_read_back_lem}
 use Rattle.split_laws.specs.Merging.{Merge, InOrder, TopAgain, NotMerged, group_merge, merge_at, merged, merged_rows, merges, rows_in}
 use Rattle.split_laws.specs.Merging.{table_but_for_epochs, with_rows}
-use Rattle.split_laws.specs.SplitTables.{words_of}
+use Rattle.trace_drive.specs.Drives.{words_of}
 use Rattle.split_laws.specs.WholeRuns.{EachFits, FitsOneRun, PartsAreTheRun, Split, packets_for, packets_in_part}
 use Rattle.split_laws.specs.WholeRuns.{tables_of_run, tables_of_whole, text_of_part}
 use Rattle.split_laws.proofs.FinalWalk.{Stands, walk}
@@ -80,7 +81,7 @@ part_read s n fits =
 pub all_whole : (s : Split) → AreWhole (words_of (packets_for s.q s.traces))
 all_whole s =
     let reads = reads_of s.q in
-    All-map (λ words. length words ≡ 14) (λ (packet : Packet). packet.words) (packets_for s.q s.traces)
+    All-map (λ words. length words ≡ FIELDS) (λ (packet : Packet). packet.words) (packets_for s.q s.traces)
     (λ k d lt. (all_traces reads s.traces k d lt).long)
 
 module _ (in_order : AcceptedTablesInOrder) (s : Split) (valid : IsValidQuery s.q) (g : Geometry) (caches : ℕ → Geometry) where

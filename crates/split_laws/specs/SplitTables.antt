@@ -9,15 +9,12 @@ use Rattle.marple_base.specs.declared.field.Packet.{Packet}
 use Rattle.query_lang.specs.declared.typed.TypedQuery.{TypedQuery}
 use Rattle.query_types.specs.Uses.{uses}
 use Rattle.stage_plan.specs.Packets.{AreWhole}
+use Rattle.trace_drive.specs.Drives.{words_of}
 use Rattle.part_laws.specs.FinalParts.{AreOfParts}
 use Rattle.part_laws.specs.PartLaws.{but_for_epochs}
 use Rattle.part_laws.specs.Parts.{KeepsKeys, groupbys}
-use Rattle.part_texts.specs.Texts.{packets_at, part_by_hash}
+use Rattle.part_texts.specs.Texts.{packets_of_part, part_by_hash}
 use Rattle.split_fields.specs.Splits.{may_split}
-
--- the packets' words
-abbrev pub words_of : List Packet → List (List ℕ)
-words_of packets = map (λ packet. packet.words) packets
 
 -- Of each accepted text, split by fields that may decide the part, with any salt, into any number of parts: where each key of a
 -- groupby has one row, the table of all packets has the rows of the parts' tables in the order of their keys, whatever the caches of
@@ -29,4 +26,4 @@ SplitTablesAreInOrder = (text : List ℕ) (q : TypedQuery) (i : ℕ) (fields : L
     → (kept : KeepsKeys (part_by_hash fields salt parts) q i) × ((f : Folding) (g : Geometry) (caches : ℕ → Geometry)
     → f.row_per_epoch ≡ false
     → AreOfParts kept.part_of (range_with_len 0 parts) (map but_for_epochs (group_rows f g (uses q i (words_of packets))))
-    (λ n. map but_for_epochs (group_rows f (caches n) (uses q i (words_of (packets_at (part_by_hash fields salt parts) n packets))))))
+    (λ n. map but_for_epochs (group_rows f (caches n) (uses q i (words_of (packets_of_part (part_by_hash fields salt parts) n packets))))))

@@ -14,7 +14,7 @@ use Rattle.fold_code.specs.Additive.{is_additive}
 use Rattle.marple_base.specs.declared.field.Field.{Field}
 use Rattle.marple_base.specs.declared.field.Packet.{Packet}
 use Rattle.part_laws.specs.PartLaws.{but_for_epochs, row_of_state, valid_row}
-use Rattle.part_texts.specs.Texts.{packets_at, part_by_hash, part_text}
+use Rattle.part_texts.specs.Texts.{packets_of_part, part_by_hash, part_text}
 use Rattle.query_lang.specs.declared.fold.TypedFold.{TypedFold}
 use Rattle.query_lang.specs.declared.typed.Class.TheVariants.{Other}
 use Rattle.query_lang.specs.declared.typed.TypedQuery.{TypedQuery}
@@ -24,7 +24,7 @@ use Rattle.query_types.specs.Uses.{uses}
 use Rattle.split_fields.specs.Splits.{may_split}
 use Rattle.net_laws.specs.Fields.{makes_field}
 use Rattle.split_laws.specs.Merging.{has_keys, merge_at, merged, merges, table_but_for_epochs}
-use Rattle.split_laws.specs.SplitTables.{words_of}
+use Rattle.trace_drive.specs.Drives.{words_of}
 use Rattle.stage_plan.specs.Fields.{reads_of}
 use Rattle.stage_plan.specs.Planned.{fold_at}
 use Rattle.stage_plan.specs.Shape.{GroupShape, query_groups}
@@ -59,7 +59,7 @@ pub record Split : Type 0 where
 
 -- the packets of a part, and its text
 abbrev pub packets_in_part : Split → ℕ → List Packet
-packets_in_part s n = packets_at (part_by_hash s.fields s.salt s.parts) n (packets_for s.q s.traces)
+packets_in_part s n = packets_of_part (part_by_hash s.fields s.salt s.parts) n (packets_for s.q s.traces)
 
 abbrev pub text_of_part : Split → ℕ → List ℕ
 text_of_part s n = part_text (reads_of s.q) (part_by_hash s.fields s.salt s.parts) n (packets_for s.q s.traces)

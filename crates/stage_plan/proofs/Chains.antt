@@ -5,6 +5,7 @@ use Rattle.std.specs.Prelude.{slice_get, slice_index}
 use Rattle.std.proofs.lemmas.Bool.{cases_eq, cases_lt}
 use Rattle.std.proofs.lemmas.List.{length_push, get_or_append_left, get_or_push}
 use Rattle.std.proofs.lemmas.Option.{slice_get_within, same_Some, slice_get_cases, slice_get-get_or}
+use Rattle.marple_base.specs.declared.field.TheConstants.{FIELDS}
 use Rattle.stage_plan.specs.declared.op.Operand.TheVariants.{Register}
 use Rattle.stage_plan.specs.declared.op.PlanOp.{PlanOp}
 use Rattle.stage_plan.specs.Registers.{operand_stage, stages_of}
@@ -14,42 +15,44 @@ use Rattle.stage_plan.proofs.PlanParts.{stages_within}
 
 -- the stage of the operation at a place
 pub stage_at : (ops : List PlanOp) (at : ℕ) (d : PlanOp) → at < length ops
-    → operand_stage ops (Register (14 + at)) ≡ (get_or ops at d).stage
+    → operand_stage ops (Register (FIELDS + at)) ≡ (get_or ops at d).stage
 stage_at ops at d lt = stage_of_register ops at (get_or ops at d) (slice_get-get_or ops at d lt)
 
 pub follows_left : (ops : List PlanOp) (at : ℕ) (d : PlanOp) (number : ℕ) → at < length ops
-    → (get_or ops at d).left ≡ Register (14 + number) → Follows (slice_get ops at) number
+    → (get_or ops at d).left ≡ Register (FIELDS + number) → Follows (slice_get ops at) number
 follows_left ops at d number lt e = let P : Option PlanOp → Type 0 = λ o. Follows o number in subst P (sym (slice_get-get_or ops at d lt))
     (inl e)
 
 pub follows_right : (ops : List PlanOp) (at : ℕ) (d : PlanOp) (number : ℕ) → at < length ops
-    → (get_or ops at d).right ≡ Register (14 + number) → Follows (slice_get ops at) number
+    → (get_or ops at d).right ≡ Register (FIELDS + number) → Follows (slice_get ops at) number
 follows_right ops at d number lt e = let P : Option PlanOp → Type 0 = λ o. Follows o number in subst P (sym (slice_get-get_or ops at d lt))
     (inr e)
 
-pub previous_left : (ops : List PlanOp) (at number stage : ℕ) (d : PlanOp) → at < length ops → 1 < operand_stage ops (Register (14 + at))
+pub previous_left : (ops : List PlanOp) (at number stage : ℕ) (d : PlanOp) → at < length ops
+    → 1 < operand_stage ops (Register (FIELDS + at))
     → stage ≡ (get_or ops at d).stage - 1 →
     IsNamed ops (get_or ops at d).left stage number → IsPrevious ops at number
 previous_left ops at number stage d lt late is named = record {
   follows = follows_left ops at d number lt named.register;
   within = named.within;
-  stage_is = (let s = stage_at ops at d lt in let n : operand_stage ops (Register (14 + number)) ≡ stage =
+  stage_is = (let s = stage_at ops at d lt in let n : operand_stage ops (Register (FIELDS + number)) ≡ stage =
       ap (operand_stage ops) (sym named.register) ∙ named.stage_is in omega arith);
 }
 
-pub previous_right : (ops : List PlanOp) (at number stage : ℕ) (d : PlanOp) → at < length ops → 1 < operand_stage ops (Register (14 + at))
+pub previous_right : (ops : List PlanOp) (at number stage : ℕ) (d : PlanOp) → at < length ops
+    → 1 < operand_stage ops (Register (FIELDS + at))
     → stage ≡ (get_or ops at d).stage - 1 →
     IsNamed ops (get_or ops at d).right stage number → IsPrevious ops at number
 previous_right ops at number stage d lt late is named = record {
   follows = follows_right ops at d number lt named.register;
   within = named.within;
-  stage_is = (let s = stage_at ops at d lt in let n : operand_stage ops (Register (14 + number)) ≡ stage =
+  stage_is = (let s = stage_at ops at d lt in let n : operand_stage ops (Register (FIELDS + number)) ≡ stage =
       ap (operand_stage ops) (sym named.register) ∙ named.stage_is in omega arith);
 }
 
 -- one of the operands is in the stage before
 pub some_previous : (ops : List PlanOp) (at : ℕ) (d : PlanOp) → AreSoundOps ops → at < length ops
-    → 1 < operand_stage ops (Register (14 + at)) →
+    → 1 < operand_stage ops (Register (FIELDS + at)) →
     (operand_stage ops (get_or ops at d).left ≡ (get_or ops at d).stage - 1 → ⊥)
     → (operand_stage ops (get_or ops at d).right ≡ (get_or ops at d).stage - 1 → ⊥) → ⊥
 some_previous ops at d sound lt late l r =
@@ -112,7 +115,7 @@ chain_more ops list at p lt e before = record {
 pub chain_is : (ops : List PlanOp) (list : List ℕ) (at : ℕ) → AreSoundOps ops → at + 1 ≡ length ops → EndsAt ops list at → IsChain ops list
 chain_is ops list at sound last e = elim ((slice_get_cases ops at).1) [
   | inl found ↦
-      let s : operand_stage ops (Register (14 + at)) ≡ found.0.stage = stage_of_register ops at found.0 found.2 in
+      let s : operand_stage ops (Register (FIELDS + at)) ≡ found.0.stage = stage_of_register ops at found.0 found.2 in
       let low : found.0.stage ≤ stages_of ops = stage_below ops at found.0 found.2 in
       let high : stages_of ops ≤ found.0.stage = stages_within ops found.0.stage (λ i one f. elim (cases_eq i at) [
         | inl same ↦ (let t : one.stage ≡ found.0.stage = ap (λ (x : PlanOp). x.stage)
@@ -128,7 +131,7 @@ no_chain [] e = record { long = refl; within = λ k d h. absurd (omega arith); l
 no_chain (one ∷ ops) e = absurd (omega arith)
 
 pub none_previous : (ops : List PlanOp) (at number : ℕ) (d : PlanOp) → AreSoundOps ops → at < length ops
-    → 1 < operand_stage ops (Register (14 + at)) →
+    → 1 < operand_stage ops (Register (FIELDS + at)) →
     (0 < (get_or ops at d).stage - 1 → operand_stage ops (get_or ops at d).left ≡ (get_or ops at d).stage - 1 → false ≡ true) →
     (0 < (get_or ops at d).stage - 1 → operand_stage ops (get_or ops at d).right ≡ (get_or ops at d).stage - 1 → false ≡ true)
     → IsPrevious ops at number

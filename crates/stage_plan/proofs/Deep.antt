@@ -20,8 +20,8 @@ use Rattle.stage_plan.specs.declared.op.PlanOp.{PlanOp}
 use Rattle.stage_plan.specs.declared.wires.StreamWires.{StreamWires}
 use Rattle.stage_plan.specs.Depths.{term_depth, term_depths, StreamDepths, packet_depths, depths_at, joined_depths, emit_depths}
 use Rattle.stage_plan.specs.Depths.{group_depths, depths_made, all_depths}
-use Rattle.stage_plan.specs.Making.{compiled, compiled_all, op_on, operand_at, wires_at, conditioned, emit_columns, emitted}
-use Rattle.stage_plan.specs.Making.{grouped, made_by, all_made}
+use Rattle.stage_plan.specs.Making.{compiled, compiled_all, op_on, operand_at, wires_at, conditioned, emit_columns, made_emit}
+use Rattle.stage_plan.specs.Making.{made_group, made_by, all_made}
 use Rattle.stage_plan.proofs.StreamRows.{at_earlier, at_last, at_past}
 use Rattle.stage_plan.proofs.Extending.{Extends}
 use Rattle.stage_plan.proofs.Depths.{IsAt, is_more, number_at, AreAt, are_more, column_is, are_picked, are_append, are_numbers, AreMade}
@@ -145,8 +145,8 @@ columns_make ops columns depths found found_depths (e ∷ values) made at found_
 
 emit_makes : (ops : List PlanOp) (o : Option TypedExpr) (initial : List ℕ) (source : StreamWires) (depths : StreamDepths)
     (keys args : List ℕ) → AreMade ops → WiresAt ops source depths →
-    Makes ops (emitted o (emit_columns initial source.columns args) source (map (operand_at source.columns) keys) ops).ops
-    (emitted o (emit_columns initial source.columns args) source (map (operand_at source.columns) keys) ops).wires
+    Makes ops (made_emit o (emit_columns initial source.columns args) source (map (operand_at source.columns) keys) ops).ops
+    (made_emit o (emit_columns initial source.columns args) source (map (operand_at source.columns) keys) ops).wires
     (emit_depths o (length initial) (values_at depths.columns args) depths.present (values_at depths.columns keys))
 emit_makes ops None initial source depths keys args made at = record {
   added = added_none ops made;
@@ -163,7 +163,7 @@ emit_makes ops (Some condition) initial source depths keys args made at =
 
 group_makes : (ops : List PlanOp) (o : Option TypedFold) (source : StreamWires) (depths : StreamDepths) (keys args : List ℕ) → AreMade ops
     → WiresAt ops source depths →
-    Makes ops (grouped o source keys args ops).ops (grouped o source keys args ops).wires (group_depths o depths keys args)
+    Makes ops (made_group o source keys args ops).ops (made_group o source keys args ops).wires (group_depths o depths keys args)
 group_makes ops None source depths keys args made at = record {
   added = added_none ops made;
   wires_are =

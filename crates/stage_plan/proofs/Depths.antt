@@ -6,8 +6,10 @@ use Rattle.std.proofs.lemmas.Bool.{cases_lt}
 use Rattle.std.proofs.lemmas.Bool.Decides.{nat_tests}
 use Rattle.std.proofs.lemmas.List.{length_push, map-append}
 use Rattle.std.proofs.lemmas.Option.{slice_get_within, slice_get_cases}
+use Rattle.marple_base.specs.declared.field.TheConstants.{FIELDS}
 use Rattle.query_lang.specs.Streams.{values_at}
 use Rattle.query_lang.specs.Terms.{Operation}
+use Rattle.query_lang.specs.declared.fault.TheConstants.{MAX_STAGES}
 use Rattle.stage_plan.specs.declared.op.Operand.{Operand}
 use Rattle.stage_plan.specs.declared.op.Operand.TheVariants.{Register, Number}
 use Rattle.stage_plan.specs.declared.op.Operation as operation
@@ -20,18 +22,18 @@ use Rattle.stage_plan.proofs.Runs.{within_more, stage_of_register}
 use Rattle.stage_plan.proofs.Extending.{Extends, same_ops, and_more, one_more}
 
 -- an operand that is there keeps its stage while operations are added
-pub same_stage : (ops more : List PlanOp) (o : Operand) → Extends ops more → IsWithin (14 + length ops) o
+pub same_stage : (ops more : List PlanOp) (o : Operand) → Extends ops more → IsWithin (FIELDS + length ops) o
     → operand_stage more o ≡ operand_stage ops o
 same_stage ops more (Number n) e w = refl
 same_stage ops more (Register r) e w =
-    elim (cases_lt r 14) [
+    elim (cases_lt r FIELDS) [
       | inl field ↦
-          let early : nat_lt r 14 ≡ true = grind (arith, nat_tests) in
-          ap (λ b. if b then 0 else unwrap_or (option_map (λ (x : PlanOp). x.stage) (slice_get more (r - 14))) 0) early
-          ∙ ap (λ b. if b then 0 else unwrap_or (option_map (λ (x : PlanOp). x.stage) (slice_get ops (r - 14))) 0) (sym early)
+          let early : nat_lt r FIELDS ≡ true = grind (arith, nat_tests) in
+          ap (λ b. if b then 0 else unwrap_or (option_map (λ (x : PlanOp). x.stage) (slice_get more (r - FIELDS))) 0) early
+          ∙ ap (λ b. if b then 0 else unwrap_or (option_map (λ (x : PlanOp). x.stage) (slice_get ops (r - FIELDS))) 0) (sym early)
       | inr later ↦
-          let j : ℕ = r - 14 in
-          let at : r ≡ 14 + j = omega arith in
+          let j : ℕ = r - FIELDS in
+          let at : r ≡ FIELDS + j = omega arith in
           let lt : j < length ops = omega arith in
           elim ((slice_get_cases ops j).1) [
             | inl found ↦
@@ -41,14 +43,14 @@ same_stage ops more (Register r) e w =
           ]
     ]
 
--- an operand that is there, whose stage is this depth, and 65 for all above 64
+-- an operand that is there, whose stage is this depth, and one more than the most for all above
 pub record IsAt (ops : List PlanOp) (o : Operand) (depth : ℕ) : Type 0 where
-  pub within : IsWithin (14 + length ops) o
-  pub stage : operand_stage ops o ≡ min 65 depth
+  pub within : IsWithin (FIELDS + length ops) o
+  pub stage : operand_stage ops o ≡ min (MAX_STAGES + 1) depth
 
 pub is_more : (ops more : List PlanOp) (o : Operand) (depth : ℕ) → Extends ops more → IsAt ops o depth → IsAt more o depth
 is_more ops more o depth e h = record {
-  within = (let g = e.grows in within_more (14 + length ops) (14 + length more) o (omega arith) h.within);
+  within = (let g = e.grows in within_more (FIELDS + length ops) (FIELDS + length more) o (omega arith) h.within);
   stage = same_stage ops more o e h.within ∙ h.stage;
 }
 
@@ -93,15 +95,15 @@ are_numbers ops (n ∷ initial) = (number_at ops n, are_numbers ops initial)
 
 -- operation number i reads what is before it
 pub record IsMade (ops : List PlanOp) (i : ℕ) (one : PlanOp) : Type 0 where
-  pub left : IsWithin (14 + i) one.left
-  pub right : IsWithin (14 + i) one.right
+  pub left : IsWithin (FIELDS + i) one.left
+  pub right : IsWithin (FIELDS + i) one.right
   pub stage : one.stage ≡ stage_after (operand_stage ops one.left) (operand_stage ops one.right)
 
 pub record AreMade (ops : List PlanOp) : Type 0 where
   pub each : (i : ℕ) (one : PlanOp) → slice_get ops i ≡ Some one → IsMade ops i one
 
-made_more : (ops : List PlanOp) (op : operation.Operation) (left right : Operand) → AreMade ops → IsWithin (14 + length ops) left
-    → IsWithin (14 + length ops) right →
+made_more : (ops : List PlanOp) (op : operation.Operation) (left right : Operand) → AreMade ops → IsWithin (FIELDS + length ops) left
+    → IsWithin (FIELDS + length ops) right →
     AreMade (ops ++ op_on ops op left right ∷ [])
 made_more ops op left right made l r = record {
   each = λ i one found. elim (push_cases ops new i one found) [
@@ -114,10 +116,10 @@ made_more ops op left right made l r = record {
           stage = h.stage
               ∙ ap (λ s. stage_after s (operand_stage ops one.right)) (sym
               (same_stage ops (ops ++ new ∷ []) one.left (one_more ops new)
-              (within_more (14 + i) (14 + length ops) one.left (omega arith) h.left)))
+              (within_more (FIELDS + i) (FIELDS + length ops) one.left (omega arith) h.left)))
               ∙ ap (λ s. stage_after (operand_stage (ops ++ new ∷ []) one.left) s)
               (sym (same_stage ops (ops ++ new ∷ []) one.right (one_more ops new)
-              (within_more (14 + i) (14 + length ops) one.right (omega arith) h.right)));
+              (within_more (FIELDS + i) (FIELDS + length ops) one.right (omega arith) h.right)));
         }
     | inr last ↦ subst (IsMade (ops ++ new ∷ []) i) last.1 (subst (λ k. IsMade (ops ++ new ∷ []) k new) (sym last.0) (record {
       left = l;
@@ -134,7 +136,7 @@ made_more ops op left right made l r = record {
     new = op_on ops op left right
 
 abbrev pub capped : List ℕ → List ℕ
-capped depths = map (λ depth. min 65 depth) depths
+capped depths = map (λ depth. min (MAX_STAGES + 1) depth) depths
 
 abbrev pub stages : List PlanOp → List ℕ
 stages ops = map (λ one. one.stage) ops
@@ -153,13 +155,13 @@ added_then a b c ds es p q = record {
   extends = and_more a b c p.extends q.extends;
   made = q.made;
   stages_are = q.stages_are ∙ ap (λ l. l ++ capped es) p.stages_are ∙ append_assoc (stages a) (capped ds) (capped es)
-      ∙ ap (λ l. stages a ++ l) (sym (map-append (λ depth. min 65 depth) ds es));
+      ∙ ap (λ l. stages a ++ l) (sym (map-append (λ depth. min (MAX_STAGES + 1) depth) ds es));
 }
 
 pub added_one : (ops : List PlanOp) (op : operation.Operation) (left right : Operand) (d e : ℕ) → AreMade ops → IsAt ops left d
     → IsAt ops right e → Added ops (ops ++ op_on ops op left right ∷ []) ((1 + max d e) ∷ [])
 added_one ops op left right d e made l r =
-    let stage : stage_after (operand_stage ops left) (operand_stage ops right) ≡ min 65 (1 + max d e) =
+    let stage : stage_after (operand_stage ops left) (operand_stage ops right) ≡ min (MAX_STAGES + 1) (1 + max d e) =
     (let a = l.stage in let b = r.stage in omega arith) in
     record {
       extends = one_more ops (op_on ops op left right);
@@ -168,7 +170,7 @@ added_one ops op left right d e made l r =
     }
 
 pub last_at : (ops : List PlanOp) (op : operation.Operation) (left right : Operand) (d e : ℕ) → IsAt ops left d → IsAt ops right e →
-    IsAt (ops ++ op_on ops op left right ∷ []) (Register (14 + length ops)) (1 + max d e)
+    IsAt (ops ++ op_on ops op left right ∷ []) (Register (FIELDS + length ops)) (1 + max d e)
 last_at ops op left right d e l r = record {
   within = (let n = length_push ops (op_on ops op left right) in omega arith);
   stage =

@@ -16,7 +16,7 @@ use Rattle.stage_plan.specs.declared.op.Operation.TheVariants.{Not, Two}
 use Rattle.stage_plan.specs.declared.op.PlanOp.{PlanOp}
 use Rattle.stage_plan.specs.declared.wires.StreamWires.{StreamWires}
 use Rattle.stage_plan.specs.Making.{compiled, compiled_all, op_on, operand_at, wires_at, conditioned}
-use Rattle.stage_plan.specs.Making.{emit_columns, emitted, grouped, made_by, all_made}
+use Rattle.stage_plan.specs.Making.{emit_columns, made_emit, made_group, made_by, all_made}
 use Rattle.stage_plan.proofs.Lists.{slice_get-left}
 
 -- a list of operations goes on from another
@@ -62,12 +62,12 @@ conditioned_extends over condition ops present columns =
     (compiled over condition ops).value))
 
 emitted_extends : (o : Option TypedExpr) (over : List Operand) (input : StreamWires) (keys : List Operand) (ops : List PlanOp)
-    → Extends ops (emitted o over input keys ops).ops
+    → Extends ops (made_emit o over input keys ops).ops
 emitted_extends None over input keys ops = same_ops ops
 emitted_extends (Some condition) over input keys ops = conditioned_extends over (term_of condition) ops input.present keys
 
 grouped_extends : (o : Option TypedFold) (input : StreamWires) (keys args : List ℕ) (ops : List PlanOp)
-    → Extends ops (grouped o input keys args ops).ops
+    → Extends ops (made_group o input keys args ops).ops
 grouped_extends None input keys args ops = same_ops ops
 grouped_extends (Some f) input keys args ops = emitted_extends f.emit (emit_columns f.initial input.columns args) input
     (map (operand_at input.columns) keys) ops

@@ -7,12 +7,14 @@ use Rattle.std.proofs.lemmas.Bool.{cases_lt}
 use Rattle.std.proofs.lemmas.Bool.Decides.{nat_tests}
 use Rattle.std.proofs.lemmas.List.{length_push}
 use Rattle.std.proofs.lemmas.List.Folds.{list_any-append}
+use Rattle.marple_base.specs.declared.field.TheConstants.{FIELDS}
 use Rattle.query_lang.specs.declared.fault.FaultKind.TheVariants.{OverLimit}
 use Rattle.query_lang.specs.declared.fault.Limit.TheVariants.{Stages}
 use Rattle.query_lang.specs.declared.fault.QueryFault.{QueryFault}
 use Rattle.query_lang.specs.declared.fold.TypedFold.{TypedFold}
 use Rattle.query_lang.specs.declared.typed.TypedQuery.{TypedQuery}
 use Rattle.query_lang.specs.declared.typed.TypedStream.{TypedStream}
+use Rattle.query_lang.specs.declared.fault.TheConstants.{MAX_STAGES}
 use Rattle.stage_plan.specs.declared.op.Operand.TheVariants.{Register}
 use Rattle.stage_plan.specs.declared.op.PlanOp.{PlanOp}
 use Rattle.stage_plan.specs.declared.wires.StreamWires.{StreamWires}
@@ -24,27 +26,34 @@ use Rattle.stage_plan.proofs.Deep.{WiresAt, Makes, AllAt, op_makes, depths_after
 use Rattle.stage_plan.proofs.Deep.{depths_are, all_more, AllMakes, all_make}
 
 -- where an operation is too deep, some depth is
-deep_stages : (ops : List PlanOp) → are_deep ops ≡ list_any (λ s. nat_lt 64 s) (stages ops)
+deep_stages : (ops : List PlanOp) → are_deep ops ≡ list_any (λ s. nat_lt MAX_STAGES s) (stages ops)
 deep_stages [] = refl
-deep_stages (one ∷ ops) = ap (λ b. nat_lt 64 one.stage || b) (deep_stages ops)
+deep_stages (one ∷ ops) = ap (λ b. nat_lt MAX_STAGES one.stage || b) (deep_stages ops)
 
-deep_one : (d : ℕ) → nat_lt 64 (min 65 d) ≡ nat_lt 64 d
-deep_one d = elim (cases_lt 64 d) [
-  | inl lt ↦ (let a : nat_lt 64 (min 65 d) ≡ true = (let m : 64 < min 65 d = omega arith in grind (arith, nat_tests)) in let b : nat_lt 64 d
-      ≡ true = grind (arith, nat_tests) in a ∙ sym b)
-  | inr le ↦ (let a : nat_lt 64 (min 65 d) ≡ false = (let m : min 65 d ≤ 64 = omega arith in grind (arith, nat_tests)) in let b : nat_lt 64
-      d ≡ false = grind (arith, nat_tests) in a ∙ sym b)
+deep_one : (d : ℕ) → nat_lt MAX_STAGES (min (MAX_STAGES + 1) d) ≡ nat_lt MAX_STAGES d
+deep_one d = elim (cases_lt MAX_STAGES d) [
+  | inl lt ↦
+      let a : nat_lt MAX_STAGES (min (MAX_STAGES + 1) d) ≡ true =
+      (let m : MAX_STAGES < min (MAX_STAGES + 1) d = omega arith in grind (arith, nat_tests)) in
+      let b : nat_lt MAX_STAGES d ≡ true = grind (arith, nat_tests) in
+      a ∙ sym b
+  | inr le ↦
+      let a : nat_lt MAX_STAGES (min (MAX_STAGES + 1) d) ≡ false =
+      (let m : min (MAX_STAGES + 1) d ≤ MAX_STAGES = omega arith in grind (arith, nat_tests)) in
+      let b : nat_lt MAX_STAGES d ≡ false = grind (arith, nat_tests) in
+      a ∙ sym b
 ]
 
-deep_capped : (depths : List ℕ) → list_any (λ s. nat_lt 64 s) (capped depths) ≡ is_too_deep depths
+deep_capped : (depths : List ℕ) → list_any (λ s. nat_lt MAX_STAGES s) (capped depths) ≡ is_too_deep depths
 deep_capped [] = refl
-deep_capped (d ∷ depths) = ap (λ b. b || list_any (λ s. nat_lt 64 s) (capped depths)) (deep_one d)
-    ∙ ap (λ b. nat_lt 64 d || b) (deep_capped depths)
+deep_capped (d ∷ depths) = ap (λ b. b || list_any (λ s. nat_lt MAX_STAGES s) (capped depths)) (deep_one d)
+    ∙ ap (λ b. nat_lt MAX_STAGES d || b) (deep_capped depths)
 
 added_deep : (ops more : List PlanOp) (depths : List ℕ) → Added ops more depths → are_deep ops ≡ false → are_deep more ≡ is_too_deep depths
 added_deep ops more depths a none =
-    deep_stages more ∙ ap (list_any (λ s. nat_lt 64 s)) a.stages_are ∙ list_any-append (λ s. nat_lt 64 s) (stages ops) (capped depths)
-    ∙ ap (λ b. b || list_any (λ s. nat_lt 64 s) (capped depths)) (sym (deep_stages ops) ∙ none) ∙ deep_capped depths
+    deep_stages more ∙ ap (list_any (λ s. nat_lt MAX_STAGES s)) a.stages_are
+    ∙ list_any-append (λ s. nat_lt MAX_STAGES s) (stages ops) (capped depths)
+    ∙ ap (λ b. b || list_any (λ s. nat_lt MAX_STAGES s) (capped depths)) (sym (deep_stages ops) ∙ none) ∙ deep_capped depths
 
 pub faults_are : (folds : List TypedFold) (ops : List PlanOp) (streams : List StreamWires) (depths : List StreamDepths)
     (list : List TypedStream) → AreMade ops → length streams ≡ length depths → AllAt ops streams depths →
@@ -99,12 +108,12 @@ no_deep folds ops streams (one ∷ list) none e = go (are_deep (made_by folds st
         (made_fault folds (made_by folds streams one.op ops).ops (streams ++ (made_by folds streams one.op ops).wires ∷ []) list)) is)
         ∙ e)
 
-field_at : (k : ℕ) → k < 14 → IsAt [] (Register k) 0
+field_at : (k : ℕ) → k < FIELDS → IsAt [] (Register k) 0
 field_at k lt =
-    let early : nat_lt k 14 ≡ true = grind (arith, nat_tests) in
+    let early : nat_lt k FIELDS ≡ true = grind (arith, nat_tests) in
     record {
       within = omega arith;
-      stage = ap (λ b. if b then 0 else unwrap_or (option_map (λ (x : PlanOp). x.stage) (slice_get [] (k - 14))) 0) early;
+      stage = ap (λ b. if b then 0 else unwrap_or (option_map (λ (x : PlanOp). x.stage) (slice_get [] (k - FIELDS))) 0) early;
     }
 
 -- the packets' operands
@@ -154,18 +163,20 @@ packets_at (suc j) = record { present = number_at [] 0; columns = tt }
 pub made_none : AreMade []
 made_none = record { each = λ i one found. cc }
 
-capped_none : (depths : List ℕ) → list_any (λ s. nat_lt 64 s) (capped depths) ≡ false → capped depths ≡ depths
+capped_none : (depths : List ℕ) → list_any (λ s. nat_lt MAX_STAGES s) (capped depths) ≡ false → capped depths ≡ depths
 capped_none [] e = refl
-capped_none (d ∷ depths) e = go (nat_lt 64 (min 65 d)) refl (capped_none depths)
+capped_none (d ∷ depths) e = go (nat_lt MAX_STAGES (min (MAX_STAGES + 1) d)) refl (capped_none depths)
   where
-    go : (b : Bool) → nat_lt 64 (min 65 d) ≡ b → (list_any (λ s. nat_lt 64 s) (capped depths) ≡ false → capped depths ≡ depths)
+    go : (b : Bool) → nat_lt MAX_STAGES (min (MAX_STAGES + 1) d) ≡ b → (list_any (λ s. nat_lt MAX_STAGES s) (capped depths) ≡ false
+        → capped depths ≡ depths)
         → capped (d ∷ depths) ≡ d ∷ depths
     go true is rest =
-        let f : true ≡ false = sym (ap (λ b. b || list_any (λ s. nat_lt 64 s) (capped depths)) is) ∙ e in cc
+        let f : true ≡ false = sym (ap (λ b. b || list_any (λ s. nat_lt MAX_STAGES s) (capped depths)) is) ∙ e in cc
     go false is rest =
-        let few : min 65 d ≤ 64 = grind (arith, nat_tests) in
-        let same : min 65 d ≡ d = omega arith in
-        ap (λ x. x ∷ capped depths) same ∙ ap (λ l. d ∷ l) (rest (sym (ap (λ b. b || list_any (λ s. nat_lt 64 s) (capped depths)) is) ∙ e))
+        let few : min (MAX_STAGES + 1) d ≤ MAX_STAGES = grind (arith, nat_tests) in
+        let same : min (MAX_STAGES + 1) d ≡ d = omega arith in
+        ap (λ x. x ∷ capped depths) same ∙ ap (λ l. d ∷ l) (rest (sym (ap (λ b. b || list_any (λ s. nat_lt MAX_STAGES s) (capped depths))
+        is) ∙ e))
 
 -- the operations that are made for a query
 pub record QueryMade (q : TypedQuery) (ops : List PlanOp) (streams : List StreamWires) : Type 0 where
@@ -188,7 +199,7 @@ query_made q ops streams e f fits =
     (record {
       made = all.added.made;
       within = all.within;
-      stages_are = capped_are ∙ capped_none (query_depths q) (ap (list_any (λ s. nat_lt 64 s)) (sym capped_are)
+      stages_are = capped_are ∙ capped_none (query_depths q) (ap (list_any (λ s. nat_lt MAX_STAGES s)) (sym capped_are)
           ∙ sym (deep_stages (all_made q.folds [] (packet_wires ∷ []) q.streams).ops) ∙ shallow);
       none = shallow;
     }))

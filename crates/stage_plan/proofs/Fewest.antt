@@ -6,6 +6,7 @@ use Rattle.std.proofs.lemmas.Bool.{cases_lt}
 use Rattle.std.proofs.lemmas.Bool.Decides.{nat_tests}
 use Rattle.std.proofs.lemmas.List.{get_or-map, length-map}
 use Rattle.std.proofs.lemmas.Option.{slice_get_within, same_Some, slice_get_cases}
+use Rattle.marple_base.specs.declared.field.TheConstants.{FIELDS}
 use Rattle.stage_plan.specs.declared.op.Operand.{Operand}
 use Rattle.stage_plan.specs.declared.op.Operand.TheVariants.{Register, Number}
 use Rattle.stage_plan.specs.declared.op.PlanOp.{PlanOp}
@@ -27,24 +28,24 @@ greatest_above (s ∷ stages) (suc i) = omega (arith, greatest_above stages i)
 
 -- what an operand has to wait for comes before the stage
 module _ (ops : List PlanOp) (stages : List ℕ) (p : IsPlacement ops stages) where
-  waits : (i bound : ℕ) (o : Operand) → i ≤ bound → 0 < slice_index stages i → IsWithin (14 + i) o →
-      ((number : ℕ) → o ≡ Register (14 + number) → slice_index stages number < slice_index stages i) →
+  waits : (i bound : ℕ) (o : Operand) → i ≤ bound → 0 < slice_index stages i → IsWithin (FIELDS + i) o →
+      ((number : ℕ) → o ≡ Register (FIELDS + number) → slice_index stages number < slice_index stages i) →
       ((k : ℕ) (one : PlanOp) → k < bound → slice_get ops k ≡ Some one → one.stage ≤ slice_index stages k)
       → operand_stage ops o < slice_index stages i
   waits i bound (Number n) most some within later before = omega arith
-  waits i bound (Register r) most some within later before = elim (cases_lt r 14) [
+  waits i bound (Register r) most some within later before = elim (cases_lt r FIELDS) [
     | inl field ↦
-        let early : nat_lt r 14 ≡ true = grind (arith, nat_tests) in
+        let early : nat_lt r FIELDS ≡ true = grind (arith, nat_tests) in
         let none : operand_stage ops (Register r) ≡ 0 = ap (λ b. if b then 0 else unwrap_or
-        (option_map (λ (x : PlanOp). x.stage) (slice_get ops (r - 14))) 0) early in
+        (option_map (λ (x : PlanOp). x.stage) (slice_get ops (r - FIELDS))) 0) early in
         omega arith
     | inr beyond ↦
-        let number : ℕ = r - 14 in
-        let same : r ≡ 14 + number = omega arith in
-        let late : nat_lt r 14 ≡ false = grind (arith, nat_tests) in
+        let number : ℕ = r - FIELDS in
+        let same : r ≡ FIELDS + number = omega arith in
+        let late : nat_lt r FIELDS ≡ false = grind (arith, nat_tests) in
         let here : slice_index stages number < slice_index stages i = later number (ap Register same) in
         let there : operand_stage ops (Register r) ≡ unwrap_or (option_map (λ (x : PlanOp). x.stage) (slice_get ops number)) 0 =
-        ap (λ b. if b then 0 else unwrap_or (option_map (λ (x : PlanOp). x.stage) (slice_get ops (r - 14))) 0) late
+        ap (λ b. if b then 0 else unwrap_or (option_map (λ (x : PlanOp). x.stage) (slice_get ops (r - FIELDS))) 0) late
         in
         elim ((slice_get_cases ops number).1) [
           | inl found ↦
@@ -108,11 +109,12 @@ placed ops sound = record {
       | inr past ↦ absurd (omega arith)
     ]
 
-    reads : (i number : ℕ) (one : PlanOp) (o : Operand) → slice_get ops i ≡ Some one → o ≡ Register (14 + number) → IsWithin (14 + i) o
+    reads : (i number : ℕ) (one : PlanOp) (o : Operand) → slice_get ops i ≡ Some one → o ≡ Register (FIELDS + number)
+        → IsWithin (FIELDS + i) o
         → operand_stage ops o < one.stage →
         slice_index (map (λ (x : PlanOp). x.stage) ops) number < slice_index (map (λ (x : PlanOp). x.stage) ops) i
     reads i number one o found e within less =
-        let near : 14 + number < 14 + i = subst (IsWithin (14 + i)) e within in
+        let near : FIELDS + number < FIELDS + i = subst (IsWithin (FIELDS + i)) e within in
         let here : i < length ops = slice_get_within ops i one found in
         elim ((slice_get_cases ops number).1) [
           | inl there ↦

@@ -11,6 +11,7 @@ use Rattle.query_lang.specs.declared.typed.TypedQuery.{TypedQuery}
 use Rattle.query_lang.specs.declared.typed.TypedStream.{TypedStream}
 use Rattle.query_lang.specs.Folds.{fold_args, fold_states}
 use Rattle.query_lang.specs.Streams.{Taking, taking_of, takings}
+use Rattle.query_lang.specs.declared.fault.TheConstants.{MAX_KEYS}
 use Rattle.fold_class.specs.Depth.{IsDepth, is_enough, least_from, depth_of}
 use Rattle.fold_class.specs.Program.{IsProgramOf}
 use Rattle.fold_class.proofs.DepthLemmas.{depth_found, covered_last}
@@ -72,7 +73,7 @@ fitting_shape q one number args f group found is name keys states count =
 pub fitting_sound : (folds : List TypedFold) (names : List (List ℕ)) (number keys args : ℕ) (ids : List ℕ) (f : TypedFold)
     (group : GroupPlan) → slice_get folds number ≡ Some f →
     IsProgramOf f group.program → group.key_names ≡ map (text_at names) ids → group.state_names ≡ map (text_at names) f.state_names →
-    0 < length ids → length ids ≤ 8 → length ids ≡ keys → length f.arg_names ≡ args → IsGroupFor folds number keys args group
+    0 < length ids → length ids ≤ MAX_KEYS → length ids ≡ keys → length f.arg_names ≡ args → IsGroupFor folds number keys args group
 fitting_sound folds names number keys args ids f group found is key_names state_names some most count row =
     let words : length group.key_names ≡ length ids = ap length key_names ∙ length-map ids (text_at names) in
     let states : length group.state_names ≡ fold_states f = ap length state_names ∙ length-map f.state_names (text_at names) in

@@ -11,25 +11,25 @@ use Rattle.query_lang.specs.declared.typed.TypedOp.TheVariants.{Filter, Map, Zip
 use Rattle.query_lang.specs.declared.typed.TypedQuery.{TypedQuery}
 use Rattle.query_lang.specs.declared.typed.TypedStream.{TypedStream}
 use Rattle.query_lang.specs.Terms.{Term, Literal, Read, Negation, Operation, term_of}
-use Rattle.stage_plan.specs.Fields.{Source, source_at, sources_at, term_slots, named_fields, all_sources, read_fields}
+use Rattle.stage_plan.specs.Fields.{FieldSource, source_at, sources_at, term_slots, named_fields, all_sources, read_fields}
 use Rattle.stage_plan.specs.Marking.{marked, marked_slots, marked_term, marked_op}
 
 -- one column after another
-filtered : (source : ℕ → Source) (fields : FieldSet) (slots : List ℕ) → fold (λ b slot. marked b (source slot)) fields slots ≡ fold
+filtered : (source : ℕ → FieldSource) (fields : FieldSet) (slots : List ℕ) → fold (λ b slot. marked b (source slot)) fields slots ≡ fold
     with_field fields (filter_map source slots)
 filtered source fields [] = refl
 filtered source fields (slot ∷ slots) = filtered source (marked fields (source slot)) slots ∙ go (source slot)
   where
-    go : (o : Source) → fold with_field (marked fields o) (filter_map source slots) ≡ fold with_field fields
+    go : (o : FieldSource) → fold with_field (marked fields o) (filter_map source slots) ≡ fold with_field fields
         (cons_option o (filter_map source slots))
     go None = refl
     go (Some f) = refl
 
-slots_are : (columns : List Source) (fields : FieldSet) (slots : List ℕ)
+slots_are : (columns : List FieldSource) (fields : FieldSet) (slots : List ℕ)
     → marked_slots columns fields slots ≡ fold with_field fields (filter_map (source_at columns) slots)
 slots_are columns fields slots = filtered (source_at columns) fields slots
 
-term_marks : (columns : List Source) (fields : FieldSet) (e : Term) → marked_term columns fields e ≡ marked_slots columns fields
+term_marks : (columns : List FieldSource) (fields : FieldSet) (e : Term) → marked_term columns fields e ≡ marked_slots columns fields
     (term_slots e)
 term_marks columns fields (Literal n) = refl
 term_marks columns fields (Read s) = refl
@@ -39,7 +39,7 @@ term_marks columns fields (Operation op a b) =
     ∙ ap (λ z. marked_slots columns z (term_slots b)) (term_marks columns fields a)
     ∙ sym (fold-append (λ c slot. marked c (source_at columns slot)) fields (term_slots a) (term_slots b))
 
-terms_mark : (columns : List Source) (fields : FieldSet) (values : List TypedExpr) →
+terms_mark : (columns : List FieldSource) (fields : FieldSet) (values : List TypedExpr) →
     fold (λ b e. marked_term columns b (term_of e)) fields values ≡ marked_slots columns fields
     (flat_map (λ e. term_slots (term_of e)) values)
 terms_mark columns fields [] = refl
@@ -49,7 +49,7 @@ terms_mark columns fields (e ∷ values) =
     ∙ sym (fold-append (λ c slot. marked c (source_at columns slot)) fields (term_slots (term_of e))
     (flat_map (λ e. term_slots (term_of e)) values))
 
-op_marks : (streams : List (List Source)) (fields : FieldSet) (op : TypedOp)
+op_marks : (streams : List (List FieldSource)) (fields : FieldSet) (op : TypedOp)
     → marked_op streams fields op ≡ fold with_field fields (named_fields streams op)
 op_marks streams fields (Filter input condition) = term_marks (sources_at streams input) fields (term_of condition)
     ∙ slots_are (sources_at streams input) fields (term_slots (term_of condition))
@@ -61,7 +61,7 @@ op_marks streams fields (Group input keys f args) =
     sym (fold-append (λ c slot. marked c (source_at (sources_at streams input) slot)) fields keys args)
     ∙ slots_are (sources_at streams input) fields (keys ++ args)
 
-all_mark : (streams : List (List Source)) (fields : FieldSet) (list : List TypedStream) →
+all_mark : (streams : List (List FieldSource)) (fields : FieldSet) (list : List TypedStream) →
     fold (λ b one. marked_op streams b one.op) fields list ≡ fold with_field fields (flat_map (λ one. named_fields streams one.op) list)
 all_mark streams fields [] = refl
 all_mark streams fields (one ∷ list) =
@@ -73,7 +73,8 @@ all_mark streams fields (one ∷ list) =
 pub query_marks : (q : TypedQuery) → fold (λ b one. marked_op (all_sources q) b one.op) no_fields q.streams ≡ field_set (read_fields q)
 query_marks q = all_mark (all_sources q) no_fields q.streams
 
-pub reads_are : (q : TypedQuery) (columns : List (List Source)) (streams : List TypedStream) (fields : FieldSet) → columns ≡ all_sources q
+pub reads_are : (q : TypedQuery) (columns : List (List FieldSource)) (streams : List TypedStream) (fields : FieldSet)
+    → columns ≡ all_sources q
     → streams ≡ q.streams →
     fields ≡ fold (λ b one. marked_op columns b one.op) no_fields streams → fields ≡ field_set (read_fields q)
 reads_are q columns streams fields same list is =

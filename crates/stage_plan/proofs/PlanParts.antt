@@ -11,11 +11,13 @@ use Rattle.std.proofs.lemmas.Option.{slice_get_within, same_Some, slice_get_case
 use Rattle.epoch_model.specs.Driving.{Taken, uses_taken}
 use Rattle.fold_class.specs.Program.{IsProgramOf}
 use Rattle.marple_base.specs.declared.field.FieldSet.{FieldSet}
+use Rattle.marple_base.specs.declared.field.TheConstants.{FIELDS}
 use Rattle.query_lang.specs.Words.{holds}
 use Rattle.query_lang.specs.declared.fold.TypedFold.{TypedFold}
 use Rattle.query_lang.specs.declared.typed.TypedQuery.{TypedQuery}
 use Rattle.query_lang.specs.Streams.{Taking, takings, values_at}
 use Rattle.query_lang.specs.TypedQueries.{IsValidQuery}
+use Rattle.query_lang.specs.declared.fault.TheConstants.{MAX_STAGES}
 use Rattle.query_types.specs.Uses.{uses}
 use Rattle.stage_plan.specs.declared.group.GroupPlan.{GroupPlan}
 use Rattle.stage_plan.specs.declared.group.GroupWiring.{GroupWiring}
@@ -23,7 +25,7 @@ use Rattle.stage_plan.specs.declared.op.Operand.{Operand}
 use Rattle.stage_plan.specs.declared.op.Operand.TheVariants.{Number}
 use Rattle.stage_plan.specs.declared.op.PlanOp.{PlanOp}
 use Rattle.stage_plan.specs.declared.wires.StreamWires.{StreamWires}
-use Rattle.stage_plan.specs.Registers.{operand_value, operand_stage, after, stages_of, taken_at}
+use Rattle.stage_plan.specs.Registers.{operand_value, operand_stage, registers_after, stages_of, taken_at}
 use Rattle.stage_plan.specs.Depths.{query_depths}
 use Rattle.stage_plan.specs.Fields.{reads_of}
 use Rattle.stage_plan.specs.Grouping.{IsGroupFor, AreGroupsOf}
@@ -48,17 +50,18 @@ or_false true b e = absurd (no e)
     no f = cc
 or_false false b e = (refl, e)
 
-each_shallow : (ops : List PlanOp) (i : ℕ) (one : PlanOp) → are_deep ops ≡ false → slice_get ops i ≡ Some one → one.stage ≤ 64
+each_shallow : (ops : List PlanOp) (i : ℕ) (one : PlanOp) → are_deep ops ≡ false → slice_get ops i ≡ Some one → one.stage ≤ MAX_STAGES
 each_shallow [] i one none e = absurd (no e)
   where
     no : None ≡ Some one → ⊥
     no f = cc
 each_shallow (first ∷ ops) zero one none e =
     let same : first.stage ≡ one.stage = ap (λ (x : PlanOp). x.stage) (same_Some first one e) in
-    let test : nat_lt 64 first.stage ≡ false = (or_false (nat_lt 64 first.stage) (list_any (λ x. nat_lt 64 x.stage) ops) none).0 in
+    let test : nat_lt MAX_STAGES first.stage ≡ false = (or_false (nat_lt MAX_STAGES first.stage)
+    (list_any (λ x. nat_lt MAX_STAGES x.stage) ops) none).0 in
     grind (arith, nat_tests)
 each_shallow (first ∷ ops) (suc i) one none e = each_shallow ops i one
-    ((or_false (nat_lt 64 first.stage) (list_any (λ x. nat_lt 64 x.stage) ops) none).1) e
+    ((or_false (nat_lt MAX_STAGES first.stage) (list_any (λ x. nat_lt MAX_STAGES x.stage) ops) none).1) e
 
 pub stages_within : (xs : List PlanOp) (b : ℕ) → ((i : ℕ) (x : PlanOp) → slice_get xs i ≡ Some x → x.stage ≤ b) → stages_of xs ≤ b
 stages_within [] b h = omega arith
@@ -105,7 +108,7 @@ module _ (q : TypedQuery) (valid : IsValidQuery q) (ops : List PlanOp) (streams 
   sorted_long : length sorted ≡ length ops
   sorted_long = all_long ops (stages_of ops) staged registers placed long
 
-  kept : (o : Operand) → IsWithin (14 + length ops) o → Keeps ops (stages_of ops) staged registers placed long o
+  kept : (o : Operand) → IsWithin (FIELDS + length ops) o → Keeps ops (stages_of ops) staged registers placed long o
   kept = keeps ops (stages_of ops) staged registers placed long
 
   sound_op : (k : ℕ) (new : PlanOp) → slice_get sorted k ≡ Some new → IsSoundOp sorted k new
@@ -114,9 +117,9 @@ module _ (q : TypedQuery) (valid : IsValidQuery q) (ops : List PlanOp) (streams 
       comes ops (stages_of ops) staged registers placed long k new e in
       let m : IsMade ops c.number c.one = made.made.each c.number c.one c.found in
       let lt : c.number < length ops = slice_get_within ops c.number c.one c.found in
-      let l = kept c.one.left (within_more (14 + c.number) (14 + length ops) c.one.left (omega arith) m.left) in
-      let r = kept c.one.right (within_more (14 + c.number) (14 + length ops) c.one.right (omega arith) m.right) in
-      let low : c.one.stage ≤ 64 = each_shallow ops c.number c.one made.none c.found in
+      let l = kept c.one.left (within_more (FIELDS + c.number) (FIELDS + length ops) c.one.left (omega arith) m.left) in
+      let r = kept c.one.right (within_more (FIELDS + c.number) (FIELDS + length ops) c.one.right (omega arith) m.right) in
+      let low : c.one.stage ≤ MAX_STAGES = each_shallow ops c.number c.one made.none c.found in
       let stage : c.one.stage ≡ suc (max (operand_stage sorted (moved registers c.one.left))
       (operand_stage sorted (moved registers c.one.right))) =
       (let a = m.stage in let b = l.stage in let d = r.stage in omega arith)
@@ -139,7 +142,7 @@ module _ (q : TypedQuery) (valid : IsValidQuery q) (ops : List PlanOp) (streams 
   }
 
   -- what a groupby takes
-  taken_is : (row : List ℕ) (t : Taking) (source : StreamWires) (r : Row) → 14 ≤ length row
+  taken_is : (row : List ℕ) (t : Taking) (source : StreamWires) (r : Row) → FIELDS ≤ length row
       → Matches (unmoved ops (stages_of ops) staged registers placed long row) source r →
       option_map (row_taken t) r ≡ taken_at (wired registers source t.keys t.args) row
   taken_is row t source r fields m = go r m
@@ -192,12 +195,13 @@ module _ (q : TypedQuery) (valid : IsValidQuery q) (ops : List PlanOp) (streams 
           ∙ made_taken _ _ _ _ a b
           )
 
-  packet_taken : (t : Taking) (words : List ℕ) → length words ≡ 14 → option_map (row_taken t) (row_at (all_rows q words) t.input) ≡ taken_at
-      (wiring_of registers streams t) (after sorted words (stages_of sorted))
+  packet_taken : (t : Taking) (words : List ℕ) → length words ≡ FIELDS
+      → option_map (row_taken t) (row_at (all_rows q words) t.input) ≡ taken_at
+      (wiring_of registers streams t) (registers_after sorted words (stages_of sorted))
   packet_taken t words words_long =
-      let filled : Filled sorted words (after sorted words (stages_of sorted)) = after_filled sorted words sound_ops words_long in
-      let row : List ℕ = after sorted words (stages_of sorted) in
-      let fields : 14 ≤ length row = (let l = filled.long in omega arith) in
+      let filled : Filled sorted words (registers_after sorted words (stages_of sorted)) = after_filled sorted words sound_ops words_long in
+      let row : List ℕ = registers_after sorted words (stages_of sorted) in
+      let fields : FIELDS ≤ length row = (let l = filled.long in omega arith) in
       let solved : Solved ops (unmoved ops (stages_of ops) staged registers placed long row) =
       unmoved_solved ops (stages_of ops) staged registers placed long row fields (record { each = filled.each }) in
       let start : Matched (unmoved ops (stages_of ops) staged registers placed long row) (packet_wires ∷ []) (Some words ∷ []) =
@@ -272,7 +276,7 @@ module _ (q : TypedQuery) (valid : IsValidQuery q) (ops : List PlanOp) (streams 
         → slice_get parts.wiring i ≡ Some (wiring_of registers streams t)
     wiring_is i t e = slice_get-map (wiring_of registers streams) (takings q.streams) i ∙ ap (option_map (wiring_of registers streams)) e
 
-    takes_are : (i : ℕ) (packets : List (List ℕ)) → i < length groups → All (λ words. length words ≡ 14) packets
+    takes_are : (i : ℕ) (packets : List (List ℕ)) → i < length groups → All (λ words. length words ≡ FIELDS) packets
         → uses q i packets ≡ uses_taken 1 (map (taken parts i) packets)
     takes_are i packets lt all14 = elim ((slice_get_cases (takings q.streams) i).1) [
       | inl found ↦
@@ -280,7 +284,7 @@ module _ (q : TypedQuery) (valid : IsValidQuery q) (ops : List PlanOp) (streams 
           let w : wiring_at parts i ≡ wiring_of registers streams t = ap
           (λ o. unwrap_or o (record { present = Number 0; keys = []; args = [] })) (wiring_is i t found.2) in
           uses_are q i t (taken parts i) found.2 (λ words words_long. packet_taken t words words_long
-          ∙ ap (λ x. taken_at x (after sorted words (stages_of sorted))) (sym w)) packets all14
+          ∙ ap (λ x. taken_at x (registers_after sorted words (stages_of sorted))) (sym w)) packets all14
       | inr past ↦ absurd (omega arith)
     ]
 
@@ -320,7 +324,7 @@ module _ (q : TypedQuery) (valid : IsValidQuery q) (ops : List PlanOp) (streams 
     }
 
     sound_group : (i : ℕ) (group : GroupPlan) (wiring : GroupWiring) → slice_get groups i ≡ Some group
-        → slice_get parts.wiring i ≡ Some wiring → IsSoundGroup (14 + length sorted) group wiring
+        → slice_get parts.wiring i ≡ Some wiring → IsSoundGroup (FIELDS + length sorted) group wiring
     sound_group i group wiring g e = elim ((slice_get_cases (takings q.streams) i).1) [
       | inl found ↦
           let t : Taking = found.0 in
@@ -329,14 +333,14 @@ module _ (q : TypedQuery) (valid : IsValidQuery q) (ops : List PlanOp) (streams 
           let h : IsGroupFor q.folds t.fold_number (length t.keys) (length t.args) group = sound i t group found.2 g in
           let at = made.within t.input in
           let source : StreamWires = wires_at streams t.input in
-          let column : (slot : ℕ) → IsWithin (14 + length sorted) (moved registers (operand_at source.columns slot)) =
+          let column : (slot : ℕ) → IsWithin (FIELDS + length sorted) (moved registers (operand_at source.columns slot)) =
           λ slot. (kept (operand_at source.columns slot) (column_is ops source.columns at.0.columns slot at.1.columns).within).within
           in
           let keys : length (wiring_of registers streams t).keys ≡ length t.keys =
           length-map t.keys (λ slot. moved registers (operand_at source.columns slot)) in
           let args : length (wiring_of registers streams t).args ≡ length t.args =
           length-map t.args (λ slot. moved registers (operand_at source.columns slot)) in
-          subst (IsSoundGroup (14 + length sorted) group) (sym w) (record {
+          subst (IsSoundGroup (FIELDS + length sorted) group) (sym w) (record {
             program = h.is_program;
             some_keys = h.some_keys;
             most_keys = h.most_keys;
@@ -346,9 +350,9 @@ module _ (q : TypedQuery) (valid : IsValidQuery q) (ops : List PlanOp) (streams 
             args = args ∙ sym h.args;
             most_args = (let m = h.most_args in omega arith);
             present = (kept source.present at.1.present.within).within;
-            key_registers = all_map (IsWithin (14 + length sorted)) (λ slot. moved registers (operand_at source.columns slot)) t.keys
+            key_registers = all_map (IsWithin (FIELDS + length sorted)) (λ slot. moved registers (operand_at source.columns slot)) t.keys
                 column;
-            arg_registers = all_map (IsWithin (14 + length sorted)) (λ slot. moved registers (operand_at source.columns slot)) t.args
+            arg_registers = all_map (IsWithin (FIELDS + length sorted)) (λ slot. moved registers (operand_at source.columns slot)) t.args
                 column;
           })
       | inr past ↦ absurd (let n = slice_get_within groups i group g in omega arith)

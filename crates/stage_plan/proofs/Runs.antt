@@ -7,10 +7,11 @@ use Rattle.std.proofs.lemmas.List.{get_or-append_right, length-take-le}
 use Rattle.std.proofs.lemmas.Option.{slice_get_within, same_Some, slice_get_cases, slice_get-get_or}
 use Rattle.std.proofs.lemmas.Bool.{cases_eq, cases_lt}
 use Rattle.std.proofs.lemmas.Bool.Decides.{nat_tests}
+use Rattle.marple_base.specs.declared.field.TheConstants.{FIELDS}
 use Rattle.stage_plan.specs.declared.op.Operand.{Operand}
 use Rattle.stage_plan.specs.declared.op.Operand.TheVariants.{Register, Number}
 use Rattle.stage_plan.specs.declared.op.PlanOp.{PlanOp}
-use Rattle.stage_plan.specs.Registers.{operand_value, operation_value, result_of, stage_results, after, stages_of, operand_stage}
+use Rattle.stage_plan.specs.Registers.{operand_value, operation_value, result_of, stage_results, registers_after, stages_of, operand_stage}
 use Rattle.stage_plan.specs.Sound.{IsWithin, IsSoundOp, AreSoundOps}
 
 -- two lists of registers that agree below a number give an operand below it one value
@@ -28,24 +29,24 @@ same_result r s n one same left right =
 
 -- each operation's register holds its result
 pub record Filled (ops : List PlanOp) (words registers : List ℕ) : Type 0 where
-  pub long : length registers ≡ 14 + length ops
-  pub front : take 14 registers ≡ words
-  pub each : (i : ℕ) (one : PlanOp) → slice_get ops i ≡ Some one → get_or registers (14 + i) 0 ≡ result_of registers one
+  pub long : length registers ≡ FIELDS + length ops
+  pub front : take FIELDS registers ≡ words
+  pub each : (i : ℕ) (one : PlanOp) → slice_get ops i ≡ Some one → get_or registers (FIELDS + i) 0 ≡ result_of registers one
 
 -- the registers of the first operations are determined
 agree : (ops : List PlanOp) (words r s : List ℕ) → AreSoundOps ops → Filled ops words r → Filled ops words s → (n : ℕ) → n ≤ length ops
-    → (k : ℕ) → k < 14 + n → get_or r k 0 ≡ get_or s k 0
+    → (k : ℕ) → k < FIELDS + n → get_or r k 0 ≡ get_or s k 0
 agree ops words r s sound fr fs zero le k lt =
-    let lt' : k < 14 = omega arith in
-    sym (get_or-take 14 r k 0 lt') ∙ ap (λ l. get_or l k 0) (fr.front ∙ sym fs.front) ∙ get_or-take 14 s k 0 lt'
+    let lt' : k < FIELDS = omega arith in
+    sym (get_or-take FIELDS r k 0 lt') ∙ ap (λ l. get_or l k 0) (fr.front ∙ sym fs.front) ∙ get_or-take FIELDS s k 0 lt'
 agree ops words r s sound fr fs (suc n) le k lt =
     let before = agree ops words r s sound fr fs n (omega arith) in
     elim ((slice_get_cases ops n).1) [
       | inl found ↦
-          elim (cases_eq k (14 + n)) [
+          elim (cases_eq k (FIELDS + n)) [
             | inl same ↦
                 let one = found.0 in let here = sound.each n one found.2 in
-                ap (λ j. get_or r j 0) same ∙ fr.each n one found.2 ∙ same_result r s (14 + n) one before here.left here.right
+                ap (λ j. get_or r j 0) same ∙ fr.each n one found.2 ∙ same_result r s (FIELDS + n) one before here.left here.right
                 ∙ sym (fs.each n one found.2) ∙ ap (λ j. get_or s j 0) (sym same)
             | inr other ↦ before k (omega arith)
           ]
@@ -61,37 +62,41 @@ within_more m n (Register r) le h = omega arith
 within_more m n (Number v) le h = tt
 
 -- the operation at a place of the list reads registers that are there
-pub reads_left : (ops : List PlanOp) (i n : ℕ) (d : PlanOp) → AreSoundOps ops → i < length ops → 14 + length ops ≤ n
+pub reads_left : (ops : List PlanOp) (i n : ℕ) (d : PlanOp) → AreSoundOps ops → i < length ops → FIELDS + length ops ≤ n
     → IsWithin n (get_or ops i d).left
-reads_left ops i n d sound lt le = within_more (14 + i) n (get_or ops i d).left (omega arith)
+reads_left ops i n d sound lt le = within_more (FIELDS + i) n (get_or ops i d).left (omega arith)
     (sound.each i (get_or ops i d) (slice_get-get_or ops i d lt)).left
 
-pub reads_right : (ops : List PlanOp) (i n : ℕ) (d : PlanOp) → AreSoundOps ops → i < length ops → 14 + length ops ≤ n
+pub reads_right : (ops : List PlanOp) (i n : ℕ) (d : PlanOp) → AreSoundOps ops → i < length ops → FIELDS + length ops ≤ n
     → IsWithin n (get_or ops i d).right
-reads_right ops i n d sound lt le = within_more (14 + i) n (get_or ops i d).right (omega arith)
+reads_right ops i n d sound lt le = within_more (FIELDS + i) n (get_or ops i d).right (omega arith)
     (sound.each i (get_or ops i d) (slice_get-get_or ops i d lt)).right
 
 -- one more result, which no earlier one reads
-pub results_more : (ops : List PlanOp) (r : List ℕ) (n v : ℕ) (d : PlanOp) → AreSoundOps ops → n < length ops → length r ≡ 14 + length ops →
-    ((i : ℕ) (one : PlanOp) → i < n → slice_get ops i ≡ Some one → get_or r (14 + i) 0 ≡ result_of r one) →
+pub results_more : (ops : List PlanOp) (r : List ℕ) (n v : ℕ) (d : PlanOp) → AreSoundOps ops → n < length ops → length r ≡ FIELDS
+    + length ops →
+    ((i : ℕ) (one : PlanOp) → i < n → slice_get ops i ≡ Some one → get_or r (FIELDS + i) 0 ≡ result_of r one) →
     v ≡ result_of r (get_or ops n d) →
-    (i : ℕ) (one : PlanOp) → i < n + 1 → slice_get ops i ≡ Some one → get_or (set r (14 + n) v) (14 + i) 0 ≡ result_of (set r (14 + n) v)
+    (i : ℕ) (one : PlanOp) → i < n + 1 → slice_get ops i ≡ Some one → get_or (set r (FIELDS + n) v) (FIELDS + i) 0 ≡ result_of
+    (set r (FIELDS + n) v)
     one
 results_more ops r n v d sound lt long before is i one below found =
     let here = sound.each i one found in
-    let other : (k : ℕ) → k < 14 + i → get_or (set r (14 + n) v) k 0 ≡ get_or r k 0 =
-    λ k h. (let ne : k ≢ 14 + n = omega arith in get_or-set_other r (14 + n) k v 0 ne) in
-    let same : result_of (set r (14 + n) v) one ≡ result_of r one = same_result (set r (14 + n) v) r (14 + i) one other here.left
+    let other : (k : ℕ) → k < FIELDS + i → get_or (set r (FIELDS + n) v) k 0 ≡ get_or r k 0 =
+    λ k h. (let ne : k ≢ FIELDS + n = omega arith in get_or-set_other r (FIELDS + n) k v 0 ne) in
+    let same : result_of (set r (FIELDS + n) v) one ≡ result_of r one =
+    same_result (set r (FIELDS + n) v) r (FIELDS + i) one other here.left
     here.right in
     elim (cases_eq i n) [
       | inl at ↦
-          let room : 14 + n < length r = omega arith in
+          let room : FIELDS + n < length r = omega arith in
           let there : one ≡ get_or ops n d = same_Some _ _ (sym found ∙ ap (slice_get ops) at ∙ slice_get-get_or ops n d lt) in
-          ap (λ j. get_or (set r (14 + n) v) (14 + j) 0) at ∙ get_or-set_same r (14 + n) v 0 room ∙ is ∙ ap (result_of r) (sym there)
+          ap (λ j. get_or (set r (FIELDS + n) v) (FIELDS + j) 0) at ∙ get_or-set_same r (FIELDS + n) v 0 room ∙ is
+          ∙ ap (result_of r) (sym there)
           ∙ sym same
       | inr apart ↦
-          let ne : 14 + i ≢ 14 + n = omega arith in
-          get_or-set_other r (14 + n) (14 + i) v 0 ne ∙ before i one (omega arith) found ∙ sym same
+          let ne : FIELDS + i ≢ FIELDS + n = omega arith in
+          get_or-set_other r (FIELDS + n) (FIELDS + i) v 0 ne ∙ before i one (omega arith) found ∙ sym same
     ]
 
 pub length_results : (stage : ℕ) (r : List ℕ) (ops : List PlanOp) (olds : List ℕ) → length olds ≡ length ops
@@ -110,59 +115,59 @@ at_results stage r (first ∷ ops) (old ∷ olds) zero one e found =
 at_results stage r (first ∷ ops) (old ∷ olds) (suc i) one e found = at_results stage r ops olds i one (omega arith) found
 
 -- one stage over registers of the right length
-module _ (ops : List PlanOp) (r : List ℕ) (stage : ℕ) (long : length r ≡ 14 + length ops) where
+module _ (ops : List PlanOp) (r : List ℕ) (stage : ℕ) (long : length r ≡ FIELDS + length ops) where
   abbrev pub next : List ℕ
-  next = take 14 r ++ stage_results stage r ops (drop 14 r)
+  next = take FIELDS r ++ stage_results stage r ops (drop FIELDS r)
 
-  front_long : length (take 14 r) ≡ 14
-  front_long = length-take-le 14 r (omega arith)
+  front_long : length (take FIELDS r) ≡ FIELDS
+  front_long = length-take-le FIELDS r (omega arith)
 
-  olds_long : length (drop 14 r) ≡ length ops
-  olds_long = omega (arith, length-drop 14 r)
+  olds_long : length (drop FIELDS r) ≡ length ops
+  olds_long = omega (arith, length-drop FIELDS r)
 
-  pub length_stage : length next ≡ 14 + length ops
+  pub length_stage : length next ≡ FIELDS + length ops
   length_stage = omega (
     arith,
-    length-append (take 14 r) (stage_results stage r ops (drop 14 r)),
+    length-append (take FIELDS r) (stage_results stage r ops (drop FIELDS r)),
     front_long,
     length_results stage r ops
-        (drop 14 r) olds_long,
+        (drop FIELDS r) olds_long,
   )
 
-  pub front_stage : take 14 next ≡ take 14 r
-  front_stage = take_at (take 14 r) (stage_results stage r ops (drop 14 r)) 14 front_long
+  pub front_stage : take FIELDS next ≡ take FIELDS r
+  front_stage = take_at (take FIELDS r) (stage_results stage r ops (drop FIELDS r)) FIELDS front_long
 
   pub at_stage : (i : ℕ) (one : PlanOp) → slice_get ops i ≡ Some one →
-      get_or next (14 + i) 0 ≡ (if one.stage == stage then result_of r one else get_or r (14 + i) 0)
+      get_or next (FIELDS + i) 0 ≡ (if one.stage == stage then result_of r one else get_or r (FIELDS + i) 0)
   at_stage i one found =
-      let back : 14 + i - 14 ≡ i = omega arith in
-      get_or-append_right (take 14 r) (stage_results stage r ops (drop 14 r)) 14 (14 + i) 0 front_long (omega arith)
-      ∙ ap (λ k. get_or (stage_results stage r ops (drop 14 r)) k 0) back
-      ∙ at_results stage r ops (drop 14 r) i one olds_long found
-      ∙ ap (λ old. if one.stage == stage then result_of r one else old) (get_or-drop 14 r i 0)
+      let back : FIELDS + i - FIELDS ≡ i = omega arith in
+      get_or-append_right (take FIELDS r) (stage_results stage r ops (drop FIELDS r)) FIELDS (FIELDS + i) 0 front_long (omega arith)
+      ∙ ap (λ k. get_or (stage_results stage r ops (drop FIELDS r)) k 0) back
+      ∙ at_results stage r ops (drop FIELDS r) i one olds_long found
+      ∙ ap (λ old. if one.stage == stage then result_of r one else old) (get_or-drop FIELDS r i 0)
 
 -- the stage of a register that an operation writes
 pub stage_of_register : (ops : List PlanOp) (j : ℕ) (one : PlanOp) → slice_get ops j ≡ Some one
-    → operand_stage ops (Register (14 + j)) ≡ one.stage
+    → operand_stage ops (Register (FIELDS + j)) ≡ one.stage
 stage_of_register ops j one found =
-    let late : ltb (14 + j) 14 ≡ false = grind (arith, nat_tests) in
-    let back : 14 + j - 14 ≡ j = omega arith in
-    ap (λ b. if b then 0 else unwrap_or (option_map (λ (x : PlanOp). x.stage) (slice_get ops (14 + j - 14))) 0) late
+    let late : ltb (FIELDS + j) FIELDS ≡ false = grind (arith, nat_tests) in
+    let back : FIELDS + j - FIELDS ≡ j = omega arith in
+    ap (λ b. if b then 0 else unwrap_or (option_map (λ (x : PlanOp). x.stage) (slice_get ops (FIELDS + j - FIELDS))) 0) late
     ∙ ap (λ k. unwrap_or (option_map (λ (x : PlanOp). x.stage) (slice_get ops k)) 0) back
     ∙ ap (λ o. unwrap_or (option_map (λ (x : PlanOp). x.stage) o) 0) found
 
 -- a stage keeps what earlier stages wrote, and the fields
-pub kept_operand : (ops : List PlanOp) (r : List ℕ) (stage : ℕ) (long : length r ≡ 14 + length ops) (o : Operand) →
-    IsWithin (14 + length ops) o → operand_stage ops o < stage → operand_value (next ops r stage long) o ≡ operand_value r o
+pub kept_operand : (ops : List PlanOp) (r : List ℕ) (stage : ℕ) (long : length r ≡ FIELDS + length ops) (o : Operand) →
+    IsWithin (FIELDS + length ops) o → operand_stage ops o < stage → operand_value (next ops r stage long) o ≡ operand_value r o
 kept_operand ops r stage long (Number v) within below = refl
 kept_operand ops r stage long (Register k) within below =
-    elim (cases_lt k 14) [
+    elim (cases_lt k FIELDS) [
       | inl field ↦
-          sym (get_or-take 14 (next ops r stage long) k 0 field) ∙ ap (λ l. get_or l k 0) (front_stage ops r stage long)
-          ∙ get_or-take 14 r k 0 field
+          sym (get_or-take FIELDS (next ops r stage long) k 0 field) ∙ ap (λ l. get_or l k 0) (front_stage ops r stage long)
+          ∙ get_or-take FIELDS r k 0 field
       | inr later ↦
-          let j : ℕ = k - 14 in
-          let at : k ≡ 14 + j = omega arith in
+          let j : ℕ = k - FIELDS in
+          let at : k ≡ FIELDS + j = omega arith in
           let lt : j < length ops = omega arith in
           elim ((slice_get_cases ops j).1) [
             | inl found ↦
@@ -172,51 +177,52 @@ kept_operand ops r stage long (Register k) within below =
                 let earlier : eqb other.stage stage ≡ false = grind (arith, nat_tests) in
                 ap (λ n. get_or (next ops r stage long) n 0) at
                 ∙ at_stage ops r stage long j other found.2
-                ∙ ap (λ b. if b then result_of r other else get_or r (14 + j) 0) earlier
+                ∙ ap (λ b. if b then result_of r other else get_or r (FIELDS + j) 0) earlier
                 ∙ ap (λ n. get_or r n 0) (sym at)
             | inr past ↦ absurd (omega arith)
           ]
     ]
 
-pub kept_result : (ops : List PlanOp) (r : List ℕ) (stage : ℕ) (long : length r ≡ 14 + length ops) (i : ℕ) (one : PlanOp) →
+pub kept_result : (ops : List PlanOp) (r : List ℕ) (stage : ℕ) (long : length r ≡ FIELDS + length ops) (i : ℕ) (one : PlanOp) →
     i < length ops → IsSoundOp ops i one → one.stage ≤ stage → result_of (next ops r stage long) one ≡ result_of r one
 kept_result ops r stage long i one lt sound le =
-    let a = kept_operand ops r stage long one.left (within_more (14 + i) (14 + length ops) one.left (omega arith) sound.left)
+    let a = kept_operand ops r stage long one.left (within_more (FIELDS + i) (FIELDS + length ops) one.left (omega arith) sound.left)
     (omega (arith, sound.stage)) in
-    let b = kept_operand ops r stage long one.right (within_more (14 + i) (14 + length ops) one.right (omega arith) sound.right)
+    let b = kept_operand ops r stage long one.right (within_more (FIELDS + i) (FIELDS + length ops) one.right (omega arith) sound.right)
     (omega (arith, sound.stage)) in
     ap (λ x. operation_value one.op x (operand_value (next ops r stage long) one.right)) a
     ∙ ap (λ y. operation_value one.op (operand_value r one.left) y) b
 
-pub length_after : (ops : List PlanOp) (words : List ℕ) → length words ≡ 14 → (s : ℕ) → length (after ops words s) ≡ 14 + length ops
+pub length_after : (ops : List PlanOp) (words : List ℕ) → length words ≡ FIELDS → (s : ℕ) → length (registers_after ops words s) ≡ FIELDS
+    + length ops
 length_after ops words long zero = omega (arith, length-append words (replicate (length ops) 0), length-replicate {A = ℕ} (length ops) 0)
-length_after ops words long (suc s) = length_stage ops (after ops words s) (suc s) (length_after ops words long s)
+length_after ops words long (suc s) = length_stage ops (registers_after ops words s) (suc s) (length_after ops words long s)
 
-pub front_after : (ops : List PlanOp) (words : List ℕ) → length words ≡ 14 → (s : ℕ) → take 14 (after ops words s) ≡ words
-front_after ops words long zero = take_at words (replicate (length ops) 0) 14 long
-front_after ops words long (suc s) = front_stage ops (after ops words s) (suc s) (length_after ops words long s)
+pub front_after : (ops : List PlanOp) (words : List ℕ) → length words ≡ FIELDS → (s : ℕ) → take FIELDS (registers_after ops words s) ≡ words
+front_after ops words long zero = take_at words (replicate (length ops) 0) FIELDS long
+front_after ops words long (suc s) = front_stage ops (registers_after ops words s) (suc s) (length_after ops words long s)
     ∙ front_after ops words long s
 
 -- once an operation's stage is over, its register holds its result
-pub settled : (ops : List PlanOp) (words : List ℕ) → AreSoundOps ops → length words ≡ 14 → (s i : ℕ) (one : PlanOp)
+pub settled : (ops : List PlanOp) (words : List ℕ) → AreSoundOps ops → length words ≡ FIELDS → (s i : ℕ) (one : PlanOp)
     → slice_get ops i ≡ Some one → one.stage ≤ s →
-    get_or (after ops words s) (14 + i) 0 ≡ result_of (after ops words s) one
+    get_or (registers_after ops words s) (FIELDS + i) 0 ≡ result_of (registers_after ops words s) one
 settled ops words sound long zero i one found le = absurd (omega (arith, (sound.each i one found).stage))
 settled ops words sound long (suc s) i one found le =
     let lt : i < length ops = slice_get_within ops i one found in
-    let r : List ℕ = after ops words s in
-    let size : length r ≡ 14 + length ops = length_after ops words long s in
-    let here : get_or (next ops r (suc s) size) (14 + i) 0 ≡ (if one.stage == suc s then result_of r one else get_or r (14 + i) 0) =
+    let r : List ℕ = registers_after ops words s in
+    let size : length r ≡ FIELDS + length ops = length_after ops words long s in
+    let here : get_or (next ops r (suc s) size) (FIELDS + i) 0 ≡ (if one.stage == suc s then result_of r one else get_or r (FIELDS + i) 0) =
     at_stage ops r (suc s) size i one found in
     let kept : result_of (next ops r (suc s) size) one ≡ result_of r one =
     kept_result ops r (suc s) size i one lt (sound.each i one found) le in
     elim (cases_eq one.stage (suc s)) [
       | inl now ↦
           let test : eqb one.stage (suc s) ≡ true = grind (arith, nat_tests) in
-          here ∙ ap (λ b. if b then result_of r one else get_or r (14 + i) 0) test ∙ sym kept
+          here ∙ ap (λ b. if b then result_of r one else get_or r (FIELDS + i) 0) test ∙ sym kept
       | inr earlier ↦
           let test : eqb one.stage (suc s) ≡ false = grind (arith, nat_tests) in
-          here ∙ ap (λ b. if b then result_of r one else get_or r (14 + i) 0) test
+          here ∙ ap (λ b. if b then result_of r one else get_or r (FIELDS + i) 0) test
           ∙ settled ops words sound long s i one found (omega arith) ∙ sym kept
     ]
 
@@ -227,8 +233,8 @@ stage_below (first ∷ ops) zero one found =
 stage_below (first ∷ ops) (suc i) one found = omega (arith, stage_below ops i one found)
 
 -- after the last stage each operation's register holds its result
-pub after_filled : (ops : List PlanOp) (words : List ℕ) → AreSoundOps ops → length words ≡ 14
-    → Filled ops words (after ops words (stages_of ops))
+pub after_filled : (ops : List PlanOp) (words : List ℕ) → AreSoundOps ops → length words ≡ FIELDS
+    → Filled ops words (registers_after ops words (stages_of ops))
 after_filled ops words sound long = record {
   long = length_after ops words long (stages_of ops);
   front = front_after ops words long (stages_of ops);
@@ -236,7 +242,7 @@ after_filled ops words sound long = record {
 }
 
 -- registers that were filled in turn are those after the last stage
-pub filled_is_after : (ops : List PlanOp) (words r : List ℕ) → AreSoundOps ops → length words ≡ 14 → Filled ops words r
-    → r ≡ after ops words (stages_of ops)
-filled_is_after ops words r sound long filled = one_filling ops words r (after ops words (stages_of ops)) sound filled
+pub filled_is_after : (ops : List PlanOp) (words r : List ℕ) → AreSoundOps ops → length words ≡ FIELDS → Filled ops words r
+    → r ≡ registers_after ops words (stages_of ops)
+filled_is_after ops words r sound long filled = one_filling ops words r (registers_after ops words (stages_of ops)) sound filled
     (after_filled ops words sound long)

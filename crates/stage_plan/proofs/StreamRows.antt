@@ -7,6 +7,7 @@ use Rattle.std.proofs.lemmas.Bool.{cases_eq, cases_lt}
 use Rattle.std.proofs.lemmas.Bool.Decides.{nat_tests}
 use Rattle.std.proofs.lemmas.Option.{slice_get_past}
 use Rattle.std.proofs.lemmas.List.{length_push}
+use Rattle.marple_base.specs.declared.field.TheConstants.{FIELDS}
 use Rattle.epoch_model.specs.Driving.{Taken, uses_taken}
 use Rattle.query_lang.specs.Words.{holds}
 use Rattle.query_lang.specs.declared.fold.TypedExpr.{TypedExpr}
@@ -16,7 +17,7 @@ use Rattle.query_lang.specs.declared.typed.TypedOp.TheVariants.{Filter, Map, Zip
 use Rattle.query_lang.specs.declared.typed.TypedQuery.{TypedQuery}
 use Rattle.query_lang.specs.declared.typed.TypedStream.{TypedStream}
 use Rattle.query_lang.specs.Streams.{Tuple, numbered, values_at, expr_value, emits_at, filter_stream, map_stream, zip_stream, group_stream}
-use Rattle.query_lang.specs.Streams.{list_at, made_of, stream, Taking, takings}
+use Rattle.query_lang.specs.Streams.{tuples_at, made_of, stream, Taking, takings}
 use Rattle.query_types.specs.Uses.{use_of, taken_by, uses}
 use Rattle.stage_plan.proofs.Lists.{slice_get-last}
 
@@ -220,7 +221,7 @@ zip_are slots f g n before (words ∷ packets) h =
 -- streams against their rows
 pub record AreRows (packets : List (List ℕ)) (streams : List (List Tuple)) (rows : List ℕ → List Row) : Type 0 where
   pub long : (words : List ℕ) → length (rows words) ≡ length streams
-  pub each : (j : ℕ) → list_at streams j ≡ tuples (λ words. row_at (rows words) j) 1 packets
+  pub each : (j : ℕ) → tuples_at streams j ≡ tuples (λ words. row_at (rows words) j) 1 packets
 
 rows_of_op : (folds : List TypedFold) (packets : List (List ℕ)) (streams : List (List Tuple)) (rows : List ℕ → List Row) (op : TypedOp)
     → AreRows packets streams rows →
@@ -230,7 +231,7 @@ rows_of_op folds packets streams rows (Filter input condition) are =
 rows_of_op folds packets streams rows (Map input values) are =
     ap (map_stream values) (are.each input) ∙ map_are values (λ words. row_at (rows words) input) 1 packets
 rows_of_op folds packets streams rows (Zip left right slots) are =
-    ap (λ l. zip_stream slots l (list_at streams right)) (are.each left)
+    ap (λ l. zip_stream slots l (tuples_at streams right)) (are.each left)
     ∙ ap (zip_stream slots (tuples (λ words. row_at (rows words) left) 1 packets)) (are.each right)
     ∙ zip_are slots (λ words. row_at (rows words) left) (λ words. row_at (rows words) right) 1 [] packets tt
 rows_of_op folds packets streams rows (Group input keys f args) are =
@@ -292,7 +293,7 @@ first_rows packets = record {
   each = first;
 }
   where
-    first : (j : ℕ) → list_at (numbered 1 packets ∷ []) j ≡ tuples (λ words. row_at (Some words ∷ []) j) 1 packets
+    first : (j : ℕ) → tuples_at (numbered 1 packets ∷ []) j ≡ tuples (λ words. row_at (Some words ∷ []) j) 1 packets
     first zero = numbered_are 1 packets
     first (suc j) = none_are 1 packets
 
@@ -307,8 +308,8 @@ abbrev pub row_taken : Taking → List ℕ → Taken
 row_taken t row = record { key = values_at row t.keys; row = values_at row t.args }
 
 uses_along : (t : Taking) (f : List ℕ → Row) (g : List ℕ → Option Taken)
-    → ((words : List ℕ) → length words ≡ 14 → option_map (row_taken t) (f words) ≡ g words) →
-    (n : ℕ) (packets : List (List ℕ)) → ((k : ℕ) (d : List ℕ) → k < length packets → length (get_or packets k d) ≡ 14) →
+    → ((words : List ℕ) → length words ≡ FIELDS → option_map (row_taken t) (f words) ≡ g words) →
+    (n : ℕ) (packets : List (List ℕ)) → ((k : ℕ) (d : List ℕ) → k < length packets → length (get_or packets k d) ≡ FIELDS) →
     map (use_of t) (tuples f n packets) ≡ uses_taken n (map g packets)
 uses_along t f g same n [] all = refl
 uses_along t f g same n (words ∷ packets) all =
@@ -322,8 +323,8 @@ uses_along t f g same n (words ∷ packets) all =
 
 -- what a groupby takes, packet by packet
 pub uses_are : (q : TypedQuery) (i : ℕ) (t : Taking) (g : List ℕ → Option Taken) → slice_get (takings q.streams) i ≡ Some t →
-    ((words : List ℕ) → length words ≡ 14 → option_map (row_taken t) (row_at (all_rows q words) t.input) ≡ g words) →
-    (packets : List (List ℕ)) → All (λ words. length words ≡ 14) packets → uses q i packets ≡ uses_taken 1 (map g packets)
+    ((words : List ℕ) → length words ≡ FIELDS → option_map (row_taken t) (row_at (all_rows q words) t.input) ≡ g words) →
+    (packets : List (List ℕ)) → All (λ words. length words ≡ FIELDS) packets → uses q i packets ≡ uses_taken 1 (map g packets)
 uses_are q i t g found same packets all =
     ap (taken_by q packets) found
     ∙ ap (map (use_of t)) (stream_rows q t.input packets)

@@ -4,6 +4,7 @@ use Rattle.std.proofs.Common.{None, Option, refl, sym, ap, subst, ◌∙◌, inl
 use Rattle.std.specs.Prelude.{map, not, ◌&&◌, slice_get, slice_index, if◌then◌else◌}
 use Rattle.std.proofs.lemmas.Bool.{cases_eq, cases_lt}
 use Rattle.std.proofs.lemmas.List.{length_push, map-append}
+use Rattle.marple_base.specs.declared.field.TheConstants.{FIELDS}
 use Rattle.query_lang.specs.Words.{flag, holds, op_value}
 use Rattle.query_lang.specs.declared.fold.Op.TheVariants.{Both}
 use Rattle.query_lang.specs.declared.fold.TypedExpr.{TypedExpr}
@@ -20,8 +21,9 @@ use Rattle.stage_plan.specs.declared.op.Operation.TheVariants.{Not, Two}
 use Rattle.stage_plan.specs.declared.op.PlanOp.{PlanOp}
 use Rattle.stage_plan.specs.declared.wires.StreamWires.{StreamWires}
 use Rattle.stage_plan.specs.Registers.{operand_value, result_of}
-use Rattle.stage_plan.specs.Making.{compiled, compiled_all, op_on, operand_at, wires_at, packet_wires, joined, conditioned, mapped, zipped}
-use Rattle.stage_plan.specs.Making.{emit_columns, emitted, grouped, made_by, all_made}
+use Rattle.stage_plan.specs.Making.{compiled, compiled_all, op_on, operand_at, wires_at, packet_wires, made_join, conditioned, made_map}
+use Rattle.stage_plan.specs.Making.{made_zip}
+use Rattle.stage_plan.specs.Making.{emit_columns, made_emit, made_group, made_by, all_made}
 use Rattle.stage_plan.proofs.Lists.{slice_get-last}
 use Rattle.stage_plan.proofs.StreamRows.{Row, row_at, filter_row, map_row, zip_row, emit_row, group_row, row_made, rows_from, at_earlier}
 use Rattle.stage_plan.proofs.StreamRows.{at_last, at_past}
@@ -29,13 +31,13 @@ use Rattle.stage_plan.proofs.Extending.{Extends, one_more, compiled_extends, all
 
 -- each operation's register holds its result
 pub record Solved (ops : List PlanOp) (registers : List ℕ) : Type 0 where
-  pub each : (i : ℕ) (one : PlanOp) → slice_get ops i ≡ Some one → get_or registers (14 + i) 0 ≡ result_of registers one
+  pub each : (i : ℕ) (one : PlanOp) → slice_get ops i ≡ Some one → get_or registers (FIELDS + i) 0 ≡ result_of registers one
 
 pub solved_before : (ops more : List PlanOp) (registers : List ℕ) → Extends ops more → Solved more registers → Solved ops registers
 solved_before ops more registers e s = record { each = λ i one f. s.each i one (e.keeps i one f) }
 
 pub solved_last : (ops : List PlanOp) (one : PlanOp) (registers : List ℕ) → Solved (ops ++ one ∷ []) registers
-    → get_or registers (14 + length ops) 0 ≡ result_of registers one
+    → get_or registers (FIELDS + length ops) 0 ≡ result_of registers one
 solved_last ops one registers s = s.each (length ops) one (slice_get-last ops one)
 
 pub column_value : (registers : List ℕ) (columns : List Operand) (slot : ℕ)
@@ -111,8 +113,8 @@ unfolding op_value
 both_holds x y = holds_flag (holds x && holds y)
 
 joined_holds : (registers : List ℕ) (ops : List PlanOp) (present condition : Operand) (columns : List Operand)
-    → Solved (joined ops present condition columns).ops registers →
-    holds (operand_value registers (joined ops present condition columns).wires.present)
+    → Solved (made_join ops present condition columns).ops registers →
+    holds (operand_value registers (made_join ops present condition columns).wires.present)
     ≡ (holds (operand_value registers present) && holds (operand_value registers condition))
 joined_holds registers ops present condition columns s =
     ap holds (solved_last ops (op_on ops (Two Both) present condition) registers s)
@@ -160,7 +162,7 @@ filter_matches registers source condition ops (Some row) m s = pick (holds (expr
 
 map_matches : (registers : List ℕ) (source : StreamWires) (values : List TypedExpr) (ops : List PlanOp) (row : Row)
     → Matches registers source row →
-    Solved (mapped source values ops).ops registers → Matches registers (mapped source values ops).wires (map_row values row)
+    Solved (made_map source values ops).ops registers → Matches registers (made_map source values ops).wires (map_row values row)
 map_matches registers source values ops None m s = m
 map_matches registers source values ops (Some row) m s = (
   m.0,
@@ -169,7 +171,7 @@ map_matches registers source values ops (Some row) m s = (
 
 zip_matches : (registers : List ℕ) (left right : StreamWires) (slots : List ℕ) (ops : List PlanOp) (row other : Row)
     → Matches registers left row → Matches registers right other →
-    Solved (zipped left right slots ops).ops registers → Matches registers (zipped left right slots ops).wires (zip_row slots row other)
+    Solved (made_zip left right slots ops).ops registers → Matches registers (made_zip left right slots ops).wires (zip_row slots row other)
 zip_matches registers left right slots ops None other m n s =
     joined_holds registers ops left.present right.present (left.columns ++ map (operand_at right.columns) slots) s ∙ and_false _ _ m
 zip_matches registers left right slots ops (Some row) None m n s =
@@ -234,8 +236,8 @@ some_matches registers initial source condition keys args ops (Some row) m s =
 
 emitted_matches : (registers initial : List ℕ) (source : StreamWires) (o : Option TypedExpr) (keys args : List ℕ) (ops : List PlanOp)
     (row : Row) → Matches registers source row →
-    Solved (emitted o (emit_columns initial source.columns args) source (map (operand_at source.columns) keys) ops).ops registers →
-    Matches registers (emitted o (emit_columns initial source.columns args) source (map (operand_at source.columns) keys) ops).wires
+    Solved (made_emit o (emit_columns initial source.columns args) source (map (operand_at source.columns) keys) ops).ops registers →
+    Matches registers (made_emit o (emit_columns initial source.columns args) source (map (operand_at source.columns) keys) ops).wires
     (emit_row_with o initial keys args row)
 emitted_matches registers initial source None keys args ops row m s = none_matches registers initial source keys args row
 emitted_matches registers initial source (Some condition) keys args ops row m s =
@@ -248,11 +250,11 @@ emit_rows f keys args (Some row) = refl
 
 group_matches : (registers : List ℕ) (o : Option TypedFold) (source : StreamWires) (keys args : List ℕ) (ops : List PlanOp) (row : Row)
     → Matches registers source row →
-    Solved (grouped o source keys args ops).ops registers → Matches registers (grouped o source keys args ops).wires
+    Solved (made_group o source keys args ops).ops registers → Matches registers (made_group o source keys args ops).wires
     (group_row o keys args row)
 group_matches registers None source keys args ops row m s = refl
 group_matches registers (Some f) source keys args ops row m s =
-    subst (Matches registers (grouped (Some f) source keys args ops).wires) (emit_rows f keys args row)
+    subst (Matches registers (made_group (Some f) source keys args ops).wires) (emit_rows f keys args row)
     (emitted_matches registers f.initial source f.emit keys args ops row m s)
 
 -- all streams so far against their rows
@@ -326,7 +328,7 @@ first_registers registers k (suc n) le =
     ap (λ l. get_or registers k 0 ∷ l) (first_registers registers (suc k) n (omega arith))
     ∙ ap (take (suc n)) (sym (drop-cons registers k 0 lt))
 
-pub packets_matched : (registers words : List ℕ) → 14 ≤ length registers → take 14 registers ≡ words
+pub packets_matched : (registers words : List ℕ) → FIELDS ≤ length registers → take FIELDS registers ≡ words
     → Matched registers (packet_wires ∷ []) (Some words ∷ [])
 unfolding registers_from
 packets_matched registers words le is = record {
@@ -335,5 +337,5 @@ packets_matched registers words le is = record {
 }
   where
     first : (j : ℕ) → Matches registers (wires_at (packet_wires ∷ []) j) (row_at (Some words ∷ []) j)
-    first zero = (refl, first_registers registers 0 14 le ∙ is)
+    first zero = (refl, first_registers registers 0 FIELDS le ∙ is)
     first (suc j) = refl

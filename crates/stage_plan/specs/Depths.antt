@@ -3,6 +3,7 @@ use Rattle.std.specs.Prelude.{ℕ, ◌+◌, max, nat_lt, Bool, if◌then◌else�
 use Rattle.std.specs.Prelude.{flat_map, drop, replicate}
 use Rattle.std.specs.Prelude.{slice_get, slice_index, Option, Some, None, unwrap_or}
 use Rattle.std.specs.List.{list_any}
+use Rattle.marple_base.specs.declared.field.TheConstants.{FIELDS}
 use Rattle.query_lang.specs.declared.fault.FaultKind.TheVariants.{OverLimit}
 use Rattle.query_lang.specs.declared.fault.Limit.TheVariants.{Stages}
 use Rattle.query_lang.specs.declared.fault.QueryFault.{QueryFault}
@@ -14,6 +15,7 @@ use Rattle.query_lang.specs.declared.typed.TypedQuery.{TypedQuery}
 use Rattle.query_lang.specs.declared.typed.TypedStream.{TypedStream}
 use Rattle.query_lang.specs.Terms.{Term, Literal, Read, Negation, Operation, term_of}
 use Rattle.query_lang.specs.Streams.{values_at}
+use Rattle.query_lang.specs.declared.fault.TheConstants.{MAX_STAGES}
 
 -- the depth of an expression over columns of these depths: a number has 0, and each operator or function, with `!`, is one operation,
 -- 1 deeper than the deepest of its operands
@@ -39,7 +41,7 @@ pub record StreamDepths : Type 0 where
 
 -- the packets: nothing is computed for them
 abbrev pub packet_depths : StreamDepths
-packet_depths = record { operations = []; present = 0; columns = replicate 14 0 }
+packet_depths = record { operations = []; present = 0; columns = replicate FIELDS 0 }
 
 abbrev pub depths_at : List StreamDepths → ℕ → StreamDepths
 depths_at streams number = unwrap_or (slice_get streams number) (record { operations = []; present = 0; columns = [] })
@@ -87,9 +89,9 @@ all_depths q = fold (λ streams one. streams ++ depths_made q.folds streams one.
 abbrev pub query_depths : TypedQuery → List ℕ
 query_depths q = flat_map (λ one. one.operations) (all_depths q)
 
--- some operation is deeper than 64
+-- some operation is deeper than MAX_STAGES
 abbrev pub is_too_deep : List ℕ → Bool
-is_too_deep depths = list_any (λ depth. nat_lt 64 depth) depths
+is_too_deep depths = list_any (λ depth. nat_lt MAX_STAGES depth) depths
 
 -- the fault of the first stream that is too deep, where these are the depths of the streams
 abbrev pub first_too_deep : List TypedStream → List StreamDepths → Option QueryFault
@@ -97,6 +99,6 @@ first_too_deep (one ∷ streams) (depths ∷ rest) =
     if is_too_deep depths.operations then Some (record { kind = OverLimit Stages; span = one.name.span }) else first_too_deep streams rest
 first_too_deep _ _ = None
 
--- More than 64 stages would be needed, at the name of the first stream that needs them.
+-- More than MAX_STAGES stages would be needed, at the name of the first stream that needs them.
 abbrev pub stage_fault : TypedQuery → Option QueryFault
 stage_fault q = first_too_deep q.streams (drop 1 (all_depths q))

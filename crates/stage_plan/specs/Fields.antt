@@ -11,28 +11,28 @@ use Rattle.query_lang.specs.declared.typed.TypedQuery.{TypedQuery}
 use Rattle.query_lang.specs.Terms.{Term, Literal, Read, Negation, Operation, term_of}
 
 -- A column is a packet's field, or it was made by a `map`.
-abbrev pub Source : Type 0
-Source = Option Field
+abbrev pub FieldSource : Type 0
+FieldSource = Option Field
 
-abbrev pub source_at : List Source → ℕ → Source
+abbrev pub source_at : List FieldSource → ℕ → FieldSource
 source_at columns slot = unwrap_or (slice_get columns slot) None
 
 -- where the columns of the packets come from: each is a field
-abbrev pub packet_sources : List Source
+abbrev pub packet_sources : List FieldSource
 packet_sources = map Some all_fields
 
-abbrev pub sources_at : List (List Source) → ℕ → List Source
+abbrev pub sources_at : List (List FieldSource) → ℕ → List FieldSource
 sources_at streams number = unwrap_or (slice_get streams number) []
 
 -- the columns of a stream: only a `map` makes new ones, and the others stay what they are
-abbrev pub sources_made : List (List Source) → TypedOp → List Source
+abbrev pub sources_made : List (List FieldSource) → TypedOp → List FieldSource
 sources_made streams (Filter input condition) = sources_at streams input
 sources_made streams (Map input values) = sources_at streams input ++ map (λ _. None) values
 sources_made streams (Zip left right slots) = sources_at streams left ++ map (source_at (sources_at streams right)) slots
 sources_made streams (Group input keys f args) = map (source_at (sources_at streams input)) keys
 
 -- where the columns of all streams come from, in order
-abbrev pub all_sources : TypedQuery → List (List Source)
+abbrev pub all_sources : TypedQuery → List (List FieldSource)
 all_sources q = fold (λ streams one. streams ++ sources_made streams one.op ∷ []) (packet_sources ∷ []) q.streams
 
 -- the slots that an expression names
@@ -57,7 +57,7 @@ named_input (Zip left right slots) = left
 named_input (Group input keys f args) = input
 
 -- the fields that an operator names
-abbrev pub named_fields : List (List Source) → TypedOp → List Field
+abbrev pub named_fields : List (List FieldSource) → TypedOp → List Field
 named_fields streams op = filter_map (source_at (sources_at streams (named_input op))) (named_slots op)
 
 -- the fields that the streams name

@@ -9,6 +9,7 @@ use Rattle.query_lang.specs.declared.typed.TypedStream.{TypedStream}
 use Rattle.query_lang.specs.Folds.{fold_args}
 use Rattle.query_lang.specs.Streams.{Taking}
 use Rattle.query_lang.specs.TypedQueries.{AreNames}
+use Rattle.query_lang.specs.declared.fault.TheConstants.{MAX_ARGS, MAX_KEYS, MAX_STATES}
 use Rattle.stage_plan.specs.declared.group.GroupPlan.{GroupPlan}
 use Rattle.stage_plan.specs.Shape.{group_shape, shape_with}
 
@@ -18,7 +19,7 @@ pub record FitsFold (q : TypedQuery) (one : TypedStream) (number keys args : ℕ
   pub name : one.name.id < length q.names
   pub key_names : AreNames (length q.names) one.columns
   pub some_keys : 0 < length one.columns
-  pub most_keys : length one.columns ≤ 8
+  pub most_keys : length one.columns ≤ MAX_KEYS
   pub all_keys : length one.columns ≡ keys
   pub is_fold : number < length q.folds
   pub all_args : option_map fold_args (slice_get q.folds number) ≡ Some args
@@ -40,12 +41,12 @@ pub record IsGroupFor (folds : List TypedFold) (number words row_words : ℕ) (g
   pub program : (f : TypedFold) → slice_get folds number ≡ Some f → IsProgramOf f group.program
   pub is_program : IsProgram group.program
   pub some_keys : 0 < length group.key_names
-  pub most_keys : length group.key_names ≤ 8
-  pub most_states : length group.state_names ≤ 8
+  pub most_keys : length group.key_names ≤ MAX_KEYS
+  pub most_states : length group.state_names ≤ MAX_STATES
   pub states : length group.state_names ≡ length group.program.layout.initial
   pub keys : length group.key_names ≡ words
   pub args : group.program.layout.args ≡ row_words
-  pub most_args : row_words ≤ 16
+  pub most_args : row_words ≤ MAX_ARGS
 
 -- the groupbys of these takings, in order
 abbrev pub AreGroupsOf : List TypedFold → List Taking → List GroupPlan → Type 0

@@ -3,6 +3,7 @@ use Rattle.std.specs.Prelude.{ℕ, suc, ◌+◌, max, min, nat_lt, Bool, if◌th
 use Rattle.std.specs.Prelude.{length, map, slice_get}
 use Rattle.std.specs.Prelude.{Option, Some, None, unwrap_or}
 use Rattle.std.specs.List.{list_any}
+use Rattle.marple_base.specs.declared.field.TheConstants.{FIELDS}
 use Rattle.query_lang.specs.declared.fault.FaultKind.TheVariants.{OverLimit}
 use Rattle.query_lang.specs.declared.fault.Limit.TheVariants.{Stages}
 use Rattle.query_lang.specs.declared.fault.QueryFault.{QueryFault}
@@ -13,6 +14,7 @@ use Rattle.query_lang.specs.declared.typed.TypedOp.{TypedOp}
 use Rattle.query_lang.specs.declared.typed.TypedOp.TheVariants.{Filter, Map, Zip, Group}
 use Rattle.query_lang.specs.declared.typed.TypedStream.{TypedStream}
 use Rattle.query_lang.specs.Terms.{Term, Literal, Read, Negation, Operation, term_of}
+use Rattle.query_lang.specs.declared.fault.TheConstants.{MAX_STAGES}
 use Rattle.stage_plan.specs.declared.op.Operand.{Operand}
 use Rattle.stage_plan.specs.declared.op.Operand.TheVariants.{Register, Number}
 use Rattle.stage_plan.specs.declared.op.Operation as operation
@@ -29,9 +31,9 @@ pub record Compiled : Type 0 where
 abbrev pub compiled_then : {A : Type 0} → Compiled → (List PlanOp → Operand → A) → A
 compiled_then c next = next c.ops c.value
 
--- the stage after these two. All above 64 are 65
+-- the stage after these two. All above MAX_STAGES are one
 abbrev pub stage_after : ℕ → ℕ → ℕ
-stage_after a b = min 65 (suc (max a b))
+stage_after a b = min (MAX_STAGES + 1) (suc (max a b))
 
 -- one more operation
 abbrev pub op_on : List PlanOp → operation.Operation → Operand → Operand → PlanOp
@@ -43,7 +45,7 @@ op_on ops op left right = record {
 }
 
 abbrev pub with_op : operation.Operation → List PlanOp → Operand → Operand → Compiled
-with_op op ops left right = record { ops = ops ++ op_on ops op left right ∷ []; value = Register (14 + length ops) }
+with_op op ops left right = record { ops = ops ++ op_on ops op left right ∷ []; value = Register (FIELDS + length ops) }
 
 abbrev pub operand_at : List Operand → ℕ → Operand
 operand_at columns slot = unwrap_or (slice_get columns slot) (Number 0)
@@ -88,47 +90,47 @@ packet_wires = record {
 }
 
 -- one operation that joins a presence with another condition
-abbrev pub joined : List PlanOp → Operand → Operand → List Operand → Made
-joined ops present condition columns =
+abbrev pub made_join : List PlanOp → Operand → Operand → List Operand → Made
+made_join ops present condition columns =
     compiled_then (with_op (Two Both) ops present condition) (λ more value.
     record { ops = more; wires = record { present = value; columns = columns } })
 
 -- a condition over columns, joined with a presence
 abbrev pub conditioned : List Operand → Term → List PlanOp → Operand → List Operand → Made
 conditioned over condition ops present columns =
-    compiled_then (compiled over condition ops) (λ more value. joined more present value columns)
+    compiled_then (compiled over condition ops) (λ more value. made_join more present value columns)
 
 -- `filter`: the input's columns, where a condition over them holds
-abbrev pub filtered : StreamWires → Term → List PlanOp → Made
-filtered input condition ops = conditioned input.columns condition ops input.present input.columns
+abbrev pub made_filter : StreamWires → Term → List PlanOp → Made
+made_filter input condition ops = conditioned input.columns condition ops input.present input.columns
 
-abbrev pub mapped : StreamWires → List TypedExpr → List PlanOp → Made
-mapped input values ops =
+abbrev pub made_map : StreamWires → List TypedExpr → List PlanOp → Made
+made_map input values ops =
     let all = compiled_all input.columns input.columns (map term_of values) ops in
     record { ops = all.ops; wires = record { present = input.present; columns = all.values } }
 
-abbrev pub zipped : StreamWires → StreamWires → List ℕ → List PlanOp → Made
-zipped left right slots ops = joined ops left.present right.present (left.columns ++ map (operand_at right.columns) slots)
+abbrev pub made_zip : StreamWires → StreamWires → List ℕ → List PlanOp → Made
+made_zip left right slots ops = made_join ops left.present right.present (left.columns ++ map (operand_at right.columns) slots)
 
 -- what a fold's emit condition reads: its initial state, and its arguments
 abbrev pub emit_columns : List ℕ → List Operand → List ℕ → List Operand
 emit_columns initial columns args = map Number initial ++ map (operand_at columns) args
 
-abbrev pub emitted : Option TypedExpr → List Operand → StreamWires → List Operand → List PlanOp → Made
-emitted None over input keys ops = record { ops = ops; wires = record { present = Number 0; columns = keys } }
-emitted (Some condition) over input keys ops = conditioned over (term_of condition) ops input.present keys
+abbrev pub made_emit : Option TypedExpr → List Operand → StreamWires → List Operand → List PlanOp → Made
+made_emit None over input keys ops = record { ops = ops; wires = record { present = Number 0; columns = keys } }
+made_emit (Some condition) over input keys ops = conditioned over (term_of condition) ops input.present keys
 
-abbrev pub grouped : Option TypedFold → StreamWires → List ℕ → List ℕ → List PlanOp → Made
-grouped None input keys args ops =
+abbrev pub made_group : Option TypedFold → StreamWires → List ℕ → List ℕ → List PlanOp → Made
+made_group None input keys args ops =
     record { ops = ops; wires = record { present = Number 0; columns = map (operand_at input.columns) keys } }
-grouped (Some f) input keys args ops =
-    emitted f.emit (emit_columns f.initial input.columns args) input (map (operand_at input.columns) keys) ops
+made_group (Some f) input keys args ops =
+    made_emit f.emit (emit_columns f.initial input.columns args) input (map (operand_at input.columns) keys) ops
 
 abbrev pub made_by : List TypedFold → List StreamWires → TypedOp → List PlanOp → Made
-made_by folds streams (Filter input condition) ops = filtered (wires_at streams input) (term_of condition) ops
-made_by folds streams (Map input values) ops = mapped (wires_at streams input) values ops
-made_by folds streams (Zip left right slots) ops = zipped (wires_at streams left) (wires_at streams right) slots ops
-made_by folds streams (Group input keys f args) ops = grouped (slice_get folds f) (wires_at streams input) keys args ops
+made_by folds streams (Filter input condition) ops = made_filter (wires_at streams input) (term_of condition) ops
+made_by folds streams (Map input values) ops = made_map (wires_at streams input) values ops
+made_by folds streams (Zip left right slots) ops = made_zip (wires_at streams left) (wires_at streams right) slots ops
+made_by folds streams (Group input keys f args) ops = made_group (slice_get folds f) (wires_at streams input) keys args ops
 
 -- all operations, and all streams in order
 pub record AllMade : Type 0 where
@@ -142,7 +144,7 @@ all_made folds ops streams (one ∷ rest) =
     made_then (made_by folds streams one.op ops) (λ more wires. all_made folds more (streams ++ wires ∷ []) rest)
 
 abbrev pub are_deep : List PlanOp → Bool
-are_deep ops = list_any (λ one. nat_lt 64 one.stage) ops
+are_deep ops = list_any (λ one. nat_lt MAX_STAGES one.stage) ops
 
 -- the first of streams after which an operation is too deep
 abbrev pub made_fault : List TypedFold → List PlanOp → List StreamWires → List TypedStream → Option QueryFault

@@ -1,6 +1,7 @@
 -- Which plan is a query's.
 use Rattle.std.specs.Prelude.{◌≡◌, ℕ, ◌+◌, ◌<◌, List, [], ◌∷◌, length, map, All, slice_get, Option, Some}
 use Rattle.std.specs.Prelude.{option_and_then, unwrap_or}
+use Rattle.marple_base.specs.declared.field.TheConstants.{FIELDS}
 use Rattle.epoch_model.specs.Driving.{Taken, uses_taken}
 use Rattle.fold_class.specs.Program.{IsProgramOf}
 use Rattle.query_lang.specs.declared.fold.TypedFold.{TypedFold}
@@ -13,17 +14,17 @@ use Rattle.stage_plan.specs.declared.op.Operand.TheVariants.{Number}
 use Rattle.stage_plan.specs.Fields.{reads_of}
 use Rattle.stage_plan.specs.Making.{AllMade, packet_wires, all_made}
 use Rattle.stage_plan.specs.Ordering.{IsStaged}
-use Rattle.stage_plan.specs.Registers.{after, stages_of, taken_at}
+use Rattle.stage_plan.specs.Registers.{registers_after, stages_of, taken_at}
 use Rattle.stage_plan.specs.Shape.{PlanShape, parts_shape, query_shape, bound_of}
 use Rattle.stage_plan.specs.Sound.{PlanParts}
 
 -- how many registers a plan needs: one for each field, and one for each operation
 abbrev pub registers_of : PlanParts → ℕ
-registers_of plan = 14 + length plan.ops
+registers_of plan = FIELDS + length plan.ops
 
--- The registers of a packet with these 14 words after the last stage.
-abbrev pub row_of : PlanParts → List ℕ → List ℕ
-row_of plan words = after plan.ops words (stages_of plan.ops)
+-- The registers of a packet with these words after the last stage.
+abbrev pub packet_registers : PlanParts → List ℕ → List ℕ
+packet_registers plan words = registers_after plan.ops words (stages_of plan.ops)
 
 -- what the groupby with this number takes, and nothing where there is none
 abbrev pub wiring_at : PlanParts → ℕ → GroupWiring
@@ -31,7 +32,7 @@ wiring_at plan i = unwrap_or (slice_get plan.wiring i) (record { present = Numbe
 
 -- What the groupby with this number takes of a packet with these words.
 abbrev pub taken : PlanParts → ℕ → List ℕ → Option Taken
-taken plan i words = taken_at (wiring_at plan i) (row_of plan words)
+taken plan i words = taken_at (wiring_at plan i) (packet_registers plan words)
 
 abbrev pub shape_of : PlanParts → PlanShape
 shape_of plan = parts_shape plan.ops plan.groups
@@ -51,7 +52,7 @@ query_made q = all_made q.folds [] (packet_wires ∷ []) q.streams
 -- The plan of a query: it takes of each packet what the query's groupbys take of the streams, with the programs of their folds.
 pub record IsPlanOf (q : TypedQuery) (plan : PlanParts) : Type 0 where
   pub groups : length plan.groups ≡ length (takings q.streams)
-  pub takes : (i : ℕ) (packets : List (List ℕ)) → i < length plan.groups → All (λ words. length words ≡ 14) packets
+  pub takes : (i : ℕ) (packets : List (List ℕ)) → i < length plan.groups → All (λ words. length words ≡ FIELDS) packets
       → uses q i packets ≡ uses_taken 1 (map (taken plan i) packets)
   pub programs : (i : ℕ) (f : TypedFold) (group : GroupPlan) → fold_at q i ≡ Some f → slice_get plan.groups i ≡ Some group
       → IsProgramOf f group.program

@@ -2,6 +2,7 @@
 use Rattle.std.specs.Prelude.{ℕ, zero, suc, ◌-◌, ◌==◌, nat_lt, not, max, if◌then◌else◌, List, [], ◌∷◌, ◌++◌}
 use Rattle.std.specs.Prelude.{length, take, drop, map}
 use Rattle.std.specs.Prelude.{replicate, slice_get, slice_index, Option, Some, None, option_map, unwrap_or}
+use Rattle.marple_base.specs.declared.field.TheConstants.{FIELDS}
 use Rattle.epoch_model.specs.Driving.{Taken}
 use Rattle.query_lang.specs.Words.{flag, holds, op_value}
 use Rattle.stage_plan.specs.declared.op.Operand.{Operand}
@@ -31,11 +32,12 @@ stage_results stage registers (one ∷ ops) (old ∷ olds) =
     (if one.stage == stage then result_of registers one else old) ∷ stage_results stage registers ops olds
 stage_results stage registers _ _ = []
 
--- The registers after a stage: first the packet's 14 words, and then one for each operation in order. After stage 0 the operations'
+-- The registers after a stage: first the packet's words, and then one for each operation in order. After stage 0 the operations'
 -- registers hold 0, and each stage reads only what was there before it.
-abbrev pub after : List PlanOp → List ℕ → ℕ → List ℕ
-after ops words zero = words ++ replicate (length ops) 0
-after ops words (suc s) = take 14 (after ops words s) ++ stage_results (suc s) (after ops words s) ops (drop 14 (after ops words s))
+abbrev pub registers_after : List PlanOp → List ℕ → ℕ → List ℕ
+registers_after ops words zero = words ++ replicate (length ops) 0
+registers_after ops words (suc s) = take FIELDS (registers_after ops words s)
+    ++ stage_results (suc s) (registers_after ops words s) ops (drop FIELDS (registers_after ops words s))
 
 -- the greatest stage of an operation, or 0
 abbrev pub stages_of : List PlanOp → ℕ
@@ -44,7 +46,7 @@ stages_of (one ∷ ops) = max one.stage (stages_of ops)
 
 -- the stage of an operand: a register that an operation writes has that operation's; fields and numbers have 0
 abbrev pub operand_stage : List PlanOp → Operand → ℕ
-operand_stage ops (Register r) = if nat_lt r 14 then 0 else unwrap_or (option_map (λ one. one.stage) (slice_get ops (r - 14))) 0
+operand_stage ops (Register r) = if nat_lt r FIELDS then 0 else unwrap_or (option_map (λ one. one.stage) (slice_get ops (r - FIELDS))) 0
 operand_stage ops (Number n) = 0
 
 -- what a groupby takes where its input's presence isn't 0: the words of its key and of its fold's arguments

@@ -2,6 +2,7 @@
 use Rattle.std.specs.Prelude.{ℕ, zero, suc, ◌+◌, ◌*◌, ◌==◌, max, List, [], ◌∷◌, ◌++◌, length, map, sum, count_by}
 use Rattle.std.specs.Prelude.{filter_map, flat_map}
 use Rattle.std.specs.Prelude.{codes, decimal, slice_get, Option, None, option_map, unwrap_or}
+use Rattle.marple_base.specs.declared.field.TheConstants.{FIELDS}
 use Rattle.query_lang.specs.declared.fold.TypedFold.{TypedFold}
 use Rattle.query_lang.specs.declared.typed.Class.{Class}
 use Rattle.query_lang.specs.declared.typed.Class.TheVariants.{Linear, Other}
@@ -128,7 +129,7 @@ group_bound ways g =
 
 -- the most steps of one packet
 abbrev pub bound_of : ℕ → PlanShape → ℕ
-bound_of ways shape = 14 + shape.operations + sum (map (group_bound ways) shape.groups)
+bound_of ways shape = FIELDS + shape.operations + sum (map (group_bound ways) shape.groups)
 
 -- The text of a plan.
 

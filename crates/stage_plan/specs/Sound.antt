@@ -3,6 +3,8 @@ use Rattle.std.specs.Prelude.{◌≡◌, ℕ, suc, ◌+◌, ◌-◌, ◌<◌, �
 use Rattle.std.specs.Prelude.{Option, Some, None, ◌⊎◌}
 use Rattle.fold_class.specs.Program.{IsProgram}
 use Rattle.marple_base.specs.declared.field.FieldSet.{FieldSet}
+use Rattle.marple_base.specs.declared.field.TheConstants.{FIELDS}
+use Rattle.query_lang.specs.declared.fault.TheConstants.{MAX_ARGS, MAX_GROUPBYS, MAX_KEYS, MAX_STAGES, MAX_STATES}
 use Rattle.stage_plan.specs.declared.op.Operand.{Operand}
 use Rattle.stage_plan.specs.declared.op.Operand.TheVariants.{Register, Number}
 use Rattle.stage_plan.specs.declared.op.PlanOp.{PlanOp}
@@ -10,7 +12,7 @@ use Rattle.stage_plan.specs.declared.group.GroupPlan.{GroupPlan}
 use Rattle.stage_plan.specs.declared.group.GroupWiring.{GroupWiring}
 use Rattle.stage_plan.specs.Registers.{operand_stage, stages_of}
 
--- a plan, as contracts see it: the fields that it reads, its operations, which write registers 14, 15 and so on in order, its
+-- a plan, as contracts see it: the fields that it reads, its operations, which write the registers after those of the fields in order, its
 -- groupbys, and what each of them takes
 pub record PlanParts : Type 0 where
   pub reads : FieldSet
@@ -25,10 +27,10 @@ IsWithin registers (Number n) = Unit {0}
 
 -- operation number i reads earlier registers, and it is in the stage after those of its operands
 pub record IsSoundOp (ops : List PlanOp) (i : ℕ) (one : PlanOp) : Type 0 where
-  pub left : IsWithin (14 + i) one.left
-  pub right : IsWithin (14 + i) one.right
+  pub left : IsWithin (FIELDS + i) one.left
+  pub right : IsWithin (FIELDS + i) one.right
   pub stage : one.stage ≡ suc (max (operand_stage ops one.left) (operand_stage ops one.right))
-  pub most : one.stage ≤ 64
+  pub most : one.stage ≤ MAX_STAGES
 
 -- the operations are in the order of their stages
 pub record AreSoundOps (ops : List PlanOp) : Type 0 where
@@ -42,28 +44,28 @@ pub record AreSoundOps (ops : List PlanOp) : Type 0 where
 pub record IsSoundGroup (registers : ℕ) (group : GroupPlan) (wiring : GroupWiring) : Type 0 where
   pub program : IsProgram group.program
   pub some_keys : 0 < length group.key_names
-  pub most_keys : length group.key_names ≤ 8
-  pub most_states : length group.state_names ≤ 8
+  pub most_keys : length group.key_names ≤ MAX_KEYS
+  pub most_states : length group.state_names ≤ MAX_STATES
   pub states : length group.state_names ≡ length group.program.layout.initial
   pub keys : length wiring.keys ≡ length group.key_names
   pub args : length wiring.args ≡ group.program.layout.args
-  pub most_args : length wiring.args ≤ 16
+  pub most_args : length wiring.args ≤ MAX_ARGS
   pub present : IsWithin registers wiring.present
   pub key_registers : All (IsWithin registers) wiring.keys
   pub arg_registers : All (IsWithin registers) wiring.args
 
 pub record IsSoundPlan (plan : PlanParts) : Type 0 where
   pub ops : AreSoundOps plan.ops
-  pub most_groups : length plan.groups ≤ 8
+  pub most_groups : length plan.groups ≤ MAX_GROUPBYS
   pub wired : length plan.wiring ≡ length plan.groups
   pub each : (i : ℕ) (group : GroupPlan) (wiring : GroupWiring) → slice_get plan.groups i ≡ Some group
       → slice_get plan.wiring i ≡ Some wiring
-      → IsSoundGroup (14 + length plan.ops) group wiring
+      → IsSoundGroup (FIELDS + length plan.ops) group wiring
 
 -- the operation with this number reads the register of the other
 abbrev pub Follows : Option PlanOp → ℕ → Type 0
 Follows None number = Unit {0}
-Follows (Some one) number = (one.left ≡ Register (14 + number)) ⊎ (one.right ≡ Register (14 + number))
+Follows (Some one) number = (one.left ≡ Register (FIELDS + number)) ⊎ (one.right ≡ Register (FIELDS + number))
 
 -- numbers of operations, one of each stage in order, each an operand of the next
 pub record IsChain (ops : List PlanOp) (numbers : List ℕ) : Type 0 where
@@ -73,7 +75,7 @@ pub record IsChain (ops : List PlanOp) (numbers : List ℕ) : Type 0 where
 
 -- the operand is the register of the operation with this number, which is in this stage
 pub record IsNamed (ops : List PlanOp) (operand : Operand) (stage number : ℕ) : Type 0 where
-  pub register : operand ≡ Register (14 + number)
+  pub register : operand ≡ Register (FIELDS + number)
   pub within : number < length ops
   pub stage_is : operand_stage ops operand ≡ stage
 
@@ -81,11 +83,11 @@ pub record IsNamed (ops : List PlanOp) (operand : Operand) (stage number : ℕ) 
 pub record IsPrevious (ops : List PlanOp) (at number : ℕ) : Type 0 where
   pub follows : Follows (slice_get ops at) number
   pub within : number < length ops
-  pub stage_is : operand_stage ops (Register (14 + at)) ≡ suc (operand_stage ops (Register (14 + number)))
+  pub stage_is : operand_stage ops (Register (FIELDS + at)) ≡ suc (operand_stage ops (Register (FIELDS + number)))
 
 -- a chain up to an operation
 pub record EndsAt (ops : List PlanOp) (numbers : List ℕ) (at : ℕ) : Type 0 where
-  pub long : length numbers ≡ operand_stage ops (Register (14 + at))
+  pub long : length numbers ≡ operand_stage ops (Register (FIELDS + at))
   pub within : All (λ number. number < length ops) numbers
   pub linked : (i : ℕ) → i + 1 < length numbers → Follows (slice_get ops (slice_index numbers (i + 1))) (slice_index numbers i)
   pub last : slice_index numbers (length numbers - 1) ≡ at

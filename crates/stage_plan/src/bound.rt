@@ -6,11 +6,12 @@ ghost use Rattle.stage_plan.specs.Shape.{element_words, entry_words, group_bound
 
 use crate::group::GroupPlan;
 use fold_class::Algebra;
+use query_lang::{MAX_GROUPBYS, MAX_KEYS, MAX_STATES};
 
 // The most words of an entry with its key.
 fn most_words(algebra: Algebra, keys: u64, states: u64, args: u64, depth: u64) -> u64
-    requires keys { keys ≤ 8 }
-    requires states { states ≤ 8 }
+    requires keys { keys ≤ MAX_KEYS }
+    requires states { states ≤ MAX_STATES }
     requires args { args < 256 }
     requires depth { depth < 256 }
     ensures words { result ≡ keys + element_words algebra * states * (states + 1) + states + depth * args + 2 }
@@ -35,8 +36,8 @@ fn most_steps(
 ) -> u64
     requires words { words < 2 ^ 17 }
     requires ways { ways < 2 ^ 32 }
-    requires keys { keys ≤ 8 }
-    requires states { states ≤ 8 }
+    requires keys { keys ≤ MAX_KEYS }
+    requires states { states ≤ MAX_STATES }
     requires args { args < 256 }
     requires nodes { nodes < 2 ^ 32 }
     requires statements { statements < 2 ^ 32 }
@@ -53,8 +54,8 @@ fn most_steps(
 
 // The most steps of one packet at a groupby.
 fn most_of_group(group: &GroupPlan, ways: u32) -> u64
-    requires keys { length group.now.key_names ≤ 8 }
-    requires states { length group.now.state_names ≤ 8 }
+    requires keys { length group.now.key_names ≤ MAX_KEYS }
+    requires states { length group.now.state_names ≤ MAX_STATES }
     ensures steps { result ≡ group_bound ways (group_shape group.now) }
     ensures most { result < 2 ^ 40 }
 {
@@ -82,9 +83,9 @@ fn most_of_group(group: &GroupPlan, ways: u32) -> u64
 
 // The most steps of one packet at all groupbys.
 pub(crate) fn most_of_groups(groups: &[GroupPlan], ways: u32) -> u64
-    requires few { length groups.now ≤ 8 }
-    requires keys { (i : ℕ) (group : GroupPlan) → slice_get groups.now i ≡ Some group → length group.key_names ≤ 8 }
-    requires states { (i : ℕ) (group : GroupPlan) → slice_get groups.now i ≡ Some group → length group.state_names ≤ 8 }
+    requires few { length groups.now ≤ MAX_GROUPBYS }
+    requires keys { (i : ℕ) (group : GroupPlan) → slice_get groups.now i ≡ Some group → length group.key_names ≤ MAX_KEYS }
+    requires states { (i : ℕ) (group : GroupPlan) → slice_get groups.now i ≡ Some group → length group.state_names ≤ MAX_STATES }
     ensures steps { result ≡ sum (map (λ group. group_bound ways (group_shape group)) groups.now) }
     ensures most { result < 2 ^ 44 }
 {

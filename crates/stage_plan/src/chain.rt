@@ -5,8 +5,8 @@ ghost use Rattle.stage_plan.specs.declared.op.Operand.TheVariants.{Register};
 ghost use Rattle.stage_plan.specs.Registers.{operand_stage};
 ghost use Rattle.stage_plan.specs.Sound.{AreSoundOps, IsNamed, IsPrevious, EndsAt, IsChain};
 
-use crate::op::{Operand, PlanOp};
-use marple_base::Seq;
+use crate::op::{FIRST_RESULT, Operand, PlanOp};
+use marple_base::{FIELDS, Seq};
 use std::alloc::{AllocError, Global};
 
 // The number of the operation that an operand names, where it is in this stage.
@@ -17,13 +17,13 @@ fn number_in(ops: &[PlanOp], operand: Operand, stage: u32) -> Option<u32>
     match operand {
         Operand::Number(_) => None,
         Operand::Register(r) => {
-            if r < 14 {
+            if r < FIRST_RESULT {
                 return None;
             }
-            match ops.get(r as usize - 14) {
+            match ops.get(r as usize - FIELDS) {
                 Some(one) => {
                     if one.stage == stage {
-                        return Some(r - 14);
+                        return Some(r - FIRST_RESULT);
                     }
                     None
                 }
@@ -37,7 +37,7 @@ fn number_in(ops: &[PlanOp], operand: Operand, stage: u32) -> Option<u32>
 fn previous(ops: &[PlanOp], at: u32) -> u32
     requires sound { AreSoundOps ops.now }
     requires there { at < length ops.now }
-    requires late { 1 < operand_stage ops.now (Register (14 + at)) }
+    requires late { 1 < operand_stage ops.now (Register (FIELDS + at)) }
     ensures { IsPrevious ops.now at result }
 {
     let one = ops[at as usize];

@@ -19,7 +19,7 @@ mod wires;
 
 pub use group::{GroupPlan, GroupWiring};
 pub use laws::stages_are_fewest;
-pub use op::{Operand, Operation, PlanOp};
+pub use op::{FIRST_RESULT, Operand, Operation, PlanOp};
 pub use planner::plan;
 pub use plans::Plan;
 pub use text::plan_text;

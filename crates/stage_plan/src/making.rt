@@ -5,14 +5,14 @@ ghost use Rattle.query_lang.specs.Folds.{term_nodes};
 ghost use Rattle.query_lang.specs.Terms.{term_of};
 ghost use Rattle.stage_plan.specs.declared.op.Operand.TheVariants.{Number};
 ghost use Rattle.stage_plan.specs.Registers.{operand_stage};
-ghost use Rattle.stage_plan.specs.Making.{stage_after, with_op, operand_at, compiled, joined, conditioned, filtered, mapped};
-ghost use Rattle.stage_plan.specs.Making.{zipped, emit_columns, grouped};
+ghost use Rattle.stage_plan.specs.Making.{stage_after, with_op, operand_at, compiled, made_join, conditioned, made_filter, made_map};
+ghost use Rattle.stage_plan.specs.Making.{made_zip, emit_columns, made_group};
 ghost use Rattle.stage_plan.specs.Counting.{condition_most, values_most, emit_most};
 
-use crate::op::{Operand, Operation, PlanOp};
+use crate::op::{FIRST_RESULT, Operand, Operation, PlanOp};
 use crate::wires::StreamWires;
-use marple_base::Seq;
-use query_lang::{Op, TypedExpr, TypedFold};
+use marple_base::{FIELDS, Seq};
+use query_lang::{MAX_STAGES, Op, TypedExpr, TypedFold};
 use std::alloc::{AllocError, Global};
 
 // The stage of an operand.
@@ -22,10 +22,10 @@ fn stage_of(ops: &[PlanOp], operand: Operand) -> u32
     match operand {
         Operand::Number(_) => 0,
         Operand::Register(r) => {
-            if r < 14 {
+            if r < FIRST_RESULT {
                 return 0;
             }
-            match ops.get(r as usize - 14) {
+            match ops.get(r as usize - FIELDS) {
                 Some(one) => one.stage,
                 None => 0,
             }
@@ -33,14 +33,14 @@ fn stage_of(ops: &[PlanOp], operand: Operand) -> u32
     }
 }
 
-// The stage after two others, and 65 for all above 64.
+// The stage after two others, and the same one for all above the most.
 fn beyond(left: u32, right: u32) -> u32
     ensures { result ≡ stage_after left right }
 {
-    if left < 64 && right < 64 {
+    if left < MAX_STAGES && right < MAX_STAGES {
         left.max(right) + 1
     } else {
-        65
+        MAX_STAGES + 1
     }
 }
 
@@ -67,7 +67,7 @@ fn make_op(
         left,
         right,
     })?;
-    Ok(Operand::Register(14 + at as u32))
+    Ok(Operand::Register(FIRST_RESULT + at as u32))
 }
 
 // The column in a slot.
@@ -144,8 +144,8 @@ fn join(
     columns: Seq<Operand>,
 ) -> Result<StreamWires, AllocError>
     requires room { length ops.old < 32768 }
-    ensures ops { OnOk result (ops.new ≡ (joined ops.old present condition columns).ops) }
-    ensures wires { IfOk result (λ wires. wires ≡ (joined ops.old present condition columns).wires) }
+    ensures ops { OnOk result (ops.new ≡ (made_join ops.old present condition columns).ops) }
+    ensures wires { IfOk result (λ wires. wires ≡ (made_join ops.old present condition columns).wires) }
     ensures more { OnOk result (length ops.new ≡ length ops.old + 1) }
 {
     let present = make_op(ops, Operation::Two(Op::Both), present, condition)?;
@@ -177,8 +177,8 @@ pub(crate) fn make_filter(
     condition: &TypedExpr,
 ) -> Result<StreamWires, AllocError>
     requires room { length ops.old + condition_most (term_of condition.now) ≤ 32768 }
-    ensures ops { OnOk result (ops.new ≡ (filtered input.now (term_of condition.now) ops.old).ops) }
-    ensures wires { IfOk result (λ wires. wires ≡ (filtered input.now (term_of condition.now) ops.old).wires) }
+    ensures ops { OnOk result (ops.new ≡ (made_filter input.now (term_of condition.now) ops.old).ops) }
+    ensures wires { IfOk result (λ wires. wires ≡ (made_filter input.now (term_of condition.now) ops.old).wires) }
     ensures few { OnOk result (length ops.new ≤ length ops.old + condition_most (term_of condition.now)) }
 {
     let columns = copy(alloc, input.columns.as_slice())?;
@@ -199,8 +199,8 @@ pub(crate) fn make_map(
     values: &[TypedExpr],
 ) -> Result<StreamWires, AllocError>
     requires room { length ops.old + values_most values.now ≤ 32768 }
-    ensures ops { OnOk result (ops.new ≡ (mapped input.now values.now ops.old).ops) }
-    ensures wires { IfOk result (λ wires. wires ≡ (mapped input.now values.now ops.old).wires) }
+    ensures ops { OnOk result (ops.new ≡ (made_map input.now values.now ops.old).ops) }
+    ensures wires { IfOk result (λ wires. wires ≡ (made_map input.now values.now ops.old).wires) }
     ensures few { OnOk result (length ops.new ≤ length ops.old + values_most values.now) }
 {
     let mut columns = copy(alloc, input.columns.as_slice())?;
@@ -223,8 +223,8 @@ pub(crate) fn make_zip(
     slots: &[u16],
 ) -> Result<StreamWires, AllocError>
     requires room { length ops.old < 32768 }
-    ensures ops { OnOk result (ops.new ≡ (zipped left.now right.now slots.now ops.old).ops) }
-    ensures wires { IfOk result (λ wires. wires ≡ (zipped left.now right.now slots.now ops.old).wires) }
+    ensures ops { OnOk result (ops.new ≡ (made_zip left.now right.now slots.now ops.old).ops) }
+    ensures wires { IfOk result (λ wires. wires ≡ (made_zip left.now right.now slots.now ops.old).wires) }
     ensures more { OnOk result (length ops.new ≡ length ops.old + 1) }
 {
     let mut columns = copy(alloc, left.columns.as_slice())?;
@@ -259,8 +259,8 @@ pub(crate) fn make_group(
     args: &[u16],
 ) -> Result<StreamWires, AllocError>
     requires room { length ops.old + emit_most f.now.emit ≤ 32768 }
-    ensures ops { OnOk result (ops.new ≡ (grouped (Some f.now) input.now keys.now args.now ops.old).ops) }
-    ensures wires { IfOk result (λ wires. wires ≡ (grouped (Some f.now) input.now keys.now args.now ops.old).wires) }
+    ensures ops { OnOk result (ops.new ≡ (made_group (Some f.now) input.now keys.now args.now ops.old).ops) }
+    ensures wires { IfOk result (λ wires. wires ≡ (made_group (Some f.now) input.now keys.now args.now ops.old).wires) }
     ensures few { OnOk result (length ops.new ≤ length ops.old + emit_most f.now.emit) }
 {
     let columns = pick(alloc, input.columns.as_slice(), keys)?;

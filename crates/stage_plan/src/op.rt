@@ -1,5 +1,6 @@
 //! The operations of a plan.
 
+use marple_base::FIELDS;
 use query_lang::Op;
 
 /// What an operation does with its operands.
@@ -10,8 +11,10 @@ pub enum Operation {
     Two(Op),
 }
 
-/// A word of a packet's registers, or a number. Registers 0 to 13 are the packet's fields, and the next ones are the
-/// operations in order.
+/// The register of the first operation. Those before it are the packet's fields.
+pub const FIRST_RESULT: u32 = FIELDS as u32;
+
+/// A word of a packet's registers, or a number. The registers are the packet's fields and then the operations in order.
 #[derive(Clone, Copy)]
 pub enum Operand {
     Register(u32),

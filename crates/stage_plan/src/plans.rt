@@ -4,7 +4,7 @@ ghost use Rattle.std.specs.Prelude.{◌≡◌, ℕ, ◌+◌, ◌*◌, ◌^◌, �
 ghost use Rattle.std.specs.Prelude.{count_by, Some, IfOk};
 ghost use Rattle.query_lang.specs.Words.{holds};
 ghost use Rattle.stage_plan.specs.Registers.{operand_value, stages_of};
-ghost use Rattle.stage_plan.specs.Planned.{registers_of, row_of, wiring_at, plan_bound};
+ghost use Rattle.stage_plan.specs.Planned.{registers_of, packet_registers, wiring_at, plan_bound};
 ghost use Rattle.stage_plan.specs.Sound.{PlanParts, IsSoundPlan, IsChain};
 
 use crate::bound::most_of_groups;
@@ -12,7 +12,7 @@ use crate::chain::longest_chain;
 use crate::group::{GroupPlan, GroupWiring};
 use crate::op::PlanOp;
 use crate::rows::{copy_into, fill, operand_in};
-use marple_base::{FieldSet, Packet, Seq, Steps};
+use marple_base::{FIELDS, FieldSet, Packet, Seq, Steps};
 use std::alloc::{AllocError, Global};
 use std::marker::Model;
 use std::sync::ledger::Ledger;
@@ -84,7 +84,7 @@ impl Plan {
     pub fn registers(&self) -> usize
         ensures { result ≡ registers_of self.now }
     {
-        14 + self.ops.len()
+        FIELDS + self.ops.len()
     }
 
     /// The number of operations.
@@ -174,14 +174,14 @@ impl Plan {
     pub fn bound(&self, ways: u32) -> u64
         ensures { result ≡ plan_bound self.now ways }
     {
-        14 + self.ops.len() as u64 + most_of_groups(self.groups.as_slice(), ways)
+        FIELDS as u64 + self.ops.len() as u64 + most_of_groups(self.groups.as_slice(), ways)
     }
 
     /// The registers of a packet: its words, and what each operation gives. All operations of a stage read the registers as
     /// they were before it.
     pub fn row<L: Ledger>(&self, p: &Packet, registers: &mut [u64], steps: &mut Steps<L>)
         requires { length registers.old ≡ registers_of self.now }
-        ensures row { registers.new ≡ row_of self.now p.now.words }
+        ensures row { registers.new ≡ packet_registers self.now p.now.words }
         ensures steps { steps.new ≡ steps.old + registers_of self.now }
     {
         fill(&p.words, self.ops.as_slice(), registers, steps);

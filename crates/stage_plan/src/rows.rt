@@ -2,11 +2,11 @@
 
 ghost use Rattle.std.specs.Prelude.{◌≡◌, ℕ, ◌+◌, ◌<◌, ◌≤◌, length, take, slice_get, slice_index, Some, map, All};
 ghost use Rattle.stage_plan.specs.declared.op.PlanOp.{PlanOp};
-ghost use Rattle.stage_plan.specs.Registers.{operand_value, result_of, after, stages_of};
+ghost use Rattle.stage_plan.specs.Registers.{operand_value, result_of, registers_after, stages_of};
 ghost use Rattle.stage_plan.specs.Sound.{IsWithin, AreSoundOps};
 
 use crate::op::{Operand, Operation, PlanOp};
-use marple_base::Steps;
+use marple_base::{FIELDS, Steps};
 use std::sync::ledger::Ledger;
 
 // The word of an operand.
@@ -36,26 +36,26 @@ fn result_in(one: &PlanOp, registers: &[u64]) -> u64
 
 // The packet's words in the first registers.
 fn fill_fields<L: Ledger>(words: &[u64], registers: &mut [u64], steps: &mut Steps<L>)
-    requires words { length words.now ≡ 14 }
-    requires room { 14 ≤ length registers.old }
-    ensures fields { take 14 registers.new ≡ words.now }
-    ensures steps { steps.new ≡ steps.old + 14 }
+    requires words { length words.now ≡ FIELDS }
+    requires room { FIELDS ≤ length registers.old }
+    ensures fields { take FIELDS registers.new ≡ words.now }
+    ensures steps { steps.new ≡ steps.old + FIELDS }
 {
-    registers[..14].copy_from_slice(words);
-    steps.tick_many(14);
+    registers[..FIELDS].copy_from_slice(words);
+    steps.tick_many(FIELDS as u64);
 }
 
 // Each operation's result in its register, in turn: each reads only earlier registers.
 fn fill_results<L: Ledger>(ops: &[PlanOp], registers: &mut [u64], steps: &mut Steps<L>)
     requires sound { AreSoundOps ops.now }
-    requires room { length registers.old ≡ 14 + length ops.now }
-    ensures fields { take 14 registers.new ≡ take 14 registers.old }
+    requires room { length registers.old ≡ FIELDS + length ops.now }
+    ensures fields { take FIELDS registers.new ≡ take FIELDS registers.old }
     ensures results { (i : ℕ) (one : PlanOp) → slice_get ops.now i ≡ Some one
-        → slice_index registers.new (14 + i) ≡ result_of registers.new one }
+        → slice_index registers.new (FIELDS + i) ≡ result_of registers.new one }
     ensures steps { steps.new ≡ steps.old + length ops.now }
 {
     for at in 0..ops.len() {
-        registers[14 + at] = result_in(&ops[at], registers);
+        registers[FIELDS + at] = result_in(&ops[at], registers);
     }
     steps.tick_many(ops.len() as u64);
 }
@@ -68,10 +68,10 @@ pub(crate) fn fill<L: Ledger>(
     steps: &mut Steps<L>,
 )
     requires sound { AreSoundOps ops.now }
-    requires words { length words.now ≡ 14 }
-    requires room { length registers.old ≡ 14 + length ops.now }
-    ensures row { registers.new ≡ after ops.now words.now (stages_of ops.now) }
-    ensures steps { steps.new ≡ steps.old + (14 + length ops.now) }
+    requires words { length words.now ≡ FIELDS }
+    requires room { length registers.old ≡ FIELDS + length ops.now }
+    ensures row { registers.new ≡ registers_after ops.now words.now (stages_of ops.now) }
+    ensures steps { steps.new ≡ steps.old + (FIELDS + length ops.now) }
 {
     fill_fields(words, registers, steps);
     fill_results(ops, registers, steps);

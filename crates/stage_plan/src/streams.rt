@@ -12,7 +12,9 @@ use crate::making::{make_filter, make_group, make_map, make_zip};
 use crate::op::{Operand, PlanOp};
 use crate::wires::StreamWires;
 use marple_base::Seq;
-use query_lang::{FaultKind, Limit, QueryError, QueryFault, TypedFold, TypedOp, TypedQuery};
+use query_lang::{
+    FaultKind, Limit, MAX_STAGES, QueryError, QueryFault, TypedFold, TypedOp, TypedQuery,
+};
 use std::alloc::{AllocError, Global};
 
 /// All operations of a query, and where the columns of all its streams are, from the packets on.
@@ -103,7 +105,7 @@ fn make_stream(
 fn has_deep(ops: &[PlanOp]) -> bool
     ensures { result ≡ are_deep ops.now }
 {
-    ops.iter().any(|one| 64 < one.stage)
+    ops.iter().any(|one| MAX_STAGES < one.stage)
 }
 
 // The operations of all streams, or the first stream that is too deep.

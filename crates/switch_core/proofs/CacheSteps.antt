@@ -5,11 +5,12 @@ use Rattle.std.specs.Prelude.{slice_get, nat_lt}
 use Rattle.std.proofs.lemmas.Bool.{cases_eq, lt-ltb, le-ltb}
 use Rattle.std.proofs.lemmas.List.{set-get_or, length-map}
 use Rattle.epoch_model.specs.Keys.{Key, ArgRow, bucket_of}
-use Rattle.epoch_model.specs.Machine.{Epoch, Machine, open_in, set_open, evict, packet, is_open, rows_of, without, with_row, with_new}
+use Rattle.epoch_model.specs.Machine.{Epoch, Machine, open_in, set_open, evict, packet, is_open, rows_in_epochs, without, with_row}
+use Rattle.epoch_model.specs.Machine.{with_new}
 use Rattle.epoch_model.specs.Machine.{all_but_last}
 use Rattle.bucket_cache.specs.Buckets.{Pair, places_of, without_key}
 use Rattle.bucket_cache.specs.Caches.{Cache, list_at, entry_at, with_list, IsSoundCache}
-use Rattle.bucket_cache.specs.Touches.{Touches, with_front, IsLeast, least_place}
+use Rattle.bucket_cache.specs.Touches.{Touches, with_pair_first, IsLeast, least_place}
 use Rattle.bucket_cache.specs.declared.bucket.Touch.TheVariants.{Hit, Free, Full}
 use Rattle.switch_core.specs.Places.{with_words}
 use Rattle.switch_core.specs.Lanes.{Standing, PairStands, PairsStand, CacheStands, geometry}
@@ -19,19 +20,19 @@ use Rattle.switch_core.proofs.Standing.{by_test, pairs_long, pairs_map, pairs_ta
 pub front_written : (stands : Standing) (ways : ℕ) (old touched : Cache) (bucket place : ℕ) (words : List ℕ) (key : Key) (tail : List Pair)
     (m n : Machine) (rows : List ArgRow) (epochs : List Epoch)
     → CacheStands stands old m → bucket < length old.lists → place < length old.entries
-    → touched ≡ with_list old bucket (with_front key place tail) → IsSoundCache ways touched
+    → touched ≡ with_list old bucket (with_pair_first key place tail) → IsSoundCache ways touched
     → length n.recent ≡ length m.recent → ((other : ℕ) → (other ≡ bucket → ⊥) → open_in n other ≡ open_in m other)
     → stands words rows → PairsStand (PairStands stands old) tail epochs
     → CacheStands stands (with_words touched place words) (set_open n bucket (record { key = key; rows = rows } ∷ epochs))
 front_written stands ways old touched bucket place words key tail m n rows epochs s h l t sound shape others w pairs =
     let new = with_words touched place words in
-    let lists : (b : ℕ) → list_at new b ≡ get_or (set old.lists bucket (with_front key place tail)) b [] =
+    let lists : (b : ℕ) → list_at new b ≡ get_or (set old.lists bucket (with_pair_first key place tail)) b [] =
     λ b. ap (λ c. get_or c.lists b []) t in
     let entries : touched.entries ≡ old.entries = ap (λ c. c.entries) t in
-    let here : list_at touched bucket ≡ with_front key place tail = lists bucket
-    ∙ get_or-set_same old.lists bucket (with_front key place tail) [] h in
+    let here : list_at touched bucket ≡ with_pair_first key place tail = lists bucket
+    ∙ get_or-set_same old.lists bucket (with_pair_first key place tail) [] h in
     let there : (b : ℕ) → (b ≡ bucket → ⊥) → list_at touched b ≡ list_at old b = λ b d. lists b
-    ∙ get_or-set_other old.lists bucket b (with_front key place tail) [] d in
+    ∙ get_or-set_other old.lists bucket b (with_pair_first key place tail) [] d in
     let first : slice_get (list_at touched bucket) 0 ≡ Some (record { key = key; place = place }) = ap (λ ps. slice_get ps 0) here in
     let kept : (at : ℕ) → (at ≡ place → ⊥) → entry_at new at ≡ entry_at old at =
     λ at d. get_or-set_other touched.entries place at words [] d ∙ ap (λ es. get_or es at []) entries in
@@ -43,7 +44,7 @@ front_written stands ways old touched bucket place words key tail m n rows epoch
     → PairStands stands old q x → PairStands stands new q x =
     λ b i q x e d r. (r.0, subst (λ ws. stands ws x.rows) (sym (kept q.place (other_place b i q e d))) r.1) in
     record {
-      buckets = ap length (ap (λ c. c.lists) t) ∙ (length-set old.lists bucket (with_front key place tail)
+      buckets = ap length (ap (λ c. c.lists) t) ∙ (length-set old.lists bucket (with_pair_first key place tail)
           ∙ (s.buckets ∙ (sym shape ∙ sym (length-set n.recent bucket (record { key = key; rows = rows } ∷ epochs)))));
       each = λ b. ⊎_elim
           (λ (e : b ≡ bucket).
@@ -51,7 +52,7 @@ front_written stands ways old touched bucket place words key tail m n rows epoch
           (open_in (set_open n bucket (record { key = key; rows = rows } ∷ epochs)) x)) (sym e)
           (subst (λ ps. PairsStand (PairStands stands new) ps (open_in (set_open n bucket (record { key = key; rows = rows } ∷ epochs))
           bucket)) (sym here)
-          (subst (λ es. PairsStand (PairStands stands new) (with_front key place tail) es)
+          (subst (λ es. PairsStand (PairStands stands new) (with_pair_first key place tail) es)
           (sym (get_or-set_same n.recent bucket (record { key = key; rows = rows } ∷ epochs) [] (let a = s.buckets in omega arith))) (
             (refl, subst (λ ws. stands ws rows) (sym written) w),
             pairs_map (PairStands stands old) (PairStands stands new) tail epochs
@@ -129,15 +130,15 @@ pub hit_stands : (stands : Standing) (ways : ℕ) (old touched new : Cache) (buc
     → (m : Machine) → CacheStands stands old m → CacheStands stands new (packet (geometry ways old) m key row)
 hit_stands stands ways old touched new bucket place key row own h l t rest sound w absorbed m s =
     let pairs = s.each bucket in
-    let was : stands (entry_at old place) (rows_of key (open_in m bucket)) =
+    let was : stands (entry_at old place) (rows_in_epochs key (open_in m bucket)) =
     place_stands stands old key place (list_at old bucket) (open_in m bucket) pairs t.1 in
     let same : entry_at touched place ≡ entry_at old place = ap (λ c. get_or c.entries place []) rest in
-    let front : touched ≡ with_list old bucket (with_front key place (without_key key (list_at old bucket))) = rest
+    let front : touched ≡ with_list old bucket (with_pair_first key place (without_key key (list_at old bucket))) = rest
     ∙ ap (with_list old bucket) t.2 in
     let after = front_written stands ways old touched bucket place (entry_at new place) key (without_key key (list_at old bucket)) m m
-    (rows_of key (open_in m bucket) ++ row ∷ []) (without key (open_in m bucket))
+    (rows_in_epochs key (open_in m bucket) ++ row ∷ []) (without key (open_in m bucket))
     s h l front sound refl (λ b d. refl)
-    (absorbed (rows_of key (open_in m bucket)) (subst (λ ws. stands ws (rows_of key (open_in m bucket))) (sym same) was))
+    (absorbed (rows_in_epochs key (open_in m bucket)) (subst (λ ws. stands ws (rows_in_epochs key (open_in m bucket))) (sym same) was))
     (pairs_without stands old key (list_at old bucket) (open_in m bucket) pairs) in
     let steps : packet (geometry ways old) m key row ≡ set_open m bucket (with_row key row (open_in m bucket)) =
     hit_machine stands ways old (list_at touched bucket) bucket place key row own t m s in
@@ -152,7 +153,7 @@ pub free_stands : (stands : Standing) (ways : ℕ) (old touched new : Cache) (bu
     → (m : Machine) → CacheStands stands old m → CacheStands stands new (packet (geometry ways old) m key row)
 free_stands stands ways old touched new bucket place key row own h l t rest sound w begun m s =
     let pairs = s.each bucket in
-    let front : touched ≡ with_list old bucket (with_front key place (list_at old bucket)) = rest ∙ ap (with_list old bucket) t.2 in
+    let front : touched ≡ with_list old bucket (with_pair_first key place (list_at old bucket)) = rest ∙ ap (with_list old bucket) t.2 in
     let after = front_written stands ways old touched bucket place (entry_at new place) key (list_at old bucket) m m (row ∷ [])
     (open_in m bucket) s h l front sound refl (λ b d. refl) begun pairs in
     let steps : packet (geometry ways old) m key row ≡ set_open m bucket (with_new key row (open_in m bucket)) =
@@ -187,7 +188,7 @@ as_it_was ways old touched key bucket place t rest = rest ∙ (ap (with_list old
 pub full_stands : (stands : Standing) (ways : ℕ) (old touched replaced new : Cache) (bucket seen place : ℕ) (key : Key) (row : ArgRow)
     → 0 < ways → bucket ≡ bucket_of (length old.lists) key → bucket < length old.lists → place < length old.entries
     → Touches ways key (list_at old bucket) (Full seen) (list_at touched bucket) → touched ≡ with_list old bucket (list_at touched bucket)
-    → replaced ≡ with_list touched bucket (with_front key place (take (length (list_at touched bucket) - 1) (list_at touched bucket)))
+    → replaced ≡ with_list touched bucket (with_pair_first key place (take (length (list_at touched bucket) - 1) (list_at touched bucket)))
     → IsSoundCache ways replaced
     → new ≡ with_words replaced place (entry_at new place) → stands (entry_at new place) (row ∷ [])
     → (m : Machine) → CacheStands stands old m → CacheStands stands new (packet (geometry ways old) m key row)
@@ -197,8 +198,8 @@ full_stands stands ways old touched replaced new bucket seen place key row some 
     let long = pairs_long (PairStands stands old) list (open_in m bucket) pairs in
     let many = t.1 in
     let untouched = as_it_was ways old touched key bucket seen t rest in
-    let front : replaced ≡ with_list old bucket (with_front key place (take (length list - 1) list)) =
-    more ∙ ap (λ c. with_list c bucket (with_front key place (take (length (list_at c bucket) - 1) (list_at c bucket)))) untouched in
+    let front : replaced ≡ with_list old bucket (with_pair_first key place (take (length list - 1) list)) =
+    more ∙ ap (λ c. with_list c bucket (with_pair_first key place (take (length (list_at c bucket) - 1) (list_at c bucket)))) untouched in
     let left : PairsStand (PairStands stands old) (take (length list - 1) list) (open_in (evict m bucket) bucket) =
     subst (PairsStand (PairStands stands old) (take (length list - 1) list))
     (ap (λ n. take (n - 1) (open_in m bucket)) long ∙ sym (evict_same m bucket (omega arith) (let a = s.buckets in omega arith)))
@@ -215,7 +216,7 @@ full_stands stands ways old touched replaced new bucket seen place key row some 
 -- the places that a touch and a replacement name have entries
 
 pub front_within : (ways : ℕ) (cache : Cache) (bucket place : ℕ) (key : Key) (tail : List Pair) → IsSoundCache ways cache
-    → list_at cache bucket ≡ with_front key place tail → place < length cache.entries
+    → list_at cache bucket ≡ with_pair_first key place tail → place < length cache.entries
 front_within ways cache bucket place key tail sound e =
     let head : Pair = record { key = key; place = place } in
     let long : length (list_at cache bucket) ≡ suc (length tail) = ap length e in

@@ -6,6 +6,7 @@ use Rattle.std.proofs.Math.Seq.{take-append_seam}
 use Rattle.std.specs.Prelude.{slice_get}
 use Rattle.std.proofs.lemmas.Bool.Decides.{nat_tests}
 use Rattle.epoch_model.specs.Machine.{Event}
+use Rattle.query_lang.specs.declared.fault.TheConstants.{MAX_ARGS, MAX_KEYS}
 use Rattle.epoch_entry.specs.declared.purpose.Entries.{Entries}
 use Rattle.epoch_entry.specs.contracts.any.AnyEpochsEpochKind.TheImpl.{ghosts}
 use Rattle.stage_plan.specs.Planned.{wiring_at}
@@ -29,8 +30,8 @@ pub record FitsWiring (plan : PlanParts) (i : ℕ) (lane : LaneView) : Type 0 wh
   pub group : i < length plan.groups
   pub keys : lane.cache.key_words ≡ length (wiring_at plan i).keys
   pub args : (ghosts.sizes lane.kind).args ≡ length (wiring_at plan i).args
-  pub few_keys : length (wiring_at plan i).keys ≤ 8
-  pub few_args : length (wiring_at plan i).args ≤ 16
+  pub few_keys : length (wiring_at plan i).keys ≤ MAX_KEYS
+  pub few_args : length (wiring_at plan i).args ≤ MAX_ARGS
 
 pub lane_fits : (entries : Entries) (plan : PlanParts) (buckets i : ℕ) (lanes : List LaneView) (lane : LaneView) → IsSoundPlan plan
     → AreLanesOf entries plan buckets lanes → slice_get lanes i ≡ Some lane → FitsWiring plan i lane
@@ -47,8 +48,8 @@ lane_fits entries plan buckets i lanes lane sound are at =
       group = below;
       keys = own.keys ∙ (sym each.keys ∙ ap (λ w. length w.keys) (sym is));
       args = own.args;
-      few_keys = subst (λ w. length w.keys ≤ 8) (sym is) (let a = each.keys in let b = each.most_keys in omega arith);
-      few_args = subst (λ w. length w.args ≤ 16) (sym is) each.most_args;
+      few_keys = subst (λ w. length w.keys ≤ MAX_KEYS) (sym is) (let a = each.keys in let b = each.most_keys in omega arith);
+      few_args = subst (λ w. length w.args ≤ MAX_ARGS) (sym is) each.most_args;
     }
 
 pub on_ok : {X E : Type 0} (P Q : Type 0) (r : Result X E) → (P → Q) → OnOk r P → OnOk r Q

@@ -3,6 +3,7 @@ use Rattle.std.proofs.Common.{◌≡◌, ℕ, zero, suc, ◌+◌, List, [], ◌�
 use Rattle.std.specs.Prelude.{slice_get}
 use Rattle.std.proofs.Math.Logic.{∥∥₁_elim}
 use Rattle.std.proofs.Props.{props}
+use Rattle.marple_base.specs.declared.field.TheConstants.{FIELDS}
 use Rattle.fold_class.specs.Program.{IsProgramOf}
 use Rattle.query_lang.specs.declared.fold.TypedFold.{TypedFold}
 use Rattle.epoch_model.specs.Epochs.{Geometry}
@@ -42,7 +43,7 @@ empties_push g (x ∷ groups) group = ap (λ ms. empty_machine g ∷ ms) (emptie
 
 -- what the plan says of a groupby and its wiring
 pub group_sound : (plan : PlanParts) (i : ℕ) (group : GroupPlan) → IsSoundPlan plan → slice_get plan.groups i ≡ Some group
-    → (wiring : GroupWiring) × (wiring_at plan i ≡ wiring) × IsSoundGroup (14 + length plan.ops) group wiring
+    → (wiring : GroupWiring) × (wiring_at plan i ≡ wiring) × IsSoundGroup (FIELDS + length plan.ops) group wiring
 group_sound plan i group sound at =
     let below = got_below plan.groups i group at in
     let wired = got_some plan.wiring i (let w = sound.wired in omega arith) in

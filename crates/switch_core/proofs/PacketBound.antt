@@ -5,6 +5,7 @@ use Rattle.std.proofs.Math.Nat.{mul-add}
 use Rattle.std.proofs.Math.Logic.{∥∥₁_elim}
 use Rattle.std.proofs.Props.{props}
 use Rattle.std.proofs.lemmas.List.Sums.{sum_by-cons}
+use Rattle.marple_base.specs.declared.field.TheConstants.{FIELDS}
 use Rattle.query_lang.specs.declared.fold.TypedFold.{TypedFold}
 use Rattle.query_lang.specs.Folds.{IsValidFold, fold_states, fold_args}
 use Rattle.fold_class.specs.declared.class.Algebra.{Algebra}
@@ -109,7 +110,7 @@ after Bounds registers a b le = omega arith
 pub packet_within : HasOneDepth → EntriesSuitFolds → (ways : ℕ) (p : PipelineView) → IsSoundPlan p.plan
     → AreLanesOf p.entries p.plan p.buckets p.lanes → pipeline_cost ways p ≤ runs_of p.entries * plan_bound p.plan ways
 packet_within one suit ways p sound are =
-    after p.entries (14 + length p.plan.ops) (sum_by (lane_cost ways) p.lanes)
+    after p.entries (FIELDS + length p.plan.ops) (sum_by (lane_cost ways) p.lanes)
     (sum (map (group_bound ways) (map group_shape p.plan.groups)))
     (each_sum (runs_of p.entries) (lane_cost ways) (group_bound ways) group_shape 0 p.lanes p.plan.groups
     (each_map (λ n lane group. IsLaneOf p.entries p.buckets lane.cache (ghosts.sizes lane.kind) (ghosts.folding lane.kind)
@@ -117,5 +118,5 @@ packet_within one suit ways p sound are =
     (λ n lane group. lane_cost ways lane ≤ runs_of p.entries * group_bound ways (group_shape group)) 0 p.lanes p.plan.groups
     (λ j n lane group at here there own.
     let known = group_sound p.plan j group sound there in
-    lane_within one suit p.entries ways p.buckets (14 + length p.plan.ops) lane group known.0 (wiring_at p.plan n) known.2 own)
+    lane_within one suit p.entries ways p.buckets (FIELDS + length p.plan.ops) lane group known.0 (wiring_at p.plan n) known.2 own)
     are))

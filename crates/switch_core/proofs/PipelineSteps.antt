@@ -20,9 +20,9 @@ use Rattle.switch_core.specs.Lanes.{Standing}
 use Rattle.switch_core.specs.LaneEvents.{Parts, PartsStand, MakesAll}
 use Rattle.switch_core.specs.Closing.{held_in}
 use Rattle.switch_core.specs.Rows.{Each, EachFrom}
-use Rattle.switch_core.specs.Pipelines.{IsLaneOf, after_events, geometry_of}
+use Rattle.switch_core.specs.Pipelines.{IsLaneOf, after_events, geometry_without_refresh}
 use Rattle.switch_core.specs.PlanLanes.{LaneView, IsMadeFor, PipelineView, PipelineMakes, AreLanesOf, StandsFor}
-use Rattle.switch_core.specs.PlanLanes.{LaneMakes, LanesMake, AreKept, PipelineIsSwept, parts_of, places_of, upkeep_at, upkeeps_at}
+use Rattle.switch_core.specs.PlanLanes.{LaneMakes, LanesMake, AreKept, PipelineIsSwept, parts_of, pipe_places, upkeep_at, upkeeps_at}
 use Rattle.switch_core.specs.Upkeeps.{sweep_from}
 use Rattle.switch_core.specs.declared.upkeep.Upkeep.TheVariants as due
 use Rattle.switch_core.proofs.Histories.{followed}
@@ -108,7 +108,7 @@ lanes_many entries plan buckets k (a ∷ lanes) (g ∷ groups) f (suc n) lane h 
 stand_after : (ways buckets : ℕ) (events : ℕ → List Event) (k : ℕ) (old new : List LaneView) (ms : List Machine)
     → ((n : ℕ) (lane : LaneView) → slice_get old n ≡ Some lane → length lane.cache.lists ≡ buckets)
     → EachFrom (λ n. LaneMakes ways (events n)) k old new → EachFrom (λ n. StandsFor) k old ms
-    → EachFrom (λ n. StandsFor) k new (after_events (geometry_of ways buckets) events k ms)
+    → EachFrom (λ n. StandsFor) k new (after_events (geometry_without_refresh ways buckets) events k ms)
 stand_after ways buckets events k [] [] [] many e s = tt
 stand_after ways buckets events k [] [] (m ∷ ms) many e s = absurd s
 stand_after ways buckets events k [] (b ∷ new) ms many e s = absurd e
@@ -116,9 +116,11 @@ stand_after ways buckets events k (a ∷ old) [] ms many e s = absurd e
 stand_after ways buckets events k (a ∷ old) (b ∷ new) [] many e s = absurd s
 stand_after ways buckets events k (a ∷ old) (b ∷ new) (m ∷ ms) many e s =
     let after = followed (ghosts.stands a.kind) (ghosts.folding a.kind) ways (events k) (parts_of a) (parts_of b) m s.0 e.0.made in
-    let same = subst (λ n. PartsStand (ghosts.stands a.kind) (ghosts.folding a.kind) (parts_of b) (run (geometry_of ways n) (events k) m))
+    let same = subst (λ n. PartsStand (ghosts.stands a.kind) (ghosts.folding a.kind) (parts_of b)
+    (run (geometry_without_refresh ways n) (events k) m))
     (many 0 a refl) after in (
-      subst (λ kind. PartsStand (ghosts.stands kind) (ghosts.folding kind) (parts_of b) (run (geometry_of ways buckets) (events k) m))
+      subst (λ kind. PartsStand (ghosts.stands kind) (ghosts.folding kind) (parts_of b)
+          (run (geometry_without_refresh ways buckets) (events k) m))
           (sym e.0.kind) same,
       stand_after ways buckets events (suc k) old new ms (λ n lane h. many (suc n) lane h) e.1 s.1,
     )
@@ -148,7 +150,7 @@ same_kinds R sizes k (a ∷ old) (b ∷ new) e = let s = sizes k a b e.0 in let 
     same_kinds R sizes (suc k) old new e.1 in rw (s.kind, rest) refl
 
 pub same_places : (R : ℕ → LaneView → LaneView → Type 0) → ((n : ℕ) (a b : LaneView) → R n a b → SameSizes a b)
-    → (k : ℕ) (old new : List LaneView) → EachFrom R k old new → places_of new ≡ places_of old
+    → (k : ℕ) (old new : List LaneView) → EachFrom R k old new → pipe_places new ≡ pipe_places old
 same_places R sizes k [] [] e = refl
 same_places R sizes k [] (b ∷ new) e = absurd e
 same_places R sizes k (a ∷ old) [] e = absurd e
@@ -176,12 +178,12 @@ swept_alike : EventsKeepAlike → BucketsEmptyByEvictions → (ways buckets k j 
     → ((n i : ℕ) → n ≡ k + i → slice_get all n ≡ slice_get lanes i)
     → ((n : ℕ) (lane : LaneView) → slice_get lanes n ≡ Some lane → length lane.cache.lists ≡ buckets) → EachFrom (λ n. StandsFor) k lanes ms
     → EachFrom (λ i m n. SameEpochs n (empty_buckets buckets m)) j ms
-    (after_events (geometry_of ways buckets) (upkeeps_at due.Sweep all) k ms)
+    (after_events (geometry_without_refresh ways buckets) (upkeeps_at due.Sweep all) k ms)
 swept_alike alike emptied ways buckets k j all [] [] same many s = tt
 swept_alike alike emptied ways buckets k j all [] (m ∷ ms) same many s = absurd s
 swept_alike alike emptied ways buckets k j all (lane ∷ lanes) [] same many s = absurd s
 swept_alike alike emptied ways buckets k j all (lane ∷ lanes) (m ∷ ms) same many s =
-    let g = geometry_of ways buckets in
+    let g = geometry_without_refresh ways buckets in
     let here : sweep_from 0 lane.cache lane.pipe ≡ upkeeps_at due.Sweep all k = ap (upkeep_at due.Sweep) (sym (same k 0 (omega arith))) in
     let led : SameEpochs (run g (sweep_from 0 lane.cache lane.pipe) m) (empty_buckets buckets m) =
     subst (λ n. SameEpochs (run g (sweep_from 0 lane.cache lane.pipe) m) (empty_buckets n m)) (many 0 lane refl)
@@ -202,7 +204,7 @@ pub pipeline_is_swept : EventsKeepAlike → BucketsEmptyByEvictions → (ways : 
     → PipelineMakes ways (upkeeps_at due.Sweep old.lanes) old new → AreKept due.Sweep new.lanes → PipelineIsSwept old new
 pipeline_is_swept alike emptied ways old new are made kept = record {
   stands = λ ms s. (
-    after_events (geometry_of ways old.buckets) (upkeeps_at due.Sweep old.lanes) 0 ms,
+    after_events (geometry_without_refresh ways old.buckets) (upkeeps_at due.Sweep old.lanes) 0 ms,
     made.stands ms s,
     swept_alike alike emptied ways old.buckets 0 0 old.lanes old.lanes ms
         (λ n i q. ap (slice_get old.lanes) (let e : n ≡ i = omega arith in e))

@@ -3,8 +3,8 @@ use Rattle.std.proofs.Common.{◌≡◌, ℕ, zero, suc, ◌-◌, ◌<◌, true,
 use Rattle.std.proofs.Common.{subst, arith}
 use Rattle.std.specs.Prelude.{Bool, slice_get}
 use Rattle.epoch_model.specs.Keys.{Key, key_eq}
-use Rattle.epoch_model.specs.Machine.{Epoch, is_open, rows_of, without}
-use Rattle.bucket_cache.specs.Buckets.{Pair, has_key, place_of, without_key}
+use Rattle.epoch_model.specs.Machine.{Epoch, is_open, rows_in_epochs, without}
+use Rattle.bucket_cache.specs.Buckets.{Pair, has_key, place_of_key, without_key}
 use Rattle.bucket_cache.specs.Caches.{Cache, entry_at}
 use Rattle.switch_core.specs.Lanes.{Standing, PairStands, PairsStand}
 
@@ -57,8 +57,8 @@ pairs_without stands cache key (p ∷ ps) (e ∷ es) s =
 
 -- the entry at the key's place represents the rows of the key's epoch
 pub place_stands : (stands : Standing) (cache : Cache) (key : Key) (place : ℕ) (pairs : List Pair) (epochs : List Epoch)
-    → PairsStand (PairStands stands cache) pairs epochs → place_of key pairs ≡ Some place
-    → stands (entry_at cache place) (rows_of key epochs)
+    → PairsStand (PairStands stands cache) pairs epochs → place_of_key key pairs ≡ Some place
+    → stands (entry_at cache place) (rows_in_epochs key epochs)
 place_stands stands cache key place [] epochs s h = cc
 place_stands stands cache key place (p ∷ ps) [] s h = absurd s
 place_stands stands cache key place (p ∷ ps) (e ∷ es) s h = by_test (key_eq p.key key)
@@ -66,7 +66,7 @@ place_stands stands cache key place (p ∷ ps) (e ∷ es) s h = by_test (key_eq 
     let here : Some p.place ≡ Some place = rw t at h in
     rw u (subst (λ n. stands (entry_at cache n) e.rows) (same p.place place here) s.0.1))
     (λ t. let u : key_eq e.key key ≡ false = ap (λ k. key_eq k key) (sym s.0.0) ∙ t in
-    let there : place_of key ps ≡ Some place = rw t at h in
+    let there : place_of_key key ps ≡ Some place = rw t at h in
     rw u (place_stands stands cache key place ps es s.1 there))
   where
     same : (x y : ℕ) → Some x ≡ Some y → x ≡ y

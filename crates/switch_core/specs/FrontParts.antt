@@ -1,6 +1,7 @@
 -- What contracts see of a front and of a lane, and how their parts fit together.
 use Rattle.std.specs.Prelude.{◌≡◌, ℕ, ◌+◌, ◌<◌, ◌≤◌, List, length}
 use Rattle.epoch_model.specs.Tables.{Folding}
+use Rattle.query_lang.specs.declared.fault.TheConstants.{MAX_KEYS}
 use Rattle.epoch_entry.specs.Kinds.{Sizes}
 use Rattle.bucket_cache.specs.Caches.{Cache}
 use Rattle.evict_pipe.specs.Pipes.{Pipe}
@@ -29,7 +30,7 @@ pub record IsFront (ways : ℕ) (sizes : Sizes) (cache : Cache) (pipe : Pipe) : 
   pub some_places : 0 < pipe.places
   pub entry : cache.entry_words ≡ sizes.entry
   pub record_words : pipe.record_words ≡ cache.key_words + cache.entry_words
-  pub few_key_words : cache.key_words ≤ 8
+  pub few_key_words : cache.key_words ≤ MAX_KEYS
 
 -- and so are those of the scratch words and of the initial state
 pub record AreFrontParts (ways : ℕ) (sizes : Sizes) (f : Folding) (cache : Cache) (pipe : Pipe)

@@ -6,6 +6,7 @@ use Rattle.epoch_model.specs.Epochs.{Geometry}
 use Rattle.epoch_model.specs.Machine.{Machine, Event, run, empty_machine}
 use Rattle.epoch_model.specs.Tables.{Folding, epochs_shown}
 use Rattle.epoch_model.specs.Driving.{event_of}
+use Rattle.query_lang.specs.declared.fault.TheConstants.{MAX_ARGS, MAX_KEYS}
 use Rattle.epoch_entry.specs.declared.purpose.Entries.{Entries}
 use Rattle.epoch_entry.specs.Foldings.{per_epoch}
 use Rattle.epoch_entry.specs.Kinds.{Sizes}
@@ -35,12 +36,12 @@ pub record IsLaneOf (entries : Entries) (buckets : ℕ) (cache : Cache) (sizes :
 -- room for the registers of the plan, for a key and for a row of arguments
 pub record HasRooms (plan : PlanParts) (registers key args : List ℕ) : Type 0 where
   pub for_row : length registers ≡ registers_of plan
-  pub for_key : length key ≡ 8
-  pub for_args : length args ≡ 16
+  pub for_key : length key ≡ MAX_KEYS
+  pub for_args : length args ≡ MAX_ARGS
 
 -- the geometry of caches with these numbers of ways and buckets
-abbrev pub geometry_of : ℕ → ℕ → Geometry
-geometry_of ways buckets = record { buckets = buckets; ways = ways; refresh = 0 }
+abbrev pub geometry_without_refresh : ℕ → ℕ → Geometry
+geometry_without_refresh ways buckets = record { buckets = buckets; ways = ways; refresh = 0 }
 
 -- one machine for each of the groupbys, without an epoch
 abbrev pub empty_machines : Geometry → List GroupPlan → List Machine

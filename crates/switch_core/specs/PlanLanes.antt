@@ -19,7 +19,7 @@ use Rattle.switch_core.specs.FrontParts.{LaneOf}
 use Rattle.switch_core.specs.Lanes.{LaneStands}
 use Rattle.switch_core.specs.LaneEvents.{Parts, parts, MakesAll}
 use Rattle.final_queries.specs.declared.table.Table.{Table}
-use Rattle.switch_core.specs.Pipelines.{IsLaneOf, HasRooms, after_events, geometry_of, heading_of, stored_table}
+use Rattle.switch_core.specs.Pipelines.{IsLaneOf, HasRooms, after_events, geometry_without_refresh, heading_of, stored_table}
 use Rattle.switch_core.specs.Closing.{held_in, is_drained}
 use Rattle.switch_core.specs.Costs.{evict_cost, merge_cost, sweep_cost}
 use Rattle.switch_core.specs.Rows.{AreFirst, Each, EachFrom}
@@ -55,8 +55,8 @@ stored_tables (group ∷ groups) (lane ∷ lanes) = stored_table (heading_of gro
 stored_tables _ _ = []
 
 -- the places of each lane's pipe
-abbrev pub places_of : List LaneView → List ℕ
-places_of lanes = map (λ lane. lane.pipe.places) lanes
+abbrev pub pipe_places : List LaneView → List ℕ
+pipe_places lanes = map (λ lane. lane.pipe.places) lanes
 
 -- every pipe has this many places
 abbrev pub HavePlaces : ℕ → List LaneView → Type 0
@@ -109,13 +109,13 @@ LanesMake ways events old new = EachFrom (λ n. LaneMakes ways (events n)) 0 old
 -- after them. A lane that has none is unchanged.
 pub record PipelineMakes (ways : ℕ) (events : ℕ → List Event) (old new : PipelineView) : Type 0 where
   pub stands : (machines : List Machine) → PipelineStands old machines
-      → PipelineStands new (after_events (geometry_of ways old.buckets) events 0 machines)
+      → PipelineStands new (after_events (geometry_without_refresh ways old.buckets) events 0 machines)
   pub others : (n : ℕ) → events n ≡ [] → slice_get new.lanes n ≡ slice_get old.lanes n
   pub kinds : map (λ lane. lane.kind) new.lanes ≡ map (λ lane. lane.kind) old.lanes
   pub plan : new.plan ≡ old.plan
   pub entries : new.entries ≡ old.entries
   pub buckets : new.buckets ≡ old.buckets
-  pub places : places_of new.lanes ≡ places_of old.lanes
+  pub places : pipe_places new.lanes ≡ pipe_places old.lanes
 
 -- the most steps that a packet takes at a lane, with the words of the key and of the arguments copied before
 abbrev pub lane_cost : ℕ → LaneView → ℕ

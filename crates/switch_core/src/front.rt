@@ -20,6 +20,7 @@ use bucket_cache::{BucketCache, Touch, bucket_of, uses_are_bounded};
 use epoch_entry::EpochKind;
 use evict_pipe::EvictPipe;
 use marple_base::Steps;
+use query_lang::MAX_KEYS;
 use std::alloc::{AllocError, Global};
 use std::marker::Model;
 use std::sync::ledger::Ledger;
@@ -67,7 +68,7 @@ impl<K: EpochKind, const WAYS: usize> Front<K, WAYS> {
         requires ways { 0 < WAYS }
         requires buckets { 0 < buckets }
         requires places { buckets * WAYS ≤ 65536 }
-        requires key { (0 < key_words) × (key_words ≤ 8) }
+        requires key { (0 < key_words) × (key_words ≤ MAX_KEYS) }
         requires entry { key_words + (K.sizes kind).entry ≤ 512 }
         requires pipe { (0 < pipe_records) × (pipe_records ≤ 65536) }
         ensures stands { IfOk result (λ front.

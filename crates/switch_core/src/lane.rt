@@ -24,7 +24,7 @@ use epoch_entry::{AnyEpochs, EpochKind};
 use evict_pipe::EvictPipe;
 use final_queries::{Table, TableKind};
 use marple_base::{Seq, Steps, Text};
-use query_lang::Class;
+use query_lang::{Class, MAX_KEYS};
 use stage_plan::Plan;
 use std::alloc::{AllocError, Global};
 use std::marker::Model;
@@ -100,7 +100,7 @@ impl<K: EpochKind, const WAYS: usize> Lane<K, WAYS> {
         requires ways { 0 < WAYS }
         requires buckets { 0 < buckets }
         requires places { buckets * WAYS ≤ 65536 }
-        requires key { (0 < key_words) × (key_words ≤ 8) }
+        requires key { (0 < key_words) × (key_words ≤ MAX_KEYS) }
         requires entry { key_words + (K.sizes kind).entry ≤ 512 }
         requires pipe { (0 < pipe_records) × (pipe_records ≤ 65536) }
         ensures stands { IfOk result (λ lane. LaneStands (K.stands lane.kind)

@@ -7,11 +7,12 @@ ghost use Rattle.epoch_model.specs.Machine.{empty_machine};
 ghost use Rattle.epoch_entry.specs.Programs.{program_in};
 ghost use Rattle.epoch_entry.specs.Purposes.{IsKindFor};
 ghost use Rattle.switch_core.specs.Rows.{Each};
-ghost use Rattle.switch_core.specs.Pipelines.{empty_machines, geometry_of};
+ghost use Rattle.switch_core.specs.Pipelines.{empty_machines, geometry_without_refresh};
 ghost use Rattle.switch_core.specs.PlanLanes.{AreLanesOf, HavePlaces, IsMadeFor, MergesWithin, StandsFor};
 
 use crate::lane::Lane;
 use epoch_entry::{AnyEpochs, Entries, EpochKind, entries_are_small, entries_suit_folds};
+use query_lang::MAX_KEYS;
 use stage_plan::{GroupPlan, Plan};
 use std::alloc::{AllocError, Global};
 
@@ -28,8 +29,8 @@ fn made_lane<const WAYS: usize>(
     requires places { buckets * WAYS ≤ 65536 }
     requires pipe { (0 < pipe_records) × (pipe_records ≤ 65536) }
     requires program { IsProgram group.now.program }
-    requires keys { (0 < length group.now.key_names) × (length group.now.key_names ≤ 8) }
-    ensures stands { IfOk result (λ lane. StandsFor lane (empty_machine (geometry_of WAYS buckets))) }
+    requires keys { (0 < length group.now.key_names) × (length group.now.key_names ≤ MAX_KEYS) }
+    ensures stands { IfOk result (λ lane. StandsFor lane (empty_machine (geometry_without_refresh WAYS buckets))) }
     ensures buckets { IfOk result (λ lane. length lane.cache.lists ≡ buckets) }
     ensures pipe_places { IfOk result (λ lane. lane.pipe.places ≡ pipe_records) }
     ensures keys { IfOk result (λ lane. lane.cache.key_words ≡ length group.now.key_names) }
@@ -60,7 +61,7 @@ pub fn made_lanes<const WAYS: usize>(
     ensures made { IfOk result (λ lanes. Each IsMadeFor lanes.items plan.now.groups) }
     ensures pipe_places { IfOk result (λ lanes. HavePlaces pipe_records lanes.items) }
     ensures stands { IfOk result (λ lanes. Each StandsFor lanes.items
-        (empty_machines (geometry_of WAYS buckets) plan.now.groups)) }
+        (empty_machines (geometry_without_refresh WAYS buckets) plan.now.groups)) }
 {
     entries_suit_folds();
     plan.invariant();

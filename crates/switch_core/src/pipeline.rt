@@ -14,7 +14,7 @@ ghost use Rattle.stage_plan.specs.declared.group.GroupPlan.{GroupPlan};
 ghost use Rattle.stage_plan.specs.Planned.{plan_bound};
 ghost use Rattle.switch_core.specs.Closing.{held_in};
 ghost use Rattle.switch_core.specs.Costs.{evict_cost};
-ghost use Rattle.switch_core.specs.Pipelines.{empty_machines, event_at, geometry_of, packet_events, tables_of};
+ghost use Rattle.switch_core.specs.Pipelines.{empty_machines, event_at, geometry_without_refresh, packet_events, tables_of};
 ghost use Rattle.switch_core.specs.PlanLanes.{AreKept, AreLanesOf, AtLane, HavePlaces, IsMadeFor, PipelineIsSwept, PipelineMakes};
 ghost use Rattle.switch_core.specs.PlanLanes.{PipelineStands, UpkeepBreaksOff, folding_at, lane_is_drained, lane_is_ready};
 ghost use Rattle.switch_core.specs.PlanLanes.{lane_merge_cost, lane_sweep_cost, lane_upkeep_cost, pipeline_cost, stored_tables, upkeeps_at};
@@ -31,6 +31,7 @@ use epoch_model::{buckets_empty_by_evictions, events_keep_alike};
 use final_queries::Table;
 use fold_class::depth_is_found;
 use marple_base::{Packet, Seq, Steps};
+use query_lang::{MAX_ARGS, MAX_KEYS};
 use stage_plan::Plan;
 use std::alloc::{AllocError, Global};
 use std::marker::Model;
@@ -95,7 +96,7 @@ impl<const WAYS: usize> Pipeline<WAYS> {
         requires buckets { 0 < buckets }
         requires places { buckets * WAYS ≤ 65536 }
         requires pipe { (0 < pipe_records) × (pipe_records ≤ 65536) }
-        ensures stands { IfOk result (λ p. PipelineStands p (empty_machines (geometry_of WAYS buckets) plan.groups)) }
+        ensures stands { IfOk result (λ p. PipelineStands p (empty_machines (geometry_without_refresh WAYS buckets) plan.groups)) }
         ensures plan { IfOk result (λ p. p.plan ≡ plan) }
         ensures entries { IfOk result (λ p. p.entries ≡ entries) }
         ensures buckets { IfOk result (λ p. p.buckets ≡ buckets) }
@@ -103,8 +104,8 @@ impl<const WAYS: usize> Pipeline<WAYS> {
     {
         let lanes = made_lanes(alloc, &plan, entries, buckets, pipe_records)?;
         let registers = vec![in alloc; 0; plan.registers()]?;
-        let key = vec![in alloc; 0; 8]?;
-        let args = vec![in alloc; 0; 16]?;
+        let key = vec![in alloc; 0; MAX_KEYS]?;
+        let args = vec![in alloc; 0; MAX_ARGS]?;
         Ok(Pipeline {
             alloc,
             plan,

@@ -17,6 +17,7 @@ use backing_store::{BackingStore, rows_held};
 use epoch_entry::{AnyEpochs, EpochKind};
 use final_queries::{Table, TableKind};
 use marple_base::{Seq, Text};
+use query_lang::MAX_KEYS;
 use stage_plan::{GroupPlan, Plan};
 use std::alloc::{AllocError, Global};
 
@@ -38,7 +39,7 @@ pub fn held_table(
     store: &BackingStore,
     row_per_epoch: bool,
 ) -> Result<Table, AllocError>
-    requires { length group.now.key_names ≤ 8 }
+    requires { length group.now.key_names ≤ MAX_KEYS }
     ensures stored { IfOk result (λ table. table ≡ stored_table (heading_of group.now) row_per_epoch store.now) }
     ensures held { IfOk result (λ table. (f : Folding) (epochs : List Epoch)
         → f.row_per_epoch ≡ row_per_epoch → StoreHolds f store.now epochs → table ≡ closed_table (heading_of group.now) f epochs) }

@@ -2,7 +2,7 @@
 use Rattle.std.proofs.Common.{◌≡◌, ℕ, length, ◌==◌, List, [], ◌∷◌, ◌++◌, Bool, true, false, refl, sym, ap, ◌∙◌, append_assoc, append-nil}
 use Rattle.std.proofs.Common.{inl, inr, arith}
 use Rattle.std.proofs.lemmas.Bool.Decides.{eqb_tells}
-use Rattle.table_printer.specs.TableText.{continued, joined}
+use Rattle.table_printer.specs.TableText.{cells_continued, cells_joined}
 use Rattle.table_printer.specs.Parts.{parts_from}
 
 pub no_parts : (begins : Bool) → parts_from begins [] ≡ []
@@ -12,8 +12,8 @@ no_parts false = refl
 -- one part, and then the others
 pub part_first : (begins : Bool) (part : List ℕ) (rest : List (List ℕ)) → parts_from begins (part ∷ rest) ≡ parts_from begins (part ∷ [])
     ++ parts_from false rest
-part_first true part rest = ap (λ p. p ++ continued rest) (sym (append-nil part))
-part_first false part rest = ap (λ p. p ++ continued rest) (sym (append-nil (44 ∷ part)))
+part_first true part rest = ap (λ p. p ++ cells_continued rest) (sym (append-nil part))
+part_first false part rest = ap (λ p. p ++ cells_continued rest) (sym (append-nil (44 ∷ part)))
 
 -- A part is written: what is still to be written after it makes the whole.
 pub written : (whole before after : List ℕ) (begins : Bool) (part : List ℕ) (left rest : List (List ℕ))
@@ -31,10 +31,10 @@ pub all_written : (whole before : List ℕ) (begins : Bool) (left : List (List �
 all_written whole before begins left none so_far =
     sym (append-nil before) ∙ ap (λ text. before ++ text) (sym (no_parts begins) ∙ ap (parts_from begins) (sym none)) ∙ so_far
 
-pub continued_append : (a b : List (List ℕ)) → continued (a ++ b) ≡ continued a ++ continued b
+pub continued_append : (a b : List (List ℕ)) → cells_continued (a ++ b) ≡ cells_continued a ++ cells_continued b
 continued_append [] b = refl
 continued_append (part ∷ a) b = ap (λ rest. (44 ∷ part) ++ rest) (continued_append a b)
-    ∙ sym (append_assoc (44 ∷ part) (continued a) (continued b))
+    ∙ sym (append_assoc (44 ∷ part) (cells_continued a) (cells_continued b))
 
 abbrev is_none : List (List ℕ) → Bool
 is_none [] = true
@@ -48,18 +48,20 @@ no_length (part ∷ parts) = elim (eqb_tells (length (part ∷ parts)) 0) [
 ]
 
 three : (keys middle others : List (List ℕ)) (part : List ℕ)
-    → joined ((keys ++ (part ∷ middle)) ++ others) ≡ (joined keys ++ parts_from (is_none keys) (part ∷ middle)) ++ continued others
+    → cells_joined ((keys ++ (part ∷ middle)) ++ others) ≡ (cells_joined keys ++ parts_from (is_none keys) (part ∷ middle))
+    ++ cells_continued others
 three [] middle others part = ap (λ rest. part ++ rest) (continued_append middle others)
-    ∙ sym (append_assoc part (continued middle) (continued others))
+    ∙ sym (append_assoc part (cells_continued middle) (cells_continued others))
 three (key ∷ keys) middle others part =
     ap (λ rest. key ++ rest) (continued_append (keys ++ (part ∷ middle)) others
-    ∙ ap (λ rest. rest ++ continued others) (continued_append keys (part ∷ middle)))
-    ∙ sym (append_assoc key (continued keys ++ continued (part ∷ middle)) (continued others))
-    ∙ ap (λ rest. rest ++ continued others) (sym (append_assoc key (continued keys) (continued (part ∷ middle))))
+    ∙ ap (λ rest. rest ++ cells_continued others) (continued_append keys (part ∷ middle)))
+    ∙ sym (append_assoc key (cells_continued keys ++ cells_continued (part ∷ middle)) (cells_continued others))
+    ∙ ap (λ rest. rest ++ cells_continued others) (sym (append_assoc key (cells_continued keys) (cells_continued (part ∷ middle))))
 
 -- keys, then a middle that begins the line where there is no key, and then the other parts
 pub joined_three : (keys middle others : List (List ℕ)) (part : List ℕ) (begins : Bool) → begins ≡ (length keys == 0)
-    → joined ((keys ++ (part ∷ middle)) ++ others) ≡ (joined keys ++ parts_from begins (part ∷ middle)) ++ continued others
+    → cells_joined ((keys ++ (part ∷ middle)) ++ others) ≡ (cells_joined keys ++ parts_from begins (part ∷ middle))
+    ++ cells_continued others
 joined_three keys middle others part begins empty =
-    three keys middle others part ∙ ap (λ first. (joined keys ++ parts_from first (part ∷ middle)) ++ continued others)
+    three keys middle others part ∙ ap (λ first. (cells_joined keys ++ parts_from first (part ∷ middle)) ++ cells_continued others)
     (sym (empty ∙ no_length keys))

@@ -11,16 +11,16 @@ use Rattle.final_queries.specs.declared.table.TableKind.{TableKind}
 use Rattle.final_queries.specs.declared.table.TableKind.TheVariants.{Group, Final}
 
 -- parts after another one, each with a comma before it
-abbrev pub continued : List (List ℕ) → List ℕ
-continued parts = flat_map (λ part. 44 ∷ part) parts
+abbrev pub cells_continued : List (List ℕ) → List ℕ
+cells_continued parts = flat_map (λ part. 44 ∷ part) parts
 
 -- the parts with a comma between each two
-abbrev pub joined : List (List ℕ) → List ℕ
-joined [] = []
-joined (part ∷ parts) = part ++ continued parts
+abbrev pub cells_joined : List (List ℕ) → List ℕ
+cells_joined [] = []
+cells_joined (part ∷ parts) = part ++ cells_continued parts
 
-abbrev pub line : List (List ℕ) → List ℕ
-line parts = joined parts ++ 10 ∷ []
+abbrev pub table_line : List (List ℕ) → List ℕ
+table_line parts = cells_joined parts ++ 10 ∷ []
 
 abbrev pub class_text : Class → List ℕ
 class_text Linear = codes "linear"
@@ -70,4 +70,5 @@ title table = codes "table " ++ table.name ++ (32 ∷ kind_text table.kind (leng
 -- the text of a table
 abbrev pub table_text : Table → List ℕ
 table_text table =
-    title table ++ line (heading table.kind table.keys table.columns) ++ flat_map (λ row. line (row_parts table.kind row)) table.rows
+    title table ++ table_line (heading table.kind table.keys table.columns)
+    ++ flat_map (λ row. table_line (row_parts table.kind row)) table.rows

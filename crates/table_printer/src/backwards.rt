@@ -1,7 +1,7 @@
 //! The text of a row, written into room from its last byte on, so that no number's length has to be known.
 ghost use Rattle.std.specs.Prelude.{◌≡◌, ◌+◌, ◌*◌, ◌≤◌, ◌++◌, ◌∷◌, [], length, decimal, drop};
 ghost use Rattle.table_rows.specs.LentRows.{row_of};
-ghost use Rattle.table_printer.specs.TableText.{continued, epoch_text, line, mark_text, numbers, row_parts};
+ghost use Rattle.table_printer.specs.TableText.{cells_continued, epoch_text, table_line, mark_text, numbers, row_parts};
 
 use crate::words::mark_word;
 use final_queries::{Mark, RowRef, TableKind};
@@ -18,7 +18,7 @@ pub const MOST_COLUMNS: usize = 40;
 fn word_before(room: &mut [u8], end: usize, word: u64) -> usize
     requires { (21 ≤ end) × (end ≤ length room.old) }
     ensures start { (result ≤ end) × (end ≤ result + 21) }
-    ensures written { drop result room.new ≡ continued (decimal word ∷ []) ++ drop end room.old }
+    ensures written { drop result room.new ≡ cells_continued (decimal word ∷ []) ++ drop end room.old }
     ensures len { length room.new ≡ length room.old }
 {
     let at = write_digits(word, room, end) - 1;
@@ -30,7 +30,7 @@ fn word_before(room: &mut [u8], end: usize, word: u64) -> usize
 fn words_before(room: &mut [u8], end: usize, words: &[u64]) -> usize
     requires { (21 * length words.now ≤ end) × (end ≤ length room.old) }
     ensures start { (result ≤ end) × (end ≤ result + 21 * length words.now) }
-    ensures written { drop result room.new ≡ continued (numbers words.now) ++ drop end room.old }
+    ensures written { drop result room.new ≡ cells_continued (numbers words.now) ++ drop end room.old }
     ensures len { length room.new ≡ length room.old }
 {
     let mut at = end;
@@ -45,7 +45,7 @@ fn words_before(room: &mut [u8], end: usize, words: &[u64]) -> usize
 fn part_before(room: &mut [u8], end: usize, part: &[u8]) -> usize
     requires { (length part.now + 1 ≤ end) × (end ≤ length room.old) }
     ensures start { result + (length part.now + 1) ≡ end }
-    ensures written { drop result room.new ≡ continued (part.now ∷ []) ++ drop end room.old }
+    ensures written { drop result room.new ≡ cells_continued (part.now ∷ []) ++ drop end room.old }
     ensures len { length room.new ≡ length room.old }
 {
     let at = end - part.len();
@@ -58,7 +58,7 @@ fn part_before(room: &mut [u8], end: usize, part: &[u8]) -> usize
 fn epoch_before(room: &mut [u8], end: usize, row: &RowRef) -> usize
     requires { (63 ≤ end) × (end ≤ length room.old) }
     ensures start { (result ≤ end) × (end ≤ result + 63) }
-    ensures written { drop result room.new ≡ continued (mark_text row.now.mark ∷ epoch_text row.now.mark row.now.epoch
+    ensures written { drop result room.new ≡ cells_continued (mark_text row.now.mark ∷ epoch_text row.now.mark row.now.epoch
         ∷ decimal row.now.epochs ∷ []) ++ drop end room.old }
     ensures len { length room.new ≡ length room.old }
 {
@@ -74,7 +74,7 @@ fn epoch_before(room: &mut [u8], end: usize, row: &RowRef) -> usize
 fn parts_before(room: &mut [u8], end: usize, kind: TableKind, row: &RowRef) -> usize
     requires { (21 * (length row.now.key.now + length row.now.values.now) + 63 ≤ end) × (end ≤ length room.old) }
     ensures start { result ≤ end }
-    ensures written { drop result room.new ≡ continued (row_parts kind (row_of row.now)) ++ drop end room.old }
+    ensures written { drop result room.new ≡ cells_continued (row_parts kind (row_of row.now)) ++ drop end room.old }
     ensures len { length room.new ≡ length room.old }
 {
     let values = words_before(room, end, row.values);
@@ -91,7 +91,7 @@ fn parts_before(room: &mut [u8], end: usize, kind: TableKind, row: &RowRef) -> u
 pub fn line_before(room: &mut [u8], kind: TableKind, row: &RowRef) -> usize
     requires { 21 * (length row.now.key.now + length row.now.values.now) + 64 ≤ length room.old }
     ensures start { result ≤ length room.new }
-    ensures written { drop result room.new ≡ line (row_parts kind (row_of row.now)) }
+    ensures written { drop result room.new ≡ table_line (row_parts kind (row_of row.now)) }
     ensures len { length room.new ≡ length room.old }
 {
     let last = room.len() - 1;

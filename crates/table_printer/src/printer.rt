@@ -3,7 +3,7 @@ ghost use Rattle.std.specs.Prelude.{◌≡◌, ◌≤◌, ◌++◌, ◌∷◌, [
 ghost use Rattle.marple_base.specs.Faults.{Rose};
 ghost use Rattle.marple_base.specs.Sink.{TakesFront};
 ghost use Rattle.table_rows.specs.LentRows.{row_of};
-ghost use Rattle.table_printer.specs.TableText.{joined, mark_text, epoch_text, numbers, line, group_parts, final_parts};
+ghost use Rattle.table_printer.specs.TableText.{cells_joined, mark_text, epoch_text, numbers, table_line, group_parts, final_parts};
 ghost use Rattle.table_printer.specs.TableText.{row_parts, heading, kind_text, title, table_text};
 ghost use Rattle.table_printer.specs.Parts.{parts_from};
 ghost use Rattle.marple_base.specs.Pieces.{TakesAllBut};
@@ -56,7 +56,7 @@ fn push_epoch_names(text: &mut TextBuffer, begins: bool) -> Result<(), AllocErro
 /// Writes the heading of a groupby's table.
 fn push_group_names(text: &mut TextBuffer, keys: &[Text], others: &[Text]) -> Result<(), AllocError>
     ensures { OnOk result (text.new
-        ≡ text.old ++ joined (keys.now ++ (codes "mark" ∷ codes "epoch" ∷ codes "epochs" ∷ []) ++ others.now)) }
+        ≡ text.old ++ cells_joined (keys.now ++ (codes "mark" ∷ codes "epoch" ∷ codes "epochs" ∷ []) ++ others.now)) }
 {
     push_names(text, true, keys)?;
     push_epoch_names(text, keys.is_empty())?;
@@ -67,7 +67,7 @@ fn push_group_names(text: &mut TextBuffer, keys: &[Text], others: &[Text]) -> Re
 /// Writes the names of the columns.
 fn push_heading(text: &mut TextBuffer, table: &Table) -> Result<(), AllocError>
     requires { table.now.keys ≤ length table.now.columns }
-    ensures { OnOk result (text.new ≡ text.old ++ line (heading table.now.kind table.now.keys table.now.columns)) }
+    ensures { OnOk result (text.new ≡ text.old ++ table_line (heading table.now.kind table.now.keys table.now.columns)) }
 {
     let columns = table.columns.as_slice();
     match table.kind {
@@ -97,7 +97,7 @@ fn push_epoch(text: &mut TextBuffer, begins: bool, row: &RowRef) -> Result<(), A
 
 // Writes a row part by part, however many it has.
 fn push_row(text: &mut TextBuffer, kind: TableKind, row: &RowRef) -> Result<(), AllocError>
-    ensures { OnOk result (text.new ≡ text.old ++ line (row_parts kind (row_of row.now))) }
+    ensures { OnOk result (text.new ≡ text.old ++ table_line (row_parts kind (row_of row.now))) }
 {
     push_words(text, true, row.key)?;
     let mut begins = row.key.is_empty();
@@ -117,7 +117,7 @@ fn push_line(
     room: &mut [u8],
 ) -> Result<(), AllocError>
     requires { length room.old ≡ 1024 }
-    ensures text { OnOk result (text.new ≡ text.old ++ line (row_parts kind (row_of row.now))) }
+    ensures text { OnOk result (text.new ≡ text.old ++ table_line (row_parts kind (row_of row.now))) }
     ensures room { length room.new ≡ 1024 }
 {
     if row.columns.len() > MOST_COLUMNS {
@@ -131,7 +131,7 @@ fn push_line(
 fn push_head(text: &mut TextBuffer, table: &Table) -> Result<(), AllocError>
     requires keys { table.now.keys ≤ length table.now.columns }
     ensures { OnOk result (text.new
-        ≡ text.old ++ title table.now ++ line (heading table.now.kind table.now.keys table.now.columns)) }
+        ≡ text.old ++ title table.now ++ table_line (heading table.now.kind table.now.keys table.now.columns)) }
 {
     push_title(text, table)?;
     push_heading(text, table)

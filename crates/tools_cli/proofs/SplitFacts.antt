@@ -19,7 +19,7 @@ use Rattle.query_lang.specs.declared.typed.TypedQuery.{TypedQuery}
 use Rattle.split_fields.specs.Splits.{may_split}
 use Rattle.stage_plan.specs.Fields.{reads_of}
 use Rattle.trace_pieces.specs.Faults.{trace_fault_of}
-use Rattle.trace_split.specs.Faults.{IfRefused}
+use Rattle.trace_split.specs.Faults.{IfSplitRefused}
 use Rattle.trace_split.specs.Holding.{TakeFronts, TakeTexts, Taken}
 use Rattle.trace_split.specs.Traces.{OneRose, fault_of_all, packets_of_all}
 use Rattle.trace_split.specs.declared.fault.SplitError.{SplitError}
@@ -118,7 +118,7 @@ module _ (query : Option (List ℕ)) (Bytes : List (List ℕ) → Type 0) (query
   -- traces that weren't split
   pub traces_end : (reads : FieldSet) (q : TypedQuery) (found : SplitError) → IfSome query (λ text. accepted text ≡ Ok q)
       → split_by q ≢ [] → reads ≡ reads_of q
-      → IfRefused found (λ fault. (traces : List (List ℕ)) → Bytes traces → fault_of_all traces reads ≡ Some (trace_fault_of fault))
+      → IfSplitRefused found (λ fault. (traces : List (List ℕ)) → Bytes traces → fault_of_all traces reads ≡ Some (trace_fault_of fault))
       → (found ≡ error.InputFault → OneRose traces_old traces_new)
       → (found ≡ error.OutputFault → Rose parts_old parts_new)
       → SplitEnds query Bytes query_old query_new traces_old traces_new parts_old parts_new (status_of_traces found)

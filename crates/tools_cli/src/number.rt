@@ -1,11 +1,11 @@
 //! Numbers as words spell them.
 
 ghost use Rattle.std.specs.Prelude.{◌≡◌, ◌^◌, ◌<◌, ◌≤◌, IfSome};
-ghost use Rattle.command_line.specs.Number.{number, number_within};
+ghost use Rattle.command_line.specs.Number.{number_read, number_within};
 
 // The number that 1 to 20 digits spell.
 fn number(text: &[u8]) -> Option<u128>
-    ensures { result ≡ number text.now }
+    ensures { result ≡ number_read text.now }
 {
     if text.is_empty() || text.len() > 20 {
         return None;

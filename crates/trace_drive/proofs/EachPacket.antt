@@ -8,7 +8,8 @@ use Rattle.marple_base.specs.declared.field.Field.{Field}
 use Rattle.marple_base.specs.declared.field.FieldSet.{FieldSet}
 use Rattle.marple_base.specs.declared.field.Packet.{Packet}
 use Rattle.trace_reader.specs.Reading.{records}
-use Rattle.trace_reader.specs.Traces.{Layout, Contents, each, with_first, columns_of, words_of, packet_with, packet_of, with_packet}
+use Rattle.trace_reader.specs.Traces.{Layout, Contents, each, with_first, columns_of_fields, words_in_columns, packet_with, packet_of}
+use Rattle.trace_reader.specs.Traces.{with_packet}
 use Rattle.trace_reader.specs.Traces.{contents_from, layout_with, layout_of, opening, rest_of, contents_with, contents, packets}
 use Rattle.trace_reader.specs.declared.fault.TheConstants.{MAX_RECORDS, MAX_TRACE}
 use Rattle.trace_reader.specs.declared.fault.TraceFault.{TraceFault}
@@ -43,21 +44,22 @@ zip_long (x ∷ xs) (y ∷ ys) e = ap (λ n. suc n) (zip_long xs ys (omega (arit
 
 -- a fact of each packet that has the words of some record, by the columns of some header
 abbrev pub HoldsOfRead : FieldSet → (Packet → Type 0) → Type 0
-HoldsOfRead reads P = (header fields : List (List ℕ)) (columns : List (Option ℕ)) (packet : Packet) → columns_of reads header ≡ Ok columns
-    → words_of columns fields ≡ Ok packet.words → P packet
+HoldsOfRead reads P = (header fields : List (List ℕ)) (columns : List (Option ℕ)) (packet : Packet)
+    → columns_of_fields reads header ≡ Ok columns
+    → words_in_columns columns fields ≡ Ok packet.words → P packet
 
 with_words : (n : ℕ) (words : Result (List ℕ) Field) (packet : Packet) → packet_with n words ≡ Ok packet → words ≡ Ok packet.words
 with_words n (Err field) packet e = absurd (not_ok _ packet e)
 with_words n (Ok ws) packet e = ap (λ p. Ok p.words) (same_ok (record { words = ws }) packet e)
 
 packet_words : (layout : Layout) (n : ℕ) (fields : List (List ℕ)) (packet : Packet) → packet_of layout n fields ≡ Ok packet
-    → words_of layout.columns fields ≡ Ok packet.words
+    → words_in_columns layout.columns fields ≡ Ok packet.words
 unfolding packet_of
 packet_words layout n fields packet e = by_test (nat_lt MAX_RECORDS n)
     (λ t. absurd (not_ok _ packet (rw t at e)))
     (λ t. by_test (not (length fields == layout.width))
     (λ s. absurd (not_ok _ packet (rw (t, s) at e)))
-    (λ s. with_words n (words_of layout.columns fields) packet (rw (t, s) at e)))
+    (λ s. with_words n (words_in_columns layout.columns fields) packet (rw (t, s) at e)))
 
 with_one : (P : Packet → Type 0) (one : Result Packet TraceFault) (more : Contents) → ((packet : Packet) → one ≡ Ok packet → P packet)
     → All P more.packets → All P (with_packet one more).packets
@@ -65,7 +67,7 @@ with_one P (Err found) more here rest = All-nil P
 with_one P (Ok packet) more here rest = All-cons P packet more.packets (here packet refl) rest
 
 contents_each : (P : Packet → Type 0) (reads : FieldSet) (header : List (List ℕ)) (layout : Layout) (n : ℕ) (left : List (List (List ℕ)))
-    → HoldsOfRead reads P → columns_of reads header ≡ Ok layout.columns → All P (contents_from layout n left).packets
+    → HoldsOfRead reads P → columns_of_fields reads header ≡ Ok layout.columns → All P (contents_from layout n left).packets
 unfolding contents_from
 contents_each P reads header layout n [] holds is = All-nil P
 contents_each P reads header layout n (fields ∷ left) holds is =
@@ -75,9 +77,9 @@ contents_each P reads header layout n (fields ∷ left) holds is =
 
 -- the columns of a layout are those of the header
 layout_columns : (left : List (List (List ℕ))) (reads : FieldSet) (layout : Layout) → layout_of left reads ≡ Ok layout
-    → (header : List (List ℕ)) × (columns_of reads header ≡ Ok layout.columns)
+    → (header : List (List ℕ)) × (columns_of_fields reads header ≡ Ok layout.columns)
 layout_columns [] reads layout e = absurd (not_ok _ layout e)
-layout_columns (header ∷ left) reads layout e = (header, by_columns (columns_of reads header) e)
+layout_columns (header ∷ left) reads layout e = (header, by_columns (columns_of_fields reads header) e)
   where
     by_columns : (columns : Result (List (Option ℕ)) TraceFault) → layout_with (length header) columns ≡ Ok layout
         → columns ≡ Ok layout.columns
@@ -85,7 +87,7 @@ layout_columns (header ∷ left) reads layout e = (header, by_columns (columns_o
     by_columns (Ok columns) e = ap (λ l. Ok l.columns) (same_ok (record { width = length header; columns = columns }) layout e)
 
 opening_columns : (text : List ℕ) (reads : FieldSet) (layout : Layout) → opening text reads ≡ Ok layout → (header : List (List ℕ))
-    × (columns_of reads header ≡ Ok layout.columns)
+    × (columns_of_fields reads header ≡ Ok layout.columns)
 unfolding opening
 opening_columns text reads layout e = by_test (nat_lt MAX_TRACE (length text))
     (λ t. absurd (not_ok _ layout (rw t at e)))
@@ -93,7 +95,7 @@ opening_columns text reads layout e = by_test (nat_lt MAX_TRACE (length text))
 
 with_layout : (P : Packet → Type 0) (reads : FieldSet) (found : Result Layout TraceFault) (left : List (List (List ℕ)))
     → HoldsOfRead reads P
-    → ((layout : Layout) → found ≡ Ok layout → (header : List (List ℕ)) × (columns_of reads header ≡ Ok layout.columns))
+    → ((layout : Layout) → found ≡ Ok layout → (header : List (List ℕ)) × (columns_of_fields reads header ≡ Ok layout.columns))
     → All P (contents_with found left).packets
 with_layout P reads (Err fault) left holds columns = All-nil P
 with_layout P reads (Ok layout) left holds columns = let header = columns layout refl in contents_each P reads header.0 layout 1 left holds

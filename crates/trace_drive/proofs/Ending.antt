@@ -18,7 +18,7 @@ use Rattle.stage_plan.specs.declared.group.GroupPlan.{GroupPlan}
 use Rattle.switch_core.specs.Closing.{held_in, is_drained}
 use Rattle.switch_core.specs.Lanes.{PairStands, PairsStand, RecordsStand, Standing}
 use Rattle.switch_core.specs.Pipelines.{IsLaneOf}
-use Rattle.switch_core.specs.PlanLanes.{AreKept, AreLanesOf, HavePlaces, LaneView, PipelineView, PipelineStands, StandsFor, places_of}
+use Rattle.switch_core.specs.PlanLanes.{AreKept, AreLanesOf, HavePlaces, LaneView, PipelineView, PipelineStands, StandsFor, pipe_places}
 use Rattle.switch_core.specs.Rows.{EachFrom}
 use Rattle.switch_core.specs.declared.upkeep.Upkeep.TheVariants as due
 use Rattle.trace_drive.specs.Drives.{end_machines, ends_from, uses_by}
@@ -129,13 +129,13 @@ lanes_long entries plan buckets lanes are =
     plan.groups are
 
 -- pipes whose places are kept have as many as before
-pub places_kept : (places : ℕ) (old new : List LaneView) → places_of new ≡ places_of old → HavePlaces places old → HavePlaces places new
+pub places_kept : (places : ℕ) (old new : List LaneView) → pipe_places new ≡ pipe_places old → HavePlaces places old → HavePlaces places new
 places_kept places old [] kept have = All-nil (λ (lane : LaneView). lane.pipe.places ≡ places)
 places_kept places [] (b ∷ new) kept have = absurd (cc)
 places_kept places (a ∷ old) (b ∷ new) kept have =
     let has_places : LaneView → Type 0 = λ lane. lane.pipe.places ≡ places in
     let same : b.pipe.places ≡ a.pipe.places = cc in
-    let rest : places_of new ≡ places_of old = cc in
+    let rest : pipe_places new ≡ pipe_places old = cc in
     All-cons has_places b new (same ∙ All-head has_places a old have) (places_kept places old new rest (All-tail has_places a old have))
 
 -- the pipeline of a plan, once all packets are taken, all lanes swept and all pipes empty

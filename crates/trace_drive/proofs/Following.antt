@@ -11,7 +11,7 @@ use Rattle.epoch_model.specs.Laws.{SameEpochs}
 use Rattle.epoch_model.specs.Machine.{Machine, Event, Packet, Evict, Merge, merge, run, empty_buckets, empty_machine}
 use Rattle.stage_plan.specs.Planned.{taken}
 use Rattle.stage_plan.specs.declared.group.GroupPlan.{GroupPlan}
-use Rattle.switch_core.specs.Pipelines.{after_events, empty_machines, geometry_of, packet_events}
+use Rattle.switch_core.specs.Pipelines.{after_events, empty_machines, geometry_without_refresh, packet_events}
 use Rattle.switch_core.specs.PlanLanes.{LaneView, PipelineView, PipelineMakes, PipelineIsSwept, PipelineStands, lane_is_ready, upkeep_at}
 use Rattle.switch_core.specs.PlanLanes.{upkeeps_at}
 use Rattle.switch_core.specs.declared.upkeep.Upkeep.{Upkeep}
@@ -59,12 +59,12 @@ events_alike g events after later h i [] a = tt
 events_alike g events after later h i (m ∷ machines) a = (h i m a.0, events_alike g events after later h (suc i) machines a.1)
 
 makes_follow : (ways : ℕ) (events : ℕ → List Event) (old new : PipelineView) (after later : ℕ → Machine) → PipelineMakes ways events old new
-    → ((i : ℕ) (m : Machine) → SameEpochs m (after i) → SameEpochs (run (geometry_of ways old.buckets) (events i) m) (later i))
+    → ((i : ℕ) (m : Machine) → SameEpochs m (after i) → SameEpochs (run (geometry_without_refresh ways old.buckets) (events i) m) (later i))
     → FollowsBy after old → FollowsBy later new
 makes_follow ways events old new after later made h f = record {
-  machines = after_events (geometry_of ways old.buckets) events 0 f.machines;
+  machines = after_events (geometry_without_refresh ways old.buckets) events 0 f.machines;
   stands = made.stands f.machines f.stands;
-  alike = events_alike (geometry_of ways old.buckets) events after later h 0 f.machines f.alike;
+  alike = events_alike (geometry_without_refresh ways old.buckets) events after later h 0 f.machines f.alike;
 }
 
 -- merges change no epoch
@@ -113,7 +113,7 @@ pub upkeep_follows : EventsKeepAlike → (ways : ℕ) (upkeep : Upkeep) (old new
     → PipelineMakes ways (upkeeps_at upkeep old.lanes) old new → FollowsBy after old → FollowsBy after new
 upkeep_follows alike ways upkeep old new after is made f =
     makes_follow ways (upkeeps_at upkeep old.lanes) old new after after made
-    (λ i m s. merges_alike alike (geometry_of ways old.buckets) (upkeeps_at upkeep old.lanes i) m (after i)
+    (λ i m s. merges_alike alike (geometry_without_refresh ways old.buckets) (upkeeps_at upkeep old.lanes i) m (after i)
     (upkeep_merges upkeep (slice_get old.lanes i) is) s) f
 
 -- events leave what is kept of a pipeline
@@ -142,9 +142,9 @@ packet_alike alike g (Some t) m n s = alike.on_packet g m n t.key t.row s
 
 pub packet_follows : EventsKeepAlike → (ways : ℕ) (words : List ℕ) (old new : PipelineView) (after : ℕ → Machine)
     → PipelineMakes ways (packet_events old.plan words) old new → FollowsBy after old
-    → FollowsBy (λ i. run (geometry_of ways old.buckets) (event_of (taken old.plan i words)) (after i)) new
+    → FollowsBy (λ i. run (geometry_without_refresh ways old.buckets) (event_of (taken old.plan i words)) (after i)) new
 packet_follows alike ways words old new after made f =
-    let g = geometry_of ways old.buckets in
+    let g = geometry_without_refresh ways old.buckets in
     makes_follow ways (packet_events old.plan words) old new after (λ i. run g (event_of (taken old.plan i words)) (after i)) made
     (λ i m s. packet_alike alike g (taken old.plan i words) m (after i) s) f
 
@@ -176,10 +176,11 @@ run_as g h (Some t) m b w =
 -- a packet, and a sweep where the clock is_due
 pub turn_as : (ways number : ℕ) (g : Geometry) (is_due : Bool) (buckets next : ℕ) (taking : Option Taken) (m : Machine) → g.ways ≡ ways
     → g.buckets ≡ buckets → next ≡ buckets → is_due ≡ is_refresh g.refresh number
-    → (if is_due then empty_buckets next (run (geometry_of ways buckets) (event_of taking) m) else run (geometry_of ways buckets)
+    → (if is_due then empty_buckets next (run (geometry_without_refresh ways buckets) (event_of taking) m) else run
+    (geometry_without_refresh ways buckets)
     (event_of taking) m) ≡ after_packet g number (event_of taking) m
 turn_as ways number g is_due buckets next taking m w b k s =
-    let same = run_as (geometry_of ways buckets) g taking m (sym b) (sym w) in
+    let same = run_as (geometry_without_refresh ways buckets) g taking m (sym b) (sym w) in
     ap (λ x. if is_due then empty_buckets next x else x) same
     ∙ (ap (λ n. if is_due then empty_buckets n (run g (event_of taking) m) else run g (event_of taking) m) (k ∙ sym b)
     ∙ ap (λ (t : Bool). if t then empty_buckets g.buckets (run g (event_of taking) m) else run g (event_of taking) m) s)
@@ -189,14 +190,15 @@ pub turn_leads : {X E : Type 0} (ways refresh : ℕ) (old new : PipelineView) (w
     (r : Result X E)
     → ((number : ℕ) → Counted number → is_due ≡ is_refresh refresh (suc number))
     → OnOk r ((after : ℕ → Machine) → FollowsBy after old → FollowsBy (λ i. if is_due then empty_buckets old.buckets
-    (run (geometry_of ways old.buckets) (event_of (taken old.plan i words)) (after i))
-    else run (geometry_of ways old.buckets) (event_of (taken old.plan i words)) (after i)) new)
+    (run (geometry_without_refresh ways old.buckets) (event_of (taken old.plan i words)) (after i))
+    else run (geometry_without_refresh ways old.buckets) (event_of (taken old.plan i words)) (after i)) new)
     → OnOk r ((number : ℕ) (after : ℕ → Machine) → Counted number → FollowsBy after old
     → FollowsBy (λ i. after_packet (record { buckets = old.buckets; ways = ways; refresh = refresh }) (suc number)
     (event_of (taken old.plan i words)) (after i)) new)
 turn_leads ways refresh old new words is_due Counted r told =
     let geometry : Geometry = record { buckets = old.buckets; ways = ways; refresh = refresh } in
-    let past = λ (after : ℕ → Machine) (i : ℕ). run (geometry_of ways old.buckets) (event_of (taken old.plan i words)) (after i) in
+    let past = λ (after : ℕ → Machine) (i : ℕ). run (geometry_without_refresh ways old.buckets) (event_of (taken old.plan i words))
+    (after i) in
     let swept = λ (after : ℕ → Machine) (i : ℕ). if is_due then empty_buckets old.buckets (past after i) else past after i in
     on_ok ((after : ℕ → Machine) → FollowsBy after old → FollowsBy (swept after) new)
     ((number : ℕ) (after : ℕ → Machine) → Counted number → FollowsBy after old

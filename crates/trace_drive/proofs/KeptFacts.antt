@@ -8,7 +8,8 @@ use Rattle.marple_base.specs.Field.{all_fields, has_field, number_of}
 use Rattle.marple_base.specs.declared.field.Field.{Field}
 use Rattle.marple_base.specs.declared.field.FieldSet.{FieldSet}
 use Rattle.marple_base.specs.declared.field.Packet.{Packet}
-use Rattle.trace_drive.specs.Kept.{fields_among, fields_in, kept_of, packet_in, word_in, written}
+use Rattle.marple_base.specs.declared.field.TheConstants.{FIELDS}
+use Rattle.trace_drive.specs.Kept.{fields_among, fields_kept, kept_of, packet_in, word_in, written}
 use Rattle.trace_drive.specs.KeptView.{packets_in}
 
 -- the fields have the numbers from n on
@@ -44,7 +45,7 @@ spread set h (f ∷ fs) n front at from =
     (λ word. spread set h fs (n + 1) (front ++ word ∷ []) (one_longer n front word at) from.1)
 
 -- of a packet whose words are kept, the fields that aren't kept are 0
-pub kept_is : (set : FieldSet) (packet : Packet) → packet_in (fields_in set) (map (word_in packet) (fields_in set)) ≡ kept_of set packet
+pub kept_is : (set : FieldSet) (packet : Packet) → packet_in (fields_kept set) (map (word_in packet) (fields_kept set)) ≡ kept_of set packet
 unfolding kept_of
 kept_is set packet = ap (λ words. let p : Packet = record { words = words } in p)
     (spread set (word_in packet) all_fields 0 [] refl all_from)
@@ -62,7 +63,7 @@ by_place m (f ∷ fs) n front (word ∷ rest) at from long =
     (append_assoc front (word ∷ []) rest) later)
 
 -- where a packet has a word for each field, the words that are kept are those of the fields beside them
-pub kept_words_are : (set : FieldSet) (packet : Packet) → length packet.words ≡ 14
+pub kept_words_are : (set : FieldSet) (packet : Packet) → length packet.words ≡ FIELDS
     → kept_of set packet ≡ record { words = map (λ p. if has_field set p.0 then p.1 else 0) (zip all_fields packet.words) }
 unfolding kept_of
 kept_words_are set packet long =
@@ -113,7 +114,7 @@ packets_more fields (suc count) words row long =
     let enough : width ≤ length words = omega arith in
     let rest : length (drop width words) ≡ count * width = omega (arith, length-drop width words) in
     let first : packet_in fields (words ++ row) ≡ packet_in fields words =
-    ap (λ ws. let p : Packet = record { words = ws } in p) (written_before fields words row (replicate 14 0) enough) in
+    ap (λ ws. let p : Packet = record { words = ws } in p) (written_before fields words row (replicate FIELDS 0) enough) in
     ap₂ (λ x xs. x ∷ xs) first
     (ap (packets_in fields (suc count)) (drop-append-le width words row enough) ∙ packets_more fields count (drop width words) row rest)
 
@@ -141,7 +142,7 @@ place_within (suc at) (suc count) width within = omega (
 )
 
 -- a packet more, with 0 in the fields that aren't kept
-pub kept_more : (set : FieldSet) (fields : List Field) (count : ℕ) (words : List ℕ) (packet : Packet) → fields ≡ fields_in set
+pub kept_more : (set : FieldSet) (fields : List Field) (count : ℕ) (words : List ℕ) (packet : Packet) → fields ≡ fields_kept set
     → length words ≡ count * length fields
     → packets_in fields (count + 1) (words ++ map (word_in packet) fields) ≡ packets_in fields count words ++ kept_of set packet ∷ []
 kept_more set fields count words packet all long =

@@ -5,7 +5,7 @@ use Rattle.marple_base.specs.Field.{all_fields, has_field}
 use Rattle.marple_base.specs.declared.field.Field.{Field}
 use Rattle.marple_base.specs.declared.field.FieldSet.{FieldSet}
 use Rattle.marple_base.specs.declared.field.Packet.{Packet}
-use Rattle.trace_reader.specs.Traces.{column_of, each, word_at}
+use Rattle.trace_reader.specs.Traces.{column_of_field, each, word_at}
 use Rattle.trace_reader.specs.declared.fault.TraceFault.{TraceFault}
 use Rattle.trace_drive.specs.Kept.{kept_of}
 use Rattle.trace_drive.specs.ReadPackets.{ReadPacketsAreKept}
@@ -27,12 +27,12 @@ unread false column fields f o word c w =
     is
 
 words_if : (reads : FieldSet) (header fields : List (List ℕ)) (fs : List Field) (columns : List (Option ℕ)) (words : List ℕ)
-    → each (column_of reads header) fs ≡ Ok columns
+    → each (column_of_field reads header) fs ≡ Ok columns
     → each (λ p. word_at fields p.0 p.1) (zip fs columns) ≡ Ok words → map (λ p. word_if reads p.0 p.1) (zip fs words) ≡ words
 unfolding each
 words_if reads header fields [] columns words c w = let none : [] ≡ words = cc in none
 words_if reads header fields (f ∷ fs) columns words c w =
-    let column = first_ok (column_of reads header f) (each (column_of reads header) fs) columns c in
+    let column = first_ok (column_of_field reads header f) (each (column_of_field reads header) fs) columns c in
     let given = rw column.4 at w in
     let word = first_ok (word_at fields f column.0) (each (λ p. word_at fields p.0 p.1) (zip fs column.1)) words given in
     let here = unread (has_field reads f) _ fields f column.0 word.0 column.2 word.2 in

@@ -17,9 +17,9 @@ use Rattle.query_lang.specs.Words.{AreWords, IsWord}
 use Rattle.trace_drive.proofs.EachPacket.{HoldsOfRead, each_packet}
 use Rattle.marple_base.specs.declared.field.FieldSet.{FieldSet}
 use Rattle.trace_drive.specs.ReadPackets.{ReadPacketsAreOfWords}
-use Rattle.trace_reader.specs.Numbers.{decimal_word, first_some, further_word, infinity_word, is_dot, number_in, octet_word, quad_of}
-use Rattle.trace_reader.specs.Numbers.{without_blanks, word_of}
-use Rattle.trace_reader.specs.Traces.{each, packets, text_at, with_first, word_at}
+use Rattle.trace_reader.specs.Numbers.{decimal_word, first_some, further_word, infinity_word, is_dot, number_below, octet_word, quad_of}
+use Rattle.trace_reader.specs.Numbers.{without_blanks, word_of_text}
+use Rattle.trace_reader.specs.Traces.{each, packets, field_text_at, with_first, word_at}
 
 -- numbers
 
@@ -31,7 +31,7 @@ last_of : (a b : Bool) → (a && b) ≡ true → b ≡ true
 last_of true b e = e
 last_of false b e = absurd cc
 
-below_limit : (most limit : ℕ) (text : List ℕ) → IfSome (number_in most limit text) (λ n. n < limit)
+below_limit : (most limit : ℕ) (text : List ℕ) → IfSome (number_below most limit text) (λ n. n < limit)
 below_limit most limit text =
     if_there (nat_lt 0 (length text) && nat_le (length text) most && list_all is_ascii_digit text && nat_lt (digits_value 10 text) limit)
     (digits_value 10 text) limit
@@ -89,7 +89,7 @@ further_small field.Tin text = tt
 further_small field.Tout text = infinity_small text
 further_small field.QSize text = tt
 
-field_small : (of : Field) (text : List ℕ) → IfSome (word_of of text) IsWord
+field_small : (of : Field) (text : List ℕ) → IfSome (word_of_text of text) IsWord
 field_small of text = first_there (decimal_word text) (further_word of text) (below_limit 20 (2 ^ 64) text) (further_small of text)
 
 -- packets
@@ -100,8 +100,8 @@ or_field (Some n) of h = h
 
 at_column : (fields : List (List ℕ)) (of : Field) (column : Option ℕ) → IfOk (word_at fields of column) IsWord
 at_column fields of None = omega arith
-at_column fields of (Some column) = or_field (word_of of (without_blanks (text_at fields column))) of
-    (field_small of (without_blanks (text_at fields column)))
+at_column fields of (Some column) = or_field (word_of_text of (without_blanks (field_text_at fields column))) of
+    (field_small of (without_blanks (field_text_at fields column)))
 
 first_ok : {A E : Type 0} (P : A → Type 0) (a : Result A E) (b : Result (List A) E) → IfOk a P → IfOk b (All P)
     → IfOk (with_first a b) (All P)

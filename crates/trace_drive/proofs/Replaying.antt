@@ -7,7 +7,7 @@ use Rattle.epoch_model.specs.Driving.{event_of}
 use Rattle.epoch_model.specs.Machine.{Machine, after_packets, empty_buckets, empty_machine}
 use Rattle.marple_base.specs.declared.field.Packet.{Packet}
 use Rattle.stage_plan.specs.Planned.{taken}
-use Rattle.switch_core.specs.Pipelines.{empty_machines, geometry_of}
+use Rattle.switch_core.specs.Pipelines.{empty_machines, geometry_without_refresh}
 use Rattle.switch_core.specs.PlanLanes.{AreKept, AreLanesOf, PipelineView, PipelineStands, lane_is_drained}
 use Rattle.switch_core.specs.declared.upkeep.Upkeep.TheVariants as due
 use Rattle.trace_drive.specs.Clocks.{HasCounted}
@@ -26,13 +26,14 @@ keeps_itself p = record { plan = refl; entries = refl; buckets = refl; lanes = r
 
 -- the machines of a pipeline that had no event yet
 pub start_way : EventsKeepAlike → PacketsFollowTheTrace → (ways : ℕ) (schedule : Schedule) (all : List Packet) (p : PipelineView)
-    → PipelineStands p (empty_machines (geometry_of ways p.buckets) p.plan.groups) → p.buckets ≡ schedule.buckets
+    → PipelineStands p (empty_machines (geometry_without_refresh ways p.buckets) p.plan.groups) → p.buckets ≡ schedule.buckets
     → FollowsBy (λ i. after_packets (geometry_for ways schedule) (uses_by p.plan i (words_of all)) 0) p
 start_way alike follow ways schedule all p stands buckets =
     let g = geometry_for ways schedule in
-    follows_as (λ (i : ℕ). empty_machine (geometry_of ways p.buckets)) (λ (i : ℕ). after_packets g (uses_by p.plan i (words_of all)) 0) p
-    (λ i. ap (λ n. empty_machine (geometry_of ways n)) buckets ∙ sym (follow.start g (uses_by p.plan i (words_of all))))
-    (start_follows alike (geometry_of ways p.buckets) p p.plan.groups stands)
+    follows_as (λ (i : ℕ). empty_machine (geometry_without_refresh ways p.buckets))
+    (λ (i : ℕ). after_packets g (uses_by p.plan i (words_of all)) 0) p
+    (λ i. ap (λ n. empty_machine (geometry_without_refresh ways n)) buckets ∙ sym (follow.start g (uses_by p.plan i (words_of all))))
+    (start_follows alike (geometry_without_refresh ways p.buckets) p p.plan.groups stands)
 
 -- one packet more, with its turn
 pub one_more : PacketsFollowTheTrace → TakenUsesAreInTrace → {ways : ℕ} (schedule : Schedule) (all : List Packet) (count : ℕ) (p : Packet)

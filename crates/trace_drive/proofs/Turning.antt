@@ -7,7 +7,7 @@ use Rattle.epoch_model.specs.Epochs.{Geometry}
 use Rattle.epoch_model.specs.Machine.{Machine, Event, empty_buckets, run, step}
 use Rattle.stage_plan.specs.Planned.{taken}
 use Rattle.stage_plan.specs.Sound.{PlanParts}
-use Rattle.switch_core.specs.Pipelines.{after_events, geometry_of, packet_events}
+use Rattle.switch_core.specs.Pipelines.{after_events, geometry_without_refresh, packet_events}
 use Rattle.switch_core.specs.PlanLanes.{LaneView, PipelineMakes, PipelineStands, PipelineView, upkeeps_at}
 use Rattle.switch_core.specs.declared.upkeep.Upkeep.TheVariants as due
 use Rattle.trace_drive.specs.Follows.{FollowsBy, Keeps}
@@ -43,9 +43,9 @@ pub makes_on : (ways : ℕ) (xs ys : ℕ → List Event) (a b c : PipelineView) 
     → PipelineMakes ways (λ n. xs n ++ ys n) a c
 makes_on ways xs ys a b c first next = record {
   stands = λ ms s.
-      let g = geometry_of ways a.buckets in
+      let g = geometry_without_refresh ways a.buckets in
       let later : PipelineStands c (after_events g ys 0 (after_events g xs 0 ms)) =
-      subst (λ n. PipelineStands c (after_events (geometry_of ways n) ys 0 (after_events g xs 0 ms))) first.buckets
+      subst (λ n. PipelineStands c (after_events (geometry_without_refresh ways n) ys 0 (after_events g xs 0 ms))) first.buckets
       (next.stands (after_events g xs 0 ms) (first.stands ms s)) in
       subst (PipelineStands c) (sym (after_both g xs ys 0 ms)) later;
   others = λ n none. next.others n (no_second (xs n) (ys n) none) ∙ first.others n (no_first (xs n) (ys n) none);
@@ -60,7 +60,7 @@ makes_on ways xs ys a b c first next = record {
 makes_as : (ways : ℕ) (xs ys : ℕ → List Event) (a b : PipelineView) → ((n : ℕ) → xs n ≡ ys n) → PipelineMakes ways xs a b
     → PipelineMakes ways ys a b
 makes_as ways xs ys a b same made = record {
-  stands = λ ms s. subst (PipelineStands b) (same_after (geometry_of ways a.buckets) 0 ms) (made.stands ms s);
+  stands = λ ms s. subst (PipelineStands b) (same_after (geometry_without_refresh ways a.buckets) 0 ms) (made.stands ms s);
   others = λ n none. made.others n (same n ∙ none);
   kinds = made.kinds;
   plan = made.plan;
@@ -111,7 +111,7 @@ lag_turn ways words old packed new took merged =
 -- no events
 pub makes_none : (ways : ℕ) (p : PipelineView) → PipelineMakes ways (λ n. []) p p
 makes_none ways p = record {
-  stands = λ ms s. subst (PipelineStands p) (sym (same (geometry_of ways p.buckets) 0 ms)) s;
+  stands = λ ms s. subst (PipelineStands p) (sym (same (geometry_without_refresh ways p.buckets) 0 ms)) s;
   others = λ n none. refl;
   kinds = refl;
   plan = refl;
@@ -126,7 +126,7 @@ makes_none ways p = record {
 
 -- the machines after a packet with these words
 abbrev pub past : ℕ → List ℕ → PipelineView → (ℕ → Machine) → ℕ → Machine
-past ways words old after i = run (geometry_of ways old.buckets) (event_of (taken old.plan i words)) (after i)
+past ways words old after i = run (geometry_without_refresh ways old.buckets) (event_of (taken old.plan i words)) (after i)
 
 -- what the packet of a turn, with the room before it, makes of a pipeline
 pub record IsPacked (ways : ℕ) (words : List ℕ) (old packed : PipelineView) : Type 0 where
@@ -143,9 +143,10 @@ packed_by alike ways words old roomy packed room took = record {
       (makes_keeps ways (packet_events roomy.plan words) roomy packed took);
   follows = λ after f.
       let led = packet_follows alike ways words roomy packed after took (upkeep_follows alike ways due.Room old roomy after tt room f) in
-      subst (λ (n : ℕ). FollowsBy (λ i. run (geometry_of ways n) (event_of (taken old.plan i words)) (after i)) packed) room.buckets
+      subst (λ (n : ℕ). FollowsBy (λ i. run (geometry_without_refresh ways n) (event_of (taken old.plan i words)) (after i)) packed)
+      room.buckets
       (subst (λ (plan : PlanParts). FollowsBy
-      (λ i. run (geometry_of ways roomy.buckets) (event_of (taken plan i words)) (after i)) packed) room.plan led);
+      (λ i. run (geometry_without_refresh ways roomy.buckets) (event_of (taken plan i words)) (after i)) packed) room.plan led);
 }
 
 -- a sweep after it

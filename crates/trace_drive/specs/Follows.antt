@@ -2,7 +2,7 @@
 use Rattle.std.specs.Prelude.{◌≡◌, ℕ, suc, List, [], ◌∷◌, length}
 use Rattle.epoch_model.specs.Laws.{SameEpochs}
 use Rattle.epoch_model.specs.Machine.{Machine}
-use Rattle.switch_core.specs.PlanLanes.{PipelineStands, PipelineView, places_of}
+use Rattle.switch_core.specs.PlanLanes.{PipelineStands, PipelineView, pipe_places}
 
 -- the machines have the epochs of those with the numbers from this one on
 abbrev pub AlikeFrom : (ℕ → Machine) → ℕ → List Machine → Type 0
@@ -21,4 +21,4 @@ pub record Keeps (old new : PipelineView) : Type 0 where
   pub entries : new.entries ≡ old.entries
   pub buckets : new.buckets ≡ old.buckets
   pub lanes : length new.lanes ≡ length old.lanes
-  pub places : places_of new.lanes ≡ places_of old.lanes
+  pub places : pipe_places new.lanes ≡ pipe_places old.lanes

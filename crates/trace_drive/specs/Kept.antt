@@ -4,6 +4,7 @@ use Rattle.marple_base.specs.Field.{all_fields, has_field, number_of}
 use Rattle.marple_base.specs.declared.field.Field.{Field}
 use Rattle.marple_base.specs.declared.field.FieldSet.{FieldSet}
 use Rattle.marple_base.specs.declared.field.Packet.{Packet}
+use Rattle.marple_base.specs.declared.field.TheConstants.{FIELDS}
 
 -- the fields that are kept, and the packets, which have 0 in all others
 pub record Kept : Type 0 where
@@ -15,8 +16,8 @@ unfoldable pub fields_among : List Field → FieldSet → List Field
 fields_among fields set = filter (has_field set) fields
 
 -- the fields of a set, in their order
-abbrev pub fields_in : FieldSet → List Field
-fields_in set = fields_among all_fields set
+abbrev pub fields_kept : FieldSet → List Field
+fields_kept set = fields_among all_fields set
 
 -- a field's word
 abbrev pub word_in : Packet → Field → ℕ
@@ -34,8 +35,8 @@ written (field ∷ fields) (word ∷ words) old = written fields words (set old 
 
 -- the packet in which these fields have these words, and all others 0
 abbrev pub packet_in : List Field → List ℕ → Packet
-packet_in fields words = record { words = written fields words (replicate 14 0) }
+packet_in fields words = record { words = written fields words (replicate FIELDS 0) }
 
 -- the number of words that the packets take
 abbrev pub kept_words : Kept → ℕ
-kept_words kept = length kept.packets * length (fields_in kept.fields)
+kept_words kept = length kept.packets * length (fields_kept kept.fields)

@@ -1,6 +1,6 @@
 -- How the fields of `KeptPackets` show its packets.
 use Rattle.std.specs.Prelude.{◌≡◌, ◌*◌, ℕ, zero, suc, List, [], ◌∷◌, drop, length}
-use Rattle.trace_drive.specs.Kept.{Kept, fields_in, packet_in}
+use Rattle.trace_drive.specs.Kept.{Kept, fields_kept, packet_in}
 use Rattle.trace_drive.specs.declared.kept.KeptPackets.TheInside.{Inside}
 use Rattle.marple_base.specs.declared.field.Field.{Field}
 use Rattle.marple_base.specs.declared.field.Packet.{Packet}
@@ -15,5 +15,5 @@ kept_in kept = record { fields = kept.of; packets = packets_in kept.fields.items
 
 -- the fields are those of the set, and each packet has a word for each of them
 pub record IsSound (kept : Inside) : Type 0 where
-  pub fields : kept.fields.items ≡ fields_in kept.of
+  pub fields : kept.fields.items ≡ fields_kept kept.of
   pub words : length kept.words.items ≡ kept.count * length kept.fields.items

@@ -12,12 +12,12 @@ use Rattle.trace_drive.specs.declared.schedule.Schedule.{Schedule}
 use Rattle.trace_reader.specs.declared.fault.TraceFault.{TraceFault}
 
 -- the pipeline, as it is after the packets that were taken
-abbrev pub pipeline_in : {ways : ℕ} → Replay ways → PipelineView
-pipeline_in replay = replay.pipeline
+abbrev pub replay_pipeline : {ways : ℕ} → Replay ways → PipelineView
+replay_pipeline replay = replay.pipeline
 
 -- the fault after the packets
-abbrev pub fault_in : {ways : ℕ} → Replay ways → Option TraceFault
-fault_in replay = fault_of replay.packets
+abbrev pub replay_fault : {ways : ℕ} → Replay ways → Option TraceFault
+replay_fault replay = fault_of replay.packets
 
 -- Of all packets of a trace this many were taken: the lanes are as far as the machines after them, the clocks have
 -- counted them, and the others are still to come.
@@ -44,12 +44,13 @@ Advances more old new = (schedule : Schedule) (all : List Packet) (count : ℕ) 
 -- The pipeline made the turns of this many more packets, and no other events.
 abbrev pub MakesTheirTurns : {ways : ℕ} → ℕ → Replay ways → Replay ways → Type 0
 MakesTheirTurns {ways} more old new = (schedule : Schedule) (all : List Packet) (count : ℕ) → IsUnderWay schedule all count old
-    → MakesTurns ways schedule.refresh schedule.lag (suc count) (words_of (take more (drop count all))) (pipeline_in old) (pipeline_in new)
+    → MakesTurns ways schedule.refresh schedule.lag (suc count) (words_of (take more (drop count all))) (replay_pipeline old)
+    (replay_pipeline new)
 
 -- The pipeline made the turns of all packets that were left, and no other events.
 abbrev pub MakesAllTurns : {ways : ℕ} → Replay ways → PipelineView → Type 0
 MakesAllTurns {ways} old new = (schedule : Schedule) (all : List Packet) (count : ℕ) → IsUnderWay schedule all count old
-    → MakesTurns ways schedule.refresh schedule.lag (suc count) (words_of (drop count all)) (pipeline_in old) new
+    → MakesTurns ways schedule.refresh schedule.lag (suc count) (words_of (drop count all)) (replay_pipeline old) new
 
 -- It made them, and then was drained.
 abbrev pub EndsInTurns : {ways : ℕ} → Replay ways → PipelineView → Type 0
@@ -58,7 +59,7 @@ EndsInTurns {ways} old new = (last : PipelineView) × MakesAllTurns old last × 
 -- Some first packets of a trace were taken, each with its turn, since the pipeline was this one.
 abbrev pub HasTaken : {ways : ℕ} → Schedule → List Packet → PipelineView → Replay ways → Type 0
 HasTaken {ways} schedule all first replay = (count : ℕ) × IsUnderWay schedule all count replay
-    × MakesTurns ways schedule.refresh schedule.lag 1 (words_of (take count all)) first (pipeline_in replay)
+    × MakesTurns ways schedule.refresh schedule.lag 1 (words_of (take count all)) first (replay_pipeline replay)
 
 -- All packets that were left were taken, which were fewer than this number.
 abbrev pub TakesTheRest : {ways : ℕ} → ℕ → Replay ways → Replay ways → Type 0

@@ -2,9 +2,9 @@
 
 ghost use Rattle.std.specs.Prelude.{◌≡◌, [], ◌∷◌, ◌++◌, ◌+◌, ◌*◌, ◌<◌, ◌≤◌, IfOk, OnErr, OnOk, Some, drop, length, map, slice_get};
 ghost use Rattle.std.specs.Prelude.{vec_capacity, vec_len};
-ghost use Rattle.trace_drive.specs.Kept.{fields_in, kept_of, kept_words, packet_in, word_in};
+ghost use Rattle.trace_drive.specs.Kept.{fields_kept, kept_of, kept_words, packet_in, word_in};
 
-use marple_base::{Field, FieldSet, Packet};
+use marple_base::{FIELDS, Field, FieldSet, Packet};
 use std::alloc::{AllocError, Global};
 use std::marker::Model;
 use trace_reader::MAX_RECORDS;
@@ -46,7 +46,7 @@ impl Model for KeptPackets {
 
 // The fields of a set.
 fn fields_of(alloc: Global, set: FieldSet) -> Result<Vec<Field>, AllocError>
-    ensures { IfOk result (λ fields. fields.items ≡ fields_in set) }
+    ensures { IfOk result (λ fields. fields.items ≡ fields_kept set) }
 {
     let mut fields = Vec::new(alloc);
     for field in Field::ALL {
@@ -95,7 +95,7 @@ fn row_into(row: &[u64], fields: &[Field], packet: &mut Packet)
     requires { length fields.now ≤ length row.now }
     ensures { packet.new ≡ packet_in fields.now row.now }
 {
-    packet.words = [0; 14];
+    packet.words = [0; FIELDS];
     for (place, field) in fields.iter().enumerate() {
         packet.words[field.number()] = row[place];
     }

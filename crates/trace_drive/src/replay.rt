@@ -3,12 +3,12 @@
 ghost use Rattle.std.specs.Prelude.{◌≡◌, ◌≤◌, ℕ, None, Some, IfErr, IfOk, OnOk, false, true};
 ghost use Rattle.std.specs.List.{list_all};
 ghost use Rattle.epoch_model.specs.Machine.{Machine, empty_buckets};
-ghost use Rattle.switch_core.specs.Pipelines.{empty_machines, geometry_of};
+ghost use Rattle.switch_core.specs.Pipelines.{empty_machines, geometry_without_refresh};
 ghost use Rattle.switch_core.specs.PlanLanes.{AreKept, HavePlaces, PipelineStands, lane_is_drained};
 ghost use Rattle.trace_drive.specs.Drives.{coming, end_machines, fault_of, geometry_for, words_of};
 ghost use Rattle.trace_drive.specs.Follows.{FollowsBy, Keeps};
 ghost use Rattle.trace_drive.specs.Replays.{Advances, EndsInTurns, IsOnItsWay, IsUnderWay, MakesAllTurns, MakesTheirTurns};
-ghost use Rattle.trace_drive.specs.Replays.{ReachesTheEnd, TakesTheRest, fault_in, pipeline_in};
+ghost use Rattle.trace_drive.specs.Replays.{ReachesTheEnd, TakesTheRest, replay_fault, replay_pipeline};
 ghost use Rattle.trace_drive.specs.Turns.{Drains, RunsInTurns};
 ghost use Rattle.trace_reader.specs.Faults.{IfRefused};
 
@@ -19,7 +19,7 @@ use crate::turn::turn;
 use epoch_model::{
     events_keep_alike, packets_follow_the_trace, sweeps_reach_the_end, taken_uses_are_in_trace,
 };
-use marple_base::{Packet, Steps};
+use marple_base::{FIELDS, Packet, Steps};
 use std::alloc::AllocError;
 use std::sync::ledger::Ledger;
 use switch_core::{Pipeline, Upkeep};
@@ -59,11 +59,11 @@ impl<'a, const WAYS: usize> Replay<'a, WAYS> {
         schedule: Schedule,
         packets: Packets<'a>,
     ) -> Replay<'a, WAYS>
-        requires fresh { PipelineStands pipeline (empty_machines (geometry_of WAYS pipeline.buckets) pipeline.plan.groups) }
+        requires fresh { PipelineStands pipeline (empty_machines (geometry_without_refresh WAYS pipeline.buckets) pipeline.plan.groups) }
         requires buckets { pipeline.buckets ≡ schedule.buckets }
         ensures under_way { IsUnderWay schedule (coming packets.entry) 0 result }
-        ensures fault { fault_in result ≡ fault_of packets.entry }
-        ensures pipeline { pipeline_in result ≡ pipeline.entry }
+        ensures fault { replay_fault result ≡ fault_of packets.entry }
+        ensures pipeline { replay_pipeline result ≡ pipeline.entry }
     {
         events_keep_alike();
         packets_follow_the_trace();
@@ -79,7 +79,7 @@ impl<'a, const WAYS: usize> Replay<'a, WAYS> {
 
     /// The pipeline, as it is after the packets that were taken.
     pub fn pipeline(&self) -> &Pipeline<WAYS>
-        ensures { result.now ≡ pipeline_in self.now }
+        ensures { result.now ≡ replay_pipeline self.now }
     {
         &self.pipeline
     }
@@ -95,11 +95,11 @@ impl<'a, const WAYS: usize> Replay<'a, WAYS> {
         ensures next { result ≡ Ok true → Advances 1 self.old self.new }
         ensures turn { result ≡ Ok true → MakesTheirTurns 1 self.old self.new }
         ensures end { result ≡ Ok false → TakesTheRest 1 self.old self.new }
-        ensures still { result ≡ Ok false → pipeline_in self.new ≡ pipeline_in self.old }
-        ensures accepted { result ≡ Ok false → fault_in self.old ≡ None }
-        ensures fault { OnOk result (fault_in self.new ≡ fault_in self.old) }
-        ensures keeps { OnOk result (Keeps (pipeline_in self.old) (pipeline_in self.new)) }
-        ensures refused { IfErr result (λ answer. IfRefused answer (λ fault. fault_in self.old ≡ Some fault)) }
+        ensures still { result ≡ Ok false → replay_pipeline self.new ≡ replay_pipeline self.old }
+        ensures accepted { result ≡ Ok false → replay_fault self.old ≡ None }
+        ensures fault { OnOk result (replay_fault self.new ≡ replay_fault self.old) }
+        ensures keeps { OnOk result (Keeps (replay_pipeline self.old) (replay_pipeline self.new)) }
+        ensures refused { IfErr result (λ answer. IfRefused answer (λ fault. replay_fault self.old ≡ Some fault)) }
         ensures steps { steps.old ≤ steps.new }
     {
         packets_follow_the_trace();
@@ -132,14 +132,14 @@ impl<'a, const WAYS: usize> Replay<'a, WAYS> {
         ensures all { result ≡ Ok true → Advances most self.old self.new }
         ensures turns { result ≡ Ok true → MakesTheirTurns most self.old self.new }
         ensures end { result ≡ Ok false → TakesTheRest most self.old self.new }
-        ensures all_turns { result ≡ Ok false → MakesAllTurns self.old (pipeline_in self.new) }
-        ensures accepted { result ≡ Ok false → fault_in self.old ≡ None }
-        ensures fault { OnOk result (fault_in self.new ≡ fault_in self.old) }
-        ensures keeps { OnOk result (Keeps (pipeline_in self.old) (pipeline_in self.new)) }
-        ensures refused { IfErr result (λ answer. IfRefused answer (λ fault. fault_in self.old ≡ Some fault)) }
+        ensures all_turns { result ≡ Ok false → MakesAllTurns self.old (replay_pipeline self.new) }
+        ensures accepted { result ≡ Ok false → replay_fault self.old ≡ None }
+        ensures fault { OnOk result (replay_fault self.new ≡ replay_fault self.old) }
+        ensures keeps { OnOk result (Keeps (replay_pipeline self.old) (replay_pipeline self.new)) }
+        ensures refused { IfErr result (λ answer. IfRefused answer (λ fault. replay_fault self.old ≡ Some fault)) }
         ensures steps { steps.old ≤ steps.new }
     {
-        let mut packet = Packet { words: [0; 14] };
+        let mut packet = Packet { words: [0; FIELDS] };
         'packets: for _taken in 0..most {
             if !self.step(&mut packet, steps)? {
                 return Ok(false);
@@ -152,19 +152,19 @@ impl<'a, const WAYS: usize> Replay<'a, WAYS> {
     /// empty: the pipeline at the trace's end.
     pub fn finish<L: Ledger>(mut self, steps: &mut Steps<L>) -> Result<Pipeline<WAYS>, TraceAnswer>
         requires { IsOnItsWay self }
-        ensures accepted { IfOk result (λ pipeline. fault_in self.entry ≡ None) }
+        ensures accepted { IfOk result (λ pipeline. replay_fault self.entry ≡ None) }
         ensures machines { IfOk result (ReachesTheEnd self.entry) }
         ensures turns { IfOk result (EndsInTurns self.entry) }
         ensures drained { IfOk result (λ pipeline. list_all lane_is_drained pipeline.lanes ≡ true) }
-        ensures keeps { IfOk result (Keeps (pipeline_in self.entry)) }
-        ensures pipe_places { IfOk result (λ pipeline. (places : ℕ) → HavePlaces places (pipeline_in self.entry).lanes
+        ensures keeps { IfOk result (Keeps (replay_pipeline self.entry)) }
+        ensures pipe_places { IfOk result (λ pipeline. (places : ℕ) → HavePlaces places (replay_pipeline self.entry).lanes
             → HavePlaces places pipeline.lanes) }
-        ensures refused { IfErr result (λ answer. IfRefused answer (λ fault. fault_in self.entry ≡ Some fault)) }
+        ensures refused { IfErr result (λ answer. IfRefused answer (λ fault. replay_fault self.entry ≡ Some fault)) }
         ensures steps { steps.old ≤ steps.new }
     {
         events_keep_alike();
         sweeps_reach_the_end();
-        let mut packet = Packet { words: [0; 14] };
+        let mut packet = Packet { words: [0; FIELDS] };
         'packets: while self.step(&mut packet, steps)? {}
         let Replay { mut pipeline, .. } = self;
         match drain(&mut pipeline, steps) {
@@ -185,7 +185,7 @@ pub fn drive<const WAYS: usize, L: Ledger>(
     packets: Packets<'_>,
     steps: &mut Steps<L>,
 ) -> Result<Pipeline<WAYS>, TraceAnswer>
-    requires fresh { PipelineStands pipeline (empty_machines (geometry_of WAYS pipeline.buckets) pipeline.plan.groups) }
+    requires fresh { PipelineStands pipeline (empty_machines (geometry_without_refresh WAYS pipeline.buckets) pipeline.plan.groups) }
     requires buckets { pipeline.buckets ≡ schedule.buckets }
     ensures accepted { IfOk result (λ found. fault_of packets.entry ≡ None) }
     ensures machines { IfOk result

@@ -6,9 +6,9 @@ use Rattle.marple_base.specs.declared.field.Field.{Field}
 use Rattle.marple_base.specs.declared.field.FieldSet.{FieldSet}
 use Rattle.marple_base.specs.declared.field.Packet.{Packet}
 use Rattle.trace_reader.specs.Reading.{records}
-use Rattle.trace_reader.specs.Traces.{Contents, Layout, columns_of, contents, contents_from, contents_with, layout_of, layout_with}
+use Rattle.trace_reader.specs.Traces.{Contents, Layout, columns_of_fields, contents, contents_from, contents_with, layout_of, layout_with}
 use Rattle.trace_reader.specs.Traces.{opening, packet_of, packet_with, rest_of, with_packet}
-use Rattle.trace_reader.specs.Traces.{words_of}
+use Rattle.trace_reader.specs.Traces.{words_in_columns}
 use Rattle.trace_reader.specs.declared.fault.TheConstants.{MAX_RECORDS, MAX_TRACE}
 use Rattle.trace_reader.specs.declared.fault.TraceFault.{TraceFault}
 use Rattle.trace_reader.specs.declared.fault.TraceFault.TheVariants as fault
@@ -108,10 +108,10 @@ contents_shift layout k n (fields ∷ a) =
     words (Ok ws) c = refl
 
     wide : (b : Bool) (c : Contents)
-        → with_packet (cond b (Err (fault.FieldCount (k + n))) (packet_with (k + n) (words_of layout.columns fields))) (shifted k c)
-        ≡ shifted k (with_packet (cond b (Err (fault.FieldCount n)) (packet_with n (words_of layout.columns fields))) c)
+        → with_packet (cond b (Err (fault.FieldCount (k + n))) (packet_with (k + n) (words_in_columns layout.columns fields))) (shifted k c)
+        ≡ shifted k (with_packet (cond b (Err (fault.FieldCount n)) (packet_with n (words_in_columns layout.columns fields))) c)
     wide true c = refl
-    wide false c = words (words_of layout.columns fields) c
+    wide false c = words (words_in_columns layout.columns fields) c
 
 -- as many packets as records, where there is no fault
 contents_length : (layout : Layout) (n : ℕ) (a : List (List (List ℕ))) → (contents_of layout n a).fault ≡ None
@@ -134,7 +134,7 @@ after sent c = record { packets = sent ++ c.packets; fault = option_map (after_r
 
 -- the contents of a text after its header, by what the header gives
 abbrev laid : List (List ℕ) → FieldSet → Result Layout TraceFault
-laid header reads = layout_with (length header) (columns_of reads header)
+laid header reads = layout_with (length header) (columns_of_fields reads header)
 
 head_contents : (h more : List ℕ) (reads : FieldSet) (head : IsHead h)
     → all_contents (h ++ more) reads ≡ contents_by (laid head.header reads) (rows more)

@@ -3,14 +3,14 @@ use Rattle.std.specs.Prelude.{ℕ, ◌+◌, ◌==◌, not, if◌then◌else◌, 
 use Rattle.marple_base.specs.declared.field.FieldSet.{FieldSet}
 use Rattle.marple_base.specs.declared.field.Packet.{Packet}
 use Rattle.trace_reader.specs.Reading.{records}
-use Rattle.trace_reader.specs.Traces.{Contents, Layout, layout_of, packet_with, rest_of, with_packet, words_of}
+use Rattle.trace_reader.specs.Traces.{Contents, Layout, layout_of, packet_with, rest_of, with_packet, words_in_columns}
 use Rattle.trace_reader.specs.declared.fault.TraceFault.{TraceFault}
 use Rattle.trace_reader.specs.declared.fault.TraceFault.TheVariants as fault
 
 -- the packet of data record n, or its first fault
 unfoldable pub record_packet : Layout → ℕ → List (List ℕ) → Result Packet TraceFault
 record_packet layout n fields =
-    if not (length fields == layout.width) then Err (fault.FieldCount n) else packet_with n (words_of layout.columns fields)
+    if not (length fields == layout.width) then Err (fault.FieldCount n) else packet_with n (words_in_columns layout.columns fields)
 
 -- what data records from number n on contain
 unfoldable pub contents_of : Layout → ℕ → List (List (List ℕ)) → Contents

@@ -13,7 +13,7 @@ use Rattle.csv.specs.declared.parser.State.TheVariants as st
 use Rattle.csv.specs.declared.parser.Terminator.TheVariants as term
 use Rattle.trace_reader.specs.Plain.{IsEnd, IsField, IsInside, IsRecord, ends_field, ends_line, fields_at, part_of}
 use Rattle.trace_reader.specs.Reading.{records_after}
-use Rattle.trace_reader.specs.Traces.{text_at}
+use Rattle.trace_reader.specs.Traces.{field_text_at}
 use Rattle.trace_reader.specs.declared.plain.Span.{Span}
 use Rattle.trace_reader.proofs.ReadingFacts.{after_end_between}
 use Rattle.trace_reader.proofs.RowFacts.{does, from_between, rows_are, rows_from, same_step}
@@ -204,7 +204,7 @@ none_yet text from start spans none within line same =
 
 -- the field at a column
 pub at_column : (text : List ℕ) (spans : List Span) (column : ℕ) (d : Span) → column < length spans
-    → text_at (fields_at text spans) column ≡ part_of text (get_or spans column d)
+    → field_text_at (fields_at text spans) column ≡ part_of text (get_or spans column d)
 unfolding field_at
 at_column text [] column d within = absurd (omega arith)
 at_column text (span ∷ spans) zero d within = refl

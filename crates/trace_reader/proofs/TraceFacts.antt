@@ -6,7 +6,7 @@ use Rattle.std.proofs.lemmas.Bool.Decides.{nat_tests}
 use Rattle.marple_base.specs.declared.field.Packet.{Packet}
 use Rattle.marple_base.specs.declared.field.FieldSet.{FieldSet}
 use Rattle.trace_reader.specs.Reading.{records}
-use Rattle.trace_reader.specs.Traces.{Contents, Layout, columns_of, contents, contents_from, contents_with, layout_of, layout_with}
+use Rattle.trace_reader.specs.Traces.{Contents, Layout, columns_of_fields, contents, contents_from, contents_with, layout_of, layout_with}
 use Rattle.trace_reader.specs.Traces.{opening, packet_of, rest_of, trace_fault}
 use Rattle.trace_reader.specs.TraceView.{upcoming_by}
 use Rattle.trace_reader.specs.Upcoming.{Gives, IsAtEnd, IsAtFault, Upcoming, upcoming_of}
@@ -68,18 +68,18 @@ pub opening_empty : (text : List ℕ) (reads : FieldSet) → length text ≤ MAX
 opening_empty text reads short none = opening_short text reads short ∙ ap (λ rows. layout_of rows reads) none
 
 pub opening_bad : (text : List ℕ) (reads : FieldSet) (header : List (List ℕ)) (rest : List (List (List ℕ))) (found : TraceFault)
-    → length text ≤ MAX_TRACE → records text ≡ header ∷ rest → Err found ≡ columns_of reads header → opening text reads ≡ Err found
+    → length text ≤ MAX_TRACE → records text ≡ header ∷ rest → Err found ≡ columns_of_fields reads header → opening text reads ≡ Err found
 opening_bad text reads header rest found short all bad = opening_short text reads short ∙ ap (λ rows. layout_of rows reads) all
     ∙ ap (layout_with (length header)) (sym bad)
 
 pub opening_good : (text : List ℕ) (reads : FieldSet) (header : List (List ℕ)) (rest : List (List (List ℕ))) (columns : List (Option ℕ))
-    → length text ≤ MAX_TRACE → records text ≡ header ∷ rest → Ok columns ≡ columns_of reads header
+    → length text ≤ MAX_TRACE → records text ≡ header ∷ rest → Ok columns ≡ columns_of_fields reads header
     → opening text reads ≡ Ok (record { width = length header; columns = columns })
 opening_good text reads header rest columns short all good = opening_short text reads short ∙ ap (λ rows. layout_of rows reads) all
     ∙ ap (layout_with (length header)) (sym good)
 
 pub contents_good : (text : List ℕ) (reads : FieldSet) (header : List (List ℕ)) (rest : List (List (List ℕ))) (columns : List (Option ℕ))
-    → length text ≤ MAX_TRACE → records text ≡ header ∷ rest → Ok columns ≡ columns_of reads header
+    → length text ≤ MAX_TRACE → records text ≡ header ∷ rest → Ok columns ≡ columns_of_fields reads header
     → contents text reads ≡ contents_from (record { width = length header; columns = columns }) 1 rest
 unfolding contents
 contents_good text reads header rest columns short all good = rw (opening_good text reads header rest columns short all good, all) refl
@@ -90,7 +90,7 @@ seen rest = record { packets = rest.packets; fault = rest.fault; stopped = None 
 
 pub upcoming_good : (text : List ℕ) (reads : FieldSet) (header : List (List ℕ)) (rest : List (List (List ℕ))) (columns : List (Option ℕ))
     (width : ℕ)
-    → length text ≤ MAX_TRACE → records text ≡ header ∷ rest → Ok columns ≡ columns_of reads header → width ≡ length header
+    → length text ≤ MAX_TRACE → records text ≡ header ∷ rest → Ok columns ≡ columns_of_fields reads header → width ≡ length header
     → upcoming_by progress.Reading (contents_from (record { width = width; columns = columns }) 1 rest) ≡ upcoming_of text reads
 upcoming_good text reads header rest columns width short all good size =
     ap (λ w. seen (contents_from (record { width = w; columns = columns }) 1 rest)) size

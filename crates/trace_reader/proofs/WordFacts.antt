@@ -6,8 +6,9 @@ use Rattle.std.specs.List.{zip}
 use Rattle.std.proofs.lemmas.List.{drop_all, drop_more}
 use Rattle.marple_base.specs.Field.{all_fields, number_of}
 use Rattle.marple_base.specs.declared.field.Field.{Field}
+use Rattle.marple_base.specs.declared.field.TheConstants.{FIELDS}
 use Rattle.trace_reader.specs.Columns.{read_columns, read_of, with_column}
-use Rattle.trace_reader.specs.Traces.{each, with_first, word_at, words_of}
+use Rattle.trace_reader.specs.Traces.{each, with_first, word_at, words_in_columns}
 use Rattle.trace_reader.proofs.EachFacts.{onto, onto_value}
 
 abbrev pub then_fill : (List ℕ → Result (List ℕ) Field) → ℕ → List ℕ → Result ℕ Field → Result (List ℕ) Field
@@ -74,11 +75,11 @@ onto_nothing (Ok xs) = refl
 onto_nothing (Err e) = refl
 
 -- all words of a record
-pub words_filled : (fields : List (List ℕ)) (columns : List (Option ℕ)) → length columns ≡ 14
-    → words_of columns fields ≡ fill fields (read_columns columns) (replicate 14 0)
+pub words_filled : (fields : List (List ℕ)) (columns : List (Option ℕ)) → length columns ≡ FIELDS
+    → words_in_columns columns fields ≡ fill fields (read_columns columns) (replicate FIELDS 0)
 unfolding read_columns
 words_filled fields columns size =
-    sym (filled fields [] all_fields columns all_from size ∙ onto_nothing (words_of columns fields))
+    sym (filled fields [] all_fields columns all_from size ∙ onto_nothing (words_in_columns columns fields))
 
 -- the turn that writes a word
 pub word_written : (all : Result (List ℕ) Field) (fields : List (List ℕ)) (read : List (Field × ℕ)) (i : ℕ) (d : Field × ℕ) (words : List ℕ)

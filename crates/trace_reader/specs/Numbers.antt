@@ -10,17 +10,17 @@ use Rattle.marple_base.specs.declared.field.Field.{Field}
 use Rattle.marple_base.specs.declared.field.Field.TheVariants as f
 
 -- a space or a tab
-abbrev pub is_blank : ℕ → Bool
-is_blank byte = (byte == 32) || (byte == 9)
+abbrev pub is_field_blank : ℕ → Bool
+is_field_blank byte = (byte == 32) || (byte == 9)
 
 -- a text without the blanks at its start
 abbrev pub without_first_blanks : List ℕ → List ℕ
 without_first_blanks [] = []
-without_first_blanks (byte ∷ rest) = if is_blank byte then without_first_blanks rest else byte ∷ rest
+without_first_blanks (byte ∷ rest) = if is_field_blank byte then without_first_blanks rest else byte ∷ rest
 
 -- a byte before a text that has no blanks at its end, without those at the new end
 abbrev pub before_last_blanks : ℕ → List ℕ → List ℕ
-before_last_blanks byte [] = if is_blank byte then [] else byte ∷ []
+before_last_blanks byte [] = if is_field_blank byte then [] else byte ∷ []
 before_last_blanks byte (next ∷ rest) = byte ∷ next ∷ rest
 
 -- a text without the blanks at its end
@@ -33,16 +33,16 @@ abbrev pub without_blanks : List ℕ → List ℕ
 without_blanks text = without_last_blanks (without_first_blanks text)
 
 -- a number of 1 to `most` digits, if it is below the limit
-abbrev pub number_in : ℕ → ℕ → List ℕ → Option ℕ
-number_in most limit text =
+abbrev pub number_below : ℕ → ℕ → List ℕ → Option ℕ
+number_below most limit text =
     if nat_lt 0 (length text) && nat_le (length text) most && list_all is_ascii_digit text && nat_lt (digits_value 10 text) limit
     then Some (digits_value 10 text) else None
 
 abbrev pub decimal_word : List ℕ → Option ℕ
-decimal_word text = number_in 20 (2 ^ 64) text
+decimal_word text = number_below 20 (2 ^ 64) text
 
 abbrev pub octet_word : List ℕ → Option ℕ
-octet_word text = number_in 3 256 text
+octet_word text = number_below 3 256 text
 
 abbrev pub is_dot : ℕ → Bool
 is_dot byte = byte == 46
@@ -88,5 +88,5 @@ first_some (Some n) other = Some n
 first_some None other = other
 
 -- the word of a field's text, if the text is in the field's form
-abbrev pub word_of : Field → List ℕ → Option ℕ
-word_of field text = first_some (decimal_word text) (further_word field text)
+abbrev pub word_of_text : Field → List ℕ → Option ℕ
+word_of_text field text = first_some (decimal_word text) (further_word field text)

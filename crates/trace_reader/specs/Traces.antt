@@ -9,7 +9,7 @@ use Rattle.marple_base.specs.Field.{all_fields, field_name, has_field}
 use Rattle.marple_base.specs.declared.field.Field.{Field}
 use Rattle.marple_base.specs.declared.field.FieldSet.{FieldSet}
 use Rattle.marple_base.specs.declared.field.Packet.{Packet}
-use Rattle.trace_reader.specs.Numbers.{without_blanks, word_of}
+use Rattle.trace_reader.specs.Numbers.{without_blanks, word_of_text}
 use Rattle.trace_reader.specs.Reading.{records}
 use Rattle.trace_reader.specs.declared.fault.TheConstants.{MAX_RECORDS, MAX_TRACE}
 use Rattle.trace_reader.specs.declared.fault.TraceFault.{TraceFault}
@@ -38,25 +38,26 @@ only_column field (column ∷ []) = Ok (Some column)
 only_column field (column ∷ next ∷ rest) = Err (fault.FieldTwice field)
 
 -- the column of a field in a header, none where it isn't read
-abbrev pub column_of : FieldSet → List (List ℕ) → Field → Result (Option ℕ) TraceFault
-column_of reads header field = if has_field reads field then only_column field (columns_named (field_name field) 0 header) else Ok None
+abbrev pub column_of_field : FieldSet → List (List ℕ) → Field → Result (Option ℕ) TraceFault
+column_of_field reads header field = if has_field reads field then only_column field (columns_named (field_name field) 0 header) else Ok
+    None
 
 -- the column of each field in a header, or the header's first fault
-abbrev pub columns_of : FieldSet → List (List ℕ) → Result (List (Option ℕ)) TraceFault
-columns_of reads header = each (column_of reads header) all_fields
+abbrev pub columns_of_fields : FieldSet → List (List ℕ) → Result (List (Option ℕ)) TraceFault
+columns_of_fields reads header = each (column_of_field reads header) all_fields
 
 -- the text at a column, empty where there is none
-abbrev pub text_at : List (List ℕ) → ℕ → List ℕ
-text_at fields column = unwrap_or (field_at fields column) []
+abbrev pub field_text_at : List (List ℕ) → ℕ → List ℕ
+field_text_at fields column = unwrap_or (field_at fields column) []
 
 -- the word of a field in a record, 0 where it isn't read; the field, where its text is no number
 abbrev pub word_at : List (List ℕ) → Field → Option ℕ → Result ℕ Field
 word_at fields field None = Ok 0
-word_at fields field (Some column) = ok_or (word_of field (without_blanks (text_at fields column))) field
+word_at fields field (Some column) = ok_or (word_of_text field (without_blanks (field_text_at fields column))) field
 
 -- the word of each field in a record, or the first read field that is no number
-abbrev pub words_of : List (Option ℕ) → List (List ℕ) → Result (List ℕ) Field
-words_of columns fields = each (λ p. word_at fields p.0 p.1) (zip all_fields columns)
+abbrev pub words_in_columns : List (Option ℕ) → List (List ℕ) → Result (List ℕ) Field
+words_in_columns columns fields = each (λ p. word_at fields p.0 p.1) (zip all_fields columns)
 
 -- where the fields of a trace are
 pub record Layout : Type 0 where
@@ -72,7 +73,7 @@ unfoldable pub packet_of : Layout → ℕ → List (List ℕ) → Result Packet 
 packet_of layout n fields =
     if nat_lt MAX_RECORDS n then Err fault.TooManyPackets
     else if not (length fields == layout.width) then Err (fault.FieldCount n)
-    else packet_with n (words_of layout.columns fields)
+    else packet_with n (words_in_columns layout.columns fields)
 
 -- the packets of a trace up to its first fault
 pub record Contents : Type 0 where
@@ -95,7 +96,7 @@ layout_with width (Ok columns) = Ok (record { width = width; columns = columns }
 -- the layout that the first record gives, or the fault of a trace as a whole or of its header
 abbrev pub layout_of : List (List (List ℕ)) → FieldSet → Result Layout TraceFault
 layout_of [] reads = Err fault.NoHeader
-layout_of (header ∷ data_records) reads = layout_with (length header) (columns_of reads header)
+layout_of (header ∷ data_records) reads = layout_with (length header) (columns_of_fields reads header)
 
 unfoldable pub opening : List ℕ → FieldSet → Result Layout TraceFault
 opening text reads = if nat_lt MAX_TRACE (length text) then Err fault.TraceTooLong else layout_of (records text) reads

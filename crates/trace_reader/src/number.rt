@@ -5,14 +5,14 @@ ghost use Rattle.std.specs.Prelude.{take, IfNone, IfSome, MatchOption, Some};
 ghost use Rattle.std.specs.List.{slice_split};
 ghost use Rattle.trace_reader.specs.Blocks.{IsFront};
 ghost use Rattle.trace_reader.specs.Numbers as Numbers;
-ghost use Rattle.trace_reader.specs.Numbers.{decimal_word, is_dot, number_in, octet_word, quad_word, without_blanks};
-ghost use Rattle.trace_reader.specs.Numbers.{without_first_blanks, without_last_blanks, word_of};
+ghost use Rattle.trace_reader.specs.Numbers.{decimal_word, is_dot, number_below, octet_word, quad_word, without_blanks};
+ghost use Rattle.trace_reader.specs.Numbers.{without_first_blanks, without_last_blanks, word_of_text};
 
 use crate::blocks::{eight, with_four};
 use marple_base::Field;
 
 fn is_blank(byte: u8) -> bool
-    ensures { result ≡ Numbers.is_blank byte }
+    ensures { result ≡ Numbers.is_field_blank byte }
 {
     byte == b' ' || byte == b'\t'
 }
@@ -68,7 +68,7 @@ fn rest_of_digits(text: &[u8], read: usize, front: u64) -> Option<u64>
     requires within { read ≤ length text.now }
     requires some { 0 < length text.now }
     requires few { length text.now ≤ 19 }
-    ensures { result ≡ number_in 19 (10 ^ 19) text.now }
+    ensures { result ≡ number_below 19 (10 ^ 19) text.now }
 {
     let mut number = front;
     for i in read..text.len() {
@@ -87,7 +87,7 @@ fn rest_of_digits(text: &[u8], read: usize, front: u64) -> Option<u64>
 fn digit_by_digit(text: &[u8]) -> Option<u64>
     requires some { 0 < length text.now }
     requires few { length text.now ≤ 19 }
-    ensures { result ≡ number_in 19 (10 ^ 19) text.now }
+    ensures { result ≡ number_below 19 (10 ^ 19) text.now }
 {
     rest_of_digits(text, 0, 0)
 }
@@ -98,7 +98,7 @@ fn digit_by_digit(text: &[u8]) -> Option<u64>
 fn digits(text: &[u8]) -> Option<u64>
     requires some { 0 < length text.now }
     requires few { length text.now ≤ 19 }
-    ensures { result ≡ number_in 19 (10 ^ 19) text.now }
+    ensures { result ≡ number_below 19 (10 ^ 19) text.now }
 {
     if text.len() >= 8 {
         return match eight(text) {
@@ -181,7 +181,7 @@ fn quad(text: &[u8]) -> Option<u64>
 
 // The word of a text without blanks at its ends, if it is in the field's form.
 fn trimmed_word(field: Field, text: &[u8]) -> Option<u64>
-    ensures { result ≡ word_of field text.now }
+    ensures { result ≡ word_of_text field text.now }
 {
     if let Some(number) = decimal(text) {
         return Some(number);
@@ -197,7 +197,7 @@ fn trimmed_word(field: Field, text: &[u8]) -> Option<u64>
 #[cold]
 #[inline(never)]
 fn word_with_blanks(field: Field, text: &[u8]) -> Option<u64>
-    ensures { result ≡ word_of field (without_blanks text.now) }
+    ensures { result ≡ word_of_text field (without_blanks text.now) }
 {
     trimmed_word(field, trimmed(text))
 }
@@ -216,7 +216,7 @@ fn plain_number(text: &[u8]) -> Option<u64>
 /// The word of a field's text without the blanks at its ends, if that is in the field's form.
 #[inline(always)]
 pub fn word(field: Field, text: &[u8]) -> Option<u64>
-    ensures { result ≡ word_of field (without_blanks text.now) }
+    ensures { result ≡ word_of_text field (without_blanks text.now) }
 {
     if let Some(number) = plain_number(text) {
         return Some(number);

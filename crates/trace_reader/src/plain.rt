@@ -6,7 +6,7 @@ ghost use Rattle.csv.specs.declared.parser.State.TheVariants as st;
 ghost use Rattle.trace_reader.specs.Plain as Plain;
 ghost use Rattle.trace_reader.specs.Plain.{IsEnd, IsField, IsInside, IsRecord, fields_at, part_of};
 ghost use Rattle.trace_reader.specs.Reading.{records_after};
-ghost use Rattle.trace_reader.specs.Traces.{text_at};
+ghost use Rattle.trace_reader.specs.Traces.{field_text_at};
 
 use std::alloc::AllocError;
 
@@ -32,7 +32,7 @@ fn part_of(text: &[u8], span: Span) -> &[u8]
 pub fn field_text<'a>(text: &'a [u8], spans: &[Span], column: usize) -> &'a [u8]
     requires inside { All (IsInside text.now) spans.now }
     requires column { column < length spans.now }
-    ensures { result.now ≡ text_at (fields_at text.now spans.now) column }
+    ensures { result.now ≡ field_text_at (fields_at text.now spans.now) column }
 {
     part_of(text, spans[column])
 }

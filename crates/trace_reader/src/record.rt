@@ -5,13 +5,13 @@ ghost use Rattle.trace_reader.specs.Columns.{AreWithin};
 ghost use Rattle.trace_reader.specs.Faults.{IsEarly, IsLate};
 ghost use Rattle.marple_base.specs.Field.{field_name};
 ghost use Rattle.trace_reader.specs.Traces as Traces;
-ghost use Rattle.trace_reader.specs.Traces.{column_of, columns_named, columns_of, packet_of, word_at, words_of};
+ghost use Rattle.trace_reader.specs.Traces.{column_of_field, columns_named, columns_of_fields, packet_of, word_at, words_in_columns};
 
 use crate::columns::Columns;
 use crate::fault::{MAX_RECORDS, TraceFault};
 use crate::number::{trimmed, word};
 use crate::records::Records;
-use marple_base::{Field, FieldSet, Packet};
+use marple_base::{FIELDS, Field, FieldSet, Packet};
 
 // Finds the column of a header that has a field's name. Two of the name are a fault, and so is none.
 fn only_column(header: &Records<'_>, field: Field) -> Result<Option<usize>, TraceFault>
@@ -36,7 +36,7 @@ fn only_column(header: &Records<'_>, field: Field) -> Result<Option<usize>, Trac
 
 // The column of a field in a header, none where it isn't read.
 fn column(header: &Records<'_>, reads: FieldSet, field: Field) -> Result<Option<usize>, TraceFault>
-    ensures value { result ≡ column_of reads header.now.fields field }
+    ensures value { result ≡ column_of_field reads header.now.fields field }
     ensures within { IfOk result (λ found. IfSome found (λ column. column < length header.now.fields)) }
     ensures early { IfErr result IsEarly }
 {
@@ -48,13 +48,13 @@ fn column(header: &Records<'_>, reads: FieldSet, field: Field) -> Result<Option<
 }
 
 /// The column of each field in a header.
-pub fn columns(header: &Records<'_>, reads: FieldSet) -> Result<[Option<usize>; 14], TraceFault>
-    ensures value { result ≡ columns_of reads header.now.fields }
+pub fn columns(header: &Records<'_>, reads: FieldSet) -> Result<[Option<usize>; FIELDS], TraceFault>
+    ensures value { result ≡ columns_of_fields reads header.now.fields }
     ensures within { IfOk result (AreWithin (length header.now.fields)) }
     ensures early { IfErr result IsEarly }
 {
-    let mut columns = [None; 14];
-    for i in 0..14 {
+    let mut columns = [None; FIELDS];
+    for i in 0..FIELDS {
         match column(header, reads, Field::ALL[i]) {
             Ok(found) => columns[i] = found,
             Err(fault) => return Err(fault),
@@ -74,12 +74,12 @@ fn word_of_field(row: &Records<'_>, field: Field, column: usize) -> Result<u64, 
 
 // The word of each field in a record, into `words`: 0 where it isn't read.
 #[inline(always)]
-fn words_into(row: &Records<'_>, columns: &Columns, words: &mut [u64; 14]) -> Result<(), Field>
+fn words_into(row: &Records<'_>, columns: &Columns, words: &mut [u64; FIELDS]) -> Result<(), Field>
     requires { AreWithin (length row.now.fields) columns.now }
-    ensures ok { OnOk result (words_of columns.now row.now.fields ≡ Ok words.new) }
-    ensures err { IfErr result (λ field. words_of columns.now row.now.fields ≡ Err field) }
+    ensures ok { OnOk result (words_in_columns columns.now row.now.fields ≡ Ok words.new) }
+    ensures err { IfErr result (λ field. words_in_columns columns.now row.now.fields ≡ Err field) }
 {
-    *words = [0; 14];
+    *words = [0; FIELDS];
     for (field, column) in columns.read() {
         match word_of_field(row, *field, *column) {
             Ok(word) => words[field.number()] = word,

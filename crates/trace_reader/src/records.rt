@@ -5,7 +5,7 @@ ghost use Rattle.csv.specs.Records.{fields_of};
 ghost use Rattle.csv.specs.declared.parser.State.TheVariants as st;
 ghost use Rattle.trace_reader.specs.Plain.{IsBetween};
 ghost use Rattle.trace_reader.specs.Reading.{IsBetweenRecords, IsSetUp, records, records_after, records_left};
-ghost use Rattle.trace_reader.specs.Traces.{text_at};
+ghost use Rattle.trace_reader.specs.Traces.{field_text_at};
 
 use crate::plain::{Span, after_mark, ends_line, field_text, plain_record};
 use csv::{ByteRecord, Reader, ReaderBuilder};
@@ -129,7 +129,7 @@ fn read(
 
 // The text at a column, empty where there is none.
 fn text_of(row: &ByteRecord, column: usize) -> &[u8]
-    ensures { result.now ≡ text_at (fields_of row.now) column }
+    ensures { result.now ≡ field_text_at (fields_of row.now) column }
 {
     row.get(column).unwrap_or(b"".as_slice())
 }
@@ -191,7 +191,7 @@ impl<'a> Records<'a> {
     #[inline(always)]
     pub fn text(&self, column: usize) -> &[u8]
         requires { column < length self.now.fields }
-        ensures { result.now ≡ text_at self.now.fields column }
+        ensures { result.now ≡ field_text_at self.now.fields column }
     {
         match self.place {
             Place::At(_) => field_text(self.text, self.spans.as_slice(), column),

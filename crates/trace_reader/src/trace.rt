@@ -9,7 +9,7 @@ use crate::columns::Columns;
 use crate::fault::{MAX_RECORDS, MAX_TRACE, TraceAnswer, TraceFault};
 use crate::record::{columns, packet_into};
 use crate::records::Records;
-use marple_base::{FieldSet, Packet};
+use marple_base::{FIELDS, FieldSet, Packet};
 use std::alloc::{AllocError, Global};
 use std::marker::Model;
 
@@ -104,7 +104,7 @@ impl<'a> Trace<'a> {
         ensures stopped { IfErr result (λ answer. self.new.stopped ≡ Some answer) }
         ensures again { IfSome self.old.stopped (λ answer. result ≡ Err answer) }
     {
-        let mut packet = Packet { words: [0; 14] };
+        let mut packet = Packet { words: [0; FIELDS] };
         match self.next_into(&mut packet) {
             Ok(true) => Ok(Some(packet)),
             Ok(false) => Ok(None),

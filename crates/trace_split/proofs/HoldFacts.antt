@@ -11,13 +11,13 @@ use Rattle.marple_base.specs.declared.field.Packet.{Packet}
 use Rattle.marple_base.specs.Pieces.{TakesAllBut}
 use Rattle.marple_base.proofs.Pieces.{front_is_taken, front_taken, goes_on, more_waits, none_taken, none_waits, rest_taken, then}
 use Rattle.trace_split.specs.Holding.{Holds, TakeFronts, TakeTexts, Taken}
-use Rattle.part_texts.specs.Texts.{fields_line, lines_of, packets_at}
+use Rattle.part_texts.specs.Texts.{fields_line, lines_of, packets_of_part}
 use Rattle.part_texts.proofs.TextFacts.{body_of, one_here, one_there, text_append}
 use Rattle.trace_split.proofs.ListFacts.{set_here, set_there}
 
 -- the text of each part
 abbrev pub texts_by : List Field → (List ℕ → ℕ) → List Packet → ℕ → List ℕ
-texts_by fields partition sent n = lines_of fields (packets_at partition n sent)
+texts_by fields partition sent n = lines_of fields (packets_of_part partition n sent)
 
 -- one packet more: its line waits in the buffer of its part, or some of what waits there was taken
 pub holds_add : (first old new : Taken) (waiting : List (List ℕ)) (later : List ℕ) (fields : List Field) (partition : List ℕ → ℕ)
@@ -91,7 +91,7 @@ pub fronts_go_on : (first now : Taken) (fields : List Field) (partition : List �
     → TakeFronts parts first now (texts_by fields partition sent) → TakeFronts parts first now (texts_by fields partition (sent ++ more))
 fronts_go_on first now fields partition parts sent more fronts n within =
     subst (TakesFront (first n) (now n)) (sym (text_append fields partition n sent more))
-    (goes_on (first n) (now n) (texts_by fields partition sent n) (body_of fields (packets_at partition n more)) (fronts n within))
+    (goes_on (first n) (now n) (texts_by fields partition sent n) (body_of fields (packets_of_part partition n more)) (fronts n within))
 
 -- ---- the end
 

@@ -9,7 +9,8 @@ use Rattle.marple_base.specs.Field.{all_fields, has_field, number_of}
 use Rattle.marple_base.specs.declared.field.Field.{Field}
 use Rattle.marple_base.specs.declared.field.Field.TheVariants.{Switch}
 use Rattle.marple_base.specs.declared.field.FieldSet.{FieldSet}
-use Rattle.part_texts.specs.Texts.{one_at_least, words_at}
+use Rattle.marple_base.specs.declared.field.TheConstants.{FIELDS}
+use Rattle.part_texts.specs.Texts.{one_at_least, field_words}
 
 -- ---- fields
 
@@ -28,7 +29,7 @@ filter_push test (y ∷ xs) x = by (test y) (filter_push test xs x)
     by false rest = rest
 
 -- one more field that is in the set
-pub field_with : (fields : FieldSet) (list : List Field) (i : ℕ) → i < 14 → list ≡ filter (has_field fields) (take i all_fields)
+pub field_with : (fields : FieldSet) (list : List Field) (i : ℕ) → i < FIELDS → list ≡ filter (has_field fields) (take i all_fields)
     → has_field fields (get_or all_fields i Switch) ≡ true
     → list ++ get_or all_fields i Switch ∷ [] ≡ filter (has_field fields) (take (i + 1) all_fields)
 field_with fields list i within so_far has =
@@ -39,7 +40,7 @@ field_with fields list i within so_far has =
     ∙ ap (filter (has_field fields)) (sym (take_more all_fields i Switch within))
 
 -- one that isn't
-pub field_without : (fields : FieldSet) (list : List Field) (i : ℕ) → i < 14 → list ≡ filter (has_field fields) (take i all_fields)
+pub field_without : (fields : FieldSet) (list : List Field) (i : ℕ) → i < FIELDS → list ≡ filter (has_field fields) (take i all_fields)
     → has_field fields (get_or all_fields i Switch) ≡ false
     → list ≡ filter (has_field fields) (take (i + 1) all_fields)
 field_without fields list i within so_far has =
@@ -56,22 +57,22 @@ some_are (field ∷ fields) some = refl
 
 -- ---- words
 
-map_push : (words : List ℕ) (fields : List Field) (field : Field) → words_at (fields ++ field ∷ []) words ≡ words_at fields words
+map_push : (words : List ℕ) (fields : List Field) (field : Field) → field_words (fields ++ field ∷ []) words ≡ field_words fields words
     ++ slice_index words (number_of field) ∷ []
 map_push words [] field = refl
 map_push words (f ∷ fields) field = ap (λ rest. slice_index words (number_of f) ∷ rest) (map_push words fields field)
 
 -- one more word of a key
 pub key_more : (key : List ℕ) (size salt word : ℕ) (fields : List Field) (i : ℕ) (words : List ℕ) → size < length key → i < length fields
-    → word ≡ slice_index words (number_of (get_or fields i Switch)) → take size key ≡ salt ∷ words_at (take i fields) words
-    → take (size + 1) (set key size word) ≡ salt ∷ words_at (take (i + 1) fields) words
+    → word ≡ slice_index words (number_of (get_or fields i Switch)) → take size key ≡ salt ∷ field_words (take i fields) words
+    → take (size + 1) (set key size word) ≡ salt ∷ field_words (take (i + 1) fields) words
 key_more key size salt word fields i words room within is so_far =
     let next : size + 1 ≡ suc size = omega arith in
     ap (λ n. take n (set key size word)) next ∙ take-suc-set key size word room
     ∙ ap (λ (k : List ℕ). k ++ word ∷ []) so_far
-    ∙ ap (λ w. (salt ∷ words_at (take i fields) words) ++ w ∷ []) is
+    ∙ ap (λ w. (salt ∷ field_words (take i fields) words) ++ w ∷ []) is
     ∙ ap (λ (ws : List ℕ). salt ∷ ws) (sym (map_push words (take i fields) (get_or fields i Switch)))
-    ∙ ap (λ fs. salt ∷ words_at fs words) (sym (take_more fields i Switch within))
+    ∙ ap (λ fs. salt ∷ field_words fs words) (sym (take_more fields i Switch within))
 
 -- ---- buffers
 

@@ -21,7 +21,7 @@ use Rattle.trace_pieces.specs.Machine.{EndsBetween, IsHead}
 use Rattle.trace_pieces.specs.Reads.{Goes}
 use Rattle.trace_pieces.specs.Wholes.{all_contents, all_packets}
 use Rattle.trace_pieces.specs.declared.fault.WholeFault.{WholeFault}
-use Rattle.trace_split.specs.Faults.{IfRefused, error_at, error_for}
+use Rattle.trace_split.specs.Faults.{IfSplitRefused, error_at, error_for}
 use Rattle.trace_split.specs.Holding.{TakeFronts, Taken}
 use Rattle.trace_split.specs.PartTexts.{HoldsPackets, SameSetting, is_setting, parts_of, texts_of}
 use Rattle.trace_split.specs.Pieces.{IfPieceRefused, error_of, write_error_of}
@@ -91,11 +91,11 @@ cut_fronts all reads left bytes given P r h c p whole head between start new fir
 -- ---- answers
 
 -- what wasn't read or written is no refusal
-pub unread_refuses : (answer : ReadAnswer) (P : WholeFault → Type 0) → IfRefused (error_at answer) P
+pub unread_refuses : (answer : ReadAnswer) (P : WholeFault → Type 0) → IfSplitRefused (error_at answer) P
 unread_refuses read.Failed P = tt
 unread_refuses read.Memory P = tt
 
-pub unwritten_refuses : (answer : WriteError) (P : WholeFault → Type 0) → IfRefused (error_for answer) P
+pub unwritten_refuses : (answer : WriteError) (P : WholeFault → Type 0) → IfSplitRefused (error_for answer) P
 unwritten_refuses write.Failed P = tt
 unwritten_refuses write.Memory P = tt
 
@@ -142,30 +142,30 @@ rose_from first before now later rose = elim rose [
 ]
 
 -- what is no refusal is a refusal for any reason
-pub none_refuses : (answer : SplitError) (P : WholeFault → Type 0) → IfRefused answer (λ _. ⊥) → IfRefused answer P
+pub none_refuses : (answer : SplitError) (P : WholeFault → Type 0) → IfSplitRefused answer (λ _. ⊥) → IfSplitRefused answer P
 none_refuses (error.Refused found) P never = absurd never
 none_refuses error.InputFault P never = tt
 none_refuses error.OutputFault P never = tt
 none_refuses error.Memory P never = tt
 
-pub refused_so : (answer : SplitError) (P Q : WholeFault → Type 0) → ((found : WholeFault) → P found → Q found) → IfRefused answer P
-    → IfRefused answer Q
+pub refused_so : (answer : SplitError) (P Q : WholeFault → Type 0) → ((found : WholeFault) → P found → Q found) → IfSplitRefused answer P
+    → IfSplitRefused answer Q
 refused_so (error.Refused found) P Q so holds = so found holds
 refused_so error.InputFault P Q so holds = tt
 refused_so error.OutputFault P Q so holds = tt
 refused_so error.Memory P Q so holds = tt
 
 pub err_refused : {A : Type 0} (result : Result A SplitError) (P Q : WholeFault → Type 0) → ((found : WholeFault) → P found → Q found)
-    → IfErr result (λ fault. IfRefused fault P) → IfErr result (λ fault. IfRefused fault Q)
+    → IfErr result (λ fault. IfSplitRefused fault P) → IfErr result (λ fault. IfSplitRefused fault Q)
 err_refused (Ok done) P Q so holds = tt
 err_refused (Err fault) P Q so holds = refused_so fault P Q so holds
 
 -- what follows of a result from what is known of its error
 pub refused_by : {A : Type 0} (result : Result A SplitError) (answer : SplitError) (P : WholeFault → Type 0)
     → IsErrAnd result (λ found. found ≡ answer)
-    → IfRefused answer P → IfErr result (λ fault. IfRefused fault P)
+    → IfSplitRefused answer P → IfErr result (λ fault. IfSplitRefused fault P)
 refused_by (Ok done) answer P is known = tt
-refused_by (Err fault) answer P is known = subst (λ e. IfRefused e P) (sym is) known
+refused_by (Err fault) answer P is known = subst (λ e. IfSplitRefused e P) (sym is) known
 
 -- the error that a result has is the one that it was made of
 pub err_is : {A B : Type 0} (result : Result A SplitError) (answer found : SplitError) → IsErrAnd result (λ fault. fault ≡ answer)

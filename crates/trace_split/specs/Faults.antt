@@ -19,8 +19,8 @@ error_at read.Failed = error.InputFault
 error_at read.Memory = error.Memory
 
 -- a fact of the fault, where a trace is refused
-abbrev pub IfRefused : SplitError → (WholeFault → Type 0) → Type 0
-IfRefused (error.Refused found) P = P found
-IfRefused error.InputFault P = ⊤
-IfRefused error.OutputFault P = ⊤
-IfRefused error.Memory P = ⊤
+abbrev pub IfSplitRefused : SplitError → (WholeFault → Type 0) → Type 0
+IfSplitRefused (error.Refused found) P = P found
+IfSplitRefused error.InputFault P = ⊤
+IfSplitRefused error.OutputFault P = ⊤
+IfSplitRefused error.Memory P = ⊤

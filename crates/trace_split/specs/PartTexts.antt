@@ -2,8 +2,9 @@
 use Rattle.std.specs.Prelude.{◌≡◌, ℕ, ◌<◌, ◌≤◌, List, length}
 use Rattle.marple_base.specs.declared.field.FieldSet.{FieldSet}
 use Rattle.marple_base.specs.declared.field.Packet.{Packet}
+use Rattle.marple_base.specs.declared.field.TheConstants.{FIELDS}
 use Rattle.trace_split.specs.Holding.{Holds, Taken}
-use Rattle.part_texts.specs.Texts.{fields_in, lines_of, packets_at, part_by_hash, written_fields}
+use Rattle.part_texts.specs.Texts.{fields_in, lines_of, packets_of_part, part_by_hash, written_fields}
 use Rattle.trace_split.specs.declared.splitting.Splitting.{Splitting}
 use Rattle.trace_split.specs.declared.texts.PartTexts.{PartTexts}
 
@@ -16,15 +17,15 @@ partition_of texts = part_by_hash texts.by.items texts.salt texts.parts
 
 -- the text of each part of these packets
 abbrev pub texts_of : PartTexts → List Packet → ℕ → List ℕ
-texts_of texts sent n = lines_of texts.columns.items (packets_at (partition_of texts) n sent)
+texts_of texts sent n = lines_of texts.columns.items (packets_of_part (partition_of texts) n sent)
 
 -- there is a buffer for each part, and a line has room
 pub record is_setting (texts : PartTexts) : Type 0 where
   pub parts : 0 < texts.parts
   pub buffers : length texts.waiting.items ≡ texts.parts
   pub some : 0 < length texts.columns.items
-  pub few : length texts.columns.items ≤ 14
-  pub few_keys : length texts.by.items ≤ 14
+  pub few : length texts.columns.items ≤ FIELDS
+  pub few_keys : length texts.by.items ≤ FIELDS
 
 -- the same columns and parts
 pub record SameSetting (old new : PartTexts) : Type 0 where

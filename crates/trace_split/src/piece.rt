@@ -10,7 +10,7 @@ ghost use Rattle.trace_split.specs.Pieces.{IfPieceRefused, error_of as error_of_
 
 use crate::parts::Parts;
 use crate::texts::PartTexts;
-use marple_base::{FieldSet, Packet, Steps, WriteError};
+use marple_base::{FIELDS, FieldSet, Packet, Steps, WriteError};
 use std::alloc::Global;
 use std::sync::ledger::Ledger;
 use trace_reader::{TraceAnswer, TraceFault, open_trace};
@@ -69,7 +69,7 @@ pub(crate) fn split_piece<P: Parts, L: Ledger>(
         Ok(trace) => trace,
         Err(answer) => return Err(error_of(answer)),
     };
-    let mut packet = Packet { words: [0; 14] };
+    let mut packet = Packet { words: [0; FIELDS] };
     'packets: for count in 0..u64::MAX {
         match trace.next_into(&mut packet) {
             Ok(true) => match texts.add(&packet, parts, steps) {

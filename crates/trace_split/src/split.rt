@@ -10,7 +10,7 @@ ghost use Rattle.trace_pieces.specs.Faults.{after_records, trace_fault_of};
 ghost use Rattle.trace_pieces.specs.Machine.{IsHead};
 ghost use Rattle.trace_pieces.specs.Reads.{Goes};
 ghost use Rattle.trace_pieces.specs.Wholes.{all_packets, first_fault};
-ghost use Rattle.trace_split.specs.Faults.{IfRefused};
+ghost use Rattle.trace_split.specs.Faults.{IfSplitRefused};
 ghost use Rattle.trace_split.specs.Holding.{TakeFronts, Taken};
 ghost use Rattle.trace_split.specs.PartTexts.{HoldsPackets, SameSetting, is_setting, parts_of, texts_of};
 
@@ -38,7 +38,7 @@ fn read_head<I: Inputs>(
     ensures within { IfOk result (λ found. IfSome found (λ head. head ≤ length bytes.new.items)) }
     ensures head { IfOk result (λ found. IfSome found (λ head. IsHead (take head bytes.new.items))) }
     ensures opened { IsOpen (I.input inputs.new Which.Trace) }
-    ensures no_refusal { IfErr result (λ error. IfRefused error (λ _. ⊥)) }
+    ensures no_refusal { IfErr result (λ error. IfSplitRefused error (λ _. ⊥)) }
     ensures no_output { IsErrOf result SplitError.OutputFault → ⊥ }
     ensures failed { IsErrOf result SplitError.InputFault
         → Rose (I.input inputs.old Which.Trace).faults (I.input inputs.new Which.Trace).faults }
@@ -74,7 +74,7 @@ fn send<P: Parts, L: Ledger>(
     ensures count { IfOk result (λ count. count ≡ given + length (all_packets piece.now reads)) }
     ensures sent { OnOk result ((first : Taken) (before : List AnyPacket) → HoldsPackets first (P.taken parts.old) texts.old before
         → HoldsPackets first (P.taken parts.new) texts.new (before ++ all_packets piece.now reads)) }
-    ensures refused { IfErr result (λ error. IfRefused error (λ found.
+    ensures refused { IfErr result (λ error. IfSplitRefused error (λ found.
         option_map (after_records given) (first_fault piece.now reads) ≡ Some (trace_fault_of found))) }
     ensures fronts { OnErr result ((first : Taken) (before : List AnyPacket) → HoldsPackets first (P.taken parts.old) texts.old before
         → TakeFronts (parts_of texts.old) first (P.taken parts.new) (texts_of texts.old (before ++ all_packets piece.now reads))) }
@@ -138,7 +138,7 @@ fn send_rest<I: Inputs, P: Parts, L: Ledger>(
         → (I.input inputs.old Which.Trace).left ≡ Some rest
         → HoldsPackets first (P.taken parts.old) texts.old before
         → HoldsPackets first (P.taken parts.new) texts.new (before ++ all_packets (bytes.items ++ rest) reads)) }
-    ensures refused { IfErr result (λ error. IfRefused error (λ found. (rest : List ℕ) → (I.input inputs.old Which.Trace).left ≡ Some rest
+    ensures refused { IfErr result (λ error. IfSplitRefused error (λ found. (rest : List ℕ) → (I.input inputs.old Which.Trace).left ≡ Some rest
         → first_fault (bytes.items ++ rest) reads ≡ Some (trace_fault_of found))) }
     ensures fronts { OnErr result ((rest : List ℕ) (first : Taken) (before : List AnyPacket)
         → (I.input inputs.old Which.Trace).left ≡ Some rest
@@ -193,7 +193,7 @@ pub(crate) fn send_all<I: Inputs, P: Parts, L: Ledger>(
         → (I.input inputs.old Which.Trace).left ≡ Some trace
         → HoldsPackets first (P.taken parts.old) texts.old before
         → HoldsPackets first (P.taken parts.new) texts.new (before ++ all_packets trace reads)) }
-    ensures refused { IfErr result (λ error. IfRefused error (λ found. (trace : List ℕ) → (I.input inputs.old Which.Trace).left ≡ Some trace
+    ensures refused { IfErr result (λ error. IfSplitRefused error (λ found. (trace : List ℕ) → (I.input inputs.old Which.Trace).left ≡ Some trace
         → first_fault trace reads ≡ Some (trace_fault_of found))) }
     ensures fronts { OnErr result ((trace : List ℕ) (first : Taken) (before : List AnyPacket)
         → (I.input inputs.old Which.Trace).left ≡ Some trace

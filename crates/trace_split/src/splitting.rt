@@ -4,7 +4,7 @@ ghost use Rattle.std.specs.Prelude.{◌≡◌, ◌<◌, ◌≤◌, IfOk, length}
 ghost use Rattle.part_texts.specs.Texts.{fields_in, one_at_least, part_by_hash};
 
 use bucket_cache::bucket_of;
-use marple_base::{Field, FieldSet, Packet, Steps};
+use marple_base::{FIELDS, Field, FieldSet, Packet, Steps};
 use std::alloc::{AllocError, Global};
 use std::sync::ledger::Ledger;
 
@@ -19,7 +19,7 @@ pub struct Splitting {
 /// The fields of a set, in the order of the fields.
 pub(crate) fn fields_in(alloc: Global, fields: FieldSet) -> Result<Vec<Field>, AllocError>
     ensures value { IfOk result (λ list. list.items ≡ fields_in fields) }
-    ensures few { IfOk result (λ list. length list.items ≤ 14) }
+    ensures few { IfOk result (λ list. length list.items ≤ FIELDS) }
 {
     let mut list = Vec::new(alloc);
     for field in Field::ALL {
@@ -33,7 +33,7 @@ pub(crate) fn fields_in(alloc: Global, fields: FieldSet) -> Result<Vec<Field>, A
 /// The columns of a part.
 pub(crate) fn written_fields(alloc: Global, reads: FieldSet) -> Result<Vec<Field>, AllocError>
     ensures value { IfOk result (λ list. list.items ≡ one_at_least (fields_in reads)) }
-    ensures few { IfOk result (λ list. length list.items ≤ 14) }
+    ensures few { IfOk result (λ list. length list.items ≤ FIELDS) }
     ensures some { IfOk result (λ list. 0 < length list.items) }
 {
     let mut list = fields_in(alloc, reads)?;
@@ -52,7 +52,7 @@ pub(crate) fn part_of<L: Ledger>(
     steps: &mut Steps<L>,
 ) -> u32
     requires parts { 0 < parts }
-    requires few { length by.now ≤ 14 }
+    requires few { length by.now ≤ FIELDS }
     ensures part { result ≡ part_by_hash by.now salt parts packet.now.words }
     ensures below { result < parts }
     ensures steps { steps.old ≤ steps.new }

@@ -7,7 +7,7 @@ ghost use Rattle.marple_base.specs.declared.field.Packet.{Packet as AnyPacket};
 ghost use Rattle.part_texts.specs.Texts.{part_text};
 ghost use Rattle.trace_pieces.specs.Faults.{trace_fault_of};
 ghost use Rattle.trace_pieces.specs.Wholes.{all_packets, first_fault};
-ghost use Rattle.trace_split.specs.Faults.{IfRefused};
+ghost use Rattle.trace_split.specs.Faults.{IfSplitRefused};
 ghost use Rattle.trace_split.specs.Hashes.{by_hash};
 ghost use Rattle.trace_split.specs.Holding.{TakeFronts, TakeTexts, Taken};
 ghost use Rattle.trace_split.specs.PartTexts.{HoldsPackets, SameSetting, is_setting, parts_of, texts_of};
@@ -44,7 +44,7 @@ fn send_trace<I: Inputs, P: Parts, L: Ledger>(
         → (I.input trace.old Which.Trace).left ≡ Some bytes
         → HoldsPackets first (P.taken parts.old) texts.old before
         → HoldsPackets first (P.taken parts.new) texts.new (before ++ all_packets bytes reads)) }
-    ensures refused { IfErr result (λ error. IfRefused error (λ found. (bytes : List ℕ) → (I.input trace.old Which.Trace).left ≡ Some bytes
+    ensures refused { IfErr result (λ error. IfSplitRefused error (λ found. (bytes : List ℕ) → (I.input trace.old Which.Trace).left ≡ Some bytes
         → first_fault bytes reads ≡ Some (trace_fault_of found))) }
     ensures fronts { OnErr result ((bytes : List ℕ) (first : Taken) (before : List AnyPacket)
         → (I.input trace.old Which.Trace).left ≡ Some bytes
@@ -81,7 +81,7 @@ fn send_traces<I: Inputs, P: Parts, L: Ledger>(
     ensures sent { OnOk result ((all : List (List ℕ)) (first : Taken) → AreLeft I.input traces.old all
         → HoldsPackets first (P.taken parts.old) texts.old []
         → HoldsPackets first (P.taken parts.new) texts.new (packets_of_all all reads)) }
-    ensures refused { IfErr result (λ error. IfRefused error (λ found. (all : List (List ℕ)) → AreLeft I.input traces.old all
+    ensures refused { IfErr result (λ error. IfSplitRefused error (λ found. (all : List (List ℕ)) → AreLeft I.input traces.old all
         → fault_of_all all reads ≡ Some (trace_fault_of found))) }
     ensures fronts { OnErr result ((all : List (List ℕ)) (first : Taken) → AreLeft I.input traces.old all
         → HoldsPackets first (P.taken parts.old) texts.old []
@@ -115,7 +115,7 @@ pub fn split_held<I: Inputs, P: Parts, L: Ledger>(
     ensures ok { OnOk result ((all : List (List ℕ)) → AreLeft I.input traces.old all
         → TakeTexts splitting.now.parts (P.taken parts.old) (P.taken parts.new)
         (λ n. part_text reads (by_hash splitting.now) n (packets_of_all all reads))) }
-    ensures refused { IfErr result (λ error. IfRefused error (λ found. (all : List (List ℕ)) → AreLeft I.input traces.old all
+    ensures refused { IfErr result (λ error. IfSplitRefused error (λ found. (all : List (List ℕ)) → AreLeft I.input traces.old all
         → fault_of_all all reads ≡ Some (trace_fault_of found))) }
     ensures fronts { OnErr result ((all : List (List ℕ)) → AreLeft I.input traces.old all
         → TakeFronts splitting.now.parts (P.taken parts.old) (P.taken parts.new)
@@ -149,7 +149,7 @@ pub fn split_traces<I: Inputs, P: Parts, L: Ledger>(
     ensures ok { OnOk result ((all : List (List ℕ)) → AreLeft I.input traces.old all
         → TakeTexts splitting.now.parts (P.taken parts.old) (P.taken parts.new)
         (λ n. part_text reads (by_hash splitting.now) n (packets_of_all all reads))) }
-    ensures refused { IfErr result (λ error. IfRefused error (λ found. (all : List (List ℕ)) → AreLeft I.input traces.old all
+    ensures refused { IfErr result (λ error. IfSplitRefused error (λ found. (all : List (List ℕ)) → AreLeft I.input traces.old all
         → fault_of_all all reads ≡ Some (trace_fault_of found))) }
     ensures fronts { OnErr result ((all : List (List ℕ)) → AreLeft I.input traces.old all
         → TakeFronts splitting.now.parts (P.taken parts.old) (P.taken parts.new)

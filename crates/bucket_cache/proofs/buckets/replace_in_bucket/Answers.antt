@@ -1,7 +1,7 @@
 use Rattle.std.proofs.Common.{◌≡◌, ◌+◌, ◌-◌, ◌*◌, List, false, length, take, drop, set, sym, ap, subst, arith}
 use Rattle.bucket_cache.specs.Buckets.{Pair, has_key}
 use Rattle.bucket_cache.specs.FlatBuckets.{AreBuckets, lists_in, list_in}
-use Rattle.bucket_cache.specs.Touches.{IsLeast, with_front}
+use Rattle.bucket_cache.specs.Touches.{IsLeast, with_pair_first}
 use Rattle.bucket_cache.proofs.FlatBuckets.{full-bucket, full-list, full-buckets, full-lists, by_width}
 use Rattle.bucket_cache.proofs.buckets.replace_in_bucket.Goals as goal
 
@@ -98,7 +98,7 @@ returns-clause-pairs g c =
     let w = take m (drop (b * (ways * kw)) words) in
     let eo : o ≡ take ways (drop (b * ways) order) = ap (λ x. take x (drop (b * ways) order)) en in
     let ew : w ≡ take (ways * kw) (drop (b * (ways * kw)) words) = ap (λ x. take x (drop (b * (ways * kw)) words)) em in
-    let change : List Pair → List Pair = λ ps. with_front c.args.key.now c.replace_way.result (take (length ps - 1) ps) in
+    let change : List Pair → List Pair = λ ps. with_pair_first c.args.key.now c.replace_way.result (take (length ps - 1) ps) in
     by_width (λ x y. lists_in ways kw used x y ≡ set (lists_in ways kw used order words) b (change (list_in ways kw used order words b)))
     b ways (ways * kw) n m c.replace_way.new.order c.replace_way.new.words order words en em
     (full-lists ways kw b change o w c.replace_way.new.order c.replace_way.new.words used order words c.requires.buckets c.requires.range eo

@@ -1,7 +1,7 @@
 use Rattle.std.proofs.Common.{◌≡◌, ◌∙◌, ◌+◌, ◌-◌, length, take, get_or, set, sym, ap, refl, subst, le_refl}
 use Rattle.bucket_cache.specs.Slices.{rows_of}
 use Rattle.bucket_cache.specs.Buckets.{pairs_at, IsBucket}
-use Rattle.bucket_cache.specs.Touches.{IsLeast, with_front}
+use Rattle.bucket_cache.specs.Touches.{IsLeast, with_pair_first}
 use Rattle.bucket_cache.proofs.BucketLists.{least-pair, replaced-bucket, replaced-pairs}
 use Rattle.bucket_cache.proofs.ways.replace_way.Goals as goal
 
@@ -34,4 +34,4 @@ returns-clause-pairs g c =
     ap (λ o. pairs_at c.args.first keys' (take (length order) o)) c.put-way.ensures.moved
     ∙ (replaced-pairs c.args.first (length key) (length order) order keys keys' key c.requires.bucket refl
     (subst (λ w. keys' ≡ set keys w key) way c.put-way.ensures.keys)
-    ∙ ap (λ w. with_front key (c.args.first + w) (take (length old - 1) old)) (sym way))
+    ∙ ap (λ w. with_pair_first key (c.args.first + w) (take (length old - 1) old)) (sym way))

@@ -1,14 +1,15 @@
 use Rattle.std.proofs.Common.{◌≡◌, ◌∙◌, ◌+◌, ◌<◌, true, length, take, get_or, set, ap, refl, subst, sym, arith}
 use Rattle.bucket_cache.specs.Slices.{rows_of}
 use Rattle.bucket_cache.specs.Buckets.{pairs_at, IsBucket}
-use Rattle.bucket_cache.specs.Touches.{with_front}
+use Rattle.bucket_cache.specs.Touches.{with_pair_first}
 use Rattle.bucket_cache.proofs.BucketLists.{Matches, matches-front, in-front, hit-has, hit-place, hit-pairs, hit-bucket, none-in-front}
 use Rattle.bucket_cache.proofs.BucketLists.{free-pairs, free-bucket, least-pair, few-pairs, other-first}
 use Rattle.bucket_cache.proofs.ways.touch_ways.Goals as goal
 
 pub find_key-requires-clause-other : goal.find_key-requires-clause-other
 find_key-requires-clause-other g c some = other-first c.args.first c.args.used.now c.args.order.now
-    (rows_of (length c.args.key.now) (length c.args.order.now) c.args.words.now) c.args.key.now some c.requires.bucket.within c.requires.other
+    (rows_of (length c.args.key.now) (length c.args.order.now) c.args.words.now) c.args.key.now some c.requires.bucket.within
+    c.requires.other
 
 pub returns-in-Some-clause-bucket : goal.returns-in-Some-clause-bucket
 returns-in-Some-clause-bucket g c =
@@ -66,7 +67,7 @@ returns-then-used-order-clause-touched g c =
       ap (λ o. pairs_at c.args.first keys' (take (used + 1) o)) c.put-way.ensures.moved
           ∙ (free-pairs c.args.first (length key) used order keys keys' key c.requires.bucket room
           (subst (λ w. keys' ≡ set keys w key) way c.put-way.ensures.keys)
-          ∙ ap (λ w. with_front key (c.args.first + w) (pairs_at c.args.first keys (take used order))) (sym way)),
+          ∙ ap (λ w. with_pair_first key (c.args.first + w) (pairs_at c.args.first keys (take used order))) (sym way)),
     )
 
 pub returns-else-used-order-clause-touched : goal.returns-else-used-order-clause-touched

@@ -1,5 +1,5 @@
 use Rattle.std.proofs.Common.{◌≡◌, ◌≤◌, ℕ, suc, List, [], ◌++◌, length}
-use Rattle.network.specs.Networks.{Keeps}
+use Rattle.network.specs.Networks.{KeepsNetwork}
 use Rattle.trace_drive.specs.Drives.{words_of}
 use Rattle.driven_net.specs.Follows.{NetFollows}
 use Rattle.driven_net.specs.Lags.{AreLagClocks, HaveCounted}
@@ -15,7 +15,7 @@ invariant-packets g l = record {
   follows : (done : List (List ℕ)) × (words_of l.fn.trace.packets ≡ done ++ words_of l.trace.packets) × (l.number ≡ length done)
       × (f : NetFollows g.row.WAYS l.known done l.network) × HaveCounted f.events l.clocks
       × (l.known ≡ known_after [] done) × MakesTurns g.row.WAYS l.lag [] done l.fn.network l.network;
-  keeps : Keeps l.fn.network l.network;
+  keeps : KeepsNetwork l.fn.network l.network;
   clocks : AreLagClocks l.lag l.clocks;
   later : l.initial.steps ≤ l.steps;
 }

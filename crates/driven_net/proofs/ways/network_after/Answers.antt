@@ -1,7 +1,7 @@
 use Rattle.std.proofs.Common.{◌≡◌, [], Result, Ok, Err, ◌∙◌, subst}
 use Rattle.std.specs.Prelude.{IfOk}
 use Rattle.network.specs.Groups.{AllHavePlaces}
-use Rattle.network.specs.Networks.{IsNetwork, Keeps, NetworkView}
+use Rattle.network.specs.Networks.{IsNetwork, KeepsNetwork, NetworkView}
 use Rattle.network.specs.Running.{NetworkStands}
 use Rattle.trace_drive.specs.Drives.{words_of}
 use Rattle.driven_net.specs.Turns.{MakesTurns}
@@ -14,7 +14,7 @@ if_ok_two P Q R (Err e) h p q = tt
 pub returns-clause-pipe_places : goal.returns-clause-pipe_places
 returns-clause-pipe_places g c =
     let fresh = c.in-Ok.fresh in
-    if_ok_two (Keeps fresh) (IsNetwork g.row.WAYS) (λ (found : NetworkView). AllHavePlaces c.args.setting.pipe found.groups)
+    if_ok_two (KeepsNetwork fresh) (IsNetwork g.row.WAYS) (λ (found : NetworkView). AllHavePlaces c.args.setting.pipe found.groups)
     c.take_all.result
     (λ found keeps is. subst (λ n. AllHavePlaces n found.groups) (keeps.pipe_records ∙ c.in-Ok.ensures.pipe) is.pipes)
     c.take_all.ensures.keeps c.take_all.ensures.known
@@ -24,7 +24,7 @@ returns-clause-turns g c =
     let ways = g.row.WAYS in
     let fresh = c.in-Ok.fresh in
     let packets = words_of c.args.trace.packets in
-    if_ok_two (Keeps fresh) (MakesTurns ways c.args.setting.lag [] packets fresh)
+    if_ok_two (KeepsNetwork fresh) (MakesTurns ways c.args.setting.lag [] packets fresh)
     (λ (found : NetworkView). (first : NetworkView) × (first.switches ≡ 0) × NetworkStands ways first []
     × MakesTurns ways c.args.setting.lag [] packets first found) c.take_all.result
     (λ found keeps turns. (fresh, c.in-Ok.ensures.switches, c.in-Ok.ensures.stands, turns)) c.take_all.ensures.keeps

@@ -1,5 +1,6 @@
 use Rattle.std.proofs.Common.{false, replicate, arith, ◌∙◌}
 use Rattle.std.proofs.lemmas.List.{get_or-replicate}
+use Rattle.query_lang.specs.declared.fault.TheConstants.{MAX_STATES}
 use Rattle.fold_class.specs.Walk.{flag_in}
 use Rattle.fold_class.proofs.LinearLemmas.{same_fixed}
 use Rattle.enclosure_folds.specs.Kinds.{role, none_fixed}
@@ -8,5 +9,5 @@ use Rattle.enclosure_folds.proofs.monotone.is_monotone.Goals as goal
 pub returns : goal.returns
 returns c =
     c.has_no_other.ensures
-    ∙ same_fixed role c.args.f.now (flag_in (replicate 8 false)) none_fixed
-    (λ v lt. get_or-replicate 8 v false false (omega (arith, lt, c.requires.states)))
+    ∙ same_fixed role c.args.f.now (flag_in (replicate MAX_STATES false)) none_fixed
+    (λ v lt. get_or-replicate MAX_STATES v false false (omega (arith, lt, c.requires.states)))

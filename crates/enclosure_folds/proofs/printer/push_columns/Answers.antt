@@ -1,7 +1,7 @@
 use Rattle.std.proofs.Common.{◌≡◌, ℕ, ◌<◌, ◌==◌, false, List, length, [], ◌∷◌, ap, sym, ◌∙◌, ◌++◌, append_assoc, codes, inl, inr, arith}
 use Rattle.std.specs.List.{flat_map}
 use Rattle.std.proofs.lemmas.Bool.Decides.{eqb_tells}
-use Rattle.table_printer.specs.TableText.{joined, continued}
+use Rattle.table_printer.specs.TableText.{cells_joined, cells_continued}
 use Rattle.table_printer.proofs.Joined.{joined_three}
 use Rattle.enclosure_folds.specs.BoundsTables.{bound_names}
 use Rattle.enclosure_folds.proofs.printer.push_columns.Goals as goal
@@ -17,9 +17,9 @@ some keys lt = elim (eqb_tells (length keys) 0) [
 
 pub returns : goal.returns
 returns c =
-    let keys = joined c.args.keys.now in
-    let middle = continued (codes "mark" ∷ own) in
-    let others = continued (flat_map bound_names c.args.states.now) in
+    let keys = cells_joined c.args.keys.now in
+    let middle = cells_continued (codes "mark" ∷ own) in
+    let others = cells_continued (flat_map bound_names c.args.states.now) in
     c.in_ok-push_states.ensures
     ∙ ap (λ text. text ++ others) (c.in_ok-push_own_names.ensures ∙ ap (λ text. text ++ middle) c.in_ok-push_names.ensures)
     ∙ ap (λ text. text ++ others) (append_assoc c.args.text.now keys middle)

@@ -2,7 +2,7 @@ use Rattle.std.proofs.Common.{◌≡◌, List, ℕ, ◌∷◌, ◌+◌, ◌++◌
 use Rattle.std.proofs.lemmas.List.{drop_all, drop_more}
 use Rattle.std.specs.List.{flat_map}
 use Rattle.marple_base.specs.Sink.{TakesFront}
-use Rattle.table_printer.specs.TableText.{line}
+use Rattle.table_printer.specs.TableText.{table_line}
 use Rattle.marple_base.specs.Pieces.{TakesAllBut}
 use Rattle.marple_base.proofs.Pieces.{all_waits, front_is_taken, none_taken, on_err, part_broke, part_more}
 use Rattle.enclosure_folds.specs.BoundsTables.{bounds_heading, bounds_parts, bounds_text, bounds_title}
@@ -10,7 +10,7 @@ use Rattle.enclosure_folds.specs.declared.table.BoundsRow.{BoundsRow}
 use Rattle.enclosure_folds.proofs.printer.write_bounds.Goals as goal
 
 abbrev line_of : BoundsRow → List ℕ
-line_of row = line (bounds_parts row)
+line_of row = table_line (bounds_parts row)
 
 pub returns-in_err-push_head-clause-err : goal.returns-in_err-push_head-clause-err
 returns-in_err-push_head-clause-err g c =
@@ -20,7 +20,7 @@ pub loop-row-init : goal.loop-row-init
 loop-row-init g c =
     let t = c.args.t.now in
     let bytes = g.O.Sink.taken c.args.out.now in
-    let head = line (bounds_heading t) in
+    let head = table_line (bounds_heading t) in
     let lines = flat_map line_of t.rows in
     let waiting = c.push_head.new.text ++ lines in
     let whole : waiting ≡ c.args.text.now ++ bounds_text t =

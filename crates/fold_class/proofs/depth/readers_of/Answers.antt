@@ -1,6 +1,7 @@
 use Rattle.std.proofs.Common.{ap, ◌∙◌, sym, subst, refl, arith, ◌∷◌, [], set}
 use Rattle.query_lang.specs.Blocks.{block_of}
 use Rattle.query_lang.specs.Folds.{fold_states, fold_args}
+use Rattle.query_lang.specs.declared.fault.TheConstants.{MAX_STATES}
 use Rattle.fold_class.specs.declared.class.Kind.TheVariants.{Pure, Other}
 use Rattle.fold_class.specs.Kinds.{kinds_after}
 use Rattle.fold_class.specs.Walk.{kinds_in, outside, AssignsBelow}
@@ -10,7 +11,8 @@ use Rattle.fold_class.proofs.depth.readers_of.Goals as goal
 pub walk_block-requires-clause-below : goal.walk_block-requires-clause-below
 walk_block-requires-clause-below c =
     let f = c.args.f.now in
-    subst (λ z. AssignsBelow 8 (block_of z)) (sym c.as_slice.ensures) (valid_below 8 (fold_states f) (fold_args f) (block_of f.body)
+    subst (λ z. AssignsBelow MAX_STATES (block_of z)) (sym c.as_slice.ensures)
+    (valid_below MAX_STATES (fold_states f) (fold_args f) (block_of f.body)
     c.requires.valid.states c.requires.valid.statements)
 
 pub returns : goal.returns

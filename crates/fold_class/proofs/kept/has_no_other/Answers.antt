@@ -1,6 +1,7 @@
 use Rattle.std.proofs.Common.{subst, sym}
 use Rattle.query_lang.specs.Blocks.{block_of}
 use Rattle.query_lang.specs.Folds.{fold_states, fold_args}
+use Rattle.query_lang.specs.declared.fault.TheConstants.{MAX_STATES}
 use Rattle.fold_class.specs.Walk.{AssignsBelow, flag_in}
 use Rattle.fold_class.proofs.ReadLemmas.{valid_below}
 use Rattle.fold_class.proofs.LinearLemmas.{kept_from}
@@ -9,7 +10,8 @@ use Rattle.fold_class.proofs.kept.has_no_other.Goals as goal
 pub walk_block-requires-clause-below : goal.walk_block-requires-clause-below
 walk_block-requires-clause-below g c =
     let f = c.args.f.now in
-    subst (λ z. AssignsBelow 8 (block_of z)) (sym c.as_slice.ensures) (valid_below 8 (fold_states f) (fold_args f) (block_of f.body)
+    subst (λ z. AssignsBelow MAX_STATES (block_of z)) (sym c.as_slice.ensures)
+    (valid_below MAX_STATES (fold_states f) (fold_args f) (block_of f.body)
     c.requires.valid.states c.requires.valid.statements)
 
 pub returns : goal.returns

@@ -1,5 +1,6 @@
 use Rattle.std.proofs.Common.{◌≡◌, drop}
 use Rattle.query_lang.specs.Blocks.{block_of}
+use Rattle.query_lang.specs.declared.fault.TheConstants.{MAX_STATES}
 use Rattle.fold_class.specs.Kinds.{kinds_after}
 use Rattle.fold_class.specs.Walk.{kinds_in, AssignsBelow}
 use Rattle.fold_class.proofs.walk.walk_block.Given as goal
@@ -8,5 +9,5 @@ abbrev pub invariant-loop-s : goal.invariant-loop-s
 invariant-loop-s g l = record {
   kinds : kinds_after (g.O.Operators.roles l.operators) (block_of (drop l.s-index l.block)) (kinds_in l.kinds) ≡ kinds_after
       (g.O.Operators.roles l.operators) (block_of l.block) (kinds_in l.initial.kinds);
-  below : AssignsBelow 8 (block_of (drop l.s-index l.block));
+  below : AssignsBelow MAX_STATES (block_of (drop l.s-index l.block));
 }

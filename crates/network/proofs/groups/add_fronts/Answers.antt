@@ -1,5 +1,6 @@
 use Rattle.std.proofs.Common.{◌≡◌, ◌<◌, ◌+◌, length, get_or, set, sym, ap, ◌∙◌, subst, arith, lit<}
 use Rattle.std.proofs.Math.Facts.{Fits-below}
+use Rattle.query_lang.specs.declared.fault.TheConstants.{MAX_KEYS}
 use Rattle.stage_plan.specs.Planned.{wiring_at}
 use Rattle.stage_plan.specs.Sound.{IsSoundGroup}
 use Rattle.switch_core.proofs.SideBySide.{same_some, each_long, done_start, untouched_start, done_next, untouched_next, untouched_was}
@@ -24,7 +25,7 @@ overflow_cast-i g c =
     each_long _ 0 c.args.groups.now c.args.plan.now.groups c.requires.groups.1 in
     let kept = c.loop-i.auto.groups in
     let below = c.loop-i-test.true in
-    Fits-below {n = 8} tt (omega arith)
+    Fits-below {n = MAX_KEYS} tt (omega arith)
 
 pub group-requires : goal.group-requires
 group-requires g c =

@@ -1,6 +1,7 @@
 use Rattle.std.proofs.Common.{◌≡◌, ◌++◌, [], ◌∷◌, Some, length, take, sym, ap, ◌∙◌, arith}
 use Rattle.std.proofs.Math.Facts.{Fits-below}
 use Rattle.std.specs.Prelude.{slice_get}
+use Rattle.query_lang.specs.declared.fault.TheConstants.{MAX_KEYS}
 use Rattle.backing_store.specs.Merged.{StoreHolds}
 use Rattle.switch_core.proofs.SideBySide.{same_some, each_long, each_at}
 use Rattle.switch_core.proofs.SideBySide.{got_here}
@@ -14,7 +15,7 @@ overflow_cast-i g c =
     let long : length c.args.groups.now ≡ length c.args.plan.now.groups =
     each_long _ 0 c.args.groups.now c.args.plan.now.groups c.requires.groups.1 in
     let below = c.loop-i-test.true in
-    Fits-below {n = 8} tt (omega arith)
+    Fits-below {n = MAX_KEYS} tt (omega arith)
 
 pub group-requires : goal.group-requires
 group-requires g c =

@@ -2,6 +2,7 @@ use Rattle.std.proofs.Common.{◌≡◌, ◌<◌, ◌+◌, ℕ, length, take, ge
 use Rattle.std.specs.Prelude.{sum_by}
 use Rattle.std.proofs.Math.Facts.{Fits-below}
 use Rattle.epoch_model.specs.Driving.{event_of}
+use Rattle.query_lang.specs.declared.fault.TheConstants.{MAX_KEYS}
 use Rattle.stage_plan.specs.Planned.{wiring_at}
 use Rattle.stage_plan.specs.Registers.{taken_at}
 use Rattle.switch_core.proofs.LaneFacts.{all_at}
@@ -35,7 +36,7 @@ overflow_cast-i g c =
     each_long _ 0 c.args.groups.now c.args.plan.now.groups c.requires.groups.2 in
     let kept = c.loop-i.auto.groups in
     let below = c.loop-i-test.true in
-    Fits-below {n = 8} tt (omega arith)
+    Fits-below {n = MAX_KEYS} tt (omega arith)
 
 pub packet-requires : goal.packet-requires
 packet-requires g c =

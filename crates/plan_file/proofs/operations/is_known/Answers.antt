@@ -1,9 +1,10 @@
 use Rattle.std.proofs.Common.{◌≤◌, ◌+◌, length, arith}
 use Rattle.std.proofs.lemmas.Bool.Decides.{nat_tests}
+use Rattle.marple_base.specs.declared.field.TheConstants.{FIELDS}
 use Rattle.plan_file.proofs.OperandFacts.{not_known}
 use Rattle.plan_file.proofs.operations.is_known.Goals as goal
 
-pub returns-else-n-lt14-clause-no : goal.returns-else-n-lt14-clause-no
-returns-else-n-lt14-clause-no c past =
-    let large : 14 + length c.args.ops.now ≤ c.args.n = grind (arith, nat_tests) in
-    not_known c.args.fields.now c.args.ops.now c.args.n c.if-n-lt14.false large
+pub returns-else-n-clause-no : goal.returns-else-n-clause-no
+returns-else-n-clause-no c past =
+    let large : FIELDS + length c.args.ops.now ≤ c.args.n = grind (arith, nat_tests) in
+    not_known c.args.fields.now c.args.ops.now c.args.n c.if-n.false large

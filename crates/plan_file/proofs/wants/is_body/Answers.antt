@@ -4,6 +4,7 @@ use Rattle.std.specs.Prelude.{MatchBool, ◌==◌, vec_len}
 use Rattle.std.proofs.lemmas.Bool.Decides.{nat_tests}
 use Rattle.std.proofs.lemmas.List.{drop_all, nil_from_length}
 use Rattle.query_lang.specs.Blocks as blocks
+use Rattle.query_lang.specs.declared.fault.TheConstants.{MAX_NESTING}
 use Rattle.plan_file.specs.declared.lexemes.Lexeme.{Lexeme}
 use Rattle.plan_file.specs.declared.lexemes.Lexeme.TheVariants as word
 use Rattle.plan_file.specs.declared.wants.Want.{Want}
@@ -37,8 +38,8 @@ Answer r states args words = MatchBool r ((body : blocks.Block) × IsBody states
 
 finish : (states args : ℕ) (words : List Lexeme) (old new : List Want) (r : Bool) → r ≡ (length new == 0)
     → Steps states (states + args) word.Close old new
-    → (StackReads states args (Block 64 ∷ []) (words ++ word.Close ∷ []) → StackReads states args old (word.Close ∷ []))
-    → (StackReads states args old (word.Close ∷ []) → StackReads states args (Block 64 ∷ []) (words ++ word.Close ∷ []))
+    → (StackReads states args (Block MAX_NESTING ∷ []) (words ++ word.Close ∷ []) → StackReads states args old (word.Close ∷ []))
+    → (StackReads states args old (word.Close ∷ []) → StackReads states args (Block MAX_NESTING ∷ []) (words ++ word.Close ∷ []))
     → Answer r states args words
 finish states args words old new true e s goes back =
     let none : length new ≡ 0 = grind (arith, nat_tests) in
@@ -51,7 +52,7 @@ finish states args words old new false e s goes back = λ body b.
     grind (arith, nat_tests)
 
 refuse : (states args : ℕ) (words : List Lexeme) (old : List Want) (r : Bool) → r ≡ false → Sticks states (states + args) word.Close old
-    → (StackReads states args (Block 64 ∷ []) (words ++ word.Close ∷ []) → StackReads states args old (word.Close ∷ []))
+    → (StackReads states args (Block MAX_NESTING ∷ []) (words ++ word.Close ∷ []) → StackReads states args old (word.Close ∷ []))
     → Answer r states args words
 refuse states args words old true e s goes = cc
 refuse states args words old false e s goes = λ body b. step_sticks states args old word.Close [] s
@@ -87,11 +88,11 @@ pub returns : goal.returns
 returns c =
     let old : List Want = c.loop-word.wants.items in
     let same = closing c.args.words.now c.loop-word.word-index (omega (arith, c.loop-word-test.false)) in
-    let goes : StackReads c.args.states c.args.args (Block 64 ∷ []) (c.args.words.now ++ word.Close ∷ [])
+    let goes : StackReads c.args.states c.args.args (Block MAX_NESTING ∷ []) (c.args.words.now ++ word.Close ∷ [])
     → StackReads c.args.states c.args.args old (word.Close ∷ [])
     = λ p. subst (StackReads c.args.states c.args.args old) same (c.loop-word.invariant.goes p) in
     let back : StackReads c.args.states c.args.args old (word.Close ∷ [])
-    → StackReads c.args.states c.args.args (Block 64 ∷ []) (c.args.words.now ++ word.Close ∷ [])
+    → StackReads c.args.states c.args.args (Block MAX_NESTING ∷ []) (c.args.words.now ++ word.Close ∷ [])
     = λ p. c.loop-word.invariant.back (subst (StackReads c.args.states c.args.args old) (sym same) p) in
     let len : vec_len c.step-2.new.wants ≡ length c.step-2.new.wants.items = omega (arith, c.step-2.new.wants.ok) in
     elim c.if-closed.branch [

@@ -1,4 +1,5 @@
 use Rattle.std.proofs.Common.{[], ◌∷◌, ◌++◌, drop}
+use Rattle.query_lang.specs.declared.fault.TheConstants.{MAX_NESTING}
 use Rattle.plan_file.specs.declared.lexemes.Lexeme.TheVariants.{Close}
 use Rattle.plan_file.specs.declared.wants.Want.TheVariants.{Block}
 use Rattle.plan_file.proofs.Wanted.{StackReads}
@@ -6,8 +7,8 @@ use Rattle.plan_file.proofs.wants.is_body.Given as goal
 
 abbrev pub invariant-loop-word : goal.invariant-loop-word
 invariant-loop-word l = record {
-  goes : StackReads l.states l.args (Block 64 ∷ []) (l.words ++ Close ∷ [])
+  goes : StackReads l.states l.args (Block MAX_NESTING ∷ []) (l.words ++ Close ∷ [])
       → StackReads l.states l.args l.wants.items (drop l.word-index l.words ++ Close ∷ []);
   back : StackReads l.states l.args l.wants.items (drop l.word-index l.words ++ Close ∷ [])
-      → StackReads l.states l.args (Block 64 ∷ []) (l.words ++ Close ∷ []);
+      → StackReads l.states l.args (Block MAX_NESTING ∷ []) (l.words ++ Close ∷ []);
 }

@@ -1,6 +1,6 @@
 use Rattle.std.proofs.Common.{◌≤◌, ◌++◌, drop}
 use Rattle.std.specs.List.{flat_map}
-use Rattle.query_tables.specs.Tables.{text_at}
+use Rattle.query_tables.specs.Tables.{table_text_at}
 use Rattle.marple_base.specs.Pieces.{TakesAllBut}
 use Rattle.query_run.proofs.plan_report.write_numbered.Given as goal
 
@@ -8,6 +8,7 @@ use Rattle.query_run.proofs.plan_report.write_numbered.Given as goal
 abbrev pub invariant-loop-number : goal.invariant-loop-number
 invariant-loop-number g l = record {
   written : TakesAllBut (g.O.Sink.taken l.fn.out) (g.O.Sink.taken l.out)
-      (l.text ++ flat_map (text_at l.tables) (drop l.number-index l.prints)) (l.fn.text ++ flat_map (text_at l.tables) l.prints);
+      (l.text ++ flat_map (table_text_at l.tables) (drop l.number-index l.prints))
+      (l.fn.text ++ flat_map (table_text_at l.tables) l.prints);
   out_later : g.O.Sink.faults l.fn.out ≤ g.O.Sink.faults l.out;
 }

@@ -4,7 +4,7 @@ use Rattle.stage_plan.specs.Sound.{PlanParts}
 use Rattle.switch_core.specs.PlanLanes.{PipelineStands}
 use Rattle.trace_drive.specs.Answers.{BreaksOff, answer_for}
 use Rattle.trace_drive.specs.Drives.{coming, end_machines, fault_of, geometry_for, words_of}
-use Rattle.trace_drive.specs.Replays.{pipeline_in}
+use Rattle.trace_drive.specs.Replays.{replay_pipeline}
 use Rattle.trace_drive.specs.declared.answer.RunError.TheVariants.{Memory}
 use Rattle.trace_drive.proofs.Breaking.{err_is, out_of_memory}
 use Rattle.trace_drive.proofs.Ending.{places_kept}
@@ -139,7 +139,7 @@ returns-clause-turns g c =
       (
         ended.0,
         turns_to_the_end g.row.WAYS c.args.schedule.refresh c.args.schedule.lag before.0 all c.in_ok-fresh.fresh
-            (pipeline_in c.in_ok-replay.replay) ended.0 before.1.within before.2 (ended.1 c.args.schedule all before.0 before.1),
+            (replay_pipeline c.in_ok-replay.replay) ended.0 before.1.within before.2 (ended.1 c.args.schedule all before.0 before.1),
         ended.2,
       ),
     )
@@ -148,5 +148,5 @@ returns-clause-turns g c =
 pub returns-clause-pipe_places : goal.returns-clause-pipe_places
 returns-clause-pipe_places g c =
     c.in_ok-pipeline.ensures.pipe_places c.args.schedule.pipe
-    (places_kept c.args.schedule.pipe c.in_ok-fresh.fresh.lanes (pipeline_in c.in_ok-replay.replay).lanes
+    (places_kept c.args.schedule.pipe c.in_ok-fresh.fresh.lanes (replay_pipeline c.in_ok-replay.replay).lanes
     c.in_ok-replay.ensures.keeps.places c.in_ok-fresh.ensures.pipe_places)

@@ -7,7 +7,7 @@ use Rattle.switch_core.specs.PlanLanes.{PipelineView}
 use Rattle.trace_drive.specs.Answers.{BreaksOff, answer_for}
 use Rattle.trace_drive.specs.Drives.{coming, fault_of, geometry_for, words_of}
 use Rattle.trace_drive.specs.Follows.{Keeps}
-use Rattle.trace_drive.specs.Replays.{pipeline_in}
+use Rattle.trace_drive.specs.Replays.{replay_pipeline}
 use Rattle.trace_drive.proofs.Breaking.{err_is}
 use Rattle.trace_drive.specs.Turns.{MakesTurns}
 use Rattle.trace_drive.proofs.Following.{keeps_along}
@@ -109,11 +109,11 @@ views-preserved g c =
     record {
       way = way;
       turns = turns_further g.row.WAYS c.args.schedule.refresh c.args.schedule.lag c.views.number c.args.every all c.args.pipeline
-          (pipeline_in c.views.replay) (pipeline_in c.advance.new.self) was.way.within was.turns
+          (replay_pipeline c.views.replay) (replay_pipeline c.advance.new.self) was.way.within was.turns
           (done.turns (ap Ok c.if-branch.true) c.args.schedule all c.views.number was.way);
       multiple = next_multiple c.args.every c.views.number was.multiple;
       fault = done.fault ∙ was.fault;
-      keeps = keeps_along c.args.pipeline (pipeline_in c.views.replay) (pipeline_in c.advance.new.self) was.keeps done.keeps;
+      keeps = keeps_along c.args.pipeline (replay_pipeline c.views.replay) (replay_pipeline c.advance.new.self) was.keeps done.keeps;
       written = λ text prints.
           one_written (text of) c.args.every all (g.O.Sink.taken c.args.out.now) (g.O.Sink.taken c.views.out)
           (g.O.Sink.taken c.write_view.new.out) c.views.number was.multiple some (was.written text prints)
@@ -168,11 +168,12 @@ returns-clause-turns g c =
     let schedule = c.args.schedule in
     let was = c.views.invariant in
     let done = c.in_ok-advance.ensures in
-    let whole = turns_to_the_end g.row.WAYS schedule.refresh schedule.lag c.views.number all c.args.pipeline (pipeline_in c.views.replay)
-    (pipeline_in c.advance.new.self) was.way.within was.turns
+    let whole = turns_to_the_end g.row.WAYS schedule.refresh schedule.lag c.views.number all c.args.pipeline
+    (replay_pipeline c.views.replay)
+    (replay_pipeline c.advance.new.self) was.way.within was.turns
     (done.all_turns (ap Ok c.if-branch.false) schedule all c.views.number was.way) in (
       length all,
       (done.end (ap Ok c.if-branch.false) schedule all c.views.number was.way).1,
-      subst (λ ps. MakesTurns g.row.WAYS schedule.refresh schedule.lag 1 (words_of ps) c.args.pipeline (pipeline_in c.advance.new.self))
+      subst (λ ps. MakesTurns g.row.WAYS schedule.refresh schedule.lag 1 (words_of ps) c.args.pipeline (replay_pipeline c.advance.new.self))
           (sym (take-length all)) whole,
     )

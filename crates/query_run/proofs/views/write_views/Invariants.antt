@@ -2,7 +2,7 @@ use Rattle.std.proofs.Common.{◌≡◌, ◌≤◌, ◌-◌, ◌%◌, ℕ, List,
 use Rattle.std.specs.Io.KnownBytes.{Appends}
 use Rattle.trace_drive.specs.Drives.{coming, fault_of, geometry_for, words_of}
 use Rattle.trace_drive.specs.Follows.{Keeps}
-use Rattle.trace_drive.specs.Replays.{IsUnderWay, fault_in, pipeline_in}
+use Rattle.trace_drive.specs.Replays.{IsUnderWay, replay_fault, replay_pipeline}
 use Rattle.trace_drive.specs.Turns.{MakesTurns}
 use Rattle.epoch_model.specs.Epochs.{Geometry}
 use Rattle.query_run.specs.Reports.{Prints}
@@ -14,10 +14,10 @@ abbrev pub invariant-views : goal.invariant-views
 invariant-views g l = record {
   way : IsUnderWay l.fn.schedule (coming l.fn.packets) l.number l.replay;
   turns : MakesTurns g.row.WAYS l.fn.schedule.refresh l.fn.schedule.lag 1 (words_of (take l.number (coming l.fn.packets))) l.fn.pipeline
-      (pipeline_in l.replay);
+      (replay_pipeline l.replay);
   multiple : l.number % l.every ≡ 0;
-  fault : fault_in l.replay ≡ fault_of l.fn.packets;
-  keeps : Keeps l.fn.pipeline (pipeline_in l.replay);
+  fault : replay_fault l.replay ≡ fault_of l.fn.packets;
+  keeps : Keeps l.fn.pipeline (replay_pipeline l.replay);
   written : (text : Geometry → List (List ℕ) → List ℕ) → Prints (g.R.Report.entries l.report) l.fn.pipeline.plan
       (g.R.Report.printed l.report) text
       → Appends (g.O.Sink.taken l.fn.out) (g.O.Sink.taken l.out) (views_up_to (text (geometry_for g.row.WAYS l.fn.schedule)) l.every

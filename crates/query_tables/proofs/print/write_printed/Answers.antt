@@ -4,7 +4,7 @@ use Rattle.std.specs.List.{flat_map}
 use Rattle.final_queries.specs.declared.table.Table.{Table}
 use Rattle.query_lang.specs.TypedFinals.{table_number}
 use Rattle.query_lang.specs.declared.typed.PrintOf.{PrintOf}
-use Rattle.query_tables.specs.Tables.{text_at}
+use Rattle.query_tables.specs.Tables.{table_text_at}
 use Rattle.marple_base.specs.Pieces.{TakesAllBut}
 use Rattle.marple_base.proofs.Pieces.{all_waits, on_err, part_broke, part_more}
 use Rattle.query_tables.proofs.print.write_printed.Goals as goal
@@ -12,15 +12,15 @@ use Rattle.query_tables.proofs.print.write_printed.Goals as goal
 -- the text of the next print, and then those after it
 next : (tables : List Table) (groups : ℕ) (prints : List PrintOf) (i number : ℕ) (one : PrintOf) → i < length prints
     → number ≡ table_number groups (get_or prints i one)
-    → flat_map (λ one. text_at tables (table_number groups one)) (drop i prints)
-    ≡ text_at tables number ++ flat_map (λ one. text_at tables (table_number groups one)) (drop (i + 1) prints)
+    → flat_map (λ one. table_text_at tables (table_number groups one)) (drop i prints)
+    ≡ table_text_at tables number ++ flat_map (λ one. table_text_at tables (table_number groups one)) (drop (i + 1) prints)
 next tables groups prints i number one within is =
-    ap (flat_map (λ one. text_at tables (table_number groups one))) (drop_more prints i one within)
-    ∙ ap (λ n. text_at tables n ++ flat_map (λ one. text_at tables (table_number groups one)) (drop (i + 1) prints)) (sym is)
+    ap (flat_map (λ one. table_text_at tables (table_number groups one))) (drop_more prints i one within)
+    ∙ ap (λ n. table_text_at tables n ++ flat_map (λ one. table_text_at tables (table_number groups one)) (drop (i + 1) prints)) (sym is)
 
 pub loop-one-init : goal.loop-one-init
 loop-one-init g c =
-    let text_of : PrintOf → List ℕ = λ one. text_at c.args.tables.now (table_number c.args.groups one) in
+    let text_of : PrintOf → List ℕ = λ one. table_text_at c.args.tables.now (table_number c.args.groups one) in
     record {
       written = all_waits (g.O.Sink.taken c.args.out.now) (c.args.text.now ++ flat_map text_of c.args.prints.now);
       out_later = omega arith;
@@ -29,7 +29,7 @@ loop-one-init g c =
 pub returns-in_err-write_table_at-clause-err : goal.returns-in_err-write_table_at-clause-err
 returns-in_err-write_table_at-clause-err g c =
     let tables = c.args.tables.now in
-    let text_of : PrintOf → List ℕ = λ one. text_at tables (table_number c.args.groups one) in
+    let text_of : PrintOf → List ℕ = λ one. table_text_at tables (table_number c.args.groups one) in
     let prints = c.args.prints.now in
     let i = c.loop-one.one-index in
     let number = c.table_number.result in
@@ -37,7 +37,7 @@ returns-in_err-write_table_at-clause-err g c =
     let mid = g.O.Sink.taken c.loop-one.out in
     let whole = c.args.text.now ++ flat_map text_of prints in
     on_err c.from_residual.result _
-    (part_broke old mid (g.O.Sink.taken c.write_table_at.new.out) c.loop-one.text (text_at tables number)
+    (part_broke old mid (g.O.Sink.taken c.write_table_at.new.out) c.loop-one.text (table_text_at tables number)
     (flat_map text_of (drop (i + 1) prints)) whole
     (subst (λ left. TakesAllBut old mid (c.loop-one.text ++ left) whole)
     (next tables c.args.groups prints i number _ c.loop-one-test.true c.table_number.ensures) c.loop-one.invariant.written)
@@ -46,7 +46,7 @@ returns-in_err-write_table_at-clause-err g c =
 pub loop-one-preserved : goal.loop-one-preserved
 loop-one-preserved g c =
     let tables = c.args.tables.now in
-    let text_of : PrintOf → List ℕ = λ one. text_at tables (table_number c.args.groups one) in
+    let text_of : PrintOf → List ℕ = λ one. table_text_at tables (table_number c.args.groups one) in
     let prints = c.args.prints.now in
     let i = c.loop-one.one-index in
     let number = c.table_number.result in
@@ -55,7 +55,7 @@ loop-one-preserved g c =
     let whole = c.args.text.now ++ flat_map text_of prints in
     record {
       written = part_more old mid (g.O.Sink.taken c.write_table_at.new.out) c.loop-one.text c.write_table_at.new.text
-          (text_at tables number) (flat_map text_of (drop (i + 1) prints)) whole
+          (table_text_at tables number) (flat_map text_of (drop (i + 1) prints)) whole
           (subst (λ left. TakesAllBut old mid (c.loop-one.text ++ left) whole)
           (next tables c.args.groups prints i number _ c.loop-one-test.true c.table_number.ensures) c.loop-one.invariant.written)
           c.in_ok-write_table_at.ensures.ok;
@@ -64,7 +64,7 @@ loop-one-preserved g c =
 
 pub returns-clause-ok : goal.returns-clause-ok
 returns-clause-ok g c =
-    let text_of : PrintOf → List ℕ = λ one. text_at c.args.tables.now (table_number c.args.groups one) in
+    let text_of : PrintOf → List ℕ = λ one. table_text_at c.args.tables.now (table_number c.args.groups one) in
     let prints = c.args.prints.now in
     let none = ap (flat_map text_of) (drop_all c.loop-one.one-index prints c.loop-one-test.false) in
     subst (λ waiting. TakesAllBut (g.O.Sink.taken c.args.out.now) (g.O.Sink.taken c.loop-one.out) waiting

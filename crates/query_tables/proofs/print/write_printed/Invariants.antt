@@ -1,7 +1,7 @@
 use Rattle.std.proofs.Common.{◌≤◌, ◌++◌, drop}
 use Rattle.std.specs.List.{flat_map}
 use Rattle.query_lang.specs.TypedFinals.{table_number}
-use Rattle.query_tables.specs.Tables.{text_at}
+use Rattle.query_tables.specs.Tables.{table_text_at}
 use Rattle.marple_base.specs.Pieces.{TakesAllBut}
 use Rattle.query_tables.proofs.print.write_printed.Given as goal
 
@@ -9,7 +9,7 @@ use Rattle.query_tables.proofs.print.write_printed.Given as goal
 abbrev pub invariant-loop-one : goal.invariant-loop-one
 invariant-loop-one g l = record {
   written : TakesAllBut (g.O.Sink.taken l.fn.out) (g.O.Sink.taken l.out)
-      (l.text ++ flat_map (λ one. text_at l.tables (table_number l.groups one)) (drop l.one-index l.prints))
-      (l.fn.text ++ flat_map (λ one. text_at l.tables (table_number l.groups one)) l.prints);
+      (l.text ++ flat_map (λ one. table_text_at l.tables (table_number l.groups one)) (drop l.one-index l.prints))
+      (l.fn.text ++ flat_map (λ one. table_text_at l.tables (table_number l.groups one)) l.prints);
   out_later : g.O.Sink.faults l.fn.out ≤ g.O.Sink.faults l.out;
 }

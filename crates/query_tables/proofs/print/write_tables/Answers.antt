@@ -9,7 +9,7 @@ use Rattle.query_lang.specs.TypedFinals.{table_number}
 use Rattle.query_lang.specs.TypedQueries.{group_shape}
 use Rattle.final_queries.specs.declared.table.Table.{Table}
 use Rattle.final_queries.specs.Finals.{table_shape, with_finals}
-use Rattle.query_tables.specs.Tables.{printed, text_at}
+use Rattle.query_tables.specs.Tables.{printed, table_text_at}
 use Rattle.marple_base.specs.Pieces.{TakesAllBut}
 use Rattle.marple_base.proofs.Pieces.{none_taken, on_err}
 use Rattle.query_tables.proofs.print.write_tables.Goals as goal
@@ -17,14 +17,15 @@ use Rattle.query_tables.proofs.print.write_tables.Goals as goal
 texts_are : (q : TypedQuery) (groups : List Table) (count : ℕ) (tables : List Table) (prints : List PrintOf) → count ≡ length groups
     → map table_shape groups ≡ map (group_shape q.folds) (takings q.streams) → tables ≡ with_finals q.names q.folds groups q.finals
     → prints ≡ q.prints
-    → flat_map (λ one. text_at tables (table_number count one)) prints ≡ printed q (with_finals q.names q.folds groups q.finals)
+    → flat_map (λ one. table_text_at tables (table_number count one)) prints ≡ printed q (with_finals q.names q.folds groups q.finals)
 texts_are q groups count tables prints count_is shapes tables_are all =
     let taken : count ≡ length (takings q.streams) =
     count_is ∙ (sym (length-map groups table_shape) ∙ (ap (λ ss. length ss) shapes
     ∙ length-map (takings q.streams) (group_shape q.folds))) in
-    ap (λ n. flat_map (λ one. text_at tables (table_number n one)) prints) taken
-    ∙ (ap (λ ts. flat_map (λ one. text_at ts (table_number (length (takings q.streams)) one)) prints) tables_are
-    ∙ ap (flat_map (λ one. text_at (with_finals q.names q.folds groups q.finals) (table_number (length (takings q.streams)) one))) all)
+    ap (λ n. flat_map (λ one. table_text_at tables (table_number n one)) prints) taken
+    ∙ (ap (λ ts. flat_map (λ one. table_text_at ts (table_number (length (takings q.streams)) one)) prints) tables_are
+    ∙ ap (flat_map (λ one. table_text_at (with_finals q.names q.folds groups q.finals) (table_number (length (takings q.streams)) one)))
+    all)
 
 pub returns-in_err-tables-clause-err : goal.returns-in_err-tables-clause-err
 returns-in_err-tables-clause-err g c =

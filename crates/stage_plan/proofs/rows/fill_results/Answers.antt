@@ -2,6 +2,7 @@ use Rattle.std.proofs.Common.{arith, ◌∙◌}
 use Rattle.std.proofs.lemmas.List.{take-set-le}
 use Rattle.stage_plan.proofs.Runs.{reads_left, reads_right, results_more}
 use Rattle.std.proofs.lemmas.Option.{slice_get_within}
+use Rattle.marple_base.specs.declared.field.TheConstants.{FIELDS}
 use Rattle.stage_plan.proofs.rows.fill_results.Goals as goal
 
 pub result_in-requires-clause-left : goal.result_in-requires-clause-left
@@ -12,7 +13,7 @@ result_in-requires-clause-right g c = reads_right c.args.ops.now c.loop-at.at _ 
 
 pub loop-at-preserved : goal.loop-at-preserved
 loop-at-preserved g c = record {
-  fields = take-set-le 14 c.loop-at.registers _ _ (omega arith) ∙ c.loop-at.invariant.fields;
+  fields = take-set-le FIELDS c.loop-at.registers _ _ (omega arith) ∙ c.loop-at.invariant.fields;
   results = results_more c.args.ops.now c.loop-at.registers c.loop-at.at _ _ c.requires.sound c.loop-at-test.true (omega arith)
       c.loop-at.invariant.results c.result_in.ensures;
 }

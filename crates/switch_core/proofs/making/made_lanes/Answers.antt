@@ -6,7 +6,7 @@ use Rattle.epoch_entry.specs.contracts.any.AnyEpochsEpochKind.TheImpl.{ghosts}
 use Rattle.stage_plan.specs.declared.group.GroupPlan.{GroupPlan}
 use Rattle.stage_plan.specs.Planned.{wiring_at}
 use Rattle.switch_core.specs.Rows.{Each, EachFrom}
-use Rattle.switch_core.specs.Pipelines.{IsLaneOf, empty_machines, geometry_of}
+use Rattle.switch_core.specs.Pipelines.{IsLaneOf, empty_machines, geometry_without_refresh}
 use Rattle.switch_core.specs.PlanLanes.{HavePlaces, LaneView, IsMadeFor, StandsFor}
 use Rattle.switch_core.proofs.SideBySide.{got_below, each_long}
 use Rattle.switch_core.proofs.LanesMade.{each_push, take_next, empties_push, group_sound, lane_made}
@@ -41,9 +41,11 @@ loop-i-preserved g c =
     made.buckets made.keys made.kind in
     let R : ℕ → LaneView → GroupPlan → Type 0 = λ n l x. IsLaneOf c.args.entries c.args.buckets l.cache (ghosts.sizes l.kind)
     (ghosts.folding l.kind) (ghosts.open_bound l.kind) (ghosts.absorb_bound l.kind) x (wiring_at plan n) in
-    let empties : empty_machines (geometry_of g.row.WAYS c.args.buckets) (take (i + 1) plan.groups) ≡ empty_machines
-    (geometry_of g.row.WAYS c.args.buckets) (take i plan.groups) ++ empty_machine (geometry_of g.row.WAYS c.args.buckets) ∷ [] =
-    ap (empty_machines (geometry_of g.row.WAYS c.args.buckets)) more ∙ empties_push (geometry_of g.row.WAYS c.args.buckets)
+    let empties : empty_machines (geometry_without_refresh g.row.WAYS c.args.buckets) (take (i + 1) plan.groups) ≡ empty_machines
+    (geometry_without_refresh g.row.WAYS c.args.buckets) (take i plan.groups)
+    ++ empty_machine (geometry_without_refresh g.row.WAYS c.args.buckets) ∷ [] =
+    ap (empty_machines (geometry_without_refresh g.row.WAYS c.args.buckets)) more
+    ∙ empties_push (geometry_without_refresh g.row.WAYS c.args.buckets)
     (take i plan.groups) group in
     let has_places : LaneView → Type 0 = λ l. l.pipe.places ≡ c.args.pipe_records in
     record {
@@ -53,13 +55,16 @@ loop-i-preserved g c =
           (λ n q. let is : i ≡ n = omega arith in subst (λ k. R k lane group) is own)));
       made = subst (λ ls. Each IsMadeFor ls (take (i + 1) plan.groups)) (sym pushed)
           (subst (λ gs. Each IsMadeFor (lanes ++ lane ∷ []) gs) (sym more)
-          (each_push (λ n. IsMadeFor) 0 lanes (take i plan.groups) lane group c.loop-i.invariant.made (λ n q. record { program = made.program; merges = made.merges })));
+          (each_push (λ n. IsMadeFor) 0 lanes (take i plan.groups) lane group c.loop-i.invariant.made
+          (λ n q. record { program = made.program; merges = made.merges })));
       pipe_places = subst (HavePlaces c.args.pipe_records) (sym pushed)
           (All-append has_places lanes (lane ∷ []) c.loop-i.invariant.pipe_places
           (All-cons has_places lane [] made.pipe_places (All-nil has_places)));
-      stands = subst (λ ls. Each StandsFor ls (empty_machines (geometry_of g.row.WAYS c.args.buckets) (take (i + 1) plan.groups)))
+      stands = subst (λ ls. Each StandsFor ls (empty_machines (geometry_without_refresh g.row.WAYS c.args.buckets)
+          (take (i + 1) plan.groups)))
           (sym pushed)
           (subst (λ ms. Each StandsFor (lanes ++ lane ∷ []) ms) (sym empties)
-          (each_push (λ n. StandsFor) 0 lanes (empty_machines (geometry_of g.row.WAYS c.args.buckets) (take i plan.groups)) lane
-          (empty_machine (geometry_of g.row.WAYS c.args.buckets)) c.loop-i.invariant.stands (λ n q. made.stands)));
+          (each_push (λ n. StandsFor) 0 lanes (empty_machines (geometry_without_refresh g.row.WAYS c.args.buckets) (take i plan.groups))
+          lane
+          (empty_machine (geometry_without_refresh g.row.WAYS c.args.buckets)) c.loop-i.invariant.stands (λ n q. made.stands)));
     }

@@ -2,7 +2,7 @@ use Rattle.std.proofs.Common.{take}
 use Rattle.epoch_entry.specs.contracts.any.AnyEpochsEpochKind.TheImpl.{ghosts}
 use Rattle.stage_plan.specs.Planned.{wiring_at}
 use Rattle.switch_core.specs.Rows.{Each, EachFrom}
-use Rattle.switch_core.specs.Pipelines.{IsLaneOf, empty_machines, geometry_of}
+use Rattle.switch_core.specs.Pipelines.{IsLaneOf, empty_machines, geometry_without_refresh}
 use Rattle.switch_core.specs.PlanLanes.{HavePlaces, IsMadeFor, StandsFor}
 use Rattle.switch_core.proofs.making.made_lanes.Given as goal
 
@@ -13,5 +13,5 @@ invariant-loop-i g l = record {
       (ghosts.open_bound lane.kind) (ghosts.absorb_bound lane.kind) group (wiring_at l.plan n)) 0 l.lanes.items (take l.i l.plan.groups);
   made : Each IsMadeFor l.lanes.items (take l.i l.plan.groups);
   pipe_places : HavePlaces l.pipe_records l.lanes.items;
-  stands : Each StandsFor l.lanes.items (empty_machines (geometry_of g.row.WAYS l.buckets) (take l.i l.plan.groups));
+  stands : Each StandsFor l.lanes.items (empty_machines (geometry_without_refresh g.row.WAYS l.buckets) (take l.i l.plan.groups));
 }

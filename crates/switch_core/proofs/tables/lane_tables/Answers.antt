@@ -2,6 +2,7 @@
 use Rattle.std.proofs.Common.{◌≡◌, ◌++◌, [], ◌∷◌, Some, length, map, take, sym, ap, ◌∙◌, subst, arith}
 use Rattle.std.proofs.Math.Facts.{Fits-below}
 use Rattle.std.specs.Prelude.{slice_get}
+use Rattle.query_lang.specs.declared.fault.TheConstants.{MAX_KEYS}
 use Rattle.epoch_entry.specs.contracts.any.AnyEpochsEpochKind.TheImpl.{ghosts}
 use Rattle.backing_store.specs.Merged.{StoreHolds}
 use Rattle.switch_core.specs.Pipelines.{heading_of, stored_table, tables_of}
@@ -18,7 +19,7 @@ overflow_cast-i g c =
     let long : length c.args.lanes.now ≡ length c.args.plan.now.groups =
     each_long _ 0 c.args.lanes.now c.args.plan.now.groups c.requires.lanes.2 in
     let below = c.loop-i-test.true in
-    Fits-below {n = 8} tt (omega arith)
+    Fits-below {n = MAX_KEYS} tt (omega arith)
 
 pub group-requires : goal.group-requires
 group-requires g c =

@@ -4,7 +4,7 @@ use Rattle.epoch_model.specs.declared.tables.Row.{Row}
 use Rattle.marple_base.specs.Sink.{TakesFront}
 use Rattle.table_rows.specs.LentRows.{row_of}
 use Rattle.table_rows.proofs.LentFacts.{rows_from}
-use Rattle.table_printer.specs.TableText.{heading, line, row_parts, table_text, title}
+use Rattle.table_printer.specs.TableText.{heading, table_line, row_parts, table_text, title}
 use Rattle.marple_base.specs.Pieces.{TakesAllBut}
 use Rattle.marple_base.proofs.Pieces.{all_waits, front_is_taken, none_taken, on_err, part_broke, part_more}
 use Rattle.table_printer.proofs.printer.write_table.Goals as goal
@@ -17,8 +17,8 @@ pub rows-init : goal.rows-init
 rows-init g c =
     let table = c.args.table.now in
     let bytes = g.O.Sink.taken c.args.out.now in
-    let head = line (heading table.kind table.keys table.columns) in
-    let lines = flat_map (λ (row : Row). line (row_parts table.kind row)) table.rows in
+    let head = table_line (heading table.kind table.keys table.columns) in
+    let lines = flat_map (λ (row : Row). table_line (row_parts table.kind row)) table.rows in
     let waiting = c.push_head.new.text ++ lines in
     let whole : waiting ≡ c.args.text.now ++ table_text table =
     ap (λ text. text ++ lines) (c.in_ok-push_head.ensures ∙ append_assoc c.args.text.now (title table) head)
@@ -49,7 +49,7 @@ returns-in_err-write_when_full-clause-err g c =
     let mid = g.O.Sink.taken c.rows.out in
     let new = g.O.Sink.taken c.write_when_full.new.out in
     let whole = c.args.text.now ++ table_text c.args.table.now in
-    let line_of : Row → List ℕ = λ row. line (row_parts c.args.table.now.kind row) in
+    let line_of : Row → List ℕ = λ row. table_line (row_parts c.args.table.now.kind row) in
     let rest = flat_map line_of (drop (at + 1) rows) in
     let next = ap (flat_map line_of) (rows_from rows at row c.get.ensures) in
     on_err c.from_residual-in_err-write_when_full.result _
@@ -68,7 +68,7 @@ rows-preserved g c =
     let new = g.O.Sink.taken c.write_when_full.new.out in
     let later = c.write_when_full.new.self in
     let whole = c.args.text.now ++ table_text c.args.table.now in
-    let line_of : Row → List ℕ = λ row. line (row_parts c.args.table.now.kind row) in
+    let line_of : Row → List ℕ = λ row. table_line (row_parts c.args.table.now.kind row) in
     let rest = flat_map line_of (drop (at + 1) rows) in
     let next = ap (flat_map line_of) (rows_from rows at row c.get.ensures) in
     record {
@@ -82,7 +82,7 @@ rows-preserved g c =
 pub returns-clause-ok : goal.returns-clause-ok
 returns-clause-ok g c =
     let table = c.args.table.now in
-    let line_of : Row → List ℕ = λ row. line (row_parts table.kind row) in
+    let line_of : Row → List ℕ = λ row. table_line (row_parts table.kind row) in
     let none = ap (flat_map line_of) (drop_all c.rows.at table.rows (subst (λ n. n ≤ c.rows.at) c.len-at-end.ensures c.rows-test.false)) in
     subst (λ waiting. TakesAllBut (g.O.Sink.taken c.args.out.now) (g.O.Sink.taken c.rows.out) waiting (c.args.text.now ++ table_text table))
     (ap (λ text. c.rows.text ++ text) none ∙ append-nil c.rows.text) c.rows.invariant.written

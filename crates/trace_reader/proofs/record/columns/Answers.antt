@@ -3,26 +3,27 @@ use Rattle.std.proofs.Math.ListN.{length-set}
 use Rattle.std.proofs.lemmas.List.{drop_all}
 use Rattle.marple_base.specs.Field.{all_fields}
 use Rattle.marple_base.specs.declared.field.Field.TheVariants as f
-use Rattle.trace_reader.specs.Traces.{column_of, each}
+use Rattle.marple_base.specs.declared.field.TheConstants.{FIELDS}
+use Rattle.trace_reader.specs.Traces.{column_of_field, each}
 use Rattle.trace_reader.proofs.ColumnFacts.{none_within, within_set}
 use Rattle.trace_reader.proofs.EachFacts.{all_written, each_more, error_met, value_written}
 use Rattle.trace_reader.proofs.record.columns.Goals as goal
 
 pub returns-in-Err-clause-value : goal.returns-in-Err-clause-value
 returns-in-Err-clause-value c =
-    let step = each_more (column_of c.args.reads c.args.header.now.fields) all_fields c.loop-i.i f.Switch c.loop-i-test.true in
+    let step = each_more (column_of_field c.args.reads c.args.header.now.fields) all_fields c.loop-i.i f.Switch c.loop-i-test.true in
     error_met _ _ _ _ _ _ c.loop-i.invariant.filled step c.in-Err.ensures.value
 
 pub loop-i-init : goal.loop-i-init
 loop-i-init c = record {
   filled = search rules;
   size = search rules;
-  within = none_within (length c.args.header.now.fields) 14;
+  within = none_within (length c.args.header.now.fields) FIELDS;
 }
 
 pub loop-i-preserved : goal.loop-i-preserved
 loop-i-preserved c =
-    let step = each_more (column_of c.args.reads c.args.header.now.fields) all_fields c.loop-i.i f.Switch c.loop-i-test.true in
+    let step = each_more (column_of_field c.args.reads c.args.header.now.fields) all_fields c.loop-i.i f.Switch c.loop-i-test.true in
     record {
       filled = value_written _ _ _ _ c.loop-i.columns c.loop-i.i c.in-Ok.found (omega arith) c.loop-i.invariant.filled step
           c.in-Ok.ensures.value;

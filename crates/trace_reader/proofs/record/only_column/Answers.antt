@@ -3,7 +3,7 @@ use Rattle.std.specs.Option.{option_to_list, is_some}
 use Rattle.std.specs.Str.{bytes_eq}
 use Rattle.marple_base.specs.Field.{field_name}
 use Rattle.trace_reader.specs.Numbers.{without_blanks}
-use Rattle.trace_reader.specs.Traces.{text_at}
+use Rattle.trace_reader.specs.Traces.{field_text_at}
 use Rattle.trace_reader.proofs.ColumnFacts.{found_first, found_twice, named_here, named_later}
 use Rattle.trace_reader.proofs.record.only_column.Goals as goal
 use Rattle.trace_reader.proofs.record.only_column.Goals.{then-eq+else-is_some, else-eq}
@@ -11,7 +11,7 @@ use Rattle.trace_reader.proofs.record.only_column.Goals.{then-eq+else-is_some, e
 pub returns-then-is_some-clause-value : goal.returns-then-is_some-clause-value
 returns-then-is_some-clause-value c =
     let fields = c.args.header.now.fields in
-    let here : bytes_eq (without_blanks (text_at fields c.loop-i.i)) (field_name c.args.field) ≡ true = search rules in
+    let here : bytes_eq (without_blanks (field_text_at fields c.loop-i.i)) (field_name c.args.field) ≡ true = search rules in
     let some : is_some c.loop-i.found ≡ true = search rules in
     found_twice c.args.field c.loop-i.found _ _ _ c.loop-i.i some c.loop-i.invariant.named
     (named_here (field_name c.args.field) fields c.loop-i.i (search rules) here)
@@ -21,7 +21,7 @@ loop-i-preserved c =
     let fields = c.args.header.now.fields in
     elim c.if-eq.branch [
       | then-eq+else-is_some w ↦
-          let here : bytes_eq (without_blanks (text_at fields c.loop-i.i)) (field_name c.args.field) ≡ true = search rules in
+          let here : bytes_eq (without_blanks (field_text_at fields c.loop-i.i)) (field_name c.args.field) ≡ true = search rules in
           let none : is_some c.loop-i.found ≡ false = search rules in
           rw w.found-is (record {
             named = found_first c.loop-i.found _ _ _ c.loop-i.i none c.loop-i.invariant.named
@@ -29,7 +29,7 @@ loop-i-preserved c =
             within = search rules;
           })
       | else-eq w ↦
-          let other : bytes_eq (without_blanks (text_at fields c.loop-i.i)) (field_name c.args.field) ≡ false = search rules in
+          let other : bytes_eq (without_blanks (field_text_at fields c.loop-i.i)) (field_name c.args.field) ≡ false = search rules in
           rw w.found-is (record {
             named = c.loop-i.invariant.named ∙ ap (λ rest. option_to_list c.loop-i.found ++ rest)
                 (named_later (field_name c.args.field) fields c.loop-i.i (search rules) other);

@@ -1,6 +1,7 @@
 use Rattle.std.proofs.Common.{◌∷◌, ◌∙◌, ◌<◌, [], ap, arith, get_or, length, length-append, sym}
 use Rattle.marple_base.specs.Field.{all_fields}
 use Rattle.marple_base.specs.declared.field.Field.TheVariants.{Switch}
+use Rattle.marple_base.specs.declared.field.TheConstants.{FIELDS}
 use Rattle.trace_split.proofs.ListFacts.{field_with, field_without}
 use Rattle.trace_split.proofs.splitting.fields_in.Goals as goal
 use Rattle.trace_split.proofs.splitting.fields_in.Goals.{then-has+in_ok-push, else-has}
@@ -11,7 +12,7 @@ loop-field-preserved c =
     let i = c.loop-field.field-index in
     let list = c.loop-field.list.items in
     let before = c.loop-field.invariant in
-    let below : i < 14 = c.loop-field-test.true in
+    let below : i < FIELDS = c.loop-field-test.true in
     elim c.if-has.branch [
       | then-has+in_ok-push w ↦
           let pushed = w.in_ok-push.ensures.items in

@@ -1,7 +1,7 @@
 use Rattle.std.proofs.Common.{◌≡◌, ◌+◌, ◌≤◌, ◌++◌, ℕ, length, take, drop, refl, ap, ◌∙◌, subst, arith}
 use Rattle.std.specs.Prelude.{sum_by}
 use Rattle.epoch_model.specs.Driving.{event_of}
-use Rattle.stage_plan.specs.Planned.{plan_bound, registers_of, row_of, wiring_at}
+use Rattle.stage_plan.specs.Planned.{plan_bound, registers_of, packet_registers, wiring_at}
 use Rattle.stage_plan.specs.Registers.{taken_at}
 use Rattle.stage_plan.specs.Sound.{IsSoundPlan}
 use Rattle.switch_core.specs.Pipelines.{packet_events}
@@ -32,7 +32,7 @@ invariant_of-self g c =
     let args = c.packet_groups.new.args in
     let before = c.deref_mut-2.result.now in
     let new = c.packet_groups.new.groups in
-    let registers : c.deref.result.now ≡ row_of p.plan words =
+    let registers : c.deref.result.now ≡ packet_registers p.plan words =
     c.deref.ensures.value ∙ (whole_written filled (drop (length filled) p.registers.items) p.registers.len
     (c.row.auto.registers ∙ c.deref_mut.ensures.len) ∙ c.row.ensures.row) in
     let taken : GroupsMake g.row.WAYS c.args.at (packet_events p.plan words) before new =
@@ -69,7 +69,7 @@ returns-clause-makes g c =
     let before = c.deref_mut-2.result.now in
     let new = c.packet_groups.new.groups in
     let filled = c.row.new.registers in
-    let registers : c.deref.result.now ≡ row_of p.plan words =
+    let registers : c.deref.result.now ≡ packet_registers p.plan words =
     c.deref.ensures.value ∙ (whole_written filled (drop (length filled) p.registers.items) p.registers.len
     (c.row.auto.registers ∙ c.deref_mut.ensures.len) ∙ c.row.ensures.row) in
     let taken : GroupsMake g.row.WAYS c.args.at (packet_events p.plan words) before new =

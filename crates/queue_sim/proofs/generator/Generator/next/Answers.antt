@@ -1,7 +1,7 @@
 use Rattle.std.proofs.Common.{◌≡◌, ◌+◌, ◌*◌, ◌%◌, ◌∷◌, ◌∙◌, ap, add-one, length, refl, sym, arith}
 use Rattle.std.proofs.Math.ListN.{length-set}
 use Rattle.std.proofs.lemmas.Option.{slice_get_read}
-use Rattle.queue_sim.specs.Generator.{Arrival, arrival_by, arrivals, drawn_after, packet_of, state_after, touts_at}
+use Rattle.queue_sim.specs.Generator.{Arrival, arrival_by, arrivals, drawn_after, generated_packet, state_after, touts_at}
 use Rattle.queue_sim.proofs.Bounds.{number_small, time_small, tout_small}
 use Rattle.queue_sim.proofs.FollowingFacts.{arrivals_more, arrived, flows_next, queues_next}
 use Rattle.queue_sim.proofs.generator.Generator.next.Goals as goal
@@ -80,8 +80,8 @@ returns-clause-packet c =
     let is = arrived earlier g.capacity d (drawn_after g.start (4 * g.number)) (g.time + d.gap) c.next_seq-seq.result
     c.in_ok-place.place.qsize queue.last c.in_ok-place.place.tout
     drawn.1 time seq qsize c.in_ok-place.ensures.tout holds.last in
-    c.packet_of.ensures ∙ ap (λ (a : Arrival). packet_of (g.number + 1) a) is
-    ∙ ap (λ n. packet_of n (arrival_by (drawn_after g.start (4 * g.number)) g.capacity earlier)) (add-one g.number)
+    c.packet_of.ensures ∙ ap (λ (a : Arrival). generated_packet (g.number + 1) a) is
+    ∙ ap (λ n. generated_packet n (arrival_by (drawn_after g.start (4 * g.number)) g.capacity earlier)) (add-one g.number)
 
 pub returns-clause-follows : goal.returns-clause-follows
 returns-clause-follows c =

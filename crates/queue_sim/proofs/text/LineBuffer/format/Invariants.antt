@@ -1,4 +1,5 @@
 use Rattle.std.proofs.Common.{◌≡◌, ◌+◌, ◌*◌, ◌-◌, ◌≤◌, drop}
+use Rattle.marple_base.specs.declared.field.TheConstants.{FIELDS}
 use Rattle.queue_sim.proofs.TextFacts.{text_from}
 use Rattle.queue_sim.proofs.text.LineBuffer.format.Given as goal
 
@@ -8,5 +9,5 @@ invariant-loop-i l = record {
   written : drop l.start l.self.bytes ≡ text_from l.i l.packet.words;
   from : 1 ≤ l.i;
   within : l.start ≤ 293;
-  room : 293 ≤ l.start + 21 * (14 - l.i);
+  room : 293 ≤ l.start + 21 * (FIELDS - l.i);
 }

@@ -5,8 +5,9 @@ use Rattle.std.proofs.Math.Facts.{Fits-below}
 use Rattle.std.specs.List.{list_all}
 use Rattle.std.specs.Prelude.{sum_by}
 use Rattle.epoch_model.specs.Driving.{event_of}
+use Rattle.query_lang.specs.declared.fault.TheConstants.{MAX_ARGS, MAX_KEYS}
 use Rattle.epoch_entry.specs.Purposes.{runs_of}
-use Rattle.stage_plan.specs.Planned.{plan_bound, row_of, wiring_at}
+use Rattle.stage_plan.specs.Planned.{plan_bound, packet_registers, wiring_at}
 use Rattle.stage_plan.specs.Registers.{taken_at}
 use Rattle.stage_plan.specs.Sound.{PlanParts}
 use Rattle.switch_core.specs.Rows.{Each}
@@ -55,7 +56,7 @@ overflow_cast-i g c =
     let long : length p.lanes.items ≡ length p.plan.groups = each_long _ 0 p.lanes.items p.plan.groups c.self.invariant.lanes in
     let kept = c.loop-i.auto.lanes in
     let below = c.loop-i-test.true in
-    Fits-below {n = 8} tt (omega arith)
+    Fits-below {n = MAX_KEYS} tt (omega arith)
 
 pub take-requires : goal.take-requires
 take-requires g c =
@@ -74,9 +75,9 @@ take-requires g c =
     let all : list_all lane_is_ready p.lanes.items ≡ true =
     subst (λ (v : PipelineView). list_all lane_is_ready v.lanes ≡ true) (sym c.self.view_is) c.requires in
     let ready = all_at lane_is_ready first i lane (ap (list_all lane_is_ready) value ∙ all) was in
-    let key8 : length c.loop-i.key ≡ 8 =
+    let key8 : length c.loop-i.key ≡ MAX_KEYS =
     c.loop-i.invariant.key ∙ (ap length c.deref_mut-key.ensures.value ∙ c.self.invariant.rooms.for_key) in
-    let args16 : length c.loop-i.args ≡ 16 =
+    let args16 : length c.loop-i.args ≡ MAX_ARGS =
     c.loop-i.invariant.args ∙ (ap length c.deref_mut-args.ensures.value ∙ c.self.invariant.rooms.for_args) in
     let few_keys = fits.few_keys in
     let few_args = fits.few_args in
@@ -115,7 +116,8 @@ returns-clause-makes g c =
     let new = c.loop-i.lanes in
     let whole : take p.lanes.len (new ++ drop (length new) p.lanes.items) ≡ new = whole_written new
     (drop (length new) p.lanes.items) p.lanes.len (c.loop-i.auto.lanes ∙ c.deref_mut-lanes.ensures.len) in
-    let registers : c.registers_of-registers.result.now ≡ row_of p.plan c.args.p.now.words = c.registers_of-registers.ensures.row in
+    let registers : c.registers_of-registers.result.now ≡ packet_registers p.plan c.args.p.now.words =
+    c.registers_of-registers.ensures.row in
     let kept = c.loop-i.auto.lanes in
     let end = c.loop-i-test.false in
     let same : p.plan ≡ c.args.self.now.plan = ap (λ (v : PipelineView). v.plan) c.self.view_is in
