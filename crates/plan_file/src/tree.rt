@@ -2,7 +2,7 @@
 
 ghost use Rattle.std.specs.Prelude.{◌≡◌, ◌≤◌, ◌↔◌, IsTrue, true, false, ◌+◌, ◌-◌, ◌<◌, ◌++◌, ◌∷◌, []};
 ghost use Rattle.std.specs.Prelude.{List, length, count_by, IfOk, IfSome, MatchOption};
-ghost use Rattle.query_lang.specs.Blocks.{Block, End, Fork, block_of, stmt_block};
+ghost use Rattle.query_lang.specs.Blocks.{Block, End, Fork, Set, block_of, stmt_block};
 ghost use Rattle.query_lang.specs.Terms.{Negation, Operation, Term, term_of};
 ghost use Rattle.query_lang.specs.Folds.{IsValidTerm, IsValidBlock, block_nodes, block_count};
 ghost use Rattle.plan_file.specs.declared.lexemes.Lexeme.{Lexeme};
@@ -151,6 +151,30 @@ fn expression<'a>(
     }
 }
 
+// An assignment after its `set` and the number of its state variable, and the tokens after the assignment.
+fn assignment<'a>(
+    alloc: Global,
+    states: u64,
+    slots: u64,
+    variable: u64,
+    words: &'a [Lexeme],
+) -> Result<Option<(TypedStmt, &'a [Lexeme])>, AllocError>
+    requires states { states ≤ slots }
+    requires slots { slots ≤ 24 }
+    ensures found { IfOk result (λ found. (e : Term) → (rest : List Lexeme) → variable < states → IsValidTerm slots e
+        → words.now ≡ written states e ++ rest
+        → MatchOption found ⊥ (λ r. (stmt_block r.0 ≡ Set variable e End) × (r.1.now ≡ rest))) }
+    ensures shorter { IfOk result (λ found. IfSome found (λ r. length r.1.now < length words.now)) }
+{
+    if variable >= states {
+        return Ok(None);
+    }
+    match expression(alloc, states, slots, words)? {
+        Some((value, past)) => Ok(Some((TypedStmt::Assign(variable as u16, value), past))),
+        None => Ok(None),
+    }
+}
+
 // The tokens after the first one, where that is a brace of this kind.
 fn after_brace(words: &[Lexeme], opens: bool) -> Option<&[Lexeme]>
     ensures { MatchOption result ((rest : List Lexeme) → words.now ≡ Trees.brace opens ∷ rest
@@ -240,15 +264,7 @@ fn statement<'a>(
     ensures shorter { IfOk result (λ found. IfSome found (λ r. length r.1.now < length words.now)) }
 {
     match words {
-        [Lexeme::Set, Lexeme::State(v), rest @ ..] => {
-            if *v >= states {
-                return Ok(None);
-            }
-            match expression(alloc, states, slots, rest)? {
-                Some((value, past)) => Ok(Some((TypedStmt::Assign(*v as u16, value), past))),
-                None => Ok(None),
-            }
-        }
+        [Lexeme::Set, Lexeme::State(v), rest @ ..] => assignment(alloc, states, slots, *v, rest),
         [Lexeme::If, rest @ ..] => choice(alloc, states, slots, rest),
         _ => Ok(None),
     }
