@@ -15,3 +15,4 @@ pub mod WithinFacts
 pub mod SameFold
 pub mod LineLaws
 pub mod AnswerFacts
+pub mod GroupFacts

@@ -1,31 +1,50 @@
 //! The text of a plan to the plan.
 
-ghost use Rattle.std.specs.Prelude.{ℕ, IfOk, MatchResult};
+ghost use Rattle.std.specs.Prelude.{◌≡◌, ℕ, IfOk, MatchResult};
 ghost use Rattle.plan_file.specs.Texts.{IsBadAt, IsOnlyAnswer, IsRefused};
 ghost use Rattle.plan_loader.specs.Loaded.{HasBoundOf, IsLoaded, IsLoadedFrom};
+ghost use Rattle.plan_loader.specs.Meaning.{reads_in};
 ghost use Rattle.plan_loader.specs.Parts.{IsSoundMade};
 
 use crate::groups::{set_read, wired_groups};
 use crate::loaded::LoadedPlan;
-use plan_file::{Made, read_text};
+use marple_base::{FieldSet, Seq};
+use plan_file::{Folded, Made, read_text};
 use query_lang::QueryError;
-use stage_plan::Plan;
+use stage_plan::{Plan, PlanOp};
 use std::alloc::{AllocError, Global};
+
+// What a plan takes of what the lines of a text make.
+struct Parts {
+    reads: FieldSet,
+    ops: Seq<PlanOp>,
+    groups: Seq<Folded>,
+    prints: Seq<u16>,
+}
+
+// The parts of what the lines of a text make; the rest is let go.
+fn parts_of(made: Made) -> Parts
+    ensures { result ≡ record { reads = reads_in made; ops = made.ops; groups = made.groups; prints = made.prints } }
+{
+    Parts {
+        reads: set_read(&made.reads),
+        ops: made.ops,
+        groups: made.groups,
+        prints: made.prints,
+    }
+}
 
 // The plan of what the lines of a text make.
 fn plan_of(alloc: Global, made: Made) -> Result<LoadedPlan, AllocError>
     requires { IsSoundMade made }
     ensures { IfOk result (IsLoadedFrom made) }
 {
-    let Made {
-        begun: _,
+    let Parts {
         reads,
         ops,
         groups,
-        current: _,
         prints,
-    } = made;
-    let reads = set_read(&reads);
+    } = parts_of(made);
     let (plans, wirings) = wired_groups(alloc, groups)?;
     let plan = Plan::of_parts(alloc, reads, ops, plans, wirings)?;
     Ok(LoadedPlan { plan, prints })

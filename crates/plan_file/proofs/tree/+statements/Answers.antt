@@ -21,6 +21,39 @@ braced-returns-in-None-after_brace-clause-found t c b rest valid is =
     let h = rw c.in-Some-2.is at (c.in_ok-found.ensures.found b (word.Close ∷ rest) tt valid e) in
     c.in-None-after_brace.ensures rest h.1
 
+pub braced-returns-in-None-clause-found : goal.braced-returns-in-None-clause-found
+braced-returns-in-None-clause-found t c b rest valid is = c.in-None.ensures (written_block c.args.states b ++ word.Close ∷ rest) is
+
+pub braced-returns-in-None-2-clause-found : goal.braced-returns-in-None-2-clause-found
+braced-returns-in-None-2-clause-found t c b rest valid is =
+    let e = tail_same word.Open word.Open c.in-Some.inside.now (written_block c.args.states b ++ word.Close ∷ rest)
+    (sym c.in-Some.ensures ∙ is) in
+    rw c.in-None-2.is at (c.in_ok-found.ensures.found b (word.Close ∷ rest) tt valid e)
+
+pub choice-returns-in-None-clause-found : goal.choice-returns-in-None-clause-found
+choice-returns-in-None-clause-found t c t' a b rest vc va vb is =
+    let wb = written_block c.args.states b in
+    let after = word.Open ∷ (wb ++ word.Close ∷ rest) in
+    rw c.in-None.is at (c.in_ok-found.ensures.found t' (word.Open ∷ (written_block c.args.states a ++ word.Close ∷ after)) vc
+    (is ∙ choice_front (written c.args.states t') (written_block c.args.states a) wb rest))
+
+pub choice-returns-in-None-2-clause-found : goal.choice-returns-in-None-2-clause-found
+choice-returns-in-None-2-clause-found t c t' a b rest vc va vb is =
+    let wb = written_block c.args.states b in
+    let after = word.Open ∷ (wb ++ word.Close ∷ rest) in
+    let h1 = rw c.in-Some.is at (c.in_ok-found.ensures.found t' (word.Open ∷ (written_block c.args.states a ++ word.Close ∷ after)) vc
+    (is ∙ choice_front (written c.args.states t') (written_block c.args.states a) wb rest)) in
+    rw c.in-None-2.is at (c.in_ok-found-2.ensures.found a after va h1.1)
+
+pub choice-returns-in-None-3-clause-found : goal.choice-returns-in-None-3-clause-found
+choice-returns-in-None-3-clause-found t c t' a b rest vc va vb is =
+    let wb = written_block c.args.states b in
+    let after = word.Open ∷ (wb ++ word.Close ∷ rest) in
+    let h1 = rw c.in-Some.is at (c.in_ok-found.ensures.found t' (word.Open ∷ (written_block c.args.states a ++ word.Close ∷ after)) vc
+    (is ∙ choice_front (written c.args.states t') (written_block c.args.states a) wb rest)) in
+    let h2 = rw c.in-Some-2.is at (c.in_ok-found-2.ensures.found a after va h1.1) in
+    rw c.in-None-3.is at (c.in_ok-else_block.ensures.found b rest vb h2.1)
+
 pub choice-returns-in-Some-3-clause-found : goal.choice-returns-in-Some-3-clause-found
 choice-returns-in-Some-3-clause-found t c t' a b rest vc va vb is =
     let wb = written_block c.args.states b in
