@@ -8,7 +8,7 @@ use Rattle.query_grammar.specs.Kinds.{among, kind_number, kinds_of, operator}
 use Rattle.query_grammar.specs.Grammar.{Operators}
 use Rattle.query_grammar.specs.declared.stop.Counts.{Counts}
 use Rattle.query_grammar.specs.Language.{Node}
-use Rattle.query_grammar.specs.Parser.{Limited, Done, charge, next_is, word}
+use Rattle.query_grammar.specs.Parser.{Limited, Done, charge, next_is, taken, word}
 use Rattle.query_lang.specs.declared.token.Token.{Token}
 use Rattle.query_parser.specs.Reads.{op_among, next_op, is_op, op_with}
 
@@ -20,6 +20,11 @@ operator_is (o ∷ others) t = go (nat_eq (kind_number t.kind) (kind_number o.0)
         → operator (o ∷ others) t ≡ op_with t.span (op_among (o ∷ others) t.kind)
     go true e h = rw e refl
     go false e h = rw e h
+
+-- an operator is read as the one that comes next
+pub word_is : (ops : Operators) (c : Counts) (t : Token) (ts : List Token)
+    → word Limited Node (operator ops) c (t ∷ ts) ≡ taken Limited Node c (op_with t.span (next_op ops (t ∷ ts))) t ts
+word_is ops c t ts = rw (operator_is ops t) refl
 
 -- the operator that comes next is read
 pub counted_is : (ops : Operators) (found : Option Op) (op : Op) (c d : Counts) (ts : List Token) (none : Token) → 1 ≤ length ts

@@ -159,6 +159,7 @@ pub fn at_function(rest: &[Token]) -> bool
 }
 
 /// This operator, which the next token is, and which counts as a node.
+#[tactic(auto, using(crate::proofs::OperatorLists::word_is))]
 fn counted(reader: &mut Reader<'_>, found: Option<Op>) -> Read<(Op, Span)>
     ensures { (ops : Operators) → found ≡ next_op ops reader.old.rest.now
         → Sees result reader.old reader.new (word Limited Node (operator_of ops)) }
