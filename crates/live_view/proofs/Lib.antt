@@ -1,4 +1,5 @@
 mod Lists
+mod Endings
 mod Emptied
 mod Prefixes
 mod Seen
