@@ -62,7 +62,7 @@ fn network_after<const WAYS: usize, L: Ledger>(
     take_all(alloc, fresh, setting.lag, trace, steps)
 }
 
-// Runs the query over the trace's packets, with caches of the setting's `WAYS` ways, and writes what it prints at the end.
+// Runs the query over the trace's packets, with caches of `WAYS` ways, and writes what it prints at the end.
 fn run_with<const WAYS: usize, O: Sink, L: Ledger>(
     alloc: Global,
     setting: NetSetting,
@@ -71,8 +71,10 @@ fn run_with<const WAYS: usize, O: Sink, L: Ledger>(
     out: &mut O,
     steps: &mut Steps<L>,
 ) -> Result<(), RunError>
-    requires ways { WAYS ≡ ways_number setting.ways }
-    requires setting { IsNetSetting setting }
+    requires ways { 0 < WAYS }
+    requires buckets { 0 < setting.buckets }
+    requires places { setting.buckets * WAYS ≤ 65536 }
+    requires pipe { (0 < setting.pipe) × (setting.pipe ≤ 65536) }
     requires valid { IsValidQuery query.typed }
     requires plan { IsPlanOf query.typed query.plan }
     requires combines { net_fault query.typed ≡ None }
@@ -81,9 +83,9 @@ fn run_with<const WAYS: usize, O: Sink, L: Ledger>(
     requires few { length trace.packets ≤ MAX_RECORDS }
     ensures accepted { OnOk result (first_fault [] 1 (words_of trace.entry.packets) trace.entry.fault ≡ None) }
     ensures written { OnOk result (Appends (O.taken out.old) (O.taken out.new)
-        (net_text query.typed setting.buckets (ways_number setting.ways) (words_of trace.entry.packets))) }
+        (net_text query.typed setting.buckets WAYS (words_of trace.entry.packets))) }
     ensures breaks_off { IfErr result (BreaksOff O.taken O.faults
-        (net_text query.typed setting.buckets (ways_number setting.ways) (words_of trace.entry.packets))
+        (net_text query.typed setting.buckets WAYS (words_of trace.entry.packets))
         (first_fault [] 1 (words_of trace.entry.packets) trace.entry.fault) out.old out.new) }
     ensures out_later { O.faults out.old ≤ O.faults out.new }
     ensures steps { steps.old ≤ steps.new }

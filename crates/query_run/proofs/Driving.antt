@@ -1,9 +1,9 @@
 -- A run with the setting of a command line.
-use Rattle.std.proofs.Common.{◌≡◌, ◌<◌, ◌≤◌, ◌*◌, ℕ, List, Option, ap, sym, ◌∙◌, subst, arith}
-use Rattle.command_line.specs.Command.{IsSetting, ways_number}
+use Rattle.std.proofs.Common.{◌≡◌, ℕ, List, Option, Result, IfErr, ap, sym, ◌∙◌, subst}
+use Rattle.std.specs.Result.{IsErrAnd}
+use Rattle.command_line.specs.Command.{ways_number}
 use Rattle.command_line.specs.declared.setting.Setting.{Setting}
 use Rattle.command_line.specs.declared.setting.Ways.{Ways}
-use Rattle.command_line.specs.declared.setting.Ways.TheVariants.{One, Two, Four, Eight, Sixteen, ThirtyTwo}
 use Rattle.epoch_entry.specs.declared.purpose.Entries.{Entries}
 use Rattle.epoch_model.specs.Epochs.{Geometry}
 use Rattle.final_queries.specs.declared.table.Table.{Table}
@@ -12,48 +12,20 @@ use Rattle.trace_drive.specs.Answers.{BreaksOff}
 use Rattle.trace_drive.specs.Drives.{geometry_for}
 use Rattle.trace_drive.specs.declared.answer.RunError.{RunError}
 use Rattle.trace_drive.specs.declared.schedule.Schedule.{Schedule}
+use Rattle.trace_drive.proofs.Breaking.{err_is}
 use Rattle.trace_reader.specs.declared.fault.TraceFault.{TraceFault}
 use Rattle.query_run.specs.Driven.{geometry_of}
 use Rattle.query_run.specs.Reports.{Prints}
 use Rattle.query_run.specs.Views.{views_text}
+use Rattle.query_run.specs.declared.driven.Driven.{Driven}
 
--- the schedule of a setting
-abbrev pub schedule_in : Setting → Schedule
-schedule_in setting = record { buckets = setting.buckets; pipe = setting.pipe; lag = setting.lag; refresh = setting.refresh }
-
--- the caches of a setting's schedule with as many ways as the setting's are those of the setting
-pub geometry_is : (setting : Setting) (schedule : Schedule) (ways : ℕ) → ways ≡ ways_number setting.ways → schedule ≡ schedule_in setting
-    → geometry_for ways schedule ≡ geometry_of setting
+-- the caches of a schedule with the setting's ways are those of the setting
+pub geometry_is : (setting : Setting) (schedule : Schedule) (ways : Ways) → setting.ways ≡ ways
+    → schedule ≡ record { buckets = setting.buckets; pipe = setting.pipe; lag = setting.lag; refresh = setting.refresh }
+    → geometry_for (ways_number ways) schedule ≡ geometry_of setting
 geometry_is setting schedule ways is same =
-    ap (geometry_for ways) same
-    ∙ ap (λ (ways : ℕ). record { buckets = setting.buckets; ways = ways; refresh = setting.refresh }) is
-
-ways_are_some : (ways : Ways) → 0 < ways_number ways
-ways_are_some One = omega arith
-ways_are_some Two = omega arith
-ways_are_some Four = omega arith
-ways_are_some Eight = omega arith
-ways_are_some Sixteen = omega arith
-ways_are_some ThirtyTwo = omega arith
-
--- the sizes of a setting's schedule are in their limits
-pub record AreSizes (schedule : Schedule) (ways : ℕ) : Type 0 where
-  pub some_ways : 0 < ways
-  pub buckets : 0 < schedule.buckets
-  pub places : schedule.buckets * ways ≤ 65536
-  pub pipe : (0 < schedule.pipe) × (schedule.pipe ≤ 65536)
-
-pub sizes_are : (setting : Setting) (schedule : Schedule) (ways : ℕ) → IsSetting setting → ways ≡ ways_number setting.ways
-    → schedule ≡ schedule_in setting
-    → AreSizes schedule ways
-sizes_are setting schedule ways s is same =
-    subst (λ (schedule : Schedule). AreSizes schedule ways) (sym same)
-    (subst (AreSizes (schedule_in setting)) (sym is) (record {
-      some_ways = ways_are_some setting.ways;
-      buckets = s.some_buckets;
-      places = s.places;
-      pipe = (s.some_records, s.records);
-    }))
+    ap (geometry_for (ways_number ways)) same
+    ∙ ap (λ (ways : Ways). record { buckets = setting.buckets; ways = ways_number ways; refresh = setting.refresh }) (sym is)
 
 module _ {O : Type 0} (taken : O → Option (List ℕ)) (faults : O → ℕ) (entries : Entries) (plan : PlanParts) (printed : List Table → List ℕ)
     (every : ℕ) (packets : List (List ℕ)) (fault : Option TraceFault)
@@ -62,3 +34,9 @@ module _ {O : Type 0} (taken : O → Option (List ℕ)) (faults : O → ℕ) (en
   abbrev pub Breaks : Geometry → RunError → Type 0
   Breaks g answer = (text : Geometry → List (List ℕ) → List ℕ) → Prints entries plan printed text
       → BreaksOff taken faults (views_text (text g) every packets) fault old new answer
+
+  -- the answer is handed on
+  pub handed_on : (g found : Geometry) (result : Result Driven RunError) (answer : RunError) → g ≡ found
+      → IsErrAnd result (λ one. one ≡ answer) → Breaks g answer → IfErr result (Breaks found)
+  handed_on g found result answer same is broke = err_is (Breaks found) result answer is
+      (subst (λ (g : Geometry). Breaks g answer) same broke)

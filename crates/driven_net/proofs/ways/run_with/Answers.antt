@@ -1,8 +1,6 @@
 use Rattle.std.proofs.Common.{◌≡◌, ℕ, List, OnOk, IfErr, None, [], refl, sym, ap, ◌∙◌, subst}
 use Rattle.std.specs.Io.KnownBytes.{Appends}
 use Rattle.std.proofs.KnownBytes.{Appends-nil}
-use Rattle.command_line.specs.Command.{ways_number}
-use Rattle.command_line.specs.declared.setting.NetSetting.{NetSetting}
 use Rattle.query_lang.specs.declared.typed.TypedQuery.{TypedQuery}
 use Rattle.final_queries.specs.declared.table.Table.{Table}
 use Rattle.final_queries.specs.Finals.{with_finals}
@@ -16,21 +14,20 @@ use Rattle.driven_net.specs.NetTraces.{first_fault}
 use Rattle.driven_net.proofs.Ends.{text_is}
 use Rattle.driven_net.proofs.ways.run_with.Goals as goal
 
--- what is printed of the tables of a network with caches of this setting
-text_of : (q : TypedQuery) (buckets ways : ℕ) (set : NetSetting) (packets : List (List ℕ)) (tables : List Table)
-    → buckets ≡ set.buckets → ways ≡ ways_number set.ways
+-- what is printed of the tables of a network with these buckets
+text_of : (q : TypedQuery) (buckets set ways : ℕ) (packets : List (List ℕ)) (tables : List Table) → buckets ≡ set
     → tables ≡ net_tables q (caches_of buckets ways) packets
-    → printed q (with_finals q.names q.folds tables q.finals) ≡ net_text q set.buckets (ways_number set.ways) packets
-text_of q buckets ways set packets tables same is are =
+    → printed q (with_finals q.names q.folds tables q.finals) ≡ net_text q set ways packets
+text_of q buckets set ways packets tables same are =
     text_is q buckets ways packets tables (printed q (with_finals q.names q.folds tables q.finals)) are refl
-    ∙ (ap (λ b. net_text q b ways packets) same ∙ ap (λ w. net_text q set.buckets w packets) is)
+    ∙ ap (λ b. net_text q b ways packets) same
 
 pub returns-in_err-network-clause-breaks_off : goal.returns-in_err-network-clause-breaks_off
 returns-in_err-network-clause-breaks_off g c =
     let out = c.args.out.now in
     let trace = c.args.trace in
     let answer = c.in_err-network.field-0.0 in
-    let text = net_text c.args.query.typed c.args.setting.buckets (ways_number c.args.setting.ways) (words_of trace.packets) in
+    let text = net_text c.args.query.typed c.args.setting.buckets g.row.WAYS (words_of trace.packets) in
     let fault = first_fault [] 1 (words_of trace.packets) trace.fault in
     err_is (BreaksOff g.O.Sink.taken g.O.Sink.faults text fault out out) c.from_residual.result (answer_for answer)
     c.from_residual.ensures.1
@@ -41,7 +38,7 @@ pub returns-in_err-tables-clause-breaks_off : goal.returns-in_err-tables-clause-
 returns-in_err-tables-clause-breaks_off g c =
     let out = c.args.out.now in
     let trace = c.args.trace in
-    let text = net_text c.args.query.typed c.args.setting.buckets (ways_number c.args.setting.ways) (words_of trace.packets) in
+    let text = net_text c.args.query.typed c.args.setting.buckets g.row.WAYS (words_of trace.packets) in
     let fault = first_fault [] 1 (words_of trace.packets) trace.fault in
     err_is (BreaksOff g.O.Sink.taken g.O.Sink.faults text fault out out) c.from_residual-in_err-tables.result Memory
     c.from_residual-in_err-tables.ensures.1
@@ -57,7 +54,7 @@ returns-clause-written g c =
     let f = c.in_ok-network.ensures.follows in
     let network = c.in_ok-network.network in
     let tables = c.in_ok-tables.tables in
-    let is = text_of q network.buckets g.row.WAYS c.args.setting packets tables c.in_ok-network.ensures.buckets c.requires.ways
+    let is = text_of q network.buckets c.args.setting.buckets g.row.WAYS packets tables c.in_ok-network.ensures.buckets
     (c.in_ok-tables.ensures.tables f.0 packets c.requires.whole f.1) in
     subst (λ text. OnOk c.write_text.result (Appends (g.O.Sink.taken c.args.out.now) (g.O.Sink.taken c.write_text.new.out) text)) is
     c.write_text.ensures.written
@@ -71,8 +68,8 @@ returns-clause-breaks_off g c =
     let tables = c.in_ok-tables.tables in
     let old = c.args.out.now in
     let new = c.write_text.new.out in
-    let text = net_text q c.args.setting.buckets (ways_number c.args.setting.ways) packets in
-    let is = text_of q network.buckets g.row.WAYS c.args.setting packets tables c.in_ok-network.ensures.buckets c.requires.ways
+    let text = net_text q c.args.setting.buckets g.row.WAYS packets in
+    let is = text_of q network.buckets c.args.setting.buckets g.row.WAYS packets tables c.in_ok-network.ensures.buckets
     (c.in_ok-tables.ensures.tables f.0 packets c.requires.whole f.1) in
     subst (λ fault. IfErr c.write_text.result (BreaksOff g.O.Sink.taken g.O.Sink.faults text fault old new))
     (sym c.in_ok-network.ensures.accepted)
