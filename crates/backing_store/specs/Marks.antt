@@ -1,5 +1,6 @@
 -- Marks of keys, by which keys are found. Each key has one that no other has.
-use Rattle.std.specs.Prelude.{◌≡◌, ℕ, List, [], ◌∷◌, ◌+◌, ◌*◌, ◌%◌, ◌^◌, ◌<◌, drop, false, length, nat_eq, slice_get, slice_index, take, Some}
+use Rattle.std.specs.Prelude.{◌≡◌, ℕ, List, [], ◌∷◌, ◌+◌, ◌*◌, ◌%◌, ◌^◌, ◌<◌, drop, false, length}
+use Rattle.std.specs.Prelude.{nat_eq, slice_get, slice_index, take, Some}
 use Rattle.std.specs.List.{list_any}
 use Rattle.epoch_model.specs.Keys.{Key}
 use Rattle.backing_store.specs.SipHash.{sip_hash}

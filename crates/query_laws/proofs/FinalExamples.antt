@@ -21,7 +21,8 @@ use Rattle.query_laws.proofs.NameLaws.{fold_name_sound, fold_name_complete, tabl
 use Rattle.query_laws.proofs.Steps.{same_ok, place_stands}
 use Rattle.query_laws.specs.TypingExamples.{here, called, first, is_above_0, new_column}
 use Rattle.query_laws.specs.FinalExamples.{group_table, final_table, without_emit, with_emit, tables, three_groupbys, MakesNoTable}
-use Rattle.query_laws.specs.FinalExamples.{table_by, MakesRows, FilteredTables, MappedTables, GroupedTables, JoinedTables, RankedTables, FinalExamples}
+use Rattle.query_laws.specs.FinalExamples.{table_by, MakesRows, FilteredTables, MappedTables, GroupedTables, JoinedTables}
+use Rattle.query_laws.specs.FinalExamples.{RankedTables, FinalExamples}
 use Rattle.query_laws.proofs.TypingExamples.{no_place, right_of_0}
 
 ten : IsTable tables 10 (group_table 0 1 3)

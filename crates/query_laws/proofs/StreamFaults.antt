@@ -44,7 +44,8 @@ abbrev StreamTold : List ℕ → Earlier → Name → StreamOp → Type 0
 StreamTold five earlier name op = (fault : QueryFault) → made_stream five earlier name op ≡ Err fault
     → Broken (StreamAsks five earlier.known earlier.groups name op) earlier.known fault
 
-stream_filter_told : (five : List ℕ) (earlier : Earlier) (name : Name) (input : Name) (e : Expr) → StreamTold five earlier name (stream.Filter input e)
+stream_filter_told : (five : List ℕ) (earlier : Earlier) (name : Name) (input : Name) (e : Expr)
+    → StreamTold five earlier name (stream.Filter input e)
 stream_filter_told five earlier name input e fault is =
     by_next (stream_named earlier.known input) _ fault is (λ is. record {
       demand = Stands AStream input;
@@ -61,7 +62,8 @@ stream_filter_told five earlier name input e fault is =
     })
     (λ condition q is. no_fault _ fault is))
 
-stream_map_told : (five : List ℕ) (earlier : Earlier) (name : Name) (input : Name) (new : List Column) → StreamTold five earlier name (stream.Map input new)
+stream_map_told : (five : List ℕ) (earlier : Earlier) (name : Name) (input : Name) (new : List Column)
+    → StreamTold five earlier name (stream.Map input new)
 stream_map_told five earlier name input new fault is =
     by_next (stream_named earlier.known input) _ fault is (λ is. record {
       demand = Stands AStream input;
@@ -73,7 +75,8 @@ stream_map_told five earlier name input new fault is =
     (columns_told (column_names source.columns) source.hidden new [] new no_new_columns earlier.known fault refl refl is))
     (λ made q is. no_fault _ fault is))
 
-stream_zip_told : (five : List ℕ) (earlier : Earlier) (name : Name) (first second : Name) → StreamTold five earlier name (stream.Zip first second)
+stream_zip_told : (five : List ℕ) (earlier : Earlier) (name : Name) (first second : Name)
+    → StreamTold five earlier name (stream.Zip first second)
 stream_zip_told five earlier name first second fault is =
     by_next (stream_named earlier.known first) _ fault is (λ is. record {
       demand = Stands AStream first;
@@ -92,7 +95,8 @@ stream_zip_told five earlier name first second fault is =
           (refl, λ same. not_both _ (all_same_complete left.columns right.columns same) clashes);
     }) (λ none is. no_fault _ fault is)))
 
-stream_groupby_told : (five : List ℕ) (earlier : Earlier) (name : Name) (input : Name) (keys : List Key) (fold_name : Name) → StreamTold five earlier name (stream.Group input keys fold_name)
+stream_groupby_told : (five : List ℕ) (earlier : Earlier) (name : Name) (input : Name) (keys : List Key) (fold_name : Name)
+    → StreamTold five earlier name (stream.Group input keys fold_name)
 stream_groupby_told five earlier name input keys fold_name fault is =
     by_must (nat_lt earlier.groups MAX_GROUPBYS) (OverLimit Groupbys) name.span _ fault is (λ full at. record {
       demand = Fewer Groupbys earlier.groups name.span;
@@ -174,7 +178,8 @@ final_map_told given earlier input new fault is =
     (columns_told source.columns [] new [] new no_new_columns earlier.known fault refl refl is))
     (λ made q is. no_fault _ fault is))
 
-final_groupby_told : (given : Given) (earlier : Earlier) (input : Name) (keys : List Key) (fold_name : Name) → FinalTold given earlier (final.Group input keys fold_name)
+final_groupby_told : (given : Given) (earlier : Earlier) (input : Name) (keys : List Key) (fold_name : Name)
+    → FinalTold given earlier (final.Group input keys fold_name)
 final_groupby_told given earlier input keys fold_name fault is =
     let five = five_fields given.fields in
     by_next (table_named earlier.known input) _ fault is (λ is. record {
@@ -227,7 +232,8 @@ final_join_told given earlier first second fault is =
           (refl, λ apart. not_both _ (apart_complete (other_columns right) left.columns apart) among);
     }) (λ none is. no_fault _ fault is))))
 
-final_top_told : (given : Given) (earlier : Earlier) (input column : Name) (rows : ℕ) (span : Span) → FinalTold given earlier (final.Top input column rows span)
+final_top_told : (given : Given) (earlier : Earlier) (input column : Name) (rows : ℕ) (span : Span)
+    → FinalTold given earlier (final.Top input column rows span)
 final_top_told given earlier input column rows span fault is =
     by_next (table_named earlier.known input) _ fault is (λ is. record {
       demand = Stands ATable input;

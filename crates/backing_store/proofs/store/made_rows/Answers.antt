@@ -7,7 +7,8 @@ use Rattle.backing_store.specs.SortedRows.{numbered}
 use Rattle.backing_store.specs.Store.{epochs_of, number_of, states_at, StoredRow}
 use Rattle.backing_store.specs.Stored.{stored}
 use Rattle.backing_store.specs.declared.order.Place.{Place}
-use Rattle.backing_store.proofs.PlaceFacts.{ascends_there, counted_pushed, distinct_keys, epoch_small, epoch_there, key_pushed, last_is, number_at}
+use Rattle.backing_store.proofs.PlaceFacts.{ascends_there, counted_pushed, distinct_keys, epoch_small, epoch_there, key_pushed}
+use Rattle.backing_store.proofs.PlaceFacts.{last_is, number_at}
 use Rattle.backing_store.proofs.PlaceFacts.{place_number, row_pushed}
 use Rattle.backing_store.proofs.SortedFacts.{made_push, of_within, row_is}
 use Rattle.backing_store.proofs.ZipFacts.{zip-stored}
