@@ -2,7 +2,9 @@ pub mod FoldLemmas
 pub mod ShapeLemmas
 pub mod MapFacts
 pub mod PlacedWords
+pub mod WritingPlaces
 pub mod StepCosts
+pub mod StepSums
 pub mod StepWords
 pub mod MoverLemmas
 pub mod EntryLemmas

@@ -1,7 +1,8 @@
-use Rattle.std.proofs.Common.{◌≡◌, ◌≢◌, ℕ, ◌<◌, List, length, slice_index, ap, ◌∙◌, subst}
+use Rattle.std.proofs.Common.{◌≡◌, ◌≢◌, ℕ, ◌<◌, ◌≤◌, ◌+◌, ◌*◌, arith, List, length, slice_index, ap, ◌∙◌, subst}
 use Rattle.coeff_algebra.specs.Maps.{table_of, stored_entry}
 use Rattle.fold_class.specs.Step.{words_at}
 use Rattle.epoch_entry.proofs.StepWords.{column_moved}
+use Rattle.epoch_entry.proofs.StepSums.{five_rise, run_cost}
 use Rattle.epoch_entry.proofs.step.step_column.Goals as goal
 
 pub returns-clause-moves : goal.returns-clause-moves
@@ -33,3 +34,14 @@ returns-clause-moves g c =
           (subst (λ (l : List ℕ). (i k : ℕ) → i < length l → k < length l
           → stored_entry m.WORDS (length l) map'' i k ≡ stored_entry m.WORDS (length l) map' i k) el c.state_to_column.ensures.others),
     )
+
+pub returns-clause-steps : goal.returns-clause-steps
+returns-clause-steps g c =
+    five_rise _ _ _ _ _ _ _ _ _ _ _ c.scatter.ensures.steps c.column_to_state.ensures.steps c.exec.ensures.steps c.gather.ensures.steps
+    c.state_to_column.ensures.steps
+
+pub returns-clause-cost : goal.returns-clause-cost
+returns-clause-cost g c =
+    run_cost _ _ _ _ _ _ _ _ _ _ _ _ _ (ap (λ (l : List ℕ). length l) c.as_slice-places.ensures)
+    (ap (λ (l : List ℕ). length l) c.as_slice-linear.ensures) c.scatter.ensures.steps c.column_to_state.ensures.steps
+    c.exec.ensures.steps c.gather.ensures.steps c.state_to_column.ensures.steps
