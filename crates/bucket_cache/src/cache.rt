@@ -97,6 +97,11 @@ impl<const WAYS: usize> BucketCache<WAYS> {
         })
     }
 
+    /// The number of words of a key.
+    pub fn key_width(&self) -> usize {
+        self.key_words
+    }
+
     /// The number of buckets.
     pub fn buckets(&self) -> u32
         ensures number { result ≡ length self.now.lists }
@@ -215,7 +220,7 @@ impl<const WAYS: usize> BucketCache<WAYS> {
         let bucket = bucket as usize;
         if i < self.used[bucket] as usize {
             let first = bucket * WAYS;
-            Some(first + self.order[first + i] as usize)
+            Some(first + slices::way_at(WAYS, &self.order, first + i))
         } else {
             None
         }
