@@ -51,6 +51,16 @@ pub fn move_to_front<L: Ledger>(order: &mut [u16], at: usize, steps: &mut Steps<
     steps.tick_many(at as u64 + 1);
 }
 
+/// The sum of the first word and the last one, 0 where there are none.
+#[inline(always)]
+pub fn sum_of_ends(words: &[u64]) -> u64 {
+    let count = words.len();
+    if count == 0 {
+        return 0;
+    }
+    words[0].wrapping_add(words[count - 1])
+}
+
 /// One of the rows of this width, which are stored one after another.
 pub fn row(words: &[u64], width: usize, at: usize) -> &[u64]
     requires { at * width + width ≤ length words.now }
