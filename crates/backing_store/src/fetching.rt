@@ -21,24 +21,39 @@ fn sum_of_ends(words: &[u64]) -> u64 {
     words[0].wrapping_add(words[count - 1])
 }
 
-// A sum of words of the row at a place: those at the ends of its key and of its state, and how often its key was merged.
-fn sum_of_row(keys: &Keys, merged: &[Merged], states: &States, at: usize) -> u64 {
-    if at >= states.len() {
-        return 0;
+// A sum of the numbers of the keys of the rows at these places, and of the words at the ends of their states.
+fn sum_of_states(states: &States, places: &[Place]) -> u64 {
+    let mut sum = 0u64;
+    for place in places {
+        if place.at < states.len() {
+            sum = sum
+                .wrapping_add(states.of(place.at) as u64)
+                .wrapping_add(sum_of_ends(states.row(place.at)));
+        }
     }
-    let of = states.of(at);
-    if of >= keys.len() || of >= merged.len() {
-        return 0;
+    sum
+}
+
+// A sum of the words at the ends of the keys of the rows at these places, and of how often the keys were merged.
+fn sum_of_keys(keys: &Keys, merged: &[Merged], states: &States, places: &[Place]) -> u64 {
+    let mut sum = 0u64;
+    for place in places {
+        if place.at < states.len() {
+            let of = states.of(place.at);
+            if of < keys.len() && of < merged.len() {
+                sum = sum
+                    .wrapping_add(sum_of_ends(keys.key(of)))
+                    .wrapping_add(merged[of].epochs);
+            }
+        }
     }
-    sum_of_ends(keys.key(of))
-        .wrapping_add(sum_of_ends(states.row(at)))
-        .wrapping_add(merged[of].epochs)
+    sum
 }
 
 /// Reads words of each of the next rows, once for so many of them, before they are added to those that are made one by one. To
 /// add a row takes so long that the words of the next one would be asked for only when its own have come; reads that follow one
-/// another wait together. The sum of what was read has to decide something, or nothing would be read: whether a little more
-/// memory is taken.
+/// another wait together, first those of states, which say where the keys are, and then those of keys. The sum of what was
+/// read has to decide something, or nothing would be read: whether a little more memory is taken.
 pub fn fetch_next(
     made: &mut Rows,
     keys: &Keys,
@@ -52,10 +67,12 @@ pub fn fetch_next(
     if next % ROWS_AT_ONCE != 0 {
         return Ok(());
     }
-    let mut sum = 0u64;
-    for i in next..places.len().min(next.saturating_add(ROWS_AT_ONCE)) {
-        sum = sum.wrapping_add(sum_of_row(keys, merged, states, places[i].at));
+    if next >= places.len() {
+        return Ok(());
     }
+    let rest = &places[next..];
+    let few = &rest[..rest.len().min(ROWS_AT_ONCE)];
+    let sum = sum_of_states(states, few).wrapping_add(sum_of_keys(keys, merged, states, few));
     let more = if sum == 0 { 1 } else { 0 };
     made.reserve(0, more)
 }

@@ -5,7 +5,7 @@ ghost use Rattle.std.specs.Prelude.{IfOk, OnOk, OnErr};
 ghost use Rattle.backing_store.specs.Marks.{IsNextMarkOf};
 ghost use Rattle.backing_store.specs.Searches.{FindsKey};
 
-use crate::marks::{Search, add_key, find_key};
+use crate::marks::{Search, add_key, find_key, first_found};
 use crate::slices::row;
 use indexmap::IndexSet;
 use std::alloc::{AllocError, Global};
@@ -84,6 +84,11 @@ impl Keys {
         ensures { FindsKey self.now key.now result }
     {
         find_key(self.width, self.words.as_slice(), &self.marks, key)
+    }
+
+    /// The place that a search for the key finds first, or the number of keys.
+    pub fn first_found(&self, key: &[u64]) -> usize {
+        first_found(&self.marks, key)
     }
 
     /// Adds a key at the end, with the mark that a search gave for it. On an error the keys are unchanged.

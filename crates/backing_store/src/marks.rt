@@ -47,6 +47,14 @@ pub fn find_key(width: usize, words: &[u64], marks: &IndexSet<u64>, key: &[u64])
     Search::Free(first)
 }
 
+/// The place that a search for the key finds first, or the number of keys.
+pub fn first_found(marks: &IndexSet<u64>, key: &[u64]) -> usize {
+    match marks.get_index_of(&fingerprint(key)) {
+        Some(at) => at,
+        None => marks.len(),
+    }
+}
+
 /// Adds a key with the mark that a search gave for it. On an error nothing is changed.
 pub fn add_key(
     width: usize,

@@ -20,6 +20,9 @@ use std::alloc::{AllocError, Global};
 use std::marker::Model;
 use table_rows::Rows;
 
+// An index of so many keys doesn't lie near.
+const MANY_KEYS: usize = 65536;
+
 // How often a key was merged, and the place of its last row.
 #[derive(Clone, Copy, Drop)]
 pub struct Merged {
@@ -162,6 +165,15 @@ impl BackingStore {
                 }
             }
         }
+    }
+
+    /// A number that depends on the words of the index with which a search for the key begins, where there are many keys. It means
+    /// nothing, but who asks for it has the words read, before they are needed.
+    pub fn read_ahead(&self, key: &[u64]) -> u64 {
+        if self.keys.len() < MANY_KEYS {
+            return 0;
+        }
+        self.keys.first_found(key) as u64
     }
 
     /// How many epochs of a key were counted, 0 where the key isn't there.

@@ -11,6 +11,7 @@ ghost use Rattle.bucket_cache.specs.Caches.{Cache, list_at, entry_at, with_list,
 use crate::bucket::Touch;
 use crate::buckets::{replace_in_bucket, touch_bucket};
 use crate::entries::Entries;
+use crate::hash::bucket_at;
 use crate::slices;
 use marple_base::Steps;
 use std::alloc::{AllocError, Global};
@@ -97,12 +98,40 @@ impl<const WAYS: usize> BucketCache<WAYS> {
         })
     }
 
+    /// The number of words of a key.
+    pub fn key_width(&self) -> usize {
+        self.key_words
+    }
+
+    /// The number of words of each key.
+    pub fn key_words(&self) -> usize
+        ensures { result ≡ self.now.key_words }
+    {
+        self.key_words
+    }
+
     /// The number of buckets.
     pub fn buckets(&self) -> u32
         ensures number { result ≡ length self.now.lists }
         ensures sound { IsSoundCache WAYS self.now }
     {
         self.used.len() as u32
+    }
+
+    /// A sum of the words that a touch of this key and the use of its entry begin with: at the ends of the key at the front of
+    /// its bucket, and of the entry there. It means nothing, but who asks for it has the words read, before they are needed.
+    pub fn read_ahead(&self, key: &[u64]) -> u64 {
+        self.invariant();
+        let buckets = self.buckets();
+        if buckets == 0 {
+            return 0;
+        }
+        match self.place(bucket_at(key, buckets), 0) {
+            Some(place) => slices::sum_of_ends(self.key(place)).wrapping_add(slices::sum_of_ends(
+                self.entry(place),
+            )),
+            None => 0,
+        }
     }
 
     /// Brings the key to the front of its bucket where it is there or where a place is free. A key that is at the front
@@ -215,7 +244,7 @@ impl<const WAYS: usize> BucketCache<WAYS> {
         let bucket = bucket as usize;
         if i < self.used[bucket] as usize {
             let first = bucket * WAYS;
-            Some(first + self.order[first + i] as usize)
+            Some(first + slices::way_at(WAYS, &self.order, first + i))
         } else {
             None
         }

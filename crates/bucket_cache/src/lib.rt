@@ -14,7 +14,7 @@ mod ways;
 
 pub use bucket::Touch;
 pub use cache::BucketCache;
-pub use hash::bucket_of;
+pub use hash::{bucket_at, bucket_of};
 
 /// A touch, or a touch that finds the bucket full with the replacement after it, takes at most
 /// 2 × ways × (key words + 1) steps.

@@ -68,7 +68,7 @@ fn put<L: Ledger>(
     ensures keys { way_keys key.now order.old words.new ≡ slice_set (way_keys key.now order.old words.old) result key.now }
     ensures cost { steps.new ≡ steps.old + (at + 1) + length key.now }
 {
-    let way = order[at] as usize;
+    let way = slices::way_at(order.len(), order, at);
     slices::move_to_front(order, at, steps);
     let start = way * key.len();
     copy_words(key, &mut words[start..start + key.len()], steps);
@@ -100,7 +100,7 @@ pub fn touch_ways<L: Ledger>(
 {
     match find_key(order, *used as usize, words, key, compared, steps) {
         Some(at) => {
-            let way = order[at] as usize;
+            let way = slices::way_at(order.len(), order, at);
             slices::move_to_front(order, at, steps);
             Touch::Hit(first + way)
         }
@@ -110,7 +110,8 @@ pub fn touch_ways<L: Ledger>(
                 *used += 1;
                 Touch::Free(first + way)
             } else {
-                Touch::Full(first + order[*used as usize - 1] as usize)
+                let way = slices::way_at(order.len(), order, *used as usize - 1);
+                Touch::Full(first + way)
             }
         }
     }

@@ -3,6 +3,7 @@
 #![tactic(auto)]
 
 mod closing;
+mod fetching;
 mod front;
 mod lane;
 mod lanes;

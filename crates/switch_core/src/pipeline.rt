@@ -19,6 +19,7 @@ ghost use Rattle.switch_core.specs.PlanLanes.{AreKept, AreLanesOf, AtLane, HaveP
 ghost use Rattle.switch_core.specs.PlanLanes.{PipelineStands, UpkeepBreaksOff, folding_at, lane_is_drained, lane_is_ready};
 ghost use Rattle.switch_core.specs.PlanLanes.{lane_merge_cost, lane_sweep_cost, lane_upkeep_cost, pipeline_cost, stored_tables, upkeeps_at};
 
+use crate::fetching::{read_caches, read_stores};
 use crate::front::Merged;
 use crate::lane::Lane;
 use crate::lanes::{all_drained, all_ready, evict_at, keep_lanes, merge_at};
@@ -166,6 +167,7 @@ impl<const WAYS: usize> Pipeline<WAYS> {
         let lanes: &mut [Lane<AnyEpochs, WAYS>] = &mut self.lanes;
         let key: &mut [u64] = &mut self.key;
         let args: &mut [u64] = &mut self.args;
+        read_caches(self.buckets, lanes, &self.plan, registers, key, args);
         for i in 0..lanes.len() {
             let lane = &mut lanes[i];
             lane.take(&self.plan, i as u32, registers, key, args, steps);
@@ -217,6 +219,7 @@ impl<const WAYS: usize> Pipeline<WAYS> {
         ensures steps { steps.old ≤ steps.new }
         ensures cost { steps.new ≤ steps.old + sum_by (lane_upkeep_cost upkeep) self.old.lanes }
     {
+        read_stores(upkeep, &self.lanes, &mut self.args);
         keep_lanes(&mut self.lanes, upkeep, steps)
     }
 

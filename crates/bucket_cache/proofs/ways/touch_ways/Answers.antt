@@ -32,7 +32,8 @@ returns-in-Some-clause-touched g c =
     let at = c.in-Some.at in
     let found = c.in-Some.ensures.found in
     let front : at < length (take used order) = in-front used at order c.requires.bucket.within found in
-    let same : Matches keys (take used order) at key true = matches-front used at order keys key true found c.in-Some.ensures.same in (
+    let same : Matches keys (take used order) at key true = matches-front used at order keys key true found c.in-Some.ensures.same in
+    rw c.way_at-way.ensures (
       hit-has c.args.first at (take used order) keys key front same,
       hit-place c.args.first (length key) used at order keys key c.requires.bucket front found same,
       ap (λ o. pairs_at c.args.first keys (take used o)) c.move_to_front.ensures.moved
@@ -77,7 +78,8 @@ returns-else-used-order-clause-touched g c =
     let used = c.args.used.now in
     let keys = rows_of (length key) (length order) c.args.words.now in
     let few = few-pairs c.args.first used order keys c.requires.bucket.within in
-    let full : used ≡ length order = let h = c.requires.bucket.within in let f = c.if-used-order.false in omega arith in (
+    let full : used ≡ length order = let h = c.requires.bucket.within in let f = c.if-used-order.false in omega arith in
+    rw c.way_at-way-else-used-order.ensures (
       none-in-front c.args.first used order keys key c.requires.bucket.within c.in-None.ensures.none,
       few ∙ full,
       least-pair c.args.first used order keys (let s = c.requires.bucket.some in omega arith) c.requires.bucket.within,

@@ -76,9 +76,9 @@ take-requires g c =
     subst (λ (v : PipelineView). list_all lane_is_ready v.lanes ≡ true) (sym c.self.view_is) c.requires in
     let ready = all_at lane_is_ready first i lane (ap (list_all lane_is_ready) value ∙ all) was in
     let key8 : length c.loop-i.key ≡ MAX_KEYS =
-    c.loop-i.invariant.key ∙ (ap length c.deref_mut-key.ensures.value ∙ c.self.invariant.rooms.for_key) in
+    c.loop-i.invariant.key ∙ (c.read_caches.auto.key ∙ (ap length c.deref_mut-key.ensures.value ∙ c.self.invariant.rooms.for_key)) in
     let args16 : length c.loop-i.args ≡ MAX_ARGS =
-    c.loop-i.invariant.args ∙ (ap length c.deref_mut-args.ensures.value ∙ c.self.invariant.rooms.for_args) in
+    c.loop-i.invariant.args ∙ (c.read_caches.auto.room ∙ (ap length c.deref_mut-args.ensures.value ∙ c.self.invariant.rooms.for_args)) in
     let few_keys = fits.few_keys in
     let few_args = fits.few_args in
     (lit< tt, (fits.group, (c.registers_of-registers.ensures.length, (ready, (fits.keys, (fits.args, (omega arith, omega arith)))))))
@@ -208,10 +208,10 @@ invariant_of-self g c =
             (c.fill_registers.auto.registers ∙ c.deref_mut.ensures.len))
             ∙ (c.fill_registers.auto.registers ∙ (ap length c.deref_mut.ensures.value ∙ c.self.invariant.rooms.for_row));
         for_key = ap length (whole_written key (drop (length key) p.key.items) p.key.len
-            (c.loop-i.invariant.key ∙ c.deref_mut-key.ensures.len))
-            ∙ (c.loop-i.invariant.key ∙ (ap length c.deref_mut-key.ensures.value ∙ c.self.invariant.rooms.for_key));
+            (c.loop-i.invariant.key ∙ (c.read_caches.auto.key ∙ c.deref_mut-key.ensures.len)))
+            ∙ (c.loop-i.invariant.key ∙ (c.read_caches.auto.key ∙ (ap length c.deref_mut-key.ensures.value ∙ c.self.invariant.rooms.for_key)));
         for_args = ap length (whole_written args (drop (length args) p.args.items) p.args.len
-            (c.loop-i.invariant.args ∙ c.deref_mut-args.ensures.len))
-            ∙ (c.loop-i.invariant.args ∙ (ap length c.deref_mut-args.ensures.value ∙ c.self.invariant.rooms.for_args));
+            (c.loop-i.invariant.args ∙ (c.read_caches.auto.room ∙ c.deref_mut-args.ensures.len)))
+            ∙ (c.loop-i.invariant.args ∙ (c.read_caches.auto.room ∙ (ap length c.deref_mut-args.ensures.value ∙ c.self.invariant.rooms.for_args)));
       };
     }
