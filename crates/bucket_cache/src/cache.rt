@@ -98,11 +98,6 @@ impl<const WAYS: usize> BucketCache<WAYS> {
         })
     }
 
-    /// The number of words of a key.
-    pub fn key_width(&self) -> usize {
-        self.key_words
-    }
-
     /// The number of words of each key.
     pub fn key_words(&self) -> usize
         ensures { result ≡ self.now.key_words }
