@@ -16,7 +16,7 @@ returns c = record {
   states = no_items c.args.group.now.state_names c.is_empty-else-not-is_empty.result c.is_empty-else-not-is_empty.ensures
       c.if-not-is_empty-2.false;
   body = search rules;
-  room = omega (arith, c.if-len-ge8.false, c.len.ensures);
+  room = omega (arith, c.if-len-ge-MAX_KEYS.false, c.len.ensures);
   name = c.in-Some.found.0.now;
   value = c.in-Some.found.1;
   valid = c.in-Some.ensures;

@@ -14,7 +14,7 @@ pub returns : goal.returns
 returns c = record {
   keys = some_items c.args.group.now.keys c.is_empty.result c.is_empty.ensures c.if-is_empty.false;
   body = search rules;
-  room = omega (arith, c.if-len-ge8.false, c.len.ensures);
+  room = omega (arith, c.if-len-ge-MAX_STATES.false, c.len.ensures);
   name = c.in-Some.found.0.now;
   value = c.in-Some.found.1;
   valid = c.in-Some.ensures;
