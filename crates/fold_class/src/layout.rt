@@ -1,10 +1,11 @@
 //! The order of a fold's variables in the words of an entry.
 
-ghost use Rattle.std.specs.Prelude.{◌≡◌, ℕ, ◌<◌, ◌≤◌, Bool, true, false, not, length, IfOk};
+ghost use Rattle.std.specs.Prelude.{◌≡◌, ℕ, ◌<◌, ◌≤◌, ◌++◌, ◌∷◌, [], Bool, true, false, not, length, if◌then◌else◌, IfOk, OnOk};
 ghost use Rattle.query_lang.specs.Folds.{IsValidFold, fold_states, fold_args};
 ghost use Rattle.fold_class.specs.Depth.{is_history};
 ghost use Rattle.fold_class.specs.Step.{linear_places, history_places};
 ghost use Rattle.fold_class.specs.Program.{origins_of};
+ghost use Rattle.fold_class.specs.Rows.{Carried, Remembered};
 ghost use Rattle.fold_class.specs.Walk.{flag_in};
 
 use crate::origin::Origin;
@@ -45,6 +46,28 @@ pub(crate) struct Places {
     pub(crate) origins: Seq<Origin>,
 }
 
+impl Places {
+    // Adds a variable after the others.
+    fn add(&mut self, variable: u8, remembered: bool) -> Result<(), AllocError>
+        requires few_linear { length self.old.linear < 256 }
+        requires few_history { length self.old.history < 256 }
+        ensures linear { OnOk result (self.new.linear ≡ (if remembered then self.old.linear else self.old.linear ++ variable ∷ [])) }
+        ensures history { OnOk result (self.new.history
+            ≡ (if remembered then self.old.history ++ variable ∷ [] else self.old.history)) }
+        ensures origins { OnOk result (self.new.origins ≡ self.old.origins
+            ++ (if remembered then Remembered (length self.old.history) else Carried (length self.old.linear)) ∷ []) }
+    {
+        if remembered {
+            self.origins
+                .push(Origin::Remembered(self.history.len() as u8))?;
+            self.history.push(variable)
+        } else {
+            self.origins.push(Origin::Carried(self.linear.len() as u8))?;
+            self.linear.push(variable)
+        }
+    }
+}
+
 /// The places of a fold's variables, by which of them have a depth.
 pub(crate) fn places_of(alloc: Global, f: &TypedFold, flags: &[bool]) -> Result<Places, AllocError>
     requires valid { IsValidFold f.now }
@@ -54,23 +77,15 @@ pub(crate) fn places_of(alloc: Global, f: &TypedFold, flags: &[bool]) -> Result<
     ensures history { IfOk result (λ p. p.history ≡ history_places f.now) }
     ensures origins { IfOk result (λ p. p.origins ≡ origins_of f.now) }
 {
-    let mut linear = Seq::new(alloc);
-    let mut history = Seq::new(alloc);
-    let mut origins = Seq::new(alloc);
+    let mut places = Places {
+        linear: Seq::new(alloc),
+        history: Seq::new(alloc),
+        origins: Seq::new(alloc),
+    };
     for v in 0..f.state_names.len() {
-        if flags[v] {
-            origins.push(Origin::Remembered(history.len() as u8))?;
-            history.push(v as u8)?;
-        } else {
-            origins.push(Origin::Carried(linear.len() as u8))?;
-            linear.push(v as u8)?;
-        }
+        places.add(v as u8, flags[v])?;
     }
-    Ok(Places {
-        linear,
-        history,
-        origins,
-    })
+    Ok(places)
 }
 
 impl Layout {
