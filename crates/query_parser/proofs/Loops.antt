@@ -10,7 +10,8 @@ use Rattle.query_lang.specs.declared.query.Expr.TheVariants as exprs
 use Rattle.query_grammar.specs.Grammar.{negated}
 use Rattle.query_parser.specs.declared.halt.Halt.{Halt}
 use Rattle.query_parser.specs.declared.halt.Halt.TheVariants as halts
-use Rattle.query_parser.specs.Reads.{Fails}
+use Rattle.query_parser.specs.declared.reader.Reader.{Reader}
+use Rattle.query_parser.specs.Reads.{Fails, StopsAt}
 
 -- what the turns that are left give, and what was read before them
 abbrev pub finished : {A B : Type 0} → (List A → B) → Outcome (List A) → Outcome B
@@ -38,10 +39,10 @@ module _ {A B : Type 0} (starts : Token → Bool) (p : Parser A) (total : Outcom
       go (Stopped k r) = refl
 
   -- a turn that fails is how the whole fails
-  pub fails : (f : List A → B) (n i : ℕ) (c : Counts) (ts : List Token) (x : Halt) → i < n → next_is starts ts ≡ true → Fails x (p c ts)
-      → finished f (turns (n - i) starts p c ts) ≡ total → Fails x total
-  fails f n i c ts halts.Memory lt h e so_far = tt
-  fails f n i c ts (halts.At x) lt h e so_far = sym so_far ∙ ap (finished f) (one_turn n i c ts lt h) ∙ rw e refl
+  pub fails : (f : List A → B) (n i : ℕ) (c : Counts) (ts : List Token) (x : Halt) (to : Reader) → i < n → next_is starts ts ≡ true
+      → Fails x to (p c ts) → finished f (turns (n - i) starts p c ts) ≡ total → Fails x to total
+  fails f n i c ts halts.Memory to lt h e so_far = tt
+  fails f n i c ts (halts.At x) to lt h e so_far = sym so_far ∙ ap (finished f) (one_turn n i c ts lt h) ∙ rw e refl
 
   pub ends : (f : List A → B) (n i : ℕ) (c : Counts) (ts : List Token) → (n ≤ i) ⊎ (next_is starts ts ≡ false)
       → finished f (turns (n - i) starts p c ts) ≡ total → total ≡ Done (f []) c ts
@@ -51,6 +52,11 @@ module _ {A B : Type 0} (starts : Token → Bool) (p : Parser A) (total : Outcom
       none : (m : ℕ) → turns m starts p c ts ≡ Done [] c ts
       none zero = refl
       none (suc m) = rw other refl
+
+-- what stops at a fault fails
+pub stops_fails : {A : Type 0} (x : Halt) (to : Reader) (o : Outcome A) → StopsAt x to o → Fails x to o
+stops_fails halts.Memory to o h = tt
+stops_fails (halts.At x) to o h = h
 
 -- more of a list
 module _ {A : Type 0} (starts : Token → Bool) (p : Parser A) (total : Outcome (List A)) where

@@ -11,6 +11,7 @@ use Rattle.query_grammar.specs.Grammar.{else_of}
 use Rattle.query_grammar.specs.Reading.{statement, block, empty_parens, expr_at, stmt_at}
 use Rattle.query_parser.specs.declared.halt.Halt.{Halt}
 use Rattle.query_parser.specs.declared.halt.Halt.TheVariants as halts
+use Rattle.query_parser.specs.declared.reader.Reader.{Reader}
 use Rattle.query_parser.specs.Reads.{Fails, bracket_at, block_at, empty_at}
 
 pub stmt_is : (e : ℕ) (c : Counts) (ts : List Token) → stmt_at Limited e c ts ≡ statement Limited (expr_at Limited e) (bracket_at e)
@@ -81,11 +82,11 @@ module _ {A B : Type 0} (starts : Token → Bool) (p : Parser (A ⊎ B)) (total 
       let turn : chain_turns (n - i) starts p c ts ≡ Done ([], Some b) d rest = one_link n i c ts lt h ∙ rw e refl in
       sym so_far ∙ ap (chained_on found) turn ∙ ap (λ (xs : List A). Done (xs, Some b) d rest) (append_none found)
 
-  pub fails_chain : (found : List A) (n i : ℕ) (c : Counts) (ts : List Token) (x : Halt) → i < n → next_is starts ts ≡ true
-      → Fails x (p c ts)
-      → chained_on found (chain_turns (n - i) starts p c ts) ≡ total → Fails x total
-  fails_chain found n i c ts halts.Memory lt h e so_far = tt
-  fails_chain found n i c ts (halts.At x) lt h e so_far = sym so_far ∙ ap (chained_on found) (one_link n i c ts lt h) ∙ rw e refl
+  pub fails_chain : (found : List A) (n i : ℕ) (c : Counts) (ts : List Token) (x : Halt) (to : Reader) → i < n
+      → next_is starts ts ≡ true → Fails x to (p c ts)
+      → chained_on found (chain_turns (n - i) starts p c ts) ≡ total → Fails x to total
+  fails_chain found n i c ts halts.Memory to lt h e so_far = tt
+  fails_chain found n i c ts (halts.At x) to lt h e so_far = sym so_far ∙ ap (chained_on found) (one_link n i c ts lt h) ∙ rw e refl
 
   pub ends_chain : (found : List A) (n i : ℕ) (c : Counts) (ts : List Token) → (n ≤ i) ⊎ (next_is starts ts ≡ false)
       → chained_on found (chain_turns (n - i) starts p c ts) ≡ total → total ≡ Done (found, None) c ts

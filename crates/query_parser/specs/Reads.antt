@@ -1,7 +1,6 @@
 -- What the functions that read tokens give, unless memory runs out.
 use Rattle.std.specs.Prelude.{◌≡◌, ℕ, zero, suc, Bool, true, false, List, [], ◌∷◌, nat_eq, if◌then◌else◌, ◌⊎◌}
 use Rattle.std.specs.Prelude.{Option, Some, None, Result, Ok, Err}
-use Rattle.std.specs.Borrow.{Bor}
 use Rattle.std.proofs.Common.{inl, inr}
 use Rattle.query_lang.specs.declared.fault.Span.{Span}
 use Rattle.query_lang.specs.declared.fold.Op.{Op}
@@ -23,11 +22,11 @@ use Rattle.query_parser.specs.declared.statement.ElsePart.{ElsePart}
 use Rattle.query_parser.specs.declared.statement.ElsePart.TheVariants as parts
 use Rattle.query_parser.specs.declared.operators.Level.{Level}
 use Rattle.query_parser.specs.declared.operators.Level.TheVariants as levels
-use Rattle.query_parser.specs.declared.halt.Fault.{Fault}
 use Rattle.query_parser.specs.declared.halt.Halt.{Halt}
 use Rattle.query_parser.specs.declared.halt.Halt.TheVariants as halts
-use Rattle.query_parser.specs.declared.halt.Role.{Role}
-use Rattle.query_parser.specs.declared.halt.Role.TheVariants as code
+use Rattle.query_parser.specs.declared.reader.Reader.{Reader}
+use Rattle.query_parser.specs.declared.reader.Role.{Role}
+use Rattle.query_parser.specs.declared.reader.Role.TheVariants as code
 
 abbrev pub role_of : Role → roles.Role
 role_of code.Plain = roles.Plain
@@ -35,35 +34,41 @@ role_of code.Node = roles.Node
 role_of code.Statement = roles.Statement
 role_of code.Opening = roles.Opening
 
--- the same fault
-abbrev pub IsStopped : {A : Type 0} → Fault → Outcome A → Type 0
-IsStopped fault o = o ≡ Stopped fault.stop fault.rest.now
+-- the same fault, at which the reader stands
+abbrev pub StopsAt : {A : Type 0} → Halt → Reader → Outcome A → Type 0
+StopsAt halts.Memory reader o = ⊥
+StopsAt (halts.At stop) reader o = o ≡ Stopped stop reader.rest.now
 
 -- the same fault, unless memory ran out
-abbrev pub Fails : {A : Type 0} → Halt → Outcome A → Type 0
-Fails halts.Memory o = Unit {0}
-Fails (halts.At fault) o = IsStopped fault o
+abbrev pub Fails : {A : Type 0} → Halt → Reader → Outcome A → Type 0
+Fails halts.Memory reader o = Unit {0}
+Fails (halts.At stop) reader o = o ≡ Stopped stop reader.rest.now
 
--- what a parser of the grammar gives
-abbrev pub Gives : {A : Type 0} → Result (A × Counts × Bor (List Token)) Halt → Outcome A → Type 0
-Gives (Ok x) o = o ≡ Done x.0 x.1 x.2.now
-Gives (Err e) o = Fails e o
+-- what a parser of the grammar gives, from one reader to the other
+abbrev pub Gives : {A : Type 0} → Result A Halt → Reader → Reader → Parser A → Type 0
+Gives (Ok x) from to p = p from.counts from.rest.now ≡ Done x to.counts to.rest.now
+Gives (Err e) from to p = Fails e to (p from.counts from.rest.now)
 
 -- what a parser of the grammar gives that needs no memory
-abbrev pub Sees : {A : Type 0} → Result (A × Counts × Bor (List Token)) Fault → Outcome A → Type 0
-Sees (Ok x) o = o ≡ Done x.0 x.1 x.2.now
-Sees (Err fault) o = IsStopped fault o
+abbrev pub Sees : {A : Type 0} → Result A Halt → Reader → Reader → Parser A → Type 0
+Sees (Ok x) from to p = p from.counts from.rest.now ≡ Done x to.counts to.rest.now
+Sees (Err e) from to p = StopsAt e to (p from.counts from.rest.now)
 
--- the counts after one more, or the limit at the first of the tokens
-abbrev pub Charges : Result Counts Fault → Option Counts → roles.Role → List Token → Type 0
-Charges (Ok c) o role ts = o ≡ Some c
-Charges (Err fault) o role ts = (o ≡ None) × (fault.stop ≡ limit_of role) × (fault.rest.now ≡ ts)
+-- the counts after one more, or the limit
+abbrev pub Charges : Result Counts Halt → Option Counts → roles.Role → Type 0
+Charges (Ok c) o role = o ≡ Some c
+Charges (Err e) o role = (o ≡ None) × (e ≡ halts.At (limit_of role))
 
 -- ---- operators
 
 abbrev pub op_among : Operators → TokenKind → Option Op
 op_among [] kind = None
 op_among (o ∷ others) kind = if nat_eq (kind_number kind) (kind_number o.0) then Some o.1 else op_among others kind
+
+-- the operator that comes next
+abbrev pub next_op : Operators → List Token → Option Op
+next_op ops [] = None
+next_op ops (t ∷ ts) = op_among ops t.kind
 
 abbrev pub is_op : Option Op → Bool
 is_op (Some op) = true
@@ -141,6 +146,6 @@ part_of (parts.Another branch) = inl branch
 part_of (parts.Last body) = inr body
 
 -- what a parser of the grammar gives, as the code has it
-abbrev pub GivesPart : Result (ElsePart × Counts × Bor (List Token)) Halt → Outcome ((Expr × List Stmt) ⊎ List Stmt) → Type 0
-GivesPart (Ok x) o = o ≡ Done (part_of x.0) x.1 x.2.now
-GivesPart (Err e) o = Fails e o
+abbrev pub GivesPart : Result ElsePart Halt → Reader → Reader → Parser ((Expr × List Stmt) ⊎ List Stmt) → Type 0
+GivesPart (Ok x) from to p = p from.counts from.rest.now ≡ Done (part_of x) to.counts to.rest.now
+GivesPart (Err e) from to p = Fails e to (p from.counts from.rest.now)

@@ -1,7 +1,7 @@
 //! Expressions. An argument of each function says how many brackets may still be opened.
 
 ghost use Rattle.std.specs.Prelude.{◌≡◌, ℕ, [], ◌∷◌, ◌^◌, ◌-◌, IfOk};
-ghost use Rattle.query_grammar.specs.Grammar.{negated as negated_by, functions};
+ghost use Rattle.query_grammar.specs.Grammar.{negated as negated_by};
 ghost use Rattle.query_grammar.specs.Kinds.{among, is, sign};
 ghost use Rattle.query_grammar.specs.Language.{Node};
 ghost use Rattle.query_grammar.specs.Parser.{Limited, word, next_is, repeated};
@@ -12,14 +12,11 @@ ghost use Rattle.query_lang.specs.declared.token.Mark.TheVariants as marks;
 ghost use Rattle.query_parser.specs.Reads.{Gives, Sees, operands_of, operation_of, level_of, comparison_of, bracket_at, arguments_at};
 ghost use Rattle.query_parser.specs.Reads.{primary_at};
 
-use crate::halt::{Read, Role, Seen};
-use crate::operators::{Level, at_operator, function, operator};
-use crate::word::{
-    at_mark, at_number, at_word, is_mark, is_name, is_number, is_word, keyword, mark, name,
-    no_bracket, number, plain_mark,
-};
+use crate::halt::{Read, read};
+use crate::operators::{Level, at_function, at_operator, function, operator};
+use crate::reader::{Reader, Role};
+use crate::word::{at_mark, at_number, at_word, is_name, is_number, is_word};
 use marple_base::{Boxed, Seq};
-use query_grammar::Counts;
 use query_lang::{Expr, Mark, Op, Span, Token, Word};
 use std::alloc::{AllocError, Global};
 
@@ -56,22 +53,18 @@ fn negated(alloc: Global, bangs: Seq<Span>, inner: Expr) -> Result<Expr, AllocEr
 }
 
 /// Any number of `!`.
-fn bangs(alloc: Global, counts: Counts, rest: &[Token]) -> Read<'_, Seq<Span>>
-    ensures { Gives result (repeated (among (51 ∷ [])) (word Limited Node (is (sign marks.Bang))) counts rest.now) }
+fn bangs(reader: &mut Reader<'_>) -> Read<Seq<Span>>
+    ensures { Gives result reader.old reader.new (repeated (among (51 ∷ [])) (word Limited Node (is (sign marks.Bang)))) }
 {
-    let mut found = Seq::new(alloc);
-    let mut counts = counts;
-    let mut rest = rest;
-    'bangs: for _ in 0..rest.len() {
-        if !at_mark(Mark::Bang, rest) {
+    let mut found = Seq::new(reader.alloc);
+    'bangs: for _ in 0..reader.rest.len() {
+        if !at_mark(Mark::Bang, reader.rest) {
             break;
         }
-        let (span, after, later) = mark(Role::Node, Mark::Bang, counts, rest)?;
+        let span = read!(reader.sign(Role::Node, Mark::Bang));
         found.push(span)?;
-        counts = after;
-        rest = later;
     }
-    Ok((found, counts, rest))
+    Ok(found)
 }
 
 /// Whether a number, `infinity` or a name comes next.
@@ -81,21 +74,6 @@ fn at_atom(rest: &[Token]) -> bool
     match rest {
         [first, ..] => {
             is_number(first.kind) || is_word(first.kind, Word::Infinity) || is_name(first.kind)
-        }
-        [] => false,
-    }
-}
-
-/// Whether the word of a function comes next.
-fn at_function(rest: &[Token]) -> bool
-    ensures { result ≡ next_is (among (16 ∷ 17 ∷ 18 ∷ 19 ∷ [])) rest.now }
-{
-    match rest {
-        [first, ..] => {
-            is_word(first.kind, Word::Max)
-                || is_word(first.kind, Word::Min)
-                || is_word(first.kind, Word::Sadd)
-                || is_word(first.kind, Word::Decay)
         }
         [] => false,
     }
@@ -112,202 +90,186 @@ fn at_expression(rest: &[Token]) -> bool
 }
 
 /// A number, `infinity` or a name.
-fn atom(counts: Counts, rest: &[Token]) -> Seen<'_, Expr>
-    ensures { Sees result (atom_of Limited counts rest.now) }
+fn atom(reader: &mut Reader<'_>) -> Read<Expr>
+    ensures { Sees result reader.old reader.new (atom_of Limited) }
 {
-    if at_number(rest) {
-        let ((value, span), counts, rest) = number(Role::Node, counts, rest)?;
-        return Ok((Expr::Number(value, span), counts, rest));
+    if at_number(reader.rest) {
+        let (value, span) = read!(reader.number(Role::Node));
+        return Ok(Expr::Number(value, span));
     }
-    if at_word(Word::Infinity, rest) {
-        let (span, counts, rest) = keyword(Role::Node, Word::Infinity, counts, rest)?;
-        return Ok((Expr::Number(u64::MAX, span), counts, rest));
+    if at_word(Word::Infinity, reader.rest) {
+        let span = read!(reader.keyword(Role::Node, Word::Infinity));
+        return Ok(Expr::Number(u64::MAX, span));
     }
-    let (name, counts, rest) = name(Role::Node, counts, rest)?;
-    Ok((Expr::Named(name), counts, rest))
+    let name = read!(reader.name(Role::Node));
+    Ok(Expr::Named(name))
 }
 
 /// An expression in its bracket.
 #[cycle(expr)]
 #[tactic(auto, using(crate::proofs::Levels::bracket_more))]
-pub fn bracketed(alloc: Global, brackets: u32, counts: Counts, rest: &[Token]) -> Read<'_, Expr>
-    ensures { Gives result (bracket_at brackets counts rest.now) }
+pub fn bracketed(reader: &mut Reader<'_>, brackets: u32) -> Read<Expr>
+    ensures { Gives result reader.old reader.new (bracket_at brackets) }
 {
     if brackets == 0 {
-        return Ok(no_bracket(Mark::OpenParen, counts, rest)?);
+        return reader.no_bracket(Mark::OpenParen);
     }
-    let (_, counts, rest) = plain_mark(Mark::OpenParen, counts, rest)?;
-    let (inner, counts, rest) = expression(alloc, brackets - 1, counts, rest)?;
-    let (_, counts, rest) = plain_mark(Mark::CloseParen, counts, rest)?;
-    Ok((inner, counts, rest))
+    read!(reader.mark(Mark::OpenParen));
+    let inner = read!(expression(reader, brackets - 1));
+    read!(reader.mark(Mark::CloseParen));
+    Ok(inner)
 }
 
 /// A comma, and an expression after it.
 #[cycle(expr)]
-fn next_expression(alloc: Global, brackets: u32, counts: Counts, rest: &[Token]) -> Read<'_, Expr>
-    ensures { Gives result (after Limited (sign marks.Comma) (expr_at Limited brackets) counts rest.now) }
+fn next_expression(reader: &mut Reader<'_>, brackets: u32) -> Read<Expr>
+    ensures { Gives result reader.old reader.new (after Limited (sign marks.Comma) (expr_at Limited brackets)) }
 {
-    let (_, counts, rest) = plain_mark(Mark::Comma, counts, rest)?;
-    expression(alloc, brackets, counts, rest)
+    read!(reader.mark(Mark::Comma));
+    expression(reader, brackets)
 }
 
 /// Expressions with commas between them.
 #[cycle(expr)]
-fn expressions(alloc: Global, brackets: u32, counts: Counts, rest: &[Token]) -> Read<'_, Seq<Expr>>
-    ensures { Gives result (separated Limited (expr_at Limited brackets) counts rest.now) }
+fn expressions(reader: &mut Reader<'_>, brackets: u32) -> Read<Seq<Expr>>
+    ensures { Gives result reader.old reader.new (separated Limited (expr_at Limited brackets)) }
 {
-    let mut found = Seq::new(alloc);
-    let (first, mut counts, mut rest) = expression(alloc, brackets, counts, rest)?;
+    let mut found = Seq::new(reader.alloc);
+    let first = read!(expression(reader, brackets));
     found.push(first)?;
-    'expressions: for _ in 0..rest.len() {
-        if !at_mark(Mark::Comma, rest) {
+    'expressions: for _ in 0..reader.rest.len() {
+        if !at_mark(Mark::Comma, reader.rest) {
             break;
         }
-        let (next, after, later) = next_expression(alloc, brackets, counts, rest)?;
+        let next = read!(next_expression(reader, brackets));
         found.push(next)?;
-        counts = after;
-        rest = later;
     }
-    Ok((found, counts, rest))
+    Ok(found)
 }
 
 /// No expressions, or some with commas between them.
 #[cycle(expr)]
-fn listed(alloc: Global, brackets: u32, counts: Counts, rest: &[Token]) -> Read<'_, Seq<Expr>>
-    ensures { Gives result (listed_by Limited expr_starts (expr_at Limited brackets) counts rest.now) }
+fn listed(reader: &mut Reader<'_>, brackets: u32) -> Read<Seq<Expr>>
+    ensures { Gives result reader.old reader.new (listed_by Limited expr_starts (expr_at Limited brackets)) }
 {
-    if !at_expression(rest) {
-        return Ok((Seq::new(alloc), counts, rest));
+    if !at_expression(reader.rest) {
+        return Ok(Seq::new(reader.alloc));
     }
-    expressions(alloc, brackets, counts, rest)
+    expressions(reader, brackets)
 }
 
 /// The arguments of a call, in their bracket.
 #[cycle(expr)]
 #[tactic(auto, using(crate::proofs::Levels::arguments_more))]
-fn arguments(alloc: Global, brackets: u32, counts: Counts, rest: &[Token]) -> Read<'_, Seq<Expr>>
-    ensures { Gives result (arguments_at brackets counts rest.now) }
+fn arguments(reader: &mut Reader<'_>, brackets: u32) -> Read<Seq<Expr>>
+    ensures { Gives result reader.old reader.new (arguments_at brackets) }
 {
     if brackets == 0 {
-        return Ok(no_bracket(Mark::OpenParen, counts, rest)?);
+        return reader.no_bracket(Mark::OpenParen);
     }
-    let (_, counts, rest) = plain_mark(Mark::OpenParen, counts, rest)?;
-    let (found, counts, rest) = listed(alloc, brackets - 1, counts, rest)?;
-    let (_, counts, rest) = plain_mark(Mark::CloseParen, counts, rest)?;
-    Ok((found, counts, rest))
+    read!(reader.mark(Mark::OpenParen));
+    let found = read!(listed(reader, brackets - 1));
+    read!(reader.mark(Mark::CloseParen));
+    Ok(found)
 }
 
 /// A function, and its arguments.
 #[cycle(expr)]
-fn call(alloc: Global, brackets: u32, counts: Counts, rest: &[Token]) -> Read<'_, Expr>
-    ensures { Gives result (call_of Limited (arguments_at brackets) counts rest.now) }
+fn call(reader: &mut Reader<'_>, brackets: u32) -> Read<Expr>
+    ensures { Gives result reader.old reader.new (call_of Limited (arguments_at brackets)) }
 {
-    let ((op, span), counts, rest) = function(counts, rest)?;
-    let (arguments, counts, rest) = arguments(alloc, brackets, counts, rest)?;
-    Ok((Expr::Call(op, span, arguments), counts, rest))
+    let (op, span) = read!(function(reader));
+    let arguments = read!(arguments(reader, brackets));
+    Ok(Expr::Call(op, span, arguments))
 }
 
 /// A number, a name, an expression in brackets or a call.
 #[cycle(expr)]
-fn primary(alloc: Global, brackets: u32, counts: Counts, rest: &[Token]) -> Read<'_, Expr>
-    ensures { Gives result (primary_at brackets counts rest.now) }
+fn primary(reader: &mut Reader<'_>, brackets: u32) -> Read<Expr>
+    ensures { Gives result reader.old reader.new (primary_at brackets) }
 {
-    if at_atom(rest) {
-        return Ok(atom(counts, rest)?);
+    if at_atom(reader.rest) {
+        return atom(reader);
     }
-    if at_mark(Mark::OpenParen, rest) {
-        return bracketed(alloc, brackets, counts, rest);
+    if at_mark(Mark::OpenParen, reader.rest) {
+        return bracketed(reader, brackets);
     }
-    call(alloc, brackets, counts, rest)
+    call(reader, brackets)
 }
 
 /// A primary, with any number of `!` before it.
 #[cycle(expr)]
-fn unary(alloc: Global, brackets: u32, counts: Counts, rest: &[Token]) -> Read<'_, Expr>
-    ensures { Gives result (unary_of Limited (primary_at brackets) counts rest.now) }
+fn unary(reader: &mut Reader<'_>, brackets: u32) -> Read<Expr>
+    ensures { Gives result reader.old reader.new (unary_of Limited (primary_at brackets)) }
 {
-    let (bangs, counts, rest) = bangs(alloc, counts, rest)?;
-    let (inner, counts, rest) = primary(alloc, brackets, counts, rest)?;
-    Ok((negated(alloc, bangs, inner)?, counts, rest))
+    let bangs = read!(bangs(reader));
+    let inner = read!(primary(reader, brackets));
+    Ok(negated(reader.alloc, bangs, inner)?)
 }
 
 /// An operand of this level.
 #[cycle(expr)]
 #[tactic(auto, using(crate::proofs::Levels::operands_product, crate::proofs::Levels::operands_sum, crate::proofs::Levels::operands_shift, crate::proofs::Levels::operands_and, crate::proofs::Levels::operands_xor, crate::proofs::Levels::operands_or, crate::proofs::Levels::operands_comparison, crate::proofs::Levels::operands_both, crate::proofs::Levels::operands_either))]
-fn operand(
-    alloc: Global,
-    of: Level,
-    brackets: u32,
-    counts: Counts,
-    rest: &[Token],
-) -> Read<'_, Expr>
-    ensures { Gives result (operands_of of (primary_at brackets) counts rest.now) }
+fn operand(reader: &mut Reader<'_>, of: Level, brackets: u32) -> Read<Expr>
+    ensures { Gives result reader.old reader.new (operands_of of (primary_at brackets)) }
 {
     match of {
-        Level::Product => unary(alloc, brackets, counts, rest),
-        Level::Sum => level(alloc, Level::Product, brackets, counts, rest),
-        Level::Shift => level(alloc, Level::Sum, brackets, counts, rest),
-        Level::And => level(alloc, Level::Shift, brackets, counts, rest),
-        Level::Xor => level(alloc, Level::And, brackets, counts, rest),
-        Level::Or => level(alloc, Level::Xor, brackets, counts, rest),
-        Level::Comparison => level(alloc, Level::Or, brackets, counts, rest),
-        Level::Both => comparison(alloc, brackets, counts, rest),
-        Level::Either => level(alloc, Level::Both, brackets, counts, rest),
+        Level::Product => unary(reader, brackets),
+        Level::Sum => level(reader, Level::Product, brackets),
+        Level::Shift => level(reader, Level::Sum, brackets),
+        Level::And => level(reader, Level::Shift, brackets),
+        Level::Xor => level(reader, Level::And, brackets),
+        Level::Or => level(reader, Level::Xor, brackets),
+        Level::Comparison => level(reader, Level::Or, brackets),
+        Level::Both => comparison(reader, brackets),
+        Level::Either => level(reader, Level::Both, brackets),
     }
 }
 
 /// An operator of this level, and the operand after it.
 #[cycle(expr)]
-fn operation(
-    alloc: Global,
-    of: Level,
-    brackets: u32,
-    counts: Counts,
-    rest: &[Token],
-) -> Read<'_, ((Op, Span), Expr)>
-    ensures { Gives result (operation_of of (primary_at brackets) counts rest.now) }
+fn operation(reader: &mut Reader<'_>, of: Level, brackets: u32) -> Read<((Op, Span), Expr)>
+    ensures { Gives result reader.old reader.new (operation_of of (primary_at brackets)) }
 {
-    let (op, counts, rest) = operator(of, counts, rest)?;
-    let (right, counts, rest) = operand(alloc, of, brackets, counts, rest)?;
-    Ok(((op, right), counts, rest))
+    let op = read!(operator(reader, of));
+    let right = read!(operand(reader, of, brackets));
+    Ok((op, right))
 }
 
 /// Operands with operators of this level between them, which group from the left. Comparisons are not read this way.
 #[cycle(expr)]
-fn level(alloc: Global, of: Level, brackets: u32, counts: Counts, rest: &[Token]) -> Read<'_, Expr>
-    ensures { Gives result (level_of of (primary_at brackets) counts rest.now) }
+fn level(reader: &mut Reader<'_>, of: Level, brackets: u32) -> Read<Expr>
+    ensures { Gives result reader.old reader.new (level_of of (primary_at brackets)) }
 {
-    let (mut left, mut counts, mut rest) = operand(alloc, of, brackets, counts, rest)?;
-    'operations: for _ in 0..rest.len() {
-        if !at_operator(of, rest) {
+    let mut left = read!(operand(reader, of, brackets));
+    'operations: for _ in 0..reader.rest.len() {
+        if !at_operator(of, reader.rest) {
             break;
         }
-        let ((op, right), after, later) = operation(alloc, of, brackets, counts, rest)?;
-        left = binary(alloc, op, left, right)?;
-        counts = after;
-        rest = later;
+        let (op, right) = read!(operation(reader, of, brackets));
+        left = binary(reader.alloc, op, left, right)?;
     }
-    Ok((left, counts, rest))
+    Ok(left)
 }
 
 /// At most one comparison.
 #[cycle(expr)]
-fn comparison(alloc: Global, brackets: u32, counts: Counts, rest: &[Token]) -> Read<'_, Expr>
-    ensures { Gives result (comparison_of (primary_at brackets) counts rest.now) }
+fn comparison(reader: &mut Reader<'_>, brackets: u32) -> Read<Expr>
+    ensures { Gives result reader.old reader.new (comparison_of (primary_at brackets)) }
 {
-    let (left, counts, rest) = operand(alloc, Level::Comparison, brackets, counts, rest)?;
-    if !at_operator(Level::Comparison, rest) {
-        return Ok((left, counts, rest));
+    let left = read!(operand(reader, Level::Comparison, brackets));
+    if !at_operator(Level::Comparison, reader.rest) {
+        return Ok(left);
     }
-    let ((op, right), counts, rest) = operation(alloc, Level::Comparison, brackets, counts, rest)?;
-    Ok((binary(alloc, op, left, right)?, counts, rest))
+    let (op, right) = read!(operation(reader, Level::Comparison, brackets));
+    Ok(binary(reader.alloc, op, left, right)?)
 }
 
 /// An expression.
 #[cycle(expr)]
 #[tactic(auto, using(crate::proofs::Levels::expr_is))]
-pub fn expression(alloc: Global, brackets: u32, counts: Counts, rest: &[Token]) -> Read<'_, Expr>
-    ensures { Gives result (expr_at Limited brackets counts rest.now) }
+pub fn expression(reader: &mut Reader<'_>, brackets: u32) -> Read<Expr>
+    ensures { Gives result reader.old reader.new (expr_at Limited brackets) }
 {
-    level(alloc, Level::Either, brackets, counts, rest)
+    level(reader, Level::Either, brackets)
 }

@@ -8,131 +8,122 @@ ghost use Rattle.query_grammar.specs.Reading.{state_variable as state_variable_o
 ghost use Rattle.query_lang.specs.declared.token.Mark.TheVariants as marks;
 ghost use Rattle.query_parser.specs.Reads.{Gives, Sees};
 
-use crate::halt::{Read, Role, Seen};
+use crate::halt::{Read, read};
+use crate::reader::{Reader, Role};
 use crate::statement::block_within;
-use crate::word::{at_mark, at_name, comma_name, keyword, name, number, plain_mark};
+use crate::word::{at_mark, at_name};
 use marple_base::Seq;
-use query_grammar::Counts;
-use query_lang::{FoldDef, Item, Mark, Name, StateVar, Token, Word};
-use std::alloc::Global;
+use query_lang::{FoldDef, Item, Mark, Name, StateVar, Word};
 
 /// How many brackets may be opened inside the one of a fold's body: at most 64 are open at once.
 const WITHIN_BODY: u32 = 63;
 
 /// A state variable, with the number that it starts at: 0 where none is given.
-fn state_variable(counts: Counts, rest: &[Token]) -> Seen<'_, StateVar>
-    ensures { Sees result (state_variable_of Limited counts rest.now) }
+fn state_variable(reader: &mut Reader<'_>) -> Read<StateVar>
+    ensures { Sees result reader.old reader.new (state_variable_of Limited) }
 {
-    let (name, counts, rest) = name(Role::Plain, counts, rest)?;
-    if !at_mark(Mark::Assign, rest) {
-        return Ok((StateVar { name, initial: 0 }, counts, rest));
+    let name = read!(reader.name(Role::Plain));
+    if !at_mark(Mark::Assign, reader.rest) {
+        return Ok(StateVar { name, initial: 0 });
     }
-    let (_, counts, rest) = plain_mark(Mark::Assign, counts, rest)?;
-    let ((initial, _), counts, rest) = number(Role::Plain, counts, rest)?;
-    Ok((StateVar { name, initial }, counts, rest))
+    read!(reader.mark(Mark::Assign));
+    let (initial, _) = read!(reader.number(Role::Plain));
+    Ok(StateVar { name, initial })
 }
 
-fn next_state_variable(counts: Counts, rest: &[Token]) -> Seen<'_, StateVar>
-    ensures { Sees result (after Limited (sign marks.Comma) (state_variable_of Limited) counts rest.now) }
+fn next_state_variable(reader: &mut Reader<'_>) -> Read<StateVar>
+    ensures { Sees result reader.old reader.new (after Limited (sign marks.Comma) (state_variable_of Limited)) }
 {
-    let (_, counts, rest) = plain_mark(Mark::Comma, counts, rest)?;
-    state_variable(counts, rest)
+    read!(reader.mark(Mark::Comma));
+    state_variable(reader)
 }
 
 /// State variables with commas between them.
-fn state_variables(alloc: Global, counts: Counts, rest: &[Token]) -> Read<'_, Seq<StateVar>>
-    ensures { Gives result (separated Limited (state_variable_of Limited) counts rest.now) }
+fn state_variables(reader: &mut Reader<'_>) -> Read<Seq<StateVar>>
+    ensures { Gives result reader.old reader.new (separated Limited (state_variable_of Limited)) }
 {
-    let mut found = Seq::new(alloc);
-    let (first, mut counts, mut rest) = state_variable(counts, rest)?;
+    let mut found = Seq::new(reader.alloc);
+    let first = read!(state_variable(reader));
     found.push(first)?;
-    'variables: for _ in 0..rest.len() {
-        if !at_mark(Mark::Comma, rest) {
+    'variables: for _ in 0..reader.rest.len() {
+        if !at_mark(Mark::Comma, reader.rest) {
             break;
         }
-        let (next, after, later) = next_state_variable(counts, rest)?;
+        let next = read!(next_state_variable(reader));
         found.push(next)?;
-        counts = after;
-        rest = later;
     }
-    Ok((found, counts, rest))
+    Ok(found)
 }
 
 /// The state variables of a fold, if any, in their brackets.
-fn state(alloc: Global, counts: Counts, rest: &[Token]) -> Read<'_, Seq<StateVar>>
-    ensures { Gives result (brackets Limited (listed_by Limited (0 ∷ []) (state_variable_of Limited)) counts rest.now) }
+fn state(reader: &mut Reader<'_>) -> Read<Seq<StateVar>>
+    ensures { Gives result reader.old reader.new (brackets Limited (listed_by Limited (0 ∷ []) (state_variable_of Limited))) }
 {
-    let (_, counts, rest) = plain_mark(Mark::OpenBracket, counts, rest)?;
-    if !at_name(rest) {
-        let (_, counts, rest) = plain_mark(Mark::CloseBracket, counts, rest)?;
-        return Ok((Seq::new(alloc), counts, rest));
+    read!(reader.mark(Mark::OpenBracket));
+    if !at_name(reader.rest) {
+        read!(reader.mark(Mark::CloseBracket));
+        return Ok(Seq::new(reader.alloc));
     }
-    let (found, counts, rest) = state_variables(alloc, counts, rest)?;
-    let (_, counts, rest) = plain_mark(Mark::CloseBracket, counts, rest)?;
-    Ok((found, counts, rest))
+    let found = read!(state_variables(reader));
+    read!(reader.mark(Mark::CloseBracket));
+    Ok(found)
 }
 
 /// Names with commas between them.
-fn names(alloc: Global, counts: Counts, rest: &[Token]) -> Read<'_, Seq<Name>>
-    ensures { Gives result (separated Limited (plain_name Limited) counts rest.now) }
+fn names(reader: &mut Reader<'_>) -> Read<Seq<Name>>
+    ensures { Gives result reader.old reader.new (separated Limited (plain_name Limited)) }
 {
-    let mut found = Seq::new(alloc);
-    let (first, mut counts, mut rest) = name(Role::Plain, counts, rest)?;
+    let mut found = Seq::new(reader.alloc);
+    let first = read!(reader.name(Role::Plain));
     found.push(first)?;
-    'names: for _ in 0..rest.len() {
-        if !at_mark(Mark::Comma, rest) {
+    'names: for _ in 0..reader.rest.len() {
+        if !at_mark(Mark::Comma, reader.rest) {
             break;
         }
-        let (next, after, later) = comma_name(counts, rest)?;
+        let next = read!(reader.comma_name());
         found.push(next)?;
-        counts = after;
-        rest = later;
     }
-    Ok((found, counts, rest))
+    Ok(found)
 }
 
 /// The arguments of a fold, if any, in their brackets.
-fn arguments(alloc: Global, counts: Counts, rest: &[Token]) -> Read<'_, Seq<Name>>
-    ensures { Gives result (brackets Limited (listed_by Limited (0 ∷ []) (plain_name Limited)) counts rest.now) }
+fn arguments(reader: &mut Reader<'_>) -> Read<Seq<Name>>
+    ensures { Gives result reader.old reader.new (brackets Limited (listed_by Limited (0 ∷ []) (plain_name Limited))) }
 {
-    let (_, counts, rest) = plain_mark(Mark::OpenBracket, counts, rest)?;
-    if !at_name(rest) {
-        let (_, counts, rest) = plain_mark(Mark::CloseBracket, counts, rest)?;
-        return Ok((Seq::new(alloc), counts, rest));
+    read!(reader.mark(Mark::OpenBracket));
+    if !at_name(reader.rest) {
+        read!(reader.mark(Mark::CloseBracket));
+        return Ok(Seq::new(reader.alloc));
     }
-    let (found, counts, rest) = names(alloc, counts, rest)?;
-    let (_, counts, rest) = plain_mark(Mark::CloseBracket, counts, rest)?;
-    Ok((found, counts, rest))
+    let found = read!(names(reader));
+    read!(reader.mark(Mark::CloseBracket));
+    Ok(found)
 }
 
 /// State variables and arguments.
-fn parameters(alloc: Global, counts: Counts, rest: &[Token]) -> Read<'_, (Seq<StateVar>, Seq<Name>)>
-    ensures { Gives result (parameters_of Limited counts rest.now) }
+fn parameters(reader: &mut Reader<'_>) -> Read<(Seq<StateVar>, Seq<Name>)>
+    ensures { Gives result reader.old reader.new (parameters_of Limited) }
 {
-    let (_, counts, rest) = plain_mark(Mark::OpenParen, counts, rest)?;
-    let (states, counts, rest) = state(alloc, counts, rest)?;
-    let (_, counts, rest) = plain_mark(Mark::Comma, counts, rest)?;
-    let (args, counts, rest) = arguments(alloc, counts, rest)?;
-    let (_, counts, rest) = plain_mark(Mark::CloseParen, counts, rest)?;
-    Ok(((states, args), counts, rest))
+    read!(reader.mark(Mark::OpenParen));
+    let states = read!(state(reader));
+    read!(reader.mark(Mark::Comma));
+    let args = read!(arguments(reader));
+    read!(reader.mark(Mark::CloseParen));
+    Ok((states, args))
 }
 
 /// A fold's definition.
-pub fn fold(alloc: Global, counts: Counts, rest: &[Token]) -> Read<'_, Item>
-    ensures { Gives result (fold_def Limited (stmt_at Limited 63) counts rest.now) }
+pub fn fold(reader: &mut Reader<'_>) -> Read<Item>
+    ensures { Gives result reader.old reader.new (fold_def Limited (stmt_at Limited 63)) }
 {
-    let (_, counts, rest) = keyword(Role::Opening, Word::Def, counts, rest)?;
-    let (name, counts, rest) = name(Role::Plain, counts, rest)?;
-    let ((states, args), counts, rest) = parameters(alloc, counts, rest)?;
-    let (body, counts, rest) = block_within(alloc, WITHIN_BODY, counts, rest)?;
-    Ok((
-        Item::Fold(FoldDef {
-            name,
-            states,
-            args,
-            body,
-        }),
-        counts,
-        rest,
-    ))
+    read!(reader.keyword(Role::Opening, Word::Def));
+    let name = read!(reader.name(Role::Plain));
+    let (states, args) = read!(parameters(reader));
+    let body = read!(block_within(reader, WITHIN_BODY));
+    Ok(Item::Fold(FoldDef {
+        name,
+        states,
+        args,
+        body,
+    }))
 }

@@ -8,38 +8,37 @@ ghost use Rattle.query_parser.specs.Reads.{Gives, Sees};
 
 use crate::final_table::final_table;
 use crate::fold::fold;
-use crate::halt::{Read, Role, Seen};
+use crate::halt::{Read, read};
+use crate::reader::{Reader, Role};
 use crate::stream::stream;
-use crate::word::{at_name, at_word, end, keyword, name, plain_mark};
+use crate::word::{at_name, at_word};
 use marple_base::Seq;
-use query_grammar::Counts;
 use query_lang::{Item, Mark, Span, Token, Word};
-use std::alloc::Global;
 
 /// `print`, and the name of a table.
-fn print(counts: Counts, rest: &[Token]) -> Seen<'_, Item>
-    ensures { Sees result (print_of Limited counts rest.now) }
+fn print(reader: &mut Reader<'_>) -> Read<Item>
+    ensures { Sees result reader.old reader.new (print_of Limited) }
 {
-    let (_, counts, rest) = keyword(Role::Opening, Word::Print, counts, rest)?;
-    let (table, counts, rest) = name(Role::Plain, counts, rest)?;
-    let (_, counts, rest) = plain_mark(Mark::Semicolon, counts, rest)?;
-    Ok((Item::Print(table), counts, rest))
+    read!(reader.keyword(Role::Opening, Word::Print));
+    let table = read!(reader.name(Role::Plain));
+    read!(reader.mark(Mark::Semicolon));
+    Ok(Item::Print(table))
 }
 
 /// An item.
-fn item(alloc: Global, counts: Counts, rest: &[Token]) -> Read<'_, Item>
-    ensures { Gives result (item_of Limited (stmt_at Limited 63) (expr_at Limited 63) (expr_at Limited 62) counts rest.now) }
+fn item(reader: &mut Reader<'_>) -> Read<Item>
+    ensures { Gives result reader.old reader.new (item_of Limited (stmt_at Limited 63) (expr_at Limited 63) (expr_at Limited 62)) }
 {
-    if at_word(Word::Def, rest) {
-        return fold(alloc, counts, rest);
+    if at_word(Word::Def, reader.rest) {
+        return fold(reader);
     }
-    if at_name(rest) {
-        return stream(alloc, counts, rest);
+    if at_name(reader.rest) {
+        return stream(reader);
     }
-    if at_word(Word::Final, rest) {
-        return final_table(alloc, counts, rest);
+    if at_word(Word::Final, reader.rest) {
+        return final_table(reader);
     }
-    Ok(print(counts, rest)?)
+    print(reader)
 }
 
 /// Whether an item may come next.
@@ -53,30 +52,26 @@ fn at_item(rest: &[Token]) -> bool
 }
 
 /// Any number of items.
-fn items(alloc: Global, counts: Counts, rest: &[Token]) -> Read<'_, Seq<Item>>
-    ensures { Gives result (repeated (among item_starts)
-        (item_of Limited (stmt_at Limited 63) (expr_at Limited 63) (expr_at Limited 62)) counts rest.now) }
+fn items(reader: &mut Reader<'_>) -> Read<Seq<Item>>
+    ensures { Gives result reader.old reader.new (repeated (among item_starts)
+        (item_of Limited (stmt_at Limited 63) (expr_at Limited 63) (expr_at Limited 62))) }
 {
-    let mut found = Seq::new(alloc);
-    let mut counts = counts;
-    let mut rest = rest;
-    'items: for _ in 0..rest.len() {
-        if !at_item(rest) {
+    let mut found = Seq::new(reader.alloc);
+    'items: for _ in 0..reader.rest.len() {
+        if !at_item(reader.rest) {
             break;
         }
-        let (next, after, later) = item(alloc, counts, rest)?;
+        let next = read!(item(reader));
         found.push(next)?;
-        counts = after;
-        rest = later;
     }
-    Ok((found, counts, rest))
+    Ok(found)
 }
 
 /// Items up to the end of the text, and where that is.
-pub fn query(alloc: Global, counts: Counts, rest: &[Token]) -> Read<'_, (Seq<Item>, Span)>
-    ensures { Gives result (query_of Limited 63 62 counts rest.now) }
+pub fn query(reader: &mut Reader<'_>) -> Read<(Seq<Item>, Span)>
+    ensures { Gives result reader.old reader.new (query_of Limited 63 62) }
 {
-    let (found, counts, rest) = items(alloc, counts, rest)?;
-    let (end, counts, rest) = end(counts, rest)?;
-    Ok(((found, end), counts, rest))
+    let found = read!(items(reader));
+    let end = read!(reader.end());
+    Ok((found, end))
 }

@@ -1,16 +1,16 @@
 //! Operators, by how close they bind, and the functions.
 
 ghost use Rattle.std.specs.Prelude.{◌≡◌, [], ◌∷◌};
-ghost use Rattle.query_grammar.specs.Grammar.{comparing_ops, functions, either_ops, both_ops, or_ops, xor_ops, and_ops, shift_ops};
-ghost use Rattle.query_grammar.specs.Grammar.{sum_ops, product_ops};
+ghost use Rattle.query_grammar.specs.Grammar.{Operators, comparing_ops, functions, product_ops};
 ghost use Rattle.query_grammar.specs.Kinds.{among, kinds_of, sign, operator as operator_of};
 ghost use Rattle.query_grammar.specs.Language.{Node};
 ghost use Rattle.query_grammar.specs.Parser.{Limited, word, next_is};
-ghost use Rattle.query_parser.specs.Reads.{Sees, op_among, op_with, is_op, ops_of};
+ghost use Rattle.query_parser.specs.Reads.{Sees, next_op, op_among, ops_of};
 
-use crate::halt::{Role, Seen, charged, stop_at};
+use crate::halt::{Halt, Read, read};
+use crate::reader::{Reader, Role, charged};
 use crate::word::{is_mark, is_word};
-use query_grammar::{Counts, Stop};
+use query_grammar::Stop;
 use query_lang::{Mark, Op, Span, Token, TokenKind, Word};
 
 /// Operators that bind alike, beginning with the closest. Those of one level group from the left, but for comparisons, which
@@ -122,41 +122,70 @@ fn function_op(kind: TokenKind) -> Option<Op>
     }
 }
 
+/// The operator of this level that comes next.
+fn next_operator(level: Level, rest: &[Token]) -> Option<Op>
+    ensures { result ≡ next_op (ops_of level) rest.now }
+{
+    match rest {
+        [first, ..] => level_op(level, first.kind),
+        [] => None,
+    }
+}
+
+/// The function that comes next.
+fn next_function(rest: &[Token]) -> Option<Op>
+    ensures { result ≡ next_op functions rest.now }
+{
+    match rest {
+        [first, ..] => function_op(first.kind),
+        [] => None,
+    }
+}
+
 /// Whether an operator of this level comes next.
 #[tactic(auto, using(crate::proofs::OperatorLists::next_is_op))]
 pub fn at_operator(level: Level, rest: &[Token]) -> bool
     ensures { result ≡ next_is (among (kinds_of (ops_of level))) rest.now }
 {
-    match rest {
-        [first, ..] => level_op(level, first.kind).is_some(),
-        [] => false,
+    next_operator(level, rest).is_some()
+}
+
+/// Whether a function comes next.
+#[tactic(auto, using(crate::proofs::OperatorLists::next_is_op))]
+pub fn at_function(rest: &[Token]) -> bool
+    ensures { result ≡ next_is (among (kinds_of functions)) rest.now }
+{
+    next_function(rest).is_some()
+}
+
+/// This operator, which the next token is, and which counts as a node.
+#[tactic(auto, using(crate::proofs::OperatorLists::word_is))]
+fn counted(reader: &mut Reader<'_>, found: Option<Op>) -> Read<(Op, Span)>
+    ensures { (ops : Operators) → found ≡ next_op ops reader.old.rest.now
+        → Sees result reader.old reader.new (word Limited Node (operator_of ops)) }
+{
+    match (found, reader.rest) {
+        (Some(op), [first, later @ ..]) => {
+            reader.counts = read!(charged(Role::Node, reader.counts));
+            reader.rest = later;
+            Ok((op, first.span))
+        }
+        _ => Err(Halt::At(Stop::Unexpected)),
     }
 }
 
 /// An operator of this level, which counts as a node.
-#[tactic(auto, using(crate::proofs::OperatorLists::operator_is))]
-pub fn operator(level: Level, counts: Counts, rest: &[Token]) -> Seen<'_, (Op, Span)>
-    ensures { Sees result (word Limited Node (operator_of (ops_of level)) counts rest.now) }
+pub fn operator(reader: &mut Reader<'_>, level: Level) -> Read<(Op, Span)>
+    ensures { Sees result reader.old reader.new (word Limited Node (operator_of (ops_of level))) }
 {
-    let [first, later @ ..] = rest else {
-        return Err(stop_at(Stop::Unexpected, rest));
-    };
-    match level_op(level, first.kind) {
-        Some(op) => Ok(((op, first.span), charged(Role::Node, counts, rest)?, later)),
-        None => Err(stop_at(Stop::Unexpected, rest)),
-    }
+    let found = next_operator(level, reader.rest);
+    counted(reader, found)
 }
 
 /// A function's word, which counts as a node.
-#[tactic(auto, using(crate::proofs::OperatorLists::operator_is))]
-pub fn function(counts: Counts, rest: &[Token]) -> Seen<'_, (Op, Span)>
-    ensures { Sees result (word Limited Node (operator_of functions) counts rest.now) }
+pub fn function(reader: &mut Reader<'_>) -> Read<(Op, Span)>
+    ensures { Sees result reader.old reader.new (word Limited Node (operator_of functions)) }
 {
-    let [first, later @ ..] = rest else {
-        return Err(stop_at(Stop::Unexpected, rest));
-    };
-    match function_op(first.kind) {
-        Some(op) => Ok(((op, first.span), charged(Role::Node, counts, rest)?, later)),
-        None => Err(stop_at(Stop::Unexpected, rest)),
-    }
+    let found = next_function(reader.rest);
+    counted(reader, found)
 }

@@ -10,6 +10,7 @@ ghost use Rattle.query_parser.specs.Given.{IfRefused, length_checked};
 use crate::halt::Halt;
 use crate::item::query;
 use crate::lexer::{Lexed, cut_text, fault_from};
+use crate::reader::Reader;
 use marple_base::Seq;
 use query_grammar::{Counts, Stop};
 use query_lang::{FaultKind, Item, Limit, MAX_QUERY, Query, QueryError, QueryFault, Span, Token};
@@ -48,10 +49,17 @@ fn read_tokens(alloc: Global, tokens: &[Token]) -> Result<(Seq<Item>, Span), Que
         nodes: 0,
         statements: 0,
     };
-    match query(alloc, none, tokens) {
-        Ok((found, _, [])) => Ok(found),
-        Ok((_, _, rest)) => Err(QueryError::Refused(fault_of(Stop::Unexpected, rest))),
-        Err(Halt::At(fault)) => Err(QueryError::Refused(fault_of(fault.stop, fault.rest))),
+    let mut reader = Reader {
+        alloc,
+        counts: none,
+        rest: tokens,
+    };
+    match query(&mut reader) {
+        Ok(found) => match reader.rest {
+            [] => Ok(found),
+            rest => Err(QueryError::Refused(fault_of(Stop::Unexpected, rest))),
+        },
+        Err(Halt::At(stop)) => Err(QueryError::Refused(fault_of(stop, reader.rest))),
         Err(Halt::Memory) => Err(QueryError::Memory),
     }
 }

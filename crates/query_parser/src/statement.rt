@@ -10,12 +10,10 @@ ghost use Rattle.query_lang.specs.declared.query.Stmt.TheVariants as stmts;
 ghost use Rattle.query_parser.specs.Reads.{Gives, GivesPart, Sees, bracket_at, block_at, empty_at, else_part_at};
 
 use crate::expression::{bracketed, expression};
-use crate::halt::{Read, Role, Seen};
-use crate::word::{
-    at_mark, at_name, at_word, is_name, is_word, keyword, name, no_bracket, plain_mark,
-};
+use crate::halt::{Read, read};
+use crate::reader::{Reader, Role};
+use crate::word::{at_mark, at_name, at_word, is_name, is_word};
 use marple_base::Seq;
-use query_grammar::Counts;
 use query_lang::{Expr, Mark, Span, Stmt, Token, Word};
 use std::alloc::{AllocError, Global};
 
@@ -30,37 +28,37 @@ enum ElsePart {
 }
 
 /// A name, and its new value.
-fn assignment(alloc: Global, brackets: u32, counts: Counts, rest: &[Token]) -> Read<'_, Stmt>
-    ensures { Gives result (assignment_of Limited (expr_at Limited brackets) counts rest.now) }
+fn assignment(reader: &mut Reader<'_>, brackets: u32) -> Read<Stmt>
+    ensures { Gives result reader.old reader.new (assignment_of Limited (expr_at Limited brackets)) }
 {
-    let (name, counts, rest) = name(Role::Statement, counts, rest)?;
-    let (_, counts, rest) = plain_mark(Mark::Assign, counts, rest)?;
-    let (value, counts, rest) = expression(alloc, brackets, counts, rest)?;
-    let (_, counts, rest) = plain_mark(Mark::Semicolon, counts, rest)?;
-    Ok((Stmt::Assign(name, value), counts, rest))
+    let name = read!(reader.name(Role::Statement));
+    read!(reader.mark(Mark::Assign));
+    let value = read!(expression(reader, brackets));
+    read!(reader.mark(Mark::Semicolon));
+    Ok(Stmt::Assign(name, value))
 }
 
 /// The empty brackets after `emit`, and the semicolon.
 #[tactic(auto, using(crate::proofs::Statements::empty_more))]
-fn no_arguments(brackets: u32, counts: Counts, rest: &[Token]) -> Seen<'_, (Span, Span)>
-    ensures { Sees result (empty_at brackets counts rest.now) }
+fn no_arguments(reader: &mut Reader<'_>, brackets: u32) -> Read<(Span, Span)>
+    ensures { Sees result reader.old reader.new (empty_at brackets) }
 {
     if brackets == 0 {
-        return no_bracket(Mark::OpenParen, counts, rest);
+        return reader.no_bracket(Mark::OpenParen);
     }
-    let (_, counts, rest) = plain_mark(Mark::OpenParen, counts, rest)?;
-    let (close, counts, rest) = plain_mark(Mark::CloseParen, counts, rest)?;
-    let (semicolon, counts, rest) = plain_mark(Mark::Semicolon, counts, rest)?;
-    Ok(((close, semicolon), counts, rest))
+    read!(reader.mark(Mark::OpenParen));
+    let close = read!(reader.mark(Mark::CloseParen));
+    let semicolon = read!(reader.mark(Mark::Semicolon));
+    Ok((close, semicolon))
 }
 
 /// `emit`, with its empty brackets.
-fn emission(brackets: u32, counts: Counts, rest: &[Token]) -> Seen<'_, Stmt>
-    ensures { Sees result (emission_of Limited (empty_at brackets) counts rest.now) }
+fn emission(reader: &mut Reader<'_>, brackets: u32) -> Read<Stmt>
+    ensures { Sees result reader.old reader.new (emission_of Limited (empty_at brackets)) }
 {
-    let (span, counts, rest) = keyword(Role::Statement, Word::Emit, counts, rest)?;
-    let (_, counts, rest) = no_arguments(brackets, counts, rest)?;
-    Ok((Stmt::Emit(span), counts, rest))
+    let span = read!(reader.keyword(Role::Statement, Word::Emit));
+    read!(no_arguments(reader, brackets));
+    Ok(Stmt::Emit(span))
 }
 
 /// Whether a statement may come next.
@@ -107,127 +105,109 @@ fn else_of(
 
 /// `if`, its condition and its block.
 #[cycle(stmt)]
-fn if_part(alloc: Global, brackets: u32, counts: Counts, rest: &[Token]) -> Read<'_, (Span, Branch)>
-    ensures { Gives result (if_part_of Limited (bracket_at brackets) (block_at brackets) counts rest.now) }
+fn if_part(reader: &mut Reader<'_>, brackets: u32) -> Read<(Span, Branch)>
+    ensures { Gives result reader.old reader.new (if_part_of Limited (bracket_at brackets) (block_at brackets)) }
 {
-    let (span, counts, rest) = keyword(Role::Statement, Word::If, counts, rest)?;
-    let (condition, counts, rest) = bracketed(alloc, brackets, counts, rest)?;
-    let (body, counts, rest) = block(alloc, brackets, counts, rest)?;
-    Ok(((span, (condition, body)), counts, rest))
+    let span = read!(reader.keyword(Role::Statement, Word::If));
+    let condition = read!(bracketed(reader, brackets));
+    let body = read!(block(reader, brackets));
+    Ok((span, (condition, body)))
 }
 
 /// `else`, and another branch or the last block.
 #[cycle(stmt)]
-fn else_part(alloc: Global, brackets: u32, counts: Counts, rest: &[Token]) -> Read<'_, ElsePart>
-    ensures { GivesPart result (else_part_at brackets counts rest.now) }
+fn else_part(reader: &mut Reader<'_>, brackets: u32) -> Read<ElsePart>
+    ensures { GivesPart result reader.old reader.new (else_part_at brackets) }
 {
-    let (_, counts, rest) = keyword(Role::Plain, Word::Else, counts, rest)?;
-    if at_mark(Mark::OpenBrace, rest) {
-        let (body, counts, rest) = block(alloc, brackets, counts, rest)?;
-        return Ok((ElsePart::Last(body), counts, rest));
+    read!(reader.keyword(Role::Plain, Word::Else));
+    if at_mark(Mark::OpenBrace, reader.rest) {
+        let body = read!(block(reader, brackets));
+        return Ok(ElsePart::Last(body));
     }
-    let ((_, branch), counts, rest) = if_part(alloc, brackets, counts, rest)?;
-    Ok((ElsePart::Another(branch), counts, rest))
+    let (_, branch) = read!(if_part(reader, brackets));
+    Ok(ElsePart::Another(branch))
 }
 
 /// The further branches of an `if`, and its last block.
 #[cycle(stmt)]
-fn else_parts(
-    alloc: Global,
-    brackets: u32,
-    counts: Counts,
-    rest: &[Token],
-) -> Read<'_, (Seq<Branch>, Option<Seq<Stmt>>)>
-    ensures { Gives result (chained (among (6 ∷ [])) (else_part_at brackets) counts rest.now) }
+fn else_parts(reader: &mut Reader<'_>, brackets: u32) -> Read<(Seq<Branch>, Option<Seq<Stmt>>)>
+    ensures { Gives result reader.old reader.new (chained (among (6 ∷ [])) (else_part_at brackets)) }
 {
-    let mut found = Seq::new(alloc);
-    let mut counts = counts;
-    let mut rest = rest;
-    'parts: for _ in 0..rest.len() {
-        if !at_word(Word::Else, rest) {
+    let mut found = Seq::new(reader.alloc);
+    'parts: for _ in 0..reader.rest.len() {
+        if !at_word(Word::Else, reader.rest) {
             break;
         }
-        let (part, after, later) = else_part(alloc, brackets, counts, rest)?;
+        let part = read!(else_part(reader, brackets));
         match part {
-            ElsePart::Last(body) => return Ok(((found, Some(body)), after, later)),
+            ElsePart::Last(body) => return Ok((found, Some(body))),
             ElsePart::Another(branch) => found.push(branch)?,
         }
-        counts = after;
-        rest = later;
     }
-    Ok(((found, None), counts, rest))
+    Ok((found, None))
 }
 
 /// An `if` with all of its branches.
 #[cycle(stmt)]
-fn if_statement(alloc: Global, brackets: u32, counts: Counts, rest: &[Token]) -> Read<'_, Stmt>
-    ensures { Gives result (if_statement_of Limited (bracket_at brackets) (block_at brackets) counts rest.now) }
+fn if_statement(reader: &mut Reader<'_>, brackets: u32) -> Read<Stmt>
+    ensures { Gives result reader.old reader.new (if_statement_of Limited (bracket_at brackets) (block_at brackets)) }
 {
-    let ((_, (condition, body)), counts, rest) = if_part(alloc, brackets, counts, rest)?;
-    let ((branches, last), counts, rest) = else_parts(alloc, brackets, counts, rest)?;
-    let otherwise = else_of(alloc, branches, last)?;
-    Ok((Stmt::If(condition, body, otherwise), counts, rest))
+    let (_, (condition, body)) = read!(if_part(reader, brackets));
+    let (branches, last) = read!(else_parts(reader, brackets));
+    let otherwise = else_of(reader.alloc, branches, last)?;
+    Ok(Stmt::If(condition, body, otherwise))
 }
 
 /// A statement.
 #[cycle(stmt)]
 #[tactic(auto, using(crate::proofs::Statements::stmt_is))]
-fn statement(alloc: Global, brackets: u32, counts: Counts, rest: &[Token]) -> Read<'_, Stmt>
-    ensures { Gives result (stmt_at Limited brackets counts rest.now) }
+fn statement(reader: &mut Reader<'_>, brackets: u32) -> Read<Stmt>
+    ensures { Gives result reader.old reader.new (stmt_at Limited brackets) }
 {
-    if at_name(rest) {
-        return assignment(alloc, brackets, counts, rest);
+    if at_name(reader.rest) {
+        return assignment(reader, brackets);
     }
-    if at_word(Word::If, rest) {
-        return if_statement(alloc, brackets, counts, rest);
+    if at_word(Word::If, reader.rest) {
+        return if_statement(reader, brackets);
     }
-    Ok(emission(brackets, counts, rest)?)
+    emission(reader, brackets)
 }
 
 /// Any number of statements.
 #[cycle(stmt)]
-fn statements(alloc: Global, brackets: u32, counts: Counts, rest: &[Token]) -> Read<'_, Seq<Stmt>>
-    ensures { Gives result (repeated (among stmt_starts) (stmt_at Limited brackets) counts rest.now) }
+fn statements(reader: &mut Reader<'_>, brackets: u32) -> Read<Seq<Stmt>>
+    ensures { Gives result reader.old reader.new (repeated (among stmt_starts) (stmt_at Limited brackets)) }
 {
-    let mut found = Seq::new(alloc);
-    let mut counts = counts;
-    let mut rest = rest;
-    'statements: for _ in 0..rest.len() {
-        if !at_statement(rest) {
+    let mut found = Seq::new(reader.alloc);
+    'statements: for _ in 0..reader.rest.len() {
+        if !at_statement(reader.rest) {
             break;
         }
-        let (next, after, later) = statement(alloc, brackets, counts, rest)?;
+        let next = read!(statement(reader, brackets));
         found.push(next)?;
-        counts = after;
-        rest = later;
     }
-    Ok((found, counts, rest))
+    Ok(found)
 }
 
 /// A block in its braces, in which that many brackets may be opened.
 #[cycle(stmt)]
-pub fn block_within(
-    alloc: Global,
-    brackets: u32,
-    counts: Counts,
-    rest: &[Token],
-) -> Read<'_, Seq<Stmt>>
-    ensures { Gives result (block_of Limited (stmt_at Limited brackets) counts rest.now) }
+pub fn block_within(reader: &mut Reader<'_>, brackets: u32) -> Read<Seq<Stmt>>
+    ensures { Gives result reader.old reader.new (block_of Limited (stmt_at Limited brackets)) }
 {
-    let (_, counts, rest) = plain_mark(Mark::OpenBrace, counts, rest)?;
-    let (found, counts, rest) = statements(alloc, brackets, counts, rest)?;
-    let (_, counts, rest) = plain_mark(Mark::CloseBrace, counts, rest)?;
-    Ok((found, counts, rest))
+    read!(reader.mark(Mark::OpenBrace));
+    let found = read!(statements(reader, brackets));
+    read!(reader.mark(Mark::CloseBrace));
+    Ok(found)
 }
 
 /// A block in its braces.
 #[cycle(stmt)]
 #[tactic(auto, using(crate::proofs::Statements::block_more))]
-fn block(alloc: Global, brackets: u32, counts: Counts, rest: &[Token]) -> Read<'_, Seq<Stmt>>
-    ensures { Gives result (block_at brackets counts rest.now) }
+fn block(reader: &mut Reader<'_>, brackets: u32) -> Read<Seq<Stmt>>
+    ensures { Gives result reader.old reader.new (block_at brackets) }
 {
     if brackets == 0 {
-        return Ok(no_bracket(Mark::OpenBrace, counts, rest)?);
+        return reader.no_bracket(Mark::OpenBrace);
     }
-    block_within(alloc, brackets - 1, counts, rest)
+    block_within(reader, brackets - 1)
 }

@@ -1,21 +1,19 @@
 //! Streams, and the operators that make them. A filter's expression is in one bracket, and a map's in two.
 
-ghost use Rattle.std.specs.Prelude.{◌≡◌, [], ◌∷◌};
 ghost use Rattle.query_grammar.specs.Kinds.{sign, keyword as keyword_of};
-ghost use Rattle.query_grammar.specs.Parser.{Limited, followed_by};
-ghost use Rattle.query_grammar.specs.Reading.{after, parens, brackets, separated, plain_name, expr_at, filter_of, column_of};
+ghost use Rattle.query_grammar.specs.Parser.{Limited};
+ghost use Rattle.query_grammar.specs.Reading.{after, separated, expr_at, filter_of, column_of};
 ghost use Rattle.query_grammar.specs.Reading.{mapping as mapping_of, pairing as pairing_of, key_of, group as group_of};
 ghost use Rattle.query_grammar.specs.Reading.{streaming as streaming_of, stream as stream_of};
 ghost use Rattle.query_lang.specs.declared.token.Mark.TheVariants as marks;
 ghost use Rattle.query_parser.specs.Reads.{Gives, Sees};
 
 use crate::expression::expression;
-use crate::halt::{Read, Role, Seen};
-use crate::word::{at_mark, at_name, at_word, comma_name, five_tuple, keyword, name, plain_mark};
+use crate::halt::{Read, read};
+use crate::reader::{Reader, Role};
+use crate::word::{at_mark, at_name, at_word};
 use marple_base::Seq;
-use query_grammar::Counts;
-use query_lang::{Column, Expr, Item, Key, Mark, Name, StreamDef, StreamOp, Token, Word};
-use std::alloc::Global;
+use query_lang::{Column, Expr, Item, Key, Mark, Name, StreamDef, StreamOp, Word};
 
 /// How many brackets may be opened inside the one of a filter: at most 64 are open at once.
 const WITHIN_FILTER: u32 = 63;
@@ -23,208 +21,161 @@ const WITHIN_FILTER: u32 = 63;
 /// How many brackets may be opened inside the two of a map's columns.
 const WITHIN_COLUMNS: u32 = 62;
 
-/// A comma, and a condition after it.
-fn comma_condition(alloc: Global, counts: Counts, rest: &[Token]) -> Read<'_, Expr>
-    ensures { Gives result (after Limited (sign marks.Comma) (expr_at Limited 63) counts rest.now) }
+/// `filter`, and in parentheses a name, and a condition after a comma.
+pub fn filter(reader: &mut Reader<'_>) -> Read<(Name, Expr)>
+    ensures { Gives result reader.old reader.new (filter_of Limited (expr_at Limited 63)) }
 {
-    let (_, counts, rest) = plain_mark(Mark::Comma, counts, rest)?;
-    expression(alloc, WITHIN_FILTER, counts, rest)
-}
-
-/// In parentheses, a name, and a condition after a comma.
-fn filter_operands(alloc: Global, counts: Counts, rest: &[Token]) -> Read<'_, (Name, Expr)>
-    ensures { Gives result (parens Limited
-        (followed_by (plain_name Limited) (after Limited (sign marks.Comma) (expr_at Limited 63))) counts rest.now) }
-{
-    let (_, counts, rest) = plain_mark(Mark::OpenParen, counts, rest)?;
-    let (input, counts, rest) = name(Role::Plain, counts, rest)?;
-    let (condition, counts, rest) = comma_condition(alloc, counts, rest)?;
-    let (_, counts, rest) = plain_mark(Mark::CloseParen, counts, rest)?;
-    Ok(((input, condition), counts, rest))
-}
-
-/// `filter`, and its operands.
-pub fn filter(alloc: Global, counts: Counts, rest: &[Token]) -> Read<'_, (Name, Expr)>
-    ensures { Gives result (filter_of Limited (expr_at Limited 63) counts rest.now) }
-{
-    let (_, counts, rest) = keyword(Role::Plain, Word::Filter, counts, rest)?;
-    filter_operands(alloc, counts, rest)
+    read!(reader.keyword(Role::Plain, Word::Filter));
+    read!(reader.mark(Mark::OpenParen));
+    let input = read!(reader.name(Role::Plain));
+    read!(reader.mark(Mark::Comma));
+    let condition = read!(expression(reader, WITHIN_FILTER));
+    read!(reader.mark(Mark::CloseParen));
+    Ok((input, condition))
 }
 
 /// A new column: its name, and its value after `=`.
-fn column(alloc: Global, counts: Counts, rest: &[Token]) -> Read<'_, Column>
-    ensures { Gives result (column_of Limited (expr_at Limited 62) counts rest.now) }
+fn column(reader: &mut Reader<'_>) -> Read<Column>
+    ensures { Gives result reader.old reader.new (column_of Limited (expr_at Limited 62)) }
 {
-    let (name, counts, rest) = name(Role::Plain, counts, rest)?;
-    let (_, counts, rest) = plain_mark(Mark::Assign, counts, rest)?;
-    let (value, counts, rest) = expression(alloc, WITHIN_COLUMNS, counts, rest)?;
-    Ok((Column { name, value }, counts, rest))
+    let name = read!(reader.name(Role::Plain));
+    read!(reader.mark(Mark::Assign));
+    let value = read!(expression(reader, WITHIN_COLUMNS));
+    Ok(Column { name, value })
 }
 
 /// A comma, and a column after it.
-fn comma_column(alloc: Global, counts: Counts, rest: &[Token]) -> Read<'_, Column>
-    ensures { Gives result (after Limited (sign marks.Comma) (column_of Limited (expr_at Limited 62)) counts rest.now) }
+fn comma_column(reader: &mut Reader<'_>) -> Read<Column>
+    ensures { Gives result reader.old reader.new (after Limited (sign marks.Comma) (column_of Limited (expr_at Limited 62))) }
 {
-    let (_, counts, rest) = plain_mark(Mark::Comma, counts, rest)?;
-    column(alloc, counts, rest)
+    read!(reader.mark(Mark::Comma));
+    column(reader)
 }
 
 /// Columns with commas between them.
-fn columns(alloc: Global, counts: Counts, rest: &[Token]) -> Read<'_, Seq<Column>>
-    ensures { Gives result (separated Limited (column_of Limited (expr_at Limited 62)) counts rest.now) }
+fn columns(reader: &mut Reader<'_>) -> Read<Seq<Column>>
+    ensures { Gives result reader.old reader.new (separated Limited (column_of Limited (expr_at Limited 62))) }
 {
-    let mut found = Seq::new(alloc);
-    let (first, mut counts, mut rest) = column(alloc, counts, rest)?;
+    let mut found = Seq::new(reader.alloc);
+    let first = read!(column(reader));
     found.push(first)?;
-    'columns: for _ in 0..rest.len() {
-        if !at_mark(Mark::Comma, rest) {
+    'columns: for _ in 0..reader.rest.len() {
+        if !at_mark(Mark::Comma, reader.rest) {
             break;
         }
-        let (next, after, later) = comma_column(alloc, counts, rest)?;
+        let next = read!(comma_column(reader));
         found.push(next)?;
-        counts = after;
-        rest = later;
     }
-    Ok((found, counts, rest))
+    Ok(found)
 }
 
-/// Columns in square brackets, after a comma.
-fn comma_columns(alloc: Global, counts: Counts, rest: &[Token]) -> Read<'_, Seq<Column>>
-    ensures { Gives result (after Limited (sign marks.Comma)
-        (brackets Limited (separated Limited (column_of Limited (expr_at Limited 62)))) counts rest.now) }
+/// `map`, and in parentheses a name, and columns in square brackets after a comma.
+pub fn mapping(reader: &mut Reader<'_>) -> Read<(Name, Seq<Column>)>
+    ensures { Gives result reader.old reader.new (mapping_of Limited (expr_at Limited 62)) }
 {
-    let (_, counts, rest) = plain_mark(Mark::Comma, counts, rest)?;
-    let (_, counts, rest) = plain_mark(Mark::OpenBracket, counts, rest)?;
-    let (found, counts, rest) = columns(alloc, counts, rest)?;
-    let (_, counts, rest) = plain_mark(Mark::CloseBracket, counts, rest)?;
-    Ok((found, counts, rest))
-}
-
-/// In parentheses, a name, and columns after a comma.
-fn map_operands(alloc: Global, counts: Counts, rest: &[Token]) -> Read<'_, (Name, Seq<Column>)>
-    ensures { Gives result (parens Limited
-        (followed_by (plain_name Limited)
-        (after Limited (sign marks.Comma)
-        (brackets Limited (separated Limited (column_of Limited (expr_at Limited 62)))))) counts rest.now) }
-{
-    let (_, counts, rest) = plain_mark(Mark::OpenParen, counts, rest)?;
-    let (input, counts, rest) = name(Role::Plain, counts, rest)?;
-    let (found, counts, rest) = comma_columns(alloc, counts, rest)?;
-    let (_, counts, rest) = plain_mark(Mark::CloseParen, counts, rest)?;
-    Ok(((input, found), counts, rest))
-}
-
-/// `map`, and its operands.
-pub fn mapping(alloc: Global, counts: Counts, rest: &[Token]) -> Read<'_, (Name, Seq<Column>)>
-    ensures { Gives result (mapping_of Limited (expr_at Limited 62) counts rest.now) }
-{
-    let (_, counts, rest) = keyword(Role::Plain, Word::Map, counts, rest)?;
-    map_operands(alloc, counts, rest)
+    read!(reader.keyword(Role::Plain, Word::Map));
+    read!(reader.mark(Mark::OpenParen));
+    let input = read!(reader.name(Role::Plain));
+    read!(reader.mark(Mark::Comma));
+    read!(reader.mark(Mark::OpenBracket));
+    let found = read!(columns(reader));
+    read!(reader.mark(Mark::CloseBracket));
+    read!(reader.mark(Mark::CloseParen));
+    Ok((input, found))
 }
 
 /// This word, and two names in parentheses.
-pub fn pairing(word: Word, counts: Counts, rest: &[Token]) -> Seen<'_, (Name, Name)>
-    ensures { Sees result (pairing_of Limited (keyword_of word) counts rest.now) }
+pub fn pairing(reader: &mut Reader<'_>, word: Word) -> Read<(Name, Name)>
+    ensures { Sees result reader.old reader.new (pairing_of Limited (keyword_of word)) }
 {
-    let (_, counts, rest) = keyword(Role::Plain, word, counts, rest)?;
-    let (_, counts, rest) = plain_mark(Mark::OpenParen, counts, rest)?;
-    let (left, counts, rest) = name(Role::Plain, counts, rest)?;
-    let (right, counts, rest) = comma_name(counts, rest)?;
-    let (_, counts, rest) = plain_mark(Mark::CloseParen, counts, rest)?;
-    Ok(((left, right), counts, rest))
+    read!(reader.keyword(Role::Plain, word));
+    read!(reader.mark(Mark::OpenParen));
+    let left = read!(reader.name(Role::Plain));
+    let right = read!(reader.comma_name());
+    read!(reader.mark(Mark::CloseParen));
+    Ok((left, right))
 }
 
 /// A key: a name, or `5tuple`.
-fn key(counts: Counts, rest: &[Token]) -> Seen<'_, Key>
-    ensures { Sees result (key_of Limited counts rest.now) }
+fn key(reader: &mut Reader<'_>) -> Read<Key>
+    ensures { Sees result reader.old reader.new (key_of Limited) }
 {
-    if at_name(rest) {
-        let (name, counts, rest) = name(Role::Plain, counts, rest)?;
-        return Ok((Key::Named(name), counts, rest));
+    if at_name(reader.rest) {
+        let name = read!(reader.name(Role::Plain));
+        return Ok(Key::Named(name));
     }
-    let (span, counts, rest) = five_tuple(counts, rest)?;
-    Ok((Key::FiveTuple(span), counts, rest))
+    let span = read!(reader.five_tuple());
+    Ok(Key::FiveTuple(span))
 }
 
 /// A comma, and a key after it.
-fn comma_key(counts: Counts, rest: &[Token]) -> Seen<'_, Key>
-    ensures { Sees result (after Limited (sign marks.Comma) (key_of Limited) counts rest.now) }
+fn comma_key(reader: &mut Reader<'_>) -> Read<Key>
+    ensures { Sees result reader.old reader.new (after Limited (sign marks.Comma) (key_of Limited)) }
 {
-    let (_, counts, rest) = plain_mark(Mark::Comma, counts, rest)?;
-    key(counts, rest)
+    read!(reader.mark(Mark::Comma));
+    key(reader)
 }
 
 /// Keys with commas between them.
-fn keys(alloc: Global, counts: Counts, rest: &[Token]) -> Read<'_, Seq<Key>>
-    ensures { Gives result (separated Limited (key_of Limited) counts rest.now) }
+fn keys(reader: &mut Reader<'_>) -> Read<Seq<Key>>
+    ensures { Gives result reader.old reader.new (separated Limited (key_of Limited)) }
 {
-    let mut found = Seq::new(alloc);
-    let (first, mut counts, mut rest) = key(counts, rest)?;
+    let mut found = Seq::new(reader.alloc);
+    let first = read!(key(reader));
     found.push(first)?;
-    'keys: for _ in 0..rest.len() {
-        if !at_mark(Mark::Comma, rest) {
+    'keys: for _ in 0..reader.rest.len() {
+        if !at_mark(Mark::Comma, reader.rest) {
             break;
         }
-        let (next, after, later) = comma_key(counts, rest)?;
+        let next = read!(comma_key(reader));
         found.push(next)?;
-        counts = after;
-        rest = later;
     }
-    Ok((found, counts, rest))
+    Ok(found)
 }
 
-/// Keys in square brackets, and the name of a fold after a comma.
-fn keys_and_fold(alloc: Global, counts: Counts, rest: &[Token]) -> Read<'_, (Seq<Key>, Name)>
-    ensures { Gives result (followed_by (brackets Limited (separated Limited (key_of Limited)))
-        (after Limited (sign marks.Comma) (plain_name Limited)) counts rest.now) }
+/// `groupby`, and in parentheses its input, its keys in square brackets and its fold.
+pub fn group(reader: &mut Reader<'_>) -> Read<(Name, (Seq<Key>, Name))>
+    ensures { Gives result reader.old reader.new (group_of Limited) }
 {
-    let (_, counts, rest) = plain_mark(Mark::OpenBracket, counts, rest)?;
-    let (found, counts, rest) = keys(alloc, counts, rest)?;
-    let (_, counts, rest) = plain_mark(Mark::CloseBracket, counts, rest)?;
-    let (fold, counts, rest) = comma_name(counts, rest)?;
-    Ok(((found, fold), counts, rest))
-}
-
-/// `groupby`, and in parentheses its input, its keys and its fold.
-pub fn group(alloc: Global, counts: Counts, rest: &[Token]) -> Read<'_, (Name, (Seq<Key>, Name))>
-    ensures { Gives result (group_of Limited counts rest.now) }
-{
-    let (_, counts, rest) = keyword(Role::Plain, Word::Groupby, counts, rest)?;
-    let (_, counts, rest) = plain_mark(Mark::OpenParen, counts, rest)?;
-    let (input, counts, rest) = name(Role::Plain, counts, rest)?;
-    let (_, counts, rest) = plain_mark(Mark::Comma, counts, rest)?;
-    let (parts, counts, rest) = keys_and_fold(alloc, counts, rest)?;
-    let (_, counts, rest) = plain_mark(Mark::CloseParen, counts, rest)?;
-    Ok(((input, parts), counts, rest))
+    read!(reader.keyword(Role::Plain, Word::Groupby));
+    read!(reader.mark(Mark::OpenParen));
+    let input = read!(reader.name(Role::Plain));
+    read!(reader.mark(Mark::Comma));
+    read!(reader.mark(Mark::OpenBracket));
+    let found = read!(keys(reader));
+    read!(reader.mark(Mark::CloseBracket));
+    let fold = read!(reader.comma_name());
+    read!(reader.mark(Mark::CloseParen));
+    Ok((input, (found, fold)))
 }
 
 /// What makes a stream.
-fn streaming(alloc: Global, counts: Counts, rest: &[Token]) -> Read<'_, StreamOp>
-    ensures { Gives result (streaming_of Limited (expr_at Limited 63) (expr_at Limited 62) counts rest.now) }
+fn streaming(reader: &mut Reader<'_>) -> Read<StreamOp>
+    ensures { Gives result reader.old reader.new (streaming_of Limited (expr_at Limited 63) (expr_at Limited 62)) }
 {
-    if at_word(Word::Filter, rest) {
-        let ((input, condition), counts, rest) = filter(alloc, counts, rest)?;
-        return Ok((StreamOp::Filter(input, condition), counts, rest));
+    if at_word(Word::Filter, reader.rest) {
+        let (input, condition) = read!(filter(reader));
+        return Ok(StreamOp::Filter(input, condition));
     }
-    if at_word(Word::Map, rest) {
-        let ((input, columns), counts, rest) = mapping(alloc, counts, rest)?;
-        return Ok((StreamOp::Map(input, columns), counts, rest));
+    if at_word(Word::Map, reader.rest) {
+        let (input, columns) = read!(mapping(reader));
+        return Ok(StreamOp::Map(input, columns));
     }
-    if at_word(Word::Zip, rest) {
-        let ((left, right), counts, rest) = pairing(Word::Zip, counts, rest)?;
-        return Ok((StreamOp::Zip(left, right), counts, rest));
+    if at_word(Word::Zip, reader.rest) {
+        let (left, right) = read!(pairing(reader, Word::Zip));
+        return Ok(StreamOp::Zip(left, right));
     }
-    let ((input, (keys, fold)), counts, rest) = group(alloc, counts, rest)?;
-    Ok((StreamOp::Group(input, keys, fold), counts, rest))
+    let (input, (keys, fold)) = read!(group(reader));
+    Ok(StreamOp::Group(input, keys, fold))
 }
 
 /// A stream: its name, `=`, and what makes it.
-pub fn stream(alloc: Global, counts: Counts, rest: &[Token]) -> Read<'_, Item>
-    ensures { Gives result (stream_of Limited (expr_at Limited 63) (expr_at Limited 62) counts rest.now) }
+pub fn stream(reader: &mut Reader<'_>) -> Read<Item>
+    ensures { Gives result reader.old reader.new (stream_of Limited (expr_at Limited 63) (expr_at Limited 62)) }
 {
-    let (name, counts, rest) = name(Role::Opening, counts, rest)?;
-    let (_, counts, rest) = plain_mark(Mark::Assign, counts, rest)?;
-    let (op, counts, rest) = streaming(alloc, counts, rest)?;
-    let (_, counts, rest) = plain_mark(Mark::Semicolon, counts, rest)?;
-    Ok((Item::Stream(StreamDef { name, op }), counts, rest))
+    let name = read!(reader.name(Role::Opening));
+    read!(reader.mark(Mark::Assign));
+    let op = read!(streaming(reader));
+    read!(reader.mark(Mark::Semicolon));
+    Ok(Item::Stream(StreamDef { name, op }))
 }

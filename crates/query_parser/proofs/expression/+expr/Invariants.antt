@@ -64,12 +64,12 @@ decreases-listed l = 50 * l.brackets + 42
 -- what is read so far, and what is left to read, give the whole
 abbrev pub invariant-level-operations : goal.invariant-level-operations
 invariant-level-operations l =
-    finished (grouped l.left) (turns (length l.initial.rest - l.counter) (among (kinds_of (ops_of l.of)))
-    (operation_of l.of (primary_at l.brackets)) l.counts l.rest)
-    ≡ level_of l.of (primary_at l.brackets) l.fn.counts l.fn.rest
+    finished (grouped l.left) (turns (length l.initial.reader.rest.now - l.counter) (among (kinds_of (ops_of l.of)))
+    (operation_of l.of (primary_at l.brackets)) l.reader.counts l.reader.rest.now)
+    ≡ level_of l.of (primary_at l.brackets) l.fn.reader.counts l.fn.reader.rest.now
 
 abbrev pub invariant-expressions-expressions : goal.invariant-expressions-expressions
 invariant-expressions-expressions l =
-    finished (later l.found) (turns (length l.initial.rest - l.counter) (among (30 ∷ []))
-    (after Limited (sign marks.Comma) (expr_at Limited l.brackets)) l.counts l.rest)
-    ≡ separated Limited (expr_at Limited l.brackets) l.fn.counts l.fn.rest
+    finished (later l.found) (turns (length l.initial.reader.rest.now - l.counter) (among (30 ∷ []))
+    (after Limited (sign marks.Comma) (expr_at Limited l.brackets)) l.reader.counts l.reader.rest.now)
+    ≡ separated Limited (expr_at Limited l.brackets) l.fn.reader.counts l.fn.reader.rest.now

@@ -8,6 +8,6 @@ use Rattle.query_parser.proofs.expression.bangs.Given as goal
 
 abbrev pub invariant-bangs : goal.invariant-bangs
 invariant-bangs l =
-    finished (later l.found) (turns (length l.fn.rest - l.counter) (among (51 ∷ [])) (word Limited Node (is (sign marks.Bang))) l.counts
-    l.rest)
-    ≡ repeated (among (51 ∷ [])) (word Limited Node (is (sign marks.Bang))) l.fn.counts l.fn.rest
+    finished (later l.found) (turns (length l.fn.reader.rest.now - l.counter) (among (51 ∷ []))
+    (word Limited Node (is (sign marks.Bang))) l.reader.counts l.reader.rest.now)
+    ≡ repeated (among (51 ∷ [])) (word Limited Node (is (sign marks.Bang))) l.fn.reader.counts l.fn.reader.rest.now

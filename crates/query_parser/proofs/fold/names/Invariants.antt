@@ -8,6 +8,6 @@ use Rattle.query_parser.proofs.fold.names.Given as goal
 
 abbrev pub invariant-names : goal.invariant-names
 invariant-names l =
-    finished (later l.found) (turns (length l.initial.rest - l.counter) (among (30 ∷ []))
-    (after Limited (sign marks.Comma) (plain_name Limited)) l.counts l.rest)
-    ≡ separated Limited (plain_name Limited) l.fn.counts l.fn.rest
+    finished (later l.found) (turns (length l.initial.reader.rest.now - l.counter) (among (30 ∷ []))
+    (after Limited (sign marks.Comma) (plain_name Limited)) l.reader.counts l.reader.rest.now)
+    ≡ separated Limited (plain_name Limited) l.fn.reader.counts l.fn.reader.rest.now

@@ -8,6 +8,6 @@ use Rattle.query_parser.proofs.fold.state_variables.Given as goal
 
 abbrev pub invariant-variables : goal.invariant-variables
 invariant-variables l =
-    finished (later l.found) (turns (length l.initial.rest - l.counter) (among (30 ∷ []))
-    (after Limited (sign marks.Comma) (state_variable Limited)) l.counts l.rest)
-    ≡ separated Limited (state_variable Limited) l.fn.counts l.fn.rest
+    finished (later l.found) (turns (length l.initial.reader.rest.now - l.counter) (among (30 ∷ []))
+    (after Limited (sign marks.Comma) (state_variable Limited)) l.reader.counts l.reader.rest.now)
+    ≡ separated Limited (state_variable Limited) l.fn.reader.counts l.fn.reader.rest.now

@@ -8,6 +8,7 @@ use Rattle.query_parser.proofs.item.items.Given as goal
 -- what is read so far, and what is left to read, give the whole
 abbrev pub invariant-items : goal.invariant-items
 invariant-items l =
-    finished (later l.found) (turns (length l.fn.rest - l.counter) (among item_starts)
-    (item Limited (stmt_at Limited 63) (expr_at Limited 63) (expr_at Limited 62)) l.counts l.rest)
-    ≡ repeated (among item_starts) (item Limited (stmt_at Limited 63) (expr_at Limited 63) (expr_at Limited 62)) l.fn.counts l.fn.rest
+    finished (later l.found) (turns (length l.fn.reader.rest.now - l.counter) (among item_starts)
+    (item Limited (stmt_at Limited 63) (expr_at Limited 63) (expr_at Limited 62)) l.reader.counts l.reader.rest.now)
+    ≡ repeated (among item_starts) (item Limited (stmt_at Limited 63) (expr_at Limited 63) (expr_at Limited 62))
+    l.fn.reader.counts l.fn.reader.rest.now

@@ -34,10 +34,12 @@ decreases-block_within l = 8 * l.brackets + 7
 -- what is read so far, and what is left to read, give the whole
 abbrev pub invariant-statements-statements : goal.invariant-statements-statements
 invariant-statements-statements l =
-    finished (later l.found) (turns (length l.initial.rest - l.counter) (among stmt_starts) (stmt_at Limited l.brackets) l.counts l.rest)
-    ≡ repeated (among stmt_starts) (stmt_at Limited l.brackets) l.fn.counts l.fn.rest
+    finished (later l.found) (turns (length l.initial.reader.rest.now - l.counter) (among stmt_starts)
+    (stmt_at Limited l.brackets) l.reader.counts l.reader.rest.now)
+    ≡ repeated (among stmt_starts) (stmt_at Limited l.brackets) l.fn.reader.counts l.fn.reader.rest.now
 
 abbrev pub invariant-else_parts-parts : goal.invariant-else_parts-parts
 invariant-else_parts-parts l =
-    chained_on l.found (chain_turns (length l.initial.rest - l.counter) (among (6 ∷ [])) (else_part_at l.brackets) l.counts l.rest)
-    ≡ chained (among (6 ∷ [])) (else_part_at l.brackets) l.fn.counts l.fn.rest
+    chained_on l.found (chain_turns (length l.initial.reader.rest.now - l.counter) (among (6 ∷ []))
+    (else_part_at l.brackets) l.reader.counts l.reader.rest.now)
+    ≡ chained (among (6 ∷ [])) (else_part_at l.brackets) l.fn.reader.counts l.fn.reader.rest.now

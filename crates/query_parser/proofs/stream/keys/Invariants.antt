@@ -9,6 +9,6 @@ use Rattle.query_parser.proofs.stream.keys.Given as goal
 -- what is read so far, and what is left to read, give the whole
 abbrev pub invariant-keys : goal.invariant-keys
 invariant-keys l =
-    finished (later l.found) (turns (length l.initial.rest - l.counter) (among (30 ∷ []))
-    (after Limited (sign marks.Comma) (key_of Limited)) l.counts l.rest)
-    ≡ separated Limited (key_of Limited) l.fn.counts l.fn.rest
+    finished (later l.found) (turns (length l.initial.reader.rest.now - l.counter) (among (30 ∷ []))
+    (after Limited (sign marks.Comma) (key_of Limited)) l.reader.counts l.reader.rest.now)
+    ≡ separated Limited (key_of Limited) l.fn.reader.counts l.fn.reader.rest.now
