@@ -1,3 +1,4 @@
+pub mod Endings
 pub mod KeyLists
 pub mod KeyOrder
 pub mod StackDistance
