@@ -67,3 +67,14 @@ more_words m w h = grind arith
 
 pub row_room : (n w row : ℕ) → 1 ≤ w → row < n → row < n * (n + 1) * w
 row_room n w row hw h = omega (arith, more_words (n * (n + 1)) w hw, more_words n (n + 1) (omega arith))
+
+-- places of one row are apart, and so are those before it
+pub columns_apart : (start j column : ℕ) → j < column → start + j ≢ start + column
+columns_apart start j column h = omega arith
+
+pub before_apart : (p start column : ℕ) → p < start → p ≢ start + column
+before_apart p start column h = omega arith
+
+-- some steps more for each column
+pub columns_steps : (first steps more column n : ℕ) → steps ≡ first + column * n → more ≡ steps + n → more ≡ first + (column + 1) * n
+columns_steps first steps more column n e h = grind arith
