@@ -2,6 +2,7 @@ pub mod FoldLemmas
 pub mod ShapeLemmas
 pub mod MapFacts
 pub mod PlacedWords
+pub mod WritingPlaces
 pub mod StepCosts
 pub mod StepWords
 pub mod MoverLemmas

@@ -1,0 +1,18 @@
+use Rattle.std.proofs.Common.{◌<◌, length, slice_index, arith, refl, subst, sym}
+use Rattle.epoch_entry.proofs.WritingPlaces.{next_written, others_stay}
+use Rattle.epoch_entry.proofs.words.scatter.Goals as goal
+
+pub loop-at-preserved : goal.loop-at-preserved
+loop-at-preserved g c =
+    let places = c.args.places.now in
+    let at = c.loop-at.at in
+    let state = c.loop-at.state in
+    let within : at < length places = omega arith in
+    let room : slice_index places at < length state = subst (λ k. slice_index places at < k) (sym c.loop-at.auto.state)
+    (c.requires.inside at 0 within) in
+    record {
+      written = next_written places state at (slice_index c.args.words.now at) (λ i. slice_index c.args.words.now i)
+          c.requires.ascending within room c.loop-at.invariant.written refl;
+      others = others_stay places state c.args.state.now at (slice_index c.args.words.now at) c.loop-at.invariant.others;
+      steps = omega (arith, c.loop-at.invariant.steps);
+    }
