@@ -1,7 +1,9 @@
 use Rattle.std.proofs.Common.{◌≡◌, take, drop, sym, ap, ◌∙◌, subst, take-append-drop}
+use Rattle.std.proofs.Math.Nat.{le_refl}
 use Rattle.backing_store.specs.Merged.{StoreHolds}
 use Rattle.switch_core.specs.Lanes.{CacheStands, LaneStands, RecordsStand}
 use Rattle.live_view.specs.Views.{all_epochs}
+use Rattle.epoch_model.proofs.Endings.{no_value}
 use Rattle.live_view.proofs.lane.full_store.Goals as goal
 
 pub returns-clause-holds : goal.returns-clause-holds
@@ -27,3 +29,38 @@ returns-clause-holds g c m s =
     (c.in_ok-merge_pipe.ensures.held (drop m.merged m.closed) (take m.merged m.closed) piped kept) in
     subst (λ k. StoreHolds (g.K.EpochKind.folding k) c.merge_cache.new.store (all_epochs m)) c.kind-kind.ensures
     (c.in_ok-merge_cache.ensures.held m m.closed cached closed)
+
+pub returns-in_err-initial-clause-holds : goal.returns-in_err-initial-clause-holds
+returns-in_err-initial-clause-holds g c = no_value c.from_residual.result _ c.from_residual.ensures.0
+
+pub returns-in_err-initial-clause-steps : goal.returns-in_err-initial-clause-steps
+returns-in_err-initial-clause-steps g c = le_refl c.args.steps.now
+
+pub returns-in_err-scratch-clause-holds : goal.returns-in_err-scratch-clause-holds
+returns-in_err-scratch-clause-holds g c = no_value c.from_residual-in_err-scratch.result _ c.from_residual-in_err-scratch.ensures.0
+
+pub returns-in_err-scratch-clause-steps : goal.returns-in_err-scratch-clause-steps
+returns-in_err-scratch-clause-steps g c = le_refl c.args.steps.now
+
+pub returns-in_err-room-clause-holds : goal.returns-in_err-room-clause-holds
+returns-in_err-room-clause-holds g c = no_value c.from_residual-in_err-room.result _ c.from_residual-in_err-room.ensures.0
+
+pub returns-in_err-room-clause-steps : goal.returns-in_err-room-clause-steps
+returns-in_err-room-clause-steps g c = le_refl c.args.steps.now
+
+pub returns-in_err-store-clause-holds : goal.returns-in_err-store-clause-holds
+returns-in_err-store-clause-holds g c = no_value c.from_residual-in_err-store.result _ c.from_residual-in_err-store.ensures.0
+
+pub returns-in_err-store-clause-steps : goal.returns-in_err-store-clause-steps
+returns-in_err-store-clause-steps g c = le_refl c.args.steps.now
+
+pub returns-in_err-merge_pipe-clause-holds : goal.returns-in_err-merge_pipe-clause-holds
+returns-in_err-merge_pipe-clause-holds g c =
+    no_value c.from_residual-in_err-merge_pipe.result _ c.from_residual-in_err-merge_pipe.ensures.0
+
+pub returns-in_err-merge_cache-clause-holds : goal.returns-in_err-merge_cache-clause-holds
+returns-in_err-merge_cache-clause-holds g c =
+    no_value c.from_residual-in_err-merge_cache.result _ c.from_residual-in_err-merge_cache.ensures.0
+
+pub returns-in_err-merge_pipe-clause-steps : goal.returns-in_err-merge_pipe-clause-steps
+returns-in_err-merge_pipe-clause-steps g c = c.merge_pipe.ensures.steps
