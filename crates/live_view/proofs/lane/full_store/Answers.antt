@@ -1,7 +1,9 @@
-use Rattle.std.proofs.Common.{◌≡◌, take, drop, sym, ap, ◌∙◌, subst, take-append-drop}
+use Rattle.std.proofs.Common.{◌≡◌, ◌+◌, ◌++◌, ℕ, length, replicate, arith, take, drop, sym, ap, ◌∙◌, subst, take-append-drop}
 use Rattle.std.proofs.Math.Nat.{le_refl}
+use Rattle.std.proofs.lemmas.List.{length-replicate}
 use Rattle.backing_store.specs.Merged.{StoreHolds}
 use Rattle.switch_core.specs.Lanes.{CacheStands, LaneStands, RecordsStand}
+use Rattle.switch_core.proofs.LaneFacts.{whole_written}
 use Rattle.live_view.specs.Views.{all_epochs}
 use Rattle.epoch_model.proofs.Endings.{no_value}
 use Rattle.live_view.proofs.lane.full_store.Goals as goal
@@ -64,3 +66,23 @@ returns-in_err-merge_cache-clause-holds g c =
 
 pub returns-in_err-merge_pipe-clause-steps : goal.returns-in_err-merge_pipe-clause-steps
 returns-in_err-merge_pipe-clause-steps g c = c.merge_pipe.ensures.steps
+
+same_sum : (w k e key entry : ℕ) → w ≡ k + e → key ≡ k → e ≡ entry → w ≡ key + entry
+same_sum w k e key entry whole hk he = omega arith
+
+pub merge_pipe-requires-clause-records : goal.merge_pipe-requires-clause-records
+merge_pipe-requires-clause-records g c =
+    let front = c.invariant.ensures.front in
+    let copied : c.in_ok-store.store ≡ c.args.lane.now.store = c.in_ok-store.ensures ∙ c.store.ensures in
+    same_sum _ _ _ _ _ (ap (λ p. p.record_words) c.pipe-pipe.ensures ∙ front.record_words)
+    (ap (λ x. x.key_words) copied ∙ c.invariant.ensures.store.key)
+    (front.entry ∙ ap (λ k. (g.K.EpochKind.sizes k).entry) (sym c.kind-kind.ensures))
+
+pub merge_pipe-requires-clause-room : goal.merge_pipe-requires-clause-room
+merge_pipe-requires-clause-room g c =
+    let n = c.args.key_words + c.entry_words.result in
+    let zeros : c.in_ok-room.room.items ≡ replicate n 0 = c.in_ok-room.ensures.items_if_clones_equal (λ y h. h) in
+    let front = c.invariant.ensures.front in
+    let entry = front.entry ∙ (ap (λ k. (g.K.EpochKind.sizes k).entry) (sym c.kind-kind.ensures) ∙ sym c.entry_words.ensures) in
+    ap length (c.deref_mut-3.ensures.value ∙ zeros) ∙ (length-replicate n 0
+    ∙ sym (same_sum _ _ _ _ _ (ap (λ p. p.record_words) c.pipe-pipe.ensures ∙ front.record_words) c.requires.key_words entry))
