@@ -86,3 +86,26 @@ merge_pipe-requires-clause-room g c =
     let entry = front.entry ∙ (ap (λ k. (g.K.EpochKind.sizes k).entry) (sym c.kind-kind.ensures) ∙ sym c.entry_words.ensures) in
     ap length (c.deref_mut-3.ensures.value ∙ zeros) ∙ (length-replicate n 0
     ∙ sym (same_sum _ _ _ _ _ (ap (λ p. p.record_words) c.pipe-pipe.ensures ∙ front.record_words) c.requires.key_words entry))
+
+pub merge_pipe-requires-clause-fits : goal.merge_pipe-requires-clause-fits
+merge_pipe-requires-clause-fits g c =
+    let sizes = g.K.EpochKind.sizes in
+    let copied : c.in_ok-store.store ≡ c.args.lane.now.store = c.in_ok-store.ensures ∙ c.store.ensures in
+    let first : c.in_ok-initial.initial.items ≡ replicate c.state_words.result 0 =
+    c.in_ok-initial.ensures.items_if_clones_equal (λ y h. h) in
+    let zeros : c.in_ok-scratch.scratch.items ≡ replicate c.scratch_words.result 0 =
+    c.in_ok-scratch.ensures.items_if_clones_equal (λ y h. h) in
+    let written = c.initial.new.state in
+    let whole : take c.in_ok-initial.initial.len (written ++ drop (length written) c.in_ok-initial.initial.items) ≡ written =
+    whole_written written (drop (length written) c.in_ok-initial.initial.items) c.in_ok-initial.initial.len
+    (c.initial.auto.state ∙ c.deref_mut.ensures.len) in
+    let lent = c.deref.ensures.value ∙ whole in
+    record {
+      state_words = ap (λ x. x.state_words) copied ∙ (c.invariant.ensures.store.state ∙ ap (λ k. (sizes k).state) (sym
+          c.kind-kind.ensures));
+      initial_state = lent ∙ c.initial.ensures;
+      initial_words = ap length lent ∙ (c.initial.auto.state ∙ (ap length (c.deref_mut.ensures.value ∙ first)
+          ∙ (length-replicate c.state_words.result 0 ∙ c.state_words.ensures)));
+      scratch_words = ap length (c.deref_mut-2.ensures.value ∙ zeros) ∙ (length-replicate c.scratch_words.result 0
+          ∙ c.scratch_words.ensures);
+    }
