@@ -1,4 +1,4 @@
-use Rattle.std.proofs.Common.{◌≡◌, ◌+◌, ◌++◌, ℕ, length, replicate, arith, take, drop, sym, ap, ◌∙◌, subst, take-append-drop}
+use Rattle.std.proofs.Common.{◌≡◌, ◌+◌, ◌++◌, ℕ, length, replicate, arith, take, drop, sym, ap, ◌∙◌, subst, take-append-drop, lit<}
 use Rattle.std.proofs.Math.Nat.{le_refl}
 use Rattle.std.proofs.lemmas.List.{length-replicate}
 use Rattle.backing_store.specs.Merged.{StoreHolds}
@@ -109,3 +109,40 @@ merge_pipe-requires-clause-fits g c =
       scratch_words = ap length (c.deref_mut-2.ensures.value ∙ zeros) ∙ (length-replicate c.scratch_words.result 0
           ∙ c.scratch_words.ensures);
     }
+
+pub merge_cache-requires : goal.merge_cache-requires
+merge_cache-requires g c =
+    let sizes = g.K.EpochKind.sizes in
+    let copied : c.in_ok-store.store ≡ c.args.lane.now.store = c.in_ok-store.ensures ∙ c.store.ensures in
+    let first : c.in_ok-initial.initial.items ≡ replicate c.state_words.result 0 =
+    c.in_ok-initial.ensures.items_if_clones_equal (λ y h. h) in
+    let zeros : c.in_ok-scratch.scratch.items ≡ replicate c.scratch_words.result 0 =
+    c.in_ok-scratch.ensures.items_if_clones_equal (λ y h. h) in
+    let written = c.initial.new.state in
+    let whole : take c.in_ok-initial.initial.len (written ++ drop (length written) c.in_ok-initial.initial.items) ≡ written =
+    whole_written written (drop (length written) c.in_ok-initial.initial.items) c.in_ok-initial.initial.len
+    (c.initial.auto.state ∙ c.deref_mut.ensures.len) in
+    let lent = c.deref-2.ensures.value ∙ whole in
+    let used = c.merge_pipe.new.scratch in
+    let rest = drop (length used) c.in_ok-scratch.scratch.items in
+    let over : take c.in_ok-scratch.scratch.len (used ++ rest) ≡ used = whole_written used rest c.in_ok-scratch.scratch.len
+    (c.merge_pipe.auto.scratch ∙ c.deref_mut-2.ensures.len) in
+    let front = c.invariant.ensures.front in (
+      lit< tt,
+      (
+        record {
+          state_words = c.merge_pipe.ensures.state_words ∙ (ap (λ x. x.state_words) copied ∙ (c.invariant.ensures.store.state
+              ∙ ap (λ k. (sizes k).state) (sym c.kind-kind.ensures)));
+          initial_state = lent ∙ c.initial.ensures;
+          initial_words = ap length lent ∙ (c.initial.auto.state ∙ (ap length (c.deref_mut.ensures.value ∙ first)
+              ∙ (length-replicate c.state_words.result 0 ∙ c.state_words.ensures)));
+          scratch_words = ap length (c.deref_mut-4.ensures.value ∙ over) ∙ (c.merge_pipe.auto.scratch
+              ∙ (ap length (c.deref_mut-2.ensures.value ∙ zeros) ∙ (length-replicate c.scratch_words.result 0 ∙ c.scratch_words.ensures)));
+        },
+        (
+          ap (λ x. x.key_words) c.cache-cache.ensures ∙ sym (c.merge_pipe.ensures.key_words ∙ (ap (λ x. x.key_words) copied
+              ∙ c.invariant.ensures.store.key)),
+          ap (λ x. x.entry_words) c.cache-cache.ensures ∙ (front.entry ∙ ap (λ k. (sizes k).entry) (sym c.kind-kind.ensures)),
+        ),
+      ),
+    )
