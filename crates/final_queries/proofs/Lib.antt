@@ -7,5 +7,6 @@ pub mod GroupRead
 mod AlikeTables
 pub mod StateLengths
 mod MadeRows
+mod TablesRead
 mod ReadRows
 mod RankedRows

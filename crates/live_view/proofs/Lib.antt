@@ -1,5 +1,4 @@
 mod Lists
-mod Endings
 mod Emptied
 mod Prefixes
 mod Seen

@@ -1,4 +1,6 @@
 pub mod Standing
+pub mod StepSums
+pub mod FrontSizes
 pub mod CacheSteps
 pub mod PipeSteps
 pub mod LaneSteps

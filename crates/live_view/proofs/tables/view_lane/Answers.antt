@@ -1,7 +1,7 @@
 use Rattle.std.proofs.Common.{sym, ap, ◌∙◌}
 use Rattle.std.proofs.lemmas.Result.{IfOk-weaker}
 use Rattle.live_view.specs.Views.{all_epochs}
-use Rattle.live_view.proofs.Endings.{no_value}
+use Rattle.epoch_model.proofs.Endings.{no_value}
 use Rattle.live_view.proofs.tables.view_lane.Goals as goal
 
 pub returns-in_err-store-clause-table : goal.returns-in_err-store-clause-table

@@ -1,8 +1,9 @@
 -- An eviction pushes the record of the least recently used pair and drops the pair, or finds no pair.
 use Rattle.std.proofs.Common.{◌≡◌, ℕ, ◌+◌, ◌-◌, ◌<◌, false, take, length, refl, sym, ap, ◌∙◌, subst, lit<, length-append, length-set, arith}
-use Rattle.std.proofs.Common.{if◌then◌else◌}
+use Rattle.std.proofs.Common.{if◌then◌else◌, true, true≢false, le_refl, le_trans}
 use Rattle.std.specs.Prelude.{nat_lt, not, ◌==◌}
 use Rattle.std.proofs.lemmas.Bool.{lt-ltb, le-ltb}
+use Rattle.std.proofs.lemmas.Bool.Decides.{nat_tests}
 use Rattle.epoch_model.specs.Machine.{Evict, evict}
 use Rattle.bucket_cache.specs.Caches.{list_at, with_list}
 use Rattle.switch_core.specs.Costs.{evict_cost}
@@ -14,6 +15,7 @@ use Rattle.switch_core.proofs.PipeSteps.{pipe_evicted}
 use Rattle.switch_core.proofs.LaneSteps.{evict_merged_same}
 use Rattle.switch_core.proofs.Drained.{nothing_taken}
 use Rattle.switch_core.proofs.Carrying.{carries_evict}
+use Rattle.switch_core.proofs.StepSums.{after_sum}
 use Rattle.switch_core.proofs.front.Front.evict.Goals as goal
 
 pub push_pair-requires : goal.push_pair-requires
@@ -120,3 +122,42 @@ returns-in-None-clause-carries g c store =
     let zero : more ≡ 0 = let t = le-ltb 0 (length list) (omega arith) in rw t refl in
     carries_evict g.K.EpochKind.stands g.K.EpochKind.folding g.row.WAYS c.args.bucket old old (returns-in-None-clause-makes g c)
     (returns-in-None-clause-cache g c) (omega (arith, zero)) (λ h. refl) store
+
+pub least-requires : goal.least-requires
+least-requires g c = (lit< tt, subst (λ x. c.args.bucket < length x.cache.lists) (sym c.self.view_is) c.requires.range)
+
+pub drop_entry-requires : goal.drop_entry-requires
+drop_entry-requires g c = (
+  lit< tt,
+  (
+    subst (λ x. c.args.bucket < length x.cache.lists) (sym c.self.view_is) c.requires.range,
+    some_least (list_at c.self.inside.cache c.args.bucket) c.in-Some.place c.in-Some.ensures.place,
+  ),
+)
+
+pub returns-in-None-clause-same : goal.returns-in-None-clause-same
+returns-in-None-clause-same g c none = refl
+
+pub returns-in-None-clause-steps : goal.returns-in-None-clause-steps
+returns-in-None-clause-steps g c = le_refl c.args.steps.now
+
+pub returns-in-Some-clause-same : goal.returns-in-Some-clause-same
+returns-in-Some-clause-same g c none = absurd (true≢false none)
+
+pub returns-in-Some-clause-steps : goal.returns-in-Some-clause-steps
+returns-in-Some-clause-steps g c = le_trans (after_sum _ _ _ c.push_pair.ensures.cost) (after_sum _ _ _ c.drop_entry.ensures.cost)
+
+pub returns-in-Some-clause-cache : goal.returns-in-Some-clause-cache
+returns-in-Some-clause-cache g c =
+    subst (λ x. c.drop_entry.new.self ≡ with_list x.cache c.args.bucket
+    (take (length (list_at x.cache c.args.bucket) - 1) (list_at x.cache c.args.bucket))) c.self.view_is c.drop_entry.ensures.pairs
+
+some_are : (n : ℕ) → 0 < n → true ≡ not (n == 0)
+some_are n h = grind (arith, nat_tests)
+
+pub returns-in-Some-clause-some : goal.returns-in-Some-clause-some
+returns-in-Some-clause-some g c =
+    let old = c.self.inside.cache in
+    let some = some_least (list_at old c.args.bucket) c.in-Some.place c.in-Some.ensures.place in
+    subst (λ x. true ≡ not (length (list_at x.cache c.args.bucket) == 0)) c.self.view_is (some_are (length (list_at old
+    c.args.bucket)) some)

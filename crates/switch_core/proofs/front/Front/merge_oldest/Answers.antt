@@ -1,12 +1,14 @@
-use Rattle.std.proofs.Common.{◌≡◌, ◌+◌, true, ◌<◌, ◌≤◌, [], ◌++◌, take, drop, length, refl, sym, ap, ◌∙◌, subst, arith, get_or}
+use Rattle.std.proofs.Common.{◌≡◌, ℕ, ◌+◌, true, ◌<◌, ◌≤◌, [], ◌++◌, take, drop, length, refl, sym, ap, ◌∙◌, subst, arith, get_or}
 use Rattle.std.proofs.lemmas.Bool.Decides.{nat_tests}
 use Rattle.std.proofs.Math.Seq.{take-append_seam}
 use Rattle.epoch_model.specs.Machine.{Merge}
 use Rattle.switch_core.specs.Costs.{merge_cost}
-use Rattle.switch_core.specs.FrontParts.{front_of}
+use Rattle.switch_core.specs.FrontParts.{FitsStore, front_of}
 use Rattle.switch_core.specs.FrontEvents.{FrontMakes, MergesNext}
 use Rattle.switch_core.specs.Lanes.{RecordStands}
+use Rattle.epoch_model.proofs.Endings.{no_end}
 use Rattle.switch_core.proofs.MergeSteps.{front_merged, next_held}
+use Rattle.switch_core.proofs.FrontSizes.{front_kept, parts_kept}
 use Rattle.switch_core.proofs.front.Front.merge_oldest.Goals as goal
 
 pub returns-clause-makes : goal.returns-clause-makes
@@ -51,3 +53,88 @@ returns-in_err-merge_record-clause-cost g c =
     let merged = c.merge_record.ensures.cost in
     subst (λ x. c.merge_record.new.steps ≤ c.args.steps.now + merge_cost x.cache.key_words x.cache.entry_words
     (g.K.EpochKind.merge_bound x.kind)) c.self.view_is (omega arith)
+
+pub returns-in_err-merge_record-clause-makes : goal.returns-in_err-merge_record-clause-makes
+returns-in_err-merge_record-clause-makes g c = no_end c.from_residual.result _ c.from_residual.ensures.0
+
+pub returns-in_err-merge_record-clause-held : goal.returns-in_err-merge_record-clause-held
+returns-in_err-merge_record-clause-held g c = no_end c.from_residual.result _ c.from_residual.ensures.0
+
+pub returns-in_err-merge_record-clause-records : goal.returns-in_err-merge_record-clause-records
+returns-in_err-merge_record-clause-records g c = no_end c.from_residual.result _ c.from_residual.ensures.0
+
+pub returns-in_err-merge_record-clause-kind : goal.returns-in_err-merge_record-clause-kind
+returns-in_err-merge_record-clause-kind g c = ap (λ x. x.kind) c.self.view_is
+
+pub returns-in_err-merge_record-clause-cache : goal.returns-in_err-merge_record-clause-cache
+returns-in_err-merge_record-clause-cache g c = ap (λ x. x.cache) c.self.view_is
+
+pub returns-in_err-merge_record-clause-steps : goal.returns-in_err-merge_record-clause-steps
+returns-in_err-merge_record-clause-steps g c = c.merge_record.ensures.steps
+
+pub returns-clause-kind : goal.returns-clause-kind
+returns-clause-kind g c = ap (λ x. x.kind) c.self.view_is
+
+pub returns-clause-cache : goal.returns-clause-cache
+returns-clause-cache g c = ap (λ x. x.cache) c.self.view_is
+
+pub returns-clause-steps : goal.returns-clause-steps
+returns-clause-steps g c = c.merge_record.ensures.steps
+
+pub merge_record-requires-clause-state : goal.merge_record-requires-clause-state
+merge_record-requires-clause-state g c =
+    subst (λ x. c.args.store.now.state_words ≡ (g.K.EpochKind.sizes x.kind).state) (sym c.self.view_is) c.requires.fits.state
+
+pub merge_record-requires-clause-initial : goal.merge_record-requires-clause-initial
+merge_record-requires-clause-initial g c =
+    c.deref.ensures.value ∙ c.self.invariant.initial_state
+
+pub merge_record-requires-clause-initial_words : goal.merge_record-requires-clause-initial_words
+merge_record-requires-clause-initial_words g c =
+    let state : c.args.store.now.state_words ≡ (g.K.EpochKind.sizes c.self.inside.kind).state =
+    subst (λ x. c.args.store.now.state_words ≡ (g.K.EpochKind.sizes x.kind).state) (sym c.self.view_is) c.requires.fits.state in
+    ap length c.deref.ensures.value ∙ (c.self.invariant.initial_words ∙ sym state)
+
+pub merge_record-requires-clause-scratch : goal.merge_record-requires-clause-scratch
+merge_record-requires-clause-scratch g c =
+    ap length c.deref_mut.ensures.value ∙ c.self.invariant.scratch_words
+
+pub returns-in_err-merge_record-clause-fits : goal.returns-in_err-merge_record-clause-fits
+returns-in_err-merge_record-clause-fits g c =
+    subst (λ x. FitsStore (g.K.EpochKind.sizes x.kind) x.cache c.merge_record.new.store) (sym c.self.view_is)
+    record {
+      key = c.merge_record.ensures.key_words ∙ c.requires.fits.key;
+      state = c.merge_record.ensures.state_words ∙ c.requires.fits.state;
+    }
+
+pub returns-clause-fits : goal.returns-clause-fits
+returns-clause-fits g c =
+    subst (λ x. FitsStore (g.K.EpochKind.sizes x.kind) x.cache c.merge_record.new.store) (sym c.self.view_is)
+    record {
+      key = c.merge_record.ensures.key_words ∙ c.requires.fits.key;
+      state = c.merge_record.ensures.state_words ∙ c.requires.fits.state;
+    }
+
+same_sum : (w k e key entry : ℕ) → w ≡ k + e → key ≡ k → e ≡ entry → w ≡ key + entry
+same_sum w k e key entry whole hk he = omega arith
+
+pub merge_record-requires-clause-words : goal.merge_record-requires-clause-words
+merge_record-requires-clause-words g c =
+    let key : c.args.store.now.key_words ≡ c.self.inside.cache.key_words =
+    subst (λ x. c.args.store.now.key_words ≡ x.cache.key_words) (sym c.self.view_is) c.requires.fits.key in
+    same_sum _ _ _ _ _ (c.front.ensures.length ∙ c.self.invariant.front.record_words) key c.self.invariant.front.entry
+
+pub invariant_of-self : goal.invariant_of-self
+invariant_of-self g c =
+    let old = c.self.inside in
+    parts_kept _ _ _ old.cache old.cache old.pipe old.pipe _ _ _ c.merge_record.new.scratch _ c.self.invariant.front
+    c.deref_mut.ensures.value c.deref_mut.ensures.len c.merge_record.auto.scratch c.self.invariant
+
+pub invariant_of-self-2 : goal.invariant_of-self-2
+invariant_of-self-2 g c =
+    let old = c.self.inside in
+    let pipe = c.drop_front.new.self in
+    let front = front_kept g.row.WAYS (g.K.EpochKind.sizes old.kind) old.cache old.cache old.pipe pipe refl refl refl
+    (ap (λ p. p.places) c.drop_front.ensures) (ap (λ p. p.record_words) c.drop_front.ensures) c.self.invariant.front in
+    parts_kept _ _ _ old.cache old.cache old.pipe pipe _ _ _ c.merge_record.new.scratch _ front
+    c.deref_mut.ensures.value c.deref_mut.ensures.len c.merge_record.auto.scratch c.self.invariant

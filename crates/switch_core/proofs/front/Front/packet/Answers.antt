@@ -1,7 +1,7 @@
 -- A packet finds its key's entry, begins one in a free place, or takes the place of the least recently used one: each is the packet event
 -- of the front.
 use Rattle.std.proofs.Common.{◌≡◌, ℕ, List, ◌<◌, ◌≤◌, ◌∷◌, [], ◌++◌, length, ◌+◌, ◌*◌, arith, get_or-set_same, length-set, refl, ap, sym}
-use Rattle.std.proofs.Common.{◌∙◌, subst, lit<}
+use Rattle.std.proofs.Common.{◌∙◌, subst, lit<, le_trans}
 use Rattle.std.specs.Prelude.{slice_index_or, slice_set}
 use Rattle.epoch_model.specs.Keys.{ArgRow, bucket_of}
 use Rattle.epoch_model.specs.Machine.{Machine, Packet, packet}
@@ -17,6 +17,8 @@ use Rattle.switch_core.specs.Places.{with_words}
 use Rattle.switch_core.proofs.CacheSteps.{hit_machine, free_machine, full_machine, hit_stands, free_stands, full_stands, front_within}
 use Rattle.switch_core.proofs.CacheSteps.{least_within, list_set, as_it_was}
 use Rattle.switch_core.proofs.Carrying.{carries_packet}
+use Rattle.switch_core.proofs.StepSums.{after_sum}
+use Rattle.switch_core.proofs.FrontSizes.{front_kept, parts_kept}
 use Rattle.switch_core.proofs.LaneSteps.{packet_merged_same}
 use Rattle.switch_core.proofs.PipeSteps.{pipe_evicted}
 use Rattle.switch_core.proofs.front.Front.packet.Goals as goal
@@ -295,3 +297,71 @@ returns-in-Full-clause-cost g c =
     subst (λ x. new ≤ c.args.steps.now + (x.cache.key_words + 2 * g.row.WAYS * (x.cache.key_words + 1)
     + (x.cache.key_words + (g.K.EpochKind.sizes x.kind).entry)
     + g.K.EpochKind.open_bound x.kind + g.K.EpochKind.absorb_bound x.kind)) c.self.view_is within
+
+pub touch-requires : goal.touch-requires
+touch-requires g c = (
+  lit< tt,
+  (
+    subst (λ n. c.bucket_of-bucket.result < n) c.buckets.ensures.number c.bucket_of-bucket.ensures.below,
+    subst (λ x. length c.args.key.now ≡ x.cache.key_words) (sym c.self.view_is) c.requires.key,
+  ),
+)
+
+pub returns-in-Hit-clause-steps : goal.returns-in-Hit-clause-steps
+returns-in-Hit-clause-steps g c =
+    le_trans (after_sum _ _ _ c.bucket_of-bucket.ensures.cost) (le_trans c.in-Hit.ensures.steps c.absorb.ensures.steps)
+
+pub returns-in-Free-clause-steps : goal.returns-in-Free-clause-steps
+returns-in-Free-clause-steps g c =
+    le_trans (after_sum _ _ _ c.bucket_of-bucket.ensures.cost) (le_trans c.in-Free.ensures.steps c.begin_at.ensures.steps)
+
+pub returns-in-Full-clause-steps : goal.returns-in-Full-clause-steps
+returns-in-Full-clause-steps g c =
+    let found = le_trans (after_sum _ _ _ c.bucket_of-bucket.ensures.cost) c.in-Full.ensures.steps in
+    let freed = le_trans (after_sum _ _ _ c.push_pair.ensures.cost) (after_sum _ _ _ c.replace-freed.ensures.cost) in
+    le_trans found (le_trans freed c.begin_at-in-Full.ensures.steps)
+
+pub invariant_of-self : goal.invariant_of-self
+invariant_of-self g c =
+    let old = c.self.inside in
+    let t = c.in-Hit.ensures in
+    let cache = with_entry_at c.touch.new.self c.in-Hit.place c.absorb.new.entry in
+    let pipe = old.pipe in
+    let front = front_kept g.row.WAYS (g.K.EpochKind.sizes old.kind) old.cache cache old.pipe pipe
+    (ap (λ x. length x.lists) t.rest ∙ length-set old.cache.lists c.bucket_of-bucket.result _)
+    (ap (λ x. x.key_words) t.rest) (ap (λ x. x.entry_words) t.rest)
+    refl refl c.self.invariant.front in
+    parts_kept _ _ _ old.cache cache old.pipe pipe _ _ _ c.absorb.new.scratch _ front c.deref_mut-scratch.ensures.value
+    c.deref_mut-scratch.ensures.len c.absorb.auto.scratch c.self.invariant
+
+pub invariant_of-self-in-Free : goal.invariant_of-self-in-Free
+invariant_of-self-in-Free g c =
+    let old = c.self.inside in
+    let t = c.in-Free.ensures in
+    let cache = c.begin_at.new.cache in
+    let pipe = old.pipe in
+    let front = front_kept g.row.WAYS (g.K.EpochKind.sizes old.kind) old.cache cache old.pipe pipe
+    (ap (λ x. length x.lists) c.begin_at.ensures.rest ∙ ap (λ x. length x.lists) t.rest ∙ length-set old.cache.lists
+    c.bucket_of-bucket.result _)
+    (ap (λ x. x.key_words) c.begin_at.ensures.rest ∙ ap (λ x. x.key_words) t.rest) (ap (λ x. x.entry_words) c.begin_at.ensures.rest
+    ∙ ap (λ x. x.entry_words) t.rest)
+    refl refl c.self.invariant.front in
+    parts_kept _ _ _ old.cache cache old.pipe pipe _ _ _ c.begin_at.new.scratch _ front c.deref_mut-scratch.ensures.value
+    c.deref_mut-scratch.ensures.len c.begin_at.auto.scratch c.self.invariant
+
+pub invariant_of-self-in-Full : goal.invariant_of-self-in-Full
+invariant_of-self-in-Full g c =
+    let old = c.self.inside in
+    let t = c.in-Full.ensures in
+    let r = c.replace-freed.ensures in
+    let bucket = c.bucket_of-bucket.result in
+    let cache = c.begin_at-in-Full.new.cache in
+    let pipe = c.push_pair.new.pipe in
+    let front = front_kept g.row.WAYS (g.K.EpochKind.sizes old.kind) old.cache cache old.pipe pipe
+    (ap (λ x. length x.lists) c.begin_at-in-Full.ensures.rest ∙ (ap (λ x. length x.lists) r.pairs
+    ∙ (length-set c.touch.new.self.lists bucket _ ∙ (ap (λ x. length x.lists) t.rest ∙ length-set old.cache.lists bucket _))))
+    (ap (λ x. x.key_words) c.begin_at-in-Full.ensures.rest ∙ (ap (λ x. x.key_words) r.pairs ∙ ap (λ x. x.key_words) t.rest))
+    (ap (λ x. x.entry_words) c.begin_at-in-Full.ensures.rest ∙ (ap (λ x. x.entry_words) r.pairs ∙ ap (λ x. x.entry_words) t.rest))
+    (ap (λ p. p.places) c.push_pair.ensures.rest) (ap (λ p. p.record_words) c.push_pair.ensures.rest) c.self.invariant.front in
+    parts_kept _ _ _ old.cache cache old.pipe pipe _ _ _ c.begin_at-in-Full.new.scratch _ front c.deref_mut-scratch.ensures.value
+    c.deref_mut-scratch.ensures.len c.begin_at-in-Full.auto.scratch c.self.invariant
