@@ -1,9 +1,7 @@
 -- A run with the setting of a command line.
-use Rattle.std.proofs.Common.{◌≡◌, ◌<◌, ◌≤◌, ◌*◌, ℕ, List, Option, ap, sym, ◌∙◌, subst, arith}
-use Rattle.command_line.specs.Command.{IsSetting, ways_number}
+use Rattle.std.proofs.Common.{◌≡◌, ℕ, List, Option, ap, ◌∙◌}
+use Rattle.command_line.specs.Command.{ways_number}
 use Rattle.command_line.specs.declared.setting.Setting.{Setting}
-use Rattle.command_line.specs.declared.setting.Ways.{Ways}
-use Rattle.command_line.specs.declared.setting.Ways.TheVariants.{One, Two, Four, Eight, Sixteen, ThirtyTwo}
 use Rattle.epoch_entry.specs.declared.purpose.Entries.{Entries}
 use Rattle.epoch_model.specs.Epochs.{Geometry}
 use Rattle.final_queries.specs.declared.table.Table.{Table}
@@ -27,33 +25,6 @@ pub geometry_is : (setting : Setting) (schedule : Schedule) (ways : ℕ) → way
 geometry_is setting schedule ways is same =
     ap (geometry_for ways) same
     ∙ ap (λ (ways : ℕ). record { buckets = setting.buckets; ways = ways; refresh = setting.refresh }) is
-
-ways_are_some : (ways : Ways) → 0 < ways_number ways
-ways_are_some One = omega arith
-ways_are_some Two = omega arith
-ways_are_some Four = omega arith
-ways_are_some Eight = omega arith
-ways_are_some Sixteen = omega arith
-ways_are_some ThirtyTwo = omega arith
-
--- the sizes of a setting's schedule are in their limits
-pub record AreSizes (schedule : Schedule) (ways : ℕ) : Type 0 where
-  pub some_ways : 0 < ways
-  pub buckets : 0 < schedule.buckets
-  pub places : schedule.buckets * ways ≤ 65536
-  pub pipe : (0 < schedule.pipe) × (schedule.pipe ≤ 65536)
-
-pub sizes_are : (setting : Setting) (schedule : Schedule) (ways : ℕ) → IsSetting setting → ways ≡ ways_number setting.ways
-    → schedule ≡ schedule_in setting
-    → AreSizes schedule ways
-sizes_are setting schedule ways s is same =
-    subst (λ (schedule : Schedule). AreSizes schedule ways) (sym same)
-    (subst (AreSizes (schedule_in setting)) (sym is) (record {
-      some_ways = ways_are_some setting.ways;
-      buckets = s.some_buckets;
-      places = s.places;
-      pipe = (s.some_records, s.records);
-    }))
 
 module _ {O : Type 0} (taken : O → Option (List ℕ)) (faults : O → ℕ) (entries : Entries) (plan : PlanParts) (printed : List Table → List ℕ)
     (every : ℕ) (packets : List (List ℕ)) (fault : Option TraceFault)

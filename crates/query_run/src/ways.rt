@@ -47,6 +47,7 @@ fn run_with<const WAYS: usize, R: Report, O: Sink, L: Ledger>(
     out: &mut O,
     steps: &mut Steps<L>,
 ) -> Result<Pipeline<WAYS>, RunError>
+    requires some_ways { 0 < WAYS }
     requires ways { WAYS ≡ ways_number setting.ways }
     requires setting { IsSetting setting }
     requires may_print { MayPrint (R.entries report.now) plan (R.may_print report.now) }

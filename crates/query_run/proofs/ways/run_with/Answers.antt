@@ -1,4 +1,4 @@
-use Rattle.std.proofs.Common.{◌≡◌, ℕ, List, IfErr, IfOk, lit<, subst}
+use Rattle.std.proofs.Common.{◌≡◌, ℕ, List, IfErr, IfOk, subst}
 use Rattle.std.specs.Io.KnownBytes.{Appends}
 use Rattle.epoch_model.specs.Epochs.{Geometry}
 use Rattle.switch_core.specs.PlanLanes.{HavePlaces, PipelineStands}
@@ -6,19 +6,8 @@ use Rattle.trace_drive.specs.Drives.{coming, end_machines, fault_of, words_of}
 use Rattle.trace_drive.specs.declared.schedule.Schedule.{Schedule}
 use Rattle.query_run.specs.Reports.{Prints}
 use Rattle.query_run.specs.Views.{views_text}
-use Rattle.query_run.proofs.Driving.{Breaks, geometry_is, sizes_are}
+use Rattle.query_run.proofs.Driving.{Breaks, geometry_is}
 use Rattle.query_run.proofs.ways.run_with.Goals as goal
-
-pub run_report-requires : goal.run_report-requires
-run_report-requires g c =
-    let sizes = sizes_are c.args.setting c.schedule_of-schedule.result g.row.WAYS c.requires.setting c.requires.ways
-    c.schedule_of-schedule.ensures in (
-      lit< tt,
-      (
-        sizes.some_ways,
-        (sizes.buckets, (sizes.places, (sizes.pipe, (c.requires.may_print, (c.requires.whole, c.requires.viewed))))),
-      ),
-    )
 
 pub returns-clause-written : goal.returns-clause-written
 returns-clause-written g c =
