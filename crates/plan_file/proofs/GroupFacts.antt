@@ -1,5 +1,5 @@
 -- The lines of a group that is read in place.
-use Rattle.std.proofs.Common.{◌≡◌, ℕ, ◌<◌, ◌∷◌, ◌++◌, [], List, Bool, true, false, codes, length, IsTrue, refl, sym, subst, ap, ◌∙◌, arith}
+use Rattle.std.proofs.Common.{◌≡◌, ℕ, ◌<◌, ◌∷◌, ◌++◌, [], List, Bool, true, false, codes, length, IsTrue, refl, subst, ap, ◌∙◌, arith}
 use Rattle.stage_plan.specs.declared.op.Operand.{Operand}
 use Rattle.stage_plan.specs.declared.op.PlanOp.{PlanOp}
 use Rattle.marple_base.specs.declared.field.Field.{Field}

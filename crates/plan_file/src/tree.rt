@@ -3,7 +3,7 @@
 ghost use Rattle.std.specs.Prelude.{◌≡◌, ◌≤◌, ◌↔◌, IsTrue, true, false, ◌+◌, ◌-◌, ◌<◌, ◌++◌, ◌∷◌, []};
 ghost use Rattle.std.specs.Prelude.{List, length, count_by, IfOk, IfSome, MatchOption};
 ghost use Rattle.query_lang.specs.Blocks.{Block, End, Fork, Set, block_of, stmt_block};
-ghost use Rattle.query_lang.specs.Terms.{Negation, Operation, Term, term_of};
+ghost use Rattle.query_lang.specs.Terms.{Term, term_of};
 ghost use Rattle.query_lang.specs.Folds.{IsValidTerm, IsValidBlock, block_nodes, block_count};
 ghost use Rattle.plan_file.specs.declared.lexemes.Lexeme.{Lexeme};
 ghost use Rattle.plan_file.specs.Bodies.{written, written_block, IsBody};
@@ -12,7 +12,7 @@ ghost use Rattle.plan_file.specs.Trees.{AreSmall, Closes, IsStatement, is_leaf, 
 
 use crate::lexemes::Lexeme;
 use marple_base::{Boxed, Seq};
-use query_lang::{MAX_ARGS, MAX_STATES, Op, TypedExpr, TypedStmt};
+use query_lang::{MAX_ARGS, MAX_STATES, TypedExpr, TypedStmt};
 use std::alloc::{AllocError, Global};
 
 fn is_node(word: Lexeme) -> bool
@@ -93,25 +93,6 @@ fn leaf(states: u64, slots: u64, word: Lexeme) -> Option<TypedExpr>
     }
 }
 
-// The negation of an expression.
-fn negation(alloc: Global, inner: TypedExpr) -> Result<TypedExpr, AllocError>
-    ensures { IfOk result (λ made. term_of made ≡ Negation (term_of inner)) }
-{
-    Ok(TypedExpr::Not(Boxed::new(alloc, inner)?))
-}
-
-// A function of two expressions.
-fn operation(
-    alloc: Global,
-    op: Op,
-    left: TypedExpr,
-    right: TypedExpr,
-) -> Result<TypedExpr, AllocError>
-    ensures { IfOk result (λ made. term_of made ≡ Operation op (term_of left) (term_of right)) }
-{
-    Ok(TypedExpr::Binary(op, Boxed::new(alloc, left)?, Boxed::new(alloc, right)?))
-}
-
 // The expression that tokens begin with, and the tokens after it.
 fn expression<'a>(
     alloc: Global,
@@ -131,7 +112,7 @@ fn expression<'a>(
     };
     match first {
         Lexeme::Not => match expression(alloc, states, slots, rest)? {
-            Some((inner, past)) => Ok(Some((negation(alloc, inner)?, past))),
+            Some((inner, past)) => Ok(Some((TypedExpr::Not(Boxed::new(alloc, inner)?), past))),
             None => Ok(None),
         },
         Lexeme::Function(op) => {
@@ -140,7 +121,10 @@ fn expression<'a>(
                 None => return Ok(None),
             };
             match expression(alloc, states, slots, middle)? {
-                Some((right, past)) => Ok(Some((operation(alloc, op, left, right)?, past))),
+                Some((right, past)) => Ok(Some((
+                    TypedExpr::Binary(op, Boxed::new(alloc, left)?, Boxed::new(alloc, right)?),
+                    past,
+                ))),
                 None => Ok(None),
             }
         }
