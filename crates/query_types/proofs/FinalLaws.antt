@@ -23,7 +23,9 @@ use Rattle.query_lang.specs.declared.typed.PrintOf.TheVariants as place
 use Rattle.query_lang.specs.declared.typed.TypedFinalOp.TheVariants as typed
 use Rattle.query_lang.specs.declared.typing.Earlier.{Earlier}
 use Rattle.query_lang.specs.declared.typing.Given.{Given}
+use Rattle.query_lang.specs.declared.typing.FoldView.{FoldView}
 use Rattle.query_lang.specs.declared.typing.MadeFinal.{MadeFinal}
+use Rattle.query_lang.specs.declared.typing.Picked.{Picked}
 use Rattle.query_lang.specs.declared.typing.TableView.{TableView}
 use Rattle.query_lang.specs.Limits.{final_nodes, HasFinalKeys, IsNumberedFinal}
 use Rattle.query_lang.specs.Streams.{takings}
@@ -175,47 +177,103 @@ module _ (w : Whole) (given : Given) (e : Earlier) (made : MadeFinal) (part : Is
         keys = omega (arith, v.keys, length-append ids new.0.names);
       }))
 
-  group_made : (input : Name) (keys : List Key) (fold_name : Name) → (0 < length (five_fields given.fields))
-      × HasFinalKeys (ops.Group input keys fold_name) → made_final given e (ops.Group input keys fold_name) ≡ Ok made → IsMadeFinal w e made
-  group_made input keys fold_name some h =
-      let source = found_first (table_named e.known input) _ made h in
-      let ids = source.0.columns in
+  -- a groupby of what was found, each of it a variable
+  group_of : (input : Name) (keys : List Key) (fold_name : Name) (source : TableView) (picked : Picked) (f : FoldView) (arguments : List ℕ)
+      → (0 < length (five_fields given.fields)) × HasFinalKeys (ops.Group input keys fold_name) → table_named e.known input ≡ Ok source
+      → keys_checked (five_fields given.fields) source.columns [] keys ≡ Ok picked → quiet_fold e.known fold_name ≡ Ok f
+      → arguments_of source.columns [] picked.names f fold_name.span ≡ Ok arguments
+      → IsMadeFinal w e (record {
+        op = typed.Group (table_number given.groups source.place) picked.slots f.number arguments;
+        columns = picked.names ++ f.states;
+        keys = length picked.names;
+      })
+  group_of input keys fold_name source picked f arguments some is_source is_picked is_fold are_arguments =
+      let ids = source.columns in
       let five = five_fields given.fields in
-      let picked = found_first (keys_checked five ids [] keys) _ made source.2 in
-      let f = found_first (quiet_fold e.known fold_name) _ made picked.2 in
-      let arguments = found_first (arguments_of ids [] picked.0.names f.0 fold_name.span) _ made f.2 in
-      let v = table_known w (length e.streams) (length e.finals) e.known input source.0 known source.1 in
-      let t = there w e source.0 part count v in
-      let quiet = quiet_known e.known fold_name f.0 f.1 in
-      let vf = fold_known w (length e.streams) (length e.finals) e.known fold_name f.0 known quiet.0 in
+      let v = table_known w (length e.streams) (length e.finals) e.known input source known is_source in
+      let t = there w e source part count v in
+      let quiet = quiet_known e.known fold_name f is_fold in
+      let vf = fold_known w (length e.streams) (length e.finals) e.known fold_name f known quiet.0 in
       let none : ArePicked w.names (length ids) (record { names = []; slots = [] }) =
       record { ids = All-nil (IsName w.names); slots_in = All-nil (IsName (length ids)); same = refl; most = omega arith } in
-      let vp = keys_valid ids [] w.names (record { names = []; slots = [] }) picked.0 (flat_map (key_names five) keys) v.names none
-      picked.1 in
-      let va = arguments_valid ids [] picked.0.names f.0 fold_name.span arguments.0 arguments.1 in
-      let one_key = picked_some five ids [] picked.0 keys some.0 some.1 picked.1 in
-      let group = group_valid w ids arguments.0 picked.0 f.0 vf vp one_key va.0 va.1 in
-      let G : Shape → Type 0 = λ s. IsValidGroup w.folds s.width picked.0.slots f.0.number arguments.0 in
+      let vp = keys_valid ids [] w.names (record { names = []; slots = [] }) picked (flat_map (key_names five) keys) v.names none
+      is_picked in
+      let va = arguments_valid ids [] picked.names f fold_name.span arguments are_arguments in
+      let one_key = picked_some five ids [] picked keys some.0 some.1 is_picked in
+      let group = group_valid w ids arguments picked f vf vp one_key va.0 va.1 in
+      let G : Shape → Type 0 = λ s. IsValidGroup w.folds s.width picked.slots f.number arguments in
       let Q : Option TypedFold → Type 0 = λ o. IsQuiet o in
       let emits : IsQuiet (Some vf.one) = no_emit vf.one.emit (vf.emits ∙ quiet.1) in
-      let M : MadeFinal → Type 0 = λ m. IsMadeFinal w e m in
       let P : ℕ → Type 0 = λ g. IsMadeFinal w e (record {
-        op = typed.Group (table_number g source.0.place) picked.0.slots f.0.number
-            arguments.0;
-        columns = picked.0.names ++ f.0.states;
-        keys = length picked.0.names;
+        op = typed.Group (table_number g source.place) picked.slots f.number arguments;
+        columns = picked.names ++ f.states;
+        keys = length picked.names;
       }) in
-      subst M (same_ok _ made arguments.2) (subst P (sym same) (record {
+      subst P (sym same) (record {
         operator = (
           t.within,
           subst G (sym t.shape) group,
           subst Q (sym vf.is) emits,
-          sym
-              (group_is w ids arguments.0 (table_number w.groups source.0.place) picked.0 f.0 vf vp),
+          sym (group_is w ids arguments (table_number w.groups source.place) picked f vf vp),
         );
-        names = All-append (IsName w.names) picked.0.names f.0.states vp.ids vf.names;
-        keys = omega (arith, length-append picked.0.names f.0.states);
-      }))
+        names = All-append (IsName w.names) picked.names f.states vp.ids vf.names;
+        keys = omega (arith, length-append picked.names f.states);
+      })
+
+  group_made : (input : Name) (keys : List Key) (fold_name : Name) → (0 < length (five_fields given.fields))
+      × HasFinalKeys (ops.Group input keys fold_name) → made_final given e (ops.Group input keys fold_name) ≡ Ok made → IsMadeFinal w e made
+  group_made input keys fold_name some h =
+      let source = found_first (table_named e.known input) _ made h in
+      let picked = found_first (keys_checked (five_fields given.fields) source.0.columns [] keys) _ made source.2 in
+      let f = found_first (quiet_fold e.known fold_name) _ made picked.2 in
+      let arguments = found_first (arguments_of source.0.columns [] picked.0.names f.0 fold_name.span) _ made f.2 in
+      let M : MadeFinal → Type 0 = λ m. IsMadeFinal w e m in
+      subst M (same_ok _ made arguments.2)
+      (group_of input keys fold_name source.0 picked.0 f.0 arguments.0 some source.1 picked.1 f.1 arguments.1)
+
+  -- the same of a join
+  join_of : (first second : Name) (left right : TableView) → table_named e.known first ≡ Ok left → table_named e.known second ≡ Ok right
+      → same_names (key_columns left) (key_columns right) ≡ true
+      → IsMadeFinal w e (record {
+        op = typed.Join (table_number given.groups left.place) (table_number given.groups right.place);
+        columns = left.columns ++ other_columns right;
+        keys = left.keys;
+      })
+  join_of first second left right is_left is_right equal =
+      let vl = table_known w (length e.streams) (length e.finals) e.known first left known is_left in
+      let vr = table_known w (length e.streams) (length e.finals) e.known second right known is_right in
+      let tl = there w e left part count vl in
+      let tr = there w e right part count vr in
+      let lengths = same_length (key_columns left) (key_columns right) equal in
+      let keys : left.keys ≡ right.keys = omega (
+        arith,
+        lengths,
+        length-take left.keys left.columns,
+        length-take right.keys right.columns,
+        vl.keys,
+        vr.keys,
+      ) in
+      let lk = ap (λ (s : Shape). s.keys) tl.shape in
+      let rk = ap (λ (s : Shape). s.keys) tr.shape in
+      let lw = ap (λ (s : Shape). s.width) tl.shape in
+      let rw' = ap (λ (s : Shape). s.width) tr.shape in
+      let P : ℕ → Type 0 = λ g. IsMadeFinal w e (record {
+        op = typed.Join (table_number g left.place) (table_number g right.place);
+        columns = left.columns ++ other_columns right;
+        keys = left.keys;
+      }) in
+      subst P (sym same) (record {
+        operator = (
+          tl.within,
+          tr.within,
+          omega (arith, keys, lk, rk),
+          omega (arith, lw, rw', rk, length-append left.columns (other_columns right), length-drop right.keys right.columns),
+          omega (arith, lk),
+        );
+        names = All-append (IsName w.names) left.columns (other_columns right) vl.names
+            (drop_names w.names right.keys right.columns vr.names);
+        keys = omega (arith, vl.keys, length-append left.columns (other_columns right));
+      })
 
   join_valid : (first second : Name) → made_final given e (ops.Join first second) ≡ Ok made → IsMadeFinal w e made
   join_valid first second h =
@@ -224,44 +282,8 @@ module _ (w : Whole) (given : Given) (e : Earlier) (made : MadeFinal) (part : Is
       let equal = must_ok (same_names (key_columns left.0) (key_columns right.0)) WrongKind second.span _ made right.2 in
       let free = must_not_ok (list_any (λ name. is_among name left.0.columns) (other_columns right.0)) NameTaken second.span _ made
       equal.1 in
-      let vl = table_known w (length e.streams) (length e.finals) e.known first left.0 known left.1 in
-      let vr = table_known w (length e.streams) (length e.finals) e.known second right.0 known right.1 in
-      let tl = there w e left.0 part count vl in
-      let tr = there w e right.0 part count vr in
-      let lengths = same_length (key_columns left.0) (key_columns right.0) equal.0 in
-      let keys : left.0.keys ≡ right.0.keys = omega (
-        arith,
-        lengths,
-        length-take left.0.keys left.0.columns,
-        length-take right.0.keys
-            right.0.columns,
-        vl.keys,
-        vr.keys,
-      ) in
-      let lk = ap (λ (s : Shape). s.keys) tl.shape in
-      let rk = ap (λ (s : Shape). s.keys) tr.shape in
-      let lw = ap (λ (s : Shape). s.width) tl.shape in
-      let rw' = ap (λ (s : Shape). s.width) tr.shape in
       let M : MadeFinal → Type 0 = λ m. IsMadeFinal w e m in
-      let P : ℕ → Type 0 = λ g. IsMadeFinal w e (record {
-        op = typed.Join (table_number g left.0.place) (table_number g right.0.place);
-        columns = left.0.columns ++ other_columns right.0;
-        keys = left.0.keys;
-      }) in
-      subst M (same_ok _ made free.1) (subst P (sym same) (record {
-        operator = (
-          tl.within,
-          tr.within,
-          omega (arith, keys, lk, rk),
-          omega
-              (arith, lw, rw', rk, length-append left.0.columns (other_columns right.0), length-drop right.0.keys right.0.columns),
-          omega
-              (arith, lk),
-        );
-        names = All-append (IsName w.names) left.0.columns (other_columns right.0) vl.names
-            (drop_names w.names right.0.keys right.0.columns vr.names);
-        keys = omega (arith, vl.keys, length-append left.0.columns (other_columns right.0));
-      }))
+      subst M (same_ok _ made free.1) (join_of first second left.0 right.0 left.1 right.1 equal.0)
 
   top_valid : (input column : Name) (kept : ℕ) (span : Span) → made_final given e (ops.Top input column kept span) ≡ Ok made
       → IsMadeFinal w e made

@@ -11,7 +11,7 @@ ghost use Rattle.query_types.specs.Numbers.{greatest_of, greatest_number, greate
 
 use crate::answer::{fault, refused};
 use crate::copies::{copy_expr, names_of_both};
-use crate::exprs::{check_condition, check_word, find_place, has_name};
+use crate::exprs::{check_condition, check_word, find_place, has_name, typed_binary};
 use marple_base::{Boxed, Seq};
 use query_lang::typing::{Body, Enclosing};
 use query_lang::{
@@ -109,11 +109,7 @@ fn join_conditions(
         None => Ok(condition),
         Some(around) => {
             let first = copy_expr(alloc, around)?;
-            Ok(TypedExpr::Binary(
-                Op::Both,
-                Boxed::new(alloc, first)?,
-                Boxed::new(alloc, condition)?,
-            ))
+            typed_binary(alloc, Op::Both, first, condition)
         }
     }
 }

@@ -2,6 +2,7 @@
 
 ghost use Rattle.std.specs.Prelude.{◌≡◌, ◌++◌, IfOk};
 
+use crate::exprs::typed_binary;
 use marple_base::{Boxed, Seq};
 use query_lang::TypedExpr;
 use std::alloc::{AllocError, Global};
@@ -20,7 +21,7 @@ pub fn copy_expr(alloc: Global, e: &TypedExpr) -> Result<TypedExpr, AllocError>
         TypedExpr::Binary(op, left, right) => {
             let first = copy_expr(alloc, left.get())?;
             let second = copy_expr(alloc, right.get())?;
-            Ok(TypedExpr::Binary(*op, Boxed::new(alloc, first)?, Boxed::new(alloc, second)?))
+            typed_binary(alloc, *op, first, second)
         }
     }
 }

@@ -1,6 +1,6 @@
 //! Expressions over columns.
 
-ghost use Rattle.std.specs.Prelude.{◌≡◌, ◌<◌, ◌^◌, ◌∷◌, [], Ok, IfOk, IfSome, length};
+ghost use Rattle.std.specs.Prelude.{◌≡◌, ◌<◌, ◌^◌, ◌∷◌, [], IfOk, IfSome, length};
 ghost use Rattle.query_lang.specs.Checks.{is_among, place_of};
 ghost use Rattle.query_lang.specs.TypedExprs.{slot_of, is_condition_sort, is_operand, is_right_constant, sort_of, of_two, call_of};
 ghost use Rattle.query_lang.specs.TypedExprs.{negation_checked, expr_checked, condition_of, word_of};
@@ -98,14 +98,14 @@ fn sort_made(op: Op) -> Sort
     }
 }
 
-// An operator between two expressions.
-fn typed_binary(
+/// An operator between two expressions.
+pub fn typed_binary(
     alloc: Global,
     op: Op,
     left: TypedExpr,
     right: TypedExpr,
-) -> Result<TypedExpr, QueryError>
-    ensures { Answers result (Ok (TypedExpr.Binary op left right)) }
+) -> Result<TypedExpr, AllocError>
+    ensures { IfOk result (λ e. e ≡ TypedExpr.Binary op left right) }
 {
     Ok(TypedExpr::Binary(op, Boxed::new(alloc, left)?, Boxed::new(alloc, right)?))
 }

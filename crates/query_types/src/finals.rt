@@ -52,7 +52,6 @@ fn made_filter(
     })
 }
 
-#[tactic(auto, using(crate::proofs::NamedFits::table_narrow, crate::proofs::NamedFits::table_early))]
 fn check_filter(
     alloc: Global,
     groups: u16,
@@ -112,7 +111,6 @@ fn made_map(
     })
 }
 
-#[tactic(auto, using(crate::proofs::NamedFits::table_narrow, crate::proofs::NamedFits::table_early))]
 fn check_map(
     alloc: Global,
     groups: u16,
@@ -203,7 +201,6 @@ fn made_group(
     })
 }
 
-#[tactic(auto, using(crate::proofs::NamedFits::table_narrow, crate::proofs::NamedFits::table_early))]
 fn check_group(
     alloc: Global,
     given: &Given,
@@ -245,7 +242,6 @@ fn made_join(
     })
 }
 
-#[tactic(auto, using(crate::proofs::NamedFits::table_narrow, crate::proofs::NamedFits::table_early))]
 fn check_join(
     alloc: Global,
     groups: u16,
@@ -297,7 +293,6 @@ fn made_top(
     })
 }
 
-#[tactic(auto, using(crate::proofs::NamedFits::table_narrow, crate::proofs::NamedFits::table_early))]
 fn check_top(
     alloc: Global,
     groups: u16,

@@ -112,7 +112,6 @@ fn made_group(
 }
 
 /// A groupby over an earlier stream.
-#[tactic(auto, using(crate::proofs::NamedFits::stream_narrow))]
 pub fn check_group(
     alloc: Global,
     five: &[u32],

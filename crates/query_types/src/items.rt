@@ -56,7 +56,6 @@ fn add_fold(alloc: Global, earlier: &mut Earlier, f: TypedFold) -> Result<(), Al
 }
 
 // The fold's name is free, and then the fold is checked.
-#[tactic(auto, using(crate::proofs::FitLaws::folds_within))]
 fn check_fold_item(alloc: Global, earlier: &mut Earlier, d: &FoldDef) -> Result<(), QueryError>
     requires fits { Fits earlier.old }
     requires nodes { fold_nodes d.now ≤ MAX_NODES }

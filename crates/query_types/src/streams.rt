@@ -79,7 +79,6 @@ fn made_filter(
     })
 }
 
-#[tactic(auto, using(crate::proofs::NamedFits::stream_narrow))]
 fn check_filter(
     alloc: Global,
     earlier: &Earlier,
@@ -155,7 +154,6 @@ fn next_number(earlier: &Earlier) -> u16
     (count + 1) as u16
 }
 
-#[tactic(auto, using(crate::proofs::NamedFits::stream_narrow))]
 fn check_map(
     alloc: Global,
     earlier: &Earlier,
@@ -206,7 +204,6 @@ fn made_zip(
     })
 }
 
-#[tactic(auto, using(crate::proofs::NamedFits::stream_narrow))]
 fn check_zip(
     alloc: Global,
     earlier: &Earlier,
