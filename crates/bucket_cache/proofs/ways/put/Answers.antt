@@ -21,4 +21,5 @@ returns-clause-keys g c =
     let width : start + kw - start ≡ kw = omega arith in
     ap₂ (λ n key. rows_of kw (length c.args.order.now) (take start words ++ (key ++ drop n (drop start words)))) width
     c.copy_words.ensures.words
-    ∙ set-rows_of kw (length c.args.order.now) words c.way_at-way.result c.args.key.now below c.requires.flat (let e : kw ≡ kw = omega arith in e)
+    ∙ set-rows_of kw (length c.args.order.now) words c.way_at-way.result c.args.key.now below c.requires.flat
+    (let e : kw ≡ kw = omega arith in e)

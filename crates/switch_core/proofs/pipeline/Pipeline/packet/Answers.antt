@@ -209,9 +209,11 @@ invariant_of-self g c =
             ∙ (c.fill_registers.auto.registers ∙ (ap length c.deref_mut.ensures.value ∙ c.self.invariant.rooms.for_row));
         for_key = ap length (whole_written key (drop (length key) p.key.items) p.key.len
             (c.loop-i.invariant.key ∙ (c.read_caches.auto.key ∙ c.deref_mut-key.ensures.len)))
-            ∙ (c.loop-i.invariant.key ∙ (c.read_caches.auto.key ∙ (ap length c.deref_mut-key.ensures.value ∙ c.self.invariant.rooms.for_key)));
+            ∙ (c.loop-i.invariant.key ∙ (c.read_caches.auto.key
+            ∙ (ap length c.deref_mut-key.ensures.value ∙ c.self.invariant.rooms.for_key)));
         for_args = ap length (whole_written args (drop (length args) p.args.items) p.args.len
             (c.loop-i.invariant.args ∙ (c.read_caches.auto.room ∙ c.deref_mut-args.ensures.len)))
-            ∙ (c.loop-i.invariant.args ∙ (c.read_caches.auto.room ∙ (ap length c.deref_mut-args.ensures.value ∙ c.self.invariant.rooms.for_args)));
+            ∙ (c.loop-i.invariant.args ∙ (c.read_caches.auto.room
+            ∙ (ap length c.deref_mut-args.ensures.value ∙ c.self.invariant.rooms.for_args)));
       };
     }
