@@ -10,7 +10,7 @@ use std::alloc::AllocError;
 use table_rows::Rows;
 
 // The number of rows that are fetched side by side.
-const ROWS_AT_ONCE: usize = 16;
+const ROWS_AT_ONCE: usize = 64;
 
 // The sum of the first word and the last one, 0 where there are none.
 fn sum_of_ends(words: &[u64]) -> u64 {
