@@ -13,6 +13,7 @@ from pathlib import Path
 from typing import NamedTuple
 
 from checks import TOP
+from edit_files import edited
 
 LOG, PAGE = TOP / "bench/edits/log.txt", TOP / "docs/TESTING.md"
 HEAD = re.compile(r"([A-Z a-z]+): ([\w/-]+\.edit), (\d+) s")
@@ -23,6 +24,8 @@ UNPROVED = re.compile(r"(?:by a limit of the prover: )?(\S+?):\d+:\d+: it is not
 # Goals of functions that call one another begin with the function's name.
 ENSURED = re.compile(r"(?:(\w+)-)?(returns\b.*)")
 ASKED = re.compile(r"what `([^`]+)` requires")
+# The file of the place with which a line begins.
+FILE = re.compile(r"(?m)^(?:by a limit of the prover: )?((?:src|specs|proofs)/[^\s:]+\.(?:rt|antt))")
 # The function of a place in a source, which tests/edits adds.
 OWNER = re.compile(r"; in `(\w+)`$")
 # A goal of safety: that a sum fits, that an index is in range. It says nothing of what a function means.
@@ -137,6 +140,15 @@ def shows_its_meaning(tried: Tried) -> bool:
     An invariant is a step of a proof, which could be another for the same contract: it shows nothing, and a bound neither.
     """
     return tried.verdict == "refused" and best_goal(tried).rank <= MEANING
+
+
+def is_of_now(edit: str, tried: Tried) -> bool:
+    """Whether the log names a function that the edit changes now, if it changes one, and only files that are there."""
+    path = TOP / "crates" / edit
+    folder, said = path.parent.parent, "\n".join(tried.said)
+    names = {it.name for it in edited(path, folder).functions if it.name}
+    are_there = all((folder / it).exists() for it in FILE.findall(said))
+    return are_there and (not names or any(re.search(rf"\b{it}\b", said) for it in names))
 
 
 def refused_by(tried: Tried) -> str:
