@@ -6,6 +6,7 @@ mod groups;
 mod laws;
 mod network;
 mod taking;
+mod turns;
 
 pub use group::Group;
 pub use laws::runs_follow_events;

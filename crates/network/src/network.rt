@@ -1,4 +1,4 @@
-//! A plan over several switches: a call for each event of a switch, and two that make the events that a trace needs.
+//! A plan over several switches: a call for each event of a switch, and their tables.
 
 ghost use Rattle.std.specs.Prelude.{◌≡◌, ◌+◌, ◌*◌, ◌==◌, ◌<◌, ◌≤◌, ◌↔◌, ℕ, List, [], Ok, true, not};
 ghost use Rattle.std.specs.Prelude.{length, filter, map, slice_get, slice_index, if◌then◌else◌, IfOk, OnOk, OnErr, Some};
@@ -25,10 +25,10 @@ ghost use Rattle.network.specs.Ends.{AreTakenAt, CombineOver, EvictsLast, IsDrai
 ghost use Rattle.network.specs.Groups.{StoresHold, group_is_drained, shared_tables};
 ghost use Rattle.network.specs.Events.{AreAllMerged, AtFront, AtGroup, IsLeft, OthersStay, StoresStay, is_ready_at};
 ghost use Rattle.network.specs.Costs.{AtSwitchLane, front_upkeep_cost, group_merge_cost};
-ghost use Rattle.network.specs.Networks.{IsNetwork, NetworkGrows, network_cost, turn_cost, upkeeps_cost};
-ghost use Rattle.network.specs.Running.{Evicts, FrontsStay, Merges, MergingBreaksOff, NetworkEvent, NetworkMakes, NetworkRuns};
-ghost use Rattle.network.specs.Running.{NetworkStands, RunBreaksOff, RunsWithMerges, SwitchesStay, Takes, all_evictions};
-ghost use Rattle.network.specs.Running.{all_given, front_at, lane_calls, merged_after, turn_events, upkeep_calls};
+ghost use Rattle.network.specs.Networks.{IsNetwork, NetworkGrows, network_cost, upkeeps_cost};
+ghost use Rattle.network.specs.Running.{Evicts, FrontsStay, Merges, NetworkEvent, NetworkMakes, NetworkRuns};
+ghost use Rattle.network.specs.Running.{NetworkStands, RunBreaksOff, SwitchesStay, Takes};
+ghost use Rattle.network.specs.Running.{all_given, front_at, lane_calls, merged_after, upkeep_calls};
 
 use crate::group::Group;
 use crate::groups::{add_switch, all_drained, all_ready, group_tables, made_groups, packet_groups};
@@ -300,9 +300,9 @@ impl<const WAYS: usize> Network<WAYS> {
         group.keep_up(at as usize, upkeep, steps)
     }
 
-    // Does what is due at all fronts of a switch, groupby by groupby. When out of memory, only the first of these events were made.
+    /// Does what is due at all fronts of a switch, groupby by groupby. When out of memory, only the first of these events were made.
     #[inline(always)]
-    fn keep_up<L: Ledger>(
+    pub(crate) fn keep_up<L: Ledger>(
         &mut self,
         at: u32,
         upkeep: Upkeep,
@@ -319,48 +319,6 @@ impl<const WAYS: usize> Network<WAYS> {
     {
         for lane in 0..self.lanes() {
             self.keep_lane(at, lane, upkeep, steps)?;
-        }
-        Ok(())
-    }
-
-    /// A packet of a switch with the merges around it: first each lane whose pipe is full merges a record, then comes the
-    /// packet, and then, where the lag is over, each lane merges a record. Only a store needs memory, for a new key. When
-    /// out of memory, only the first of these events were made.
-    pub fn turn<L: Ledger>(
-        &mut self,
-        at: u32,
-        packet: &Packet,
-        lag_over: bool,
-        steps: &mut Steps<L>,
-    ) -> Result<(), AllocError>
-        requires { at < self.old.switches }
-        ensures runs { OnOk result (NetworkRuns WAYS (turn_events at packet.now.words lag_over self.old) self.old self.new) }
-        ensures breaks_off { OnErr result (RunBreaksOff WAYS (turn_events at packet.now.words lag_over self.old) self.old self.new) }
-        ensures merged { OnOk result (lag_over ≡ true → list_all (is_ready_at at) self.new.groups ≡ true) }
-        ensures steps { steps.old ≤ steps.new }
-        ensures cost { steps.new ≤ steps.old + turn_cost WAYS at self.old }
-    {
-        self.invariant();
-        self.keep_up(at, Upkeep::Room, steps)?;
-        self.packet(at, packet, steps);
-        if !lag_over {
-            return Ok(());
-        }
-        self.keep_up(at, Upkeep::Lag, steps)
-    }
-
-    /// Closes all open epochs of all switches and merges all that are closed: switch by switch and groupby by groupby, each
-    /// bucket in ascending order. When out of memory, only the first of these evictions were made, and merges among them.
-    pub fn drain<L: Ledger>(&mut self, steps: &mut Steps<L>) -> Result<(), AllocError>
-        ensures runs { OnOk result (RunsWithMerges WAYS (all_evictions self.old) self.old self.new) }
-        ensures breaks_off { OnErr result (MergingBreaksOff WAYS (all_evictions self.old) self.old self.new) }
-        ensures drained { OnOk result (list_all group_is_drained self.new.groups ≡ true) }
-        ensures steps { steps.old ≤ steps.new }
-    {
-        self.invariant();
-        for at in 0..self.switches() {
-            self.keep_up(at, Upkeep::Sweep, steps)?;
-            self.keep_up(at, Upkeep::Rest, steps)?;
         }
         Ok(())
     }
