@@ -18,11 +18,12 @@ use Rattle.trace_reader.specs.Traces.{only_column, packet_of, field_text_at, wor
 use Rattle.trace_reader.specs.declared.fault.TheConstants.{MAX_RECORDS}
 use Rattle.trace_reader.proofs.TraceFacts.{contents_good}
 use Rattle.queue_sim.specs.ReadBack.{ArePackets, ArePacketWords}
-use Rattle.queue_sim.specs.TraceText.{word_text}
+use Rattle.queue_sim.specs.TraceText.{word_text, word_texts}
 use Rattle.queue_sim.proofs.DigitFacts.{word_read}
+use Rattle.queue_sim.proofs.ReadBackFacts.{word_small}
 use Rattle.part_texts.specs.Laws.{FieldTextsReadBack, as_read, word_if_read}
 use Rattle.part_texts.specs.Texts.{fields_in, fields_text, lines_of, one_at_least, written_fields}
-use Rattle.part_texts.proofs.TextRecords.{texts_by, word_small, text_records}
+use Rattle.part_texts.proofs.TextRecords.{text_records}
 use Rattle.part_texts.proofs.ReadColumns.{places, named_places, place_after, text_after, before, later, parted, others_before, others_later}
 
 -- the place of a field among those that are read
@@ -74,16 +75,16 @@ columns_here : (reads : FieldSet) → columns_of_fields reads (map field_name (w
 columns_here reads = each_ok (column_of_field reads (map field_name (written_fields reads))) (place_if reads) all_fields (column_here reads)
 
 word_here : (reads : FieldSet) (words : List ℕ) (f : Field) → ArePacketWords words
-    → word_at (texts_by words (written_fields reads)) f (place_if reads f) ≡ Ok (word_if_read reads words f)
+    → word_at (word_texts words (written_fields reads)) f (place_if reads f) ≡ Ok (word_if_read reads words f)
 word_here reads words f are = by (has_field reads f) refl
   where
     by : (b : Bool) → has_field reads f ≡ b
-        → word_at (texts_by words (written_fields reads)) f (cond b (Some (place_of reads f)) None) ≡ Ok
+        → word_at (word_texts words (written_fields reads)) f (cond b (Some (place_of reads f)) None) ≡ Ok
         (cond b (slice_index words (number_of f)) 0)
     by true read =
-        let text : field_text_at (texts_by words (written_fields reads)) (place_of reads f) ≡ word_text f
+        let text : field_text_at (word_texts words (written_fields reads)) (place_of reads f) ≡ word_text f
         (slice_index words (number_of f)) =
-        ap (λ gs. field_text_at (texts_by words gs) (place_of reads f))
+        ap (λ gs. field_text_at (word_texts words gs) (place_of reads f))
         (written_are reads f read ∙ ap (filter (has_field reads)) (parted f))
         ∙ text_after (has_field reads) (λ g. word_text g (slice_index words (number_of g))) f (before f) (later f) read in
         ap (λ t. ok_or (word_of_text f (without_blanks t)) f) text
@@ -98,15 +99,15 @@ each_zip W G V [] is = refl
 each_zip W G V (f ∷ fs) is = rw (is f, each_zip W G V fs is) refl
 
 words_here : (reads : FieldSet) (words : List ℕ) → ArePacketWords words
-    → words_in_columns (map (place_if reads) all_fields) (texts_by words (written_fields reads)) ≡ Ok
+    → words_in_columns (map (place_if reads) all_fields) (word_texts words (written_fields reads)) ≡ Ok
     (map (word_if_read reads words) all_fields)
 words_here reads words are =
-    each_zip (λ p. word_at (texts_by words (written_fields reads)) p.0 p.1) (place_if reads) (word_if_read reads words) all_fields
+    each_zip (λ p. word_at (word_texts words (written_fields reads)) p.0 p.1) (place_if reads) (word_if_read reads words) all_fields
     (λ f. word_here reads words f are)
 
 -- ---- the whole text
 
-length-by : (words : List ℕ) (fields : List Field) → length (texts_by words fields) ≡ length (map field_name fields)
+length-by : (words : List ℕ) (fields : List Field) → length (word_texts words fields) ≡ length (map field_name fields)
 length-by words [] = refl
 length-by words (f ∷ fields) = ap suc (length-by words fields)
 
@@ -114,17 +115,17 @@ abbrev layout : FieldSet → Layout
 layout reads = record { width = length (map field_name (written_fields reads)); columns = map (place_if reads) all_fields }
 
 packet_here : (reads : FieldSet) (packet : Packet) (n : ℕ) → ArePacketWords packet.words → n ≤ MAX_RECORDS
-    → packet_of (layout reads) n (texts_by packet.words (written_fields reads)) ≡ Ok (as_read reads packet)
+    → packet_of (layout reads) n (word_texts packet.words (written_fields reads)) ≡ Ok (as_read reads packet)
 unfolding packet_of
 packet_here reads packet n are within =
     let few : nat_lt MAX_RECORDS n ≡ false = grind (arith, nat_tests) in
     let fields = written_fields reads in
-    let width : (length (texts_by packet.words fields) == length (map field_name fields)) ≡ true =
-    eq-eqb (length (texts_by packet.words fields)) (length (map field_name fields)) (length-by packet.words fields) in
+    let width : (length (word_texts packet.words fields) == length (map field_name fields)) ≡ true =
+    eq-eqb (length (word_texts packet.words fields)) (length (map field_name fields)) (length-by packet.words fields) in
     rw (few, width, words_here reads packet.words are) refl
 
 sent_here : (reads : FieldSet) (sent : List Packet) (n : ℕ) → ArePackets sent → n + length sent ≤ MAX_RECORDS + 1
-    → contents_from (layout reads) n (map (λ (packet : Packet). texts_by packet.words (written_fields reads)) sent) ≡ record
+    → contents_from (layout reads) n (map (λ (packet : Packet). word_texts packet.words (written_fields reads)) sent) ≡ record
     { packets = map (as_read reads) sent; fault = None }
 unfolding contents_from
 sent_here reads [] n are within = refl
@@ -141,18 +142,18 @@ some_column reads = by (fields_in reads)
 
 records_here : (reads : FieldSet) (sent : List Packet) → ArePackets sent
     → records (fields_text reads sent) ≡ map field_name (written_fields reads)
-    ∷ map (λ (packet : Packet). texts_by packet.words (written_fields reads)) sent
+    ∷ map (λ (packet : Packet). word_texts packet.words (written_fields reads)) sent
 records_here reads sent are =
     let some = some_column reads in
     let P : List Field → Type 0 = λ fs. records (lines_of fs sent) ≡ map field_name fs
-    ∷ map (λ (packet : Packet). texts_by packet.words fs) sent in
+    ∷ map (λ (packet : Packet). word_texts packet.words fs) sent in
     subst P (sym some.2) (text_records some.0 some.1 sent are)
 
 pub field_texts_read_back_lem : FieldTextsReadBack
 field_texts_read_back_lem reads sent are few short =
     let is : contents (fields_text reads sent) reads ≡ record { packets = map (as_read reads) sent; fault = None } =
     contents_good (fields_text reads sent) reads (map field_name (written_fields reads))
-    (map (λ (packet : Packet). texts_by packet.words (written_fields reads)) sent)
+    (map (λ (packet : Packet). word_texts packet.words (written_fields reads)) sent)
     (map (place_if reads) all_fields) short (records_here reads sent are) (sym (columns_here reads))
     ∙ sent_here reads sent 1 are (omega arith) in
     (ap (λ (c : Contents). c.packets) is, ap (λ (c : Contents). c.fault) is)

@@ -5,8 +5,8 @@ use Rattle.std.specs.Prelude.{◌==◌, flat_map}
 use Rattle.marple_base.specs.Field.{field_name}
 use Rattle.marple_base.specs.declared.field.Field.{Field}
 use Rattle.marple_base.specs.declared.field.Packet.{Packet}
-use Rattle.queue_sim.specs.TraceText.{line}
-use Rattle.part_texts.specs.Texts.{fields_line, lines_of, packets_of_part}
+use Rattle.queue_sim.specs.TraceText.{fields_line, line}
+use Rattle.part_texts.specs.Texts.{lines_of, packets_of_part}
 
 -- the packets of a part, of more packets
 pub packets_append : (partition : List ℕ → ℕ) (n : ℕ) (sent more : List Packet)

@@ -20,8 +20,9 @@ use Rattle.marple_base.specs.declared.field.Field.TheVariants.{TcpSeq, Tin, Tout
 use Rattle.marple_base.specs.declared.field.Packet.{Packet}
 use Rattle.trace_reader.specs.Reading.{records}
 use Rattle.queue_sim.specs.ReadBack.{ArePackets, ArePacketWords}
-use Rattle.queue_sim.specs.TraceText.{continued, line, word_text}
+use Rattle.queue_sim.specs.TraceText.{continued, line, word_text, word_texts}
 use Rattle.queue_sim.proofs.DigitFacts.{word_plain}
+use Rattle.queue_sim.proofs.ReadBackFacts.{word_small}
 use Rattle.trace_pieces.specs.Machine.{rows}
 use Rattle.trace_reader.proofs.RowFacts.{does, rows_are, rows_from}
 use Rattle.part_texts.specs.Texts.{lines_of}
@@ -123,14 +124,6 @@ record_rows part parts more are =
 
 -- ---- the texts of packets
 
-abbrev pub texts_by : List ℕ → List Field → List (List ℕ)
-texts_by words fields = map (λ field. word_text field (slice_index words (number_of field))) fields
-
-pub word_small : (words : List ℕ) (k : ℕ) → ArePacketWords words → slice_index words k < 2 ^ 64
-word_small [] k are = lit< tt
-word_small (word ∷ words) zero are = are.0
-word_small (word ∷ words) (suc k) are = word_small words k are.1
-
 decimal_some : (n : ℕ) → n < 2 ^ 64 → 1 ≤ length (decimal n)
 decimal_some n small = omega (arith, (decimal_is_IsNumeral n small).0.0)
 
@@ -154,7 +147,7 @@ word_some Tout n small = by (n == 2 ^ 64 - 1)
     by false = decimal_some n small
 word_some QSize n small = decimal_some n small
 
-word_parts : (words : List ℕ) (fields : List Field) → ArePacketWords words → AreParts (texts_by words fields)
+word_parts : (words : List ℕ) (fields : List Field) → ArePacketWords words → AreParts (word_texts words fields)
 word_parts words [] are = tt
 word_parts words (field ∷ fields) are =
     let small = word_small words (number_of field) are in (
@@ -184,15 +177,15 @@ name_parts [] = tt
 name_parts (field ∷ fields) = (name_part field, name_parts fields)
 
 body_rows : (field : Field) (fields : List Field) (sent : List Packet) → ArePackets sent
-    → rows_from st.StartRecord [] [] (body_of (field ∷ fields) sent) ≡ map (λ (packet : Packet). texts_by packet.words (field ∷ fields))
+    → rows_from st.StartRecord [] [] (body_of (field ∷ fields) sent) ≡ map (λ (packet : Packet). word_texts packet.words (field ∷ fields))
     sent
 unfolding rows_from
 body_rows field fields [] are = refl
 body_rows field fields (packet ∷ sent) are =
-    record_rows (word_text field (slice_index packet.words (number_of field))) (texts_by packet.words fields)
+    record_rows (word_text field (slice_index packet.words (number_of field))) (word_texts packet.words fields)
     (body_of (field ∷ fields) sent)
     (word_parts packet.words (field ∷ fields) are.1)
-    ∙ ap (λ (r : List (List (List ℕ))). texts_by packet.words (field ∷ fields) ∷ r) (body_rows field fields sent are.2)
+    ∙ ap (λ (r : List (List (List ℕ))). word_texts packet.words (field ∷ fields) ∷ r) (body_rows field fields sent are.2)
 
 -- no name begins a byte order mark
 no_mark : (field : Field) (rest : List ℕ) → strip_bom (field_name field ++ rest) ≡ field_name field ++ rest
@@ -215,7 +208,7 @@ no_mark QSize rest = refl
 -- the records of the text
 pub text_records : (field : Field) (fields : List Field) (sent : List Packet) → ArePackets sent
     → records (lines_of (field ∷ fields) sent) ≡ map field_name (field ∷ fields)
-    ∷ map (λ (packet : Packet). texts_by packet.words (field ∷ fields)) sent
+    ∷ map (λ (packet : Packet). word_texts packet.words (field ∷ fields)) sent
 text_records field fields sent are =
     let body = body_of (field ∷ fields) sent in
     let names = map field_name fields in

@@ -6,7 +6,7 @@ use Rattle.marple_base.specs.declared.field.Field.{Field}
 use Rattle.marple_base.specs.declared.field.Field.TheVariants.{Uid}
 use Rattle.marple_base.specs.declared.field.FieldSet.{FieldSet}
 use Rattle.marple_base.specs.declared.field.Packet.{Packet}
-use Rattle.queue_sim.specs.TraceText.{line, word_text}
+use Rattle.queue_sim.specs.TraceText.{fields_line, line}
 
 -- the fields of a set, in the order of the fields
 abbrev pub fields_in : FieldSet → List Field
@@ -23,10 +23,6 @@ written_fields reads = one_at_least (fields_in reads)
 -- the packet's words of these fields
 abbrev pub field_words : List Field → List ℕ → List ℕ
 field_words fields words = map (λ field. slice_index words (number_of field)) fields
-
--- the line of a packet with these words
-abbrev pub fields_line : List Field → List ℕ → List ℕ
-fields_line fields words = line (map (λ field. word_text field (slice_index words (number_of field))) fields)
 
 -- a header of these fields, and a line for each packet
 abbrev pub lines_of : List Field → List Packet → List ℕ

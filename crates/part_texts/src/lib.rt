@@ -5,4 +5,4 @@ mod laws;
 mod line;
 
 pub use laws::field_texts_read_back;
-pub use line::{LineBuffer, header_line};
+pub use line::header_line;

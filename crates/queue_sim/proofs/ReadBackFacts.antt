@@ -1,7 +1,7 @@
 -- The records of a written trace, and what a reader finds in them.
-use Rattle.std.proofs.Common.{◌≡◌, ℕ, ◌+◌, ◌≤◌, true, false, List, [], ◌∷◌, ◌++◌, length, map, Ok, Option, Some, None, refl, sym, ap, ◌∙◌}
-use Rattle.std.proofs.Common.{eq-eqb, arith}
-use Rattle.std.specs.Prelude.{⊤, ◌==◌, flat_map, nat_lt}
+use Rattle.std.proofs.Common.{◌≡◌, ℕ, ◌+◌, ◌<◌, ◌≤◌, ◌^◌, zero, suc, false, List, [], ◌∷◌, ◌++◌, length, map, slice_index, Ok, Option, Some, None, refl}
+use Rattle.std.proofs.Common.{sym, ap, ◌∙◌, lit<, arith}
+use Rattle.std.specs.Prelude.{⊤, flat_map, nat_lt}
 use Rattle.std.specs.List.{list_any}
 use Rattle.std.proofs.lemmas.Bool.Decides.{nat_tests}
 use Rattle.csv.specs.Quoting.{needs_byte}
@@ -9,7 +9,7 @@ use Rattle.csv.specs.Reading.{strip_bom}
 use Rattle.csv.specs.Records.{field_at}
 use Rattle.csv.specs.Writing.{default_writer, fields_text, is_blank, row_text}
 use Rattle.csv.proofs.RoundTrip.{rows_text}
-use Rattle.marple_base.specs.Field.{HasField, all_fields, field_name}
+use Rattle.marple_base.specs.Field.{HasField, all_fields, field_name, number_of}
 use Rattle.marple_base.specs.declared.field.Field.{Field}
 use Rattle.marple_base.specs.declared.field.Field.TheVariants.{Switch, Qid, Uid, SrcIp, DstIp, SrcPort, DstPort, Proto, PktLen, PayloadLen}
 use Rattle.marple_base.specs.declared.field.Field.TheVariants.{TcpSeq, Tin, Tout, QSize}
@@ -21,9 +21,8 @@ use Rattle.trace_reader.specs.Traces.{Contents, Layout, columns_of_fields, conte
 use Rattle.trace_reader.specs.declared.fault.TheConstants.{MAX_RECORDS}
 use Rattle.trace_reader.proofs.TraceFacts.{contents_good}
 use Rattle.queue_sim.specs.ReadBack.{ArePackets, ArePacketWords, TextsReadBack}
-use Rattle.queue_sim.specs.TraceText.{continued, header, line, packet_texts, texts_of, trace_text}
+use Rattle.queue_sim.specs.TraceText.{continued, fields_line, header, line, packet_texts, trace_text, word_texts}
 use Rattle.queue_sim.proofs.DigitFacts.{word_plain, word_read}
-use Rattle.queue_sim.proofs.TextFacts.{length-texts}
 use Rattle.queue_sim.proofs.WrittenFacts.{AllMany, records-rows_text}
 
 -- no field needs quotes
@@ -40,17 +39,19 @@ plain_row : (x y : List ℕ) (ys : List (List ℕ)) → ArePlain (x ∷ y ∷ ys
 unfolding is_blank
 plain_row x y ys plain = rw plain.0 (ap (λ rest. (x ++ rest) ++ 10 ∷ []) (plain_fields (y ∷ ys) plain.1))
 
-plain_texts : (fields : List Field) (words : List ℕ) → ArePacketWords words → ArePlain (texts_of fields words)
+pub word_small : (words : List ℕ) (k : ℕ) → ArePacketWords words → slice_index words k < 2 ^ 64
+word_small [] k are = lit< tt
+word_small (word ∷ words) zero are = are.0
+word_small (word ∷ words) (suc k) are = word_small words k are.1
+
+plain_texts : (fields : List Field) (words : List ℕ) → ArePacketWords words → ArePlain (word_texts words fields)
 plain_texts [] words small = tt
-plain_texts (f ∷ fields) [] small = tt
-plain_texts (f ∷ fields) (w ∷ words) small = (word_plain f w small.0, plain_texts fields words small.1)
+plain_texts (f ∷ fields) words small =
+    (word_plain f (slice_index words (number_of f)) (word_small words (number_of f) small), plain_texts fields words small)
 
 -- the line of a packet is the text of its record
-packet_row : (words : List ℕ) → length words ≡ FIELDS → ArePacketWords words → row_text default_writer (texts_of all_fields words) ≡ line
-    (texts_of all_fields words)
-packet_row [] size small = absurd (omega arith)
-packet_row (w ∷ []) size small = absurd (omega (arith, size))
-packet_row (v ∷ w ∷ words) size small = plain_row _ _ _ (plain_texts all_fields (v ∷ w ∷ words) small)
+packet_row : (words : List ℕ) → ArePacketWords words → row_text default_writer (word_texts words all_fields) ≡ fields_line all_fields words
+packet_row words small = plain_row _ _ _ (plain_texts all_fields words small)
 
 abbrev rows_of : List Packet → List (List (List ℕ))
 rows_of sent = map packet_texts sent
@@ -58,7 +59,7 @@ rows_of sent = map packet_texts sent
 lines_rows : (sent : List Packet) → ArePackets sent → rows_text (rows_of sent) ≡ flat_map (λ packet. line (packet_texts packet)) sent
 unfolding rows_text
 lines_rows [] are = refl
-lines_rows (packet ∷ sent) are = rw (packet_row packet.words are.0 are.1, lines_rows sent are.2) refl
+lines_rows (packet ∷ sent) are = rw (packet_row packet.words are.1, lines_rows sent are.2) refl
 
 header_plain : ArePlain header
 header_plain = (refl, (refl, (refl, (refl, (refl, (refl, (refl, (refl, (refl, (refl, (refl, (refl, (refl, (refl, tt))))))))))))))
@@ -73,15 +74,9 @@ text_rows : (sent : List Packet) → ArePackets sent → rows_text (header ∷ r
 unfolding rows_text
 text_rows sent are = ap (λ t. t ++ rows_text (rows_of sent)) header_row ∙ ap (λ t. line header ++ t) (lines_rows sent are)
 
-many_first : (words : List ℕ) (rows : List (List (List ℕ))) → length words ≡ FIELDS → AllMany rows
-    → AllMany (texts_of all_fields words ∷ rows)
-many_first [] rows size many = absurd (omega arith)
-many_first (w ∷ []) rows size many = absurd (omega (arith, size))
-many_first (v ∷ w ∷ words) rows size many = many
-
 many_rows : (sent : List Packet) → ArePackets sent → AllMany (rows_of sent)
 many_rows [] are = tt
-many_rows (packet ∷ sent) are = many_first packet.words (rows_of sent) are.0 (many_rows sent are.2)
+many_rows (packet ∷ sent) are = many_rows sent are.2
 
 no_mark : (sent : List Packet) → strip_bom (trace_text sent) ≡ trace_text sent
 unfolding strip_bom
@@ -120,7 +115,7 @@ header_columns reads all =
     ) refl
 
 -- the words that a record gives
-row_words : (words : List ℕ) → length words ≡ FIELDS → ArePacketWords words → words_in_columns places (texts_of all_fields words) ≡ Ok words
+row_words : (words : List ℕ) → length words ≡ FIELDS → ArePacketWords words → words_in_columns places (word_texts words all_fields) ≡ Ok words
 unfolding each field_at
 row_words (a ∷ b ∷ c ∷ d ∷ e ∷ f ∷ g ∷ h ∷ i ∷ j ∷ k ∷ l ∷ m ∷ n ∷ []) size small =
     let rest1 = small.1 in
@@ -165,9 +160,7 @@ packet_read : (packet : Packet) (n : ℕ) → length packet.words ≡ FIELDS →
 unfolding packet_of
 packet_read packet n size small within =
     let few : nat_lt MAX_RECORDS n ≡ false = grind (arith, nat_tests) in
-    let width : (length (packet_texts packet) == FIELDS) ≡ true = eq-eqb (length (packet_texts packet)) FIELDS
-    (length-texts all_fields packet.words (sym size)) in
-    rw (few, width, row_words packet.words size small) refl
+    rw (few, row_words packet.words size small) refl
 
 sent_read : (sent : List Packet) (n : ℕ) → ArePackets sent → n + length sent ≤ MAX_RECORDS + 1
     → contents_from full n (rows_of sent) ≡ record { packets = sent; fault = None }

@@ -1,52 +1,55 @@
 -- The line of a packet from its end to its beginning, and the text of packets.
-use Rattle.std.proofs.Common.{◌≡◌, ℕ, suc, zero, ◌+◌, ◌<◌, List, [], ◌∷◌, ◌++◌, length, get_or, drop, refl, sym, ap, ◌∙◌, append_assoc}
-use Rattle.std.proofs.Common.{append-nil, arith}
+use Rattle.std.proofs.Common.{◌≡◌, ℕ, suc, zero, ◌+◌, ◌<◌, ◌≤◌, List, [], ◌∷◌, ◌++◌, length, get_or, drop, map, slice_index, refl, sym, ap}
+use Rattle.std.proofs.Common.{◌∙◌, append_assoc, append-nil, arith}
 use Rattle.std.specs.Prelude.{flat_map}
 use Rattle.std.proofs.lemmas.List.{drop_all}
-use Rattle.marple_base.specs.Field.{all_fields}
+use Rattle.marple_base.specs.Field.{number_of}
+use Rattle.marple_base.specs.declared.field.Field.{Field}
 use Rattle.marple_base.specs.declared.field.Field.TheVariants.{Switch}
 use Rattle.marple_base.specs.declared.field.Packet.{Packet}
-use Rattle.marple_base.specs.declared.field.Field.{Field}
-use Rattle.marple_base.specs.declared.field.TheConstants.{FIELDS}
-use Rattle.queue_sim.specs.TraceText.{continued, header, line, packet_texts, texts_of, trace_text, word_text}
+use Rattle.queue_sim.specs.TraceText.{continued, fields_line, header, line, packet_texts, trace_text, word_text, word_texts}
 
--- the texts from a place on
-pub texts_from : (fields : List Field) (words : List ℕ) (i : ℕ) (d : Field) → i < length fields → i < length words
-    → drop i (texts_of fields words) ≡ word_text (get_or fields i d) (get_or words i 0) ∷ drop (i + 1) (texts_of fields words)
-texts_from [] words i d field word = absurd (omega arith)
-texts_from (f ∷ fields) [] i d field word = absurd (omega arith)
-texts_from (f ∷ fields) (w ∷ words) zero d field word = refl
-texts_from (f ∷ fields) (w ∷ words) (suc i) d field word =
+length-texts : (text : Field → List ℕ) (fields : List Field) → length (map text fields) ≡ length fields
+length-texts text [] = refl
+length-texts text (f ∷ fields) = ap suc (length-texts text fields)
+
+-- the texts of fields from a place on
+pub texts_from : (text : Field → List ℕ) (fields : List Field) (i : ℕ) → i < length fields
+    → drop i (map text fields) ≡ text (get_or fields i Switch) ∷ drop (i + 1) (map text fields)
+texts_from text [] i within = absurd (omega arith)
+texts_from text (f ∷ fields) zero within = refl
+texts_from text (f ∷ fields) (suc i) within =
     let more : suc i + 1 ≡ suc (i + 1) = omega arith in
-    rw more (texts_from fields words i d (omega arith) (omega arith))
+    rw more (texts_from text fields i (omega arith))
 
-pub length-texts : (fields : List Field) (words : List ℕ) → length fields ≡ length words → length (texts_of fields words) ≡ length fields
-length-texts [] words same = refl
-length-texts (f ∷ fields) [] same = absurd (omega arith)
-length-texts (f ∷ fields) (w ∷ words) same = ap suc (length-texts fields words (omega arith))
+pub texts_end : (text : Field → List ℕ) (fields : List Field) (i : ℕ) → length fields ≤ i → drop i (map text fields) ≡ []
+texts_end text fields i all = drop_all i (map text fields) (omega (arith, length-texts text fields, all))
+
+-- the text of a packet's word of a field
+abbrev pub word_at : List ℕ → Field → List ℕ
+word_at words field = word_text field (slice_index words (number_of field))
 
 -- what is written from a word on, before the end
-abbrev pub text_from : ℕ → List ℕ → List ℕ
-text_from i words = continued (drop i (texts_of all_fields words)) ++ 10 ∷ []
+abbrev pub text_from : List Field → ℕ → List ℕ → List ℕ
+text_from fields i words = continued (drop i (word_texts words fields)) ++ 10 ∷ []
 
 -- nothing but the end
-pub none_left : (words : List ℕ) → length words ≡ FIELDS → text_from FIELDS words ≡ 10 ∷ []
-none_left words size = ap (λ parts. continued parts ++ 10 ∷ []) (drop_all FIELDS (texts_of all_fields words)
-    (omega (arith, length-texts all_fields words (sym size))))
+pub none_left : (fields : List Field) (words : List ℕ) (i : ℕ) → length fields ≤ i → text_from fields i words ≡ 10 ∷ []
+none_left fields words i all = ap (λ parts. continued parts ++ 10 ∷ []) (texts_end (word_at words) fields i all)
 
 -- one word more, and a comma before it
-pub one_before : (words : List ℕ) (i : ℕ) → length words ≡ FIELDS → i < FIELDS
-    → text_from i words ≡ 44 ∷ (word_text (get_or all_fields i Switch) (get_or words i 0) ++ text_from (i + 1) words)
-one_before words i size within =
-    let text = word_text (get_or all_fields i Switch) (get_or words i 0) in
-    ap (λ parts. continued parts ++ 10 ∷ []) (texts_from all_fields words i Switch within (omega arith))
-    ∙ ap (λ rest. 44 ∷ rest) (append_assoc text (continued (drop (i + 1) (texts_of all_fields words))) (10 ∷ []))
+pub one_before : (fields : List Field) (words : List ℕ) (i : ℕ) → i < length fields
+    → text_from fields i words ≡ 44 ∷ (word_at words (get_or fields i Switch) ++ text_from fields (i + 1) words)
+one_before fields words i within =
+    let text = word_at words (get_or fields i Switch) in
+    ap (λ parts. continued parts ++ 10 ∷ []) (texts_from (word_at words) fields i within)
+    ∙ ap (λ rest. 44 ∷ rest) (append_assoc text (continued (drop (i + 1) (word_texts words fields))) (10 ∷ []))
 
 -- the first word, and the line is whole
-pub whole_line : (words : List ℕ) → length words ≡ FIELDS → word_text Switch (get_or words 0 0)
-    ++ text_from 1 words ≡ line (texts_of all_fields words)
-whole_line [] size = absurd (omega arith)
-whole_line (w ∷ words) size = sym (append_assoc (word_text Switch w) (continued (drop 1 (texts_of all_fields (w ∷ words)))) (10 ∷ []))
+pub whole_line : (fields : List Field) (words : List ℕ) → 0 < length fields
+    → word_at words (get_or fields 0 Switch) ++ text_from fields 1 words ≡ fields_line fields words
+whole_line [] words some = absurd (omega arith)
+whole_line (f ∷ fields) words some = sym (append_assoc (word_at words f) (continued (word_texts words fields)) (10 ∷ []))
 
 -- one packet more
 pub trace_push : (packets : List Packet) (packet : Packet) → trace_text (packets ++ packet ∷ []) ≡ trace_text packets

@@ -1,7 +1,7 @@
 -- The text of a trace: a header with the names of all fields, and a line for each packet.
 use Rattle.std.specs.Prelude.{ℕ, ◌-◌, ◌^◌, ◌==◌, List, [], ◌∷◌, ◌++◌, codes, decimal, flat_map}
-use Rattle.std.specs.Prelude.{if◌then◌else◌, map}
-use Rattle.marple_base.specs.Field.{all_fields, field_name}
+use Rattle.std.specs.Prelude.{if◌then◌else◌, map, slice_index}
+use Rattle.marple_base.specs.Field.{all_fields, field_name, number_of}
 use Rattle.marple_base.specs.declared.field.Field.{Field}
 use Rattle.marple_base.specs.declared.field.Field.TheVariants.{Tout}
 use Rattle.marple_base.specs.declared.field.Packet.{Packet}
@@ -11,11 +11,9 @@ abbrev pub word_text : Field → ℕ → List ℕ
 word_text Tout word = if word == 2 ^ 64 - 1 then codes "inf" else decimal word
 word_text field word = decimal word
 
--- a word for each field
-abbrev pub texts_of : List Field → List ℕ → List (List ℕ)
-texts_of [] words = []
-texts_of (field ∷ fields) [] = []
-texts_of (field ∷ fields) (word ∷ words) = word_text field word ∷ texts_of fields words
+-- the texts of a packet's words of these fields
+abbrev pub word_texts : List ℕ → List Field → List (List ℕ)
+word_texts words fields = map (λ field. word_text field (slice_index words (number_of field))) fields
 
 -- further parts, each with a comma before it
 abbrev pub continued : List (List ℕ) → List ℕ
@@ -33,8 +31,12 @@ line parts = joined parts ++ 10 ∷ []
 abbrev pub header : List (List ℕ)
 header = map field_name all_fields
 
+-- the line of a packet with these words
+abbrev pub fields_line : List Field → List ℕ → List ℕ
+fields_line fields words = line (word_texts words fields)
+
 abbrev pub packet_texts : Packet → List (List ℕ)
-packet_texts packet = texts_of all_fields packet.words
+packet_texts packet = word_texts packet.words all_fields
 
 -- The text of the packets.
 abbrev pub trace_text : List Packet → List ℕ

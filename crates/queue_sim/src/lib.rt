@@ -8,5 +8,5 @@ mod text;
 mod writing;
 
 pub use generator::simulate;
-pub use text::{texts_read_back, trace_text};
+pub use text::{LineBuffer, texts_read_back, trace_text};
 pub use writing::{WriteError, write_trace};

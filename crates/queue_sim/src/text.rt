@@ -1,8 +1,8 @@
 //! The text of a trace.
 
-ghost use Rattle.std.specs.Prelude.{◌≡◌, ◌+◌, ◌≤◌, ◌<◌, ◌∷◌, ◌++◌, IfOk, drop};
+ghost use Rattle.std.specs.Prelude.{◌≡◌, ◌+◌, ◌≤◌, ◌<◌, ◌∷◌, ◌++◌, IfOk, drop, length};
 ghost use Rattle.queue_sim.specs.ReadBack.{TextsReadBack};
-ghost use Rattle.queue_sim.specs.TraceText.{line, packet_texts, trace_text, word_text};
+ghost use Rattle.queue_sim.specs.TraceText.{fields_line, trace_text, word_text};
 
 use itoa::write_digits;
 use marple_base::{FIELDS, Field, Packet, Seq, Text};
@@ -17,7 +17,7 @@ const LONGEST_LINE: usize = FIELDS * 21;
 
 /// Room for the line of a packet, which is written from its end to its beginning.
 #[derive(Clone, Copy)]
-pub(crate) struct LineBuffer {
+pub struct LineBuffer {
     bytes: [u8; LONGEST_LINE],
 }
 
@@ -48,22 +48,27 @@ fn put_word(bytes: &mut [u8; LONGEST_LINE], end: usize, field: Field, word: u64)
 }
 
 impl LineBuffer {
-    pub(crate) fn new() -> LineBuffer {
+    /// Room for any line.
+    pub fn new() -> LineBuffer {
         LineBuffer {
             bytes: [0; LONGEST_LINE],
         }
     }
 
-    /// The line of a packet.
-    pub(crate) fn format(&mut self, packet: &Packet) -> &[u8]
-        ensures { result.now ≡ line (packet_texts packet.now) }
+    /// The line of a packet: its words of these fields, with a comma between each two.
+    pub fn format(&mut self, fields: &[Field], packet: &Packet) -> &[u8]
+        requires some { 0 < length fields.now }
+        requires few { length fields.now ≤ FIELDS }
+        ensures { result.now ≡ fields_line fields.now packet.now.words }
     {
         let mut start = put_byte(&mut self.bytes, LONGEST_LINE, b'\n');
-        for i in (1..FIELDS).rev() {
-            start = put_word(&mut self.bytes, start, Field::ALL[i], packet.words[i]);
+        for i in (1..fields.len()).rev() {
+            let field = fields[i];
+            start = put_word(&mut self.bytes, start, field, packet.words[field.number()]);
             start = put_byte(&mut self.bytes, start, b',');
         }
-        start = put_word(&mut self.bytes, start, Field::Switch, packet.words[0]);
+        let field = fields[0];
+        start = put_word(&mut self.bytes, start, field, packet.words[field.number()]);
         &self.bytes[start..]
     }
 }
@@ -75,7 +80,7 @@ pub fn trace_text(alloc: Global, packets: &Seq<Packet>) -> Result<Text, AllocErr
     let mut text = Text::from_slice(alloc, HEADER)?;
     let mut line = LineBuffer::new();
     for packet in packets.as_slice() {
-        text.push_slice(line.format(packet))?;
+        text.push_slice(line.format(&Field::ALL, packet))?;
     }
     Ok(text)
 }

@@ -11,7 +11,7 @@ ghost use Rattle.queue_sim.specs.declared.writing.WriteError.TheVariants.{Failed
 
 use crate::generator::Generator;
 use crate::text::{HEADER, LineBuffer};
-use marple_base::{Failed, Sink, write_all};
+use marple_base::{Failed, Field, Sink, write_all};
 use std::alloc::{AllocError, Global};
 
 /// Why a trace wasn't written whole.
@@ -79,7 +79,7 @@ pub fn write_trace<O: Sink>(
     let mut line = LineBuffer::new();
     for _packet in 0..packets {
         let packet = generator.next()?;
-        add_line(&mut waiting, line.format(&packet), out)?;
+        add_line(&mut waiting, line.format(&Field::ALL, &packet), out)?;
     }
     write_all(out, waiting.as_slice())?;
     Ok(())

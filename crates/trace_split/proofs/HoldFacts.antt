@@ -11,7 +11,8 @@ use Rattle.marple_base.specs.declared.field.Packet.{Packet}
 use Rattle.marple_base.specs.Pieces.{TakesAllBut}
 use Rattle.marple_base.proofs.Pieces.{front_is_taken, front_taken, goes_on, more_waits, none_taken, none_waits, rest_taken, then}
 use Rattle.trace_split.specs.Holding.{Holds, TakeFronts, TakeTexts, Taken}
-use Rattle.part_texts.specs.Texts.{fields_line, lines_of, packets_of_part}
+use Rattle.queue_sim.specs.TraceText.{fields_line}
+use Rattle.part_texts.specs.Texts.{lines_of, packets_of_part}
 use Rattle.part_texts.proofs.TextFacts.{body_of, one_here, one_there, text_append}
 use Rattle.trace_split.proofs.ListFacts.{set_here, set_there}
 

@@ -10,7 +10,8 @@ use crate::parts::{Parts, add_line, write_part};
 use crate::splitting::{Splitting, fields_in, part_of, written_fields};
 use crate::waiting::Waiting;
 use marple_base::{Field, FieldSet, Packet, Steps, WriteError};
-use part_texts::{LineBuffer, header_line};
+use part_texts::header_line;
+use queue_sim::LineBuffer;
 use std::alloc::{AllocError, Global};
 use std::sync::ledger::Ledger;
 

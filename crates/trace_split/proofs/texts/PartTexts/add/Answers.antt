@@ -1,7 +1,8 @@
 use Rattle.std.proofs.Common.{◌≡◌, ◌++◌, ◌∷◌, ◌∙◌, [], List, Some, ap, arith, length, refl, set, slice_get, subst}
 use Rattle.std.proofs.lemmas.Option.{slice_get_read}
 use Rattle.marple_base.specs.declared.field.Packet.{Packet}
-use Rattle.part_texts.specs.Texts.{fields_line, part_by_hash}
+use Rattle.queue_sim.specs.TraceText.{fields_line}
+use Rattle.part_texts.specs.Texts.{part_by_hash}
 use Rattle.marple_base.specs.Pieces.{TakesAllBut}
 use Rattle.marple_base.specs.Sink.{TakesFront}
 use Rattle.trace_split.specs.Holding.{Holds, TakeFronts, Taken}
