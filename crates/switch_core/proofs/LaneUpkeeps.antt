@@ -12,7 +12,7 @@ use Rattle.switch_core.specs.Upkeeps.{upkeep_events}
 use Rattle.switch_core.specs.declared.upkeep.Upkeep.{Upkeep}
 use Rattle.switch_core.proofs.Carrying.{makes_all, sizes_kept}
 use Rattle.switch_core.proofs.LaneFacts.{got_set}
-use Rattle.switch_core.proofs.SideBySide.{Done, Untouched, each_both, each_set, same_some}
+use Rattle.switch_core.proofs.SideBySide.{Done, Untouched, done_next, each_both, each_set, same_some}
 use Rattle.switch_core.proofs.Standing.{by_test}
 
 -- what events make of a front and its store they make of the lane
@@ -39,6 +39,17 @@ others_stay P lanes i new within before here n below lane e = elim (cases_eq n i
       subst P (same_some new lane (sym (got_set lanes i new within) ∙ (ap (slice_get (set lanes i new)) (sym same) ∙ e))) here
   | inr apart ↦ before n (omega arith) lane (sym (got_other lanes i n new apart) ∙ e)
 ]
+
+-- one lane more makes the events of its upkeep
+pub made_at : (ways : ℕ) (upkeep : Upkeep) (i : ℕ) (old now : List LaneView) (lane new : LaneView)
+    → Done (λ n. LaneMakes ways (upkeeps_at upkeep old n)) i old now → slice_get old i ≡ Some lane
+    → CarriesAll ghosts.stands ghosts.folding ways (upkeep_events upkeep lane.cache lane.pipe) lane new
+    → Done (λ n. LaneMakes ways (upkeeps_at upkeep old n)) (i + 1) old (set now i new)
+made_at ways upkeep i old now lane new done was carries =
+    let made : LaneMakes ways (upkeeps_at upkeep old i) lane new =
+    subst (λ events. LaneMakes ways events lane new) (ap (upkeep_at upkeep) (sym was)) (lane_carries ways _ lane new carries) in
+    done_next (λ n. LaneMakes ways (upkeeps_at upkeep old n)) i old now new done
+    (λ x e. subst (λ v. LaneMakes ways (upkeeps_at upkeep old i) v new) (same_some lane x (sym was ∙ e)) made)
 
 -- the events of the lanes up to one that broke off
 

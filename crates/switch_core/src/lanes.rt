@@ -11,6 +11,7 @@ ghost use Rattle.switch_core.specs.Pipelines.{event_at};
 ghost use Rattle.switch_core.specs.PlanLanes.{AreKept, AtLane, LanesBreakOff, LanesMake};
 ghost use Rattle.switch_core.specs.PlanLanes.{lane_is_ready, lane_merge_cost, lane_upkeep_cost, upkeeps_at};
 
+use crate::fetching::read_stores;
 use crate::front::Merged;
 use crate::lane::Lane;
 use crate::upkeep::Upkeep;
@@ -69,11 +70,13 @@ pub fn merge_at<const WAYS: usize, L: Ledger>(
     lane.merge(steps)
 }
 
-/// Does what is due at each lane, lane by lane.
+/// Does what is due at each lane, lane by lane. A query mostly has one groupby, for which there is nothing to fetch and no loop.
+/// What several lanes fetch is kept in `room`, of which no word means anything.
 #[inline(always)]
 pub fn keep_lanes<const WAYS: usize, L: Ledger>(
     lanes: &mut [Lane<AnyEpochs, WAYS>],
     upkeep: Upkeep,
+    room: &mut [u64],
     steps: &mut Steps<L>,
 ) -> Result<(), AllocError>
     ensures makes { OnOk result (LanesMake WAYS (upkeeps_at upkeep lanes.old) lanes.old lanes.new) }
@@ -82,6 +85,11 @@ pub fn keep_lanes<const WAYS: usize, L: Ledger>(
     ensures steps { steps.old ≤ steps.new }
     ensures cost { steps.new ≤ steps.old + sum_by (lane_upkeep_cost upkeep) lanes.old }
 {
+    if lanes.len() == 1 {
+        let lane = &mut lanes[0];
+        return lane.keep_up(upkeep, steps);
+    }
+    read_stores(upkeep, lanes, room);
     for i in 0..lanes.len() {
         let lane = &mut lanes[i];
         lane.keep_up(upkeep, steps)?;

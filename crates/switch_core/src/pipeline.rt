@@ -19,7 +19,7 @@ ghost use Rattle.switch_core.specs.PlanLanes.{AreKept, AreLanesOf, AtLane, HaveP
 ghost use Rattle.switch_core.specs.PlanLanes.{PipelineStands, UpkeepBreaksOff, folding_at, lane_is_drained, lane_is_ready};
 ghost use Rattle.switch_core.specs.PlanLanes.{lane_merge_cost, lane_sweep_cost, lane_upkeep_cost, pipeline_cost, stored_tables, upkeeps_at};
 
-use crate::fetching::{read_caches, read_stores};
+use crate::fetching::read_caches;
 use crate::front::Merged;
 use crate::lane::Lane;
 use crate::lanes::{all_drained, all_ready, evict_at, keep_lanes, merge_at};
@@ -219,8 +219,7 @@ impl<const WAYS: usize> Pipeline<WAYS> {
         ensures steps { steps.old ≤ steps.new }
         ensures cost { steps.new ≤ steps.old + sum_by (lane_upkeep_cost upkeep) self.old.lanes }
     {
-        read_stores(upkeep, &self.lanes, &mut self.args);
-        keep_lanes(&mut self.lanes, upkeep, steps)
+        keep_lanes(&mut self.lanes, upkeep, &mut self.args, steps)
     }
 
     /// Closes all open epochs: for each lane and each bucket in ascending order it evicts until the bucket is empty, with

@@ -1,10 +1,10 @@
 -- Each lane makes the events of its upkeep, in order.
-use Rattle.std.proofs.Common.{◌<◌, ◌+◌, length, set, get_or, sym, ap, ◌∙◌, subst, arith}
-use Rattle.switch_core.specs.PlanLanes.{LaneMakes, LanesBreakOff, lane_upkeep_cost, upkeep_at, upkeeps_at}
+use Rattle.std.proofs.Common.{◌<◌, ◌+◌, length, set, get_or, arith}
+use Rattle.switch_core.specs.PlanLanes.{LaneMakes, LanesBreakOff, LanesMake, lane_upkeep_cost, upkeeps_at}
 use Rattle.switch_core.specs.Upkeeps.{IsKept}
-use Rattle.switch_core.proofs.LaneFacts.{err_holds}
-use Rattle.switch_core.proofs.LaneUpkeeps.{breaks_off_at, lane_carries, others_stay}
-use Rattle.switch_core.proofs.SideBySide.{got_below, got_here, same_some, done_start, untouched_start, done_next, untouched_next}
+use Rattle.switch_core.proofs.LaneFacts.{err_holds, on_err, on_ok}
+use Rattle.switch_core.proofs.LaneUpkeeps.{breaks_off_at, made_at, others_stay}
+use Rattle.switch_core.proofs.SideBySide.{got_below, got_here, done_start, untouched_start, untouched_next}
 use Rattle.switch_core.proofs.SideBySide.{untouched_was, done_end, sum_next}
 use Rattle.switch_core.proofs.SweepCosts.{sum_within}
 use Rattle.switch_core.proofs.lanes.keep_lanes.Goals as goal
@@ -23,22 +23,18 @@ loop-i-preserved g c =
     let i = c.loop-i.i in
     let first = c.args.lanes.now in
     let lane = get_or c.loop-i.lanes i c.index-lanes-i.result in
-    let new = c.keep_up.new.self in
+    let new = c.keep_up-in-loop-i.new.self in
     let kept = c.loop-i.auto.lanes in
     let below : i < length c.loop-i.lanes = let b = c.loop-i-test.true in omega arith in
     let was = untouched_was i first c.loop-i.lanes lane c.loop-i.invariant.same (omega arith)
     (got_here c.loop-i.lanes i c.index-lanes-i.result below) in
-    let made : LaneMakes g.row.WAYS (upkeeps_at c.args.upkeep first i) lane new =
-    subst (λ events. LaneMakes g.row.WAYS events lane new) (ap (upkeep_at c.args.upkeep) (sym was))
-    (lane_carries g.row.WAYS _ lane new c.in_ok-keep_up.ensures.carries) in
     record {
-      makes = done_next (λ n. LaneMakes g.row.WAYS (upkeeps_at c.args.upkeep first n)) i first c.loop-i.lanes new c.loop-i.invariant.makes
-          (λ x e. subst (λ v. LaneMakes g.row.WAYS (upkeeps_at c.args.upkeep first i) v new) (same_some lane x (sym was ∙ e)) made);
+      makes = made_at g.row.WAYS c.args.upkeep i first c.loop-i.lanes lane new c.loop-i.invariant.makes was c.in_ok-keep_up.ensures.carries;
       same = untouched_next i first c.loop-i.lanes new c.loop-i.invariant.same;
       left = others_stay (λ x. IsKept c.args.upkeep x.cache x.pipe) c.loop-i.lanes i new below c.loop-i.invariant.left
           c.in_ok-keep_up.ensures.left;
-      later = let a = c.keep_up.ensures.steps in let b = c.loop-i.invariant.later in omega arith;
-      cost = let s = sum_next (lane_upkeep_cost c.args.upkeep) first i lane was in let a = c.keep_up.ensures.cost in let b =
+      later = let a = c.keep_up-in-loop-i.ensures.steps in let b = c.loop-i.invariant.later in omega arith;
+      cost = let s = sum_next (lane_upkeep_cost c.args.upkeep) first i lane was in let a = c.keep_up-in-loop-i.ensures.cost in let b =
           c.loop-i.invariant.cost in omega arith;
     }
 
@@ -47,7 +43,7 @@ returns-in_err-keep_up-clause-breaks_off g c =
     let i = c.loop-i.i in
     let first = c.args.lanes.now in
     let lane = get_or c.loop-i.lanes i c.index-lanes-i.result in
-    let new = c.keep_up.new.self in
+    let new = c.keep_up-in-loop-i.new.self in
     let kept = c.loop-i.auto.lanes in
     let below : i < length c.loop-i.lanes = let b = c.loop-i-test.true in omega arith in
     let was = untouched_was i first c.loop-i.lanes lane c.loop-i.invariant.same (omega arith)
@@ -66,7 +62,7 @@ returns-in_err-keep_up-clause-cost g c =
     let was = untouched_was i first c.loop-i.lanes lane c.loop-i.invariant.same (omega arith)
     (got_here c.loop-i.lanes i c.index-lanes-i.result below) in
     let s = sum_next (lane_upkeep_cost c.args.upkeep) first i lane was in
-    let a = c.keep_up.ensures.cost in
+    let a = c.keep_up-in-loop-i.ensures.cost in
     let b = c.loop-i.invariant.cost in
     let all = sum_within (lane_upkeep_cost c.args.upkeep) (i + 1) first in
     omega arith
@@ -86,3 +82,27 @@ returns-clause-left g c n lane e =
 
 pub returns-clause-cost : goal.returns-clause-cost
 returns-clause-cost g c = omega (arith, sum_within (lane_upkeep_cost c.args.upkeep) c.loop-i.i c.args.lanes.now, c.loop-i.invariant.cost)
+
+pub returns-then-lanes-eq1-clause-makes : goal.returns-then-lanes-eq1-clause-makes
+returns-then-lanes-eq1-clause-makes g c =
+    let first = c.args.lanes.now in
+    let new = c.keep_up.new.self in
+    let one = c.if-lanes-eq1.true in
+    let lane = get_or first 0 c.index-lanes-0.result in
+    on_ok _ (LanesMake g.row.WAYS (upkeeps_at c.args.upkeep first) first (set first 0 new)) c.keep_up.result
+    (λ carries. done_end (λ n. LaneMakes g.row.WAYS (upkeeps_at c.args.upkeep first n)) 1 first (set first 0 new)
+    (made_at g.row.WAYS c.args.upkeep 0 first first lane new
+    (done_start (λ n. LaneMakes g.row.WAYS (upkeeps_at c.args.upkeep first n)) 0 first)
+    (got_here first 0 c.index-lanes-0.result (omega arith)) carries)
+    (omega arith)) c.keep_up.ensures.carries
+
+pub returns-then-lanes-eq1-clause-breaks_off : goal.returns-then-lanes-eq1-clause-breaks_off
+returns-then-lanes-eq1-clause-breaks_off g c =
+    let first = c.args.lanes.now in
+    let new = c.keep_up.new.self in
+    let one = c.if-lanes-eq1.true in
+    let lane = get_or first 0 c.index-lanes-0.result in
+    on_err _ (LanesBreakOff g.row.WAYS c.args.upkeep first (set first 0 new)) c.keep_up.result
+    (breaks_off_at g.row.WAYS c.args.upkeep 0 first first lane new
+    (done_start (λ n. LaneMakes g.row.WAYS (upkeeps_at c.args.upkeep first n)) 0 first) (untouched_start 0 0 first)
+    (got_here first 0 c.index-lanes-0.result (omega arith))) c.keep_up.ensures.breaks_off

@@ -12,14 +12,14 @@ use Rattle.switch_core.proofs.pipeline.Pipeline.keep_up.Goals as goal
 pub invariant_of-self : goal.invariant_of-self
 invariant_of-self g c =
     let p = c.self.inside in
-    let was = c.deref_mut-2.result.now in
+    let was = c.deref_mut.result.now in
     let new = c.keep_lanes.new.lanes in
     let whole : take p.lanes.len (new ++ drop (length new) p.lanes.items) ≡ new =
-    whole_written new (drop (length new) p.lanes.items) p.lanes.len (c.keep_lanes.auto.lanes ∙ c.deref_mut-2.ensures.len) in
+    whole_written new (drop (length new) p.lanes.items) p.lanes.len (c.keep_lanes.auto.lanes ∙ c.deref_mut.ensures.len) in
     let are : AreLanesOf p.entries p.plan p.buckets was = subst (AreLanesOf p.entries p.plan p.buckets)
-    (sym c.deref_mut-2.ensures.value) c.self.invariant.lanes in
+    (sym c.deref_mut.ensures.value) c.self.invariant.lanes in
     let within : Each IsMadeFor was p.plan.groups = subst (λ x. Each IsMadeFor x p.plan.groups)
-    (sym c.deref_mut-2.ensures.value) c.self.invariant.made in
+    (sym c.deref_mut.ensures.value) c.self.invariant.made in
     let all = upkeeps_at c.args.upkeep was in
     let kept : (events : ℕ → List Event) → LanesMake g.row.WAYS events was new → AreLanesOf p.entries p.plan p.buckets new =
     λ events made. lanes_kept (λ n. LaneMakes g.row.WAYS (events n))
@@ -37,7 +37,7 @@ invariant_of-self g c =
     (Each IsMadeFor new p.plan.groups) c.keep_lanes.result
     c.keep_lanes.ensures.makes c.keep_lanes.ensures.breaks_off (bounded all)
     (λ broke. bounded (upkeeps_until c.args.upkeep was broke.0 broke.1) broke.3) in
-    let room = c.read_stores.new.room in
+    let room = c.keep_lanes.new.room in
     record {
       lanes = subst (AreLanesOf p.entries p.plan p.buckets) (sym whole) lanes;
       made = subst (λ x. Each IsMadeFor x p.plan.groups) (sym whole) made;
@@ -45,8 +45,8 @@ invariant_of-self g c =
         for_row = c.self.invariant.rooms.for_row;
         for_key = c.self.invariant.rooms.for_key;
         for_args = ap length (whole_written room (drop (length room) p.args.items) p.args.len
-            (c.read_stores.auto.room ∙ c.deref_mut.ensures.len))
-            ∙ (c.read_stores.auto.room ∙ (ap length c.deref_mut.ensures.value ∙ c.self.invariant.rooms.for_args));
+            (c.keep_lanes.auto.room ∙ c.deref_mut-2.ensures.len))
+            ∙ (c.keep_lanes.auto.room ∙ (ap length c.deref_mut-2.ensures.value ∙ c.self.invariant.rooms.for_args));
       };
       few_ways = c.self.invariant.few_ways;
     }
@@ -54,10 +54,10 @@ invariant_of-self g c =
 pub returns-clause-makes : goal.returns-clause-makes
 returns-clause-makes g c =
     let p = c.self.inside in
-    let was = c.deref_mut-2.result.now in
+    let was = c.deref_mut.result.now in
     let new = c.keep_lanes.new.lanes in
     let whole : take p.lanes.len (new ++ drop (length new) p.lanes.items) ≡ new =
-    whole_written new (drop (length new) p.lanes.items) p.lanes.len (c.keep_lanes.auto.lanes ∙ c.deref_mut-2.ensures.len) in
+    whole_written new (drop (length new) p.lanes.items) p.lanes.len (c.keep_lanes.auto.lanes ∙ c.deref_mut.ensures.len) in
     let after : PipelineView = record {
       plan = p.plan;
       entries = p.entries;
@@ -70,7 +70,7 @@ returns-clause-makes g c =
     (λ made.
     let lanes : LanesMake g.row.WAYS (upkeeps_at c.args.upkeep p.lanes.items) p.lanes.items after.lanes =
     subst (LanesMake g.row.WAYS (upkeeps_at c.args.upkeep p.lanes.items) p.lanes.items) (sym whole)
-    (subst (λ x. LanesMake g.row.WAYS (upkeeps_at c.args.upkeep x) x new) c.deref_mut-2.ensures.value made) in
+    (subst (λ x. LanesMake g.row.WAYS (upkeeps_at c.args.upkeep x) x new) c.deref_mut.ensures.value made) in
     subst (λ (v : PipelineView). PipelineMakes g.row.WAYS (upkeeps_at c.args.upkeep v.lanes) v after) c.self.view_is
     (pipeline_makes g.row.WAYS (upkeeps_at c.args.upkeep p.lanes.items) p.entries p.plan p.buckets p.lanes.items after.lanes
     c.self.invariant.lanes lanes))
@@ -79,10 +79,10 @@ returns-clause-makes g c =
 pub returns-clause-breaks_off : goal.returns-clause-breaks_off
 returns-clause-breaks_off g c =
     let p = c.self.inside in
-    let was = c.deref_mut-2.result.now in
+    let was = c.deref_mut.result.now in
     let new = c.keep_lanes.new.lanes in
     let whole : take p.lanes.len (new ++ drop (length new) p.lanes.items) ≡ new =
-    whole_written new (drop (length new) p.lanes.items) p.lanes.len (c.keep_lanes.auto.lanes ∙ c.deref_mut-2.ensures.len) in
+    whole_written new (drop (length new) p.lanes.items) p.lanes.len (c.keep_lanes.auto.lanes ∙ c.deref_mut.ensures.len) in
     let after : PipelineView = record {
       plan = p.plan;
       entries = p.entries;
@@ -93,7 +93,7 @@ returns-clause-breaks_off g c =
     on_err (LanesBreakOff g.row.WAYS c.args.upkeep was new)
     (UpkeepBreaksOff g.row.WAYS c.args.upkeep c.args.self.now after) c.keep_lanes.result
     (λ broke.
-    let first = subst (λ x. LanesBreakOff g.row.WAYS c.args.upkeep x new) c.deref_mut-2.ensures.value broke in
+    let first = subst (λ x. LanesBreakOff g.row.WAYS c.args.upkeep x new) c.deref_mut.ensures.value broke in
     let until = upkeeps_until c.args.upkeep p.lanes.items first.0 first.1 in
     let lanes : LanesMake g.row.WAYS until p.lanes.items after.lanes = subst (LanesMake g.row.WAYS until p.lanes.items)
     (sym whole) first.3 in
@@ -110,11 +110,11 @@ returns-clause-left g c =
     let p = c.self.inside in
     let new = c.keep_lanes.new.lanes in
     let whole : take p.lanes.len (new ++ drop (length new) p.lanes.items) ≡ new =
-    whole_written new (drop (length new) p.lanes.items) p.lanes.len (c.keep_lanes.auto.lanes ∙ c.deref_mut-2.ensures.len) in
+    whole_written new (drop (length new) p.lanes.items) p.lanes.len (c.keep_lanes.auto.lanes ∙ c.deref_mut.ensures.len) in
     subst (λ lanes. OnOk c.keep_lanes.result (AreKept c.args.upkeep lanes)) (sym whole) c.keep_lanes.ensures.left
 
 pub returns-clause-cost : goal.returns-clause-cost
 returns-clause-cost g c =
     subst (λ (v : PipelineView). c.keep_lanes.new.steps ≤ c.args.steps.now + sum_by (lane_upkeep_cost c.args.upkeep) v.lanes) c.self.view_is
     (subst (λ xs. c.keep_lanes.new.steps ≤ c.args.steps.now + sum_by
-    (lane_upkeep_cost c.args.upkeep) xs) c.deref_mut-2.ensures.value c.keep_lanes.ensures.cost)
+    (lane_upkeep_cost c.args.upkeep) xs) c.deref_mut.ensures.value c.keep_lanes.ensures.cost)
