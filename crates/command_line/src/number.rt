@@ -4,7 +4,7 @@ ghost use Rattle.std.specs.Prelude.{◌≡◌, ◌^◌, ◌<◌, ◌≤◌, IfSo
 ghost use Rattle.command_line.specs.Number.{number_read, number_within};
 
 /// The number that 1 to 20 digits spell.
-pub fn number(text: &[u8]) -> Option<u128>
+pub fn number_read(text: &[u8]) -> Option<u128>
     ensures { result ≡ number_read text.now }
 {
     if text.is_empty() || text.len() > 20 {
@@ -25,7 +25,7 @@ pub fn number_within(least: u32, most: u32, word: &[u8]) -> Option<u32>
     ensures value { result ≡ number_within least most word.now }
     ensures within { IfSome result (λ n. (least ≤ n) × (n ≤ most)) }
 {
-    let value = number(word)?;
+    let value = number_read(word)?;
     if value < u128::from(least) || value > u128::from(most) {
         return None;
     }

@@ -1,7 +1,7 @@
 use Rattle.std.proofs.Common.{◌≡◌, ◌<◌, ◌^◌, true, take}
 use Rattle.std.specs.List.{list_all}
 use Rattle.command_line.specs.Number.{is_decimal_digit, decimal_value}
-use Rattle.command_line.proofs.number.number.Given as goal
+use Rattle.command_line.proofs.number.number_read.Given as goal
 
 abbrev pub invariant-loop-byte : goal.invariant-loop-byte
 invariant-loop-byte l = record {
