@@ -1,4 +1,7 @@
-use Rattle.std.proofs.Common.{ap}
+use Rattle.std.proofs.Common.{◌<◌, ◌≤◌, ◌+◌, [], length, drop, ap, refl, sym, subst, ◌∙◌, lit<, arith}
+use Rattle.query_lang.specs.declared.fault.TheConstants.{MAX_KEYS}
+use Rattle.std.proofs.lemmas.List.{length-replicate}
+use Rattle.switch_core.proofs.LaneFacts.{whole_written}
 use Rattle.switch_core.proofs.LaneSteps.{front_empty}
 use Rattle.epoch_model.proofs.Endings.{no_value}
 use Rattle.switch_core.proofs.front.Front.new.Goals as goal
@@ -31,3 +34,50 @@ returns-in_err-initial g c =
     let r = c.from_residual-in_err-initial.result in
     let e = c.from_residual-in_err-initial.ensures.0 in
     record { stands = no_value r _ e; kind = no_value r _ e; buckets = no_value r _ e; places = no_value r _ e; key = no_value r _ e }
+
+pub new-requires : goal.new-requires
+new-requires g c =
+    let entry : c.entry_words-entry_words.result ≤ 512 = omega (arith, c.entry_words-entry_words.ensures, c.requires.entry) in
+    (lit< tt, (c.requires.ways, (c.requires.buckets, (c.requires.places, (c.requires.key, entry)))))
+
+pub new-requires-2-clause-places : goal.new-requires-2-clause-places
+new-requires-2-clause-places g c = c.requires.pipe
+
+pub new-requires-2-clause-words : goal.new-requires-2-clause-words
+new-requires-2-clause-words g c = (
+  omega (arith, c.requires.key.0),
+  omega (arith, c.entry_words-entry_words.ensures, c.requires.entry),
+)
+
+pub initial-requires : goal.initial-requires
+initial-requires g c = c.deref_mut.ensures.len ∙ c.in_ok-initial.ensures.len ∙ c.state_words.ensures
+
+pub invariant_of-result : goal.invariant_of-result
+invariant_of-result g c =
+    let cache = c.in_ok-cache.ensures in
+    let pipe = c.in_ok-pipe.ensures in
+    let state = c.initial.new.state in
+    let words = c.initial.auto.state ∙ c.deref_mut.ensures.len in
+    let whole = whole_written state (drop (length state) c.in_ok-initial.initial.items) c.in_ok-initial.initial.len words in
+    record {
+      front = record {
+        some_ways = c.requires.ways;
+        some_buckets = subst (λ k. 0 < length k.lists) (sym cache) (subst (λ n. 0 < n) (sym (length-replicate c.args.buckets [])) c.requires.buckets);
+        some_places = subst (λ p. 0 < p.places) (sym pipe) c.requires.pipe.0;
+        entry = ap (λ k. k.entry_words) cache ∙ c.entry_words-entry_words.ensures;
+        record_words = ap (λ p. p.record_words) pipe ∙ sym (ap (λ k. k.key_words + k.entry_words) cache);
+        few_key_words = subst (λ k. k.key_words ≤ MAX_KEYS) (sym cache) c.requires.key.1;
+      };
+      scratch_words = omega (arith, c.in_ok-scratch.scratch.ok, c.in_ok-scratch.ensures.len, c.scratch_words.ensures);
+      initial_words = ap length whole ∙ words ∙ c.in_ok-initial.ensures.len ∙ c.state_words.ensures;
+      initial_state = whole ∙ c.initial.ensures;
+    }
+
+pub returns-clause-kind : goal.returns-clause-kind
+returns-clause-kind g c = refl
+
+pub returns-clause-places : goal.returns-clause-places
+returns-clause-places g c = ap (λ p. p.places) c.in_ok-pipe.ensures
+
+pub returns-clause-key : goal.returns-clause-key
+returns-clause-key g c = ap (λ k. k.key_words) c.in_ok-cache.ensures
