@@ -1,7 +1,8 @@
 use Rattle.std.proofs.Common.{◌≡◌, ◌+◌, ◌++◌, [], ◌∷◌, length, take, sym, ap, ◌∙◌, subst, arith, lit<, ℕ}
-use Rattle.std.proofs.lemmas.List.{length-take-le}
+use Rattle.std.proofs.lemmas.List.{length-take-le, take_all}
 use Rattle.std.proofs.lemmas.List.Elements.{All-append, All-cons, All-nil}
 use Rattle.epoch_model.specs.Machine.{empty_machine}
+use Rattle.epoch_model.proofs.Endings.{no_value}
 use Rattle.epoch_entry.specs.contracts.any.AnyEpochsEpochKind.TheImpl.{ghosts}
 use Rattle.stage_plan.specs.declared.group.GroupPlan.{GroupPlan}
 use Rattle.stage_plan.specs.Planned.{wiring_at}
@@ -67,4 +68,43 @@ loop-i-preserved g c =
           (each_push (λ n. StandsFor) 0 lanes (empty_machines (geometry_without_refresh g.row.WAYS c.args.buckets) (take i plan.groups))
           lane
           (empty_machine (geometry_without_refresh g.row.WAYS c.args.buckets)) c.loop-i.invariant.stands (λ n q. made.stands)));
+    }
+
+pub returns-in_err-lane : goal.returns-in_err-lane
+returns-in_err-lane g c =
+    let r = c.from_residual.result in
+    let e = c.from_residual.ensures.0 in
+    record { lanes = no_value r _ e; made = no_value r _ e; pipe_places = no_value r _ e; stands = no_value r _ e }
+
+pub returns-in_err-push : goal.returns-in_err-push
+returns-in_err-push g c =
+    let r = c.from_residual-in_err-push.result in
+    let e = c.from_residual-in_err-push.ensures.0 in
+    record { lanes = no_value r _ e; made = no_value r _ e; pipe_places = no_value r _ e; stands = no_value r _ e }
+
+pub loop-i-init : goal.loop-i-init
+loop-i-init g c =
+    let none = sym c.new-lanes.ensures.items in
+    let R : ℕ → LaneView → GroupPlan → Type 0 = λ n l x. IsLaneOf c.args.entries c.args.buckets l.cache (ghosts.sizes l.kind)
+    (ghosts.folding l.kind) (ghosts.open_bound l.kind) (ghosts.absorb_bound l.kind) x (wiring_at c.args.plan.now n) in
+    record {
+      lanes = subst (λ ls. EachFrom R 0 ls []) none tt;
+      made = subst (λ ls. Each IsMadeFor ls []) none tt;
+      pipe_places = subst (HavePlaces c.args.pipe_records) none (All-nil (λ l. l.pipe.places ≡ c.args.pipe_records));
+      stands = subst (λ ls. Each StandsFor ls []) none tt;
+    }
+
+pub returns : goal.returns
+returns g c =
+    let groups = c.args.plan.now.groups in
+    let lanes = c.loop-i.lanes.items in
+    let R : ℕ → LaneView → GroupPlan → Type 0 = λ n l x. IsLaneOf c.args.entries c.args.buckets l.cache (ghosts.sizes l.kind)
+    (ghosts.folding l.kind) (ghosts.open_bound l.kind) (ghosts.absorb_bound l.kind) x (wiring_at c.args.plan.now n) in
+    let all : take c.loop-i.i groups ≡ groups = take_all c.loop-i.i groups (omega (arith, c.loop-i-test.false, c.groups-i-end.ensures)) in
+    record {
+      lanes = subst (EachFrom R 0 lanes) all c.loop-i.invariant.lanes;
+      made = subst (Each IsMadeFor lanes) all c.loop-i.invariant.made;
+      pipe_places = c.loop-i.invariant.pipe_places;
+      stands = subst (λ gs. Each StandsFor lanes (empty_machines (geometry_without_refresh g.row.WAYS c.args.buckets) gs)) all
+          c.loop-i.invariant.stands;
     }
