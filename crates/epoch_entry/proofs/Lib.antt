@@ -13,3 +13,4 @@ pub mod MergeLemmas
 pub mod KindFacts
 pub mod TripleLemmas
 pub mod PurposeFacts
+pub mod Insides

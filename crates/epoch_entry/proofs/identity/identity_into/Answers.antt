@@ -1,8 +1,12 @@
-use Rattle.std.proofs.Common.{arith, ap, ◌∙◌}
+use Rattle.std.proofs.Common.{◌≡◌, ℕ, ◌+◌, ◌*◌, arith, ap, ◌∙◌, sym}
+use Rattle.std.proofs.Math.Nat.{mul_assoc}
 use Rattle.coeff_algebra.specs.Maps.{stored_at}
 use Rattle.coeff_algebra.proofs.PlaceLemmas.{rows_step}
 use Rattle.epoch_entry.specs.Identity.{unit_at}
 use Rattle.epoch_entry.proofs.identity.identity_into.Goals as goal
+
+all_rows : (first steps n row w : ℕ) → steps ≡ first + row * ((n + 1) * w) → row ≡ n → steps ≡ first + n * (n + 1) * w
+all_rows first steps n row w e h = e ∙ ap (λ k. first + k) (ap (λ r. r * ((n + 1) * w)) h ∙ sym (mul_assoc n (n + 1) w))
 
 pub loop-row-preserved : goal.loop-row-preserved
 loop-row-preserved g c =
@@ -17,3 +21,8 @@ pub returns-clause-entries : goal.returns-clause-entries
 returns-clause-entries g c i j hi hj =
     let m = g.C.Coeff in
     ap m.from_words (c.loop-row.invariant.entries i j (omega arith) hj) ∙ g.met.C.Coeff.storage.load_store (unit_at m.elements i j)
+
+pub returns-clause-steps : goal.returns-clause-steps
+returns-clause-steps g c =
+    let end : c.loop-row.row ≡ c.args.n = omega arith in
+    all_rows c.args.steps.now c.loop-row.steps c.args.n c.loop-row.row g.C.Coeff.WORDS c.loop-row.invariant.steps end

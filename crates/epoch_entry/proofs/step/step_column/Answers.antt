@@ -1,9 +1,39 @@
-use Rattle.std.proofs.Common.{◌≡◌, ◌≢◌, ℕ, ◌<◌, ◌≤◌, ◌+◌, ◌*◌, arith, List, length, slice_index, ap, ◌∙◌, subst}
+use Rattle.std.proofs.Common.{◌≡◌, ◌≢◌, ℕ, ◌<◌, ◌≤◌, ◌+◌, ◌*◌, arith, List, length, slice_index, ap, ◌∙◌, subst, sym}
 use Rattle.coeff_algebra.specs.Maps.{table_of, stored_entry}
 use Rattle.fold_class.specs.Step.{words_at}
+use Rattle.epoch_entry.specs.Shape.{IsAscending}
+use Rattle.epoch_entry.proofs.Insides.{inside_of}
 use Rattle.epoch_entry.proofs.StepWords.{column_moved}
 use Rattle.epoch_entry.proofs.StepSums.{five_rise, run_cost}
 use Rattle.epoch_entry.proofs.step.step_column.Goals as goal
+
+pub scatter-requires-clause-inside : goal.scatter-requires-clause-inside
+scatter-requires-clause-inside g c =
+    inside_of _ _ _ _ c.as_slice-places.ensures (c.split_at_mut-state.ensures.front_len ∙ c.len.ensures) c.requires.shape.history_inside
+
+pub scatter-requires-clause-ascending : goal.scatter-requires-clause-ascending
+scatter-requires-clause-ascending g c = subst IsAscending (sym c.as_slice-places.ensures) c.requires.shape.history_ascends
+
+pub column_to_state-requires-clause-map : goal.column_to_state-requires-clause-map
+column_to_state-requires-clause-map g c =
+    subst (λ (l : List ℕ). length c.args.map.now ≡ length l * (length l + 1) * g.C.Coeff.WORDS) (sym c.as_slice-linear.ensures)
+    c.requires.map
+
+pub column_to_state-requires-clause-inside : goal.column_to_state-requires-clause-inside
+column_to_state-requires-clause-inside g c =
+    inside_of _ _ _ _ c.as_slice-linear.ensures (c.scatter.auto.state ∙ (c.split_at_mut-state.ensures.front_len ∙ c.len.ensures))
+    c.requires.shape.linear_inside
+
+pub column_to_state-requires-clause-ascending : goal.column_to_state-requires-clause-ascending
+column_to_state-requires-clause-ascending g c = subst IsAscending (sym c.as_slice-linear.ensures) c.requires.shape.linear_ascends
+
+pub exec-requires-clause-arguments : goal.exec-requires-clause-arguments
+exec-requires-clause-arguments g c = c.requires.args ∙ sym c.requires.shape.code_args
+
+pub state_to_column-requires-clause-map : goal.state_to_column-requires-clause-map
+state_to_column-requires-clause-map g c =
+    subst (λ (l : List ℕ). length c.args.map.now ≡ length l * (length l + 1) * g.C.Coeff.WORDS) (sym c.as_slice-linear.ensures)
+    c.requires.map
 
 pub returns-clause-moves : goal.returns-clause-moves
 returns-clause-moves g c =
