@@ -21,7 +21,7 @@ COLUMNS = "| Wrong body | Crate | Edit | Refused by |\n|---|---|---|---|\n"
 # A place, with or without its line; then a goal, or what isn't proved with the goal's name at the end.
 ERROR = re.compile(r"(?:by a limit of the prover: )?(\S+?)(?::\d+:\d+)?: error: `([^`]+)`")
 UNPROVED = re.compile(r"(?:by a limit of the prover: )?(\S+?):\d+:\d+: it is not proved that (.*) \(`([^`]+)`\)")
-# Goals of functions that call one another begin with the function's name.
+# Goals of functions that call one another begin with the function's name; their proofs are in one folder, whose name begins with `+`.
 ENSURED = re.compile(r"(?:(\w+)-)?(returns\b.*)")
 ASKED = re.compile(r"what `([^`]+)` requires")
 # The file of the place with which a line begins.
@@ -110,7 +110,7 @@ def goal_of(said: str) -> Goal | None:
 
 def goal_at(place: str, goal: str, words: str) -> Goal:
     """The goal of this name at a place, of which the prover may have said in words what it is."""
-    ensured = ENSURED.fullmatch(goal) if words else None
+    ensured = ENSURED.fullmatch(goal) if words or place.startswith("`+") else None
     if ensured and ensured[1]:
         place, goal = f"`{ensured[1]}`", ensured[2]
     start, clause = goal.split("-", 1)[0], goal.partition("-clause-")[2]

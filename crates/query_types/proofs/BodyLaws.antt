@@ -17,11 +17,11 @@ use Rattle.query_lang.specs.Terms.{Term, Literal, term_of}
 use Rattle.query_lang.specs.Blocks.{Block, End, Set, Fork, followed, stmt_block, block_of}
 use Rattle.query_lang.specs.Folds.{IsValidTerm, IsValidBlock, IsValidEmit, ReadsArguments, is_condition, term_nodes, block_nodes}
 use Rattle.query_lang.specs.Folds.{block_count}
-use Rattle.query_lang.specs.Checks.{Checked, must_not, is_among, place_of}
+use Rattle.query_lang.specs.Checks.{Checked, must_not, is_among}
 use Rattle.query_lang.specs.TypedFolds.{target_at, target_of, or_else, state_in, joined, inside, emit_condition, no_state}
 use Rattle.query_lang.proofs.TreeLemmas.{term_number, term_not, term_binary, block_assign, block_if}
 use Rattle.query_lang.specs.declared.fault.TheConstants.{MAX_NODES, MAX_STATEMENTS}
-use Rattle.query_types.proofs.ExprLaws.{place_bound, IsConditionIn, IsWordIn}
+use Rattle.query_types.proofs.ExprLaws.{within_names, IsConditionIn, IsWordIn}
 
 pub must_not_ok : {A : Type 0} (test : Bool) (kind : FaultKind) (span : Span) (next : Checked A) (x : A)
     → must_not test kind span next ≡ Ok x → (test ≡ false) × (next ≡ Ok x)
@@ -88,15 +88,12 @@ pub record IsAround (states args most_nodes depth : ℕ) (outer : Enclosing) : T
   pub reads : outer.state ≡ None → IfSome outer.condition (λ e. ReadsArguments states (term_of e))
 
 pub target_bound : (states args : List ℕ) (name : Name) (v : ℕ) → target_of states args name ≡ Ok v → v < length states
-target_bound states args name v e = go (place_of states name.id) refl (is_among name.id args) e
+target_bound states args name v e =
+    within_names states name.id v (λ o. target_at o (is_among name.id args) name.span) (λ slot. refl) (none (is_among name.id args)) e
   where
-    go : (o : Option ℕ) → place_of states name.id ≡ o → (b : Bool) → target_at o b name.span ≡ Ok v → v < length states
-    go (Some slot) is b e =
-        let same : slot ≡ v = cc in
-        let h = place_bound states 0 name.id slot is in
-        omega (arith, h)
-    go None is true e = cc e
-    go None is false e = cc e
+    none : (b : Bool) (w : ℕ) → target_at None b name.span ≡ Ok w → w < length states
+    none true w h = cc h
+    none false w h = cc h
 
 pub added : (states args p c m j : ℕ) (found : Body) (one : TypedStmt) → IsBody states args p c found
     → IsBlockIn states args m j (stmt_block one) → IsBlockIn states args (p + m) (c + j) (block_of (found.statements ++ one ∷ []))

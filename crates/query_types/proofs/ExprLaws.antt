@@ -57,16 +57,25 @@ place_bound (name ∷ rest) at id v e = go (nat_eq name id) (λ k. place_bound r
     go true more e = let same : at ≡ v = cc in omega arith
     go false more e = omega (arith, more e)
 
-pub slot_bound : (columns hidden : List ℕ) (name : Name) (v : ℕ) → slot_of columns hidden name ≡ Ok v → v < length columns
-slot_bound columns hidden name v e = go (place_of columns name.id) refl (is_among name.id hidden) e
+-- the place of a name that is among these is below how many there are
+pub within_names : (names : List ℕ) (id v : ℕ) (at : Option ℕ → Checked ℕ) → ((slot : ℕ) → at (Some slot) ≡ Ok slot)
+    → ((w : ℕ) → at None ≡ Ok w → w < length names) → at (place_of names id) ≡ Ok v → v < length names
+within_names names id v at some none e = go (place_of names id) refl e
   where
-    go : (o : Option ℕ) → place_of columns name.id ≡ o → (b : Bool) → slot_at o b name.span ≡ Ok v → v < length columns
-    go (Some slot) is b e =
-        let same : slot ≡ v = cc in
-        let h = place_bound columns 0 name.id slot is in
-        omega (arith, h)
-    go None is true e = cc e
-    go None is false e = cc e
+    go : (o : Option ℕ) → place_of names id ≡ o → at o ≡ Ok v → v < length names
+    go (Some slot) is e =
+        let same = same_ok slot v (sym (some slot) ∙ e) in
+        let h = place_bound names 0 id slot is in
+        omega (arith, h, same)
+    go None is e = none v e
+
+pub slot_bound : (columns hidden : List ℕ) (name : Name) (v : ℕ) → slot_of columns hidden name ≡ Ok v → v < length columns
+slot_bound columns hidden name v e =
+    within_names columns name.id v (λ o. slot_at o (is_among name.id hidden) name.span) (λ slot. refl) (none (is_among name.id hidden)) e
+  where
+    none : (b : Bool) (w : ℕ) → slot_at None b name.span ≡ Ok w → w < length columns
+    none true w h = cc h
+    none false w h = cc h
 
 not_true : (b : Bool) → not b ≡ true → b ≡ false
 not_true true e = cc e

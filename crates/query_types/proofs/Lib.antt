@@ -1,7 +1,10 @@
 pub mod ApartLaws
 pub mod BodyLaws
 pub mod CheckLemmas
+pub mod ColumnSteps
+pub mod CountSteps
 pub mod ExprLaws
+pub mod ExprSteps
 pub mod FinalLaws
 pub mod NamedFits
 pub mod MadeFits
@@ -14,6 +17,7 @@ pub mod ReadLaws
 pub mod ScopeLaws
 pub mod StartLaws
 pub mod StmtLaws
+pub mod StmtSteps
 pub mod StreamLaws
 pub mod UseFacts
 pub mod ValidLaws

@@ -1,5 +1,10 @@
 -- What the operators of streams make of inputs that were looked up.
-use Rattle.std.specs.Prelude.{ℕ, List, ◌++◌, length, map, Some, None}
+use Rattle.std.specs.Prelude.{ℕ, List, [], ◌∷◌, ◌++◌, length, map, Some, None, Ok, nat_lt, ◌||◌}
+use Rattle.query_lang.specs.declared.fault.FaultKind.TheVariants.{NameTaken, OverLimit}
+use Rattle.query_lang.specs.declared.fault.Limit.TheVariants.{Keys}
+use Rattle.query_lang.specs.declared.fault.TheConstants.{MAX_KEYS}
+use Rattle.query_lang.specs.declared.query.Column.{Column}
+use Rattle.query_lang.specs.declared.query.Name.{Name}
 use Rattle.query_lang.specs.declared.typed.PrintOf.TheVariants as place
 use Rattle.query_lang.specs.declared.typed.TypedOp.TheVariants as typed
 use Rattle.query_lang.specs.declared.typing.FoldView.{FoldView}
@@ -8,7 +13,24 @@ use Rattle.query_lang.specs.declared.typing.NewColumns.{NewColumns}
 use Rattle.query_lang.specs.declared.typing.Origin.TheVariants as origin
 use Rattle.query_lang.specs.declared.typing.Picked.{Picked}
 use Rattle.query_lang.specs.declared.typing.StreamView.{StreamView}
+use Rattle.query_lang.specs.Checks.{Checked, and_then, must, must_not, is_among}
+use Rattle.query_lang.specs.TypedExprs.{word_of}
 use Rattle.query_lang.specs.TypedStreams.{columns_at}
+
+-- one more column of a `map`, whose name is new
+abbrev pub column_added : List ℕ → List ℕ → NewColumns → Column → Checked NewColumns
+column_added columns hidden made column =
+    must_not (is_among column.name.id columns ||
+    (is_among column.name.id hidden || is_among column.name.id made.names)) NameTaken column.name.span (
+    and_then (word_of columns hidden column.value) (λ value.
+    Ok (record { names = made.names ++ column.name.id ∷ []; values = made.values ++ value ∷ [] })))
+
+-- one more key at this slot: it is new, and there are at most MAX_KEYS
+abbrev pub key_added : Picked → Name → ℕ → Checked Picked
+key_added found key slot =
+    must_not (is_among key.id found.names) NameTaken key.span (
+    must (nat_lt (length found.names) MAX_KEYS) (OverLimit Keys) key.span (
+    Ok (record { names = found.names ++ key.id ∷ []; slots = found.slots ++ slot ∷ [] })))
 
 -- a `map`, which makes the stream with this number
 abbrev pub with_columns : StreamView → ℕ → NewColumns → MadeStream

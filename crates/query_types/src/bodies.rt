@@ -275,8 +275,9 @@ fn add_assignment(
     Ok(())
 }
 
-/// One statement after those before it in its block, under the conditions that enclose it.
-pub fn check_stmt(
+// One statement after those before it in its block, under the conditions that enclose it.
+#[cycle(statements)]
+fn check_stmt(
     alloc: Global,
     scope: Scope<'_>,
     outer: &Enclosing,
@@ -292,21 +293,17 @@ pub fn check_stmt(
         Stmt::If(c, a, b) => {
             let choice = open_choice(alloc, scope, outer, c)?;
             let before = take_statements(alloc, found);
-            'then_block: for inner in a.as_slice() {
-                check_stmt(alloc, scope, &choice.get().holding, found, inner)?;
-            }
+            check_all(alloc, scope, &choice.get().holding, found, a.as_slice())?;
             let then_block = take_statements(alloc, found);
-            'else_block: for inner in b.as_slice() {
-                check_stmt(alloc, scope, &choice.get().failing, found, inner)?;
-            }
-            close_choice(found, choice, before, then_block)?;
-            Ok(())
+            check_all(alloc, scope, &choice.get().failing, found, b.as_slice())?;
+            close_choice(found, choice, before, then_block)
         }
         Stmt::Emit(span) => add_emit(alloc, *span, outer, found),
     }
 }
 
-// The statements of a fold after those before them.
+// The statements of a block after those before them.
+#[cycle(statements)]
 fn check_all(
     alloc: Global,
     scope: Scope<'_>,

@@ -7,8 +7,10 @@ ghost use Rattle.query_lang.specs.TypedExprs.{slot_of};
 ghost use Rattle.query_lang.specs.TypedStreams.{new_columns, no_new_columns, same_origin, clashes_with, clash, column_names, others_from};
 ghost use Rattle.query_lang.specs.TypedStreams.{columns_at, key_names, keys_from, keys_checked, arguments_of};
 ghost use Rattle.query_lang.specs.Answers.{Answers};
+ghost use Rattle.query_types.specs.Answers.{Leaves};
 ghost use Rattle.query_types.specs.Fitting.{IsNarrow};
-ghost use Rattle.query_types.specs.Numbers.{columns_number};
+ghost use Rattle.query_types.specs.MadeStreams.{column_added, key_added};
+ghost use Rattle.query_types.specs.Numbers.{columns_number, greatest_number};
 
 use crate::answer::refused;
 use crate::exprs::{check_word, find_slot, has_name};
@@ -40,15 +42,31 @@ pub fn check_columns(
         values: Seq::new(alloc),
     };
     for column in new {
-        let name = column.name;
-        if is_taken(columns, hidden, made.names.as_slice(), name.id) {
-            return Err(refused(FaultKind::NameTaken, name.span));
-        }
-        let value = check_word(alloc, columns, hidden, &column.value)?;
-        made.names.push(name.id)?;
-        made.values.push(value)?;
+        add_column(alloc, columns, hidden, &mut made, column)?;
     }
     Ok(made)
+}
+
+// One more column after those before it, where its name is new.
+fn add_column(
+    alloc: Global,
+    columns: &[u32],
+    hidden: &[u32],
+    made: &mut NewColumns,
+    column: &Column,
+) -> Result<(), QueryError>
+    requires { IsNarrow columns.now }
+    ensures given { Leaves result made.new (column_added columns.now hidden.now made.old column.now) }
+    ensures numbers { OnOk result (greatest_number column.now.value < 2 ^ 64) }
+{
+    let name = column.name;
+    if is_taken(columns, hidden, made.names.as_slice(), name.id) {
+        return Err(refused(FaultKind::NameTaken, name.span));
+    }
+    let value = check_word(alloc, columns, hidden, &column.value)?;
+    made.names.push(name.id)?;
+    made.values.push(value)?;
+    Ok(())
 }
 
 /// The names of columns.
@@ -193,16 +211,25 @@ fn pick_keys(
     };
     for key in keys {
         let slot = find_slot(columns, hidden, *key)?;
-        if has_name(found.names.as_slice(), key.id) {
-            return Err(refused(FaultKind::NameTaken, key.span));
-        }
-        if found.names.len() >= MAX_KEYS {
-            return Err(refused(FaultKind::OverLimit(Limit::Keys), key.span));
-        }
-        found.names.push(key.id)?;
-        found.slots.push(slot)?;
+        pick(&mut found, *key, slot)?;
     }
     Ok(found)
+}
+
+// One more key, which is at this slot, where its name is new.
+fn pick(found: &mut Picked, key: Name, slot: u16) -> Result<(), QueryError>
+    ensures given { Leaves result found.new (key_added found.old key slot) }
+    ensures most { OnOk result (length found.new.names ≤ MAX_KEYS) }
+{
+    if has_name(found.names.as_slice(), key.id) {
+        return Err(refused(FaultKind::NameTaken, key.span));
+    }
+    if found.names.len() >= MAX_KEYS {
+        return Err(refused(FaultKind::OverLimit(Limit::Keys), key.span));
+    }
+    found.names.push(key.id)?;
+    found.slots.push(slot)?;
+    Ok(())
 }
 
 /// The keys of a groupby over these columns, where `5tuple` stands for the names of these five fields.

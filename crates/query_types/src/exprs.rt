@@ -1,12 +1,12 @@
 //! Expressions over columns.
 
-ghost use Rattle.std.specs.Prelude.{◌≡◌, ◌<◌, ◌^◌, ◌∷◌, [], IfOk, IfSome, length};
-ghost use Rattle.query_lang.specs.Checks.{is_among, place_of};
+ghost use Rattle.std.specs.Prelude.{◌≡◌, ◌<◌, ◌^◌, ◌∷◌, [], IfOk, IfSome, length, map};
+ghost use Rattle.query_lang.specs.Checks.{collected, is_among, place_of};
 ghost use Rattle.query_lang.specs.TypedExprs.{slot_of, is_condition_sort, is_operand, is_right_constant, sort_of, of_two, call_of};
 ghost use Rattle.query_lang.specs.TypedExprs.{negation_checked, expr_checked, condition_of, word_of};
 ghost use Rattle.query_lang.specs.Answers.{Answers};
 ghost use Rattle.query_types.specs.Fitting.{IsNarrow};
-ghost use Rattle.query_types.specs.Numbers.{greatest_number};
+ghost use Rattle.query_types.specs.Numbers.{greatest_of, greatest_number};
 
 use crate::answer::{fault, refused};
 use marple_base::{Boxed, Seq};
@@ -162,6 +162,7 @@ fn negate(alloc: Global, span: Span, inner: Found) -> Result<Found, QueryError>
 
 /// The typed expression over these columns, or its first fault: the operands first, from left to right, and then the node. The
 /// hidden states are the names that are not read while packets pass.
+#[cycle(expression)]
 pub fn check_expr(
     alloc: Global,
     columns: &[u32],
@@ -197,14 +198,30 @@ pub fn check_expr(
             join(alloc, *op, at, first, second)
         }
         Expr::Call(op, span, arguments) => {
-            let mut operands = Seq::new(alloc);
-            'arguments: for argument in arguments.as_slice() {
-                let operand = check_expr(alloc, columns, hidden, argument)?;
-                operands.push(operand)?;
-            }
+            let operands = check_operands(alloc, columns, hidden, arguments.as_slice())?;
             call(alloc, *op, *span, operands)
         }
     }
+}
+
+// The operands of a function, in order.
+#[cycle(expression)]
+fn check_operands(
+    alloc: Global,
+    columns: &[u32],
+    hidden: &[u32],
+    arguments: &[Expr],
+) -> Result<Seq<Found>, QueryError>
+    requires { IsNarrow columns.now }
+    ensures given { Answers result (collected [] (map (expr_checked columns.now hidden.now) arguments.now)) }
+    ensures numbers { IfOk result (λ _. greatest_of (map greatest_number arguments.now) < 2 ^ 64) }
+{
+    let mut operands = Seq::new(alloc);
+    for argument in arguments {
+        let operand = check_expr(alloc, columns, hidden, argument)?;
+        operands.push(operand)?;
+    }
+    Ok(operands)
 }
 
 /// The same of an expression that has to be a condition.

@@ -90,6 +90,7 @@ pub fn count_nodes(e: &Expr) -> u32
 }
 
 // How many nodes the expressions of a statement have, with the statements inside.
+#[cycle(nodes)]
 fn count_stmt_nodes(s: &Stmt) -> u32
     requires { stmt_nodes s.now < 2 ^ 32 }
     ensures { result ≡ stmt_nodes s.now }
@@ -97,42 +98,15 @@ fn count_stmt_nodes(s: &Stmt) -> u32
     match s {
         Stmt::Assign(_, e) => count_nodes(e),
         Stmt::If(c, a, b) => {
-            let mut all = count_nodes(c);
-            'then_block: for inner in a.as_slice() {
-                all += count_stmt_nodes(inner);
-            }
-            'else_block: for inner in b.as_slice() {
-                all += count_stmt_nodes(inner);
-            }
-            all
+            count_nodes(c) + count_block_nodes(a.as_slice()) + count_block_nodes(b.as_slice())
         }
         Stmt::Emit(_) => 0,
     }
 }
 
-// How many statements a statement has, itself and those inside.
-fn count_statements(s: &Stmt) -> u32
-    requires { stmt_count s.now < 2 ^ 32 }
-    ensures { result ≡ stmt_count s.now }
-{
-    match s {
-        Stmt::Assign(_, _) => 1,
-        Stmt::If(_, a, b) => {
-            let mut all = 1;
-            'then_block: for inner in a.as_slice() {
-                all += count_statements(inner);
-            }
-            'else_block: for inner in b.as_slice() {
-                all += count_statements(inner);
-            }
-            all
-        }
-        Stmt::Emit(_) => 1,
-    }
-}
-
-// How many nodes a fold has.
-fn count_fold_nodes(body: &[Stmt]) -> u32
+// How many nodes a block has.
+#[cycle(nodes)]
+fn count_block_nodes(body: &[Stmt]) -> u32
     requires { sum_by stmt_nodes body.now < 2 ^ 32 }
     ensures { result ≡ sum_by stmt_nodes body.now }
 {
@@ -143,8 +117,24 @@ fn count_fold_nodes(body: &[Stmt]) -> u32
     all
 }
 
-// How many statements a fold has.
-fn count_fold_statements(body: &[Stmt]) -> u32
+// How many statements a statement has, itself and those inside.
+#[cycle(counts)]
+fn count_statements(s: &Stmt) -> u32
+    requires { stmt_count s.now < 2 ^ 32 }
+    ensures { result ≡ stmt_count s.now }
+{
+    match s {
+        Stmt::Assign(_, _) => 1,
+        Stmt::If(_, a, b) => {
+            1 + count_block_statements(a.as_slice()) + count_block_statements(b.as_slice())
+        }
+        Stmt::Emit(_) => 1,
+    }
+}
+
+// How many statements a block has.
+#[cycle(counts)]
+fn count_block_statements(body: &[Stmt]) -> u32
     requires { sum_by stmt_count body.now < 2 ^ 32 }
     ensures { result ≡ sum_by stmt_count body.now }
 {
@@ -191,8 +181,8 @@ fn fold_of(
     ensures { Answers result (Ok (with_parts d.now state_names arg_names found)) }
 {
     let initial = initial_numbers(alloc, d.states.as_slice())?;
-    let nodes = count_fold_nodes(d.body.as_slice());
-    let statements = count_fold_statements(d.body.as_slice());
+    let nodes = count_block_nodes(d.body.as_slice());
+    let statements = count_block_statements(d.body.as_slice());
     let Body {
         statements: body,
         emit,

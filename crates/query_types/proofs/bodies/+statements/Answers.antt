@@ -1,0 +1,96 @@
+use Rattle.std.proofs.Common.{refl, sym, ◌∙◌, arith}
+use Rattle.std.proofs.lemmas.List.{at_drop_all}
+use Rattle.std.specs.Prelude.{map}
+use Rattle.query_lang.specs.TypedFolds.{in_order, stmt_checked, stmt_count}
+use Rattle.query_types.specs.Numbers.{greatest_in}
+use Rattle.query_types.proofs.CheckLemmas.{left_stops, left_stops_after, more, left_is, on_ok, on_ok_so}
+use Rattle.query_types.proofs.CountSteps.{item_within, count_if, greatest_more, greatest_ends}
+use Rattle.query_types.proofs.StmtSteps.{block_turn, assign_is, emit_is, choice_is, first_is, second_is, closed_is, assign_number}
+use Rattle.query_types.proofs.StmtSteps.{choice_number}
+use Rattle.query_types.proofs.bodies.+statements.Goals as goal
+
+pub check_all-check_stmt-requires : goal.check_all-check_stmt-requires
+check_all-check_stmt-requires t c = (
+  omega (
+    arith,
+    item_within stmt_count c.args.body.now c.loop-one.one-index c.loop-one-test.true
+        c.one-item.is,
+    c.decreases,
+  ),
+  c.requires,
+)
+
+pub check_all-returns-in_err-check_stmt-clause-given : goal.check_all-returns-in_err-check_stmt-clause-given
+check_all-returns-in_err-check_stmt-clause-given t c =
+    left_stops_after _ _ (sym c.loop-one.invariant.given ∙ block_turn c.args.scope.states.now c.args.scope.args.now c.args.outer.now
+    c.loop-one.found c.args.body.now c.loop-one.one-index
+    c.loop-one-test.true c.one-item.is) _ _ _ _ c.from_residual.ensures.1 c.in_err-check_stmt.ensures.given
+
+pub check_all-loop-one-preserved : goal.check_all-loop-one-preserved
+check_all-loop-one-preserved t c = record {
+  given = more _ _ (block_turn c.args.scope.states.now c.args.scope.args.now c.args.outer.now c.loop-one.found c.args.body.now
+      c.loop-one.one-index c.loop-one-test.true c.one-item.is)
+      c.in_ok-check_stmt.ensures.given c.loop-one.invariant.given;
+  numbers = greatest_more greatest_in c.args.body.now c.loop-one.one-index c.loop-one-test.true c.one-item.is
+      c.in_ok-check_stmt.ensures.numbers c.loop-one.invariant.numbers;
+}
+
+pub check_all-returns-clause-given : goal.check_all-returns-clause-given
+check_all-returns-clause-given t c =
+    sym c.loop-one.invariant.given ∙ at_drop_all (λ l. in_order (map (stmt_checked c.args.scope.states.now c.args.scope.args.now) l)
+    c.args.outer.now c.loop-one.found) c.args.body.now c.loop-one.one-index c.loop-one-test.false
+
+pub check_all-returns-clause-numbers : goal.check_all-returns-clause-numbers
+check_all-returns-clause-numbers t c =
+    greatest_ends greatest_in c.args.body.now c.loop-one.one-index c.loop-one-test.false (omega arith) c.loop-one.invariant.numbers
+
+pub check_stmt-returns-in_err-choice-in-If-clause-given : goal.check_stmt-returns-in_err-choice-in-If-clause-given
+check_stmt-returns-in_err-choice-in-If-clause-given t c =
+    left_stops _ _ (choice_is c.args.scope.states.now c.args.scope.args.now c.args.outer.now c.args.found.now _ _ c.in-If.is) _ _ _
+    c.from_residual.ensures.1 c.in_err-choice-in-If.ensures.given
+
+pub check_stmt-check_all-requires : goal.check_stmt-check_all-requires
+check_stmt-check_all-requires t c = (omega (arith, count_if c.in-If.is c.as_slice.ensures refl, c.decreases), c.requires)
+
+pub check_stmt-returns-in_err-check_all-in-If-clause-given : goal.check_stmt-returns-in_err-check_all-in-If-clause-given
+check_stmt-returns-in_err-check_all-in-If-clause-given t c =
+    left_stops_after _ _ (first_is c.args.scope.states.now c.args.scope.args.now c.args.outer.now c.args.found.now _ _ c.in-If.is
+    c.in_ok-choice-in-If.ensures.given c.get.ensures c.as_slice.ensures c.take_statements-before.ensures.block) _ _ _ _
+    c.from_residual-in_err-check_all-in-If.ensures.1 c.in_err-check_all-in-If.ensures.given
+
+pub check_stmt-check_all-requires-in-If : goal.check_stmt-check_all-requires-in-If
+check_stmt-check_all-requires-in-If t c = (omega (arith, count_if c.in-If.is refl c.as_slice-in-If.ensures, c.decreases), c.requires)
+
+pub check_stmt-returns-in_err-check_all-in-If-2-clause-given : goal.check_stmt-returns-in_err-check_all-in-If-2-clause-given
+check_stmt-returns-in_err-check_all-in-If-2-clause-given t c =
+    left_stops_after _ _ (second_is c.args.scope.states.now c.args.scope.args.now c.args.outer.now c.args.found.now _ _ c.in-If.is
+    c.in_ok-choice-in-If.ensures.given c.get.ensures c.as_slice.ensures c.take_statements-before.ensures.block
+    c.in_ok-check_all-in-If.ensures.given c.get-in-If.ensures c.as_slice-in-If.ensures c.take_statements-then_block.ensures.block) _ _ _ _
+    c.from_residual-in_err-check_all-in-If-2.ensures.1 c.in_err-check_all-in-If-2.ensures.given
+
+pub check_stmt-returns-in-Assign-clause-given : goal.check_stmt-returns-in-Assign-clause-given
+check_stmt-returns-in-Assign-clause-given t c =
+    left_is _ _ (assign_is c.args.scope.states.now c.args.scope.args.now c.args.outer.now c.args.found.now c.in-Assign.is)
+    c.add_assignment.ensures.given
+
+pub check_stmt-returns-in-Assign-clause-numbers : goal.check_stmt-returns-in-Assign-clause-numbers
+check_stmt-returns-in-Assign-clause-numbers t c = on_ok_so _ (assign_number c.in-Assign.is) c.add_assignment.ensures.numbers
+
+pub check_stmt-returns-in_ok-check_all-in-If-2-clause-given : goal.check_stmt-returns-in_ok-check_all-in-If-2-clause-given
+check_stmt-returns-in_ok-check_all-in-If-2-clause-given t c =
+    left_is _ _ (closed_is c.args.scope.states.now c.args.scope.args.now c.args.outer.now c.args.found.now _ _ c.in-If.is
+    c.in_ok-choice-in-If.choice c.check_all.new.found
+    (second_is c.args.scope.states.now c.args.scope.args.now c.args.outer.now c.args.found.now _ _ c.in-If.is
+    c.in_ok-choice-in-If.ensures.given c.get.ensures c.as_slice.ensures c.take_statements-before.ensures.block
+    c.in_ok-check_all-in-If.ensures.given c.get-in-If.ensures c.as_slice-in-If.ensures c.take_statements-then_block.ensures.block)
+    c.in_ok-check_all-in-If-2.ensures.given c.take_statements-before.ensures.statements c.take_statements-then_block.ensures.statements)
+    c.close_choice.ensures
+
+pub check_stmt-returns-in_ok-check_all-in-If-2-clause-numbers : goal.check_stmt-returns-in_ok-check_all-in-If-2-clause-numbers
+check_stmt-returns-in_ok-check_all-in-If-2-clause-numbers t c =
+    on_ok _ (choice_number c.in-If.is c.as_slice.ensures c.as_slice-in-If.ensures c.in_ok-choice-in-If.ensures.numbers
+    c.in_ok-check_all-in-If.ensures.numbers c.in_ok-check_all-in-If-2.ensures.numbers)
+
+pub check_stmt-returns-in-Emit-clause-given : goal.check_stmt-returns-in-Emit-clause-given
+check_stmt-returns-in-Emit-clause-given t c = left_is _ _ (emit_is c.args.scope.states.now c.args.scope.args.now c.args.outer.now
+    c.args.found.now c.in-Emit.is) c.add_emit.ensures
