@@ -9,7 +9,7 @@ use Rattle.bucket_cache.specs.Slices.{rows_of}
 use Rattle.bucket_cache.specs.Buckets.{Pair, Recency, IsBucket, pairs_at, places_of}
 use Rattle.bucket_cache.specs.Touches.{least_place}
 use Rattle.bucket_cache.specs.FlatBuckets.{no_bucket, buckets_of, lists_in, list_in, orders_of, words_of, AreBuckets, IsFlatCache}
-use Rattle.bucket_cache.proofs.FlatRows.{row_fits, row_width, get-rows_of}
+use Rattle.bucket_cache.proofs.FlatRows.{place-word, row_fits, row_width, get-rows_of}
 use Rattle.bucket_cache.proofs.BucketLists.{place-pair, no-place, key-pair, fewer-pairs, fewer-bucket, empty-bucket}
 use Rattle.bucket_cache.proofs.FlatBuckets.{flat_row, flat_keys, with_row, length-buckets_of, get-buckets_of, list-is, bucket-is, all-used}
 use Rattle.bucket_cache.proofs.FlatBuckets.{row-long, order-long, words-long, written-buckets, written-lists}
@@ -81,9 +81,6 @@ module _ {ways kw : ℕ} {used order words : List ℕ} (b : ℕ) (are : AreBucke
       ∙ ap (set (lists_in ways kw used order words) b)
       (fewer-pairs (b * ways) (get_or used b 0) o (rows_of kw ways row) (bucket-is b are h).within
       ∙ ap (λ ps. take (length ps - 1) ps) (sym (list-is ways kw used order words b h))))
-
-place-word : (b ways way kw : ℕ) → b * (ways * kw) + way * kw ≡ (b * ways + way) * kw
-place-word b ways way kw = let a = mul_assoc b ways kw in omega arith
 
 row-key : (b ways way kw : ℕ) (words : List ℕ) → way < ways
     → take kw (drop ((b * ways + way) * kw) words) ≡ take kw (drop (way * kw) (flat_row (ways * kw) b words))

@@ -2,6 +2,7 @@
 use Rattle.std.proofs.Common.{◌≡◌, ℕ, zero, suc, ◌+◌, ◌-◌, ◌*◌, ◌<◌, ◌≤◌, List, ◌∷◌, ◌++◌, length, take, drop, get_or, set, refl, sym, ap}
 use Rattle.std.proofs.Common.{ap₂, ◌∙◌, arith, All, drop-drop, length-drop, append_assoc}
 use Rattle.std.proofs.lemmas.List.{length-take-le, take_at, drop_at}
+use Rattle.std.proofs.Math.Nat.{mul_assoc}
 use Rattle.std.proofs.Math.Seq.{take-add}
 use Rattle.bucket_cache.specs.Slices.{rows_of}
 
@@ -10,6 +11,10 @@ pub row_fits : (way ways width : ℕ) → way < ways → way * width + width ≤
 row_fits way zero width h = absurd (omega arith)
 row_fits zero (suc ways) width h = omega arith
 row_fits (suc way) (suc ways) width h = let rest = row_fits way ways width (omega arith) in omega arith
+
+-- the first word of a way of a bucket
+pub place-word : (b ways way kw : ℕ) → b * (ways * kw) + way * kw ≡ (b * ways + way) * kw
+place-word b ways way kw = let a = mul_assoc b ways kw in omega arith
 
 pub row_width : (ways way width : ℕ) (words row : List ℕ) → way < ways → length words ≡ ways * width
     → row ≡ take width (drop (way * width) words) → length row ≡ width

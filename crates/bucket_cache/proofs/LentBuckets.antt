@@ -1,12 +1,14 @@
 -- The parts of one bucket, lent by their bounds and written over.
-use Rattle.std.proofs.Common.{◌≡◌, ℕ, ◌+◌, ◌-◌, ◌*◌, ◌<◌, List, ◌++◌, length, take, drop, get_or, set, sym, ap, ap₂, ◌∙◌, subst, subst₂, arith}
+use Rattle.std.proofs.Common.{◌≡◌, ℕ, ◌+◌, ◌-◌, ◌*◌, ◌<◌, ◌≤◌, List, ◌++◌, length, take, drop, get_or, set, sym, ap, ap₂, ◌∙◌, subst, subst₂, arith}
 use Rattle.std.proofs.lemmas.List.{set-get_or}
+use Rattle.std.proofs.Math.Nat.{mul-le-mul_left}
 use Rattle.epoch_model.specs.Keys.{Key}
 use Rattle.bucket_cache.specs.Slices.{rows_of}
 use Rattle.bucket_cache.specs.Buckets.{Pair, IsBucket, pairs_at}
 use Rattle.bucket_cache.specs.FlatBuckets.{lists_in, list_in, AreBuckets}
 use Rattle.bucket_cache.specs.declared.bucket.Touch.{Touch}
 use Rattle.bucket_cache.specs.Touches.{Touches}
+use Rattle.bucket_cache.proofs.FlatRows.{place-word, row_fits}
 use Rattle.bucket_cache.proofs.FlatBuckets.{flat_row, with_row, list-is, order-long, words-long, bucket-is, all-used}
 use Rattle.bucket_cache.proofs.FlatBuckets.{written-buckets, written-lists, written-list}
 
@@ -30,9 +32,37 @@ lent-is width b xs = ap (λ n. take n (drop (b * width) xs)) (wide width b)
 with-is : (width b : ℕ) (row xs : List ℕ) → with_row width b row xs ≡ with_lent width b row xs
 with-is width b row xs = ap (λ n. take (b * width) xs ++ (row ++ drop n (drop (b * width) xs))) (sym (wide width b))
 
+pub record IsBounded (ways kw b : ℕ) (order words : List ℕ) : Type 0 where
+  pub first : b * ways + ways ≤ 65536
+  pub width : ways * kw ≤ 524288
+  pub start : b * (ways * kw) + ways * kw ≤ 524288
+  pub order_within : b * ways + ways ≤ length order
+  pub words_within : b * (ways * kw) + ways * kw ≤ length words
+
+row-lies : (width b count : ℕ) (xs : List ℕ) → b < count → length xs ≡ count * width → b * width + width ≤ length xs
+row-lies width b count xs h e = let f = row_fits b count width h in omega arith
+
 module _ {ways kw : ℕ} {used order words : List ℕ} (b : ℕ) (are : AreBuckets ways kw used order words) (h : b < length used) where
   long : length (lent_row ways b order) ≡ ways
   long = ap length (lent-is ways b order) ∙ order-long b are h
+
+  -- the bounds of the rows lie within the parts, which are small
+  pub bounded : IsBounded ways kw b order words
+  bounded =
+      let is = bucket-is b are h in
+      let own = order-long b are h in
+      let room = is.places in
+      let few : b * ways + ways ≤ 65536 = omega arith in
+      let short = mul-le-mul_left (b * ways + ways) is.short in
+      let width = mul-le-mul_left ways is.short in
+      let start = place-word b ways ways kw in
+      record {
+        first = few;
+        width = omega arith;
+        start = omega arith;
+        order_within = row-lies ways b (length used) order h are.orders;
+        words_within = row-lies (ways * kw) b (length used) words h are.flat;
+      }
 
   abbrev lent_keys : List ℕ → List Key
   lent_keys words = rows_of kw (length (lent_row ways b order)) words

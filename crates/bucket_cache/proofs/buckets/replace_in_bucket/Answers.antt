@@ -1,8 +1,23 @@
-use Rattle.std.proofs.Common.{◌≡◌, ◌-◌, false, length, take, subst, sym}
+use Rattle.std.proofs.Common.{arith, ◌≡◌, ◌-◌, false, length, take, subst, sym}
 use Rattle.bucket_cache.specs.Buckets.{has_key}
 use Rattle.bucket_cache.specs.Touches.{IsLeast, with_pair_first}
-use Rattle.bucket_cache.proofs.LentBuckets.{full-bucket, full-list, full-buckets, full-lists}
+use Rattle.bucket_cache.proofs.LentBuckets.{bounded, full-bucket, full-list, full-buckets, full-lists}
 use Rattle.bucket_cache.proofs.buckets.replace_in_bucket.Goals as goal
+
+pub overflow_mul-first : goal.overflow_mul-first
+overflow_mul-first g c = let w = bounded c.args.bucket c.requires.buckets c.requires.range in record { fits = omega arith }
+
+pub overflow_mul-width : goal.overflow_mul-width
+overflow_mul-width g c = let w = bounded c.args.bucket c.requires.buckets c.requires.range in record { fits = omega arith }
+
+pub overflow_mul-start : goal.overflow_mul-start
+overflow_mul-start g c = let w = bounded c.args.bucket c.requires.buckets c.requires.range in record { fits = omega arith }
+
+pub overflow_add-first : goal.overflow_add-first
+overflow_add-first g c = let w = bounded c.args.bucket c.requires.buckets c.requires.range in record { fits = omega arith }
+
+pub overflow_add-start : goal.overflow_add-start
+overflow_add-start g c = let w = bounded c.args.bucket c.requires.buckets c.requires.range in record { fits = omega arith }
 
 pub replace_way-requires-clause-bucket : goal.replace_way-requires-clause-bucket
 replace_way-requires-clause-bucket g c = full-bucket c.args.bucket c.requires.buckets c.requires.range c.requires.full
