@@ -15,8 +15,10 @@ SECONDS_FOR_A_KILOBYTE = 1.2
 MEGABYTES = 2500
 # What of a proof its jobs don't share: reading the crate, and putting together what they proved.
 NOT_SHARED = 0.2
-# A proof that takes less has one job: each further one reads all crates below once more, for which it gains too little.
-SECONDS_FOR_JOBS = 200.0
+# Each job of a proof reads all crates below by itself. So a proof that takes less than this has one job, and one that takes so much
+# memory, since it mostly reads.
+SECONDS_FOR_JOBS = 75.0
+MEGABYTES_OF_READING = 2500
 # The table counts as much as this many seconds that were measured on this machine.
 TRUST_IN_TABLE = 60.0
 
@@ -68,23 +70,25 @@ def still_to_go(whole: float, elapsed: float) -> float:
     return max(whole - elapsed, elapsed / 10)
 
 
-def jobs_of(seconds: float, chain: float, work: float, places: int, ready: int, idle: int) -> int:
+def jobs_of(cost: Cost, chain: float, work: float, places: int, ready: int, idle: int) -> int:
     """Returns the jobs for the crate that is begun next, the first of those that are ready, where this many places are idle.
 
     A crate that takes long has its chain's part of all places, as long as the chain is compared with all work that isn't begun,
     this crate's included: with one job a long chain would be at work alone in the end. And it has no fewer than its share of the
     places that nothing else can use now.
     """
-    if seconds < SECONDS_FOR_JOBS:
+    if cost.seconds < SECONDS_FOR_JOBS or cost.megabytes > MEGABYTES_OF_READING:
         return 1
     return max(min(round(places * chain / work), idle), idle // ready, 1)
 
 
-def seconds_to_go(order: List[Crate], left: Dict[str, float], running: Dict[str, int], places: int) -> float:
+def seconds_to_go(
+    order: List[Crate], costs: Dict[str, Cost], left: Dict[str, float], running: Dict[str, int], places: int
+) -> float:
     """Returns when the last crate is done if those that are running go on and the others follow as ./build begins them.
 
-    left has what each crate that isn't done still takes: seconds of clock where it is running, of processor time where it
-    isn't begun. running has the jobs of those that run.
+    left has what each crate that isn't done still takes on this machine: seconds of clock where it is running, of processor time
+    where it isn't begun. running has the jobs of those that run.
     """
     chain_of = chains(order, {it.name: Cost(left.get(it.name, 0.0), 0) for it in order})
     crates = {it.name: it for it in order}
@@ -98,7 +102,7 @@ def seconds_to_go(order: List[Crate], left: Dict[str, float], running: Dict[str,
         idle = places - sum(jobs for _, _, jobs in ends)
         while ready and idle > 0:
             first = ready[0]
-            jobs = jobs_of(left[first], chain_of[first], sum(left[it] for it in waiting), places, len(ready), idle)
+            jobs = jobs_of(costs[first], chain_of[first], sum(left[it] for it in waiting), places, len(ready), idle)
             heapq.heappush(ends, (now + clock_seconds(left[first], jobs), first, jobs))
             ready.remove(first)
             waiting.remove(first)

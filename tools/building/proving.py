@@ -117,9 +117,9 @@ class Proving:
         if crate.name in self.alone:
             return 1
         work = sum(self.costs[it.name].seconds for it in self.waiting())
-        seconds = self.costs[crate.name].seconds
-        wanted = jobs_of(seconds, self.chains[crate.name], work, self.machine.processors, ready, idle)
-        by_memory = 1 + max(room - self.costs[crate.name].megabytes, 0) // MEGABYTES_FOR_A_JOB
+        cost = self.costs[crate.name]
+        wanted = jobs_of(cost, self.chains[crate.name], work, self.machine.processors, ready, idle)
+        by_memory = 1 + max(room - cost.megabytes, 0) // MEGABYTES_FOR_A_JOB
         return min(wanted, by_memory)
 
     def megabytes(self, crate: Crate, jobs: int) -> int:
@@ -218,7 +218,7 @@ class Proving:
         for it in self.running:
             left[it.crate.name] = still_to_go(speed * whole[it], elapsed[it])
         running = {it.crate.name: it.jobs for it in self.running}
-        return seconds_to_go(self.order, left, running, self.machine.processors)
+        return seconds_to_go(self.order, self.costs, left, running, self.machine.processors)
 
     def log_end(self, crate: Crate, lines: int = 15) -> str:
         text = (crate.folder / "out/build.log").read_text(encoding="utf-8", errors="replace")

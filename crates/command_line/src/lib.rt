@@ -7,4 +7,5 @@ mod options;
 mod setting;
 
 pub use command::{Command, Generation, command_of};
+pub use number::{number, number_within};
 pub use setting::{NetSetting, Setting, Ways};

@@ -4,7 +4,7 @@ ghost use Rattle.std.specs.Prelude.{◌≡◌, ◌^◌, ◌<◌, ◌≤◌, IfSo
 ghost use Rattle.command_line.specs.Number.{number_read, number_within};
 
 /// The number that 1 to 20 digits spell.
-fn number(text: &[u8]) -> Option<u128>
+pub fn number(text: &[u8]) -> Option<u128>
     ensures { result ≡ number_read text.now }
 {
     if text.is_empty() || text.len() > 20 {

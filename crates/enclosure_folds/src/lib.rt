@@ -21,7 +21,7 @@ pub use laws::{
     no_fault_means_bounds, rows_enclose, small_bounds, table_rows_enclose, tables_give_bounds,
     triples_give_whole_tables,
 };
-pub use monotone::is_monotone;
+pub use monotone::{StateOrder, is_monotone};
 pub use monotone_laws::{
     equal_bounds_are_exact, last_rows_enclose, rows_keep_order, small_folds, step_keeps_order,
 };

@@ -7,11 +7,11 @@ ghost use Rattle.enclosure_folds.specs.Kinds as Kinds;
 use fold_class::{Operators, Role, has_no_other};
 use query_lang::{MAX_STATES, Op, TypedFold};
 
-// What the operators make of the order of states.
+/// What the operators make of the order of states.
 #[derive(Clone, Copy)]
-struct Order;
+pub struct StateOrder;
 
-impl Operators for Order {
+impl Operators for StateOrder {
     ghost roles = { λ _. Kinds.role };
 
     fn role_of(&self, op: Op) -> Role {
@@ -32,5 +32,5 @@ pub fn is_monotone(f: &TypedFold) -> bool
     requires { IsValidFold f.now }
     ensures { result ≡ Kinds.is_monotone f.now }
 {
-    has_no_other(&Order, f, &[false; MAX_STATES])
+    has_no_other(&StateOrder, f, &[false; MAX_STATES])
 }

@@ -2,7 +2,7 @@
 
 use fold_class::Algebra;
 use marple_base::Seq;
-use query_facts::FoldFacts;
+use query_facts::{FoldFacts, items_before};
 use query_lang::{FoldDef, Item, MAX_QUERY, Name, Query, QueryError, Span, Token};
 use query_parser::{Lexed, cut_text, parse};
 use query_places::{
@@ -116,33 +116,12 @@ pub(crate) fn remarks_on(
     }
 }
 
-// The name that an item gives or prints.
-fn name_of(item: &Item) -> Name {
-    match item {
-        Item::Fold(d) => d.name,
-        Item::Stream(d) => d.name,
-        Item::Final(d) => d.name,
-        Item::Print(name) => *name,
-    }
-}
-
-/// The number of the item that has this byte.
-pub(crate) fn item_at(items: &[Item], at: u32) -> usize {
-    let mut found = 0;
-    for (number, item) in items.iter().enumerate() {
-        if name_of(item).span.start <= at {
-            found = number;
-        }
-    }
-    found
-}
-
 /// What stands at a byte, and the number of its item.
 pub(crate) fn place_of(text: &Option<ReadText>, at: u32) -> Option<(usize, Place)> {
     match text {
         Some(read) => {
             let items = read.query.items.as_slice();
-            let number = item_at(items, at);
+            let number = items_before(items, at);
             match items.get(number) {
                 Some(item) => Some((number, place_at(item, at))),
                 None => None,

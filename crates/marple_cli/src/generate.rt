@@ -7,8 +7,8 @@ ghost use Rattle.marple_cli.specs.Ends.{Ends, status_of};
 
 use command_answers::Status;
 use command_line::{Command, Generation};
-use marple_base::Sink;
-use queue_sim::{WriteError, write_trace};
+use marple_base::{Sink, WriteError};
+use queue_sim::write_trace;
 use std::alloc::Global;
 
 /// How many packets wait in a queue at most.

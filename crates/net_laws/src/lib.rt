@@ -3,9 +3,11 @@
 #![tactic(auto)]
 
 mod field_keys;
+mod field_names;
 mod switch_order;
 
 pub use field_keys::keys_are_fields;
+pub use field_names::{makes_field, names_field};
 pub use switch_order::{
     accepted_tell_switches, neighbours_may_change_places, switch_order_is_free,
 };

@@ -32,7 +32,7 @@ fn name_of(item: &Item) -> Name {
 }
 
 /// How many items come before the one that has this byte.
-pub(crate) fn items_before(items: &[Item], at: u32) -> usize {
+pub fn items_before(items: &[Item], at: u32) -> usize {
     let mut before = 0;
     for (number, item) in items.iter().enumerate() {
         if name_of(item).span.start <= at {

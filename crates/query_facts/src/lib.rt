@@ -7,7 +7,6 @@ mod columns;
 mod commands;
 mod earlier;
 mod expected;
-mod field_keys;
 mod folds;
 mod needs;
 mod parts;
@@ -15,7 +14,7 @@ mod tokens;
 
 pub use answer::{AcceptedFacts, Facts, RefusedFacts, facts_of};
 pub use commands::Commands;
-pub use earlier::Reach;
+pub use earlier::{Reach, items_before};
 pub use folds::FoldFacts;
 pub use parts::{Parts, Unsplit};
 pub use tokens::spelling;

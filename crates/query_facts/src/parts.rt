@@ -8,9 +8,9 @@ ghost use Rattle.query_facts.specs.Parts.{place_has_field, all_have, keeps, shar
 ghost use Rattle.query_facts.specs.Parts.{reads_top, blocks, first_blocked, first_needed, adds_at, first_not_additive};
 ghost use Rattle.query_facts.specs.Parts.{by_or, unless_blocked, sums_by, parts_of};
 
-use crate::field_keys::{makes_field, names_field};
 use crate::needs::{groupbys, is_in, needed_groupbys, needed_tables};
 use marple_base::{Field, Seq};
+use net_laws::{makes_field, names_field};
 use query_lang::{Span, TypedFinal, TypedFinalOp, TypedFold, TypedOp, TypedQuery, TypedStream};
 use std::alloc::{AllocError, Global};
 

@@ -1,12 +1,10 @@
 //! The statements that keep a fold from being linear or monotone.
 
-ghost use Rattle.std.specs.Prelude.{◌≡◌};
-ghost use Rattle.enclosure_folds.specs.Kinds as MonotoneKinds;
-
 use crate::expressions::{as_name, has_node_at, is_alike, start_of};
 use crate::values::{
     Cause, Form, Rule, Value, Values, carried_name, cause_of, combined, set_value, value_of, worse,
 };
+use enclosure_folds::StateOrder;
 use fold_class::{Algebra, Operators, Role};
 use marple_base::Seq;
 use query_lang::{Expr, FoldDef, MAX_STATES, Name, Op, StateVar, Stmt};
@@ -17,26 +15,6 @@ use std::alloc::{AllocError, Global};
 pub struct Spoilt {
     pub variable: Name,
     pub cause: Cause,
-}
-
-// What the operators make of the order of states.
-#[derive(Clone, Copy)]
-struct Order;
-
-impl Operators for Order {
-    ghost roles = { λ _. MonotoneKinds.role };
-
-    fn role_of(&self, op: Op) -> Role {
-        match op {
-            Op::Max => Role::Sum,
-            Op::Min => Role::Sum,
-            Op::Sadd => Role::Sum,
-            Op::Decay => Role::Product,
-            Op::Shr => Role::Product,
-            Op::Div => Role::Product,
-            _ => Role::Outside,
-        }
-    }
 }
 
 // The value of an expression.
@@ -243,5 +221,5 @@ pub fn not_linear(
 
 /// The variables that keep a fold from being monotone.
 pub fn not_monotone(alloc: Global, d: &FoldDef) -> Result<Seq<Spoilt>, AllocError> {
-    spoilt_by(alloc, &Order, d, &[])
+    spoilt_by(alloc, &StateOrder, d, &[])
 }

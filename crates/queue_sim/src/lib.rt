@@ -9,4 +9,4 @@ mod writing;
 
 pub use generator::simulate;
 pub use text::{LineBuffer, texts_read_back, trace_text};
-pub use writing::{WriteError, write_trace};
+pub use writing::write_trace;

@@ -7,35 +7,11 @@ ghost use Rattle.marple_base.specs.Sink.{TakesFront};
 ghost use Rattle.queue_sim.specs.Generator.{simulated};
 ghost use Rattle.queue_sim.specs.Pieces.{TakesAllBut};
 ghost use Rattle.queue_sim.specs.TraceText.{trace_text};
-ghost use Rattle.queue_sim.specs.declared.writing.WriteError.TheVariants.{Failed as WriteFailed, Memory as OutOfMemory};
 
 use crate::generator::Generator;
 use crate::text::{HEADER, LineBuffer};
-use marple_base::{Failed, Field, Sink, write_all};
-use std::alloc::{AllocError, Global};
-
-/// Why a trace wasn't written whole.
-#[derive(Clone, Copy, PartialEq, Eq)]
-pub enum WriteError {
-    Failed,
-    Memory,
-}
-
-impl From<Failed> for WriteError {
-    ghost from_gives = { λ _ answer. answer ≡ WriteFailed };
-
-    fn from(_: Failed) -> WriteError {
-        WriteError::Failed
-    }
-}
-
-impl From<AllocError> for WriteError {
-    ghost from_gives = { λ _ answer. answer ≡ OutOfMemory };
-
-    fn from(_: AllocError) -> WriteError {
-        WriteError::Memory
-    }
-}
+use marple_base::{Field, Sink, WriteError, write_all};
+use std::alloc::Global;
 
 // The most bytes that wait before they are written.
 const PIECE: usize = 65_536;

@@ -3,60 +3,11 @@
 ghost use Rattle.std.specs.Prelude.{◌≡◌};
 ghost use Rattle.marple_base.specs.Field.{has_field};
 ghost use Rattle.marple_base.specs.declared.field.Field.{Field as AnyField};
-ghost use Rattle.net_laws.specs.Fields.{is_named, makes_field, names_field};
-ghost use Rattle.net_wide.specs.Combining.{columns_made};
 ghost use Rattle.split_fields.specs.Splits.{all_keyed, is_keyed, may_split};
 
 use marple_base::{FIELDS, Field, FieldSet};
+use net_laws::{makes_field, names_field};
 use query_lang::{Names, TypedOp, TypedQuery, TypedStream};
-
-// Whether the name with this number is the field's.
-fn is_named(field: Field, names: &Names, id: u32) -> bool
-    ensures { result ≡ is_named field names.now id }
-{
-    if id as usize >= names.len() {
-        return false;
-    }
-    field.name() == names.text(id)
-}
-
-// Whether one of these columns has the field's name.
-fn names_field(field: Field, names: &Names, columns: &[u32]) -> bool
-    ensures { result ≡ names_field field names.now columns.now }
-{
-    for id in columns {
-        if is_named(field, names, *id) {
-            return true;
-        }
-    }
-    false
-}
-
-// Whether the stream's `map` makes a column that has the field's name.
-fn maps_field(field: Field, names: &Names, one: &TypedStream) -> bool
-    ensures { result ≡ names_field field names.now (columns_made one.now.columns one.now.op) }
-{
-    match &one.op {
-        TypedOp::Map(_, values) => {
-            let columns = one.columns.as_slice();
-            let before = columns.len().saturating_sub(values.len());
-            names_field(field, names, &columns[before..])
-        }
-        _ => false,
-    }
-}
-
-// Whether a `map` of these streams makes such a column.
-fn makes_field(field: Field, names: &Names, streams: &[TypedStream]) -> bool
-    ensures { result ≡ makes_field field names.now streams.now }
-{
-    for one in streams {
-        if maps_field(field, names, one) {
-            return true;
-        }
-    }
-    false
-}
 
 // Whether a stream is no groupby's, or that of a groupby with a key that has the field's name.
 fn is_keyed(field: Field, names: &Names, one: &TypedStream) -> bool

@@ -5,7 +5,8 @@ ghost use Rattle.tools_cli.specs.Command.{has_traces};
 ghost use Rattle.tools_cli.specs.Options.{AreWithin, is_dashed, is_option, is_range, no_options, operands, options_from, with_option};
 ghost use Rattle.tools_cli.specs.Options.{with_range};
 
-use crate::number::{large_number, number_within};
+use crate::number::large_number;
+use command_line::number_within;
 use std::alloc::{AllocError, Global};
 use trace_ranges::Range;
 

@@ -18,7 +18,7 @@ fn is_named(field: Field, names: &Names, id: u32) -> bool
 }
 
 /// Whether one of these columns has the field's name.
-pub(crate) fn names_field(field: Field, names: &Names, columns: &[u32]) -> bool
+pub fn names_field(field: Field, names: &Names, columns: &[u32]) -> bool
     ensures { result ≡ names_field field names.now columns.now }
 {
     for id in columns {
@@ -44,7 +44,7 @@ fn maps_field(field: Field, names: &Names, one: &TypedStream) -> bool
 }
 
 /// Whether a `map` of these streams makes a column that has the field's name.
-pub(crate) fn makes_field(field: Field, names: &Names, streams: &[TypedStream]) -> bool
+pub fn makes_field(field: Field, names: &Names, streams: &[TypedStream]) -> bool
     ensures { result ≡ makes_field field names.now streams.now }
 {
     for one in streams {

@@ -2,7 +2,7 @@ use Rattle.std.proofs.Common.{◌≡◌, ◌<◌, ◌≤◌, ℕ, length}
 use Rattle.switch_core.specs.declared.upkeep.Upkeep.TheVariants as due
 use Rattle.network.specs.Running.{RunsWithMerges, front_at, joined_below, upkeep_calls, without_merges}
 use Rattle.network.proofs.Calls.{IsEmptied}
-use Rattle.network.proofs.turns.Network.drain.Given as goal
+use Rattle.network.proofs.network.Network.drain.Given as goal
 
 -- the switches below this one are drained, and the others are unchanged
 abbrev pub invariant-loop-at : goal.invariant-loop-at

@@ -13,7 +13,7 @@ use Rattle.network.proofs.CostSteps.{room_cost}
 use Rattle.network.proofs.MakeSteps.{if_err}
 use Rattle.network.proofs.Runs.{kept_long, merges_cost_kept, packet_cost_kept, run_breaks_in, run_breaks_on, runs_is, runs_kept, runs_on}
 use Rattle.network.proofs.Runs.{runs_one}
-use Rattle.network.proofs.turns.Network.turn.Goals as goal
+use Rattle.network.proofs.network.Network.turn.Goals as goal
 
 pub packet-requires : goal.packet-requires
 packet-requires g c =

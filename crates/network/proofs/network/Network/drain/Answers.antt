@@ -10,7 +10,7 @@ use Rattle.network.proofs.EventLists.{rest_is_merges}
 use Rattle.network.proofs.MakeSteps.{if_err}
 use Rattle.network.proofs.Runs.{kept_long, merging_after, merging_breaks, merging_breaks_end, merging_first, merging_is, merging_kept}
 use Rattle.network.proofs.Runs.{merging_next, merging_none, merging_run, runs_kept}
-use Rattle.network.proofs.turns.Network.drain.Goals as goal
+use Rattle.network.proofs.network.Network.drain.Goals as goal
 
 -- the evictions of each switch
 abbrev sweeps : NetworkView → ℕ → List NetworkEvent
