@@ -7,6 +7,7 @@ pub mod NetworkSteps
 pub mod Runs
 pub mod Calls
 pub mod OneLane
+pub mod OneFront
 pub mod EventLists
 pub mod Representing
 pub mod Ends

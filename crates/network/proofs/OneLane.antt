@@ -1,5 +1,5 @@
 -- A groupby of a network that is another one now, and the network with it.
-use Rattle.std.proofs.Common.{◌≡◌, ℕ, ◌<◌, List, Some, length, get_or, set, refl, sym, ap, ◌∙◌, subst}
+use Rattle.std.proofs.Common.{◌≡◌, ℕ, ◌<◌, Some, length, get_or, set, refl, sym, ap, ◌∙◌, subst}
 use Rattle.std.specs.Prelude.{slice_get}
 use Rattle.epoch_model.specs.Machine.{Event}
 use Rattle.epoch_entry.specs.declared.any.AnyEpochs.{AnyEpochs}

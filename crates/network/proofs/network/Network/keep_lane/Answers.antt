@@ -1,5 +1,5 @@
 -- An upkeep of a switch's front at one groupby.
-use Rattle.std.proofs.Common.{◌≡◌, ◌+◌, ◌≤◌, [], ◌∷◌, subst, subst₂, lit<}
+use Rattle.std.proofs.Common.{◌+◌, ◌≤◌, [], ◌∷◌, subst, subst₂, lit<}
 use Rattle.std.specs.Prelude.{slice_get}
 use Rattle.switch_core.proofs.LaneFacts.{either_way, on_err, on_ok}
 use Rattle.network.specs.Costs.{front_upkeep_cost}

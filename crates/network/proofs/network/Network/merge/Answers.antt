@@ -1,4 +1,4 @@
-use Rattle.std.proofs.Common.{◌≡◌, ◌+◌, ◌≤◌, true, set, sym, ap, ◌∙◌, subst, lit<}
+use Rattle.std.proofs.Common.{◌≡◌, ◌+◌, ◌≤◌, true, sym, ap, ◌∙◌, subst, lit<}
 use Rattle.epoch_model.specs.Machine.{Merge}
 use Rattle.switch_core.proofs.LaneFacts.{either_way, on_err, on_ok}
 use Rattle.switch_core.proofs.SideBySide.{same_some}
