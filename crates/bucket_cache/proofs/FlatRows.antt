@@ -27,6 +27,11 @@ pub length-rows_of : (width count : ℕ) (words : List ℕ) → length (rows_of 
 length-rows_of width zero words = refl
 length-rows_of width (suc count) words = ap (λ n. suc n) (length-rows_of width count (drop width words))
 
+-- a place of the rows is one of their number
+pub place_within : (width count : ℕ) (words : List ℕ) {rows : List (List ℕ)} {at : ℕ} → rows_of width count words ≡ rows → at < length rows
+    → at < count
+place_within width count words view low = omega (arith, low, length-rows_of width count words, ap length view)
+
 pub get-rows_of : (width count : ℕ) (words : List ℕ) (at : ℕ) (d : List ℕ) → at < count
     → get_or (rows_of width count words) at d ≡ take width (drop (at * width) words)
 get-rows_of width zero words at d h = absurd (omega arith)
