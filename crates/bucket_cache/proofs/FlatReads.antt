@@ -69,7 +69,7 @@ module _ {ways kw : ℕ} {used order words : List ℕ} (b : ℕ) (are : AreBucke
       let row = flat_row (ways * kw) b words in
       subst₂ (AreBuckets ways kw (set used b (get_or used b 0 - 1))) (same-row ways b order) (same-row (ways * kw) b words)
       (written-buckets b are h (get_or used b 0 - 1) o row (order-long b are h) (words-long b are h)
-      (fewer-bucket (b * ways) kw (get_or used b 0) o (rows_of kw ways row) (bucket-is b are h)))
+      (fewer-bucket (bucket-is b are h)))
 
   pub fewer-lists : lists_in ways kw (set used b (get_or used b 0 - 1)) order words ≡ set (lists_in ways kw used order words) b
       (take (length (list_in ways kw used order words b) - 1) (list_in ways kw used order words b))
