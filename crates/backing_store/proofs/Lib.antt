@@ -3,7 +3,6 @@ mod KeyFacts
 pub mod StateFacts
 pub mod StoreFacts
 pub mod StoreKept
-pub mod StoreWhole
 pub mod RowMaking
 pub mod ZipFacts
 pub mod StableSorts

@@ -1,16 +1,17 @@
 -- A store, by its parts, after a key got a row or one of its rows was counted again.
-use Rattle.std.proofs.Common.{◌≡◌, ◌≢◌, ◌<◌, ◌∙◌, ℕ, Bool, true, false, List, [], ◌∷◌, ◌++◌, length, map, get_or, set, slice_get, Some, refl, sym, ap}
+use Rattle.std.proofs.Common.{◌≡◌, ◌≢◌, ◌<◌, ◌∙◌, ℕ, Bool, true, false, List, [], ◌∷◌, ◌++◌, length, map, get_or, set, slice_get, Some, refl, sym, ap, subst}
 use Rattle.std.proofs.Common.{arith}
 use Rattle.std.specs.List.{zip}
 use Rattle.std.specs.Map.{values_of}
 use Rattle.std.proofs.lemmas.Option.{slice_get_read, slice_get_within}
-use Rattle.backing_store.specs.Store.{Store, StoredRow, IsLastIn, counted, number_of, one_more, row_keys}
+use Rattle.backing_store.specs.Store.{Store, StoredRow, IsLastIn, IsStore, counted, number_of, one_more, row_keys}
 use Rattle.backing_store.specs.Stored.{stored}
-use Rattle.backing_store.specs.StoreView.{IsSound, IsWhole, store_of, store_with}
+use Rattle.backing_store.specs.StoreView.{IsSound, IsWhole, SoundFor, store_of, store_with}
 use Rattle.backing_store.specs.declared.store.Merged.{Merged}
 use Rattle.backing_store.specs.declared.store.BackingStore.TheInside.{Inside}
 use Rattle.backing_store.proofs.StoreFacts.{Entry, FirstAt, counted_again, counted_first, counted_row, place_kept, place_pushed}
-use Rattle.backing_store.proofs.StoreWhole.{whole_again, whole_first, whole_row}
+use Rattle.backing_store.proofs.StoreFacts.{set_value_at, sound_again, sound_first, sound_row}
+use Rattle.backing_store.proofs.StoreKept.{store_counted}
 use Rattle.backing_store.proofs.ZipFacts.{first_of_once, length-zip, none_of_absent, zip-push, zip-set, zip-value}
 
 -- a store of which a row for a key is asked
@@ -37,11 +38,9 @@ module _ {a : Inside} (s : IsSound a) where
         (slice_get_read a.merged.items (length a.merged.items) at was refl found_within read)
 
 module _ {a : Inside} {store : Store} {key initial : List ℕ} (s : IsAsked a store key initial) where
-  kw : length key ≡ a.keys.width
-  kw = s.key_size ∙ ap (λ (x : Store). x.key_words) (sym s.view)
-
-  sw : length initial ≡ a.states.width
-  sw = s.row_size ∙ ap (λ (x : Store). x.state_words) (sym s.view)
+  -- the store is one as before, whether or not there is a row per epoch
+  stays : (per_epoch : Bool) → IsStore (counted store key initial per_epoch)
+  stays per_epoch = store_counted store key initial per_epoch (subst IsStore s.view s.sound.whole.0) s.key_size s.row_size
 
   abbrev parts : List Entry
   parts = zip a.keys.keys a.merged.items
@@ -55,36 +54,36 @@ module _ {a : Inside} {store : Store} {key initial : List ℕ} (s : IsAsked a st
     abbrev changed : List Entry
     changed = zip a.keys.keys (set a.merged.items at now)
 
-    pub again_whole : now.last ≡ was.last → IsWhole changed a.states.rows a.keys.width a.states.width
-    again_whole same = rw (zip-set a.keys.keys a.merged.items at now s.sound.many) (whole_again key initial parts a.states.rows
-        a.keys.width a.states.width at was now (found_first s.sound at here) (found_value s.sound at here read) more same kw sw s.sound.whole)
+    as_set : changed ≡ set_value_at parts at now
+    as_set = zip-set a.keys.keys a.merged.items at now s.sound.many
+
+    again_sound : now.last ≡ was.last → SoundFor (set_value_at parts at now) a.states.rows
+    again_sound same = sound_again parts a.states.rows at was now s.sound.whole.1 (found_value s.sound at here read) same
 
     pub again_counted : store_with changed a.states.rows a.keys.width a.states.width ≡ counted store key initial false
-    again_counted = rw (zip-set a.keys.keys a.merged.items at now s.sound.many) (counted_again key initial parts a.states.rows
-        a.keys.width a.states.width at was now (found_first s.sound at here) (found_value s.sound at here read) more)
-        ∙ ap (λ (x : Store). counted x key initial false) s.view
+    again_counted = rw as_set (counted_again key initial parts a.states.rows a.keys.width a.states.width at was now
+        (found_first s.sound at here) (found_value s.sound at here read) more) ∙ ap (λ (x : Store). counted x key initial false) s.view
+
+    pub again_whole : now.last ≡ was.last → IsWhole changed a.states.rows a.keys.width a.states.width
+    again_whole same = (subst IsStore (sym again_counted) (stays false), rw as_set (again_sound same))
 
     pub again_place : now.last ≡ was.last → IsLastIn (row_keys a.states.rows) (number_of (map stored changed) key) now.last
-    again_place same =
-        let sound = rw (zip-set a.keys.keys a.merged.items at now s.sound.many) at (again_whole same).1 in
-        rw (zip-set a.keys.keys a.merged.items at now s.sound.many)
-        (place_kept key parts a.states.rows at now (found_first s.sound at here) sound)
+    again_place same = rw as_set (place_kept key parts a.states.rows at now (found_first s.sound at here) (again_sound same))
 
-    pub row_whole : now.last ≡ length a.states.rows → IsWhole changed (a.states.rows ++ row ∷ []) a.keys.width a.states.width
-    row_whole place = rw (zip-set a.keys.keys a.merged.items at now s.sound.many) (whole_row key initial parts a.states.rows a.keys.width
-        a.states.width at was now (found_first s.sound at here) (found_value s.sound at here read) more place kw sw s.sound.whole)
+    row_sound : now.last ≡ length a.states.rows → SoundFor (set_value_at parts at now) (a.states.rows ++ row ∷ [])
+    row_sound place = sound_row parts a.states.rows row now s.sound.whole.1 place
 
     pub row_counted : store_with changed (a.states.rows ++ row ∷ []) a.keys.width a.states.width ≡ counted store key initial true
-    row_counted = rw (zip-set a.keys.keys a.merged.items at now s.sound.many) (counted_row key initial parts a.states.rows
-        a.keys.width a.states.width at was now (found_first s.sound at here) (found_value s.sound at here read) more)
-        ∙ ap (λ (x : Store). counted x key initial true) s.view
+    row_counted = rw as_set (counted_row key initial parts a.states.rows a.keys.width a.states.width at was now
+        (found_first s.sound at here) (found_value s.sound at here read) more) ∙ ap (λ (x : Store). counted x key initial true) s.view
+
+    pub row_whole : now.last ≡ length a.states.rows → IsWhole changed (a.states.rows ++ row ∷ []) a.keys.width a.states.width
+    row_whole place = (subst IsStore (sym row_counted) (stays true), rw as_set (row_sound place))
 
     pub row_place : now.last ≡ length a.states.rows
         → IsLastIn (row_keys (a.states.rows ++ row ∷ [])) (number_of (map stored changed) key) now.last
-    row_place place =
-        let sound = rw (zip-set a.keys.keys a.merged.items at now s.sound.many) at (row_whole place).1 in
-        rw (zip-set a.keys.keys a.merged.items at now s.sound.many)
-        (place_kept key parts (a.states.rows ++ row ∷ []) at now (found_first s.sound at here) sound)
+    row_place place = rw as_set
+        (place_kept key parts (a.states.rows ++ row ∷ []) at now (found_first s.sound at here) (row_sound place))
 
   -- a key that stands nowhere is added, with its first row
   module _ (absent : (at : ℕ) → slice_get a.keys.keys at ≢ Some key) {number last : ℕ} (long : number ≡ length a.keys.keys)
@@ -98,20 +97,24 @@ module _ {a : Inside} {store : Store} {key initial : List ℕ} (s : IsAsked a st
     abbrev rows : List StoredRow
     rows = a.states.rows ++ record { key = number; words = initial } ∷ []
 
+    as_pushed : one_key ≡ parts ++ (key, first) ∷ []
+    as_pushed = zip-push a.keys.keys a.merged.items key first s.sound.many
+
     same_number : number ≡ length parts
     same_number = long ∙ sym (length-zip a.keys.keys a.merged.items s.sound.many)
 
-    pub first_whole : IsWhole one_key rows a.keys.width a.states.width
-    first_whole = rw (zip-push a.keys.keys a.merged.items key first s.sound.many, same_number) (whole_first key initial parts a.states.rows
-        a.keys.width a.states.width key last (none_of_absent a.keys.keys a.merged.items key absent) refl place kw sw s.sound.whole)
+    first_sound : SoundFor (parts ++ (key, first) ∷ []) rows
+    first_sound = rw same_number (sound_first parts a.states.rows (record { key = length parts; words = initial }) key first
+        s.sound.whole.1 place refl)
 
     pub first_counted : (per_epoch : Bool) → store_with one_key rows a.keys.width a.states.width ≡ counted store key initial per_epoch
-    first_counted per_epoch = rw (zip-push a.keys.keys a.merged.items key first s.sound.many, same_number)
-        (counted_first key initial parts a.states.rows a.keys.width a.states.width per_epoch key last
-        (none_of_absent a.keys.keys a.merged.items key absent) refl) ∙ ap (λ (x : Store). counted x key initial per_epoch) s.view
+    first_counted per_epoch = rw (as_pushed, same_number) (counted_first key initial parts a.states.rows a.keys.width a.states.width
+        per_epoch key last (none_of_absent a.keys.keys a.merged.items key absent) refl)
+        ∙ ap (λ (x : Store). counted x key initial per_epoch) s.view
+
+    pub first_whole : IsWhole one_key rows a.keys.width a.states.width
+    first_whole = (subst IsStore (sym (first_counted false)) (stays false), rw as_pushed first_sound)
 
     pub first_place : IsLastIn (row_keys rows) (number_of (map stored one_key) key) last
-    first_place =
-        let sound = rw (zip-push a.keys.keys a.merged.items key first s.sound.many) at first_whole.1 in
-        rw (zip-push a.keys.keys a.merged.items key first s.sound.many)
-        (place_pushed key parts rows key first (none_of_absent a.keys.keys a.merged.items key absent) refl sound)
+    first_place = rw as_pushed
+        (place_pushed key parts rows key first (none_of_absent a.keys.keys a.merged.items key absent) refl first_sound)
