@@ -72,7 +72,8 @@ module _ (ways kw : ℕ) where
     length-lists_in = length-map (buckets_of ways kw used order words) (λ (r : Recency). r.pairs) ∙ length-buckets_of
 
     pub get-buckets_of : (b : ℕ) (d : Recency) → b < length used → get_or (buckets_of ways kw used order words) b d
-        ≡ bucket_of ways kw (b * ways) (get_or used b 0) (get_or (orders_of ways used order) b []) (get_or (words_of ways kw used words) b [])
+        ≡ bucket_of ways kw (b * ways) (get_or used b 0) (get_or (orders_of ways used order) b [])
+        (get_or (words_of ways kw used words) b [])
     get-buckets_of b d h =
         let none : 0 + b * ways ≡ b * ways = omega arith in
         let orders = orders_of ways used order in
@@ -82,7 +83,8 @@ module _ (ways kw : ℕ) where
 
     -- the pairs of a bucket, by its row of the order and its row of the words
     pub list-is : (b : ℕ) → b < length used
-        → list_in ways kw used order words b ≡ pairs_at (b * ways) (flat_keys ways kw b words) (take (get_or used b 0) (flat_row ways b order))
+        → list_in ways kw used order words b
+        ≡ pairs_at (b * ways) (flat_keys ways kw b words) (take (get_or used b 0) (flat_row ways b order))
     list-is b h =
         let d = bucket_of 0 0 0 0 [] [] in
         let long = length-buckets_of in

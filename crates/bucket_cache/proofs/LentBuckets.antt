@@ -1,5 +1,6 @@
 -- The parts of one bucket, lent by their bounds and written over.
-use Rattle.std.proofs.Common.{◌≡◌, ℕ, ◌+◌, ◌-◌, ◌*◌, ◌<◌, ◌≤◌, List, ◌++◌, length, take, drop, get_or, set, sym, ap, ap₂, ◌∙◌, subst, subst₂, arith}
+use Rattle.std.proofs.Common.{◌≡◌, ℕ, ◌+◌, ◌-◌, ◌*◌, ◌<◌, ◌≤◌, List, ◌++◌, length, take, drop, get_or, set, sym}
+use Rattle.std.proofs.Common.{ap, ap₂, ◌∙◌, subst, subst₂, arith}
 use Rattle.std.proofs.lemmas.List.{set-get_or}
 use Rattle.std.proofs.Math.Nat.{mul-le-mul_left}
 use Rattle.epoch_model.specs.Keys.{Key}
@@ -136,7 +137,8 @@ module _ {ways kw : ℕ} {used order words : List ℕ} (b : ℕ) (are : AreBucke
     full-list = lent-list
         ∙ ap (λ u. pairs_at (b * ways) (lent_keys (lent_row (ways * kw) b words)) (take u (lent_row ways b order))) full-used
 
-    module _ (o' w' : List ℕ) (so : length o' ≡ length (lent_row ways b order)) (sw : length w' ≡ length (lent_row (ways * kw) b words)) where
+    module _ (o' w' : List ℕ) (so : length o' ≡ length (lent_row ways b order))
+        (sw : length w' ≡ length (lent_row (ways * kw) b words)) where
       pub full-buckets : IsBucket (b * ways) kw (length (lent_row ways b order)) o' (lent_keys w')
           → AreBuckets ways kw used (with_lent ways b o' order) (with_lent (ways * kw) b w' words)
       full-buckets is = subst (λ us. AreBuckets ways kw us (with_lent ways b o' order) (with_lent (ways * kw) b w' words))

@@ -20,7 +20,8 @@ pub overflow_add-end : goal.overflow_add-end
 overflow_add-end c = let words = c.self.inside.words in omega (arith, within c, words.ok.0, words.small)
 
 pub slice_mut-requires-clause-in_bounds : goal.slice_mut-requires-clause-in_bounds
-slice_mut-requires-clause-in_bounds c = omega (arith, within (goal.at.slice_mut-requires-clause-in_bounds c).After-self, c.self.inside.words.ok.0)
+slice_mut-requires-clause-in_bounds c =
+    omega (arith, within (goal.at.slice_mut-requires-clause-in_bounds c).After-self, c.self.inside.words.ok.0)
 
 pub returns : goal.returns
 returns c =

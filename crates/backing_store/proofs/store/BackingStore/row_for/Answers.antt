@@ -2,8 +2,8 @@
 use Rattle.std.proofs.Common.{◌≡◌, ◌+◌, ◌∙◌, ◌++◌, ◌∷◌, [], refl, sym, ap, arith, length-set, length-append}
 use Rattle.backing_store.specs.declared.store.Merged.{Merged}
 use Rattle.backing_store.proofs.StateFacts.{pushed-front}
-use Rattle.backing_store.proofs.RowMaking.{IsAsked, found_within, again_whole, again_counted, again_place, row_whole, row_counted, row_place}
-use Rattle.backing_store.proofs.RowMaking.{first_whole, first_counted, first_place}
+use Rattle.backing_store.proofs.RowMaking.{IsAsked, found_within, again_whole, again_counted, again_place, row_whole}
+use Rattle.backing_store.proofs.RowMaking.{row_counted, row_place, first_whole, first_counted, first_place}
 use Rattle.backing_store.proofs.store.BackingStore.row_for.Goals as goal
 use Rattle.backing_store.proofs.store.BackingStore.row_for.Goals.{After-self, After-push_reserved}
 

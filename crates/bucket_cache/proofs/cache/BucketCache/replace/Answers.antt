@@ -17,7 +17,8 @@ written g c =
     let new = c.replace_in_bucket.new in
     let lent = c.replace_in_bucket.auto in
     flat-kept c.self.invariant (subst₂ (AreBuckets g.row.WAYS b.key_words b.used.items)
-    (sym (now-holds b.order.items new.order (lent.order ∙ c.deref_mut.ensures.len))) (sym (now-holds b.words.items new.words (lent.words ∙ c.deref_mut-2.ensures.len)))
+    (sym (now-holds b.order.items new.order (lent.order ∙ c.deref_mut.ensures.len)))
+    (sym (now-holds b.words.items new.words (lent.words ∙ c.deref_mut-2.ensures.len)))
     (subst₂ (λ n xs. AreBuckets g.row.WAYS n xs new.order new.words)
     (c.requires.words ∙ ap (λ x. x.key_words) (sym c.self.view_is)) c.deref.ensures.value c.replace_in_bucket.ensures.buckets)) refl
 

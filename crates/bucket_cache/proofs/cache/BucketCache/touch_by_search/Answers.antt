@@ -19,7 +19,8 @@ written g c =
     let used : held b.used.len b.used.items new.used ≡ new.used = now-holds b.used.items new.used (lent.used ∙ c.deref_mut.ensures.len) in
     flat-kept c.self.invariant (subst (λ xs. AreBuckets g.row.WAYS b.key_words xs (held b.order.len b.order.items new.order)
     (held b.words.len b.words.items new.words)) (sym used) (subst₂ (AreBuckets g.row.WAYS b.key_words new.used)
-    (sym (now-holds b.order.items new.order (lent.order ∙ c.deref_mut-2.ensures.len))) (sym (now-holds b.words.items new.words (lent.words ∙ c.deref_mut-3.ensures.len)))
+    (sym (now-holds b.order.items new.order (lent.order ∙ c.deref_mut-2.ensures.len)))
+    (sym (now-holds b.words.items new.words (lent.words ∙ c.deref_mut-3.ensures.len)))
     (subst (λ n. AreBuckets g.row.WAYS n new.used new.order new.words) (c.requires.words ∙ ap (λ x. x.key_words) (sym c.self.view_is))
     c.touch_bucket.ensures.buckets))) (ap length used ∙ (lent.used ∙ ap length c.deref_mut.ensures.value))
 

@@ -60,7 +60,8 @@ returns-clause-err g c =
     let new = c.merge_into.new.self in
     let store = c.merge_into.new.store in
     on_err ((new ≡ c.index_mut-front.result.now) × (store ≡ view.store))
-    (with_lane c.args.at (with_store new store) view ≡ c.args.self.now) c.merge_into.result (front_kept f new store) c.merge_into.ensures.err
+    (with_lane c.args.at (with_store new store) view ≡ c.args.self.now) c.merge_into.result (front_kept f new store)
+    c.merge_into.ensures.err
 
 pub returns-clause-cost : goal.returns-clause-cost
 returns-clause-cost g c x e = subst (λ y. c.merge_into.new.steps ≤ c.args.steps.now + lane_merge_cost (lane_in c.args.self.now y))
