@@ -3,7 +3,7 @@ mod KeyFacts
 pub mod StateFacts
 pub mod StoreFacts
 pub mod StoreKept
-pub mod StoreWhole
+pub mod RowMaking
 pub mod ZipFacts
 pub mod StableSorts
 pub mod SameRows

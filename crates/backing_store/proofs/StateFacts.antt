@@ -5,7 +5,7 @@ use Rattle.std.proofs.lemmas.List.{take_at, take_all, drop_all, take-take, drop-
 use Rattle.bucket_cache.specs.Slices.{rows_of}
 use Rattle.bucket_cache.proofs.FlatRows.{length-rows_of}
 use Rattle.backing_store.specs.Marks.{row_at}
-use Rattle.backing_store.specs.States.{paired, states_in}
+use Rattle.backing_store.specs.States.{StateList, paired, states_in}
 use Rattle.backing_store.specs.Store.{StoredRow, row_keys}
 use Rattle.backing_store.specs.StoreLending.{with_words_at}
 use Rattle.backing_store.proofs.KeyFacts.{got_row, rows_more}
@@ -25,6 +25,11 @@ paired-push (k ∷ keys) (r ∷ rows) key words same = ap (λ rest. record { key
 
 pub length-states_in : (width : ℕ) (keys words : List ℕ) → length (states_in width keys words) ≡ length keys
 length-states_in width keys words = length-paired keys (rows_of width (length keys) words) (sym (length-rows_of width (length keys) words))
+
+-- a place of a row is one of the parts
+pub state_within : (width : ℕ) (keys words : List ℕ) {states : StateList} {at : ℕ}
+    → record { width = width; rows = states_in width keys words } ≡ states → at < length states.rows → at < length keys
+state_within width keys words view low = omega (arith, low, length-states_in width keys words, ap (λ s. length s.rows) view)
 
 pub states_more : (width : ℕ) (keys words : List ℕ) (key : ℕ) (row : List ℕ) → length words ≡ length keys * width → length row ≡ width
     → states_in width (keys ++ key ∷ []) (words ++ row) ≡ states_in width keys words ++ record { key = key; words = row } ∷ []

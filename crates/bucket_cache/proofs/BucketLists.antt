@@ -21,11 +21,11 @@ abbrev pub Matches : List Key → List ℕ → ℕ → Key → Bool → Type 0
 Matches keys ways at key answer = key_eq (get_or keys (get_or ways at 0) []) key ≡ answer
 
 -- the ways in use are the first ones
-pub matches-front : (used at : ℕ) (order : List ℕ) (keys : List Key) (key : Key) (answer : Bool) → at < used
+matches-front : (used at : ℕ) (order : List ℕ) (keys : List Key) (key : Key) (answer : Bool) → at < used
     → Matches keys order at key answer → Matches keys (take used order) at key answer
 matches-front used at order keys key answer l h = ap (λ way. key_eq (get_or keys way []) key) (get_or-take used order at 0 l) ∙ h
 
-pub in-front : (used at : ℕ) (order : List ℕ) → used ≤ length order → at < used → at < length (take used order)
+in-front : (used at : ℕ) (order : List ℕ) → used ≤ length order → at < used → at < length (take used order)
 in-front used at order w l = subst (λ n. at < n) (sym (length-take-le used order w)) l
 
 matching : (first at : ℕ) (ways : List ℕ) (keys : List Key) (key : Key) → at < length ways → Matches keys ways at key true
@@ -42,52 +42,53 @@ place_is first used at order keys h l =
     ap (λ (p : Pair). p.place) (get_or-map (pair_at first keys) (take used order) at 0 (pair_at first keys 0) h)
     ∙ ap (λ n. first + n) (get_or-take used order at 0 l)
 
-pub hit-has : (first at : ℕ) (ways : List ℕ) (keys : List Key) (key : Key) → at < length ways → Matches keys ways at key true
-    → has_key key (pairs_at first keys ways) ≡ true
-hit-has first at ways keys key h e = has-at at (pair_at first keys 0) key (pairs_at first keys ways)
-    (let l = long_pairs first ways keys in omega arith) (matching first at ways keys key h e)
+module _ {first kw used : ℕ} {order : List ℕ} {keys : List Key} (b : IsBucket first kw used order keys) (at : ℕ) (key : Key) (l : at < used)
+    (same : Matches keys order at key true) where
+  here : at < length (take used order)
+  here = in-front used at order b.within l
 
-pub hit-place : (first kw used at : ℕ) (order : List ℕ) (keys : List Key) (key : Key) → IsBucket first kw used order keys
-    → at < length (take used order) → at < used → Matches keys (take used order) at key true
-    → place_of_key key (pairs_at first keys (take used order)) ≡ Some (first + get_or order at 0)
-hit-place first kw used at order keys key b h l e =
-    place-at at (pair_at first keys 0) key (pairs_at first keys (take used order))
-    (let n = long_pairs first (take used order) keys in omega arith) b.once (matching first at (take used order) keys key h e)
-    ∙ ap (λ n. Some n) (place_is first used at order keys h l)
+  is_key : key_eq (get_or (pairs_at first keys (take used order)) at (pair_at first keys 0)).key key ≡ true
+  is_key = matching first at (take used order) keys key here (matches-front used at order keys key true l same)
 
-pub hit-pairs : (first kw used at : ℕ) (order : List ℕ) (keys : List Key) (key : Key) → IsBucket first kw used order keys
-    → at < length (take used order) → at < used → Matches keys (take used order) at key true
-    → pairs_at first keys (take used (at_front at order)) ≡ record { key = key; place = first + get_or order at 0 }
-    ∷ without_key key (pairs_at first keys (take used order))
-hit-pairs first kw used at order keys key b h l e =
-    let ps = pairs_at first keys (take used order) in
-    ap (pairs_at first keys) (take-at_front used at order l b.within)
-    ∙ (map-at_front (pair_at first keys) at (take used order)
-    ∙ (front-pair at (pair_at first keys 0) key ps (let n = long_pairs first (take used order) keys in omega arith) b.once
-    (matching first at (take used order) keys key h e)
-    ∙ ap (λ n. record { key = key; place = n } ∷ without_key key ps) (place_is first used at order keys h l)))
+  among : at < length (pairs_at first keys (take used order))
+  among = let long = long_pairs first (take used order) keys in let h = here in omega arith
 
-pub hit-bucket : (first kw used at : ℕ) (order : List ℕ) (keys : List Key) (key : Key) → IsBucket first kw used order keys
-    → at < length (take used order) → at < used → Matches keys (take used order) at key true
-    → IsBucket first kw used (at_front at order) keys
-hit-bucket first kw used at order keys key b h l e =
-    let w = b.within in
-    let here : at < length order = omega arith in
-    let long = length-at_front at order here in
-    let s = b.some in
-    let room = b.places in
-    record {
-      some = omega arith;
-      same = let m = b.same in omega arith;
-      within = omega arith;
-      words = b.words;
-      short = b.short;
-      places = omega arith;
-      ways = subst (λ n. All (λ way. way < n) (at_front at order)) (sym long) (All-at_front (λ way. way < length order) at order b.ways);
-      apart = AllPairs-at_front at order here b.apart;
-      once = subst AreKeysOnce (sym (hit-pairs first kw used at order keys key b h l e))
-          (once-front key (first + get_or order at 0) (pairs_at first keys (take used order)) b.once);
-    }
+  pub hit-has : has_key key (pairs_at first keys (take used order)) ≡ true
+  hit-has = has-at at (pair_at first keys 0) key (pairs_at first keys (take used order)) among is_key
+
+  pub hit-place : place_of_key key (pairs_at first keys (take used order)) ≡ Some (first + get_or order at 0)
+  hit-place = place-at at (pair_at first keys 0) key (pairs_at first keys (take used order)) among b.once is_key
+      ∙ ap (λ n. Some n) (place_is first used at order keys here l)
+
+  pub hit-pairs : pairs_at first keys (take used (at_front at order)) ≡ record { key = key; place = first + get_or order at 0 }
+      ∷ without_key key (pairs_at first keys (take used order))
+  hit-pairs =
+      let ps = pairs_at first keys (take used order) in
+      ap (pairs_at first keys) (take-at_front used at order l b.within)
+      ∙ (map-at_front (pair_at first keys) at (take used order)
+      ∙ (front-pair at (pair_at first keys 0) key ps among b.once is_key
+      ∙ ap (λ n. record { key = key; place = n } ∷ without_key key ps) (place_is first used at order keys here l)))
+
+  pub hit-bucket : IsBucket first kw used (at_front at order) keys
+  hit-bucket =
+      let w = b.within in
+      let low : at < length order = omega arith in
+      let long = length-at_front at order low in
+      let s = b.some in
+      let room = b.places in
+      record {
+        some = omega arith;
+        same = let m = b.same in omega arith;
+        within = omega arith;
+        words = b.words;
+        short = b.short;
+        places = omega arith;
+        ways = subst (λ n. All (λ way. way < n) (at_front at order)) (sym long)
+            (All-at_front (λ way. way < length order) at order b.ways);
+        apart = AllPairs-at_front at order low b.apart;
+        once = subst AreKeysOnce (sym hit-pairs)
+            (once-front key (first + get_or order at 0) (pairs_at first keys (take used order)) b.once);
+      }
 
 -- where the first pair has another key, so has the first way in use
 pub other-first : (first used : ℕ) (order : List ℕ) (keys : List Key) (key : Key) → 0 < used → used ≤ length order
@@ -124,40 +125,38 @@ not_among used order h a = recursion_from_All (λ other. other ≢ get_or order 
     let below : k < used = omega arith in
     λ e. a k used 0 below h (sym (get_or-take used order k 0 below) ∙ (get_or_default (take used order) k 0 d l ∙ e)))
 
-pub free-pairs : (first kw used : ℕ) (order : List ℕ) (keys keys' : List Key) (key : Key) → IsBucket first kw used order keys
-    → used < length order
-    → keys' ≡ set keys (get_or order used 0) key
-    → pairs_at first keys' (take (used + 1) (at_front used order)) ≡ record { key = key; place = first + get_or order used 0 }
-    ∷ pairs_at first keys (take used order)
-free-pairs first kw used order keys keys' key b h s =
-    let way = get_or order used 0 in
-    let m = b.same in
-    let in_keys : way < length keys = let w = b.ways used 0 h in omega arith in
-    ap (pairs_at first keys') (take_more-at_front used 0 order h)
-    ∙ ap₂ (λ k ps. record { key = k; place = first + way } ∷ ps) (ap (λ ks. get_or ks way []) s ∙ get_or-set_same keys way key [] in_keys)
-    (ap (λ ks. pairs_at first ks (take used order)) s ∙ pairs-set first way key keys (take used order) (not_among used order h b.apart))
+module _ {first kw used : ℕ} {order : List ℕ} {keys : List Key} (b : IsBucket first kw used order keys) (h : used < length order)
+    {keys' : List Key} (key : Key) (s : keys' ≡ set keys (get_or order used 0) key) where
+  pub free-pairs : pairs_at first keys' (take (used + 1) (at_front used order))
+      ≡ record { key = key; place = first + get_or order used 0 } ∷ pairs_at first keys (take used order)
+  free-pairs =
+      let way = get_or order used 0 in
+      let m = b.same in
+      let in_keys : way < length keys = let w = b.ways used 0 h in omega arith in
+      ap (pairs_at first keys') (take_more-at_front used 0 order h)
+      ∙ ap₂ (λ k ps. record { key = k; place = first + way } ∷ ps)
+      (ap (λ ks. get_or ks way []) s ∙ get_or-set_same keys way key [] in_keys)
+      (ap (λ ks. pairs_at first ks (take used order)) s ∙ pairs-set first way key keys (take used order) (not_among used order h b.apart))
 
-pub free-bucket : (first kw used : ℕ) (order : List ℕ) (keys keys' : List Key) (key : Key) → IsBucket first kw used order keys
-    → used < length order
-    → has_key key (pairs_at first keys (take used order)) ≡ false → length key ≡ kw
-    → keys' ≡ set keys (get_or order used 0) key
-    → IsBucket first kw (used + 1) (at_front used order) keys'
-free-bucket first kw used order keys keys' key b h none w s =
-    let long = length-at_front used order h in
-    let same : length keys' ≡ length keys = ap length s ∙ length-set keys (get_or order used 0) key in
-    let room = b.places in
-    record {
-      some = omega arith;
-      same = let m = b.same in omega arith;
-      within = omega arith;
-      words = subst (λ ks. All (λ k. length k ≡ kw) ks) (sym s) (All-set (λ k. length k ≡ kw) keys (get_or order used 0) key w b.words);
-      short = b.short;
-      places = omega arith;
-      ways = subst (λ n. All (λ way. way < n) (at_front used order)) (sym long)
-          (All-at_front (λ way. way < length order) used order b.ways);
-      apart = AllPairs-at_front used order h b.apart;
-      once = subst AreKeysOnce (sym (free-pairs first kw used order keys keys' key b h s)) (none, b.once);
-    }
+  pub free-bucket : has_key key (pairs_at first keys (take used order)) ≡ false → length key ≡ kw
+      → IsBucket first kw (used + 1) (at_front used order) keys'
+  free-bucket none w =
+      let long = length-at_front used order h in
+      let same : length keys' ≡ length keys = ap length s ∙ length-set keys (get_or order used 0) key in
+      let room = b.places in
+      record {
+        some = omega arith;
+        same = let m = b.same in omega arith;
+        within = omega arith;
+        words = subst (λ ks. All (λ k. length k ≡ kw) ks) (sym s)
+            (All-set (λ k. length k ≡ kw) keys (get_or order used 0) key w b.words);
+        short = b.short;
+        places = omega arith;
+        ways = subst (λ n. All (λ way. way < n) (at_front used order)) (sym long)
+            (All-at_front (λ way. way < length order) used order b.ways);
+        apart = AllPairs-at_front used order h b.apart;
+        once = subst AreKeysOnce (sym free-pairs) (none, b.once);
+      }
 
 pub some-get : {X : Type 0} (xs : List X) (i : ℕ) (x : X) → slice_get xs i ≡ Some x → i < length xs
 some-get [] i x e = cc
@@ -207,9 +206,9 @@ fewer-pairs first used order keys l =
     ∙ (sym (take-map (pair_at first keys) (used - 1) (take used order))
     ∙ ap (λ n. take (n - 1) ps) (sym (few-pairs first used order keys l)))
 
-pub fewer-bucket : (first kw used : ℕ) (order : List ℕ) (keys : List Key) → IsBucket first kw used order keys
+pub fewer-bucket : {first kw used : ℕ} {order : List ℕ} {keys : List Key} → IsBucket first kw used order keys
     → IsBucket first kw (used - 1) order keys
-fewer-bucket first kw used order keys b =
+fewer-bucket {first} {kw} {used} {order} {keys} b =
     let w = b.within in
     record {
       some = b.some;
@@ -224,31 +223,30 @@ fewer-bucket first kw used order keys b =
           (once-take (length (pairs_at first keys (take used order)) - 1) (pairs_at first keys (take used order)) b.once);
     }
 
-pub replaced-bucket : (first kw used : ℕ) (order : List ℕ) (keys keys' : List Key) (key : Key) → IsBucket first kw used order keys
-    → used ≡ length order
-    → has_key key (pairs_at first keys (take used order)) ≡ false → length key ≡ kw
-    → keys' ≡ set keys (get_or order (used - 1) 0) key
-    → IsBucket first kw used (at_front (used - 1) order) keys'
-replaced-bucket first kw used order keys keys' key b full none w s =
-    let some = b.some in
-    let one : used - 1 + 1 ≡ used = omega arith in
-    let absent : has_key key (pairs_at first keys (take (used - 1) order)) ≡ false =
-    ap (has_key key) (fewer-pairs first used order keys b.within) ∙ has-front key (length (pairs_at first keys (take used order)) - 1)
-    (pairs_at first keys (take used order)) none in
-    subst (λ n. IsBucket first kw n (at_front (used - 1) order) keys') one
-    (free-bucket first kw (used - 1) order keys keys' key (fewer-bucket first kw used order keys b) (omega arith) absent w s)
+module _ {first kw used : ℕ} {order : List ℕ} {keys : List Key} (b : IsBucket first kw used order keys) (full : used ≡ length order) where
+  one_less : used - 1 < length order
+  one_less = let some = b.some in omega arith
 
-pub replaced-pairs : (first kw used : ℕ) (order : List ℕ) (keys keys' : List Key) (key : Key) → IsBucket first kw used order keys
-    → used ≡ length order
-    → keys' ≡ set keys (get_or order (used - 1) 0) key
-    → pairs_at first keys' (take used (at_front (used - 1) order)) ≡ record { key = key; place = first + get_or order (used - 1) 0 }
-    ∷ take (length (pairs_at first keys (take used order)) - 1) (pairs_at first keys (take used order))
-replaced-pairs first kw used order keys keys' key b full s =
-    let some = b.some in
-    let one : used - 1 + 1 ≡ used = omega arith in
-    ap (λ n. pairs_at first keys' (take n (at_front (used - 1) order))) (sym one)
-    ∙ (free-pairs first kw (used - 1) order keys keys' key (fewer-bucket first kw used order keys b) (omega arith) s
-    ∙ ap (λ ps. record { key = key; place = first + get_or order (used - 1) 0 } ∷ ps) (fewer-pairs first used order keys b.within))
+  one_more : used - 1 + 1 ≡ used
+  one_more = let some = b.some in omega arith
+
+module _ {first kw used : ℕ} {order : List ℕ} {keys : List Key} (b : IsBucket first kw used order keys) (full : used ≡ length order)
+    {keys' : List Key} (key : Key) (s : keys' ≡ set keys (get_or order (used - 1) 0) key) where
+  pub replaced-bucket : has_key key (pairs_at first keys (take used order)) ≡ false → length key ≡ kw
+      → IsBucket first kw used (at_front (used - 1) order) keys'
+  replaced-bucket none w =
+      let ps = pairs_at first keys (take used order) in
+      subst (λ n. IsBucket first kw n (at_front (used - 1) order) keys') (one_more b full)
+      (free-bucket (fewer-bucket b) (one_less b full) key s
+      (ap (has_key key) (fewer-pairs first used order keys b.within) ∙ has-front key (length ps - 1) ps none) w)
+
+  pub replaced-pairs : pairs_at first keys' (take used (at_front (used - 1) order))
+      ≡ record { key = key; place = first + get_or order (used - 1) 0 }
+      ∷ take (length (pairs_at first keys (take used order)) - 1) (pairs_at first keys (take used order))
+  replaced-pairs =
+      ap (λ n. pairs_at first keys' (take n (at_front (used - 1) order))) (sym (one_more b full))
+      ∙ (free-pairs (fewer-bucket b) (one_less b full) key s
+      ∙ ap (λ ps. record { key = key; place = first + get_or order (used - 1) 0 } ∷ ps) (fewer-pairs first used order keys b.within))
 
 -- the pair at a number, by the way there
 pub pair-is : (first used i : ℕ) (order : List ℕ) (keys : List Key) (d : Pair) → used ≤ length order → i < used

@@ -1,111 +1,105 @@
 -- Buckets whose parts are stored one after another.
-use Rattle.std.proofs.Common.{◌≡◌, ℕ, zero, suc, ◌+◌, ◌-◌, ◌*◌, ◌<◌, ◌≤◌, List, [], ◌∷◌, ◌++◌, length, map, take, drop, get_or, set, refl}
-use Rattle.std.proofs.Common.{sym, ap, ap₂, ◌∙◌, subst, arith, ⊎_elim, length-set, length-drop, get_or-set_same, get_or-set_other}
+use Rattle.std.proofs.Common.{◌≡◌, ℕ, zero, suc, ◌+◌, ◌-◌, ◌*◌, ◌<◌, List, [], ◌∷◌, ◌++◌, length, map, take, drop, get_or, set, refl}
+use Rattle.std.proofs.Common.{sym, ap, ap₂, ◌∙◌, subst, subst₂, arith, ⊎_elim, length-set, length-drop, get_or-set_same, get_or-set_other}
 use Rattle.std.proofs.lemmas.Bool.{cases_eq}
-use Rattle.std.proofs.lemmas.List.{length-take-le, length-append, length-map, map-set, get_or-map, set-get_or}
+use Rattle.std.proofs.lemmas.List.{length-take-le, length-append, length-map, map-set, get_or-map}
 use Rattle.bucket_cache.specs.Slices.{rows_of}
-use Rattle.bucket_cache.specs.Buckets.{Pair, Recency, IsBucket, pairs_at}
+use Rattle.bucket_cache.specs.Buckets.{Recency, IsBucket, pairs_at}
 use Rattle.bucket_cache.specs.FlatBuckets.{bucket_of, buckets_from, orders_of, words_of, buckets_of, lists_in, list_in, AreBuckets}
 use Rattle.epoch_model.specs.Keys.{Key}
-use Rattle.bucket_cache.specs.declared.bucket.Touch.{Touch}
-use Rattle.bucket_cache.specs.Touches.{Touches}
 use Rattle.bucket_cache.proofs.BucketLists.{few-pairs}
 use Rattle.bucket_cache.proofs.FlatRows.{row_fits, length-rows_of, get-rows_of, set-rows_of}
 
-length-buckets_from : (ways kw first : ℕ) (used : List ℕ) (orders rows : List (List ℕ)) → length orders ≡ length used
-    → length rows ≡ length used
-    → length (buckets_from ways kw first used orders rows) ≡ length used
-length-buckets_from ways kw first [] orders rows e f = refl
-length-buckets_from ways kw first (u ∷ used) [] rows e f = absurd (omega arith)
-length-buckets_from ways kw first (u ∷ used) (o ∷ orders) [] e f = absurd (omega arith)
-length-buckets_from ways kw first (u ∷ used) (o ∷ orders) (w ∷ rows) e f =
-    ap (λ n. suc n) (length-buckets_from ways kw (first + ways) used orders rows (omega arith) (omega arith))
+-- a row of a flat part, the keys of a row of words, and the part with another row
+abbrev pub flat_row : ℕ → ℕ → List ℕ → List ℕ
+flat_row width b xs = take width (drop (b * width) xs)
 
-get-buckets_from : (ways kw first b : ℕ) (used : List ℕ) (orders rows : List (List ℕ)) (d : Recency) → length orders ≡ length used
-    → length rows ≡ length used → b < length used
-    → get_or (buckets_from ways kw first used orders rows) b d ≡ bucket_of ways kw (first + b * ways) (get_or used b 0) (get_or orders b [])
-    (get_or rows b [])
-get-buckets_from ways kw first b [] orders rows d e f h = absurd (omega arith)
-get-buckets_from ways kw first b (u ∷ used) [] rows d e f h = absurd (omega arith)
-get-buckets_from ways kw first b (u ∷ used) (o ∷ orders) [] d e f h = absurd (omega arith)
-get-buckets_from ways kw first zero (u ∷ used) (o ∷ orders) (w ∷ rows) d e f h =
-    let here : first ≡ first + 0 * ways = omega arith in
-    ap (λ n. bucket_of ways kw n u o w) here
-get-buckets_from ways kw first (suc b) (u ∷ used) (o ∷ orders) (w ∷ rows) d e f h =
-    let there : first + ways + b * ways ≡ first + suc b * ways = omega arith in
-    get-buckets_from ways kw (first + ways) b used orders rows d (omega arith) (omega arith) (omega arith)
-    ∙ ap (λ n. bucket_of ways kw n (get_or used b 0) (get_or orders b []) (get_or rows b [])) there
+abbrev pub flat_keys : ℕ → ℕ → ℕ → List ℕ → List Key
+flat_keys ways kw b words = rows_of kw ways (flat_row (ways * kw) b words)
 
-set-buckets_from : (ways kw first b u' : ℕ) (o' w' : List ℕ) (used : List ℕ) (orders rows : List (List ℕ)) → length orders ≡ length used
-    → length rows ≡ length used → b < length used
-    → buckets_from ways kw first (set used b u') (set orders b o') (set rows b w') ≡ set (buckets_from ways kw first used orders rows) b
-    (bucket_of ways kw (first + b * ways) u' o' w')
-set-buckets_from ways kw first b u' o' w' [] orders rows e f h = absurd (omega arith)
-set-buckets_from ways kw first b u' o' w' (u ∷ used) [] rows e f h = absurd (omega arith)
-set-buckets_from ways kw first b u' o' w' (u ∷ used) (o ∷ orders) [] e f h = absurd (omega arith)
-set-buckets_from ways kw first zero u' o' w' (u ∷ used) (o ∷ orders) (w ∷ rows) e f h =
-    let here : first ≡ first + 0 * ways = omega arith in
-    ap (λ n. bucket_of ways kw n u' o' w' ∷ buckets_from ways kw (first + ways) used orders rows) here
-set-buckets_from ways kw first (suc b) u' o' w' (u ∷ used) (o ∷ orders) (w ∷ rows) e f h =
-    let there : first + ways + b * ways ≡ first + suc b * ways = omega arith in
-    ap (λ rs. bucket_of ways kw first u o w ∷ rs)
-    (set-buckets_from ways kw (first + ways) b u' o' w' used orders rows (omega arith) (omega arith) (omega arith)
-    ∙ ap (λ n. set (buckets_from ways kw (first + ways) used orders rows) b (bucket_of ways kw n u' o' w')) there)
+abbrev pub with_row : ℕ → ℕ → List ℕ → List ℕ → List ℕ
+with_row width b row xs = take (b * width) xs ++ (row ++ drop width (drop (b * width) xs))
 
-pub length-buckets_of : (ways kw : ℕ) (used order words : List ℕ) → length (buckets_of ways kw used order words) ≡ length used
-length-buckets_of ways kw used order words = length-buckets_from ways kw 0 used (orders_of ways used order) (words_of ways kw used words)
-    (length-rows_of ways (length used) order) (length-rows_of (ways * kw) (length used) words)
+module _ (ways kw : ℕ) where
+  length-buckets_from : (first : ℕ) (used : List ℕ) (orders rows : List (List ℕ)) → length orders ≡ length used
+      → length rows ≡ length used → length (buckets_from ways kw first used orders rows) ≡ length used
+  length-buckets_from first [] orders rows e f = refl
+  length-buckets_from first (u ∷ used) [] rows e f = absurd (omega arith)
+  length-buckets_from first (u ∷ used) (o ∷ orders) [] e f = absurd (omega arith)
+  length-buckets_from first (u ∷ used) (o ∷ orders) (w ∷ rows) e f =
+      ap (λ n. suc n) (length-buckets_from (first + ways) used orders rows (omega arith) (omega arith))
 
-pub get-buckets_of : (ways kw b : ℕ) (used order words : List ℕ) (d : Recency) → b < length used
-    → get_or (buckets_of ways kw used order words) b d ≡ bucket_of ways kw (b * ways) (get_or used b 0)
-    (get_or (orders_of ways used order) b []) (get_or (words_of ways kw used words) b [])
-get-buckets_of ways kw b used order words d h =
-    let none : 0 + b * ways ≡ b * ways = omega arith in
-    get-buckets_from ways kw 0 b used (orders_of ways used order) (words_of ways kw used words) d
-    (length-rows_of ways (length used) order) (length-rows_of (ways * kw) (length used) words) h
-    ∙ ap (λ n. bucket_of ways kw n (get_or used b 0) (get_or (orders_of ways used order) b []) (get_or (words_of ways kw used words) b []))
-    none
+  get-buckets_from : (first b : ℕ) (used : List ℕ) (orders rows : List (List ℕ)) (d : Recency) → length orders ≡ length used
+      → length rows ≡ length used → b < length used → get_or (buckets_from ways kw first used orders rows) b d
+      ≡ bucket_of ways kw (first + b * ways) (get_or used b 0) (get_or orders b []) (get_or rows b [])
+  get-buckets_from first b [] orders rows d e f h = absurd (omega arith)
+  get-buckets_from first b (u ∷ used) [] rows d e f h = absurd (omega arith)
+  get-buckets_from first b (u ∷ used) (o ∷ orders) [] d e f h = absurd (omega arith)
+  get-buckets_from first zero (u ∷ used) (o ∷ orders) (w ∷ rows) d e f h =
+      let here : first ≡ first + 0 * ways = omega arith in
+      ap (λ n. bucket_of ways kw n u o w) here
+  get-buckets_from first (suc b) (u ∷ used) (o ∷ orders) (w ∷ rows) d e f h =
+      let there : first + ways + b * ways ≡ first + suc b * ways = omega arith in
+      get-buckets_from (first + ways) b used orders rows d (omega arith) (omega arith) (omega arith)
+      ∙ ap (λ n. bucket_of ways kw n (get_or used b 0) (get_or orders b []) (get_or rows b [])) there
 
-pub length-lists_in : (ways kw : ℕ) (used order words : List ℕ) → length (lists_in ways kw used order words) ≡ length used
-length-lists_in ways kw used order words = length-map (buckets_of ways kw used order words) (λ (r : Recency). r.pairs)
-    ∙ length-buckets_of ways kw used order words
+  set-buckets_from : (first b u' : ℕ) (o' w' used : List ℕ) (orders rows : List (List ℕ)) → length orders ≡ length used
+      → length rows ≡ length used → b < length used → buckets_from ways kw first (set used b u') (set orders b o') (set rows b w')
+      ≡ set (buckets_from ways kw first used orders rows) b (bucket_of ways kw (first + b * ways) u' o' w')
+  set-buckets_from first b u' o' w' [] orders rows e f h = absurd (omega arith)
+  set-buckets_from first b u' o' w' (u ∷ used) [] rows e f h = absurd (omega arith)
+  set-buckets_from first b u' o' w' (u ∷ used) (o ∷ orders) [] e f h = absurd (omega arith)
+  set-buckets_from first zero u' o' w' (u ∷ used) (o ∷ orders) (w ∷ rows) e f h =
+      let here : first ≡ first + 0 * ways = omega arith in
+      ap (λ n. bucket_of ways kw n u' o' w' ∷ buckets_from ways kw (first + ways) used orders rows) here
+  set-buckets_from first (suc b) u' o' w' (u ∷ used) (o ∷ orders) (w ∷ rows) e f h =
+      let there : first + ways + b * ways ≡ first + suc b * ways = omega arith in
+      ap (λ rs. bucket_of ways kw first u o w ∷ rs)
+      (set-buckets_from (first + ways) b u' o' w' used orders rows (omega arith) (omega arith) (omega arith)
+      ∙ ap (λ n. set (buckets_from ways kw (first + ways) used orders rows) b (bucket_of ways kw n u' o' w')) there)
 
--- the pairs of a bucket, by its row of the order and its row of the words
-pub list-is : (ways kw b : ℕ) (used order words : List ℕ) → b < length used
-    → list_in ways kw used order words b ≡ pairs_at (b * ways) (rows_of kw ways (take (ways * kw) (drop (b * (ways * kw)) words)))
-    (take (get_or used b 0) (take ways (drop (b * ways) order)))
-list-is ways kw b used order words h =
-    let d = bucket_of 0 0 0 0 [] [] in
-    let long = length-buckets_of ways kw used order words in
-    get_or-map (λ (r : Recency). r.pairs) (buckets_of ways kw used order words) b d [] (omega arith)
-    ∙ (ap (λ (r : Recency). r.pairs) (get-buckets_of ways kw b used order words d h)
-    ∙ ap₂ (λ o w. pairs_at (b * ways) (rows_of kw ways w) (take (get_or used b 0) o)) (get-rows_of ways (length used) order b [] h)
-    (get-rows_of (ways * kw) (length used) words b [] h))
+  module _ (used order words : List ℕ) where
+    many_orders : length (orders_of ways used order) ≡ length used
+    many_orders = length-rows_of ways (length used) order
 
-pub bucket-is : (ways kw b : ℕ) (used order words : List ℕ) → AreBuckets ways kw used order words → b < length used
-    → IsBucket (b * ways) kw (get_or used b 0) (take ways (drop (b * ways) order))
-    (rows_of kw ways (take (ways * kw) (drop (b * (ways * kw)) words)))
-bucket-is ways kw b used order words are h =
-    subst (λ o. IsBucket (b * ways) kw (get_or used b 0) o (rows_of kw ways (take (ways * kw) (drop (b * (ways * kw)) words))))
-    (get-rows_of ways (length used) order b [] h)
-    (subst (λ w. IsBucket (b * ways) kw (get_or used b 0) (get_or (orders_of ways used order) b []) (rows_of kw ways w))
-    (get-rows_of (ways * kw) (length used) words b [] h) (are.each b h))
+    many_rows : length (words_of ways kw used words) ≡ length used
+    many_rows = length-rows_of (ways * kw) (length used) words
 
--- a row of the flat parts is within them, and is as long as its width
-pub row-lies : (width b count : ℕ) (xs : List ℕ) → b < count → length xs ≡ count * width → b * width + width ≤ length xs
-row-lies width b count xs h e = let f = row_fits b count width h in omega arith
+    pub length-buckets_of : length (buckets_of ways kw used order words) ≡ length used
+    length-buckets_of = length-buckets_from 0 used (orders_of ways used order) (words_of ways kw used words) many_orders many_rows
 
-pub row-long : (width b count : ℕ) (xs : List ℕ) → b < count → length xs ≡ count * width → length (take width (drop (b * width) xs)) ≡ width
+    pub length-lists_in : length (lists_in ways kw used order words) ≡ length used
+    length-lists_in = length-map (buckets_of ways kw used order words) (λ (r : Recency). r.pairs) ∙ length-buckets_of
+
+    pub get-buckets_of : (b : ℕ) (d : Recency) → b < length used → get_or (buckets_of ways kw used order words) b d
+        ≡ bucket_of ways kw (b * ways) (get_or used b 0) (get_or (orders_of ways used order) b [])
+        (get_or (words_of ways kw used words) b [])
+    get-buckets_of b d h =
+        let none : 0 + b * ways ≡ b * ways = omega arith in
+        let orders = orders_of ways used order in
+        let rows = words_of ways kw used words in
+        get-buckets_from 0 b used orders rows d many_orders many_rows h
+        ∙ ap (λ n. bucket_of ways kw n (get_or used b 0) (get_or orders b []) (get_or rows b [])) none
+
+    -- the pairs of a bucket, by its row of the order and its row of the words
+    pub list-is : (b : ℕ) → b < length used
+        → list_in ways kw used order words b
+        ≡ pairs_at (b * ways) (flat_keys ways kw b words) (take (get_or used b 0) (flat_row ways b order))
+    list-is b h =
+        let d = bucket_of 0 0 0 0 [] [] in
+        let long = length-buckets_of in
+        get_or-map (λ (r : Recency). r.pairs) (buckets_of ways kw used order words) b d [] (omega arith)
+        ∙ (ap (λ (r : Recency). r.pairs) (get-buckets_of b d h)
+        ∙ ap₂ (λ o w. pairs_at (b * ways) (rows_of kw ways w) (take (get_or used b 0) o)) (get-rows_of ways (length used) order b [] h)
+        (get-rows_of (ways * kw) (length used) words b [] h))
+
+pub row-long : (width b count : ℕ) (xs : List ℕ) → b < count → length xs ≡ count * width → length (flat_row width b xs) ≡ width
 row-long width b count xs h e =
     let f = row_fits b count width h in
     let rest : length (drop (b * width) xs) ≡ length xs - b * width = length-drop (b * width) xs in
     length-take-le width (drop (b * width) xs) (omega arith)
 
--- the flat part with another row at a place
-abbrev pub with_row : ℕ → ℕ → List ℕ → List ℕ → List ℕ
-with_row width b row xs = take (b * width) xs ++ (row ++ drop width (drop (b * width) xs))
-
-pub length-with_row : (width b count : ℕ) (row xs : List ℕ) → b < count → length xs ≡ count * width → length row ≡ width
+length-with_row : (width b count : ℕ) (row xs : List ℕ) → b < count → length xs ≡ count * width → length row ≡ width
     → length (with_row width b row xs) ≡ length xs
 length-with_row width b count row xs h e w =
     let f = row_fits b count width h in
@@ -138,183 +132,56 @@ rows-with_row : (width b : ℕ) (row xs used : List ℕ) (u' : ℕ) → b < leng
 rows-with_row width b row xs used u' h e w = ap (λ n. rows_of width n (with_row width b row xs)) (length-set used b u')
     ∙ set-rows_of width (length used) xs b row h e w
 
-pub written-buckets : (ways kw b u' : ℕ) (o' w' used order words : List ℕ) → AreBuckets ways kw used order words → b < length used
-    → length o' ≡ ways → length w' ≡ ways * kw
-    → IsBucket (b * ways) kw u' o' (rows_of kw ways w') → AreBuckets ways kw (set used b u') (with_row ways b o' order)
-    (with_row (ways * kw) b w' words)
-written-buckets ways kw b u' o' w' used order words are h lo lw this =
-    let same : length (set used b u') ≡ length used = length-set used b u' in
-    record {
-      orders = length-with_row ways b (length used) o' order h are.orders lo ∙ (are.orders ∙ ap (λ n. n * ways) (sym same));
-      flat = length-with_row (ways * kw) b (length used) w' words h are.flat lw ∙ (are.flat ∙ ap (λ n. n * (ways * kw)) (sym same));
-      each = λ k l.
-          let P : ℕ → ℕ → List ℕ → List ℕ → Type 0 = λ n u o w. IsBucket (n * ways) kw u o (rows_of kw ways w) in
-          subst (λ os. P k (get_or (set used b u') k 0) (get_or os k [])
-          (get_or (words_of ways kw (set used b u') (with_row (ways * kw) b w' words)) k []))
-          (sym (rows-with_row ways b o' order used u' h are.orders lo))
-          (subst (λ ws. P k (get_or (set used b u') k 0) (get_or (set (orders_of ways used order) b o') k []) (get_or ws k []))
-          (sym (rows-with_row (ways * kw) b w' words used u' h are.flat lw))
-          (each-set P b u' o' w' used (orders_of ways used order) (words_of ways kw used words) (length-rows_of ways (length used) order)
-          (length-rows_of (ways * kw) (length used) words) h
-          are.each this k (subst (λ n. k < n) same l)));
-    }
+-- One bucket of those that are stored.
+module _ {ways kw : ℕ} {used order words : List ℕ} (b : ℕ) (are : AreBuckets ways kw used order words) (h : b < length used) where
+  pub order-long : length (flat_row ways b order) ≡ ways
+  order-long = row-long ways b (length used) order h are.orders
 
-pub written-lists : (ways kw b u' : ℕ) (o' w' used order words : List ℕ) → AreBuckets ways kw used order words → b < length used
-    → length o' ≡ ways → length w' ≡ ways * kw
-    → lists_in ways kw (set used b u') (with_row ways b o' order) (with_row (ways * kw) b w' words)
-    ≡ set (lists_in ways kw used order words) b (pairs_at (b * ways) (rows_of kw ways w') (take u' o'))
-written-lists ways kw b u' o' w' used order words are h lo lw =
-    let none : 0 + b * ways ≡ b * ways = omega arith in
-    ap₂ (λ os ws. map (λ (r : Recency). r.pairs) (buckets_from ways kw 0 (set used b u') os ws))
-    (rows-with_row ways b o' order used u' h are.orders lo) (rows-with_row (ways * kw) b w' words used u' h are.flat lw)
-    ∙ (ap (map (λ (r : Recency). r.pairs)) (set-buckets_from ways kw 0 b u' o' w' used (orders_of ways used order)
-    (words_of ways kw used words) (length-rows_of ways (length used) order) (length-rows_of (ways * kw) (length used) words) h
-    ∙ ap (λ n. set (buckets_of ways kw used order words) b (bucket_of ways kw n u' o' w')) none)
-    ∙ map-set (λ (r : Recency). r.pairs) (buckets_of ways kw used order words) b (bucket_of ways kw (b * ways) u' o' w'))
+  pub words-long : length (flat_row (ways * kw) b words) ≡ ways * kw
+  words-long = row-long (ways * kw) b (length used) words h are.flat
 
--- the list of the bucket that was written over
-pub written-list : (ways kw b u' : ℕ) (o' w' used order words : List ℕ) → AreBuckets ways kw used order words → b < length used
-    → length o' ≡ ways → length w' ≡ ways * kw
-    → list_in ways kw (set used b u') (with_row ways b o' order) (with_row (ways * kw) b w' words) b ≡ pairs_at (b * ways)
-    (rows_of kw ways w') (take u' o')
-written-list ways kw b u' o' w' used order words are h lo lw =
-    let long = length-lists_in ways kw used order words in
-    ap (λ ls. get_or ls b []) (written-lists ways kw b u' o' w' used order words are h lo lw)
-    ∙ get_or-set_same (lists_in ways kw used order words) b (pairs_at (b * ways) (rows_of kw ways w') (take u' o')) [] (omega arith)
+  pub bucket-is : IsBucket (b * ways) kw (get_or used b 0) (flat_row ways b order) (flat_keys ways kw b words)
+  bucket-is = subst₂ (λ o w. IsBucket (b * ways) kw (get_or used b 0) o (rows_of kw ways w)) (get-rows_of ways (length used) order b [] h)
+      (get-rows_of (ways * kw) (length used) words b [] h) (are.each b h)
 
--- The parts of a bucket, lent: `o` is its row of the order, and `w` its row of the words.
-pub lent-bucket : (ways kw b : ℕ) (used order words o w : List ℕ) → AreBuckets ways kw used order words → b < length used
-    → o ≡ take ways (drop (b * ways) order) → w ≡ take (ways * kw) (drop (b * (ways * kw)) words)
-    → IsBucket (b * ways) kw (get_or used b 0) o (rows_of kw (length o) w)
-lent-bucket ways kw b used order words o w are h eo ew =
-    let long : length o ≡ ways = ap length eo ∙ row-long ways b (length used) order h are.orders in
-    subst (λ n. IsBucket (b * ways) kw (get_or used b 0) o (rows_of kw n w)) (sym long)
-    (subst (λ x. IsBucket (b * ways) kw (get_or used b 0) x (rows_of kw ways w)) (sym eo)
-    (subst (λ x. IsBucket (b * ways) kw (get_or used b 0) (take ways (drop (b * ways) order)) (rows_of kw ways x)) (sym ew)
-    (bucket-is ways kw b used order words are h)))
+  pub all-used : length (list_in ways kw used order words b) ≡ get_or used b 0
+  all-used = ap length (list-is ways kw used order words b h)
+      ∙ few-pairs (b * ways) (get_or used b 0) (flat_row ways b order) (flat_keys ways kw b words) bucket-is.within
 
-pub lent-long : (ways kw b : ℕ) (used order words o : List ℕ) → AreBuckets ways kw used order words → b < length used
-    → o ≡ take ways (drop (b * ways) order) → length o ≡ ways
-lent-long ways kw b used order words o are h eo = ap length eo ∙ row-long ways b (length used) order h are.orders
+  -- other rows take the place of the bucket's
+  module _ (u' : ℕ) (o' w' : List ℕ) (lo : length o' ≡ ways) (lw : length w' ≡ ways * kw) where
+    pub written-buckets : IsBucket (b * ways) kw u' o' (rows_of kw ways w')
+        → AreBuckets ways kw (set used b u') (with_row ways b o' order) (with_row (ways * kw) b w' words)
+    written-buckets this =
+        let same : length (set used b u') ≡ length used = length-set used b u' in
+        let orders = orders_of ways used order in
+        let rows = words_of ways kw used words in
+        let P : ℕ → ℕ → List ℕ → List ℕ → Type 0 = λ n u o w. IsBucket (n * ways) kw u o (rows_of kw ways w) in
+        record {
+          orders = length-with_row ways b (length used) o' order h are.orders lo ∙ (are.orders ∙ ap (λ n. n * ways) (sym same));
+          flat = length-with_row (ways * kw) b (length used) w' words h are.flat lw ∙ (are.flat ∙ ap (λ n. n * (ways * kw)) (sym same));
+          each = λ k l. subst₂ (λ os ws. P k (get_or (set used b u') k 0) (get_or os k []) (get_or ws k []))
+              (sym (rows-with_row ways b o' order used u' h are.orders lo))
+              (sym (rows-with_row (ways * kw) b w' words used u' h are.flat lw))
+              (each-set P b u' o' w' used orders rows (many_orders ways kw used order words) (many_rows ways kw used order words) h are.each
+              this k (subst (λ n. k < n) same l));
+        }
 
-pub lent-wide : (ways kw b : ℕ) (used order words w : List ℕ) → AreBuckets ways kw used order words → b < length used
-    → w ≡ take (ways * kw) (drop (b * (ways * kw)) words) → length w ≡ ways * kw
-lent-wide ways kw b used order words w are h ew = ap length ew ∙ row-long (ways * kw) b (length used) words h are.flat
+    pub written-lists : lists_in ways kw (set used b u') (with_row ways b o' order) (with_row (ways * kw) b w' words)
+        ≡ set (lists_in ways kw used order words) b (pairs_at (b * ways) (rows_of kw ways w') (take u' o'))
+    written-lists =
+        let none : 0 + b * ways ≡ b * ways = omega arith in
+        ap₂ (λ os ws. map (λ (r : Recency). r.pairs) (buckets_from ways kw 0 (set used b u') os ws))
+        (rows-with_row ways b o' order used u' h are.orders lo) (rows-with_row (ways * kw) b w' words used u' h are.flat lw)
+        ∙ (ap (map (λ (r : Recency). r.pairs)) (set-buckets_from ways kw 0 b u' o' w' used (orders_of ways used order)
+        (words_of ways kw used words) (many_orders ways kw used order words) (many_rows ways kw used order words) h
+        ∙ ap (λ n. set (buckets_of ways kw used order words) b (bucket_of ways kw n u' o' w')) none)
+        ∙ map-set (λ (r : Recency). r.pairs) (buckets_of ways kw used order words) b (bucket_of ways kw (b * ways) u' o' w'))
 
-pub lent-list : (ways kw b : ℕ) (used order words o w : List ℕ) → AreBuckets ways kw used order words → b < length used
-    → o ≡ take ways (drop (b * ways) order) → w ≡ take (ways * kw) (drop (b * (ways * kw)) words)
-    → list_in ways kw used order words b ≡ pairs_at (b * ways) (rows_of kw (length o) w) (take (get_or used b 0) o)
-lent-list ways kw b used order words o w are h eo ew =
-    list-is ways kw b used order words h
-    ∙ (ap₂ (λ x y. pairs_at (b * ways) (rows_of kw ways y) (take (get_or used b 0) x)) (sym eo) (sym ew)
-    ∙ ap (λ n. pairs_at (b * ways) (rows_of kw n w) (take (get_or used b 0) o)) (sym (lent-long ways kw b used order words o are h eo)))
-
-pub lent-touched : (ways kw b u' : ℕ) (key : Key) (touch : Touch) (o w o' w' used order words : List ℕ)
-    → AreBuckets ways kw used order words → b < length used
-    → o ≡ take ways (drop (b * ways) order) → w ≡ take (ways * kw) (drop (b * (ways * kw)) words) → length o' ≡ length o
-    → length w' ≡ length w
-    → Touches (length o) key (pairs_at (b * ways) (rows_of kw (length o) w) (take (get_or used b 0) o)) touch
-    (pairs_at (b * ways) (rows_of kw (length o) w') (take u' o'))
-    → Touches ways key (list_in ways kw used order words b) touch (list_in ways kw (set used b u') (with_row ways b o' order)
-    (with_row (ways * kw) b w' words) b)
-lent-touched ways kw b u' key touch o w o' w' used order words are h eo ew so sw t =
-    let long = lent-long ways kw b used order words o are h eo in
-    let wide = lent-wide ways kw b used order words w are h ew in
-    let old = pairs_at (b * ways) (rows_of kw (length o) w) (take (get_or used b 0) o) in
-    let new = list_in ways kw (set used b u') (with_row ways b o' order) (with_row (ways * kw) b w' words) b in
-    subst (λ ps. Touches ways key ps touch new) (sym (lent-list ways kw b used order words o w are h eo ew))
-    (subst (λ ps. Touches ways key old touch ps) (sym (written-list ways kw b u' o' w' used order words are h (so ∙ long) (sw ∙ wide)))
-    (subst (λ n. Touches ways key old touch (pairs_at (b * ways) (rows_of kw n w') (take u' o'))) long
-    (subst (λ n. Touches n key old touch (pairs_at (b * ways) (rows_of kw (length o) w') (take u' o'))) long t)))
-
-pub lent-buckets : (ways kw b u' : ℕ) (o w o' w' used order words : List ℕ) → AreBuckets ways kw used order words → b < length used
-    → o ≡ take ways (drop (b * ways) order) → w ≡ take (ways * kw) (drop (b * (ways * kw)) words) → length o' ≡ length o
-    → length w' ≡ length w
-    → IsBucket (b * ways) kw u' o' (rows_of kw (length o) w')
-    → AreBuckets ways kw (set used b u') (with_row ways b o' order) (with_row (ways * kw) b w' words)
-lent-buckets ways kw b u' o w o' w' used order words are h eo ew so sw is =
-    let long = lent-long ways kw b used order words o are h eo in
-    let wide = lent-wide ways kw b used order words w are h ew in
-    written-buckets ways kw b u' o' w' used order words are h (so ∙ long) (sw ∙ wide)
-    (subst (λ n. IsBucket (b * ways) kw u' o' (rows_of kw n w')) long is)
-
-pub lent-rest : (ways kw b u' : ℕ) (o w o' w' used order words : List ℕ) → AreBuckets ways kw used order words → b < length used
-    → o ≡ take ways (drop (b * ways) order) → w ≡ take (ways * kw) (drop (b * (ways * kw)) words) → length o' ≡ length o
-    → length w' ≡ length w
-    → lists_in ways kw (set used b u') (with_row ways b o' order) (with_row (ways * kw) b w' words)
-    ≡ set (lists_in ways kw used order words) b (list_in ways kw (set used b u') (with_row ways b o' order)
-    (with_row (ways * kw) b w' words) b)
-lent-rest ways kw b u' o w o' w' used order words are h eo ew so sw =
-    let lo : length o' ≡ ways = so ∙ lent-long ways kw b used order words o are h eo in
-    let lw : length w' ≡ ways * kw = sw ∙ lent-wide ways kw b used order words w are h ew in
-    written-lists ways kw b u' o' w' used order words are h lo lw
-    ∙ ap (set (lists_in ways kw used order words) b) (sym (written-list ways kw b u' o' w' used order words are h lo lw))
-
--- the rows are written over by their widths
-pub by_width : (P : List ℕ → List ℕ → Type 0) (b ways width n m : ℕ) (o' w' order words : List ℕ) → n ≡ ways → m ≡ width
-    → P (with_row ways b o' order) (with_row width b w' words)
-    → P (take (b * ways) order ++ (o' ++ drop n (drop (b * ways) order)))
-    (take (b * width) words ++ (w' ++ drop m (drop (b * width) words)))
-by_width P b ways width n m o' w' order words en em h =
-    subst (λ x. P (take (b * ways) order ++ (o' ++ drop x (drop (b * ways) order)))
-    (take (b * width) words ++ (w' ++ drop m (drop (b * width) words)))) (sym en)
-    (subst (λ y. P (with_row ways b o' order) (take (b * width) words ++ (w' ++ drop y (drop (b * width) words)))) (sym em) h)
-
-pub all-used : (ways kw b : ℕ) (used order words : List ℕ) → AreBuckets ways kw used order words → b < length used
-    → length (list_in ways kw used order words b) ≡ get_or used b 0
-all-used ways kw b used order words are h =
-    ap length (list-is ways kw b used order words h)
-    ∙ few-pairs (b * ways) (get_or used b 0) (take ways (drop (b * ways) order))
-    (rows_of kw ways (take (ways * kw) (drop (b * (ways * kw)) words))) (bucket-is ways kw b used order words are h).within
-
--- a full bucket has all of its ways in use
-pub full-used : (ways kw b : ℕ) (used order words o : List ℕ) → AreBuckets ways kw used order words → b < length used
-    → o ≡ take ways (drop (b * ways) order)
-    → length (list_in ways kw used order words b) ≡ ways → get_or used b 0 ≡ length o
-full-used ways kw b used order words o are h eo full = sym (all-used ways kw b used order words are h)
-    ∙ (full ∙ sym (lent-long ways kw b used order words o are h eo))
-
-pub full-bucket : (ways kw b : ℕ) (used order words o w : List ℕ) → AreBuckets ways kw used order words → b < length used
-    → o ≡ take ways (drop (b * ways) order) → w ≡ take (ways * kw) (drop (b * (ways * kw)) words)
-    → length (list_in ways kw used order words b) ≡ ways
-    → IsBucket (b * ways) kw (length o) o (rows_of kw (length o) w)
-full-bucket ways kw b used order words o w are h eo ew full =
-    subst (λ u. IsBucket (b * ways) kw u o (rows_of kw (length o) w)) (full-used ways kw b used order words o are h eo full)
-    (lent-bucket ways kw b used order words o w are h eo ew)
-
-pub full-list : (ways kw b : ℕ) (used order words o w : List ℕ) → AreBuckets ways kw used order words → b < length used
-    → o ≡ take ways (drop (b * ways) order) → w ≡ take (ways * kw) (drop (b * (ways * kw)) words)
-    → length (list_in ways kw used order words b) ≡ ways
-    → list_in ways kw used order words b ≡ pairs_at (b * ways) (rows_of kw (length o) w) (take (length o) o)
-full-list ways kw b used order words o w are h eo ew full =
-    lent-list ways kw b used order words o w are h eo ew
-    ∙ ap (λ u. pairs_at (b * ways) (rows_of kw (length o) w) (take u o)) (full-used ways kw b used order words o are h eo full)
-
-pub full-buckets : (ways kw b : ℕ) (o w o' w' used order words : List ℕ) → AreBuckets ways kw used order words → b < length used
-    → o ≡ take ways (drop (b * ways) order) → w ≡ take (ways * kw) (drop (b * (ways * kw)) words)
-    → length (list_in ways kw used order words b) ≡ ways
-    → length o' ≡ length o → length w' ≡ length w → IsBucket (b * ways) kw (length o) o' (rows_of kw (length o) w')
-    → AreBuckets ways kw used (with_row ways b o' order) (with_row (ways * kw) b w' words)
-full-buckets ways kw b o w o' w' used order words are h eo ew full so sw is =
-    subst (λ us. AreBuckets ways kw us (with_row ways b o' order) (with_row (ways * kw) b w' words)) (set-get_or used b 0)
-    (lent-buckets ways kw b (get_or used b 0) o w o' w' used order words are h eo ew so sw
-    (subst (λ u. IsBucket (b * ways) kw u o' (rows_of kw (length o) w')) (sym (full-used ways kw b used order words o are h eo full)) is))
-
-pub full-lists : (ways kw b : ℕ) (change : List Pair → List Pair) (o w o' w' used order words : List ℕ)
-    → AreBuckets ways kw used order words → b < length used
-    → o ≡ take ways (drop (b * ways) order) → w ≡ take (ways * kw) (drop (b * (ways * kw)) words)
-    → length (list_in ways kw used order words b) ≡ ways
-    → length o' ≡ length o → length w' ≡ length w
-    → pairs_at (b * ways) (rows_of kw (length o) w') (take (length o) o') ≡ change
-    (pairs_at (b * ways) (rows_of kw (length o) w) (take (length o) o))
-    → lists_in ways kw used (with_row ways b o' order) (with_row (ways * kw) b w' words) ≡ set (lists_in ways kw used order words) b
-    (change (list_in ways kw used order words b))
-full-lists ways kw b change o w o' w' used order words are h eo ew full so sw e =
-    let long : length o ≡ ways = lent-long ways kw b used order words o are h eo in
-    let lw : length w' ≡ ways * kw = sw ∙ lent-wide ways kw b used order words w are h ew in
-    let u = get_or used b 0 in
-    ap (λ us. lists_in ways kw us (with_row ways b o' order) (with_row (ways * kw) b w' words)) (sym (set-get_or used b 0))
-    ∙ (written-lists ways kw b u o' w' used order words are h (so ∙ long) lw
-    ∙ ap (set (lists_in ways kw used order words) b)
-    (ap₂ (λ n m. pairs_at (b * ways) (rows_of kw n w') (take m o')) (sym long) (full-used ways kw b used order words o are h eo full)
-    ∙ (e ∙ ap change (sym (full-list ways kw b used order words o w are h eo ew full)))))
+    -- the list of the bucket that was written over
+    pub written-list : list_in ways kw (set used b u') (with_row ways b o' order) (with_row (ways * kw) b w' words) b
+        ≡ pairs_at (b * ways) (rows_of kw ways w') (take u' o')
+    written-list =
+        let long = length-lists_in ways kw used order words in
+        ap (λ ls. get_or ls b []) written-lists
+        ∙ get_or-set_same (lists_in ways kw used order words) b (pairs_at (b * ways) (rows_of kw ways w') (take u' o')) [] (omega arith)

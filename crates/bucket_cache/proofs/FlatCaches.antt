@@ -1,6 +1,6 @@
 -- A cache whose buckets are stored one after another.
 use Rattle.std.proofs.Common.{◌≡◌, ℕ, ◌*◌, ◌<◌, ◌≤◌, List, ◌++◌, length, take, drop, get_or, [], sym, ap, ◌∙◌, subst, refl}
-use Rattle.std.proofs.lemmas.List.{take_at}
+use Rattle.std.proofs.lemmas.List.{get_or_read, take_at}
 use Rattle.bucket_cache.specs.Slices.{rows_of}
 use Rattle.bucket_cache.specs.Buckets.{IsSound, pairs_at}
 use Rattle.bucket_cache.specs.FlatBuckets.{bucket_of, buckets_of, lists_in, orders_of, words_of, AreBuckets, IsFlatCache}
@@ -8,7 +8,7 @@ use Rattle.bucket_cache.specs.Caches.{Cache, IsSoundCache}
 use Rattle.bucket_cache.proofs.Shapes.{IsHome, IsShaped}
 use Rattle.bucket_cache.proofs.FlatRows.{get-rows_of}
 use Rattle.bucket_cache.proofs.BucketLists.{bucket_sound}
-use Rattle.bucket_cache.proofs.FlatBuckets.{length-buckets_of, length-lists_in, get-buckets_of, lent-long}
+use Rattle.bucket_cache.proofs.FlatBuckets.{length-buckets_of, length-lists_in, get-buckets_of, order-long}
 use Rattle.bucket_cache.proofs.CacheLists.{cache_sound}
 
 home-flat : (ways kw b : ℕ) (used order words : List ℕ) → AreBuckets ways kw used order words → b < length used
@@ -17,7 +17,7 @@ home-flat : (ways kw b : ℕ) (used order words : List ℕ) → AreBuckets ways 
 home-flat ways kw b used order words are h =
     let o = get_or (orders_of ways used order) b [] in
     let keys = rows_of kw ways (get_or (words_of ways kw used words) b []) in
-    let long : length o ≡ ways = lent-long ways kw b used order words o are h (get-rows_of ways (length used) order b [] h) in
+    let long : length o ≡ ways = ap length (get-rows_of ways (length used) order b [] h) ∙ order-long b are h in
     record {
       of_first = refl;
       of_ways = refl;
@@ -32,64 +32,53 @@ home-flat ways kw b used order words are h =
           (bucket_sound (b * ways) kw (get_or used b 0) o keys (are.each b h));
     }
 
-pub shaped : (ways kw ew : ℕ) (used order words : List ℕ) (entries : List (List ℕ)) → IsFlatCache ways kw ew used order words entries
-    → IsShaped ways kw ew (buckets_of ways kw used order words) entries
-shaped ways kw ew used order words entries s =
-    let long : length (buckets_of ways kw used order words) ≡ length used = length-buckets_of ways kw used order words in
-    record {
-      some = s.some;
-      each = λ b d l.
-          let h : b < length used = subst (λ n. b < n) long l in
-          subst (IsHome ways kw (b * ways)) (sym (get-buckets_of ways kw b used order words d h))
-          (home-flat ways kw b used order words s.buckets h);
-      room = subst (λ n. n * ways ≤ 65536) (sym long) s.room;
-      places = s.places ∙ ap (λ n. n * ways) (sym long);
-      words = s.widths;
-    }
+module _ {ways kw ew : ℕ} {used order words : List ℕ} {entries : List (List ℕ)} (s : IsFlatCache ways kw ew used order words entries) where
+  abbrev the_cache : List ℕ → List ℕ → List ℕ → Cache
+  the_cache u o w = record { key_words = kw; entry_words = ew; lists = lists_in ways kw u o w; entries = entries }
 
-pub flat_sound : (ways kw ew : ℕ) (used order words : List ℕ) (entries : List (List ℕ)) → IsFlatCache ways kw ew used order words entries
-    → IsSoundCache ways (record { key_words = kw; entry_words = ew; lists = lists_in ways kw used order words; entries = entries })
-flat_sound ways kw ew used order words entries s = cache_sound ways kw ew (buckets_of ways kw used order words) entries
-    (shaped ways kw ew used order words entries s)
+  pub shaped : IsShaped ways kw ew (buckets_of ways kw used order words) entries
+  shaped =
+      let long : length (buckets_of ways kw used order words) ≡ length used = length-buckets_of ways kw used order words in
+      record {
+        some = s.some;
+        each = λ b d l.
+            let h : b < length used = subst (λ n. b < n) long l in
+            subst (IsHome ways kw (b * ways)) (sym (get-buckets_of ways kw used order words b d h))
+            (home-flat ways kw b used order words s.buckets h);
+        room = subst (λ n. n * ways ≤ 65536) (sym long) s.room;
+        places = s.places ∙ ap (λ n. n * ways) (sym long);
+        words = s.widths;
+      }
 
--- a cache whose buckets changed
-pub flat-kept : (ways kw ew : ℕ) (used order words used' order' words' : List ℕ) (entries : List (List ℕ))
-    → AreBuckets ways kw used' order' words' → length used' ≡ length used
-    → IsFlatCache ways kw ew used order words entries → IsFlatCache ways kw ew used' order' words' entries
-flat-kept ways kw ew used order words used' order' words' entries are same s = record {
-  some = s.some;
-  buckets = are;
-  room = subst (λ n. n * ways ≤ 65536) (sym same) s.room;
-  places = s.places ∙ ap (λ n. n * ways) (sym same);
-  widths = s.widths;
-}
+  flat_sound : IsSoundCache ways (the_cache used order words)
+  flat_sound = cache_sound ways kw ew (buckets_of ways kw used order words) entries shaped
 
--- a vector whose items were lent and are now others holds those
-pub now-holds : (long : ℕ) (lent items now : List ℕ) → length lent ≡ long → length now ≡ length lent
-    → take long (now ++ drop (length now) items) ≡ now
-now-holds long lent items now l s = take_at now (drop (length now) items) long (s ∙ l)
+  -- a cache whose buckets changed
+  pub flat-kept : {used' order' words' : List ℕ} → AreBuckets ways kw used' order' words' → length used' ≡ length used
+      → IsFlatCache ways kw ew used' order' words' entries
+  flat-kept are same = record {
+    some = s.some;
+    buckets = are;
+    room = subst (λ n. n * ways ≤ 65536) (sym same) s.room;
+    places = s.places ∙ ap (λ n. n * ways) (sym same);
+    widths = s.widths;
+  }
 
--- a cache is sound after its vectors were written over
-pub sound-written : (ways kw ew : ℕ) (used order words used' order' words' u o w : List ℕ) (entries : List (List ℕ))
-    → IsFlatCache ways kw ew used order words entries
-    → AreBuckets ways kw used' order' words' → length used' ≡ length used → u ≡ used' → o ≡ order' → w ≡ words'
-    → IsSoundCache ways (record { key_words = kw; entry_words = ew; lists = lists_in ways kw u o w; entries = entries })
-sound-written ways kw ew used order words used' order' words' u o w entries s are same eu eo el =
-    subst (λ x. IsSoundCache ways (record { key_words = kw; entry_words = ew; lists = lists_in ways kw x o w; entries = entries })) (sym eu)
-    (subst (λ x. IsSoundCache ways (record { key_words = kw; entry_words = ew; lists = lists_in ways kw used' x w; entries = entries }))
-    (sym eo)
-    (subst (λ x. IsSoundCache ways (record {
-      key_words = kw;
-      entry_words = ew;
-      lists = lists_in ways kw used' order' x;
-      entries =
-          entries;
-    })) (sym el)
-    (flat_sound ways kw ew used' order' words' entries (flat-kept ways kw ew used order words used' order' words' entries are same s))))
+  -- what contracts see of a cache is sound, and a bucket of its lists is one of the flat parts
+  module _ {cache : Cache} (view : the_cache used order words ≡ cache) where
+    pub view-sound : IsSoundCache ways cache
+    view-sound = subst (IsSoundCache ways) view flat_sound
 
--- a bucket of the lists is one of the flat parts
-pub in-flat : (ways kw ew i : ℕ) (used order words : List ℕ) (entries : List (List ℕ)) (cache : Cache)
-    → record { key_words = kw; entry_words = ew; lists = lists_in ways kw used order words; entries = entries } ≡ cache
-    → i < length cache.lists → i < length used
-in-flat ways kw ew i used order words entries cache e h = subst (λ n. i < n)
-    (ap (λ x. length x.lists) (sym e) ∙ length-lists_in ways kw used order words) h
+    pub in-flat : {b : ℕ} → b < length cache.lists → b < length used
+    in-flat {b} h = subst (λ n. b < n) (ap (λ x. length x.lists) (sym view) ∙ length-lists_in ways kw used order words) h
+
+    -- a number of ways in use, as it is read
+    pub read-used : {b n : ℕ} → b < length cache.lists → n ≡ get_or used b n → n ≡ get_or used b 0
+    read-used {b} {n} h e = get_or_read used b n (in-flat h) e 0
+
+-- what a vector holds whose items were lent and are now others
+abbrev pub held : ℕ → List ℕ → List ℕ → List ℕ
+held long items now = take long (now ++ drop (length now) items)
+
+pub now-holds : {long : ℕ} (items now : List ℕ) → length now ≡ long → held long items now ≡ now
+now-holds {long} items now l = take_at now (drop (length now) items) long l

@@ -1,6 +1,6 @@
 -- What is read from buckets that are stored one after another.
 use Rattle.std.proofs.Common.{◌≡◌, ℕ, ◌+◌, ◌-◌, ◌*◌, ◌<◌, ◌≤◌, List, [], ◌++◌, Some, None, length, take, drop, get_or, set, replicate, sym}
-use Rattle.std.proofs.Common.{ap, ap₂, ◌∙◌, subst, arith, take-append-drop, drop-drop, get_or-drop, get_or-take, take-take}
+use Rattle.std.proofs.Common.{ap, ap₂, ◌∙◌, subst, subst₂, arith, take-append-drop, drop-drop, get_or-drop, get_or-take, take-take}
 use Rattle.std.specs.Prelude.{slice_get, sum_by, ◌/◌, ◌%◌}
 use Rattle.std.proofs.lemmas.List.{drop-take, get_or-replicate, length-replicate, get_or_default, get_or-map}
 use Rattle.std.proofs.lemmas.Nat.{mod-mul-add}
@@ -9,10 +9,10 @@ use Rattle.bucket_cache.specs.Slices.{rows_of}
 use Rattle.bucket_cache.specs.Buckets.{Pair, Recency, IsBucket, pairs_at, places_of}
 use Rattle.bucket_cache.specs.Touches.{least_place}
 use Rattle.bucket_cache.specs.FlatBuckets.{no_bucket, buckets_of, lists_in, list_in, orders_of, words_of, AreBuckets, IsFlatCache}
-use Rattle.bucket_cache.proofs.FlatRows.{row_fits, row_width, get-rows_of}
+use Rattle.bucket_cache.proofs.FlatRows.{place-word, row_fits, row_width, get-rows_of}
 use Rattle.bucket_cache.proofs.BucketLists.{place-pair, no-place, key-pair, fewer-pairs, fewer-bucket, empty-bucket}
-use Rattle.bucket_cache.proofs.FlatBuckets.{length-buckets_of, get-buckets_of, list-is, bucket-is, all-used, row-long, with_row}
-use Rattle.bucket_cache.proofs.FlatBuckets.{written-buckets, written-lists}
+use Rattle.bucket_cache.proofs.FlatBuckets.{flat_row, flat_keys, with_row, length-buckets_of, get-buckets_of, list-is, bucket-is, all-used}
+use Rattle.bucket_cache.proofs.FlatBuckets.{row-long, order-long, words-long, written-buckets, written-lists}
 use Rattle.bucket_cache.proofs.CacheLists.{pair_home, place_in, bucket_in_range, empty_lists, held_more}
 use Rattle.bucket_cache.proofs.FlatCaches.{shaped}
 
@@ -23,73 +23,67 @@ pub record Stands (ways b i : ℕ) (order : List ℕ) : Type 0 where
   pub within : b * ways + i < length order
   pub way : get_or order (b * ways + i) 0 < ways
 
-read-order : (ways b i : ℕ) (order : List ℕ) → i < ways → get_or (take ways (drop (b * ways) order)) i 0 ≡ get_or order (b * ways + i) 0
+read-order : (ways b i : ℕ) (order : List ℕ) → i < ways → get_or (flat_row ways b order) i 0 ≡ get_or order (b * ways + i) 0
 read-order ways b i order h = get_or-take ways (drop (b * ways) order) i 0 h ∙ get_or-drop (b * ways) order i 0
 
-pub stands : (ways kw b i : ℕ) (used order words : List ℕ) → AreBuckets ways kw used order words → b < length used → i < get_or used b 0
-    → Stands ways b i order
-stands ways kw b i used order words are h l =
-    let is = bucket-is ways kw b used order words are h in
-    let o = take ways (drop (b * ways) order) in
-    let long : length o ≡ ways = row-long ways b (length used) order h are.orders in
-    let within = is.within in
-    let places = is.places in
-    let below : i < ways = omega arith in
-    let fits = row_fits b (length used) ways h in
-    let whole = are.orders in
-    let way = is.ways i 0 (omega arith) in
-    let e = read-order ways b i order below in
-    record { room = omega arith; below = below; within = omega arith; way = omega arith }
+-- a row written over with itself
+same-row : (width b : ℕ) (xs : List ℕ) → with_row width b (flat_row width b xs) xs ≡ xs
+same-row width b xs = ap (λ ys. take (b * width) xs ++ ys) (take-append-drop width (drop (b * width) xs)) ∙ take-append-drop (b * width) xs
 
-pub flat-place : (ways kw b i : ℕ) (used order words : List ℕ) → AreBuckets ways kw used order words → b < length used → i < get_or used b 0
-    → slice_get (places_of (list_in ways kw used order words b)) i ≡ Some (b * ways + get_or order (b * ways + i) 0)
-flat-place ways kw b i used order words are h l =
-    let is = bucket-is ways kw b used order words are h in
-    let o = take ways (drop (b * ways) order) in
-    let keys = rows_of kw ways (take (ways * kw) (drop (b * (ways * kw)) words)) in
-    ap (λ ps. slice_get (places_of ps) i) (list-is ways kw b used order words h)
-    ∙ (place-pair (b * ways) (get_or used b 0) i o keys is.within l
-    ∙ ap (λ n. Some (b * ways + n)) (read-order ways b i order (stands ways kw b i used order words are h l).below))
+module _ {ways kw : ℕ} {used order words : List ℕ} (b : ℕ) (are : AreBuckets ways kw used order words) (h : b < length used) where
+  pub stands : (i : ℕ) → i < get_or used b 0 → Stands ways b i order
+  stands i l =
+      let is = bucket-is b are h in
+      let long = order-long b are h in
+      let within = is.within in
+      let places = is.places in
+      let below : i < ways = omega arith in
+      let fits = row_fits b (length used) ways h in
+      let whole = are.orders in
+      let way = is.ways i 0 (omega arith) in
+      let e = read-order ways b i order below in
+      record { room = omega arith; below = below; within = omega arith; way = omega arith }
 
-pub flat-no-place : (ways kw b i : ℕ) (used order words : List ℕ) → AreBuckets ways kw used order words → b < length used
-    → get_or used b 0 ≤ i
-    → slice_get (places_of (list_in ways kw used order words b)) i ≡ None
-flat-no-place ways kw b i used order words are h l =
-    let is = bucket-is ways kw b used order words are h in
-    ap (λ ps. slice_get (places_of ps) i) (list-is ways kw b used order words h)
-    ∙ no-place (b * ways) (get_or used b 0) i (take ways (drop (b * ways) order))
-    (rows_of kw ways (take (ways * kw) (drop (b * (ways * kw)) words))) is.within l
+  pub flat-place : (i : ℕ) → i < get_or used b 0
+      → slice_get (places_of (list_in ways kw used order words b)) i ≡ Some (b * ways + get_or order (b * ways + i) 0)
+  flat-place i l =
+      ap (λ ps. slice_get (places_of ps) i) (list-is ways kw used order words b h)
+      ∙ (place-pair (b * ways) (get_or used b 0) i (flat_row ways b order) (flat_keys ways kw b words) (bucket-is b are h).within l
+      ∙ ap (λ n. Some (b * ways + n)) (read-order ways b i order (stands i l).below))
 
-pub flat-least : (ways kw b : ℕ) (used order words : List ℕ) → AreBuckets ways kw used order words → b < length used
-    → slice_get (places_of (list_in ways kw used order words b)) (get_or used b 0 - 1) ≡ least_place (list_in ways kw used order words b)
-flat-least ways kw b used order words are h =
-    ap (λ n. slice_get (places_of (list_in ways kw used order words b)) (n - 1)) (sym (all-used ways kw b used order words are h))
+  pub flat-no-place : (i : ℕ) → get_or used b 0 ≤ i → slice_get (places_of (list_in ways kw used order words b)) i ≡ None
+  flat-no-place i l =
+      ap (λ ps. slice_get (places_of ps) i) (list-is ways kw used order words b h)
+      ∙ no-place (b * ways) (get_or used b 0) i (flat_row ways b order) (flat_keys ways kw b words) (bucket-is b are h).within l
 
-pub flat-no-least : (ways kw b : ℕ) (used order words : List ℕ) → AreBuckets ways kw used order words → b < length used
-    → get_or used b 0 ≡ 0
-    → least_place (list_in ways kw used order words b) ≡ None
-flat-no-least ways kw b used order words are h none =
-    sym (flat-least ways kw b used order words are h) ∙ flat-no-place ways kw b (get_or used b 0 - 1) used order words are h (omega arith)
+  pub flat-least : slice_get (places_of (list_in ways kw used order words b)) (get_or used b 0 - 1)
+      ≡ least_place (list_in ways kw used order words b)
+  flat-least = ap (λ n. slice_get (places_of (list_in ways kw used order words b)) (n - 1)) (sym (all-used b are h))
 
--- the words of the key at a place
-pub key-fits : (ways kw at : ℕ) (used order words : List ℕ) → AreBuckets ways kw used order words → at < length used * ways
-    → at * kw + kw ≤ length words
-key-fits ways kw at used order words are h =
-    let f = row_fits at (length used * ways) kw h in
-    let a = mul_assoc (length used) ways kw in
-    let flat = are.flat in
-    omega arith
+  pub flat-no-least : get_or used b 0 ≡ 0 → least_place (list_in ways kw used order words b) ≡ None
+  flat-no-least none = sym flat-least ∙ flat-no-place (get_or used b 0 - 1) (omega arith)
 
-pub key-long : (ways kw at : ℕ) (used order words row : List ℕ) → AreBuckets ways kw used order words → at < length used * ways
-    → row ≡ take kw (drop (at * kw) words) → length row ≡ kw
-key-long ways kw at used order words row are h e =
-    row_width (length used * ways) at kw words row h (are.flat ∙ sym (mul_assoc (length used) ways kw)) e
+  pub fewer-buckets : AreBuckets ways kw (set used b (get_or used b 0 - 1)) order words
+  fewer-buckets =
+      let o = flat_row ways b order in
+      let row = flat_row (ways * kw) b words in
+      subst₂ (AreBuckets ways kw (set used b (get_or used b 0 - 1))) (same-row ways b order) (same-row (ways * kw) b words)
+      (written-buckets b are h (get_or used b 0 - 1) o row (order-long b are h) (words-long b are h)
+      (fewer-bucket (bucket-is b are h)))
 
-place-word : (b ways way kw : ℕ) → b * (ways * kw) + way * kw ≡ (b * ways + way) * kw
-place-word b ways way kw = let a = mul_assoc b ways kw in omega arith
+  pub fewer-lists : lists_in ways kw (set used b (get_or used b 0 - 1)) order words ≡ set (lists_in ways kw used order words) b
+      (take (length (list_in ways kw used order words b) - 1) (list_in ways kw used order words b))
+  fewer-lists =
+      let o = flat_row ways b order in
+      let row = flat_row (ways * kw) b words in
+      ap₂ (lists_in ways kw (set used b (get_or used b 0 - 1))) (sym (same-row ways b order)) (sym (same-row (ways * kw) b words))
+      ∙ (written-lists b are h (get_or used b 0 - 1) o row (order-long b are h) (words-long b are h)
+      ∙ ap (set (lists_in ways kw used order words) b)
+      (fewer-pairs (b * ways) (get_or used b 0) o (rows_of kw ways row) (bucket-is b are h).within
+      ∙ ap (λ ps. take (length ps - 1) ps) (sym (list-is ways kw used order words b h))))
 
-row-key : (b ways way kw : ℕ) (words : List ℕ) → way < ways → take kw (drop ((b * ways + way) * kw) words) ≡ take kw
-    (drop (way * kw) (take (ways * kw) (drop (b * (ways * kw)) words)))
+row-key : (b ways way kw : ℕ) (words : List ℕ) → way < ways
+    → take kw (drop ((b * ways + way) * kw) words) ≡ take kw (drop (way * kw) (flat_row (ways * kw) b words))
 row-key b ways way kw words h =
     let f = row_fits way ways kw h in
     let rest = ways * kw - way * kw in
@@ -101,63 +95,41 @@ row-key b ways way kw words h =
     ∙ drop-take (way * kw) rest xs in
     sym (ap (take kw) cut ∙ (take-take kw rest (drop (way * kw) xs) (omega arith) ∙ ap (take kw) here))
 
-pub flat-key : (ways kw ew at : ℕ) (used order words : List ℕ) (entries : List (List ℕ)) → IsFlatCache ways kw ew used order words entries
-    → at < length used * ways
-    → (bucket i : ℕ) (pair : Pair) → slice_get (list_in ways kw used order words bucket) i ≡ Some pair → pair.place ≡ at
-    → take kw (drop (at * kw) words) ≡ pair.key
-flat-key ways kw ew at used order words entries s h bucket i pair e p =
-    let b = at / ways in
-    let way = at % ways in
-    let split = place_in ways at s.some in
-    let place : b * ways + way ≡ at = split.0 in
-    let below : way < ways = split.1 in
-    let range : b < length used = bucket_in_range ways at (length used) s.some h in
-    let same : bucket ≡ b = pair_home ways kw ew (buckets_of ways kw used order words) entries bucket i at pair
-    (shaped ways kw ew used order words entries s) e p in
-    let o = take ways (drop (b * ways) order) in
-    let row = take (ways * kw) (drop (b * (ways * kw)) words) in
-    let here : slice_get (pairs_at (b * ways) (rows_of kw ways row) (take (get_or used b 0) o)) i ≡ Some pair =
-    ap (λ ps. slice_get ps i) (sym (list-is ways kw b used order words range))
-    ∙ (ap (λ n. slice_get (list_in ways kw used order words n) i) (sym same) ∙ e) in
-    ap (λ n. take kw (drop (n * kw) words)) (sym place)
-    ∙ (row-key b ways way kw words below
-    ∙ (sym (get-rows_of kw ways row way [] below)
-    ∙ key-pair (b * ways) kw (get_or used b 0) o (rows_of kw ways row) (bucket-is ways kw b used order words s.buckets range) way i pair
-    here (p ∙ sym place)))
+-- the words of the key at a place
+module _ {ways kw ew : ℕ} {used order words : List ℕ} {entries : List (List ℕ)} (s : IsFlatCache ways kw ew used order words entries)
+    (at : ℕ) (h : at < length entries) where
+  in_places : at < length used * ways
+  in_places = subst (λ n. at < n) s.places h
 
--- a row written over with itself
-same-row : (width b : ℕ) (xs : List ℕ) → with_row width b (take width (drop (b * width) xs)) xs ≡ xs
-same-row width b xs = ap (λ ys. take (b * width) xs ++ ys) (take-append-drop width (drop (b * width) xs)) ∙ take-append-drop (b * width) xs
+  pub key-fits : at * kw + kw ≤ length words
+  key-fits =
+      let f = row_fits at (length used * ways) kw in_places in
+      let a = mul_assoc (length used) ways kw in
+      let flat = s.buckets.flat in
+      omega arith
 
-pub fewer-buckets : (ways kw b : ℕ) (used order words : List ℕ) → AreBuckets ways kw used order words → b < length used
-    → AreBuckets ways kw (set used b (get_or used b 0 - 1)) order words
-fewer-buckets ways kw b used order words are h =
-    let o = take ways (drop (b * ways) order) in
-    let row = take (ways * kw) (drop (b * (ways * kw)) words) in
-    let long : length o ≡ ways = row-long ways b (length used) order h are.orders in
-    let wide : length row ≡ ways * kw = row-long (ways * kw) b (length used) words h are.flat in
-    let u = get_or used b 0 - 1 in
-    subst (λ x. AreBuckets ways kw (set used b u) x words) (same-row ways b order)
-    (subst (λ x. AreBuckets ways kw (set used b u) (with_row ways b o order) x) (same-row (ways * kw) b words)
-    (written-buckets ways kw b u o row used order words are h long wide
-    (fewer-bucket (b * ways) kw (get_or used b 0) o (rows_of kw ways row) (bucket-is ways kw b used order words are h))))
+  pub key-long : (row : List ℕ) → row ≡ take kw (drop (at * kw) words) → length row ≡ kw
+  key-long row e = row_width (length used * ways) at kw words row in_places (s.buckets.flat ∙ sym (mul_assoc (length used) ways kw)) e
 
-pub fewer-lists : (ways kw b : ℕ) (used order words : List ℕ) → AreBuckets ways kw used order words → b < length used
-    → lists_in ways kw (set used b (get_or used b 0 - 1)) order words
-    ≡ set (lists_in ways kw used order words) b (take (length (list_in ways kw used order words b) - 1)
-    (list_in ways kw used order words b))
-fewer-lists ways kw b used order words are h =
-    let o = take ways (drop (b * ways) order) in
-    let row = take (ways * kw) (drop (b * (ways * kw)) words) in
-    let long : length o ≡ ways = row-long ways b (length used) order h are.orders in
-    let wide : length row ≡ ways * kw = row-long (ways * kw) b (length used) words h are.flat in
-    let u = get_or used b 0 - 1 in
-    let is = bucket-is ways kw b used order words are h in
-    ap₂ (λ x y. lists_in ways kw (set used b u) x y) (sym (same-row ways b order)) (sym (same-row (ways * kw) b words))
-    ∙ (written-lists ways kw b u o row used order words are h long wide
-    ∙ ap (set (lists_in ways kw used order words) b)
-    (fewer-pairs (b * ways) (get_or used b 0) o (rows_of kw ways row) is.within
-    ∙ ap (λ ps. take (length ps - 1) ps) (sym (list-is ways kw b used order words h))))
+  pub flat-key : (bucket i : ℕ) (pair : Pair) → slice_get (list_in ways kw used order words bucket) i ≡ Some pair → pair.place ≡ at
+      → take kw (drop (at * kw) words) ≡ pair.key
+  flat-key bucket i pair e p =
+      let b = at / ways in
+      let way = at % ways in
+      let split = place_in ways at s.some in
+      let place : b * ways + way ≡ at = split.0 in
+      let below : way < ways = split.1 in
+      let range : b < length used = bucket_in_range ways at (length used) s.some in_places in
+      let same : bucket ≡ b = pair_home ways kw ew (buckets_of ways kw used order words) entries bucket i at pair (shaped s) e p in
+      let o = flat_row ways b order in
+      let keys = flat_keys ways kw b words in
+      let here : slice_get (pairs_at (b * ways) keys (take (get_or used b 0) o)) i ≡ Some pair =
+      ap (λ ps. slice_get ps i) (sym (list-is ways kw used order words b range))
+      ∙ (ap (λ n. slice_get (list_in ways kw used order words n) i) (sym same) ∙ e) in
+      ap (λ n. take kw (drop (n * kw) words)) (sym place)
+      ∙ (row-key b ways way kw words below
+      ∙ (sym (get-rows_of kw ways (flat_row (ways * kw) b words) way [] below)
+      ∙ key-pair (b * ways) kw (get_or used b 0) o keys (bucket-is b s.buckets range) way i pair here (p ∙ sym place)))
 
 -- buckets of which no way is in use
 pub no-lists : (ways kw count : ℕ) (order words : List ℕ) → lists_in ways kw (replicate count 0) order words ≡ replicate count []
@@ -169,7 +141,7 @@ no-lists ways kw count order words =
     let l : k < length used = subst (λ n. k < n) long h in
     let o = get_or (orders_of ways used order) k [] in
     let keys = rows_of kw ways (get_or (words_of ways kw used words) k []) in
-    ap (λ (r : Recency). r.pairs) (get-buckets_of ways kw k used order words d l)
+    ap (λ (r : Recency). r.pairs) (get-buckets_of ways kw used order words k d l)
     ∙ ap (λ n. pairs_at (k * ways) keys (take n o)) (get_or-replicate count k 0 0 (subst (λ n. k < n) many l)))
     ∙ ap (λ n. replicate n []) (long ∙ many)
 
@@ -185,8 +157,8 @@ new-buckets ways kw count order words some short room eo ew each =
       orders = orders;
       flat = flat;
       each = λ b h.
-          let o = take ways (drop (b * ways) order) in
-          let row = take (ways * kw) (drop (b * (ways * kw)) words) in
+          let o = flat_row ways b order in
+          let row = flat_row (ways * kw) b words in
           let long : length o ≡ ways = row-long ways b (length used) order h orders in
           let wide : length row ≡ ways * kw = row-long (ways * kw) b (length used) words h flat in
           let below_count : b < count = subst (λ n. b < n) many h in
@@ -198,25 +170,23 @@ new-buckets ways kw count order words some short room eo ew each =
           (wide ∙ ap (λ n. n * kw) (sym long)) in
           subst (λ u. IsBucket (b * ways) kw u (get_or (orders_of ways used order) b [])
           (rows_of kw ways (get_or (words_of ways kw used words) b []))) (sym (get_or-replicate count b 0 0 below_count))
-          (subst (λ x. IsBucket (b * ways) kw 0 x (rows_of kw ways (get_or (words_of ways kw used words) b [])))
-          (sym (get-rows_of ways (length used) order b [] h))
-          (subst (λ x. IsBucket (b * ways) kw 0 o (rows_of kw ways x)) (sym (get-rows_of (ways * kw) (length used) words b [] h))
-          (subst (λ n. IsBucket (b * ways) kw 0 o (rows_of kw n row)) long is)));
+          (subst₂ (λ x y. IsBucket (b * ways) kw 0 x (rows_of kw ways y)) (sym (get-rows_of ways (length used) order b [] h))
+          (sym (get-rows_of (ways * kw) (length used) words b [] h))
+          (subst (λ n. IsBucket (b * ways) kw 0 o (rows_of kw n row)) long is));
     }
 
 -- the pairs of one bucket more are counted
-pub flat-more : (ways kw ew held i : ℕ) (used order words : List ℕ) (entries : List (List ℕ))
-    → IsFlatCache ways kw ew used order words entries → i < length used
+pub flat-more : {ways kw ew : ℕ} {used order words : List ℕ} {entries : List (List ℕ)} → IsFlatCache ways kw ew used order words entries
+    → (held i : ℕ) → i < length used
     → held ≡ sum_by (λ ps. length ps) (take i (lists_in ways kw used order words)) → held ≤ i * ways
     → (held + get_or used i 0 ≡ sum_by (λ ps. length ps) (take (i + 1) (lists_in ways kw used order words)))
     × (held + get_or used i 0 ≤ (i + 1) * ways)
-flat-more ways kw ew held i used order words entries s h e b =
+flat-more {ways} {kw} {ew} {used} {order} {words} {entries} s held i h e b =
     let buckets = buckets_of ways kw used order words in
     let inside : i < length buckets = subst (λ n. i < n) (sym (length-buckets_of ways kw used order words)) h in
     let r = get_or buckets i no_bucket in
-    let more = held_more ways kw ew held buckets entries i r (shaped ways kw ew used order words entries s) inside
-    (get_or_default buckets i no_bucket r inside) e b in
+    let more = held_more ways kw ew held buckets entries i r (shaped s) inside (get_or_default buckets i no_bucket r inside) e b in
     let pairs : length r.pairs ≡ get_or used i 0 = sym (ap length (get_or-map (λ (x : Recency). x.pairs) buckets i no_bucket [] inside))
-    ∙ all-used ways kw i used order words s.buckets h in
+    ∙ all-used i s.buckets h in
     subst (λ n. (held + n ≡ sum_by (λ ps. length ps) (take (i + 1) (lists_in ways kw used order words))) × (held + n ≤ (i + 1) * ways))
     pairs more

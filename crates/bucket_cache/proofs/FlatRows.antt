@@ -2,6 +2,7 @@
 use Rattle.std.proofs.Common.{◌≡◌, ℕ, zero, suc, ◌+◌, ◌-◌, ◌*◌, ◌<◌, ◌≤◌, List, ◌∷◌, ◌++◌, length, take, drop, get_or, set, refl, sym, ap}
 use Rattle.std.proofs.Common.{ap₂, ◌∙◌, arith, All, drop-drop, length-drop, append_assoc}
 use Rattle.std.proofs.lemmas.List.{length-take-le, take_at, drop_at}
+use Rattle.std.proofs.Math.Nat.{mul_assoc}
 use Rattle.std.proofs.Math.Seq.{take-add}
 use Rattle.bucket_cache.specs.Slices.{rows_of}
 
@@ -10,6 +11,10 @@ pub row_fits : (way ways width : ℕ) → way < ways → way * width + width ≤
 row_fits way zero width h = absurd (omega arith)
 row_fits zero (suc ways) width h = omega arith
 row_fits (suc way) (suc ways) width h = let rest = row_fits way ways width (omega arith) in omega arith
+
+-- the first word of a way of a bucket
+pub place-word : (b ways way kw : ℕ) → b * (ways * kw) + way * kw ≡ (b * ways + way) * kw
+place-word b ways way kw = let a = mul_assoc b ways kw in omega arith
 
 pub row_width : (ways way width : ℕ) (words row : List ℕ) → way < ways → length words ≡ ways * width
     → row ≡ take width (drop (way * width) words) → length row ≡ width
@@ -21,6 +26,11 @@ row_width ways way width words row h e r =
 pub length-rows_of : (width count : ℕ) (words : List ℕ) → length (rows_of width count words) ≡ count
 length-rows_of width zero words = refl
 length-rows_of width (suc count) words = ap (λ n. suc n) (length-rows_of width count (drop width words))
+
+-- a place of the rows is one of their number
+pub place_within : (width count : ℕ) (words : List ℕ) {rows : List (List ℕ)} {at : ℕ} → rows_of width count words ≡ rows → at < length rows
+    → at < count
+place_within width count words view low = omega (arith, low, length-rows_of width count words, ap length view)
 
 pub get-rows_of : (width count : ℕ) (words : List ℕ) (at : ℕ) (d : List ℕ) → at < count
     → get_or (rows_of width count words) at d ≡ take width (drop (at * width) words)

@@ -1,6 +1,7 @@
 pub mod Moves
 pub mod FlatRows
 pub mod FlatBuckets
+pub mod LentBuckets
 pub mod FlatCaches
 pub mod FlatReads
 pub mod Fronts

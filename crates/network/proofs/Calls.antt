@@ -1,5 +1,5 @@
 -- The calls of upkeeps, and what they leave of a network's fronts.
-use Rattle.std.proofs.Common.{◌≡◌, ◌≢◌, ℕ, zero, suc, ◌+◌, ◌<◌, ◌≤◌, ◌==◌, nat_lt, true, false, List, [], ◌∷◌, ◌++◌, length, replicate}
+use Rattle.std.proofs.Common.{◌≡◌, ◌≢◌, ℕ, zero, suc, ◌+◌, ◌<◌, ◌==◌, nat_lt, true, List, [], ◌∷◌, ◌++◌, length, replicate}
 use Rattle.std.proofs.Common.{set, Option, Some, None, refl, sym, ap, subst, ◌∙◌, arith}
 use Rattle.std.specs.Prelude.{slice_get, if◌then◌else◌}
 use Rattle.std.specs.List.{list_all}
@@ -11,8 +11,8 @@ use Rattle.epoch_entry.specs.declared.any.AnyEpochs.{AnyEpochs}
 use Rattle.stage_plan.specs.Planned.{wiring_at}
 use Rattle.switch_core.specs.Closing.{held_in, is_drained}
 use Rattle.switch_core.specs.FrontParts.{FrontOf}
-use Rattle.switch_core.specs.Rows.{AreFirst, EachFrom}
-use Rattle.switch_core.specs.Upkeeps.{IsKept, Try, counts_of, left_waiting, room_events, sweep_events, tries, upkeep_events}
+use Rattle.switch_core.specs.Rows.{EachFrom}
+use Rattle.switch_core.specs.Upkeeps.{IsKept, Try, counts_of, left_waiting, room_events, sweep_events, tries}
 use Rattle.switch_core.specs.declared.upkeep.Upkeep.{Upkeep}
 use Rattle.switch_core.specs.declared.upkeep.Upkeep.TheVariants as due
 use Rattle.switch_core.proofs.LaneFacts.{got_set, set_same}
@@ -21,7 +21,7 @@ use Rattle.network.specs.Groups.{GroupKept, GroupView, IsGroup, group_is_drained
 use Rattle.network.specs.Events.{GroupBreaksOff, GroupMakesAll, IsLeft, StaysBut, is_ready_at, upkeep_in}
 use Rattle.network.specs.Networks.{IsNetwork, NetworkView}
 use Rattle.network.specs.Running.{Evicts, FrontsStay, Merges, NetworkRuns, RunBreaksOff, calls_of, front_at, front_of, joined_below}
-use Rattle.network.specs.Running.{lane_calls, upkeep_calls, without_merges}
+use Rattle.network.specs.Running.{lane_calls, upkeep_calls}
 use Rattle.network.proofs.CostSteps.{kept_at}
 use Rattle.network.proofs.MakeSteps.{make_one, ready_at, switch_within}
 use Rattle.network.proofs.NetworkSteps.{with_groups}

@@ -1,7 +1,7 @@
 -- The rows of one groupby's table of a drained network: of an additive fold, and of a key that gives the switch.
-use Rattle.std.proofs.Common.{◌≡◌, ◌≢◌, ℕ, zero, suc, ◌+◌, ◌==◌, Bool, true, false, ◌||◌, List, [], ◌∷◌, ◌++◌, length, filter, flat_map}
+use Rattle.std.proofs.Common.{◌≡◌, ◌≢◌, ℕ, zero, suc, ◌+◌, ◌==◌, true, false, ◌||◌, List, [], ◌∷◌, ◌++◌, length, filter, flat_map}
 use Rattle.std.proofs.Common.{slice_index, Option, Some, None, refl, sym, ap, subst, ◌∙◌, arith, append-nil}
-use Rattle.std.specs.Prelude.{slice_get, if◌then◌else◌, map}
+use Rattle.std.specs.Prelude.{slice_get, map}
 use Rattle.std.specs.declared.cmp.Ordering.TheVariants.{Less, Equal}
 use Rattle.std.proofs.lemmas.Bool.{true≢false}
 use Rattle.std.proofs.lemmas.Bool.Decides.{nat_tests}
@@ -9,16 +9,14 @@ use Rattle.std.proofs.lemmas.Cmp.{nat_list_cmp_total, tied_itself}
 use Rattle.std.proofs.lemmas.List.Elements.{All-head, All-tail, filter-append}
 use Rattle.marple_base.specs.declared.field.TheConstants.{FIELDS}
 use Rattle.query_lang.specs.declared.fold.TypedFold.{TypedFold}
-use Rattle.query_lang.specs.declared.typed.Class.TheVariants.{Linear}
 use Rattle.query_lang.specs.Folds.{initial_state}
-use Rattle.fold_class.specs.Program.{IsProgramOf}
 use Rattle.fold_class.proofs.LawLemmas.{additive_class}
 use Rattle.epoch_model.specs.declared.tables.Row.{Row}
 use Rattle.epoch_model.specs.Keys.{AreAbove, ArgRow, IsAscending, Key, ascending, has, key_cmp, key_eq}
 use Rattle.epoch_model.specs.Driving.{Taken, event_of}
 use Rattle.epoch_model.specs.Epochs.{Geometry}
 use Rattle.epoch_model.specs.Laws.{HasRoom, rows_given}
-use Rattle.epoch_model.specs.Machine.{Epoch, Evict, Merge, Packet, lists_of}
+use Rattle.epoch_model.specs.Machine.{Epoch, Evict, Merge, lists_of}
 use Rattle.epoch_model.specs.TableLaws.{keys_given}
 use Rattle.epoch_model.specs.Tables.{Folding, closed_key_rows, closed_keys, closed_rows, epoch_rows, epochs_shown}
 use Rattle.epoch_model.specs.Tables.{exact_row, folded, mark_of}
@@ -49,7 +47,7 @@ use Rattle.net_wide.proofs.OneSwitch.{one_switch}
 use Rattle.network.specs.Ends.{AreTakenAt, IsDrainedWith, IsSwitchPlace, packets_taken}
 use Rattle.network.specs.Groups.{GroupView, IsGroup, StoresHold, folding_in, group_is_drained, shared_tables}
 use Rattle.network.specs.Networks.{IsNetwork, NetworkView}
-use Rattle.network.specs.Running.{Evicts, Merges, NetworkEvent, Takes, all_given, gives, merged_after}
+use Rattle.network.specs.Running.{Evicts, Merges, NetworkEvent, Takes, all_given, merged_after}
 use Rattle.network.proofs.MakeSteps.{all_merged}
 use Rattle.network.proofs.SharedSteps.{each_back}
 

@@ -1,5 +1,5 @@
 -- Groupbys side by side.
-use Rattle.std.proofs.Common.{◌≡◌, ℕ, zero, suc, ◌+◌, ◌<◌, ◌≤◌, nat_lt, List, [], ◌∷◌, ◌++◌, ◌⊎◌, inl, inr, Some, length, take, refl, sym}
+use Rattle.std.proofs.Common.{◌≡◌, ℕ, zero, suc, ◌+◌, ◌<◌, ◌≤◌, nat_lt, List, [], ◌∷◌, ◌++◌, inl, inr, Some, length, take, refl, sym}
 use Rattle.std.proofs.Common.{ap, ◌∙◌, subst, arith, length-append}
 use Rattle.std.proofs.Math.Logic.{∥∥₁_elim}
 use Rattle.std.proofs.Props.{props}
@@ -25,7 +25,7 @@ use Rattle.stage_plan.specs.Sound.{PlanParts, IsSoundPlan, IsSoundGroup}
 use Rattle.switch_core.specs.Pipelines.{heading_of}
 use Rattle.switch_core.specs.Rows.{Each, EachFrom}
 use Rattle.switch_core.proofs.LanesMade.{group_sound}
-use Rattle.switch_core.proofs.SideBySide.{same_some, each_at, each_long, each_map, got_below}
+use Rattle.switch_core.proofs.SideBySide.{each_at, each_long, each_map, got_below}
 use Rattle.network.specs.Groups.{AllHavePlaces, AllWide, AreWide, HavePlaces, GroupGrows, GroupKept, GroupView, IsGroup, IsKindOfProgram}
 use Rattle.network.specs.Groups.{AreGroups, folding_in, shared_tables, with_first}
 use Rattle.network.specs.Shared.{AllShare, FrontKept, MayShare}

@@ -6,6 +6,8 @@ pub mod CostSteps
 pub mod NetworkSteps
 pub mod Runs
 pub mod Calls
+pub mod OneLane
+pub mod OneFront
 pub mod EventLists
 pub mod Representing
 pub mod Ends

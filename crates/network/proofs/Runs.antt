@@ -1,14 +1,14 @@
 -- Runs of a network, in sequence.
-use Rattle.std.proofs.Common.{◌≡◌, ℕ, zero, suc, ◌+◌, ◌<◌, ◌≤◌, nat_lt, true, false, List, [], ◌∷◌, ◌++◌, length, Some, refl, sym, ap}
+use Rattle.std.proofs.Common.{◌≡◌, ℕ, zero, suc, ◌+◌, ◌<◌, ◌≤◌, nat_lt, List, [], ◌∷◌, ◌++◌, length, refl, sym, ap}
 use Rattle.std.proofs.Common.{subst, ◌∙◌, arith, append-nil, append_assoc}
-use Rattle.std.specs.Prelude.{slice_get, sum_by}
+use Rattle.std.specs.Prelude.{sum_by}
 use Rattle.std.proofs.lemmas.Bool.Decides.{nat_tests}
 use Rattle.epoch_model.proofs.KeyLists.{by_test}
 use Rattle.stage_plan.specs.Planned.{registers_of}
 use Rattle.switch_core.specs.Rows.{AreFirst, Each}
 use Rattle.switch_core.specs.declared.upkeep.Upkeep.TheVariants as due
 use Rattle.switch_core.proofs.SideBySide.{each_long}
-use Rattle.network.specs.Groups.{GroupKept, GroupView}
+use Rattle.network.specs.Groups.{GroupKept}
 use Rattle.network.specs.Costs.{group_cost}
 use Rattle.network.specs.Networks.{IsNetwork, KeepsNetwork, NetworkView, network_cost, upkeeps_cost}
 use Rattle.network.specs.Running.{Evicts, Merges, MergingBreaksOff, NetworkEvent, NetworkMakes, NetworkRuns, RunBreaksOff, RunsWithMerges}

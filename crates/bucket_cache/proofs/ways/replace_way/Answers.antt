@@ -13,8 +13,7 @@ returns-clause-bucket g c =
     let keys' = rows_of (length key) (length order) c.put-way.new.words in
     let way : c.put-way.result ≡ get_or order (length order - 1) 0 = c.put-way.ensures.way in
     subst (λ o. IsBucket c.args.first (length key) (length order) o keys') (sym c.put-way.ensures.moved)
-    (replaced-bucket c.args.first (length key) (length order) order keys keys' key c.requires.bucket refl c.requires.absent refl
-    (subst (λ w. keys' ≡ set keys w key) way c.put-way.ensures.keys))
+    (replaced-bucket c.requires.bucket refl key (subst (λ w. keys' ≡ set keys w key) way c.put-way.ensures.keys) c.requires.absent refl)
 
 pub returns-clause-place : goal.returns-clause-place
 returns-clause-place g c =
@@ -32,6 +31,5 @@ returns-clause-pairs g c =
     let old = pairs_at c.args.first keys (take (length order) order) in
     let way : c.put-way.result ≡ get_or order (length order - 1) 0 = c.put-way.ensures.way in
     ap (λ o. pairs_at c.args.first keys' (take (length order) o)) c.put-way.ensures.moved
-    ∙ (replaced-pairs c.args.first (length key) (length order) order keys keys' key c.requires.bucket refl
-    (subst (λ w. keys' ≡ set keys w key) way c.put-way.ensures.keys)
+    ∙ (replaced-pairs c.requires.bucket refl key (subst (λ w. keys' ≡ set keys w key) way c.put-way.ensures.keys)
     ∙ ap (λ w. with_pair_first key (c.args.first + w) (take (length old - 1) old)) (sym way))

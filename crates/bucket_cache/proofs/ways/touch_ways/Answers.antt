@@ -1,8 +1,8 @@
-use Rattle.std.proofs.Common.{◌≡◌, ◌∙◌, ◌+◌, ◌<◌, true, length, take, get_or, set, ap, refl, subst, sym, arith}
+use Rattle.std.proofs.Common.{◌≡◌, ◌∙◌, ◌+◌, ◌<◌, length, take, get_or, set, ap, refl, subst, sym, arith}
 use Rattle.bucket_cache.specs.Slices.{rows_of}
 use Rattle.bucket_cache.specs.Buckets.{pairs_at, IsBucket}
 use Rattle.bucket_cache.specs.Touches.{with_pair_first}
-use Rattle.bucket_cache.proofs.BucketLists.{Matches, matches-front, in-front, hit-has, hit-place, hit-pairs, hit-bucket, none-in-front}
+use Rattle.bucket_cache.proofs.BucketLists.{hit-has, hit-place, hit-pairs, hit-bucket, none-in-front}
 use Rattle.bucket_cache.proofs.BucketLists.{free-pairs, free-bucket, least-pair, few-pairs, other-first}
 use Rattle.bucket_cache.proofs.ways.touch_ways.Goals as goal
 
@@ -14,30 +14,22 @@ find_key-requires-clause-other g c some = other-first c.args.first c.args.used.n
 pub returns-in-Some-clause-bucket : goal.returns-in-Some-clause-bucket
 returns-in-Some-clause-bucket g c =
     let key = c.args.key.now in
-    let order = c.args.order.now in
-    let keys = rows_of (length key) (length order) c.args.words.now in
-    let at = c.in-Some.at in
-    let found = c.in-Some.ensures.found in
+    let keys = rows_of (length key) (length c.args.order.now) c.args.words.now in
     subst (λ o. IsBucket c.args.first (length key) c.args.used.now o keys) (sym c.move_to_front.ensures.moved)
-    (hit-bucket c.args.first (length key) c.args.used.now at order keys key c.requires.bucket
-    (in-front c.args.used.now at order c.requires.bucket.within found) found
-    (matches-front c.args.used.now at order keys key true found c.in-Some.ensures.same))
+    (hit-bucket c.requires.bucket c.in-Some.at key c.in-Some.ensures.found c.in-Some.ensures.same)
 
 pub returns-in-Some-clause-touched : goal.returns-in-Some-clause-touched
 returns-in-Some-clause-touched g c =
     let key = c.args.key.now in
-    let order = c.args.order.now in
-    let used = c.args.used.now in
-    let keys = rows_of (length key) (length order) c.args.words.now in
+    let keys = rows_of (length key) (length c.args.order.now) c.args.words.now in
     let at = c.in-Some.at in
     let found = c.in-Some.ensures.found in
-    let front : at < length (take used order) = in-front used at order c.requires.bucket.within found in
-    let same : Matches keys (take used order) at key true = matches-front used at order keys key true found c.in-Some.ensures.same in
+    let same = c.in-Some.ensures.same in
     rw c.way_at-way.ensures (
-      hit-has c.args.first at (take used order) keys key front same,
-      hit-place c.args.first (length key) used at order keys key c.requires.bucket front found same,
-      ap (λ o. pairs_at c.args.first keys (take used o)) c.move_to_front.ensures.moved
-          ∙ hit-pairs c.args.first (length key) used at order keys key c.requires.bucket front found same,
+      hit-has c.requires.bucket at key found same,
+      hit-place c.requires.bucket at key found same,
+      ap (λ o. pairs_at c.args.first keys (take c.args.used.now o)) c.move_to_front.ensures.moved
+          ∙ hit-pairs c.requires.bucket at key found same,
     )
 
 pub returns-then-used-order-clause-bucket : goal.returns-then-used-order-clause-bucket
@@ -49,9 +41,8 @@ returns-then-used-order-clause-bucket g c =
     let keys' = rows_of (length key) (length order) c.put-way.new.words in
     let way : c.put-way.result ≡ get_or order used 0 = c.put-way.ensures.way in
     subst (λ o. IsBucket c.args.first (length key) (used + 1) o keys') (sym c.put-way.ensures.moved)
-    (free-bucket c.args.first (length key) used order keys keys' key c.requires.bucket c.if-used-order.true
-    (none-in-front c.args.first used order keys key c.requires.bucket.within c.in-None.ensures.none) refl
-    (subst (λ w. keys' ≡ set keys w key) way c.put-way.ensures.keys))
+    (free-bucket c.requires.bucket c.if-used-order.true key (subst (λ w. keys' ≡ set keys w key) way c.put-way.ensures.keys)
+    (none-in-front c.args.first used order keys key c.requires.bucket.within c.in-None.ensures.none) refl)
 
 pub returns-then-used-order-clause-touched : goal.returns-then-used-order-clause-touched
 returns-then-used-order-clause-touched g c =
@@ -66,8 +57,7 @@ returns-then-used-order-clause-touched g c =
       none-in-front c.args.first used order keys key c.requires.bucket.within c.in-None.ensures.none,
       subst (λ n. n < length order) (sym few) room,
       ap (λ o. pairs_at c.args.first keys' (take (used + 1) o)) c.put-way.ensures.moved
-          ∙ (free-pairs c.args.first (length key) used order keys keys' key c.requires.bucket room
-          (subst (λ w. keys' ≡ set keys w key) way c.put-way.ensures.keys)
+          ∙ (free-pairs c.requires.bucket room key (subst (λ w. keys' ≡ set keys w key) way c.put-way.ensures.keys)
           ∙ ap (λ w. with_pair_first key (c.args.first + w) (pairs_at c.args.first keys (take used order))) (sym way)),
     )
 

@@ -1,4 +1,4 @@
-use Rattle.std.proofs.Common.{◌≡◌, ◌<◌, Some, length, sym, ap, ◌∙◌}
+use Rattle.std.proofs.Common.{◌<◌, Some, length, sym, ap, ◌∙◌}
 use Rattle.switch_core.specs.Closing.{is_drained}
 use Rattle.switch_core.proofs.LaneFacts.{all_next}
 use Rattle.switch_core.proofs.SideBySide.{got_here}

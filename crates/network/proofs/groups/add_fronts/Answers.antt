@@ -1,4 +1,5 @@
-use Rattle.std.proofs.Common.{◌≡◌, ◌<◌, ◌+◌, length, get_or, set, sym, ap, ◌∙◌, subst, arith, lit<}
+use Rattle.std.proofs.Common.{◌≡◌, ◌<◌, ◌+◌, length, Some, get_or, set, sym, ap, ◌∙◌, subst, arith, lit<}
+use Rattle.std.specs.Prelude.{slice_get}
 use Rattle.std.proofs.Math.Facts.{Fits-below}
 use Rattle.query_lang.specs.declared.fault.TheConstants.{MAX_KEYS}
 use Rattle.stage_plan.specs.Planned.{wiring_at}
@@ -9,6 +10,7 @@ use Rattle.switch_core.proofs.SideBySide.{got_here}
 use Rattle.network.specs.Groups.{GroupGrows, GroupView, IsGroup, with_first}
 use Rattle.network.proofs.GroupSteps.{Grown, all_first, all_grown, others_so_far, part_of}
 use Rattle.network.proofs.groups.add_fronts.Goals as goal
+use Rattle.network.proofs.groups.add_fronts.Goals.{In-loop-i}
 
 pub loop-i-init : goal.loop-i-init
 loop-i-init g c = record {
@@ -17,6 +19,16 @@ loop-i-init g c = record {
   others = done_start (λ n (a b : GroupView). with_first (length a.fronts) b ≡ a) 0 c.args.groups.now;
   same = untouched_start 0 0 c.args.groups.now;
 }
+
+-- the groupby of this turn is the one that was there
+there : (g : _) (c : In-loop-i g) (d : GroupView)
+    → slice_get c.args.groups.now c.loop-i.i ≡ Some (get_or c.loop-i.groups c.loop-i.i d)
+there g c d =
+    let groups = c.loop-i.groups in
+    let kept = c.loop-i.auto.groups in
+    let below : c.loop-i.i < length groups = let b = c.loop-i-test.true in omega arith in
+    untouched_was c.loop-i.i c.args.groups.now groups (get_or groups c.loop-i.i d) c.loop-i.invariant.same (omega arith)
+    (got_here groups c.loop-i.i d below)
 
 pub overflow_cast-i : goal.overflow_cast-i
 overflow_cast-i g c =
@@ -40,10 +52,7 @@ add_switch-requires g c =
     let i = c.loop-i.i in
     let first = c.args.groups.now in
     let group = get_or c.loop-i.groups i c.index-groups-i.result in
-    let kept = c.loop-i.auto.groups in
-    let below : i < length c.loop-i.groups = let b = c.loop-i-test.true in omega arith in
-    let was = untouched_was i first c.loop-i.groups group c.loop-i.invariant.same (omega arith)
-    (got_here c.loop-i.groups i c.index-groups-i.result below) in
+    let was = there g (goal.at.add_switch-requires g c).In-loop-i c.index-groups-i.result in
     let own = part_of c.args.plan.now c.requires.groups.0 i first group c.invariant.ensures c.requires.groups.1 was in
     let same = same_some own.part c.group.result.now (sym own.there ∙ c.group.ensures) in
     let sound = subst (λ p. IsSoundGroup own.registers p (wiring_at c.args.plan.now i)) same own.sound in (
@@ -68,9 +77,7 @@ loop-i-preserved g c =
     let groups = c.loop-i.groups in
     let group = get_or groups i c.index-groups-i.result in
     let new = c.add_switch.new.self in
-    let kept = c.loop-i.auto.groups in
-    let below : i < length groups = let b = c.loop-i-test.true in omega arith in
-    let was = untouched_was i first groups group c.loop-i.invariant.same (omega arith) (got_here groups i c.index-groups-i.result below) in
+    let was = there g (goal.at.loop-i-preserved g c).In-loop-i c.index-groups-i.result in
     let own = part_of plan c.requires.groups.0 i first group c.invariant.ensures c.requires.groups.1 was in
     let grown : Grown plan i group new =
     λ switches part there is.

@@ -1,5 +1,6 @@
-use Rattle.std.proofs.Common.{◌≡◌, ◌<◌, ◌+◌, ℕ, length, take, get_or, refl, sym, ◌∙◌, subst, arith, lit<}
+use Rattle.std.proofs.Common.{◌≡◌, ◌<◌, ◌+◌, ℕ, length, Some, take, get_or, refl, sym, ◌∙◌, subst, arith, lit<}
 use Rattle.std.specs.Prelude.{sum_by}
+use Rattle.std.specs.Prelude.{slice_get}
 use Rattle.std.proofs.Math.Facts.{Fits-below}
 use Rattle.epoch_model.specs.Driving.{event_of}
 use Rattle.query_lang.specs.declared.fault.TheConstants.{MAX_KEYS}
@@ -16,6 +17,7 @@ use Rattle.network.specs.Costs.{group_cost}
 use Rattle.network.proofs.CostSteps.{group_within, within_next}
 use Rattle.network.proofs.GroupSteps.{part_of}
 use Rattle.network.proofs.groups.packet_groups.Goals as goal
+use Rattle.network.proofs.groups.packet_groups.Goals.{In-loop-i}
 
 pub loop-i-init : goal.loop-i-init
 loop-i-init g c = record {
@@ -28,6 +30,16 @@ loop-i-init g c = record {
   key = refl;
   args = refl;
 }
+
+-- the groupby of this turn is the one that was there
+there : (g : _) (c : In-loop-i g) (d : GroupView)
+    → slice_get c.args.groups.now c.loop-i.i ≡ Some (get_or c.loop-i.groups c.loop-i.i d)
+there g c d =
+    let groups = c.loop-i.groups in
+    let kept = c.loop-i.auto.groups in
+    let below : c.loop-i.i < length groups = let b = c.loop-i-test.true in omega arith in
+    untouched_was c.loop-i.i c.args.groups.now groups (get_or groups c.loop-i.i d) c.loop-i.invariant.same (omega arith)
+    (got_here groups c.loop-i.i d below)
 
 pub overflow_cast-i : goal.overflow_cast-i
 overflow_cast-i g c =
@@ -43,10 +55,7 @@ packet-requires g c =
     let i = c.loop-i.i in
     let first = c.args.groups.now in
     let group = get_or c.loop-i.groups i c.index-groups-i.result in
-    let kept = c.loop-i.auto.groups in
-    let below : i < length c.loop-i.groups = let b = c.loop-i-test.true in omega arith in
-    let was = untouched_was i first c.loop-i.groups group c.loop-i.invariant.same (omega arith)
-    (got_here c.loop-i.groups i c.index-groups-i.result below) in
+    let was = there g (goal.at.packet-requires g c).In-loop-i c.index-groups-i.result in
     let own = part_of c.args.plan.now c.requires.groups.0 i first group c.invariant.ensures c.requires.groups.2 was in
     let at : c.args.at < length group.fronts = let a = c.requires.groups.1 in let b = own.is.count in omega arith in
     let ready = all_at (is_ready_at c.args.at) first i group c.requires.ready was in
@@ -65,9 +74,7 @@ loop-i-preserved g c =
     let groups = c.loop-i.groups in
     let group = get_or groups i c.index-groups-i.result in
     let new = c.packet.new.self in
-    let kept = c.loop-i.auto.groups in
-    let below : i < length groups = let b = c.loop-i-test.true in omega arith in
-    let was = untouched_was i first groups group c.loop-i.invariant.same (omega arith) (got_here groups i c.index-groups-i.result below) in
+    let was = there g (goal.at.loop-i-preserved g c).In-loop-i c.index-groups-i.result in
     let made : ℕ → GroupView → GroupView → Type 0 = λ n. GroupMakesAll g.row.WAYS c.args.at
     (event_of (taken_at (wiring_at c.args.plan.now n) c.args.registers.now)) in
     let own = part_of c.args.plan.now c.requires.groups.0 i first group c.invariant.ensures c.requires.groups.2 was in

@@ -1,45 +1,26 @@
-use Rattle.std.proofs.Common.{◌<◌, length, refl, sym, arith}
+use Rattle.std.proofs.Common.{refl, sym, arith}
 use Rattle.std.specs.List.{zip}
-use Rattle.std.proofs.lemmas.Option.{slice_get_read, slice_get_within}
+use Rattle.backing_store.proofs.RowMaking.{found_within, found_first, found_value}
 use Rattle.backing_store.proofs.StoreKept.{no_epochs}
-use Rattle.backing_store.proofs.ZipFacts.{epochs_at, epochs_none, first_of_once, none_of_absent, zip-value}
+use Rattle.backing_store.proofs.ZipFacts.{epochs_at, epochs_none, none_of_absent}
 use Rattle.backing_store.proofs.store.BackingStore.epochs.Goals as goal
 
 pub index-requires : goal.index-requires
-index-requires c =
-    let a = c.self.inside in
-    let keys = a.keys.keys in
-    let merged = a.merged.items in
-    let key = c.args.key.now in
-    let many = c.self.invariant.many in
-    let whole = c.self.invariant.whole in
-    omega (arith, slice_get_within keys c.in-Found.at key c.in-Found.ensures, many, a.merged.ok.0)
+index-requires c = omega (arith, found_within c.self.invariant c.in-Found.at c.in-Found.ensures, c.self.inside.merged.ok.0)
 
 pub returns-in-Found-clause-value : goal.returns-in-Found-clause-value
 returns-in-Found-clause-value c =
     let a = c.self.inside in
-    let keys = a.keys.keys in
-    let merged = a.merged.items in
-    let key = c.args.key.now in
-    let many = c.self.invariant.many in
-    let whole = c.self.invariant.whole in
     let at = c.in-Found.at in
     let here = c.in-Found.ensures in
-    let low : at < length merged = omega (arith, slice_get_within keys at key here, many) in
-    let first = first_of_once keys merged at key many whole.0.once here in
-    let value = zip-value keys merged at c.index.result.now many (slice_get_read merged (length merged) at c.index.result.now refl low
-    c.index.ensures) in
-    rw (← c.self.view_is) (sym (epochs_at key (zip keys merged) at c.index.result.now first value))
+    rw (← c.self.view_is) (sym (epochs_at c.args.key.now (zip a.keys.keys a.merged.items) at c.index.result.now
+    (found_first c.self.invariant at here) (found_value c.self.invariant at here c.index.ensures)))
 
 pub returns-in-Free-clause-value : goal.returns-in-Free-clause-value
 returns-in-Free-clause-value c =
     let a = c.self.inside in
-    let keys = a.keys.keys in
-    let merged = a.merged.items in
-    let key = c.args.key.now in
-    let many = c.self.invariant.many in
-    let whole = c.self.invariant.whole in
-    rw (← c.self.view_is) (sym (epochs_none key (zip keys merged) (none_of_absent keys merged key c.in-Free.ensures.0)))
+    rw (← c.self.view_is) (sym (epochs_none c.args.key.now (zip a.keys.keys a.merged.items)
+    (none_of_absent a.keys.keys a.merged.items c.args.key.now c.in-Free.ensures.0)))
 
 pub returns-in-Found-clause-zero : goal.returns-in-Found-clause-zero
 returns-in-Found-clause-zero c =

@@ -1,13 +1,10 @@
 use Rattle.std.proofs.Common.{ap, length, arith}
 use Rattle.bucket_cache.proofs.FlatBuckets.{length-lists_in}
-use Rattle.bucket_cache.proofs.FlatCaches.{flat_sound}
+use Rattle.bucket_cache.proofs.FlatCaches.{view-sound}
 use Rattle.bucket_cache.proofs.cache.BucketCache.buckets.Goals as goal
 
 pub returns-clause-sound : goal.returns-clause-sound
-returns-clause-sound g c =
-    let b = c.self.inside in
-    rw (← c.self.view_is) (flat_sound g.row.WAYS b.key_words b.entry_words b.used.items b.order.items b.words.items b.entries
-    c.self.invariant)
+returns-clause-sound g c = view-sound c.self.invariant c.self.view_is
 
 pub returns-clause-number : goal.returns-clause-number
 returns-clause-number g c =

@@ -1,116 +1,57 @@
+-- Where the bucket has the pair, its number stands in the flat order, and the place is that of the way there.
 use Rattle.std.proofs.Common.{◌≡◌, ◌+◌, ◌*◌, ◌<◌, Some, length, get_or, sym, ap, ◌∙◌, subst, arith}
-use Rattle.std.proofs.lemmas.List.{get_or_read}
-use Rattle.bucket_cache.proofs.FlatCaches.{in-flat}
-use Rattle.bucket_cache.proofs.FlatReads.{stands, flat-place, flat-no-place}
+use Rattle.bucket_cache.proofs.FlatCaches.{in-flat, read-used}
+use Rattle.bucket_cache.proofs.FlatReads.{Stands, stands, flat-place, flat-no-place}
 use Rattle.bucket_cache.proofs.cache.BucketCache.place.Goals as goal
+use Rattle.bucket_cache.proofs.cache.BucketCache.place.Goals.{Then-i-index, After-way_at}
 
 pub index-requires : goal.index-requires
 index-requires g c =
-    let b = c.self.inside in
-    let ways = g.row.WAYS in
-    let are = c.self.invariant.buckets in
-    let h : c.args.bucket < length b.used.items = in-flat ways b.key_words b.entry_words c.args.bucket b.used.items b.order.items
-    b.words.items b.entries c.args.self.now c.self.view_is c.requires in
-    omega (arith, h, b.used.ok.0)
+    let used = c.self.inside.used in
+    omega (arith, in-flat c.self.invariant c.self.view_is c.requires, used.ok.0)
+
+in_use : (g : _) (c : Then-i-index g) → c.args.i < get_or c.self.inside.used.items c.args.bucket 0
+in_use g c = subst (λ n. c.args.i < n) (read-used c.self.invariant c.self.view_is c.requires c.index.ensures) c.if-i-index.true
+
+stood : (g : _) (c : Then-i-index g) → Stands g.row.WAYS c.args.bucket c.args.i c.self.inside.order.items
+stood g c = stands c.args.bucket c.self.invariant.buckets (in-flat c.self.invariant c.self.view_is c.requires) c.args.i (in_use g c)
 
 pub overflow_mul-first : goal.overflow_mul-first
-overflow_mul-first g c =
-    let b = c.self.inside in
-    let ways = g.row.WAYS in
-    let are = c.self.invariant.buckets in
-    let h : c.args.bucket < length b.used.items = in-flat ways b.key_words b.entry_words c.args.bucket b.used.items b.order.items
-    b.words.items b.entries c.args.self.now c.self.view_is c.requires in
-    let r : c.index.result.now ≡ get_or b.used.items c.args.bucket 0 =
-    get_or_read b.used.items c.args.bucket c.index.result.now h c.index.ensures 0 in
-    let l : c.args.i < get_or b.used.items c.args.bucket 0 = subst (λ n. c.args.i < n) r c.if-i-index.true in
-    let s = stands ways b.key_words c.args.bucket c.args.i b.used.items b.order.items b.words.items are h l in
-    let room = s.room in
-    let below = s.below in
-    record { fits = omega arith }
+overflow_mul-first g c = let s = stood g c in record { fits = omega arith }
 
 pub overflow_add-first : goal.overflow_add-first
-overflow_add-first g c =
-    let b = c.self.inside in
-    let ways = g.row.WAYS in
-    let are = c.self.invariant.buckets in
-    let h : c.args.bucket < length b.used.items = in-flat ways b.key_words b.entry_words c.args.bucket b.used.items b.order.items
-    b.words.items b.entries c.args.self.now c.self.view_is c.requires in
-    let r : c.index.result.now ≡ get_or b.used.items c.args.bucket 0 =
-    get_or_read b.used.items c.args.bucket c.index.result.now h c.index.ensures 0 in
-    let l : c.args.i < get_or b.used.items c.args.bucket 0 = subst (λ n. c.args.i < n) r c.if-i-index.true in
-    let s = stands ways b.key_words c.args.bucket c.args.i b.used.items b.order.items b.words.items are h l in
-    let room = s.room in
-    let below = s.below in
-    record { fits = omega arith }
+overflow_add-first g c = let s = stood g (goal.at.overflow_add-first g c).Then-i-index in record { fits = omega arith }
 
 pub way_at-requires-clause-within : goal.way_at-requires-clause-within
 way_at-requires-clause-within g c =
-    let b = c.self.inside in
-    let ways = g.row.WAYS in
-    let are = c.self.invariant.buckets in
-    let h : c.args.bucket < length b.used.items = in-flat ways b.key_words b.entry_words c.args.bucket b.used.items b.order.items
-    b.words.items b.entries c.args.self.now c.self.view_is c.requires in
-    let r : c.index.result.now ≡ get_or b.used.items c.args.bucket 0 =
-    get_or_read b.used.items c.args.bucket c.index.result.now h c.index.ensures 0 in
-    let l : c.args.i < get_or b.used.items c.args.bucket 0 = subst (λ n. c.args.i < n) r c.if-i-index.true in
-    let s = stands ways b.key_words c.args.bucket c.args.i b.used.items b.order.items b.words.items are h l in
-    subst (λ xs. c.args.bucket * ways + c.args.i < length xs) (sym c.deref.ensures.value) s.within
+    subst (λ xs. c.args.bucket * g.row.WAYS + c.args.i < length xs) (sym c.deref.ensures.value)
+    (stood g (goal.at.way_at-requires-clause-within g c).Then-i-index).within
 
 pub way_at-requires-clause-below : goal.way_at-requires-clause-below
 way_at-requires-clause-below g c =
-    let b = c.self.inside in
-    let ways = g.row.WAYS in
-    let are = c.self.invariant.buckets in
-    let h : c.args.bucket < length b.used.items = in-flat ways b.key_words b.entry_words c.args.bucket b.used.items b.order.items
-    b.words.items b.entries c.args.self.now c.self.view_is c.requires in
-    let r : c.index.result.now ≡ get_or b.used.items c.args.bucket 0 =
-    get_or_read b.used.items c.args.bucket c.index.result.now h c.index.ensures 0 in
-    let l : c.args.i < get_or b.used.items c.args.bucket 0 = subst (λ n. c.args.i < n) r c.if-i-index.true in
-    let s = stands ways b.key_words c.args.bucket c.args.i b.used.items b.order.items b.words.items are h l in
-    subst (λ xs. get_or xs (c.args.bucket * ways + c.args.i) 0 < ways) (sym c.deref.ensures.value) s.way
+    subst (λ xs. get_or xs (c.args.bucket * g.row.WAYS + c.args.i) 0 < g.row.WAYS) (sym c.deref.ensures.value)
+    (stood g (goal.at.way_at-requires-clause-below g c).Then-i-index).way
+
+way_is : (g : _) (c : After-way_at g)
+    → c.way_at.result ≡ get_or c.self.inside.order.items (c.args.bucket * g.row.WAYS + c.args.i) 0
+way_is g c = c.way_at.ensures ∙ ap (λ xs. get_or xs (c.args.bucket * g.row.WAYS + c.args.i) 0) c.deref.ensures.value
 
 pub overflow_add-result : goal.overflow_add-result
 overflow_add-result g c =
-    let b = c.self.inside in
-    let ways = g.row.WAYS in
-    let are = c.self.invariant.buckets in
-    let h : c.args.bucket < length b.used.items = in-flat ways b.key_words b.entry_words c.args.bucket b.used.items b.order.items
-    b.words.items b.entries c.args.self.now c.self.view_is c.requires in
-    let r : c.index.result.now ≡ get_or b.used.items c.args.bucket 0 =
-    get_or_read b.used.items c.args.bucket c.index.result.now h c.index.ensures 0 in
-    let l : c.args.i < get_or b.used.items c.args.bucket 0 = subst (λ n. c.args.i < n) r c.if-i-index.true in
-    let s = stands ways b.key_words c.args.bucket c.args.i b.used.items b.order.items b.words.items are h l in
-    let room = s.room in
-    let below = s.below in
-    let way : c.way_at.result ≡ get_or b.order.items (c.args.bucket * ways + c.args.i) 0 =
-    c.way_at.ensures ∙ ap (λ xs. get_or xs (c.args.bucket * ways + c.args.i) 0) c.deref.ensures.value in
-    let small = s.way in
+    let s = stood g (goal.at.overflow_add-result g c).Then-i-index in
+    let way = way_is g c in
     record { fits = omega arith }
 
 pub returns-then-i-index : goal.returns-then-i-index
 returns-then-i-index g c =
-    let b = c.self.inside in
-    let ways = g.row.WAYS in
-    let are = c.self.invariant.buckets in
-    let h : c.args.bucket < length b.used.items = in-flat ways b.key_words b.entry_words c.args.bucket b.used.items b.order.items
-    b.words.items b.entries c.args.self.now c.self.view_is c.requires in
-    let r : c.index.result.now ≡ get_or b.used.items c.args.bucket 0 =
-    get_or_read b.used.items c.args.bucket c.index.result.now h c.index.ensures 0 in
-    let l : c.args.i < get_or b.used.items c.args.bucket 0 = subst (λ n. c.args.i < n) r c.if-i-index.true in
-    let s = stands ways b.key_words c.args.bucket c.args.i b.used.items b.order.items b.words.items are h l in
-    let way : c.way_at.result ≡ get_or b.order.items (c.args.bucket * ways + c.args.i) 0 =
-    c.way_at.ensures ∙ ap (λ xs. get_or xs (c.args.bucket * ways + c.args.i) 0) c.deref.ensures.value in
-    rw (← c.self.view_is) (ap (λ n. Some (c.args.bucket * ways + n)) way
-    ∙ sym (flat-place ways b.key_words c.args.bucket c.args.i b.used.items b.order.items b.words.items are h l))
+    let inside = in-flat c.self.invariant c.self.view_is c.requires in
+    let within = in_use g (goal.at.returns-then-i-index g c).Then-i-index in
+    rw (← c.self.view_is) (ap (λ n. Some (c.args.bucket * g.row.WAYS + n)) (way_is g c)
+    ∙ sym (flat-place c.args.bucket c.self.invariant.buckets inside c.args.i within))
 
 pub returns-else-i-index : goal.returns-else-i-index
 returns-else-i-index g c =
-    let b = c.self.inside in
-    let ways = g.row.WAYS in
-    let are = c.self.invariant.buckets in
-    let h : c.args.bucket < length b.used.items = in-flat ways b.key_words b.entry_words c.args.bucket b.used.items b.order.items
-    b.words.items b.entries c.args.self.now c.self.view_is c.requires in
-    let r : c.index.result.now ≡ get_or b.used.items c.args.bucket 0 =
-    get_or_read b.used.items c.args.bucket c.index.result.now h c.index.ensures 0 in
-    rw (← c.self.view_is) (sym (flat-no-place ways b.key_words c.args.bucket c.args.i b.used.items b.order.items b.words.items are h
-    (let f = c.if-i-index.false in omega arith)))
+    let read = read-used c.self.invariant c.self.view_is c.requires c.index.ensures in
+    let inside = in-flat c.self.invariant c.self.view_is c.requires in
+    let past = c.if-i-index.false in
+    rw (← c.self.view_is) (sym (flat-no-place c.args.bucket c.self.invariant.buckets inside c.args.i (omega arith)))

@@ -1,12 +1,14 @@
-use Rattle.std.proofs.Common.{◌+◌, ◌<◌, ◌++◌, lit<, length, take, drop, sym, ap, ◌∙◌, subst, refl}
+use Rattle.std.proofs.Common.{◌≡◌, ◌+◌, ◌<◌, ◌++◌, lit<, length, take, drop, sym, ap, ◌∙◌, subst, refl}
 use Rattle.switch_core.specs.Rows.{Each}
 use Rattle.switch_core.proofs.LaneFacts.{whole_written}
 use Rattle.network.specs.Groups.{AreGroups, GroupGrows}
 use Rattle.network.specs.Networks.{NetworkGrows, NetworkView}
 use Rattle.network.proofs.MakeSteps.{if_err}
-use Rattle.network.proofs.NetworkSteps.{grown_network, ran_whole, same_network, with_groups}
+use Rattle.network.proofs.NetworkSteps.{grown_network, net_of, ran_whole, same_network, with_groups}
+use Rattle.network.proofs.OneLane.{view_of}
 use Rattle.network.proofs.Representing.{grown_stands}
 use Rattle.network.proofs.network.Network.add_switch.Goals as goal
+use Rattle.network.proofs.network.Network.add_switch.Goals.{In_ok-add_switch, In_err-add_switch}
 
 pub add_switch-requires : goal.add_switch-requires
 add_switch-requires g c =
@@ -29,42 +31,38 @@ add_switch-requires g c =
       ),
     )
 
-pub invariant_of-self : goal.invariant_of-self
-invariant_of-self g c =
-    let p = c.self.inside in
-    let view : NetworkView = record {
-      plan = p.plan;
-      buckets = p.buckets;
-      pipe_records = p.pipe_records;
-      switches = p.switches;
-      groups =
-          p.groups.items;
-    } in
+-- out of memory, the groupbys come back as they were
+same : (g : _) (c : In_err-add_switch g) → (let groups = c.self.inside.groups in let new = c.add_switch.new.groups in
+    take groups.len (new ++ drop (length new) groups.items) ≡ groups.items)
+same g c =
+    let groups = c.self.inside.groups in
     let new = c.add_switch.new.groups in
-    let same = whole_written new (drop (length new) p.groups.items) p.groups.len (c.add_switch.auto.groups ∙ c.deref_mut.ensures.len)
-    ∙ (c.in_err-add_switch.ensures.err ∙ c.deref_mut.ensures.value) in
-    (same_network g.row.WAYS view _ same c.self.invariant.0, c.self.invariant.1)
+    whole_written new (drop (length new) groups.items) groups.len (c.add_switch.auto.groups ∙ c.deref_mut.ensures.len)
+    ∙ (c.in_err-add_switch.ensures.err ∙ c.deref_mut.ensures.value)
+
+grown : (g : _) (c : In_ok-add_switch g) → (let p = c.self.inside in let new = c.add_switch.new.groups in
+    Each (GroupGrows g.row.WAYS p.buckets p.pipe_records) p.groups.items (take p.groups.len (new ++ drop (length new) p.groups.items)))
+grown g c =
+    let p = c.self.inside in
+    ran_whole (Each (GroupGrows g.row.WAYS p.buckets p.pipe_records)) p.groups.items c.deref_mut.result.now c.add_switch.new.groups
+    p.groups.len c.deref_mut.ensures.value (c.add_switch.auto.groups ∙ c.deref_mut.ensures.len) c.in_ok-add_switch.ensures.grow
+
+pub invariant_of-self : goal.invariant_of-self
+invariant_of-self g c = (
+  same_network g.row.WAYS (view_of c.self.inside) _ (same g (goal.at.invariant_of-self g c).In_err-add_switch) c.self.invariant.0,
+  c.self.invariant.1,
+)
 
 pub invariant_of-self-2 : goal.invariant_of-self-2
 invariant_of-self-2 g c =
     let p = c.self.inside in
-    let view : NetworkView = record {
-      plan = p.plan;
-      buckets = p.buckets;
-      pipe_records = p.pipe_records;
-      switches = p.switches;
-      groups =
-          p.groups.items;
-    } in
     let new = c.add_switch.new.groups in
-    let long = c.add_switch.auto.groups ∙ c.deref_mut.ensures.len in
-    let grown = ran_whole (Each (GroupGrows g.row.WAYS p.buckets p.pipe_records)) p.groups.items c.deref_mut.result.now new p.groups.len
-    c.deref_mut.ensures.value long c.in_ok-add_switch.ensures.grow in
-    let are = subst (AreGroups p.plan (p.switches + 1)) (sym (whole_written new (drop (length new) p.groups.items) p.groups.len long))
+    let are = subst (AreGroups p.plan (p.switches + 1)) (sym (whole_written new (drop (length new) p.groups.items) p.groups.len
+    (c.add_switch.auto.groups ∙ c.deref_mut.ensures.len)))
     (c.in_ok-add_switch.ensures.are p.switches (subst (AreGroups p.plan p.switches) (sym c.deref_mut.ensures.value)
     c.self.invariant.0.groups)) in (
-      grown_network g.row.WAYS view _ (subst (λ (v : NetworkView). v.switches < 64) (sym c.self.view_is) c.requires) are grown
-          c.self.invariant.0,
+      grown_network g.row.WAYS (view_of p) _ (subst (λ (v : NetworkView). v.switches < 64) (sym c.self.view_is) c.requires) are
+          (grown g (goal.at.invariant_of-self-2 g c).In_ok-add_switch) c.self.invariant.0,
       c.self.invariant.1,
     )
 
@@ -72,35 +70,17 @@ pub returns-clause-grows : goal.returns-clause-grows
 returns-clause-grows g c =
     let p = c.self.inside in
     let new = c.add_switch.new.groups in
-    let long = c.add_switch.auto.groups ∙ c.deref_mut.ensures.len in
-    let grown = ran_whole (Each (GroupGrows g.row.WAYS p.buckets p.pipe_records)) p.groups.items c.deref_mut.result.now new p.groups.len
-    c.deref_mut.ensures.value long c.in_ok-add_switch.ensures.grow in
-    let after : NetworkView = record {
-      plan = p.plan;
-      buckets = p.buckets;
-      pipe_records = p.pipe_records;
-      switches = p.switches
-          + 1;
-      groups = take p.groups.len (new ++ drop (length new) p.groups.items);
-    } in
-    subst (λ v. NetworkGrows g.row.WAYS v after) c.self.view_is (record
-    { groups = grown; switches = refl; keeps = record { plan = refl; buckets = refl; pipe_records = refl } })
+    let after = net_of p.plan p.buckets p.pipe_records (p.switches + 1) (take p.groups.len (new ++ drop (length new) p.groups.items)) in
+    subst (λ v. NetworkGrows g.row.WAYS v after) c.self.view_is (record {
+      groups = grown g (goal.at.returns-clause-grows g c).In_ok-add_switch;
+      switches = refl;
+      keeps = record { plan = refl; buckets = refl; pipe_records = refl };
+    })
 
 pub returns-clause-stands : goal.returns-clause-stands
 returns-clause-stands g c events stand = grown_stands g.row.WAYS c.args.self.now _ events (returns-clause-grows g c) stand
 
 pub returns-in_err-add_switch-clause-err : goal.returns-in_err-add_switch-clause-err
 returns-in_err-add_switch-clause-err g c =
-    let p = c.self.inside in
-    let view : NetworkView = record {
-      plan = p.plan;
-      buckets = p.buckets;
-      pipe_records = p.pipe_records;
-      switches = p.switches;
-      groups =
-          p.groups.items;
-    } in
-    let new = c.add_switch.new.groups in
-    let same = whole_written new (drop (length new) p.groups.items) p.groups.len (c.add_switch.auto.groups ∙ c.deref_mut.ensures.len)
-    ∙ (c.in_err-add_switch.ensures.err ∙ c.deref_mut.ensures.value) in
-    if_err _ c.from_residual.result (ap (with_groups view) same ∙ c.self.view_is)
+    let kept = same g (goal.at.returns-in_err-add_switch-clause-err g c).In_err-add_switch in
+    if_err _ c.from_residual.result (ap (with_groups (view_of c.self.inside)) kept ∙ c.self.view_is)

@@ -1,4 +1,4 @@
-use Rattle.std.proofs.Common.{◌≡◌, ◌+◌, ◌≤◌, ◌++◌, ℕ, length, take, drop, refl, ap, ◌∙◌, subst, arith}
+use Rattle.std.proofs.Common.{◌≡◌, ◌+◌, ◌≤◌, ◌++◌, ℕ, List, length, take, drop, refl, ap, ◌∙◌, subst, arith}
 use Rattle.std.specs.Prelude.{sum_by}
 use Rattle.epoch_model.specs.Driving.{event_of}
 use Rattle.stage_plan.specs.Planned.{plan_bound, registers_of, packet_registers, wiring_at}
@@ -13,73 +13,66 @@ use Rattle.network.specs.Running.{NetworkMakes, Takes}
 use Rattle.network.proofs.CostSteps.{groups_within}
 use Rattle.network.proofs.MakeSteps.{others_stay}
 use Rattle.network.proofs.NetworkSteps.{made_network, ran_whole, with_groups}
+use Rattle.network.proofs.OneLane.{view_of}
 use Rattle.network.proofs.network.Network.packet.Goals as goal
+use Rattle.network.proofs.network.Network.packet.Goals.{After-packet_groups}
+
+registers_back : (g : _) (c : After-packet_groups g) → length c.row.new.registers ≡ c.self.inside.registers.len
+registers_back g c = c.row.auto.registers ∙ c.deref_mut.ensures.len
+
+groups_back : (g : _) (c : After-packet_groups g) → length c.packet_groups.new.groups ≡ c.self.inside.groups.len
+groups_back g c = c.packet_groups.auto.groups ∙ c.deref_mut-2.ensures.len
+
+-- the groupbys that come back made the packet's events
+made : (g : _) (c : After-packet_groups g) → (let p = c.self.inside in let new = c.packet_groups.new.groups in
+    GroupsMake g.row.WAYS c.args.at (packet_events p.plan c.args.packet.now.words) p.groups.items
+    (take p.groups.len (new ++ drop (length new) p.groups.items)))
+made g c =
+    let p = c.self.inside in
+    let words = c.args.packet.now.words in
+    let filled = c.row.new.registers in
+    let before = c.deref_mut-2.result.now in
+    let new = c.packet_groups.new.groups in
+    let registers : c.deref.result.now ≡ packet_registers p.plan words =
+    c.deref.ensures.value
+    ∙ (whole_written filled (drop (length filled) p.registers.items) p.registers.len (registers_back g c) ∙ c.row.ensures.row) in
+    ran_whole (GroupsMake g.row.WAYS c.args.at (packet_events p.plan words)) p.groups.items before new p.groups.len
+    c.deref_mut-2.ensures.value (groups_back g c)
+    (subst (λ rs. GroupsMake g.row.WAYS c.args.at (λ n. event_of (taken_at (wiring_at p.plan n) rs)) before new) registers
+    c.packet_groups.ensures.makes)
+
+-- a lent vector that is written over is as long as before
+as_long : (new old : List ℕ) (lent : List ℕ) (many : ℕ) → length new ≡ length lent → length lent ≡ many → lent ≡ old
+    → length (take many (new ++ drop (length new) old)) ≡ length old
+as_long new old lent many long len same = ap length (whole_written new (drop (length new) old) many (long ∙ len)) ∙ (long ∙ ap length same)
 
 pub invariant_of-self : goal.invariant_of-self
 invariant_of-self g c =
     let p = c.self.inside in
-    let view : NetworkView = record {
-      plan = p.plan;
-      buckets = p.buckets;
-      pipe_records = p.pipe_records;
-      switches = p.switches;
-      groups =
-          p.groups.items;
-    } in
-    let words = c.args.packet.now.words in
-    let filled = c.row.new.registers in
-    let key = c.packet_groups.new.key in
-    let args = c.packet_groups.new.args in
-    let before = c.deref_mut-2.result.now in
-    let new = c.packet_groups.new.groups in
-    let registers : c.deref.result.now ≡ packet_registers p.plan words =
-    c.deref.ensures.value ∙ (whole_written filled (drop (length filled) p.registers.items) p.registers.len
-    (c.row.auto.registers ∙ c.deref_mut.ensures.len) ∙ c.row.ensures.row) in
-    let taken : GroupsMake g.row.WAYS c.args.at (packet_events p.plan words) before new =
-    subst (λ rs. GroupsMake g.row.WAYS c.args.at (λ n. event_of (taken_at (wiring_at p.plan n) rs)) before new) registers
-    c.packet_groups.ensures.makes in
-    let made = ran_whole (GroupsMake g.row.WAYS c.args.at (packet_events p.plan words)) p.groups.items before new p.groups.len
-    c.deref_mut-2.ensures.value (c.packet_groups.auto.groups ∙ c.deref_mut-2.ensures.len) taken in (
-      made_network g.row.WAYS c.args.at (packet_events p.plan words) view _ made c.self.invariant.0,
+    let rooms = c.self.invariant.1 in (
+      made_network g.row.WAYS c.args.at (packet_events p.plan c.args.packet.now.words) (view_of p) _
+          (made g (goal.at.invariant_of-self g c).After-packet_groups) c.self.invariant.0,
       record {
-        for_row = ap length (whole_written filled (drop (length filled) p.registers.items) p.registers.len
-            (c.row.auto.registers ∙ c.deref_mut.ensures.len))
-            ∙ (c.row.auto.registers ∙ (ap length c.deref_mut.ensures.value ∙ c.self.invariant.1.for_row));
-        for_key = ap length (whole_written key (drop (length key) p.key.items) p.key.len
-            (c.packet_groups.auto.key ∙ c.deref_mut-3.ensures.len))
-            ∙ (c.packet_groups.auto.key ∙ (ap length c.deref_mut-3.ensures.value ∙ c.self.invariant.1.for_key));
-        for_args = ap length (whole_written args (drop (length args) p.args.items) p.args.len
-            (c.packet_groups.auto.args ∙ c.deref_mut-4.ensures.len))
-            ∙ (c.packet_groups.auto.args ∙ (ap length c.deref_mut-4.ensures.value ∙ c.self.invariant.1.for_args));
+        for_row = as_long c.row.new.registers p.registers.items _ p.registers.len c.row.auto.registers c.deref_mut.ensures.len
+            c.deref_mut.ensures.value ∙ rooms.for_row;
+        for_key = as_long c.packet_groups.new.key p.key.items _ p.key.len c.packet_groups.auto.key c.deref_mut-3.ensures.len
+            c.deref_mut-3.ensures.value ∙ rooms.for_key;
+        for_args = as_long c.packet_groups.new.args p.args.items _ p.args.len c.packet_groups.auto.args c.deref_mut-4.ensures.len
+            c.deref_mut-4.ensures.value ∙ rooms.for_args;
       },
     )
 
 pub returns-clause-makes : goal.returns-clause-makes
 returns-clause-makes g c =
     let p = c.self.inside in
-    let view : NetworkView = record {
-      plan = p.plan;
-      buckets = p.buckets;
-      pipe_records = p.pipe_records;
-      switches = p.switches;
-      groups =
-          p.groups.items;
-    } in
-    let words = c.args.packet.now.words in
-    let before = c.deref_mut-2.result.now in
     let new = c.packet_groups.new.groups in
-    let filled = c.row.new.registers in
-    let registers : c.deref.result.now ≡ packet_registers p.plan words =
-    c.deref.ensures.value ∙ (whole_written filled (drop (length filled) p.registers.items) p.registers.len
-    (c.row.auto.registers ∙ c.deref_mut.ensures.len) ∙ c.row.ensures.row) in
-    let taken : GroupsMake g.row.WAYS c.args.at (packet_events p.plan words) before new =
-    subst (λ rs. GroupsMake g.row.WAYS c.args.at (λ n. event_of (taken_at (wiring_at p.plan n) rs)) before new) registers
-    c.packet_groups.ensures.makes in
-    let made = ran_whole (GroupsMake g.row.WAYS c.args.at (packet_events p.plan words)) p.groups.items before new p.groups.len
-    c.deref_mut-2.ensures.value (c.packet_groups.auto.groups ∙ c.deref_mut-2.ensures.len) taken in
-    let after = with_groups view (take p.groups.len (new ++ drop (length new) p.groups.items)) in
-    subst (λ v. NetworkMakes g.row.WAYS (Takes c.args.at words) v after) c.self.view_is
-    (record { groups = made; switches = refl; keeps = record { plan = refl; buckets = refl; pipe_records = refl } })
+    subst (λ v. NetworkMakes g.row.WAYS (Takes c.args.at c.args.packet.now.words) v
+    (with_groups (view_of p) (take p.groups.len (new ++ drop (length new) p.groups.items)))) c.self.view_is
+    (record {
+      groups = made g (goal.at.returns-clause-makes g c).After-packet_groups;
+      switches = refl;
+      keeps = record { plan = refl; buckets = refl; pipe_records = refl };
+    })
 
 pub returns-clause-others : goal.returns-clause-others
 returns-clause-others g c =
@@ -92,7 +85,7 @@ returns-clause-stores g c =
     let new = c.packet_groups.new.groups in
     subst (λ (v : NetworkView). StoresStay v.groups (take p.groups.len (new ++ drop (length new) p.groups.items))) c.self.view_is
     (ran_whole StoresStay p.groups.items c.deref_mut-2.result.now new p.groups.len
-    c.deref_mut-2.ensures.value (c.packet_groups.auto.groups ∙ c.deref_mut-2.ensures.len) c.packet_groups.ensures.stores)
+    c.deref_mut-2.ensures.value (groups_back g (goal.at.returns-clause-stores g c).After-packet_groups) c.packet_groups.ensures.stores)
 
 after_row : (start row end registers groups : ℕ) → row ≡ start + registers → end ≤ row + groups → end ≤ start + (registers + groups)
 after_row start row end registers groups r e = omega arith

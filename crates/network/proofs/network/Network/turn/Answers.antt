@@ -1,4 +1,4 @@
-use Rattle.std.proofs.Common.{◌≡◌, ℕ, ◌+◌, ◌*◌, ◌≤◌, ◌<◌, Bool, true, false, List, [], ◌∷◌, ◌++◌, length, refl, sym, ap, ◌∙◌, subst}
+use Rattle.std.proofs.Common.{◌≡◌, ℕ, ◌+◌, ◌*◌, ◌≤◌, ◌<◌, Bool, true, false, List, [], ◌∷◌, ◌++◌, length, sym, ap, ◌∙◌, subst}
 use Rattle.std.proofs.Common.{arith, append_assoc, lit<}
 use Rattle.std.specs.Prelude.{if◌then◌else◌}
 use Rattle.std.specs.List.{list_all}
@@ -14,6 +14,7 @@ use Rattle.network.proofs.MakeSteps.{if_err}
 use Rattle.network.proofs.Runs.{kept_long, merges_cost_kept, packet_cost_kept, run_breaks_in, run_breaks_on, runs_is, runs_kept, runs_on}
 use Rattle.network.proofs.Runs.{runs_one}
 use Rattle.network.proofs.network.Network.turn.Goals as goal
+use Rattle.network.proofs.network.Network.turn.Goals.{After-packet}
 
 pub packet-requires : goal.packet-requires
 packet-requires g c =
@@ -64,41 +65,42 @@ turn_is at words over old merges e same =
     ∙ (ap (λ es. upkeep_calls at due.Room old ++ Takes at words ∷ es) same
     ∙ ap (λ b. upkeep_calls at due.Room old ++ Takes at words ∷ (if b then upkeep_calls at due.Lag old else [])) (sym e))
 
+-- the events of a turn before the merges of the lag, and those merges
+first : (g : _) (c : After-packet g) → NetworkRuns g.row.WAYS (upkeep_calls c.args.at due.Room c.args.self.now ++ Takes c.args.at
+    c.args.packet.now.words ∷ []) c.args.self.now c.packet.new.self
+first g c = before_lag g.row.WAYS c.args.at c.args.packet.now.words c.args.self.now c.keep_up.new.self c.packet.new.self
+    c.in_ok-keep_up.ensures.runs c.packet.ensures.makes
+
+whole_turn : (g : _) (c : After-packet g) → c.args.lag_over ≡ true → (upkeep_calls c.args.at due.Room c.args.self.now ++ Takes c.args.at
+    c.args.packet.now.words ∷ []) ++ upkeep_calls c.args.at due.Lag c.packet.new.self
+    ≡ turn_events c.args.at c.args.packet.now.words c.args.lag_over c.args.self.now
+whole_turn g c over = turn_is c.args.at c.args.packet.now.words c.args.lag_over c.args.self.now
+    (upkeep_calls c.args.at due.Lag c.packet.new.self) over
+    (lag_same c.args.at c.args.self.now c.packet.new.self (runs_kept g.row.WAYS _ c.args.self.now c.packet.new.self (first g c)))
+
 pub returns-clause-runs : goal.returns-clause-runs
 returns-clause-runs g c =
-    let ways = g.row.WAYS in
-    let at = c.args.at in
-    let words = c.args.packet.now.words in
+    let x = (goal.at.returns-clause-runs g c).After-packet in
     let old = c.args.self.now in
     let after = c.packet.new.self in
     let new = c.keep_up-2.new.self in
-    let first = before_lag ways at words old c.keep_up.new.self after c.in_ok-keep_up.ensures.runs c.packet.ensures.makes in
-    let before = upkeep_calls at due.Room old ++ Takes at words ∷ [] in
-    let same = lag_same at old after (runs_kept ways before old after first) in
-    let over : c.args.lag_over ≡ true = c.if-not-lag_over.false in
-    let merges = upkeep_calls at due.Lag after in
-    on_ok (NetworkRuns ways merges after new) (NetworkRuns ways (turn_events at words c.args.lag_over old) old new) c.keep_up-2.result
-    (λ ran. subst (λ es. NetworkRuns ways es old new) (turn_is at words c.args.lag_over old merges over same)
-    (runs_on ways before merges old after new first ran))
-    c.keep_up-2.ensures.runs
+    let merges = upkeep_calls c.args.at due.Lag after in
+    on_ok (NetworkRuns g.row.WAYS merges after new)
+    (NetworkRuns g.row.WAYS (turn_events c.args.at c.args.packet.now.words c.args.lag_over old) old new) c.keep_up-2.result
+    (λ ran. subst (λ es. NetworkRuns g.row.WAYS es old new) (whole_turn g x c.if-not-lag_over.false)
+    (runs_on g.row.WAYS _ merges old after new (first g x) ran)) c.keep_up-2.ensures.runs
 
 pub returns-clause-breaks_off : goal.returns-clause-breaks_off
 returns-clause-breaks_off g c =
-    let ways = g.row.WAYS in
-    let at = c.args.at in
-    let words = c.args.packet.now.words in
+    let x = (goal.at.returns-clause-breaks_off g c).After-packet in
     let old = c.args.self.now in
     let after = c.packet.new.self in
     let new = c.keep_up-2.new.self in
-    let first = before_lag ways at words old c.keep_up.new.self after c.in_ok-keep_up.ensures.runs c.packet.ensures.makes in
-    let before = upkeep_calls at due.Room old ++ Takes at words ∷ [] in
-    let same = lag_same at old after (runs_kept ways before old after first) in
-    let over : c.args.lag_over ≡ true = c.if-not-lag_over.false in
-    let merges = upkeep_calls at due.Lag after in
-    on_err (RunBreaksOff ways merges after new) (RunBreaksOff ways (turn_events at words c.args.lag_over old) old new) c.keep_up-2.result
-    (λ ran. subst (λ es. RunBreaksOff ways es old new) (turn_is at words c.args.lag_over old merges over same)
-    (run_breaks_on ways before merges old after new first ran))
-    c.keep_up-2.ensures.breaks_off
+    let merges = upkeep_calls c.args.at due.Lag after in
+    on_err (RunBreaksOff g.row.WAYS merges after new)
+    (RunBreaksOff g.row.WAYS (turn_events c.args.at c.args.packet.now.words c.args.lag_over old) old new) c.keep_up-2.result
+    (λ ran. subst (λ es. RunBreaksOff g.row.WAYS es old new) (whole_turn g x c.if-not-lag_over.false)
+    (run_breaks_on g.row.WAYS _ merges old after new (first g x) ran)) c.keep_up-2.ensures.breaks_off
 
 pub returns-in_err-keep_up-clause-breaks_off : goal.returns-in_err-keep_up-clause-breaks_off
 returns-in_err-keep_up-clause-breaks_off g c =
@@ -110,16 +112,15 @@ returns-in_err-keep_up-clause-breaks_off g c =
 
 pub returns-clause-merged : goal.returns-clause-merged
 returns-clause-merged g c =
+    let ran_first = first g (goal.at.returns-clause-merged g c).After-packet in
     let ways = g.row.WAYS in
     let at = c.args.at in
-    let words = c.args.packet.now.words in
     let old = c.args.self.now in
     let after = c.packet.new.self in
     let new = c.keep_up-2.new.self in
-    let first = before_lag ways at words old c.keep_up.new.self after c.in_ok-keep_up.ensures.runs c.packet.ensures.makes in
-    let before = upkeep_calls at due.Room old ++ Takes at words ∷ [] in
-    let kept = runs_kept ways before old after first in
-    let is = runs_is ways before old after first c.invariant.ensures in
+    let before = upkeep_calls at due.Room old ++ Takes at c.args.packet.now.words ∷ [] in
+    let kept = runs_kept ways before old after ran_first in
+    let is = runs_is ways before old after ran_first c.invariant.ensures in
     let merges = upkeep_calls at due.Lag after in
     on_both (NetworkRuns ways merges after new) ((n : ℕ) → n < length after.groups
     → IsLeft due.Lag (front_at after n at) (front_at new n at))

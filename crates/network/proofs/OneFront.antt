@@ -1,0 +1,50 @@
+-- A front of a groupby that is another one now, with the groupby's store, and the groupby with them.
+use Rattle.std.proofs.Common.{◌≡◌, ℕ, ◌<◌, true, Some, length, get_or, set, sym, ap, ◌∙◌, subst}
+use Rattle.std.specs.Prelude.{slice_get}
+use Rattle.epoch_entry.specs.declared.any.AnyEpochs.{AnyEpochs}
+use Rattle.epoch_entry.specs.contracts.any.AnyEpochsEpochKind.TheImpl.{ghosts}
+use Rattle.backing_store.specs.Store.{Store}
+use Rattle.switch_core.specs.FrontEvents.{with_store}
+use Rattle.switch_core.specs.FrontParts.{FrontOf}
+use Rattle.switch_core.proofs.LaneFacts.{got_set}
+use Rattle.switch_core.proofs.SideBySide.{got_below, same_some}
+use Rattle.network.specs.Shared.{MayShare}
+use Rattle.network.specs.Groups.{GroupShares, GroupView, folding_in}
+use Rattle.network.specs.Events.{is_ready_at, with_lane}
+use Rattle.network.specs.declared.group.Group.TheInside.{Inside}
+use Rattle.network.proofs.MakeSteps.{front_there, room_at, same_lane}
+
+-- a groupby by its parts
+abbrev pub group_of : {ways : ℕ} → Inside ways → GroupView
+group_of p = record { kind = p.kind; fronts = p.fronts.items; store = p.store }
+
+-- a groupby of these parts has this front
+pub record IsFront (view old : GroupView) (at : ℕ) (front : FrontOf AnyEpochs) : Type 0 where
+  pub same : view ≡ old
+  pub here : slice_get view.fronts at ≡ Some front
+
+pub front_found : {view old : GroupView} {at : ℕ} {front : FrontOf AnyEpochs} → view ≡ old → at < length old.fronts
+    → front ≡ get_or view.fronts at front → IsFront view old at front
+front_found {view} {old} {at} {front} same within value =
+    record { same = same; here = front_there view old at front same within value }
+
+module _ {view old : GroupView} {at : ℕ} {front : FrontOf AnyEpochs} (f : IsFront view old at front) where
+  pub front_shares : (args : ℕ) → GroupShares args old → MayShare ghosts.sizes ghosts.folding (folding_in view) args view.store front
+  front_shares args shares = (subst (GroupShares args) (sym f.same) shares) at front f.here
+
+  pub front_is : {x : FrontOf AnyEpochs} → slice_get old.fronts at ≡ Some x → front ≡ x
+  front_is {x} e = same_some front x (sym f.here ∙ (ap (λ (v : GroupView). slice_get v.fronts at) f.same ∙ e))
+
+  pub front_was : slice_get old.fronts at ≡ Some front
+  front_was = sym (ap (λ (v : GroupView). slice_get v.fronts at) f.same) ∙ f.here
+
+  pub front_room : is_ready_at at old ≡ true → length front.pipe.records < front.pipe.places
+  front_room ready = room_at at view front (ap (is_ready_at at) f.same ∙ ready) f.here
+
+  -- another one stands there
+  pub front_now : (new : FrontOf AnyEpochs) → slice_get (set view.fronts at new) at ≡ Some new
+  front_now new = got_set view.fronts at new (got_below view.fronts at front f.here)
+
+  pub front_kept : (new : FrontOf AnyEpochs) (store : Store) → (new ≡ front) × (store ≡ view.store)
+      → with_lane at (with_store new store) view ≡ old
+  front_kept new store same = same_lane at view front new store f.here same.0 same.1 ∙ f.same
