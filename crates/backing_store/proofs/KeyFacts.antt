@@ -5,7 +5,7 @@ use Rattle.std.proofs.lemmas.List.{drop-append-le, take-append-le, drop_at, take
 use Rattle.bucket_cache.specs.Slices.{rows_of}
 use Rattle.std.proofs.lemmas.Option.{slice_get-get_or, slice_get_within, same_Some}
 use Rattle.bucket_cache.proofs.FlatRows.{row_fits, get-rows_of, length-rows_of}
-use Rattle.backing_store.specs.Marks.{row_at}
+use Rattle.backing_store.specs.Prints.{row_at}
 
 -- a place at which a row is within the words
 pub row_within : (at count width : ℕ) (words : List ℕ) → at < count → length words ≡ count * width → at * width + width ≤ length words

@@ -1,4 +1,6 @@
-pub mod MarkFacts
+pub mod ChainFacts
+pub mod LinkFacts
+pub mod SearchFacts
 mod KeyFacts
 pub mod StateFacts
 pub mod StoreFacts

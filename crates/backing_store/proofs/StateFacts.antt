@@ -4,7 +4,7 @@ use Rattle.std.proofs.Common.{Some, refl, sym, ap, ap₂, ◌∙◌, arith, leng
 use Rattle.std.proofs.lemmas.List.{take_at, take_all, drop_all, take-take, drop-take}
 use Rattle.bucket_cache.specs.Slices.{rows_of}
 use Rattle.bucket_cache.proofs.FlatRows.{length-rows_of}
-use Rattle.backing_store.specs.Marks.{row_at}
+use Rattle.backing_store.specs.Prints.{row_at}
 use Rattle.backing_store.specs.States.{StateList, paired, states_in}
 use Rattle.backing_store.specs.Store.{StoredRow, row_keys}
 use Rattle.backing_store.specs.StoreLending.{with_words_at}

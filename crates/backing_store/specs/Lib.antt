@@ -1,5 +1,6 @@
 pub mod SipHash
-pub mod Marks
+pub mod Chains
+pub mod Prints
 pub mod KeyList
 pub mod Searches
 pub mod Store

@@ -1,17 +1,16 @@
 -- What a search for a key finds.
-use Rattle.std.specs.Prelude.{◌≡◌, ◌≢◌, ℕ, List, ◌<◌, length, slice_get, Some}
+use Rattle.std.specs.Prelude.{◌≡◌, ◌≢◌, ℕ, List, ◌<◌, slice_get, Some}
 use Rattle.epoch_model.specs.Keys.{Key}
-use Rattle.backing_store.specs.KeyList.{KeyList}
-use Rattle.backing_store.specs.Marks.{IsNextMarkOf, row_at}
-use Rattle.backing_store.specs.declared.marks.Search.{Search}
-use Rattle.backing_store.specs.declared.marks.Search.TheVariants.{Found, Free}
+use Rattle.backing_store.specs.Prints.{fingerprint, row_at}
+use Rattle.backing_store.specs.declared.chains.Search.{Search}
+use Rattle.backing_store.specs.declared.chains.Search.TheVariants.{Found, Free}
 
--- among the words of keys: the place of the key, or that it is at no place, and its next mark
-abbrev pub Finds : ℕ → List ℕ → List ℕ → Key → Search → Type 0
-Finds width words marks key (Found at) = (at < length marks) × (row_at width words at ≡ key)
-Finds width words marks key (Free mark) = ((at : ℕ) → at < length marks → row_at width words at ≢ key) × IsNextMarkOf marks key mark
+-- among the words of so many keys: the place of the key, or that it is at no place, and its fingerprint
+abbrev pub Finds : ℕ → List ℕ → ℕ → Key → Search → Type 0
+Finds width words count key (Found at) = (at < count) × (row_at width words at ≡ key)
+Finds width words count key (Free print) = ((at : ℕ) → at < count → row_at width words at ≢ key) × (print ≡ fingerprint key)
 
 -- the same among keys
-abbrev pub FindsKey : KeyList → Key → Search → Type 0
-FindsKey list key (Found at) = slice_get list.keys at ≡ Some key
-FindsKey list key (Free mark) = ((at : ℕ) → slice_get list.keys at ≢ Some key) × IsNextMarkOf list.marks key mark
+abbrev pub FindsKey : List Key → Key → Search → Type 0
+FindsKey keys key (Found at) = slice_get keys at ≡ Some key
+FindsKey keys key (Free print) = ((at : ℕ) → slice_get keys at ≢ Some key) × (print ≡ fingerprint key)

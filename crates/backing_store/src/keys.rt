@@ -2,21 +2,21 @@
 
 ghost use Rattle.std.specs.Prelude.{◌≡◌, ◌<◌, ◌++◌, ◌∷◌, [], length, slice_get, Some};
 ghost use Rattle.std.specs.Prelude.{IfOk, OnOk, OnErr};
-ghost use Rattle.backing_store.specs.Marks.{IsNextMarkOf};
+ghost use Rattle.backing_store.specs.Prints.{fingerprint};
 ghost use Rattle.backing_store.specs.Searches.{FindsKey};
 
-use crate::marks::{Search, add_key, find_key, first_found};
+use crate::chains::{Link, Search, add_key, find_key, first_found};
 use crate::slices::row;
-use indexmap::IndexSet;
 use std::alloc::{AllocError, Global};
 use std::marker::Model;
 
-/// Keys with their words in one array, and their marks in the same order.
+/// Keys with their words in one array, and their links in the same order. Each home has the end of its chain.
 pub struct Keys {
     alloc: Global,
     width: usize,
     words: Vec<u64>,
-    marks: IndexSet<u64>,
+    links: Vec<Link>,
+    ends: Vec<usize>,
 }
 
 // One step at each exit of an owner, where a derived drop would be one for each part.
@@ -26,7 +26,8 @@ impl Drop for Keys {
             alloc: _,
             width: _,
             words: _,
-            marks: _,
+            links: _,
+            ends: _,
         } = self;
     }
 }
@@ -35,25 +36,26 @@ impl Model for Keys {
     ghost use Rattle.std.specs.Prelude.{length};
     ghost use Rattle.bucket_cache.specs.Slices.{rows_of};
     ghost use Rattle.backing_store.specs.KeyList.{KeyList};
-    ghost use Rattle.backing_store.specs.Marks.{AreKeys};
+    ghost use Rattle.backing_store.specs.Prints.{AreKeys};
 
     ghost Value = { KeyList };
 
-    ghost view = { λ a. record { width = a.width; keys = rows_of a.width (length a.marks.keys) a.words.items; marks = a.marks.keys } };
+    ghost view = { λ a. record { width = a.width; keys = rows_of a.width (length a.links.items) a.words.items } };
 
-    ghost invariant = { λ a. AreKeys a.width a.words.items a.marks.keys };
+    ghost invariant = { λ a. AreKeys a.width a.words.items a.links.items a.ends.items };
 }
 
 impl Keys {
     /// No keys yet, of `width` words each.
     pub fn new(alloc: Global, width: usize) -> Keys
-        ensures { result ≡ record { width = width; keys = []; marks = [] } }
+        ensures { result ≡ record { width = width; keys = [] } }
     {
         Keys {
             alloc,
             width,
             words: Vec::new(alloc),
-            marks: IndexSet::new(alloc),
+            links: Vec::new(alloc),
+            ends: Vec::new(alloc),
         }
     }
 
@@ -68,7 +70,7 @@ impl Keys {
     pub fn len(&self) -> usize
         ensures { result ≡ length self.now.keys }
     {
-        self.marks.len()
+        self.links.len()
     }
 
     /// The key at a place.
@@ -79,30 +81,43 @@ impl Keys {
         row(self.words.as_slice(), self.width, at)
     }
 
-    /// The place of a key, or the mark that it would get.
+    /// The place of a key, or its fingerprint.
     pub fn find(&self, key: &[u64]) -> Search
-        ensures { FindsKey self.now key.now result }
+        ensures { FindsKey self.now.keys key.now result }
     {
-        find_key(self.width, self.words.as_slice(), &self.marks, key)
+        find_key(
+            self.width,
+            self.words.as_slice(),
+            self.links.as_slice(),
+            self.ends.as_slice(),
+            key,
+        )
     }
 
-    /// The place that a search for the key finds first, or the number of keys.
+    /// The place that a search for the key comes to first, or the number of keys.
     pub fn first_found(&self, key: &[u64]) -> usize {
-        first_found(&self.marks, key)
+        first_found(self.links.as_slice(), self.ends.as_slice(), key)
     }
 
-    /// Adds a key at the end, with the mark that a search gave for it. On an error the keys are unchanged.
-    pub fn add(&mut self, key: &[u64], mark: u64) -> Result<(), AllocError>
+    /// Adds a key at the end, with the fingerprint that a search gave for it. On an error the keys are unchanged.
+    pub fn add(&mut self, key: &[u64], print: u64) -> Result<(), AllocError>
         requires width { length key.now ≡ self.old.width }
-        requires mark { IsNextMarkOf self.old.marks key.now mark }
+        requires print { print ≡ fingerprint key.now }
         ensures ok { OnOk result (self.new ≡ record {
           width = self.old.width;
           keys = self.old.keys ++ key.now ∷ [];
-          marks = self.old.marks ++ mark ∷ [];
         }) }
         ensures err { OnErr result (self.new ≡ self.old) }
     {
-        add_key(self.width, &mut self.words, &mut self.marks, key, mark)
+        add_key(
+            self.alloc,
+            self.width,
+            &mut self.words,
+            &mut self.links,
+            &mut self.ends,
+            key,
+            print,
+        )
     }
 
     /// A copy of the keys, in separate memory.
@@ -113,7 +128,8 @@ impl Keys {
             alloc: self.alloc,
             width: self.width,
             words: Vec::from_slice(self.alloc, self.words.as_slice())?,
-            marks: self.marks.clone()?,
+            links: Vec::from_slice(self.alloc, self.links.as_slice())?,
+            ends: Vec::from_slice(self.alloc, self.ends.as_slice())?,
         })
     }
 }

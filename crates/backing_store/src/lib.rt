@@ -1,12 +1,12 @@
 //! The rows of each key, into which epochs are merged, and what they show: the rows of a table.
 #![tactic(auto)]
 
+mod chains;
 mod digits;
 mod fetching;
 mod held;
 mod keys;
 mod laws;
-mod marks;
 mod order;
 mod shown;
 mod sip;

@@ -2,7 +2,7 @@
 
 ghost use Rattle.std.specs.Prelude.{◌≡◌, ◌+◌, ◌*◌, ◌≤◌, length};
 ghost use Rattle.epoch_model.specs.Keys.{key_eq};
-ghost use Rattle.backing_store.specs.Marks.{row_at};
+ghost use Rattle.backing_store.specs.Prints.{row_at};
 
 /// The row at a place.
 pub fn row(words: &[u64], width: usize, at: usize) -> &[u64]

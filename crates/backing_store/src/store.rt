@@ -10,9 +10,9 @@ ghost use Rattle.backing_store.specs.Stored.{stored};
 ghost use Rattle.backing_store.specs.Places.{AreByKey};
 ghost use Rattle.backing_store.specs.RowOrder.{Ascends};
 
+use crate::chains::Search;
 use crate::fetching::fetch_next;
 use crate::keys::Keys;
-use crate::marks::Search;
 use crate::order::{Place, sorted_places};
 use crate::states::States;
 use epoch_model::Mark;
@@ -148,12 +148,12 @@ impl BackingStore {
                 self.merged[at] = Merged { epochs, ..merged };
                 Ok(merged.last)
             }
-            Search::Free(mark) => {
+            Search::Free(print) => {
                 let number = self.keys.len();
                 let last = self.states.len();
                 self.merged.reserve(1)?;
                 self.states.push(number, initial)?;
-                match self.keys.add(key, mark) {
+                match self.keys.add(key, print) {
                     Ok(()) => {
                         self.merged.push_reserved(Merged { epochs: 1, last });
                         Ok(last)

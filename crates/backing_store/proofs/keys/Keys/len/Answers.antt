@@ -5,4 +5,4 @@ use Rattle.backing_store.proofs.keys.Keys.len.Goals as goal
 pub returns : goal.returns
 returns c =
     let a = c.self.inside in
-    omega (arith, c.len.ensures.len, length-rows_of a.width (length a.marks.keys) a.words.items, ap (λ l. length l.keys) c.self.view_is)
+    omega (arith, c.len.ensures, length-rows_of a.width (length a.links.items) a.words.items, ap (λ l. length l.keys) c.self.view_is)
