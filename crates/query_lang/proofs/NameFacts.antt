@@ -1,40 +1,17 @@
--- Where a text is among names.
-use Rattle.std.proofs.Common.{◌≡◌, ℕ, zero, suc, ◌+◌, Bool, true, false, cond, not, ◌||◌, List, [], ◌∷◌, ◌++◌, length, map, slice_get, Some}
-use Rattle.std.proofs.Common.{None, refl, sym, ap, ◌∙◌, arith, add-one, add_comm, Vec, Global, position}
-use Rattle.std.specs.List.{list_any, position_or_len}
-use Rattle.std.specs.List.{IsDistinct, AllByRecursion}
-use Rattle.std.proofs.lemmas.Map.Keys.{IsDistinct-head, IsDistinct-tail}
+-- Where a text is among names, and one name more.
+use Rattle.std.proofs.Common.{◌≡◌, ℕ, suc, ◌+◌, ◌<◌, ◌≤◌, inl, inr, Bool, true, false, cond, not, ◌||◌, List, [], ◌∷◌, ◌++◌, length, map, get_or, take, ◌*◌, ◌%◌, ◌^◌}
+use Rattle.std.proofs.Common.{slice_get, Some, refl, sym, ap, ◌∙◌, arith, add-one, add_comm, Vec, Global, zero}
+use Rattle.std.specs.List.{list_any}
+use Rattle.std.specs.Int.RustNames.{bit_xor}
 use Rattle.std.specs.Str.{bytes_eq}
+use Rattle.std.proofs.lemmas.Bool.{cases_lt, true≢false}
+use Rattle.std.proofs.lemmas.List.{get_or-map, map-append}
+use Rattle.std.proofs.Math.Seq.{take-suc}
+use Rattle.std.proofs.lemmas.List.Sums.{fold-append, prefix_len-le-length}
+use Rattle.std.proofs.lemmas.Map.Keys.{any_passes_from_place}
+use Rattle.std.proofs.lemmas.Option.{same_Some, slice_get_within}
 use Rattle.std.proofs.lemmas.Slice.Eq.{bytes_eq-Decides}
-use Rattle.std.proofs.lemmas.Option.{same_Some}
-use Rattle.std.proofs.lemmas.List.{map-append}
-use Rattle.indexmap.specs.IndexSet.{insert_key}
-use Rattle.query_lang.specs.Names.{number_in, with_name}
-
-abbrev pub Key : Type 0
-Key = Vec ℕ Global
-
-abbrev pub is_key : List ℕ → Key → Bool
-is_key text key = bytes_eq text key.items
-
-abbrev pub texts_of : List Key → List (List ℕ)
-texts_of keys = map (λ (k : Key). k.items) keys
-
-pub any_of : (keys : List Key) (text : List ℕ) → list_any (bytes_eq text) (texts_of keys) ≡ list_any (is_key text) keys
-any_of [] text = refl
-any_of (k ∷ keys) text = rw (any_of keys text) refl
-
-pub number_of : (keys : List Key) (text : List ℕ) → number_in (texts_of keys) text ≡ position_or_len (is_key text) keys
-number_of [] text = refl
-number_of (k ∷ keys) text = rw (number_of keys text) refl
-
-pub position_is : (keys : List Key) (text : List ℕ) (i : ℕ) → position (is_key text) keys ≡ Some i → i ≡ position_or_len (is_key text) keys
-position_is keys text i h = go _ refl h
-  where
-    go : (b : Bool) → cond b (Some (position_or_len (is_key text) keys)) None ≡ cond b (Some (position_or_len (is_key text) keys)) None
-        → cond b (Some (position_or_len (is_key text) keys)) None ≡ Some i → i ≡ position_or_len (is_key text) keys
-    go true e h = sym (same_Some _ _ h)
-    go false e h = cc h
+use Rattle.query_lang.specs.Names.{AreNumbered, AreOnce, number_in, print_of, texts_of, with_name}
 
 -- a new name has the next number
 pub new_number : (names : List (List ℕ)) (text : List ℕ) → list_any (bytes_eq text) names ≡ false → number_in names text ≡ length names
@@ -70,39 +47,88 @@ has_number names text = go (list_any (bytes_eq text) names) refl
     go true e = found_number names text e
     go false e = ap (slice_get (names ++ text ∷ [])) (new_number names text e) ∙ last_of names text
 
-pub with_new : (keys : List Key) (text : List ℕ) → list_any (is_key text) keys ≡ false → with_name (texts_of keys) text ≡ texts_of keys
-    ++ text ∷ []
-with_new keys text h = rw (any_of keys text ∙ h) refl
+-- whether a text is among the names, by its number
+pub is_there : (names : List (List ℕ)) (text : List ℕ) → number_in names text < length names → list_any (bytes_eq text) names ≡ true
+is_there names text low = go (list_any (bytes_eq text) names) refl
+  where
+    go : (b : Bool) → list_any (bytes_eq text) names ≡ b → b ≡ true
+    go true e = refl
+    go false e = absurd (omega (arith, low, new_number names text e))
 
-pub with_known : (keys : List Key) (text : List ℕ) → list_any (is_key text) keys ≡ true → with_name (texts_of keys) text ≡ texts_of keys
-with_known keys text h = rw (any_of keys text ∙ h) refl
+pub is_new : (names : List (List ℕ)) (text : List ℕ) → length names ≤ number_in names text → list_any (bytes_eq text) names ≡ false
+is_new names text high = go (list_any (bytes_eq text) names) refl
+  where
+    go : (b : Bool) → list_any (bytes_eq text) names ≡ b → b ≡ false
+    go true e = absurd (omega (arith, high, slice_get_within names (number_in names text) text (found_number names text e)))
+    go false e = refl
 
--- the keys with a new one
-pub with_inserted : (keys after : List Key) (v : Key) (text : List ℕ) → v.items ≡ text → list_any (is_key text) keys ≡ false
-    → after ≡ insert_key (λ (a b : Key). bytes_eq a.items b.items) keys v
-    → texts_of after ≡ with_name (texts_of keys) text
-with_inserted keys after v text e h k =
-    let absent : list_any (is_key v.items) keys ≡ false = rw e h in
-    let last : after ≡ keys ++ v ∷ [] = k ∙ ap (λ (b : Bool). cond b keys (keys ++ v ∷ [])) absent in
-    ap texts_of last ∙ map-append (λ (x : Key). x.items) keys (v ∷ []) ∙ ap (λ (x : List ℕ). texts_of keys ++ x ∷ []) e
-    ∙ sym (with_new keys text h)
+-- what is at a number when there is one name more
+get_more : (names : List (List ℕ)) (new : List ℕ) (at : ℕ) (text : List ℕ) → slice_get (names ++ new ∷ []) at ≡ Some text
+    → at < length names → slice_get names at ≡ Some text
+get_more [] new at text is low = absurd (omega (arith, low))
+get_more (name ∷ names) new zero text is low = is
+get_more (name ∷ names) new (suc at) text is low = get_more names new at text is (omega (arith, low))
 
-abbrev same_key : Key → Key → Bool
-same_key a b = bytes_eq a.items b.items
+get_last : (names : List (List ℕ)) (new : List ℕ) (at : ℕ) (text : List ℕ) → slice_get (names ++ new ∷ []) at ≡ Some text
+    → length names ≤ at → (at ≡ length names) × (new ≡ text)
+get_last [] new zero text is high = (refl, same_Some _ _ is)
+get_last [] new (suc at) text is high = cc is
+get_last (name ∷ names) new zero text is high = absurd (omega (arith, high))
+get_last (name ∷ names) new (suc at) text is high =
+    let rest = get_last names new at text is (omega (arith, high)) in (ap suc rest.0, rest.1)
 
--- a text that no key has is at no number
-elsewhere : (k : Key) (keys : List Key) → AllByRecursion (λ (y : Key). same_key k y ≡ false) keys → (j : ℕ)
-    → slice_get (texts_of keys) j ≡ Some k.items → ⊥
-elsewhere k [] all j h = cc h
-elsewhere k (y ∷ keys) all zero h =
-    let e : bytes_eq k.items y.items ≡ true = (bytes_eq-Decides k.items y.items).1 (sym (same_Some _ _ h)) in cc (e, all.0)
-elsewhere k (y ∷ keys) all (suc j) h = elsewhere k keys all.1 j h
+-- a new name can't be among the others
+apart : (names : List (List ℕ)) (new : List ℕ) (at : ℕ) → list_any (bytes_eq new) names ≡ false → slice_get names at ≡ Some new → ⊥
+apart names new at none here =
+    true≢false (sym (any_passes_from_place (bytes_eq new) names at new here ((bytes_eq-Decides new new).1 refl)) ∙ none)
 
--- distinct keys have distinct texts
-pub once : (keys : List Key) → IsDistinct same_key keys → (i j : ℕ) (text : List ℕ) → slice_get (texts_of keys) i ≡ Some text
-    → slice_get (texts_of keys) j ≡ Some text → i ≡ j
-once [] d i j text h g = cc h
-once (k ∷ keys) d zero zero text h g = refl
-once (k ∷ keys) d (suc i) (suc j) text h g = ap suc (once keys (IsDistinct-tail same_key k keys d) i j text h g)
-once (k ∷ keys) d zero (suc j) text h g = absurd (elsewhere k keys (IsDistinct-head same_key k keys d) j (g ∙ sym h))
-once (k ∷ keys) d (suc i) zero text h g = absurd (elsewhere k keys (IsDistinct-head same_key k keys d) i (h ∙ sym g))
+once_more : (names : List (List ℕ)) (new : List ℕ) → AreOnce names → list_any (bytes_eq new) names ≡ false → AreOnce (names ++ new ∷ [])
+once_more names new once none i j text at_i at_j = elim (cases_lt i (length names)) [
+  | inl low_i ↦ elim (cases_lt j (length names)) [
+    | inl low_j ↦ once i j text (get_more names new i text at_i low_i) (get_more names new j text at_j low_j)
+    | inr high_j ↦
+        let last = get_last names new j text at_j high_j in
+        absurd (apart names new i none (get_more names new i text at_i low_i ∙ ap (λ (x : List ℕ). Some x) (sym last.1)))
+  ]
+  | inr high_i ↦
+      let last = get_last names new i text at_i high_i in
+      elim (cases_lt j (length names)) [
+        | inl low_j ↦ absurd (apart names new j none (get_more names new j text at_j low_j ∙ ap (λ (x : List ℕ). Some x) (sym last.1)))
+        | inr high_j ↦ last.0 ∙ sym (get_last names new j text at_j high_j).0
+      ]
+]
+
+-- the names with a new one
+pub with_new : (names : List (List ℕ)) (text : List ℕ) → length names ≤ number_in names text → with_name names text ≡ names ++ text ∷ []
+with_new names text high = rw (is_new names text high) refl
+
+pub with_known : (names : List (List ℕ)) (text : List ℕ) → number_in names text < length names → with_name names text ≡ names
+with_known names text low = rw (is_there names text low) refl
+
+pub numbered_more : (names : List (List ℕ)) (prints : List ℕ) (text : List ℕ) → AreNumbered names prints
+    → length names ≤ number_in names text → AreNumbered (names ++ text ∷ []) (prints ++ print_of text ∷ [])
+numbered_more names prints text numbered high = record {
+  once = once_more names text numbered.once (is_new names text high);
+  printed = ap (λ known. known ++ print_of text ∷ []) numbered.printed ∙ sym (map-append print_of names (text ∷ []));
+}
+
+-- the word of a name
+pub printed_at : (names : List (List ℕ)) (prints : List ℕ) (at : ℕ) → prints ≡ map print_of names → at < length names
+    → get_or prints at 0 ≡ print_of (get_or names at [])
+printed_at names prints at is low = rw is (get_or-map print_of names at [] 0 low)
+
+-- the text of the vector at a place
+pub text_at : (vectors : List (Vec ℕ Global)) (at : ℕ) (vector : Vec ℕ Global) → vector ≡ get_or vectors at vector → at < length vectors
+    → get_or (texts_of vectors) at [] ≡ vector.items
+text_at vectors at vector is low =
+    get_or-map (λ (text : Vec ℕ Global). text.items) vectors at vector [] low ∙ ap (λ (text : Vec ℕ Global). text.items) (sym is)
+
+-- the word of a byte more
+pub print_more : (text : List ℕ) (at : ℕ) → at < length text
+    → print_of (take (at + 1) text) ≡ (bit_xor (print_of (take at text)) (get_or text at 0) * 0x100_0000_01b3) % 2 ^ 64
+unfolding print_of
+print_more text at low = rw (add-one, take-suc text at 0 low, fold-append) refl
+
+-- a number is at most how many names there are
+pub number_most : (names : List (List ℕ)) (text : List ℕ) → number_in names text ≤ length names
+number_most names text = prefix_len-le-length (λ name. not (bytes_eq text name)) names

@@ -1,31 +1,74 @@
 //! The names of a query, by number.
 
-ghost use Rattle.std.specs.Prelude.{◌≡◌, ℕ, ◌-◌, ◌^◌, ◌<◌, Some, [], length, slice_get, IfOk, OnOk, OnErr};
-ghost use Rattle.query_lang.specs.Names.{AreOnce, number_in, with_name};
+ghost use Rattle.std.specs.Prelude.{◌≡◌, ℕ, ◌-◌, ◌^◌, ◌<◌, Some, [], length, map, slice_get, IfOk, OnOk, OnErr};
+ghost use Rattle.std.specs.Str.{bytes_eq};
+ghost use Rattle.query_lang.specs.Names.{AreOnce, number_in, print_of, texts_of, with_name};
 
-use indexmap::IndexSet;
 use std::alloc::{AllocError, Global};
 use std::marker::Model;
 
-/// Texts of names, which contracts see as a list. A name's number is its place, from 0, by first appearance.
+/// Texts of names, which contracts see as a list. A name's number is its place, from 0, by first appearance. Each text has
+/// a word, by which most others are passed over.
 pub struct Names {
     alloc: Global,
-    texts: IndexSet<Vec<u8>>,
+    texts: Vec<Vec<u8>>,
+    prints: Vec<u64>,
+}
+
+// A word by which most texts differ.
+fn print_of(text: &[u8]) -> u64
+    ensures { result ≡ print_of text.now }
+{
+    let mut print = 0u64;
+    for byte in text {
+        print = (print ^ *byte as u64).wrapping_mul(0x100_0000_01b3);
+    }
+    print
+}
+
+// Are these the same text? Each is given with its word.
+fn is_same(known: &[u8], known_print: u64, text: &[u8], print: u64) -> bool
+    requires known { known_print ≡ print_of known.now }
+    requires text { print ≡ print_of text.now }
+    ensures { result ≡ bytes_eq text.now known.now }
+{
+    known_print == print && text == known
+}
+
+// The place of a text, or how many texts there are.
+fn place_of(texts: &[Vec<u8>], prints: &[u64], text: &[u8], print: u64) -> usize
+    requires prints { prints.now ≡ map print_of (texts_of texts.now) }
+    requires print { print ≡ print_of text.now }
+    ensures { result ≡ number_in (texts_of texts.now) text.now }
+{
+    for at in 0..texts.len() {
+        if is_same(texts[at].as_slice(), prints[at], text, print) {
+            return at;
+        }
+    }
+    texts.len()
 }
 
 // One step at each exit of an owner, where a derived drop would be one for each part.
 impl Drop for Names {
     fn drop(self) {
-        let Names { alloc: _, texts: _ } = self;
+        let Names {
+            alloc: _,
+            texts: _,
+            prints: _,
+        } = self;
     }
 }
 
 impl Model for Names {
-    ghost use Rattle.std.specs.Prelude.{List, ℕ, map};
+    ghost use Rattle.std.specs.Prelude.{List, ℕ};
+    ghost use Rattle.query_lang.specs.Names.{AreNumbered, texts_of};
 
     ghost Value = { List (List ℕ) };
 
-    ghost view = { λ n. map (λ text. text.items) n.texts.keys };
+    ghost view = { λ n. texts_of n.texts.items };
+
+    ghost invariant = { λ n. AreNumbered (texts_of n.texts.items) n.prints.items };
 }
 
 impl Names {
@@ -35,7 +78,8 @@ impl Names {
     {
         Names {
             alloc,
-            texts: IndexSet::new(alloc),
+            texts: Vec::new(alloc),
+            prints: Vec::new(alloc),
         }
     }
 
@@ -61,12 +105,15 @@ impl Names {
         ensures text { IfOk result (λ id. slice_get self.new id ≡ Some text.now) }
         ensures err { OnErr result (self.new ≡ self.old) }
     {
-        if let Some(at) = self.texts.get_index_of(text) {
+        let print = print_of(text);
+        let at = place_of(self.texts.as_slice(), self.prints.as_slice(), text, print);
+        if at < self.texts.len() {
             return Ok(at as u32);
         }
-        let at = self.texts.len();
         let owned = Vec::from_slice(self.alloc, text)?;
-        self.texts.insert(owned)?;
+        self.prints.reserve(1)?;
+        self.texts.push(owned)?;
+        self.prints.push_reserved(print);
         Ok(at as u32)
     }
 
@@ -75,10 +122,12 @@ impl Names {
         requires { length self.now < 2 ^ 32 }
         ensures { result ≡ number_in self.now text.now }
     {
-        match self.texts.get_index_of(text) {
-            Some(at) => at as u32,
-            None => self.texts.len() as u32,
-        }
+        place_of(
+            self.texts.as_slice(),
+            self.prints.as_slice(),
+            text,
+            print_of(text),
+        ) as u32
     }
 
     /// The text of the name with this number.

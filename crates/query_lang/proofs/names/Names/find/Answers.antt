@@ -1,13 +1,14 @@
-use Rattle.std.proofs.Common.{sym, ◌∙◌}
-use Rattle.std.proofs.lemmas.List.{length-map}
-use Rattle.query_lang.proofs.NameFacts.{Key, texts_of, any_of, number_of, position_is, new_number}
+-- A number is at most how many names there are.
+use Rattle.std.proofs.Common.{length, ap, ◌∙◌, arith}
+use Rattle.query_lang.specs.Names.{number_in, texts_of}
+use Rattle.query_lang.proofs.NameFacts.{number_most}
 use Rattle.query_lang.proofs.names.Names.find.Goals as goal
 
-pub returns-in-Some : goal.returns-in-Some
-returns-in-Some c = rw (← c.self.view_is) (position_is c.self.inside.texts.keys c.args.text.now c.in-Some.at (sym c.in-Some.ensures.index)
-    ∙ sym (number_of c.self.inside.texts.keys c.args.text.now))
-
-pub returns-in-None : goal.returns-in-None
-returns-in-None c = rw (← c.self.view_is) (c.len.ensures.len ∙ sym (new_number (texts_of c.self.inside.texts.keys) c.args.text.now
-    (any_of c.self.inside.texts.keys c.args.text.now ∙ sym c.in-None.ensures.found)
-    ∙ length-map c.self.inside.texts.keys (λ (k : Key). k.items)))
+pub overflow_cast-result : goal.overflow_cast-result
+overflow_cast-result c = omega (
+  arith,
+  c.requires,
+  c.place_of.ensures ∙ ap (λ vectors. number_in (texts_of vectors) c.args.text.now) c.as_slice.ensures.value,
+  number_most (texts_of c.self.inside.texts.items) c.args.text.now,
+  ap length c.self.view_is,
+)
