@@ -2,8 +2,8 @@
 
 In the folder `room`: `log` has a line where a proof begins and one where it ends, `words` the words of each call. Proofs stand
 still while there is a file `holds`; the crate that the file `refused` names is refused; where there is `short-of-memory` the next
-proof is killed, and where there is `edits` each proof changes a source. A check says what the file `says` has, if there is one,
-and then refuses the crate. The crates are in the folder `tree`.
+proof is killed, and where there is `edits` each proof changes a source. A check of a copy says what the file `says` has, if there is
+one, and then refuses the crate. The crates are in the folder `tree`.
 """
 
 from __future__ import annotations
@@ -22,7 +22,7 @@ doc) echo "$room/kit/START-HERE.md" ;;
 *) exit 2 ;;
 esac
 """
-FLAGS = "--crate-name --extern -L --antt-project --logic-built --incremental --links --jobs --toolchain --backend".split()
+FLAGS = "--crate-name --extern -L --antt-project --logic-built --incremental --statements --links --jobs --toolchain --backend".split()
 # `rattle build` fails where a library isn't there yet.
 RATTLE = r"""#!/bin/sh
 room=$(cd "$(dirname "$0")/../.." && pwd)
@@ -42,6 +42,9 @@ while [ "$#" -gt 0 ]; do
     shift
 done
 if [ "$command" = check ]; then
+    mkdir -p out/incremental
+    # what an edit is tried on is a copy of the crate
+    case $PWD in *marple-edit-*) ;; *) echo logic=proved; exit 0 ;; esac
     echo "check $name" >>"$room/log"
     while [ -e "$room/holds" ]; do sleep 0.1; done
     [ -e "$room/says" ] || { echo logic=proved; exit 0; }
@@ -63,7 +66,6 @@ case $made in
 *.rlib) mkdir -p "$made" && : >"$made/proved" ;;
 *) : >"$made" ;;
 esac
-mkdir -p out/incremental
 echo "end $name" >>"$room/log"
 echo logic=proved
 """

@@ -13,12 +13,8 @@ from building.crates import Crate
 SECONDS_FOR_A_CRATE = 15.0
 SECONDS_FOR_A_KILOBYTE = 1.2
 MEGABYTES = 2500
-# What of a proof its jobs don't share: reading the crate, and putting together what they proved.
+# What of a proof its jobs don't share: reading the crate and those below, and putting together what they proved.
 NOT_SHARED = 0.2
-# Each job of a proof reads all crates below by itself. So a proof that takes less than this has one job, and one that takes so much
-# memory, since it mostly reads.
-SECONDS_FOR_JOBS = 75.0
-MEGABYTES_OF_READING = 2500
 # The table counts as much as this many seconds that were measured on this machine.
 TRUST_IN_TABLE = 60.0
 
@@ -70,15 +66,13 @@ def still_to_go(whole: float, elapsed: float) -> float:
     return max(whole - elapsed, elapsed / 10)
 
 
-def jobs_of(cost: Cost, chain: float, work: float, places: int, ready: int, idle: int) -> int:
+def jobs_of(chain: float, work: float, places: int, ready: int, idle: int) -> int:
     """Returns the jobs for the crate that is begun next, the first of those that are ready, where this many places are idle.
 
-    A crate that takes long has its chain's part of all places, as long as the chain is compared with all work that isn't begun,
+    A crate has its chain's part of all places, as long as the chain is compared with all work that isn't begun,
     this crate's included: with one job a long chain would be at work alone in the end. And it has no fewer than its share of the
     places that nothing else can use now.
     """
-    if cost.seconds < SECONDS_FOR_JOBS or cost.megabytes > MEGABYTES_OF_READING:
-        return 1
     return max(min(round(places * chain / work), idle), idle // ready, 1)
 
 
@@ -102,7 +96,7 @@ def seconds_to_go(
         idle = places - sum(jobs for _, _, jobs in ends)
         while ready and idle > 0:
             first = ready[0]
-            jobs = jobs_of(costs[first], chain_of[first], sum(left[it] for it in waiting), places, len(ready), idle)
+            jobs = jobs_of(chain_of[first], sum(left[it] for it in waiting), places, len(ready), idle)
             heapq.heappush(ends, (now + clock_seconds(left[first], jobs), first, jobs))
             ready.remove(first)
             waiting.remove(first)

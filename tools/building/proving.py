@@ -16,7 +16,7 @@ from building.estimate import Cost, chains, clock_seconds, jobs_of, pace, second
 from building.machine import Machine
 from building.progress import Progress
 from building.proved import is_proved, write_record
-from building.toolchain import INCREMENTAL, KEPT, Toolchain, below
+from building.toolchain import KEPT, Toolchain, below
 
 LIBC = ctypes.CDLL(None)
 PARENT_DEATH_SIGNAL = 1
@@ -63,8 +63,7 @@ class Proving:
     def is_kept(self, crate: Crate) -> bool:
         """Is what an earlier call made of the crate there, from the sources of now?"""
         if crate.is_program:
-            order = with_those_below(crate.name, self.order)
-            return (crate.folder / INCREMENTAL).is_dir() and is_proved(order, self.toolchain.version)
+            return is_proved(with_those_below(crate.name, self.order), self.toolchain.version)
         kept = crate.folder / KEPT / "sources"
         made = crate.folder / KEPT / f"{crate.name}.rlib"
         return made.exists() and kept.is_file() and kept.read_text(encoding="utf-8") == self.sums[crate.name]
@@ -118,7 +117,7 @@ class Proving:
             return 1
         work = sum(self.costs[it.name].seconds for it in self.waiting())
         cost = self.costs[crate.name]
-        wanted = jobs_of(cost, self.chains[crate.name], work, self.machine.processors, ready, idle)
+        wanted = jobs_of(self.chains[crate.name], work, self.machine.processors, ready, idle)
         by_memory = 1 + max(room - cost.megabytes, 0) // MEGABYTES_FOR_A_JOB
         return min(wanted, by_memory)
 

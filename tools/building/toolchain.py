@@ -18,9 +18,10 @@ MISSING = (
     "in the folder bin of the toolchain"
 )
 # What the compiler is called with.
-FLAGS = "--crate-name --extern -L --antt-project --logic-built --incremental --links --jobs --toolchain --backend".split()
-# What a proved library leaves for the crates above it, below the crate's folder.
+FLAGS = "--crate-name --extern -L --antt-project --logic-built --incremental --statements --links --jobs --toolchain --backend".split()
+# What a proved library leaves for the crates above it, below the crate's folder: its statements, and not its proofs.
 KEPT = "out/rlib/build"
+# What a check keeps, below the folder in which it runs.
 INCREMENTAL = "out/incremental"
 TARGET = "x86_64-unknown-linux-gnu"
 
@@ -46,8 +47,8 @@ class Toolchain:
             raise Missing(MISSING)
         self.version = said_by("rt", "version").strip()
         self.folder = Path(said_by("rt", "doc").strip()).parent
-        known = said_by(f"{self.folder}/bin/rattle", "build", "--help")
-        lacking = [it for it in FLAGS if f"{it} " not in known]
+        known = said_by(f"{self.folder}/bin/rattle", "build", "--help").split()
+        lacking = [it for it in FLAGS if it not in known]
         if lacking:
             raise Missing(
                 f"the compiler of {self.version} has no {', '.join(lacking)}: "
@@ -66,14 +67,20 @@ class Toolchain:
         for it in below:
             words += ["-L", f"dependency={it.folder}/{KEPT}"]
         words += ["--antt-project", f"{self.folder}/rattle/logic/antt-project.json"]
-        words += ["--logic-built", f"{self.folder}/logic_built", "--incremental", INCREMENTAL]
         # with no label: the crate is refused if it calls C itself
-        words += ["--links", f"{crate.name}=", "--jobs", str(jobs)]
+        words += ["--logic-built", f"{self.folder}/logic_built", "--links", f"{crate.name}=", "--jobs", str(jobs)]
         if crate.is_program:
             words += ["--toolchain", f"{self.folder}/toolchain", "--backend", "llvm", "-o", f"out/{crate.name}.o"]
         else:
-            words += ["-o", f"{KEPT}/{crate.name}.rlib"]
+            words += ["--statements", "-o", f"{KEPT}/{crate.name}.rlib"]
         return words
+
+    def check(self, crate: Crate, below: List[Crate], jobs: int = 1) -> List[str]:
+        """Returns the command that checks the crate and writes no library. It keeps what it proved in the folder INCREMENTAL, and
+        takes from there what is still up to date."""
+        words = self.proof(crate, below, jobs)
+        end = words.index("--toolchain" if crate.is_program else "--statements")
+        return [words[0], "check", *words[2:end], "--incremental", INCREMENTAL]
 
     def link(self, crate: Crate) -> List[str]:
         """Returns the command that links the program's object file, to out/NAME.new."""
