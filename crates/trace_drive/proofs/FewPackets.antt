@@ -31,8 +31,7 @@ few_from layout n (fields ∷ rows) within = by_packet (packet_of layout n field
     by_packet (Err fault) none more = omega arith
     by_packet (Ok p) none more =
         by_test (nat_lt n (MAX_RECORDS + 1))
-        (λ below. let few = more (grind (arith, nat_tests)) in omega arith)
-        (λ beyond. absurd (none p refl (grind (arith, nat_tests))))
+        (λ below. let few = more (grind (arith, nat_tests)) in omega arith) (λ beyond. absurd (none p refl (grind (arith, nat_tests))))
 
 few_with : (found : Result Layout TraceFault) (left : List (List (List ℕ))) → length (contents_with found left).packets ≤ MAX_RECORDS
 few_with (Err fault) left = omega arith

@@ -65,8 +65,7 @@ quad_small (a ∷ b ∷ c ∷ d ∷ []) =
     (λ w hw. then_some (octet_word b) (λ x. option_and_then (λ y. option_map (λ z. ((w * 256 + x) * 256 + y) * 256 + z) (octet_word d))
     (octet_word c)) IsOctet IsWord (below_limit 3 256 b)
     (λ x hx. then_some (octet_word c) (λ y. option_map (λ z. ((w * 256 + x) * 256 + y) * 256 + z) (octet_word d)) IsOctet IsWord
-    (below_limit 3 256 c)
-    (λ y hy. map_some (octet_word d) (λ z. ((w * 256 + x) * 256 + y) * 256 + z) IsOctet IsWord (below_limit 3 256 d)
+    (below_limit 3 256 c) (λ y hy. map_some (octet_word d) (λ z. ((w * 256 + x) * 256 + y) * 256 + z) IsOctet IsWord (below_limit 3 256 d)
     (λ z hz. omega arith))))
 quad_small (a ∷ b ∷ c ∷ d ∷ e ∷ rest) = tt
 
