@@ -1,5 +1,5 @@
 -- What a command with a check of its own refuses.
-use Rattle.std.proofs.Common.{◌≡◌, ℕ, List, Option, None, Some, IfSome, Ok, Err, ap, ◌∙◌}
+use Rattle.std.proofs.Common.{◌≡◌, ℕ, List, Option, None, Some, IfSome, Ok, Err, ap, refl, ◌∙◌}
 use Rattle.marple_base.specs.Inputs.{Input}
 use Rattle.marple_base.specs.declared.inputs.Which.TheVariants.{Query, Trace}
 use Rattle.query_lang.specs.Checks.{Checked}
@@ -11,14 +11,12 @@ use Rattle.command_answers.specs.OwnChecks.{fault_after, fault_with}
 use Rattle.command_answers.specs.declared.status.Status.{Status}
 use Rattle.command_answers.specs.declared.status.Status.TheVariants as statuses
 use Rattle.command_answers.proofs.Limits.{IfSome-map}
+use Rattle.trace_drive.proofs.Breaking.{none_some}
 
 module _ (own : TypedQuery → Option QueryFault) where
   -- a fault of the text comes first
   text_first : (found : Checked TypedQuery) (fault : QueryFault) → fault_in found ≡ Some fault → fault_after own found ≡ Some fault
-  text_first (Ok q) fault is = absurd (clash is)
-    where
-      clash : {x : QueryFault} → None ≡ Some x → ⊥
-      clash e = cc
+  text_first (Ok q) fault is = absurd (none_some fault None refl is)
   text_first (Err found) fault is = is
 
   -- a phase that reads the query and refuses it for the text's faults ends as one that also has a check of its own
@@ -37,8 +35,7 @@ module _ (own : TypedQuery → Option QueryFault) where
 
   -- an accepted query is refused for the fault that the command finds in it
   pub own_refused : (left : Option (List ℕ)) (q : TypedQuery) (fault : QueryFault) → IfSome left (λ query. accepted query ≡ Ok q)
-      → own q ≡ Some fault
-      → IfSome left (λ query. fault_with own query ≡ Some fault)
+      → own q ≡ Some fault → IfSome left (λ query. fault_with own query ≡ Some fault)
   own_refused left q fault known is =
       IfSome-map (λ query. accepted query ≡ Ok q) (λ query. fault_with own query ≡ Some fault) left
       (λ query read. ap (fault_after own) read ∙ is) known

@@ -1,7 +1,6 @@
 -- What is read to one byte more than a limit says the same as all the bytes, where all longer texts are alike.
 use Rattle.std.proofs.Common.{inl, inr, ◌≡◌, ℕ, ◌+◌, ◌<◌, ◌≤◌, true, nat_lt, List, length, take, Option, None, Some, IfSome, ap, sym, ◌∙◌}
-use Rattle.std.proofs.Common.{arith, Result, Ok, Err, refl, [], IfErr, subst}
-use Rattle.std.specs.Result.{IsErrAnd}
+use Rattle.std.proofs.Common.{arith, Ok, Err, refl, [], subst}
 use Rattle.std.proofs.lemmas.Bool.Decides.{leb_tells, nat_tests}
 use Rattle.std.proofs.lemmas.Grind.{common_steps}
 use Rattle.marple_base.specs.Inputs.{Input}
@@ -27,7 +26,7 @@ use Rattle.trace_drive.specs.declared.answer.RunError.TheVariants as breaks
 use Rattle.command_answers.specs.Phases.{QueryEnds, ReadEnds, TraceEnds, WriteEnds, refusal_status, status_for}
 use Rattle.command_answers.specs.declared.status.Status.{Status}
 use Rattle.command_answers.specs.declared.status.Status.TheVariants as statuses
-use Rattle.trace_drive.proofs.Breaking.{nothing_taken}
+use Rattle.trace_drive.proofs.Breaking.{none_some, nothing_taken}
 
 pub take_whole : (limit : ℕ) (bytes : List ℕ) → length bytes ≤ limit → take (limit + 1) bytes ≡ bytes
 take_whole limit bytes short = grind (arith, common_steps)
@@ -106,8 +105,7 @@ told_contents P reads left text slice read same known =
 
 -- how the phase of the trace ends, where the run over its packets broke off with this answer
 pub trace_ends : {O : Type 0} (taken : O → Option (List ℕ)) (faults : O → ℕ) (reads : FieldSet) (fault : Contents → Option TraceFault)
-    (shown : Contents → List ℕ)
-    (before after : Input) (old new : O) (text slice : List ℕ) (answer : RunError)
+    (shown : Contents → List ℕ) (before after : Input) (old new : O) (text slice : List ℕ) (answer : RunError)
     → IfSome before.left (λ bytes. text ≡ take (MAX_TRACE + 1) bytes) → slice ≡ text
     → BreaksOff taken faults (shown (contents slice reads)) (fault (contents slice reads)) old new answer
     → TraceEnds taken faults (λ bytes. fault (contents bytes reads)) (λ bytes. shown (contents bytes reads)) before after old new
@@ -142,17 +140,7 @@ read_ends taken faults fault shown before after out statuses.OutputFault ended =
 
 -- how a phase that writes ends, where a run over generated packets broke off with this answer
 pub made_ends : {O : Type 0} (taken : O → Option (List ℕ)) (faults : O → ℕ) (text : List ℕ) (old new : O) (answer : RunError)
-    → BreaksOff taken faults text None old new answer
-    → WriteEnds taken faults text old new (status_for answer)
+    → BreaksOff taken faults text None old new answer → WriteEnds taken faults text old new (status_for answer)
 made_ends taken faults text old new breaks.Memory ended = ended
-made_ends taken faults text old new (breaks.Refused found) ended = absurd (no_fault ended.0)
-  where
-    no_fault : {x : TraceFault} → None ≡ Some x → ⊥
-    no_fault e = cc
+made_ends taken faults text old new (breaks.Refused found) ended = absurd (none_some found None refl ended.0)
 made_ends taken faults text old new breaks.Failed ended = (ended.1, ended.2)
-
--- a fact about the status in a result
-pub err_told : {A : Type 0} (P : Status → Type 0) (result : Result A Status) (status : Status) → IsErrAnd result (λ found. found ≡ status)
-    → P status → IfErr result P
-err_told P (Ok done) status is known = tt
-err_told P (Err found) status is known = subst P (sym is) known

@@ -48,8 +48,7 @@ told_refusal (Some bytes) text slice fault read same known =
         known.0,
         inl (
           long.1,
-          at_the_most slice fault.span.start
-              (subst (λ one. MAX_PLAN < length one) (sym is) (take_long MAX_PLAN bytes long.1)) known.1,
+          at_the_most slice fault.span.start (subst (λ one. MAX_PLAN < length one) (sym is) (take_long MAX_PLAN bytes long.1)) known.1,
         ),
         known.2,
       )

@@ -70,8 +70,7 @@ module _ {O : Type 0} (taken : O → Option (List ℕ)) (faults : O → ℕ) (fa
   TraceEnds (statuses.InputFault Trace) = Rose before.faults after.faults × (new ≡ old)
   TraceEnds (statuses.TraceRefused found) = IfSome before.left (λ trace. fault trace ≡ Some found) × (new ≡ old)
   TraceEnds statuses.OutputFault =
-      Rose (faults old) (faults new)
-      × IfSome before.left (λ trace. (fault trace ≡ None) × TakesFront (taken old) (taken new) (text trace))
+      Rose (faults old) (faults new) × IfSome before.left (λ trace. (fault trace ≡ None) × TakesFront (taken old) (taken new) (text trace))
   TraceEnds status = ⊥
 
 -- A phase that writes this text ended in this status.

@@ -1,20 +1,16 @@
-use Rattle.std.proofs.Common.{sym, ◌∙◌}
+-- a query is refused for its text's faults, or else for the command's own
 use Rattle.marple_base.specs.declared.inputs.Which.TheVariants.{Query}
-use Rattle.command_answers.specs.Phases.{QueryEnds}
-use Rattle.command_answers.specs.OwnChecks.{fault_with}
+use Rattle.std.proofs.Common.{sym, ◌∙◌}
 use Rattle.enclosure_folds.specs.Check.{enclose_fault}
 use Rattle.command_answers.proofs.Checking.{own_refused, text_ends}
-use Rattle.command_answers.proofs.Limits.{err_told}
+use Rattle.trace_drive.proofs.Breaking.{err_is}
 use Rattle.command_answers.proofs.checked.query_for_bounds.Goals as goal
 
 pub returns-in_err-query-clause-err : goal.returns-in_err-query-clause-err
 returns-in_err-query-clause-err g c =
     let before = g.I.Inputs.input c.args.inputs.now Query in
     let after = g.I.Inputs.input c.read_query.new.inputs Query in
-    err_told (QueryEnds (fault_with enclose_fault) before after) c.from_residual.result c.in_err-query.field-0.0 c.from_residual.ensures.1
-    (text_ends enclose_fault before after c.in_err-query.field-0.0 c.in_err-query.ensures.err)
+    err_is _ _ _ c.from_residual.ensures.1 (text_ends enclose_fault before after c.in_err-query.field-0.0 c.in_err-query.ensures.err)
 
 pub returns-in-Some-clause-err : goal.returns-in-Some-clause-err
-returns-in-Some-clause-err g c =
-    own_refused enclose_fault (g.I.Inputs.input c.args.inputs.now Query).left c.in_ok-query.query.typed c.in-Some.fault
-    c.in_ok-query.ensures.ok (sym c.enclose_check.ensures ∙ c.in-Some.is)
+returns-in-Some-clause-err g c = own_refused enclose_fault _ _ _ c.in_ok-query.ensures.ok (sym c.enclose_check.ensures ∙ c.in-Some.is)
