@@ -38,8 +38,7 @@ all_whole law (t ∷ tables) may =
 module _ (ends : EndsGiveEnclosedTables) (read : EnclosedTablesAreRead) (triples : TriplesGiveWholeTables) (q : TypedQuery)
     (plan : PlanParts) (valid : IsValidQuery q) (p : IsPlanOf q plan) where
   are_bounds_tables : (buckets : ℕ) (lanes : List LaneView) (g : Geometry) (packets : List (List ℕ)) → IsSoundPlan plan
-      → AreLanesOf Bounds plan buckets lanes → HasRoom g → AreWhole packets
-      → AreBoundsTables q (end_tables plan lanes g packets)
+      → AreLanesOf Bounds plan buckets lanes → HasRoom g → AreWhole packets → AreBoundsTables q (end_tables plan lanes g packets)
   are_bounds_tables buckets lanes g packets planned each room whole =
       let tables = end_tables plan lanes g packets in
       let same = ends.tables q plan buckets lanes g packets valid p planned each room whole in

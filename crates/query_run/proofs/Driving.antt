@@ -28,8 +28,7 @@ geometry_is setting schedule ways is same =
     ∙ ap (λ (ways : Ways). record { buckets = setting.buckets; ways = ways_number ways; refresh = setting.refresh }) (sym is)
 
 module _ {O : Type 0} (taken : O → Option (List ℕ)) (faults : O → ℕ) (entries : Entries) (plan : PlanParts) (printed : List Table → List ℕ)
-    (every : ℕ) (packets : List (List ℕ)) (fault : Option TraceFault)
-    (old new : O) where
+    (every : ℕ) (packets : List (List ℕ)) (fault : Option TraceFault) (old new : O) where
   -- a run broke off with this answer, whichever text its report prints of the plan
   abbrev pub Breaks : Geometry → RunError → Type 0
   Breaks g answer = (text : Geometry → List (List ℕ) → List ℕ) → Prints entries plan printed text

@@ -1,5 +1,5 @@
 -- The tables that the pipeline of a plan gives at the end of packets are those of the plan's text.
-use Rattle.std.proofs.Common.{◌≡◌, ℕ, zero, suc, ◌+◌, ◌<◌, List, [], ◌∷◌, length, map, drop, Option, Some, refl, sym, ap, ap₂, ◌∙◌, subst}
+use Rattle.std.proofs.Common.{◌≡◌, ℕ, suc, ◌+◌, ◌<◌, List, [], ◌∷◌, length, map, drop, Option, Some, refl, sym, ap, ap₂, ◌∙◌, subst}
 use Rattle.std.proofs.Common.{arith, length-append}
 use Rattle.std.specs.Prelude.{slice_get, option_map, unwrap_or, flat_map, slice_index_or}
 use Rattle.std.specs.List.{All}
@@ -7,7 +7,6 @@ use Rattle.std.proofs.lemmas.List.{length-map}
 use Rattle.std.proofs.lemmas.List.Elements.{All-map}
 use Rattle.std.proofs.lemmas.Option.{slice_get-map}
 use Rattle.marple_base.specs.declared.field.TheConstants.{FIELDS}
-use Rattle.epoch_entry.specs.contracts.any.AnyEpochsEpochKind.TheImpl.{ghosts}
 use Rattle.epoch_entry.specs.declared.purpose.Entries.TheVariants.{Folds}
 use Rattle.epoch_entry.specs.Foldings.{folding_of}
 use Rattle.epoch_model.specs.Driving.{Taken, TakenUsesAreInTrace, uses_taken}
@@ -31,23 +30,13 @@ use Rattle.stage_plan.specs.Planned.{taken, wiring_at}
 use Rattle.stage_plan.specs.Registers.{registers_after, stages_of, taken_at}
 use Rattle.stage_plan.specs.Shape.{GroupShape}
 use Rattle.stage_plan.specs.Sound.{PlanParts}
-use Rattle.switch_core.specs.Pipelines.{IsLaneOf, heading_of, tables_of}
+use Rattle.switch_core.specs.Pipelines.{heading_of, tables_of}
 use Rattle.switch_core.specs.PlanLanes.{AreLanesOf, LaneView, folding_at}
 use Rattle.switch_core.specs.Rows.{EachFrom}
 use Rattle.trace_drive.specs.Drives.{end_machines, ends_from, uses_by}
 use Rattle.query_run.specs.PlanReports.{EndsAreTheTexts, HasKeys, HaveNumbers, numbered_print}
 use Rattle.query_run.specs.Reports.{Reports}
-
-nothing : {A : Type 0} {x : A} {rest : List A} → [] ≡ x ∷ rest → ⊥
-nothing e = cc
-
--- the item at a place is the first of those from there on
-first_at : {A : Type 0} (xs : List A) (i : ℕ) (x : A) (rest : List A) → drop i xs ≡ x ∷ rest → (slice_get xs i ≡ Some x)
-    × (drop (suc i) xs ≡ rest)
-first_at [] zero x rest e = absurd (nothing e)
-first_at (y ∷ xs) zero x rest e = let a : y ≡ x = cc in let b : xs ≡ rest = cc in (ap Some a, b)
-first_at [] (suc i) x rest e = absurd (nothing e)
-first_at (y ∷ xs) (suc i) x rest e = first_at xs i x rest e
+use Rattle.query_run.proofs.QueryEnds.{IsFoldLane, first_at}
 
 -- a groupby's table has, but for its rows, what its group gives
 heading_same : (registers : ℕ) (one : Folded) (group : GroupPlan) → IsSoundFolded registers one → IsGroupFrom one group
@@ -64,8 +53,7 @@ heading_same registers one group s from =
     ap of (shape_same registers one group s from)
 
 module _ (law : AlikeFoldingsMakeOneTable) (closed : ClosedGiveTheGroupTable) (order : TakenUsesAreInTrace) (made : Made) (plan : PlanParts)
-    (buckets : ℕ) (g : Geometry) (packets : List (List ℕ))
-    (sound : IsSoundMade made) (from : IsPlanFrom made plan) (room : HasRoom g) where
+    (buckets : ℕ) (g : Geometry) (packets : List (List ℕ)) (sound : IsSoundMade made) (from : IsPlanFrom made plan) (room : HasRoom g) where
   in_trace : (i : ℕ) → IsInTrace (length packets) (uses_by plan i packets)
   in_trace i = subst (λ n. IsInTrace n (uses_by plan i packets)) (length-map packets (taken plan i))
       (order.order (map (taken plan i) packets))
@@ -84,8 +72,7 @@ module _ (law : AlikeFoldingsMakeOneTable) (closed : ClosedGiveTheGroupTable) (o
       ∙ ap (λ ops. uses_taken 1 (map (take (wiring_in one) ops) packets)) from.ops
 
   one_table : (i : ℕ) (one : Folded) (group : GroupPlan) (lane : LaneView) → slice_get made.groups i ≡ Some one → IsGroupFrom one group
-      → IsLaneOf Folds buckets lane.cache (ghosts.sizes lane.kind) (ghosts.folding lane.kind) (ghosts.open_bound lane.kind)
-      (ghosts.absorb_bound lane.kind) group (wiring_at plan i)
+      → IsFoldLane plan buckets i lane group
       → closed_table (heading_of group) (folding_at lane) (end_of g (uses_by plan i packets) (length packets)).closed ≡ table_in made g
       packets one
   one_table i one group lane at is of_lane =
@@ -95,8 +82,7 @@ module _ (law : AlikeFoldingsMakeOneTable) (closed : ClosedGiveTheGroupTable) (o
       let fold = is.is_fold.is_fold in
       let registers = FIELDS + length made.ops in
       law.by_closed (heading_of group) (folding_at lane) (folding_of is.fold) (end_of g (uses_by plan i packets) (length packets)).closed
-      alike
-      ∙ closed (heading_of group) (folding_of is.fold) g (uses_by plan i packets) (length packets) room (in_trace i)
+      alike ∙ closed (heading_of group) (folding_of is.fold) g (uses_by plan i packets) (length packets) room (in_trace i)
       ∙ ap (group_table (heading_of group) (folding_of is.fold) g) (uses_same i one at)
       ∙ ap (λ f. group_table (heading_of group) f g (uses_in made one packets))
       (foldings one.group is.fold (fold_in one) fold (fold_in_is one is.fold fold))
@@ -104,9 +90,7 @@ module _ (law : AlikeFoldingsMakeOneTable) (closed : ClosedGiveTheGroupTable) (o
       (heading_same registers one group (all_at (IsSoundFolded registers) made.groups i one sound.groups at) is)
 
   tables_at : (i : ℕ) (ones : List Folded) (groups : List GroupPlan) (lanes : List LaneView) → drop i made.groups ≡ ones
-      → AreGroupsFrom ones groups
-      → EachFrom (λ n lane group. IsLaneOf Folds buckets lane.cache (ghosts.sizes lane.kind) (ghosts.folding lane.kind)
-      (ghosts.open_bound lane.kind) (ghosts.absorb_bound lane.kind) group (wiring_at plan n)) i lanes groups
+      → AreGroupsFrom ones groups → EachFrom (IsFoldLane plan buckets) i lanes groups
       → tables_of groups (map folding_at lanes) (ends_from plan g packets i groups) ≡ map (table_in made g packets) ones
   tables_at i [] [] [] e zip each = refl
   tables_at i [] [] (lane ∷ lanes) e zip each = absurd each

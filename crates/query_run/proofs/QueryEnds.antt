@@ -1,8 +1,10 @@
 -- The machines of a plan at the end of a trace, groupby by groupby, and the tables that they give.
-use Rattle.std.proofs.Common.{◌≡◌, ℕ, zero, suc, ◌<◌, List, [], ◌∷◌, ◌++◌, Some, None, length, map, drop, get_or, refl, sym, ap, ◌∙◌, subst}
+use Rattle.std.proofs.Common.{◌≡◌, ℕ, zero, suc, ◌<◌, List, [], ◌∷◌, ◌++◌, Some, length, map, drop, get_or, refl, sym, ap, ◌∙◌, subst}
 use Rattle.std.proofs.Common.{arith}
 use Rattle.std.specs.List.{All, slice_get}
-use Rattle.std.proofs.lemmas.List.{length-map}
+use Rattle.std.proofs.Math.Seq.{drop-cons}
+use Rattle.std.proofs.lemmas.List.{length-drop, length-map}
+use Rattle.std.proofs.lemmas.Option.{slice_get-get_or}
 use Rattle.std.proofs.lemmas.List.Elements.{All-nil, All-cons}
 use Rattle.query_lang.specs.declared.fold.TypedFold.{TypedFold}
 use Rattle.query_lang.specs.declared.typed.TypedOp.{TypedOp}
@@ -20,6 +22,7 @@ use Rattle.epoch_entry.specs.declared.purpose.Entries.TheVariants.{Folds}
 use Rattle.epoch_entry.specs.Foldings.{folding_of}
 use Rattle.final_queries.specs.FinalLaws.{AreAlike, AlikeFoldingsMakeOneTable}
 use Rattle.final_queries.specs.GroupTable.{ClosedGiveTheGroupTable, closed_table, group_table}
+use Rattle.plan_loader.proofs.SoundPlan.{all_at}
 use Rattle.stage_plan.specs.Packets.{AreWhole}
 use Rattle.stage_plan.specs.declared.group.GroupPlan.{GroupPlan}
 use Rattle.stage_plan.specs.Planned.{IsPlanOf, fold_at, taken, wiring_at}
@@ -37,18 +40,14 @@ use Rattle.query_run.specs.Reports.{Reports}
 use Rattle.query_run.specs.Runs.{ends_of, query_ends, EndsAreTheQuerys}
 
 -- the item at a place is the first of those from there on
-first_at : {A : Type 0} (xs : List A) (i : ℕ) (x : A) (rest : List A) → drop i xs ≡ x ∷ rest → (slice_get xs i ≡ Some x)
+pub first_at : {A : Type 0} (xs : List A) (i : ℕ) (x : A) (rest : List A) → drop i xs ≡ x ∷ rest → (slice_get xs i ≡ Some x)
     × (drop (suc i) xs ≡ rest) × (i < length xs)
-first_at [] zero x rest e = absurd (nothing e)
-  where
-    nothing : {A : Type 0} {x : A} {rest : List A} → [] ≡ x ∷ rest → ⊥
-    nothing e = cc
-first_at (y ∷ xs) zero x rest e = let a : y ≡ x = cc in let b : xs ≡ rest = cc in (ap Some a, b, omega arith)
-first_at [] (suc i) x rest e = absurd (nothing e)
-  where
-    nothing : {A : Type 0} {x : A} {rest : List A} → [] ≡ x ∷ rest → ⊥
-    nothing e = cc
-first_at (y ∷ xs) (suc i) x rest e = let r = first_at xs i x rest e in (r.0, r.1, let l = r.2 in omega arith)
+first_at xs i x rest e =
+    let within : i < length xs = omega (arith, length-drop i xs, ap length e) in
+    let parts = drop-cons xs i x within in
+    let here : get_or xs i x ≡ x = cc in
+    let others : drop (suc i) xs ≡ rest = cc in
+    (slice_get-get_or xs i x within ∙ ap Some here, others, within)
 
 -- the uses of a groupby are those that the plan takes
 uses_are : (q : TypedQuery) (plan : PlanParts) (packets : List (List ℕ)) (i : ℕ) → IsPlanOf q plan → AreWhole packets
@@ -96,23 +95,18 @@ got_at [] i h = absurd (omega arith)
 got_at (x ∷ xs) zero h = (x, refl)
 got_at (x ∷ xs) (suc i) h = got_at xs i (omega (arith, h))
 
-got_or : {A : Type 0} (xs : List A) (i : ℕ) (x : A) → slice_get xs i ≡ Some x → (get_or xs i x ≡ x) × (i < length xs)
-got_or [] i x e = absurd (nothing e)
-  where
-    nothing : {A : Type 0} {x : A} → None ≡ Some x → ⊥
-    nothing e = cc
-got_or (y ∷ xs) zero x e = let a : y ≡ x = cc in (a, omega arith)
-got_or (y ∷ xs) (suc i) x e = let r = got_or xs i x e in (r.0, let l = r.1 in omega arith)
-
-all_at : {A : Type 0} (P : A → Type 0) (xs : List A) (i : ℕ) (x : A) → All P xs → slice_get xs i ≡ Some x → P x
-all_at P xs i x all e = let r = got_or xs i x e in subst P r.0 (all i x r.1)
-
 fold_there : (q : TypedQuery) (i : ℕ) → IsValidQuery q → i < length (takings q.streams) → (f : TypedFold) × (fold_at q i ≡ Some f)
 fold_there q i valid within =
     let t = got_at (takings q.streams) i within in
     let has = all_at (HasFold q.folds) (takings q.streams) i t.0 (folds_there (length q.names) q.folds [] q.streams valid.streams) t.1 in
     let f = got_at q.folds t.0.fold_number has in
     (f.0, rw t.1 f.1)
+
+-- the lane is that of the plan's groupby with this number, with entries for folds
+abbrev pub IsFoldLane : PlanParts → ℕ → ℕ → LaneView → GroupPlan → Type 0
+IsFoldLane plan buckets n lane group =
+    IsLaneOf Folds buckets lane.cache (ghosts.sizes lane.kind) (ghosts.folding lane.kind) (ghosts.open_bound lane.kind)
+    (ghosts.absorb_bound lane.kind) group (wiring_at plan n)
 
 -- the tables
 
@@ -123,9 +117,7 @@ module _ (law : AlikeFoldingsMakeOneTable) (closed : ClosedGiveTheGroupTable) (o
   in_trace i = subst (λ n. IsInTrace n (uses_by plan i packets)) (length-map packets (taken plan i))
       (order.order (map (taken plan i) packets))
 
-  one_table : (i : ℕ) (group : GroupPlan) (lane : LaneView) (f : TypedFold)
-      → IsLaneOf Folds buckets lane.cache (ghosts.sizes lane.kind) (ghosts.folding lane.kind) (ghosts.open_bound lane.kind)
-      (ghosts.absorb_bound lane.kind) group (wiring_at plan i)
+  one_table : (i : ℕ) (group : GroupPlan) (lane : LaneView) (f : TypedFold) → IsFoldLane plan buckets i lane group
       → slice_get plan.groups i ≡ Some group → i < length plan.groups → fold_at q i ≡ Some f
       → closed_table (heading_of group) (folding_at lane) (end_of g (uses_by plan i packets) (length packets)).closed ≡ query_table q g
       packets i (group_shape group) f
@@ -141,8 +133,7 @@ module _ (law : AlikeFoldingsMakeOneTable) (closed : ClosedGiveTheGroupTable) (o
       ∙ ap (group_table (heading_of group) (folding_of f) g) (uses_are q plan packets i p whole within))
 
   tables_at : (i : ℕ) (groups : List GroupPlan) (lanes : List LaneView) → drop i plan.groups ≡ groups
-      → EachFrom (λ n lane group. IsLaneOf Folds buckets lane.cache (ghosts.sizes lane.kind) (ghosts.folding lane.kind)
-      (ghosts.open_bound lane.kind) (ghosts.absorb_bound lane.kind) group (wiring_at plan n)) i lanes groups
+      → EachFrom (IsFoldLane plan buckets) i lanes groups
       → tables_of groups (map folding_at lanes) (ends_from plan g packets i groups) ≡ tables_from q g packets i (map group_shape groups)
   tables_at i [] [] e each = refl
   tables_at i [] (lane ∷ lanes) e each = absurd each

@@ -48,8 +48,7 @@ ends_seen law plan g packets number within i (group ∷ groups) (m ∷ machines)
 pub seen_tables : ViewsEndTheTrace → (entries : Entries) (g : Geometry) (packets : List (List ℕ)) (number : ℕ) (p : PipelineView)
     (tables : List Table) → AreLanesOf entries p.plan p.buckets p.lanes
     → ((machines : List Machine) → PipelineStands p machines → tables ≡ tables_seen p.plan.groups (map folding_at p.lanes) machines)
-    → IsAsFarAs g packets number p
-    → tables ≡ end_tables p.plan p.lanes g (take number packets)
+    → IsAsFarAs g packets number p → tables ≡ end_tables p.plan p.lanes g (take number packets)
 seen_tables law entries g packets number p tables lanes shown far =
     let f = far.follows in
     let long = sym (each_long (λ n. StandsFor) 0 p.lanes f.machines f.stands) ∙ lanes_long entries p.plan p.buckets p.lanes lanes in

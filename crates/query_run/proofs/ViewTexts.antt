@@ -50,10 +50,8 @@ module _ (text : List (List ℕ) → List ℕ) (every : ℕ) (packets : List (Li
   none_between number zero whole below = let e : number + zero ≡ number = omega arith in ap (views_up_to text every packets) e
   none_between number (suc j) whole below =
       let e : number + suc j ≡ suc (number + j) = omega arith in
-      ap (views_up_to text every packets) e
-      ∙ (one_more (number + j) false (not_due every number j whole below)
-      ∙ (append-nil (views_up_to text every packets (number + j))
-      ∙ none_between number j whole (omega arith)))
+      ap (views_up_to text every packets) e ∙ (one_more (number + j) false (not_due every number j whole below)
+      ∙ (append-nil (views_up_to text every packets (number + j)) ∙ none_between number j whole (omega arith)))
 
   -- one at the next multiple
   pub next_view : (number : ℕ) → number % every ≡ 0 → 0 < every
@@ -63,8 +61,7 @@ module _ (text : List (List ℕ) → List ℕ) (every : ℕ) (packets : List (Li
       let e : suc (number + j) ≡ number + every = omega arith in
       let before = none_between number j whole (omega arith) in
       let at : is_view every (suc (number + j)) ≡ true = ap (is_view every) e ∙ due every number whole some in
-      ap (views_up_to text every packets) (sym e)
-      ∙ (one_more (number + j) true at
+      ap (views_up_to text every packets) (sym e) ∙ (one_more (number + j) true at
       ∙ (ap (λ xs. xs ++ view_text text packets (suc (number + j))) before
       ∙ ap (λ n. views_up_to text every packets number ++ view_text text packets n) e))
 
@@ -87,10 +84,8 @@ module _ (text : List (List ℕ) → List ℕ) (every : ℕ) (packets : List (Li
       let before = later_views number k in
       let here = if is_view every (suc (number + k)) then view_text text packets (suc (number + k)) else [] in (
         before.0 ++ here,
-        ap (views_up_to text every packets) e
-            ∙ (one_more (number + k) (is_view every (suc (number + k))) refl
-            ∙ (ap (λ xs. xs ++ here) before.1
-            ∙ append_assoc (views_up_to text every packets number) before.0 here)),
+        ap (views_up_to text every packets) e ∙ (one_more (number + k) (is_view every (suc (number + k))) refl
+            ∙ (ap (λ xs. xs ++ here) before.1 ∙ append_assoc (views_up_to text every packets number) before.0 here)),
       )
 
   -- what a run writes begins with the views so far
@@ -102,8 +97,7 @@ module _ (text : List (List ℕ) → List ℕ) (every : ℕ) (packets : List (Li
       let e : length packets ≡ number + k = omega arith in
       let later = later_views number k in (
         later.0 ++ text packets,
-        ap (λ n. views_up_to text every packets n ++ text packets) e
-            ∙ (ap (λ xs. xs ++ text packets) later.1
+        ap (λ n. views_up_to text every packets n ++ text packets) e ∙ (ap (λ xs. xs ++ text packets) later.1
             ∙ append_assoc (views_up_to text every packets number) later.0 (text packets)),
       )
 
@@ -114,8 +108,7 @@ module _ (text : List (List ℕ) → List ℕ) (every : ℕ) (packets : List (Li
   parted number whole some within =
       let front = begins (number + every) within in (
         front.0,
-        front.1
-            ∙ (ap (λ xs. xs ++ front.0) (next_view number whole some)
+        front.1 ∙ (ap (λ xs. xs ++ front.0) (next_view number whole some)
             ∙ append_assoc (views_up_to text every packets number) (view_text text packets (number + every)) front.0),
       )
 

@@ -52,8 +52,7 @@ module _ (text : List (List ℕ) → List ℕ) (every : ℕ) (all : List Packet)
 
   -- one more view was written
   pub one_written : (old mid new : Option (List ℕ)) (number : ℕ) → number % every ≡ 0 → 0 < every
-      → Appends old mid (views_up_to text every (words_of all) number)
-      → Appends mid new (view_text text (words_of all) (number + every))
+      → Appends old mid (views_up_to text every (words_of all) number) → Appends mid new (view_text text (words_of all) (number + every))
       → Appends old new (views_up_to text every (words_of all) (number + every))
   one_written old mid new number multiple some before view =
       subst (Appends old new) (sym (next_view text every (words_of all) number multiple some))
@@ -72,8 +71,7 @@ module _ (text : List (List ℕ) → List ℕ) (every : ℕ) (all : List Packet)
   text_is = whole_text text every (words_of all) ∙ ap (λ n. views_up_to text every (words_of all) n ++ text (words_of all)) (as_long all)
 
   pub all_written : (old mid new : Option (List ℕ)) → Appends old mid (views_up_to text every (words_of all) (length all))
-      → Appends mid new (text (words_of all))
-      → Appends old new (views_text text every (words_of all))
+      → Appends mid new (text (words_of all)) → Appends old new (views_text text every (words_of all))
   all_written old mid new views tables =
       subst (Appends old new) (sym text_is) (Appends-trans old mid new (views_up_to text every (words_of all) (length all))
       (text (words_of all)) views tables)
@@ -87,20 +85,17 @@ module _ (text : List (List ℕ) → List ℕ) (every : ℕ) (all : List Packet)
     reader_broke number sound within before answer refused =
         let front = begins text every (words_of all) number (omega (arith, as_long all)) in
         reader_breaks taken faults (views_text text every (words_of all)) fault old mid (views_up_to text every (words_of all) number)
-        front.0 front.1
-        (λ found is. absurd (none_some found fault sound is)) before answer refused
+        front.0 front.1 (λ found is. absurd (none_some found fault sound is)) before answer refused
 
     -- the next view broke off
     pub view_broke : (new : O) (number : ℕ) → fault ≡ None → number % every ≡ 0 → 0 < every → number + every ≤ length all
         → Appends (taken old) (taken mid) (views_up_to text every (words_of all) number)
         → faults old ≤ faults mid → (answer : RunError) → BreaksOff taken faults (view_text text (words_of all) (number + every)) None mid
-        new answer
-        → BreaksOff taken faults (views_text text every (words_of all)) fault old new answer
+        new answer → BreaksOff taken faults (views_text text every (words_of all)) fault old new answer
     view_broke new number sound multiple some within before later answer broke =
         let front = parted text every (words_of all) number multiple some (omega (arith, as_long all)) in
         part_breaks taken faults (views_text text every (words_of all)) fault old mid new (views_up_to text every (words_of all) number)
-        (view_text text (words_of all) (number + every))
-        front.0 front.1 sound before later answer broke
+        (view_text text (words_of all) (number + every)) front.0 front.1 sound before later answer broke
 
     -- the reader broke off after all views, of which there are some only where the packets are sound
     pub rest_broke : (every ≡ 0 → mid ≡ old) → (0 < every → fault ≡ None)
@@ -109,8 +104,7 @@ module _ (text : List (List ℕ) → List ℕ) (every : ℕ) (all : List Packet)
         → BreaksOff taken faults (views_text text every (words_of all)) fault old mid (answer_for answer)
     rest_broke untouched sound views answer refused =
         reader_breaks taken faults (views_text text every (words_of all)) fault old mid (views_up_to text every (words_of all) (length all))
-        (text (words_of all)) text_is
-        (λ found is. by_number every refl found is) views answer refused
+        (text (words_of all)) text_is (λ found is. by_number every refl found is) views answer refused
       where
         by_number : (n : ℕ) → every ≡ n → (found : TraceFault) → fault ≡ Some found
             → (views_up_to text every (words_of all) (length all) ≡ []) × (mid ≡ old)
@@ -119,8 +113,7 @@ module _ (text : List (List ℕ) → List ℕ) (every : ℕ) (all : List Packet)
 
     -- the report of all packets broke off
     pub end_broke : (new : O) → fault ≡ None → Appends (taken old) (taken mid) (views_up_to text every (words_of all) (length all))
-        → faults old ≤ faults mid
-        → (answer : RunError) → BreaksOff taken faults (text (words_of all)) None mid new answer
+        → faults old ≤ faults mid → (answer : RunError) → BreaksOff taken faults (text (words_of all)) None mid new answer
         → BreaksOff taken faults (views_text text every (words_of all)) fault old new answer
     end_broke new sound views later answer broke =
         let views_are = views_up_to text every (words_of all) (length all) in

@@ -28,6 +28,5 @@ numbered_print numbers tables = flat_map (table_text_at tables) numbers
 -- The tables of a plan's machines at the end of packets are those that its text means.
 abbrev pub EndsAreTheTexts : Type 0
 EndsAreTheTexts = (made : Made) (plan : PlanParts) (buckets : ℕ) (lanes : List LaneView) (g : Geometry)
-    (packets : List (List ℕ)) → IsSoundMade made → IsPlanFrom made plan
-    → AreLanesOf Folds plan buckets lanes → HasRoom g
+    (packets : List (List ℕ)) → IsSoundMade made → IsPlanFrom made plan → AreLanesOf Folds plan buckets lanes → HasRoom g
     → end_tables plan lanes g packets ≡ plan_tables made g packets

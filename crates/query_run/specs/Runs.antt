@@ -30,6 +30,5 @@ pub record EndsAreTheQuerys : Type 0 where
   pub machines : (q : TypedQuery) (plan : PlanParts) (g : Geometry) (packets : List (List ℕ)) → IsPlanOf q plan
       → AreWhole packets → end_machines plan g packets ≡ query_ends q g packets
   pub tables : (q : TypedQuery) (plan : PlanParts) (buckets : ℕ) (lanes : List LaneView) (g : Geometry)
-      (packets : List (List ℕ)) → IsValidQuery q → IsPlanOf q plan
-      → AreLanesOf Folds plan buckets lanes → HasRoom g → AreWhole packets
+      (packets : List (List ℕ)) → IsValidQuery q → IsPlanOf q plan → AreLanesOf Folds plan buckets lanes → HasRoom g → AreWhole packets
       → tables_of plan.groups (map folding_at lanes) (end_machines plan g packets) ≡ group_tables q g packets

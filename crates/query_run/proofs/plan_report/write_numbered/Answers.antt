@@ -29,12 +29,9 @@ returns-in_err-write_at-clause-err g c =
     let old = g.O.Sink.taken c.args.out.now in
     let mid = g.O.Sink.taken c.loop-number.out in
     let whole = c.args.text.now ++ flat_map (table_text_at tables) prints in
-    on_err c.from_residual.result _
-    (part_broke old mid (g.O.Sink.taken c.write_at.new.out) c.loop-number.text (table_text_at tables number)
-    (flat_map (table_text_at tables) (drop (i + 1) prints)) whole
-    (subst (λ left. TakesAllBut old mid (c.loop-number.text ++ left) whole)
-    (next tables prints i number c.loop-number-test.true c.from.ensures) c.loop-number.invariant.written)
-    c.in_err-write_at.ensures.err)
+    on_err c.from_residual.result _ (part_broke old mid (g.O.Sink.taken c.write_at.new.out) c.loop-number.text (table_text_at tables number)
+    (flat_map (table_text_at tables) (drop (i + 1) prints)) whole (subst (λ left. TakesAllBut old mid (c.loop-number.text ++ left) whole)
+    (next tables prints i number c.loop-number-test.true c.from.ensures) c.loop-number.invariant.written) c.in_err-write_at.ensures.err)
 
 pub loop-number-preserved : goal.loop-number-preserved
 loop-number-preserved g c =
@@ -49,8 +46,7 @@ loop-number-preserved g c =
       written = part_more old mid (g.O.Sink.taken c.write_at.new.out) c.loop-number.text c.write_at.new.text (table_text_at tables number)
           (flat_map (table_text_at tables) (drop (i + 1) prints)) whole
           (subst (λ left. TakesAllBut old mid (c.loop-number.text ++ left) whole)
-          (next tables prints i number c.loop-number-test.true c.from.ensures) c.loop-number.invariant.written)
-          c.in_ok-write_at.ensures.ok;
+          (next tables prints i number c.loop-number-test.true c.from.ensures) c.loop-number.invariant.written) c.in_ok-write_at.ensures.ok;
       out_later = omega (arith, c.loop-number.invariant.out_later, c.write_at.ensures.out_later);
     }
 

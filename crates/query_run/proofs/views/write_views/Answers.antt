@@ -1,11 +1,10 @@
-use Rattle.std.proofs.Common.{◌≡◌, ℕ, ◌+◌, ◌<◌, ◌≤◌, ◌-◌, List, Some, Ok, length, refl, sym, ap, ◌∙◌, subst, arith, lit<}
+-- after each number of packets that is a multiple of `every`, one view more is written
+use Rattle.std.proofs.Common.{◌≡◌, ◌+◌, ◌<◌, ◌≤◌, ◌-◌, Some, Ok, length, refl, sym, ap, ◌∙◌, subst, arith, lit<}
 use Rattle.std.proofs.KnownBytes.{Appends-nil}
 use Rattle.std.proofs.Math.Seq.{take-length}
 use Rattle.std.specs.Io.KnownBytes.{Appends}
-use Rattle.epoch_model.specs.Epochs.{Geometry}
 use Rattle.switch_core.specs.PlanLanes.{PipelineView}
-use Rattle.trace_drive.specs.Answers.{BreaksOff, answer_for}
-use Rattle.trace_drive.specs.Drives.{coming, fault_of, geometry_for, words_of}
+use Rattle.trace_drive.specs.Drives.{coming, geometry_for, words_of}
 use Rattle.trace_drive.specs.Follows.{Keeps}
 use Rattle.trace_drive.specs.Replays.{replay_pipeline}
 use Rattle.trace_drive.proofs.Breaking.{err_is}
@@ -14,7 +13,7 @@ use Rattle.trace_drive.proofs.Following.{keeps_along}
 use Rattle.trace_drive.proofs.ReplayTurns.{turns_further, turns_to_the_end}
 use Rattle.trace_reader.specs.Faults.{IfRefused}
 use Rattle.query_run.specs.Reports.{MayPrint, Prints}
-use Rattle.query_run.specs.Views.{IsAsFarAs, views_text}
+use Rattle.query_run.specs.Views.{IsAsFarAs}
 use Rattle.query_run.proofs.ViewTexts.{next_multiple}
 use Rattle.query_run.proofs.Viewing.{all_shown, as_far, first_multiple, none_asked, none_yet, one_written, reader_broke, view_broke}
 use Rattle.query_run.proofs.views.write_views.Goals as goal
@@ -49,19 +48,12 @@ views-init g c =
 
 pub returns-in_err-advance-clause-breaks_off : goal.returns-in_err-advance-clause-breaks_off
 returns-in_err-advance-clause-breaks_off g c =
-    let all = coming c.args.packets in
-    let of = geometry_for g.row.WAYS c.args.schedule in
     let some : 0 < c.args.every = omega arith in
     let was = c.views.invariant in
-    err_is (λ answer. (text : Geometry → List (List ℕ) → List ℕ) → Prints (g.R.Report.entries c.args.report.now) c.args.pipeline.plan
-    (g.R.Report.printed c.args.report.now) text
-    → BreaksOff g.O.Sink.taken g.O.Sink.faults (views_text (text of) c.args.every (words_of all)) (fault_of c.args.packets) c.args.out.now
-    c.views.out answer)
-    c.from_residual.result (answer_for c.in_err-advance.field-0.0) c.from_residual.ensures.1
-    (λ text prints. reader_broke (text of) c.args.every all g.O.Sink.taken g.O.Sink.faults (fault_of c.args.packets) c.args.out.now
-    c.views.out c.views.number (c.requires.viewed some).sound was.way.within (was.written text prints)
-    c.in_err-advance.field-0.0 (subst (λ fault. IfRefused c.in_err-advance.field-0.0 (λ found. fault ≡ Some found)) was.fault
-    c.in_err-advance.ensures.refused))
+    err_is _ _ _ c.from_residual.ensures.1
+    (λ text prints. reader_broke (text (geometry_for g.row.WAYS c.args.schedule)) c.args.every _ g.O.Sink.taken g.O.Sink.faults _ _ _ _
+    (c.requires.viewed some).sound was.way.within (was.written text prints) _
+    (subst (λ fault. IfRefused c.in_err-advance.field-0.0 (λ found. fault ≡ Some found)) was.fault c.in_err-advance.ensures.refused))
 
 pub write_view-requires : goal.write_view-requires
 write_view-requires g c =
@@ -108,15 +100,12 @@ views-preserved g c =
     let plan = ap (λ (p : PipelineView). p.plan) c.pipeline.ensures ∙ (done.keeps.plan ∙ was.keeps.plan) in
     record {
       way = way;
-      turns = turns_further g.row.WAYS c.args.schedule.refresh c.args.schedule.lag c.views.number c.args.every all c.args.pipeline
-          (replay_pipeline c.views.replay) (replay_pipeline c.advance.new.self) was.way.within was.turns
+      turns = turns_further _ _ _ c.views.number _ all _ _ _ was.way.within was.turns
           (done.turns (ap Ok c.if-branch.true) c.args.schedule all c.views.number was.way);
       multiple = next_multiple c.args.every c.views.number was.multiple;
       fault = done.fault ∙ was.fault;
-      keeps = keeps_along c.args.pipeline (replay_pipeline c.views.replay) (replay_pipeline c.advance.new.self) was.keeps done.keeps;
-      written = λ text prints.
-          one_written (text of) c.args.every all (g.O.Sink.taken c.args.out.now) (g.O.Sink.taken c.views.out)
-          (g.O.Sink.taken c.write_view.new.out) c.views.number was.multiple some (was.written text prints)
+      keeps = keeps_along _ _ _ was.keeps done.keeps;
+      written = λ text prints. one_written (text of) _ all _ _ _ _ was.multiple some (was.written text prints)
           (c.in_ok-write_view.ensures.written text of (words_of all) (subst
           (λ plan. Prints (g.R.Report.entries c.args.report.now) plan (g.R.Report.printed c.args.report.now) text) (sym plan) prints)
           seen);
@@ -136,17 +125,12 @@ returns-in_err-write_view-clause-breaks_off g c =
     c.requires.whole way in
     let seen = subst (λ (p : PipelineView). IsAsFarAs of (words_of all) (c.views.number + c.args.every) p) (sym c.pipeline.ensures) far in
     let plan = ap (λ (p : PipelineView). p.plan) c.pipeline.ensures ∙ (done.keeps.plan ∙ was.keeps.plan) in
-    err_is (λ answer. (text : Geometry → List (List ℕ) → List ℕ) → Prints (g.R.Report.entries c.args.report.now) c.args.pipeline.plan
-    (g.R.Report.printed c.args.report.now) text
-    → BreaksOff g.O.Sink.taken g.O.Sink.faults (views_text (text of) c.args.every (words_of all)) (fault_of c.args.packets) c.args.out.now
-    c.write_view.new.out answer)
-    c.from_residual-in_err-write_view.result c.in_err-write_view.field-0.0 c.from_residual-in_err-write_view.ensures.1
-    (λ text prints.
-    view_broke (text of) c.args.every all g.O.Sink.taken g.O.Sink.faults (fault_of c.args.packets) c.args.out.now c.views.out
-    c.write_view.new.out c.views.number (c.requires.viewed some).sound
-    was.multiple some way.within (was.written text prints) was.out_later c.in_err-write_view.field-0.0
-    (c.in_err-write_view.ensures.breaks_off text of (words_of all) (subst
-    (λ plan. Prints (g.R.Report.entries c.args.report.now) plan (g.R.Report.printed c.args.report.now) text) (sym plan) prints) seen))
+    err_is _ _ _ c.from_residual-in_err-write_view.ensures.1 (λ text prints.
+    view_broke (text of) _ all g.O.Sink.taken g.O.Sink.faults _ _ _ _ _ (c.requires.viewed some).sound was.multiple some way.within
+    (was.written text prints)
+    was.out_later _ (c.in_err-write_view.ensures.breaks_off text of (words_of all)
+    (subst (λ plan. Prints (g.R.Report.entries c.args.report.now) plan (g.R.Report.printed c.args.report.now) text) (sym plan) prints)
+    seen))
 
 pub returns-clause-written : goal.returns-clause-written
 returns-clause-written g c text prints =
@@ -168,9 +152,7 @@ returns-clause-turns g c =
     let schedule = c.args.schedule in
     let was = c.views.invariant in
     let done = c.in_ok-advance.ensures in
-    let whole = turns_to_the_end g.row.WAYS schedule.refresh schedule.lag c.views.number all c.args.pipeline
-    (replay_pipeline c.views.replay)
-    (replay_pipeline c.advance.new.self) was.way.within was.turns
+    let whole = turns_to_the_end _ _ _ c.views.number all _ _ _ was.way.within was.turns
     (done.all_turns (ap Ok c.if-branch.false) schedule all c.views.number was.way) in (
       length all,
       (done.end (ap Ok c.if-branch.false) schedule all c.views.number was.way).1,

@@ -19,5 +19,4 @@ returns-clause-ok g c =
 pub returns-clause-err : goal.returns-clause-err
 returns-clause-err g c =
     subst (λ groups. OnErr c.write_enclosed.result (TakesFront (g.O.Sink.taken c.args.out.now) (g.O.Sink.taken c.write_enclosed.new.out)
-    (c.args.text.now ++ enclosed_print c.args.self.now.typed groups)))
-    c.in_ok-groups.ensures.made c.write_enclosed.ensures.err
+    (c.args.text.now ++ enclosed_print c.args.self.now.typed groups))) c.in_ok-groups.ensures.made c.write_enclosed.ensures.err
