@@ -4,10 +4,8 @@ use Rattle.std.proofs.Common.{if◌then◌else◌}
 use Rattle.std.specs.Prelude.{is_some}
 use Rattle.std.specs.Result.{IsErrAnd}
 use Rattle.std.specs.Io.KnownBytes.{Appends}
-use Rattle.marple_base.specs.Faults.{Rose}
 use Rattle.marple_base.specs.Inputs.{Input}
 use Rattle.marple_base.specs.Sink.{TakesFront}
-use Rattle.marple_base.specs.declared.field.FieldSet.{FieldSet}
 use Rattle.marple_base.specs.declared.inputs.Which.{Which}
 use Rattle.marple_base.specs.declared.inputs.Which.TheVariants.{Query, Trace}
 use Rattle.query_lang.specs.declared.fault.QueryFault.{QueryFault}
@@ -25,15 +23,12 @@ use Rattle.trace_drive.specs.declared.answer.RunError.{RunError}
 use Rattle.trace_drive.specs.declared.answer.RunError.TheVariants as breaks
 use Rattle.trace_drive.proofs.Breaking.{nothing_taken}
 use Rattle.trace_drive.proofs.WholePackets.{read_whole}
-use Rattle.query_run.specs.Views.{views_text}
 use Rattle.query_run.specs.Runs.{query_ends}
-use Rattle.query_tables.specs.Tables.{query_text}
 use Rattle.switch_core.specs.PlanLanes.{PipelineStands, PipelineView}
-use Rattle.queue_sim.specs.TraceText.{trace_text}
 use Rattle.accepted_query.specs.Accepted.{accepted, query_fault, fault_in}
 use Rattle.command_line.specs.Command.{ways_number}
 use Rattle.command_line.specs.declared.command.Command.{Command}
-use Rattle.command_line.specs.declared.command.Command.TheVariants.{Run, Plan, Gen, Trial}
+use Rattle.command_line.specs.declared.command.Command.TheVariants.{Run, Plan, Trial}
 use Rattle.command_line.specs.declared.command.Generation.{Generation}
 use Rattle.command_line.specs.declared.setting.Setting.{Setting}
 use Rattle.command_line.specs.declared.setting.Ways.{Ways}
@@ -42,10 +37,10 @@ use Rattle.query_run.specs.declared.driven.Driven.{Driven}
 use Rattle.query_run.proofs.QueryEnds.{machines_are}
 use Rattle.marple_cli.specs.Call.{ToldOf}
 use Rattle.marple_cli.specs.Driven.{DrivenAfter, Leaves, StandsForEnd}
-use Rattle.command_answers.specs.Phases.{OperandEnds, QueryEnds, ReadEnds, TraceEnds, WriteEnds, status_for}
+use Rattle.command_answers.specs.Phases.{OperandEnds, QueryEnds, TraceEnds, WriteEnds, status_for}
 use Rattle.marple_cli.specs.Ends.{Ends, QueryTold, status_of}
 use Rattle.command_answers.specs.OwnChecks.{fault_after, fault_with}
-use Rattle.marple_cli.specs.Output.{IsAccepted, IsRead, Source, defined_text, fault_for, output, read_packets, refusal, run_text}
+use Rattle.marple_cli.specs.Output.{IsAccepted, IsRead, Source, defined_text, output, read_packets, refusal}
 use Rattle.marple_cli.specs.Output.{stages_text, tables_text, made_packets, takes, trace_refusal}
 use Rattle.accepted_query.specs.TrialQuery.{trial_query}
 use Rattle.command_answers.specs.declared.status.Status.{Status}
@@ -94,14 +89,23 @@ defined_is command query trace fault text accepts same is = parted (refusal comm
         some_none : {x : QueryFault} → Some x ≡ None → ⊥
         some_none e = cc
 
+-- what a status says of a command, from which it can be found of which command, inputs and output
+pub record Ended {O : Type 0} (taken : O → Option (List ℕ)) (faults : O → ℕ) (command : Command) (before after : Which → Input)
+    (old new : O) (status : Status) : Type 0 where
+  pub ends : Ends taken faults command before after old new status
+
 module _ {O : Type 0} (taken : O → Option (List ℕ)) (faults : O → ℕ) (command : Command) (before after : Which → Input) where
+  -- the status of an answer that hands it on
+  pub handed_on : (old new : O) (result : Result (Unit {0}) Status) (status : Status) → IsErrAnd result (λ found. found ≡ status)
+      → Ended taken faults command before after old new status → Ends taken faults command before after old new (status_of result)
+  handed_on old new result status is ended =
+      subst (Ends taken faults command before after old new) (sym (status_is result status is)) ended.ends
+
   nothing_written : (out : O) → after Trace ≡ before Trace → Ends taken faults command before after out out statuses.Memory
   nothing_written out kept = (λ query trace holds. nothing_taken (taken out) _, λ query takes is read refused. (refl, kept))
 
-  pub memory_ends : (out : O) → after Trace ≡ before Trace → (result : Result (Unit {0}) Status)
-      → IsErrAnd result (λ found. found ≡ statuses.Memory) → Ends taken faults command before after out out (status_of result)
-  memory_ends out kept result is =
-      subst (Ends taken faults command before after out out) (sym (status_is result statuses.Memory is)) (nothing_written out kept)
+  pub memory_ended : (out : O) → after Trace ≡ before Trace → Ended taken faults command before after out out statuses.Memory
+  memory_ended out kept = record { ends = nothing_written out kept }
 
   -- the first operand wasn't read, or it was refused: each such fault of its text is the one for which the command refuses it
   module _ (Refuses : List ℕ → QueryFault → Type 0) (by : (query : Source) (fault : QueryFault) → IsRead command query
@@ -123,20 +127,15 @@ module _ {O : Type 0} (taken : O → Option (List ℕ)) (faults : O → ℕ) (co
     by_operand (statuses.TraceRefused fault) ended = absurd ended
     by_operand statuses.OutputFault ended = absurd ended
 
-    pub operand_ends_it : (result : Result (Unit {0}) Status) (status : Status) → IsErrAnd result (λ found. found ≡ status)
-        → OperandEnds Refuses (before Query) (after Query) status → Ends taken faults command before after out out (status_of result)
-    operand_ends_it result status is ended =
-        subst (Ends taken faults command before after out out) (sym (status_is result status is)) (by_operand status ended)
+    pub operand_ended : (status : Status) → OperandEnds Refuses (before Query) (after Query) status
+        → Ended taken faults command before after out out status
+    operand_ended status ended = record { ends = by_operand status ended }
 
   -- the same for the text of a query with these faults
-  pub query_ends_it : (fault : List ℕ → Option QueryFault) → ((query : Source) → refusal command query ≡ fault query.text) → (out : O)
-      → takes command Query ≡ true → after Trace ≡ before Trace
-      → (result : Result (Unit {0}) Status) (status : Status) → IsErrAnd result (λ found. found ≡ status)
-      → QueryEnds fault (before Query) (after Query) status
-      → Ends taken faults command before after out out (status_of result)
-  query_ends_it fault same out has kept result status is ended =
-      operand_ends_it (λ text found. fault text ≡ Some found) (λ query found read refused. same query ∙ refused) out has kept result status
-      is ended
+  pub query_ended : (fault : List ℕ → Option QueryFault) → ((query : Source) → refusal command query ≡ fault query.text) → (out : O)
+      → takes command Query ≡ true → after Trace ≡ before Trace → (status : Status) → QueryEnds fault (before Query) (after Query) status
+      → Ended taken faults command before after out out status
+  query_ended fault same = operand_ended (λ text found. fault text ≡ Some found) (λ query found read refused. same query ∙ refused)
 
   module _ (old new : O) (accepts : QueryTold command before (λ query. refusal command query ≡ None)) where
     -- a command whose text is known before it is written
@@ -168,16 +167,9 @@ module _ {O : Type 0} (taken : O → Option (List ℕ)) (faults : O → ℕ) (co
       by_writing (statuses.QueryRefused fault) ended = absurd ended
       by_writing (statuses.TraceRefused fault) ended = absurd ended
 
-      pub write_ends_it : (result : Result (Unit {0}) Status) (status : Status) → IsErrAnd result (λ found. found ≡ status)
-          → WriteEnds taken faults text old new status
-          → Ends taken faults command before after old new (status_of result)
-      write_ends_it result status is ended = subst (Ends taken faults command before after old new) (sym (status_is result status is))
-          (by_writing status ended)
-
-      pub cut_off : (result : Result (Unit {0}) Status) → IsErrAnd result (λ found. found ≡ statuses.OutputFault)
-          → Rose (faults old) (faults new) → TakesFront (taken old) (taken new) text
-          → Ends taken faults command before after old new (status_of result)
-      cut_off result is rose front = write_ends_it result statuses.OutputFault is (rose, front)
+      pub writing_ended : (status : Status) → WriteEnds taken faults text old new status
+          → Ended taken faults command before after old new status
+      writing_ended status ended = record { ends = by_writing status ended }
 
     -- a command with a trace: these are the faults for which it refuses the trace, and the text that it writes for it
     module _ (fault : List ℕ → Option TraceFault) (text : List ℕ → List ℕ) (has_query : takes command Query ≡ true)
@@ -198,19 +190,17 @@ module _ {O : Type 0} (taken : O → Option (List ℕ)) (faults : O → ℕ) (co
         λ query trace holds. record {
           accepted = record {
             by_query = accepted_query query trace holds;
-            by_trace = (same query trace holds).0
-                ∙ told_trace (λ trace. fault trace ≡ None) sound query trace holds;
+            by_trace = (same query trace holds).0 ∙ told_trace (λ trace. fault trace ≡ None) sound query trace holds;
           };
           whole = subst (Appends (taken old) (taken new)) (sym (same query trace holds).1)
               (told_trace (λ trace. Appends (taken old) (taken new) (text trace)) whole query trace holds);
         },
       )
 
-      by_trace : (status : Status) → TraceEnds taken faults fault text (before Trace) (after Trace) old new status
+      pub by_trace : (status : Status) → TraceEnds taken faults fault text (before Trace) (after Trace) old new status
           → Ends taken faults command before after old new status
       by_trace statuses.Memory ended = (
-        λ query trace holds.
-            subst (TakesFront (taken old) (taken new)) (sym (defined_is command query trace (fault trace) (text trace)
+        λ query trace holds. subst (TakesFront (taken old) (taken new)) (sym (defined_is command query trace (fault trace) (text trace)
             (accepted_query query trace holds) (same query trace holds).0 (same query trace holds).1))
             (told_trace (λ trace. TakesFront (taken old) (taken new) (text_unless (fault trace) (text trace))) ended query trace holds),
         λ query has is read refused. absurd (refused (accepts query has is read)),
@@ -221,8 +211,7 @@ module _ {O : Type 0} (taken : O → Option (List ℕ)) (faults : O → ℕ) (co
         accepts,
         λ query trace holds. (
           accepted_query query trace holds,
-          (same query trace holds).0
-              ∙ told_trace (λ trace. fault trace ≡ Some found) ended.0 query trace holds,
+          (same query trace holds).0 ∙ told_trace (λ trace. fault trace ≡ Some found) ended.0 query trace holds,
         ),
         ended.1,
       )
@@ -242,12 +231,6 @@ module _ {O : Type 0} (taken : O → Option (List ℕ)) (faults : O → ℕ) (co
       by_trace (statuses.InputFault Query) ended = absurd ended
       by_trace (statuses.QueryRefused found) ended = absurd ended
 
-      pub trace_ends_it : (result : Result (Unit {0}) Status) (status : Status) → IsErrAnd result (λ found. found ≡ status)
-          → TraceEnds taken faults fault text (before Trace) (after Trace) old new status
-          → Ends taken faults command before after old new (status_of result)
-      trace_ends_it result status is ended = subst (Ends taken faults command before after old new) (sym (status_is result status is))
-          (by_trace status ended)
-
 -- the pipeline of a query's plan, which represents the machines of the plan at the end, represents those of the query
 pub query_stands : (setting : Setting) (found : TypedQuery) (plan : PlanParts) → IsPlanOf found plan → (p : PipelineView) → p.plan ≡ plan
     → (packets : List (List ℕ)) → AreWhole packets
@@ -255,8 +238,7 @@ pub query_stands : (setting : Setting) (found : TypedQuery) (plan : PlanParts) �
     × PipelineStands p (query_ends found (geometry_of setting) packets)
 query_stands setting found plan of_query p same packets whole stands = (
   subst (IsPlanOf found) (sym same) of_query,
-  subst (PipelineStands p)
-      (machines_are found plan (geometry_of setting) packets of_query whole) stands,
+  subst (PipelineStands p) (machines_are found plan (geometry_of setting) packets of_query whole) stands,
 )
 
 -- a run whose query was accepted
@@ -265,28 +247,15 @@ module _ (setting : Setting) (every : ℕ) (before : Which → Input) (found : T
   read : ToldOf (Run setting every) before (λ query trace. accepted query.text ≡ Ok found)
   read query trace holds = told (λ text. accepted text ≡ Ok found) (before Query).left query.text known (holds.of_query refl)
 
-  pub run_is : (reads : FieldSet) → reads ≡ reads_of found → ToldOf (Run setting every) before
-      (λ query trace. (trace_refusal (Run setting every) query trace ≡ traces.trace_fault trace reads)
-      × (output (Run setting every) query trace ≡ views_text (query_text found (geometry_of setting)) every
-      (words_of (traces.packets trace reads))))
-  run_is reads same query trace holds = (
-    ap (λ one. fault_for one trace) (read query trace holds) ∙ ap (traces.trace_fault trace) (sym same),
-    ap (λ one. run_text setting every one (read_packets trace)) (read query trace holds)
-        ∙ ap (λ reads. views_text (query_text found (geometry_of setting)) every (words_of (traces.packets trace reads))) (sym same),
-  )
-
   pub run_leaves : (plan : PlanParts) → IsPlanOf found plan → (old : Option Driven) (driven : Driven) → IsLeftBy setting driven
-      → (pipeline_in driven).plan ≡ plan
-      → IfSome (before Trace).left (λ trace. PipelineStands (pipeline_in driven)
+      → (pipeline_in driven).plan ≡ plan → IfSome (before Trace).left (λ trace. PipelineStands (pipeline_in driven)
       (end_machines plan (geometry_of setting) (words_of (traces.packets trace plan.reads))))
       → Leaves (Run setting every) before old (Some driven)
   run_leaves plan of_query old driven left same stands = (
     left,
-    λ query trace holds.
-        subst (λ one. StandsForEnd setting one (read_packets trace) (pipeline_in driven)) (sym (read query trace holds))
+    λ query trace holds. subst (λ one. StandsForEnd setting one (read_packets trace) (pipeline_in driven)) (sym (read query trace holds))
         (query_stands setting found plan of_query (pipeline_in driven) same (words_of (traces.packets trace (reads_of found)))
-        (read_whole trace (reads_of found))
-        (subst (λ reads. PipelineStands (pipeline_in driven) (end_machines plan (geometry_of setting)
+        (read_whole trace (reads_of found)) (subst (λ reads. PipelineStands (pipeline_in driven) (end_machines plan (geometry_of setting)
         (words_of (traces.packets trace reads)))) of_query.reads
         (told (λ trace. PipelineStands (pipeline_in driven) (end_machines plan (geometry_of setting)
         (words_of (traces.packets trace plan.reads)))) (before Trace).left trace stands (holds.of_trace refl)))),
@@ -300,31 +269,13 @@ stages_are_text ways before found text known is query trace holds =
     let read = told (λ text. accepted text ≡ Ok found) (before Query).left query.text known (holds.of_query refl) in
     (record { by_query = ap fault_in read; by_trace = refl }, is ∙ sym (ap (stages_text ways) read))
 
--- commands without operands
-
-abbrev pub NoRefusal : Command → Type 0
-NoRefusal command = (query : Source) (trace : List ℕ) → IsAccepted command query trace
-
-pub nothing_refused : (command : Command) (before : Which → Input) → NoRefusal command
-    → QueryTold command before (λ query. refusal command query ≡ None)
-nothing_refused command before none query takes is known = (none query []).by_query
-
-pub gen_refuses_nothing : (generation : Generation) → NoRefusal (Gen generation)
-gen_refuses_nothing generation query trace = record { by_query = refl; by_trace = refl }
-
-pub trial_refuses_nothing : (generation : Generation) (setting : Setting) → NoRefusal (Trial generation setting)
-trial_refuses_nothing generation setting query trace = record { by_query = refl; by_trace = refl }
-
-pub trace_is_text : (generation : Generation) (before : Which → Input) (text : List ℕ) → text ≡ trace_text (made_packets generation)
-    → IsText (Gen generation) before text
-trace_is_text generation before text is query trace holds = (gen_refuses_nothing generation query trace, is)
-
+-- a trial, which has no operands
 abbrev pub trial_text : Generation → Setting → List ℕ
 trial_text generation setting = tables_text setting (accepted trial_query) (λ q. made_packets generation)
 
 pub trial_is_text : (generation : Generation) (setting : Setting) (before : Which → Input)
     → IsText (Trial generation setting) before (trial_text generation setting)
-trial_is_text generation setting before query trace holds = (trial_refuses_nothing generation setting query trace, refl)
+trial_is_text generation setting before query trace holds = (record { by_query = refl; by_trace = refl }, refl)
 
 -- no status but Ok changes the working parts
 module _ (command : Command) (before : Which → Input) (old new : Option Driven) (kept : new ≡ old) where
@@ -347,25 +298,7 @@ pub operand_not_ok : (Refuses : List ℕ → QueryFault → Type 0) (before afte
     → OperandEnds Refuses before after status → status ≡ statuses.Ok → ⊥
 operand_not_ok Refuses before after status ended is = subst (OperandEnds Refuses before after) is ended
 
-pub query_not_ok : (fault : List ℕ → Option QueryFault) (before after : Input) (status : Status) → QueryEnds fault before after status
-    → status ≡ statuses.Ok → ⊥
-query_not_ok fault before after status ended is = operand_not_ok (λ query found. fault query ≡ Some found) before after status ended is
-
-pub memory_not_ok : statuses.Memory ≡ statuses.Ok → ⊥
-memory_not_ok is = cc
-
 pub answer_not_ok : (answer : RunError) → status_for answer ≡ statuses.Ok → ⊥
 answer_not_ok (breaks.Refused fault) is = cc
 answer_not_ok breaks.Memory is = cc
 answer_not_ok breaks.Failed is = cc
-
-pub read_not_ok : (before after : Input) (status : Status) → ReadEnds before after status → status ≡ statuses.Ok → ⊥
-read_not_ok before after status ended is = subst (ReadEnds before after) is ended
-
-module _ {O : Type 0} (taken : O → Option (List ℕ)) (faults : O → ℕ) (old new : O) where
-  pub trace_not_ok : (fault : List ℕ → Option TraceFault) (text : List ℕ → List ℕ) (before after : Input) (status : Status)
-      → TraceEnds taken faults fault text before after old new status → status ≡ statuses.Ok → ⊥
-  trace_not_ok fault text before after status ended is = subst (TraceEnds taken faults fault text before after old new) is ended
-
-  pub write_not_ok : (text : List ℕ) (status : Status) → WriteEnds taken faults text old new status → status ≡ statuses.Ok → ⊥
-  write_not_ok text status ended is = subst (WriteEnds taken faults text old new) is ended

@@ -24,13 +24,12 @@ use Rattle.plan_file.proofs.TextLaws.{says_one}
 use Rattle.plan_loader.specs.Meaning.{plan_output, reads_in}
 use Rattle.plan_loader.specs.Parts.{IsPlanFrom}
 use Rattle.plan_loader.specs.declared.loaded.LoadedPlan.{LoadedPlan}
-use Rattle.marple_cli.specs.Call.{ToldOf}
 use Rattle.marple_cli.specs.Driven.{Leaves, StandsForPlan}
 use Rattle.command_answers.specs.Phases.{IsReadFrom}
-use Rattle.marple_cli.specs.Ends.{QueryTold}
 use Rattle.command_answers.specs.OwnChecks.{fault_after}
-use Rattle.marple_cli.specs.Output.{SaysPlan, Source, of_accepted, output, plan_tables_text, refusal, trace_refusal}
+use Rattle.marple_cli.specs.Output.{SaysPlan, Source, of_accepted, plan_tables_text, refusal}
 use Rattle.marple_cli.proofs.Ending.{told}
+use Rattle.marple_cli.proofs.Traced.{IsOver}
 
 -- a fault is given by its parts
 same_fault : (one other : QueryFault) → one.kind ≡ other.kind → one.span.start ≡ other.span.start → one.span.end ≡ other.span.end
@@ -65,21 +64,22 @@ module _ (setting : Setting) (before : Which → Input) (loaded : LoadedPlan) (i
   says query left read = says_alone query.text is.made query.plan (told (λ text. Says text is.made) (before Query).left query.text is.says
       left) read
 
-  pub plan_accepted : QueryTold (RunPlan setting) before (λ query. refusal (RunPlan setting) query ≡ None)
-  plan_accepted query has left read = ap (fault_after (λ (made : Made). None)) (says query left read)
-
-  pub plan_is : ToldOf (RunPlan setting) before (λ query trace. (trace_refusal (RunPlan setting) query trace
-      ≡ (contents trace loaded.plan.reads).fault)
-      × (output (RunPlan setting) query trace ≡ views_text (plan_output is.made (geometry_of setting)) 0
-      (words_of (contents trace loaded.plan.reads).packets)))
-  plan_is query trace holds =
-      let plan = says query (holds.of_query refl) holds.read in
-      let reads = sym is.from.plan.reads in (
-        ap (of_accepted None (λ made. traces.trace_fault trace (reads_in made))) plan ∙ ap (traces.trace_fault trace) reads,
-        ap (of_accepted [] (plan_tables_text setting trace)) plan
-            ∙ ap (λ fields. plan_output is.made (geometry_of setting) (words_of (packets trace fields))) reads
-            ∙ sym (tables_alone (plan_output is.made (geometry_of setting)) (words_of (packets trace loaded.plan.reads))),
-      )
+  pub plan_over : (middle : Which → Input) → middle Trace ≡ before Trace → IsOver (RunPlan setting) before middle loaded.plan.reads
+      (λ trace. trace.fault) (λ trace. views_text (plan_output is.made (geometry_of setting)) 0 (words_of trace.packets))
+  plan_over middle kept = record {
+    accepts = λ query has left read. ap (fault_after (λ (made : Made). None)) (says query left read);
+    has_query = refl;
+    has_trace = refl;
+    same = λ query trace holds.
+        let plan = says query (holds.of_query refl) holds.read in
+        let reads = sym is.from.plan.reads in (
+          ap (of_accepted None (λ made. traces.trace_fault trace (reads_in made))) plan ∙ ap (traces.trace_fault trace) reads,
+          ap (of_accepted [] (plan_tables_text setting trace)) plan
+              ∙ ap (λ fields. plan_output is.made (geometry_of setting) (words_of (packets trace fields))) reads
+              ∙ sym (tables_alone (plan_output is.made (geometry_of setting)) (words_of (packets trace loaded.plan.reads))),
+        );
+    kept = kept;
+  }
 
   pub plan_leaves : (old : Option Driven) (driven : Driven) → IsLeftBy setting driven → (pipeline_in driven).plan ≡ loaded.plan
       → IfSome (before Trace).left (λ trace. PipelineStands (pipeline_in driven)

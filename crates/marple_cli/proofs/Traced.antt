@@ -1,6 +1,5 @@
 -- How a command over a trace ends, phase by phase.
-use Rattle.std.proofs.Common.{◌≡◌, ◌+◌, ℕ, true, List, take, Option, None, IfSome, Result, subst}
-use Rattle.std.specs.Result.{IsErrAnd}
+use Rattle.std.proofs.Common.{◌≡◌, ◌+◌, ℕ, true, List, take, Option, None, IfSome, subst}
 use Rattle.std.specs.Io.KnownBytes.{Appends}
 use Rattle.marple_base.specs.Inputs.{Input}
 use Rattle.marple_base.specs.declared.field.FieldSet.{FieldSet}
@@ -14,56 +13,65 @@ use Rattle.trace_drive.specs.declared.answer.RunError.{RunError}
 use Rattle.command_line.specs.declared.command.Command.{Command}
 use Rattle.marple_cli.specs.Call.{ToldOf}
 use Rattle.command_answers.specs.Phases.{ReadEnds, TraceEnds, status_for}
-use Rattle.marple_cli.specs.Ends.{Ends, QueryTold, status_of}
+use Rattle.marple_cli.specs.Ends.{Ends, QueryTold}
 use Rattle.marple_cli.specs.Output.{output, refusal, takes, trace_refusal}
 use Rattle.command_answers.specs.declared.status.Status.{Status}
 use Rattle.command_answers.specs.declared.status.Status.TheVariants as statuses
-use Rattle.marple_cli.proofs.Ending.{trace_ends_it, trace_written}
+use Rattle.marple_cli.proofs.Ending.{Ended, by_trace, trace_written}
 use Rattle.command_answers.proofs.Limits.{read_ends, told_contents, trace_ends}
 
--- A command over a trace refuses it for this fault of its bytes, and writes this text for them. The trace was unread until then.
-module _ {O : Type 0} (taken : O → Option (List ℕ)) (faults : O → ℕ) (command : Command) (before middle after : Which → Input)
-    (accepts : QueryTold command before (λ query. refusal command query ≡ None))
-    (reads : FieldSet) (fault : Contents → Option TraceFault) (text : Contents → List ℕ) (has_query : takes command Query ≡ true)
-    (has_trace : takes command Trace ≡ true)
-    (same : ToldOf command before (λ query trace. (trace_refusal command query trace ≡ fault (contents trace reads))
-    × (output command query trace ≡ text (contents trace reads))))
-    (kept : middle Trace ≡ before Trace) where
-  pub ends_by : (old new : O) (result : Result (Unit {0}) Status) (status : Status) → IsErrAnd result (λ found. found ≡ status)
-      → TraceEnds taken faults (λ trace. fault (contents trace reads)) (λ trace. text (contents trace reads)) (middle Trace) (after Trace)
-      old new status
-      → Ends taken faults command before after old new (status_of result)
-  ends_by old new result status is ended =
-      trace_ends_it taken faults command before after old new accepts (λ trace. fault (contents trace reads))
-      (λ trace. text (contents trace reads)) has_query has_trace same result status is
-      (subst (λ one. TraceEnds taken faults (λ trace. fault (contents trace reads)) (λ trace. text (contents trace reads)) one (after Trace)
-      old new status) kept ended)
+-- A command over a trace refuses it for this fault of what is read of it, and writes this text. The trace was unread until then.
+pub record IsOver (command : Command) (before middle : Which → Input) (reads : FieldSet) (fault : Contents → Option TraceFault)
+    (text : Contents → List ℕ) : Type 0 where
+  pub accepts : QueryTold command before (λ query. refusal command query ≡ None)
+  pub has_query : takes command Query ≡ true
+  pub has_trace : takes command Trace ≡ true
+  pub same : ToldOf command before (λ query trace. (trace_refusal command query trace ≡ fault (contents trace reads))
+      × (output command query trace ≡ text (contents trace reads)))
+  pub kept : middle Trace ≡ before Trace
+
+module _ {O : Type 0} (taken : O → Option (List ℕ)) (faults : O → ℕ) {command : Command} {before middle : Which → Input}
+    (after : Which → Input) {reads : FieldSet} {fault : Contents → Option TraceFault} {text : Contents → List ℕ}
+    (over : IsOver command before middle reads fault text) where
+  pub ends_by : (old new : O) (status : Status) → TraceEnds taken faults (λ trace. fault (contents trace reads))
+      (λ trace. text (contents trace reads)) (middle Trace) (after Trace) old new status
+      → Ended taken faults command before after old new status
+  ends_by old new status ended = record {
+    ends = by_trace taken faults command before after old new over.accepts (λ trace. fault (contents trace reads))
+        (λ trace. text (contents trace reads)) over.has_query over.has_trace over.same status
+        (subst (λ one. TraceEnds taken faults (λ trace. fault (contents trace reads)) (λ trace. text (contents trace reads)) one
+        (after Trace) old new status) over.kept ended);
+  }
+
+  pub is_not_ok : (old new : O) (status : Status) → TraceEnds taken faults (λ trace. fault (contents trace reads))
+      (λ trace. text (contents trace reads)) (middle Trace) (after Trace) old new status → status ≡ statuses.Ok → ⊥
+  is_not_ok old new status ended is =
+      subst (TraceEnds taken faults (λ trace. fault (contents trace reads)) (λ trace. text (contents trace reads)) (middle Trace)
+      (after Trace) old new) is ended
 
   pub written_by : (old new : O) → IfSome (middle Trace).left (λ trace. fault (contents trace reads) ≡ None)
       → IfSome (middle Trace).left (λ trace. Appends (taken old) (taken new) (text (contents trace reads)))
       → Ends taken faults command before after old new statuses.Ok
   written_by old new sound whole =
-      trace_written taken faults command before after old new accepts
-      (λ trace. fault (contents trace reads)) (λ trace. text (contents trace reads)) has_query has_trace same
-      (subst (λ one. IfSome one.left (λ trace. fault (contents trace reads) ≡ None)) kept sound)
-      (subst (λ one. IfSome one.left (λ trace. Appends (taken old) (taken new) (text (contents trace reads)))) kept whole)
+      trace_written taken faults command before after old new over.accepts
+      (λ trace. fault (contents trace reads)) (λ trace. text (contents trace reads)) over.has_query over.has_trace over.same
+      (subst (λ one. IfSome one.left (λ trace. fault (contents trace reads) ≡ None)) over.kept sound)
+      (subst (λ one. IfSome one.left (λ trace. Appends (taken old) (taken new) (text (contents trace reads)))) over.kept whole)
 
-  pub not_read : (out : O) (result : Result (Unit {0}) Status) (status : Status) → IsErrAnd result (λ found. found ≡ status)
-      → ReadEnds (middle Trace) (after Trace) status
-      → Ends taken faults command before after out out (status_of result)
-  not_read out result status is ended =
-      ends_by out out result status is (read_ends taken faults (λ trace. fault (contents trace reads))
+  pub not_read : (out : O) (status : Status) → ReadEnds (middle Trace) (after Trace) status
+      → Ended taken faults command before after out out status
+  not_read out status ended =
+      ends_by out out status (read_ends taken faults (λ trace. fault (contents trace reads))
       (λ trace. text (contents trace reads)) (middle Trace) (after Trace) out status ended)
 
   -- the bytes that were read
   module _ (bytes slice : List ℕ) (read : IfSome (middle Trace).left (λ trace. bytes ≡ take (MAX_TRACE + 1) trace))
       (sliced : slice ≡ bytes) where
-    pub broken_off : (old new : O) (result : Result (Unit {0}) Status) (answer : RunError)
-        → IsErrAnd result (λ found. found ≡ status_for answer)
+    pub broken_off : (old new : O) (answer : RunError)
         → BreaksOff taken faults (text (contents slice reads)) (fault (contents slice reads)) old new answer
-        → Ends taken faults command before after old new (status_of result)
-    broken_off old new result answer is ended =
-        ends_by old new result (status_for answer) is (trace_ends taken faults reads fault text (middle Trace) (after Trace) old new bytes
+        → Ended taken faults command before after old new (status_for answer)
+    broken_off old new answer ended =
+        ends_by old new (status_for answer) (trace_ends taken faults reads fault text (middle Trace) (after Trace) old new bytes
         slice answer read sliced ended)
 
     pub whole_written : (old new : O) → fault (contents slice reads) ≡ None → Appends (taken old) (taken new) (text (contents slice reads))

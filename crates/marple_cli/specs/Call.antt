@@ -34,8 +34,7 @@ pub record Holds (command : Command) (inputs : Which → Input) (query : Source)
 -- P holds of the command and the bytes of its operands, where a command is asked for and these bytes are known.
 abbrev pub WhereTold : Option Command → (Which → Input) → (Command → Source → List ℕ → Type 0) → Type 0
 WhereTold asked inputs P =
-    (command : Command) (query : Source) (trace : List ℕ) → asked ≡ Some command → Holds command inputs query trace
-    → P command query trace
+    (command : Command) (query : Source) (trace : List ℕ) → asked ≡ Some command → Holds command inputs query trace → P command query trace
 
 -- P holds of the command and its query or plan, where a command with one is asked for and the bytes of its input are
 -- known, whether or not those of the other input are.

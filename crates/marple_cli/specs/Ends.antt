@@ -22,8 +22,7 @@ status_of (Ok done) = statuses.Ok
 status_of (Err status) = status
 
 -- What each status says of a command.
-module _ {O : Type 0} (taken : O → Option (List ℕ)) (faults : O → ℕ) (command : Command) (before after : Which
-    → Input) (old new : O) where
+module _ {O : Type 0} (taken : O → Option (List ℕ)) (faults : O → ℕ) (command : Command) (before after : Which → Input) (old new : O) where
   abbrev pub Ends : Status → Type 0
   Ends statuses.Ok = QueryTold command before (λ query. refusal command query ≡ None)
       × ToldOf command before (WritesOutput (taken old) (taken new) command)
@@ -52,5 +51,4 @@ module _ {O : Type 0} (taken : O → Option (List ℕ)) (faults : O → ℕ) (be
   abbrev pub Answers : Option Command → Status → Type 0
   Answers None status = (status ≡ statuses.Usage) × (new ≡ old) × ((which : Which) → after which ≡ before which)
   Answers (Some command) status =
-      Ends taken faults command before after old new status
-      × ((which : Which) → takes command which ≡ false → after which ≡ before which)
+      Ends taken faults command before after old new status × ((which : Which) → takes command which ≡ false → after which ≡ before which)

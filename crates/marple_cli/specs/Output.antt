@@ -154,6 +154,4 @@ output (RunPlan setting) query trace = of_accepted [] (plan_tables_text setting 
 -- the text that is defined for the command: nothing where the query or the trace is refused
 abbrev pub defined_text : Command → Source → List ℕ → List ℕ
 defined_text command query trace =
-    if is_some (refusal command query) then []
-    else if is_some (trace_refusal command query trace) then []
-    else output command query trace
+    if is_some (refusal command query) then [] else if is_some (trace_refusal command query trace) then [] else output command query trace

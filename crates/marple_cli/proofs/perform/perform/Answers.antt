@@ -1,4 +1,4 @@
-use Rattle.std.proofs.Common.{Some, refl}
+use Rattle.std.proofs.Common.{refl, Some}
 use Rattle.marple_cli.proofs.Taken.{none_lost}
 use Rattle.marple_cli.proofs.perform.perform.Goals as goal
 

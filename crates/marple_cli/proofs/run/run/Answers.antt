@@ -1,57 +1,49 @@
 -- a run ends as its phases do: the query is read and accepted, and then its report is made over the trace
-use Rattle.std.proofs.Common.{Some, IfSome, refl, subst}
-use Rattle.marple_base.specs.Inputs.{Input}
-use Rattle.marple_base.specs.declared.inputs.Which.{Which}
-use Rattle.marple_base.specs.declared.inputs.Which.TheVariants.{Query, Trace}
-use Rattle.accepted_query.specs.Accepted.{query_fault}
+use Rattle.marple_base.specs.declared.inputs.Which.TheVariants.{Query}
 use Rattle.command_line.specs.declared.command.Command.TheVariants.{Run}
+use Rattle.std.proofs.Common.{◌≡◌, IfSome, refl, subst, Some}
+use Rattle.marple_base.specs.Inputs.{Input}
+use Rattle.accepted_query.specs.Accepted.{query_fault}
 use Rattle.query_run.specs.Driven.{geometry_of, pipeline_in}
-use Rattle.query_run.specs.Views.{views_text}
 use Rattle.query_tables.specs.Tables.{query_text}
 use Rattle.switch_core.specs.PlanLanes.{PipelineStands}
 use Rattle.trace_drive.specs.Drives.{end_machines, words_of}
-use Rattle.trace_reader.specs.Traces.{Contents, contents}
-use Rattle.marple_cli.proofs.Ending.{driven_kept, query_ends_it, query_not_ok, query_told, run_is, run_leaves, trace_not_ok}
+use Rattle.trace_reader.specs.Traces.{contents}
+use Rattle.marple_cli.proofs.Ending.{driven_kept, handed_on, run_leaves, query_ended, operand_not_ok}
 use Rattle.marple_cli.proofs.Taken.{both_lost, query_lost}
-use Rattle.marple_cli.proofs.Traced.{ends_by, written_by}
+use Rattle.marple_cli.proofs.Texts.{run_over}
+use Rattle.marple_cli.proofs.Traced.{ends_by, written_by, is_not_ok}
 use Rattle.marple_cli.proofs.run.run.Goals as goal
 
 pub report_over-requires-clause-may_print : goal.report_over-requires-clause-may_print
-report_over-requires-clause-may_print g c =
-    (c.of-report.ensures.reports c.in_ok-query.query.plan c.in_ok-query.ensures.plan).may_print
+report_over-requires-clause-may_print g c = (c.of-report.ensures.reports _ c.in_ok-query.ensures.plan).may_print
 
 pub returns-in_err-query-clause-ends : goal.returns-in_err-query-clause-ends
 returns-in_err-query-clause-ends g c =
-    query_ends_it g.O.Sink.taken g.O.Sink.faults (Run c.args.setting c.args.every) (g.I.Inputs.input c.args.inputs.now)
-    (g.I.Inputs.input c.read_query.new.inputs) query_fault (λ query. refl) c.args.out.now refl
-    c.in_err-query.ensures.trace_kept c.from_residual.result c.in_err-query.field-0.0 c.from_residual.ensures.1 c.in_err-query.ensures.err
+    handed_on g.O.Sink.taken g.O.Sink.faults (Run c.args.setting c.args.every) (g.I.Inputs.input c.args.inputs.now)
+    (g.I.Inputs.input c.read_query.new.inputs) c.args.out.now c.args.out.now _ _ c.from_residual.ensures.1
+    (query_ended _ _ _ _ _ query_fault (λ query. refl) _ refl c.in_err-query.ensures.trace_kept _ c.in_err-query.ensures.err)
 
 pub returns-in_err-query-clause-lost : goal.returns-in_err-query-clause-lost
 returns-in_err-query-clause-lost g c =
     query_lost (Some (Run c.args.setting c.args.every)) (g.I.Inputs.input c.args.inputs.now) (g.I.Inputs.input c.read_query.new.inputs)
-    c.read_query.ensures.lost
-    c.read_query.ensures.trace_kept
+    c.read_query.ensures.lost c.read_query.ensures.trace_kept
 
 pub returns-in_err-query-clause-driven : goal.returns-in_err-query-clause-driven
 returns-in_err-query-clause-driven g c =
-    driven_kept (Run c.args.setting c.args.every) (g.I.Inputs.input c.args.inputs.now) c.args.driven.now c.args.driven.now refl
-    c.from_residual.result c.in_err-query.field-0.0 c.from_residual.ensures.1
-    (query_not_ok query_fault (g.I.Inputs.input c.args.inputs.now Query) (g.I.Inputs.input c.read_query.new.inputs Query)
-    c.in_err-query.field-0.0 c.in_err-query.ensures.err)
+    driven_kept (Run c.args.setting c.args.every) (g.I.Inputs.input c.args.inputs.now) c.args.driven.now c.args.driven.now refl _ _
+    c.from_residual.ensures.1 (operand_not_ok (λ text found. query_fault text ≡ Some found) (g.I.Inputs.input c.args.inputs.now Query)
+    (g.I.Inputs.input c.read_query.new.inputs Query) c.in_err-query.field-0.0 c.in_err-query.ensures.err)
 
 pub returns-in_err-left-clause-ends : goal.returns-in_err-left-clause-ends
 returns-in_err-left-clause-ends g c =
-    let before : Which → Input = g.I.Inputs.input c.args.inputs.now in
     let q = c.in_ok-query.query.typed in
-    let plan = c.in_ok-query.query.plan in
-    let run = Run c.args.setting c.args.every in
-    let known = c.in_ok-query.ensures.ok in
-    let text = λ (found : Contents). views_text (query_text q (geometry_of c.args.setting)) c.args.every (words_of found.packets) in
-    ends_by g.O.Sink.taken g.O.Sink.faults run before (g.I.Inputs.input c.read_query.new.inputs) (g.I.Inputs.input c.report_over.new.inputs)
-    (query_told run before q (λ bytes. refl) known) plan.reads (λ found. found.fault) text refl refl
-    (run_is c.args.setting c.args.every before q known plan.reads c.in_ok-query.ensures.plan.reads) c.in_ok-query.ensures.trace_kept
-    c.args.out.now c.report_over.new.out c.from_residual-in_err-left.result c.in_err-left.field-0.0 c.from_residual-in_err-left.ensures.1
-    (c.in_err-left.ensures.err (query_text q) (c.of-report.ensures.reports plan c.in_ok-query.ensures.plan).prints)
+    let done = c.in_ok-query.ensures in
+    handed_on g.O.Sink.taken g.O.Sink.faults (Run c.args.setting c.args.every) (g.I.Inputs.input c.args.inputs.now)
+    (g.I.Inputs.input c.report_over.new.inputs) c.args.out.now c.report_over.new.out _ _ c.from_residual-in_err-left.ensures.1
+    (ends_by _ _ _ (run_over (g.I.Inputs.input c.args.inputs.now) q done.ok (g.I.Inputs.input c.read_query.new.inputs) done.trace_kept
+    c.args.setting _
+    done.plan.reads c.args.every) _ _ _ (c.in_err-left.ensures.err (query_text q) (c.of-report.ensures.reports _ done.plan).prints))
 
 pub returns-in_err-left-clause-lost : goal.returns-in_err-left-clause-lost
 returns-in_err-left-clause-lost g c =
@@ -62,29 +54,21 @@ returns-in_err-left-clause-lost g c =
 pub returns-in_err-left-clause-driven : goal.returns-in_err-left-clause-driven
 returns-in_err-left-clause-driven g c =
     let q = c.in_ok-query.query.typed in
-    let plan = c.in_ok-query.query.plan in
-    driven_kept (Run c.args.setting c.args.every) (g.I.Inputs.input c.args.inputs.now) c.args.driven.now c.args.driven.now refl
-    c.from_residual-in_err-left.result c.in_err-left.field-0.0 c.from_residual-in_err-left.ensures.1
-    (trace_not_ok g.O.Sink.taken g.O.Sink.faults c.args.out.now c.report_over.new.out (λ trace. (contents trace plan.reads).fault)
-    (λ trace. views_text (query_text q (geometry_of c.args.setting)) c.args.every (words_of (contents trace plan.reads).packets))
-    (g.I.Inputs.input c.read_query.new.inputs Trace)
-    (g.I.Inputs.input c.report_over.new.inputs Trace) c.in_err-left.field-0.0
-    (c.in_err-left.ensures.err (query_text q) (c.of-report.ensures.reports c.in_ok-query.query.plan c.in_ok-query.ensures.plan).prints))
+    let done = c.in_ok-query.ensures in
+    driven_kept (Run c.args.setting c.args.every) (g.I.Inputs.input c.args.inputs.now) c.args.driven.now c.args.driven.now refl _ _
+    c.from_residual-in_err-left.ensures.1 (is_not_ok g.O.Sink.taken g.O.Sink.faults (g.I.Inputs.input c.report_over.new.inputs)
+    (run_over (g.I.Inputs.input c.args.inputs.now) q done.ok (g.I.Inputs.input c.read_query.new.inputs) done.trace_kept c.args.setting _
+    done.plan.reads c.args.every) c.args.out.now c.report_over.new.out
+    c.in_err-left.field-0.0 (c.in_err-left.ensures.err (query_text q) (c.of-report.ensures.reports _ done.plan).prints))
 
 pub returns-clause-ends : goal.returns-clause-ends
 returns-clause-ends g c =
-    let before : Which → Input = g.I.Inputs.input c.args.inputs.now in
     let q = c.in_ok-query.query.typed in
-    let plan = c.in_ok-query.query.plan in
-    let run = Run c.args.setting c.args.every in
-    let known = c.in_ok-query.ensures.ok in
-    let text = λ (found : Contents). views_text (query_text q (geometry_of c.args.setting)) c.args.every (words_of found.packets) in
-    written_by g.O.Sink.taken g.O.Sink.faults run before (g.I.Inputs.input c.read_query.new.inputs)
-    (g.I.Inputs.input c.report_over.new.inputs)
-    (query_told run before q (λ bytes. refl) known) plan.reads (λ found. found.fault) text refl refl
-    (run_is c.args.setting c.args.every before q known plan.reads c.in_ok-query.ensures.plan.reads) c.in_ok-query.ensures.trace_kept
-    c.args.out.now c.report_over.new.out c.in_ok-left.ensures.accepted
-    (c.in_ok-left.ensures.written (query_text q) (c.of-report.ensures.reports plan c.in_ok-query.ensures.plan).prints)
+    let done = c.in_ok-query.ensures in
+    written_by g.O.Sink.taken g.O.Sink.faults (g.I.Inputs.input c.report_over.new.inputs)
+    (run_over (g.I.Inputs.input c.args.inputs.now) q done.ok (g.I.Inputs.input c.read_query.new.inputs) done.trace_kept c.args.setting _
+    done.plan.reads c.args.every) c.args.out.now c.report_over.new.out
+    c.in_ok-left.ensures.accepted (c.in_ok-left.ensures.written (query_text q) (c.of-report.ensures.reports _ done.plan).prints)
 
 pub returns-clause-lost : goal.returns-clause-lost
 returns-clause-lost g c =

@@ -1,49 +1,49 @@
-use Rattle.std.proofs.Common.{Some, ◌∙◌, ap, refl}
-use Rattle.command_line.specs.Command.{ways_number}
+-- stages end as their phases do: the query is read, its plan's text is made, and then it is written
 use Rattle.command_line.specs.declared.command.Command.TheVariants.{Plan}
+use Rattle.std.proofs.Common.{◌∙◌, ap, refl, Some}
+use Rattle.command_line.specs.Command.{ways_number}
 use Rattle.accepted_query.specs.Accepted.{query_fault}
+use Rattle.command_answers.specs.declared.status.Status.TheVariants.{OutputFault}
 use Rattle.stage_plan.specs.Planned.{shape_of}
 use Rattle.stage_plan.specs.Shape.{plan_text_of}
-use Rattle.marple_cli.proofs.Ending.{all_written, cut_off, memory_ends, query_ends_it, query_told, stages_are_text}
+use Rattle.marple_cli.proofs.Ending.{all_written, handed_on, query_told, stages_are_text, query_ended, memory_ended, writing_ended}
 use Rattle.marple_cli.proofs.Taken.{query_lost}
 use Rattle.marple_cli.proofs.staging.write_stages.Goals as goal
 
 pub returns-in_err-query-clause-ends : goal.returns-in_err-query-clause-ends
 returns-in_err-query-clause-ends g c =
-    query_ends_it g.O.Sink.taken g.O.Sink.faults (Plan c.args.ways) (g.I.Inputs.input c.args.inputs.now)
-    (g.I.Inputs.input c.read_query.new.inputs) query_fault (λ query. refl) c.args.out.now refl
-    c.in_err-query.ensures.trace_kept c.from_residual.result c.in_err-query.field-0.0 c.from_residual.ensures.1 c.in_err-query.ensures.err
+    handed_on g.O.Sink.taken g.O.Sink.faults (Plan c.args.ways) (g.I.Inputs.input c.args.inputs.now)
+    (g.I.Inputs.input c.read_query.new.inputs) c.args.out.now c.args.out.now _ _ c.from_residual.ensures.1
+    (query_ended _ _ _ _ _ query_fault (λ query. refl) _ refl c.in_err-query.ensures.trace_kept _ c.in_err-query.ensures.err)
 
 pub returns-in_err-text-clause-ends : goal.returns-in_err-text-clause-ends
 returns-in_err-text-clause-ends g c =
-    memory_ends g.O.Sink.taken g.O.Sink.faults (Plan c.args.ways) (g.I.Inputs.input c.args.inputs.now)
-    (g.I.Inputs.input c.read_query.new.inputs) c.args.out.now c.in_ok-query.ensures.trace_kept
-    c.from_residual-in_err-text.result c.from_residual-in_err-text.ensures.1
+    handed_on g.O.Sink.taken g.O.Sink.faults (Plan c.args.ways) (g.I.Inputs.input c.args.inputs.now)
+    (g.I.Inputs.input c.read_query.new.inputs) c.args.out.now c.args.out.now _ _ c.from_residual-in_err-text.ensures.1
+    (memory_ended _ _ _ _ _ _ c.in_ok-query.ensures.trace_kept)
 
 pub returns-in_err-write_all-clause-ends : goal.returns-in_err-write_all-clause-ends
 returns-in_err-write_all-clause-ends g c =
-    let before = g.I.Inputs.input c.args.inputs.now in
+    let done = c.in_ok-query.ensures in
     let found = c.in_ok-query.query.typed in
     let text = c.as_slice.ensures ∙ c.in_ok-text.ensures ∙ ap (plan_text_of (shape_of c.in_ok-query.query.plan)) c.number.ensures
-    ∙ ap (λ shape. plan_text_of shape (ways_number c.args.ways)) c.in_ok-query.ensures.plan.shape in
-    cut_off g.O.Sink.taken g.O.Sink.faults (Plan c.args.ways) before (g.I.Inputs.input c.read_query.new.inputs) c.args.out.now
-    c.write_all.new.out
-    (query_told (Plan c.args.ways) before found (λ bytes. refl) c.in_ok-query.ensures.ok) c.as_slice.result.now
-    (stages_are_text c.args.ways before found c.as_slice.result.now c.in_ok-query.ensures.ok text)
-    c.from_residual-in_err-write_all.result c.from_residual-in_err-write_all.ensures.1 c.in_err-write_all.ensures.cause.failed
-    c.in_err-write_all.ensures.front
+    ∙ ap (λ shape. plan_text_of shape (ways_number c.args.ways)) done.plan.shape in
+    handed_on g.O.Sink.taken g.O.Sink.faults (Plan c.args.ways) (g.I.Inputs.input c.args.inputs.now)
+    (g.I.Inputs.input c.read_query.new.inputs) c.args.out.now c.write_all.new.out _ _ c.from_residual-in_err-write_all.ensures.1
+    (writing_ended _ _ _ _ _ _ _ (query_told (Plan c.args.ways) (g.I.Inputs.input c.args.inputs.now) found (λ query. refl) done.ok)
+    c.as_slice.result.now (stages_are_text c.args.ways (g.I.Inputs.input c.args.inputs.now) found c.as_slice.result.now done.ok text)
+    OutputFault (c.in_err-write_all.ensures.cause.failed, c.in_err-write_all.ensures.front))
 
 pub returns-clause-ends : goal.returns-clause-ends
 returns-clause-ends g c =
-    let before = g.I.Inputs.input c.args.inputs.now in
+    let done = c.in_ok-query.ensures in
     let found = c.in_ok-query.query.typed in
     let text = c.as_slice.ensures ∙ c.in_ok-text.ensures ∙ ap (plan_text_of (shape_of c.in_ok-query.query.plan)) c.number.ensures
-    ∙ ap (λ shape. plan_text_of shape (ways_number c.args.ways)) c.in_ok-query.ensures.plan.shape in
-    all_written g.O.Sink.taken g.O.Sink.faults (Plan c.args.ways) before (g.I.Inputs.input c.read_query.new.inputs) c.args.out.now
-    c.write_all.new.out
-    (query_told (Plan c.args.ways) before found (λ bytes. refl) c.in_ok-query.ensures.ok) c.as_slice.result.now
-    (stages_are_text c.args.ways before found c.as_slice.result.now c.in_ok-query.ensures.ok text)
-    c.in_ok-write_all.ensures.ok
+    ∙ ap (λ shape. plan_text_of shape (ways_number c.args.ways)) done.plan.shape in
+    all_written g.O.Sink.taken g.O.Sink.faults (Plan c.args.ways) (g.I.Inputs.input c.args.inputs.now)
+    (g.I.Inputs.input c.read_query.new.inputs) c.args.out.now c.write_all.new.out
+    (query_told (Plan c.args.ways) (g.I.Inputs.input c.args.inputs.now) found (λ query. refl) done.ok) c.as_slice.result.now
+    (stages_are_text c.args.ways (g.I.Inputs.input c.args.inputs.now) found c.as_slice.result.now done.ok text) c.in_ok-write_all.ensures.ok
 
 pub returns-in_err-query-clause-lost : goal.returns-in_err-query-clause-lost
 returns-in_err-query-clause-lost g c =

@@ -1,7 +1,14 @@
-use Rattle.std.proofs.Common.{◌≡◌, None, Err, refl, sym, ap, ◌∙◌, subst}
-use Rattle.std.specs.Io.KnownBytes.{Appends}
-use Rattle.stage_plan.specs.Packets.{AreWhole}
+-- a trial ends as its phases do: its query is accepted, packets are made, and then its tables are written
 use Rattle.command_line.specs.declared.command.Command.TheVariants.{Trial}
+use Rattle.std.proofs.Common.{◌≡◌, List, None, Ok, refl, sym, ap, ◌∙◌, subst, Err}
+use Rattle.std.specs.Io.KnownBytes.{Appends}
+use Rattle.marple_base.specs.declared.field.Packet.{Packet}
+use Rattle.query_lang.specs.declared.typed.TypedQuery.{TypedQuery}
+use Rattle.stage_plan.specs.Packets.{AreWhole}
+use Rattle.accepted_query.specs.Accepted.{accepted}
+use Rattle.accepted_query.specs.TrialQuery.{trial_query}
+use Rattle.command_line.specs.declared.setting.Setting.{Setting}
+use Rattle.command_line.specs.declared.command.Generation.{Generation}
 use Rattle.query_run.specs.Driven.{geometry_of, pipeline_in}
 use Rattle.query_run.proofs.MadePackets.{simulated_whole}
 use Rattle.query_tables.specs.Tables.{query_text}
@@ -12,77 +19,68 @@ use Rattle.marple_cli.specs.Driven.{StandsForEnd}
 use Rattle.command_answers.specs.Phases.{status_for}
 use Rattle.marple_cli.specs.Output.{made_packets, tables_text}
 use Rattle.command_answers.specs.declared.status.Status.TheVariants.{Memory}
-use Rattle.marple_cli.proofs.Ending.{all_written, answer_not_ok, driven_kept, memory_ends, memory_not_ok, nothing_refused, query_stands}
-use Rattle.marple_cli.proofs.Ending.{trial_is_text, trial_refuses_nothing, trial_text, write_ends_it}
+use Rattle.marple_cli.proofs.Ending.{all_written, answer_not_ok, driven_kept, handed_on, query_stands, memory_ended, writing_ended}
+use Rattle.marple_cli.proofs.Ending.{trial_is_text, trial_text}
 use Rattle.command_answers.proofs.Limits.{made_ends}
 use Rattle.marple_cli.proofs.trial.trial.Goals as goal
 
+-- the tables of the trial's query over the packets that were made are its text
+text_is : (generation : Generation) (setting : Setting) (made : List Packet) (q : TypedQuery) → made ≡ made_packets generation
+    → accepted trial_query ≡ Ok q → query_text q (geometry_of setting) (words_of made) ≡ trial_text generation setting
+text_is generation setting made q same is =
+    ap (λ made. query_text q (geometry_of setting) (words_of made)) same
+    ∙ sym (ap (λ one. tables_text setting one (λ q. made_packets generation)) is)
+
 pub run_over_made-ran-requires-clause-may_print : goal.run_over_made-ran-requires-clause-may_print
-run_over_made-ran-requires-clause-may_print g c = (c.of-report.ensures.reports c.in_ok-query.query.plan
-    c.in_ok-query.ensures.plan).may_print
+run_over_made-ran-requires-clause-may_print g c = (c.of-report.ensures.reports _ c.in_ok-query.ensures.plan).may_print
 
 pub run_over_made-ran-requires-clause-whole : goal.run_over_made-ran-requires-clause-whole
-run_over_made-ran-requires-clause-whole g c =
-    subst (λ made. AreWhole (words_of made)) (sym c.in-Ok.ensures) (simulated_whole c.args.generation.packets c.args.generation.start 16)
+run_over_made-ran-requires-clause-whole g c = subst (λ made. AreWhole (words_of made)) (sym c.in-Ok.ensures) (simulated_whole _ _ _)
 
 pub returns-in_err-query-clause-ends : goal.returns-in_err-query-clause-ends
 returns-in_err-query-clause-ends g c inputs =
-    memory_ends g.O.Sink.taken g.O.Sink.faults (Trial c.args.generation c.args.setting) inputs inputs c.args.out.now refl
-    c.from_residual.result c.from_residual.ensures.1
+    handed_on g.O.Sink.taken g.O.Sink.faults (Trial c.args.generation c.args.setting) inputs inputs c.args.out.now c.args.out.now _ _
+    c.from_residual.ensures.1 (memory_ended _ _ _ _ _ _ refl)
 
 pub returns-in_err-query-clause-driven : goal.returns-in_err-query-clause-driven
 returns-in_err-query-clause-driven g c inputs =
-    driven_kept (Trial c.args.generation c.args.setting) inputs c.args.driven.now c.args.driven.now refl c.from_residual.result Memory
-    c.from_residual.ensures.1 memory_not_ok
+    driven_kept (Trial c.args.generation c.args.setting) inputs c.args.driven.now c.args.driven.now refl _ _ c.from_residual.ensures.1
+    (λ e. cc)
 
 pub returns-in-Err-clause-ends : goal.returns-in-Err-clause-ends
 returns-in-Err-clause-ends g c inputs =
-    memory_ends g.O.Sink.taken g.O.Sink.faults (Trial c.args.generation c.args.setting) inputs inputs c.args.out.now refl (Err Memory) refl
+    (memory_ended g.O.Sink.taken g.O.Sink.faults (Trial c.args.generation c.args.setting) inputs inputs c.args.out.now refl).ends
 
 pub returns-in-Err-clause-driven : goal.returns-in-Err-clause-driven
 returns-in-Err-clause-driven g c inputs =
-    driven_kept (Trial c.args.generation c.args.setting) inputs c.args.driven.now c.args.driven.now refl (Err Memory) Memory refl
-    memory_not_ok
+    driven_kept (Trial c.args.generation c.args.setting) inputs c.args.driven.now c.args.driven.now refl (Err Memory) Memory refl (λ e. cc)
 
 pub returns-in_err-left-clause-ends : goal.returns-in_err-left-clause-ends
 returns-in_err-left-clause-ends g c inputs =
-    let trial = Trial c.args.generation c.args.setting in
     let text = trial_text c.args.generation c.args.setting in
-    let old = c.args.out.now in
-    let new = c.run_over_made-ran.new.out in
-    let q = c.in_ok-query.query.typed in
     let answer = c.in_err-left.field-0.0 in
-    let is : query_text q (geometry_of c.args.setting) (words_of c.in-Ok.made) ≡ text =
-    ap (λ made. query_text q (geometry_of c.args.setting) (words_of made)) c.in-Ok.ensures
-    ∙ sym (ap (λ one. tables_text c.args.setting one (λ q. made_packets c.args.generation)) c.in_ok-query.ensures.ok) in
-    write_ends_it g.O.Sink.taken g.O.Sink.faults trial inputs inputs old new
-    (nothing_refused trial inputs (trial_refuses_nothing c.args.generation c.args.setting))
-    text (trial_is_text c.args.generation c.args.setting inputs) c.from_residual-in_err-left.result (status_for answer)
-    c.from_residual-in_err-left.ensures.1
-    (made_ends g.O.Sink.taken g.O.Sink.faults text old new answer
-    (subst (λ text. BreaksOff g.O.Sink.taken g.O.Sink.faults text None old new answer) is
-    (c.in_err-left.ensures.breaks_off (query_text q) (c.of-report.ensures.reports c.in_ok-query.query.plan
-    c.in_ok-query.ensures.plan).prints)))
+    handed_on g.O.Sink.taken g.O.Sink.faults (Trial c.args.generation c.args.setting) inputs inputs c.args.out.now
+    c.run_over_made-ran.new.out _ _ c.from_residual-in_err-left.ensures.1 (writing_ended _ _ _ _ _ _ _ (λ query takes left read. refl) text
+    (trial_is_text c.args.generation c.args.setting inputs) (status_for answer)
+    (made_ends g.O.Sink.taken g.O.Sink.faults text c.args.out.now c.run_over_made-ran.new.out answer
+    (subst (λ text. BreaksOff g.O.Sink.taken g.O.Sink.faults text None c.args.out.now c.run_over_made-ran.new.out answer)
+    (text_is c.args.generation c.args.setting c.in-Ok.made c.in_ok-query.query.typed c.in-Ok.ensures c.in_ok-query.ensures.ok)
+    (c.in_err-left.ensures.breaks_off (query_text c.in_ok-query.query.typed)
+    (c.of-report.ensures.reports _ c.in_ok-query.ensures.plan).prints))))
 
 pub returns-in_err-left-clause-driven : goal.returns-in_err-left-clause-driven
 returns-in_err-left-clause-driven g c inputs =
-    driven_kept (Trial c.args.generation c.args.setting) inputs c.args.driven.now c.args.driven.now refl c.from_residual-in_err-left.result
-    (status_for c.in_err-left.field-0.0)
+    driven_kept (Trial c.args.generation c.args.setting) inputs c.args.driven.now c.args.driven.now refl _ _
     c.from_residual-in_err-left.ensures.1 (answer_not_ok c.in_err-left.field-0.0)
 
 pub returns-clause-ends : goal.returns-clause-ends
 returns-clause-ends g c inputs =
-    let trial = Trial c.args.generation c.args.setting in
     let text = trial_text c.args.generation c.args.setting in
-    let q = c.in_ok-query.query.typed in
-    let is : query_text q (geometry_of c.args.setting) (words_of c.in-Ok.made) ≡ text =
-    ap (λ made. query_text q (geometry_of c.args.setting) (words_of made)) c.in-Ok.ensures
-    ∙ sym (ap (λ one. tables_text c.args.setting one (λ q. made_packets c.args.generation)) c.in_ok-query.ensures.ok) in
-    all_written g.O.Sink.taken g.O.Sink.faults trial inputs inputs c.args.out.now c.run_over_made-ran.new.out
-    (nothing_refused trial inputs (trial_refuses_nothing c.args.generation c.args.setting))
-    text (trial_is_text c.args.generation c.args.setting inputs)
-    (subst (Appends (g.O.Sink.taken c.args.out.now) (g.O.Sink.taken c.run_over_made-ran.new.out)) is
-    (c.in_ok-left.ensures.written (query_text q) (c.of-report.ensures.reports c.in_ok-query.query.plan c.in_ok-query.ensures.plan).prints))
+    all_written g.O.Sink.taken g.O.Sink.faults (Trial c.args.generation c.args.setting) inputs inputs c.args.out.now
+    c.run_over_made-ran.new.out (λ query takes left read. refl) text (trial_is_text c.args.generation c.args.setting inputs)
+    (subst (Appends (g.O.Sink.taken c.args.out.now) (g.O.Sink.taken c.run_over_made-ran.new.out))
+    (text_is c.args.generation c.args.setting c.in-Ok.made c.in_ok-query.query.typed c.in-Ok.ensures c.in_ok-query.ensures.ok)
+    (c.in_ok-left.ensures.written (query_text c.in_ok-query.query.typed) (c.of-report.ensures.reports _ c.in_ok-query.ensures.plan).prints))
 
 pub returns-clause-driven : goal.returns-clause-driven
 returns-clause-driven g c inputs =
