@@ -1,6 +1,5 @@
 -- A run with the setting of a command line.
-use Rattle.std.proofs.Common.{◌≡◌, ℕ, List, Option, Result, IfErr, ap, sym, ◌∙◌, subst}
-use Rattle.std.specs.Result.{IsErrAnd}
+use Rattle.std.proofs.Common.{◌≡◌, ℕ, List, Option, ap, sym, ◌∙◌, subst}
 use Rattle.command_line.specs.Command.{ways_number}
 use Rattle.command_line.specs.declared.setting.Setting.{Setting}
 use Rattle.command_line.specs.declared.setting.Ways.{Ways}
@@ -12,12 +11,10 @@ use Rattle.trace_drive.specs.Answers.{BreaksOff}
 use Rattle.trace_drive.specs.Drives.{geometry_for}
 use Rattle.trace_drive.specs.declared.answer.RunError.{RunError}
 use Rattle.trace_drive.specs.declared.schedule.Schedule.{Schedule}
-use Rattle.trace_drive.proofs.Breaking.{err_is}
 use Rattle.trace_reader.specs.declared.fault.TraceFault.{TraceFault}
 use Rattle.query_run.specs.Driven.{geometry_of}
 use Rattle.query_run.specs.Reports.{Prints}
 use Rattle.query_run.specs.Views.{views_text}
-use Rattle.query_run.specs.declared.driven.Driven.{Driven}
 
 -- the caches of a schedule with the setting's ways are those of the setting
 pub geometry_is : (setting : Setting) (schedule : Schedule) (ways : Ways) → setting.ways ≡ ways
@@ -34,8 +31,6 @@ module _ {O : Type 0} (taken : O → Option (List ℕ)) (faults : O → ℕ) (en
   Breaks g answer = (text : Geometry → List (List ℕ) → List ℕ) → Prints entries plan printed text
       → BreaksOff taken faults (views_text (text g) every packets) fault old new answer
 
-  -- the answer is handed on
-  pub handed_on : (g found : Geometry) (result : Result Driven RunError) (answer : RunError) → g ≡ found
-      → IsErrAnd result (λ one. one ≡ answer) → Breaks g answer → IfErr result (Breaks found)
-  handed_on g found result answer same is broke = err_is (Breaks found) result answer is
-      (subst (λ (g : Geometry). Breaks g answer) same broke)
+  -- with the same caches it broke off with the same answer
+  pub broken_as : (g found : Geometry) (answer : RunError) → g ≡ found → Breaks g answer → Breaks found answer
+  broken_as g found answer same broke = subst (λ (g : Geometry). Breaks g answer) same broke
