@@ -2,6 +2,7 @@
 use Rattle.std.proofs.Common.{◌≡◌, ℕ, suc, ◌+◌, List, [], ◌∷◌, length, Option, Result, Ok, Err, refl, sym, ap, ◌∙◌, arith}
 use Rattle.std.specs.List.{All, zip}
 use Rattle.std.proofs.lemmas.List.Elements.{All-nil, All-cons}
+use Rattle.std.proofs.lemmas.Slice.Zip.{length-zip}
 use Rattle.std.specs.Prelude.{◌==◌, not, nat_lt}
 use Rattle.epoch_model.proofs.KeyLists.{by_test}
 use Rattle.marple_base.specs.declared.field.Field.{Field}
@@ -35,12 +36,7 @@ each_long f (x ∷ xs) ys e =
     ap length first.4 ∙ ap (λ n. suc n) (each_long f xs first.1 first.3)
 
 pub zip_long : {X Y : Type 0} (xs : List X) (ys : List Y) → length xs ≡ length ys → length (zip xs ys) ≡ length xs
-zip_long [] ys e = refl
-zip_long (x ∷ xs) [] e = absurd (no e)
-  where
-    no : {n : ℕ} → suc n ≡ 0 → ⊥
-    no e = omega (arith, e)
-zip_long (x ∷ xs) (y ∷ ys) e = ap (λ n. suc n) (zip_long xs ys (omega (arith, e)))
+zip_long xs ys e = omega (arith, length-zip xs ys)
 
 -- a fact of each packet that has the words of some record, by the columns of some header
 abbrev pub HoldsOfRead : FieldSet → (Packet → Type 0) → Type 0

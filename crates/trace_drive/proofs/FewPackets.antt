@@ -9,14 +9,14 @@ use Rattle.trace_reader.specs.Traces.{with_packet}
 use Rattle.trace_reader.specs.declared.fault.TheConstants.{MAX_RECORDS}
 use Rattle.trace_reader.specs.declared.fault.TraceFault.{TraceFault}
 use Rattle.trace_drive.specs.ReadPackets.{ReadPacketsAreFew}
+use Rattle.trace_drive.proofs.EachPacket.{not_ok}
 
 -- a record beyond the limit gives no packet
 none_beyond : (layout : Layout) (n : ℕ) (fields : List (List ℕ)) (p : Packet) → MAX_RECORDS + 1 ≤ n → packet_of layout n fields ≡ Ok p → ⊥
 unfolding packet_of
-none_beyond layout n fields p beyond is = let test : nat_lt MAX_RECORDS n ≡ true = grind (arith, nat_tests) in no_packet (rw test at is)
-  where
-    no_packet : {fault : TraceFault} → Err fault ≡ Ok p → ⊥
-    no_packet e = cc
+none_beyond layout n fields p beyond is =
+    let test : nat_lt MAX_RECORDS n ≡ true = grind (arith, nat_tests) in
+    not_ok _ p (rw test at is)
 
 few_from : (layout : Layout) (n : ℕ) (rows : List (List (List ℕ))) → n ≤ MAX_RECORDS + 1 → length (contents_from layout n rows).packets
     + n ≤ MAX_RECORDS + 1

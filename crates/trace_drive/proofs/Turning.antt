@@ -26,17 +26,11 @@ after_both g xs ys k (m ∷ ms) = ap (λ n. n ∷ after_events g (λ n. xs n ++ 
 
 no_first : (xs ys : List Event) → xs ++ ys ≡ [] → xs ≡ []
 no_first [] ys e = refl
-no_first (x ∷ xs) ys e = absurd (never e)
-  where
-    never : x ∷ (xs ++ ys) ≡ [] → ⊥
-    never e = cc
+no_first (x ∷ xs) ys e = absurd (cc)
 
 no_second : (xs ys : List Event) → xs ++ ys ≡ [] → ys ≡ []
 no_second [] ys e = e
-no_second (x ∷ xs) ys e = absurd (never e)
-  where
-    never : x ∷ (xs ++ ys) ≡ [] → ⊥
-    never e = cc
+no_second (x ∷ xs) ys e = absurd (cc)
 
 -- events, and then others
 pub makes_on : (ways : ℕ) (xs ys : ℕ → List Event) (a b c : PipelineView) → PipelineMakes ways xs a b → PipelineMakes ways ys b c
