@@ -4,4 +4,3 @@ pub mod Queue
 pub mod Following
 pub mod TraceText
 pub mod ReadBack
-pub mod Pieces

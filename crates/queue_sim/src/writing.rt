@@ -5,7 +5,7 @@ ghost use Rattle.std.specs.Io.KnownBytes.{Appends};
 ghost use Rattle.marple_base.specs.Faults.{Rose};
 ghost use Rattle.marple_base.specs.Sink.{TakesFront};
 ghost use Rattle.queue_sim.specs.Generator.{simulated};
-ghost use Rattle.queue_sim.specs.Pieces.{TakesAllBut};
+ghost use Rattle.marple_base.specs.Pieces.{TakesAllBut};
 ghost use Rattle.queue_sim.specs.TraceText.{trace_text};
 
 use crate::generator::Generator;

@@ -1,7 +1,7 @@
 use Rattle.std.proofs.Common.{◌≡◌, ◌≤◌}
 use Rattle.queue_sim.specs.Following.{Follows}
 use Rattle.queue_sim.specs.Generator.{simulated}
-use Rattle.queue_sim.specs.Pieces.{TakesAllBut}
+use Rattle.marple_base.specs.Pieces.{TakesAllBut}
 use Rattle.queue_sim.specs.TraceText.{trace_text}
 use Rattle.queue_sim.proofs.writing.write_trace.Given as goal
 
