@@ -13,8 +13,7 @@ use Rattle.csv.specs.Writing.{default_writer}
 use Rattle.trace_reader.specs.Numbers.{before_last_blanks, decimal_word, is_field_blank, without_blanks, without_last_blanks, word_of_text}
 use Rattle.trace_reader.proofs.NumberFacts.{number_some}
 use Rattle.marple_base.specs.declared.field.Field.{Field}
-use Rattle.marple_base.specs.declared.field.Field.TheVariants.{Switch, Qid, Uid, SrcIp, DstIp, SrcPort, DstPort, Proto, PktLen, PayloadLen}
-use Rattle.marple_base.specs.declared.field.Field.TheVariants.{TcpSeq, Tin, Tout, QSize}
+use Rattle.marple_base.specs.declared.field.Field.TheVariants.{Tout}
 use Rattle.queue_sim.specs.TraceText.{word_text}
 use Rattle.queue_sim.proofs.QueueFacts.{by_test}
 
@@ -73,40 +72,16 @@ decimal_read n word =
 
 -- what is written for a word of a field is read as that word
 pub word_read : (field : Field) (n : ℕ) → n < 2 ^ 64 → word_of_text field (without_blanks (word_text field n)) ≡ Some n
-word_read Switch n word = rw (decimal_read n word) refl
-word_read Qid n word = rw (decimal_read n word) refl
-word_read Uid n word = rw (decimal_read n word) refl
-word_read SrcIp n word = rw (decimal_read n word) refl
-word_read DstIp n word = rw (decimal_read n word) refl
-word_read SrcPort n word = rw (decimal_read n word) refl
-word_read DstPort n word = rw (decimal_read n word) refl
-word_read Proto n word = rw (decimal_read n word) refl
-word_read PktLen n word = rw (decimal_read n word) refl
-word_read PayloadLen n word = rw (decimal_read n word) refl
-word_read TcpSeq n word = rw (decimal_read n word) refl
-word_read Tin n word = rw (decimal_read n word) refl
 word_read Tout n word = elim (eqb_tells n (2 ^ 64 - 1)) [
   | inl same ↦ rw same.0 (ap Some (sym same.1))
   | inr differs ↦ rw (differs.0, decimal_read n word) refl
 ]
-word_read QSize n word = rw (decimal_read n word) refl
+word_read field n word = rw (decimal_read n word) refl
 
 plain_number : (n : ℕ) → n < 2 ^ 64 → list_any (needs_byte default_writer) (decimal n) ≡ false
 plain_number n word = digits_plain (decimal n) (decimal_is_IsNumeral n word).0.1
 
 -- and needs no quotes
 pub word_plain : (field : Field) (n : ℕ) → n < 2 ^ 64 → list_any (needs_byte default_writer) (word_text field n) ≡ false
-word_plain Switch n word = plain_number n word
-word_plain Qid n word = plain_number n word
-word_plain Uid n word = plain_number n word
-word_plain SrcIp n word = plain_number n word
-word_plain DstIp n word = plain_number n word
-word_plain SrcPort n word = plain_number n word
-word_plain DstPort n word = plain_number n word
-word_plain Proto n word = plain_number n word
-word_plain PktLen n word = plain_number n word
-word_plain PayloadLen n word = plain_number n word
-word_plain TcpSeq n word = plain_number n word
-word_plain Tin n word = plain_number n word
 word_plain Tout n word = by_test (n == 2 ^ 64 - 1) (λ same. rw same refl) (λ other. rw other (plain_number n word))
-word_plain QSize n word = plain_number n word
+word_plain field n word = plain_number n word

@@ -108,8 +108,7 @@ header_columns reads all =
       all PktLen,
       all PayloadLen,
       all TcpSeq,
-      all
-          Tin,
+      all Tin,
       all Tout,
       all QSize,
     ) refl
@@ -118,35 +117,22 @@ header_columns reads all =
 row_words : (words : List ℕ) → length words ≡ FIELDS → ArePacketWords words → words_in_columns places (word_texts words all_fields) ≡ Ok words
 unfolding each field_at
 row_words (a ∷ b ∷ c ∷ d ∷ e ∷ f ∷ g ∷ h ∷ i ∷ j ∷ k ∷ l ∷ m ∷ n ∷ []) size small =
-    let rest1 = small.1 in
-    let rest2 = rest1.1 in
-    let rest3 = rest2.1 in
-    let rest4 = rest3.1 in
-    let rest5 = rest4.1 in
-    let rest6 = rest5.1 in
-    let rest7 = rest6.1 in
-    let rest8 = rest7.1 in
-    let rest9 = rest8.1 in
-    let rest10 = rest9.1 in
-    let rest11 = rest10.1 in
-    let rest12 = rest11.1 in
-    let rest13 = rest12.1 in
+    let at = λ (place : ℕ). word_small (a ∷ b ∷ c ∷ d ∷ e ∷ f ∷ g ∷ h ∷ i ∷ j ∷ k ∷ l ∷ m ∷ n ∷ []) place small in
     rw (
-      word_read Switch a small.0,
-      word_read Qid b rest1.0,
-      word_read Uid c rest2.0,
-      word_read SrcIp d rest3.0,
-      word_read DstIp e rest4.0,
-      word_read SrcPort f rest5.0,
-      word_read DstPort g rest6.0,
-      word_read Proto h rest7.0,
-      word_read PktLen i rest8.0,
-      word_read
-          PayloadLen j rest9.0,
-      word_read TcpSeq k rest10.0,
-      word_read Tin l rest11.0,
-      word_read Tout m rest12.0,
-      word_read QSize n rest13.0,
+      word_read Switch a (at 0),
+      word_read Qid b (at 1),
+      word_read Uid c (at 2),
+      word_read SrcIp d (at 3),
+      word_read DstIp e (at 4),
+      word_read SrcPort f (at 5),
+      word_read DstPort g (at 6),
+      word_read Proto h (at 7),
+      word_read PktLen i (at 8),
+      word_read PayloadLen j (at 9),
+      word_read TcpSeq k (at 10),
+      word_read Tin l (at 11),
+      word_read Tout m (at 12),
+      word_read QSize n (at 13),
     )
     refl
 row_words words size small = absurd (omega (arith, size))

@@ -1,7 +1,7 @@
-use Rattle.std.proofs.Common.{◌≡◌, ◌+◌, ◌*◌, ◌%◌, ◌∷◌, ◌∙◌, ap, add-one, length, refl, sym, arith}
+use Rattle.std.proofs.Common.{◌≡◌, ◌+◌, ◌*◌, ◌%◌, ◌∷◌, ◌∙◌, ap, add-one, refl, sym, arith}
 use Rattle.std.proofs.Math.ListN.{length-set}
 use Rattle.std.proofs.lemmas.Option.{slice_get_read}
-use Rattle.queue_sim.specs.Generator.{Arrival, arrival_by, arrivals, drawn_after, generated_packet, state_after, touts_at}
+use Rattle.queue_sim.specs.Generator.{Arrival, arrivals, drawn_after, generated_packet, state_after, touts_at}
 use Rattle.queue_sim.proofs.Bounds.{number_small, time_small, tout_small}
 use Rattle.queue_sim.proofs.FollowingFacts.{arrivals_more, arrived, flows_next, queues_next}
 use Rattle.queue_sim.proofs.generator.Generator.next.Goals as goal
@@ -18,33 +18,18 @@ next_seq-seq-requires-clause-fits c =
     let at = c.requires.follows.flows flow c.next_packet-drawn.ensures.small.1 in
     omega (arith, at, number_small g.start g.capacity g.number flow, c.requires.more, c.next_packet-drawn.ensures.small)
 
-pub arrive-requires-clause-fits : goal.arrive-requires-clause-fits
-arrive-requires-clause-fits c =
+pub arrive-requires : goal.arrive-requires
+arrive-requires c =
     let g = c.args.self.now in
     let switch = c.next_packet-drawn.result.flow % 4 in
-    let queue = c.index_mut-queue.result.now in
-    let here = slice_get_read g.queues.items (length g.queues.items) switch queue refl (omega (arith, c.requires.follows.switches))
-    c.index_mut-queue.ensures.value in
-    let holds = c.requires.follows.queues switch queue here in
-    omega (
-      arith,
-      holds.last,
-      tout_small g.start g.capacity g.number switch,
-      c.requires.follows.time,
-      time_small g.start g.capacity
-          g.number,
-      c.requires.more,
-      c.next_packet-drawn.ensures.small,
-    )
-
-pub arrive-requires-clause-climbs : goal.arrive-requires-clause-climbs
-arrive-requires-clause-climbs c =
-    let g = c.args.self.now in
-    let switch = c.next_packet-drawn.result.flow % 4 in
-    let queue = c.index_mut-queue.result.now in
-    let here = slice_get_read g.queues.items (length g.queues.items) switch queue refl (omega (arith, c.requires.follows.switches))
-    c.index_mut-queue.ensures.value in
-    (c.requires.follows.queues switch queue here).climbs
+    let here = slice_get_read g.queues.items _ switch _ refl (omega (arith, c.requires.follows.switches)) c.index_mut-queue.ensures.value in
+    let holds = c.requires.follows.queues switch _ here in
+    let tout = tout_small g.start g.capacity g.number switch in
+    let time = time_small g.start g.capacity g.number in
+    record {
+      fits = omega (arith, holds.last, tout, c.requires.follows.time, time, c.requires.more, c.next_packet-drawn.ensures.small);
+      climbs = holds.climbs;
+    }
 
 pub packet_of-requires : goal.packet_of-requires
 packet_of-requires c =
@@ -63,62 +48,44 @@ packet_of-requires c =
       );
     }
 
-pub returns-clause-packet : goal.returns-clause-packet
-returns-clause-packet c =
+pub returns : goal.returns
+returns c =
     let g = c.args.self.now in
     let d = c.next_packet-drawn.result in
+    let place = c.in_ok-place.place in
     let earlier = arrivals g.start g.capacity g.number in
     let switch = d.flow % 4 in
-    let queue = c.index_mut-queue.result.now in
-    let here = slice_get_read g.queues.items (length g.queues.items) switch queue refl (omega (arith, c.requires.follows.switches))
-    c.index_mut-queue.ensures.value in
-    let holds = c.requires.follows.queues switch queue here in
+    let here = slice_get_read g.queues.items _ switch _ refl (omega (arith, c.requires.follows.switches)) c.index_mut-queue.ensures.value in
+    let holds = c.requires.follows.queues switch _ here in
     let drawn = c.next_packet-drawn.ensures.drawn g.start (4 * g.number) c.requires.follows.draws in
     let time = ap (λ t. t + d.gap) c.requires.follows.time in
     let seq = c.next_seq-seq.ensures.seq ∙ ap (λ n. n + d.skipped) (c.requires.follows.flows d.flow c.next_packet-drawn.ensures.small.1) in
     let qsize = c.in_ok-place.ensures.qsize g.time (touts_at switch earlier) holds (omega arith) in
     let is = arrived earlier g.capacity d (drawn_after g.start (4 * g.number)) (g.time + d.gap) c.next_seq-seq.result
-    c.in_ok-place.place.qsize queue.last c.in_ok-place.place.tout
-    drawn.1 time seq qsize c.in_ok-place.ensures.tout holds.last in
-    c.packet_of.ensures ∙ ap (λ (a : Arrival). generated_packet (g.number + 1) a) is
-    ∙ ap (λ n. generated_packet n (arrival_by (drawn_after g.start (4 * g.number)) g.capacity earlier)) (add-one g.number)
-
-pub returns-clause-follows : goal.returns-clause-follows
-returns-clause-follows c =
-    let g = c.args.self.now in
-    let d = c.next_packet-drawn.result in
-    let earlier = arrivals g.start g.capacity g.number in
-    let switch = d.flow % 4 in
-    let queue = c.index_mut-queue.result.now in
-    let here = slice_get_read g.queues.items (length g.queues.items) switch queue refl (omega (arith, c.requires.follows.switches))
-    c.index_mut-queue.ensures.value in
-    let holds = c.requires.follows.queues switch queue here in
-    let drawn = c.next_packet-drawn.ensures.drawn g.start (4 * g.number) c.requires.follows.draws in
-    let time = ap (λ t. t + d.gap) c.requires.follows.time in
-    let seq = c.next_seq-seq.ensures.seq ∙ ap (λ n. n + d.skipped) (c.requires.follows.flows d.flow c.next_packet-drawn.ensures.small.1) in
-    let qsize = c.in_ok-place.ensures.qsize g.time (touts_at switch earlier) holds (omega arith) in
-    let is = arrived earlier g.capacity d (drawn_after g.start (4 * g.number)) (g.time + d.gap) c.next_seq-seq.result
-    c.in_ok-place.place.qsize queue.last c.in_ok-place.place.tout
-    drawn.1 time seq qsize c.in_ok-place.ensures.tout holds.last in
+    place.qsize _ place.tout drawn.1 time seq qsize c.in_ok-place.ensures.tout holds.last in
     let a : Arrival =
     record {
       time = g.time + d.gap;
       flow = d.flow;
       payload = d.payload;
       seq = c.next_seq-seq.result;
-      qsize =
-          c.in_ok-place.place.qsize;
-      tout = c.in_ok-place.place.tout;
+      qsize = place.qsize;
+      tout = place.tout;
     } in
     let more : arrivals g.start g.capacity (g.number + 1) ≡ a ∷ earlier = arrivals_more g.start g.capacity g.number
     ∙ ap (λ (b : Arrival). b ∷ earlier) (sym is) in
     record {
-      draws = drawn.0 ∙ ap (state_after g.start) (omega arith);
-      time = rw more refl;
-      size = rw c.next_seq-seq.ensures.flows (length-set g.flows d.flow (c.next_seq-seq.result + d.payload) ∙ c.requires.follows.size);
-      switches = length-set g.queues.items switch c.arrive.new.self ∙ c.requires.follows.switches;
-      flows = rw (more, c.next_seq-seq.ensures.flows) (flows_next g.flows earlier a (c.next_seq-seq.result + d.payload)
-          c.requires.follows.size c.next_packet-drawn.ensures.small.1 refl c.requires.follows.flows);
-      queues = rw more (queues_next g.queues.items c.arrive.new.self earlier a g.time (omega arith) c.requires.follows.queues
-          (c.in_ok-place.ensures.holds g.time (touts_at switch earlier) holds (omega arith)));
+      follows = record {
+        draws = drawn.0 ∙ ap (state_after g.start) (omega arith);
+        time = rw more refl;
+        size = rw c.next_seq-seq.ensures.flows (length-set g.flows d.flow (c.next_seq-seq.result + d.payload) ∙ c.requires.follows.size);
+        switches = length-set g.queues.items switch c.arrive.new.self ∙ c.requires.follows.switches;
+        flows = rw (more, c.next_seq-seq.ensures.flows) (flows_next g.flows earlier a (c.next_seq-seq.result + d.payload)
+            c.requires.follows.size c.next_packet-drawn.ensures.small.1 refl c.requires.follows.flows);
+        queues = rw more (queues_next g.queues.items c.arrive.new.self earlier a g.time (omega arith) c.requires.follows.queues
+            (c.in_ok-place.ensures.holds g.time (touts_at switch earlier) holds (omega arith)));
+      };
+      number = refl;
+      same = (refl, refl);
+      packet = c.packet_of.ensures ∙ ap (generated_packet (g.number + 1)) is ∙ rw (add-one g.number) refl;
     }
