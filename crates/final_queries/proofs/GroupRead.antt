@@ -1,5 +1,5 @@
 -- The table of a groupby may be read by finals: of each key at most one row is read.
-use Rattle.std.proofs.Common.{◌≡◌, ℕ, suc, ◌-◌, ◌==◌, false, List, [], ◌∷◌, ◌++◌, ◌⊎◌, inl, inr, length, map, refl, sym, ap, ◌∙◌, subst}
+use Rattle.std.proofs.Common.{◌≡◌, ℕ, suc, ◌-◌, ◌==◌, false, List, [], ◌∷◌, ◌++◌, ◌⊎◌, inl, inr, length, map, refl, ap, ◌∙◌}
 use Rattle.std.proofs.Common.{arith, length-append}
 use Rattle.std.specs.List.{All, filter, flat_map}
 use Rattle.std.proofs.lemmas.Bool.Decides.{nat_tests}
@@ -8,7 +8,7 @@ use Rattle.std.proofs.lemmas.List.Elements.{All-nil, All-cons, All-head, All-tai
 use Rattle.epoch_model.specs.declared.tables.Row.{Row}
 use Rattle.epoch_model.specs.Keys.{Key, ArgRow, AreAbove, IsAscending}
 use Rattle.epoch_model.specs.Epochs.{Use, Geometry, is_use_of, epochs}
-use Rattle.epoch_model.specs.Tables.{Folding, folded, mark_of, exact_row, epoch_rows, key_rows, keys_used, group_rows}
+use Rattle.epoch_model.specs.Tables.{Folding, folded, mark_of, epoch_rows, key_rows, keys_used, group_rows}
 use Rattle.epoch_model.specs.TableLaws.{KeysAscend}
 use Rattle.epoch_model.proofs.KeyLists.{by_test}
 use Rattle.final_queries.specs.Finals.{is_read, HasColumns}
@@ -16,14 +16,14 @@ use Rattle.final_queries.specs.FinalLaws.{GroupTablesAreRead}
 use Rattle.final_queries.specs.Joining.{reads}
 use Rattle.final_queries.proofs.KeyLists.{all_ascending}
 
-abbrev pub key_of : Row → Key
+abbrev key_of : Row → Key
 key_of row = row.key
 
-abbrev pub keys_read : List Row → List Key
+abbrev keys_read : List Row → List Key
 keys_read rows = map key_of (reads rows)
 
 -- no row is read, or one of this key
-abbrev pub HasOneAtMost : Key → List Row → Type 0
+abbrev HasOneAtMost : Key → List Row → Type 0
 HasOneAtMost key rows = (keys_read rows ≡ []) ⊎ (keys_read rows ≡ key ∷ [])
 
 none_read : (f : Folding) (key : Key) (count number : ℕ) (lists : List (List ArgRow)) → is_read (mark_of count) ≡ false
@@ -36,7 +36,7 @@ several n =
     let e : (suc (suc n) == 1) ≡ false = grind (arith, nat_tests) in
     rw e refl
 
-pub epochs_read : (f : Folding) (key : Key) (lists : List (List ArgRow)) → HasOneAtMost key (epoch_rows f key (length lists) 1 lists)
+epochs_read : (f : Folding) (key : Key) (lists : List (List ArgRow)) → HasOneAtMost key (epoch_rows f key (length lists) 1 lists)
 epochs_read f key [] = inl refl
 epochs_read f key (rows ∷ []) = inr refl
 epochs_read f key (rows ∷ more ∷ lists) = inl (none_read f key (suc (suc (length lists))) 1 (rows ∷ more ∷ lists) (several (length lists)))
@@ -54,21 +54,19 @@ module _ (h : Key → List Row) (one : (key : Key) → HasOneAtMost key (h key))
   all_above : (low : Key) (keys : List Key) → AreAbove low keys → AreAbove low (keys_read (flat_map h keys))
   all_above low [] above = tt
   all_above low (key ∷ keys) above =
-      let rest = flat_map h keys in
       let more = all_above low keys above.1 in
-      subst (AreAbove low) (sym (joined key rest)) (elim (one key) [
-        | inl e ↦ subst (λ xs. AreAbove low (xs ++ keys_read rest)) (sym e) more
-        | inr e ↦ subst (λ xs. AreAbove low (xs ++ keys_read rest)) (sym e) (above.0, more)
+      rw (joined key (flat_map h keys)) (elim (one key) [
+        | inl e ↦ rw e more
+        | inr e ↦ rw e (above.0, more)
       ])
 
-  pub all_in_order : (keys : List Key) → IsAscending keys → IsAscending (keys_read (flat_map h keys))
+  all_in_order : (keys : List Key) → IsAscending keys → IsAscending (keys_read (flat_map h keys))
   all_in_order [] order = tt
   all_in_order (key ∷ keys) order =
-      let rest = flat_map h keys in
       let more = all_in_order keys order.1 in
-      subst IsAscending (sym (joined key rest)) (elim (one key) [
-        | inl e ↦ subst (λ xs. IsAscending (xs ++ keys_read rest)) (sym e) more
-        | inr e ↦ subst (λ xs. IsAscending (xs ++ keys_read rest)) (sym e) (all_above key keys order.0, more)
+      rw (joined key (flat_map h keys)) (elim (one key) [
+        | inl e ↦ rw e more
+        | inr e ↦ rw e (all_above key keys order.0, more)
       ])
 
 -- the rows of keys with this many words have as many key words, and as many values as states have
@@ -79,13 +77,11 @@ all_flat P h (key ∷ keys) all = All-append P (h key) (flat_map h keys) (All-he
     (all_flat P h keys (All-tail (λ k. All P (h k)) key keys all))
 
 module _ (words states : ℕ) (f : Folding) (long : (rows : List ArgRow) → length (folded f rows) ≡ states) where
-  pub epochs_have : (key : Key) (count number : ℕ) (lists : List (List ArgRow)) → length key ≡ words
+  epochs_have : (key : Key) (count number : ℕ) (lists : List (List ArgRow)) → length key ≡ words
       → All (HasColumns words states) (epoch_rows f key count number lists)
   epochs_have key count number [] e = All-nil (HasColumns words states)
   epochs_have key count number (rows ∷ lists) e =
-      All-cons (HasColumns words states) (record { key = key; mark = mark_of count; epoch = number; epochs = _; values = folded f rows })
-      (epoch_rows f key count (suc number) lists)
-      (record { key = e; values = long rows }) (epochs_have key count (suc number) lists e)
+      All-cons (HasColumns words states) _ _ (record { key = e; values = long rows }) (epochs_have key count (suc number) lists e)
 
   key_has : (g : Geometry) (uses : List Use) (key : Key) → length key ≡ words → All (HasColumns words states) (key_rows f g uses key)
   key_has g uses key e =
@@ -93,10 +89,9 @@ module _ (words states : ℕ) (f : Folding) (long : (rows : List ArgRow) → len
       let given = map (λ u. u.row) (filter (is_use_of key) uses) in
       by_test f.row_per_epoch
       (λ t. rw t (epochs_have key (length pieces) 1 pieces e))
-      (λ t. rw t (All-cons (HasColumns words states) (exact_row f key (length pieces) given) [] (record { key = e; values = long given })
-      (All-nil (HasColumns words states))))
+      (λ t. rw t (All-cons (HasColumns words states) _ [] (record { key = e; values = long given }) (All-nil (HasColumns words states))))
 
-  pub rows_have : (g : Geometry) (uses : List Use) → All (λ u. length u.key ≡ words) uses
+  rows_have : (g : Geometry) (uses : List Use) → All (λ u. length u.key ≡ words) uses
       → All (HasColumns words states) (group_rows f g uses)
   rows_have g uses all =
       let keys = all_ascending (λ key. length key ≡ words) (map (λ u. u.key) uses)
@@ -107,10 +102,9 @@ pub group_read : KeysAscend → GroupTablesAreRead
 group_read ascend heading f g uses keys states =
     let names = heading.key_names in
     let wide = length-append names heading.state_names in
-    let others : length heading.state_names ≡ length (names ++ heading.state_names) - length names = omega arith in
+    let others : length (names ++ heading.state_names) - length names ≡ length heading.state_names = omega arith in
     record {
       keys = omega arith;
-      rows = subst (λ n. All (HasColumns (length names) n) (group_rows f g uses)) others
-          (rows_have (length names) (length heading.state_names) f states g uses keys);
+      rows = rw others (rows_have (length names) (length heading.state_names) f states g uses keys);
       order = all_in_order (key_rows f g uses) (key_read f g uses) (keys_used uses) (ascend (map (λ u. u.key) uses)).0;
     }

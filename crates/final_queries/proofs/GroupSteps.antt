@@ -6,9 +6,8 @@ use Rattle.std.proofs.lemmas.List.Elements.{filter-append}
 use Rattle.std.proofs.lemmas.Option.{slice_get_within, get_or_from_slice_get}
 use Rattle.query_lang.specs.declared.fold.TypedFold.{TypedFold}
 use Rattle.query_lang.specs.Folds.{folded, initial_state}
-use Rattle.query_lang.specs.Streams.{values_at}
 use Rattle.epoch_model.specs.declared.tables.Row.{Row}
-use Rattle.epoch_model.specs.Keys.{Key, key_eq, ascending}
+use Rattle.epoch_model.specs.Keys.{Key, key_eq}
 use Rattle.epoch_model.specs.Machine.{lists_of}
 use Rattle.epoch_model.specs.Tables.{exact_row, closed_keys}
 use Rattle.epoch_model.proofs.KeyLists.{by_test}
@@ -16,7 +15,7 @@ use Rattle.backing_store.specs.Store.{Store, IsStore}
 use Rattle.backing_store.specs.SortedRows.{sorted_rows}
 use Rattle.backing_store.specs.HeldRows.{HeldRowsAreTheTables}
 use Rattle.backing_store.specs.Merged.{StoreHolds, shown_row}
-use Rattle.final_queries.specs.Finals.{is_read, columns_of, plain_row, grouped_key, grouped_args, grouped_rows}
+use Rattle.final_queries.specs.Finals.{is_read, plain_row, grouped_key, grouped_args, grouped_rows}
 use Rattle.final_queries.specs.Grouped.{whole_folding, row_epoch, row_epochs, plain_of}
 use Rattle.final_queries.specs.Joining.{reads}
 
@@ -25,27 +24,23 @@ args_of : (keys args : List ℕ) (rows : List Row) (key : Key) → flat_map (λ 
     keys args rows key
 args_of keys args [] key = refl
 args_of keys args (row ∷ rows) key = by_test (key_eq (grouped_key keys row) key)
-    (λ t. rw t (ap (λ rs. values_at (columns_of row) args ∷ rs) (args_of keys args rows key)))
+    (λ t. rw (t, args_of keys args rows key) refl)
     (λ t. rw t (args_of keys args rows key))
 
 keys_of : (keys args : List ℕ) (rows : List Row) → map (λ epoch. epoch.key) (row_epochs keys args rows) ≡ map (grouped_key keys) rows
 keys_of keys args [] = refl
-keys_of keys args (row ∷ rows) = ap (λ ks. grouped_key keys row ∷ ks) (keys_of keys args rows)
+keys_of keys args (row ∷ rows) = rw (keys_of keys args rows) refl
 
 plain_shown : (rows : List Row) → map plain_of rows ≡ map plain_of (map (shown_row false) rows)
 plain_shown [] = refl
-plain_shown (row ∷ rows) = ap (λ rs. plain_of row ∷ rs) (plain_shown rows)
+plain_shown (row ∷ rows) = rw (plain_shown rows) refl
 
 one_each : (f : TypedFold) (keys args : List ℕ) (rows : List Row) (ks : List Key)
     → map plain_of (flat_map (λ k. exact_row (whole_folding f) k (length (lists_of k (row_epochs keys args rows)))
     (flat_map (λ rs. rs) (lists_of k (row_epochs keys args rows))) ∷ []) ks)
     ≡ map (λ key. plain_row key (folded f (initial_state f) (grouped_args keys args rows key))) ks
 one_each f keys args rows [] = refl
-one_each f keys args rows (k ∷ ks) =
-    ap (λ rs. plain_row k (folded f (initial_state f) (flat_map (λ rs. rs) (lists_of k (row_epochs keys args rows)))) ∷ rs)
-    (one_each f keys args rows ks)
-    ∙ ap (λ given. plain_row k (folded f (initial_state f) given) ∷ map
-    (λ key. plain_row key (folded f (initial_state f) (grouped_args keys args rows key))) ks) (args_of keys args rows k)
+one_each f keys args rows (k ∷ ks) = rw (args_of keys args rows k, one_each f keys args rows ks) refl
 
 -- the epochs of the rows that are read, with one more row
 pub epochs_more : (keys args : List ℕ) (rows : List Row) (at : ℕ) (row : Row) → slice_get rows at ≡ Some row
@@ -63,9 +58,9 @@ pub rows_grouped : HeldRowsAreTheTables → (f : TypedFold) (keys args : List �
     → StoreHolds (whole_folding f) store (row_epochs keys args rows)
     → map plain_of (sorted_rows store) ≡ grouped_rows keys (Some f) args rows
 rows_grouped law f keys args rows store s h =
-    let epochs = row_epochs keys args rows in
     plain_shown (sorted_rows store)
-    ∙ (ap (map plain_of) (law.rows (whole_folding f) store epochs s h)
-    ∙ (one_each f keys args rows (closed_keys epochs)
-    ∙ ap (λ ks. map (λ key. plain_row key (folded f (initial_state f) (grouped_args keys args rows key))) (ascending ks))
-    (keys_of keys args rows)))
+    ∙ rw (
+      law.rows (whole_folding f) store (row_epochs keys args rows) s h,
+      one_each f keys args rows (closed_keys (row_epochs keys args rows)),
+      keys_of keys args rows,
+    ) refl

@@ -26,8 +26,7 @@ smaller_more key rows n row rest e h s = rw add-one (by_suc key rows n row rest 
     by_suc : (key : Key) (rows : List Row) (n : ℕ) (row : Row) (rest : List Row) → drop n rows ≡ row ∷ rest
         → (is_read row.mark ≡ true → is_lt (key_cmp row.key key) ≡ true) → AreSmaller key (take n rows) → AreSmaller key (take (suc n) rows)
     by_suc key [] n row rest e h s = tt
-    by_suc key (r ∷ rows) zero row rest e h s = let is = same_row r row rows rest e
-        in (subst (λ x. is_read x.mark ≡ true → is_lt (key_cmp x.key key) ≡ true) (sym is) h, tt)
+    by_suc key (r ∷ rows) zero row rest e h s = (rw (same_row r row rows rest e) h, tt)
     by_suc key (r ∷ rows) (suc n) row rest e h s = (s.0, by_suc key rows n row rest e h s.1)
 
 -- rows with smaller keys don't have this key
@@ -68,10 +67,10 @@ first_joined row ls [] order least = refl
 first_joined row ls (other ∷ rest) order least =
     let e : reads (other ∷ rest) ≡ other ∷ reads rest = rw least.0 refl in
     subst (λ xs. joined_rows (row ∷ ls) xs ≡ joined_first row (other ∷ rest) ++ joined_rows ls xs) (sym e)
-    (next_joined row other ls rest (reads rest) (subst (λ xs. IsAscending (map key_of xs)) e order) least.1)
+    (next_joined row other ls rest (reads rest) (rw least.0 at order) least.1)
 
 -- The rows with smaller keys are passed over, and the row is joined with the first of the others.
-pub joined_on : (row : Row) (ls right front rest : List Row) → right ≡ front ++ rest → IsAscending (map key_of (row ∷ ls))
+joined_on : (row : Row) (ls right front rest : List Row) → right ≡ front ++ rest → IsAscending (map key_of (row ∷ ls))
     → IsAscending (map key_of (reads rest))
     → AreSmaller row.key front → StartsAtLeast row.key rest → joined_rows (row ∷ ls) (reads right) ≡ joined_first row rest
     ++ joined_rows ls (reads rest)
@@ -82,35 +81,22 @@ joined_on row ls right front rest e left order s least =
     ap (λ xs. joined_rows (row ∷ ls) (reads xs)) e ∙ skip ∙ first_joined row ls rest order least
 
 -- what is left is in order
-pub ordered_on : (front rest : List Row) → IsAscending (map key_of (reads (front ++ rest))) → IsAscending (map key_of (reads rest))
+ordered_on : (front rest : List Row) → IsAscending (map key_of (reads (front ++ rest))) → IsAscending (map key_of (reads rest))
 ordered_on [] rest order = order
 ordered_on (row ∷ front) rest order = by_test (is_read row.mark)
     (λ t. ordered_on front rest (rw t at order).1)
     (λ t. ordered_on front rest (rw t at order))
 
 -- a row that is read: it is joined, and what is left of both gives the rest
-pub joined_turn : (whole made after left right front rest : List Row) (i : ℕ) (row : Row) → drop i left ≡ row ∷ drop (i + 1) left
-    → is_read row.mark ≡ true
+pub joined_turn : (whole made after left right front rest : List Row) (i : ℕ) (row : Row)
+    → reads (drop i left) ≡ row ∷ reads (drop (i + 1) left)
     → IsAscending (map key_of (reads left)) → IsAscending (map key_of (reads right)) → right ≡ front ++ rest → AreSmaller row.key front
     → StartsAtLeast row.key rest
     → after ≡ made ++ joined_first row rest → made ++ joined_rows (reads (drop i left)) (reads right) ≡ whole
     → (after ++ joined_rows (reads (drop (i + 1) left)) (reads rest) ≡ whole) × IsAscending (map key_of (reads rest))
-joined_turn whole made after left right front rest i row next t order right_order e smaller least is so_far =
-    let later : IsAscending (map key_of (reads (drop i left))) = ordered_on (take i left) (drop i left)
-    (subst (λ xs. IsAscending (map key_of (reads xs))) (sym (take-append-drop i left)) order) in
+joined_turn whole made after left right front rest i row first order right_order e smaller least is so_far =
+    let later = ordered_on (take i left) (drop i left) (rw take-append-drop order) in
+    let rest_order = ordered_on front rest (rw e at right_order) in
     let ls = reads (drop (i + 1) left) in
-    let first : reads (drop i left) ≡ row ∷ ls = ap reads next ∙ rw t refl in
-    let rest_order = ordered_on front rest (subst (λ xs. IsAscending (map key_of (reads xs))) e right_order) in
-    let on = joined_on row ls right front rest e (subst (λ xs. IsAscending (map key_of xs)) first later) rest_order smaller least in (
-      ap (λ xs. xs ++ joined_rows ls (reads rest)) is ∙ append_assoc made (joined_first row rest) (joined_rows ls (reads rest))
-          ∙ ap (λ xs. made ++ xs) (sym on ∙ ap (λ xs. joined_rows xs (reads right)) (sym first)) ∙ so_far,
-      rest_order,
-    )
-
--- a row that isn't read is left out
-pub unread_turn : (whole made left right : List Row) (i : ℕ) (row : Row) → drop i left ≡ row ∷ drop (i + 1) left → is_read row.mark ≡ false
-    → made ++ joined_rows (reads (drop i left)) (reads right) ≡ whole → made
-    ++ joined_rows (reads (drop (i + 1) left)) (reads right) ≡ whole
-unread_turn whole made left right i row next t so_far =
-    let same : reads (drop i left) ≡ reads (drop (i + 1) left) = ap reads next ∙ rw t refl in
-    ap (λ xs. made ++ joined_rows xs (reads right)) (sym same) ∙ so_far
+    let on = joined_on row ls right front rest e (rw first at later) rest_order smaller least in
+    (rw (is, append_assoc, ← on) (rw first at so_far), rest_order)

@@ -1,9 +1,8 @@
 -- The order of keys.
-use Rattle.std.proofs.Common.{◌≡◌, true, false, List, [], ◌∷◌, refl, sym, ap, ◌∙◌}
+use Rattle.std.proofs.Common.{◌≡◌, true, false, List, [], ◌∷◌, refl, ap, ◌∙◌}
 use Rattle.std.specs.declared.cmp.Ordering.{Ordering}
 use Rattle.std.specs.declared.cmp.Ordering.TheVariants.{Less, Equal, Greater}
 use Rattle.std.specs.Ordering.{is_lt, ordering_reverse}
-use Rattle.std.proofs.lemmas.Bool.{true≢false}
 use Rattle.std.proofs.lemmas.Cmp.{nat_list_cmp_total, tied_itself}
 use Rattle.std.proofs.lemmas.Map.Lookups.{exact_bytes}
 use Rattle.epoch_model.specs.Keys.{Key, key_eq, key_cmp, AreAbove}
@@ -38,25 +37,19 @@ key_cmp-back a b e = nat_list_cmp_total.antisymm b a ∙ ap ordering_reverse e
 pub less_is : (a b : Key) → is_lt (key_cmp a b) ≡ true → key_cmp a b ≡ Less
 less_is a b t = by_order (key_cmp a b)
     (λ e. e)
-    (λ e. absurd (true≢false (sym t ∙ rw e refl)))
-    (λ e. absurd (true≢false (sym t ∙ rw e refl)))
+    (λ e. let no = rw e at t in cc)
+    (λ e. let no = rw e at t in cc)
 
 pub less_apart : (a b : Key) → key_cmp a b ≡ Less → key_eq a b ≡ false
 less_apart a b e = by_test (key_eq a b)
-    (λ t. absurd (less_not_equal (sym e ∙ (ap (λ x. key_cmp a x) (sym (key_eq-true a b t)) ∙ key_cmp-itself a))))
+    (λ t. let no = rw (key_eq-true a b t, key_cmp-itself) at e in cc)
     (λ t. t)
-  where
-    less_not_equal : Less ≡ Equal → ⊥
-    less_not_equal e = cc
 
 pub not_less : (a b : Key) → is_lt (key_cmp a b) ≡ false → key_eq a b ≡ false → key_cmp b a ≡ Less
 not_less a b t n = by_order (key_cmp a b)
-    (λ e. absurd (true≢false (sym (less_true e) ∙ t)))
-    (λ e. absurd (true≢false (sym (key_eq-refl a) ∙ (ap (λ x. key_eq a x) (key_cmp-equal a b e) ∙ n))))
+    (λ e. let no = rw e at t in cc)
+    (λ e. let no = rw (key_cmp-equal a b e, key_eq-refl) at n in cc)
     (λ e. key_cmp-greater a b e)
-  where
-    less_true : {o : Ordering} → o ≡ Less → is_lt o ≡ true
-    less_true e = rw e refl
 
 pub above_less : (a b : Key) (keys : List Key) → key_cmp a b ≡ Less → AreAbove b keys → AreAbove a keys
 above_less a b [] h above = tt

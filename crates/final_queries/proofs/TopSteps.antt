@@ -1,7 +1,8 @@
 -- The rows that `top` keeps, by ranks.
-use Rattle.std.proofs.Common.{◌≡◌, ℕ, suc, ◌+◌, ◌-◌, ◌<◌, ◌≤◌, ◌==◌, ◌&&◌, ◌||◌, Bool, true, false, not, cond, List, [], ◌∷◌, ◌++◌, Option}
-use Rattle.std.proofs.Common.{length, map, get_or, refl, sym, ap, ◌∙◌, subst, arith, append_assoc, length-append}
-use Rattle.std.specs.List.{filter, count_by}
+use Rattle.std.proofs.Common.{◌≡◌, ℕ, suc, ◌+◌, ◌-◌, ◌<◌, ◌≤◌, Bool, true, false, not, cond, List, [], ◌∷◌, ◌++◌, Option}
+use Rattle.std.proofs.Common.{◌*◌, zero-mul, suc-mul, add_comm, length, map, get_or, refl, sym, ap, ◌∙◌, subst, arith, append_assoc}
+use Rattle.std.proofs.Common.{length-append}
+use Rattle.std.specs.List.{All, filter, count_by}
 use Rattle.std.specs.List.Sorted.{IsPermutation}
 use Rattle.std.specs.Prelude.{nat_lt}
 use Rattle.std.specs.declared.cmp.Ordering.TheVariants.{Less}
@@ -9,12 +10,12 @@ use Rattle.std.specs.Ordering.{is_lt}
 use Rattle.std.proofs.lemmas.Bool.{true≢false}
 use Rattle.std.proofs.lemmas.Bool.Decides.{nat_tests}
 use Rattle.std.proofs.lemmas.List.Sorted.{sum_by-IsPermutation}
-use Rattle.std.proofs.lemmas.List.Sums.{sum_by-cons, count_by-le-length}
+use Rattle.std.proofs.lemmas.List.Sums.{sum_by-append, sum_by-cons, count_by-le-length}
 use Rattle.epoch_model.specs.declared.tables.Row.{Row}
 use Rattle.epoch_model.specs.Keys.{key_cmp, AreAbove, IsAscending}
 use Rattle.epoch_model.proofs.KeyLists.{by_test}
 use Rattle.final_queries.specs.declared.top.Rank.{Rank}
-use Rattle.final_queries.specs.Finals.{is_read, plain_row, column_at, goes_before, top_rows}
+use Rattle.final_queries.specs.Finals.{is_read, plain_row, goes_before, top_rows}
 use Rattle.final_queries.specs.Joining.{reads}
 use Rattle.final_queries.specs.Ranks.{rank_of, ranks_from, is_before, is_within}
 use Rattle.final_queries.specs.TopRows.{kept_from}
@@ -28,33 +29,21 @@ passes_on a t q up h = grind (arith, nat_tests)
 stays_after : (a t q : Rank) → is_before a t ≡ false → is_before t q ≡ false → is_before a q ≡ false
 stays_after a t q up h = grind (arith, nat_tests)
 
+lt_true : (m n : ℕ) → m < n → true ≡ nat_lt m n
+lt_true m n h = grind (arith, nat_tests)
+
+lt_false : (m n : ℕ) → n ≤ m → false ≡ nat_lt m n
+lt_false m n h = grind (arith, nat_tests)
+
 count_first : {X : Type 0} (p : X → Bool) (x : X) (xs : List X) → count_by p (x ∷ xs) ≡ cond (p x) 1 0 + count_by p xs
 count_first p x xs = sum_by-cons (λ y. cond (p y) 1 0) x xs
 
-count_all : {X : Type 0} (p : X → Bool) (xs : List X) → ((k : ℕ) (d : X) → k < length xs → p (get_or xs k d) ≡ true)
-    → count_by p xs ≡ length xs
-count_all p [] h = refl
-count_all p (x ∷ xs) h = count_first p x xs ∙ (ap (λ b. cond b 1 0 + count_by p xs) (h 0 x (omega arith))
-    ∙ (let rest = count_all p xs (λ k d within. h (suc k) d (omega arith)) in omega arith))
-
-count_none : {X : Type 0} (p : X → Bool) (xs : List X) → ((k : ℕ) (d : X) → k < length xs → p (get_or xs k d) ≡ false) → count_by p xs ≡ 0
-count_none p [] h = refl
-count_none p (x ∷ xs) h = count_first p x xs ∙ (ap (λ b. cond b 1 0 + count_by p xs) (h 0 x (omega arith))
-    ∙ (let rest = count_none p xs (λ k d within. h (suc k) d (omega arith)) in omega arith))
-
-count_join : {X : Type 0} (p : X → Bool) (xs ys : List X) → count_by p (xs ++ ys) ≡ count_by p xs + count_by p ys
-count_join p [] ys = omega arith
-count_join p (x ∷ xs) ys = count_first p x (xs ++ ys) ∙ (let rest = count_join p xs ys in let one = count_first p x xs in omega arith)
-
-count_split : {X : Type 0} (p : X → Bool) (front back : List X) (t : X) → count_by p (front ++ t ∷ back) ≡ count_by p front
-    + (cond (p t) 1 0 + count_by p back)
-count_split p front back t = count_join p front (t ∷ back) ∙ ap (λ n. count_by p front + n) (count_first p t back)
-
-enough : (count long rest kept : ℕ) → count ≡ long + (1 + rest) → long ≡ kept - 1 → 0 < kept → false ≡ nat_lt count kept
-enough count long rest kept e l some = let much : kept ≤ count = omega arith in grind (arith, nat_tests)
-
-too_few : (count front long kept : ℕ) → count ≡ front + (0 + 0) → front ≤ long → long ≡ kept - 1 → 0 < kept → true ≡ nat_lt count kept
-too_few count front long kept e f l some = let less : count < kept = omega arith in grind (arith, nat_tests)
+-- all of the things pass, or none of them
+count_same : {X : Type 0} (p : X → Bool) (b : Bool) (xs : List X) → All (λ x. p x ≡ b) xs → count_by p xs ≡ length xs * cond b 1 0
+count_same p b [] all = rw zero-mul refl
+count_same p b (x ∷ xs) all =
+    let rest = count_same p b xs (λ k d within. all (suc k) d (omega arith)) in
+    count_first p x xs ∙ rw (all 0 x (omega arith), rest, suc-mul) (add_comm _ _)
 
 -- with the last rank that is kept in its place, few enough go before a rank exactly if it isn't after that one
 pub split_count : (ranks front back : List Rank) (t q : Rank) (kept : ℕ) → IsPermutation ranks (front ++ t ∷ back) → length front ≡ kept - 1
@@ -68,24 +57,23 @@ split_count ranks front back t q kept perm long some ahead later = by (λ o. is_
     by p is =
         let at : (x : Rank) → p x ≡ is_before x q = λ x. ap (λ (f : Rank → Bool). f x) is in
         let same : count_by p ranks ≡ count_by p front + (cond (p t) 1 0 + count_by p back) =
-        sym (sum_by-IsPermutation (λ o. cond (p o) 1 0) ranks (front ++ t ∷ back) perm) ∙ count_split p front back t in
+        sym (sum_by-IsPermutation (λ o. cond (p o) 1 0) ranks (front ++ t ∷ back) perm)
+        ∙ (sum_by-append (λ o. cond (p o) 1 0) front (t ∷ back) ∙ ap (λ n. count_by p front + n) (count_first p t back)) in
         by_test (is_before t q)
         (λ h.
-        let all = count_all p front (λ k d within. at (get_or front k d) ∙ passes_on (get_or front k d) t q (ahead k d within) h) in
-        let total = same ∙ (ap (λ n. n + (cond (p t) 1 0 + count_by p back)) all
-        ∙ ap (λ b. length front + (cond b 1 0 + count_by p back)) (at t ∙ h)) in
-        rw h (enough (count_by p ranks) (length front) (count_by p back) kept total long some))
+        let all = count_same p true front (λ k d within. at (get_or front k d) ∙ passes_on (get_or front k d) t q (ahead k d within) h) in
+        let total = rw (at t ∙ h) at same in
+        rw h (lt_false (count_by p ranks) kept (omega arith)))
         (λ h.
-        let none = count_none p back (λ k d within. at (get_or back k d) ∙ stays_after (get_or back k d) t q (later k d within) h) in
-        let total = same ∙ (ap (λ n. count_by p front + (cond (p t) 1 0 + n)) none
-        ∙ ap (λ b. count_by p front + (cond b 1 0 + 0)) (at t ∙ h)) in
-        rw h (too_few (count_by p ranks) (count_by p front) (length front) kept total (count_by-le-length p front) long some))
+        let none = count_same p false back (λ k d within. at (get_or back k d) ∙ stays_after (get_or back k d) t q (later k d within) h) in
+        let total = rw (at t ∙ h) at same in
+        let few = count_by-le-length p front in
+        rw h (lt_true (count_by p ranks) kept (omega arith)))
 
 pub all_kept : (ranks : List Rank) (q : Rank) (kept : ℕ) → length ranks < kept → true ≡ nat_lt (count_by (λ o. is_before o q) ranks) kept
 all_kept ranks q kept short =
     let few = count_by-le-length (λ (o : Rank). is_before o q) ranks in
-    let less : count_by (λ o. is_before o q) ranks < kept = omega arith in
-    grind (arith, nat_tests)
+    lt_true (count_by (λ o. is_before o q) ranks) kept (omega arith)
 
 abbrev key_of : Row → List ℕ
 key_of row = row.key
@@ -96,11 +84,6 @@ AreOrdered at [] place row = Unit {0}
 AreOrdered at (o ∷ rows) place row = (is_read o.mark ≡ true → is_lt (key_cmp o.key row.key) ≡ nat_lt at place)
     × AreOrdered (suc at) rows place row
 
-same_test : (column at place : ℕ) (o row : Row) → is_lt (key_cmp o.key row.key) ≡ nat_lt at place
-    → is_before (rank_of column at o) (rank_of column place row) ≡ goes_before column o row
-same_test column at place o row h = ap (λ b. nat_lt (column_at column row) (column_at column o) ||
-    ((column_at column row == column_at column o) && b)) (sym h)
-
 -- as many ranks go before the row's as rows go before it
 ranks_count : (column at place : ℕ) (rows : List Row) (row : Row) → AreOrdered at rows place row
     → count_by (λ o. is_before o (rank_of column place row)) (ranks_from column at rows) ≡ count_by (λ o. goes_before column o row)
@@ -110,40 +93,23 @@ ranks_count column at place (o ∷ rows) row h =
     let rest = ranks_count column (suc at) place rows row h.1 in
     by_test (is_read o.mark)
     (λ t.
-    let ranks : ranks_from column at (o ∷ rows) ≡ rank_of column at o ∷ ranks_from column (suc at) rows = rw t refl in
-    let read : reads (o ∷ rows) ≡ o ∷ reads rows = rw t refl in
-    ap (count_by (λ x. is_before x (rank_of column place row))) ranks
-    ∙ (count_first (λ x. is_before x (rank_of column place row)) (rank_of column at o) (ranks_from column (suc at) rows)
-    ∙ (ap (λ b. cond b 1 0 + count_by (λ x. is_before x (rank_of column place row)) (ranks_from column (suc at) rows))
-    (same_test column at place o row (h.0 t))
-    ∙ (ap (λ n. cond (goes_before column o row) 1 0 + n) rest
-    ∙ (sym (count_first (λ x. goes_before column x row) o (reads rows)) ∙ ap (count_by (λ x. goes_before column x row)) (sym read))))))
-    (λ t.
-    let ranks : ranks_from column at (o ∷ rows) ≡ ranks_from column (suc at) rows = rw t refl in
-    let read : reads (o ∷ rows) ≡ reads rows = rw t refl in
-    ap (count_by (λ x. is_before x (rank_of column place row))) ranks ∙ (rest ∙ ap (count_by (λ x. goes_before column x row)) (sym read)))
-
-lt_true : (m n : ℕ) → m < n → true ≡ nat_lt m n
-lt_true m n h = grind (arith, nat_tests)
-
-lt_false : (m n : ℕ) → n ≤ m → false ≡ nat_lt m n
-lt_false m n h = grind (arith, nat_tests)
+    let same : is_before (rank_of column at o) (rank_of column place row) ≡ goes_before column o row = rw (h.0 t) refl in
+    rw t (count_first (λ x. is_before x (rank_of column place row)) (rank_of column at o) (ranks_from column (suc at) rows)
+    ∙ (rw (same, rest) refl ∙ sym (count_first (λ x. goes_before column x row) o (reads rows)))))
+    (λ t. rw t rest)
 
 after_place : (at place : ℕ) (rows : List Row) (row : Row) → place < at → AreAbove row.key (map key_of (reads rows))
     → AreOrdered at rows place row
 after_place at place [] row h above = tt
 after_place at place (o ∷ rows) row h above = by_test (is_read o.mark)
     (λ t.
-    let up : AreAbove row.key (map key_of (o ∷ reads rows)) = rw t at above in
+    let up = rw t at above in
     (λ _. rw (key_cmp-back row.key o.key up.0) (lt_false at place (omega arith)), after_place (suc at) place rows row (omega arith) up.1))
     (λ t. (λ s. absurd (true≢false (sym s ∙ t)), after_place (suc at) place rows row (omega arith) (rw t at above)))
 
 above_in : (key : List ℕ) (front more : List Row) (row : Row) → is_read row.mark ≡ true
     → AreAbove key (map key_of (reads (front ++ row ∷ more))) → key_cmp key row.key ≡ Less
-above_in key [] more row t above = (subst (λ xs. AreAbove key (map key_of xs)) (one t) above).0
-  where
-    one : is_read row.mark ≡ true → reads (row ∷ more) ≡ row ∷ reads more
-    one t = rw t refl
+above_in key [] more row t above = (rw t at above).0
 above_in key (o ∷ front) more row t above = by_test (is_read o.mark)
     (λ s. above_in key front more row t (rw s at above).1)
     (λ s. above_in key front more row t (rw s at above))
@@ -151,16 +117,15 @@ above_in key (o ∷ front) more row t above = by_test (is_read o.mark)
 in_order : (at place : ℕ) (front more : List Row) (row : Row) → place ≡ at + length front → is_read row.mark ≡ true
     → IsAscending (map key_of (reads (front ++ row ∷ more)))
     → AreOrdered at (front ++ row ∷ more) place row
-in_order at place [] more row e t order =
-    let one : reads (row ∷ more) ≡ row ∷ reads more = rw t refl in
-    let up : IsAscending (map key_of (row ∷ reads more)) = subst (λ xs. IsAscending (map key_of xs)) one order in
-    (λ _. rw (key_cmp-itself row.key) (lt_false at place (omega arith)), after_place (suc at) place more row (omega arith) up.0)
+in_order at place [] more row e t order = (
+  λ _. rw (key_cmp-itself row.key) (lt_false at place (omega arith)),
+  after_place (suc at) place more row (omega arith) (rw t at order).0,
+)
 in_order at place (o ∷ front) more row e t order = by_test (is_read o.mark)
     (λ s.
-    let up : IsAscending (map key_of (o ∷ reads (front ++ row ∷ more))) = rw s at order in (
+    let up = rw s at order in (
       λ _. rw (above_in o.key front more row t up.0) (lt_true at place (omega arith)),
-      in_order (suc at) place front more row (omega arith) t
-          up.1,
+      in_order (suc at) place front more row (omega arith) t up.1,
     ))
     (λ s. (λ h. absurd (true≢false (sym h ∙ s)), in_order (suc at) place front more row (omega arith) t (rw s at order)))
 
@@ -181,10 +146,9 @@ kept_rest last column kept all within order front (row ∷ rest) place long spli
     (split ∙ sym (append_assoc front (row ∷ []) rest)) in
     by_test (is_read row.mark)
     (λ t.
-    let ordered = in_order 0 place front rest row (omega arith) t (subst (λ xs. IsAscending (map key_of (reads xs))) split order) in
+    let ordered = in_order 0 place front rest row (omega arith) t (rw split at order) in
     let counted = ranks_count column 0 place all row (subst (λ xs. AreOrdered 0 xs place row) (sym split) ordered) in
-    let same : is_within last (rank_of column place row) ≡ is_top column kept (reads all) row = within (rank_of column place row)
-    ∙ ap (λ n. nat_lt n kept) counted in
+    let same = within (rank_of column place row) ∙ ap (λ n. nat_lt n kept) counted in
     by_test (is_top column kept (reads all) row)
     (λ v. rw (t, same ∙ v, v, next) refl)
     (λ v. rw (t, same ∙ v, v, next) refl))

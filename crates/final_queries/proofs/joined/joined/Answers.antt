@@ -1,8 +1,8 @@
 use Rattle.std.proofs.Common.{◌≡◌, ◌∙◌, ◌+◌, ◌-◌, ◌++◌, ℕ, sym, ap, take, drop, arith}
 use Rattle.std.proofs.lemmas.List.{take-append-drop, drop-drop}
 use Rattle.table_rows.specs.LentRows.{row_of}
-use Rattle.table_rows.proofs.LentFacts.{rows_from}
-use Rattle.final_queries.proofs.JoinSteps.{joined_turn, unread_turn}
+use Rattle.final_queries.proofs.JoinSteps.{joined_turn}
+use Rattle.final_queries.proofs.ReadRows.{read_first, left_out}
 use Rattle.final_queries.proofs.joined.joined.Goals.{then-is_read+in_ok-push_joined, else-is_read}
 use Rattle.final_queries.proofs.joined.joined.Goals as goal
 
@@ -13,7 +13,6 @@ loop-at-preserved g c =
     let right = c.args.right.now in
     let from = c.loop-at.next in
     let row = row_of c.get-row.result in
-    let next = rows_from left i row c.get-row.ensures in
     elim c.if-is_read.branch [
       | then-is_read+in_ok-push_joined w ↦
           let to = w.first_at_least-next.result in
@@ -22,8 +21,8 @@ loop-at-preserved g c =
           let split = sym (take-append-drop passed (drop from right)) ∙ ap (λ rows. take passed (drop from right) ++ rows)
           (drop-drop passed from right ∙ ap (λ k. drop k right) here) in
           let turn = joined_turn _ c.loop-at.made w.push_joined.new.made left (drop from right) (take passed (drop from right))
-          (drop to right) i row next
-          (sym c.is_read.ensures ∙ w.if-is_read.true) c.requires.left c.loop-at.invariant.order split
+          (drop to right) i row (read_first left i row c.get-row.ensures (sym c.is_read.ensures ∙ w.if-is_read.true))
+          c.requires.left c.loop-at.invariant.order split
           w.first_at_least-next.ensures.smaller w.first_at_least-next.ensures.least w.in_ok-push_joined.ensures.made
           c.loop-at.invariant.made in
           rw (w.made-is, w.next-is, w.steps-is) record {
@@ -34,8 +33,7 @@ loop-at-preserved g c =
                 c.loop-at.invariant.steps in omega arith;
           }
       | else-is_read w ↦ rw (w.made-is, w.next-is, w.steps-is) record {
-        made = unread_turn _ c.loop-at.made left (drop from right) i row next (sym c.is_read.ensures ∙ w.if-is_read.false)
-            c.loop-at.invariant.made;
+        made = rw (← left_out left i row c.get-row.ensures (sym c.is_read.ensures ∙ w.if-is_read.false)) c.loop-at.invariant.made;
         within = c.loop-at.invariant.within;
         order = c.loop-at.invariant.order;
         steps = c.loop-at.invariant.steps;
