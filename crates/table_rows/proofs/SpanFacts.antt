@@ -1,11 +1,9 @@
 -- The rows of spans, where words are appended.
-use Rattle.std.proofs.Common.{◌≡◌, ℕ, zero, suc, set, slice_get, Some, ◌+◌, ◌≤◌, List, [], ◌∷◌, ◌++◌, length, take, drop, refl, sym, ap}
+use Rattle.std.proofs.Common.{◌≡◌, ℕ, slice_get, Some, ◌+◌, ◌<◌, ◌≤◌, get_or, List, [], ◌∷◌, ◌++◌, length, take, drop, refl, sym, ap}
 use Rattle.std.proofs.Common.{ap₂, ◌∙◌, arith, length-append, length-drop, drop-drop, append_assoc, append-nil, ◌-◌}
 use Rattle.std.proofs.lemmas.List.{take-append-le, drop-append-le, take_at, drop_at}
-use Rattle.std.proofs.lemmas.List.{map-append}
-use Rattle.std.proofs.lemmas.Option.{same_Some}
-use Rattle.epoch_model.specs.declared.tables.Mark.{Mark}
-use Rattle.epoch_model.specs.declared.tables.Mark.TheVariants.{Plain}
+use Rattle.std.proofs.lemmas.List.{length-map, map-append}
+use Rattle.std.proofs.lemmas.Option.{same_Some, slice_get-map, slice_get_read}
 use Rattle.std.proofs.lemmas.List.Elements.{All-head, All-push, All-tail, All-weaker}
 use Rattle.epoch_model.specs.declared.tables.Row.{Row}
 use Rattle.table_rows.specs.declared.span.Span.{Span}
@@ -73,22 +71,10 @@ within_pushed words key values spans span within start size count =
     spans within)
     (omega (arith, start, size, count, length-append words (key ++ values), length-append key values)))
 
--- the rows where a span has another mark and another epoch
-pub set_marked : (words : List ℕ) (spans : List Span) (at : ℕ) (span : Span) (mark : Mark) (epoch : ℕ) (row : Row)
-    → slice_get spans at ≡ Some span → slice_get (rows_in words spans) at ≡ Some row
-    → rows_in words (set spans at (record span { mark = mark; epoch = epoch })) ≡ set (rows_in words spans) at
-    (record row { mark = mark; epoch = epoch })
-set_marked words [] at span mark epoch row stands here = cc here
-set_marked words (first ∷ spans) zero span mark epoch row stands here = rw (← same_Some _ _ stands, ← same_Some _ _ here) refl
-set_marked words (first ∷ spans) (suc at) span mark epoch row stands here =
-    ap (λ (rows : List Row). row_in words first ∷ rows) (set_marked words spans at span mark epoch row stands here)
-
--- the rows where a span is plain
-pub set_plained : (words : List ℕ) (spans : List Span) (at : ℕ) (span : Span) (row : Row)
-    → slice_get spans at ≡ Some span → slice_get (rows_in words spans) at ≡ Some row
-    → rows_in words (set spans at (record span { mark = Plain; epoch = 0; epochs = 0 })) ≡ set (rows_in words spans) at
-    (record row { mark = Plain; epoch = 0; epochs = 0 })
-set_plained words [] at span row stands here = cc here
-set_plained words (first ∷ spans) zero span row stands here = rw (← same_Some _ _ stands, ← same_Some _ _ here) refl
-set_plained words (first ∷ spans) (suc at) span row stands here =
-    ap (λ (rows : List Row). row_in words first ∷ rows) (set_plained words spans at span row stands here)
+-- the row that stands at a place is that of the span there
+pub row_there : (words : List ℕ) (spans : List Span) (rows : List Row) (at : ℕ) (span : Span) (row : Row) → rows_in words spans ≡ rows
+    → at < length rows → span ≡ get_or spans at span → slice_get rows at ≡ Some row → row ≡ row_in words span
+row_there words spans rows at span row shown within stands here =
+    let inside : at < length spans = omega (arith, within, ap length shown, length-map spans (row_in words)) in
+    let first = slice_get_read spans (length spans) at span refl inside stands in
+    same_Some _ _ (sym here ∙ rw (← shown, slice_get-map, first) refl)
