@@ -9,4 +9,3 @@ pub mod StateLengths
 mod MadeRows
 mod TablesRead
 mod ReadRows
-mod RankedRows

@@ -1,11 +1,9 @@
 -- The rows that are read, from a place on, one by one.
-use Rattle.std.proofs.Common.{◌≡◌, ℕ, ◌+◌, true, false, List, [], ◌∷◌, ◌++◌, ◌∙◌, Some, drop, ap, sym, slice_get, refl, append_assoc}
-use Rattle.query_lang.specs.declared.fold.TypedExpr.{TypedExpr}
-use Rattle.query_lang.specs.Streams.{expr_value}
-use Rattle.query_lang.specs.Words.{holds}
+use Rattle.std.proofs.Common.{length, sym, ◌≡◌, ℕ, ◌+◌, true, false, List, ◌∷◌, ◌++◌, ◌∙◌, Some, drop, ap, slice_get, refl, append_assoc}
+use Rattle.std.specs.List.{All}
 use Rattle.epoch_model.specs.declared.tables.Row.{Row}
-use Rattle.table_rows.proofs.LentFacts.{rows_from}
-use Rattle.final_queries.specs.Finals.{is_read, columns_of, plain_row, filtered_rows, mapped_row, mapped_rows}
+use Rattle.table_rows.proofs.LentFacts.{holds_at, rows_from}
+use Rattle.final_queries.specs.Finals.{is_read, columns_of}
 use Rattle.final_queries.specs.Joining.{reads}
 
 -- a row that is read comes first
@@ -18,22 +16,21 @@ pub left_out : (rows : List Row) (at : ℕ) (row : Row) → slice_get rows at �
     → reads (drop at rows) ≡ reads (drop (at + 1) rows)
 left_out rows at row here unread = ap reads (rows_from rows at row here) ∙ rw unread refl
 
--- some more rows were made, and those that are left make the rest
-pub some_more : {X : Type 0} (whole made after more before rest : List X) → before ≡ more ++ rest → after ≡ made ++ more → made
-    ++ before ≡ whole → after ++ rest ≡ whole
-some_more whole made after more before rest split is so_far =
-    ap (λ xs. xs ++ rest) is ∙ (append_assoc made more rest ∙ (ap (λ xs. made ++ xs) (sym split) ∙ so_far))
+-- the columns of a row at a place are as many as those of each row
+pub width_at : (rows : List Row) (at width : ℕ) (row : Row) (columns : List ℕ) → All (λ row. length (columns_of row) ≡ width) rows
+    → slice_get rows at ≡ Some row → columns ≡ columns_of row → width ≡ length columns
+width_at rows at width row columns all here joined =
+    sym (ap length joined ∙ holds_at (λ row. length (columns_of row) ≡ width) rows at row all here)
 
-pub filtered_first : (e : TypedExpr) (rows : List Row) (at : ℕ) (row : Row) → slice_get rows at ≡ Some row → is_read row.mark ≡ true
-    → holds (expr_value e (columns_of row)) ≡ true
-    → filtered_rows e (reads (drop at rows)) ≡ plain_row row.key row.values ∷ [] ++ filtered_rows e (reads (drop (at + 1) rows))
-filtered_first e rows at row here read holding = ap (filtered_rows e) (read_first rows at row here read) ∙ rw holding refl
+-- Of what is made of rows, row by row, more is made of the row at a place.
+pub made_on : {X : Type 0} (of : ℕ → List Row → List X) (whole made after more : List X) (rows : List Row) (at : ℕ) (row : Row)
+    → slice_get rows at ≡ Some row → after ≡ made ++ more → ((rest : List Row) → of at (row ∷ rest) ≡ more ++ of (at + 1) rest)
+    → made ++ of at (drop at rows) ≡ whole → after ++ of (at + 1) (drop (at + 1) rows) ≡ whole
+made_on of whole made after more rows at row here is first so_far =
+    rw (is, append_assoc, ← first (drop (at + 1) rows), ← rows_from rows at row here) so_far
 
-pub filtered_out : (e : TypedExpr) (rows : List Row) (at : ℕ) (row : Row) → slice_get rows at ≡ Some row → is_read row.mark ≡ true
-    → holds (expr_value e (columns_of row)) ≡ false
-    → filtered_rows e (reads (drop at rows)) ≡ filtered_rows e (reads (drop (at + 1) rows))
-filtered_out e rows at row here read failing = ap (filtered_rows e) (read_first rows at row here read) ∙ rw failing refl
-
-pub mapped_first : (values : List TypedExpr) (rows : List Row) (at : ℕ) (row : Row) → slice_get rows at ≡ Some row → is_read row.mark ≡ true
-    → mapped_rows values (reads (drop at rows)) ≡ mapped_row values row ∷ [] ++ mapped_rows values (reads (drop (at + 1) rows))
-mapped_first values rows at row here read = ap (mapped_rows values) (read_first rows at row here read)
+-- Nothing is made of the row.
+pub passed_on : {X : Type 0} (of : ℕ → List Row → List X) (whole made : List X) (rows : List Row) (at : ℕ) (row : Row)
+    → slice_get rows at ≡ Some row → ((rest : List Row) → of at (row ∷ rest) ≡ of (at + 1) rest)
+    → made ++ of at (drop at rows) ≡ whole → made ++ of (at + 1) (drop (at + 1) rows) ≡ whole
+passed_on of whole made rows at row here skip so_far = rw (← skip (drop (at + 1) rows), ← rows_from rows at row here) so_far

@@ -1,11 +1,11 @@
 // Finals that take one table row by row.
 
-ghost use Rattle.std.specs.Prelude.{◌≡◌, ◌+◌, ◌≤◌, ◌++◌, ◌∷◌, [], All, length, map, IfOk, OnOk};
+ghost use Rattle.std.specs.Prelude.{◌≡◌, ◌≤◌, ◌++◌, ◌∷◌, [], All, length, map, IfOk, OnOk};
 ghost use Rattle.query_lang.specs.Streams.{expr_value};
 ghost use Rattle.query_lang.specs.Folds.{IsValidTerm};
 ghost use Rattle.query_lang.specs.Terms.{term_of};
 ghost use Rattle.table_rows.specs.LentRows.{row_of};
-ghost use Rattle.final_queries.specs.Finals.{HasColumns, is_read, columns_of, plain_row, filtered_rows, mapped_row, mapped_rows};
+ghost use Rattle.final_queries.specs.Finals.{is_read, columns_of, plain_row, filtered_rows, mapped_row, mapped_rows};
 ghost use Rattle.final_queries.specs.Joining.{reads};
 
 use crate::value::value_of;
@@ -55,17 +55,15 @@ pub fn push_plain<L: Ledger>(
 }
 
 /// The rows where the condition holds.
-#[tactic(auto, using(table_rows::proofs::LentFacts::holds_at))]
 pub fn filtered<L: Ledger>(
     alloc: Global,
     condition: &TypedExpr,
     rows: &Rows,
-    keys: usize,
-    others: usize,
+    width: usize,
     steps: &mut Steps<L>,
 ) -> Result<Rows, AllocError>
-    requires condition { IsValidTerm (keys + others) (term_of condition.now) }
-    requires rows { All (HasColumns keys others) rows.now }
+    requires condition { IsValidTerm width (term_of condition.now) }
+    requires rows { All (λ row. length (columns_of row) ≡ width) rows.now }
     ensures rows { IfOk result (λ made. made ≡ filtered_rows condition.now (reads rows.now)) }
     ensures steps { steps.old ≤ steps.new }
 {
@@ -118,25 +116,23 @@ fn push_mapped<L: Ledger>(
 }
 
 /// Each row with the new values after its old ones. Memory is taken once for all rows.
-#[tactic(auto, using(table_rows::proofs::LentFacts::holds_at))]
 pub fn mapped<L: Ledger>(
     alloc: Global,
     values: &[TypedExpr],
     rows: &Rows,
-    keys: usize,
-    others: usize,
+    width: usize,
     steps: &mut Steps<L>,
 ) -> Result<Rows, AllocError>
-    requires values { All (λ e. IsValidTerm (keys + others) (term_of e)) values.now }
-    requires rows { All (HasColumns keys others) rows.now }
+    requires values { All (λ e. IsValidTerm width (term_of e)) values.now }
+    requires rows { All (λ row. length (columns_of row) ≡ width) rows.now }
     ensures rows { IfOk result (λ made. made ≡ mapped_rows values.now (reads rows.now)) }
     ensures steps { steps.old ≤ steps.new }
 {
     let count = read_count(rows);
-    let width = keys.saturating_add(others).saturating_add(values.len());
+    let made_width = width.saturating_add(values.len());
     let mut all = Vec::new(alloc);
     let mut made = Rows::new(alloc);
-    made.reserve(count, count.saturating_mul(width))?;
+    made.reserve(count, count.saturating_mul(made_width))?;
     for at in 0..rows.len() {
         let row = rows.get(at);
         if is_read(row.mark) {

@@ -1,12 +1,9 @@
 //! Tables made of tables.
 
-ghost use Rattle.std.specs.Prelude.{◌≡◌, ◌+◌, ◌<◌, ◌≤◌, All, Some, length, map, slice_get, IfOk};
-ghost use Rattle.query_lang.specs.declared.fold.TypedFold.{TypedFold as AnyFold};
-ghost use Rattle.query_lang.specs.Folds.{IsValidFold, IsValidTerm, fold_args};
-ghost use Rattle.query_lang.specs.Terms.{term_of};
-ghost use Rattle.query_lang.specs.TypedQueries.{AreNames, AreSlots, IsValidFinal, final_shape};
-ghost use Rattle.final_queries.specs.Finals.{IsTable, table_shape, rows_read, name_text, filtered_rows, mapped_rows, grouped_rows};
-ghost use Rattle.final_queries.specs.Finals.{joined_rows, top_rows, final_rows, final_table};
+ghost use Rattle.std.specs.Prelude.{◌≡◌, ◌<◌, ◌≤◌, All, length, map, IfOk};
+ghost use Rattle.query_lang.specs.Folds.{IsValidFold};
+ghost use Rattle.query_lang.specs.TypedQueries.{AreNames, IsValidFinal, final_shape};
+ghost use Rattle.final_queries.specs.Finals.{IsTable, table_shape, name_text, final_rows, final_table};
 
 use crate::grouped::grouped;
 use crate::joined::joined;
@@ -15,109 +12,10 @@ use crate::rows::{filtered, mapped};
 use crate::table::{Table, TableKind};
 use crate::top::top;
 use marple_base::{Seq, Steps, Text};
-use query_lang::{Names, TypedExpr, TypedFinal, TypedFinalOp, TypedFold};
+use query_lang::{Names, TypedFinal, TypedFinalOp, TypedFold};
 use std::alloc::{AllocError, Global};
 use std::sync::ledger::Ledger;
 use table_rows::Rows;
-
-impl Table {
-    // The number of columns after the keys.
-    fn others(&self) -> usize
-        requires { self.now.keys ≤ length self.now.columns }
-        ensures { self.now.keys + result ≡ length self.now.columns }
-    {
-        self.columns.len() - self.keys as usize
-    }
-}
-
-fn filter_table<L: Ledger>(
-    alloc: Global,
-    condition: &TypedExpr,
-    table: &Table,
-    steps: &mut Steps<L>,
-) -> Result<Rows, AllocError>
-    requires table { IsTable table.now }
-    requires condition { IsValidTerm (length table.now.columns) (term_of condition.now) }
-    ensures rows { IfOk result (λ rows. rows ≡ filtered_rows condition.now (rows_read table.now)) }
-    ensures steps { steps.old ≤ steps.new }
-{
-    let keys = table.keys as usize;
-    filtered(alloc, condition, &table.rows, keys, table.others(), steps)
-}
-
-fn map_table<L: Ledger>(
-    alloc: Global,
-    values: &[TypedExpr],
-    table: &Table,
-    steps: &mut Steps<L>,
-) -> Result<Rows, AllocError>
-    requires table { IsTable table.now }
-    requires values { All (λ e. IsValidTerm (length table.now.columns) (term_of e)) values.now }
-    ensures rows { IfOk result (λ rows. rows ≡ mapped_rows values.now (rows_read table.now)) }
-    ensures steps { steps.old ≤ steps.new }
-{
-    let keys = table.keys as usize;
-    mapped(alloc, values, &table.rows, keys, table.others(), steps)
-}
-
-fn group_table<L: Ledger>(
-    alloc: Global,
-    keys: &[u16],
-    f: &TypedFold,
-    args: &[u16],
-    table: &Table,
-    steps: &mut Steps<L>,
-) -> Result<Rows, AllocError>
-    requires table { IsTable table.now }
-    requires valid { IsValidFold f.now }
-    requires keys { AreSlots (length table.now.columns) keys.now }
-    requires args { AreSlots (length table.now.columns) args.now }
-    requires all_args { fold_args f.now ≡ length args.now }
-    ensures rows { IfOk result (λ rows. rows ≡ grouped_rows keys.now (Some f.now) args.now (rows_read table.now)) }
-    ensures steps { steps.old ≤ steps.new }
-{
-    let width = table.columns.len();
-    grouped(alloc, keys, f, args, &table.rows, width, steps)
-}
-
-fn join_tables<L: Ledger>(
-    alloc: Global,
-    left: &Table,
-    right: &Table,
-    steps: &mut Steps<L>,
-) -> Result<Rows, AllocError>
-    requires left { IsTable left.now }
-    requires right { IsTable right.now }
-    ensures rows { IfOk result (λ rows. rows ≡ joined_rows (rows_read left.now) (rows_read right.now)) }
-    ensures steps { steps.old ≤ steps.new }
-{
-    joined(alloc, &left.rows, &right.rows, steps)
-}
-
-fn top_of_table<L: Ledger>(
-    alloc: Global,
-    column: usize,
-    kept: usize,
-    table: &Table,
-    steps: &mut Steps<L>,
-) -> Result<Rows, AllocError>
-    requires table { IsTable table.now }
-    requires column { column < length table.now.columns }
-    requires kept { 0 < kept }
-    ensures rows { IfOk result (λ rows. rows ≡ top_rows column kept (rows_read table.now)) }
-    ensures steps { steps.old ≤ steps.new }
-{
-    let keys = table.keys as usize;
-    top(
-        alloc,
-        &table.rows,
-        column,
-        kept,
-        keys,
-        table.others(),
-        steps,
-    )
-}
 
 // The rows of a final.
 fn rows_made<L: Ledger>(
@@ -136,27 +34,49 @@ fn rows_made<L: Ledger>(
 {
     match &one.op {
         TypedFinalOp::Filter(input, condition) => {
-            filter_table(alloc, condition, tables.get(*input as usize), steps)
+            let table = tables.get(*input as usize);
+            filtered(alloc, condition, &table.rows, table.columns.len(), steps)
         }
         TypedFinalOp::Map(input, values) => {
-            map_table(alloc, values.as_slice(), tables.get(*input as usize), steps)
-        }
-        TypedFinalOp::Group(input, keys, f, args) => {
-            let fold = folds.get(*f as usize);
             let table = tables.get(*input as usize);
-            group_table(alloc, keys.as_slice(), fold, args.as_slice(), table, steps)
-        }
-        TypedFinalOp::Join(left, right) => {
-            join_tables(
+            mapped(
                 alloc,
-                tables.get(*left as usize),
-                tables.get(*right as usize),
+                values.as_slice(),
+                &table.rows,
+                table.columns.len(),
                 steps,
             )
         }
+        TypedFinalOp::Group(input, keys, f, args) => {
+            let table = tables.get(*input as usize);
+            let fold = folds.get(*f as usize);
+            let width = table.columns.len();
+            grouped(
+                alloc,
+                keys.as_slice(),
+                fold,
+                args.as_slice(),
+                &table.rows,
+                width,
+                steps,
+            )
+        }
+        TypedFinalOp::Join(left, right) => {
+            let first = tables.get(*left as usize);
+            let second = tables.get(*right as usize);
+            joined(alloc, &first.rows, &second.rows, steps)
+        }
         TypedFinalOp::Top(input, column, kept) => {
             let table = tables.get(*input as usize);
-            top_of_table(alloc, *column as usize, *kept as usize, table, steps)
+            let width = table.columns.len();
+            top(
+                alloc,
+                &table.rows,
+                *column as usize,
+                *kept as usize,
+                width,
+                steps,
+            )
         }
     }
 }

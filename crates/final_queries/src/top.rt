@@ -1,10 +1,10 @@
 // The rows of a table that are greatest in one column.
 
-ghost use Rattle.std.specs.Prelude.{◌≡◌, ◌+◌, ◌-◌, ◌^◌, ◌<◌, ◌≤◌, All, Some, length, map, nat_lt, count_by, slice_get};
+ghost use Rattle.std.specs.Prelude.{◌≡◌, ◌-◌, ◌^◌, ◌<◌, ◌≤◌, All, Some, length, map, nat_lt, count_by, slice_get};
 ghost use Rattle.std.specs.Prelude.{IfOk};
 ghost use Rattle.epoch_model.specs.Keys.{IsAscending};
 ghost use Rattle.table_rows.specs.LentRows.{row_of};
-ghost use Rattle.final_queries.specs.Finals.{HasColumns, top_rows};
+ghost use Rattle.final_queries.specs.Finals.{columns_of, top_rows};
 ghost use Rattle.final_queries.specs.Joining.{reads};
 ghost use Rattle.final_queries.specs.Ranks.{rank_of, ranks_from, is_before, is_within};
 
@@ -38,12 +38,11 @@ fn ranks_of<L: Ledger>(
     alloc: Global,
     rows: &Rows,
     column: usize,
-    keys: usize,
-    others: usize,
+    width: usize,
     steps: &mut Steps<L>,
 ) -> Result<Vec<Rank>, AllocError>
-    requires column { column < keys + others }
-    requires rows { All (HasColumns keys others) rows.now }
+    requires column { column < width }
+    requires rows { All (λ row. length (columns_of row) ≡ width) rows.now }
     ensures ranks { IfOk result (λ ranks. ranks.items ≡ ranks_from column 0 rows.now) }
     ensures steps { steps.old ≤ steps.new }
 {
@@ -87,22 +86,21 @@ pub fn top<L: Ledger>(
     rows: &Rows,
     column: usize,
     kept: usize,
-    keys: usize,
-    others: usize,
+    width: usize,
     steps: &mut Steps<L>,
 ) -> Result<Rows, AllocError>
-    requires column { column < keys + others }
-    requires rows { All (HasColumns keys others) rows.now }
+    requires column { column < width }
+    requires rows { All (λ row. length (columns_of row) ≡ width) rows.now }
     requires order { IsAscending (map (λ row. row.key) (reads rows.now)) }
     requires kept { 0 < kept }
     ensures rows { IfOk result (λ made. made ≡ top_rows column kept (reads rows.now)) }
     ensures steps { steps.old ≤ steps.new }
 {
-    let mut ranks = ranks_of(alloc, rows, column, keys, others, steps)?;
+    let mut ranks = ranks_of(alloc, rows, column, width, steps)?;
     let last = last_kept(ranks.as_mut_slice(), kept);
     let count = ranks.len().min(kept);
     let mut made = Rows::new(alloc);
-    made.reserve(count, count.saturating_mul(keys.saturating_add(others)))?;
+    made.reserve(count, count.saturating_mul(width))?;
     for place in 0..rows.len() {
         let row = rows.get(place);
         if is_read(row.mark) {

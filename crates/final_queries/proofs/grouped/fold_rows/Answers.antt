@@ -1,24 +1,21 @@
-use Rattle.std.proofs.Common.{◌≡◌, ◌∙◌, sym, ap, subst, length, arith, length-take, length-append, length-drop}
+use Rattle.std.proofs.Common.{◌∙◌, sym, ap, subst, length, arith, length-take, length-append, length-drop}
 use Rattle.backing_store.specs.Merged.{StoreHolds}
 use Rattle.query_lang.specs.TypedQueries.{AreSlots}
 use Rattle.table_rows.specs.LentRows.{row_of}
-use Rattle.table_rows.proofs.LentFacts.{holds_at}
-use Rattle.final_queries.specs.Finals.{columns_of}
 use Rattle.final_queries.specs.Grouped.{whole_folding}
 use Rattle.final_queries.proofs.GroupSteps.{epochs_more}
+use Rattle.final_queries.proofs.ReadRows.{width_at}
 use Rattle.final_queries.proofs.grouped.fold_rows.Goals as goal
 
 pub fold_row-requires-clause-keys : goal.fold_row-requires-clause-keys
 fold_row-requires-clause-keys g c =
-    let wide = holds_at (λ row. length (columns_of row) ≡ c.args.width) c.args.rows.now c.loop-at.at (row_of c.get-row.result)
-    c.requires.rows c.get-row.ensures in
-    subst (λ width. AreSlots width c.args.keys.now) (sym (ap length c.get-row.result.joined ∙ wide)) c.requires.keys
+    let wide = width_at _ _ _ _ _ c.requires.rows c.get-row.ensures c.get-row.result.joined in
+    subst (λ width. AreSlots width c.args.keys.now) wide c.requires.keys
 
 pub fold_row-requires-clause-args : goal.fold_row-requires-clause-args
 fold_row-requires-clause-args g c =
-    let wide = holds_at (λ row. length (columns_of row) ≡ c.args.width) c.args.rows.now c.loop-at.at (row_of c.get-row.result)
-    c.requires.rows c.get-row.ensures in
-    subst (λ width. AreSlots width c.args.args.now) (sym (ap length c.get-row.result.joined ∙ wide)) c.requires.args
+    let wide = width_at _ _ _ _ _ c.requires.rows c.get-row.ensures c.get-row.result.joined in
+    subst (λ width. AreSlots width c.args.args.now) wide c.requires.args
 
 pub loop-at-preserved : goal.loop-at-preserved
 loop-at-preserved g c =

@@ -1,27 +1,40 @@
-use Rattle.std.proofs.Common.{◌∙◌, sym, ap, arith}
+use Rattle.std.proofs.Common.{◌∙◌, ℕ, List, sym, subst, refl, le_trans}
+use Rattle.std.specs.List.{All}
+use Rattle.query_lang.specs.Folds.{IsValidTerm}
+use Rattle.query_lang.specs.Terms.{term_of}
+use Rattle.epoch_model.specs.declared.tables.Row.{Row}
 use Rattle.table_rows.specs.LentRows.{row_of}
 use Rattle.final_queries.specs.Finals.{mapped_rows}
-use Rattle.final_queries.proofs.ReadRows.{left_out, some_more, mapped_first}
+use Rattle.final_queries.specs.Joining.{reads}
+use Rattle.final_queries.proofs.ReadRows.{made_on, passed_on, width_at}
 use Rattle.final_queries.proofs.rows.mapped.Goals.{then-is_read+in_ok-push_mapped, else-is_read}
 use Rattle.final_queries.proofs.rows.mapped.Goals as goal
 
+pub push_mapped-requires : goal.push_mapped-requires
+push_mapped-requires g c =
+    let wide = width_at _ _ _ _ _ c.requires.rows c.get-row.ensures c.get-row.result.joined in
+    subst (λ width. All (λ e. IsValidTerm width (term_of e)) c.args.values.now) wide c.requires.values
+
 pub loop-at-preserved : goal.loop-at-preserved
 loop-at-preserved g c =
-    let values = c.args.values.now in
-    let rows = c.args.rows.now in
-    let i = c.loop-at.at in
+    let of : ℕ → List Row → List Row = λ _ rows. mapped_rows c.args.values.now (reads rows) in
     let row = row_of c.get-row.result in
+    let rows = c.args.rows.now in
+    let at = c.loop-at.at in
     let so_far = c.loop-at.invariant.rows in
     let steps = c.loop-at.invariant.steps in
     elim c.if-is_read.branch [
       | then-is_read+in_ok-push_mapped w ↦
-          let first = mapped_first values rows i row c.get-row.ensures (sym c.is_read.ensures ∙ w.if-is_read.true) in
+          let read = sym c.is_read.ensures ∙ w.if-is_read.true in
           rw (w.made-is, w.steps-is) record {
-            rows = some_more _ c.loop-at.made _ _ _ _ first w.in_ok-push_mapped.ensures.row so_far;
-            steps = let b = w.push_mapped.ensures.steps in omega arith;
+            rows = made_on of _ c.loop-at.made _ _ rows at row c.get-row.ensures w.in_ok-push_mapped.ensures.row
+                (λ rest. rw read refl) so_far;
+            steps = le_trans steps w.push_mapped.ensures.steps;
           }
-      | else-is_read w ↦ rw (w.made-is, w.steps-is) record {
-        rows = rw (← ap (mapped_rows values) (left_out rows i row c.get-row.ensures (sym c.is_read.ensures ∙ w.if-is_read.false))) so_far;
-        steps = steps;
-      }
+      | else-is_read w ↦
+          let unread = sym c.is_read.ensures ∙ w.if-is_read.false in
+          rw (w.made-is, w.steps-is) record {
+            rows = passed_on of _ c.loop-at.made rows at row c.get-row.ensures (λ rest. rw unread refl) so_far;
+            steps = steps;
+          }
     ]

@@ -1,12 +1,11 @@
-use Rattle.std.proofs.Common.{◌≤◌, ◌∙◌, ◌++◌, sym, ap, length, append-nil, arith}
+use Rattle.std.proofs.Common.{◌<◌, subst, ◌≤◌, ◌∙◌, ◌++◌, sym, ap, length, append-nil, refl, add-one, arith}
 use Rattle.std.specs.List.{count_by}
 use Rattle.std.specs.Prelude.{nat_lt}
 use Rattle.std.proofs.lemmas.List.{drop_all}
 use Rattle.table_rows.specs.LentRows.{row_of}
 use Rattle.final_queries.specs.Ranks.{is_before, is_within}
 use Rattle.final_queries.specs.TopRows.{kept_from}
-use Rattle.final_queries.proofs.ReadRows.{some_more}
-use Rattle.final_queries.proofs.RankedRows.{kept_first, kept_after, kept_out}
+use Rattle.final_queries.proofs.ReadRows.{made_on, passed_on, width_at}
 use Rattle.final_queries.proofs.TopSteps.{kept_top}
 use Rattle.final_queries.proofs.top.top.Goals.{then-is_read+then-is_kept+in_ok-push_plain, then-is_read+else-is_kept, else-is_read}
 use Rattle.final_queries.proofs.top.top.Goals as goal
@@ -23,31 +22,40 @@ returns-clause-rows g c =
     whole ∙ kept_top last c.args.column c.args.kept rows (λ rank. c.last_kept-last.ensures rank
     ∙ ap (λ rs. nat_lt (count_by (λ o. is_before o rank) rs) c.args.kept) ranks) c.requires.order
 
+pub rank_of-requires : goal.rank_of-requires
+rank_of-requires g c =
+    let wide = width_at _ _ _ _ _ c.requires.rows c.get-row.ensures c.get-row.result.joined in
+    subst (λ width. c.args.column < width) wide c.requires.column
+
 pub loop-place-preserved : goal.loop-place-preserved
 loop-place-preserved g c =
     let last = c.last_kept-last.result in
-    let column = c.args.column in
-    let rows = c.args.rows.now in
-    let place = c.loop-place.place in
+    let of = kept_from last c.args.column in
     let row = row_of c.get-row.result in
+    let rows = c.args.rows.now in
+    let at = c.loop-place.place in
     let so_far = c.loop-place.invariant.rows in
     let steps = c.loop-place.invariant.steps in
     elim c.if-is_read.branch [
       | then-is_read+then-is_kept+in_ok-push_plain w ↦
+          let read = sym c.is_read.ensures ∙ w.if-is_read.true in
           let within = ap (is_within last) (sym w.rank_of.ensures) ∙ (sym w.is_kept.ensures ∙ w.if-is_kept.true) in
-          let first = kept_first last column rows place row c.get-row.ensures (sym c.is_read.ensures ∙ w.if-is_read.true) within in
           rw (w.made-is, w.steps-is) record {
-            rows = some_more _ c.loop-place.made _ _ _ _ first w.in_ok-push_plain.ensures.row so_far;
+            rows = made_on of _ c.loop-place.made _ _ rows at row c.get-row.ensures w.in_ok-push_plain.ensures.row
+                (λ rest. rw (read, within, add-one) refl) so_far;
             steps = let t = w.tick_many.ensures in let b = w.push_plain.ensures.steps in omega arith;
           }
       | then-is_read+else-is_kept w ↦
+          let read = sym c.is_read.ensures ∙ w.if-is_read.true in
           let later = ap (is_within last) (sym w.rank_of.ensures) ∙ (sym w.is_kept.ensures ∙ w.if-is_kept.false) in
           rw (w.made-is, w.steps-is) record {
-            rows = rw (← kept_after last column rows place row c.get-row.ensures (sym c.is_read.ensures ∙ w.if-is_read.true) later) so_far;
+            rows = passed_on of _ c.loop-place.made rows at row c.get-row.ensures (λ rest. rw (read, later, add-one) refl) so_far;
             steps = let t = w.tick_many.ensures in omega arith;
           }
-      | else-is_read w ↦ rw (w.made-is, w.steps-is) record {
-        rows = rw (← kept_out last column rows place row c.get-row.ensures (sym c.is_read.ensures ∙ w.if-is_read.false)) so_far;
-        steps = steps;
-      }
+      | else-is_read w ↦
+          let unread = sym c.is_read.ensures ∙ w.if-is_read.false in
+          rw (w.made-is, w.steps-is) record {
+            rows = passed_on of _ c.loop-place.made rows at row c.get-row.ensures (λ rest. rw (unread, add-one) refl) so_far;
+            steps = steps;
+          }
     ]
