@@ -1,5 +1,5 @@
 -- The tables with one more final.
-use Rattle.std.proofs.Common.{◌≡◌, ℕ, ◌+◌, List, [], ◌∷◌, ◌++◌, length, map, sym, ap, ◌∙◌, subst, arith, length-append}
+use Rattle.std.proofs.Common.{refl, ◌≡◌, ℕ, ◌+◌, List, [], ◌∷◌, ◌++◌, length, map, ap, ◌∙◌, arith, length-append}
 use Rattle.std.specs.List.{All}
 use Rattle.std.proofs.lemmas.List.{map-append}
 use Rattle.std.proofs.lemmas.List.Elements.{All-push}
@@ -23,15 +23,12 @@ pub one_more : (names : List (List ℕ)) (folds : List TypedFold) (all : List Ta
     ++ made ∷ []
     → IsOnTheWay names folds all many known left → IsOnTheWay names folds all many after rest
 one_more names folds all many known after made one left rest next table is shape pushed way =
-    let valid = subst (AreValidFinals (length names) folds (map table_shape known)) next way.valid in
-    let shapes : map table_shape after ≡ map table_shape known ++ final_shape one ∷ [] = ap (map table_shape) pushed
-    ∙ map-append table_shape known (made ∷ []) ∙ ap (λ s. map table_shape known ++ s ∷ []) shape in
-    let longer : length after ≡ length known + 1 = ap length pushed ∙ length-append known (made ∷ []) in
-    let shorter : length left ≡ length rest + 1 = ap length next ∙ (omega arith) in
+    let shapes : map table_shape after ≡ map table_shape known ++ final_shape one ∷ [] = rw (pushed, map-append, shape) refl in
+    let longer = ap length pushed ∙ length-append known (made ∷ []) in
+    let shorter = ap length next in
     record {
-      whole = ap (λ ts. with_finals names folds ts rest) (pushed ∙ ap (λ t. known ++ t ∷ []) table)
-          ∙ sym (ap (with_finals names folds known) next) ∙ way.whole;
-      valid = subst (λ ss. AreValidFinals (length names) folds ss rest) (sym shapes) valid.1;
-      read = subst (All IsTable) (sym pushed) (All-push IsTable known made way.read is);
-      count = let c = way.count in omega arith;
+      whole = rw (pushed, table) (rw next at way.whole);
+      valid = rw shapes (rw next at way.valid).1;
+      read = rw pushed (All-push IsTable known made way.read is);
+      count = omega (arith, way.count, longer, shorter);
     }

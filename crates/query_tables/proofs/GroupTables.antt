@@ -1,17 +1,17 @@
 -- The tables of groupbys, stream by stream.
 use Rattle.std.proofs.Common.{◌≡◌, ℕ, zero, suc, ◌+◌, List, [], ◌∷◌, ◌++◌, Option, Some, None, length, map, drop, refl, sym, ap, ◌∙◌, subst}
-use Rattle.std.proofs.Common.{arith, length-append}
+use Rattle.std.proofs.Common.{length-append}
 use Rattle.std.specs.List.{All, filter_map, cons_option}
-use Rattle.std.specs.Prelude.{slice_get, option_map, option_and_then, unwrap_or}
+use Rattle.std.specs.Prelude.{slice_get, option_map, option_and_then}
 use Rattle.std.proofs.lemmas.List.{length-map}
 use Rattle.std.proofs.lemmas.List.Elements.{All-nil, All-cons, All-map}
-use Rattle.std.proofs.lemmas.Option.{slice_get_within, get_or_from_slice_get}
+use Rattle.std.proofs.lemmas.Option.{none-some, slice_get_within, get_or_from_slice_get}
 use Rattle.query_lang.specs.declared.fold.TypedFold.{TypedFold}
 use Rattle.query_lang.specs.declared.typed.TypedOp.{TypedOp}
 use Rattle.query_lang.specs.declared.typed.TypedOp.TheVariants.{Filter, Map, Zip, Group}
 use Rattle.query_lang.specs.declared.typed.TypedQuery.{TypedQuery}
 use Rattle.query_lang.specs.declared.typed.TypedStream.{TypedStream}
-use Rattle.query_lang.specs.Folds.{IsValidFold, fold_states, fold_args}
+use Rattle.query_lang.specs.Folds.{IsValidFold, fold_args}
 use Rattle.query_lang.specs.Streams.{Taking, takings, taking_of, stream}
 use Rattle.query_lang.specs.TypedQueries.{IsValidOp, AreValidStreams, group_shape}
 use Rattle.epoch_model.specs.Epochs.{Geometry}
@@ -67,26 +67,16 @@ module _ (law : GroupTablesAreRead) (q : TypedQuery) (g : Geometry) (packets : L
       → length columns ≡ length t.keys
       → table_shape (query_table q g packets i (shape_with q.names name columns args f) f) ≡ group_shape q.folds t
   one_shape i t f name args columns fold wide =
-      let keys = map (text_at q.names) columns in
-      let states = map (text_at q.names) f.state_names in
-      let texts : length keys ≡ length t.keys = length-map columns (text_at q.names) ∙ wide in
-      let others : length states ≡ unwrap_or (option_map fold_states (slice_get q.folds t.fold_number)) 0 =
-      length-map f.state_names (text_at q.names) ∙ sym (ap (λ o. unwrap_or (option_map fold_states o) 0) fold) in
-      let both : length (keys ++ states) ≡ length t.keys + unwrap_or (option_map fold_states (slice_get q.folds t.fold_number)) 0 =
-      length-append keys states ∙ (omega arith) in
-      ap (λ (n : ℕ). record { width = n; keys = length keys }) both
-      ∙ ap (λ (n : ℕ). record { width = length t.keys + unwrap_or (option_map fold_states (slice_get q.folds t.fold_number)) 0; keys = n })
-      texts
+      let texts : length (map (text_at q.names) columns) ≡ length t.keys = length-map columns (text_at q.names) ∙ wide in
+      let states = length-map f.state_names (text_at q.names) in
+      rw (length-append, texts, states, fold) refl
 
   -- a groupby with its fold, and those after it
   next_group : (o : Option TypedFold) (i : ℕ) (t : Taking) (name args : ℕ) (columns : List ℕ) (shapes : List GroupShape) (ts : List Taking)
       → slice_get q.folds t.fold_number ≡ o → option_map fold_args o ≡ Some args → slice_get (takings q.streams) i ≡ Some t
       → length columns ≡ length t.keys
       → AreTablesOf (suc i) shapes ts → AreTablesOf i (cons_option (option_map (shape_with q.names name columns args) o) shapes) (t ∷ ts)
-  next_group None i t name args columns shapes ts fold there at wide more = absurd (none_some args there)
-    where
-      none_some : (n : ℕ) → None ≡ Some n → ⊥
-      none_some n e = cc
+  next_group None i t name args columns shapes ts fold there at wide more = absurd (none-some args there)
   next_group (Some f) i t name args columns shapes ts fold there at wide more =
       let shape = shape_with q.names name columns args f in
       let here : fold_at q i ≡ Some f = ap (option_and_then (λ (one : Taking). slice_get q.folds one.fold_number)) at ∙ fold in

@@ -1,11 +1,10 @@
-use Rattle.std.proofs.Common.{◌≡◌, ◌<◌, ℕ, List, ◌+◌, ◌++◌, ◌∙◌, ap, arith, append-nil, drop, get_or, length, subst, sym}
+use Rattle.std.proofs.Common.{refl, ◌≡◌, ◌<◌, ℕ, List, ◌+◌, ◌++◌, arith, append-nil, drop, get_or, length}
 use Rattle.std.proofs.lemmas.List.{drop_all, drop_more}
 use Rattle.std.specs.List.{flat_map}
 use Rattle.final_queries.specs.declared.table.Table.{Table}
 use Rattle.query_lang.specs.TypedFinals.{table_number}
 use Rattle.query_lang.specs.declared.typed.PrintOf.{PrintOf}
 use Rattle.query_tables.specs.Tables.{table_text_at}
-use Rattle.marple_base.specs.Pieces.{TakesAllBut}
 use Rattle.marple_base.proofs.Pieces.{all_waits, on_err, part_broke, part_more}
 use Rattle.query_tables.proofs.print.write_printed.Goals as goal
 
@@ -15,8 +14,7 @@ next : (tables : List Table) (groups : ℕ) (prints : List PrintOf) (i number : 
     → flat_map (λ one. table_text_at tables (table_number groups one)) (drop i prints)
     ≡ table_text_at tables number ++ flat_map (λ one. table_text_at tables (table_number groups one)) (drop (i + 1) prints)
 next tables groups prints i number one within is =
-    ap (flat_map (λ one. table_text_at tables (table_number groups one))) (drop_more prints i one within)
-    ∙ ap (λ n. table_text_at tables n ++ flat_map (λ one. table_text_at tables (table_number groups one)) (drop (i + 1) prints)) (sym is)
+    rw (drop_more prints i one within, is) refl
 
 pub loop-one-init : goal.loop-one-init
 loop-one-init g c =
@@ -28,45 +26,20 @@ loop-one-init g c =
 
 pub returns-in_err-write_table_at-clause-err : goal.returns-in_err-write_table_at-clause-err
 returns-in_err-write_table_at-clause-err g c =
-    let tables = c.args.tables.now in
-    let text_of : PrintOf → List ℕ = λ one. table_text_at tables (table_number c.args.groups one) in
-    let prints = c.args.prints.now in
-    let i = c.loop-one.one-index in
-    let number = c.table_number.result in
-    let old = g.O.Sink.taken c.args.out.now in
-    let mid = g.O.Sink.taken c.loop-one.out in
-    let whole = c.args.text.now ++ flat_map text_of prints in
-    on_err c.from_residual.result _
-    (part_broke old mid (g.O.Sink.taken c.write_table_at.new.out) c.loop-one.text (table_text_at tables number)
-    (flat_map text_of (drop (i + 1) prints)) whole
-    (subst (λ left. TakesAllBut old mid (c.loop-one.text ++ left) whole)
-    (next tables c.args.groups prints i number _ c.loop-one-test.true c.table_number.ensures) c.loop-one.invariant.written)
+    let split = next c.args.tables.now c.args.groups c.args.prints.now c.loop-one.one-index _ _ c.loop-one-test.true
+    c.table_number.ensures in
+    on_err c.from_residual.result _ (part_broke _ _ _ c.loop-one.text _ _ _ (rw split at c.loop-one.invariant.written)
     c.in_err-write_table_at.ensures.err)
 
 pub loop-one-preserved : goal.loop-one-preserved
 loop-one-preserved g c =
-    let tables = c.args.tables.now in
-    let text_of : PrintOf → List ℕ = λ one. table_text_at tables (table_number c.args.groups one) in
-    let prints = c.args.prints.now in
-    let i = c.loop-one.one-index in
-    let number = c.table_number.result in
-    let old = g.O.Sink.taken c.args.out.now in
-    let mid = g.O.Sink.taken c.loop-one.out in
-    let whole = c.args.text.now ++ flat_map text_of prints in
+    let split = next c.args.tables.now c.args.groups c.args.prints.now c.loop-one.one-index _ _ c.loop-one-test.true
+    c.table_number.ensures in
     record {
-      written = part_more old mid (g.O.Sink.taken c.write_table_at.new.out) c.loop-one.text c.write_table_at.new.text
-          (table_text_at tables number) (flat_map text_of (drop (i + 1) prints)) whole
-          (subst (λ left. TakesAllBut old mid (c.loop-one.text ++ left) whole)
-          (next tables c.args.groups prints i number _ c.loop-one-test.true c.table_number.ensures) c.loop-one.invariant.written)
-          c.in_ok-write_table_at.ensures.ok;
+      written = part_more _ _ _ _ _ _ _ _ (rw split at c.loop-one.invariant.written) c.in_ok-write_table_at.ensures.ok;
       out_later = omega (arith, c.loop-one.invariant.out_later, c.write_table_at.ensures.out_later);
     }
 
 pub returns-clause-ok : goal.returns-clause-ok
 returns-clause-ok g c =
-    let text_of : PrintOf → List ℕ = λ one. table_text_at c.args.tables.now (table_number c.args.groups one) in
-    let prints = c.args.prints.now in
-    let none = ap (flat_map text_of) (drop_all c.loop-one.one-index prints c.loop-one-test.false) in
-    subst (λ waiting. TakesAllBut (g.O.Sink.taken c.args.out.now) (g.O.Sink.taken c.loop-one.out) waiting
-    (c.args.text.now ++ flat_map text_of prints))
-    (ap (λ text. c.loop-one.text ++ text) none ∙ append-nil c.loop-one.text) c.loop-one.invariant.written
+    rw (drop_all c.loop-one.one-index c.args.prints.now c.loop-one-test.false, append-nil) at c.loop-one.invariant.written
