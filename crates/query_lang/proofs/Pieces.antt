@@ -1,19 +1,18 @@
 -- Each piece takes a byte.
-use Rattle.std.proofs.Common.{◌≡◌, ℕ, zero, suc, ◌+◌, ◌<◌, ◌≤◌, Bool, true, false, cond, List, [], ◌∷◌, length, drop, take, Option, Some}
+use Rattle.std.proofs.Common.{◌≡◌, ℕ, zero, suc, ◌+◌, ◌<◌, ◌≤◌, true, List, [], ◌∷◌, length, drop, take, Option, Some}
 use Rattle.std.proofs.Common.{None, refl, sym, ap, ◌∙◌, arith, Ok}
 use Rattle.std.specs.Prelude.{codes, nat_eq}
 use Rattle.std.specs.List.{prefix_len}
 use Rattle.std.specs.Str.{bytes_eq}
 use Rattle.std.specs.Str.Parse.{digits_value}
-use Rattle.std.proofs.lemmas.Bool.{eqb-false}
+use Rattle.std.proofs.lemmas.Bool.{cond_both, eqb-false}
 use Rattle.std.proofs.lemmas.List.{length-drop, length-take}
 use Rattle.std.proofs.lemmas.List.Sums.{prefix_len-le-length}
 use Rattle.query_lang.specs.declared.token.Word.{Word}
 use Rattle.query_lang.specs.declared.token.Mark.{Mark}
 use Rattle.query_lang.specs.declared.token.Piece.{Piece}
 use Rattle.query_lang.specs.declared.token.Piece.TheVariants as pieces
-use Rattle.query_lang.specs.declared.token.TokenKind.TheVariants.{End, Name, FiveTuple}
-use Rattle.query_lang.specs.declared.fault.FaultKind.TheVariants.{BadByte}
+use Rattle.query_lang.specs.declared.token.TokenKind.TheVariants.{End, Name}
 use Rattle.query_lang.specs.Names.{with_name, number_in}
 use Rattle.query_lang.specs.Lexis.{is_digit, is_word_byte, is_blank, is_not_line_feed, one_mark, two_mark, reserved, below_limit}
 use Rattle.query_lang.specs.Lexis.{number_piece, name_piece, word_piece, piece_of_mark, mark_at, piece, Cut, with_front, token_at}
@@ -28,20 +27,13 @@ name_takes None len most more le = (more, le)
 name_takes (Some w) len most more le = (more, le)
 
 word_takes : (w : List ℕ) (digits most : ℕ) → 0 < length w → length w ≤ most → digits ≤ length w → TakesSome (word_piece w digits) most
-word_takes w digits most more le within = whole (nat_eq digits (length w)) refl
-  where
-    last : (b : Bool) → digits < length w → TakesSome (cond b (name_piece (reserved w) (length w)) (pieces.Fault BadByte digits)) most
-    last true lt = name_takes (reserved w) (length w) most more le
-    last false lt = omega arith
-
-    five : (b : Bool) → digits < length w → TakesSome (cond b (pieces.Token FiveTuple (length w))
-        (cond (nat_eq digits 0) (name_piece (reserved w) (length w)) (pieces.Fault BadByte digits))) most
-    five true lt = (more, le)
-    five false lt = last (nat_eq digits 0) lt
-
-    whole : (b : Bool) → nat_eq digits (length w) ≡ b → TakesSome (word_piece w digits) most
-    whole true e = rw e (number_takes (below_limit (digits_value 10 w)) (length w) most more le)
-    whole false e = let ne = eqb-false digits (length w) e in rw e (five (bytes_eq w (codes "5tuple")) (omega (arith, ne)))
+word_takes w digits most more le within = cond_both (nat_eq digits (length w)) _ _ (λ p. TakesSome p most)
+    (λ _. number_takes (below_limit (digits_value 10 w)) (length w) most more le)
+    (λ ne.
+    let lt : digits < length w = omega (arith, eqb-false digits (length w) ne) in
+    cond_both (bytes_eq w (codes "5tuple")) _ _ (λ p. TakesSome p most) (λ _. (more, le))
+    (λ _. cond_both (nat_eq digits 0) _ _ (λ p. TakesSome p most) (λ _. name_takes (reserved w) (length w) most more le)
+    (λ _. omega arith)))
 
 mark_takes : (two one : Option Mark) (most : ℕ) → 1 < most → TakesSome (piece_of_mark two one) most
 mark_takes (Some t) one most h = (omega arith, omega arith)
@@ -58,42 +50,27 @@ mark_at_takes b (c ∷ bytes) = mark_takes (two_mark b c) (one_mark b) (length (
 
 digits_within : (bs : List ℕ) → prefix_len is_digit bs ≤ prefix_len is_word_byte bs
 digits_within [] = omega arith
-digits_within (b ∷ bs) = go (is_digit b) refl (digits_within bs)
-  where
-    go : (d : Bool) → is_digit b ≡ d → prefix_len is_digit bs ≤ prefix_len is_word_byte bs
-        → prefix_len is_digit (b ∷ bs) ≤ prefix_len is_word_byte (b ∷ bs)
-    go true e h = rw e (omega arith)
-    go false e h = rw e (omega arith)
+digits_within (b ∷ bs) =
+    let h = digits_within bs in
+    cond_both (is_digit b) _ _ (λ n. n ≤ prefix_len is_word_byte (b ∷ bs)) (λ e. rw e (omega arith)) (λ _. omega arith)
 
 word_first : (b : ℕ) (bytes : List ℕ) → is_word_byte b ≡ true
     → TakesSome (word_piece (take (prefix_len is_word_byte (b ∷ bytes)) (b ∷ bytes)) (prefix_len is_digit (b ∷ bytes))) (length (b ∷ bytes))
 word_first b bytes e =
-    let some : 0 < prefix_len is_word_byte (b ∷ bytes) = rw e (omega arith) in
-    let all : prefix_len is_word_byte (b ∷ bytes) ≤ length (b ∷ bytes) = prefix_len-le-length is_word_byte (b ∷ bytes) in
-    let n : length (take (prefix_len is_word_byte (b ∷ bytes)) (b ∷ bytes)) ≡ prefix_len is_word_byte (b ∷ bytes) =
-    omega (arith, length-take (prefix_len is_word_byte (b ∷ bytes)) (b ∷ bytes)) in
-    word_takes (take (prefix_len is_word_byte (b ∷ bytes)) (b ∷ bytes)) (prefix_len is_digit (b ∷ bytes)) (length (b ∷ bytes))
-    (omega (arith, n, some)) (omega (arith, n, all)) (omega (arith, n, digits_within (b ∷ bytes)))
+    let n = prefix_len is_word_byte (b ∷ bytes) in
+    let some : 0 < n = rw e (omega arith) in
+    let all : n ≤ length (b ∷ bytes) = prefix_len-le-length is_word_byte (b ∷ bytes) in
+    let long : length (take n (b ∷ bytes)) ≡ n = omega (arith, length-take n (b ∷ bytes)) in
+    word_takes (take n (b ∷ bytes)) (prefix_len is_digit (b ∷ bytes)) (length (b ∷ bytes)) (omega (arith, long, some))
+    (omega (arith, long, all)) (omega (arith, long, digits_within (b ∷ bytes)))
 
 pub takes_some : (b : ℕ) (bytes : List ℕ) → TakesSome (piece (b ∷ bytes)) (length (b ∷ bytes))
-takes_some b bytes = blank (is_blank b)
-  where
-    word : (w : Bool) → is_word_byte b ≡ w → TakesSome (cond w (word_piece (take (prefix_len is_word_byte (b ∷ bytes)) (b ∷ bytes))
-        (prefix_len is_digit (b ∷ bytes))) (mark_at b bytes)) (length (b ∷ bytes))
-    word true e = word_first b bytes e
-    word false e = mark_at_takes b bytes
-
-    comment : (c : Bool) → TakesSome (cond c (pieces.Blank (1 + prefix_len is_not_line_feed bytes))
-        (cond (is_word_byte b) (word_piece (take (prefix_len is_word_byte (b ∷ bytes)) (b ∷ bytes)) (prefix_len is_digit (b ∷ bytes)))
-        (mark_at b bytes))) (length (b ∷ bytes))
-    comment true = (omega arith, omega (arith, prefix_len-le-length is_not_line_feed bytes))
-    comment false = word (is_word_byte b) refl
-
-    blank : (s : Bool) → TakesSome (cond s (pieces.Blank 1) (cond (nat_eq b 35) (pieces.Blank (1 + prefix_len is_not_line_feed bytes))
-        (cond (is_word_byte b) (word_piece (take (prefix_len is_word_byte (b ∷ bytes)) (b ∷ bytes)) (prefix_len is_digit (b ∷ bytes)))
-        (mark_at b bytes)))) (length (b ∷ bytes))
-    blank true = (omega arith, omega arith)
-    blank false = comment (nat_eq b 35)
+takes_some b bytes =
+    let most = length (b ∷ bytes) in
+    cond_both (is_blank b) _ _ (λ p. TakesSome p most) (λ _. (omega arith, omega arith))
+    (λ _. cond_both (nat_eq b 35) _ _ (λ p. TakesSome p most)
+    (λ _. (omega arith, omega (arith, prefix_len-le-length is_not_line_feed bytes)))
+    (λ _. cond_both (is_word_byte b) _ _ (λ p. TakesSome p most) (λ e. word_first b bytes e) (λ _. mark_at_takes b bytes)))
 
 cut_none : (n at : ℕ) (names : List (List ℕ)) → cut n at names [] ≡ Ok (token_at End at at ∷ [], names)
 unfolding cut
