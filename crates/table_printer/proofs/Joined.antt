@@ -1,18 +1,19 @@
 -- How a line goes on, part by part.
-use Rattle.std.proofs.Common.{◌≡◌, ℕ, length, ◌==◌, List, [], ◌∷◌, ◌++◌, Bool, true, false, refl, sym, ap, ◌∙◌, append_assoc, append-nil}
+use Rattle.std.proofs.Common.{◌≡◌, ℕ, length, ◌==◌, sym, ap, ◌∙◌, List, [], ◌∷◌, ◌++◌, Bool, true, false, refl, append_assoc, append-nil}
 use Rattle.std.proofs.Common.{inl, inr, arith}
 use Rattle.std.proofs.lemmas.Bool.Decides.{eqb_tells}
+use Rattle.std.proofs.lemmas.List.Concat.{flat_map-append}
 use Rattle.table_printer.specs.TableText.{cells_continued, cells_joined}
 use Rattle.table_printer.specs.Parts.{parts_from}
 
-pub no_parts : (begins : Bool) → parts_from begins [] ≡ []
+no_parts : (begins : Bool) → parts_from begins [] ≡ []
 no_parts true = refl
 no_parts false = refl
 
 -- one part, and then the others
-pub part_first : (begins : Bool) (part : List ℕ) (rest : List (List ℕ)) → parts_from begins (part ∷ rest) ≡ parts_from begins (part ∷ [])
+part_first : (begins : Bool) (part : List ℕ) (rest : List (List ℕ)) → parts_from begins (part ∷ rest) ≡ parts_from begins (part ∷ [])
     ++ parts_from false rest
-part_first true part rest = ap (λ p. p ++ cells_continued rest) (sym (append-nil part))
+part_first true part rest = rw append-nil refl
 part_first false part rest = ap (λ p. p ++ cells_continued rest) (sym (append-nil (44 ∷ part)))
 
 -- A part is written: what is still to be written after it makes the whole.
@@ -20,21 +21,16 @@ pub written : (whole before after : List ℕ) (begins : Bool) (part : List ℕ) 
     → left ≡ part ∷ rest → before ++ parts_from begins left ≡ whole → after ≡ before ++ parts_from begins (part ∷ []) → after
     ++ parts_from false rest ≡ whole
 written whole before after begins part left rest split so_far wrote =
-    ap (λ text. text ++ parts_from false rest) wrote
-    ∙ append_assoc before (parts_from begins (part ∷ [])) (parts_from false rest)
-    ∙ ap (λ text. before ++ text) (sym (part_first begins part rest) ∙ ap (parts_from begins) (sym split))
-    ∙ so_far
+    let first = part_first begins part rest in
+    rw (wrote, append_assoc) (rw (split, first) at so_far)
 
 -- Nothing is left to be written.
 pub all_written : (whole before : List ℕ) (begins : Bool) (left : List (List ℕ)) → left ≡ [] → before ++ parts_from begins left ≡ whole
     → before ≡ whole
-all_written whole before begins left none so_far =
-    sym (append-nil before) ∙ ap (λ text. before ++ text) (sym (no_parts begins) ∙ ap (parts_from begins) (sym none)) ∙ so_far
+all_written whole before begins left none so_far = rw (none, no_parts begins, append-nil) at so_far
 
-pub continued_append : (a b : List (List ℕ)) → cells_continued (a ++ b) ≡ cells_continued a ++ cells_continued b
-continued_append [] b = refl
-continued_append (part ∷ a) b = ap (λ rest. (44 ∷ part) ++ rest) (continued_append a b)
-    ∙ sym (append_assoc (44 ∷ part) (cells_continued a) (cells_continued b))
+continued_append : (a b : List (List ℕ)) → cells_continued (a ++ b) ≡ cells_continued a ++ cells_continued b
+continued_append a b = flat_map-append (λ part. 44 ∷ part) a b
 
 abbrev is_none : List (List ℕ) → Bool
 is_none [] = true
@@ -63,5 +59,4 @@ pub joined_three : (keys middle others : List (List ℕ)) (part : List ℕ) (beg
     → cells_joined ((keys ++ (part ∷ middle)) ++ others) ≡ (cells_joined keys ++ parts_from begins (part ∷ middle))
     ++ cells_continued others
 joined_three keys middle others part begins empty =
-    three keys middle others part ∙ ap (λ first. (cells_joined keys ++ parts_from first (part ∷ middle)) ++ cells_continued others)
-    (sym (empty ∙ no_length keys))
+    rw (empty, no_length) (three keys middle others part)
