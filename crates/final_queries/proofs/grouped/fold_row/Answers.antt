@@ -1,9 +1,9 @@
-use Rattle.std.proofs.Common.{◌≡◌, ◌∙◌, ◌++◌, true, false, refl, sym, ap, length, append-nil}
+use Rattle.std.proofs.Common.{◌≡◌, ◌∙◌, sym, ap, length, append-nil}
 use Rattle.std.proofs.lemmas.List.{length-map}
 use Rattle.std.proofs.lemmas.Result.{on_ok_weaker}
 use Rattle.query_lang.specs.Streams.{values_at}
 use Rattle.table_rows.specs.LentRows.{row_of}
-use Rattle.final_queries.specs.Finals.{is_read, columns_of}
+use Rattle.final_queries.specs.Finals.{columns_of}
 use Rattle.final_queries.proofs.grouped.fold_row.Goals as goal
 
 pub values_into-requires : goal.values_into-requires

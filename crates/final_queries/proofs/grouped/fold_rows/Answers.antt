@@ -7,15 +7,19 @@ use Rattle.final_queries.proofs.GroupSteps.{epochs_more}
 use Rattle.final_queries.proofs.ReadRows.{width_at}
 use Rattle.final_queries.proofs.grouped.fold_rows.Goals as goal
 
-pub fold_row-requires-clause-keys : goal.fold_row-requires-clause-keys
-fold_row-requires-clause-keys g c =
+pub fold_row-requires : goal.fold_row-requires
+fold_row-requires g c =
     let wide = width_at _ _ _ _ _ c.requires.rows c.get-row.ensures c.get-row.result.joined in
-    subst (λ width. AreSlots width c.args.keys.now) wide c.requires.keys
-
-pub fold_row-requires-clause-args : goal.fold_row-requires-clause-args
-fold_row-requires-clause-args g c =
-    let wide = width_at _ _ _ _ _ c.requires.rows c.get-row.ensures c.get-row.result.joined in
-    subst (λ width. AreSlots width c.args.args.now) wide c.requires.args
+    let now = c.loop-at.invariant in
+    record {
+      keys = subst (λ width. AreSlots width c.args.keys.now) wide c.requires.keys;
+      args = subst (λ width. AreSlots width c.args.args.now) wide c.requires.args;
+      key_words = now.key_words;
+      start = now.state_words;
+      states = c.requires.states ∙ now.state_words;
+      all_args = c.requires.all_args;
+      scratch = omega (arith, c.deref_mut.ensures.len, c.loop-at.scratch.ok, now.scratch);
+    }
 
 pub loop-at-preserved : goal.loop-at-preserved
 loop-at-preserved g c =
