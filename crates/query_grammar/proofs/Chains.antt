@@ -1,20 +1,28 @@
--- A chain of turns keeps that a parser meets its language, as `repeated` does.
+-- A chain of turns keeps that a parser meets its language.
 use Rattle.std.proofs.Common.{◌≡◌, ℕ, zero, suc, ◌<◌, ◌≤◌, Bool, true, false, cond, List, [], ◌∷◌, ◌++◌, length, Option, Some, None, refl}
-use Rattle.std.proofs.Common.{sym, ap, subst, ◌∙◌, append_assoc, arith, inl, inr, ◌⊎◌}
-use Rattle.std.proofs.lemmas.List.{append-nil}
+use Rattle.std.proofs.Common.{sym, ap, ◌∙◌, append_assoc, arith, inl, inr, ◌⊎◌}
+use Rattle.std.proofs.lemmas.List.{append-nil, length-append}
 use Rattle.query_lang.specs.declared.token.Token.{Token}
 use Rattle.query_grammar.specs.declared.stop.Counts.{Counts}
-use Rattle.query_grammar.specs.Language.{Leaf, tokens_of, Chain, Chained}
+use Rattle.query_grammar.specs.Language.{Language, Leaf, tokens_of, Chain, Chained}
 use Rattle.query_grammar.specs.Parser.{Limits, Outcome, Done, Stopped, Parser, and_then, next_is, linked, next_turn, chain_turns, chained}
 use Rattle.query_grammar.proofs.Parses.{SameNext, Found, Meets, Reads, reads, passes, Begins, nothing, something, Parses, starts_of}
 use Rattle.query_grammar.proofs.Parses.{next_starts, next_clear, next_of, same_next, fewer, tokens-append, pays_both}
-use Rattle.query_grammar.proofs.Repeats.{shorter}
 
-module _ {A B : Type 0} (m : Limits) (T : List Leaf → A ⊎ B → Type 0) (p : Parser (A ⊎ B)) (test : Token → Bool)
+module _ {A B : Type 0} (m : Limits) (T : Language (A ⊎ B)) (p : Parser (A ⊎ B)) (test : Token → Bool)
     (pm : (c : Counts) (ts : List Token) → Meets m T p c ts (p c ts)) (pb : (w : List Leaf) (v : A ⊎ B) → T w v → Begins test false w) where
+  -- what is left after a turn is shorter
+  shorter : (c : Counts) (ts : List Token) (v : A ⊎ B) (d : Counts) (rest : List Token) → Found m T p c ts v d rest
+      → length rest < length ts
+  shorter c ts v d rest h =
+      let s = starts_of (pb h.front v h.means) in
+      let e : ts ≡ tokens_of (s.0 ∷ s.1) ++ rest = h.split ∙ ap (λ (w : List Leaf). tokens_of w ++ rest) s.2 in
+      rw e (omega (arith, length-append (tokens_of s.1) rest))
+
   turn : Counts → List Token → (Counts → List Token → Outcome (List A × Option B)) → Outcome (List A × Option B)
   turn c ts after = cond (next_is test ts) (and_then (p c ts) (next_turn after)) (Done ([], None) c ts)
 
+  -- a turn goes on with shorter lists alone
   turn_same : (c : Counts) (ts : List Token) (f g : Counts → List Token → Outcome (List A × Option B))
       → ((d : Counts) (rest : List Token) → length rest < length ts → f d rest ≡ g d rest) → turn c ts f ≡ turn c ts g
   unfolding turn
@@ -23,7 +31,7 @@ module _ {A B : Type 0} (m : Limits) (T : List Leaf → A ⊎ B → Type 0) (p :
       go : (o : Outcome (A ⊎ B)) → Meets m T p c ts o → cond (next_is test ts) (and_then o (next_turn f)) (Done ([], None) c ts) ≡ cond
           (next_is test ts) (and_then o (next_turn g)) (Done ([], None) c ts)
       go (Done (inl a) d rest) e = ap (λ (x : Outcome (List A × Option B)). cond (next_is test ts) (linked a x) (Done ([], None) c ts))
-          (h d rest (shorter m T p test pm pb c ts (inl a) d rest e))
+          (h d rest (shorter c ts (inl a) d rest e))
       go (Done (inr b) d rest) e = refl
       go (Stopped k rest) e = refl
 
@@ -99,7 +107,7 @@ module _ {A B : Type 0} (m : Limits) (T : List Leaf → A ⊎ B → Type 0) (p :
           → next_is test ts ≡ true
           → (o : Outcome (A ⊎ B)) → Meets m T p c ts o → Meets m (Chained T) (chained test p) c ts (and_then o (next_turn (chained test p)))
       one ih e (Done (inl a) d mid) f = both e a d mid f (chained test p d mid)
-          (ih d mid (omega (arith, shorter m T p test pm pb c ts (inl a) d mid f)))
+          (ih d mid (omega (arith, shorter c ts (inl a) d mid f)))
       one ih e (Done (inr b) d mid) f = record {
         front = f.front;
         split = f.split;
@@ -123,20 +131,19 @@ module _ {A B : Type 0} (m : Limits) (T : List Leaf → A ⊎ B → Type 0) (p :
 
       choose : ((d : Counts) (rest : List Token) → length rest ≤ n → Meets m (Chained T) (chained test p) d rest (chained test p d rest))
           → (b : Bool) → next_is test ts ≡ b → Meets m (Chained T) (chained test p) c ts (chained test p c ts)
-      choose ih true e = subst (λ (o : Outcome (List A × Option B)). Meets m (Chained T) (chained test p) c ts o) (sym (chain_true c ts e))
+      choose ih true e = rw (chain_true c ts e)
           (one ih e (p c ts) (pm c ts))
-      choose ih false e = subst (λ (o : Outcome (List A × Option B)). Meets m (Chained T) (chained test p) c ts o)
-          (sym (chain_false c ts e))
+      choose ih false e = rw (chain_false c ts e)
           (record { front = []; split = refl; means = refl; pays = refl; again = λ x s. chain_false c x (same_next test ts x s ∙ e) })
 
   chained_begins : (w : List Leaf) (v : List A) (o : Option B) → Chain T w v o → Begins test true w
-  chained_begins w [] None h = subst (λ (x : List Leaf). Begins test true x) (sym h) nothing
-  chained_begins w [] (Some b) h = let s = starts_of (pb w (inr b) h) in subst (λ (x : List Leaf). Begins test true x) (sym s.2)
+  chained_begins w [] None h = rw h nothing
+  chained_begins w [] (Some b) h = let s = starts_of (pb w (inr b) h) in rw s.2
       (something s.0 s.1 s.3)
   chained_begins w (a ∷ others) o h =
       let s = starts_of (pb h.0 (inl a) h.3) in
       let e : w ≡ s.0 ∷ (s.1 ++ h.1) = h.2 ∙ ap (λ (x : List Leaf). x ++ h.1) s.2 in
-      subst (λ (x : List Leaf). Begins test true x) (sym e) (something s.0 (s.1 ++ h.1) s.3)
+      rw e (something s.0 (s.1 ++ h.1) s.3)
 
   last_read : (c : Counts) (w : List Leaf) (b : B) (rest : List Token) → next_is test (tokens_of w ++ rest) ≡ true
       → Reads m p c w (inr b) rest → Reads m (chained test p) c w ([], Some b) rest
@@ -173,18 +180,18 @@ module _ {A B : Type 0} (m : Limits) (T : List Leaf → A ⊎ B → Type 0) (p :
       → (v : List A) (o : Option B) (c : Counts) (w : List Leaf) (rest : List Token) → Chain T w v o → next_is goes_on rest ≡ false
       → Reads m (chained test p) c w (v, o) rest
   chained_complete on goes_on apart ends keeps pc [] None c w rest h clear =
-      subst (λ (x : List Leaf). Reads m (chained test p) c x ([], None) rest) (sym h)
+      rw h
       (reads c refl (chain_false c rest (fewer test goes_on rest ends clear)))
   chained_complete on goes_on apart ends keeps pc [] (Some b) c w rest h clear =
       last_read c w b rest (next_starts rest (pb w (inr b) h)) (pc c w (inr b) rest h (fewer on goes_on rest keeps clear))
   chained_complete on goes_on apart ends keeps pc (a ∷ others) o c w rest h clear =
-      subst (λ (x : List Leaf). Reads m (chained test p) c x (a ∷ others, o) rest) (sym h.2)
+      rw h.2
       (both_read c h.0 h.1 a (others, o) rest (next_starts (tokens_of h.1 ++ rest) (pb h.0 (inl a) h.3))
       (pc c h.0 (inl a) (tokens_of h.1 ++ rest) h.3 (next_clear on rest (chained_begins h.1 others o h.4)
       (λ n. fewer on goes_on rest keeps clear) apart))
       (λ d. chained_complete on goes_on apart ends keeps pc others o d h.1 rest h.4 clear))
 
-pub parses_chained : {A B : Type 0} {m : Limits} {T : List Leaf → A ⊎ B → Type 0} {p : Parser (A ⊎ B)} {test on : Token → Bool}
+pub parses_chained : {A B : Type 0} {m : Limits} {T : Language (A ⊎ B)} {p : Parser (A ⊎ B)} {test on : Token → Bool}
     → (goes_on : Token → Bool) → Parses m T p test on false
     → ((t : Token) → test t ≡ true → on t ≡ false) → ((t : Token) → goes_on t ≡ false → test t ≡ false)
     → ((t : Token) → goes_on t ≡ false → on t ≡ false)

@@ -1,9 +1,9 @@
 -- One parser or the other, at most one, and one that stops at a bracket.
-use Rattle.std.proofs.Common.{◌≡◌, Bool, true, false, cond, List, [], ◌∷◌, ◌++◌, Option, Some, None, refl, sym, ap, subst, ◌∙◌, inl, inr}
+use Rattle.std.proofs.Common.{◌≡◌, Bool, true, false, cond, List, [], ◌∷◌, ◌++◌, Option, Some, None, refl, ap, ◌∙◌, inl, inr}
 use Rattle.std.proofs.Common.{◌⊎◌}
 use Rattle.query_lang.specs.declared.fault.Span.{Span}
 use Rattle.query_lang.specs.declared.token.Token.{Token}
-use Rattle.query_grammar.specs.Language.{Plain, Leaf, tokens_of, Word, Then, AtMostOnce, Either, Meaning}
+use Rattle.query_grammar.specs.Language.{Language, Plain, Leaf, tokens_of, Word, Then, AtMostOnce, Either, Meaning}
 use Rattle.query_grammar.specs.declared.stop.Counts.{Counts}
 use Rattle.query_grammar.specs.declared.stop.Stop.TheVariants.{Unexpected, Nesting}
 use Rattle.query_grammar.specs.Parser.{Limits, Limited, Outcome, Done, Stopped, Parser, and_then, next_is, at_most_once, either}
@@ -12,7 +12,7 @@ use Rattle.query_grammar.proofs.Parses.{fewer, wider, is_some_of, reads, passes,
 
 -- ---- one or the other
 
-module _ {A : Type 0} (m : Limits) (L M : List Leaf → A → Type 0) (p q : Parser A) (test : Token → Bool) where
+module _ {A : Type 0} (m : Limits) (L M : Language A) (p q : Parser A) (test : Token → Bool) where
   either_true : (x : List Token) (c : Counts) → next_is test x ≡ true → either test p q c x ≡ p c x
   either_true x c e = rw e refl
 
@@ -107,7 +107,7 @@ module _ {A : Type 0} (m : Limits) (L M : List Leaf → A → Type 0) (p q : Par
 
 -- ---- at most once
 
-module _ {A : Type 0} (m : Limits) (L : List Leaf → A → Type 0) (p : Parser A) (test : Token → Bool) where
+module _ {A : Type 0} (m : Limits) (L : Language A) (p : Parser A) (test : Token → Bool) where
   once_true : (x : List Token) (c : Counts) → next_is test x ≡ true → at_most_once test p c x ≡ and_then (p c x)
       (λ a c' rest. Done (Some a) c' rest)
   once_true x c e = rw e refl
@@ -166,19 +166,19 @@ module _ {A : Type 0} (m : Limits) (L : List Leaf → A → Type 0) (p : Parser 
     where
       complete : (c : Counts) (w : List Leaf) (v : Option A) (rest : List Token) → next_is goes_on rest ≡ false → AtMostOnce L w v
           → Reads m (at_most_once test p) c w v rest
-      complete c w None rest clear h = subst (λ (x : List Leaf). Reads m (at_most_once test p) c x None rest) (sym h)
+      complete c w None rest clear h = rw h
           (reads c refl (once_false rest c (fewer test goes_on rest apart clear)))
       complete c w (Some a) rest clear h = once_reads c w a rest (next_starts rest (f.begins w a h))
           (f.complete c w a rest h (fewer on goes_on rest keeps clear))
 
       begins : (w : List Leaf) (v : Option A) → AtMostOnce L w v → Begins test true w
-      begins w None h = subst (λ (x : List Leaf). Begins test true x) (sym h) nothing
-      begins w (Some a) h = let s = starts_of (f.begins w a h) in subst (λ (x : List Leaf). Begins test true x) (sym s.2)
+      begins w None h = rw h nothing
+      begins w (Some a) h = let s = starts_of (f.begins w a h) in rw s.2
           (something s.0 s.1 s.3)
 
 -- ---- a bracket that would be one too many
 
-module _ {A B : Type 0} (L : List Leaf → A → Type 0) (takes : Token → Option Span) (f : Span × A → B) where
+module _ {A B : Type 0} (L : Language A) (takes : Token → Option Span) (f : Span × A → B) where
   abbrev stopped_by : Option Span → List Token → Outcome B
   stopped_by None ts = Stopped Unexpected ts
   stopped_by (Some u) ts = Stopped Nesting ts
@@ -189,10 +189,8 @@ module _ {A B : Type 0} (L : List Leaf → A → Type 0) (takes : Token → Opti
       → Parses Limited (Meaning f (Then (Word Plain takes) L)) p (λ t. is_some_of (takes t)) goes_on false
   parses_blocked p nil cons goes_on t0 s0 h0 w a la = record {
     meets = λ c ts. meets c ts;
-    complete = λ c u v rest h clear. subst (λ (x : List Leaf). Reads Limited p c x v rest)
-        (sym (h.1.2 ∙ ap (λ (x : List Leaf). x ++ h.1.1) h.1.3.1)) (complete c u v rest h);
-    begins = λ u v h. subst (λ (x : List Leaf). Begins (λ t. is_some_of (takes t)) false x)
-        (sym (h.1.2 ∙ ap (λ (x : List Leaf). x ++ h.1.1) h.1.3.1)) (something (record { role = Plain; token = h.1.3.0 }) h.1.1
+    complete = λ c u v rest h clear. rw (h.1.2 ∙ ap (λ (x : List Leaf). x ++ h.1.1) h.1.3.1) (complete c u v rest h);
+    begins = λ u v h. rw (h.1.2 ∙ ap (λ (x : List Leaf). x ++ h.1.1) h.1.3.1) (something (record { role = Plain; token = h.1.3.0 }) h.1.1
         (ap is_some_of h.1.3.2));
     sample = (
       record { role = Plain; token = t0 } ∷ w,
@@ -231,7 +229,7 @@ module _ {A B : Type 0} (L : List Leaf → A → Type 0) (takes : Token → Opti
       }
 
       meets : (c : Counts) (ts : List Token) → Meets Limited (Meaning f (Then (Word Plain takes) L)) p c ts (p c ts)
-      meets c [] = subst (λ (o : Outcome B). Meets Limited (Meaning f (Then (Word Plain takes) L)) p c [] o) (sym (nil c))
+      meets c [] = rw (nil c)
           (record {
             front = [];
             split = refl;
@@ -243,7 +241,7 @@ module _ {A B : Type 0} (L : List Leaf → A → Type 0) (takes : Token → Opti
             cause = tt;
             again = λ x s. rw s (nil c);
           })
-      meets c (t ∷ ts) = subst (λ (o : Outcome B). Meets Limited (Meaning f (Then (Word Plain takes) L)) p c (t ∷ ts) o) (sym (cons c t ts))
+      meets c (t ∷ ts) = rw (cons c t ts)
           (stop c t ts (takes t) refl)
 
       complete : (c : Counts) (u : List Leaf) (v : B) (rest : List Token) → (h : Meaning f (Then (Word Plain takes) L) u v)

@@ -1,5 +1,5 @@
 -- More brackets derive no less.
-use Rattle.std.proofs.Common.{◌≡◌, ℕ, zero, suc, ◌≤◌, ◌<◌, List, [], ◌∷◌, Option, Some, None, subst, arith, inl, inr, ◌⊎◌}
+use Rattle.std.proofs.Common.{subst, ◌≡◌, ℕ, zero, suc, ◌≤◌, ◌<◌, List, [], ◌∷◌, Option, Some, None, arith, inl, inr, ◌⊎◌}
 use Rattle.std.proofs.lemmas.Bool.{cases_lt}
 use Rattle.query_lang.specs.declared.query.Expr.{Expr}
 use Rattle.query_lang.specs.declared.query.Stmt.{Stmt}
@@ -15,71 +15,71 @@ use Rattle.query_grammar.specs.Grammar.{Expression, Assignment, Emission, Block,
 use Rattle.query_grammar.specs.Grammar.{ColumnOf, Mapping, Stream, Final, Print, Query}
 
 -- each word of the first language is one of the second, with the same meaning
-pub record Within {A : Type 0} (L M : List Leaf → A → Type 0) : Type 0 where
+pub record Within {A : Type 0} (L M : Language A) : Type 0 where
   pub is : (w : List Leaf) (v : A) → L w v → M w v
 
-same : {A : Type 0} (L : List Leaf → A → Type 0) → Within L L
+same : {A : Type 0} (L : Language A) → Within L L
 same L = record { is = λ w v h. h }
 
-then_in : {A B : Type 0} {L L' : List Leaf → A → Type 0} {M M' : List Leaf → B → Type 0} → Within L L' → Within M M'
+then_in : {A B : Type 0} {L L' : Language A} {M M' : Language B} → Within L L' → Within M M'
     → Within (Then L M) (Then L' M')
 then_in f g = record { is = λ w v h. (h.0, h.1, h.2, f.is h.0 v.0 h.3, g.is h.1 v.1 h.4) }
 
-meaning_in : {A B : Type 0} {f : A → B} {L L' : List Leaf → A → Type 0} → Within L L' → Within (Meaning f L) (Meaning f L')
+meaning_in : {A B : Type 0} {f : A → B} {L L' : Language A} → Within L L' → Within (Meaning f L) (Meaning f L')
 meaning_in g = record { is = λ w v h. (h.0, g.is w h.0 h.1, h.2) }
 
-either_in : {A : Type 0} {L L' M M' : List Leaf → A → Type 0} → Within L L' → Within M M' → Within (Either L M) (Either L' M')
+either_in : {A : Type 0} {L L' M M' : Language A} → Within L L' → Within M M' → Within (Either L M) (Either L' M')
 either_in {A} {L} {L'} {M} {M'} f g = record { is = λ w v h. go w v h }
   where
     go : (w : List Leaf) (v : A) → L w v ⊎ M w v → L' w v ⊎ M' w v
     go w v (inl h) = inl (f.is w v h)
     go w v (inr h) = inr (g.is w v h)
 
-once_in : {A : Type 0} {L L' : List Leaf → A → Type 0} → Within L L' → Within (AtMostOnce L) (AtMostOnce L')
+once_in : {A : Type 0} {L L' : Language A} → Within L L' → Within (AtMostOnce L) (AtMostOnce L')
 once_in {A} {L} {L'} f = record { is = λ w v h. go w v h }
   where
     go : (w : List Leaf) (v : Option A) → AtMostOnce L w v → AtMostOnce L' w v
     go w None h = h
     go w (Some a) h = f.is w a h
 
-repeats : {A : Type 0} (L L' : List Leaf → A → Type 0) → Within L L' → (w : List Leaf) (v : List A) → Repeated L w v → Repeated L' w v
+repeats : {A : Type 0} (L L' : Language A) → Within L L' → (w : List Leaf) (v : List A) → Repeated L w v → Repeated L' w v
 repeats L L' f w [] h = h
 repeats L L' f w (a ∷ others) h = (h.0, h.1, h.2, f.is h.0 a h.3, repeats L L' f h.1 others h.4)
 
-repeated_in : {A : Type 0} {L L' : List Leaf → A → Type 0} → Within L L' → Within (Repeated L) (Repeated L')
+repeated_in : {A : Type 0} {L L' : Language A} → Within L L' → Within (Repeated L) (Repeated L')
 repeated_in {A} {L} {L'} f = record { is = repeats L L' f }
 
-links_in : {A B : Type 0} (T T' : List Leaf → A ⊎ B → Type 0) → Within T T' → (w : List Leaf) (v : List A) (o : Option B) → Chain T w v o
+links_in : {A B : Type 0} (T T' : Language (A ⊎ B)) → Within T T' → (w : List Leaf) (v : List A) (o : Option B) → Chain T w v o
     → Chain T' w v o
 links_in T T' f w [] None h = h
 links_in T T' f w [] (Some b) h = f.is w (inr b) h
 links_in T T' f w (a ∷ others) o h = (h.0, h.1, h.2, f.is h.0 (inl a) h.3, links_in T T' f h.1 others o h.4)
 
-chained_in : {A B : Type 0} {T T' : List Leaf → A ⊎ B → Type 0} → Within T T' → Within (Chained T) (Chained T')
+chained_in : {A B : Type 0} {T T' : Language (A ⊎ B)} → Within T T' → Within (Chained T) (Chained T')
 chained_in {A} {B} {T} {T'} f = record { is = λ w v h. links_in T T' f w v.0 v.1 h }
 
-left_in : {A : Type 0} (L M : List Leaf → A → Type 0) → Within L (Either L M)
+left_in : {A : Type 0} (L M : Language A) → Within L (Either L M)
 left_in L M = record { is = λ w v h. inl h }
 
-after_in : {A : Type 0} {L L' : List Leaf → A → Type 0} → (k : TokenKind) → Within L L' → Within (After k L) (After k L')
+after_in : {A : Type 0} {L L' : Language A} → (k : TokenKind) → Within L L' → Within (After k L) (After k L')
 after_in k f = meaning_in (then_in (same (Token_of k)) f)
 
-before_in : {A : Type 0} {L L' : List Leaf → A → Type 0} → (k : TokenKind) → Within L L' → Within (Before L k) (Before L' k)
+before_in : {A : Type 0} {L L' : Language A} → (k : TokenKind) → Within L L' → Within (Before L k) (Before L' k)
 before_in k f = meaning_in (then_in f (same (Token_of k)))
 
-between_in : {A : Type 0} {L L' : List Leaf → A → Type 0} → (s t : TokenKind) → Within L L' → Within (Between s L t) (Between s L' t)
+between_in : {A : Type 0} {L L' : Language A} → (s t : TokenKind) → Within L L' → Within (Between s L t) (Between s L' t)
 between_in s t f = after_in s (before_in t f)
 
-parens_in : {A : Type 0} {L L' : List Leaf → A → Type 0} → Within L L' → Within (Parens L) (Parens L')
+parens_in : {A : Type 0} {L L' : Language A} → Within L L' → Within (Parens L) (Parens L')
 parens_in f = between_in (sign marks.OpenParen) (sign marks.CloseParen) f
 
-brackets_in : {A : Type 0} {L L' : List Leaf → A → Type 0} → Within L L' → Within (Brackets L) (Brackets L')
+brackets_in : {A : Type 0} {L L' : Language A} → Within L L' → Within (Brackets L) (Brackets L')
 brackets_in f = between_in (sign marks.OpenBracket) (sign marks.CloseBracket) f
 
-separated_in : {A : Type 0} {L L' : List Leaf → A → Type 0} → Within L L' → Within (Separated L) (Separated L')
+separated_in : {A : Type 0} {L L' : Language A} → Within L L' → Within (Separated L) (Separated L')
 separated_in f = meaning_in {f = list_of} (then_in f (repeated_in (after_in (sign marks.Comma) f)))
 
-listed_in : {A : Type 0} {L L' : List Leaf → A → Type 0} → Within L L' → Within (Listed L) (Listed L')
+listed_in : {A : Type 0} {L L' : Language A} → Within L L' → Within (Listed L) (Listed L')
 listed_in f = meaning_in {f = listed} (once_in (separated_in f))
 
 level_in : {P P' : Language Expr} → (ops : Operators) → Within P P' → Within (Level ops P) (Level ops P')

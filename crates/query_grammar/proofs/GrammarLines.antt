@@ -29,7 +29,7 @@ use Rattle.query_grammar.specs.Reading.{item_starts, query}
 use Rattle.query_grammar.proofs.Parses.{Parses, parses_wider, parses_wider_on, parses_word}
 use Rattle.query_grammar.proofs.Choices.{parses_blocked}
 use Rattle.query_grammar.proofs.Sequences.{parses_null_then}
-use Rattle.query_grammar.proofs.Lines.{disjoint, disjoint_is, Line, EndFree, free_word, free_both, line_then, line_then_null}
+use Rattle.query_grammar.proofs.Lines.{subset, disjoint, disjoint_is, Line, EndFree, free_word, free_both, line_then, line_then_null}
 use Rattle.query_grammar.proofs.Lines.{line_null_then, line_either, line_once, line_repeated, line_meaning, line_sets, line_chained}
 use Rattle.query_grammar.proofs.Lines.{more_left, more_right, less_left}
 use Rattle.query_grammar.proofs.LineParts.{is_kind, no_place, sample_of, is_itself, line_is, line_operator, line_name, line_number}
@@ -38,81 +38,71 @@ use Rattle.query_grammar.proofs.LineParts.{line_brackets, line_brackets_null, li
 
 -- ---- expressions
 
-line_level : {m : Limits} {L : Language Expr} {p : Parser Expr} {xs ys : List ℕ} → (ops : Operators) (k : TokenKind) (op : Op)
-    → operator ops (sample_of k) ≡ Some (op, no_place) → one_of (kinds_of ops) 3 ≡ false → Line m L p xs ys false
-    → disjoint (kinds_of ops) ys ≡ true → Line m (Level ops L) (level m ops p) xs (ys ++ (kinds_of ops ++ ys)) false
-line_level {m} {L} {p} {xs} {ys} ops k op e other f d =
-    line_meaning (line_then_null f (line_repeated (line_then (line_operator m ops k op e other) f (disjoint_nil xs)) d) d)
+line_level : {m : Limits} {L : Language Expr} {p : Parser Expr} {ys : List ℕ} → (zs : List ℕ) (ops : Operators) (k : TokenKind) (op : Op)
+    → operator ops (sample_of k) ≡ Some (op, no_place) → one_of (kinds_of ops) 3 ≡ false → Line m L p expr_starts ys false
+    → disjoint (kinds_of ops) ys ≡ true → subset (ys ++ (kinds_of ops ++ ys)) zs ≡ true
+    → Line m (Level ops L) (level m ops p) expr_starts zs false
+line_level {m} zs ops k op e other f d within = line_sets expr_starts zs (line_meaning (line_then_null f
+    (line_repeated (line_then (line_operator m ops k op e other) f (disjoint_nil expr_starts)) d) d)) refl within
 
 abbrev pub product_on : List ℕ
 product_on = 43 ∷ 44 ∷ 45 ∷ []
 
 abbrev pub sum_on : List ℕ
-sum_on = 41 ∷ 42 ∷ 43 ∷ 44 ∷ 45 ∷ []
+sum_on = 41 ∷ 42 ∷ product_on
 
 abbrev pub shift_on : List ℕ
-shift_on = 39 ∷ 40 ∷ 41 ∷ 42 ∷ 43 ∷ 44 ∷ 45 ∷ []
+shift_on = 39 ∷ 40 ∷ sum_on
 
 abbrev pub and_on : List ℕ
-and_on = 46 ∷ 39 ∷ 40 ∷ 41 ∷ 42 ∷ 43 ∷ 44 ∷ 45 ∷ []
+and_on = 46 ∷ shift_on
 
 abbrev pub xor_on : List ℕ
-xor_on = 50 ∷ 46 ∷ 39 ∷ 40 ∷ 41 ∷ 42 ∷ 43 ∷ 44 ∷ 45 ∷ []
+xor_on = 50 ∷ and_on
 
 abbrev pub or_on : List ℕ
-or_on = 48 ∷ 50 ∷ 46 ∷ 39 ∷ 40 ∷ 41 ∷ 42 ∷ 43 ∷ 44 ∷ 45 ∷ []
+or_on = 48 ∷ xor_on
 
 abbrev pub comparison_on : List ℕ
-comparison_on = 33 ∷ 34 ∷ 35 ∷ 36 ∷ 37 ∷ 38 ∷ 48 ∷ 50 ∷ 46 ∷ 39 ∷ 40 ∷ 41 ∷ 42 ∷ 43 ∷ 44 ∷ 45 ∷ []
+comparison_on = 33 ∷ 34 ∷ 35 ∷ 36 ∷ 37 ∷ 38 ∷ or_on
 
 abbrev pub conjunction_on : List ℕ
-conjunction_on = 47 ∷ 33 ∷ 34 ∷ 35 ∷ 36 ∷ 37 ∷ 38 ∷ 48 ∷ 50 ∷ 46 ∷ 39 ∷ 40 ∷ 41 ∷ 42 ∷ 43 ∷ 44 ∷ 45 ∷ []
+conjunction_on = 47 ∷ comparison_on
 
 abbrev pub expr_on : List ℕ
-expr_on = 49 ∷ 47 ∷ 33 ∷ 34 ∷ 35 ∷ 36 ∷ 37 ∷ 38 ∷ 48 ∷ 50 ∷ 46 ∷ 39 ∷ 40 ∷ 41 ∷ 42 ∷ 43 ∷ 44 ∷ 45 ∷ []
+expr_on = 49 ∷ conjunction_on
 
-line_unary : {m : Limits} {P : Language Expr} {p : Parser Expr} → Line m P p primary_starts [] false
-    → Line m (Unary P) (unary m p) expr_starts [] false
-line_unary {m} f = line_meaning (line_null_then (line_repeated (line_is m Node (sign marks.Bang) refl) refl) f refl)
+module _ {m : Limits} {P : Language Expr} {p : Parser Expr} (f : Line m P p primary_starts [] false) where
+  line_unary : Line m (Unary P) (unary m p) expr_starts [] false
+  line_unary = line_meaning (line_null_then (line_repeated (line_is m Node (sign marks.Bang) refl) refl) f refl)
 
-line_product : {m : Limits} {P : Language Expr} {p : Parser Expr} → Line m P p primary_starts [] false
-    → Line m (Product P) (product m p) expr_starts product_on false
-line_product f = line_sets _ _ (line_level product_ops (sign marks.Times) operations.Mul refl refl (line_unary f) refl) refl refl
+  line_product : Line m (Product P) (product m p) expr_starts product_on false
+  line_product = line_level product_on product_ops (sign marks.Times) operations.Mul refl refl line_unary refl refl
 
-line_sum : {m : Limits} {P : Language Expr} {p : Parser Expr} → Line m P p primary_starts [] false
-    → Line m (Sum P) (sum m p) expr_starts sum_on false
-line_sum f = line_sets _ _ (line_level sum_ops (sign marks.Plus) operations.Add refl refl (line_product f) refl) refl refl
+  line_sum : Line m (Sum P) (sum m p) expr_starts sum_on false
+  line_sum = line_level sum_on sum_ops (sign marks.Plus) operations.Add refl refl line_product refl refl
 
-line_shift : {m : Limits} {P : Language Expr} {p : Parser Expr} → Line m P p primary_starts [] false
-    → Line m (Shift P) (shift m p) expr_starts shift_on false
-line_shift f = line_sets _ _ (line_level shift_ops (sign marks.ShiftLeft) operations.Shl refl refl (line_sum f) refl) refl refl
+  line_shift : Line m (Shift P) (shift m p) expr_starts shift_on false
+  line_shift = line_level shift_on shift_ops (sign marks.ShiftLeft) operations.Shl refl refl line_sum refl refl
 
-line_bit_and : {m : Limits} {P : Language Expr} {p : Parser Expr} → Line m P p primary_starts [] false
-    → Line m (BitAnd P) (bit_and m p) expr_starts and_on false
-line_bit_and f = line_sets _ _ (line_level and_ops (sign marks.And) operations.And refl refl (line_shift f) refl) refl refl
+  line_bit_and : Line m (BitAnd P) (bit_and m p) expr_starts and_on false
+  line_bit_and = line_level and_on and_ops (sign marks.And) operations.And refl refl line_shift refl refl
 
-line_bit_xor : {m : Limits} {P : Language Expr} {p : Parser Expr} → Line m P p primary_starts [] false
-    → Line m (BitXor P) (bit_xor m p) expr_starts xor_on false
-line_bit_xor f = line_sets _ _ (line_level xor_ops (sign marks.Xor) operations.Xor refl refl (line_bit_and f) refl) refl refl
+  line_bit_xor : Line m (BitXor P) (bit_xor m p) expr_starts xor_on false
+  line_bit_xor = line_level xor_on xor_ops (sign marks.Xor) operations.Xor refl refl line_bit_and refl refl
 
-line_bit_or : {m : Limits} {P : Language Expr} {p : Parser Expr} → Line m P p primary_starts [] false
-    → Line m (BitOr P) (bit_or m p) expr_starts or_on false
-line_bit_or f = line_sets _ _ (line_level or_ops (sign marks.Or) operations.Or refl refl (line_bit_xor f) refl) refl refl
+  line_bit_or : Line m (BitOr P) (bit_or m p) expr_starts or_on false
+  line_bit_or = line_level or_on or_ops (sign marks.Or) operations.Or refl refl line_bit_xor refl refl
 
-line_comparison : {m : Limits} {P : Language Expr} {p : Parser Expr} → Line m P p primary_starts [] false
-    → Line m (Comparison P) (comparison m p) expr_starts comparison_on false
-line_comparison {m} f = let g = line_bit_or f in line_sets _ _ (line_meaning
-    (line_then_null g (line_once (line_then (line_operator m comparing_ops (sign marks.Equal) operations.Eq refl refl) g refl)) refl)) refl
-    refl
+  line_comparison : Line m (Comparison P) (comparison m p) expr_starts comparison_on false
+  line_comparison = line_sets _ _ (line_meaning (line_then_null line_bit_or (line_once (line_then
+      (line_operator m comparing_ops (sign marks.Equal) operations.Eq refl refl) line_bit_or refl)) refl)) refl refl
 
-line_conjunction : {m : Limits} {P : Language Expr} {p : Parser Expr} → Line m P p primary_starts [] false
-    → Line m (Conjunction P) (conjunction m p) expr_starts conjunction_on false
-line_conjunction f = line_sets _ _ (line_level both_ops (sign marks.Both) operations.Both refl refl (line_comparison f) refl) refl refl
+  line_conjunction : Line m (Conjunction P) (conjunction m p) expr_starts conjunction_on false
+  line_conjunction = line_level conjunction_on both_ops (sign marks.Both) operations.Both refl refl line_comparison refl refl
 
-pub line_disjunction : {m : Limits} {P : Language Expr} {p : Parser Expr} → Line m P p primary_starts [] false
-    → Line m (Disjunction P) (disjunction m p) expr_starts expr_on false
-line_disjunction f = line_sets _ _ (line_level either_ops (sign marks.Either) operations.Either refl refl (line_conjunction f) refl) refl
-    refl
+  pub line_disjunction : Line m (Disjunction P) (disjunction m p) expr_starts expr_on false
+  line_disjunction = line_level expr_on either_ops (sign marks.Either) operations.Either refl refl line_conjunction refl refl
 
 pub line_atom : (m : Limits) → Line m Atom (atom m) atom_starts [] false
 line_atom m = line_either (line_meaning (line_number m Node)) (line_either (line_meaning (line_is m Node (keyword words.Infinity) refl))
@@ -121,8 +111,7 @@ line_atom m = line_either (line_meaning (line_number m Node)) (line_either (line
 line_wider : {A : Type 0} {m : Limits} {L : Language A} {p : Parser A} {xs ys : List ℕ} → (also : List ℕ) → Line m L p xs ys false
     → Line m L p (xs ++ also) ys false
 line_wider {A} {m} {L} {p} {xs} {ys} also f = record {
-  parses = parses_wider (among (xs ++ also)) (λ t h. more_left xs also (kind t) h)
-      f.parses;
+  parses = parses_wider (among (xs ++ also)) (λ t h. more_left xs also (kind t) h) f.parses;
   free = f.free;
 }
 
@@ -131,8 +120,7 @@ line_arguments : {m : Limits} {E : Language Expr} {p : Parser Expr} → Line m E
 line_arguments f = line_parens_null (line_listed f refl) refl
 
 line_primary : {m : Limits} {p : Parser Expr} {q : Parser (List Expr)} → (E : Language Expr) → Line m (Parens E) p (24 ∷ []) [] false
-    → Line m (Parens (Listed E)) q (24 ∷ []) [] false
-    → Line m (Primary E) (primary m p q) primary_starts [] false
+    → Line m (Parens (Listed E)) q (24 ∷ []) [] false → Line m (Primary E) (primary m p q) primary_starts [] false
 line_primary {m} E f g = line_either (line_atom m) (line_either f (line_meaning
     (line_then (line_operator m functions (keyword words.Max) operations.Max refl refl) g refl)) refl) refl
 
@@ -147,34 +135,24 @@ pub data Deeper : ℕ → ℕ → Type 0 where
   here : {k : ℕ} → Deeper zero (suc k)
   under : {e d : ℕ} → Deeper e d → Deeper (suc e) (suc d)
 
-free_blocked : {A B : Type 0} (L : Language A) (f : Span × A → B) (k : TokenKind) → one_of (kind_number k ∷ []) 3 ≡ false
-    → ((w : List Leaf) (v : A) → L w v → EndFree w)
-    → (w : List Leaf) (v : B) → Meaning f (Then (Token_of k) L) w v → EndFree w
-free_blocked L f k e free w v h = free_both w h.1.0 h.1.1 h.1.2 (free_word Plain (is k) (kind_number k ∷ []) e (is_kind k) h.1.0 h.0.0
-    h.1.3) (free h.1.1 h.0.1 h.1.4)
-
-line_blocked : {A B : Type 0} → (L : Language A) (f : Span × A → B) (k : TokenKind) → one_of (kind_number k ∷ []) 3 ≡ false
-    → ((w : List Leaf) (v : A) → L w v → EndFree w) → (w : List Leaf) → (a : A) → L w a
-    → Line Limited (Meaning f (Then (Token_of k) L)) (blocked k) (kind_number k ∷ []) [] false
-line_blocked {A} {B} L f k e free w a h = record {
-  parses = parses_wider (among (kind_number k ∷ [])) (is_kind k) (parses_blocked L (is k) f (blocked k) (λ c. refl) (λ c u ts. refl)
-      (among []) (sample_of k) no_place (is_itself k) w a h);
-  free = free_blocked L f k e free;
-}
-
 -- a bracket before a line that would be one too many
-line_blocked_by : {A B : Type 0} {m : Limits} {L : Language A} {p : Parser A} {xs ys : List ℕ} {nullable : Bool}
-    → (f : Span × A → B) (k : TokenKind) → one_of (kind_number k ∷ []) 3 ≡ false → Line m L p xs ys nullable
+line_blocked_by : {A B : Type 0} {m : Limits} {L : Language A} {p : Parser A} {xs ys : List ℕ} {nullable : Bool} {f : Span × A → B}
+    (k : TokenKind) → one_of (kind_number k ∷ []) 3 ≡ false → Line m L p xs ys nullable
     → Line Limited (Meaning f (Then (Token_of k) L)) (blocked k) (kind_number k ∷ []) [] false
-line_blocked_by {A} {B} {m} {L} f k e g = let s = g.parses.sample in line_blocked L f k e g.free s.0 s.1 s.2
+line_blocked_by {L = L} {f = f} k e g = let s = g.parses.sample in record {
+  parses = parses_wider (among (kind_number k ∷ [])) (is_kind k) (parses_blocked L (is k) f (blocked k) (λ c. refl) (λ c u ts. refl)
+      (among []) (sample_of k) no_place (is_itself k) s.0 s.1 s.2);
+  free = λ w v h. free_both w h.1.0 h.1.1 h.1.2 (free_word Plain (is k) (kind_number k ∷ []) e (is_kind k) h.1.0 h.0.0 h.1.3)
+      (g.free h.1.1 h.0.1 h.1.4);
+}
 
 pub line_expr_limited : {e d : ℕ} → Deeper e d → Line Limited (Expression d) (expr_at Limited e) expr_starts expr_on false
 unfolding expr_at
 line_expr_limited {e} {d} (here {k}) =
     let f = line_expr k in
-    line_disjunction (line_primary (Expression k) (line_blocked_by (λ v. v.1) (sign marks.OpenParen) refl
+    line_disjunction (line_primary (Expression k) (line_blocked_by (sign marks.OpenParen) refl
     (line_before (sign marks.CloseParen) refl f refl))
-    (line_blocked_by (λ v. v.1) (sign marks.OpenParen) refl (line_before_null (sign marks.CloseParen) refl (line_listed f refl) refl)))
+    (line_blocked_by (sign marks.OpenParen) refl (line_before_null (sign marks.CloseParen) refl (line_listed f refl) refl)))
 line_expr_limited (under {d = d} h) = let f = line_expr_limited h in line_disjunction
     (line_primary (Expression d) (line_parens f refl) (line_arguments f))
 
@@ -183,8 +161,7 @@ line_expr_limited (under {d = d} h) = let f = line_expr_limited h in line_disjun
 line_wider_on : {A : Type 0} {m : Limits} {L : Language A} {p : Parser A} {xs ys : List ℕ} → (also : List ℕ) → Line m L p xs ys false
     → Line m L p xs (ys ++ also) false
 line_wider_on {A} {m} {L} {p} {xs} {ys} also f = record {
-  parses = parses_wider_on (among (ys ++ also))
-      (λ t h. less_left ys also (kind t) h) f.parses;
+  parses = parses_wider_on (among (ys ++ also)) (λ t h. less_left ys also (kind t) h) f.parses;
   free = f.free;
 }
 
@@ -207,8 +184,7 @@ line_block : {m : Limits} {S : Language Stmt} {p : Parser Stmt} → Line m S p s
 line_block f = line_after (sign marks.OpenBrace) refl (line_before_null (sign marks.CloseBrace) refl (line_repeated f refl) refl)
 
 line_if_part : {m : Limits} {p : Parser Expr} {q : Parser (List Stmt)} → (E : Language Expr) (S : Language Stmt)
-    → Line m (Parens E) p (24 ∷ []) [] false → Line m (Block S) q (28 ∷ []) [] false
-    → Line m (IfPart E S) (if_part m p q) (5 ∷ []) [] false
+    → Line m (Parens E) p (24 ∷ []) [] false → Line m (Block S) q (28 ∷ []) [] false → Line m (IfPart E S) (if_part m p q) (5 ∷ []) [] false
 line_if_part {m} E S f g = line_then (line_is m Statement (keyword words.If) refl) (line_then f g refl) refl
 
 line_if : {m : Limits} {p : Parser Expr} {q : Parser (List Stmt)} → (E : Language Expr) (S : Language Stmt)
@@ -236,10 +212,9 @@ pub line_stmt_limited : {e d : ℕ} → Deeper e d → Line Limited (Statement_a
 unfolding stmt_at
 line_stmt_limited {e} {d} (here {k}) =
     line_statement (Expression (suc k)) (Expression k) (Statement_at k) (line_expr_limited (here {k = k}))
-    (line_blocked_by (λ v. v.1) (sign marks.OpenParen) refl (line_before (sign marks.CloseParen) refl (line_expr k) refl))
-    (line_blocked_by (λ v. v.1) (sign marks.OpenBrace) refl (line_before_null (sign marks.CloseBrace) refl
-    (line_repeated (line_stmt k) refl) refl))
-    (line_blocked_by (λ v. v.1) (sign marks.OpenParen) refl (line_closing Limited))
+    (line_blocked_by (sign marks.OpenParen) refl (line_before (sign marks.CloseParen) refl (line_expr k) refl))
+    (line_blocked_by (sign marks.OpenBrace) refl (line_before_null (sign marks.CloseBrace) refl (line_repeated (line_stmt k) refl) refl))
+    (line_blocked_by (sign marks.OpenParen) refl (line_closing Limited))
 line_stmt_limited (under {d = d} h) = line_statement (Expression (suc d)) (Expression d) (Statement_at d) (line_expr_limited (under h))
     (line_parens (line_expr_limited h) refl) (line_block (line_stmt_limited h))
     (line_after (sign marks.OpenParen) refl (line_closing Limited))
@@ -259,18 +234,16 @@ line_fold : {m : Limits} → (d : ℕ) {p : Parser Stmt} → Line m (Statement_a
 line_fold {m} d f = line_meaning (line_then (line_is m Opening (keyword words.Def) refl)
     (line_then (line_name m Plain) (line_then (line_parameters m) (line_block f) refl) refl) refl)
 
-line_filter : {m : Limits} {E : Language Expr} {p : Parser Expr} → Line m E p expr_starts expr_on false
-    → Line m (Filter E) (filter_of m p) (8 ∷ []) [] false
-line_filter {m} f = line_after (keyword words.Filter) refl (line_parens (line_then (line_name m Plain) (line_comma f) refl) refl)
+module _ {m : Limits} {E : Language Expr} {p : Parser Expr} (f : Line m E p expr_starts expr_on false) where
+  line_filter : Line m (Filter E) (filter_of m p) (8 ∷ []) [] false
+  line_filter = line_after (keyword words.Filter) refl (line_parens (line_then (line_name m Plain) (line_comma f) refl) refl)
 
-line_column : {m : Limits} {E : Language Expr} {p : Parser Expr} → Line m E p expr_starts expr_on false
-    → Line m (ColumnOf E) (column_of m p) (0 ∷ []) expr_on false
-line_column {m} f = line_meaning (line_then (line_name m Plain) (line_after (sign marks.Assign) refl f) refl)
+  line_column : Line m (ColumnOf E) (column_of m p) (0 ∷ []) expr_on false
+  line_column = line_meaning (line_then (line_name m Plain) (line_after (sign marks.Assign) refl f) refl)
 
-line_mapping : {m : Limits} {E : Language Expr} {p : Parser Expr} → Line m E p expr_starts expr_on false
-    → Line m (Mapping E) (mapping m p) (9 ∷ []) [] false
-line_mapping {m} f = line_after (keyword words.Map) refl (line_parens (line_then (line_name m Plain)
-    (line_comma (line_brackets (line_separated (line_column f) refl) refl)) refl) refl)
+  line_mapping : Line m (Mapping E) (mapping m p) (9 ∷ []) [] false
+  line_mapping = line_after (keyword words.Map) refl (line_parens (line_then (line_name m Plain)
+      (line_comma (line_brackets (line_separated line_column refl) refl)) refl) refl)
 
 line_pairing : (m : Limits) (k : TokenKind) → one_of (kind_number k ∷ []) 3 ≡ false
     → Line m (Pairing k) (pairing m k) (kind_number k ∷ []) [] false
@@ -287,46 +260,38 @@ line_best : (m : Limits) → Line m Best (best m) (15 ∷ []) [] false
 line_best m = line_after (keyword words.Top) refl (line_parens (line_then (line_name m Plain)
     (line_comma (line_then (line_name m Plain) (line_comma (line_number m Plain)) refl)) refl) refl)
 
-line_streaming : {m : Limits} {E F : Language Expr} {p q : Parser Expr} → Line m E p expr_starts expr_on false
-    → Line m F q expr_starts expr_on false
-    → Line m (Streaming E F) (streaming m p q) (8 ∷ 9 ∷ 10 ∷ 11 ∷ []) [] false
-line_streaming {m} f g = line_either (line_meaning (line_filter f)) (line_either (line_meaning (line_mapping g))
-    (line_either (line_meaning (line_pairing m (keyword words.Zip) refl)) (line_meaning (line_group m)) refl) refl) refl
+module _ {m : Limits} {E F : Language Expr} {p q : Parser Expr} (f : Line m E p expr_starts expr_on false)
+    (g : Line m F q expr_starts expr_on false) where
+  line_streaming : Line m (Streaming E F) (streaming m p q) (8 ∷ 9 ∷ 10 ∷ 11 ∷ []) [] false
+  line_streaming = line_either (line_meaning (line_filter f)) (line_either (line_meaning (line_mapping g))
+      (line_either (line_meaning (line_pairing m (keyword words.Zip) refl)) (line_meaning (line_group m)) refl) refl) refl
 
-line_stream : {m : Limits} {E F : Language Expr} {p q : Parser Expr} → Line m E p expr_starts expr_on false
-    → Line m F q expr_starts expr_on false → Line m (Stream E F) (stream m p q) (0 ∷ []) [] false
-line_stream {m} f g = line_meaning (line_then (line_name m Opening) (line_after (sign marks.Assign) refl
-    (line_before (sign marks.Semicolon) refl (line_streaming f g) refl)) refl)
+  line_stream : Line m (Stream E F) (stream m p q) (0 ∷ []) [] false
+  line_stream = line_meaning (line_then (line_name m Opening) (line_after (sign marks.Assign) refl
+      (line_before (sign marks.Semicolon) refl line_streaming refl)) refl)
 
-line_finishing : {m : Limits} {E F : Language Expr} {p q : Parser Expr} → Line m E p expr_starts expr_on false
-    → Line m F q expr_starts expr_on false
-    → Line m (Finishing E F) (finishing m p q) (8 ∷ 9 ∷ 11 ∷ 14 ∷ 15 ∷ []) [] false
-line_finishing {m} f g = line_either (line_meaning (line_filter f)) (line_either (line_meaning (line_mapping g))
-    (line_either (line_meaning (line_group m))
-    (line_either (line_meaning (line_pairing m (keyword words.Join) refl)) (line_meaning (line_best m)) refl) refl) refl) refl
+  line_finishing : Line m (Finishing E F) (finishing m p q) (8 ∷ 9 ∷ 11 ∷ 14 ∷ 15 ∷ []) [] false
+  line_finishing = line_either (line_meaning (line_filter f)) (line_either (line_meaning (line_mapping g)) (line_either
+      (line_meaning (line_group m)) (line_either (line_meaning (line_pairing m (keyword words.Join) refl)) (line_meaning (line_best m)) refl)
+      refl) refl) refl
 
-line_final : {m : Limits} {E F : Language Expr} {p q : Parser Expr} → Line m E p expr_starts expr_on false
-    → Line m F q expr_starts expr_on false → Line m (Final E F) (final m p q) (12 ∷ []) [] false
-line_final {m} f g = line_meaning (line_then (line_is m Opening (keyword words.Final) refl)
-    (line_then (line_name m Plain) (line_after (sign marks.Assign) refl (line_before (sign marks.Semicolon) refl (line_finishing f g) refl))
-    refl) refl)
+  line_final : Line m (Final E F) (final m p q) (12 ∷ []) [] false
+  line_final = line_meaning (line_then (line_is m Opening (keyword words.Final) refl) (line_then (line_name m Plain)
+      (line_after (sign marks.Assign) refl (line_before (sign marks.Semicolon) refl line_finishing refl)) refl) refl)
 
 line_print : (m : Limits) → Line m Print (print m) (13 ∷ []) [] false
 line_print m = line_meaning (line_then (line_is m Opening (keyword words.Print) refl)
     (line_before (sign marks.Semicolon) refl (line_name m Plain) refl) refl)
 
-line_item : {m : Limits} {s : Parser Stmt} {p q : Parser Expr} → (d : ℕ) → Line m (Statement_at d) s stmt_starts (6 ∷ []) false
-    → Line m (Expression d) p expr_starts expr_on false → Line m (Expression d) q expr_starts expr_on false
-    → Line m (ItemOf d) (item m s p q) item_starts [] false
-line_item {m} d f g h = line_either (line_fold d f) (line_either (line_stream g h) (line_either (line_final g h) (line_print m) refl) refl)
-    refl
+module _ {m : Limits} {s : Parser Stmt} {p q : Parser Expr} (d : ℕ) (f : Line m (Statement_at d) s stmt_starts (6 ∷ []) false)
+    (g : Line m (Expression d) p expr_starts expr_on false) (h : Line m (Expression d) q expr_starts expr_on false) where
+  line_item : Line m (ItemOf d) (item m s p q) item_starts [] false
+  line_item = line_either (line_fold d f) (line_either (line_stream g h) (line_either (line_final g h) (line_print m) refl) refl) refl
+
+  pub line_items : Line m (Repeated (ItemOf d)) (repeated (among item_starts) (item m s p q)) item_starts (item_starts ++ []) true
+  line_items = line_repeated line_item refl
 
 -- ---- the query
-
-pub line_items : {m : Limits} {s : Parser Stmt} {p q : Parser Expr} → (d : ℕ) → Line m (Statement_at d) s stmt_starts (6 ∷ []) false
-    → Line m (Expression d) p expr_starts expr_on false → Line m (Expression d) q expr_starts expr_on false
-    → Line m (Repeated (ItemOf d)) (repeated (among item_starts) (item m s p q)) item_starts (item_starts ++ []) true
-line_items d f g h = line_repeated (line_item d f g h) refl
 
 -- { item } end
 parses_query : {m : Limits} {L : Language (List Item)} {p : Parser (List Item)} → Line m L p item_starts (item_starts ++ []) true

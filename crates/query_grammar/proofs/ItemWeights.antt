@@ -25,8 +25,8 @@ use Rattle.query_grammar.specs.Grammar.{Mapping, Pairing, KeyOf, Group, Best, St
 use Rattle.query_grammar.specs.Fault.{IsAccepted}
 use Rattle.query_grammar.proofs.Parses.{pays, pays-append}
 use Rattle.query_grammar.proofs.Runs.{Value, pays_is}
-use Rattle.query_grammar.proofs.Weighing.{total, sum_total, is_node, is_statement, is_opening, leaves_by, Weight, Weighs, none, weigh_plain}
-use Rattle.query_grammar.proofs.Weighing.{weigh_then, weigh_either, weigh_once, weigh_same, weigh_after, weigh_before, weigh_meaning}
+use Rattle.query_grammar.proofs.Weighing.{weigh_as, same_weight, total, sum_total, is_node, is_statement, is_opening, leaves_by, Weight, Weighs, none, weigh_plain}
+use Rattle.query_grammar.proofs.Weighing.{weigh_then, weigh_either, weigh_once, weigh_same, weigh_after, weigh_before}
 use Rattle.query_grammar.proofs.Weighing.{weigh_between, weigh_separated, weigh_listed, if_some}
 use Rattle.query_grammar.proofs.Weights.{weigh_parens, weigh_block, weigh_expr, weigh_stmt, nothing_in}
 
@@ -38,11 +38,9 @@ Bounded w c e = leaves_by is_opening w ≡ 0 → pays Limited c w ≡ Some e →
     → (c.nodes + leaves_by is_node w ≤ MAX_NODES) × (c.statements + leaves_by is_statement w ≤ MAX_STATEMENTS)
 
 node_more : (w : List Leaf) (c e : Counts) → ((m : Counts) → Bounded w m e) → c.statements ≤ MAX_STATEMENTS → (b : Bool)
-    → ltb c.nodes MAX_NODES ≡ b
-    → leaves_by is_opening w ≡ 0
+    → ltb c.nodes MAX_NODES ≡ b → leaves_by is_opening w ≡ 0
     → option_and_then (λ d. pays Limited d w) (cond {A = Option Counts} b (Some (record { nodes = c.nodes + 1; statements = c.statements }))
-    None) ≡ Some e
-    → (c.nodes + (1 + leaves_by is_node w) ≤ MAX_NODES) × (c.statements + (0 + leaves_by is_statement w) ≤ MAX_STATEMENTS)
+    None) ≡ Some e → (c.nodes + (1 + leaves_by is_node w) ≤ MAX_NODES) × (c.statements + (0 + leaves_by is_statement w) ≤ MAX_STATEMENTS)
 node_more w c e ih s true t i k =
     let small : c.nodes < MAX_NODES = ltb-true c.nodes MAX_NODES t in
     let r = ih (record { nodes = c.nodes + 1; statements = c.statements }) i k (omega (arith, small)) s in
@@ -50,11 +48,9 @@ node_more w c e ih s true t i k =
 node_more w c e ih s false t i k = absurd cc
 
 statement_more : (w : List Leaf) (c e : Counts) → ((m : Counts) → Bounded w m e) → c.nodes ≤ MAX_NODES → (b : Bool)
-    → ltb c.statements MAX_STATEMENTS ≡ b
-    → leaves_by is_opening w ≡ 0
+    → ltb c.statements MAX_STATEMENTS ≡ b → leaves_by is_opening w ≡ 0
     → option_and_then (λ d. pays Limited d w) (cond {A = Option Counts} b (Some (record { nodes = c.nodes; statements = c.statements + 1 }))
-    None) ≡ Some e
-    → (c.nodes + (0 + leaves_by is_node w) ≤ MAX_NODES) × (c.statements + (1 + leaves_by is_statement w) ≤ MAX_STATEMENTS)
+    None) ≡ Some e → (c.nodes + (0 + leaves_by is_node w) ≤ MAX_NODES) × (c.statements + (1 + leaves_by is_statement w) ≤ MAX_STATEMENTS)
 statement_more w c e ih n true t i k =
     let small : c.statements < MAX_STATEMENTS = ltb-true c.statements MAX_STATEMENTS t in
     let r = ih (record { nodes = c.nodes; statements = c.statements + 1 }) i k n (omega (arith, small)) in
@@ -62,8 +58,7 @@ statement_more w c e ih n true t i k =
 statement_more w c e ih n false t i k = absurd cc
 
 one_more : (w : List Leaf) (c e : Counts) → ((m : Counts) → Bounded w m e) → c.nodes ≤ MAX_NODES → c.statements ≤ MAX_STATEMENTS
-    → (r : Role) → is_opening r
-    + leaves_by is_opening w ≡ 0
+    → (r : Role) → is_opening r + leaves_by is_opening w ≡ 0
     → option_and_then (λ d. pays Limited d w) (charge Limited r c) ≡ Some e → (c.nodes + (is_node r + leaves_by is_node w) ≤ MAX_NODES)
     × (c.statements + (is_statement r + leaves_by is_statement w) ≤ MAX_STATEMENTS)
 one_more w c e ih n s Plain i k = let r = ih c (omega (arith, i)) k n s in (omega (arith, r.0), omega (arith, r.1))
@@ -89,38 +84,25 @@ pays_part c e u w h = go (pays Limited c u) refl (sym (pays-append Limited c u w
 pub record Opens {A : Type 0} (L : Language A) (f g : A → ℕ) : Type 0 where
   pub is : (w : List Leaf) (v : A) → L w v → (l : Leaf) × (x : List Leaf) × (w ≡ l ∷ x) × (l.role ≡ Opening) × Weight x (f v) (g v)
 
-opens_then : {A B : Type 0} {takes : Token → Option A} {M : Language B} (f g : B → ℕ) → Weighs M f g
+opens_then : {A B : Type 0} {takes : Token → Option A} {M : Language B} {f g : B → ℕ} → Weighs M f g
     → Opens (Then (Word Opening takes) M) (λ v. f v.1) (λ v. g v.1)
-opens_then f g p = record {
+opens_then p = record {
   is = λ w v h. (
     record { role = Opening; token = h.3.0 },
     h.1,
-    h.2
-        ∙ ap (λ (u : List Leaf). u ++ h.1) h.3.1,
+    h.2 ∙ ap (λ (u : List Leaf). u ++ h.1) h.3.1,
     refl,
     p.is h.1 v.1 h.4,
   );
 }
 
-opens_meaning : {A B : Type 0} {L : Language A} {h : A → B} (f g : A → ℕ) (f' g' : B → ℕ) → Opens L f g → ((a : A) → f a ≡ f' (h a))
-    → ((a : A) → g a ≡ g' (h a)) → Opens (Meaning h L) f' g'
-opens_meaning {h = h} f g f' g' p e d = record {
-  is = λ w v m. let o = p.is w m.0 m.1 in (
-    o.0,
-    o.1,
-    o.2,
-    o.3,
-    record {
-      nodes = o.4.nodes ∙ e m.0 ∙ ap f' m.2;
-      statements = o.4.statements ∙ d m.0 ∙ ap g' m.2;
-      inner =
-          o.4.inner;
-    },
-  );
+opens_meaning : {A B : Type 0} {L : Language A} {h : A → B} {f g : B → ℕ} → Opens L (λ a. f (h a)) (λ a. g (h a)) → Opens (Meaning h L) f g
+opens_meaning {f = f} {g} p = record {
+  is = λ w v m. let o = p.is w m.0 m.1 in (o.0, o.1, o.2, o.3, same_weight o.4 (ap f m.2) (ap g m.2));
 }
 
-opens_either : {A : Type 0} {L M : Language A} (f g : A → ℕ) → Opens L f g → Opens M f g → Opens (Either L M) f g
-opens_either {A} {L} {M} f g p q = record { is = λ w v h. go w v h }
+opens_either : {A : Type 0} {L M : Language A} {f g : A → ℕ} → Opens L f g → Opens M f g → Opens (Either L M) f g
+opens_either {A} {L} {M} {f} {g} p q = record { is = go }
   where
     go : (w : List Leaf) (v : A) → L w v ⊎ M w v → (l : Leaf) × (x : List Leaf) × (w ≡ l ∷ x) × (l.role ≡ Opening) × Weight x (f v) (g v)
     go w v (inl h) = p.is w v h
@@ -129,37 +111,33 @@ opens_either {A} {L} {M} f g p q = record { is = λ w v h. go w v h }
 -- ---- items
 
 none_then : {A B : Type 0} {L : Language A} {M : Language B} → Weighs L none none → Weighs M none none → Weighs (Then L M) none none
-none_then p q = weigh_same (λ v. 0 + 0) (λ v. 0 + 0) none none (weigh_then none none none none p q) (λ a. refl) (λ a. refl)
+none_then p q = weigh_same (weigh_then p q) (λ a. refl) (λ a. refl)
 
 -- a name before what weighs
-named : {B : Type 0} {M : Language B} (f g : B → ℕ) → Weighs M f g → Weighs (Then Plain_name M) (λ v. f v.1) (λ v. g v.1)
-named f g q = weigh_same (λ v. 0 + f v.1) (λ v. 0 + g v.1) (λ v. f v.1) (λ v. g v.1) (weigh_then none none f g weigh_plain q)
-    (λ a. omega arith) (λ a. omega arith)
+named : {B : Type 0} {M : Language B} {f g : B → ℕ} → Weighs M f g → Weighs (Then Plain_name M) (λ v. f v.1) (λ v. g v.1)
+named q = weigh_same (weigh_then weigh_plain q) (λ a. omega arith) (λ a. omega arith)
 
-comma : {A : Type 0} {L : Language A} (f g : A → ℕ) → Weighs L f g → Weighs (After (sign marks.Comma) L) f g
-comma f g p = weigh_after (sign marks.Comma) f g p
+comma : {A : Type 0} {L : Language A} {f g : A → ℕ} → Weighs L f g → Weighs (After (sign marks.Comma) L) f g
+comma p = weigh_after (sign marks.Comma) p
 
 none_listed : {A : Type 0} {L : Language A} → Weighs L none none → Weighs (Listed L) none none
-none_listed p = weigh_same (total none) (total none) none none (weigh_listed none none p) nothing_in nothing_in
+none_listed p = weigh_same (weigh_listed p) nothing_in nothing_in
 
 none_separated : {A : Type 0} {L : Language A} → Weighs L none none → Weighs (Separated L) none none
-none_separated p = weigh_same (total none) (total none) none none (weigh_separated none none p) nothing_in nothing_in
+none_separated p = weigh_same (weigh_separated p) nothing_in nothing_in
 
-bracketed : {A : Type 0} {L : Language A} (f g : A → ℕ) → Weighs L f g → Weighs (Brackets L) f g
-bracketed f g p = weigh_between (sign marks.OpenBracket) (sign marks.CloseBracket) f g p
+bracketed : {A : Type 0} {L : Language A} {f g : A → ℕ} → Weighs L f g → Weighs (Brackets L) f g
+bracketed p = weigh_between (sign marks.OpenBracket) (sign marks.CloseBracket) p
 
 weigh_variable : Weighs StateVariable none none
-weigh_variable = weigh_meaning none none none none (none_then weigh_plain
-    (weigh_same (if_some none) (if_some none) none none (weigh_once none none (weigh_after (sign marks.Assign) none none weigh_plain))
-    either either)) (λ a. refl) (λ a. refl)
+weigh_variable = weigh_as (none_then weigh_plain (weigh_same (weigh_once (weigh_after (sign marks.Assign) weigh_plain)) either either))
   where
     either : (o : Option (ℕ × Span)) → if_some none o ≡ 0
     either None = refl
     either (Some n) = refl
 
 weigh_parameters : Weighs Parameters none none
-weigh_parameters = weigh_parens none none (none_then (bracketed none none (none_listed weigh_variable))
-    (comma none none (bracketed none none (none_listed weigh_plain))))
+weigh_parameters = weigh_parens (none_then (bracketed (none_listed weigh_variable)) (comma (bracketed (none_listed weigh_plain))))
 
 abbrev pub item_nodes : Item → ℕ
 item_nodes (items.Fold d) = total stmt_nodes d.body
@@ -174,77 +152,55 @@ item_count (items.Final d) = 0
 item_count (items.Print table) = 0
 
 pub opens_fold : (d : ℕ) → Opens (Fold d) item_nodes item_count
-opens_fold d = opens_meaning (λ v. 0 + total stmt_nodes v.1.1.1) (λ v. 0 + total stmt_count v.1.1.1) item_nodes item_count
-    (opens_then (λ v. 0 + total stmt_nodes v.1.1) (λ v. 0 + total stmt_count v.1.1)
-    (named (λ v. 0 + total stmt_nodes v.1) (λ v. 0 + total stmt_count v.1)
-    (weigh_then none none (total stmt_nodes) (total stmt_count) weigh_parameters (weigh_block (weigh_stmt d)))))
-    (λ a. omega arith) (λ a. omega arith)
+opens_fold d = opens_meaning (opens_then (named (weigh_same {f' = λ v. total stmt_nodes v.1} {g' = λ v. total stmt_count v.1}
+    (weigh_then weigh_parameters (weigh_block (weigh_stmt d))) (λ a. omega arith) (λ a. omega arith))))
 
 weigh_filter : {E : Language Expr} → Weighs E expr_nodes none → Weighs (Filter E) (λ v. expr_nodes v.1) none
-weigh_filter p = weigh_after (keyword words.Filter) (λ v. expr_nodes v.1) none
-    (weigh_parens (λ v. expr_nodes v.1) none (named expr_nodes none (comma expr_nodes none p)))
+weigh_filter p = weigh_after (keyword words.Filter) (weigh_parens (named (comma p)))
 
 abbrev column_nodes : Column → ℕ
 column_nodes c = expr_nodes c.value
 
 weigh_column : {E : Language Expr} → Weighs E expr_nodes none → Weighs (ColumnOf E) column_nodes none
-weigh_column p = weigh_meaning (λ v. expr_nodes v.1) none column_nodes none
-    (named expr_nodes none (weigh_after (sign marks.Assign) expr_nodes none p)) (λ a. refl) (λ a. refl)
+weigh_column p = weigh_as (named (weigh_after (sign marks.Assign) p))
 
 weigh_mapping : {E : Language Expr} → Weighs E expr_nodes none → Weighs (Mapping E) (λ v. columns_nodes v.1) none
-weigh_mapping p = weigh_after (keyword words.Map) (λ v. columns_nodes v.1) none
-    (weigh_parens (λ v. columns_nodes v.1) none (named columns_nodes none (comma columns_nodes none (bracketed columns_nodes none
-    (weigh_same (total column_nodes) (total none) columns_nodes none (weigh_separated column_nodes none (weigh_column p))
+weigh_mapping p = weigh_after (keyword words.Map) (weigh_parens (named (comma (bracketed (weigh_same (weigh_separated (weigh_column p))
     (λ a. sym (sum_total column_nodes a)) nothing_in)))))
 
 weigh_pairing : (k : TokenKind) → Weighs (Pairing k) none none
-weigh_pairing k = weigh_after k none none (weigh_parens none none (none_then weigh_plain (comma none none weigh_plain)))
+weigh_pairing k = weigh_after k (weigh_parens (none_then weigh_plain (comma weigh_plain)))
 
 weigh_key : Weighs KeyOf none none
-weigh_key = weigh_either none none (weigh_meaning none none none none weigh_plain (λ a. refl) (λ a. refl))
-    (weigh_meaning none none none none weigh_plain (λ a. refl) (λ a. refl))
+weigh_key = weigh_either (weigh_as weigh_plain) (weigh_as weigh_plain)
 
 weigh_group : Weighs Group none none
-weigh_group = weigh_after (keyword words.Groupby) none none (weigh_parens none none
-    (none_then weigh_plain (comma none none (none_then (bracketed none none (none_separated weigh_key)) (comma none none weigh_plain)))))
+weigh_group = weigh_after (keyword words.Groupby) (weigh_parens
+    (none_then weigh_plain (comma (none_then (bracketed (none_separated weigh_key)) (comma weigh_plain)))))
 
 weigh_best : Weighs Best none none
-weigh_best = weigh_after (keyword words.Top) none none (weigh_parens none none
-    (none_then weigh_plain (comma none none (none_then weigh_plain (comma none none weigh_plain)))))
+weigh_best = weigh_after (keyword words.Top) (weigh_parens (none_then weigh_plain (comma (none_then weigh_plain (comma weigh_plain)))))
 
 weigh_streaming : {E : Language Expr} → Weighs E expr_nodes none → Weighs (Streaming E E) stream_nodes none
-weigh_streaming p = weigh_either stream_nodes none (weigh_meaning (λ v. expr_nodes v.1) none stream_nodes none (weigh_filter p) (λ a. refl)
-    (λ a. refl))
-    (weigh_either stream_nodes none (weigh_meaning (λ v. columns_nodes v.1) none stream_nodes none (weigh_mapping p) (λ a. refl)
-    (λ a. refl))
-    (weigh_either stream_nodes none (weigh_meaning none none stream_nodes none (weigh_pairing (keyword words.Zip)) (λ a. refl) (λ a. refl))
-    (weigh_meaning none none stream_nodes none weigh_group (λ a. refl) (λ a. refl))))
+weigh_streaming p = weigh_either (weigh_as (weigh_filter p)) (weigh_either (weigh_as (weigh_mapping p))
+    (weigh_either (weigh_as (weigh_pairing (keyword words.Zip))) (weigh_as weigh_group)))
 
 weigh_finishing : {E : Language Expr} → Weighs E expr_nodes none → Weighs (Finishing E E) final_nodes none
-weigh_finishing p = weigh_either final_nodes none (weigh_meaning (λ v. expr_nodes v.1) none final_nodes none (weigh_filter p) (λ a. refl)
-    (λ a. refl))
-    (weigh_either final_nodes none (weigh_meaning (λ v. columns_nodes v.1) none final_nodes none (weigh_mapping p) (λ a. refl) (λ a. refl))
-    (weigh_either final_nodes none (weigh_meaning none none final_nodes none weigh_group (λ a. refl) (λ a. refl))
-    (weigh_either final_nodes none (weigh_meaning none none final_nodes none (weigh_pairing (keyword words.Join)) (λ a. refl) (λ a. refl))
-    (weigh_meaning none none final_nodes none weigh_best (λ a. refl) (λ a. refl)))))
+weigh_finishing p = weigh_either (weigh_as (weigh_filter p)) (weigh_either (weigh_as (weigh_mapping p)) (weigh_either (weigh_as weigh_group)
+    (weigh_either (weigh_as (weigh_pairing (keyword words.Join))) (weigh_as weigh_best))))
 
 opens_stream : {E : Language Expr} → Weighs E expr_nodes none → Opens (Stream E E) item_nodes item_count
-opens_stream p = opens_meaning (λ v. stream_nodes v.1) (λ v. 0) item_nodes item_count
-    (opens_then stream_nodes none (weigh_between (sign marks.Assign) (sign marks.Semicolon) stream_nodes none (weigh_streaming p)))
-    (λ a. refl) (λ a. refl)
+opens_stream p = opens_meaning (opens_then (weigh_between (sign marks.Assign) (sign marks.Semicolon) (weigh_streaming p)))
 
 opens_final : {E : Language Expr} → Weighs E expr_nodes none → Opens (Final E E) item_nodes item_count
-opens_final p = opens_meaning (λ v. final_nodes v.1.1) (λ v. 0) item_nodes item_count
-    (opens_then (λ v. final_nodes v.1) none (named final_nodes none (weigh_between (sign marks.Assign) (sign marks.Semicolon) final_nodes
-    none (weigh_finishing p)))) (λ a. refl) (λ a. refl)
+opens_final p = opens_meaning (opens_then (named (weigh_between (sign marks.Assign) (sign marks.Semicolon) (weigh_finishing p))))
 
 opens_print : Opens Print item_nodes item_count
-opens_print = opens_meaning (λ v. 0) (λ v. 0) item_nodes item_count (opens_then none none
-    (weigh_before (sign marks.Semicolon) none none weigh_plain)) (λ a. refl) (λ a. refl)
+opens_print = opens_meaning (opens_then (weigh_before (sign marks.Semicolon) weigh_plain))
 
 opens_item : (d : ℕ) → Opens (ItemOf d) item_nodes item_count
-opens_item d = opens_either item_nodes item_count (opens_fold d) (opens_either item_nodes item_count (opens_stream (weigh_expr d))
-    (opens_either item_nodes item_count (opens_final (weigh_expr d)) opens_print))
+opens_item d = opens_either (opens_fold d) (opens_either (opens_stream (weigh_expr d))
+    (opens_either (opens_final (weigh_expr d)) opens_print))
 
 -- ---- limits
 

@@ -18,5 +18,6 @@ pub mod Weighing
 pub mod Weights
 pub mod ItemWeights
 pub mod FoldTokens
+pub mod CutTexts
 pub mod FewNames
 pub mod Numbered

@@ -1,10 +1,10 @@
 -- The ways to build a parser, with the tokens that begin it and the tokens at which it goes on as lists of kinds: each
 -- side condition computes.
-use Rattle.std.proofs.Common.{◌≡◌, ℕ, Bool, true, false, cond, eqb, List, [], ◌∷◌, ◌++◌, Option, Some, None, refl, sym, ap, subst, ◌∙◌, inl}
+use Rattle.std.proofs.Common.{◌≡◌, ℕ, Bool, true, false, cond, eqb, List, [], ◌∷◌, ◌++◌, Option, Some, None, refl, sym, ap, ◌∙◌, inl}
 use Rattle.std.proofs.Common.{inr, ◌⊎◌}
 use Rattle.std.proofs.lemmas.Bool.{eqb-true}
 use Rattle.query_lang.specs.declared.token.Token.{Token}
-use Rattle.query_grammar.specs.Language.{Role, Leaf, Word, Then, Repeated, AtMostOnce, Either, Meaning, Chain, Chained}
+use Rattle.query_grammar.specs.Language.{Language, Role, Leaf, Word, Then, Repeated, AtMostOnce, Either, Meaning, Chain, Chained}
 use Rattle.query_grammar.specs.Parser.{Limits, Parser, word, followed_by, mapped, at_most_once, either, repeated, chained}
 use Rattle.query_grammar.specs.Kinds.{one_of, among, kind}
 use Rattle.query_grammar.proofs.Chains.{parses_chained}
@@ -77,32 +77,32 @@ free_front [] w f = tt
 free_front (l ∷ u) w f = (f.0, free_front u w f.1)
 
 pub free_both : (w u v : List Leaf) → w ≡ u ++ v → EndFree u → EndFree v → EndFree w
-free_both w u v e f g = subst EndFree (sym e) (free_append u v f g)
+free_both w u v e f g = rw e (free_append u v f g)
 
-free_repeated : {A : Type 0} (L : List Leaf → A → Type 0) → ((w : List Leaf) (v : A) → L w v → EndFree w) → (w : List Leaf) (v : List A)
+free_repeated : {A : Type 0} (L : Language A) → ((w : List Leaf) (v : A) → L w v → EndFree w) → (w : List Leaf) (v : List A)
     → Repeated L w v → EndFree w
-free_repeated L f w [] h = subst EndFree (sym h) tt
+free_repeated L f w [] h = rw h tt
 free_repeated L f w (a ∷ others) h = free_both w h.0 h.1 h.2 (f h.0 a h.3) (free_repeated L f h.1 others h.4)
 
-free_once : {A : Type 0} (L : List Leaf → A → Type 0) → ((w : List Leaf) (v : A) → L w v → EndFree w) → (w : List Leaf) (v : Option A)
+free_once : {A : Type 0} (L : Language A) → ((w : List Leaf) (v : A) → L w v → EndFree w) → (w : List Leaf) (v : Option A)
     → AtMostOnce L w v → EndFree w
-free_once L f w None h = subst EndFree (sym h) tt
+free_once L f w None h = rw h tt
 free_once L f w (Some a) h = f w a h
 
-free_chained : {A B : Type 0} (T : List Leaf → A ⊎ B → Type 0) → ((w : List Leaf) (v : A ⊎ B) → T w v → EndFree w)
+free_chained : {A B : Type 0} (T : Language (A ⊎ B)) → ((w : List Leaf) (v : A ⊎ B) → T w v → EndFree w)
     → (w : List Leaf) (v : List A) (o : Option B) → Chain T w v o → EndFree w
-free_chained T f w [] None h = subst EndFree (sym h) tt
+free_chained T f w [] None h = rw h tt
 free_chained T f w [] (Some b) h = f w (inr b) h
 free_chained T f w (a ∷ others) o h = free_both w h.0 h.1 h.2 (f h.0 (inl a) h.3) (free_chained T f h.1 others o h.4)
 
-free_either : {A : Type 0} (L M : List Leaf → A → Type 0) → ((w : List Leaf) (v : A) → L w v → EndFree w)
+free_either : {A : Type 0} (L M : Language A) → ((w : List Leaf) (v : A) → L w v → EndFree w)
     → ((w : List Leaf) (v : A) → M w v → EndFree w) → (w : List Leaf) (v : A) → L w v ⊎ M w v → EndFree w
 free_either L M f g w v (inl h) = f w v h
 free_either L M f g w v (inr h) = g w v h
 
 pub free_word : {A : Type 0} (role : Role) (takes : Token → Option A) (ks : List ℕ) → one_of ks 3 ≡ false
     → ((t : Token) → is_some_of (takes t) ≡ true → among ks t ≡ true) → (w : List Leaf) (v : A) → Word role takes w v → EndFree w
-free_word {A} role takes ks other s w v h = subst EndFree (sym h.1) (go (eqb (kind h.0) 3) refl, tt)
+free_word {A} role takes ks other s w v h = rw h.1 (go (eqb (kind h.0) 3) refl, tt)
   where
     yes : among ks h.0 ≡ true
     yes = s h.0 (ap is_some_of h.2)
@@ -112,7 +112,7 @@ free_word {A} role takes ks other s w v h = subst EndFree (sym h.1) (go (eqb (ki
     go true e = let x : true ≡ false = sym yes ∙ ap (one_of ks) (eqb-true (kind h.0) 3 e) ∙ other in absurd cc
 
 -- A parser meets a language, whose words begin with the first kinds and have no end. It goes on at the second kinds.
-pub record Line {A : Type 0} (m : Limits) (L : List Leaf → A → Type 0) (p : Parser A) (starts on : List ℕ) (nullable : Bool) : Type 0 where
+pub record Line {A : Type 0} (m : Limits) (L : Language A) (p : Parser A) (starts on : List ℕ) (nullable : Bool) : Type 0 where
   pub parses : Parses m L p (among starts) (among on) nullable
   pub free : (w : List Leaf) (v : A) → L w v → EndFree w
 
@@ -124,7 +124,7 @@ line_word {A} {m} {role} {takes} ks t a h other s = record {
   free = free_word role takes ks other s;
 }
 
-pub line_then : {A B : Type 0} {m : Limits} {L : List Leaf → A → Type 0} {M : List Leaf → B → Type 0} {p : Parser A} {q : Parser B}
+pub line_then : {A B : Type 0} {m : Limits} {L : Language A} {M : Language B} {p : Parser A} {q : Parser B}
     {xs ys xs' ys' : List ℕ}
     → Line m L p xs ys false → Line m M q xs' ys' false → disjoint xs' ys ≡ true → Line m (Then L M) (followed_by p q) xs ys' false
 line_then {A} {B} {m} {L} {M} {p} {q} {xs} {ys} {xs'} {ys'} f g d = record {
@@ -132,7 +132,7 @@ line_then {A} {B} {m} {L} {M} {p} {q} {xs} {ys} {xs'} {ys'} f g d = record {
   free = λ w v h. free_both w h.0 h.1 h.2 (f.free h.0 v.0 h.3) (g.free h.1 v.1 h.4);
 }
 
-pub line_then_null : {A B : Type 0} {m : Limits} {L : List Leaf → A → Type 0} {M : List Leaf → B → Type 0} {p : Parser A} {q : Parser B}
+pub line_then_null : {A B : Type 0} {m : Limits} {L : Language A} {M : Language B} {p : Parser A} {q : Parser B}
     {xs ys xs' ys' : List ℕ}
     → Line m L p xs ys false → Line m M q xs' ys' true → disjoint xs' ys ≡ true → Line m (Then L M) (followed_by p q) xs (ys ++ ys') false
 line_then_null {A} {B} {m} {L} {M} {p} {q} {xs} {ys} {xs'} {ys'} f g d =
@@ -142,7 +142,7 @@ line_then_null {A} {B} {m} {L} {M} {p} {q} {xs} {ys} {xs'} {ys'} f g d =
       free = λ w v h. free_both w h.0 h.1 h.2 (f.free h.0 v.0 h.3) (g.free h.1 v.1 h.4);
     }
 
-pub line_null_then : {A B : Type 0} {m : Limits} {L : List Leaf → A → Type 0} {M : List Leaf → B → Type 0} {p : Parser A} {q : Parser B}
+pub line_null_then : {A B : Type 0} {m : Limits} {L : Language A} {M : Language B} {p : Parser A} {q : Parser B}
     {xs ys xs' ys' : List ℕ}
     → Line m L p xs ys true → Line m M q xs' ys' false → disjoint xs' ys ≡ true → Line m (Then L M) (followed_by p q) (xs ++ xs') ys' false
 line_null_then {A} {B} {m} {L} {M} {p} {q} {xs} {ys} {xs'} {ys'} f g d =
@@ -152,7 +152,7 @@ line_null_then {A} {B} {m} {L} {M} {p} {q} {xs} {ys} {xs'} {ys'} f g d =
       free = λ w v h. free_both w h.0 h.1 h.2 (f.free h.0 v.0 h.3) (g.free h.1 v.1 h.4);
     }
 
-pub line_either : {A : Type 0} {m : Limits} {L M : List Leaf → A → Type 0} {p q : Parser A} {xs ys xs' ys' : List ℕ}
+pub line_either : {A : Type 0} {m : Limits} {L M : Language A} {p q : Parser A} {xs ys xs' ys' : List ℕ}
     → Line m L p xs ys false → Line m M q xs' ys' false → disjoint xs' xs ≡ true
     → Line m (Either L M) (either (among xs) p q) (xs ++ xs') (ys ++ ys') false
 line_either {A} {m} {L} {M} {p} {q} {xs} {ys} {xs'} {ys'} f g d =
@@ -164,7 +164,7 @@ line_either {A} {m} {L} {M} {p} {q} {xs} {ys} {xs'} {ys'} f g d =
       free = λ w v h. free_either L M f.free g.free w v h;
     }
 
-pub line_once : {A : Type 0} {m : Limits} {L : List Leaf → A → Type 0} {p : Parser A} {xs ys : List ℕ} → Line m L p xs ys false
+pub line_once : {A : Type 0} {m : Limits} {L : Language A} {p : Parser A} {xs ys : List ℕ} → Line m L p xs ys false
     → Line m (AtMostOnce L) (at_most_once (among xs) p) xs (xs ++ ys) true
 line_once {A} {m} {L} {p} {xs} {ys} f = record {
   parses = parses_once m L p (among xs) (among (xs ++ ys)) f.parses (λ t h. less_left xs ys (kind t) h)
@@ -172,7 +172,7 @@ line_once {A} {m} {L} {p} {xs} {ys} f = record {
   free = λ w v h. free_once L f.free w v h;
 }
 
-pub line_repeated : {A : Type 0} {m : Limits} {L : List Leaf → A → Type 0} {p : Parser A} {xs ys : List ℕ} → Line m L p xs ys false
+pub line_repeated : {A : Type 0} {m : Limits} {L : Language A} {p : Parser A} {xs ys : List ℕ} → Line m L p xs ys false
     → disjoint xs ys ≡ true
     → Line m (Repeated L) (repeated (among xs) p) xs (xs ++ ys) true
 line_repeated {A} {m} {L} {p} {xs} {ys} f d = record {
@@ -181,14 +181,14 @@ line_repeated {A} {m} {L} {p} {xs} {ys} f d = record {
   free = λ w v h. free_repeated L f.free w v h;
 }
 
-pub line_meaning : {A B : Type 0} {m : Limits} {f : A → B} {L : List Leaf → A → Type 0} {p : Parser A} {xs ys : List ℕ} {nullable : Bool}
+pub line_meaning : {A B : Type 0} {m : Limits} {f : A → B} {L : Language A} {p : Parser A} {xs ys : List ℕ} {nullable : Bool}
     → Line m L p xs ys nullable → Line m (Meaning f L) (mapped f p) xs ys nullable
 line_meaning {A} {B} {m} {f} {L} {p} {xs} {ys} {nullable} g = record {
   parses = parses_mapped m f L p g.parses;
   free = λ w v h. g.free w h.0 h.1;
 }
 
-pub line_chained : {A B : Type 0} {m : Limits} {T : List Leaf → A ⊎ B → Type 0} {p : Parser (A ⊎ B)} {xs ys : List ℕ}
+pub line_chained : {A B : Type 0} {m : Limits} {T : Language (A ⊎ B)} {p : Parser (A ⊎ B)} {xs ys : List ℕ}
     → Line m T p xs ys false → disjoint xs ys ≡ true
     → Line m (Chained T) (chained (among xs) p) xs (xs ++ ys) true
 line_chained {A} {B} {m} {T} {p} {xs} {ys} f d = record {
@@ -212,7 +212,7 @@ subset_is (x ∷ xs) ys n d h = go (subset_is xs ys n) (eqb n x) refl h (one_of 
     go ih false e h true f k = ih k h
 
 -- the same kinds in another order, or more of them
-pub line_sets : {A : Type 0} {m : Limits} {L : List Leaf → A → Type 0} {p : Parser A} {xs ys : List ℕ} {nullable : Bool}
+pub line_sets : {A : Type 0} {m : Limits} {L : Language A} {p : Parser A} {xs ys : List ℕ} {nullable : Bool}
     → (xs' ys' : List ℕ) → Line m L p xs ys nullable → subset xs xs' ≡ true → subset ys ys' ≡ true → Line m L p xs' ys' nullable
 line_sets {A} {m} {L} {p} {xs} {ys} {nullable} xs' ys' f h k = record {
   parses =

@@ -9,15 +9,16 @@ use Rattle.query_lang.specs.declared.fault.TheConstants.{MAX_NESTING}
 use Rattle.query_grammar.specs.declared.stop.Counts.{Counts}
 use Rattle.query_grammar.specs.declared.stop.Stop.{Stop}
 use Rattle.query_grammar.specs.declared.stop.Stop.TheVariants.{Unexpected, Nodes, Statements, Nesting}
-use Rattle.query_grammar.specs.Language.{Role, Plain, Node, Statement, Opening, Leaf, Word, Then, Repeated, AtMostOnce, Either, Meaning}
+use Rattle.query_grammar.specs.Language.{Language, Role, Plain, Node, Statement, Opening, Word, Then, Repeated, AtMostOnce, Either, Meaning}
 use Rattle.query_grammar.specs.Language.{Chained}
 use Rattle.query_grammar.specs.Parser.{Limited, Outcome, Done, Stopped, Parser, charge, limit_of, paid, taken, word, and_then, followed_by}
-use Rattle.query_grammar.specs.Parser.{mapped, next_is, at_most_once, either, turns, repeated, linked, next_turn, chain_turns, chained}
+use Rattle.query_grammar.specs.Parser.{mapped, next_is, at_most_once, either, repeated, linked, next_turn, chain_turns, chained}
 use Rattle.query_grammar.specs.Kinds.{one_of, among, kind, kind_number, is, name, number, operator, kinds_of}
 use Rattle.query_grammar.specs.Grammar.{Operators}
 use Rattle.query_grammar.specs.Reading.{blocked, blocked_at}
 use Rattle.query_grammar.specs.Fault.{opening, closing, opens, closes, opened, closed, IsShallow}
 use Rattle.query_grammar.proofs.Parses.{is_some_of}
+use Rattle.query_grammar.proofs.Repeats.{as_turn, turns_of, same_turns}
 use Rattle.query_grammar.proofs.Lines.{disjoint, disjoint_is, less_left, less_right}
 use Rattle.query_grammar.proofs.LineParts.{is_kind, operator_kind, name_kind_of, number_kind_of}
 
@@ -38,8 +39,7 @@ shallow_shift : (e e' o c o' c' : ℕ) (ts : List Token) → o + c' + e' ≤ o' 
 shallow_shift e e' o c o' c' [] le h = tt
 shallow_shift e e' o c o' c' (t ∷ ts) le h = (
   omega (arith, h.0),
-  shallow_shift e e' (o + opens (kind t)) (c + closes (kind t))
-      (o' + opens (kind t)) (c' + closes (kind t)) ts (omega arith) h.1,
+  shallow_shift e e' (o + opens (kind t)) (c + closes (kind t)) (o' + opens (kind t)) (c' + closes (kind t)) ts (omega arith) h.1,
 )
 
 shallow_append : (e o c : ℕ) (f g : List Token) → Shallow e o c f → Shallow e (o + opened f) (c + closed f) g → Shallow e o c (f ++ g)
@@ -60,8 +60,7 @@ shallow_at o c (x ∷ front) more t h e = omega (arith, shallow_at (o + opens (k
 pub shallow_is : (ts : List Token) → Shallow MAX_NESTING 0 0 ts → IsShallow ts
 shallow_is ts h = λ front more t e o. omega (
   arith,
-  shallow_at 0 0 front more t (subst (λ (x : List Token). Shallow MAX_NESTING 0 0 x) e h)
-      o,
+  shallow_at 0 0 front more t (rw (← e) h) o,
 )
 
 -- what was read opens that many brackets more than it closes, and none that would be one too many
@@ -93,7 +92,7 @@ LevelMeets up down e ts (Done v c rest) = Level_is up down e ts rest
 LevelMeets up down e ts (Stopped k rest) = StopLevel e ts k rest
 
 -- (the language is an argument so that antt finds those of the lemmas)
-pub record Nests {A : Type 0} (L : List Leaf → A → Type 0) (p : Parser A) (up down e : ℕ) : Type 0 where
+pub record Nests {A : Type 0} (L : Language A) (p : Parser A) (up down e : ℕ) : Type 0 where
   pub meets : (c : Counts) (ts : List Token) → LevelMeets up down e ts (p c ts)
 
 joined_shallow : (u d e e' : ℕ) (f g : List Token) → u + e' ≡ d + e → opened f + d ≡ closed f + u → Shallow e 0 0 f → Shallow e' 0 0 g
@@ -125,8 +124,7 @@ stop_later u d e' e ts mid h f Unexpected rest g = reached_later u d e e' ts mid
 stop_later u d e' e ts mid h f Nodes rest g = reached_later u d e e' ts mid rest h f g
 stop_later u d e' e ts mid h f Statements rest g = reached_later u d e e' ts mid rest h f g
 stop_later u d e' e ts mid h f Nesting rest g = (
-  changed (u + e') (d + 0) e 0 e ts rest (omega arith)
-      (joined u d e' 0 e e' ts mid rest h f g.0),
+  changed (u + e') (d + 0) e 0 e ts rest (omega arith) (joined u d e' 0 e e' ts mid rest h f g.0),
   g.1,
 )
 
@@ -174,7 +172,7 @@ nests_word {A} {role} {takes} {e} up down h = record { meets = λ c ts. meets c 
     meets c [] = none_reached e []
     meets c (t ∷ ts) = take c t ts (takes t) refl
 
-pub nests_then : {A B : Type 0} {L : List Leaf → A → Type 0} {M : List Leaf → B → Type 0} {p : Parser A} {q : Parser B} {u d u' d' e' e : ℕ}
+pub nests_then : {A B : Type 0} {L : Language A} {M : Language B} {p : Parser A} {q : Parser B} {u d u' d' e' e : ℕ}
     → Nests L p u d e → Nests M q u' d' e' → u + e' ≡ d + e → Nests (Then L M) (followed_by p q) (u + u') (d + d') e
 nests_then {A} {B} {L} {M} {p} {q} {u} {d} {u'} {d'} {e'} {e} f g h = record { meets = λ c ts. first ts (p c ts) (f.meets c ts) }
   where
@@ -188,7 +186,11 @@ nests_then {A} {B} {L} {M} {p} {q} {u} {d} {u'} {d'} {e'} {e} f g h = record { m
     first ts (Done a c mid) l = second ts a mid l (q c mid) (g.meets c mid)
     first ts (Stopped k rest) l = l
 
-pub nests_level : {A : Type 0} {L : List Leaf → A → Type 0} {p : Parser A} {u d e : ℕ} → (u' d' : ℕ) → u + d' ≡ u' + d → Nests L p u d e
+pub nests_both : {A B : Type 0} {L : Language A} {M : Language B} {p : Parser A} {q : Parser B} {e : ℕ} → Nests L p 0 0 e → Nests M q 0 0 e
+    → Nests (Then L M) (followed_by p q) 0 0 e
+nests_both f g = nests_then f g refl
+
+pub nests_level : {A : Type 0} {L : Language A} {p : Parser A} {u d e : ℕ} → (u' d' : ℕ) → u + d' ≡ u' + d → Nests L p u d e
     → Nests L p u' d' e
 nests_level {A} {L} {p} {u} {d} {e} u' d' h f = record { meets = λ c ts. go ts (p c ts) (f.meets c ts) }
   where
@@ -196,7 +198,7 @@ nests_level {A} {L} {p} {u} {d} {e} u' d' h f = record { meets = λ c ts. go ts 
     go ts (Done a c rest) l = changed u d u' d' e ts rest h l
     go ts (Stopped k rest) l = l
 
-pub nests_mapped : {A B : Type 0} {f : A → B} {L : List Leaf → A → Type 0} {p : Parser A} {u d e : ℕ} → Nests L p u d e
+pub nests_mapped : {A B : Type 0} {f : A → B} {L : Language A} {p : Parser A} {u d e : ℕ} → Nests L p u d e
     → Nests (Meaning f L) (mapped f p) u d e
 nests_mapped {A} {B} {f} {L} {p} {u} {d} {e} g = record { meets = λ c ts. go ts (p c ts) (g.meets c ts) }
   where
@@ -204,7 +206,7 @@ nests_mapped {A} {B} {f} {L} {p} {u} {d} {e} g = record { meets = λ c ts. go ts
     go ts (Done a c rest) l = l
     go ts (Stopped k rest) l = l
 
-pub nests_either : {A : Type 0} {L M : List Leaf → A → Type 0} {p q : Parser A} {u d e : ℕ} → (test : Token → Bool) → Nests L p u d e
+pub nests_either : {A : Type 0} {L M : Language A} {p q : Parser A} {u d e : ℕ} → (test : Token → Bool) → Nests L p u d e
     → Nests M q u d e → Nests (Either L M) (either test p q) u d e
 nests_either {A} {L} {M} {p} {q} {u} {d} {e} test f g = record { meets = λ c ts. go c ts (next_is test ts) }
   where
@@ -212,7 +214,7 @@ nests_either {A} {L} {M} {p} {q} {u} {d} {e} test f g = record { meets = λ c ts
     go c ts true = f.meets c ts
     go c ts false = g.meets c ts
 
-pub nests_once : {A : Type 0} {L : List Leaf → A → Type 0} {p : Parser A} {e : ℕ} → (test : Token → Bool) → Nests L p 0 0 e
+pub nests_once : {A : Type 0} {L : Language A} {p : Parser A} {e : ℕ} → (test : Token → Bool) → Nests L p 0 0 e
     → Nests (AtMostOnce L) (at_most_once test p) 0 0 e
 nests_once {A} {L} {p} {e} test f = record { meets = λ c ts. go c ts (next_is test ts) }
   where
@@ -225,34 +227,7 @@ nests_once {A} {L} {p} {e} test f = record { meets = λ c ts. go c ts (next_is t
     go c ts true = some ts (p c ts) (f.meets c ts)
     go c ts false = none_read e ts
 
-nests_turns : {A : Type 0} {L : List Leaf → A → Type 0} {p : Parser A} {e : ℕ} → (test : Token → Bool) (n : ℕ) → Nests L p 0 0 e
-    → Nests (Repeated L) (turns n test p) 0 0 e
-nests_turns {A} {L} {p} {e} test zero f = record { meets = λ c ts. none_read e ts }
-nests_turns {A} {L} {p} {e} test (suc n) f = let g = nests_turns test n f in record { meets = λ c ts. go g c ts (next_is test ts) }
-  where
-    second : Nests (Repeated L) (turns n test p) 0 0 e → (ts : List Token) (a : A) (mid : List Token) → Level_is 0 0 e ts mid
-        → (o : Outcome (List A)) → LevelMeets 0 0 e mid o → LevelMeets 0 0 e ts
-        (and_then o (λ others c'' rest'. Done (a ∷ others) c'' rest'))
-    second g ts a mid l (Done b c rest) k = joined 0 0 0 0 e e ts mid rest refl l k
-    second g ts a mid l (Stopped k rest) m = stop_later 0 0 e e ts mid refl l k rest m
-
-    first : Nests (Repeated L) (turns n test p) 0 0 e → (ts : List Token) (o : Outcome A) → LevelMeets 0 0 e ts o
-        → LevelMeets 0 0 e ts (and_then o (λ a c' rest. and_then (turns n test p c' rest)
-        (λ others c'' rest'. Done (a ∷ others) c'' rest')))
-    first g ts (Done a c mid) l = second g ts a mid l (turns n test p c mid) (g.meets c mid)
-    first g ts (Stopped k rest) l = l
-
-    go : Nests (Repeated L) (turns n test p) 0 0 e → (c : Counts) (ts : List Token) (b : Bool)
-        → LevelMeets 0 0 e ts (cond b (and_then (p c ts) (λ a c' rest. and_then (turns n test p c' rest)
-        (λ others c'' rest'. Done (a ∷ others) c'' rest'))) (Done [] c ts))
-    go g c ts true = first g ts (p c ts) (f.meets c ts)
-    go g c ts false = none_read e ts
-
-pub nests_repeated : {A : Type 0} {L : List Leaf → A → Type 0} {p : Parser A} {e : ℕ} → (test : Token → Bool) → Nests L p 0 0 e
-    → Nests (Repeated L) (repeated test p) 0 0 e
-nests_repeated {A} {L} {p} {e} test f = record { meets = λ c ts. (nests_turns test (length ts) f).meets c ts }
-
-nests_chain_turns : {A B : Type 0} {T : List Leaf → A ⊎ B → Type 0} {p : Parser (A ⊎ B)} {e : ℕ} → (test : Token → Bool) (n : ℕ)
+nests_chain_turns : {A B : Type 0} {T : Language (A ⊎ B)} {p : Parser (A ⊎ B)} {e : ℕ} → (test : Token → Bool) (n : ℕ)
     → Nests T p 0 0 e → Nests (Chained T) (chain_turns n test p) 0 0 e
 nests_chain_turns {A} {B} {T} {p} {e} test zero f = record { meets = λ c ts. none_read e ts }
 nests_chain_turns {A} {B} {T} {p} {e} test (suc n) f = let g = nests_chain_turns test n f in record
@@ -274,9 +249,17 @@ nests_chain_turns {A} {B} {T} {p} {e} test (suc n) f = let g = nests_chain_turns
     go g c ts true = first g ts (p c ts) (f.meets c ts)
     go g c ts false = none_read e ts
 
-pub nests_chained : {A B : Type 0} {T : List Leaf → A ⊎ B → Type 0} {p : Parser (A ⊎ B)} {e : ℕ} → (test : Token → Bool) → Nests T p 0 0 e
+pub nests_chained : {A B : Type 0} {T : Language (A ⊎ B)} {p : Parser (A ⊎ B)} {e : ℕ} → (test : Token → Bool) → Nests T p 0 0 e
     → Nests (Chained T) (chained test p) 0 0 e
 nests_chained {A} {B} {T} {p} {e} test f = record { meets = λ c ts. (nests_chain_turns test (length ts) f).meets c ts }
+
+-- a parser any number of times is a chain
+pub nests_repeated : {A : Type 0} {L : Language A} {p : Parser A} {e : ℕ} → (test : Token → Bool) → Nests L p 0 0 e
+    → Nests (Repeated L) (repeated test p) 0 0 e
+nests_repeated {A} {L} {p} {e} test f = record {
+  meets = λ c ts. subst (λ (o : Outcome (List A)). LevelMeets 0 0 e ts o) (sym (same_turns test p (length ts) c ts))
+      ((nests_mapped {f = turns_of} (nests_chained test (nests_mapped {f = as_turn} {L = L} f))).meets c ts);
+}
 
 -- ---- words
 
@@ -296,8 +279,7 @@ flat ks n d h =
     (ap (λ (x : Bool). cond x 1 0) a, ap (λ (x : Bool). cond x 1 0) b)
 
 nests_flat : {A : Type 0} {role : Role} {takes : Token → Option A} {e : ℕ} → (ks : List ℕ) → disjoint ks (opening ++ closing) ≡ true
-    → ((t : Token) → is_some_of (takes t) ≡ true → among ks t ≡ true)
-    → Nests (Word role takes) (word Limited role takes) 0 0 e
+    → ((t : Token) → is_some_of (takes t) ≡ true → among ks t ≡ true) → Nests (Word role takes) (word Limited role takes) 0 0 e
 nests_flat {A} {role} {takes} {e} ks d s = nests_word 0 0 (λ t a h. let b =
     flat ks (kind t) d (s t (ap is_some_of h)) in (omega (arith, b.0, b.1), omega (arith, b.0)))
 
@@ -323,7 +305,7 @@ nests_name = nests_flat (0 ∷ []) refl (λ t h. name_kind_of t.kind t.span h)
 pub nests_number : {role : Role} {e : ℕ} → Nests (Word role number) (word Limited role number) 0 0 e
 nests_number = nests_flat (1 ∷ []) refl (λ t h. number_kind_of t.kind t.span h)
 
-pub nests_blocked : {A : Type 0} → (L : List Leaf → A → Type 0) (k : TokenKind) → opens (kind_number k) ≡ 1 → Nests L (blocked k) 0 0 0
+pub nests_blocked : {A : Type 0} → (L : Language A) (k : TokenKind) → opens (kind_number k) ≡ 1 → Nests L (blocked k) 0 0 0
 nests_blocked {A} L k bracket = record { meets = λ c ts. meets c ts }
   where
     go : (u : Token) (ts : List Token) (o : Option Span) → is k u ≡ o → LevelMeets {A = A} 0 0 0 (u ∷ ts) (blocked_at o (u ∷ ts))

@@ -13,15 +13,14 @@ use Rattle.query_grammar.specs.declared.stop.Stop.TheVariants.{Unexpected, Nodes
 use Rattle.query_grammar.specs.Kinds.{kind, kind_number}
 use Rattle.query_grammar.specs.Language.{Role, Plain, Node, Statement, Leaf, tokens_of}
 use Rattle.query_grammar.specs.Parser.{no_counts, Limited, charge, Outcome, Done, Stopped}
-use Rattle.query_grammar.specs.Grammar.{Query}
-use Rattle.query_grammar.specs.Reading.{query, all_read, parsed}
+use Rattle.query_grammar.specs.Reading.{all_read, parsed}
 use Rattle.query_grammar.specs.Fault.{IsShallow, BeginsQuery, IsGrammatical, HasEnd, Says}
-use Rattle.query_grammar.proofs.Parses.{Halted, Meets, Stops, StopsFirst, IsLimit, stops_limit, pays}
+use Rattle.query_grammar.proofs.Parses.{IsLimit, StopsFirst, stops_limit, pays}
 use Rattle.query_grammar.proofs.Lines.{EndFree, free_front}
 use Rattle.query_grammar.proofs.GrammarLines.{items_free}
-use Rattle.query_grammar.proofs.Nests.{Shallow, shallow_is, StopLevel, LevelMeets}
+use Rattle.query_grammar.proofs.Nests.{shallow_is, StopLevel, LevelMeets}
 use Rattle.query_grammar.proofs.Splits.{Place, inside, at_end, beyond, place, head_is, tail_is}
-use Rattle.query_grammar.proofs.Runs.{Value, depth, run, met, leveled, stop_facts, stop_shallow}
+use Rattle.query_grammar.proofs.Runs.{IsMet, IsHalted, Value, depth, run, met, leveled, stop_facts, stop_shallow}
 use Rattle.query_grammar.proofs.Runs.{Run, whole, halts, run_of, pays_is}
 
 -- ---- outcomes that differ
@@ -50,22 +49,20 @@ no_query front t h b = go (run_of b.2.0 b.2.1 b.1 b.2.3)
     s = ap run (b.2.2 ∙ append_assoc front (t ∷ []) b.0) ∙ h b.0
 
     go : Run b.2.1 b.1 → ⊥
-    go (whole d pay n e) = done_or_stopped b.1 d [] Unexpected (t ∷ b.0) (sym e ∙ s)
-    go (halts k u l x d e n i f sh r) = subst IsLimit (same_cause k Unexpected (l.token ∷ tokens_of x) (t ∷ b.0) (sym r ∙ s))
-        (stops_limit Limited k d l i)
+    go (whole d pay n e) = done_or_stopped _ _ _ _ _ (sym e ∙ s)
+    go (halts k u l x d e n i f sh r) = subst IsLimit (same_cause _ _ _ _ (sym r ∙ s)) (stops_limit Limited k d l i)
 
 -- nor does one that reads all before t as a query
 pub no_more : (front : List Token) (t : Token) (p : Value) (c : Counts)
-    → ((more : List Token) → run (front ++ t ∷ more) ≡ Done p c (t ∷ more))
-    → BeginsQuery (front ++ t ∷ []) → ⊥
+    → ((more : List Token) → run (front ++ t ∷ more) ≡ Done p c (t ∷ more)) → BeginsQuery (front ++ t ∷ []) → ⊥
 no_more front t p c h b = go (run_of b.2.0 b.2.1 b.1 b.2.3)
   where
     s : run (tokens_of b.2.1) ≡ Done p c (t ∷ b.0)
     s = ap run (b.2.2 ∙ append_assoc front (t ∷ []) b.0) ∙ h b.0
 
     go : Run b.2.1 b.1 → ⊥
-    go (whole d pay n e) = let x : [] ≡ t ∷ b.0 = done_rest b.1 p d c [] (t ∷ b.0) (sym e ∙ s) in absurd cc
-    go (halts k u l x d e n i f sh r) = done_or_stopped p c (t ∷ b.0) k (l.token ∷ tokens_of x) (sym s ∙ r)
+    go (whole d pay n e) = let x : [] ≡ t ∷ b.0 = done_rest _ _ _ _ _ _ (sym e ∙ s) in absurd cc
+    go (halts k u l x d e n i f sh r) = done_or_stopped _ _ _ _ _ (sym s ∙ r)
 
 -- ---- what parsing says
 
@@ -75,8 +72,7 @@ module _ (ts : List Token) where
   over_nodes c l r e = go (ltb c.nodes MAX_NODES) refl (ap (λ (x : Role). charge Limited x c) (sym r) ∙ e)
     where
       go : (b : Bool) → ltb c.nodes MAX_NODES ≡ b → cond {A = Option Counts} b
-          (Some (record { nodes = c.nodes + 1; statements = c.statements }))
-          None ≡ None → MAX_NODES ≤ c.nodes
+          (Some (record { nodes = c.nodes + 1; statements = c.statements })) None ≡ None → MAX_NODES ≤ c.nodes
       go true h k = absurd cc
       go false h k = big (cases_lt 511 c.nodes)
         where
@@ -97,7 +93,7 @@ module _ (ts : List Token) where
           big (inr le) = grind (arith, h)
 
   -- the leaf at which a parser stops because of a limit
-  grammatical : (k k' : Stop) (t : Token) (more : List Token) → (h : Halted Limited (Query (depth 0)) (query Limited 63 62) no_counts ts k
+  grammatical : (k k' : Stop) (t : Token) (more : List Token) → (h : IsHalted ts k
       (t ∷ more)) → (g : StopsFirst Limited k' h.counts h.more (t ∷ more))
       → IsShallow (tokens_of h.front) → IsGrammatical (tokens_of h.front) t g.0 h.counts
   grammatical k k' t more h g shallow = record {
@@ -107,8 +103,7 @@ module _ (ts : List Token) where
       g.1,
       depth 0,
       h.value,
-      subst (λ (x : List Leaf). Query (depth 0) x h.value)
-          (ap (λ (x : List Leaf). h.front ++ x) g.3 ∙ sym (append_assoc h.front (g.0 ∷ []) g.1)) h.begins,
+      rw (← (ap (λ (x : List Leaf). h.front ++ x) g.3 ∙ sym (append_assoc h.front (g.0 ∷ []) g.1))) h.begins,
     );
     within = sym (pays_is Limited no_counts h.front) ∙ h.pays;
     shallow = shallow;
@@ -116,13 +111,11 @@ module _ (ts : List Token) where
   }
 
   shallow_front : (k : Stop) (t : Token) (more : List Token) → StopLevel MAX_NESTING ts k (t ∷ more) → (front : List Token) → ts ≡ front
-      ++ t ∷ more
-      → IsShallow front
-  shallow_front k t more n front e = shallow_is front (stop_shallow front (t ∷ more) k
-      (subst (λ (x : List Token). StopLevel MAX_NESTING x k (t ∷ more)) e n))
+      ++ t ∷ more → IsShallow front
+  shallow_front k t more n front e = shallow_is front (stop_shallow front (t ∷ more) k (rw (← e) n))
 
   stands : (k : Stop) (t : Token) (more : List Token) → StopLevel MAX_NESTING ts k (t ∷ more)
-      → Halted Limited (Query (depth 0)) (query Limited 63 62) no_counts ts k (t ∷ more) → Says ts (Stopped k (t ∷ more))
+      → IsHalted ts k (t ∷ more) → Says ts (Stopped k (t ∷ more))
   stands Unexpected t more n h = (
     tokens_of h.front,
     h.split,
@@ -145,8 +138,7 @@ module _ (ts : List Token) where
     (
       h.counts,
       h.cause.0,
-      grammatical Nodes Nodes t more h h.cause
-          (shallow_front Nodes t more n (tokens_of h.front) h.split),
+      grammatical Nodes Nodes t more h h.cause (shallow_front Nodes t more n (tokens_of h.front) h.split),
       h.cause.5.0,
       over_nodes h.counts h.cause.0 h.cause.5.0 h.cause.5.1,
     ),
@@ -157,23 +149,19 @@ module _ (ts : List Token) where
     (
       h.counts,
       h.cause.0,
-      grammatical Statements Statements t more h h.cause
-          (shallow_front Statements t more n (tokens_of h.front) h.split),
+      grammatical Statements Statements t more h h.cause (shallow_front Statements t more n (tokens_of h.front) h.split),
       h.cause.5.0,
-      over_statements h.counts h.cause.0 h.cause.5.0
-          h.cause.5.1,
+      over_statements h.counts h.cause.0 h.cause.5.0 h.cause.5.1,
     ),
   )
   stands Nesting t more n h =
-      let f = stop_facts (tokens_of h.front) t more Nesting (subst (λ (x : List Token). StopLevel MAX_NESTING x Nesting (t ∷ more)) h.split
-      n) in (
+      let f = stop_facts (tokens_of h.front) t more Nesting (rw (← h.split) n) in (
         tokens_of h.front,
         h.split,
         (
           h.counts,
           h.cause.0,
-          grammatical Nesting Nesting t more h h.cause
-              (shallow_front Nesting t more n (tokens_of h.front) h.split),
+          grammatical Nesting Nesting t more h h.cause (shallow_front Nesting t more n (tokens_of h.front) h.split),
           h.cause.5,
           f.0,
           f.1,
@@ -196,8 +184,7 @@ none_right [] more e = sym e
 none_right (l ∷ y) more e = absurd cc
 
 -- a parser doesn't stop after the end
-never_at : (ts : List Token) (k : Stop) → HasEnd ts → run ts ≡ Stopped k []
-    → (h : Halted Limited (Query (depth 0)) (query Limited 63 62) no_counts ts k []) → ⊥
+never_at : (ts : List Token) (k : Stop) → HasEnd ts → run ts ≡ Stopped k [] → (h : IsHalted ts k []) → ⊥
 never_at ts k end e h = go (place h.front h.more h.begins.0 (record { role = Plain; token = h.begins.4.0 }) []
     (h.begins.2 ∙ ap (λ (w : List Leaf). h.begins.0 ++ w) h.begins.4.1))
   where
@@ -211,21 +198,21 @@ never_at ts k end e h = go (place h.front h.more h.begins.0 (record { role = Pla
     ends f = has_no_end h.front end.0 end.1 (all ∙ end.2) end.3 f
 
     on : Run (h.front ++ h.more) h.value → run (tokens_of (h.front ++ h.more)) ≡ Stopped k [] → ⊥
-    on (whole d pay n r) s = done_or_stopped h.value d [] k [] (sym r ∙ s)
+    on (whole d pay n r) s = done_or_stopped _ _ _ _ _ (sym r ∙ s)
     on (halts k' u l x d a n i f sh r) s = let z : l.token ∷ tokens_of x ≡ [] =
-        same_place k' k (l.token ∷ tokens_of x) [] (sym r ∙ s) in absurd cc
+        same_place _ _ _ _ (sym r ∙ s) in absurd cc
 
     go : Place h.front h.more h.begins.0 (record { role = Plain; token = h.begins.4.0 }) [] → ⊥
     go (inside y a b) = on (run_of (depth 0) (h.front ++ h.more) h.value h.begins)
         (ap (λ (w : List Leaf). run (tokens_of (h.front ++ w))) (none_right y h.more b)
         ∙ ap (λ (w : List Leaf). run (tokens_of w)) (append-nil h.front) ∙ ap run all ∙ e)
-    go (at_end a b) = ends (subst EndFree (sym a) free)
-    go (beyond z y a b) = ends (free_front h.front (z ∷ y) (subst EndFree a free))
+    go (at_end a b) = ends (rw a free)
+    go (beyond z y a b) = ends (free_front h.front (z ∷ y) (rw (← a) free))
 
 -- ---- forwards
 
 says : (ts : List Token) → HasEnd ts → (o : Outcome Value) → run ts ≡ o → LevelMeets 0 0 MAX_NESTING ts o
-    → Meets Limited (Query (depth 0)) (query Limited 63 62) no_counts ts o → Says ts (all_read o)
+    → IsMet ts o → Says ts (all_read o)
 says ts end (Done q c []) e n f =
     let all : tokens_of f.front ≡ ts = sym (f.split ∙ append-nil (tokens_of f.front)) in
     record {
@@ -235,7 +222,7 @@ says ts end (Done q c []) e n f =
       means = f.means;
       counts = c;
       within = sym (pays_is Limited no_counts f.front) ∙ f.pays;
-      shallow = shallow_is ts (subst (λ (x : List Token). Shallow MAX_NESTING 0 0 x) (sym (n.split ∙ append-nil n.front)) n.shallow);
+      shallow = shallow_is ts (rw (n.split ∙ append-nil n.front) n.shallow);
     }
 says ts end (Done q c (t ∷ more)) e n f = (
   tokens_of f.front,
@@ -245,10 +232,9 @@ says ts end (Done q c (t ∷ more)) e n f = (
     record {
       leaves = f.front;
       tokens = refl;
-      begins = ([], depth 0, q, subst (λ (x : List Leaf). Query (depth 0) x q) (sym (append-nil f.front)) f.means);
+      begins = ([], depth 0, q, rw (append-nil f.front) f.means);
       within = sym (pays_is Limited no_counts f.front) ∙ f.pays;
-      shallow = shallow_is (tokens_of f.front) (subst (λ (x : List Token). Shallow MAX_NESTING 0 0 x)
-          (append_cancel_right n.front (tokens_of f.front) (t ∷ more) (sym n.split ∙ f.split)) n.shallow);
+      shallow = shallow_is (tokens_of f.front) (rw (← (append_cancel_right n.front (tokens_of f.front) (t ∷ more) (sym n.split ∙ f.split))) n.shallow);
     },
     no_more (tokens_of f.front) t q c (λ x. f.again (t ∷ x) (x, refl)),
   ),

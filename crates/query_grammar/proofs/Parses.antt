@@ -1,9 +1,9 @@
 -- What it means that a parser meets a language, and that the parser of one token does.
-use Rattle.std.proofs.Common.{◌≡◌, Bool, true, false, List, [], ◌∷◌, ◌++◌, Option, Some, None, refl, sym, ap, subst, ◌∙◌, append_assoc}
+use Rattle.std.proofs.Common.{◌≡◌, Bool, true, false, List, [], ◌∷◌, ◌++◌, Option, Some, None, refl, ap, ◌∙◌, append_assoc}
 use Rattle.std.proofs.lemmas.List.{map-append}
 use Rattle.std.specs.Option.{option_and_then}
 use Rattle.query_lang.specs.declared.token.Token.{Token}
-use Rattle.query_grammar.specs.Language.{Role, Plain, Node, Statement, Opening, Leaf, tokens_of, Word}
+use Rattle.query_grammar.specs.Language.{Language, Role, Plain, Node, Statement, Opening, Leaf, tokens_of, Word}
 use Rattle.query_grammar.specs.declared.stop.Counts.{Counts}
 use Rattle.query_grammar.specs.declared.stop.Stop.{Stop}
 use Rattle.query_grammar.specs.declared.stop.Stop.TheVariants.{Unexpected, Nodes, Statements, Nesting}
@@ -37,7 +37,7 @@ tokens-append w x rest = ap (λ (ts : List Token). ts ++ rest) (map-append (λ (
     ∙ append_assoc (tokens_of w) (tokens_of x) rest
 
 -- what the parser read is a word of the language, and it looked no further than the next token
-pub record Found {A : Type 0} (m : Limits) (L : List Leaf → A → Type 0) (p : Parser A) (c : Counts) (ts : List Token) (v : A) (d : Counts)
+pub record Found {A : Type 0} (m : Limits) (L : Language A) (p : Parser A) (c : Counts) (ts : List Token) (v : A) (d : Counts)
     (rest : List Token) : Type 0 where
   pub front : List Leaf
   pub split : ts ≡ tokens_of front ++ rest
@@ -64,7 +64,7 @@ Cause m Statements d more rest = StopsFirst m Statements d more rest
 Cause m Nesting d more rest = StopsFirst m Nesting d more rest
 
 -- what the parser read before the fault begins a word of the language, and it looked no further than the fault
-pub record Halted {A : Type 0} (m : Limits) (L : List Leaf → A → Type 0) (p : Parser A) (c : Counts) (ts : List Token) (k : Stop)
+pub record Halted {A : Type 0} (m : Limits) (L : Language A) (p : Parser A) (c : Counts) (ts : List Token) (k : Stop)
     (rest : List Token) : Type 0 where
   pub front : List Leaf
   pub split : ts ≡ tokens_of front ++ rest
@@ -76,7 +76,7 @@ pub record Halted {A : Type 0} (m : Limits) (L : List Leaf → A → Type 0) (p 
   pub cause : Cause m k counts more rest
   pub again : (x : List Token) → SameNext rest x → p c (tokens_of front ++ x) ≡ Stopped k x
 
-abbrev pub Meets : {A : Type 0} → Limits → (List Leaf → A → Type 0) → Parser A → Counts → List Token → Outcome A → Type 0
+abbrev pub Meets : {A : Type 0} → Limits → (Language A) → Parser A → Counts → List Token → Outcome A → Type 0
 Meets m L p c ts (Done v d rest) = Found m L p c ts v d rest
 Meets m L p c ts (Stopped k rest) = Halted m L p c ts k rest
 
@@ -103,7 +103,7 @@ pub data Begins (starts : Token → Bool) : Bool → List Leaf → Type 0 where
   something : {nullable : Bool} → (l : Leaf) → (others : List Leaf) → starts l.token ≡ true → Begins starts nullable (l ∷ others)
 
 -- the parser meets the language. Its words begin with tokens of `starts`; it reads on at tokens of `goes_on`
-pub record Parses {A : Type 0} (m : Limits) (L : List Leaf → A → Type 0) (p : Parser A) (starts goes_on : Token → Bool)
+pub record Parses {A : Type 0} (m : Limits) (L : Language A) (p : Parser A) (starts goes_on : Token → Bool)
     (nullable : Bool) : Type 0 where
   pub meets : (c : Counts) (ts : List Token) → Meets m L p c ts (p c ts)
   pub complete : (c : Counts) (w : List Leaf) (v : A) (rest : List Token) → L w v → next_is goes_on rest ≡ false → Reads m p c w v rest
@@ -113,8 +113,8 @@ pub record Parses {A : Type 0} (m : Limits) (L : List Leaf → A → Type 0) (p 
 -- ---- the next token
 
 pub next_of : (w : List Leaf) (rest x y : List Token) → y ≡ tokens_of w ++ rest → SameNext rest x → SameNext y (tokens_of w ++ x)
-next_of [] rest x y h s = subst (λ (z : List Token). SameNext z x) (sym h) s
-next_of (l ∷ w) rest x y h s = subst (λ (z : List Token). SameNext z (tokens_of (l ∷ w) ++ x)) (sym h) (tokens_of w ++ x, refl)
+next_of [] rest x y h s = rw h s
+next_of (l ∷ w) rest x y h s = rw h (tokens_of w ++ x, refl)
 
 pub same_next : (test : Token → Bool) (ts x : List Token) → SameNext ts x → next_is test x ≡ next_is test ts
 same_next test [] x s = rw s refl
@@ -236,7 +236,7 @@ module _ {A : Type 0} (m : Limits) (role : Role) (takes : Token → Option A) wh
       go (Some a) h = word_charged c t ts a h (charge m role c) refl
 
   word_complete : (c : Counts) (w : List Leaf) (v : A) (rest : List Token) → Word role takes w v → Reads m (word m role takes) c w v rest
-  word_complete c w v rest h = subst (λ (x : List Leaf). Reads m (word m role takes) c x v rest) (sym h.1) (go (charge m role c) refl)
+  word_complete c w v rest h = rw h.1 (go (charge m role c) refl)
     where
       go : (o : Option Counts) → charge m role c ≡ o → Reads m (word m role takes) c (record { role = role; token = h.0 } ∷ []) v rest
       go None e = passes (limit_of role) [] (record { role = role; token = h.0 }) [] c refl refl (charge_stops m role c h.0 e)
@@ -248,19 +248,19 @@ module _ {A : Type 0} (m : Limits) (role : Role) (takes : Token → Option A) wh
   parses_word goes_on t0 a0 h0 = record {
     meets = word_meets t0 a0 h0;
     complete = λ c w v rest h clear. word_complete c w v rest h;
-    begins = λ w v h. subst (λ (x : List Leaf). Begins (λ t. is_some_of (takes t)) false x) (sym h.1)
+    begins = λ w v h. rw h.1
         (something (record { role = role; token = h.0 }) [] (ap is_some_of h.2));
     sample = (record { role = role; token = t0 } ∷ [], a0, (t0, refl, h0));
   }
 
 -- ---- more kinds
 
-pub parses_wider : {A : Type 0} {m : Limits} {L : List Leaf → A → Type 0} {p : Parser A} {starts on : Token → Bool} {nullable : Bool}
+pub parses_wider : {A : Type 0} {m : Limits} {L : Language A} {p : Parser A} {starts on : Token → Bool} {nullable : Bool}
     → (also : Token → Bool)
     → ((t : Token) → starts t ≡ true → also t ≡ true) → Parses m L p starts on nullable → Parses m L p also on nullable
 parses_wider also h f = record { meets = f.meets; complete = f.complete; begins = λ w v l. wider h (f.begins w v l); sample = f.sample }
 
-pub parses_wider_on : {A : Type 0} {m : Limits} {L : List Leaf → A → Type 0} {p : Parser A} {starts on : Token → Bool} {nullable : Bool}
+pub parses_wider_on : {A : Type 0} {m : Limits} {L : Language A} {p : Parser A} {starts on : Token → Bool} {nullable : Bool}
     → (also : Token → Bool)
     → ((t : Token) → also t ≡ false → on t ≡ false) → Parses m L p starts on nullable → Parses m L p starts also nullable
 parses_wider_on {A} {m} {L} {p} {starts} {on} also h f = record {

@@ -1,5 +1,5 @@
 -- What the parser does on the words of queries.
-use Rattle.std.proofs.Common.{◌≡◌, ℕ, zero, suc, ◌+◌, ◌≤◌, false, List, [], ◌∷◌, ◌++◌, Option, Some, None, refl, sym, ap, subst, ◌∙◌}
+use Rattle.std.proofs.Common.{◌≡◌, ℕ, zero, suc, ◌+◌, ◌≤◌, false, List, [], ◌∷◌, ◌++◌, Option, Some, None, refl, sym, ap, ◌∙◌}
 use Rattle.std.proofs.Common.{append_assoc, arith}
 use Rattle.std.proofs.lemmas.List.{append-nil, map-append, append_cancel_right}
 use Rattle.std.specs.Option.{option_and_then}
@@ -86,25 +86,33 @@ depth_le : (k : ℕ) → k ≤ depth k
 unfolding depth
 depth_le k = over_le 63 k
 
-pub met : (ts : List Token) → Meets Limited (Query (depth 0)) (query Limited 63 62) no_counts ts (run ts)
+-- what it gives, in the words of its language
+abbrev pub IsMet : List Token → Outcome Value → Type 0
+IsMet ts o = Meets Limited (Query (depth 0)) (query Limited 63 62) no_counts ts o
+
+abbrev pub IsHalted : List Token → Stop → List Token → Type 0
+IsHalted ts k rest = Halted Limited (Query (depth 0)) (query Limited 63 62) no_counts ts k rest
+
+abbrev pub IsFound : List Token → Value → Counts → List Token → Type 0
+IsFound ts q c rest = Found Limited (Query (depth 0)) (query Limited 63 62) no_counts ts q c rest
+
+pub met : (ts : List Token) → IsMet ts (run ts)
 met ts = (limited 0).meets no_counts ts
 
-pub halted_of : (ts : List Token) (k : Stop) (rest : List Token) → run ts ≡ Stopped k rest
-    → Halted Limited (Query (depth 0)) (query Limited 63 62) no_counts ts k rest
-halted_of ts k rest e = subst (λ (o : Outcome Value). Meets Limited (Query (depth 0)) (query Limited 63 62) no_counts ts o) e (met ts)
+pub halted_of : (ts : List Token) (k : Stop) (rest : List Token) → run ts ≡ Stopped k rest → IsHalted ts k rest
+halted_of ts k rest e = rw e at (met ts)
 
-pub found_of : (ts : List Token) (q : Value) (c : Counts) (rest : List Token) → run ts ≡ Done q c rest
-    → Found Limited (Query (depth 0)) (query Limited 63 62) no_counts ts q c rest
-found_of ts q c rest e = subst (λ (o : Outcome Value). Meets Limited (Query (depth 0)) (query Limited 63 62) no_counts ts o) e (met ts)
+pub found_of : (ts : List Token) (q : Value) (c : Counts) (rest : List Token) → run ts ≡ Done q c rest → IsFound ts q c rest
+found_of ts q c rest e = rw e at (met ts)
 
 pub leveled : (ts : List Token) → LevelMeets 0 0 MAX_NESTING ts (run ts)
 leveled ts = (nests_query 62).meets no_counts ts
 
 stop_level : (ts : List Token) (k : Stop) (rest : List Token) → run ts ≡ Stopped k rest → StopLevel MAX_NESTING ts k rest
-stop_level ts k rest e = subst (λ (o : Outcome Value). LevelMeets 0 0 MAX_NESTING ts o) e (leveled ts)
+stop_level ts k rest e = rw e at (leveled ts)
 
 done_level : (ts : List Token) (q : Value) (c : Counts) (rest : List Token) → run ts ≡ Done q c rest → Level_is 0 0 MAX_NESTING ts rest
-done_level ts q c rest e = subst (λ (o : Outcome Value). LevelMeets 0 0 MAX_NESTING ts o) e (leveled ts)
+done_level ts q c rest e = rw e at (leveled ts)
 
 -- what is known of the brackets where it stops
 abbrev pub StopFacts : Stop → List Token → Token → Type 0
@@ -124,7 +132,7 @@ stop_facts front t more Nesting n =
 
 pub stop_shallow : (front rest : List Token) (k : Stop) → StopLevel MAX_NESTING (front ++ rest) k rest → Shallow MAX_NESTING 0 0 front
 stop_shallow front rest k n = let r = reached_of MAX_NESTING (front ++ rest) k rest n in
-    subst (λ (x : List Token). Shallow MAX_NESTING 0 0 x) (append_cancel_right r.front front rest (sym r.split)) r.shallow
+    rw (← append_cancel_right r.front front rest (sym r.split)) r.shallow
 
 -- what follows the fault changes nothing
 pub same_stop : (front : List Token) (t : Token) (more other : List Token) (k : Stop) → run (front ++ t ∷ more) ≡ Stopped k (t ∷ more)
@@ -154,9 +162,7 @@ run_of d w q h = go ((limited d).complete no_counts w q [] ((deeper_query (depth
     nil = ap run (sym (append-nil (tokens_of w)))
 
     all : (c : Counts) → run (tokens_of w) ≡ Done q c [] → Shallow MAX_NESTING 0 0 (tokens_of w)
-    all c e = let n = done_level (tokens_of w) q c [] e in subst (λ (x : List Token). Shallow MAX_NESTING 0 0 x)
-        (sym (n.split ∙ append-nil n.front))
-        n.shallow
+    all c e = let n = done_level (tokens_of w) q c [] e in rw (n.split ∙ append-nil n.front) n.shallow
 
     part : (k : Stop) (u : List Leaf) (l : Leaf) (x : List Leaf) (c : Counts) → w ≡ u ++ l ∷ x → pays Limited no_counts u ≡ Some c
         → Stops Limited k c l → run (tokens_of w) ≡ Stopped k (l.token ∷ tokens_of x) → Run w q
@@ -178,7 +184,7 @@ pub begins_of : (d : ℕ) (u w : List Leaf) (q : Value) → Query d (u ++ w) q �
 begins_of d u w q h = (tokens_of w, q, (d, u ++ w, map-append (λ (l : Leaf). l.token) u w, h))
 
 pub begins_front : (a b : List Token) → BeginsQuery (a ++ b) → BeginsQuery a
-begins_front a b h = (b ++ h.0, h.1, subst (λ (ts : List Token). Derives ts h.1) (append_assoc a b h.0) h.2)
+begins_front a b h = (b ++ h.0, h.1, rw (← append_assoc a b h.0) h.2)
 
 -- ---- counts
 

@@ -1,14 +1,14 @@
 -- One parser after the other keeps that each meets its language, and so does another meaning.
-use Rattle.std.proofs.Common.{◌≡◌, Bool, true, false, List, ◌∷◌, ◌++◌, refl, sym, ap, subst, ◌∙◌, append_assoc}
+use Rattle.std.proofs.Common.{◌≡◌, Bool, true, false, List, ◌∷◌, ◌++◌, refl, sym, ap, ◌∙◌, append_assoc}
 use Rattle.query_lang.specs.declared.token.Token.{Token}
-use Rattle.query_grammar.specs.Language.{Leaf, tokens_of, Then, Meaning}
+use Rattle.query_grammar.specs.Language.{Language, Leaf, tokens_of, Then, Meaning}
 use Rattle.query_grammar.specs.declared.stop.Counts.{Counts}
 use Rattle.query_grammar.specs.declared.stop.Stop.{Stop}
 use Rattle.query_grammar.specs.Parser.{Limits, Outcome, Done, Stopped, Parser, and_then, followed_by, mapped}
 use Rattle.query_grammar.proofs.Parses.{SameNext, pays_both, tokens-append, Found, Halted, Meets, Reads, Begins, Parses, next_of, starts_of}
 use Rattle.query_grammar.proofs.Parses.{next_clear, fewer, wider, cause_more, reads, passes, nothing, something}
 
-module _ {A B : Type 0} (m : Limits) (L : List Leaf → A → Type 0) (M : List Leaf → B → Type 0) (p : Parser A) (q : Parser B) where
+module _ {A B : Type 0} (m : Limits) (L : Language A) (M : Language B) (p : Parser A) (q : Parser B) where
   then_again : (c : Counts) (ts : List Token) (a : A) (d : Counts) (mid : List Token) → Found m L p c ts a d mid
       → (w : List Leaf) (rest : List Token) → mid ≡ tokens_of w ++ rest
       → (f : Found m L p c ts a d mid) → (x : List Token) → SameNext rest x
@@ -94,22 +94,22 @@ module _ {A B : Type 0} (m : Limits) (L : List Leaf → A → Type 0) (M : List 
       → Parses m (Then L M) (followed_by p q) starts goes_on false
   parses_then {starts} {on} {starts'} {on'} {nullable} goes_on f g apart keeps keeps' = record {
     meets = then_meets g.sample.0 g.sample.1 g.sample.2 f.meets g.meets;
-    complete = λ c w v rest h clear. subst (λ (x : List Leaf). Reads m (followed_by p q) c x v rest) (sym h.2)
+    complete = λ c w v rest h clear. rw h.2
         (then_reads c h.0 h.1 v.0 v.1 rest
         (f.complete c h.0 v.0 (tokens_of h.1 ++ rest) h.3 (next_clear on rest (g.begins h.1 v.1 h.4)
         (λ n. fewer on goes_on rest (keeps n) clear) apart))
         (λ d. g.complete d h.1 v.1 rest h.4 (fewer on' goes_on rest keeps' clear)));
-    begins = λ w v h. subst (λ (x : List Leaf). Begins starts false x) (sym h.2) (front_begins h.0 h.1 (f.begins h.0 v.0 h.3));
+    begins = λ w v h. rw h.2 (front_begins h.0 h.1 (f.begins h.0 v.0 h.3));
     sample = (f.sample.0 ++ g.sample.0, (f.sample.1, g.sample.1), (f.sample.0, g.sample.0, refl, f.sample.2, g.sample.2));
   }
     where
       front_begins : (u w : List Leaf) → Begins starts false u → Begins starts false (u ++ w)
-      front_begins u w b = let s = starts_of b in subst (λ (x : List Leaf). Begins starts false (x ++ w)) (sym s.2)
+      front_begins u w b = let s = starts_of b in rw s.2
           (something s.0 (s.1 ++ w) s.3)
 
 -- ---- another meaning
 
-module _ {A B : Type 0} (m : Limits) (f : A → B) (L : List Leaf → A → Type 0) (p : Parser A) where
+module _ {A B : Type 0} (m : Limits) (f : A → B) (L : Language A) (p : Parser A) where
   mapped_meets : ((c : Counts) (ts : List Token) → Meets m L p c ts (p c ts)) → (c : Counts) (ts : List Token)
       → Meets m (Meaning f L) (mapped f p) c ts (mapped f p c ts)
   mapped_meets pm c ts = go (p c ts) (pm c ts)
@@ -143,7 +143,7 @@ module _ {A B : Type 0} (m : Limits) (f : A → B) (L : List Leaf → A → Type
       → Parses m (Meaning f L) (mapped f p) starts on nullable
   parses_mapped g = record {
     meets = mapped_meets g.meets;
-    complete = λ c w v rest h clear. subst (λ (b : B). Reads m (mapped f p) c w b rest) h.2
+    complete = λ c w v rest h clear. rw (← h.2)
         (mapped_reads c w h.0 rest (g.complete c w h.0 rest h.1 clear));
     begins = λ w v h. g.begins w h.0 h.1;
     sample = (g.sample.0, f g.sample.1, (g.sample.1, g.sample.2, refl));
@@ -151,7 +151,7 @@ module _ {A B : Type 0} (m : Limits) (f : A → B) (L : List Leaf → A → Type
 
 -- ---- one after the other, where the first may be empty
 
-pub parses_null_then : {A B : Type 0} {m : Limits} {L : List Leaf → A → Type 0} {M : List Leaf → B → Type 0} {p : Parser A} {q : Parser B}
+pub parses_null_then : {A B : Type 0} {m : Limits} {L : Language A} {M : Language B} {p : Parser A} {q : Parser B}
     {starts on starts' on' : Token → Bool}
     → (also goes_on : Token → Bool) → Parses m L p starts on true → Parses m M q starts' on' false
     → ((t : Token) → starts' t ≡ true → on t ≡ false)
@@ -160,11 +160,11 @@ pub parses_null_then : {A B : Type 0} {m : Limits} {L : List Leaf → A → Type
     → Parses m (Then L M) (followed_by p q) also goes_on false
 parses_null_then {A} {B} {m} {L} {M} {p} {q} {starts} {on} {starts'} {on'} also goes_on f g apart wide wide' keeps' = record {
   meets = then_meets m L M p q g.sample.0 g.sample.1 g.sample.2 f.meets g.meets;
-  complete = λ c w v rest h clear. subst (λ (x : List Leaf). Reads m (followed_by p q) c x v rest) (sym h.2)
+  complete = λ c w v rest h clear. rw h.2
       (then_reads m L M p q c h.0 h.1 v.0 v.1 rest
       (f.complete c h.0 v.0 (tokens_of h.1 ++ rest) h.3 (next_clear on rest (g.begins h.1 v.1 h.4) (λ n. absurd cc) apart))
       (λ d. g.complete d h.1 v.1 rest h.4 (fewer on' goes_on rest keeps' clear)));
-  begins = λ w v h. subst (λ (x : List Leaf). Begins also false x) (sym h.2) (both h.0 h.1 (f.begins h.0 v.0 h.3) (g.begins h.1 v.1 h.4));
+  begins = λ w v h. rw h.2 (both h.0 h.1 (f.begins h.0 v.0 h.3) (g.begins h.1 v.1 h.4));
   sample = (f.sample.0 ++ g.sample.0, (f.sample.1, g.sample.1), (f.sample.0, g.sample.0, refl, f.sample.2, g.sample.2));
 }
   where

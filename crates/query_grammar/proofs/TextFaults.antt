@@ -1,68 +1,22 @@
 -- The query of a text is the one that the grammar relates to it, and its fault the first.
-use Rattle.std.proofs.Common.{◌≡◌, ℕ, zero, suc, ◌+◌, ◌<◌, ◌≤◌, Bool, true, false, cond, ltb, List, [], ◌∷◌, length, drop, refl, sym, ap}
+use Rattle.std.proofs.Common.{◌≡◌, ℕ, ◌<◌, ◌≤◌, Bool, true, false, cond, ltb, List, [], ◌∷◌, length, refl, sym, ap}
 use Rattle.std.proofs.Common.{subst, ◌∙◌, arith, Ok, Err, Result, ◌⊎◌, inl, inr}
 use Rattle.std.proofs.lemmas.Bool.{le-ltb, cases_lt}
 use Rattle.query_lang.specs.declared.fault.FaultKind.TheVariants.{QueryTooLong}
 use Rattle.query_lang.specs.declared.fault.QueryFault.{QueryFault}
 use Rattle.query_lang.specs.declared.fault.TheConstants.{MAX_QUERY}
 use Rattle.query_lang.specs.declared.query.Query.{Query}
-use Rattle.query_lang.specs.declared.token.Piece.{Piece}
-use Rattle.query_lang.specs.declared.token.Piece.TheVariants as pieces
-use Rattle.query_lang.specs.declared.token.TokenKind.TheVariants.{End}
 use Rattle.query_lang.specs.declared.token.Token.{Token}
-use Rattle.query_lang.specs.Lexis.{Cut, cut, cut_piece, fault_at, piece, token_at, tokens_of, with_front}
-use Rattle.query_grammar.specs.Fault.{HasEnd, Says}
+use Rattle.query_lang.specs.Lexis.{Cut, cut, fault_at, tokens_of}
+use Rattle.query_grammar.specs.Fault.{Says}
 use Rattle.query_grammar.specs.Parser.{Outcome, Done, Stopped}
 use Rattle.query_grammar.specs.Reading.{parsed}
 use Rattle.query_grammar.specs.Texts.{IsQueryOf, IsFaultOf, too_long, in_lexis, in_grammar, answered, fault_of, with_names, parsed_cut}
 use Rattle.query_grammar.specs.Texts.{parsed_text}
+use Rattle.query_grammar.proofs.CutTexts.{Pair, text_is_cut, cut_end}
 use Rattle.query_grammar.proofs.Runs.{Value}
 use Rattle.query_grammar.proofs.Parsed.{parsed_says}
 use Rattle.query_grammar.proofs.Whole.{accepted_parsed, fault_found}
-
--- ---- tokens end with the end
-
-abbrev Pair : Type 0
-Pair = List Token × List (List ℕ)
-
-same_found : (a b : Pair) → ◌≡◌ {A = Cut} (Ok a) (Ok b) → a ≡ b
-same_found a b e = cc
-
-front_end : (t : Token) (o : Cut) (found : Pair) → ((got : Pair) → o ≡ Ok got → HasEnd got.0) → with_front t o ≡ Ok found → HasEnd found.0
-front_end t (Ok got) found h e =
-    let g = h got refl in
-    let same : t ∷ got.0 ≡ found.0 = ap (λ (p : Pair). p.0) (same_found (t ∷ got.0, got.1) found e) in
-    (t ∷ g.0, g.1, sym same ∙ ap (λ (ts : List Token). t ∷ ts) g.2, g.3)
-front_end t (Err fault) found h e = absurd cc
-
-piece_end : (p : Piece) (at : ℕ) (names : List (List ℕ)) (bytes : List ℕ) (next : ℕ → List (List ℕ) → Cut) (found : Pair)
-    → ((k : ℕ) (known : List (List ℕ)) (got : Pair) → next k known ≡ Ok got → HasEnd got.0) → cut_piece p at names bytes next ≡ Ok found
-    → HasEnd found.0
-piece_end (pieces.Blank n) at names bytes next found h e = h n names found e
-piece_end (pieces.Name n) at names bytes next found h e = front_end _ (next n _) found (h n _) e
-piece_end (pieces.Token kind n) at names bytes next found h e = front_end _ (next n names) found (h n names) e
-piece_end (pieces.Fault kind n) at names bytes next found h e = absurd cc
-
-only_end : (at : ℕ) (names : List (List ℕ)) (found : Pair) → ◌≡◌ {A = Cut} (Ok (token_at End at at ∷ [], names)) (Ok found) → HasEnd found.0
-only_end at names found e = (
-  [],
-  token_at End at at,
-  sym (ap (λ (p : Pair). p.0) (same_found (token_at End at at ∷ [], names) found e)),
-  refl,
-)
-
-cut_end : (n at : ℕ) (names : List (List ℕ)) (bytes : List ℕ) (found : Pair) → cut n at names bytes ≡ Ok found → HasEnd found.0
-unfolding cut
-cut_end zero at names bytes found e = only_end at names found e
-cut_end (suc n) at names [] found e = only_end at names found e
-cut_end (suc n) at names (b ∷ bytes) found e =
-    piece_end (piece (b ∷ bytes)) at names (b ∷ bytes) (λ k known. cut n (at + k) known (drop k (b ∷ bytes))) found
-    (λ k known got h. cut_end n (at + k) known (drop k (b ∷ bytes)) got h) e
-
--- ---- the answer
-
-text_end : (text : List ℕ) (found : Pair) → tokens_of text ≡ Ok found → HasEnd found.0
-text_end text found e = cut_end (length text) 0 [] text found e
 
 short_text : (text : List ℕ) → length text ≤ MAX_QUERY → parsed_text text ≡ parsed_cut (tokens_of text)
 short_text text le = let b : ltb MAX_QUERY (length text) ≡ false = le-ltb _ _ le in rw b refl
@@ -98,12 +52,12 @@ tokens_fault text found f le cut (Stopped k (t ∷ more)) h e =
     in_grammar le found.1 h.0 t more k (cut ∙ ap (λ (ts : List Token). Ok (ts, found.1)) h.1) h.2 (sym (same_err (fault_of k t) f e))
 
 cut_query : (text : List ℕ) (q : Query) → length text ≤ MAX_QUERY → (o : Cut) → tokens_of text ≡ o → parsed_cut o ≡ Ok q → IsQueryOf text q
-cut_query text q le (Ok found) cut e = tokens_query text found q le cut (parsed found.0) (parsed_says found.0 (text_end text found cut)) e
+cut_query text q le (Ok found) cut e = tokens_query text found q le cut (parsed found.0) (parsed_says found.0 (cut_end (text_is_cut text found cut))) e
 cut_query text q le (Err fault) cut e = absurd cc
 
 cut_fault : (text : List ℕ) (f : QueryFault) → length text ≤ MAX_QUERY → (o : Cut) → tokens_of text ≡ o → parsed_cut o ≡ Err f
     → IsFaultOf text f
-cut_fault text f le (Ok found) cut e = tokens_fault text found f le cut (parsed found.0) (parsed_says found.0 (text_end text found cut)) e
+cut_fault text f le (Ok found) cut e = tokens_fault text found f le cut (parsed found.0) (parsed_says found.0 (cut_end (text_is_cut text found cut))) e
 cut_fault text f le (Err fault) cut e = in_lexis le (cut ∙ ap (λ (g : QueryFault). Err g) (same_err fault f e))
 
 pub query_of_text : (text : List ℕ) (q : Query) → parsed_text text ≡ Ok q → IsQueryOf text q

@@ -1,25 +1,5 @@
 -- What the ways to build a parser keep of the nodes and statements among a word's leaves.
-use Rattle.std.proofs.Common.{◌≡◌, ℕ, ◌+◌, List, [], ◌∷◌, ◌++◌, map, Option, Some, None, refl, sym, ap, subst, ◌∙◌}
-use Rattle.std.proofs.Common.{arith, inl, inr, ◌⊎◌}
-use Rattle.std.specs.Prelude.{sum, sum_by, fold}
-use Rattle.query_lang.specs.declared.fault.Span.{Span}
-use Rattle.query_lang.specs.declared.fold.Op.{Op}
-use Rattle.query_lang.specs.declared.query.Name.{Name}
-use Rattle.query_lang.specs.declared.query.Expr.{Expr, Number, Named, Not, Binary, Call, fold-roll-Expr}
-use Rattle.query_lang.specs.declared.query.Expr.TheOpen as expr
-use Rattle.query_lang.specs.declared.query.Expr.TheVariants.{rolls-Number, rolls-Named, rolls-Not, rolls-Binary, rolls-Call}
-use Rattle.query_lang.specs.declared.query.Stmt.{Stmt, Assign, If, Emit, fold-roll-Stmt}
-use Rattle.query_lang.specs.declared.query.Stmt.TheOpen as stmt
-use Rattle.query_lang.specs.declared.query.Stmt.TheVariants.{rolls-Assign, rolls-If, rolls-Emit}
-use Rattle.query_lang.specs.declared.token.Mark.TheVariants as marks
-use Rattle.query_lang.specs.declared.token.TokenKind.{TokenKind}
-use Rattle.query_lang.specs.declared.token.Token.{Token}
-use Rattle.query_lang.specs.TypedFolds.{expr_nodes, nodes_step, stmt_nodes, stmt_nodes_step, stmt_count, count_step}
-use Rattle.query_grammar.specs.Language.{Role, Plain, Node, Statement, Opening, Leaf, Language, Word, Then, Repeated, AtMostOnce, Either}
-use Rattle.query_grammar.specs.Language.{Meaning}
-use Rattle.query_grammar.specs.Kinds.{sign}
-use Rattle.query_grammar.specs.Grammar.{listed, After, Before, Between, Separated, Listed}
-use Rattle.std.proofs.Common.{◌≡◌, ℕ, ◌+◌, List, [], ◌∷◌, ◌++◌, map, Option, Some, None, refl, sym, ap, subst, ◌∙◌}
+use Rattle.std.proofs.Common.{◌≡◌, ℕ, ◌+◌, List, [], ◌∷◌, ◌++◌, map, Option, Some, None, refl, sym, ap, ◌∙◌}
 use Rattle.std.proofs.Common.{arith, inl, inr, ◌⊎◌}
 use Rattle.std.specs.Prelude.{sum, sum_by, fold}
 use Rattle.query_lang.specs.declared.fault.Span.{Span}
@@ -133,18 +113,18 @@ pub record Weight (w : List Leaf) (n s : ℕ) : Type 0 where
   pub statements : leaves_by is_statement w ≡ s
   pub inner : leaves_by is_opening w ≡ 0
 
-pub both : (w u x : List Leaf) (n s m t : ℕ) → w ≡ u ++ x → Weight u n s → Weight x m t → Weight w (n + m) (s + t)
-both w u x n s m t e f g = subst (λ (z : List Leaf). Weight z (n + m) (s + t)) (sym e) (record {
+pub both : {w u x : List Leaf} {n s m t : ℕ} → w ≡ u ++ x → Weight u n s → Weight x m t → Weight w (n + m) (s + t)
+both {u = u} {x} e f g = rw e (record {
   nodes = omega (arith, total_append (λ (l : Leaf). is_node l.role) u x, f.nodes, g.nodes);
   statements = omega (arith, total_append (λ (l : Leaf). is_statement l.role) u x, f.statements, g.statements);
   inner = omega (arith, total_append (λ (l : Leaf). is_opening l.role) u x, f.inner, g.inner);
 })
 
 pub nothing : (w : List Leaf) → w ≡ [] → Weight w 0 0
-nothing w e = subst (λ (z : List Leaf). Weight z 0 0) (sym e) (record { nodes = refl; statements = refl; inner = refl })
+nothing w e = rw e (record { nodes = refl; statements = refl; inner = refl })
 
-pub same_weight : (w : List Leaf) (n s m t : ℕ) → n ≡ m → s ≡ t → Weight w n s → Weight w m t
-same_weight w n s m t e g h = record { nodes = h.nodes ∙ e; statements = h.statements ∙ g; inner = h.inner }
+pub same_weight : {w : List Leaf} {n s m t : ℕ} → Weight w n s → n ≡ m → s ≡ t → Weight w m t
+same_weight h e g = record { nodes = h.nodes ∙ e; statements = h.statements ∙ g; inner = h.inner }
 
 -- each word of the language weighs what its meaning does
 pub record Weighs {A : Type 0} (L : Language A) (f g : A → ℕ) : Type 0 where
@@ -158,87 +138,77 @@ one v = 1
 
 pub weigh_plain : {A : Type 0} {takes : Token → Option A} → Weighs (Word Plain takes) none none
 weigh_plain = record {
-  is = λ w v h. subst (λ (x : List Leaf). Weight x 0 0) (sym h.1)
-      (record { nodes = refl; statements = refl; inner = refl });
+  is = λ w v h. rw h.1 (record { nodes = refl; statements = refl; inner = refl });
 }
 
 pub weigh_node : {A : Type 0} {takes : Token → Option A} → Weighs (Word Node takes) one none
 weigh_node = record {
-  is = λ w v h. subst (λ (x : List Leaf). Weight x 1 0) (sym h.1)
-      (record { nodes = refl; statements = refl; inner = refl });
+  is = λ w v h. rw h.1 (record { nodes = refl; statements = refl; inner = refl });
 }
 
 pub weigh_statement : {A : Type 0} {takes : Token → Option A} → Weighs (Word Statement takes) none one
 weigh_statement = record {
-  is = λ w v h. subst (λ (x : List Leaf). Weight x 0 1) (sym h.1)
-      (record { nodes = refl; statements = refl; inner = refl });
+  is = λ w v h. rw h.1 (record { nodes = refl; statements = refl; inner = refl });
 }
 
-pub weigh_then : {A B : Type 0} {L : Language A} {M : Language B} (f g : A → ℕ) (f' g' : B → ℕ) → Weighs L f g → Weighs M f' g'
+pub weigh_then : {A B : Type 0} {L : Language A} {M : Language B} {f g : A → ℕ} {f' g' : B → ℕ} → Weighs L f g → Weighs M f' g'
     → Weighs (Then L M) (λ v. f v.0 + f' v.1) (λ v. g v.0 + g' v.1)
-weigh_then f g f' g' p q = record {
-  is = λ w v h. both w h.0 h.1 (f v.0) (g v.0) (f' v.1) (g' v.1) h.2 (p.is h.0 v.0 h.3) (q.is h.1 v.1 h.4);
-}
+weigh_then p q = record { is = λ w v h. both h.2 (p.is h.0 v.0 h.3) (q.is h.1 v.1 h.4) }
 
-pub weigh_meaning : {A B : Type 0} {L : Language A} {h : A → B} (f g : A → ℕ) (f' g' : B → ℕ) → Weighs L f g → ((a : A) → f a ≡ f' (h a))
+pub weigh_meaning : {A B : Type 0} {L : Language A} {h : A → B} {f g : A → ℕ} {f' g' : B → ℕ} → Weighs L f g → ((a : A) → f a ≡ f' (h a))
     → ((a : A) → g a ≡ g' (h a)) → Weighs (Meaning h L) f' g'
-weigh_meaning {h = h} f g f' g' p e d = record {
-  is = λ w v m.
-      same_weight w (f m.0) (g m.0) (f' v) (g' v) (e m.0 ∙ ap f' m.2) (d m.0 ∙ ap g' m.2) (p.is w m.0 m.1);
-}
+weigh_meaning {f' = f'} {g'} p e d = record { is = λ w v m. same_weight (p.is w m.0 m.1) (e m.0 ∙ ap f' m.2) (d m.0 ∙ ap g' m.2) }
 
-pub weigh_either : {A : Type 0} {L M : Language A} (f g : A → ℕ) → Weighs L f g → Weighs M f g → Weighs (Either L M) f g
-weigh_either {A} {L} {M} f g p q = record { is = λ w v h. go w v h }
+-- where the meaning weighs by what it is made of
+pub weigh_as : {A B : Type 0} {L : Language A} {h : A → B} {f g : B → ℕ} → Weighs L (λ a. f (h a)) (λ a. g (h a)) → Weighs (Meaning h L) f g
+weigh_as p = weigh_meaning p (λ a. refl) (λ a. refl)
+
+pub weigh_either : {A : Type 0} {L M : Language A} {f g : A → ℕ} → Weighs L f g → Weighs M f g → Weighs (Either L M) f g
+weigh_either {A} {L} {M} {f} {g} p q = record { is = go }
   where
     go : (w : List Leaf) (v : A) → L w v ⊎ M w v → Weight w (f v) (g v)
     go w v (inl h) = p.is w v h
     go w v (inr h) = q.is w v h
 
-repeats : {A : Type 0} (L : Language A) (f g : A → ℕ) → Weighs L f g → (w : List Leaf) (v : List A) → Repeated L w v
-    → Weight w (total f v) (total g v)
-repeats L f g p w [] h = nothing w h
-repeats L f g p w (a ∷ others) h = both w h.0 h.1 (f a) (g a) (total f others) (total g others) h.2 (p.is h.0 a h.3)
-    (repeats L f g p h.1 others h.4)
-
-pub weigh_repeated : {A : Type 0} {L : Language A} (f g : A → ℕ) → Weighs L f g → Weighs (Repeated L) (total f) (total g)
-weigh_repeated {A} {L} f g p = record { is = λ w v h. repeats L f g p w v h }
+pub weigh_repeated : {A : Type 0} {L : Language A} {f g : A → ℕ} → Weighs L f g → Weighs (Repeated L) (total f) (total g)
+weigh_repeated {A} {L} {f} {g} p = record { is = λ w v h. go v w h }
+  where
+    go : (v : List A) (w : List Leaf) → Repeated L w v → Weight w (total f v) (total g v)
+    go [] w h = nothing w h
+    go (a ∷ others) w h = both h.2 (p.is h.0 a h.3) (go others h.1 h.4)
 
 abbrev pub if_some : {A : Type 0} → (A → ℕ) → Option A → ℕ
 if_some f None = 0
 if_some f (Some a) = f a
 
-pub weigh_once : {A : Type 0} {L : Language A} (f g : A → ℕ) → Weighs L f g → Weighs (AtMostOnce L) (if_some f) (if_some g)
-weigh_once {A} {L} f g p = record { is = λ w v h. go w v h }
+pub weigh_once : {A : Type 0} {L : Language A} {f g : A → ℕ} → Weighs L f g → Weighs (AtMostOnce L) (if_some f) (if_some g)
+weigh_once {A} {L} {f} {g} p = record { is = go }
   where
     go : (w : List Leaf) (v : Option A) → AtMostOnce L w v → Weight w (if_some f v) (if_some g v)
     go w None h = nothing w h
     go w (Some a) h = p.is w a h
 
-pub weigh_same : {A : Type 0} {L : Language A} (f g f' g' : A → ℕ) → Weighs L f g → ((a : A) → f a ≡ f' a) → ((a : A) → g a ≡ g' a)
+pub weigh_same : {A : Type 0} {L : Language A} {f g f' g' : A → ℕ} → Weighs L f g → ((a : A) → f a ≡ f' a) → ((a : A) → g a ≡ g' a)
     → Weighs L f' g'
-weigh_same f g f' g' p e d = record { is = λ w v h. same_weight w (f v) (g v) (f' v) (g' v) (e v) (d v) (p.is w v h) }
+weigh_same p e d = record { is = λ w v h. same_weight (p.is w v h) (e v) (d v) }
 
 -- ---- signs and words around
 
-pub weigh_after : {A : Type 0} {L : Language A} (k : TokenKind) (f g : A → ℕ) → Weighs L f g → Weighs (After k L) f g
-weigh_after k f g p = weigh_meaning (λ v. 0 + f v.1) (λ v. 0 + g v.1) f g (weigh_then none none f g weigh_plain p) (λ a. omega arith)
-    (λ a. omega arith)
+pub weigh_after : {A : Type 0} {L : Language A} {f g : A → ℕ} (k : TokenKind) → Weighs L f g → Weighs (After k L) f g
+weigh_after k p = weigh_meaning (weigh_then weigh_plain p) (λ a. omega arith) (λ a. omega arith)
 
-pub weigh_before : {A : Type 0} {L : Language A} (k : TokenKind) (f g : A → ℕ) → Weighs L f g → Weighs (Before L k) f g
-weigh_before k f g p = weigh_meaning (λ v. f v.0 + 0) (λ v. g v.0 + 0) f g (weigh_then f g none none p weigh_plain) (λ a. omega arith)
-    (λ a. omega arith)
+pub weigh_before : {A : Type 0} {L : Language A} {f g : A → ℕ} (k : TokenKind) → Weighs L f g → Weighs (Before L k) f g
+weigh_before k p = weigh_meaning (weigh_then p weigh_plain) (λ a. omega arith) (λ a. omega arith)
 
-pub weigh_between : {A : Type 0} {L : Language A} (s t : TokenKind) (f g : A → ℕ) → Weighs L f g → Weighs (Between s L t) f g
-weigh_between s t f g p = weigh_after s f g (weigh_before t f g p)
+pub weigh_between : {A : Type 0} {L : Language A} {f g : A → ℕ} (s t : TokenKind) → Weighs L f g → Weighs (Between s L t) f g
+weigh_between s t p = weigh_after s (weigh_before t p)
 
-pub weigh_separated : {A : Type 0} {L : Language A} (f g : A → ℕ) → Weighs L f g → Weighs (Separated L) (total f) (total g)
-weigh_separated f g p = weigh_meaning (λ v. f v.0 + total f v.1) (λ v. g v.0 + total g v.1) (total f) (total g)
-    (weigh_then f g (total f) (total g) p (weigh_repeated f g (weigh_after (sign marks.Comma) f g p))) (λ a. refl) (λ a. refl)
+pub weigh_separated : {A : Type 0} {L : Language A} {f g : A → ℕ} → Weighs L f g → Weighs (Separated L) (total f) (total g)
+weigh_separated p = weigh_as (weigh_then p (weigh_repeated (weigh_after (sign marks.Comma) p)))
 
 listed_is : {A : Type 0} (f : A → ℕ) (v : Option (List A)) → if_some (total f) v ≡ total f (listed v)
 listed_is f None = refl
 listed_is f (Some xs) = refl
 
-pub weigh_listed : {A : Type 0} {L : Language A} (f g : A → ℕ) → Weighs L f g → Weighs (Listed L) (total f) (total g)
-weigh_listed f g p = weigh_meaning (if_some (total f)) (if_some (total g)) (total f) (total g)
-    (weigh_once (total f) (total g) (weigh_separated f g p)) (listed_is f) (listed_is g)
+pub weigh_listed : {A : Type 0} {L : Language A} {f g : A → ℕ} → Weighs L f g → Weighs (Listed L) (total f) (total g)
+weigh_listed {f = f} {g} p = weigh_meaning (weigh_once (weigh_separated p)) (listed_is f) (listed_is g)

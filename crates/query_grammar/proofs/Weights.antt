@@ -13,9 +13,9 @@ use Rattle.query_grammar.specs.Language.{Chain, Chained}
 use Rattle.query_grammar.specs.Kinds.{sign, keyword}
 use Rattle.query_grammar.specs.Grammar.{grouped, compared, negated, else_of, Parens}
 use Rattle.query_grammar.specs.Grammar.{Operators, either_ops, both_ops, or_ops, xor_ops, and_ops, shift_ops, sum_ops, product_ops, Level}
-use Rattle.query_grammar.specs.Grammar.{Atom, CallOf, Unary, Product, Sum, Shift, BitAnd, BitXor, BitOr, Comparison, Conjunction}
+use Rattle.query_grammar.specs.Grammar.{Atom, CallOf, Unary, Comparison}
 use Rattle.query_grammar.specs.Grammar.{Disjunction, Expression, Assignment, Emission, Block, IfPart, ElsePart, IfStatement, Statement_at}
-use Rattle.query_grammar.proofs.Weighing.{total, node_number, node_named, node_not, node_binary, node_call, nodes_assign, nodes_if}
+use Rattle.query_grammar.proofs.Weighing.{weigh_as, total, node_number, node_named, node_not, node_binary, node_call, nodes_assign, nodes_if}
 use Rattle.query_grammar.proofs.Weighing.{nodes_emit, count_assign, count_if, count_emit, Weight, both, nothing, same_weight, none, one}
 use Rattle.query_grammar.proofs.Weighing.{weigh_plain, weigh_node, weigh_statement, weigh_then, weigh_meaning, weigh_either, weigh_repeated}
 use Rattle.query_grammar.proofs.Weighing.{Weighs, if_some, weigh_once, weigh_after, weigh_between, weigh_listed}
@@ -45,78 +45,53 @@ nothing_more [] = refl
 nothing_more (x ∷ xs) = omega (arith, nothing_more xs)
 
 pub weigh_level : {P : Language Expr} (ops : Operators) → Weighs P expr_nodes none → Weighs (Level ops P) expr_nodes none
-weigh_level ops p = weigh_meaning (λ v. expr_nodes v.0 + total (λ (o : (Op × Span) × Expr). 1 + expr_nodes o.1) v.1)
-    (λ v. 0 + total (λ (o : (Op × Span) × Expr). 0 + 0) v.1) expr_nodes none
-    (weigh_then expr_nodes none (total (λ (o : (Op × Span) × Expr). 1 + expr_nodes o.1)) (total (λ (o : (Op × Span) × Expr). 0 + 0)) p
-    (weigh_repeated (λ (o : (Op × Span) × Expr). 1 + expr_nodes o.1) (λ (o : (Op × Span) × Expr). 0 + 0)
-    (weigh_then one none expr_nodes none weigh_node p)))
+weigh_level ops p = weigh_meaning (weigh_then p (weigh_repeated (weigh_then weigh_node p)))
     (λ a. grouped_nodes a.0 a.1) (λ a. omega (arith, nothing_more a.1))
 
 weigh_unary : {P : Language Expr} → Weighs P expr_nodes none → Weighs (Unary P) expr_nodes none
-weigh_unary p = weigh_meaning (λ v. total one v.0 + expr_nodes v.1) (λ v. total none v.0 + 0) expr_nodes none
-    (weigh_then (total one) (total none) expr_nodes none (weigh_repeated one none weigh_node) p) (λ a. negated_nodes a.0 a.1)
-    (λ a. omega (arith, nothing_in a.0))
+weigh_unary p = weigh_meaning (weigh_then (weigh_repeated weigh_node) p) (λ a. negated_nodes a.0 a.1) (λ a. omega (arith, nothing_in a.0))
+
+no_more : {X : Type 0} (o : Option X) → 0 + if_some (λ (x : X). 0 + 0) o ≡ 0
+no_more None = refl
+no_more (Some x) = refl
 
 weigh_comparison : {P : Language Expr} → Weighs P expr_nodes none → Weighs (Comparison P) expr_nodes none
-weigh_comparison {P} p =
-    let un : Weighs (Unary P) expr_nodes none = weigh_unary p in
-    let pr : Weighs (Product P) expr_nodes none = weigh_level product_ops un in
-    let su : Weighs (Sum P) expr_nodes none = weigh_level sum_ops pr in
-    let sh : Weighs (Shift P) expr_nodes none = weigh_level shift_ops su in
-    let an : Weighs (BitAnd P) expr_nodes none = weigh_level and_ops sh in
-    let xo : Weighs (BitXor P) expr_nodes none = weigh_level xor_ops an in
-    let bo : Weighs (BitOr P) expr_nodes none = weigh_level or_ops xo in
-    weigh_meaning (λ v. expr_nodes v.0 + if_some (λ (o : (Op × Span) × Expr). 1 + expr_nodes o.1) v.1)
-    (λ v. 0 + if_some (λ (o : (Op × Span) × Expr). 0 + 0) v.1) expr_nodes none
-    (weigh_then expr_nodes none (if_some (λ (o : (Op × Span) × Expr). 1 + expr_nodes o.1)) (if_some (λ (o : (Op × Span) × Expr). 0 + 0)) bo
-    (weigh_once (λ (o : (Op × Span) × Expr). 1 + expr_nodes o.1) (λ (o : (Op × Span) × Expr). 0 + 0)
-    (weigh_then one none expr_nodes none weigh_node bo)))
-    (λ a. compared_nodes a.0 a.1) (λ a. no_more a.1)
-  where
-    no_more : (o : Option ((Op × Span) × Expr)) → 0 + if_some (λ (o : (Op × Span) × Expr). 0 + 0) o ≡ 0
-    no_more None = refl
-    no_more (Some x) = refl
+weigh_comparison p =
+    let bits = weigh_level or_ops (weigh_level xor_ops (weigh_level and_ops (weigh_level shift_ops (weigh_level sum_ops
+    (weigh_level product_ops (weigh_unary p)))))) in
+    weigh_meaning (weigh_then bits (weigh_once (weigh_then weigh_node bits))) (λ a. compared_nodes a.0 a.1) (λ a. no_more a.1)
 
 weigh_disjunction : {P : Language Expr} → Weighs P expr_nodes none → Weighs (Disjunction P) expr_nodes none
-weigh_disjunction {P} p =
-    let cj : Weighs (Conjunction P) expr_nodes none = weigh_level both_ops (weigh_comparison p) in
-    weigh_level either_ops cj
+weigh_disjunction p = weigh_level either_ops (weigh_level both_ops (weigh_comparison p))
 
 weigh_atom : Weighs Atom expr_nodes none
-weigh_atom = weigh_either expr_nodes none (weigh_meaning one none expr_nodes none weigh_node (λ a. sym (node_number a.0 a.1)) (λ a. refl))
-    (weigh_either expr_nodes none (weigh_meaning one none expr_nodes none weigh_node (λ a. sym (node_number (2 ^ 64 - 1) a)) (λ a. refl))
-    (weigh_meaning one none expr_nodes none weigh_node (λ a. sym (node_named a)) (λ a. refl)))
+weigh_atom = weigh_either (weigh_meaning weigh_node (λ a. sym (node_number a.0 a.1)) (λ a. refl))
+    (weigh_either (weigh_meaning weigh_node (λ a. sym (node_number (2 ^ 64 - 1) a)) (λ a. refl))
+    (weigh_meaning weigh_node (λ a. sym (node_named a)) (λ a. refl)))
 
-pub weigh_parens : {A : Type 0} {L : Language A} (f g : A → ℕ) → Weighs L f g → Weighs (Parens L) f g
-weigh_parens f g p = weigh_between (sign marks.OpenParen) (sign marks.CloseParen) f g p
+pub weigh_parens : {A : Type 0} {L : Language A} {f g : A → ℕ} → Weighs L f g → Weighs (Parens L) f g
+weigh_parens p = weigh_between (sign marks.OpenParen) (sign marks.CloseParen) p
 
 weigh_call : {E : Language Expr} → Weighs E expr_nodes none → Weighs (CallOf E) expr_nodes none
-weigh_call p = weigh_meaning (λ v. 1 + total expr_nodes v.1) (λ v. 0 + total none v.1) expr_nodes none
-    (weigh_then one none (total expr_nodes) (total none) weigh_node (weigh_parens (total expr_nodes) (total none)
-    (weigh_listed expr_nodes none p)))
+weigh_call p = weigh_meaning (weigh_then weigh_node (weigh_parens (weigh_listed p)))
     (λ a. sym (node_call a.0.0 a.0.1 a.1)) (λ a. omega (arith, nothing_in a.1))
 
 pub weigh_expr : (d : ℕ) → Weighs (Expression d) expr_nodes none
 weigh_expr zero = weigh_disjunction weigh_atom
-weigh_expr (suc d) = let p = weigh_expr d in weigh_disjunction (weigh_either expr_nodes none weigh_atom
-    (weigh_either expr_nodes none (weigh_parens expr_nodes none p) (weigh_call p)))
+weigh_expr (suc d) = let p = weigh_expr d in weigh_disjunction (weigh_either weigh_atom (weigh_either (weigh_parens p) (weigh_call p)))
 
 -- ---- statements
 
 weigh_assignment : {E : Language Expr} → Weighs E expr_nodes none → Weighs (Assignment E) stmt_nodes stmt_count
-weigh_assignment p = weigh_meaning (λ v. 0 + expr_nodes v.1) (λ v. 1 + 0) stmt_nodes stmt_count
-    (weigh_then none one expr_nodes none weigh_statement (weigh_between (sign marks.Assign) (sign marks.Semicolon) expr_nodes none p))
+weigh_assignment p = weigh_meaning (weigh_then weigh_statement (weigh_between (sign marks.Assign) (sign marks.Semicolon) p))
     (λ a. omega (arith, nodes_assign a.0 a.1)) (λ a. omega (arith, count_assign a.0 a.1))
 
 weigh_emission : Weighs Emission stmt_nodes stmt_count
-weigh_emission = weigh_meaning (λ v. 0 + (0 + 0)) (λ v. 1 + (0 + 0)) stmt_nodes stmt_count
-    (weigh_then none one (λ v. 0 + 0) (λ v. 0 + 0) weigh_statement (weigh_after (sign marks.OpenParen) (λ v. 0 + 0) (λ v. 0 + 0)
-    (weigh_then none none none none weigh_plain weigh_plain)))
+weigh_emission = weigh_meaning (weigh_then weigh_statement (weigh_after (sign marks.OpenParen) (weigh_then weigh_plain weigh_plain)))
     (λ a. omega (arith, nodes_emit a.0)) (λ a. omega (arith, count_emit a.0))
 
 pub weigh_block : {S : Language Stmt} → Weighs S stmt_nodes stmt_count → Weighs (Block S) (total stmt_nodes) (total stmt_count)
-weigh_block p = weigh_between (sign marks.OpenBrace) (sign marks.CloseBrace) (total stmt_nodes) (total stmt_count)
-    (weigh_repeated stmt_nodes stmt_count p)
+weigh_block p = weigh_between (sign marks.OpenBrace) (sign marks.CloseBrace) (weigh_repeated p)
 
 -- what an `if` and its block weigh, and what comes after an `else`
 abbrev branch_nodes : Expr × List Stmt → ℕ
@@ -140,15 +115,9 @@ chains : (T : Language ((Expr × List Stmt) ⊎ List Stmt)) → Weighs T else_no
     → (w : List Leaf) (v : List (Expr × List Stmt)) (o : Option (List Stmt)) → Chain T w v o
     → Weight w (total branch_nodes v + if_some (total stmt_nodes) o) (total branch_count v + if_some (total stmt_count) o)
 chains T p w [] None h = nothing w h
-chains T p w [] (Some b) h = same_weight w (total stmt_nodes b) (total stmt_count b) (0 + total stmt_nodes b) (0 + total stmt_count b)
-    (omega arith) (omega arith) (p.is w (inr b) h)
+chains T p w [] (Some b) h = same_weight (p.is w (inr b) h) (omega arith) (omega arith)
 chains T p w (a ∷ others) o h =
-    same_weight w (branch_nodes a + (total branch_nodes others + if_some (total stmt_nodes) o))
-    (branch_count a + (total branch_count others + if_some (total stmt_count) o))
-    (branch_nodes a + total branch_nodes others + if_some (total stmt_nodes) o)
-    (branch_count a + total branch_count others + if_some (total stmt_count) o) (omega arith) (omega arith)
-    (both w h.0 h.1 (branch_nodes a) (branch_count a) (total branch_nodes others + if_some (total stmt_nodes) o)
-    (total branch_count others + if_some (total stmt_count) o) h.2 (p.is h.0 (inl a) h.3) (chains T p h.1 others o h.4))
+    same_weight (both h.2 (p.is h.0 (inl a) h.3) (chains T p h.1 others o h.4)) (omega arith) (omega arith)
 
 weigh_chained : {T : Language ((Expr × List Stmt) ⊎ List Stmt)} → Weighs T else_nodes else_count
     → Weighs (Chained T) (chain_by branch_nodes (total stmt_nodes)) (chain_by branch_count (total stmt_count))
@@ -168,27 +137,20 @@ chain_count (a ∷ others) o = omega (arith, count_if a.0 a.1 (else_of others o)
 
 weigh_if_part : {E : Language Expr} {S : Language Stmt} → Weighs E expr_nodes none → Weighs S stmt_nodes stmt_count
     → Weighs (IfPart E S) (λ v. 0 + (expr_nodes v.1.0 + total stmt_nodes v.1.1)) (λ v. 1 + (0 + total stmt_count v.1.1))
-weigh_if_part p q = weigh_then none one branch_nodes (λ v. 0 + total stmt_count v.1) weigh_statement
-    (weigh_then expr_nodes none (total stmt_nodes) (total stmt_count) (weigh_parens expr_nodes none p) (weigh_block q))
+weigh_if_part p q = weigh_then weigh_statement (weigh_then (weigh_parens p) (weigh_block q))
 
 weigh_else : {E : Language Expr} {S : Language Stmt} → Weighs E expr_nodes none → Weighs S stmt_nodes stmt_count
     → Weighs (ElsePart E S) else_nodes else_count
-weigh_else p q = weigh_after (keyword words.Else) else_nodes else_count (weigh_either else_nodes else_count
-    (weigh_meaning (total stmt_nodes) (total stmt_count) else_nodes else_count (weigh_block q) (λ a. refl) (λ a. refl))
-    (weigh_meaning (λ v. 0 + (expr_nodes v.1.0 + total stmt_nodes v.1.1)) (λ v. 1 + (0 + total stmt_count v.1.1)) else_nodes else_count
+weigh_else p q = weigh_after (keyword words.Else) (weigh_either (weigh_as (weigh_block q)) (weigh_meaning
     (weigh_if_part p q) (λ a. omega arith) (λ a. omega arith)))
 
 weigh_if : {E : Language Expr} {S : Language Stmt} → Weighs E expr_nodes none → Weighs S stmt_nodes stmt_count
     → Weighs (IfStatement E S) stmt_nodes stmt_count
-weigh_if p q = weigh_meaning (λ v. 0 + (expr_nodes v.0.1.0 + total stmt_nodes v.0.1.1) + chain_by branch_nodes (total stmt_nodes) v.1)
-    (λ v. 1 + (0 + total stmt_count v.0.1.1) + chain_by branch_count (total stmt_count) v.1) stmt_nodes stmt_count
-    (weigh_then (λ v. 0 + (expr_nodes v.1.0 + total stmt_nodes v.1.1)) (λ v. 1 + (0 + total stmt_count v.1.1))
-    (chain_by branch_nodes (total stmt_nodes)) (chain_by branch_count (total stmt_count)) (weigh_if_part p q)
-    (weigh_chained (weigh_else p q)))
+weigh_if p q = weigh_meaning (weigh_then (weigh_if_part p q) (weigh_chained (weigh_else p q)))
     (λ a. omega (arith, nodes_if a.0.1.0 a.0.1.1 (else_of a.1.0 a.1.1), chain_nodes a.1.0 a.1.1))
     (λ a. omega (arith, count_if a.0.1.0 a.0.1.1 (else_of a.1.0 a.1.1), chain_count a.1.0 a.1.1))
 
 pub weigh_stmt : (d : ℕ) → Weighs (Statement_at d) stmt_nodes stmt_count
 weigh_stmt zero = weigh_assignment (weigh_expr zero)
-weigh_stmt (suc d) = weigh_either stmt_nodes stmt_count (weigh_assignment (weigh_expr (suc d)))
-    (weigh_either stmt_nodes stmt_count (weigh_if (weigh_expr d) (weigh_stmt d)) weigh_emission)
+weigh_stmt (suc d) = weigh_either (weigh_assignment (weigh_expr (suc d)))
+    (weigh_either (weigh_if (weigh_expr d) (weigh_stmt d)) weigh_emission)

@@ -1,6 +1,6 @@
 -- What the grammar says is what parsing gives.
-use Rattle.std.proofs.Common.{◌≡◌, ℕ, suc, ◌+◌, ◌≤◌, ltb, List, [], ◌∷◌, ◌++◌, length, Some}
-use Rattle.std.proofs.Common.{None, refl, sym, ap, subst, ◌∙◌, append_assoc, arith}
+use Rattle.std.proofs.Common.{◌≡◌, ℕ, suc, ◌≤◌, List, [], ◌∷◌, ◌++◌, length, Some}
+use Rattle.std.proofs.Common.{None, refl, sym, ap, ◌∙◌, append_assoc, arith}
 use Rattle.std.proofs.lemmas.List.{append-nil, map-append, length-append}
 use Rattle.std.proofs.lemmas.Bool.{le-ltb}
 use Rattle.query_lang.specs.declared.token.Token.{Token}
@@ -8,16 +8,15 @@ use Rattle.query_lang.specs.declared.fault.TheConstants.{MAX_NODES, MAX_STATEMEN
 use Rattle.query_grammar.specs.declared.stop.Counts.{Counts}
 use Rattle.query_grammar.specs.declared.stop.Stop.{Stop}
 use Rattle.query_grammar.specs.declared.stop.Stop.TheVariants.{Unexpected, Nodes, Statements, Nesting}
-use Rattle.query_grammar.specs.Kinds.{kind}
 use Rattle.query_grammar.specs.Language.{Role, Plain, Node, Statement, Opening, Leaf, tokens_of}
 use Rattle.query_grammar.specs.Parser.{no_counts, Limited, charge, Outcome, Done, Stopped}
 use Rattle.query_grammar.specs.Grammar.{Query}
-use Rattle.query_grammar.specs.Reading.{query, all_read, parsed}
+use Rattle.query_grammar.specs.Reading.{all_read, parsed}
 use Rattle.query_grammar.specs.Fault.{IsShallow, BeginsQuery, IsSound, IsGrammatical, StandsAt, IsAccepted}
-use Rattle.query_grammar.proofs.Parses.{Found, Halted, Stops, StopsFirst, Cause, pays}
-use Rattle.query_grammar.proofs.Nests.{Shallow, shallow_is}
+use Rattle.query_grammar.proofs.Parses.{Stops, StopsFirst, Cause, pays}
+use Rattle.query_grammar.proofs.Nests.{shallow_is}
 use Rattle.query_grammar.proofs.Splits.{Place, inside, at_end, beyond, place, head_is, tail_is}
-use Rattle.query_grammar.proofs.Runs.{Value, depth, run, halted_of, found_of, StopFacts, same_stop}
+use Rattle.query_grammar.proofs.Runs.{IsHalted, IsFound, Value, depth, run, halted_of, found_of, StopFacts, same_stop}
 use Rattle.query_grammar.proofs.Runs.{tokens_cons, Run, whole, halts, run_of, begins_of, begins_front, pays_is, no_stop}
 use Rattle.query_grammar.proofs.Parsed.{done_or_stopped, same_place, no_more}
 
@@ -27,7 +26,7 @@ pub accepted_parsed : (ts : List Token) (q : Value) → IsAccepted ts q → (c :
 accepted_parsed ts q a = go (run_of a.depth a.leaves q a.means)
   where
     shallow : IsShallow (tokens_of a.leaves)
-    shallow = subst IsShallow (sym a.tokens) a.shallow
+    shallow = rw a.tokens a.shallow
 
     go : Run a.leaves q → (c : Counts) × (parsed ts ≡ Done q c [])
     go (whole d pay n r) = (d, ap (λ (x : List Token). parsed x) (sym a.tokens) ∙ ap all_read r)
@@ -75,11 +74,10 @@ limit_on k front t more leaf c g i f w z q e o = on o
     pay_in = pays_is Limited no_counts g.leaves ∙ g.within
 
     shallow_in : IsShallow (tokens_of g.leaves)
-    shallow_in = subst IsShallow (sym g.tokens) g.shallow
+    shallow_in = rw g.tokens g.shallow
 
     facts : StopFacts k (tokens_of g.leaves) leaf.token
-    facts = subst (λ (x : Token). StopFacts k (tokens_of g.leaves) x) (sym g.token)
-        (subst (λ (x : List Token). StopFacts k x t) (sym g.tokens) f)
+    facts = rw g.token (rw g.tokens f)
 
     tokens_are : tokens_of w ≡ front ++ t ∷ tokens_of z
     tokens_are = ap tokens_of e ∙ tokens_cons g.leaves leaf z ∙ ap (λ (x : List Token). x ++ leaf.token ∷ tokens_of z) g.tokens
@@ -99,8 +97,7 @@ limit_on k front t more leaf c g i f w z q e o = on o
         go (inside y p j) = absurd (no_stop k' g.leaves u l y c d p pay_in shallow_in n i' f')
         go (beyond h y p j) =
             let same : leaf ≡ h = head_is leaf h z (y ++ l ∷ x) j in
-            absurd (no_stop k u g.leaves h y d c p n (shallow_is (tokens_of u) s) pay_in (subst (λ (v : Leaf). Stops Limited k c v) same i)
-            (subst (λ (v : Leaf). StopFacts k (tokens_of g.leaves) v.token) same facts))
+            absurd (no_stop k u g.leaves h y d c p n (shallow_is (tokens_of u) s) pay_in (rw (← same) i) (rw (← same) facts))
         go (at_end p j) = same_stop front t (tokens_of z) more k
             (ap run (sym tokens_are) ∙ r ∙ stop k' l x (one_limit k k' c d leaf l (head_is leaf l z x j) i i') j)
 
@@ -118,11 +115,11 @@ module _ (front : List Token) (t : Token) (more : List Token) (c : Counts) (g : 
         → Query d (w ++ z) q → ⊥
     too_far h y rest w z d q e j m =
         let same : h ≡ t = sym (head_is t h more rest j) in
-        let b : BeginsQuery (front ++ t ∷ y) = subst BeginsQuery (e ∙ ap (λ (x : Token). front ++ x ∷ y) same) (begins_of d w z q m) in
-        none (begins_front (front ++ t ∷ []) y (subst BeginsQuery (sym (append_assoc front (t ∷ []) y)) b))
+        let b : BeginsQuery (front ++ t ∷ y) = rw (← (e ∙ ap (λ (x : Token). front ++ x ∷ y) same)) (begins_of d w z q m) in
+        none (begins_front (front ++ t ∷ []) y (rw (append_assoc front (t ∷ []) y) b))
 
     front_begins : BeginsQuery front
-    front_begins = subst BeginsQuery g.tokens (begins_of g.begins.1 g.leaves g.begins.0 g.begins.2 g.begins.3)
+    front_begins = rw (← g.tokens) (begins_of g.begins.1 g.leaves g.begins.0 g.begins.2 g.begins.3)
 
     -- nor does it stop before t
     not_before : (k : Stop) (p : List Token) (u : Token) (y : List Token) (other : List Token) → front ≡ p ++ u ∷ y
@@ -140,18 +137,17 @@ module _ (front : List Token) (t : Token) (more : List Token) (c : Counts) (g : 
         pay_in = pays_is Limited no_counts g.leaves ∙ g.within
 
         shallow_in : IsShallow (tokens_of g.leaves)
-        shallow_in = subst IsShallow (sym g.tokens) g.shallow
+        shallow_in = rw g.tokens g.shallow
 
         count : (xs ys : List Leaf) → tokens_of xs ≡ y ++ tokens_of ys → length (tokens_of ys) ≤ length (tokens_of xs)
         count xs ys h = omega (arith, ap length h, length-append y (tokens_of ys))
 
         go : Run (g.leaves ++ g.begins.0) g.begins.2 → ⊥
-        go (whole d pay n r) = done_or_stopped g.begins.2 d [] k (u ∷ (y ++ tokens_of g.begins.0)) (sym r ∙ stop)
+        go (whole d pay n r) = done_or_stopped _ _ _ _ _ (sym r ∙ stop)
         go (halts k' v l x d a n i f sh r) = at (place g.leaves g.begins.0 v l x a)
           where
             rest_is : tokens_of x ≡ y ++ tokens_of g.begins.0
-            rest_is = tail_is l.token u (tokens_of x) (y ++ tokens_of g.begins.0)
-                (same_place k' k (l.token ∷ tokens_of x) (u ∷ (y ++ tokens_of g.begins.0)) (sym r ∙ stop))
+            rest_is = tail_is l.token u (tokens_of x) (y ++ tokens_of g.begins.0) (same_place _ _ _ _ (sym r ∙ stop))
 
             at : Place g.leaves g.begins.0 v l x → ⊥
             at (inside z b j) = no_stop k' g.leaves v l z c d b pay_in shallow_in n i f
@@ -168,36 +164,32 @@ module _ (front : List Token) (t : Token) (more : List Token) (c : Counts) (g : 
     unexpected_at (Done q d []) e =
         let f = found_of (front ++ t ∷ more) q d [] e in
         absurd (too_far t more more f.front [] (depth 0) q (sym (f.split ∙ append-nil (tokens_of f.front))) refl
-        (subst (λ (w : List Leaf). Query (depth 0) w q) (sym (append-nil f.front)) f.means))
+        (rw (append-nil f.front) f.means))
     unexpected_at (Done q d (u ∷ r)) e = go (found_of (front ++ t ∷ more) q d (u ∷ r) e)
       where
-        go : Found Limited (Query (depth 0)) (query Limited 63 62) no_counts (front ++ t ∷ more) q d (u ∷ r)
-            → ◌≡◌ {A = Outcome Value} (Stopped Unexpected (u ∷ r)) (Stopped Unexpected (t ∷ more))
+        go : IsFound (front ++ t ∷ more) q d (u ∷ r) → ◌≡◌ {A = Outcome Value} (Stopped Unexpected (u ∷ r)) (Stopped Unexpected (t ∷ more))
         go f = at (place front (t ∷ more) (tokens_of f.front) u r f.split)
           where
             at : Place front (t ∷ more) (tokens_of f.front) u r → ◌≡◌ {A = Outcome Value} (Stopped Unexpected (u ∷ r))
                 (Stopped Unexpected (t ∷ more))
             at (inside y p j) = absurd (no_more (tokens_of f.front) u q d (λ x. f.again (u ∷ x) (x, refl))
-                (begins_front (tokens_of f.front ++ u ∷ []) y (subst BeginsQuery (p ∙ sym (append_assoc (tokens_of f.front) (u ∷ []) y))
+                (begins_front (tokens_of f.front ++ u ∷ []) y (rw (← (p ∙ sym (append_assoc (tokens_of f.front) (u ∷ []) y)))
                 front_begins)))
             at (at_end p j) = ap (λ (x : List Token). Stopped Unexpected x) (sym j)
-            at (beyond h y p j) = absurd (too_far h y (y ++ u ∷ r) f.front [] (depth 0) q p j
-                (subst (λ (w : List Leaf). Query (depth 0) w q) (sym (append-nil f.front)) f.means))
+            at (beyond h y p j) = absurd (too_far h y (y ++ u ∷ r) f.front [] (depth 0) q p j (rw (append-nil f.front) f.means))
     unexpected_at (Stopped k []) e =
         let h = halted_of (front ++ t ∷ more) k [] e in
         absurd (too_far t more more h.front h.more (depth 0) h.value (sym (h.split ∙ append-nil (tokens_of h.front))) refl h.begins)
     unexpected_at (Stopped k (u ∷ r)) e = go (halted_of (front ++ t ∷ more) k (u ∷ r) e)
       where
-        go : Halted Limited (Query (depth 0)) (query Limited 63 62) no_counts (front ++ t ∷ more) k (u ∷ r)
-            → ◌≡◌ {A = Outcome Value} (Stopped k (u ∷ r)) (Stopped Unexpected (t ∷ more))
+        go : IsHalted (front ++ t ∷ more) k (u ∷ r) → ◌≡◌ {A = Outcome Value} (Stopped k (u ∷ r)) (Stopped Unexpected (t ∷ more))
         go h = at (place front (t ∷ more) (tokens_of h.front) u r h.split)
           where
             first : (k' : Stop) → StopsFirst Limited k' h.counts h.more (u ∷ r) → front ≡ tokens_of h.front → t ∷ more ≡ u ∷ r → ⊥
             first k' s p j = too_far u (tokens_of s.1) r (h.front ++ s.0 ∷ s.1) [] (depth 0) h.value
                 (tokens_cons h.front s.0 s.1 ∙ ap (λ (x : List Token). x ++ s.0.token ∷ tokens_of s.1) (sym p)
                 ∙ ap (λ (x : Token). front ++ x ∷ tokens_of s.1) (sym (head_is u s.0.token r s.2 s.4))) j
-                (subst (λ (w : List Leaf). Query (depth 0) w h.value) (ap (λ (x : List Leaf). h.front ++ x) s.3
-                ∙ sym (append-nil (h.front ++ s.0 ∷ s.1))) h.begins)
+                (rw (← (ap (λ (x : List Leaf). h.front ++ x) s.3 ∙ sym (append-nil (h.front ++ s.0 ∷ s.1)))) h.begins)
 
             kind_of : (k' : Stop) → Cause Limited k' h.counts h.more (u ∷ r) → front ≡ tokens_of h.front → t ∷ more ≡ u ∷ r
                 → ◌≡◌ {A = Outcome Value} (Stopped k' (u ∷ r)) (Stopped Unexpected (t ∷ more))
