@@ -1,14 +1,11 @@
 -- One parser or the other, at most one, and one that stops at a bracket.
-use Rattle.std.proofs.Common.{◌≡◌, Bool, true, false, cond, List, [], ◌∷◌, ◌++◌, Option, Some, None, refl, ap, ◌∙◌, inl, inr}
-use Rattle.std.proofs.Common.{◌⊎◌}
-use Rattle.query_lang.specs.declared.fault.Span.{Span}
-use Rattle.query_lang.specs.declared.token.Token.{Token}
+use Rattle.std.proofs.Common.{◌≡◌, Bool, true, false, cond, List, [], ◌∷◌, ◌++◌, Option, Some, None, refl, ap, ◌∙◌, inl, inr, ◌⊎◌}
+use Rattle.query_lang.specs.declared.{fault.Span.Span, token.Token.Token}
 use Rattle.query_grammar.specs.Language.{Language, Plain, Leaf, tokens_of, Word, Then, AtMostOnce, Either, Meaning}
-use Rattle.query_grammar.specs.declared.stop.Counts.{Counts}
-use Rattle.query_grammar.specs.declared.stop.Stop.TheVariants.{Unexpected, Nesting}
+use Rattle.query_grammar.specs.declared.stop.{Counts.Counts, Stop.TheVariants.Unexpected, Stop.TheVariants.Nesting}
 use Rattle.query_grammar.specs.Parser.{Limits, Limited, Outcome, Done, Stopped, Parser, and_then, next_is, at_most_once, either}
-use Rattle.query_grammar.proofs.Parses.{SameNext, Meets, Reads, Begins, Parses, next_of, same_next, starts_of, next_starts, next_clear}
-use Rattle.query_grammar.proofs.Parses.{fewer, wider, is_some_of, reads, passes, nothing, something}
+use Rattle.query_grammar.proofs.Parses.{meets_as, SameNext, Meets, Reads, Begins, Parses, next_of, same_next, starts_of, next_starts}
+use Rattle.query_grammar.proofs.Parses.{next_clear, fewer, wider, is_some_of, reads, passes, nothing, something}
 
 -- ---- one or the other
 
@@ -27,49 +24,11 @@ module _ {A : Type 0} (m : Limits) (L M : Language A) (p q : Parser A) (test : T
           → next_is test (tokens_of w ++ x) ≡ next_is test ts
       same w rest x e s = same_next test ts (tokens_of w ++ x) (next_of w rest x ts e s)
 
-      left : next_is test ts ≡ true → (o : Outcome A) → Meets m L p c ts o → Meets m (Either L M) (either test p q) c ts o
-      left e (Done a d rest) h = record {
-        front = h.front;
-        split = h.split;
-        means = inl h.means;
-        pays = h.pays;
-        again = λ x s. either_true (tokens_of h.front ++ x) c (same h.front rest x h.split s ∙ e) ∙ h.again x s;
-      }
-      left e (Stopped k rest) h = record {
-        front = h.front;
-        split = h.split;
-        counts = h.counts;
-        pays = h.pays;
-        more = h.more;
-        value = h.value;
-        begins = inl h.begins;
-        cause = h.cause;
-        again = λ x s. either_true (tokens_of h.front ++ x) c (same h.front rest x h.split s ∙ e) ∙ h.again x s;
-      }
-
-      right : next_is test ts ≡ false → (o : Outcome A) → Meets m M q c ts o → Meets m (Either L M) (either test p q) c ts o
-      right e (Done a d rest) h = record {
-        front = h.front;
-        split = h.split;
-        means = inr h.means;
-        pays = h.pays;
-        again = λ x s. either_false (tokens_of h.front ++ x) c (same h.front rest x h.split s ∙ e) ∙ h.again x s;
-      }
-      right e (Stopped k rest) h = record {
-        front = h.front;
-        split = h.split;
-        counts = h.counts;
-        pays = h.pays;
-        more = h.more;
-        value = h.value;
-        begins = inr h.begins;
-        cause = h.cause;
-        again = λ x s. either_false (tokens_of h.front ++ x) c (same h.front rest x h.split s ∙ e) ∙ h.again x s;
-      }
-
       go : (b : Bool) → next_is test ts ≡ b → Meets m (Either L M) (either test p q) c ts (cond b (p c ts) (q c ts))
-      go true e = left e (p c ts) (pm c ts)
-      go false e = right e (q c ts) (qm c ts)
+      go true e = meets_as m p (either test p q) (λ w v h. inl h) (λ w rest x k s. either_true (tokens_of w ++ x) c (same w rest x k s ∙ e))
+          (p c ts) (pm c ts)
+      go false e = meets_as m q (either test p q) (λ w v h. inr h) (λ w rest x k s. either_false (tokens_of w ++ x) c
+          (same w rest x k s ∙ e)) (q c ts) (qm c ts)
 
   reads_left : (c : Counts) (w : List Leaf) (a : A) (rest : List Token) → next_is test (tokens_of w ++ rest) ≡ true → Reads m p c w a rest
       → Reads m (either test p q) c w a rest

@@ -1,27 +1,17 @@
 -- How a text is cut: into blanks, names, which are whole words, and other tokens, with the end as the last one.
-use Rattle.std.proofs.Common.{◌≡◌, ℕ, zero, suc, ◌+◌, ◌<◌, ◌≤◌, Bool, true, false, cond, List, [], ◌∷◌, length, take, drop, Option}
-use Rattle.std.proofs.Common.{Some, None, Ok, Err, refl, ap, subst}
-use Rattle.std.specs.Prelude.{nat_eq, codes}
-use Rattle.std.specs.List.{prefix_len}
-use Rattle.std.specs.Str.{bytes_eq}
-use Rattle.std.specs.Str.Parse.{digits_value}
+use Rattle.std.proofs.Common.{◌≡◌, ℕ, zero, suc, ◌+◌, ◌<◌, ◌≤◌, Bool, true, false, cond, List, [], ◌∷◌, length, take, drop, Option, Some}
+use Rattle.std.proofs.Common.{None, Ok, Err, refl, ap, subst}
+use Rattle.std.specs.{Prelude.nat_eq, Prelude.codes, List.prefix_len, Str.bytes_eq, Str.Parse.digits_value}
 use Rattle.std.proofs.lemmas.List.Folds.{length-prefix_len}
-use Rattle.query_lang.proofs.Pieces.{takes_some}
-use Rattle.query_lang.specs.declared.fault.Span.{Span}
-use Rattle.query_lang.specs.declared.query.Name.{Name}
-use Rattle.query_lang.specs.declared.token.Mark.{Mark}
-use Rattle.query_lang.specs.declared.token.Piece.{Piece}
-use Rattle.query_lang.specs.declared.token.Piece.TheVariants as pieces
-use Rattle.query_lang.specs.declared.token.Token.{Token}
-use Rattle.query_lang.specs.declared.token.TokenKind.{TokenKind}
-use Rattle.query_lang.specs.declared.token.TokenKind.TheVariants as kinds
-use Rattle.query_lang.specs.declared.token.Word.{Word}
+use Rattle.query_lang.{proofs.Pieces.takes_some, specs.Names.number_in, specs.Names.with_name}
+use Rattle.query_lang.specs.declared.{fault.Span.Span, query.Name.Name, token.Mark.Mark, token.Piece.Piece, token.Token.Token}
+use Rattle.query_lang.specs.declared.{token.TokenKind.TokenKind, token.Word.Word}
 use Rattle.query_lang.specs.Lexis.{Cut, TakesSome, below_limit, cut, cut_piece, is_blank, is_digit, is_word_byte, mark_at, name_piece}
 use Rattle.query_lang.specs.Lexis.{number_piece, one_mark, piece, piece_of_mark, reserved, token_at, tokens_of, two_mark, with_front}
 use Rattle.query_lang.specs.Lexis.{word_piece}
-use Rattle.query_lang.specs.Names.{number_in, with_name}
-use Rattle.query_grammar.specs.Fault.{HasEnd}
-use Rattle.query_grammar.specs.Kinds.{name_of}
+use Rattle.query_grammar.specs.{Fault.HasEnd, Kinds.name_of}
+use Rattle.query_lang.specs.declared.token.Piece.TheVariants as pieces
+use Rattle.query_lang.specs.declared.token.TokenKind.TheVariants as kinds
 
 -- 1 where a word begins, and else 0
 abbrev pub word_begins : List ℕ → ℕ

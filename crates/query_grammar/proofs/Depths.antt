@@ -1,11 +1,7 @@
 -- More brackets derive no less.
 use Rattle.std.proofs.Common.{subst, ◌≡◌, ℕ, zero, suc, ◌≤◌, ◌<◌, List, [], ◌∷◌, Option, Some, None, arith, inl, inr, ◌⊎◌}
 use Rattle.std.proofs.lemmas.Bool.{cases_lt}
-use Rattle.query_lang.specs.declared.query.Expr.{Expr}
-use Rattle.query_lang.specs.declared.query.Stmt.{Stmt}
-use Rattle.query_lang.specs.declared.token.Word.TheVariants as words
-use Rattle.query_lang.specs.declared.token.Mark.TheVariants as marks
-use Rattle.query_lang.specs.declared.token.TokenKind.{TokenKind}
+use Rattle.query_lang.specs.declared.{query.Expr.Expr, query.Stmt.Stmt, token.TokenKind.TokenKind}
 use Rattle.query_grammar.specs.Language.{Leaf, Language, Then, Repeated, AtMostOnce, Either, Meaning, Chain, Chained}
 use Rattle.query_grammar.specs.Kinds.{sign, keyword}
 use Rattle.query_grammar.specs.Grammar.{list_of, listed, Token_of, Plain_name, After, Before, Between, Parens, Brackets, Separated, Listed}
@@ -13,6 +9,8 @@ use Rattle.query_grammar.specs.Grammar.{Operators, either_ops, both_ops, or_ops,
 use Rattle.query_grammar.specs.Grammar.{Atom, Unary, Product, Sum, Shift, BitAnd, BitXor, BitOr, Comparison, Conjunction, Disjunction}
 use Rattle.query_grammar.specs.Grammar.{Expression, Assignment, Emission, Block, IfPart, ElsePart, IfStatement, Statement_at, Fold, Filter}
 use Rattle.query_grammar.specs.Grammar.{ColumnOf, Mapping, Stream, Final, Print, Query}
+use Rattle.query_lang.specs.declared.token.Word.TheVariants as words
+use Rattle.query_lang.specs.declared.token.Mark.TheVariants as marks
 
 -- each word of the first language is one of the second, with the same meaning
 pub record Within {A : Type 0} (L M : Language A) : Type 0 where

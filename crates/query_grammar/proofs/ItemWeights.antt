@@ -1,34 +1,24 @@
 -- The items of an accepted query keep the limits on nodes and statements.
 use Rattle.std.proofs.Common.{◌≡◌, ℕ, zero, suc, ◌+◌, ◌<◌, ◌≤◌, Bool, true, false, cond, ltb, List, [], ◌∷◌, ◌++◌, Option, Some, None, refl}
 use Rattle.std.proofs.Common.{sym, ap, ◌∙◌, arith, inl, inr, ◌⊎◌}
-use Rattle.std.specs.Prelude.{All}
-use Rattle.std.specs.Option.{option_and_then}
-use Rattle.std.proofs.lemmas.Bool.{ltb-true}
-use Rattle.query_lang.specs.declared.fault.Span.{Span}
-use Rattle.query_lang.specs.declared.query.Column.{Column}
-use Rattle.query_lang.specs.declared.query.Expr.{Expr}
-use Rattle.query_lang.specs.declared.query.Item.{Item}
-use Rattle.query_lang.specs.declared.query.Item.TheVariants as items
-use Rattle.query_lang.specs.declared.token.Mark.TheVariants as marks
-use Rattle.query_lang.specs.declared.token.Word.TheVariants as words
-use Rattle.query_lang.specs.declared.token.TokenKind.{TokenKind}
-use Rattle.query_lang.specs.declared.token.Token.{Token}
+use Rattle.std.{specs.Prelude.All, specs.Option.option_and_then, proofs.lemmas.Bool.ltb-true}
+use Rattle.query_lang.specs.declared.{fault.Span.Span, query.Column.Column, query.Expr.Expr, query.Item.Item, token.TokenKind.TokenKind}
+use Rattle.query_lang.specs.declared.{token.Token.Token, fault.TheConstants.MAX_NODES, fault.TheConstants.MAX_STATEMENTS}
 use Rattle.query_lang.specs.TypedFolds.{expr_nodes, stmt_nodes, stmt_count}
 use Rattle.query_lang.specs.Limits.{columns_nodes, stream_nodes, final_nodes, KeepsLimits}
-use Rattle.query_lang.specs.declared.fault.TheConstants.{MAX_NODES, MAX_STATEMENTS}
-use Rattle.query_grammar.specs.declared.stop.Counts.{Counts}
-use Rattle.query_grammar.specs.Kinds.{sign, keyword}
+use Rattle.query_grammar.specs.{declared.stop.Counts.Counts, Kinds.sign, Kinds.keyword, Fault.IsAccepted}
 use Rattle.query_grammar.specs.Language.{Role, Plain, Node, Statement, Opening, Leaf, Language, Word, Then, Repeated, Either, Meaning}
 use Rattle.query_grammar.specs.Parser.{Limited, charge, no_counts}
 use Rattle.query_grammar.specs.Grammar.{Plain_name, After, Brackets, Separated, Listed, StateVariable, Parameters, Fold, Filter, ColumnOf}
 use Rattle.query_grammar.specs.Grammar.{Mapping, Pairing, KeyOf, Group, Best, Streaming, Stream, Finishing, Final, Print, ItemOf}
-use Rattle.query_grammar.specs.Fault.{IsAccepted}
-use Rattle.query_grammar.proofs.Parses.{pays, pays-append}
-use Rattle.query_grammar.proofs.Runs.{Value, pays_is}
-use Rattle.query_grammar.proofs.Weighing.{weigh_as, same_weight, total, sum_total, is_node, is_statement, is_opening, leaves_by, Weight, Weighs, none, weigh_plain}
-use Rattle.query_grammar.proofs.Weighing.{weigh_then, weigh_either, weigh_once, weigh_same, weigh_after, weigh_before}
-use Rattle.query_grammar.proofs.Weighing.{weigh_between, weigh_separated, weigh_listed, if_some}
+use Rattle.query_grammar.proofs.{Parses.pays, Parses.pays-append, Runs.Value, Runs.pays_is}
+use Rattle.query_grammar.proofs.Weighing.{weigh_as, same_weight, total, sum_total, is_node, is_statement, is_opening, leaves_by, Weight}
+use Rattle.query_grammar.proofs.Weighing.{Weighs, none, weigh_plain, weigh_then, weigh_either, weigh_once, weigh_same, weigh_after}
+use Rattle.query_grammar.proofs.Weighing.{weigh_before, weigh_between, weigh_separated, weigh_listed, if_some}
 use Rattle.query_grammar.proofs.Weights.{weigh_parens, weigh_block, weigh_expr, weigh_stmt, nothing_in}
+use Rattle.query_lang.specs.declared.query.Item.TheVariants as items
+use Rattle.query_lang.specs.declared.token.Mark.TheVariants as marks
+use Rattle.query_lang.specs.declared.token.Word.TheVariants as words
 
 -- ---- what a limit leaves
 
@@ -37,25 +27,16 @@ abbrev Bounded : List Leaf → Counts → Counts → Type 0
 Bounded w c e = leaves_by is_opening w ≡ 0 → pays Limited c w ≡ Some e → c.nodes ≤ MAX_NODES → c.statements ≤ MAX_STATEMENTS
     → (c.nodes + leaves_by is_node w ≤ MAX_NODES) × (c.statements + leaves_by is_statement w ≤ MAX_STATEMENTS)
 
-node_more : (w : List Leaf) (c e : Counts) → ((m : Counts) → Bounded w m e) → c.statements ≤ MAX_STATEMENTS → (b : Bool)
-    → ltb c.nodes MAX_NODES ≡ b → leaves_by is_opening w ≡ 0
-    → option_and_then (λ d. pays Limited d w) (cond {A = Option Counts} b (Some (record { nodes = c.nodes + 1; statements = c.statements }))
-    None) ≡ Some e → (c.nodes + (1 + leaves_by is_node w) ≤ MAX_NODES) × (c.statements + (0 + leaves_by is_statement w) ≤ MAX_STATEMENTS)
-node_more w c e ih s true t i k =
-    let small : c.nodes < MAX_NODES = ltb-true c.nodes MAX_NODES t in
-    let r = ih (record { nodes = c.nodes + 1; statements = c.statements }) i k (omega (arith, small)) s in
-    (omega (arith, r.0), omega (arith, r.1))
-node_more w c e ih s false t i k = absurd cc
-
-statement_more : (w : List Leaf) (c e : Counts) → ((m : Counts) → Bounded w m e) → c.nodes ≤ MAX_NODES → (b : Bool)
-    → ltb c.statements MAX_STATEMENTS ≡ b → leaves_by is_opening w ≡ 0
-    → option_and_then (λ d. pays Limited d w) (cond {A = Option Counts} b (Some (record { nodes = c.nodes; statements = c.statements + 1 }))
-    None) ≡ Some e → (c.nodes + (0 + leaves_by is_node w) ≤ MAX_NODES) × (c.statements + (1 + leaves_by is_statement w) ≤ MAX_STATEMENTS)
-statement_more w c e ih n true t i k =
-    let small : c.statements < MAX_STATEMENTS = ltb-true c.statements MAX_STATEMENTS t in
-    let r = ih (record { nodes = c.nodes; statements = c.statements + 1 }) i k n (omega (arith, small)) in
-    (omega (arith, r.0), omega (arith, r.1))
-statement_more w c e ih n false t i k = absurd cc
+-- a count that is raised was below its limit
+raised : (count limit : ℕ) (w : List Leaf) (d e : Counts)
+    → option_and_then (λ m. pays Limited m w) (cond {A = Option Counts} (ltb count limit) (Some d) None) ≡ Some e
+    → (count < limit) × (pays Limited d w ≡ Some e)
+raised count limit w d e k = go (ltb count limit) refl k
+  where
+    go : (b : Bool) → ltb count limit ≡ b → option_and_then (λ m. pays Limited m w) (cond {A = Option Counts} b (Some d) None) ≡ Some e
+        → (count < limit) × (pays Limited d w ≡ Some e)
+    go true t k = (ltb-true count limit t, k)
+    go false t k = absurd cc
 
 one_more : (w : List Leaf) (c e : Counts) → ((m : Counts) → Bounded w m e) → c.nodes ≤ MAX_NODES → c.statements ≤ MAX_STATEMENTS
     → (r : Role) → is_opening r + leaves_by is_opening w ≡ 0
@@ -63,8 +44,16 @@ one_more : (w : List Leaf) (c e : Counts) → ((m : Counts) → Bounded w m e) �
     × (c.statements + (is_statement r + leaves_by is_statement w) ≤ MAX_STATEMENTS)
 one_more w c e ih n s Plain i k = let r = ih c (omega (arith, i)) k n s in (omega (arith, r.0), omega (arith, r.1))
 one_more w c e ih n s Opening i k = absurd (omega (arith, i))
-one_more w c e ih n s Node i k = node_more w c e ih s (ltb c.nodes MAX_NODES) refl (omega (arith, i)) k
-one_more w c e ih n s Statement i k = statement_more w c e ih n (ltb c.statements MAX_STATEMENTS) refl (omega (arith, i)) k
+one_more w c e ih n s Node i k =
+    let d : Counts = record { nodes = c.nodes + 1; statements = c.statements } in
+    let p = raised c.nodes MAX_NODES w d e k in
+    let r = ih d (omega (arith, i)) p.1 (omega (arith, p.0)) s in
+    (omega (arith, r.0), omega (arith, r.1))
+one_more w c e ih n s Statement i k =
+    let d : Counts = record { nodes = c.nodes; statements = c.statements + 1 } in
+    let p = raised c.statements MAX_STATEMENTS w d e k in
+    let r = ih d (omega (arith, i)) p.1 n (omega (arith, p.0)) in
+    (omega (arith, r.0), omega (arith, r.1))
 
 bound : (w : List Leaf) (c e : Counts) → Bounded w c e
 bound [] c e inner h n s = (omega arith, omega arith)

@@ -1,29 +1,24 @@
 -- The brackets of each line of the grammar.
 use Rattle.std.proofs.Common.{◌≡◌, ℕ, zero, suc, true, List, [], ◌∷◌, ◌++◌, refl, arith}
-use Rattle.query_lang.specs.declared.fault.Span.{Span}
-use Rattle.query_lang.specs.declared.query.Expr.{Expr}
-use Rattle.query_lang.specs.declared.query.Stmt.{Stmt}
-use Rattle.query_lang.specs.declared.token.Word.TheVariants as words
-use Rattle.query_lang.specs.declared.token.Mark.TheVariants as marks
-use Rattle.query_lang.specs.declared.token.TokenKind.{TokenKind}
-use Rattle.query_lang.specs.declared.token.TokenKind.TheVariants as kinds
+use Rattle.query_lang.specs.declared.{fault.Span.Span, query.Expr.Expr, query.Stmt.Stmt, token.TokenKind.TokenKind}
 use Rattle.query_grammar.specs.Language.{Language, Then, Repeated, Either}
-use Rattle.query_grammar.specs.Parser.{Limited, Parser}
+use Rattle.query_grammar.{specs.Parser.Limited, specs.Parser.Parser, proofs.Lines.disjoint}
 use Rattle.query_grammar.specs.Kinds.{among, kind_number, kinds_of, sign, keyword}
 use Rattle.query_grammar.specs.Grammar.{Token_of, After, Before, Between, Parens, Brackets, Separated, Listed, Operators, either_ops}
 use Rattle.query_grammar.specs.Grammar.{both_ops, comparing_ops, or_ops, xor_ops, and_ops, shift_ops, sum_ops, product_ops, functions}
-use Rattle.query_grammar.specs.Grammar.{Level, Primary}
-use Rattle.query_grammar.specs.Grammar.{Disjunction, Expression, Assignment, Emission, Block, IfPart, IfStatement, Statement_at}
-use Rattle.query_grammar.specs.Grammar.{StateVariable, Parameters, Fold, Filter, Mapping, Pairing, Group, Best, Stream, Final, Print}
+use Rattle.query_grammar.specs.Grammar.{Level, Primary, Disjunction, Expression, Assignment, Emission, Block, IfPart, IfStatement}
+use Rattle.query_grammar.specs.Grammar.{Statement_at, StateVariable, Parameters, Fold, Filter, Mapping, Pairing, Group, Best, Stream, Final}
+use Rattle.query_grammar.specs.Grammar.{Print}
 use Rattle.query_grammar.specs.Reading.{after, before, between, parens, brackets, separated, listed_by, atom_starts, expr_starts, level}
-use Rattle.query_grammar.specs.Reading.{primary, unary, disjunction}
-use Rattle.query_grammar.specs.Reading.{expr_at, assignment, emission, empty_parens, stmt_starts, block, if_part, if_statement, statement}
-use Rattle.query_grammar.specs.Reading.{stmt_at, state_variable, parameters, fold_def, filter_of, mapping, pairing, group, best, stream}
-use Rattle.query_grammar.specs.Reading.{final, print, item, item_starts, query}
+use Rattle.query_grammar.specs.Reading.{primary, unary, disjunction, expr_at, assignment, emission, empty_parens, stmt_starts, block}
+use Rattle.query_grammar.specs.Reading.{if_part, if_statement, statement, stmt_at, state_variable, parameters, fold_def, filter_of, mapping}
+use Rattle.query_grammar.specs.Reading.{pairing, group, best, stream, final, print, item, item_starts, query}
 use Rattle.query_grammar.specs.Fault.{opening, closing, opens, closes}
-use Rattle.query_grammar.proofs.Lines.{disjoint}
 use Rattle.query_grammar.proofs.Nests.{Nests, nests_then, nests_both, nests_level, nests_mapped, nests_either, nests_once, nests_repeated}
 use Rattle.query_grammar.proofs.Nests.{nests_chained, nests_is, nests_keyword, nests_operator, nests_name, nests_number, nests_blocked}
+use Rattle.query_lang.specs.declared.token.Word.TheVariants as words
+use Rattle.query_lang.specs.declared.token.Mark.TheVariants as marks
+use Rattle.query_lang.specs.declared.token.TokenKind.TheVariants as kinds
 
 nests_after : {A : Type 0} {L : Language A} {p : Parser A} {e : ℕ} → (k : TokenKind)
     → disjoint (kind_number k ∷ []) (opening ++ closing) ≡ true → Nests L p 0 0 e → Nests (After k L) (after Limited k p) 0 0 e
@@ -67,7 +62,8 @@ nests_disjunction : {P : Language Expr} {p : Parser Expr} {e : ℕ} → Nests P 
 nests_disjunction f =
     let unary = nests_mapped (nests_both (nests_repeated (among (51 ∷ [])) (nests_keyword (sign marks.Bang) refl)) f) in
     let sums = nests_of_level sum_ops refl (nests_of_level product_ops refl unary) in
-    let bits = nests_of_level or_ops refl (nests_of_level xor_ops refl (nests_of_level and_ops refl (nests_of_level shift_ops refl sums))) in
+    let bits = nests_of_level or_ops refl (nests_of_level xor_ops refl
+    (nests_of_level and_ops refl (nests_of_level shift_ops refl sums))) in
     let other = nests_once (among (kinds_of comparing_ops)) (nests_both (nests_operator comparing_ops refl) bits) in
     nests_of_level either_ops refl (nests_of_level both_ops refl (nests_mapped (nests_both bits other)))
 
@@ -107,7 +103,8 @@ nests_emission {p} {e} f = nests_mapped (nests_both (nests_keyword (keyword word
 
 nests_empty : (e : ℕ) → Nests Closing (empty_parens Limited) 0 0 (suc e)
 nests_empty e = nests_level 0 0 refl (nests_mapped (nests_then (nests_is {e = suc e} (sign marks.OpenParen) (omega arith))
-    (nests_then (nests_is {e = e} (sign marks.CloseParen) (omega arith)) (nests_keyword {e = suc e} (sign marks.Semicolon) refl) (omega arith)) (omega arith)))
+    (nests_then (nests_is {e = e} (sign marks.CloseParen) (omega arith)) (nests_keyword {e = suc e} (sign marks.Semicolon) refl)
+    (omega arith)) (omega arith)))
 
 nests_statement : {v p : Parser Expr} {q : Parser (List Stmt)} {r : Parser (Span × Span)} {e : ℕ}
     → (V E : Language Expr) (S : Language Stmt) → Nests V v 0 0 e → Nests (Parens E) p 0 0 e → Nests (Block S) q 0 0 e

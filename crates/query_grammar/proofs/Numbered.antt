@@ -1,37 +1,24 @@
 -- The names of a query that is read from a text have numbers below the count of its names, and its groupbys have keys.
-use Rattle.std.proofs.Common.{◌≡◌, ℕ, ◌+◌, ◌<◌, ◌≤◌, Bool, true, false, cond, List, [], ◌∷◌, ◌++◌, length, take, Option}
-use Rattle.std.proofs.Common.{Some, None, ap, subst, arith, inl, inr, ◌⊎◌}
-use Rattle.std.specs.Prelude.{All}
-use Rattle.std.specs.List.{list_any}
-use Rattle.std.specs.Str.{bytes_eq}
-use Rattle.std.proofs.lemmas.List.{length-append}
+use Rattle.std.proofs.Common.{◌≡◌, ℕ, ◌+◌, ◌<◌, ◌≤◌, Bool, true, false, cond, List, [], ◌∷◌, ◌++◌, length, take, Option, Some, None, ap}
+use Rattle.std.proofs.Common.{subst, arith, inl, inr, ◌⊎◌}
+use Rattle.std.{specs.Prelude.All, specs.List.list_any, specs.Str.bytes_eq, proofs.lemmas.List.length-append}
 use Rattle.std.proofs.lemmas.Option.{slice_get_within, same_Some}
-use Rattle.query_lang.proofs.NameFacts.{has_number}
-use Rattle.query_lang.specs.declared.query.Column.{Column}
-use Rattle.query_lang.specs.declared.query.Expr.{Expr}
-use Rattle.query_lang.specs.declared.query.Name.{Name}
-use Rattle.query_lang.specs.declared.query.Query.{Query}
-use Rattle.query_lang.specs.declared.query.StateVar.{StateVar}
-use Rattle.query_lang.specs.declared.token.Mark.TheVariants as marks
-use Rattle.query_lang.specs.declared.token.Token.{Token}
-use Rattle.query_lang.specs.declared.token.TokenKind.{TokenKind}
-use Rattle.query_lang.specs.declared.token.TokenKind.TheVariants as kinds
-use Rattle.query_lang.specs.declared.token.Word.{Word}
-use Rattle.query_lang.specs.declared.token.Word.TheVariants as words
-use Rattle.query_lang.specs.Lexis.{cut}
-use Rattle.query_lang.specs.Lexis.{token_at}
+use Rattle.query_lang.{proofs.NameFacts.has_number, specs.Lexis.cut, specs.Lexis.token_at, specs.Names.number_in, specs.Names.with_name}
+use Rattle.query_lang.specs.declared.{query.Column.Column, query.Expr.Expr, query.Name.Name, query.Query.Query, query.StateVar.StateVar}
+use Rattle.query_lang.specs.declared.{token.Token.Token, token.TokenKind.TokenKind, token.Word.Word}
 use Rattle.query_lang.specs.Limits.{AreNumbered, HasFinalKeys, HasKeys, HasStreamKeys, IsNumbered, IsNumberedFinal, IsNumberedStream}
 use Rattle.query_lang.specs.Limits.{IsReadable}
-use Rattle.query_lang.specs.Names.{number_in, with_name}
 use Rattle.query_grammar.specs.Grammar.{After, Before, Between, Expression, Final, Fold, Group, ItemOf, KeyOf, Listed, Mapping, Parameters}
 use Rattle.query_grammar.specs.Grammar.{Query as Whole, Separated, Stream, listed}
 use Rattle.query_grammar.specs.Kinds.{keyword, name, sign}
-use Rattle.query_grammar.specs.Language as language
 use Rattle.query_grammar.specs.Language.{AtMostOnce, Either, Language, Leaf, Meaning, Repeated, Role, Then}
-use Rattle.query_grammar.specs.Texts.{IsQueryOf}
+use Rattle.query_grammar.{specs.Texts.IsQueryOf, proofs.FewNames.few_names}
 use Rattle.query_grammar.proofs.CutTexts.{IsCut, ends, skips, named, other, text_is_cut}
-use Rattle.query_grammar.proofs.FewNames.{few_names}
 use Rattle.query_grammar.proofs.ItemWeights.{accepted_keeps, all_cons, all_none}
+use Rattle.query_lang.specs.declared.token.Mark.TheVariants as marks
+use Rattle.query_lang.specs.declared.token.TokenKind.TheVariants as kinds
+use Rattle.query_lang.specs.declared.token.Word.TheVariants as words
+use Rattle.query_grammar.specs.Language as language
 
 -- ---- the tokens of a text
 
@@ -171,16 +158,19 @@ second_names Q p = record { is = λ w v h b. (p.is w v h b).1 }
 
 mapping_names : (E : Language Expr) (most : ℕ) → Names most (Mapping E) (λ v. AreNumbered most v.1)
 mapping_names E most = after_names (keyword words.Map) (between_names (sign marks.OpenParen) (sign marks.CloseParen)
-    (second_names (All (column_below most)) (then_names any_names (after_names (sign marks.Comma) (between_names (sign marks.OpenBracket) (sign marks.CloseBracket)
+    (second_names (All (column_below most)) (then_names any_names (after_names (sign marks.Comma)
+    (between_names (sign marks.OpenBracket) (sign marks.CloseBracket)
     (separated_names {P = column_below most} (meaning_names (then_names word_names any_names) (λ a h. h.0))))))))
 
 stream_names : (E : Language Expr) (most : ℕ) → Names most (Stream E E) (IsNumbered most)
-stream_names E most = meaning_names (then_names word_names (between_names {P = IsNumberedStream most} (sign marks.Assign) (sign marks.Semicolon)
+stream_names E most = meaning_names (then_names word_names (between_names {P = IsNumberedStream most} (sign marks.Assign)
+    (sign marks.Semicolon)
     (either_names (unnamed (λ a. tt)) (either_names (meaning_names (mapping_names E most) (λ a h. h)) (either_names (unnamed (λ a. tt))
     (unnamed (λ a. tt))))))) (λ a h. h)
 
 final_names : (E : Language Expr) (most : ℕ) → Names most (Final E E) (IsNumbered most)
-final_names E most = meaning_names (then_names any_names (then_names word_names (between_names {P = IsNumberedFinal most} (sign marks.Assign) (sign marks.Semicolon)
+final_names E most = meaning_names (then_names any_names (then_names word_names
+    (between_names {P = IsNumberedFinal most} (sign marks.Assign) (sign marks.Semicolon)
     (either_names (unnamed (λ a. tt)) (either_names (meaning_names (mapping_names E most) (λ a h. h)) (either_names (unnamed (λ a. tt))
     (either_names (unnamed (λ a. tt)) (unnamed (λ a. tt))))))))) (λ a h. h.1)
 
@@ -190,7 +180,8 @@ item_names most d = either_names (fold_names most d) (either_names (stream_names
 
 query_names : (most d : ℕ) → Names most (Whole d) (λ q. All (IsNumbered most) q.0)
 query_names most d = record {
-  is = λ w q h b. let r = below_both most h.0 h.1 (subst (LeavesBelow most) h.2 b) in (repeated_names (item_names most d)).is h.0 q.0 h.3 r.0;
+  is = λ w q h b. let r = below_both most h.0 h.1 (subst (LeavesBelow most) h.2 b) in (repeated_names (item_names most d)).is h.0 q.0 h.3
+      r.0;
 }
 
 -- ---- the keys of groupbys
@@ -208,7 +199,8 @@ first_names P p = record { is = λ w v h b. (p.is w v h b).0 }
 group_keys : {most : ℕ} → Names most Group (λ v. SomeOf v.1.0)
 group_keys = after_names (keyword words.Groupby) (between_names (sign marks.OpenParen) (sign marks.CloseParen)
     (second_names (λ v. SomeOf v.0) (then_names any_names (after_names (sign marks.Comma)
-    (first_names SomeOf (then_names (between_names (sign marks.OpenBracket) (sign marks.CloseBracket) (separated_some KeyOf)) any_names))))))
+    (first_names SomeOf (then_names (between_names (sign marks.OpenBracket) (sign marks.CloseBracket) (separated_some KeyOf))
+    any_names))))))
 
 stream_keys : (E : Language Expr) (most : ℕ) → Names most (Stream E E) HasKeys
 stream_keys E most = meaning_names (then_names any_names (between_names {P = HasStreamKeys} (sign marks.Assign) (sign marks.Semicolon)
@@ -216,7 +208,8 @@ stream_keys E most = meaning_names (then_names any_names (between_names {P = Has
     (either_names (unnamed (λ a. tt)) (meaning_names group_keys (λ a h. h))))))) (λ a h. h.1)
 
 final_keys : (E : Language Expr) (most : ℕ) → Names most (Final E E) HasKeys
-final_keys E most = meaning_names (then_names any_names (then_names any_names (between_names {P = HasFinalKeys} (sign marks.Assign) (sign marks.Semicolon)
+final_keys E most = meaning_names (then_names any_names (then_names any_names
+    (between_names {P = HasFinalKeys} (sign marks.Assign) (sign marks.Semicolon)
     (either_names (unnamed (λ a. tt)) (either_names (unnamed (λ a. tt))
     (either_names (meaning_names group_keys (λ a h. h)) (either_names (unnamed (λ a. tt)) (unnamed (λ a. tt))))))))) (λ a h. h.1.1)
 
@@ -226,7 +219,8 @@ item_keys most d = either_names (unnamed (λ a. tt))
 
 query_keys : (most d : ℕ) → Names most (Whole d) (λ q. All HasKeys q.0)
 query_keys most d = record {
-  is = λ w q h b. let r = below_both most h.0 h.1 (subst (LeavesBelow most) h.2 b) in (repeated_names (item_keys most d)).is h.0 q.0 h.3 r.0;
+  is = λ w q h b. let r = below_both most h.0 h.1 (subst (LeavesBelow most) h.2 b) in (repeated_names (item_keys most d)).is h.0 q.0 h.3
+      r.0;
 }
 
 -- ---- what is read can be checked

@@ -1,27 +1,22 @@
 -- What parsing gives is what the grammar says.
-use Rattle.std.proofs.Common.{◌≡◌, ◌+◌, ◌≤◌, ◌<◌, Bool, true, false, cond, eqb, ltb, List, [], ◌∷◌, ◌++◌, Option, Some}
-use Rattle.std.proofs.Common.{None, refl, sym, ap, subst, ◌∙◌, append_assoc, arith, inl, inr, ◌⊎◌}
-use Rattle.std.proofs.lemmas.List.{append-nil, append_cancel_right}
-use Rattle.std.proofs.lemmas.Bool.{cases_lt}
-use Rattle.query_lang.specs.declared.token.TokenKind.{TokenKind}
-use Rattle.query_lang.specs.declared.token.TokenKind.TheVariants as kinds
-use Rattle.query_lang.specs.declared.token.Token.{Token}
+use Rattle.std.proofs.Common.{◌≡◌, ℕ, ◌≤◌, Bool, true, false, cond, eqb, ltb, List, [], ◌∷◌, ◌++◌, Some, None, refl, sym, ap, subst, ◌∙◌}
+use Rattle.std.proofs.Common.{append_assoc}
+use Rattle.std.proofs.lemmas.{List.append-nil, List.append_cancel_right, Bool.ltb-false}
+use Rattle.query_lang.specs.declared.token.{TokenKind.TokenKind, Token.Token}
 use Rattle.query_lang.specs.declared.fault.TheConstants.{MAX_NESTING, MAX_NODES, MAX_STATEMENTS}
-use Rattle.query_grammar.specs.declared.stop.Counts.{Counts}
-use Rattle.query_grammar.specs.declared.stop.Stop.{Stop}
+use Rattle.query_grammar.specs.{declared.stop.Counts.Counts, declared.stop.Stop.Stop, Kinds.kind, Kinds.kind_number, Reading.all_read}
+use Rattle.query_grammar.specs.{Reading.parsed}
 use Rattle.query_grammar.specs.declared.stop.Stop.TheVariants.{Unexpected, Nodes, Statements, Nesting}
-use Rattle.query_grammar.specs.Kinds.{kind, kind_number}
 use Rattle.query_grammar.specs.Language.{Role, Plain, Node, Statement, Leaf, tokens_of}
 use Rattle.query_grammar.specs.Parser.{no_counts, Limited, charge, Outcome, Done, Stopped}
-use Rattle.query_grammar.specs.Reading.{all_read, parsed}
 use Rattle.query_grammar.specs.Fault.{IsShallow, BeginsQuery, IsGrammatical, HasEnd, Says}
 use Rattle.query_grammar.proofs.Parses.{IsLimit, StopsFirst, stops_limit, pays}
-use Rattle.query_grammar.proofs.Lines.{EndFree, free_front}
-use Rattle.query_grammar.proofs.GrammarLines.{items_free}
+use Rattle.query_grammar.proofs.{Lines.EndFree, Lines.free_front, GrammarLines.items_free}
 use Rattle.query_grammar.proofs.Nests.{shallow_is, StopLevel, LevelMeets}
 use Rattle.query_grammar.proofs.Splits.{Place, inside, at_end, beyond, place, head_is, tail_is}
-use Rattle.query_grammar.proofs.Runs.{IsMet, IsHalted, Value, depth, run, met, leveled, stop_facts, stop_shallow}
-use Rattle.query_grammar.proofs.Runs.{Run, whole, halts, run_of, pays_is}
+use Rattle.query_grammar.proofs.Runs.{IsMet, IsHalted, Value, depth, run, met, leveled, stop_facts, stop_shallow, Run, whole, halts, run_of}
+use Rattle.query_grammar.proofs.Runs.{pays_is}
+use Rattle.query_lang.specs.declared.token.TokenKind.TheVariants as kinds
 
 -- ---- outcomes that differ
 
@@ -66,32 +61,22 @@ no_more front t p c h b = go (run_of b.2.0 b.2.1 b.1 b.2.3)
 
 -- ---- what parsing says
 
+-- a count that can't be raised has reached its limit
+reached : (count limit : ℕ) (more : Counts) → cond (ltb count limit) (Some more) None ≡ None → limit ≤ count
+reached count limit more e = go (ltb count limit) refl e
+  where
+    go : (b : Bool) → ltb count limit ≡ b → cond b (Some more) None ≡ None → limit ≤ count
+    go true h k = absurd cc
+    go false h k = ltb-false count limit h
+
+-- the limit at a leaf
+over_nodes : (c : Counts) (l : Leaf) → l.role ≡ Node → charge Limited l.role c ≡ None → MAX_NODES ≤ c.nodes
+over_nodes c l r e = reached c.nodes MAX_NODES _ (ap (λ (x : Role). charge Limited x c) (sym r) ∙ e)
+
+over_statements : (c : Counts) (l : Leaf) → l.role ≡ Statement → charge Limited l.role c ≡ None → MAX_STATEMENTS ≤ c.statements
+over_statements c l r e = reached c.statements MAX_STATEMENTS _ (ap (λ (x : Role). charge Limited x c) (sym r) ∙ e)
+
 module _ (ts : List Token) where
-  -- the limit at a leaf
-  over_nodes : (c : Counts) (l : Leaf) → l.role ≡ Node → charge Limited l.role c ≡ None → MAX_NODES ≤ c.nodes
-  over_nodes c l r e = go (ltb c.nodes MAX_NODES) refl (ap (λ (x : Role). charge Limited x c) (sym r) ∙ e)
-    where
-      go : (b : Bool) → ltb c.nodes MAX_NODES ≡ b → cond {A = Option Counts} b
-          (Some (record { nodes = c.nodes + 1; statements = c.statements })) None ≡ None → MAX_NODES ≤ c.nodes
-      go true h k = absurd cc
-      go false h k = big (cases_lt 511 c.nodes)
-        where
-          big : (511 < c.nodes) ⊎ (c.nodes ≤ 511) → MAX_NODES ≤ c.nodes
-          big (inl lt) = omega arith
-          big (inr le) = grind (arith, h)
-
-  over_statements : (c : Counts) (l : Leaf) → l.role ≡ Statement → charge Limited l.role c ≡ None → MAX_STATEMENTS ≤ c.statements
-  over_statements c l r e = go (ltb c.statements MAX_STATEMENTS) refl (ap (λ (x : Role). charge Limited x c) (sym r) ∙ e)
-    where
-      go : (b : Bool) → ltb c.statements MAX_STATEMENTS ≡ b → cond {A = Option Counts} b
-          (Some (record { nodes = c.nodes; statements = c.statements + 1 })) None ≡ None → MAX_STATEMENTS ≤ c.statements
-      go true h k = absurd cc
-      go false h k = big (cases_lt 63 c.statements)
-        where
-          big : (63 < c.statements) ⊎ (c.statements ≤ 63) → MAX_STATEMENTS ≤ c.statements
-          big (inl lt) = omega arith
-          big (inr le) = grind (arith, h)
-
   -- the leaf at which a parser stops because of a limit
   grammatical : (k k' : Stop) (t : Token) (more : List Token) → (h : IsHalted ts k
       (t ∷ more)) → (g : StopsFirst Limited k' h.counts h.more (t ∷ more))
@@ -234,7 +219,8 @@ says ts end (Done q c (t ∷ more)) e n f = (
       tokens = refl;
       begins = ([], depth 0, q, rw (append-nil f.front) f.means);
       within = sym (pays_is Limited no_counts f.front) ∙ f.pays;
-      shallow = shallow_is (tokens_of f.front) (rw (← (append_cancel_right n.front (tokens_of f.front) (t ∷ more) (sym n.split ∙ f.split))) n.shallow);
+      shallow = shallow_is (tokens_of f.front) (rw (← (append_cancel_right n.front (tokens_of f.front) (t ∷ more) (sym n.split ∙ f.split)))
+          n.shallow);
     },
     no_more (tokens_of f.front) t q c (λ x. f.again (t ∷ x) (x, refl)),
   ),

@@ -1,11 +1,9 @@
 -- What it means that a parser meets a language, and that the parser of one token does.
 use Rattle.std.proofs.Common.{◌≡◌, Bool, true, false, List, [], ◌∷◌, ◌++◌, Option, Some, None, refl, ap, ◌∙◌, append_assoc}
-use Rattle.std.proofs.lemmas.List.{map-append}
-use Rattle.std.specs.Option.{option_and_then}
+use Rattle.std.{proofs.lemmas.List.map-append, specs.Option.option_and_then}
 use Rattle.query_lang.specs.declared.token.Token.{Token}
 use Rattle.query_grammar.specs.Language.{Language, Role, Plain, Node, Statement, Opening, Leaf, tokens_of, Word}
-use Rattle.query_grammar.specs.declared.stop.Counts.{Counts}
-use Rattle.query_grammar.specs.declared.stop.Stop.{Stop}
+use Rattle.query_grammar.specs.declared.stop.{Counts.Counts, Stop.Stop}
 use Rattle.query_grammar.specs.declared.stop.Stop.TheVariants.{Unexpected, Nodes, Statements, Nesting}
 use Rattle.query_grammar.specs.Parser.{Limits, Limited, Unlimited, charge, limit_of, Outcome, Done, Stopped, Parser, paid, taken, word}
 use Rattle.query_grammar.specs.Parser.{next_is}
@@ -252,6 +250,31 @@ module _ {A : Type 0} (m : Limits) (role : Role) (takes : Token → Option A) wh
         (something (record { role = role; token = h.0 }) [] (ap is_some_of h.2));
     sample = (record { role = role; token = t0 } ∷ [], a0, (t0, refl, h0));
   }
+
+-- ---- another parser
+
+-- where another parser gives the same, in a language that has these words with these meanings
+pub meets_as : {A : Type 0} {L M : Language A} (m : Limits) (p q : Parser A) {c : Counts} {ts : List Token}
+    → ((w : List Leaf) (v : A) → L w v → M w v) → ((w : List Leaf) (rest x : List Token) → ts ≡ tokens_of w ++ rest → SameNext rest x
+    → q c (tokens_of w ++ x) ≡ p c (tokens_of w ++ x)) → (o : Outcome A) → Meets m L p c ts o → Meets m M q c ts o
+meets_as m p q to same (Done v d rest) h = record {
+  front = h.front;
+  split = h.split;
+  means = to h.front v h.means;
+  pays = h.pays;
+  again = λ x s. same h.front rest x h.split s ∙ h.again x s;
+}
+meets_as m p q to same (Stopped k rest) h = record {
+  front = h.front;
+  split = h.split;
+  counts = h.counts;
+  pays = h.pays;
+  more = h.more;
+  value = h.value;
+  begins = to (h.front ++ h.more) h.value h.begins;
+  cause = h.cause;
+  again = λ x s. same h.front rest x h.split s ∙ h.again x s;
+}
 
 -- ---- more kinds
 

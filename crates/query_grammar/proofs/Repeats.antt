@@ -1,15 +1,12 @@
 -- A parser any number of times is a chain of turns, of which none differs as the last.
 use mathlib.Core.Path.{fun_ext}
-use Rattle.std.proofs.Common.{◌≡◌, ℕ, zero, suc, Bool, true, false, cond, List, [], ◌∷◌, ◌++◌, length, Option, Some, None, refl}
-use Rattle.std.proofs.Common.{inl, ◌⊎◌}
+use Rattle.std.proofs.Common.{◌≡◌, ℕ, zero, suc, Bool, true, false, cond, List, [], ◌∷◌, length, Option, Some, None, refl, inl, ◌⊎◌}
 use Rattle.query_lang.specs.declared.token.Token.{Token}
 use Rattle.query_grammar.specs.declared.stop.Counts.{Counts}
 use Rattle.query_grammar.specs.Language.{Language, Leaf, Repeated, Meaning, Chain, Chained}
-use Rattle.query_grammar.specs.Parser.{Limits, Outcome, Done, Stopped, Parser, and_then, next_is, mapped, turns, repeated, linked, chain_turns}
-use Rattle.query_grammar.specs.Parser.{next_turn, chained}
-use Rattle.query_grammar.proofs.Chains.{parses_chained}
-use Rattle.query_grammar.proofs.Parses.{Meets, Parses}
-use Rattle.query_grammar.proofs.Sequences.{parses_mapped}
+use Rattle.query_grammar.specs.Parser.{Limits, Outcome, Done, Stopped, Parser, and_then, next_is, mapped, turns, repeated, linked}
+use Rattle.query_grammar.specs.Parser.{chain_turns, next_turn, chained}
+use Rattle.query_grammar.proofs.{Chains.parses_chained, Parses.Parses, Parses.meets_as, Sequences.parses_mapped}
 
 abbrev pub as_turn : {A : Type 0} → A → A ⊎ ⊥
 as_turn a = inl a
@@ -34,8 +31,10 @@ same_turns {A} test p (suc n) c ts = go (same_turns test p n) (next_is test ts) 
   where
     go : ((d : Counts) (rest : List Token) → turns n test p d rest ≡ mapped turns_of (chain_turns n test (mapped as_turn p)) d rest)
         → (b : Bool) (o : Outcome A)
-        → cond b (and_then o (λ a c' rest. and_then (turns n test p c' rest) (λ others c'' rest'. Done (a ∷ others) c'' rest'))) (Done [] c ts)
-        ≡ and_then (cond b (and_then (and_then o (λ a c' rest. Done (as_turn a) c' rest)) (next_turn (chain_turns n test (mapped as_turn p))))
+        → cond b (and_then o (λ a c' rest. and_then (turns n test p c' rest) (λ others c'' rest'. Done (a ∷ others) c'' rest')))
+        (Done [] c ts)
+        ≡ and_then (cond b (and_then (and_then o (λ a c' rest. Done (as_turn a) c' rest))
+        (next_turn (chain_turns n test (mapped as_turn p))))
         (Done ([], None) c ts)) (λ v c' rest. Done (turns_of v) c' rest)
     go ih false o = refl
     go ih true (Done a d rest) = rw (ih d rest) (linked_turn a (chain_turns n test (mapped as_turn p) d rest))
@@ -63,26 +62,12 @@ module _ {A : Type 0} (L : Language A) where
 parses_language : {A : Type 0} {m : Limits} {L M : Language A} {p : Parser A} {starts on : Token → Bool} {nullable : Bool}
     → ((w : List Leaf) (v : A) → L w v → M w v) → ((w : List Leaf) (v : A) → M w v → L w v) → Parses m L p starts on nullable
     → Parses m M p starts on nullable
-parses_language {A} {m} {L} {M} {p} to from f = record {
-  meets = λ c ts. go c ts (p c ts) (f.meets c ts);
+parses_language {m = m} {p = p} to from f = record {
+  meets = λ c ts. meets_as m p p to (λ w rest x e s. refl) (p c ts) (f.meets c ts);
   complete = λ c w v rest h clear. f.complete c w v rest (from w v h) clear;
   begins = λ w v h. f.begins w v (from w v h);
   sample = (f.sample.0, f.sample.1, to f.sample.0 f.sample.1 f.sample.2);
 }
-  where
-    go : (c : Counts) (ts : List Token) (o : Outcome A) → Meets m L p c ts o → Meets m M p c ts o
-    go c ts (Done v d rest) h = record { front = h.front; split = h.split; means = to h.front v h.means; pays = h.pays; again = h.again }
-    go c ts (Stopped k rest) h = record {
-      front = h.front;
-      split = h.split;
-      counts = h.counts;
-      pays = h.pays;
-      more = h.more;
-      value = h.value;
-      begins = to (h.front ++ h.more) h.value h.begins;
-      cause = h.cause;
-      again = h.again;
-    }
 
 pub parses_repeated : {A : Type 0} {m : Limits} {L : Language A} {p : Parser A} {test on : Token → Bool} → (goes_on : Token → Bool)
     → Parses m L p test on false → ((t : Token) → test t ≡ true → on t ≡ false) → ((t : Token) → goes_on t ≡ false → test t ≡ false)

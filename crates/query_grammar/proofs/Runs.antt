@@ -1,26 +1,18 @@
 -- What the parser does on the words of queries.
-use Rattle.std.proofs.Common.{◌≡◌, ℕ, zero, suc, ◌+◌, ◌≤◌, false, List, [], ◌∷◌, ◌++◌, Option, Some, None, refl, sym, ap, ◌∙◌}
-use Rattle.std.proofs.Common.{append_assoc, arith}
+use Rattle.std.proofs.Common.{◌≡◌, ℕ, zero, suc, ◌+◌, ◌≤◌, false, List, [], ◌∷◌, ◌++◌, Option, Some, None, refl, sym, ap, ◌∙◌, append_assoc}
+use Rattle.std.proofs.Common.{arith}
 use Rattle.std.proofs.lemmas.List.{append-nil, map-append, append_cancel_right}
 use Rattle.std.specs.Option.{option_and_then}
-use Rattle.query_lang.specs.declared.fault.Span.{Span}
-use Rattle.query_lang.specs.declared.query.Item.{Item}
-use Rattle.query_lang.specs.declared.token.Token.{Token}
-use Rattle.query_lang.specs.declared.fault.TheConstants.{MAX_NESTING}
-use Rattle.query_grammar.specs.declared.stop.Counts.{Counts}
-use Rattle.query_grammar.specs.declared.stop.Stop.{Stop}
+use Rattle.query_lang.specs.declared.{fault.Span.Span, query.Item.Item, token.Token.Token, fault.TheConstants.MAX_NESTING}
+use Rattle.query_grammar.specs.{declared.stop.Counts.Counts, declared.stop.Stop.Stop, Kinds.kind, Kinds.among, Language.Leaf}
+use Rattle.query_grammar.specs.{Language.tokens_of, Grammar.Query, Grammar.Derives, Reading.query, Reading.item_starts}
 use Rattle.query_grammar.specs.declared.stop.Stop.TheVariants.{Unexpected, Nodes, Statements, Nesting}
-use Rattle.query_grammar.specs.Kinds.{kind, among}
-use Rattle.query_grammar.specs.Language.{Leaf, tokens_of}
 use Rattle.query_grammar.specs.Parser.{no_counts, Limits, Limited, Unlimited, charge, Outcome, Done, Stopped}
-use Rattle.query_grammar.specs.Grammar.{Query, Derives}
-use Rattle.query_grammar.specs.Reading.{query, item_starts}
 use Rattle.query_grammar.specs.Fault.{opens, opened, closed, IsShallow, BeginsQuery, counted}
 use Rattle.query_grammar.proofs.Parses.{Parses, Found, Halted, Meets, Reads, reads, passes, Stops, pays, pays-append}
 use Rattle.query_grammar.proofs.Nests.{Shallow, Level_is, reached_of, StopLevel, LevelMeets}
-use Rattle.query_grammar.proofs.NestLines.{nests_query}
+use Rattle.query_grammar.proofs.{NestLines.nests_query, Depths.deeper_query}
 use Rattle.query_grammar.proofs.GrammarLines.{Deeper, here, under, parses_unlimited, parses_limited}
-use Rattle.query_grammar.proofs.Depths.{deeper_query}
 
 abbrev pub Value : Type 0
 Value = List Item × Span

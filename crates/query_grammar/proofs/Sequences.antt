@@ -2,8 +2,7 @@
 use Rattle.std.proofs.Common.{◌≡◌, Bool, true, false, List, ◌∷◌, ◌++◌, refl, sym, ap, ◌∙◌, append_assoc}
 use Rattle.query_lang.specs.declared.token.Token.{Token}
 use Rattle.query_grammar.specs.Language.{Language, Leaf, tokens_of, Then, Meaning}
-use Rattle.query_grammar.specs.declared.stop.Counts.{Counts}
-use Rattle.query_grammar.specs.declared.stop.Stop.{Stop}
+use Rattle.query_grammar.specs.declared.stop.{Counts.Counts, Stop.Stop}
 use Rattle.query_grammar.specs.Parser.{Limits, Outcome, Done, Stopped, Parser, and_then, followed_by, mapped}
 use Rattle.query_grammar.proofs.Parses.{SameNext, pays_both, tokens-append, Found, Halted, Meets, Reads, Begins, Parses, next_of, starts_of}
 use Rattle.query_grammar.proofs.Parses.{next_clear, fewer, wider, cause_more, reads, passes, nothing, something}

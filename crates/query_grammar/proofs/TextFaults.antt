@@ -1,22 +1,16 @@
 -- The query of a text is the one that the grammar relates to it, and its fault the first.
-use Rattle.std.proofs.Common.{◌≡◌, ℕ, ◌<◌, ◌≤◌, Bool, true, false, cond, ltb, List, [], ◌∷◌, length, refl, sym, ap}
-use Rattle.std.proofs.Common.{subst, ◌∙◌, arith, Ok, Err, Result, ◌⊎◌, inl, inr}
+use Rattle.std.proofs.Common.{◌≡◌, ℕ, ◌<◌, ◌≤◌, Bool, true, false, cond, ltb, List, [], ◌∷◌, length, refl, sym, ap, subst, ◌∙◌, arith, Ok}
+use Rattle.std.proofs.Common.{Err, Result, ◌⊎◌, inl, inr}
 use Rattle.std.proofs.lemmas.Bool.{le-ltb, cases_lt}
-use Rattle.query_lang.specs.declared.fault.FaultKind.TheVariants.{QueryTooLong}
-use Rattle.query_lang.specs.declared.fault.QueryFault.{QueryFault}
-use Rattle.query_lang.specs.declared.fault.TheConstants.{MAX_QUERY}
-use Rattle.query_lang.specs.declared.query.Query.{Query}
-use Rattle.query_lang.specs.declared.token.Token.{Token}
+use Rattle.query_lang.specs.declared.{fault.FaultKind.TheVariants.QueryTooLong, fault.QueryFault.QueryFault, fault.TheConstants.MAX_QUERY}
+use Rattle.query_lang.specs.declared.{query.Query.Query, token.Token.Token}
 use Rattle.query_lang.specs.Lexis.{Cut, cut, fault_at, tokens_of}
-use Rattle.query_grammar.specs.Fault.{Says}
+use Rattle.query_grammar.{specs.Fault.Says, specs.Reading.parsed, proofs.Runs.Value, proofs.Parsed.parsed_says}
+use Rattle.query_grammar.{proofs.Whole.accepted_parsed, proofs.Whole.fault_found}
 use Rattle.query_grammar.specs.Parser.{Outcome, Done, Stopped}
-use Rattle.query_grammar.specs.Reading.{parsed}
 use Rattle.query_grammar.specs.Texts.{IsQueryOf, IsFaultOf, too_long, in_lexis, in_grammar, answered, fault_of, with_names, parsed_cut}
 use Rattle.query_grammar.specs.Texts.{parsed_text}
 use Rattle.query_grammar.proofs.CutTexts.{Pair, text_is_cut, cut_end}
-use Rattle.query_grammar.proofs.Runs.{Value}
-use Rattle.query_grammar.proofs.Parsed.{parsed_says}
-use Rattle.query_grammar.proofs.Whole.{accepted_parsed, fault_found}
 
 short_text : (text : List ℕ) → length text ≤ MAX_QUERY → parsed_text text ≡ parsed_cut (tokens_of text)
 short_text text le = let b : ltb MAX_QUERY (length text) ≡ false = le-ltb _ _ le in rw b refl
@@ -52,12 +46,14 @@ tokens_fault text found f le cut (Stopped k (t ∷ more)) h e =
     in_grammar le found.1 h.0 t more k (cut ∙ ap (λ (ts : List Token). Ok (ts, found.1)) h.1) h.2 (sym (same_err (fault_of k t) f e))
 
 cut_query : (text : List ℕ) (q : Query) → length text ≤ MAX_QUERY → (o : Cut) → tokens_of text ≡ o → parsed_cut o ≡ Ok q → IsQueryOf text q
-cut_query text q le (Ok found) cut e = tokens_query text found q le cut (parsed found.0) (parsed_says found.0 (cut_end (text_is_cut text found cut))) e
+cut_query text q le (Ok found) cut e = tokens_query text found q le cut (parsed found.0)
+    (parsed_says found.0 (cut_end (text_is_cut text found cut))) e
 cut_query text q le (Err fault) cut e = absurd cc
 
 cut_fault : (text : List ℕ) (f : QueryFault) → length text ≤ MAX_QUERY → (o : Cut) → tokens_of text ≡ o → parsed_cut o ≡ Err f
     → IsFaultOf text f
-cut_fault text f le (Ok found) cut e = tokens_fault text found f le cut (parsed found.0) (parsed_says found.0 (cut_end (text_is_cut text found cut))) e
+cut_fault text f le (Ok found) cut e = tokens_fault text found f le cut (parsed found.0)
+    (parsed_says found.0 (cut_end (text_is_cut text found cut))) e
 cut_fault text f le (Err fault) cut e = in_lexis le (cut ∙ ap (λ (g : QueryFault). Err g) (same_err fault f e))
 
 pub query_of_text : (text : List ℕ) (q : Query) → parsed_text text ≡ Ok q → IsQueryOf text q
