@@ -3,14 +3,10 @@ use Rattle.std.proofs.Common.{◌≡◌, ℕ, zero, suc, ◌+◌, ◌<◌, ◌�
 use Rattle.std.proofs.Common.{nat_eq, refl, sym, ap, subst, ◌∙◌, arith}
 use Rattle.std.specs.Prelude.{slice_get}
 use Rattle.std.specs.List.{AllByRecursion, IsDistinct, list_any}
-use Rattle.std.proofs.lemmas.Bool.{eqb-true}
-use Rattle.std.proofs.lemmas.List.Folds.{list_any-append}
+use Rattle.std.proofs.lemmas.{Bool.eqb-true, List.Folds.list_any-append, Map.Steps.length-le_from_distinct_below}
 use Rattle.std.proofs.lemmas.List.Elements.{All-nil, All-cons, All-push, All-append, All-head, All-tail}
-use Rattle.std.proofs.lemmas.Map.Steps.{length-le_from_distinct_below}
-use Rattle.query_lang.specs.declared.typing.StreamColumn.{StreamColumn}
-use Rattle.query_lang.specs.Checks.{is_among}
+use Rattle.query_lang.specs.{declared.typing.StreamColumn.StreamColumn, Checks.is_among, TypedQueries.AreNames}
 use Rattle.query_lang.specs.TypedStreams.{column_names, others_from, columns_at}
-use Rattle.query_lang.specs.TypedQueries.{AreNames}
 use Rattle.query_types.specs.Fitting.{AreDifferent, AreApart}
 
 abbrev pub IsFew : ℕ → Type 0
@@ -169,9 +165,8 @@ pub others_taken : (ids : List ℕ) (right : List StreamColumn) → AreApart (co
     → AreApart (column_names (columns_at right (others_from 0 ids right)))
     × (list_any (λ y. is_among y ids) (column_names (columns_at right (others_from 0 ids right))) ≡ false)
 others_taken ids right h =
-    let same = others_named ids right 0 right refl in
-    let A : List ℕ → Type 0 = λ l. AreApart l in (
-      subst A (sym same) (others_apart ids (column_names right) h),
+    let same = others_named ids right 0 right refl in (
+      rw same (others_apart ids (column_names right) h),
       ap (λ l. list_any (λ y. is_among y ids) l) same
           ∙ others_not ids (column_names right),
     )

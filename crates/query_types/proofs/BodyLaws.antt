@@ -1,27 +1,19 @@
 -- What the check of a fold's statements gives is valid.
 use Rattle.std.proofs.Common.{◌≡◌, ℕ, ◌+◌, ◌*◌, ◌<◌, ◌≤◌, Bool, true, false, List, [], ◌∷◌, ◌++◌, length, Option, Some, None, Ok, refl, sym}
-use Rattle.std.proofs.Common.{ap, subst, ◌∙◌, inl, inr, arith}
+use Rattle.std.proofs.Common.{ap, ◌∙◌, inl, inr, arith}
 use Rattle.std.specs.Prelude.{IfSome}
-use Rattle.query_lang.specs.declared.fault.Span.{Span}
-use Rattle.query_lang.specs.declared.fault.FaultKind.{FaultKind}
-use Rattle.query_lang.specs.declared.fold.Op.TheVariants.{Both}
-use Rattle.query_lang.specs.declared.fold.TypedExpr.{TypedExpr}
-use Rattle.query_lang.specs.declared.fold.TypedExpr.TheVariants as typed
-use Rattle.query_lang.specs.declared.fold.TypedStmt.{TypedStmt}
-use Rattle.query_lang.specs.declared.fold.TypedStmt.TheVariants as typed_stmt
-use Rattle.query_lang.specs.declared.query.Name.{Name}
-use Rattle.query_lang.specs.declared.query.Expr.{Expr}
-use Rattle.query_lang.specs.declared.typing.Body.{Body}
-use Rattle.query_lang.specs.declared.typing.Enclosing.{Enclosing}
-use Rattle.query_lang.specs.Terms.{Term, Literal, term_of}
+use Rattle.query_lang.specs.declared.{fault.Span.Span, fault.FaultKind.FaultKind, fold.Op.TheVariants.Both, fold.TypedExpr.TypedExpr}
+use Rattle.query_lang.specs.declared.{fold.TypedStmt.TypedStmt, query.Name.Name, query.Expr.Expr, typing.Body.Body}
+use Rattle.query_lang.specs.declared.{typing.Enclosing.Enclosing, fault.TheConstants.MAX_NODES, fault.TheConstants.MAX_STATEMENTS}
+use Rattle.query_lang.specs.Terms.{Literal, term_of}
 use Rattle.query_lang.specs.Blocks.{Block, End, Set, Fork, followed, stmt_block, block_of}
-use Rattle.query_lang.specs.Folds.{IsValidTerm, IsValidBlock, IsValidEmit, ReadsArguments, is_condition, term_nodes, block_nodes}
-use Rattle.query_lang.specs.Folds.{block_count}
+use Rattle.query_lang.specs.Folds.{IsValidBlock, IsValidEmit, ReadsArguments, is_condition, term_nodes, block_nodes, block_count}
 use Rattle.query_lang.specs.Checks.{Checked, must_not, is_among}
 use Rattle.query_lang.specs.TypedFolds.{target_at, target_of, or_else, state_in, joined, inside, emit_condition, no_state}
 use Rattle.query_lang.proofs.TreeLemmas.{term_number, term_not, term_binary, block_assign, block_if}
-use Rattle.query_lang.specs.declared.fault.TheConstants.{MAX_NODES, MAX_STATEMENTS}
 use Rattle.query_types.proofs.ExprLaws.{within_names, IsConditionIn, IsWordIn}
+use Rattle.query_lang.specs.declared.fold.TypedExpr.TheVariants as typed
+use Rattle.query_lang.specs.declared.fold.TypedStmt.TheVariants as typed_stmt
 
 pub must_not_ok : {A : Type 0} (test : Bool) (kind : FaultKind) (span : Span) (next : Checked A) (x : A)
     → must_not test kind span next ≡ Ok x → (test ≡ false) × (next ≡ Ok x)
@@ -77,6 +69,10 @@ followed_valid states args n k m j (Fork c x y rest) b va vb =
           omega (arith, h.count, va.count);
     }
 
+-- the same block within wider limits
+pub wider : {states args n k m j : ℕ} {b : Block} → IsBlockIn states args n k b → n ≤ m → k ≤ j → IsBlockIn states args m j b
+wider v h i = record { valid = v.valid; nodes = omega (arith, v.nodes); count = omega (arith, v.count) }
+
 -- what is found of a block with that many nodes and statements
 pub record IsBody (states args most_nodes most_count : ℕ) (body : Body) : Type 0 where
   pub block : IsBlockIn states args most_nodes most_count (block_of body.statements)
@@ -98,22 +94,19 @@ target_bound states args name v e =
 pub added : (states args p c m j : ℕ) (found : Body) (one : TypedStmt) → IsBody states args p c found
     → IsBlockIn states args m j (stmt_block one) → IsBlockIn states args (p + m) (c + j) (block_of (found.statements ++ one ∷ []))
 added states args p c m j found one v h =
-    let B : Block → Type 0 = λ b. IsBlockIn states args (p + m) (c + j) b in
-    subst B (sym (block_push found.statements one)) (followed_valid states args p c m j (block_of found.statements) (stmt_block one) v.block
+    rw (block_push found.statements one) (followed_valid states args p c m j (block_of found.statements) (stmt_block one) v.block
     h)
 
 pub assign_block : (states args n v : ℕ) (e : TypedExpr) → v < states → IsWordIn (states + args) n e
     → IsBlockIn states args n 1 (stmt_block (typed_stmt.Assign v e))
 assign_block states args n v e h w =
-    let B : Block → Type 0 = λ b. IsBlockIn states args n 1 b in
-    subst B (sym (block_assign v e)) (record { valid = (h, w.term, w.word, tt); nodes = omega (arith, w.nodes); count = omega arith })
+    rw (block_assign v e) (record { valid = (h, w.term, w.word, tt); nodes = omega (arith, w.nodes); count = omega arith })
 
 pub if_block : (states args n m k j l : ℕ) (c : TypedExpr) (a b : List TypedStmt) → IsConditionIn (states + args) n c
     → IsBlockIn states args m j (block_of a) → IsBlockIn states args k l (block_of b)
     → IsBlockIn states args (n + m + k) (1 + j + l) (stmt_block (typed_stmt.If c a b))
 if_block states args n m k j l c a b vc va vb =
-    let B : Block → Type 0 = λ z. IsBlockIn states args (n + m + k) (1 + j + l) z in
-    subst B (sym (block_if c a b)) (record {
+    rw (block_if c a b) (record {
       valid = (vc.term, vc.condition, va.valid, vb.valid, tt);
       nodes =
           omega (arith, vc.nodes, va.nodes, vb.nodes);
@@ -127,9 +120,8 @@ joined_valid : (states args n d m : ℕ) (outer : Option TypedExpr) (c : TypedEx
 joined_valid states args n d m None c vo vc = record { term = vc.term; condition = vc.condition; nodes = omega (arith, vc.nodes) }
 joined_valid states args n d m (Some o) c vo vc =
     let is = term_binary Both o c in
-    let V : Term → Type 0 = λ t. IsValidTerm (states + args) t in
     record {
-      term = subst V (sym is) (vo.term, vc.term, (vo.condition, vc.condition));
+      term = rw is (vo.term, vc.term, (vo.condition, vc.condition));
       condition = ap is_condition is;
       nodes =
           omega (arith, ap term_nodes is, vo.nodes, vc.nodes);
@@ -138,7 +130,7 @@ joined_valid states args n d m (Some o) c vo vc =
 joined_reads : (states : ℕ) (outer : Option TypedExpr) (c : TypedExpr) → IfSome outer (λ e. ReadsArguments states (term_of e))
     → ReadsArguments states (term_of c) → ReadsArguments states (term_of (joined outer c))
 joined_reads states None c ro rc = rc
-joined_reads states (Some o) c ro rc = let V : Term → Type 0 = λ t. ReadsArguments states t in subst V (sym (term_binary Both o c)) (ro, rc)
+joined_reads states (Some o) c ro rc = rw (term_binary Both o c) (ro, rc)
 
 none_of_both : (a b : Option Span) → or_else a b ≡ None → (a ≡ None) × (b ≡ None)
 none_of_both None b e = (refl, e)
@@ -158,9 +150,8 @@ inside_valid states args n d m outer written c va vc rc = record {
 pub not_in : (slots n : ℕ) (c : TypedExpr) → IsConditionIn slots n c → IsConditionIn slots (n + 1) (typed.Not c)
 not_in slots n c v =
     let is = term_not c in
-    let V : Term → Type 0 = λ t. IsValidTerm slots t in
     record {
-      term = subst V (sym is) (v.term, v.condition);
+      term = rw is (v.term, v.condition);
       condition = ap is_condition is;
       nodes =
           omega (arith, ap term_nodes is, v.nodes);
@@ -174,7 +165,6 @@ emit_valid states args n d outer hn hd va none = go outer.condition va.condition
     go : (o : Option TypedExpr) → IfSome o (λ e. IsConditionIn (states + args) (n + 2 * d) e)
         → IfSome o (λ e. ReadsArguments states (term_of e)) → IsValidEmit states args (term_of (emit_condition o))
     go None v r =
-        let E : Term → Type 0 = λ t. IsValidEmit states args t in
         let one : IsValidEmit states args (Literal 1) = record {
           slots = omega arith;
           condition = inr refl;
@@ -182,7 +172,7 @@ emit_valid states args n d outer hn hd va none = go outer.condition va.condition
           nodes =
               omega arith;
         } in
-        subst E (sym (term_number 1)) one
+        rw (term_number 1) one
     go (Some e) v r = record { slots = v.term; condition = inl v.condition; arguments = r; nodes = omega (arith, v.nodes) }
 
 pub no_state_ok : {A : Type 0} (o : Option Span) (next : Checked A) (x : A) → no_state o next ≡ Ok x → (o ≡ None) × (next ≡ Ok x)

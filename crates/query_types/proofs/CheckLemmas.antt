@@ -1,23 +1,20 @@
 -- Checks in sequence: an answer of the whole from the answers of its parts.
-use Rattle.std.proofs.Common.{◌≡◌, ℕ, ◌+◌, ◌<◌, List, [], ◌∷◌, ◌++◌, length, get_or, drop, map, Result, Ok, Err, refl, sym, ap, subst, ◌∙◌}
-use Rattle.std.specs.Prelude.{IfOk, OnOk}
-use Rattle.std.specs.Result.{IsErrAnd}
-use Rattle.std.proofs.lemmas.List.{drop_more}
-use Rattle.std.proofs.lemmas.Result.{err_from_is_err_and}
-use Rattle.query_lang.specs.Checks.{Checked, and_then, collected}
-use Rattle.query_lang.specs.declared.error.QueryError.{QueryError}
+use Rattle.std.proofs.Common.{◌≡◌, ℕ, ◌+◌, ◌<◌, List, [], ◌∷◌, ◌++◌, length, get_or, drop, map, Result, Ok, Err, refl, sym, ap, ◌∙◌}
+use Rattle.std.specs.{Prelude.IfOk, Prelude.OnOk, Result.IsErrAnd}
+use Rattle.std.proofs.lemmas.{List.drop_more, Result.err_from_is_err_and}
 use Rattle.query_lang.specs.declared.error.QueryError.TheVariants.{Refused, Memory}
-use Rattle.query_lang.specs.Answers.{Answers}
+use Rattle.query_lang.specs.Checks.{Checked, and_then, collected}
+use Rattle.query_lang.specs.{declared.error.QueryError.QueryError, Answers.Answers}
 use Rattle.query_types.specs.Answers.{Leaves}
 
 -- the next check of the same gives the same
 pub same_checked : {A B : Type 0} (answer : Result B QueryError) (next : A → Checked B) (x y : A) → x ≡ y → Answers answer (next x)
     → Answers answer (next y)
-same_checked {A} {B} answer next x y e h = let P : A → Type 0 = λ z. Answers answer (next z) in subst P e h
+same_checked {A} {B} answer next x y e h = rw (← e) h
 
 told : {A : Type 0} (P : Result A QueryError → Type 0) (answer : Result A QueryError) (error : QueryError)
     → IsErrAnd answer (λ y. y ≡ error) → P (Err error) → P answer
-told P answer error known h = let p = err_from_is_err_and answer known in subst P (sym (p.1 ∙ ap (λ y. Err y) p.2)) h
+told P answer error known h = let p = err_from_is_err_and answer known in rw (p.1 ∙ ap (λ y. Err y) p.2) h
 
 module _ {A B : Type 0} {whole : Checked B} (first : Checked A) (next : A → Checked B) (is : whole ≡ and_then first next) where
   -- an earlier check's fault is the answer
@@ -56,7 +53,7 @@ module _ {A B : Type 0} {whole : Checked B} (first : Checked A) (next : A → Ch
 
   -- and where it finds something, the next check's answer
   pub goes_on : (answer : Result B QueryError) {x : A} → first ≡ Ok x → Answers answer (next x) → Answers answer whole
-  goes_on answer e h = let P : Checked B → Type 0 = λ z. Answers answer z in subst P (sym (is ∙ ap (λ r. and_then r next) e)) h
+  goes_on answer e h = rw (is ∙ ap (λ r. and_then r next) e) h
 
   -- the rest of a loop's checks after one that finds something
   pub more : {all : Checked B} {x : A} → first ≡ Ok x → whole ≡ all → next x ≡ all
@@ -64,7 +61,7 @@ module _ {A B : Type 0} {whole : Checked B} (first : Checked A) (next : A → Ch
 
 pub left_is : {A : Type 0} (answer : Result (Unit {0}) QueryError) (left : A) {whole other : Checked A} → whole ≡ other
     → Leaves answer left other → Leaves answer left whole
-left_is {A} answer left e h = let P : Checked A → Type 0 = λ z. Leaves answer left z in subst P (sym e) h
+left_is {A} answer left e h = rw e h
 
 pub if_ok : {A E P : Type 0} (answer : Result A E) → P → IfOk answer (λ _. P)
 if_ok (Ok x) h = h

@@ -1,18 +1,16 @@
 -- How many nodes an expression and a choice have, how many statements a choice has, and the greatest number of a list.
-use Rattle.std.proofs.Common.{◌≡◌, ℕ, ◌+◌, ◌<◌, ◌≤◌, List, length, get_or, drop, map, sum, sum_by, sym, ap, subst, ◌∙◌, arith}
+use Rattle.std.proofs.Common.{◌≡◌, ℕ, ◌+◌, ◌<◌, ◌≤◌, List, length, get_or, drop, map, sum, sum_by, sym, ap, ◌∙◌, arith}
 use Rattle.std.specs.Prelude.{max}
 use Rattle.std.proofs.lemmas.List.{drop_more, drop_all}
 use Rattle.std.proofs.lemmas.List.Sums.{sum-map, get_or-le-sum_by, sum_by-drop_more}
-use Rattle.query_lang.specs.declared.fault.Span.{Span}
-use Rattle.query_lang.specs.declared.fold.Op.{Op}
+use Rattle.query_lang.specs.declared.{fault.Span.Span, fold.Op.Op, query.Stmt.TheVariants.rolls-If}
 use Rattle.query_lang.specs.declared.query.Expr.{Expr, Not, Binary, Call, fold-roll-Expr}
-use Rattle.query_lang.specs.declared.query.Expr.TheOpen as expr
 use Rattle.query_lang.specs.declared.query.Expr.TheVariants.{rolls-Not, rolls-Binary, rolls-Call}
 use Rattle.query_lang.specs.declared.query.Stmt.{Stmt, If, fold-roll-Stmt}
-use Rattle.query_lang.specs.declared.query.Stmt.TheOpen as stmt
-use Rattle.query_lang.specs.declared.query.Stmt.TheVariants.{rolls-If}
 use Rattle.query_lang.specs.TypedFolds.{nodes_step, expr_nodes, stmt_nodes_step, stmt_nodes, count_step, stmt_count}
 use Rattle.query_types.specs.Numbers.{greatest_of}
+use Rattle.query_lang.specs.declared.query.Expr.TheOpen as expr
+use Rattle.query_lang.specs.declared.query.Stmt.TheOpen as stmt
 
 module _ {X : Type 0} (f : X → ℕ) (xs : List X) (i : ℕ) where
   -- an item of a list counts for no more than the list, and the items from it on are it and those after it
@@ -34,7 +32,7 @@ module _ {X : Type 0} (f : X → ℕ) (xs : List X) (i : ℕ) where
       both a b most c e h k = omega arith
 
   pub greatest_ends : {most all : ℕ} → length xs ≤ i → 0 < most → (greatest_of (map f (drop i xs)) < most → all < most) → all < most
-  greatest_ends {most} h some so = so (subst (λ l. greatest_of (map f l) < most) (sym (drop_all i xs h)) some)
+  greatest_ends {most} h some so = so (rw (drop_all i xs h) some)
 
 both : (f : Stmt → ℕ) (n : ℕ) {a b p q : List Stmt} → p ≡ a → q ≡ b → n + sum (map f a) + sum (map f b) ≡ n + sum_by f p + sum_by f q
 both f n {a} {b} {p} ep eq =

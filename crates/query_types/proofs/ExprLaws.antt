@@ -2,16 +2,10 @@
 use Rattle.std.proofs.Common.{◌≡◌, ℕ, ◌+◌, ◌<◌, ◌≤◌, ◌^◌, Bool, true, false, not, cond, List, [], ◌∷◌, ◌++◌, length, map, sum, Option, Some}
 use Rattle.std.proofs.Common.{None, Ok, Err, nat_eq, nat_lt, refl, sym, ap, subst, ◌∙◌, append_assoc, append-nil, arith}
 use Rattle.std.proofs.lemmas.Bool.{ltb-true}
-use Rattle.query_lang.specs.declared.fault.FaultKind.{FaultKind}
-use Rattle.query_lang.specs.declared.fault.Span.{Span}
-use Rattle.query_lang.specs.declared.fold.Op.{Op}
+use Rattle.query_lang.specs.declared.{fault.FaultKind.FaultKind, fault.Span.Span, fold.Op.Op, fold.TypedExpr.TypedExpr, query.Name.Name}
+use Rattle.query_lang.specs.declared.{typing.Found.Found, typing.Sort.Sort}
 use Rattle.query_lang.specs.declared.fold.Op.TheVariants.{Div, Rem, Shl, Shr, Decay, Both, Either}
-use Rattle.query_lang.specs.declared.fold.TypedExpr.{TypedExpr}
-use Rattle.query_lang.specs.declared.query.Name.{Name}
 use Rattle.query_lang.specs.declared.query.Expr.{Expr, fold-roll-Expr, ind-Expr, roll-Expr, map-Expr}
-use Rattle.query_lang.specs.declared.query.Expr.TheOpen as expr
-use Rattle.query_lang.specs.declared.typing.Found.{Found}
-use Rattle.query_lang.specs.declared.typing.Sort.{Sort}
 use Rattle.query_lang.specs.declared.typing.Sort.TheVariants.{Number, Word, Condition}
 use Rattle.query_lang.specs.Terms.{Term, Literal, term_of}
 use Rattle.query_lang.specs.Folds.{IsValidTerm, IsConstant, TakesOperands, is_condition, gives_condition, term_nodes}
@@ -21,6 +15,7 @@ use Rattle.query_lang.specs.TypedExprs.{negation_checked, expr_step, expr_checke
 use Rattle.query_lang.specs.TypedFolds.{nodes_step, expr_nodes}
 use Rattle.query_lang.proofs.TreeLemmas.{term_number, term_slot, term_not, term_binary}
 use Rattle.query_types.specs.Numbers.{greatest_of, number_step, greatest_number}
+use Rattle.query_lang.specs.declared.query.Expr.TheOpen as expr
 
 -- a number of the text is that number as a term
 abbrev pub IsNumberOf : Sort → Term → Type 0
@@ -43,6 +38,10 @@ must_ok false kind span next x e = cc e
 pub same_ok : {A : Type 0} (x y : A) → (let whole : Checked A = Ok x in whole) ≡ Ok y → x ≡ y
 same_ok x y e = cc e
 
+-- what holds of what is found, of what is answered
+pub from_ok : {A : Type 0} (P : A → Type 0) {x y : A} → (let whole : Checked A = Ok x in whole) ≡ Ok y → P x → P y
+from_ok P e h = subst P (same_ok _ _ e) h
+
 pub found_first : {A B : Type 0} (first : Checked A) (next : A → Checked B) (y : B) → and_then first next ≡ Ok y → (x : A) × (first ≡ Ok x)
     × (next x ≡ Ok y)
 found_first (Ok x) next y e = (x, refl, e)
@@ -64,7 +63,7 @@ within_names names id v at some none e = go (place_of names id) refl e
   where
     go : (o : Option ℕ) → place_of names id ≡ o → at o ≡ Ok v → v < length names
     go (Some slot) is e =
-        let same = same_ok slot v (sym (some slot) ∙ e) in
+        let same = same_ok _ _ (sym (some slot) ∙ e) in
         let h = place_bound names 0 id slot is in
         omega (arith, h, same)
     go None is e = none v e
@@ -83,7 +82,7 @@ not_true false e = refl
 
 constant : (test : ℕ → Bool) (Q : ℕ → Type 0) (sort : Sort) (t : Term) → ((n : ℕ) → test n ≡ true → Q n) → IsNumberOf sort t
     → is_number_with test sort ≡ true → IsConstant Q t
-constant test Q (Number n) t tells is h = let C : Term → Type 0 = λ z. IsConstant Q z in subst C (sym is) (tells n h)
+constant test Q (Number n) t tells is h = rw is (tells n h)
 constant test Q Word t tells is h = cc h
 constant test Q Condition t tells is h = cc h
 
@@ -130,14 +129,12 @@ number_made false t = tt
 pub of_two_valid : (op : Op) (at : Span) (slots n m : ℕ) (a b found : Found) → IsFound slots n a → IsFound slots m b
     → of_two op at a b ≡ Ok found → IsFound slots (1 + n + m) found
 of_two_valid op at slots n m a b found va vb e =
-    let one = must_ok _ _ _ _ found e in
-    let two = must_ok _ _ _ _ found one.1 in
-    let three = must_ok _ _ _ _ found two.1 in
-    let F : Found → Type 0 = λ z. IsFound slots (1 + n + m) z in
-    let V : Term → Type 0 = λ t. IsValidTerm slots t in
+    let one = must_ok _ _ _ _ _ e in
+    let two = must_ok _ _ _ _ _ one.1 in
+    let three = must_ok _ _ _ _ _ two.1 in
     let is = term_binary op a.tree b.tree in
-    subst F (same_ok _ found three.1) (record {
-      term = subst V (sym is) (va.term, vb.term, takes op slots n m a b va vb one.0 two.0 three.0);
+    from_ok (IsFound _ _) three.1 (record {
+      term = rw is (va.term, vb.term, takes op slots n m a b va vb one.0 two.0 three.0);
       sort = ap is_condition is ∙ sym (sort_made (gives_condition op));
       number = number_made (gives_condition op) _;
       nodes = omega (arith, ap term_nodes is, va.nodes, vb.nodes);
@@ -146,12 +143,10 @@ of_two_valid op at slots n m a b found va vb e =
 pub negated_valid : (span : Span) (slots n : ℕ) (a found : Found) → IsFound slots n a → negation_checked span a ≡ Ok found
     → IsFound slots (1 + n) found
 negated_valid span slots n a found va e =
-    let one = must_ok _ _ _ _ found e in
-    let F : Found → Type 0 = λ z. IsFound slots (1 + n) z in
-    let V : Term → Type 0 = λ t. IsValidTerm slots t in
+    let one = must_ok _ _ _ _ _ e in
     let is = term_not a.tree in
-    subst F (same_ok _ found one.1) (record {
-      term = subst V (sym is) (va.term, va.sort ∙ one.0);
+    from_ok (IsFound _ _) one.1 (record {
+      term = rw is (va.term, va.sort ∙ one.0);
       sort = ap is_condition is;
       number = tt;
       nodes = omega (arith, ap term_nodes is, va.nodes);
@@ -194,16 +189,14 @@ IsSoundLayer columns hidden x = (found : Found) → number_step (map-Expr Expr �
 
 of_layer : (columns hidden : List ℕ) (x : expr.Expr-F Expr) → IsSoundLayer columns hidden x → IsSound columns hidden (roll-Expr x)
 of_layer columns hidden x layer found h e =
-    let N : ℕ → Type 0 = λ n. IsFound (length columns) n found in
-    let B : ℕ → Type 0 = λ n. n < 2 ^ 64 in
-    subst N (sym (fold-roll-Expr ℕ nodes_step x)) (layer found (subst B (fold-roll-Expr ℕ number_step x) h)
+    rw (fold-roll-Expr ℕ nodes_step x) (layer found (rw (← fold-roll-Expr ℕ number_step x) h)
     (sym (fold-roll-Expr (Checked Found) (expr_step columns hidden) x) ∙ e))
 
 collected_valid : (columns hidden : List ℕ) (args : List (Sound columns hidden)) (before all : List Found)
     → greatest_of (map greatest_number (map (λ a. a.0) args)) < 2 ^ 64
     → collected before (map (expr_checked columns hidden) (map (λ a. a.0) args)) ≡ Ok all
     → (rest : List Found) × (all ≡ before ++ rest) × AreFound (length columns) (map expr_nodes (map (λ a. a.0) args)) rest
-collected_valid columns hidden [] before all h e = ([], sym (same_ok _ all e) ∙ sym (append-nil before), tt)
+collected_valid columns hidden [] before all h e = ([], sym (same_ok _ _ e) ∙ sym (append-nil before), tt)
 collected_valid columns hidden (a ∷ args) before all h e = go (expr_checked columns hidden a.0) refl
     (λ x k. collected_valid columns hidden args (before ++ x ∷ []) all (omega arith) k) e
   where
@@ -220,38 +213,34 @@ collected_valid columns hidden (a ∷ args) before all h e = go (expr_checked co
 step : (columns hidden : List ℕ) (y : expr.Expr-F (Sound columns hidden))
     → IsSoundLayer columns hidden (map-Expr (Sound columns hidden) Expr (λ a. a.0) y)
 step columns hidden (expr.Number n span) found h e =
-    let F : Found → Type 0 = λ z. IsFound (length columns) 1 z in
-    let V : Term → Type 0 = λ t. IsValidTerm (length columns) t in
     let is = term_number n in
-    subst F (same_ok _ found e) (record {
-      term = subst V (sym is) h;
+    from_ok (IsFound _ _) e (record {
+      term = rw is h;
       sort = ap is_condition is;
       number = is;
       nodes =
           omega (arith, ap term_nodes is);
     })
 step columns hidden (expr.Named name) found h e =
-    let first = found_first (slot_of columns hidden name) _ found e in
-    let F : Found → Type 0 = λ z. IsFound (length columns) 1 z in
-    let V : Term → Type 0 = λ t. IsValidTerm (length columns) t in
+    let first = found_first (slot_of columns hidden name) _ _ e in
     let is = term_slot first.0 in
-    subst F (same_ok _ found first.2) (record {
-      term = subst V (sym is) (slot_bound columns hidden name first.0 first.1);
+    from_ok (IsFound _ _) first.2 (record {
+      term = rw is (slot_bound columns hidden name first.0 first.1);
       sort =
           ap is_condition is;
       number = tt;
       nodes = omega (arith, ap term_nodes is);
     })
 step columns hidden (expr.Not span a) found h e =
-    let first = found_first (expr_checked columns hidden a.0) _ found e in
+    let first = found_first _ _ _ e in
     negated_valid span (length columns) (expr_nodes a.0) first.0 found (a.1 first.0 h first.1) first.2
 step columns hidden (expr.Binary op span a b) found h e =
-    let first = found_first (expr_checked columns hidden a.0) _ found e in
-    let second = found_first (expr_checked columns hidden b.0) _ found first.2 in
+    let first = found_first _ _ _ e in
+    let second = found_first _ _ _ first.2 in
     of_two_valid op first.0.at (length columns) (expr_nodes a.0) (expr_nodes b.0) first.0 second.0 found (a.1 first.0 (omega arith) first.1)
     (b.1 second.0 (omega arith) second.1) second.2
 step columns hidden (expr.Call op span args) found h e =
-    let first = found_first (collected [] (map (expr_checked columns hidden) (map (λ a. a.0) args))) _ found e in
+    let first = found_first _ _ _ e in
     let all = collected_valid columns hidden args [] first.0 h first.1 in
     call_valid op span (length columns) (map expr_nodes (map (λ a. a.0) args)) all.0 found all.2
     (ap (call_of op span) (sym all.1) ∙ first.2)
@@ -259,8 +248,7 @@ step columns hidden (expr.Call op span args) found h e =
 -- what the check of an expression gives is valid over its columns, and has no more nodes than the text
 pub expr_valid : (columns hidden : List ℕ) (e : Expr) → IsSound columns hidden e
 expr_valid columns hidden = ind-Expr (IsSound columns hidden) (λ x y is.
-    let L : expr.Expr-F Expr → Type 0 = λ z. IsSoundLayer columns hidden z in
-    of_layer columns hidden x (subst L is (step columns hidden y)))
+    of_layer columns hidden x (rw (← is) (step columns hidden y)))
 
 -- a condition over that many slots, of that many nodes
 pub record IsConditionIn (slots most : ℕ) (e : TypedExpr) : Type 0 where
@@ -276,17 +264,15 @@ pub record IsWordIn (slots most : ℕ) (e : TypedExpr) : Type 0 where
 pub condition_valid : (columns hidden : List ℕ) (e : Expr) (tree : TypedExpr) → greatest_number e < 2 ^ 64
     → condition_of columns hidden e ≡ Ok tree → IsConditionIn (length columns) (expr_nodes e) tree
 condition_valid columns hidden e tree h is =
-    let first = found_first (expr_checked columns hidden e) _ tree is in
+    let first = found_first _ _ _ is in
     let v = expr_valid columns hidden e first.0 h first.1 in
-    let test = must_ok _ _ _ _ tree first.2 in
-    let T : TypedExpr → Type 0 = λ z. IsConditionIn (length columns) (expr_nodes e) z in
-    subst T (same_ok _ tree test.1) (record { term = v.term; condition = v.sort ∙ test.0; nodes = v.nodes })
+    let test = must_ok _ _ _ _ _ first.2 in
+    from_ok (IsConditionIn _ _) test.1 (record { term = v.term; condition = v.sort ∙ test.0; nodes = v.nodes })
 
 pub word_valid : (columns hidden : List ℕ) (e : Expr) (tree : TypedExpr) → greatest_number e < 2 ^ 64 → word_of columns hidden e ≡ Ok tree
     → IsWordIn (length columns) (expr_nodes e) tree
 word_valid columns hidden e tree h is =
-    let first = found_first (expr_checked columns hidden e) _ tree is in
+    let first = found_first _ _ _ is in
     let v = expr_valid columns hidden e first.0 h first.1 in
-    let test = must_ok _ _ _ _ tree first.2 in
-    let T : TypedExpr → Type 0 = λ z. IsWordIn (length columns) (expr_nodes e) z in
-    subst T (same_ok _ tree test.1) (record { term = v.term; word = v.sort ∙ not_true _ test.0; nodes = v.nodes })
+    let test = must_ok _ _ _ _ _ first.2 in
+    from_ok (IsWordIn _ _) test.1 (record { term = v.term; word = v.sort ∙ not_true _ test.0; nodes = v.nodes })

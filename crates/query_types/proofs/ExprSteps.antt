@@ -1,15 +1,12 @@
 -- The forms of an expression: what is found of each from what is found of its parts.
-use Rattle.std.proofs.Common.{◌≡◌, ℕ, ◌+◌, ◌<◌, List, [], map, sym, ap, ◌∙◌, arith}
-use Rattle.std.specs.Prelude.{max}
-use Rattle.query_lang.specs.declared.fault.Span.{Span}
-use Rattle.query_lang.specs.declared.fold.Op.{Op}
+use Rattle.std.proofs.Common.{◌≡◌, ℕ, ◌<◌, List, [], map, sym, ap, ◌∙◌, arith}
+use Rattle.query_lang.specs.declared.{fault.Span.Span, fold.Op.Op, typing.Found.Found}
 use Rattle.query_lang.specs.declared.query.Expr.{Expr, Not, Binary, Call, fold-roll-Expr, roll-Expr, map-Expr}
-use Rattle.query_lang.specs.declared.query.Expr.TheOpen as expr
 use Rattle.query_lang.specs.declared.query.Expr.TheVariants.{rolls-Not, rolls-Binary, rolls-Call}
-use Rattle.query_lang.specs.declared.typing.Found.{Found}
 use Rattle.query_lang.specs.Checks.{Checked, and_then, collected}
 use Rattle.query_lang.specs.TypedExprs.{of_two, call_of, negation_checked, expr_step, expr_checked}
 use Rattle.query_types.specs.Numbers.{greatest_of, number_step, greatest_number}
+use Rattle.query_lang.specs.declared.query.Expr.TheOpen as expr
 
 module _ (columns hidden : List ℕ) where
   abbrev checked : Expr → Checked Found

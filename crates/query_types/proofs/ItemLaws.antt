@@ -1,79 +1,51 @@
 -- What the check of items keeps: valid folds with their names, and the limits on streams, finals and groupbys.
-use Rattle.std.proofs.Common.{◌≡◌, ℕ, ◌+◌, ◌<◌, ◌≤◌, ◌^◌, Bool, true, false, ◌||◌, cond, List, [], ◌∷◌, ◌++◌, length, map, Option, Some}
-use Rattle.std.proofs.Common.{None, Ok, nat_lt, refl, sym, ap, subst, ◌∙◌, arith}
-use Rattle.std.specs.Prelude.{is_some}
-use Rattle.std.specs.List.{All}
-use Rattle.std.proofs.lemmas.Bool.{ltb-true}
-use Rattle.std.proofs.lemmas.List.{length-append}
+use Rattle.std.proofs.Common.{◌≡◌, ℕ, ◌+◌, ◌<◌, ◌≤◌, ◌^◌, Bool, true, false, cond, List, [], ◌∷◌, ◌++◌, length, map, Option, Some, None, Ok}
+use Rattle.std.proofs.Common.{refl, sym, ap, ◌∙◌, arith}
+use Rattle.std.{specs.Prelude.is_some, specs.List.All, proofs.lemmas.List.length-append}
 use Rattle.std.proofs.lemmas.List.Elements.{All-nil, All-push, All-head, All-tail, filter_map-append}
-use Rattle.query_lang.specs.declared.fault.FaultKind.TheVariants.{NameTaken, OverLimit}
-use Rattle.query_lang.specs.declared.fault.Limit.TheVariants.{Bindings, Groupbys, States, Args}
-use Rattle.query_lang.specs.declared.fold.TypedFold.{TypedFold}
-use Rattle.query_lang.specs.declared.query.FoldDef.{FoldDef}
-use Rattle.query_lang.specs.declared.query.Item.{Item}
-use Rattle.query_lang.specs.declared.query.Item.TheVariants as item
-use Rattle.query_lang.specs.declared.query.Name.{Name}
-use Rattle.query_lang.specs.declared.query.StateVar.{StateVar}
-use Rattle.query_lang.specs.declared.query.StreamOp.{StreamOp}
-use Rattle.query_lang.specs.declared.query.StreamOp.TheVariants as ops
-use Rattle.query_lang.specs.declared.typed.TypedOp.{TypedOp}
-use Rattle.query_lang.specs.declared.typed.TypedFinal.{TypedFinal}
-use Rattle.query_lang.specs.declared.typed.TypedStream.{TypedStream}
-use Rattle.query_lang.specs.declared.typing.Earlier.{Earlier}
-use Rattle.query_lang.specs.declared.typing.Given.{Given}
-use Rattle.query_lang.specs.declared.typing.MadeFinal.{MadeFinal}
-use Rattle.query_lang.specs.declared.typing.MadeStream.{MadeStream}
-use Rattle.query_lang.specs.Folds.{IsValidFold}
-use Rattle.query_lang.specs.Limits.{KeepsLimits, IsNumbered}
+use Rattle.query_lang.specs.declared.{fold.TypedFold.TypedFold, query.FoldDef.FoldDef, query.Item.Item, query.Name.Name}
+use Rattle.query_lang.specs.declared.{query.StateVar.StateVar, query.StreamOp.StreamOp, typed.TypedOp.TypedOp, typed.TypedFinal.TypedFinal}
+use Rattle.query_lang.specs.declared.{typed.TypedStream.TypedStream, typing.Earlier.Earlier, typing.Given.Given, typing.MadeFinal.MadeFinal}
+use Rattle.query_lang.specs.declared.{typing.MadeStream.MadeStream, fault.TheConstants.MAX_BINDINGS, fault.TheConstants.MAX_GROUPBYS}
+use Rattle.query_lang.specs.{Folds.IsValidFold, Limits.KeepsLimits, Limits.IsNumbered, TypedFolds.states_from, TypedFolds.args_from}
+use Rattle.query_lang.specs.{TypedFinals.with_final, TypedQueries.AreNames, TypedQueries.HasNames, Typing.with_fold, Typing.items_checked}
 use Rattle.query_lang.specs.Streams.{Taking, takings, taking_of}
-use Rattle.query_lang.specs.Checks.{is_among}
-use Rattle.query_lang.specs.TypedExprs.{condition_of}
-use Rattle.query_lang.specs.TypedFolds.{states_from, args_from, body_checked, fold_checked}
-use Rattle.query_lang.specs.TypedStreams.{meaning_of, begun, stream_named, fold_named, column_names, new_columns, no_new_columns, clash}
-use Rattle.query_lang.specs.TypedStreams.{keys_checked, arguments_of, made_stream, with_stream}
-use Rattle.query_lang.specs.TypedFinals.{table_named, five_fields, made_final, with_final}
-use Rattle.query_lang.specs.TypedQueries.{AreNames, HasNames}
-use Rattle.query_lang.specs.Typing.{with_fold, item_checked, items_checked}
-use Rattle.query_lang.specs.declared.fault.TheConstants.{MAX_ARGS, MAX_BINDINGS, MAX_GROUPBYS, MAX_STATES}
-use Rattle.query_types.specs.Numbers.{greatest_of, item_number}
-use Rattle.query_types.proofs.ExprLaws.{same_ok, found_first, must_ok}
-use Rattle.query_types.proofs.BodyLaws.{must_not_ok}
-use Rattle.query_types.proofs.StmtLaws.{fold_valid}
+use Rattle.query_lang.specs.TypedStreams.{begun, column_names, with_stream}
+use Rattle.query_types.{specs.Numbers.greatest_of, specs.Numbers.item_number, proofs.BodyLaws.must_not_ok, proofs.StmtLaws.fold_valid}
+use Rattle.query_types.proofs.ExprLaws.{from_ok, found_first, must_ok}
+use Rattle.query_types.proofs.Makings.{StreamMade, filters, maps, zips, groups, FoldMade, folded, ItemMade, fold_item, stream_item}
+use Rattle.query_types.proofs.Makings.{final_item, print_item, item_made}
+use Rattle.query_lang.specs.declared.query.Item.TheVariants as item
 
 abbrev pub IsName : ℕ → ℕ → Type 0
 IsName names id = id < names
 
 states_names : (names : ℕ) (found states : List ℕ) (list : List StateVar) → AreNames names found → All (λ state. state.name.id < names) list
     → states_from found list ≡ Ok states → AreNames names states
-states_names names found states [] h all e = let A : List ℕ → Type 0 = λ l. AreNames names l in subst A (same_ok found states e) h
+states_names names found states [] h all e = from_ok (AreNames names) e h
 states_names names found states (one ∷ rest) h all e =
     let P : StateVar → Type 0 = λ state. state.name.id < names in
-    let new = must_not_ok (is_among one.name.id found) NameTaken one.name.span _ states e in
-    let room = must_ok (nat_lt (length found) MAX_STATES) (OverLimit States) one.name.span _ states new.1 in
+    let new = must_not_ok _ _ _ _ _ e in
+    let room = must_ok _ _ _ _ _ new.1 in
     states_names names (found ++ one.name.id ∷ []) states rest (All-push (IsName names) found one.name.id h (All-head P one rest all))
     (All-tail P one rest all) room.1
 
 args_names : (names : ℕ) (states found args : List ℕ) (list : List Name) → AreNames names found → All (λ arg. arg.id < names) list
     → args_from states found list ≡ Ok args → AreNames names args
-args_names names states found args [] h all e = let A : List ℕ → Type 0 = λ l. AreNames names l in subst A (same_ok found args e) h
+args_names names states found args [] h all e = from_ok (AreNames names) e h
 args_names names states found args (one ∷ rest) h all e =
     let P : Name → Type 0 = λ arg. arg.id < names in
-    let new = must_not_ok (is_among one.id states || is_among one.id found) NameTaken one.span _ args e in
-    let room = must_ok (nat_lt (length found) MAX_ARGS) (OverLimit Args) one.span _ args new.1 in
+    let new = must_not_ok _ _ _ _ _ e in
+    let room = must_ok _ _ _ _ _ new.1 in
     args_names names states (found ++ one.id ∷ []) args rest (All-push (IsName names) found one.id h (All-head P one rest all))
     (All-tail P one rest all) room.1
 
-pub fold_named_well : (names : ℕ) (d : FoldDef) (f : TypedFold) → IsNumbered names (item.Fold d) → fold_checked d ≡ Ok f → HasNames names f
-fold_named_well names d f h e =
-    let states = found_first (states_from [] d.states) _ f e in
-    let args = found_first (args_from states.0 [] d.args) _ f states.2 in
-    let body = found_first (body_checked states.0 args.0 d.body) _ f args.2 in
-    let F : TypedFold → Type 0 = λ z. HasNames names z in
-    subst F (same_ok _ f body.2) (record {
-      name = h.0;
-      states = states_names names [] states.0 d.states (All-nil (IsName names)) h.1 states.1;
-      args = args_names names states.0 [] args.0 d.args (All-nil (IsName names)) h.2 args.1;
-    })
+pub fold_named_well : (names : ℕ) {d : FoldDef} {f : TypedFold} → IsNumbered names (item.Fold d) → FoldMade d f → HasNames names f
+fold_named_well names {d} h (folded states args body is_states is_args is_body) = record {
+  name = h.0;
+  states = states_names names [] states d.states (All-nil (IsName names)) h.1 is_states;
+  args = args_names names states [] args d.args (All-nil (IsName names)) h.2 is_args;
+}
 
 -- the groupbys are those with tables, and there are at most 8
 abbrev IsCounted : Earlier → TypedOp → Bool → Type 0
@@ -97,42 +69,15 @@ with_fold_stands names e f s v n = record {
   most = s.most;
 }
 
-pub room_for_one : (e : Earlier) (name : Name) → begun e name ≡ Ok tt → length e.streams + length e.finals < MAX_BINDINGS
-room_for_one e name h =
-    let new = must_not_ok (is_some (meaning_of e.known name.id)) NameTaken name.span _ tt h in
-    let room = must_ok (nat_lt (length e.streams + length e.finals) MAX_BINDINGS) (OverLimit Bindings) name.span _ tt new.1 in
-    ltb-true _ _ room.0
-
 some_none : (t : Taking) → (let o : Option Taking = Some t in o) ≡ None → ⊥
 some_none t e = cc e
 
-made_counted : (five : List ℕ) (e : Earlier) (name : Name) (op : StreamOp) (made : MadeStream) → made_stream five e name op ≡ Ok made
+made_counted : {five : List ℕ} {e : Earlier} {op : StreamOp} {made : MadeStream} → StreamMade five e op made
     → IsCounted e made.op (is_some made.table)
-made_counted five e name (ops.Filter input c) made h =
-    let source = found_first (stream_named e.known input) _ made h in
-    let condition = found_first (condition_of (column_names source.0.columns) source.0.hidden c) _ made source.2 in
-    let C : MadeStream → Type 0 = λ m. IsCounted e m.op (is_some m.table) in
-    subst C (same_ok _ made condition.2) refl
-made_counted five e name (ops.Map input columns) made h =
-    let source = found_first (stream_named e.known input) _ made h in
-    let new = found_first (new_columns (column_names source.0.columns) source.0.hidden no_new_columns columns) _ made source.2 in
-    let C : MadeStream → Type 0 = λ m. IsCounted e m.op (is_some m.table) in
-    subst C (same_ok _ made new.2) refl
-made_counted five e name (ops.Zip first second) made h =
-    let left = found_first (stream_named e.known first) _ made h in
-    let right = found_first (stream_named e.known second) _ made left.2 in
-    let free = must_not_ok (clash left.0.columns right.0.columns) NameTaken second.span _ made right.2 in
-    let C : MadeStream → Type 0 = λ m. IsCounted e m.op (is_some m.table) in
-    subst C (same_ok _ made free.1) refl
-made_counted five e name (ops.Group input keys fold_name) made h =
-    let room = must_ok (nat_lt e.groups MAX_GROUPBYS) (OverLimit Groupbys) name.span _ made h in
-    let source = found_first (stream_named e.known input) _ made room.1 in
-    let picked = found_first (keys_checked five (column_names source.0.columns) source.0.hidden keys) _ made source.2 in
-    let f = found_first (fold_named e.known fold_name) _ made picked.2 in
-    let arguments = found_first (arguments_of (column_names source.0.columns) source.0.hidden picked.0.names f.0 fold_name.span) _ made
-    f.2 in
-    let C : MadeStream → Type 0 = λ m. IsCounted e m.op (is_some m.table) in
-    subst C (same_ok _ made arguments.2) (λ none. some_none _ none, ltb-true _ _ room.0)
+made_counted (filters source condition is_source is_condition) = refl
+made_counted (maps source new is_source is_new) = refl
+made_counted (zips left right is_left is_right free) = refl
+made_counted (groups source picked f arguments room is_source is_picked is_f are) = (λ none. some_none _ none, room)
 
 last_counted : (e : Earlier) (name : Name) (columns : List ℕ) (op : TypedOp) (b : Bool) → IsCounted e op b → e.groups ≤ MAX_GROUPBYS
     → (length (takings (record { name = name; columns = columns; op = op } ∷ [])) ≡ cond b 1 0) × (e.groups + cond b 1 0 ≤ MAX_GROUPBYS)
@@ -176,46 +121,23 @@ with_final_stands names e name made s room =
       most = s.most;
     }
 
-pub item_stands : (names : ℕ) (given : Given) (e after : Earlier) (one : Item) → KeepsLimits one → IsNumbered names one
-    → item_number one < 2 ^ 64 → Standing names e → item_checked given e one ≡ Ok after → Standing names after
-item_stands names given e after (item.Fold d) limits numbered words s h =
-    let free = must_not_ok (is_some (meaning_of e.known d.name.id)) NameTaken d.name.span _ after h in
-    let f = found_first (fold_checked d) _ after free.1 in
-    let E : Earlier → Type 0 = λ z. Standing names z in
-    subst E (same_ok _ after f.2) (with_fold_stands names e f.0 s (fold_valid d f.0 words limits.0 limits.1 f.1)
-    (fold_named_well names d f.0 numbered f.1))
-item_stands names given e after (item.Stream d) limits numbered words s h =
-    let begins = found_first (begun e d.name) _ after h in
-    let made = found_first (made_stream (five_fields given.fields) e d.name d.op) _ after begins.2 in
-    let E : Earlier → Type 0 = λ z. Standing names z in
-    subst E (same_ok _ after made.2) (with_stream_stands names e d.name made.0 s (room_for_one e d.name begins.1)
-    (made_counted (five_fields given.fields) e d.name d.op made.0 made.1))
-item_stands names given e after (item.Final d) limits numbered words s h =
-    let begins = found_first (begun e d.name) _ after h in
-    let made = found_first (made_final given e d.op) _ after begins.2 in
-    let E : Earlier → Type 0 = λ z. Standing names z in
-    subst E (same_ok _ after made.2) (with_final_stands names e d.name made.0 s (room_for_one e d.name begins.1))
-item_stands names given e after (item.Print name) limits numbered words s h =
-    let table = found_first (table_named e.known name) _ after h in
-    let new = must_not_ok (is_among name.id e.printed) NameTaken name.span _ after table.2 in
-    let E : Earlier → Type 0 = λ z. Standing names z in
-    subst E (same_ok _ after new.1) (record {
-      folds = s.folds;
-      fold_names = s.fold_names;
-      bindings = s.bindings;
-      groups = s.groups;
-      most =
-          s.most;
-    })
+pub item_stands : (names : ℕ) {given : Given} {e after : Earlier} {one : Item} → KeepsLimits one → IsNumbered names one
+    → item_number one < 2 ^ 64 → Standing names e → ItemMade given e one after → Standing names after
+item_stands names {e = e} limits numbered words s (fold_item {d} f free is) =
+    with_fold_stands names e f s (fold_valid words limits.0 limits.1 is) (fold_named_well names numbered is)
+item_stands names {e = e} limits numbered words s (stream_item {d} made begun is) =
+    with_stream_stands names e d.name made s begun.room (made_counted is)
+item_stands names {e = e} limits numbered words s (final_item {d} made begun is) = with_final_stands names e d.name made s begun.room
+item_stands names limits numbered words s (print_item table is_table new) =
+    record { folds = s.folds; fold_names = s.fold_names; bindings = s.bindings; groups = s.groups; most = s.most }
 
 pub items_stand : (names : ℕ) (given : Given) (items : List Item) (e after : Earlier) → All KeepsLimits items → All (IsNumbered names) items
     → greatest_of (map item_number items) < 2 ^ 64 → Standing names e
     → items_checked given e items ≡ Ok after → Standing names after
-items_stand names given [] e after limits numbered words s h = let E : Earlier → Type 0 =
-    λ z. Standing names z in subst E (same_ok e after h) s
+items_stand names given [] e after limits numbered words s h = from_ok (Standing names) h s
 items_stand names given (one ∷ rest) e after limits numbered words s h =
-    let first = found_first (item_checked given e one) _ after h in
+    let first = found_first _ _ _ h in
     items_stand names given rest first.0 after (All-tail KeepsLimits one rest limits) (All-tail (IsNumbered names) one rest numbered)
     (omega arith)
-    (item_stands names given e first.0 one (All-head KeepsLimits one rest limits) (All-head (IsNumbered names) one rest numbered)
-    (omega arith) s first.1) first.2
+    (item_stands names (All-head KeepsLimits one rest limits) (All-head (IsNumbered names) one rest numbered) (omega arith) s
+    (item_made given e first.0 one first.1)) first.2

@@ -7,6 +7,7 @@ pub mod ExprLaws
 pub mod ExprSteps
 pub mod FinalLaws
 pub mod NamedFits
+pub mod Makings
 pub mod MadeFits
 pub mod FitLaws
 pub mod ItemLaws

@@ -2,21 +2,16 @@
 use Rattle.std.proofs.Common.{◌≡◌, ℕ, ◌+◌, ◌≤◌, Bool, true, false, ◌||◌, cond, List, [], ◌∷◌, ◌++◌, length, map, Option, Some, None, Ok}
 use Rattle.std.proofs.Common.{Err, nat_eq, refl, sym, ap, subst, ◌∙◌, append_assoc, append-nil, arith}
 use Rattle.query_lang.specs.declared.fault.FaultKind.TheVariants.{WrongKind, BadConstant}
-use Rattle.query_lang.specs.declared.fault.Span.{Span}
-use Rattle.query_lang.specs.declared.fold.Op.{Op}
-use Rattle.query_lang.specs.declared.query.Name.{Name}
+use Rattle.query_lang.specs.{declared.fault.Span.Span, declared.fold.Op.Op, declared.query.Name.Name, declared.typing.Found.Found}
+use Rattle.query_lang.specs.{Terms.term_of, Folds.ReadsArguments, declared.fold.TypedExpr.TypedExpr}
 use Rattle.query_lang.specs.declared.query.Expr.{Expr, fold-roll-Expr, ind-Expr, roll-Expr, map-Expr}
-use Rattle.query_lang.specs.declared.query.Expr.TheOpen as expr
-use Rattle.query_lang.specs.declared.typing.Found.{Found}
-use Rattle.query_lang.specs.Terms.{Term, term_of}
-use Rattle.query_lang.specs.Folds.{ReadsArguments}
 use Rattle.query_lang.specs.Checks.{Checked, collected, is_among, place_from, place_of}
 use Rattle.query_lang.specs.TypedExprs.{is_operand, is_right_constant, is_condition_sort, slot_at, slot_of, of_two, call_of, expr_step}
 use Rattle.query_lang.specs.TypedExprs.{expr_checked, condition_of}
-use Rattle.query_lang.specs.declared.fold.TypedExpr.{TypedExpr}
 use Rattle.query_lang.specs.TypedFolds.{or_else, first_of, state_step, state_in}
 use Rattle.query_lang.proofs.TreeLemmas.{term_number, term_slot, term_not, term_binary}
-use Rattle.query_types.proofs.ExprLaws.{must_ok, same_ok, found_first}
+use Rattle.query_types.proofs.ExprLaws.{from_ok, must_ok, same_ok, found_first}
+use Rattle.query_lang.specs.declared.query.Expr.TheOpen as expr
 
 place_past : (states args : List ℕ) (at id v : ℕ) → is_among id states ≡ false → place_from at (states ++ args) id ≡ Some v → at
     + length states ≤ v
@@ -61,9 +56,7 @@ two_past op at states a b found ra rb e =
     let one = must_ok (is_operand op a.sort) WrongKind a.at _ found e in
     let two = must_ok (is_operand op b.sort) WrongKind b.at _ found one.1 in
     let three = must_ok (is_right_constant op b.sort) BadConstant b.at _ found two.1 in
-    let F : Found → Type 0 = λ z. ReadsPast states z in
-    let V : Term → Type 0 = λ t. ReadsArguments states t in
-    subst F (same_ok _ found three.1) (subst V (sym (term_binary op a.tree b.tree)) (ra, rb))
+    from_ok (ReadsPast states) three.1 (subst (ReadsArguments states) (sym (term_binary op a.tree b.tree)) (ra, rb))
 
 abbrev AllPast : ℕ → List Found → Type 0
 AllPast states [] = Unit {0}
@@ -97,7 +90,7 @@ collected_past : (states args : List ℕ) (es : List (Past states args)) (before
     → first_of (map (state_in states) (map (λ a. a.0) es)) ≡ None → collected before
     (map (expr_checked (states ++ args) []) (map (λ a. a.0) es)) ≡ Ok all
     → (rest : List Found) × (all ≡ before ++ rest) × AllPast (length states) rest
-collected_past states args [] before all h e = ([], sym (same_ok _ all e) ∙ sym (append-nil before), tt)
+collected_past states args [] before all h e = ([], sym (same_ok _ _ e) ∙ sym (append-nil before), tt)
 collected_past states args (a ∷ es) before all h e =
     let none = neither (state_in states a.0) _ h in
     go (expr_checked (states ++ args) [] a.0) refl none.0 (λ x k. collected_past states args es (before ++ x ∷ []) all none.1 k) e
@@ -114,39 +107,31 @@ collected_past states args (a ∷ es) before all h e =
 
 step : (states args : List ℕ) (y : expr.Expr-F (Past states args)) → IsPastLayer states args (map-Expr (Past states args) Expr (λ a. a.0) y)
 step states args (expr.Number n span) found h e =
-    let F : Found → Type 0 = λ z. ReadsPast (length states) z in
-    let V : Term → Type 0 = λ t. ReadsArguments (length states) t in
-    subst F (same_ok _ found e) (subst V (sym (term_number n)) tt)
+    from_ok (ReadsPast _) e (rw (term_number n) tt)
 step states args (expr.Named name) found h e =
-    let first = found_first (slot_of (states ++ args) [] name) _ found e in
-    let F : Found → Type 0 = λ z. ReadsPast (length states) z in
-    let V : Term → Type 0 = λ t. ReadsArguments (length states) t in
-    subst F (same_ok _ found first.2) (subst V (sym (term_slot first.0)) (slot_past states args name first.0 h first.1))
+    let first = found_first (slot_of (states ++ args) [] name) _ _ e in
+    from_ok (ReadsPast _) first.2 (subst (ReadsArguments _) (sym (term_slot first.0)) (slot_past states args name first.0 h first.1))
 step states args (expr.Not span a) found h e =
-    let first = found_first (expr_checked (states ++ args) [] a.0) _ found e in
+    let first = found_first _ _ _ e in
     let test = must_ok (is_condition_sort first.0.sort) WrongKind first.0.at _ found first.2 in
-    let F : Found → Type 0 = λ z. ReadsPast (length states) z in
-    let V : Term → Type 0 = λ t. ReadsArguments (length states) t in
-    subst F (same_ok _ found test.1) (subst V (sym (term_not first.0.tree)) (a.1 first.0 h first.1))
+    from_ok (ReadsPast _) test.1 (subst (ReadsArguments _) (sym (term_not first.0.tree)) (a.1 first.0 h first.1))
 step states args (expr.Binary op span a b) found h e =
     let none = neither (state_in states a.0) (state_in states b.0) h in
-    let first = found_first (expr_checked (states ++ args) [] a.0) _ found e in
-    let second = found_first (expr_checked (states ++ args) [] b.0) _ found first.2 in
+    let first = found_first _ _ _ e in
+    let second = found_first _ _ _ first.2 in
     two_past op first.0.at (length states) first.0 second.0 found (a.1 first.0 none.0 first.1) (b.1 second.0 none.1 second.1) second.2
 step states args (expr.Call op span es) found h e =
-    let first = found_first (collected [] (map (expr_checked (states ++ args) []) (map (λ a. a.0) es))) _ found e in
+    let first = found_first _ _ _ e in
     let all = collected_past states args es [] first.0 h first.1 in
     call_past op span (length states) all.0 found all.2 (ap (call_of op span) (sym all.1) ∙ first.2)
 
 expr_past : (states args : List ℕ) (e : Expr) → IsPast states args e
 expr_past states args = ind-Expr (IsPast states args) (λ x y is.
-    let L : expr.Expr-F Expr → Type 0 = λ z. IsPastLayer states args z in
-    of_layer states args x (subst L is (step states args y)))
+    of_layer states args x (rw (← is) (step states args y)))
 
 pub condition_past : (states args : List ℕ) (e : Expr) (tree : TypedExpr) → state_in states e ≡ None
     → condition_of (states ++ args) [] e ≡ Ok tree → ReadsArguments (length states) (term_of tree)
 condition_past states args e tree h is =
     let first = found_first (expr_checked (states ++ args) [] e) _ tree is in
     let test = must_ok (is_condition_sort first.0.sort) WrongKind first.0.at _ tree first.2 in
-    let T : TypedExpr → Type 0 = λ z. ReadsArguments (length states) (term_of z) in
-    subst T (same_ok _ tree test.1) (expr_past states args e first.0 h first.1)
+    from_ok (λ (z : TypedExpr). ReadsArguments (length states) (term_of z)) test.1 (expr_past states args e first.0 h first.1)

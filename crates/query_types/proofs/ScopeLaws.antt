@@ -2,8 +2,7 @@
 use Rattle.std.proofs.Common.{◌≡◌, ◌+◌, ◌≤◌, ◌++◌, length, ap, ◌∙◌, arith}
 use Rattle.std.proofs.lemmas.List.{length-append}
 use Rattle.query_lang.specs.declared.fault.TheConstants.{MAX_ARGS, MAX_STATES}
-use Rattle.query_types.specs.declared.bodies.Scope.{Scope}
-use Rattle.query_types.specs.Bodies.{IsScope}
+use Rattle.query_types.specs.{declared.bodies.Scope.Scope, Bodies.IsScope}
 
 pub scope_is : (scope : Scope) → scope.columns.now ≡ scope.states.now ++ scope.args.now → length scope.states.now ≤ MAX_STATES
     → length scope.args.now ≤ MAX_ARGS → IsScope scope

@@ -1,31 +1,20 @@
 -- What a query begins with, and what a readable query gives.
 use Rattle.std.proofs.Common.{◌≡◌, ℕ, ◌+◌, ◌<◌, ◌≤◌, Bool, true, false, not, ◌||◌, cond, nat_eq, List, [], ◌∷◌, length, map, min, count_by}
-use Rattle.std.proofs.Common.{None, refl, sym, ap, subst, ◌∙◌, codes, arith}
-use Rattle.std.specs.List.{All, list_any}
-use Rattle.std.specs.Str.{bytes_eq}
-use Rattle.std.proofs.lemmas.Bool.{eqb-true}
-use Rattle.std.proofs.lemmas.Slice.Eq.{bytes_eq-Decides}
+use Rattle.std.proofs.Common.{None, refl, sym, ap, ◌∙◌, codes, arith}
+use Rattle.std.specs.{List.All, List.list_any, Str.bytes_eq}
+use Rattle.std.proofs.lemmas.{Bool.eqb-true, Slice.Eq.bytes_eq-Decides}
 use Rattle.std.proofs.lemmas.List.Elements.{All-nil, All-cons, All-head, All-tail}
-use Rattle.marple_base.specs.declared.field.Field.{Field}
-use Rattle.marple_base.specs.Field.{all_fields, field_name}
-use Rattle.query_lang.specs.declared.query.Item.{Item}
-use Rattle.query_lang.specs.declared.query.Query.{Query}
-use Rattle.query_lang.specs.declared.typing.Earlier.{Earlier}
-use Rattle.query_lang.specs.declared.typing.Given.{Given}
-use Rattle.query_lang.specs.declared.typing.Known.{Known}
-use Rattle.query_lang.specs.declared.typing.Meaning.TheVariants as meaning
-use Rattle.query_lang.specs.declared.typing.Origin.TheVariants as origin
-use Rattle.query_lang.specs.declared.typing.StreamColumn.{StreamColumn}
-use Rattle.query_lang.specs.Limits.{IsReadable}
-use Rattle.query_lang.specs.Names.{number_in, with_name}
-use Rattle.query_lang.specs.Checks.{is_among}
+use Rattle.marple_base.specs.{declared.field.Field.Field, Field.all_fields, Field.field_name}
+use Rattle.query_lang.specs.{declared.query.Item.Item, declared.query.Query.Query, declared.typing.Earlier.Earlier}
+use Rattle.query_lang.specs.{declared.typing.Given.Given, declared.typing.Known.Known, declared.typing.StreamColumn.StreamColumn}
+use Rattle.query_lang.specs.{Limits.IsReadable, Names.number_in, Names.with_name, Checks.is_among, declared.fault.TheConstants.MAX_GROUPBYS}
 use Rattle.query_lang.specs.Typing.{field_numbers, given_of, is_groupby, start_of, typed_names, with_fields}
-use Rattle.query_lang.specs.declared.fault.TheConstants.{MAX_GROUPBYS}
 use Rattle.query_types.specs.Fitting.{AreApart, AreDifferent, AreReady, Fits, FitsKnown}
 use Rattle.query_types.proofs.ApartLaws.{both_false, or_false, apart_none, apart_push}
-use Rattle.query_types.proofs.MadeLaws.{names_of_made}
-use Rattle.query_types.proofs.NameLemmas.{one_more}
+use Rattle.query_types.proofs.{MadeLaws.names_of_made, NameLemmas.one_more}
 use Rattle.query_types.proofs.ValidLaws.{IsAmong, among_fields, among_self, item_more, numbers_known}
+use Rattle.query_lang.specs.declared.typing.Meaning.TheVariants as meaning
+use Rattle.query_lang.specs.declared.typing.Origin.TheVariants as origin
 
 -- ---- the numbers of the fields' names
 
@@ -118,12 +107,11 @@ start_fits names few =
     let ids = field_numbers (typed_names names) in
     let number = number_in (typed_names names) (codes "pktstream") in
     let columns = map (λ id. let column : StreamColumn = record { name = id; origin = origin.Field } in column) ids in
-    let A : List ℕ → Type 0 = λ l. AreApart l in
     let one : Known = record {
       name = number;
       meaning = meaning.Stream (record { number = 0; columns = columns; hidden = []; table = None });
     } in
-    let fits : FitsKnown one = record { columns = subst A (sym (names_of_made origin.Field ids)) (fields_apart names few); table = tt } in
+    let fits : FitsKnown one = record { columns = rw (names_of_made origin.Field ids) (fields_apart names few); table = tt } in
     record {
       known = All-cons FitsKnown one [] fits (All-nil FitsKnown);
       names = apart_push [] number apart_none (omega (arith, few, number_most (codes "pktstream") (typed_names names))) refl;
@@ -145,10 +133,10 @@ ready q readable =
     }
 
 pub all_ready : (q : Query) (all : List (List ℕ)) → IsReadable q → all ≡ typed_names q.names → AreReady all q.items
-all_ready q all readable same = let R : List (List ℕ) → Type 0 = λ names. AreReady names q.items in subst R (sym same) (ready q readable)
+all_ready q all readable same = rw same (ready q readable)
 
 pub start_is : (names : List (List ℕ)) (items : List Item) (start : Earlier) → AreReady names items → start ≡ start_of names → Fits start
-start_is names items start r same = let F : Earlier → Type 0 = λ e. Fits e in subst F (sym same) r.start
+start_is names items start r same = rw same r.start
 
 -- a ninth groupby isn't counted
 pub given_few : (given : Given) (names : List (List ℕ)) (items : List Item) → given ≡ given_of names items → given.groups ≤ MAX_GROUPBYS

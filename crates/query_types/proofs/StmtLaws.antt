@@ -1,38 +1,22 @@
 -- What the check of a fold gives is valid.
-use Rattle.std.proofs.Common.{◌≡◌, ℕ, ◌+◌, ◌<◌, ◌≤◌, ◌^◌, ◌||◌, List, [], ◌∷◌, ◌++◌, length, map, sum, sum_by, None, Ok, nat_lt, refl, sym}
-use Rattle.std.proofs.Common.{ap, subst, ◌∙◌, arith}
-use Rattle.std.specs.Prelude.{is_some}
-use Rattle.std.proofs.lemmas.Bool.{ltb-true}
-use Rattle.std.proofs.lemmas.List.{length-append, length-map}
-use Rattle.std.proofs.lemmas.List.Sums.{sum-map, sum_by-cons}
-use Rattle.query_lang.specs.declared.fault.FaultKind.TheVariants.{NameTaken, WrongArity, OverLimit}
-use Rattle.query_lang.specs.declared.fault.Limit.TheVariants.{States, Args}
-use Rattle.query_lang.specs.declared.fold.TypedExpr.{TypedExpr}
-use Rattle.query_lang.specs.declared.fold.TypedExpr.TheVariants as typed
-use Rattle.query_lang.specs.declared.fold.TypedFold.{TypedFold}
-use Rattle.query_lang.specs.declared.query.FoldDef.{FoldDef}
-use Rattle.query_lang.specs.declared.query.Name.{Name}
-use Rattle.query_lang.specs.declared.query.StateVar.{StateVar}
-use Rattle.query_lang.specs.declared.query.Expr.{Expr}
+use Rattle.std.proofs.Common.{◌≡◌, ℕ, ◌+◌, ◌<◌, ◌≤◌, ◌^◌, List, [], ◌∷◌, ◌++◌, length, map, sum, sum_by, None, Ok, refl, sym, ap, subst}
+use Rattle.std.proofs.Common.{◌∙◌, arith}
+use Rattle.std.proofs.lemmas.{Bool.ltb-true, List.length-append, List.length-map, List.Sums.sum-map, List.Sums.sum_by-cons}
+use Rattle.query_lang.specs.declared.{fold.TypedExpr.TypedExpr, fold.TypedFold.TypedFold, query.FoldDef.FoldDef, query.Name.Name}
+use Rattle.query_lang.specs.declared.{query.StateVar.StateVar, query.Expr.Expr, typing.Body.Body, typing.Enclosing.Enclosing}
 use Rattle.query_lang.specs.declared.query.Stmt.{Stmt, fold-roll-Stmt, ind-Stmt, roll-Stmt, map-Stmt}
-use Rattle.query_lang.specs.declared.query.Stmt.TheOpen as stmt
-use Rattle.query_lang.specs.declared.typing.Body.{Body}
-use Rattle.query_lang.specs.declared.typing.Enclosing.{Enclosing}
-use Rattle.query_lang.specs.Terms.{Term, term_of}
-use Rattle.query_lang.specs.Blocks.{End}
-use Rattle.query_lang.specs.Folds.{IsValidFold, ReadsArguments}
-use Rattle.query_lang.specs.Checks.{is_among}
-use Rattle.query_lang.specs.TypedExprs.{condition_of, word_of}
-use Rattle.query_lang.specs.TypedFolds.{states_from, args_from, target_of, state_in, inside, Adding, in_order, stmt_step, stmt_checked}
-use Rattle.query_lang.specs.TypedFolds.{expr_nodes, stmt_nodes_step, stmt_nodes, count_step, stmt_count, body_checked, fold_nodes}
-use Rattle.query_lang.specs.TypedFolds.{fold_statements, fold_checked}
+use Rattle.query_lang.specs.{Terms.term_of, Blocks.End, Folds.IsValidFold, Folds.ReadsArguments}
+use Rattle.query_lang.specs.TypedFolds.{states_from, args_from, state_in, inside, Adding, in_order, stmt_step, stmt_checked, expr_nodes}
+use Rattle.query_lang.specs.TypedFolds.{stmt_nodes_step, stmt_nodes, count_step, stmt_count, body_checked, fold_nodes, fold_statements}
 use Rattle.query_lang.proofs.TreeLemmas.{term_not}
 use Rattle.query_lang.specs.declared.fault.TheConstants.{MAX_ARGS, MAX_NODES, MAX_STATEMENTS, MAX_STATES}
 use Rattle.query_types.specs.Numbers.{greatest_of, stmt_number_step, greatest_in}
-use Rattle.query_types.proofs.ExprLaws.{same_ok, found_first, must_ok, IsConditionIn, IsWordIn, condition_valid, word_valid}
-use Rattle.query_types.proofs.ReadLaws.{condition_past}
-use Rattle.query_types.proofs.BodyLaws.{must_not_ok, IsBlockIn, IsBody, IsAround, target_bound, added, assign_block, if_block, inside_valid}
-use Rattle.query_types.proofs.BodyLaws.{not_in, emit_valid, no_state_ok}
+use Rattle.query_types.proofs.ExprLaws.{from_ok, same_ok, found_first, must_ok, IsConditionIn, IsWordIn, condition_valid, word_valid}
+use Rattle.query_types.proofs.{ReadLaws.condition_past, Makings.FoldMade, Makings.folded}
+use Rattle.query_types.proofs.BodyLaws.{wider, must_not_ok, IsBlockIn, IsBody, IsAround, target_bound, added, assign_block, if_block}
+use Rattle.query_types.proofs.BodyLaws.{inside_valid, not_in, emit_valid, no_state_ok}
+use Rattle.query_lang.specs.declared.fold.TypedExpr.TheVariants as typed
+use Rattle.query_lang.specs.declared.query.Stmt.TheOpen as stmt
 
 abbrev IsSound : List ℕ → List ℕ → Stmt → Type 0
 IsSound states args s = (n d p c : ℕ) (outer : Enclosing) (found made : Body) → greatest_in s < 2 ^ 64
@@ -58,15 +42,12 @@ of_layer states args x layer n d p c outer found made h va hn hd vf e =
     let nodes = fold-roll-Stmt ℕ stmt_nodes_step x in
     let count = fold-roll-Stmt ℕ count_step x in
     let B : ℕ → ℕ → Type 0 = λ a b. IsBody (length states) (length args) (p + a) (c + b) made in
-    let G : ℕ → Type 0 = λ a. a < 2 ^ 64 in
-    let N : ℕ → Type 0 = λ a. n + a ≤ MAX_NODES in
-    let C : ℕ → Type 0 = λ a. d + a ≤ MAX_STATEMENTS in
     let steps = ap (λ (f : Adding). f outer found) (fold-roll-Stmt Adding (stmt_step states args) x) in
-    let whole = layer n d p c outer found made (subst G (fold-roll-Stmt ℕ stmt_number_step x) h) va (subst N nodes hn) (subst C count hd) vf
+    let whole = layer n d p c outer found made (rw (← fold-roll-Stmt ℕ stmt_number_step x) h) va (rw (← nodes) hn) (rw (← count) hd) vf
     (sym steps ∙ e) in
     let half : B (stmt_nodes (roll-Stmt x)) (count_step (map-Stmt Stmt ℕ stmt_count x)) =
-    subst (λ a. B a (count_step (map-Stmt Stmt ℕ stmt_count x))) (sym nodes) whole in
-    subst (λ b. B (stmt_nodes (roll-Stmt x)) b) (sym count) half
+    rw nodes whole in
+    rw count half
 
 sum_cons : (f : Stmt → ℕ) (s : Stmt) (rest : List Stmt) → sum (map f (s ∷ rest)) ≡ f s + sum (map f rest)
 sum_cons f s rest = sum-map f (s ∷ rest) ∙ sum_by-cons f s rest ∙ ap (λ n. f s + n) (sym (sum-map f rest))
@@ -80,36 +61,23 @@ block_sound : (states args : List ℕ) (ss : List (Sound states args)) (n d p c 
     → IsBody (length states) (length args) (p + sum (map stmt_nodes (map (λ s. s.0) ss))) (c + sum (map stmt_count (map (λ s. s.0) ss)))
     made
 block_sound states args [] n d p c outer found made h va hn hd vf e =
-    let B : Body → Type 0 = λ b. IsBody (length states) (length args) (p + 0) (c + 0) b in
-    let same : IsBody (length states) (length args) (p + 0) (c + 0) found = record {
-      block = record { valid = vf.block.valid; nodes = omega (arith, vf.block.nodes); count = omega (arith, vf.block.count) };
-      emit = vf.emit;
-    } in
-    subst B (same_ok found made e) same
+    from_ok (IsBody _ _ _ _) e (record { block = wider vf.block (omega arith) (omega arith); emit = vf.emit })
 block_sound states args (s ∷ ss) n d p c outer found made h va hn hd vf e =
     let nodes = sum_cons stmt_nodes s.0 (map (λ s. s.0) ss) in
     let count = sum_cons stmt_count s.0 (map (λ s. s.0) ss) in
-    let first = found_first (stmt_checked states args s.0 outer found) _ made e in
+    let first = found_first _ _ _ e in
     let one = s.1 n d p c outer found first.0 (omega arith) va (omega (arith, nodes, hn)) (omega (arith, count, hd)) vf first.1 in
     let rest = block_sound states args ss n d (p + stmt_nodes s.0) (c + stmt_count s.0) outer first.0 made (omega arith) va
     (omega (arith, nodes, hn)) (omega (arith, count, hd)) one first.2 in
-    record {
-      block = record {
-        valid = rest.block.valid;
-        nodes = omega (arith, rest.block.nodes, nodes);
-        count =
-            omega (arith, rest.block.count, count);
-      };
-      emit = rest.emit;
-    }
+    record { block = wider rest.block (omega (arith, nodes)) (omega (arith, count)); emit = rest.emit }
 
 over_both : (states args : List ℕ) (n : ℕ) (e : TypedExpr) → IsConditionIn (length (states ++ args)) n e
     → IsConditionIn (length states + length args) n e
-over_both states args n e v = let C : ℕ → Type 0 = λ k. IsConditionIn k n e in subst C (length-append states args) v
+over_both states args n e v = rw (← length-append states args) v
 
 word_over_both : (states args : List ℕ) (n : ℕ) (e : TypedExpr) → IsWordIn (length (states ++ args)) n e
     → IsWordIn (length states + length args) n e
-word_over_both states args n e v = let C : ℕ → Type 0 = λ k. IsWordIn k n e in subst C (length-append states args) v
+word_over_both states args n e v = rw (← length-append states args) v
 
 empty_block : (states args : ℕ) → IsBlockIn states args 0 0 End
 empty_block states args = record { valid = tt; nodes = omega arith; count = omega arith }
@@ -118,13 +86,7 @@ more_nodes : (slots n m : ℕ) (e : TypedExpr) → n ≤ m → IsConditionIn slo
 more_nodes slots n m e h v = record { term = v.term; condition = v.condition; nodes = omega (arith, v.nodes) }
 
 not_reads : (states : ℕ) (e : TypedExpr) → ReadsArguments states (term_of e) → ReadsArguments states (term_of (typed.Not e))
-not_reads states e r = let V : Term → Type 0 = λ t. ReadsArguments states t in subst V (sym (term_not e)) r
-
-as_zero : (states args n k : ℕ) (made : Body) → IsBody states args (0 + n) (0 + k) made → IsBody states args n k made
-as_zero states args n k made v = record {
-  block = record { valid = v.block.valid; nodes = omega (arith, v.block.nodes); count = omega (arith, v.block.count) };
-  emit = v.emit;
-}
+not_reads states e r = rw (term_not e) r
 
 -- a choice
 if_step : (states args : List ℕ) (t : Expr) (a b : List (Sound states args)) → IsSoundLayer states args
@@ -134,12 +96,10 @@ if_step states args t a b n d p c outer found made h va hn hd vf e =
     let A = length args in
     let firsts = map (λ (s : Sound states args). s.0) a in
     let seconds = map (λ (s : Sound states args). s.0) b in
-    let condition = found_first (condition_of (states ++ args) [] t) _ made e in
+    let condition = found_first _ _ _ e in
     let k = condition.0 in
-    let one = found_first (in_order (map (stmt_checked states args) firsts) (inside states outer t k)
-    (record { statements = []; emit = found.emit })) _ made condition.2 in
-    let two = found_first (in_order (map (stmt_checked states args) seconds) (inside states outer t (typed.Not k))
-    (record { statements = []; emit = one.0.emit })) _ made one.2 in
+    let one = found_first _ _ _ condition.2 in
+    let two = found_first _ _ _ one.2 in
     let vc = over_both states args (expr_nodes t) k (condition_valid (states ++ args) [] t k (omega arith) condition.1) in
     let reads : state_in states t ≡ None → ReadsArguments S (term_of k) = λ none. condition_past states args t k none condition.1 in
     let holding = inside_valid states args n d (expr_nodes t) outer t k va
@@ -156,20 +116,9 @@ if_step states args t a b n d p c outer found made h va hn hd vf e =
     let y = sum (map stmt_nodes seconds) in
     let i = sum (map stmt_count firsts) in
     let j = sum (map stmt_count seconds) in
-    let w1 : IsBlockIn S A x i _ = record {
-      valid = v1.block.valid;
-      nodes = omega (arith, v1.block.nodes);
-      count =
-          omega (arith, v1.block.count);
-    } in
-    let w2 : IsBlockIn S A y j _ = record {
-      valid = v2.block.valid;
-      nodes = omega (arith, v2.block.nodes);
-      count =
-          omega (arith, v2.block.count);
-    } in
-    let B : Body → Type 0 = λ z. IsBody S A (p + (expr_nodes t + x + y)) (c + (1 + i + j)) z in
-    subst B (same_ok _ made two.2) (record {
+    let w1 : IsBlockIn S A x i _ = wider v1.block (omega arith) (omega arith) in
+    let w2 : IsBlockIn S A y j _ = wider v2.block (omega arith) (omega arith) in
+    from_ok (IsBody _ _ _ _) two.2 (record {
       block = added S A p c (expr_nodes t + x + y) (1 + i + j) found _ vf
           (if_block S A (expr_nodes t) x y i j k one.0.statements two.0.statements vc w1 w2);
       emit = v2.emit;
@@ -178,11 +127,10 @@ if_step states args t a b n d p c outer found made h va hn hd vf e =
 step : (states args : List ℕ) (y : stmt.Stmt-F (Sound states args)) → IsSoundLayer states args
     (map-Stmt (Sound states args) Stmt (λ s. s.0) y)
 step states args (stmt.Assign name value) n d p c outer found made h va hn hd vf e =
-    let target = found_first (target_of states args name) _ made e in
-    let word = found_first (word_of (states ++ args) [] value) _ made target.2 in
-    let B : Body → Type 0 = λ b. IsBody (length states) (length args) (p + expr_nodes value) (c + 1) b in
+    let target = found_first _ _ _ e in
+    let word = found_first _ _ _ target.2 in
     let w = word_over_both states args (expr_nodes value) word.0 (word_valid (states ++ args) [] value word.0 h word.1) in
-    subst B (same_ok _ made word.2) (record {
+    from_ok (IsBody _ _ _ _) word.2 (record {
       block = added (length states) (length args) p c (expr_nodes value) 1 found _ vf
           (assign_block (length states) (length args) (expr_nodes value) target.0 word.0 (target_bound states args name target.0 target.1)
           w);
@@ -191,18 +139,16 @@ step states args (stmt.Assign name value) n d p c outer found made h va hn hd vf
 step states args (stmt.If t a b) n d p c outer found made h va hn hd vf e =
     if_step states args t a b n d p c outer found made h va hn hd vf e
 step states args (stmt.Emit span) n d p c outer found made h va hn hd vf e =
-    let once = must_not_ok (is_some found.emit) WrongArity span _ made e in
-    let none = no_state_ok outer.state _ made once.1 in
-    let B : Body → Type 0 = λ b. IsBody (length states) (length args) (p + 0) (c + 1) b in
-    subst B (same_ok _ made none.1) (record {
-      block = record { valid = vf.block.valid; nodes = omega (arith, vf.block.nodes); count = omega (arith, vf.block.count) };
+    let once = must_not_ok _ _ _ _ _ e in
+    let none = no_state_ok _ _ _ once.1 in
+    from_ok (IsBody _ _ _ _) none.1 (record {
+      block = wider vf.block (omega arith) (omega arith);
       emit = emit_valid (length states) (length args) n d outer (omega arith) (omega arith) va none.0;
     })
 
 stmt_sound : (states args : List ℕ) (s : Stmt) → IsSound states args s
 stmt_sound states args = ind-Stmt (IsSound states args) (λ x y is.
-    let L : stmt.Stmt-F Stmt → Type 0 = λ z. IsSoundLayer states args z in
-    of_layer states args x (subst L is (step states args y)))
+    of_layer states args x (rw (← is) (step states args y)))
 
 sounds : (states args : List ℕ) (ss : List Stmt) → List (Sound states args)
 sounds states args [] = []
@@ -228,53 +174,46 @@ body_valid states args ss made h hn hd e =
     let Q : List Stmt → Type 0 = λ list. greatest_of (map greatest_in list) < 2 ^ 64 → sum (map stmt_nodes list) ≤ MAX_NODES
     → sum (map stmt_count list) ≤ MAX_STATEMENTS
     → in_order (map (stmt_checked states args) list) outer start ≡ Ok made
-    → IsBody S A (sum (map stmt_nodes list)) (sum (map stmt_count list)) made in
-    let whole : Q ss = subst Q is (λ g a b k. as_zero S A _ _ made (block_sound states args (sounds states args ss) 0 0 0 0 outer start made
-    g around (omega arith) (omega arith) v k)) in
+    → IsBody S A (0 + sum (map stmt_nodes list)) (0 + sum (map stmt_count list)) made in
+    let whole : Q ss = subst Q is (λ g a b k. block_sound states args (sounds states args ss) 0 0 0 0 outer start made g around
+    (omega arith)
+    (omega arith) v k) in
     let n = sum-map stmt_nodes ss in
     let k = sum-map stmt_count ss in
     let done = whole h (omega (arith, n)) (omega (arith, k)) e in
-    record {
-      block = record { valid = done.block.valid; nodes = omega (arith, done.block.nodes, n); count = omega (arith, done.block.count, k) };
-      emit = done.emit;
-    }
+    record { block = wider done.block (omega (arith, n)) (omega (arith, k)); emit = done.emit }
 
 states_length : (found states : List ℕ) (list : List StateVar) → length found ≤ MAX_STATES → states_from found list ≡ Ok states
     → (length states ≡ length found + length list) × (length states ≤ MAX_STATES)
 states_length found states [] h e =
-    let same = ap length (same_ok found states e) in
+    let same = ap length (same_ok _ _ e) in
     (omega arith, omega arith)
 states_length found states (one ∷ rest) h e =
-    let new = must_not_ok (is_among one.name.id found) NameTaken one.name.span _ states e in
-    let room = must_ok (nat_lt (length found) MAX_STATES) (OverLimit States) one.name.span _ states new.1 in
+    let new = must_not_ok _ _ _ _ _ e in
+    let room = must_ok _ _ _ _ _ new.1 in
     let below : length found < MAX_STATES = ltb-true _ _ room.0 in
     let more = states_length (found ++ one.name.id ∷ []) states rest (omega (arith, length-append found (one.name.id ∷ []))) room.1 in
     (omega (arith, more.0, length-append found (one.name.id ∷ [])), more.1)
 
 args_length : (states found args : List ℕ) (list : List Name) → length found ≤ MAX_ARGS → args_from states found list ≡ Ok args
     → length args ≤ MAX_ARGS
-args_length states found args [] h e = let same = ap length (same_ok found args e) in omega arith
+args_length states found args [] h e = let same = ap length (same_ok _ _ e) in omega arith
 args_length states found args (one ∷ rest) h e =
-    let new = must_not_ok (is_among one.id states || is_among one.id found) NameTaken one.span _ args e in
-    let room = must_ok (nat_lt (length found) MAX_ARGS) (OverLimit Args) one.span _ args new.1 in
+    let new = must_not_ok _ _ _ _ _ e in
+    let room = must_ok _ _ _ _ _ new.1 in
     let below : length found < MAX_ARGS = ltb-true _ _ room.0 in
     args_length states (found ++ one.id ∷ []) args rest (omega (arith, length-append found (one.id ∷ []))) room.1
 
 -- what the check of a fold gives is valid, where the fold keeps its limits and its numbers are words
-pub fold_valid : (d : FoldDef) (f : TypedFold) → greatest_of (map greatest_in d.body) < 2 ^ 64 → fold_nodes d ≤ MAX_NODES
-    → fold_statements d ≤ MAX_STATEMENTS
-    → fold_checked d ≡ Ok f → IsValidFold f
-fold_valid d f h hn hd e =
-    let states = found_first (states_from [] d.states) _ f e in
-    let args = found_first (args_from states.0 [] d.args) _ f states.2 in
-    let body = found_first (body_checked states.0 args.0 d.body) _ f args.2 in
-    let many = states_length [] states.0 d.states (omega arith) states.1 in
-    let v = body_valid states.0 args.0 d.body body.0 h hn hd body.1 in
+pub fold_valid : {d : FoldDef} {f : TypedFold} → greatest_of (map greatest_in d.body) < 2 ^ 64 → fold_nodes d ≤ MAX_NODES
+    → fold_statements d ≤ MAX_STATEMENTS → FoldMade d f → IsValidFold f
+fold_valid {d} h hn hd (folded states args body is_states is_args is_body) =
+    let many = states_length [] states d.states (omega arith) is_states in
+    let v = body_valid states args d.body body h hn hd is_body in
     let starts : length (map (λ (state : StateVar). state.initial) d.states) ≡ length d.states = simp length-map in
-    let F : TypedFold → Type 0 = λ z. IsValidFold z in
-    subst F (same_ok _ f body.2) (record {
+    record {
       states = many.1;
-      args = args_length states.0 [] args.0 d.args (omega arith) args.1;
+      args = args_length states [] args d.args (omega arith) is_args;
       starts = omega (arith, many.0, starts);
       statements = v.block.valid;
       enough_nodes = v.block.nodes;
@@ -282,4 +221,4 @@ fold_valid d f h hn hd e =
       enough_statements = v.block.count;
       most_statements = hd;
       emits = v.emit;
-    })
+    }

@@ -1,39 +1,24 @@
 -- What the operators of streams make is valid.
 use Rattle.std.proofs.Common.{◌≡◌, ℕ, zero, suc, ◌+◌, ◌<◌, ◌≤◌, ◌^◌, Bool, true, false, ◌||◌, cond, List, [], ◌∷◌, ◌++◌, length, map}
-use Rattle.std.proofs.Common.{flat_map, Option, Some, None, Ok, Err, nat_eq, nat_lt, sum_by, refl, sym, ap, subst, ◌∙◌, arith}
+use Rattle.std.proofs.Common.{flat_map, Option, Some, None, Ok, Err, nat_eq, sum_by, refl, sym, ap, subst, ◌∙◌, arith}
 use Rattle.std.specs.Prelude.{slice_get, option_map, unwrap_or}
-use Rattle.std.specs.List.{All, list_any}
-use Rattle.std.proofs.lemmas.Bool.{ltb-true, eqb-true}
-use Rattle.std.proofs.lemmas.Option.{slice_get_within}
-use Rattle.std.proofs.lemmas.List.{length-append, length-map}
-use Rattle.std.proofs.lemmas.List.Sums.{sum_by-cons, sum_by_push}
+use Rattle.std.specs.List.{All}
+use Rattle.std.proofs.lemmas.{Bool.ltb-true, Bool.eqb-true, Option.slice_get_within, List.length-append, List.length-map}
+use Rattle.std.proofs.lemmas.{List.Sums.sum_by-cons, List.Sums.sum_by_push}
 use Rattle.std.proofs.lemmas.List.Elements.{All-nil, All-cons, All-push, All-head, All-tail}
-use Rattle.query_lang.specs.declared.fault.Span.{Span}
-use Rattle.query_lang.specs.declared.fault.FaultKind.TheVariants.{NameTaken, OverLimit}
-use Rattle.query_lang.specs.declared.fault.Limit.TheVariants.{Keys}
-use Rattle.query_lang.specs.declared.fold.TypedExpr.{TypedExpr}
-use Rattle.query_lang.specs.declared.query.Column.{Column}
-use Rattle.query_lang.specs.declared.query.Key.{Key}
-use Rattle.query_lang.specs.declared.query.Key.TheVariants.{Named, FiveTuple}
-use Rattle.query_lang.specs.declared.query.Name.{Name}
-use Rattle.query_lang.specs.declared.typing.FoldView.{FoldView}
-use Rattle.query_lang.specs.declared.typing.NewColumns.{NewColumns}
-use Rattle.query_lang.specs.declared.typing.Picked.{Picked}
-use Rattle.query_lang.specs.declared.typing.StreamColumn.{StreamColumn}
-use Rattle.query_lang.specs.Terms.{term_of}
+use Rattle.query_lang.specs.declared.{fault.Span.Span, fault.FaultKind.TheVariants.NameTaken, fold.TypedExpr.TypedExpr, query.Column.Column}
+use Rattle.query_lang.specs.declared.{query.Key.Key, query.Key.TheVariants.Named, query.Key.TheVariants.FiveTuple, query.Name.Name}
+use Rattle.query_lang.specs.declared.{typing.FoldView.FoldView, typing.NewColumns.NewColumns, typing.Picked.Picked}
+use Rattle.query_lang.specs.declared.{typing.StreamColumn.StreamColumn, fault.TheConstants.MAX_KEYS, fault.TheConstants.MAX_NODES}
+use Rattle.query_lang.specs.{Terms.term_of, Limits.columns_nodes, Limits.AreNumbered, TypedFolds.expr_nodes}
 use Rattle.query_lang.specs.Folds.{term_nodes, fold_args, fold_states}
-use Rattle.query_lang.specs.Limits.{columns_nodes, AreNumbered}
 use Rattle.query_lang.specs.Checks.{Checked, collected, is_among, place_from, place_of}
-use Rattle.query_lang.specs.TypedExprs.{slot_at, slot_of, word_of}
-use Rattle.query_lang.specs.TypedFolds.{expr_nodes}
-use Rattle.query_lang.specs.TypedStreams.{column_names, new_columns, others_from, columns_at, key_names, keys_from, keys_checked}
-use Rattle.query_lang.specs.TypedStreams.{arguments_of}
+use Rattle.query_lang.specs.TypedExprs.{word_of, slot_at, slot_of}
+use Rattle.query_lang.specs.TypedStreams.{column_names, new_columns, no_new_columns, others_from, columns_at, key_names, keys_from}
+use Rattle.query_lang.specs.TypedStreams.{keys_checked, arguments_of}
 use Rattle.query_lang.specs.TypedQueries.{AreNames, AreSlots, IsValidWord, IsValidCondition, IsValidGroup, Shape, group_shape}
-use Rattle.query_lang.specs.declared.fault.TheConstants.{MAX_KEYS, MAX_NODES}
-use Rattle.query_types.specs.Numbers.{columns_number}
-use Rattle.query_types.proofs.ExprLaws.{same_ok, found_first, must_ok, slot_bound, IsConditionIn, word_valid}
-use Rattle.query_types.proofs.BodyLaws.{must_not_ok}
-use Rattle.query_types.proofs.ViewLaws.{Whole, IsFold}
+use Rattle.query_types.{specs.Numbers.columns_number, proofs.BodyLaws.must_not_ok, proofs.ViewLaws.Whole, proofs.ViewLaws.IsFold}
+use Rattle.query_types.proofs.ExprLaws.{from_ok, same_ok, found_first, must_ok, slot_bound, IsConditionIn, word_valid}
 
 abbrev pub IsSlot : ℕ → ℕ → Type 0
 IsSlot slots slot = slot < slots
@@ -53,20 +38,23 @@ pub record AreNew (names slots : ℕ) (made : NewColumns) : Type 0 where
   pub values : All (IsValidWord slots) made.values
   pub same : length made.values ≡ length made.names
 
+pub none_new : (names slots : ℕ) → AreNew names slots no_new_columns
+none_new names slots = record { ids = All-nil (IsName names); values = All-nil (IsValidWord slots); same = refl }
+
 pub new_valid : (columns hidden : List ℕ) (names : ℕ) (made result : NewColumns) (rest : List Column) → AreNew names (length columns) made
     → sum_by (λ e. term_nodes (term_of e)) made.values + columns_nodes rest ≤ MAX_NODES → AreNumbered names rest
     → columns_number rest < 2 ^ 64
     → new_columns columns hidden made rest ≡ Ok result
     → AreNew names (length columns) result × (sum_by (λ e. term_nodes (term_of e)) result.values ≤ MAX_NODES)
 new_valid columns hidden names made result [] v nodes numbered words e =
-    let P : NewColumns → Type 0 = λ z. AreNew names (length columns) z × (sum_by (λ e. term_nodes (term_of e)) z.values ≤ MAX_NODES) in
-    subst P (same_ok made result e) (v, omega arith)
+    from_ok (λ (z : NewColumns). AreNew names (length columns) z × (sum_by (λ e. term_nodes (term_of e)) z.values ≤ MAX_NODES)) e
+    (v, omega arith)
 new_valid columns hidden names made result (column ∷ rest) v nodes numbered words e =
     let N : Column → Type 0 = λ column. column.name.id < names in
     let size : TypedExpr → ℕ = λ e. term_nodes (term_of e) in
     let free = must_not_ok (is_among column.name.id columns || (is_among column.name.id hidden || is_among column.name.id made.names))
     NameTaken column.name.span _ result e in
-    let value = found_first (word_of columns hidden column.value) _ result free.1 in
+    let value = found_first (word_of columns hidden column.value) _ _ free.1 in
     let w = word_valid columns hidden column.value value.0 (omega arith) value.1 in
     let all = sum_by-cons (λ (one : Column). expr_nodes one.value) column rest in
     let word : IsValidWord (length columns) value.0 = ((w.term, omega (arith, w.nodes, all, nodes)), w.word) in
@@ -108,15 +96,17 @@ pub record ArePicked (names slots : ℕ) (picked : Picked) : Type 0 where
   pub same : length picked.slots ≡ length picked.names
   pub most : length picked.names ≤ MAX_KEYS
 
+pub none_picked : (names slots : ℕ) → ArePicked names slots (record { names = []; slots = [] })
+none_picked names slots = record { ids = All-nil (IsName names); slots_in = All-nil (IsSlot slots); same = refl; most = omega arith }
+
 pub keys_valid : (columns hidden : List ℕ) (names : ℕ) (found picked : Picked) (keys : List Name) → AreNames names columns
     → ArePicked names (length columns) found → keys_from columns hidden found keys ≡ Ok picked
     → ArePicked names (length columns) picked
-keys_valid columns hidden names found picked [] all v e = let P : Picked → Type 0 =
-    λ z. ArePicked names (length columns) z in subst P (same_ok found picked e) v
+keys_valid columns hidden names found picked [] all v e = from_ok (ArePicked names (length columns)) e v
 keys_valid columns hidden names found picked (key ∷ rest) all v e =
-    let slot = found_first (slot_of columns hidden key) _ picked e in
-    let new = must_not_ok (is_among key.id found.names) NameTaken key.span _ picked slot.2 in
-    let room = must_ok (nat_lt (length found.names) MAX_KEYS) (OverLimit Keys) key.span _ picked new.1 in
+    let slot = found_first _ _ _ e in
+    let new = must_not_ok _ _ _ _ _ slot.2 in
+    let room = must_ok _ _ _ _ _ new.1 in
     let below : length found.names < MAX_KEYS = ltb-true _ _ room.0 in
     keys_valid columns hidden names (record { names = found.names ++ key.id ∷ []; slots = found.slots ++ slot.0 ∷ [] }) picked rest all
     (record {
@@ -130,11 +120,11 @@ keys_valid columns hidden names found picked (key ∷ rest) all v e =
 keys_count : (columns hidden : List ℕ) (found picked : Picked) (keys : List Name) → keys_from columns hidden found keys ≡ Ok picked
     → length picked.names ≡ length found.names + length keys
 keys_count columns hidden found picked [] e = let same : length found.names ≡ length picked.names =
-    ap (λ (z : Picked). length z.names) (same_ok found picked e) in omega (arith, same)
+    ap (λ (z : Picked). length z.names) (same_ok _ _ e) in omega (arith, same)
 keys_count columns hidden found picked (key ∷ rest) e =
-    let slot = found_first (slot_of columns hidden key) _ picked e in
-    let new = must_not_ok (is_among key.id found.names) NameTaken key.span _ picked slot.2 in
-    let room = must_ok (nat_lt (length found.names) MAX_KEYS) (OverLimit Keys) key.span _ picked new.1 in
+    let slot = found_first (slot_of columns hidden key) _ _ e in
+    let new = must_not_ok _ _ _ _ _ slot.2 in
+    let room = must_ok _ _ _ _ _ new.1 in
     let more = keys_count columns hidden (record { names = found.names ++ key.id ∷ []; slots = found.slots ++ slot.0 ∷ [] }) picked rest
     room.1 in
     omega (arith, more, length-append found.names (key.id ∷ []))
@@ -162,8 +152,7 @@ slots_valid : (columns hidden : List ℕ) (span : Span) (before slots args : Lis
     → collected before (map (λ id. slot_of columns hidden (record { id = id; span = span })) args) ≡ Ok slots
     → AreSlots (length columns) slots × (length slots ≡ length before + length args)
 slots_valid columns hidden span before slots [] v e =
-    let P : List ℕ → Type 0 = λ z. AreSlots (length columns) z × (length z ≡ length before + 0) in
-    subst P (same_ok before slots e) (v, omega arith)
+    from_ok (λ (z : List ℕ). AreSlots (length columns) z × (length z ≡ length before + 0)) e (v, omega arith)
 slots_valid columns hidden span before slots (id ∷ args) v e = go (slot_of columns hidden (record { id = id; span = span })) refl
     (λ x all k. slots_valid columns hidden span (before ++ x ∷ []) slots args all k) e
   where
@@ -183,11 +172,10 @@ pub arguments_valid : (columns hidden keys : List ℕ) (f : FoldView) (span : Sp
     → arguments_of columns hidden keys f span ≡ Ok slots
     → AreSlots (length columns) slots × (length slots ≡ length f.args)
 arguments_valid columns hidden keys f span slots e =
-    let first = found_first (collected [] (map (λ id. slot_of columns hidden (record { id = id; span = span })) f.args)) _ slots e in
-    let free = must_not_ok (list_any (λ state. is_among state keys) f.states) NameTaken span _ slots first.2 in
+    let first = found_first _ _ _ e in
+    let free = must_not_ok _ _ _ _ _ first.2 in
     let v = slots_valid columns hidden span [] first.0 f.args (All-nil (IsSlot (length columns))) first.1 in
-    let P : List ℕ → Type 0 = λ z. AreSlots (length columns) z × (length z ≡ length f.args) in
-    subst P (same_ok first.0 slots free.1) (v.0, omega (arith, v.1))
+    from_ok (λ (z : List ℕ). AreSlots (length columns) z × (length z ≡ length f.args)) free.1 (v.0, omega (arith, v.1))
 
 pub group_valid : (w : Whole) (columns args : List ℕ) (picked : Picked) (f : FoldView) → IsFold w f
     → ArePicked w.names (length columns) picked → 0 < length picked.names → AreSlots (length columns) args
@@ -242,8 +230,7 @@ name_at : (names : ℕ) (columns : List StreamColumn) (slot : ℕ) (column : Str
 name_at names [] slot column all e = cc e
 name_at names (x ∷ rest) zero column all e =
     let same : x ≡ column = cc in
-    let P : StreamColumn → Type 0 = λ z. z.name < names in
-    subst P same (All-head (IsName names) x.name (column_names rest) all)
+    rw (← same) (All-head (IsName names) x.name (column_names rest) all)
 name_at names (x ∷ rest) (suc slot) column all e = name_at names rest slot column (All-tail (IsName names) x.name (column_names rest) all) e
 
 -- the columns at slots are as many as the slots, and their names are among those of the columns

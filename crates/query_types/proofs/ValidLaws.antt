@@ -1,60 +1,38 @@
 -- The typed query of a readable query is valid.
 use Rattle.std.proofs.Common.{◌≡◌, ℕ, ◌+◌, ◌<◌, ◌≤◌, ◌^◌, Bool, true, false, ◌||◌, cond, List, [], ◌∷◌, ◌++◌, length, map, min, count_by}
-use Rattle.std.proofs.Common.{Ok, Err, Result, IfOk, nat_lt, not, refl, sym, ap, subst, append-nil, arith}
-use Rattle.std.specs.List.{All, list_any}
-use Rattle.std.specs.Str.{bytes_eq}
-use Rattle.std.proofs.lemmas.List.{length-append}
+use Rattle.std.proofs.Common.{◌∙◌, nat_lt, Ok, Err, Result, IfOk, not, refl, sym, ap, subst, append-nil, arith}
+use Rattle.std.specs.{List.All, List.list_any, Str.bytes_eq}
+use Rattle.std.proofs.lemmas.{List.length-append, List.Folds.list_any-append, Slice.Eq.bytes_eq-Decides}
 use Rattle.std.proofs.lemmas.List.Elements.{All-nil, All-cons, All-map}
-use Rattle.std.proofs.lemmas.Slice.Eq.{bytes_eq-Decides}
-use Rattle.marple_base.specs.declared.field.Field.{Field}
-use Rattle.marple_base.specs.Field.{all_fields, field_name}
-use Rattle.query_lang.specs.declared.error.QueryError.{QueryError}
-use Rattle.query_lang.specs.declared.fault.FaultKind.TheVariants.{NothingPrinted}
-use Rattle.query_lang.specs.declared.query.FinalOp.{FinalOp}
-use Rattle.query_lang.specs.declared.query.FinalOp.TheVariants as final_ops
-use Rattle.query_lang.specs.declared.query.Item.{Item}
-use Rattle.query_lang.specs.declared.query.Item.TheVariants as item
-use Rattle.query_lang.specs.declared.query.Query.{Query}
-use Rattle.query_lang.specs.declared.query.StreamOp.{StreamOp}
-use Rattle.query_lang.specs.declared.query.StreamOp.TheVariants as ops
-use Rattle.query_lang.specs.declared.typed.PrintOf.{PrintOf}
-use Rattle.query_lang.specs.declared.typed.PrintOf.TheVariants as place
-use Rattle.query_lang.specs.declared.typed.TypedQuery.{TypedQuery}
-use Rattle.query_lang.specs.declared.typing.Origin.TheVariants as origin
-use Rattle.query_lang.specs.declared.typing.StreamColumn.{StreamColumn}
-use Rattle.query_lang.specs.Answers.{Answers}
-use Rattle.query_lang.specs.Folds.{IsValidFold}
+use Rattle.marple_base.specs.{declared.field.Field.Field, Field.all_fields, Field.field_name}
+use Rattle.query_lang.specs.{declared.error.QueryError.QueryError, declared.fault.FaultKind.TheVariants.NothingPrinted}
+use Rattle.query_lang.specs.{declared.query.FinalOp.FinalOp, declared.query.Item.Item, declared.query.Query.Query}
+use Rattle.query_lang.specs.{declared.query.StreamOp.StreamOp, declared.typed.PrintOf.PrintOf, declared.typed.TypedQuery.TypedQuery}
+use Rattle.query_lang.specs.{declared.typing.StreamColumn.StreamColumn, Answers.Answers, Folds.IsValidFold, Names.number_in}
+use Rattle.query_lang.specs.{Names.with_name, Streams.takings, TypedStreams.column_names, declared.fault.TheConstants.MAX_GROUPBYS}
 use Rattle.query_lang.specs.Limits.{IsNumbered, IsNumberedStream, IsNumberedFinal, IsReadable}
-use Rattle.query_lang.specs.Names.{number_in, with_name}
-use Rattle.query_lang.specs.Streams.{takings}
-use Rattle.query_lang.specs.TypedStreams.{column_names}
 use Rattle.query_lang.specs.TypedQueries.{AreNames, HasNames, IsQueryTable, IsValidQuery}
 use Rattle.query_lang.specs.Typing.{items_checked, with_fields, typed_names, field_numbers, is_groupby, given_of, start_of, checked}
-use Rattle.query_lang.specs.declared.fault.TheConstants.{MAX_GROUPBYS}
 use Rattle.query_types.specs.Numbers.{greatest_of, item_number}
-use Rattle.query_types.proofs.ExprLaws.{same_ok, found_first, must_ok}
-use Rattle.query_types.proofs.ItemLaws.{Standing, items_stand}
-use Rattle.query_types.proofs.ViewLaws.{Whole}
+use Rattle.query_types.proofs.ExprLaws.{from_ok, same_ok, found_first, must_ok}
+use Rattle.query_types.proofs.{ItemLaws.Standing, ItemLaws.items_stand, ViewLaws.Whole, WholeLaws.IsPrinted, WholeLaws.Sound}
+use Rattle.query_types.proofs.{QueryLaws.items_sound, QueryLaws.items_count}
 use Rattle.query_types.proofs.MadeLaws.{IsPart, IsName, names_of_made}
-use Rattle.query_types.proofs.WholeLaws.{IsPrinted, Sound}
-use Rattle.query_types.proofs.QueryLaws.{items_sound, items_count}
+use Rattle.query_lang.specs.declared.query.FinalOp.TheVariants as final_ops
+use Rattle.query_lang.specs.declared.query.Item.TheVariants as item
+use Rattle.query_lang.specs.declared.query.StreamOp.TheVariants as ops
+use Rattle.query_lang.specs.declared.typed.PrintOf.TheVariants as place
+use Rattle.query_lang.specs.declared.typing.Origin.TheVariants as origin
 
 any_front : (p : List ℕ → Bool) (xs ys : List (List ℕ)) → list_any p xs ≡ true → list_any p (xs ++ ys) ≡ true
-any_front p [] ys e = cc e
-any_front p (x ∷ xs) ys e = go (p x) (λ k. any_front p xs ys k) e
-  where
-    go : (b : Bool) → (list_any p xs ≡ true → list_any p (xs ++ ys) ≡ true) → (b || list_any p xs) ≡ true
-        → (b || list_any p (xs ++ ys)) ≡ true
-    go true more e = refl
-    go false more e = more e
+any_front p xs ys e = list_any-append p xs ys ∙ ap (λ b. b || list_any p ys) e
 
 any_last : (p : List ℕ → Bool) (xs : List (List ℕ)) (x : List ℕ) → p x ≡ true → list_any p (xs ++ x ∷ []) ≡ true
-any_last p [] x e = ap (λ b. b || false) e
-any_last p (y ∷ xs) x e = go (p y) (any_last p xs x e)
+any_last p xs x e = list_any-append p xs (x ∷ []) ∙ ap (λ b. list_any p xs || (b || false)) e ∙ either (list_any p xs)
   where
-    go : (b : Bool) → list_any p (xs ++ x ∷ []) ≡ true → (b || list_any p (xs ++ x ∷ [])) ≡ true
-    go true h = refl
-    go false h = h
+    either : (b : Bool) → (b || true) ≡ true
+    either true = refl
+    either false = refl
 
 abbrev pub IsAmong : List ℕ → List (List ℕ) → Type 0
 IsAmong text names = list_any (bytes_eq text) names ≡ true
@@ -175,7 +153,7 @@ pub query_valid : (q : Query) (typed : TypedQuery) → IsReadable q → greatest
     → IsValidQuery typed
 query_valid q typed readable words e =
     let names = typed_names q.names in
-    let first = found_first (items_checked (given_of names q.items) (start_of names) q.items) _ typed e in
+    let first = found_first (items_checked (given_of names q.items) (start_of names) q.items) _ _ e in
     let last = must_ok (nat_lt 0 (length first.0.prints)) NothingPrinted q.end _ typed first.2 in
     let end = first.0 in
     let w : Whole = record {
@@ -213,8 +191,7 @@ query_valid q typed readable words e =
       prints =
           end.prints;
     } in
-    let V : TypedQuery → Type 0 = λ z. IsValidQuery z in
-    subst V (same_ok typed_is typed last.1) (record {
+    from_ok IsValidQuery last.1 (record {
       folds = s.base.folds;
       fold_names = s.base.fold_names;
       streams = s.streams;
@@ -228,9 +205,9 @@ query_valid q typed readable words e =
 query_names : (q : Query) (typed : TypedQuery) → checked q ≡ Ok typed → typed.names ≡ typed_names q.names
 query_names q typed e =
     let names = typed_names q.names in
-    let first = found_first (items_checked (given_of names q.items) (start_of names) q.items) _ typed e in
+    let first = found_first (items_checked (given_of names q.items) (start_of names) q.items) _ _ e in
     let last = must_ok (nat_lt 0 (length first.0.prints)) NothingPrinted q.end _ typed first.2 in
-    ap (λ (z : TypedQuery). z.names) (sym (same_ok _ typed last.1))
+    ap (λ (z : TypedQuery). z.names) (sym (same_ok _ _ last.1))
 
 -- the same of what is answered where memory may run out
 pub answer_valid : (q : Query) (answer : Result TypedQuery QueryError) → IsReadable q

@@ -2,26 +2,16 @@
 use Rattle.std.proofs.Common.{◌≡◌, ℕ, zero, suc, ◌<◌, ◌≤◌, Bool, true, false, cond, List, [], ◌∷◌, ◌++◌, length, map, Option, Some, None}
 use Rattle.std.proofs.Common.{Ok, nat_eq, refl, subst, arith}
 use Rattle.std.specs.Prelude.{is_some, slice_get, IfSome}
-use Rattle.query_lang.specs.declared.fault.Span.{Span}
-use Rattle.query_lang.specs.declared.fault.FaultKind.TheVariants.{WrongKind}
-use Rattle.query_lang.specs.declared.fold.TypedFold.{TypedFold}
-use Rattle.query_lang.specs.declared.query.Name.{Name}
-use Rattle.query_lang.specs.declared.typed.PrintOf.{PrintOf}
-use Rattle.query_lang.specs.declared.typed.PrintOf.TheVariants as place
-use Rattle.query_lang.specs.declared.typed.TypedFinal.{TypedFinal}
-use Rattle.query_lang.specs.declared.typed.TypedStream.{TypedStream}
-use Rattle.query_lang.specs.declared.typing.FoldView.{FoldView}
-use Rattle.query_lang.specs.declared.typing.Known.{Known}
-use Rattle.query_lang.specs.declared.typing.Meaning.{Meaning}
-use Rattle.query_lang.specs.declared.typing.Meaning.TheVariants as meaning
-use Rattle.query_lang.specs.declared.typing.StreamView.{StreamView}
-use Rattle.query_lang.specs.declared.typing.TableView.{TableView}
+use Rattle.query_lang.specs.declared.{fold.TypedFold.TypedFold, query.Name.Name, typed.PrintOf.PrintOf, typed.TypedFinal.TypedFinal}
+use Rattle.query_lang.specs.declared.{typed.TypedStream.TypedStream, typing.FoldView.FoldView, typing.Known.Known, typing.Meaning.Meaning}
+use Rattle.query_lang.specs.declared.{typing.StreamView.StreamView, typing.TableView.TableView}
 use Rattle.query_lang.specs.Streams.{takings}
 use Rattle.query_lang.specs.TypedStreams.{meaning_of, as_stream, stream_named, as_fold, fold_named, column_names}
 use Rattle.query_lang.specs.TypedFinals.{table_at, as_table, table_named, quiet_fold}
 use Rattle.query_lang.specs.TypedQueries.{AreNames, Shape, group_shape, final_shape, stream_width}
-use Rattle.query_types.proofs.ExprLaws.{same_ok, found_first}
-use Rattle.query_types.proofs.BodyLaws.{must_not_ok}
+use Rattle.query_types.proofs.{ExprLaws.same_ok, ExprLaws.found_first, BodyLaws.must_not_ok}
+use Rattle.query_lang.specs.declared.typed.PrintOf.TheVariants as place
+use Rattle.query_lang.specs.declared.typing.Meaning.TheVariants as meaning
 
 pub record Whole : Type 0 where
   pub names : ℕ
@@ -104,60 +94,75 @@ meaning_known w s n (one ∷ rest) id m v e = go (nat_eq one.name id) (λ k. mea
         → IsMeaning w s n m
     go true more e =
         let same : one.meaning ≡ m = cc in
-        let P : Meaning → Type 0 = λ z. IsMeaning w s n z in
-        subst P same v.0
+        rw (← same) v.0
     go false more e = more e
+
+-- what a name that was looked up stands for
+pub stream_meaning : (known : List Known) (name : Name) (x : StreamView) → stream_named known name ≡ Ok x
+    → meaning_of known name.id ≡ Some (meaning.Stream x)
+stream_meaning known name x e = go (meaning_of known name.id) e
+  where
+    go : (o : Option Meaning) → as_stream o name.span ≡ Ok x → o ≡ Some (meaning.Stream x)
+    go None e = cc e
+    go (Some (meaning.Fold y)) e = cc e
+    go (Some (meaning.Stream y)) e = rw (same_ok y x e)
+    go (Some (meaning.Final y)) e = cc e
+
+pub fold_meaning : (known : List Known) (name : Name) (x : FoldView) → fold_named known name ≡ Ok x
+    → meaning_of known name.id ≡ Some (meaning.Fold x)
+fold_meaning known name x e = go (meaning_of known name.id) e
+  where
+    go : (o : Option Meaning) → as_fold o name.span ≡ Ok x → o ≡ Some (meaning.Fold x)
+    go None e = cc e
+    go (Some (meaning.Fold y)) e = rw (same_ok y x e)
+    go (Some (meaning.Stream y)) e = cc e
+    go (Some (meaning.Final y)) e = cc e
+
+-- a final's table, or the one of a groupby's stream
+abbrev pub IsTableOf : TableView → Meaning → Type 0
+IsTableOf x (meaning.Fold f) = ⊥
+IsTableOf x (meaning.Stream s) = s.table ≡ Some x
+IsTableOf x (meaning.Final t) = t ≡ x
+
+pub table_meaning : (known : List Known) (name : Name) (x : TableView) → table_named known name ≡ Ok x
+    → (m : Meaning) × (meaning_of known name.id ≡ Some m) × IsTableOf x m
+table_meaning known name x e = go (meaning_of known name.id) e
+  where
+    of_stream : (o : Option TableView) → table_at o name.span ≡ Ok x → o ≡ Some x
+    of_stream None e = cc e
+    of_stream (Some t) e = rw (same_ok t x e)
+
+    go : (o : Option Meaning) → as_table o name.span ≡ Ok x → (m : Meaning) × (o ≡ Some m) × IsTableOf x m
+    go None e = cc e
+    go (Some (meaning.Fold y)) e = cc e
+    go (Some (meaning.Stream y)) e = (meaning.Stream y, refl, of_stream y.table e)
+    go (Some (meaning.Final y)) e = (meaning.Final y, refl, same_ok y x e)
 
 pub stream_known : (w : Whole) (s n : ℕ) (known : List Known) (name : Name) (x : StreamView) → AreKnown w s n known
     → stream_named known name ≡ Ok x → IsStream w s n x
-stream_known w s n known name x v e = go (meaning_of known name.id) refl e
-  where
-    go : (o : Option Meaning) → meaning_of known name.id ≡ o → as_stream o name.span ≡ Ok x → IsStream w s n x
-    go None is e = cc e
-    go (Some (meaning.Fold f)) is e = cc e
-    go (Some (meaning.Stream y)) is e =
-        let P : StreamView → Type 0 = λ z. IsStream w s n z in
-        subst P (same_ok y x e) (meaning_known w s n known name.id (meaning.Stream y) v is)
-    go (Some (meaning.Final t)) is e = cc e
+stream_known w s n known name x v e = meaning_known w s n known name.id (meaning.Stream x) v (stream_meaning known name x e)
 
 pub fold_known : (w : Whole) (s n : ℕ) (known : List Known) (name : Name) (x : FoldView) → AreKnown w s n known
     → fold_named known name ≡ Ok x → IsFold w x
-fold_known w s n known name x v e = go (meaning_of known name.id) refl e
-  where
-    go : (o : Option Meaning) → meaning_of known name.id ≡ o → as_fold o name.span ≡ Ok x → IsFold w x
-    go None is e = cc e
-    go (Some (meaning.Fold y)) is e =
-        let P : FoldView → Type 0 = λ z. IsFold w z in
-        subst P (same_ok y x e) (meaning_known w s n known name.id (meaning.Fold y) v is)
-    go (Some (meaning.Stream y)) is e = cc e
-    go (Some (meaning.Final t)) is e = cc e
-
-table_of_stream : (w : Whole) (n : ℕ) (o : Option TableView) (span : Span) (x : TableView) → IfSome o (IsTable w n) → table_at o span ≡ Ok x
-    → IsTable w n x
-table_of_stream w n None span x v e = cc e
-table_of_stream w n (Some t) span x v e = let P : TableView → Type 0 = λ z. IsTable w n z in subst P (same_ok t x e) v
+fold_known w s n known name x v e = meaning_known w s n known name.id (meaning.Fold x) v (fold_meaning known name x e)
 
 pub table_known : (w : Whole) (s n : ℕ) (known : List Known) (name : Name) (x : TableView) → AreKnown w s n known
     → table_named known name ≡ Ok x → IsTable w n x
-table_known w s n known name x v e = go (meaning_of known name.id) refl e
+table_known w s n known name x v e =
+    let is = table_meaning known name x e in go is.0 (meaning_known w s n known name.id is.0 v is.1) is.2
   where
-    go : (o : Option Meaning) → meaning_of known name.id ≡ o → as_table o name.span ≡ Ok x → IsTable w n x
-    go None is e = cc e
-    go (Some (meaning.Fold y)) is e = cc e
-    go (Some (meaning.Stream y)) is e = table_of_stream w n y.table name.span x
-        (meaning_known w s n known name.id (meaning.Stream y) v is).table e
-    go (Some (meaning.Final y)) is e =
-        let P : TableView → Type 0 = λ z. IsTable w n z in
-        subst P (same_ok y x e) (meaning_known w s n known name.id (meaning.Final y) v is)
+    go : (m : Meaning) → IsMeaning w s n m → IsTableOf x m → IsTable w n x
+    go (meaning.Fold f) v is = absurd is
+    go (meaning.Stream y) v is = subst (λ (o : Option TableView). IfSome o (IsTable w n)) is v.table
+    go (meaning.Final t) v is = subst (IsTable w n) is v
 
 pub quiet_known : (known : List Known) (name : Name) (x : FoldView) → quiet_fold known name ≡ Ok x → (fold_named known name ≡ Ok x)
     × (x.emits ≡ false)
 quiet_known known name x e =
-    let first = found_first (fold_named known name) _ x e in
-    let quiet = must_not_ok first.0.emits WrongKind name.span _ x first.2 in
-    let same = same_ok first.0 x quiet.1 in
-    let N : FoldView → Type 0 = λ z. (fold_named known name ≡ Ok z) × (z.emits ≡ false) in
-    subst N same (first.1, quiet.0)
+    let first = found_first _ _ _ e in
+    let quiet = must_not_ok _ _ _ _ _ first.2 in
+    let same = same_ok _ _ quiet.1 in
+    rw (← same) (first.1, quiet.0)
 
 -- the first items of a list stay where they are, and the next one comes after them
 pub get_front : {A : Type 0} (xs rest : List A) (i : ℕ) → i < length xs → slice_get (xs ++ rest) i ≡ slice_get xs i

@@ -1,36 +1,21 @@
 -- What holds of the items before some place, in the whole query.
-use Rattle.std.proofs.Common.{◌≡◌, ℕ, zero, suc, ◌+◌, ◌<◌, List, [], ◌∷◌, ◌++◌, length, map, Option, Some, None, Ok, refl, sym, ap, subst}
+use Rattle.std.proofs.Common.{sym, subst, ◌≡◌, ℕ, zero, suc, ◌+◌, ◌<◌, List, [], ◌∷◌, ◌++◌, length, map, Option, Some, None, Ok, refl, ap}
 use Rattle.std.proofs.Common.{◌∙◌, append-nil, append_assoc, add-one}
-use Rattle.std.specs.Prelude.{is_some, slice_get, unwrap_or, option_map, IfSome}
-use Rattle.std.specs.List.{All}
-use Rattle.std.proofs.lemmas.List.Elements.{filter_map-append}
-use Rattle.query_lang.specs.declared.fault.FaultKind.TheVariants.{NameTaken}
-use Rattle.query_lang.specs.declared.fold.TypedFold.{TypedFold}
-use Rattle.query_lang.specs.declared.query.Item.{Item}
-use Rattle.query_lang.specs.declared.query.Item.TheVariants as item
-use Rattle.query_lang.specs.declared.query.Name.{Name}
-use Rattle.query_lang.specs.declared.typed.PrintOf.{PrintOf}
-use Rattle.query_lang.specs.declared.typed.PrintOf.TheVariants as place
-use Rattle.query_lang.specs.declared.typed.TypedFinal.{TypedFinal}
-use Rattle.query_lang.specs.declared.typed.TypedStream.{TypedStream}
-use Rattle.query_lang.specs.declared.typing.Earlier.{Earlier}
-use Rattle.query_lang.specs.declared.typing.Given.{Given}
-use Rattle.query_lang.specs.declared.typing.MadeFinal.{MadeFinal}
-use Rattle.query_lang.specs.declared.typing.MadeStream.{MadeStream}
-use Rattle.query_lang.specs.declared.typing.TableView.{TableView}
+use Rattle.std.specs.Prelude.{slice_get, unwrap_or, option_map, IfSome}
+use Rattle.std.{specs.List.All, proofs.lemmas.List.Elements.filter_map-append}
+use Rattle.query_lang.specs.declared.{fold.TypedFold.TypedFold, query.Item.Item, query.Name.Name, typed.PrintOf.PrintOf}
+use Rattle.query_lang.specs.declared.{typed.TypedFinal.TypedFinal, typed.TypedStream.TypedStream, typing.Earlier.Earlier}
+use Rattle.query_lang.specs.declared.{typing.Given.Given, typing.MadeFinal.MadeFinal, typing.MadeStream.MadeStream}
+use Rattle.query_lang.specs.declared.{typing.TableView.TableView}
 use Rattle.query_lang.specs.Streams.{Taking, takings, taking_of}
-use Rattle.query_lang.specs.Checks.{is_among}
-use Rattle.query_lang.specs.TypedFolds.{fold_checked}
-use Rattle.query_lang.specs.TypedStreams.{meaning_of, begun, column_names, made_stream, with_stream}
-use Rattle.query_lang.specs.TypedFinals.{table_named, five_fields, made_final, with_final}
+use Rattle.query_lang.specs.TypedStreams.{begun, column_names, with_stream}
+use Rattle.query_lang.specs.{TypedFinals.with_final, Typing.with_fold, Typing.items_checked}
 use Rattle.query_lang.specs.TypedQueries.{Shape, shapes, group_shape, final_shape, stream_width, IsValidStream, AreValidStreams}
 use Rattle.query_lang.specs.TypedQueries.{IsValidFinal, AreValidFinals}
-use Rattle.query_lang.specs.Typing.{with_fold, item_checked, items_checked}
-use Rattle.query_types.proofs.ExprLaws.{same_ok, found_first}
-use Rattle.query_types.proofs.BodyLaws.{must_not_ok}
-use Rattle.query_types.proofs.ItemLaws.{Standing}
-use Rattle.query_types.proofs.ViewLaws.{Whole, IsTable, IsBelow, AreKnown, table_shape, get_next}
-use Rattle.query_types.proofs.MadeLaws.{IsPart, IsMadeTable}
+use Rattle.query_types.proofs.{ExprLaws.same_ok, ExprLaws.found_first, ItemLaws.Standing, MadeLaws.IsPart, MadeLaws.IsMadeTable}
+use Rattle.query_types.proofs.ViewLaws.{Whole, IsTable, AreKnown, get_next}
+use Rattle.query_types.proofs.Makings.{ItemMade, fold_item, stream_item, final_item, print_item, item_made}
+use Rattle.query_lang.specs.declared.typed.PrintOf.TheVariants as place
 
 abbrev pub IsPrinted : Whole → PrintOf → Type 0
 IsPrinted w (place.Group number) = number < length (takings w.streams)
@@ -47,28 +32,24 @@ pub streams_push : (names : ℕ) (folds : List TypedFold) (before xs : List Type
     → AreValidStreams names folds before xs → IsValidStream names folds (before ++ xs) x
     → AreValidStreams names folds before (xs ++ x ∷ [])
 streams_push names folds before [] x v one = (
-  let P : List TypedStream → Type 0 =
-      λ l. IsValidStream names folds l x in subst P (append-nil before) one,
+  rw (← append-nil before) one,
   tt,
 )
 streams_push names folds before (y ∷ ys) x v one =
-    let P : List TypedStream → Type 0 = λ l. IsValidStream names folds l x in
-    (v.0, streams_push names folds (before ++ y ∷ []) ys x v.1 (subst P (sym (append_assoc before (y ∷ []) ys)) one))
+    (v.0, streams_push names folds (before ++ y ∷ []) ys x v.1 (rw (append_assoc before (y ∷ []) ys) one))
 
 pub finals_push : (names : ℕ) (folds : List TypedFold) (tables : List Shape) (xs : List TypedFinal) (x : TypedFinal)
     → AreValidFinals names folds tables xs → IsValidFinal names folds (tables ++ map final_shape xs) x
     → AreValidFinals names folds tables (xs ++ x ∷ [])
 finals_push names folds tables [] x v one = (
-  let P : List Shape → Type 0 =
-      λ l. IsValidFinal names folds l x in subst P (append-nil tables) one,
+  rw (← append-nil tables) one,
   tt,
 )
-finals_push names folds tables (y ∷ ys) x v one =
-    let P : List Shape → Type 0 = λ l. IsValidFinal names folds l x in (
-      v.0,
-      finals_push names folds (tables ++ final_shape y ∷ []) ys x v.1
-          (subst P (sym (append_assoc tables (final_shape y ∷ []) (map final_shape ys))) one),
-    )
+finals_push names folds tables (y ∷ ys) x v one = (
+  v.0,
+  finals_push names folds (tables ++ final_shape y ∷ []) ys x v.1
+      (rw (append_assoc tables (final_shape y ∷ []) (map final_shape ys)) one),
+)
 
 same_some : {A : Type 0} (x y : A) → (let o : Option A = Some x in o) ≡ Some y → x ≡ y
 same_some x y e = cc e
@@ -125,44 +106,25 @@ final_part w e name made p =
     }
 
 -- where the items up to some place are part of the query, those before them are
-pub item_part : (w : Whole) (given : Given) (e after : Earlier) (one : Item) → item_checked given e one ≡ Ok after → IsPart w after
-    → IsPart w e
-item_part w given e after (item.Fold d) h p =
-    let free = must_not_ok (is_some (meaning_of e.known d.name.id)) NameTaken d.name.span _ after h in
-    let f = found_first (fold_checked d) _ after free.1 in
-    let P : Earlier → Type 0 = λ z. IsPart w z in
-    fold_part w e f.0 (subst P (sym (same_ok _ after f.2)) p)
-item_part w given e after (item.Stream d) h p =
-    let begins = found_first (begun e d.name) _ after h in
-    let made = found_first (made_stream (five_fields given.fields) e d.name d.op) _ after begins.2 in
-    let P : Earlier → Type 0 = λ z. IsPart w z in
-    stream_part w e d.name made.0 (subst P (sym (same_ok _ after made.2)) p)
-item_part w given e after (item.Final d) h p =
-    let begins = found_first (begun e d.name) _ after h in
-    let made = found_first (made_final given e d.op) _ after begins.2 in
-    let P : Earlier → Type 0 = λ z. IsPart w z in
-    final_part w e d.name made.0 (subst P (sym (same_ok _ after made.2)) p)
-item_part w given e after (item.Print name) h p =
-    let table = found_first (table_named e.known name) _ after h in
-    let new = must_not_ok (is_among name.id e.printed) NameTaken name.span _ after table.2 in
-    let P : Earlier → Type 0 = λ z. IsPart w z in
-    let q = subst P (sym (same_ok _ after new.1)) p in
-    record {
-      later_folds = q.later_folds;
-      folds = q.folds;
-      later_streams = q.later_streams;
-      streams = q.streams;
-      later_finals =
-          q.later_finals;
-      finals = q.finals;
-    }
+pub item_part : {w : Whole} {given : Given} {e after : Earlier} {one : Item} → ItemMade given e one after → IsPart w after → IsPart w e
+item_part {w} {e = e} (fold_item f free is) p = fold_part w e f p
+item_part {w} {e = e} (stream_item {d} made begun is) p = stream_part w e d.name made p
+item_part {w} {e = e} (final_item {d} made begun is) p = final_part w e d.name made p
+item_part (print_item table is_table new) p = record {
+  later_folds = p.later_folds;
+  folds = p.folds;
+  later_streams = p.later_streams;
+  streams = p.streams;
+  later_finals = p.later_finals;
+  finals = p.finals;
+}
 
 pub items_part : (w : Whole) (given : Given) (items : List Item) (e after : Earlier) → items_checked given e items ≡ Ok after
     → IsPart w after → IsPart w e
-items_part w given [] e after h p = let P : Earlier → Type 0 = λ z. IsPart w z in subst P (sym (same_ok e after h)) p
+items_part w given [] e after h p = subst (IsPart w) (sym (same_ok _ _ h)) p
 items_part w given (one ∷ rest) e after h p =
-    let first = found_first (item_checked given e one) _ after h in
-    item_part w given e first.0 one first.1 (items_part w given rest first.0 after first.2 p)
+    let first = found_first _ _ _ h in
+    item_part (item_made given e first.0 one first.1) (items_part w given rest first.0 after first.2 p)
 
 pub made_table : (w : Whole) (e : Earlier) (later : List TypedStream) (one : TypedStream) (finals : ℕ) (o : Option TableView)
     → w.streams ≡ e.streams ++ one ∷ later → e.groups ≡ length (takings e.streams)
@@ -174,9 +136,7 @@ made_table w e later one finals (Some t) is count v =
     ∙ takings_next e.streams later one v.0 v.1 in
     let shape = get_map (group_shape w.folds) (takings w.streams) e.groups v.0 next
     ∙ ap (λ (s : Shape). let o : Option Shape = Some s in o) v.2 in
-    let T : PrintOf → Type 0 = λ p. table_shape w p ≡ Some (record { width = length t.columns; keys = t.keys }) in
-    let B : PrintOf → Type 0 = λ p. IsBelow finals p in
-    record { shape = subst T (sym v.5) shape; names = v.3; keys = v.4; below = subst B (sym v.5) tt }
+    record { shape = rw v.5 shape; names = v.3; keys = v.4; below = rw v.5 tt }
 
 pub next_width : (streams later : List TypedStream) (one : TypedStream) (whole : List TypedStream) → whole ≡ streams ++ one ∷ later
     → stream_width whole (length streams + 1) ≡ length one.columns

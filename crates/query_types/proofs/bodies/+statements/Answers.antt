@@ -1,6 +1,5 @@
 use Rattle.std.proofs.Common.{refl, sym, ◌∙◌, arith}
-use Rattle.std.proofs.lemmas.List.{at_drop_all}
-use Rattle.std.specs.Prelude.{map}
+use Rattle.std.{proofs.lemmas.List.at_drop_all, specs.Prelude.map}
 use Rattle.query_lang.specs.TypedFolds.{in_order, stmt_checked, stmt_count}
 use Rattle.query_types.specs.Numbers.{greatest_in}
 use Rattle.query_types.proofs.CheckLemmas.{left_stops, left_stops_after, more, left_is, on_ok, on_ok_so}
@@ -13,8 +12,7 @@ pub check_all-check_stmt-requires : goal.check_all-check_stmt-requires
 check_all-check_stmt-requires t c = (
   omega (
     arith,
-    item_within stmt_count c.args.body.now c.loop-one.one-index c.loop-one-test.true
-        c.one-item.is,
+    item_within stmt_count c.args.body.now c.loop-one.one-index c.loop-one-test.true c.one-item.is,
     c.decreases,
   ),
   c.requires,
@@ -22,14 +20,12 @@ check_all-check_stmt-requires t c = (
 
 pub check_all-returns-in_err-check_stmt-clause-given : goal.check_all-returns-in_err-check_stmt-clause-given
 check_all-returns-in_err-check_stmt-clause-given t c =
-    left_stops_after _ _ (sym c.loop-one.invariant.given ∙ block_turn c.args.scope.states.now c.args.scope.args.now c.args.outer.now
-    c.loop-one.found c.args.body.now c.loop-one.one-index
+    left_stops_after _ _ (sym c.loop-one.invariant.given ∙ block_turn _ _ _ _ _ c.loop-one.one-index
     c.loop-one-test.true c.one-item.is) _ _ _ _ c.from_residual.ensures.1 c.in_err-check_stmt.ensures.given
 
 pub check_all-loop-one-preserved : goal.check_all-loop-one-preserved
 check_all-loop-one-preserved t c = record {
-  given = more _ _ (block_turn c.args.scope.states.now c.args.scope.args.now c.args.outer.now c.loop-one.found c.args.body.now
-      c.loop-one.one-index c.loop-one-test.true c.one-item.is)
+  given = more _ _ (block_turn _ _ _ _ _ c.loop-one.one-index c.loop-one-test.true c.one-item.is)
       c.in_ok-check_stmt.ensures.given c.loop-one.invariant.given;
   numbers = greatest_more greatest_in c.args.body.now c.loop-one.one-index c.loop-one-test.true c.one-item.is
       c.in_ok-check_stmt.ensures.numbers c.loop-one.invariant.numbers;
@@ -46,15 +42,14 @@ check_all-returns-clause-numbers t c =
 
 pub check_stmt-returns-in_err-choice-in-If-clause-given : goal.check_stmt-returns-in_err-choice-in-If-clause-given
 check_stmt-returns-in_err-choice-in-If-clause-given t c =
-    left_stops _ _ (choice_is c.args.scope.states.now c.args.scope.args.now c.args.outer.now c.args.found.now _ _ c.in-If.is) _ _ _
-    c.from_residual.ensures.1 c.in_err-choice-in-If.ensures.given
+    left_stops _ _ (choice_is _ _ _ _ _ _ c.in-If.is) _ _ _ c.from_residual.ensures.1 c.in_err-choice-in-If.ensures.given
 
 pub check_stmt-check_all-requires : goal.check_stmt-check_all-requires
 check_stmt-check_all-requires t c = (omega (arith, count_if c.in-If.is c.as_slice.ensures refl, c.decreases), c.requires)
 
 pub check_stmt-returns-in_err-check_all-in-If-clause-given : goal.check_stmt-returns-in_err-check_all-in-If-clause-given
 check_stmt-returns-in_err-check_all-in-If-clause-given t c =
-    left_stops_after _ _ (first_is c.args.scope.states.now c.args.scope.args.now c.args.outer.now c.args.found.now _ _ c.in-If.is
+    left_stops_after _ _ (first_is _ _ _ _ _ _ c.in-If.is
     c.in_ok-choice-in-If.ensures.given c.get.ensures c.as_slice.ensures c.take_statements-before.ensures.block) _ _ _ _
     c.from_residual-in_err-check_all-in-If.ensures.1 c.in_err-check_all-in-If.ensures.given
 
@@ -63,24 +58,21 @@ check_stmt-check_all-requires-in-If t c = (omega (arith, count_if c.in-If.is ref
 
 pub check_stmt-returns-in_err-check_all-in-If-2-clause-given : goal.check_stmt-returns-in_err-check_all-in-If-2-clause-given
 check_stmt-returns-in_err-check_all-in-If-2-clause-given t c =
-    left_stops_after _ _ (second_is c.args.scope.states.now c.args.scope.args.now c.args.outer.now c.args.found.now _ _ c.in-If.is
+    left_stops_after _ _ (second_is _ _ _ _ _ _ c.in-If.is
     c.in_ok-choice-in-If.ensures.given c.get.ensures c.as_slice.ensures c.take_statements-before.ensures.block
     c.in_ok-check_all-in-If.ensures.given c.get-in-If.ensures c.as_slice-in-If.ensures c.take_statements-then_block.ensures.block) _ _ _ _
     c.from_residual-in_err-check_all-in-If-2.ensures.1 c.in_err-check_all-in-If-2.ensures.given
 
 pub check_stmt-returns-in-Assign-clause-given : goal.check_stmt-returns-in-Assign-clause-given
 check_stmt-returns-in-Assign-clause-given t c =
-    left_is _ _ (assign_is c.args.scope.states.now c.args.scope.args.now c.args.outer.now c.args.found.now c.in-Assign.is)
-    c.add_assignment.ensures.given
+    left_is _ _ (assign_is _ _ _ _ c.in-Assign.is) c.add_assignment.ensures.given
 
 pub check_stmt-returns-in-Assign-clause-numbers : goal.check_stmt-returns-in-Assign-clause-numbers
 check_stmt-returns-in-Assign-clause-numbers t c = on_ok_so _ (assign_number c.in-Assign.is) c.add_assignment.ensures.numbers
 
 pub check_stmt-returns-in_ok-check_all-in-If-2-clause-given : goal.check_stmt-returns-in_ok-check_all-in-If-2-clause-given
 check_stmt-returns-in_ok-check_all-in-If-2-clause-given t c =
-    left_is _ _ (closed_is c.args.scope.states.now c.args.scope.args.now c.args.outer.now c.args.found.now _ _ c.in-If.is
-    c.in_ok-choice-in-If.choice c.check_all.new.found
-    (second_is c.args.scope.states.now c.args.scope.args.now c.args.outer.now c.args.found.now _ _ c.in-If.is
+    left_is _ _ (closed_is _ _ _ _ _ _ c.in-If.is c.in_ok-choice-in-If.choice c.check_all.new.found (second_is _ _ _ _ _ _ c.in-If.is
     c.in_ok-choice-in-If.ensures.given c.get.ensures c.as_slice.ensures c.take_statements-before.ensures.block
     c.in_ok-check_all-in-If.ensures.given c.get-in-If.ensures c.as_slice-in-If.ensures c.take_statements-then_block.ensures.block)
     c.in_ok-check_all-in-If-2.ensures.given c.take_statements-before.ensures.statements c.take_statements-then_block.ensures.statements)
@@ -92,5 +84,4 @@ check_stmt-returns-in_ok-check_all-in-If-2-clause-numbers t c =
     c.in_ok-check_all-in-If.ensures.numbers c.in_ok-check_all-in-If-2.ensures.numbers)
 
 pub check_stmt-returns-in-Emit-clause-given : goal.check_stmt-returns-in-Emit-clause-given
-check_stmt-returns-in-Emit-clause-given t c = left_is _ _ (emit_is c.args.scope.states.now c.args.scope.args.now c.args.outer.now
-    c.args.found.now c.in-Emit.is) c.add_emit.ensures
+check_stmt-returns-in-Emit-clause-given t c = left_is _ _ (emit_is _ _ _ _ c.in-Emit.is) c.add_emit.ensures

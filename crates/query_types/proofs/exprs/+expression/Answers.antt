@@ -1,9 +1,7 @@
 use Rattle.std.proofs.Common.{◌+◌, refl, sym, ap, ◌∙◌, arith}
 use Rattle.std.proofs.lemmas.List.{at_drop_all}
 use Rattle.std.specs.Prelude.{map, drop}
-use Rattle.query_lang.specs.Checks.{collected}
-use Rattle.query_lang.specs.TypedExprs.{expr_checked}
-use Rattle.query_lang.specs.TypedFolds.{expr_nodes}
+use Rattle.query_lang.specs.{Checks.collected, TypedExprs.expr_checked, TypedFolds.expr_nodes}
 use Rattle.query_types.specs.Numbers.{greatest_number}
 use Rattle.query_types.proofs.CheckLemmas.{stops, goes_on, more, if_ok, collected_turn}
 use Rattle.query_types.proofs.CountSteps.{item_within, nodes_not, nodes_binary, nodes_call, greatest_more, greatest_ends}
@@ -30,37 +28,33 @@ check_expr-check_operands-requires t c = (omega (arith, nodes_call c.in-Call.is 
 
 pub check_expr-returns-in_err-of-in-Not-clause-given : goal.check_expr-returns-in_err-of-in-Not-clause-given
 check_expr-returns-in_err-of-in-Not-clause-given t c =
-    stops _ _ (not_is c.args.columns.now c.args.hidden.now c.in-Not.is c.get.ensures) _ _ c.from_residual-in_err-of-in-Not.ensures.1
-    c.in_err-of-in-Not.ensures.given
+    stops _ _ (not_is _ _ c.in-Not.is c.get.ensures) _ _ c.from_residual-in_err-of-in-Not.ensures.1 c.in_err-of-in-Not.ensures.given
 
 pub check_expr-returns-in_err-first-in-Binary-clause-given : goal.check_expr-returns-in_err-first-in-Binary-clause-given
 check_expr-returns-in_err-first-in-Binary-clause-given t c =
-    stops _ _ (binary_is c.args.columns.now c.args.hidden.now c.in-Binary.is c.get-in-Binary.ensures refl) _ _
+    stops _ _ (binary_is _ _ c.in-Binary.is c.get-in-Binary.ensures refl) _ _
     c.from_residual-in_err-first-in-Binary.ensures.1 c.in_err-first-in-Binary.ensures.given
 
 pub check_expr-returns-in_err-second-in-Binary-clause-given : goal.check_expr-returns-in_err-second-in-Binary-clause-given
 check_expr-returns-in_err-second-in-Binary-clause-given t c =
-    goes_on _ _ (binary_is c.args.columns.now c.args.hidden.now c.in-Binary.is c.get-in-Binary.ensures c.get-in-Binary-2.ensures) _
-    c.in_ok-first-in-Binary.ensures.given
+    goes_on _ _ (binary_is _ _ c.in-Binary.is c.get-in-Binary.ensures c.get-in-Binary-2.ensures) _ c.in_ok-first-in-Binary.ensures.given
     (stops _ _ refl _ _ c.from_residual-in_err-second-in-Binary.ensures.1 c.in_err-second-in-Binary.ensures.given)
 
 pub check_expr-returns-in_err-operands-in-Call-clause-given : goal.check_expr-returns-in_err-operands-in-Call-clause-given
 check_expr-returns-in_err-operands-in-Call-clause-given t c =
-    stops _ _ (call_is c.args.columns.now c.args.hidden.now c.in-Call.is c.as_slice.ensures) _ _
-    c.from_residual-in_err-operands-in-Call.ensures.1
+    stops _ _ (call_is _ _ c.in-Call.is c.as_slice.ensures) _ _ c.from_residual-in_err-operands-in-Call.ensures.1
     c.in_err-operands-in-Call.ensures.given
 
 pub check_expr-returns-in_ok-of-in-Not-clause-given : goal.check_expr-returns-in_ok-of-in-Not-clause-given
 check_expr-returns-in_ok-of-in-Not-clause-given t c =
-    goes_on _ _ (not_is c.args.columns.now c.args.hidden.now c.in-Not.is c.get.ensures) _ c.in_ok-of-in-Not.ensures.given c.negate.ensures
+    goes_on _ _ (not_is _ _ c.in-Not.is c.get.ensures) _ c.in_ok-of-in-Not.ensures.given c.negate.ensures
 
 pub check_expr-returns-in_ok-of-in-Not-clause-numbers : goal.check_expr-returns-in_ok-of-in-Not-clause-numbers
 check_expr-returns-in_ok-of-in-Not-clause-numbers t c = if_ok _ (not_number c.in-Not.is c.get.ensures c.in_ok-of-in-Not.ensures.numbers)
 
 pub check_expr-returns-in_ok-second-in-Binary-clause-given : goal.check_expr-returns-in_ok-second-in-Binary-clause-given
 check_expr-returns-in_ok-second-in-Binary-clause-given t c =
-    goes_on _ _ (binary_is c.args.columns.now c.args.hidden.now c.in-Binary.is c.get-in-Binary.ensures c.get-in-Binary-2.ensures) _
-    c.in_ok-first-in-Binary.ensures.given
+    goes_on _ _ (binary_is _ _ c.in-Binary.is c.get-in-Binary.ensures c.get-in-Binary-2.ensures) _ c.in_ok-first-in-Binary.ensures.given
     (goes_on _ _ refl _ c.in_ok-second-in-Binary.ensures.given c.join.ensures)
 
 pub check_expr-returns-in_ok-second-in-Binary-clause-numbers : goal.check_expr-returns-in_ok-second-in-Binary-clause-numbers
@@ -70,8 +64,7 @@ check_expr-returns-in_ok-second-in-Binary-clause-numbers t c =
 
 pub check_expr-returns-in_ok-operands-in-Call-clause-given : goal.check_expr-returns-in_ok-operands-in-Call-clause-given
 check_expr-returns-in_ok-operands-in-Call-clause-given t c =
-    goes_on _ _ (call_is c.args.columns.now c.args.hidden.now c.in-Call.is c.as_slice.ensures) _ c.in_ok-operands-in-Call.ensures.given
-    c.call.ensures
+    goes_on _ _ (call_is _ _ c.in-Call.is c.as_slice.ensures) _ c.in_ok-operands-in-Call.ensures.given c.call.ensures
 
 pub check_expr-returns-in_ok-operands-in-Call-clause-numbers : goal.check_expr-returns-in_ok-operands-in-Call-clause-numbers
 check_expr-returns-in_ok-operands-in-Call-clause-numbers t c = if_ok _ (call_number c.in-Call.is c.as_slice.ensures
@@ -90,21 +83,17 @@ check_operands-check_expr-requires t c = (
 pub check_operands-returns-in_err-operand-clause-given : goal.check_operands-returns-in_err-operand-clause-given
 check_operands-returns-in_err-operand-clause-given t c =
     stops _ _ (sym c.loop-argument.invariant.given ∙ collected_turn (expr_checked c.args.columns.now c.args.hidden.now) c.args.arguments.now
-    c.loop-argument.argument-index c.loop-argument.operands
-    c.loop-argument-test.true c.argument-item.is) _ _
+    c.loop-argument.argument-index c.loop-argument.operands c.loop-argument-test.true c.argument-item.is) _ _
     c.from_residual.ensures.1 c.in_err-operand.ensures.given
 
 pub check_operands-loop-argument-preserved : goal.check_operands-loop-argument-preserved
 check_operands-loop-argument-preserved t c = record {
   given = ap (λ l. collected l (map (expr_checked c.args.columns.now c.args.hidden.now)
-      (drop (c.loop-argument.argument-index + 1) c.args.arguments.now)))
-      c.in_ok-push.ensures.ok
+      (drop (c.loop-argument.argument-index + 1) c.args.arguments.now))) c.in_ok-push.ensures.ok
       ∙ more _ _ (collected_turn (expr_checked c.args.columns.now c.args.hidden.now) c.args.arguments.now c.loop-argument.argument-index
-      c.loop-argument.operands
-      c.loop-argument-test.true c.argument-item.is) c.in_ok-operand.ensures.given c.loop-argument.invariant.given;
+      c.loop-argument.operands c.loop-argument-test.true c.argument-item.is) c.in_ok-operand.ensures.given c.loop-argument.invariant.given;
   numbers = greatest_more greatest_number c.args.arguments.now c.loop-argument.argument-index c.loop-argument-test.true c.argument-item.is
-      c.in_ok-operand.ensures.numbers
-      c.loop-argument.invariant.numbers;
+      c.in_ok-operand.ensures.numbers c.loop-argument.invariant.numbers;
 }
 
 pub check_operands-returns-clause-given : goal.check_operands-returns-clause-given
