@@ -6,7 +6,8 @@ use Rattle.query_lang.specs.declared.token.Token.{Token}
 use Rattle.query_grammar.specs.declared.stop.Counts.{Counts}
 use Rattle.query_grammar.specs.Language.{Language, Leaf, tokens_of, Chain, Chained}
 use Rattle.query_grammar.specs.Parser.{Limits, Outcome, Done, Stopped, Parser, and_then, next_is, linked, next_turn, chain_turns, chained}
-use Rattle.query_grammar.proofs.Parses.{SameNext, Found, Meets, Reads, reads, passes, Begins, nothing, something, Parses, starts_of}
+use Rattle.query_grammar.proofs.Parses.{Apart, Keeps, SameNext, Found, Meets, Reads, reads, passes, Begins, nothing, something, Parses}
+use Rattle.query_grammar.proofs.Parses.{starts_of}
 use Rattle.query_grammar.proofs.Parses.{next_starts, next_clear, next_of, same_next, fewer, tokens-append, pays_both}
 
 module _ {A B : Type 0} (m : Limits) (T : Language (A ⊎ B)) (p : Parser (A ⊎ B)) (test : Token → Bool)
@@ -106,8 +107,7 @@ module _ {A B : Type 0} (m : Limits) (T : Language (A ⊎ B)) (p : Parser (A ⊎
       one : ((d : Counts) (rest : List Token) → length rest ≤ n → Meets m (Chained T) (chained test p) d rest (chained test p d rest))
           → next_is test ts ≡ true
           → (o : Outcome (A ⊎ B)) → Meets m T p c ts o → Meets m (Chained T) (chained test p) c ts (and_then o (next_turn (chained test p)))
-      one ih e (Done (inl a) d mid) f = both e a d mid f (chained test p d mid)
-          (ih d mid (omega (arith, shorter c ts (inl a) d mid f)))
+      one ih e (Done (inl a) d mid) f = both e a d mid f (chained test p d mid) (ih d mid (omega (arith, shorter c ts (inl a) d mid f)))
       one ih e (Done (inr b) d mid) f = record {
         front = f.front;
         split = f.split;
@@ -131,15 +131,13 @@ module _ {A B : Type 0} (m : Limits) (T : Language (A ⊎ B)) (p : Parser (A ⊎
 
       choose : ((d : Counts) (rest : List Token) → length rest ≤ n → Meets m (Chained T) (chained test p) d rest (chained test p d rest))
           → (b : Bool) → next_is test ts ≡ b → Meets m (Chained T) (chained test p) c ts (chained test p c ts)
-      choose ih true e = rw (chain_true c ts e)
-          (one ih e (p c ts) (pm c ts))
+      choose ih true e = rw (chain_true c ts e) (one ih e (p c ts) (pm c ts))
       choose ih false e = rw (chain_false c ts e)
           (record { front = []; split = refl; means = refl; pays = refl; again = λ x s. chain_false c x (same_next test ts x s ∙ e) })
 
   chained_begins : (w : List Leaf) (v : List A) (o : Option B) → Chain T w v o → Begins test true w
   chained_begins w [] None h = rw h nothing
-  chained_begins w [] (Some b) h = let s = starts_of (pb w (inr b) h) in rw s.2
-      (something s.0 s.1 s.3)
+  chained_begins w [] (Some b) h = let s = starts_of (pb w (inr b) h) in rw s.2 (something s.0 s.1 s.3)
   chained_begins w (a ∷ others) o h =
       let s = starts_of (pb h.0 (inl a) h.3) in
       let e : w ≡ s.0 ∷ (s.1 ++ h.1) = h.2 ∙ ap (λ (x : List Leaf). x ++ h.1) s.2 in
@@ -174,27 +172,21 @@ module _ {A B : Type 0} (m : Limits) (T : Language (A ⊎ B)) (p : Parser (A ⊎
       go (passes k y l x d2 e2 n i s o) = passes k (u ++ y) l x d2 (ap (λ (z : List Leaf). u ++ z) e2 ∙ sym (append_assoc u y (l ∷ x)))
           (pays_both m c d d2 u y pay n) i (one ∙ ap (linked a) s) o
 
-  chained_complete : (on goes_on : Token → Bool) → ((t : Token) → test t ≡ true → on t ≡ false)
-      → ((t : Token) → goes_on t ≡ false → test t ≡ false) → ((t : Token) → goes_on t ≡ false → on t ≡ false)
+  chained_complete : (on goes_on : Token → Bool) → Apart test on → Keeps goes_on test → Keeps goes_on on
       → ((c : Counts) (w : List Leaf) (v : A ⊎ B) (rest : List Token) → T w v → next_is on rest ≡ false → Reads m p c w v rest)
       → (v : List A) (o : Option B) (c : Counts) (w : List Leaf) (rest : List Token) → Chain T w v o → next_is goes_on rest ≡ false
       → Reads m (chained test p) c w (v, o) rest
   chained_complete on goes_on apart ends keeps pc [] None c w rest h clear =
-      rw h
-      (reads c refl (chain_false c rest (fewer test goes_on rest ends clear)))
+      rw h (reads c refl (chain_false c rest (fewer test goes_on rest ends clear)))
   chained_complete on goes_on apart ends keeps pc [] (Some b) c w rest h clear =
       last_read c w b rest (next_starts rest (pb w (inr b) h)) (pc c w (inr b) rest h (fewer on goes_on rest keeps clear))
   chained_complete on goes_on apart ends keeps pc (a ∷ others) o c w rest h clear =
-      rw h.2
-      (both_read c h.0 h.1 a (others, o) rest (next_starts (tokens_of h.1 ++ rest) (pb h.0 (inl a) h.3))
+      rw h.2 (both_read c h.0 h.1 a (others, o) rest (next_starts (tokens_of h.1 ++ rest) (pb h.0 (inl a) h.3))
       (pc c h.0 (inl a) (tokens_of h.1 ++ rest) h.3 (next_clear on rest (chained_begins h.1 others o h.4)
-      (λ n. fewer on goes_on rest keeps clear) apart))
-      (λ d. chained_complete on goes_on apart ends keeps pc others o d h.1 rest h.4 clear))
+      (λ n. fewer on goes_on rest keeps clear) apart)) (λ d. chained_complete on goes_on apart ends keeps pc others o d h.1 rest h.4 clear))
 
 pub parses_chained : {A B : Type 0} {m : Limits} {T : Language (A ⊎ B)} {p : Parser (A ⊎ B)} {test on : Token → Bool}
-    → (goes_on : Token → Bool) → Parses m T p test on false
-    → ((t : Token) → test t ≡ true → on t ≡ false) → ((t : Token) → goes_on t ≡ false → test t ≡ false)
-    → ((t : Token) → goes_on t ≡ false → on t ≡ false)
+    → (goes_on : Token → Bool) → Parses m T p test on false → Apart test on → Keeps goes_on test → Keeps goes_on on
     → Parses m (Chained T) (chained test p) test goes_on true
 parses_chained {A} {B} {m} {T} {p} {test} {on} goes_on f apart ends keeps = record {
   meets = λ c ts. chained_meets m T p test f.meets f.begins (length ts) c ts (omega arith);

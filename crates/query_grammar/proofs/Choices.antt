@@ -4,7 +4,8 @@ use Rattle.query_lang.specs.declared.{fault.Span.Span, token.Token.Token}
 use Rattle.query_grammar.specs.Language.{Language, Plain, Leaf, tokens_of, Word, Then, AtMostOnce, Either, Meaning}
 use Rattle.query_grammar.specs.declared.stop.{Counts.Counts, Stop.TheVariants.Unexpected, Stop.TheVariants.Nesting}
 use Rattle.query_grammar.specs.Parser.{Limits, Limited, Outcome, Done, Stopped, Parser, and_then, next_is, at_most_once, either}
-use Rattle.query_grammar.proofs.Parses.{meets_as, SameNext, Meets, Reads, Begins, Parses, next_of, same_next, starts_of, next_starts}
+use Rattle.query_grammar.proofs.Parses.{Apart, Keeps, Widens, meets_as, SameNext, Meets, Reads, Begins, Parses, next_of, same_next}
+use Rattle.query_grammar.proofs.Parses.{starts_of, next_starts}
 use Rattle.query_grammar.proofs.Parses.{next_clear, fewer, wider, is_some_of, reads, passes, nothing, something}
 
 -- ---- one or the other
@@ -41,11 +42,8 @@ module _ {A : Type 0} (m : Limits) (L M : Language A) (p q : Parser A) (test : T
   reads_right c w a rest t (passes k y l x d e n i s o) = passes k y l x d e n i (either_false (tokens_of w ++ rest) c t ∙ s) o
 
   pub parses_either : {on starts' on' : Token → Bool} → (starts goes_on : Token → Bool) → Parses m L p test on false
-      → Parses m M q starts' on' false
-      → ((t : Token) → starts' t ≡ true → test t ≡ false)
-      → ((t : Token) → test t ≡ true → starts t ≡ true) → ((t : Token) → starts' t ≡ true → starts t ≡ true)
-      → ((t : Token) → goes_on t ≡ false → on t ≡ false) → ((t : Token) → goes_on t ≡ false → on' t ≡ false)
-      → Parses m (Either L M) (either test p q) starts goes_on false
+      → Parses m M q starts' on' false → Apart starts' test → Widens test starts → Widens starts' starts
+      → Keeps goes_on on → Keeps goes_on on' → Parses m (Either L M) (either test p q) starts goes_on false
   parses_either {on} {starts'} {on'} starts goes_on f g apart wide wide' keeps keeps' = record {
     meets = either_meets f.meets g.meets;
     complete = λ c w v rest h clear. complete c w v rest clear h;
@@ -113,8 +111,7 @@ module _ {A : Type 0} (m : Limits) (L : Language A) (p : Parser A) (test : Token
   once_reads c w a rest t (reads d pay e) = reads d pay (once_true (tokens_of w ++ rest) c t ∙ rw e refl)
   once_reads c w a rest t (passes k y l x d e n i s o) = passes k y l x d e n i (once_true (tokens_of w ++ rest) c t ∙ rw s refl) o
 
-  pub parses_once : {on : Token → Bool} → (goes_on : Token → Bool) → Parses m L p test on false
-      → ((t : Token) → goes_on t ≡ false → test t ≡ false) → ((t : Token) → goes_on t ≡ false → on t ≡ false)
+  pub parses_once : {on : Token → Bool} → (goes_on : Token → Bool) → Parses m L p test on false → Keeps goes_on test → Keeps goes_on on
       → Parses m (AtMostOnce L) (at_most_once test p) test goes_on true
   parses_once {on} goes_on f apart keeps = record {
     meets = once_meets f.meets;
@@ -125,15 +122,13 @@ module _ {A : Type 0} (m : Limits) (L : Language A) (p : Parser A) (test : Token
     where
       complete : (c : Counts) (w : List Leaf) (v : Option A) (rest : List Token) → next_is goes_on rest ≡ false → AtMostOnce L w v
           → Reads m (at_most_once test p) c w v rest
-      complete c w None rest clear h = rw h
-          (reads c refl (once_false rest c (fewer test goes_on rest apart clear)))
+      complete c w None rest clear h = rw h (reads c refl (once_false rest c (fewer test goes_on rest apart clear)))
       complete c w (Some a) rest clear h = once_reads c w a rest (next_starts rest (f.begins w a h))
           (f.complete c w a rest h (fewer on goes_on rest keeps clear))
 
       begins : (w : List Leaf) (v : Option A) → AtMostOnce L w v → Begins test true w
       begins w None h = rw h nothing
-      begins w (Some a) h = let s = starts_of (f.begins w a h) in rw s.2
-          (something s.0 s.1 s.3)
+      begins w (Some a) h = let s = starts_of (f.begins w a h) in rw s.2 (something s.0 s.1 s.3)
 
 -- ---- a bracket that would be one too many
 
@@ -188,20 +183,18 @@ module _ {A B : Type 0} (L : Language A) (takes : Token → Option Span) (f : Sp
       }
 
       meets : (c : Counts) (ts : List Token) → Meets Limited (Meaning f (Then (Word Plain takes) L)) p c ts (p c ts)
-      meets c [] = rw (nil c)
-          (record {
-            front = [];
-            split = refl;
-            counts = c;
-            pays = refl;
-            more = record { role = Plain; token = t0 } ∷ w;
-            value = f (s0, a);
-            begins = ((s0, a), (record { role = Plain; token = t0 } ∷ [], w, refl, (t0, refl, h0), la), refl);
-            cause = tt;
-            again = λ x s. rw s (nil c);
-          })
-      meets c (t ∷ ts) = rw (cons c t ts)
-          (stop c t ts (takes t) refl)
+      meets c [] = rw (nil c) (record {
+        front = [];
+        split = refl;
+        counts = c;
+        pays = refl;
+        more = record { role = Plain; token = t0 } ∷ w;
+        value = f (s0, a);
+        begins = ((s0, a), (record { role = Plain; token = t0 } ∷ [], w, refl, (t0, refl, h0), la), refl);
+        cause = tt;
+        again = λ x s. rw s (nil c);
+      })
+      meets c (t ∷ ts) = rw (cons c t ts) (stop c t ts (takes t) refl)
 
       complete : (c : Counts) (u : List Leaf) (v : B) (rest : List Token) → (h : Meaning f (Then (Word Plain takes) L) u v)
           → Reads Limited p c ((record { role = Plain; token = h.1.3.0 } ∷ []) ++ h.1.1) v rest

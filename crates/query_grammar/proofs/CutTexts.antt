@@ -75,8 +75,7 @@ pub data IsCut : List (List ℕ) → List ℕ → List Token → List (List ℕ)
   skips : {known names : List (List ℕ)} {bytes : List ℕ} {tokens : List Token} (n : ℕ) → 0 < n → n ≤ length bytes
       → IsCut known (drop n bytes) tokens names → IsCut known bytes tokens names
   named : {known names : List (List ℕ)} {bytes : List ℕ} {tokens : List Token} (n at : ℕ) → 0 < n → n ≤ length bytes
-      → word_begins bytes ≡ 1 → n ≡ prefix_len is_word_byte bytes
-      → IsCut (with_name known (take n bytes)) (drop n bytes) tokens names
+      → word_begins bytes ≡ 1 → n ≡ prefix_len is_word_byte bytes → IsCut (with_name known (take n bytes)) (drop n bytes) tokens names
       → IsCut known bytes (token_at (kinds.Name (number_in known (take n bytes))) at (at + n) ∷ tokens) names
   other : {known names : List (List ℕ)} {bytes : List ℕ} {tokens : List Token} (kind : TokenKind) (n at : ℕ) → 0 < n → n ≤ length bytes
       → IsOther kind → IsCut known (drop n bytes) tokens names → IsCut known bytes (token_at kind at (at + n) ∷ tokens) names

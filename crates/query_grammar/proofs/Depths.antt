@@ -19,8 +19,7 @@ pub record Within {A : Type 0} (L M : Language A) : Type 0 where
 same : {A : Type 0} (L : Language A) → Within L L
 same L = record { is = λ w v h. h }
 
-then_in : {A B : Type 0} {L L' : Language A} {M M' : Language B} → Within L L' → Within M M'
-    → Within (Then L M) (Then L' M')
+then_in : {A B : Type 0} {L L' : Language A} {M M' : Language B} → Within L L' → Within M M' → Within (Then L M) (Then L' M')
 then_in f g = record { is = λ w v h. (h.0, h.1, h.2, f.is h.0 v.0 h.3, g.is h.1 v.1 h.4) }
 
 meaning_in : {A B : Type 0} {f : A → B} {L L' : Language A} → Within L L' → Within (Meaning f L) (Meaning f L')

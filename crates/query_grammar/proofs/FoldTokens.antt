@@ -27,8 +27,7 @@ nodes_are (leaf ∷ rest) = omega (
   arith,
   sum_by-cons (λ (l : Leaf). cond (counts_as_node l.role) 1 0) leaf rest,
   node_is leaf.role,
-  nodes_are
-      rest,
+  nodes_are rest,
 )
 
 statements_are : (leaves : List Leaf) → statements_among leaves ≡ leaves_by is_statement leaves

@@ -266,8 +266,7 @@ module _ {m : Limits} {E F : Language Expr} {p q : Parser Expr} (f : Line m E p 
   line_finishing : Line m (Finishing E F) (finishing m p q) (8 ∷ 9 ∷ 11 ∷ 14 ∷ 15 ∷ []) [] false
   line_finishing = line_either (line_meaning (line_filter f)) (line_either (line_meaning (line_mapping g)) (line_either
       (line_meaning (line_group m)) (line_either (line_meaning (line_pairing m (keyword words.Join) refl)) (line_meaning (line_best m))
-      refl)
-      refl) refl) refl
+      refl) refl) refl) refl
 
   line_final : Line m (Final E F) (final m p q) (12 ∷ []) [] false
   line_final = line_meaning (line_then (line_is m Opening (keyword words.Final) refl) (line_then (line_name m Plain)

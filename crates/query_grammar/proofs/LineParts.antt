@@ -63,8 +63,7 @@ pub line_is : (m : Limits) (role : Role) (k : TokenKind) → one_of (kind_number
 line_is m role k other = line_word (kind_number k ∷ []) (sample_of k) no_place (is_itself k) other (is_kind k)
 
 pub line_operator : (m : Limits) (ops : Operators) (k : TokenKind) (op : Op) → operator ops (sample_of k) ≡ Some (op, no_place)
-    → one_of (kinds_of ops) 3 ≡ false
-    → Line m (Word Node (operator ops)) (word m Node (operator ops)) (kinds_of ops) [] false
+    → one_of (kinds_of ops) 3 ≡ false → Line m (Word Node (operator ops)) (word m Node (operator ops)) (kinds_of ops) [] false
 line_operator m ops k op e other = line_word (kinds_of ops) (sample_of k) (op, no_place) e other (operator_kind ops)
 
 pub line_name : (m : Limits) (role : Role) → Line m (Word role name) (word m role name) (0 ∷ []) [] false
@@ -112,14 +111,12 @@ line_brackets_null f d = line_after (sign marks.OpenBracket) refl (line_before_n
 
 -- L { "," L }
 pub line_separated : {A : Type 0} {m : Limits} {L : Language A} {p : Parser A} {xs ys : List ℕ} → Line m L p xs ys false
-    → disjoint (30 ∷ []) ys ≡ true
-    → Line m (Separated L) (separated m p) xs (ys ++ ((30 ∷ []) ++ ys)) false
+    → disjoint (30 ∷ []) ys ≡ true → Line m (Separated L) (separated m p) xs (ys ++ ((30 ∷ []) ++ ys)) false
 line_separated f d = line_meaning (line_then_null f (line_repeated (line_after (sign marks.Comma) refl f) d) d)
 
 -- [ L { "," L } ]
 pub line_listed : {A : Type 0} {m : Limits} {L : Language A} {p : Parser A} {xs ys : List ℕ} → Line m L p xs ys false
-    → disjoint (30 ∷ []) ys ≡ true
-    → Line m (Listed L) (listed_by m xs p) xs (xs ++ (ys ++ ((30 ∷ []) ++ ys))) true
+    → disjoint (30 ∷ []) ys ≡ true → Line m (Listed L) (listed_by m xs p) xs (xs ++ (ys ++ ((30 ∷ []) ++ ys))) true
 line_listed f d = line_meaning (line_once (line_separated f d))
 
 pub line_comma : {A : Type 0} {m : Limits} {L : Language A} {p : Parser A} {xs ys : List ℕ} → Line m L p xs ys false

@@ -122,16 +122,14 @@ line_word {A} {m} {role} {takes} ks t a h other s = record {
   free = free_word role takes ks other s;
 }
 
-pub line_then : {A B : Type 0} {m : Limits} {L : Language A} {M : Language B} {p : Parser A} {q : Parser B}
-    {xs ys xs' ys' : List ℕ}
+pub line_then : {A B : Type 0} {m : Limits} {L : Language A} {M : Language B} {p : Parser A} {q : Parser B} {xs ys xs' ys' : List ℕ}
     → Line m L p xs ys false → Line m M q xs' ys' false → disjoint xs' ys ≡ true → Line m (Then L M) (followed_by p q) xs ys' false
 line_then {A} {B} {m} {L} {M} {p} {q} {xs} {ys} {xs'} {ys'} f g d = record {
   parses = parses_then m L M p q (among ys') f.parses g.parses (λ t h. disjoint_is xs' ys (kind t) d h) (λ n t h. absurd cc) (λ t h. h);
   free = λ w v h. free_both w h.0 h.1 h.2 (f.free h.0 v.0 h.3) (g.free h.1 v.1 h.4);
 }
 
-pub line_then_null : {A B : Type 0} {m : Limits} {L : Language A} {M : Language B} {p : Parser A} {q : Parser B}
-    {xs ys xs' ys' : List ℕ}
+pub line_then_null : {A B : Type 0} {m : Limits} {L : Language A} {M : Language B} {p : Parser A} {q : Parser B} {xs ys xs' ys' : List ℕ}
     → Line m L p xs ys false → Line m M q xs' ys' true → disjoint xs' ys ≡ true → Line m (Then L M) (followed_by p q) xs (ys ++ ys') false
 line_then_null {A} {B} {m} {L} {M} {p} {q} {xs} {ys} {xs'} {ys'} f g d =
     record {
@@ -140,8 +138,7 @@ line_then_null {A} {B} {m} {L} {M} {p} {q} {xs} {ys} {xs'} {ys'} f g d =
       free = λ w v h. free_both w h.0 h.1 h.2 (f.free h.0 v.0 h.3) (g.free h.1 v.1 h.4);
     }
 
-pub line_null_then : {A B : Type 0} {m : Limits} {L : Language A} {M : Language B} {p : Parser A} {q : Parser B}
-    {xs ys xs' ys' : List ℕ}
+pub line_null_then : {A B : Type 0} {m : Limits} {L : Language A} {M : Language B} {p : Parser A} {q : Parser B} {xs ys xs' ys' : List ℕ}
     → Line m L p xs ys true → Line m M q xs' ys' false → disjoint xs' ys ≡ true → Line m (Then L M) (followed_by p q) (xs ++ xs') ys' false
 line_null_then {A} {B} {m} {L} {M} {p} {q} {xs} {ys} {xs'} {ys'} f g d =
     record {
@@ -171,8 +168,7 @@ line_once {A} {m} {L} {p} {xs} {ys} f = record {
 }
 
 pub line_repeated : {A : Type 0} {m : Limits} {L : Language A} {p : Parser A} {xs ys : List ℕ} → Line m L p xs ys false
-    → disjoint xs ys ≡ true
-    → Line m (Repeated L) (repeated (among xs) p) xs (xs ++ ys) true
+    → disjoint xs ys ≡ true → Line m (Repeated L) (repeated (among xs) p) xs (xs ++ ys) true
 line_repeated {A} {m} {L} {p} {xs} {ys} f d = record {
   parses = parses_repeated (among (xs ++ ys)) f.parses (λ t h. disjoint_is xs ys (kind t) d h) (λ t h. less_left xs ys (kind t) h)
       (λ t h. less_right xs ys (kind t) h);
@@ -187,8 +183,7 @@ line_meaning {A} {B} {m} {f} {L} {p} {xs} {ys} {nullable} g = record {
 }
 
 pub line_chained : {A B : Type 0} {m : Limits} {T : Language (A ⊎ B)} {p : Parser (A ⊎ B)} {xs ys : List ℕ}
-    → Line m T p xs ys false → disjoint xs ys ≡ true
-    → Line m (Chained T) (chained (among xs) p) xs (xs ++ ys) true
+    → Line m T p xs ys false → disjoint xs ys ≡ true → Line m (Chained T) (chained (among xs) p) xs (xs ++ ys) true
 line_chained {A} {B} {m} {T} {p} {xs} {ys} f d = record {
   parses = parses_chained (among (xs ++ ys)) f.parses (λ t h. disjoint_is xs ys (kind t) d h) (λ t h. less_left xs ys (kind t) h)
       (λ t h. less_right xs ys (kind t) h);

@@ -8,6 +8,16 @@ use Rattle.query_grammar.specs.declared.stop.Stop.TheVariants.{Unexpected, Nodes
 use Rattle.query_grammar.specs.Parser.{Limits, Limited, Unlimited, charge, limit_of, Outcome, Done, Stopped, Parser, paid, taken, word}
 use Rattle.query_grammar.specs.Parser.{next_is}
 
+-- what the kinds of tokens that tests take have to do with one another
+abbrev pub Apart : (Token → Bool) → (Token → Bool) → Type 0
+Apart test on = (t : Token) → test t ≡ true → on t ≡ false
+
+abbrev pub Keeps : (Token → Bool) → (Token → Bool) → Type 0
+Keeps goes_on on = (t : Token) → goes_on t ≡ false → on t ≡ false
+
+abbrev pub Widens : (Token → Bool) → (Token → Bool) → Type 0
+Widens starts also = (t : Token) → starts t ≡ true → also t ≡ true
+
 -- the same next token
 abbrev pub SameNext : List Token → List Token → Type 0
 SameNext [] x = x ≡ []
@@ -101,8 +111,7 @@ pub data Begins (starts : Token → Bool) : Bool → List Leaf → Type 0 where
   something : {nullable : Bool} → (l : Leaf) → (others : List Leaf) → starts l.token ≡ true → Begins starts nullable (l ∷ others)
 
 -- the parser meets the language. Its words begin with tokens of `starts`; it reads on at tokens of `goes_on`
-pub record Parses {A : Type 0} (m : Limits) (L : Language A) (p : Parser A) (starts goes_on : Token → Bool)
-    (nullable : Bool) : Type 0 where
+pub record Parses {A : Type 0} (m : Limits) (L : Language A) (p : Parser A) (starts goes_on : Token → Bool) (nullable : Bool) : Type 0 where
   pub meets : (c : Counts) (ts : List Token) → Meets m L p c ts (p c ts)
   pub complete : (c : Counts) (w : List Leaf) (v : A) (rest : List Token) → L w v → next_is goes_on rest ≡ false → Reads m p c w v rest
   pub begins : (w : List Leaf) (v : A) → L w v → Begins starts nullable w
@@ -127,18 +136,16 @@ pub next_starts : {starts : Token → Bool} {w : List Leaf} (rest : List Token) 
 next_starts rest (something l others s) = s
 
 pub next_clear : {starts : Token → Bool} {nullable : Bool} {w : List Leaf} (test : Token → Bool) (rest : List Token)
-    → Begins starts nullable w
-    → (nullable ≡ true → next_is test rest ≡ false) → ((t : Token) → starts t ≡ true → test t ≡ false)
+    → Begins starts nullable w → (nullable ≡ true → next_is test rest ≡ false) → Apart starts test
     → next_is test (tokens_of w ++ rest) ≡ false
 next_clear test rest nothing h a = h refl
 next_clear test rest (something l others s) h a = a l.token s
 
-pub fewer : (test on : Token → Bool) (rest : List Token) → ((t : Token) → on t ≡ false → test t ≡ false) → next_is on rest ≡ false
-    → next_is test rest ≡ false
+pub fewer : (test on : Token → Bool) (rest : List Token) → Keeps on test → next_is on rest ≡ false → next_is test rest ≡ false
 fewer test on [] h e = refl
 fewer test on (t ∷ ts) h e = h t e
 
-pub wider : {starts also : Token → Bool} {nullable : Bool} {w : List Leaf} → ((t : Token) → starts t ≡ true → also t ≡ true)
+pub wider : {starts also : Token → Bool} {nullable : Bool} {w : List Leaf} → Widens starts also
     → Begins starts nullable w → Begins also nullable w
 wider h nothing = nothing
 wider h (something l others s) = something l others (h l.token s)
@@ -246,8 +253,7 @@ module _ {A : Type 0} (m : Limits) (role : Role) (takes : Token → Option A) wh
   parses_word goes_on t0 a0 h0 = record {
     meets = word_meets t0 a0 h0;
     complete = λ c w v rest h clear. word_complete c w v rest h;
-    begins = λ w v h. rw h.1
-        (something (record { role = role; token = h.0 }) [] (ap is_some_of h.2));
+    begins = λ w v h. rw h.1 (something (record { role = role; token = h.0 }) [] (ap is_some_of h.2));
     sample = (record { role = role; token = t0 } ∷ [], a0, (t0, refl, h0));
   }
 
@@ -279,13 +285,11 @@ meets_as m p q to same (Stopped k rest) h = record {
 -- ---- more kinds
 
 pub parses_wider : {A : Type 0} {m : Limits} {L : Language A} {p : Parser A} {starts on : Token → Bool} {nullable : Bool}
-    → (also : Token → Bool)
-    → ((t : Token) → starts t ≡ true → also t ≡ true) → Parses m L p starts on nullable → Parses m L p also on nullable
+    → (also : Token → Bool) → Widens starts also → Parses m L p starts on nullable → Parses m L p also on nullable
 parses_wider also h f = record { meets = f.meets; complete = f.complete; begins = λ w v l. wider h (f.begins w v l); sample = f.sample }
 
 pub parses_wider_on : {A : Type 0} {m : Limits} {L : Language A} {p : Parser A} {starts on : Token → Bool} {nullable : Bool}
-    → (also : Token → Bool)
-    → ((t : Token) → also t ≡ false → on t ≡ false) → Parses m L p starts on nullable → Parses m L p starts also nullable
+    → (also : Token → Bool) → Keeps also on → Parses m L p starts on nullable → Parses m L p starts also nullable
 parses_wider_on {A} {m} {L} {p} {starts} {on} also h f = record {
   meets = f.meets;
   complete =

@@ -6,7 +6,7 @@ use Rattle.query_grammar.specs.declared.stop.Counts.{Counts}
 use Rattle.query_grammar.specs.Language.{Language, Leaf, Repeated, Meaning, Chain, Chained}
 use Rattle.query_grammar.specs.Parser.{Limits, Outcome, Done, Stopped, Parser, and_then, next_is, mapped, turns, repeated, linked}
 use Rattle.query_grammar.specs.Parser.{chain_turns, next_turn, chained}
-use Rattle.query_grammar.proofs.{Chains.parses_chained, Parses.Parses, Parses.meets_as, Sequences.parses_mapped}
+use Rattle.query_grammar.proofs.{Chains.parses_chained, Parses.Parses, Parses.meets_as, Sequences.parses_mapped, Parses.Apart, Parses.Keeps}
 
 abbrev pub as_turn : {A : Type 0} → A → A ⊎ ⊥
 as_turn a = inl a
@@ -32,10 +32,8 @@ same_turns {A} test p (suc n) c ts = go (same_turns test p n) (next_is test ts) 
     go : ((d : Counts) (rest : List Token) → turns n test p d rest ≡ mapped turns_of (chain_turns n test (mapped as_turn p)) d rest)
         → (b : Bool) (o : Outcome A)
         → cond b (and_then o (λ a c' rest. and_then (turns n test p c' rest) (λ others c'' rest'. Done (a ∷ others) c'' rest')))
-        (Done [] c ts)
-        ≡ and_then (cond b (and_then (and_then o (λ a c' rest. Done (as_turn a) c' rest))
-        (next_turn (chain_turns n test (mapped as_turn p))))
-        (Done ([], None) c ts)) (λ v c' rest. Done (turns_of v) c' rest)
+        (Done [] c ts) ≡ and_then (cond b (and_then (and_then o (λ a c' rest. Done (as_turn a) c' rest))
+        (next_turn (chain_turns n test (mapped as_turn p)))) (Done ([], None) c ts)) (λ v c' rest. Done (turns_of v) c' rest)
     go ih false o = refl
     go ih true (Done a d rest) = rw (ih d rest) (linked_turn a (chain_turns n test (mapped as_turn p) d rest))
     go ih true (Stopped k rest) = refl
@@ -70,9 +68,8 @@ parses_language {m = m} {p = p} to from f = record {
 }
 
 pub parses_repeated : {A : Type 0} {m : Limits} {L : Language A} {p : Parser A} {test on : Token → Bool} → (goes_on : Token → Bool)
-    → Parses m L p test on false → ((t : Token) → test t ≡ true → on t ≡ false) → ((t : Token) → goes_on t ≡ false → test t ≡ false)
-    → ((t : Token) → goes_on t ≡ false → on t ≡ false) → Parses m (Repeated L) (repeated test p) test goes_on true
+    → Parses m L p test on false → Apart test on → Keeps goes_on test
+    → Keeps goes_on on → Parses m (Repeated L) (repeated test p) test goes_on true
 parses_repeated {A} {m} {L} {p} {test} goes_on f apart ends keeps = rw (repeated_is test p) (parses_language (is_repeated L)
-    (λ w v h. ((v, None), to_chain L w v h, refl))
-    (parses_mapped m turns_of (Chained (Meaning as_turn L)) (chained test (mapped as_turn p))
+    (λ w v h. ((v, None), to_chain L w v h, refl)) (parses_mapped m turns_of (Chained (Meaning as_turn L)) (chained test (mapped as_turn p))
     (parses_chained goes_on (parses_mapped m as_turn L p f) apart ends keeps)))

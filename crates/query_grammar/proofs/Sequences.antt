@@ -4,7 +4,8 @@ use Rattle.query_lang.specs.declared.token.Token.{Token}
 use Rattle.query_grammar.specs.Language.{Language, Leaf, tokens_of, Then, Meaning}
 use Rattle.query_grammar.specs.declared.stop.{Counts.Counts, Stop.Stop}
 use Rattle.query_grammar.specs.Parser.{Limits, Outcome, Done, Stopped, Parser, and_then, followed_by, mapped}
-use Rattle.query_grammar.proofs.Parses.{SameNext, pays_both, tokens-append, Found, Halted, Meets, Reads, Begins, Parses, next_of, starts_of}
+use Rattle.query_grammar.proofs.Parses.{Apart, Keeps, Widens, SameNext, pays_both, tokens-append, Found, Halted, Meets, Reads, Begins}
+use Rattle.query_grammar.proofs.Parses.{Parses, next_of, starts_of}
 use Rattle.query_grammar.proofs.Parses.{next_clear, fewer, wider, cause_more, reads, passes, nothing, something}
 
 module _ {A B : Type 0} (m : Limits) (L : Language A) (M : Language B) (p : Parser A) (q : Parser B) where
@@ -86,25 +87,19 @@ module _ {A B : Type 0} (m : Limits) (L : Language A) (M : Language B) (p : Pars
           (pays_both m c d d2 u y pay n) i (ap (followed_by p q c) (tokens-append u w rest) ∙ rw (e, s) refl) o
 
   pub parses_then : {starts on starts' on' : Token → Bool} {nullable : Bool} → (goes_on : Token → Bool) → Parses m L p starts on false
-      → Parses m M q starts' on' nullable
-      → ((t : Token) → starts' t ≡ true → on t ≡ false)
-      → (nullable ≡ true → (t : Token) → goes_on t ≡ false → on t ≡ false)
-      → ((t : Token) → goes_on t ≡ false → on' t ≡ false)
-      → Parses m (Then L M) (followed_by p q) starts goes_on false
+      → Parses m M q starts' on' nullable → Apart starts' on → (nullable ≡ true → (t : Token) → goes_on t ≡ false → on t ≡ false)
+      → Keeps goes_on on' → Parses m (Then L M) (followed_by p q) starts goes_on false
   parses_then {starts} {on} {starts'} {on'} {nullable} goes_on f g apart keeps keeps' = record {
     meets = then_meets g.sample.0 g.sample.1 g.sample.2 f.meets g.meets;
-    complete = λ c w v rest h clear. rw h.2
-        (then_reads c h.0 h.1 v.0 v.1 rest
+    complete = λ c w v rest h clear. rw h.2 (then_reads c h.0 h.1 v.0 v.1 rest
         (f.complete c h.0 v.0 (tokens_of h.1 ++ rest) h.3 (next_clear on rest (g.begins h.1 v.1 h.4)
-        (λ n. fewer on goes_on rest (keeps n) clear) apart))
-        (λ d. g.complete d h.1 v.1 rest h.4 (fewer on' goes_on rest keeps' clear)));
+        (λ n. fewer on goes_on rest (keeps n) clear) apart)) (λ d. g.complete d h.1 v.1 rest h.4 (fewer on' goes_on rest keeps' clear)));
     begins = λ w v h. rw h.2 (front_begins h.0 h.1 (f.begins h.0 v.0 h.3));
     sample = (f.sample.0 ++ g.sample.0, (f.sample.1, g.sample.1), (f.sample.0, g.sample.0, refl, f.sample.2, g.sample.2));
   }
     where
       front_begins : (u w : List Leaf) → Begins starts false u → Begins starts false (u ++ w)
-      front_begins u w b = let s = starts_of b in rw s.2
-          (something s.0 (s.1 ++ w) s.3)
+      front_begins u w b = let s = starts_of b in rw s.2 (something s.0 (s.1 ++ w) s.3)
 
 -- ---- another meaning
 
@@ -142,8 +137,7 @@ module _ {A B : Type 0} (m : Limits) (f : A → B) (L : Language A) (p : Parser 
       → Parses m (Meaning f L) (mapped f p) starts on nullable
   parses_mapped g = record {
     meets = mapped_meets g.meets;
-    complete = λ c w v rest h clear. rw (← h.2)
-        (mapped_reads c w h.0 rest (g.complete c w h.0 rest h.1 clear));
+    complete = λ c w v rest h clear. rw (← h.2) (mapped_reads c w h.0 rest (g.complete c w h.0 rest h.1 clear));
     begins = λ w v h. g.begins w h.0 h.1;
     sample = (g.sample.0, f g.sample.1, (g.sample.1, g.sample.2, refl));
   }
@@ -151,16 +145,12 @@ module _ {A B : Type 0} (m : Limits) (f : A → B) (L : Language A) (p : Parser 
 -- ---- one after the other, where the first may be empty
 
 pub parses_null_then : {A B : Type 0} {m : Limits} {L : Language A} {M : Language B} {p : Parser A} {q : Parser B}
-    {starts on starts' on' : Token → Bool}
-    → (also goes_on : Token → Bool) → Parses m L p starts on true → Parses m M q starts' on' false
-    → ((t : Token) → starts' t ≡ true → on t ≡ false)
-    → ((t : Token) → starts t ≡ true → also t ≡ true) → ((t : Token) → starts' t ≡ true → also t ≡ true)
-    → ((t : Token) → goes_on t ≡ false → on' t ≡ false)
+    {starts on starts' on' : Token → Bool} → (also goes_on : Token → Bool) → Parses m L p starts on true → Parses m M q starts' on' false
+    → Apart starts' on → Widens starts also → Widens starts' also → Keeps goes_on on'
     → Parses m (Then L M) (followed_by p q) also goes_on false
 parses_null_then {A} {B} {m} {L} {M} {p} {q} {starts} {on} {starts'} {on'} also goes_on f g apart wide wide' keeps' = record {
   meets = then_meets m L M p q g.sample.0 g.sample.1 g.sample.2 f.meets g.meets;
-  complete = λ c w v rest h clear. rw h.2
-      (then_reads m L M p q c h.0 h.1 v.0 v.1 rest
+  complete = λ c w v rest h clear. rw h.2 (then_reads m L M p q c h.0 h.1 v.0 v.1 rest
       (f.complete c h.0 v.0 (tokens_of h.1 ++ rest) h.3 (next_clear on rest (g.begins h.1 v.1 h.4) (λ n. absurd cc) apart))
       (λ d. g.complete d h.1 v.1 rest h.4 (fewer on' goes_on rest keeps' clear)));
   begins = λ w v h. rw h.2 (both h.0 h.1 (f.begins h.0 v.0 h.3) (g.begins h.1 v.1 h.4));
