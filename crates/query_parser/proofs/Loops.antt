@@ -1,17 +1,12 @@
 -- One turn of a loop that reads the same thing repeatedly.
 use Rattle.std.proofs.Common.{◌≡◌, ℕ, zero, suc, ◌+◌, ◌-◌, ◌<◌, ◌≤◌, Bool, true, false, List, [], ◌∷◌, ◌++◌, length, refl, sym, ap, ◌∙◌}
 use Rattle.std.proofs.Common.{arith, append_assoc, inl, inr, ◌⊎◌}
-use Rattle.query_lang.specs.declared.token.Token.{Token}
-use Rattle.query_grammar.specs.declared.stop.Counts.{Counts}
+use Rattle.query_lang.specs.declared.{token.Token.Token, fault.Span.Span, query.Expr.Expr}
+use Rattle.query_grammar.specs.{declared.stop.Counts.Counts, Grammar.negated}
 use Rattle.query_grammar.specs.Parser.{Outcome, Done, Stopped, Parser, and_then, followed_by, mapped, next_is, turns, repeated}
-use Rattle.query_lang.specs.declared.fault.Span.{Span}
-use Rattle.query_lang.specs.declared.query.Expr.{Expr}
+use Rattle.query_parser.specs.{declared.halt.Halt.Halt, declared.reader.Reader.Reader, Reads.Fails, Reads.StopsAt}
 use Rattle.query_lang.specs.declared.query.Expr.TheVariants as exprs
-use Rattle.query_grammar.specs.Grammar.{negated}
-use Rattle.query_parser.specs.declared.halt.Halt.{Halt}
 use Rattle.query_parser.specs.declared.halt.Halt.TheVariants as halts
-use Rattle.query_parser.specs.declared.reader.Reader.{Reader}
-use Rattle.query_parser.specs.Reads.{Fails, StopsAt}
 
 -- what the turns that are left give, and what was read before them
 abbrev pub finished : {A B : Type 0} → (List A → B) → Outcome (List A) → Outcome B

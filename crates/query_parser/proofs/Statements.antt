@@ -1,18 +1,14 @@
 -- What a statement is made of, and the branches of an `if`.
 use Rattle.std.proofs.Common.{◌≡◌, ℕ, zero, suc, ◌+◌, ◌-◌, ◌<◌, ◌≤◌, Bool, true, false, List, [], ◌∷◌, ◌++◌, length, Option, Some, None}
 use Rattle.std.proofs.Common.{refl, sym, ap, ◌∙◌, arith, append_assoc, inl, inr, ◌⊎◌}
-use Rattle.query_lang.specs.declared.query.Expr.{Expr}
-use Rattle.query_lang.specs.declared.query.Stmt.{Stmt}
-use Rattle.query_lang.specs.declared.query.Stmt.TheVariants as stmts
-use Rattle.query_lang.specs.declared.token.Token.{Token}
-use Rattle.query_grammar.specs.declared.stop.Counts.{Counts}
+use Rattle.query_lang.specs.declared.{query.Expr.Expr, query.Stmt.Stmt, token.Token.Token}
+use Rattle.query_grammar.specs.{declared.stop.Counts.Counts, Grammar.else_of}
 use Rattle.query_grammar.specs.Parser.{Limited, Outcome, Done, Stopped, Parser, and_then, next_is, next_turn, linked, chain_turns, chained}
-use Rattle.query_grammar.specs.Grammar.{else_of}
 use Rattle.query_grammar.specs.Reading.{statement, block, empty_parens, expr_at, stmt_at}
-use Rattle.query_parser.specs.declared.halt.Halt.{Halt}
-use Rattle.query_parser.specs.declared.halt.Halt.TheVariants as halts
-use Rattle.query_parser.specs.declared.reader.Reader.{Reader}
+use Rattle.query_parser.specs.declared.{halt.Halt.Halt, reader.Reader.Reader}
 use Rattle.query_parser.specs.Reads.{Fails, bracket_at, block_at, empty_at}
+use Rattle.query_lang.specs.declared.query.Stmt.TheVariants as stmts
+use Rattle.query_parser.specs.declared.halt.Halt.TheVariants as halts
 
 pub stmt_is : (e : ℕ) (c : Counts) (ts : List Token) → stmt_at Limited e c ts ≡ statement Limited (expr_at Limited e) (bracket_at e)
     (block_at e) (empty_at e) c ts
@@ -83,8 +79,7 @@ module _ {A B : Type 0} (starts : Token → Bool) (p : Parser (A ⊎ B)) (total 
       sym so_far ∙ ap (chained_on found) turn ∙ ap (λ (xs : List A). Done (xs, Some b) d rest) (append_none found)
 
   pub fails_chain : (found : List A) (n i : ℕ) (c : Counts) (ts : List Token) (x : Halt) (to : Reader) → i < n
-      → next_is starts ts ≡ true → Fails x to (p c ts)
-      → chained_on found (chain_turns (n - i) starts p c ts) ≡ total → Fails x to total
+      → next_is starts ts ≡ true → Fails x to (p c ts) → chained_on found (chain_turns (n - i) starts p c ts) ≡ total → Fails x to total
   fails_chain found n i c ts halts.Memory to lt h e so_far = tt
   fails_chain found n i c ts (halts.At x) to lt h e so_far = sym so_far ∙ ap (chained_on found) (one_link n i c ts lt h) ∙ rw e refl
 

@@ -209,7 +209,7 @@ fn unary(reader: &mut Reader<'_>, brackets: u32) -> Read<Expr>
 
 /// An operand of this level.
 #[cycle(expr)]
-#[tactic(auto, using(crate::proofs::Levels::operands_product, crate::proofs::Levels::operands_sum, crate::proofs::Levels::operands_shift, crate::proofs::Levels::operands_and, crate::proofs::Levels::operands_xor, crate::proofs::Levels::operands_or, crate::proofs::Levels::operands_comparison, crate::proofs::Levels::operands_both, crate::proofs::Levels::operands_either))]
+#[tactic(auto, unfolding(crate::specs::Reads::operands_of))]
 fn operand(reader: &mut Reader<'_>, of: Level, brackets: u32) -> Read<Expr>
     ensures { Gives result reader.old reader.new (operands_of of (primary_at brackets)) }
 {

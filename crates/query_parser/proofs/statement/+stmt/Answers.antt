@@ -1,45 +1,38 @@
 use Rattle.std.proofs.Common.{sym, ◌∙◌, inl, inr}
 use Rattle.query_parser.proofs.Loops.{ends_list, more_list}
 use Rattle.query_parser.proofs.Statements.{more_chain, last_chain, fails_chain, ends_chain}
-use Rattle.query_parser.proofs.statement.+stmt.Goals as goal
 use Rattle.query_parser.proofs.statement.+stmt.Goals.{else_parts-else-parts-test, else_parts-then-parts-test+then-not-at_word}
 use Rattle.query_parser.proofs.statement.+stmt.Goals.{statements-else-statements-test}
 use Rattle.query_parser.proofs.statement.+stmt.Goals.{statements-then-statements-test+then-not-at_statement}
+use Rattle.query_parser.proofs.statement.+stmt.Goals as goal
 
 pub else_parts-returns-in-Err : goal.else_parts-returns-in-Err
-else_parts-returns-in-Err t c = fails_chain _ _ _ c.parts.found _ c.parts.counter c.parts.reader.counts c.parts.reader.rest.now
-    c.in-Err.halt c.else_part.new.reader c.parts-test.true (sym c.at_word.ensures ∙ c.if-not-at_word.false) c.in-Err.ensures
+else_parts-returns-in-Err t c = fails_chain _ _ _ _ _ _ _ _ _ _ c.parts-test.true (sym c.at_word.ensures ∙ c.if-not-at_word.false)
+    c.in-Err.ensures
     c.parts.invariant
 
 pub else_parts-returns-in-Last : goal.else_parts-returns-in-Last
-else_parts-returns-in-Last t c = last_chain _ _ _ c.parts.found _ c.parts.counter c.parts.reader.counts c.parts.reader.rest.now
-    c.in-Last.body c.else_part.new.reader.counts c.else_part.new.reader.rest.now c.parts-test.true
+else_parts-returns-in-Last t c = last_chain _ _ _ _ _ _ _ _ _ _ _ c.parts-test.true
     (sym c.at_word.ensures ∙ c.if-not-at_word.false) (rw c.in-Last.is at c.in-Ok.ensures) c.parts.invariant
 
 pub else_parts-parts-preserved : goal.else_parts-parts-preserved
-else_parts-parts-preserved t c = more_chain _ _ _ c.parts.found c.push.new.self _ c.parts.counter c.parts.reader.counts
-    c.parts.reader.rest.now c.in-Another.branch c.else_part.new.reader.counts c.else_part.new.reader.rest.now c.parts-test.true
+else_parts-parts-preserved t c = more_chain _ _ _ _ _ _ _ _ _ _ _ _ c.parts-test.true
     (sym c.at_word.ensures ∙ c.if-not-at_word.false) (rw c.in-Another.is at c.in-Ok.ensures) c.in_ok-push-in-Another.ensures.ok
     c.parts.invariant
 
 pub else_parts-returns : goal.else_parts-returns
-else_parts-returns t c = ends_chain _ _ _ c.parts.found _ c.parts.counter c.parts.reader.counts c.parts.reader.rest.now
-    (elim c.parts-test.branch [
-      | else_parts-else-parts-test w ↦ inl w.parts-test.false
-      | else_parts-then-parts-test+then-not-at_word w ↦ inr (sym w.at_word.ensures ∙ w.if-not-at_word.true)
-    ]) c.parts.invariant
+else_parts-returns t c = ends_chain _ _ _ _ _ _ _ _ (elim c.parts-test.branch [
+  | else_parts-else-parts-test w ↦ inl w.parts-test.false
+  | else_parts-then-parts-test+then-not-at_word w ↦ inr (sym w.at_word.ensures ∙ w.if-not-at_word.true)
+]) c.parts.invariant
 
 pub statements-statements-preserved : goal.statements-statements-preserved
-statements-statements-preserved t c = more_list _ _ _ c.statements.found c.push.new.self _ c.statements.counter
-    c.statements.reader.counts c.statements.reader.rest.now c.in-Ok.found c.statement.new.reader.counts
-    c.statement.new.reader.rest.now c.statements-test.true (sym c.at_statement.ensures ∙ c.if-not-at_statement.false)
+statements-statements-preserved t c = more_list _ _ _ _ _ _ _ _ _ _ _ _ c.statements-test.true
+    (sym c.at_statement.ensures ∙ c.if-not-at_statement.false)
     c.in-Ok.ensures c.in_ok-push.ensures.ok c.statements.invariant
 
 pub statements-returns : goal.statements-returns
-statements-returns t c = elim c.statements-test.branch [
-  | statements-else-statements-test w ↦ ends_list _ _ _ c.statements.found _ c.statements.counter c.statements.reader.counts
-      c.statements.reader.rest.now (inl w.statements-test.false) c.statements.invariant
-  | statements-then-statements-test+then-not-at_statement w ↦ ends_list _ _ _ c.statements.found _ c.statements.counter
-      c.statements.reader.counts c.statements.reader.rest.now (inr (sym w.at_statement.ensures ∙ w.if-not-at_statement.true))
-      c.statements.invariant
-]
+statements-returns t c = ends_list _ _ _ _ _ _ _ _ (elim c.statements-test.branch [
+  | statements-else-statements-test w ↦ inl w.statements-test.false
+  | statements-then-statements-test+then-not-at_statement w ↦ inr (sym w.at_statement.ensures ∙ w.if-not-at_statement.true)
+]) c.statements.invariant
