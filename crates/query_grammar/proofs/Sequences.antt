@@ -4,17 +4,11 @@ use Rattle.query_lang.specs.declared.token.Token.{Token}
 use Rattle.query_grammar.specs.Language.{Language, Leaf, tokens_of, Then, Meaning}
 use Rattle.query_grammar.specs.declared.stop.{Counts.Counts, Stop.Stop}
 use Rattle.query_grammar.specs.Parser.{Limits, Outcome, Done, Stopped, Parser, and_then, followed_by, mapped}
-use Rattle.query_grammar.proofs.Parses.{Apart, Keeps, Widens, SameNext, pays_both, tokens-append, Found, Halted, Meets, Reads, Begins}
+use Rattle.query_grammar.proofs.Parses.{Apart, Keeps, Widens, pays_both, tokens-append, Found, Halted, Meets, Reads, Begins}
 use Rattle.query_grammar.proofs.Parses.{Parses, next_of, starts_of}
 use Rattle.query_grammar.proofs.Parses.{next_clear, fewer, wider, cause_more, reads, passes, nothing, something}
 
 module _ {A B : Type 0} (m : Limits) (L : Language A) (M : Language B) (p : Parser A) (q : Parser B) where
-  then_again : (c : Counts) (ts : List Token) (a : A) (d : Counts) (mid : List Token) → Found m L p c ts a d mid
-      → (w : List Leaf) (rest : List Token) → mid ≡ tokens_of w ++ rest
-      → (f : Found m L p c ts a d mid) → (x : List Token) → SameNext rest x
-      → p c (tokens_of f.front ++ (tokens_of w ++ x)) ≡ Done a d (tokens_of w ++ x)
-  then_again c ts a d mid _ w rest h f x s = f.again (tokens_of w ++ x) (next_of w rest x mid h s)
-
   then_done : (c : Counts) (ts : List Token) (a : A) (d : Counts) (mid : List Token) (b : B) (e : Counts) (rest : List Token)
       → Found m L p c ts a d mid → Found m M q d mid b e rest → Found m (Then L M) (followed_by p q) c ts (a, b) e rest
   then_done c ts a d mid b e rest f g = record {

@@ -1,9 +1,9 @@
 -- One turn of a loop that reads the same thing repeatedly.
-use Rattle.std.proofs.Common.{◌≡◌, ℕ, zero, suc, ◌+◌, ◌-◌, ◌<◌, ◌≤◌, Bool, true, false, List, [], ◌∷◌, ◌++◌, length, refl, sym, ap, ◌∙◌}
+use Rattle.std.proofs.Common.{◌≡◌, ℕ, zero, suc, ◌+◌, ◌-◌, ◌<◌, ◌≤◌, Bool, true, false, List, [], ◌∷◌, ◌++◌, refl, sym, ap, ◌∙◌}
 use Rattle.std.proofs.Common.{arith, append_assoc, inl, inr, ◌⊎◌}
 use Rattle.query_lang.specs.declared.{token.Token.Token, fault.Span.Span, query.Expr.Expr}
 use Rattle.query_grammar.specs.{declared.stop.Counts.Counts, Grammar.negated}
-use Rattle.query_grammar.specs.Parser.{Outcome, Done, Stopped, Parser, and_then, followed_by, mapped, next_is, turns, repeated}
+use Rattle.query_grammar.specs.Parser.{Outcome, Done, Stopped, Parser, and_then, next_is, turns}
 use Rattle.query_parser.specs.{declared.halt.Halt.Halt, declared.reader.Reader.Reader, Reads.Fails, Reads.StopsAt}
 use Rattle.query_lang.specs.declared.query.Expr.TheVariants as exprs
 use Rattle.query_parser.specs.declared.halt.Halt.TheVariants as halts
@@ -55,14 +55,6 @@ stops_fails (halts.At x) to o h = h
 
 -- more of a list
 module _ {A : Type 0} (starts : Token → Bool) (p : Parser A) (total : Outcome (List A)) where
-  pub begins_list : (c : Counts) (ts : List Token) → repeated starts p c ts ≡ total
-      → finished (later []) (turns (length ts - 0) starts p c ts) ≡ total
-  begins_list c ts e = let k : length ts - 0 ≡ length ts = omega arith in rw k (go (repeated starts p c ts) ∙ e)
-    where
-      go : (o : Outcome (List A)) → finished (later []) o ≡ o
-      go (Done others c rest) = refl
-      go (Stopped k r) = refl
-
   pub more_list : (found longer : List A) (n i : ℕ) (c : Counts) (ts : List Token) (a : A) (d : Counts) (rest : List Token) → i < n
       → next_is starts ts ≡ true → p c ts ≡ Done a d rest
       → longer ≡ found ++ a ∷ [] → finished (later found) (turns (n - i) starts p c ts) ≡ total
@@ -79,17 +71,6 @@ module _ {A : Type 0} (starts : Token → Bool) (p : Parser A) (total : Outcome 
       go : (xs : List A) → xs ++ [] ≡ xs
       go [] = refl
       go (x ∷ xs) = ap (λ (ys : List A). x ∷ ys) (go xs)
-
--- a first one, and more after it
-module _ {A B C : Type 0} (f : A × List B → C) (starts : Token → Bool) (p : Parser A) (q : Parser B) where
-  pub begins_with : (c : Counts) (ts : List Token) (a : A) (d : Counts) (rest : List Token) → p c ts ≡ Done a d rest
-      → finished (λ others. f (a, others)) (turns (length rest - 0) starts q d rest) ≡ mapped f (followed_by p (repeated starts q)) c ts
-  begins_with c ts a d rest e = let k : length rest - 0 ≡ length rest = omega arith in rw (k, e) (go (repeated starts q d rest))
-    where
-      go : (o : Outcome (List B)) → finished (λ others. f (a, others)) o ≡ and_then (and_then o (λ b c'' rest'. Done (a, b) c'' rest'))
-          (λ v c' rest. Done (f v) c' rest)
-      go (Done others c rest) = refl
-      go (Stopped k r) = refl
 
 -- ---- what comes before an expression is added beginning with the last
 

@@ -1,9 +1,9 @@
 -- What a statement is made of, and the branches of an `if`.
-use Rattle.std.proofs.Common.{◌≡◌, ℕ, zero, suc, ◌+◌, ◌-◌, ◌<◌, ◌≤◌, Bool, true, false, List, [], ◌∷◌, ◌++◌, length, Option, Some, None}
+use Rattle.std.proofs.Common.{◌≡◌, ℕ, zero, suc, ◌+◌, ◌-◌, ◌<◌, ◌≤◌, Bool, true, false, List, [], ◌∷◌, ◌++◌, Option, Some, None}
 use Rattle.std.proofs.Common.{refl, sym, ap, ◌∙◌, arith, append_assoc, inl, inr, ◌⊎◌}
 use Rattle.query_lang.specs.declared.{query.Expr.Expr, query.Stmt.Stmt, token.Token.Token}
 use Rattle.query_grammar.specs.{declared.stop.Counts.Counts, Grammar.else_of}
-use Rattle.query_grammar.specs.Parser.{Limited, Outcome, Done, Stopped, Parser, and_then, next_is, next_turn, linked, chain_turns, chained}
+use Rattle.query_grammar.specs.Parser.{Limited, Outcome, Done, Stopped, Parser, and_then, next_is, next_turn, linked, chain_turns}
 use Rattle.query_grammar.specs.Reading.{statement, block, empty_parens, expr_at, stmt_at}
 use Rattle.query_parser.specs.declared.{halt.Halt.Halt, reader.Reader.Reader}
 use Rattle.query_parser.specs.Reads.{Fails, bracket_at, block_at, empty_at}
@@ -49,14 +49,6 @@ module _ {A B : Type 0} (starts : Token → Bool) (p : Parser (A ⊎ B)) (total 
   one_link : (n i : ℕ) (c : Counts) (ts : List Token) → i < n → next_is starts ts ≡ true
       → chain_turns (n - i) starts p c ts ≡ and_then (p c ts) (next_turn (chain_turns (n - (i + 1)) starts p))
   one_link n i c ts lt h = let k : n - i ≡ suc (n - (i + 1)) = omega arith in rw (k, h) refl
-
-  pub begins_chain : (c : Counts) (ts : List Token) → chained starts p c ts ≡ total
-      → chained_on [] (chain_turns (length ts - 0) starts p c ts) ≡ total
-  begins_chain c ts e = let k : length ts - 0 ≡ length ts = omega arith in rw k (go (chained starts p c ts) ∙ e)
-    where
-      go : (o : Outcome (List A × Option B)) → chained_on [] o ≡ o
-      go (Done v c rest) = refl
-      go (Stopped k r) = refl
 
   pub more_chain : (found longer : List A) (n i : ℕ) (c : Counts) (ts : List Token) (a : A) (d : Counts) (rest : List Token) → i < n
       → next_is starts ts ≡ true → p c ts ≡ Done (inl a) d rest
