@@ -6,8 +6,7 @@ use Rattle.std.proofs.lemmas.Bool.{cases_eq, lt-ltb, le-ltb}
 use Rattle.std.proofs.lemmas.List.{set-get_or, length-map}
 use Rattle.epoch_model.specs.Keys.{Key, ArgRow, bucket_of}
 use Rattle.epoch_model.specs.Machine.{Epoch, Machine, open_in, set_open, evict, packet, is_open, rows_in_epochs, without, with_row}
-use Rattle.epoch_model.specs.Machine.{with_new}
-use Rattle.epoch_model.specs.Machine.{all_but_last}
+use Rattle.epoch_model.specs.Machine.{with_new, all_but_last}
 use Rattle.bucket_cache.specs.Buckets.{Pair, places_of, without_key}
 use Rattle.bucket_cache.specs.Caches.{Cache, list_at, entry_at, with_list, IsSoundCache}
 use Rattle.bucket_cache.specs.Touches.{Touches, with_pair_first, IsLeast, least_place}
@@ -25,32 +24,30 @@ pub front_written : (stands : Standing) (ways : ℕ) (old touched : Cache) (buck
     → stands words rows → PairsStand (PairStands stands old) tail epochs
     → CacheStands stands (with_words touched place words) (set_open n bucket (record { key = key; rows = rows } ∷ epochs))
 front_written stands ways old touched bucket place words key tail m n rows epochs s h l t sound shape others w pairs =
-    let new = with_words touched place words in
+    let new = with_words touched _ _ in
     let lists : (b : ℕ) → list_at new b ≡ get_or (set old.lists bucket (with_pair_first key place tail)) b [] =
     λ b. ap (λ c. get_or c.lists b []) t in
-    let entries : touched.entries ≡ old.entries = ap (λ c. c.entries) t in
-    let here : list_at touched bucket ≡ with_pair_first key place tail = lists bucket
+    let entries = ap (λ c. c.entries) t in
+    let here = lists bucket
     ∙ get_or-set_same old.lists bucket (with_pair_first key place tail) [] h in
     let there : (b : ℕ) → (b ≡ bucket → ⊥) → list_at touched b ≡ list_at old b = λ b d. lists b
     ∙ get_or-set_other old.lists bucket b (with_pair_first key place tail) [] d in
-    let first : slice_get (list_at touched bucket) 0 ≡ Some (record { key = key; place = place }) = ap (λ ps. slice_get ps 0) here in
+    let first = ap (λ ps. slice_get ps 0) here in
     let kept : (at : ℕ) → (at ≡ place → ⊥) → entry_at new at ≡ entry_at old at =
     λ at d. get_or-set_other touched.entries place at words [] d ∙ ap (λ es. get_or es at []) entries in
-    let written : entry_at new place ≡ words = get_or-set_same touched.entries place words []
-    (subst (λ es. place < length es) (sym entries) l) in
+    let written = get_or-set_same touched.entries place words []
+    (rw entries l) in
     let other_place : (b i : ℕ) (q : Pair) → slice_get (list_at touched b) i ≡ Some q → ((b ≡ bucket) × (i ≡ 0) → ⊥) → q.place ≡ place → ⊥ =
     λ b i q e d p. d (sound.apart b bucket i 0 q (record { key = key; place = place }) e first p) in
     let moved : (b i : ℕ) (q : Pair) (x : Epoch) → slice_get (list_at touched b) i ≡ Some q → ((b ≡ bucket) × (i ≡ 0) → ⊥)
     → PairStands stands old q x → PairStands stands new q x =
-    λ b i q x e d r. (r.0, subst (λ ws. stands ws x.rows) (sym (kept q.place (other_place b i q e d))) r.1) in
+    λ b i q x e d r. (r.0, rw (kept q.place (other_place b i q e d)) r.1) in
     record {
       buckets = ap length (ap (λ c. c.lists) t) ∙ (length-set old.lists bucket (with_pair_first key place tail)
           ∙ (s.buckets ∙ (sym shape ∙ sym (length-set n.recent bucket (record { key = key; rows = rows } ∷ epochs)))));
       each = λ b. ⊎_elim
-          (λ (e : b ≡ bucket).
-          subst (λ x. PairsStand (PairStands stands new) (list_at new x)
-          (open_in (set_open n bucket (record { key = key; rows = rows } ∷ epochs)) x)) (sym e)
-          (subst (λ ps. PairsStand (PairStands stands new) ps (open_in (set_open n bucket (record { key = key; rows = rows } ∷ epochs))
+          (λ e.
+          rw e (subst (λ ps. PairsStand (PairStands stands new) ps (open_in (set_open n bucket (record { key = key; rows = rows } ∷ epochs))
           bucket)) (sym here)
           (subst (λ es. PairsStand (PairStands stands new) (with_pair_first key place tail) es)
           (sym (get_or-set_same n.recent bucket (record { key = key; rows = rows } ∷ epochs) [] (let a = s.buckets in omega arith))) (
@@ -59,10 +56,8 @@ front_written stands ways old touched bucket place words key tail m n rows epoch
                 (λ i q x g r. moved bucket (suc i) q x (ap (λ ps. slice_get ps (suc i)) here ∙ g) (λ z. let y = z.1 in omega arith) r)
                 pairs,
           ))))
-          (λ (d : b ≡ bucket → ⊥).
-          subst (λ ps. PairsStand (PairStands stands new) ps (open_in (set_open n bucket (record { key = key; rows = rows } ∷ epochs)) b))
-          (sym (there b d))
-          (subst (λ es. PairsStand (PairStands stands new) (list_at old b) es)
+          (λ d.
+          rw (there b d) (subst (λ es. PairsStand (PairStands stands new) (list_at old b) es)
           (sym (get_or-set_other n.recent bucket b (record { key = key; rows = rows } ∷ epochs) [] d ∙ others b d))
           (pairs_map (PairStands stands old) (PairStands stands new) (list_at old b) (open_in m b)
           (λ i q x g r. moved b i q x (ap (λ ps. slice_get ps i) (there b d) ∙ g) (λ z. d z.0) r) (s.each b))))
@@ -73,25 +68,25 @@ packet_hit : (ways : ℕ) (old : Cache) (m : Machine) (key : Key) (row : ArgRow)
     → is_open key (open_in m bucket) ≡ true
     → packet (geometry ways old) m key row ≡ set_open m bucket (with_row key row (open_in m bucket))
 packet_hit ways old m key row bucket own o =
-    let o' : is_open key (open_in m (bucket_of (length old.lists) key)) ≡ true = subst (λ b. is_open key (open_in m b) ≡ true) own o in
+    let o' : is_open key (open_in m (bucket_of (length old.lists) key)) ≡ true = rw own at o in
     rw o' (ap (λ b. set_open m b (with_row key row (open_in m b))) (sym own))
 
 packet_free : (ways : ℕ) (old : Cache) (m : Machine) (key : Key) (row : ArgRow) (bucket : ℕ) → bucket ≡ bucket_of (length old.lists) key
     → is_open key (open_in m bucket) ≡ false → nat_lt (length (open_in m bucket)) ways ≡ true
     → packet (geometry ways old) m key row ≡ set_open m bucket (with_new key row (open_in m bucket))
 packet_free ways old m key row bucket own o r =
-    let o' : is_open key (open_in m (bucket_of (length old.lists) key)) ≡ false = subst (λ b. is_open key (open_in m b) ≡ false) own o in
+    let o' : is_open key (open_in m (bucket_of (length old.lists) key)) ≡ false = rw own at o in
     let r' : nat_lt (length (open_in m (bucket_of (length old.lists) key))) ways ≡ true =
-    subst (λ b. nat_lt (length (open_in m b)) ways ≡ true) own r in
+    rw own at r in
     rw (o', r') (ap (λ b. set_open m b (with_new key row (open_in m b))) (sym own))
 
 packet_full : (ways : ℕ) (old : Cache) (m : Machine) (key : Key) (row : ArgRow) (bucket : ℕ) → bucket ≡ bucket_of (length old.lists) key
     → is_open key (open_in m bucket) ≡ false → nat_lt (length (open_in m bucket)) ways ≡ false
     → packet (geometry ways old) m key row ≡ set_open (evict m bucket) bucket (with_new key row (open_in (evict m bucket) bucket))
 packet_full ways old m key row bucket own o r =
-    let o' : is_open key (open_in m (bucket_of (length old.lists) key)) ≡ false = subst (λ b. is_open key (open_in m b) ≡ false) own o in
+    let o' : is_open key (open_in m (bucket_of (length old.lists) key)) ≡ false = rw own at o in
     let r' : nat_lt (length (open_in m (bucket_of (length old.lists) key))) ways ≡ false =
-    subst (λ b. nat_lt (length (open_in m b)) ways ≡ false) own r in
+    rw own at r in
     rw (o', r') (ap (λ b. set_open (evict m b) b (with_new key row (open_in (evict m b) b))) (sym own))
 
 pub hit_machine : (stands : Standing) (ways : ℕ) (old : Cache) (new : List Pair) (bucket place : ℕ) (key : Key) (row : ArgRow)
@@ -99,16 +94,16 @@ pub hit_machine : (stands : Standing) (ways : ℕ) (old : Cache) (new : List Pai
     → (m : Machine) → CacheStands stands old m → packet (geometry ways old) m key row ≡ set_open m bucket
     (with_row key row (open_in m bucket))
 hit_machine stands ways old new bucket place key row own t m s =
-    packet_hit ways old m key row bucket own (sym (has_open stands old key (list_at old bucket) (open_in m bucket) (s.each bucket)) ∙ t.0)
+    packet_hit ways old m key _ _ own (sym (has_open stands old _ _ _ (s.each bucket)) ∙ t.0)
 
 pub free_machine : (stands : Standing) (ways : ℕ) (old : Cache) (new : List Pair) (bucket place : ℕ) (key : Key) (row : ArgRow)
     → bucket ≡ bucket_of (length old.lists) key → Touches ways key (list_at old bucket) (Free place) new
     → (m : Machine) → CacheStands stands old m → packet (geometry ways old) m key row ≡ set_open m bucket
     (with_new key row (open_in m bucket))
 free_machine stands ways old new bucket place key row own t m s =
-    let long = pairs_long (PairStands stands old) (list_at old bucket) (open_in m bucket) (s.each bucket) in
+    let long = pairs_long _ _ _ (s.each bucket) in
     let few = t.1 in
-    packet_free ways old m key row bucket own (sym (has_open stands old key (list_at old bucket) (open_in m bucket) (s.each bucket)) ∙ t.0)
+    packet_free ways old m key row bucket own (sym (has_open stands old _ _ _ (s.each bucket)) ∙ t.0)
     (lt-ltb (length (open_in m bucket)) ways (omega arith))
 
 pub full_machine : (stands : Standing) (ways : ℕ) (old : Cache) (new : List Pair) (bucket place : ℕ) (key : Key) (row : ArgRow)
@@ -116,9 +111,9 @@ pub full_machine : (stands : Standing) (ways : ℕ) (old : Cache) (new : List Pa
     → (m : Machine) → CacheStands stands old m → packet (geometry ways old) m key row ≡ set_open (evict m bucket) bucket
     (with_new key row (open_in (evict m bucket) bucket))
 full_machine stands ways old new bucket place key row own t m s =
-    let long = pairs_long (PairStands stands old) (list_at old bucket) (open_in m bucket) (s.each bucket) in
+    let long = pairs_long _ _ _ (s.each bucket) in
     let many = t.1 in
-    packet_full ways old m key row bucket own (sym (has_open stands old key (list_at old bucket) (open_in m bucket) (s.each bucket)) ∙ t.0)
+    packet_full ways old m key row bucket own (sym (has_open stands old _ _ _ (s.each bucket)) ∙ t.0)
     (le-ltb (length (open_in m bucket)) ways (omega arith))
 
 pub hit_stands : (stands : Standing) (ways : ℕ) (old touched new : Cache) (bucket place : ℕ) (key : Key) (row : ArgRow)
@@ -166,18 +161,18 @@ free_stands stands ways old touched new bucket place key row own h l t rest soun
 pub evict_same : (m : Machine) (bucket : ℕ) → 0 < length (open_in m bucket) → bucket < length m.recent
     → open_in (evict m bucket) bucket ≡ all_but_last (open_in m bucket)
 evict_same m bucket h l =
-    let some : nat_lt 0 (length (open_in m bucket)) ≡ true = lt-ltb 0 (length (open_in m bucket)) h in
+    let some = lt-ltb 0 (length (open_in m bucket)) h in
     rw some (get_or-set_same m.recent bucket (all_but_last (open_in m bucket)) [] l)
 
 pub evict_other : (m : Machine) (bucket other : ℕ) → (other ≡ bucket → ⊥) → open_in (evict m bucket) other ≡ open_in m other
 evict_other m bucket other d = by_test (nat_lt 0 (length (open_in m bucket)))
     (λ t. rw t (get_or-set_other m.recent bucket other (all_but_last (open_in m bucket)) [] d))
-    (λ t. rw t refl)
+    (λ t. rw t)
 
 pub evict_shape : (m : Machine) (bucket : ℕ) → length (evict m bucket).recent ≡ length m.recent
 evict_shape m bucket = by_test (nat_lt 0 (length (open_in m bucket)))
     (λ t. rw t (length-set m.recent bucket (all_but_last (open_in m bucket))))
-    (λ t. rw t refl)
+    (λ t. rw t)
 
 pub as_it_was : (ways : ℕ) (old touched : Cache) (key : Key) (bucket place : ℕ)
     → Touches ways key (list_at old bucket) (Full place) (list_at touched bucket) → touched ≡ with_list old bucket (list_at touched bucket)
@@ -219,8 +214,8 @@ pub front_within : (ways : ℕ) (cache : Cache) (bucket place : ℕ) (key : Key)
     → list_at cache bucket ≡ with_pair_first key place tail → place < length cache.entries
 front_within ways cache bucket place key tail sound e =
     let head : Pair = record { key = key; place = place } in
-    let long : length (list_at cache bucket) ≡ suc (length tail) = ap length e in
-    subst (λ ps. (get_or ps 0 head).place < length cache.entries) e (sound.within bucket 0 head (omega arith))
+    let long = ap length e in
+    rw e at (sound.within bucket 0 head (omega arith))
 
 places_within : (n : ℕ) (pairs : List Pair) (i place : ℕ) → All (λ p. p.place < n) pairs → slice_get (places_of pairs) i ≡ Some place
     → place < n
@@ -233,8 +228,8 @@ places_within n (p ∷ pairs) (suc i) place a e = places_within n pairs i place 
 
 pub least_within : (ways : ℕ) (cache : Cache) (bucket place : ℕ) → IsSoundCache ways cache → IsLeast (list_at cache bucket) place
     → place < length cache.entries
-least_within ways cache bucket place sound e = places_within (length cache.entries) (list_at cache bucket)
-    (length (list_at cache bucket) - 1) place (sound.within bucket) e
+least_within ways cache bucket place sound e = places_within _ _
+    _ _ (sound.within bucket) e
 
 pub list_set : (cache set_cache : Cache) (bucket : ℕ) (pairs : List Pair) → bucket < length cache.lists
     → set_cache ≡ with_list cache bucket pairs → list_at set_cache bucket ≡ pairs
@@ -246,27 +241,26 @@ pub drop_stands : (stands : Standing) (old new : Cache) (bucket : ℕ) → bucke
     → (m : Machine) → CacheStands stands old m → CacheStands stands new (evict m bucket)
 drop_stands stands old new bucket h some t m s =
     let list = list_at old bucket in
-    let left = take (length list - 1) list in
-    let long = pairs_long (PairStands stands old) list (open_in m bucket) (s.each bucket) in
+    let left = take _ _ in
+    let long = pairs_long _ _ _ (s.each bucket) in
     let range = s.buckets in
     let entries : (at : ℕ) → entry_at old at ≡ entry_at new at = λ at. ap (λ c. get_or c.entries at []) (sym t) in
     let kept : (pairs : List Pair) (epochs : List Epoch) → PairsStand (PairStands stands old) pairs epochs
     → PairsStand (PairStands stands new) pairs epochs =
-    λ pairs epochs. pairs_map (PairStands stands old) (PairStands stands new) pairs epochs
-    (λ i q x g r. (r.0, subst (λ ws. stands ws x.rows) (entries q.place) r.1)) in
+    λ pairs epochs. pairs_map _ _ _ _
+    (λ i q x g r. (r.0, rw (entries q.place) at r.1)) in
     record {
       buckets = ap length (ap (λ c. c.lists) t) ∙ (length-set old.lists bucket left ∙ (s.buckets ∙ sym (evict_shape m bucket)));
       each = λ b. ⊎_elim
-          (λ (e : b ≡ bucket).
-          subst (λ x. PairsStand (PairStands stands new) (list_at new x) (open_in (evict m bucket) x)) (sym e)
-          (subst (λ ps. PairsStand (PairStands stands new) ps (open_in (evict m bucket) bucket)) (sym (list_set old new bucket left h t))
+          (λ e.
+          rw e (subst (λ ps. PairsStand (PairStands stands new) ps (open_in (evict m bucket) bucket))
+          (sym (list_set old new bucket left h t))
           (subst (PairsStand (PairStands stands new) left) (ap (λ n. take (n - 1) (open_in m bucket)) long
           ∙ sym (evict_same m bucket (omega arith) (omega arith)))
           (kept left (take (length list - 1) (open_in m bucket)) (pairs_take (PairStands stands old) (length list - 1) list
           (open_in m bucket) (s.each bucket))))))
-          (λ (d : b ≡ bucket → ⊥).
-          subst (λ ps. PairsStand (PairStands stands new) ps (open_in (evict m bucket) b))
-          (sym (ap (λ c. get_or c.lists b []) t ∙ get_or-set_other old.lists bucket b left [] d))
+          (λ d.
+          rw (ap (λ c. get_or c.lists b []) t ∙ get_or-set_other old.lists bucket b left [] d)
           (subst (PairsStand (PairStands stands new) (list_at old b)) (sym (evict_other m bucket b d))
           (kept (list_at old b) (open_in m b) (s.each b))))
           (cases_eq b bucket);
@@ -292,7 +286,7 @@ least_pair pairs place e = at pairs (length pairs - 1) place (sym e)
 pub none_least : (pairs : List Pair) → None ≡ least_place pairs → length pairs ≡ 0
 none_least [] e = refl
 none_least (p ∷ pairs) e = absurd (never (places_of (p ∷ pairs)) (length (p ∷ pairs) - 1)
-    (let l = length-map (p ∷ pairs) (λ (x : Pair). x.place) in omega arith) e)
+    (let l = length-map (p ∷ pairs) (λ x. x.place) in omega arith) e)
   where
     never : (xs : List ℕ) (i : ℕ) → i < length xs → None ≡ slice_get xs i → ⊥
     never [] i h e = absurd (omega arith)
@@ -302,6 +296,6 @@ none_least (p ∷ pairs) e = absurd (never (places_of (p ∷ pairs)) (length (p 
 pub evict_none : (stands : Standing) (cache : Cache) (bucket : ℕ) → length (list_at cache bucket) ≡ 0 → (m : Machine)
     → CacheStands stands cache m → evict m bucket ≡ m
 evict_none stands cache bucket none m s =
-    let long = pairs_long (PairStands stands cache) (list_at cache bucket) (open_in m bucket) (s.each bucket) in
-    let shut : nat_lt 0 (length (open_in m bucket)) ≡ false = le-ltb 0 (length (open_in m bucket)) (omega arith) in
-    rw shut refl
+    let long = pairs_long _ _ _ (s.each bucket) in
+    let shut = le-ltb 0 (length (open_in m bucket)) (omega arith) in
+    rw shut

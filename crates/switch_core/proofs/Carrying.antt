@@ -4,17 +4,17 @@ use Rattle.std.proofs.Common.{append_assoc, if◌then◌else◌}
 use Rattle.std.specs.Prelude.{nat_lt}
 use Rattle.epoch_model.specs.Epochs.{Geometry}
 use Rattle.epoch_model.specs.Keys.{Key, ArgRow}
-use Rattle.epoch_model.specs.Machine.{Machine, Event, Packet, Evict, Merge, step}
+use Rattle.epoch_model.specs.Machine.{Epoch, Machine, Event, Packet, Evict, Merge, step}
 use Rattle.epoch_model.specs.Tables.{Folding}
 use Rattle.epoch_entry.specs.Kinds.{Sizes}
 use Rattle.bucket_cache.specs.Caches.{list_at, with_list}
 use Rattle.backing_store.specs.Store.{Store}
 use Rattle.backing_store.specs.Merged.{StoreHolds}
 use Rattle.switch_core.specs.FrontParts.{FitsStore, FrontOf, LaneOf}
-use Rattle.switch_core.specs.FrontEvents.{Carries, CarriesAll, CarriesFirst, CarriesUpTo, FrontMakes, KeepsSizes, MergesNext, merges_of}
-use Rattle.switch_core.specs.FrontEvents.{with_store}
+use Rattle.switch_core.specs.FrontEvents.{Carries, CarriesAll, CarriesFirst, CarriesUpTo, FrontMakes, KeepsSizes, LeavesParts, MergesNext}
+use Rattle.switch_core.specs.FrontEvents.{merges_of, with_store}
 use Rattle.switch_core.specs.LaneEvents.{Makes, MakesAll, parts}
-use Rattle.switch_core.specs.Lanes.{Standing, FrontStands, StoreStands, geometry}
+use Rattle.switch_core.specs.Lanes.{Standing, FrontStands, geometry}
 use Rattle.switch_core.proofs.LaneSteps.{evict_merged_same, packet_merged_same}
 use Rattle.switch_core.proofs.MergeSteps.{merged_next}
 
@@ -34,9 +34,7 @@ keeps_start a = record {
 -- a front and a store that are as they were
 pub keeps_same : {K : Type 0} (old new : FrontOf K) (before after : Store) → (new ≡ old) × (after ≡ before)
     → KeepsSizes (with_store old before) (with_store new after)
-keeps_same old new before after e =
-    subst (λ front. KeepsSizes (with_store old before) (with_store front after)) (sym e.0)
-    (subst (λ store. KeepsSizes (with_store old before) (with_store old store)) (sym e.1) (keeps_start (with_store old before)))
+keeps_same old new before after e = rw (e.0, e.1) (keeps_start _)
 
 pub same_store : {K : Type 0} (old new : FrontOf K) (before after : Store) → (new ≡ old) × (after ≡ before)
     → with_store new after ≡ with_store old before
@@ -64,31 +62,41 @@ fits_kept sizes a b kept fits = record {
 -- a step of a machine and the epochs that it merges
 pub merged_after : (g : Geometry) (m : Machine) (event : Event) → m.merged ≤ length m.closed
     → take (step g m event).merged (step g m event).closed ≡ take m.merged m.closed ++ merges_of event m
-merged_after g m (Packet key row) few = (packet_merged_same g m key row few).0 ∙ sym (append-nil (take m.merged m.closed))
-merged_after g m (Evict bucket) few = (evict_merged_same m bucket few).0 ∙ sym (append-nil (take m.merged m.closed))
+merged_after g m (Packet key row) few = (packet_merged_same g m key row few).0 ∙ sym (append-nil _)
+merged_after g m (Evict bucket) few = (evict_merged_same m bucket few).0 ∙ sym (append-nil _)
 merged_after g m Merge few = merged_next m few
 
 -- what a front's own clauses come to, with the store that it is handed
 
-pub carries_packet : {K : Type 0} (means : K → Standing) (folding : K → Folding) (ways : ℕ) (key : Key) (row : ArgRow) (old new : FrontOf K)
-    → FrontMakes (means old.kind) ways (Packet key row) old new
-    → (store : Store) → Carries means folding ways (Packet key row) (with_store old store) (with_store new store)
-carries_packet means folding ways key row old new made store = record {
-  stands = λ m s. subst (λ k. FrontStands (means k) new.cache new.pipe (step (geometry ways old.cache) m (Packet key row))) (sym made.kind)
-      (made.stands m s);
-  held = λ m epochs s h. subst (λ k. StoreHolds (folding k) store (epochs ++ [])) (sym made.kind)
-      (subst (StoreHolds (folding old.kind) store) (sym (append-nil epochs)) h);
-  leaves = refl;
+carried : {K : Type 0} (means : K → Standing) (folding : K → Folding) (ways : ℕ) (event : Event) (old new : FrontOf K)
+    (before after : Store) → FrontMakes (means old.kind) ways event old new
+    → ((m : Machine) (epochs : List Epoch) → FrontStands (means old.kind) old.cache old.pipe m
+    → StoreHolds (folding old.kind) before epochs → StoreHolds (folding old.kind) after (epochs ++ merges_of event m))
+    → LeavesParts event (with_store old before) (with_store new after) → after.key_words ≡ before.key_words
+    → after.state_words ≡ before.state_words → Carries means folding ways event (with_store old before) (with_store new after)
+carried means folding ways event old new before after made held leaves key state = record {
+  stands = λ m s. rw made.kind (made.stands m s);
+  held = λ m epochs s h. rw made.kind (held m epochs s h);
+  leaves = leaves;
   sizes = record {
     kind = made.kind;
     buckets = made.buckets;
     key_words = made.key_words;
     entry_words = made.entry_words;
     places = made.places;
-    stored_key_words = refl;
-    state_words = refl;
+    stored_key_words = key;
+    state_words = state;
   };
 }
+
+same_held : (f : Folding) (store : Store) (epochs : List Epoch) → StoreHolds f store epochs → StoreHolds f store (epochs ++ [])
+same_held f store epochs h = rw append-nil h
+
+pub carries_packet : {K : Type 0} (means : K → Standing) (folding : K → Folding) (ways : ℕ) (key : Key) (row : ArgRow) (old new : FrontOf K)
+    → FrontMakes (means old.kind) ways (Packet key row) old new
+    → (store : Store) → Carries means folding ways (Packet key row) (with_store old store) (with_store new store)
+carries_packet means folding ways key row old new made store =
+    carried _ _ _ _ _ _ _ _ made (λ m epochs s. same_held _ _ _) refl refl refl
 
 pub carries_evict : {K : Type 0} (means : K → Standing) (folding : K → Folding) (ways bucket : ℕ) (old new : FrontOf K)
     → FrontMakes (means old.kind) ways (Evict bucket) old new
@@ -96,22 +104,9 @@ pub carries_evict : {K : Type 0} (means : K → Standing) (folding : K → Foldi
     → length new.pipe.records ≡ length old.pipe.records + (if nat_lt 0 (length (list_at old.cache bucket)) then 1 else 0)
     → (length (list_at old.cache bucket) ≡ 0 → new ≡ old)
     → (store : Store) → Carries means folding ways (Evict bucket) (with_store old store) (with_store new store)
-carries_evict means folding ways bucket old new made cache records none store = record {
-  stands = λ m s. subst (λ k. FrontStands (means k) new.cache new.pipe (step (geometry ways old.cache) m (Evict bucket))) (sym made.kind)
-      (made.stands m s);
-  held = λ m epochs s h. subst (λ k. StoreHolds (folding k) store (epochs ++ [])) (sym made.kind)
-      (subst (StoreHolds (folding old.kind) store) (sym (append-nil epochs)) h);
-  leaves = record { cache = cache; records = records; store = refl; none = λ h. ap (λ front. with_store front store) (none h) };
-  sizes = record {
-    kind = made.kind;
-    buckets = made.buckets;
-    key_words = made.key_words;
-    entry_words = made.entry_words;
-    places = made.places;
-    stored_key_words = refl;
-    state_words = refl;
-  };
-}
+carries_evict means folding ways bucket old new made cache records none store =
+    carried _ _ _ _ _ _ _ _ made (λ m epochs s. same_held _ _ _)
+    record { cache = cache; records = records; store = refl; none = λ h. ap (λ front. with_store front store) (none h) } refl refl
 
 pub carries_merge : {K : Type 0} (sizes : K → Sizes) (means : K → Standing) (folding : K → Folding) (ways : ℕ) (old new : FrontOf K)
     (before after : Store)
@@ -119,36 +114,22 @@ pub carries_merge : {K : Type 0} (sizes : K → Sizes) (means : K → Standing) 
     → FitsStore (sizes old.kind) old.cache before → FitsStore (sizes new.kind) new.cache after
     → new.cache ≡ old.cache → new.pipe.records ≡ drop 1 old.pipe.records → (length old.pipe.records ≡ 0 → (new ≡ old) × (after ≡ before))
     → Carries means folding ways Merge (with_store old before) (with_store new after)
-carries_merge sizes means folding ways old new before after made next fits fit cache records none = record {
-  stands = λ m s. subst (λ k. FrontStands (means k) new.cache new.pipe (step (geometry ways old.cache) m Merge)) (sym made.kind)
-      (made.stands m s);
-  held = λ m epochs s h. subst (λ k. StoreHolds (folding k) after (epochs ++ merges_of Merge m)) (sym made.kind) (next m epochs s h);
-  leaves = record {
-    cache = cache;
-    records = records;
-    none = λ h. ap (λ front. with_store front after) (none h).0 ∙ ap (with_store old) (none h).1;
-  };
-  sizes = record {
-    kind = made.kind;
-    buckets = made.buckets;
-    key_words = made.key_words;
-    entry_words = made.entry_words;
-    places = made.places;
-    stored_key_words = fit.key ∙ (made.key_words ∙ sym fits.key);
-    state_words = fit.state ∙ (ap (λ k. (sizes k).state) made.kind ∙ sym fits.state);
-  };
-}
+carries_merge sizes means folding ways old new before after made next fits fit cache records none =
+    carried _ _ _ _ _ _ _ _ made next
+    record { cache = cache; records = records; none = λ h. same_store _ new _ _ (none h) }
+    (fit.key ∙ (made.key_words ∙ sym fits.key))
+    (fit.state ∙ (ap (λ k. (sizes k).state) made.kind ∙ sym fits.state))
 
 -- events in order
 module _ {K : Type 0} (means : K → Standing) (folding : K → Folding) (ways : ℕ) where
   pub carries_on : (xs ys : List Event) (a b c : LaneOf K) → CarriesAll means folding ways xs a b → CarriesAll means folding ways ys b c
       → CarriesAll means folding ways (xs ++ ys) a c
-  carries_on [] ys a b c e made = subst (λ x. CarriesAll means folding ways ys x c) e made
+  carries_on [] ys a b c e made = rw e at made
   carries_on (x ∷ xs) ys a b c m made = (m.0, m.1, carries_on xs ys m.0 b c m.2 made)
 
   pub sizes_kept : (events : List Event) (a b : LaneOf K) → CarriesAll means folding ways events a b → KeepsSizes a b
-  sizes_kept [] a b e = subst (KeepsSizes a) (sym e) (keeps_start a)
-  sizes_kept (x ∷ xs) a b m = keeps_on a m.0 b m.1.sizes (sizes_kept xs m.0 b m.2)
+  sizes_kept [] a b e = rw e (keeps_start a)
+  sizes_kept (x ∷ xs) a b m = keeps_on a _ b m.1.sizes (sizes_kept xs m.0 b m.2)
 
   -- on the way through events
   pub up_to_start : (all : List Event) (a : LaneOf K) → CarriesUpTo means folding ways all all a a
@@ -156,12 +137,12 @@ module _ {K : Type 0} (means : K → Standing) (folding : K → Folding) (ways :
 
   pub up_to_on : (all xs more : List Event) (a b c : LaneOf K) → CarriesUpTo means folding ways all (xs ++ more) a b
       → CarriesAll means folding ways xs b c → CarriesUpTo means folding ways all more a c
-  up_to_on all xs more a b c u made = (u.0 ++ xs, append_assoc u.0 xs more ∙ u.1, carries_on u.0 xs a b c u.2 made)
+  up_to_on all xs more a b c u made = (u.0 ++ xs, append_assoc u.0 xs more ∙ u.1, carries_on _ _ a b c u.2 made)
 
   pub up_to_along : (all coming more : List Event) (a b c : LaneOf K) → CarriesUpTo means folding ways all coming a b
       → CarriesUpTo means folding ways coming more b c → CarriesUpTo means folding ways all more a c
   up_to_along all coming more a b c u v =
-      (u.0 ++ v.0, append_assoc u.0 v.0 more ∙ (ap (λ l. u.0 ++ l) v.1 ∙ u.1), carries_on u.0 v.0 a b c u.2 v.2)
+      (u.0 ++ v.0, append_assoc u.0 v.0 more ∙ (ap (λ l. u.0 ++ l) v.1 ∙ u.1), carries_on _ _ a b c u.2 v.2)
 
   pub up_to_first : (all coming : List Event) (a b : LaneOf K) → CarriesUpTo means folding ways all coming a b
       → CarriesFirst means folding ways all a b
@@ -172,11 +153,11 @@ module _ {K : Type 0} (means : K → Standing) (folding : K → Folding) (ways :
   up_to_first_on all coming a b c u f = (
     u.0 ++ f.0,
     (f.1.0, append_assoc u.0 f.0 f.1.0 ∙ (ap (λ l. u.0 ++ l) f.1.1 ∙ u.1)),
-    carries_on u.0 f.0 a b c u.2 f.2,
+    carries_on _ _ a b c u.2 f.2,
   )
 
   pub up_to_whole : (all : List Event) (a b : LaneOf K) → CarriesUpTo means folding ways all [] a b → CarriesAll means folding ways all a b
-  up_to_whole all a b u = subst (λ events. CarriesAll means folding ways events a b) (sym (append-nil u.0) ∙ u.1) u.2
+  up_to_whole all a b u = rw (sym (append-nil u.0) ∙ u.1) at u.2
 
   -- none of the events was made
   pub first_none : (all : List Event) (a b : LaneOf K) → b ≡ a → CarriesFirst means folding ways all a b
@@ -190,9 +171,9 @@ module _ {K : Type 0} (means : K → Standing) (folding : K → Folding) (ways :
     stands = λ m s.
         let n = step (geometry ways a.cache) m event in
         record {
-          front = subst (λ k. FrontStands (means k) b.cache b.pipe n) c.sizes.kind (c.stands m s.front);
-          kept = subst (λ k. StoreStands (folding k) b.store n) c.sizes.kind
-              (subst (StoreHolds (folding b.kind) b.store) (sym (merged_after (geometry ways a.cache) m event s.front.few))
+          front = rw c.sizes.kind at (c.stands m s.front);
+          kept = rw c.sizes.kind at (subst (StoreHolds (folding b.kind) b.store)
+              (sym (merged_after (geometry ways a.cache) m event s.front.few))
               (c.held m (take m.merged m.closed) s.front s.kept));
         };
     buckets = c.sizes.buckets;
@@ -205,7 +186,6 @@ module _ {K : Type 0} (means : K → Standing) (folding : K → Folding) (ways :
   makes_all [] a b e = ap (λ x. parts x.cache x.pipe x.store) e
   makes_all (x ∷ xs) a b m = (
     parts m.0.cache m.0.pipe m.0.store,
-    makes_one x a m.0 m.1,
-    subst (λ k. MakesAll (means k) (folding k) ways xs (parts m.0.cache m.0.pipe m.0.store) (parts b.cache b.pipe b.store)) m.1.sizes.kind
-        (makes_all xs m.0 b m.2),
+    makes_one x a _ m.1,
+    rw m.1.sizes.kind at (makes_all xs m.0 b m.2),
   )

@@ -1,5 +1,5 @@
 -- The table of a lane whose closed epochs are all merged.
-use Rattle.std.proofs.Common.{◌≡◌, ℕ, List, ◌++◌, length, take, refl, ap, ◌∙◌, subst}
+use Rattle.std.proofs.Common.{◌≡◌, ℕ, List, ◌++◌, length, take, ap, ◌∙◌}
 use Rattle.std.proofs.Math.Seq.{take-length}
 use Rattle.epoch_model.specs.declared.tables.Row.{Row}
 use Rattle.epoch_model.specs.Machine.{Epoch, Machine}
@@ -13,7 +13,7 @@ use Rattle.final_queries.specs.GroupTable.{Heading, closed_table}
 -- with all closed epochs merged the store holds them
 pub all_held : (f : Folding) (store : Store) (m : Machine) → m.merged ≡ length m.closed → StoreHolds f store (take m.merged m.closed)
     → StoreHolds f store m.closed
-all_held f store m e h = subst (StoreHolds f store) (ap (λ n. take n m.closed) e ∙ take-length m.closed) h
+all_held f store m e h = rw (ap (λ n. take n m.closed) e ∙ take-length m.closed) at h
 
 -- A table is determined by its parts.
 pub table_is : (heading : Heading) (f : Folding) (closed : List Epoch) (name : List ℕ) (columns : List (List ℕ)) (keys epochs : ℕ)
@@ -28,4 +28,4 @@ pub table_is : (heading : Heading) (f : Folding) (closed : List Epoch) (name : L
       rows =
           rows;
     } in table ≡ closed_table heading f closed
-table_is heading f closed name columns keys epochs rows a b d e r = rw (a, b, d, e, r) refl
+table_is heading f closed name columns keys epochs rows a b d e r = rw (a, b, d, e, r)

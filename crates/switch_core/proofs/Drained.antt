@@ -9,7 +9,7 @@ use Rattle.epoch_model.specs.Timeline.{IsSwept}
 use Rattle.bucket_cache.specs.Buckets.{Pair}
 use Rattle.bucket_cache.specs.Caches.{Cache, list_at, with_list}
 use Rattle.evict_pipe.specs.Pipes.{Pipe}
-use Rattle.switch_core.specs.Lanes.{Standing, PairStands, FrontStands}
+use Rattle.switch_core.specs.Lanes.{Standing, FrontStands}
 use Rattle.switch_core.specs.Closing.{held_in, is_drained}
 use Rattle.switch_core.proofs.Standing.{pairs_long}
 use Rattle.switch_core.proofs.MergeSteps.{none_piped}
@@ -35,17 +35,17 @@ pub drained_is_done : (stands : Standing) (cache : Cache) (pipe : Pipe) → is_d
     → FrontStands stands cache pipe m → IsSwept m × (m.merged ≡ length m.closed)
 drained_is_done stands cache pipe d m s =
     let parts = drained_parts cache pipe d in (
-      λ bucket. no_epochs (open_in m bucket) (sym (pairs_long (PairStands stands cache) (list_at cache bucket) (open_in m bucket)
-          (s.cached.each bucket)) ∙ none_held cache.lists bucket parts.0),
-      none_piped stands cache pipe m s parts.1,
+      λ bucket. no_epochs (open_in m bucket) (sym (pairs_long _ _ _
+          (s.cached.each bucket)) ∙ none_held _ bucket parts.0),
+      none_piped _ _ _ m s parts.1,
     )
 
 -- where a bucket is empty nothing is taken of it
 pub nothing_taken : (cache : Cache) (bucket : ℕ) → length (list_at cache bucket) ≡ 0
     → cache ≡ with_list cache bucket (take (length (list_at cache bucket) - 1) (list_at cache bucket))
 nothing_taken cache bucket e =
-    let none = no_pairs (list_at cache bucket) e in
-    let same : take (length (list_at cache bucket) - 1) (list_at cache bucket) ≡ list_at cache bucket = rw none refl in
+    let none = no_pairs _ e in
+    let same : take (length (list_at cache bucket) - 1) (list_at cache bucket) ≡ list_at cache bucket = rw none in
     sym (ap (with_list cache bucket) same ∙ ap (λ ls. record cache { lists = ls }) (set-get_or cache.lists bucket []))
 
 -- with empty buckets alone the cache is empty

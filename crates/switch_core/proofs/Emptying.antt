@@ -1,7 +1,6 @@
 -- The events of a sweep in order, as they are made and as they are still to come.
 use Rattle.std.proofs.Common.{◌≡◌, ℕ, zero, suc, ◌+◌, ◌-◌, ◌*◌, ◌<◌, ◌≤◌, true, false, Ok, Result, List, [], ◌∷◌, ◌++◌, length, map, take}
-use Rattle.std.proofs.Common.{drop, set, get_or, refl, sym, ap, ◌∙◌, subst}
-use Rattle.std.proofs.Common.{arith, append_assoc, get_or-set_same, length-take-le}
+use Rattle.std.proofs.Common.{drop, set, get_or, refl, sym, ap, ◌∙◌, arith, append_assoc, get_or-set_same, length-take-le}
 use Rattle.std.specs.Prelude.{nat_lt}
 use Rattle.epoch_model.specs.Machine.{Event, Evict, Merge}
 use Rattle.epoch_model.specs.Tables.{Folding}
@@ -43,9 +42,7 @@ counts_past (x ∷ xs) (suc b) h = counts_past xs b (omega arith)
 -- with the same places, records and counts the events are the same
 same_events : (p q v w bucket : ℕ) (xs ys : List ℕ) → p ≡ q → v ≡ w → xs ≡ ys → sweep_events p v (tries bucket xs) ≡ sweep_events q w
     (tries bucket ys)
-same_events p q v w bucket xs ys a b e =
-    ap (λ n. sweep_events n v (tries bucket xs)) a ∙
-    (ap (λ n. sweep_events q n (tries bucket xs)) b ∙ ap (λ l. sweep_events q w (tries bucket l)) e)
+same_events p q v w bucket xs ys a b e = cc
 
 -- one eviction, with a merge before it where the pipe is full
 abbrev pub try_events : ℕ → Pipe → List Event
@@ -61,12 +58,12 @@ next_found bucket was new old later within some is places records =
     let fewer = length list - 1 in
     let rest = drop (suc bucket) (counts_of was) in
     let many : length list ≡ suc fewer = omega arith in
-    let left : length (take fewer list) ≡ fewer = length-take-le fewer list (omega arith) in
-    let here : drop bucket (counts_of was) ≡ suc fewer ∷ rest = counts_here was.lists bucket within ∙ ap (λ n. n ∷ rest) many in
-    let there : drop bucket (counts_of new) ≡ fewer ∷ rest =
-    ap (λ c. drop bucket (counts_of c)) is ∙ (counts_set was.lists bucket (take fewer list) within ∙ ap (λ n. n ∷ rest) left) in
+    let left = length-take-le fewer list (omega arith) in
+    let here = counts_here was.lists bucket within ∙ ap (λ n. n ∷ rest) many in
+    let there =
+    ap (λ c. drop bucket (counts_of c)) is ∙ (counts_set was.lists bucket (take _ _) within ∙ ap (λ n. n ∷ rest) left) in
     let after = sweep_events old.places (left_waiting old.places (length old.records) + 1) (tries bucket (fewer ∷ rest)) in
-    let same : after ≡ sweep_from bucket new later = same_events old.places later.places (left_waiting old.places (length old.records) + 1)
+    let same = same_events old.places later.places (left_waiting old.places (length old.records) + 1)
     (length later.records) bucket (fewer ∷ rest) (drop bucket (counts_of new)) (sym places) (sym records) (sym there) in
     ap (λ cs. sweep_events old.places (length old.records) (tries bucket cs)) here
     ∙ (ap (λ es. room_events old.places (length old.records) ++ Evict bucket ∷ es) same
@@ -78,10 +75,10 @@ pub next_empty : (bucket : ℕ) (was : Cache) (old later : Pipe) → bucket < le
     → sweep_from bucket was old ≡ try_events bucket old ++ sweep_from (suc bucket) was later
 next_empty bucket was old later within none places records =
     let rest = drop (suc bucket) (counts_of was) in
-    let here : drop bucket (counts_of was) ≡ 0 ∷ rest = counts_here was.lists bucket within ∙ ap (λ n. n ∷ rest) none in
+    let here = counts_here was.lists bucket within ∙ ap (λ n. n ∷ rest) none in
     let left = left_waiting old.places (length old.records) in
     let none_more : left + 0 ≡ length later.records = omega arith in
-    let same : sweep_events old.places (left + 0) (tries (suc bucket) rest) ≡ sweep_from (suc bucket) was later =
+    let same =
     same_events old.places later.places (left + 0) (length later.records) (suc bucket) rest rest (sym places) none_more refl in
     ap (λ cs. sweep_events old.places (length old.records) (tries bucket cs)) here
     ∙ (ap (λ es. room_events old.places (length old.records) ++ Evict bucket ∷ es) same
@@ -95,16 +92,16 @@ next_none bucket cache pipe past = ap (λ cs. sweep_events pipe.places (length p
 -- a merge where the pipe is full
 
 pub room_none : (places waiting : ℕ) → nat_lt waiting places ≡ true → room_events places waiting ≡ []
-room_none places waiting t = rw t refl
+room_none places waiting t = rw t
 
 pub room_one : (places waiting : ℕ) → nat_lt waiting places ≡ false → room_events places waiting ≡ Merge ∷ []
-room_one places waiting t = rw t refl
+room_one places waiting t = rw t
 
 pub left_same : (places waiting : ℕ) → nat_lt waiting places ≡ true → left_waiting places waiting ≡ waiting
-left_same places waiting t = rw t refl
+left_same places waiting t = rw t
 
 pub left_fewer : (places waiting : ℕ) → nat_lt waiting places ≡ false → left_waiting places waiting ≡ waiting - 1
-left_fewer places waiting t = rw t refl
+left_fewer places waiting t = rw t
 
 -- An eviction with room made for its record, on the way through the events of a sweep.
 pub one_try : {K : Type 0} (means : K → Standing) (folding : K → Folding) (ways bucket : ℕ) (all coming : List Event)
@@ -115,9 +112,9 @@ pub one_try : {K : Type 0} (means : K → Standing) (folding : K → Folding) (w
     → sweep_from bucket was.cache was.pipe ≡ try_events bucket was.pipe ++ coming → CarriesUpTo means folding ways all coming first new
 one_try means folding ways bucket all coming first was ready new up room made e =
     let room_for = room_events was.pipe.places (length was.pipe.records) in
-    up_to_on means folding ways all (try_events bucket was.pipe) coming first was new
-    (subst (λ events. CarriesUpTo means folding ways all events first was) e up)
-    (carries_on means folding ways room_for (Evict bucket ∷ []) was ready new room (new, made, refl))
+    up_to_on _ _ _ _ _ _ first was new
+    (rw e at up)
+    (carries_on _ _ _ _ _ was ready new room (new, made, refl))
 
 -- a bucket's list after an eviction from it
 pub evicted_shorter : (old new : Cache) (bucket : ℕ) → bucket < length old.lists → 0 < length (list_at old bucket)
@@ -125,9 +122,9 @@ pub evicted_shorter : (old new : Cache) (bucket : ℕ) → bucket < length old.l
     → suc (length (list_at new bucket)) ≡ length (list_at old bucket)
 evicted_shorter old new bucket within some is =
     let list = list_at old bucket in
-    let left : list_at new bucket ≡ take (length list - 1) list = ap (λ x. list_at x bucket) is ∙ get_or-set_same old.lists bucket
-    (take (length list - 1) list) [] within in
-    let long : length (list_at new bucket) ≡ length list - 1 = ap length left ∙ length-take-le (length list - 1) list (omega arith) in
+    let left = ap (λ x. list_at x bucket) is ∙ get_or-set_same old.lists bucket
+    (take _ _) [] within in
+    let long = ap length left ∙ length-take-le (length list - 1) list (omega arith) in
     omega arith
 
 -- merges until a pipe is empty
@@ -141,7 +138,7 @@ pub merges_more : (start was new total waiting left merging : ℕ) → waiting �
     → was + waiting * merging ≤ start + total * merging
     → new + left * merging ≤ start + total * merging
 merges_more start was new total waiting left merging one a h =
-    let more : waiting * merging ≡ suc left * merging = ap (λ n. n * merging) one in
+    let more = ap (λ n. n * merging) one in
     omega arith
 
 -- and so is one that finds none, with one more

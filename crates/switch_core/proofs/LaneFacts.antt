@@ -1,6 +1,6 @@
 -- What holds of each lane of a plan.
 use Rattle.std.proofs.Common.{◌≡◌, ℕ, zero, suc, ◌+◌, ◌<◌, ◌≤◌, ◌&&◌, ◌==◌, Bool, true, false, List, [], ◌∷◌, Some, Result, Ok, Err, OnOk}
-use Rattle.std.proofs.Common.{OnErr, length, take, set, ◌++◌, refl, sym, ap, ◌∙◌, subst, arith}
+use Rattle.std.proofs.Common.{OnErr, length, take, set, ◌++◌, refl, sym, ap, ◌∙◌, arith}
 use Rattle.std.specs.List.{list_all}
 use Rattle.std.proofs.Math.Seq.{take-append_seam}
 use Rattle.std.specs.Prelude.{slice_get}
@@ -39,17 +39,17 @@ lane_fits entries plan buckets i lanes lane sound are at =
     let R = λ (n : ℕ) (l : LaneView) (group : _). IsLaneOf entries buckets l.cache (ghosts.sizes l.kind) (ghosts.folding l.kind)
     (ghosts.open_bound l.kind) (ghosts.absorb_bound l.kind) group (wiring_at plan n) in
     let found = each_at R 0 i lanes plan.groups lane are at in
-    let below = got_below plan.groups i found.0 found.1 in
+    let below = got_below _ i _ found.1 in
     let wired = got_some plan.wiring i (let w = sound.wired in omega arith) in
-    let is : wiring_at plan i ≡ wired.0 = rw wired.1 refl in
+    let is : wiring_at plan i ≡ wired.0 = rw wired.1 in
     let own = found.2 i (omega arith) in
     let each = sound.each i found.0 wired.0 found.1 wired.1 in
     record {
       group = below;
       keys = own.keys ∙ (sym each.keys ∙ ap (λ w. length w.keys) (sym is));
       args = own.args;
-      few_keys = subst (λ w. length w.keys ≤ MAX_KEYS) (sym is) (let a = each.keys in let b = each.most_keys in omega arith);
-      few_args = subst (λ w. length w.args ≤ MAX_ARGS) (sym is) each.most_args;
+      few_keys = rw is (let a = each.keys in let b = each.most_keys in omega arith);
+      few_args = rw is each.most_args;
     }
 
 pub on_ok : {X E : Type 0} (P Q : Type 0) (r : Result X E) → (P → Q) → OnOk r P → OnOk r Q
@@ -72,24 +72,24 @@ got_set (y ∷ xs) (suc i) x h = got_set xs i x (omega arith)
 pub set_same : {X : Type 0} (xs : List X) (i : ℕ) (x : X) → slice_get xs i ≡ Some x → set xs i x ≡ xs
 set_same [] i x h = refl
 set_same (y ∷ xs) zero x h = let same : y ≡ x = cc in ap (λ z. z ∷ xs) (sym same)
-set_same (y ∷ xs) (suc i) x h = ap (λ zs. y ∷ zs) (set_same xs i x h)
+set_same (y ∷ xs) (suc i) x h = ap (λ zs. y ∷ zs) (set_same _ i x h)
 
 -- one lane alone has an event
 pub make_one : (ways at : ℕ) (event : Event) (lanes : List LaneView) (lane new : LaneView) → slice_get lanes at ≡ Some lane
     → LaneMakes ways (event ∷ []) lane new → LanesMake ways (event_at at event) lanes (set lanes at new)
 make_one ways at event lanes lane new here made =
-    each_set (λ n a b. 0 ≤ n → b ≡ a) (λ n. LaneMakes ways (event_at at event n)) 0 at lanes lanes new
+    each_set _ _ 0 at lanes lanes new
     (λ j n a b q apart r.
     let other : (n == at) ≡ false = let d : n ≡ at → ⊥ = λ z. apart (omega arith) in grind (arith, nat_tests) in
-    subst (λ x. LaneMakes ways (event_at at event n) a x) (sym (r (omega arith))) (rw other (record { kind = refl; made = refl })))
+    rw (r (omega arith)) (rw other (record { kind = refl; made = refl })))
     (λ n x q e.
     let same : (n == at) ≡ true = grind (arith, nat_tests) in
-    rw same (subst (λ l. LaneMakes ways (event ∷ []) l new) (same_some lane x (sym here ∙ e)) made))
-    (untouched_start 0 0 lanes)
+    rw same (rw (same_some lane x (sym here ∙ e)) at made))
+    (untouched_start 0 0 _)
 
 -- what is written over the whole of a list
 pub whole_written : {X : Type 0} (xs rest : List X) (n : ℕ) → length xs ≡ n → take n (xs ++ rest) ≡ xs
-whole_written xs rest n e = subst (λ k. take k (xs ++ rest) ≡ xs) e (take-append_seam xs rest)
+whole_written xs rest n e = rw e at (take-append_seam xs rest)
 
 -- a test of all items, one item more
 
@@ -100,8 +100,8 @@ all_next {X = X} p xs i x a e t = ap (λ n. list_all p (take n xs)) (let q : i +
     next : (p : X → Bool) (xs : List X) (i : ℕ) (x : X) → list_all p (take i xs) ≡ true → slice_get xs i ≡ Some x → p x ≡ true
         → list_all p (take (suc i) xs) ≡ true
     next p [] i x a e t = refl
-    next p (y ∷ xs) zero x a e t = let same : y ≡ x = cc in let u : p y ≡ true = ap p same ∙ t in rw u refl
-    next p (y ∷ xs) (suc i) x a e t = let both = both_pass (p y) (list_all p (take i xs)) a in let u =
+    next p (y ∷ xs) zero x a e t = let same : y ≡ x = cc in let u = ap p same ∙ t in rw u
+    next p (y ∷ xs) (suc i) x a e t = let both = both_pass (p y) (list_all p (take i _)) a in let u =
         both.0 in rw u (next p xs i x both.1 e t)
 
 pub all_fails : {X : Type 0} (p : X → Bool) (xs : List X) (i : ℕ) (x : X) → slice_get xs i ≡ Some x → p x ≡ false → list_all p xs ≡ false

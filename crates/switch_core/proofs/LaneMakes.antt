@@ -17,7 +17,7 @@ pub lane_packet : {K : Type 0} (means : Standing) (f : Folding) (ways : ℕ) (ke
 lane_packet means f ways key row old new store made = record {
   stands = λ m s. record {
     front = made.stands m s.front;
-    kept = store_same f store m (packet (geometry ways old.cache) m key row)
+    kept = store_same f _ m (packet (geometry ways old.cache) m key row)
         (packet_merged_same (geometry ways old.cache) m key row s.front.few) s.kept;
   };
   buckets = made.buckets;
@@ -31,7 +31,7 @@ pub lane_evict : {K : Type 0} (means : Standing) (f : Folding) (ways bucket : �
 lane_evict means f ways bucket old new store made = record {
   stands = λ m s. record {
     front = made.stands m s.front;
-    kept = store_same f store m (evict m bucket)
+    kept = store_same f _ m (evict m bucket)
         (evict_merged_same m bucket s.front.few) s.kept;
   };
   buckets = made.buckets;

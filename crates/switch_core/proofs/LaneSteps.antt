@@ -10,7 +10,7 @@ use Rattle.bucket_cache.specs.Caches.{Cache, empty_cache}
 use Rattle.evict_pipe.specs.Pipes.{Pipe}
 use Rattle.backing_store.specs.Store.{Store, epochs_of, states_at, number_of}
 use Rattle.backing_store.specs.Merged.{StoreHolds}
-use Rattle.switch_core.specs.Lanes.{Standing, PairStands, PairsStand, RecordsStand, StoreStands, FrontStands, geometry}
+use Rattle.switch_core.specs.Lanes.{Standing, PairStands, PairsStand, StoreStands, FrontStands, geometry}
 use Rattle.switch_core.proofs.Standing.{by_test}
 
 -- the merged epochs are unchanged
@@ -34,7 +34,7 @@ packet_merged_same g m key row few =
     (λ l. rw (t, l) (evict_merged_same m bucket few)))
 
 pub store_same : (f : Folding) (store : Store) (m n : Machine) → SameMerged m n → StoreStands f store m → StoreStands f store n
-store_same f store m n e s = subst (StoreHolds f store) (sym e.0) s
+store_same f store m n e s = rw e.0 s
 
 -- empty parts represent the machine without epochs
 
@@ -49,16 +49,15 @@ front_empty stands ways buckets kw ew cache pipe c p = record {
   cached = record {
     buckets = sym (length-replicate (length cache.lists) []);
     each = λ b.
-        subst (λ ps. PairsStand (PairStands stands cache) ps (get_or (replicate (length cache.lists) []) b []))
-        (sym (ap (λ x. get_or x.lists b []) c ∙ none_at buckets b []))
-        (subst (λ es. PairsStand (PairStands stands cache) [] es) (sym (none_at (length cache.lists) b [])) tt);
+        rw (ap (λ x. get_or x.lists b []) c ∙ none_at buckets b []) (subst (λ es. PairsStand (PairStands stands cache) [] es)
+        (sym (none_at (length cache.lists) b [])) tt);
   };
-  piped = subst (λ rs. RecordsStand stands cache.key_words rs []) (sym p) tt;
+  piped = rw p tt;
   few = omega arith;
 }
 
 pub store_empty : (f : Folding) (store : Store) → store.keys ≡ [] → store.rows ≡ [] → StoreHolds f store []
 store_empty f store k r = record {
   count = λ key. ap (λ ks. epochs_of ks key) k;
-  rows = λ key. ap (λ rs. states_at rs (number_of store.keys key)) r ∙ by_test f.row_per_epoch (λ t. rw t refl) (λ t. rw t refl);
+  rows = λ key. ap (λ rs. states_at rs (number_of store.keys key)) r ∙ by_test f.row_per_epoch (λ t. rw t) (λ t. rw t);
 }

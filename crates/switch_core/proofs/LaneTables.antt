@@ -21,7 +21,7 @@ pub drained_holds : (lane : LaneView) (m : Machine) → lane_is_drained lane ≡
     → StoreHolds (folding_at lane) lane.store m.closed
 drained_holds lane m drained stood =
     let none = (drained_parts lane.cache lane.pipe drained).1 in
-    all_held (folding_at lane) lane.store m (none_piped (ghosts.stands lane.kind) lane.cache lane.pipe m stood.front none) stood.kept
+    all_held _ _ m (none_piped _ _ _ m stood.front none) stood.kept
 
 tables_next_at : (groups : List GroupPlan) (lanes : List LaneView) (ms : List Machine) (i : ℕ) (group : GroupPlan) (lane : LaneView)
     (m : Machine)
@@ -32,9 +32,9 @@ tables_next_at [] lanes ms i group lane m a b e = cc
 tables_next_at (g ∷ groups) [] ms i group lane m a b e = cc
 tables_next_at (g ∷ groups) (l ∷ lanes) [] i group lane m a b e = cc
 tables_next_at (g ∷ groups) (l ∷ lanes) (n ∷ ms) zero group lane m a b e =
-    let x : g ≡ group = cc in let y : l ≡ lane = cc in let z : n ≡ m = cc in rw (x, y, z) refl
+    let x : g ≡ group = cc in let y : l ≡ lane = cc in let z : n ≡ m = cc in rw (x, y, z)
 tables_next_at (g ∷ groups) (l ∷ lanes) (n ∷ ms) (suc i) group lane m a b e =
-    ap (λ ts. closed_table (heading_of g) (folding_at l) n.closed ∷ ts) (tables_next_at groups lanes ms i group lane m a b e)
+    ap (λ ts. closed_table (heading_of g) (folding_at l) n.closed ∷ ts) (tables_next_at groups _ _ i _ _ m a b e)
 
 pub tables_next : (groups : List GroupPlan) (lanes : List LaneView) (ms : List Machine) (i : ℕ) (group : GroupPlan) (lane : LaneView)
     (m : Machine)
@@ -43,7 +43,7 @@ pub tables_next : (groups : List GroupPlan) (lanes : List LaneView) (ms : List M
     ++ closed_table (heading_of group) (folding_at lane) m.closed ∷ []
 tables_next groups lanes ms i group lane m a b e =
     ap (λ n. take n (tables_of groups (map folding_at lanes) ms)) (let q : i + 1 ≡ suc i = omega arith in q)
-    ∙ tables_next_at groups lanes ms i group lane m a b e
+    ∙ tables_next_at groups _ _ i _ _ m a b e
 
 pub tables_whole : (groups : List GroupPlan) (lanes : List LaneView) (ms : List Machine) (i : ℕ) → length lanes ≤ i
     → take i (tables_of groups (map folding_at lanes) ms) ≡ tables_of groups (map folding_at lanes) ms
@@ -65,16 +65,16 @@ stored_next_at : (groups : List GroupPlan) (lanes : List LaneView) (i : ℕ) (gr
     ++ stored_table (heading_of group) (folding_at lane).row_per_epoch lane.store ∷ []
 stored_next_at [] lanes i group lane a b = cc
 stored_next_at (g ∷ groups) [] i group lane a b = cc
-stored_next_at (g ∷ groups) (l ∷ lanes) zero group lane a b = let x : g ≡ group = cc in let y : l ≡ lane = cc in rw (x, y) refl
+stored_next_at (g ∷ groups) (l ∷ lanes) zero group lane a b = let x : g ≡ group = cc in let y : l ≡ lane = cc in rw (x, y)
 stored_next_at (g ∷ groups) (l ∷ lanes) (suc i) group lane a b =
-    ap (λ ts. stored_table (heading_of g) (folding_at l).row_per_epoch l.store ∷ ts) (stored_next_at groups lanes i group lane a b)
+    ap (λ ts. stored_table (heading_of g) (folding_at l).row_per_epoch l.store ∷ ts) (stored_next_at groups _ i _ _ a b)
 
 pub stored_next : (groups : List GroupPlan) (lanes : List LaneView) (i : ℕ) (group : GroupPlan) (lane : LaneView)
     → slice_get groups i ≡ Some group → slice_get lanes i ≡ Some lane
     → take (i + 1) (stored_tables groups lanes) ≡ take i (stored_tables groups lanes)
     ++ stored_table (heading_of group) (folding_at lane).row_per_epoch lane.store ∷ []
 stored_next groups lanes i group lane a b =
-    ap (λ n. take n (stored_tables groups lanes)) (let q : i + 1 ≡ suc i = omega arith in q) ∙ stored_next_at groups lanes i group lane a b
+    ap (λ n. take n (stored_tables groups lanes)) (let q : i + 1 ≡ suc i = omega arith in q) ∙ stored_next_at groups _ i _ _ a b
 
 pub stored_whole : (groups : List GroupPlan) (lanes : List LaneView) (i : ℕ) → length lanes ≤ i
     → take i (stored_tables groups lanes) ≡ stored_tables groups lanes

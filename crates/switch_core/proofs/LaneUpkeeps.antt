@@ -19,8 +19,8 @@ use Rattle.switch_core.proofs.Standing.{by_test}
 pub lane_carries : (ways : ℕ) (events : List Event) (a b : LaneView) → CarriesAll ghosts.stands ghosts.folding ways events a b
     → LaneMakes ways events a b
 lane_carries ways events a b made = record {
-  kind = (sizes_kept ghosts.stands ghosts.folding ways events a b made).kind;
-  made = makes_all ghosts.stands ghosts.folding ways events a b made;
+  kind = (sizes_kept _ _ _ events a b made).kind;
+  made = makes_all _ _ _ events a b made;
 }
 
 -- an item that isn't written stays
@@ -29,14 +29,14 @@ got_other [] i n x apart = refl
 got_other (y ∷ xs) zero zero x apart = absurd (apart refl)
 got_other (y ∷ xs) zero (suc n) x apart = refl
 got_other (y ∷ xs) (suc i) zero x apart = refl
-got_other (y ∷ xs) (suc i) (suc n) x apart = got_other xs i n x (λ e. apart (ap (λ k. suc k) e))
+got_other (y ∷ xs) (suc i) (suc n) x apart = got_other xs i n x (λ e. apart (ap suc e))
 
 -- what holds of the lanes below a number holds of one more
 pub others_stay : (P : LaneView → Type 0) (lanes : List LaneView) (i : ℕ) (new : LaneView) → i < length lanes
     → ((n : ℕ) → n < i → AtLane P lanes n) → P new → (n : ℕ) → n < i + 1 → AtLane P (set lanes i new) n
 others_stay P lanes i new within before here n below lane e = elim (cases_eq n i) [
   | inl same ↦
-      subst P (same_some new lane (sym (got_set lanes i new within) ∙ (ap (slice_get (set lanes i new)) (sym same) ∙ e))) here
+      subst P (same_some _ lane (sym (got_set lanes i _ within) ∙ (ap (slice_get (set lanes i _)) (sym same) ∙ e))) here
   | inr apart ↦ before n (omega arith) lane (sym (got_other lanes i n new apart) ∙ e)
 ]
 
@@ -47,24 +47,24 @@ pub made_at : (ways : ℕ) (upkeep : Upkeep) (i : ℕ) (old now : List LaneView)
     → Done (λ n. LaneMakes ways (upkeeps_at upkeep old n)) (i + 1) old (set now i new)
 made_at ways upkeep i old now lane new done was carries =
     let made : LaneMakes ways (upkeeps_at upkeep old i) lane new =
-    subst (λ events. LaneMakes ways events lane new) (ap (upkeep_at upkeep) (sym was)) (lane_carries ways _ lane new carries) in
-    done_next (λ n. LaneMakes ways (upkeeps_at upkeep old n)) i old now new done
-    (λ x e. subst (λ v. LaneMakes ways (upkeeps_at upkeep old i) v new) (same_some lane x (sym was ∙ e)) made)
+    rw (ap (upkeep_at upkeep) (sym was)) at (lane_carries ways _ lane new carries) in
+    done_next _ i _ _ _ done
+    (λ x e. rw (same_some lane x (sym was ∙ e)) at made)
 
 -- the events of the lanes up to one that broke off
 
 until_below : (events first : List Event) (n at : ℕ) → n < at → (if nat_lt n at then events else (if n == at then first else [])) ≡ events
-until_below events first n at below = let t = lt-ltb n at below in rw t refl
+until_below events first n at below = let t = lt-ltb n at below in rw t
 
 until_here : (events first : List Event) (n at : ℕ) → n ≡ at → (if nat_lt n at then events else (if n == at then first else [])) ≡ first
 until_here events first n at here =
     let t = le-ltb n at (omega arith) in
-    let same : (n == at) ≡ true = grind (arith, nat_tests) in rw (t, same) refl
+    let same : (n == at) ≡ true = grind (arith, nat_tests) in rw (t, same)
 
 until_above : (events first : List Event) (n at : ℕ) → at < n → (if nat_lt n at then events else (if n == at then first else [])) ≡ []
 until_above events first n at above =
     let t = le-ltb n at (omega arith) in
-    let apart : (n == at) ≡ false = grind (arith, nat_tests) in rw (t, apart) refl
+    let apart : (n == at) ≡ false = grind (arith, nat_tests) in rw (t, apart)
 
 pub breaks_off_at : (ways : ℕ) (upkeep : Upkeep) (i : ℕ) (old now : List LaneView) (lane new : LaneView)
     → Done (λ n. LaneMakes ways (upkeeps_at upkeep old n)) i old now → Untouched i old now → slice_get old i ≡ Some lane
@@ -76,20 +76,20 @@ breaks_off_at ways upkeep i old now lane new done same was broke =
       i,
       first,
       (broke.1.0, broke.1.1 ∙ ap (upkeep_at upkeep) (sym was)),
-      each_set (λ n a b. (n < i → LaneMakes ways (upkeeps_at upkeep old n) a b) × (i ≤ n → b ≡ a))
-          (λ n. LaneMakes ways (until n)) 0 i old now new
+      each_set _
+          _ 0 i _ _ _
           (λ j n a b q apart r. by_test (nat_lt n i)
           (λ t.
           let below : n < i = grind (arith, nat_tests) in
-          subst (λ events. LaneMakes ways events a b) (sym (until_below (upkeeps_at upkeep old n) first n i below)) (r.0 below))
+          rw (until_below (upkeeps_at upkeep old n) first n i below) (r.0 below))
           (λ t.
           let above : i ≤ n = grind (arith, nat_tests) in
           let past : i < n = let d : n ≡ i → ⊥ = λ z. apart (omega arith) in omega arith in
-          subst (λ events. LaneMakes ways events a b) (sym (until_above (upkeeps_at upkeep old n) first n i past))
-          (subst (LaneMakes ways [] a) (sym (r.1 above)) (record { kind = refl; made = refl }))))
+          rw (until_above (upkeeps_at upkeep old n) first n i past) (subst (LaneMakes ways [] a) (sym (r.1 above))
+          (record { kind = refl; made = refl }))))
           (λ n x q e.
-          subst (λ v. LaneMakes ways (until n) v new) (same_some lane x (sym was ∙ e))
-          (subst (λ events. LaneMakes ways events lane new) (sym (until_here (upkeeps_at upkeep old n) first n i (omega arith)))
+          rw (same_some lane x (sym was ∙ e)) at (subst (λ events. LaneMakes ways events lane new)
+          (sym (until_here (upkeeps_at upkeep old n) first n i (omega arith)))
           (lane_carries ways first lane new broke.2)))
-          (each_both (λ n a b. n < i → LaneMakes ways (upkeeps_at upkeep old n) a b) (λ n a b. i ≤ n → b ≡ a) 0 old now done same),
+          (each_both _ _ 0 _ _ done same),
     )

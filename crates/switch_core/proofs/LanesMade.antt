@@ -45,9 +45,9 @@ empties_push g (x ∷ groups) group = ap (λ ms. empty_machine g ∷ ms) (emptie
 pub group_sound : (plan : PlanParts) (i : ℕ) (group : GroupPlan) → IsSoundPlan plan → slice_get plan.groups i ≡ Some group
     → (wiring : GroupWiring) × (wiring_at plan i ≡ wiring) × IsSoundGroup (FIELDS + length plan.ops) group wiring
 group_sound plan i group sound at =
-    let below = got_below plan.groups i group at in
+    let below = got_below _ i _ at in
     let wired = got_some plan.wiring i (let w = sound.wired in omega arith) in
-    (wired.0, rw wired.1 refl, sound.each i group wired.0 at wired.1)
+    (wired.0, rw wired.1, sound.each i group wired.0 at wired.1)
 
 pub lane_made : EntriesSuitFolds → (entries : Entries) (plan : PlanParts) (buckets i : ℕ) (lane : LaneView) (group : GroupPlan)
     → IsSoundPlan plan → slice_get plan.groups i ≡ Some group
@@ -60,9 +60,9 @@ lane_made suit entries plan buckets i lane group sound at many keys kind =
     let own = group_sound plan i group sound at in
     let suits = λ (f : TypedFold) (is : IsProgramOf f group.program). suit entries f (ghosts.sizes lane.kind) (ghosts.folding lane.kind)
     (ghosts.open_bound lane.kind) (ghosts.absorb_bound lane.kind) (kind f is) in
-    let args : (ghosts.sizes lane.kind).args ≡ group.program.layout.args =
+    let args =
     ∥∥₁_elim own.2.program (hlevel props) (λ h. (suits h.0 h.1).args ∙ sym h.1.layout.args) in
-    let class : (ghosts.folding lane.kind).row_per_epoch ≡ per_epoch group.program.class =
+    let class =
     ∥∥₁_elim own.2.program (hlevel props) (λ h. (suits h.0 h.1).row_per_epoch ∙ ap per_epoch (sym h.1.class)) in
     record {
       many = many;

@@ -1,5 +1,5 @@
 -- A front whose oldest record was merged represents the machine after the merge, and the store holds the merged epoch.
-use Rattle.std.proofs.Common.{◌≡◌, ℕ, zero, suc, ◌+◌, ◌<◌, ◌≤◌, true, false, List, [], ◌∷◌, ◌++◌, length, take, drop}
+use Rattle.std.proofs.Common.{◌≡◌, ℕ, zero, suc, ◌+◌, ◌<◌, ◌≤◌, List, [], ◌∷◌, ◌++◌, length, take, drop}
 use Rattle.std.proofs.Common.{get_or, refl, sym, ap, ◌∙◌, subst, arith, append-nil, length-drop}
 use Rattle.std.specs.Prelude.{nat_lt}
 use Rattle.std.proofs.lemmas.Bool.{lt-ltb, le-ltb}
@@ -32,11 +32,11 @@ none_dropped (r ∷ records) e = absurd (omega arith)
 -- With no record in the pipe every closed epoch is merged.
 pub none_piped : (stands : Standing) (cache : Cache) (pipe : Pipe) (m : Machine) → FrontStands stands cache pipe m → length pipe.records ≡ 0
     → m.merged ≡ length m.closed
-none_piped stands cache pipe m s e = all_merged m s.few (records_none stands cache.key_words pipe.records (drop m.merged m.closed) s.piped
+none_piped stands cache pipe m s e = all_merged m s.few (records_none stands _ _ _ s.piped
     e)
 
 pub merge_none : (m : Machine) → m.merged ≡ length m.closed → merge m ≡ m
-merge_none m e = let shut : nat_lt m.merged (length m.closed) ≡ false = le-ltb m.merged (length m.closed) (omega arith) in rw shut refl
+merge_none m e = let shut = le-ltb m.merged (length m.closed) (omega arith) in rw shut
 
 -- the first record represents the first epoch
 records_first : (stands : Standing) (kw : ℕ) (records : List (List ℕ)) (epochs : List Epoch) → RecordsStand stands kw records epochs
@@ -59,22 +59,22 @@ one_on (suc n) [] e es h = absurd (nothing h)
   where
     nothing : [] ≡ e ∷ es → ⊥
     nothing h = cc
-one_on (suc n) (x ∷ xs) e es h = let rest = one_on n xs e es h in (ap (λ ys. x ∷ ys) rest.0, rest.1, let l = rest.2 in omega arith)
+one_on (suc n) (x ∷ xs) e es h = let rest = one_on n _ e _ h in (ap (λ ys. x ∷ ys) rest.0, rest.1, let l = rest.2 in omega arith)
 
 -- the pipe's first record is dropped
 pub front_merged : (stands : Standing) (cache : Cache) (old new : Pipe) (m : Machine) → 0 < length old.records
     → new.records ≡ drop 1 old.records → FrontStands stands cache old m → FrontStands stands cache new (merge m)
 front_merged stands cache old new m some dropped s =
-    let first = records_first stands cache.key_words old.records (drop m.merged m.closed) s.piped some in
-    let on = one_on m.merged m.closed first.0 first.1 first.2 in
+    let first = records_first stands _ _ _ s.piped some in
+    let on = one_on m.merged _ first.0 _ first.2 in
     let next : m.merged + 1 ≡ suc m.merged = omega arith in
-    let is : nat_lt m.merged (length m.closed) ≡ true = lt-ltb m.merged (length m.closed) on.2 in
+    let is = lt-ltb m.merged (length m.closed) on.2 in
     let n : Machine = record { recent = m.recent; closed = m.closed; merged = m.merged + 1 } in
-    let merged : merge m ≡ n = rw is refl in
+    let merged : merge m ≡ n = rw is in
     subst (FrontStands stands cache new) (sym merged) record {
       cached = record { buckets = s.cached.buckets; each = s.cached.each };
-      piped = subst (λ rs. RecordsStand stands cache.key_words rs (drop (m.merged + 1) m.closed)) (sym dropped)
-          (subst (RecordsStand stands cache.key_words (drop 1 old.records)) (sym (ap (λ k. drop k m.closed) next ∙ on.1)) first.4);
+      piped = rw dropped (subst (RecordsStand stands cache.key_words (drop 1 old.records)) (sym (ap (λ k. drop k m.closed) next ∙ on.1))
+          first.4);
       few = let l = on.2 in omega arith;
     }
 
@@ -98,7 +98,7 @@ pub merged_next : (m : Machine) → m.merged ≤ length m.closed → take (merge
 merged_next m few = by_test (nat_lt m.merged (length m.closed))
     (λ t. rw t (ap (λ k. take k m.closed) (let q : m.merged + 1 ≡ suc m.merged = omega arith in q) ∙ next m.merged m.closed))
     (λ t. let end : m.merged ≡ length m.closed = grind (arith, nat_tests) in rw t
-    (sym (ap (λ es. take m.merged m.closed ++ es) (none_next m end) ∙ append-nil (take m.merged m.closed))))
+    (sym (ap (λ es. take m.merged m.closed ++ es) (none_next m end) ∙ append-nil _)))
   where
     next : (n : ℕ) (xs : List Epoch) → take (suc n) xs ≡ take n xs ++ take 1 (drop n xs)
     next zero xs = refl
@@ -108,4 +108,4 @@ merged_next m few = by_test (nat_lt m.merged (length m.closed))
 -- a lane's store holds the merged epochs after a merge
 pub kept_next : (f : Folding) (store : Store) (m : Machine) → m.merged ≤ length m.closed
     → StoreHolds f store (take m.merged m.closed ++ next_merged m) → StoreStands f store (merge m)
-kept_next f store m few held = subst (StoreHolds f store) (sym (merged_next m few)) held
+kept_next f store m few held = rw (merged_next m few) held

@@ -7,11 +7,10 @@ use Rattle.std.proofs.Props.{props}
 use Rattle.std.proofs.lemmas.List.Sums.{sum_by-cons}
 use Rattle.marple_base.specs.declared.field.TheConstants.{FIELDS}
 use Rattle.query_lang.specs.declared.fold.TypedFold.{TypedFold}
-use Rattle.query_lang.specs.Folds.{IsValidFold, fold_states, fold_args}
+use Rattle.query_lang.specs.Folds.{IsValidFold, fold_states}
 use Rattle.fold_class.specs.declared.class.Algebra.{Algebra}
 use Rattle.fold_class.specs.declared.class.Algebra.TheVariants.{Sums, Maxima}
 use Rattle.fold_class.specs.Depth.{IsDepth, depth_of}
-use Rattle.fold_class.specs.Kinds.{algebra_of}
 use Rattle.fold_class.specs.Program.{IsProgramOf}
 use Rattle.fold_class.specs.Rows.{element_size}
 use Rattle.epoch_entry.specs.declared.purpose.Entries.{Entries}
@@ -62,16 +61,16 @@ program_within one suit entries ways lane group f is keys named own =
     let states = length group.state_names in
     let layout = group.program.layout in
     let words = element_words group.program.algebra in
-    let size : element_size (algebra_of f) ≡ words = ap element_size (sym is.algebra) ∙ same_words group.program.algebra in
-    let many : fold_states f ≡ states = sym is.valid.starts ∙ (ap length (sym is.layout.initial) ∙ sym named) in
-    let row : fold_args f ≡ layout.args = sym is.layout.args in
-    let deep : depth_of f ≡ group.program.depth = sym (one f group.program.depth is.valid is.depth) in
-    let nodes : f.nodes ≡ layout.nodes = sym is.layout.nodes in
-    let statements : f.statements ≡ layout.statements = sym is.layout.statements in
+    let size = ap element_size (sym is.algebra) ∙ same_words _ in
+    let many = sym is.valid.starts ∙ (ap length (sym is.layout.initial) ∙ sym named) in
+    let row = sym is.layout.args in
+    let deep = sym (one f group.program.depth is.valid is.depth) in
+    let nodes = sym is.layout.nodes in
+    let statements = sym is.layout.statements in
     let most : entry_bound f ≡ words * states * (states + 1) + states + group.program.depth * layout.args + 2 = cc in
     let runs : (fold_states f + 1) * (f.nodes + 4 * f.statements + 1) ≡ (states + 1) * (layout.nodes + 4 * layout.statements + 1) = cc in
     let composes : fold_states f * fold_states f * (fold_states f + 1) ≡ states * states * (states + 1) = cc in
-    numbers_within entries lane.cache.key_words names (ghosts.sizes lane.kind).args layout.args (ghosts.sizes lane.kind).entry
+    numbers_within entries _ names (ghosts.sizes lane.kind).args layout.args (ghosts.sizes lane.kind).entry
     (ghosts.open_bound lane.kind) (ghosts.absorb_bound lane.kind)
     (entry_bound f) (words * states * (states + 1)) states (group.program.depth * layout.args)
     (2 * ways * (lane.cache.key_words + 1)) (2 * ways * (names + 1))
@@ -85,7 +84,7 @@ lane_within : HasOneDepth → EntriesSuitFolds → (entries : Entries) (ways buc
     (ghosts.absorb_bound lane.kind) group other
     → lane_cost ways lane ≤ runs_of entries * group_bound ways (group_shape group)
 lane_within one suit entries ways buckets registers lane group wiring other sound own =
-    ∥∥₁_elim sound.program (hlevel props) (λ h. program_within one suit entries ways lane group h.0 h.1 own.keys sound.states
+    ∥∥₁_elim sound.program (hlevel props) (λ h. program_within one suit _ _ lane group _ h.1 own.keys sound.states
     (own.kind h.0 h.1))
 
 each_sum : {X Y Z : Type 0} (r : ℕ) (f : X → ℕ) (g : Z → ℕ) (shape : Y → Z) (k : ℕ) (xs : List X) (ys : List Y)
@@ -94,13 +93,13 @@ each_sum r f g shape k [] [] e = omega arith
 each_sum r f g shape k [] (y ∷ ys) e = absurd e
 each_sum r f g shape k (x ∷ xs) [] e = absurd e
 each_sum r f g shape k (x ∷ xs) (y ∷ ys) e =
-    let first : f x ≤ r * g (shape y) = e.0 in
-    let rest : sum_by f xs ≤ r * sum (map g (map shape ys)) = each_sum r f g shape (suc k) xs ys e.1 in
-    let left : sum_by f (x ∷ xs) ≡ f x + sum_by f xs = sum_by-cons f x xs in
-    let right : sum (g (shape y) ∷ map g (map shape ys)) ≡ g (shape y) + sum (map g (map shape ys)) =
+    let first = e.0 in
+    let rest = each_sum r f g shape (suc k) xs ys e.1 in
+    let left = sum_by-cons f x xs in
+    let right =
     sum_by-cons (λ n. n) (g (shape y)) (map g (map shape ys)) in
     let split = mul-add r (g (shape y)) (sum (map g (map shape ys))) in
-    let whole : r * sum (g (shape y) ∷ map g (map shape ys)) ≡ r * (g (shape y) + sum (map g (map shape ys))) = ap (λ n. r * n) right in
+    let whole = ap (λ n. r * n) right in
     omega arith
 
 after : (entries : Entries) (registers a b : ℕ) → a ≤ runs_of entries * b → registers + a ≤ runs_of entries * (registers + b)
@@ -113,10 +112,9 @@ packet_within one suit ways p sound are =
     after p.entries (FIELDS + length p.plan.ops) (sum_by (lane_cost ways) p.lanes)
     (sum (map (group_bound ways) (map group_shape p.plan.groups)))
     (each_sum (runs_of p.entries) (lane_cost ways) (group_bound ways) group_shape 0 p.lanes p.plan.groups
-    (each_map (λ n lane group. IsLaneOf p.entries p.buckets lane.cache (ghosts.sizes lane.kind) (ghosts.folding lane.kind)
-    (ghosts.open_bound lane.kind) (ghosts.absorb_bound lane.kind) group (wiring_at p.plan n))
-    (λ n lane group. lane_cost ways lane ≤ runs_of p.entries * group_bound ways (group_shape group)) 0 p.lanes p.plan.groups
+    (each_map _
+    _ 0 _ _
     (λ j n lane group at here there own.
     let known = group_sound p.plan j group sound there in
-    lane_within one suit p.entries ways p.buckets (FIELDS + length p.plan.ops) lane group known.0 (wiring_at p.plan n) known.2 own)
+    lane_within one suit _ ways _ _ lane _ _ (wiring_at p.plan n) known.2 own)
     are))

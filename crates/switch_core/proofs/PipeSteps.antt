@@ -1,7 +1,7 @@
 -- A pipe that represents a machine still represents it after an epoch was closed.
-use Rattle.std.proofs.Common.{◌≡◌, ℕ, zero, suc, ◌-◌, ◌<◌, ◌≤◌, true, List, [], ◌∷◌, ◌++◌, Some, length, take, drop, All, refl, sym, ap}
+use Rattle.std.proofs.Common.{◌≡◌, ℕ, zero, suc, ◌-◌, ◌<◌, ◌≤◌, List, [], ◌∷◌, ◌++◌, Some, length, take, drop, All, sym, ap}
 use Rattle.std.proofs.Common.{◌∙◌, subst, arith}
-use Rattle.std.specs.Prelude.{slice_get, nat_lt}
+use Rattle.std.specs.Prelude.{slice_get}
 use Rattle.std.proofs.lemmas.Bool.{lt-ltb}
 use Rattle.std.proofs.lemmas.List.{drop-append-le}
 use Rattle.std.proofs.Math.Seq.{take-append_seam, drop-append_seam}
@@ -24,18 +24,16 @@ records_more stands kw (w ∷ ws) (e ∷ es) words epoch s r = (s.0, records_mor
 record_of : (stands : Standing) (kw : ℕ) (pair : Pair) (entry : List ℕ) (epoch : Epoch) → length pair.key ≡ kw → pair.key ≡ epoch.key
     → stands entry epoch.rows → RecordStands stands kw (pair.key ++ entry) epoch
 record_of stands kw pair entry epoch long key s =
-    let front : take kw (pair.key ++ entry) ≡ pair.key = subst (λ n. take n (pair.key ++ entry) ≡ pair.key) long
-    (take-append_seam pair.key entry) in
-    let back : drop kw (pair.key ++ entry) ≡ entry = subst (λ n. drop n (pair.key ++ entry) ≡ entry) long
-    (drop-append_seam pair.key entry) in
-    (front ∙ key, subst (λ ws. stands ws epoch.rows) (sym back) s)
+    let front : take kw (pair.key ++ entry) ≡ pair.key = rw long at (take-append_seam pair.key entry) in
+    let back : drop kw (pair.key ++ entry) ≡ entry = rw long at (drop-append_seam pair.key entry) in
+    (front ∙ key, rw back s)
 
 pub evict_closes : (m : Machine) (bucket : ℕ) → 0 < length (open_in m bucket) → (evict m bucket).closed ≡ m.closed
     ++ last_alone (open_in m bucket)
-evict_closes m bucket h = let some : nat_lt 0 (length (open_in m bucket)) ≡ true = lt-ltb 0 (length (open_in m bucket)) h in rw some refl
+evict_closes m bucket h = let some = lt-ltb 0 (length (open_in m bucket)) h in rw some
 
 pub evict_merged : (m : Machine) (bucket : ℕ) → 0 < length (open_in m bucket) → (evict m bucket).merged ≡ m.merged
-evict_merged m bucket h = let some : nat_lt 0 (length (open_in m bucket)) ≡ true = lt-ltb 0 (length (open_in m bucket)) h in rw some refl
+evict_merged m bucket h = let some = lt-ltb 0 (length (open_in m bucket)) h in rw some
 
 -- the record of the least recently used pair goes last
 pub pipe_evicted : (stands : Standing) (ways : ℕ) (cache : Cache) (bucket place : ℕ) (records more : List (List ℕ))
@@ -81,4 +79,4 @@ pipe_evicted stands ways cache bucket place records more sound some least pushed
         → slice_get (places_of pairs) i ≡ Some place → pair.place ≡ place
     least_place_is [] i pair place e f = cc
     least_place_is (q ∷ pairs) zero pair place e f = cc
-    least_place_is (q ∷ pairs) (suc i) pair place e f = least_place_is pairs i pair place e f
+    least_place_is (q ∷ pairs) (suc i) pair place e f = least_place_is pairs i _ _ e f

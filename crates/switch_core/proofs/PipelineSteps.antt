@@ -1,5 +1,6 @@
 -- Pipelines whose lanes made events.
-use Rattle.std.proofs.Common.{◌≡◌, ℕ, zero, suc, ◌+◌, ◌≤◌, ◌==◌, true, List, [], ◌∷◌, Some, length, map, refl, sym, ap, ◌∙◌, subst, arith}
+use Rattle.std.proofs.Common.{◌≡◌, ℕ, zero, suc, ◌+◌, ◌==◌, true, List, [], ◌∷◌, ◌++◌, Some, length, map, take, drop}
+use Rattle.std.proofs.Common.{refl, sym, ap, ◌∙◌, subst, arith}
 use Rattle.std.specs.List.{list_all}
 use Rattle.std.specs.Prelude.{slice_get}
 use Rattle.epoch_model.specs.Machine.{Machine, Event, run, empty_buckets}
@@ -7,7 +8,6 @@ use Rattle.epoch_model.specs.Tables.{Folding}
 use Rattle.epoch_model.specs.Driving.{EventsKeepAlike, BucketsEmptyByEvictions}
 use Rattle.epoch_model.specs.Laws.{SameEpochs}
 use Rattle.epoch_entry.specs.declared.purpose.Entries.{Entries}
-use Rattle.epoch_entry.specs.Foldings.{merge_bound}
 use Rattle.epoch_entry.specs.Programs.{program_in}
 use Rattle.epoch_entry.specs.Purposes.{IsKindFor}
 use Rattle.fold_class.specs.Program.{IsProgramOf}
@@ -22,19 +22,20 @@ use Rattle.switch_core.specs.Closing.{held_in}
 use Rattle.switch_core.specs.Rows.{Each, EachFrom}
 use Rattle.switch_core.specs.Pipelines.{IsLaneOf, after_events, geometry_without_refresh}
 use Rattle.switch_core.specs.PlanLanes.{LaneView, IsMadeFor, PipelineView, PipelineMakes, AreLanesOf, StandsFor}
-use Rattle.switch_core.specs.PlanLanes.{LaneMakes, LanesMake, AreKept, PipelineIsSwept, parts_of, pipe_places, upkeep_at, upkeeps_at}
+use Rattle.switch_core.specs.PlanLanes.{LaneMakes, LanesMake, AreKept, PipelineIsSwept, parts_of, upkeep_at, upkeeps_at}
 use Rattle.switch_core.specs.Upkeeps.{sweep_from}
 use Rattle.switch_core.specs.declared.upkeep.Upkeep.TheVariants as due
 use Rattle.switch_core.proofs.Histories.{followed}
+use Rattle.switch_core.proofs.LaneFacts.{whole_written}
 use Rattle.switch_core.proofs.SweptMachines.{sweep_alike}
 use Rattle.switch_core.proofs.SideBySide.{each_at, same_some}
 
 -- events keep a lane's sizes
-pub record SameSizes (old new : LaneView) : Type 0 where
-  pub kind : new.kind ≡ old.kind
-  pub buckets : length new.cache.lists ≡ length old.cache.lists
-  pub key_words : new.cache.key_words ≡ old.cache.key_words
-  pub places : new.pipe.places ≡ old.pipe.places
+record SameSizes (old new : LaneView) : Type 0 where
+  kind : new.kind ≡ old.kind
+  buckets : length new.cache.lists ≡ length old.cache.lists
+  key_words : new.cache.key_words ≡ old.cache.key_words
+  places : new.pipe.places ≡ old.pipe.places
 
 sizes_kept : (means : Standing) (f : Folding) (ways : ℕ) (events : List Event) (a b : Parts) → MakesAll means f ways events a b
     → (length b.cache.lists ≡ length a.cache.lists) × (b.cache.key_words ≡ a.cache.key_words) × (b.pipe.places ≡ a.pipe.places)
@@ -47,49 +48,20 @@ sizes_kept means f ways (event ∷ events) a b made =
           ∙ made.1.places,
     )
 
-pub makes_sizes : (ways : ℕ) (events : List Event) (old new : LaneView) → LaneMakes ways events old new → SameSizes old new
+makes_sizes : (ways : ℕ) (events : List Event) (old new : LaneView) → LaneMakes ways events old new → SameSizes old new
 makes_sizes ways events old new m =
     let s = sizes_kept (ghosts.stands old.kind) (ghosts.folding old.kind) ways events (parts_of old) (parts_of new) m.made in
     record { kind = m.kind; buckets = s.0; key_words = s.1; places = s.2 }
 
--- they are still the lanes of the plan's groupbys
-pub lanes_kept : (R : ℕ → LaneView → LaneView → Type 0) → ((n : ℕ) (a b : LaneView) → R n a b → SameSizes a b)
-    → (entries : Entries) (plan : PlanParts) (buckets k : ℕ) (old new : List LaneView) (groups : List GroupPlan) → EachFrom R k old new
-    → EachFrom (λ n lane group. IsLaneOf entries buckets lane.cache (ghosts.sizes lane.kind) (ghosts.folding lane.kind)
-    (ghosts.open_bound lane.kind) (ghosts.absorb_bound lane.kind) group (wiring_at plan n)) k old groups
-    → EachFrom (λ n lane group. IsLaneOf entries buckets lane.cache (ghosts.sizes lane.kind) (ghosts.folding lane.kind)
-    (ghosts.open_bound lane.kind) (ghosts.absorb_bound lane.kind) group (wiring_at plan n)) k new groups
-lanes_kept R sizes entries plan buckets k [] [] [] e f = tt
-lanes_kept R sizes entries plan buckets k [] [] (g ∷ groups) e f = absurd f
-lanes_kept R sizes entries plan buckets k [] (b ∷ new) groups e f = absurd e
-lanes_kept R sizes entries plan buckets k (a ∷ old) [] groups e f = absurd e
-lanes_kept R sizes entries plan buckets k (a ∷ old) (b ∷ new) [] e f = absurd f
-lanes_kept R sizes entries plan buckets k (a ∷ old) (b ∷ new) (g ∷ groups) e f =
-    let s = sizes k a b e.0 in
-    let own = f.0 in (
-      subst (λ kind. IsLaneOf entries buckets b.cache (ghosts.sizes kind) (ghosts.folding kind) (ghosts.open_bound kind)
-          (ghosts.absorb_bound kind) g (wiring_at plan k)) (sym s.kind)
-          (record { many = s.buckets ∙ own.many; keys = s.key_words ∙ own.keys; args = own.args; class = own.class; kind = own.kind }),
-      lanes_kept R sizes entries plan buckets (suc k) old new groups e.1 f.1,
-    )
-
--- and their entries are made of the same programs
-pub made_kept : (R : ℕ → LaneView → LaneView → Type 0) → ((n : ℕ) (a b : LaneView) → R n a b → SameSizes a b)
-    → (k : ℕ) (old new : List LaneView) (groups : List GroupPlan) → EachFrom R k old new → EachFrom (λ n. IsMadeFor) k old groups
-    → EachFrom (λ n. IsMadeFor) k new groups
-made_kept R sizes k [] [] [] e f = tt
-made_kept R sizes k [] [] (g ∷ groups) e f = absurd f
-made_kept R sizes k [] (b ∷ new) groups e f = absurd e
-made_kept R sizes k (a ∷ old) [] groups e f = absurd e
-made_kept R sizes k (a ∷ old) (b ∷ new) [] e f = absurd f
-made_kept R sizes k (a ∷ old) (b ∷ new) (g ∷ groups) e f =
-    let s = sizes k a b e.0 in (
-      record {
-        program = ap program_in s.kind ∙ f.0.program;
-        merges = λ h is. subst (λ kind. ghosts.merge_bound kind ≤ merge_bound h) (sym s.kind) (f.0.merges h is);
-      },
-      made_kept R sizes (suc k) old new groups e.1 f.1,
-    )
+-- what holds of lanes and of what belongs to them, where what the lanes make keeps it
+each_next : {X : Type 0} (R : ℕ → LaneView → LaneView → Type 0) (P : ℕ → LaneView → X → Type 0)
+    → ((n : ℕ) (a b : LaneView) (x : X) → R n a b → P n a x → P n b x) → (k : ℕ) (old new : List LaneView) (xs : List X)
+    → EachFrom R k old new → EachFrom P k old xs → EachFrom P k new xs
+each_next R P next k [] [] xs e f = f
+each_next R P next k [] (b ∷ new) xs e f = absurd e
+each_next R P next k (a ∷ old) [] xs e f = absurd e
+each_next R P next k (a ∷ old) (b ∷ new) [] e f = absurd f
+each_next R P next k (a ∷ old) (b ∷ new) (x ∷ xs) e f = (next k a b x e.0 f.0, each_next R P next (suc k) old new xs e.1 f.1)
 
 -- all lanes have this many buckets
 pub lanes_many : (entries : Entries) (plan : PlanParts) (buckets k : ℕ) (lanes : List LaneView) (groups : List GroupPlan)
@@ -141,35 +113,68 @@ same_others ways events k (a ∷ old) (b ∷ new) e zero n q none =
     view_is a b k p = let c = ap (λ x. x.cache) p in let d = ap (λ x. x.pipe) p in let f = ap (λ x. x.store) p in rw (k, c, d, f) refl
 same_others ways events k (a ∷ old) (b ∷ new) e (suc i) n q none = same_others ways events (suc k) old new e.1 i n (omega arith) none
 
-pub same_kinds : (R : ℕ → LaneView → LaneView → Type 0) → ((n : ℕ) (a b : LaneView) → R n a b → SameSizes a b)
-    → (k : ℕ) (old new : List LaneView) → EachFrom R k old new → map (λ lane. lane.kind) new ≡ map (λ lane. lane.kind) old
-same_kinds R sizes k [] [] e = refl
-same_kinds R sizes k [] (b ∷ new) e = absurd e
-same_kinds R sizes k (a ∷ old) [] e = absurd e
-same_kinds R sizes k (a ∷ old) (b ∷ new) e = let s = sizes k a b e.0 in let rest =
-    same_kinds R sizes (suc k) old new e.1 in rw (s.kind, rest) refl
+same_maps : {X : Type 0} (f : LaneView → X) (R : ℕ → LaneView → LaneView → Type 0) → ((n : ℕ) (a b : LaneView) → R n a b → f b ≡ f a)
+    → (k : ℕ) (old new : List LaneView) → EachFrom R k old new → map f new ≡ map f old
+same_maps f R same k [] [] e = refl
+same_maps f R same k [] (b ∷ new) e = absurd e
+same_maps f R same k (a ∷ old) [] e = absurd e
+same_maps f R same k (a ∷ old) (b ∷ new) e = let s = same k a b e.0 in let rest = same_maps f R same (suc k) old new e.1 in rw (s, rest)
 
-pub same_places : (R : ℕ → LaneView → LaneView → Type 0) → ((n : ℕ) (a b : LaneView) → R n a b → SameSizes a b)
-    → (k : ℕ) (old new : List LaneView) → EachFrom R k old new → pipe_places new ≡ pipe_places old
-same_places R sizes k [] [] e = refl
-same_places R sizes k [] (b ∷ new) e = absurd e
-same_places R sizes k (a ∷ old) [] e = absurd e
-same_places R sizes k (a ∷ old) (b ∷ new) e = let s = sizes k a b e.0 in let rest =
-    same_places R sizes (suc k) old new e.1 in rw (s.places, rest) refl
-
-pub pipeline_makes : (ways : ℕ) (events : ℕ → List Event) (entries : Entries) (plan : PlanParts) (buckets : ℕ) (old new : List LaneView)
+pipeline_makes : (ways : ℕ) (events : ℕ → List Event) (entries : Entries) (plan : PlanParts) (buckets : ℕ) (old new : List LaneView)
     → AreLanesOf entries plan buckets old → LanesMake ways events old new
     → PipelineMakes ways events (record { plan = plan; entries = entries; buckets = buckets; lanes = old })
     (record { plan = plan; entries = entries; buckets = buckets; lanes = new })
 pipeline_makes ways events entries plan buckets old new are e = record {
   stands = λ ms s. stand_after ways buckets events 0 old new ms (lanes_many entries plan buckets 0 old plan.groups are) e s;
   others = λ n none. same_others ways events 0 old new e n n (omega arith) none;
-  kinds = same_kinds (λ n. LaneMakes ways (events n)) (λ n a b m. makes_sizes ways (events n) a b m) 0 old new e;
+  kinds = same_maps (λ lane. lane.kind) (λ n. LaneMakes ways (events n)) (λ n a b m. m.kind) 0 old new e;
   plan = refl;
   entries = refl;
   buckets = refl;
-  places = same_places (λ n. LaneMakes ways (events n)) (λ n a b m. makes_sizes ways (events n) a b m) 0 old new e;
+  places = same_maps (λ lane. lane.pipe.places) (λ n. LaneMakes ways (events n)) (λ n a b m. (makes_sizes ways (events n) a b m).places) 0
+      old new e;
 }
+
+-- lanes of the plan, made for its groupbys
+pub record AreKeptLanes (entries : Entries) (plan : PlanParts) (buckets : ℕ) (all : List LaneView) : Type 0 where
+  pub lanes : AreLanesOf entries plan buckets all
+  pub made : Each IsMadeFor all plan.groups
+
+-- and they made these events
+pub record LanesAfter (ways : ℕ) (events : ℕ → List Event) (entries : Entries) (plan : PlanParts) (buckets : ℕ) (old new : List LaneView)
+    : Type 0 where
+  pub kept : AreKeptLanes entries plan buckets new
+  pub makes : PipelineMakes ways events (record { plan = plan; entries = entries; buckets = buckets; lanes = old })
+      (record { plan = plan; entries = entries; buckets = buckets; lanes = new })
+
+lanes_after : (ways : ℕ) (events : ℕ → List Event) (entries : Entries) (plan : PlanParts) (buckets : ℕ) (old new : List LaneView)
+    → LanesMake ways events old new → AreLanesOf entries plan buckets old → Each IsMadeFor old plan.groups
+    → LanesAfter ways events entries plan buckets old new
+lanes_after ways events entries plan buckets old new e are made =
+    let R = λ (n : ℕ). LaneMakes ways (events n) in record {
+      kept = record {
+        lanes = each_next R _ (λ n a b g m own. let s = makes_sizes ways (events n) a b m in rw s.kind
+            record { many = s.buckets ∙ own.many; keys = s.key_words ∙ own.keys; args = own.args; class = own.class; kind = own.kind })
+            0 old new plan.groups e are;
+        made = each_next R (λ n. IsMadeFor)
+            (λ n a b g m own. record { program = ap program_in m.kind ∙ own.program; merges = rw m.kind own.merges })
+            0 old new plan.groups e made;
+      };
+      makes = pipeline_makes ways events entries plan buckets old new are e;
+    }
+
+-- the lanes as a call gives them back that was lent them
+pub given_back : (ways : ℕ) (events : ℕ → List Event) (entries : Entries) (plan : PlanParts) (buckets len : ℕ)
+    (old lent new : List LaneView)
+    → lent ≡ old → length new ≡ len → LanesMake ways events lent new → AreLanesOf entries plan buckets old
+    → Each IsMadeFor old plan.groups → LanesAfter ways events entries plan buckets old (take len (new ++ drop (length new) old))
+given_back ways events entries plan buckets len old lent new is long e are made =
+    rw (whole_written new (drop (length new) old) len long)
+    (lanes_after ways events entries plan buckets old new (subst (λ x. LanesMake ways events x new) is e) are made)
+
+pub none_made : (ways k : ℕ) (lanes : List LaneView) → EachFrom (λ n. LaneMakes ways []) k lanes lanes
+none_made ways k [] = tt
+none_made ways k (lane ∷ lanes) = (record { kind = refl; made = refl }, none_made ways (suc k) lanes)
 
 -- a sweep
 

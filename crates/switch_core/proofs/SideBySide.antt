@@ -5,7 +5,7 @@ use Rattle.std.specs.List.{sum_by}
 use Rattle.std.specs.Prelude.{slice_get}
 use Rattle.std.proofs.lemmas.List.{take_all}
 use Rattle.std.proofs.lemmas.List.Sums.{sum_by-cons}
-use Rattle.switch_core.specs.Rows.{Each, EachFrom}
+use Rattle.switch_core.specs.Rows.{EachFrom}
 
 pub same_some : {X : Type 0} (x y : X) → Some x ≡ Some y → x ≡ y
 same_some x y e = cc
@@ -54,9 +54,9 @@ each_at R k zero (a ∷ xs) (b ∷ ys) x e h = let same : a ≡ x = cc in (
   b,
   refl,
   λ n q. let is : k ≡ n =
-      omega arith in subst (λ m. R m x b) is (subst (λ z. R k z b) same e.0),
+      omega arith in rw is at (subst (λ z. R k z b) same e.0),
 )
-each_at R k (suc i) (a ∷ xs) (b ∷ ys) x e h = let rest = each_at R (suc k) i xs ys x e.1 h
+each_at R k (suc i) (a ∷ xs) (b ∷ ys) x e h = let rest = each_at R _ i xs ys x e.1 h
     in (rest.0, rest.1, λ n q. rest.2 n (omega arith))
 
 -- one of the items is another one
@@ -95,12 +95,12 @@ untouched_start i k (x ∷ xs) = (λ h. refl, untouched_start i (suc k) xs)
 
 pub done_next : {X : Type 0} (R : ℕ → X → X → Type 0) (i : ℕ) (old new : List X) (item : X) → Done R i old new
     → ((x : X) → slice_get old i ≡ Some x → R i x item) → Done R (i + 1) old (set new i item)
-done_next R i old new item d h = each_set (λ n a b. n < i → R n a b) (λ n a b. n < i + 1 → R n a b) 0 i old new item
+done_next R i old new item d h = each_set _ _ 0 i _ _ _
     (λ j n a b q apart r less. r (let w : n ≡ i → ⊥ = λ z. apart (omega arith) in omega arith))
-    (λ n x q f less. let is : i ≡ n = omega arith in subst (λ m. R m x item) is (h x f)) d
+    (λ n x q f less. let is : i ≡ n = omega arith in rw is at (h x f)) d
 
 pub untouched_next : {X : Type 0} (i : ℕ) (old new : List X) (item : X) → Untouched i old new → Untouched (i + 1) old (set new i item)
-untouched_next i old new item u = each_set (λ n a b. i ≤ n → b ≡ a) (λ n a b. i + 1 ≤ n → b ≡ a) 0 i old new item
+untouched_next i old new item u = each_set _ _ 0 i _ _ _
     (λ j n a b q apart r less. r (omega arith))
     (λ n x q f less. absurd (omega arith)) u
 
@@ -114,11 +114,11 @@ pub untouched_was : {X : Type 0} (i : ℕ) (old new : List X) (x : X) → Untouc
     → slice_get old i ≡ Some x
 untouched_was i old new x u l e =
     let was = got_some old i l in
-    was.1 ∙ ap Some (same_some was.0 x (sym (untouched_at i old new was.0 u was.1) ∙ e))
+    was.1 ∙ ap Some (same_some _ x (sym (untouched_at i _ _ _ u was.1) ∙ e))
 
 pub done_end : {X : Type 0} (R : ℕ → X → X → Type 0) (i : ℕ) (old new : List X) → Done R i old new → length old ≤ i → EachFrom R 0 old new
-done_end R i old new d l = each_map (λ n a b. n < i → R n a b) R 0 old new
-    (λ j n a b q f g r. r (let w = got_below old j a f in omega arith)) d
+done_end R i old new d l = each_map _ R 0 _ _
+    (λ j n a b q f g r. r (let w = got_below _ j a f in omega arith)) d
 
 pub each_both : {X Y : Type 0} (R S : ℕ → X → Y → Type 0) (k : ℕ) (xs : List X) (ys : List Y) → EachFrom R k xs ys → EachFrom S k xs ys
     → EachFrom (λ n x y. R n x y × S n x y) k xs ys
@@ -126,16 +126,6 @@ each_both R S k [] [] r s = tt
 each_both R S k [] (y ∷ ys) r s = absurd r
 each_both R S k (x ∷ xs) [] r s = absurd r
 each_both R S k (x ∷ xs) (y ∷ ys) r s = ((r.0, s.0), each_both R S (suc k) xs ys r.1 s.1)
-
--- the loop breaks off at an item
-pub breaks_at : {X : Type 0} (R S : X → X → Type 0) (i : ℕ) (old new : List X) (item : X) → Done (λ n. R) i old new → Untouched i old new
-    → ((x : X) → slice_get old i ≡ Some x → S x item)
-    → EachFrom (λ n a b. (n < i → R a b) × (n ≡ i → S a b) × (i < n → b ≡ a)) 0 old (set new i item)
-breaks_at R S i old new item d u h = each_set (λ n a b. (n < i → R a b) × (i ≤ n → b ≡ a))
-    (λ n a b. (n < i → R a b) × (n ≡ i → S a b) × (i < n → b ≡ a)) 0 i old new item
-    (λ j n a b q apart r. (r.0, λ e. absurd (apart (omega arith)), λ less. r.1 (omega arith)))
-    (λ n x q f. (λ less. absurd (omega arith), λ e. h x f, λ less. absurd (omega arith)))
-    (each_both (λ n a b. n < i → R a b) (λ n a b. i ≤ n → b ≡ a) 0 old new d u)
 
 -- the sum over one item more
 pub sum_next : {X : Type 0} (f : X → ℕ) (xs : List X) (i : ℕ) (x : X) → slice_get xs i ≡ Some x
@@ -147,16 +137,11 @@ sum_next {X = X} f xs i x h = ap (λ n. sum_by f (take n xs)) (let e : i + 1 ≡
     one_more f (a ∷ xs) zero x h = let same : a ≡ x = cc in ap (λ z. sum_by f (z ∷ [])) same
         ∙ (sum_by-cons f x [] ∙ (let e : f x + 0 ≡ 0 + f x = omega arith in e))
     one_more f (a ∷ xs) (suc i) x h =
-        sum_by-cons f a (take (suc i) xs) ∙ (ap (λ n. f a + n) (one_more f xs i x h)
+        sum_by-cons f a (take (suc i) _) ∙ (ap (λ n. f a + n) (one_more f xs i x h)
         ∙ (let e : f a + (sum_by f (take i xs) + f x) ≡ (f a + sum_by f (take i xs)) + f x = omega arith in e
-        ∙ ap (λ n. n + f x) (sym (sum_by-cons f a (take i xs)))))
+        ∙ ap (λ n. n + f x) (sym (sum_by-cons f a (take i _)))))
 
 -- the sum over the first items is that over all, where there are no more
 pub sum_whole : {X : Type 0} (f : X → ℕ) (xs : List X) (i old new : ℕ) → length xs ≤ i → new ≤ old + sum_by f (take i xs)
     → new ≤ old + sum_by f xs
-sum_whole f xs i old new long few = subst (λ ys. new ≤ old + sum_by f ys) (take_all i xs long) few
-
--- one of the items is another one that fits too
-pub each_replaced : {X Y : Type 0} (R : X → Y → Type 0) (i : ℕ) (xs : List X) (ys : List Y) (new : Y) → Each R xs ys
-    → ((x : X) → slice_get xs i ≡ Some x → R x new) → Each R xs (set ys i new)
-each_replaced R i xs ys new e h = each_set (λ n. R) (λ n. R) 0 i xs ys new (λ j n x y q apart r. r) (λ n x q f. h x f) e
+sum_whole f xs i old new long few = rw (take_all i xs long) at few

@@ -1,6 +1,6 @@
 -- Pairs of a bucket that represent its open epochs.
 use Rattle.std.proofs.Common.{◌≡◌, ℕ, zero, suc, ◌-◌, ◌<◌, true, false, ◌||◌, List, [], ◌∷◌, Some, length, take, drop, refl, sym, ap, ◌∙◌}
-use Rattle.std.proofs.Common.{subst, arith}
+use Rattle.std.proofs.Common.{arith}
 use Rattle.std.specs.Prelude.{Bool, slice_get}
 use Rattle.epoch_model.specs.Keys.{Key, key_eq}
 use Rattle.epoch_model.specs.Machine.{Epoch, is_open, rows_in_epochs, without}
@@ -33,7 +33,7 @@ pairs_take R zero pairs epochs s = tt
 pairs_take R (suc n) [] [] s = tt
 pairs_take R (suc n) [] (e ∷ es) s = absurd s
 pairs_take R (suc n) (p ∷ ps) [] s = absurd s
-pairs_take R (suc n) (p ∷ ps) (e ∷ es) s = (s.0, pairs_take R n ps es s.1)
+pairs_take R (suc n) (p ∷ ps) (e ∷ es) s = (s.0, pairs_take R n _ _ s.1)
 
 pub has_open : (stands : Standing) (cache : Cache) (key : Key) (pairs : List Pair) (epochs : List Epoch)
     → PairsStand (PairStands stands cache) pairs epochs → has_key key pairs ≡ is_open key epochs
@@ -62,12 +62,12 @@ pub place_stands : (stands : Standing) (cache : Cache) (key : Key) (place : ℕ)
 place_stands stands cache key place [] epochs s h = cc
 place_stands stands cache key place (p ∷ ps) [] s h = absurd s
 place_stands stands cache key place (p ∷ ps) (e ∷ es) s h = by_test (key_eq p.key key)
-    (λ t. let u : key_eq e.key key ≡ true = ap (λ k. key_eq k key) (sym s.0.0) ∙ t in
+    (λ t. let u = ap (λ k. key_eq k key) (sym s.0.0) ∙ t in
     let here : Some p.place ≡ Some place = rw t at h in
-    rw u (subst (λ n. stands (entry_at cache n) e.rows) (same p.place place here) s.0.1))
-    (λ t. let u : key_eq e.key key ≡ false = ap (λ k. key_eq k key) (sym s.0.0) ∙ t in
+    rw u (rw (same p.place place here) at s.0.1))
+    (λ t. let u = ap (λ k. key_eq k key) (sym s.0.0) ∙ t in
     let there : place_of_key key ps ≡ Some place = rw t at h in
-    rw u (place_stands stands cache key place ps es s.1 there))
+    rw u (place_stands stands cache _ place ps es s.1 there))
   where
     same : (x y : ℕ) → Some x ≡ Some y → x ≡ y
     same x y e = cc

@@ -9,7 +9,7 @@ use Rattle.bucket_cache.specs.Caches.{Cache, list_at, with_list}
 use Rattle.switch_core.specs.Closing.{held_in}
 
 abbrev held : List (List Pair) → ℕ
-held lists = sum_by (λ pairs. length pairs) lists
+held lists = sum_by length lists
 
 -- the lists with the last pair of one of them gone
 abbrev shorter : List (List Pair) → ℕ → List (List Pair)
@@ -42,14 +42,14 @@ pub evicted_within : (start was ready new held fewer whole evicting merging : �
     + evicting → was + held * (evicting + merging) ≤ start + whole * (evicting + merging)
     → new + fewer * (evicting + merging) ≤ start + whole * (evicting + merging)
 evicted_within start was ready new held fewer whole evicting merging one a b h =
-    let more : suc fewer * (evicting + merging) ≡ held * (evicting + merging) = ap (λ n. n * (evicting + merging)) one in
+    let more = ap (λ n. n * (evicting + merging)) one in
     omega arith
 
 -- one merge at most
 pub merged_within : (start was new held same whole each merging : ℕ) → same ≡ held → new ≤ was + merging → was + held * each ≤ start + whole
     → new + same * each ≤ start + (whole + merging)
 merged_within start was new held same whole each merging e a h =
-    let unchanged : same * each ≡ held * each = ap (λ n. n * each) e in
+    let unchanged = ap (λ n. n * each) e in
     omega arith
 
 -- the sweep of one bucket more, whose evictions and merges take as much as those before
@@ -57,8 +57,8 @@ pub bucket_within : (start was new held fewer whole each each' bucket merging me
     * each ≤ start + (whole * each + bucket * merging) → new + fewer * each' ≤ was + (held * each' + merging')
     → new + fewer * each ≤ start + (whole * each + (bucket + 1) * merging)
 bucket_within start was new held fewer whole each each' bucket merging merging' e m a b =
-    let left : fewer * each' ≡ fewer * each = ap (λ n. fewer * n) e in
-    let right : held * each' ≡ held * each = ap (λ n. held * n) e in
+    let left = ap (λ n. fewer * n) e in
+    let right = ap (λ n. held * n) e in
     omega arith
 
 -- some of the buckets
@@ -73,7 +73,7 @@ pub sum_within : {X : Type 0} (f : X → ℕ) (n : ℕ) (xs : List X) → sum_by
 sum_within f zero xs = let none : sum_by f (take zero xs) ≡ 0 = refl in omega arith
 sum_within f (suc n) [] = omega arith
 sum_within f (suc n) (x ∷ xs) =
-    let first : sum_by f (take (suc n) (x ∷ xs)) ≡ f x + sum_by f (take n xs) = sum_by-cons f x (take n xs) in
+    let first : sum_by f (take (suc n) (x ∷ xs)) ≡ f x + sum_by f (take n xs) = sum_by-cons f x (take n _) in
     let all : sum_by f (x ∷ xs) ≡ f x + sum_by f xs = sum_by-cons f x xs in
     let rest = sum_within f n xs in
     omega arith

@@ -1,5 +1,5 @@
 -- Each lane makes the events of its upkeep, in order.
-use Rattle.std.proofs.Common.{◌<◌, ◌+◌, length, set, get_or, arith}
+use Rattle.std.proofs.Common.{rules, ◌<◌, ◌+◌, length, set, get_or, arith}
 use Rattle.switch_core.specs.PlanLanes.{LaneMakes, LanesBreakOff, LanesMake, lane_upkeep_cost, upkeeps_at}
 use Rattle.switch_core.specs.Upkeeps.{IsKept}
 use Rattle.switch_core.proofs.LaneFacts.{err_holds, on_err, on_ok}
@@ -38,50 +38,45 @@ loop-i-preserved g c =
           c.loop-i.invariant.cost in omega arith;
     }
 
-pub returns-in_err-keep_up-clause-breaks_off : goal.returns-in_err-keep_up-clause-breaks_off
-returns-in_err-keep_up-clause-breaks_off g c =
-    let i = c.loop-i.i in
-    let first = c.args.lanes.now in
-    let lane = get_or c.loop-i.lanes i c.index-lanes-i.result in
-    let new = c.keep_up-in-loop-i.new.self in
-    let kept = c.loop-i.auto.lanes in
-    let below : i < length c.loop-i.lanes = let b = c.loop-i-test.true in omega arith in
-    let was = untouched_was i first c.loop-i.lanes lane c.loop-i.invariant.same (omega arith)
-    (got_here c.loop-i.lanes i c.index-lanes-i.result below) in
-    err_holds c.from_residual.result (LanesBreakOff g.row.WAYS c.args.upkeep first (set c.loop-i.lanes i new))
-    (breaks_off_at g.row.WAYS c.args.upkeep i first c.loop-i.lanes lane new c.loop-i.invariant.makes c.loop-i.invariant.same was
-    c.in_err-keep_up.ensures.breaks_off)
-
-pub returns-in_err-keep_up-clause-cost : goal.returns-in_err-keep_up-clause-cost
-returns-in_err-keep_up-clause-cost g c =
+pub returns-in_err-keep_up : goal.returns-in_err-keep_up
+returns-in_err-keep_up g c =
     let i = c.loop-i.i in
     let first = c.args.lanes.now in
     let lane = get_or c.loop-i.lanes i c.index-lanes-i.result in
     let kept = c.loop-i.auto.lanes in
-    let below : i < length c.loop-i.lanes = let b = c.loop-i-test.true in omega arith in
+    let below : i < length c.loop-i.lanes = let b = c.loop-i-test.true in
+    omega arith in
     let was = untouched_was i first c.loop-i.lanes lane c.loop-i.invariant.same (omega arith)
     (got_here c.loop-i.lanes i c.index-lanes-i.result below) in
-    let s = sum_next (lane_upkeep_cost c.args.upkeep) first i lane was in
-    let a = c.keep_up-in-loop-i.ensures.cost in
-    let b = c.loop-i.invariant.cost in
-    let all = sum_within (lane_upkeep_cost c.args.upkeep) (i + 1) first in
-    omega arith
+    record {
+      makes = search rules;
+      breaks_off =
+          let new = c.keep_up-in-loop-i.new.self in
+          err_holds c.from_residual.result (LanesBreakOff g.row.WAYS c.args.upkeep first (set c.loop-i.lanes i new))
+          (breaks_off_at g.row.WAYS c.args.upkeep i first c.loop-i.lanes lane new c.loop-i.invariant.makes c.loop-i.invariant.same was
+          c.in_err-keep_up.ensures.breaks_off);
+      left = search rules;
+      steps = search rules;
+      cost =
+          let s = sum_next (lane_upkeep_cost c.args.upkeep) first i lane was in
+          let a = c.keep_up-in-loop-i.ensures.cost in
+          let b = c.loop-i.invariant.cost in
+          let all = sum_within (lane_upkeep_cost c.args.upkeep) (i + 1) first in
+          omega arith;
+    }
 
-pub returns-clause-makes : goal.returns-clause-makes
-returns-clause-makes g c =
-    let kept = c.loop-i.auto.lanes in
-    let end = c.loop-i-test.false in
-    done_end (λ n. LaneMakes g.row.WAYS (upkeeps_at c.args.upkeep c.args.lanes.now n)) c.loop-i.i c.args.lanes.now c.loop-i.lanes
-    c.loop-i.invariant.makes (omega arith)
-
-pub returns-clause-left : goal.returns-clause-left
-returns-clause-left g c n lane e =
-    let end = c.loop-i-test.false in
-    let below = got_below c.loop-i.lanes n lane e in
-    c.loop-i.invariant.left n (omega arith) lane e
-
-pub returns-clause-cost : goal.returns-clause-cost
-returns-clause-cost g c = omega (arith, sum_within (lane_upkeep_cost c.args.upkeep) c.loop-i.i c.args.lanes.now, c.loop-i.invariant.cost)
+pub returns : goal.returns
+returns g c =
+    let end = c.loop-i-test.false in record {
+      makes =
+          let kept = c.loop-i.auto.lanes in
+          done_end (λ n. LaneMakes g.row.WAYS (upkeeps_at c.args.upkeep c.args.lanes.now n)) c.loop-i.i c.args.lanes.now c.loop-i.lanes
+          c.loop-i.invariant.makes (omega arith);
+      breaks_off = search rules;
+      left = λ n lane e. let below = got_below c.loop-i.lanes n lane e in c.loop-i.invariant.left n (omega arith) lane e;
+      steps = search rules;
+      cost = omega (arith, sum_within (lane_upkeep_cost c.args.upkeep) c.loop-i.i c.args.lanes.now, c.loop-i.invariant.cost);
+    }
 
 pub returns-then-lanes-eq1-clause-makes : goal.returns-then-lanes-eq1-clause-makes
 returns-then-lanes-eq1-clause-makes g c =

@@ -1,19 +1,18 @@
-use Rattle.std.proofs.Common.{◌+◌, ◌≤◌, sym, subst, arith, lit<}
+use Rattle.std.proofs.Common.{arith, lit<}
 use Rattle.std.proofs.Math.Logic.{∥∥₁_elim}
 use Rattle.std.proofs.Props.{props}
-use Rattle.fold_class.specs.Program.{IsProgram, IsProgramOf}
 use Rattle.epoch_entry.specs.contracts.any.AnyEpochsEpochKind.TheImpl.{ghosts}
 use Rattle.switch_core.proofs.making.made_lane.Goals as goal
 
 pub for_entries-kind-requires : goal.for_entries-kind-requires
-for_entries-kind-requires g c = subst IsProgram (sym c.in_ok-copy.ensures) c.requires.program
+for_entries-kind-requires g c = rw c.in_ok-copy.ensures c.requires.program
 
 pub new-requires : goal.new-requires
 new-requires g c =
     let keys = c.requires.keys in
     let long = c.len.ensures in
-    let small : c.len.result + (ghosts.sizes c.for_entries-kind.result).entry ≤ 512 = ∥∥₁_elim c.requires.program (hlevel props) (λ h.
-    let kind = c.for_entries-kind.ensures.kind h.0 (subst (IsProgramOf h.0) (sym c.in_ok-copy.ensures) h.1) in
+    let small = ∥∥₁_elim c.requires.program (hlevel props) (λ h.
+    let kind = c.for_entries-kind.ensures.kind h.0 (rw c.in_ok-copy.ensures h.1) in
     let few = c.entries_are_small.ensures c.args.entries h.0 (ghosts.sizes c.for_entries-kind.result)
     (ghosts.folding c.for_entries-kind.result) (ghosts.open_bound c.for_entries-kind.result)
     (ghosts.absorb_bound c.for_entries-kind.result) c.len.result h.1.valid kind

@@ -1,4 +1,4 @@
-use Rattle.std.proofs.Common.{◌≡◌, ◌+◌, ◌++◌, [], ◌∷◌, length, take, sym, ap, ◌∙◌, subst, arith, lit<, ℕ}
+use Rattle.std.proofs.Common.{◌≡◌, ◌++◌, [], ◌∷◌, take, sym, ap, ◌∙◌, subst, arith, lit<, ℕ}
 use Rattle.std.proofs.lemmas.List.{length-take-le, take_all}
 use Rattle.std.proofs.lemmas.List.Elements.{All-append, All-cons, All-nil}
 use Rattle.epoch_model.specs.Machine.{empty_machine}
@@ -34,37 +34,29 @@ loop-i-preserved g c =
     let lanes = c.loop-i.lanes.items in
     let lane = c.in_ok-lane.lane in
     let made = c.in_ok-lane.ensures in
-    let pushed : c.push.new.self.items ≡ lanes ++ lane ∷ [] = c.in_ok-push.ensures.items in
-    let more : take (i + 1) plan.groups ≡ take i plan.groups ++ group ∷ [] = take_next plan.groups i group c.group.ensures in
-    let many : length lanes ≡ i = each_long _ 0 lanes (take i plan.groups) c.loop-i.invariant.lanes ∙ length-take-le i plan.groups
-    (let b = got_below plan.groups i group c.group.ensures in omega arith) in
-    let own = lane_made c.entries_suit_folds.ensures c.args.entries plan c.args.buckets i lane group c.invariant.ensures c.group.ensures
+    let pushed = c.in_ok-push.ensures.items in
+    let more = take_next _ i group c.group.ensures in
+    let many = each_long _ 0 _ (take i _) c.loop-i.invariant.lanes ∙ length-take-le i plan.groups
+    (let b = got_below _ i _ c.group.ensures in omega arith) in
+    let own = lane_made c.entries_suit_folds.ensures _ _ _ i lane _ c.invariant.ensures c.group.ensures
     made.buckets made.keys made.kind in
     let R : ℕ → LaneView → GroupPlan → Type 0 = λ n l x. IsLaneOf c.args.entries c.args.buckets l.cache (ghosts.sizes l.kind)
     (ghosts.folding l.kind) (ghosts.open_bound l.kind) (ghosts.absorb_bound l.kind) x (wiring_at plan n) in
-    let empties : empty_machines (geometry_without_refresh g.row.WAYS c.args.buckets) (take (i + 1) plan.groups) ≡ empty_machines
-    (geometry_without_refresh g.row.WAYS c.args.buckets) (take i plan.groups)
-    ++ empty_machine (geometry_without_refresh g.row.WAYS c.args.buckets) ∷ [] =
+    let empties =
     ap (empty_machines (geometry_without_refresh g.row.WAYS c.args.buckets)) more
     ∙ empties_push (geometry_without_refresh g.row.WAYS c.args.buckets)
-    (take i plan.groups) group in
+    (take i _) group in
     let has_places : LaneView → Type 0 = λ l. l.pipe.places ≡ c.args.pipe_records in
     record {
-      lanes = subst (λ ls. EachFrom R 0 ls (take (i + 1) plan.groups)) (sym pushed)
-          (subst (λ gs. EachFrom R 0 (lanes ++ lane ∷ []) gs) (sym more)
+      lanes = rw pushed (subst (λ gs. EachFrom R 0 (lanes ++ lane ∷ []) gs) (sym more)
           (each_push R 0 lanes (take i plan.groups) lane group c.loop-i.invariant.lanes
           (λ n q. let is : i ≡ n = omega arith in subst (λ k. R k lane group) is own)));
-      made = subst (λ ls. Each IsMadeFor ls (take (i + 1) plan.groups)) (sym pushed)
-          (subst (λ gs. Each IsMadeFor (lanes ++ lane ∷ []) gs) (sym more)
+      made = rw pushed (subst (λ gs. Each IsMadeFor (lanes ++ lane ∷ []) gs) (sym more)
           (each_push (λ n. IsMadeFor) 0 lanes (take i plan.groups) lane group c.loop-i.invariant.made
           (λ n q. record { program = made.program; merges = made.merges })));
-      pipe_places = subst (HavePlaces c.args.pipe_records) (sym pushed)
-          (All-append has_places lanes (lane ∷ []) c.loop-i.invariant.pipe_places
+      pipe_places = rw pushed (All-append has_places lanes (lane ∷ []) c.loop-i.invariant.pipe_places
           (All-cons has_places lane [] made.pipe_places (All-nil has_places)));
-      stands = subst (λ ls. Each StandsFor ls (empty_machines (geometry_without_refresh g.row.WAYS c.args.buckets)
-          (take (i + 1) plan.groups)))
-          (sym pushed)
-          (subst (λ ms. Each StandsFor (lanes ++ lane ∷ []) ms) (sym empties)
+      stands = rw pushed (subst (λ ms. Each StandsFor (lanes ++ lane ∷ []) ms) (sym empties)
           (each_push (λ n. StandsFor) 0 lanes (empty_machines (geometry_without_refresh g.row.WAYS c.args.buckets) (take i plan.groups))
           lane
           (empty_machine (geometry_without_refresh g.row.WAYS c.args.buckets)) c.loop-i.invariant.stands (λ n q. made.stands)));
@@ -100,11 +92,10 @@ returns g c =
     let lanes = c.loop-i.lanes.items in
     let R : ℕ → LaneView → GroupPlan → Type 0 = λ n l x. IsLaneOf c.args.entries c.args.buckets l.cache (ghosts.sizes l.kind)
     (ghosts.folding l.kind) (ghosts.open_bound l.kind) (ghosts.absorb_bound l.kind) x (wiring_at c.args.plan.now n) in
-    let all : take c.loop-i.i groups ≡ groups = take_all c.loop-i.i groups (omega (arith, c.loop-i-test.false, c.groups-i-end.ensures)) in
+    let all = take_all c.loop-i.i groups (omega (arith, c.loop-i-test.false, c.groups-i-end.ensures)) in
     record {
-      lanes = subst (EachFrom R 0 lanes) all c.loop-i.invariant.lanes;
-      made = subst (Each IsMadeFor lanes) all c.loop-i.invariant.made;
+      lanes = rw all at c.loop-i.invariant.lanes;
+      made = rw all at c.loop-i.invariant.made;
       pipe_places = c.loop-i.invariant.pipe_places;
-      stands = subst (λ gs. Each StandsFor lanes (empty_machines (geometry_without_refresh g.row.WAYS c.args.buckets) gs)) all
-          c.loop-i.invariant.stands;
+      stands = rw all at c.loop-i.invariant.stands;
     }

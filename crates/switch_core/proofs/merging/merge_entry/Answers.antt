@@ -1,4 +1,4 @@
-use Rattle.std.proofs.Common.{◌≡◌, refl, ap, ◌∙◌, subst, length}
+use Rattle.std.proofs.Common.{refl, ap, ◌∙◌}
 use Rattle.backing_store.specs.Store.{counted}
 use Rattle.switch_core.proofs.merging.merge_entry.Goals as goal
 
@@ -8,10 +8,10 @@ returns-clause-ok g c rows epochs stood held =
     let old = c.args.store.now in
     let key = c.args.key.now in
     let middle = c.row_for.new.self in
-    let made : middle ≡ counted old key f.initial f.row_per_epoch =
+    let made =
     c.in_ok-place.ensures.ok ∙ (ap (λ ws. counted old key ws c.row_per_epoch.result) c.requires.initial
     ∙ ap (counted old key f.initial) c.row_per_epoch.ensures) in
     c.merged_epochs_are_held.ensures f old middle _ key c.in_ok-place.place c.row_mut-state.result.now c.merge.new.state rows
-    c.invariant.ensures c.invariant-2.ensures c.requires.key (subst (λ ws. length ws ≡ old.state_words) c.requires.initial
-    c.requires.initial_words) made c.in_ok-place.ensures.place
+    c.invariant.ensures c.invariant-2.ensures c.requires.key (rw c.requires.initial at c.requires.initial_words) made
+    c.in_ok-place.ensures.place
     c.row_mut-state.ensures.value (c.merge.auto.state ∙ c.row_mut-state.ensures.length) refl (c.merge.ensures.merged rows stood) epochs held

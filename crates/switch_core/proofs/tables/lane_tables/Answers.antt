@@ -1,5 +1,5 @@
 -- Each table is that of the epochs of its lane's machine, since all of them are merged.
-use Rattle.std.proofs.Common.{◌≡◌, ◌++◌, [], ◌∷◌, Some, length, map, take, sym, ap, ◌∙◌, subst, arith}
+use Rattle.std.proofs.Common.{◌≡◌, ◌++◌, [], ◌∷◌, Some, map, take, sym, ap, ◌∙◌, subst, arith}
 use Rattle.std.proofs.Math.Facts.{Fits-below}
 use Rattle.std.specs.Prelude.{slice_get}
 use Rattle.query_lang.specs.declared.fault.TheConstants.{MAX_KEYS}
@@ -16,15 +16,15 @@ use Rattle.switch_core.proofs.tables.lane_tables.Goals as goal
 pub overflow_cast-i : goal.overflow_cast-i
 overflow_cast-i g c =
     let many = c.invariant.ensures.most_groups in
-    let long : length c.args.lanes.now ≡ length c.args.plan.now.groups =
-    each_long _ 0 c.args.lanes.now c.args.plan.now.groups c.requires.lanes.2 in
+    let long =
+    each_long _ 0 _ c.args.plan.now.groups c.requires.lanes.2 in
     let below = c.loop-i-test.true in
     Fits-below {n = MAX_KEYS} tt (omega arith)
 
 pub group-requires : goal.group-requires
 group-requires g c =
-    let long : length c.args.lanes.now ≡ length c.args.plan.now.groups =
-    each_long _ 0 c.args.lanes.now c.args.plan.now.groups c.requires.lanes.2 in
+    let long =
+    each_long _ 0 _ c.args.plan.now.groups c.requires.lanes.2 in
     let below = c.loop-i-test.true in
     omega arith
 
@@ -63,13 +63,11 @@ loop-i-preserved g c =
           ∙ (ap (λ t. take i (tables_of groups (map folding_at lanes) machines) ++ t ∷ []) table ∙ sym next));
     }
 
-pub returns-clause-stored : goal.returns-clause-stored
-returns-clause-stored g c =
-    let end = c.loop-i-test.false in
-    c.loop-i.invariant.stored ∙ stored_whole c.args.plan.now.groups c.args.lanes.now c.loop-i.i (omega arith)
-
-pub returns-clause-closed : goal.returns-clause-closed
-returns-clause-closed g c machines stand =
-    let lanes = c.args.lanes.now in
-    let end = c.loop-i-test.false in
-    c.loop-i.invariant.closed machines stand ∙ tables_whole c.args.plan.now.groups lanes machines c.loop-i.i (omega arith)
+pub returns : goal.returns
+returns g c =
+    let end = c.loop-i-test.false in record {
+      stored = c.loop-i.invariant.stored ∙ stored_whole c.args.plan.now.groups c.args.lanes.now c.loop-i.i (omega arith);
+      closed = λ machines stand.
+          let lanes = c.args.lanes.now in
+          c.loop-i.invariant.closed machines stand ∙ tables_whole c.args.plan.now.groups lanes machines c.loop-i.i (omega arith);
+    }

@@ -1,11 +1,11 @@
 -- Evictions in order, each with room made for its record, up to the one that finds the bucket empty.
-use Rattle.std.proofs.Common.{rules, ◌≡◌, ◌+◌, ◌-◌, ◌*◌, ◌<◌, ◌≤◌, true, false, if◌then◌else◌, suc, [], length, take, refl, sym, ap, ◌∙◌}
+use Rattle.std.proofs.Common.{rules, ◌≡◌, ◌+◌, ◌-◌, ◌*◌, ◌<◌, ◌≤◌, true, if◌then◌else◌, suc, [], length, take, refl, sym, ap, ◌∙◌}
 use Rattle.std.proofs.Common.{subst, arith, get_or-set_other}
 use Rattle.std.proofs.lemmas.Bool.Decides.{nat_tests}
 use Rattle.bucket_cache.specs.Caches.{list_at, with_list}
 use Rattle.switch_core.specs.Closing.{held_in}
 use Rattle.switch_core.specs.Costs.{evict_cost, merge_cost}
-use Rattle.switch_core.specs.FrontEvents.{CarriesFirst, CarriesUpTo, with_store}
+use Rattle.switch_core.specs.FrontEvents.{with_store}
 use Rattle.switch_core.specs.Upkeeps.{left_waiting, sweep_from}
 use Rattle.switch_core.proofs.Carrying.{fits_kept, keeps_on, keeps_start, up_to_first, up_to_start}
 use Rattle.switch_core.proofs.Emptying.{evicted_shorter, next_empty, next_found, one_try}
@@ -18,9 +18,9 @@ epochs-init g c =
     let first = c.args.front.now in
     let here = with_store first c.args.store.now in
     record {
-      carries = up_to_start g.K.EpochKind.stands g.K.EpochKind.folding g.row.WAYS (sweep_from c.args.bucket first.cache first.pipe) here;
+      carries = up_to_start _ _ g.row.WAYS (sweep_from c.args.bucket first.cache first.pipe) here;
       others = λ other apart. refl;
-      sizes = keeps_start here;
+      sizes = keeps_start _;
       later = omega arith;
       cost = omega arith;
     }
@@ -29,7 +29,7 @@ pub make_ready-requires : goal.make_ready-requires
 make_ready-requires g c =
     let first = with_store c.args.front.now c.args.store.now in
     let was = with_store c.epochs.front c.epochs.store in
-    (search rules, fits_kept g.K.EpochKind.sizes first was c.epochs.invariant.sizes c.requires.fits)
+    (search rules, fits_kept g.K.EpochKind.sizes _ _ c.epochs.invariant.sizes c.requires.fits)
 
 pub evict-requires : goal.evict-requires
 evict-requires g c =
@@ -37,105 +37,87 @@ evict-requires g c =
     omega (arith, c.requires.range, c.epochs.invariant.sizes.buckets, c.make_ready.ensures.sizes.buckets) in
     (search rules, (c.in_ok-make_ready.ensures.ready, within))
 
-pub returns-in_err-make_ready-clause-breaks_off : goal.returns-in_err-make_ready-clause-breaks_off
-returns-in_err-make_ready-clause-breaks_off g c =
-    let first = with_store c.args.front.now c.args.store.now in
-    let was = with_store c.epochs.front c.epochs.store in
-    let new = with_store c.make_ready.new.front c.make_ready.new.store in
-    let all = sweep_from c.args.bucket first.cache first.pipe in
-    let same : was ≡ new =
-    ap (λ front. with_store front c.epochs.store) (sym c.in_err-make_ready.ensures.err.0) ∙ ap (with_store c.make_ready.new.front)
-    (sym c.in_err-make_ready.ensures.err.1) in
-    let means = g.K.EpochKind.stands in
-    let folding = g.K.EpochKind.folding in
-    err_holds c.from_residual.result (CarriesFirst means folding g.row.WAYS all first new)
-    (subst (CarriesFirst means folding g.row.WAYS all first) same
-    (up_to_first means folding g.row.WAYS all (sweep_from c.args.bucket was.cache was.pipe) first was c.epochs.invariant.carries))
+pub returns-in_err-make_ready : goal.returns-in_err-make_ready
+returns-in_err-make_ready g c =
+    record {
+      carries = search rules;
+      breaks_off =
+          let first = with_store c.args.front.now c.args.store.now in
+          let was = with_store c.epochs.front c.epochs.store in
+          let new = with_store c.make_ready.new.front c.make_ready.new.store in
+          let all = sweep_from c.args.bucket first.cache first.pipe in
+          let same = ap (λ front. with_store front c.epochs.store) (sym c.in_err-make_ready.ensures.err.0)
+          ∙ ap (with_store c.make_ready.new.front) (sym c.in_err-make_ready.ensures.err.1) in
+          let means = g.K.EpochKind.stands in
+          let folding = g.K.EpochKind.folding in
+          err_holds _ _
+          (rw same at (up_to_first means folding g.row.WAYS all (sweep_from c.args.bucket was.cache was.pipe) first was
+          c.epochs.invariant.carries));
+      empty = search rules;
+      others = λ other apart. ap (λ x. list_at x other) c.make_ready.ensures.cache ∙ c.epochs.invariant.others other apart;
+      sizes = keeps_on _ _
+          _ c.epochs.invariant.sizes c.make_ready.ensures.sizes;
+      steps = search rules;
+      cost =
+          let first = c.args.front.now in
+          let evicting = evict_cost first.cache.key_words first.cache.entry_words in
+          let merging = merge_cost first.cache.key_words first.cache.entry_words (g.K.EpochKind.merge_bound first.kind) in
+          let sizes = c.epochs.invariant.sizes in
+          let merged : c.make_ready.new.steps ≤ c.epochs.steps + merging =
+          omega (arith, c.make_ready.ensures.cost, sizes.key_words, sizes.entry_words, ap g.K.EpochKind.merge_bound sizes.kind) in
+          merged_within c.args.steps.now c.epochs.steps c.make_ready.new.steps (held_in c.epochs.front.cache)
+          _ (held_in first.cache * (evicting + merging)) (evicting + merging) merging
+          (ap held_in c.make_ready.ensures.cache) merged c.epochs.invariant.cost;
+    }
 
-pub returns-in_err-make_ready-clause-others : goal.returns-in_err-make_ready-clause-others
-returns-in_err-make_ready-clause-others g c other apart =
-    ap (λ x. list_at x other) c.make_ready.ensures.cache ∙ c.epochs.invariant.others other apart
-
-pub returns-in_err-make_ready-clause-sizes : goal.returns-in_err-make_ready-clause-sizes
-returns-in_err-make_ready-clause-sizes g c =
-    keeps_on (with_store c.args.front.now c.args.store.now) (with_store c.epochs.front c.epochs.store)
-    (with_store c.make_ready.new.front c.make_ready.new.store)
-    c.epochs.invariant.sizes c.make_ready.ensures.sizes
-
-pub returns-in_err-make_ready-clause-cost : goal.returns-in_err-make_ready-clause-cost
-returns-in_err-make_ready-clause-cost g c =
-    let first = c.args.front.now in
-    let evicting = evict_cost first.cache.key_words first.cache.entry_words in
-    let merging = merge_cost first.cache.key_words first.cache.entry_words (g.K.EpochKind.merge_bound first.kind) in
-    let sizes = c.epochs.invariant.sizes in
-    let merged : c.make_ready.new.steps ≤ c.epochs.steps + merging =
-    omega (arith, c.make_ready.ensures.cost, sizes.key_words, sizes.entry_words, ap g.K.EpochKind.merge_bound sizes.kind) in
-    merged_within c.args.steps.now c.epochs.steps c.make_ready.new.steps (held_in c.epochs.front.cache)
-    (held_in c.make_ready.new.front.cache)
-    (held_in first.cache * (evicting + merging)) (evicting + merging) merging
-    (ap held_in c.make_ready.ensures.cache) merged c.epochs.invariant.cost
-
-pub returns-then-not-evict-clause-carries : goal.returns-then-not-evict-clause-carries
-returns-then-not-evict-clause-carries g c =
+pub returns-then-not-evict : goal.returns-then-not-evict
+returns-then-not-evict g c =
     let first = with_store c.args.front.now c.args.store.now in
     let was = with_store c.epochs.front c.epochs.store in
     let ready = with_store c.make_ready.new.front c.make_ready.new.store in
     let new = with_store c.evict.new.self c.make_ready.new.store in
     let bucket = c.args.bucket in
-    let all = sweep_from bucket first.cache first.pipe in
     let none : length (list_at ready.cache bucket) ≡ 0 = grind (arith, nat_tests, c.evict.ensures.some, c.if-not-evict.true) in
-    let none_was : length (list_at was.cache bucket) ≡ 0 = ap (λ x. length (list_at x bucket)) (sym c.make_ready.ensures.cache) ∙ none in
-    let same : new.cache ≡ was.cache = ap (λ x. x.cache) (c.evict.ensures.same c.if-not-evict.true) ∙ c.make_ready.ensures.cache in
-    let within : bucket < length was.cache.lists = omega (arith, c.requires.range, c.epochs.invariant.sizes.buckets) in
-    let places : new.pipe.places ≡ was.pipe.places = ap (λ x. x.pipe.places) (c.evict.ensures.same c.if-not-evict.true)
-    ∙ c.make_ready.ensures.sizes.places in
-    let records : length new.pipe.records ≡ left_waiting was.pipe.places (length was.pipe.records) =
-    ap (λ x. length x.pipe.records) (c.evict.ensures.same c.if-not-evict.true) ∙ c.in_ok-make_ready.ensures.waiting in
-    let coming = sweep_from (suc bucket) was.cache new.pipe in
-    let here = one_try g.K.EpochKind.stands g.K.EpochKind.folding g.row.WAYS bucket all coming first was ready new
-    c.epochs.invariant.carries c.in_ok-make_ready.ensures.carries (c.evict.ensures.carries c.make_ready.new.store)
-    (next_empty bucket was.cache was.pipe new.pipe within none_was places records) in
-    subst (λ x. CarriesUpTo g.K.EpochKind.stands g.K.EpochKind.folding g.row.WAYS all (sweep_from (suc bucket) x new.pipe) first new)
-    (sym same) here
-
-pub returns-then-not-evict-clause-empty : goal.returns-then-not-evict-clause-empty
-returns-then-not-evict-clause-empty g c =
-    let bucket = c.args.bucket in
-    let ready = c.make_ready.new.front in
-    let none : length (list_at ready.cache bucket) ≡ 0 = grind (arith, nat_tests, c.evict.ensures.some, c.if-not-evict.true) in
-    ap (λ x. length (list_at x.cache bucket)) (c.evict.ensures.same c.if-not-evict.true) ∙ none
-
-pub returns-then-not-evict-clause-others : goal.returns-then-not-evict-clause-others
-returns-then-not-evict-clause-others g c other apart =
-    ap (λ x. list_at x.cache other) (c.evict.ensures.same c.if-not-evict.true)
-    ∙ (ap (λ x. list_at x other) c.make_ready.ensures.cache ∙ c.epochs.invariant.others other apart)
-
-pub returns-then-not-evict-clause-sizes : goal.returns-then-not-evict-clause-sizes
-returns-then-not-evict-clause-sizes g c =
-    let first = with_store c.args.front.now c.args.store.now in
-    let was = with_store c.epochs.front c.epochs.store in
-    let ready = with_store c.make_ready.new.front c.make_ready.new.store in
-    let new = with_store c.evict.new.self c.make_ready.new.store in
-    keeps_on first was new c.epochs.invariant.sizes
-    (keeps_on was ready new c.make_ready.ensures.sizes (c.evict.ensures.carries c.make_ready.new.store).sizes)
-
-pub returns-then-not-evict-clause-cost : goal.returns-then-not-evict-clause-cost
-returns-then-not-evict-clause-cost g c =
-    let first = c.args.front.now in
-    let ready = c.make_ready.new.front in
-    let evicting = evict_cost first.cache.key_words first.cache.entry_words in
-    let merging = merge_cost first.cache.key_words first.cache.entry_words (g.K.EpochKind.merge_bound first.kind) in
-    let sizes = c.epochs.invariant.sizes in
-    let merged : c.make_ready.new.steps ≤ c.epochs.steps + merging =
-    omega (arith, c.make_ready.ensures.cost, sizes.key_words, sizes.entry_words, ap g.K.EpochKind.merge_bound sizes.kind) in
-    let failed : c.evict.result ≡ false = c.if-not-evict.true in
-    let none : c.evict.new.steps ≡ c.make_ready.new.steps + 0 =
-    subst (λ b. c.evict.new.steps ≡ c.make_ready.new.steps +
-    (if b then evict_cost ready.cache.key_words ready.cache.entry_words else 0)) failed c.evict.ensures.cost in
-    merged_within c.args.steps.now c.epochs.steps c.evict.new.steps (held_in c.epochs.front.cache) (held_in c.evict.new.self.cache)
-    (held_in first.cache * (evicting + merging)) (evicting + merging) merging
-    (ap (λ x. held_in x.cache) (c.evict.ensures.same failed) ∙ ap held_in c.make_ready.ensures.cache)
-    (omega (arith, merged, none)) c.epochs.invariant.cost
+    record {
+      carries =
+          let all = sweep_from bucket first.cache first.pipe in
+          let none_was = ap (λ x. length (list_at x bucket)) (sym c.make_ready.ensures.cache)
+          ∙ none in
+          let same = ap (λ x. x.cache) (c.evict.ensures.same c.if-not-evict.true) ∙ c.make_ready.ensures.cache in
+          let within : bucket < length was.cache.lists = omega (arith, c.requires.range, c.epochs.invariant.sizes.buckets) in
+          let places = ap (λ x. x.pipe.places) (c.evict.ensures.same c.if-not-evict.true)
+          ∙ c.make_ready.ensures.sizes.places in
+          let records =
+          ap (λ x. length x.pipe.records) (c.evict.ensures.same c.if-not-evict.true) ∙ c.in_ok-make_ready.ensures.waiting in
+          let coming = sweep_from (suc bucket) was.cache new.pipe in
+          let here = one_try _ _ _ _ _ _ _ _ ready _
+          c.epochs.invariant.carries c.in_ok-make_ready.ensures.carries (c.evict.ensures.carries c.make_ready.new.store)
+          (next_empty bucket was.cache was.pipe new.pipe within none_was places records) in
+          rw (← same) at here;
+      breaks_off = search rules;
+      empty =
+          let ready = c.make_ready.new.front in
+          ap (λ x. length (list_at x.cache bucket)) (c.evict.ensures.same c.if-not-evict.true) ∙ none;
+      others = λ other apart. ap (λ x. list_at x.cache other) (c.evict.ensures.same c.if-not-evict.true)
+          ∙ (ap (λ x. list_at x other) c.make_ready.ensures.cache ∙ c.epochs.invariant.others other apart);
+      sizes = keeps_on _ _ _ c.epochs.invariant.sizes (keeps_on _ _ _ c.make_ready.ensures.sizes
+          (c.evict.ensures.carries c.make_ready.new.store).sizes);
+      steps = search rules;
+      cost =
+          let first = c.args.front.now in
+          let ready = c.make_ready.new.front in
+          let evicting = evict_cost first.cache.key_words first.cache.entry_words in
+          let merging = merge_cost first.cache.key_words first.cache.entry_words (g.K.EpochKind.merge_bound first.kind) in
+          let sizes = c.epochs.invariant.sizes in
+          let merged : c.make_ready.new.steps ≤ c.epochs.steps + merging =
+          omega (arith, c.make_ready.ensures.cost, sizes.key_words, sizes.entry_words, ap g.K.EpochKind.merge_bound sizes.kind) in
+          let failed = c.if-not-evict.true in
+          let none : c.evict.new.steps ≡ c.make_ready.new.steps + 0 = rw failed at c.evict.ensures.cost in
+          merged_within c.args.steps.now c.epochs.steps c.evict.new.steps (held_in c.epochs.front.cache) _
+          (held_in first.cache * (evicting + merging)) (evicting + merging) merging
+          (ap (λ x. held_in x.cache) (c.evict.ensures.same failed) ∙ ap held_in c.make_ready.ensures.cache)
+          (omega (arith, merged, none)) c.epochs.invariant.cost;
+    }
 
 pub epochs-preserved : goal.epochs-preserved
 epochs-preserved g c =
@@ -190,6 +172,6 @@ epochs-smaller g c =
     let some : 0 < length (list_at ready.cache bucket) = grind (arith, nat_tests, c.evict.ensures.some, c.if-not-evict.false) in
     let within : bucket < length ready.cache.lists =
     omega (arith, c.requires.range, c.epochs.invariant.sizes.buckets, c.make_ready.ensures.sizes.buckets) in
-    let less = evicted_shorter ready.cache c.evict.new.self.cache bucket within some c.evict.ensures.cache in
+    let less = evicted_shorter ready.cache _ bucket within some c.evict.ensures.cache in
     let same = ap (λ x. length (list_at x bucket)) c.make_ready.ensures.cache in
     omega arith

@@ -2,7 +2,7 @@
 use Rattle.std.proofs.Common.{rules, ◌≡◌, Ok, suc, [], ◌∷◌, length, replicate, refl, sym, ap, ◌∙◌, subst, arith, length-drop}
 use Rattle.epoch_model.specs.Machine.{Merge}
 use Rattle.switch_core.specs.Costs.{merge_cost}
-use Rattle.switch_core.specs.FrontEvents.{CarriesFirst, CarriesUpTo, with_store}
+use Rattle.switch_core.specs.FrontEvents.{CarriesUpTo, with_store}
 use Rattle.switch_core.proofs.Carrying.{fits_kept, keeps_on, keeps_same, keeps_start, same_store, up_to_first, up_to_on, up_to_start}
 use Rattle.switch_core.proofs.Carrying.{up_to_whole}
 use Rattle.switch_core.proofs.Emptying.{merges_more, merges_within, not_empty}
@@ -14,8 +14,8 @@ records-init g c =
     let first = c.args.front.now in
     let here = with_store first c.args.store.now in
     record {
-      carries = up_to_start g.K.EpochKind.stands g.K.EpochKind.folding g.row.WAYS (replicate (suc (length first.pipe.records)) Merge) here;
-      sizes = keeps_start here;
+      carries = up_to_start _ _ g.row.WAYS (replicate (suc (length first.pipe.records)) Merge) here;
+      sizes = keeps_start _;
       later = omega arith;
       cost = omega arith;
     }
@@ -24,7 +24,7 @@ pub merge_into-requires : goal.merge_into-requires
 merge_into-requires g c =
     let first = with_store c.args.front.now c.args.store.now in
     let was = with_store c.records.front c.records.store in
-    (search rules, fits_kept g.K.EpochKind.sizes first was c.records.invariant.sizes c.requires)
+    (search rules, fits_kept g.K.EpochKind.sizes _ _ c.records.invariant.sizes c.requires)
 
 pub records-preserved : goal.records-preserved
 records-preserved g c =
@@ -64,83 +64,79 @@ pub records-smaller : goal.records-smaller
 records-smaller g c =
     let was = c.records.front in
     let some : length was.pipe.records ≡ 0 → ⊥ =
-    λ none. not_empty c.merge_into.result c.in_ok-merge_into.field-0 c.in_ok-merge_into.was c.in-Done.is
+    λ none. not_empty c.merge_into.result _ c.in_ok-merge_into.was c.in-Done.is
     (c.merge_into.ensures.empty.1 none) in
     let left = ap length c.in_ok-merge_into.ensures.records ∙ length-drop 1 was.pipe.records in
     omega arith
 
-pub returns-clause-carries : goal.returns-clause-carries
-returns-clause-carries g c =
-    let first = with_store c.args.front.now c.args.store.now in
-    let was = with_store c.records.front c.records.store in
-    let new = with_store c.merge_into.new.self c.merge_into.new.store in
-    let none : length was.pipe.records ≡ 0 = c.merge_into.ensures.empty.0 (c.in_ok-merge_into.was ∙ ap Ok c.in_default.is) in
-    let all = replicate (suc (length first.pipe.records)) Merge in
-    let means = g.K.EpochKind.stands in
-    let folding = g.K.EpochKind.folding in
-    up_to_whole means folding g.row.WAYS all first new
-    (up_to_on means folding g.row.WAYS all (Merge ∷ []) [] first was new
-    (subst (λ n. CarriesUpTo means folding g.row.WAYS all (replicate (suc n) Merge) first was) none c.records.invariant.carries)
-    (new, c.in_ok-merge_into.ensures.carries, refl))
+pub returns : goal.returns
+returns g c =
+    record {
+      carries =
+          let first = with_store c.args.front.now c.args.store.now in
+          let was = with_store c.records.front c.records.store in
+          let new = with_store c.merge_into.new.self c.merge_into.new.store in
+          let none : length was.pipe.records ≡ 0 = c.merge_into.ensures.empty.0 (c.in_ok-merge_into.was ∙ ap Ok c.in_default.is) in
+          let all = replicate (suc (length first.pipe.records)) Merge in
+          let means = g.K.EpochKind.stands in
+          let folding = g.K.EpochKind.folding in
+          up_to_whole means folding g.row.WAYS all first new (up_to_on means folding g.row.WAYS all (Merge ∷ []) [] first was new
+          (subst (λ n. CarriesUpTo means folding g.row.WAYS all (replicate (suc n) Merge) first was) none c.records.invariant.carries)
+          (new, c.in_ok-merge_into.ensures.carries, refl));
+      breaks_off = search rules;
+      empty =
+          let was = c.records.front in
+          let none : length was.pipe.records ≡ 0 = c.merge_into.ensures.empty.0 (c.in_ok-merge_into.was ∙ ap Ok c.in_default.is) in
+          let left = ap length c.in_ok-merge_into.ensures.records ∙ length-drop 1 was.pipe.records in
+          omega arith;
+      sizes = keeps_on (with_store c.args.front.now c.args.store.now) (with_store c.records.front c.records.store)
+          (with_store c.merge_into.new.self c.merge_into.new.store) c.records.invariant.sizes c.in_ok-merge_into.ensures.carries.sizes;
+      steps = search rules;
+      cost =
+          let first = c.args.front.now in
+          let before = c.records.invariant in
+          merges_within c.args.steps.now c.records.steps c.merge_into.new.steps (length first.pipe.records)
+          (length c.records.front.pipe.records) (merge_cost first.cache.key_words first.cache.entry_words
+          (g.K.EpochKind.merge_bound first.kind)) (omega (
+            arith,
+            c.merge_into.ensures.cost,
+            before.sizes.key_words,
+            before.sizes.entry_words,
+            ap g.K.EpochKind.merge_bound before.sizes.kind,
+          )) before.cost;
+    }
 
-pub returns-clause-empty : goal.returns-clause-empty
-returns-clause-empty g c =
-    let was = c.records.front in
-    let none : length was.pipe.records ≡ 0 = c.merge_into.ensures.empty.0 (c.in_ok-merge_into.was ∙ ap Ok c.in_default.is) in
-    let left = ap length c.in_ok-merge_into.ensures.records ∙ length-drop 1 was.pipe.records in
-    omega arith
-
-pub returns-clause-sizes : goal.returns-clause-sizes
-returns-clause-sizes g c =
-    keeps_on (with_store c.args.front.now c.args.store.now) (with_store c.records.front c.records.store)
-    (with_store c.merge_into.new.self c.merge_into.new.store) c.records.invariant.sizes c.in_ok-merge_into.ensures.carries.sizes
-
-pub returns-clause-cost : goal.returns-clause-cost
-returns-clause-cost g c =
-    let first = c.args.front.now in
-    let before = c.records.invariant in
-    merges_within c.args.steps.now c.records.steps c.merge_into.new.steps (length first.pipe.records) (length c.records.front.pipe.records)
-    (merge_cost first.cache.key_words first.cache.entry_words (g.K.EpochKind.merge_bound first.kind))
-    (omega (
-      arith,
-      c.merge_into.ensures.cost,
-      before.sizes.key_words,
-      before.sizes.entry_words,
-      ap g.K.EpochKind.merge_bound
-          before.sizes.kind,
-    )) before.cost
-
-pub returns-in_err-merge_into-clause-breaks_off : goal.returns-in_err-merge_into-clause-breaks_off
-returns-in_err-merge_into-clause-breaks_off g c =
-    let first = with_store c.args.front.now c.args.store.now in
-    let was = with_store c.records.front c.records.store in
-    let new = with_store c.merge_into.new.self c.merge_into.new.store in
-    let all = replicate (suc (length first.pipe.records)) Merge in
-    let means = g.K.EpochKind.stands in
-    let folding = g.K.EpochKind.folding in
-    let same : was ≡ new = sym (same_store c.records.front c.merge_into.new.self c.records.store c.merge_into.new.store
-    c.in_err-merge_into.ensures.err) in
-    err_holds c.from_residual.result (CarriesFirst means folding g.row.WAYS all first new)
-    (subst (CarriesFirst means folding g.row.WAYS all first) same
-    (up_to_first means folding g.row.WAYS all (replicate (suc (length was.pipe.records)) Merge) first was c.records.invariant.carries))
-
-pub returns-in_err-merge_into-clause-sizes : goal.returns-in_err-merge_into-clause-sizes
-returns-in_err-merge_into-clause-sizes g c =
-    keeps_on (with_store c.args.front.now c.args.store.now) (with_store c.records.front c.records.store)
-    (with_store c.merge_into.new.self c.merge_into.new.store) c.records.invariant.sizes
-    (keeps_same c.records.front c.merge_into.new.self c.records.store c.merge_into.new.store c.in_err-merge_into.ensures.err)
-
-pub returns-in_err-merge_into-clause-cost : goal.returns-in_err-merge_into-clause-cost
-returns-in_err-merge_into-clause-cost g c =
-    let first = c.args.front.now in
-    let before = c.records.invariant in
-    merges_within c.args.steps.now c.records.steps c.merge_into.new.steps (length first.pipe.records) (length c.records.front.pipe.records)
-    (merge_cost first.cache.key_words first.cache.entry_words (g.K.EpochKind.merge_bound first.kind))
-    (omega (
-      arith,
-      c.merge_into.ensures.cost,
-      before.sizes.key_words,
-      before.sizes.entry_words,
-      ap g.K.EpochKind.merge_bound
-          before.sizes.kind,
-    )) before.cost
+pub returns-in_err-merge_into : goal.returns-in_err-merge_into
+returns-in_err-merge_into g c =
+    record {
+      carries = search rules;
+      breaks_off =
+          let first = with_store c.args.front.now c.args.store.now in
+          let was = with_store c.records.front c.records.store in
+          let new = with_store c.merge_into.new.self c.merge_into.new.store in
+          let all = replicate (suc (length first.pipe.records)) Merge in
+          let means = g.K.EpochKind.stands in
+          let folding = g.K.EpochKind.folding in
+          let same = sym (same_store _ c.merge_into.new.self _ _
+          c.in_err-merge_into.ensures.err) in
+          err_holds _ _
+          (rw same at (up_to_first means folding g.row.WAYS all (replicate (suc (length was.pipe.records)) Merge) first was
+          c.records.invariant.carries));
+      empty = search rules;
+      sizes = keeps_on _ _
+          _ c.records.invariant.sizes
+          (keeps_same _ c.merge_into.new.self _ c.merge_into.new.store c.in_err-merge_into.ensures.err);
+      steps = search rules;
+      cost =
+          let first = c.args.front.now in
+          let before = c.records.invariant in
+          merges_within c.args.steps.now c.records.steps c.merge_into.new.steps (length first.pipe.records)
+          (length c.records.front.pipe.records) (merge_cost first.cache.key_words first.cache.entry_words
+          (g.K.EpochKind.merge_bound first.kind)) (omega (
+            arith,
+            c.merge_into.ensures.cost,
+            before.sizes.key_words,
+            before.sizes.entry_words,
+            ap g.K.EpochKind.merge_bound before.sizes.kind,
+          )) before.cost;
+    }

@@ -12,4 +12,4 @@ returns-clause-sizes g c = c.in_ok-_merged.ensures.carries.sizes
 
 pub returns-in_err-_merged-clause-sizes : goal.returns-in_err-_merged-clause-sizes
 returns-in_err-_merged-clause-sizes g c =
-    keeps_same c.args.front.now c.merge_into.new.self c.args.store.now c.merge_into.new.store c.in_err-_merged.ensures.err
+    keeps_same _ c.merge_into.new.self _ c.merge_into.new.store c.in_err-_merged.ensures.err

@@ -1,6 +1,4 @@
-use Rattle.std.proofs.Common.{◌≡◌, ℕ, ◌+◌, true, ◌<◌, ◌≤◌, [], ◌++◌, take, drop, length, refl, sym, ap, ◌∙◌, subst, arith, get_or}
-use Rattle.std.proofs.lemmas.Bool.Decides.{nat_tests}
-use Rattle.std.proofs.Math.Seq.{take-append_seam}
+use Rattle.std.proofs.Common.{rules, ◌≡◌, ℕ, ◌+◌, ◌<◌, ◌≤◌, length, refl, sym, ap, ◌∙◌, subst, arith}
 use Rattle.epoch_model.specs.Machine.{Merge}
 use Rattle.switch_core.specs.Costs.{merge_cost}
 use Rattle.switch_core.specs.FrontParts.{FitsStore, front_of}
@@ -8,78 +6,72 @@ use Rattle.switch_core.specs.FrontEvents.{FrontMakes, MergesNext}
 use Rattle.switch_core.specs.Lanes.{RecordStands}
 use Rattle.epoch_model.proofs.Endings.{no_end}
 use Rattle.switch_core.proofs.MergeSteps.{front_merged, next_held}
-use Rattle.switch_core.proofs.FrontSizes.{front_kept, parts_kept}
+use Rattle.switch_core.proofs.FrontSizes.{SameSizes, front_kept, parts_kept}
 use Rattle.switch_core.proofs.front.Front.merge_oldest.Goals as goal
 
-pub returns-clause-makes : goal.returns-clause-makes
-returns-clause-makes g c =
+pub returns : goal.returns
+returns g c =
     let old = c.self.inside in
-    let new = front_of old.kind old.cache c.drop_front.new.self in
     let some : 0 < length old.pipe.records = subst (λ x. 0 < length x.pipe.records) (sym c.self.view_is) c.requires.some in
-    subst (λ x. FrontMakes (g.K.EpochKind.stands x.kind) g.row.WAYS Merge x new) c.self.view_is
     record {
-      stands = λ m s. front_merged (g.K.EpochKind.stands old.kind) old.cache old.pipe c.drop_front.new.self m some
-          (ap (λ p. p.records) c.drop_front.ensures) s;
-      kind = refl;
-      buckets = refl;
-      key_words = refl;
-      entry_words = refl;
-      places = ap (λ p. p.places) c.drop_front.ensures;
+      makes =
+          let new = front_of old.kind old.cache c.drop_front.new.self in
+          subst (λ x. FrontMakes (g.K.EpochKind.stands x.kind) g.row.WAYS Merge x new) c.self.view_is record {
+            stands = λ m s. front_merged (g.K.EpochKind.stands old.kind) old.cache old.pipe c.drop_front.new.self m some
+                (ap (λ p. p.records) c.drop_front.ensures) s;
+            kind = refl;
+            buckets = refl;
+            key_words = refl;
+            entry_words = refl;
+            places =
+                ap (λ p. p.places) c.drop_front.ensures;
+          };
+      held =
+          let stands = g.K.EpochKind.stands old.kind in
+          let f = g.K.EpochKind.folding old.kind in
+          let key : c.args.store.now.key_words ≡ old.cache.key_words =
+          subst (λ x. c.args.store.now.key_words ≡ x.cache.key_words) (sym c.self.view_is) c.requires.fits.key in
+          subst (λ x. MergesNext (g.K.EpochKind.stands x.kind) (g.K.EpochKind.folding x.kind) x c.args.store.now c.merge_record.new.store)
+          c.self.view_is (λ m epochs s held. next_held stands f old.cache old.pipe c.args.store.now c.merge_record.new.store m epochs
+          some (λ epoch stood kept. c.in_ok-merge_record.ensures.ok epoch epochs
+          (subst (λ n. RecordStands stands n c.front.result.now epoch) (sym key)
+          (subst (λ ws. RecordStands stands old.cache.key_words ws epoch) (sym c.front.ensures.words) stood)) kept) s held);
+      fits = subst (λ x. FitsStore (g.K.EpochKind.sizes x.kind) x.cache c.merge_record.new.store) (sym c.self.view_is) record {
+        key = c.merge_record.ensures.key_words ∙ c.requires.fits.key;
+        state = c.merge_record.ensures.state_words
+            ∙ c.requires.fits.state;
+      };
+      err = search rules;
+      records = search rules;
+      kind = ap (λ x. x.kind) c.self.view_is;
+      cache = ap (λ x. x.cache) c.self.view_is;
+      steps = c.merge_record.ensures.steps;
+      cost =
+          let merged = c.merge_record.ensures.cost in
+          subst (λ x. c.merge_record.new.steps ≤ c.args.steps.now + merge_cost x.cache.key_words x.cache.entry_words
+          (g.K.EpochKind.merge_bound x.kind)) c.self.view_is (omega arith);
     }
 
-pub returns-clause-held : goal.returns-clause-held
-returns-clause-held g c =
-    let old = c.self.inside in
-    let stands = g.K.EpochKind.stands old.kind in
-    let f = g.K.EpochKind.folding old.kind in
-    let some : 0 < length old.pipe.records = subst (λ x. 0 < length x.pipe.records) (sym c.self.view_is) c.requires.some in
-    let key : c.args.store.now.key_words ≡ old.cache.key_words = subst (λ x. c.args.store.now.key_words ≡ x.cache.key_words)
-    (sym c.self.view_is) c.requires.fits.key in
-    subst (λ x. MergesNext (g.K.EpochKind.stands x.kind) (g.K.EpochKind.folding x.kind) x c.args.store.now c.merge_record.new.store)
-    c.self.view_is
-    (λ m epochs s held. next_held stands f old.cache old.pipe c.args.store.now c.merge_record.new.store m epochs some
-    (λ epoch stood kept. c.in_ok-merge_record.ensures.ok epoch epochs
-    (subst (λ n. RecordStands stands n c.front.result.now epoch) (sym key)
-    (subst (λ ws. RecordStands stands old.cache.key_words ws epoch) (sym c.front.ensures.words) stood)) kept) s held)
-
-pub returns-clause-cost : goal.returns-clause-cost
-returns-clause-cost g c =
-    let merged = c.merge_record.ensures.cost in
-    subst (λ x. c.merge_record.new.steps ≤ c.args.steps.now + merge_cost x.cache.key_words x.cache.entry_words
-    (g.K.EpochKind.merge_bound x.kind)) c.self.view_is (omega arith)
-
-pub returns-in_err-merge_record-clause-cost : goal.returns-in_err-merge_record-clause-cost
-returns-in_err-merge_record-clause-cost g c =
-    let merged = c.merge_record.ensures.cost in
-    subst (λ x. c.merge_record.new.steps ≤ c.args.steps.now + merge_cost x.cache.key_words x.cache.entry_words
-    (g.K.EpochKind.merge_bound x.kind)) c.self.view_is (omega arith)
-
-pub returns-in_err-merge_record-clause-makes : goal.returns-in_err-merge_record-clause-makes
-returns-in_err-merge_record-clause-makes g c = no_end c.from_residual.result _ c.from_residual.ensures.0
-
-pub returns-in_err-merge_record-clause-held : goal.returns-in_err-merge_record-clause-held
-returns-in_err-merge_record-clause-held g c = no_end c.from_residual.result _ c.from_residual.ensures.0
-
-pub returns-in_err-merge_record-clause-records : goal.returns-in_err-merge_record-clause-records
-returns-in_err-merge_record-clause-records g c = no_end c.from_residual.result _ c.from_residual.ensures.0
-
-pub returns-in_err-merge_record-clause-kind : goal.returns-in_err-merge_record-clause-kind
-returns-in_err-merge_record-clause-kind g c = ap (λ x. x.kind) c.self.view_is
-
-pub returns-in_err-merge_record-clause-cache : goal.returns-in_err-merge_record-clause-cache
-returns-in_err-merge_record-clause-cache g c = ap (λ x. x.cache) c.self.view_is
-
-pub returns-in_err-merge_record-clause-steps : goal.returns-in_err-merge_record-clause-steps
-returns-in_err-merge_record-clause-steps g c = c.merge_record.ensures.steps
-
-pub returns-clause-kind : goal.returns-clause-kind
-returns-clause-kind g c = ap (λ x. x.kind) c.self.view_is
-
-pub returns-clause-cache : goal.returns-clause-cache
-returns-clause-cache g c = ap (λ x. x.cache) c.self.view_is
-
-pub returns-clause-steps : goal.returns-clause-steps
-returns-clause-steps g c = c.merge_record.ensures.steps
+pub returns-in_err-merge_record : goal.returns-in_err-merge_record
+returns-in_err-merge_record g c =
+    record {
+      makes = no_end c.from_residual.result _ c.from_residual.ensures.0;
+      held = no_end c.from_residual.result _ c.from_residual.ensures.0;
+      fits = subst (λ x. FitsStore (g.K.EpochKind.sizes x.kind) x.cache c.merge_record.new.store) (sym c.self.view_is) record {
+        key = c.merge_record.ensures.key_words ∙ c.requires.fits.key;
+        state = c.merge_record.ensures.state_words
+            ∙ c.requires.fits.state;
+      };
+      err = search rules;
+      records = no_end c.from_residual.result _ c.from_residual.ensures.0;
+      kind = ap (λ x. x.kind) c.self.view_is;
+      cache = ap (λ x. x.cache) c.self.view_is;
+      steps = c.merge_record.ensures.steps;
+      cost =
+          let merged = c.merge_record.ensures.cost in
+          subst (λ x. c.merge_record.new.steps ≤ c.args.steps.now + merge_cost x.cache.key_words x.cache.entry_words
+          (g.K.EpochKind.merge_bound x.kind)) c.self.view_is (omega arith);
+    }
 
 pub merge_record-requires-clause-state : goal.merge_record-requires-clause-state
 merge_record-requires-clause-state g c =
@@ -98,22 +90,6 @@ merge_record-requires-clause-initial_words g c =
 pub merge_record-requires-clause-scratch : goal.merge_record-requires-clause-scratch
 merge_record-requires-clause-scratch g c =
     ap length c.deref_mut.ensures.value ∙ c.self.invariant.scratch_words
-
-pub returns-in_err-merge_record-clause-fits : goal.returns-in_err-merge_record-clause-fits
-returns-in_err-merge_record-clause-fits g c =
-    subst (λ x. FitsStore (g.K.EpochKind.sizes x.kind) x.cache c.merge_record.new.store) (sym c.self.view_is)
-    record {
-      key = c.merge_record.ensures.key_words ∙ c.requires.fits.key;
-      state = c.merge_record.ensures.state_words ∙ c.requires.fits.state;
-    }
-
-pub returns-clause-fits : goal.returns-clause-fits
-returns-clause-fits g c =
-    subst (λ x. FitsStore (g.K.EpochKind.sizes x.kind) x.cache c.merge_record.new.store) (sym c.self.view_is)
-    record {
-      key = c.merge_record.ensures.key_words ∙ c.requires.fits.key;
-      state = c.merge_record.ensures.state_words ∙ c.requires.fits.state;
-    }
 
 same_sum : (w k e key entry : ℕ) → w ≡ k + e → key ≡ k → e ≡ entry → w ≡ key + entry
 same_sum w k e key entry whole hk he = omega arith
@@ -134,7 +110,8 @@ pub invariant_of-self-2 : goal.invariant_of-self-2
 invariant_of-self-2 g c =
     let old = c.self.inside in
     let pipe = c.drop_front.new.self in
-    let front = front_kept g.row.WAYS (g.K.EpochKind.sizes old.kind) old.cache old.cache old.pipe pipe refl refl refl
+    let same : SameSizes old.cache old.cache = record { buckets = refl; key_words = refl; entry_words = refl } in
+    let front = front_kept g.row.WAYS (g.K.EpochKind.sizes old.kind) old.cache old.cache old.pipe pipe same
     (ap (λ p. p.places) c.drop_front.ensures) (ap (λ p. p.record_words) c.drop_front.ensures) c.self.invariant.front in
     parts_kept _ _ _ old.cache old.cache old.pipe pipe _ _ _ c.merge_record.new.scratch _ front
     c.deref_mut.ensures.value c.deref_mut.ensures.len c.merge_record.auto.scratch c.self.invariant

@@ -1,5 +1,5 @@
 -- An upkeep of a lane's front, with the lane's store.
-use Rattle.std.proofs.Common.{◌≤◌, ◌+◌, OnErr, OnOk, subst}
+use Rattle.std.proofs.Common.{rules, ◌≤◌, ◌+◌, OnErr, OnOk, subst}
 use Rattle.switch_core.specs.FrontEvents.{CarriesAll, CarriesFirst, with_store}
 use Rattle.switch_core.specs.Upkeeps.{upkeep_cost, upkeep_events}
 use Rattle.switch_core.proofs.Carrying.{fits_kept}
@@ -11,21 +11,15 @@ invariant_of-self g c =
     fits_kept g.K.EpochKind.sizes (with_store old.front old.store)
     (with_store c.keep_up.new.front c.keep_up.new.store) c.keep_up.ensures.sizes c.self.invariant
 
-pub returns-clause-carries : goal.returns-clause-carries
-returns-clause-carries g c =
-    let new = with_store c.keep_up.new.front c.keep_up.new.store in
-    subst (λ x. OnOk c.keep_up.result (CarriesAll g.K.EpochKind.stands g.K.EpochKind.folding g.row.WAYS
-    (upkeep_events c.args.upkeep x.cache x.pipe) x new))
-    c.self.view_is c.keep_up.ensures.carries
-
-pub returns-clause-breaks_off : goal.returns-clause-breaks_off
-returns-clause-breaks_off g c =
-    let new = with_store c.keep_up.new.front c.keep_up.new.store in
-    subst (λ x. OnErr c.keep_up.result (CarriesFirst g.K.EpochKind.stands g.K.EpochKind.folding g.row.WAYS
-    (upkeep_events c.args.upkeep x.cache x.pipe) x new))
-    c.self.view_is c.keep_up.ensures.breaks_off
-
-pub returns-clause-cost : goal.returns-clause-cost
-returns-clause-cost g c =
-    subst (λ x. c.keep_up.new.steps ≤ c.args.steps.now + upkeep_cost c.args.upkeep x.cache x.pipe (g.K.EpochKind.merge_bound x.kind))
-    c.self.view_is c.keep_up.ensures.cost
+pub returns : goal.returns
+returns g c =
+    let new = with_store c.keep_up.new.front c.keep_up.new.store in record {
+      carries = subst (λ x. OnOk c.keep_up.result (CarriesAll g.K.EpochKind.stands g.K.EpochKind.folding g.row.WAYS
+          (upkeep_events c.args.upkeep x.cache x.pipe) x new)) c.self.view_is c.keep_up.ensures.carries;
+      breaks_off = subst (λ x. OnErr c.keep_up.result (CarriesFirst g.K.EpochKind.stands g.K.EpochKind.folding g.row.WAYS
+          (upkeep_events c.args.upkeep x.cache x.pipe) x new)) c.self.view_is c.keep_up.ensures.breaks_off;
+      left = search rules;
+      steps = search rules;
+      cost = subst (λ x. c.keep_up.new.steps ≤ c.args.steps.now + upkeep_cost c.args.upkeep x.cache x.pipe
+          (g.K.EpochKind.merge_bound x.kind)) c.self.view_is c.keep_up.ensures.cost;
+    }

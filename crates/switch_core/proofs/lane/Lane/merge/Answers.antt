@@ -1,4 +1,3 @@
-use Rattle.std.proofs.Common.{OnOk, subst}
 use Rattle.epoch_model.specs.Machine.{Merge}
 use Rattle.switch_core.specs.FrontEvents.{FrontMakes, MergesNext}
 use Rattle.switch_core.specs.LaneEvents.{Makes, parts}
@@ -12,9 +11,7 @@ returns-clause-stands g c =
     let f = g.K.EpochKind.folding old.front.kind in
     let new = c.merge_into.new.self in
     let store = c.merge_into.new.store in
-    subst (λ x. OnOk c.merge_into.result (Makes (g.K.EpochKind.stands x.kind) (g.K.EpochKind.folding x.kind) g.row.WAYS Merge
-    (parts x.cache x.pipe x.store) (parts new.cache new.pipe store))) c.self.view_is
-    (on_both (FrontMakes stands g.row.WAYS Merge old.front new) (MergesNext stands f old.front old.store store)
+    rw (← c.self.view_is) (on_both (FrontMakes stands g.row.WAYS Merge old.front new) (MergesNext stands f old.front old.store store)
     (Makes stands f g.row.WAYS Merge (parts old.front.cache old.front.pipe old.store) (parts new.cache new.pipe store))
     c.merge_into.result
     (lane_merge stands f g.row.WAYS old.front new old.store store) c.merge_into.ensures.makes c.merge_into.ensures.held)

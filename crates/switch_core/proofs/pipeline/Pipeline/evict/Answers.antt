@@ -1,11 +1,6 @@
-use Rattle.std.proofs.Common.{◌≡◌, ◌++◌, Some, length, take, drop, sym, ap, ◌∙◌, subst, arith, lit<}
+use Rattle.std.proofs.Common.{◌≡◌, Some, length, ap, ◌∙◌, subst, arith, lit<}
 use Rattle.std.specs.Prelude.{slice_get}
-use Rattle.epoch_model.specs.Machine.{Evict}
-use Rattle.switch_core.specs.Rows.{Each}
-use Rattle.switch_core.specs.Pipelines.{event_at}
-use Rattle.switch_core.specs.PlanLanes.{AreLanesOf, LaneMakes, LanesMake, IsMadeFor, PipelineMakes, PipelineView}
-use Rattle.switch_core.proofs.LaneFacts.{whole_written}
-use Rattle.switch_core.proofs.PipelineSteps.{makes_sizes, lanes_kept, made_kept, lanes_many, pipeline_makes}
+use Rattle.switch_core.proofs.PipelineSteps.{given_back, lanes_many}
 use Rattle.switch_core.proofs.pipeline.Pipeline.evict.Goals as goal
 
 pub evict_at-requires : goal.evict_at-requires
@@ -30,43 +25,12 @@ evict_at-requires g c =
 
 pub invariant_of-self : goal.invariant_of-self
 invariant_of-self g c =
-    let p = c.self.inside in
-    let new = c.evict_at.new.lanes in
-    let events = event_at c.args.lane (Evict c.args.bucket) in
-    let whole : take p.lanes.len (new ++ drop (length new) p.lanes.items) ≡ new = whole_written new
-    (drop (length new) p.lanes.items) p.lanes.len (c.evict_at.auto.lanes ∙ c.deref_mut.ensures.len) in
-    let kept : AreLanesOf p.entries p.plan p.buckets new =
-    lanes_kept (λ n. LaneMakes g.row.WAYS (events n)) (λ n a b m. makes_sizes g.row.WAYS (events n) a b m)
-    p.entries p.plan p.buckets 0 c.deref_mut.result.now new p.plan.groups c.evict_at.ensures.makes
-    (subst (λ x. AreLanesOf p.entries p.plan p.buckets x) (sym c.deref_mut.ensures.value) c.self.invariant.lanes) in
-    let bounded : Each IsMadeFor new p.plan.groups =
-    made_kept (λ n. LaneMakes g.row.WAYS (events n)) (λ n a b m. makes_sizes g.row.WAYS (events n) a b m)
-    0 c.deref_mut.result.now new p.plan.groups c.evict_at.ensures.makes
-    (subst (λ x. Each IsMadeFor x p.plan.groups) (sym c.deref_mut.ensures.value) c.self.invariant.made) in
-    record {
-      lanes = subst (λ x. AreLanesOf p.entries p.plan p.buckets x) (sym whole) kept;
-      made = subst
-          (λ x. Each IsMadeFor x p.plan.groups) (sym whole) bounded;
-      rooms = c.self.invariant.rooms;
-      few_ways = c.self.invariant.few_ways;
-    }
+    let after = given_back _ _ _ c.self.inside.plan _ _ _ _ _ c.deref_mut.ensures.value (c.evict_at.auto.lanes ∙ c.deref_mut.ensures.len)
+    c.evict_at.ensures.makes c.self.invariant.lanes c.self.invariant.made in
+    record { lanes = after.kept.lanes; made = after.kept.made; rooms = c.self.invariant.rooms; few_ways = c.self.invariant.few_ways }
 
 pub returns-clause-makes : goal.returns-clause-makes
 returns-clause-makes g c =
-    let p = c.self.inside in
-    let new = c.evict_at.new.lanes in
-    let events = event_at c.args.lane (Evict c.args.bucket) in
-    let whole : take p.lanes.len (new ++ drop (length new) p.lanes.items) ≡ new = whole_written new
-    (drop (length new) p.lanes.items) p.lanes.len (c.evict_at.auto.lanes ∙ c.deref_mut.ensures.len) in
-    let lanes : LanesMake g.row.WAYS events p.lanes.items ((take p.lanes.len (new ++ drop (length new) p.lanes.items))) =
-    subst (λ x. LanesMake g.row.WAYS events p.lanes.items x) (sym whole)
-    (subst (λ x. LanesMake g.row.WAYS events x new) c.deref_mut.ensures.value c.evict_at.ensures.makes) in
-    let after : PipelineView = record {
-      plan = p.plan;
-      entries = p.entries;
-      buckets = p.buckets;
-      lanes =
-          (take p.lanes.len (new ++ drop (length new) p.lanes.items));
-    } in
-    subst (λ v. PipelineMakes g.row.WAYS events v after) c.self.view_is
-    (pipeline_makes g.row.WAYS events p.entries p.plan p.buckets p.lanes.items after.lanes c.self.invariant.lanes lanes)
+    let after = given_back _ _ _ c.self.inside.plan _ _ _ _ _ c.deref_mut.ensures.value (c.evict_at.auto.lanes ∙ c.deref_mut.ensures.len)
+    c.evict_at.ensures.makes c.self.invariant.lanes c.self.invariant.made in
+    rw (← c.self.view_is) after.makes

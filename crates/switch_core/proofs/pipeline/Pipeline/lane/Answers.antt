@@ -1,4 +1,4 @@
-use Rattle.std.proofs.Common.{◌≡◌, ◌∙◌, Some, length, sym, ap, subst, arith}
+use Rattle.std.proofs.Common.{rules, ◌≡◌, ◌∙◌, Some, length, sym, ap, subst, arith}
 use Rattle.std.specs.Prelude.{slice_get}
 use Rattle.epoch_entry.specs.Purposes.{IsKindFor}
 use Rattle.epoch_entry.specs.contracts.any.AnyEpochsEpochKind.TheImpl.{ghosts}
@@ -7,26 +7,21 @@ use Rattle.switch_core.proofs.PipelineSteps.{kind_at, made_at}
 use Rattle.switch_core.proofs.SideBySide.{got_here}
 use Rattle.switch_core.proofs.pipeline.Pipeline.lane.Goals as goal
 
-pub returns-clause-kind : goal.returns-clause-kind
-returns-clause-kind g c group f at is =
+pub returns : goal.returns
+returns g c =
     let p = c.self.inside in
     let lane : LaneView = c.index.result.now in
     let view : PipelineView = record { plan = p.plan; entries = p.entries; buckets = p.buckets; lanes = p.lanes.items } in
     let long = ap (λ (v : PipelineView). length v.lanes) c.self.view_is in
-    let here = got_here p.lanes.items c.args.lane c.index.result.now (let within = c.requires in omega arith) ∙ ap Some
-    (sym c.index.ensures) in
-    let own = kind_at view c.args.lane lane group f c.self.invariant.lanes here
-    (subst (λ (v : PipelineView). slice_get v.plan.groups c.args.lane ≡ Some group) (sym c.self.view_is) at) is in
-    subst (λ (v : PipelineView). IsKindFor v.entries f (ghosts.sizes lane.kind) (ghosts.folding lane.kind) (ghosts.open_bound lane.kind)
-    (ghosts.absorb_bound lane.kind)) c.self.view_is own
-
-pub returns-clause-made : goal.returns-clause-made
-returns-clause-made g c group at =
-    let p = c.self.inside in
-    let lane : LaneView = c.index.result.now in
-    let view : PipelineView = record { plan = p.plan; entries = p.entries; buckets = p.buckets; lanes = p.lanes.items } in
-    let long = ap (λ (v : PipelineView). length v.lanes) c.self.view_is in
-    let here = got_here p.lanes.items c.args.lane c.index.result.now (let within = c.requires in omega arith) ∙ ap Some
-    (sym c.index.ensures) in
-    made_at view c.args.lane lane group c.self.invariant.made here
-    (subst (λ (v : PipelineView). slice_get v.plan.groups c.args.lane ≡ Some group) (sym c.self.view_is) at)
+    let here = got_here p.lanes.items c.args.lane c.index.result.now (let within = c.requires in omega arith)
+    ∙ ap Some (sym c.index.ensures) in
+    record {
+      lane = search rules;
+      kind = λ group f at is.
+          let own = kind_at view c.args.lane lane group f c.self.invariant.lanes here
+          (subst (λ (v : PipelineView). slice_get v.plan.groups c.args.lane ≡ Some group) (sym c.self.view_is) at) is in
+          subst (λ (v : PipelineView). IsKindFor v.entries f (ghosts.sizes lane.kind) (ghosts.folding lane.kind)
+          (ghosts.open_bound lane.kind) (ghosts.absorb_bound lane.kind)) c.self.view_is own;
+      made = λ group at. made_at view c.args.lane lane group c.self.invariant.made here
+          (subst (λ (v : PipelineView). slice_get v.plan.groups c.args.lane ≡ Some group) (sym c.self.view_is) at);
+    }

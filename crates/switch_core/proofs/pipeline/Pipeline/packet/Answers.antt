@@ -1,22 +1,18 @@
 -- Each lane makes the packet event of what its groupby takes of the registers.
-use Rattle.std.proofs.Common.{◌≡◌, ℕ, ◌+◌, ◌*◌, ◌≤◌, ◌<◌, ◌++◌, length, take, drop, get_or, refl, sym, ap, ◌∙◌, subst, true}
-use Rattle.std.proofs.Common.{arith, lit<}
+use Rattle.std.proofs.Common.{rules, ◌≡◌, ℕ, ◌<◌, length, drop, get_or, refl, sym, ap, ◌∙◌, subst, true, arith, lit<}
 use Rattle.std.proofs.Math.Facts.{Fits-below}
 use Rattle.std.specs.List.{list_all}
-use Rattle.std.specs.Prelude.{sum_by}
 use Rattle.epoch_model.specs.Driving.{event_of}
 use Rattle.query_lang.specs.declared.fault.TheConstants.{MAX_ARGS, MAX_KEYS}
-use Rattle.epoch_entry.specs.Purposes.{runs_of}
-use Rattle.stage_plan.specs.Planned.{plan_bound, packet_registers, wiring_at}
+use Rattle.stage_plan.specs.Planned.{wiring_at}
 use Rattle.stage_plan.specs.Registers.{taken_at}
 use Rattle.stage_plan.specs.Sound.{PlanParts}
-use Rattle.switch_core.specs.Rows.{Each}
 use Rattle.switch_core.specs.Pipelines.{packet_events}
-use Rattle.switch_core.specs.PlanLanes.{AreLanesOf, LaneMakes, LanesMake, LaneView, IsMadeFor, PipelineMakes, PipelineView, lane_cost}
-use Rattle.switch_core.specs.PlanLanes.{lane_is_ready, pipeline_cost}
+use Rattle.switch_core.specs.PlanLanes.{AreLanesOf, LaneMakes, LaneView, PipelineView, lane_cost, lane_is_ready}
+use Rattle.switch_core.proofs.FrontSizes.{room_kept}
 use Rattle.switch_core.proofs.LaneFacts.{all_at, lane_fits, whole_written}
 use Rattle.switch_core.proofs.PacketBound.{packet_within}
-use Rattle.switch_core.proofs.PipelineSteps.{makes_sizes, lanes_kept, made_kept, pipeline_makes}
+use Rattle.switch_core.proofs.PipelineSteps.{given_back}
 use Rattle.switch_core.proofs.SideBySide.{got_here, same_some, each_long, done_start, untouched_start, done_next, untouched_next}
 use Rattle.switch_core.proofs.SideBySide.{untouched_was, done_end, sum_next, sum_whole}
 use Rattle.switch_core.proofs.pipeline.Pipeline.packet.Goals as goal
@@ -110,110 +106,48 @@ loop-i-preserved g c =
       args = c.take.auto.args ∙ c.loop-i.invariant.args;
     }
 
-pub returns-clause-makes : goal.returns-clause-makes
-returns-clause-makes g c =
+pub returns : goal.returns
+returns g c =
     let p = c.self.inside in
-    let new = c.loop-i.lanes in
-    let whole : take p.lanes.len (new ++ drop (length new) p.lanes.items) ≡ new = whole_written new
-    (drop (length new) p.lanes.items) p.lanes.len (c.loop-i.auto.lanes ∙ c.deref_mut-lanes.ensures.len) in
-    let registers : c.registers_of-registers.result.now ≡ packet_registers p.plan c.args.p.now.words =
-    c.registers_of-registers.ensures.row in
     let kept = c.loop-i.auto.lanes in
     let end = c.loop-i-test.false in
-    let same : p.plan ≡ c.args.self.now.plan = ap (λ (v : PipelineView). v.plan) c.self.view_is in
-    let made : LanesMake g.row.WAYS (λ n. event_of
-    (taken_at (wiring_at p.plan n) c.registers_of-registers.result.now)) c.deref_mut-lanes.result.now new =
-    subst (λ (x : PlanParts). LanesMake g.row.WAYS (λ n. event_of (taken_at (wiring_at x n) c.registers_of-registers.result.now))
-    c.deref_mut-lanes.result.now new) (sym same)
-    (done_end (λ n. LaneMakes g.row.WAYS (event_of (taken_at (wiring_at c.args.self.now.plan n) c.registers_of-registers.result.now)))
-    c.loop-i.i c.deref_mut-lanes.result.now new c.loop-i.invariant.makes (omega arith)) in
-    let taken : LanesMake g.row.WAYS (packet_events p.plan c.args.p.now.words) c.deref_mut-lanes.result.now new =
-    subst (λ rs. LanesMake g.row.WAYS (λ n. event_of (taken_at (wiring_at p.plan n) rs)) c.deref_mut-lanes.result.now new) registers made in
-    let lanes : LanesMake g.row.WAYS (packet_events p.plan c.args.p.now.words) p.lanes.items
-    ((take p.lanes.len (new ++ drop (length new) p.lanes.items))) =
-    subst (λ x. LanesMake g.row.WAYS (packet_events p.plan c.args.p.now.words) p.lanes.items x) (sym whole)
-    (subst (λ x. LanesMake g.row.WAYS (packet_events p.plan c.args.p.now.words) x new) c.deref_mut-lanes.ensures.value taken) in
-    let after : PipelineView = record {
-      plan = p.plan;
-      entries = p.entries;
-      buckets = p.buckets;
-      lanes =
-          (take p.lanes.len (new ++ drop (length new) p.lanes.items));
-    } in
-    subst (λ v. PipelineMakes g.row.WAYS (packet_events v.plan c.args.p.now.words) v after) c.self.view_is
-    (pipeline_makes g.row.WAYS (packet_events p.plan c.args.p.now.words) p.entries p.plan p.buckets p.lanes.items after.lanes
-    c.self.invariant.lanes lanes)
-
-pub returns-clause-cost : goal.returns-clause-cost
-returns-clause-cost g c =
-    let p = c.self.inside in
-    let before : PipelineView = record { plan = p.plan; entries = p.entries; buckets = p.buckets; lanes = p.lanes.items } in
     let row = c.fill_registers.ensures.cost in
-    let kept = c.loop-i.auto.lanes in
-    let end = c.loop-i-test.false in
-    let lanes : c.loop-i.steps ≤ c.fill_registers.new.steps + sum_by (lane_cost g.row.WAYS) before.lanes =
-    subst (λ xs. c.loop-i.steps ≤ c.fill_registers.new.steps + sum_by (lane_cost g.row.WAYS) (xs)) c.deref_mut-lanes.ensures.value
+    let lanes = rw c.deref_mut-lanes.ensures.value at
     (sum_whole (lane_cost g.row.WAYS) c.deref_mut-lanes.result.now c.loop-i.i _ _ (omega arith) c.loop-i.invariant.cost) in
-    let all : c.loop-i.steps ≤ c.args.steps.now + pipeline_cost g.row.WAYS before = omega arith in
-    subst (λ (v : PipelineView). c.loop-i.steps ≤ c.args.steps.now + pipeline_cost g.row.WAYS v) c.self.view_is all
-
-pub returns-clause-bound : goal.returns-clause-bound
-returns-clause-bound g c =
-    let p = c.self.inside in
-    let before : PipelineView = record { plan = p.plan; entries = p.entries; buckets = p.buckets; lanes = p.lanes.items } in
-    let within : pipeline_cost g.row.WAYS before ≤ runs_of p.entries * plan_bound p.plan g.row.WAYS =
-    packet_within c.depth_is_found.ensures c.entries_suit_folds.ensures g.row.WAYS before c.invariant.ensures c.self.invariant.lanes in
-    let row = c.fill_registers.ensures.cost in
-    let kept = c.loop-i.auto.lanes in
-    let end = c.loop-i-test.false in
-    let lanes : c.loop-i.steps ≤ c.fill_registers.new.steps + sum_by (lane_cost g.row.WAYS) before.lanes =
-    subst (λ xs. c.loop-i.steps ≤ c.fill_registers.new.steps + sum_by (lane_cost g.row.WAYS) (xs)) c.deref_mut-lanes.ensures.value
-    (sum_whole (lane_cost g.row.WAYS) c.deref_mut-lanes.result.now c.loop-i.i _ _ (omega arith) c.loop-i.invariant.cost) in
-    let all : c.loop-i.steps ≤ c.args.steps.now + runs_of p.entries * plan_bound p.plan g.row.WAYS = omega arith in
-    subst (λ (v : PipelineView). c.loop-i.steps ≤ c.args.steps.now + runs_of v.entries * plan_bound v.plan g.row.WAYS)
-    c.self.view_is all
+    record {
+      makes =
+          let same : p.plan ≡ c.args.self.now.plan = ap (λ (v : PipelineView). v.plan) c.self.view_is in
+          let made = done_end _ c.loop-i.i c.deref_mut-lanes.result.now c.loop-i.lanes c.loop-i.invariant.makes (omega arith) in
+          rw (← c.self.view_is) (given_back g.row.WAYS (packet_events p.plan c.args.p.now.words) _ p.plan _ _ _ _ _
+          c.deref_mut-lanes.ensures.value (c.loop-i.auto.lanes ∙ c.deref_mut-lanes.ensures.len)
+          (rw (← same, c.registers_of-registers.ensures.row) at made) c.self.invariant.lanes c.self.invariant.made).makes;
+      steps = search rules;
+      cost = rw (← c.self.view_is) (omega arith);
+      bound =
+          let before : PipelineView = record { plan = p.plan; entries = p.entries; buckets = p.buckets; lanes = p.lanes.items } in
+          let within = packet_within c.depth_is_found.ensures c.entries_suit_folds.ensures g.row.WAYS before c.invariant.ensures
+          c.self.invariant.lanes in
+          rw (← c.self.view_is) (omega arith);
+    }
 
 pub invariant_of-self : goal.invariant_of-self
 invariant_of-self g c =
-    let p = c.self.inside in
-    let first = c.deref_mut-lanes.result.now in
-    let new = c.loop-i.lanes in
+    let was = c.self.invariant in
     let kept = c.loop-i.auto.lanes in
     let end = c.loop-i-test.false in
-    let makes : ℕ → LaneView → LaneView → Type 0 =
-    λ n. LaneMakes g.row.WAYS (event_of (taken_at (wiring_at p.plan n) c.registers_of-registers.result.now)) in
-    let sizes = λ (n : ℕ) (a b : LaneView) (m : makes n a b).
-    makes_sizes g.row.WAYS (event_of (taken_at (wiring_at p.plan n) c.registers_of-registers.result.now)) a b m in
-    let whole : take p.lanes.len (new ++ drop (length new) p.lanes.items) ≡ new = whole_written new
-    (drop (length new) p.lanes.items) p.lanes.len (c.loop-i.auto.lanes ∙ c.deref_mut-lanes.ensures.len) in
-    let same : p.plan ≡ c.args.self.now.plan = ap (λ (v : PipelineView). v.plan) c.self.view_is in
-    let made : LanesMake g.row.WAYS (λ n. event_of (taken_at (wiring_at p.plan n) c.registers_of-registers.result.now)) first new =
-    subst (λ (x : PlanParts). LanesMake g.row.WAYS (λ n. event_of (taken_at (wiring_at x n) c.registers_of-registers.result.now)) first new)
-    (sym same)
-    (done_end (λ n. LaneMakes g.row.WAYS (event_of (taken_at (wiring_at c.args.self.now.plan n) c.registers_of-registers.result.now)))
-    c.loop-i.i first new c.loop-i.invariant.makes (omega arith)) in
-    let are : AreLanesOf p.entries p.plan p.buckets new = lanes_kept makes sizes p.entries p.plan p.buckets 0 first new p.plan.groups made
-    (subst (λ x. AreLanesOf p.entries p.plan p.buckets x) (sym c.deref_mut-lanes.ensures.value) c.self.invariant.lanes) in
-    let bounded : Each IsMadeFor new p.plan.groups = made_kept makes sizes 0 first new p.plan.groups made
-    (subst (λ x. Each IsMadeFor x p.plan.groups) (sym c.deref_mut-lanes.ensures.value) c.self.invariant.made) in
-    let filled = c.fill_registers.new.registers in
-    let key = c.loop-i.key in
-    let args = c.loop-i.args in
+    let made = done_end _ c.loop-i.i c.deref_mut-lanes.result.now c.loop-i.lanes c.loop-i.invariant.makes (omega arith) in
+    let lanes = (given_back _ _ _ c.self.inside.plan _ _ _ _ _ c.deref_mut-lanes.ensures.value
+    (c.loop-i.auto.lanes ∙ c.deref_mut-lanes.ensures.len) made
+    was.lanes was.made).kept in
     record {
-      few_ways = c.self.invariant.few_ways;
-      lanes = subst (λ x. AreLanesOf p.entries p.plan p.buckets x) (sym whole) are;
-      made = subst (λ x. Each IsMadeFor x p.plan.groups) (sym whole) bounded;
+      few_ways = was.few_ways;
+      lanes = lanes.lanes;
+      made = lanes.made;
       rooms = record {
-        for_row = ap length (whole_written filled (drop (length filled) p.registers.items) p.registers.len
-            (c.fill_registers.auto.registers ∙ c.deref_mut.ensures.len))
-            ∙ (c.fill_registers.auto.registers ∙ (ap length c.deref_mut.ensures.value ∙ c.self.invariant.rooms.for_row));
-        for_key = ap length (whole_written key (drop (length key) p.key.items) p.key.len
-            (c.loop-i.invariant.key ∙ (c.read_caches.auto.key ∙ c.deref_mut-key.ensures.len)))
-            ∙ (c.loop-i.invariant.key ∙ (c.read_caches.auto.key
-            ∙ (ap length c.deref_mut-key.ensures.value ∙ c.self.invariant.rooms.for_key)));
-        for_args = ap length (whole_written args (drop (length args) p.args.items) p.args.len
-            (c.loop-i.invariant.args ∙ (c.read_caches.auto.room ∙ c.deref_mut-args.ensures.len)))
-            ∙ (c.loop-i.invariant.args ∙ (c.read_caches.auto.room
-            ∙ (ap length c.deref_mut-args.ensures.value ∙ c.self.invariant.rooms.for_args)));
+        for_row = room_kept _ _ _ _ _ c.fill_registers.auto.registers c.deref_mut.ensures.value c.deref_mut.ensures.len was.rooms.for_row;
+        for_key = room_kept _ _ _ _ _ (c.loop-i.invariant.key ∙ c.read_caches.auto.key) c.deref_mut-key.ensures.value
+            c.deref_mut-key.ensures.len was.rooms.for_key;
+        for_args = room_kept _ _ _ _ _ (c.loop-i.invariant.args ∙ c.read_caches.auto.room) c.deref_mut-args.ensures.value
+            c.deref_mut-args.ensures.len was.rooms.for_args;
       };
     }
