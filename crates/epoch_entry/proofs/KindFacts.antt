@@ -16,10 +16,9 @@ use Rattle.fold_class.specs.declared.class.Algebra.{Algebra}
 use Rattle.fold_class.specs.declared.class.Algebra.TheVariants.{Sums, Maxima}
 use Rattle.fold_class.specs.declared.program.FoldProgram.{FoldProgram}
 use Rattle.fold_class.specs.Algebras.{sums, maxima}
-use Rattle.fold_class.specs.Depth.{is_history, IsDepth, depth_of}
+use Rattle.fold_class.specs.Depth.{is_history, depth_of}
 use Rattle.fold_class.specs.Kinds.{algebra_of}
 use Rattle.fold_class.specs.Rows.{element_size, rows_steps}
-use Rattle.fold_class.specs.Parts.{IsAlgebraOf}
 use Rattle.fold_class.specs.Program.{IsProgram, IsProgramOf, WritesAlgebra}
 use Rattle.fold_class.proofs.AlgebraLaws.{sums_are, maxima_are}
 use Rattle.fold_class.proofs.DepthLemmas.{history_rounds}
@@ -33,7 +32,7 @@ use Rattle.epoch_entry.proofs.FoldLemmas.{code_folds}
 pub other_kind : (f : TypedFold) (p : FoldProgram) → IsProgramOf f p → p.class ≡ Class.Other
     → IsKindOf f (other_sizes p) (other_folding p) (other_open p) (other_absorb p)
 other_kind f p h e =
-    let states : length p.layout.initial ≡ fold_states f = ap (λ l. length l) h.layout.initial ∙ h.valid.starts in record {
+    let states = ap length h.layout.initial ∙ h.valid.starts in record {
       args = h.layout.args;
       state = states;
       entry = omega (arith, states);
@@ -41,14 +40,14 @@ other_kind f p h e =
       row_per_epoch = sym (ap per_epoch (sym h.class ∙ e));
       step = h.code.step;
       folded = λ rows. ap (λ s. fold (code_step p.code) s rows) h.layout.initial
-          ∙ code_folds f p.code h.code (initial_state f) rows h.valid.starts;
+          ∙ code_folds f _ h.code _ rows h.valid.starts;
       «open» = omega (arith, states);
       absorb = omega (arith, h.code.steps, add-mul (fold_states f) 1 (f.nodes + 4 * f.statements + 1));
     }
 
 pub other_merged : (f : TypedFold) (p : FoldProgram) → IsProgramOf f p → other_merge p ≤ merge_bound f
 other_merged f p h =
-    let states : length p.layout.initial ≡ fold_states f = ap (λ l. length l) h.layout.initial ∙ h.valid.starts in
+    let states = ap length h.layout.initial ∙ h.valid.starts in
     omega (arith, states)
 
 square : (d n : ℕ) → d ≤ n → d * (d + 1) ≤ n * (n + 1)
@@ -132,20 +131,20 @@ sized_by p a sound e = ∥∥₁_elim sound (ℕ_set _ _) (λ (f, h). ap element
 
 pub writes_sums : (p : FoldProgram) → IsProgram p → p.class ≡ Linear → p.algebra ≡ Sums → WritesInto sums wrapping_from_words 1 p
 writes_sums p sound linear e = record {
-  algebra = subst (λ a. IsAlgebraOf a sums) (sym e) sums_are;
+  algebra = rw e sums_are;
   zero_word = refl;
   sized =
-      sized_by p Sums sound e;
-  writes = λ f h. writes_algebra f p Sums h linear e;
+      sized_by p _ sound e;
+  writes = λ f h. writes_algebra f p _ h linear e;
 }
 
 pub writes_maxima : (p : FoldProgram) → IsProgram p → p.class ≡ Linear → p.algebra ≡ Maxima → WritesInto maxima max_plus_from_words 2 p
 writes_maxima p sound linear e = record {
-  algebra = subst (λ a. IsAlgebraOf a maxima) (sym e) maxima_are;
+  algebra = rw e maxima_are;
   zero_word = refl;
   sized =
-      sized_by p Maxima sound e;
-  writes = λ f h. writes_algebra f p Maxima h linear e;
+      sized_by p _ sound e;
+  writes = λ f h. writes_algebra f p _ h linear e;
 }
 
 -- an entry with its key has few words
@@ -153,14 +152,14 @@ words_fit : (a : Algebra) (n k args key : ℕ) → n ≤ MAX_STATES → k ≤ n 
     + (element_size a * n * (n + 1) + n + k * args + 2) ≤ 274
 words_fit Sums n k args key hn hk ha few hkey =
     let le : k ≤ MAX_STATES = omega arith in
-    omega (arith, square n MAX_STATES hn, mul-le-mul_right args le)
+    omega (arith, square n _ hn, mul-le-mul_right args le)
 words_fit Maxima n k args key hn hk ha few hkey =
     let less = few refl in
     let le : k ≤ 7 = omega arith in
-    omega (arith, square n MAX_STATES hn, mul-le-mul_right args le)
+    omega (arith, square n _ hn, mul-le-mul_right args le)
 
 pub entry_fits : (f : TypedFold) (key : ℕ) → IsValidFold f → key ≤ MAX_KEYS → key + entry_bound f ≤ 274
 entry_fits f key valid h =
-    let deep : IsDepth f (depth_of f) = depth_found_is f in
-    words_fit (algebra_of f) (fold_states f) (depth_of f) (fold_args f) key valid.states
-    (deep.least (fold_states f) (λ v lt w. history_rounds f v lt w)) valid.args (λ e. maxima_depth f (depth_of f) e deep) h
+    let deep = depth_found_is f in
+    words_fit _ _ _ _ _ valid.states
+    (deep.least (fold_states f) (λ v lt w. history_rounds f v lt w)) valid.args (λ e. maxima_depth f _ e deep) h

@@ -1,18 +1,18 @@
 -- The state that an entry is merged into.
 use Rattle.std.proofs.Common.{◌≡◌, ◌≢◌, ℕ, ◌<◌, ◌≤◌, Bool, true, false, not, List, min, length, slice_index, take, refl, sym, ap, ◌∙◌}
-use Rattle.std.proofs.Common.{subst, arith}
+use Rattle.std.proofs.Common.{arith}
 use Rattle.std.specs.Prelude.{fold}
 use Rattle.std.proofs.lemmas.List.{take_all, ext_get_or}
 use Rattle.query_lang.specs.declared.fold.TypedFold.{TypedFold}
 use Rattle.query_lang.specs.Words.{AreWords}
-use Rattle.query_lang.specs.Folds.{folded, fold_states, initial_state}
+use Rattle.query_lang.specs.Folds.{folded, fold_states}
 use Rattle.epoch_model.specs.Keys.{ArgRow}
 use Rattle.coeff_algebra.specs.Elements.{Elements}
 use Rattle.coeff_algebra.specs.Maps.{map_apply, table_of}
 use Rattle.fold_code.specs.Meaning.{code_step}
 use Rattle.fold_class.specs.declared.program.FoldProgram.{FoldProgram}
 use Rattle.fold_class.specs.Depth.{is_history}
-use Rattle.fold_class.specs.Step.{places, dimension, linear_places, history_places, words_at}
+use Rattle.fold_class.specs.Step.{places, dimension, linear_places, words_at}
 use Rattle.fold_class.specs.Program.{IsProgramOf}
 use Rattle.fold_class.proofs.PlaceLemmas.{map_at, place_at, places_less}
 use Rattle.fold_class.proofs.LawLemmas.{forgets}
@@ -28,10 +28,10 @@ module _ {C : Type 0} (k : Elements C) (from_words : List ℕ → C) (size : ℕ
     (n : ℕ) (least : n ≡ min count p.depth) (replayed : List ℕ) (runs : replayed ≡ fold (code_step p.code) state
     (logged_rows p.code.args n log)) where
   long : length state ≡ fold_states f
-  long = same_size ∙ ap (λ l. length l) h.layout.initial ∙ h.valid.starts
+  long = same_size ∙ ap length h.layout.initial ∙ h.valid.starts
 
   number : count ≡ min p.depth (length rows)
-  number = logged_count p.layout.args count p.depth log rows (st.stands f h).logged
+  number = logged_count _ _ _ _ _ (st.stands f h).logged
 
   all_logged : n ≡ count
   all_logged = omega (arith, least, number)
@@ -62,22 +62,22 @@ module _ {C : Type 0} (k : Elements C) (from_words : List ℕ → C) (size : ℕ
     remembers : (v : ℕ) → v < fold_states f → is_history f v ≡ true → slice_index merged v ≡ slice_index (folded f state rows) v
     remembers v lt e =
         let j = length (places (is_history f) v) in
-        let less : j < length (history_places f) = places_less (is_history f) v (fold_states f) lt e in
-        let here : slice_index (history_places f) j ≡ v = place_at (is_history f) v (fold_states f) lt e in
-        let inside : j < length p.layout.history = omega (arith, less, ap (λ l. length l) h.layout.history) in
+        let less = places_less _ v _ lt e in
+        let here = place_at _ v _ lt e in
+        let inside : j < length p.layout.history = omega (arith, less, ap length h.layout.history) in
         ap (slice_index merged) (sym (ap (λ l. slice_index l j) h.layout.history ∙ here))
         ∙ carried.remembered j inside
-        ∙ ap (λ l. slice_index l j) ((st.stands f h).history ∙ forgets f p.depth (initial_state f) state rows h.valid h.depth h.valid.starts
+        ∙ ap (λ l. slice_index l j) ((st.stands f h).history ∙ forgets f _ _ _ _ h.valid h.depth h.valid.starts
         long enough)
-        ∙ map_at (slice_index (folded f state rows)) (history_places f) j less
+        ∙ map_at _ _ j less
         ∙ ap (slice_index (folded f state rows)) here
 
     carries : (v : ℕ) → v < fold_states f → lin v ≡ true → slice_index merged v ≡ slice_index (folded f state rows) v
     carries v lt e =
         let i = length (places lin v) in
-        let less : i < length (linear_places f) = places_less lin v (fold_states f) lt e in
-        let here : slice_index (linear_places f) i ≡ v = place_at lin v (fold_states f) lt e in
-        let inside : i < linear_rank p = omega (arith, less, ap (λ l. length l) h.layout.linear) in
+        let less = places_less _ v _ lt e in
+        let here = place_at _ v _ lt e in
+        let inside : i < linear_rank p = omega (arith, less, ap length h.layout.linear) in
         let T = table_of from_words size (linear_rank p) map' in
         ap (slice_index merged) (sym (ap (λ l. slice_index l i) h.layout.linear ∙ here))
         ∙ carried.linear i inside
@@ -85,7 +85,7 @@ module _ {C : Type 0} (k : Elements C) (from_words : List ℕ → C) (size : ℕ
         ∙ ap (λ l. k.to_word (map_apply k (dimension f) T (λ j. k.embed (slice_index (words_at replayed l) j)) i)) h.layout.linear
         ∙ ap (λ s. k.to_word (map_apply k (dimension f) T (λ j. k.embed (slice_index (words_at s (linear_places f)) j)) i)) start
         ∙ (st.stands f h).carries state long words i (omega (arith, inside, dimension_is f p h))
-        ∙ map_at (slice_index (folded f state rows)) (linear_places f) i less
+        ∙ map_at _ _ i less
         ∙ ap (slice_index (folded f state rows)) here
 
     each : (v : ℕ) → v < fold_states f → (b : Bool) → is_history f v ≡ b → slice_index merged v ≡ slice_index (folded f state rows) v
@@ -117,15 +117,14 @@ pub carried_of : {C : Type 0} (k : Elements C) (from_words : List ℕ → C) (si
 carried_of k from_words size p history map' state first last x y places others shape ep eo gathered applied written kept remembered =
     record {
       linear = λ i h. kept (slice_index p.layout.linear i) (λ j lt. apart j i lt h) ∙ of_linear i h;
-      remembered = subst (λ l. (i : ℕ) → i < length l → slice_index last (slice_index l i) ≡ slice_index history i) eo remembered;
+      remembered = rw eo at remembered;
     }
   where
     of_linear : Written k from_words size map' state first p.layout.linear
     of_linear =
-        subst (Written k from_words size map' state first) ep
-        (λ i h. written i h ∙ applied i h ∙ ap (λ ws. k.to_word (map_apply k (length places) (table_of from_words size (length places) map')
+        rw (← ep) (λ i h. written i h ∙ applied i h ∙ ap (λ ws. k.to_word
+        (map_apply k (length places) (table_of from_words size (length places) map')
         (λ j. k.embed (slice_index ws j)) i)) gathered)
 
     apart : (j i : ℕ) → j < length others → i < length p.layout.linear → slice_index others j ≢ slice_index p.layout.linear i
-    apart = subst (λ l. (j i : ℕ) → j < length l → i < length p.layout.linear → slice_index l j ≢ slice_index p.layout.linear i) (sym eo)
-        shape.apart
+    apart = rw eo shape.apart

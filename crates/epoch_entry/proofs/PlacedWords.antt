@@ -27,13 +27,13 @@ module _ (f : TypedFold) where
 
   at_place : (p : ℕ → Bool) (state : List ℕ) (v : ℕ) → v < n → p v ≡ true
       → slice_index (words_at state (places p n)) (length (places p v)) ≡ slice_index state v
-  at_place p state v lt e = map_at (slice_index state) (places p n) (length (places p v)) (places_less p v n lt e)
+  at_place p state v lt e = map_at _ _ _ (places_less p v n lt e)
       ∙ ap (slice_index state) (place_at p v n lt e)
 
   pub history_same : (xs ys : List ℕ) → words_at xs (history_places f) ≡ words_at ys (history_places f) → SameHistory f xs ys
   history_same xs ys e v lt k =
-      sym (at_place (is_history f) xs v lt k) ∙ ap (λ z. slice_index z (length (places (is_history f) v))) e
-      ∙ at_place (is_history f) ys v lt k
+      sym (at_place _ _ v lt k) ∙ ap (λ z. slice_index z (length (places (is_history f) v))) e
+      ∙ at_place _ _ v lt k
 
   same_history : (xs ys : List ℕ) → SameHistory f xs ys → words_at xs (history_places f) ≡ words_at ys (history_places f)
   same_history xs ys same =
@@ -45,15 +45,15 @@ module _ (f : TypedFold) where
           (words_at ys (history_places f)) i
       one i h =
           let r = placed (is_history f) n i h in
-          map_at (slice_index xs) (history_places f) i h ∙ same (slice_index (history_places f) i) r.0 r.1
-          ∙ sym (map_at (slice_index ys) (history_places f) i h)
+          map_at _ _ i h ∙ same (slice_index (history_places f) i) r.0 r.1
+          ∙ sym (map_at _ _ i h)
 
   -- the history after a step depends on the history before it alone
   pub history_after : (args xs ys : List ℕ) → IsValidFold f → length xs ≡ n → length ys ≡ n
       → words_at xs (history_places f) ≡ words_at ys (history_places f) →
       words_at (body f xs args) (history_places f) ≡ words_at (body f ys args) (history_places f)
-  history_after args xs ys valid hx hy e = same_history (body f xs args) (body f ys args)
-      (step_history f args xs ys valid hx hy (history_same xs ys e))
+  history_after args xs ys valid hx hy e = same_history _ _
+      (step_history f _ _ _ valid hx hy (history_same _ _ e))
 
   pub moved_from : (algebra : Algebra) (base xs ys : List ℕ) → ((i : ℕ) → i < dimension f
       → linear_words f ys i ≡ translated algebra (linear_words f base i) (linear_words f xs i))
@@ -71,6 +71,6 @@ module _ (f : TypedFold) where
       let less : i < length (linear_places f) = omega (arith, lt, rank_size f n) in
       let r = placed linear n i less in
       let v = slice_index (linear_places f) i in
-      map_at (slice_index ys) (linear_places f) i less ∙ h v r.0 (not_true (is_history f v) r.1)
-      ∙ ap (λ z. translated algebra z (slice_index xs v)) (sym (map_at (slice_index base) (linear_places f) i less))
-      ∙ ap (translated algebra (linear_words f base i)) (sym (map_at (slice_index xs) (linear_places f) i less))
+      map_at _ _ i less ∙ h v r.0 (not_true _ r.1)
+      ∙ ap (λ z. translated algebra z (slice_index xs v)) (sym (map_at _ _ i less))
+      ∙ ap (translated algebra (linear_words f base i)) (sym (map_at _ _ i less))

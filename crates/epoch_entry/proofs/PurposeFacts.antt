@@ -61,27 +61,26 @@ module _ (f : TypedFold) (sizes : Sizes) (folding : Folding) (opening absorbing 
   pub kind_suits : (entries : Entries) → IsKindFor entries f sizes folding opening absorbing
       → SuitsFold (runs_of entries) f sizes folding opening absorbing
   kind_suits Folds h = own_suits h
-  kind_suits Bounds h = bounding_suits (class_of f) refl h
+  kind_suits Bounds h = bounding_suits _ refl h
 
   own_fits : (key : ℕ) → IsValidFold f → key ≤ MAX_KEYS → IsKindOf f sizes folding opening absorbing → key + sizes.entry ≤ 274
-  own_fits key valid few h = omega (arith, h.entry, entry_fits f key valid few)
+  own_fits key valid few h = omega (arith, h.entry, entry_fits f _ valid few)
 
   bounds_fit : (key : ℕ) → IsValidFold f → key ≤ MAX_KEYS → IsBoundsKindOf f sizes folding opening absorbing → key + sizes.entry ≤ 274
   bounds_fit key valid few h = omega (arith, h.entry, valid.states)
 
   bounding_fits : (key : ℕ) → IsValidFold f → key ≤ MAX_KEYS → (c : Class) → IsBoundingKind c f sizes folding opening absorbing → key
       + sizes.entry ≤ 274
-  bounding_fits key valid few Linear h = own_fits key valid few h
-  bounding_fits key valid few Other h = bounds_fit key valid few h
+  bounding_fits key valid few Linear h = own_fits _ valid few h
+  bounding_fits key valid few Other h = bounds_fit _ valid few h
 
   pub kind_fits : (entries : Entries) (key : ℕ) → IsValidFold f → IsKindFor entries f sizes folding opening absorbing → key ≤ MAX_KEYS → key
       + sizes.entry ≤ 274
-  kind_fits Folds key valid h few = own_fits key valid few h
-  kind_fits Bounds key valid h few = bounding_fits key valid few (class_of f) h
+  kind_fits Folds key valid h few = own_fits _ valid few h
+  kind_fits Bounds key valid h few = bounding_fits _ valid few _ h
 
   -- where bounds are asked for, by the class of the program
   pub for_bounds : (entries : Entries) (p : FoldProgram) (c : Class) → IsProgramOf f p → entries ≡ Bounds → p.class ≡ c
       → IsBoundingKind c f sizes folding opening absorbing → IsKindFor entries f sizes folding opening absorbing
   for_bounds entries p c is asked e h =
-      subst (λ x. IsKindFor x f sizes folding opening absorbing) (sym asked)
-      (subst (λ k. IsBoundingKind k f sizes folding opening absorbing) (sym e ∙ is.class) h)
+      rw asked (subst (λ k. IsBoundingKind k f sizes folding opening absorbing) (sym e ∙ is.class) h)

@@ -23,32 +23,32 @@ places_ascend p (suc n) i j lt h = at (places_ascend p n) (p n) refl h
     at : IsAscending (places p n) → (b : Bool) → p n ≡ b → j < length (if b then places p n ++ n ∷ [] else places p n) →
         slice_index (if b then places p n ++ n ∷ [] else places p n) i < slice_index (if b then places p n ++ n ∷ [] else places p n) j
     at front false eb h = front i j lt h
-    at front true eb h = last (nat_lt j (length (places p n))) refl
+    at front true eb h = last _ refl
       where
         last : (l : Bool) → nat_lt j (length (places p n)) ≡ l → slice_index (places p n ++ n ∷ []) i < slice_index (places p n ++ n ∷ []) j
         last true t =
             let lj : j < length (places p n) = grind (arith, nat_tests) in
-            let ei : slice_index (places p n ++ n ∷ []) i ≡ slice_index (places p n) i =
+            let ei =
             get_or_append_left (places p n) (n ∷ []) 0 i (omega arith) in
-            let ej : slice_index (places p n ++ n ∷ []) j ≡ slice_index (places p n) j = get_or_append_left (places p n) (n ∷ []) 0 j lj in
+            let ej = get_or_append_left (places p n) (n ∷ []) 0 j lj in
             omega (arith, ei, ej, front i j lt lj)
         last false t =
             let ge : length (places p n) ≤ j = grind (arith, nat_tests) in
             let same : length (places p n) ≡ j = omega (arith, ge, h, length-append (places p n) (n ∷ [])) in
             let li : i < length (places p n) = omega arith in
-            let ei : slice_index (places p n ++ n ∷ []) i ≡ slice_index (places p n) i = get_or_append_left (places p n) (n ∷ []) 0 i li in
-            let ej : slice_index (places p n ++ n ∷ []) j ≡ n = get_or_push (places p n) n 0 j same in
+            let ei = get_or_append_left (places p n) (n ∷ []) 0 i li in
+            let ej = get_or_push _ n 0 j same in
             omega (arith, ei, ej, (placed p n i li).0)
 
 places_inside : (p : ℕ → Bool) (n m : ℕ) → n ≡ m → All (λ v. v < m) (places p n)
-places_inside p n m e i d h = omega (arith, default_free (places p n) i d h, (placed p n i h).0)
+places_inside p n m e i d h = omega (arith, default_free _ i d h, (placed p n i h).0)
 
 sorts_apart : (q : ℕ → Bool) (n i j : ℕ) → i < length (places q n) → j < length (places (λ v. not (q v)) n)
     → slice_index (places q n) i ≢ slice_index (places (λ v. not (q v)) n) j
 sorts_apart q n i j hi hj same =
     let on : q (slice_index (places q n) i) ≡ true = (placed q n i hi).1 in
     let off : not (q (slice_index (places (λ v. not (q v)) n) j)) ≡ true = (placed (λ v. not (q v)) n j hj).1 in
-    never (q (slice_index (places (λ v. not (q v)) n) j)) (sym (ap q same) ∙ on) off
+    never _ (sym (ap q same) ∙ on) off
   where
     never : (b : Bool) → b ≡ true → not b ≡ true → ⊥
     never true e h = cc
@@ -87,4 +87,4 @@ shape_of f p h =
     }
 
 pub program_shaped : (p : FoldProgram) → IsProgram p → IsShaped p
-program_shaped p is = ∥∥₁_elim is (hlevel props) (λ h. shape_of h.0 p h.1)
+program_shaped p is = ∥∥₁_elim is (hlevel props) (λ h. shape_of _ p h.1)

@@ -1,5 +1,5 @@
 -- Steps that are taken one after another.
-use Rattle.std.proofs.Common.{◌≡◌, ◌+◌, ◌*◌, ◌≤◌, ℕ, arith, subst}
+use Rattle.std.proofs.Common.{◌≡◌, ◌+◌, ◌*◌, ◌≤◌, ℕ, arith}
 
 pub five_rise : (s0 s1 s2 s3 s4 s5 a b x g t : ℕ) → s1 ≡ s0 + a → s2 ≡ s1 + b → s3 ≡ s2 + x → s4 ≡ s3 + g → s5 ≡ s4 + t → s0 ≤ s5
 five_rise s0 s1 s2 s3 s4 s5 a b x g t ea eb ex eg et = omega arith
@@ -8,4 +8,4 @@ five_rise s0 s1 s2 s3 s4 s5 a b x g t ea eb ex eg et = omega arith
 pub run_cost : (s0 s1 s2 s3 s4 s5 a b x h r w more : ℕ) → a ≡ h → b ≡ r → s1 ≡ s0 + a → s2 ≡ s1 + b → s3 ≡ s2 + x → s4 ≡ s3 + a
     → s5 ≡ s4 + b * w → s5 ≤ s0 + (2 * h + x + (r + r * w) + more)
 run_cost s0 s1 s2 s3 s4 s5 a b x h r w more eh er ea eb ex eg et =
-    let last : s5 ≡ s4 + r * w = subst (λ k. s5 ≡ s4 + k * w) er et in omega arith
+    let last : s5 ≡ s4 + r * w = rw er at et in omega arith

@@ -54,9 +54,9 @@ pub folds_beside : (f : TypedFold) (g : List ℕ → List ℕ → List ℕ) (a b
 folds_beside f g a b c [] same ea eb ec = refl
 folds_beside f g a b c (row ∷ rows) same ea eb ec =
     let n = fold_states f in
-    ap (λ z. fold (step_beside g n) z rows) (step_is g n a b c row ea eb ∙ steps_same g (body f) n a b c row (λ s e. same s row e) ea eb ec)
-    ∙ folds_beside f g (body f a row) (body f b row) (body f c row) rows same (length-body f a row ∙ ea) (length-body f b row ∙ eb)
-    (length-body f c row ∙ ec)
+    ap (λ z. fold (step_beside g n) z rows) (step_is g n a b c _ ea eb ∙ steps_same g (body f) n a b c _ (λ s e. same s row e) ea eb ec)
+    ∙ folds_beside f g (body f a row) (body f b row) (body f c row) rows same (length-body f a _ ∙ ea) (length-body f b _ ∙ eb)
+    (length-body f c _ ∙ ec)
 
 pub bounds_kind : (f : TypedFold) (p : FoldProgram) → IsProgramOf f p → IsBoundsKindOf f (bounds_sizes p) (bounds_folding p) (bounds_open p)
     (bounds_absorb p)
@@ -85,5 +85,5 @@ bounds_kind f p h =
 
 pub bounds_merged : (f : TypedFold) (p : FoldProgram) → IsProgramOf f p → bounds_merge p ≤ merge_bound f
 bounds_merged f p h =
-    let states : length p.layout.initial ≡ fold_states f = ap (λ l. length l) h.layout.initial ∙ h.valid.starts in
+    let states = ap length h.layout.initial ∙ h.valid.starts in
     omega (arith, states)

@@ -1,6 +1,6 @@
 -- A word that is written at the next place of an ascending list of places.
 use Rattle.std.proofs.Common.{◌≡◌, ◌≢◌, ℕ, ◌+◌, ◌<◌, List, length}
-use Rattle.std.proofs.Common.{slice_index, ◌∙◌, arith, below_more, get_or-set_other, get_or-set_same, sym, subst}
+use Rattle.std.proofs.Common.{slice_index, ◌∙◌, arith, below_more, get_or-set_other, get_or-set_same, sym}
 use Rattle.std.proofs.Math.ListN.{set}
 use Rattle.epoch_entry.specs.Shape.{IsAscending}
 

@@ -1,6 +1,5 @@
-use Rattle.std.proofs.Common.{◌≡◌, ℕ, arith, ◌+◌, ◌*◌, ◌<◌, ◌≤◌, length, slice_index, ap, ◌∙◌, subst, sym}
+use Rattle.std.proofs.Common.{◌≡◌, ℕ, arith, ◌+◌, ◌<◌, length, slice_index, ap, ◌∙◌}
 use Rattle.std.proofs.Math.Nat.{le_refl}
-use Rattle.coeff_algebra.specs.Maps.{table_of}
 use Rattle.coeff_algebra.proofs.PlaceLemmas.{entry_inside}
 use Rattle.epoch_entry.proofs.WritingPlaces.{next_written, others_stay}
 use Rattle.epoch_entry.proofs.column.column_to_state.Goals as goal
@@ -12,8 +11,7 @@ pub load_at-element-requires : goal.load_at-element-requires
 load_at-element-requires g c =
     let n = length c.args.linear.now in
     let size = g.C.Coeff.WORDS in record {
-      inside = subst (λ k. (c.loop-row.row * (n + 1) + n) * size + size ≤ k) (sym c.requires.map)
-          (entry_inside n c.loop-row.row n size c.loop-row-test.true (le_refl n));
+      inside = rw c.requires.map (entry_inside n c.loop-row.row n size c.loop-row-test.true (le_refl n));
     }
 
 pub loop-row-preserved : goal.loop-row-preserved
@@ -23,13 +21,12 @@ loop-row-preserved g c =
     let n = length linear in
     let row = c.loop-row.row in
     let state = c.loop-row.state in
-    let within : row < n = c.loop-row-test.true in
-    let room : slice_index linear row < length state = subst (λ k. slice_index linear row < k) (sym c.loop-row.auto.state)
-    (c.requires.inside row 0 within) in
+    let within = c.loop-row-test.true in
+    let room : slice_index linear row < length state = rw c.loop-row.auto.state (c.requires.inside row 0 within) in
     record {
-      written = next_written linear state row _ (λ i. m.elements.to_word (table_of m.from_words m.WORDS n c.args.map.now i n))
+      written = next_written _ _ _ _ _
           c.requires.ascending within room c.loop-row.invariant.written
           (c.to_word.ensures ∙ ap m.elements.to_word c.load_at-element.ensures);
-      others = others_stay linear state c.args.state.now row _ c.loop-row.invariant.others;
+      others = others_stay _ _ _ _ _ c.loop-row.invariant.others;
       steps = one_more _ _ _ _ c.loop-row.invariant.steps c.tick.ensures;
     }

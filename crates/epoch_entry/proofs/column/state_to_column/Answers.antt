@@ -1,4 +1,4 @@
-use Rattle.std.proofs.Common.{◌≡◌, ◌≢◌, ℕ, ◌+◌, ◌*◌, ◌<◌, ◌≤◌, arith, ap, ◌∙◌, subst, sym, length, below_more}
+use Rattle.std.proofs.Common.{◌≡◌, ◌≢◌, ℕ, ◌+◌, ◌*◌, ◌<◌, arith, ap, ◌∙◌, length, below_more}
 use Rattle.std.proofs.Math.Nat.{le_refl}
 use Rattle.coeff_algebra.proofs.PlaceLemmas.{entry_inside}
 use Rattle.fold_class.proofs.RowLemmas.{same_column, same_row}
@@ -6,10 +6,10 @@ use Rattle.epoch_entry.proofs.column.state_to_column.Goals as goal
 
 -- the other places of the last column, and those of the other columns
 rows_apart : (n r i : ℕ) → i < r → i * (n + 1) + n ≢ r * (n + 1) + n
-rows_apart n r i h e = let same : i ≡ r = same_row n i r n e in omega arith
+rows_apart n r i h e = let same = same_row n i r n e in omega arith
 
 columns_apart : (n r i k : ℕ) → k < n → i * (n + 1) + k ≢ r * (n + 1) + n
-columns_apart n r i k h e = let same : k ≡ n = same_column n i k r n (omega arith) (le_refl n) e in omega arith
+columns_apart n r i k h e = let same = same_column n i k r n (omega arith) (le_refl n) e in omega arith
 
 one_more : (first steps more w w' r : ℕ) → steps ≡ first + r * w → more ≡ steps + w' → w' ≡ w → more ≡ first + (r + 1) * w
 one_more first steps more w w' r e h same = grind arith
@@ -18,8 +18,7 @@ pub store_at-requires : goal.store_at-requires
 store_at-requires g c =
     let n = length c.args.linear.now in
     let size = g.C.Coeff.WORDS in record {
-      inside = subst (λ k. (c.loop-row.row * (n + 1) + n) * size + size ≤ k) (sym (c.loop-row.auto.map ∙ c.requires.map))
-          (entry_inside n c.loop-row.row n size c.loop-row-test.true (le_refl n));
+      inside = rw (c.loop-row.auto.map ∙ c.requires.map) (entry_inside n c.loop-row.row n size c.loop-row-test.true (le_refl n));
     }
 
 pub loop-row-preserved : goal.loop-row-preserved

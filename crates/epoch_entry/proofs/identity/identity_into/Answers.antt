@@ -1,6 +1,5 @@
 use Rattle.std.proofs.Common.{◌≡◌, ℕ, ◌+◌, ◌*◌, arith, ap, ◌∙◌, sym}
 use Rattle.std.proofs.Math.Nat.{mul_assoc}
-use Rattle.coeff_algebra.specs.Maps.{stored_at}
 use Rattle.coeff_algebra.proofs.PlaceLemmas.{rows_step}
 use Rattle.epoch_entry.specs.Identity.{unit_at}
 use Rattle.epoch_entry.proofs.identity.identity_into.Goals as goal
@@ -11,9 +10,9 @@ all_rows first steps n row w e h = e ∙ ap (λ k. first + k) (ap (λ r. r * ((n
 pub loop-row-preserved : goal.loop-row-preserved
 loop-row-preserved g c =
     let m = g.C.Coeff in record {
-      entries = rows_step (stored_at m.WORDS c.loop-row.map) (stored_at m.WORDS c.identity_row.new.map)
-          (λ i j. m.words (unit_at m.elements i j))
-          c.args.n c.loop-row.row c.loop-row.invariant.entries c.identity_row.ensures.before c.identity_row.ensures.entries;
+      entries = rows_step _ _
+          _
+          _ _ c.loop-row.invariant.entries c.identity_row.ensures.before c.identity_row.ensures.entries;
       steps = omega (arith, c.loop-row.invariant.steps, c.identity_row.ensures.steps);
     }
 
@@ -25,4 +24,4 @@ returns-clause-entries g c i j hi hj =
 pub returns-clause-steps : goal.returns-clause-steps
 returns-clause-steps g c =
     let end : c.loop-row.row ≡ c.args.n = omega arith in
-    all_rows c.args.steps.now c.loop-row.steps c.args.n c.loop-row.row g.C.Coeff.WORDS c.loop-row.invariant.steps end
+    all_rows _ _ _ _ _ c.loop-row.invariant.steps end

@@ -1,4 +1,4 @@
-use Rattle.std.proofs.Common.{◌≡◌, ◌≢◌, ℕ, ◌+◌, ◌*◌, ◌<◌, ◌≤◌, ◌==◌, if◌then◌else◌, ap, sym, subst, ◌∙◌, arith, below_more}
+use Rattle.std.proofs.Common.{◌≡◌, ◌≢◌, ℕ, ◌+◌, ◌*◌, ◌≤◌, ◌==◌, if◌then◌else◌, ap, ◌∙◌, arith, below_more}
 use Rattle.std.proofs.lemmas.Bool.Decides.{nat_tests}
 use Rattle.coeff_algebra.proofs.PlaceLemmas.{entry_inside, columns_apart, before_apart, columns_steps}
 use Rattle.epoch_entry.specs.Identity.{unit_at}
@@ -17,9 +17,7 @@ store_at-requires g c =
     let column = c.loop-column.column in
     let within : column ≤ n = omega arith in
     record {
-      inside = subst (λ k. (c.args.row * (n + 1) + column) * g.C.Coeff.WORDS + g.C.Coeff.WORDS ≤ k)
-          (sym (c.loop-column.auto.map ∙ c.requires.map))
-          (entry_inside n c.args.row column g.C.Coeff.WORDS c.requires.row within);
+      inside = rw (c.loop-column.auto.map ∙ c.requires.map) (entry_inside n c.args.row column g.C.Coeff.WORDS c.requires.row within);
     }
 
 pub loop-column-preserved : goal.loop-column-preserved
@@ -29,14 +27,14 @@ loop-column-preserved g c =
     let column = c.loop-column.column in
     let start = row * (c.args.n + 1) in
     let unit : c.if-column-row.element ≡ unit_at m.elements row column = elim c.if-column-row.branch [
-      | then-column-row w ↦ w.element-is ∙ w.one-element.ensures ∙ here_of m.elements.one m.elements.zero row column w.if-column-row.true
-      | else-column-row w ↦ w.element-is ∙ w.zero-element.ensures ∙ apart_of m.elements.one m.elements.zero row column w.if-column-row.false
+      | then-column-row w ↦ w.element-is ∙ w.one-element.ensures ∙ here_of _ _ _ _ w.if-column-row.true
+      | else-column-row w ↦ w.element-is ∙ w.zero-element.ensures ∙ apart_of _ _ _ _ w.if-column-row.false
     ] in
     record {
       entries = below_more _ _
           (λ j h. c.store_at.ensures.others (start + j) (columns_apart start j column h) ∙ c.loop-column.invariant.entries j h)
           (c.store_at.ensures.here ∙ ap m.words unit);
       before = λ p h. c.store_at.ensures.others p (before_apart p start column h) ∙ c.loop-column.invariant.before p h;
-      steps = columns_steps c.args.steps.now c.loop-column.steps c.tick_words.new.steps column m.WORDS c.loop-column.invariant.steps
+      steps = columns_steps _ _ _ _ _ c.loop-column.invariant.steps
           (c.tick_words.ensures ∙ ap (λ w. c.loop-column.steps + w) c.WORDS.ensures);
     }

@@ -1,7 +1,5 @@
-use Rattle.std.proofs.Common.{◌≡◌, ◌≢◌, ℕ, ◌<◌, ◌≤◌, ◌+◌, ◌*◌, arith, List, length, slice_index, ap, ◌∙◌, subst, sym}
-use Rattle.coeff_algebra.specs.Maps.{table_of, stored_entry}
+use Rattle.std.proofs.Common.{length, ap, ◌∙◌, sym}
 use Rattle.fold_class.specs.Step.{words_at}
-use Rattle.epoch_entry.specs.Shape.{IsAscending}
 use Rattle.epoch_entry.proofs.Insides.{inside_of}
 use Rattle.epoch_entry.proofs.StepWords.{column_moved}
 use Rattle.epoch_entry.proofs.StepSums.{five_rise, run_cost}
@@ -12,12 +10,11 @@ scatter-requires-clause-inside g c =
     inside_of _ _ _ _ c.as_slice-places.ensures (c.split_at_mut-state.ensures.front_len ∙ c.len.ensures) c.requires.shape.history_inside
 
 pub scatter-requires-clause-ascending : goal.scatter-requires-clause-ascending
-scatter-requires-clause-ascending g c = subst IsAscending (sym c.as_slice-places.ensures) c.requires.shape.history_ascends
+scatter-requires-clause-ascending g c = rw c.as_slice-places.ensures c.requires.shape.history_ascends
 
 pub column_to_state-requires-clause-map : goal.column_to_state-requires-clause-map
 column_to_state-requires-clause-map g c =
-    subst (λ (l : List ℕ). length c.args.map.now ≡ length l * (length l + 1) * g.C.Coeff.WORDS) (sym c.as_slice-linear.ensures)
-    c.requires.map
+    rw c.as_slice-linear.ensures c.requires.map
 
 pub column_to_state-requires-clause-inside : goal.column_to_state-requires-clause-inside
 column_to_state-requires-clause-inside g c =
@@ -25,15 +22,14 @@ column_to_state-requires-clause-inside g c =
     c.requires.shape.linear_inside
 
 pub column_to_state-requires-clause-ascending : goal.column_to_state-requires-clause-ascending
-column_to_state-requires-clause-ascending g c = subst IsAscending (sym c.as_slice-linear.ensures) c.requires.shape.linear_ascends
+column_to_state-requires-clause-ascending g c = rw c.as_slice-linear.ensures c.requires.shape.linear_ascends
 
 pub exec-requires-clause-arguments : goal.exec-requires-clause-arguments
 exec-requires-clause-arguments g c = c.requires.args ∙ sym c.requires.shape.code_args
 
 pub state_to_column-requires-clause-map : goal.state_to_column-requires-clause-map
 state_to_column-requires-clause-map g c =
-    subst (λ (l : List ℕ). length c.args.map.now ≡ length l * (length l + 1) * g.C.Coeff.WORDS) (sym c.as_slice-linear.ensures)
-    c.requires.map
+    rw c.as_slice-linear.ensures c.requires.map
 
 pub returns-clause-moves : goal.returns-clause-moves
 returns-clause-moves g c =
@@ -47,22 +43,17 @@ returns-clause-moves g c =
     let el = c.as_slice-linear.ensures in
     let eh = c.as_slice-places.ensures in (
       state,
-      column_moved g.met.C.Coeff.algebra m.from_words m.WORDS g.met.C.Coeff.storage p c.requires.shape c.args.args.now c.args.history.now
-          map' c.gather.new.to map'' first state after
+      column_moved g.met.C.Coeff.algebra _ _ g.met.C.Coeff.storage p c.requires.shape _ _
+          _ _ _ _ _ _
           c.requires.history
           (c.column_to_state.auto.state ∙ c.scatter.auto.state ∙ (c.split_at_mut-state.ensures.front_len ∙ c.len.ensures))
-          (subst (λ (l : List ℕ). (i : ℕ) → i < length l → slice_index first (slice_index l i) ≡ slice_index c.args.history.now i) eh
-          c.scatter.ensures.written)
-          (subst (λ (l : List ℕ). (i : ℕ) → i < length l → slice_index state (slice_index l i) ≡ m.elements.to_word
-          (table_of m.from_words m.WORDS (length l) map' i (length l))) el c.column_to_state.ensures.written)
-          (subst (λ (l : List ℕ). (v : ℕ) → ((i : ℕ) → i < length l → slice_index l i ≢ v) → slice_index state v ≡ slice_index first v) el
-          c.column_to_state.ensures.others)
+          (rw eh at c.scatter.ensures.written)
+          (rw el at c.column_to_state.ensures.written)
+          (rw el at c.column_to_state.ensures.others)
           c.exec.ensures.step
           (c.gather.ensures.words ∙ ap (words_at after) eh)
-          (subst (λ (l : List ℕ). (i : ℕ) → i < length l → stored_entry m.WORDS (length l) map'' i (length l) ≡ m.words
-          (m.elements.embed (slice_index after (slice_index l i)))) el c.state_to_column.ensures.written)
-          (subst (λ (l : List ℕ). (i k : ℕ) → i < length l → k < length l
-          → stored_entry m.WORDS (length l) map'' i k ≡ stored_entry m.WORDS (length l) map' i k) el c.state_to_column.ensures.others),
+          (rw el at c.state_to_column.ensures.written)
+          (rw el at c.state_to_column.ensures.others),
     )
 
 pub returns-clause-steps : goal.returns-clause-steps
@@ -72,6 +63,6 @@ returns-clause-steps g c =
 
 pub returns-clause-cost : goal.returns-clause-cost
 returns-clause-cost g c =
-    run_cost _ _ _ _ _ _ _ _ _ _ _ _ _ (ap (λ (l : List ℕ). length l) c.as_slice-places.ensures)
-    (ap (λ (l : List ℕ). length l) c.as_slice-linear.ensures) c.scatter.ensures.steps c.column_to_state.ensures.steps
+    run_cost _ _ _ _ _ _ _ _ _ _ _ _ _ (ap length c.as_slice-places.ensures)
+    (ap length c.as_slice-linear.ensures) c.scatter.ensures.steps c.column_to_state.ensures.steps
     c.exec.ensures.steps c.gather.ensures.steps c.state_to_column.ensures.steps

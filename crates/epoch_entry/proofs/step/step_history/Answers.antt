@@ -1,4 +1,4 @@
-use Rattle.std.proofs.Common.{◌≡◌, ℕ, ◌<◌, List, length, slice_index, ap, ◌∙◌, subst}
+use Rattle.std.proofs.Common.{ap, ◌∙◌}
 use Rattle.fold_class.specs.Step.{words_at}
 use Rattle.epoch_entry.proofs.StepWords.{history_written}
 use Rattle.epoch_entry.proofs.step.step_history.Goals as goal
@@ -9,8 +9,7 @@ returns-clause-remembers g c =
     let state = c.scatter.new.state in
     let eh = c.as_slice-places.ensures in (
       state,
-      history_written p c.args.history.now state c.requires.history (c.scatter.auto.state ∙ c.requires.state)
-          (subst (λ (l : List ℕ). (i : ℕ) → i < length l → slice_index state (slice_index l i) ≡ slice_index c.args.history.now i) eh
-          c.scatter.ensures.written),
+      history_written p _ _ c.requires.history (c.scatter.auto.state ∙ c.requires.state)
+          (rw eh at c.scatter.ensures.written),
       c.gather.ensures.words ∙ ap (words_at c.exec.new.state) eh ∙ ap (λ s. words_at s p.layout.history) c.exec.ensures.step,
     )

@@ -1,4 +1,4 @@
-use Rattle.std.proofs.Common.{◌<◌, length, slice_index, arith, refl, subst, sym}
+use Rattle.std.proofs.Common.{◌<◌, length, slice_index, arith, refl}
 use Rattle.epoch_entry.proofs.WritingPlaces.{next_written, others_stay}
 use Rattle.epoch_entry.proofs.words.scatter.Goals as goal
 
@@ -8,11 +8,10 @@ loop-at-preserved g c =
     let at = c.loop-at.at in
     let state = c.loop-at.state in
     let within : at < length places = omega arith in
-    let room : slice_index places at < length state = subst (λ k. slice_index places at < k) (sym c.loop-at.auto.state)
-    (c.requires.inside at 0 within) in
+    let room : slice_index places at < length state = rw c.loop-at.auto.state (c.requires.inside at 0 within) in
     record {
-      written = next_written places state at (slice_index c.args.words.now at) (λ i. slice_index c.args.words.now i)
+      written = next_written _ _ at (slice_index c.args.words.now at) (λ i. slice_index c.args.words.now i)
           c.requires.ascending within room c.loop-at.invariant.written refl;
-      others = others_stay places state c.args.state.now at (slice_index c.args.words.now at) c.loop-at.invariant.others;
+      others = others_stay _ _ _ at (slice_index c.args.words.now at) c.loop-at.invariant.others;
       steps = omega (arith, c.loop-at.invariant.steps);
     }

@@ -1,6 +1,3 @@
-use Rattle.query_lang.specs.declared.typed.Class.TheVariants.{Linear, Other}
-use Rattle.epoch_entry.specs.Bounds.{bounds_sizes, bounds_folding, bounds_open, bounds_absorb}
-use Rattle.epoch_entry.specs.contracts.any.AnyEpochsEpochKind.TheImpl.{ghosts}
 use Rattle.epoch_entry.proofs.PurposeFacts.{for_bounds}
 use Rattle.epoch_entry.proofs.any.AnyEpochs.for_entries.Goals as goal
 
@@ -9,7 +6,7 @@ returns-in-Linear c = record {
   program = c.of-in-Linear.ensures.program;
   kind = λ f is.
       let k = c.of-in-Linear.result in
-      for_bounds f (ghosts.sizes k) (ghosts.folding k) (ghosts.open_bound k) (ghosts.absorb_bound k) c.args.entries c.args.program Linear is
+      for_bounds f _ _ _ _ _ _ _ is
       c.in-Bounds.is c.in-Linear.is (c.of-in-Linear.ensures.kind f is);
   merge = c.of-in-Linear.ensures.merge;
 }
@@ -19,7 +16,7 @@ returns-in-Other c = record {
   program = c.of-in-Other.ensures.program;
   kind = λ f is.
       let p = c.of-in-Other.result.program in
-      for_bounds f (bounds_sizes p) (bounds_folding p) (bounds_open p) (bounds_absorb p) c.args.entries c.args.program Other is
+      for_bounds f _ _ _ _ _ _ _ is
       c.in-Bounds.is c.in-Other.is (c.of-in-Other.ensures.kind f is);
   merge = c.of-in-Other.ensures.merge;
 }

@@ -2,7 +2,6 @@ use Rattle.std.proofs.Common.{refl, sym, ap, ◌∙◌}
 use Rattle.std.specs.Prelude.{fold}
 use Rattle.std.proofs.Math.Logic.{∥∥₁_elim}
 use Rattle.std.proofs.Props.{props}
-use Rattle.query_lang.specs.Folds.{initial_state}
 use Rattle.fold_code.specs.Meaning.{code_step}
 use Rattle.epoch_entry.proofs.FoldLemmas.{code_folds}
 use Rattle.epoch_entry.proofs.other.OtherEpochsEpochKind.merge.Goals as goal
@@ -11,5 +10,5 @@ pub returns-clause-merged : goal.returns-clause-merged
 returns-clause-merged g c rows st may =
     let p = c.args.self.now.program in
     ∥∥₁_elim c.args.self.now.sound (hlevel props) (λ (f, h).
-    c.copy_words.ensures.words ∙ st f h ∙ sym (code_folds f p.code h.code (initial_state f) rows h.valid.starts)
+    c.copy_words.ensures.words ∙ st f h ∙ sym (code_folds f _ h.code _ rows h.valid.starts)
     ∙ ap (λ s. fold (code_step p.code) s rows) (sym (may refl ∙ h.layout.initial)))
