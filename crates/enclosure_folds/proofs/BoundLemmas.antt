@@ -35,7 +35,7 @@ at_most_same [] = tt
 at_most_same (x ∷ xs) = (le_refl x, at_most_same xs)
 
 all_front : (xs ys : List ArgRow) → All AreWords (xs ++ ys) → All AreWords xs
-all_front xs ys h k d lt = subst AreWords (get_or_append_left xs ys d k lt) (h k d (omega (arith, lt, length-append xs ys)))
+all_front xs ys h k d lt = rw (get_or_append_left xs ys d k lt) at (h k d (omega (arith, lt, length-append xs ys)))
 
 -- the last of some lists, and all rows before it
 split_last : (x : List ArgRow) (xs : List (List ArgRow)) → (earlier : List ArgRow) × (all_rows (x ∷ xs) ≡ earlier ++ last_or x xs)
@@ -52,10 +52,10 @@ module _ (f : TypedFold) (valid : IsValidFold f) (mono : is_monotone f ≡ true)
 
   -- the three states after some rows are as long as a state
   long_first : (rows : List ArgRow) → length (folded f (initial_state f) rows) ≡ n
-  long_first rows = length-folded f (initial_state f) rows ∙ valid.starts
+  long_first rows = length-folded f _ rows ∙ valid.starts
 
   long_least : (rows : List ArgRow) → length (folded f (least_state f) rows) ≡ n
-  long_least rows = length-folded f (least_state f) rows ∙ length-replicate {A = ℕ} n 0
+  long_least rows = length-folded f _ rows ∙ length-replicate {A = ℕ} n 0
 
   -- one epoch
   alone : (rows : List ArgRow) → Encloses (first_third n (bounds_after f rows)) (first_third n (bounds_after f rows))
@@ -80,7 +80,7 @@ module _ (f : TypedFold) (valid : IsValidFold f) (mono : is_monotone f ≡ true)
     above = Enclosure.least_below f earlier last valid mono;
     below = Enclosure.greatest_above f earlier last valid mono words rows;
     exact = λ e.
-        let same = exact_equal (folded f (least_state f) last) (folded f (greatest_state f) last) e in
+        let same = exact_equal _ _ e in
         let all = Enclosure.exact f earlier last valid mono words rows same in
         (sym all, sym same ∙ sym all);
   }
@@ -111,7 +111,7 @@ module _ (f : TypedFold) (valid : IsValidFold f) (mono : is_monotone f ≡ true)
 
 -- some rows are in some pieces
 pub some_pieces : (pieces : List (List ArgRow)) (rows : List ArgRow) → all_rows pieces ≡ rows → 0 < length rows → 0 < length pieces
-some_pieces [] rows e some = absurd (omega (arith, ap (λ l. length l) e, some))
+some_pieces [] rows e some = absurd (omega (arith, ap length e, some))
 some_pieces (x ∷ xs) rows e some = omega arith
 
 -- the words of an epoch's row are what its rows are folded to
@@ -126,8 +126,7 @@ module _ (f : TypedFold) (sizes : Sizes) (folding : Folding) (opening absorbing 
   pub rows_enclosed : (key : Key) (count number : ℕ) (lists : List (List ArgRow)) → All AreWords (all_rows lists) → 0 < length lists →
       RowsEnclose (fold_states f) (epoch_rows folding key count number lists) (folded f (initial_state f) (all_rows lists))
   rows_enclosed key count number lists rows some =
-      subst (λ z. Encloses (low_bound (fold_states f) z) (high_bound (fold_states f) z) (folded f (initial_state f) (all_rows lists)))
-      (sym (row_words_are folding key count number lists ∙ ap (λ g. map g lists) (fun_ext h.folded)))
+      rw (row_words_are folding key count number lists ∙ ap (λ g. map g lists) (fun_ext h.folded))
       (enclosed f valid mono words lists rows some)
 
   pub table_enclosed : (g : Geometry) (uses : List Use) (key : Key) → All AreWords (map (λ u. u.row) (filter (is_use_of key) uses))

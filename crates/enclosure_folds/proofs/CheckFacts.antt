@@ -23,8 +23,8 @@ pub record Stands {A : Type 0} (xs : List A) (n : ℕ) (x : A) (rest : List A) :
   pub next : drop (n + 1) xs ≡ rest
 
 pub stands : {A : Type 0} (xs : List A) (n : ℕ) (x : A) (rest : List A) → drop n xs ≡ x ∷ rest → Stands xs n x rest
-stands [] zero x rest e = absurd (omega (arith, ap (λ l. length l) e))
-stands [] (suc n) x rest e = absurd (omega (arith, ap (λ l. length l) e))
+stands [] zero x rest e = absurd (omega (arith, ap length e))
+stands [] (suc n) x rest e = absurd (omega (arith, ap length e))
 stands (y ∷ ys) zero x rest e = record { found = ap (λ l. slice_get l 0) e; within = omega arith; next = ap (λ l. drop 1 l) e }
 stands (y ∷ ys) (suc n) x rest e =
     let later = stands ys n x rest e in
@@ -74,15 +74,15 @@ module _ (q : TypedQuery) (p : PlanParts) (plan : IsPlanOf q p) (xs : List Typed
       }
 
   pub is_groupby : (number : ℕ) → Some number ≡ option_map (λ t. t.fold_number) (taking_of one.op) → IsGroupby q p xs i one group number
-  is_groupby number e = go (taking_of one.op) refl e
+  is_groupby number e = go _ refl e
     where
       go : (o : Option Taking) → taking_of one.op ≡ o → Some number ≡ option_map (λ t. t.fold_number) o
           → IsGroupby q p xs i one group number
       go None known none = absurd cc
-      go (Some t) known some = taken number t known (sym cc)
+      go (Some t) known some = taken _ t known (sym cc)
 
   pub other_groups : None ≡ option_map (λ t. t.fold_number) (taking_of one.op) → drop group (takings q.streams) ≡ takings (drop (i + 1) xs)
-  other_groups e = go (taking_of one.op) refl e
+  other_groups e = go _ refl e
     where
       go : (o : Option Taking) → taking_of one.op ≡ o → None ≡ option_map (λ t. t.fold_number) o
           → drop group (takings q.streams) ≡ takings (drop (i + 1) xs)
@@ -91,7 +91,7 @@ module _ (q : TypedQuery) (p : PlanParts) (plan : IsPlanOf q p) (xs : List Typed
 
   pub other_fault : None ≡ option_map (λ t. t.fold_number) (taking_of one.op)
       → first_fault q.folds (drop i xs) ≡ first_fault q.folds (drop (i + 1) xs)
-  other_fault e = go (taking_of one.op) refl e
+  other_fault e = go _ refl e
     where
       go : (o : Option Taking) → taking_of one.op ≡ o → None ≡ option_map (λ t. t.fold_number) o
           → first_fault q.folds (drop i xs) ≡ first_fault q.folds (drop (i + 1) xs)
@@ -110,7 +110,7 @@ none_later None b e = e
 none_later (Some x) b e = absurd cc
 
 bounded : (name : Name) (f : TypedFold) → fold_fault name (Some f) ≡ None → is_bounded (class_of f) f ≡ true
-bounded name f e = go (is_bounded (class_of f) f) e
+bounded name f e = go _ e
   where
     go : (b : Bool) → if◌then◌else◌ {A = Option QueryFault} b None (Some (record { kind = NotMonotone; span = name.span })) ≡ None
         → b ≡ true
@@ -121,11 +121,11 @@ all_bounded : (folds : List TypedFold) (streams : List TypedStream) → first_fa
     → (i : ℕ) (f : TypedFold) → option_and_then (λ t. slice_get folds t.fold_number) (slice_get (takings streams) i) ≡ Some f
     → is_bounded (class_of f) f ≡ true
 all_bounded folds [] e i f has = absurd cc
-all_bounded folds (one ∷ streams) e i f has = go (taking_of one.op) refl
-    (λ j h. all_bounded folds streams (none_later (stream_fault folds one) (first_fault folds streams) e) j f h) i has
+all_bounded folds (one ∷ streams) e i f has = go _ refl
+    (λ j h. all_bounded folds streams (none_later _ _ e) j f h) i has
   where
     here : stream_fault folds one ≡ None
-    here = none_first (stream_fault folds one) (first_fault folds streams) e
+    here = none_first _ _ e
 
     go : (o : Option Taking) → taking_of one.op ≡ o → ((j : ℕ) → option_and_then (λ t. slice_get folds t.fold_number)
         (slice_get (takings streams) j) ≡ Some f → is_bounded (class_of f) f ≡ true)
@@ -134,7 +134,7 @@ all_bounded folds (one ∷ streams) e i f has = go (taking_of one.op) refl
     go None known later j h = later j h
     go (Some t) known later zero h =
         bounded one.name f (ap (fold_fault one.name) (sym h) ∙ ap (λ o. fold_fault one.name
-        (option_and_then (λ (t : Taking). slice_get folds t.fold_number) o)) (sym known) ∙ here)
+        (option_and_then (λ t. slice_get folds t.fold_number) o)) (sym known) ∙ here)
     go (Some t) known later (suc j) h = later j h
 
 pub no_fault : NoFaultMeansBounds

@@ -11,7 +11,7 @@ use Rattle.query_lang.specs.Folds.{fold_states, initial_state, IsValidFold}
 use Rattle.query_lang.specs.Words.{AreWords}
 use Rattle.epoch_model.specs.declared.tables.Row.{Row}
 use Rattle.epoch_model.specs.Epochs.{Geometry}
-use Rattle.epoch_model.specs.Keys.{Key, ArgRow, ascending, has, key_eq}
+use Rattle.epoch_model.specs.Keys.{Key, ArgRow, ascending, has}
 use Rattle.epoch_model.specs.Laws.{HasRoom, rows_given}
 use Rattle.epoch_model.specs.Machine.{Epoch, Event, empty_machine, lists_of, run}
 use Rattle.epoch_model.specs.TableLaws.{keys_given}
@@ -50,14 +50,14 @@ use Rattle.enclosure_folds.proofs.ShownFacts.{long_bounds}
 key_from : (n : ℕ) (closed : List Epoch) → All (λ epoch. length epoch.key ≡ n) closed → (key : Key) → has key (keys_of closed) ≡ true
     → length key ≡ n
 key_from n [] all key e = absurd cc
-key_from n (epoch ∷ closed) all key e = by_test (key_eq epoch.key key)
-    (λ t. subst (λ k. length k ≡ n) (key_eq-true epoch.key key t) (All-head (λ (x : Epoch). length x.key ≡ n) epoch closed all))
-    (λ t. key_from n closed (All-tail (λ (x : Epoch). length x.key ≡ n) epoch closed all) key
+key_from n (epoch ∷ closed) all key e = by_test _
+    (λ t. rw (key_eq-true epoch.key key t) at (All-head (λ (x : Epoch). length x.key ≡ n) epoch closed all))
+    (λ t. key_from n closed (All-tail (λ x. length x.key ≡ n) epoch _ all) key
     (sym (ap (λ b. b || has key (keys_of closed)) t) ∙ e))
 
 keys_have : (n : ℕ) (closed : List Epoch) → All (λ epoch. length epoch.key ≡ n) closed → All (λ key. length key ≡ n) (closed_keys closed)
-keys_have n closed all = all_of (λ key. length key ≡ n) (closed_keys closed)
-    (λ key e. key_from n closed all key (sym (has-ascending key (keys_of closed)) ∙ e))
+keys_have n closed all = all_of _ _
+    (λ key e. key_from n _ all _ (sym (has-ascending _ _) ∙ e))
 
 some_length : {A : Type 0} (xs : List A) → some xs ≡ true → 0 < length xs
 some_length [] e = absurd cc
@@ -65,8 +65,8 @@ some_length (x ∷ xs) e = omega arith
 
 have_lists : (closed : List Epoch) → All (λ key. 0 < length (lists_of key closed)) (closed_keys closed)
 have_lists closed =
-    all_of (λ key. 0 < length (lists_of key closed)) (closed_keys closed)
-    (λ key e. some_length (lists_of key closed) (sym (has-some key closed) ∙ (sym (has-ascending key (keys_of closed)) ∙ e)))
+    all_of (λ key. 0 < length (lists_of key closed)) _
+    (λ key e. some_length (lists_of key closed) (sym (has-some key closed) ∙ (sym (has-ascending key (keys_of _)) ∙ e)))
 
 -- the table of closed epochs, with a row for each
 
@@ -125,7 +125,7 @@ module _ (heading : Heading) (f : TypedFold) (sizes : Sizes) (folding : Folding)
         → shown_by (Group heading.class heading.depth (closed_epochs closed)) (closed_table heading folding closed) ≡ closed_by (class_of f)
         heading f closed
     shown_is kind = ap (λ c. shown_by (Group c heading.depth (closed_epochs closed)) (closed_table heading folding closed)) is.class
-        ∙ by_class (class_of f) kind
+        ∙ by_class _ kind
 
   module _ (valid : IsValidFold f) (keys : All (λ epoch. length epoch.key ≡ length heading.key_names) closed) where
     triples : IsBoundsKindOf f sizes folding opening absorbing → HasTriples (closed_table heading folding closed)
@@ -170,7 +170,7 @@ module _ (g : Geometry) (events : List Event) (room : HasRoom g) (swept : IsSwep
   left = (run g events (empty_machine g)).closed
 
   rows_all : (key : Key) → all_rows (lists_of key left) ≡ rows_given key events
-  rows_all key = ap all_rows (closed-lists g (run g events (empty_machine g)) key swept) ∙ no_row_is_lost_lem g events key room
+  rows_all key = ap all_rows (closed-lists g _ _ swept) ∙ no_row_is_lost_lem g events key room
 
   -- a folding that has one row for each key
   abbrev plain : Folding
@@ -178,14 +178,13 @@ module _ (g : Geometry) (events : List Event) (room : HasRoom g) (swept : IsSwep
 
   keys_are : closed_keys left ≡ ascending (keys_given events)
   keys_are =
-      sym (keys_through (λ (row : Row). row.key) (λ key. exact_row plain key (length (lists_of key left)) (all_rows (lists_of key left)))
-      (λ key. refl) (closed_keys left))
-      ∙ (ap (map (λ (row : Row). row.key))
-      (sym (flat_map-single (closed_key_rows plain left) (λ key. exact_row plain key (length (lists_of key left))
-      (all_rows (lists_of key left))) (closed_keys left) (λ key. refl))
+      sym (keys_through _ _
+      (λ key. refl) _)
+      ∙ (ap (map (λ row. row.key))
+      (sym (flat_map-single _ _ _ (λ key. refl))
       ∙ exact_rows_fold_all_packets_lem plain g events room refl swept)
-      ∙ keys_through (λ (row : Row). row.key) (λ key. exact_row plain key (length (lists_of key left)) (rows_given key events))
-      (λ key. refl) (ascending (keys_given events)))
+      ∙ keys_through _ _
+      (λ key. refl) _)
 
   module _ (f : TypedFold) (valid : IsValidFold f) (words : AreWords (initial_state f)) where
     abbrev fold_given : Key → List ℕ
@@ -194,9 +193,7 @@ module _ (g : Geometry) (events : List Event) (room : HasRoom g) (swept : IsSwep
     encloses : is_bounded class.Other f ≡ true → (key : Key) → All AreWords (rows_given key events) → 0 < length (lists_of key left)
         → Encloses (closed_bounds f left key).low (closed_bounds f left key).high (fold_given key)
     encloses mono key given some =
-        subst (λ rows. Encloses (closed_bounds f left key).low (closed_bounds f left key).high (Folds.folded f (initial_state f) rows))
-        (rows_all key)
-        (enclosed f valid mono words (lists_of key left) (subst (All AreWords) (sym (rows_all key)) given) some)
+        rw (rows_all _) at (enclosed f valid mono words _ (rw (rows_all key) given) some)
 
     module _ (heading : Heading) (given : TakesWords events) (bounded : is_bounded (class_of f) f ≡ true) where
       by_its_class : (c : Class) → class_of f ≡ c → HoldsAfter f events (closed_by c heading f left)
@@ -225,6 +222,5 @@ closed_enclose f g events key room swept valid mono words given some =
 
 pub closed_hold : AlikeFoldingsMakeOneTable → ClosedTablesHold
 closed_hold alike heading f sizes folding opening absorbing g events room swept kind is valid bounded words given =
-    subst (HoldsAfter f events) (sym (shown_is heading f sizes folding opening absorbing (run g events (empty_machine g)).closed is alike
-    kind))
-    (by_its_class g events room swept f valid words heading given bounded (class_of f) refl)
+    rw (shown_is heading f sizes folding opening absorbing (run g events (empty_machine g)).closed is alike
+    kind) (by_its_class g events room swept f valid words heading given bounded (class_of f) refl)

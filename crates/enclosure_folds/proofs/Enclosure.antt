@@ -38,7 +38,7 @@ both_at_most (x ∷ xs) (y ∷ ys) p q = let e : x ≡ y = omega (arith, p.0, q.
 
 start_tied : (f : TypedFold) (low high args : List ℕ) → length low ≡ fold_states f → length high ≡ fold_states f → IsAtMost low high
     → Ties (kinds_from none_fixed f) (low ++ args) (high ++ args)
-start_tied f low high args hl hh h s = place (nat_lt s (fold_states f)) refl
+start_tied f low high args hl hh h s = place _ refl
   where
     place : (b : Bool) → nat_lt s (fold_states f) ≡ b → Tied (if nat_lt s (fold_states f) then Rising else Free)
         (slice_index (low ++ args) s) (slice_index (high ++ args) s)
@@ -46,25 +46,23 @@ start_tied f low high args hl hh h s = place (nat_lt s (fold_states f)) refl
         let lt : s < fold_states f = grind (arith, nat_tests) in
         let in_low : s < length low = omega (arith, lt, hl) in
         let in_high : s < length high = omega (arith, lt, hh) in
-        let el : slice_index (low ++ args) s ≡ slice_index low s = get_or_append_left low args 0 s in_low in
-        let eh : slice_index (high ++ args) s ≡ slice_index high s = get_or_append_left high args 0 s in_high in
-        let le : slice_index low s ≤ slice_index high s = AllZip-get_or (λ x y. x ≤ y) low high s 0 0 h in_low in
-        subst (λ b. Tied (if b then Rising else Free) (slice_index (low ++ args) s) (slice_index (high ++ args) s)) (sym t)
-        (omega (arith, el, eh, le))
+        let el = get_or_append_left low args 0 s in_low in
+        let eh = get_or_append_left high args 0 s in_high in
+        let le = AllZip-get_or _ _ _ s 0 0 h in_low in
+        rw t (omega (arith, el, eh, le))
     place false t =
         let ge : fold_states f ≤ s = grind (arith, nat_tests) in
-        subst (λ b. Tied (if b then Rising else Free) (slice_index (low ++ args) s) (slice_index (high ++ args) s)) (sym t)
-        (get_or-append_right low args (fold_states f) s 0 hl ge ∙ sym (get_or-append_right high args (fold_states f) s 0 hh ge))
+        rw t (get_or-append_right low args (fold_states f) s 0 hl ge ∙ sym (get_or-append_right high args (fold_states f) s 0 hh ge))
 
 pub keeps_step : (f : TypedFold) (low high args : List ℕ) → IsValidFold f → is_monotone f ≡ true → length low ≡ fold_states f
     → IsAtMost low high → IsAtMost (body f low args) (body f high args)
 keeps_step f low high args valid mono hl h = at_most (body f low args) (body f high args) (ll ∙ sym lh) each
   where
     hh : length high ≡ fold_states f
-    hh = sym (length_all_zip (λ x y. x ≤ y) low high h) ∙ hl
+    hh = sym (length_all_zip _ _ _ h) ∙ hl
 
     ll : length (body f low args) ≡ fold_states f
-    ll = length-after (fold_block f) args low ∙ hl
+    ll = length-after (fold_block f) _ _ ∙ hl
 
     lh : length (body f high args) ≡ fold_states f
     lh = length-after (fold_block f) args high ∙ hh
@@ -124,17 +122,17 @@ pub least_below : (f : TypedFold) (earlier last : List (List ℕ)) → IsValidFo
     → IsAtMost (folded f (least_state f) last) (folded f (initial_state f) (earlier ++ last))
 least_below f earlier last valid mono =
     let middle = folded f (initial_state f) earlier in
-    let long : length middle ≡ fold_states f = length-folded f (initial_state f) earlier ∙ valid.starts in
-    subst (λ z. IsAtMost (folded f (least_state f) last) z) (sym (fold-append (body f) (initial_state f) earlier last))
-    (keeps_rows f (least_state f) middle last valid mono (length-replicate {A = ℕ} (fold_states f) 0) (least_is f middle long))
+    let long = length-folded f _ earlier ∙ valid.starts in
+    rw (fold-append (body f) (initial_state f) earlier last) (keeps_rows f (least_state f) middle last valid mono
+    (length-replicate {A = ℕ} (fold_states f) 0) (least_is f middle long))
 
 pub greatest_above : (f : TypedFold) (earlier last : List (List ℕ)) → IsValidFold f → is_monotone f ≡ true → AreWords (initial_state f)
     → All AreWords earlier → IsAtMost (folded f (initial_state f) (earlier ++ last)) (folded f (greatest_state f) last)
 greatest_above f earlier last valid mono words rows =
     let middle = folded f (initial_state f) earlier in
-    let long : length middle ≡ fold_states f = length-folded f (initial_state f) earlier ∙ valid.starts in
-    subst (λ z. IsAtMost z (folded f (greatest_state f) last)) (sym (fold-append (body f) (initial_state f) earlier last))
-    (keeps_rows f middle (greatest_state f) last valid mono long (greatest_is f middle long
+    let long = length-folded f _ earlier ∙ valid.starts in
+    rw (fold-append (body f) (initial_state f) earlier last) (keeps_rows f middle (greatest_state f) last valid mono long
+    (greatest_is f middle long
     (folded_words f (initial_state f) earlier valid valid.starts words rows)))
 
 pub exact : (f : TypedFold) (earlier last : List (List ℕ)) → IsValidFold f → is_monotone f ≡ true → AreWords (initial_state f)

@@ -34,15 +34,15 @@ key_bounds b lists low high mark el eh em f h e =
 
 pub decayed_twice : AreKeyBounds decayed_sum (two_epochs 8 8) 8 9223372036854775816 false
 unfolding op_value
-decayed_twice = key_bounds decayed_sum (two_epochs 8 8) 8 9223372036854775816 false refl refl refl
+decayed_twice = key_bounds _ (two_epochs 8 8) 8 9223372036854775816 _ refl refl refl
 
 pub decayed_once : AreKeyBounds decayed_sum (one_epoch 0) 0 0 true
 unfolding op_value
-decayed_once = key_bounds decayed_sum (one_epoch 0) 0 0 true refl refl refl
+decayed_once = key_bounds _ (one_epoch 0) 0 0 _ refl refl refl
 
 pub clamped_twice : AreKeyBounds clamped (two_epochs 12 20) 10 10 true
 unfolding op_value
-clamped_twice = key_bounds clamped (two_epochs 12 20) 10 10 true refl refl refl
+clamped_twice = key_bounds _ (two_epochs 12 20) 10 10 _ refl refl refl
 
 pub clamped_once : AreKeyBounds clamped (one_epoch 3) 3 3 true
 unfolding op_value

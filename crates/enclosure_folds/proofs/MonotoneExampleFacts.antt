@@ -29,30 +29,30 @@ from_greatest : (n : ℕ) (b : Block) (f : TypedFold) (row : List ℕ) → HasBo
 from_greatest n b f row h = ap (λ z. one_row z (2 ^ 64 - 1) (fold_block f) row) h.0 ∙ ap (λ z. one_row n (2 ^ 64 - 1) z row) h.1
 
 pub decayed_sum_found : IsFound 1 decayed_sum true
-decayed_sum_found f h = found 1 decayed_sum f h
+decayed_sum_found f h = found 1 _ f h
 
 pub clamped_found : IsFound 1 clamped true
-clamped_found f h = found 1 clamped f h
+clamped_found f h = found 1 _ f h
 
 pub wrapping_sum_found : IsFound 1 wrapping_sum false
-wrapping_sum_found f h = found 1 wrapping_sum f h
+wrapping_sum_found f h = found 1 _ f h
 
 pub shifted_left_found : IsFound 1 shifted_left false
-shifted_left_found f h = found 1 shifted_left f h
+shifted_left_found f h = found 1 _ f h
 
 pub choice_by_argument_found : IsFound 1 choice_by_argument true
-choice_by_argument_found f h = found 1 choice_by_argument f h
+choice_by_argument_found f h = found 1 _ f h
 
 pub choice_by_state_found : IsFound 2 choice_by_state false
-choice_by_state_found f h = found 2 choice_by_state f h
+choice_by_state_found f h = found 2 _ f h
 
 pub overwritten_found : IsFound 1 overwritten true
-overwritten_found f h = found 1 overwritten f h
+overwritten_found f h = found 1 _ f h
 
 pub decayed_sum_bounds : AreBounds decayed_sum (8 ∷ []) (8 ∷ []) (9223372036854775816 ∷ [])
 unfolding op_value
-decayed_sum_bounds f h = (from_least 1 decayed_sum f (8 ∷ []) h, from_greatest 1 decayed_sum f (8 ∷ []) h)
+decayed_sum_bounds f h = (from_least 1 _ f _ h, from_greatest 1 _ f _ h)
 
 pub clamped_bounds : AreBounds clamped (20 ∷ []) (10 ∷ []) (10 ∷ [])
 unfolding op_value
-clamped_bounds f h = (from_least 1 clamped f (20 ∷ []) h, from_greatest 1 clamped f (20 ∷ []) h)
+clamped_bounds f h = (from_least 1 _ f _ h, from_greatest 1 _ f _ h)

@@ -1,6 +1,5 @@
 -- What operators make of ordered operands.
-use Rattle.std.proofs.Common.{◌≡◌, ℕ, zero, suc, ◌+◌, ◌-◌, ◌*◌, ◌/◌, ◌^◌, ◌<◌, ◌≤◌, Bool, true, false, ◌==◌, nat_lt, if◌then◌else◌, refl}
-use Rattle.std.proofs.Common.{ap, arith}
+use Rattle.std.proofs.Common.{◌≡◌, ℕ, zero, suc, ◌+◌, ◌-◌, ◌*◌, ◌/◌, ◌^◌, ◌<◌, ◌≤◌, Bool, true, false, if◌then◌else◌, refl, ap, arith}
 use Rattle.std.proofs.Math.Nat.{div-zero, div-le_self, div-mul-le_self, add-div_left}
 use Rattle.std.proofs.lemmas.Nat.{le-div, pow_pos}
 use Rattle.query_lang.specs.declared.fold.Op.{Op}
@@ -19,13 +18,13 @@ div_order : (x y d : ℕ) → x ≤ y → x / d ≤ y / d
 div_order x y zero h = omega (arith, div-zero x, div-zero y)
 div_order x y (suc d) h =
     let low : x / suc d * suc d ≤ y = omega (arith, h, div-mul-le_self x (suc d)) in
-    le-div (x / suc d) y (suc d) (omega arith) low
+    le-div _ y _ (omega arith) low
 
 -- it rises at most as much as what is divided
 div_grows : (x d k : ℕ) → 0 < d → (x + k) / d ≤ x / d + k
 div_grows x d zero h = let e : x + 0 ≡ x = omega arith in omega (arith, ap (λ z. z / d) e)
 div_grows x d (suc k) h =
-    let more : (x + suc k) / d ≤ (d + (x + k)) / d = div_order (x + suc k) (d + (x + k)) d (omega (arith, h)) in
+    let more : (x + suc k) / d ≤ (d + (x + k)) / d = div_order _ _ d (omega (arith, h)) in
     omega (arith, more, add-div_left (x + k) h, div_grows x d k h)
 
 -- so a number less its quotient rises too
@@ -35,11 +34,11 @@ rest_order x y d h le =
     omega (arith, ap (λ z. z / d) e, div_grows x d (y - x) h, div-le_self x d, div-le_self y d)
 
 decay_order : (b : Bool) (x y s : ℕ) → x ≤ y → (if b then x - x / 2 ^ s else x) ≤ (if b then y - y / 2 ^ s else y)
-decay_order true x y s h = rest_order x y (2 ^ s) (pow_pos s) h
+decay_order true x y s h = rest_order x y _ (pow_pos s) h
 decay_order false x y s h = h
 
 shr_order : (b : Bool) (x y s : ℕ) → x ≤ y → (if b then x / 2 ^ s else 0) ≤ (if b then y / 2 ^ s else 0)
-shr_order true x y s h = div_order x y (2 ^ s) h
+shr_order true x y s h = div_order x y _ h
 shr_order false x y s h = omega arith
 
 quotient_order : (b : Bool) (x y d : ℕ) → x ≤ y → (if b then 0 else x / d) ≤ (if b then 0 else y / d)
@@ -55,9 +54,9 @@ sum_order _ x y u v e p q = cc
 
 pub product_order : (op : Op) (x y u : ℕ) → role op ≡ Product → x ≤ y → op_value op x u ≤ op_value op y u
 unfolding op_value
-product_order Decay x y u e p = decay_order (nat_lt u 64) x y u p
-product_order Shr x y u e p = shr_order (nat_lt u 64) x y u p
-product_order Div x y u e p = quotient_order (u == 0) x y u p
+product_order Decay x y u e p = decay_order _ x y u p
+product_order Shr x y u e p = shr_order _ x y u p
+product_order Div x y u e p = quotient_order _ x y u p
 product_order _ x y u e p = cc
 
 pub no_difference : (op : Op) → role op ≡ Difference → ⊥

@@ -1,5 +1,5 @@
 -- Finals may read the rows whose bounds are equal.
-use Rattle.std.proofs.Common.{◌≡◌, ℕ, ◌-◌, List, [], ◌∷◌, ◌++◌, length, map, subst, arith, length-append}
+use Rattle.std.proofs.Common.{◌≡◌, ℕ, ◌-◌, List, [], ◌∷◌, ◌++◌, length, map, arith, length-append}
 use Rattle.std.specs.List.{All, filter}
 use Rattle.std.proofs.lemmas.List.Elements.{All-nil, All-cons, All-head, All-tail}
 use Rattle.epoch_model.specs.declared.tables.Row.{Row}
@@ -44,7 +44,6 @@ exact_read t is order =
     let others : length t.state_names ≡ length (t.key_names ++ t.state_names) - length t.key_names =
     omega (arith, length-append t.key_names t.state_names) in record {
       keys = omega (arith, length-append t.key_names t.state_names);
-      rows = subst (λ n. All (HasColumns (length t.key_names) n) (rows_made t.rows)) others
-          (have_columns (length t.key_names) (length t.state_names) t.rows is.rows);
-      order = order_read t.rows order;
+      rows = rw others at (have_columns _ _ _ is.rows);
+      order = order_read _ order;
     }

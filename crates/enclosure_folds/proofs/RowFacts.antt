@@ -1,5 +1,5 @@
 -- The last row of each key gives its bounds.
-use Rattle.std.proofs.Common.{◌≡◌, ℕ, suc, ◌*◌, ◌<◌, ◌==◌, Bool, true, false, ◌||◌, List, [], ◌∷◌, ◌++◌, length, map, take, drop, refl, sym}
+use Rattle.std.proofs.Common.{◌≡◌, ℕ, suc, ◌*◌, ◌<◌, ◌==◌, Bool, true, false, ◌||◌, List, [], ◌∷◌, ◌++◌, length, map, drop, refl, sym}
 use Rattle.std.proofs.Common.{ap, ◌∙◌, subst, arith, length-append, if◌then◌else◌}
 use Rattle.std.specs.declared.cmp.Ordering.TheVariants.{Less}
 use Rattle.std.specs.List.{All, filter, flat_map}
@@ -43,8 +43,8 @@ or_true false b e = e
 
 pub all_of : (P : Key → Type 0) (keys : List Key) → ((k : Key) → has k keys ≡ true → P k) → All P keys
 all_of P [] h = All-nil P
-all_of P (x ∷ xs) h = All-cons P x xs (h x (ap (λ t. t || has x xs) (key_eq-refl x)))
-    (all_of P xs (λ k e. h k (or_true (key_eq x k) (has k xs) e)))
+all_of P (x ∷ xs) h = All-cons P x _ (h x (ap (λ t. t || has x xs) (key_eq-refl x)))
+    (all_of P xs (λ k e. h k (or_true _ _ e)))
 
 pub has_use : (key : Key) (uses : List Use) → has key (map (λ u. u.key) uses) ≡ true → 0 < length (filter (is_use_of key) uses)
 has_use key [] e = absurd cc
@@ -60,7 +60,7 @@ has_epoch g uses key some =
 
 all_have_epochs : (g : Geometry) (uses : List Use) → All (λ key. 0 < length (epochs g uses key)) (keys_used uses)
 all_have_epochs g uses =
-    all_of (λ key. 0 < length (epochs g uses key)) (keys_used uses)
+    all_of (λ key. 0 < length (epochs g uses key)) _
     (λ key e. has_epoch g uses key (has_use key uses (sym (has-ascending key (map (λ u. u.key) uses)) ∙ e)))
 
 -- a key differs from a greater one
@@ -71,12 +71,12 @@ or_same false = refl
 
 not_above_itself : (a : Key) → key_cmp a a ≡ Less → ⊥
 not_above_itself a e =
-    let same : a ∷ a ∷ [] ≡ a ∷ [] = same_ascending (a ∷ a ∷ []) (a ∷ []) ((e, tt), (tt, tt)) (tt, tt) (λ k. or_same (key_eq a k)) in
-    absurd (omega (arith, ap (λ l. length l) same))
+    let same : a ∷ a ∷ [] ≡ a ∷ [] = same_ascending _ _ ((e, tt), (tt, tt)) (tt, tt) (λ k. or_same _) in
+    absurd (omega (arith, ap length same))
 
 less_apart : (a b : Key) → key_cmp a b ≡ Less → key_eq a b ≡ false
-less_apart a b e = by_test (key_eq a b)
-    (λ t. absurd (not_above_itself a (subst (λ x. key_cmp a x ≡ Less) (sym (key_eq-true a b t)) e)))
+less_apart a b e = by_test _
+    (λ t. absurd (not_above_itself a (rw (← (key_eq-true a b t)) at e)))
     (λ t. t)
 
 -- the rows of one key
@@ -94,8 +94,8 @@ module _ (n : ℕ) (folding : Folding) (key : Key) (count : ℕ) where
 
   last_counts : (number : ℕ) (x : List ArgRow) (xs : List (List ArgRow)) (rest : List Row) → goes_on key rest ≡ false →
       bounds_in n (epoch_rows folding key count number (x ∷ xs) ++ rest) ≡ bounds_by (last_or x xs) ∷ bounds_in n rest
-  last_counts number x [] rest other = rw other refl
-  last_counts number x (y ∷ ys) rest other = rw (key_eq-refl key) (last_counts (suc number) y ys rest other)
+  last_counts number x [] rest other = rw other
+  last_counts number x (y ∷ ys) rest other = rw (key_eq-refl _) (last_counts (suc number) y ys rest other)
 
 -- the rows of keys, by the row lists of each
 
@@ -129,16 +129,16 @@ module _ (f : TypedFold) (sizes : Sizes) (folding : Folding) (opening absorbing 
   other_next key [] above all = refl
   other_next key (next ∷ keys) above all =
       ap (λ made. goes_on key (made ++ flat_map rows keys)) (rows_are next)
-      ∙ go (lists next) (All-head (λ k. 0 < length (lists k)) next keys all)
+      ∙ go (lists next) (All-head (λ k. 0 < length (lists k)) next _ all)
     where
       go : (pieces : List (List ArgRow)) → 0 < length pieces → goes_on key
           (epoch_rows folding next (length pieces) 1 pieces ++ flat_map rows keys) ≡ false
       go [] some = absurd (omega (arith, some))
-      go (x ∷ xs) some = less_apart key next above.0
+      go (x ∷ xs) some = less_apart _ _ above.0
 
   one_key : (key : Key) (rest : List Row) → goes_on key rest ≡ false → 0 < length (lists key)
       → bounds_in n (rows key ++ rest) ≡ listed_bounds f key (lists key) ∷ bounds_in n rest
-  one_key key rest other some = ap (λ made. bounds_in n (made ++ rest)) (rows_are key) ∙ go (lists key) some
+  one_key key rest other some = ap (λ made. bounds_in n (made ++ rest)) (rows_are _) ∙ go _ some
     where
       go : (pieces : List (List ArgRow)) → 0 < length pieces → bounds_in n (epoch_rows folding key (length pieces) 1 pieces ++ rest)
           ≡ listed_bounds f key pieces ∷ bounds_in n rest
@@ -179,9 +179,9 @@ module _ (heading : Heading) (epochs_all : ℕ) (rows : List Row) (made : List B
   gives n states e =
       let names = heading.key_names in
       let others : states_in with_rows ≡ n = omega (arith, length-append names heading.state_names, states) in
-      let front : take with_rows.keys with_rows.columns ≡ names = take-append_seam names heading.state_names in
-      let back : drop with_rows.keys with_rows.columns ≡ heading.state_names = drop-append_seam names heading.state_names in
-      let is : bounds_in (states_in with_rows) rows ≡ made = ap (λ k. bounds_in k rows) others ∙ e in
+      let front = take-append_seam names heading.state_names in
+      let back = drop-append_seam names heading.state_names in
+      let is = ap (λ k. bounds_in k rows) others ∙ e in
       ap (λ z. record with_bounds {
         key_names = z;
         state_names = drop with_rows.keys with_rows.columns;
@@ -234,11 +234,9 @@ have_bounds keys n (row ∷ rows) all =
 
 pub whole_table : TriplesGiveWholeTables
 whole_table t h some most =
-    let keys : length (take t.keys t.columns) ≡ t.keys = length-take-le t.keys t.columns h.keys in
-    let states : length (drop t.keys t.columns) ≡ states_in t = length-drop t.keys t.columns in record {
+    let keys = length-take-le t.keys t.columns h.keys in
+    let states = length-drop t.keys t.columns in record {
       some_keys = omega (arith, keys, some);
       most_keys = omega (arith, keys, most);
-      rows = subst (λ n. All (HasBounds n (length (drop t.keys t.columns))) (bounds_in (states_in t) t.rows)) (sym keys)
-          (subst (λ n. All (HasBounds t.keys n) (bounds_in (states_in t) t.rows)) (sym states)
-          (have_bounds t.keys (states_in t) t.rows h.rows));
+      rows = rw keys (rw states (have_bounds t.keys (states_in t) t.rows h.rows));
     }

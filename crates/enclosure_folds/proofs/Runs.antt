@@ -17,14 +17,13 @@ use Rattle.enclosure_folds.proofs.Ties.{Tied, Ties, greater_left, greater_right,
 set_row : (xs args : List ℕ) (v x s : ℕ) → v < length xs → slice_index (set xs v x ++ args) s ≡ update (slice_index (xs ++ args)) v x s
 set_row xs args v x s h =
     let inside : v < length (xs ++ args) = omega (arith, length-append xs args) in
-    sym (ap (λ z. slice_index z s) (set-append_left xs args v x h)) ∙ set_index (xs ++ args) v x s inside
+    sym (ap (λ z. slice_index z s) (set-append_left xs args v x h)) ∙ set_index _ v x s inside
 
 set_tied : (kinds : ℕ → Kind) (xs ys args : List ℕ) (v : ℕ) (k : Kind) (x y : ℕ) → v < length xs → v < length ys
     → Ties kinds (xs ++ args) (ys ++ args) → Tied k x y →
     Ties (update kinds v k) (set xs v x ++ args) (set ys v y ++ args)
 set_tied kinds xs ys args v k x y hx hy h t s =
-    subst (λ z. Tied (update kinds v k s) z (slice_index (set ys v y ++ args) s)) (sym (set_row xs args v x s hx))
-    (subst (λ z. Tied (update kinds v k s) (update (slice_index (xs ++ args)) v x s) z) (sym (set_row ys args v y s hy)) (at (s == v)))
+    rw (set_row _ _ v x s hx) (rw (set_row ys args v y s hy) (at (s == v)))
   where
     at : (b : Bool) → Tied (if b then k else kinds s) (if b then x else slice_index (xs ++ args) s)
         (if b then y else slice_index (ys ++ args) s)
@@ -41,8 +40,7 @@ module _ (states nargs : ℕ) (args : List ℕ) where
     set_kept : (later : ℕ → Kind) (state : List ℕ) (v x : ℕ) → v < length state → Kept later state
         → Kept (update later v Wild) (set state v x)
     set_kept later state v x hv h s =
-        subst (λ z. is_no_other (update later v Wild s) ≡ true → (update later v Wild s ≡ kinds s) × (z ≡ slice_index (start ++ args) s))
-        (sym (set_row state args v x s hv)) (at (s == v))
+        rw (set_row _ _ v x s hv) (at (s == v))
       where
         at : (b : Bool) → is_no_other (if b then Wild else later s) ≡ true → ((if b then Wild else later s) ≡ kinds s)
             × ((if b then x else slice_index (state ++ args) s) ≡ slice_index (start ++ args) s)
@@ -68,34 +66,33 @@ module _ (states nargs : ℕ) (args : List ℕ) where
     run_kept (Set v e rest) later state valid hs h =
         let x = term_value e (state ++ args) in
         run_kept rest (update later v Wild) (set state v x) valid.3 (length-set state v x ∙ hs)
-        (set_kept later state v x (omega (arith, valid.0)) h)
+        (set_kept _ _ v x (omega (arith, valid.0)) h)
     run_kept (Fork c a b rest) later state valid hs h =
         let t = holds (term_value c (state ++ args)) in
         run_kept rest (marked b (marked a later)) (if t then after a args state else after b args state) valid.4 (size t)
-        (branch t (run_kept a later state valid.2 hs h) (run_kept b (marked a later) state valid.3 hs (mark_kept a later state h)))
+        (branch t (run_kept a later state valid.2 hs h) (run_kept b (marked a later) state valid.3 hs (mark_kept a _ _ h)))
       where
         size : (t : Bool) → length (if t then after a args state else after b args state) ≡ states
-        size true = length-after a args state ∙ hs
-        size false = length-after b args state ∙ hs
+        size true = length-after a _ _ ∙ hs
+        size false = length-after b _ _ ∙ hs
 
         branch : (t : Bool) → Kept (marked a later) (after a args state) → Kept (marked b (marked a later)) (after b args state)
             → Kept (marked b (marked a later)) (if t then after a args state else after b args state)
-        branch true p q = mark_kept b (marked a later) (after a args state) p
+        branch true p q = mark_kept b _ _ p
         branch false p q = q
 
     pub choice_kept : (a b : Block) (t : Bool) → IsValidBlock states nargs a → IsValidBlock states nargs b → length start ≡ states
         → Kept (marked b (marked a kinds)) (if t then after a args start else after b args start)
-    choice_kept a b true va vb hs = mark_kept b (marked a kinds) (after a args start) (run_kept a kinds start va hs (λ s e. (refl, refl)))
-    choice_kept a b false va vb hs = run_kept b (marked a kinds) start vb hs (mark_kept a kinds start (λ s e. (refl, refl)))
+    choice_kept a b true va vb hs = mark_kept b _ _ (run_kept a _ _ va hs (λ s e. (refl, refl)))
+    choice_kept a b false va vb hs = run_kept b _ _ vb hs (mark_kept a _ _ (λ s e. (refl, refl)))
 
   same_tied : (k l : Kind) (x y p q : ℕ) → (k ≡ l) × (x ≡ p) → (k ≡ l) × (y ≡ q) → Tied l p q → Tied k x y
-  same_tied k l x y p q hx hy t = subst (λ z. Tied z x y) (sym hx.0) (subst (λ z. Tied l z y) (sym hx.1)
-      (subst (λ z. Tied l p z) (sym hy.1) t))
+  same_tied k l x y p q hx hy t = rw hx.0 (rw hx.1 (subst (λ z. Tied l p z) (sym hy.1) t))
 
   kept_tied : (k l : Kind) (x y p q : ℕ) → (is_no_other k ≡ true → (k ≡ l) × (x ≡ p)) → (is_no_other k ≡ true → (k ≡ l) × (y ≡ q))
       → Tied l p q → Tied k x y
-  kept_tied Free l x y p q hx hy t = same_tied Free l x y p q (hx refl) (hy refl) t
-  kept_tied Rising l x y p q hx hy t = same_tied Rising l x y p q (hx refl) (hy refl) t
+  kept_tied Free l x y p q hx hy t = same_tied _ l x y p q (hx refl) (hy refl) t
+  kept_tied Rising l x y p q hx hy t = same_tied _ l x y p q (hx refl) (hy refl) t
   kept_tied Wild l x y p q hx hy t = tt
 
   pub block_tied : (b : Block) (kinds : ℕ → Kind) (xs ys : List ℕ) → IsValidBlock states nargs b → length xs ≡ states → length ys ≡ states
@@ -120,8 +117,8 @@ module _ (states nargs : ℕ) (args : List ℕ) where
       (block_tied a kinds xs ys valid.2 hx hy h) (block_tied b kinds xs ys valid.3 hx hy h))
     where
       size : (zs : List ℕ) → length zs ≡ states → (t : Bool) → length (if t then after a args zs else after b args zs) ≡ states
-      size zs hz true = length-after a args zs ∙ hz
-      size zs hz false = length-after b args zs ∙ hz
+      size zs hz true = length-after a _ _ ∙ hz
+      size zs hz false = length-after b _ _ ∙ hz
 
       -- a Free condition takes the same branch in both runs
       same_branch : (p q : Bool) → p ≡ q →
@@ -129,20 +126,20 @@ module _ (states nargs : ℕ) (args : List ℕ) where
           → Ties (kinds_after role b kinds) (after b args xs ++ args) (after b args ys ++ args) →
           Ties (λ v. greater (kinds_after role a kinds v) (kinds_after role b kinds v))
           ((if p then after a args xs else after b args xs) ++ args) ((if q then after a args ys else after b args ys) ++ args)
-      same_branch true true e ta tb s = greater_left (kinds_after role a kinds s) (kinds_after role b kinds s)
-          (slice_index (after a args xs ++ args) s) (slice_index (after a args ys ++ args) s) (ta s)
+      same_branch true true e ta tb s = greater_left _ _
+          _ _ (ta s)
       same_branch true false e ta tb s = cc
       same_branch false true e ta tb s = cc
-      same_branch false false e ta tb s = greater_right (kinds_after role a kinds s) (kinds_after role b kinds s)
-          (slice_index (after b args xs ++ args) s) (slice_index (after b args ys ++ args) s) (tb s)
+      same_branch false false e ta tb s = greater_right _ _
+          _ _ (tb s)
 
       any_branch : (p q : Bool) → Ties (marked b (marked a kinds)) ((if p then after a args xs else after b args xs) ++ args)
           ((if q then after a args ys else after b args ys) ++ args)
       any_branch p q s =
-          kept_tied (marked b (marked a kinds) s) (kinds s) (slice_index ((if p then after a args xs else after b args xs) ++ args) s)
-          (slice_index ((if q then after a args ys else after b args ys) ++ args) s)
-          (slice_index (xs ++ args) s) (slice_index (ys ++ args) s)
-          (choice_kept kinds xs a b p valid.2 valid.3 hx s) (choice_kept kinds ys a b q valid.2 valid.3 hy s) (h s)
+          kept_tied _ _ _
+          _
+          _ _
+          (choice_kept _ _ a b p valid.2 valid.3 hx s) (choice_kept _ _ a b q valid.2 valid.3 hy s) (h s)
 
       choice : (k : Kind) (cx cy : ℕ) → Tied k cx cy →
           Ties (kinds_after role a kinds) (after a args xs ++ args) (after a args ys ++ args)
@@ -150,6 +147,6 @@ module _ (states nargs : ℕ) (args : List ℕ) where
           Ties (chosen_kinds k (kinds_after role a kinds) (kinds_after role b kinds) (marked b (marked a kinds)))
           ((if holds cx then after a args xs else after b args xs) ++ args)
           ((if holds cy then after a args ys else after b args ys) ++ args)
-      choice Free cx cy e ta tb = same_branch (holds cx) (holds cy) (ap holds e) ta tb
-      choice Rising cx cy e ta tb = any_branch (holds cx) (holds cy)
-      choice Wild cx cy e ta tb = any_branch (holds cx) (holds cy)
+      choice Free cx cy e ta tb = same_branch _ _ (ap holds e) ta tb
+      choice Rising cx cy e ta tb = any_branch _ _
+      choice Wild cx cy e ta tb = any_branch _ _

@@ -18,7 +18,6 @@ use Rattle.epoch_entry.specs.Purposes.{IsBoundingKind}
 use Rattle.epoch_entry.proofs.FoldLemmas.{length-folded}
 use Rattle.final_queries.specs.declared.table.TableKind.TheVariants.{Group}
 use Rattle.final_queries.specs.FinalLaws.{AlikeFoldingsMakeOneTable, GroupTablesAreRead}
-use Rattle.final_queries.specs.Finals.{HasColumns}
 use Rattle.final_queries.specs.GroupTable.{Heading, group_table}
 use Rattle.enclosure_folds.specs.declared.table.Enclosed.TheVariants as enclosed
 use Rattle.enclosure_folds.specs.KeyBounds.{HasTriples, states_in, enclosed_by}
@@ -30,9 +29,9 @@ long_bounds f valid rows =
     let a = Folds.folded f (initial_state f) rows in
     let b = Folds.folded f (least_state f) rows in
     let c = Folds.folded f (greatest_state f) rows in
-    let la : length a ≡ fold_states f = length-folded f (initial_state f) rows ∙ valid.starts in
-    let lb : length b ≡ fold_states f = length-folded f (least_state f) rows ∙ length-replicate {A = ℕ} (fold_states f) 0 in
-    let lc : length c ≡ fold_states f = length-folded f (greatest_state f) rows ∙ length-replicate {A = ℕ} (fold_states f) _ in
+    let la : length a ≡ fold_states f = length-folded f _ rows ∙ valid.starts in
+    let lb : length b ≡ fold_states f = length-folded f _ rows ∙ length-replicate {A = ℕ} (fold_states f) 0 in
+    let lc : length c ≡ fold_states f = length-folded f _ rows ∙ length-replicate {A = ℕ} (fold_states f) _ in
     omega (arith, length-append a (b ++ c), length-append b c, la, lb, lc)
 
 module _ (alike : AlikeFoldingsMakeOneTable) (read : GroupTablesAreRead) (heading : Heading) (f : TypedFold) (sizes : Sizes)
@@ -48,7 +47,7 @@ module _ (alike : AlikeFoldingsMakeOneTable) (read : GroupTablesAreRead) (headin
       → shown_by (Group heading.class heading.depth (group_epochs g uses)) (group_table heading folding g uses) ≡ enclosed_by (class_of f)
       heading f g uses
   shown_is kind = ap (λ c. shown_by (Group c heading.depth (group_epochs g uses)) (group_table heading folding g uses)) is.class
-      ∙ by_class (class_of f) kind
+      ∙ by_class _ kind
 
   module _ (valid : IsValidFold f) (keys : All (λ u. length u.key ≡ length heading.key_names) uses) where
     -- a heading with a name for each word of three states
@@ -57,8 +56,8 @@ module _ (alike : AlikeFoldingsMakeOneTable) (read : GroupTablesAreRead) (headin
 
     triples : IsBoundsKindOf f sizes folding opening absorbing → HasTriples (group_table heading folding g uses)
     triples kind =
-        let names : length wide.state_names ≡ 3 * fold_states f = length-replicate (3 * fold_states f) heading.name in
-        let table = read wide folding g uses keys (λ rows. ap (λ l. length l) (kind.folded rows)
+        let names = length-replicate (3 * fold_states f) heading.name in
+        let table = read wide folding g uses keys (λ rows. ap length (kind.folded rows)
         ∙ (long_bounds f valid rows ∙ sym names)) in
         let t = group_table heading folding g uses in
         let others : length (heading.key_names ++ wide.state_names) - length heading.key_names ≡ 3 * states_in t =
@@ -70,7 +69,7 @@ module _ (alike : AlikeFoldingsMakeOneTable) (read : GroupTablesAreRead) (headin
           is.states,
         ) in record {
           keys = omega (arith, length-append heading.key_names heading.state_names);
-          rows = subst (λ n. All (HasColumns (length heading.key_names) n) t.rows) others table.rows;
+          rows = rw others at table.rows;
         }
 
     may_by : (c : Class) → IsBoundingKind c f sizes folding opening absorbing

@@ -1,5 +1,5 @@
 -- What a kind says of the values of one expression in two runs.
-use Rattle.std.proofs.Common.{◌≡◌, ℕ, ◌≤◌, true, not, List, slice_index, refl, sym, ap, ◌∙◌, subst, arith}
+use Rattle.std.proofs.Common.{◌≡◌, ℕ, ◌≤◌, true, not, List, slice_index, refl, ap, ◌∙◌, subst, arith}
 use Rattle.query_lang.specs.declared.fold.Op.{Op}
 use Rattle.query_lang.specs.Words.{flag, holds, op_value}
 use Rattle.query_lang.specs.Terms.{Term, Literal, Read, Negation, Operation}
@@ -59,7 +59,7 @@ sum_tied g Wild l x y u v m p q = tt
 product_tied : (g : ℕ → ℕ → ℕ) (k : Kind) (x y u v : ℕ) → (x ≤ y → g x u ≤ g y u) → u ≡ v → Tied k x y
     → Tied (product_kind k Free) (g x u) (g y v)
 product_tied g Free x y u v m e h = ap (λ z. g z u) h ∙ ap (λ z. g y z) e
-product_tied g Rising x y u v m e h = subst (λ z. g x u ≤ g y z) e (m h)
+product_tied g Rising x y u v m e h = rw (← e) (m h)
 product_tied g Wild x y u v m e h = tt
 
 outside_tied : (g : ℕ → ℕ → ℕ) (k l : Kind) (x y u v : ℕ) → Tied k x y → Tied l u v → Tied (outside_kind k l) (g x u) (g y v)
@@ -71,14 +71,13 @@ outside_tied g Wild l x y u v p q = tt
 
 op_tied : (op : Op) (k l : Kind) (x y u v : ℕ) → Tied k x y → Tied l u v → (role op ≡ Product → l ≡ Free)
     → Tied (role_kind (role op) k l) (op_value op x u) (op_value op y v)
-op_tied op k l x y u v p q number = by_role (role op) refl
+op_tied op k l x y u v p q number = by_role _ refl
   where
     by_role : (r : Role) → role op ≡ r → Tied (role_kind r k l) (op_value op x u) (op_value op y v)
-    by_role Sum e = sum_tied (op_value op) k l x y u v (sum_order op x y u v e) p q
-    by_role Difference e = absurd (no_difference op e)
+    by_role Sum e = sum_tied (op_value op) k l x y u v (sum_order _ x y u v e) p q
+    by_role Difference e = absurd (no_difference _ e)
     by_role Product e =
-        subst (λ z. Tied (product_kind k z) (op_value op x u) (op_value op y v)) (sym (number e))
-        (product_tied (op_value op) k x y u v (product_order op x y u e) (subst (λ z. Tied z u v) (number e) q) p)
+        rw (number e) (product_tied (op_value op) k x y u v (product_order op x y u e) (subst (λ z. Tied z u v) (number e) q) p)
     by_role Outside e = outside_tied (op_value op) k l x y u v p q
 
 -- from tied slots, an expression has tied values
@@ -87,8 +86,8 @@ pub expr_tied : (slots : ℕ) (e : Term) (kinds : ℕ → Kind) (xs ys : List �
 expr_tied slots (Literal n) kinds xs ys valid h = refl
 expr_tied slots (Read s) kinds xs ys valid h = h s
 expr_tied slots (Negation e) kinds xs ys valid h =
-    outside_tied (λ z w. flag (not (holds w))) Free (expr_kind role e kinds) 0 0 (term_value e xs) (term_value e ys) refl
+    outside_tied (λ z w. flag (not (holds w))) Free _ 0 0 _ _ refl
     (expr_tied slots e kinds xs ys valid.0 h)
 expr_tied slots (Operation op a b) kinds xs ys valid h =
-    op_tied op (expr_kind role a kinds) (expr_kind role b kinds) (term_value a xs) (term_value a ys) (term_value b xs) (term_value b ys)
-    (expr_tied slots a kinds xs ys valid.0 h) (expr_tied slots b kinds xs ys valid.1 h) (λ e. number_free op a b kinds e valid.2)
+    op_tied _ _ _ _ _ _ _
+    (expr_tied slots a kinds xs ys valid.0 h) (expr_tied slots b kinds xs ys valid.1 h) (λ e. number_free _ a b _ e valid.2)

@@ -1,9 +1,8 @@
 use Rattle.std.proofs.Common.{◌∙◌, sym, ap}
-use Rattle.table_rows.specs.LentRows.{row_of}
 use Rattle.table_rows.proofs.LentFacts.{rows_from}
 use Rattle.enclosure_folds.specs.KeyBounds.{goes_on}
 use Rattle.enclosure_folds.proofs.bounds.goes_on.Goals as goal
 
 pub returns-then-next-len : goal.returns-then-next-len
 returns-then-next-len c =
-    c.is_same_key.ensures ∙ sym (ap (goes_on c.args.key.now) (rows_from c.args.rows.now c.args.next (row_of c.get.result) c.get.ensures))
+    c.is_same_key.ensures ∙ sym (ap (goes_on _) (rows_from c.args.rows.now c.args.next _ c.get.ensures))

@@ -7,19 +7,19 @@ use Rattle.enclosure_folds.proofs.check.enclose_check.Goals.{in-Some+else-is_som
 
 pub fold_fault-fault-requires-clause-class : goal.fold_fault-fault-requires-clause-class
 fold_fault-fault-requires-clause-class c = λ f found.
-    (is_groupby c.args.q.now c.args.p.now c.requires.plan c.as_slice-one-items.result.now c.loop-one.one-index c.one-item.result
-    c.loop-one-test.true c.one-item.is c.loop-one.group c.loop-one.invariant.groups
-    c.in-Some.number (sym c.in-Some.is ∙ c.fold_number.ensures)).class f c.group.result.now found c.group.ensures
+    (is_groupby _ _ c.requires.plan _ _ _
+    c.loop-one-test.true c.one-item.is _ c.loop-one.invariant.groups
+    _ (sym c.in-Some.is ∙ c.fold_number.ensures)).class f c.group.result.now found c.group.ensures
 
 pub loop-one-preserved : goal.loop-one-preserved
 loop-one-preserved c = elim c.match-fold_number.branch [
   | in-Some+else-is_some w ↦
       let q = c.args.q.now in
       let rest = drop (c.loop-one.one-index + 1) c.as_slice-one-items.result.now in
-      let at = is_groupby q c.args.p.now c.requires.plan c.as_slice-one-items.result.now c.loop-one.one-index c.one-item.result
-      c.loop-one-test.true c.one-item.is c.loop-one.group c.loop-one.invariant.groups
-      w.in-Some.number (sym w.in-Some.is ∙ c.fold_number.ensures) in
-      let none = not_some w.fold_fault-fault.result (sym w.is_some.ensures ∙ w.if-is_some.false) in record {
+      let at = is_groupby q _ c.requires.plan _ _ _
+      c.loop-one-test.true c.one-item.is _ c.loop-one.invariant.groups
+      _ (sym w.in-Some.is ∙ c.fold_number.ensures) in
+      let none = not_some _ (sym w.is_some.ensures ∙ w.if-is_some.false) in record {
         fault = sym (at.fault ∙ ap (λ o. or_else o (first_fault q.folds rest)) (sym w.fold_fault-fault.ensures ∙ none))
             ∙ c.loop-one.invariant.fault;
         groups = ap (λ n. drop n (takings q.streams)) w.group-is ∙ at.groups;
@@ -27,10 +27,10 @@ loop-one-preserved c = elim c.match-fold_number.branch [
   | in_default w ↦
       let q = c.args.q.now in
       let none = sym w.in_default.is ∙ c.fold_number.ensures in record {
-        fault = sym (other_fault q c.args.p.now c.requires.plan c.as_slice-one-items.result.now c.loop-one.one-index c.one-item.result
+        fault = sym (other_fault q c.args.p.now c.requires.plan _ _ _
             c.loop-one-test.true c.one-item.is c.loop-one.group c.loop-one.invariant.groups none) ∙ c.loop-one.invariant.fault;
         groups = ap (λ n. drop n (takings q.streams)) w.group-is ∙ other_groups q c.args.p.now c.requires.plan
-            c.as_slice-one-items.result.now c.loop-one.one-index c.one-item.result c.loop-one-test.true c.one-item.is c.loop-one.group
+            _ _ _ c.loop-one-test.true c.one-item.is _
             c.loop-one.invariant.groups none;
       }
 ]

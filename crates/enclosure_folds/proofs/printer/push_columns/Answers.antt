@@ -24,5 +24,5 @@ returns c =
     ∙ ap (λ text. text ++ others) (c.in_ok-push_own_names.ensures ∙ ap (λ text. text ++ middle) c.in_ok-push_names.ensures)
     ∙ ap (λ text. text ++ others) (append_assoc c.args.text.now keys middle)
     ∙ append_assoc c.args.text.now (keys ++ middle) others
-    ∙ ap (λ text. c.args.text.now ++ text) (sym (joined_three c.args.keys.now own (flat_map bound_names c.args.states.now) (codes "mark")
-    false (some c.args.keys.now c.requires)))
+    ∙ ap (λ text. c.args.text.now ++ text) (sym (joined_three _ _ _ _
+    _ (some _ c.requires)))
