@@ -21,9 +21,9 @@ use Rattle.accepted_query.specs.Accepted.{accepted, staged, unless_fault}
 use Rattle.query_laws.specs.ByRules.{FitsStages, IsAcceptedAs, BreaksRule, of_item, of_end, IsRefusedFor, by_grammar, by_typing, by_stages}
 use Rattle.query_laws.proofs.Stages.{fits_stages, no_stage_fault}
 
-stage_same : (o : Option QueryFault) (p q : TypedQuery) → unless_fault o p ≡ Ok q → (o ≡ None) × (p ≡ q)
-stage_same None p q e = (refl, same_ok p q e)
-stage_same (Some fault) p q e = cc e
+stage_same : (o : Option QueryFault) {p q : TypedQuery} → unless_fault o p ≡ Ok q → (o ≡ None) × (p ≡ q)
+stage_same None {p} {q} e = (refl, same_ok p q e)
+stage_same (Some fault) e = cc e
 
 -- a text that is accepted
 pub accepted_sound : (text : List ℕ) (t : TypedQuery) → accepted text ≡ Ok t → IsAcceptedAs text t
@@ -31,7 +31,7 @@ unfolding accepted
 accepted_sound text t e =
     let first = found_first (parsed_text text) (λ (z : Query). and_then (checked z) staged) t e in
     let second = found_first (checked first.0) staged t first.2 in
-    let stages = stage_same (stage_fault second.0) second.0 t second.2 in
+    let stages = stage_same (stage_fault second.0) second.2 in
     let T : TypedQuery → Type 0 = λ z. IsTyped first.0 z in
     let F : TypedQuery → Type 0 = λ z. FitsStages z in
     record {
@@ -41,54 +41,49 @@ accepted_sound text t e =
       fits = subst F stages.1 (fits_stages second.0 stages.0);
     }
 
-pub accepted_complete : (text : List ℕ) (t : TypedQuery) → IsAcceptedAs text t → accepted text ≡ Ok t
+pub accepted_complete : {text : List ℕ} {t : TypedQuery} → IsAcceptedAs text t → accepted text ≡ Ok t
 unfolding accepted
-accepted_complete text t h =
-    then_next (parsed_text text) (λ (z : Query). and_then (checked z) staged) h.query (text_of_query text h.query h.derives)
-    ∙ then_next (checked h.query) staged t (query_complete h.query t h.typed)
-    ∙ ap (λ (o : Option QueryFault). unless_fault o t) (no_stage_fault t h.fits)
+accepted_complete {text} {t} h = then_next (λ (z : Query). and_then (checked z) staged) (text_of_query text h.query h.derives)
+    ∙ then_next staged (query_complete h.typed) ∙ ap (λ (o : Option QueryFault). unless_fault o t) (no_stage_fault t h.fits)
 
-pub accepted_once : (text : List ℕ) (t u : TypedQuery) → IsAcceptedAs text t → IsAcceptedAs text u → t ≡ u
-accepted_once text t u h k = same_ok t u (sym (accepted_complete text t h) ∙ accepted_complete text u k)
+pub accepted_once : {text : List ℕ} {t u : TypedQuery} → IsAcceptedAs text t → IsAcceptedAs text u → t ≡ u
+accepted_once {t} {u} h k = same_ok t u (sym (accepted_complete h) ∙ accepted_complete k)
 
 -- a text that is refused
 
-too_deep : (o : Option QueryFault) (t : TypedQuery) (fault : QueryFault) → unless_fault o t ≡ Err fault → o ≡ Some fault
-too_deep None t fault e = cc e
-too_deep (Some found) t fault e = let same : found ≡ fault = cc e in ap Some same
+too_deep : (o : Option QueryFault) (t : TypedQuery) {fault : QueryFault} → unless_fault o t ≡ Err fault → o ≡ Some fault
+too_deep None t e = cc e
+too_deep (Some found) t {fault} e = let same : found ≡ fault = cc e in ap Some same
 
-not_fit : (t : TypedQuery) (fault : QueryFault) → stage_fault t ≡ Some fault → FitsStages t → ⊥
-not_fit t fault e h = let both : (let o : Option QueryFault = Some fault in o) ≡ None = sym e ∙ no_stage_fault t h in cc both
+not_fit : (t : TypedQuery) {fault : QueryFault} → stage_fault t ≡ Some fault → FitsStages t → ⊥
+not_fit t {fault} e h = let both : (let o : Option QueryFault = Some fault in o) ≡ None = sym e ∙ no_stage_fault t h in cc both
 
 -- what a fault of each kind says of the rules
-item_breaks : (q : Query) (kind : FaultKind) (at : Span) → (kinds.NothingPrinted ≡ kind → ⊥) → HasFault kind at q
+item_breaks : {q : Query} {kind : FaultKind} {at : Span} → (kinds.NothingPrinted ≡ kind → ⊥) → HasFault kind at q
     → BreaksRule q (at_span kind at)
-item_breaks q kind at other e = of_item (at_some_item q kind at other e)
+item_breaks other e = of_item (at_some_item other e)
 
-breaks_rule : (q : Query) (kind : FaultKind) (at : Span) → IsOfTyping kind → HasFault kind at q → BreaksRule q (at_span kind at)
-breaks_rule q kinds.NothingPrinted at h e = let end = at_end q at e in of_end (ap (at_span kinds.NothingPrinted) end.0) end.1
-breaks_rule q kinds.UnknownName at h e = item_breaks q kinds.UnknownName at (λ k. cc k) e
-breaks_rule q kinds.StateOnLine at h e = item_breaks q kinds.StateOnLine at (λ k. cc k) e
-breaks_rule q kinds.NameTaken at h e = item_breaks q kinds.NameTaken at (λ k. cc k) e
-breaks_rule q kinds.WrongKind at h e = item_breaks q kinds.WrongKind at (λ k. cc k) e
-breaks_rule q kinds.WrongArity at h e = item_breaks q kinds.WrongArity at (λ k. cc k) e
-breaks_rule q kinds.BadConstant at h e = item_breaks q kinds.BadConstant at (λ k. cc k) e
-breaks_rule q (kinds.OverLimit limit) at h e = item_breaks q (kinds.OverLimit limit) at (λ k. cc k) e
-breaks_rule q _ at h e = absurd h
+breaks_rule : {q : Query} (kind : FaultKind) {at : Span} → IsOfTyping kind → HasFault kind at q → BreaksRule q (at_span kind at)
+breaks_rule kinds.NothingPrinted h e = let end = at_end e in of_end (ap (at_span kinds.NothingPrinted) end.0) end.1
+breaks_rule kinds.UnknownName h e = item_breaks (λ k. cc k) e
+breaks_rule kinds.StateOnLine h e = item_breaks (λ k. cc k) e
+breaks_rule kinds.NameTaken h e = item_breaks (λ k. cc k) e
+breaks_rule kinds.WrongKind h e = item_breaks (λ k. cc k) e
+breaks_rule kinds.WrongArity h e = item_breaks (λ k. cc k) e
+breaks_rule kinds.BadConstant h e = item_breaks (λ k. cc k) e
+breaks_rule (kinds.OverLimit limit) h e = item_breaks (λ k. cc k) e
+breaks_rule _ h e = absurd h
 
-untyped : (text : List ℕ) (q : Query) (fault : QueryFault) → parsed_text text ≡ Ok q → checked q ≡ Err fault → IsRefusedFor text fault
-untyped text q fault p is = by_typing q (query_of_text text q p) is (breaks_rule q fault.kind fault.span (only_these q fault is) is)
-    (λ t h. no_form q fault t is h)
+untyped : {text : List ℕ} {q : Query} {fault : QueryFault} → parsed_text text ≡ Ok q → checked q ≡ Err fault → IsRefusedFor text fault
+untyped {text} {q} {fault} p is = by_typing (query_of_text text q p) is (breaks_rule fault.kind (only_these q is) is) (λ t h. no_form is h)
 
-cause : (text : List ℕ) (fault : QueryFault) → accepted text ≡ Err fault → IsRefusedFor text fault
+cause : {text : List ℕ} {fault : QueryFault} → accepted text ≡ Err fault → IsRefusedFor text fault
 unfolding accepted
-cause text fault e =
-    by_next (parsed_text text) (λ (z : Query). and_then (checked z) staged) fault e (λ is. by_grammar (fault_of_text text fault is))
-    (λ q p e.
-    by_next (checked q) staged fault e (λ is. untyped text q fault p is) (λ t r e.
-    let deep = too_deep (stage_fault t) t fault e in
-    by_stages q t (query_of_text text q p) (query_sound q t r) deep (not_fit t fault deep)))
+cause {text} {fault} e = by_next (parsed_text text) e (λ is. by_grammar (fault_of_text text fault is)) (λ q p e.
+    by_next (checked q) e (λ is. untyped p is) (λ t r e.
+    let deep = too_deep (stage_fault t) t e in
+    by_stages (query_of_text text q p) (query_sound q t r) deep (not_fit t deep)))
 
-pub refused : (text : List ℕ) (fault : QueryFault) → accepted text ≡ Err fault → IsRefusedFor text fault
+pub refused : {text : List ℕ} {fault : QueryFault} → accepted text ≡ Err fault → IsRefusedFor text fault
     × ((t : TypedQuery) → IsAcceptedAs text t → ⊥)
-refused text fault e = (cause text fault e, λ t h. no_fault t fault (sym (accepted_complete text t h) ∙ e))
+refused e = (cause e, λ t h. no_fault (sym (accepted_complete h) ∙ e))

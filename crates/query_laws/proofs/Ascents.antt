@@ -18,15 +18,15 @@ abbrev pub Rises : ℕ → ℕ → List Tuple → Type 0
 Rises from end [] = Unit {0}
 Rises from end (t ∷ tuples) = (from ≤ t.packet) × (t.packet < end) × Rises (suc t.packet) end tuples
 
-rises_before : (before from end : ℕ) (tuples : List Tuple) → before ≤ from → Rises from end tuples → Rises before end tuples
-rises_before before from end [] le h = tt
-rises_before before from end (t ∷ tuples) le h = (omega (arith, h.0), h.1, h.2)
+rises_before : {before from : ℕ} (end : ℕ) (tuples : List Tuple) → before ≤ from → Rises from end tuples → Rises before end tuples
+rises_before end [] le h = tt
+rises_before end (t ∷ tuples) le h = (omega (arith, h.0), h.1, h.2)
 
 -- ---- operators
 
-numbered_rise : (n end : ℕ) (packets : List (List ℕ)) → n + length packets ≤ end → Rises n end (numbered n packets)
-numbered_rise n end [] le = tt
-numbered_rise n end (words ∷ packets) le = (omega arith, omega arith, numbered_rise (suc n) end packets (omega arith))
+numbered_rise : (n : ℕ) {end : ℕ} (packets : List (List ℕ)) → n + length packets ≤ end → Rises n end (numbered n packets)
+numbered_rise n [] le = tt
+numbered_rise n (words ∷ packets) le = (omega arith, omega arith, numbered_rise (suc n) packets (omega arith))
 
 filter_rises : (test : Tuple → Bool) (from end : ℕ) (tuples : List Tuple) → Rises from end tuples → Rises from end (filter test tuples)
 filter_rises test from end [] h = tt
@@ -34,7 +34,7 @@ filter_rises test from end (t ∷ tuples) h = go (test t) (filter_rises test (su
   where
     go : (b : Bool) → Rises (suc t.packet) end (filter test tuples) → Rises from end (cond b (t ∷ filter test tuples) (filter test tuples))
     go true more = (h.0, h.1, more)
-    go false more = rises_before from (suc t.packet) end (filter test tuples) (omega (arith, h.0)) more
+    go false more = rises_before end (filter test tuples) (omega (arith, h.0)) more
 
 map_rises : (new : Tuple → List ℕ) (from end : ℕ) (tuples : List Tuple) → Rises from end tuples
     → Rises from end (map (λ t. record { packet = t.packet; row = new t }) tuples)
@@ -51,7 +51,7 @@ zip_rises slots right from end (t ∷ left) h =
         → Rises from end (cons_option (option_map (λ (other : Tuple). record
         { packet = t.packet; row = t.row ++ values_at other.row slots }) o) (zip_stream slots left right))
     go (Some other) more = (h.0, h.1, more)
-    go None more = rises_before from (suc t.packet) end (zip_stream slots left right) (omega (arith, h.0)) more
+    go None more = rises_before end (zip_stream slots left right) (omega (arith, h.0)) more
 
 group_rises : (f : Option TypedFold) (keys args : List ℕ) (from end : ℕ) (tuples : List Tuple) → Rises from end tuples
     → Rises from end (group_stream f keys args tuples)
@@ -90,15 +90,14 @@ made_rises folds end streams (Group input keys f args) h =
 rise_along : (folds : List TypedFold) (end : ℕ) (list : List TypedStream) (streams : List (List Tuple)) → AllRise end streams
     → AllRise end (fold (λ streams one. streams ++ made_of folds streams one.op ∷ []) streams list)
 rise_along folds end [] streams h = h
-rise_along folds end (one ∷ list) streams h =
-    rise_along folds end list (streams ++ made_of folds streams one.op ∷ [])
+rise_along folds end (one ∷ list) streams h = rise_along folds end list (streams ++ made_of folds streams one.op ∷ [])
     (rise_last end streams (made_of folds streams one.op) h (made_rises folds end streams one.op h))
 
 -- the packets' numbers of a stream rise
 pub stream_rises : (q : TypedQuery) (number : ℕ) (packets : List (List ℕ)) → Rises 1 (1 + length packets) (stream q number packets)
 stream_rises q number packets =
     let end = 1 + length packets in
-    rise_at end _ number (rise_along q.folds end q.streams (numbered 1 packets ∷ []) (numbered_rise 1 end packets (omega arith), tt))
+    rise_at end _ number (rise_along q.folds end q.streams (numbered 1 packets ∷ []) (numbered_rise 1 packets (omega arith), tt))
 
 -- ---- what that says of the numbers
 
@@ -117,9 +116,9 @@ increasing from end (t ∷ u ∷ tuples) h = go (increasing (suc t.packet) end (
 abbrev LieBetween : ℕ → ℕ → List ℕ → Type 0
 LieBetween from last numbers = All (λ n. (from ≤ n) × (n ≤ last)) numbers
 
-pub within : (from last : ℕ) (tuples : List Tuple) → Rises from (1 + last) tuples → LieBetween from last (packet_numbers tuples)
-within from last [] h = λ k d lt. absurd (omega (arith, lt))
-within from last (t ∷ tuples) h = go (within (suc t.packet) last tuples h.2)
+pub within : {from last : ℕ} (tuples : List Tuple) → Rises from (1 + last) tuples → LieBetween from last (packet_numbers tuples)
+within [] h = λ k d lt. absurd (omega (arith, lt))
+within {from} {last} (t ∷ tuples) h = go (within tuples h.2)
   where
     go : LieBetween (suc t.packet) last (packet_numbers tuples) → LieBetween from last (packet_numbers (t ∷ tuples))
     go more zero d lt = (h.0, omega (arith, h.1))

@@ -50,21 +50,21 @@ emit_is : (around : List TypedExpr) → emit_condition (all_of around) ≡ emit_
 emit_is [] = refl
 emit_is (t ∷ others) = refl
 
-fits_inside : (states : List ℕ) (around : List TypedExpr) (outer : Enclosing) (written : Expr) (t : TypedExpr) → Fits states around outer
+fits_inside : {states : List ℕ} {around : List TypedExpr} {outer : Enclosing} {written : Expr} {t : TypedExpr} → Fits states around outer
     → Reads states written t → Fits states (t ∷ around) (inside states outer written t)
-fits_inside states around outer written t f r = record {
+fits_inside {around} {outer} {t} f r = record {
   condition = ap (λ (o : Option TypedExpr). Some (joined o t)) f.condition ∙ ap Some (one_more t around);
-  past = λ e. let p = neither outer.state (state_in states written) e in (r.past p.1, f.past p.0);
-  none = λ h. both_none outer.state (state_in states written) (f.none h.1) (r.none h.0);
+  past = λ e. let p = neither outer.state e in (r.past p.1, f.past p.0);
+  none = λ h. both_none (f.none h.1) (r.none h.0);
 }
 
-not_reads : (states : List ℕ) (e : Expr) (t : TypedExpr) → Reads states e t → Reads states e (typed.Not t)
-not_reads states e t r =
+not_reads : {states : List ℕ} {e : Expr} {t : TypedExpr} → Reads states e t → Reads states e (typed.Not t)
+not_reads {states} {t} r =
     let V : Term → Type 0 = λ z. ReadsArguments (length states) z in
     record { past = λ h. subst V (sym (term_not t)) (r.past h); none = λ h. r.none (subst V (term_not t) h) }
 
-pub target_stands : (states args : List ℕ) (name : Name) (v : ℕ) → target_of states args name ≡ Ok v → StandsAt states v name.id
-target_stands states args name v e = go (place_of states name.id) refl (is_among name.id args) e
+pub target_stands : (states args : List ℕ) (name : Name) {v : ℕ} → target_of states args name ≡ Ok v → StandsAt states v name.id
+target_stands states args name {v} e = go (place_of states name.id) refl (is_among name.id args) e
   where
     go : (o : Option ℕ) → place_of states name.id ≡ o → (b : Bool) → target_at o b name.span ≡ Ok v → StandsAt states v name.id
     go (Some slot) is b e =
@@ -73,9 +73,9 @@ target_stands states args name v e = go (place_of states name.id) refl (is_among
     go None is true e = cc e
     go None is false e = cc e
 
-pub no_state_ok : {A : Type 0} (o : Option Span) (next : Checked A) (x : A) → no_state o next ≡ Ok x → (o ≡ None) × (next ≡ Ok x)
-no_state_ok None next x e = (refl, e)
-no_state_ok (Some span) next x e = cc e
+pub no_state_ok : {A : Type 0} (o : Option Span) {next : Checked A} {x : A} → no_state o next ≡ Ok x → (o ≡ None) × (next ≡ Ok x)
+no_state_ok None e = (refl, e)
+no_state_ok (Some span) e = cc e
 
 is_none : {A : Type 0} (o : Option A) → is_some o ≡ false → o ≡ None
 is_none None e = refl
@@ -110,15 +110,14 @@ IsSoundLayer states args x = (around : List TypedExpr) (outer : Enclosing) (foun
     → stmt_step states args (map-Stmt Stmt Adding (stmt_checked states args) x) outer found ≡ Ok made
     → Added states args around (roll-Stmt x) found made
 
-of_layer : (states args : List ℕ) (x : stmt.Stmt-F Stmt) → IsSoundLayer states args x → IsSound states args (roll-Stmt x)
-of_layer states args x layer around outer found made f e =
+of_layer : {states args : List ℕ} (x : stmt.Stmt-F Stmt) → IsSoundLayer states args x → IsSound states args (roll-Stmt x)
+of_layer {states} {args} x layer around outer found made f e =
     layer around outer found made f (sym (ap (λ (g : Adding). g outer found) (fold-roll-Stmt Adding (stmt_step states args) x)) ∙ e)
 
-block_of_sound : (states args : List ℕ) (ss : List (Sound states args)) (around : List TypedExpr) (outer : Enclosing) (found made : Body)
-    → Fits states around outer
-    → in_order (map (stmt_checked states args) (map (λ s. s.0) ss)) outer found ≡ Ok made
+block_of_sound : {states args : List ℕ} (ss : List (Sound states args)) {around : List TypedExpr} {outer : Enclosing} {found made : Body}
+    → Fits states around outer → in_order (map (stmt_checked states args) (map (λ s. s.0) ss)) outer found ≡ Ok made
     → IsBlock states args around (map (λ s. s.0) ss) found made
-block_of_sound states args [] around outer found made f e =
+block_of_sound [] {around} {found} {made} f e =
     let same = same_ok found made e in
     record {
       ts = [];
@@ -127,10 +126,10 @@ block_of_sound states args [] around outer found made f e =
       emits = append-nil (at_most_one found.emit) ∙ ap (λ (b : Body). at_most_one b.emit) same;
       rule = of_none around;
     }
-block_of_sound states args (s ∷ ss) around outer found made f e =
+block_of_sound {states} {args} (s ∷ ss) {around} {outer} {found} {made} f e =
     let first = found_first (stmt_checked states args s.0 outer found) _ made e in
     let one = s.1 around outer found first.0 f first.1 in
-    let rest = block_of_sound states args ss around outer first.0 made f first.2 in
+    let rest = block_of_sound ss f first.2 in
     record {
       ts = one.ts ++ rest.ts;
       es = one.es ++ rest.es;
@@ -140,25 +139,24 @@ block_of_sound states args (s ∷ ss) around outer found made f e =
       rule = one.rule _ rest.ts rest.es rest.rule;
     }
 
-moved : (states args : List ℕ) (around : List TypedExpr) (s r : Stmt) (found made : Body) → r ≡ s → Added states args around s found made
+moved : {states args : List ℕ} {around : List TypedExpr} {s r : Stmt} {found made : Body} → r ≡ s → Added states args around s found made
     → Added states args around r found made
-moved states args around s r found made is h = let S : Stmt → Type 0 = λ z. Added states args around z found made in subst S (sym is) h
+moved {states} {args} {around} {found} {made} is h = let S : Stmt → Type 0 = λ z. Added states args around z found made in subst S (sym is) h
 
-step : (states args : List ℕ) (y : stmt.Stmt-F (Sound states args)) → IsSoundLayer states args
+step : {states args : List ℕ} (y : stmt.Stmt-F (Sound states args)) → IsSoundLayer states args
     (map-Stmt (Sound states args) Stmt (λ s. s.0) y)
-step states args (stmt.Assign x e) around outer found made f is =
+step {states} {args} (stmt.Assign x e) around outer found made f is =
     let target = found_first (target_of states args x) _ made is in
     let word = found_first (word_of (states ++ args) [] e) _ made target.2 in
     let B : Body → Type 0 = λ b. Added states args around (whole.Assign x e) found b in
-    moved states args around _ _ found made (rolls-Assign x e) (subst B (same_ok _ made word.2) (record {
+    moved (rolls-Assign x e) (subst B (same_ok _ made word.2) (record {
       ts = typed_stmt.Assign target.0 word.0 ∷ [];
       es = [];
       statements = refl;
       emits = append-nil (at_most_one found.emit);
-      rule = λ rest us fs h. of_assign around x target.0 e word.0 rest us fs (target_stands states args x target.0 target.1)
-          (word_sound (states ++ args) [] e word.0 word.1) h;
+      rule = λ rest us fs h. of_assign x (target_stands states args x target.1) (word_sound [] word.1) h;
     }))
-step states args (stmt.If c a b) around outer found made f is =
+step {states} {args} (stmt.If c a b) around outer found made f is =
     let firsts = map (λ (s : Sound states args). s.0) a in
     let seconds = map (λ (s : Sound states args). s.0) b in
     let condition = found_first (condition_of (states ++ args) [] c) _ made is in
@@ -167,48 +165,46 @@ step states args (stmt.If c a b) around outer found made f is =
     (record { statements = []; emit = found.emit })) _ made condition.2 in
     let two = found_first (in_order (map (stmt_checked states args) seconds) (inside states outer c (typed.Not t))
     (record { statements = []; emit = one.0.emit })) _ made one.2 in
-    let rule = condition_sound (states ++ args) [] c t condition.1 in
-    let r = reads states args Condition c t rule in
-    let p = block_of_sound states args a (t ∷ around) _ _ one.0 (fits_inside states around outer c t f r) one.1 in
-    let q = block_of_sound states args b (typed.Not t ∷ around) _ _ two.0
-    (fits_inside states around outer c (typed.Not t) f (not_reads states c t r)) two.1 in
+    let rule = condition_sound [] condition.1 in
+    let r = reads args rule in
+    let p = block_of_sound a (fits_inside f r) one.1 in
+    let q = block_of_sound b (fits_inside f (not_reads r)) two.1 in
     let P : List TypedStmt → Type 0 = λ z. HasBlock states args (t ∷ around) firsts z p.es in
     let Q : List TypedStmt → Type 0 = λ z. HasBlock states args (typed.Not t ∷ around) seconds z q.es in
     let B : Body → Type 0 = λ z. Added states args around (whole.If c firsts seconds) found z in
-    moved states args around _ _ found made (rolls-If c firsts seconds) (subst B (same_ok _ made two.2) (record {
+    moved (rolls-If c firsts seconds) (subst B (same_ok _ made two.2) (record {
       ts = typed_stmt.If t one.0.statements two.0.statements ∷ [];
       es = p.es ++ q.es;
       statements = refl;
       emits = sym (append_assoc (at_most_one found.emit) p.es q.es) ∙ ap (λ (z : List TypedExpr). z ++ q.es) p.emits ∙ q.emits;
-      rule = λ rest us fs h. of_if around c t firsts seconds rest one.0.statements two.0.statements us p.es q.es fs rule
-          (subst P (sym p.statements) p.rule) (subst Q (sym q.statements) q.rule) h;
+      rule = λ rest us fs h. of_if rule (subst P (sym p.statements) p.rule) (subst Q (sym q.statements) q.rule) h;
     }))
-step states args (stmt.Emit span) around outer found made f is =
-    let once = must_not_ok (is_some found.emit) WrongArity span _ made is in
-    let none = no_state_ok outer.state _ made once.1 in
+step {states} {args} (stmt.Emit span) around outer found made f is =
+    let once = must_not_ok (is_some found.emit) WrongArity span is in
+    let none = no_state_ok outer.state once.1 in
     let B : Body → Type 0 = λ b. Added states args around (whole.Emit span) found b in
-    moved states args around _ _ found made (rolls-Emit span) (subst B (same_ok _ made none.1) (record {
+    moved (rolls-Emit span) (subst B (same_ok _ made none.1) (record {
       ts = [];
       es = emit_of around ∷ [];
       statements = sym (append-nil found.statements);
       emits = ap (λ (o : Option TypedExpr). at_most_one o ++ emit_of around ∷ []) (is_none found.emit once.0)
           ∙ ap (λ (t : TypedExpr). t ∷ []) (sym (ap emit_condition f.condition ∙ emit_is around));
-      rule = λ rest us fs h. of_emit around span rest us fs (f.past none.0) h;
+      rule = λ rest us fs h. of_emit span (f.past none.0) h;
     }))
 
-stmt_sound : (states args : List ℕ) (s : Stmt) → IsSound states args s
-stmt_sound states args = ind-Stmt (IsSound states args) (λ x y is.
+stmt_sound : {states args : List ℕ} (s : Stmt) → IsSound states args s
+stmt_sound {states} {args} = ind-Stmt (IsSound states args) (λ x y is.
     let L : stmt.Stmt-F Stmt → Type 0 = λ z. IsSoundLayer states args z in
-    of_layer states args x (subst L is (step states args y)))
+    of_layer x (subst L is (step y)))
 
-pub block_sound : (states args : List ℕ) (ss : List Stmt) (around : List TypedExpr) (outer : Enclosing) (found made : Body)
+pub block_sound : {states args : List ℕ} (ss : List Stmt) {around : List TypedExpr} {outer : Enclosing} {found made : Body}
     → Fits states around outer
     → in_order (map (stmt_checked states args) ss) outer found ≡ Ok made → IsBlock states args around ss found made
-block_sound states args [] around outer found made f e = block_of_sound states args [] around outer found made f e
-block_sound states args (s ∷ ss) around outer found made f e =
+block_sound [] f e = block_of_sound [] f e
+block_sound {states} {args} (s ∷ ss) {around} {outer} {found} {made} f e =
     let first = found_first (stmt_checked states args s outer found) _ made e in
-    let one = stmt_sound states args s around outer found first.0 f first.1 in
-    let rest = block_sound states args ss around outer first.0 made f first.2 in
+    let one = stmt_sound s around outer found first.0 f first.1 in
+    let rest = block_sound ss f first.2 in
     record {
       ts = one.ts ++ rest.ts;
       es = one.es ++ rest.es;
@@ -220,10 +216,9 @@ block_sound states args (s ∷ ss) around outer found made f e =
 
 -- ---- from the rules to the check
 
-pub stmt_is : (states args : List ℕ) (x : stmt.Stmt-F Stmt) (s : Stmt) → roll-Stmt x ≡ s → (outer : Enclosing) (found : Body)
+pub stmt_is : (states args : List ℕ) (x : stmt.Stmt-F Stmt) {s : Stmt} → roll-Stmt x ≡ s → (outer : Enclosing) (found : Body)
     → stmt_checked states args s outer found ≡ stmt_step states args (map-Stmt Stmt Adding (stmt_checked states args) x) outer found
-stmt_is states args x s is outer found =
-    ap (λ (z : Stmt). stmt_checked states args z outer found) (sym is)
+stmt_is states args x is outer found = ap (λ (z : Stmt). stmt_checked states args z outer found) (sym is)
     ∙ ap (λ (g : Adding). g outer found) (fold-roll-Stmt Adding (stmt_step states args) x)
 
 same_one : (o p : Option TypedExpr) → at_most_one o ≡ at_most_one p → o ≡ p
@@ -240,52 +235,43 @@ first_part (x ∷ []) ys last e = (Some x, refl)
 first_part (x ∷ y ∷ xs) ys None e = cc e
 first_part (x ∷ y ∷ xs) ys (Some t) e = cc e
 
-bodies : (xs ys : List TypedStmt) (o p : Option TypedExpr) → xs ≡ ys → o ≡ p
+bodies : {xs ys : List TypedStmt} {o p : Option TypedExpr} → xs ≡ ys → o ≡ p
     → (let r : Checked Body = Ok (record { statements = xs; emit = o }) in r) ≡ Ok (record { statements = ys; emit = p })
-bodies xs ys o p e f = ap (λ (z : List TypedStmt). let r : Checked Body = Ok (record { statements = z; emit = o }) in r) e
+bodies {ys} {o} e f = ap (λ (z : List TypedStmt). let r : Checked Body = Ok (record { statements = z; emit = o }) in r) e
     ∙ ap (λ (z : Option TypedExpr). let r : Checked Body = Ok (record { statements = ys; emit = z }) in r) f
 
-pub block_complete : (states args : List ℕ) (around : List TypedExpr) (ss : List Stmt) (ts : List TypedStmt) (es : List TypedExpr)
+pub block_complete : {states args : List ℕ} {around : List TypedExpr} {ss : List Stmt} {ts : List TypedStmt} {es : List TypedExpr}
     → HasBlock states args around ss ts es
-    → (outer : Enclosing) (found : Body) (last : Option TypedExpr) → Fits states around outer → at_most_one found.emit
+    → {outer : Enclosing} (found : Body) {last : Option TypedExpr} → Fits states around outer → at_most_one found.emit
     ++ es ≡ at_most_one last
     → in_order (map (stmt_checked states args) ss) outer found ≡ Ok (record { statements = found.statements ++ ts; emit = last })
-block_complete states args _ _ _ _ (of_none around) outer found last f e =
-    bodies found.statements (found.statements ++ []) found.emit last (sym (append-nil found.statements))
+block_complete (of_none around) found {last} f e = bodies (sym (append-nil found.statements))
     (same_one found.emit last (sym (append-nil (at_most_one found.emit)) ∙ e))
-block_complete states args _ _ _ _ (of_assign around x v e t rest ts es stands word h) outer found last f k =
-    then_next _ _ (record { statements = found.statements ++ typed_stmt.Assign v t ∷ []; emit = found.emit }) (
-    stmt_is states args (stmt.Assign x e) (whole.Assign x e) (rolls-Assign x e) outer found
-    ∙ then_next _ _ v (ap (λ (o : Option ℕ). target_at o (is_among x.id args) x.span) (stands_place states x.id v stands))
-    ∙ then_next _ _ t (word_complete (states ++ args) [] e t word))
-    ∙ block_complete states args around rest ts es h outer _ last f k
-    ∙ bodies _ _ last last (append_assoc found.statements (typed_stmt.Assign v t ∷ []) ts) refl
-block_complete states args _ _ _ _ (of_if around c t a b rest xs ys ts first second others rule ha hb h) outer found last f k =
-    let r = reads states args Condition c t rule in
+block_complete {states} {args} (of_assign x {v} {e} {t} {ts} stands word h) {outer} found f k = then_next _ (
+    stmt_is states args (stmt.Assign x e) (rolls-Assign x e) outer found
+    ∙ then_next _ (ap (λ (o : Option ℕ). target_at o (is_among x.id args) x.span) (stands_place states x.id stands))
+    ∙ then_next _ (word_complete [] word)) ∙ block_complete h _ f k
+    ∙ bodies (append_assoc found.statements (typed_stmt.Assign v t ∷ []) ts) refl
+block_complete {states} {args} (of_if {c} {t} {a} {b} {xs} {ys} {ts} {first} {second} {others} rule ha hb h) {outer} found {last} f k =
+    let r = reads args rule in
     let front = append_assoc (at_most_one found.emit) (first ++ second) others ∙ k in
     let two = first_part (at_most_one found.emit ++ (first ++ second)) others last front in
     let inner = append_assoc (at_most_one found.emit) first second ∙ two.1 in
     let one = first_part (at_most_one found.emit ++ first) second two.0 inner in
-    then_next _ _ (record { statements = found.statements ++ typed_stmt.If t xs ys ∷ []; emit = two.0 }) (
-    stmt_is states args (stmt.If c a b) (whole.If c a b) (rolls-If c a b) outer found
-    ∙ then_next _ _ t (condition_complete (states ++ args) [] c t rule)
-    ∙ then_next _ _ _ (block_complete states args (t ∷ around) a xs first ha (inside states outer c t)
-    (record { statements = []; emit = found.emit }) one.0 (fits_inside states around outer c t f r) one.1)
-    ∙ then_next _ _ _ (block_complete states args (typed.Not t ∷ around) b ys second hb (inside states outer c (typed.Not t))
-    (record { statements = []; emit = one.0 }) two.0
-    (fits_inside states around outer c (typed.Not t) f (not_reads states c t r))
+    then_next _ (
+    stmt_is states args (stmt.If c a b) (rolls-If c a b) outer found ∙ then_next _ (condition_complete [] rule)
+    ∙ then_next _ (block_complete ha (record { statements = []; emit = found.emit }) (fits_inside f r) one.1)
+    ∙ then_next _ (block_complete hb (record { statements = []; emit = one.0 }) (fits_inside f (not_reads r))
     (sym (ap (λ (z : List TypedExpr). z ++ second) one.1) ∙ inner)))
-    ∙ block_complete states args around rest ts others h outer _ last f (sym (ap (λ (z : List TypedExpr). z ++ others) two.1) ∙ front)
-    ∙ bodies _ _ last last (append_assoc found.statements (typed_stmt.If t xs ys ∷ []) ts) refl
-block_complete states args _ _ _ _ (of_emit around span rest ts others past h) outer found last f k =
+    ∙ block_complete h _ f (sym (ap (λ (z : List TypedExpr). z ++ others) two.1) ∙ front)
+    ∙ bodies (append_assoc found.statements (typed_stmt.If t xs ys ∷ []) ts) refl
+block_complete {states} {args} (of_emit {around} span {others} past h) {outer} found {last} f k =
     let none = only found.emit k in
-    then_next _ _ (record { statements = found.statements; emit = Some (emit_of around) }) (
-    stmt_is states args (stmt.Emit span) (whole.Emit span) (rolls-Emit span) outer found
-    ∙ must_not_holds _ _ _ _ (ap is_some none)
+    then_next _ (
+    stmt_is states args (stmt.Emit span) (rolls-Emit span) outer found ∙ must_not_holds _ _ (ap is_some none)
     ∙ ap (λ (o : Option Span). no_state o (let r : Checked Body = Ok (record
     { statements = found.statements; emit = Some (emit_condition outer.condition) }) in r)) (f.none past)
-    ∙ bodies _ _ _ _ refl (ap Some (ap emit_condition f.condition ∙ emit_is around)))
-    ∙ block_complete states args around rest ts others h outer _ last f
+    ∙ bodies refl (ap Some (ap emit_condition f.condition ∙ emit_is around))) ∙ block_complete h _ f
     (sym (ap (λ (o : Option TypedExpr). at_most_one o ++ emit_of around ∷ others) none) ∙ k)
   where
     only : (o : Option TypedExpr) → at_most_one o ++ emit_of around ∷ others ≡ at_most_one last → o ≡ None

@@ -17,8 +17,7 @@ pub at_slots : (columns : List StreamColumn) (slots : List ℕ) (found : List St
 at_slots columns [] [] h = refl
 at_slots columns [] (c ∷ found) h = absurd h
 at_slots columns (slot ∷ slots) [] h = absurd h
-at_slots columns (slot ∷ slots) (c ∷ found) h =
-    ap (λ (z : List StreamColumn). c ∷ z) (at_slots columns slots found h.1)
+at_slots columns (slot ∷ slots) (c ∷ found) h = ap (λ (z : List StreamColumn). c ∷ z) (at_slots columns slots found h.1)
     ∙ sym (ap (λ (o : Option StreamColumn). cons_option o (columns_at columns slots)) h.0)
 
 -- slots of columns that are there
@@ -58,18 +57,16 @@ keys_there columns ids slots h = are_there columns slots (slots_within columns i
 
 -- ---- the columns with other names
 
-pub others_are : (names : List ℕ) (slot : ℕ) (columns : List StreamColumn) (slots : List ℕ) → AreOthers names slot columns slots
+pub others_are : {names : List ℕ} {slot : ℕ} {columns : List StreamColumn} {slots : List ℕ} → AreOthers names slot columns slots
     → slots ≡ others_from slot names columns
-others_are names _ _ _ (of_none slot) = refl
-others_are names _ _ _ (of_named slot column rest slots h more) = go (is_among column.name names) refl
-    (others_are names (slot + 1) rest slots more)
+others_are (of_none slot) = refl
+others_are {names} (of_named {slot} {column} {rest} {slots} h more) = go (is_among column.name names) refl (others_are more)
   where
     go : (b : Bool) → is_among column.name names ≡ b → slots ≡ others_from (slot + 1) names rest
         → slots ≡ cond b (others_from (slot + 1) names rest) (slot ∷ others_from (slot + 1) names rest)
     go true is same = same
     go false is same = absurd (h (among_new column.name names is))
-others_are names _ _ _ (of_other slot column rest slots h more) =
-    ap (λ (z : List ℕ). slot ∷ z) (others_are names (slot + 1) rest slots more)
+others_are {names} (of_other {slot} {column} {rest} h more) = ap (λ (z : List ℕ). slot ∷ z) (others_are more)
     ∙ sym (ap (λ (b : Bool). cond b (others_from (slot + 1) names rest) (slot ∷ others_from (slot + 1) names rest))
     (new_among column.name names h))
 
@@ -82,8 +79,8 @@ others_found names slot (column ∷ rest) = go (is_among column.name names) refl
 
     go : (b : Bool) → is_among column.name names ≡ b → AreOthers names (slot + 1) rest more
         → AreOthers names slot (column ∷ rest) (cond b more (slot ∷ more))
-    go true is h = of_named slot column rest more (λ new. let both : true ≡ false = sym is ∙ new_among column.name names new in cc both) h
-    go false is h = of_other slot column rest more (among_new column.name names is) h
+    go true is h = of_named (λ new. let both : true ≡ false = sym is ∙ new_among column.name names new in cc both) h
+    go false is h = of_other (among_new column.name names is) h
 
 others_within : (at : ℕ) (names : List ℕ) (columns : List StreamColumn) → AreWithin (at + length columns) (others_from at names columns)
 others_within at names [] = tt
@@ -101,8 +98,8 @@ pub record Taken (names : List ℕ) (columns : List StreamColumn) : Type 0 where
   pub new : AreOthers names 0 columns (others_from 0 names columns)
   pub there : AreAt columns (others_from 0 names columns) (columns_at columns (others_from 0 names columns))
 
-pub others_taken : (names : List ℕ) (columns : List StreamColumn) → Taken names columns
-others_taken names columns =
+pub others_taken : {names : List ℕ} {columns : List StreamColumn} → Taken names columns
+others_taken {names} {columns} =
     let W : ℕ → Type 0 = λ n. AreWithin n (others_from 0 names columns) in
     record {
       new = others_found names 0 columns;

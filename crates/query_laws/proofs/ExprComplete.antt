@@ -23,9 +23,9 @@ use Rattle.query_laws.proofs.ExprSound.{kind_of, kind_made}
 
 -- ---- each form of an expression is checked by its step
 
-pub number_is : (columns hidden : List ℕ) (n : ℕ) (span : Span) → expr_checked columns hidden (whole.Number n span) ≡ expr_step columns
+pub number_is : (columns hidden : List ℕ) {n : ℕ} {span : Span} → expr_checked columns hidden (whole.Number n span) ≡ expr_step columns
     hidden (expr.Number n span)
-number_is columns hidden n span = ap (expr_checked columns hidden) (sym (rolls-Number n span))
+number_is columns hidden {n} {span} = ap (expr_checked columns hidden) (sym (rolls-Number n span))
     ∙ fold-roll-Expr (Checked Found) (expr_step columns hidden) (expr.Number n span)
 
 pub named_is : (columns hidden : List ℕ) (x : Name) → expr_checked columns hidden (whole.Named x) ≡ expr_step columns hidden (expr.Named x)
@@ -71,95 +71,87 @@ operand Both s e = kind_condition s e
 operand Either s e = kind_condition s e
 operand _ s e = kind_word s e
 
-constant : (columns hidden : List ℕ) (test : ℕ → Bool) (Q : ℕ → Type 0) (e : Expr) (found : Found) → ((n : ℕ) → Q n → test n ≡ true)
-    → expr_checked columns hidden e ≡ Ok found → IsNumberWith Q e
-    → is_number_with test found.sort ≡ true
-constant columns hidden test Q e found tells is h =
-    let same = same_ok _ found (sym (number_is columns hidden h.0 h.1) ∙ ap (expr_checked columns hidden) (sym h.2) ∙ is) in
+constant : (columns hidden : List ℕ) {test : ℕ → Bool} {Q : ℕ → Type 0} {e : Expr} {found : Found} → ((n : ℕ) → Q n → test n ≡ true)
+    → expr_checked columns hidden e ≡ Ok found → IsNumberWith Q e → is_number_with test found.sort ≡ true
+constant columns hidden {test} {found} tells is h =
+    let same = same_ok _ found (sym (number_is columns hidden) ∙ ap (expr_checked columns hidden) (sym h.2) ∙ is) in
     sym (ap (λ (f : Found). is_number_with test f.sort) same) ∙ tells h.0 h.3
 
-below : (k n : ℕ) → k < n → nat_lt k n ≡ true
-below k n h = grind arith
+below : {k n : ℕ} → k < n → nat_lt k n ≡ true
+below h = grind arith
 
 pub right : (columns hidden : List ℕ) (op : Op) (e : Expr) (found : Found) → expr_checked columns hidden e ≡ Ok found → IsRightOperand op e
     → is_right_constant op found.sort ≡ true
-right columns hidden Div e found is h = constant columns hidden (λ k. nat_lt 0 k) (λ k. 0 < k) e found (λ k c. below 0 k c) is h
-right columns hidden Rem e found is h = constant columns hidden (λ k. nat_lt 0 k) (λ k. 0 < k) e found (λ k c. below 0 k c) is h
-right columns hidden Shl e found is h = constant columns hidden (λ k. nat_lt k 64) (λ k. k < 64) e found (λ k c. below k 64 c) is h
-right columns hidden Shr e found is h = constant columns hidden (λ k. nat_lt k 64) (λ k. k < 64) e found (λ k c. below k 64 c) is h
-right columns hidden Decay e found is h = constant columns hidden (λ k. nat_lt k 64) (λ k. k < 64) e found (λ k c. below k 64 c) is h
+right columns hidden Div e found is h = constant columns hidden (λ k c. below c) is h
+right columns hidden Rem e found is h = constant columns hidden (λ k c. below c) is h
+right columns hidden Shl e found is h = constant columns hidden (λ k c. below c) is h
+right columns hidden Shr e found is h = constant columns hidden (λ k c. below c) is h
+right columns hidden Decay e found is h = constant columns hidden (λ k c. below c) is h
 right columns hidden _ e found is h = refl
 
 abbrev pair : Op → Span → Found → Found → Found
 pair op at x y = record { tree = typed.Binary op x.tree y.tree; sort = sort_of op; at = at }
 
-two : (columns hidden : List ℕ) (op : Op) (at : Span) (a b : Expr) (s t : TypedExpr) (x : Gives columns hidden (operand_kind op) a s)
-    (y : Gives columns hidden (operand_kind op) b t) → IsRightOperand op b
-    → of_two op at x.found y.found ≡ Ok (pair op at x.found y.found)
-two columns hidden op at a b s t x y c =
-    must_holds _ _ _ _ (operand op x.found.sort x.kind) ∙ must_holds _ _ _ _ (operand op y.found.sort y.kind)
-    ∙ must_holds _ _ _ _ (right columns hidden op b y.found y.is c)
+two : {columns hidden : List ℕ} {op : Op} {at : Span} {a b : Expr} {s t : TypedExpr} (x : Gives columns hidden (operand_kind op) a s)
+    (y : Gives columns hidden (operand_kind op) b t) → IsRightOperand op b → of_two op at x.found y.found ≡ Ok (pair op at x.found y.found)
+two {columns} {hidden} {op} {b} x y c = must_holds _ _ (operand op x.found.sort x.kind) ∙ must_holds _ _ (operand op y.found.sort y.kind)
+    ∙ must_holds _ _ (right columns hidden op b y.found y.is c)
 
-pair_tree : (op : Op) (at : Span) (x y : Found) (s t : TypedExpr) → x.tree ≡ s → y.tree ≡ t → (pair op at x y).tree ≡ typed.Binary op s t
-pair_tree op at x y s t p q = ap (λ (z : TypedExpr). typed.Binary op z y.tree) p ∙ ap (typed.Binary op s) q
+pair_tree : {op : Op} (at : Span) (x y : Found) {s t : TypedExpr} → x.tree ≡ s → y.tree ≡ t → (pair op at x y).tree ≡ typed.Binary op s t
+pair_tree {op} at x y {s} p q = ap (λ (z : TypedExpr). typed.Binary op z y.tree) p ∙ ap (typed.Binary op s) q
 
-pub complete : (columns hidden : List ℕ) (k : Kind) (e : Expr) (t : TypedExpr) → HasKind columns k e t → Gives columns hidden k e t
-complete columns hidden _ _ _ (of_number n span) = record {
+pub complete : {columns : List ℕ} (hidden : List ℕ) {k : Kind} {e : Expr} {t : TypedExpr} → HasKind columns k e t → Gives columns hidden k e t
+complete {columns} hidden (of_number {n} span) = record {
   found = record { tree = typed.Number n; sort = sort.Number n; at = span };
-  is =
-      number_is columns hidden n span;
+  is = number_is columns hidden;
   tree = refl;
   kind = refl;
 }
-complete columns hidden _ _ _ (of_name x slot stands) = record {
+complete {columns} hidden (of_name x {slot} stands) = record {
   found = record { tree = typed.Slot slot; sort = sort.Word; at = x.span };
-  is = named_is columns hidden x ∙ then_next _ _ slot (ap (λ (o : Option ℕ). slot_at o (is_among x.id hidden) x.span)
-      (stands_place columns x.id slot stands));
+  is = named_is columns hidden x ∙ then_next _ (ap (λ (o : Option ℕ). slot_at o (is_among x.id hidden) x.span)
+      (stands_place columns x.id stands));
   tree = refl;
   kind = refl;
 }
-complete columns hidden _ _ _ (of_not span e t h) =
-    let x = complete columns hidden _ _ _ h in
+complete {columns} hidden (of_not span {e} h) =
+    let x = complete hidden h in
     record {
       found = record { tree = typed.Not x.found.tree; sort = sort.Condition; at = span };
-      is = not_is columns hidden span e ∙ then_next _ (negation_checked span) x.found x.is
-          ∙ must_holds _ _ _ _ (kind_condition x.found.sort x.kind);
+      is = not_is columns hidden span e ∙ then_next (negation_checked span) x.is ∙ must_holds _ _ (kind_condition x.found.sort x.kind);
       tree = ap typed.Not x.tree;
       kind = refl;
     }
-complete columns hidden _ _ _ (of_binary op span a b s t h i c) =
-    let x = complete columns hidden _ _ _ h in
-    let y = complete columns hidden _ _ _ i in
+complete {columns} hidden (of_binary {op} span {a} {b} h i c) =
+    let x = complete hidden h in
+    let y = complete hidden i in
     record {
       found = pair op x.found.at x.found y.found;
-      is = binary_is columns hidden op span a b ∙ then_next _ _ x.found x.is ∙ then_next _ _ y.found y.is
-          ∙ two columns hidden op x.found.at a b s t x y c;
-      tree = pair_tree op x.found.at x.found y.found s t x.tree y.tree;
+      is = binary_is columns hidden op span a b ∙ then_next _ x.is ∙ then_next _ y.is ∙ two x y c;
+      tree = pair_tree x.found.at x.found y.found x.tree y.tree;
       kind = kind_made op;
     }
-complete columns hidden _ _ _ (of_call op span a b s t h i c) =
-    let x = complete columns hidden _ _ _ h in
-    let y = complete columns hidden _ _ _ i in
+complete {columns} hidden (of_call {op} span {a} {b} h i c) =
+    let x = complete hidden h in
+    let y = complete hidden i in
     record {
       found = pair op span x.found y.found;
       is = call_is columns hidden op span (a ∷ b ∷ [])
           ∙ ap (λ (r : Checked Found). and_then (collected [] (r ∷ expr_checked columns hidden b ∷ [])) (call_of op span)) x.is
-          ∙ ap (λ (r : Checked Found). and_then (collected (x.found ∷ []) (r ∷ [])) (call_of op span)) y.is
-          ∙ two columns hidden op span a b s t x y c;
-      tree = pair_tree op span x.found y.found s t x.tree y.tree;
+          ∙ ap (λ (r : Checked Found). and_then (collected (x.found ∷ []) (r ∷ [])) (call_of op span)) y.is ∙ two x y c;
+      tree = pair_tree span x.found y.found x.tree y.tree;
       kind = kind_made op;
     }
 
-pub condition_complete : (columns hidden : List ℕ) (e : Expr) (tree : TypedExpr) → HasKind columns Condition e tree
+pub condition_complete : {columns : List ℕ} (hidden : List ℕ) {e : Expr} {tree : TypedExpr} → HasKind columns Condition e tree
     → condition_of columns hidden e ≡ Ok tree
-condition_complete columns hidden e tree h =
-    let x = complete columns hidden Condition e tree h in
-    then_next _ _ x.found x.is ∙ must_holds _ _ _ _ (kind_condition x.found.sort x.kind)
+condition_complete hidden h =
+    let x = complete hidden h in
+    then_next _ x.is ∙ must_holds _ _ (kind_condition x.found.sort x.kind)
     ∙ ap (λ (t : TypedExpr). let r : Checked TypedExpr = Ok t in r) x.tree
 
-pub word_complete : (columns hidden : List ℕ) (e : Expr) (tree : TypedExpr) → HasKind columns Word e tree
+pub word_complete : {columns : List ℕ} (hidden : List ℕ) {e : Expr} {tree : TypedExpr} → HasKind columns Word e tree
     → word_of columns hidden e ≡ Ok tree
-word_complete columns hidden e tree h =
-    let x = complete columns hidden Word e tree h in
-    then_next _ _ x.found x.is ∙ must_holds _ _ _ _ (kind_word x.found.sort x.kind)
-    ∙ ap (λ (t : TypedExpr). let r : Checked TypedExpr = Ok t in r) x.tree
+word_complete hidden h =
+    let x = complete hidden h in
+    then_next _ x.is ∙ must_holds _ _ (kind_word x.found.sort x.kind) ∙ ap (λ (t : TypedExpr). let r : Checked TypedExpr = Ok t in r) x.tree

@@ -37,7 +37,7 @@ none_from (name ∷ rest) at id e = go (nat_eq name id) refl (λ k. none_from re
     go : (b : Bool) → nat_eq name id ≡ b → (place_from (at + 1) rest id ≡ None → IsNew id rest)
         → cond b (Some at) (place_from (at + 1) rest id) ≡ None → IsNew id (name ∷ rest)
     go true is more e = cc e
-    go false is more e = (nat_other name id is, more e)
+    go false is more e = (nat_other is, more e)
 
 pub place_none : (names : List ℕ) (id : ℕ) → place_of names id ≡ None → IsNew id names
 place_none names id e = none_from names 0 id e
@@ -45,83 +45,78 @@ place_none names id e = none_from names 0 id e
 pub not_new : (id : ℕ) (names : List ℕ) → is_among id names ≡ true → IsNew id names → ⊥
 not_new id names is new = not_both (is_among id names) (new_among id names new) is
 
-pub slot_told : (columns hidden : List ℕ) (x : Name) (fault : QueryFault) → slot_of columns hidden x ≡ Err fault
+pub slot_told : (columns hidden : List ℕ) (x : Name) {fault : QueryFault} → slot_of columns hidden x ≡ Err fault
     → (known : List Known) → Tells known fault.kind fault.span (AColumn columns hidden x.id x.span)
-slot_told columns hidden x fault e known = go (place_of columns x.id) refl (is_among x.id hidden) refl e
+slot_told columns hidden x {fault} e known = go (place_of columns x.id) refl (is_among x.id hidden) refl e
   where
     go : (o : Option ℕ) → place_of columns x.id ≡ o → (b : Bool) → is_among x.id hidden ≡ b → slot_at o b x.span ≡ Err fault
         → Tells known fault.kind fault.span (AColumn columns hidden x.id x.span)
-    go (Some slot) is b among e = no_fault slot fault e
-    go None is true among e = told known (AColumn columns hidden x.id x.span) StateOnLine x.span fault (same_fault _ fault e)
+    go (Some slot) is b among e = no_fault e
+    go None is true among e = told known (AColumn columns hidden x.id x.span) (same_fault e)
         (refl, place_none columns x.id is, not_new x.id hidden among)
-    go None is false among e = told known (AColumn columns hidden x.id x.span) UnknownName x.span fault (same_fault _ fault e)
+    go None is false among e = told known (AColumn columns hidden x.id x.span) (same_fault e)
         (refl, place_none columns x.id is, among_new x.id hidden among)
 
 -- ---- the leftmost token
 
-two_at : (op : Op) (at : Span) (x y found : Found) → of_two op at x y ≡ Ok found → found.at ≡ at
-two_at op at x y found e =
-    let one = must_ok (is_operand op x.sort) WrongKind x.at _ found e in
-    let two = must_ok (is_operand op y.sort) WrongKind y.at _ found one.1 in
-    let three = must_ok (is_right_constant op y.sort) BadConstant y.at _ found two.1 in
+two_at : (op : Op) {at : Span} (x y : Found) {found : Found} → of_two op at x y ≡ Ok found → found.at ≡ at
+two_at op x y {found} e =
+    let one = must_ok (is_operand op x.sort) WrongKind x.at e in
+    let two = must_ok (is_operand op y.sort) WrongKind y.at one.1 in
+    let three = must_ok (is_right_constant op y.sort) BadConstant y.at two.1 in
     sym (ap (λ (f : Found). f.at) (same_ok _ found three.1))
 
-call_at : (op : Op) (span : Span) (fs : List Found) (found : Found) → call_of op span fs ≡ Ok found → found.at ≡ span
-call_at op span [] found e = cc e
-call_at op span (f ∷ []) found e = cc e
-call_at op span (f ∷ g ∷ []) found e = two_at op span f g found e
-call_at op span (f ∷ g ∷ h ∷ fs) found e = cc e
+call_at : (op : Op) {span : Span} (fs : List Found) {found : Found} → call_of op span fs ≡ Ok found → found.at ≡ span
+call_at op [] e = cc e
+call_at op (f ∷ []) e = cc e
+call_at op (f ∷ g ∷ []) e = two_at op f g e
+call_at op (f ∷ g ∷ h ∷ fs) e = cc e
 
 abbrev StandsLeft : List ℕ → List ℕ → Expr → Type 0
 StandsLeft columns hidden e = (found : Found) → expr_checked columns hidden e ≡ Ok found → found.at ≡ leftmost e
 
-left_step : (columns hidden : List ℕ) (y : expr.Expr-F ((e : Expr) × StandsLeft columns hidden e)) (found : Found)
+left_step : (columns hidden : List ℕ) (y : expr.Expr-F ((e : Expr) × StandsLeft columns hidden e)) {found : Found}
     → expr_step columns hidden (map-Expr Expr (Checked Found) (expr_checked columns hidden)
     (map-Expr ((e : Expr) × StandsLeft columns hidden e) Expr (λ a. a.0) y)) ≡ Ok found
     → found.at ≡ leftmost_step (map-Expr Expr Span leftmost (map-Expr ((e : Expr) × StandsLeft columns hidden e) Expr (λ a. a.0) y))
-left_step columns hidden (expr.Number n span) found e = sym (ap (λ (f : Found). f.at) (same_ok _ found e))
-left_step columns hidden (expr.Named x) found e =
+left_step columns hidden (expr.Number n span) {found} e = sym (ap (λ (f : Found). f.at) (same_ok _ found e))
+left_step columns hidden (expr.Named x) {found} e =
     let first = found_first (slot_of columns hidden x) _ found e in sym (ap (λ (f : Found). f.at) (same_ok _ found first.2))
-left_step columns hidden (expr.Not span a) found e =
+left_step columns hidden (expr.Not span a) {found} e =
     let first = found_first (expr_checked columns hidden a.0) _ found e in
-    let one = must_ok _ _ _ _ found first.2 in
+    let one = must_ok _ _ _ first.2 in
     sym (ap (λ (f : Found). f.at) (same_ok _ found one.1))
-left_step columns hidden (expr.Binary op span a b) found e =
+left_step columns hidden (expr.Binary op span a b) {found} e =
     let first = found_first (expr_checked columns hidden a.0) _ found e in
     let second = found_first (expr_checked columns hidden b.0) _ found first.2 in
-    two_at op first.0.at first.0 second.0 found second.2 ∙ a.1 first.0 first.1
-left_step columns hidden (expr.Call op span args) found e =
+    two_at op first.0 second.0 second.2 ∙ a.1 first.0 first.1
+left_step columns hidden (expr.Call op span args) {found} e =
     let first = found_first (collected [] (map (expr_checked columns hidden) (map (λ a. a.0) args))) _ found e in
-    call_at op span first.0 found first.2
+    call_at op first.0 first.2
 
 pub stands_left : (columns hidden : List ℕ) (e : Expr) → StandsLeft columns hidden e
 stands_left columns hidden = ind-Expr (StandsLeft columns hidden) (λ x y is found e.
     let L : expr.Expr-F Expr → Type 0 = λ z. expr_step columns hidden (map-Expr Expr (Checked Found) (expr_checked columns hidden) z) ≡ Ok
-    found
-    → found.at ≡ leftmost_step (map-Expr Expr Span leftmost z) in
-    subst L is (left_step columns hidden y found) (sym (fold-roll-Expr (Checked Found) (expr_step columns hidden) x) ∙ e)
+    found → found.at ≡ leftmost_step (map-Expr Expr Span leftmost z) in
+    subst L is (left_step columns hidden y) (sym (fold-roll-Expr (Checked Found) (expr_step columns hidden) x) ∙ e)
     ∙ sym (fold-roll-Expr Span leftmost_step x))
 
 -- ---- what is asked of a part is asked
 
-through : (k : Kind) (e : Expr) (l : Kind) (a : Expr) (m : Kind) (p : Expr) → HasPart k e l a → HasPart l a m p → HasPart k e m p
-through _ _ _ _ m p (parts.whole k e) q = q
-through _ _ _ _ m p (of_not k span e l a h) q = of_not k span e m p (through _ _ _ _ m p h q)
-through _ _ _ _ m p (of_left k op span a b l part h) q = of_left k op span a b m p (through _ _ _ _ m p h q)
-through _ _ _ _ m p (parts.of_right k op span a b l part h) q = parts.of_right k op span a b m p (through _ _ _ _ m p h q)
-through _ _ _ _ m p (of_argument k op span arguments a l part i h) q = of_argument k op span arguments a m p i (through _ _ _ _ m p h q)
+through : {k : Kind} {e : Expr} {l : Kind} {a : Expr} {m : Kind} {p : Expr} → HasPart k e l a → HasPart l a m p → HasPart k e m p
+through parts.whole q = q
+through (of_not span h) q = of_not span (through h q)
+through (of_left op span a b h) q = of_left op span a b (through h q)
+through (parts.of_right op span a h) q = parts.of_right op span a (through h q)
+through (of_argument op span i h) q = of_argument op span i (through h q)
 
-asks_through : (columns hidden : List ℕ) (k : Kind) (e : Expr) (l : Kind) (a : Expr) (d : Demand) → HasPart k e l a
-    → ExprAsks columns hidden l a d
-    → ExprAsks columns hidden k e d
-asks_through columns hidden k e l a _ p (of_part m part h) = of_part m part (through k e l a m part p h)
-asks_through columns hidden k e l a _ p (of_name m x h) = of_name m x (through k e l a m (whole.Named x) p h)
-asks_through columns hidden k e l a _ p (of_call m op span arguments h) =
-    of_call m op span arguments (through k e l a m (whole.Call op span arguments) p h)
-asks_through columns hidden k e l a _ p (of_right m op span x y h) = of_right m op span x y
-    (through k e l a m (whole.Binary op span x y) p h)
-asks_through columns hidden k e l a _ p (of_second m op span x y h) = of_second m op span x y
-    (through k e l a m (whole.Call op span (x ∷ y ∷ [])) p h)
+asks_through : {columns hidden : List ℕ} {k : Kind} {e : Expr} {l : Kind} {a : Expr} {d : Demand} → HasPart k e l a
+    → ExprAsks columns hidden l a d → ExprAsks columns hidden k e d
+asks_through p (of_part h) = of_part (through p h)
+asks_through p (of_name x h) = of_name x (through p h)
+asks_through p (of_call op h) = of_call op (through p h)
+asks_through p (of_right span x h) = of_right span x (through p h)
+asks_through p (of_second span x h) = of_second span x (through p h)
 
 -- something that an expression asks, of which the fault says that it isn't so
 pub record ExprBroken (columns hidden : List ℕ) (k : Kind) (e : Expr) (fault : QueryFault) : Type 0 where
@@ -129,11 +124,11 @@ pub record ExprBroken (columns hidden : List ℕ) (k : Kind) (e : Expr) (fault :
   pub asks : ExprAsks columns hidden k e demand
   pub tells : (known : List Known) → Tells known fault.kind fault.span demand
 
-broken_through : (columns hidden : List ℕ) (k : Kind) (e : Expr) (l : Kind) (a : Expr) (fault : QueryFault) → HasPart k e l a
+broken_through : {columns hidden : List ℕ} {k : Kind} {e : Expr} {l : Kind} {a : Expr} {fault : QueryFault} → HasPart k e l a
     → ExprBroken columns hidden l a fault → ExprBroken columns hidden k e fault
-broken_through columns hidden k e l a fault p b = record {
+broken_through p b = record {
   demand = b.demand;
-  asks = asks_through columns hidden k e l a b.demand p b.asks;
+  asks = asks_through p b.asks;
   tells = b.tells;
 }
 
@@ -145,51 +140,46 @@ turned Word Condition differs = refl
 turned Condition Word differs = refl
 turned Condition Condition differs = absurd (differs refl)
 
-has_other_kind : (columns hidden : List ℕ) (l : Kind) (a : Expr) (x : Found) → expr_checked columns hidden a ≡ Ok x
-    → (kind_of x.sort ≡ l → ⊥)
-    → (t : TypedExpr) × HasKind columns (other_kind l) a t
-has_other_kind columns hidden l a x is differs =
+has_other_kind : {columns : List ℕ} (hidden : List ℕ) {l : Kind} {a : Expr} {x : Found} → expr_checked columns hidden a ≡ Ok x
+    → (kind_of x.sort ≡ l → ⊥) → (t : TypedExpr) × HasKind columns (other_kind l) a t
+has_other_kind {columns} hidden {l} {a} {x} is differs =
     let K : Kind → Type 0 = λ k. HasKind columns k a x.tree in
-    (x.tree, subst K (turned (kind_of x.sort) l differs) (expr_sound columns hidden a x is).rule)
+    (x.tree, subst K (turned (kind_of x.sort) l differs) (expr_sound hidden a x is).rule)
 
 -- an expression is of one kind
-pub one_kind : (columns : List ℕ) (k l : Kind) (e : Expr) (s t : TypedExpr) → HasKind columns k e s → HasKind columns l e t → k ≡ l
-one_kind columns k l e s t p q =
-    let f = complete columns [] k e s p in
-    let g = complete columns [] l e t q in
+pub one_kind : {columns : List ℕ} {k l : Kind} {e : Expr} {s t : TypedExpr} → HasKind columns k e s → HasKind columns l e t → k ≡ l
+one_kind p q =
+    let f = complete [] p in
+    let g = complete [] q in
     sym f.kind ∙ ap (λ (x : Found). kind_of x.sort) (same_ok f.found g.found (sym f.is ∙ g.is)) ∙ g.kind
 
-kind_told : (columns hidden : List ℕ) (l : Kind) (a : Expr) (x : Found) (fault : QueryFault) → expr_checked columns hidden a ≡ Ok x
+kind_told : (columns hidden : List ℕ) {l : Kind} (a : Expr) (x : Found) {fault : QueryFault} → expr_checked columns hidden a ≡ Ok x
     → at_span WrongKind x.at ≡ fault
     → (kind_of x.sort ≡ l → ⊥) → (known : List Known) → Tells known fault.kind fault.span (Typed columns l a)
-kind_told columns hidden l a x fault is e other known =
-    told known (Typed columns l a) WrongKind x.at fault e (
-      sym (stands_left columns hidden a x is),
-      has_other_kind columns hidden l a x is
-          other,
-    )
+kind_told columns hidden {l} a x is e other known = told known (Typed columns l a) e (
+  sym (stands_left columns hidden a x is),
+  has_other_kind hidden is other,
+)
 
-two_told : (columns hidden : List ℕ) (k : Kind) (e : Expr) (op : Op) (at : Span) (a b : Expr) (x y : Found) (fault : QueryFault)
+two_told : {columns hidden : List ℕ} {k : Kind} {e : Expr} {op : Op} (at : Span) {a b : Expr} {x y : Found} {fault : QueryFault}
     → expr_checked columns hidden a ≡ Ok x → expr_checked columns hidden b ≡ Ok y
     → ExprAsks columns hidden k e (Typed columns (operand_kind op) a) → ExprAsks columns hidden k e (Typed columns (operand_kind op) b)
     → ExprAsks columns hidden k e (Constant op b) → of_two op at x y ≡ Err fault → ExprBroken columns hidden k e fault
-two_told columns hidden k e op at a b x y fault p q left right_ constant is =
-    by_must _ _ _ _ fault is (λ no same. record {
+two_told {columns} {hidden} {op} at {a} {b} {x} {y} {fault} p q left right_ constant is =
+    by_must _ _ {fault = fault} is (λ no same. record {
       demand = Typed columns (operand_kind op) a;
       asks = left;
-      tells = kind_told columns hidden (operand_kind op) a x fault p same (λ kind. not_both _ no (operand op x.sort kind));
-    }) (λ yes is.
-    by_must _ _ _ _ fault is (λ no same. record {
+      tells = kind_told columns hidden {l = operand_kind op} a x {fault = fault} p same (λ kind. not_both _ no (operand op x.sort kind));
+    }) (λ yes is. by_must _ _ {fault = fault} is (λ no same. record {
       demand = Typed columns (operand_kind op) b;
       asks = right_;
-      tells = kind_told columns hidden (operand_kind op) b y fault q same (λ kind. not_both _ no (operand op y.sort kind));
-    }) (λ yes is.
-    by_must _ _ _ _ fault is (λ no same. record {
+      tells = kind_told columns hidden {l = operand_kind op} b y {fault = fault} q same (λ kind. not_both _ no (operand op y.sort kind));
+    }) (λ yes is. by_must _ _ {fault = fault} is (λ no same. record {
       demand = Constant op b;
       asks = constant;
-      tells = λ known. told known (Constant op b) BadConstant y.at fault same
+      tells = λ known. told known (Constant op b) {kind = BadConstant} {span = y.at} {fault = fault} same
           (sym (stands_left columns hidden b y q), λ h. not_both _ no (right columns hidden op b y q h));
-    }) (λ yes is. no_fault _ fault is)))
+    }) (λ yes is. no_fault {fault = fault} is)))
 
 -- ---- expressions
 
@@ -200,132 +190,110 @@ IsTold columns hidden e = (fault : QueryFault) → expr_checked columns hidden e
 abbrev Told : List ℕ → List ℕ → Type 0
 Told columns hidden = (e : Expr) × IsTold columns hidden e
 
-abbrev exprs : (columns hidden : List ℕ) → List (Told columns hidden) → List Expr
-exprs columns hidden args = map (λ a. a.0) args
+abbrev exprs : {columns hidden : List ℕ} → List (Told columns hidden) → List Expr
+exprs args = map (λ a. a.0) args
 
-not_two : (columns hidden : List ℕ) (k : Kind) (op : Op) (span : Span) (es : List Expr) (fault : QueryFault) → (length es ≡ 2 → ⊥)
+not_two : {columns hidden : List ℕ} {k : Kind} {op : Op} {span : Span} (es : List Expr) {fault : QueryFault} → (length es ≡ 2 → ⊥)
     → at_span WrongArity span ≡ fault → ExprBroken columns hidden k (whole.Call op span es) fault
-not_two columns hidden k op span es fault other same = record {
+not_two {op} {span} es other same = record {
   demand = Two es span;
-  asks = of_call k op span es (parts.whole k (whole.Call op span es));
-  tells = λ known. told known (Two es span) WrongArity span fault same (refl, other);
+  asks = of_call op parts.whole;
+  tells = λ known. told known (Two es span) same (refl, other);
 }
 
-call_told : (columns hidden : List ℕ) (k : Kind) (op : Op) (span : Span) (es : List Expr) (fs : List Found) (fault : QueryFault)
-    → Each columns hidden es fs
-    → call_of op span fs ≡ Err fault → ExprBroken columns hidden k (whole.Call op span es) fault
-call_told columns hidden k op span [] [] fault all e = not_two columns hidden k op span [] fault (λ n. omega (arith, n))
-    (same_fault _ fault e)
-call_told columns hidden k op span [] (f ∷ fs) fault all e = absurd all
-call_told columns hidden k op span (a ∷ es) [] fault all e = absurd all
-call_told columns hidden k op span (a ∷ []) (f ∷ []) fault all e = not_two columns hidden k op span (a ∷ []) fault (λ n. omega (arith, n))
-    (same_fault _ fault e)
-call_told columns hidden k op span (a ∷ []) (f ∷ g ∷ fs) fault all e = absurd all.1
-call_told columns hidden k op span (a ∷ b ∷ es) (f ∷ []) fault all e = absurd all.1
-call_told columns hidden k op span (a ∷ b ∷ []) (f ∷ g ∷ []) fault all e =
+call_told : {columns hidden : List ℕ} {k : Kind} {op : Op} {span : Span} (es : List Expr) (fs : List Found) {fault : QueryFault}
+    → Each columns hidden es fs → call_of op span fs ≡ Err fault → ExprBroken columns hidden k (whole.Call op span es) fault
+call_told [] [] all e = not_two [] (λ n. omega (arith, n)) (same_fault e)
+call_told [] (f ∷ fs) all e = absurd all
+call_told (a ∷ es) [] all e = absurd all
+call_told (a ∷ []) (f ∷ []) all e = not_two (a ∷ []) (λ n. omega (arith, n)) (same_fault e)
+call_told (a ∷ []) (f ∷ g ∷ fs) all e = absurd all.1
+call_told (a ∷ b ∷ es) (f ∷ []) all e = absurd all.1
+call_told {op} {span} (a ∷ b ∷ []) (f ∷ g ∷ []) all e =
     let c = whole.Call op span (a ∷ b ∷ []) in
-    two_told columns hidden k c op span a b f g fault all.0 all.1.0
-    (of_part _ a (of_argument k op span (a ∷ b ∷ []) a _ a (first (b ∷ [])) (parts.whole _ a)))
-    (of_part _ b (of_argument k op span (a ∷ b ∷ []) b _ b (later a (b ∷ []) (first [])) (parts.whole _ b)))
-    (of_second k op span a b (parts.whole k c)) e
-call_told columns hidden k op span (a ∷ b ∷ []) (f ∷ g ∷ h ∷ fs) fault all e = absurd all.1.1
-call_told columns hidden k op span (a ∷ b ∷ c ∷ es) (f ∷ g ∷ []) fault all e = absurd all.1.1
-call_told columns hidden k op span (a ∷ b ∷ c ∷ es) (f ∷ g ∷ h ∷ fs) fault all e =
-    not_two columns hidden k op span (a ∷ b ∷ c ∷ es) fault (λ n. omega (arith, n)) (same_fault _ fault e)
+    two_told span all.0 all.1.0 (of_part (of_argument op span first parts.whole))
+    (of_part (of_argument op span (later a (b ∷ []) first) parts.whole)) (of_second span a parts.whole) e
+call_told (a ∷ b ∷ []) (f ∷ g ∷ h ∷ fs) all e = absurd all.1.1
+call_told (a ∷ b ∷ c ∷ es) (f ∷ g ∷ []) all e = absurd all.1.1
+call_told (a ∷ b ∷ c ∷ es) (f ∷ g ∷ h ∷ fs) all e = not_two (a ∷ b ∷ c ∷ es) (λ n. omega (arith, n)) (same_fault e)
 
 -- the argument at which a fault is found
-argument_told : (columns hidden : List ℕ) (args : List (Told columns hidden)) (before : List Found) (fault : QueryFault)
-    → collected before (map (expr_checked columns hidden) (exprs columns hidden args)) ≡ Err fault
-    → (a : Expr) × IsOneOf a (exprs columns hidden args) × ((k : Kind) → ExprBroken columns hidden k a fault)
-argument_told columns hidden [] before fault e = no_fault _ fault e
-argument_told columns hidden (a ∷ args) before fault e =
-    go (expr_checked columns hidden a.0) refl (λ x k. argument_told columns hidden args (before ++ x ∷ []) fault k) e
+argument_told : {columns hidden : List ℕ} (args : List (Told columns hidden)) (before : List Found) {fault : QueryFault}
+    → collected before (map (expr_checked columns hidden) (exprs args)) ≡ Err fault
+    → (a : Expr) × IsOneOf a (exprs args) × ((k : Kind) → ExprBroken columns hidden k a fault)
+argument_told [] before e = no_fault e
+argument_told {columns} {hidden} (a ∷ args) before {fault} e =
+    go (expr_checked columns hidden a.0) refl (λ x k. argument_told args (before ++ x ∷ []) k) e
   where
     go : (c : Checked Found) → expr_checked columns hidden a.0 ≡ c
-        → ((x : Found) → collected (before ++ x ∷ []) (map (expr_checked columns hidden) (exprs columns hidden args)) ≡ Err fault
-        → (b : Expr) × IsOneOf b (exprs columns hidden args) × ((k : Kind) → ExprBroken columns hidden k b fault))
-        → collected before (c ∷ map (expr_checked columns hidden) (exprs columns hidden args)) ≡ Err fault
-        → (b : Expr) × IsOneOf b (exprs columns hidden (a ∷ args)) × ((k : Kind) → ExprBroken columns hidden k b fault)
-    go (Ok x) is next e = let m = next x e in (m.0, later a.0 (exprs columns hidden args) m.1, m.2)
+        → ((x : Found) → collected (before ++ x ∷ []) (map (expr_checked columns hidden) (exprs args)) ≡ Err fault
+        → (b : Expr) × IsOneOf b (exprs args) × ((k : Kind) → ExprBroken columns hidden k b fault))
+        → collected before (c ∷ map (expr_checked columns hidden) (exprs args)) ≡ Err fault
+        → (b : Expr) × IsOneOf b (exprs (a ∷ args)) × ((k : Kind) → ExprBroken columns hidden k b fault)
+    go (Ok x) is next e = let m = next x e in (m.0, later a.0 (exprs args) m.1, m.2)
     go (Err found) is next e = (
       a.0,
-      first (exprs columns hidden args),
-      a.1 fault
-          (is ∙ ap (λ (f : QueryFault). let r : Checked Found = Err f in r) (same_fault found fault e)),
+      first,
+      a.1 fault (is ∙ ap (λ (f : QueryFault). let r : Checked Found = Err f in r) (same_fault e)),
     )
 
-moved : (columns hidden : List ℕ) (k : Kind) (e f : Expr) (fault : QueryFault) → f ≡ e → ExprBroken columns hidden k e fault
+moved : {columns hidden : List ℕ} {k : Kind} {e f : Expr} {fault : QueryFault} → f ≡ e → ExprBroken columns hidden k e fault
     → ExprBroken columns hidden k f fault
-moved columns hidden k e f fault is h = let E : Expr → Type 0 = λ z. ExprBroken columns hidden k z fault in subst E (sym is) h
+moved {columns} {hidden} {k} {fault} is h = let E : Expr → Type 0 = λ z. ExprBroken columns hidden k z fault in subst E (sym is) h
 
-step : (columns hidden : List ℕ) (y : expr.Expr-F (Told columns hidden)) (fault : QueryFault)
+step : {columns hidden : List ℕ} (y : expr.Expr-F (Told columns hidden)) {fault : QueryFault}
     → expr_step columns hidden (map-Expr Expr (Checked Found) (expr_checked columns hidden)
     (map-Expr (Told columns hidden) Expr (λ a. a.0) y)) ≡ Err fault
     → (k : Kind) → ExprBroken columns hidden k (roll-Expr (map-Expr (Told columns hidden) Expr (λ a. a.0) y)) fault
-step columns hidden (expr.Number n span) fault e k = no_fault _ fault e
-step columns hidden (expr.Named x) fault e k =
-    moved columns hidden k _ _ fault (rolls-Named x) (
-    by_next (slot_of columns hidden x) _ fault e (λ is. record {
+step (expr.Number n span) e k = no_fault e
+step {columns} {hidden} (expr.Named x) e k = moved (rolls-Named x) (
+    by_next (slot_of columns hidden x) e (λ is. record {
       demand = AColumn columns hidden x.id x.span;
-      asks = of_name k x (parts.whole k (whole.Named x));
-      tells = slot_told columns hidden x fault is;
-    }) (λ slot is e. no_fault _ fault e))
-step columns hidden (expr.Not span a) fault e k =
-    moved columns hidden k _ _ fault (rolls-Not span a.0) (
-    let inside = of_not k span a.0 Condition a.0 (parts.whole Condition a.0) in
-    by_next (expr_checked columns hidden a.0) _ fault e
-    (λ is. broken_through columns hidden k (whole.Not span a.0) Condition a.0 fault inside (a.1 fault is Condition)) (λ x is e.
-    by_must _ _ _ _ fault e (λ no same. record {
+      asks = of_name x parts.whole;
+      tells = slot_told columns hidden x is;
+    }) (λ slot is e. no_fault e))
+step {columns} {hidden} (expr.Not span a) {fault} e k = moved (rolls-Not span a.0) (
+    let inside = of_not span parts.whole in
+    by_next (expr_checked columns hidden a.0) e (λ is. broken_through inside (a.1 fault is Condition)) (λ x is e.
+    by_must _ _ e (λ no same. record {
       demand = Typed columns Condition a.0;
-      asks = of_part Condition a.0 inside;
-      tells = kind_told columns hidden Condition a.0 x fault is same (λ kind. not_both _ no (kind_condition x.sort kind));
-    }) (λ yes e. no_fault _ fault e)))
-step columns hidden (expr.Binary op span a b) fault e k =
-    moved columns hidden k _ _ fault (rolls-Binary op span a.0 b.0) (
+      asks = of_part inside;
+      tells = kind_told columns hidden a.0 x is same (λ kind. not_both _ no (kind_condition x.sort kind));
+    }) (λ yes e. no_fault e)))
+step {columns} {hidden} (expr.Binary op span a b) {fault} e k = moved (rolls-Binary op span a.0 b.0) (
     let both = whole.Binary op span a.0 b.0 in
-    let left = of_left k op span a.0 b.0 (operand_kind op) a.0 (parts.whole (operand_kind op) a.0) in
-    let second = parts.of_right k op span a.0 b.0 (operand_kind op) b.0 (parts.whole (operand_kind op) b.0) in
-    by_next (expr_checked columns hidden a.0) _ fault e
-    (λ is. broken_through columns hidden k both (operand_kind op) a.0 fault left (a.1 fault is (operand_kind op))) (λ x p e.
-    by_next (expr_checked columns hidden b.0) _ fault e
-    (λ is. broken_through columns hidden k both (operand_kind op) b.0 fault second (b.1 fault is (operand_kind op))) (λ y q e.
-    two_told columns hidden k both op x.at a.0 b.0 x y fault p q (of_part _ a.0 left) (of_part _ b.0 second)
-    (of_right k op span a.0 b.0 (parts.whole k both)) e)))
-step columns hidden (expr.Call op span args) fault e k =
-    moved columns hidden k _ _ fault (rolls-Call op span (exprs columns hidden args)) (
-    by_next (collected [] (map (expr_checked columns hidden) (exprs columns hidden args))) _ fault e
-    (λ is.
-    let m = argument_told columns hidden args [] fault is in
-    broken_through columns hidden k (whole.Call op span (exprs columns hidden args)) (operand_kind op) m.0 fault
-    (of_argument k op span (exprs columns hidden args) m.0 (operand_kind op) m.0 m.1 (parts.whole (operand_kind op) m.0))
-    (m.2 (operand_kind op)))
-    (λ fs is e.
-    let all = collected_each columns hidden (exprs columns hidden args) [] fs is in
-    call_told columns hidden k op span (exprs columns hidden args) all.0 fault all.2 (ap (call_of op span) (sym all.1) ∙ e)))
+    let left = of_left op span a.0 b.0 parts.whole in
+    let second = parts.of_right op span a.0 parts.whole in
+    by_next (expr_checked columns hidden a.0) e (λ is. broken_through left (a.1 fault is (operand_kind op))) (λ x p e.
+    by_next (expr_checked columns hidden b.0) e (λ is. broken_through second (b.1 fault is (operand_kind op))) (λ y q e.
+    two_told x.at p q (of_part left) (of_part second) (of_right span a.0 parts.whole) e)))
+step {columns} {hidden} (expr.Call op span args) e k = moved (rolls-Call op span (exprs args)) (
+    by_next (collected [] (map (expr_checked columns hidden) (exprs args))) e (λ is.
+    let m = argument_told args [] is in
+    broken_through (of_argument op span m.1 parts.whole) (m.2 (operand_kind op))) (λ fs is e.
+    let all = collected_each columns hidden (exprs args) [] is in
+    call_told (exprs args) all.0 all.2 (ap (call_of op span) (sym all.1) ∙ e)))
 
-pub expr_told : (columns hidden : List ℕ) (e : Expr) → IsTold columns hidden e
-expr_told columns hidden = ind-Expr (IsTold columns hidden) (λ x y is fault e k.
+pub expr_told : {columns hidden : List ℕ} (e : Expr) → IsTold columns hidden e
+expr_told {columns} {hidden} = ind-Expr (IsTold columns hidden) (λ x y is fault e k.
     let L : expr.Expr-F Expr → Type 0 = λ z. expr_step columns hidden (map-Expr Expr (Checked Found) (expr_checked columns hidden) z) ≡ Err
-    fault
-    → (l : Kind) → ExprBroken columns hidden l (roll-Expr z) fault in
-    subst L is (step columns hidden y fault) (sym (fold-roll-Expr (Checked Found) (expr_step columns hidden) x) ∙ e) k)
+    fault → (l : Kind) → ExprBroken columns hidden l (roll-Expr z) fault in
+    subst L is (step y) (sym (fold-roll-Expr (Checked Found) (expr_step columns hidden) x) ∙ e) k)
 
-pub condition_told : (columns hidden : List ℕ) (e : Expr) (fault : QueryFault) → condition_of columns hidden e ≡ Err fault
+pub condition_told : {columns hidden : List ℕ} {e : Expr} {fault : QueryFault} → condition_of columns hidden e ≡ Err fault
     → ExprBroken columns hidden Condition e fault
-condition_told columns hidden e fault is =
-    by_next (expr_checked columns hidden e) _ fault is (λ is. expr_told columns hidden e fault is Condition) (λ x p is.
-    by_must _ _ _ _ fault is (λ no same. record {
+condition_told {columns} {hidden} {e} {fault} is =
+    by_next (expr_checked columns hidden e) is (λ is. expr_told e fault is Condition) (λ x p is. by_must _ _ is (λ no same. record {
       demand = Typed columns Condition e;
-      asks = of_part Condition e (parts.whole Condition e);
-      tells = kind_told columns hidden Condition e x fault p same (λ kind. not_both _ no (kind_condition x.sort kind));
-    }) (λ yes is. no_fault _ fault is))
+      asks = of_part parts.whole;
+      tells = kind_told columns hidden e x p same (λ kind. not_both _ no (kind_condition x.sort kind));
+    }) (λ yes is. no_fault is))
 
-pub word_told : (columns hidden : List ℕ) (e : Expr) (fault : QueryFault) → word_of columns hidden e ≡ Err fault
+pub word_told : {columns hidden : List ℕ} {e : Expr} {fault : QueryFault} → word_of columns hidden e ≡ Err fault
     → ExprBroken columns hidden Word e fault
-word_told columns hidden e fault is =
-    by_next (expr_checked columns hidden e) _ fault is (λ is. expr_told columns hidden e fault is Word) (λ x p is.
-    by_must _ _ _ _ fault is (λ no same. record {
+word_told {columns} {hidden} {e} {fault} is = by_next (expr_checked columns hidden e) is (λ is. expr_told e fault is Word) (λ x p is.
+    by_must _ _ is (λ no same. record {
       demand = Typed columns Word e;
-      asks = of_part Word e (parts.whole Word e);
-      tells = kind_told columns hidden Word e x fault p same (λ kind. not_both _ no (kind_word x.sort kind));
-    }) (λ yes is. no_fault _ fault is))
+      asks = of_part parts.whole;
+      tells = kind_told columns hidden e x p same (λ kind. not_both _ no (kind_word x.sort kind));
+    }) (λ yes is. no_fault is))

@@ -38,8 +38,8 @@ pub record IsTyped (columns : List ℕ) (e : Expr) (found : Found) : Type 0 wher
   pub rule : HasKind columns (kind_of found.sort) e found.tree
   pub number : IsNumberOf found.sort e
 
-pub slot_stands : (columns hidden : List ℕ) (name : Name) (v : ℕ) → slot_of columns hidden name ≡ Ok v → StandsAt columns v name.id
-slot_stands columns hidden name v e = go (place_of columns name.id) refl (is_among name.id hidden) e
+pub slot_stands : (columns hidden : List ℕ) (name : Name) {v : ℕ} → slot_of columns hidden name ≡ Ok v → StandsAt columns v name.id
+slot_stands columns hidden name {v} e = go (place_of columns name.id) refl (is_among name.id hidden) e
   where
     go : (o : Option ℕ) → place_of columns name.id ≡ o → (b : Bool) → slot_at o b name.span ≡ Ok v → StandsAt columns v name.id
     go (Some slot) is b e =
@@ -78,18 +78,18 @@ no_number : (b : Bool) (e : Expr) → IsNumberOf (cond b sort.Condition sort.Wor
 no_number true e = tt
 no_number false e = tt
 
-constant : (test : ℕ → Bool) (Q : ℕ → Type 0) (s : Sort) (e : Expr) → ((n : ℕ) → test n ≡ true → Q n) → IsNumberOf s e
+constant : {test : ℕ → Bool} {Q : ℕ → Type 0} (s : Sort) {e : Expr} → ((n : ℕ) → test n ≡ true → Q n) → IsNumberOf s e
     → is_number_with test s ≡ true → IsNumberWith Q e
-constant test Q (sort.Number n) e tells is h = (n, is.0, is.1, tells n h)
-constant test Q sort.Word e tells is h = cc h
-constant test Q sort.Condition e tells is h = cc h
+constant (sort.Number n) tells is h = (n, is.0, is.1, tells n h)
+constant sort.Word tells is h = cc h
+constant sort.Condition tells is h = cc h
 
 right : (op : Op) (s : Sort) (e : Expr) → IsNumberOf s e → is_right_constant op s ≡ true → IsRightOperand op e
-right Div s e is h = constant (λ k. nat_lt 0 k) (λ k. 0 < k) s e (λ k c. ltb-true 0 k c) is h
-right Rem s e is h = constant (λ k. nat_lt 0 k) (λ k. 0 < k) s e (λ k c. ltb-true 0 k c) is h
-right Shl s e is h = constant (λ k. nat_lt k 64) (λ k. k < 64) s e (λ k c. ltb-true k 64 c) is h
-right Shr s e is h = constant (λ k. nat_lt k 64) (λ k. k < 64) s e (λ k c. ltb-true k 64 c) is h
-right Decay s e is h = constant (λ k. nat_lt k 64) (λ k. k < 64) s e (λ k c. ltb-true k 64 c) is h
+right Div s e is h = constant s (λ k c. ltb-true 0 k c) is h
+right Rem s e is h = constant s (λ k c. ltb-true 0 k c) is h
+right Shl s e is h = constant s (λ k c. ltb-true k 64 c) is h
+right Shr s e is h = constant s (λ k c. ltb-true k 64 c) is h
+right Decay s e is h = constant s (λ k c. ltb-true k 64 c) is h
 right _ s e is h = tt
 
 -- two operands of a rule
@@ -101,12 +101,12 @@ pub record Operands (columns : List ℕ) (op : Op) (a b : Expr) (x y found : Fou
   pub kind : result_kind op ≡ kind_of found.sort
   pub number : (e : Expr) → IsNumberOf found.sort e
 
-pub two : (columns : List ℕ) (op : Op) (at : Span) (a b : Expr) (x y found : Found) → IsTyped columns a x → IsTyped columns b y
+pub two : {columns : List ℕ} {op : Op} (at : Span) {a b : Expr} {x y found : Found} → IsTyped columns a x → IsTyped columns b y
     → of_two op at x y ≡ Ok found → Operands columns op a b x y found
-two columns op at a b x y found va vb e =
-    let one = must_ok _ _ _ _ found e in
-    let two = must_ok _ _ _ _ found one.1 in
-    let three = must_ok _ _ _ _ found two.1 in
+two {columns} {op} at {a} {b} {x} {y} {found} va vb e =
+    let one = must_ok _ _ _ e in
+    let two = must_ok _ _ _ one.1 in
+    let three = must_ok _ _ _ two.1 in
     let same = same_ok _ found three.1 in
     let A : Kind → Type 0 = λ k. HasKind columns k a x.tree in
     let B : Kind → Type 0 = λ k. HasKind columns k b y.tree in
@@ -120,9 +120,9 @@ two columns op at a b x y found va vb e =
     }
 
 -- a rule for the typed form and the kind that were found
-ruled : (columns : List ℕ) (k l : Kind) (e f : Expr) (s t : TypedExpr) → k ≡ l → e ≡ f → s ≡ t → HasKind columns k e s
+ruled : {columns : List ℕ} {k l : Kind} {e f : Expr} {s t : TypedExpr} → k ≡ l → e ≡ f → s ≡ t → HasKind columns k e s
     → HasKind columns l f t
-ruled columns k l e f s t p q r h =
+ruled {columns} {l} {e} {f} {s} p q r h =
     let K : Kind → Type 0 = λ z. HasKind columns z e s in
     let E : Expr → Type 0 = λ z. HasKind columns l z s in
     let T : TypedExpr → Type 0 = λ z. HasKind columns l f z in
@@ -138,8 +138,8 @@ abbrev IsSoundLayer : List ℕ → List ℕ → expr.Expr-F Expr → Type 0
 IsSoundLayer columns hidden x = (found : Found) → expr_step columns hidden (map-Expr Expr (Checked Found) (expr_checked columns hidden) x)
     ≡ Ok found → IsTyped columns (roll-Expr x) found
 
-of_layer : (columns hidden : List ℕ) (x : expr.Expr-F Expr) → IsSoundLayer columns hidden x → IsSound columns hidden (roll-Expr x)
-of_layer columns hidden x layer found e = layer found (sym (fold-roll-Expr (Checked Found) (expr_step columns hidden) x) ∙ e)
+of_layer : {columns : List ℕ} (hidden : List ℕ) (x : expr.Expr-F Expr) → IsSoundLayer columns hidden x → IsSound columns hidden (roll-Expr x)
+of_layer {columns} hidden x layer found e = layer found (sym (fold-roll-Expr (Checked Found) (expr_step columns hidden) x) ∙ e)
 
 -- each of some expressions gives what was collected of it
 abbrev pub Each : (columns hidden : List ℕ) → List Expr → List Found → Type 0
@@ -148,12 +148,12 @@ Each columns hidden [] (f ∷ fs) = ⊥
 Each columns hidden (e ∷ es) [] = ⊥
 Each columns hidden (e ∷ es) (f ∷ fs) = (expr_checked columns hidden e ≡ Ok f) × Each columns hidden es fs
 
-pub collected_each : (columns hidden : List ℕ) (es : List Expr) (before all : List Found)
+pub collected_each : (columns hidden : List ℕ) (es : List Expr) (before : List Found) {all : List Found}
     → collected before (map (expr_checked columns hidden) es) ≡ Ok all
     → (rest : List Found) × (all ≡ before ++ rest) × Each columns hidden es rest
-collected_each columns hidden [] before all e = ([], sym (same_ok _ all e) ∙ sym (append-nil before), tt)
-collected_each columns hidden (a ∷ es) before all e = go (expr_checked columns hidden a) refl
-    (λ x k. collected_each columns hidden es (before ++ x ∷ []) all k) e
+collected_each columns hidden [] before {all} e = ([], sym (same_ok _ all e) ∙ sym (append-nil before), tt)
+collected_each columns hidden (a ∷ es) before {all} e = go (expr_checked columns hidden a) refl
+    (λ x k. collected_each columns hidden es (before ++ x ∷ []) k) e
   where
     go : (c : Checked Found) → expr_checked columns hidden a ≡ c
         → ((x : Found) → collected (before ++ x ∷ []) (map (expr_checked columns hidden) es) ≡ Ok all → (rest : List Found)
@@ -165,78 +165,74 @@ collected_each columns hidden (a ∷ es) before all e = go (expr_checked columns
         (x ∷ more.0, more.1 ∙ append_assoc before (x ∷ []) more.0, (is, more.2))
     go (Err fault) is next e = cc e
 
-call : (columns hidden : List ℕ) (op : Op) (span : Span) (args : List (Sound columns hidden)) (fs : List Found) (found : Found)
+call : {columns : List ℕ} (hidden : List ℕ) {op : Op} {span : Span} (args : List (Sound columns hidden)) (fs : List Found) {found : Found}
     → Each columns hidden (map (λ a. a.0) args) fs → call_of op span fs ≡ Ok found
     → IsTyped columns (whole.Call op span (map (λ a. a.0) args)) found
-call columns hidden op span [] [] found all e = cc e
-call columns hidden op span [] (f ∷ fs) found all e = absurd all
-call columns hidden op span (a ∷ args) [] found all e = absurd all
-call columns hidden op span (a ∷ []) (f ∷ []) found all e = cc e
-call columns hidden op span (a ∷ []) (f ∷ g ∷ fs) found all e = absurd all.1
-call columns hidden op span (a ∷ b ∷ args) (f ∷ []) found all e = absurd all.1
-call columns hidden op span (a ∷ b ∷ []) (f ∷ g ∷ []) found all e =
-    let v = two columns op span a.0 b.0 f g found (a.1 f all.0) (b.1 g all.1.0) e in
+call hidden [] [] all e = cc e
+call hidden [] (f ∷ fs) all e = absurd all
+call hidden (a ∷ args) [] all e = absurd all
+call hidden (a ∷ []) (f ∷ []) all e = cc e
+call hidden (a ∷ []) (f ∷ g ∷ fs) all e = absurd all.1
+call hidden (a ∷ b ∷ args) (f ∷ []) all e = absurd all.1
+call hidden {span} (a ∷ b ∷ []) (f ∷ g ∷ []) all e =
+    let v = two span (a.1 f all.0) (b.1 g all.1.0) e in
     record {
-      rule = ruled columns _ _ _ _ _ _ v.kind refl v.tree (of_call op span a.0 b.0 f.tree g.tree v.first v.second v.constant);
+      rule = ruled v.kind refl v.tree (of_call span v.first v.second v.constant);
       number = v.number _;
     }
-call columns hidden op span (a ∷ b ∷ []) (f ∷ g ∷ h ∷ fs) found all e = absurd all.1.1
-call columns hidden op span (a ∷ b ∷ c ∷ args) (f ∷ g ∷ []) found all e = absurd all.1.1
-call columns hidden op span (a ∷ b ∷ c ∷ args) (f ∷ g ∷ h ∷ fs) found all e = cc e
+call hidden (a ∷ b ∷ []) (f ∷ g ∷ h ∷ fs) all e = absurd all.1.1
+call hidden (a ∷ b ∷ c ∷ args) (f ∷ g ∷ []) all e = absurd all.1.1
+call hidden (a ∷ b ∷ c ∷ args) (f ∷ g ∷ h ∷ fs) all e = cc e
 
-moved : (columns : List ℕ) (e f : Expr) (found : Found) → f ≡ e → IsTyped columns e found → IsTyped columns f found
-moved columns e f found is h = let E : Expr → Type 0 = λ z. IsTyped columns z found in subst E (sym is) h
+moved : {columns : List ℕ} {e f : Expr} {found : Found} → f ≡ e → IsTyped columns e found → IsTyped columns f found
+moved {columns} {found} is h = let E : Expr → Type 0 = λ z. IsTyped columns z found in subst E (sym is) h
 
-step : (columns hidden : List ℕ) (y : expr.Expr-F (Sound columns hidden))
+step : {columns : List ℕ} (hidden : List ℕ) (y : expr.Expr-F (Sound columns hidden))
     → IsSoundLayer columns hidden (map-Expr (Sound columns hidden) Expr (λ a. a.0) y)
-step columns hidden (expr.Number n span) found e =
+step {columns} hidden (expr.Number n span) found e =
     let F : Found → Type 0 = λ z. IsTyped columns (whole.Number n span) z in
-    moved columns _ _ found (rolls-Number n span) (subst F (same_ok _ found e) (record { rule = of_number n span; number = (span, refl) }))
-step columns hidden (expr.Named name) found e =
+    moved (rolls-Number n span) (subst F (same_ok _ found e) (record { rule = of_number span; number = (span, refl) }))
+step {columns} hidden (expr.Named name) found e =
     let first = found_first (slot_of columns hidden name) _ found e in
     let F : Found → Type 0 = λ z. IsTyped columns (whole.Named name) z in
-    moved columns _ _ found (rolls-Named name) (subst F (same_ok _ found first.2)
-    (record { rule = of_name name first.0 (slot_stands columns hidden name first.0 first.1); number = tt }))
-step columns hidden (expr.Not span a) found e =
+    moved (rolls-Named name) (subst F (same_ok _ found first.2)
+    (record { rule = of_name name (slot_stands columns hidden name first.1); number = tt }))
+step {columns} hidden (expr.Not span a) found e =
     let first = found_first (expr_checked columns hidden a.0) _ found e in
-    let one = must_ok _ _ _ _ found first.2 in
+    let one = must_ok _ _ _ first.2 in
     let F : Found → Type 0 = λ z. IsTyped columns (whole.Not span a.0) z in
     let K : Kind → Type 0 = λ k. HasKind columns k a.0 first.0.tree in
-    moved columns _ _ found (rolls-Not span a.0) (subst F (same_ok _ found one.1) (record {
-      rule = of_not span a.0 first.0.tree (subst K (condition_kind first.0.sort one.0) (a.1 first.0 first.1).rule);
+    moved (rolls-Not span a.0) (subst F (same_ok _ found one.1) (record {
+      rule = of_not span (subst K (condition_kind first.0.sort one.0) (a.1 first.0 first.1).rule);
       number = tt;
     }))
-step columns hidden (expr.Binary op span a b) found e =
+step {columns} hidden (expr.Binary op span a b) found e =
     let first = found_first (expr_checked columns hidden a.0) _ found e in
     let second = found_first (expr_checked columns hidden b.0) _ found first.2 in
-    let v = two columns op first.0.at a.0 b.0 first.0 second.0 found (a.1 first.0 first.1) (b.1 second.0 second.1) second.2 in
-    moved columns _ _ found (rolls-Binary op span a.0 b.0) (record {
-      rule = ruled columns _ _ _ _ _ _ v.kind refl v.tree (of_binary op span a.0 b.0 first.0.tree second.0.tree v.first v.second
-          v.constant);
+    let v = two first.0.at (a.1 first.0 first.1) (b.1 second.0 second.1) second.2 in
+    moved (rolls-Binary op span a.0 b.0) (record {
+      rule = ruled v.kind refl v.tree (of_binary span v.first v.second v.constant);
       number = v.number _;
     })
-step columns hidden (expr.Call op span args) found e =
+step {columns} hidden (expr.Call op span args) found e =
     let first = found_first (collected [] (map (expr_checked columns hidden) (map (λ a. a.0) args))) _ found e in
-    let all = collected_each columns hidden (map (λ a. a.0) args) [] first.0 first.1 in
-    moved columns _ _ found (rolls-Call op span (map (λ a. a.0) args))
-    (call columns hidden op span args all.0 found all.2 (ap (call_of op span) (sym all.1) ∙ first.2))
+    let all = collected_each columns hidden (map (λ a. a.0) args) [] first.1 in
+    moved (rolls-Call op span (map (λ a. a.0) args)) (call hidden args all.0 all.2 (ap (call_of op span) (sym all.1) ∙ first.2))
 
-pub expr_sound : (columns hidden : List ℕ) (e : Expr) → IsSound columns hidden e
-expr_sound columns hidden = ind-Expr (IsSound columns hidden) (λ x y is.
+pub expr_sound : {columns : List ℕ} (hidden : List ℕ) (e : Expr) → IsSound columns hidden e
+expr_sound {columns} hidden = ind-Expr (IsSound columns hidden) (λ x y is.
     let L : expr.Expr-F Expr → Type 0 = λ z. IsSoundLayer columns hidden z in
-    of_layer columns hidden x (subst L is (step columns hidden y)))
+    of_layer hidden x (subst L is (step hidden y)))
 
-pub condition_sound : (columns hidden : List ℕ) (e : Expr) (tree : TypedExpr) → condition_of columns hidden e ≡ Ok tree
+pub condition_sound : {columns : List ℕ} (hidden : List ℕ) {e : Expr} {tree : TypedExpr} → condition_of columns hidden e ≡ Ok tree
     → HasKind columns Condition e tree
-condition_sound columns hidden e tree is =
+condition_sound {columns} hidden {e} {tree} is =
     let first = found_first (expr_checked columns hidden e) _ tree is in
-    let test = must_ok _ _ _ _ tree first.2 in
-    ruled columns _ _ _ _ _ _ (condition_kind first.0.sort test.0) refl (same_ok _ tree test.1)
-    (expr_sound columns hidden e first.0 first.1).rule
+    let test = must_ok _ _ _ first.2 in
+    ruled (condition_kind first.0.sort test.0) refl (same_ok _ tree test.1) (expr_sound hidden e first.0 first.1).rule
 
-pub word_sound : (columns hidden : List ℕ) (e : Expr) (tree : TypedExpr) → word_of columns hidden e ≡ Ok tree → HasKind columns Word e tree
-word_sound columns hidden e tree is =
+pub word_sound : {columns : List ℕ} (hidden : List ℕ) {e : Expr} {tree : TypedExpr} → word_of columns hidden e ≡ Ok tree → HasKind columns Word e tree
+word_sound {columns} hidden {e} {tree} is =
     let first = found_first (expr_checked columns hidden e) _ tree is in
-    let test = must_ok _ _ _ _ tree first.2 in
-    ruled columns _ _ _ _ _ _ (word_kind first.0.sort test.0) refl (same_ok _ tree test.1)
-    (expr_sound columns hidden e first.0 first.1).rule
+    let test = must_ok _ _ _ first.2 in
+    ruled (word_kind first.0.sort test.0) refl (same_ok _ tree test.1) (expr_sound hidden e first.0 first.1).rule

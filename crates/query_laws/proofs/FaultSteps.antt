@@ -10,35 +10,35 @@ use Rattle.query_laws.specs.Demands.{Demand, Tells}
 abbrev pub at_span : FaultKind → Span → QueryFault
 at_span kind span = record { kind = kind; span = span }
 
-pub same_fault : {A : Type 0} (f g : QueryFault) → (let whole : Checked A = Err f in whole) ≡ Err g → f ≡ g
-same_fault f g e = cc e
+pub same_fault : {A : Type 0} {f g : QueryFault} → (let whole : Checked A = Err f in whole) ≡ Err g → f ≡ g
+same_fault e = cc e
 
-pub no_fault : {A P : Type 0} (x : A) (fault : QueryFault) → (let whole : Checked A = Ok x in whole) ≡ Err fault → P
-no_fault x fault e = cc e
+pub no_fault : {A P : Type 0} {x : A} {fault : QueryFault} → (let whole : Checked A = Ok x in whole) ≡ Err fault → P
+no_fault e = cc e
 
 pub not_both : {P : Type 0} (b : Bool) → b ≡ false → b ≡ true → P
 not_both true e f = cc e
 not_both false e f = cc f
 
-pub by_must : {A P : Type 0} (test : Bool) (kind : FaultKind) (span : Span) (next : Checked A) (fault : QueryFault)
+pub by_must : {A P : Type 0} (test : Bool) {kind : FaultKind} {span : Span} (next : Checked A) {fault : QueryFault}
     → must test kind span next ≡ Err fault → (test ≡ false → at_span kind span ≡ fault → P) → (test ≡ true → next ≡ Err fault → P) → P
-by_must true kind span next fault e bad good = good refl e
-by_must false kind span next fault e bad good = bad refl (same_fault _ fault e)
+by_must true next e bad good = good refl e
+by_must false next e bad good = bad refl (same_fault e)
 
-pub by_must_not : {A P : Type 0} (test : Bool) (kind : FaultKind) (span : Span) (next : Checked A) (fault : QueryFault)
+pub by_must_not : {A P : Type 0} (test : Bool) {kind : FaultKind} {span : Span} {next : Checked A} {fault : QueryFault}
     → must_not test kind span next ≡ Err fault → (test ≡ true → at_span kind span ≡ fault → P) → (test ≡ false → next ≡ Err fault → P) → P
-by_must_not true kind span next fault e bad good = bad refl (same_fault _ fault e)
-by_must_not false kind span next fault e bad good = good refl e
+by_must_not true e bad good = bad refl (same_fault e)
+by_must_not false e bad good = good refl e
 
-pub by_next : {A B P : Type 0} (first : Checked A) (next : A → Checked B) (fault : QueryFault)
+pub by_next : {A B P : Type 0} (first : Checked A) {next : A → Checked B} {fault : QueryFault}
     → and_then first next ≡ Err fault → (first ≡ Err fault → P) → ((x : A) → first ≡ Ok x → next x ≡ Err fault → P) → P
-by_next (Ok x) next fault e bad good = good x refl e
-by_next (Err found) next fault e bad good = bad (cc e)
+by_next (Ok x) e bad good = good x refl e
+by_next (Err found) e bad good = bad (cc e)
 
 -- what a fault at a span says is what the fault says
-pub told : (known : List Known) (demand : Demand) (kind : FaultKind) (span : Span) (fault : QueryFault) → at_span kind span ≡ fault
+pub told : (known : List Known) (demand : Demand) {kind : FaultKind} {span : Span} {fault : QueryFault} → at_span kind span ≡ fault
     → Tells known kind span demand → Tells known fault.kind fault.span demand
-told known demand kind span fault e tells =
+told known demand e tells =
     let T : QueryFault → Type 0 = λ f. Tells known f.kind f.span demand in
     subst T e tells
 
@@ -48,6 +48,6 @@ pub record Broken (Asks : Demand → Type 0) (known : List Known) (fault : Query
   pub asks : Asks demand
   pub tells : Tells known fault.kind fault.span demand
 
-pub broken_in : (A B : Demand → Type 0) (known : List Known) (fault : QueryFault) → ((d : Demand) → A d → B d) → Broken A known fault
+pub broken_in : {A B : Demand → Type 0} {known : List Known} {fault : QueryFault} → ((d : Demand) → A d → B d) → Broken A known fault
     → Broken B known fault
-broken_in A B known fault asks b = record { demand = b.demand; asks = asks b.demand b.asks; tells = b.tells }
+broken_in asks b = record { demand = b.demand; asks = asks b.demand b.asks; tells = b.tells }

@@ -55,8 +55,8 @@ among_fields text [] names h = h
 among_fields text (f ∷ rest) names h = among_fields text rest (with_name names (field_name f)) (among_more text (field_name f) names h)
 
 -- a text that is among names is at its number
-stands_at_number : (names : List (List ℕ)) (text : List ℕ) → IsAmong text names → slice_get names (number_in names text) ≡ Some text
-stands_at_number names text h = ap (λ b. slice_get (cond b names (names ++ text ∷ [])) (number_in names text)) (sym h)
+stands_at_number : (names : List (List ℕ)) {text : List ℕ} → IsAmong text names → slice_get names (number_in names text) ≡ Some text
+stands_at_number names {text} h = ap (λ b. slice_get (cond b names (names ++ text ∷ [])) (number_in names text)) (sym h)
     ∙ has_number names text
 
 -- each field's name is at its number
@@ -68,7 +68,7 @@ fields_known : (fields : List Field) (names : List (List ℕ)) → AreKnown (wit
 fields_known [] names = tt
 fields_known (f ∷ rest) names =
     let more = with_name names (field_name f) in (
-      stands_at_number (with_fields more rest) (field_name f) (among_fields (field_name f) rest more (among_self (field_name f) names)),
+      stands_at_number (with_fields more rest) (among_fields (field_name f) rest more (among_self (field_name f) names)),
       fields_known rest more,
     )
 
@@ -88,37 +88,34 @@ abbrev AreApart : List Field → Type 0
 AreApart [] = Unit {0}
 AreApart (f ∷ fields) = (list_any (bytes_eq (field_name f)) (texts_of fields) ≡ false) × AreApart fields
 
-not_same : (names : List (List ℕ)) (a b : List ℕ) → slice_get names (number_in names a) ≡ Some a
-    → slice_get names (number_in names b) ≡ Some b
-    → bytes_eq a b ≡ false → nat_eq (number_in names b) (number_in names a) ≡ false
-not_same names a b at_a at_b apart = go (nat_eq (number_in names b) (number_in names a)) refl
+not_same : (names : List (List ℕ)) {a b : List ℕ} → slice_get names (number_in names a) ≡ Some a
+    → slice_get names (number_in names b) ≡ Some b → bytes_eq a b ≡ false → nat_eq (number_in names b) (number_in names a) ≡ false
+not_same names {a} {b} at_a at_b apart = go (nat_eq (number_in names b) (number_in names a)) refl
   where
     go : (c : Bool) → nat_eq (number_in names b) (number_in names a) ≡ c → c ≡ false
     go true is =
-        let same : a ≡ b = same_Some a b (sym at_a ∙ ap (slice_get names) (sym (nat_same _ _ is)) ∙ at_b) in
+        let same : a ≡ b = same_Some a b (sym at_a ∙ ap (slice_get names) (sym (nat_same is)) ∙ at_b) in
         let equal : bytes_eq a b ≡ true = (bytes_eq-Decides a b).1 same in cc (equal, apart)
     go false is = refl
 
-not_among : (names : List (List ℕ)) (text : List ℕ) (fields : List Field) → slice_get names (number_in names text) ≡ Some text
+not_among : (names : List (List ℕ)) {text : List ℕ} (fields : List Field) → slice_get names (number_in names text) ≡ Some text
     → AreKnown names fields
     → list_any (bytes_eq text) (texts_of fields) ≡ false → is_among (number_in names text) (numbers_of names fields) ≡ false
-not_among names text [] at known h = refl
-not_among names text (f ∷ fields) at known h =
-    go (bytes_eq text (field_name f)) refl (λ k. not_among names text fields at known.1 k) h
+not_among names [] at known h = refl
+not_among names {text} (f ∷ fields) at known h = go (bytes_eq text (field_name f)) refl (λ k. not_among names fields at known.1 k) h
   where
     go : (b : Bool) → bytes_eq text (field_name f) ≡ b
         → (list_any (bytes_eq text) (texts_of fields) ≡ false → is_among (number_in names text) (numbers_of names fields) ≡ false)
         → (b || list_any (bytes_eq text) (texts_of fields)) ≡ false
         → is_among (number_in names text) (numbers_of names (f ∷ fields)) ≡ false
     go true is more k = cc k
-    go false is more k =
-        ap (λ b. b || is_among (number_in names text) (numbers_of names fields)) (not_same names text (field_name f) at known.0 is) ∙ more k
+    go false is more k = ap (λ b. b || is_among (number_in names text) (numbers_of names fields)) (not_same names at known.0 is) ∙ more k
 
 numbers_distinct : (names : List (List ℕ)) (fields : List Field) → AreKnown names fields → AreApart fields
     → AreDistinct (numbers_of names fields)
 numbers_distinct names [] known apart = tt
 numbers_distinct names (f ∷ fields) known apart =
-    (not_among names (field_name f) fields known.0 known.1 apart.0, numbers_distinct names fields known.1 apart.1)
+    (not_among names fields known.0 known.1 apart.0, numbers_distinct names fields known.1 apart.1)
 
 fields_apart : AreApart all_fields
 fields_apart = (refl, (refl, (refl, (refl, (refl, (refl, (refl, (refl, (refl, (refl, (refl, (refl, (refl, (refl, tt))))))))))))))

@@ -32,78 +32,74 @@ use Rattle.query_laws.proofs.NameLaws.{ok, table_sound, table_complete, fold_nam
 use Rattle.query_laws.proofs.NameLaws.{columns_complete, slot_complete, apart_sound, apart_complete, arguments_sound, arguments_complete}
 use Rattle.query_laws.proofs.StreamLaws.{picked_sound, picked_complete}
 
-both_true : (a b : Bool) → (a && b) ≡ true → (a ≡ true) × (b ≡ true)
-both_true true b e = (refl, e)
-both_true false b e = cc e
+both_true : (a : Bool) {b : Bool} → (a && b) ≡ true → (a ≡ true) × (b ≡ true)
+both_true true e = (refl, e)
+both_true false e = cc e
 
-pub both_hold : (a b : Bool) → a ≡ true → b ≡ true → (a && b) ≡ true
-both_hold a b p q = ap (λ (c : Bool). c && b) p ∙ q
+pub both_hold : {a b : Bool} → a ≡ true → b ≡ true → (a && b) ≡ true
+both_hold {b} p q = ap (λ (c : Bool). c && b) p ∙ q
 
 same_sound : (xs ys : List ℕ) → pointwise nat_eq xs ys ≡ true → xs ≡ ys
 same_sound [] [] e = refl
 same_sound [] (y ∷ ys) e = cc e
 same_sound (x ∷ xs) [] e = cc e
 same_sound (x ∷ xs) (y ∷ ys) e =
-    let p = both_true (nat_eq x y) (pointwise nat_eq xs ys) e in
-    ap (λ (z : ℕ). z ∷ xs) (nat_same x y p.0) ∙ ap (λ (z : List ℕ). y ∷ z) (same_sound xs ys p.1)
+    let p = both_true (nat_eq x y) e in
+    ap (λ (z : ℕ). z ∷ xs) (nat_same p.0) ∙ ap (λ (z : List ℕ). y ∷ z) (same_sound xs ys p.1)
 
 same_refl : (xs : List ℕ) → pointwise nat_eq xs xs ≡ true
 same_refl [] = refl
-same_refl (x ∷ xs) = both_hold (nat_eq x x) (pointwise nat_eq xs xs) (nat_is x x refl) (same_refl xs)
+same_refl (x ∷ xs) = both_hold (nat_is refl) (same_refl xs)
 
-pub same_complete : (xs ys : List ℕ) → xs ≡ ys → pointwise nat_eq xs ys ≡ true
-same_complete xs ys e = let P : List ℕ → Type 0 = λ z. pointwise nat_eq xs z ≡ true in subst P e (same_refl xs)
+pub same_complete : {xs ys : List ℕ} → xs ≡ ys → pointwise nat_eq xs ys ≡ true
+same_complete {xs} e = let P : List ℕ → Type 0 = λ z. pointwise nat_eq xs z ≡ true in subst P e (same_refl xs)
 
-filter_sound : (groups : ℕ) (earlier : Earlier) (input : Name) (e : Expr) (made : MadeFinal) → final_filter groups earlier input e ≡ Ok made
+filter_sound : {groups : ℕ} (earlier : Earlier) {input : Name} {e : Expr} {made : MadeFinal} → final_filter groups earlier input e ≡ Ok made
     → OfFilter groups earlier.known input e made
-filter_sound groups earlier input e made is =
+filter_sound earlier {input} {e} {made} is =
     let source = found_first (table_named earlier.known input) _ made is in
     let c = found_first (condition_of source.0.columns [] e) _ made source.2 in
     record {
       source = source.0;
       condition = c.0;
-      table = table_sound earlier.known input source.0 source.1;
-      typed =
-          condition_sound source.0.columns [] e c.0 c.1;
+      table = table_sound earlier.known input source.1;
+      typed = condition_sound [] c.1;
       is = sym (same_ok _ made c.2);
     }
 
-filter_complete : (groups : ℕ) (earlier : Earlier) (input : Name) (e : Expr) (made : MadeFinal) → OfFilter groups earlier.known input e made
+filter_complete : {groups : ℕ} (earlier : Earlier) {input : Name} {e : Expr} {made : MadeFinal} → OfFilter groups earlier.known input e made
     → final_filter groups earlier input e ≡ Ok made
-filter_complete groups earlier input e made h =
-    then_next _ _ h.source (table_complete earlier.known input h.source h.table)
-    ∙ then_next _ _ h.condition (condition_complete _ [] e h.condition h.typed) ∙ ok _ _ (sym h.is)
+filter_complete earlier {input} h = then_next _ (table_complete earlier.known input h.table)
+    ∙ then_next _ (condition_complete [] h.typed) ∙ ok (sym h.is)
 
 abbrev maps_to : ℕ → TableView → NewColumns → MadeFinal
 maps_to groups source made = record {
   op = typed.Map (table_number groups source.place) made.values;
-  columns = source.columns
-      ++ made.names;
+  columns = source.columns ++ made.names;
   keys = source.keys;
 }
 
-map_sound : (groups : ℕ) (earlier : Earlier) (input : Name) (cs : List Column) (made : MadeFinal)
+map_sound : {groups : ℕ} (earlier : Earlier) {input : Name} {cs : List Column} {made : MadeFinal}
     → final_map groups earlier input cs ≡ Ok made → OfMap groups earlier.known input cs made
-map_sound groups earlier input cs made is =
+map_sound {groups} earlier {input} {cs} {made} is =
     let source = found_first (table_named earlier.known input) _ made is in
     let n = found_first (new_columns source.0.columns [] no_new_columns cs) _ made source.2 in
-    let c = columns_sound source.0.columns [] cs no_new_columns n.0 n.1 in
+    let c = columns_sound source.0.columns [] cs no_new_columns n.1 in
     let N : List ℕ → Type 0 = λ z. HasTypedColumns source.0.columns z cs c.0 in
     record {
       source = source.0;
       values = c.0;
-      table = table_sound earlier.known input source.0 source.1;
+      table = table_sound earlier.known input source.1;
       typed = subst N (append-nil source.0.columns) c.1;
       is = sym (same_ok _ made n.2) ∙ ap (maps_to groups source.0) c.2;
     }
 
-map_complete : (groups : ℕ) (earlier : Earlier) (input : Name) (cs : List Column) (made : MadeFinal)
+map_complete : {groups : ℕ} (earlier : Earlier) {input : Name} {cs : List Column} {made : MadeFinal}
     → OfMap groups earlier.known input cs made → final_map groups earlier input cs ≡ Ok made
-map_complete groups earlier input cs made h =
+map_complete earlier {input} {cs} h =
     let N : List ℕ → Type 0 = λ z. HasTypedColumns h.source.columns z cs h.values in
-    then_next _ _ h.source (table_complete earlier.known input h.source h.table)
-    ∙ then_next _ _ _ (columns_complete h.source.columns [] cs h.values no_new_columns
-    (subst N (sym (append-nil h.source.columns)) h.typed)) ∙ ok _ _ (sym h.is)
+    then_next _ (table_complete earlier.known input h.table) ∙ then_next _ (columns_complete h.source.columns [] cs h.values no_new_columns
+    (subst N (sym (append-nil h.source.columns)) h.typed)) ∙ ok (sym h.is)
 
 abbrev groups_to : ℕ → TableView → FoldView → List ℕ → Picked → MadeFinal
 groups_to groups source f arguments picked = record {
@@ -112,110 +108,104 @@ groups_to groups source f arguments picked = record {
   keys = length picked.names;
 }
 
-group_sound : (given : Given) (earlier : Earlier) (input : Name) (keys : List Key) (fold_name : Name) (made : MadeFinal)
+group_sound : (given : Given) (earlier : Earlier) {input : Name} {keys : List Key} {fold_name : Name} {made : MadeFinal}
     → final_group given earlier input keys fold_name ≡ Ok made
     → OfGroup (five_fields given.fields) given.groups earlier.known input keys fold_name made
-group_sound given earlier input keys fold_name made is =
+group_sound given earlier {input} {keys} {fold_name} {made} is =
     let five = five_fields given.fields in
     let source = found_first (table_named earlier.known input) _ made is in
     let picked = found_first (keys_checked five source.0.columns [] keys) _ made source.2 in
     let f = found_first (quiet_fold earlier.known fold_name) _ made picked.2 in
     let loud = found_first (fold_named earlier.known fold_name) _ f.0 f.1 in
-    let quiet = must_not_ok _ _ _ _ f.0 loud.2 in
+    let quiet = must_not_ok _ _ _ loud.2 in
     let same = same_ok loud.0 f.0 quiet.1 in
     let arguments = found_first (arguments_of source.0.columns [] picked.0.names f.0 fold_name.span) _ made f.2 in
-    let k = picked_sound five source.0.columns [] keys picked.0 picked.1 in
+    let k = picked_sound five [] keys picked.1 in
     let A : Picked → Type 0 = λ z. HasArguments source.0.columns z.names f.0 arguments.0 in
     record {
       source = source.0;
       slots = k.0;
       f = f.0;
       arguments = arguments.0;
-      table = table_sound earlier.known input source.0 source.1;
+      table = table_sound earlier.known input source.1;
       picked = k.1;
-      fold = fold_name_sound earlier.known fold_name f.0 (loud.1 ∙ ok loud.0 f.0 same);
+      fold = fold_name_sound earlier.known fold_name (loud.1 ∙ ok same);
       quiet = sym (ap (λ (z : FoldView). z.emits) same) ∙ quiet.0;
-      taken = subst A k.2 (arguments_sound source.0.columns [] picked.0.names f.0 fold_name.span arguments.0 arguments.1);
+      taken = subst A k.2 (arguments_sound [] fold_name.span arguments.1);
       is = sym (same_ok _ made arguments.2) ∙ ap (groups_to given.groups source.0 f.0 arguments.0) k.2;
     }
 
-group_complete : (given : Given) (earlier : Earlier) (input : Name) (keys : List Key) (fold_name : Name) (made : MadeFinal)
+group_complete : (given : Given) (earlier : Earlier) {input : Name} {keys : List Key} {fold_name : Name} {made : MadeFinal}
     → OfGroup (five_fields given.fields) given.groups earlier.known input keys fold_name made
     → final_group given earlier input keys fold_name ≡ Ok made
-group_complete given earlier input keys fold_name made h =
+group_complete given earlier {input} {keys} {fold_name} h =
     let five = five_fields given.fields in
-    then_next _ _ h.source (table_complete earlier.known input h.source h.table)
-    ∙ then_next _ _ _ (picked_complete five _ [] keys h.slots h.picked)
-    ∙ then_next _ _ h.f (then_next _ _ h.f (fold_name_complete earlier.known fold_name h.f h.fold) ∙ must_not_holds _ _ _ _ h.quiet)
-    ∙ then_next _ _ h.arguments (arguments_complete _ [] (key_ids five keys) h.f fold_name.span h.arguments h.taken)
-    ∙ ok _ _ (sym h.is)
+    then_next _ (table_complete earlier.known input h.table) ∙ then_next _ (picked_complete five [] keys h.picked)
+    ∙ then_next _ (then_next _ (fold_name_complete earlier.known fold_name h.fold) ∙ must_not_holds _ _ h.quiet)
+    ∙ then_next _ (arguments_complete [] fold_name.span h.taken) ∙ ok (sym h.is)
 
-join_sound : (groups : ℕ) (earlier : Earlier) (first second : Name) (made : MadeFinal) → final_join groups earlier first second ≡ Ok made
+join_sound : {groups : ℕ} (earlier : Earlier) {first second : Name} {made : MadeFinal} → final_join groups earlier first second ≡ Ok made
     → OfJoin groups earlier.known first second made
-join_sound groups earlier first second made is =
+join_sound earlier {first} {second} {made} is =
     let left = found_first (table_named earlier.known first) _ made is in
     let right = found_first (table_named earlier.known second) _ made left.2 in
-    let one = must_ok _ _ _ _ made right.2 in
-    let two = must_not_ok _ _ _ _ made one.1 in
+    let one = must_ok _ _ _ right.2 in
+    let two = must_not_ok _ _ _ one.1 in
     record {
       left = left.0;
       right = right.0;
-      one = table_sound earlier.known first left.0 left.1;
-      other = table_sound earlier.known second right.0 right.1;
+      one = table_sound earlier.known first left.1;
+      other = table_sound earlier.known second right.1;
       keys = same_sound (key_columns left.0) (key_columns right.0) one.0;
       apart = apart_sound (other_columns right.0) left.0.columns two.0;
       is = sym (same_ok _ made two.1);
     }
 
-join_complete : (groups : ℕ) (earlier : Earlier) (first second : Name) (made : MadeFinal) → OfJoin groups earlier.known first second made
+join_complete : {groups : ℕ} (earlier : Earlier) {first second : Name} {made : MadeFinal} → OfJoin groups earlier.known first second made
     → final_join groups earlier first second ≡ Ok made
-join_complete groups earlier first second made h =
-    then_next _ _ h.left (table_complete earlier.known first h.left h.one)
-    ∙ then_next _ _ h.right (table_complete earlier.known second h.right h.other)
-    ∙ must_holds _ _ _ _ (same_complete (key_columns h.left) (key_columns h.right) h.keys)
-    ∙ must_not_holds _ _ _ _ (apart_complete (other_columns h.right) h.left.columns h.apart) ∙ ok _ _ (sym h.is)
+join_complete earlier {first} {second} h = then_next _ (table_complete earlier.known first h.one)
+    ∙ then_next _ (table_complete earlier.known second h.other) ∙ must_holds _ _ (same_complete h.keys)
+    ∙ must_not_holds _ _ (apart_complete (other_columns h.right) h.left.columns h.apart) ∙ ok (sym h.is)
 
-pub at_most : (k n : ℕ) → k ≤ n → nat_le k n ≡ true
-at_most k n h = grind arith
+pub at_most : {k n : ℕ} → k ≤ n → nat_le k n ≡ true
+at_most h = grind arith
 
-top_sound : (groups : ℕ) (earlier : Earlier) (input column : Name) (kept : ℕ) (span : Span) (made : MadeFinal)
+top_sound : {groups : ℕ} (earlier : Earlier) {input column : Name} {kept : ℕ} (span : Span) {made : MadeFinal}
     → final_top groups earlier input column kept span ≡ Ok made → OfTop groups earlier.known input column kept made
-top_sound groups earlier input column kept span made is =
+top_sound earlier {input} {column} {kept} span {made} is =
     let source = found_first (table_named earlier.known input) _ made is in
     let slot = found_first (slot_of source.0.columns [] column) _ made source.2 in
-    let one = must_ok _ _ _ _ made slot.2 in
-    let both = both_true (nat_lt 0 kept) (nat_le kept 65536) one.0 in
+    let one = must_ok _ _ _ slot.2 in
+    let both = both_true (nat_lt 0 kept) one.0 in
     let some = ltb-true 0 kept both.0 in
     record {
       source = source.0;
       slot = slot.0;
-      table = table_sound earlier.known input source.0 source.1;
-      stands = slot_stands source.0.columns [] column slot.0 slot.1;
+      table = table_sound earlier.known input source.1;
+      stands = slot_stands source.0.columns [] column slot.1;
       some = omega (arith, some);
       few = leb-true kept 65536 both.1;
       is = sym (same_ok _ made one.1);
     }
 
-top_complete : (groups : ℕ) (earlier : Earlier) (input column : Name) (kept : ℕ) (span : Span) (made : MadeFinal)
+top_complete : {groups : ℕ} (earlier : Earlier) {input column : Name} {kept : ℕ} (span : Span) {made : MadeFinal}
     → OfTop groups earlier.known input column kept made → final_top groups earlier input column kept span ≡ Ok made
-top_complete groups earlier input column kept span made h =
-    then_next _ _ h.source (table_complete earlier.known input h.source h.table)
-    ∙ then_next _ _ h.slot (slot_complete h.source.columns [] column h.slot h.stands)
-    ∙ must_holds _ _ _ _ (both_hold (nat_lt 0 kept) (nat_le kept 65536) (below 0 kept (omega (arith, h.some))) (at_most kept 65536 h.few))
-    ∙ ok _ _ (sym h.is)
+top_complete earlier {input} {column} span h = then_next _ (table_complete earlier.known input h.table)
+    ∙ then_next _ (slot_complete h.source.columns [] column h.stands)
+    ∙ must_holds _ _ (both_hold (below (omega (arith, h.some))) (at_most h.few)) ∙ ok (sym h.is)
 
-pub made_final_sound : (given : Given) (earlier : Earlier) (op : FinalOp) (made : MadeFinal) → made_final given earlier op ≡ Ok made
+pub made_final_sound : (given : Given) (earlier : Earlier) (op : FinalOp) {made : MadeFinal} → made_final given earlier op ≡ Ok made
     → HasFinal given earlier.known op made
-made_final_sound given earlier (ops.Filter input e) made is = filter_sound given.groups earlier input e made is
-made_final_sound given earlier (ops.Map input cs) made is = map_sound given.groups earlier input cs made is
-made_final_sound given earlier (ops.Group input keys fold_name) made is = group_sound given earlier input keys fold_name made is
-made_final_sound given earlier (ops.Join first second) made is = join_sound given.groups earlier first second made is
-made_final_sound given earlier (ops.Top input column kept span) made is = top_sound given.groups earlier input column kept span made is
+made_final_sound given earlier (ops.Filter input e) is = filter_sound earlier is
+made_final_sound given earlier (ops.Map input cs) is = map_sound earlier is
+made_final_sound given earlier (ops.Group input keys fold_name) is = group_sound given earlier is
+made_final_sound given earlier (ops.Join first second) is = join_sound earlier is
+made_final_sound given earlier (ops.Top input column kept span) is = top_sound earlier span is
 
-pub made_final_complete : (given : Given) (earlier : Earlier) (op : FinalOp) (made : MadeFinal) → HasFinal given earlier.known op made
+pub made_final_complete : (given : Given) (earlier : Earlier) (op : FinalOp) {made : MadeFinal} → HasFinal given earlier.known op made
     → made_final given earlier op ≡ Ok made
-made_final_complete given earlier (ops.Filter input e) made h = filter_complete given.groups earlier input e made h
-made_final_complete given earlier (ops.Map input cs) made h = map_complete given.groups earlier input cs made h
-made_final_complete given earlier (ops.Group input keys fold_name) made h = group_complete given earlier input keys fold_name made h
-made_final_complete given earlier (ops.Join first second) made h = join_complete given.groups earlier first second made h
-made_final_complete given earlier (ops.Top input column kept span) made h = top_complete given.groups earlier input column kept span made h
+made_final_complete given earlier (ops.Filter input e) h = filter_complete earlier h
+made_final_complete given earlier (ops.Map input cs) h = map_complete earlier h
+made_final_complete given earlier (ops.Group input keys fold_name) h = group_complete given earlier h
+made_final_complete given earlier (ops.Join first second) h = join_complete earlier h
+made_final_complete given earlier (ops.Top input column kept span) h = top_complete earlier span h

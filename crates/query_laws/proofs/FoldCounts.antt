@@ -67,22 +67,21 @@ one_more_count : stmt_count one_more ≡ 1
 one_more_count = count_assign (called 1) (Binary Add here first (Number 1 here))
 
 -- a choice by a condition of three nodes, of what its blocks have
-choice_nodes : (c : Expr) (a b : List Stmt) (n m : ℕ) → expr_nodes c ≡ 3 → sum (map stmt_nodes a) ≡ n → sum (map stmt_nodes b) ≡ m
+choice_nodes : (c : Expr) (a b : List Stmt) {n m : ℕ} → expr_nodes c ≡ 3 → sum (map stmt_nodes a) ≡ n → sum (map stmt_nodes b) ≡ m
     → stmt_nodes (If c a b) ≡ 3 + n + m
-choice_nodes c a b n m p q r =
-    nodes_if c a b ∙ ap (λ (z : ℕ). z + sum (map stmt_nodes a) + sum (map stmt_nodes b)) p
+choice_nodes c a b {n} p q r = nodes_if c a b ∙ ap (λ (z : ℕ). z + sum (map stmt_nodes a) + sum (map stmt_nodes b)) p
     ∙ ap (λ (z : ℕ). 3 + z + sum (map stmt_nodes b)) q ∙ ap (λ (z : ℕ). 3 + n + z) r
 
-choice_count : (c : Expr) (a b : List Stmt) (n m : ℕ) → sum (map stmt_count a) ≡ n → sum (map stmt_count b) ≡ m → stmt_count (If c a b) ≡ 1
+choice_count : (c : Expr) (a b : List Stmt) {n m : ℕ} → sum (map stmt_count a) ≡ n → sum (map stmt_count b) ≡ m → stmt_count (If c a b) ≡ 1
     + n + m
-choice_count c a b n m q r = count_if c a b ∙ ap (λ (z : ℕ). 1 + z + sum (map stmt_count b)) q ∙ ap (λ (z : ℕ). 1 + n + z) r
+choice_count c a b {n} q r = count_if c a b ∙ ap (λ (z : ℕ). 1 + z + sum (map stmt_count b)) q ∙ ap (λ (z : ℕ). 1 + n + z) r
 
 -- a block of one statement, and of two
-alone : (s n : ℕ) → s ≡ n → sum (s ∷ []) ≡ sum (n ∷ [])
-alone s n p = ap (λ (z : ℕ). sum (z ∷ [])) p
+alone : {s n : ℕ} → s ≡ n → sum (s ∷ []) ≡ sum (n ∷ [])
+alone p = ap (λ (z : ℕ). sum (z ∷ [])) p
 
-pair : (s t n m : ℕ) → s ≡ n → t ≡ m → sum (s ∷ t ∷ []) ≡ sum (n ∷ m ∷ [])
-pair s t n m p q = ap (λ (z : ℕ). sum (z ∷ t ∷ [])) p ∙ ap (λ (z : ℕ). sum (n ∷ z ∷ [])) q
+pair : {s t n m : ℕ} → s ≡ n → t ≡ m → sum (s ∷ t ∷ []) ≡ sum (n ∷ m ∷ [])
+pair {t} {n} p q = ap (λ (z : ℕ). sum (z ∷ t ∷ [])) p ∙ ap (λ (z : ℕ). sum (n ∷ z ∷ [])) q
 
 -- ---- the examples
 
@@ -92,32 +91,25 @@ pub record Counts (body : List Stmt) (n m : ℕ) : Type 0 where
   pub statements : fold_statements (a_fold body) ≡ m
 
 -- of one statement
-one : (s : Stmt) (n m : ℕ) → stmt_nodes s ≡ n → stmt_count s ≡ m → Counts (s ∷ []) (sum (n ∷ [])) (sum (m ∷ []))
-one s n m p q = record { nodes = alone (stmt_nodes s) n p; statements = alone (stmt_count s) m q }
+one : {s : Stmt} {n m : ℕ} → stmt_nodes s ≡ n → stmt_count s ≡ m → Counts (s ∷ []) (sum (n ∷ [])) (sum (m ∷ []))
+one p q = record { nodes = alone p; statements = alone q }
 
 pub count_counts : Counts (one_more ∷ []) 3 1
-count_counts = one one_more 3 1 one_more_nodes one_more_count
+count_counts = one one_more_nodes one_more_count
 
 pub emit_counts : Counts (Emit here ∷ []) 0 1
-emit_counts = one (Emit here) 0 1 nodes_emit count_emit
+emit_counts = one nodes_emit count_emit
 
 pub choice_counts : Counts (If on_state (one_more ∷ []) [] ∷ []) 6 2
-choice_counts = one (If on_state (one_more ∷ []) []) 6 2
-    (choice_nodes on_state (one_more ∷ []) [] 3 0 state_nodes (alone (stmt_nodes one_more) 3 one_more_nodes) refl)
-    (choice_count on_state (one_more ∷ []) [] 1 0 (alone (stmt_count one_more) 1 one_more_count) refl)
+choice_counts = one (choice_nodes on_state (one_more ∷ []) [] state_nodes (alone one_more_nodes) refl)
+    (choice_count on_state (one_more ∷ []) [] (alone one_more_count) refl)
 
 pub argument_counts : Counts (If on_argument (one_more ∷ Emit here ∷ []) [] ∷ []) 6 3
-argument_counts = one (If on_argument (one_more ∷ Emit here ∷ []) []) 6 3
-    (choice_nodes on_argument (one_more ∷ Emit here ∷ []) [] 3 0 argument_nodes
-    (pair (stmt_nodes one_more) (stmt_nodes (Emit here)) 3 0 one_more_nodes nodes_emit) refl)
-    (choice_count on_argument (one_more ∷ Emit here ∷ []) [] 2 0 (pair (stmt_count one_more) (stmt_count (Emit here)) 1 1 one_more_count
-    count_emit) refl)
+argument_counts = one (choice_nodes on_argument (one_more ∷ Emit here ∷ []) [] argument_nodes (pair one_more_nodes nodes_emit) refl)
+    (choice_count on_argument (one_more ∷ Emit here ∷ []) [] (pair one_more_count count_emit) refl)
 
 pub else_counts : Counts (If on_argument (If below_9 [] (Emit here ∷ []) ∷ []) [] ∷ []) 6 3
-else_counts = one (If on_argument (If below_9 [] (Emit here ∷ []) ∷ []) []) 6 3
-    (choice_nodes on_argument (If below_9 [] (Emit here ∷ []) ∷ []) [] 3 0 argument_nodes
-    (alone (stmt_nodes (If below_9 [] (Emit here ∷ []))) 3 (choice_nodes below_9 [] (Emit here ∷ []) 0 0 below_nodes refl
-    (alone (stmt_nodes (Emit here)) 0 nodes_emit))) refl)
-    (choice_count on_argument (If below_9 [] (Emit here ∷ []) ∷ []) [] 2 0
-    (alone (stmt_count (If below_9 [] (Emit here ∷ []))) 2 (choice_count below_9 [] (Emit here ∷ []) 0 1 refl
-    (alone (stmt_count (Emit here)) 1 count_emit))) refl)
+else_counts = one (choice_nodes on_argument (If below_9 [] (Emit here ∷ []) ∷ []) [] argument_nodes
+    (alone (choice_nodes below_9 [] (Emit here ∷ []) below_nodes refl (alone nodes_emit))) refl)
+    (choice_count on_argument (If below_9 [] (Emit here ∷ []) ∷ []) [] (alone (choice_count below_9 [] (Emit here ∷ []) refl
+    (alone count_emit))) refl)

@@ -41,10 +41,9 @@ use Rattle.query_laws.proofs.TypingExamples.{first_word, second_word, second_is,
 abbrev Inside : List TypedExpr → List Stmt → List TypedStmt → List TypedExpr → Type 0
 Inside around body ts emits = HasBlock (1 ∷ []) (2 ∷ []) around body ts emits
 
-typed_as : (body : List Stmt) (ts : List TypedStmt) (emit : Option TypedExpr) (n m : ℕ) → Counts body n m
-    → Inside [] body ts (at_most_one emit)
-    → HasFold (a_fold body) (typed_fold ts emit n m)
-typed_as body ts emit n m counts block = record {
+typed_as : {body : List Stmt} {ts : List TypedStmt} {emit : Option TypedExpr} {n m : ℕ} → Counts body n m
+    → Inside [] body ts (at_most_one emit) → HasFold (a_fold body) (typed_fold ts emit n m)
+typed_as {body} {ts} {emit} {m} counts block = record {
   body = ts;
   emit = emit;
   is = ap (λ (z : ℕ). typed_fold ts emit z m) (sym counts.nodes) ∙ ap (λ (z : ℕ). typed_fold ts emit (fold_nodes (a_fold body)) z)
@@ -56,131 +55,92 @@ typed_as body ts emit n m counts block = record {
   statements = block;
 }
 
-one_more_in : (around : List TypedExpr) (rest : List Stmt) (ts : List TypedStmt) (emits : List TypedExpr) → Inside around rest ts emits
+one_more_in : {around : List TypedExpr} {rest : List Stmt} {ts : List TypedStmt} {emits : List TypedExpr} → Inside around rest ts emits
     → Inside around (one_more ∷ rest) (typed_one_more ∷ ts) emits
-one_more_in around rest ts emits h =
-    of_assign around (called 1) 0 (Binary Add here first (Number 1 here)) (typed.Binary Add (typed.Slot 0) (typed.Number 1)) rest ts emits
-    refl
-    (of_binary Add here first (Number 1 here) (typed.Slot 0) (typed.Number 1) first_word (of_number 1 here) tt) h
+one_more_in h = of_assign (called 1) refl (of_binary here first_word (of_number here) tt) h
 
 state_typed : HasKind two_columns Condition on_state typed_on_state
-state_typed = of_binary Lt here (Number 0 here) first (typed.Number 0) (typed.Slot 0) (of_number 0 here) first_word tt
+state_typed = of_binary here (of_number here) first_word tt
 
 argument_typed : HasKind two_columns Condition on_argument typed_on_argument
-argument_typed = of_binary Lt here (Number 0 here) second (typed.Number 0) (typed.Slot 1) (of_number 0 here) second_word tt
+argument_typed = of_binary here (of_number here) second_word tt
 
 below_typed : HasKind two_columns Condition below_9 typed_below_9
-below_typed = of_binary Lt here second (Number 9 here) (typed.Slot 1) (typed.Number 9) second_word (of_number 9 here) tt
+below_typed = of_binary here second_word (of_number here) tt
 
 -- which of these read the argument alone
 
 abbrev ReadsNoState : TypedExpr → Type 0
 ReadsNoState t = ReadsArguments 1 (term_of t)
 
-seen : (t : TypedExpr) (u : Term) → term_of t ≡ u → ReadsArguments 1 u → ReadsNoState t
-seen t u is h = let R : Term → Type 0 = λ z. ReadsArguments 1 z in subst R (sym is) h
+seen : (t : TypedExpr) {u : Term} → term_of t ≡ u → ReadsArguments 1 u → ReadsNoState t
+seen t is h = let R : Term → Type 0 = λ z. ReadsArguments 1 z in subst R (sym is) h
 
 of_two : (op : Op) (a b : TypedExpr) → ReadsNoState a → ReadsNoState b → ReadsNoState (typed.Binary op a b)
-of_two op a b p q = seen (typed.Binary op a b) _ (term_binary op a b) (p, q)
+of_two op a b p q = seen (typed.Binary op a b) (term_binary op a b) (p, q)
 
 of_a_number : (n : ℕ) → ReadsNoState (typed.Number n)
-of_a_number n = seen (typed.Number n) _ (term_number n) tt
+of_a_number n = seen (typed.Number n) (term_number n) tt
 
 of_the_argument : ReadsNoState (typed.Slot 1)
-of_the_argument = let past : 1 ≤ 1 = omega arith in seen (typed.Slot 1) _ (term_slot 1) past
+of_the_argument = let past : 1 ≤ 1 = omega arith in seen (typed.Slot 1) (term_slot 1) past
 
 argument_reads : ReadsNoState typed_on_argument
 argument_reads = of_two Lt (typed.Number 0) (typed.Slot 1) (of_a_number 0) of_the_argument
 
 else_reads : ReadsNoState (typed.Not typed_below_9)
-else_reads = seen (typed.Not typed_below_9) _ (term_not typed_below_9)
+else_reads = seen (typed.Not typed_below_9) (term_not typed_below_9)
     (of_two Lt (typed.Slot 1) (typed.Number 9) of_the_argument (of_a_number 9))
 
 -- ---- refused
 
 -- a fold has no form where something that it asks isn't so
-unmet : (d : FoldDef) (q : Demand) → FoldAsks d q → (Holds [] q → ⊥) → HasNoFold d
-unmet d q asked fails = λ f h. fails (fold_meets [] d f q h asked)
+unmet : {d : FoldDef} {q : Demand} → FoldAsks d q → (Holds [] q → ⊥) → HasNoFold d
+unmet asked fails = λ f h. fails (fold_meets [] h asked)
 
 -- an `emit` inside a condition on the state
-reads_state : (body : List Stmt) (around : List Expr) → StandsIn [] body around (Emit here) → IsOneOf on_state around
+reads_state : {body : List Stmt} {around : List Expr} → StandsIn [] body around (Emit here) → IsOneOf on_state around
     → HasNoFold (a_fold body)
-reads_state body around stands i = unmet (a_fold body) (ReadsNone (1 ∷ []) on_state)
-    (of_statement around (Emit here) (ReadsNone (1 ∷ []) on_state) stands (asks.of_emit here on_state i))
-    (λ none. (none (called 1) (Condition, Word, right_of_0 1)).0 refl)
+reads_state stands i = unmet (of_statement stands (asks.of_emit here i)) (λ none. (none (called 1) (Condition, Word, right_of_0)).0 refl)
 
-emit_first : (around : List Expr) → StandsIn around (Emit here ∷ []) around (Emit here)
-emit_first around = parts.first around (Emit here) []
+emit_first : {around : List Expr} → StandsIn around (Emit here ∷ []) around (Emit here)
+emit_first = parts.first
 
 -- a first statement of which this is asked
-first_asks : (s : Stmt) (q : Demand) → StmtAsks (1 ∷ []) (2 ∷ []) [] s q → FoldAsks (a_fold (s ∷ [])) q
-first_asks s q asked = of_statement [] s q (parts.first [] s []) asked
+first_asks : {s : Stmt} {q : Demand} → StmtAsks (1 ∷ []) (2 ∷ []) [] s q → FoldAsks (a_fold (s ∷ [])) q
+first_asks asked = of_statement parts.first asked
 
 no_condition : (t : TypedExpr) × HasKind two_columns Condition second t → ⊥
-no_condition h = no_fault h.0 (record { kind = WrongKind; span = here })
-    (sym (condition_complete two_columns [] second h.0 h.1) ∙ then_next (expr_checked two_columns [] second) _ _ second_is)
+no_condition h = no_fault (sym (condition_complete [] h.1) ∙ then_next _ second_is)
 
 -- ---- all
 
 pub fold_examples : FoldExamples
 fold_examples = record {
-  count = typed_as (one_more ∷ []) (typed_one_more ∷ []) None 3 1 count_counts (one_more_in [] [] [] [] (of_none []));
-  choice_on_a_state = typed_as (If on_state (one_more ∷ []) [] ∷ []) (typed_stmt.If typed_on_state (typed_one_more ∷ []) [] ∷ []) None 6 2
-      choice_counts
-      (of_if [] on_state typed_on_state (one_more ∷ []) [] [] (typed_one_more ∷ []) [] [] [] [] [] state_typed
-      (one_more_in (typed_on_state ∷ []) [] [] [] (of_none (typed_on_state ∷ []))) (of_none (typed.Not typed_on_state ∷ [])) (of_none []));
-  emit_always = typed_as (Emit here ∷ []) [] (Some (typed.Number 1)) 0 1 emit_counts (of_emit [] here [] [] [] tt (of_none []));
-  emit_on_an_argument = typed_as (If on_argument (one_more ∷ Emit here ∷ []) [] ∷ [])
-      (typed_stmt.If typed_on_argument (typed_one_more ∷ []) [] ∷ []) (Some typed_on_argument) 6 3 argument_counts
-      (of_if [] on_argument typed_on_argument (one_more ∷ Emit here ∷ []) [] [] (typed_one_more ∷ []) [] [] (typed_on_argument ∷ []) [] []
-      argument_typed
-      (one_more_in (typed_on_argument ∷ []) (Emit here ∷ []) [] (typed_on_argument ∷ [])
-      (of_emit (typed_on_argument ∷ []) here [] [] [] (argument_reads, tt) (of_none (typed_on_argument ∷ []))))
-      (of_none (typed.Not typed_on_argument ∷ [])) (of_none []));
-  emit_in_an_else = typed_as (If on_argument (If below_9 [] (Emit here ∷ []) ∷ []) [] ∷ [])
-      (typed_stmt.If typed_on_argument (typed_stmt.If typed_below_9 [] [] ∷ []) [] ∷ [])
-      (Some (emit_of (typed.Not typed_below_9 ∷ typed_on_argument ∷ []))) 6 3 else_counts
-      (of_if [] on_argument typed_on_argument (If below_9 [] (Emit here ∷ []) ∷ []) [] [] (typed_stmt.If typed_below_9 [] [] ∷ []) [] []
-      (emit_of (typed.Not typed_below_9 ∷ typed_on_argument ∷ []) ∷ []) [] [] argument_typed
-      (of_if (typed_on_argument ∷ []) below_9 typed_below_9 [] (Emit here ∷ []) [] [] [] [] []
-      (emit_of (typed.Not typed_below_9 ∷ typed_on_argument ∷ []) ∷ []) [] below_typed
-      (of_none (typed_below_9 ∷ typed_on_argument ∷ []))
-      (of_emit (typed.Not typed_below_9 ∷ typed_on_argument ∷ []) here [] [] [] (else_reads, (argument_reads, tt))
-      (of_none (typed.Not typed_below_9 ∷ typed_on_argument ∷ [])))
-      (of_none (typed_on_argument ∷ [])))
-      (of_none (typed.Not typed_on_argument ∷ [])) (of_none []));
-  emit_on_a_state = reads_state (If on_state (Emit here ∷ []) [] ∷ []) (on_state ∷ [])
-      (parts.in_first [] on_state (Emit here ∷ []) [] [] (on_state ∷ []) (Emit here) (emit_first (on_state ∷ []))) (parts.first []);
-  emit_on_no_state = reads_state (If on_state [] (Emit here ∷ []) ∷ []) (on_state ∷ [])
-      (parts.in_second [] on_state [] (Emit here ∷ []) [] (on_state ∷ []) (Emit here) (emit_first (on_state ∷ []))) (parts.first []);
-  emit_inside_a_state = reads_state (If on_state (If on_argument (Emit here ∷ []) [] ∷ []) [] ∷ []) (on_argument ∷ on_state ∷ [])
-      (parts.in_first [] on_state (If on_argument (Emit here ∷ []) [] ∷ []) [] [] (on_argument ∷ on_state ∷ []) (Emit here)
-      (parts.in_first (on_state ∷ []) on_argument (Emit here ∷ []) [] [] (on_argument ∷ on_state ∷ []) (Emit here)
-      (emit_first (on_argument ∷ on_state ∷ []))))
-      (parts.later on_argument (on_state ∷ []) (parts.first []));
-  second_emit = unmet (a_fold (Emit here ∷ Emit here ∷ [])) (OneEmit (Emit here ∷ Emit here ∷ [])) of_emits
-      (λ alone. alone here (parts.beyond (Emit here) (Emit here ∷ []) [] ([], here, emit_first []) (emit_first [])));
-  emit_in_each_block = unmet (a_fold (If on_argument (Emit here ∷ []) (Emit here ∷ []) ∷ []))
-      (OneEmit (If on_argument (Emit here ∷ []) (Emit here ∷ []) ∷ [])) of_emits
-      (λ alone. alone here (parts.across on_argument (Emit here ∷ []) (Emit here ∷ []) [] [] ([], here, emit_first []) (emit_first [])));
-  assigned_argument = unmet (a_fold (Assign (called 2) (Number 0 here) ∷ [])) (Target (1 ∷ []) (2 ∷ []) (called 2))
-      (first_asks (Assign (called 2) (Number 0 here)) (Target (1 ∷ []) (2 ∷ []) (called 2)) (asks.of_target (called 2) (Number 0 here)))
-      (no_place (1 ∷ []) 2 refl);
-  assigned_other = unmet (a_fold (Assign (called 3) (Number 0 here) ∷ [])) (Target (1 ∷ []) (2 ∷ []) (called 3))
-      (first_asks (Assign (called 3) (Number 0 here)) (Target (1 ∷ []) (2 ∷ []) (called 3)) (asks.of_target (called 3) (Number 0 here)))
-      (no_place (1 ∷ []) 3 refl);
-  assigned_condition = unmet (a_fold (Assign (called 1) is_less ∷ [])) (Typed two_columns Word is_less)
-      (first_asks (Assign (called 1) is_less) (Typed two_columns Word is_less)
-      (asks.of_value (called 1) is_less (Typed two_columns Word is_less) (asks.of_part Word is_less (parts.whole Word is_less)))) no_word;
-  choice_on_a_word = unmet (a_fold (If second [] [] ∷ [])) (Typed two_columns Condition second)
-      (first_asks (If second [] []) (Typed two_columns Condition second)
-      (asks.of_condition second [] [] (Typed two_columns Condition second) (asks.of_part Condition second (parts.whole Condition second))))
-      no_condition;
+  count = typed_as count_counts (one_more_in (of_none []));
+  choice_on_a_state = typed_as choice_counts (of_if state_typed
+      (one_more_in (of_none (typed_on_state ∷ []))) (of_none (typed.Not typed_on_state ∷ [])) (of_none []));
+  emit_always = typed_as emit_counts (of_emit here tt (of_none []));
+  emit_on_an_argument = typed_as argument_counts (of_if argument_typed (one_more_in
+      (of_emit here (argument_reads, tt) (of_none (typed_on_argument ∷ [])))) (of_none (typed.Not typed_on_argument ∷ [])) (of_none []));
+  emit_in_an_else = typed_as else_counts (of_if argument_typed (of_if below_typed (of_none (typed_below_9 ∷ typed_on_argument ∷ []))
+      (of_emit here (else_reads, (argument_reads, tt)) (of_none (typed.Not typed_below_9 ∷ typed_on_argument ∷ [])))
+      (of_none (typed_on_argument ∷ []))) (of_none (typed.Not typed_on_argument ∷ [])) (of_none []));
+  emit_on_a_state = reads_state (parts.in_first (Emit here ∷ []) [] [] emit_first) parts.first;
+  emit_on_no_state = reads_state (parts.in_second [] emit_first) parts.first;
+  emit_inside_a_state = reads_state (parts.in_first (If on_argument (Emit here ∷ []) [] ∷ []) [] [] (parts.in_first (Emit here ∷ []) [] []
+      emit_first)) (parts.later on_argument (on_state ∷ []) parts.first);
+  second_emit = unmet of_emits (λ alone. alone here (parts.beyond ([], here, emit_first) emit_first));
+  emit_in_each_block = unmet of_emits (λ alone. alone here (parts.across on_argument (Emit here ∷ []) ([], here, emit_first) emit_first));
+  assigned_argument = unmet (first_asks (asks.of_target (Number 0 here))) (no_place (1 ∷ []) 2 refl);
+  assigned_other = unmet (first_asks (asks.of_target (Number 0 here))) (no_place (1 ∷ []) 3 refl);
+  assigned_condition = unmet (first_asks (asks.of_value (called 1) (asks.of_part parts.whole))) no_word;
+  choice_on_a_word = unmet (first_asks (asks.of_condition [] [] (asks.of_part parts.whole))) no_condition;
   state_twice = λ f h. h.states.1.0.0 refl;
   argument_twice = λ f h. h.args.1.0.0 refl;
   argument_with_a_states_name = λ f h. h.args.0.0 refl;
-  eight_states = fold_sound (fold_over eight [] []) (fold_of (fold_over eight [] []) [] None) refl;
+  eight_states = fold_sound refl;
   nine_states = λ f h. let few : 9 ≤ 8 = h.few_states in absurd (omega (arith, few));
-  sixteen_arguments = fold_sound (fold_over [] sixteen []) (fold_of (fold_over [] sixteen []) [] None) refl;
+  sixteen_arguments = fold_sound refl;
   seventeen_arguments = λ f h. let few : 17 ≤ 16 = h.few_args in absurd (omega (arith, few));
 }

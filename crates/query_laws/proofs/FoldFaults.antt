@@ -33,69 +33,56 @@ states_long : (front : List StateVar) → length (ids front) ≡ length front
 states_long [] = refl
 states_long (x ∷ front) = ap suc (states_long front)
 
-states_told : (d : FoldDef) (front ss : List StateVar) (found : List ℕ) (known : List Known) (fault : QueryFault)
+states_told : {d : FoldDef} (front ss : List StateVar) {found : List ℕ} {known : List Known} {fault : QueryFault}
     → d.states ≡ front ++ ss → found ≡ ids front → states_from found ss ≡ Err fault → Broken (FoldAsks d) known fault
-states_told d front [] found known fault split same e = no_fault found fault e
-states_told d front (s ∷ ss) found known fault split same e =
-    by_must_not (is_among s.name.id found) NameTaken s.name.span _ fault e (λ among at.
+states_told front [] split same e = no_fault e
+states_told front (s ∷ ss) {found} {known} split same e = by_must_not (is_among s.name.id found) e (λ among at.
     let N : List ℕ → Type 0 = λ z. IsNew s.name.id z in
     record {
       demand = New (ids front) s.name.id s.name.span;
       asks = of_state front s ss split;
-      tells = told known (New (ids front) s.name.id s.name.span) NameTaken s.name.span fault at
+      tells = told known (New (ids front) s.name.id s.name.span) at
           (refl, λ fresh. not_new s.name.id found among (subst N (sym same) fresh));
-    }) (λ none e.
-    by_must (nat_lt (length found) MAX_STATES) (OverLimit States) s.name.span _ fault e (λ full at. record {
+    }) (λ none e. by_must (nat_lt (length found) MAX_STATES) _ e (λ full at. record {
       demand = Fewer States (length front) s.name.span;
       asks = of_states front s ss split;
-      tells = told known (Fewer States (length front) s.name.span) (OverLimit States) s.name.span fault at
-          (refl, refl, at_least (length found) (length front) MAX_STATES (ap length same ∙ states_long front) full);
-    }) (λ few e.
-    states_told d (front ++ s ∷ []) ss (found ++ s.name.id ∷ []) known fault (split ∙ sym (append_assoc front (s ∷ []) ss))
+      tells = told known (Fewer States (length front) s.name.span) at (refl, refl, at_least (ap length same ∙ states_long front) full);
+    }) (λ few e. states_told (front ++ s ∷ []) ss (split ∙ sym (append_assoc front (s ∷ []) ss))
     (ap (λ (z : List ℕ). z ++ s.name.id ∷ []) same ∙ sym (state_last front s)) e))
 
-args_told : (d : FoldDef) (front args : List Name) (found : List ℕ) (known : List Known) (fault : QueryFault)
+args_told : {d : FoldDef} (front args : List Name) {found : List ℕ} {known : List Known} {fault : QueryFault}
     → d.args ≡ front ++ args → found ≡ ids_of front → args_from (state_names_of d) found args ≡ Err fault → Broken (FoldAsks d) known fault
-args_told d front [] found known fault split same e = no_fault found fault e
-args_told d front (a ∷ args) found known fault split same e =
-    by_must_not (is_among a.id (state_names_of d) || is_among a.id found) NameTaken a.span _ fault e (λ among at.
+args_told front [] split same e = no_fault e
+args_told {d} front (a ∷ args) {found} {known} split same e =
+    by_must_not (is_among a.id (state_names_of d) || is_among a.id found) e (λ among at.
     let N : List ℕ → Type 0 = λ z. IsNew a.id (state_names_of d ++ z) in
     record {
       demand = New (state_names_of d ++ ids_of front) a.id a.span;
       asks = of_arg front a args split;
-      tells = told known (New (state_names_of d ++ ids_of front) a.id a.span) NameTaken a.span fault at (
+      tells = told known (New (state_names_of d ++ ids_of front) a.id a.span) at (
         refl,
-        λ fresh. not_new a.id (state_names_of d ++ found) (among_append a.id (state_names_of d) found ∙ among)
-            (subst N (sym same) fresh),
+        λ fresh. not_new a.id (state_names_of d ++ found) (among_append a.id (state_names_of d) found ∙ among) (subst N (sym same) fresh),
       );
-    }) (λ none e.
-    by_must (nat_lt (length found) MAX_ARGS) (OverLimit Args) a.span _ fault e (λ full at. record {
+    }) (λ none e. by_must (nat_lt (length found) MAX_ARGS) _ e (λ full at. record {
       demand = Fewer Args (length front) a.span;
       asks = of_args front a args split;
-      tells = told known (Fewer Args (length front) a.span) (OverLimit Args) a.span fault at
-          (refl, refl, at_least (length found) (length front) MAX_ARGS (ap length same ∙ ids_long front) full);
-    }) (λ few e.
-    args_told d (front ++ a ∷ []) args (found ++ a.id ∷ []) known fault (split ∙ sym (append_assoc front (a ∷ []) args))
+      tells = told known (Fewer Args (length front) a.span) at (refl, refl, at_least (ap length same ∙ ids_long front) full);
+    }) (λ few e. args_told (front ++ a ∷ []) args (split ∙ sym (append_assoc front (a ∷ []) args))
     (ap (λ (z : List ℕ). z ++ a.id ∷ []) same ∙ sym (ids_last front a)) e))
 
-statements_told : (d : FoldDef) (known : List Known) (fault : QueryFault)
-    → BlockTold (state_names_of d) (arg_names_of d) [] d.body false known fault
-    → Broken (FoldAsks d) known fault
-statements_told d known fault (at_statement around s h b) = broken_in _ _ known fault (λ q asked. of_statement around s q h asked) b
-statements_told d known fault (second span around e h has) = cc has
-statements_told d known fault (follows span e h) =
-    record { demand = OneEmit d.body; asks = of_emits; tells = told known (OneEmit d.body) WrongArity span fault e h }
+statements_told : {d : FoldDef} {known : List Known} {fault : QueryFault}
+    → BlockTold (state_names_of d) (arg_names_of d) [] d.body false known fault → Broken (FoldAsks d) known fault
+statements_told (at_statement h b) = broken_in (λ q asked. of_statement h asked) b
+statements_told (second span e h has) = cc has
+statements_told {d} {known} (follows e h) = record { demand = OneEmit d.body; asks = of_emits; tells = told known (OneEmit d.body) e h }
 
-pub fold_faults : (d : FoldDef) (known : List Known) (fault : QueryFault) → fold_checked d ≡ Err fault → Broken (FoldAsks d) known fault
-fold_faults d known fault e =
-    by_next (states_from [] d.states) _ fault e (λ is. states_told d [] d.states [] known fault refl refl is) (λ states p e.
-    let S = (states_sound d.states [] states (omega arith) p).0 in
+pub fold_faults : {d : FoldDef} {known : List Known} {fault : QueryFault} → fold_checked d ≡ Err fault → Broken (FoldAsks d) known fault
+fold_faults {d} {known} {fault} e = by_next (states_from [] d.states) e (λ is. states_told [] d.states refl refl is) (λ states p e.
+    let S = (states_sound d.states [] (omega arith) p).0 in
     let A : List ℕ → Type 0 = λ z. and_then (args_from z [] d.args) (λ args. rest_of d z args) ≡ Err fault in
-    by_next (args_from (state_names_of d) [] d.args) (λ args. rest_of d (state_names_of d) args) fault (subst A S e)
-    (λ is. args_told d [] d.args [] known fault refl refl is) (λ args q e.
-    let a = (args_sound (state_names_of d) d.args [] args (omega arith) q).0 in
+    by_next (args_from (state_names_of d) [] d.args) (subst A S e) (λ is. args_told [] d.args refl refl is) (λ args q e.
+    let a = (args_sound (state_names_of d) d.args [] (omega arith) q).0 in
     let B : List ℕ → Type 0 = λ z. rest_of d (state_names_of d) z ≡ Err fault in
-    by_next (body_checked (state_names_of d) (arg_names_of d) d.body) _ fault (subst B a e)
-    (λ is. statements_told d known fault (body_told (state_names_of d) (arg_names_of d) known fault d.body [] _ _ (λ span none. cc none)
-    is))
-    (λ body r e. no_fault _ fault e)))
+    by_next (body_checked (state_names_of d) (arg_names_of d) d.body) (subst B a e)
+    (λ is. statements_told (body_told (state_names_of d) (arg_names_of d) known fault d.body _ _ (λ span none. cc none) is))
+    (λ body r e. no_fault e)))

@@ -11,8 +11,8 @@ use Rattle.query_laws.proofs.Steps.{same_ok, found_first, then_next}
 use Rattle.query_laws.proofs.FoldNames.{states_sound, states_complete, args_sound, args_complete}
 use Rattle.query_laws.proofs.Blocks.{Fits, block_sound, block_complete}
 
-pub nothing_around : (states : List ℕ) → Fits states [] (record { condition = None; state = None })
-nothing_around states = record { condition = refl; past = λ h. tt; none = λ h. refl }
+pub nothing_around : {states : List ℕ} → Fits states [] (record { condition = None; state = None })
+nothing_around = record { condition = refl; past = λ h. tt; none = λ h. refl }
 
 -- what is left of the check once the names are found
 abbrev pub rest_of : FoldDef → List ℕ → List ℕ → Checked TypedFold
@@ -27,17 +27,17 @@ rest_of d states args = and_then (body_checked states args d.body) (λ body. Ok 
   statements = fold_statements d;
 }))
 
-pub fold_sound : (d : FoldDef) (f : TypedFold) → fold_checked d ≡ Ok f → HasFold d f
-fold_sound d f e =
+pub fold_sound : {d : FoldDef} {f : TypedFold} → fold_checked d ≡ Ok f → HasFold d f
+fold_sound {d} {f} e =
     let states = found_first (states_from [] d.states) _ f e in
     let args = found_first (args_from states.0 [] d.args) _ f states.2 in
-    let s = states_sound d.states [] states.0 (omega arith) states.1 in
-    let a = args_sound states.0 d.args [] args.0 (omega arith) args.1 in
+    let s = states_sound d.states [] (omega arith) states.1 in
+    let a = args_sound states.0 d.args [] (omega arith) args.1 in
     let N : List ℕ → Type 0 = λ z. AreNew z (arg_names_of d) in
     let whole : rest_of d (state_names_of d) (arg_names_of d) ≡ Ok f =
     sym (ap (λ (z : List ℕ). rest_of d z args.0) s.0 ∙ ap (λ (z : List ℕ). rest_of d (state_names_of d) z) a.0) ∙ args.2 in
     let body = found_first (body_checked (state_names_of d) (arg_names_of d) d.body) _ f whole in
-    let b = block_sound (state_names_of d) (arg_names_of d) d.body [] _ _ body.0 (nothing_around (state_names_of d)) body.1 in
+    let b = block_sound d.body nothing_around body.1 in
     let B : List TypedStmt → Type 0 = λ z. HasBlock (state_names_of d) (arg_names_of d) [] d.body z (at_most_one body.0.emit) in
     let E : List TypedExpr → Type 0 = λ z. HasBlock (state_names_of d) (arg_names_of d) [] d.body b.ts z in
     record {
@@ -51,12 +51,10 @@ fold_sound d f e =
       statements = subst B (sym b.statements) (subst E b.emits b.rule);
     }
 
-pub fold_complete : (d : FoldDef) (f : TypedFold) → HasFold d f → fold_checked d ≡ Ok f
-fold_complete d f h =
+pub fold_complete : {d : FoldDef} {f : TypedFold} → HasFold d f → fold_checked d ≡ Ok f
+fold_complete {d} h =
     let N : List ℕ → Type 0 = λ z. AreNew z (arg_names_of d) in
-    then_next _ _ (state_names_of d) (states_complete d.states [] h.states (omega (arith, h.few_states)))
-    ∙ then_next _ _ (arg_names_of d) (args_complete (state_names_of d) d.args [] (subst N (sym (append-nil (state_names_of d))) h.args)
-    (omega (arith, h.few_args)))
-    ∙ then_next _ _ _ (block_complete (state_names_of d) (arg_names_of d) [] d.body h.body (at_most_one h.emit) h.statements _
-    (record { statements = []; emit = None }) h.emit (nothing_around (state_names_of d)) refl)
+    then_next _ (states_complete d.states [] h.states (omega (arith, h.few_states)))
+    ∙ then_next _ (args_complete (state_names_of d) d.args [] (subst N (sym (append-nil (state_names_of d))) h.args)
+    (omega (arith, h.few_args))) ∙ then_next _ (block_complete h.statements (record { statements = []; emit = None }) nothing_around refl)
     ∙ ap (λ (g : TypedFold). let r : Checked TypedFold = Ok g in r) (sym h.is)

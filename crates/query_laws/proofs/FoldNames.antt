@@ -26,7 +26,7 @@ use Rattle.query_laws.proofs.Steps.{must_ok, must_not_ok, must_holds, must_not_h
 
 pub new_among : (id : ℕ) (names : List ℕ) → IsNew id names → is_among id names ≡ false
 new_among id [] h = refl
-new_among id (name ∷ rest) h = ap (λ (b : Bool). b || is_among id rest) (nat_is_not name id h.0) ∙ new_among id rest h.1
+new_among id (name ∷ rest) h = ap (λ (b : Bool). b || is_among id rest) (nat_is_not h.0) ∙ new_among id rest h.1
 
 pub among_new : (id : ℕ) (names : List ℕ) → is_among id names ≡ false → IsNew id names
 among_new id [] e = tt
@@ -35,7 +35,7 @@ among_new id (name ∷ rest) e = go (nat_eq name id) refl (λ k. among_new id re
     go : (b : Bool) → nat_eq name id ≡ b → (is_among id rest ≡ false → IsNew id rest) → (b || is_among id rest) ≡ false
         → IsNew id (name ∷ rest)
     go true is more e = cc e
-    go false is more e = (nat_other name id is, more e)
+    go false is more e = (nat_other is, more e)
 
 pub among_append : (id : ℕ) (xs ys : List ℕ) → is_among id (xs ++ ys) ≡ (is_among id xs || is_among id ys)
 among_append id [] ys = refl
@@ -45,53 +45,50 @@ among_append id (x ∷ xs) ys = ap (λ (b : Bool). nat_eq x id || b) (among_appe
     go true = refl
     go false = refl
 
-pub below : (k n : ℕ) → k < n → nat_lt k n ≡ true
-below k n h = grind arith
+pub below : {k n : ℕ} → k < n → nat_lt k n ≡ true
+below h = grind arith
 
 abbrev ids : List StateVar → List ℕ
 ids ss = map (λ s. s.name.id) ss
 
-pub states_sound : (ss : List StateVar) (found all : List ℕ) → length found ≤ MAX_STATES → states_from found ss ≡ Ok all
-    → (all ≡ found ++ ids ss)
-    × AreNew found (ids ss) × (length found + length ss ≤ MAX_STATES)
-states_sound [] found all h e = (sym (same_ok _ all e) ∙ sym (append-nil found), tt, omega (arith, h))
-states_sound (s ∷ ss) found all h e =
-    let one = must_not_ok _ _ _ _ all e in
-    let two = must_ok _ _ _ _ all one.1 in
+pub states_sound : (ss : List StateVar) (found : List ℕ) {all : List ℕ} → length found ≤ MAX_STATES → states_from found ss ≡ Ok all
+    → (all ≡ found ++ ids ss) × AreNew found (ids ss) × (length found + length ss ≤ MAX_STATES)
+states_sound [] found {all} h e = (sym (same_ok _ all e) ∙ sym (append-nil found), tt, omega (arith, h))
+states_sound (s ∷ ss) found h e =
+    let one = must_not_ok _ _ _ e in
+    let two = must_ok _ _ _ one.1 in
     let few = ltb-true (length found) MAX_STATES two.0 in
     let long = length-append found (s.name.id ∷ []) in
-    let more = states_sound ss (found ++ s.name.id ∷ []) all (omega (arith, long, few)) two.1 in
+    let more = states_sound ss (found ++ s.name.id ∷ []) (omega (arith, long, few)) two.1 in
     (more.0 ∙ append_assoc found (s.name.id ∷ []) (ids ss), (among_new s.name.id found one.0, more.1), omega (arith, long, more.2))
 
 pub states_complete : (ss : List StateVar) (found : List ℕ) → AreNew found (ids ss) → length found + length ss ≤ MAX_STATES
     → states_from found ss ≡ Ok (found ++ ids ss)
 states_complete [] found h few = ap (λ (z : List ℕ). let r : Checked (List ℕ) = Ok z in r) (sym (append-nil found))
 states_complete (s ∷ ss) found h few =
-    must_not_holds _ _ _ _ (new_among s.name.id found h.0) ∙ must_holds _ _ _ _ (below (length found) MAX_STATES (omega (arith, few)))
+    must_not_holds _ _ (new_among s.name.id found h.0) ∙ must_holds _ _ (below {k = length found} {n = MAX_STATES} (omega (arith, few)))
     ∙ states_complete ss (found ++ s.name.id ∷ []) h.1 (omega (arith, few, length-append found (s.name.id ∷ [])))
     ∙ ap (λ (z : List ℕ). let r : Checked (List ℕ) = Ok z in r) (append_assoc found (s.name.id ∷ []) (ids ss))
 
 abbrev arg_ids : List Name → List ℕ
 arg_ids more = map (λ a. a.id) more
 
-pub args_sound : (states : List ℕ) (more : List Name) (found all : List ℕ) → length found ≤ MAX_ARGS → args_from states found more ≡ Ok all
+pub args_sound : (states : List ℕ) (more : List Name) (found : List ℕ) {all : List ℕ} → length found ≤ MAX_ARGS → args_from states found more ≡ Ok all
     → (all ≡ found ++ arg_ids more) × AreNew (states ++ found) (arg_ids more) × (length found + length more ≤ MAX_ARGS)
-args_sound states [] found all h e = (sym (same_ok _ all e) ∙ sym (append-nil found), tt, omega (arith, h))
-args_sound states (a ∷ more) found all h e =
-    let one = must_not_ok _ _ _ _ all e in
-    let two = must_ok _ _ _ _ all one.1 in
+args_sound states [] found {all} h e = (sym (same_ok _ all e) ∙ sym (append-nil found), tt, omega (arith, h))
+args_sound states (a ∷ more) found h e =
+    let one = must_not_ok _ _ _ e in
+    let two = must_ok _ _ _ one.1 in
     let few = ltb-true (length found) MAX_ARGS two.0 in
     let long = length-append found (a.id ∷ []) in
-    let found_rest = args_sound states more (found ++ a.id ∷ []) all (omega (arith, long, few)) two.1 in
+    let found_rest = args_sound states more (found ++ a.id ∷ []) (omega (arith, long, few)) two.1 in
     let N : List ℕ → Type 0 = λ z. AreNew z (arg_ids more) in (
       found_rest.0 ∙ append_assoc found (a.id ∷ []) (arg_ids more),
       (
-        among_new a.id (states ++ found)
-            (among_append a.id states found ∙ one.0),
+        among_new a.id (states ++ found) (among_append a.id states found ∙ one.0),
         subst N (sym (append_assoc states found (a.id ∷ []))) found_rest.1,
       ),
-      omega
-          (arith, long, found_rest.2),
+      omega (arith, long, found_rest.2),
     )
 
 pub args_complete : (states : List ℕ) (more : List Name) (found : List ℕ) → AreNew (states ++ found) (arg_ids more) → length found
@@ -99,29 +96,29 @@ pub args_complete : (states : List ℕ) (more : List Name) (found : List ℕ) �
 args_complete states [] found h few = ap (λ (z : List ℕ). let r : Checked (List ℕ) = Ok z in r) (sym (append-nil found))
 args_complete states (a ∷ more) found h few =
     let N : List ℕ → Type 0 = λ z. AreNew z (arg_ids more) in
-    must_not_holds _ _ _ _ (sym (among_append a.id states found) ∙ new_among a.id (states ++ found) h.0)
-    ∙ must_holds _ _ _ _ (below (length found) MAX_ARGS (omega (arith, few)))
+    must_not_holds _ _ (sym (among_append a.id states found) ∙ new_among a.id (states ++ found) h.0)
+    ∙ must_holds _ _ (below {k = length found} {n = MAX_ARGS} (omega (arith, few)))
     ∙ args_complete states more (found ++ a.id ∷ []) (subst N (append_assoc states found (a.id ∷ [])) h.1)
     (omega (arith, few, length-append found (a.id ∷ [])))
     ∙ ap (λ (z : List ℕ). let r : Checked (List ℕ) = Ok z in r) (append_assoc found (a.id ∷ []) (arg_ids more))
 
 -- ---- expressions on the arguments alone
 
-pub neither : (a b : Option Span) → or_else a b ≡ None → (a ≡ None) × (b ≡ None)
-neither None b e = (refl, e)
-neither (Some span) b e = cc e
+pub neither : (a : Option Span) {b : Option Span} → or_else a b ≡ None → (a ≡ None) × (b ≡ None)
+neither None e = (refl, e)
+neither (Some span) e = cc e
 
-pub both_none : (a b : Option Span) → a ≡ None → b ≡ None → or_else a b ≡ None
-both_none a b p q = ap (λ (o : Option Span). or_else o b) p ∙ q
+pub both_none : {a b : Option Span} → a ≡ None → b ≡ None → or_else a b ≡ None
+both_none {b} p q = ap (λ (o : Option Span). or_else o b) p ∙ q
 
 stands_past : (states args : List ℕ) (slot id : ℕ) → StandsAt (states ++ args) slot id → (is_among id states ≡ false → length states ≤ slot)
     × (length states ≤ slot → is_among id states ≡ false)
 stands_past [] args slot id e = (λ h. omega arith, λ h. refl)
 stands_past (s ∷ states) args zero id e =
-    let is : is_among id (s ∷ states) ≡ true = ap (λ (b : Bool). b || is_among id states) (nat_is s id e) in
+    let is : is_among id (s ∷ states) ≡ true = ap (λ (b : Bool). b || is_among id states) (nat_is e) in
     (λ h. cc (is, h), λ h. absurd (omega (arith, h)))
 stands_past (s ∷ states) args (suc slot) id e =
-    let is : is_among id (s ∷ states) ≡ is_among id states = ap (λ (b : Bool). b || is_among id states) (nat_is_not s id e.0) in
+    let is : is_among id (s ∷ states) ≡ is_among id states = ap (λ (b : Bool). b || is_among id states) (nat_is_not e.0) in
     let m = stands_past states args slot id e.1 in
     (λ h. let k = m.0 (sym is ∙ h) in omega (arith, k), λ h. is ∙ m.1 (omega (arith, h)))
 
@@ -150,51 +147,49 @@ pub record Reads (states : List ℕ) (e : Expr) (t : TypedExpr) : Type 0 where
   pub past : state_in states e ≡ None → ReadsArguments (length states) (term_of t)
   pub none : ReadsArguments (length states) (term_of t) → state_in states e ≡ None
 
-turned : (n : ℕ) (s t : Term) → s ≡ t → ReadsArguments n s → ReadsArguments n t
-turned n s t e h = let V : Term → Type 0 = λ z. ReadsArguments n z in subst V e h
+turned : (n : ℕ) {s t : Term} → s ≡ t → ReadsArguments n s → ReadsArguments n t
+turned n e h = let V : Term → Type 0 = λ z. ReadsArguments n z in subst V e h
 
 pub no_span : (b : Bool) (span : Span) → cond b (Some span) None ≡ None → b ≡ false
 no_span true span e = cc e
 no_span false span e = refl
 
-pub reads : (states args : List ℕ) (k : Kind) (e : Expr) (t : TypedExpr) → HasKind (states ++ args) k e t → Reads states e t
-reads states args _ _ _ (of_number n span) = record {
-  past = λ h. turned _ _ _ (sym (term_number n)) tt;
-  none =
-      λ h. in_number states n span;
+pub reads : {states : List ℕ} (args : List ℕ) {k : Kind} {e : Expr} {t : TypedExpr} → HasKind (states ++ args) k e t → Reads states e t
+reads {states} args (of_number {n} span) = record {
+  past = λ h. turned _ (sym (term_number n)) tt;
+  none = λ h. in_number states n span;
 }
-reads states args _ _ _ (of_name x slot stands) =
+reads {states} args (of_name x {slot} stands) =
     let m = stands_past states args slot x.id stands in
     record {
-      past = λ h. turned _ _ _ (sym (term_slot slot)) (m.0 (no_span (is_among x.id states) x.span (sym (in_named states x) ∙ h)));
-      none = λ h. in_named states x ∙ ap (λ (b : Bool). cond b (Some x.span) None) (m.1 (turned _ _ _ (term_slot slot) h));
+      past = λ h. turned _ (sym (term_slot slot)) (m.0 (no_span (is_among x.id states) x.span (sym (in_named states x) ∙ h)));
+      none = λ h. in_named states x ∙ ap (λ (b : Bool). cond b (Some x.span) None) (m.1 (turned _ (term_slot slot) h));
     }
-reads states args _ _ _ (of_not span e t h) =
-    let m = reads states args _ _ _ h in
+reads {states} args (of_not span {e} {t} h) =
+    let m = reads args h in
     record {
-      past = λ k. turned _ _ _ (sym (term_not t)) (m.past (sym (in_not states span e) ∙ k));
-      none = λ k. in_not states span e
-          ∙ m.none (turned _ _ _ (term_not t) k);
+      past = λ k. turned _ (sym (term_not t)) (m.past (sym (in_not states span e) ∙ k));
+      none = λ k. in_not states span e ∙ m.none (turned _ (term_not t) k);
     }
-reads states args _ _ _ (of_binary op span a b s t h i c) =
-    let m = reads states args _ _ _ h in
-    let n = reads states args _ _ _ i in
-    record {
-      past = λ k.
-          let p = neither _ _ (sym (in_binary states op span a b) ∙ k) in
-          turned _ _ _ (sym (term_binary op s t)) (m.past p.0, n.past p.1);
-      none = λ k.
-          let p = turned _ _ _ (term_binary op s t) k in
-          in_binary states op span a b ∙ both_none _ _ (m.none p.0) (n.none p.1);
-    }
-reads states args _ _ _ (of_call op span a b s t h i c) =
-    let m = reads states args _ _ _ h in
-    let n = reads states args _ _ _ i in
+reads {states} args (of_binary {op} span {a} {b} {s} {t} h i c) =
+    let m = reads args h in
+    let n = reads args i in
     record {
       past = λ k.
-          let p = neither _ _ (sym (in_call states op span a b) ∙ k) in
-          turned _ _ _ (sym (term_binary op s t)) (m.past p.0, n.past (neither _ _ p.1).0);
+          let p = neither _ (sym (in_binary states op span a b) ∙ k) in
+          turned _ (sym (term_binary op s t)) (m.past p.0, n.past p.1);
       none = λ k.
-          let p = turned _ _ _ (term_binary op s t) k in
-          in_call states op span a b ∙ both_none _ _ (m.none p.0) (both_none _ _ (n.none p.1) refl);
+          let p = turned _ (term_binary op s t) k in
+          in_binary states op span a b ∙ both_none (m.none p.0) (n.none p.1);
+    }
+reads {states} args (of_call {op} span {a} {b} {s} {t} h i c) =
+    let m = reads args h in
+    let n = reads args i in
+    record {
+      past = λ k.
+          let p = neither _ (sym (in_call states op span a b) ∙ k) in
+          turned _ (sym (term_binary op s t)) (m.past p.0, n.past (neither _ p.1).0);
+      none = λ k.
+          let p = turned _ (term_binary op s t) k in
+          in_call states op span a b ∙ both_none (m.none p.0) (both_none (n.none p.1) refl);
     }

@@ -18,8 +18,8 @@ use Rattle.query_laws.specs.ItemExamples.{names, one_of_each, IsTaken, columns_o
 abbrev before : List Known
 before = known_in names one_of_each
 
-taken : (id : ℕ) → (IsFree before id → ⊥) → IsTaken id
-taken id among = record {
+taken : {id : ℕ} → (IsFree before id → ⊥) → IsTaken id
+taken {id} among = record {
   by_no_fold = λ d is one h. among (named d.name is h.free);
   by_no_stream = λ d is one h. among (named d.name is h.binding.free);
   by_no_final = λ d is one h. among (named d.name is h.binding.free);
@@ -30,28 +30,26 @@ taken id among = record {
 
 pub item_examples : ItemExamples
 item_examples = record {
-  packets_name = taken 0 (λ free. free.0 refl);
-  folds_name = taken 10 (λ free. free.1.0 refl);
-  streams_name = taken 11 (λ free. free.1.1.0 refl);
-  finals_name = taken 12 (λ free. free.1.1.1.0 refl);
+  packets_name = taken (λ free. free.0 refl);
+  folds_name = taken (λ free. free.1.0 refl);
+  streams_name = taken (λ free. free.1.1.0 refl);
+  finals_name = taken (λ free. free.1.1.1.0 refl);
   second_table = record {
     table = record { place = place.Final 0; columns = 1 ∷ 3 ∷ []; keys = 1 };
-    stands = table_sound before (called 12) (record { place = place.Final 0; columns = 1 ∷ 3 ∷ []; keys = 1 }) refl;
+    stands = table_sound before (called 12) refl;
     once = among_new 12 (11 ∷ []) refl;
     is = refl;
   };
   printed_twice = λ one h. h.once.0 refl;
-  printed_fold = λ one h. no_fault h.table (record { kind = WrongKind; span = here })
-      (sym (table_complete before (called 10) h.table h.stands));
+  printed_fold = λ one h. no_fault (sym (table_complete before (called 10) h.stands));
   binding_32 = record {
     made = _;
     binding = record { free = free_sound (known_in names (filters 31)) 50 refl; few = omega arith };
     typed = record {
       source = record { number = 0; columns = columns_of_packets; hidden = []; table = None };
       condition = typed.Binary Lt (typed.Number 0) (typed.Number 1);
-      stream = stream_sound (known_in names (filters 31)) (called 0) (record
-          { number = 0; columns = columns_of_packets; hidden = []; table = None }) refl;
-      typed = of_binary Lt here (Number 0 here) (Number 1 here) (typed.Number 0) (typed.Number 1) (of_number 0 here) (of_number 1 here) tt;
+      stream = stream_sound (known_in names (filters 31)) (called 0) refl;
+      typed = of_binary here (of_number here) (of_number here) tt;
       is = refl;
     };
     is = refl;

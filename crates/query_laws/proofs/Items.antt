@@ -34,16 +34,13 @@ initial_word None h = omega arith
 initial_word (Some n) h = h
 
 variable_holds : Holds StateVariable state_word
-variable_holds = meaning_holds state_word
-    (second_holds _ (once_holds first_is_word (after_holds first_is_word (sign marks.Assign) number_holds))) (λ a h. initial_word a.1 h)
+variable_holds = meaning_holds (second_holds _ (once_holds (after_holds (sign marks.Assign) number_holds))) (λ a h. initial_word a.1 h)
 
 parameters_hold : Holds Parameters (λ v. All state_word v.0)
-parameters_hold = parens_hold (λ v. All state_word v.0)
-    (first_holds _ (brackets_hold (All state_word) (listed_holds state_word variable_holds)))
+parameters_hold = parens_hold (first_holds _ (brackets_hold (listed_holds variable_holds)))
 
 filter_holds : {E : Language Expr} → Holds E is_word_expr → Holds (Filter E) (λ v. is_word_expr v.1)
-filter_holds p = after_holds (λ v. is_word_expr v.1) (keyword words.Filter)
-    (parens_hold (λ v. is_word_expr v.1) (second_holds _ (after_holds is_word_expr (sign marks.Comma) p)))
+filter_holds p = after_holds (keyword words.Filter) (parens_hold (second_holds _ (after_holds (sign marks.Comma) p)))
 
 abbrev column_word : Column → Type 0
 column_word c = is_word_expr c.value
@@ -52,33 +49,29 @@ abbrev columns_word : List Column → Type 0
 columns_word cs = IsWord (columns_number cs)
 
 column_holds : {E : Language Expr} → Holds E is_word_expr → Holds (ColumnOf E) column_word
-column_holds p = meaning_holds column_word (second_holds _ (after_holds is_word_expr (sign marks.Assign) p)) (λ a h. h)
+column_holds p = meaning_holds (second_holds _ (after_holds (sign marks.Assign) p)) (λ a h. h)
 
 all_columns : {L : Language (List Column)} → Holds L (All column_word) → Holds L columns_word
 all_columns p = record { is = λ w v h b. greatest_word (λ (c : Column). greatest_number c.value) v (p.is w v h b) }
 
 mapping_holds : {E : Language Expr} → Holds E is_word_expr → Holds (Mapping E) (λ v. columns_word v.1)
-mapping_holds p = after_holds (λ v. columns_word v.1) (keyword words.Map) (parens_hold (λ v. columns_word v.1)
-    (second_holds _ (after_holds columns_word (sign marks.Comma)
-    (brackets_hold columns_word (all_columns (separated_holds column_word (column_holds p)))))))
+mapping_holds p = after_holds (keyword words.Map) (parens_hold (second_holds _ (after_holds (sign marks.Comma)
+    (brackets_hold (all_columns (separated_holds (column_holds p)))))))
 
 abbrev stream_word : StreamOp → Type 0
 stream_word op = IsWord (stream_number op)
 
 streaming_holds : {E : Language Expr} → Holds E is_word_expr → Holds (Streaming E E) stream_word
-streaming_holds p = either_holds (meaning_holds stream_word (filter_holds p) (λ a h. h))
-    (either_holds (meaning_holds stream_word (mapping_holds p) (λ a h. h))
-    (either_holds (meaning_holds stream_word any_holds (λ a h. omega arith)) (meaning_holds stream_word any_holds (λ a h. omega arith))))
+streaming_holds p = either_holds (meaning_holds (filter_holds p) (λ a h. h)) (either_holds (meaning_holds (mapping_holds p) (λ a h. h))
+    (either_holds (meaning_holds any_holds (λ a h. omega arith)) (meaning_holds any_holds (λ a h. omega arith))))
 
 abbrev final_word : FinalOp → Type 0
 final_word op = IsWord (final_number op)
 
 finishing_holds : {E : Language Expr} → Holds E is_word_expr → Holds (Finishing E E) final_word
-finishing_holds p = either_holds (meaning_holds final_word (filter_holds p) (λ a h. h))
-    (either_holds (meaning_holds final_word (mapping_holds p) (λ a h. h))
-    (either_holds (meaning_holds final_word any_holds (λ a h. omega arith))
-    (either_holds (meaning_holds final_word any_holds (λ a h. omega arith))
-    (meaning_holds final_word any_holds (λ a h. omega arith)))))
+finishing_holds p = either_holds (meaning_holds (filter_holds p) (λ a h. h)) (either_holds (meaning_holds (mapping_holds p) (λ a h. h))
+    (either_holds (meaning_holds any_holds (λ a h. omega arith)) (either_holds (meaning_holds any_holds (λ a h. omega arith))
+    (meaning_holds any_holds (λ a h. omega arith)))))
 
 -- ---- items
 
@@ -86,20 +79,19 @@ abbrev item_word : Item → Type 0
 item_word i = IsWord (item_number i) × StartsAsWords i
 
 fold_holds : (d : ℕ) → Holds (Fold d) item_word
-fold_holds d = meaning_holds item_word (second_holds _ (second_holds _ (then_holds parameters_hold (block_holds (stmt_holds d)))))
+fold_holds d = meaning_holds (second_holds _ (second_holds _ (then_holds parameters_hold (block_holds (stmt_holds d)))))
     (λ a h. (greatest_word greatest_in a.1.1.1 h.1, h.0))
 
 stream_holds : {E : Language Expr} → Holds E is_word_expr → Holds (Stream E E) item_word
-stream_holds p = meaning_holds item_word
-    (second_holds _ (between_holds stream_word (sign marks.Assign) (sign marks.Semicolon) (streaming_holds p))) (λ a h. (h, tt))
+stream_holds p = meaning_holds
+    (second_holds _ (between_holds (sign marks.Assign) (sign marks.Semicolon) (streaming_holds p))) (λ a h. (h, tt))
 
 final_holds : {E : Language Expr} → Holds E is_word_expr → Holds (Final E E) item_word
-final_holds p = meaning_holds item_word
-    (second_holds _ (second_holds _ (between_holds final_word (sign marks.Assign) (sign marks.Semicolon) (finishing_holds p))))
-    (λ a h. (h, tt))
+final_holds p = meaning_holds
+    (second_holds _ (second_holds _ (between_holds (sign marks.Assign) (sign marks.Semicolon) (finishing_holds p)))) (λ a h. (h, tt))
 
 print_holds : Holds Print item_word
-print_holds = meaning_holds item_word any_holds (λ a h. (omega arith, tt))
+print_holds = meaning_holds any_holds (λ a h. (omega arith, tt))
 
 item_holds : (d : ℕ) → Holds (ItemOf d) item_word
 item_holds d = either_holds (fold_holds d)
@@ -110,12 +102,11 @@ item_number_word i = IsWord (item_number i)
 
 pub numbers : NumbersAreWords
 numbers text q h =
-    let tokens : AreWordTokens h.tokens = cut_words (length text) 0 [] text (h.tokens, q.names) h.cut in
+    let tokens : AreWordTokens h.tokens = cut_words (length text) 0 [] text h.cut in
     let leaves : HaveWords h.accepted.leaves = leaves_have h.accepted.leaves (subst AreWordTokens (sym h.accepted.tokens) tokens) in
     let means = h.accepted.means in
     let split = both_have means.0 means.1 (subst HaveWords means.2 leaves) in
-    let all : All item_word q.items =
-    repeats (ItemOf h.accepted.depth) item_word (item_holds h.accepted.depth) means.0 q.items means.3 split.0 in (
+    let all : All item_word q.items = repeats (item_holds h.accepted.depth) means.0 q.items means.3 split.0 in (
       greatest_word item_number q.items (All-weaker item_word item_number_word (λ i w. w.0) q.items all),
       All-weaker item_word StartsAsWords (λ i w. w.1) q.items all,
     )

@@ -35,9 +35,9 @@ abbrev pub EachIs : (Expr → Type 0) → List Expr → Type 0
 EachIs P [] = Unit {0}
 EachIs P (e ∷ es) = P e × EachIs P es
 
-pub one_is : (P : Expr → Type 0) (a : Expr) (es : List Expr) → IsOneOf a es → EachIs P es → P a
-one_is P a _ (parts.first others) h = h.0
-one_is P a _ (parts.later other others i) h = one_is P a others i h.1
+pub one_is : (P : Expr → Type 0) {a : Expr} {es : List Expr} → IsOneOf a es → EachIs P es → P a
+one_is P parts.first h = h.0
+one_is P (parts.later other others i) h = one_is P i h.1
 
 abbrev HasForm : List ℕ → Kind → Expr → Type 0
 HasForm columns k e = (t : TypedExpr) × HasKind columns k e t
@@ -48,28 +48,27 @@ record Both (columns : List ℕ) (op : Op) (a b : Expr) : Type 0 where
   pub second : HasForm columns (operand_kind op) b
   pub constant : IsRightOperand op b
 
-both_of : (columns : List ℕ) (op : Op) (a b : Expr) (x y found : Found) → Operands columns op a b x y found → Both columns op a b
-both_of columns op a b x y found h = record { first = (x.tree, h.first); second = (y.tree, h.second); constant = h.constant }
+both_of : {columns : List ℕ} {op : Op} {a b : Expr} {x y found : Found} → Operands columns op a b x y found → Both columns op a b
+both_of {x} {y} h = record { first = (x.tree, h.first); second = (y.tree, h.second); constant = h.constant }
 
-of_not : (columns : List ℕ) (k : Kind) (span : Span) (e : Expr) (t : TypedExpr) → HasKind columns k (whole.Not span e) t
+of_not : {columns : List ℕ} {k : Kind} {span : Span} {e : Expr} {t : TypedExpr} → HasKind columns k (whole.Not span e) t
     → HasForm columns Condition e
-of_not columns k span e t h =
-    let g = complete columns [] k (whole.Not span e) t h in
+of_not {columns} {span} {e} h =
+    let g = complete [] h in
     let first = found_first (expr_checked columns [] e) (negation_checked span) g.found (sym (not_is columns [] span e) ∙ g.is) in
-    let one = must_ok (is_condition_sort first.0.sort) WrongKind first.0.at _ g.found first.2 in
+    let one = must_ok (is_condition_sort first.0.sort) WrongKind first.0.at first.2 in
     let K : Kind → Type 0 = λ z. HasKind columns z e first.0.tree in
-    (first.0.tree, subst K (condition_kind first.0.sort one.0) (expr_sound columns [] e first.0 first.1).rule)
+    (first.0.tree, subst K (condition_kind first.0.sort one.0) (expr_sound [] e first.0 first.1).rule)
 
-of_binary : (columns : List ℕ) (k : Kind) (op : Op) (span : Span) (a b : Expr) (t : TypedExpr)
+of_binary : {columns : List ℕ} {k : Kind} {op : Op} {span : Span} {a b : Expr} {t : TypedExpr}
     → HasKind columns k (whole.Binary op span a b) t → Both columns op a b
-of_binary columns k op span a b t h =
-    let g = complete columns [] k (whole.Binary op span a b) t h in
+of_binary {columns} {op} {span} {a} {b} h =
+    let g = complete [] h in
     let first = found_first (expr_checked columns [] a) (λ x. and_then (expr_checked columns [] b) (λ y. of_two op x.at x y)) g.found
     (sym (binary_is columns [] op span a b) ∙ g.is) in
     let second = found_first (expr_checked columns [] b) (λ y. of_two op first.0.at first.0 y) g.found first.2 in
-    both_of columns op a b first.0 second.0 g.found (
-    two columns op first.0.at a b first.0 second.0 g.found (expr_sound columns [] a first.0 first.1)
-    (expr_sound columns [] b second.0 second.1) second.2)
+    both_of (
+    two first.0.at (expr_sound [] a first.0 first.1) (expr_sound [] b second.0 second.1) second.2)
 
 -- the arguments of a function
 record Pair (columns : List ℕ) (op : Op) (es : List Expr) : Type 0 where
@@ -78,72 +77,68 @@ record Pair (columns : List ℕ) (op : Op) (es : List Expr) : Type 0 where
   pub are : es ≡ a ∷ b ∷ []
   pub both : Both columns op a b
 
-pair_of : (columns : List ℕ) (op : Op) (span : Span) (es : List Expr) (fs : List Found) (found : Found) → Each columns [] es fs
+pair_of : {columns : List ℕ} {op : Op} (span : Span) (es : List Expr) (fs : List Found) {found : Found} → Each columns [] es fs
     → call_of op span fs ≡ Ok found → Pair columns op es
-pair_of columns op span [] [] found all e = cc e
-pair_of columns op span [] (f ∷ fs) found all e = absurd all
-pair_of columns op span (a ∷ es) [] found all e = absurd all
-pair_of columns op span (a ∷ []) (f ∷ []) found all e = cc e
-pair_of columns op span (a ∷ []) (f ∷ g ∷ fs) found all e = absurd all.1
-pair_of columns op span (a ∷ b ∷ es) (f ∷ []) found all e = absurd all.1
-pair_of columns op span (a ∷ b ∷ []) (f ∷ g ∷ []) found all e = record {
+pair_of span [] [] all e = cc e
+pair_of span [] (f ∷ fs) all e = absurd all
+pair_of span (a ∷ es) [] all e = absurd all
+pair_of span (a ∷ []) (f ∷ []) all e = cc e
+pair_of span (a ∷ []) (f ∷ g ∷ fs) all e = absurd all.1
+pair_of span (a ∷ b ∷ es) (f ∷ []) all e = absurd all.1
+pair_of span (a ∷ b ∷ []) (f ∷ g ∷ []) all e = record {
   a = a;
   b = b;
   are = refl;
-  both = both_of columns op a b f g found (two columns op span a b f g found (expr_sound columns [] a f all.0)
-      (expr_sound columns [] b g all.1.0) e);
+  both = both_of (two span (expr_sound [] a f all.0) (expr_sound [] b g all.1.0) e);
 }
-pair_of columns op span (a ∷ b ∷ []) (f ∷ g ∷ h ∷ fs) found all e = absurd all.1.1
-pair_of columns op span (a ∷ b ∷ c ∷ es) (f ∷ g ∷ []) found all e = absurd all.1.1
-pair_of columns op span (a ∷ b ∷ c ∷ es) (f ∷ g ∷ h ∷ fs) found all e = cc e
+pair_of span (a ∷ b ∷ []) (f ∷ g ∷ h ∷ fs) all e = absurd all.1.1
+pair_of span (a ∷ b ∷ c ∷ es) (f ∷ g ∷ []) all e = absurd all.1.1
+pair_of span (a ∷ b ∷ c ∷ es) (f ∷ g ∷ h ∷ fs) all e = cc e
 
-of_function : (columns : List ℕ) (k : Kind) (op : Op) (span : Span) (es : List Expr) (t : TypedExpr)
+of_function : {columns : List ℕ} {k : Kind} {op : Op} {span : Span} {es : List Expr} {t : TypedExpr}
     → HasKind columns k (whole.Call op span es) t → Pair columns op es
-of_function columns k op span es t h =
-    let g = complete columns [] k (whole.Call op span es) t h in
+of_function {columns} {op} {span} {es} h =
+    let g = complete [] h in
     let first = found_first (collected [] (map (expr_checked columns []) es)) (call_of op span) g.found
     (sym (call_is columns [] op span es) ∙ g.is) in
-    let all = collected_each columns [] es [] first.0 first.1 in
-    pair_of columns op span es all.0 g.found all.2 (ap (call_of op span) (sym all.1) ∙ first.2)
+    let all = collected_each columns [] es [] first.1 in
+    pair_of span es all.0 all.2 (ap (call_of op span) (sym all.1) ∙ first.2)
 
-same_second : (a b x y : Expr) → (a ∷ b ∷ []) ≡ (x ∷ y ∷ []) → y ≡ b
-same_second a b x y e = sym (cc e)
+same_second : {a b x y : Expr} → (a ∷ b ∷ []) ≡ (x ∷ y ∷ []) → y ≡ b
+same_second e = sym (cc e)
 
 -- each part of a typed expression is typed
-part_typed : (columns : List ℕ) (k : Kind) (e : Expr) (l : Kind) (part : Expr) → HasForm columns k e → HasPart k e l part
+part_typed : {columns : List ℕ} {k : Kind} {e : Expr} {l : Kind} {part : Expr} → HasForm columns k e → HasPart k e l part
     → HasForm columns l part
-part_typed columns _ _ _ _ h (parts.whole k e) = h
-part_typed columns _ _ _ _ h (parts.of_not k span e l part p) = part_typed columns Condition e l part (of_not columns k span e h.0 h.1) p
-part_typed columns _ _ _ _ h (parts.of_left k op span a b l part p) = part_typed columns (operand_kind op) a l part
-    (of_binary columns k op span a b h.0 h.1).first p
-part_typed columns _ _ _ _ h (parts.of_right k op span a b l part p) =
-    part_typed columns (operand_kind op) b l part (of_binary columns k op span a b h.0 h.1).second p
-part_typed columns _ _ _ _ h (parts.of_argument k op span es a l part i p) =
-    let c = of_function columns k op span es h.0 h.1 in
+part_typed h parts.whole = h
+part_typed h (parts.of_not span p) = part_typed (of_not h.1) p
+part_typed h (parts.of_left op span a b p) = part_typed (of_binary h.1).first p
+part_typed h (parts.of_right op span a p) = part_typed (of_binary h.1).second p
+part_typed {columns} h (parts.of_argument op span i p) =
+    let c = of_function h.1 in
     let E : List Expr → Type 0 = λ z. EachIs (HasForm columns (operand_kind op)) z in
-    part_typed columns (operand_kind op) a l part (one_is (HasForm columns (operand_kind op)) a es i
-    (subst E (sym c.are) (c.both.first, (c.both.second, tt)))) p
+    part_typed (one_is (HasForm columns (operand_kind op)) i (subst E (sym c.are) (c.both.first, (c.both.second, tt)))) p
 
-named_stands : (columns : List ℕ) (k : Kind) (x : Name) → HasForm columns k (whole.Named x) → (slot : ℕ) × StandsAt columns slot x.id
-named_stands columns k x h =
-    let g = complete columns [] k (whole.Named x) h.0 h.1 in
+named_stands : {columns : List ℕ} {k : Kind} {x : Name} → HasForm columns k (whole.Named x) → (slot : ℕ) × StandsAt columns slot x.id
+named_stands {columns} {x} h =
+    let g = complete [] h.1 in
     let slot = found_first (slot_of columns [] x) _ g.found (sym (named_is columns [] x) ∙ g.is) in
-    (slot.0, slot_stands columns [] x slot.0 slot.1)
+    (slot.0, slot_stands columns [] x slot.1)
 
-pub expr_meets : (known : List Known) (columns hidden : List ℕ) (k : Kind) (e : Expr) (d : Demand) → HasForm columns k e
+pub expr_meets : (known : List Known) {columns hidden : List ℕ} {k : Kind} {e : Expr} {d : Demand} → HasForm columns k e
     → ExprAsks columns hidden k e d → Holds known d
-expr_meets known columns hidden k e _ h (of_part l part p) = part_typed columns k e l part h p
-expr_meets known columns hidden k e _ h (of_name l x p) = named_stands columns l x (part_typed columns k e l (whole.Named x) h p)
-expr_meets known columns hidden k e _ h (of_call l op span es p) =
-    let c = part_typed columns k e l (whole.Call op span es) h p in
-    ap length (of_function columns l op span es c.0 c.1).are
-expr_meets known columns hidden k e _ h (of_right l op span a b p) =
-    let c = part_typed columns k e l (whole.Binary op span a b) h p in (of_binary columns l op span a b c.0 c.1).constant
-expr_meets known columns hidden k e _ h (of_second l op span a b p) =
-    let c = part_typed columns k e l (whole.Call op span (a ∷ b ∷ [])) h p in
-    let m = of_function columns l op span (a ∷ b ∷ []) c.0 c.1 in
+expr_meets known h (of_part p) = part_typed h p
+expr_meets known h (of_name x p) = named_stands (part_typed h p)
+expr_meets known h (of_call op p) =
+    let c = part_typed h p in
+    ap length (of_function c.1).are
+expr_meets known h (of_right span a p) =
+    let c = part_typed h p in (of_binary c.1).constant
+expr_meets known h (of_second {op} span a p) =
+    let c = part_typed h p in
+    let m = of_function c.1 in
     let R : Expr → Type 0 = λ z. IsRightOperand op z in
-    subst R (same_second a b m.a m.b m.are) m.both.constant
+    subst R (same_second m.are) m.both.constant
 
 -- ---- names that are new
 
@@ -157,42 +152,40 @@ pub ids_split : (front : List Name) (x : Name) (back : List Name) → ids_of (fr
 ids_split [] x back = refl
 ids_split (y ∷ front) x back = ap (λ (z : List ℕ). y.id ∷ z) (ids_split front x back)
 
-pub names_new : (before : List ℕ) (all front : List Name) (x : Name) (back : List Name) → all ≡ front ++ x ∷ back
+pub names_new : (before : List ℕ) {all : List Name} (front : List Name) (x : Name) (back : List Name) → all ≡ front ++ x ∷ back
     → AreNew before (ids_of all) → IsNew x.id (before ++ ids_of front)
-names_new before all front x back split h =
+names_new before front x back split h =
     let N : List ℕ → Type 0 = λ z. AreNew before z in
     new_at before (ids_of front) x.id (ids_of back) (subst N (ap ids_of split ∙ ids_split front x back) h)
 
-pub few_before : {A : Type 0} (all front : List A) (x : A) (back : List A) (n : ℕ) → all ≡ front ++ x ∷ back → length all ≤ n
+pub few_before : {A : Type 0} {all : List A} (front : List A) (x : A) (back : List A) {n : ℕ} → all ≡ front ++ x ∷ back → length all ≤ n
     → length front < n
-few_before all front x back n split few = let long = ap length split ∙ length-append front (x ∷ back) in omega (arith, long, few)
+few_before front x back split few = let long = ap length split ∙ length-append front (x ∷ back) in omega (arith, long, few)
 
 -- ---- new columns
 
 abbrev AtColumn : List ℕ → List ℕ → Column → Type 0
 AtColumn columns taken c = IsNew c.name.id taken × HasForm columns Word c.value
 
-column_at : (columns taken : List ℕ) (front : List Column) (c : Column) (back : List Column) (values : List TypedExpr)
-    → HasTypedColumns columns taken (front ++ c ∷ back) values
-    → AtColumn columns (taken ++ new_names front) c
-column_at columns taken [] c back [] h = absurd h
-column_at columns taken [] c back (v ∷ values) h =
+column_at : {columns : List ℕ} (taken : List ℕ) (front : List Column) (c : Column) (back : List Column) (values : List TypedExpr)
+    → HasTypedColumns columns taken (front ++ c ∷ back) values → AtColumn columns (taken ++ new_names front) c
+column_at taken [] c back [] h = absurd h
+column_at {columns} taken [] c back (v ∷ values) h =
     let A : List ℕ → Type 0 = λ z. AtColumn columns z c in subst A (sym (append-nil taken)) (h.0, (v, h.1))
-column_at columns taken (x ∷ front) c back [] h = absurd h
-column_at columns taken (x ∷ front) c back (v ∷ values) h =
+column_at taken (x ∷ front) c back [] h = absurd h
+column_at {columns} taken (x ∷ front) c back (v ∷ values) h =
     let A : List ℕ → Type 0 = λ z. AtColumn columns z c in
-    subst A (append_assoc taken (x.name.id ∷ []) (new_names front)) (column_at columns (taken ++ x.name.id ∷ []) front c back values h.2)
+    subst A (append_assoc taken (x.name.id ∷ []) (new_names front)) (column_at (taken ++ x.name.id ∷ []) front c back values h.2)
 
-pub columns_meet : (known : List Known) (columns hidden : List ℕ) (new : List Column) (values : List TypedExpr) (d : Demand)
-    → HasTypedColumns columns (columns ++ hidden) new values
-    → ColumnsAsk columns hidden new d → Holds known d
-columns_meet known columns hidden new values _ h (asks.of_name front c back split) =
+pub columns_meet : (known : List Known) {columns hidden : List ℕ} {new : List Column} (values : List TypedExpr) {d : Demand}
+    → HasTypedColumns columns (columns ++ hidden) new values → ColumnsAsk columns hidden new d → Holds known d
+columns_meet known {columns} {hidden} values h (asks.of_name front c back split) =
     let C : List Column → Type 0 = λ z. HasTypedColumns columns (columns ++ hidden) z values in
     let N : List ℕ → Type 0 = λ z. IsNew c.name.id z in
-    subst N (append_assoc columns hidden (new_names front)) (column_at columns (columns ++ hidden) front c back values (subst C split h)).0
-columns_meet known columns hidden new values _ h (of_value front c back d split asked) =
+    subst N (append_assoc columns hidden (new_names front)) (column_at (columns ++ hidden) front c back values (subst C split h)).0
+columns_meet known {columns} {hidden} values h (of_value front c back split asked) =
     let C : List Column → Type 0 = λ z. HasTypedColumns columns (columns ++ hidden) z values in
-    expr_meets known columns hidden Word c.value d (column_at columns (columns ++ hidden) front c back values (subst C split h)).1 asked
+    expr_meets known (column_at (columns ++ hidden) front c back values (subst C split h)).1 asked
 
 -- ---- keys and arguments
 
@@ -203,20 +196,18 @@ slot_at columns [] id back (slot ∷ slots) h = (slot, h.0)
 slot_at columns (x ∷ front) id back [] h = absurd h
 slot_at columns (x ∷ front) id back (slot ∷ slots) h = slot_at columns front id back slots h.1
 
-pub keys_meet : (known : List Known) (columns hidden : List ℕ) (keys : List Name) (slots : List ℕ) (d : Demand)
-    → HasKeys columns (ids_of keys) slots
-    → KeysAsk columns hidden keys d → Holds known d
-keys_meet known columns hidden keys slots _ h (of_key front key back split) =
+pub keys_meet : (known : List Known) {columns hidden : List ℕ} {keys : List Name} {slots : List ℕ} {d : Demand}
+    → HasKeys columns (ids_of keys) slots → KeysAsk columns hidden keys d → Holds known d
+keys_meet known {columns} {slots} h (of_key front key back split) =
     let S : List ℕ → Type 0 = λ z. HasSlots columns z slots in
     slot_at columns (ids_of front) key.id (ids_of back) slots (subst S (ap ids_of split ∙ ids_split front key back) h.places)
-keys_meet known columns hidden keys slots _ h (of_new front key back split) = names_new [] keys front key back split h.distinct
-keys_meet known columns hidden keys slots _ h (of_limit front key back split) =
+keys_meet known h (of_new front key back split) = names_new [] front key back split h.distinct
+keys_meet known {keys} h (of_limit front key back split) =
     let long = length-map keys (λ (n : Name). n.id) in
-    few_before keys front key back MAX_KEYS split (omega (arith, h.few, long))
+    few_before front key back split (omega (arith, h.few, long))
 
-pub arguments_meet : (known : List Known) (columns hidden keys : List ℕ) (f : FoldView) (span : Span) (slots : List ℕ) (d : Demand)
-    → HasArguments columns keys f slots
-    → ArgumentsAsk columns hidden keys f span d → Holds known d
-arguments_meet known columns hidden keys f span slots _ h (of_argument front id back split) =
+pub arguments_meet : (known : List Known) {columns hidden keys : List ℕ} {f : FoldView} {span : Span} {slots : List ℕ} {d : Demand}
+    → HasArguments columns keys f slots → ArgumentsAsk columns hidden keys f span d → Holds known d
+arguments_meet known {columns} {slots} h (of_argument front id back split) =
     let S : List ℕ → Type 0 = λ z. HasSlots columns z slots in slot_at columns front id back slots (subst S split h.places)
-arguments_meet known columns hidden keys f span slots _ h of_states = h.apart
+arguments_meet known h of_states = h.apart

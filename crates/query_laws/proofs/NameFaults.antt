@@ -38,99 +38,89 @@ abbrev StandsTold : List Known → Sought → Name → QueryFault → Type 0
 StandsTold known sought x fault = Tells known fault.kind fault.span (Stands sought x)
 
 unknown_told : (known : List Known) (sought : Sought) (x : Name) (fault : QueryFault) → meaning_of known x.id ≡ None
-    → at_span UnknownName x.span ≡ fault
-    → StandsTold known sought x fault
-unknown_told known sought x fault is e = told known (Stands sought x) UnknownName x.span fault e
-    (refl, free_sound known x.id (ap is_some is))
+    → at_span UnknownName x.span ≡ fault → StandsTold known sought x fault
+unknown_told known sought x fault is e = told known (Stands sought x) e (refl, free_sound known x.id (ap is_some is))
 
-pub not_free : (known : List Known) (id : ℕ) (m : Meaning) → meaning_of known id ≡ Some m → IsFree known id → ⊥
-not_free known id m is free = not_both (is_some (meaning_of known id)) (free_complete known id free) (ap is_some is)
+pub not_free : (known : List Known) (id : ℕ) {m : Meaning} → meaning_of known id ≡ Some m → IsFree known id → ⊥
+not_free known id is free = not_both (is_some (meaning_of known id)) (free_complete known id free) (ap is_some is)
 
 other_told : (known : List Known) (sought : Sought) (x : Name) (fault : QueryFault) (m : Meaning) → meaning_of known x.id ≡ Some m
-    → (IsSought known sought x.id → ⊥)
-    → at_span WrongKind x.span ≡ fault → StandsTold known sought x fault
-other_told known sought x fault m is none e = told known (Stands sought x) WrongKind x.span fault e (refl, not_free known x.id m is, none)
+    → (IsSought known sought x.id → ⊥) → at_span WrongKind x.span ≡ fault → StandsTold known sought x fault
+other_told known sought x fault m is none e = told known (Stands sought x) e (refl, not_free known x.id is, none)
 
-pub one_meaning : (known : List Known) (id : ℕ) (m n : Meaning) → meaning_of known id ≡ Some m → meaning_of known id ≡ Some n → m ≡ n
-one_meaning known id m n p q = let both : (let o : Option Meaning = Some m in o) ≡ Some n = sym p ∙ q in cc both
+pub one_meaning : (known : List Known) (id : ℕ) {m n : Meaning} → meaning_of known id ≡ Some m → meaning_of known id ≡ Some n → m ≡ n
+one_meaning known id {m} {n} p q = let both : (let o : Option Meaning = Some m in o) ≡ Some n = sym p ∙ q in cc both
 
-no_stream : (known : List Known) (id : ℕ) (m : Meaning) → meaning_of known id ≡ Some m → ((s : StreamView) → m ≡ meaning.Stream s → ⊥)
+no_stream : (known : List Known) (id : ℕ) {m : Meaning} → meaning_of known id ≡ Some m → ((s : StreamView) → m ≡ meaning.Stream s → ⊥)
     → IsSought known AStream id → ⊥
-no_stream known id m is none h = none h.0 (one_meaning known id m _ is (meaning_complete known id (meaning.Stream h.0) h.1))
+no_stream known id is none h = none h.0 (one_meaning known id is (meaning_complete known id h.1))
 
-no_fold : (known : List Known) (id : ℕ) (m : Meaning) → meaning_of known id ≡ Some m → ((f : FoldView) → m ≡ meaning.Fold f → ⊥)
+no_fold : (known : List Known) (id : ℕ) {m : Meaning} → meaning_of known id ≡ Some m → ((f : FoldView) → m ≡ meaning.Fold f → ⊥)
     → IsSought known AFold id → ⊥
-no_fold known id m is none h = none h.0 (one_meaning known id m _ is (meaning_complete known id (meaning.Fold h.0) h.1))
+no_fold known id is none h = none h.0 (one_meaning known id is (meaning_complete known id h.1))
 
-pub stream_told : (known : List Known) (x : Name) (fault : QueryFault) → stream_named known x ≡ Err fault → StandsTold known AStream x fault
-stream_told known x fault e = go (meaning_of known x.id) refl e
+pub stream_told : (known : List Known) (x : Name) {fault : QueryFault} → stream_named known x ≡ Err fault → StandsTold known AStream x fault
+stream_told known x {fault} e = go (meaning_of known x.id) refl e
   where
     go : (o : Option Meaning) → meaning_of known x.id ≡ o → as_stream o x.span ≡ Err fault → StandsTold known AStream x fault
-    go None is e = unknown_told known AStream x fault is (same_fault _ fault e)
-    go (Some (meaning.Stream s)) is e = no_fault s fault e
-    go (Some (meaning.Fold f)) is e = other_told known AStream x fault _ is (no_stream known x.id _ is (λ s k. cc k)) (same_fault _ fault e)
-    go (Some (meaning.Final t)) is e = other_told known AStream x fault _ is (no_stream known x.id _ is (λ s k. cc k))
-        (same_fault _ fault e)
+    go None is e = unknown_told known AStream x fault is (same_fault e)
+    go (Some (meaning.Stream s)) is e = no_fault e
+    go (Some (meaning.Fold f)) is e = other_told known AStream x fault _ is (no_stream known x.id is (λ s k. cc k)) (same_fault e)
+    go (Some (meaning.Final t)) is e = other_told known AStream x fault _ is (no_stream known x.id is (λ s k. cc k)) (same_fault e)
 
-pub fold_told : (known : List Known) (x : Name) (fault : QueryFault) → fold_named known x ≡ Err fault → StandsTold known AFold x fault
-fold_told known x fault e = go (meaning_of known x.id) refl e
+pub fold_told : (known : List Known) (x : Name) {fault : QueryFault} → fold_named known x ≡ Err fault → StandsTold known AFold x fault
+fold_told known x {fault} e = go (meaning_of known x.id) refl e
   where
     go : (o : Option Meaning) → meaning_of known x.id ≡ o → as_fold o x.span ≡ Err fault → StandsTold known AFold x fault
-    go None is e = unknown_told known AFold x fault is (same_fault _ fault e)
-    go (Some (meaning.Fold f)) is e = no_fault f fault e
-    go (Some (meaning.Stream s)) is e = other_told known AFold x fault _ is (no_fold known x.id _ is (λ f k. cc k)) (same_fault _ fault e)
-    go (Some (meaning.Final t)) is e = other_told known AFold x fault _ is (no_fold known x.id _ is (λ f k. cc k)) (same_fault _ fault e)
+    go None is e = unknown_told known AFold x fault is (same_fault e)
+    go (Some (meaning.Fold f)) is e = no_fault e
+    go (Some (meaning.Stream s)) is e = other_told known AFold x fault _ is (no_fold known x.id is (λ f k. cc k)) (same_fault e)
+    go (Some (meaning.Final t)) is e = other_told known AFold x fault _ is (no_fold known x.id is (λ f k. cc k)) (same_fault e)
 
 no_table : (known : List Known) (id : ℕ) (m : Meaning) → meaning_of known id ≡ Some m → ((t : TableView) → m ≡ meaning.Final t → ⊥)
     → ((s : StreamView) (t : TableView) → m ≡ meaning.Stream s → s.table ≡ Some t → ⊥) → IsSought known ATable id → ⊥
-no_table known id m is final group (t, inl h) = final t (one_meaning known id m _ is (meaning_complete known id (meaning.Final t) h))
-no_table known id m is final group (t, inr h) = group h.0 t (one_meaning known id m _ is
-    (meaning_complete known id (meaning.Stream h.0) h.1)) h.2
+no_table known id m is final group (t, inl h) = final t (one_meaning known id is (meaning_complete known id h))
+no_table known id m is final group (t, inr h) = group h.0 t (one_meaning known id is (meaning_complete known id h.1)) h.2
 
 same_stream : (s r : StreamView) → meaning.Stream s ≡ meaning.Stream r → s ≡ r
 same_stream s r e = cc e
 
-pub table_told : (known : List Known) (x : Name) (fault : QueryFault) → table_named known x ≡ Err fault → StandsTold known ATable x fault
-table_told known x fault e = go (meaning_of known x.id) refl e
+pub table_told : (known : List Known) (x : Name) {fault : QueryFault} → table_named known x ≡ Err fault → StandsTold known ATable x fault
+table_told known x {fault} e = go (meaning_of known x.id) refl e
   where
     at_stream : (s : StreamView) → meaning_of known x.id ≡ Some (meaning.Stream s) → (o : Option TableView) → s.table ≡ o
-        → table_at o x.span ≡ Err fault
-        → StandsTold known ATable x fault
-    at_stream s is None none e =
-        other_told known ATable x fault _ is (no_table known x.id _ is (λ t k. cc k)
+        → table_at o x.span ≡ Err fault → StandsTold known ATable x fault
+    at_stream s is None none e = other_told known ATable x fault _ is (no_table known x.id _ is (λ t k. cc k)
         (λ r t k there. let both : (let o : Option TableView = None in o) ≡ Some t = sym none
-        ∙ ap (λ (z : StreamView). z.table) (same_stream s r k) ∙ there in cc both))
-        (same_fault _ fault e)
-    at_stream s is (Some t) some e = no_fault t fault e
+        ∙ ap (λ (z : StreamView). z.table) (same_stream s r k) ∙ there in cc both)) (same_fault {g = fault} e)
+    at_stream s is (Some t) some e = no_fault e
 
     go : (o : Option Meaning) → meaning_of known x.id ≡ o → as_table o x.span ≡ Err fault → StandsTold known ATable x fault
-    go None is e = unknown_told known ATable x fault is (same_fault _ fault e)
+    go None is e = unknown_told known ATable x fault is (same_fault {g = fault} e)
     go (Some (meaning.Fold f)) is e =
-        other_told known ATable x fault _ is (no_table known x.id _ is (λ t k. cc k) (λ s t k there. cc k)) (same_fault _ fault e)
+        other_told known ATable x fault _ is (no_table known x.id _ is (λ t k. cc k) (λ s t k there. cc k)) (same_fault {g = fault} e)
     go (Some (meaning.Stream s)) is e = at_stream s is s.table refl e
-    go (Some (meaning.Final t)) is e = no_fault t fault e
+    go (Some (meaning.Final t)) is e = no_fault e
 
-pub quiet_told : (known : List Known) (x : Name) (fault : QueryFault) → quiet_fold known x ≡ Err fault → StandsTold known AQuietFold x fault
-quiet_told known x fault e = go (meaning_of known x.id) refl e
+pub quiet_told : (known : List Known) (x : Name) {fault : QueryFault} → quiet_fold known x ≡ Err fault → StandsTold known AQuietFold x fault
+quiet_told known x {fault} e = go (meaning_of known x.id) refl e
   where
     none : (m : Meaning) → meaning_of known x.id ≡ Some m → ((f : FoldView) → m ≡ meaning.Fold f → ⊥) → IsSought known AQuietFold x.id → ⊥
-    none m is fold h = no_fold known x.id m is fold (h.0, h.1)
+    none m is fold h = no_fold known x.id is fold (h.0, h.1)
 
     loud : (f : FoldView) → meaning_of known x.id ≡ Some (meaning.Fold f) → f.emits ≡ true → IsSought known AQuietFold x.id → ⊥
     loud f is emits h =
-        let same : meaning.Fold f ≡ meaning.Fold h.0 = one_meaning known x.id _ _ is (meaning_complete known x.id (meaning.Fold h.0) h.1) in
+        let same : meaning.Fold f ≡ meaning.Fold h.0 = one_meaning known x.id is (meaning_complete known x.id h.1) in
         let one : f ≡ h.0 = cc same in
         not_both f.emits (ap (λ (z : FoldView). z.emits) one ∙ h.2) emits
 
     go : (o : Option Meaning) → meaning_of known x.id ≡ o → and_then (as_fold o x.span) (λ f. must_not f.emits WrongKind x.span (Ok f))
-        ≡ Err fault
-        → StandsTold known AQuietFold x fault
-    go None is e = unknown_told known AQuietFold x fault is (same_fault _ fault e)
-    go (Some (meaning.Fold f)) is e =
-        by_must_not f.emits WrongKind x.span _ fault e (λ emits same. other_told known AQuietFold x fault _ is (loud f is emits) same)
-        (λ no e. no_fault f fault e)
-    go (Some (meaning.Stream s)) is e = other_told known AQuietFold x fault _ is (none _ is (λ f k. cc k)) (same_fault _ fault e)
-    go (Some (meaning.Final t)) is e = other_told known AQuietFold x fault _ is (none _ is (λ f k. cc k)) (same_fault _ fault e)
+        ≡ Err fault → StandsTold known AQuietFold x fault
+    go None is e = unknown_told known AQuietFold x fault is (same_fault e)
+    go (Some (meaning.Fold f)) is e = by_must_not f.emits e (λ emits same. other_told known AQuietFold x fault _ is (loud f is emits) same)
+        (λ no e. no_fault e)
+    go (Some (meaning.Stream s)) is e = other_told known AQuietFold x fault _ is (none _ is (λ f k. cc k)) (same_fault e)
+    go (Some (meaning.Final t)) is e = other_told known AQuietFold x fault _ is (none _ is (λ f k. cc k)) (same_fault e)
 
 -- ---- new columns
 
@@ -138,37 +128,33 @@ new_names_last : (front : List Column) (column : Column) → new_names (front ++
 new_names_last [] column = refl
 new_names_last (c ∷ front) column = ap (λ (z : List ℕ). c.name.id ∷ z) (new_names_last front column)
 
-pub columns_told : (columns hidden : List ℕ) (all front new : List Column) (made : NewColumns) (known : List Known) (fault : QueryFault)
+pub columns_told : {columns hidden : List ℕ} {all : List Column} (front new : List Column) (made : NewColumns) {known : List Known} {fault : QueryFault}
     → all ≡ front ++ new → made.names ≡ new_names front → new_columns columns hidden made new ≡ Err fault
     → Broken (ColumnsAsk columns hidden all) known fault
-columns_told columns hidden all front [] made known fault split same e = no_fault made fault e
-columns_told columns hidden all front (c ∷ new) made known fault split same e =
-    by_must_not (is_among c.name.id columns || (is_among c.name.id hidden || is_among c.name.id made.names)) NameTaken c.name.span _ fault e
-    (λ among at.
+columns_told front [] made split same e = no_fault e
+columns_told {columns} {hidden} front (c ∷ new) made {known} split same e =
+    by_must_not (is_among c.name.id columns || (is_among c.name.id hidden || is_among c.name.id made.names)) e (λ among at.
     let N : List ℕ → Type 0 = λ z. IsNew c.name.id (columns ++ (hidden ++ z)) in
     record {
       demand = New (columns ++ (hidden ++ new_names front)) c.name.id c.name.span;
       asks = of_name front c new split;
-      tells = told known (New (columns ++ (hidden ++ new_names front)) c.name.id c.name.span) NameTaken c.name.span fault at (
+      tells = told known (New (columns ++ (hidden ++ new_names front)) c.name.id c.name.span) at (
         refl,
         λ fresh. not_new c.name.id (columns ++ (hidden ++ made.names)) (taken_is c.name.id columns hidden made.names ∙ among)
             (subst N (sym same) fresh),
       );
-    }) (λ none e.
-    by_next (word_of columns hidden c.value) _ fault e (λ is.
-    let b = word_told columns hidden c.value fault is in
-    record { demand = b.demand; asks = of_value front c new b.demand split b.asks; tells = b.tells known }) (λ value is e.
-    columns_told columns hidden all (front ++ c ∷ []) new (record {
+    }) (λ none e. by_next (word_of columns hidden c.value) e (λ is.
+    let b = word_told is in
+    record { demand = b.demand; asks = of_value front c new split b.asks; tells = b.tells known }) (λ value is e.
+    columns_told (front ++ c ∷ []) new (record {
       names = made.names ++ c.name.id ∷ [];
-      values = made.values ++ value
-          ∷ [];
-    }) known fault
-    (split ∙ sym (append_assoc front (c ∷ []) new)) (ap (λ (z : List ℕ). z ++ c.name.id ∷ []) same ∙ sym (new_names_last front c)) e))
+      values = made.values ++ value ∷ [];
+    }) (split ∙ sym (append_assoc front (c ∷ []) new)) (ap (λ (z : List ℕ). z ++ c.name.id ∷ []) same ∙ sym (new_names_last front c)) e))
 
 -- ---- keys
 
-pub at_least : (k l n : ℕ) → k ≡ l → nat_lt k n ≡ false → n ≤ l
-at_least k l n same e = grind (arith, same)
+pub at_least : {k l n : ℕ} → k ≡ l → nat_lt k n ≡ false → n ≤ l
+at_least same e = grind (arith, same)
 
 pub ids_last : (front : List Name) (x : Name) → ids_of (front ++ x ∷ []) ≡ ids_of front ++ x.id ∷ []
 ids_last [] x = refl
@@ -178,46 +164,38 @@ pub ids_long : (front : List Name) → length (ids_of front) ≡ length front
 ids_long [] = refl
 ids_long (x ∷ front) = ap suc (ids_long front)
 
-pub keys_told : (columns hidden : List ℕ) (all front keys : List Name) (found : Picked) (known : List Known) (fault : QueryFault)
+pub keys_told : {columns hidden : List ℕ} {all : List Name} (front keys : List Name) (found : Picked) {known : List Known} {fault : QueryFault}
     → all ≡ front ++ keys → found.names ≡ ids_of front → keys_from columns hidden found keys ≡ Err fault
     → Broken (KeysAsk columns hidden all) known fault
-keys_told columns hidden all front [] found known fault split same e = no_fault found fault e
-keys_told columns hidden all front (key ∷ keys) found known fault split same e =
-    by_next (slot_of columns hidden key) _ fault e (λ is. record {
-      demand = AColumn columns hidden key.id key.span;
-      asks = of_key front key keys split;
-      tells = slot_told columns hidden key fault is known;
-    }) (λ slot is e.
-    by_must_not (is_among key.id found.names) NameTaken key.span _ fault e (λ among at.
+keys_told front [] found split same e = no_fault e
+keys_told {columns} {hidden} front (key ∷ keys) found {known} split same e = by_next (slot_of columns hidden key) e (λ is. record {
+  demand = AColumn columns hidden key.id key.span;
+  asks = of_key front key keys split;
+  tells = slot_told columns hidden key is known;
+}) (λ slot is e. by_must_not (is_among key.id found.names) e (λ among at.
     let N : List ℕ → Type 0 = λ z. IsNew key.id z in
     record {
       demand = New (ids_of front) key.id key.span;
       asks = of_new front key keys split;
-      tells = told known (New (ids_of front) key.id key.span) NameTaken key.span fault at
+      tells = told known (New (ids_of front) key.id key.span) at
           (refl, λ fresh. not_new key.id found.names among (subst N (sym same) fresh));
-    }) (λ none e.
-    by_must (nat_lt (length found.names) MAX_KEYS) (OverLimit Keys) key.span _ fault e (λ full at.
+    }) (λ none e. by_must (nat_lt (length found.names) MAX_KEYS) _ e (λ full at.
     let long : length found.names ≡ length front = ap length same ∙ ids_long front in
     record {
       demand = Fewer Keys (length front) key.span;
       asks = of_limit front key keys split;
-      tells = told known (Fewer Keys (length front) key.span) (OverLimit Keys) key.span fault at
-          (refl, refl, at_least (length found.names) (length front) MAX_KEYS long full);
-    }) (λ few e.
-    keys_told columns hidden all (front ++ key ∷ []) keys (record { names = found.names ++ key.id ∷ []; slots = found.slots ++ slot ∷ [] })
-    known fault
+      tells = told known (Fewer Keys (length front) key.span) at (refl, refl, at_least long full);
+    }) (λ few e. keys_told (front ++ key ∷ []) keys (record { names = found.names ++ key.id ∷ []; slots = found.slots ++ slot ∷ [] })
     (split ∙ sym (append_assoc front (key ∷ []) keys)) (ap (λ (z : List ℕ). z ++ key.id ∷ []) same ∙ sym (ids_last front key)) e)))
 
 -- ---- arguments
 
-argument_told : (columns hidden keys : List ℕ) (f : FoldView) (span : Span) (front ids before : List ℕ) (known : List Known)
-    (fault : QueryFault)
-    → f.args ≡ front ++ ids → collected before (map (slot_for columns hidden span) ids) ≡ Err fault
+argument_told : {columns hidden keys : List ℕ} {f : FoldView} {span : Span} (front ids before : List ℕ) {known : List Known}
+    {fault : QueryFault} → f.args ≡ front ++ ids → collected before (map (slot_for columns hidden span) ids) ≡ Err fault
     → Broken (ArgumentsAsk columns hidden keys f span) known fault
-argument_told columns hidden keys f span front [] before known fault split e = no_fault before fault e
-argument_told columns hidden keys f span front (id ∷ ids) before known fault split e =
-    go (slot_for columns hidden span id) refl (λ x k.
-    argument_told columns hidden keys f span (front ++ id ∷ []) ids (before ++ x ∷ []) known fault
+argument_told front [] before split e = no_fault e
+argument_told {columns} {hidden} {keys} {f} {span} front (id ∷ ids) before {known} {fault} split e =
+    go (slot_for columns hidden span id) refl (λ x k. argument_told (front ++ id ∷ []) ids (before ++ x ∷ [])
     (split ∙ sym (append_assoc front (id ∷ []) ids)) k) e
   where
     go : (c : Checked ℕ) → slot_for columns hidden span id ≡ c
@@ -229,18 +207,16 @@ argument_told columns hidden keys f span front (id ∷ ids) before known fault s
     go (Err found) is next e = record {
       demand = AColumn columns hidden id span;
       asks = of_argument front id ids split;
-      tells = slot_told columns hidden (record { id = id; span = span }) fault
-          (is ∙ ap (λ (z : QueryFault). let r : Checked ℕ = Err z in r) (same_fault found fault e)) known;
+      tells = slot_told columns hidden (record { id = id; span = span })
+          (is ∙ ap (λ (z : QueryFault). let r : Checked ℕ = Err z in r) (same_fault e)) known;
     }
 
-pub arguments_told : (columns hidden keys : List ℕ) (f : FoldView) (span : Span) (known : List Known) (fault : QueryFault)
+pub arguments_told : {columns hidden keys : List ℕ} {f : FoldView} {span : Span} {known : List Known} {fault : QueryFault}
     → arguments_of columns hidden keys f span ≡ Err fault → Broken (ArgumentsAsk columns hidden keys f span) known fault
-arguments_told columns hidden keys f span known fault e =
-    by_next (collected [] (map (slot_for columns hidden span) f.args)) _ fault e
-    (λ is. argument_told columns hidden keys f span [] f.args [] known fault refl is) (λ slots is e.
-    by_must_not (list_any (λ state. is_among state keys) f.states) NameTaken span _ fault e (λ among at. record {
+arguments_told {columns} {hidden} {keys} {f} {span} {known} e = by_next (collected [] (map (slot_for columns hidden span) f.args)) e
+    (λ is. argument_told [] f.args [] refl is) (λ slots is e.
+    by_must_not (list_any (λ state. is_among state keys) f.states) e (λ among at. record {
       demand = Apart f.states keys span;
       asks = of_states;
-      tells = told known (Apart f.states keys span) NameTaken span fault at
-          (refl, λ apart. not_both _ (apart_complete f.states keys apart) among);
-    }) (λ none e. no_fault slots fault e))
+      tells = told known (Apart f.states keys span) at (refl, λ apart. not_both _ (apart_complete f.states keys apart) among);
+    }) (λ none e. no_fault e))

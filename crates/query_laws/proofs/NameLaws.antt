@@ -32,29 +32,28 @@ use Rattle.query_laws.proofs.ExprSound.{slot_stands, word_sound}
 use Rattle.query_laws.proofs.ExprComplete.{word_complete}
 use Rattle.query_laws.proofs.FoldNames.{new_among, among_new, among_append, below}
 
-pub ok : {A : Type 0} (x y : A) → x ≡ y → (let r : Checked A = Ok x in r) ≡ Ok y
-ok {A} x y e = ap (λ (z : A). let r : Checked A = Ok z in r) e
+pub ok : {A : Type 0} {x y : A} → x ≡ y → (let r : Checked A = Ok x in r) ≡ Ok y
+ok {A} e = ap (λ (z : A). let r : Checked A = Ok z in r) e
 
 -- ---- what a name stands for
 
-same_some : (m n : Meaning) → (let o : Option Meaning = Some m in o) ≡ Some n → m ≡ n
-same_some m n e = cc e
+same_some : {m n : Meaning} → (let o : Option Meaning = Some m in o) ≡ Some n → m ≡ n
+same_some e = cc e
 
-pub meaning_sound : (known : List Known) (id : ℕ) (m : Meaning) → meaning_of known id ≡ Some m → NameStandsFor known id m
-meaning_sound [] id m e = cc e
-meaning_sound (one ∷ rest) id m e = go (nat_eq one.name id) refl (λ k. meaning_sound rest id m k) e
+pub meaning_sound : (known : List Known) (id : ℕ) {m : Meaning} → meaning_of known id ≡ Some m → NameStandsFor known id m
+meaning_sound [] id e = cc e
+meaning_sound (one ∷ rest) id {m} e = go (nat_eq one.name id) refl (λ k. meaning_sound rest id k) e
   where
     go : (b : Bool) → nat_eq one.name id ≡ b → (meaning_of rest id ≡ Some m → NameStandsFor rest id m)
         → cond b (Some one.meaning) (meaning_of rest id) ≡ Some m → NameStandsFor (one ∷ rest) id m
-    go true is more e = inl (nat_same one.name id is, same_some one.meaning m e)
-    go false is more e = inr (nat_other one.name id is, more e)
+    go true is more e = inl (nat_same is, same_some e)
+    go false is more e = inr (nat_other is, more e)
 
-pub meaning_complete : (known : List Known) (id : ℕ) (m : Meaning) → NameStandsFor known id m → meaning_of known id ≡ Some m
-meaning_complete [] id m h = absurd h
-meaning_complete (one ∷ rest) id m (inl p) = ap (λ (b : Bool). cond b (Some one.meaning) (meaning_of rest id)) (nat_is one.name id p.0)
-    ∙ ap Some p.1
-meaning_complete (one ∷ rest) id m (inr p) = ap (λ (b : Bool). cond b (Some one.meaning) (meaning_of rest id)) (nat_is_not one.name id p.0)
-    ∙ meaning_complete rest id m p.1
+pub meaning_complete : (known : List Known) (id : ℕ) {m : Meaning} → NameStandsFor known id m → meaning_of known id ≡ Some m
+meaning_complete [] id h = absurd h
+meaning_complete (one ∷ rest) id (inl p) = ap (λ (b : Bool). cond b (Some one.meaning) (meaning_of rest id)) (nat_is p.0) ∙ ap Some p.1
+meaning_complete (one ∷ rest) id (inr p) = ap (λ (b : Bool). cond b (Some one.meaning) (meaning_of rest id)) (nat_is_not p.0)
+    ∙ meaning_complete rest id p.1
 
 pub free_sound : (known : List Known) (id : ℕ) → is_some (meaning_of known id) ≡ false → IsFree known id
 free_sound [] id e = tt
@@ -63,64 +62,61 @@ free_sound (one ∷ rest) id e = go (nat_eq one.name id) refl (λ k. free_sound 
     go : (b : Bool) → nat_eq one.name id ≡ b → (is_some (meaning_of rest id) ≡ false → IsFree rest id)
         → is_some (cond b (Some one.meaning) (meaning_of rest id)) ≡ false → IsFree (one ∷ rest) id
     go true is more e = cc e
-    go false is more e = (nat_other one.name id is, more e)
+    go false is more e = (nat_other is, more e)
 
 pub free_complete : (known : List Known) (id : ℕ) → IsFree known id → is_some (meaning_of known id) ≡ false
 free_complete [] id h = refl
-free_complete (one ∷ rest) id h = ap (λ (b : Bool). is_some (cond b (Some one.meaning) (meaning_of rest id))) (nat_is_not one.name id h.0)
+free_complete (one ∷ rest) id h = ap (λ (b : Bool). is_some (cond b (Some one.meaning) (meaning_of rest id))) (nat_is_not h.0)
     ∙ free_complete rest id h.1
 
-pub stream_sound : (known : List Known) (name : Name) (s : StreamView) → stream_named known name ≡ Ok s → IsStream known name.id s
-stream_sound known name s e = go (meaning_of known name.id) refl e
+pub stream_sound : (known : List Known) (name : Name) {s : StreamView} → stream_named known name ≡ Ok s → IsStream known name.id s
+stream_sound known name {s} e = go (meaning_of known name.id) refl e
   where
     go : (o : Option Meaning) → meaning_of known name.id ≡ o → as_stream o name.span ≡ Ok s → IsStream known name.id s
     go None is e = cc e
-    go (Some (meaning.Stream x)) is e = meaning_sound known name.id (meaning.Stream s)
-        (is ∙ ap (λ (z : StreamView). Some (meaning.Stream z)) (same_ok x s e))
+    go (Some (meaning.Stream x)) is e = meaning_sound known name.id (is ∙ ap (λ (z : StreamView). Some (meaning.Stream z)) (same_ok x s e))
     go (Some (meaning.Fold f)) is e = cc e
     go (Some (meaning.Final t)) is e = cc e
 
-pub stream_complete : (known : List Known) (name : Name) (s : StreamView) → IsStream known name.id s → stream_named known name ≡ Ok s
-stream_complete known name s h = ap (λ (o : Option Meaning). as_stream o name.span) (meaning_complete known name.id (meaning.Stream s) h)
+pub stream_complete : (known : List Known) (name : Name) {s : StreamView} → IsStream known name.id s → stream_named known name ≡ Ok s
+stream_complete known name h = ap (λ (o : Option Meaning). as_stream o name.span) (meaning_complete known name.id h)
 
-pub fold_name_sound : (known : List Known) (name : Name) (f : FoldView) → fold_named known name ≡ Ok f → IsFold known name.id f
-fold_name_sound known name f e = go (meaning_of known name.id) refl e
+pub fold_name_sound : (known : List Known) (name : Name) {f : FoldView} → fold_named known name ≡ Ok f → IsFold known name.id f
+fold_name_sound known name {f} e = go (meaning_of known name.id) refl e
   where
     go : (o : Option Meaning) → meaning_of known name.id ≡ o → as_fold o name.span ≡ Ok f → IsFold known name.id f
     go None is e = cc e
-    go (Some (meaning.Fold x)) is e = meaning_sound known name.id (meaning.Fold f)
-        (is ∙ ap (λ (z : FoldView). Some (meaning.Fold z)) (same_ok x f e))
+    go (Some (meaning.Fold x)) is e = meaning_sound known name.id (is ∙ ap (λ (z : FoldView). Some (meaning.Fold z)) (same_ok x f e))
     go (Some (meaning.Stream s)) is e = cc e
     go (Some (meaning.Final t)) is e = cc e
 
-pub fold_name_complete : (known : List Known) (name : Name) (f : FoldView) → IsFold known name.id f → fold_named known name ≡ Ok f
-fold_name_complete known name f h = ap (λ (o : Option Meaning). as_fold o name.span) (meaning_complete known name.id (meaning.Fold f) h)
+pub fold_name_complete : (known : List Known) (name : Name) {f : FoldView} → IsFold known name.id f → fold_named known name ≡ Ok f
+fold_name_complete known name h = ap (λ (o : Option Meaning). as_fold o name.span) (meaning_complete known name.id h)
 
-table_there : (o : Option TableView) (span : Span) (t : TableView) → table_at o span ≡ Ok t → o ≡ Some t
-table_there None span t e = cc e
-table_there (Some x) span t e = ap Some (same_ok x t e)
+table_there : (o : Option TableView) (span : Span) {t : TableView} → table_at o span ≡ Ok t → o ≡ Some t
+table_there None span e = cc e
+table_there (Some x) span {t} e = ap Some (same_ok x t e)
 
-pub table_sound : (known : List Known) (name : Name) (t : TableView) → table_named known name ≡ Ok t → IsTable known name.id t
-table_sound known name t e = go (meaning_of known name.id) refl e
+pub table_sound : (known : List Known) (name : Name) {t : TableView} → table_named known name ≡ Ok t → IsTable known name.id t
+table_sound known name {t} e = go (meaning_of known name.id) refl e
   where
     go : (o : Option Meaning) → meaning_of known name.id ≡ o → as_table o name.span ≡ Ok t → IsTable known name.id t
     go None is e = cc e
     go (Some (meaning.Fold f)) is e = cc e
-    go (Some (meaning.Stream s)) is e = inr (s, meaning_sound known name.id (meaning.Stream s) is, table_there s.table name.span t e)
-    go (Some (meaning.Final x)) is e = inl (meaning_sound known name.id (meaning.Final t)
+    go (Some (meaning.Stream s)) is e = inr (s, meaning_sound known name.id is, table_there s.table name.span e)
+    go (Some (meaning.Final x)) is e = inl (meaning_sound known name.id
         (is ∙ ap (λ (z : TableView). Some (meaning.Final z)) (same_ok x t e)))
 
-pub table_complete : (known : List Known) (name : Name) (t : TableView) → IsTable known name.id t → table_named known name ≡ Ok t
-table_complete known name t (inl h) = ap (λ (o : Option Meaning). as_table o name.span) (meaning_complete known name.id (meaning.Final t) h)
-table_complete known name t (inr p) =
-    ap (λ (o : Option Meaning). as_table o name.span) (meaning_complete known name.id (meaning.Stream p.0) p.1)
+pub table_complete : (known : List Known) (name : Name) {t : TableView} → IsTable known name.id t → table_named known name ≡ Ok t
+table_complete known name (inl h) = ap (λ (o : Option Meaning). as_table o name.span) (meaning_complete known name.id h)
+table_complete known name (inr p) = ap (λ (o : Option Meaning). as_table o name.span) (meaning_complete known name.id p.1)
     ∙ ap (λ (o : Option TableView). table_at o name.span) p.2
 
 -- ---- new columns
 
-columns_same : (ns ms : List ℕ) (vs ws : List TypedExpr) → ns ≡ ms → vs ≡ ws
+columns_same : {ns ms : List ℕ} {vs ws : List TypedExpr} → ns ≡ ms → vs ≡ ws
     → (let r : NewColumns = record { names = ns; values = vs } in r) ≡ record { names = ms; values = ws }
-columns_same ns ms vs ws e f = ap (λ (z : List ℕ). let r : NewColumns = record { names = z; values = vs } in r) e
+columns_same {ms} {vs} e f = ap (λ (z : List ℕ). let r : NewColumns = record { names = z; values = vs } in r) e
     ∙ ap (λ (z : List TypedExpr). let r : NewColumns = record { names = ms; values = z } in r) f
 
 pub taken_is : (id : ℕ) (columns hidden names : List ℕ) → is_among id (columns ++ (hidden ++ names))
@@ -133,117 +129,107 @@ taken_more : (id : ℕ) (columns hidden names : List ℕ) → (columns ++ (hidde
 taken_more id columns hidden names = append_assoc columns (hidden ++ names) (id ∷ [])
     ∙ ap (λ (z : List ℕ). columns ++ z) (append_assoc hidden names (id ∷ []))
 
-pub columns_sound : (columns hidden : List ℕ) (cs : List Column) (made all : NewColumns) → new_columns columns hidden made cs ≡ Ok all
+pub columns_sound : (columns hidden : List ℕ) (cs : List Column) (made : NewColumns) {all : NewColumns} → new_columns columns hidden made cs ≡ Ok all
     → (values : List TypedExpr) × HasTypedColumns columns (columns ++ (hidden ++ made.names)) cs values
     × (all ≡ record { names = made.names ++ new_names cs; values = made.values ++ values })
-columns_sound columns hidden [] made all e = (
+columns_sound columns hidden [] made {all} e = (
   [],
   tt,
-  sym (same_ok made all e)
-      ∙ columns_same made.names (made.names ++ []) made.values (made.values ++ []) (sym (append-nil made.names))
-      (sym (append-nil made.values)),
+  sym (same_ok made all e) ∙ columns_same (sym (append-nil made.names)) (sym (append-nil made.values)),
 )
-columns_sound columns hidden (c ∷ cs) made all e =
-    let one = must_not_ok _ _ _ _ all e in
+columns_sound columns hidden (c ∷ cs) made {all} e =
+    let one = must_not_ok _ _ _ e in
     let word = found_first (word_of columns hidden c.value) _ all one.1 in
-    let rest = columns_sound columns hidden cs (record { names = made.names ++ c.name.id ∷ []; values = made.values ++ word.0 ∷ [] }) all
+    let rest = columns_sound columns hidden cs (record { names = made.names ++ c.name.id ∷ []; values = made.values ++ word.0 ∷ [] })
     word.2 in
     let N : List ℕ → Type 0 = λ z. HasTypedColumns columns z cs rest.0 in (
       word.0 ∷ rest.0,
       (
         among_new c.name.id _ (taken_is c.name.id columns hidden made.names ∙ one.0),
-        word_sound columns hidden c.value word.0 word.1,
-        subst
-            N (sym (taken_more c.name.id columns hidden made.names)) rest.1,
+        word_sound hidden word.1,
+        subst N (sym (taken_more c.name.id columns hidden made.names)) rest.1,
       ),
-      rest.2 ∙ columns_same _ _ _ _ (append_assoc made.names (c.name.id ∷ []) (new_names cs))
-          (append_assoc made.values (word.0 ∷ []) rest.0),
+      rest.2 ∙ columns_same (append_assoc made.names (c.name.id ∷ []) (new_names cs)) (append_assoc made.values (word.0 ∷ []) rest.0),
     )
 
 pub columns_complete : (columns hidden : List ℕ) (cs : List Column) (values : List TypedExpr) (made : NewColumns)
     → HasTypedColumns columns (columns ++ (hidden ++ made.names)) cs values
     → new_columns columns hidden made cs ≡ Ok (record { names = made.names ++ new_names cs; values = made.values ++ values })
-columns_complete columns hidden [] [] made h = ok _ _ (columns_same made.names (made.names ++ []) made.values (made.values ++ [])
-    (sym (append-nil made.names)) (sym (append-nil made.values)))
+columns_complete columns hidden [] [] made h = ok (columns_same (sym (append-nil made.names)) (sym (append-nil made.values)))
 columns_complete columns hidden [] (v ∷ values) made h = absurd h
 columns_complete columns hidden (c ∷ cs) [] made h = absurd h
 columns_complete columns hidden (c ∷ cs) (v ∷ values) made h =
     let N : List ℕ → Type 0 = λ z. HasTypedColumns columns z cs values in
-    must_not_holds _ _ _ _ (sym (taken_is c.name.id columns hidden made.names) ∙ new_among c.name.id _ h.0)
-    ∙ then_next _ _ v (word_complete columns hidden c.value v h.1)
+    must_not_holds _ _ (sym (taken_is c.name.id columns hidden made.names) ∙ new_among c.name.id _ h.0)
+    ∙ then_next _ (word_complete hidden h.1)
     ∙ columns_complete columns hidden cs values (record { names = made.names ++ c.name.id ∷ []; values = made.values ++ v ∷ [] })
     (subst N (taken_more c.name.id columns hidden made.names) h.2)
-    ∙ ok _ _ (columns_same _ _ _ _ (append_assoc made.names (c.name.id ∷ []) (new_names cs)) (append_assoc made.values (v ∷ []) values))
+    ∙ ok (columns_same (append_assoc made.names (c.name.id ∷ []) (new_names cs)) (append_assoc made.values (v ∷ []) values))
 
 -- ---- keys
 
-pub slot_complete : (columns hidden : List ℕ) (name : Name) (slot : ℕ) → StandsAt columns slot name.id
+pub slot_complete : (columns hidden : List ℕ) (name : Name) {slot : ℕ} → StandsAt columns slot name.id
     → slot_of columns hidden name ≡ Ok slot
-slot_complete columns hidden name slot h = ap (λ (o : Option ℕ). slot_at o (is_among name.id hidden) name.span)
-    (stands_place columns name.id slot h)
+slot_complete columns hidden name h = ap (λ (o : Option ℕ). slot_at o (is_among name.id hidden) name.span) (stands_place columns name.id h)
 
 abbrev name_ids : List Name → List ℕ
 name_ids names = map (λ key. key.id) names
 
-picked_same : (ns ms ss ts : List ℕ) → ns ≡ ms → ss ≡ ts → (let r : Picked = record { names = ns; slots = ss } in r) ≡ record
+picked_same : {ns ms ss ts : List ℕ} → ns ≡ ms → ss ≡ ts → (let r : Picked = record { names = ns; slots = ss } in r) ≡ record
     { names = ms; slots = ts }
-picked_same ns ms ss ts e f = ap (λ (z : List ℕ). let r : Picked = record { names = z; slots = ss } in r) e
+picked_same {ms} {ss} e f = ap (λ (z : List ℕ). let r : Picked = record { names = z; slots = ss } in r) e
     ∙ ap (λ (z : List ℕ). let r : Picked = record { names = ms; slots = z } in r) f
 
-pub keys_sound : (columns hidden : List ℕ) (keys : List Name) (found all : Picked) → length found.names ≤ MAX_KEYS
+pub keys_sound : (columns hidden : List ℕ) (keys : List Name) (found : Picked) {all : Picked} → length found.names ≤ MAX_KEYS
     → keys_from columns hidden found keys ≡ Ok all
     → (slots : List ℕ) × HasSlots columns (name_ids keys) slots × AreNew found.names (name_ids keys)
-    × (length found.names + length keys ≤ MAX_KEYS)
-    × (all ≡ record { names = found.names ++ name_ids keys; slots = found.slots ++ slots })
-keys_sound columns hidden [] found all h e = (
+    × (length found.names + length keys ≤ MAX_KEYS) × (all ≡ record { names = found.names ++ name_ids keys; slots = found.slots ++ slots })
+keys_sound columns hidden [] found {all} h e = (
   [],
   tt,
   tt,
   omega (arith, h),
-  sym (same_ok found all e) ∙ picked_same found.names (found.names ++ []) found.slots (found.slots ++ [])
-      (sym (append-nil found.names)) (sym (append-nil found.slots)),
+  sym (same_ok found all e) ∙ picked_same (sym (append-nil found.names)) (sym (append-nil found.slots)),
 )
-keys_sound columns hidden (key ∷ keys) found all h e =
+keys_sound columns hidden (key ∷ keys) found {all} h e =
     let slot = found_first (slot_of columns hidden key) _ all e in
-    let one = must_not_ok _ _ _ _ all slot.2 in
-    let two = must_ok _ _ _ _ all one.1 in
+    let one = must_not_ok _ _ _ slot.2 in
+    let two = must_ok _ _ _ one.1 in
     let few = ltb-true (length found.names) MAX_KEYS two.0 in
     let long = length-append found.names (key.id ∷ []) in
-    let rest = keys_sound columns hidden keys (record { names = found.names ++ key.id ∷ []; slots = found.slots ++ slot.0 ∷ [] }) all
+    let rest = keys_sound columns hidden keys (record { names = found.names ++ key.id ∷ []; slots = found.slots ++ slot.0 ∷ [] })
     (omega (arith, long, few)) two.1 in (
       slot.0 ∷ rest.0,
-      (slot_stands columns hidden key slot.0 slot.1, rest.1),
+      (slot_stands columns hidden key slot.1, rest.1),
       (among_new key.id found.names one.0, rest.2),
       omega (arith, long, rest.3),
-      rest.4 ∙ picked_same _ _ _ _ (append_assoc found.names (key.id ∷ []) (name_ids keys)) (append_assoc found.slots (slot.0 ∷ []) rest.0),
+      rest.4 ∙ picked_same (append_assoc found.names (key.id ∷ []) (name_ids keys)) (append_assoc found.slots (slot.0 ∷ []) rest.0),
     )
 
 pub keys_complete : (columns hidden : List ℕ) (keys : List Name) (slots : List ℕ) (found : Picked) → HasSlots columns (name_ids keys) slots
     → AreNew found.names (name_ids keys) → length found.names + length keys ≤ MAX_KEYS
     → keys_from columns hidden found keys ≡ Ok (record { names = found.names ++ name_ids keys; slots = found.slots ++ slots })
-keys_complete columns hidden [] [] found h new few = ok _ _ (picked_same found.names (found.names ++ []) found.slots (found.slots ++ [])
-    (sym (append-nil found.names)) (sym (append-nil found.slots)))
+keys_complete columns hidden [] [] found h new few = ok (picked_same (sym (append-nil found.names)) (sym (append-nil found.slots)))
 keys_complete columns hidden [] (s ∷ slots) found h new few = absurd h
 keys_complete columns hidden (key ∷ keys) [] found h new few = absurd h
-keys_complete columns hidden (key ∷ keys) (s ∷ slots) found h new few =
-    then_next _ _ s (slot_complete columns hidden key s h.0)
-    ∙ must_not_holds _ _ _ _ (new_among key.id found.names new.0) ∙ must_holds _ _ _ _
-    (below (length found.names) MAX_KEYS (omega (arith, few)))
+keys_complete columns hidden (key ∷ keys) (s ∷ slots) found h new few = then_next _ (slot_complete columns hidden key h.0)
+    ∙ must_not_holds _ _ (new_among key.id found.names new.0) ∙ must_holds _ _
+    (below {k = length found.names} {n = MAX_KEYS} (omega (arith, few)))
     ∙ keys_complete columns hidden keys slots (record { names = found.names ++ key.id ∷ []; slots = found.slots ++ s ∷ [] }) h.1 new.1
     (omega (arith, few, length-append found.names (key.id ∷ [])))
-    ∙ ok _ _ (picked_same _ _ _ _ (append_assoc found.names (key.id ∷ []) (name_ids keys)) (append_assoc found.slots (s ∷ []) slots))
+    ∙ ok (picked_same (append_assoc found.names (key.id ∷ []) (name_ids keys)) (append_assoc found.slots (s ∷ []) slots))
 
 -- ---- arguments
 
 abbrev pub slot_for : List ℕ → List ℕ → Span → ℕ → Checked ℕ
 slot_for columns hidden span id = slot_of columns hidden (record { id = id; span = span })
 
-slots_sound : (columns hidden : List ℕ) (span : Span) (ids before all : List ℕ)
+slots_sound : (columns hidden : List ℕ) (span : Span) (ids before : List ℕ) {all : List ℕ}
     → collected before (map (slot_for columns hidden span) ids) ≡ Ok all → (slots : List ℕ) × (all ≡ before ++ slots)
     × HasSlots columns ids slots
-slots_sound columns hidden span [] before all e = ([], sym (same_ok _ all e) ∙ sym (append-nil before), tt)
-slots_sound columns hidden span (id ∷ ids) before all e = go (slot_for columns hidden span id) refl
-    (λ x k. slots_sound columns hidden span ids (before ++ x ∷ []) all k) e
+slots_sound columns hidden span [] before {all} e = ([], sym (same_ok _ all e) ∙ sym (append-nil before), tt)
+slots_sound columns hidden span (id ∷ ids) before {all} e = go (slot_for columns hidden span id) refl
+    (λ x k. slots_sound columns hidden span ids (before ++ x ∷ []) k) e
   where
     go : (c : Checked ℕ) → slot_for columns hidden span id ≡ c
         → ((x : ℕ) → collected (before ++ x ∷ []) (map (slot_for columns hidden span) ids) ≡ Ok all → (slots : List ℕ)
@@ -255,7 +241,7 @@ slots_sound columns hidden span (id ∷ ids) before all e = go (slot_for columns
           x ∷ more.0,
           more.1 ∙ append_assoc before (x ∷ []) more.0,
           (
-            slot_stands columns hidden (record { id = id; span = span }) x is,
+            slot_stands columns hidden (record { id = id; span = span }) is,
             more.2,
           ),
         )
@@ -263,14 +249,13 @@ slots_sound columns hidden span (id ∷ ids) before all e = go (slot_for columns
 
 slots_complete : (columns hidden : List ℕ) (span : Span) (ids slots before : List ℕ) → HasSlots columns ids slots
     → collected before (map (slot_for columns hidden span) ids) ≡ Ok (before ++ slots)
-slots_complete columns hidden span [] [] before h = ok _ _ (sym (append-nil before))
+slots_complete columns hidden span [] [] before h = ok (sym (append-nil before))
 slots_complete columns hidden span [] (s ∷ slots) before h = absurd h
 slots_complete columns hidden span (id ∷ ids) [] before h = absurd h
 slots_complete columns hidden span (id ∷ ids) (s ∷ slots) before h =
     ap (λ (c : Checked ℕ). collected before (c ∷ map (slot_for columns hidden span) ids))
-    (slot_complete columns hidden (record { id = id; span = span }) s h.0)
-    ∙ slots_complete columns hidden span ids slots (before ++ s ∷ []) h.1
-    ∙ ok _ _ (append_assoc before (s ∷ []) slots)
+    (slot_complete columns hidden (record { id = id; span = span }) h.0)
+    ∙ slots_complete columns hidden span ids slots (before ++ s ∷ []) h.1 ∙ ok (append_assoc before (s ∷ []) slots)
 
 pub apart_sound : (ids others : List ℕ) → list_any (λ id. is_among id others) ids ≡ false → AreApart ids others
 apart_sound [] others e = tt
@@ -286,17 +271,16 @@ apart_complete [] others h = refl
 apart_complete (id ∷ ids) others h = ap (λ (b : Bool). b || list_any (λ id. is_among id others) ids) (new_among id others h.0)
     ∙ apart_complete ids others h.1
 
-pub arguments_sound : (columns hidden keys : List ℕ) (f : FoldView) (span : Span) (slots : List ℕ)
+pub arguments_sound : {columns : List ℕ} (hidden : List ℕ) {keys : List ℕ} {f : FoldView} (span : Span) {slots : List ℕ}
     → arguments_of columns hidden keys f span ≡ Ok slots → HasArguments columns keys f slots
-arguments_sound columns hidden keys f span slots e =
+arguments_sound {columns} hidden {keys} {f} span {slots} e =
     let first = found_first (collected [] (map (slot_for columns hidden span) f.args)) _ slots e in
-    let one = must_not_ok _ _ _ _ slots first.2 in
-    let s = slots_sound columns hidden span f.args [] first.0 first.1 in
+    let one = must_not_ok _ _ _ first.2 in
+    let s = slots_sound columns hidden span f.args [] first.1 in
     let S : List ℕ → Type 0 = λ z. HasSlots columns f.args z in
     record { places = subst S (sym s.1 ∙ same_ok first.0 slots one.1) s.2; apart = apart_sound f.states keys one.0 }
 
-pub arguments_complete : (columns hidden keys : List ℕ) (f : FoldView) (span : Span) (slots : List ℕ) → HasArguments columns keys f slots
+pub arguments_complete : {columns : List ℕ} (hidden : List ℕ) {keys : List ℕ} {f : FoldView} (span : Span) {slots : List ℕ} → HasArguments columns keys f slots
     → arguments_of columns hidden keys f span ≡ Ok slots
-arguments_complete columns hidden keys f span slots h =
-    then_next _ _ slots (slots_complete columns hidden span f.args slots [] h.places)
-    ∙ must_not_holds _ _ _ _ (apart_complete f.states keys h.apart)
+arguments_complete {columns} hidden {keys} {f} span {slots} h = then_next _ (slots_complete columns hidden span f.args slots [] h.places)
+    ∙ must_not_holds _ _ (apart_complete f.states keys h.apart)

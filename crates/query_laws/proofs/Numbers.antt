@@ -29,13 +29,12 @@ use Rattle.query_laws.proofs.Holds.{listed_holds}
 
 -- ---- the greatest number
 
-greater : (a b : ℕ) → IsWord a → IsWord b → IsWord (max a b)
-greater a b h k = omega arith
+greater : {a b : ℕ} → IsWord a → IsWord b → IsWord (max a b)
+greater h k = omega arith
 
 pub greatest_word : {X : Type 0} (f : X → ℕ) (xs : List X) → All (λ x. IsWord (f x)) xs → IsWord (greatest_of (map f xs))
 greatest_word f [] h = omega arith
-greatest_word f (x ∷ xs) h =
-    greater (f x) (greatest_of (map f xs)) (All-head (λ x. IsWord (f x)) x xs h) (greatest_word f xs (All-tail (λ x. IsWord (f x)) x xs h))
+greatest_word f (x ∷ xs) h = greater (All-head (λ x. IsWord (f x)) x xs h) (greatest_word f xs (All-tail (λ x. IsWord (f x)) x xs h))
 
 abbrev pub is_word_expr : Expr → Type 0
 is_word_expr e = IsWord (greatest_number e)
@@ -43,8 +42,8 @@ is_word_expr e = IsWord (greatest_number e)
 abbrev pub is_word_stmt : Stmt → Type 0
 is_word_stmt s = IsWord (greatest_in s)
 
-number_is : (n : ℕ) (s : Span) → greatest_number (Number n s) ≡ n
-number_is n s = ap greatest_number (sym (rolls-Number n s)) ∙ fold-roll-Expr ℕ number_step (expr.Number n s)
+number_is : {n : ℕ} (s : Span) → greatest_number (Number n s) ≡ n
+number_is {n} s = ap greatest_number (sym (rolls-Number n s)) ∙ fold-roll-Expr ℕ number_step (expr.Number n s)
 
 named_is : (n : Name) → greatest_number (Named n) ≡ 0
 named_is n = ap greatest_number (sym (rolls-Named n)) ∙ fold-roll-Expr ℕ number_step (expr.Named n)
@@ -68,11 +67,11 @@ if_is c a b = ap greatest_in (sym (rolls-If c a b)) ∙ fold-roll-Stmt ℕ stmt_
 emit_is : (s : Span) → greatest_in (Emit s) ≡ 0
 emit_is s = ap greatest_in (sym (rolls-Emit s)) ∙ fold-roll-Stmt ℕ stmt_number_step (stmt.Emit s)
 
-word_at : (n m : ℕ) → n ≡ m → IsWord m → IsWord n
-word_at n m e h = subst IsWord (sym e) h
+word_at : {n m : ℕ} → n ≡ m → IsWord m → IsWord n
+word_at e h = subst IsWord (sym e) h
 
 binary_word : (op : Op) (s : Span) (a b : Expr) → is_word_expr a → is_word_expr b → is_word_expr (Binary op s a b)
-binary_word op s a b h k = word_at _ _ (binary_is op s a b) (greater (greatest_number a) (greatest_number b) h k)
+binary_word op s a b h k = word_at (binary_is op s a b) (greater h k)
 
 -- ---- expressions
 
@@ -94,14 +93,13 @@ compared_word left (Some o) h k = binary_word o.0.0 o.0.1 left o.1 h k
 
 negated_word : (spans : List Span) (e : Expr) → is_word_expr e → is_word_expr (negated spans e)
 negated_word [] e h = h
-negated_word (s ∷ spans) e h = word_at _ _ (not_is s (negated spans e)) (negated_word spans e h)
+negated_word (s ∷ spans) e h = word_at (not_is s (negated spans e)) (negated_word spans e h)
 
 level_holds : {L : Language Expr} (ops : Operators) → Holds L is_word_expr → Holds (Level ops L) is_word_expr
-level_holds ops p = meaning_holds is_word_expr (then_holds p (repeated_holds operand_word (second_holds _ p)))
-    (λ a h. grouped_word a.0 a.1 h.0 h.1)
+level_holds ops p = meaning_holds (then_holds p (repeated_holds (second_holds _ p))) (λ a h. grouped_word a.0 a.1 h.0 h.1)
 
 unary_holds : {L : Language Expr} → Holds L is_word_expr → Holds (Unary L) is_word_expr
-unary_holds p = meaning_holds is_word_expr (second_holds _ p) (λ a h. negated_word a.0 a.1 h)
+unary_holds p = meaning_holds (second_holds _ p) (λ a h. negated_word a.0 a.1 h)
 
 comparison_holds : {P : Language Expr} → Holds P is_word_expr → Holds (Comparison P) is_word_expr
 comparison_holds {P} p =
@@ -112,7 +110,7 @@ comparison_holds {P} p =
     let an : Holds (BitAnd P) is_word_expr = level_holds and_ops sh in
     let xo : Holds (BitXor P) is_word_expr = level_holds xor_ops an in
     let bo : Holds (BitOr P) is_word_expr = level_holds or_ops xo in
-    meaning_holds is_word_expr (then_holds bo (once_holds operand_word (second_holds _ bo))) (λ a h. compared_word a.0 a.1 h.0 h.1)
+    meaning_holds (then_holds bo (once_holds (second_holds _ bo))) (λ a h. compared_word a.0 a.1 h.0 h.1)
 
 disjunction_holds : {P : Language Expr} → Holds P is_word_expr → Holds (Disjunction P) is_word_expr
 disjunction_holds {P} p =
@@ -120,30 +118,29 @@ disjunction_holds {P} p =
     level_holds either_ops cj
 
 atom_holds : Holds Atom is_word_expr
-atom_holds = either_holds (meaning_holds is_word_expr number_holds (λ a h. word_at _ _ (number_is a.0 a.1) h))
-    (either_holds (meaning_holds is_word_expr any_holds (λ a h. word_at _ _ (number_is (2 ^ 64 - 1) a) (omega arith)))
-    (meaning_holds is_word_expr any_holds (λ a h. word_at _ _ (named_is a) (omega arith))))
+atom_holds = either_holds (meaning_holds number_holds (λ a h. word_at (number_is a.1) h))
+    (either_holds (meaning_holds any_holds (λ a h. word_at (number_is a) (omega arith)))
+    (meaning_holds any_holds (λ a h. word_at (named_is a) (omega arith))))
 
 call_holds : {E : Language Expr} → Holds E is_word_expr → Holds (CallOf E) is_word_expr
-call_holds p = meaning_holds is_word_expr (second_holds _ (parens_hold (All is_word_expr) (listed_holds is_word_expr p)))
-    (λ a h. word_at _ _ (call_is a.0.0 a.0.1 a.1) (greatest_word greatest_number a.1 h))
+call_holds p = meaning_holds (second_holds _ (parens_hold (listed_holds p)))
+    (λ a h. word_at (call_is a.0.0 a.0.1 a.1) (greatest_word greatest_number a.1 h))
 
 pub expr_holds : (d : ℕ) → Holds (Expression d) is_word_expr
 expr_holds zero = disjunction_holds atom_holds
-expr_holds (suc d) = let p =
-    expr_holds d in disjunction_holds (either_holds atom_holds (either_holds (parens_hold is_word_expr p) (call_holds p)))
+expr_holds (suc d) = let p = expr_holds d in disjunction_holds (either_holds atom_holds (either_holds (parens_hold p) (call_holds p)))
 
 -- ---- statements
 
 assignment_holds : {E : Language Expr} → Holds E is_word_expr → Holds (Assignment E) is_word_stmt
-assignment_holds p = meaning_holds is_word_stmt (second_holds _ (between_holds is_word_expr (sign marks.Assign) (sign marks.Semicolon) p))
-    (λ a h. word_at _ _ (assign_is a.0 a.1) h)
+assignment_holds p = meaning_holds (second_holds _ (between_holds (sign marks.Assign) (sign marks.Semicolon) p))
+    (λ a h. word_at (assign_is a.0 a.1) h)
 
 emission_holds : Holds Emission is_word_stmt
-emission_holds = meaning_holds is_word_stmt any_holds (λ a h. word_at _ _ (emit_is a.0) (omega arith))
+emission_holds = meaning_holds any_holds (λ a h. word_at (emit_is a.0) (omega arith))
 
 pub block_holds : {S : Language Stmt} → Holds S is_word_stmt → Holds (Block S) (All is_word_stmt)
-block_holds p = between_holds (All is_word_stmt) (sign marks.OpenBrace) (sign marks.CloseBrace) (repeated_holds is_word_stmt p)
+block_holds p = between_holds (sign marks.OpenBrace) (sign marks.CloseBrace) (repeated_holds p)
 
 -- an `if` and its block, and what comes after an `else`
 abbrev branch_word : Expr × List Stmt → Type 0
@@ -156,24 +153,21 @@ else_word (inr b) = All is_word_stmt b
 abbrev chain_word : List (Expr × List Stmt) × Option (List Stmt) → Type 0
 chain_word v = All branch_word v.0 × if_some (All is_word_stmt) v.1
 
-chains : (T : Language ((Expr × List Stmt) ⊎ List Stmt)) → Holds T else_word
+chains : {T : Language ((Expr × List Stmt) ⊎ List Stmt)} → Holds T else_word
     → (w : List Leaf) (v : List (Expr × List Stmt)) (o : Option (List Stmt)) → Chain T w v o → HaveWords w
     → All branch_word v × if_some (All is_word_stmt) o
-chains T p w [] None h b = (all_none branch_word, tt)
-chains T p w [] (Some s) h b = (all_none branch_word, p.is w (inr s) h b)
-chains T p w (a ∷ others) o h b =
+chains p w [] None h b = (all_none branch_word, tt)
+chains p w [] (Some s) h b = (all_none branch_word, p.is w (inr s) h b)
+chains p w (a ∷ others) o h b =
     let r = both_have h.0 h.1 (subst HaveWords h.2 b) in
-    let more = chains T p h.1 others o h.4 r.1 in
+    let more = chains p h.1 others o h.4 r.1 in
     (all_cons branch_word a others (p.is h.0 (inl a) h.3 r.0) more.0, more.1)
 
 chained_holds : {T : Language ((Expr × List Stmt) ⊎ List Stmt)} → Holds T else_word → Holds (Chained T) chain_word
-chained_holds {T} p = record { is = λ w v h b. chains T p w v.0 v.1 h b }
+chained_holds p = record { is = λ w v h b. chains p w v.0 v.1 h b }
 
 if_word : (c : Expr) (a b : List Stmt) → is_word_expr c → All is_word_stmt a → All is_word_stmt b → is_word_stmt (If c a b)
-if_word c a b h k l = word_at _ _ (if_is c a b)
-    (greater (greatest_number c) (max (greatest_of (map greatest_in a)) (greatest_of (map greatest_in b))) h
-    (greater (greatest_of (map greatest_in a)) (greatest_of (map greatest_in b)) (greatest_word greatest_in a k)
-    (greatest_word greatest_in b l)))
+if_word c a b h k l = word_at (if_is c a b) (greater h (greater (greatest_word greatest_in a k) (greatest_word greatest_in b l)))
 
 else_words : (v : List (Expr × List Stmt)) (o : Option (List Stmt)) → All branch_word v → if_some (All is_word_stmt) o
     → All is_word_stmt (else_of v o)
@@ -182,19 +176,18 @@ else_words [] (Some b) h k = k
 else_words (a ∷ others) o h k =
     let first = All-head branch_word a others h in
     all_cons is_word_stmt (If a.0 a.1 (else_of others o)) []
-    (if_word a.0 a.1 (else_of others o) first.0 first.1 (else_words others o (All-tail branch_word a others h) k))
-    (all_none is_word_stmt)
+    (if_word a.0 a.1 (else_of others o) first.0 first.1 (else_words others o (All-tail branch_word a others h) k)) (all_none is_word_stmt)
 
 if_part_holds : {E : Language Expr} {S : Language Stmt} → Holds E is_word_expr → Holds S is_word_stmt
     → Holds (IfPart E S) (λ v. branch_word v.1)
-if_part_holds p q = second_holds _ (then_holds (parens_hold is_word_expr p) (block_holds q))
+if_part_holds p q = second_holds _ (then_holds (parens_hold p) (block_holds q))
 
 else_part_holds : {E : Language Expr} {S : Language Stmt} → Holds E is_word_expr → Holds S is_word_stmt → Holds (ElsePart E S) else_word
-else_part_holds p q = after_holds else_word (keyword words.Else)
-    (either_holds (meaning_holds else_word (block_holds q) (λ a h. h)) (meaning_holds else_word (if_part_holds p q) (λ a h. h)))
+else_part_holds p q = after_holds (keyword words.Else)
+    (either_holds (meaning_holds (block_holds q) (λ a h. h)) (meaning_holds (if_part_holds p q) (λ a h. h)))
 
 if_holds : {E : Language Expr} {S : Language Stmt} → Holds E is_word_expr → Holds S is_word_stmt → Holds (IfStatement E S) is_word_stmt
-if_holds p q = meaning_holds is_word_stmt (then_holds (if_part_holds p q) (chained_holds (else_part_holds p q)))
+if_holds p q = meaning_holds (then_holds (if_part_holds p q) (chained_holds (else_part_holds p q)))
     (λ a h. if_word a.0.1.0 a.0.1.1 (else_of a.1.0 a.1.1) h.0.0 h.0.1 (else_words a.1.0 a.1.1 h.1.0 h.1.1))
 
 pub stmt_holds : (d : ℕ) → Holds (Statement_at d) is_word_stmt

@@ -38,91 +38,70 @@ use Rattle.query_laws.proofs.Unmet.{unmet}
 
 -- ---- items
 
-taken_told : (known : List Known) (x : Name) (fault : QueryFault) → is_some (meaning_of known x.id) ≡ true
-    → at_span NameTaken x.span ≡ fault
-    → Tells known fault.kind fault.span (Free x)
-taken_told known x fault taken e = told known (Free x) NameTaken x.span fault e
-    (refl, λ free. not_both _ (free_complete known x.id free) taken)
+taken_told : (known : List Known) (x : Name) {fault : QueryFault} → is_some (meaning_of known x.id) ≡ true
+    → at_span NameTaken x.span ≡ fault → Tells known fault.kind fault.span (Free x)
+taken_told known x taken e = told known (Free x) e (refl, λ free. not_both _ (free_complete known x.id free) taken)
 
-bindings_told : (names : List (List ℕ)) (items : List Entry) (x : Name) (fault : QueryFault)
-    → nat_lt (length (streams_in items) + length (finals_in items)) MAX_BINDINGS ≡ false
-    → at_span (OverLimit Bindings) x.span ≡ fault
+bindings_told : (names : List (List ℕ)) (items : List Entry) (x : Name) {fault : QueryFault}
+    → nat_lt (length (streams_in items) + length (finals_in items)) MAX_BINDINGS ≡ false → at_span (OverLimit Bindings) x.span ≡ fault
     → Tells (known_in names items) fault.kind fault.span (Fewer Bindings (length (streams_in items) + length (finals_in items)) x.span)
-bindings_told names items x fault full e =
-    told (known_in names items) (Fewer Bindings (length (streams_in items) + length (finals_in items)) x.span) (OverLimit Bindings) x.span
-    fault e (
+bindings_told names items x full e =
+    told (known_in names items) (Fewer Bindings (length (streams_in items) + length (finals_in items)) x.span) e (
       refl,
       refl,
-      at_least (length (streams_in items) + length (finals_in items)) (length (streams_in items) + length (finals_in items)) MAX_BINDINGS
-          refl full,
+      at_least refl full,
     )
 
-begun_told : (names : List (List ℕ)) (items : List Entry) (x : Name) (fault : QueryFault) (Asks : Demand → Type 0)
+begun_told : (names : List (List ℕ)) (items : List Entry) (x : Name) {fault : QueryFault} {Asks : Demand → Type 0}
     → begun (earlier_of names items) x ≡ Err fault
     → Asks (Free x) → Asks (Fewer Bindings (length (streams_in items) + length (finals_in items)) x.span)
     → Broken Asks (known_in names items) fault
-begun_told names items x fault Asks e free one =
-    by_must_not (is_some (meaning_of (known_in names items) x.id)) NameTaken x.span _ fault e
-    (λ taken at. record { demand = Free x; asks = free; tells = taken_told (known_in names items) x fault taken at }) (λ none e.
-    by_must (nat_lt (length (streams_in items) + length (finals_in items)) MAX_BINDINGS) (OverLimit Bindings) x.span _ fault e
-    (λ full at. record {
+begun_told names items x e free one = by_must_not (is_some (meaning_of (known_in names items) x.id)) e
+    (λ taken at. record { demand = Free x; asks = free; tells = taken_told (known_in names items) x taken at }) (λ none e.
+    by_must (nat_lt (length (streams_in items) + length (finals_in items)) MAX_BINDINGS) _ e (λ full at. record {
       demand = Fewer Bindings (length (streams_in items) + length (finals_in items)) x.span;
       asks = one;
-      tells = bindings_told names items x fault full at;
-    }) (λ few e. no_fault _ fault e))
+      tells = bindings_told names items x full at;
+    }) (λ few e. no_fault e))
 
 abbrev ItemTold : Given → List (List ℕ) → List Entry → Item → QueryFault → Type 0
 ItemTold given names items i fault = Broken (ItemAsks (five_fields given.fields) names items i) (known_in names items) fault
 
-item_told : (given : Given) (names : List (List ℕ)) (items : List Entry) (i : Item) (fault : QueryFault)
-    → item_checked given (earlier_of names items) i ≡ Err fault
-    → ItemTold given names items i fault
-item_told given names items (item.Fold d) fault e =
-    by_must_not (is_some (meaning_of (known_in names items) d.name.id)) NameTaken d.name.span _ fault e (λ taken at. record {
+item_told : (given : Given) {names : List (List ℕ)} {items : List Entry} (i : Item) {fault : QueryFault}
+    → item_checked given (earlier_of names items) i ≡ Err fault → ItemTold given names items i fault
+item_told given {names} {items} (item.Fold d) e =
+    by_must_not (is_some (meaning_of (known_in names items) d.name.id)) e (λ taken at. record {
       demand = Free d.name;
-      asks = of_fold_name d;
-      tells = taken_told (known_in names items) d.name fault taken at;
-    }) (λ none e.
-    by_next (fold_checked d) _ fault e
-    (λ is. broken_in _ _ (known_in names items) fault (λ q asked. of_fold d q asked) (fold_faults d (known_in names items) fault is))
-    (λ f p e. no_fault _ fault e))
-item_told given names items (item.Stream d) fault e =
-    by_next (begun (earlier_of names items) d.name) _ fault e
-    (λ is. begun_told names items d.name fault _ is (of_stream_name d) (of_one_stream d)) (λ u p e.
-    by_next (made_stream (five_fields given.fields) (earlier_of names items) d.name d.op) _ fault e
-    (λ is. broken_in _ _ (known_in names items) fault (λ q asked. of_stream d q asked)
-    (stream_op_told (five_fields given.fields) (earlier_of names items) d.name d.op fault is))
-    (λ made q e. no_fault _ fault e))
-item_told given names items (item.Final d) fault e =
-    by_next (begun (earlier_of names items) d.name) _ fault e
-    (λ is. begun_told names items d.name fault _ is (of_final_name d) (of_one_final d)) (λ u p e.
-    by_next (made_final given (earlier_of names items) d.op) _ fault e
-    (λ is. broken_in _ _ (known_in names items) fault (λ q asked. of_final d q asked)
-    (final_op_told given (earlier_of names items) d.op fault is))
-    (λ made q e. no_fault _ fault e))
-item_told given names items (item.Print x) fault e =
-    by_next (table_named (known_in names items) x) _ fault e (λ is. record {
-      demand = Stands ATable x;
-      asks = of_print x;
-      tells = table_told (known_in names items) x fault is;
-    }) (λ table p e.
-    by_must_not (is_among x.id (printed_in items)) NameTaken x.span _ fault e (λ among at. record {
-      demand = New (printed_in items) x.id x.span;
-      asks = of_once x;
-      tells = told (known_in names items) (New (printed_in items) x.id x.span) NameTaken x.span fault at
-          (refl, not_new x.id (printed_in items) among);
-    }) (λ none e. no_fault _ fault e))
+      asks = of_fold_name;
+      tells = taken_told (known_in names items) d.name taken at;
+    }) (λ none e. by_next (fold_checked d) e (λ is. broken_in (λ q asked. of_fold d q asked) (fold_faults is)) (λ f p e. no_fault e))
+item_told given {names} {items} (item.Stream d) {fault} e = by_next (begun (earlier_of names items) d.name) e
+    (λ is. begun_told names items d.name is of_stream_name of_one_stream) (λ u p e.
+    by_next (made_stream (five_fields given.fields) (earlier_of names items) d.name d.op) e (λ is. broken_in (λ q asked. of_stream asked)
+    (stream_op_told (earlier_of names items) d.op fault is)) (λ made q e. no_fault e))
+item_told given {names} {items} (item.Final d) {fault} e = by_next (begun (earlier_of names items) d.name) e
+    (λ is. begun_told names items d.name is of_final_name of_one_final) (λ u p e. by_next (made_final given (earlier_of names items) d.op) e
+    (λ is. broken_in (λ q asked. of_final asked) (final_op_told given (earlier_of names items) d.op fault is)) (λ made q e. no_fault e))
+item_told given {names} {items} (item.Print x) e = by_next (table_named (known_in names items) x) e (λ is. record {
+  demand = Stands ATable x;
+  asks = of_print;
+  tells = table_told (known_in names items) x is;
+}) (λ table p e. by_must_not (is_among x.id (printed_in items)) e (λ among at. record {
+  demand = New (printed_in items) x.id x.span;
+  asks = of_once;
+  tells = told (known_in names items) (New (printed_in items) x.id x.span) at (refl, not_new x.id (printed_in items) among);
+}) (λ none e. no_fault e))
 
 -- where all that an item asks is so, the check finds no fault
-pub all_met : (given : Given) (names : List (List ℕ)) (items : List Entry) (i : Item)
+pub all_met : (given : Given) {names : List (List ℕ)} {items : List Entry} {i : Item}
     → ((demand : Demand) → ItemAsks (five_fields given.fields) names items i demand → Holds (known_in names items) demand)
     → (one : Entry) × HasItem given names items i one
-all_met given names items i met = go (item_checked given (earlier_of names items) i) refl
+all_met given {names} {items} {i} met = go (item_checked given (earlier_of names items) i) refl
   where
     go : (c : Checked Earlier) → item_checked given (earlier_of names items) i ≡ c → (one : Entry) × HasItem given names items i one
-    go (Ok more) is = let one = item_sound given names items i more is in (one.0, one.1)
+    go (Ok more) is = let one = item_sound given names i is in (one.0, one.1)
     go (Err fault) is =
-        let b = item_told given names items i fault is in
+        let b = item_told given i is in
         absurd (unmet (known_in names items) fault.kind fault.span b.demand b.tells (met b.demand b.asks))
 
 -- ---- whole queries
@@ -140,19 +119,18 @@ record AtItem (given : Given) (names : List (List ℕ)) (before : List Entry) (l
 
 at_item : (given : Given) (names : List (List ℕ)) (before : List Entry) (list : List Item) (fault : QueryFault)
     → items_checked given (earlier_of names before) list ≡ Err fault → AtItem given names before list fault
-at_item given names before [] fault e = no_fault _ fault e
-at_item given names before (i ∷ list) fault e =
-    by_next (item_checked given (earlier_of names before) i) _ fault e (λ is. record {
-      front = [];
-      one = i;
-      rest = list;
-      split = refl;
-      items = before;
-      typed = of_none before;
-      untyped = λ entry h. no_fault (earlier_of names (entry ∷ before)) fault (sym (item_complete given names before i entry h) ∙ is);
-      told = item_told given names before i fault is;
-    }) (λ more p e.
-    let one = item_sound given names before i more p in
+at_item given names before [] fault e = no_fault e
+at_item given names before (i ∷ list) fault e = by_next (item_checked given (earlier_of names before) i) e (λ is. record {
+  front = [];
+  one = i;
+  rest = list;
+  split = refl;
+  items = before;
+  typed = of_none before;
+  untyped = λ entry h. no_fault (sym (item_complete given names before i entry h) ∙ is);
+  told = item_told given i is;
+}) (λ more p e.
+    let one = item_sound given names i p in
     let others = at_item given names (one.0 ∷ before) list fault (ap (λ (z : Earlier). items_checked given z list) (sym one.2) ∙ e) in
     record {
       front = i ∷ others.front;
@@ -176,11 +154,11 @@ empty : {A : Type 0} (xs : List A) → nat_lt 0 (length xs) ≡ false → xs ≡
 empty [] e = refl
 empty (x ∷ xs) e = absurd (some_more (length xs) e)
 
-fault_told : (q : Query) (fault : QueryFault) → checked q ≡ Err fault → IsTold q fault
-fault_told q fault e =
+fault_told : {q : Query} {fault : QueryFault} → checked q ≡ Err fault → IsTold q fault
+fault_told {q} {fault} e =
     let names = typed_names q.names in
     let given = given_of names q.items in
-    by_next (items_checked given (start_of names) q.items) (ended names q.end) fault e (λ is.
+    by_next (items_checked given (start_of names) q.items) e (λ is.
     let a = at_item given names [] q.items fault is in
     inl (record {
       front = a.front;
@@ -195,30 +173,27 @@ fault_told q fault e =
       unmet = unmet (known_in names a.items) fault.kind fault.span a.told.demand a.told.tells;
       says = a.told.tells;
     })) (λ more p e.
-    let all = items_sound given names [] q.items more p in
-    by_must (nat_lt 0 (length more.prints)) NothingPrinted q.end _ fault e (λ none at.
-    inr (
+    let all = items_sound [] q.items p in
+    by_must (nat_lt 0 (length more.prints)) _ e (λ none at. inr (
       at,
       record {
         all = all.0;
         typed = all.1;
-        none = empty (prints_in all.0)
-            (ap (λ (z : Earlier). nat_lt 0 (length z.prints)) (sym all.2) ∙ none);
+        none = empty (prints_in all.0) (ap (λ (z : Earlier). nat_lt 0 (length z.prints)) (sym all.2) ∙ none);
       },
-    ))
-    (λ some e. no_fault _ fault e))
+    )) (λ some e. no_fault e))
 
 -- a fault of another kind than *NothingPrinted* is at an item
-pub at_some_item : (q : Query) (kind : FaultKind) (at : Span) → (NothingPrinted ≡ kind → ⊥) → HasFault kind at q
+pub at_some_item : {q : Query} {kind : FaultKind} {at : Span} → (NothingPrinted ≡ kind → ⊥) → HasFault kind at q
     → Breaks (λ known d. Tells known kind at d) q
-at_some_item q kind at other e = go (fault_told q (at_span kind at) e)
+at_some_item {q} {kind} {at} other e = go (fault_told e)
   where
     go : IsTold q (at_span kind at) → Breaks (λ known d. Tells known kind at d) q
     go (inl b) = b
     go (inr h) = absurd (other (ap (λ (f : QueryFault). f.kind) h.0))
 
-pub at_end : (q : Query) (at : Span) → HasFault NothingPrinted at q → (at ≡ q.end) × PrintsNothing q
-at_end q at e = go (fault_told q (at_span NothingPrinted at) e)
+pub at_end : {q : Query} {at : Span} → HasFault NothingPrinted at q → (at ≡ q.end) × PrintsNothing q
+at_end {q} {at} e = go (fault_told e)
   where
     go : IsTold q (at_span NothingPrinted at) → (at ≡ q.end) × PrintsNothing q
     go (inl b) = absurd b.says
@@ -234,8 +209,8 @@ of_typing known kinds.BadConstant at d t = tt
 of_typing known (kinds.OverLimit limit) at d t = tt
 of_typing known _ at d t = absurd t
 
-pub only_these : (q : Query) (fault : QueryFault) → checked q ≡ Err fault → IsOfTyping fault.kind
-only_these q fault e = go (fault_told q fault e)
+pub only_these : (q : Query) {fault : QueryFault} → checked q ≡ Err fault → IsOfTyping fault.kind
+only_these q {fault} e = go (fault_told e)
   where
     go : IsTold q fault → IsOfTyping fault.kind
     go (inl b) = of_typing (known_in (typed_names q.names) b.before) fault.kind fault.span b.demand b.says

@@ -27,13 +27,11 @@ use Rattle.query_laws.proofs.Values.{of_map, of_zip, of_group}
 
 one_more : (folds : List TypedFold) (number : ℕ) (V : Values) (views : List View) (lists : List (List Tuple)) → AllHave number V views lists
     → (op : TypedOp) (view : View) → Makes views number op view → OneMore number views lists view (made_of folds lists op)
-one_more folds number V views lists h (typed.Filter input condition) view m = of_filter folds number V views lists h input condition view m
-one_more folds number V views lists h (typed.Map input values) view m = of_map folds number V views lists h input values view m
-one_more folds number V views lists h (typed.Zip left right slots) view m =
-    of_zip folds number V views lists h left right slots view m
+one_more folds number V views lists h (typed.Filter input condition) view m = of_filter folds number V views lists h input condition m
+one_more folds number V views lists h (typed.Map input values) view m = of_map folds number V views lists h m
+one_more folds number V views lists h (typed.Zip left right slots) view m = of_zip folds number V views lists h m
     (subst (AreBelow (length m.second)) (sym m.picked) (others_below (column_names m.first) m.second))
-one_more folds number V views lists h (typed.Group input keys f args) view m =
-    of_group folds number V views lists h input keys f args view m
+one_more folds number V views lists h (typed.Group input keys f args) view m = of_group folds number V views lists h f args m
 
 -- the streams that follow others
 abbrev followed : List TypedFold → List (List Tuple) → List TypedStream → List (List Tuple)
@@ -111,10 +109,9 @@ pub record HasRows (q : TypedQuery) (packets : List (List ℕ)) : Type 0 where
   pub values : Values
   pub have : AllHave (length (field_view q.names ∷ views)) values (field_view q.names ∷ views) (all_streams q packets)
 
-pub has_rows : (query : Query) (q : TypedQuery) (packets : List (List ℕ)) → checked query ≡ Ok q
-    → All (λ words. length words ≡ FIELDS) packets
-    → HasRows q packets
-has_rows query q packets e whole =
+pub has_rows : (query : Query) {q : TypedQuery} {packets : List (List ℕ)} → checked query ≡ Ok q
+    → All (λ words. length words ≡ FIELDS) packets → HasRows q packets
+has_rows query {q} {packets} e whole =
     let v = viewed query q e in
     let distinct = subst (λ names. AreDistinct (field_numbers names)) (sym v.names) (fields_distinct query.names) in
     let V : Values = field_values (field_numbers q.names) packets in
@@ -130,15 +127,15 @@ field_names (id ∷ ids) = ap (λ l. id ∷ l) (field_names ids)
 
 -- the names of a stream's columns
 pub names_are : (q : TypedQuery) (views : List View) → AreMade (field_view q.names ∷ []) q.streams views
-    → (number : ℕ) (view : View) → slice_get (field_view q.names ∷ views) number ≡ Some view → columns_of q number ≡ column_names view
-names_are q views made zero view e = field_names (field_numbers q.names) ∙ ap column_names (same_Some (field_view q.names) view e)
-names_are q views made (suc i) view e = ap (λ o. unwrap_or o []) (columns_made (field_view q.names ∷ []) q.streams views made i view e)
+    → (number : ℕ) {view : View} → slice_get (field_view q.names ∷ views) number ≡ Some view → columns_of q number ≡ column_names view
+names_are q views made zero {view} e = field_names (field_numbers q.names) ∙ ap column_names (same_Some (field_view q.names) view e)
+names_are q views made (suc i) e = ap (λ o. unwrap_or o []) (columns_made (field_view q.names ∷ []) q.streams views made i e)
 
 -- a tuple of a stream has these values
-pub row_in : (V : Values) (view : View) (tuples : List Tuple) (t : Tuple) → HaveValues V view tuples → Contains tuples t
+pub row_in : (V : Values) (view : View) (tuples : List Tuple) {t : Tuple} → HaveValues V view tuples → Contains tuples t
     → t.row ≡ row_of V t.packet view
-row_in V view [] t h c = absurd (omega (arith, c.1))
-row_in V view (u ∷ tuples) t h c = go c.0 c.1 c.2 (λ k lt e. row_in V view tuples t h.1 (k, lt, e))
+row_in V view [] h c = absurd (omega (arith, c.1))
+row_in V view (u ∷ tuples) {t} h c = go c.0 c.1 c.2 (λ k lt e. row_in V view tuples h.1 (k, lt, e))
   where
     go : (k : ℕ) → k < length (u ∷ tuples) → slice_index_or (u ∷ tuples) k t ≡ t
         → ((j : ℕ) → j < length tuples → slice_index_or tuples j t ≡ t → t.row ≡ row_of V t.packet view) → t.row ≡ row_of V t.packet view
@@ -147,10 +144,10 @@ row_in V view (u ∷ tuples) t h c = go c.0 c.1 c.2 (λ k lt e. row_in V view tu
 
 -- ---- how long rows are
 
-all_long : (V : Values) (view : View) (n : ℕ) (tuples : List Tuple) → n ≡ length view → HaveValues V view tuples
+all_long : (V : Values) (view : View) {n : ℕ} (tuples : List Tuple) → n ≡ length view → HaveValues V view tuples
     → All (λ t. length t.row ≡ n) tuples
-all_long V view n [] e h = λ k d lt. absurd (omega (arith, lt))
-all_long V view n (t ∷ tuples) e h = go (all_long V view n tuples e h.1)
+all_long V view [] e h = λ k d lt. absurd (omega (arith, lt))
+all_long V view {n} (t ∷ tuples) e h = go (all_long V view tuples e h.1)
   where
     go : All (λ t. length t.row ≡ n) tuples → All (λ t. length t.row ≡ n) (t ∷ tuples)
     go more zero d lt = ap length h.0 ∙ length-map view (λ column. V t.packet column.origin column.name) ∙ sym e
@@ -164,19 +161,16 @@ none_past number V (v ∷ views) [] i h e = absurd h
 none_past number V (v ∷ views) (l ∷ lists) zero h e = cc e
 none_past number V (v ∷ views) (l ∷ lists) (suc i) h e = none_past number V views lists i h.1 e
 
-pub rows_fill : (q : TypedQuery) (packets : List (List ℕ)) → HasRows q packets → (number : ℕ)
+pub rows_fill : {q : TypedQuery} {packets : List (List ℕ)} → HasRows q packets → (number : ℕ)
     → All (λ t. length t.row ≡ length (columns_of q number)) (stream q number packets)
-rows_fill q packets r number = go (slice_get (field_view q.names ∷ r.views) number) refl
+rows_fill {q} {packets} r number = go (slice_get (field_view q.names ∷ r.views) number) refl
   where
     all : List View
     all = field_view q.names ∷ r.views
 
     go : (o : Option View) → slice_get all number ≡ o → All (λ t. length t.row ≡ length (columns_of q number)) (stream q number packets)
-    go None e =
-        subst (All (λ t. length t.row ≡ length (columns_of q number)))
-        (sym (none_past (length all) r.values all (all_streams q packets) number r.have e))
-        (λ k d lt. absurd (omega (arith, lt)))
-    go (Some view) e =
-        all_long r.values view (length (columns_of q number)) (stream q number packets)
-        (ap length (names_are q r.views r.made number view e) ∙ length-map view (λ c. c.name))
-        (have_at (length all) r.values all (all_streams q packets) number view r.have e).1
+    go None e = subst (All (λ t. length t.row ≡ length (columns_of q number)))
+        (sym (none_past (length all) r.values all (all_streams q packets) number r.have e)) (λ k d lt. absurd (omega (arith, lt)))
+    go (Some view) e = all_long r.values view (stream q number packets)
+        (ap length (names_are q r.views r.made number e) ∙ length-map view (λ c. c.name))
+        (have_at (length all) r.values all (all_streams q packets) number r.have e).1

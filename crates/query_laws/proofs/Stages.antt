@@ -34,11 +34,11 @@ all_back : (xs ys : List ℕ) → All Fits (xs ++ ys) → All Fits ys
 all_back [] ys h = h
 all_back (x ∷ xs) ys h = all_back xs ys (All-tail Fits x (xs ++ ys) h)
 
-not_deep : (depth : ℕ) → nat_lt MAX_STAGES depth ≡ false → depth ≤ MAX_STAGES
-not_deep depth e = grind arith
+not_deep : {depth : ℕ} → nat_lt MAX_STAGES depth ≡ false → depth ≤ MAX_STAGES
+not_deep e = grind arith
 
-is_fit : (depth : ℕ) → depth ≤ MAX_STAGES → nat_lt MAX_STAGES depth ≡ false
-is_fit depth h = grind arith
+is_fit : {depth : ℕ} → depth ≤ MAX_STAGES → nat_lt MAX_STAGES depth ≡ false
+is_fit h = grind arith
 
 shallow_fits : (depths : List ℕ) → is_too_deep depths ≡ false → All Fits depths
 shallow_fits [] e = All-nil Fits
@@ -47,12 +47,11 @@ shallow_fits (depth ∷ depths) e = go (nat_lt MAX_STAGES depth) refl (λ k. sha
     go : (b : Bool) → nat_lt MAX_STAGES depth ≡ b → (is_too_deep depths ≡ false → All Fits depths) → (b || is_too_deep depths) ≡ false
         → All Fits (depth ∷ depths)
     go true is more e = cc e
-    go false is more e = All-cons Fits depth depths (not_deep depth is) (more e)
+    go false is more e = All-cons Fits depth depths (not_deep is) (more e)
 
 fits_shallow : (depths : List ℕ) → All Fits depths → is_too_deep depths ≡ false
 fits_shallow [] h = refl
-fits_shallow (depth ∷ depths) h =
-    ap (λ (b : Bool). b || is_too_deep depths) (is_fit depth (All-head Fits depth depths h))
+fits_shallow (depth ∷ depths) h = ap (λ (b : Bool). b || is_too_deep depths) (is_fit (All-head Fits depth depths h))
     ∙ fits_shallow depths (All-tail Fits depth depths h)
 
 -- ---- streams
@@ -60,19 +59,17 @@ fits_shallow (depth ∷ depths) h =
 all_after : (folds : List TypedFold) (depths : List StreamDepths) (list : List TypedStream)
     → fold (λ streams one. streams ++ depths_made folds streams one.op ∷ []) depths list ≡ depths ++ beyond folds depths list
 all_after folds depths [] = sym (append-nil depths)
-all_after folds depths (one ∷ list) =
-    all_after folds (depths ++ depths_made folds depths one.op ∷ []) list
+all_after folds depths (one ∷ list) = all_after folds (depths ++ depths_made folds depths one.op ∷ []) list
     ∙ append_assoc depths (depths_made folds depths one.op ∷ []) (beyond folds (depths ++ depths_made folds depths one.op ∷ []) list)
 
 depths_are : (q : TypedQuery) → all_depths q ≡ packet_depths ∷ beyond q.folds (packet_depths ∷ []) q.streams
 depths_are q = all_after q.folds (packet_depths ∷ []) q.streams
 
-some_deep : {P : Type 0} (fault : QueryFault) → (let o : Option QueryFault = Some fault in o) ≡ None → P
-some_deep fault e = cc e
+some_deep : {P : Type 0} {fault : QueryFault} → (let o : Option QueryFault = Some fault in o) ≡ None → P
+some_deep e = cc e
 
 none_deep : (folds : List TypedFold) (depths : List StreamDepths) (list : List TypedStream)
-    → first_too_deep list (beyond folds depths list) ≡ None
-    → All Fits (operations (beyond folds depths list))
+    → first_too_deep list (beyond folds depths list) ≡ None → All Fits (operations (beyond folds depths list))
 none_deep folds depths [] e = All-nil Fits
 none_deep folds depths (one ∷ list) e = go (is_too_deep made.operations) refl (λ k. none_deep folds (depths ++ made ∷ []) list k) e
   where
@@ -85,7 +82,7 @@ none_deep folds depths (one ∷ list) e = go (is_too_deep made.operations) refl 
     go : (b : Bool) → is_too_deep made.operations ≡ b → (first_too_deep list rest ≡ None → All Fits (operations rest))
         → cond b (Some (record { kind = OverLimit Stages; span = one.name.span })) (first_too_deep list rest) ≡ None
         → All Fits (made.operations ++ operations rest)
-    go true is more e = some_deep _ e
+    go true is more e = some_deep e
     go false is more e = All-append Fits made.operations (operations rest) (shallow_fits made.operations is) (more e)
 
 all_fit : (folds : List TypedFold) (depths : List StreamDepths) (list : List TypedStream) → All Fits (operations (beyond folds depths list))

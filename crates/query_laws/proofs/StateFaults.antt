@@ -30,53 +30,47 @@ With states = (e : Expr) × HasState states e
 abbrev exprs : (states : List ℕ) → List (With states) → List Expr
 exprs states es = map (λ a. a.0) es
 
-same_span : (a b : Span) → (let o : Option Span = Some a in o) ≡ Some b → a ≡ b
-same_span a b e = cc e
+same_span : {a b : Span} → (let o : Option Span = Some a in o) ≡ Some b → a ≡ b
+same_span e = cc e
 
-pub either_state : (P : Type 0) (a b : Option Span) (span : Span) → or_else a b ≡ Some span → (a ≡ Some span → P) → (b ≡ Some span → P) → P
-either_state P None b span e one other = other e
-either_state P (Some x) b span e one other = one e
+pub either_state : {P : Type 0} (a : Option Span) {b : Option Span} {span : Span} → or_else a b ≡ Some span → (a ≡ Some span → P) → (b ≡ Some span → P) → P
+either_state None e one other = other e
+either_state (Some x) e one other = one e
 
-some_argument : (states : List ℕ) (es : List (With states)) (span : Span) → first_of (map (state_in states) (exprs states es)) ≡ Some span
+some_argument : (states : List ℕ) (es : List (With states)) {span : Span} → first_of (map (state_in states) (exprs states es)) ≡ Some span
     → (a : Expr) × IsOneOf a (exprs states es) × State states a span
-some_argument states [] span e = cc e
-some_argument states (a ∷ es) span e =
-    either_state ((c : Expr) × IsOneOf c (exprs states (a ∷ es)) × State states c span) (state_in states a.0)
-    (first_of (map (state_in states) (exprs states es))) span e
-    (λ is. (a.0, parts.first (exprs states es), a.1 span is))
-    (λ is. let m = some_argument states es span is in (m.0, parts.later a.0 (exprs states es) m.1, m.2))
+some_argument states [] e = cc e
+some_argument states (a ∷ es) {span} e = either_state (state_in states a.0) e (λ is. (a.0, parts.first, a.1 span is))
+    (λ is. let m = some_argument states es is in (m.0, parts.later a.0 (exprs states es) m.1, m.2))
 
-state_moved : (states : List ℕ) (e f : Expr) (span : Span) → f ≡ e → State states e span → State states f span
-state_moved states e f span is h = let E : Expr → Type 0 = λ z. State states z span in subst E (sym is) h
+state_moved : (states : List ℕ) {e f : Expr} {span : Span} → f ≡ e → State states e span → State states f span
+state_moved states {span} is h = let E : Expr → Type 0 = λ z. State states z span in subst E (sym is) h
 
-named_state : (states : List ℕ) (x : Name) (span : Span) (b : Bool) → is_among x.id states ≡ b → cond b (Some x.span) None ≡ Some span
+named_state : (states : List ℕ) {x : Name} {span : Span} (b : Bool) → is_among x.id states ≡ b → cond b (Some x.span) None ≡ Some span
     → State states (whole.Named x) span
-named_state states x span true is e = (x, λ k. (k, parts.whole k (whole.Named x)), same_span x.span span e, is)
-named_state states x span false is e = cc e
+named_state states {x} true is e = (x, λ k. (k, parts.whole), same_span e, is)
+named_state states false is e = cc e
 
-state_of : (states : List ℕ) (y : expr.Expr-F (With states)) (span : Span)
+state_of : (states : List ℕ) (y : expr.Expr-F (With states)) {span : Span}
     → state_step states (map-Expr Expr (Option Span) (state_in states) (map-Expr (With states) Expr (λ a. a.0) y)) ≡ Some span
     → State states (roll-Expr (map-Expr (With states) Expr (λ a. a.0) y)) span
-state_of states (expr.Number n at) span e = cc e
-state_of states (expr.Named x) span e = state_moved states _ _ span (rolls-Named x)
-    (named_state states x span (is_among x.id states) refl e)
-state_of states (expr.Not at a) span e =
+state_of states (expr.Number n at) e = cc e
+state_of states (expr.Named x) e = state_moved states (rolls-Named x) (named_state states (is_among x.id states) refl e)
+state_of states (expr.Not at a) {span} e =
     let m = a.1 span e in
-    state_moved states _ _ span (rolls-Not at a.0)
-    (m.0, λ k. let p = m.1 Condition in (p.0, parts.of_not k at a.0 p.0 (whole.Named m.0) p.1), m.2, m.3)
-state_of states (expr.Binary op at a b) span e =
-    state_moved states _ _ span (rolls-Binary op at a.0 b.0) (
-    either_state (State states (whole.Binary op at a.0 b.0) span) (state_in states a.0) (state_in states b.0) span e (λ is.
+    state_moved states (rolls-Not at a.0) (m.0, λ k. let p = m.1 Condition in (p.0, parts.of_not at p.1), m.2, m.3)
+state_of states (expr.Binary op at a b) {span} e = state_moved states (rolls-Binary op at a.0 b.0) (
+    either_state (state_in states a.0) e (λ is.
     let m = a.1 span is in
-    (m.0, λ k. let p = m.1 (operand_kind op) in (p.0, parts.of_left k op at a.0 b.0 p.0 (whole.Named m.0) p.1), m.2, m.3)) (λ is.
+    (m.0, λ k. let p = m.1 (operand_kind op) in (p.0, parts.of_left op at a.0 b.0 p.1), m.2, m.3)) (λ is.
     let m = b.1 span is in
-    (m.0, λ k. let p = m.1 (operand_kind op) in (p.0, parts.of_right k op at a.0 b.0 p.0 (whole.Named m.0) p.1), m.2, m.3)))
-state_of states (expr.Call op at args) span e =
-    let c = some_argument states args span e in
+    (m.0, λ k. let p = m.1 (operand_kind op) in (p.0, parts.of_right op at a.0 p.1), m.2, m.3)))
+state_of states (expr.Call op at args) e =
+    let c = some_argument states args e in
     let m = c.2 in
-    state_moved states _ _ span (rolls-Call op at (exprs states args)) (
+    state_moved states (rolls-Call op at (exprs states args)) (
       m.0,
-      λ k. let p = m.1 (operand_kind op) in (p.0, parts.of_argument k op at (exprs states args) c.0 p.0 (whole.Named m.0) c.1 p.1),
+      λ k. let p = m.1 (operand_kind op) in (p.0, parts.of_argument op at c.1 p.1),
       m.2,
       m.3,
     )
@@ -85,14 +79,13 @@ pub has_state : (states : List ℕ) (e : Expr) → HasState states e
 has_state states = ind-Expr (HasState states) (λ x y is span e.
     let L : expr.Expr-F Expr → Type 0 = λ z. state_step states (map-Expr Expr (Option Span) (state_in states) z) ≡ Some span
     → State states (roll-Expr z) span in
-    subst L is (state_of states y span) (sym (fold-roll-Expr (Option Span) (state_step states) x) ∙ e))
+    subst L is (state_of states y) (sym (fold-roll-Expr (Option Span) (state_step states) x) ∙ e))
 
 -- what the check knows of the conditions around
 abbrev pub Knows : List ℕ → List Expr → Enclosing → Type 0
 Knows states around outer = (span : Span) → outer.state ≡ Some span → (c : Expr) × IsOneOf c around × (state_in states c ≡ Some span)
 
-pub knows_inside : (states : List ℕ) (around : List Expr) (outer : Enclosing) (c : Expr) (t : TypedExpr) → Knows states around outer
+pub knows_inside : (states : List ℕ) {around : List Expr} (outer : Enclosing) {c : Expr} (t : TypedExpr) → Knows states around outer
     → Knows states (c ∷ around) (inside states outer c t)
-knows_inside states around outer c t knows span e =
-    either_state ((d : Expr) × IsOneOf d (c ∷ around) × (state_in states d ≡ Some span)) outer.state (state_in states c) span e
-    (λ is. let k = knows span is in (k.0, parts.later c around k.1, k.2)) (λ is. (c, parts.first around, is))
+knows_inside states {around} outer {c} t knows span e = either_state outer.state e
+    (λ is. let k = knows span is in (k.0, parts.later c around k.1, k.2)) (λ is. (c, parts.first, is))

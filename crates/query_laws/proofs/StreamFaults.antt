@@ -44,216 +44,173 @@ abbrev StreamTold : List ℕ → Earlier → Name → StreamOp → Type 0
 StreamTold five earlier name op = (fault : QueryFault) → made_stream five earlier name op ≡ Err fault
     → Broken (StreamAsks five earlier.known earlier.groups name op) earlier.known fault
 
-stream_filter_told : (five : List ℕ) (earlier : Earlier) (name : Name) (input : Name) (e : Expr)
+stream_filter_told : {five : List ℕ} (earlier : Earlier) {name : Name} {input : Name} {e : Expr}
     → StreamTold five earlier name (stream.Filter input e)
-stream_filter_told five earlier name input e fault is =
-    by_next (stream_named earlier.known input) _ fault is (λ is. record {
-      demand = Stands AStream input;
-      asks = of_filtered input e;
-      tells = stream_told earlier.known input fault is;
-    }) (λ source p is.
-    by_next (condition_of (column_names source.columns) source.hidden e) _ fault is (λ is.
-    let b = condition_told (column_names source.columns) source.hidden e fault is in
+stream_filter_told earlier {input} {e} fault is = by_next (stream_named earlier.known input) is (λ is. record {
+  demand = Stands AStream input;
+  asks = of_filtered;
+  tells = stream_told earlier.known input is;
+}) (λ source p is. by_next (condition_of (column_names source.columns) source.hidden e) is (λ is.
+    let b = condition_told is in
     record {
       demand = b.demand;
-      asks = of_condition input e source b.demand (stream_sound earlier.known input source p) b.asks;
-      tells =
-          b.tells earlier.known;
-    })
-    (λ condition q is. no_fault _ fault is))
+      asks = of_condition source (stream_sound earlier.known input p) b.asks;
+      tells = b.tells earlier.known;
+    }) (λ condition q is. no_fault is))
 
-stream_map_told : (five : List ℕ) (earlier : Earlier) (name : Name) (input : Name) (new : List Column)
+stream_map_told : {five : List ℕ} (earlier : Earlier) {name : Name} {input : Name} {new : List Column}
     → StreamTold five earlier name (stream.Map input new)
-stream_map_told five earlier name input new fault is =
-    by_next (stream_named earlier.known input) _ fault is (λ is. record {
-      demand = Stands AStream input;
-      asks = of_mapped input new;
-      tells = stream_told earlier.known input fault is;
-    }) (λ source p is.
-    by_next (new_columns (column_names source.columns) source.hidden no_new_columns new) _ fault is (λ is.
-    broken_in _ _ earlier.known fault (λ d asked. of_columns input new source d (stream_sound earlier.known input source p) asked)
-    (columns_told (column_names source.columns) source.hidden new [] new no_new_columns earlier.known fault refl refl is))
-    (λ made q is. no_fault _ fault is))
+stream_map_told earlier {input} {new} fault is = by_next (stream_named earlier.known input) is (λ is. record {
+  demand = Stands AStream input;
+  asks = of_mapped;
+  tells = stream_told earlier.known input is;
+}) (λ source p is. by_next (new_columns (column_names source.columns) source.hidden no_new_columns new) is (λ is.
+    broken_in (λ d asked. of_columns source (stream_sound earlier.known input p) asked) (columns_told [] new no_new_columns refl refl is))
+    (λ made q is. no_fault is))
 
-stream_zip_told : (five : List ℕ) (earlier : Earlier) (name : Name) (first second : Name)
+stream_zip_told : {five : List ℕ} (earlier : Earlier) {name : Name} {first second : Name}
     → StreamTold five earlier name (stream.Zip first second)
-stream_zip_told five earlier name first second fault is =
-    by_next (stream_named earlier.known first) _ fault is (λ is. record {
-      demand = Stands AStream first;
-      asks = of_first first second;
-      tells = stream_told earlier.known first fault is;
-    }) (λ left p is.
-    by_next (stream_named earlier.known second) _ fault is (λ is. record {
-      demand = Stands AStream second;
-      asks = of_second first second;
-      tells = stream_told earlier.known second fault is;
-    }) (λ right q is.
-    by_must_not (clash left.columns right.columns) NameTaken second.span _ fault is (λ clashes at. record {
-      demand = Same left.columns right.columns second.span;
-      asks = of_both first second left right (stream_sound earlier.known first left p) (stream_sound earlier.known second right q);
-      tells = told earlier.known (Same left.columns right.columns second.span) NameTaken second.span fault at
-          (refl, λ same. not_both _ (all_same_complete left.columns right.columns same) clashes);
-    }) (λ none is. no_fault _ fault is)))
+stream_zip_told earlier {first} {second} fault is = by_next (stream_named earlier.known first) is (λ is. record {
+  demand = Stands AStream first;
+  asks = of_first;
+  tells = stream_told earlier.known first is;
+}) (λ left p is. by_next (stream_named earlier.known second) is (λ is. record {
+  demand = Stands AStream second;
+  asks = of_second;
+  tells = stream_told earlier.known second is;
+}) (λ right q is. by_must_not (clash left.columns right.columns) is (λ clashes at. record {
+  demand = Same left.columns right.columns second.span;
+  asks = of_both first second left right (stream_sound earlier.known first p) (stream_sound earlier.known second q);
+  tells = told earlier.known (Same left.columns right.columns second.span) at
+      (refl, λ same. not_both _ (all_same_complete left.columns right.columns same) clashes);
+}) (λ none is. no_fault is)))
 
-stream_groupby_told : (five : List ℕ) (earlier : Earlier) (name : Name) (input : Name) (keys : List Key) (fold_name : Name)
+stream_groupby_told : {five : List ℕ} (earlier : Earlier) {name : Name} {input : Name} {keys : List Key} {fold_name : Name}
     → StreamTold five earlier name (stream.Group input keys fold_name)
-stream_groupby_told five earlier name input keys fold_name fault is =
-    by_must (nat_lt earlier.groups MAX_GROUPBYS) (OverLimit Groupbys) name.span _ fault is (λ full at. record {
+stream_groupby_told {five} earlier {name} {input} {keys} {fold_name} fault is =
+    by_must (nat_lt earlier.groups MAX_GROUPBYS) _ is (λ full at. record {
       demand = Fewer Groupbys earlier.groups name.span;
-      asks = of_limit input keys fold_name;
-      tells = told earlier.known (Fewer Groupbys earlier.groups name.span) (OverLimit Groupbys) name.span fault at
-          (refl, refl, at_least earlier.groups earlier.groups MAX_GROUPBYS refl full);
-    }) (λ few is.
-    by_next (stream_named earlier.known input) _ fault is (λ is. record {
+      asks = of_limit;
+      tells = told earlier.known (Fewer Groupbys earlier.groups name.span) at (refl, refl, at_least refl full);
+    }) (λ few is. by_next (stream_named earlier.known input) is (λ is. record {
       demand = Stands AStream input;
-      asks = of_grouped input keys fold_name;
-      tells = stream_told earlier.known input fault is;
-    }) (λ source p is.
-    by_next (keys_checked five (column_names source.columns) source.hidden keys) _ fault is (λ is.
-    broken_in _ _ earlier.known fault (λ d asked. of_keys input keys fold_name source d (stream_sound earlier.known input source p) asked)
-    (keys_told (column_names source.columns) source.hidden (flat_map (key_names five) keys) [] (flat_map (key_names five) keys)
-    (record { names = []; slots = [] })
-    earlier.known fault refl refl is)) (λ picked q is.
-    by_next (fold_named earlier.known fold_name) _ fault is (λ is. record {
+      asks = of_grouped;
+      tells = stream_told earlier.known input is;
+    }) (λ source p is. by_next (keys_checked five (column_names source.columns) source.hidden keys) is (λ is.
+    broken_in (λ d asked. of_keys source (stream_sound earlier.known input p) asked) (keys_told [] (flat_map (key_names five) keys)
+    (record { names = []; slots = [] }) refl refl is)) (λ picked q is. by_next (fold_named earlier.known fold_name) is (λ is. record {
       demand = Stands AFold fold_name;
       asks = of_fold input keys fold_name;
-      tells = fold_told earlier.known fold_name fault is;
-    }) (λ f r is.
-    by_next (arguments_of (column_names source.columns) source.hidden picked.names f fold_name.span) _ fault is (λ is.
-    let k = picked_sound five (column_names source.columns) source.hidden keys picked q in
+      tells = fold_told earlier.known fold_name is;
+    }) (λ f r is. by_next (arguments_of (column_names source.columns) source.hidden picked.names f fold_name.span) is (λ is.
+    let k = picked_sound five source.hidden keys q in
     let A : List ℕ → Type 0 = λ z. arguments_of (column_names source.columns) source.hidden z f fold_name.span ≡ Err fault in
-    broken_in _ _ earlier.known fault
-    (λ d asked. of_arguments input keys fold_name source f d (stream_sound earlier.known input source p)
-    (fold_name_sound earlier.known fold_name f r) asked)
-    (arguments_told (column_names source.columns) source.hidden (key_ids five keys) f fold_name.span earlier.known fault
-    (subst A (ap (λ (z : Picked). z.names) k.2) is))) (λ arguments s is. no_fault _ fault is)))))
+    broken_in (λ d asked. of_arguments source (stream_sound earlier.known input p) (fold_name_sound earlier.known fold_name r) asked)
+    (arguments_told (subst A (ap (λ (z : Picked). z.names) k.2) is))) (λ arguments s is. no_fault is)))))
 
-pub stream_op_told : (five : List ℕ) (earlier : Earlier) (name : Name) (op : StreamOp) → StreamTold five earlier name op
-stream_op_told five earlier name (stream.Filter input e) = stream_filter_told five earlier name input e
-stream_op_told five earlier name (stream.Map input new) = stream_map_told five earlier name input new
-stream_op_told five earlier name (stream.Zip first second) = stream_zip_told five earlier name first second
-stream_op_told five earlier name (stream.Group input keys fold_name) = stream_groupby_told five earlier name input keys fold_name
+pub stream_op_told : {five : List ℕ} (earlier : Earlier) {name : Name} (op : StreamOp) → StreamTold five earlier name op
+stream_op_told earlier (stream.Filter input e) = stream_filter_told earlier
+stream_op_told earlier (stream.Map input new) = stream_map_told earlier
+stream_op_told earlier (stream.Zip first second) = stream_zip_told earlier
+stream_op_told earlier (stream.Group input keys fold_name) = stream_groupby_told earlier
 
-quiet_stands : (earlier : Earlier) (name : Name) (f : FoldView) → quiet_fold earlier.known name ≡ Ok f → IsFold earlier.known name.id f
-quiet_stands earlier name f e =
+quiet_stands : (earlier : Earlier) (name : Name) {f : FoldView} → quiet_fold earlier.known name ≡ Ok f → IsFold earlier.known name.id f
+quiet_stands earlier name {f} e =
     let loud = found_first (fold_named earlier.known name) _ f e in
-    let quiet = must_not_ok loud.0.emits WrongKind name.span _ f loud.2 in
+    let quiet = must_not_ok loud.0.emits WrongKind name.span loud.2 in
     let F : FoldView → Type 0 = λ z. IsFold earlier.known name.id z in
-    subst F (same_ok loud.0 f quiet.1) (fold_name_sound earlier.known name loud.0 loud.1)
+    subst F (same_ok loud.0 f quiet.1) (fold_name_sound earlier.known name loud.1)
 
-kept : (rows : ℕ) → 1 ≤ rows → rows ≤ 65536 → (nat_lt 0 rows && nat_le rows 65536) ≡ true
-kept rows some few = both_hold (nat_lt 0 rows) (nat_le rows 65536) (below 0 rows (omega (arith, some))) (at_most rows 65536 few)
+kept : {rows : ℕ} → 1 ≤ rows → rows ≤ 65536 → (nat_lt 0 rows && nat_le rows 65536) ≡ true
+kept some few = both_hold (below (omega (arith, some))) (at_most few)
 
 -- what each fault in this operator of a final breaks
 abbrev FinalTold : Given → Earlier → FinalOp → Type 0
 FinalTold given earlier op = (fault : QueryFault) → made_final given earlier op ≡ Err fault
     → Broken (FinalAsks (five_fields given.fields) earlier.known op) earlier.known fault
 
-final_filter_told : (given : Given) (earlier : Earlier) (input : Name) (e : Expr) → FinalTold given earlier (final.Filter input e)
-final_filter_told given earlier input e fault is =
-    by_next (table_named earlier.known input) _ fault is (λ is. record {
-      demand = Stands ATable input;
-      asks = asks.of_filtered input e;
-      tells = table_told earlier.known input fault is;
-    }) (λ source p is.
-    by_next (condition_of source.columns [] e) _ fault is (λ is.
-    let b = condition_told source.columns [] e fault is in
+final_filter_told : (given : Given) (earlier : Earlier) {input : Name} {e : Expr} → FinalTold given earlier (final.Filter input e)
+final_filter_told given earlier {input} {e} fault is = by_next (table_named earlier.known input) is (λ is. record {
+  demand = Stands ATable input;
+  asks = asks.of_filtered;
+  tells = table_told earlier.known input is;
+}) (λ source p is. by_next (condition_of source.columns [] e) is (λ is.
+    let b = condition_told is in
     record {
       demand = b.demand;
-      asks = asks.of_condition input e source b.demand (table_sound earlier.known input source p) b.asks;
-      tells =
-          b.tells earlier.known;
-    })
-    (λ condition q is. no_fault _ fault is))
+      asks = asks.of_condition source (table_sound earlier.known input p) b.asks;
+      tells = b.tells earlier.known;
+    }) (λ condition q is. no_fault is))
 
-final_map_told : (given : Given) (earlier : Earlier) (input : Name) (new : List Column) → FinalTold given earlier (final.Map input new)
-final_map_told given earlier input new fault is =
-    by_next (table_named earlier.known input) _ fault is (λ is. record {
-      demand = Stands ATable input;
-      asks = asks.of_mapped input new;
-      tells = table_told earlier.known input fault is;
-    }) (λ source p is.
-    by_next (new_columns source.columns [] no_new_columns new) _ fault is (λ is.
-    broken_in _ _ earlier.known fault (λ d asked. asks.of_columns input new source d (table_sound earlier.known input source p) asked)
-    (columns_told source.columns [] new [] new no_new_columns earlier.known fault refl refl is))
-    (λ made q is. no_fault _ fault is))
+final_map_told : (given : Given) (earlier : Earlier) {input : Name} {new : List Column} → FinalTold given earlier (final.Map input new)
+final_map_told given earlier {input} {new} fault is = by_next (table_named earlier.known input) is (λ is. record {
+  demand = Stands ATable input;
+  asks = asks.of_mapped;
+  tells = table_told earlier.known input is;
+}) (λ source p is. by_next (new_columns source.columns [] no_new_columns new) is (λ is.
+    broken_in (λ d asked. asks.of_columns source (table_sound earlier.known input p) asked)
+    (columns_told [] new no_new_columns refl refl is)) (λ made q is. no_fault is))
 
-final_groupby_told : (given : Given) (earlier : Earlier) (input : Name) (keys : List Key) (fold_name : Name)
+final_groupby_told : (given : Given) (earlier : Earlier) {input : Name} {keys : List Key} {fold_name : Name}
     → FinalTold given earlier (final.Group input keys fold_name)
-final_groupby_told given earlier input keys fold_name fault is =
+final_groupby_told given earlier {input} {keys} {fold_name} fault is =
     let five = five_fields given.fields in
-    by_next (table_named earlier.known input) _ fault is (λ is. record {
+    by_next (table_named earlier.known input) is (λ is. record {
       demand = Stands ATable input;
-      asks = asks.of_grouped input keys fold_name;
-      tells = table_told earlier.known input fault is;
-    }) (λ source p is.
-    by_next (keys_checked five source.columns [] keys) _ fault is (λ is.
-    broken_in _ _ earlier.known fault (λ d asked. asks.of_keys input keys fold_name source d (table_sound earlier.known input source p)
-    asked)
-    (keys_told source.columns [] (flat_map (key_names five) keys) [] (flat_map (key_names five) keys) (record { names = []; slots = [] })
-    earlier.known fault refl refl is)) (λ picked q is.
-    by_next (quiet_fold earlier.known fold_name) _ fault is (λ is. record {
+      asks = asks.of_grouped;
+      tells = table_told earlier.known input is;
+    }) (λ source p is. by_next (keys_checked five source.columns [] keys) is (λ is.
+    broken_in (λ d asked. asks.of_keys source (table_sound earlier.known input p) asked)
+    (keys_told [] (flat_map (key_names five) keys) (record { names = []; slots = [] }) refl refl is)) (λ picked q is.
+    by_next (quiet_fold earlier.known fold_name) is (λ is. record {
       demand = Stands AQuietFold fold_name;
       asks = asks.of_fold input keys fold_name;
-      tells = quiet_told earlier.known fold_name fault is;
-    }) (λ f r is.
-    by_next (arguments_of source.columns [] picked.names f fold_name.span) _ fault is (λ is.
-    let k = picked_sound five source.columns [] keys picked q in
+      tells = quiet_told earlier.known fold_name is;
+    }) (λ f r is. by_next (arguments_of source.columns [] picked.names f fold_name.span) is (λ is.
+    let k = picked_sound five [] keys q in
     let A : List ℕ → Type 0 = λ z. arguments_of source.columns [] z f fold_name.span ≡ Err fault in
-    broken_in _ _ earlier.known fault
-    (λ d asked. asks.of_arguments input keys fold_name source f d (table_sound earlier.known input source p)
-    (quiet_stands earlier fold_name f r) asked)
-    (arguments_told source.columns [] (key_ids five keys) f fold_name.span earlier.known fault
-    (subst A (ap (λ (z : Picked). z.names) k.2) is)))
-    (λ arguments s is. no_fault _ fault is))))
+    broken_in (λ d asked. asks.of_arguments source (table_sound earlier.known input p) (quiet_stands earlier fold_name r) asked)
+    (arguments_told (subst A (ap (λ (z : Picked). z.names) k.2) is))) (λ arguments s is. no_fault is))))
 
-final_join_told : (given : Given) (earlier : Earlier) (first second : Name) → FinalTold given earlier (final.Join first second)
-final_join_told given earlier first second fault is =
-    by_next (table_named earlier.known first) _ fault is (λ is. record {
-      demand = Stands ATable first;
-      asks = asks.of_first first second;
-      tells = table_told earlier.known first fault is;
-    }) (λ left p is.
-    by_next (table_named earlier.known second) _ fault is (λ is. record {
-      demand = Stands ATable second;
-      asks = asks.of_second first second;
-      tells = table_told earlier.known second fault is;
-    }) (λ right q is.
-    by_must (same_names (key_columns left) (key_columns right)) WrongKind second.span _ fault is (λ differ at. record {
-      demand = SameKeys left right second.span;
-      asks = asks.of_both first second left right (table_sound earlier.known first left p) (table_sound earlier.known second right q);
-      tells = told earlier.known (SameKeys left right second.span) WrongKind second.span fault at
-          (refl, λ same. not_both _ differ (same_complete (key_columns left) (key_columns right) same));
-    }) (λ same is.
-    by_must_not (list_any (λ name. is_among name left.columns) (other_columns right)) NameTaken second.span _ fault is (λ among at. record {
-      demand = Apart (other_columns right) left.columns second.span;
-      asks = asks.of_others first second left right (table_sound earlier.known first left p) (table_sound earlier.known second right q);
-      tells = told earlier.known (Apart (other_columns right) left.columns second.span) NameTaken second.span fault at
-          (refl, λ apart. not_both _ (apart_complete (other_columns right) left.columns apart) among);
-    }) (λ none is. no_fault _ fault is))))
+final_join_told : (given : Given) (earlier : Earlier) {first second : Name} → FinalTold given earlier (final.Join first second)
+final_join_told given earlier {first} {second} fault is = by_next (table_named earlier.known first) is (λ is. record {
+  demand = Stands ATable first;
+  asks = asks.of_first;
+  tells = table_told earlier.known first is;
+}) (λ left p is. by_next (table_named earlier.known second) is (λ is. record {
+  demand = Stands ATable second;
+  asks = asks.of_second;
+  tells = table_told earlier.known second is;
+}) (λ right q is. by_must (same_names (key_columns left) (key_columns right)) _ is (λ differ at. record {
+  demand = SameKeys left right second.span;
+  asks = asks.of_both first second left right (table_sound earlier.known first p) (table_sound earlier.known second q);
+  tells = told earlier.known (SameKeys left right second.span) at (refl, λ same. not_both _ differ (same_complete same));
+}) (λ same is. by_must_not (list_any (λ name. is_among name left.columns) (other_columns right)) is (λ among at. record {
+  demand = Apart (other_columns right) left.columns second.span;
+  asks = asks.of_others left right (table_sound earlier.known first p) (table_sound earlier.known second q);
+  tells = told earlier.known (Apart (other_columns right) left.columns second.span) at
+      (refl, λ apart. not_both _ (apart_complete (other_columns right) left.columns apart) among);
+}) (λ none is. no_fault is))))
 
-final_top_told : (given : Given) (earlier : Earlier) (input column : Name) (rows : ℕ) (span : Span)
+final_top_told : (given : Given) (earlier : Earlier) {input column : Name} {rows : ℕ} {span : Span}
     → FinalTold given earlier (final.Top input column rows span)
-final_top_told given earlier input column rows span fault is =
-    by_next (table_named earlier.known input) _ fault is (λ is. record {
-      demand = Stands ATable input;
-      asks = asks.of_ranked input column rows span;
-      tells = table_told earlier.known input fault is;
-    }) (λ source p is.
-    by_next (slot_of source.columns [] column) _ fault is (λ is. record {
-      demand = AColumn source.columns [] column.id column.span;
-      asks = asks.of_column input column rows span source (table_sound earlier.known input source p);
-      tells = slot_told source.columns [] column fault is earlier.known;
-    }) (λ slot q is.
-    by_must (nat_lt 0 rows && nat_le rows 65536) BadConstant span _ fault is (λ bad at. record {
-      demand = Kept rows span;
-      asks = asks.of_rows input column rows span;
-      tells = told earlier.known (Kept rows span) BadConstant span fault at (refl, λ h. not_both _ bad (kept rows h.0 h.1));
-    }) (λ good is. no_fault _ fault is)))
+final_top_told given earlier {input} {column} {rows} {span} fault is = by_next (table_named earlier.known input) is (λ is. record {
+  demand = Stands ATable input;
+  asks = asks.of_ranked;
+  tells = table_told earlier.known input is;
+}) (λ source p is. by_next (slot_of source.columns [] column) is (λ is. record {
+  demand = AColumn source.columns [] column.id column.span;
+  asks = asks.of_column span source (table_sound earlier.known input p);
+  tells = slot_told source.columns [] column is earlier.known;
+}) (λ slot q is. by_must (nat_lt 0 rows && nat_le rows 65536) _ is (λ bad at. record {
+  demand = Kept rows span;
+  asks = asks.of_rows;
+  tells = told earlier.known (Kept rows span) at (refl, λ h. not_both _ bad (kept h.0 h.1));
+}) (λ good is. no_fault is)))
 
 pub final_op_told : (given : Given) (earlier : Earlier) (op : FinalOp) → FinalTold given earlier op
-final_op_told given earlier (final.Filter input e) = final_filter_told given earlier input e
-final_op_told given earlier (final.Map input new) = final_map_told given earlier input new
-final_op_told given earlier (final.Group input keys fold_name) = final_groupby_told given earlier input keys fold_name
-final_op_told given earlier (final.Join first second) = final_join_told given earlier first second
-final_op_told given earlier (final.Top input column rows span) = final_top_told given earlier input column rows span
+final_op_told given earlier (final.Filter input e) = final_filter_told given earlier
+final_op_told given earlier (final.Map input new) = final_map_told given earlier
+final_op_told given earlier (final.Group input keys fold_name) = final_groupby_told given earlier
+final_op_told given earlier (final.Join first second) = final_join_told given earlier
+final_op_told given earlier (final.Top input column rows span) = final_top_told given earlier

@@ -38,25 +38,23 @@ use Rattle.query_laws.proofs.FoldNames.{below}
 use Rattle.query_laws.proofs.NameLaws.{ok, stream_sound, stream_complete, fold_name_sound, fold_name_complete, columns_sound}
 use Rattle.query_laws.proofs.NameLaws.{columns_complete, keys_sound, keys_complete, arguments_sound, arguments_complete}
 
-filter_sound : (earlier : Earlier) (input : Name) (e : Expr) (made : MadeStream) → filtered earlier input e ≡ Ok made
+filter_sound : (earlier : Earlier) {input : Name} {e : Expr} {made : MadeStream} → filtered earlier input e ≡ Ok made
     → OfFilter earlier.known input e made
-filter_sound earlier input e made is =
+filter_sound earlier {input} {e} {made} is =
     let source = found_first (stream_named earlier.known input) _ made is in
     let c = found_first (condition_of (column_names source.0.columns) source.0.hidden e) _ made source.2 in
     record {
       source = source.0;
       condition = c.0;
-      stream = stream_sound earlier.known input source.0 source.1;
-      typed =
-          condition_sound _ _ e c.0 c.1;
+      stream = stream_sound earlier.known input source.1;
+      typed = condition_sound _ c.1;
       is = sym (same_ok _ made c.2);
     }
 
-filter_complete : (earlier : Earlier) (input : Name) (e : Expr) (made : MadeStream) → OfFilter earlier.known input e made
+filter_complete : (earlier : Earlier) {input : Name} {e : Expr} {made : MadeStream} → OfFilter earlier.known input e made
     → filtered earlier input e ≡ Ok made
-filter_complete earlier input e made h =
-    then_next _ _ h.source (stream_complete earlier.known input h.source h.stream)
-    ∙ then_next _ _ h.condition (condition_complete _ h.source.hidden e h.condition h.typed) ∙ ok _ _ (sym h.is)
+filter_complete earlier {input} h = then_next _ (stream_complete earlier.known input h.stream)
+    ∙ then_next _ (condition_complete h.source.hidden h.typed) ∙ ok (sym h.is)
 
 abbrev maps_to : ℕ → StreamView → NewColumns → MadeStream
 maps_to number source made = record {
@@ -69,28 +67,28 @@ maps_to number source made = record {
 pub taken_start : (columns hidden : List ℕ) → columns ++ (hidden ++ []) ≡ columns ++ hidden
 taken_start columns hidden = ap (λ (z : List ℕ). columns ++ z) (append-nil hidden)
 
-map_sound : (earlier : Earlier) (input : Name) (cs : List Column) (made : MadeStream) → mapped earlier input cs ≡ Ok made
+map_sound : (earlier : Earlier) {input : Name} {cs : List Column} {made : MadeStream} → mapped earlier input cs ≡ Ok made
     → OfMap earlier.known (next_stream earlier) input cs made
-map_sound earlier input cs made is =
+map_sound earlier {input} {cs} {made} is =
     let source = found_first (stream_named earlier.known input) _ made is in
     let n = found_first (new_columns (column_names source.0.columns) source.0.hidden no_new_columns cs) _ made source.2 in
-    let c = columns_sound (column_names source.0.columns) source.0.hidden cs no_new_columns n.0 n.1 in
+    let c = columns_sound (column_names source.0.columns) source.0.hidden cs no_new_columns n.1 in
     let N : List ℕ → Type 0 = λ z. HasTypedColumns (column_names source.0.columns) z cs c.0 in
     record {
       source = source.0;
       values = c.0;
-      stream = stream_sound earlier.known input source.0 source.1;
+      stream = stream_sound earlier.known input source.1;
       typed = subst N (taken_start _ source.0.hidden) c.1;
       is = sym (same_ok _ made n.2) ∙ ap (maps_to (next_stream earlier) source.0) c.2;
     }
 
-map_complete : (earlier : Earlier) (input : Name) (cs : List Column) (made : MadeStream)
+map_complete : (earlier : Earlier) {input : Name} {cs : List Column} {made : MadeStream}
     → OfMap earlier.known (next_stream earlier) input cs made → mapped earlier input cs ≡ Ok made
-map_complete earlier input cs made h =
+map_complete earlier {input} {cs} h =
     let N : List ℕ → Type 0 = λ z. HasTypedColumns (column_names h.source.columns) z cs h.values in
-    then_next _ _ h.source (stream_complete earlier.known input h.source h.stream)
-    ∙ then_next _ _ _ (columns_complete (column_names h.source.columns) h.source.hidden cs h.values no_new_columns
-    (subst N (sym (taken_start _ h.source.hidden)) h.typed)) ∙ ok _ _ (sym h.is)
+    then_next _ (stream_complete earlier.known input h.stream)
+    ∙ then_next _ (columns_complete (column_names h.source.columns) h.source.hidden cs h.values no_new_columns
+    (subst N (sym (taken_start _ h.source.hidden)) h.typed)) ∙ ok (sym h.is)
 
 -- ---- the same columns
 
@@ -98,14 +96,14 @@ origin_same : (a b : Origin) → same_origin a b ≡ true → a ≡ b
 origin_same origin.Field origin.Field e = refl
 origin_same origin.Field (origin.Map b) e = cc e
 origin_same (origin.Map a) origin.Field e = cc e
-origin_same (origin.Map a) (origin.Map b) e = ap origin.Map (nat_same a b e)
+origin_same (origin.Map a) (origin.Map b) e = ap origin.Map (nat_same e)
 
 same_self : (a : Origin) → same_origin a a ≡ true
 same_self origin.Field = refl
-same_self (origin.Map a) = nat_is a a refl
+same_self (origin.Map a) = nat_is refl
 
-origin_is : (a b : Origin) → a ≡ b → same_origin a b ≡ true
-origin_is a b e = let P : Origin → Type 0 = λ z. same_origin a z ≡ true in subst P e (same_self a)
+origin_is : {a b : Origin} → a ≡ b → same_origin a b ≡ true
+origin_is {a} e = let P : Origin → Type 0 = λ z. same_origin a z ≡ true in subst P e (same_self a)
 
 same_sound : (left : List StreamColumn) (column : StreamColumn) → clashes_with left column ≡ false → IsSame left column
 same_sound [] column e = tt
@@ -117,20 +115,19 @@ same_sound (other ∷ rest) column e = go (nat_eq other.name column.name) refl (
         → ((b && not s) || clashes_with rest column) ≡ false → IsSame (other ∷ rest) column
     go true is true so more e = (λ n. origin_same other.origin column.origin so, more e)
     go true is false so more e = cc e
-    go false is s so more e = (λ n. absurd (nat_other other.name column.name is n), more e)
+    go false is s so more e = (λ n. absurd (nat_other is n), more e)
 
-apart_or_same : (other column : StreamColumn) → (other.name ≡ column.name → other.origin ≡ column.origin)
+apart_or_same : {other column : StreamColumn} → (other.name ≡ column.name → other.origin ≡ column.origin)
     → (nat_eq other.name column.name && not (same_origin other.origin column.origin)) ≡ false
-apart_or_same other column h = go (nat_eq other.name column.name) refl
+apart_or_same {other} {column} h = go (nat_eq other.name column.name) refl
   where
     go : (b : Bool) → nat_eq other.name column.name ≡ b → (b && not (same_origin other.origin column.origin)) ≡ false
-    go true is = ap not (origin_is other.origin column.origin (h (nat_same other.name column.name is)))
+    go true is = ap not (origin_is (h (nat_same is)))
     go false is = refl
 
 same_complete : (left : List StreamColumn) (column : StreamColumn) → IsSame left column → clashes_with left column ≡ false
 same_complete [] column h = refl
-same_complete (other ∷ rest) column h = ap (λ (b : Bool). b || clashes_with rest column) (apart_or_same other column h.0)
-    ∙ same_complete rest column h.1
+same_complete (other ∷ rest) column h = ap (λ (b : Bool). b || clashes_with rest column) (apart_or_same h.0) ∙ same_complete rest column h.1
 
 all_same_sound : (left right : List StreamColumn) → clash left right ≡ false → AreSame left right
 all_same_sound left [] e = tt
@@ -160,18 +157,18 @@ pub zip_is : {known : List Known} (first second : Name) (made : MadeStream) (h :
     → made ≡ zips_to h.left h.right (others_from 0 (column_names h.left.columns) h.right.columns)
     (columns_at h.right.columns (others_from 0 (column_names h.left.columns) h.right.columns))
 zip_is first second made h =
-    let same = others_are (column_names h.left.columns) 0 h.right.columns h.slots h.new in
+    let same = others_are h.new in
     h.is ∙ ap (zips_to h.left h.right h.slots) (at_slots h.right.columns h.slots h.others h.taken ∙ ap (columns_at h.right.columns) same)
     ∙ ap (λ (z : List ℕ). zips_to h.left h.right z (columns_at h.right.columns
     (others_from 0 (column_names h.left.columns) h.right.columns))) same
 
-zip_sound : (earlier : Earlier) (first second : Name) (made : MadeStream) → zipped earlier first second ≡ Ok made
+zip_sound : (earlier : Earlier) {first second : Name} {made : MadeStream} → zipped earlier first second ≡ Ok made
     → OfZip earlier.known first second made
-zip_sound earlier first second made is =
+zip_sound earlier {first} {second} {made} is =
     let left = found_first (stream_named earlier.known first) _ made is in
     let right = found_first (stream_named earlier.known second) _ made left.2 in
-    let one = must_not_ok _ _ _ _ made right.2 in
-    let taken = others_taken (column_names left.0.columns) right.0.columns in
+    let one = must_not_ok _ _ _ right.2 in
+    let taken = others_taken in
     record {
       left = left.0;
       right = right.0;
@@ -179,31 +176,30 @@ zip_sound earlier first second made is =
       others = columns_at right.0.columns (others_from 0 (column_names left.0.columns) right.0.columns);
       new = taken.new;
       taken = taken.there;
-      one = stream_sound earlier.known first left.0 left.1;
-      other = stream_sound earlier.known second right.0 right.1;
+      one = stream_sound earlier.known first left.1;
+      other = stream_sound earlier.known second right.1;
       same = all_same_sound left.0.columns right.0.columns one.0;
       is = sym (same_ok _ made one.1);
     }
 
-zip_complete : (earlier : Earlier) (first second : Name) (made : MadeStream) → OfZip earlier.known first second made
+zip_complete : (earlier : Earlier) {first second : Name} {made : MadeStream} → OfZip earlier.known first second made
     → zipped earlier first second ≡ Ok made
-zip_complete earlier first second made h =
-    then_next _ _ h.left (stream_complete earlier.known first h.left h.one)
-    ∙ then_next _ _ h.right (stream_complete earlier.known second h.right h.other)
-    ∙ must_not_holds _ _ _ _ (all_same_complete h.left.columns h.right.columns h.same) ∙ ok _ _ (sym (zip_is first second made h))
+zip_complete earlier {first} {second} {made} h = then_next _ (stream_complete earlier.known first h.one)
+    ∙ then_next _ (stream_complete earlier.known second h.other)
+    ∙ must_not_holds _ _ (all_same_complete h.left.columns h.right.columns h.same) ∙ ok (sym (zip_is first second made h))
 
 -- ---- keys, from none
 
-pub picked_sound : (five columns hidden : List ℕ) (keys : List Key) (picked : Picked) → keys_checked five columns hidden keys ≡ Ok picked
+pub picked_sound : (five : List ℕ) {columns : List ℕ} (hidden : List ℕ) (keys : List Key) {picked : Picked} → keys_checked five columns hidden keys ≡ Ok picked
     → (slots : List ℕ) × HasKeys columns (key_ids five keys) slots × (picked ≡ record { names = key_ids five keys; slots = slots })
-picked_sound five columns hidden keys picked e =
-    let k = keys_sound columns hidden (flat_map (key_names five) keys) (record { names = []; slots = [] }) picked (omega arith) e in
+picked_sound five {columns} hidden keys e =
+    let k = keys_sound columns hidden (flat_map (key_names five) keys) (record { names = []; slots = [] }) (omega arith) e in
     let long = length-map (flat_map (key_names five) keys) (λ (n : Name). n.id) in
     (k.0, record { places = k.1; distinct = k.2; few = omega (arith, k.3, long) }, k.4)
 
-pub picked_complete : (five columns hidden : List ℕ) (keys : List Key) (slots : List ℕ) → HasKeys columns (key_ids five keys) slots
+pub picked_complete : (five : List ℕ) {columns : List ℕ} (hidden : List ℕ) (keys : List Key) {slots : List ℕ} → HasKeys columns (key_ids five keys) slots
     → keys_checked five columns hidden keys ≡ Ok (record { names = key_ids five keys; slots = slots })
-picked_complete five columns hidden keys slots h =
+picked_complete five {columns} hidden keys {slots} h =
     let long = length-map (flat_map (key_names five) keys) (λ (n : Name). n.id) in
     keys_complete columns hidden (flat_map (key_names five) keys) slots (record { names = []; slots = [] }) h.places h.distinct
     (omega (arith, h.few, long))
@@ -223,21 +219,21 @@ groups_to groups source f arguments picked = groups_with groups source f argumen
 pub group_is : {five : List ℕ} {known : List Known} {groups : ℕ} (input : Name) (keys : List Key) (fold_name : Name) (made : MadeStream)
     (h : OfGroup five known groups input keys fold_name made)
     → made ≡ groups_to groups h.source h.f h.arguments (record { names = key_ids five keys; slots = h.slots })
-group_is {five} {known} {groups} input keys fold_name made h =
+group_is {five} {groups} input keys fold_name made h =
     h.is ∙ ap (groups_with groups h.source h.f h.arguments (record { names = key_ids five keys; slots = h.slots }))
     (at_slots h.source.columns h.slots h.columns h.there)
 
-group_sound : (five : List ℕ) (earlier : Earlier) (name input : Name) (keys : List Key) (fold_name : Name) (made : MadeStream)
+group_sound : {five : List ℕ} (earlier : Earlier) (name : Name) {input : Name} {keys : List Key} {fold_name : Name} {made : MadeStream}
     → made_stream five earlier name (ops.Group input keys fold_name) ≡ Ok made
     → OfGroup five earlier.known earlier.groups input keys fold_name made
-group_sound five earlier name input keys fold_name made is =
-    let few = must_ok _ _ _ _ made is in
+group_sound {five} earlier name {input} {keys} {fold_name} {made} is =
+    let few = must_ok _ _ _ is in
     let source = found_first (stream_named earlier.known input) _ made few.1 in
     let picked = found_first (keys_checked five (column_names source.0.columns) source.0.hidden keys) _ made source.2 in
     let f = found_first (fold_named earlier.known fold_name) _ made picked.2 in
     let arguments = found_first (arguments_of (column_names source.0.columns) source.0.hidden picked.0.names f.0 fold_name.span) _ made
     f.2 in
-    let k = picked_sound five (column_names source.0.columns) source.0.hidden keys picked.0 picked.1 in
+    let k = picked_sound five source.0.hidden keys picked.1 in
     let A : Picked → Type 0 = λ z. HasArguments (column_names source.0.columns) z.names f.0 arguments.0 in
     record {
       few = ltb-true earlier.groups MAX_GROUPBYS few.0;
@@ -246,36 +242,32 @@ group_sound five earlier name input keys fold_name made is =
       columns = columns_at source.0.columns k.0;
       f = f.0;
       arguments = arguments.0;
-      stream = stream_sound earlier.known input source.0 source.1;
+      stream = stream_sound earlier.known input source.1;
       picked = k.1;
       there = keys_there source.0.columns (key_ids five keys) k.0 k.1.places;
-      fold = fold_name_sound earlier.known fold_name f.0 f.1;
-      taken = subst A k.2 (arguments_sound _ _ picked.0.names f.0 fold_name.span arguments.0 arguments.1);
+      fold = fold_name_sound earlier.known fold_name f.1;
+      taken = subst A k.2 (arguments_sound _ fold_name.span arguments.1);
       is = sym (same_ok _ made arguments.2) ∙ ap (groups_to earlier.groups source.0 f.0 arguments.0) k.2;
     }
 
-group_complete : (five : List ℕ) (earlier : Earlier) (name input : Name) (keys : List Key) (fold_name : Name) (made : MadeStream)
+group_complete : {five : List ℕ} (earlier : Earlier) (name : Name) {input : Name} {keys : List Key} {fold_name : Name} {made : MadeStream}
     → OfGroup five earlier.known earlier.groups input keys fold_name made
     → made_stream five earlier name (ops.Group input keys fold_name) ≡ Ok made
-group_complete five earlier name input keys fold_name made h =
-    must_holds _ _ _ _ (below earlier.groups MAX_GROUPBYS h.few)
-    ∙ then_next _ _ h.source (stream_complete earlier.known input h.source h.stream)
-    ∙ then_next _ _ _ (picked_complete five _ h.source.hidden keys h.slots h.picked)
-    ∙ then_next _ _ h.f (fold_name_complete earlier.known fold_name h.f h.fold)
-    ∙ then_next _ _ h.arguments (arguments_complete _ h.source.hidden (key_ids five keys) h.f fold_name.span h.arguments h.taken)
-    ∙ ok _ _ (sym (group_is input keys fold_name made h))
+group_complete {five} earlier name {input} {keys} {fold_name} {made} h = must_holds _ _ (below h.few)
+    ∙ then_next _ (stream_complete earlier.known input h.stream) ∙ then_next _ (picked_complete five h.source.hidden keys h.picked)
+    ∙ then_next _ (fold_name_complete earlier.known fold_name h.fold)
+    ∙ then_next _ (arguments_complete h.source.hidden fold_name.span h.taken) ∙ ok (sym (group_is input keys fold_name made h))
 
-pub made_stream_sound : (five : List ℕ) (earlier : Earlier) (name : Name) (op : StreamOp) (made : MadeStream)
+pub made_stream_sound : (five : List ℕ) (earlier : Earlier) (name : Name) (op : StreamOp) {made : MadeStream}
     → made_stream five earlier name op ≡ Ok made → HasStream five earlier.known (next_stream earlier) earlier.groups op made
-made_stream_sound five earlier name (ops.Filter input e) made is = filter_sound earlier input e made is
-made_stream_sound five earlier name (ops.Map input cs) made is = map_sound earlier input cs made is
-made_stream_sound five earlier name (ops.Zip first second) made is = zip_sound earlier first second made is
-made_stream_sound five earlier name (ops.Group input keys fold_name) made is = group_sound five earlier name input keys fold_name made is
+made_stream_sound five earlier name (ops.Filter input e) is = filter_sound earlier is
+made_stream_sound five earlier name (ops.Map input cs) is = map_sound earlier is
+made_stream_sound five earlier name (ops.Zip first second) is = zip_sound earlier is
+made_stream_sound five earlier name (ops.Group input keys fold_name) is = group_sound earlier name is
 
-pub made_stream_complete : (five : List ℕ) (earlier : Earlier) (name : Name) (op : StreamOp) (made : MadeStream)
+pub made_stream_complete : (five : List ℕ) (earlier : Earlier) (name : Name) (op : StreamOp) {made : MadeStream}
     → HasStream five earlier.known (next_stream earlier) earlier.groups op made → made_stream five earlier name op ≡ Ok made
-made_stream_complete five earlier name (ops.Filter input e) made h = filter_complete earlier input e made h
-made_stream_complete five earlier name (ops.Map input cs) made h = map_complete earlier input cs made h
-made_stream_complete five earlier name (ops.Zip first second) made h = zip_complete earlier first second made h
-made_stream_complete five earlier name (ops.Group input keys fold_name) made h =
-    group_complete five earlier name input keys fold_name made h
+made_stream_complete five earlier name (ops.Filter input e) h = filter_complete earlier h
+made_stream_complete five earlier name (ops.Map input cs) h = map_complete earlier h
+made_stream_complete five earlier name (ops.Zip first second) h = zip_complete earlier h
+made_stream_complete five earlier name (ops.Group input keys fold_name) h = group_complete earlier name h

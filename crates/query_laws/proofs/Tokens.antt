@@ -76,34 +76,32 @@ Pair = List Token × List (List ℕ)
 abbrev HasWords : Pair → Type 0
 HasWords found = AreWordTokens found.0
 
-same_found : (a b : Pair) → ◌≡◌ {A = Cut} (Ok a) (Ok b) → a ≡ b
-same_found a b e = cc
+same_found : {a b : Pair} → ◌≡◌ {A = Cut} (Ok a) (Ok b) → a ≡ b
+same_found e = cc
 
-of_front : (t : Token) (o : Cut) (found : Pair) → IsWordKind t.kind → ((got : Pair) → o ≡ Ok got → HasWords got)
+of_front : (t : Token) (o : Cut) {found : Pair} → IsWordKind t.kind → ((got : Pair) → o ≡ Ok got → HasWords got)
     → with_front t o ≡ Ok found → HasWords found
-of_front t (Ok got) found word h e = subst HasWords (same_found (t ∷ got.0, got.1) found e) (word, h got refl)
-of_front t (Err fault) found word h e = absurd cc
+of_front t (Ok got) word h e = subst HasWords (same_found e) (word, h got refl)
+of_front t (Err fault) word h e = absurd cc
 
-of_cut_piece : (p : Piece) (at : ℕ) (known : List (List ℕ)) (bytes : List ℕ) (next : ℕ → List (List ℕ) → Cut) (found : Pair) → IsWordPiece p
+of_cut_piece : (p : Piece) (at : ℕ) (known : List (List ℕ)) (bytes : List ℕ) {next : ℕ → List (List ℕ) → Cut} {found : Pair} → IsWordPiece p
     → ((k : ℕ) (later : List (List ℕ)) (got : Pair) → next k later ≡ Ok got → HasWords got) → cut_piece p at known bytes next ≡ Ok found
     → HasWords found
-of_cut_piece (pieces.Blank n) at known bytes next found word h e = h n known found e
-of_cut_piece (pieces.Name n) at known bytes next found word h e =
-    of_front (token_at (kinds.Name (number_in known (take n bytes))) at (at + n)) (next n (with_name known (take n bytes))) found tt
+of_cut_piece (pieces.Blank n) at known bytes {found} word h e = h n known found e
+of_cut_piece (pieces.Name n) at known bytes {next} word h e =
+    of_front (token_at (kinds.Name (number_in known (take n bytes))) at (at + n)) (next n (with_name known (take n bytes))) tt
     (h n (with_name known (take n bytes))) e
-of_cut_piece (pieces.Token kind n) at known bytes next found word h e =
-    of_front (token_at kind at (at + n)) (next n known) found word (h n known) e
-of_cut_piece (pieces.Fault kind n) at known bytes next found word h e = absurd cc
+of_cut_piece (pieces.Token kind n) at known bytes {next} word h e = of_front (token_at kind at (at + n)) (next n known) word (h n known) e
+of_cut_piece (pieces.Fault kind n) at known bytes word h e = absurd cc
 
-of_end : (at : ℕ) (known : List (List ℕ)) (found : Pair) → ◌≡◌ {A = Cut} (Ok (token_at kinds.End at at ∷ [], known)) (Ok found)
+of_end : {at : ℕ} {known : List (List ℕ)} {found : Pair} → ◌≡◌ {A = Cut} (Ok (token_at kinds.End at at ∷ [], known)) (Ok found)
     → HasWords found
-of_end at known found e = subst HasWords (same_found (token_at kinds.End at at ∷ [], known) found e) (tt, tt)
+of_end e = subst HasWords (same_found e) (tt, tt)
 
 -- the numbers among the tokens that these bytes are cut into are words
-pub cut_words : (n at : ℕ) (known : List (List ℕ)) (bytes : List ℕ) (found : Pair) → cut n at known bytes ≡ Ok found → HasWords found
+pub cut_words : (n at : ℕ) (known : List (List ℕ)) (bytes : List ℕ) {found : Pair} → cut n at known bytes ≡ Ok found → HasWords found
 unfolding cut
-cut_words zero at known bytes found e = of_end at known found e
-cut_words (suc n) at known [] found e = of_end at known found e
-cut_words (suc n) at known (b ∷ bytes) found e =
-    of_cut_piece (piece (b ∷ bytes)) at known (b ∷ bytes) (λ k later. cut n (at + k) later (drop k (b ∷ bytes))) found (of_piece b bytes)
-    (λ k later got h. cut_words n (at + k) later (drop k (b ∷ bytes)) got h) e
+cut_words zero at known bytes e = of_end e
+cut_words (suc n) at known [] e = of_end e
+cut_words (suc n) at known (b ∷ bytes) e = of_cut_piece (piece (b ∷ bytes)) at known (b ∷ bytes) (of_piece b bytes)
+    (λ k later got h. cut_words n (at + k) later (drop k (b ∷ bytes)) h) e

@@ -62,7 +62,7 @@ tell_last views [] one h k = (k, tt)
 tell_last views (first ∷ known) one h k = (h.0, tell_last views known one h.1 k)
 
 tells_more : (views : List View) (view : View) (m : Meaning) → TellsColumns views m → TellsColumns (views ++ view ∷ []) m
-tells_more views view (meaning.Stream s) h = get_front views (view ∷ []) s.number s.columns h
+tells_more views view (meaning.Stream s) h = get_front views (view ∷ []) s.number h
 tells_more views view (meaning.Fold f) h = tt
 tells_more views view (meaning.Final t) h = tt
 
@@ -70,24 +70,23 @@ tell_more : (views : List View) (view : View) (known : List Known) → AllTell v
 tell_more views view [] h = tt
 tell_more views view (one ∷ known) h = (tells_more views view one.meaning h.0, tell_more views view known h.1)
 
-some_meaning : (m n : Meaning) → (let o : Option Meaning = Some m in o) ≡ Some n → m ≡ n
-some_meaning m n e = cc e
+some_meaning : {m n : Meaning} → (let o : Option Meaning = Some m in o) ≡ Some n → m ≡ n
+some_meaning e = cc e
 
-tells_of : (views : List View) (known : List Known) (id : ℕ) (m : Meaning) → AllTell views known → meaning_of known id ≡ Some m
+tells_of : (views : List View) (known : List Known) (id : ℕ) {m : Meaning} → AllTell views known → meaning_of known id ≡ Some m
     → TellsColumns views m
-tells_of views [] id m h e = cc e
-tells_of views (one ∷ known) id m h e = go (nat_eq one.name id) (λ k. tells_of views known id m h.1 k) e
+tells_of views [] id h e = cc e
+tells_of views (one ∷ known) id {m} h e = go (nat_eq one.name id) (λ k. tells_of views known id h.1 k) e
   where
     go : (b : Bool) → (meaning_of known id ≡ Some m → TellsColumns views m) → cond b (Some one.meaning) (meaning_of known id) ≡ Some m
         → TellsColumns views m
-    go true more k = subst (TellsColumns views) (some_meaning one.meaning m k) h.0
+    go true more k = subst (TellsColumns views) (some_meaning k) h.0
     go false more k = more k
 
 -- the columns of a stream that is named
-columns_named : (views : List View) (known : List Known) (name : Name) (s : StreamView) → AllTell views known
-    → stream_named known name ≡ Ok s
-    → slice_get views s.number ≡ Some s.columns
-columns_named views known name s h e = go (meaning_of known name.id) (λ m k. tells_of views known name.id m h k) e
+columns_named : (views : List View) (known : List Known) (name : Name) {s : StreamView} → AllTell views known
+    → stream_named known name ≡ Ok s → slice_get views s.number ≡ Some s.columns
+columns_named views known name {s} h e = go (meaning_of known name.id) (λ m k. tells_of views known name.id h k) e
   where
     go : (o : Option Meaning) → ((m : Meaning) → o ≡ Some m → TellsColumns views m) → as_stream o name.span ≡ Ok s
         → slice_get views s.number ≡ Some s.columns
@@ -99,10 +98,10 @@ columns_named views known name s h e = go (meaning_of known name.id) (λ m k. te
 
 -- ---- the names of new columns
 
-last_of_three : (a b c : Bool) → (a || (b || c)) ≡ false → c ≡ false
-last_of_three true b c e = cc e
-last_of_three false true c e = cc e
-last_of_three false false c e = e
+last_of_three : (a b : Bool) {c : Bool} → (a || (b || c)) ≡ false → c ≡ false
+last_of_three true b e = cc e
+last_of_three false true e = cc e
+last_of_three false false e = e
 
 not_last : (id x : ℕ) (names : List ℕ) → is_among id names ≡ false → nat_eq x id ≡ false → is_among id (names ++ x ∷ []) ≡ false
 not_last id x names h k =
@@ -115,21 +114,20 @@ distinct_last (n ∷ names) id h k = go (nat_eq n id) refl (λ e. distinct_last 
     go : (b : Bool) → nat_eq n id ≡ b → (is_among id names ≡ false → AreDistinct (names ++ id ∷ [])) → (b || is_among id names) ≡ false
         → AreDistinct ((n ∷ names) ++ id ∷ [])
     go true is more e = cc e
-    go false is more e = (not_last n id names h.0 (nat_is_not id n (λ same. nat_other n id is (sym same))), more e)
+    go false is more e = (not_last n id names h.0 (nat_is_not (λ same. nat_other is (sym same))), more e)
 
 -- the names of new columns are distinct, and there is a name for each value
-new_distinct : (columns hidden : List ℕ) (new : List Column) (made all : NewColumns) → AreDistinct made.names
+new_distinct : (columns hidden : List ℕ) (new : List Column) (made : NewColumns) {all : NewColumns} → AreDistinct made.names
     → length made.names ≡ length made.values
     → new_columns columns hidden made new ≡ Ok all → AreDistinct all.names × (length all.names ≡ length all.values)
-new_distinct columns hidden [] made all d long e = subst (λ z. AreDistinct z.names × (length z.names ≡ length z.values))
+new_distinct columns hidden [] made {all} d long e = subst (λ z. AreDistinct z.names × (length z.names ≡ length z.values))
     (same_ok made all e) (d, long)
-new_distinct columns hidden (c ∷ new) made all d long e =
-    let free = must_not_ok _ _ _ _ all e in
+new_distinct columns hidden (c ∷ new) made {all} d long e =
+    let free = must_not_ok _ _ _ e in
     let value = found_first (word_of columns hidden c.value) _ all free.1 in
     let more : NewColumns = record { names = made.names ++ c.name.id ∷ []; values = made.values ++ value.0 ∷ [] } in
-    new_distinct columns hidden new more all
-    (distinct_last made.names c.name.id d
-    (last_of_three (is_among c.name.id columns) (is_among c.name.id hidden) (is_among c.name.id made.names) free.0))
+    new_distinct columns hidden new more (distinct_last made.names c.name.id d
+    (last_of_three (is_among c.name.id columns) (is_among c.name.id hidden) free.0))
     (length_push made.names c.name.id ∙ ap (λ n. n + 1) long ∙ sym (length_push made.values value.0)) value.2
 
 -- ---- the slots of keys
@@ -139,28 +137,28 @@ stands_below [] slot id h = absurd h
 stands_below (name ∷ columns) zero id h = omega arith
 stands_below (name ∷ columns) (suc slot) id h = omega (arith, stands_below columns slot id h.1)
 
-below_last : (n : ℕ) (slots : List ℕ) (slot : ℕ) → AreBelow n slots → slot < n → AreBelow n (slots ++ slot ∷ [])
-below_last n [] slot h lt = (lt, tt)
-below_last n (first ∷ slots) slot h lt = (h.0, below_last n slots slot h.1 lt)
+below_last : {n : ℕ} (slots : List ℕ) {slot : ℕ} → AreBelow n slots → slot < n → AreBelow n (slots ++ slot ∷ [])
+below_last [] h lt = (lt, tt)
+below_last (first ∷ slots) h lt = (h.0, below_last slots h.1 lt)
 
-keys_below : (columns hidden : List ℕ) (keys : List Name) (found picked : Picked) → AreBelow (length columns) found.slots
+keys_below : (columns hidden : List ℕ) (keys : List Name) (found : Picked) {picked : Picked} → AreBelow (length columns) found.slots
     → keys_from columns hidden found keys ≡ Ok picked → AreBelow (length columns) picked.slots
-keys_below columns hidden [] found picked h e = subst (λ z. AreBelow (length columns) z.slots) (same_ok found picked e) h
-keys_below columns hidden (key ∷ keys) found picked h e =
+keys_below columns hidden [] found {picked} h e = subst (λ z. AreBelow (length columns) z.slots) (same_ok found picked e) h
+keys_below columns hidden (key ∷ keys) found {picked} h e =
     let slot = found_first (slot_of columns hidden key) _ picked e in
-    let once = must_not_ok _ _ _ _ picked slot.2 in
-    let few = must_ok _ _ _ _ picked once.1 in
-    let below = stands_below columns slot.0 key.id (slot_stands columns hidden key slot.0 slot.1) in
-    keys_below columns hidden keys (record { names = found.names ++ key.id ∷ []; slots = found.slots ++ slot.0 ∷ [] }) picked
-    (below_last (length columns) found.slots slot.0 h below) few.1
+    let once = must_not_ok _ _ _ slot.2 in
+    let few = must_ok _ _ _ once.1 in
+    let below = stands_below columns slot.0 key.id (slot_stands columns hidden key slot.1) in
+    keys_below columns hidden keys (record { names = found.names ++ key.id ∷ []; slots = found.slots ++ slot.0 ∷ [] })
+    (below_last found.slots h below) few.1
 
 -- ---- operators
 
 abbrev MadeOf : List View → Earlier → MadeStream → Type 0
 MadeOf views earlier made = Makes views (next_stream earlier) made.op made.columns
 
-made_as : (views : List View) (earlier : Earlier) (m made : MadeStream) → m ≡ made → MadeOf views earlier m → MadeOf views earlier made
-made_as views earlier m made e h = subst (MadeOf views earlier) e h
+made_as : (views : List View) (earlier : Earlier) {m made : MadeStream} → m ≡ made → MadeOf views earlier m → MadeOf views earlier made
+made_as views earlier e h = subst (MadeOf views earlier) e h
 
 abbrev maps_to : ℕ → StreamView → NewColumns → MadeStream
 maps_to number source new = record {
@@ -187,66 +185,64 @@ groups_to groups source picked f arguments = record {
 }
 
 module _ (views : List View) (earlier : Earlier) (told : AllTell views earlier.known) where
-  filter_made : (input : Name) (e : Expr) (made : MadeStream) → filtered earlier input e ≡ Ok made → MadeOf views earlier made
-  filter_made input e made h =
+  filter_made : (input : Name) (e : Expr) {made : MadeStream} → filtered earlier input e ≡ Ok made → MadeOf views earlier made
+  filter_made input e {made} h =
       let source = found_first (stream_named earlier.known input) _ made h in
       let condition = found_first (condition_of (column_names source.0.columns) source.0.hidden e) _ made source.2 in
-      subst (MadeOf views earlier) (same_ok _ made condition.2) (columns_named views earlier.known input source.0 told source.1)
+      subst (MadeOf views earlier) (same_ok _ made condition.2) (columns_named views earlier.known input told source.1)
 
-  map_made : (input : Name) (columns : List Column) (made : MadeStream) → mapped earlier input columns ≡ Ok made → MadeOf views earlier made
-  map_made input columns made h =
+  map_made : (input : Name) (columns : List Column) {made : MadeStream} → mapped earlier input columns ≡ Ok made → MadeOf views earlier made
+  map_made input columns {made} h =
       let source = found_first (stream_named earlier.known input) _ made h in
       let new = found_first (new_columns (column_names source.0.columns) source.0.hidden no_new_columns columns) _ made source.2 in
-      let names = new_distinct (column_names source.0.columns) source.0.hidden columns no_new_columns new.0 tt refl new.1 in
-      made_as views earlier (maps_to (next_stream earlier) source.0 new.0) made
-      (same_ok (maps_to (next_stream earlier) source.0 new.0) made new.2) (record {
+      let names = new_distinct (column_names source.0.columns) source.0.hidden columns no_new_columns tt refl new.1 in
+      made_as views earlier (same_ok (maps_to (next_stream earlier) source.0 new.0) made new.2) (record {
         source = source.0.columns;
         names = new.0.names;
-        stream = columns_named views earlier.known input source.0 told source.1;
+        stream = columns_named views earlier.known input told source.1;
         distinct = names.0;
         long = names.1;
         is = refl;
       })
 
-  zip_made : (first second : Name) (made : MadeStream) → zipped earlier first second ≡ Ok made → MadeOf views earlier made
-  zip_made first second made h =
+  zip_made : (first second : Name) {made : MadeStream} → zipped earlier first second ≡ Ok made → MadeOf views earlier made
+  zip_made first second {made} h =
       let left = found_first (stream_named earlier.known first) _ made h in
       let right = found_first (stream_named earlier.known second) _ made left.2 in
-      let apart = must_not_ok _ _ _ _ made right.2 in
-      made_as views earlier (zips_to left.0 right.0) made (same_ok (zips_to left.0 right.0) made apart.1) (record {
+      let apart = must_not_ok _ _ _ right.2 in
+      made_as views earlier (same_ok (zips_to left.0 right.0) made apart.1) (record {
         first = left.0.columns;
         second = right.0.columns;
-        one = columns_named views earlier.known first left.0 told left.1;
-        other = columns_named views earlier.known second right.0 told right.1;
+        one = columns_named views earlier.known first told left.1;
+        other = columns_named views earlier.known second told right.1;
         apart = apart.0;
         picked = refl;
         is = refl;
       })
 
-  group_made : (five : List ℕ) (input : Name) (keys : List Key) (fold_name : Name) (made : MadeStream)
+  group_made : (five : List ℕ) (input : Name) (keys : List Key) (fold_name : Name) {made : MadeStream}
       → grouped five earlier input keys fold_name ≡ Ok made → MadeOf views earlier made
-  group_made five input keys fold_name made h =
+  group_made five input keys fold_name {made} h =
       let source = found_first (stream_named earlier.known input) _ made h in
       let picked = found_first (keys_checked five (column_names source.0.columns) source.0.hidden keys) _ made source.2 in
       let f = found_first (fold_named earlier.known fold_name) _ made picked.2 in
       let arguments =
       found_first (arguments_of (column_names source.0.columns) source.0.hidden picked.0.names f.0 fold_name.span) _ made f.2 in
-      made_as views earlier (groups_to earlier.groups source.0 picked.0 f.0 arguments.0) made
-      (same_ok (groups_to earlier.groups source.0 picked.0 f.0 arguments.0) made arguments.2) (record {
+      made_as views earlier (same_ok (groups_to earlier.groups source.0 picked.0 f.0 arguments.0) made arguments.2) (record {
         source = source.0.columns;
-        stream = columns_named views earlier.known input source.0 told source.1;
+        stream = columns_named views earlier.known input told source.1;
         below = subst (λ n. AreBelow n picked.0.slots) (length-map source.0.columns (λ c. c.name))
             (keys_below (column_names source.0.columns) source.0.hidden (flat_map (key_names five) keys)
-            (record { names = []; slots = [] }) picked.0 tt picked.1);
+            (record { names = []; slots = [] }) tt picked.1);
         is = refl;
       })
 
-  stream_made : (five : List ℕ) (name : Name) (op : StreamOp) (made : MadeStream) → made_stream five earlier name op ≡ Ok made
+  stream_made : (five : List ℕ) (name : Name) (op : StreamOp) {made : MadeStream} → made_stream five earlier name op ≡ Ok made
       → MadeOf views earlier made
-  stream_made five name (ops.Filter input e) made h = filter_made input e made h
-  stream_made five name (ops.Map input columns) made h = map_made input columns made h
-  stream_made five name (ops.Zip first second) made h = zip_made first second made h
-  stream_made five name (ops.Group input keys fold_name) made h = group_made five input keys fold_name made (must_ok _ _ _ _ made h).1
+  stream_made five name (ops.Filter input e) h = filter_made input e h
+  stream_made five name (ops.Map input columns) h = map_made input columns h
+  stream_made five name (ops.Zip first second) h = zip_made first second h
+  stream_made five name (ops.Group input keys fold_name) h = group_made five input keys fold_name (must_ok _ _ _ h).1
 
 -- ---- items
 
@@ -257,64 +253,61 @@ pub record HasViews (fields : View) (earlier : Earlier) : Type 0 where
   pub told : AllTell (fields ∷ views) earlier.known
 
 module _ (fields : View) where
-  one_more : (earlier : Earlier) (name : Name) (made : MadeStream) (h : HasViews fields earlier) → MadeOf (fields ∷ h.views) earlier made
+  one_more : {earlier : Earlier} (name : Name) (made : MadeStream) (h : HasViews fields earlier) → MadeOf (fields ∷ h.views) earlier made
       → HasViews fields (with_stream earlier name made)
-  one_more earlier name made h k =
+  one_more {earlier} name made h k =
       let long : next_stream earlier ≡ length (fields ∷ h.views) = omega (arith, made_long (fields ∷ []) earlier.streams h.views h.made)
       in record {
         views = h.views ++ made.columns ∷ [];
         made = made_last (fields ∷ []) earlier.streams h.views (record { name = name; columns = column_names made.columns; op = made.op })
-            made.columns h.made
-            (subst (λ n. Makes (fields ∷ h.views) n made.op made.columns) long k) refl;
+            made.columns h.made (subst (λ n. Makes (fields ∷ h.views) n made.op made.columns) long k) refl;
         told = tell_last (fields ∷ h.views ++ made.columns ∷ []) earlier.known _
-            (tell_more (fields ∷ h.views) made.columns earlier.known h.told)
-            (get_after (fields ∷ h.views) made.columns [] (next_stream earlier) long);
+            (tell_more (fields ∷ h.views) made.columns earlier.known h.told) (get_after (fields ∷ h.views) [] (next_stream earlier) long);
       }
 
-  stream_item : (five : List ℕ) (d : StreamDef) (earlier more : Earlier) → HasViews fields earlier → stream_checked five earlier d ≡ Ok more
+  stream_item : (five : List ℕ) (d : StreamDef) {earlier more : Earlier} → HasViews fields earlier → stream_checked five earlier d ≡ Ok more
       → HasViews fields more
-  stream_item five d earlier more h e =
+  stream_item five d {earlier} {more} h e =
       let start = found_first (begun earlier d.name) _ more e in
       let made = found_first (made_stream five earlier d.name d.op) _ more start.2 in
       subst (HasViews fields) (same_ok _ more made.2)
-      (one_more earlier d.name made.0 h (stream_made (fields ∷ h.views) earlier h.told five d.name d.op made.0 made.1))
+      (one_more d.name made.0 h (stream_made (fields ∷ h.views) earlier h.told five d.name d.op made.1))
 
-  fold_item : (d : FoldDef) (earlier more : Earlier) → HasViews fields earlier → fold_added earlier d ≡ Ok more → HasViews fields more
-  fold_item d earlier more h e =
-      let free = must_not_ok _ _ _ _ more e in
+  fold_item : (d : FoldDef) {earlier more : Earlier} → HasViews fields earlier → fold_added earlier d ≡ Ok more → HasViews fields more
+  fold_item d {earlier} {more} h e =
+      let free = must_not_ok _ _ _ e in
       let f = found_first (fold_checked d) _ more free.1 in
       subst (HasViews fields) (same_ok _ more f.2)
       (record { views = h.views; made = h.made; told = tell_last (fields ∷ h.views) earlier.known _ h.told tt })
 
-  final_item : (given : Given) (d : FinalDef) (earlier more : Earlier) → HasViews fields earlier → final_checked given earlier d ≡ Ok more
+  final_item : (given : Given) (d : FinalDef) {earlier more : Earlier} → HasViews fields earlier → final_checked given earlier d ≡ Ok more
       → HasViews fields more
-  final_item given d earlier more h e =
+  final_item given d {earlier} {more} h e =
       let start = found_first (begun earlier d.name) _ more e in
       let made = found_first (made_final given earlier d.op) _ more start.2 in
       subst (HasViews fields) (same_ok _ more made.2)
       (record { views = h.views; made = h.made; told = tell_last (fields ∷ h.views) earlier.known _ h.told tt })
 
-  print_item : (name : Name) (earlier more : Earlier) → HasViews fields earlier → print_checked earlier name ≡ Ok more
+  print_item : (name : Name) {earlier more : Earlier} → HasViews fields earlier → print_checked earlier name ≡ Ok more
       → HasViews fields more
-  print_item name earlier more h e =
+  print_item name {earlier} {more} h e =
       let table = found_first (table_named earlier.known name) _ more e in
-      let once = must_not_ok _ _ _ _ more table.2 in
+      let once = must_not_ok _ _ _ table.2 in
       subst (HasViews fields) (same_ok _ more once.1) (record { views = h.views; made = h.made; told = h.told })
 
-  one_item : (given : Given) (i : Item) (earlier more : Earlier) → HasViews fields earlier → item_checked given earlier i ≡ Ok more
+  one_item : (given : Given) (i : Item) {earlier more : Earlier} → HasViews fields earlier → item_checked given earlier i ≡ Ok more
       → HasViews fields more
-  one_item given (item.Fold d) earlier more h e = fold_item d earlier more h e
-  one_item given (item.Stream d) earlier more h e = stream_item (five_fields given.fields) d earlier more h e
-  one_item given (item.Final d) earlier more h e = final_item given d earlier more h e
-  one_item given (item.Print name) earlier more h e = print_item name earlier more h e
+  one_item given (item.Fold d) h e = fold_item d h e
+  one_item given (item.Stream d) h e = stream_item (five_fields given.fields) d h e
+  one_item given (item.Final d) h e = final_item given d h e
+  one_item given (item.Print name) h e = print_item name h e
 
-  all_items : (given : Given) (items : List Item) (earlier all : Earlier) → HasViews fields earlier
-      → items_checked given earlier items ≡ Ok all
-      → HasViews fields all
-  all_items given [] earlier all h e = subst (HasViews fields) (same_ok earlier all e) h
-  all_items given (i ∷ items) earlier all h e =
+  all_items : (given : Given) (items : List Item) {earlier all : Earlier} → HasViews fields earlier
+      → items_checked given earlier items ≡ Ok all → HasViews fields all
+  all_items given [] {earlier} {all} h e = subst (HasViews fields) (same_ok earlier all e) h
+  all_items given (i ∷ items) {earlier} {all} h e =
       let first = found_first (item_checked given earlier i) _ all e in
-      all_items given items first.0 all (one_item given i earlier first.0 h first.1) first.2
+      all_items given items (one_item given i h first.1) first.2
 
 -- ---- whole queries
 
@@ -334,6 +327,6 @@ viewed query q e =
     let fields = field_view names in
     let given = given_of names query.items in
     let all = found_first (items_checked given (start_of names) query.items) (ended names query.end) q e in
-    let prints = must_ok _ _ _ _ q all.2 in
-    let h = all_items fields given query.items (start_of names) all.0 (record { views = []; made = tt; told = (refl, tt) }) all.1 in
+    let prints = must_ok _ _ _ all.2 in
+    let h = all_items fields given query.items (record { views = []; made = tt; told = (refl, tt) }) all.1 in
     subst (IsViewed query) (same_ok _ q prints.1) (record { views = h.views; names = refl; made = h.made })

@@ -44,19 +44,17 @@ use Rattle.query_laws.specs.TypingExamples.{five_names, by_fields, FilterExample
 abbrev found : TypedExpr → Sort → Found
 found tree sort = record { tree = tree; sort = sort; at = here }
 
-refuse : (columns : List ℕ) (e : Expr) (fault : QueryFault) → expr_checked columns [] e ≡ Err fault → (k : Kind) (t : TypedExpr)
+refuse : {columns : List ℕ} {e : Expr} {fault : QueryFault} → expr_checked columns [] e ≡ Err fault → (k : Kind) (t : TypedExpr)
     → HasKind columns k e t → ⊥
-refuse columns e fault is k t h = let g = complete columns [] k e t h in no_fault g.found fault (sym g.is ∙ is)
+refuse is k t h = let g = complete [] h in no_fault (sym g.is ∙ is)
 
-two : (columns : List ℕ) (op : Op) (x y : Expr) (f g : Found) → expr_checked columns [] x ≡ Ok f → expr_checked columns [] y ≡ Ok g
+two : (columns : List ℕ) (op : Op) (x y : Expr) {f g : Found} → expr_checked columns [] x ≡ Ok f → expr_checked columns [] y ≡ Ok g
     → expr_checked columns [] (Binary op here x y) ≡ of_two op f.at f g
-two columns op x y f g p q = binary_is columns [] op here x y ∙ then_next (expr_checked columns [] x) _ f p
-    ∙ then_next (expr_checked columns [] y) _ g q
+two columns op x y p q = binary_is columns [] op here x y ∙ then_next _ p ∙ then_next _ q
 
-two_called : (columns : List ℕ) (op : Op) (x y : Expr) (f g : Found) → expr_checked columns [] x ≡ Ok f → expr_checked columns [] y ≡ Ok g
+two_called : (columns : List ℕ) (op : Op) (x y : Expr) {f g : Found} → expr_checked columns [] x ≡ Ok f → expr_checked columns [] y ≡ Ok g
     → expr_checked columns [] (Call op here (x ∷ y ∷ [])) ≡ of_two op here f g
-two_called columns op x y f g p q =
-    call_is columns [] op here (x ∷ y ∷ [])
+two_called columns op x y {f} p q = call_is columns [] op here (x ∷ y ∷ [])
     ∙ ap (λ (r : Checked Found). and_then (collected [] (r ∷ expr_checked columns [] y ∷ [])) (call_of op here)) p
     ∙ ap (λ (r : Checked Found). and_then (collected (f ∷ []) (r ∷ [])) (call_of op here)) q
 
@@ -66,126 +64,118 @@ first_is = named_is two_columns [] (called 1)
 pub second_is : expr_checked two_columns [] second ≡ Ok (found (typed.Slot 1) sort.Word)
 second_is = named_is two_columns [] (called 2)
 
-number : (n : ℕ) → expr_checked two_columns [] (Number n here) ≡ Ok (found (typed.Number n) (sort.Number n))
-number n = number_is two_columns [] n here
+number : {n : ℕ} → expr_checked two_columns [] (Number n here) ≡ Ok (found (typed.Number n) (sort.Number n))
+number = number_is two_columns []
 
 less_is : expr_checked two_columns [] is_less ≡ Ok (found (typed.Binary Lt (typed.Slot 0) (typed.Slot 1)) sort.Condition)
-less_is = two two_columns Lt first second _ _ first_is second_is
+less_is = two two_columns Lt first second first_is second_is
 
 pub first_word : HasKind two_columns Word first (typed.Slot 0)
-first_word = of_name (called 1) 0 refl
+first_word = of_name (called 1) refl
 
 pub second_word : HasKind two_columns Word second (typed.Slot 1)
-second_word = of_name (called 2) 1 (place_stands two_columns 2 1 refl)
+second_word = of_name (called 2) (place_stands two_columns 2 1 refl)
 
 pub no_word : (t : TypedExpr) × HasKind two_columns Word is_less t → ⊥
-no_word h = no_fault h.0 (record { kind = WrongKind; span = here }) (sym (word_complete two_columns [] is_less h.0 h.1)
-    ∙ then_next (expr_checked two_columns [] is_less) _ _ less_is)
+no_word h = no_fault (sym (word_complete [] h.1) ∙ then_next _ less_is)
 
 is_condition : HasKind two_columns Condition is_less typed_is_less
-is_condition = of_binary Lt here first second (typed.Slot 0) (typed.Slot 1) first_word second_word tt
+is_condition = of_binary here first_word second_word tt
 
-by_number : (op : Op) (n : ℕ) (fault : QueryFault) → expr_checked two_columns [] (with_first op (Number n here)) ≡ Err fault
+by_number : (op : Op) (n : ℕ) {fault : QueryFault} → expr_checked two_columns [] (with_first op (Number n here)) ≡ Err fault
     → RefusesNumber op n
-by_number op n fault is = refuse two_columns (with_first op (Number n here)) fault is
+by_number op n is = refuse is
 
-by_column : (op : Op) (fault : QueryFault) → expr_checked two_columns [] (with_first op second) ≡ Err fault → RefusesColumn op
-by_column op fault is = refuse two_columns (with_first op second) fault is
+by_column : (op : Op) {fault : QueryFault} → expr_checked two_columns [] (with_first op second) ≡ Err fault → RefusesColumn op
+by_column op is = refuse is
 
 pub expression_examples : ExpressionExamples
 expression_examples = record {
   column = first_word;
-  no_column = refuse two_columns (Named (called 3)) _ (named_is two_columns [] (called 3));
-  greater = of_call Max here first second (typed.Slot 0) (typed.Slot 1) first_word second_word tt;
-  one_argument = refuse two_columns (Call Max here (first ∷ [])) _ (call_is two_columns [] Max here (first ∷ [])
+  no_column = refuse (named_is two_columns [] (called 3));
+  greater = of_call here first_word second_word tt;
+  one_argument = refuse (call_is two_columns [] Max here (first ∷ [])
       ∙ ap (λ (r : Checked Found). and_then (collected [] (r ∷ [])) (call_of Max here)) first_is);
-  sum = of_binary Add here first (Number 7 here) (typed.Slot 0) (typed.Number 7) first_word (of_number 7 here) tt;
-  sum_of_a_condition = refuse two_columns (Binary Add here is_less second) _ (two two_columns Add is_less second _ _ less_is second_is);
-  product = of_binary Mul here first second (typed.Slot 0) (typed.Slot 1) first_word second_word tt;
-  difference = of_binary Sub here first second (typed.Slot 0) (typed.Slot 1) first_word second_word tt;
-  conjunction_of_bits = of_binary And here first second (typed.Slot 0) (typed.Slot 1) first_word second_word tt;
-  exclusive_disjunction_of_bits = of_binary Xor here first second (typed.Slot 0) (typed.Slot 1) first_word second_word tt;
-  disjunction_of_bits = of_binary Or here first second (typed.Slot 0) (typed.Slot 1) first_word second_word tt;
-  less = of_call Min here first second (typed.Slot 0) (typed.Slot 1) first_word second_word tt;
-  saturating_sum = of_call Sadd here first second (typed.Slot 0) (typed.Slot 1) first_word second_word tt;
+  sum = of_binary here first_word (of_number here) tt;
+  sum_of_a_condition = refuse (two two_columns Add is_less second less_is second_is);
+  product = of_binary here first_word second_word tt;
+  difference = of_binary here first_word second_word tt;
+  conjunction_of_bits = of_binary here first_word second_word tt;
+  exclusive_disjunction_of_bits = of_binary here first_word second_word tt;
+  disjunction_of_bits = of_binary here first_word second_word tt;
+  less = of_call here first_word second_word tt;
+  saturating_sum = of_call here first_word second_word tt;
   comparison = is_condition;
-  equal = of_binary Eq here first second (typed.Slot 0) (typed.Slot 1) first_word second_word tt;
-  other = of_binary Ne here first second (typed.Slot 0) (typed.Slot 1) first_word second_word tt;
-  at_most = of_binary Le here first second (typed.Slot 0) (typed.Slot 1) first_word second_word tt;
-  above = of_binary Gt here first second (typed.Slot 0) (typed.Slot 1) first_word second_word tt;
-  at_least = of_binary Ge here first second (typed.Slot 0) (typed.Slot 1) first_word second_word tt;
-  both = of_binary Both here is_less is_less typed_is_less typed_is_less is_condition is_condition tt;
-  both_of_words = by_column Both _ (two two_columns Both first second _ _ first_is second_is);
-  either = of_binary Either here is_less is_less typed_is_less typed_is_less is_condition is_condition tt;
-  either_of_words = by_column Either _ (two two_columns Either first second _ _ first_is second_is);
-  negation = of_not here is_less typed_is_less is_condition;
-  negation_of_a_word = refuse two_columns (Not here first) _ (not_is two_columns [] here first
-      ∙ then_next (expr_checked two_columns [] first) (negation_checked here) _ first_is);
-  quotient = of_binary Div here first (Number 1 here) (typed.Slot 0) (typed.Number 1) first_word (of_number 1 here)
-      (1, here, refl, omega arith);
-  divided_by_zero = by_number Div 0 _ (two two_columns Div first (Number 0 here) _ _ first_is (number 0));
-  divided_by_a_column = by_column Div _ (two two_columns Div first second _ _ first_is second_is);
-  remainder = of_binary Rem here first (Number 1 here) (typed.Slot 0) (typed.Number 1) first_word (of_number 1 here)
-      (1, here, refl, omega arith);
-  remainder_by_zero = by_number Rem 0 _ (two two_columns Rem first (Number 0 here) _ _ first_is (number 0));
-  remainder_by_a_column = by_column Rem _ (two two_columns Rem first second _ _ first_is second_is);
-  shift = of_binary Shl here first (Number 63 here) (typed.Slot 0) (typed.Number 63) first_word (of_number 63 here)
-      (63, here, refl, omega arith);
-  shifted_by_64 = by_number Shl 64 _ (two two_columns Shl first (Number 64 here) _ _ first_is (number 64));
-  shifted_by_a_column = by_column Shl _ (two two_columns Shl first second _ _ first_is second_is);
-  shift_right = of_binary Shr here first (Number 63 here) (typed.Slot 0) (typed.Number 63) first_word (of_number 63 here)
-      (63, here, refl, omega arith);
-  shifted_right_by_64 = by_number Shr 64 _ (two two_columns Shr first (Number 64 here) _ _ first_is (number 64));
-  shifted_right_by_a_column = by_column Shr _ (two two_columns Shr first second _ _ first_is second_is);
-  decay = of_call Decay here first (Number 63 here) (typed.Slot 0) (typed.Number 63) first_word (of_number 63 here)
-      (63, here, refl, omega arith);
-  decay_by_64 = by_number Decay 64 _ (two_called two_columns Decay first (Number 64 here) _ _ first_is (number 64));
-  decay_by_a_column = by_column Decay _ (two_called two_columns Decay first second _ _ first_is second_is);
+  equal = of_binary here first_word second_word tt;
+  other = of_binary here first_word second_word tt;
+  at_most = of_binary here first_word second_word tt;
+  above = of_binary here first_word second_word tt;
+  at_least = of_binary here first_word second_word tt;
+  both = of_binary here is_condition is_condition tt;
+  both_of_words = by_column Both (two two_columns Both first second first_is second_is);
+  either = of_binary here is_condition is_condition tt;
+  either_of_words = by_column Either (two two_columns Either first second first_is second_is);
+  negation = of_not here is_condition;
+  negation_of_a_word = refuse (not_is two_columns [] here first ∙ then_next (negation_checked here) first_is);
+  quotient = of_binary here first_word (of_number here) (1, here, refl, omega arith);
+  divided_by_zero = by_number Div 0 (two two_columns Div first (Number 0 here) first_is number);
+  divided_by_a_column = by_column Div (two two_columns Div first second first_is second_is);
+  remainder = of_binary here first_word (of_number here) (1, here, refl, omega arith);
+  remainder_by_zero = by_number Rem 0 (two two_columns Rem first (Number 0 here) first_is number);
+  remainder_by_a_column = by_column Rem (two two_columns Rem first second first_is second_is);
+  shift = of_binary here first_word (of_number here) (63, here, refl, omega arith);
+  shifted_by_64 = by_number Shl 64 (two two_columns Shl first (Number 64 here) first_is number);
+  shifted_by_a_column = by_column Shl (two two_columns Shl first second first_is second_is);
+  shift_right = of_binary here first_word (of_number here) (63, here, refl, omega arith);
+  shifted_right_by_64 = by_number Shr 64 (two two_columns Shr first (Number 64 here) first_is number);
+  shifted_right_by_a_column = by_column Shr (two two_columns Shr first second first_is second_is);
+  decay = of_call here first_word (of_number here) (63, here, refl, omega arith);
+  decay_by_64 = by_number Decay 64 (two_called two_columns Decay first (Number 64 here) first_is number);
+  decay_by_a_column = by_column Decay (two_called two_columns Decay first second first_is second_is);
 }
 
 -- ---- streams
 
 pub no_place : (names : List ℕ) (id : ℕ) → place_of names id ≡ None → (place : ℕ) × StandsAt names place id → ⊥
-no_place names id none h = let same : (let o : Option ℕ = None in o) ≡ Some h.0 = sym none ∙ stands_place names id h.0 h.1 in cc same
+no_place names id none h = let same : (let o : Option ℕ = None in o) ≡ Some h.0 = sym none ∙ stands_place names id h.1 in cc same
 
 -- what is on the right of `0 <`
-pub right_of_0 : (id : ℕ) → HasPart Condition (is_above_0 id) Word (Named (called id))
-right_of_0 id = parts.of_right Condition Lt here (Number 0 here) (Named (called id)) Word (Named (called id))
-    (parts.whole Word (Named (called id)))
+pub right_of_0 : {id : ℕ} → HasPart Condition (is_above_0 id) Word (Named (called id))
+right_of_0 = parts.of_right Lt here (Number 0 here) parts.whole
 
 ten : IsStream items_before 10 by_key
-ten = stream_sound items_before (called 10) by_key refl
+ten = stream_sound items_before (called 10) refl
 
 eleven : IsStream items_before 11 mapped
-eleven = stream_sound items_before (called 11) mapped refl
+eleven = stream_sound items_before (called 11) refl
 
 twelve : IsStream items_before 12 unmapped
-twelve = stream_sound items_before (called 12) unmapped refl
+twelve = stream_sound items_before (called 12) refl
 
 thirteen : IsFold items_before 13 of_one_argument
-thirteen = fold_name_sound items_before (called 13) of_one_argument refl
+thirteen = fold_name_sound items_before (called 13) refl
 
 fourteen : IsFold items_before 14 of_no_argument
-fourteen = fold_name_sound items_before (called 14) of_no_argument refl
+fourteen = fold_name_sound items_before (called 14) refl
 
 fifteen : IsStream items_before 15 fields
-fifteen = stream_sound items_before (called 15) fields refl
+fifteen = stream_sound items_before (called 15) refl
 
 sixteen : IsStream items_before 16 zipped
-sixteen = stream_sound items_before (called 16) zipped refl
+sixteen = stream_sound items_before (called 16) refl
 
 abbrev field_names : List ℕ
 field_names = 2 ∷ 21 ∷ 22 ∷ 23 ∷ 24 ∷ 25 ∷ 26 ∷ 27 ∷ 28 ∷ 29 ∷ []
 
-field : (id slot : ℕ) → place_of field_names id ≡ Some slot → StandsAt field_names slot id
-field id slot is = place_stands field_names id slot is
+field : (id : ℕ) {slot : ℕ} → place_of field_names id ≡ Some slot → StandsAt field_names slot id
+field id {slot} is = place_stands field_names id slot is
 
 new : (id : ℕ) (names : List ℕ) → is_among id names ≡ false → IsNew id names
 new id names is = among_new id names is
 
 -- an operator makes nothing where something that it asks isn't so
-unmet : (op : StreamOp) (d : Demand) → StreamAsks [] items_before 1 (called 20) op d → (Holds items_before d → ⊥) → MakesNothing op
-unmet op d asked fails = λ made h. fails (stream_meets [] items_before 4 1 (called 20) op made d h asked)
+unmet : {op : StreamOp} {d : Demand} → StreamAsks [] items_before 1 (called 20) op d → (Holds items_before d → ⊥) → MakesNothing op
+unmet asked fails = λ made h. fails (stream_meets 4 made h asked)
 
 filter_examples : FilterExamples
 filter_examples = record {
@@ -193,21 +183,16 @@ filter_examples = record {
     source = by_key;
     condition = typed.Binary Lt (typed.Number 0) (typed.Slot 0);
     stream = ten;
-    typed = of_binary Lt here (Number 0 here) first (typed.Number 0) (typed.Slot 0) (of_number 0 here) (of_name (called 1) 0 refl) tt;
+    typed = of_binary here (of_number here) (of_name (called 1) refl) tt;
     is = refl;
   };
-  filter_on_a_state = unmet (Filter (called 10) (is_above_0 3)) (AColumn (1 ∷ []) (3 ∷ []) 3 here)
-      (asks.of_condition (called 10) (is_above_0 3) by_key (AColumn (1 ∷ []) (3 ∷ []) 3 here) ten
-      (asks.of_name Word (called 3) (right_of_0 3)))
-      (no_place (1 ∷ []) 3 refl);
-  filter_of_a_fold = unmet (Filter (called 13) (is_above_0 2)) (Stands AStream (called 13)) (asks.of_filtered (called 13) (is_above_0 2))
-      (λ h. no_fault h.0 (record { kind = WrongKind; span = here }) (sym (stream_complete items_before (called 13) h.0 h.1)));
+  filter_on_a_state = unmet (asks.of_condition by_key ten (asks.of_name (called 3) right_of_0)) (no_place (1 ∷ []) 3 refl);
+  filter_of_a_fold = unmet asks.of_filtered (λ h. no_fault (sym (stream_complete items_before (called 13) h.1)));
   filter_on_a_column_with_a_states_name = record {
     source = zipped;
     condition = typed.Binary Lt (typed.Number 0) (typed.Slot 1);
     stream = sixteen;
-    typed = of_binary Lt here (Number 0 here) (Named (called 3)) (typed.Number 0) (typed.Slot 1) (of_number 0 here)
-        (of_name (called 3) 1 (place_stands (1 ∷ 3 ∷ []) 3 1 refl)) tt;
+    typed = of_binary here (of_number here) (of_name (called 3) (place_stands (1 ∷ 3 ∷ []) 3 1 refl)) tt;
     is = refl;
   };
 }
@@ -218,31 +203,17 @@ map_examples = record {
     source = unmapped;
     values = typed.Binary Add (typed.Slot 0) (typed.Slot 1) ∷ [];
     stream = twelve;
-    typed = (among_new 5 two_columns refl, of_binary Add here first second (typed.Slot 0) (typed.Slot 1) first_word second_word tt, tt);
+    typed = (among_new 5 two_columns refl, of_binary here first_word second_word tt, tt);
     is = refl;
   };
-  map_to_a_column = unmet (Map (called 12) (new_column 2 first ∷ [])) (New two_columns 2 here)
-      (asks.of_columns (called 12) (new_column 2 first ∷ []) unmapped (New two_columns 2 here) twelve
-      (asks.of_name [] (new_column 2 first) [] refl))
-      (λ new. new.1.0 refl);
-  map_to_a_state = unmet (Map (called 10) (new_column 3 first ∷ [])) (New (1 ∷ 3 ∷ []) 3 here)
-      (asks.of_columns (called 10) (new_column 3 first ∷ []) by_key (New (1 ∷ 3 ∷ []) 3 here) ten
-      (asks.of_name [] (new_column 3 first) [] refl))
-      (λ new. new.1.0 refl);
-  map_to_one_name = unmet (Map (called 12) (new_column 5 first ∷ new_column 5 second ∷ [])) (New (1 ∷ 2 ∷ 5 ∷ []) 5 here)
-      (asks.of_columns (called 12) (new_column 5 first ∷ new_column 5 second ∷ []) unmapped (New (1 ∷ 2 ∷ 5 ∷ []) 5 here) twelve
-      (asks.of_name (new_column 5 first ∷ []) (new_column 5 second) [] refl))
+  map_to_a_column = unmet (asks.of_columns unmapped twelve (asks.of_name [] (new_column 2 first) [] refl)) (λ new. new.1.0 refl);
+  map_to_a_state = unmet (asks.of_columns by_key ten (asks.of_name [] (new_column 3 first) [] refl)) (λ new. new.1.0 refl);
+  map_to_one_name = unmet (asks.of_columns unmapped twelve (asks.of_name (new_column 5 first ∷ []) (new_column 5 second) [] refl))
       (λ new. new.1.1.0 refl);
-  map_of_a_condition = unmet (Map (called 12) (new_column 5 is_less ∷ [])) (Typed two_columns Word is_less)
-      (asks.of_columns (called 12) (new_column 5 is_less ∷ []) unmapped (Typed two_columns Word is_less) twelve
-      (asks.of_value [] (new_column 5 is_less) [] (Typed two_columns Word is_less) refl
-      (asks.of_part Word is_less (parts.whole Word is_less))))
+  map_of_a_condition = unmet (asks.of_columns unmapped twelve (asks.of_value [] (new_column 5 is_less) [] refl (asks.of_part parts.whole)))
       no_word;
-  map_of_a_new_column = unmet (Map (called 12) (new_column 5 first ∷ new_column 6 (Named (called 5)) ∷ [])) (AColumn two_columns [] 5 here)
-      (asks.of_columns (called 12) (new_column 5 first ∷ new_column 6 (Named (called 5)) ∷ []) unmapped (AColumn two_columns [] 5 here)
-      twelve
-      (asks.of_value (new_column 5 first ∷ []) (new_column 6 (Named (called 5))) [] (AColumn two_columns [] 5 here) refl
-      (asks.of_name Word (called 5) (parts.whole Word (Named (called 5))))))
+  map_of_a_new_column = unmet (asks.of_columns unmapped twelve
+      (asks.of_value (new_column 5 first ∷ []) (new_column 6 (Named (called 5))) [] refl (asks.of_name (called 5) parts.whole)))
       (no_place two_columns 5 refl);
 }
 
@@ -256,18 +227,15 @@ zip_examples = record {
     one = ten;
     other = eleven;
     same = ((λ e. refl, tt), ((λ e. absurd (omega (arith, e)), tt), tt));
-    new = rules.of_named 0 _ _ (1 ∷ []) (λ new. new.0 refl) (rules.of_other 1 _ [] [] ((λ e. absurd (omega (arith, e))), tt)
-        (rules.of_none 2));
+    new = rules.of_named (λ new. new.0 refl) (rules.of_other ((λ e. absurd (omega (arith, e))), tt) (rules.of_none 2));
     taken = (refl, tt);
     is = refl;
   };
-  zip_of_a_mapped_column = unmet (Zip (called 11) (called 12)) (Same mapped.columns unmapped.columns here)
-      (asks.of_both (called 11) (called 12) mapped unmapped eleven twelve)
+  zip_of_a_mapped_column = unmet (asks.of_both (called 11) (called 12) mapped unmapped eleven twelve)
       (λ same. let e = same.1.0.1.0 refl in cc e);
 }
 
-eight_fields : Makes (Group (called 15) (keys_named eight_keys) (called 13))
-    (by_fields eight_keys (1 ∷ 2 ∷ 3 ∷ 4 ∷ 5 ∷ 6 ∷ 7 ∷ 8 ∷ []))
+eight_fields : Makes (Group (called 15) (keys_named eight_keys) (called 13)) (by_fields eight_keys (1 ∷ 2 ∷ 3 ∷ 4 ∷ 5 ∷ 6 ∷ 7 ∷ 8 ∷ []))
 eight_fields = record {
   few = omega arith;
   source = fields;
@@ -278,17 +246,17 @@ eight_fields = record {
   stream = fifteen;
   picked = record {
     places = (
-      field 21 1 refl,
+      field 21 refl,
       (
-        field 22 2 refl,
+        field 22 refl,
         (
-          field 23 3 refl,
-          (field 24 4 refl, (field 25 5 refl, (field 26 6 refl, (field 27 7 refl, (field 28 8 refl, tt))))),
+          field 23 refl,
+          (field 24 refl, (field 25 refl, (field 26 refl, (field 27 refl, (field 28 refl, tt))))),
         ),
       ),
     );
     distinct = (
-      new 21 ([]) refl,
+      new 21 [] refl,
       (
         new 22 (21 ∷ []) refl,
         (
@@ -313,7 +281,7 @@ eight_fields = record {
   };
   there = (refl, (refl, (refl, (refl, (refl, (refl, (refl, (refl, tt))))))));
   fold = thirteen;
-  taken = record { places = (field 2 0 refl, tt); apart = apart_sound (3 ∷ []) (21 ∷ 22 ∷ 23 ∷ 24 ∷ 25 ∷ 26 ∷ 27 ∷ 28 ∷ []) refl };
+  taken = record { places = (field 2 refl, tt); apart = apart_sound (3 ∷ []) (21 ∷ 22 ∷ 23 ∷ 24 ∷ 25 ∷ 26 ∷ 27 ∷ 28 ∷ []) refl };
   is = refl;
 }
 
@@ -328,9 +296,9 @@ five_tuple = record {
   arguments = 0 ∷ [];
   stream = fifteen;
   picked = record {
-    places = (field 21 1 refl, (field 22 2 refl, (field 23 3 refl, (field 24 4 refl, (field 25 5 refl, tt)))));
+    places = (field 21 refl, (field 22 refl, (field 23 refl, (field 24 refl, (field 25 refl, tt)))));
     distinct = (
-      new 21 ([]) refl,
+      new 21 [] refl,
       (
         new 22 (21 ∷ []) refl,
         (
@@ -343,7 +311,7 @@ five_tuple = record {
   };
   there = (refl, (refl, (refl, (refl, (refl, tt)))));
   fold = thirteen;
-  taken = record { places = (field 2 0 refl, tt); apart = apart_sound (3 ∷ []) (21 ∷ 22 ∷ 23 ∷ 24 ∷ 25 ∷ []) refl };
+  taken = record { places = (field 2 refl, tt); apart = apart_sound (3 ∷ []) (21 ∷ 22 ∷ 23 ∷ 24 ∷ 25 ∷ []) refl };
   is = refl;
 }
 
@@ -364,23 +332,10 @@ group_examples = record {
     is = refl;
   };
   key_twice = λ made h. h.picked.distinct.1.0.0 refl;
-  key_without_a_column = unmet (grouped_by 12 5 13) (AColumn two_columns [] 5 here)
-      (asks.of_keys (called 12) (key.Named (called 5) ∷ []) (called 13) unmapped (AColumn two_columns [] 5 here) twelve
-      (asks.of_key [] (called 5) [] refl))
-      (no_place two_columns 5 refl);
-  key_is_a_state = unmet (grouped_by 10 3 14) (AColumn (1 ∷ []) (3 ∷ []) 3 here)
-      (asks.of_keys (called 10) (key.Named (called 3) ∷ []) (called 14) by_key (AColumn (1 ∷ []) (3 ∷ []) 3 here) ten
-      (asks.of_key [] (called 3) [] refl))
-      (no_place (1 ∷ []) 3 refl);
-  argument_without_a_column = unmet (grouped_by 10 1 13) (AColumn (1 ∷ []) (3 ∷ []) 2 here)
-      (asks.of_arguments (called 10) (key.Named (called 1) ∷ []) (called 13) by_key of_one_argument (AColumn (1 ∷ []) (3 ∷ []) 2 here) ten
-      thirteen
-      (asks.of_argument [] 2 [] refl))
-      (no_place (1 ∷ []) 2 refl);
-  variable_with_a_keys_name = unmet (grouped_by 12 1 14) (Apart (1 ∷ []) (1 ∷ []) here)
-      (asks.of_arguments (called 12) (key.Named (called 1) ∷ []) (called 14) unmapped of_no_argument (Apart (1 ∷ []) (1 ∷ []) here) twelve
-      fourteen asks.of_states)
-      (λ apart. apart.0.0 refl);
+  key_without_a_column = unmet (asks.of_keys unmapped twelve (asks.of_key [] (called 5) [] refl)) (no_place two_columns 5 refl);
+  key_is_a_state = unmet (asks.of_keys by_key ten (asks.of_key [] (called 3) [] refl)) (no_place (1 ∷ []) 3 refl);
+  argument_without_a_column = unmet (asks.of_arguments by_key ten thirteen (asks.of_argument [] 2 [] refl)) (no_place (1 ∷ []) 2 refl);
+  variable_with_a_keys_name = unmet (asks.of_arguments unmapped twelve fourteen asks.of_states) (λ apart. apart.0.0 refl);
   eight_fields = eight_fields;
   nine_fields = λ made h. absurd (omega (arith, h.picked.few));
   five_tuple = five_tuple;

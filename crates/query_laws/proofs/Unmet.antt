@@ -22,11 +22,11 @@ stands_taken (name ∷ rest) zero id h new = new.0 h
 stands_taken (name ∷ rest) (suc place) id h new = stands_taken rest place id h.1 new.1
 
 sought_taken : (known : List Known) (sought : Sought) (id : ℕ) → IsSought known sought id → IsFree known id → ⊥
-sought_taken known AStream id h = not_free known id (meaning.Stream h.0) (meaning_complete known id (meaning.Stream h.0) h.1)
-sought_taken known ATable id (t, inl h) = not_free known id (meaning.Final t) (meaning_complete known id (meaning.Final t) h)
-sought_taken known ATable id (t, inr h) = not_free known id (meaning.Stream h.0) (meaning_complete known id (meaning.Stream h.0) h.1)
-sought_taken known AFold id h = not_free known id (meaning.Fold h.0) (meaning_complete known id (meaning.Fold h.0) h.1)
-sought_taken known AQuietFold id h = not_free known id (meaning.Fold h.0) (meaning_complete known id (meaning.Fold h.0) h.1)
+sought_taken known AStream id h = not_free known id (meaning_complete known id h.1)
+sought_taken known ATable id (t, inl h) = not_free known id (meaning_complete known id h)
+sought_taken known ATable id (t, inr h) = not_free known id (meaning_complete known id h.1)
+sought_taken known AFold id h = not_free known id (meaning_complete known id h.1)
+sought_taken known AQuietFold id h = not_free known id (meaning_complete known id h.1)
 
 unknown_unmet : (known : List Known) (at : Span) (d : Demand) → IsUnknown known at d → Holds known d → ⊥
 unknown_unmet known at (Stands sought x) t h = sought_taken known sought x.id h t.1
@@ -52,7 +52,7 @@ not_other Condition e = cc e
 
 kind_unmet : (known : List Known) (at : Span) (d : Demand) → IsOtherKind known at d → Holds known d → ⊥
 kind_unmet known at (Stands sought x) t h = t.2 h
-kind_unmet known at (Typed columns kind e) t h = not_other kind (one_kind columns (other_kind kind) kind e t.1.0 h.0 t.1.1 h.1)
+kind_unmet known at (Typed columns kind e) t h = not_other kind (one_kind t.1.1 h.1)
 kind_unmet known at (Target states args x) t h = stands_taken states h.0 x.id h.1 t.1
 kind_unmet known at (SameKeys left right span) t h = t.1 h
 kind_unmet known at _ t h = absurd t

@@ -26,7 +26,7 @@ use Rattle.query_laws.proofs.Items.{numbers}
 
 -- an accepted text has a query, whose check gives the typed form
 pub parts : (text : List ℕ) (q : TypedQuery) → accepted text ≡ Ok q → (query : Query) × IsQueryOf text query × (checked query ≡ Ok q)
-parts text q e = let p = accepted_sound text q e in (p.query, p.derives, query_complete p.query q p.typed)
+parts text q e = let p = accepted_sound text q e in (p.query, p.derives, query_complete p.typed)
 
 pub accepted_valid : AcceptedAreValid
 accepted_valid text q e = let p = parts text q e in query_valid p.0 q (readable text p.0 p.1) (numbers text p.0 p.1).0 p.2
@@ -36,8 +36,8 @@ accepted_valid text q e = let p = parts text q e in query_valid p.0 q (readable 
 abbrev start_words : TypedFold → Type 0
 start_words f = AreWords f.initial
 
-fold_starts : (d : FoldDef) (f : TypedFold) → HasFold d f → All (λ state. IsWord state.initial) d.states → start_words f
-fold_starts d f h words = subst start_words (sym h.is) (All-map IsWord (λ (s : StateVar). s.initial) d.states words)
+fold_starts : {d : FoldDef} {f : TypedFold} → HasFold d f → All (λ state. IsWord state.initial) d.states → start_words f
+fold_starts {d} h words = subst start_words (sym h.is) (All-map IsWord (λ (s : StateVar). s.initial) d.states words)
 
 abbrev Starts : List Entry → Type 0
 Starts items = All start_words (folds_in items)
@@ -48,16 +48,15 @@ starts_with items one = Starts (one ∷ items)
 one_more : (given : Given) (names : List (List ℕ)) (items : List Entry) (i : Item) (one : Entry) → HasItem given names items i one
     → StartsAsWords i → Starts items → Starts (one ∷ items)
 one_more given names items (item.Fold d) one h words all =
-    subst (starts_with items) (sym h.is) (All-push start_words (folds_in items) h.f all (fold_starts d h.f h.typed words))
+    subst (starts_with items) (sym h.is) (All-push start_words (folds_in items) h.f all (fold_starts h.typed words))
 one_more given names items (item.Stream d) one h words all = subst (starts_with items) (sym h.is) all
 one_more given names items (item.Final d) one h words all = subst (starts_with items) (sym h.is) all
 one_more given names items (item.Print name) one h words all = subst (starts_with items) (sym h.is) all
 
-all_start : (given : Given) (names : List (List ℕ)) (before : List Entry) (list : List Item) (all : List Entry)
+all_start : {given : Given} {names : List (List ℕ)} {before : List Entry} {list : List Item} {all : List Entry}
     → HasItems given names before list all → All StartsAsWords list → Starts before → Starts all
-all_start given names _ _ _ (of_none before) words start = start
-all_start given names _ _ _ (of_more before i one rest all h more) words start =
-    all_start given names (one ∷ before) rest all more (All-tail StartsAsWords i rest words)
+all_start (of_none before) words start = start
+all_start {given} {names} (of_more before i one rest all h more) words start = all_start more (All-tail StartsAsWords i rest words)
     (one_more given names before i one h (All-head StartsAsWords i rest words) start)
 
 pub accepted_starts : AcceptedStartAsWords
@@ -65,6 +64,5 @@ accepted_starts text q e =
     let p = accepted_sound text q e in
     let names : List (List ℕ) = typed_names p.query.names in
     let words : All StartsAsWords p.query.items = (numbers text p.query p.derives).1 in
-    let start : Starts p.typed.items =
-    all_start (given_of names p.query.items) names [] p.query.items p.typed.items p.typed.typed words (All-nil start_words) in
+    let start : Starts p.typed.items = all_start p.typed.typed words (All-nil start_words) in
     subst (λ (z : TypedQuery). All start_words z.folds) (sym p.typed.is) start

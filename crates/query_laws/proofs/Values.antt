@@ -33,18 +33,18 @@ HaveValues V view (t ∷ tuples) = (t.row ≡ row_of V t.packet view) × HaveVal
 
 -- ---- slots
 
-column_found : (V : Values) (packet : ℕ) (view : View) (slot : ℕ) → slot < length view
+column_found : (V : Values) {packet : ℕ} (view : View) (slot : ℕ) → slot < length view
     → (c : StreamColumn) × (slice_get view slot ≡ Some c) × (slice_index (row_of V packet view) slot ≡ V packet c.origin c.name)
-column_found V packet [] slot lt = absurd (omega (arith, lt))
-column_found V packet (c ∷ view) zero lt = (c, refl, refl)
-column_found V packet (c ∷ view) (suc slot) lt = column_found V packet view slot (omega (arith, lt))
+column_found V [] slot lt = absurd (omega (arith, lt))
+column_found V (c ∷ view) zero lt = (c, refl, refl)
+column_found V (c ∷ view) (suc slot) lt = column_found V view slot (omega (arith, lt))
 
 -- the values in slots are those of the columns at these slots
 values_picked : (V : Values) (packet : ℕ) (view : View) (slots : List ℕ) → AreBelow (length view) slots
     → values_at (row_of V packet view) slots ≡ row_of V packet (columns_at view slots)
 values_picked V packet view [] h = refl
 values_picked V packet view (slot ∷ slots) h =
-    let f = column_found V packet view slot h.0 in
+    let f = column_found V view slot h.0 in
     ap (λ n. n ∷ values_at (row_of V packet view) slots) f.2
     ∙ ap (λ l. V packet f.0.origin f.0.name ∷ l) (values_picked V packet view slots h.1)
     ∙ ap (λ o. row_of V packet (cons_option o (columns_at view slots))) (sym f.1)
@@ -65,16 +65,15 @@ map_has : (V : Values) (source new : View) (values : List TypedExpr)
     → (tuples : List Tuple) → HaveValues V source tuples → HaveValues V (source ++ new) (map_stream values tuples)
 map_has V source new values are [] h = tt
 map_has V source new values are (t ∷ tuples) h = (
-  ap (λ row. row ++ map (λ e. expr_value e row) values) h.0
-      ∙ ap (λ l. row_of V t.packet source ++ l) (are t.packet)
+  ap (λ row. row ++ map (λ e. expr_value e row) values) h.0 ∙ ap (λ l. row_of V t.packet source ++ l) (are t.packet)
       ∙ sym (map-append (λ column. V t.packet column.origin column.name) source new),
   map_has V source new values are tuples h.1,
 )
 
-find_has : (V : Values) (view : View) (packet : ℕ) (tuples : List Tuple) (other : Tuple) → HaveValues V view tuples
+find_has : (V : Values) (view : View) (packet : ℕ) (tuples : List Tuple) {other : Tuple} → HaveValues V view tuples
     → find (λ (t : Tuple). t.packet == packet) tuples ≡ Some other → other.row ≡ row_of V packet view
-find_has V view packet [] other h e = cc e
-find_has V view packet (t ∷ tuples) other h e = go (eqb t.packet packet) refl (λ k. find_has V view packet tuples other h.1 k) e
+find_has V view packet [] h e = cc e
+find_has V view packet (t ∷ tuples) {other} h e = go (eqb t.packet packet) refl (λ k. find_has V view packet tuples h.1 k) e
   where
     go : (b : Bool) → eqb t.packet packet ≡ b → (find (λ (t : Tuple). t.packet == packet) tuples ≡ Some other
         → other.row ≡ row_of V packet view)
@@ -94,13 +93,12 @@ zip_has V first second slots below right r (t ∷ left) l =
     whole = first ++ columns_at second slots
 
     go : (o : Option Tuple) → find (λ (other : Tuple). other.packet == t.packet) right ≡ o
-        → HaveValues V whole (zip_stream slots left right)
-        → HaveValues V whole (cons_option (option_map (λ (other : Tuple). record
+        → HaveValues V whole (zip_stream slots left right) → HaveValues V whole (cons_option (option_map (λ (other : Tuple). record
         { packet = t.packet; row = t.row ++ values_at other.row slots }) o) (zip_stream slots left right))
     go None is more = more
     go (Some other) is more = (
       ap (λ row. row ++ values_at other.row slots) l.0
-          ∙ ap (λ row. row_of V t.packet first ++ values_at row slots) (find_has V second t.packet right other r is)
+          ∙ ap (λ row. row_of V t.packet first ++ values_at row slots) (find_has V second t.packet right r is)
           ∙ ap (λ row. row_of V t.packet first ++ row) (values_picked V t.packet second slots below)
           ∙ sym (map-append (λ column. V t.packet column.origin column.name) first (columns_at second slots)),
       more,
@@ -148,7 +146,7 @@ all_looked_up [] [] d e = refl
 all_looked_up [] (v ∷ values) d e = absurd (omega (arith, e))
 all_looked_up (name ∷ names) [] d e = absurd (omega (arith, e))
 all_looked_up (name ∷ names) (v ∷ values) d e =
-    ap (λ b. cond b v (look names values name) ∷ map (λ id. look (name ∷ names) (v ∷ values) id) names) (nat_is name name refl)
+    ap (λ b. cond b v (look names values name) ∷ map (λ id. look (name ∷ names) (v ∷ values) id) names) (nat_is refl)
     ∙ ap (λ l. v ∷ l) (looks_past name v names values names d.0 ∙ all_looked_up names values d.1 (omega (arith, e)))
 
 -- ---- the values that a `map` adds
@@ -193,22 +191,20 @@ picked_earlier : (number : ℕ) (view : View) (slots : List ℕ) → AreEarlier 
 picked_earlier number view [] h = tt
 picked_earlier number view (slot ∷ slots) h = earlier_at number view slot (columns_at view slots) h (picked_earlier number view slots h)
 
-value_same : (V : Values) (number : ℕ) (new : ℕ → ℕ → ℕ) (packet : ℕ) (o : Origin) (id : ℕ) → IsEarlier number o
+value_same : (V : Values) (number : ℕ) (new : ℕ → ℕ → ℕ) {packet : ℕ} (o : Origin) {id : ℕ} → IsEarlier number o
     → V packet o id ≡ with_map V number new packet o id
-value_same V number new packet origin.Field id h = refl
-value_same V number new packet (origin.Map m) id h =
-    ap (λ b. cond b (new packet id) (V packet (origin.Map m) id)) (sym (nat_is_not m number (λ e. absurd (omega (arith, h, e)))))
+value_same V number new origin.Field h = refl
+value_same V number new {packet} (origin.Map m) {id} h =
+    ap (λ b. cond b (new packet id) (V packet (origin.Map m) id)) (sym (nat_is_not (λ e. absurd (omega (arith, h, e)))))
 
 row_same : (V : Values) (number : ℕ) (new : ℕ → ℕ → ℕ) (packet : ℕ) (view : View) → AreEarlier number view
     → row_of V packet view ≡ row_of (with_map V number new) packet view
 row_same V number new packet [] h = refl
-row_same V number new packet (c ∷ view) h =
-    ap (λ n. n ∷ row_of V packet view) (value_same V number new packet c.origin c.name h.0)
+row_same V number new packet (c ∷ view) h = ap (λ n. n ∷ row_of V packet view) (value_same V number new c.origin h.0)
     ∙ ap (λ l. with_map V number new packet c.origin c.name ∷ l) (row_same V number new packet view h.1)
 
 have_same : (V : Values) (number : ℕ) (new : ℕ → ℕ → ℕ) (view : View) (tuples : List Tuple) → AreEarlier number view
-    → HaveValues V view tuples
-    → HaveValues (with_map V number new) view tuples
+    → HaveValues V view tuples → HaveValues (with_map V number new) view tuples
 have_same V number new view [] e h = tt
 have_same V number new view (t ∷ tuples) e h = (h.0 ∙ row_same V number new t.packet view e, have_same V number new view tuples e h.1)
 
@@ -217,8 +213,7 @@ new_row : (V : Values) (number : ℕ) (new : ℕ → ℕ → ℕ) (packet : ℕ)
     → map (λ id. new packet id) names ≡ row_of (with_map V number new) packet (mapped_columns number names)
 new_row V number new packet [] = refl
 new_row V number new packet (name ∷ names) =
-    ap (λ b. cond b (new packet name) (V packet (origin.Map number) name) ∷ map (λ id. new packet id) names)
-    (sym (nat_is number number refl))
+    ap (λ b. cond b (new packet name) (V packet (origin.Map number) name) ∷ map (λ id. new packet id) names) (sym (nat_is refl))
     ∙ ap (λ l. with_map V number new packet (origin.Map number) name ∷ l) (new_row V number new packet names)
 
 -- ---- all streams
@@ -230,13 +225,12 @@ AllHave number V [] (tuples ∷ lists) = ⊥
 AllHave number V (view ∷ views) [] = ⊥
 AllHave number V (view ∷ views) (tuples ∷ lists) = (AreEarlier number view × HaveValues V view tuples) × AllHave number V views lists
 
-pub have_at : (number : ℕ) (V : Values) (views : List View) (lists : List (List Tuple)) (i : ℕ) (view : View) → AllHave number V views lists
+pub have_at : (number : ℕ) (V : Values) (views : List View) (lists : List (List Tuple)) (i : ℕ) {view : View} → AllHave number V views lists
     → slice_get views i ≡ Some view → AreEarlier number view × HaveValues V view (tuples_at lists i)
-have_at number V [] lists i view h e = cc e
-have_at number V (v ∷ views) [] i view h e = absurd h
-have_at number V (v ∷ views) (l ∷ lists) zero view h e =
-    subst (λ z. AreEarlier number z × HaveValues V z l) (same_Some v view e) h.0
-have_at number V (v ∷ views) (l ∷ lists) (suc i) view h e = have_at number V views lists i view h.1 e
+have_at number V [] lists i h e = cc e
+have_at number V (v ∷ views) [] i h e = absurd h
+have_at number V (v ∷ views) (l ∷ lists) zero {view} h e = subst (λ z. AreEarlier number z × HaveValues V z l) (same_Some v view e) h.0
+have_at number V (v ∷ views) (l ∷ lists) (suc i) h e = have_at number V views lists i h.1 e
 
 have_last : (number : ℕ) (V : Values) (views : List View) (lists : List (List Tuple)) (view : View) (tuples : List Tuple)
     → AllHave number V views lists → AreEarlier (suc number) view → HaveValues V view tuples
@@ -259,25 +253,23 @@ OneMore number views lists view tuples = (V : Values) × AllHave (suc number) V 
 
 module _ (folds : List TypedFold) (number : ℕ) (V : Values) (views : List View) (lists : List (List Tuple))
     (h : AllHave number V views lists) where
-  pub of_filter : (input : ℕ) (condition : TypedExpr) (view : View) → slice_get views input ≡ Some view
+  pub of_filter : (input : ℕ) (condition : TypedExpr) {view : View} → slice_get views input ≡ Some view
       → OneMore number views lists view (made_of folds lists (typed.Filter input condition))
-  of_filter input condition view e =
-      let source = have_at number V views lists input view h e in (
+  of_filter input condition {view} e =
+      let source = have_at number V views lists input h e in (
         V,
         have_last number V views lists view _ h (are_earlier_later number view source.0)
             (filter_has V view (λ t. holds (expr_value condition t.row)) (tuples_at lists input) source.1),
       )
 
-  pub of_map : (input : ℕ) (values : List TypedExpr) (view : View) → OfMap views number input values view
+  pub of_map : {input : ℕ} {values : List TypedExpr} {view : View} → OfMap views number input values view
       → OneMore number views lists view (made_of folds lists (typed.Map input values))
-  of_map input values view m =
-      let from = have_at number V views lists input m.source h m.stream in (
+  of_map {input} {values} {view} m =
+      let from = have_at number V views lists input h m.stream in (
         next,
-        have_last number next views lists view _ (all_same V number new views lists h)
-            (subst (AreEarlier (suc number)) (sym m.is)
+        have_last number next views lists view _ (all_same V number new views lists h) (subst (AreEarlier (suc number)) (sym m.is)
             (both_earlier (suc number) m.source (mapped_columns number m.names) (are_earlier_later number m.source from.0)
-            (mapped_earlier number m.names)))
-            (subst (λ z. HaveValues next z (map_stream values (tuples_at lists input))) (sym m.is)
+            (mapped_earlier number m.names))) (subst (λ z. HaveValues next z (map_stream values (tuples_at lists input))) (sym m.is)
             (map_has next m.source (mapped_columns number m.names) values (are from.0) (tuples_at lists input)
             (have_same V number new m.source (tuples_at lists input) from.0 from.1))),
       )
@@ -293,33 +285,29 @@ module _ (folds : List TypedFold) (number : ℕ) (V : Values) (views : List View
 
       are : AreEarlier number m.source → (packet : ℕ)
           → map (λ e. expr_value e (row_of next packet m.source)) values ≡ row_of next packet (mapped_columns number m.names)
-      are e packet =
-          ap (λ row. map (λ e. expr_value e row) values) (sym (row_same V number new packet m.source e))
+      are e packet = ap (λ row. map (λ e. expr_value e row) values) (sym (row_same V number new packet m.source e))
           ∙ sym (all_looked_up m.names (results packet) m.distinct (m.long
-          ∙ sym (length-map values (λ e. expr_value e (row_of V packet m.source)))))
-          ∙ new_row V number new packet m.names
+          ∙ sym (length-map values (λ e. expr_value e (row_of V packet m.source))))) ∙ new_row V number new packet m.names
 
-  pub of_zip : (left right : ℕ) (slots : List ℕ) (view : View) (z : OfZip views left right slots view) → AreBelow (length z.second) slots
+  pub of_zip : {left right : ℕ} {slots : List ℕ} {view : View} (z : OfZip views left right slots view) → AreBelow (length z.second) slots
       → OneMore number views lists view (made_of folds lists (typed.Zip left right slots))
-  of_zip left right slots view z below =
-      let one = have_at number V views lists left z.first h z.one in
-      let other = have_at number V views lists right z.second h z.other in (
+  of_zip {left} {right} {slots} {view} z below =
+      let one = have_at number V views lists left h z.one in
+      let other = have_at number V views lists right h z.other in (
         V,
-        have_last number V views lists view _ h
-            (subst (AreEarlier (suc number)) (sym z.is)
+        have_last number V views lists view _ h (subst (AreEarlier (suc number)) (sym z.is)
             (are_earlier_later number (z.first ++ columns_at z.second slots)
             (both_earlier number z.first (columns_at z.second slots) one.0 (picked_earlier number z.second slots other.0))))
             (subst (λ v. HaveValues V v (zip_stream slots (tuples_at lists left) (tuples_at lists right))) (sym z.is)
             (zip_has V z.first z.second slots below (tuples_at lists right) other.1 (tuples_at lists left) one.1)),
       )
 
-  pub of_group : (input : ℕ) (keys : List ℕ) (f : ℕ) (args : List ℕ) (view : View) → OfGroup views input keys view
+  pub of_group : {input : ℕ} {keys : List ℕ} (f : ℕ) (args : List ℕ) {view : View} → OfGroup views input keys view
       → OneMore number views lists view (made_of folds lists (typed.Group input keys f args))
-  of_group input keys f args view g =
-      let from = have_at number V views lists input g.source h g.stream in (
+  of_group {input} {keys} f args {view} g =
+      let from = have_at number V views lists input h g.stream in (
         V,
-        have_last number V views lists view _ h
-            (subst (AreEarlier (suc number)) (sym g.is)
+        have_last number V views lists view _ h (subst (AreEarlier (suc number)) (sym g.is)
             (are_earlier_later number (columns_at g.source keys) (picked_earlier number g.source keys from.0)))
             (subst (λ v. HaveValues V v (group_stream (slice_get folds f) keys args (tuples_at lists input))) (sym g.is)
             (group_has V g.source (slice_get folds f) keys args g.below (tuples_at lists input) from.1)),

@@ -75,8 +75,7 @@ made_long before (one ∷ streams) [] h = absurd h
 made_long before (one ∷ streams) (view ∷ views) h = ap suc (made_long (before ++ view ∷ []) streams views h.2)
 
 pub made_last : (before : List View) (streams : List TypedStream) (views : List View) (one : TypedStream) (view : View)
-    → AreMade before streams views
-    → Makes (before ++ views) (length (before ++ views)) one.op view → one.columns ≡ column_names view
+    → AreMade before streams views → Makes (before ++ views) (length (before ++ views)) one.op view → one.columns ≡ column_names view
     → AreMade before (streams ++ one ∷ []) (views ++ view ∷ [])
 made_last before [] [] one view h k e = (subst (λ l. Makes l (length l) one.op view) (append-nil before) k, e, tt)
 made_last before [] (v ∷ views) one view h k e = absurd h
@@ -90,22 +89,21 @@ made_last before (s ∷ streams) (v ∷ views) one view h k e = (
 
 -- ---- places in lists
 
-pub get_front : {A : Type 0} (xs ys : List A) (n : ℕ) (x : A) → slice_get xs n ≡ Some x → slice_get (xs ++ ys) n ≡ Some x
-get_front [] ys n x e = cc e
-get_front (z ∷ xs) ys zero x e = e
-get_front (z ∷ xs) ys (suc n) x e = get_front xs ys n x e
+pub get_front : {A : Type 0} (xs ys : List A) (n : ℕ) {x : A} → slice_get xs n ≡ Some x → slice_get (xs ++ ys) n ≡ Some x
+get_front [] ys n e = cc e
+get_front (z ∷ xs) ys zero e = e
+get_front (z ∷ xs) ys (suc n) e = get_front xs ys n e
 
-pub get_after : {A : Type 0} (xs : List A) (y : A) (ys : List A) (n : ℕ) → n ≡ length xs → slice_get (xs ++ y ∷ ys) n ≡ Some y
-get_after [] y ys n e = ap (λ k. slice_get (y ∷ ys) k) e
-get_after (x ∷ xs) y ys zero e = absurd (omega (arith, e))
-get_after (x ∷ xs) y ys (suc n) e = get_after xs y ys n (omega (arith, e))
+pub get_after : {A : Type 0} (xs : List A) {y : A} (ys : List A) (n : ℕ) → n ≡ length xs → slice_get (xs ++ y ∷ ys) n ≡ Some y
+get_after [] {y} ys n e = ap (λ k. slice_get (y ∷ ys) k) e
+get_after (x ∷ xs) ys zero e = absurd (omega (arith, e))
+get_after (x ∷ xs) ys (suc n) e = get_after xs ys n (omega (arith, e))
 
 -- ---- the slots that a zip takes
 
 others_from_below : (at : ℕ) (names : List ℕ) (view : View) → AreBelow (at + length view) (others_from at names view)
 others_from_below at names [] = tt
-others_from_below at names (c ∷ view) =
-    go (is_among c.name names)
+others_from_below at names (c ∷ view) = go (is_among c.name names)
     (subst (λ n. AreBelow n (others_from (at + 1) names view)) (omega arith) (others_from_below (at + 1) names view))
   where
     go : (b : Bool) → AreBelow (at + length (c ∷ view)) (others_from (at + 1) names view)
@@ -120,21 +118,21 @@ others_below names view = subst (λ n. AreBelow n (others_from 0 names view)) (o
 
 -- the columns of the stream at a place
 pub columns_made : (before : List View) (streams : List TypedStream) (views : List View) → AreMade before streams views
-    → (i : ℕ) (view : View) → slice_get views i ≡ Some view → option_map (λ one. one.columns) (slice_get streams i) ≡ Some
+    → (i : ℕ) {view : View} → slice_get views i ≡ Some view → option_map (λ one. one.columns) (slice_get streams i) ≡ Some
     (column_names view)
-columns_made before [] [] h i view e = cc e
-columns_made before [] (v ∷ views) h i view e = absurd h
-columns_made before (s ∷ streams) [] h i view e = absurd h
-columns_made before (s ∷ streams) (v ∷ views) h zero view e = ap Some (h.1 ∙ ap column_names (same_Some v view e))
-columns_made before (s ∷ streams) (v ∷ views) h (suc i) view e = columns_made (before ++ v ∷ []) streams views h.2 i view e
+columns_made before [] [] h i e = cc e
+columns_made before [] (v ∷ views) h i e = absurd h
+columns_made before (s ∷ streams) [] h i e = absurd h
+columns_made before (s ∷ streams) (v ∷ views) h zero {view} e = ap Some (h.1 ∙ ap column_names (same_Some v view e))
+columns_made before (s ∷ streams) (v ∷ views) h (suc i) e = columns_made (before ++ v ∷ []) streams views h.2 i e
 
-zip_front : (before more : List View) (left right : ℕ) (slots : List ℕ) (view : View) → OfZip before left right slots view
+zip_front : {before : List View} (more : List View) {left right : ℕ} {slots : List ℕ} {view : View} → OfZip before left right slots view
     → OfZip (before ++ more) left right slots view
-zip_front before more left right slots view h = record {
+zip_front {before} more {left} {right} h = record {
   first = h.first;
   second = h.second;
-  one = get_front before more left h.first h.one;
-  other = get_front before more right h.second h.other;
+  one = get_front before more left h.one;
+  other = get_front before more right h.other;
   apart = h.apart;
   picked = h.picked;
   is = h.is;
@@ -147,19 +145,18 @@ pub record ZipAt (views : List View) (number left right : ℕ) (slots : List ℕ
   pub made : OfZip views left right slots view
 
 pub zip_made : (before : List View) (streams : List TypedStream) (views : List View) → AreMade before streams views
-    → (i left right : ℕ) (slots : List ℕ) → option_map (λ one. one.op) (slice_get streams i) ≡ Some (typed.Zip left right slots)
+    → (i : ℕ) {left right : ℕ} {slots : List ℕ} → option_map (λ one. one.op) (slice_get streams i) ≡ Some (typed.Zip left right slots)
     → ZipAt (before ++ views) (length before + i) left right slots
-zip_made before [] [] h i left right slots e = cc e
-zip_made before [] (v ∷ views) h i left right slots e = absurd h
-zip_made before (s ∷ streams) [] h i left right slots e = absurd h
-zip_made before (s ∷ streams) (v ∷ views) h zero left right slots e = record {
+zip_made before [] [] h i e = cc e
+zip_made before [] (v ∷ views) h i e = absurd h
+zip_made before (s ∷ streams) [] h i e = absurd h
+zip_made before (s ∷ streams) (v ∷ views) h zero {left} {right} {slots} e = record {
   view = v;
-  stands = get_after before v views (length before + 0) (omega arith);
-  made = zip_front before (v ∷ views) left right slots v
-      (subst (λ op. Makes before (length before) op v) (same_Some s.op (typed.Zip left right slots) e) h.0);
+  stands = get_after before views (length before + 0) (omega arith);
+  made = zip_front (v ∷ views) (subst (λ op. Makes before (length before) op v) (same_Some s.op (typed.Zip left right slots) e) h.0);
 }
-zip_made before (s ∷ streams) (v ∷ views) h (suc i) left right slots e =
-    let more = zip_made (before ++ v ∷ []) streams views h.2 i left right slots e in
+zip_made before (s ∷ streams) (v ∷ views) h (suc i) {left} {right} {slots} e =
+    let more = zip_made (before ++ v ∷ []) streams views h.2 i e in
     let same : length (before ++ v ∷ []) + i ≡ length before + suc i = omega (arith, length_push before v) in
     subst (λ l. ZipAt l (length before + suc i) left right slots) (append_assoc before (v ∷ []) views)
     (subst (λ n. ZipAt ((before ++ v ∷ []) ++ views) n left right slots) same more)

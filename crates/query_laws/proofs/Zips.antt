@@ -31,20 +31,18 @@ named (c ∷ view) id = if nat_eq c.name id then Some c else named view id
 abbrev value_of : Values → ℕ → Option StreamColumn → Option ℕ
 value_of V packet o = option_map (λ c. V packet c.origin c.name) o
 
-index_after : (front : List ℕ) (x : ℕ) (rest : List ℕ) → slice_index (front ++ x ∷ rest) (length front) ≡ x
-index_after [] x rest = refl
-index_after (y ∷ front) x rest = index_after front x rest
+index_after : (front : List ℕ) {x : ℕ} (rest : List ℕ) → slice_index (front ++ x ∷ rest) (length front) ≡ x
+index_after [] rest = refl
+index_after (y ∷ front) rest = index_after front rest
 
 value_from : (V : Values) (packet id : ℕ) (front : List ℕ) (view : View)
     → option_map (λ slot. slice_index (front ++ row_of V packet view) slot) (place_from (length front) (column_names view) id)
     ≡ value_of V packet (named view id)
 value_from V packet id front [] = refl
-value_from V packet id front (c ∷ view) =
-    go (nat_eq c.name id)
+value_from V packet id front (c ∷ view) = go (nat_eq c.name id)
     (ap (λ n. option_map (λ slot. slice_index whole slot) (place_from n (column_names view) id)) (sym (length_push front x))
     ∙ ap (λ l. option_map (λ slot. slice_index l slot) (place_from (length (front ++ x ∷ [])) (column_names view) id))
-    (sym (append_assoc front (x ∷ []) (row_of V packet view)))
-    ∙ value_from V packet id (front ++ x ∷ []) view)
+    (sym (append_assoc front (x ∷ []) (row_of V packet view))) ∙ value_from V packet id (front ++ x ∷ []) view)
   where
     x : ℕ
     x = V packet c.origin c.name
@@ -52,12 +50,11 @@ value_from V packet id front (c ∷ view) =
     whole : List ℕ
     whole = front ++ row_of V packet (c ∷ view)
 
-    go : (b : Bool)
-        → option_map (λ slot. slice_index whole slot) (place_from (length front + 1) (column_names view) id) ≡ value_of V packet
+    go : (b : Bool) → option_map (λ slot. slice_index whole slot) (place_from (length front + 1) (column_names view) id) ≡ value_of V packet
         (named view id)
         → option_map (λ slot. slice_index whole slot) (cond b (Some (length front)) (place_from (length front + 1) (column_names view) id))
         ≡ value_of V packet (cond b (Some c) (named view id))
-    go true more = ap (λ n. Some n) (index_after front x (row_of V packet view))
+    go true more = ap (λ n. Some n) (index_after front (row_of V packet view))
     go false more = more
 
 value_named : (V : Values) (packet id : ℕ) (view : View)
@@ -66,29 +63,28 @@ value_named V packet id view = value_from V packet id [] view
 
 -- ---- the columns of both streams
 
-first_false : (a b : Bool) → (a || b) ≡ false → (a ≡ false) × (b ≡ false)
-first_false true b e = cc e
-first_false false b e = (refl, e)
+first_false : (a : Bool) {b : Bool} → (a || b) ≡ false → (a ≡ false) × (b ≡ false)
+first_false true e = cc e
+first_false false e = (refl, e)
 
 -- a column that is found has the name, and fails each test that no column passes
-named_fails : (view : View) (id : ℕ) (c : StreamColumn) (test : StreamColumn → Bool) → named view id ≡ Some c → list_any test view ≡ false
+named_fails : (view : View) {id : ℕ} {c : StreamColumn} (test : StreamColumn → Bool) → named view id ≡ Some c → list_any test view ≡ false
     → (c.name ≡ id) × (test c ≡ false)
-named_fails [] id c test e h = cc e
-named_fails (x ∷ view) id c test e h =
-    let none = first_false (test x) (list_any test view) h in
-    go (nat_eq x.name id) refl none.0 (λ k. named_fails view id c test k none.1) e
+named_fails [] test e h = cc e
+named_fails (x ∷ view) {id} {c} test e h =
+    let none = first_false (test x) h in
+    go (nat_eq x.name id) refl none.0 (λ k. named_fails view test k none.1) e
   where
     go : (b : Bool) → nat_eq x.name id ≡ b → test x ≡ false → (named view id ≡ Some c → (c.name ≡ id) × (test c ≡ false))
         → cond b (Some x) (named view id) ≡ Some c → (c.name ≡ id) × (test c ≡ false)
-    go true is fails more k =
-        subst (λ z. (z.name ≡ id) × (test z ≡ false)) (let same : x ≡ c = cc k in same) (nat_same x.name id is, fails)
+    go true is fails more k = subst (λ z. (z.name ≡ id) × (test z ≡ false)) (let same : x ≡ c = cc k in same) (nat_same is, fails)
     go false is fails more k = more k
 
 origins_same : (a b : Origin) → same_origin a b ≡ true → a ≡ b
 origins_same origin.Field origin.Field e = refl
 origins_same origin.Field (origin.Map b) e = cc e
 origins_same (origin.Map a) origin.Field e = cc e
-origins_same (origin.Map a) (origin.Map b) e = ap (λ n. origin.Map n) (nat_same a b e)
+origins_same (origin.Map a) (origin.Map b) e = ap (λ n. origin.Map n) (nat_same e)
 
 same_where : (a b : Bool) → a ≡ true → (a && not b) ≡ false → b ≡ true
 same_where true true is e = refl
@@ -96,23 +92,20 @@ same_where true false is e = cc e
 same_where false b is e = cc is
 
 -- columns of one name come from one place
-columns_same : (first second : View) (id : ℕ) (c d : StreamColumn) → clash first second ≡ false → named first id ≡ Some c
-    → named second id ≡ Some d
-    → (c.name ≡ d.name) × (c.origin ≡ d.origin)
-columns_same first second id c d apart one other =
-    let right = named_fails second id d (clashes_with first) other apart in
-    let left = named_fails first id c (λ z. nat_eq z.name d.name && not (same_origin z.origin d.origin)) one right.1 in
+columns_same : (first second : View) (id : ℕ) {c d : StreamColumn} → clash first second ≡ false → named first id ≡ Some c
+    → named second id ≡ Some d → (c.name ≡ d.name) × (c.origin ≡ d.origin)
+columns_same first second id {c} {d} apart one other =
+    let right = named_fails second (clashes_with first) other apart in
+    let left = named_fails first (λ z. nat_eq z.name d.name && not (same_origin z.origin d.origin)) one right.1 in
     let name : c.name ≡ d.name = left.0 ∙ sym right.0 in (
       name,
-      origins_same c.origin d.origin (same_where (nat_eq c.name d.name) (same_origin c.origin d.origin) (nat_is c.name d.name name)
-          left.1),
+      origins_same c.origin d.origin (same_where (nat_eq c.name d.name) (same_origin c.origin d.origin) (nat_is name) left.1),
     )
 
-values_same : (V : Values) (packet : ℕ) (first second : View) (id : ℕ) (c d : StreamColumn) → clash first second ≡ false
-    → named first id ≡ Some c
-    → named second id ≡ Some d → V packet c.origin c.name ≡ V packet d.origin d.name
-values_same V packet first second id c d apart one other =
-    let same = columns_same first second id c d apart one other in
+values_same : (V : Values) {packet : ℕ} (first second : View) (id : ℕ) {c d : StreamColumn} → clash first second ≡ false
+    → named first id ≡ Some c → named second id ≡ Some d → V packet c.origin c.name ≡ V packet d.origin d.name
+values_same V {packet} first second id {c} {d} apart one other =
+    let same = columns_same first second id apart one other in
     ap (λ n. V packet c.origin n) same.0 ∙ ap (λ o. V packet o d.name) same.1
 
 -- ---- the columns of the zip
@@ -124,8 +117,7 @@ kept names (c ∷ view) = if is_among c.name names then kept names view else (c 
 others_are : (all : View) (at : ℕ) (names : List ℕ) (view : View) → ((k : ℕ) → slice_get all (at + k) ≡ slice_get view k)
     → columns_at all (others_from at names view) ≡ kept names view
 others_are all at names [] are = refl
-others_are all at names (c ∷ view) are =
-    go (is_among c.name names)
+others_are all at names (c ∷ view) are = go (is_among c.name names)
     (others_are all (at + 1) names view (λ k. ap (slice_get all) (let same : (at + 1) + k ≡ at + suc k = omega arith in same)
     ∙ are (suc k)))
   where
@@ -138,9 +130,9 @@ others_are all at names (c ∷ view) are =
     go true more = more
     go false more = ap (λ o. cons_option o (columns_at all (others_from (at + 1) names view))) here ∙ ap (λ l. c ∷ l) more
 
-named_front : (view more : View) (id : ℕ) (c : StreamColumn) → named view id ≡ Some c → named (view ++ more) id ≡ Some c
-named_front [] more id c e = cc e
-named_front (x ∷ view) more id c e = go (nat_eq x.name id) (λ k. named_front view more id c k) e
+named_front : (view more : View) (id : ℕ) {c : StreamColumn} → named view id ≡ Some c → named (view ++ more) id ≡ Some c
+named_front [] more id e = cc e
+named_front (x ∷ view) more id {c} e = go (nat_eq x.name id) (λ k. named_front view more id k) e
   where
     go : (b : Bool) → (named view id ≡ Some c → named (view ++ more) id ≡ Some c) → cond b (Some x) (named view id) ≡ Some c
         → cond b (Some x) (named (view ++ more) id) ≡ Some c
@@ -173,45 +165,43 @@ named_kept names (c ∷ view) id h = go (is_among c.name names) (nat_eq c.name i
     go : (b e : Bool) → is_among c.name names ≡ b → nat_eq c.name id ≡ e → named (kept names view) id ≡ named view id
         → named (cond b (kept names view) (c ∷ kept names view)) id ≡ cond e (Some c) (named view id)
     go true true is same more =
-        let there : is_among id names ≡ true = ap (λ n. is_among n names) (sym (nat_same c.name id same)) ∙ is in cc (there, h)
+        let there : is_among id names ≡ true = ap (λ n. is_among n names) (sym (nat_same same)) ∙ is in cc (there, h)
     go true false is same more = more
     go false true is same more = ap (λ b. cond b (Some c) (named (kept names view) id)) same
     go false false is same more = ap (λ b. cond b (Some c) (named (kept names view) id)) same ∙ more
 
 zip_after : (first second : View) (id : ℕ) → named first id ≡ None
     → named (first ++ columns_at second (others_from 0 (column_names first) second)) id ≡ named second id
-zip_after first second id e =
-    named_after first (columns_at second (others_from 0 (column_names first) second)) id e
+zip_after first second id e = named_after first (columns_at second (others_from 0 (column_names first) second)) id e
     ∙ ap (λ l. named l id) (others_are second 0 (column_names first) second
     (λ k. ap (slice_get second) (let same : 0 + k ≡ k = omega arith in same)))
     ∙ named_kept (column_names first) second id (none_among first id e)
 
 -- ---- the laws, over columns
 
-agree : (V : Values) (packet : ℕ) (first second : View) (id a b : ℕ) → clash first second ≡ false
+agree : (V : Values) (packet : ℕ) (first second : View) (id : ℕ) {a b : ℕ} → clash first second ≡ false
     → value_of V packet (named first id) ≡ Some a → value_of V packet (named second id) ≡ Some b → a ≡ b
-agree V packet first second id a b apart l r = go (named first id) (named second id) refl refl l r
+agree V packet first second id {a} {b} apart l r = go (named first id) (named second id) refl refl l r
   where
     go : (o p : Option StreamColumn) → named first id ≡ o → named second id ≡ p → value_of V packet o ≡ Some a
         → value_of V packet p ≡ Some b → a ≡ b
     go None p is other l r = cc l
     go (Some c) None is other l r = cc r
-    go (Some c) (Some d) is other l r =
-        sym (same_Some _ a l) ∙ values_same V packet first second id c d apart is other ∙ same_Some _ b r
+    go (Some c) (Some d) is other l r = sym (same_Some _ a l) ∙ values_same V first second id apart is other ∙ same_Some _ b r
 
-keeps_first : (V : Values) (packet : ℕ) (first more : View) (id v : ℕ) → value_of V packet (named first id) ≡ Some v
+keeps_first : (V : Values) (packet : ℕ) (first more : View) (id : ℕ) {v : ℕ} → value_of V packet (named first id) ≡ Some v
     → value_of V packet (named (first ++ more) id) ≡ Some v
-keeps_first V packet first more id v e = go (named first id) refl e
+keeps_first V packet first more id {v} e = go (named first id) refl e
   where
     go : (o : Option StreamColumn) → named first id ≡ o → value_of V packet o ≡ Some v
         → value_of V packet (named (first ++ more) id) ≡ Some v
     go None is k = cc k
-    go (Some c) is k = ap (value_of V packet) (named_front first more id c is) ∙ k
+    go (Some c) is k = ap (value_of V packet) (named_front first more id is) ∙ k
 
-keeps_second : (V : Values) (packet : ℕ) (first second : View) (id v : ℕ) → clash first second ≡ false
+keeps_second : (V : Values) (packet : ℕ) (first second : View) (id : ℕ) {v : ℕ} → clash first second ≡ false
     → value_of V packet (named second id) ≡ Some v
     → value_of V packet (named (first ++ columns_at second (others_from 0 (column_names first) second)) id) ≡ Some v
-keeps_second V packet first second id v apart e = go (named first id) (named second id) refl refl e
+keeps_second V packet first second id {v} apart e = go (named first id) (named second id) refl refl e
   where
     zipped : View
     zipped = first ++ columns_at second (others_from 0 (column_names first) second)
@@ -221,8 +211,8 @@ keeps_second V packet first second id v apart e = go (named first id) (named sec
     go o None is other k = cc k
     go None (Some d) is other k = ap (value_of V packet) (zip_after first second id is ∙ other) ∙ k
     go (Some c) (Some d) is other k =
-        ap (value_of V packet) (named_front first (columns_at second (others_from 0 (column_names first) second)) id c is)
-        ∙ ap (λ n. Some n) (values_same V packet first second id c d apart is other) ∙ k
+        ap (value_of V packet) (named_front first (columns_at second (others_from 0 (column_names first) second)) id is)
+        ∙ ap (λ n. Some n) (values_same V first second id apart is other) ∙ k
 
 -- ---- and over streams
 
@@ -231,47 +221,41 @@ module _ (q : TypedQuery) (packets : List (List ℕ)) (r : HasRows q packets) wh
   all = field_view q.names ∷ r.views
 
   -- what a tuple has under a name
-  under : (number : ℕ) (view : View) (t : Tuple) (id : ℕ) → slice_get all number ≡ Some view → Contains (stream q number packets) t
+  under : (number : ℕ) {view : View} {t : Tuple} (id : ℕ) → slice_get all number ≡ Some view → Contains (stream q number packets) t
       → value_under id (columns_of q number) t.row ≡ value_of r.values t.packet (named view id)
-  under number view t id e c =
-      ap (λ names. value_under id names t.row) (names_are q r.views r.made number view e)
+  under number {view} {t} id e c = ap (λ names. value_under id names t.row) (names_are q r.views r.made number e)
       ∙ ap (value_under id (column_names view))
-      (row_in r.values view (stream q number packets) t (have_at (length all) r.values all (all_streams q packets) number view r.have e).1
-      c)
+      (row_in r.values view (stream q number packets) (have_at (length all) r.values all (all_streams q packets) number r.have e).1 c)
       ∙ value_named r.values t.packet id view
 
-  zip_at : (number left right : ℕ) (z : IsZip q number left right) → ZipAt all number left right z.slots
-  zip_at number left right z = go number z.is
+  zip_at : {number left right : ℕ} (z : IsZip q number left right) → ZipAt all number left right z.slots
+  zip_at {number} {left} {right} z = go number z.is
     where
       go : (n : ℕ) → operator_of q n ≡ Some (Zip left right z.slots) → ZipAt all n left right z.slots
       go zero e = cc e
-      go (suc i) e =
-          subst (λ n. ZipAt all n left right z.slots) (let same : 1 + i ≡ suc i = omega arith in same)
-          (zip_made (field_view q.names ∷ []) q.streams r.views r.made i left right z.slots e)
+      go (suc i) e = subst (λ n. ZipAt all n left right z.slots) (let same : 1 + i ≡ suc i = omega arith in same)
+          (zip_made (field_view q.names ∷ []) q.streams r.views r.made i e)
 
   pub columns_agree : (number left right : ℕ) → IsZip q number left right → ColumnsAgree q packets left right
   columns_agree number left right z t u id a b in_left in_right same l m =
-      let made = (zip_at number left right z).made in
-      agree r.values u.packet made.first made.second id a b made.apart
-      (ap (λ packet. value_of r.values packet (named made.first id)) (sym same) ∙ sym (under left made.first t id made.one in_left) ∙ l)
-      (sym (under right made.second u id made.other in_right) ∙ m)
+      let made = (zip_at z).made in
+      agree r.values u.packet made.first made.second id made.apart
+      (ap (λ packet. value_of r.values packet (named made.first id)) (sym same) ∙ sym (under left id made.one in_left) ∙ l)
+      (sym (under right id made.other in_right) ∙ m)
 
   pub first_kept : (number left right : ℕ) → IsZip q number left right → ColumnsAreKept q packets left number
   first_kept number left right z t u id v in_left in_zip same e =
-      let at = zip_at number left right z in
+      let at = zip_at z in
       let made = at.made in
-      under number at.view u id at.stands in_zip
-      ∙ ap (λ view. value_of r.values u.packet (named view id)) made.is
-      ∙ keeps_first r.values u.packet made.first _ id v
-      (ap (λ packet. value_of r.values packet (named made.first id)) (sym same) ∙ sym (under left made.first t id made.one in_left) ∙ e)
+      under number id at.stands in_zip ∙ ap (λ view. value_of r.values u.packet (named view id)) made.is
+      ∙ keeps_first r.values u.packet made.first _ id
+      (ap (λ packet. value_of r.values packet (named made.first id)) (sym same) ∙ sym (under left id made.one in_left) ∙ e)
 
   pub second_kept : (number left right : ℕ) → IsZip q number left right → ColumnsAreKept q packets right number
   second_kept number left right z t u id v in_right in_zip same e =
-      let at = zip_at number left right z in
+      let at = zip_at z in
       let made = at.made in
-      under number at.view u id at.stands in_zip
-      ∙ ap (λ view. value_of r.values u.packet (named view id)) made.is
+      under number id at.stands in_zip ∙ ap (λ view. value_of r.values u.packet (named view id)) made.is
       ∙ ap (λ slots. value_of r.values u.packet (named (made.first ++ columns_at made.second slots) id)) made.picked
-      ∙ keeps_second r.values u.packet made.first made.second id v made.apart
-      (ap (λ packet. value_of r.values packet (named made.second id)) (sym same) ∙ sym (under right made.second t id made.other in_right)
-      ∙ e)
+      ∙ keeps_second r.values u.packet made.first made.second id made.apart
+      (ap (λ packet. value_of r.values packet (named made.second id)) (sym same) ∙ sym (under right id made.other in_right) ∙ e)

@@ -41,9 +41,9 @@ pub data BreaksRule (q : Query) (fault : QueryFault) : Type 0 where
 -- the checks find, says which rule it breaks; or its form has a stream that is too deep.
 pub data IsRefusedFor (text : List ℕ) (fault : QueryFault) : Type 0 where
   by_grammar : IsFaultOf text fault → IsRefusedFor text fault
-  by_typing : (q : Query) → IsQueryOf text q → checked q ≡ Err fault → BreaksRule q fault → ((t : TypedQuery) → IsTyped q t → ⊥)
+  by_typing : {q : Query} → IsQueryOf text q → checked q ≡ Err fault → BreaksRule q fault → ((t : TypedQuery) → IsTyped q t → ⊥)
       → IsRefusedFor text fault
-  by_stages : (q : Query) (t : TypedQuery) → IsQueryOf text q → IsTyped q t → stage_fault t ≡ Some fault → (FitsStages t → ⊥)
+  by_stages : {q : Query} {t : TypedQuery} → IsQueryOf text q → IsTyped q t → stage_fault t ≡ Some fault → (FitsStages t → ⊥)
       → IsRefusedFor text fault
 
 -- A text is refused for such a cause, and isn't accepted by the rules.

@@ -41,19 +41,18 @@ leftmost = fold-Expr Span leftmost_step
 
 -- one of these expressions
 pub data IsOneOf (e : Expr) : List Expr → Type 0 where
-  first : (others : List Expr) → IsOneOf e (e ∷ others)
+  first : {others : List Expr} → IsOneOf e (e ∷ others)
   later : (other : Expr) (others : List Expr) → IsOneOf e others → IsOneOf e (other ∷ others)
 
 -- Where an expression has to be of some kind, each part of it has to be of its own.
 pub data HasPart : Kind → Expr → Kind → Expr → Type 0 where
-  whole : (k : Kind) (e : Expr) → HasPart k e k e
-  of_not : (k : Kind) (span : Span) (e : Expr) (l : Kind) (part : Expr) → HasPart Condition e l part
-      → HasPart k (expr.Not span e) l part
-  of_left : (k : Kind) (op : Op) (span : Span) (a b : Expr) (l : Kind) (part : Expr)
+  whole : {k : Kind} {e : Expr} → HasPart k e k e
+  of_not : {k : Kind} (span : Span) {e : Expr} {l : Kind} {part : Expr} → HasPart Condition e l part → HasPart k (expr.Not span e) l part
+  of_left : {k : Kind} (op : Op) (span : Span) (a b : Expr) {l : Kind} {part : Expr}
       → HasPart (operand_kind op) a l part → HasPart k (expr.Binary op span a b) l part
-  of_right : (k : Kind) (op : Op) (span : Span) (a b : Expr) (l : Kind) (part : Expr)
+  of_right : {k : Kind} (op : Op) (span : Span) (a : Expr) {b : Expr} {l : Kind} {part : Expr}
       → HasPart (operand_kind op) b l part → HasPart k (expr.Binary op span a b) l part
-  of_argument : (k : Kind) (op : Op) (span : Span) (arguments : List Expr) (a : Expr) (l : Kind) (part : Expr)
+  of_argument : {k : Kind} (op : Op) (span : Span) {arguments : List Expr} {a : Expr} {l : Kind} {part : Expr}
       → IsOneOf a arguments → HasPart (operand_kind op) a l part → HasPart k (expr.Call op span arguments) l part
 
 -- a name in an expression
@@ -62,12 +61,12 @@ StandsInside x e = (k l : Kind) × HasPart k e l (expr.Named x)
 
 -- a statement in a block, and the conditions around it, the innermost first, from those around the block on
 pub data StandsIn : List Expr → List Stmt → List Expr → Stmt → Type 0 where
-  first : (around : List Expr) (s : Stmt) (rest : List Stmt) → StandsIn around (s ∷ rest) around s
-  later : (outer : List Expr) (other : Stmt) (rest : List Stmt) (around : List Expr) (s : Stmt)
+  first : {around : List Expr} {s : Stmt} {rest : List Stmt} → StandsIn around (s ∷ rest) around s
+  later : {outer : List Expr} {other : Stmt} {rest : List Stmt} {around : List Expr} {s : Stmt}
       → StandsIn outer rest around s → StandsIn outer (other ∷ rest) around s
-  in_first : (outer : List Expr) (c : Expr) (a b rest : List Stmt) (around : List Expr) (s : Stmt)
+  in_first : {outer : List Expr} {c : Expr} (a b rest : List Stmt) {around : List Expr} {s : Stmt}
       → StandsIn (c ∷ outer) a around s → StandsIn outer (stmt.If c a b ∷ rest) around s
-  in_second : (outer : List Expr) (c : Expr) (a b rest : List Stmt) (around : List Expr) (s : Stmt)
+  in_second : {outer : List Expr} {c : Expr} (a : List Stmt) {b rest : List Stmt} {around : List Expr} {s : Stmt}
       → StandsIn (c ∷ outer) b around s → StandsIn outer (stmt.If c a b ∷ rest) around s
 
 -- some `emit` is in the block
@@ -76,13 +75,13 @@ HasEmit block = (around : List Expr) × (span : Span) × StandsIn [] block aroun
 
 -- the `emit` here comes after another one in the block
 pub data FollowsEmit (span : Span) : List Stmt → Type 0 where
-  beyond : (s : Stmt) (rest : List Stmt) (around : List Expr) → HasEmit (s ∷ []) → StandsIn [] rest around (stmt.Emit span)
+  beyond : {s : Stmt} {rest : List Stmt} {around : List Expr} → HasEmit (s ∷ []) → StandsIn [] rest around (stmt.Emit span)
       → FollowsEmit span (s ∷ rest)
   later : (s : Stmt) (rest : List Stmt) → FollowsEmit span rest → FollowsEmit span (s ∷ rest)
-  across : (c : Expr) (a b rest : List Stmt) (around : List Expr) → HasEmit a → StandsIn [] b around (stmt.Emit span)
+  across : (c : Expr) (a : List Stmt) {b rest : List Stmt} {around : List Expr} → HasEmit a → StandsIn [] b around (stmt.Emit span)
       → FollowsEmit span (stmt.If c a b ∷ rest)
-  in_first : (c : Expr) (a b rest : List Stmt) → FollowsEmit span a → FollowsEmit span (stmt.If c a b ∷ rest)
-  in_second : (c : Expr) (a b rest : List Stmt) → FollowsEmit span b → FollowsEmit span (stmt.If c a b ∷ rest)
+  in_first : (c : Expr) {a : List Stmt} (b : List Stmt) {rest : List Stmt} → FollowsEmit span a → FollowsEmit span (stmt.If c a b ∷ rest)
+  in_second : (c : Expr) (a : List Stmt) {b rest : List Stmt} → FollowsEmit span b → FollowsEmit span (stmt.If c a b ∷ rest)
 
 -- ---- what is asked
 

@@ -58,13 +58,13 @@ IsRightOperand _ e = Unit {0}
 
 -- An expression over these columns is a word or a condition, and has this typed form.
 pub data HasKind (columns : List ℕ) : Kind → Expr → TypedExpr → Type 0 where
-  of_number : (n : ℕ) (span : Span) → HasKind columns Word (expr.Number n span) (typed.Number n)
-  of_name : (x : Name) (slot : ℕ) → StandsAt columns slot x.id → HasKind columns Word (expr.Named x) (typed.Slot slot)
-  of_not : (span : Span) (e : Expr) (t : TypedExpr) → HasKind columns Condition e t
+  of_number : {n : ℕ} (span : Span) → HasKind columns Word (expr.Number n span) (typed.Number n)
+  of_name : (x : Name) {slot : ℕ} → StandsAt columns slot x.id → HasKind columns Word (expr.Named x) (typed.Slot slot)
+  of_not : (span : Span) {e : Expr} {t : TypedExpr} → HasKind columns Condition e t
       → HasKind columns Condition (expr.Not span e) (typed.Not t)
-  of_binary : (op : Op) (span : Span) (a b : Expr) (s t : TypedExpr)
+  of_binary : {op : Op} (span : Span) {a b : Expr} {s t : TypedExpr}
       → HasKind columns (operand_kind op) a s → HasKind columns (operand_kind op) b t → IsRightOperand op b
       → HasKind columns (result_kind op) (expr.Binary op span a b) (typed.Binary op s t)
-  of_call : (op : Op) (span : Span) (a b : Expr) (s t : TypedExpr)
+  of_call : {op : Op} (span : Span) {a b : Expr} {s t : TypedExpr}
       → HasKind columns (operand_kind op) a s → HasKind columns (operand_kind op) b t → IsRightOperand op b
       → HasKind columns (result_kind op) (expr.Call op span (a ∷ b ∷ [])) (typed.Binary op s t)

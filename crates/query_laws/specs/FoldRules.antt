@@ -46,16 +46,14 @@ ReadArguments states (t ∷ others) = ReadsArguments states (term_of t) × ReadA
 -- The statements of a block inside these conditions have these typed forms, and these are the conditions of its `emit`s.
 pub data HasBlock (states args : List ℕ) : List TypedExpr → List Stmt → List TypedStmt → List TypedExpr → Type 0 where
   of_none : (around : List TypedExpr) → HasBlock states args around [] [] []
-  of_assign : (around : List TypedExpr) (x : Name) (v : ℕ) (e : Expr) (t : TypedExpr) (rest : List Stmt) (ts : List TypedStmt)
-      (emits : List TypedExpr)
-      → StandsAt states v x.id → HasKind (states ++ args) Word e t → HasBlock states args around rest ts emits
+  of_assign : {around : List TypedExpr} (x : Name) {v : ℕ} {e : Expr} {t : TypedExpr} {rest : List Stmt} {ts : List TypedStmt}
+      {emits : List TypedExpr} → StandsAt states v x.id → HasKind (states ++ args) Word e t → HasBlock states args around rest ts emits
       → HasBlock states args around (stmt.Assign x e ∷ rest) (typed_stmt.Assign v t ∷ ts) emits
-  of_if : (around : List TypedExpr) (c : Expr) (t : TypedExpr) (a b rest : List Stmt) (xs ys ts : List TypedStmt)
-      (first second others : List TypedExpr)
-      → HasKind (states ++ args) Condition c t → HasBlock states args (t ∷ around) a xs first
+  of_if : {around : List TypedExpr} {c : Expr} {t : TypedExpr} {a b rest : List Stmt} {xs ys ts : List TypedStmt}
+      {first second others : List TypedExpr} → HasKind (states ++ args) Condition c t → HasBlock states args (t ∷ around) a xs first
       → HasBlock states args (typed.Not t ∷ around) b ys second → HasBlock states args around rest ts others
       → HasBlock states args around (stmt.If c a b ∷ rest) (typed_stmt.If t xs ys ∷ ts) ((first ++ second) ++ others)
-  of_emit : (around : List TypedExpr) (span : Span) (rest : List Stmt) (ts : List TypedStmt) (others : List TypedExpr)
+  of_emit : {around : List TypedExpr} (span : Span) {rest : List Stmt} {ts : List TypedStmt} {others : List TypedExpr}
       → ReadArguments (length states) around → HasBlock states args around rest ts others
       → HasBlock states args around (stmt.Emit span ∷ rest) ts (emit_of around ∷ others)
 

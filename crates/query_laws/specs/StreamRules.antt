@@ -28,8 +28,7 @@ abbrev pub HasTypedColumns : List ℕ → List ℕ → List Column → List Type
 HasTypedColumns columns taken [] [] = Unit {0}
 HasTypedColumns columns taken [] (value ∷ values) = ⊥
 HasTypedColumns columns taken (column ∷ rest) [] = ⊥
-HasTypedColumns columns taken (column ∷ rest) (value ∷ values) =
-    IsNew column.name.id taken × HasKind columns Word column.value value
+HasTypedColumns columns taken (column ∷ rest) (value ∷ values) = IsNew column.name.id taken × HasKind columns Word column.value value
     × HasTypedColumns columns (taken ++ column.name.id ∷ []) rest values
 
 abbrev pub new_names : List Column → List ℕ
@@ -82,9 +81,9 @@ AreAt columns (slot ∷ slots) (one ∷ others) = (slice_get columns slot ≡ So
 -- the slots of the columns that have none of these names, in order, where the first column has this slot
 pub data AreOthers (names : List ℕ) : ℕ → List StreamColumn → List ℕ → Type 0 where
   of_none : (slot : ℕ) → AreOthers names slot [] []
-  of_named : (slot : ℕ) (column : StreamColumn) (rest : List StreamColumn) (slots : List ℕ)
+  of_named : {slot : ℕ} {column : StreamColumn} {rest : List StreamColumn} {slots : List ℕ}
       → (IsNew column.name names → ⊥) → AreOthers names (slot + 1) rest slots → AreOthers names slot (column ∷ rest) slots
-  of_other : (slot : ℕ) (column : StreamColumn) (rest : List StreamColumn) (slots : List ℕ)
+  of_other : {slot : ℕ} {column : StreamColumn} {rest : List StreamColumn} {slots : List ℕ}
       → IsNew column.name names → AreOthers names (slot + 1) rest slots → AreOthers names slot (column ∷ rest) (slot ∷ slots)
 
 pub record OfFilter (known : List Known) (input : Name) (e : Expr) (made : MadeStream) : Type 0 where

@@ -3,5 +3,4 @@ use Rattle.query_laws.proofs.QueryFaults.{all_met}
 use Rattle.query_laws.proofs.faults.demands_are_rules.Goals as goal
 
 pub returns : goal.returns
-returns c = λ given names items i.
-    (λ h demand asked. item_meets given names items i h.0 demand h.1 asked, λ met. all_met given names items i met)
+returns c = λ given names items i. (λ h demand asked. item_meets given h.0 h.1 asked, λ met. all_met given met)

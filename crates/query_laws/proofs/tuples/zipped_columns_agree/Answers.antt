@@ -4,5 +4,4 @@ use Rattle.query_laws.proofs.Zips.{columns_agree}
 use Rattle.query_laws.proofs.tuples.zipped_columns_agree.Goals as goal
 
 pub returns : goal.returns
-returns c = λ query q packets typed whole.
-    columns_agree q packets (has_rows query q packets (query_complete query q typed) whole)
+returns c = λ query q packets typed whole. columns_agree q packets (has_rows query (query_complete typed) whole)

@@ -3,4 +3,4 @@ use Rattle.query_laws.proofs.ExprComplete.{condition_complete}
 use Rattle.query_laws.proofs.typing.conditions_agree.Goals as goal
 
 pub returns : goal.returns
-returns c = λ columns hidden e tree. (λ h. condition_complete columns hidden e tree h, λ h. condition_sound columns hidden e tree h)
+returns c = λ columns hidden e tree. (λ h. condition_complete hidden h, λ h. condition_sound hidden h)
