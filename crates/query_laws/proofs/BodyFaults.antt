@@ -2,32 +2,20 @@
 use Rattle.std.proofs.Common.{◌≡◌, ℕ, Bool, true, false, List, [], ◌∷◌, ◌++◌, map, Option, Some, None, Ok, Err, ◌⊎◌, refl, sym, ap}
 use Rattle.std.proofs.Common.{subst, ◌∙◌, inl, inr}
 use Rattle.std.specs.Prelude.{is_some}
-use Rattle.query_lang.specs.declared.fault.FaultKind.TheVariants.{UnknownName, WrongKind, WrongArity, StateOnLine}
-use Rattle.query_lang.specs.declared.fault.QueryFault.{QueryFault}
-use Rattle.query_lang.specs.declared.fault.Span.{Span}
 use Rattle.query_lang.specs.declared.fold.TypedExpr.TheVariants as typed
-use Rattle.query_lang.specs.declared.query.Name.{Name}
-use Rattle.query_lang.specs.declared.query.Expr.{Expr}
-use Rattle.query_lang.specs.declared.query.Stmt.{Stmt, fold-roll-Stmt, ind-Stmt, roll-Stmt, map-Stmt}
 use Rattle.query_lang.specs.declared.query.Stmt.TheOpen as stmt
 use Rattle.query_lang.specs.declared.query.Stmt.TheVariants as block
-use Rattle.query_lang.specs.declared.query.Stmt.TheVariants.{rolls-Assign, rolls-If, rolls-Emit}
-use Rattle.query_lang.specs.declared.typing.Body.{Body}
-use Rattle.query_lang.specs.declared.typing.Enclosing.{Enclosing}
-use Rattle.query_lang.specs.declared.typing.Known.{Known}
-use Rattle.query_lang.specs.Checks.{Checked, is_among, place_of}
-use Rattle.query_lang.specs.TypedExprs.{condition_of, word_of}
-use Rattle.query_lang.specs.TypedFolds.{target_at, target_of, inside, no_state, Adding, in_order}
-use Rattle.query_lang.specs.TypedFolds.{stmt_step, stmt_checked}
+use Rattle.query_laws.proofs.Terms.{UnknownName, WrongKind, WrongArity, StateOnLine, QueryFault, Span, Name, Expr, Stmt, fold-roll-Stmt}
+use Rattle.query_laws.proofs.Terms.{ind-Stmt, roll-Stmt, map-Stmt, rolls-Assign, rolls-If, rolls-Emit, Body, Enclosing, Known, Checked}
+use Rattle.query_laws.proofs.Terms.{is_among, place_of, condition_of, word_of, target_at, target_of, inside, no_state, Adding, in_order}
+use Rattle.query_laws.proofs.Terms.{stmt_step, stmt_checked, StandsIn, HasEmit, FollowsEmit, Target, ReadsNone, in_first, in_second}
+use Rattle.query_laws.proofs.Terms.{Condition}
 use Rattle.query_laws.specs.Asked.{StmtAsks, of_target, of_value, of_condition, of_emit}
-use Rattle.query_laws.specs.Demands.{StandsIn, HasEmit, FollowsEmit, Target, ReadsNone, in_first, in_second}
 use Rattle.query_laws.specs.Demands as parts
-use Rattle.query_laws.specs.ExprRules.{Condition}
 use Rattle.query_laws.proofs.ExprFaults.{place_none, not_new, condition_told, word_told}
 use Rattle.query_laws.proofs.FaultSteps.{at_span, same_fault, no_fault, by_must_not, by_next, told, Broken}
-use Rattle.query_laws.proofs.FoldNames.{among_new}
+use Rattle.query_laws.proofs.{FoldNames.among_new, Steps.same_ok, Steps.found_first}
 use Rattle.query_laws.proofs.StateFaults.{has_state, Knows, knows_inside}
-use Rattle.query_laws.proofs.Steps.{same_ok, found_first}
 
 -- ---- statements in longer blocks
 

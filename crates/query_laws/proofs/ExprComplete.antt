@@ -1,23 +1,14 @@
 -- What has a rule is what the check of an expression gives.
 use Rattle.std.proofs.Common.{◌≡◌, ℕ, ◌<◌, Bool, true, not, List, [], ◌∷◌, map, Option, Ok, nat_lt, refl, sym, ap, ◌∙◌, arith}
-use Rattle.query_lang.specs.declared.fault.Span.{Span}
-use Rattle.query_lang.specs.declared.fold.Op.{Op}
-use Rattle.query_lang.specs.declared.fold.Op.TheVariants.{Div, Rem, Shl, Shr, Decay, Both, Either}
-use Rattle.query_lang.specs.declared.fold.TypedExpr.{TypedExpr}
 use Rattle.query_lang.specs.declared.fold.TypedExpr.TheVariants as typed
-use Rattle.query_lang.specs.declared.query.Name.{Name}
-use Rattle.query_lang.specs.declared.query.Expr.{Expr, fold-roll-Expr}
 use Rattle.query_lang.specs.declared.query.Expr.TheOpen as expr
 use Rattle.query_lang.specs.declared.query.Expr.TheVariants as whole
-use Rattle.query_lang.specs.declared.query.Expr.TheVariants.{rolls-Number, rolls-Named, rolls-Not, rolls-Binary, rolls-Call}
-use Rattle.query_lang.specs.declared.typing.Found.{Found}
-use Rattle.query_lang.specs.declared.typing.Sort.{Sort}
 use Rattle.query_lang.specs.declared.typing.Sort.TheVariants as sort
-use Rattle.query_lang.specs.Checks.{Checked, and_then, collected, is_among}
-use Rattle.query_lang.specs.TypedExprs.{slot_at, is_condition_sort, is_operand, is_number_with, is_right_constant, sort_of, of_two, call_of}
-use Rattle.query_lang.specs.TypedExprs.{negation_checked, expr_step, expr_checked, condition_of, word_of}
-use Rattle.query_laws.specs.ExprRules.{Kind, Word, Condition, operand_kind, IsNumberWith, IsRightOperand, HasKind, of_number, of_name}
-use Rattle.query_laws.specs.ExprRules.{of_not, of_binary, of_call}
+use Rattle.query_laws.proofs.Terms.{Span, Op, Div, Rem, Shl, Shr, Decay, Both, Either, TypedExpr, Name, Expr, fold-roll-Expr, rolls-Number}
+use Rattle.query_laws.proofs.Terms.{rolls-Named, rolls-Not, rolls-Binary, rolls-Call, Found, Sort, Checked, and_then, collected, is_among}
+use Rattle.query_laws.proofs.Terms.{slot_at, is_condition_sort, is_operand, is_number_with, is_right_constant, sort_of, of_two, call_of}
+use Rattle.query_laws.proofs.Terms.{negation_checked, expr_step, expr_checked, condition_of, word_of, Kind, Word, Condition, operand_kind}
+use Rattle.query_laws.proofs.Terms.{IsNumberWith, IsRightOperand, HasKind, of_number, of_name, of_not, of_binary, of_call}
 use Rattle.query_laws.proofs.Steps.{must_holds, same_ok, then_next, stands_place}
 use Rattle.query_laws.proofs.ExprSound.{kind_of, kind_made}
 

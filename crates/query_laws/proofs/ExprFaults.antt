@@ -1,27 +1,17 @@
 -- What a fault in an expression says.
 use Rattle.std.proofs.Common.{◌≡◌, ℕ, ◌+◌, Bool, true, false, nat_eq, cond, List, [], ◌∷◌, ◌++◌, length, map, Option, Some, None, Ok, Err}
 use Rattle.std.proofs.Common.{refl, sym, ap, subst, ◌∙◌, arith}
-use Rattle.query_lang.specs.declared.fault.FaultKind.TheVariants.{UnknownName, WrongKind, WrongArity, BadConstant, StateOnLine}
-use Rattle.query_lang.specs.declared.fault.QueryFault.{QueryFault}
-use Rattle.query_lang.specs.declared.fault.Span.{Span}
-use Rattle.query_lang.specs.declared.fold.Op.{Op}
-use Rattle.query_lang.specs.declared.fold.TypedExpr.{TypedExpr}
-use Rattle.query_lang.specs.declared.query.Name.{Name}
-use Rattle.query_lang.specs.declared.query.Expr.{Expr, fold-roll-Expr, ind-Expr, roll-Expr, map-Expr}
 use Rattle.query_lang.specs.declared.query.Expr.TheOpen as expr
 use Rattle.query_lang.specs.declared.query.Expr.TheVariants as whole
-use Rattle.query_lang.specs.declared.query.Expr.TheVariants.{rolls-Named, rolls-Not, rolls-Binary, rolls-Call}
-use Rattle.query_lang.specs.declared.typing.Found.{Found}
-use Rattle.query_lang.specs.declared.typing.Known.{Known}
-use Rattle.query_lang.specs.Checks.{Checked, collected, is_among, place_from, place_of}
-use Rattle.query_lang.specs.TypedExprs.{slot_at, slot_of, is_operand, is_right_constant, of_two, call_of, expr_step, expr_checked}
-use Rattle.query_lang.specs.TypedExprs.{condition_of, word_of}
+use Rattle.query_laws.proofs.Terms.{UnknownName, WrongKind, WrongArity, BadConstant, StateOnLine, QueryFault, Span, Op, TypedExpr, Name}
+use Rattle.query_laws.proofs.Terms.{Expr, fold-roll-Expr, ind-Expr, roll-Expr, map-Expr, rolls-Named, rolls-Not, rolls-Binary, rolls-Call}
+use Rattle.query_laws.proofs.Terms.{Found, Known, Checked, collected, is_among, place_from, place_of, slot_at, slot_of, is_operand}
+use Rattle.query_laws.proofs.Terms.{is_right_constant, of_two, call_of, expr_step, expr_checked, condition_of, word_of, Kind, Word}
+use Rattle.query_laws.proofs.Terms.{Condition, other_kind, operand_kind, HasKind, IsNew}
 use Rattle.query_laws.specs.Asked.{ExprAsks, of_part, of_name, of_call, of_right, of_second}
 use Rattle.query_laws.specs.Demands.{leftmost, leftmost_step, IsOneOf, HasPart, Demand, AColumn, Typed, Two, Constant, Tells, first, later}
 use Rattle.query_laws.specs.Demands.{of_not, of_left, of_argument}
 use Rattle.query_laws.specs.Demands as parts
-use Rattle.query_laws.specs.ExprRules.{Kind, Word, Condition, other_kind, operand_kind, HasKind}
-use Rattle.query_laws.specs.FoldRules.{IsNew}
 use Rattle.query_laws.proofs.ExprComplete.{complete, operand, right, kind_condition, kind_word}
 use Rattle.query_laws.proofs.ExprSound.{kind_of, Each, collected_each, expr_sound}
 use Rattle.query_laws.proofs.FaultSteps.{at_span, same_fault, no_fault, not_both, by_must, by_next, told}

@@ -1,11 +1,6 @@
 -- What a check that finds a fault has met on its way.
 use Rattle.std.proofs.Common.{◌≡◌, Bool, true, false, List, Ok, Err, refl, subst}
-use Rattle.query_lang.specs.declared.fault.FaultKind.{FaultKind}
-use Rattle.query_lang.specs.declared.fault.QueryFault.{QueryFault}
-use Rattle.query_lang.specs.declared.fault.Span.{Span}
-use Rattle.query_lang.specs.declared.typing.Known.{Known}
-use Rattle.query_lang.specs.Checks.{Checked, and_then, must, must_not}
-use Rattle.query_laws.specs.Demands.{Demand, Tells}
+use Rattle.query_laws.proofs.Terms.{FaultKind, QueryFault, Span, Known, Checked, and_then, must, must_not, Demand, Tells}
 
 abbrev pub at_span : FaultKind → Span → QueryFault
 at_span kind span = record { kind = kind; span = span }

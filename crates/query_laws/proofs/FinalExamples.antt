@@ -1,29 +1,20 @@
 -- The examples of finals, from the rules.
 use Rattle.std.proofs.Common.{◌≡◌, ℕ, ◌≤◌, true, false, List, [], ◌∷◌, refl, sym, ap, ◌∙◌, arith}
-use Rattle.query_lang.specs.declared.fault.FaultKind.TheVariants.{WrongKind}
-use Rattle.query_lang.specs.declared.fold.Op.TheVariants.{Add, Lt}
 use Rattle.query_lang.specs.declared.fold.TypedExpr.TheVariants as typed
 use Rattle.query_lang.specs.declared.query.Expr.TheVariants.{Number, Named}
-use Rattle.query_lang.specs.declared.query.FinalOp.{FinalOp}
 use Rattle.query_lang.specs.declared.query.FinalOp.TheVariants.{Filter, Map, Join, Top}
 use Rattle.query_lang.specs.declared.query.Key.TheVariants as key
-use Rattle.query_lang.specs.declared.typing.FoldView.{FoldView}
-use Rattle.query_lang.specs.TypedFinals.{five_fields}
+use Rattle.query_laws.proofs.Terms.{WrongKind, Add, Lt, FinalOp, FoldView, five_fields, IsFold, IsTable, ATable, AQuietFold, Demand, Stands}
+use Rattle.query_laws.proofs.Terms.{AColumn, New, Apart, SameKeys, Holds, Word, Condition, HasKind, of_number, of_name, of_binary}
 use Rattle.query_laws.specs.Asked.{FinalAsks}
 use Rattle.query_laws.specs.Asked as asks
-use Rattle.query_laws.specs.Context.{IsFold, IsTable}
-use Rattle.query_laws.specs.Demands.{ATable, AQuietFold, Demand, Stands, AColumn, New, Apart, SameKeys, Holds}
-use Rattle.query_laws.specs.ExprRules.{Word, Condition, HasKind, of_number, of_name, of_binary}
-use Rattle.query_laws.proofs.FaultSteps.{no_fault}
-use Rattle.query_laws.proofs.FoldNames.{among_new}
-use Rattle.query_laws.proofs.ItemsMeet.{final_meets}
+use Rattle.query_laws.proofs.{FaultSteps.no_fault, FoldNames.among_new, ItemsMeet.final_meets, Steps.same_ok, Steps.place_stands}
+use Rattle.query_laws.proofs.{TypingExamples.no_place, TypingExamples.right_of_0}
 use Rattle.query_laws.proofs.NameLaws.{fold_name_sound, fold_name_complete, table_sound, table_complete, apart_sound}
-use Rattle.query_laws.proofs.Steps.{same_ok, place_stands}
 use Rattle.query_laws.specs.TypingExamples.{here, called, first, is_above_0, new_column}
 use Rattle.query_laws.specs.FinalExamples.{group_table, final_table, without_emit, with_emit, tables, three_groupbys, MakesNoTable}
 use Rattle.query_laws.specs.FinalExamples.{table_by, MakesRows, FilteredTables, MappedTables, GroupedTables, JoinedTables}
 use Rattle.query_laws.specs.FinalExamples.{RankedTables, FinalExamples}
-use Rattle.query_laws.proofs.TypingExamples.{no_place, right_of_0}
 
 ten : IsTable tables 10 (group_table 0 1 3)
 ten = table_sound tables (called 10) refl

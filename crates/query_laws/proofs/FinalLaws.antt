@@ -3,34 +3,18 @@ use Rattle.std.proofs.Common.{◌≡◌, ℕ, ◌≤◌, Bool, true, false, ◌&
 use Rattle.std.proofs.Common.{subst, ◌∙◌, append-nil, arith}
 use Rattle.std.specs.Cmp.Lexicographic.{pointwise}
 use Rattle.std.proofs.lemmas.Bool.{ltb-true, leb-true}
-use Rattle.query_lang.specs.declared.fault.Span.{Span}
-use Rattle.query_lang.specs.declared.query.Name.{Name}
-use Rattle.query_lang.specs.declared.query.Key.{Key}
-use Rattle.query_lang.specs.declared.query.Column.{Column}
-use Rattle.query_lang.specs.declared.query.Expr.{Expr}
-use Rattle.query_lang.specs.declared.query.FinalOp.{FinalOp}
 use Rattle.query_lang.specs.declared.query.FinalOp.TheVariants as ops
 use Rattle.query_lang.specs.declared.typed.TypedFinalOp.TheVariants as typed
-use Rattle.query_lang.specs.declared.typing.Earlier.{Earlier}
-use Rattle.query_lang.specs.declared.typing.Given.{Given}
-use Rattle.query_lang.specs.declared.typing.TableView.{TableView}
-use Rattle.query_lang.specs.declared.typing.FoldView.{FoldView}
-use Rattle.query_lang.specs.declared.typing.MadeFinal.{MadeFinal}
-use Rattle.query_lang.specs.declared.typing.NewColumns.{NewColumns}
-use Rattle.query_lang.specs.declared.typing.Picked.{Picked}
-use Rattle.query_lang.specs.TypedExprs.{slot_of, condition_of}
-use Rattle.query_lang.specs.TypedStreams.{fold_named, new_columns, no_new_columns, keys_checked, arguments_of}
-use Rattle.query_lang.specs.TypedFinals.{table_named, table_number, five_fields, final_filter, final_map, quiet_fold, final_group}
-use Rattle.query_lang.specs.TypedFinals.{key_columns, other_columns, final_join, final_top, made_final}
-use Rattle.query_laws.specs.StreamRules.{HasTypedColumns, HasArguments, key_ids}
+use Rattle.query_laws.proofs.Terms.{Span, Name, Key, Column, Expr, FinalOp, Earlier, Given, TableView, FoldView, MadeFinal, NewColumns}
+use Rattle.query_laws.proofs.Terms.{Picked, slot_of, condition_of, fold_named, new_columns, no_new_columns, keys_checked, arguments_of}
+use Rattle.query_laws.proofs.Terms.{table_named, table_number, five_fields, final_filter, final_map, quiet_fold, final_group, key_columns}
+use Rattle.query_laws.proofs.Terms.{other_columns, final_join, final_top, made_final, HasTypedColumns, HasArguments, key_ids}
 use Rattle.query_laws.specs.FinalRules.{OfFilter, OfMap, OfGroup, OfJoin, OfTop, HasFinal}
 use Rattle.query_laws.proofs.Steps.{must_ok, must_not_ok, must_holds, must_not_holds, same_ok, found_first, then_next, nat_same, nat_is}
-use Rattle.query_laws.proofs.ExprSound.{slot_stands, condition_sound}
-use Rattle.query_laws.proofs.ExprComplete.{condition_complete}
-use Rattle.query_laws.proofs.FoldNames.{below}
+use Rattle.query_laws.proofs.{ExprSound.slot_stands, ExprSound.condition_sound, ExprComplete.condition_complete, FoldNames.below}
+use Rattle.query_laws.proofs.{StreamLaws.picked_sound, StreamLaws.picked_complete}
 use Rattle.query_laws.proofs.NameLaws.{ok, table_sound, table_complete, fold_name_sound, fold_name_complete, columns_sound}
 use Rattle.query_laws.proofs.NameLaws.{columns_complete, slot_complete, apart_sound, apart_complete, arguments_sound, arguments_complete}
-use Rattle.query_laws.proofs.StreamLaws.{picked_sound, picked_complete}
 
 both_true : (a : Bool) {b : Bool} → (a && b) ≡ true → (a ≡ true) × (b ≡ true)
 both_true true e = (refl, e)

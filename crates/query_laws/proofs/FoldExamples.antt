@@ -1,34 +1,18 @@
 -- The examples of folds, from the rules.
 use Rattle.std.proofs.Common.{◌≡◌, ℕ, ◌≤◌, List, [], ◌∷◌, Option, Some, None, refl, sym, ap, subst, ◌∙◌, arith}
-use Rattle.query_lang.specs.declared.fault.FaultKind.TheVariants.{WrongKind}
-use Rattle.query_lang.specs.declared.fold.Op.{Op}
-use Rattle.query_lang.specs.declared.fold.Op.TheVariants.{Add, Lt}
-use Rattle.query_lang.specs.declared.fold.TypedExpr.{TypedExpr}
 use Rattle.query_lang.specs.declared.fold.TypedExpr.TheVariants as typed
-use Rattle.query_lang.specs.declared.fold.TypedStmt.{TypedStmt}
 use Rattle.query_lang.specs.declared.fold.TypedStmt.TheVariants as typed_stmt
-use Rattle.query_lang.specs.declared.query.Expr.{Expr}
 use Rattle.query_lang.specs.declared.query.Expr.TheVariants.{Number, Binary}
-use Rattle.query_lang.specs.declared.query.FoldDef.{FoldDef}
-use Rattle.query_lang.specs.declared.query.Stmt.{Stmt}
-use Rattle.query_lang.specs.declared.query.Stmt.TheVariants.{Assign, If, Emit}
-use Rattle.query_lang.specs.Folds.{ReadsArguments}
-use Rattle.query_lang.specs.Terms.{Term, term_of}
-use Rattle.query_lang.specs.TypedExprs.{expr_checked}
-use Rattle.query_lang.specs.TypedFolds.{fold_nodes}
 use Rattle.query_lang.proofs.TreeLemmas.{term_number, term_slot, term_not, term_binary}
+use Rattle.query_laws.proofs.Terms.{WrongKind, Op, Add, Lt, TypedExpr, TypedStmt, Expr, FoldDef, Stmt, Assign, If, Emit, ReadsArguments}
+use Rattle.query_laws.proofs.Terms.{Term, term_of, expr_checked, fold_nodes, IsOneOf, StandsIn, Demand, Target, Typed, ReadsNone, OneEmit}
+use Rattle.query_laws.proofs.Terms.{Holds, Word, Condition, HasKind, of_number, of_binary, HasBlock, of_none, of_assign, of_if, of_emit}
+use Rattle.query_laws.proofs.Terms.{emit_of, at_most_one, HasFold, fold_of}
 use Rattle.query_laws.specs.Asked.{StmtAsks, FoldAsks, of_statement, of_emits}
 use Rattle.query_laws.specs.Asked as asks
-use Rattle.query_laws.specs.Demands.{IsOneOf, StandsIn, Demand, Target, Typed, ReadsNone, OneEmit, Holds}
 use Rattle.query_laws.specs.Demands as parts
-use Rattle.query_laws.specs.ExprRules.{Word, Condition, HasKind, of_number, of_binary}
-use Rattle.query_laws.specs.FoldRules.{HasBlock, of_none, of_assign, of_if, of_emit, emit_of, at_most_one, HasFold, fold_of}
-use Rattle.query_laws.proofs.ExprComplete.{condition_complete}
-use Rattle.query_laws.proofs.FaultSteps.{no_fault}
-use Rattle.query_laws.proofs.FoldLaws.{fold_sound}
-use Rattle.query_laws.proofs.FoldNames.{among_new}
-use Rattle.query_laws.proofs.FoldsMeet.{fold_meets}
-use Rattle.query_laws.proofs.Steps.{then_next}
+use Rattle.query_laws.proofs.{ExprComplete.condition_complete, FaultSteps.no_fault, FoldLaws.fold_sound, FoldNames.among_new}
+use Rattle.query_laws.proofs.{FoldsMeet.fold_meets, Steps.then_next}
 use Rattle.query_laws.specs.TypingExamples.{here, called, two_columns, first, second, is_less}
 use Rattle.query_laws.specs.FoldExamples.{fold_over, a_fold, typed_fold, HasNoFold, one_more, typed_one_more, on_state, typed_on_state}
 use Rattle.query_laws.specs.FoldExamples.{on_argument, typed_on_argument, below_9, typed_below_9, eight, sixteen, FoldExamples}

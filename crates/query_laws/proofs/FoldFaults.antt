@@ -1,24 +1,13 @@
 -- What a fault in a fold says.
 use Rattle.std.proofs.Common.{◌≡◌, ℕ, false, ◌||◌, List, [], ◌∷◌, ◌++◌, length, map, Err, suc, refl, sym, ap, subst, ◌∙◌, append_assoc}
-use Rattle.std.proofs.Common.{arith}
-use Rattle.std.specs.Prelude.{nat_lt}
-use Rattle.query_lang.specs.declared.fault.FaultKind.TheVariants.{NameTaken, WrongArity, OverLimit}
-use Rattle.query_lang.specs.declared.fault.Limit.TheVariants.{States, Args}
-use Rattle.query_lang.specs.declared.fault.QueryFault.{QueryFault}
-use Rattle.query_lang.specs.declared.query.FoldDef.{FoldDef}
-use Rattle.query_lang.specs.declared.query.Name.{Name}
-use Rattle.query_lang.specs.declared.query.StateVar.{StateVar}
-use Rattle.query_lang.specs.declared.typing.Known.{Known}
-use Rattle.query_lang.specs.Checks.{and_then, is_among}
-use Rattle.query_lang.specs.TypedFolds.{states_from, args_from, body_checked, fold_checked}
-use Rattle.query_lang.specs.declared.fault.TheConstants.{MAX_ARGS, MAX_STATES}
+use Rattle.std.{proofs.Common.arith, specs.Prelude.nat_lt}
+use Rattle.query_laws.proofs.Terms.{NameTaken, WrongArity, OverLimit, States, Args, QueryFault, FoldDef, Name, StateVar, Known, and_then}
+use Rattle.query_laws.proofs.Terms.{is_among, states_from, args_from, body_checked, fold_checked, MAX_ARGS, MAX_STATES, New, Fewer, OneEmit}
+use Rattle.query_laws.proofs.Terms.{IsNew, state_names_of, arg_names_of}
 use Rattle.query_laws.specs.Asked.{FoldAsks, of_state, of_states, of_arg, of_args, of_statement, of_emits, ids_of}
-use Rattle.query_laws.specs.Demands.{New, Fewer, OneEmit}
-use Rattle.query_laws.specs.FoldRules.{IsNew, state_names_of, arg_names_of}
 use Rattle.query_laws.proofs.BodyFaults.{BlockTold, at_statement, second, follows, body_told}
-use Rattle.query_laws.proofs.ExprFaults.{not_new}
+use Rattle.query_laws.proofs.{ExprFaults.not_new, FoldLaws.rest_of}
 use Rattle.query_laws.proofs.FaultSteps.{no_fault, by_must, by_must_not, by_next, told, Broken, broken_in}
-use Rattle.query_laws.proofs.FoldLaws.{rest_of}
 use Rattle.query_laws.proofs.FoldNames.{among_append, states_sound, args_sound}
 use Rattle.query_laws.proofs.NameFaults.{at_least, ids_last, ids_long}
 

@@ -1,12 +1,8 @@
 -- Folds: the rule and the check agree.
 use Rattle.std.proofs.Common.{◌≡◌, ℕ, List, [], map, None, Ok, refl, sym, ap, subst, ◌∙◌, arith, append-nil}
-use Rattle.query_lang.specs.declared.fold.TypedExpr.{TypedExpr}
-use Rattle.query_lang.specs.declared.fold.TypedStmt.{TypedStmt}
-use Rattle.query_lang.specs.declared.fold.TypedFold.{TypedFold}
-use Rattle.query_lang.specs.declared.query.FoldDef.{FoldDef}
-use Rattle.query_lang.specs.Checks.{Checked, and_then}
-use Rattle.query_lang.specs.TypedFolds.{states_from, args_from, body_checked, fold_checked, fold_nodes, fold_statements}
-use Rattle.query_laws.specs.FoldRules.{AreNew, HasBlock, HasFold, at_most_one, state_names_of, arg_names_of}
+use Rattle.query_laws.proofs.Terms.{TypedExpr, TypedStmt, TypedFold, FoldDef, Checked, and_then, states_from, args_from, body_checked}
+use Rattle.query_laws.proofs.Terms.{fold_checked, fold_nodes, fold_statements, AreNew, HasBlock, HasFold, at_most_one, state_names_of}
+use Rattle.query_laws.proofs.Terms.{arg_names_of}
 use Rattle.query_laws.proofs.Steps.{same_ok, found_first, then_next}
 use Rattle.query_laws.proofs.FoldNames.{states_sound, states_complete, args_sound, args_complete}
 use Rattle.query_laws.proofs.Blocks.{Fits, block_sound, block_complete}

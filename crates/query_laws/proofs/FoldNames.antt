@@ -1,25 +1,14 @@
 -- The names of a fold, and which expressions read a state variable.
 use Rattle.std.proofs.Common.{◌≡◌, ℕ, zero, suc, ◌+◌, ◌<◌, ◌≤◌, Bool, true, false, ◌||◌, cond, List, [], ◌∷◌, ◌++◌, length, map, Option}
 use Rattle.std.proofs.Common.{Some, None, Ok, nat_eq, nat_lt, refl, sym, ap, subst, ◌∙◌, append_assoc, append-nil, arith}
-use Rattle.std.proofs.lemmas.Bool.{ltb-true}
-use Rattle.std.proofs.lemmas.List.{length-append}
-use Rattle.query_lang.specs.declared.fault.Span.{Span}
-use Rattle.query_lang.specs.declared.fold.Op.{Op}
-use Rattle.query_lang.specs.declared.fold.TypedExpr.{TypedExpr}
-use Rattle.query_lang.specs.declared.query.Name.{Name}
-use Rattle.query_lang.specs.declared.query.StateVar.{StateVar}
-use Rattle.query_lang.specs.declared.query.Expr.{Expr, fold-roll-Expr}
+use Rattle.std.proofs.lemmas.{Bool.ltb-true, List.length-append}
 use Rattle.query_lang.specs.declared.query.Expr.TheOpen as expr
 use Rattle.query_lang.specs.declared.query.Expr.TheVariants as whole
-use Rattle.query_lang.specs.declared.query.Expr.TheVariants.{rolls-Number, rolls-Named, rolls-Not, rolls-Binary, rolls-Call}
-use Rattle.query_lang.specs.Terms.{Term, term_of}
-use Rattle.query_lang.specs.Folds.{ReadsArguments}
-use Rattle.query_lang.specs.Checks.{Checked, is_among}
-use Rattle.query_lang.specs.TypedFolds.{states_from, args_from, or_else, state_step, state_in}
 use Rattle.query_lang.proofs.TreeLemmas.{term_number, term_slot, term_not, term_binary}
-use Rattle.query_lang.specs.declared.fault.TheConstants.{MAX_ARGS, MAX_STATES}
-use Rattle.query_laws.specs.ExprRules.{Kind, StandsAt, HasKind, of_number, of_name, of_not, of_binary, of_call}
-use Rattle.query_laws.specs.FoldRules.{IsNew, AreNew}
+use Rattle.query_laws.proofs.Terms.{Span, Op, TypedExpr, Name, StateVar, Expr, fold-roll-Expr, rolls-Number, rolls-Named, rolls-Not}
+use Rattle.query_laws.proofs.Terms.{rolls-Binary, rolls-Call, Term, term_of, ReadsArguments, Checked, is_among, states_from, args_from}
+use Rattle.query_laws.proofs.Terms.{or_else, state_step, state_in, MAX_ARGS, MAX_STATES, Kind, StandsAt, HasKind, of_number, of_name}
+use Rattle.query_laws.proofs.Terms.{of_not, of_binary, of_call, IsNew, AreNew}
 use Rattle.query_laws.proofs.Steps.{must_ok, must_not_ok, must_holds, must_not_holds, same_ok, nat_other, nat_is, nat_is_not}
 
 -- ---- new names

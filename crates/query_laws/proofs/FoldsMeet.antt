@@ -1,39 +1,21 @@
 -- What a fold asks is so where it is typed.
 use Rattle.std.proofs.Common.{◌≡◌, ℕ, Bool, true, false, List, [], ◌∷◌, ◌++◌, map, Option, None, Ok, refl, sym, ap, subst, ◌∙◌}
 use Rattle.std.specs.Prelude.{is_some}
-use Rattle.query_lang.specs.declared.fault.FaultKind.TheVariants.{WrongArity}
-use Rattle.query_lang.specs.declared.fault.Span.{Span}
-use Rattle.query_lang.specs.declared.fold.TypedExpr.{TypedExpr}
 use Rattle.query_lang.specs.declared.fold.TypedExpr.TheVariants as typed
-use Rattle.query_lang.specs.declared.fold.TypedFold.{TypedFold}
-use Rattle.query_lang.specs.declared.query.Expr.{Expr, fold-roll-Expr}
 use Rattle.query_lang.specs.declared.query.Expr.TheOpen as expr
 use Rattle.query_lang.specs.declared.query.Expr.TheVariants as whole
-use Rattle.query_lang.specs.declared.query.Expr.TheVariants.{rolls-Call}
-use Rattle.query_lang.specs.declared.query.FoldDef.{FoldDef}
-use Rattle.query_lang.specs.declared.query.Name.{Name}
-use Rattle.query_lang.specs.declared.query.StateVar.{StateVar}
-use Rattle.query_lang.specs.declared.query.Stmt.{Stmt, fold-roll-Stmt, ind-Stmt, map-Stmt}
 use Rattle.query_lang.specs.declared.query.Stmt.TheOpen as stmt
 use Rattle.query_lang.specs.declared.query.Stmt.TheVariants as block
-use Rattle.query_lang.specs.declared.query.Stmt.TheVariants.{rolls-Assign, rolls-If, rolls-Emit}
-use Rattle.query_lang.specs.declared.typing.Body.{Body}
-use Rattle.query_lang.specs.declared.typing.Enclosing.{Enclosing}
-use Rattle.query_lang.specs.declared.typing.Known.{Known}
-use Rattle.query_lang.specs.Checks.{Checked, and_then, is_among}
-use Rattle.query_lang.specs.TypedExprs.{condition_of, word_of}
-use Rattle.query_lang.specs.TypedFolds.{target_of, first_of, state_step, state_in, inside, Adding, in_order, stmt_step, stmt_checked}
-use Rattle.query_lang.specs.declared.fault.TheConstants.{MAX_ARGS, MAX_STATES}
+use Rattle.query_laws.proofs.Terms.{WrongArity, Span, TypedExpr, TypedFold, Expr, fold-roll-Expr, rolls-Call, FoldDef, Name, StateVar, Stmt}
+use Rattle.query_laws.proofs.Terms.{fold-roll-Stmt, ind-Stmt, map-Stmt, rolls-Assign, rolls-If, rolls-Emit, Body, Enclosing, Known, Checked}
+use Rattle.query_laws.proofs.Terms.{and_then, is_among, condition_of, word_of, target_of, first_of, state_step, state_in, inside, Adding}
+use Rattle.query_laws.proofs.Terms.{in_order, stmt_step, stmt_checked, MAX_ARGS, MAX_STATES, HasPart, StandsInside, StandsIn, FollowsEmit}
+use Rattle.query_laws.proofs.Terms.{Demand, Holds, Kind, Word, Condition, IsNew, AreNew, HasFold, at_most_one, state_names_of, arg_names_of}
 use Rattle.query_laws.specs.Asked.{StmtAsks, of_target, of_value, of_condition, of_emit, FoldAsks, of_state, of_states, of_arg, of_args}
 use Rattle.query_laws.specs.Asked.{of_statement, of_emits}
-use Rattle.query_laws.specs.Demands.{HasPart, StandsInside, StandsIn, FollowsEmit, Demand, Holds}
 use Rattle.query_laws.specs.Demands as parts
-use Rattle.query_laws.specs.ExprRules.{Kind, Word, Condition}
-use Rattle.query_laws.specs.FoldRules.{IsNew, AreNew, HasFold, at_most_one, state_names_of, arg_names_of}
 use Rattle.query_laws.proofs.Blocks.{stmt_is, target_stands, no_state_ok, block_complete}
-use Rattle.query_laws.proofs.ExprSound.{condition_sound, word_sound}
-use Rattle.query_laws.proofs.FaultSteps.{not_both}
-use Rattle.query_laws.proofs.FoldLaws.{nothing_around}
+use Rattle.query_laws.proofs.{ExprSound.condition_sound, ExprSound.word_sound, FaultSteps.not_both, FoldLaws.nothing_around}
 use Rattle.query_laws.proofs.FoldNames.{among_new, neither, in_named, in_not, in_binary, no_span}
 use Rattle.query_laws.proofs.Meets.{EachIs, one_is, expr_meets, new_at, names_new, few_before}
 use Rattle.query_laws.proofs.Steps.{must_not_ok, same_ok, found_first}

@@ -1,17 +1,13 @@
 -- What holds of the meanings of a language's words, where the numbers among their tokens are words.
 use Rattle.std.proofs.Common.{◌≡◌, ℕ, List, [], ◌∷◌, ◌++◌, Option, Some, None, subst, inl, inr, ◌⊎◌}
-use Rattle.std.specs.Prelude.{All}
-use Rattle.std.proofs.lemmas.Option.{same_Some}
-use Rattle.query_lang.specs.declared.fault.Span.{Span}
+use Rattle.std.{specs.Prelude.All, proofs.lemmas.Option.same_Some}
 use Rattle.query_lang.specs.declared.token.Mark.TheVariants as marks
-use Rattle.query_lang.specs.declared.token.TokenKind.{TokenKind}
 use Rattle.query_lang.specs.declared.token.TokenKind.TheVariants as kinds
-use Rattle.query_lang.specs.Words.{IsWord}
 use Rattle.query_grammar.specs.Grammar.{After, Before, Between, Brackets, Listed, Parens, Separated, listed}
-use Rattle.query_grammar.specs.Kinds.{number, token_number, sign}
 use Rattle.query_grammar.specs.Language as language
 use Rattle.query_grammar.specs.Language.{AtMostOnce, Either, Language, Leaf, Meaning, Repeated, Role, Then}
 use Rattle.query_grammar.proofs.ItemWeights.{all_cons, all_none}
+use Rattle.query_laws.proofs.Terms.{Span, TokenKind, IsWord, number, token_number, sign}
 use Rattle.query_laws.proofs.Tokens.{IsWordKind, AreWordTokens}
 
 abbrev pub HaveWords : List Leaf → Type 0

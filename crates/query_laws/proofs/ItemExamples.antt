@@ -1,16 +1,10 @@
 -- The examples of items, from the rules.
 use Rattle.std.proofs.Common.{◌≡◌, ℕ, ◌<◌, List, [], ◌∷◌, None, refl, sym, subst, arith}
-use Rattle.query_lang.specs.declared.fault.FaultKind.TheVariants.{WrongKind}
-use Rattle.query_lang.specs.declared.fold.Op.TheVariants.{Lt}
 use Rattle.query_lang.specs.declared.fold.TypedExpr.TheVariants as typed
 use Rattle.query_lang.specs.declared.query.Expr.TheVariants.{Number}
-use Rattle.query_lang.specs.declared.query.Name.{Name}
 use Rattle.query_lang.specs.declared.typed.PrintOf.TheVariants as place
-use Rattle.query_lang.specs.declared.typing.Known.{Known}
-use Rattle.query_laws.specs.Context.{known_in, IsFree}
-use Rattle.query_laws.specs.ExprRules.{of_number, of_binary}
-use Rattle.query_laws.proofs.FaultSteps.{no_fault}
-use Rattle.query_laws.proofs.FoldNames.{among_new}
+use Rattle.query_laws.proofs.Terms.{WrongKind, Lt, Name, Known, known_in, IsFree, of_number, of_binary}
+use Rattle.query_laws.proofs.{FaultSteps.no_fault, FoldNames.among_new}
 use Rattle.query_laws.proofs.NameLaws.{free_sound, stream_sound, table_sound, table_complete}
 use Rattle.query_laws.specs.TypingExamples.{here, called}
 use Rattle.query_laws.specs.ItemExamples.{names, one_of_each, IsTaken, columns_of_packets, filters, ItemExamples}

@@ -1,22 +1,12 @@
 -- The numbers in the items of a text's query are words.
 use Rattle.std.proofs.Common.{ℕ, List, [], length, Option, Some, None, sym, subst, arith}
-use Rattle.std.specs.Prelude.{All}
-use Rattle.std.proofs.lemmas.List.Elements.{All-weaker}
-use Rattle.query_lang.specs.declared.fault.Span.{Span}
-use Rattle.query_lang.specs.declared.query.Column.{Column}
-use Rattle.query_lang.specs.declared.query.Expr.{Expr}
-use Rattle.query_lang.specs.declared.query.FinalOp.{FinalOp}
-use Rattle.query_lang.specs.declared.query.Item.{Item}
-use Rattle.query_lang.specs.declared.query.StateVar.{StateVar}
-use Rattle.query_lang.specs.declared.query.StreamOp.{StreamOp}
+use Rattle.std.{specs.Prelude.All, proofs.lemmas.List.Elements.All-weaker}
 use Rattle.query_lang.specs.declared.token.Mark.TheVariants as marks
 use Rattle.query_lang.specs.declared.token.Word.TheVariants as words
-use Rattle.query_lang.specs.Words.{IsWord}
 use Rattle.query_types.specs.Numbers.{greatest_number, greatest_in, columns_number, stream_number, final_number, item_number}
-use Rattle.query_grammar.specs.Language.{Language}
-use Rattle.query_grammar.specs.Kinds.{sign, keyword}
 use Rattle.query_grammar.specs.Grammar.{initial_of, StateVariable, Parameters, Fold, Filter, ColumnOf, Mapping, Streaming, Stream}
 use Rattle.query_grammar.specs.Grammar.{Finishing, Final, Print, ItemOf}
+use Rattle.query_laws.proofs.Terms.{Span, Column, Expr, FinalOp, Item, StateVar, StreamOp, IsWord, Language, sign, keyword}
 use Rattle.query_laws.specs.ValidLaws.{StartsAsWords, NumbersAreWords}
 use Rattle.query_laws.proofs.Tokens.{AreWordTokens, cut_words}
 use Rattle.query_laws.proofs.Holds.{HaveWords, leaves_have, both_have, Holds, any_holds, first_is_word, number_holds, then_holds}

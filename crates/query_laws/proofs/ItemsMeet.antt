@@ -1,31 +1,15 @@
 -- What items ask is so where they are typed.
 use Rattle.std.proofs.Common.{◌≡◌, ℕ, ◌+◌, List, [], ◌++◌, length, sym, subst, ◌∙◌, append-nil}
 use Rattle.std.specs.Prelude.{flat_map}
-use Rattle.query_lang.specs.declared.query.FinalOp.{FinalOp}
-use Rattle.query_lang.specs.declared.query.Item.{Item}
-use Rattle.query_lang.specs.declared.query.Name.{Name}
-use Rattle.query_lang.specs.declared.query.StreamOp.{StreamOp}
-use Rattle.query_lang.specs.declared.typing.FoldView.{FoldView}
-use Rattle.query_lang.specs.declared.typing.Given.{Given}
-use Rattle.query_lang.specs.declared.typing.Known.{Known}
-use Rattle.query_lang.specs.declared.typing.MadeFinal.{MadeFinal}
-use Rattle.query_lang.specs.declared.typing.MadeStream.{MadeStream}
-use Rattle.query_lang.specs.declared.typing.StreamView.{StreamView}
-use Rattle.query_lang.specs.declared.typing.TableView.{TableView}
-use Rattle.query_lang.specs.TypedFinals.{five_fields, key_columns, other_columns}
-use Rattle.query_lang.specs.TypedStreams.{column_names, key_names}
+use Rattle.query_laws.proofs.Terms.{FinalOp, Item, Name, StreamOp, FoldView, Given, Known, MadeFinal, MadeStream, StreamView, TableView}
+use Rattle.query_laws.proofs.Terms.{five_fields, key_columns, other_columns, column_names, key_names, Entry, streams_in, groups_in}
+use Rattle.query_laws.proofs.Terms.{known_in, IsStream, IsFold, IsTable, Demand, Holds, Condition, StandsAt, HasKind, HasItem}
+use Rattle.query_laws.proofs.Terms.{HasTypedColumns, HasKeys, HasArguments, AreApart, AreSame, key_ids, HasStream}
 use Rattle.query_laws.specs.Asked.{StreamAsks, FinalAsks, ItemAsks}
 use Rattle.query_laws.specs.Asked as asks
-use Rattle.query_laws.specs.Context.{Entry, streams_in, groups_in, known_in, IsStream, IsFold, IsTable}
-use Rattle.query_laws.specs.Demands.{Demand, Holds}
-use Rattle.query_laws.specs.ExprRules.{Condition, StandsAt, HasKind}
-use Rattle.query_laws.specs.FinalRules.{HasFinal}
-use Rattle.query_laws.specs.QueryRules.{HasItem}
-use Rattle.query_laws.specs.StreamRules.{HasTypedColumns, HasKeys, HasArguments, AreApart, AreSame, key_ids, HasStream}
-use Rattle.query_laws.proofs.FoldsMeet.{fold_meets}
+use Rattle.query_laws.{specs.FinalRules.HasFinal, proofs.FoldsMeet.fold_meets, proofs.Steps.same_ok}
 use Rattle.query_laws.proofs.Meets.{expr_meets, columns_meet, keys_meet, arguments_meet}
 use Rattle.query_laws.proofs.NameLaws.{stream_complete, fold_name_complete, table_complete}
-use Rattle.query_laws.proofs.Steps.{same_ok}
 
 -- a name stands for one thing
 

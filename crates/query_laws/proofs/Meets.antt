@@ -1,29 +1,15 @@
 -- What is asked of an expression, of new columns, of keys and of arguments is so where they are typed.
 use Rattle.std.proofs.Common.{◌≡◌, ℕ, ◌<◌, ◌≤◌, List, [], ◌∷◌, ◌++◌, length, map, Ok, refl, sym, ap, subst, ◌∙◌, append_assoc, append-nil}
-use Rattle.std.proofs.Common.{arith}
-use Rattle.std.proofs.lemmas.List.{length-append, length-map}
-use Rattle.query_lang.specs.declared.fault.FaultKind.TheVariants.{WrongKind}
-use Rattle.query_lang.specs.declared.fault.Span.{Span}
-use Rattle.query_lang.specs.declared.fold.Op.{Op}
-use Rattle.query_lang.specs.declared.fold.TypedExpr.{TypedExpr}
-use Rattle.query_lang.specs.declared.query.Column.{Column}
-use Rattle.query_lang.specs.declared.query.Expr.{Expr}
+use Rattle.std.proofs.{Common.arith, lemmas.List.length-append, lemmas.List.length-map}
 use Rattle.query_lang.specs.declared.query.Expr.TheVariants as whole
-use Rattle.query_lang.specs.declared.query.Name.{Name}
-use Rattle.query_lang.specs.declared.typing.FoldView.{FoldView}
-use Rattle.query_lang.specs.declared.typing.Found.{Found}
-use Rattle.query_lang.specs.declared.typing.Known.{Known}
-use Rattle.query_lang.specs.Checks.{and_then, collected}
-use Rattle.query_lang.specs.TypedExprs.{slot_of, is_condition_sort, of_two, call_of, negation_checked, expr_checked}
-use Rattle.query_lang.specs.declared.fault.TheConstants.{MAX_KEYS}
+use Rattle.query_laws.proofs.Terms.{WrongKind, Span, Op, TypedExpr, Column, Expr, Name, FoldView, Found, Known, and_then, collected}
+use Rattle.query_laws.proofs.Terms.{slot_of, is_condition_sort, of_two, call_of, negation_checked, expr_checked, MAX_KEYS, IsOneOf, HasPart}
+use Rattle.query_laws.proofs.Terms.{Demand, Holds, Kind, Word, Condition, StandsAt, operand_kind, IsRightOperand, HasKind, IsNew, AreNew}
+use Rattle.query_laws.proofs.Terms.{HasTypedColumns, new_names, HasSlots, HasKeys, HasArguments}
 use Rattle.query_laws.specs.Asked.{ExprAsks, of_part, of_name, of_call, of_right, of_second, ColumnsAsk, of_value, KeysAsk, of_key, of_new}
 use Rattle.query_laws.specs.Asked.{of_limit, ArgumentsAsk, of_argument, of_states, ids_of}
 use Rattle.query_laws.specs.Asked as asks
-use Rattle.query_laws.specs.Demands.{IsOneOf, HasPart, Demand, Holds}
 use Rattle.query_laws.specs.Demands as parts
-use Rattle.query_laws.specs.ExprRules.{Kind, Word, Condition, StandsAt, operand_kind, IsRightOperand, HasKind}
-use Rattle.query_laws.specs.FoldRules.{IsNew, AreNew}
-use Rattle.query_laws.specs.StreamRules.{HasTypedColumns, new_names, HasSlots, HasKeys, HasArguments}
 use Rattle.query_laws.proofs.ExprComplete.{complete, named_is, not_is, binary_is, call_is}
 use Rattle.query_laws.proofs.ExprSound.{slot_stands, condition_kind, Operands, two, Each, collected_each, expr_sound}
 use Rattle.query_laws.proofs.Steps.{must_ok, found_first}

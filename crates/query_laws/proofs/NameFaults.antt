@@ -1,33 +1,16 @@
 -- What a fault at the name of an item, at a new column, at a key and at a fold's arguments says.
 use Rattle.std.proofs.Common.{◌≡◌, ℕ, suc, ◌≤◌, true, false, ◌||◌, List, [], ◌∷◌, ◌++◌, length, map, Option, Some, None, Ok, Err, refl, sym}
 use Rattle.std.proofs.Common.{ap, subst, ◌∙◌, append_assoc, inl, inr, arith}
-use Rattle.std.specs.Prelude.{is_some, nat_lt}
-use Rattle.std.specs.List.{list_any}
-use Rattle.query_lang.specs.declared.fault.FaultKind.TheVariants.{UnknownName, NameTaken, WrongKind, OverLimit}
-use Rattle.query_lang.specs.declared.fault.Limit.TheVariants.{Keys}
-use Rattle.query_lang.specs.declared.fault.QueryFault.{QueryFault}
-use Rattle.query_lang.specs.declared.fault.Span.{Span}
-use Rattle.query_lang.specs.declared.query.Name.{Name}
-use Rattle.query_lang.specs.declared.query.Column.{Column}
-use Rattle.query_lang.specs.declared.typing.FoldView.{FoldView}
-use Rattle.query_lang.specs.declared.typing.StreamView.{StreamView}
-use Rattle.query_lang.specs.declared.typing.TableView.{TableView}
-use Rattle.query_lang.specs.declared.typing.Known.{Known}
-use Rattle.query_lang.specs.declared.typing.Meaning.{Meaning}
+use Rattle.std.specs.{Prelude.is_some, Prelude.nat_lt, List.list_any}
 use Rattle.query_lang.specs.declared.typing.Meaning.TheVariants as meaning
-use Rattle.query_lang.specs.declared.typing.NewColumns.{NewColumns}
-use Rattle.query_lang.specs.declared.typing.Picked.{Picked}
-use Rattle.query_lang.specs.Checks.{Checked, and_then, must_not, collected, is_among}
-use Rattle.query_lang.specs.TypedExprs.{slot_of, word_of}
-use Rattle.query_lang.specs.TypedStreams.{meaning_of, as_stream, stream_named, as_fold, fold_named, new_columns, keys_from, arguments_of}
-use Rattle.query_lang.specs.TypedFinals.{table_at, as_table, table_named, quiet_fold}
-use Rattle.query_lang.specs.declared.fault.TheConstants.{MAX_KEYS}
+use Rattle.query_laws.proofs.Terms.{UnknownName, NameTaken, WrongKind, OverLimit, Keys, QueryFault, Span, Name, Column, FoldView}
+use Rattle.query_laws.proofs.Terms.{StreamView, TableView, Known, Meaning, NewColumns, Picked, Checked, and_then, must_not, collected}
+use Rattle.query_laws.proofs.Terms.{is_among, slot_of, word_of, meaning_of, as_stream, stream_named, as_fold, fold_named, new_columns}
+use Rattle.query_laws.proofs.Terms.{keys_from, arguments_of, table_at, as_table, table_named, quiet_fold, MAX_KEYS, IsFree, IsNew}
+use Rattle.query_laws.proofs.Terms.{new_names}
 use Rattle.query_laws.specs.Asked.{ColumnsAsk, of_name, of_value, KeysAsk, of_key, of_new, of_limit, ArgumentsAsk, of_argument, of_states}
 use Rattle.query_laws.specs.Asked.{ids_of}
-use Rattle.query_laws.specs.Context.{IsFree}
 use Rattle.query_laws.specs.Demands.{AStream, ATable, AFold, AQuietFold, Sought, IsSought, Stands, AColumn, New, Fewer, Apart, Tells}
-use Rattle.query_laws.specs.FoldRules.{IsNew}
-use Rattle.query_laws.specs.StreamRules.{new_names}
 use Rattle.query_laws.proofs.ExprFaults.{not_new, slot_told, word_told}
 use Rattle.query_laws.proofs.FaultSteps.{at_span, same_fault, no_fault, not_both, by_must, by_must_not, by_next, told, Broken}
 use Rattle.query_laws.proofs.NameLaws.{meaning_complete, free_sound, free_complete, taken_is, slot_for, apart_complete}

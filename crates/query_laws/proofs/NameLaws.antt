@@ -1,35 +1,16 @@
 -- What names stand for, new columns, keys and arguments: the rules and the checks agree.
 use Rattle.std.proofs.Common.{◌≡◌, ℕ, ◌+◌, ◌≤◌, Bool, true, false, ◌||◌, cond, List, [], ◌∷◌, ◌++◌, length, map, Option, Some, None, Ok}
 use Rattle.std.proofs.Common.{Err, nat_eq, refl, sym, ap, subst, ◌∙◌, append_assoc, append-nil, inl, inr, arith}
-use Rattle.std.specs.Prelude.{is_some}
-use Rattle.std.specs.List.{list_any}
-use Rattle.std.proofs.lemmas.Bool.{ltb-true}
-use Rattle.std.proofs.lemmas.List.{length-append}
-use Rattle.query_lang.specs.declared.fault.Span.{Span}
-use Rattle.query_lang.specs.declared.fold.TypedExpr.{TypedExpr}
-use Rattle.query_lang.specs.declared.query.Name.{Name}
-use Rattle.query_lang.specs.declared.query.Column.{Column}
-use Rattle.query_lang.specs.declared.typing.FoldView.{FoldView}
-use Rattle.query_lang.specs.declared.typing.StreamView.{StreamView}
-use Rattle.query_lang.specs.declared.typing.TableView.{TableView}
-use Rattle.query_lang.specs.declared.typing.Known.{Known}
-use Rattle.query_lang.specs.declared.typing.Meaning.{Meaning}
+use Rattle.std.{specs.Prelude.is_some, specs.List.list_any, proofs.lemmas.Bool.ltb-true, proofs.lemmas.List.length-append}
 use Rattle.query_lang.specs.declared.typing.Meaning.TheVariants as meaning
-use Rattle.query_lang.specs.declared.typing.NewColumns.{NewColumns}
-use Rattle.query_lang.specs.declared.typing.Picked.{Picked}
-use Rattle.query_lang.specs.Checks.{Checked, collected, is_among}
-use Rattle.query_lang.specs.TypedExprs.{slot_at, slot_of, word_of}
-use Rattle.query_lang.specs.TypedStreams.{meaning_of, as_stream, stream_named, as_fold, fold_named, new_columns, keys_from, arguments_of}
-use Rattle.query_lang.specs.TypedFinals.{table_at, as_table, table_named}
-use Rattle.query_lang.specs.declared.fault.TheConstants.{MAX_KEYS}
-use Rattle.query_laws.specs.ExprRules.{StandsAt}
-use Rattle.query_laws.specs.FoldRules.{AreNew}
-use Rattle.query_laws.specs.Context.{NameStandsFor, IsFree, IsStream, IsFold, IsTable}
-use Rattle.query_laws.specs.StreamRules.{HasTypedColumns, new_names, HasSlots, AreApart, HasArguments}
+use Rattle.query_laws.proofs.Terms.{Span, TypedExpr, Name, Column, FoldView, StreamView, TableView, Known, Meaning, NewColumns, Picked}
+use Rattle.query_laws.proofs.Terms.{Checked, collected, is_among, slot_at, slot_of, word_of, meaning_of, as_stream, stream_named, as_fold}
+use Rattle.query_laws.proofs.Terms.{fold_named, new_columns, keys_from, arguments_of, table_at, as_table, table_named, MAX_KEYS, StandsAt}
+use Rattle.query_laws.proofs.Terms.{AreNew, NameStandsFor, IsFree, IsStream, IsFold, IsTable, HasTypedColumns, new_names, HasSlots}
+use Rattle.query_laws.proofs.Terms.{AreApart, HasArguments}
 use Rattle.query_laws.proofs.Steps.{must_ok, must_not_ok, must_holds, must_not_holds, same_ok, found_first, then_next, nat_same, nat_other}
 use Rattle.query_laws.proofs.Steps.{nat_is, nat_is_not, stands_place}
-use Rattle.query_laws.proofs.ExprSound.{slot_stands, word_sound}
-use Rattle.query_laws.proofs.ExprComplete.{word_complete}
+use Rattle.query_laws.proofs.{ExprSound.slot_stands, ExprSound.word_sound, ExprComplete.word_complete}
 use Rattle.query_laws.proofs.FoldNames.{new_among, among_new, among_append, below}
 
 pub ok : {A : Type 0} {x y : A} → x ≡ y → (let r : Checked A = Ok x in r) ≡ Ok y

@@ -3,26 +3,20 @@ use Rattle.std.proofs.Common.{◌≡◌, ℕ, zero, suc, ◌-◌, ◌^◌, List,
 use Rattle.std.proofs.Common.{◌⊎◌}
 use Rattle.std.specs.Prelude.{All, max}
 use Rattle.std.proofs.lemmas.List.Elements.{All-head, All-tail}
-use Rattle.query_lang.specs.declared.fault.Span.{Span}
-use Rattle.query_lang.specs.declared.fold.Op.{Op}
-use Rattle.query_lang.specs.declared.query.Name.{Name}
-use Rattle.query_lang.specs.declared.query.Expr.{Expr, Number, Named, Not, Binary, Call, fold-roll-Expr}
 use Rattle.query_lang.specs.declared.query.Expr.TheOpen as expr
-use Rattle.query_lang.specs.declared.query.Expr.TheVariants.{rolls-Number, rolls-Named, rolls-Not, rolls-Binary, rolls-Call}
 use Rattle.query_lang.specs.declared.query.Stmt.{Stmt, Assign, If, Emit, fold-roll-Stmt}
 use Rattle.query_lang.specs.declared.query.Stmt.TheOpen as stmt
-use Rattle.query_lang.specs.declared.query.Stmt.TheVariants.{rolls-Assign, rolls-If, rolls-Emit}
 use Rattle.query_lang.specs.declared.token.Mark.TheVariants as marks
 use Rattle.query_lang.specs.declared.token.Word.TheVariants as words
-use Rattle.query_lang.specs.Words.{IsWord}
 use Rattle.query_types.specs.Numbers.{greatest_of, number_step, greatest_number, stmt_number_step, greatest_in}
-use Rattle.query_grammar.specs.Language.{Language, Leaf, Chain, Chained}
-use Rattle.query_grammar.specs.Kinds.{sign, keyword}
 use Rattle.query_grammar.specs.Grammar.{grouped, compared, negated, else_of, Operators, either_ops, both_ops, or_ops, xor_ops, and_ops}
 use Rattle.query_grammar.specs.Grammar.{shift_ops, sum_ops, product_ops, Level, Atom, CallOf, Unary, Product, Sum, Shift, BitAnd, BitXor}
 use Rattle.query_grammar.specs.Grammar.{BitOr, Comparison, Conjunction, Disjunction, Expression, Assignment, Emission, Block, IfPart}
 use Rattle.query_grammar.specs.Grammar.{ElsePart, IfStatement, Statement_at}
 use Rattle.query_grammar.proofs.ItemWeights.{all_cons, all_none}
+use Rattle.query_laws.proofs.Terms.{Span, Op, Name, Expr, Number, Named, Not, Binary, Call, fold-roll-Expr, rolls-Number, rolls-Named}
+use Rattle.query_laws.proofs.Terms.{rolls-Not, rolls-Binary, rolls-Call, rolls-Assign, rolls-If, rolls-Emit, IsWord, Language, Leaf, Chain}
+use Rattle.query_laws.proofs.Terms.{Chained, sign, keyword}
 use Rattle.query_laws.proofs.Holds.{HaveWords, both_have, Holds, any_holds, number_holds, then_holds, second_holds, meaning_holds}
 use Rattle.query_laws.proofs.Holds.{either_holds, repeated_holds, if_some, once_holds, after_holds, between_holds, parens_hold}
 use Rattle.query_laws.proofs.Holds.{listed_holds}

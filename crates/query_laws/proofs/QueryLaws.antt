@@ -1,24 +1,11 @@
 -- Items and whole queries: the rules and the checks agree.
 use Rattle.std.proofs.Common.{◌≡◌, ℕ, List, [], ◌∷◌, length, Ok, Err, refl, sym, ap, ◌∙◌}
 use Rattle.std.proofs.lemmas.Bool.{ltb-true}
-use Rattle.query_lang.specs.declared.fault.QueryFault.{QueryFault}
-use Rattle.query_lang.specs.declared.query.Query.{Query}
-use Rattle.query_lang.specs.declared.query.Item.{Item}
 use Rattle.query_lang.specs.declared.query.Item.TheVariants as item
-use Rattle.query_lang.specs.declared.query.Name.{Name}
-use Rattle.query_lang.specs.declared.query.FoldDef.{FoldDef}
-use Rattle.query_lang.specs.declared.query.StreamDef.{StreamDef}
-use Rattle.query_lang.specs.declared.query.FinalDef.{FinalDef}
-use Rattle.query_lang.specs.declared.typed.TypedQuery.{TypedQuery}
-use Rattle.query_lang.specs.declared.typing.Earlier.{Earlier}
-use Rattle.query_lang.specs.declared.typing.Given.{Given}
-use Rattle.query_lang.specs.Checks.{Checked}
-use Rattle.query_lang.specs.TypedFolds.{fold_checked}
-use Rattle.query_lang.specs.TypedStreams.{begun, made_stream, stream_checked}
-use Rattle.query_lang.specs.TypedFinals.{table_named, five_fields, made_final, final_checked}
-use Rattle.query_lang.specs.Typing.{fold_added, print_checked, item_checked, items_checked, typed_names, given_of, start_of, ended, checked}
-use Rattle.query_lang.specs.declared.fault.TheConstants.{MAX_BINDINGS}
-use Rattle.query_laws.specs.Context.{Entry, AFold, AStream, AFinal, APrint, known_in, prints_in, printed_in, earlier_of}
+use Rattle.query_laws.proofs.Terms.{QueryFault, Query, Item, Name, FoldDef, StreamDef, FinalDef, TypedQuery, Earlier, Given, Checked}
+use Rattle.query_laws.proofs.Terms.{fold_checked, begun, made_stream, stream_checked, table_named, five_fields, made_final, final_checked}
+use Rattle.query_laws.proofs.Terms.{fold_added, print_checked, item_checked, items_checked, typed_names, given_of, start_of, ended, checked}
+use Rattle.query_laws.proofs.Terms.{MAX_BINDINGS, Entry, AFold, AStream, AFinal, APrint, known_in, prints_in, printed_in, earlier_of}
 use Rattle.query_laws.specs.QueryRules.{IsBinding, HasItem, HasItems, of_none, of_more, IsTyped}
 use Rattle.query_laws.proofs.Steps.{must_ok, must_not_ok, must_holds, must_not_holds, same_ok, found_first, then_next}
 use Rattle.query_laws.proofs.FoldNames.{new_among, among_new, below}

@@ -5,21 +5,12 @@ use Rattle.std.specs.Prelude.{All, Contains, fold, slice_get, slice_index_or, un
 use Rattle.std.proofs.lemmas.List.{length_push, length-map}
 use Rattle.std.proofs.lemmas.Option.{same_Some, slice_get_within, get_or_from_slice_get}
 use Rattle.marple_base.specs.declared.field.TheConstants.{FIELDS}
-use Rattle.query_lang.specs.declared.fold.TypedFold.{TypedFold}
-use Rattle.query_lang.specs.declared.query.Query.{Query}
-use Rattle.query_lang.specs.declared.typed.TypedOp.{TypedOp}
 use Rattle.query_lang.specs.declared.typed.TypedOp.TheVariants as typed
-use Rattle.query_lang.specs.declared.typed.TypedQuery.{TypedQuery}
-use Rattle.query_lang.specs.declared.typed.TypedStream.{TypedStream}
 use Rattle.query_lang.specs.declared.typing.Origin.TheVariants as origin
-use Rattle.query_lang.specs.declared.typing.StreamColumn.{StreamColumn}
 use Rattle.query_lang.specs.Streams.{Tuple, numbered, tuples_at, made_of, all_streams, stream}
-use Rattle.query_lang.specs.TypedStreams.{column_names}
-use Rattle.query_lang.specs.Typing.{field_numbers, checked}
-use Rattle.query_laws.specs.Columns.{columns_of}
+use Rattle.query_laws.proofs.Terms.{TypedFold, Query, TypedOp, TypedQuery, TypedStream, StreamColumn, column_names, field_numbers, checked}
+use Rattle.query_laws.{specs.Columns.columns_of, proofs.Typed.field_view, proofs.Typed.viewed, proofs.FieldColumns.fields_distinct}
 use Rattle.query_laws.proofs.Views.{View, AreDistinct, AreBelow, Makes, AreMade, others_below, columns_made}
-use Rattle.query_laws.proofs.Typed.{field_view, viewed}
-use Rattle.query_laws.proofs.FieldColumns.{fields_distinct}
 use Rattle.query_laws.proofs.Values.{Values, row_of, HaveValues, look, all_looked_up, AreEarlier, AllHave, have_at, OneMore, of_filter}
 use Rattle.query_laws.proofs.Values.{of_map, of_zip, of_group}
 

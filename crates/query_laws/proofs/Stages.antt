@@ -3,14 +3,8 @@ use Rattle.std.proofs.Common.{◌≡◌, ℕ, ◌≤◌, Bool, true, false, ◌|
 use Rattle.std.proofs.Common.{◌∙◌, append_assoc, append-nil, arith}
 use Rattle.std.specs.Prelude.{All, drop, fold, flat_map, nat_lt}
 use Rattle.std.proofs.lemmas.List.Elements.{All-nil, All-cons, All-head, All-tail, All-append}
-use Rattle.query_lang.specs.declared.fault.FaultKind.TheVariants.{OverLimit}
-use Rattle.query_lang.specs.declared.fault.Limit.TheVariants.{Stages}
-use Rattle.query_lang.specs.declared.fault.QueryFault.{QueryFault}
-use Rattle.query_lang.specs.declared.fold.TypedFold.{TypedFold}
-use Rattle.query_lang.specs.declared.typed.TypedQuery.{TypedQuery}
-use Rattle.query_lang.specs.declared.typed.TypedStream.{TypedStream}
-use Rattle.query_lang.specs.declared.fault.TheConstants.{MAX_STAGES}
 use Rattle.stage_plan.specs.Depths.{StreamDepths, packet_depths, depths_made, all_depths, is_too_deep, first_too_deep, stage_fault}
+use Rattle.query_laws.proofs.Terms.{OverLimit, Stages, QueryFault, TypedFold, TypedQuery, TypedStream, MAX_STAGES}
 use Rattle.query_laws.specs.ByRules.{FitsStages}
 
 abbrev Fits : ℕ → Type 0

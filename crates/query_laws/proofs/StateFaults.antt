@@ -1,19 +1,12 @@
 -- The first state variable of an expression, which a fault in a line of conditions tells.
 use Rattle.std.proofs.Common.{◌≡◌, ℕ, Bool, true, false, cond, List, [], ◌∷◌, map, Option, Some, None, refl, sym}
 use Rattle.std.proofs.Common.{subst, ◌∙◌}
-use Rattle.query_lang.specs.declared.fault.Span.{Span}
-use Rattle.query_lang.specs.declared.fold.TypedExpr.{TypedExpr}
-use Rattle.query_lang.specs.declared.query.Name.{Name}
-use Rattle.query_lang.specs.declared.query.Expr.{Expr, fold-roll-Expr, ind-Expr, roll-Expr, map-Expr}
 use Rattle.query_lang.specs.declared.query.Expr.TheOpen as expr
 use Rattle.query_lang.specs.declared.query.Expr.TheVariants as whole
-use Rattle.query_lang.specs.declared.query.Expr.TheVariants.{rolls-Named, rolls-Not, rolls-Binary, rolls-Call}
-use Rattle.query_lang.specs.declared.typing.Enclosing.{Enclosing}
-use Rattle.query_lang.specs.Checks.{is_among}
-use Rattle.query_lang.specs.TypedFolds.{or_else, first_of, state_step, state_in, inside}
-use Rattle.query_laws.specs.Demands.{IsOneOf, HasPart}
+use Rattle.query_laws.proofs.Terms.{Span, TypedExpr, Name, Expr, fold-roll-Expr, ind-Expr, roll-Expr, map-Expr, rolls-Named, rolls-Not}
+use Rattle.query_laws.proofs.Terms.{rolls-Binary, rolls-Call, Enclosing, is_among, or_else, first_of, state_step, state_in, inside, IsOneOf}
+use Rattle.query_laws.proofs.Terms.{HasPart, Kind, Condition, operand_kind}
 use Rattle.query_laws.specs.Demands as parts
-use Rattle.query_laws.specs.ExprRules.{Kind, Condition, operand_kind}
 
 abbrev pub Inside : Name → Expr → Type 0
 Inside x e = (k : Kind) → (l : Kind) × HasPart k e l (whole.Named x)

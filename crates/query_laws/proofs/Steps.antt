@@ -1,10 +1,7 @@
 -- What a check that finds no fault has found on its way.
 use Rattle.std.proofs.Common.{◌≡◌, ℕ, ◌+◌, zero, suc, Bool, true, false, cond, List, [], ◌∷◌, Some, Ok, Err, nat_eq, refl, ap, subst, ◌∙◌}
 use Rattle.std.proofs.Common.{arith}
-use Rattle.query_lang.specs.declared.fault.FaultKind.{FaultKind}
-use Rattle.query_lang.specs.declared.fault.Span.{Span}
-use Rattle.query_lang.specs.Checks.{Checked, and_then, must, must_not, place_from, place_of}
-use Rattle.query_laws.specs.ExprRules.{StandsAt}
+use Rattle.query_laws.proofs.Terms.{FaultKind, Span, Checked, and_then, must, must_not, place_from, place_of, StandsAt}
 
 pub must_ok : {A : Type 0} (test : Bool) (kind : FaultKind) (span : Span) {next : Checked A} {x : A} → must test kind span next ≡ Ok x
     → (test ≡ true) × (next ≡ Ok x)

@@ -2,42 +2,24 @@
 use Rattle.std.proofs.Common.{◌≡◌, ℕ, ◌≤◌, true, ◌&&◌, List, [], Ok, Err, refl, ap, subst, arith}
 use Rattle.std.specs.Prelude.{flat_map, nat_lt, nat_le}
 use Rattle.std.specs.List.{list_any}
-use Rattle.query_lang.specs.declared.fault.FaultKind.TheVariants.{NameTaken, WrongKind, BadConstant, OverLimit}
-use Rattle.query_lang.specs.declared.fault.Limit.TheVariants.{Groupbys}
-use Rattle.query_lang.specs.declared.fault.QueryFault.{QueryFault}
-use Rattle.query_lang.specs.declared.query.Column.{Column}
-use Rattle.query_lang.specs.declared.query.Expr.{Expr}
-use Rattle.query_lang.specs.declared.query.FinalOp.{FinalOp}
 use Rattle.query_lang.specs.declared.query.FinalOp.TheVariants as final
-use Rattle.query_lang.specs.declared.query.Key.{Key}
-use Rattle.query_lang.specs.declared.query.Name.{Name}
-use Rattle.query_lang.specs.declared.query.StreamOp.{StreamOp}
 use Rattle.query_lang.specs.declared.query.StreamOp.TheVariants as stream
-use Rattle.query_lang.specs.declared.fault.Span.{Span}
-use Rattle.query_lang.specs.declared.typing.Earlier.{Earlier}
-use Rattle.query_lang.specs.declared.typing.FoldView.{FoldView}
-use Rattle.query_lang.specs.declared.typing.Given.{Given}
-use Rattle.query_lang.specs.declared.typing.Picked.{Picked}
-use Rattle.query_lang.specs.Checks.{is_among}
-use Rattle.query_lang.specs.TypedExprs.{slot_of, condition_of}
-use Rattle.query_lang.specs.TypedFinals.{table_named, quiet_fold, five_fields, same_names, key_columns, other_columns, made_final}
-use Rattle.query_lang.specs.TypedStreams.{column_names, key_names, no_new_columns, new_columns, clash, stream_named, fold_named}
-use Rattle.query_lang.specs.TypedStreams.{keys_checked, arguments_of, made_stream}
-use Rattle.query_lang.specs.declared.fault.TheConstants.{MAX_GROUPBYS}
+use Rattle.query_laws.proofs.Terms.{NameTaken, WrongKind, BadConstant, OverLimit, Groupbys, QueryFault, Column, Expr, FinalOp, Key, Name}
+use Rattle.query_laws.proofs.Terms.{StreamOp, Span, Earlier, FoldView, Given, Picked, is_among, slot_of, condition_of, table_named}
+use Rattle.query_laws.proofs.Terms.{quiet_fold, five_fields, same_names, key_columns, other_columns, made_final, column_names, key_names}
+use Rattle.query_laws.proofs.Terms.{no_new_columns, new_columns, clash, stream_named, fold_named, keys_checked, arguments_of, made_stream}
+use Rattle.query_laws.proofs.Terms.{MAX_GROUPBYS, IsFold, key_ids}
 use Rattle.query_laws.specs.Asked.{StreamAsks, FinalAsks, of_filtered, of_condition, of_mapped, of_columns, of_first, of_second, of_both}
 use Rattle.query_laws.specs.Asked.{of_limit, of_grouped, of_keys, of_fold, of_arguments}
 use Rattle.query_laws.specs.Asked as asks
-use Rattle.query_laws.specs.Context.{IsFold}
 use Rattle.query_laws.specs.Demands.{AStream, ATable, AFold, AQuietFold, Stands, AColumn, Kept, Fewer, Same, Apart, SameKeys}
-use Rattle.query_laws.specs.StreamRules.{key_ids}
-use Rattle.query_laws.proofs.ExprFaults.{slot_told, condition_told}
+use Rattle.query_laws.proofs.{ExprFaults.slot_told, ExprFaults.condition_told, FoldNames.below, StreamLaws.all_same_complete}
+use Rattle.query_laws.proofs.{StreamLaws.picked_sound}
 use Rattle.query_laws.proofs.FaultSteps.{no_fault, not_both, by_must, by_must_not, by_next, told, Broken, broken_in}
 use Rattle.query_laws.proofs.FinalLaws.{at_most, both_hold, same_complete}
-use Rattle.query_laws.proofs.FoldNames.{below}
 use Rattle.query_laws.proofs.NameFaults.{stream_told, fold_told, table_told, quiet_told, columns_told, at_least, keys_told, arguments_told}
 use Rattle.query_laws.proofs.NameLaws.{stream_sound, fold_name_sound, table_sound, apart_complete}
 use Rattle.query_laws.proofs.Steps.{must_not_ok, same_ok, found_first}
-use Rattle.query_laws.proofs.StreamLaws.{all_same_complete, picked_sound}
 
 -- what each fault in this operator of a stream breaks
 abbrev StreamTold : List ℕ → Earlier → Name → StreamOp → Type 0

@@ -1,40 +1,20 @@
 -- Streams: the rules and the checks agree.
 use Rattle.std.proofs.Common.{◌≡◌, ℕ, Bool, true, false, List, [], ◌∷◌, ◌++◌, length, map, Some, None, Ok, nat_eq, not, ◌&&◌, ◌||◌, refl}
 use Rattle.std.proofs.Common.{sym, ap, subst, ◌∙◌, append-nil, arith}
-use Rattle.std.specs.Prelude.{flat_map}
-use Rattle.std.proofs.lemmas.Bool.{ltb-true}
-use Rattle.std.proofs.lemmas.List.{length-map}
-use Rattle.query_lang.specs.declared.query.Name.{Name}
-use Rattle.query_lang.specs.declared.query.Key.{Key}
-use Rattle.query_lang.specs.declared.query.Column.{Column}
-use Rattle.query_lang.specs.declared.query.Expr.{Expr}
-use Rattle.query_lang.specs.declared.query.StreamOp.{StreamOp}
+use Rattle.std.{specs.Prelude.flat_map, proofs.lemmas.Bool.ltb-true, proofs.lemmas.List.length-map}
 use Rattle.query_lang.specs.declared.query.StreamOp.TheVariants as ops
 use Rattle.query_lang.specs.declared.typed.PrintOf.TheVariants as place
 use Rattle.query_lang.specs.declared.typed.TypedOp.TheVariants as typed
-use Rattle.query_lang.specs.declared.typing.Earlier.{Earlier}
-use Rattle.query_lang.specs.declared.typing.StreamView.{StreamView}
-use Rattle.query_lang.specs.declared.typing.FoldView.{FoldView}
-use Rattle.query_lang.specs.declared.typing.Known.{Known}
-use Rattle.query_lang.specs.declared.typing.MadeStream.{MadeStream}
-use Rattle.query_lang.specs.declared.typing.NewColumns.{NewColumns}
-use Rattle.query_lang.specs.declared.typing.Picked.{Picked}
-use Rattle.query_lang.specs.declared.typing.Origin.{Origin}
 use Rattle.query_lang.specs.declared.typing.Origin.TheVariants as origin
-use Rattle.query_lang.specs.declared.typing.StreamColumn.{StreamColumn}
-use Rattle.query_lang.specs.TypedExprs.{condition_of}
-use Rattle.query_lang.specs.TypedStreams.{stream_named, fold_named, column_names, key_names, new_columns, no_new_columns, keys_checked}
-use Rattle.query_lang.specs.TypedStreams.{arguments_of, same_origin, clashes_with, clash, others_from, columns_at, filtered, mapped, zipped}
-use Rattle.query_lang.specs.TypedStreams.{next_stream, made_stream}
-use Rattle.query_lang.specs.declared.fault.TheConstants.{MAX_GROUPBYS}
-use Rattle.query_laws.specs.StreamRules.{HasTypedColumns, HasKeys, HasArguments, key_ids, IsSame, AreSame, OfFilter, OfMap, OfZip, OfGroup}
-use Rattle.query_laws.specs.StreamRules.{HasStream}
+use Rattle.query_laws.proofs.Terms.{Name, Key, Column, Expr, StreamOp, Earlier, StreamView, FoldView, Known, MadeStream, NewColumns, Picked}
+use Rattle.query_laws.proofs.Terms.{Origin, StreamColumn, condition_of, stream_named, fold_named, column_names, key_names, new_columns}
+use Rattle.query_laws.proofs.Terms.{no_new_columns, keys_checked, arguments_of, same_origin, clashes_with, clash, others_from, columns_at}
+use Rattle.query_laws.proofs.Terms.{filtered, mapped, zipped, next_stream, made_stream, MAX_GROUPBYS, HasTypedColumns, HasKeys}
+use Rattle.query_laws.proofs.Terms.{HasArguments, key_ids, IsSame, AreSame, OfFilter, OfMap, OfZip, OfGroup, HasStream}
 use Rattle.query_laws.proofs.Steps.{must_ok, must_not_ok, must_holds, must_not_holds, same_ok, found_first, then_next, nat_same, nat_other}
 use Rattle.query_laws.proofs.Steps.{nat_is}
 use Rattle.query_laws.proofs.ColumnLaws.{at_slots, keys_there, others_are, others_taken}
-use Rattle.query_laws.proofs.ExprSound.{condition_sound}
-use Rattle.query_laws.proofs.ExprComplete.{condition_complete}
-use Rattle.query_laws.proofs.FoldNames.{below}
+use Rattle.query_laws.proofs.{ExprSound.condition_sound, ExprComplete.condition_complete, FoldNames.below}
 use Rattle.query_laws.proofs.NameLaws.{ok, stream_sound, stream_complete, fold_name_sound, fold_name_complete, columns_sound}
 use Rattle.query_laws.proofs.NameLaws.{columns_complete, keys_sound, keys_complete, arguments_sound, arguments_complete}
 

@@ -2,21 +2,13 @@
 use Rattle.std.proofs.Common.{◌≡◌, ℕ, zero, suc, ◌+◌, ◌^◌, Bool, true, false, cond, List, [], ◌∷◌, length, take, drop, Option, Some, None}
 use Rattle.std.proofs.Common.{Ok, Err, refl, subst}
 use Rattle.std.specs.Prelude.{nat_eq, nat_lt, codes}
-use Rattle.std.specs.List.{prefix_len}
-use Rattle.std.specs.Str.{bytes_eq}
-use Rattle.std.specs.Str.Parse.{digits_value}
-use Rattle.std.proofs.lemmas.Bool.{ltb-true}
-use Rattle.query_lang.specs.declared.token.Mark.{Mark}
-use Rattle.query_lang.specs.declared.token.Piece.{Piece}
+use Rattle.std.{specs.List.prefix_len, specs.Str.bytes_eq, specs.Str.Parse.digits_value, proofs.lemmas.Bool.ltb-true}
+use Rattle.query_lang.specs.declared.token.{Mark.Mark, Piece.Piece, Token.Token, Word.Word}
 use Rattle.query_lang.specs.declared.token.Piece.TheVariants as pieces
-use Rattle.query_lang.specs.declared.token.Token.{Token}
-use Rattle.query_lang.specs.declared.token.TokenKind.{TokenKind}
 use Rattle.query_lang.specs.declared.token.TokenKind.TheVariants as kinds
-use Rattle.query_lang.specs.declared.token.Word.{Word}
 use Rattle.query_lang.specs.Lexis.{Cut, below_limit, cut, cut_piece, is_blank, is_digit, is_word_byte, mark_at, name_piece, number_piece}
 use Rattle.query_lang.specs.Lexis.{one_mark, piece, piece_of_mark, reserved, token_at, two_mark, with_front, word_piece}
-use Rattle.query_lang.specs.Names.{number_in, with_name}
-use Rattle.query_lang.specs.Words.{IsWord}
+use Rattle.query_laws.proofs.Terms.{TokenKind, number_in, with_name, IsWord}
 
 -- a number is a word
 abbrev pub IsWordKind : TokenKind → Type 0

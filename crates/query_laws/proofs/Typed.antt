@@ -2,44 +2,20 @@
 use Rattle.std.proofs.Common.{◌≡◌, ℕ, zero, suc, ◌+◌, ◌<◌, Bool, true, false, ◌||◌, cond, List, [], ◌∷◌, ◌++◌, length, map, Option, Some}
 use Rattle.std.proofs.Common.{None, Ok, nat_eq, refl, sym, ap, subst, ◌∙◌, arith}
 use Rattle.std.specs.Prelude.{flat_map, slice_get}
-use Rattle.std.proofs.lemmas.List.{length_push, length-map}
-use Rattle.std.proofs.lemmas.List.Folds.{list_any-append}
-use Rattle.query_lang.specs.declared.query.Column.{Column}
-use Rattle.query_lang.specs.declared.query.Expr.{Expr}
-use Rattle.query_lang.specs.declared.query.FinalDef.{FinalDef}
-use Rattle.query_lang.specs.declared.query.FoldDef.{FoldDef}
-use Rattle.query_lang.specs.declared.query.Item.{Item}
+use Rattle.std.proofs.lemmas.{List.length_push, List.length-map, List.Folds.list_any-append}
 use Rattle.query_lang.specs.declared.query.Item.TheVariants as item
-use Rattle.query_lang.specs.declared.query.Key.{Key}
-use Rattle.query_lang.specs.declared.query.Name.{Name}
-use Rattle.query_lang.specs.declared.query.Query.{Query}
-use Rattle.query_lang.specs.declared.query.StreamDef.{StreamDef}
-use Rattle.query_lang.specs.declared.query.StreamOp.{StreamOp}
 use Rattle.query_lang.specs.declared.query.StreamOp.TheVariants as ops
-use Rattle.query_lang.specs.declared.typed.TypedQuery.{TypedQuery}
 use Rattle.query_lang.specs.declared.typed.PrintOf.TheVariants as place
 use Rattle.query_lang.specs.declared.typed.TypedOp.TheVariants as typed
-use Rattle.query_lang.specs.declared.typing.Earlier.{Earlier}
-use Rattle.query_lang.specs.declared.typing.FoldView.{FoldView}
-use Rattle.query_lang.specs.declared.typing.Given.{Given}
-use Rattle.query_lang.specs.declared.typing.Known.{Known}
-use Rattle.query_lang.specs.declared.typing.MadeStream.{MadeStream}
-use Rattle.query_lang.specs.declared.typing.Meaning.{Meaning}
 use Rattle.query_lang.specs.declared.typing.Meaning.TheVariants as meaning
-use Rattle.query_lang.specs.declared.typing.NewColumns.{NewColumns}
 use Rattle.query_lang.specs.declared.typing.Origin.TheVariants as origin
-use Rattle.query_lang.specs.declared.typing.Picked.{Picked}
-use Rattle.query_lang.specs.declared.typing.StreamView.{StreamView}
-use Rattle.query_lang.specs.Checks.{is_among}
-use Rattle.query_lang.specs.TypedExprs.{slot_of, word_of, condition_of}
-use Rattle.query_lang.specs.TypedFolds.{fold_checked}
-use Rattle.query_lang.specs.TypedStreams.{meaning_of, as_stream, stream_named, fold_named, column_names, others_from, columns_at}
-use Rattle.query_lang.specs.TypedStreams.{new_columns, no_new_columns, key_names, keys_from, keys_checked, arguments_of, filtered, mapped}
-use Rattle.query_lang.specs.TypedStreams.{next_stream, zipped, grouped, made_stream, with_stream, begun, stream_checked}
-use Rattle.query_lang.specs.TypedFinals.{five_fields, table_named, made_final, final_checked}
-use Rattle.query_lang.specs.Typing.{typed_names, field_numbers, given_of, start_of, fold_added, print_checked, item_checked, items_checked}
-use Rattle.query_lang.specs.Typing.{ended, checked}
-use Rattle.query_laws.specs.ExprRules.{StandsAt}
+use Rattle.query_laws.proofs.Terms.{Column, Expr, FinalDef, FoldDef, Item, Key, Name, Query, StreamDef, StreamOp, TypedQuery, Earlier}
+use Rattle.query_laws.proofs.Terms.{FoldView, Given, Known, MadeStream, Meaning, NewColumns, Picked, StreamView, is_among, slot_of, word_of}
+use Rattle.query_laws.proofs.Terms.{condition_of, fold_checked, meaning_of, as_stream, stream_named, fold_named, column_names, others_from}
+use Rattle.query_laws.proofs.Terms.{columns_at, new_columns, no_new_columns, key_names, keys_from, keys_checked, arguments_of, filtered}
+use Rattle.query_laws.proofs.Terms.{mapped, next_stream, zipped, grouped, made_stream, with_stream, begun, stream_checked, five_fields}
+use Rattle.query_laws.proofs.Terms.{table_named, made_final, final_checked, typed_names, field_numbers, given_of, start_of, fold_added}
+use Rattle.query_laws.proofs.Terms.{print_checked, item_checked, items_checked, ended, checked, StandsAt}
 use Rattle.query_laws.proofs.Steps.{must_ok, must_not_ok, same_ok, found_first, nat_other, nat_is_not}
 use Rattle.query_laws.proofs.ExprSound.{slot_stands}
 use Rattle.query_laws.proofs.Views.{View, AreDistinct, AreBelow, mapped_columns, Makes, AreMade, made_long, made_last, get_front, get_after}

@@ -1,36 +1,21 @@
 -- The examples of expressions and streams, from the rules.
 use Rattle.std.proofs.Common.{◌≡◌, ℕ, List, [], ◌∷◌, Option, Some, None, Ok, Err, false, refl, sym, ap, ◌∙◌, arith}
-use Rattle.query_lang.specs.declared.fault.FaultKind.TheVariants.{WrongKind}
-use Rattle.query_lang.specs.declared.fault.QueryFault.{QueryFault}
-use Rattle.query_lang.specs.declared.fold.Op.{Op}
-use Rattle.query_lang.specs.declared.fold.Op.TheVariants.{Mul, Div, Rem, Add, Sub, Shl, Shr, And, Xor, Or, Eq, Ne, Lt, Le, Gt, Ge, Both}
-use Rattle.query_lang.specs.declared.fold.Op.TheVariants.{Either, Max, Min, Sadd, Decay}
-use Rattle.query_lang.specs.declared.fold.TypedExpr.{TypedExpr}
 use Rattle.query_lang.specs.declared.fold.TypedExpr.TheVariants as typed
-use Rattle.query_lang.specs.declared.query.Expr.{Expr}
 use Rattle.query_lang.specs.declared.query.Expr.TheVariants.{Number, Named, Not, Binary, Call}
 use Rattle.query_lang.specs.declared.query.Key.TheVariants as key
-use Rattle.query_lang.specs.declared.query.StreamOp.{StreamOp}
 use Rattle.query_lang.specs.declared.query.StreamOp.TheVariants.{Filter, Map, Zip, Group}
-use Rattle.query_lang.specs.declared.typing.Found.{Found}
 use Rattle.query_lang.specs.declared.typing.Origin.TheVariants as origin
-use Rattle.query_lang.specs.declared.typing.Sort.{Sort}
 use Rattle.query_lang.specs.declared.typing.Sort.TheVariants as sort
-use Rattle.query_lang.specs.Checks.{Checked, and_then, collected, is_among, place_of}
-use Rattle.query_lang.specs.TypedExprs.{of_two, call_of, negation_checked, expr_checked}
-use Rattle.query_laws.specs.Asked.{StreamAsks}
+use Rattle.query_laws.proofs.Terms.{WrongKind, QueryFault, Op, Mul, Div, Rem, Add, Sub, Shl, Shr, And, Xor, Or, Eq, Ne, Lt, Le, Gt, Ge}
+use Rattle.query_laws.proofs.Terms.{Both, Either, Max, Min, Sadd, Decay, TypedExpr, Expr, StreamOp, Found, Sort, Checked, and_then}
+use Rattle.query_laws.proofs.Terms.{collected, is_among, place_of, of_two, call_of, negation_checked, expr_checked, IsStream, IsFold, Kind}
+use Rattle.query_laws.proofs.Terms.{Word, Condition, StandsAt, HasKind, of_number, of_name, of_not, of_binary, of_call, IsNew, HasStream}
+use Rattle.query_laws.{specs.Asked.StreamAsks, proofs.FaultSteps.no_fault, proofs.FoldNames.among_new, proofs.ItemsMeet.stream_meets}
 use Rattle.query_laws.specs.Asked as asks
-use Rattle.query_laws.specs.Context.{IsStream, IsFold}
 use Rattle.query_laws.specs.Demands.{HasPart, AStream, Demand, Stands, AColumn, New, Typed, Same, Apart, Holds}
 use Rattle.query_laws.specs.Demands as parts
-use Rattle.query_laws.specs.ExprRules.{Kind, Word, Condition, StandsAt, HasKind, of_number, of_name, of_not, of_binary, of_call}
-use Rattle.query_laws.specs.FoldRules.{IsNew}
-use Rattle.query_laws.specs.StreamRules.{HasStream}
 use Rattle.query_laws.specs.StreamRules as rules
 use Rattle.query_laws.proofs.ExprComplete.{complete, word_complete, number_is, named_is, not_is, binary_is, call_is}
-use Rattle.query_laws.proofs.FaultSteps.{no_fault}
-use Rattle.query_laws.proofs.FoldNames.{among_new}
-use Rattle.query_laws.proofs.ItemsMeet.{stream_meets}
 use Rattle.query_laws.proofs.NameLaws.{stream_sound, stream_complete, fold_name_sound, apart_sound}
 use Rattle.query_laws.proofs.Steps.{then_next, place_stands, stands_place}
 use Rattle.query_laws.specs.TypingExamples.{here, called, two_columns, first, second, is_less, typed_is_less, with_first, RefusesNumber}

@@ -1,20 +1,13 @@
 -- What a fault says of something that is asked: it isn't so.
 use Rattle.std.proofs.Common.{◌≡◌, ℕ, zero, suc, ◌<◌, List, [], ◌∷◌, subst, inl, inr, arith}
-use Rattle.query_lang.specs.declared.fault.FaultKind.{FaultKind}
 use Rattle.query_lang.specs.declared.fault.FaultKind.TheVariants as kinds
 use Rattle.query_lang.specs.declared.fault.Limit.{Limit}
-use Rattle.query_lang.specs.declared.fault.Span.{Span}
-use Rattle.query_lang.specs.declared.typing.Known.{Known}
 use Rattle.query_lang.specs.declared.typing.Meaning.TheVariants as meaning
-use Rattle.query_laws.specs.Context.{IsFree}
+use Rattle.query_laws.proofs.Terms.{FaultKind, Span, Known, IsFree, Kind, Word, Condition, other_kind, StandsAt, IsNew}
 use Rattle.query_laws.specs.Demands.{AStream, ATable, AFold, AQuietFold, Sought, IsSought, Demand, Free, Stands, AColumn, New, Target}
 use Rattle.query_laws.specs.Demands.{Typed, Two, Constant, Kept, Fewer, Same, Apart, SameKeys, ReadsNone, OneEmit, most, Holds, IsUnknown}
 use Rattle.query_laws.specs.Demands.{IsHiddenState, IsTaken, IsOtherKind, IsOtherArity, IsBadConstant, IsOneTooMany, Tells}
-use Rattle.query_laws.specs.ExprRules.{Kind, Word, Condition, other_kind, StandsAt}
-use Rattle.query_laws.specs.FoldRules.{IsNew}
-use Rattle.query_laws.proofs.ExprFaults.{one_kind}
-use Rattle.query_laws.proofs.NameFaults.{not_free}
-use Rattle.query_laws.proofs.NameLaws.{meaning_complete}
+use Rattle.query_laws.proofs.{ExprFaults.one_kind, NameFaults.not_free, NameLaws.meaning_complete}
 
 stands_taken : (names : List ℕ) (place id : ℕ) → StandsAt names place id → IsNew id names → ⊥
 stands_taken [] place id h new = absurd h

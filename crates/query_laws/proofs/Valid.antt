@@ -2,27 +2,14 @@
 use Rattle.std.proofs.Common.{◌≡◌, ℕ, List, [], ◌∷◌, Ok, sym, subst}
 use Rattle.std.specs.Prelude.{All}
 use Rattle.std.proofs.lemmas.List.Elements.{All-nil, All-head, All-tail, All-push, All-map}
-use Rattle.query_lang.specs.declared.fold.TypedFold.{TypedFold}
-use Rattle.query_lang.specs.declared.query.FoldDef.{FoldDef}
-use Rattle.query_lang.specs.declared.query.Item.{Item}
 use Rattle.query_lang.specs.declared.query.Item.TheVariants as item
-use Rattle.query_lang.specs.declared.query.Query.{Query}
-use Rattle.query_lang.specs.declared.query.StateVar.{StateVar}
-use Rattle.query_lang.specs.declared.typed.TypedQuery.{TypedQuery}
-use Rattle.query_lang.specs.declared.typing.Given.{Given}
-use Rattle.query_lang.specs.Typing.{checked, typed_names, given_of}
-use Rattle.query_lang.specs.Words.{IsWord, AreWords}
-use Rattle.query_grammar.specs.Texts.{IsQueryOf}
 use Rattle.query_grammar.proofs.Numbered.{readable}
 use Rattle.query_types.proofs.ValidLaws.{query_valid}
-use Rattle.query_laws.specs.Context.{Entry, folds_in}
-use Rattle.query_laws.specs.FoldRules.{HasFold}
+use Rattle.query_laws.proofs.Terms.{TypedFold, FoldDef, Item, Query, StateVar, TypedQuery, Given, checked, typed_names, given_of, IsWord}
+use Rattle.query_laws.proofs.Terms.{AreWords, IsQueryOf, Entry, folds_in, HasFold, accepted}
 use Rattle.query_laws.specs.QueryRules.{HasItem, HasItems, of_none, of_more}
-use Rattle.query_laws.proofs.QueryLaws.{query_complete}
-use Rattle.accepted_query.specs.Accepted.{accepted}
-use Rattle.query_laws.proofs.Accepted.{accepted_sound}
+use Rattle.query_laws.proofs.{QueryLaws.query_complete, Accepted.accepted_sound, Items.numbers}
 use Rattle.query_laws.specs.ValidLaws.{StartsAsWords, AcceptedAreValid, AcceptedStartAsWords}
-use Rattle.query_laws.proofs.Items.{numbers}
 
 -- an accepted text has a query, whose check gives the typed form
 pub parts : (text : List ℕ) (q : TypedQuery) → accepted text ≡ Ok q → (query : Query) × IsQueryOf text query × (checked query ≡ Ok q)

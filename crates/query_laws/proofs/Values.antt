@@ -3,19 +3,11 @@ use Rattle.std.proofs.Common.{◌≡◌, ℕ, zero, suc, ◌<◌, Bool, true, fa
 use Rattle.std.proofs.Common.{None, nat_eq, slice_index, refl, sym, ap, subst, ◌∙◌, arith}
 use Rattle.std.specs.Prelude.{filter, find, slice_get, option_map, if◌then◌else◌, ◌==◌}
 use Rattle.std.specs.List.{cons_option}
-use Rattle.std.proofs.lemmas.Bool.{eqb-true}
-use Rattle.std.proofs.lemmas.List.{map-append, length-map}
-use Rattle.std.proofs.lemmas.Option.{same_Some}
-use Rattle.query_lang.specs.declared.fold.TypedExpr.{TypedExpr}
-use Rattle.query_lang.specs.declared.fold.TypedFold.{TypedFold}
+use Rattle.std.proofs.lemmas.{Bool.eqb-true, List.map-append, List.length-map, Option.same_Some}
 use Rattle.query_lang.specs.declared.typed.TypedOp.TheVariants as typed
-use Rattle.query_lang.specs.declared.typing.Origin.{Origin}
 use Rattle.query_lang.specs.declared.typing.Origin.TheVariants as origin
-use Rattle.query_lang.specs.declared.typing.StreamColumn.{StreamColumn}
-use Rattle.query_lang.specs.Checks.{is_among}
 use Rattle.query_lang.specs.Streams.{Tuple, values_at, expr_value, emits_at, map_stream, zip_stream, group_stream, tuples_at, made_of}
-use Rattle.query_lang.specs.TypedStreams.{columns_at}
-use Rattle.query_lang.specs.Words.{holds}
+use Rattle.query_laws.proofs.Terms.{TypedExpr, TypedFold, Origin, StreamColumn, is_among, columns_at, holds}
 use Rattle.query_laws.proofs.Steps.{nat_is, nat_is_not}
 use Rattle.query_laws.proofs.Views.{View, AreDistinct, AreBelow, mapped_columns, OfMap, OfZip, OfGroup}
 

@@ -2,16 +2,10 @@
 use Rattle.std.proofs.Common.{◌≡◌, ℕ, zero, suc, ◌+◌, ◌<◌, Bool, true, false, cond, List, [], ◌∷◌, ◌++◌, length, map, Some, refl, sym, ap}
 use Rattle.std.proofs.Common.{subst, ◌∙◌, append_assoc, append-nil, arith}
 use Rattle.std.specs.Prelude.{slice_get, option_map}
-use Rattle.std.proofs.lemmas.List.{length_push}
-use Rattle.std.proofs.lemmas.Option.{same_Some}
-use Rattle.query_lang.specs.declared.fold.TypedExpr.{TypedExpr}
-use Rattle.query_lang.specs.declared.typed.TypedOp.{TypedOp}
+use Rattle.std.proofs.lemmas.{List.length_push, Option.same_Some}
 use Rattle.query_lang.specs.declared.typed.TypedOp.TheVariants as typed
-use Rattle.query_lang.specs.declared.typed.TypedStream.{TypedStream}
 use Rattle.query_lang.specs.declared.typing.Origin.TheVariants as origin
-use Rattle.query_lang.specs.declared.typing.StreamColumn.{StreamColumn}
-use Rattle.query_lang.specs.Checks.{is_among}
-use Rattle.query_lang.specs.TypedStreams.{column_names, others_from, columns_at, clash}
+use Rattle.query_laws.proofs.Terms.{TypedExpr, TypedOp, TypedStream, StreamColumn, is_among, column_names, others_from, columns_at, clash}
 
 abbrev pub View : Type 0
 View = List StreamColumn

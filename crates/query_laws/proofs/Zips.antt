@@ -3,21 +3,15 @@ use Rattle.std.proofs.Common.{◌≡◌, ℕ, zero, suc, ◌+◌, Bool, true, fa
 use Rattle.std.proofs.Common.{None, nat_eq, slice_index, refl, sym, ap, subst, ◌∙◌, append_assoc, arith}
 use Rattle.std.specs.Prelude.{Contains, slice_get, option_map, if◌then◌else◌}
 use Rattle.std.specs.List.{list_any, cons_option}
-use Rattle.std.proofs.lemmas.List.{length_push}
-use Rattle.std.proofs.lemmas.Option.{same_Some}
-use Rattle.query_lang.specs.declared.typed.TypedOp.TheVariants.{Zip}
-use Rattle.query_lang.specs.declared.typed.TypedQuery.{TypedQuery}
-use Rattle.query_lang.specs.declared.typing.Origin.{Origin}
+use Rattle.std.proofs.lemmas.{List.length_push, Option.same_Some}
 use Rattle.query_lang.specs.declared.typing.Origin.TheVariants as origin
-use Rattle.query_lang.specs.declared.typing.StreamColumn.{StreamColumn}
-use Rattle.query_lang.specs.Checks.{is_among, place_from}
 use Rattle.query_lang.specs.Streams.{Tuple, all_streams, stream}
-use Rattle.query_lang.specs.TypedStreams.{column_names, same_origin, clashes_with, clash, others_from, columns_at}
-use Rattle.query_laws.proofs.Steps.{nat_same, nat_is}
+use Rattle.query_laws.proofs.Terms.{Zip, TypedQuery, Origin, StreamColumn, is_among, place_from, column_names, same_origin, clashes_with}
+use Rattle.query_laws.proofs.Terms.{clash, others_from, columns_at}
+use Rattle.query_laws.proofs.{Steps.nat_same, Steps.nat_is, Typed.field_view}
 use Rattle.query_laws.specs.Columns.{columns_of, operator_of, IsZip, value_under}
 use Rattle.query_laws.specs.TupleLaws.{ColumnsAgree, ColumnsAreKept}
 use Rattle.query_laws.proofs.Views.{View, ZipAt, zip_made}
-use Rattle.query_laws.proofs.Typed.{field_view}
 use Rattle.query_laws.proofs.Values.{Values, row_of, have_at}
 use Rattle.query_laws.proofs.Rows.{HasRows, names_are, row_in}
 

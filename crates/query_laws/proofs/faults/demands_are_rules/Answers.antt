@@ -1,5 +1,4 @@
-use Rattle.query_laws.proofs.ItemsMeet.{item_meets}
-use Rattle.query_laws.proofs.QueryFaults.{all_met}
+use Rattle.query_laws.proofs.{ItemsMeet.item_meets, QueryFaults.all_met}
 use Rattle.query_laws.proofs.faults.demands_are_rules.Goals as goal
 
 pub returns : goal.returns

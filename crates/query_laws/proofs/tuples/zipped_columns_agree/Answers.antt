@@ -1,6 +1,4 @@
-use Rattle.query_laws.proofs.QueryLaws.{query_complete}
-use Rattle.query_laws.proofs.Rows.{has_rows}
-use Rattle.query_laws.proofs.Zips.{columns_agree}
+use Rattle.query_laws.proofs.{QueryLaws.query_complete, Rows.has_rows, Zips.columns_agree}
 use Rattle.query_laws.proofs.tuples.zipped_columns_agree.Goals as goal
 
 pub returns : goal.returns

@@ -1,5 +1,4 @@
-use Rattle.query_laws.proofs.ExprSound.{condition_sound}
-use Rattle.query_laws.proofs.ExprComplete.{condition_complete}
+use Rattle.query_laws.proofs.{ExprSound.condition_sound, ExprComplete.condition_complete}
 use Rattle.query_laws.proofs.typing.conditions_agree.Goals as goal
 
 pub returns : goal.returns

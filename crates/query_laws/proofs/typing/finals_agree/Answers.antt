@@ -1,5 +1,4 @@
-use Rattle.query_laws.specs.Context.{earlier_of}
-use Rattle.query_laws.proofs.FinalLaws.{made_final_sound, made_final_complete}
+use Rattle.query_laws.proofs.{Terms.earlier_of, FinalLaws.made_final_sound, FinalLaws.made_final_complete}
 use Rattle.query_laws.proofs.typing.finals_agree.Goals as goal
 
 pub returns : goal.returns

@@ -1,5 +1,4 @@
-use Rattle.query_laws.proofs.ExprSound.{word_sound}
-use Rattle.query_laws.proofs.ExprComplete.{word_complete}
+use Rattle.query_laws.proofs.{ExprSound.word_sound, ExprComplete.word_complete}
 use Rattle.query_laws.proofs.typing.words_agree.Goals as goal
 
 pub returns : goal.returns
