@@ -35,8 +35,8 @@ accepted_sound text t e =
 
 pub accepted_complete : {text : List ℕ} {t : TypedQuery} → IsAcceptedAs text t → accepted text ≡ Ok t
 unfolding accepted
-accepted_complete {text} {t} h = then_next (λ (z : Query). and_then (checked z) staged) (text_of_query text h.query h.derives)
-    ∙ then_next staged (query_complete h.typed) ∙ ap (λ (o : Option QueryFault). unless_fault o t) (no_stage_fault t h.fits)
+accepted_complete {text} {t} h = then_next _ (text_of_query text h.query h.derives)
+    ∙ then_next _ (query_complete h.typed) ∙ ap (λ (o : Option QueryFault). unless_fault o t) (no_stage_fault t h.fits)
 
 pub accepted_once : {text : List ℕ} {t u : TypedQuery} → IsAcceptedAs text t → IsAcceptedAs text u → t ≡ u
 accepted_once {t} {u} h k = same_ok t u (sym (accepted_complete h) ∙ accepted_complete k)
@@ -67,13 +67,13 @@ breaks_rule (kinds.OverLimit limit) h e = item_breaks (λ k. cc k) e
 breaks_rule _ h e = absurd h
 
 untyped : {text : List ℕ} {q : Query} {fault : QueryFault} → parsed_text text ≡ Ok q → checked q ≡ Err fault → IsRefusedFor text fault
-untyped {text} {q} {fault} p is = by_typing (query_of_text text q p) is (breaks_rule fault.kind (only_these q is) is) (λ t h. no_form is h)
+untyped {text} {q} {fault} p is = by_typing (query_of_text text q p) is (breaks_rule _ (only_these q is) is) (λ t h. no_form is h)
 
 cause : {text : List ℕ} {fault : QueryFault} → accepted text ≡ Err fault → IsRefusedFor text fault
 unfolding accepted
-cause {text} {fault} e = by_next (parsed_text text) e (λ is. by_grammar (fault_of_text text fault is)) (λ q p e.
-    by_next (checked q) e (λ is. untyped p is) (λ t r e.
-    let deep = too_deep (stage_fault t) t e in
+cause {text} {fault} e = by_next _ e (λ is. by_grammar (fault_of_text text fault is)) (λ q p e.
+    by_next _ e (λ is. untyped p is) (λ t r e.
+    let deep = too_deep _ t e in
     by_stages (query_of_text text q p) (query_sound q t r) deep (not_fit t deep)))
 
 pub refused : {text : List ℕ} {fault : QueryFault} → accepted text ≡ Err fault → IsRefusedFor text fault

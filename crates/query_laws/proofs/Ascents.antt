@@ -51,8 +51,8 @@ group_rises : (f : Option TypedFold) (keys args : List ℕ) (from end : ℕ) (tu
     → Rises from end (group_stream f keys args tuples)
 group_rises None keys args from end tuples h = tt
 group_rises (Some f) keys args from end tuples h =
-    map_rises (λ t. values_at t.row keys) from end (filter (λ t. emits_at f (values_at t.row args)) tuples)
-    (filter_rises (λ t. emits_at f (values_at t.row args)) from end tuples h)
+    map_rises _ _ _ _
+    (filter_rises _ _ _ _ h)
 
 -- ---- all streams
 
@@ -73,13 +73,13 @@ rise_last end (first ∷ streams) one h k = (h.0, rise_last end streams one h.1 
 made_rises : (folds : List TypedFold) (end : ℕ) (streams : List (List Tuple)) (op : TypedOp) → AllRise end streams
     → Rises 1 end (made_of folds streams op)
 made_rises folds end streams (Filter input condition) h =
-    filter_rises (λ t. holds (expr_value condition t.row)) 1 end (tuples_at streams input) (rise_at end streams input h)
+    filter_rises _ 1 _ _ (rise_at _ _ _ h)
 made_rises folds end streams (Map input values) h =
-    map_rises (λ t. t.row ++ map (λ e. expr_value e t.row) values) 1 end (tuples_at streams input) (rise_at end streams input h)
+    map_rises _ 1 _ _ (rise_at _ _ _ h)
 made_rises folds end streams (Zip left right slots) h =
-    zip_rises slots (tuples_at streams right) 1 end (tuples_at streams left) (rise_at end streams left h)
+    zip_rises _ _ 1 _ _ (rise_at _ _ _ h)
 made_rises folds end streams (Group input keys f args) h =
-    group_rises (slice_get folds f) keys args 1 end (tuples_at streams input) (rise_at end streams input h)
+    group_rises _ _ _ 1 _ _ (rise_at _ _ _ h)
 
 rise_along : (folds : List TypedFold) (end : ℕ) (list : List TypedStream) (streams : List (List Tuple)) → AllRise end streams
     → AllRise end (fold (λ streams one. streams ++ made_of folds streams one.op ∷ []) streams list)

@@ -39,8 +39,8 @@ emit_is (t ∷ others) = refl
 fits_inside : {states : List ℕ} {around : List TypedExpr} {outer : Enclosing} {written : Expr} {t : TypedExpr} → Fits states around outer
     → Reads states written t → Fits states (t ∷ around) (inside states outer written t)
 fits_inside {around} {outer} {t} f r = record {
-  condition = ap (λ (o : Option TypedExpr). Some (joined o t)) f.condition ∙ ap Some (one_more t around);
-  past = λ e. let p = neither outer.state e in (r.past p.1, f.past p.0);
+  condition = ap (λ (o : Option TypedExpr). Some (joined o t)) f.condition ∙ ap Some (one_more t _);
+  past = λ e. let p = neither _ e in (r.past p.1, f.past p.0);
   none = λ h. both_none (f.none h.1) (r.none h.0);
 }
 
@@ -55,7 +55,7 @@ target_stands states args name {v} e = go (place_of states name.id) refl (is_amo
     go : (o : Option ℕ) → place_of states name.id ≡ o → (b : Bool) → target_at o b name.span ≡ Ok v → StandsAt states v name.id
     go (Some slot) is b e =
         let same : slot ≡ v = cc in
-        place_stands states name.id v (is ∙ ap Some same)
+        place_stands _ _ v (is ∙ ap Some same)
     go None is true e = cc e
     go None is false e = cc e
 
@@ -104,7 +104,7 @@ block_of_sound : {states args : List ℕ} (ss : List (Sound states args)) {aroun
     → Fits states around outer → in_order (map (stmt_checked states args) (map (λ s. s.0) ss)) outer found ≡ Ok made
     → IsBlock states args around (map (λ s. s.0) ss) found made
 block_of_sound [] {around} {found} {made} f e =
-    let same = same_ok found made e in
+    let same = same_ok _ _ e in
     record {
       ts = [];
       es = [];
@@ -145,20 +145,18 @@ step {states} {args} (stmt.Assign x e) around outer found made f is =
 step {states} {args} (stmt.If c a b) around outer found made f is =
     let firsts = map (λ (s : Sound states args). s.0) a in
     let seconds = map (λ (s : Sound states args). s.0) b in
-    let condition = found_first (condition_of (states ++ args) [] c) _ made is in
+    let condition = found_first _ _ _ is in
     let t = condition.0 in
-    let one = found_first (in_order (map (stmt_checked states args) firsts) (inside states outer c t)
-    (record { statements = []; emit = found.emit })) _ made condition.2 in
-    let two = found_first (in_order (map (stmt_checked states args) seconds) (inside states outer c (typed.Not t))
-    (record { statements = []; emit = one.0.emit })) _ made one.2 in
+    let one = found_first _ _ _ condition.2 in
+    let two = found_first _ _ _ one.2 in
     let rule = condition_sound [] condition.1 in
-    let r = reads args rule in
+    let r = reads _ rule in
     let p = block_of_sound a (fits_inside f r) one.1 in
     let q = block_of_sound b (fits_inside f (not_reads r)) two.1 in
     let P : List TypedStmt → Type 0 = λ z. HasBlock states args (t ∷ around) firsts z p.es in
     let Q : List TypedStmt → Type 0 = λ z. HasBlock states args (typed.Not t ∷ around) seconds z q.es in
     let B : Body → Type 0 = λ z. Added states args around (whole.If c firsts seconds) found z in
-    moved (rolls-If c firsts seconds) (subst B (same_ok _ made two.2) (record {
+    moved (rolls-If c firsts seconds) (subst B (same_ok _ _ two.2) (record {
       ts = typed_stmt.If t one.0.statements two.0.statements ∷ [];
       es = p.es ++ q.es;
       statements = refl;
@@ -232,22 +230,22 @@ pub block_complete : {states args : List ℕ} {around : List TypedExpr} {ss : Li
     ++ es ≡ at_most_one last
     → in_order (map (stmt_checked states args) ss) outer found ≡ Ok (record { statements = found.statements ++ ts; emit = last })
 block_complete (of_none around) found {last} f e = bodies (sym (append-nil found.statements))
-    (same_one found.emit last (sym (append-nil (at_most_one found.emit)) ∙ e))
+    (same_one _ _ (sym (append-nil (at_most_one found.emit)) ∙ e))
 block_complete {states} {args} (of_assign x {v} {e} {t} {ts} stands word h) {outer} found f k = then_next _ (
-    stmt_is states args (stmt.Assign x e) (rolls-Assign x e) outer found
-    ∙ then_next _ (ap (λ (o : Option ℕ). target_at o (is_among x.id args) x.span) (stands_place states x.id stands))
+    stmt_is _ _ _ (rolls-Assign x e) _ _
+    ∙ then_next _ (ap (λ (o : Option ℕ). target_at o (is_among x.id args) x.span) (stands_place _ _ stands))
     ∙ then_next _ (word_complete [] word)) ∙ block_complete h _ f k
     ∙ bodies (append_assoc found.statements (typed_stmt.Assign v t ∷ []) ts) refl
 block_complete {states} {args} (of_if {c} {t} {a} {b} {xs} {ys} {ts} {first} {second} {others} rule ha hb h) {outer} found {last} f k =
-    let r = reads args rule in
+    let r = reads _ rule in
     let front = append_assoc (at_most_one found.emit) (first ++ second) others ∙ k in
-    let two = first_part (at_most_one found.emit ++ (first ++ second)) others last front in
+    let two = first_part _ _ _ front in
     let inner = append_assoc (at_most_one found.emit) first second ∙ two.1 in
-    let one = first_part (at_most_one found.emit ++ first) second two.0 inner in
+    let one = first_part _ _ _ inner in
     then_next _ (
-    stmt_is states args (stmt.If c a b) (rolls-If c a b) outer found ∙ then_next _ (condition_complete [] rule)
-    ∙ then_next _ (block_complete ha (record { statements = []; emit = found.emit }) (fits_inside f r) one.1)
-    ∙ then_next _ (block_complete hb (record { statements = []; emit = one.0 }) (fits_inside f (not_reads r))
+    stmt_is _ _ _ (rolls-If c a b) _ _ ∙ then_next _ (condition_complete [] rule)
+    ∙ then_next _ (block_complete ha _ (fits_inside f r) one.1)
+    ∙ then_next _ (block_complete hb _ (fits_inside f (not_reads r))
     (sym (ap (λ (z : List TypedExpr). z ++ second) one.1) ∙ inner)))
     ∙ block_complete h _ f (sym (ap (λ (z : List TypedExpr). z ++ others) two.1) ∙ front)
     ∙ bodies (append_assoc found.statements (typed_stmt.If t xs ys ∷ []) ts) refl

@@ -22,13 +22,13 @@ use Rattle.query_laws.proofs.StateFaults.{has_state, Knows, knows_inside}
 pub with_more : {outer : List Expr} {front : List Stmt} (back : List Stmt) {around : List Expr} {s : Stmt} → StandsIn outer front around s
     → StandsIn outer (front ++ back) around s
 with_more back parts.first = parts.first
-with_more back (parts.later h) = parts.later (with_more back h)
-with_more back (parts.in_first a b rest h) = parts.in_first a b (rest ++ back) h
+with_more back (parts.later h) = parts.later (with_more _ h)
+with_more back (parts.in_first a b rest h) = parts.in_first a b _ h
 with_more back (parts.in_second a h) = parts.in_second a h
 
 follows_more : {span : Span} {front : List Stmt} (back : List Stmt) → FollowsEmit span front → FollowsEmit span (front ++ back)
-follows_more back (parts.beyond h i) = parts.beyond h (with_more back i)
-follows_more back (parts.later s rest h) = parts.later s (rest ++ back) (follows_more back h)
+follows_more back (parts.beyond h i) = parts.beyond h (with_more _ i)
+follows_more back (parts.later s rest h) = parts.later s (rest ++ back) (follows_more _ h)
 follows_more back (parts.across c a h i) = parts.across c a h i
 follows_more back (parts.in_first c b h) = parts.in_first c b h
 follows_more back (parts.in_second c a h) = parts.in_second c a h
@@ -40,7 +40,7 @@ elsewhere {others} parts.first = (others, parts.first)
 elsewhere (parts.later h) =
     let m = elsewhere h in (m.0, parts.later m.1)
 elsewhere (parts.in_first a b rest h) =
-    let m = elsewhere h in (m.0, parts.in_first a b rest m.1)
+    let m = elsewhere h in (m.0, parts.in_first a b _ m.1)
 elsewhere (parts.in_second a h) =
     let m = elsewhere h in (m.0, parts.in_second a m.1)
 
@@ -63,7 +63,7 @@ emit_after : {s : Stmt} {rest : List Stmt} → HasEmit rest → HasEmit (s ∷ r
 emit_after h = (h.0, h.1, parts.later h.2)
 
 emit_before : {s : Stmt} {rest : List Stmt} → HasEmit (s ∷ []) → HasEmit (s ∷ rest)
-emit_before {rest} h = (h.0, h.1, with_more rest h.2)
+emit_before {rest} h = (h.0, h.1, with_more _ h.2)
 
 emits_both : (found middle made : Body) {s : Stmt} {rest : List Stmt} → Emits found middle (s ∷ []) → Emits middle made rest
     → Emits found made (s ∷ rest)
@@ -89,7 +89,7 @@ emits_moved found made is h = let S : Stmt → Type 0 = λ z. Emits found made (
 
 emit_in_first : {c : Expr} {a : List Stmt} (b : List Stmt) → HasEmit a → HasEmit (block.If c a b ∷ [])
 emit_in_first {a} b h = let m = elsewhere h.2
-    in (m.0, h.1, parts.in_first a b [] m.1)
+    in (m.0, h.1, parts.in_first a b _ m.1)
 
 emit_in_second : {c : Expr} (a : List Stmt) {b : List Stmt} → HasEmit b → HasEmit (block.If c a b ∷ [])
 emit_in_second a h = let m = elsewhere h.2
@@ -134,7 +134,7 @@ stmt_emits : (states args : List ℕ) (s : Stmt) → TellsEmit states args s
 stmt_emits states args = ind-Stmt (TellsEmit states args) (λ x y is outer found made e.
     let L : stmt.Stmt-F Stmt → Type 0 = λ z. stmt_step states args (map-Stmt Stmt Adding (stmt_checked states args) z) outer found ≡ Ok made
     → Emits found made (roll-Stmt z ∷ []) in
-    subst L is (emit_step states args y outer found) (sym (ap (λ (g : Adding). g outer found)
+    subst L is (emit_step _ _ y _ _) (sym (ap (λ (g : Adding). g outer found)
     (fold-roll-Stmt Adding (stmt_step states args) x)) ∙ e))
 
 all_emit : (states args : List ℕ) (ss : List Stmt) (outer : Enclosing) (found : Body) {made : Body}
@@ -160,9 +160,9 @@ module _ (states args : List ℕ) (known : List Known) (fault : QueryFault) wher
   InBlock outer ss has = BlockTold states args outer ss has known fault
 
   told_more : {outer : List Expr} {front : List Stmt} (back : List Stmt) {has : Bool} → InBlock outer front has → InBlock outer (front ++ back) has
-  told_more back (at_statement h b) = at_statement (with_more back h) b
-  told_more back (second span e h is) = second span e (with_more back h) is
-  told_more back (follows e h) = follows e (follows_more back h)
+  told_more back (at_statement h b) = at_statement (with_more _ h) b
+  told_more back (second span e h is) = second _ e (with_more _ h) is
+  told_more back (follows e h) = follows e (follows_more _ h)
 
   told_after : {outer : List Expr} {s : Stmt} {rest : List Stmt} {has has_then : Bool} → (has_then ≡ true → (has ≡ true) ⊎ HasEmit (s ∷ []))
       → InBlock outer rest has_then → InBlock outer (s ∷ rest) has
@@ -170,14 +170,14 @@ module _ (states args : List ℕ) (known : List Known) (fault : QueryFault) wher
   told_after {outer} {s} {rest} {has} emits (second span e h is) = go (emits is)
     where
       go : (has ≡ true) ⊎ HasEmit (s ∷ []) → InBlock outer (s ∷ rest) has
-      go (inl had) = second span e (parts.later h) had
+      go (inl had) = second _ e (parts.later h) had
       go (inr there) = let m = elsewhere h in follows e (parts.beyond there m.1)
   told_after {s} {rest} emits (follows e h) = follows e (parts.later s rest h)
 
   told_first : {outer : List Expr} {c : Expr} {a : List Stmt} (b : List Stmt) {has : Bool} → InBlock (c ∷ outer) a has
       → InBlock outer (block.If c a b ∷ []) has
-  told_first {a} b (at_statement h k) = at_statement (parts.in_first a b [] h) k
-  told_first {a} b (second span e h is) = second span e (parts.in_first a b [] h) is
+  told_first {a} b (at_statement h k) = at_statement (parts.in_first a b _ h) k
+  told_first {a} b (second span e h is) = second _ e (parts.in_first a b _ h) is
   told_first {c} b (follows e h) = follows e (parts.in_first c b h)
 
   told_second : {outer : List Expr} {c : Expr} {a b : List Stmt} {has has_then : Bool} → (has_then ≡ true → (has ≡ true) ⊎ HasEmit a)
@@ -186,7 +186,7 @@ module _ (states args : List ℕ) (known : List Known) (fault : QueryFault) wher
   told_second {outer} {c} {a} {b} {has} emits (second span e h is) = go (emits is)
     where
       go : (has ≡ true) ⊎ HasEmit a → InBlock outer (block.If c a b ∷ []) has
-      go (inl had) = second span e (parts.in_second a h) had
+      go (inl had) = second _ e (parts.in_second a h) had
       go (inr there) = let m = elsewhere h in follows e (parts.across c a there m.1)
   told_second {c} {a} emits (follows e h) = follows e (parts.in_second c a h)
 
@@ -200,12 +200,12 @@ module _ (states args : List ℕ) (known : List Known) (fault : QueryFault) wher
       go None place true among is = record {
         demand = Target states args x;
         asks = of_target e;
-        tells = told known (Target states args x) (same_fault is) (refl, place_none states x.id place, not_new x.id args among);
+        tells = told _ _ (same_fault is) (refl, place_none _ _ place, not_new _ _ among);
       }
       go None place false among is = record {
         demand = Target states args x;
         asks = of_target e;
-        tells = told known (Target states args x) (same_fault is) (refl, place_none states x.id place, among_new x.id args among);
+        tells = told _ _ (same_fault is) (refl, place_none _ _ place, among_new x.id args among);
       }
 
   abbrev IsToldStmt : Stmt → Type 0
@@ -242,19 +242,19 @@ module _ (states args : List ℕ) (known : List Known) (fault : QueryFault) wher
       go None is e = no_fault e
       go (Some at) is e =
           let k = knows at is in
-          let m = has_state states k.0 at k.2 in
+          let m = has_state _ _ at k.2 in
           let inner = m.1 Condition in
           record {
             demand = ReadsNone states k.0;
-            asks = of_emit span k.1;
-            tells = told known (ReadsNone states k.0) (same_fault e) (m.0, (Condition, inner.0, inner.1), m.2, not_new m.0.id states m.3);
+            asks = of_emit _ k.1;
+            tells = told _ _ (same_fault e) (m.0, (Condition, inner.0, inner.1), m.2, not_new _ _ m.3);
           }
 
   told_step : (y : stmt.Stmt-F ToldStmt) {around : List Expr} (outer : Enclosing) (found : Body) → Knows states around outer
       → stmt_step states args (map-Stmt Stmt Adding (stmt_checked states args) (map-Stmt ToldStmt Stmt (λ s. s.0) y)) outer found ≡ Err
       fault → InBlock around (roll-Stmt (map-Stmt ToldStmt Stmt (λ s. s.0) y) ∷ []) (is_some found.emit)
   told_step (stmt.Assign x e) outer found knows is = stmt_moved (rolls-Assign x e) (
-      by_next (target_of states args x) is (λ is. here (target_told is)) (λ v p is. by_next (word_of (states ++ args) [] e) is (λ is.
+      by_next _ is (λ is. here (target_told is)) (λ v p is. by_next _ is (λ is.
       let b = word_told is in
       here (record {
         demand = b.demand;
@@ -278,12 +278,12 @@ module _ (states args : List ℕ) (known : List Known) (fault : QueryFault) wher
   stmt_told = ind-Stmt IsToldStmt (λ x y is around outer found knows e.
       let L : stmt.Stmt-F Stmt → Type 0 = λ z. stmt_step states args (map-Stmt Stmt Adding (stmt_checked states args) z) outer found ≡ Err
       fault → InBlock around (roll-Stmt z ∷ []) (is_some found.emit) in
-      subst L is (told_step y outer found knows) (sym (ap (λ (g : Adding). g outer found)
+      subst L is (told_step y _ _ knows) (sym (ap (λ (g : Adding). g outer found)
       (fold-roll-Stmt Adding (stmt_step states args) x)) ∙ e))
 
   pub body_told : (ss : List Stmt) {around : List Expr} (outer : Enclosing) (found : Body) → Knows states around outer
       → in_order (map (stmt_checked states args) ss) outer found ≡ Err fault → InBlock around ss (is_some found.emit)
   body_told [] outer found knows e = no_fault e
-  body_told (s ∷ ss) {around} outer found knows e = by_next (stmt_checked states args s outer found) e
-      (λ is. told_more ss (stmt_told s around outer found knows is)) (λ more is e. told_after (stmt_emits states args s outer found more is)
-      (body_told ss outer more knows e))
+  body_told (s ∷ ss) {around} outer found knows e = by_next _ e
+      (λ is. told_more _ (stmt_told s around outer found knows is)) (λ more is e. told_after (stmt_emits _ _ s outer found more is)
+      (body_told _ _ _ knows e))

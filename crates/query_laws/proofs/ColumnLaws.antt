@@ -49,7 +49,7 @@ slots_within columns (id ∷ ids) (slot ∷ slots) h = (stands_within columns sl
 -- the columns of a groupby, from its keys' slots
 pub keys_there : (columns : List StreamColumn) (ids slots : List ℕ) → HasSlots (column_names columns) ids slots
     → AreAt columns slots (columns_at columns slots)
-keys_there columns ids slots h = are_there columns slots (slots_within columns ids slots h)
+keys_there columns ids slots h = are_there _ _ (slots_within _ _ _ h)
 
 -- ---- the columns with other names
 
@@ -61,13 +61,13 @@ others_are {names} (of_named {slot} {column} {rest} {slots} h more) = go (is_amo
     go : (b : Bool) → is_among column.name names ≡ b → slots ≡ others_from (slot + 1) names rest
         → slots ≡ cond b (others_from (slot + 1) names rest) (slot ∷ others_from (slot + 1) names rest)
     go true is same = same
-    go false is same = absurd (h (among_new column.name names is))
+    go false is same = absurd (h (among_new _ _ is))
 others_are {names} (of_other {slot} {column} {rest} h more) = ap (λ (z : List ℕ). slot ∷ z) (others_are more)
     ∙ sym (ap (λ (b : Bool). cond b (others_from (slot + 1) names rest) (slot ∷ others_from (slot + 1) names rest))
-    (new_among column.name names h))
+    (new_among _ _ h))
 
 others_found : (names : List ℕ) (slot : ℕ) (columns : List StreamColumn) → AreOthers names slot columns (others_from slot names columns)
-others_found names slot [] = of_none slot
+others_found names slot [] = of_none _
 others_found names slot (column ∷ rest) = go (is_among column.name names) refl (others_found names (slot + 1) rest)
   where
     more : List ℕ

@@ -65,7 +65,7 @@ operand _ s e = kind_word s e
 constant : (columns hidden : List ℕ) {test : ℕ → Bool} {Q : ℕ → Type 0} {e : Expr} {found : Found} → ((n : ℕ) → Q n → test n ≡ true)
     → expr_checked columns hidden e ≡ Ok found → IsNumberWith Q e → is_number_with test found.sort ≡ true
 constant columns hidden {test} {found} tells is h =
-    let same = same_ok _ found (sym (number_is columns hidden) ∙ ap (expr_checked columns hidden) (sym h.2) ∙ is) in
+    let same = same_ok _ _ (sym (number_is _ _) ∙ ap (expr_checked columns hidden) (sym h.2) ∙ is) in
     sym (ap (λ (f : Found). is_number_with test f.sort) same) ∙ tells h.0 h.3
 
 below : {k n : ℕ} → k < n → nat_lt k n ≡ true
@@ -73,11 +73,11 @@ below h = grind arith
 
 pub right : (columns hidden : List ℕ) (op : Op) (e : Expr) (found : Found) → expr_checked columns hidden e ≡ Ok found → IsRightOperand op e
     → is_right_constant op found.sort ≡ true
-right columns hidden Div e found is h = constant columns hidden (λ k c. below c) is h
-right columns hidden Rem e found is h = constant columns hidden (λ k c. below c) is h
-right columns hidden Shl e found is h = constant columns hidden (λ k c. below c) is h
-right columns hidden Shr e found is h = constant columns hidden (λ k c. below c) is h
-right columns hidden Decay e found is h = constant columns hidden (λ k c. below c) is h
+right columns hidden Div e found is h = constant _ _ (λ k c. below c) is h
+right columns hidden Rem e found is h = constant _ _ (λ k c. below c) is h
+right columns hidden Shl e found is h = constant _ _ (λ k c. below c) is h
+right columns hidden Shr e found is h = constant _ _ (λ k c. below c) is h
+right columns hidden Decay e found is h = constant _ _ (λ k c. below c) is h
 right columns hidden _ e found is h = refl
 
 abbrev pair : Op → Span → Found → Found → Found
@@ -85,8 +85,8 @@ pair op at x y = record { tree = typed.Binary op x.tree y.tree; sort = sort_of o
 
 two : {columns hidden : List ℕ} {op : Op} {at : Span} {a b : Expr} {s t : TypedExpr} (x : Gives columns hidden (operand_kind op) a s)
     (y : Gives columns hidden (operand_kind op) b t) → IsRightOperand op b → of_two op at x.found y.found ≡ Ok (pair op at x.found y.found)
-two {columns} {hidden} {op} {b} x y c = must_holds _ _ (operand op x.found.sort x.kind) ∙ must_holds _ _ (operand op y.found.sort y.kind)
-    ∙ must_holds _ _ (right columns hidden op b y.found y.is c)
+two {columns} {hidden} {op} {b} x y c = must_holds _ _ (operand _ _ x.kind) ∙ must_holds _ _ (operand _ _ y.kind)
+    ∙ must_holds _ _ (right _ _ _ b _ y.is c)
 
 pair_tree : {op : Op} (at : Span) (x y : Found) {s t : TypedExpr} → x.tree ≡ s → y.tree ≡ t → (pair op at x y).tree ≡ typed.Binary op s t
 pair_tree {op} at x y {s} p q = ap (λ (z : TypedExpr). typed.Binary op z y.tree) p ∙ ap (typed.Binary op s) q
@@ -94,22 +94,22 @@ pair_tree {op} at x y {s} p q = ap (λ (z : TypedExpr). typed.Binary op z y.tree
 pub complete : {columns : List ℕ} (hidden : List ℕ) {k : Kind} {e : Expr} {t : TypedExpr} → HasKind columns k e t → Gives columns hidden k e t
 complete {columns} hidden (of_number {n} span) = record {
   found = record { tree = typed.Number n; sort = sort.Number n; at = span };
-  is = number_is columns hidden;
+  is = number_is _ _;
   tree = refl;
   kind = refl;
 }
 complete {columns} hidden (of_name x {slot} stands) = record {
   found = record { tree = typed.Slot slot; sort = sort.Word; at = x.span };
-  is = named_is columns hidden x ∙ then_next _ (ap (λ (o : Option ℕ). slot_at o (is_among x.id hidden) x.span)
-      (stands_place columns x.id stands));
+  is = named_is _ _ x ∙ then_next _ (ap (λ (o : Option ℕ). slot_at o (is_among x.id hidden) x.span)
+      (stands_place _ _ stands));
   tree = refl;
   kind = refl;
 }
 complete {columns} hidden (of_not span {e} h) =
-    let x = complete hidden h in
+    let x = complete _ h in
     record {
       found = record { tree = typed.Not x.found.tree; sort = sort.Condition; at = span };
-      is = not_is columns hidden span e ∙ then_next (negation_checked span) x.is ∙ must_holds _ _ (kind_condition x.found.sort x.kind);
+      is = not_is _ _ _ e ∙ then_next _ x.is ∙ must_holds _ _ (kind_condition _ x.kind);
       tree = ap typed.Not x.tree;
       kind = refl;
     }
@@ -137,12 +137,12 @@ complete {columns} hidden (of_call {op} span {a} {b} h i c) =
 pub condition_complete : {columns : List ℕ} (hidden : List ℕ) {e : Expr} {tree : TypedExpr} → HasKind columns Condition e tree
     → condition_of columns hidden e ≡ Ok tree
 condition_complete hidden h =
-    let x = complete hidden h in
-    then_next _ x.is ∙ must_holds _ _ (kind_condition x.found.sort x.kind)
+    let x = complete _ h in
+    then_next _ x.is ∙ must_holds _ _ (kind_condition _ x.kind)
     ∙ ap (λ (t : TypedExpr). let r : Checked TypedExpr = Ok t in r) x.tree
 
 pub word_complete : {columns : List ℕ} (hidden : List ℕ) {e : Expr} {tree : TypedExpr} → HasKind columns Word e tree
     → word_of columns hidden e ≡ Ok tree
 word_complete hidden h =
-    let x = complete hidden h in
-    then_next _ x.is ∙ must_holds _ _ (kind_word x.found.sort x.kind) ∙ ap (λ (t : TypedExpr). let r : Checked TypedExpr = Ok t in r) x.tree
+    let x = complete _ h in
+    then_next _ x.is ∙ must_holds _ _ (kind_word _ x.kind) ∙ ap (λ (t : TypedExpr). let r : Checked TypedExpr = Ok t in r) x.tree

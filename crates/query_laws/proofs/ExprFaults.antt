@@ -30,10 +30,10 @@ none_from (name ∷ rest) at id e = go (nat_eq name id) refl (λ k. none_from re
     go false is more e = (nat_other is, more e)
 
 pub place_none : (names : List ℕ) (id : ℕ) → place_of names id ≡ None → IsNew id names
-place_none names id e = none_from names 0 id e
+place_none names id e = none_from _ 0 _ e
 
 pub not_new : (id : ℕ) (names : List ℕ) → is_among id names ≡ true → IsNew id names → ⊥
-not_new id names is new = not_both (is_among id names) (new_among id names new) is
+not_new id names is new = not_both _ (new_among _ _ new) is
 
 pub slot_told : (columns hidden : List ℕ) (x : Name) {fault : QueryFault} → slot_of columns hidden x ≡ Err fault
     → (known : List Known) → Tells known fault.kind fault.span (AColumn columns hidden x.id x.span)
@@ -42,10 +42,10 @@ slot_told columns hidden x {fault} e known = go (place_of columns x.id) refl (is
     go : (o : Option ℕ) → place_of columns x.id ≡ o → (b : Bool) → is_among x.id hidden ≡ b → slot_at o b x.span ≡ Err fault
         → Tells known fault.kind fault.span (AColumn columns hidden x.id x.span)
     go (Some slot) is b among e = no_fault e
-    go None is true among e = told known (AColumn columns hidden x.id x.span) (same_fault e)
-        (refl, place_none columns x.id is, not_new x.id hidden among)
-    go None is false among e = told known (AColumn columns hidden x.id x.span) (same_fault e)
-        (refl, place_none columns x.id is, among_new x.id hidden among)
+    go None is true among e = told _ _ (same_fault e)
+        (refl, place_none _ _ is, not_new _ _ among)
+    go None is false among e = told _ _ (same_fault e)
+        (refl, place_none _ _ is, among_new _ _ among)
 
 -- ---- the leftmost token
 
@@ -59,7 +59,7 @@ two_at op x y {found} e =
 call_at : (op : Op) {span : Span} (fs : List Found) {found : Found} → call_of op span fs ≡ Ok found → found.at ≡ span
 call_at op [] e = cc e
 call_at op (f ∷ []) e = cc e
-call_at op (f ∷ g ∷ []) e = two_at op f g e
+call_at op (f ∷ g ∷ []) e = two_at _ f g e
 call_at op (f ∷ g ∷ h ∷ fs) e = cc e
 
 abbrev StandsLeft : List ℕ → List ℕ → Expr → Type 0
@@ -69,7 +69,7 @@ left_step : (columns hidden : List ℕ) (y : expr.Expr-F ((e : Expr) × StandsLe
     → expr_step columns hidden (map-Expr Expr (Checked Found) (expr_checked columns hidden)
     (map-Expr ((e : Expr) × StandsLeft columns hidden e) Expr (λ a. a.0) y)) ≡ Ok found
     → found.at ≡ leftmost_step (map-Expr Expr Span leftmost (map-Expr ((e : Expr) × StandsLeft columns hidden e) Expr (λ a. a.0) y))
-left_step columns hidden (expr.Number n span) {found} e = sym (ap (λ (f : Found). f.at) (same_ok _ found e))
+left_step columns hidden (expr.Number n span) {found} e = sym (ap (λ (f : Found). f.at) (same_ok _ _ e))
 left_step columns hidden (expr.Named x) {found} e =
     let first = found_first (slot_of columns hidden x) _ found e in sym (ap (λ (f : Found). f.at) (same_ok _ found first.2))
 left_step columns hidden (expr.Not span a) {found} e =
@@ -88,25 +88,25 @@ pub stands_left : (columns hidden : List ℕ) (e : Expr) → StandsLeft columns 
 stands_left columns hidden = ind-Expr (StandsLeft columns hidden) (λ x y is found e.
     let L : expr.Expr-F Expr → Type 0 = λ z. expr_step columns hidden (map-Expr Expr (Checked Found) (expr_checked columns hidden) z) ≡ Ok
     found → found.at ≡ leftmost_step (map-Expr Expr Span leftmost z) in
-    subst L is (left_step columns hidden y) (sym (fold-roll-Expr (Checked Found) (expr_step columns hidden) x) ∙ e)
+    subst L is (left_step _ _ y) (sym (fold-roll-Expr (Checked Found) (expr_step columns hidden) x) ∙ e)
     ∙ sym (fold-roll-Expr Span leftmost_step x))
 
 -- ---- what is asked of a part is asked
 
 through : {k : Kind} {e : Expr} {l : Kind} {a : Expr} {m : Kind} {p : Expr} → HasPart k e l a → HasPart l a m p → HasPart k e m p
 through parts.whole q = q
-through (of_not span h) q = of_not span (through h q)
-through (of_left op span a b h) q = of_left op span a b (through h q)
-through (parts.of_right op span a h) q = parts.of_right op span a (through h q)
-through (of_argument op span i h) q = of_argument op span i (through h q)
+through (of_not span h) q = of_not _ (through h q)
+through (of_left op span a b h) q = of_left _ _ a b (through h q)
+through (parts.of_right op span a h) q = parts.of_right _ _ a (through h q)
+through (of_argument op span i h) q = of_argument _ _ i (through h q)
 
 asks_through : {columns hidden : List ℕ} {k : Kind} {e : Expr} {l : Kind} {a : Expr} {d : Demand} → HasPart k e l a
     → ExprAsks columns hidden l a d → ExprAsks columns hidden k e d
 asks_through p (of_part h) = of_part (through p h)
 asks_through p (of_name x h) = of_name x (through p h)
-asks_through p (of_call op h) = of_call op (through p h)
-asks_through p (of_right span x h) = of_right span x (through p h)
-asks_through p (of_second span x h) = of_second span x (through p h)
+asks_through p (of_call op h) = of_call _ (through p h)
+asks_through p (of_right span x h) = of_right _ x (through p h)
+asks_through p (of_second span x h) = of_second _ x (through p h)
 
 -- something that an expression asks, of which the fault says that it isn't so
 pub record ExprBroken (columns hidden : List ℕ) (k : Kind) (e : Expr) (fault : QueryFault) : Type 0 where
@@ -134,7 +134,7 @@ has_other_kind : {columns : List ℕ} (hidden : List ℕ) {l : Kind} {a : Expr} 
     → (kind_of x.sort ≡ l → ⊥) → (t : TypedExpr) × HasKind columns (other_kind l) a t
 has_other_kind {columns} hidden {l} {a} {x} is differs =
     let K : Kind → Type 0 = λ k. HasKind columns k a x.tree in
-    (x.tree, subst K (turned (kind_of x.sort) l differs) (expr_sound hidden a x is).rule)
+    (x.tree, subst K (turned _ l differs) (expr_sound _ a x is).rule)
 
 -- an expression is of one kind
 pub one_kind : {columns : List ℕ} {k l : Kind} {e : Expr} {s t : TypedExpr} → HasKind columns k e s → HasKind columns l e t → k ≡ l
@@ -146,9 +146,9 @@ one_kind p q =
 kind_told : (columns hidden : List ℕ) {l : Kind} (a : Expr) (x : Found) {fault : QueryFault} → expr_checked columns hidden a ≡ Ok x
     → at_span WrongKind x.at ≡ fault
     → (kind_of x.sort ≡ l → ⊥) → (known : List Known) → Tells known fault.kind fault.span (Typed columns l a)
-kind_told columns hidden {l} a x is e other known = told known (Typed columns l a) e (
-  sym (stands_left columns hidden a x is),
-  has_other_kind hidden is other,
+kind_told columns hidden {l} a x is e other known = told _ _ e (
+  sym (stands_left _ _ a x is),
+  has_other_kind _ is other,
 )
 
 two_told : {columns hidden : List ℕ} {k : Kind} {e : Expr} {op : Op} (at : Span) {a b : Expr} {x y : Found} {fault : QueryFault}
@@ -159,16 +159,16 @@ two_told {columns} {hidden} {op} at {a} {b} {x} {y} {fault} p q left right_ cons
     by_must _ _ {fault = fault} is (λ no same. record {
       demand = Typed columns (operand_kind op) a;
       asks = left;
-      tells = kind_told columns hidden {l = operand_kind op} a x {fault = fault} p same (λ kind. not_both _ no (operand op x.sort kind));
+      tells = kind_told _ _ {l = operand_kind op} a x {fault = fault} p same (λ kind. not_both _ no (operand _ _ kind));
     }) (λ yes is. by_must _ _ {fault = fault} is (λ no same. record {
       demand = Typed columns (operand_kind op) b;
       asks = right_;
-      tells = kind_told columns hidden {l = operand_kind op} b y {fault = fault} q same (λ kind. not_both _ no (operand op y.sort kind));
+      tells = kind_told _ _ {l = operand_kind op} b y {fault = fault} q same (λ kind. not_both _ no (operand _ _ kind));
     }) (λ yes is. by_must _ _ {fault = fault} is (λ no same. record {
       demand = Constant op b;
       asks = constant;
-      tells = λ known. told known (Constant op b) {kind = BadConstant} {span = y.at} {fault = fault} same
-          (sym (stands_left columns hidden b y q), λ h. not_both _ no (right columns hidden op b y q h));
+      tells = λ known. told _ _ {kind = BadConstant} {span = y.at} {fault = fault} same
+          (sym (stands_left _ _ b y q), λ h. not_both _ no (right _ _ _ b y q h));
     }) (λ yes is. no_fault {fault = fault} is)))
 
 -- ---- expressions
@@ -187,25 +187,25 @@ not_two : {columns hidden : List ℕ} {k : Kind} {op : Op} {span : Span} (es : L
     → at_span WrongArity span ≡ fault → ExprBroken columns hidden k (whole.Call op span es) fault
 not_two {op} {span} es other same = record {
   demand = Two es span;
-  asks = of_call op parts.whole;
-  tells = λ known. told known (Two es span) same (refl, other);
+  asks = of_call _ parts.whole;
+  tells = λ known. told _ _ same (refl, other);
 }
 
 call_told : {columns hidden : List ℕ} {k : Kind} {op : Op} {span : Span} (es : List Expr) (fs : List Found) {fault : QueryFault}
     → Each columns hidden es fs → call_of op span fs ≡ Err fault → ExprBroken columns hidden k (whole.Call op span es) fault
-call_told [] [] all e = not_two [] (λ n. omega (arith, n)) (same_fault e)
+call_told [] [] all e = not_two _ (λ n. omega (arith, n)) (same_fault e)
 call_told [] (f ∷ fs) all e = absurd all
 call_told (a ∷ es) [] all e = absurd all
-call_told (a ∷ []) (f ∷ []) all e = not_two (a ∷ []) (λ n. omega (arith, n)) (same_fault e)
+call_told (a ∷ []) (f ∷ []) all e = not_two _ (λ n. omega (arith, n)) (same_fault e)
 call_told (a ∷ []) (f ∷ g ∷ fs) all e = absurd all.1
 call_told (a ∷ b ∷ es) (f ∷ []) all e = absurd all.1
 call_told {op} {span} (a ∷ b ∷ []) (f ∷ g ∷ []) all e =
     let c = whole.Call op span (a ∷ b ∷ []) in
-    two_told span all.0 all.1.0 (of_part (of_argument op span first parts.whole))
-    (of_part (of_argument op span (later a (b ∷ []) first) parts.whole)) (of_second span a parts.whole) e
+    two_told _ all.0 all.1.0 (of_part (of_argument _ _ first parts.whole))
+    (of_part (of_argument _ _ (later a (b ∷ []) first) parts.whole)) (of_second _ a parts.whole) e
 call_told (a ∷ b ∷ []) (f ∷ g ∷ h ∷ fs) all e = absurd all.1.1
 call_told (a ∷ b ∷ c ∷ es) (f ∷ g ∷ []) all e = absurd all.1.1
-call_told (a ∷ b ∷ c ∷ es) (f ∷ g ∷ h ∷ fs) all e = not_two (a ∷ b ∷ c ∷ es) (λ n. omega (arith, n)) (same_fault e)
+call_told (a ∷ b ∷ c ∷ es) (f ∷ g ∷ h ∷ fs) all e = not_two _ (λ n. omega (arith, n)) (same_fault e)
 
 -- the argument at which a fault is found
 argument_told : {columns hidden : List ℕ} (args : List (Told columns hidden)) (before : List Found) {fault : QueryFault}
@@ -237,32 +237,32 @@ step : {columns hidden : List ℕ} (y : expr.Expr-F (Told columns hidden)) {faul
     → (k : Kind) → ExprBroken columns hidden k (roll-Expr (map-Expr (Told columns hidden) Expr (λ a. a.0) y)) fault
 step (expr.Number n span) e k = no_fault e
 step {columns} {hidden} (expr.Named x) e k = moved (rolls-Named x) (
-    by_next (slot_of columns hidden x) e (λ is. record {
+    by_next _ e (λ is. record {
       demand = AColumn columns hidden x.id x.span;
       asks = of_name x parts.whole;
-      tells = slot_told columns hidden x is;
+      tells = slot_told _ _ x is;
     }) (λ slot is e. no_fault e))
 step {columns} {hidden} (expr.Not span a) {fault} e k = moved (rolls-Not span a.0) (
-    let inside = of_not span parts.whole in
-    by_next (expr_checked columns hidden a.0) e (λ is. broken_through inside (a.1 fault is Condition)) (λ x is e.
+    let inside = of_not _ parts.whole in
+    by_next _ e (λ is. broken_through inside (a.1 fault is Condition)) (λ x is e.
     by_must _ _ e (λ no same. record {
       demand = Typed columns Condition a.0;
       asks = of_part inside;
-      tells = kind_told columns hidden a.0 x is same (λ kind. not_both _ no (kind_condition x.sort kind));
+      tells = kind_told _ _ _ x is same (λ kind. not_both _ no (kind_condition _ kind));
     }) (λ yes e. no_fault e)))
 step {columns} {hidden} (expr.Binary op span a b) {fault} e k = moved (rolls-Binary op span a.0 b.0) (
     let both = whole.Binary op span a.0 b.0 in
-    let left = of_left op span a.0 b.0 parts.whole in
-    let second = parts.of_right op span a.0 parts.whole in
-    by_next (expr_checked columns hidden a.0) e (λ is. broken_through left (a.1 fault is (operand_kind op))) (λ x p e.
-    by_next (expr_checked columns hidden b.0) e (λ is. broken_through second (b.1 fault is (operand_kind op))) (λ y q e.
-    two_told x.at p q (of_part left) (of_part second) (of_right span a.0 parts.whole) e)))
+    let left = of_left _ _ _ _ parts.whole in
+    let second = parts.of_right _ _ _ parts.whole in
+    by_next _ e (λ is. broken_through left (a.1 fault is (operand_kind op))) (λ x p e.
+    by_next _ e (λ is. broken_through second (b.1 fault is (operand_kind op))) (λ y q e.
+    two_told _ p q (of_part left) (of_part second) (of_right _ _ parts.whole) e)))
 step {columns} {hidden} (expr.Call op span args) e k = moved (rolls-Call op span (exprs args)) (
-    by_next (collected [] (map (expr_checked columns hidden) (exprs args))) e (λ is.
-    let m = argument_told args [] is in
-    broken_through (of_argument op span m.1 parts.whole) (m.2 (operand_kind op))) (λ fs is e.
-    let all = collected_each columns hidden (exprs args) [] is in
-    call_told (exprs args) all.0 all.2 (ap (call_of op span) (sym all.1) ∙ e)))
+    by_next _ e (λ is.
+    let m = argument_told _ _ is in
+    broken_through (of_argument _ _ m.1 parts.whole) (m.2 (operand_kind op))) (λ fs is e.
+    let all = collected_each _ _ _ _ is in
+    call_told _ _ all.2 (ap (call_of op span) (sym all.1) ∙ e)))
 
 pub expr_told : {columns hidden : List ℕ} (e : Expr) → IsTold columns hidden e
 expr_told {columns} {hidden} = ind-Expr (IsTold columns hidden) (λ x y is fault e k.
@@ -273,17 +273,17 @@ expr_told {columns} {hidden} = ind-Expr (IsTold columns hidden) (λ x y is fault
 pub condition_told : {columns hidden : List ℕ} {e : Expr} {fault : QueryFault} → condition_of columns hidden e ≡ Err fault
     → ExprBroken columns hidden Condition e fault
 condition_told {columns} {hidden} {e} {fault} is =
-    by_next (expr_checked columns hidden e) is (λ is. expr_told e fault is Condition) (λ x p is. by_must _ _ is (λ no same. record {
+    by_next _ is (λ is. expr_told e fault is Condition) (λ x p is. by_must _ _ is (λ no same. record {
       demand = Typed columns Condition e;
       asks = of_part parts.whole;
-      tells = kind_told columns hidden e x p same (λ kind. not_both _ no (kind_condition x.sort kind));
+      tells = kind_told _ _ e x p same (λ kind. not_both _ no (kind_condition _ kind));
     }) (λ yes is. no_fault is))
 
 pub word_told : {columns hidden : List ℕ} {e : Expr} {fault : QueryFault} → word_of columns hidden e ≡ Err fault
     → ExprBroken columns hidden Word e fault
-word_told {columns} {hidden} {e} {fault} is = by_next (expr_checked columns hidden e) is (λ is. expr_told e fault is Word) (λ x p is.
+word_told {columns} {hidden} {e} {fault} is = by_next _ is (λ is. expr_told e fault is Word) (λ x p is.
     by_must _ _ is (λ no same. record {
       demand = Typed columns Word e;
       asks = of_part parts.whole;
-      tells = kind_told columns hidden e x p same (λ kind. not_both _ no (kind_word x.sort kind));
+      tells = kind_told _ _ e x p same (λ kind. not_both _ no (kind_word _ kind));
     }) (λ yes is. no_fault is))

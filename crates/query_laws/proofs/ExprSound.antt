@@ -35,7 +35,7 @@ slot_stands columns hidden name {v} e = go (place_of columns name.id) refl (is_a
     go : (o : Option ℕ) → place_of columns name.id ≡ o → (b : Bool) → slot_at o b name.span ≡ Ok v → StandsAt columns v name.id
     go (Some slot) is b e =
         let same : slot ≡ v = cc in
-        place_stands columns name.id v (is ∙ ap Some same)
+        place_stands _ _ v (is ∙ ap Some same)
     go None is true e = cc e
     go None is false e = cc e
 
@@ -98,16 +98,16 @@ two {columns} {op} at {a} {b} {x} {y} {found} va vb e =
     let one = must_ok _ _ _ e in
     let two = must_ok _ _ _ one.1 in
     let three = must_ok _ _ _ two.1 in
-    let same = same_ok _ found three.1 in
+    let same = same_ok _ _ three.1 in
     let A : Kind → Type 0 = λ k. HasKind columns k a x.tree in
     let B : Kind → Type 0 = λ k. HasKind columns k b y.tree in
     record {
-      first = subst A (operand op x.sort one.0) va.rule;
-      second = subst B (operand op y.sort two.0) vb.rule;
-      constant = right op y.sort b vb.number three.0;
+      first = subst A (operand _ _ one.0) va.rule;
+      second = subst B (operand _ _ two.0) vb.rule;
+      constant = right _ _ b vb.number three.0;
       tree = ap (λ (f : Found). f.tree) same;
-      kind = sym (kind_made op) ∙ ap (λ (f : Found). kind_of f.sort) same;
-      number = λ e. let N : Found → Type 0 = λ f. IsNumberOf f.sort e in subst N same (no_number (gives_condition op) e);
+      kind = sym (kind_made _) ∙ ap (λ (f : Found). kind_of f.sort) same;
+      number = λ e. let N : Found → Type 0 = λ f. IsNumberOf f.sort e in subst N same (no_number _ e);
     }
 
 -- a rule for the typed form and the kind that were found
@@ -142,7 +142,7 @@ Each columns hidden (e ∷ es) (f ∷ fs) = (expr_checked columns hidden e ≡ O
 pub collected_each : (columns hidden : List ℕ) (es : List Expr) (before : List Found) {all : List Found}
     → collected before (map (expr_checked columns hidden) es) ≡ Ok all
     → (rest : List Found) × (all ≡ before ++ rest) × Each columns hidden es rest
-collected_each columns hidden [] before {all} e = ([], sym (same_ok _ all e) ∙ sym (append-nil before), tt)
+collected_each columns hidden [] before {all} e = ([], sym (same_ok _ _ e) ∙ sym (append-nil before), tt)
 collected_each columns hidden (a ∷ es) before {all} e = go (expr_checked columns hidden a) refl
     (λ x k. collected_each columns hidden es (before ++ x ∷ []) k) e
   where
@@ -166,7 +166,7 @@ call hidden (a ∷ []) (f ∷ []) all e = cc e
 call hidden (a ∷ []) (f ∷ g ∷ fs) all e = absurd all.1
 call hidden (a ∷ b ∷ args) (f ∷ []) all e = absurd all.1
 call hidden {span} (a ∷ b ∷ []) (f ∷ g ∷ []) all e =
-    let v = two span (a.1 f all.0) (b.1 g all.1.0) e in
+    let v = two _ (a.1 f all.0) (b.1 g all.1.0) e in
     record {
       rule = ruled v.kind refl v.tree (of_call span v.first v.second v.constant);
       number = v.number _;
@@ -182,48 +182,48 @@ step : {columns : List ℕ} (hidden : List ℕ) (y : expr.Expr-F (Sound columns 
     → IsSoundLayer columns hidden (map-Expr (Sound columns hidden) Expr (λ a. a.0) y)
 step {columns} hidden (expr.Number n span) found e =
     let F : Found → Type 0 = λ z. IsTyped columns (whole.Number n span) z in
-    moved (rolls-Number n span) (subst F (same_ok _ found e) (record { rule = of_number span; number = (span, refl) }))
+    moved (rolls-Number n span) (subst F (same_ok _ _ e) (record { rule = of_number span; number = (span, refl) }))
 step {columns} hidden (expr.Named name) found e =
-    let first = found_first (slot_of columns hidden name) _ found e in
+    let first = found_first _ _ _ e in
     let F : Found → Type 0 = λ z. IsTyped columns (whole.Named name) z in
-    moved (rolls-Named name) (subst F (same_ok _ found first.2)
-    (record { rule = of_name name (slot_stands columns hidden name first.1); number = tt }))
+    moved (rolls-Named name) (subst F (same_ok _ _ first.2)
+    (record { rule = of_name name (slot_stands _ _ _ first.1); number = tt }))
 step {columns} hidden (expr.Not span a) found e =
-    let first = found_first (expr_checked columns hidden a.0) _ found e in
+    let first = found_first _ _ _ e in
     let one = must_ok _ _ _ first.2 in
     let F : Found → Type 0 = λ z. IsTyped columns (whole.Not span a.0) z in
     let K : Kind → Type 0 = λ k. HasKind columns k a.0 first.0.tree in
-    moved (rolls-Not span a.0) (subst F (same_ok _ found one.1) (record {
-      rule = of_not span (subst K (condition_kind first.0.sort one.0) (a.1 first.0 first.1).rule);
+    moved (rolls-Not span a.0) (subst F (same_ok _ _ one.1) (record {
+      rule = of_not span (subst K (condition_kind _ one.0) (a.1 first.0 first.1).rule);
       number = tt;
     }))
 step {columns} hidden (expr.Binary op span a b) found e =
-    let first = found_first (expr_checked columns hidden a.0) _ found e in
-    let second = found_first (expr_checked columns hidden b.0) _ found first.2 in
-    let v = two first.0.at (a.1 first.0 first.1) (b.1 second.0 second.1) second.2 in
+    let first = found_first _ _ _ e in
+    let second = found_first _ _ _ first.2 in
+    let v = two _ (a.1 first.0 first.1) (b.1 second.0 second.1) second.2 in
     moved (rolls-Binary op span a.0 b.0) (record {
       rule = ruled v.kind refl v.tree (of_binary span v.first v.second v.constant);
       number = v.number _;
     })
 step {columns} hidden (expr.Call op span args) found e =
-    let first = found_first (collected [] (map (expr_checked columns hidden) (map (λ a. a.0) args))) _ found e in
-    let all = collected_each columns hidden (map (λ a. a.0) args) [] first.1 in
-    moved (rolls-Call op span (map (λ a. a.0) args)) (call hidden args all.0 all.2 (ap (call_of op span) (sym all.1) ∙ first.2))
+    let first = found_first _ _ _ e in
+    let all = collected_each _ _ _ _ first.1 in
+    moved (rolls-Call op span (map (λ a. a.0) args)) (call _ _ _ all.2 (ap (call_of op span) (sym all.1) ∙ first.2))
 
 pub expr_sound : {columns : List ℕ} (hidden : List ℕ) (e : Expr) → IsSound columns hidden e
 expr_sound {columns} hidden = ind-Expr (IsSound columns hidden) (λ x y is.
     let L : expr.Expr-F Expr → Type 0 = λ z. IsSoundLayer columns hidden z in
-    of_layer hidden x (subst L is (step hidden y)))
+    of_layer _ x (subst L is (step _ y)))
 
 pub condition_sound : {columns : List ℕ} (hidden : List ℕ) {e : Expr} {tree : TypedExpr} → condition_of columns hidden e ≡ Ok tree
     → HasKind columns Condition e tree
 condition_sound {columns} hidden {e} {tree} is =
-    let first = found_first (expr_checked columns hidden e) _ tree is in
+    let first = found_first _ _ _ is in
     let test = must_ok _ _ _ first.2 in
-    ruled (condition_kind first.0.sort test.0) refl (same_ok _ tree test.1) (expr_sound hidden e first.0 first.1).rule
+    ruled (condition_kind _ test.0) refl (same_ok _ _ test.1) (expr_sound _ e first.0 first.1).rule
 
 pub word_sound : {columns : List ℕ} (hidden : List ℕ) {e : Expr} {tree : TypedExpr} → word_of columns hidden e ≡ Ok tree → HasKind columns Word e tree
 word_sound {columns} hidden {e} {tree} is =
-    let first = found_first (expr_checked columns hidden e) _ tree is in
+    let first = found_first _ _ _ is in
     let test = must_ok _ _ _ first.2 in
-    ruled (word_kind first.0.sort test.0) refl (same_ok _ tree test.1) (expr_sound hidden e first.0 first.1).rule
+    ruled (word_kind _ test.0) refl (same_ok _ _ test.1) (expr_sound _ e first.0 first.1).rule

@@ -28,8 +28,8 @@ same_sound [] [] e = refl
 same_sound [] (y ∷ ys) e = cc e
 same_sound (x ∷ xs) [] e = cc e
 same_sound (x ∷ xs) (y ∷ ys) e =
-    let p = both_true (nat_eq x y) e in
-    ap (λ (z : ℕ). z ∷ xs) (nat_same p.0) ∙ ap (λ (z : List ℕ). y ∷ z) (same_sound xs ys p.1)
+    let p = both_true _ e in
+    ap (λ (z : ℕ). z ∷ xs) (nat_same p.0) ∙ ap (λ (z : List ℕ). y ∷ z) (same_sound _ _ p.1)
 
 same_refl : (xs : List ℕ) → pointwise nat_eq xs xs ≡ true
 same_refl [] = refl
@@ -41,19 +41,19 @@ same_complete {xs} e = let P : List ℕ → Type 0 = λ z. pointwise nat_eq xs z
 filter_sound : {groups : ℕ} (earlier : Earlier) {input : Name} {e : Expr} {made : MadeFinal} → final_filter groups earlier input e ≡ Ok made
     → OfFilter groups earlier.known input e made
 filter_sound earlier {input} {e} {made} is =
-    let source = found_first (table_named earlier.known input) _ made is in
-    let c = found_first (condition_of source.0.columns [] e) _ made source.2 in
+    let source = found_first _ _ _ is in
+    let c = found_first _ _ _ source.2 in
     record {
       source = source.0;
       condition = c.0;
-      table = table_sound earlier.known input source.1;
+      table = table_sound _ _ source.1;
       typed = condition_sound [] c.1;
-      is = sym (same_ok _ made c.2);
+      is = sym (same_ok _ _ c.2);
     }
 
 filter_complete : {groups : ℕ} (earlier : Earlier) {input : Name} {e : Expr} {made : MadeFinal} → OfFilter groups earlier.known input e made
     → final_filter groups earlier input e ≡ Ok made
-filter_complete earlier {input} h = then_next _ (table_complete earlier.known input h.table)
+filter_complete earlier {input} h = then_next _ (table_complete _ _ h.table)
     ∙ then_next _ (condition_complete [] h.typed) ∙ ok (sym h.is)
 
 abbrev maps_to : ℕ → TableView → NewColumns → MadeFinal
@@ -131,25 +131,25 @@ group_complete given earlier {input} {keys} {fold_name} h =
 join_sound : {groups : ℕ} (earlier : Earlier) {first second : Name} {made : MadeFinal} → final_join groups earlier first second ≡ Ok made
     → OfJoin groups earlier.known first second made
 join_sound earlier {first} {second} {made} is =
-    let left = found_first (table_named earlier.known first) _ made is in
-    let right = found_first (table_named earlier.known second) _ made left.2 in
+    let left = found_first _ _ _ is in
+    let right = found_first _ _ _ left.2 in
     let one = must_ok _ _ _ right.2 in
     let two = must_not_ok _ _ _ one.1 in
     record {
       left = left.0;
       right = right.0;
-      one = table_sound earlier.known first left.1;
-      other = table_sound earlier.known second right.1;
-      keys = same_sound (key_columns left.0) (key_columns right.0) one.0;
-      apart = apart_sound (other_columns right.0) left.0.columns two.0;
-      is = sym (same_ok _ made two.1);
+      one = table_sound _ _ left.1;
+      other = table_sound _ _ right.1;
+      keys = same_sound _ _ one.0;
+      apart = apart_sound _ _ two.0;
+      is = sym (same_ok _ _ two.1);
     }
 
 join_complete : {groups : ℕ} (earlier : Earlier) {first second : Name} {made : MadeFinal} → OfJoin groups earlier.known first second made
     → final_join groups earlier first second ≡ Ok made
-join_complete earlier {first} {second} h = then_next _ (table_complete earlier.known first h.one)
-    ∙ then_next _ (table_complete earlier.known second h.other) ∙ must_holds _ _ (same_complete h.keys)
-    ∙ must_not_holds _ _ (apart_complete (other_columns h.right) h.left.columns h.apart) ∙ ok (sym h.is)
+join_complete earlier {first} {second} h = then_next _ (table_complete _ _ h.one)
+    ∙ then_next _ (table_complete _ _ h.other) ∙ must_holds _ _ (same_complete h.keys)
+    ∙ must_not_holds _ _ (apart_complete _ _ h.apart) ∙ ok (sym h.is)
 
 pub at_most : {k n : ℕ} → k ≤ n → nat_le k n ≡ true
 at_most h = grind arith
@@ -157,19 +157,19 @@ at_most h = grind arith
 top_sound : {groups : ℕ} (earlier : Earlier) {input column : Name} {kept : ℕ} (span : Span) {made : MadeFinal}
     → final_top groups earlier input column kept span ≡ Ok made → OfTop groups earlier.known input column kept made
 top_sound earlier {input} {column} {kept} span {made} is =
-    let source = found_first (table_named earlier.known input) _ made is in
-    let slot = found_first (slot_of source.0.columns [] column) _ made source.2 in
+    let source = found_first _ _ _ is in
+    let slot = found_first _ _ _ source.2 in
     let one = must_ok _ _ _ slot.2 in
-    let both = both_true (nat_lt 0 kept) one.0 in
+    let both = both_true _ one.0 in
     let some = ltb-true 0 kept both.0 in
     record {
       source = source.0;
       slot = slot.0;
-      table = table_sound earlier.known input source.1;
+      table = table_sound _ _ source.1;
       stands = slot_stands source.0.columns [] column slot.1;
       some = omega (arith, some);
       few = leb-true kept 65536 both.1;
-      is = sym (same_ok _ made one.1);
+      is = sym (same_ok _ _ one.1);
     }
 
 top_complete : {groups : ℕ} (earlier : Earlier) {input column : Name} {kept : ℕ} (span : Span) {made : MadeFinal}

@@ -43,23 +43,23 @@ count_emit = ap stmt_count (sym (rolls-Emit here)) ∙ fold-roll-Stmt ℕ count_
 
 -- an operator between two expressions of one node
 three_nodes : (op : Op) (a b : Expr) → expr_nodes a ≡ 1 → expr_nodes b ≡ 1 → expr_nodes (Binary op here a b) ≡ 3
-three_nodes op a b p q = node_binary op a b ∙ ap (λ (n : ℕ). 1 + n + expr_nodes b) p ∙ ap (λ (n : ℕ). 1 + 1 + n) q
+three_nodes op a b p q = node_binary _ a b ∙ ap (λ (n : ℕ). 1 + n + expr_nodes b) p ∙ ap (λ (n : ℕ). 1 + 1 + n) q
 
 state_nodes : expr_nodes on_state ≡ 3
-state_nodes = three_nodes Lt (Number 0 here) first (node_number 0) (node_named (called 1))
+state_nodes = three_nodes _ _ _ (node_number 0) (node_named _)
 
 argument_nodes : expr_nodes on_argument ≡ 3
-argument_nodes = three_nodes Lt (Number 0 here) second (node_number 0) (node_named (called 2))
+argument_nodes = three_nodes _ _ _ (node_number 0) (node_named _)
 
 below_nodes : expr_nodes below_9 ≡ 3
-below_nodes = three_nodes Lt second (Number 9 here) (node_named (called 2)) (node_number 9)
+below_nodes = three_nodes _ _ _ (node_named _) (node_number 9)
 
 one_more_nodes : stmt_nodes one_more ≡ 3
-one_more_nodes = nodes_assign (called 1) (Binary Add here first (Number 1 here))
-    ∙ three_nodes Add first (Number 1 here) (node_named (called 1)) (node_number 1)
+one_more_nodes = nodes_assign _ _
+    ∙ three_nodes _ _ _ (node_named _) (node_number 1)
 
 one_more_count : stmt_count one_more ≡ 1
-one_more_count = count_assign (called 1) (Binary Add here first (Number 1 here))
+one_more_count = count_assign _ _
 
 -- a choice by a condition of three nodes, of what its blocks have
 choice_nodes : (c : Expr) (a b : List Stmt) {n m : ℕ} → expr_nodes c ≡ 3 → sum (map stmt_nodes a) ≡ n → sum (map stmt_nodes b) ≡ m
@@ -96,15 +96,15 @@ pub emit_counts : Counts (Emit here ∷ []) 0 1
 emit_counts = one nodes_emit count_emit
 
 pub choice_counts : Counts (If on_state (one_more ∷ []) [] ∷ []) 6 2
-choice_counts = one (choice_nodes on_state (one_more ∷ []) [] state_nodes (alone one_more_nodes) refl)
-    (choice_count on_state (one_more ∷ []) [] (alone one_more_count) refl)
+choice_counts = one (choice_nodes _ _ _ state_nodes (alone one_more_nodes) refl)
+    (choice_count _ _ _ (alone one_more_count) refl)
 
 pub argument_counts : Counts (If on_argument (one_more ∷ Emit here ∷ []) [] ∷ []) 6 3
-argument_counts = one (choice_nodes on_argument (one_more ∷ Emit here ∷ []) [] argument_nodes (pair one_more_nodes nodes_emit) refl)
-    (choice_count on_argument (one_more ∷ Emit here ∷ []) [] (pair one_more_count count_emit) refl)
+argument_counts = one (choice_nodes _ _ _ argument_nodes (pair one_more_nodes nodes_emit) refl)
+    (choice_count _ _ _ (pair one_more_count count_emit) refl)
 
 pub else_counts : Counts (If on_argument (If below_9 [] (Emit here ∷ []) ∷ []) [] ∷ []) 6 3
-else_counts = one (choice_nodes on_argument (If below_9 [] (Emit here ∷ []) ∷ []) [] argument_nodes
-    (alone (choice_nodes below_9 [] (Emit here ∷ []) below_nodes refl (alone nodes_emit))) refl)
-    (choice_count on_argument (If below_9 [] (Emit here ∷ []) ∷ []) [] (alone (choice_count below_9 [] (Emit here ∷ []) refl
+else_counts = one (choice_nodes _ _ _ argument_nodes
+    (alone (choice_nodes _ _ _ below_nodes refl (alone nodes_emit))) refl)
+    (choice_count _ _ _ (alone (choice_count _ _ _ refl
     (alone count_emit))) refl)

@@ -61,20 +61,20 @@ seen : (t : TypedExpr) {u : Term} → term_of t ≡ u → ReadsArguments 1 u →
 seen t is h = let R : Term → Type 0 = λ z. ReadsArguments 1 z in subst R (sym is) h
 
 of_two : (op : Op) (a b : TypedExpr) → ReadsNoState a → ReadsNoState b → ReadsNoState (typed.Binary op a b)
-of_two op a b p q = seen (typed.Binary op a b) (term_binary op a b) (p, q)
+of_two op a b p q = seen _ (term_binary op a b) (p, q)
 
 of_a_number : (n : ℕ) → ReadsNoState (typed.Number n)
-of_a_number n = seen (typed.Number n) (term_number n) tt
+of_a_number n = seen _ (term_number n) tt
 
 of_the_argument : ReadsNoState (typed.Slot 1)
-of_the_argument = let past : 1 ≤ 1 = omega arith in seen (typed.Slot 1) (term_slot 1) past
+of_the_argument = let past : 1 ≤ 1 = omega arith in seen _ (term_slot 1) past
 
 argument_reads : ReadsNoState typed_on_argument
-argument_reads = of_two Lt (typed.Number 0) (typed.Slot 1) (of_a_number 0) of_the_argument
+argument_reads = of_two _ _ _ (of_a_number 0) of_the_argument
 
 else_reads : ReadsNoState (typed.Not typed_below_9)
-else_reads = seen (typed.Not typed_below_9) (term_not typed_below_9)
-    (of_two Lt (typed.Slot 1) (typed.Number 9) of_the_argument (of_a_number 9))
+else_reads = seen _ (term_not typed_below_9)
+    (of_two _ _ _ of_the_argument (of_a_number 9))
 
 -- ---- refused
 
@@ -85,7 +85,7 @@ unmet asked fails = λ f h. fails (fold_meets [] h asked)
 -- an `emit` inside a condition on the state
 reads_state : {body : List Stmt} {around : List Expr} → StandsIn [] body around (Emit here) → IsOneOf on_state around
     → HasNoFold (a_fold body)
-reads_state stands i = unmet (of_statement stands (asks.of_emit here i)) (λ none. (none (called 1) (Condition, Word, right_of_0)).0 refl)
+reads_state stands i = unmet (of_statement stands (asks.of_emit _ i)) (λ none. (none (called 1) (Condition, Word, right_of_0)).0 refl)
 
 emit_first : {around : List Expr} → StandsIn around (Emit here ∷ []) around (Emit here)
 emit_first = parts.first

@@ -63,7 +63,7 @@ statements_told : {d : FoldDef} {known : List Known} {fault : QueryFault}
     → BlockTold (state_names_of d) (arg_names_of d) [] d.body false known fault → Broken (FoldAsks d) known fault
 statements_told (at_statement h b) = broken_in (λ q asked. of_statement h asked) b
 statements_told (second span e h has) = cc has
-statements_told {d} {known} (follows e h) = record { demand = OneEmit d.body; asks = of_emits; tells = told known (OneEmit d.body) e h }
+statements_told {d} {known} (follows e h) = record { demand = OneEmit d.body; asks = of_emits; tells = told _ _ e h }
 
 pub fold_faults : {d : FoldDef} {known : List Known} {fault : QueryFault} → fold_checked d ≡ Err fault → Broken (FoldAsks d) known fault
 fold_faults {d} {known} {fault} e = by_next (states_from [] d.states) e (λ is. states_told [] d.states refl refl is) (λ states p e.

@@ -25,15 +25,15 @@ rest_of d states args = and_then (body_checked states args d.body) (λ body. Ok 
 
 pub fold_sound : {d : FoldDef} {f : TypedFold} → fold_checked d ≡ Ok f → HasFold d f
 fold_sound {d} {f} e =
-    let states = found_first (states_from [] d.states) _ f e in
-    let args = found_first (args_from states.0 [] d.args) _ f states.2 in
-    let s = states_sound d.states [] (omega arith) states.1 in
-    let a = args_sound states.0 d.args [] (omega arith) args.1 in
+    let states = found_first _ _ f e in
+    let args = found_first _ _ f states.2 in
+    let s = states_sound _ _ (omega arith) states.1 in
+    let a = args_sound _ _ _ (omega arith) args.1 in
     let N : List ℕ → Type 0 = λ z. AreNew z (arg_names_of d) in
     let whole : rest_of d (state_names_of d) (arg_names_of d) ≡ Ok f =
     sym (ap (λ (z : List ℕ). rest_of d z args.0) s.0 ∙ ap (λ (z : List ℕ). rest_of d (state_names_of d) z) a.0) ∙ args.2 in
-    let body = found_first (body_checked (state_names_of d) (arg_names_of d) d.body) _ f whole in
-    let b = block_sound d.body nothing_around body.1 in
+    let body = found_first _ _ f whole in
+    let b = block_sound _ nothing_around body.1 in
     let B : List TypedStmt → Type 0 = λ z. HasBlock (state_names_of d) (arg_names_of d) [] d.body z (at_most_one body.0.emit) in
     let E : List TypedExpr → Type 0 = λ z. HasBlock (state_names_of d) (arg_names_of d) [] d.body b.ts z in
     record {
@@ -50,7 +50,7 @@ fold_sound {d} {f} e =
 pub fold_complete : {d : FoldDef} {f : TypedFold} → HasFold d f → fold_checked d ≡ Ok f
 fold_complete {d} h =
     let N : List ℕ → Type 0 = λ z. AreNew z (arg_names_of d) in
-    then_next _ (states_complete d.states [] h.states (omega (arith, h.few_states)))
-    ∙ then_next _ (args_complete (state_names_of d) d.args [] (subst N (sym (append-nil (state_names_of d))) h.args)
-    (omega (arith, h.few_args))) ∙ then_next _ (block_complete h.statements (record { statements = []; emit = None }) nothing_around refl)
+    then_next _ (states_complete _ _ h.states (omega (arith, h.few_states)))
+    ∙ then_next _ (args_complete _ _ _ (subst N (sym (append-nil (state_names_of d))) h.args)
+    (omega (arith, h.few_args))) ∙ then_next _ (block_complete h.statements _ nothing_around refl)
     ∙ ap (λ (g : TypedFold). let r : Checked TypedFold = Ok g in r) (sym h.is)

@@ -42,7 +42,7 @@ ids ss = map (λ s. s.name.id) ss
 
 pub states_sound : (ss : List StateVar) (found : List ℕ) {all : List ℕ} → length found ≤ MAX_STATES → states_from found ss ≡ Ok all
     → (all ≡ found ++ ids ss) × AreNew found (ids ss) × (length found + length ss ≤ MAX_STATES)
-states_sound [] found {all} h e = (sym (same_ok _ all e) ∙ sym (append-nil found), tt, omega (arith, h))
+states_sound [] found {all} h e = (sym (same_ok _ _ e) ∙ sym (append-nil found), tt, omega (arith, h))
 states_sound (s ∷ ss) found h e =
     let one = must_not_ok _ _ _ e in
     let two = must_ok _ _ _ one.1 in
@@ -64,7 +64,7 @@ arg_ids more = map (λ a. a.id) more
 
 pub args_sound : (states : List ℕ) (more : List Name) (found : List ℕ) {all : List ℕ} → length found ≤ MAX_ARGS → args_from states found more ≡ Ok all
     → (all ≡ found ++ arg_ids more) × AreNew (states ++ found) (arg_ids more) × (length found + length more ≤ MAX_ARGS)
-args_sound states [] found {all} h e = (sym (same_ok _ all e) ∙ sym (append-nil found), tt, omega (arith, h))
+args_sound states [] found {all} h e = (sym (same_ok _ _ e) ∙ sym (append-nil found), tt, omega (arith, h))
 args_sound states (a ∷ more) found h e =
     let one = must_not_ok _ _ _ e in
     let two = must_ok _ _ _ one.1 in
@@ -146,39 +146,39 @@ no_span false span e = refl
 pub reads : {states : List ℕ} (args : List ℕ) {k : Kind} {e : Expr} {t : TypedExpr} → HasKind (states ++ args) k e t → Reads states e t
 reads {states} args (of_number {n} span) = record {
   past = λ h. turned _ (sym (term_number n)) tt;
-  none = λ h. in_number states n span;
+  none = λ h. in_number _ n _;
 }
 reads {states} args (of_name x {slot} stands) =
-    let m = stands_past states args slot x.id stands in
+    let m = stands_past _ _ _ _ stands in
     record {
-      past = λ h. turned _ (sym (term_slot slot)) (m.0 (no_span (is_among x.id states) x.span (sym (in_named states x) ∙ h)));
-      none = λ h. in_named states x ∙ ap (λ (b : Bool). cond b (Some x.span) None) (m.1 (turned _ (term_slot slot) h));
+      past = λ h. turned _ (sym (term_slot slot)) (m.0 (no_span _ _ (sym (in_named _ x) ∙ h)));
+      none = λ h. in_named _ x ∙ ap (λ (b : Bool). cond b (Some x.span) None) (m.1 (turned _ (term_slot slot) h));
     }
 reads {states} args (of_not span {e} {t} h) =
-    let m = reads args h in
+    let m = reads _ h in
     record {
-      past = λ k. turned _ (sym (term_not t)) (m.past (sym (in_not states span e) ∙ k));
-      none = λ k. in_not states span e ∙ m.none (turned _ (term_not t) k);
+      past = λ k. turned _ (sym (term_not t)) (m.past (sym (in_not _ _ e) ∙ k));
+      none = λ k. in_not _ _ e ∙ m.none (turned _ (term_not t) k);
     }
 reads {states} args (of_binary {op} span {a} {b} {s} {t} h i c) =
-    let m = reads args h in
-    let n = reads args i in
+    let m = reads _ h in
+    let n = reads _ i in
     record {
       past = λ k.
-          let p = neither _ (sym (in_binary states op span a b) ∙ k) in
+          let p = neither _ (sym (in_binary _ _ _ a b) ∙ k) in
           turned _ (sym (term_binary op s t)) (m.past p.0, n.past p.1);
       none = λ k.
           let p = turned _ (term_binary op s t) k in
-          in_binary states op span a b ∙ both_none (m.none p.0) (n.none p.1);
+          in_binary _ _ _ a b ∙ both_none (m.none p.0) (n.none p.1);
     }
 reads {states} args (of_call {op} span {a} {b} {s} {t} h i c) =
-    let m = reads args h in
-    let n = reads args i in
+    let m = reads _ h in
+    let n = reads _ i in
     record {
       past = λ k.
-          let p = neither _ (sym (in_call states op span a b) ∙ k) in
+          let p = neither _ (sym (in_call _ _ _ a b) ∙ k) in
           turned _ (sym (term_binary op s t)) (m.past p.0, n.past (neither _ p.1).0);
       none = λ k.
           let p = turned _ (term_binary op s t) k in
-          in_call states op span a b ∙ both_none (m.none p.0) (both_none (n.none p.1) refl);
+          in_call _ _ _ a b ∙ both_none (m.none p.0) (both_none (n.none p.1) refl);
     }

@@ -43,19 +43,19 @@ abbrev pub first_is_word : ℕ × Span → Type 0
 first_is_word v = IsWord v.0
 
 pub number_holds : {role : Role} → Holds (language.Word role number) first_is_word
-number_holds = record { is = λ w v h b. word_of h.0.kind h.0.span (subst HaveWords h.1 b).0 h.2 }
+number_holds = record { is = λ w v h b. word_of _ _ (subst HaveWords h.1 b).0 h.2 }
 
 pub then_holds : {A B : Type 0} {L : Language A} {M : Language B} {P : A → Type 0} {Q : B → Type 0} → Holds L P → Holds M Q
     → Holds (Then L M) (λ v. P v.0 × Q v.1)
 then_holds p q = record {
-  is = λ w v h b. let r = both_have h.0 h.1 (subst HaveWords h.2 b) in (p.is h.0 v.0 h.3 r.0, q.is h.1 v.1 h.4 r.1);
+  is = λ w v h b. let r = both_have _ _ (subst HaveWords h.2 b) in (p.is h.0 v.0 h.3 r.0, q.is h.1 v.1 h.4 r.1);
 }
 
 pub first_holds : {A B : Type 0} {L : Language A} (M : Language B) {P : A → Type 0} → Holds L P → Holds (Then L M) (λ v. P v.0)
-first_holds M p = record { is = λ w v h b. p.is h.0 v.0 h.3 (both_have h.0 h.1 (subst HaveWords h.2 b)).0 }
+first_holds M p = record { is = λ w v h b. p.is h.0 v.0 h.3 (both_have _ _ (subst HaveWords h.2 b)).0 }
 
 pub second_holds : {A B : Type 0} (L : Language A) {M : Language B} {Q : B → Type 0} → Holds M Q → Holds (Then L M) (λ v. Q v.1)
-second_holds L q = record { is = λ w v h b. q.is h.1 v.1 h.4 (both_have h.0 h.1 (subst HaveWords h.2 b)).1 }
+second_holds L q = record { is = λ w v h b. q.is h.1 v.1 h.4 (both_have _ _ (subst HaveWords h.2 b)).1 }
 
 pub meaning_holds : {A B : Type 0} {L : Language A} {f : A → B} {P : A → Type 0} {Q : B → Type 0} → Holds L P → ((a : A) → P a → Q (f a))
     → Holds (Meaning f L) Q

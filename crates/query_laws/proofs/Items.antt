@@ -42,7 +42,7 @@ column_holds : {E : Language Expr} → Holds E is_word_expr → Holds (ColumnOf 
 column_holds p = meaning_holds (second_holds _ (after_holds (sign marks.Assign) p)) (λ a h. h)
 
 all_columns : {L : Language (List Column)} → Holds L (All column_word) → Holds L columns_word
-all_columns p = record { is = λ w v h b. greatest_word (λ (c : Column). greatest_number c.value) v (p.is w v h b) }
+all_columns p = record { is = λ w v h b. greatest_word _ v (p.is w v h b) }
 
 mapping_holds : {E : Language Expr} → Holds E is_word_expr → Holds (Mapping E) (λ v. columns_word v.1)
 mapping_holds p = after_holds (keyword words.Map) (parens_hold (second_holds _ (after_holds (sign marks.Comma)
@@ -70,7 +70,7 @@ item_word i = IsWord (item_number i) × StartsAsWords i
 
 fold_holds : (d : ℕ) → Holds (Fold d) item_word
 fold_holds d = meaning_holds (second_holds _ (second_holds _ (then_holds parameters_hold (block_holds (stmt_holds d)))))
-    (λ a h. (greatest_word greatest_in a.1.1.1 h.1, h.0))
+    (λ a h. (greatest_word _ _ h.1, h.0))
 
 stream_holds : {E : Language Expr} → Holds E is_word_expr → Holds (Stream E E) item_word
 stream_holds p = meaning_holds
@@ -92,11 +92,11 @@ item_number_word i = IsWord (item_number i)
 
 pub numbers : NumbersAreWords
 numbers text q h =
-    let tokens : AreWordTokens h.tokens = cut_words (length text) 0 [] text h.cut in
-    let leaves : HaveWords h.accepted.leaves = leaves_have h.accepted.leaves (subst AreWordTokens (sym h.accepted.tokens) tokens) in
+    let tokens : AreWordTokens h.tokens = cut_words _ 0 _ _ h.cut in
+    let leaves : HaveWords h.accepted.leaves = leaves_have _ (subst AreWordTokens (sym h.accepted.tokens) tokens) in
     let means = h.accepted.means in
-    let split = both_have means.0 means.1 (subst HaveWords means.2 leaves) in
-    let all : All item_word q.items = repeats (item_holds h.accepted.depth) means.0 q.items means.3 split.0 in (
-      greatest_word item_number q.items (All-weaker item_word item_number_word (λ i w. w.0) q.items all),
+    let split = both_have _ _ (subst HaveWords means.2 leaves) in
+    let all : All item_word q.items = repeats (item_holds _) _ _ means.3 split.0 in (
+      greatest_word _ _ (All-weaker item_word item_number_word (λ i w. w.0) q.items all),
       All-weaker item_word StartsAsWords (λ i w. w.1) q.items all,
     )

@@ -14,13 +14,13 @@ use Rattle.query_laws.proofs.NameLaws.{stream_complete, fold_name_complete, tabl
 -- a name stands for one thing
 
 one_stream : (known : List Known) (x : Name) {s r : StreamView} → IsStream known x.id s → IsStream known x.id r → s ≡ r
-one_stream known x {s} {r} p q = same_ok s r (sym (stream_complete known x p) ∙ stream_complete known x q)
+one_stream known x {s} {r} p q = same_ok s r (sym (stream_complete _ x p) ∙ stream_complete _ x q)
 
 one_fold : (known : List Known) (x : Name) {f g : FoldView} → IsFold known x.id f → IsFold known x.id g → f ≡ g
-one_fold known x {f} {g} p q = same_ok f g (sym (fold_name_complete known x p) ∙ fold_name_complete known x q)
+one_fold known x {f} {g} p q = same_ok f g (sym (fold_name_complete _ x p) ∙ fold_name_complete _ x q)
 
 one_table : (known : List Known) (x : Name) {s r : TableView} → IsTable known x.id s → IsTable known x.id r → s ≡ r
-one_table known x {s} {r} p q = same_ok s r (sym (table_complete known x p) ∙ table_complete known x q)
+one_table known x {s} {r} p q = same_ok s r (sym (table_complete _ x p) ∙ table_complete _ x q)
 
 pub stream_meets : {five : List ℕ} {known : List Known} (number : ℕ) {groups : ℕ} {name : Name} {op : StreamOp} (made : MadeStream) {d : Demand}
     → HasStream five known number groups op made → StreamAsks five known groups name op d → Holds known d
@@ -93,7 +93,7 @@ item_meets given one h asks.of_fold_name = h.free
 item_meets given {names} {items} one h (asks.of_fold d q asked) = fold_meets (known_in names items) h.typed asked
 item_meets given one h asks.of_stream_name = h.binding.free
 item_meets given one h asks.of_one_stream = h.binding.few
-item_meets given {items} one h (asks.of_stream asked) = stream_meets (length (streams_in items) + 1) h.made h.typed asked
+item_meets given {items} one h (asks.of_stream asked) = stream_meets _ _ h.typed asked
 item_meets given one h asks.of_final_name = h.binding.free
 item_meets given one h asks.of_one_final = h.binding.few
 item_meets given one h (asks.of_final asked) = final_meets given h.made h.typed asked

@@ -103,7 +103,7 @@ part_typed h (parts.of_right op span a p) = part_typed (of_binary h.1).second p
 part_typed {columns} h (parts.of_argument op span i p) =
     let c = of_function h.1 in
     let E : List Expr → Type 0 = λ z. EachIs (HasForm columns (operand_kind op)) z in
-    part_typed (one_is (HasForm columns (operand_kind op)) i (subst E (sym c.are) (c.both.first, (c.both.second, tt)))) p
+    part_typed (one_is _ i (subst E (sym c.are) (c.both.first, (c.both.second, tt)))) p
 
 named_stands : {columns : List ℕ} {k : Kind} {x : Name} → HasForm columns k (whole.Named x) → (slot : ℕ) × StandsAt columns slot x.id
 named_stands {columns} {x} h =
@@ -142,7 +142,7 @@ pub names_new : (before : List ℕ) {all : List Name} (front : List Name) (x : N
     → AreNew before (ids_of all) → IsNew x.id (before ++ ids_of front)
 names_new before front x back split h =
     let N : List ℕ → Type 0 = λ z. AreNew before z in
-    new_at before (ids_of front) x.id (ids_of back) (subst N (ap ids_of split ∙ ids_split front x back) h)
+    new_at _ _ _ _ (subst N (ap ids_of split ∙ ids_split _ x _) h)
 
 pub few_before : {A : Type 0} {all : List A} (front : List A) (x : A) (back : List A) {n : ℕ} → all ≡ front ++ x ∷ back → length all ≤ n
     → length front < n
@@ -168,10 +168,10 @@ pub columns_meet : (known : List Known) {columns hidden : List ℕ} {new : List 
 columns_meet known {columns} {hidden} values h (asks.of_name front c back split) =
     let C : List Column → Type 0 = λ z. HasTypedColumns columns (columns ++ hidden) z values in
     let N : List ℕ → Type 0 = λ z. IsNew c.name.id z in
-    subst N (append_assoc columns hidden (new_names front)) (column_at (columns ++ hidden) front c back values (subst C split h)).0
+    subst N (append_assoc columns hidden (new_names front)) (column_at _ _ c _ _ (subst C split h)).0
 columns_meet known {columns} {hidden} values h (of_value front c back split asked) =
     let C : List Column → Type 0 = λ z. HasTypedColumns columns (columns ++ hidden) z values in
-    expr_meets known (column_at (columns ++ hidden) front c back values (subst C split h)).1 asked
+    expr_meets _ (column_at _ _ c _ _ (subst C split h)).1 asked
 
 -- ---- keys and arguments
 
@@ -186,14 +186,14 @@ pub keys_meet : (known : List Known) {columns hidden : List ℕ} {keys : List Na
     → HasKeys columns (ids_of keys) slots → KeysAsk columns hidden keys d → Holds known d
 keys_meet known {columns} {slots} h (of_key front key back split) =
     let S : List ℕ → Type 0 = λ z. HasSlots columns z slots in
-    slot_at columns (ids_of front) key.id (ids_of back) slots (subst S (ap ids_of split ∙ ids_split front key back) h.places)
-keys_meet known h (of_new front key back split) = names_new [] front key back split h.distinct
+    slot_at _ _ _ _ _ (subst S (ap ids_of split ∙ ids_split _ _ _) h.places)
+keys_meet known h (of_new front key back split) = names_new _ _ _ _ split h.distinct
 keys_meet known {keys} h (of_limit front key back split) =
     let long = length-map keys (λ (n : Name). n.id) in
-    few_before front key back split (omega (arith, h.few, long))
+    few_before _ _ _ split (omega (arith, h.few, long))
 
 pub arguments_meet : (known : List Known) {columns hidden keys : List ℕ} {f : FoldView} {span : Span} {slots : List ℕ} {d : Demand}
     → HasArguments columns keys f slots → ArgumentsAsk columns hidden keys f span d → Holds known d
 arguments_meet known {columns} {slots} h (of_argument front id back split) =
-    let S : List ℕ → Type 0 = λ z. HasSlots columns z slots in slot_at columns front id back slots (subst S split h.places)
+    let S : List ℕ → Type 0 = λ z. HasSlots columns z slots in slot_at _ _ _ _ _ (subst S split h.places)
 arguments_meet known h of_states = h.apart

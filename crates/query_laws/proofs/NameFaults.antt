@@ -22,14 +22,14 @@ StandsTold known sought x fault = Tells known fault.kind fault.span (Stands soug
 
 unknown_told : (known : List Known) (sought : Sought) (x : Name) (fault : QueryFault) → meaning_of known x.id ≡ None
     → at_span UnknownName x.span ≡ fault → StandsTold known sought x fault
-unknown_told known sought x fault is e = told known (Stands sought x) e (refl, free_sound known x.id (ap is_some is))
+unknown_told known sought x fault is e = told _ _ e (refl, free_sound _ _ (ap is_some is))
 
 pub not_free : (known : List Known) (id : ℕ) {m : Meaning} → meaning_of known id ≡ Some m → IsFree known id → ⊥
-not_free known id is free = not_both (is_some (meaning_of known id)) (free_complete known id free) (ap is_some is)
+not_free known id is free = not_both _ (free_complete _ _ free) (ap is_some is)
 
 other_told : (known : List Known) (sought : Sought) (x : Name) (fault : QueryFault) (m : Meaning) → meaning_of known x.id ≡ Some m
     → (IsSought known sought x.id → ⊥) → at_span WrongKind x.span ≡ fault → StandsTold known sought x fault
-other_told known sought x fault m is none e = told known (Stands sought x) e (refl, not_free known x.id is, none)
+other_told known sought x fault m is none e = told _ _ e (refl, not_free _ _ is, none)
 
 pub one_meaning : (known : List Known) (id : ℕ) {m n : Meaning} → meaning_of known id ≡ Some m → meaning_of known id ≡ Some n → m ≡ n
 one_meaning known id {m} {n} p q = let both : (let o : Option Meaning = Some m in o) ≡ Some n = sym p ∙ q in cc both
@@ -46,19 +46,19 @@ pub stream_told : (known : List Known) (x : Name) {fault : QueryFault} → strea
 stream_told known x {fault} e = go (meaning_of known x.id) refl e
   where
     go : (o : Option Meaning) → meaning_of known x.id ≡ o → as_stream o x.span ≡ Err fault → StandsTold known AStream x fault
-    go None is e = unknown_told known AStream x fault is (same_fault e)
+    go None is e = unknown_told _ _ x _ is (same_fault e)
     go (Some (meaning.Stream s)) is e = no_fault e
-    go (Some (meaning.Fold f)) is e = other_told known AStream x fault _ is (no_stream known x.id is (λ s k. cc k)) (same_fault e)
-    go (Some (meaning.Final t)) is e = other_told known AStream x fault _ is (no_stream known x.id is (λ s k. cc k)) (same_fault e)
+    go (Some (meaning.Fold f)) is e = other_told _ _ x _ _ is (no_stream _ _ is (λ s k. cc k)) (same_fault e)
+    go (Some (meaning.Final t)) is e = other_told _ _ x _ _ is (no_stream _ _ is (λ s k. cc k)) (same_fault e)
 
 pub fold_told : (known : List Known) (x : Name) {fault : QueryFault} → fold_named known x ≡ Err fault → StandsTold known AFold x fault
 fold_told known x {fault} e = go (meaning_of known x.id) refl e
   where
     go : (o : Option Meaning) → meaning_of known x.id ≡ o → as_fold o x.span ≡ Err fault → StandsTold known AFold x fault
-    go None is e = unknown_told known AFold x fault is (same_fault e)
+    go None is e = unknown_told _ _ x _ is (same_fault e)
     go (Some (meaning.Fold f)) is e = no_fault e
-    go (Some (meaning.Stream s)) is e = other_told known AFold x fault _ is (no_fold known x.id is (λ f k. cc k)) (same_fault e)
-    go (Some (meaning.Final t)) is e = other_told known AFold x fault _ is (no_fold known x.id is (λ f k. cc k)) (same_fault e)
+    go (Some (meaning.Stream s)) is e = other_told _ _ x _ _ is (no_fold _ _ is (λ f k. cc k)) (same_fault e)
+    go (Some (meaning.Final t)) is e = other_told _ _ x _ _ is (no_fold _ _ is (λ f k. cc k)) (same_fault e)
 
 no_table : (known : List Known) (id : ℕ) (m : Meaning) → meaning_of known id ≡ Some m → ((t : TableView) → m ≡ meaning.Final t → ⊥)
     → ((s : StreamView) (t : TableView) → m ≡ meaning.Stream s → s.table ≡ Some t → ⊥) → IsSought known ATable id → ⊥
@@ -73,15 +73,15 @@ table_told known x {fault} e = go (meaning_of known x.id) refl e
   where
     at_stream : (s : StreamView) → meaning_of known x.id ≡ Some (meaning.Stream s) → (o : Option TableView) → s.table ≡ o
         → table_at o x.span ≡ Err fault → StandsTold known ATable x fault
-    at_stream s is None none e = other_told known ATable x fault _ is (no_table known x.id _ is (λ t k. cc k)
+    at_stream s is None none e = other_told _ _ x _ _ is (no_table _ _ _ is (λ t k. cc k)
         (λ r t k there. let both : (let o : Option TableView = None in o) ≡ Some t = sym none
         ∙ ap (λ (z : StreamView). z.table) (same_stream s r k) ∙ there in cc both)) (same_fault {g = fault} e)
     at_stream s is (Some t) some e = no_fault e
 
     go : (o : Option Meaning) → meaning_of known x.id ≡ o → as_table o x.span ≡ Err fault → StandsTold known ATable x fault
-    go None is e = unknown_told known ATable x fault is (same_fault {g = fault} e)
+    go None is e = unknown_told _ _ x _ is (same_fault {g = fault} e)
     go (Some (meaning.Fold f)) is e =
-        other_told known ATable x fault _ is (no_table known x.id _ is (λ t k. cc k) (λ s t k there. cc k)) (same_fault {g = fault} e)
+        other_told _ _ x _ _ is (no_table _ _ _ is (λ t k. cc k) (λ s t k there. cc k)) (same_fault {g = fault} e)
     go (Some (meaning.Stream s)) is e = at_stream s is s.table refl e
     go (Some (meaning.Final t)) is e = no_fault e
 

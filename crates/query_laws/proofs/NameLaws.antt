@@ -55,24 +55,24 @@ stream_sound known name {s} e = go (meaning_of known name.id) refl e
   where
     go : (o : Option Meaning) → meaning_of known name.id ≡ o → as_stream o name.span ≡ Ok s → IsStream known name.id s
     go None is e = cc e
-    go (Some (meaning.Stream x)) is e = meaning_sound known name.id (is ∙ ap (λ (z : StreamView). Some (meaning.Stream z)) (same_ok x s e))
+    go (Some (meaning.Stream x)) is e = meaning_sound _ _ (is ∙ ap (λ (z : StreamView). Some (meaning.Stream z)) (same_ok x s e))
     go (Some (meaning.Fold f)) is e = cc e
     go (Some (meaning.Final t)) is e = cc e
 
 pub stream_complete : (known : List Known) (name : Name) {s : StreamView} → IsStream known name.id s → stream_named known name ≡ Ok s
-stream_complete known name h = ap (λ (o : Option Meaning). as_stream o name.span) (meaning_complete known name.id h)
+stream_complete known name h = ap (λ (o : Option Meaning). as_stream o name.span) (meaning_complete _ _ h)
 
 pub fold_name_sound : (known : List Known) (name : Name) {f : FoldView} → fold_named known name ≡ Ok f → IsFold known name.id f
 fold_name_sound known name {f} e = go (meaning_of known name.id) refl e
   where
     go : (o : Option Meaning) → meaning_of known name.id ≡ o → as_fold o name.span ≡ Ok f → IsFold known name.id f
     go None is e = cc e
-    go (Some (meaning.Fold x)) is e = meaning_sound known name.id (is ∙ ap (λ (z : FoldView). Some (meaning.Fold z)) (same_ok x f e))
+    go (Some (meaning.Fold x)) is e = meaning_sound _ _ (is ∙ ap (λ (z : FoldView). Some (meaning.Fold z)) (same_ok x f e))
     go (Some (meaning.Stream s)) is e = cc e
     go (Some (meaning.Final t)) is e = cc e
 
 pub fold_name_complete : (known : List Known) (name : Name) {f : FoldView} → IsFold known name.id f → fold_named known name ≡ Ok f
-fold_name_complete known name h = ap (λ (o : Option Meaning). as_fold o name.span) (meaning_complete known name.id h)
+fold_name_complete known name h = ap (λ (o : Option Meaning). as_fold o name.span) (meaning_complete _ _ h)
 
 table_there : (o : Option TableView) (span : Span) {t : TableView} → table_at o span ≡ Ok t → o ≡ Some t
 table_there None span e = cc e
@@ -84,13 +84,13 @@ table_sound known name {t} e = go (meaning_of known name.id) refl e
     go : (o : Option Meaning) → meaning_of known name.id ≡ o → as_table o name.span ≡ Ok t → IsTable known name.id t
     go None is e = cc e
     go (Some (meaning.Fold f)) is e = cc e
-    go (Some (meaning.Stream s)) is e = inr (s, meaning_sound known name.id is, table_there s.table name.span e)
-    go (Some (meaning.Final x)) is e = inl (meaning_sound known name.id
+    go (Some (meaning.Stream s)) is e = inr (s, meaning_sound _ _ is, table_there _ _ e)
+    go (Some (meaning.Final x)) is e = inl (meaning_sound _ _
         (is ∙ ap (λ (z : TableView). Some (meaning.Final z)) (same_ok x t e)))
 
 pub table_complete : (known : List Known) (name : Name) {t : TableView} → IsTable known name.id t → table_named known name ≡ Ok t
-table_complete known name (inl h) = ap (λ (o : Option Meaning). as_table o name.span) (meaning_complete known name.id h)
-table_complete known name (inr p) = ap (λ (o : Option Meaning). as_table o name.span) (meaning_complete known name.id p.1)
+table_complete known name (inl h) = ap (λ (o : Option Meaning). as_table o name.span) (meaning_complete _ _ h)
+table_complete known name (inr p) = ap (λ (o : Option Meaning). as_table o name.span) (meaning_complete _ _ p.1)
     ∙ ap (λ (o : Option TableView). table_at o name.span) p.2
 
 -- ---- new columns
@@ -116,7 +116,7 @@ pub columns_sound : (columns hidden : List ℕ) (cs : List Column) (made : NewCo
 columns_sound columns hidden [] made {all} e = (
   [],
   tt,
-  sym (same_ok made all e) ∙ columns_same (sym (append-nil made.names)) (sym (append-nil made.values)),
+  sym (same_ok _ _ e) ∙ columns_same (sym (append-nil made.names)) (sym (append-nil made.values)),
 )
 columns_sound columns hidden (c ∷ cs) made {all} e =
     let one = must_not_ok _ _ _ e in
@@ -151,7 +151,7 @@ columns_complete columns hidden (c ∷ cs) (v ∷ values) made h =
 
 pub slot_complete : (columns hidden : List ℕ) (name : Name) {slot : ℕ} → StandsAt columns slot name.id
     → slot_of columns hidden name ≡ Ok slot
-slot_complete columns hidden name h = ap (λ (o : Option ℕ). slot_at o (is_among name.id hidden) name.span) (stands_place columns name.id h)
+slot_complete columns hidden name h = ap (λ (o : Option ℕ). slot_at o (is_among name.id hidden) name.span) (stands_place _ _ h)
 
 abbrev name_ids : List Name → List ℕ
 name_ids names = map (λ key. key.id) names
@@ -170,7 +170,7 @@ keys_sound columns hidden [] found {all} h e = (
   tt,
   tt,
   omega (arith, h),
-  sym (same_ok found all e) ∙ picked_same (sym (append-nil found.names)) (sym (append-nil found.slots)),
+  sym (same_ok _ _ e) ∙ picked_same (sym (append-nil found.names)) (sym (append-nil found.slots)),
 )
 keys_sound columns hidden (key ∷ keys) found {all} h e =
     let slot = found_first (slot_of columns hidden key) _ all e in
@@ -208,7 +208,7 @@ slot_for columns hidden span id = slot_of columns hidden (record { id = id; span
 slots_sound : (columns hidden : List ℕ) (span : Span) (ids before : List ℕ) {all : List ℕ}
     → collected before (map (slot_for columns hidden span) ids) ≡ Ok all → (slots : List ℕ) × (all ≡ before ++ slots)
     × HasSlots columns ids slots
-slots_sound columns hidden span [] before {all} e = ([], sym (same_ok _ all e) ∙ sym (append-nil before), tt)
+slots_sound columns hidden span [] before {all} e = ([], sym (same_ok _ _ e) ∙ sym (append-nil before), tt)
 slots_sound columns hidden span (id ∷ ids) before {all} e = go (slot_for columns hidden span id) refl
     (λ x k. slots_sound columns hidden span ids (before ++ x ∷ []) k) e
   where
@@ -255,13 +255,13 @@ apart_complete (id ∷ ids) others h = ap (λ (b : Bool). b || list_any (λ id. 
 pub arguments_sound : {columns : List ℕ} (hidden : List ℕ) {keys : List ℕ} {f : FoldView} (span : Span) {slots : List ℕ}
     → arguments_of columns hidden keys f span ≡ Ok slots → HasArguments columns keys f slots
 arguments_sound {columns} hidden {keys} {f} span {slots} e =
-    let first = found_first (collected [] (map (slot_for columns hidden span) f.args)) _ slots e in
+    let first = found_first _ _ _ e in
     let one = must_not_ok _ _ _ first.2 in
-    let s = slots_sound columns hidden span f.args [] first.1 in
+    let s = slots_sound _ _ _ _ _ first.1 in
     let S : List ℕ → Type 0 = λ z. HasSlots columns f.args z in
-    record { places = subst S (sym s.1 ∙ same_ok first.0 slots one.1) s.2; apart = apart_sound f.states keys one.0 }
+    record { places = subst S (sym s.1 ∙ same_ok _ _ one.1) s.2; apart = apart_sound _ _ one.0 }
 
 pub arguments_complete : {columns : List ℕ} (hidden : List ℕ) {keys : List ℕ} {f : FoldView} (span : Span) {slots : List ℕ} → HasArguments columns keys f slots
     → arguments_of columns hidden keys f span ≡ Ok slots
-arguments_complete {columns} hidden {keys} {f} span {slots} h = then_next _ (slots_complete columns hidden span f.args slots [] h.places)
-    ∙ must_not_holds _ _ (apart_complete f.states keys h.apart)
+arguments_complete {columns} hidden {keys} {f} span {slots} h = then_next _ (slots_complete _ _ _ _ _ _ h.places)
+    ∙ must_not_holds _ _ (apart_complete _ _ h.apart)

@@ -65,7 +65,7 @@ word_at : {n m : ℕ} → n ≡ m → IsWord m → IsWord n
 word_at e h = subst IsWord (sym e) h
 
 binary_word : (op : Op) (s : Span) (a b : Expr) → is_word_expr a → is_word_expr b → is_word_expr (Binary op s a b)
-binary_word op s a b h k = word_at (binary_is op s a b) (greater h k)
+binary_word op s a b h k = word_at (binary_is _ s a b) (greater h k)
 
 -- ---- expressions
 
@@ -83,17 +83,17 @@ grouped_word left (o ∷ others) h k =
 
 compared_word : (left : Expr) (other : Option Operand) → is_word_expr left → if_some operand_word other → is_word_expr (compared left other)
 compared_word left None h k = h
-compared_word left (Some o) h k = binary_word o.0.0 o.0.1 left o.1 h k
+compared_word left (Some o) h k = binary_word _ _ _ _ h k
 
 negated_word : (spans : List Span) (e : Expr) → is_word_expr e → is_word_expr (negated spans e)
 negated_word [] e h = h
 negated_word (s ∷ spans) e h = word_at (not_is s (negated spans e)) (negated_word spans e h)
 
 level_holds : {L : Language Expr} (ops : Operators) → Holds L is_word_expr → Holds (Level ops L) is_word_expr
-level_holds ops p = meaning_holds (then_holds p (repeated_holds (second_holds _ p))) (λ a h. grouped_word a.0 a.1 h.0 h.1)
+level_holds ops p = meaning_holds (then_holds p (repeated_holds (second_holds _ p))) (λ a h. grouped_word _ _ h.0 h.1)
 
 unary_holds : {L : Language Expr} → Holds L is_word_expr → Holds (Unary L) is_word_expr
-unary_holds p = meaning_holds (second_holds _ p) (λ a h. negated_word a.0 a.1 h)
+unary_holds p = meaning_holds (second_holds _ p) (λ a h. negated_word _ _ h)
 
 comparison_holds : {P : Language Expr} → Holds P is_word_expr → Holds (Comparison P) is_word_expr
 comparison_holds {P} p =
@@ -112,13 +112,13 @@ disjunction_holds {P} p =
     level_holds either_ops cj
 
 atom_holds : Holds Atom is_word_expr
-atom_holds = either_holds (meaning_holds number_holds (λ a h. word_at (number_is a.1) h))
+atom_holds = either_holds (meaning_holds number_holds (λ a h. word_at (number_is _) h))
     (either_holds (meaning_holds any_holds (λ a h. word_at (number_is a) (omega arith)))
     (meaning_holds any_holds (λ a h. word_at (named_is a) (omega arith))))
 
 call_holds : {E : Language Expr} → Holds E is_word_expr → Holds (CallOf E) is_word_expr
 call_holds p = meaning_holds (second_holds _ (parens_hold (listed_holds p)))
-    (λ a h. word_at (call_is a.0.0 a.0.1 a.1) (greatest_word greatest_number a.1 h))
+    (λ a h. word_at (call_is _ _ _) (greatest_word _ _ h))
 
 pub expr_holds : (d : ℕ) → Holds (Expression d) is_word_expr
 expr_holds zero = disjunction_holds atom_holds
@@ -128,10 +128,10 @@ expr_holds (suc d) = let p = expr_holds d in disjunction_holds (either_holds ato
 
 assignment_holds : {E : Language Expr} → Holds E is_word_expr → Holds (Assignment E) is_word_stmt
 assignment_holds p = meaning_holds (second_holds _ (between_holds (sign marks.Assign) (sign marks.Semicolon) p))
-    (λ a h. word_at (assign_is a.0 a.1) h)
+    (λ a h. word_at (assign_is _ _) h)
 
 emission_holds : Holds Emission is_word_stmt
-emission_holds = meaning_holds any_holds (λ a h. word_at (emit_is a.0) (omega arith))
+emission_holds = meaning_holds any_holds (λ a h. word_at (emit_is _) (omega arith))
 
 pub block_holds : {S : Language Stmt} → Holds S is_word_stmt → Holds (Block S) (All is_word_stmt)
 block_holds p = between_holds (sign marks.OpenBrace) (sign marks.CloseBrace) (repeated_holds p)
@@ -158,10 +158,10 @@ chains p w (a ∷ others) o h b =
     (all_cons branch_word a others (p.is h.0 (inl a) h.3 r.0) more.0, more.1)
 
 chained_holds : {T : Language ((Expr × List Stmt) ⊎ List Stmt)} → Holds T else_word → Holds (Chained T) chain_word
-chained_holds p = record { is = λ w v h b. chains p w v.0 v.1 h b }
+chained_holds p = record { is = λ w v h b. chains p w _ _ h b }
 
 if_word : (c : Expr) (a b : List Stmt) → is_word_expr c → All is_word_stmt a → All is_word_stmt b → is_word_stmt (If c a b)
-if_word c a b h k l = word_at (if_is c a b) (greater h (greater (greatest_word greatest_in a k) (greatest_word greatest_in b l)))
+if_word c a b h k l = word_at (if_is c a b) (greater h (greater (greatest_word _ a k) (greatest_word _ b l)))
 
 else_words : (v : List (Expr × List Stmt)) (o : Option (List Stmt)) → All branch_word v → if_some (All is_word_stmt) o
     → All is_word_stmt (else_of v o)
@@ -182,7 +182,7 @@ else_part_holds p q = after_holds (keyword words.Else)
 
 if_holds : {E : Language Expr} {S : Language Stmt} → Holds E is_word_expr → Holds S is_word_stmt → Holds (IfStatement E S) is_word_stmt
 if_holds p q = meaning_holds (then_holds (if_part_holds p q) (chained_holds (else_part_holds p q)))
-    (λ a h. if_word a.0.1.0 a.0.1.1 (else_of a.1.0 a.1.1) h.0.0 h.0.1 (else_words a.1.0 a.1.1 h.1.0 h.1.1))
+    (λ a h. if_word _ _ _ h.0.0 h.0.1 (else_words _ _ h.1.0 h.1.1))
 
 pub stmt_holds : (d : ℕ) → Holds (Statement_at d) is_word_stmt
 stmt_holds zero = assignment_holds (expr_holds zero)

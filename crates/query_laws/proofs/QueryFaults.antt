@@ -21,13 +21,13 @@ use Rattle.query_laws.proofs.QueryLaws.{item_sound, item_complete, items_sound}
 
 taken_told : (known : List Known) (x : Name) {fault : QueryFault} → is_some (meaning_of known x.id) ≡ true
     → at_span NameTaken x.span ≡ fault → Tells known fault.kind fault.span (Free x)
-taken_told known x taken e = told known (Free x) e (refl, λ free. not_both _ (free_complete known x.id free) taken)
+taken_told known x taken e = told _ _ e (refl, λ free. not_both _ (free_complete known x.id free) taken)
 
 bindings_told : (names : List (List ℕ)) (items : List Entry) (x : Name) {fault : QueryFault}
     → nat_lt (length (streams_in items) + length (finals_in items)) MAX_BINDINGS ≡ false → at_span (OverLimit Bindings) x.span ≡ fault
     → Tells (known_in names items) fault.kind fault.span (Fewer Bindings (length (streams_in items) + length (finals_in items)) x.span)
 bindings_told names items x full e =
-    told (known_in names items) (Fewer Bindings (length (streams_in items) + length (finals_in items)) x.span) e (
+    told _ _ e (
       refl,
       refl,
       at_least refl full,
@@ -51,11 +51,11 @@ ItemTold given names items i fault = Broken (ItemAsks (five_fields given.fields)
 item_told : (given : Given) {names : List (List ℕ)} {items : List Entry} (i : Item) {fault : QueryFault}
     → item_checked given (earlier_of names items) i ≡ Err fault → ItemTold given names items i fault
 item_told given {names} {items} (item.Fold d) e =
-    by_must_not (is_some (meaning_of (known_in names items) d.name.id)) e (λ taken at. record {
+    by_must_not _ e (λ taken at. record {
       demand = Free d.name;
       asks = of_fold_name;
-      tells = taken_told (known_in names items) d.name taken at;
-    }) (λ none e. by_next (fold_checked d) e (λ is. broken_in (λ q asked. of_fold d q asked) (fold_faults is)) (λ f p e. no_fault e))
+      tells = taken_told _ _ taken at;
+    }) (λ none e. by_next _ e (λ is. broken_in (λ q asked. of_fold d q asked) (fold_faults is)) (λ f p e. no_fault e))
 item_told given {names} {items} (item.Stream d) {fault} e = by_next (begun (earlier_of names items) d.name) e
     (λ is. begun_told names items d.name is of_stream_name of_one_stream) (λ u p e.
     by_next (made_stream (five_fields given.fields) (earlier_of names items) d.name d.op) e (λ is. broken_in (λ q asked. of_stream asked)
@@ -133,14 +133,14 @@ some_more n e = grind arith
 
 empty : {A : Type 0} (xs : List A) → nat_lt 0 (length xs) ≡ false → xs ≡ []
 empty [] e = refl
-empty (x ∷ xs) e = absurd (some_more (length xs) e)
+empty (x ∷ xs) e = absurd (some_more _ e)
 
 fault_told : {q : Query} {fault : QueryFault} → checked q ≡ Err fault → IsTold q fault
 fault_told {q} {fault} e =
     let names = typed_names q.names in
     let given = given_of names q.items in
-    by_next (items_checked given (start_of names) q.items) e (λ is.
-    let a = at_item given names [] q.items fault is in
+    by_next _ e (λ is.
+    let a = at_item _ _ _ _ _ is in
     inl (record {
       front = a.front;
       item = a.one;
@@ -154,13 +154,13 @@ fault_told {q} {fault} e =
       unmet = unmet (known_in names a.items) fault.kind fault.span a.told.demand a.told.tells;
       says = a.told.tells;
     })) (λ more p e.
-    let all = items_sound [] q.items p in
-    by_must (nat_lt 0 (length more.prints)) _ e (λ none at. inr (
+    let all = items_sound _ _ p in
+    by_must _ _ e (λ none at. inr (
       at,
       record {
         all = all.0;
         typed = all.1;
-        none = empty (prints_in all.0) (ap (λ (z : Earlier). nat_lt 0 (length z.prints)) (sym all.2) ∙ none);
+        none = empty _ (ap (λ (z : Earlier). nat_lt 0 (length z.prints)) (sym all.2) ∙ none);
       },
     )) (λ some e. no_fault e))
 
@@ -194,5 +194,5 @@ pub only_these : (q : Query) {fault : QueryFault} → checked q ≡ Err fault �
 only_these q {fault} e = go (fault_told e)
   where
     go : IsTold q fault → IsOfTyping fault.kind
-    go (inl b) = of_typing (known_in (typed_names q.names) b.before) fault.kind fault.span b.demand b.says
+    go (inl b) = of_typing _ _ _ _ b.says
     go (inr h) = let K : QueryFault → Type 0 = λ f. IsOfTyping f.kind in subst K h.0 tt

@@ -19,11 +19,11 @@ binding_sound : {names : List (List ℕ)} {items : List Entry} {name : Name} {u 
 binding_sound {names} {items} {name} e =
     let one = must_not_ok _ _ _ e in
     let two = must_ok _ _ _ one.1 in
-    record { free = free_sound (known_in names items) name.id one.0; few = ltb-true _ MAX_BINDINGS two.0 }
+    record { free = free_sound _ _ one.0; few = ltb-true _ MAX_BINDINGS two.0 }
 
 binding_complete : {names : List (List ℕ)} {items : List Entry} {name : Name} → IsBinding names items name
     → begun (earlier_of names items) name ≡ Ok tt
-binding_complete {names} {items} {name} h = must_not_holds _ _ (free_complete (known_in names items) name.id h.free)
+binding_complete {names} {items} {name} h = must_not_holds _ _ (free_complete _ _ h.free)
     ∙ must_holds _ _ (below h.few)
 
 -- what an item adds to the tables is what its typed form adds
@@ -34,10 +34,10 @@ fold_item : (given : Given) {names : List (List ℕ)} {items : List Entry} {d : 
     → fold_added (earlier_of names items) d ≡ Ok more → Adds given names items (item.Fold d) more
 fold_item given {names} {items} {d} {more} e =
     let free = must_not_ok _ _ _ e in
-    let f = found_first (fold_checked d) _ more free.1 in (
+    let f = found_first _ _ _ free.1 in (
       AFold f.0,
-      record { f = f.0; free = free_sound (known_in names items) d.name.id free.0; typed = fold_sound f.1; is = refl },
-      sym (same_ok _ more f.2),
+      record { f = f.0; free = free_sound _ _ free.0; typed = fold_sound f.1; is = refl },
+      sym (same_ok _ _ f.2),
     )
 
 stream_item : (given : Given) {names : List (List ℕ)} {items : List Entry} {d : StreamDef} {more : Earlier}
@@ -73,16 +73,16 @@ final_item {given} {names} {items} {d} {more} e =
 print_item : (given : Given) {names : List (List ℕ)} {items : List Entry} {name : Name} {more : Earlier}
     → print_checked (earlier_of names items) name ≡ Ok more → Adds given names items (item.Print name) more
 print_item given {names} {items} {name} {more} e =
-    let table = found_first (table_named (known_in names items) name) _ more e in
+    let table = found_first _ _ _ e in
     let once = must_not_ok _ _ _ table.2 in (
       APrint name table.0.place,
       record {
         table = table.0;
-        stands = table_sound (known_in names items) name table.1;
-        once = among_new name.id (printed_in items) once.0;
+        stands = table_sound _ _ table.1;
+        once = among_new _ _ once.0;
         is = refl;
       },
-      sym (same_ok _ more once.1),
+      sym (same_ok _ _ once.1),
     )
 
 pub item_sound : (given : Given) (names : List (List ℕ)) {items : List Entry} (i : Item) {more : Earlier}
@@ -111,7 +111,7 @@ item_complete given names items (item.Print name) one h = then_next _ (table_com
 pub items_sound : {given : Given} {names : List (List ℕ)} (before : List Entry) (list : List Item) {more : Earlier}
     → items_checked given (earlier_of names before) list ≡ Ok more
     → (all : List Entry) × HasItems given names before list all × (more ≡ earlier_of names all)
-items_sound before [] {more} e = (before, of_none before, sym (same_ok _ more e))
+items_sound before [] {more} e = (before, of_none _, sym (same_ok _ _ e))
 items_sound {given} {names} before (i ∷ rest) {more} e =
     let first = found_first (item_checked given (earlier_of names before) i) _ more e in
     let one = item_sound given names i first.1 in
@@ -129,8 +129,8 @@ pub query_sound : (q : Query) (t : TypedQuery) → checked q ≡ Ok t → IsType
 query_sound q t e =
     let names = typed_names q.names in
     let given = given_of names q.items in
-    let first = found_first (items_checked given (start_of names) q.items) (ended names q.end) t e in
-    let all = items_sound [] q.items first.1 in
+    let first = found_first _ _ t e in
+    let all = items_sound _ _ first.1 in
     let done : ended names q.end (earlier_of names all.0) ≡ Ok t = ap (ended names q.end) (sym all.2) ∙ first.2 in
     let some = must_ok _ _ _ done in
     record { items = all.0; typed = all.1; prints = ltb-true 0 (length (prints_in all.0)) some.0; is = sym (same_ok _ t some.1) }
@@ -139,7 +139,7 @@ pub query_complete : {q : Query} {t : TypedQuery} → IsTyped q t → checked q 
 query_complete {q} h =
     let names = typed_names q.names in
     let given = given_of names q.items in
-    then_next (ended names q.end) (items_complete h.typed) ∙ must_holds _ _ (below h.prints) ∙ ok (sym h.is)
+    then_next _ (items_complete h.typed) ∙ must_holds _ _ (below h.prints) ∙ ok (sym h.is)
 
 pub one_form : {q : Query} {t u : TypedQuery} → IsTyped q t → IsTyped q u → t ≡ u
 one_form {t} {u} h k = same_ok t u (sym (query_complete h) ∙ query_complete k)

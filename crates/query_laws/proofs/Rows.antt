@@ -18,11 +18,11 @@ use Rattle.query_laws.proofs.Values.{of_map, of_zip, of_group}
 
 one_more : (folds : List TypedFold) (number : ℕ) (V : Values) (views : List View) (lists : List (List Tuple)) → AllHave number V views lists
     → (op : TypedOp) (view : View) → Makes views number op view → OneMore number views lists view (made_of folds lists op)
-one_more folds number V views lists h (typed.Filter input condition) view m = of_filter folds number V views lists h input condition m
+one_more folds number V views lists h (typed.Filter input condition) view m = of_filter folds number V views lists h _ _ m
 one_more folds number V views lists h (typed.Map input values) view m = of_map folds number V views lists h m
 one_more folds number V views lists h (typed.Zip left right slots) view m = of_zip folds number V views lists h m
     (subst (AreBelow (length m.second)) (sym m.picked) (others_below (column_names m.first) m.second))
-one_more folds number V views lists h (typed.Group input keys f args) view m = of_group folds number V views lists h f args m
+one_more folds number V views lists h (typed.Group input keys f args) view m = of_group folds number V views lists h f _ m
 
 -- the streams that follow others
 abbrev followed : List TypedFold → List (List Tuple) → List TypedStream → List (List Tuple)
@@ -114,13 +114,13 @@ has_rows query {q} {packets} e whole =
 field_names : (ids : List ℕ)
     → ids ≡ column_names (map (λ id. let column : StreamColumn = record { name = id; origin = origin.Field } in column) ids)
 field_names [] = refl
-field_names (id ∷ ids) = ap (λ l. id ∷ l) (field_names ids)
+field_names (id ∷ ids) = ap (λ l. id ∷ l) (field_names _)
 
 -- the names of a stream's columns
 pub names_are : (q : TypedQuery) (views : List View) → AreMade (field_view q.names ∷ []) q.streams views
     → (number : ℕ) {view : View} → slice_get (field_view q.names ∷ views) number ≡ Some view → columns_of q number ≡ column_names view
-names_are q views made zero {view} e = field_names (field_numbers q.names) ∙ ap column_names (same_Some (field_view q.names) view e)
-names_are q views made (suc i) e = ap (λ o. unwrap_or o []) (columns_made (field_view q.names ∷ []) q.streams views made i e)
+names_are q views made zero {view} e = field_names _ ∙ ap column_names (same_Some (field_view q.names) view e)
+names_are q views made (suc i) e = ap (λ o. unwrap_or o []) (columns_made _ _ _ made i e)
 
 -- a tuple of a stream has these values
 pub row_in : (V : Values) (view : View) (tuples : List Tuple) {t : Tuple} → HaveValues V view tuples → Contains tuples t

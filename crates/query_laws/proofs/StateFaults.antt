@@ -48,22 +48,22 @@ state_of : (states : List ℕ) (y : expr.Expr-F (With states)) {span : Span}
     → state_step states (map-Expr Expr (Option Span) (state_in states) (map-Expr (With states) Expr (λ a. a.0) y)) ≡ Some span
     → State states (roll-Expr (map-Expr (With states) Expr (λ a. a.0) y)) span
 state_of states (expr.Number n at) e = cc e
-state_of states (expr.Named x) e = state_moved states (rolls-Named x) (named_state states (is_among x.id states) refl e)
+state_of states (expr.Named x) e = state_moved _ (rolls-Named x) (named_state _ _ refl e)
 state_of states (expr.Not at a) {span} e =
     let m = a.1 span e in
-    state_moved states (rolls-Not at a.0) (m.0, λ k. let p = m.1 Condition in (p.0, parts.of_not at p.1), m.2, m.3)
-state_of states (expr.Binary op at a b) {span} e = state_moved states (rolls-Binary op at a.0 b.0) (
-    either_state (state_in states a.0) e (λ is.
+    state_moved _ (rolls-Not at a.0) (m.0, λ k. let p = m.1 Condition in (p.0, parts.of_not _ p.1), m.2, m.3)
+state_of states (expr.Binary op at a b) {span} e = state_moved _ (rolls-Binary op at a.0 b.0) (
+    either_state _ e (λ is.
     let m = a.1 span is in
-    (m.0, λ k. let p = m.1 (operand_kind op) in (p.0, parts.of_left op at a.0 b.0 p.1), m.2, m.3)) (λ is.
+    (m.0, λ k. let p = m.1 (operand_kind op) in (p.0, parts.of_left _ _ _ _ p.1), m.2, m.3)) (λ is.
     let m = b.1 span is in
-    (m.0, λ k. let p = m.1 (operand_kind op) in (p.0, parts.of_right op at a.0 p.1), m.2, m.3)))
+    (m.0, λ k. let p = m.1 (operand_kind op) in (p.0, parts.of_right _ _ _ p.1), m.2, m.3)))
 state_of states (expr.Call op at args) e =
-    let c = some_argument states args e in
+    let c = some_argument _ _ e in
     let m = c.2 in
-    state_moved states (rolls-Call op at (exprs states args)) (
+    state_moved _ (rolls-Call op at (exprs _ args)) (
       m.0,
-      λ k. let p = m.1 (operand_kind op) in (p.0, parts.of_argument op at c.1 p.1),
+      λ k. let p = m.1 (operand_kind op) in (p.0, parts.of_argument _ _ c.1 p.1),
       m.2,
       m.3,
     )
@@ -72,7 +72,7 @@ pub has_state : (states : List ℕ) (e : Expr) → HasState states e
 has_state states = ind-Expr (HasState states) (λ x y is span e.
     let L : expr.Expr-F Expr → Type 0 = λ z. state_step states (map-Expr Expr (Option Span) (state_in states) z) ≡ Some span
     → State states (roll-Expr z) span in
-    subst L is (state_of states y) (sym (fold-roll-Expr (Option Span) (state_step states) x) ∙ e))
+    subst L is (state_of _ y) (sym (fold-roll-Expr (Option Span) (state_step states) x) ∙ e))
 
 -- what the check knows of the conditions around
 abbrev pub Knows : List ℕ → List Expr → Enclosing → Type 0
@@ -80,5 +80,5 @@ Knows states around outer = (span : Span) → outer.state ≡ Some span → (c :
 
 pub knows_inside : (states : List ℕ) {around : List Expr} (outer : Enclosing) {c : Expr} (t : TypedExpr) → Knows states around outer
     → Knows states (c ∷ around) (inside states outer c t)
-knows_inside states {around} outer {c} t knows span e = either_state outer.state e
+knows_inside states {around} outer {c} t knows span e = either_state _ e
     (λ is. let k = knows span is in (k.0, parts.later c around k.1, k.2)) (λ is. (c, parts.first, is))

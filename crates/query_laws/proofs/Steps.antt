@@ -68,10 +68,10 @@ found_from (name ∷ rest) at id (suc k) e =
 
 pub place_stands : (names : List ℕ) (id v : ℕ) → place_of names id ≡ Some v → StandsAt names v id
 place_stands names id v e =
-    let m = stands_from names 0 id e in
+    let m = stands_from _ 0 _ e in
     let same : m.0 ≡ v = omega (arith, m.1) in
     let S : ℕ → Type 0 = λ k. StandsAt names k id in
     subst S same m.2
 
 pub stands_place : (names : List ℕ) (id : ℕ) {v : ℕ} → StandsAt names v id → place_of names id ≡ Some v
-stands_place names id {v} e = found_from names 0 id v e ∙ ap Some (let s : 0 + v ≡ v = omega arith in s)
+stands_place names id {v} e = found_from _ 0 _ v e ∙ ap Some (let s : 0 + v ≡ v = omega arith in s)

@@ -28,15 +28,15 @@ StreamTold five earlier name op = (fault : QueryFault) → made_stream five earl
 
 stream_filter_told : {five : List ℕ} (earlier : Earlier) {name : Name} {input : Name} {e : Expr}
     → StreamTold five earlier name (stream.Filter input e)
-stream_filter_told earlier {input} {e} fault is = by_next (stream_named earlier.known input) is (λ is. record {
+stream_filter_told earlier {input} {e} fault is = by_next _ is (λ is. record {
   demand = Stands AStream input;
   asks = of_filtered;
-  tells = stream_told earlier.known input is;
-}) (λ source p is. by_next (condition_of (column_names source.columns) source.hidden e) is (λ is.
+  tells = stream_told _ _ is;
+}) (λ source p is. by_next _ is (λ is.
     let b = condition_told is in
     record {
       demand = b.demand;
-      asks = of_condition source (stream_sound earlier.known input p) b.asks;
+      asks = of_condition source (stream_sound _ _ p) b.asks;
       tells = b.tells earlier.known;
     }) (λ condition q is. no_fault is))
 
@@ -98,10 +98,10 @@ stream_op_told earlier (stream.Group input keys fold_name) = stream_groupby_told
 
 quiet_stands : (earlier : Earlier) (name : Name) {f : FoldView} → quiet_fold earlier.known name ≡ Ok f → IsFold earlier.known name.id f
 quiet_stands earlier name {f} e =
-    let loud = found_first (fold_named earlier.known name) _ f e in
-    let quiet = must_not_ok loud.0.emits WrongKind name.span loud.2 in
+    let loud = found_first _ _ f e in
+    let quiet = must_not_ok _ _ _ loud.2 in
     let F : FoldView → Type 0 = λ z. IsFold earlier.known name.id z in
-    subst F (same_ok loud.0 f quiet.1) (fold_name_sound earlier.known name loud.1)
+    subst F (same_ok _ f quiet.1) (fold_name_sound _ _ loud.1)
 
 kept : {rows : ℕ} → 1 ≤ rows → rows ≤ 65536 → (nat_lt 0 rows && nat_le rows 65536) ≡ true
 kept some few = both_hold (below (omega (arith, some))) (at_most few)
@@ -112,15 +112,15 @@ FinalTold given earlier op = (fault : QueryFault) → made_final given earlier o
     → Broken (FinalAsks (five_fields given.fields) earlier.known op) earlier.known fault
 
 final_filter_told : (given : Given) (earlier : Earlier) {input : Name} {e : Expr} → FinalTold given earlier (final.Filter input e)
-final_filter_told given earlier {input} {e} fault is = by_next (table_named earlier.known input) is (λ is. record {
+final_filter_told given earlier {input} {e} fault is = by_next _ is (λ is. record {
   demand = Stands ATable input;
   asks = asks.of_filtered;
-  tells = table_told earlier.known input is;
-}) (λ source p is. by_next (condition_of source.columns [] e) is (λ is.
+  tells = table_told _ _ is;
+}) (λ source p is. by_next _ is (λ is.
     let b = condition_told is in
     record {
       demand = b.demand;
-      asks = asks.of_condition source (table_sound earlier.known input p) b.asks;
+      asks = asks.of_condition source (table_sound _ _ p) b.asks;
       tells = b.tells earlier.known;
     }) (λ condition q is. no_fault is))
 

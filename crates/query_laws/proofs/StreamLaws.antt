@@ -21,19 +21,19 @@ use Rattle.query_laws.proofs.NameLaws.{columns_complete, keys_sound, keys_comple
 filter_sound : (earlier : Earlier) {input : Name} {e : Expr} {made : MadeStream} → filtered earlier input e ≡ Ok made
     → OfFilter earlier.known input e made
 filter_sound earlier {input} {e} {made} is =
-    let source = found_first (stream_named earlier.known input) _ made is in
-    let c = found_first (condition_of (column_names source.0.columns) source.0.hidden e) _ made source.2 in
+    let source = found_first _ _ _ is in
+    let c = found_first _ _ _ source.2 in
     record {
       source = source.0;
       condition = c.0;
-      stream = stream_sound earlier.known input source.1;
+      stream = stream_sound _ _ source.1;
       typed = condition_sound _ c.1;
-      is = sym (same_ok _ made c.2);
+      is = sym (same_ok _ _ c.2);
     }
 
 filter_complete : (earlier : Earlier) {input : Name} {e : Expr} {made : MadeStream} → OfFilter earlier.known input e made
     → filtered earlier input e ≡ Ok made
-filter_complete earlier {input} h = then_next _ (stream_complete earlier.known input h.stream)
+filter_complete earlier {input} h = then_next _ (stream_complete _ _ h.stream)
     ∙ then_next _ (condition_complete h.source.hidden h.typed) ∙ ok (sym h.is)
 
 abbrev maps_to : ℕ → StreamView → NewColumns → MadeStream
@@ -50,25 +50,25 @@ taken_start columns hidden = ap (λ (z : List ℕ). columns ++ z) (append-nil hi
 map_sound : (earlier : Earlier) {input : Name} {cs : List Column} {made : MadeStream} → mapped earlier input cs ≡ Ok made
     → OfMap earlier.known (next_stream earlier) input cs made
 map_sound earlier {input} {cs} {made} is =
-    let source = found_first (stream_named earlier.known input) _ made is in
-    let n = found_first (new_columns (column_names source.0.columns) source.0.hidden no_new_columns cs) _ made source.2 in
-    let c = columns_sound (column_names source.0.columns) source.0.hidden cs no_new_columns n.1 in
+    let source = found_first _ _ _ is in
+    let n = found_first _ _ _ source.2 in
+    let c = columns_sound _ _ _ _ n.1 in
     let N : List ℕ → Type 0 = λ z. HasTypedColumns (column_names source.0.columns) z cs c.0 in
     record {
       source = source.0;
       values = c.0;
-      stream = stream_sound earlier.known input source.1;
-      typed = subst N (taken_start _ source.0.hidden) c.1;
-      is = sym (same_ok _ made n.2) ∙ ap (maps_to (next_stream earlier) source.0) c.2;
+      stream = stream_sound _ _ source.1;
+      typed = subst N (taken_start _ _) c.1;
+      is = sym (same_ok _ _ n.2) ∙ ap (maps_to (next_stream earlier) source.0) c.2;
     }
 
 map_complete : (earlier : Earlier) {input : Name} {cs : List Column} {made : MadeStream}
     → OfMap earlier.known (next_stream earlier) input cs made → mapped earlier input cs ≡ Ok made
 map_complete earlier {input} {cs} h =
     let N : List ℕ → Type 0 = λ z. HasTypedColumns (column_names h.source.columns) z cs h.values in
-    then_next _ (stream_complete earlier.known input h.stream)
-    ∙ then_next _ (columns_complete (column_names h.source.columns) h.source.hidden cs h.values no_new_columns
-    (subst N (sym (taken_start _ h.source.hidden)) h.typed)) ∙ ok (sym h.is)
+    then_next _ (stream_complete _ _ h.stream)
+    ∙ then_next _ (columns_complete _ _ _ _ _
+    (subst N (sym (taken_start _ _)) h.typed)) ∙ ok (sym h.is)
 
 -- ---- the same columns
 
@@ -138,15 +138,15 @@ pub zip_is : {known : List Known} (first second : Name) (made : MadeStream) (h :
     (columns_at h.right.columns (others_from 0 (column_names h.left.columns) h.right.columns))
 zip_is first second made h =
     let same = others_are h.new in
-    h.is ∙ ap (zips_to h.left h.right h.slots) (at_slots h.right.columns h.slots h.others h.taken ∙ ap (columns_at h.right.columns) same)
+    h.is ∙ ap (zips_to h.left h.right h.slots) (at_slots _ _ _ h.taken ∙ ap (columns_at h.right.columns) same)
     ∙ ap (λ (z : List ℕ). zips_to h.left h.right z (columns_at h.right.columns
     (others_from 0 (column_names h.left.columns) h.right.columns))) same
 
 zip_sound : (earlier : Earlier) {first second : Name} {made : MadeStream} → zipped earlier first second ≡ Ok made
     → OfZip earlier.known first second made
 zip_sound earlier {first} {second} {made} is =
-    let left = found_first (stream_named earlier.known first) _ made is in
-    let right = found_first (stream_named earlier.known second) _ made left.2 in
+    let left = found_first _ _ _ is in
+    let right = found_first _ _ _ left.2 in
     let one = must_not_ok _ _ _ right.2 in
     let taken = others_taken in
     record {
@@ -156,24 +156,24 @@ zip_sound earlier {first} {second} {made} is =
       others = columns_at right.0.columns (others_from 0 (column_names left.0.columns) right.0.columns);
       new = taken.new;
       taken = taken.there;
-      one = stream_sound earlier.known first left.1;
-      other = stream_sound earlier.known second right.1;
-      same = all_same_sound left.0.columns right.0.columns one.0;
-      is = sym (same_ok _ made one.1);
+      one = stream_sound _ _ left.1;
+      other = stream_sound _ _ right.1;
+      same = all_same_sound _ _ one.0;
+      is = sym (same_ok _ _ one.1);
     }
 
 zip_complete : (earlier : Earlier) {first second : Name} {made : MadeStream} → OfZip earlier.known first second made
     → zipped earlier first second ≡ Ok made
-zip_complete earlier {first} {second} {made} h = then_next _ (stream_complete earlier.known first h.one)
-    ∙ then_next _ (stream_complete earlier.known second h.other)
-    ∙ must_not_holds _ _ (all_same_complete h.left.columns h.right.columns h.same) ∙ ok (sym (zip_is first second made h))
+zip_complete earlier {first} {second} {made} h = then_next _ (stream_complete _ _ h.one)
+    ∙ then_next _ (stream_complete _ _ h.other)
+    ∙ must_not_holds _ _ (all_same_complete _ _ h.same) ∙ ok (sym (zip_is _ _ _ h))
 
 -- ---- keys, from none
 
 pub picked_sound : (five : List ℕ) {columns : List ℕ} (hidden : List ℕ) (keys : List Key) {picked : Picked} → keys_checked five columns hidden keys ≡ Ok picked
     → (slots : List ℕ) × HasKeys columns (key_ids five keys) slots × (picked ≡ record { names = key_ids five keys; slots = slots })
 picked_sound five {columns} hidden keys e =
-    let k = keys_sound columns hidden (flat_map (key_names five) keys) (record { names = []; slots = [] }) (omega arith) e in
+    let k = keys_sound _ _ _ _ (omega arith) e in
     let long = length-map (flat_map (key_names five) keys) (λ (n : Name). n.id) in
     (k.0, record { places = k.1; distinct = k.2; few = omega (arith, k.3, long) }, k.4)
 
@@ -181,7 +181,7 @@ pub picked_complete : (five : List ℕ) {columns : List ℕ} (hidden : List ℕ)
     → keys_checked five columns hidden keys ≡ Ok (record { names = key_ids five keys; slots = slots })
 picked_complete five {columns} hidden keys {slots} h =
     let long = length-map (flat_map (key_names five) keys) (λ (n : Name). n.id) in
-    keys_complete columns hidden (flat_map (key_names five) keys) slots (record { names = []; slots = [] }) h.places h.distinct
+    keys_complete _ _ _ _ _ h.places h.distinct
     (omega (arith, h.few, long))
 
 abbrev groups_with : ℕ → StreamView → FoldView → List ℕ → Picked → List StreamColumn → MadeStream
@@ -201,7 +201,7 @@ pub group_is : {five : List ℕ} {known : List Known} {groups : ℕ} (input : Na
     → made ≡ groups_to groups h.source h.f h.arguments (record { names = key_ids five keys; slots = h.slots })
 group_is {five} {groups} input keys fold_name made h =
     h.is ∙ ap (groups_with groups h.source h.f h.arguments (record { names = key_ids five keys; slots = h.slots }))
-    (at_slots h.source.columns h.slots h.columns h.there)
+    (at_slots _ _ _ h.there)
 
 group_sound : {five : List ℕ} (earlier : Earlier) (name : Name) {input : Name} {keys : List Key} {fold_name : Name} {made : MadeStream}
     → made_stream five earlier name (ops.Group input keys fold_name) ≡ Ok made

@@ -51,7 +51,7 @@ of_mark None None = tt
 
 of_mark_at : (b : ℕ) (bytes : List ℕ) → IsWordPiece (mark_at b bytes)
 of_mark_at b [] = of_mark None (one_mark b)
-of_mark_at b (c ∷ bytes) = of_mark (two_mark b c) (one_mark b)
+of_mark_at b (c ∷ bytes) = of_mark _ _
 
 of_word : (w : List ℕ) (digits : ℕ) → IsWordPiece (word_piece w digits)
 of_word w digits = of_either (nat_eq digits (length w)) _ _ (of_number (digits_value 10 w) (length w))
@@ -81,9 +81,9 @@ of_cut_piece : (p : Piece) (at : ℕ) (known : List (List ℕ)) (bytes : List �
     → HasWords found
 of_cut_piece (pieces.Blank n) at known bytes {found} word h e = h n known found e
 of_cut_piece (pieces.Name n) at known bytes {next} word h e =
-    of_front (token_at (kinds.Name (number_in known (take n bytes))) at (at + n)) (next n (with_name known (take n bytes))) tt
+    of_front _ _ tt
     (h n (with_name known (take n bytes))) e
-of_cut_piece (pieces.Token kind n) at known bytes {next} word h e = of_front (token_at kind at (at + n)) (next n known) word (h n known) e
+of_cut_piece (pieces.Token kind n) at known bytes {next} word h e = of_front _ _ word (h n known) e
 of_cut_piece (pieces.Fault kind n) at known bytes word h e = absurd cc
 
 of_end : {at : ℕ} {known : List (List ℕ)} {found : Pair} → ◌≡◌ {A = Cut} (Ok (token_at kinds.End at at ∷ [], known)) (Ok found)

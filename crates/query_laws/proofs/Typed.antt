@@ -62,7 +62,7 @@ tells_of views (one ∷ known) id {m} h e = go (nat_eq one.name id) (λ k. tells
 -- the columns of a stream that is named
 columns_named : (views : List View) (known : List Known) (name : Name) {s : StreamView} → AllTell views known
     → stream_named known name ≡ Ok s → slice_get views s.number ≡ Some s.columns
-columns_named views known name {s} h e = go (meaning_of known name.id) (λ m k. tells_of views known name.id h k) e
+columns_named views known name {s} h e = go (meaning_of known name.id) (λ m k. tells_of _ _ _ h k) e
   where
     go : (o : Option Meaning) → ((m : Meaning) → o ≡ Some m → TellsColumns views m) → as_stream o name.span ≡ Ok s
         → slice_get views s.number ≡ Some s.columns
@@ -97,7 +97,7 @@ new_distinct : (columns hidden : List ℕ) (new : List Column) (made : NewColumn
     → length made.names ≡ length made.values
     → new_columns columns hidden made new ≡ Ok all → AreDistinct all.names × (length all.names ≡ length all.values)
 new_distinct columns hidden [] made {all} d long e = subst (λ z. AreDistinct z.names × (length z.names ≡ length z.values))
-    (same_ok made all e) (d, long)
+    (same_ok _ _ e) (d, long)
 new_distinct columns hidden (c ∷ new) made {all} d long e =
     let free = must_not_ok _ _ _ e in
     let value = found_first (word_of columns hidden c.value) _ all free.1 in
@@ -119,7 +119,7 @@ below_last (first ∷ slots) h lt = (h.0, below_last slots h.1 lt)
 
 keys_below : (columns hidden : List ℕ) (keys : List Name) (found : Picked) {picked : Picked} → AreBelow (length columns) found.slots
     → keys_from columns hidden found keys ≡ Ok picked → AreBelow (length columns) picked.slots
-keys_below columns hidden [] found {picked} h e = subst (λ z. AreBelow (length columns) z.slots) (same_ok found picked e) h
+keys_below columns hidden [] found {picked} h e = subst (λ z. AreBelow (length columns) z.slots) (same_ok _ _ e) h
 keys_below columns hidden (key ∷ keys) found {picked} h e =
     let slot = found_first (slot_of columns hidden key) _ picked e in
     let once = must_not_ok _ _ _ slot.2 in
@@ -215,9 +215,9 @@ module _ (views : List View) (earlier : Earlier) (told : AllTell views earlier.k
 
   stream_made : (five : List ℕ) (name : Name) (op : StreamOp) {made : MadeStream} → made_stream five earlier name op ≡ Ok made
       → MadeOf views earlier made
-  stream_made five name (ops.Filter input e) h = filter_made input e h
-  stream_made five name (ops.Map input columns) h = map_made input columns h
-  stream_made five name (ops.Zip first second) h = zip_made first second h
+  stream_made five name (ops.Filter input e) h = filter_made _ e h
+  stream_made five name (ops.Map input columns) h = map_made _ _ h
+  stream_made five name (ops.Zip first second) h = zip_made _ _ h
   stream_made five name (ops.Group input keys fold_name) h = group_made five input keys fold_name (must_ok _ _ _ h).1
 
 -- ---- items
@@ -274,13 +274,13 @@ module _ (fields : View) where
   one_item : (given : Given) (i : Item) {earlier more : Earlier} → HasViews fields earlier → item_checked given earlier i ≡ Ok more
       → HasViews fields more
   one_item given (item.Fold d) h e = fold_item d h e
-  one_item given (item.Stream d) h e = stream_item (five_fields given.fields) d h e
+  one_item given (item.Stream d) h e = stream_item _ d h e
   one_item given (item.Final d) h e = final_item given d h e
-  one_item given (item.Print name) h e = print_item name h e
+  one_item given (item.Print name) h e = print_item _ h e
 
   all_items : (given : Given) (items : List Item) {earlier all : Earlier} → HasViews fields earlier
       → items_checked given earlier items ≡ Ok all → HasViews fields all
-  all_items given [] {earlier} {all} h e = subst (HasViews fields) (same_ok earlier all e) h
+  all_items given [] {earlier} {all} h e = subst (HasViews fields) (same_ok _ _ e) h
   all_items given (i ∷ items) {earlier} {all} h e =
       let first = found_first (item_checked given earlier i) _ all e in
       all_items given items (one_item given i h first.1) first.2

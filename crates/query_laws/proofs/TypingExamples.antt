@@ -39,7 +39,7 @@ two columns op x y p q = binary_is columns [] op here x y ∙ then_next _ p ∙ 
 
 two_called : (columns : List ℕ) (op : Op) (x y : Expr) {f g : Found} → expr_checked columns [] x ≡ Ok f → expr_checked columns [] y ≡ Ok g
     → expr_checked columns [] (Call op here (x ∷ y ∷ [])) ≡ of_two op here f g
-two_called columns op x y {f} p q = call_is columns [] op here (x ∷ y ∷ [])
+two_called columns op x y {f} p q = call_is _ [] op here (x ∷ y ∷ [])
     ∙ ap (λ (r : Checked Found). and_then (collected [] (r ∷ expr_checked columns [] y ∷ [])) (call_of op here)) p
     ∙ ap (λ (r : Checked Found). and_then (collected (f ∷ []) (r ∷ [])) (call_of op here)) q
 
@@ -122,11 +122,11 @@ expression_examples = record {
 -- ---- streams
 
 pub no_place : (names : List ℕ) (id : ℕ) → place_of names id ≡ None → (place : ℕ) × StandsAt names place id → ⊥
-no_place names id none h = let same : (let o : Option ℕ = None in o) ≡ Some h.0 = sym none ∙ stands_place names id h.1 in cc same
+no_place names id none h = let same : (let o : Option ℕ = None in o) ≡ Some h.0 = sym none ∙ stands_place _ _ h.1 in cc same
 
 -- what is on the right of `0 <`
 pub right_of_0 : {id : ℕ} → HasPart Condition (is_above_0 id) Word (Named (called id))
-right_of_0 = parts.of_right Lt here (Number 0 here) parts.whole
+right_of_0 = parts.of_right _ _ _ parts.whole
 
 ten : IsStream items_before 10 by_key
 ten = stream_sound items_before (called 10) refl

@@ -22,13 +22,13 @@ sought_taken known AFold id h = not_free known id (meaning_complete known id h.1
 sought_taken known AQuietFold id h = not_free known id (meaning_complete known id h.1)
 
 unknown_unmet : (known : List Known) (at : Span) (d : Demand) → IsUnknown known at d → Holds known d → ⊥
-unknown_unmet known at (Stands sought x) t h = sought_taken known sought x.id h t.1
-unknown_unmet known at (AColumn columns hidden id span) t h = stands_taken columns h.0 id h.1 t.1
-unknown_unmet known at (Target states args x) t h = stands_taken states h.0 x.id h.1 t.1
+unknown_unmet known at (Stands sought x) t h = sought_taken _ _ _ h t.1
+unknown_unmet known at (AColumn columns hidden id span) t h = stands_taken _ _ _ h.1 t.1
+unknown_unmet known at (Target states args x) t h = stands_taken _ _ _ h.1 t.1
 unknown_unmet known at _ t h = absurd t
 
 hidden_unmet : (known : List Known) (at : Span) (d : Demand) → IsHiddenState at d → Holds known d → ⊥
-hidden_unmet known at (AColumn columns hidden id span) t h = stands_taken columns h.0 id h.1 t.1
+hidden_unmet known at (AColumn columns hidden id span) t h = stands_taken _ _ _ h.1 t.1
 hidden_unmet known at (ReadsNone states c) t h = t.3 (h t.0 t.1)
 hidden_unmet known at _ t h = absurd t
 
@@ -45,8 +45,8 @@ not_other Condition e = cc e
 
 kind_unmet : (known : List Known) (at : Span) (d : Demand) → IsOtherKind known at d → Holds known d → ⊥
 kind_unmet known at (Stands sought x) t h = t.2 h
-kind_unmet known at (Typed columns kind e) t h = not_other kind (one_kind t.1.1 h.1)
-kind_unmet known at (Target states args x) t h = stands_taken states h.0 x.id h.1 t.1
+kind_unmet known at (Typed columns kind e) t h = not_other _ (one_kind t.1.1 h.1)
+kind_unmet known at (Target states args x) t h = stands_taken _ _ _ h.1 t.1
 kind_unmet known at (SameKeys left right span) t h = t.1 h
 kind_unmet known at _ t h = absurd t
 
@@ -68,11 +68,11 @@ limit_unmet known limit at (Fewer one count span) t h =
 limit_unmet known limit at _ t h = absurd t
 
 pub unmet : (known : List Known) (kind : FaultKind) (at : Span) (d : Demand) → Tells known kind at d → Holds known d → ⊥
-unmet known kinds.UnknownName at d t = unknown_unmet known at d t
-unmet known kinds.StateOnLine at d t = hidden_unmet known at d t
-unmet known kinds.NameTaken at d t = taken_unmet known at d t
-unmet known kinds.WrongKind at d t = kind_unmet known at d t
-unmet known kinds.WrongArity at d t = arity_unmet known at d t
-unmet known kinds.BadConstant at d t = constant_unmet known at d t
-unmet known (kinds.OverLimit limit) at d t = limit_unmet known limit at d t
+unmet known kinds.UnknownName at d t = unknown_unmet _ _ d t
+unmet known kinds.StateOnLine at d t = hidden_unmet _ _ d t
+unmet known kinds.NameTaken at d t = taken_unmet _ _ d t
+unmet known kinds.WrongKind at d t = kind_unmet _ _ d t
+unmet known kinds.WrongArity at d t = arity_unmet _ _ d t
+unmet known kinds.BadConstant at d t = constant_unmet _ _ d t
+unmet known (kinds.OverLimit limit) at d t = limit_unmet _ _ _ d t
 unmet known _ at d t = absurd t

@@ -16,7 +16,7 @@ pub parts : (text : List ℕ) (q : TypedQuery) → accepted text ≡ Ok q → (q
 parts text q e = let p = accepted_sound text q e in (p.query, p.derives, query_complete p.typed)
 
 pub accepted_valid : AcceptedAreValid
-accepted_valid text q e = let p = parts text q e in query_valid p.0 q (readable text p.0 p.1) (numbers text p.0 p.1).0 p.2
+accepted_valid text q e = let p = parts _ q e in query_valid p.0 q (readable text p.0 p.1) (numbers text p.0 p.1).0 p.2
 
 -- ---- what folds start as
 
@@ -44,7 +44,7 @@ all_start : {given : Given} {names : List (List ℕ)} {before : List Entry} {lis
     → HasItems given names before list all → All StartsAsWords list → Starts before → Starts all
 all_start (of_none before) words start = start
 all_start {given} {names} (of_more before i one rest all h more) words start = all_start more (All-tail StartsAsWords i rest words)
-    (one_more given names before i one h (All-head StartsAsWords i rest words) start)
+    (one_more given _ _ i _ h (All-head StartsAsWords i rest words) start)
 
 pub accepted_starts : AcceptedStartAsWords
 accepted_starts text q e =

@@ -107,7 +107,7 @@ group_has : (V : Values) (source : View) (f : Option TypedFold) (keys args : Lis
     → (tuples : List Tuple) → HaveValues V source tuples → HaveValues V (columns_at source keys) (group_stream f keys args tuples)
 group_has V source None keys args below tuples h = tt
 group_has V source (Some f) keys args below tuples h =
-    keys_have V source keys below _ (filter_has V source (λ t. emits_at f (values_at t.row args)) tuples h)
+    keys_have V _ _ below _ (filter_has V _ _ _ h)
 
 -- ---- values by distinct names
 
@@ -248,10 +248,10 @@ module _ (folds : List TypedFold) (number : ℕ) (V : Values) (views : List View
   pub of_filter : (input : ℕ) (condition : TypedExpr) {view : View} → slice_get views input ≡ Some view
       → OneMore number views lists view (made_of folds lists (typed.Filter input condition))
   of_filter input condition {view} e =
-      let source = have_at number V views lists input h e in (
+      let source = have_at _ V _ _ _ h e in (
         V,
-        have_last number V views lists view _ h (are_earlier_later number view source.0)
-            (filter_has V view (λ t. holds (expr_value condition t.row)) (tuples_at lists input) source.1),
+        have_last _ V _ _ _ _ h (are_earlier_later _ _ source.0)
+            (filter_has V _ _ _ source.1),
       )
 
   pub of_map : {input : ℕ} {values : List TypedExpr} {view : View} → OfMap views number input values view
@@ -284,23 +284,23 @@ module _ (folds : List TypedFold) (number : ℕ) (V : Values) (views : List View
   pub of_zip : {left right : ℕ} {slots : List ℕ} {view : View} (z : OfZip views left right slots view) → AreBelow (length z.second) slots
       → OneMore number views lists view (made_of folds lists (typed.Zip left right slots))
   of_zip {left} {right} {slots} {view} z below =
-      let one = have_at number V views lists left h z.one in
-      let other = have_at number V views lists right h z.other in (
+      let one = have_at _ V _ _ _ h z.one in
+      let other = have_at _ V _ _ _ h z.other in (
         V,
-        have_last number V views lists view _ h (subst (AreEarlier (suc number)) (sym z.is)
-            (are_earlier_later number (z.first ++ columns_at z.second slots)
-            (both_earlier number z.first (columns_at z.second slots) one.0 (picked_earlier number z.second slots other.0))))
+        have_last _ V _ _ _ _ h (subst (AreEarlier (suc number)) (sym z.is)
+            (are_earlier_later _ _
+            (both_earlier _ _ _ one.0 (picked_earlier _ _ _ other.0))))
             (subst (λ v. HaveValues V v (zip_stream slots (tuples_at lists left) (tuples_at lists right))) (sym z.is)
-            (zip_has V z.first z.second slots below (tuples_at lists right) other.1 (tuples_at lists left) one.1)),
+            (zip_has V _ _ _ below _ other.1 _ one.1)),
       )
 
   pub of_group : {input : ℕ} {keys : List ℕ} (f : ℕ) (args : List ℕ) {view : View} → OfGroup views input keys view
       → OneMore number views lists view (made_of folds lists (typed.Group input keys f args))
   of_group {input} {keys} f args {view} g =
-      let from = have_at number V views lists input h g.stream in (
+      let from = have_at _ V _ _ _ h g.stream in (
         V,
-        have_last number V views lists view _ h (subst (AreEarlier (suc number)) (sym g.is)
-            (are_earlier_later number (columns_at g.source keys) (picked_earlier number g.source keys from.0)))
+        have_last _ V _ _ _ _ h (subst (AreEarlier (suc number)) (sym g.is)
+            (are_earlier_later _ _ (picked_earlier _ _ _ from.0)))
             (subst (λ v. HaveValues V v (group_stream (slice_get folds f) keys args (tuples_at lists input))) (sym g.is)
-            (group_has V g.source (slice_get folds f) keys args g.below (tuples_at lists input) from.1)),
+            (group_has V _ _ _ _ g.below _ from.1)),
       )

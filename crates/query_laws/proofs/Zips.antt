@@ -228,7 +228,7 @@ module _ (q : TypedQuery) (packets : List (List ℕ)) (r : HasRows q packets) wh
       go : (n : ℕ) → operator_of q n ≡ Some (Zip left right z.slots) → ZipAt all n left right z.slots
       go zero e = cc e
       go (suc i) e = subst (λ n. ZipAt all n left right z.slots) (let same : 1 + i ≡ suc i = omega arith in same)
-          (zip_made (field_view q.names ∷ []) q.streams r.views r.made i e)
+          (zip_made _ _ _ r.made i e)
 
   pub columns_agree : (number left right : ℕ) → IsZip q number left right → ColumnsAgree q packets left right
   columns_agree number left right z t u id a b in_left in_right same l m =
