@@ -15,7 +15,7 @@ use Rattle.query_laws.proofs.Stages.{fits_stages, no_stage_fault}
 
 stage_same : (o : Option QueryFault) {p q : TypedQuery} → unless_fault o p ≡ Ok q → (o ≡ None) × (p ≡ q)
 stage_same None {p} {q} e = (refl, same_ok p q e)
-stage_same (Some fault) e = cc e
+stage_same (Some _) e = cc e
 
 -- a text that is accepted
 pub accepted_sound : (text : List ℕ) (t : TypedQuery) → accepted text ≡ Ok t → IsAcceptedAs text t
@@ -24,19 +24,17 @@ accepted_sound text t e =
     let first = found_first (parsed_text text) (λ (z : Query). and_then (checked z) staged) t e in
     let second = found_first (checked first.0) staged t first.2 in
     let stages = stage_same (stage_fault second.0) second.2 in
-    let T : TypedQuery → Type 0 = λ z. IsTyped first.0 z in
-    let F : TypedQuery → Type 0 = λ z. FitsStages z in
     record {
       query = first.0;
       derives = query_of_text text first.0 first.1;
-      typed = subst T stages.1 (query_sound first.0 second.0 second.1);
-      fits = subst F stages.1 (fits_stages second.0 stages.0);
+      typed = subst (λ z. IsTyped first.0 z) stages.1 (query_sound first.0 second.0 second.1);
+      fits = subst (λ z. FitsStages z) stages.1 (fits_stages second.0 stages.0);
     }
 
 pub accepted_complete : {text : List ℕ} {t : TypedQuery} → IsAcceptedAs text t → accepted text ≡ Ok t
 unfolding accepted
 accepted_complete {text} {t} h = then_next _ (text_of_query text h.query h.derives)
-    ∙ then_next _ (query_complete h.typed) ∙ ap (λ (o : Option QueryFault). unless_fault o t) (no_stage_fault t h.fits)
+    ∙ then_next _ (query_complete h.typed) ∙ ap (λ o. unless_fault o t) (no_stage_fault t h.fits)
 
 pub accepted_once : {text : List ℕ} {t u : TypedQuery} → IsAcceptedAs text t → IsAcceptedAs text u → t ≡ u
 accepted_once {t} {u} h k = same_ok t u (sym (accepted_complete h) ∙ accepted_complete k)
@@ -63,7 +61,7 @@ breaks_rule kinds.NameTaken h e = item_breaks (λ k. cc k) e
 breaks_rule kinds.WrongKind h e = item_breaks (λ k. cc k) e
 breaks_rule kinds.WrongArity h e = item_breaks (λ k. cc k) e
 breaks_rule kinds.BadConstant h e = item_breaks (λ k. cc k) e
-breaks_rule (kinds.OverLimit limit) h e = item_breaks (λ k. cc k) e
+breaks_rule (kinds.OverLimit _) h e = item_breaks (λ k. cc k) e
 breaks_rule _ h e = absurd h
 
 untyped : {text : List ℕ} {q : Query} {fault : QueryFault} → parsed_text text ≡ Ok q → checked q ≡ Err fault → IsRefusedFor text fault
@@ -71,8 +69,7 @@ untyped {text} {q} {fault} p is = by_typing (query_of_text text q p) is (breaks_
 
 cause : {text : List ℕ} {fault : QueryFault} → accepted text ≡ Err fault → IsRefusedFor text fault
 unfolding accepted
-cause {text} {fault} e = by_next _ e (λ is. by_grammar (fault_of_text text fault is)) (λ q p e.
-    by_next _ e (λ is. untyped p is) (λ t r e.
+cause {text} {fault} e = by_next _ e (λ is. by_grammar (fault_of_text text fault is)) (λ q p e. by_next _ e (λ is. untyped p is) (λ t r e.
     let deep = too_deep _ t e in
     by_stages (query_of_text text q p) (query_sound q t r) deep (not_fit t deep)))
 

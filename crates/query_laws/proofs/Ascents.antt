@@ -9,7 +9,7 @@ use Rattle.query_laws.specs.TupleLaws.{packet_numbers}
 
 -- the packets' numbers rise from this one on, and stay below that one
 abbrev pub Rises : ℕ → ℕ → List Tuple → Type 0
-Rises from end [] = Unit {0}
+Rises _ _ [] = Unit {0}
 Rises from end (t ∷ tuples) = (from ≤ t.packet) × (t.packet < end) × Rises (suc t.packet) end tuples
 
 rises_before : {before from : ℕ} (end : ℕ) (tuples : List Tuple) → before ≤ from → Rises from end tuples → Rises before end tuples
@@ -23,7 +23,7 @@ numbered_rise n [] le = tt
 numbered_rise n (words ∷ packets) le = (omega arith, omega arith, numbered_rise (suc n) packets (omega arith))
 
 filter_rises : (test : Tuple → Bool) (from end : ℕ) (tuples : List Tuple) → Rises from end tuples → Rises from end (filter test tuples)
-filter_rises test from end [] h = tt
+filter_rises _ _ _ [] h = tt
 filter_rises test from end (t ∷ tuples) h = go (test t) (filter_rises test (suc t.packet) end tuples h.2)
   where
     go : (b : Bool) → Rises (suc t.packet) end (filter test tuples) → Rises from end (cond b (t ∷ filter test tuples) (filter test tuples))
@@ -32,58 +32,52 @@ filter_rises test from end (t ∷ tuples) h = go (test t) (filter_rises test (su
 
 map_rises : (new : Tuple → List ℕ) (from end : ℕ) (tuples : List Tuple) → Rises from end tuples
     → Rises from end (map (λ t. record { packet = t.packet; row = new t }) tuples)
-map_rises new from end [] h = tt
-map_rises new from end (t ∷ tuples) h = (h.0, h.1, map_rises new (suc t.packet) end tuples h.2)
+map_rises _ _ _ [] h = tt
+map_rises new _ end (t ∷ tuples) h = (h.0, h.1, map_rises new (suc t.packet) end tuples h.2)
 
 zip_rises : (slots : List ℕ) (right : List Tuple) (from end : ℕ) (left : List Tuple) → Rises from end left
     → Rises from end (zip_stream slots left right)
-zip_rises slots right from end [] h = tt
+zip_rises _ _ _ _ [] h = tt
 zip_rises slots right from end (t ∷ left) h =
     go (find (λ (other : Tuple). other.packet == t.packet) right) (zip_rises slots right (suc t.packet) end left h.2)
   where
     go : (o : Option Tuple) → Rises (suc t.packet) end (zip_stream slots left right)
         → Rises from end (cons_option (option_map (λ (other : Tuple). record
         { packet = t.packet; row = t.row ++ values_at other.row slots }) o) (zip_stream slots left right))
-    go (Some other) more = (h.0, h.1, more)
+    go (Some _) more = (h.0, h.1, more)
     go None more = rises_before end (zip_stream slots left right) (omega (arith, h.0)) more
 
 group_rises : (f : Option TypedFold) (keys args : List ℕ) (from end : ℕ) (tuples : List Tuple) → Rises from end tuples
     → Rises from end (group_stream f keys args tuples)
-group_rises None keys args from end tuples h = tt
-group_rises (Some f) keys args from end tuples h =
-    map_rises _ _ _ _
-    (filter_rises _ _ _ _ h)
+group_rises None _ _ _ _ _ h = tt
+group_rises (Some f) _ _ _ _ _ h = map_rises _ _ _ _ (filter_rises _ _ _ _ h)
 
 -- ---- all streams
 
 abbrev AllRise : ℕ → List (List Tuple) → Type 0
-AllRise end [] = Unit {0}
+AllRise _ [] = Unit {0}
 AllRise end (one ∷ streams) = Rises 1 end one × AllRise end streams
 
 rise_at : (end : ℕ) (streams : List (List Tuple)) (number : ℕ) → AllRise end streams → Rises 1 end (tuples_at streams number)
-rise_at end [] number h = tt
-rise_at end (one ∷ streams) zero h = h.0
-rise_at end (one ∷ streams) (suc number) h = rise_at end streams number h.1
+rise_at _ [] _ h = tt
+rise_at _ (_ ∷ _) zero h = h.0
+rise_at end (_ ∷ streams) (suc number) h = rise_at end streams number h.1
 
 rise_last : (end : ℕ) (streams : List (List Tuple)) (one : List Tuple) → AllRise end streams → Rises 1 end one
     → AllRise end (streams ++ one ∷ [])
-rise_last end [] one h k = (k, tt)
-rise_last end (first ∷ streams) one h k = (h.0, rise_last end streams one h.1 k)
+rise_last _ [] _ h k = (k, tt)
+rise_last end (_ ∷ streams) one h k = (h.0, rise_last end streams one h.1 k)
 
 made_rises : (folds : List TypedFold) (end : ℕ) (streams : List (List Tuple)) (op : TypedOp) → AllRise end streams
     → Rises 1 end (made_of folds streams op)
-made_rises folds end streams (Filter input condition) h =
-    filter_rises _ 1 _ _ (rise_at _ _ _ h)
-made_rises folds end streams (Map input values) h =
-    map_rises _ 1 _ _ (rise_at _ _ _ h)
-made_rises folds end streams (Zip left right slots) h =
-    zip_rises _ _ 1 _ _ (rise_at _ _ _ h)
-made_rises folds end streams (Group input keys f args) h =
-    group_rises _ _ _ 1 _ _ (rise_at _ _ _ h)
+made_rises _ _ _ (Filter _ _) h = filter_rises _ 1 _ _ (rise_at _ _ _ h)
+made_rises _ _ _ (Map _ _) h = map_rises _ 1 _ _ (rise_at _ _ _ h)
+made_rises _ _ _ (Zip _ _ _) h = zip_rises _ _ 1 _ _ (rise_at _ _ _ h)
+made_rises _ _ _ (Group _ _ f _) h = group_rises _ _ _ 1 _ _ (rise_at _ _ _ h)
 
 rise_along : (folds : List TypedFold) (end : ℕ) (list : List TypedStream) (streams : List (List Tuple)) → AllRise end streams
     → AllRise end (fold (λ streams one. streams ++ made_of folds streams one.op ∷ []) streams list)
-rise_along folds end [] streams h = h
+rise_along _ _ [] _ h = h
 rise_along folds end (one ∷ list) streams h = rise_along folds end list (streams ++ made_of folds streams one.op ∷ [])
     (rise_last end streams (made_of folds streams one.op) h (made_rises folds end streams one.op h))
 
@@ -96,12 +90,12 @@ stream_rises q number packets =
 -- ---- what that says of the numbers
 
 pub increasing : (from end : ℕ) (tuples : List Tuple) → Rises from end tuples → IsStrictlyIncreasing (packet_numbers tuples)
-increasing from end [] h = λ k lt. absurd (omega (arith, lt))
-increasing from end (t ∷ []) h = λ k lt. absurd (omega (arith, lt))
-increasing from end (t ∷ u ∷ tuples) h = go (increasing (suc t.packet) end (u ∷ tuples) h.2)
+increasing _ _ [] h = λ k lt. absurd (omega (arith, lt))
+increasing _ _ (t ∷ []) h = λ k lt. absurd (omega (arith, lt))
+increasing _ end (t ∷ u ∷ tuples) h = go (increasing (suc t.packet) end (u ∷ tuples) h.2)
   where
     go : IsStrictlyIncreasing (packet_numbers (u ∷ tuples)) → IsStrictlyIncreasing (packet_numbers (t ∷ u ∷ tuples))
-    go more zero lt = omega (arith, h.2.0)
+    go _ zero _ = omega (arith, h.2.0)
     go more (suc k) lt =
         subst (λ next. slice_index (packet_numbers (t ∷ u ∷ tuples)) (suc k) < slice_index (packet_numbers (t ∷ u ∷ tuples)) next)
         (let same : suc (k + 1) ≡ suc k + 1 = omega arith in same) (more k (omega (arith, lt)))
@@ -115,5 +109,5 @@ within [] h = λ k d lt. absurd (omega (arith, lt))
 within {from} {last} (t ∷ tuples) h = go (within tuples h.2)
   where
     go : LieBetween (suc t.packet) last (packet_numbers tuples) → LieBetween from last (packet_numbers (t ∷ tuples))
-    go more zero d lt = (h.0, omega (arith, h.1))
+    go _ zero d _ = (h.0, omega (arith, h.1))
     go more (suc k) d lt = let m = more k d (omega (arith, lt)) in (omega (arith, m.0, h.0), m.1)

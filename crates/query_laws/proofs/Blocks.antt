@@ -30,16 +30,16 @@ pub record Fits (states : List ℕ) (around : List TypedExpr) (outer : Enclosing
 
 one_more : (t : TypedExpr) (around : List TypedExpr) → joined (all_of around) t ≡ conjunction t around
 one_more t [] = refl
-one_more t (u ∷ others) = refl
+one_more t (u ∷ _) = refl
 
 emit_is : (around : List TypedExpr) → emit_condition (all_of around) ≡ emit_of around
 emit_is [] = refl
-emit_is (t ∷ others) = refl
+emit_is (t ∷ _) = refl
 
 fits_inside : {states : List ℕ} {around : List TypedExpr} {outer : Enclosing} {written : Expr} {t : TypedExpr} → Fits states around outer
     → Reads states written t → Fits states (t ∷ around) (inside states outer written t)
 fits_inside {around} {outer} {t} f r = record {
-  condition = ap (λ (o : Option TypedExpr). Some (joined o t)) f.condition ∙ ap Some (one_more t _);
+  condition = ap (λ o. Some (joined o t)) f.condition ∙ ap Some (one_more t _);
   past = λ e. let p = neither _ e in (r.past p.1, f.past p.0);
   none = λ h. both_none (f.none h.1) (r.none h.0);
 }
@@ -56,12 +56,12 @@ target_stands states args name {v} e = go (place_of states name.id) refl (is_amo
     go (Some slot) is b e =
         let same : slot ≡ v = cc in
         place_stands _ _ v (is ∙ ap Some same)
-    go None is true e = cc e
-    go None is false e = cc e
+    go None _ true e = cc e
+    go None _ false e = cc e
 
 pub no_state_ok : {A : Type 0} (o : Option Span) {next : Checked A} {x : A} → no_state o next ≡ Ok x → (o ≡ None) × (next ≡ Ok x)
 no_state_ok None e = (refl, e)
-no_state_ok (Some span) e = cc e
+no_state_ok (Some _) e = cc e
 
 is_none : {A : Type 0} (o : Option A) → is_some o ≡ false → o ≡ None
 is_none None e = refl
@@ -98,7 +98,7 @@ IsSoundLayer states args x = (around : List TypedExpr) (outer : Enclosing) (foun
 
 of_layer : {states args : List ℕ} (x : stmt.Stmt-F Stmt) → IsSoundLayer states args x → IsSound states args (roll-Stmt x)
 of_layer {states} {args} x layer around outer found made f e =
-    layer around outer found made f (sym (ap (λ (g : Adding). g outer found) (fold-roll-Stmt Adding (stmt_step states args) x)) ∙ e)
+    layer around outer found made f (sym (ap (λ g. g outer found) (fold-roll-Stmt Adding (stmt_step states args) x)) ∙ e)
 
 block_of_sound : {states args : List ℕ} (ss : List (Sound states args)) {around : List TypedExpr} {outer : Enclosing} {found made : Body}
     → Fits states around outer → in_order (map (stmt_checked states args) (map (λ s. s.0) ss)) outer found ≡ Ok made
@@ -119,30 +119,28 @@ block_of_sound {states} {args} (s ∷ ss) {around} {outer} {found} {made} f e =
     record {
       ts = one.ts ++ rest.ts;
       es = one.es ++ rest.es;
-      statements = rest.statements ∙ ap (λ (z : List TypedStmt). z ++ rest.ts) one.statements
-          ∙ append_assoc found.statements one.ts rest.ts;
-      emits = sym (append_assoc (at_most_one found.emit) one.es rest.es) ∙ ap (λ (z : List TypedExpr). z ++ rest.es) one.emits ∙ rest.emits;
+      statements = rest.statements ∙ ap (λ z. z ++ rest.ts) one.statements ∙ append_assoc found.statements one.ts rest.ts;
+      emits = sym (append_assoc (at_most_one found.emit) one.es rest.es) ∙ ap (λ z. z ++ rest.es) one.emits ∙ rest.emits;
       rule = one.rule _ rest.ts rest.es rest.rule;
     }
 
 moved : {states args : List ℕ} {around : List TypedExpr} {s r : Stmt} {found made : Body} → r ≡ s → Added states args around s found made
     → Added states args around r found made
-moved {states} {args} {around} {found} {made} is h = let S : Stmt → Type 0 = λ z. Added states args around z found made in subst S (sym is) h
+moved {states} {args} {around} {found} {made} is h = subst (λ z. Added states args around z found made) (sym is) h
 
 step : {states args : List ℕ} (y : stmt.Stmt-F (Sound states args)) → IsSoundLayer states args
     (map-Stmt (Sound states args) Stmt (λ s. s.0) y)
-step {states} {args} (stmt.Assign x e) around outer found made f is =
+step {states} {args} (stmt.Assign x e) around _ found made f is =
     let target = found_first (target_of states args x) _ made is in
     let word = found_first (word_of (states ++ args) [] e) _ made target.2 in
-    let B : Body → Type 0 = λ b. Added states args around (whole.Assign x e) found b in
-    moved (rolls-Assign x e) (subst B (same_ok _ made word.2) (record {
+    moved (rolls-Assign x e) (subst (λ b. Added states args around (whole.Assign x e) found b) (same_ok _ made word.2) (record {
       ts = typed_stmt.Assign target.0 word.0 ∷ [];
       es = [];
       statements = refl;
       emits = append-nil (at_most_one found.emit);
       rule = λ rest us fs h. of_assign x (target_stands states args x target.1) (word_sound [] word.1) h;
     }))
-step {states} {args} (stmt.If c a b) around outer found made f is =
+step {states} {args} (stmt.If c a b) around _ found _ f is =
     let firsts = map (λ (s : Sound states args). s.0) a in
     let seconds = map (λ (s : Sound states args). s.0) b in
     let condition = found_first _ _ _ is in
@@ -153,33 +151,27 @@ step {states} {args} (stmt.If c a b) around outer found made f is =
     let r = reads _ rule in
     let p = block_of_sound a (fits_inside f r) one.1 in
     let q = block_of_sound b (fits_inside f (not_reads r)) two.1 in
-    let P : List TypedStmt → Type 0 = λ z. HasBlock states args (t ∷ around) firsts z p.es in
-    let Q : List TypedStmt → Type 0 = λ z. HasBlock states args (typed.Not t ∷ around) seconds z q.es in
-    let B : Body → Type 0 = λ z. Added states args around (whole.If c firsts seconds) found z in
-    moved (rolls-If c firsts seconds) (subst B (same_ok _ _ two.2) (record {
+    moved (rolls-If c firsts seconds) (subst (λ z. Added states args around (whole.If c firsts seconds) found z) (same_ok _ _ two.2) (record {
       ts = typed_stmt.If t one.0.statements two.0.statements ∷ [];
       es = p.es ++ q.es;
       statements = refl;
-      emits = sym (append_assoc (at_most_one found.emit) p.es q.es) ∙ ap (λ (z : List TypedExpr). z ++ q.es) p.emits ∙ q.emits;
-      rule = λ rest us fs h. of_if rule (subst P (sym p.statements) p.rule) (subst Q (sym q.statements) q.rule) h;
+      emits = sym (append_assoc (at_most_one found.emit) p.es q.es) ∙ ap (λ z. z ++ q.es) p.emits ∙ q.emits;
+      rule = λ rest us fs h. of_if rule (subst (λ z. HasBlock states args (t ∷ around) firsts z p.es) (sym p.statements) p.rule) (subst (λ z. HasBlock states args (typed.Not t ∷ around) seconds z q.es) (sym q.statements) q.rule) h;
     }))
 step {states} {args} (stmt.Emit span) around outer found made f is =
     let once = must_not_ok (is_some found.emit) WrongArity span is in
     let none = no_state_ok outer.state once.1 in
-    let B : Body → Type 0 = λ b. Added states args around (whole.Emit span) found b in
-    moved (rolls-Emit span) (subst B (same_ok _ made none.1) (record {
+    moved (rolls-Emit span) (subst (λ b. Added states args around (whole.Emit span) found b) (same_ok _ made none.1) (record {
       ts = [];
       es = emit_of around ∷ [];
       statements = sym (append-nil found.statements);
-      emits = ap (λ (o : Option TypedExpr). at_most_one o ++ emit_of around ∷ []) (is_none found.emit once.0)
-          ∙ ap (λ (t : TypedExpr). t ∷ []) (sym (ap emit_condition f.condition ∙ emit_is around));
+      emits = ap (λ o. at_most_one o ++ emit_of around ∷ []) (is_none found.emit once.0)
+          ∙ ap (λ t. t ∷ []) (sym (ap emit_condition f.condition ∙ emit_is around));
       rule = λ rest us fs h. of_emit span (f.past none.0) h;
     }))
 
 stmt_sound : {states args : List ℕ} (s : Stmt) → IsSound states args s
-stmt_sound {states} {args} = ind-Stmt (IsSound states args) (λ x y is.
-    let L : stmt.Stmt-F Stmt → Type 0 = λ z. IsSoundLayer states args z in
-    of_layer x (subst L is (step y)))
+stmt_sound {states} {args} = ind-Stmt (IsSound states args) (λ x y is. of_layer x (subst (λ z. IsSoundLayer states args z) is (step y)))
 
 pub block_sound : {states args : List ℕ} (ss : List Stmt) {around : List TypedExpr} {outer : Enclosing} {found made : Body}
     → Fits states around outer
@@ -192,9 +184,8 @@ block_sound {states} {args} (s ∷ ss) {around} {outer} {found} {made} f e =
     record {
       ts = one.ts ++ rest.ts;
       es = one.es ++ rest.es;
-      statements = rest.statements ∙ ap (λ (z : List TypedStmt). z ++ rest.ts) one.statements
-          ∙ append_assoc found.statements one.ts rest.ts;
-      emits = sym (append_assoc (at_most_one found.emit) one.es rest.es) ∙ ap (λ (z : List TypedExpr). z ++ rest.es) one.emits ∙ rest.emits;
+      statements = rest.statements ∙ ap (λ z. z ++ rest.ts) one.statements ∙ append_assoc found.statements one.ts rest.ts;
+      emits = sym (append_assoc (at_most_one found.emit) one.es rest.es) ∙ ap (λ z. z ++ rest.es) one.emits ∙ rest.emits;
       rule = one.rule _ rest.ts rest.es rest.rule;
     }
 
@@ -202,8 +193,8 @@ block_sound {states} {args} (s ∷ ss) {around} {outer} {found} {made} f e =
 
 pub stmt_is : (states args : List ℕ) (x : stmt.Stmt-F Stmt) {s : Stmt} → roll-Stmt x ≡ s → (outer : Enclosing) (found : Body)
     → stmt_checked states args s outer found ≡ stmt_step states args (map-Stmt Stmt Adding (stmt_checked states args) x) outer found
-stmt_is states args x is outer found = ap (λ (z : Stmt). stmt_checked states args z outer found) (sym is)
-    ∙ ap (λ (g : Adding). g outer found) (fold-roll-Stmt Adding (stmt_step states args) x)
+stmt_is states args x is outer found = ap (λ z. stmt_checked states args z outer found) (sym is)
+    ∙ ap (λ g. g outer found) (fold-roll-Stmt Adding (stmt_step states args) x)
 
 same_one : (o p : Option TypedExpr) → at_most_one o ≡ at_most_one p → o ≡ p
 same_one None None e = refl
@@ -214,26 +205,25 @@ same_one (Some t) (Some u) e = let same : t ≡ u = cc e in ap Some same
 -- the first of at most one is at most one
 first_part : (xs ys : List TypedExpr) (last : Option TypedExpr) → xs ++ ys ≡ at_most_one last → (p : Option TypedExpr)
     × (xs ≡ at_most_one p)
-first_part [] ys last e = (None, refl)
-first_part (x ∷ []) ys last e = (Some x, refl)
-first_part (x ∷ y ∷ xs) ys None e = cc e
-first_part (x ∷ y ∷ xs) ys (Some t) e = cc e
+first_part [] _ _ e = (None, refl)
+first_part (x ∷ []) _ _ e = (Some x, refl)
+first_part (x ∷ y ∷ _) _ None e = cc e
+first_part (x ∷ y ∷ _) _ (Some t) e = cc e
 
 bodies : {xs ys : List TypedStmt} {o p : Option TypedExpr} → xs ≡ ys → o ≡ p
     → (let r : Checked Body = Ok (record { statements = xs; emit = o }) in r) ≡ Ok (record { statements = ys; emit = p })
-bodies {ys} {o} e f = ap (λ (z : List TypedStmt). let r : Checked Body = Ok (record { statements = z; emit = o }) in r) e
-    ∙ ap (λ (z : Option TypedExpr). let r : Checked Body = Ok (record { statements = ys; emit = z }) in r) f
+bodies {ys} {o} e f = ap (λ z. let r : Checked Body = Ok (record { statements = z; emit = o }) in r) e
+    ∙ ap (λ z. let r : Checked Body = Ok (record { statements = ys; emit = z }) in r) f
 
 pub block_complete : {states args : List ℕ} {around : List TypedExpr} {ss : List Stmt} {ts : List TypedStmt} {es : List TypedExpr}
     → HasBlock states args around ss ts es
     → {outer : Enclosing} (found : Body) {last : Option TypedExpr} → Fits states around outer → at_most_one found.emit
     ++ es ≡ at_most_one last
     → in_order (map (stmt_checked states args) ss) outer found ≡ Ok (record { statements = found.statements ++ ts; emit = last })
-block_complete (of_none around) found {last} f e = bodies (sym (append-nil found.statements))
+block_complete (of_none _) found {last} f e = bodies (sym (append-nil found.statements))
     (same_one _ _ (sym (append-nil (at_most_one found.emit)) ∙ e))
 block_complete {states} {args} (of_assign x {v} {e} {t} {ts} stands word h) {outer} found f k = then_next _ (
-    stmt_is _ _ _ (rolls-Assign x e) _ _
-    ∙ then_next _ (ap (λ (o : Option ℕ). target_at o (is_among x.id args) x.span) (stands_place _ _ stands))
+    stmt_is _ _ _ (rolls-Assign x e) _ _ ∙ then_next _ (ap (λ o. target_at o (is_among x.id args) x.span) (stands_place _ _ stands))
     ∙ then_next _ (word_complete [] word)) ∙ block_complete h _ f k
     ∙ bodies (append_assoc found.statements (typed_stmt.Assign v t ∷ []) ts) refl
 block_complete {states} {args} (of_if {c} {t} {a} {b} {xs} {ys} {ts} {first} {second} {others} rule ha hb h) {outer} found {last} f k =
@@ -244,19 +234,17 @@ block_complete {states} {args} (of_if {c} {t} {a} {b} {xs} {ys} {ts} {first} {se
     let one = first_part _ _ _ inner in
     then_next _ (
     stmt_is _ _ _ (rolls-If c a b) _ _ ∙ then_next _ (condition_complete [] rule)
-    ∙ then_next _ (block_complete ha _ (fits_inside f r) one.1)
-    ∙ then_next _ (block_complete hb _ (fits_inside f (not_reads r))
-    (sym (ap (λ (z : List TypedExpr). z ++ second) one.1) ∙ inner)))
-    ∙ block_complete h _ f (sym (ap (λ (z : List TypedExpr). z ++ others) two.1) ∙ front)
+    ∙ then_next _ (block_complete ha _ (fits_inside f r) one.1) ∙ then_next _ (block_complete hb _ (fits_inside f (not_reads r))
+    (sym (ap (λ z. z ++ second) one.1) ∙ inner))) ∙ block_complete h _ f (sym (ap (λ z. z ++ others) two.1) ∙ front)
     ∙ bodies (append_assoc found.statements (typed_stmt.If t xs ys ∷ []) ts) refl
 block_complete {states} {args} (of_emit {around} span {others} past h) {outer} found {last} f k =
     let none = only found.emit k in
     then_next _ (
     stmt_is states args (stmt.Emit span) (rolls-Emit span) outer found ∙ must_not_holds _ _ (ap is_some none)
-    ∙ ap (λ (o : Option Span). no_state o (let r : Checked Body = Ok (record
+    ∙ ap (λ o. no_state o (let r : Checked Body = Ok (record
     { statements = found.statements; emit = Some (emit_condition outer.condition) }) in r)) (f.none past)
     ∙ bodies refl (ap Some (ap emit_condition f.condition ∙ emit_is around))) ∙ block_complete h _ f
-    (sym (ap (λ (o : Option TypedExpr). at_most_one o ++ emit_of around ∷ others) none) ∙ k)
+    (sym (ap (λ o. at_most_one o ++ emit_of around ∷ others) none) ∙ k)
   where
     only : (o : Option TypedExpr) → at_most_one o ++ emit_of around ∷ others ≡ at_most_one last → o ≡ None
     only None k = refl

@@ -21,17 +21,17 @@ use Rattle.query_laws.proofs.StateFaults.{has_state, Knows, knows_inside}
 
 pub with_more : {outer : List Expr} {front : List Stmt} (back : List Stmt) {around : List Expr} {s : Stmt} → StandsIn outer front around s
     → StandsIn outer (front ++ back) around s
-with_more back parts.first = parts.first
-with_more back (parts.later h) = parts.later (with_more _ h)
-with_more back (parts.in_first a b rest h) = parts.in_first a b _ h
-with_more back (parts.in_second a h) = parts.in_second a h
+with_more _ parts.first = parts.first
+with_more _ (parts.later h) = parts.later (with_more _ h)
+with_more _ (parts.in_first a b _ h) = parts.in_first a b _ h
+with_more _ (parts.in_second a h) = parts.in_second a h
 
 follows_more : {span : Span} {front : List Stmt} (back : List Stmt) → FollowsEmit span front → FollowsEmit span (front ++ back)
-follows_more back (parts.beyond h i) = parts.beyond h (with_more _ i)
+follows_more _ (parts.beyond h i) = parts.beyond h (with_more _ i)
 follows_more back (parts.later s rest h) = parts.later s (rest ++ back) (follows_more _ h)
-follows_more back (parts.across c a h i) = parts.across c a h i
-follows_more back (parts.in_first c b h) = parts.in_first c b h
-follows_more back (parts.in_second c a h) = parts.in_second c a h
+follows_more _ (parts.across c a h i) = parts.across c a h i
+follows_more _ (parts.in_first c b h) = parts.in_first c b h
+follows_more _ (parts.in_second c a h) = parts.in_second c a h
 
 -- inside other conditions
 elsewhere : {outer others : List Expr} {ss : List Stmt} {around : List Expr} {s : Stmt} → StandsIn outer ss around s → (there : List Expr)
@@ -39,7 +39,7 @@ elsewhere : {outer others : List Expr} {ss : List Stmt} {around : List Expr} {s 
 elsewhere {others} parts.first = (others, parts.first)
 elsewhere (parts.later h) =
     let m = elsewhere h in (m.0, parts.later m.1)
-elsewhere (parts.in_first a b rest h) =
+elsewhere (parts.in_first a b _ h) =
     let m = elsewhere h in (m.0, parts.in_first a b _ m.1)
 elsewhere (parts.in_second a h) =
     let m = elsewhere h in (m.0, parts.in_second a m.1)
@@ -57,7 +57,7 @@ abbrev Emitting : List ℕ → List ℕ → Type 0
 Emitting states args = (s : Stmt) × TellsEmit states args s
 
 abbrev stmts : (states args : List ℕ) → List (Emitting states args) → List Stmt
-stmts states args ss = map (λ s. s.0) ss
+stmts _ _ ss = map (λ s. s.0) ss
 
 emit_after : {s : Stmt} {rest : List Stmt} → HasEmit rest → HasEmit (s ∷ rest)
 emit_after h = (h.0, h.1, parts.later h.2)
@@ -67,7 +67,7 @@ emit_before {rest} h = (h.0, h.1, with_more _ h.2)
 
 emits_both : (found middle made : Body) {s : Stmt} {rest : List Stmt} → Emits found middle (s ∷ []) → Emits middle made rest
     → Emits found made (s ∷ rest)
-emits_both found middle made {s} {rest} one two some = go (two some)
+emits_both found middle _ {s} {rest} one two some = go (two some)
   where
     front : (is_some found.emit ≡ true) ⊎ HasEmit (s ∷ []) → (is_some found.emit ≡ true) ⊎ HasEmit (s ∷ rest)
     front (inl h) = inl h
@@ -79,13 +79,13 @@ emits_both found middle made {s} {rest} one two some = go (two some)
 
 block_emits : (states args : List ℕ) (ss : List (Emitting states args)) (outer : Enclosing) (found : Body) {made : Body}
     → in_order (map (stmt_checked states args) (stmts states args ss)) outer found ≡ Ok made → Emits found made (stmts states args ss)
-block_emits states args [] outer found {made} e = λ some. inl (ap (λ (b : Body). is_some b.emit) (same_ok found made e) ∙ some)
+block_emits _ _ [] _ found {made} e = λ some. inl (ap (λ (b : Body). is_some b.emit) (same_ok found made e) ∙ some)
 block_emits states args (s ∷ ss) outer found {made} e =
     let first = found_first (stmt_checked states args s.0 outer found) _ made e in
     emits_both found first.0 made (s.1 outer found first.0 first.1) (block_emits states args ss outer first.0 first.2)
 
 emits_moved : (found made : Body) {s r : Stmt} → r ≡ s → Emits found made (s ∷ []) → Emits found made (r ∷ [])
-emits_moved found made is h = let S : Stmt → Type 0 = λ z. Emits found made (z ∷ []) in subst S (sym is) h
+emits_moved found made is h = subst (λ z. Emits found made (z ∷ [])) (sym is) h
 
 emit_in_first : {c : Expr} {a : List Stmt} (b : List Stmt) → HasEmit a → HasEmit (block.If c a b ∷ [])
 emit_in_first {a} b h = let m = elsewhere h.2
@@ -113,7 +113,7 @@ if_emits found p q {c} {a} {b} one two some = go (two some)
 emit_step : (states args : List ℕ) (y : stmt.Stmt-F (Emitting states args)) (outer : Enclosing) (found : Body) {made : Body}
     → stmt_step states args (map-Stmt Stmt Adding (stmt_checked states args) (map-Stmt (Emitting states args) Stmt (λ s. s.0) y)) outer
     found ≡ Ok made → Emits found made (roll-Stmt (map-Stmt (Emitting states args) Stmt (λ s. s.0) y) ∷ [])
-emit_step states args (stmt.Assign x e) outer found {made} is =
+emit_step states args (stmt.Assign x e) _ _ {made} is =
     let target = found_first (target_of states args x) _ made is in
     let word = found_first (word_of (states ++ args) [] e) _ made target.2 in
     λ some. inl (ap (λ (b : Body). is_some b.emit) (same_ok _ made word.2) ∙ some)
@@ -127,19 +127,16 @@ emit_step states args (stmt.If c a b) outer found {made} is =
     emits_moved found made (rolls-If c (stmts states args a) (stmts states args b)) (λ some.
     if_emits found one.0 two.0 (block_emits states args a _ (fresh found) one.1)
     (block_emits states args b _ (fresh one.0) two.1) (ap (λ (z : Body). is_some z.emit) (same_ok _ made two.2) ∙ some))
-emit_step states args (stmt.Emit span) outer found {made} is =
-    emits_moved found made (rolls-Emit span) (λ some. inr ([], span, parts.first))
+emit_step _ _ (stmt.Emit span) _ found {made} _ = emits_moved found made (rolls-Emit span) (λ some. inr ([], span, parts.first))
 
 stmt_emits : (states args : List ℕ) (s : Stmt) → TellsEmit states args s
 stmt_emits states args = ind-Stmt (TellsEmit states args) (λ x y is outer found made e.
-    let L : stmt.Stmt-F Stmt → Type 0 = λ z. stmt_step states args (map-Stmt Stmt Adding (stmt_checked states args) z) outer found ≡ Ok made
-    → Emits found made (roll-Stmt z ∷ []) in
-    subst L is (emit_step _ _ y _ _) (sym (ap (λ (g : Adding). g outer found)
+    subst (λ z. stmt_step states args (map-Stmt Stmt Adding (stmt_checked states args) z) outer found ≡ Ok made → Emits found made (roll-Stmt z ∷ [])) is (emit_step _ _ y _ _) (sym (ap (λ g. g outer found)
     (fold-roll-Stmt Adding (stmt_step states args) x)) ∙ e))
 
 all_emit : (states args : List ℕ) (ss : List Stmt) (outer : Enclosing) (found : Body) {made : Body}
     → in_order (map (stmt_checked states args) ss) outer found ≡ Ok made → Emits found made ss
-all_emit states args [] outer found {made} e = λ some. inl (ap (λ (b : Body). is_some b.emit) (same_ok found made e) ∙ some)
+all_emit _ _ [] _ found {made} e = λ some. inl (ap (λ (b : Body). is_some b.emit) (same_ok found made e) ∙ some)
 all_emit states args (s ∷ ss) outer found {made} e =
     let first = found_first (stmt_checked states args s outer found) _ made e in
     emits_both found first.0 made (stmt_emits states args s outer found first.0 first.1) (all_emit states args ss outer first.0 first.2)
@@ -160,35 +157,35 @@ module _ (states args : List ℕ) (known : List Known) (fault : QueryFault) wher
   InBlock outer ss has = BlockTold states args outer ss has known fault
 
   told_more : {outer : List Expr} {front : List Stmt} (back : List Stmt) {has : Bool} → InBlock outer front has → InBlock outer (front ++ back) has
-  told_more back (at_statement h b) = at_statement (with_more _ h) b
-  told_more back (second span e h is) = second _ e (with_more _ h) is
-  told_more back (follows e h) = follows e (follows_more _ h)
+  told_more _ (at_statement h b) = at_statement (with_more _ h) b
+  told_more _ (second _ e h is) = second _ e (with_more _ h) is
+  told_more _ (follows e h) = follows e (follows_more _ h)
 
   told_after : {outer : List Expr} {s : Stmt} {rest : List Stmt} {has has_then : Bool} → (has_then ≡ true → (has ≡ true) ⊎ HasEmit (s ∷ []))
       → InBlock outer rest has_then → InBlock outer (s ∷ rest) has
-  told_after emits (at_statement h b) = at_statement (parts.later h) b
-  told_after {outer} {s} {rest} {has} emits (second span e h is) = go (emits is)
+  told_after _ (at_statement h b) = at_statement (parts.later h) b
+  told_after {outer} {s} {rest} {has} emits (second _ e h is) = go (emits is)
     where
       go : (has ≡ true) ⊎ HasEmit (s ∷ []) → InBlock outer (s ∷ rest) has
       go (inl had) = second _ e (parts.later h) had
       go (inr there) = let m = elsewhere h in follows e (parts.beyond there m.1)
-  told_after {s} {rest} emits (follows e h) = follows e (parts.later s rest h)
+  told_after {s} {rest} _ (follows e h) = follows e (parts.later s rest h)
 
   told_first : {outer : List Expr} {c : Expr} {a : List Stmt} (b : List Stmt) {has : Bool} → InBlock (c ∷ outer) a has
       → InBlock outer (block.If c a b ∷ []) has
   told_first {a} b (at_statement h k) = at_statement (parts.in_first a b _ h) k
-  told_first {a} b (second span e h is) = second _ e (parts.in_first a b _ h) is
+  told_first {a} b (second _ e h is) = second _ e (parts.in_first a b _ h) is
   told_first {c} b (follows e h) = follows e (parts.in_first c b h)
 
   told_second : {outer : List Expr} {c : Expr} {a b : List Stmt} {has has_then : Bool} → (has_then ≡ true → (has ≡ true) ⊎ HasEmit a)
       → InBlock (c ∷ outer) b has_then → InBlock outer (block.If c a b ∷ []) has
-  told_second {a} emits (at_statement h k) = at_statement (parts.in_second a h) k
-  told_second {outer} {c} {a} {b} {has} emits (second span e h is) = go (emits is)
+  told_second {a} _ (at_statement h k) = at_statement (parts.in_second a h) k
+  told_second {outer} {c} {a} {b} {has} emits (second _ e h is) = go (emits is)
     where
       go : (has ≡ true) ⊎ HasEmit a → InBlock outer (block.If c a b ∷ []) has
       go (inl had) = second _ e (parts.in_second a h) had
       go (inr there) = let m = elsewhere h in follows e (parts.across c a there m.1)
-  told_second {c} {a} emits (follows e h) = follows e (parts.in_second c a h)
+  told_second {c} {a} _ (follows e h) = follows e (parts.in_second c a h)
 
   target_told : {around : List Expr} {x : Name} {e : Expr} → target_of states args x ≡ Err fault
       → Broken (StmtAsks states args around (block.Assign x e)) known fault
@@ -196,7 +193,7 @@ module _ (states args : List ℕ) (known : List Known) (fault : QueryFault) wher
     where
       go : (o : Option ℕ) → place_of states x.id ≡ o → (b : Bool) → is_among x.id args ≡ b → target_at o b x.span ≡ Err fault
           → Broken (StmtAsks states args around (block.Assign x e)) known fault
-      go (Some v) place b among is = no_fault is
+      go (Some v) _ b _ is = no_fault is
       go None place true among is = record {
         demand = Target states args x;
         asks = of_target e;
@@ -220,13 +217,13 @@ module _ (states args : List ℕ) (known : List Known) (fault : QueryFault) wher
 
   block_told : (ss : List ToldStmt) {around : List Expr} (outer : Enclosing) (found : Body) → Knows states around outer
       → in_order (map (stmt_checked states args) (all_of ss)) outer found ≡ Err fault → InBlock around (all_of ss) (is_some found.emit)
-  block_told [] outer found knows e = no_fault e
+  block_told [] _ _ _ e = no_fault e
   block_told (s ∷ ss) {around} outer found knows e = by_next (stmt_checked states args s.0 outer found) e
       (λ is. told_more (all_of ss) (s.1 around outer found knows is)) (λ more is e.
       told_after (stmt_emits states args s.0 outer found more is) (block_told ss outer more knows e))
 
   stmt_moved : {around : List Expr} {s r : Stmt} {has : Bool} → r ≡ s → InBlock around (s ∷ []) has → InBlock around (r ∷ []) has
-  stmt_moved {around} {has} is h = let S : Stmt → Type 0 = λ z. InBlock around (z ∷ []) has in subst S (sym is) h
+  stmt_moved {around} {has} is h = subst (λ z. InBlock around (z ∷ []) has) (sym is) h
 
   -- of this statement alone
   here : {around : List Expr} {s : Stmt} {has : Bool} → Broken (StmtAsks states args around s) known fault → InBlock around (s ∷ []) has
@@ -239,7 +236,7 @@ module _ (states args : List ℕ) (known : List Known) (fault : QueryFault) wher
     where
       go : (o : Option Span) → outer.state ≡ o → no_state o (let r : Checked Body = Ok made in r) ≡ Err fault
           → Broken (StmtAsks states args around (block.Emit span)) known fault
-      go None is e = no_fault e
+      go None _ e = no_fault e
       go (Some at) is e =
           let k = knows at is in
           let m = has_state _ _ at k.2 in
@@ -253,14 +250,10 @@ module _ (states args : List ℕ) (known : List Known) (fault : QueryFault) wher
   told_step : (y : stmt.Stmt-F ToldStmt) {around : List Expr} (outer : Enclosing) (found : Body) → Knows states around outer
       → stmt_step states args (map-Stmt Stmt Adding (stmt_checked states args) (map-Stmt ToldStmt Stmt (λ s. s.0) y)) outer found ≡ Err
       fault → InBlock around (roll-Stmt (map-Stmt ToldStmt Stmt (λ s. s.0) y) ∷ []) (is_some found.emit)
-  told_step (stmt.Assign x e) outer found knows is = stmt_moved (rolls-Assign x e) (
+  told_step (stmt.Assign x e) _ _ _ is = stmt_moved (rolls-Assign x e) (
       by_next _ is (λ is. here (target_told is)) (λ v p is. by_next _ is (λ is.
       let b = word_told is in
-      here (record {
-        demand = b.demand;
-        asks = of_value x b.asks;
-        tells = b.tells known;
-      })) (λ value q is. no_fault is)))
+      here (record { demand = b.demand; asks = of_value x b.asks; tells = b.tells known })) (λ value q is. no_fault is)))
   told_step (stmt.If c a b) outer found knows is = stmt_moved (rolls-If c (all_of a) (all_of b)) (
       by_next (condition_of (states ++ args) [] c) is (λ is.
       let k = condition_told is in
@@ -276,9 +269,7 @@ module _ (states args : List ℕ) (known : List Known) (fault : QueryFault) wher
 
   stmt_told : (s : Stmt) → IsToldStmt s
   stmt_told = ind-Stmt IsToldStmt (λ x y is around outer found knows e.
-      let L : stmt.Stmt-F Stmt → Type 0 = λ z. stmt_step states args (map-Stmt Stmt Adding (stmt_checked states args) z) outer found ≡ Err
-      fault → InBlock around (roll-Stmt z ∷ []) (is_some found.emit) in
-      subst L is (told_step y _ _ knows) (sym (ap (λ (g : Adding). g outer found)
+      subst (λ z. stmt_step states args (map-Stmt Stmt Adding (stmt_checked states args) z) outer found ≡ Err fault → InBlock around (roll-Stmt z ∷ []) (is_some found.emit)) is (told_step y _ _ knows) (sym (ap (λ g. g outer found)
       (fold-roll-Stmt Adding (stmt_step states args) x)) ∙ e))
 
   pub body_told : (ss : List Stmt) {around : List Expr} (outer : Enclosing) (found : Body) → Knows states around outer

@@ -10,11 +10,11 @@ use Rattle.query_laws.proofs.FoldNames.{new_among, among_new}
 
 pub at_slots : (columns : List StreamColumn) (slots : List ℕ) (found : List StreamColumn) → AreAt columns slots found
     → found ≡ columns_at columns slots
-at_slots columns [] [] h = refl
-at_slots columns [] (c ∷ found) h = absurd h
-at_slots columns (slot ∷ slots) [] h = absurd h
-at_slots columns (slot ∷ slots) (c ∷ found) h = ap (λ (z : List StreamColumn). c ∷ z) (at_slots columns slots found h.1)
-    ∙ sym (ap (λ (o : Option StreamColumn). cons_option o (columns_at columns slots)) h.0)
+at_slots _ [] [] h = refl
+at_slots _ [] (c ∷ _) h = absurd h
+at_slots _ (_ ∷ _) [] h = absurd h
+at_slots columns (_ ∷ slots) (c ∷ found) h = ap (λ z. c ∷ z) (at_slots columns slots found h.1)
+    ∙ sym (ap (λ o. cons_option o (columns_at columns slots)) h.0)
 
 -- slots of columns that are there
 abbrev AreWithin : ℕ → List ℕ → Type 0
@@ -22,52 +22,50 @@ AreWithin n [] = Unit {0}
 AreWithin n (slot ∷ slots) = (slot < n) × AreWithin n slots
 
 found_column : (columns : List StreamColumn) (slot : ℕ) → slot < length columns → (c : StreamColumn) × (slice_get columns slot ≡ Some c)
-found_column [] slot lt = absurd (omega (arith, lt))
-found_column (c ∷ columns) zero lt = (c, refl)
+found_column [] _ lt = absurd (omega (arith, lt))
+found_column (c ∷ _) zero _ = (c, refl)
 found_column (c ∷ columns) (suc slot) lt = found_column columns slot (omega (arith, lt))
 
 are_there : (columns : List StreamColumn) (slots : List ℕ) → AreWithin (length columns) slots
     → AreAt columns slots (columns_at columns slots)
-are_there columns [] h = tt
+are_there _ [] h = tt
 are_there columns (slot ∷ slots) h =
     let c = found_column columns slot h.0 in
-    let A : List StreamColumn → Type 0 = λ z. AreAt columns (slot ∷ slots) z in
-    subst A (sym (ap (λ (o : Option StreamColumn). cons_option o (columns_at columns slots)) c.1)) (c.1, are_there columns slots h.1)
+    subst (λ z. AreAt columns (slot ∷ slots) z) (sym (ap (λ o. cons_option o (columns_at columns slots)) c.1)) (c.1, are_there columns slots h.1)
 
 stands_within : (columns : List StreamColumn) (slot id : ℕ) → StandsAt (column_names columns) slot id → slot < length columns
-stands_within [] slot id h = absurd h
-stands_within (c ∷ columns) zero id h = omega arith
+stands_within [] _ _ h = absurd h
+stands_within (c ∷ _) zero _ h = omega arith
 stands_within (c ∷ columns) (suc slot) id h = omega (arith, stands_within columns slot id h.1)
 
 slots_within : (columns : List StreamColumn) (ids slots : List ℕ) → HasSlots (column_names columns) ids slots
     → AreWithin (length columns) slots
-slots_within columns [] [] h = tt
-slots_within columns [] (slot ∷ slots) h = absurd h
-slots_within columns (id ∷ ids) [] h = absurd h
+slots_within _ [] [] h = tt
+slots_within _ [] (_ ∷ _) h = absurd h
+slots_within _ (_ ∷ _) [] h = absurd h
 slots_within columns (id ∷ ids) (slot ∷ slots) h = (stands_within columns slot id h.0, slots_within columns ids slots h.1)
 
 -- the columns of a groupby, from its keys' slots
 pub keys_there : (columns : List StreamColumn) (ids slots : List ℕ) → HasSlots (column_names columns) ids slots
     → AreAt columns slots (columns_at columns slots)
-keys_there columns ids slots h = are_there _ _ (slots_within _ _ _ h)
+keys_there _ _ _ h = are_there _ _ (slots_within _ _ _ h)
 
 -- ---- the columns with other names
 
 pub others_are : {names : List ℕ} {slot : ℕ} {columns : List StreamColumn} {slots : List ℕ} → AreOthers names slot columns slots
     → slots ≡ others_from slot names columns
-others_are (of_none slot) = refl
+others_are (of_none _) = refl
 others_are {names} (of_named {slot} {column} {rest} {slots} h more) = go (is_among column.name names) refl (others_are more)
   where
     go : (b : Bool) → is_among column.name names ≡ b → slots ≡ others_from (slot + 1) names rest
         → slots ≡ cond b (others_from (slot + 1) names rest) (slot ∷ others_from (slot + 1) names rest)
-    go true is same = same
-    go false is same = absurd (h (among_new _ _ is))
-others_are {names} (of_other {slot} {column} {rest} h more) = ap (λ (z : List ℕ). slot ∷ z) (others_are more)
-    ∙ sym (ap (λ (b : Bool). cond b (others_from (slot + 1) names rest) (slot ∷ others_from (slot + 1) names rest))
-    (new_among _ _ h))
+    go true _ same = same
+    go false is _ = absurd (h (among_new _ _ is))
+others_are {names} (of_other {slot} {column} {rest} h more) = ap (λ z. slot ∷ z) (others_are more)
+    ∙ sym (ap (λ b. cond b (others_from (slot + 1) names rest) (slot ∷ others_from (slot + 1) names rest)) (new_among _ _ h))
 
 others_found : (names : List ℕ) (slot : ℕ) (columns : List StreamColumn) → AreOthers names slot columns (others_from slot names columns)
-others_found names slot [] = of_none _
+others_found _ _ [] = of_none _
 others_found names slot (column ∷ rest) = go (is_among column.name names) refl (others_found names (slot + 1) rest)
   where
     more : List ℕ
@@ -79,7 +77,7 @@ others_found names slot (column ∷ rest) = go (is_among column.name names) refl
     go false is h = of_other (among_new column.name names is) h
 
 others_within : (at : ℕ) (names : List ℕ) (columns : List StreamColumn) → AreWithin (at + length columns) (others_from at names columns)
-others_within at names [] = tt
+others_within _ _ [] = tt
 others_within at names (c ∷ columns) =
     go (is_among c.name names) (subst (λ n. AreWithin n (others_from (at + 1) names columns)) (omega arith)
     (others_within (at + 1) names columns))
@@ -95,9 +93,7 @@ pub record Taken (names : List ℕ) (columns : List StreamColumn) : Type 0 where
   pub there : AreAt columns (others_from 0 names columns) (columns_at columns (others_from 0 names columns))
 
 pub others_taken : {names : List ℕ} {columns : List StreamColumn} → Taken names columns
-others_taken {names} {columns} =
-    let W : ℕ → Type 0 = λ n. AreWithin n (others_from 0 names columns) in
-    record {
+others_taken {names} {columns} = record {
       new = others_found names 0 columns;
-      there = are_there columns (others_from 0 names columns) (subst W (omega arith) (others_within 0 names columns));
+      there = are_there columns (others_from 0 names columns) (subst (λ n. AreWithin n (others_from 0 names columns)) (omega arith) (others_within 0 names columns));
     }

@@ -73,12 +73,12 @@ below h = grind arith
 
 pub right : (columns hidden : List ℕ) (op : Op) (e : Expr) (found : Found) → expr_checked columns hidden e ≡ Ok found → IsRightOperand op e
     → is_right_constant op found.sort ≡ true
-right columns hidden Div e found is h = constant _ _ (λ k c. below c) is h
-right columns hidden Rem e found is h = constant _ _ (λ k c. below c) is h
-right columns hidden Shl e found is h = constant _ _ (λ k c. below c) is h
-right columns hidden Shr e found is h = constant _ _ (λ k c. below c) is h
-right columns hidden Decay e found is h = constant _ _ (λ k c. below c) is h
-right columns hidden _ e found is h = refl
+right _ _ Div e _ is h = constant _ _ (λ k c. below c) is h
+right _ _ Rem e _ is h = constant _ _ (λ k c. below c) is h
+right _ _ Shl e _ is h = constant _ _ (λ k c. below c) is h
+right _ _ Shr e _ is h = constant _ _ (λ k c. below c) is h
+right _ _ Decay e _ is h = constant _ _ (λ k c. below c) is h
+right _ _ _ e _ _ h = refl
 
 abbrev pair : Op → Span → Found → Found → Found
 pair op at x y = record { tree = typed.Binary op x.tree y.tree; sort = sort_of op; at = at }
@@ -89,10 +89,10 @@ two {columns} {hidden} {op} {b} x y c = must_holds _ _ (operand _ _ x.kind) ∙ 
     ∙ must_holds _ _ (right _ _ _ b _ y.is c)
 
 pair_tree : {op : Op} (at : Span) (x y : Found) {s t : TypedExpr} → x.tree ≡ s → y.tree ≡ t → (pair op at x y).tree ≡ typed.Binary op s t
-pair_tree {op} at x y {s} p q = ap (λ (z : TypedExpr). typed.Binary op z y.tree) p ∙ ap (typed.Binary op s) q
+pair_tree {op} _ x y {s} p q = ap (λ z. typed.Binary op z y.tree) p ∙ ap (typed.Binary op s) q
 
 pub complete : {columns : List ℕ} (hidden : List ℕ) {k : Kind} {e : Expr} {t : TypedExpr} → HasKind columns k e t → Gives columns hidden k e t
-complete {columns} hidden (of_number {n} span) = record {
+complete {columns} _ (of_number {n} span) = record {
   found = record { tree = typed.Number n; sort = sort.Number n; at = span };
   is = number_is _ _;
   tree = refl;
@@ -100,12 +100,11 @@ complete {columns} hidden (of_number {n} span) = record {
 }
 complete {columns} hidden (of_name x {slot} stands) = record {
   found = record { tree = typed.Slot slot; sort = sort.Word; at = x.span };
-  is = named_is _ _ x ∙ then_next _ (ap (λ (o : Option ℕ). slot_at o (is_among x.id hidden) x.span)
-      (stands_place _ _ stands));
+  is = named_is _ _ x ∙ then_next _ (ap (λ o. slot_at o (is_among x.id hidden) x.span) (stands_place _ _ stands));
   tree = refl;
   kind = refl;
 }
-complete {columns} hidden (of_not span {e} h) =
+complete {columns} _ (of_not span {e} h) =
     let x = complete _ h in
     record {
       found = record { tree = typed.Not x.found.tree; sort = sort.Condition; at = span };
@@ -128,21 +127,20 @@ complete {columns} hidden (of_call {op} span {a} {b} h i c) =
     record {
       found = pair op span x.found y.found;
       is = call_is columns hidden op span (a ∷ b ∷ [])
-          ∙ ap (λ (r : Checked Found). and_then (collected [] (r ∷ expr_checked columns hidden b ∷ [])) (call_of op span)) x.is
-          ∙ ap (λ (r : Checked Found). and_then (collected (x.found ∷ []) (r ∷ [])) (call_of op span)) y.is ∙ two x y c;
+          ∙ ap (λ r. and_then (collected [] (r ∷ expr_checked columns hidden b ∷ [])) (call_of op span)) x.is
+          ∙ ap (λ r. and_then (collected (x.found ∷ []) (r ∷ [])) (call_of op span)) y.is ∙ two x y c;
       tree = pair_tree span x.found y.found x.tree y.tree;
       kind = kind_made op;
     }
 
 pub condition_complete : {columns : List ℕ} (hidden : List ℕ) {e : Expr} {tree : TypedExpr} → HasKind columns Condition e tree
     → condition_of columns hidden e ≡ Ok tree
-condition_complete hidden h =
+condition_complete _ h =
     let x = complete _ h in
-    then_next _ x.is ∙ must_holds _ _ (kind_condition _ x.kind)
-    ∙ ap (λ (t : TypedExpr). let r : Checked TypedExpr = Ok t in r) x.tree
+    then_next _ x.is ∙ must_holds _ _ (kind_condition _ x.kind) ∙ ap (λ t. let r : Checked TypedExpr = Ok t in r) x.tree
 
 pub word_complete : {columns : List ℕ} (hidden : List ℕ) {e : Expr} {tree : TypedExpr} → HasKind columns Word e tree
     → word_of columns hidden e ≡ Ok tree
-word_complete hidden h =
+word_complete _ h =
     let x = complete _ h in
-    then_next _ x.is ∙ must_holds _ _ (kind_word _ x.kind) ∙ ap (λ (t : TypedExpr). let r : Checked TypedExpr = Ok t in r) x.tree
+    then_next _ x.is ∙ must_holds _ _ (kind_word _ x.kind) ∙ ap (λ t. let r : Checked TypedExpr = Ok t in r) x.tree

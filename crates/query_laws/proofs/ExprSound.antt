@@ -36,8 +36,8 @@ slot_stands columns hidden name {v} e = go (place_of columns name.id) refl (is_a
     go (Some slot) is b e =
         let same : slot ≡ v = cc in
         place_stands _ _ v (is ∙ ap Some same)
-    go None is true e = cc e
-    go None is false e = cc e
+    go None _ true e = cc e
+    go None _ false e = cc e
 
 pub condition_kind : (s : Sort) → is_condition_sort s ≡ true → kind_of s ≡ Condition
 condition_kind (sort.Number n) e = cc e
@@ -72,8 +72,8 @@ no_number false e = tt
 constant : {test : ℕ → Bool} {Q : ℕ → Type 0} (s : Sort) {e : Expr} → ((n : ℕ) → test n ≡ true → Q n) → IsNumberOf s e
     → is_number_with test s ≡ true → IsNumberWith Q e
 constant (sort.Number n) tells is h = (n, is.0, is.1, tells n h)
-constant sort.Word tells is h = cc h
-constant sort.Condition tells is h = cc h
+constant sort.Word _ _ h = cc h
+constant sort.Condition _ _ h = cc h
 
 right : (op : Op) (s : Sort) (e : Expr) → IsNumberOf s e → is_right_constant op s ≡ true → IsRightOperand op e
 right Div s e is h = constant s (λ k c. ltb-true 0 k c) is h
@@ -81,7 +81,7 @@ right Rem s e is h = constant s (λ k c. ltb-true 0 k c) is h
 right Shl s e is h = constant s (λ k c. ltb-true k 64 c) is h
 right Shr s e is h = constant s (λ k c. ltb-true k 64 c) is h
 right Decay s e is h = constant s (λ k c. ltb-true k 64 c) is h
-right _ s e is h = tt
+right _ s e _ h = tt
 
 -- two operands of a rule
 pub record Operands (columns : List ℕ) (op : Op) (a b : Expr) (x y found : Found) : Type 0 where
@@ -94,30 +94,25 @@ pub record Operands (columns : List ℕ) (op : Op) (a b : Expr) (x y found : Fou
 
 pub two : {columns : List ℕ} {op : Op} (at : Span) {a b : Expr} {x y found : Found} → IsTyped columns a x → IsTyped columns b y
     → of_two op at x y ≡ Ok found → Operands columns op a b x y found
-two {columns} {op} at {a} {b} {x} {y} {found} va vb e =
+two {columns} {op} _ {a} {b} {x} {y} {found} va vb e =
     let one = must_ok _ _ _ e in
     let two = must_ok _ _ _ one.1 in
     let three = must_ok _ _ _ two.1 in
     let same = same_ok _ _ three.1 in
-    let A : Kind → Type 0 = λ k. HasKind columns k a x.tree in
-    let B : Kind → Type 0 = λ k. HasKind columns k b y.tree in
     record {
-      first = subst A (operand _ _ one.0) va.rule;
-      second = subst B (operand _ _ two.0) vb.rule;
+      first = subst (λ k. HasKind columns k a x.tree) (operand _ _ one.0) va.rule;
+      second = subst (λ k. HasKind columns k b y.tree) (operand _ _ two.0) vb.rule;
       constant = right _ _ b vb.number three.0;
       tree = ap (λ (f : Found). f.tree) same;
       kind = sym (kind_made _) ∙ ap (λ (f : Found). kind_of f.sort) same;
-      number = λ e. let N : Found → Type 0 = λ f. IsNumberOf f.sort e in subst N same (no_number _ e);
+      number = λ e. subst (λ (f : Found). IsNumberOf f.sort e) same (no_number _ e);
     }
 
 -- a rule for the typed form and the kind that were found
 ruled : {columns : List ℕ} {k l : Kind} {e f : Expr} {s t : TypedExpr} → k ≡ l → e ≡ f → s ≡ t → HasKind columns k e s
     → HasKind columns l f t
 ruled {columns} {l} {e} {f} {s} p q r h =
-    let K : Kind → Type 0 = λ z. HasKind columns z e s in
-    let E : Expr → Type 0 = λ z. HasKind columns l z s in
-    let T : TypedExpr → Type 0 = λ z. HasKind columns l f z in
-    subst T r (subst E q (subst K p h))
+    subst (λ z. HasKind columns l f z) r (subst (λ z. HasKind columns l z s) q (subst (λ z. HasKind columns z e s) p h))
 
 abbrev IsSound : List ℕ → List ℕ → Expr → Type 0
 IsSound columns hidden e = (found : Found) → expr_checked columns hidden e ≡ Ok found → IsTyped columns e found
@@ -134,15 +129,15 @@ of_layer {columns} hidden x layer found e = layer found (sym (fold-roll-Expr (Ch
 
 -- each of some expressions gives what was collected of it
 abbrev pub Each : (columns hidden : List ℕ) → List Expr → List Found → Type 0
-Each columns hidden [] [] = Unit {0}
-Each columns hidden [] (f ∷ fs) = ⊥
-Each columns hidden (e ∷ es) [] = ⊥
+Each _ _ [] [] = Unit {0}
+Each _ _ [] (f ∷ _) = ⊥
+Each _ _ (e ∷ _) [] = ⊥
 Each columns hidden (e ∷ es) (f ∷ fs) = (expr_checked columns hidden e ≡ Ok f) × Each columns hidden es fs
 
 pub collected_each : (columns hidden : List ℕ) (es : List Expr) (before : List Found) {all : List Found}
     → collected before (map (expr_checked columns hidden) es) ≡ Ok all
     → (rest : List Found) × (all ≡ before ++ rest) × Each columns hidden es rest
-collected_each columns hidden [] before {all} e = ([], sym (same_ok _ _ e) ∙ sym (append-nil before), tt)
+collected_each _ _ [] before {all} e = ([], sym (same_ok _ _ e) ∙ sym (append-nil before), tt)
 collected_each columns hidden (a ∷ es) before {all} e = go (expr_checked columns hidden a) refl
     (λ x k. collected_each columns hidden es (before ++ x ∷ []) k) e
   where
@@ -154,50 +149,43 @@ collected_each columns hidden (a ∷ es) before {all} e = go (expr_checked colum
     go (Ok x) is next e =
         let more = next x e in
         (x ∷ more.0, more.1 ∙ append_assoc before (x ∷ []) more.0, (is, more.2))
-    go (Err fault) is next e = cc e
+    go (Err _) _ _ e = cc e
 
 call : {columns : List ℕ} (hidden : List ℕ) {op : Op} {span : Span} (args : List (Sound columns hidden)) (fs : List Found) {found : Found}
     → Each columns hidden (map (λ a. a.0) args) fs → call_of op span fs ≡ Ok found
     → IsTyped columns (whole.Call op span (map (λ a. a.0) args)) found
-call hidden [] [] all e = cc e
-call hidden [] (f ∷ fs) all e = absurd all
-call hidden (a ∷ args) [] all e = absurd all
-call hidden (a ∷ []) (f ∷ []) all e = cc e
-call hidden (a ∷ []) (f ∷ g ∷ fs) all e = absurd all.1
-call hidden (a ∷ b ∷ args) (f ∷ []) all e = absurd all.1
-call hidden {span} (a ∷ b ∷ []) (f ∷ g ∷ []) all e =
+call _ [] [] _ e = cc e
+call _ [] (f ∷ _) all e = absurd all
+call _ (a ∷ _) [] all e = absurd all
+call _ (a ∷ []) (f ∷ []) _ e = cc e
+call _ (a ∷ []) (f ∷ g ∷ _) all e = absurd all.1
+call _ (a ∷ b ∷ _) (f ∷ []) all e = absurd all.1
+call _ {span} (a ∷ b ∷ []) (f ∷ g ∷ []) all e =
     let v = two _ (a.1 f all.0) (b.1 g all.1.0) e in
-    record {
-      rule = ruled v.kind refl v.tree (of_call span v.first v.second v.constant);
-      number = v.number _;
-    }
-call hidden (a ∷ b ∷ []) (f ∷ g ∷ h ∷ fs) all e = absurd all.1.1
-call hidden (a ∷ b ∷ c ∷ args) (f ∷ g ∷ []) all e = absurd all.1.1
-call hidden (a ∷ b ∷ c ∷ args) (f ∷ g ∷ h ∷ fs) all e = cc e
+    record { rule = ruled v.kind refl v.tree (of_call span v.first v.second v.constant); number = v.number _ }
+call _ (a ∷ b ∷ []) (f ∷ g ∷ h ∷ _) all e = absurd all.1.1
+call _ (a ∷ b ∷ c ∷ _) (f ∷ g ∷ []) all e = absurd all.1.1
+call _ (a ∷ b ∷ c ∷ _) (f ∷ g ∷ h ∷ _) _ e = cc e
 
 moved : {columns : List ℕ} {e f : Expr} {found : Found} → f ≡ e → IsTyped columns e found → IsTyped columns f found
-moved {columns} {found} is h = let E : Expr → Type 0 = λ z. IsTyped columns z found in subst E (sym is) h
+moved {columns} {found} is h = subst (λ z. IsTyped columns z found) (sym is) h
 
 step : {columns : List ℕ} (hidden : List ℕ) (y : expr.Expr-F (Sound columns hidden))
     → IsSoundLayer columns hidden (map-Expr (Sound columns hidden) Expr (λ a. a.0) y)
-step {columns} hidden (expr.Number n span) found e =
-    let F : Found → Type 0 = λ z. IsTyped columns (whole.Number n span) z in
-    moved (rolls-Number n span) (subst F (same_ok _ _ e) (record { rule = of_number span; number = (span, refl) }))
-step {columns} hidden (expr.Named name) found e =
+step {columns} _ (expr.Number n span) _ e =
+    moved (rolls-Number n span) (subst (λ z. IsTyped columns (whole.Number n span) z) (same_ok _ _ e) (record { rule = of_number span; number = (span, refl) }))
+step {columns} _ (expr.Named name) _ e =
     let first = found_first _ _ _ e in
-    let F : Found → Type 0 = λ z. IsTyped columns (whole.Named name) z in
-    moved (rolls-Named name) (subst F (same_ok _ _ first.2)
+    moved (rolls-Named name) (subst (λ z. IsTyped columns (whole.Named name) z) (same_ok _ _ first.2)
     (record { rule = of_name name (slot_stands _ _ _ first.1); number = tt }))
-step {columns} hidden (expr.Not span a) found e =
+step {columns} _ (expr.Not span a) _ e =
     let first = found_first _ _ _ e in
     let one = must_ok _ _ _ first.2 in
-    let F : Found → Type 0 = λ z. IsTyped columns (whole.Not span a.0) z in
-    let K : Kind → Type 0 = λ k. HasKind columns k a.0 first.0.tree in
-    moved (rolls-Not span a.0) (subst F (same_ok _ _ one.1) (record {
-      rule = of_not span (subst K (condition_kind _ one.0) (a.1 first.0 first.1).rule);
+    moved (rolls-Not span a.0) (subst (λ z. IsTyped columns (whole.Not span a.0) z) (same_ok _ _ one.1) (record {
+      rule = of_not span (subst (λ k. HasKind columns k a.0 first.0.tree) (condition_kind _ one.0) (a.1 first.0 first.1).rule);
       number = tt;
     }))
-step {columns} hidden (expr.Binary op span a b) found e =
+step {columns} _ (expr.Binary op span a b) _ e =
     let first = found_first _ _ _ e in
     let second = found_first _ _ _ first.2 in
     let v = two _ (a.1 first.0 first.1) (b.1 second.0 second.1) second.2 in
@@ -205,25 +193,24 @@ step {columns} hidden (expr.Binary op span a b) found e =
       rule = ruled v.kind refl v.tree (of_binary span v.first v.second v.constant);
       number = v.number _;
     })
-step {columns} hidden (expr.Call op span args) found e =
+step {columns} _ (expr.Call op span args) _ e =
     let first = found_first _ _ _ e in
     let all = collected_each _ _ _ _ first.1 in
     moved (rolls-Call op span (map (λ a. a.0) args)) (call _ _ _ all.2 (ap (call_of op span) (sym all.1) ∙ first.2))
 
 pub expr_sound : {columns : List ℕ} (hidden : List ℕ) (e : Expr) → IsSound columns hidden e
 expr_sound {columns} hidden = ind-Expr (IsSound columns hidden) (λ x y is.
-    let L : expr.Expr-F Expr → Type 0 = λ z. IsSoundLayer columns hidden z in
-    of_layer _ x (subst L is (step _ y)))
+    of_layer _ x (subst (λ z. IsSoundLayer columns hidden z) is (step _ y)))
 
 pub condition_sound : {columns : List ℕ} (hidden : List ℕ) {e : Expr} {tree : TypedExpr} → condition_of columns hidden e ≡ Ok tree
     → HasKind columns Condition e tree
-condition_sound {columns} hidden {e} {tree} is =
+condition_sound {columns} _ {e} {tree} is =
     let first = found_first _ _ _ is in
     let test = must_ok _ _ _ first.2 in
     ruled (condition_kind _ test.0) refl (same_ok _ _ test.1) (expr_sound _ e first.0 first.1).rule
 
 pub word_sound : {columns : List ℕ} (hidden : List ℕ) {e : Expr} {tree : TypedExpr} → word_of columns hidden e ≡ Ok tree → HasKind columns Word e tree
-word_sound {columns} hidden {e} {tree} is =
+word_sound {columns} _ {e} {tree} is =
     let first = found_first _ _ _ is in
     let test = must_ok _ _ _ first.2 in
     ruled (word_kind _ test.0) refl (same_ok _ _ test.1) (expr_sound _ e first.0 first.1).rule

@@ -17,25 +17,23 @@ not_both false e f = cc f
 
 pub by_must : {A P : Type 0} (test : Bool) {kind : FaultKind} {span : Span} (next : Checked A) {fault : QueryFault}
     → must test kind span next ≡ Err fault → (test ≡ false → at_span kind span ≡ fault → P) → (test ≡ true → next ≡ Err fault → P) → P
-by_must true next e bad good = good refl e
-by_must false next e bad good = bad refl (same_fault e)
+by_must true _ e _ good = good refl e
+by_must false _ e bad _ = bad refl (same_fault e)
 
 pub by_must_not : {A P : Type 0} (test : Bool) {kind : FaultKind} {span : Span} {next : Checked A} {fault : QueryFault}
     → must_not test kind span next ≡ Err fault → (test ≡ true → at_span kind span ≡ fault → P) → (test ≡ false → next ≡ Err fault → P) → P
-by_must_not true e bad good = bad refl (same_fault e)
-by_must_not false e bad good = good refl e
+by_must_not true e bad _ = bad refl (same_fault e)
+by_must_not false e _ good = good refl e
 
 pub by_next : {A B P : Type 0} (first : Checked A) {next : A → Checked B} {fault : QueryFault}
     → and_then first next ≡ Err fault → (first ≡ Err fault → P) → ((x : A) → first ≡ Ok x → next x ≡ Err fault → P) → P
-by_next (Ok x) e bad good = good x refl e
-by_next (Err found) e bad good = bad (cc e)
+by_next (Ok x) e _ good = good x refl e
+by_next (Err _) e bad _ = bad (cc e)
 
 -- what a fault at a span says is what the fault says
 pub told : (known : List Known) (demand : Demand) {kind : FaultKind} {span : Span} {fault : QueryFault} → at_span kind span ≡ fault
     → Tells known kind span demand → Tells known fault.kind fault.span demand
-told known demand e tells =
-    let T : QueryFault → Type 0 = λ f. Tells known f.kind f.span demand in
-    subst T e tells
+told known demand e tells = subst (λ (f : QueryFault). Tells known f.kind f.span demand) e tells
 
 -- something that is asked, of which the fault says that it isn't so
 pub record Broken (Asks : Demand → Type 0) (known : List Known) (fault : QueryFault) : Type 0 where

@@ -13,12 +13,12 @@ abbrev IsAmong : List ℕ → List (List ℕ) → Type 0
 IsAmong text names = list_any (bytes_eq text) names ≡ true
 
 among_front : (text : List ℕ) (names : List (List ℕ)) (other : List ℕ) → IsAmong text names → IsAmong text (names ++ other ∷ [])
-among_front text [] other h = cc h
+among_front _ [] _ h = cc h
 among_front text (n ∷ names) other h = go (bytes_eq text n) (λ k. among_front text names other k) h
   where
     go : (b : Bool) → (IsAmong text names → IsAmong text (names ++ other ∷ [])) → (b || list_any (bytes_eq text) names) ≡ true
         → (b || list_any (bytes_eq text) (names ++ other ∷ [])) ≡ true
-    go true more k = refl
+    go true _ k = refl
     go false more k = more k
 
 among_last : (text : List ℕ) (names : List (List ℕ)) → IsAmong text (names ++ text ∷ [])
@@ -44,7 +44,7 @@ among_self text names = go (list_any (bytes_eq text) names) refl
     go false e = among_last text names
 
 among_fields : (text : List ℕ) (fields : List Field) (names : List (List ℕ)) → IsAmong text names → IsAmong text (with_fields names fields)
-among_fields text [] names h = h
+among_fields _ [] _ h = h
 among_fields text (f ∷ rest) names h = among_fields text rest (with_name names (field_name f)) (among_more text (field_name f) names h)
 
 -- a text that is among names is at its number
@@ -54,11 +54,11 @@ stands_at_number names {text} h = ap (λ b. slice_get (cond b names (names ++ te
 
 -- each field's name is at its number
 abbrev pub AreKnown : List (List ℕ) → List Field → Type 0
-AreKnown names [] = Unit {0}
+AreKnown _ [] = Unit {0}
 AreKnown names (f ∷ fields) = (slice_get names (number_in names (field_name f)) ≡ Some (field_name f)) × AreKnown names fields
 
 fields_known : (fields : List Field) (names : List (List ℕ)) → AreKnown (with_fields names fields) fields
-fields_known [] names = tt
+fields_known [] _ = tt
 fields_known (f ∷ rest) names =
     let more = with_name names (field_name f) in (
       stands_at_number (with_fields more rest) (among_fields (field_name f) rest more (among_self (field_name f) names)),
@@ -89,24 +89,24 @@ not_same names {a} {b} at_a at_b apart = go (nat_eq (number_in names b) (number_
     go true is =
         let same : a ≡ b = same_Some a b (sym at_a ∙ ap (slice_get names) (sym (nat_same is)) ∙ at_b) in
         let equal : bytes_eq a b ≡ true = (bytes_eq-Decides a b).1 same in cc (equal, apart)
-    go false is = refl
+    go false _ = refl
 
 not_among : (names : List (List ℕ)) {text : List ℕ} (fields : List Field) → slice_get names (number_in names text) ≡ Some text
     → AreKnown names fields
     → list_any (bytes_eq text) (texts_of fields) ≡ false → is_among (number_in names text) (numbers_of names fields) ≡ false
-not_among names [] at known h = refl
+not_among _ [] _ _ h = refl
 not_among names {text} (f ∷ fields) at known h = go (bytes_eq text (field_name f)) refl (λ k. not_among names fields at known.1 k) h
   where
     go : (b : Bool) → bytes_eq text (field_name f) ≡ b
         → (list_any (bytes_eq text) (texts_of fields) ≡ false → is_among (number_in names text) (numbers_of names fields) ≡ false)
         → (b || list_any (bytes_eq text) (texts_of fields)) ≡ false
         → is_among (number_in names text) (numbers_of names (f ∷ fields)) ≡ false
-    go true is more k = cc k
+    go true _ _ k = cc k
     go false is more k = ap (λ b. b || is_among (number_in names text) (numbers_of names fields)) (not_same names at known.0 is) ∙ more k
 
 numbers_distinct : (names : List (List ℕ)) (fields : List Field) → AreKnown names fields → AreApart fields
     → AreDistinct (numbers_of names fields)
-numbers_distinct names [] known apart = tt
+numbers_distinct _ [] _ _ = tt
 numbers_distinct names (f ∷ fields) known apart =
     (not_among names fields known.0 known.1 apart.0, numbers_distinct names fields known.1 apart.1)
 

@@ -94,11 +94,7 @@ mapped_tables = record {
     source = group_table 0 1 3;
     values = typed.Binary Add (typed.Slot 0) (typed.Slot 1) ∷ [];
     table = ten;
-    typed = (
-      among_new 5 (1 ∷ 3 ∷ []) refl,
-      of_binary here (of_name (called 1) refl) variable_is_3 tt,
-      tt,
-    );
+    typed = (among_new 5 (1 ∷ 3 ∷ []) refl, of_binary here (of_name (called 1) refl) variable_is_3 tt, tt);
     is = refl;
   };
   map_to_a_column = unmet (asks.of_columns (group_table 0 1 3) ten (asks.of_name [] (new_column 3 first) [] refl)) (λ new. new.1.0 refl);

@@ -21,26 +21,26 @@ both_true true e = (refl, e)
 both_true false e = cc e
 
 pub both_hold : {a b : Bool} → a ≡ true → b ≡ true → (a && b) ≡ true
-both_hold {b} p q = ap (λ (c : Bool). c && b) p ∙ q
+both_hold {b} p q = ap (λ c. c && b) p ∙ q
 
 same_sound : (xs ys : List ℕ) → pointwise nat_eq xs ys ≡ true → xs ≡ ys
 same_sound [] [] e = refl
-same_sound [] (y ∷ ys) e = cc e
-same_sound (x ∷ xs) [] e = cc e
-same_sound (x ∷ xs) (y ∷ ys) e =
+same_sound [] (y ∷ _) e = cc e
+same_sound (x ∷ _) [] e = cc e
+same_sound (x ∷ xs) (y ∷ _) e =
     let p = both_true _ e in
-    ap (λ (z : ℕ). z ∷ xs) (nat_same p.0) ∙ ap (λ (z : List ℕ). y ∷ z) (same_sound _ _ p.1)
+    ap (λ z. z ∷ xs) (nat_same p.0) ∙ ap (λ z. y ∷ z) (same_sound _ _ p.1)
 
 same_refl : (xs : List ℕ) → pointwise nat_eq xs xs ≡ true
 same_refl [] = refl
 same_refl (x ∷ xs) = both_hold (nat_is refl) (same_refl xs)
 
 pub same_complete : {xs ys : List ℕ} → xs ≡ ys → pointwise nat_eq xs ys ≡ true
-same_complete {xs} e = let P : List ℕ → Type 0 = λ z. pointwise nat_eq xs z ≡ true in subst P e (same_refl xs)
+same_complete {xs} e = subst (λ z. pointwise nat_eq xs z ≡ true) e (same_refl xs)
 
 filter_sound : {groups : ℕ} (earlier : Earlier) {input : Name} {e : Expr} {made : MadeFinal} → final_filter groups earlier input e ≡ Ok made
     → OfFilter groups earlier.known input e made
-filter_sound earlier {input} {e} {made} is =
+filter_sound _ {input} {e} {made} is =
     let source = found_first _ _ _ is in
     let c = found_first _ _ _ source.2 in
     record {
@@ -53,8 +53,7 @@ filter_sound earlier {input} {e} {made} is =
 
 filter_complete : {groups : ℕ} (earlier : Earlier) {input : Name} {e : Expr} {made : MadeFinal} → OfFilter groups earlier.known input e made
     → final_filter groups earlier input e ≡ Ok made
-filter_complete earlier {input} h = then_next _ (table_complete _ _ h.table)
-    ∙ then_next _ (condition_complete [] h.typed) ∙ ok (sym h.is)
+filter_complete _ {input} h = then_next _ (table_complete _ _ h.table) ∙ then_next _ (condition_complete [] h.typed) ∙ ok (sym h.is)
 
 abbrev maps_to : ℕ → TableView → NewColumns → MadeFinal
 maps_to groups source made = record {
@@ -69,21 +68,19 @@ map_sound {groups} earlier {input} {cs} {made} is =
     let source = found_first (table_named earlier.known input) _ made is in
     let n = found_first (new_columns source.0.columns [] no_new_columns cs) _ made source.2 in
     let c = columns_sound source.0.columns [] cs no_new_columns n.1 in
-    let N : List ℕ → Type 0 = λ z. HasTypedColumns source.0.columns z cs c.0 in
     record {
       source = source.0;
       values = c.0;
       table = table_sound earlier.known input source.1;
-      typed = subst N (append-nil source.0.columns) c.1;
+      typed = subst (λ z. HasTypedColumns source.0.columns z cs c.0) (append-nil source.0.columns) c.1;
       is = sym (same_ok _ made n.2) ∙ ap (maps_to groups source.0) c.2;
     }
 
 map_complete : {groups : ℕ} (earlier : Earlier) {input : Name} {cs : List Column} {made : MadeFinal}
     → OfMap groups earlier.known input cs made → final_map groups earlier input cs ≡ Ok made
 map_complete earlier {input} {cs} h =
-    let N : List ℕ → Type 0 = λ z. HasTypedColumns h.source.columns z cs h.values in
     then_next _ (table_complete earlier.known input h.table) ∙ then_next _ (columns_complete h.source.columns [] cs h.values no_new_columns
-    (subst N (sym (append-nil h.source.columns)) h.typed)) ∙ ok (sym h.is)
+    (subst (λ z. HasTypedColumns h.source.columns z cs h.values) (sym (append-nil h.source.columns)) h.typed)) ∙ ok (sym h.is)
 
 abbrev groups_to : ℕ → TableView → FoldView → List ℕ → Picked → MadeFinal
 groups_to groups source f arguments picked = record {
@@ -105,7 +102,6 @@ group_sound given earlier {input} {keys} {fold_name} {made} is =
     let same = same_ok loud.0 f.0 quiet.1 in
     let arguments = found_first (arguments_of source.0.columns [] picked.0.names f.0 fold_name.span) _ made f.2 in
     let k = picked_sound five [] keys picked.1 in
-    let A : Picked → Type 0 = λ z. HasArguments source.0.columns z.names f.0 arguments.0 in
     record {
       source = source.0;
       slots = k.0;
@@ -115,7 +111,7 @@ group_sound given earlier {input} {keys} {fold_name} {made} is =
       picked = k.1;
       fold = fold_name_sound earlier.known fold_name (loud.1 ∙ ok same);
       quiet = sym (ap (λ (z : FoldView). z.emits) same) ∙ quiet.0;
-      taken = subst A k.2 (arguments_sound [] fold_name.span arguments.1);
+      taken = subst (λ (z : Picked). HasArguments source.0.columns z.names f.0 arguments.0) k.2 (arguments_sound [] fold_name.span arguments.1);
       is = sym (same_ok _ made arguments.2) ∙ ap (groups_to given.groups source.0 f.0 arguments.0) k.2;
     }
 
@@ -130,7 +126,7 @@ group_complete given earlier {input} {keys} {fold_name} h =
 
 join_sound : {groups : ℕ} (earlier : Earlier) {first second : Name} {made : MadeFinal} → final_join groups earlier first second ≡ Ok made
     → OfJoin groups earlier.known first second made
-join_sound earlier {first} {second} {made} is =
+join_sound _ {first} {second} {made} is =
     let left = found_first _ _ _ is in
     let right = found_first _ _ _ left.2 in
     let one = must_ok _ _ _ right.2 in
@@ -147,7 +143,7 @@ join_sound earlier {first} {second} {made} is =
 
 join_complete : {groups : ℕ} (earlier : Earlier) {first second : Name} {made : MadeFinal} → OfJoin groups earlier.known first second made
     → final_join groups earlier first second ≡ Ok made
-join_complete earlier {first} {second} h = then_next _ (table_complete _ _ h.one)
+join_complete _ {first} {second} h = then_next _ (table_complete _ _ h.one)
     ∙ then_next _ (table_complete _ _ h.other) ∙ must_holds _ _ (same_complete h.keys)
     ∙ must_not_holds _ _ (apart_complete _ _ h.apart) ∙ ok (sym h.is)
 
@@ -156,7 +152,7 @@ at_most h = grind arith
 
 top_sound : {groups : ℕ} (earlier : Earlier) {input column : Name} {kept : ℕ} (span : Span) {made : MadeFinal}
     → final_top groups earlier input column kept span ≡ Ok made → OfTop groups earlier.known input column kept made
-top_sound earlier {input} {column} {kept} span {made} is =
+top_sound _ {input} {column} {kept} _ {made} is =
     let source = found_first _ _ _ is in
     let slot = found_first _ _ _ source.2 in
     let one = must_ok _ _ _ slot.2 in
@@ -174,22 +170,22 @@ top_sound earlier {input} {column} {kept} span {made} is =
 
 top_complete : {groups : ℕ} (earlier : Earlier) {input column : Name} {kept : ℕ} (span : Span) {made : MadeFinal}
     → OfTop groups earlier.known input column kept made → final_top groups earlier input column kept span ≡ Ok made
-top_complete earlier {input} {column} span h = then_next _ (table_complete earlier.known input h.table)
+top_complete earlier {input} {column} _ h = then_next _ (table_complete earlier.known input h.table)
     ∙ then_next _ (slot_complete h.source.columns [] column h.stands)
     ∙ must_holds _ _ (both_hold (below (omega (arith, h.some))) (at_most h.few)) ∙ ok (sym h.is)
 
 pub made_final_sound : (given : Given) (earlier : Earlier) (op : FinalOp) {made : MadeFinal} → made_final given earlier op ≡ Ok made
     → HasFinal given earlier.known op made
-made_final_sound given earlier (ops.Filter input e) is = filter_sound earlier is
-made_final_sound given earlier (ops.Map input cs) is = map_sound earlier is
-made_final_sound given earlier (ops.Group input keys fold_name) is = group_sound given earlier is
-made_final_sound given earlier (ops.Join first second) is = join_sound earlier is
-made_final_sound given earlier (ops.Top input column kept span) is = top_sound earlier span is
+made_final_sound _ earlier (ops.Filter _ e) is = filter_sound earlier is
+made_final_sound _ earlier (ops.Map _ _) is = map_sound earlier is
+made_final_sound given earlier (ops.Group _ _ _) is = group_sound given earlier is
+made_final_sound _ earlier (ops.Join _ _) is = join_sound earlier is
+made_final_sound _ earlier (ops.Top _ _ _ span) is = top_sound earlier span is
 
 pub made_final_complete : (given : Given) (earlier : Earlier) (op : FinalOp) {made : MadeFinal} → HasFinal given earlier.known op made
     → made_final given earlier op ≡ Ok made
-made_final_complete given earlier (ops.Filter input e) h = filter_complete earlier h
-made_final_complete given earlier (ops.Map input cs) h = map_complete earlier h
-made_final_complete given earlier (ops.Group input keys fold_name) h = group_complete given earlier h
-made_final_complete given earlier (ops.Join first second) h = join_complete earlier h
-made_final_complete given earlier (ops.Top input column kept span) h = top_complete earlier span h
+made_final_complete _ earlier (ops.Filter _ e) h = filter_complete earlier h
+made_final_complete _ earlier (ops.Map _ _) h = map_complete earlier h
+made_final_complete given earlier (ops.Group _ _ _) h = group_complete given earlier h
+made_final_complete _ earlier (ops.Join _ _) h = join_complete earlier h
+made_final_complete _ earlier (ops.Top _ _ _ span) h = top_complete earlier span h

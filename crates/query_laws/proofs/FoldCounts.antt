@@ -43,7 +43,7 @@ count_emit = ap stmt_count (sym (rolls-Emit here)) ∙ fold-roll-Stmt ℕ count_
 
 -- an operator between two expressions of one node
 three_nodes : (op : Op) (a b : Expr) → expr_nodes a ≡ 1 → expr_nodes b ≡ 1 → expr_nodes (Binary op here a b) ≡ 3
-three_nodes op a b p q = node_binary _ a b ∙ ap (λ (n : ℕ). 1 + n + expr_nodes b) p ∙ ap (λ (n : ℕ). 1 + 1 + n) q
+three_nodes _ a b p q = node_binary _ a b ∙ ap (λ n. 1 + n + expr_nodes b) p ∙ ap (λ n. 1 + 1 + n) q
 
 state_nodes : expr_nodes on_state ≡ 3
 state_nodes = three_nodes _ _ _ (node_number 0) (node_named _)
@@ -55,8 +55,7 @@ below_nodes : expr_nodes below_9 ≡ 3
 below_nodes = three_nodes _ _ _ (node_named _) (node_number 9)
 
 one_more_nodes : stmt_nodes one_more ≡ 3
-one_more_nodes = nodes_assign _ _
-    ∙ three_nodes _ _ _ (node_named _) (node_number 1)
+one_more_nodes = nodes_assign _ _ ∙ three_nodes _ _ _ (node_named _) (node_number 1)
 
 one_more_count : stmt_count one_more ≡ 1
 one_more_count = count_assign _ _
@@ -64,19 +63,19 @@ one_more_count = count_assign _ _
 -- a choice by a condition of three nodes, of what its blocks have
 choice_nodes : (c : Expr) (a b : List Stmt) {n m : ℕ} → expr_nodes c ≡ 3 → sum (map stmt_nodes a) ≡ n → sum (map stmt_nodes b) ≡ m
     → stmt_nodes (If c a b) ≡ 3 + n + m
-choice_nodes c a b {n} p q r = nodes_if c a b ∙ ap (λ (z : ℕ). z + sum (map stmt_nodes a) + sum (map stmt_nodes b)) p
-    ∙ ap (λ (z : ℕ). 3 + z + sum (map stmt_nodes b)) q ∙ ap (λ (z : ℕ). 3 + n + z) r
+choice_nodes c a b {n} p q r = nodes_if c a b ∙ ap (λ z. z + sum (map stmt_nodes a) + sum (map stmt_nodes b)) p
+    ∙ ap (λ z. 3 + z + sum (map stmt_nodes b)) q ∙ ap (λ z. 3 + n + z) r
 
 choice_count : (c : Expr) (a b : List Stmt) {n m : ℕ} → sum (map stmt_count a) ≡ n → sum (map stmt_count b) ≡ m → stmt_count (If c a b) ≡ 1
     + n + m
-choice_count c a b {n} q r = count_if c a b ∙ ap (λ (z : ℕ). 1 + z + sum (map stmt_count b)) q ∙ ap (λ (z : ℕ). 1 + n + z) r
+choice_count c a b {n} q r = count_if c a b ∙ ap (λ z. 1 + z + sum (map stmt_count b)) q ∙ ap (λ z. 1 + n + z) r
 
 -- a block of one statement, and of two
 alone : {s n : ℕ} → s ≡ n → sum (s ∷ []) ≡ sum (n ∷ [])
-alone p = ap (λ (z : ℕ). sum (z ∷ [])) p
+alone p = ap (λ z. sum (z ∷ [])) p
 
 pair : {s t n m : ℕ} → s ≡ n → t ≡ m → sum (s ∷ t ∷ []) ≡ sum (n ∷ m ∷ [])
-pair {t} {n} p q = ap (λ (z : ℕ). sum (z ∷ t ∷ [])) p ∙ ap (λ (z : ℕ). sum (n ∷ z ∷ [])) q
+pair {t} {n} p q = ap (λ z. sum (z ∷ t ∷ [])) p ∙ ap (λ z. sum (n ∷ z ∷ [])) q
 
 -- ---- the examples
 
@@ -96,15 +95,12 @@ pub emit_counts : Counts (Emit here ∷ []) 0 1
 emit_counts = one nodes_emit count_emit
 
 pub choice_counts : Counts (If on_state (one_more ∷ []) [] ∷ []) 6 2
-choice_counts = one (choice_nodes _ _ _ state_nodes (alone one_more_nodes) refl)
-    (choice_count _ _ _ (alone one_more_count) refl)
+choice_counts = one (choice_nodes _ _ _ state_nodes (alone one_more_nodes) refl) (choice_count _ _ _ (alone one_more_count) refl)
 
 pub argument_counts : Counts (If on_argument (one_more ∷ Emit here ∷ []) [] ∷ []) 6 3
 argument_counts = one (choice_nodes _ _ _ argument_nodes (pair one_more_nodes nodes_emit) refl)
     (choice_count _ _ _ (pair one_more_count count_emit) refl)
 
 pub else_counts : Counts (If on_argument (If below_9 [] (Emit here ∷ []) ∷ []) [] ∷ []) 6 3
-else_counts = one (choice_nodes _ _ _ argument_nodes
-    (alone (choice_nodes _ _ _ below_nodes refl (alone nodes_emit))) refl)
-    (choice_count _ _ _ (alone (choice_count _ _ _ refl
-    (alone count_emit))) refl)
+else_counts = one (choice_nodes _ _ _ argument_nodes (alone (choice_nodes _ _ _ below_nodes refl (alone nodes_emit))) refl)
+    (choice_count _ _ _ (alone (choice_count _ _ _ refl (alone count_emit))) refl)

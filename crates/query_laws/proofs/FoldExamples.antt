@@ -30,7 +30,7 @@ typed_as : {body : List Stmt} {ts : List TypedStmt} {emit : Option TypedExpr} {n
 typed_as {body} {ts} {emit} {m} counts block = record {
   body = ts;
   emit = emit;
-  is = ap (λ (z : ℕ). typed_fold ts emit z m) (sym counts.nodes) ∙ ap (λ (z : ℕ). typed_fold ts emit (fold_nodes (a_fold body)) z)
+  is = ap (λ z. typed_fold ts emit z m) (sym counts.nodes) ∙ ap (λ z. typed_fold ts emit (fold_nodes (a_fold body)) z)
       (sym counts.statements);
   states = (tt, tt);
   args = (among_new 2 (1 ∷ []) refl, tt);
@@ -58,7 +58,7 @@ abbrev ReadsNoState : TypedExpr → Type 0
 ReadsNoState t = ReadsArguments 1 (term_of t)
 
 seen : (t : TypedExpr) {u : Term} → term_of t ≡ u → ReadsArguments 1 u → ReadsNoState t
-seen t is h = let R : Term → Type 0 = λ z. ReadsArguments 1 z in subst R (sym is) h
+seen t is h = subst (λ z. ReadsArguments 1 z) (sym is) h
 
 of_two : (op : Op) (a b : TypedExpr) → ReadsNoState a → ReadsNoState b → ReadsNoState (typed.Binary op a b)
 of_two op a b p q = seen _ (term_binary op a b) (p, q)
@@ -73,8 +73,7 @@ argument_reads : ReadsNoState typed_on_argument
 argument_reads = of_two _ _ _ (of_a_number 0) of_the_argument
 
 else_reads : ReadsNoState (typed.Not typed_below_9)
-else_reads = seen _ (term_not typed_below_9)
-    (of_two _ _ _ of_the_argument (of_a_number 9))
+else_reads = seen _ (term_not typed_below_9) (of_two _ _ _ of_the_argument (of_a_number 9))
 
 -- ---- refused
 

@@ -31,11 +31,9 @@ fold_sound {d} {f} e =
     let a = args_sound _ _ _ (omega arith) args.1 in
     let N : List ℕ → Type 0 = λ z. AreNew z (arg_names_of d) in
     let whole : rest_of d (state_names_of d) (arg_names_of d) ≡ Ok f =
-    sym (ap (λ (z : List ℕ). rest_of d z args.0) s.0 ∙ ap (λ (z : List ℕ). rest_of d (state_names_of d) z) a.0) ∙ args.2 in
+    sym (ap (λ z. rest_of d z args.0) s.0 ∙ ap (λ z. rest_of d (state_names_of d) z) a.0) ∙ args.2 in
     let body = found_first _ _ f whole in
     let b = block_sound _ nothing_around body.1 in
-    let B : List TypedStmt → Type 0 = λ z. HasBlock (state_names_of d) (arg_names_of d) [] d.body z (at_most_one body.0.emit) in
-    let E : List TypedExpr → Type 0 = λ z. HasBlock (state_names_of d) (arg_names_of d) [] d.body b.ts z in
     record {
       body = body.0.statements;
       emit = body.0.emit;
@@ -44,13 +42,11 @@ fold_sound {d} {f} e =
       args = subst N s.0 (subst N (append-nil states.0) a.1);
       few_states = omega (arith, s.2);
       few_args = omega (arith, a.2);
-      statements = subst B (sym b.statements) (subst E b.emits b.rule);
+      statements = subst (λ z. HasBlock (state_names_of d) (arg_names_of d) [] d.body z (at_most_one body.0.emit)) (sym b.statements) (subst (λ z. HasBlock (state_names_of d) (arg_names_of d) [] d.body b.ts z) b.emits b.rule);
     }
 
 pub fold_complete : {d : FoldDef} {f : TypedFold} → HasFold d f → fold_checked d ≡ Ok f
-fold_complete {d} h =
-    let N : List ℕ → Type 0 = λ z. AreNew z (arg_names_of d) in
-    then_next _ (states_complete _ _ h.states (omega (arith, h.few_states)))
-    ∙ then_next _ (args_complete _ _ _ (subst N (sym (append-nil (state_names_of d))) h.args)
+fold_complete {d} h = then_next _ (states_complete _ _ h.states (omega (arith, h.few_states)))
+    ∙ then_next _ (args_complete _ _ _ (subst (λ z. AreNew z (arg_names_of d)) (sym (append-nil (state_names_of d))) h.args)
     (omega (arith, h.few_args))) ∙ then_next _ (block_complete h.statements _ nothing_around refl)
-    ∙ ap (λ (g : TypedFold). let r : Checked TypedFold = Ok g in r) (sym h.is)
+    ∙ ap (λ g. let r : Checked TypedFold = Ok g in r) (sym h.is)

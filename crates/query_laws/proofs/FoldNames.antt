@@ -14,21 +14,21 @@ use Rattle.query_laws.proofs.Steps.{must_ok, must_not_ok, must_holds, must_not_h
 -- ---- new names
 
 pub new_among : (id : ℕ) (names : List ℕ) → IsNew id names → is_among id names ≡ false
-new_among id [] h = refl
-new_among id (name ∷ rest) h = ap (λ (b : Bool). b || is_among id rest) (nat_is_not h.0) ∙ new_among id rest h.1
+new_among _ [] h = refl
+new_among id (_ ∷ rest) h = ap (λ b. b || is_among id rest) (nat_is_not h.0) ∙ new_among id rest h.1
 
 pub among_new : (id : ℕ) (names : List ℕ) → is_among id names ≡ false → IsNew id names
-among_new id [] e = tt
+among_new _ [] e = tt
 among_new id (name ∷ rest) e = go (nat_eq name id) refl (λ k. among_new id rest k) e
   where
     go : (b : Bool) → nat_eq name id ≡ b → (is_among id rest ≡ false → IsNew id rest) → (b || is_among id rest) ≡ false
         → IsNew id (name ∷ rest)
-    go true is more e = cc e
+    go true _ _ e = cc e
     go false is more e = (nat_other is, more e)
 
 pub among_append : (id : ℕ) (xs ys : List ℕ) → is_among id (xs ++ ys) ≡ (is_among id xs || is_among id ys)
-among_append id [] ys = refl
-among_append id (x ∷ xs) ys = ap (λ (b : Bool). nat_eq x id || b) (among_append id xs ys) ∙ go (nat_eq x id)
+among_append _ [] _ = refl
+among_append id (x ∷ xs) ys = ap (λ b. nat_eq x id || b) (among_append id xs ys) ∙ go (nat_eq x id)
   where
     go : (b : Bool) → (b || (is_among id xs || is_among id ys)) ≡ ((b || is_among id xs) || is_among id ys)
     go true = refl
@@ -53,61 +53,60 @@ states_sound (s ∷ ss) found h e =
 
 pub states_complete : (ss : List StateVar) (found : List ℕ) → AreNew found (ids ss) → length found + length ss ≤ MAX_STATES
     → states_from found ss ≡ Ok (found ++ ids ss)
-states_complete [] found h few = ap (λ (z : List ℕ). let r : Checked (List ℕ) = Ok z in r) (sym (append-nil found))
+states_complete [] found h _ = ap (λ z. let r : Checked (List ℕ) = Ok z in r) (sym (append-nil found))
 states_complete (s ∷ ss) found h few =
     must_not_holds _ _ (new_among s.name.id found h.0) ∙ must_holds _ _ (below {k = length found} {n = MAX_STATES} (omega (arith, few)))
     ∙ states_complete ss (found ++ s.name.id ∷ []) h.1 (omega (arith, few, length-append found (s.name.id ∷ [])))
-    ∙ ap (λ (z : List ℕ). let r : Checked (List ℕ) = Ok z in r) (append_assoc found (s.name.id ∷ []) (ids ss))
+    ∙ ap (λ z. let r : Checked (List ℕ) = Ok z in r) (append_assoc found (s.name.id ∷ []) (ids ss))
 
 abbrev arg_ids : List Name → List ℕ
 arg_ids more = map (λ a. a.id) more
 
 pub args_sound : (states : List ℕ) (more : List Name) (found : List ℕ) {all : List ℕ} → length found ≤ MAX_ARGS → args_from states found more ≡ Ok all
     → (all ≡ found ++ arg_ids more) × AreNew (states ++ found) (arg_ids more) × (length found + length more ≤ MAX_ARGS)
-args_sound states [] found {all} h e = (sym (same_ok _ _ e) ∙ sym (append-nil found), tt, omega (arith, h))
+args_sound _ [] found {all} h e = (sym (same_ok _ _ e) ∙ sym (append-nil found), tt, omega (arith, h))
 args_sound states (a ∷ more) found h e =
     let one = must_not_ok _ _ _ e in
     let two = must_ok _ _ _ one.1 in
     let few = ltb-true (length found) MAX_ARGS two.0 in
     let long = length-append found (a.id ∷ []) in
     let found_rest = args_sound states more (found ++ a.id ∷ []) (omega (arith, long, few)) two.1 in
-    let N : List ℕ → Type 0 = λ z. AreNew z (arg_ids more) in (
+    (
       found_rest.0 ∙ append_assoc found (a.id ∷ []) (arg_ids more),
       (
         among_new a.id (states ++ found) (among_append a.id states found ∙ one.0),
-        subst N (sym (append_assoc states found (a.id ∷ []))) found_rest.1,
+        subst (λ z. AreNew z (arg_ids more)) (sym (append_assoc states found (a.id ∷ []))) found_rest.1,
       ),
       omega (arith, long, found_rest.2),
     )
 
 pub args_complete : (states : List ℕ) (more : List Name) (found : List ℕ) → AreNew (states ++ found) (arg_ids more) → length found
     + length more ≤ MAX_ARGS → args_from states found more ≡ Ok (found ++ arg_ids more)
-args_complete states [] found h few = ap (λ (z : List ℕ). let r : Checked (List ℕ) = Ok z in r) (sym (append-nil found))
+args_complete _ [] found h _ = ap (λ z. let r : Checked (List ℕ) = Ok z in r) (sym (append-nil found))
 args_complete states (a ∷ more) found h few =
-    let N : List ℕ → Type 0 = λ z. AreNew z (arg_ids more) in
     must_not_holds _ _ (sym (among_append a.id states found) ∙ new_among a.id (states ++ found) h.0)
     ∙ must_holds _ _ (below {k = length found} {n = MAX_ARGS} (omega (arith, few)))
-    ∙ args_complete states more (found ++ a.id ∷ []) (subst N (append_assoc states found (a.id ∷ [])) h.1)
+    ∙ args_complete states more (found ++ a.id ∷ []) (subst (λ z. AreNew z (arg_ids more)) (append_assoc states found (a.id ∷ [])) h.1)
     (omega (arith, few, length-append found (a.id ∷ [])))
-    ∙ ap (λ (z : List ℕ). let r : Checked (List ℕ) = Ok z in r) (append_assoc found (a.id ∷ []) (arg_ids more))
+    ∙ ap (λ z. let r : Checked (List ℕ) = Ok z in r) (append_assoc found (a.id ∷ []) (arg_ids more))
 
 -- ---- expressions on the arguments alone
 
 pub neither : (a : Option Span) {b : Option Span} → or_else a b ≡ None → (a ≡ None) × (b ≡ None)
 neither None e = (refl, e)
-neither (Some span) e = cc e
+neither (Some _) e = cc e
 
 pub both_none : {a b : Option Span} → a ≡ None → b ≡ None → or_else a b ≡ None
-both_none {b} p q = ap (λ (o : Option Span). or_else o b) p ∙ q
+both_none {b} p q = ap (λ o. or_else o b) p ∙ q
 
 stands_past : (states args : List ℕ) (slot id : ℕ) → StandsAt (states ++ args) slot id → (is_among id states ≡ false → length states ≤ slot)
     × (length states ≤ slot → is_among id states ≡ false)
-stands_past [] args slot id e = (λ h. omega arith, λ h. refl)
-stands_past (s ∷ states) args zero id e =
-    let is : is_among id (s ∷ states) ≡ true = ap (λ (b : Bool). b || is_among id states) (nat_is e) in
+stands_past [] _ _ _ e = (λ h. omega arith, λ h. refl)
+stands_past (s ∷ states) _ zero id e =
+    let is : is_among id (s ∷ states) ≡ true = ap (λ b. b || is_among id states) (nat_is e) in
     (λ h. cc (is, h), λ h. absurd (omega (arith, h)))
 stands_past (s ∷ states) args (suc slot) id e =
-    let is : is_among id (s ∷ states) ≡ is_among id states = ap (λ (b : Bool). b || is_among id states) (nat_is_not e.0) in
+    let is : is_among id (s ∷ states) ≡ is_among id states = ap (λ b. b || is_among id states) (nat_is_not e.0) in
     let m = stands_past states args slot id e.1 in
     (λ h. let k = m.0 (sym is ∙ h) in omega (arith, k), λ h. is ∙ m.1 (omega (arith, h)))
 
@@ -137,30 +136,27 @@ pub record Reads (states : List ℕ) (e : Expr) (t : TypedExpr) : Type 0 where
   pub none : ReadsArguments (length states) (term_of t) → state_in states e ≡ None
 
 turned : (n : ℕ) {s t : Term} → s ≡ t → ReadsArguments n s → ReadsArguments n t
-turned n e h = let V : Term → Type 0 = λ z. ReadsArguments n z in subst V e h
+turned n e h = subst (λ z. ReadsArguments n z) e h
 
 pub no_span : (b : Bool) (span : Span) → cond b (Some span) None ≡ None → b ≡ false
-no_span true span e = cc e
-no_span false span e = refl
+no_span true _ e = cc e
+no_span false _ e = refl
 
 pub reads : {states : List ℕ} (args : List ℕ) {k : Kind} {e : Expr} {t : TypedExpr} → HasKind (states ++ args) k e t → Reads states e t
-reads {states} args (of_number {n} span) = record {
-  past = λ h. turned _ (sym (term_number n)) tt;
-  none = λ h. in_number _ n _;
-}
-reads {states} args (of_name x {slot} stands) =
+reads {states} _ (of_number {n} _) = record { past = λ h. turned _ (sym (term_number n)) tt; none = λ h. in_number _ n _ }
+reads {states} _ (of_name x {slot} stands) =
     let m = stands_past _ _ _ _ stands in
     record {
       past = λ h. turned _ (sym (term_slot slot)) (m.0 (no_span _ _ (sym (in_named _ x) ∙ h)));
-      none = λ h. in_named _ x ∙ ap (λ (b : Bool). cond b (Some x.span) None) (m.1 (turned _ (term_slot slot) h));
+      none = λ h. in_named _ x ∙ ap (λ b. cond b (Some x.span) None) (m.1 (turned _ (term_slot slot) h));
     }
-reads {states} args (of_not span {e} {t} h) =
+reads {states} _ (of_not _ {e} {t} h) =
     let m = reads _ h in
     record {
       past = λ k. turned _ (sym (term_not t)) (m.past (sym (in_not _ _ e) ∙ k));
       none = λ k. in_not _ _ e ∙ m.none (turned _ (term_not t) k);
     }
-reads {states} args (of_binary {op} span {a} {b} {s} {t} h i c) =
+reads {states} _ (of_binary {op} _ {a} {b} {s} {t} h i c) =
     let m = reads _ h in
     let n = reads _ i in
     record {
@@ -171,7 +167,7 @@ reads {states} args (of_binary {op} span {a} {b} {s} {t} h i c) =
           let p = turned _ (term_binary op s t) k in
           in_binary _ _ _ a b ∙ both_none (m.none p.0) (n.none p.1);
     }
-reads {states} args (of_call {op} span {a} {b} {s} {t} h i c) =
+reads {states} _ (of_call {op} _ {a} {b} {s} {t} h i c) =
     let m = reads _ h in
     let n = reads _ i in
     record {

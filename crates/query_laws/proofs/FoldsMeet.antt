@@ -23,26 +23,23 @@ use Rattle.query_laws.proofs.Steps.{must_not_ok, same_ok, found_first}
 -- ---- conditions without state variables
 
 first_none : (states : List ℕ) (es : List Expr) → first_of (map (state_in states) es) ≡ None → EachIs (λ e. state_in states e ≡ None) es
-first_none states [] e = tt
+first_none _ [] e = tt
 first_none states (a ∷ es) e = let p = neither (state_in states a) e
     in (p.0, first_none states es p.1)
 
 part_none : (states : List ℕ) {k : Kind} {e : Expr} {l : Kind} {part : Expr} → HasPart k e l part → state_in states e ≡ None
     → state_in states part ≡ None
-part_none states parts.whole is = is
-part_none states (parts.of_not span {e} p) is = part_none _ p (sym (in_not _ _ e) ∙ is)
-part_none states (parts.of_left op span a b p) is =
-    part_none _ p (neither _ (sym (in_binary _ _ _ a b) ∙ is)).0
-part_none states (parts.of_right op span a {b} p) is =
-    part_none _ p (neither _ (sym (in_binary _ _ _ a b) ∙ is)).1
+part_none _ parts.whole is = is
+part_none _ (parts.of_not _ {e} p) is = part_none _ p (sym (in_not _ _ e) ∙ is)
+part_none _ (parts.of_left _ _ a b p) is = part_none _ p (neither _ (sym (in_binary _ _ _ a b) ∙ is)).0
+part_none _ (parts.of_right _ _ a {b} p) is = part_none _ p (neither _ (sym (in_binary _ _ _ a b) ∙ is)).1
 part_none states (parts.of_argument op span {arguments = es} {a} {l} {part} i p) is =
     let call : state_in states (whole.Call op span es) ≡ first_of (map (state_in states) es) =
     ap (state_in states) (sym (rolls-Call op span es)) ∙ fold-roll-Expr (Option Span) (state_step states) (expr.Call op span es) in
     part_none _ p (one_is _ i (first_none _ _ (sym call ∙ is)))
 
 none_inside : (states : List ℕ) {e : Expr} → state_in states e ≡ None → (x : Name) → StandsInside x e → IsNew x.id states
-none_inside states is x h = among_new _ _ (no_span _ _ (sym (in_named _ x)
-    ∙ part_none _ h.2 is))
+none_inside _ is x h = among_new _ _ (no_span _ _ (sym (in_named _ x) ∙ part_none _ h.2 is))
 
 module _ (states args : List ℕ) where
   -- ---- statements of a block that was checked
@@ -53,7 +50,7 @@ module _ (states args : List ℕ) where
 
   clean_inside : (around : List Expr) (outer : Enclosing) (c : Expr) (t : TypedExpr) → Clean around outer
       → Clean (c ∷ around) (inside states outer c t)
-  clean_inside around outer c t clean e = let p = neither _ e in (p.1, clean p.0)
+  clean_inside _ _ c t clean e = let p = neither _ e in (p.1, clean p.0)
 
   record AtStatement (around : List Expr) (s : Stmt) : Type 0 where
     pub outer : Enclosing
@@ -97,18 +94,18 @@ module _ (states args : List ℕ) where
       record { outer = outer; found = found; made = f.0; clean = clean; is = f.1 }
   at_statement (parts.later {other} h) outer found {made} clean e =
       let f = found_first (stmt_checked states args other outer found) _ made e in at_statement h outer f.0 clean f.2
-  at_statement (parts.in_first {outer = before} {c} a b rest {around} {s} h) outer found {made} clean e =
+  at_statement (parts.in_first {outer = before} {c} a b _ {around} {s} h) outer _ {made} clean e =
       let f = found_first _ _ _ e in
       let i = if_of f.1 in
       at_statement h _ _ (clean_inside _ outer c i.t clean) i.first
-  at_statement (parts.in_second {outer = before} {c} a {b} {rest} {around} {s} h) outer found {made} clean e =
+  at_statement (parts.in_second {outer = before} {c} a {b} {rest} {around} {s} h) outer _ {made} clean e =
       let f = found_first _ _ _ e in
       let i = if_of f.1 in
       at_statement h _ _ (clean_inside _ outer c (typed.Not i.t) clean) i.second
 
   statement_meets : (known : List Known) {around : List Expr} {s : Stmt} {q : Demand} → AtStatement around s
       → StmtAsks states args around s q → Holds known q
-  statement_meets known h (of_target {x} e) =
+  statement_meets _ h (of_target {x} e) =
       let is = sym (stmt_is _ _ _ (rolls-Assign x e) _ _) ∙ h.is in
       let target = found_first _ _ _ is in
       (target.0, target_stands _ _ x target.1)
@@ -117,10 +114,10 @@ module _ (states args : List ℕ) where
       let target = found_first (target_of states args x) _ h.made is in
       let word = found_first (word_of (states ++ args) [] e) _ h.made target.2 in
       expr_meets known (word.0, word_sound [] word.1) asked
-  statement_meets known h (of_condition a b asked) =
+  statement_meets _ h (of_condition a b asked) =
       let i = if_of h.is in
       expr_meets _ (i.t, condition_sound [] i.condition) asked
-  statement_meets known h (of_emit span i) =
+  statement_meets _ h (of_emit span i) =
       let is = sym (stmt_is _ _ _ (rolls-Emit span) _ _) ∙ h.is in
       let once = must_not_ok _ _ _ is in
       let none = no_state_ok _ once.1 in
@@ -140,7 +137,7 @@ module _ (states args : List ℕ) where
 
   block_keeps : (ss : List Kept) (outer : Enclosing) (found : Body) {made : Body}
       → in_order (map (stmt_checked states args) (map (λ (s : Kept). s.0) ss)) outer found ≡ Ok made → Keeps found made
-  block_keeps [] outer found {made} e = λ some. sym (ap (λ (b : Body). is_some b.emit) (same_ok _ _ e)) ∙ some
+  block_keeps [] _ _ {made} e = λ some. sym (ap (λ (b : Body). is_some b.emit) (same_ok _ _ e)) ∙ some
   block_keeps (s ∷ ss) outer found {made} e =
       let f = found_first (stmt_checked states args s.0 outer found) _ made e in
       λ some. block_keeps ss outer f.0 f.2 (s.1 outer found f.0 f.1 some)
@@ -148,7 +145,7 @@ module _ (states args : List ℕ) where
   keep_step : (y : stmt.Stmt-F Kept) (outer : Enclosing) (found : Body) {made : Body}
       → stmt_step states args (map-Stmt Stmt Adding (stmt_checked states args) (map-Stmt Kept Stmt (λ s. s.0) y)) outer found ≡ Ok made
       → Keeps found made
-  keep_step (stmt.Assign x e) outer found {made} is =
+  keep_step (stmt.Assign x e) _ _ {made} is =
       let target = found_first (target_of states args x) _ made is in
       let word = found_first (word_of (states ++ args) [] e) _ made target.2 in
       λ some. sym (ap (λ (b : Body). is_some b.emit) (same_ok _ made word.2)) ∙ some
@@ -159,18 +156,16 @@ module _ (states args : List ℕ) where
       let two = found_first (in_order (map (stmt_checked states args) (map (λ (s : Kept). s.0) b))
       (inside states outer c (typed.Not condition.0)) (record { statements = []; emit = one.0.emit })) _ made one.2 in
       λ some. sym (ap (λ (z : Body). is_some z.emit) (same_ok _ made two.2)) ∙ block_keeps b _ _ two.1 (block_keeps a _ _ one.1 some)
-  keep_step (stmt.Emit span) outer found is =
+  keep_step (stmt.Emit _) _ found is =
       let once = must_not_ok _ _ _ is in λ some. not_both (is_some found.emit) once.0 some
 
   stmt_keeps : (s : Stmt) → Keeping s
   stmt_keeps = ind-Stmt Keeping (λ x y is outer found made e.
-      let L : stmt.Stmt-F Stmt → Type 0 = λ z. stmt_step states args (map-Stmt Stmt Adding (stmt_checked states args) z) outer found ≡ Ok
-      made → Keeps found made in
-      subst L is (keep_step y _ _) (sym (ap (λ (g : Adding). g outer found) (fold-roll-Stmt Adding (stmt_step states args) x)) ∙ e))
+      subst (λ z. stmt_step states args (map-Stmt Stmt Adding (stmt_checked states args) z) outer found ≡ Ok made → Keeps found made) is (keep_step y _ _) (sym (ap (λ g. g outer found) (fold-roll-Stmt Adding (stmt_step states args) x)) ∙ e))
 
   keeps : (ss : List Stmt) (outer : Enclosing) (found : Body) {made : Body} → in_order (map (stmt_checked states args) ss) outer found ≡ Ok made
       → Keeps found made
-  keeps [] outer found {made} e = λ some. sym (ap (λ (b : Body). is_some b.emit) (same_ok _ _ e)) ∙ some
+  keeps [] _ _ {made} e = λ some. sym (ap (λ (b : Body). is_some b.emit) (same_ok _ _ e)) ∙ some
   keeps (s ∷ ss) outer found {made} e =
       let f = found_first (stmt_checked states args s outer found) _ made e in
       λ some. keeps ss outer f.0 f.2 (stmt_keeps s outer found f.0 f.1 some)
@@ -184,15 +179,14 @@ module _ (states args : List ℕ) where
     where
       go : (b : Bool) → is_some found.emit ≡ b → b ≡ false
       go true is = not_both (is_some made.emit) none (kept is)
-      go false is = refl
+      go false _ = refl
 
   emits : {before : List Expr} {ss : List Stmt} {around : List Expr} {s : Stmt} {span : Span} → StandsIn before ss around s
       → s ≡ block.Emit span
       → (outer : Enclosing) (found : Body) {made : Body} → in_order (map (stmt_checked states args) ss) outer found ≡ Ok made → Emits found made
   emits {span} (parts.first {s} {rest}) same outer found {made} e =
       let f = found_first _ _ _ e in
-      let S : Stmt → Type 0 = λ z. stmt_checked states args z outer found ≡ Ok f.0 in
-      let is = sym (stmt_is _ _ _ (rolls-Emit span) _ _) ∙ subst S same f.1 in
+      let is = sym (stmt_is _ _ _ (rolls-Emit span) _ _) ∙ subst (λ z. stmt_checked states args z outer found ≡ Ok f.0) same f.1 in
       let once = must_not_ok _ _ _ is in
       let none = no_state_ok _ once.1 in
       (once.0, keeps _ _ _ f.2 (sym (ap (λ (z : Body). is_some z.emit) (same_ok _ _ none.1))))
@@ -200,7 +194,7 @@ module _ (states args : List ℕ) where
       let f = found_first (stmt_checked states args other outer found) _ made e in
       let m = emits h same outer f.0 f.2 in
       (not_yet found f.0 (stmt_keeps other outer found f.0 f.1) m.0, m.1)
-  emits (parts.in_first {c} a b rest h) same outer found {made} e =
+  emits (parts.in_first {c} a b _ h) same _ _ {made} e =
       let f = found_first _ _ _ e in
       let i = if_of f.1 in
       let m = emits h same _ _ i.first in
@@ -215,23 +209,22 @@ module _ (states args : List ℕ) where
       → in_order (map (stmt_checked states args) ss) outer found ≡ Ok made → ⊥
   one_emit (parts.beyond {s} h stands) outer found {made} e =
       let f = found_first _ _ _ e in
-      let alone : in_order (map (stmt_checked states args) (s ∷ [])) outer found ≡ Ok f.0 =
-      ap (λ (c : Checked Body). and_then c (λ more. Ok more)) f.1 in
+      let alone : in_order (map (stmt_checked states args) (s ∷ [])) outer found ≡ Ok f.0 = ap (λ c. and_then c (λ more. Ok more)) f.1 in
       let one = emits h.2 refl _ _ alone in
       let two = emits stands refl _ _ f.2 in
       not_both (is_some f.0.emit) two.0 one.1
-  one_emit (parts.later s rest h) outer found {made} e =
+  one_emit (parts.later s _ h) outer found {made} e =
       let f = found_first (stmt_checked states args s outer found) _ made e in one_emit h outer f.0 f.2
-  one_emit (parts.across c a {b} h stands) outer found {made} e =
+  one_emit (parts.across c a {b} h stands) _ _ {made} e =
       let f = found_first _ _ _ e in
       let i = if_of f.1 in
       let one = emits h.2 refl _ _ i.first in
       let two = emits stands refl _ _ i.second in
       not_both (is_some i.p.emit) two.0 one.1
-  one_emit (parts.in_first c {a} b h) outer found {made} e =
+  one_emit (parts.in_first c {a} b h) _ _ {made} e =
       let f = found_first _ _ _ e in
       let i = if_of f.1 in one_emit h _ _ i.first
-  one_emit (parts.in_second c a {b} h) outer found {made} e =
+  one_emit (parts.in_second c a {b} h) _ _ {made} e =
       let f = found_first _ _ _ e in
       let i = if_of f.1 in one_emit h _ _ i.second
 
@@ -241,8 +234,8 @@ abbrev ids : List StateVar → List ℕ
 ids states = map (λ other. other.name.id) states
 
 states_split : (front : List StateVar) (s : StateVar) (back : List StateVar) → ids (front ++ s ∷ back) ≡ ids front ++ s.name.id ∷ ids back
-states_split [] s back = refl
-states_split (x ∷ front) s back = ap (λ (z : List ℕ). x.name.id ∷ z) (states_split front s back)
+states_split [] s _ = refl
+states_split (x ∷ front) s back = ap (λ z. x.name.id ∷ z) (states_split front s back)
 
 -- the body's check gives its typed form
 body_checks : {d : FoldDef} {f : TypedFold} (h : HasFold d f)
@@ -251,12 +244,10 @@ body_checks : {d : FoldDef} {f : TypedFold} (h : HasFold d f)
 body_checks h = block_complete h.statements _ nothing_around refl
 
 pub fold_meets : (known : List Known) {d : FoldDef} {f : TypedFold} {q : Demand} → HasFold d f → FoldAsks d q → Holds known q
-fold_meets known h (of_state front s back split) =
-    let N : List ℕ → Type 0 = λ z. AreNew [] z in
-    new_at _ _ _ _ (subst N (ap ids split ∙ states_split _ s _) h.states)
-fold_meets known h (of_states front s back split) = few_before _ s _ split h.few_states
-fold_meets known {d} h (of_arg front a back split) = names_new _ _ a _ split h.args
-fold_meets known h (of_args front a back split) = few_before _ a _ split h.few_args
-fold_meets known {d} h (of_statement stands asked) = statement_meets (state_names_of d) (arg_names_of d) _
+fold_meets _ h (of_state _ s _ split) = new_at _ _ _ _ (subst (λ z. AreNew [] z) (ap ids split ∙ states_split _ s _) h.states)
+fold_meets _ h (of_states _ s _ split) = few_before _ s _ split h.few_states
+fold_meets _ {d} h (of_arg _ a _ split) = names_new _ _ a _ split h.args
+fold_meets _ h (of_args _ a _ split) = few_before _ a _ split h.few_args
+fold_meets _ {d} h (of_statement stands asked) = statement_meets (state_names_of d) (arg_names_of d) _
     (at_statement (state_names_of d) (arg_names_of d) stands _ _ (λ none. tt) (body_checks h)) asked
-fold_meets known {d} h of_emits = λ span follows. one_emit (state_names_of d) (arg_names_of d) follows _ _ (body_checks h)
+fold_meets _ {d} h of_emits = λ span follows. one_emit (state_names_of d) (arg_names_of d) follows _ _ (body_checks h)

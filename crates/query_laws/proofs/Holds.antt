@@ -33,11 +33,11 @@ any_holds = record { is = λ w v h b. tt }
 
 word_of : (k : TokenKind) (span : Span) {v : ℕ × Span} → IsWordKind k → token_number k span ≡ Some v → IsWord v.0
 word_of (kinds.Number n) span {v} w e = subst (λ (z : ℕ × Span). IsWord z.0) (same_Some (n, span) v e) w
-word_of (kinds.Name id) span w e = absurd (cc e)
-word_of kinds.FiveTuple span w e = absurd (cc e)
-word_of kinds.End span w e = absurd (cc e)
-word_of (kinds.Word k) span w e = absurd (cc e)
-word_of (kinds.Mark m) span w e = absurd (cc e)
+word_of (kinds.Name _) _ w e = absurd (cc e)
+word_of kinds.FiveTuple _ w e = absurd (cc e)
+word_of kinds.End _ w e = absurd (cc e)
+word_of (kinds.Word k) _ w e = absurd (cc e)
+word_of (kinds.Mark m) _ w e = absurd (cc e)
 
 abbrev pub first_is_word : ℕ × Span → Type 0
 first_is_word v = IsWord v.0

@@ -20,7 +20,7 @@ taken {id} among = record {
 }
   where
     named : (name : Name) → name ≡ called id → IsFree before name.id → IsFree before id
-    named name is free = let F : Name → Type 0 = λ z. IsFree before z.id in subst F is free
+    named _ is free = subst (λ (z : Name). IsFree before z.id) is free
 
 pub item_examples : ItemExamples
 item_examples = record {

@@ -91,7 +91,7 @@ abbrev item_number_word : Item → Type 0
 item_number_word i = IsWord (item_number i)
 
 pub numbers : NumbersAreWords
-numbers text q h =
+numbers _ q h =
     let tokens : AreWordTokens h.tokens = cut_words _ 0 _ _ h.cut in
     let leaves : HaveWords h.accepted.leaves = leaves_have _ (subst AreWordTokens (sym h.accepted.tokens) tokens) in
     let means = h.accepted.means in

@@ -23,7 +23,7 @@ EachIs P (e ∷ es) = P e × EachIs P es
 
 pub one_is : (P : Expr → Type 0) {a : Expr} {es : List Expr} → IsOneOf a es → EachIs P es → P a
 one_is P parts.first h = h.0
-one_is P (parts.later other others i) h = one_is P i h.1
+one_is P (parts.later _ _ i) h = one_is P i h.1
 
 abbrev HasForm : List ℕ → Kind → Expr → Type 0
 HasForm columns k e = (t : TypedExpr) × HasKind columns k e t
@@ -43,8 +43,7 @@ of_not {columns} {span} {e} h =
     let g = complete [] h in
     let first = found_first (expr_checked columns [] e) (negation_checked span) g.found (sym (not_is columns [] span e) ∙ g.is) in
     let one = must_ok (is_condition_sort first.0.sort) WrongKind first.0.at first.2 in
-    let K : Kind → Type 0 = λ z. HasKind columns z e first.0.tree in
-    (first.0.tree, subst K (condition_kind first.0.sort one.0) (expr_sound [] e first.0 first.1).rule)
+    (first.0.tree, subst (λ z. HasKind columns z e first.0.tree) (condition_kind first.0.sort one.0) (expr_sound [] e first.0 first.1).rule)
 
 of_binary : {columns : List ℕ} {k : Kind} {op : Op} {span : Span} {a b : Expr} {t : TypedExpr}
     → HasKind columns k (whole.Binary op span a b) t → Both columns op a b
@@ -65,21 +64,21 @@ record Pair (columns : List ℕ) (op : Op) (es : List Expr) : Type 0 where
 
 pair_of : {columns : List ℕ} {op : Op} (span : Span) (es : List Expr) (fs : List Found) {found : Found} → Each columns [] es fs
     → call_of op span fs ≡ Ok found → Pair columns op es
-pair_of span [] [] all e = cc e
-pair_of span [] (f ∷ fs) all e = absurd all
-pair_of span (a ∷ es) [] all e = absurd all
-pair_of span (a ∷ []) (f ∷ []) all e = cc e
-pair_of span (a ∷ []) (f ∷ g ∷ fs) all e = absurd all.1
-pair_of span (a ∷ b ∷ es) (f ∷ []) all e = absurd all.1
+pair_of _ [] [] _ e = cc e
+pair_of _ [] (f ∷ _) all e = absurd all
+pair_of _ (a ∷ _) [] all e = absurd all
+pair_of _ (a ∷ []) (f ∷ []) _ e = cc e
+pair_of _ (a ∷ []) (f ∷ g ∷ _) all e = absurd all.1
+pair_of _ (a ∷ b ∷ _) (f ∷ []) all e = absurd all.1
 pair_of span (a ∷ b ∷ []) (f ∷ g ∷ []) all e = record {
   a = a;
   b = b;
   are = refl;
   both = both_of (two span (expr_sound [] a f all.0) (expr_sound [] b g all.1.0) e);
 }
-pair_of span (a ∷ b ∷ []) (f ∷ g ∷ h ∷ fs) all e = absurd all.1.1
-pair_of span (a ∷ b ∷ c ∷ es) (f ∷ g ∷ []) all e = absurd all.1.1
-pair_of span (a ∷ b ∷ c ∷ es) (f ∷ g ∷ h ∷ fs) all e = cc e
+pair_of _ (a ∷ b ∷ []) (f ∷ g ∷ h ∷ _) all e = absurd all.1.1
+pair_of _ (a ∷ b ∷ c ∷ _) (f ∷ g ∷ []) all e = absurd all.1.1
+pair_of _ (a ∷ b ∷ c ∷ _) (f ∷ g ∷ h ∷ _) _ e = cc e
 
 of_function : {columns : List ℕ} {k : Kind} {op : Op} {span : Span} {es : List Expr} {t : TypedExpr}
     → HasKind columns k (whole.Call op span es) t → Pair columns op es
@@ -97,13 +96,12 @@ same_second e = sym (cc e)
 part_typed : {columns : List ℕ} {k : Kind} {e : Expr} {l : Kind} {part : Expr} → HasForm columns k e → HasPart k e l part
     → HasForm columns l part
 part_typed h parts.whole = h
-part_typed h (parts.of_not span p) = part_typed (of_not h.1) p
-part_typed h (parts.of_left op span a b p) = part_typed (of_binary h.1).first p
-part_typed h (parts.of_right op span a p) = part_typed (of_binary h.1).second p
-part_typed {columns} h (parts.of_argument op span i p) =
+part_typed h (parts.of_not _ p) = part_typed (of_not h.1) p
+part_typed h (parts.of_left _ _ a b p) = part_typed (of_binary h.1).first p
+part_typed h (parts.of_right _ _ a p) = part_typed (of_binary h.1).second p
+part_typed {columns} h (parts.of_argument op _ i p) =
     let c = of_function h.1 in
-    let E : List Expr → Type 0 = λ z. EachIs (HasForm columns (operand_kind op)) z in
-    part_typed (one_is _ i (subst E (sym c.are) (c.both.first, (c.both.second, tt)))) p
+    part_typed (one_is _ i (subst (λ z. EachIs (HasForm columns (operand_kind op)) z) (sym c.are) (c.both.first, (c.both.second, tt)))) p
 
 named_stands : {columns : List ℕ} {k : Kind} {x : Name} → HasForm columns k (whole.Named x) → (slot : ℕ) × StandsAt columns slot x.id
 named_stands {columns} {x} h =
@@ -113,36 +111,32 @@ named_stands {columns} {x} h =
 
 pub expr_meets : (known : List Known) {columns hidden : List ℕ} {k : Kind} {e : Expr} {d : Demand} → HasForm columns k e
     → ExprAsks columns hidden k e d → Holds known d
-expr_meets known h (of_part p) = part_typed h p
-expr_meets known h (of_name x p) = named_stands (part_typed h p)
-expr_meets known h (of_call op p) =
+expr_meets _ h (of_part p) = part_typed h p
+expr_meets _ h (of_name x p) = named_stands (part_typed h p)
+expr_meets _ h (of_call _ p) =
     let c = part_typed h p in
     ap length (of_function c.1).are
-expr_meets known h (of_right span a p) =
+expr_meets _ h (of_right _ a p) =
     let c = part_typed h p in (of_binary c.1).constant
-expr_meets known h (of_second {op} span a p) =
+expr_meets _ h (of_second {op} _ a p) =
     let c = part_typed h p in
     let m = of_function c.1 in
-    let R : Expr → Type 0 = λ z. IsRightOperand op z in
-    subst R (same_second m.are) m.both.constant
+    subst (λ z. IsRightOperand op z) (same_second m.are) m.both.constant
 
 -- ---- names that are new
 
 pub new_at : (before front : List ℕ) (id : ℕ) (back : List ℕ) → AreNew before (front ++ id ∷ back) → IsNew id (before ++ front)
-new_at before [] id back h = let N : List ℕ → Type 0 = λ z. IsNew id z in subst N (sym (append-nil before)) h.0
+new_at before [] id _ h = subst (λ z. IsNew id z) (sym (append-nil before)) h.0
 new_at before (x ∷ front) id back h =
-    let N : List ℕ → Type 0 = λ z. IsNew id z in
-    subst N (append_assoc before (x ∷ []) front) (new_at (before ++ x ∷ []) front id back h.1)
+    subst (λ z. IsNew id z) (append_assoc before (x ∷ []) front) (new_at (before ++ x ∷ []) front id back h.1)
 
 pub ids_split : (front : List Name) (x : Name) (back : List Name) → ids_of (front ++ x ∷ back) ≡ ids_of front ++ x.id ∷ ids_of back
-ids_split [] x back = refl
-ids_split (y ∷ front) x back = ap (λ (z : List ℕ). y.id ∷ z) (ids_split front x back)
+ids_split [] x _ = refl
+ids_split (y ∷ front) x back = ap (λ z. y.id ∷ z) (ids_split front x back)
 
 pub names_new : (before : List ℕ) {all : List Name} (front : List Name) (x : Name) (back : List Name) → all ≡ front ++ x ∷ back
     → AreNew before (ids_of all) → IsNew x.id (before ++ ids_of front)
-names_new before front x back split h =
-    let N : List ℕ → Type 0 = λ z. AreNew before z in
-    new_at _ _ _ _ (subst N (ap ids_of split ∙ ids_split _ x _) h)
+names_new before _ x _ split h = new_at _ _ _ _ (subst (λ z. AreNew before z) (ap ids_of split ∙ ids_split _ x _) h)
 
 pub few_before : {A : Type 0} {all : List A} (front : List A) (x : A) (back : List A) {n : ℕ} → all ≡ front ++ x ∷ back → length all ≤ n
     → length front < n
@@ -155,45 +149,38 @@ AtColumn columns taken c = IsNew c.name.id taken × HasForm columns Word c.value
 
 column_at : {columns : List ℕ} (taken : List ℕ) (front : List Column) (c : Column) (back : List Column) (values : List TypedExpr)
     → HasTypedColumns columns taken (front ++ c ∷ back) values → AtColumn columns (taken ++ new_names front) c
-column_at taken [] c back [] h = absurd h
-column_at {columns} taken [] c back (v ∷ values) h =
-    let A : List ℕ → Type 0 = λ z. AtColumn columns z c in subst A (sym (append-nil taken)) (h.0, (v, h.1))
-column_at taken (x ∷ front) c back [] h = absurd h
+column_at _ [] c _ [] h = absurd h
+column_at {columns} taken [] c _ (v ∷ _) h = subst (λ z. AtColumn columns z c) (sym (append-nil taken)) (h.0, (v, h.1))
+column_at _ (x ∷ _) c _ [] h = absurd h
 column_at {columns} taken (x ∷ front) c back (v ∷ values) h =
-    let A : List ℕ → Type 0 = λ z. AtColumn columns z c in
-    subst A (append_assoc taken (x.name.id ∷ []) (new_names front)) (column_at (taken ++ x.name.id ∷ []) front c back values h.2)
+    subst (λ z. AtColumn columns z c) (append_assoc taken (x.name.id ∷ []) (new_names front)) (column_at (taken ++ x.name.id ∷ []) front c back values h.2)
 
 pub columns_meet : (known : List Known) {columns hidden : List ℕ} {new : List Column} (values : List TypedExpr) {d : Demand}
     → HasTypedColumns columns (columns ++ hidden) new values → ColumnsAsk columns hidden new d → Holds known d
-columns_meet known {columns} {hidden} values h (asks.of_name front c back split) =
-    let C : List Column → Type 0 = λ z. HasTypedColumns columns (columns ++ hidden) z values in
-    let N : List ℕ → Type 0 = λ z. IsNew c.name.id z in
-    subst N (append_assoc columns hidden (new_names front)) (column_at _ _ c _ _ (subst C split h)).0
-columns_meet known {columns} {hidden} values h (of_value front c back split asked) =
-    let C : List Column → Type 0 = λ z. HasTypedColumns columns (columns ++ hidden) z values in
-    expr_meets _ (column_at _ _ c _ _ (subst C split h)).1 asked
+columns_meet _ {columns} {hidden} values h (asks.of_name front c _ split) =
+    subst (λ z. IsNew c.name.id z) (append_assoc columns hidden (new_names front)) (column_at _ _ c _ _ (subst (λ z. HasTypedColumns columns (columns ++ hidden) z values) split h)).0
+columns_meet _ {columns} {hidden} values h (of_value _ c _ split asked) =
+    expr_meets _ (column_at _ _ c _ _ (subst (λ z. HasTypedColumns columns (columns ++ hidden) z values) split h)).1 asked
 
 -- ---- keys and arguments
 
 slot_at : (columns front : List ℕ) (id : ℕ) (back slots : List ℕ) → HasSlots columns (front ++ id ∷ back) slots → (slot : ℕ)
     × StandsAt columns slot id
-slot_at columns [] id back [] h = absurd h
-slot_at columns [] id back (slot ∷ slots) h = (slot, h.0)
-slot_at columns (x ∷ front) id back [] h = absurd h
-slot_at columns (x ∷ front) id back (slot ∷ slots) h = slot_at columns front id back slots h.1
+slot_at _ [] _ _ [] h = absurd h
+slot_at _ [] _ _ (slot ∷ _) h = (slot, h.0)
+slot_at _ (x ∷ _) _ _ [] h = absurd h
+slot_at columns (x ∷ front) id back (_ ∷ slots) h = slot_at columns front id back slots h.1
 
 pub keys_meet : (known : List Known) {columns hidden : List ℕ} {keys : List Name} {slots : List ℕ} {d : Demand}
     → HasKeys columns (ids_of keys) slots → KeysAsk columns hidden keys d → Holds known d
-keys_meet known {columns} {slots} h (of_key front key back split) =
-    let S : List ℕ → Type 0 = λ z. HasSlots columns z slots in
-    slot_at _ _ _ _ _ (subst S (ap ids_of split ∙ ids_split _ _ _) h.places)
-keys_meet known h (of_new front key back split) = names_new _ _ _ _ split h.distinct
-keys_meet known {keys} h (of_limit front key back split) =
+keys_meet _ {columns} {slots} h (of_key _ _ _ split) =
+    slot_at _ _ _ _ _ (subst (λ z. HasSlots columns z slots) (ap ids_of split ∙ ids_split _ _ _) h.places)
+keys_meet _ h (of_new _ _ _ split) = names_new _ _ _ _ split h.distinct
+keys_meet _ {keys} h (of_limit _ _ _ split) =
     let long = length-map keys (λ (n : Name). n.id) in
     few_before _ _ _ split (omega (arith, h.few, long))
 
 pub arguments_meet : (known : List Known) {columns hidden keys : List ℕ} {f : FoldView} {span : Span} {slots : List ℕ} {d : Demand}
     → HasArguments columns keys f slots → ArgumentsAsk columns hidden keys f span d → Holds known d
-arguments_meet known {columns} {slots} h (of_argument front id back split) =
-    let S : List ℕ → Type 0 = λ z. HasSlots columns z slots in slot_at _ _ _ _ _ (subst S split h.places)
-arguments_meet known h of_states = h.apart
+arguments_meet _ {columns} {slots} h (of_argument _ _ _ split) = slot_at _ _ _ _ _ (subst (λ z. HasSlots columns z slots) split h.places)
+arguments_meet _ h of_states = h.apart

@@ -22,17 +22,17 @@ StandsTold known sought x fault = Tells known fault.kind fault.span (Stands soug
 
 unknown_told : (known : List Known) (sought : Sought) (x : Name) (fault : QueryFault) → meaning_of known x.id ≡ None
     → at_span UnknownName x.span ≡ fault → StandsTold known sought x fault
-unknown_told known sought x fault is e = told _ _ e (refl, free_sound _ _ (ap is_some is))
+unknown_told _ _ x _ is e = told _ _ e (refl, free_sound _ _ (ap is_some is))
 
 pub not_free : (known : List Known) (id : ℕ) {m : Meaning} → meaning_of known id ≡ Some m → IsFree known id → ⊥
-not_free known id is free = not_both _ (free_complete _ _ free) (ap is_some is)
+not_free _ _ is free = not_both _ (free_complete _ _ free) (ap is_some is)
 
 other_told : (known : List Known) (sought : Sought) (x : Name) (fault : QueryFault) (m : Meaning) → meaning_of known x.id ≡ Some m
     → (IsSought known sought x.id → ⊥) → at_span WrongKind x.span ≡ fault → StandsTold known sought x fault
-other_told known sought x fault m is none e = told _ _ e (refl, not_free _ _ is, none)
+other_told _ _ x _ m is none e = told _ _ e (refl, not_free _ _ is, none)
 
 pub one_meaning : (known : List Known) (id : ℕ) {m n : Meaning} → meaning_of known id ≡ Some m → meaning_of known id ≡ Some n → m ≡ n
-one_meaning known id {m} {n} p q = let both : (let o : Option Meaning = Some m in o) ≡ Some n = sym p ∙ q in cc both
+one_meaning _ _ {m} {n} p q = let both : (let o : Option Meaning = Some m in o) ≡ Some n = sym p ∙ q in cc both
 
 no_stream : (known : List Known) (id : ℕ) {m : Meaning} → meaning_of known id ≡ Some m → ((s : StreamView) → m ≡ meaning.Stream s → ⊥)
     → IsSought known AStream id → ⊥
@@ -47,7 +47,7 @@ stream_told known x {fault} e = go (meaning_of known x.id) refl e
   where
     go : (o : Option Meaning) → meaning_of known x.id ≡ o → as_stream o x.span ≡ Err fault → StandsTold known AStream x fault
     go None is e = unknown_told _ _ x _ is (same_fault e)
-    go (Some (meaning.Stream s)) is e = no_fault e
+    go (Some (meaning.Stream s)) _ e = no_fault e
     go (Some (meaning.Fold f)) is e = other_told _ _ x _ _ is (no_stream _ _ is (λ s k. cc k)) (same_fault e)
     go (Some (meaning.Final t)) is e = other_told _ _ x _ _ is (no_stream _ _ is (λ s k. cc k)) (same_fault e)
 
@@ -56,14 +56,14 @@ fold_told known x {fault} e = go (meaning_of known x.id) refl e
   where
     go : (o : Option Meaning) → meaning_of known x.id ≡ o → as_fold o x.span ≡ Err fault → StandsTold known AFold x fault
     go None is e = unknown_told _ _ x _ is (same_fault e)
-    go (Some (meaning.Fold f)) is e = no_fault e
+    go (Some (meaning.Fold f)) _ e = no_fault e
     go (Some (meaning.Stream s)) is e = other_told _ _ x _ _ is (no_fold _ _ is (λ f k. cc k)) (same_fault e)
     go (Some (meaning.Final t)) is e = other_told _ _ x _ _ is (no_fold _ _ is (λ f k. cc k)) (same_fault e)
 
 no_table : (known : List Known) (id : ℕ) (m : Meaning) → meaning_of known id ≡ Some m → ((t : TableView) → m ≡ meaning.Final t → ⊥)
     → ((s : StreamView) (t : TableView) → m ≡ meaning.Stream s → s.table ≡ Some t → ⊥) → IsSought known ATable id → ⊥
-no_table known id m is final group (t, inl h) = final t (one_meaning known id is (meaning_complete known id h))
-no_table known id m is final group (t, inr h) = group h.0 t (one_meaning known id is (meaning_complete known id h.1)) h.2
+no_table known id m is final _ (t, inl h) = final t (one_meaning known id is (meaning_complete known id h))
+no_table known id m is _ group (t, inr h) = group h.0 t (one_meaning known id is (meaning_complete known id h.1)) h.2
 
 same_stream : (s r : StreamView) → meaning.Stream s ≡ meaning.Stream r → s ≡ r
 same_stream s r e = cc e
@@ -76,14 +76,14 @@ table_told known x {fault} e = go (meaning_of known x.id) refl e
     at_stream s is None none e = other_told _ _ x _ _ is (no_table _ _ _ is (λ t k. cc k)
         (λ r t k there. let both : (let o : Option TableView = None in o) ≡ Some t = sym none
         ∙ ap (λ (z : StreamView). z.table) (same_stream s r k) ∙ there in cc both)) (same_fault {g = fault} e)
-    at_stream s is (Some t) some e = no_fault e
+    at_stream s _ (Some t) _ e = no_fault e
 
     go : (o : Option Meaning) → meaning_of known x.id ≡ o → as_table o x.span ≡ Err fault → StandsTold known ATable x fault
     go None is e = unknown_told _ _ x _ is (same_fault {g = fault} e)
     go (Some (meaning.Fold f)) is e =
         other_told _ _ x _ _ is (no_table _ _ _ is (λ t k. cc k) (λ s t k there. cc k)) (same_fault {g = fault} e)
     go (Some (meaning.Stream s)) is e = at_stream s is s.table refl e
-    go (Some (meaning.Final t)) is e = no_fault e
+    go (Some (meaning.Final t)) _ e = no_fault e
 
 pub quiet_told : (known : List Known) (x : Name) {fault : QueryFault} → quiet_fold known x ≡ Err fault → StandsTold known AQuietFold x fault
 quiet_told known x {fault} e = go (meaning_of known x.id) refl e
@@ -108,23 +108,21 @@ quiet_told known x {fault} e = go (meaning_of known x.id) refl e
 -- ---- new columns
 
 new_names_last : (front : List Column) (column : Column) → new_names (front ++ column ∷ []) ≡ new_names front ++ column.name.id ∷ []
-new_names_last [] column = refl
-new_names_last (c ∷ front) column = ap (λ (z : List ℕ). c.name.id ∷ z) (new_names_last front column)
+new_names_last [] _ = refl
+new_names_last (c ∷ front) column = ap (λ z. c.name.id ∷ z) (new_names_last front column)
 
 pub columns_told : {columns hidden : List ℕ} {all : List Column} (front new : List Column) (made : NewColumns) {known : List Known} {fault : QueryFault}
     → all ≡ front ++ new → made.names ≡ new_names front → new_columns columns hidden made new ≡ Err fault
     → Broken (ColumnsAsk columns hidden all) known fault
-columns_told front [] made split same e = no_fault e
+columns_told _ [] _ _ _ e = no_fault e
 columns_told {columns} {hidden} front (c ∷ new) made {known} split same e =
-    by_must_not (is_among c.name.id columns || (is_among c.name.id hidden || is_among c.name.id made.names)) e (λ among at.
-    let N : List ℕ → Type 0 = λ z. IsNew c.name.id (columns ++ (hidden ++ z)) in
-    record {
+    by_must_not (is_among c.name.id columns || (is_among c.name.id hidden || is_among c.name.id made.names)) e (λ among at. record {
       demand = New (columns ++ (hidden ++ new_names front)) c.name.id c.name.span;
       asks = of_name front c new split;
       tells = told known (New (columns ++ (hidden ++ new_names front)) c.name.id c.name.span) at (
         refl,
         λ fresh. not_new c.name.id (columns ++ (hidden ++ made.names)) (taken_is c.name.id columns hidden made.names ∙ among)
-            (subst N (sym same) fresh),
+            (subst (λ z. IsNew c.name.id (columns ++ (hidden ++ z))) (sym same) fresh),
       );
     }) (λ none e. by_next (word_of columns hidden c.value) e (λ is.
     let b = word_told is in
@@ -132,7 +130,7 @@ columns_told {columns} {hidden} front (c ∷ new) made {known} split same e =
     columns_told (front ++ c ∷ []) new (record {
       names = made.names ++ c.name.id ∷ [];
       values = made.values ++ value ∷ [];
-    }) (split ∙ sym (append_assoc front (c ∷ []) new)) (ap (λ (z : List ℕ). z ++ c.name.id ∷ []) same ∙ sym (new_names_last front c)) e))
+    }) (split ∙ sym (append_assoc front (c ∷ []) new)) (ap (λ z. z ++ c.name.id ∷ []) same ∙ sym (new_names_last front c)) e))
 
 -- ---- keys
 
@@ -141,7 +139,7 @@ at_least same e = grind (arith, same)
 
 pub ids_last : (front : List Name) (x : Name) → ids_of (front ++ x ∷ []) ≡ ids_of front ++ x.id ∷ []
 ids_last [] x = refl
-ids_last (y ∷ front) x = ap (λ (z : List ℕ). y.id ∷ z) (ids_last front x)
+ids_last (y ∷ front) x = ap (λ z. y.id ∷ z) (ids_last front x)
 
 pub ids_long : (front : List Name) → length (ids_of front) ≡ length front
 ids_long [] = refl
@@ -150,18 +148,16 @@ ids_long (x ∷ front) = ap suc (ids_long front)
 pub keys_told : {columns hidden : List ℕ} {all : List Name} (front keys : List Name) (found : Picked) {known : List Known} {fault : QueryFault}
     → all ≡ front ++ keys → found.names ≡ ids_of front → keys_from columns hidden found keys ≡ Err fault
     → Broken (KeysAsk columns hidden all) known fault
-keys_told front [] found split same e = no_fault e
+keys_told _ [] _ _ _ e = no_fault e
 keys_told {columns} {hidden} front (key ∷ keys) found {known} split same e = by_next (slot_of columns hidden key) e (λ is. record {
   demand = AColumn columns hidden key.id key.span;
   asks = of_key front key keys split;
   tells = slot_told columns hidden key is known;
-}) (λ slot is e. by_must_not (is_among key.id found.names) e (λ among at.
-    let N : List ℕ → Type 0 = λ z. IsNew key.id z in
-    record {
+}) (λ slot is e. by_must_not (is_among key.id found.names) e (λ among at. record {
       demand = New (ids_of front) key.id key.span;
       asks = of_new front key keys split;
       tells = told known (New (ids_of front) key.id key.span) at
-          (refl, λ fresh. not_new key.id found.names among (subst N (sym same) fresh));
+          (refl, λ fresh. not_new key.id found.names among (subst (λ z. IsNew key.id z) (sym same) fresh));
     }) (λ none e. by_must (nat_lt (length found.names) MAX_KEYS) _ e (λ full at.
     let long : length found.names ≡ length front = ap length same ∙ ids_long front in
     record {
@@ -169,14 +165,14 @@ keys_told {columns} {hidden} front (key ∷ keys) found {known} split same e = b
       asks = of_limit front key keys split;
       tells = told known (Fewer Keys (length front) key.span) at (refl, refl, at_least long full);
     }) (λ few e. keys_told (front ++ key ∷ []) keys (record { names = found.names ++ key.id ∷ []; slots = found.slots ++ slot ∷ [] })
-    (split ∙ sym (append_assoc front (key ∷ []) keys)) (ap (λ (z : List ℕ). z ++ key.id ∷ []) same ∙ sym (ids_last front key)) e)))
+    (split ∙ sym (append_assoc front (key ∷ []) keys)) (ap (λ z. z ++ key.id ∷ []) same ∙ sym (ids_last front key)) e)))
 
 -- ---- arguments
 
 argument_told : {columns hidden keys : List ℕ} {f : FoldView} {span : Span} (front ids before : List ℕ) {known : List Known}
     {fault : QueryFault} → f.args ≡ front ++ ids → collected before (map (slot_for columns hidden span) ids) ≡ Err fault
     → Broken (ArgumentsAsk columns hidden keys f span) known fault
-argument_told front [] before split e = no_fault e
+argument_told _ [] _ _ e = no_fault e
 argument_told {columns} {hidden} {keys} {f} {span} front (id ∷ ids) before {known} {fault} split e =
     go (slot_for columns hidden span id) refl (λ x k. argument_told (front ++ id ∷ []) ids (before ++ x ∷ [])
     (split ∙ sym (append_assoc front (id ∷ []) ids)) k) e
@@ -186,12 +182,12 @@ argument_told {columns} {hidden} {keys} {f} {span} front (id ∷ ids) before {kn
         → Broken (ArgumentsAsk columns hidden keys f span) known fault)
         → collected before (c ∷ map (slot_for columns hidden span) ids) ≡ Err fault
         → Broken (ArgumentsAsk columns hidden keys f span) known fault
-    go (Ok x) is next e = next x e
-    go (Err found) is next e = record {
+    go (Ok x) _ next e = next x e
+    go (Err _) is _ e = record {
       demand = AColumn columns hidden id span;
       asks = of_argument front id ids split;
       tells = slot_told columns hidden (record { id = id; span = span })
-          (is ∙ ap (λ (z : QueryFault). let r : Checked ℕ = Err z in r) (same_fault e)) known;
+          (is ∙ ap (λ z. let r : Checked ℕ = Err z in r) (same_fault e)) known;
     }
 
 pub arguments_told : {columns hidden keys : List ℕ} {f : FoldView} {span : Span} {known : List Known} {fault : QueryFault}

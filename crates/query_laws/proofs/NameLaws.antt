@@ -14,7 +14,7 @@ use Rattle.query_laws.proofs.{ExprSound.slot_stands, ExprSound.word_sound, ExprC
 use Rattle.query_laws.proofs.FoldNames.{new_among, among_new, among_append, below}
 
 pub ok : {A : Type 0} {x y : A} → x ≡ y → (let r : Checked A = Ok x in r) ≡ Ok y
-ok {A} e = ap (λ (z : A). let r : Checked A = Ok z in r) e
+ok {A} e = ap (λ z. let r : Checked A = Ok z in r) e
 
 -- ---- what a name stands for
 
@@ -22,98 +22,96 @@ same_some : {m n : Meaning} → (let o : Option Meaning = Some m in o) ≡ Some 
 same_some e = cc e
 
 pub meaning_sound : (known : List Known) (id : ℕ) {m : Meaning} → meaning_of known id ≡ Some m → NameStandsFor known id m
-meaning_sound [] id e = cc e
+meaning_sound [] _ e = cc e
 meaning_sound (one ∷ rest) id {m} e = go (nat_eq one.name id) refl (λ k. meaning_sound rest id k) e
   where
     go : (b : Bool) → nat_eq one.name id ≡ b → (meaning_of rest id ≡ Some m → NameStandsFor rest id m)
         → cond b (Some one.meaning) (meaning_of rest id) ≡ Some m → NameStandsFor (one ∷ rest) id m
-    go true is more e = inl (nat_same is, same_some e)
+    go true is _ e = inl (nat_same is, same_some e)
     go false is more e = inr (nat_other is, more e)
 
 pub meaning_complete : (known : List Known) (id : ℕ) {m : Meaning} → NameStandsFor known id m → meaning_of known id ≡ Some m
-meaning_complete [] id h = absurd h
-meaning_complete (one ∷ rest) id (inl p) = ap (λ (b : Bool). cond b (Some one.meaning) (meaning_of rest id)) (nat_is p.0) ∙ ap Some p.1
-meaning_complete (one ∷ rest) id (inr p) = ap (λ (b : Bool). cond b (Some one.meaning) (meaning_of rest id)) (nat_is_not p.0)
+meaning_complete [] _ h = absurd h
+meaning_complete (one ∷ rest) id (inl p) = ap (λ b. cond b (Some one.meaning) (meaning_of rest id)) (nat_is p.0) ∙ ap Some p.1
+meaning_complete (one ∷ rest) id (inr p) = ap (λ b. cond b (Some one.meaning) (meaning_of rest id)) (nat_is_not p.0)
     ∙ meaning_complete rest id p.1
 
 pub free_sound : (known : List Known) (id : ℕ) → is_some (meaning_of known id) ≡ false → IsFree known id
-free_sound [] id e = tt
+free_sound [] _ e = tt
 free_sound (one ∷ rest) id e = go (nat_eq one.name id) refl (λ k. free_sound rest id k) e
   where
     go : (b : Bool) → nat_eq one.name id ≡ b → (is_some (meaning_of rest id) ≡ false → IsFree rest id)
         → is_some (cond b (Some one.meaning) (meaning_of rest id)) ≡ false → IsFree (one ∷ rest) id
-    go true is more e = cc e
+    go true _ _ e = cc e
     go false is more e = (nat_other is, more e)
 
 pub free_complete : (known : List Known) (id : ℕ) → IsFree known id → is_some (meaning_of known id) ≡ false
-free_complete [] id h = refl
-free_complete (one ∷ rest) id h = ap (λ (b : Bool). is_some (cond b (Some one.meaning) (meaning_of rest id))) (nat_is_not h.0)
+free_complete [] _ h = refl
+free_complete (one ∷ rest) id h = ap (λ b. is_some (cond b (Some one.meaning) (meaning_of rest id))) (nat_is_not h.0)
     ∙ free_complete rest id h.1
 
 pub stream_sound : (known : List Known) (name : Name) {s : StreamView} → stream_named known name ≡ Ok s → IsStream known name.id s
 stream_sound known name {s} e = go (meaning_of known name.id) refl e
   where
     go : (o : Option Meaning) → meaning_of known name.id ≡ o → as_stream o name.span ≡ Ok s → IsStream known name.id s
-    go None is e = cc e
-    go (Some (meaning.Stream x)) is e = meaning_sound _ _ (is ∙ ap (λ (z : StreamView). Some (meaning.Stream z)) (same_ok x s e))
-    go (Some (meaning.Fold f)) is e = cc e
-    go (Some (meaning.Final t)) is e = cc e
+    go None _ e = cc e
+    go (Some (meaning.Stream x)) is e = meaning_sound _ _ (is ∙ ap (λ z. Some (meaning.Stream z)) (same_ok x s e))
+    go (Some (meaning.Fold f)) _ e = cc e
+    go (Some (meaning.Final t)) _ e = cc e
 
 pub stream_complete : (known : List Known) (name : Name) {s : StreamView} → IsStream known name.id s → stream_named known name ≡ Ok s
-stream_complete known name h = ap (λ (o : Option Meaning). as_stream o name.span) (meaning_complete _ _ h)
+stream_complete _ name h = ap (λ o. as_stream o name.span) (meaning_complete _ _ h)
 
 pub fold_name_sound : (known : List Known) (name : Name) {f : FoldView} → fold_named known name ≡ Ok f → IsFold known name.id f
 fold_name_sound known name {f} e = go (meaning_of known name.id) refl e
   where
     go : (o : Option Meaning) → meaning_of known name.id ≡ o → as_fold o name.span ≡ Ok f → IsFold known name.id f
-    go None is e = cc e
-    go (Some (meaning.Fold x)) is e = meaning_sound _ _ (is ∙ ap (λ (z : FoldView). Some (meaning.Fold z)) (same_ok x f e))
-    go (Some (meaning.Stream s)) is e = cc e
-    go (Some (meaning.Final t)) is e = cc e
+    go None _ e = cc e
+    go (Some (meaning.Fold x)) is e = meaning_sound _ _ (is ∙ ap (λ z. Some (meaning.Fold z)) (same_ok x f e))
+    go (Some (meaning.Stream s)) _ e = cc e
+    go (Some (meaning.Final t)) _ e = cc e
 
 pub fold_name_complete : (known : List Known) (name : Name) {f : FoldView} → IsFold known name.id f → fold_named known name ≡ Ok f
-fold_name_complete known name h = ap (λ (o : Option Meaning). as_fold o name.span) (meaning_complete _ _ h)
+fold_name_complete _ name h = ap (λ o. as_fold o name.span) (meaning_complete _ _ h)
 
 table_there : (o : Option TableView) (span : Span) {t : TableView} → table_at o span ≡ Ok t → o ≡ Some t
-table_there None span e = cc e
-table_there (Some x) span {t} e = ap Some (same_ok x t e)
+table_there None _ e = cc e
+table_there (Some x) _ {t} e = ap Some (same_ok x t e)
 
 pub table_sound : (known : List Known) (name : Name) {t : TableView} → table_named known name ≡ Ok t → IsTable known name.id t
 table_sound known name {t} e = go (meaning_of known name.id) refl e
   where
     go : (o : Option Meaning) → meaning_of known name.id ≡ o → as_table o name.span ≡ Ok t → IsTable known name.id t
-    go None is e = cc e
-    go (Some (meaning.Fold f)) is e = cc e
+    go None _ e = cc e
+    go (Some (meaning.Fold f)) _ e = cc e
     go (Some (meaning.Stream s)) is e = inr (s, meaning_sound _ _ is, table_there _ _ e)
-    go (Some (meaning.Final x)) is e = inl (meaning_sound _ _
-        (is ∙ ap (λ (z : TableView). Some (meaning.Final z)) (same_ok x t e)))
+    go (Some (meaning.Final x)) is e = inl (meaning_sound _ _ (is ∙ ap (λ z. Some (meaning.Final z)) (same_ok x t e)))
 
 pub table_complete : (known : List Known) (name : Name) {t : TableView} → IsTable known name.id t → table_named known name ≡ Ok t
-table_complete known name (inl h) = ap (λ (o : Option Meaning). as_table o name.span) (meaning_complete _ _ h)
-table_complete known name (inr p) = ap (λ (o : Option Meaning). as_table o name.span) (meaning_complete _ _ p.1)
-    ∙ ap (λ (o : Option TableView). table_at o name.span) p.2
+table_complete _ name (inl h) = ap (λ o. as_table o name.span) (meaning_complete _ _ h)
+table_complete _ name (inr p) = ap (λ o. as_table o name.span) (meaning_complete _ _ p.1) ∙ ap (λ o. table_at o name.span) p.2
 
 -- ---- new columns
 
 columns_same : {ns ms : List ℕ} {vs ws : List TypedExpr} → ns ≡ ms → vs ≡ ws
     → (let r : NewColumns = record { names = ns; values = vs } in r) ≡ record { names = ms; values = ws }
-columns_same {ms} {vs} e f = ap (λ (z : List ℕ). let r : NewColumns = record { names = z; values = vs } in r) e
-    ∙ ap (λ (z : List TypedExpr). let r : NewColumns = record { names = ms; values = z } in r) f
+columns_same {ms} {vs} e f = ap (λ z. let r : NewColumns = record { names = z; values = vs } in r) e
+    ∙ ap (λ z. let r : NewColumns = record { names = ms; values = z } in r) f
 
 pub taken_is : (id : ℕ) (columns hidden names : List ℕ) → is_among id (columns ++ (hidden ++ names))
     ≡ (is_among id columns || (is_among id hidden || is_among id names))
 taken_is id columns hidden names = among_append id columns (hidden ++ names)
-    ∙ ap (λ (b : Bool). is_among id columns || b) (among_append id hidden names)
+    ∙ ap (λ b. is_among id columns || b) (among_append id hidden names)
 
 taken_more : (id : ℕ) (columns hidden names : List ℕ) → (columns ++ (hidden ++ names)) ++ id ∷ [] ≡ columns
     ++ (hidden ++ (names ++ id ∷ []))
 taken_more id columns hidden names = append_assoc columns (hidden ++ names) (id ∷ [])
-    ∙ ap (λ (z : List ℕ). columns ++ z) (append_assoc hidden names (id ∷ []))
+    ∙ ap (λ z. columns ++ z) (append_assoc hidden names (id ∷ []))
 
 pub columns_sound : (columns hidden : List ℕ) (cs : List Column) (made : NewColumns) {all : NewColumns} → new_columns columns hidden made cs ≡ Ok all
     → (values : List TypedExpr) × HasTypedColumns columns (columns ++ (hidden ++ made.names)) cs values
     × (all ≡ record { names = made.names ++ new_names cs; values = made.values ++ values })
-columns_sound columns hidden [] made {all} e = (
+columns_sound _ _ [] made {all} e = (
   [],
   tt,
   sym (same_ok _ _ e) ∙ columns_same (sym (append-nil made.names)) (sym (append-nil made.values)),
@@ -123,12 +121,12 @@ columns_sound columns hidden (c ∷ cs) made {all} e =
     let word = found_first (word_of columns hidden c.value) _ all one.1 in
     let rest = columns_sound columns hidden cs (record { names = made.names ++ c.name.id ∷ []; values = made.values ++ word.0 ∷ [] })
     word.2 in
-    let N : List ℕ → Type 0 = λ z. HasTypedColumns columns z cs rest.0 in (
+    (
       word.0 ∷ rest.0,
       (
         among_new c.name.id _ (taken_is c.name.id columns hidden made.names ∙ one.0),
         word_sound hidden word.1,
-        subst N (sym (taken_more c.name.id columns hidden made.names)) rest.1,
+        subst (λ z. HasTypedColumns columns z cs rest.0) (sym (taken_more c.name.id columns hidden made.names)) rest.1,
       ),
       rest.2 ∙ columns_same (append_assoc made.names (c.name.id ∷ []) (new_names cs)) (append_assoc made.values (word.0 ∷ []) rest.0),
     )
@@ -136,36 +134,35 @@ columns_sound columns hidden (c ∷ cs) made {all} e =
 pub columns_complete : (columns hidden : List ℕ) (cs : List Column) (values : List TypedExpr) (made : NewColumns)
     → HasTypedColumns columns (columns ++ (hidden ++ made.names)) cs values
     → new_columns columns hidden made cs ≡ Ok (record { names = made.names ++ new_names cs; values = made.values ++ values })
-columns_complete columns hidden [] [] made h = ok (columns_same (sym (append-nil made.names)) (sym (append-nil made.values)))
-columns_complete columns hidden [] (v ∷ values) made h = absurd h
-columns_complete columns hidden (c ∷ cs) [] made h = absurd h
+columns_complete _ _ [] [] made h = ok (columns_same (sym (append-nil made.names)) (sym (append-nil made.values)))
+columns_complete _ _ [] (v ∷ _) _ h = absurd h
+columns_complete _ _ (c ∷ _) [] _ h = absurd h
 columns_complete columns hidden (c ∷ cs) (v ∷ values) made h =
-    let N : List ℕ → Type 0 = λ z. HasTypedColumns columns z cs values in
     must_not_holds _ _ (sym (taken_is c.name.id columns hidden made.names) ∙ new_among c.name.id _ h.0)
     ∙ then_next _ (word_complete hidden h.1)
     ∙ columns_complete columns hidden cs values (record { names = made.names ++ c.name.id ∷ []; values = made.values ++ v ∷ [] })
-    (subst N (taken_more c.name.id columns hidden made.names) h.2)
+    (subst (λ z. HasTypedColumns columns z cs values) (taken_more c.name.id columns hidden made.names) h.2)
     ∙ ok (columns_same (append_assoc made.names (c.name.id ∷ []) (new_names cs)) (append_assoc made.values (v ∷ []) values))
 
 -- ---- keys
 
 pub slot_complete : (columns hidden : List ℕ) (name : Name) {slot : ℕ} → StandsAt columns slot name.id
     → slot_of columns hidden name ≡ Ok slot
-slot_complete columns hidden name h = ap (λ (o : Option ℕ). slot_at o (is_among name.id hidden) name.span) (stands_place _ _ h)
+slot_complete _ hidden name h = ap (λ o. slot_at o (is_among name.id hidden) name.span) (stands_place _ _ h)
 
 abbrev name_ids : List Name → List ℕ
 name_ids names = map (λ key. key.id) names
 
 picked_same : {ns ms ss ts : List ℕ} → ns ≡ ms → ss ≡ ts → (let r : Picked = record { names = ns; slots = ss } in r) ≡ record
     { names = ms; slots = ts }
-picked_same {ms} {ss} e f = ap (λ (z : List ℕ). let r : Picked = record { names = z; slots = ss } in r) e
-    ∙ ap (λ (z : List ℕ). let r : Picked = record { names = ms; slots = z } in r) f
+picked_same {ms} {ss} e f = ap (λ z. let r : Picked = record { names = z; slots = ss } in r) e
+    ∙ ap (λ z. let r : Picked = record { names = ms; slots = z } in r) f
 
 pub keys_sound : (columns hidden : List ℕ) (keys : List Name) (found : Picked) {all : Picked} → length found.names ≤ MAX_KEYS
     → keys_from columns hidden found keys ≡ Ok all
     → (slots : List ℕ) × HasSlots columns (name_ids keys) slots × AreNew found.names (name_ids keys)
     × (length found.names + length keys ≤ MAX_KEYS) × (all ≡ record { names = found.names ++ name_ids keys; slots = found.slots ++ slots })
-keys_sound columns hidden [] found {all} h e = (
+keys_sound _ _ [] found {all} h e = (
   [],
   tt,
   tt,
@@ -190,9 +187,9 @@ keys_sound columns hidden (key ∷ keys) found {all} h e =
 pub keys_complete : (columns hidden : List ℕ) (keys : List Name) (slots : List ℕ) (found : Picked) → HasSlots columns (name_ids keys) slots
     → AreNew found.names (name_ids keys) → length found.names + length keys ≤ MAX_KEYS
     → keys_from columns hidden found keys ≡ Ok (record { names = found.names ++ name_ids keys; slots = found.slots ++ slots })
-keys_complete columns hidden [] [] found h new few = ok (picked_same (sym (append-nil found.names)) (sym (append-nil found.slots)))
-keys_complete columns hidden [] (s ∷ slots) found h new few = absurd h
-keys_complete columns hidden (key ∷ keys) [] found h new few = absurd h
+keys_complete _ _ [] [] found h _ _ = ok (picked_same (sym (append-nil found.names)) (sym (append-nil found.slots)))
+keys_complete _ _ [] (s ∷ _) _ h _ _ = absurd h
+keys_complete _ _ (_ ∷ _) [] _ h _ _ = absurd h
 keys_complete columns hidden (key ∷ keys) (s ∷ slots) found h new few = then_next _ (slot_complete columns hidden key h.0)
     ∙ must_not_holds _ _ (new_among key.id found.names new.0) ∙ must_holds _ _
     (below {k = length found.names} {n = MAX_KEYS} (omega (arith, few)))
@@ -208,7 +205,7 @@ slot_for columns hidden span id = slot_of columns hidden (record { id = id; span
 slots_sound : (columns hidden : List ℕ) (span : Span) (ids before : List ℕ) {all : List ℕ}
     → collected before (map (slot_for columns hidden span) ids) ≡ Ok all → (slots : List ℕ) × (all ≡ before ++ slots)
     × HasSlots columns ids slots
-slots_sound columns hidden span [] before {all} e = ([], sym (same_ok _ _ e) ∙ sym (append-nil before), tt)
+slots_sound _ _ _ [] before {all} e = ([], sym (same_ok _ _ e) ∙ sym (append-nil before), tt)
 slots_sound columns hidden span (id ∷ ids) before {all} e = go (slot_for columns hidden span id) refl
     (λ x k. slots_sound columns hidden span ids (before ++ x ∷ []) k) e
   where
@@ -221,47 +218,42 @@ slots_sound columns hidden span (id ∷ ids) before {all} e = go (slot_for colum
         let more = next x e in (
           x ∷ more.0,
           more.1 ∙ append_assoc before (x ∷ []) more.0,
-          (
-            slot_stands columns hidden (record { id = id; span = span }) is,
-            more.2,
-          ),
+          (slot_stands columns hidden (record { id = id; span = span }) is, more.2),
         )
-    go (Err fault) is next e = cc e
+    go (Err _) _ _ e = cc e
 
 slots_complete : (columns hidden : List ℕ) (span : Span) (ids slots before : List ℕ) → HasSlots columns ids slots
     → collected before (map (slot_for columns hidden span) ids) ≡ Ok (before ++ slots)
-slots_complete columns hidden span [] [] before h = ok (sym (append-nil before))
-slots_complete columns hidden span [] (s ∷ slots) before h = absurd h
-slots_complete columns hidden span (id ∷ ids) [] before h = absurd h
-slots_complete columns hidden span (id ∷ ids) (s ∷ slots) before h =
-    ap (λ (c : Checked ℕ). collected before (c ∷ map (slot_for columns hidden span) ids))
+slots_complete _ _ _ [] [] before h = ok (sym (append-nil before))
+slots_complete _ _ _ [] (s ∷ _) _ h = absurd h
+slots_complete _ _ _ (_ ∷ _) [] _ h = absurd h
+slots_complete columns hidden span (id ∷ ids) (s ∷ slots) before h = ap (λ c. collected before (c ∷ map (slot_for columns hidden span) ids))
     (slot_complete columns hidden (record { id = id; span = span }) h.0)
     ∙ slots_complete columns hidden span ids slots (before ++ s ∷ []) h.1 ∙ ok (append_assoc before (s ∷ []) slots)
 
 pub apart_sound : (ids others : List ℕ) → list_any (λ id. is_among id others) ids ≡ false → AreApart ids others
-apart_sound [] others e = tt
+apart_sound [] _ e = tt
 apart_sound (id ∷ ids) others e = go (is_among id others) refl (λ k. apart_sound ids others k) e
   where
     go : (b : Bool) → is_among id others ≡ b → (list_any (λ id. is_among id others) ids ≡ false → AreApart ids others)
         → (b || list_any (λ id. is_among id others) ids) ≡ false → AreApart (id ∷ ids) others
-    go true is more e = cc e
+    go true _ _ e = cc e
     go false is more e = (among_new id others is, more e)
 
 pub apart_complete : (ids others : List ℕ) → AreApart ids others → list_any (λ id. is_among id others) ids ≡ false
-apart_complete [] others h = refl
-apart_complete (id ∷ ids) others h = ap (λ (b : Bool). b || list_any (λ id. is_among id others) ids) (new_among id others h.0)
+apart_complete [] _ h = refl
+apart_complete (id ∷ ids) others h = ap (λ b. b || list_any (λ id. is_among id others) ids) (new_among id others h.0)
     ∙ apart_complete ids others h.1
 
 pub arguments_sound : {columns : List ℕ} (hidden : List ℕ) {keys : List ℕ} {f : FoldView} (span : Span) {slots : List ℕ}
     → arguments_of columns hidden keys f span ≡ Ok slots → HasArguments columns keys f slots
-arguments_sound {columns} hidden {keys} {f} span {slots} e =
+arguments_sound {columns} _ {keys} {f} _ {slots} e =
     let first = found_first _ _ _ e in
     let one = must_not_ok _ _ _ first.2 in
     let s = slots_sound _ _ _ _ _ first.1 in
-    let S : List ℕ → Type 0 = λ z. HasSlots columns f.args z in
-    record { places = subst S (sym s.1 ∙ same_ok _ _ one.1) s.2; apart = apart_sound _ _ one.0 }
+    record { places = subst (λ z. HasSlots columns f.args z) (sym s.1 ∙ same_ok _ _ one.1) s.2; apart = apart_sound _ _ one.0 }
 
 pub arguments_complete : {columns : List ℕ} (hidden : List ℕ) {keys : List ℕ} {f : FoldView} (span : Span) {slots : List ℕ} → HasArguments columns keys f slots
     → arguments_of columns hidden keys f span ≡ Ok slots
-arguments_complete {columns} hidden {keys} {f} span {slots} h = then_next _ (slots_complete _ _ _ _ _ _ h.places)
+arguments_complete {columns} _ {keys} {f} _ {slots} h = then_next _ (slots_complete _ _ _ _ _ _ h.places)
     ∙ must_not_holds _ _ (apart_complete _ _ h.apart)

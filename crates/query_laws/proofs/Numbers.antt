@@ -65,7 +65,7 @@ word_at : {n m : ℕ} → n ≡ m → IsWord m → IsWord n
 word_at e h = subst IsWord (sym e) h
 
 binary_word : (op : Op) (s : Span) (a b : Expr) → is_word_expr a → is_word_expr b → is_word_expr (Binary op s a b)
-binary_word op s a b h k = word_at (binary_is _ s a b) (greater h k)
+binary_word _ s a b h k = word_at (binary_is _ s a b) (greater h k)
 
 -- ---- expressions
 
@@ -76,21 +76,21 @@ abbrev operand_word : Operand → Type 0
 operand_word o = is_word_expr o.1
 
 grouped_word : (left : Expr) (others : List Operand) → is_word_expr left → All operand_word others → is_word_expr (grouped left others)
-grouped_word left [] h k = h
+grouped_word _ [] h k = h
 grouped_word left (o ∷ others) h k =
     grouped_word (Binary o.0.0 o.0.1 left o.1) others (binary_word o.0.0 o.0.1 left o.1 h (All-head operand_word o others k))
     (All-tail operand_word o others k)
 
 compared_word : (left : Expr) (other : Option Operand) → is_word_expr left → if_some operand_word other → is_word_expr (compared left other)
-compared_word left None h k = h
-compared_word left (Some o) h k = binary_word _ _ _ _ h k
+compared_word _ None h k = h
+compared_word _ (Some o) h k = binary_word _ _ _ _ h k
 
 negated_word : (spans : List Span) (e : Expr) → is_word_expr e → is_word_expr (negated spans e)
 negated_word [] e h = h
 negated_word (s ∷ spans) e h = word_at (not_is s (negated spans e)) (negated_word spans e h)
 
 level_holds : {L : Language Expr} (ops : Operators) → Holds L is_word_expr → Holds (Level ops L) is_word_expr
-level_holds ops p = meaning_holds (then_holds p (repeated_holds (second_holds _ p))) (λ a h. grouped_word _ _ h.0 h.1)
+level_holds _ p = meaning_holds (then_holds p (repeated_holds (second_holds _ p))) (λ a h. grouped_word _ _ h.0 h.1)
 
 unary_holds : {L : Language Expr} → Holds L is_word_expr → Holds (Unary L) is_word_expr
 unary_holds p = meaning_holds (second_holds _ p) (λ a h. negated_word _ _ h)
@@ -117,8 +117,7 @@ atom_holds = either_holds (meaning_holds number_holds (λ a h. word_at (number_i
     (meaning_holds any_holds (λ a h. word_at (named_is a) (omega arith))))
 
 call_holds : {E : Language Expr} → Holds E is_word_expr → Holds (CallOf E) is_word_expr
-call_holds p = meaning_holds (second_holds _ (parens_hold (listed_holds p)))
-    (λ a h. word_at (call_is _ _ _) (greatest_word _ _ h))
+call_holds p = meaning_holds (second_holds _ (parens_hold (listed_holds p))) (λ a h. word_at (call_is _ _ _) (greatest_word _ _ h))
 
 pub expr_holds : (d : ℕ) → Holds (Expression d) is_word_expr
 expr_holds zero = disjunction_holds atom_holds

@@ -26,12 +26,7 @@ taken_told known x taken e = told _ _ e (refl, λ free. not_both _ (free_complet
 bindings_told : (names : List (List ℕ)) (items : List Entry) (x : Name) {fault : QueryFault}
     → nat_lt (length (streams_in items) + length (finals_in items)) MAX_BINDINGS ≡ false → at_span (OverLimit Bindings) x.span ≡ fault
     → Tells (known_in names items) fault.kind fault.span (Fewer Bindings (length (streams_in items) + length (finals_in items)) x.span)
-bindings_told names items x full e =
-    told _ _ e (
-      refl,
-      refl,
-      at_least refl full,
-    )
+bindings_told _ _ x full e = told _ _ e (refl, refl, at_least refl full)
 
 begun_told : (names : List (List ℕ)) (items : List Entry) (x : Name) {fault : QueryFault} {Asks : Demand → Type 0}
     → begun (earlier_of names items) x ≡ Err fault
@@ -50,8 +45,7 @@ ItemTold given names items i fault = Broken (ItemAsks (five_fields given.fields)
 
 item_told : (given : Given) {names : List (List ℕ)} {items : List Entry} (i : Item) {fault : QueryFault}
     → item_checked given (earlier_of names items) i ≡ Err fault → ItemTold given names items i fault
-item_told given {names} {items} (item.Fold d) e =
-    by_must_not _ e (λ taken at. record {
+item_told _ {names} {items} (item.Fold d) e = by_must_not _ e (λ taken at. record {
       demand = Free d.name;
       asks = of_fold_name;
       tells = taken_told _ _ taken at;
@@ -63,7 +57,7 @@ item_told given {names} {items} (item.Stream d) {fault} e = by_next (begun (earl
 item_told given {names} {items} (item.Final d) {fault} e = by_next (begun (earlier_of names items) d.name) e
     (λ is. begun_told names items d.name is of_final_name of_one_final) (λ u p e. by_next (made_final given (earlier_of names items) d.op) e
     (λ is. broken_in (λ q asked. of_final asked) (final_op_told given (earlier_of names items) d.op fault is)) (λ made q e. no_fault e))
-item_told given {names} {items} (item.Print x) e = by_next (table_named (known_in names items) x) e (λ is. record {
+item_told _ {names} {items} (item.Print x) e = by_next (table_named (known_in names items) x) e (λ is. record {
   demand = Stands ATable x;
   asks = of_print;
   tells = table_told (known_in names items) x is;
@@ -80,7 +74,7 @@ pub all_met : (given : Given) {names : List (List ℕ)} {items : List Entry} {i 
 all_met given {names} {items} {i} met = go (item_checked given (earlier_of names items) i) refl
   where
     go : (c : Checked Earlier) → item_checked given (earlier_of names items) i ≡ c → (one : Entry) × HasItem given names items i one
-    go (Ok more) is = let one = item_sound given names i is in (one.0, one.1)
+    go (Ok _) is = let one = item_sound given names i is in (one.0, one.1)
     go (Err fault) is =
         let b = item_told given i is in
         absurd (unmet (known_in names items) fault.kind fault.span b.demand b.tells (met b.demand b.asks))
@@ -100,7 +94,7 @@ record AtItem (given : Given) (names : List (List ℕ)) (before : List Entry) (l
 
 at_item : (given : Given) (names : List (List ℕ)) (before : List Entry) (list : List Item) (fault : QueryFault)
     → items_checked given (earlier_of names before) list ≡ Err fault → AtItem given names before list fault
-at_item given names before [] fault e = no_fault e
+at_item _ _ _ [] _ e = no_fault e
 at_item given names before (i ∷ list) fault e = by_next (item_checked given (earlier_of names before) i) e (λ is. record {
   front = [];
   one = i;
@@ -112,12 +106,12 @@ at_item given names before (i ∷ list) fault e = by_next (item_checked given (e
   told = item_told given i is;
 }) (λ more p e.
     let one = item_sound given names i p in
-    let others = at_item given names (one.0 ∷ before) list fault (ap (λ (z : Earlier). items_checked given z list) (sym one.2) ∙ e) in
+    let others = at_item given names (one.0 ∷ before) list fault (ap (λ z. items_checked given z list) (sym one.2) ∙ e) in
     record {
       front = i ∷ others.front;
       one = others.one;
       rest = others.rest;
-      split = ap (λ (z : List Item). i ∷ z) others.split;
+      split = ap (λ z. i ∷ z) others.split;
       items = others.items;
       typed = of_more before i one.0 others.front others.items one.1 others.typed;
       untyped = others.untyped;
@@ -133,7 +127,7 @@ some_more n e = grind arith
 
 empty : {A : Type 0} (xs : List A) → nat_lt 0 (length xs) ≡ false → xs ≡ []
 empty [] e = refl
-empty (x ∷ xs) e = absurd (some_more _ e)
+empty (x ∷ _) e = absurd (some_more _ e)
 
 fault_told : {q : Query} {fault : QueryFault} → checked q ≡ Err fault → IsTold q fault
 fault_told {q} {fault} e =
@@ -157,11 +151,7 @@ fault_told {q} {fault} e =
     let all = items_sound _ _ p in
     by_must _ _ e (λ none at. inr (
       at,
-      record {
-        all = all.0;
-        typed = all.1;
-        none = empty _ (ap (λ (z : Earlier). nat_lt 0 (length z.prints)) (sym all.2) ∙ none);
-      },
+      record { all = all.0; typed = all.1; none = empty _ (ap (λ (z : Earlier). nat_lt 0 (length z.prints)) (sym all.2) ∙ none) },
     )) (λ some e. no_fault e))
 
 -- a fault of another kind than *NothingPrinted* is at an item
@@ -181,18 +171,18 @@ at_end {q} {at} e = go (fault_told e)
     go (inr h) = (sym (ap (λ (f : QueryFault). f.span) h.0), h.1)
 
 of_typing : (known : List Known) (kind : FaultKind) (at : Span) (d : Demand) → Tells known kind at d → IsOfTyping kind
-of_typing known kinds.UnknownName at d t = tt
-of_typing known kinds.StateOnLine at d t = tt
-of_typing known kinds.NameTaken at d t = tt
-of_typing known kinds.WrongKind at d t = tt
-of_typing known kinds.WrongArity at d t = tt
-of_typing known kinds.BadConstant at d t = tt
-of_typing known (kinds.OverLimit limit) at d t = tt
-of_typing known _ at d t = absurd t
+of_typing _ kinds.UnknownName _ d t = tt
+of_typing _ kinds.StateOnLine _ d t = tt
+of_typing _ kinds.NameTaken _ d t = tt
+of_typing _ kinds.WrongKind _ d t = tt
+of_typing _ kinds.WrongArity _ d t = tt
+of_typing _ kinds.BadConstant _ d t = tt
+of_typing _ (kinds.OverLimit _) _ d t = tt
+of_typing _ _ _ d t = absurd t
 
 pub only_these : (q : Query) {fault : QueryFault} → checked q ≡ Err fault → IsOfTyping fault.kind
 only_these q {fault} e = go (fault_told e)
   where
     go : IsTold q fault → IsOfTyping fault.kind
     go (inl b) = of_typing _ _ _ _ b.says
-    go (inr h) = let K : QueryFault → Type 0 = λ f. IsOfTyping f.kind in subst K h.0 tt
+    go (inr h) = subst (λ (f : QueryFault). IsOfTyping f.kind) h.0 tt

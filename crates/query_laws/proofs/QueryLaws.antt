@@ -23,8 +23,7 @@ binding_sound {names} {items} {name} e =
 
 binding_complete : {names : List (List ℕ)} {items : List Entry} {name : Name} → IsBinding names items name
     → begun (earlier_of names items) name ≡ Ok tt
-binding_complete {names} {items} {name} h = must_not_holds _ _ (free_complete _ _ h.free)
-    ∙ must_holds _ _ (below h.few)
+binding_complete {names} {items} {name} h = must_not_holds _ _ (free_complete _ _ h.free) ∙ must_holds _ _ (below h.few)
 
 -- what an item adds to the tables is what its typed form adds
 abbrev Adds : Given → List (List ℕ) → List Entry → Item → Earlier → Type 0
@@ -32,7 +31,7 @@ Adds given names items i more = (one : Entry) × HasItem given names items i one
 
 fold_item : (given : Given) {names : List (List ℕ)} {items : List Entry} {d : FoldDef} {more : Earlier}
     → fold_added (earlier_of names items) d ≡ Ok more → Adds given names items (item.Fold d) more
-fold_item given {names} {items} {d} {more} e =
+fold_item _ {names} {items} {d} {more} e =
     let free = must_not_ok _ _ _ e in
     let f = found_first _ _ _ free.1 in (
       AFold f.0,
@@ -72,40 +71,35 @@ final_item {given} {names} {items} {d} {more} e =
 
 print_item : (given : Given) {names : List (List ℕ)} {items : List Entry} {name : Name} {more : Earlier}
     → print_checked (earlier_of names items) name ≡ Ok more → Adds given names items (item.Print name) more
-print_item given {names} {items} {name} {more} e =
+print_item _ {names} {items} {name} {more} e =
     let table = found_first _ _ _ e in
     let once = must_not_ok _ _ _ table.2 in (
       APrint name table.0.place,
-      record {
-        table = table.0;
-        stands = table_sound _ _ table.1;
-        once = among_new _ _ once.0;
-        is = refl;
-      },
+      record { table = table.0; stands = table_sound _ _ table.1; once = among_new _ _ once.0; is = refl },
       sym (same_ok _ _ once.1),
     )
 
 pub item_sound : (given : Given) (names : List (List ℕ)) {items : List Entry} (i : Item) {more : Earlier}
     → item_checked given (earlier_of names items) i ≡ Ok more → Adds given names items i more
-item_sound given names (item.Fold d) e = fold_item given e
-item_sound given names (item.Stream d) e = stream_item given e
-item_sound given names (item.Final d) e = final_item e
-item_sound given names (item.Print name) e = print_item given e
+item_sound given _ (item.Fold d) e = fold_item given e
+item_sound given _ (item.Stream d) e = stream_item given e
+item_sound _ _ (item.Final d) e = final_item e
+item_sound given _ (item.Print _) e = print_item given e
 
 grown : (names : List (List ℕ)) (items : List Entry) {one other : Entry} → other ≡ one
     → (let r : Checked Earlier = Ok (earlier_of names (one ∷ items)) in r) ≡ Ok (earlier_of names (other ∷ items))
-grown names items e = ok (ap (λ (z : Entry). earlier_of names (z ∷ items)) (sym e))
+grown names items e = ok (ap (λ z. earlier_of names (z ∷ items)) (sym e))
 
 pub item_complete : (given : Given) (names : List (List ℕ)) (items : List Entry) (i : Item) (one : Entry) → HasItem given names items i one
     → item_checked given (earlier_of names items) i ≡ Ok (earlier_of names (one ∷ items))
-item_complete given names items (item.Fold d) one h =
+item_complete _ names items (item.Fold d) _ h =
     must_not_holds _ _ (free_complete (known_in names items) d.name.id h.free) ∙ then_next _ (fold_complete h.typed)
     ∙ grown names items h.is
-item_complete given names items (item.Stream d) one h = then_next _ (binding_complete h.binding)
+item_complete given names items (item.Stream d) _ h = then_next _ (binding_complete h.binding)
     ∙ then_next _ (made_stream_complete (five_fields given.fields) (earlier_of names items) d.name d.op h.typed) ∙ grown names items h.is
-item_complete given names items (item.Final d) one h = then_next _ (binding_complete h.binding)
+item_complete given names items (item.Final d) _ h = then_next _ (binding_complete h.binding)
     ∙ then_next _ (made_final_complete given (earlier_of names items) d.op h.typed) ∙ grown names items h.is
-item_complete given names items (item.Print name) one h = then_next _ (table_complete (known_in names items) name h.stands)
+item_complete _ names items (item.Print name) _ h = then_next _ (table_complete (known_in names items) name h.stands)
     ∙ must_not_holds _ _ (new_among name.id (printed_in items) h.once) ∙ grown names items h.is
 
 pub items_sound : {given : Given} {names : List (List ℕ)} (before : List Entry) (list : List Item) {more : Earlier}
@@ -115,14 +109,14 @@ items_sound before [] {more} e = (before, of_none _, sym (same_ok _ _ e))
 items_sound {given} {names} before (i ∷ rest) {more} e =
     let first = found_first (item_checked given (earlier_of names before) i) _ more e in
     let one = item_sound given names i first.1 in
-    let others = items_sound {given = given} {names = names} (one.0 ∷ before) rest {more = more} (ap (λ (z : Earlier). items_checked given z rest) (sym one.2)
+    let others = items_sound {given = given} {names = names} (one.0 ∷ before) rest {more = more} (ap (λ z. items_checked given z rest) (sym one.2)
     ∙ first.2) in
     (others.0, of_more before i one.0 rest others.0 one.1 others.1, others.2)
 
 pub items_complete : {given : Given} {names : List (List ℕ)} {before : List Entry} {list : List Item} {all : List Entry}
     → HasItems given names before list all → items_checked given (earlier_of names before) list ≡ Ok (earlier_of names all)
-items_complete (of_none before) = refl
-items_complete {given} {names} (of_more before i one rest all h more) = then_next _ (item_complete given names before i one h)
+items_complete (of_none _) = refl
+items_complete {given} {names} (of_more before i one _ _ h more) = then_next _ (item_complete given names before i one h)
     ∙ items_complete more
 
 pub query_sound : (q : Query) (t : TypedQuery) → checked q ≡ Ok t → IsTyped q t

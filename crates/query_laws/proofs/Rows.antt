@@ -18,11 +18,11 @@ use Rattle.query_laws.proofs.Values.{of_map, of_zip, of_group}
 
 one_more : (folds : List TypedFold) (number : ℕ) (V : Values) (views : List View) (lists : List (List Tuple)) → AllHave number V views lists
     → (op : TypedOp) (view : View) → Makes views number op view → OneMore number views lists view (made_of folds lists op)
-one_more folds number V views lists h (typed.Filter input condition) view m = of_filter folds number V views lists h _ _ m
-one_more folds number V views lists h (typed.Map input values) view m = of_map folds number V views lists h m
-one_more folds number V views lists h (typed.Zip left right slots) view m = of_zip folds number V views lists h m
+one_more folds number V views lists h (typed.Filter _ _) _ m = of_filter folds number V views lists h _ _ m
+one_more folds number V views lists h (typed.Map _ _) _ m = of_map folds number V views lists h m
+one_more folds number V views lists h (typed.Zip _ _ _) _ m = of_zip folds number V views lists h m
     (subst (AreBelow (length m.second)) (sym m.picked) (others_below (column_names m.first) m.second))
-one_more folds number V views lists h (typed.Group input keys f args) view m = of_group folds number V views lists h f _ m
+one_more folds number V views lists h (typed.Group _ _ f _) _ m = of_group folds number V views lists h f _ m
 
 -- the streams that follow others
 abbrev followed : List TypedFold → List (List Tuple) → List TypedStream → List (List Tuple)
@@ -31,9 +31,9 @@ followed folds lists streams = fold (λ lists one. lists ++ made_of folds lists 
 all_have : (folds : List TypedFold) (streams : List TypedStream) (before views : List View) (lists : List (List Tuple)) (V : Values)
     → AllHave (length before) V before lists → AreMade before streams views
     → (W : Values) × AllHave (length (before ++ views)) W (before ++ views) (followed folds lists streams)
-all_have folds [] before [] lists V h m = (V, subst (λ l. AllHave (length l) V l lists) (sym (append-nil before)) h)
-all_have folds [] before (view ∷ views) lists V h m = absurd m
-all_have folds (one ∷ streams) before [] lists V h m = absurd m
+all_have _ [] before [] lists V h m = (V, subst (λ l. AllHave (length l) V l lists) (sym (append-nil before)) h)
+all_have _ [] _ (_ ∷ _) _ V h m = absurd m
+all_have _ (_ ∷ _) _ [] _ V h m = absurd m
 all_have folds (one ∷ streams) before (view ∷ views) lists V h m =
     let next = one_more folds (length before) V before lists h one.op view m.0 in
     let made : List (List Tuple) = lists ++ made_of folds lists one.op ∷ [] in
@@ -50,22 +50,22 @@ words_of packets packet = unwrap_or (slice_get packets (packet - 1)) []
 
 abbrev field_values : List ℕ → List (List ℕ) → Values
 field_values ids packets packet origin.Field id = look ids (words_of packets packet) id
-field_values ids packets packet (origin.Map m) id = 0
+field_values _ _ _ (origin.Map m) _ = 0
 
 fields_row : (V : Values) (packet : ℕ) (ids : List ℕ)
     → row_of V packet (map (λ id. let column : StreamColumn = record { name = id; origin = origin.Field } in column) ids)
     ≡ map (λ id. V packet origin.Field id) ids
-fields_row V packet [] = refl
+fields_row V _ [] = refl
 fields_row V packet (id ∷ ids) = ap (λ l. V packet origin.Field id ∷ l) (fields_row V packet ids)
 
 fields_earlier : (number : ℕ) (ids : List ℕ)
     → AreEarlier number (map (λ id. let column : StreamColumn = record { name = id; origin = origin.Field } in column) ids)
-fields_earlier number [] = tt
-fields_earlier number (id ∷ ids) = (tt, fields_earlier number ids)
+fields_earlier _ [] = tt
+fields_earlier number (_ ∷ ids) = (tt, fields_earlier number ids)
 
 numbered_have : (V : Values) (view : View) (n : ℕ) (packets : List (List ℕ))
     → ((k : ℕ) (words : List ℕ) → slice_get packets k ≡ Some words → words ≡ row_of V (n + k) view) → HaveValues V view (numbered n packets)
-numbered_have V view n [] are = tt
+numbered_have V _ n [] _ = tt
 numbered_have V view n (words ∷ packets) are = (
   are 0 words refl ∙ ap (λ m. row_of V m view) (let same : n + 0 ≡ n = omega arith in same),
   numbered_have V view (suc n) packets
@@ -119,37 +119,37 @@ field_names (id ∷ ids) = ap (λ l. id ∷ l) (field_names _)
 -- the names of a stream's columns
 pub names_are : (q : TypedQuery) (views : List View) → AreMade (field_view q.names ∷ []) q.streams views
     → (number : ℕ) {view : View} → slice_get (field_view q.names ∷ views) number ≡ Some view → columns_of q number ≡ column_names view
-names_are q views made zero {view} e = field_names _ ∙ ap column_names (same_Some (field_view q.names) view e)
-names_are q views made (suc i) e = ap (λ o. unwrap_or o []) (columns_made _ _ _ made i e)
+names_are q _ _ zero {view} e = field_names _ ∙ ap column_names (same_Some (field_view q.names) view e)
+names_are q _ made (suc i) e = ap (λ o. unwrap_or o []) (columns_made _ _ _ made i e)
 
 -- a tuple of a stream has these values
 pub row_in : (V : Values) (view : View) (tuples : List Tuple) {t : Tuple} → HaveValues V view tuples → Contains tuples t
     → t.row ≡ row_of V t.packet view
-row_in V view [] h c = absurd (omega (arith, c.1))
+row_in V _ [] h c = absurd (omega (arith, c.1))
 row_in V view (u ∷ tuples) {t} h c = go c.0 c.1 c.2 (λ k lt e. row_in V view tuples h.1 (k, lt, e))
   where
     go : (k : ℕ) → k < length (u ∷ tuples) → slice_index_or (u ∷ tuples) k t ≡ t
         → ((j : ℕ) → j < length tuples → slice_index_or tuples j t ≡ t → t.row ≡ row_of V t.packet view) → t.row ≡ row_of V t.packet view
-    go zero lt e more = subst (λ z. z.row ≡ row_of V z.packet view) e h.0
+    go zero _ e _ = subst (λ z. z.row ≡ row_of V z.packet view) e h.0
     go (suc k) lt e more = more k (omega (arith, lt)) e
 
 -- ---- how long rows are
 
 all_long : (V : Values) (view : View) {n : ℕ} (tuples : List Tuple) → n ≡ length view → HaveValues V view tuples
     → All (λ t. length t.row ≡ n) tuples
-all_long V view [] e h = λ k d lt. absurd (omega (arith, lt))
+all_long V _ [] e h = λ k d lt. absurd (omega (arith, lt))
 all_long V view {n} (t ∷ tuples) e h = go (all_long V view tuples e h.1)
   where
     go : All (λ t. length t.row ≡ n) tuples → All (λ t. length t.row ≡ n) (t ∷ tuples)
-    go more zero d lt = ap length h.0 ∙ length-map view (λ column. V t.packet column.origin column.name) ∙ sym e
+    go _ zero d _ = ap length h.0 ∙ length-map view (λ column. V t.packet column.origin column.name) ∙ sym e
     go more (suc k) d lt = more k d (omega (arith, lt))
 
 none_past : (number : ℕ) (V : Values) (views : List View) (lists : List (List Tuple)) (i : ℕ) → AllHave number V views lists
     → slice_get views i ≡ None → tuples_at lists i ≡ []
-none_past number V [] [] i h e = refl
-none_past number V [] (l ∷ lists) i h e = absurd h
-none_past number V (v ∷ views) [] i h e = absurd h
-none_past number V (v ∷ views) (l ∷ lists) zero h e = cc e
+none_past _ V [] [] i h e = refl
+none_past _ V [] (l ∷ _) i h e = absurd h
+none_past _ V (v ∷ _) [] i h e = absurd h
+none_past _ V (v ∷ _) (l ∷ _) zero h e = cc e
 none_past number V (v ∷ views) (l ∷ lists) (suc i) h e = none_past number V views lists i h.1 e
 
 pub rows_fill : {q : TypedQuery} {packets : List (List ℕ)} → HasRows q packets → (number : ℕ)

@@ -15,17 +15,17 @@ operations streams = flat_map (λ (one : StreamDepths). one.operations) streams
 
 -- the depths of the streams after these
 abbrev beyond : List TypedFold → List StreamDepths → List TypedStream → List StreamDepths
-beyond folds depths [] = []
+beyond _ _ [] = []
 beyond folds depths (one ∷ list) = depths_made folds depths one.op ∷ beyond folds (depths ++ depths_made folds depths one.op ∷ []) list
 
 -- ---- lists
 
 all_front : (xs ys : List ℕ) → All Fits (xs ++ ys) → All Fits xs
-all_front [] ys h = All-nil Fits
+all_front [] _ h = All-nil Fits
 all_front (x ∷ xs) ys h = All-cons Fits x xs (All-head Fits x (xs ++ ys) h) (all_front xs ys (All-tail Fits x (xs ++ ys) h))
 
 all_back : (xs ys : List ℕ) → All Fits (xs ++ ys) → All Fits ys
-all_back [] ys h = h
+all_back [] _ h = h
 all_back (x ∷ xs) ys h = all_back xs ys (All-tail Fits x (xs ++ ys) h)
 
 not_deep : {depth : ℕ} → nat_lt MAX_STAGES depth ≡ false → depth ≤ MAX_STAGES
@@ -40,19 +40,19 @@ shallow_fits (depth ∷ depths) e = go (nat_lt MAX_STAGES depth) refl (λ k. sha
   where
     go : (b : Bool) → nat_lt MAX_STAGES depth ≡ b → (is_too_deep depths ≡ false → All Fits depths) → (b || is_too_deep depths) ≡ false
         → All Fits (depth ∷ depths)
-    go true is more e = cc e
+    go true _ _ e = cc e
     go false is more e = All-cons Fits depth depths (not_deep is) (more e)
 
 fits_shallow : (depths : List ℕ) → All Fits depths → is_too_deep depths ≡ false
 fits_shallow [] h = refl
-fits_shallow (depth ∷ depths) h = ap (λ (b : Bool). b || is_too_deep depths) (is_fit (All-head Fits depth depths h))
+fits_shallow (depth ∷ depths) h = ap (λ b. b || is_too_deep depths) (is_fit (All-head Fits depth depths h))
     ∙ fits_shallow depths (All-tail Fits depth depths h)
 
 -- ---- streams
 
 all_after : (folds : List TypedFold) (depths : List StreamDepths) (list : List TypedStream)
     → fold (λ streams one. streams ++ depths_made folds streams one.op ∷ []) depths list ≡ depths ++ beyond folds depths list
-all_after folds depths [] = sym (append-nil depths)
+all_after _ depths [] = sym (append-nil depths)
 all_after folds depths (one ∷ list) = all_after folds (depths ++ depths_made folds depths one.op ∷ []) list
     ∙ append_assoc depths (depths_made folds depths one.op ∷ []) (beyond folds (depths ++ depths_made folds depths one.op ∷ []) list)
 
@@ -64,7 +64,7 @@ some_deep e = cc e
 
 none_deep : (folds : List TypedFold) (depths : List StreamDepths) (list : List TypedStream)
     → first_too_deep list (beyond folds depths list) ≡ None → All Fits (operations (beyond folds depths list))
-none_deep folds depths [] e = All-nil Fits
+none_deep _ _ [] e = All-nil Fits
 none_deep folds depths (one ∷ list) e = go (is_too_deep made.operations) refl (λ k. none_deep folds (depths ++ made ∷ []) list k) e
   where
     made : StreamDepths
@@ -76,27 +76,23 @@ none_deep folds depths (one ∷ list) e = go (is_too_deep made.operations) refl 
     go : (b : Bool) → is_too_deep made.operations ≡ b → (first_too_deep list rest ≡ None → All Fits (operations rest))
         → cond b (Some (record { kind = OverLimit Stages; span = one.name.span })) (first_too_deep list rest) ≡ None
         → All Fits (made.operations ++ operations rest)
-    go true is more e = some_deep e
+    go true _ _ e = some_deep e
     go false is more e = All-append Fits made.operations (operations rest) (shallow_fits made.operations is) (more e)
 
 all_fit : (folds : List TypedFold) (depths : List StreamDepths) (list : List TypedStream) → All Fits (operations (beyond folds depths list))
     → first_too_deep list (beyond folds depths list) ≡ None
-all_fit folds depths [] h = refl
+all_fit _ _ [] h = refl
 all_fit folds depths (one ∷ list) h =
     let made : StreamDepths = depths_made folds depths one.op in
     let rest : List StreamDepths = beyond folds (depths ++ made ∷ []) list in
-    ap (λ (b : Bool). cond b (Some (record { kind = OverLimit Stages; span = one.name.span })) (first_too_deep list rest))
+    ap (λ b. cond b (Some (record { kind = OverLimit Stages; span = one.name.span })) (first_too_deep list rest))
     (fits_shallow made.operations (all_front made.operations (operations rest) h))
     ∙ all_fit folds (depths ++ made ∷ []) list (all_back made.operations (operations rest) h)
 
 pub fits_stages : (q : TypedQuery) → stage_fault q ≡ None → FitsStages q
-fits_stages q e =
-    let F : List StreamDepths → Type 0 = λ z. All Fits (operations z) in
-    subst F (sym (depths_are q)) (none_deep q.folds (packet_depths ∷ []) q.streams
-    (sym (ap (λ (z : List StreamDepths). first_too_deep q.streams (drop 1 z)) (depths_are q)) ∙ e))
+fits_stages q e = subst (λ z. All Fits (operations z)) (sym (depths_are q)) (none_deep q.folds (packet_depths ∷ []) q.streams
+    (sym (ap (λ z. first_too_deep q.streams (drop 1 z)) (depths_are q)) ∙ e))
 
 pub no_stage_fault : (q : TypedQuery) → FitsStages q → stage_fault q ≡ None
-no_stage_fault q h =
-    let F : List StreamDepths → Type 0 = λ z. All Fits (operations z) in
-    ap (λ (z : List StreamDepths). first_too_deep q.streams (drop 1 z)) (depths_are q)
-    ∙ all_fit q.folds (packet_depths ∷ []) q.streams (subst F (depths_are q) h)
+no_stage_fault q h = ap (λ z. first_too_deep q.streams (drop 1 z)) (depths_are q)
+    ∙ all_fit q.folds (packet_depths ∷ []) q.streams (subst (λ z. All Fits (operations z)) (depths_are q) h)

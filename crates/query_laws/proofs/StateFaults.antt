@@ -21,44 +21,44 @@ abbrev With : List ℕ → Type 0
 With states = (e : Expr) × HasState states e
 
 abbrev exprs : (states : List ℕ) → List (With states) → List Expr
-exprs states es = map (λ a. a.0) es
+exprs _ es = map (λ a. a.0) es
 
 same_span : {a b : Span} → (let o : Option Span = Some a in o) ≡ Some b → a ≡ b
 same_span e = cc e
 
 pub either_state : {P : Type 0} (a : Option Span) {b : Option Span} {span : Span} → or_else a b ≡ Some span → (a ≡ Some span → P) → (b ≡ Some span → P) → P
-either_state None e one other = other e
-either_state (Some x) e one other = one e
+either_state None e _ other = other e
+either_state (Some x) e one _ = one e
 
 some_argument : (states : List ℕ) (es : List (With states)) {span : Span} → first_of (map (state_in states) (exprs states es)) ≡ Some span
     → (a : Expr) × IsOneOf a (exprs states es) × State states a span
-some_argument states [] e = cc e
+some_argument _ [] e = cc e
 some_argument states (a ∷ es) {span} e = either_state (state_in states a.0) e (λ is. (a.0, parts.first, a.1 span is))
     (λ is. let m = some_argument states es is in (m.0, parts.later a.0 (exprs states es) m.1, m.2))
 
 state_moved : (states : List ℕ) {e f : Expr} {span : Span} → f ≡ e → State states e span → State states f span
-state_moved states {span} is h = let E : Expr → Type 0 = λ z. State states z span in subst E (sym is) h
+state_moved states {span} is h = subst (λ z. State states z span) (sym is) h
 
 named_state : (states : List ℕ) {x : Name} {span : Span} (b : Bool) → is_among x.id states ≡ b → cond b (Some x.span) None ≡ Some span
     → State states (whole.Named x) span
-named_state states {x} true is e = (x, λ k. (k, parts.whole), same_span e, is)
-named_state states false is e = cc e
+named_state _ {x} true is e = (x, λ k. (k, parts.whole), same_span e, is)
+named_state _ false _ e = cc e
 
 state_of : (states : List ℕ) (y : expr.Expr-F (With states)) {span : Span}
     → state_step states (map-Expr Expr (Option Span) (state_in states) (map-Expr (With states) Expr (λ a. a.0) y)) ≡ Some span
     → State states (roll-Expr (map-Expr (With states) Expr (λ a. a.0) y)) span
-state_of states (expr.Number n at) e = cc e
-state_of states (expr.Named x) e = state_moved _ (rolls-Named x) (named_state _ _ refl e)
-state_of states (expr.Not at a) {span} e =
+state_of _ (expr.Number n _) e = cc e
+state_of _ (expr.Named x) e = state_moved _ (rolls-Named x) (named_state _ _ refl e)
+state_of _ (expr.Not at a) {span} e =
     let m = a.1 span e in
     state_moved _ (rolls-Not at a.0) (m.0, λ k. let p = m.1 Condition in (p.0, parts.of_not _ p.1), m.2, m.3)
-state_of states (expr.Binary op at a b) {span} e = state_moved _ (rolls-Binary op at a.0 b.0) (
+state_of _ (expr.Binary op at a b) {span} e = state_moved _ (rolls-Binary op at a.0 b.0) (
     either_state _ e (λ is.
     let m = a.1 span is in
     (m.0, λ k. let p = m.1 (operand_kind op) in (p.0, parts.of_left _ _ _ _ p.1), m.2, m.3)) (λ is.
     let m = b.1 span is in
     (m.0, λ k. let p = m.1 (operand_kind op) in (p.0, parts.of_right _ _ _ p.1), m.2, m.3)))
-state_of states (expr.Call op at args) e =
+state_of _ (expr.Call op at args) e =
     let c = some_argument _ _ e in
     let m = c.2 in
     state_moved _ (rolls-Call op at (exprs _ args)) (
@@ -70,9 +70,7 @@ state_of states (expr.Call op at args) e =
 
 pub has_state : (states : List ℕ) (e : Expr) → HasState states e
 has_state states = ind-Expr (HasState states) (λ x y is span e.
-    let L : expr.Expr-F Expr → Type 0 = λ z. state_step states (map-Expr Expr (Option Span) (state_in states) z) ≡ Some span
-    → State states (roll-Expr z) span in
-    subst L is (state_of _ y) (sym (fold-roll-Expr (Option Span) (state_step states) x) ∙ e))
+    subst (λ z. state_step states (map-Expr Expr (Option Span) (state_in states) z) ≡ Some span → State states (roll-Expr z) span) is (state_of _ y) (sym (fold-roll-Expr (Option Span) (state_step states) x) ∙ e))
 
 -- what the check knows of the conditions around
 abbrev pub Knows : List ℕ → List Expr → Enclosing → Type 0
@@ -80,5 +78,5 @@ Knows states around outer = (span : Span) → outer.state ≡ Some span → (c :
 
 pub knows_inside : (states : List ℕ) {around : List Expr} (outer : Enclosing) {c : Expr} (t : TypedExpr) → Knows states around outer
     → Knows states (c ∷ around) (inside states outer c t)
-knows_inside states {around} outer {c} t knows span e = either_state _ e
+knows_inside _ {around} _ {c} t knows span e = either_state _ e
     (λ is. let k = knows span is in (k.0, parts.later c around k.1, k.2)) (λ is. (c, parts.first, is))

@@ -5,32 +5,32 @@ use Rattle.query_laws.proofs.Terms.{FaultKind, Span, Checked, and_then, must, mu
 
 pub must_ok : {A : Type 0} (test : Bool) (kind : FaultKind) (span : Span) {next : Checked A} {x : A} → must test kind span next ≡ Ok x
     → (test ≡ true) × (next ≡ Ok x)
-must_ok true kind span e = (refl, e)
-must_ok false kind span e = cc e
+must_ok true _ _ e = (refl, e)
+must_ok false _ _ e = cc e
 
 pub must_not_ok : {A : Type 0} (test : Bool) (kind : FaultKind) (span : Span) {next : Checked A} {x : A}
     → must_not test kind span next ≡ Ok x → (test ≡ false) × (next ≡ Ok x)
-must_not_ok true kind span e = cc e
-must_not_ok false kind span e = (refl, e)
+must_not_ok true _ _ e = cc e
+must_not_ok false _ _ e = (refl, e)
 
 pub must_holds : {A : Type 0} {test : Bool} (kind : FaultKind) (span : Span) {next : Checked A} → test ≡ true
     → must test kind span next ≡ next
-must_holds kind span {next} e = ap (λ (b : Bool). must b kind span next) e
+must_holds kind span {next} e = ap (λ b. must b kind span next) e
 
 pub must_not_holds : {A : Type 0} {test : Bool} (kind : FaultKind) (span : Span) {next : Checked A} → test ≡ false
     → must_not test kind span next ≡ next
-must_not_holds kind span {next} e = ap (λ (b : Bool). must_not b kind span next) e
+must_not_holds kind span {next} e = ap (λ b. must_not b kind span next) e
 
 pub same_ok : {A : Type 0} (x y : A) → (let whole : Checked A = Ok x in whole) ≡ Ok y → x ≡ y
 same_ok x y e = cc e
 
 pub found_first : {A B : Type 0} (first : Checked A) (next : A → Checked B) (y : B) → and_then first next ≡ Ok y → (x : A) × (first ≡ Ok x)
     × (next x ≡ Ok y)
-found_first (Ok x) next y e = (x, refl, e)
-found_first (Err fault) next y e = cc e
+found_first (Ok x) _ y e = (x, refl, e)
+found_first (Err _) _ y e = cc e
 
 pub then_next : {A B : Type 0} {first : Checked A} (next : A → Checked B) {x : A} → first ≡ Ok x → and_then first next ≡ next x
-then_next next e = ap (λ (c : Checked _). and_then c next) e
+then_next next e = ap (λ c. and_then c next) e
 
 pub nat_same : {a b : ℕ} → nat_eq a b ≡ true → a ≡ b
 nat_same e = grind arith
@@ -46,32 +46,31 @@ nat_is_not {a} {b} e = go (nat_eq a b) refl
   where
     go : (c : Bool) → nat_eq a b ≡ c → c ≡ false
     go true is = absurd (e (nat_same is))
-    go false is = refl
+    go false _ = refl
 
 -- a place that is found from a start on is that much further
 stands_from : (names : List ℕ) (at id : ℕ) {v : ℕ} → place_from at names id ≡ Some v → (k : ℕ) × (v ≡ at + k) × StandsAt names k id
-stands_from [] at id e = cc e
+stands_from [] _ _ e = cc e
 stands_from (name ∷ rest) at id {v} e = go (nat_eq name id) refl (λ k. stands_from rest (at + 1) id k) e
   where
     go : (b : Bool) → nat_eq name id ≡ b → (place_from (at + 1) rest id ≡ Some v → (k : ℕ) × (v ≡ (at + 1) + k) × StandsAt rest k id)
         → cond b (Some at) (place_from (at + 1) rest id) ≡ Some v → (k : ℕ) × (v ≡ at + k) × StandsAt (name ∷ rest) k id
-    go true is more e = let same : at ≡ v = cc in (0, omega (arith, same), nat_same is)
+    go true is _ e = let same : at ≡ v = cc in (0, omega (arith, same), nat_same is)
     go false is more e = let m = more e in (suc m.0, omega (arith, m.1), (nat_other is, m.2))
 
 found_from : (names : List ℕ) (at id k : ℕ) → StandsAt names k id → place_from at names id ≡ Some (at + k)
-found_from [] at id k e = absurd e
-found_from (name ∷ rest) at id zero e =
-    ap (λ (b : Bool). cond b (Some at) (place_from (at + 1) rest id)) (nat_is e) ∙ ap Some (let s : at ≡ at + 0 = omega arith in s)
-found_from (name ∷ rest) at id (suc k) e =
-    ap (λ (b : Bool). cond b (Some at) (place_from (at + 1) rest id)) (nat_is_not e.0) ∙ found_from rest (at + 1) id k e.1
+found_from [] _ _ k e = absurd e
+found_from (_ ∷ rest) at id zero e =
+    ap (λ b. cond b (Some at) (place_from (at + 1) rest id)) (nat_is e) ∙ ap Some (let s : at ≡ at + 0 = omega arith in s)
+found_from (_ ∷ rest) at id (suc k) e =
+    ap (λ b. cond b (Some at) (place_from (at + 1) rest id)) (nat_is_not e.0) ∙ found_from rest (at + 1) id k e.1
     ∙ ap Some (let s : (at + 1) + k ≡ at + suc k = omega arith in s)
 
 pub place_stands : (names : List ℕ) (id v : ℕ) → place_of names id ≡ Some v → StandsAt names v id
 place_stands names id v e =
     let m = stands_from _ 0 _ e in
     let same : m.0 ≡ v = omega (arith, m.1) in
-    let S : ℕ → Type 0 = λ k. StandsAt names k id in
-    subst S same m.2
+    subst (λ k. StandsAt names k id) same m.2
 
 pub stands_place : (names : List ℕ) (id : ℕ) {v : ℕ} → StandsAt names v id → place_of names id ≡ Some v
-stands_place names id {v} e = found_from _ 0 _ v e ∙ ap Some (let s : 0 + v ≡ v = omega arith in s)
+stands_place _ _ {v} e = found_from _ 0 _ v e ∙ ap Some (let s : 0 + v ≡ v = omega arith in s)

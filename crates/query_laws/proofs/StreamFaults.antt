@@ -28,7 +28,7 @@ StreamTold five earlier name op = (fault : QueryFault) → made_stream five earl
 
 stream_filter_told : {five : List ℕ} (earlier : Earlier) {name : Name} {input : Name} {e : Expr}
     → StreamTold five earlier name (stream.Filter input e)
-stream_filter_told earlier {input} {e} fault is = by_next _ is (λ is. record {
+stream_filter_told earlier {input} {e} _ is = by_next _ is (λ is. record {
   demand = Stands AStream input;
   asks = of_filtered;
   tells = stream_told _ _ is;
@@ -42,7 +42,7 @@ stream_filter_told earlier {input} {e} fault is = by_next _ is (λ is. record {
 
 stream_map_told : {five : List ℕ} (earlier : Earlier) {name : Name} {input : Name} {new : List Column}
     → StreamTold five earlier name (stream.Map input new)
-stream_map_told earlier {input} {new} fault is = by_next (stream_named earlier.known input) is (λ is. record {
+stream_map_told earlier {input} {new} _ is = by_next (stream_named earlier.known input) is (λ is. record {
   demand = Stands AStream input;
   asks = of_mapped;
   tells = stream_told earlier.known input is;
@@ -52,7 +52,7 @@ stream_map_told earlier {input} {new} fault is = by_next (stream_named earlier.k
 
 stream_zip_told : {five : List ℕ} (earlier : Earlier) {name : Name} {first second : Name}
     → StreamTold five earlier name (stream.Zip first second)
-stream_zip_told earlier {first} {second} fault is = by_next (stream_named earlier.known first) is (λ is. record {
+stream_zip_told earlier {first} {second} _ is = by_next (stream_named earlier.known first) is (λ is. record {
   demand = Stands AStream first;
   asks = of_first;
   tells = stream_told earlier.known first is;
@@ -86,22 +86,20 @@ stream_groupby_told {five} earlier {name} {input} {keys} {fold_name} fault is =
       tells = fold_told earlier.known fold_name is;
     }) (λ f r is. by_next (arguments_of (column_names source.columns) source.hidden picked.names f fold_name.span) is (λ is.
     let k = picked_sound five source.hidden keys q in
-    let A : List ℕ → Type 0 = λ z. arguments_of (column_names source.columns) source.hidden z f fold_name.span ≡ Err fault in
     broken_in (λ d asked. of_arguments source (stream_sound earlier.known input p) (fold_name_sound earlier.known fold_name r) asked)
-    (arguments_told (subst A (ap (λ (z : Picked). z.names) k.2) is))) (λ arguments s is. no_fault is)))))
+    (arguments_told (subst (λ z. arguments_of (column_names source.columns) source.hidden z f fold_name.span ≡ Err fault) (ap (λ (z : Picked). z.names) k.2) is))) (λ arguments s is. no_fault is)))))
 
 pub stream_op_told : {five : List ℕ} (earlier : Earlier) {name : Name} (op : StreamOp) → StreamTold five earlier name op
-stream_op_told earlier (stream.Filter input e) = stream_filter_told earlier
-stream_op_told earlier (stream.Map input new) = stream_map_told earlier
-stream_op_told earlier (stream.Zip first second) = stream_zip_told earlier
-stream_op_told earlier (stream.Group input keys fold_name) = stream_groupby_told earlier
+stream_op_told earlier (stream.Filter _ e) = stream_filter_told earlier
+stream_op_told earlier (stream.Map _ _) = stream_map_told earlier
+stream_op_told earlier (stream.Zip _ _) = stream_zip_told earlier
+stream_op_told earlier (stream.Group _ _ _) = stream_groupby_told earlier
 
 quiet_stands : (earlier : Earlier) (name : Name) {f : FoldView} → quiet_fold earlier.known name ≡ Ok f → IsFold earlier.known name.id f
 quiet_stands earlier name {f} e =
     let loud = found_first _ _ f e in
     let quiet = must_not_ok _ _ _ loud.2 in
-    let F : FoldView → Type 0 = λ z. IsFold earlier.known name.id z in
-    subst F (same_ok _ f quiet.1) (fold_name_sound _ _ loud.1)
+    subst (λ z. IsFold earlier.known name.id z) (same_ok _ f quiet.1) (fold_name_sound _ _ loud.1)
 
 kept : {rows : ℕ} → 1 ≤ rows → rows ≤ 65536 → (nat_lt 0 rows && nat_le rows 65536) ≡ true
 kept some few = both_hold (below (omega (arith, some))) (at_most few)
@@ -112,7 +110,7 @@ FinalTold given earlier op = (fault : QueryFault) → made_final given earlier o
     → Broken (FinalAsks (five_fields given.fields) earlier.known op) earlier.known fault
 
 final_filter_told : (given : Given) (earlier : Earlier) {input : Name} {e : Expr} → FinalTold given earlier (final.Filter input e)
-final_filter_told given earlier {input} {e} fault is = by_next _ is (λ is. record {
+final_filter_told _ earlier {input} {e} _ is = by_next _ is (λ is. record {
   demand = Stands ATable input;
   asks = asks.of_filtered;
   tells = table_told _ _ is;
@@ -125,7 +123,7 @@ final_filter_told given earlier {input} {e} fault is = by_next _ is (λ is. reco
     }) (λ condition q is. no_fault is))
 
 final_map_told : (given : Given) (earlier : Earlier) {input : Name} {new : List Column} → FinalTold given earlier (final.Map input new)
-final_map_told given earlier {input} {new} fault is = by_next (table_named earlier.known input) is (λ is. record {
+final_map_told _ earlier {input} {new} _ is = by_next (table_named earlier.known input) is (λ is. record {
   demand = Stands ATable input;
   asks = asks.of_mapped;
   tells = table_told earlier.known input is;
@@ -150,12 +148,11 @@ final_groupby_told given earlier {input} {keys} {fold_name} fault is =
       tells = quiet_told earlier.known fold_name is;
     }) (λ f r is. by_next (arguments_of source.columns [] picked.names f fold_name.span) is (λ is.
     let k = picked_sound five [] keys q in
-    let A : List ℕ → Type 0 = λ z. arguments_of source.columns [] z f fold_name.span ≡ Err fault in
     broken_in (λ d asked. asks.of_arguments source (table_sound earlier.known input p) (quiet_stands earlier fold_name r) asked)
-    (arguments_told (subst A (ap (λ (z : Picked). z.names) k.2) is))) (λ arguments s is. no_fault is))))
+    (arguments_told (subst (λ z. arguments_of source.columns [] z f fold_name.span ≡ Err fault) (ap (λ (z : Picked). z.names) k.2) is))) (λ arguments s is. no_fault is))))
 
 final_join_told : (given : Given) (earlier : Earlier) {first second : Name} → FinalTold given earlier (final.Join first second)
-final_join_told given earlier {first} {second} fault is = by_next (table_named earlier.known first) is (λ is. record {
+final_join_told _ earlier {first} {second} _ is = by_next (table_named earlier.known first) is (λ is. record {
   demand = Stands ATable first;
   asks = asks.of_first;
   tells = table_told earlier.known first is;
@@ -176,7 +173,7 @@ final_join_told given earlier {first} {second} fault is = by_next (table_named e
 
 final_top_told : (given : Given) (earlier : Earlier) {input column : Name} {rows : ℕ} {span : Span}
     → FinalTold given earlier (final.Top input column rows span)
-final_top_told given earlier {input} {column} {rows} {span} fault is = by_next (table_named earlier.known input) is (λ is. record {
+final_top_told _ earlier {input} {column} {rows} {span} _ is = by_next (table_named earlier.known input) is (λ is. record {
   demand = Stands ATable input;
   asks = asks.of_ranked;
   tells = table_told earlier.known input is;
@@ -191,8 +188,8 @@ final_top_told given earlier {input} {column} {rows} {span} fault is = by_next (
 }) (λ good is. no_fault is)))
 
 pub final_op_told : (given : Given) (earlier : Earlier) (op : FinalOp) → FinalTold given earlier op
-final_op_told given earlier (final.Filter input e) = final_filter_told given earlier
-final_op_told given earlier (final.Map input new) = final_map_told given earlier
-final_op_told given earlier (final.Group input keys fold_name) = final_groupby_told given earlier
-final_op_told given earlier (final.Join first second) = final_join_told given earlier
-final_op_told given earlier (final.Top input column rows span) = final_top_told given earlier
+final_op_told given earlier (final.Filter _ e) = final_filter_told given earlier
+final_op_told given earlier (final.Map _ _) = final_map_told given earlier
+final_op_told given earlier (final.Group _ _ _) = final_groupby_told given earlier
+final_op_told given earlier (final.Join _ _) = final_join_told given earlier
+final_op_told given earlier (final.Top _ _ _ _) = final_top_told given earlier

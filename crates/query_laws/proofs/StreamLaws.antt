@@ -20,7 +20,7 @@ use Rattle.query_laws.proofs.NameLaws.{columns_complete, keys_sound, keys_comple
 
 filter_sound : (earlier : Earlier) {input : Name} {e : Expr} {made : MadeStream} → filtered earlier input e ≡ Ok made
     → OfFilter earlier.known input e made
-filter_sound earlier {input} {e} {made} is =
+filter_sound _ {input} {e} {made} is =
     let source = found_first _ _ _ is in
     let c = found_first _ _ _ source.2 in
     record {
@@ -33,7 +33,7 @@ filter_sound earlier {input} {e} {made} is =
 
 filter_complete : (earlier : Earlier) {input : Name} {e : Expr} {made : MadeStream} → OfFilter earlier.known input e made
     → filtered earlier input e ≡ Ok made
-filter_complete earlier {input} h = then_next _ (stream_complete _ _ h.stream)
+filter_complete _ {input} h = then_next _ (stream_complete _ _ h.stream)
     ∙ then_next _ (condition_complete h.source.hidden h.typed) ∙ ok (sym h.is)
 
 abbrev maps_to : ℕ → StreamView → NewColumns → MadeStream
@@ -45,7 +45,7 @@ maps_to number source made = record {
 }
 
 pub taken_start : (columns hidden : List ℕ) → columns ++ (hidden ++ []) ≡ columns ++ hidden
-taken_start columns hidden = ap (λ (z : List ℕ). columns ++ z) (append-nil hidden)
+taken_start columns hidden = ap (λ z. columns ++ z) (append-nil hidden)
 
 map_sound : (earlier : Earlier) {input : Name} {cs : List Column} {made : MadeStream} → mapped earlier input cs ≡ Ok made
     → OfMap earlier.known (next_stream earlier) input cs made
@@ -53,22 +53,18 @@ map_sound earlier {input} {cs} {made} is =
     let source = found_first _ _ _ is in
     let n = found_first _ _ _ source.2 in
     let c = columns_sound _ _ _ _ n.1 in
-    let N : List ℕ → Type 0 = λ z. HasTypedColumns (column_names source.0.columns) z cs c.0 in
     record {
       source = source.0;
       values = c.0;
       stream = stream_sound _ _ source.1;
-      typed = subst N (taken_start _ _) c.1;
+      typed = subst (λ z. HasTypedColumns (column_names source.0.columns) z cs c.0) (taken_start _ _) c.1;
       is = sym (same_ok _ _ n.2) ∙ ap (maps_to (next_stream earlier) source.0) c.2;
     }
 
 map_complete : (earlier : Earlier) {input : Name} {cs : List Column} {made : MadeStream}
     → OfMap earlier.known (next_stream earlier) input cs made → mapped earlier input cs ≡ Ok made
-map_complete earlier {input} {cs} h =
-    let N : List ℕ → Type 0 = λ z. HasTypedColumns (column_names h.source.columns) z cs h.values in
-    then_next _ (stream_complete _ _ h.stream)
-    ∙ then_next _ (columns_complete _ _ _ _ _
-    (subst N (sym (taken_start _ _)) h.typed)) ∙ ok (sym h.is)
+map_complete _ {input} {cs} h = then_next _ (stream_complete _ _ h.stream) ∙ then_next _ (columns_complete _ _ _ _ _
+    (subst (λ z. HasTypedColumns (column_names h.source.columns) z cs h.values) (sym (taken_start _ _)) h.typed)) ∙ ok (sym h.is)
 
 -- ---- the same columns
 
@@ -83,19 +79,19 @@ same_self origin.Field = refl
 same_self (origin.Map a) = nat_is refl
 
 origin_is : {a b : Origin} → a ≡ b → same_origin a b ≡ true
-origin_is {a} e = let P : Origin → Type 0 = λ z. same_origin a z ≡ true in subst P e (same_self a)
+origin_is {a} e = subst (λ z. same_origin a z ≡ true) e (same_self a)
 
 same_sound : (left : List StreamColumn) (column : StreamColumn) → clashes_with left column ≡ false → IsSame left column
-same_sound [] column e = tt
+same_sound [] _ e = tt
 same_sound (other ∷ rest) column e = go (nat_eq other.name column.name) refl (same_origin other.origin column.origin) refl
     (λ k. same_sound rest column k) e
   where
     go : (b : Bool) → nat_eq other.name column.name ≡ b → (s : Bool) → same_origin other.origin column.origin ≡ s
         → (clashes_with rest column ≡ false → IsSame rest column)
         → ((b && not s) || clashes_with rest column) ≡ false → IsSame (other ∷ rest) column
-    go true is true so more e = (λ n. origin_same other.origin column.origin so, more e)
-    go true is false so more e = cc e
-    go false is s so more e = (λ n. absurd (nat_other is n), more e)
+    go true _ true so more e = (λ n. origin_same other.origin column.origin so, more e)
+    go true _ false _ _ e = cc e
+    go false is s _ more e = (λ n. absurd (nat_other is n), more e)
 
 apart_or_same : {other column : StreamColumn} → (other.name ≡ column.name → other.origin ≡ column.origin)
     → (nat_eq other.name column.name && not (same_origin other.origin column.origin)) ≡ false
@@ -103,25 +99,24 @@ apart_or_same {other} {column} h = go (nat_eq other.name column.name) refl
   where
     go : (b : Bool) → nat_eq other.name column.name ≡ b → (b && not (same_origin other.origin column.origin)) ≡ false
     go true is = ap not (origin_is (h (nat_same is)))
-    go false is = refl
+    go false _ = refl
 
 same_complete : (left : List StreamColumn) (column : StreamColumn) → IsSame left column → clashes_with left column ≡ false
-same_complete [] column h = refl
-same_complete (other ∷ rest) column h = ap (λ (b : Bool). b || clashes_with rest column) (apart_or_same h.0) ∙ same_complete rest column h.1
+same_complete [] _ h = refl
+same_complete (_ ∷ rest) column h = ap (λ b. b || clashes_with rest column) (apart_or_same h.0) ∙ same_complete rest column h.1
 
 all_same_sound : (left right : List StreamColumn) → clash left right ≡ false → AreSame left right
-all_same_sound left [] e = tt
+all_same_sound _ [] e = tt
 all_same_sound left (column ∷ rest) e = go (clashes_with left column) refl (λ k. all_same_sound left rest k) e
   where
     go : (b : Bool) → clashes_with left column ≡ b → (clash left rest ≡ false → AreSame left rest) → (b || clash left rest) ≡ false
         → AreSame left (column ∷ rest)
-    go true is more e = cc e
+    go true _ _ e = cc e
     go false is more e = (same_sound left column is, more e)
 
 pub all_same_complete : (left right : List StreamColumn) → AreSame left right → clash left right ≡ false
-all_same_complete left [] h = refl
-all_same_complete left (column ∷ rest) h = ap (λ (b : Bool). b || clash left rest) (same_complete left column h.0)
-    ∙ all_same_complete left rest h.1
+all_same_complete _ [] h = refl
+all_same_complete left (column ∷ rest) h = ap (λ b. b || clash left rest) (same_complete left column h.0) ∙ all_same_complete left rest h.1
 
 -- what a `zip` of two streams makes
 abbrev pub zips_to : StreamView → StreamView → List ℕ → List StreamColumn → MadeStream
@@ -136,15 +131,14 @@ zips_to left right slots others = record {
 pub zip_is : {known : List Known} (first second : Name) (made : MadeStream) (h : OfZip known first second made)
     → made ≡ zips_to h.left h.right (others_from 0 (column_names h.left.columns) h.right.columns)
     (columns_at h.right.columns (others_from 0 (column_names h.left.columns) h.right.columns))
-zip_is first second made h =
+zip_is _ _ _ h =
     let same = others_are h.new in
     h.is ∙ ap (zips_to h.left h.right h.slots) (at_slots _ _ _ h.taken ∙ ap (columns_at h.right.columns) same)
-    ∙ ap (λ (z : List ℕ). zips_to h.left h.right z (columns_at h.right.columns
-    (others_from 0 (column_names h.left.columns) h.right.columns))) same
+    ∙ ap (λ z. zips_to h.left h.right z (columns_at h.right.columns (others_from 0 (column_names h.left.columns) h.right.columns))) same
 
 zip_sound : (earlier : Earlier) {first second : Name} {made : MadeStream} → zipped earlier first second ≡ Ok made
     → OfZip earlier.known first second made
-zip_sound earlier {first} {second} {made} is =
+zip_sound _ {first} {second} {made} is =
     let left = found_first _ _ _ is in
     let right = found_first _ _ _ left.2 in
     let one = must_not_ok _ _ _ right.2 in
@@ -164,25 +158,23 @@ zip_sound earlier {first} {second} {made} is =
 
 zip_complete : (earlier : Earlier) {first second : Name} {made : MadeStream} → OfZip earlier.known first second made
     → zipped earlier first second ≡ Ok made
-zip_complete earlier {first} {second} {made} h = then_next _ (stream_complete _ _ h.one)
-    ∙ then_next _ (stream_complete _ _ h.other)
+zip_complete _ {first} {second} {made} h = then_next _ (stream_complete _ _ h.one) ∙ then_next _ (stream_complete _ _ h.other)
     ∙ must_not_holds _ _ (all_same_complete _ _ h.same) ∙ ok (sym (zip_is _ _ _ h))
 
 -- ---- keys, from none
 
 pub picked_sound : (five : List ℕ) {columns : List ℕ} (hidden : List ℕ) (keys : List Key) {picked : Picked} → keys_checked five columns hidden keys ≡ Ok picked
     → (slots : List ℕ) × HasKeys columns (key_ids five keys) slots × (picked ≡ record { names = key_ids five keys; slots = slots })
-picked_sound five {columns} hidden keys e =
+picked_sound five {columns} _ keys e =
     let k = keys_sound _ _ _ _ (omega arith) e in
     let long = length-map (flat_map (key_names five) keys) (λ (n : Name). n.id) in
     (k.0, record { places = k.1; distinct = k.2; few = omega (arith, k.3, long) }, k.4)
 
 pub picked_complete : (five : List ℕ) {columns : List ℕ} (hidden : List ℕ) (keys : List Key) {slots : List ℕ} → HasKeys columns (key_ids five keys) slots
     → keys_checked five columns hidden keys ≡ Ok (record { names = key_ids five keys; slots = slots })
-picked_complete five {columns} hidden keys {slots} h =
+picked_complete five {columns} _ keys {slots} h =
     let long = length-map (flat_map (key_names five) keys) (λ (n : Name). n.id) in
-    keys_complete _ _ _ _ _ h.places h.distinct
-    (omega (arith, h.few, long))
+    keys_complete _ _ _ _ _ h.places h.distinct (omega (arith, h.few, long))
 
 abbrev groups_with : ℕ → StreamView → FoldView → List ℕ → Picked → List StreamColumn → MadeStream
 groups_with groups source f arguments picked columns = record {
@@ -199,14 +191,13 @@ groups_to groups source f arguments picked = groups_with groups source f argumen
 pub group_is : {five : List ℕ} {known : List Known} {groups : ℕ} (input : Name) (keys : List Key) (fold_name : Name) (made : MadeStream)
     (h : OfGroup five known groups input keys fold_name made)
     → made ≡ groups_to groups h.source h.f h.arguments (record { names = key_ids five keys; slots = h.slots })
-group_is {five} {groups} input keys fold_name made h =
-    h.is ∙ ap (groups_with groups h.source h.f h.arguments (record { names = key_ids five keys; slots = h.slots }))
-    (at_slots _ _ _ h.there)
+group_is {five} {groups} _ keys _ _ h =
+    h.is ∙ ap (groups_with groups h.source h.f h.arguments (record { names = key_ids five keys; slots = h.slots })) (at_slots _ _ _ h.there)
 
 group_sound : {five : List ℕ} (earlier : Earlier) (name : Name) {input : Name} {keys : List Key} {fold_name : Name} {made : MadeStream}
     → made_stream five earlier name (ops.Group input keys fold_name) ≡ Ok made
     → OfGroup five earlier.known earlier.groups input keys fold_name made
-group_sound {five} earlier name {input} {keys} {fold_name} {made} is =
+group_sound {five} earlier _ {input} {keys} {fold_name} {made} is =
     let few = must_ok _ _ _ is in
     let source = found_first (stream_named earlier.known input) _ made few.1 in
     let picked = found_first (keys_checked five (column_names source.0.columns) source.0.hidden keys) _ made source.2 in
@@ -214,7 +205,6 @@ group_sound {five} earlier name {input} {keys} {fold_name} {made} is =
     let arguments = found_first (arguments_of (column_names source.0.columns) source.0.hidden picked.0.names f.0 fold_name.span) _ made
     f.2 in
     let k = picked_sound five source.0.hidden keys picked.1 in
-    let A : Picked → Type 0 = λ z. HasArguments (column_names source.0.columns) z.names f.0 arguments.0 in
     record {
       few = ltb-true earlier.groups MAX_GROUPBYS few.0;
       source = source.0;
@@ -226,28 +216,28 @@ group_sound {five} earlier name {input} {keys} {fold_name} {made} is =
       picked = k.1;
       there = keys_there source.0.columns (key_ids five keys) k.0 k.1.places;
       fold = fold_name_sound earlier.known fold_name f.1;
-      taken = subst A k.2 (arguments_sound _ fold_name.span arguments.1);
+      taken = subst (λ (z : Picked). HasArguments (column_names source.0.columns) z.names f.0 arguments.0) k.2 (arguments_sound _ fold_name.span arguments.1);
       is = sym (same_ok _ made arguments.2) ∙ ap (groups_to earlier.groups source.0 f.0 arguments.0) k.2;
     }
 
 group_complete : {five : List ℕ} (earlier : Earlier) (name : Name) {input : Name} {keys : List Key} {fold_name : Name} {made : MadeStream}
     → OfGroup five earlier.known earlier.groups input keys fold_name made
     → made_stream five earlier name (ops.Group input keys fold_name) ≡ Ok made
-group_complete {five} earlier name {input} {keys} {fold_name} {made} h = must_holds _ _ (below h.few)
+group_complete {five} earlier _ {input} {keys} {fold_name} {made} h = must_holds _ _ (below h.few)
     ∙ then_next _ (stream_complete earlier.known input h.stream) ∙ then_next _ (picked_complete five h.source.hidden keys h.picked)
     ∙ then_next _ (fold_name_complete earlier.known fold_name h.fold)
     ∙ then_next _ (arguments_complete h.source.hidden fold_name.span h.taken) ∙ ok (sym (group_is input keys fold_name made h))
 
 pub made_stream_sound : (five : List ℕ) (earlier : Earlier) (name : Name) (op : StreamOp) {made : MadeStream}
     → made_stream five earlier name op ≡ Ok made → HasStream five earlier.known (next_stream earlier) earlier.groups op made
-made_stream_sound five earlier name (ops.Filter input e) is = filter_sound earlier is
-made_stream_sound five earlier name (ops.Map input cs) is = map_sound earlier is
-made_stream_sound five earlier name (ops.Zip first second) is = zip_sound earlier is
-made_stream_sound five earlier name (ops.Group input keys fold_name) is = group_sound earlier name is
+made_stream_sound _ earlier _ (ops.Filter _ e) is = filter_sound earlier is
+made_stream_sound _ earlier _ (ops.Map _ _) is = map_sound earlier is
+made_stream_sound _ earlier _ (ops.Zip _ _) is = zip_sound earlier is
+made_stream_sound _ earlier name (ops.Group _ _ _) is = group_sound earlier name is
 
 pub made_stream_complete : (five : List ℕ) (earlier : Earlier) (name : Name) (op : StreamOp) {made : MadeStream}
     → HasStream five earlier.known (next_stream earlier) earlier.groups op made → made_stream five earlier name op ≡ Ok made
-made_stream_complete five earlier name (ops.Filter input e) h = filter_complete earlier h
-made_stream_complete five earlier name (ops.Map input cs) h = map_complete earlier h
-made_stream_complete five earlier name (ops.Zip first second) h = zip_complete earlier h
-made_stream_complete five earlier name (ops.Group input keys fold_name) h = group_complete earlier name h
+made_stream_complete _ earlier _ (ops.Filter _ e) h = filter_complete earlier h
+made_stream_complete _ earlier _ (ops.Map _ _) h = map_complete earlier h
+made_stream_complete _ earlier _ (ops.Zip _ _) h = zip_complete earlier h
+made_stream_complete _ earlier name (ops.Group _ _ _) h = group_complete earlier name h

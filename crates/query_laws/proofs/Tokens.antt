@@ -13,7 +13,7 @@ use Rattle.query_laws.proofs.Terms.{TokenKind, number_in, with_name, IsWord}
 -- a number is a word
 abbrev pub IsWordKind : TokenKind → Type 0
 IsWordKind (kinds.Number n) = IsWord n
-IsWordKind (kinds.Name id) = Unit {0}
+IsWordKind (kinds.Name _) = Unit {0}
 IsWordKind kinds.FiveTuple = Unit {0}
 IsWordKind kinds.End = Unit {0}
 IsWordKind (kinds.Word w) = Unit {0}
@@ -27,7 +27,7 @@ abbrev IsWordPiece : Piece → Type 0
 IsWordPiece (pieces.Blank n) = Unit {0}
 IsWordPiece (pieces.Name n) = Unit {0}
 IsWordPiece (pieces.Token kind n) = IsWordKind kind
-IsWordPiece (pieces.Fault kind n) = Unit {0}
+IsWordPiece (pieces.Fault _ n) = Unit {0}
 
 of_either : (b : Bool) (p q : Piece) → IsWordPiece p → IsWordPiece q → IsWordPiece (cond b p q)
 of_either true p q f g = f
@@ -41,17 +41,17 @@ of_number n len = go (nat_lt n (2 ^ 64)) refl
     go false e = tt
 
 of_name : (o : Option Word) (len : ℕ) → IsWordPiece (name_piece o len)
-of_name None len = tt
-of_name (Some w) len = tt
+of_name None _ = tt
+of_name (Some w) _ = tt
 
 of_mark : (two one : Option Mark) → IsWordPiece (piece_of_mark two one)
-of_mark (Some t) one = tt
+of_mark (Some t) _ = tt
 of_mark None (Some o) = tt
 of_mark None None = tt
 
 of_mark_at : (b : ℕ) (bytes : List ℕ) → IsWordPiece (mark_at b bytes)
 of_mark_at b [] = of_mark None (one_mark b)
-of_mark_at b (c ∷ bytes) = of_mark _ _
+of_mark_at b (c ∷ _) = of_mark _ _
 
 of_word : (w : List ℕ) (digits : ℕ) → IsWordPiece (word_piece w digits)
 of_word w digits = of_either (nat_eq digits (length w)) _ _ (of_number (digits_value 10 w) (length w))
@@ -74,17 +74,15 @@ same_found e = cc
 of_front : (t : Token) (o : Cut) {found : Pair} → IsWordKind t.kind → ((got : Pair) → o ≡ Ok got → HasWords got)
     → with_front t o ≡ Ok found → HasWords found
 of_front t (Ok got) word h e = subst HasWords (same_found e) (word, h got refl)
-of_front t (Err fault) word h e = absurd cc
+of_front t (Err _) _ h e = absurd cc
 
 of_cut_piece : (p : Piece) (at : ℕ) (known : List (List ℕ)) (bytes : List ℕ) {next : ℕ → List (List ℕ) → Cut} {found : Pair} → IsWordPiece p
     → ((k : ℕ) (later : List (List ℕ)) (got : Pair) → next k later ≡ Ok got → HasWords got) → cut_piece p at known bytes next ≡ Ok found
     → HasWords found
-of_cut_piece (pieces.Blank n) at known bytes {found} word h e = h n known found e
-of_cut_piece (pieces.Name n) at known bytes {next} word h e =
-    of_front _ _ tt
-    (h n (with_name known (take n bytes))) e
-of_cut_piece (pieces.Token kind n) at known bytes {next} word h e = of_front _ _ word (h n known) e
-of_cut_piece (pieces.Fault kind n) at known bytes word h e = absurd cc
+of_cut_piece (pieces.Blank n) _ known _ {found} _ h e = h n known found e
+of_cut_piece (pieces.Name n) _ known bytes {next} _ h e = of_front _ _ tt (h n (with_name known (take n bytes))) e
+of_cut_piece (pieces.Token _ n) _ known _ {next} word h e = of_front _ _ word (h n known) e
+of_cut_piece (pieces.Fault _ n) _ _ _ _ h e = absurd cc
 
 of_end : {at : ℕ} {known : List (List ℕ)} {found : Pair} → ◌≡◌ {A = Cut} (Ok (token_at kinds.End at at ∷ [], known)) (Ok found)
     → HasWords found
@@ -93,7 +91,7 @@ of_end e = subst HasWords (same_found e) (tt, tt)
 -- the numbers among the tokens that these bytes are cut into are words
 pub cut_words : (n at : ℕ) (known : List (List ℕ)) (bytes : List ℕ) {found : Pair} → cut n at known bytes ≡ Ok found → HasWords found
 unfolding cut
-cut_words zero at known bytes e = of_end e
-cut_words (suc n) at known [] e = of_end e
+cut_words zero _ _ _ e = of_end e
+cut_words (suc n) _ _ [] e = of_end e
 cut_words (suc n) at known (b ∷ bytes) e = of_cut_piece (piece (b ∷ bytes)) at known (b ∷ bytes) (of_piece b bytes)
     (λ k later got h. cut_words n (at + k) later (drop k (b ∷ bytes)) h) e

@@ -25,25 +25,25 @@ use Rattle.query_laws.proofs.Views.{View, AreDistinct, AreBelow, mapped_columns,
 -- a name of a stream gives its columns
 abbrev pub TellsColumns : List View → Meaning → Type 0
 TellsColumns views (meaning.Stream s) = slice_get views s.number ≡ Some s.columns
-TellsColumns views (meaning.Fold f) = Unit {0}
-TellsColumns views (meaning.Final t) = Unit {0}
+TellsColumns _ (meaning.Fold f) = Unit {0}
+TellsColumns _ (meaning.Final t) = Unit {0}
 
 abbrev pub AllTell : List View → List Known → Type 0
-AllTell views [] = Unit {0}
+AllTell _ [] = Unit {0}
 AllTell views (one ∷ known) = TellsColumns views one.meaning × AllTell views known
 
 tell_last : (views : List View) (known : List Known) (one : Known) → AllTell views known → TellsColumns views one.meaning
     → AllTell views (known ++ one ∷ [])
-tell_last views [] one h k = (k, tt)
-tell_last views (first ∷ known) one h k = (h.0, tell_last views known one h.1 k)
+tell_last _ [] _ h k = (k, tt)
+tell_last views (_ ∷ known) one h k = (h.0, tell_last views known one h.1 k)
 
 tells_more : (views : List View) (view : View) (m : Meaning) → TellsColumns views m → TellsColumns (views ++ view ∷ []) m
 tells_more views view (meaning.Stream s) h = get_front views (view ∷ []) s.number h
-tells_more views view (meaning.Fold f) h = tt
-tells_more views view (meaning.Final t) h = tt
+tells_more _ _ (meaning.Fold f) h = tt
+tells_more _ _ (meaning.Final t) h = tt
 
 tell_more : (views : List View) (view : View) (known : List Known) → AllTell views known → AllTell (views ++ view ∷ []) known
-tell_more views view [] h = tt
+tell_more _ _ [] h = tt
 tell_more views view (one ∷ known) h = (tells_more views view one.meaning h.0, tell_more views view known h.1)
 
 some_meaning : {m n : Meaning} → (let o : Option Meaning = Some m in o) ≡ Some n → m ≡ n
@@ -51,12 +51,12 @@ some_meaning e = cc e
 
 tells_of : (views : List View) (known : List Known) (id : ℕ) {m : Meaning} → AllTell views known → meaning_of known id ≡ Some m
     → TellsColumns views m
-tells_of views [] id h e = cc e
+tells_of _ [] _ h e = cc e
 tells_of views (one ∷ known) id {m} h e = go (nat_eq one.name id) (λ k. tells_of views known id h.1 k) e
   where
     go : (b : Bool) → (meaning_of known id ≡ Some m → TellsColumns views m) → cond b (Some one.meaning) (meaning_of known id) ≡ Some m
         → TellsColumns views m
-    go true more k = subst (TellsColumns views) (some_meaning k) h.0
+    go true _ k = subst (TellsColumns views) (some_meaning k) h.0
     go false more k = more k
 
 -- the columns of a stream that is named
@@ -66,11 +66,11 @@ columns_named views known name {s} h e = go (meaning_of known name.id) (λ m k. 
   where
     go : (o : Option Meaning) → ((m : Meaning) → o ≡ Some m → TellsColumns views m) → as_stream o name.span ≡ Ok s
         → slice_get views s.number ≡ Some s.columns
-    go None told k = cc k
+    go None _ k = cc k
     go (Some (meaning.Stream x)) told k = subst (λ z. slice_get views z.number ≡ Some z.columns) (same_ok x s k)
         (told (meaning.Stream x) refl)
-    go (Some (meaning.Fold f)) told k = cc k
-    go (Some (meaning.Final t)) told k = cc k
+    go (Some (meaning.Fold f)) _ k = cc k
+    go (Some (meaning.Final t)) _ k = cc k
 
 -- ---- the names of new columns
 
@@ -84,20 +84,19 @@ not_last id x names h k =
     list_any-append (λ name. nat_eq name id) names (x ∷ []) ∙ ap (λ b. b || (nat_eq x id || false)) h ∙ ap (λ b. b || false) k
 
 distinct_last : (names : List ℕ) (id : ℕ) → AreDistinct names → is_among id names ≡ false → AreDistinct (names ++ id ∷ [])
-distinct_last [] id h k = (refl, tt)
+distinct_last [] _ h k = (refl, tt)
 distinct_last (n ∷ names) id h k = go (nat_eq n id) refl (λ e. distinct_last names id h.1 e) k
   where
     go : (b : Bool) → nat_eq n id ≡ b → (is_among id names ≡ false → AreDistinct (names ++ id ∷ [])) → (b || is_among id names) ≡ false
         → AreDistinct ((n ∷ names) ++ id ∷ [])
-    go true is more e = cc e
+    go true _ _ e = cc e
     go false is more e = (not_last n id names h.0 (nat_is_not (λ same. nat_other is (sym same))), more e)
 
 -- the names of new columns are distinct, and there is a name for each value
 new_distinct : (columns hidden : List ℕ) (new : List Column) (made : NewColumns) {all : NewColumns} → AreDistinct made.names
     → length made.names ≡ length made.values
     → new_columns columns hidden made new ≡ Ok all → AreDistinct all.names × (length all.names ≡ length all.values)
-new_distinct columns hidden [] made {all} d long e = subst (λ z. AreDistinct z.names × (length z.names ≡ length z.values))
-    (same_ok _ _ e) (d, long)
+new_distinct _ _ [] _ {all} d long e = subst (λ z. AreDistinct z.names × (length z.names ≡ length z.values)) (same_ok _ _ e) (d, long)
 new_distinct columns hidden (c ∷ new) made {all} d long e =
     let free = must_not_ok _ _ _ e in
     let value = found_first (word_of columns hidden c.value) _ all free.1 in
@@ -109,17 +108,17 @@ new_distinct columns hidden (c ∷ new) made {all} d long e =
 -- ---- the slots of keys
 
 pub stands_below : (columns : List ℕ) (slot id : ℕ) → StandsAt columns slot id → slot < length columns
-stands_below [] slot id h = absurd h
-stands_below (name ∷ columns) zero id h = omega arith
-stands_below (name ∷ columns) (suc slot) id h = omega (arith, stands_below columns slot id h.1)
+stands_below [] _ _ h = absurd h
+stands_below (_ ∷ _) zero _ h = omega arith
+stands_below (_ ∷ columns) (suc slot) id h = omega (arith, stands_below columns slot id h.1)
 
 below_last : {n : ℕ} (slots : List ℕ) {slot : ℕ} → AreBelow n slots → slot < n → AreBelow n (slots ++ slot ∷ [])
 below_last [] h lt = (lt, tt)
-below_last (first ∷ slots) h lt = (h.0, below_last slots h.1 lt)
+below_last (_ ∷ slots) h lt = (h.0, below_last slots h.1 lt)
 
 keys_below : (columns hidden : List ℕ) (keys : List Name) (found : Picked) {picked : Picked} → AreBelow (length columns) found.slots
     → keys_from columns hidden found keys ≡ Ok picked → AreBelow (length columns) picked.slots
-keys_below columns hidden [] found {picked} h e = subst (λ z. AreBelow (length columns) z.slots) (same_ok _ _ e) h
+keys_below columns _ [] _ {picked} h e = subst (λ z. AreBelow (length columns) z.slots) (same_ok _ _ e) h
 keys_below columns hidden (key ∷ keys) found {picked} h e =
     let slot = found_first (slot_of columns hidden key) _ picked e in
     let once = must_not_ok _ _ _ slot.2 in
@@ -215,10 +214,10 @@ module _ (views : List View) (earlier : Earlier) (told : AllTell views earlier.k
 
   stream_made : (five : List ℕ) (name : Name) (op : StreamOp) {made : MadeStream} → made_stream five earlier name op ≡ Ok made
       → MadeOf views earlier made
-  stream_made five name (ops.Filter input e) h = filter_made _ e h
-  stream_made five name (ops.Map input columns) h = map_made _ _ h
-  stream_made five name (ops.Zip first second) h = zip_made _ _ h
-  stream_made five name (ops.Group input keys fold_name) h = group_made five input keys fold_name (must_ok _ _ _ h).1
+  stream_made _ _ (ops.Filter _ e) h = filter_made _ e h
+  stream_made _ _ (ops.Map _ _) h = map_made _ _ h
+  stream_made _ _ (ops.Zip _ _) h = zip_made _ _ h
+  stream_made five _ (ops.Group input keys fold_name) h = group_made five input keys fold_name (must_ok _ _ _ h).1
 
 -- ---- items
 
@@ -273,14 +272,14 @@ module _ (fields : View) where
 
   one_item : (given : Given) (i : Item) {earlier more : Earlier} → HasViews fields earlier → item_checked given earlier i ≡ Ok more
       → HasViews fields more
-  one_item given (item.Fold d) h e = fold_item d h e
-  one_item given (item.Stream d) h e = stream_item _ d h e
+  one_item _ (item.Fold d) h e = fold_item d h e
+  one_item _ (item.Stream d) h e = stream_item _ d h e
   one_item given (item.Final d) h e = final_item given d h e
-  one_item given (item.Print name) h e = print_item _ h e
+  one_item _ (item.Print _) h e = print_item _ h e
 
   all_items : (given : Given) (items : List Item) {earlier all : Earlier} → HasViews fields earlier
       → items_checked given earlier items ≡ Ok all → HasViews fields all
-  all_items given [] {earlier} {all} h e = subst (HasViews fields) (same_ok _ _ e) h
+  all_items _ [] {earlier} {all} h e = subst (HasViews fields) (same_ok _ _ e) h
   all_items given (i ∷ items) {earlier} {all} h e =
       let first = found_first (item_checked given earlier i) _ all e in
       all_items given items (one_item given i h first.1) first.2

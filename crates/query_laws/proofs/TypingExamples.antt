@@ -40,8 +40,8 @@ two columns op x y p q = binary_is columns [] op here x y ∙ then_next _ p ∙ 
 two_called : (columns : List ℕ) (op : Op) (x y : Expr) {f g : Found} → expr_checked columns [] x ≡ Ok f → expr_checked columns [] y ≡ Ok g
     → expr_checked columns [] (Call op here (x ∷ y ∷ [])) ≡ of_two op here f g
 two_called columns op x y {f} p q = call_is _ [] op here (x ∷ y ∷ [])
-    ∙ ap (λ (r : Checked Found). and_then (collected [] (r ∷ expr_checked columns [] y ∷ [])) (call_of op here)) p
-    ∙ ap (λ (r : Checked Found). and_then (collected (f ∷ []) (r ∷ [])) (call_of op here)) q
+    ∙ ap (λ r. and_then (collected [] (r ∷ expr_checked columns [] y ∷ [])) (call_of op here)) p
+    ∙ ap (λ r. and_then (collected (f ∷ []) (r ∷ [])) (call_of op here)) q
 
 first_is : expr_checked two_columns [] first ≡ Ok (found (typed.Slot 0) sort.Word)
 first_is = named_is two_columns [] (called 1)
@@ -69,10 +69,10 @@ is_condition = of_binary here first_word second_word tt
 
 by_number : (op : Op) (n : ℕ) {fault : QueryFault} → expr_checked two_columns [] (with_first op (Number n here)) ≡ Err fault
     → RefusesNumber op n
-by_number op n is = refuse is
+by_number _ n is = refuse is
 
 by_column : (op : Op) {fault : QueryFault} → expr_checked two_columns [] (with_first op second) ≡ Err fault → RefusesColumn op
-by_column op is = refuse is
+by_column _ is = refuse is
 
 pub expression_examples : ExpressionExamples
 expression_examples = record {
@@ -80,7 +80,7 @@ expression_examples = record {
   no_column = refuse (named_is two_columns [] (called 3));
   greater = of_call here first_word second_word tt;
   one_argument = refuse (call_is two_columns [] Max here (first ∷ [])
-      ∙ ap (λ (r : Checked Found). and_then (collected [] (r ∷ [])) (call_of Max here)) first_is);
+      ∙ ap (λ r. and_then (collected [] (r ∷ [])) (call_of Max here)) first_is);
   sum = of_binary here first_word (of_number here) tt;
   sum_of_a_condition = refuse (two two_columns Add is_less second less_is second_is);
   product = of_binary here first_word second_word tt;
@@ -122,7 +122,7 @@ expression_examples = record {
 -- ---- streams
 
 pub no_place : (names : List ℕ) (id : ℕ) → place_of names id ≡ None → (place : ℕ) × StandsAt names place id → ⊥
-no_place names id none h = let same : (let o : Option ℕ = None in o) ≡ Some h.0 = sym none ∙ stands_place _ _ h.1 in cc same
+no_place _ _ none h = let same : (let o : Option ℕ = None in o) ≡ Some h.0 = sym none ∙ stands_place _ _ h.1 in cc same
 
 -- what is on the right of `0 <`
 pub right_of_0 : {id : ℕ} → HasPart Condition (is_above_0 id) Word (Named (called id))
@@ -232,13 +232,7 @@ eight_fields = record {
   picked = record {
     places = (
       field 21 refl,
-      (
-        field 22 refl,
-        (
-          field 23 refl,
-          (field 24 refl, (field 25 refl, (field 26 refl, (field 27 refl, (field 28 refl, tt))))),
-        ),
-      ),
+      (field 22 refl, (field 23 refl, (field 24 refl, (field 25 refl, (field 26 refl, (field 27 refl, (field 28 refl, tt))))))),
     );
     distinct = (
       new 21 [] refl,
@@ -252,10 +246,7 @@ eight_fields = record {
               new 25 (21 ∷ 22 ∷ 23 ∷ 24 ∷ []) refl,
               (
                 new 26 (21 ∷ 22 ∷ 23 ∷ 24 ∷ 25 ∷ []) refl,
-                (
-                  new 27 (21 ∷ 22 ∷ 23 ∷ 24 ∷ 25 ∷ 26 ∷ []) refl,
-                  (new 28 (21 ∷ 22 ∷ 23 ∷ 24 ∷ 25 ∷ 26 ∷ 27 ∷ []) refl, tt),
-                ),
+                (new 27 (21 ∷ 22 ∷ 23 ∷ 24 ∷ 25 ∷ 26 ∷ []) refl, (new 28 (21 ∷ 22 ∷ 23 ∷ 24 ∷ 25 ∷ 26 ∷ 27 ∷ []) refl, tt)),
               ),
             ),
           ),
@@ -284,13 +275,7 @@ five_tuple = record {
     places = (field 21 refl, (field 22 refl, (field 23 refl, (field 24 refl, (field 25 refl, tt)))));
     distinct = (
       new 21 [] refl,
-      (
-        new 22 (21 ∷ []) refl,
-        (
-          new 23 (21 ∷ 22 ∷ []) refl,
-          (new 24 (21 ∷ 22 ∷ 23 ∷ []) refl, (new 25 (21 ∷ 22 ∷ 23 ∷ 24 ∷ []) refl, tt)),
-        ),
-      ),
+      (new 22 (21 ∷ []) refl, (new 23 (21 ∷ 22 ∷ []) refl, (new 24 (21 ∷ 22 ∷ 23 ∷ []) refl, (new 25 (21 ∷ 22 ∷ 23 ∷ 24 ∷ []) refl, tt)))),
     );
     few = omega arith;
   };

@@ -34,16 +34,16 @@ starts_with items one = Starts (one ∷ items)
 
 one_more : (given : Given) (names : List (List ℕ)) (items : List Entry) (i : Item) (one : Entry) → HasItem given names items i one
     → StartsAsWords i → Starts items → Starts (one ∷ items)
-one_more given names items (item.Fold d) one h words all =
+one_more _ _ items (item.Fold d) _ h words all =
     subst (starts_with items) (sym h.is) (All-push start_words (folds_in items) h.f all (fold_starts h.typed words))
-one_more given names items (item.Stream d) one h words all = subst (starts_with items) (sym h.is) all
-one_more given names items (item.Final d) one h words all = subst (starts_with items) (sym h.is) all
-one_more given names items (item.Print name) one h words all = subst (starts_with items) (sym h.is) all
+one_more _ _ items (item.Stream d) _ h _ all = subst (starts_with items) (sym h.is) all
+one_more _ _ items (item.Final d) _ h _ all = subst (starts_with items) (sym h.is) all
+one_more _ _ items (item.Print _) _ h _ all = subst (starts_with items) (sym h.is) all
 
 all_start : {given : Given} {names : List (List ℕ)} {before : List Entry} {list : List Item} {all : List Entry}
     → HasItems given names before list all → All StartsAsWords list → Starts before → Starts all
-all_start (of_none before) words start = start
-all_start {given} {names} (of_more before i one rest all h more) words start = all_start more (All-tail StartsAsWords i rest words)
+all_start (of_none _) _ start = start
+all_start {given} {names} (of_more _ i _ rest _ h more) words start = all_start more (All-tail StartsAsWords i rest words)
     (one_more given _ _ i _ h (All-head StartsAsWords i rest words) start)
 
 pub accepted_starts : AcceptedStartAsWords

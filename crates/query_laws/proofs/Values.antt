@@ -20,21 +20,21 @@ row_of V packet view = map (λ column. V packet column.origin column.name) view
 
 -- each row has the values of these columns
 abbrev pub HaveValues : Values → View → List Tuple → Type 0
-HaveValues V view [] = Unit {0}
+HaveValues V _ [] = Unit {0}
 HaveValues V view (t ∷ tuples) = (t.row ≡ row_of V t.packet view) × HaveValues V view tuples
 
 -- ---- slots
 
 column_found : (V : Values) {packet : ℕ} (view : View) (slot : ℕ) → slot < length view
     → (c : StreamColumn) × (slice_get view slot ≡ Some c) × (slice_index (row_of V packet view) slot ≡ V packet c.origin c.name)
-column_found V [] slot lt = absurd (omega (arith, lt))
-column_found V (c ∷ view) zero lt = (c, refl, refl)
+column_found V [] _ lt = absurd (omega (arith, lt))
+column_found V (c ∷ _) zero _ = (c, refl, refl)
 column_found V (c ∷ view) (suc slot) lt = column_found V view slot (omega (arith, lt))
 
 -- the values in slots are those of the columns at these slots
 values_picked : (V : Values) (packet : ℕ) (view : View) (slots : List ℕ) → AreBelow (length view) slots
     → values_at (row_of V packet view) slots ≡ row_of V packet (columns_at view slots)
-values_picked V packet view [] h = refl
+values_picked V _ _ [] h = refl
 values_picked V packet view (slot ∷ slots) h =
     let f = column_found V view slot h.0 in
     ap (λ n. n ∷ values_at (row_of V packet view) slots) f.2
@@ -45,7 +45,7 @@ values_picked V packet view (slot ∷ slots) h =
 
 filter_has : (V : Values) (view : View) (test : Tuple → Bool) (tuples : List Tuple) → HaveValues V view tuples
     → HaveValues V view (filter test tuples)
-filter_has V view test [] h = tt
+filter_has V _ _ [] h = tt
 filter_has V view test (t ∷ tuples) h = go (test t) (filter_has V view test tuples h.1)
   where
     go : (b : Bool) → HaveValues V view (filter test tuples) → HaveValues V view (cond b (t ∷ filter test tuples) (filter test tuples))
@@ -55,7 +55,7 @@ filter_has V view test (t ∷ tuples) h = go (test t) (filter_has V view test tu
 map_has : (V : Values) (source new : View) (values : List TypedExpr)
     → ((packet : ℕ) → map (λ e. expr_value e (row_of V packet source)) values ≡ row_of V packet new)
     → (tuples : List Tuple) → HaveValues V source tuples → HaveValues V (source ++ new) (map_stream values tuples)
-map_has V source new values are [] h = tt
+map_has V _ _ _ _ [] h = tt
 map_has V source new values are (t ∷ tuples) h = (
   ap (λ row. row ++ map (λ e. expr_value e row) values) h.0 ∙ ap (λ l. row_of V t.packet source ++ l) (are t.packet)
       ∙ sym (map-append (λ column. V t.packet column.origin column.name) source new),
@@ -64,20 +64,19 @@ map_has V source new values are (t ∷ tuples) h = (
 
 find_has : (V : Values) (view : View) (packet : ℕ) (tuples : List Tuple) {other : Tuple} → HaveValues V view tuples
     → find (λ (t : Tuple). t.packet == packet) tuples ≡ Some other → other.row ≡ row_of V packet view
-find_has V view packet [] h e = cc e
+find_has V _ _ [] h e = cc e
 find_has V view packet (t ∷ tuples) {other} h e = go (eqb t.packet packet) refl (λ k. find_has V view packet tuples h.1 k) e
   where
     go : (b : Bool) → eqb t.packet packet ≡ b → (find (λ (t : Tuple). t.packet == packet) tuples ≡ Some other
         → other.row ≡ row_of V packet view)
         → cond b (Some t) (find (λ (t : Tuple). t.packet == packet) tuples) ≡ Some other → other.row ≡ row_of V packet view
-    go true is more k =
-        ap (λ (z : Tuple). z.row) (sym (same_Some t other k)) ∙ h.0 ∙ ap (λ n. row_of V n view) (eqb-true t.packet packet is)
-    go false is more k = more k
+    go true is _ k = ap (λ (z : Tuple). z.row) (sym (same_Some t other k)) ∙ h.0 ∙ ap (λ n. row_of V n view) (eqb-true t.packet packet is)
+    go false _ more k = more k
 
 zip_has : (V : Values) (first second : View) (slots : List ℕ) → AreBelow (length second) slots
     → (right : List Tuple) → HaveValues V second right → (left : List Tuple) → HaveValues V first left
     → HaveValues V (first ++ columns_at second slots) (zip_stream slots left right)
-zip_has V first second slots below right r [] l = tt
+zip_has V _ _ _ _ _ r [] l = tt
 zip_has V first second slots below right r (t ∷ left) l =
     go (find (λ (other : Tuple). other.packet == t.packet) right) refl (zip_has V first second slots below right r left l.1)
   where
@@ -87,7 +86,7 @@ zip_has V first second slots below right r (t ∷ left) l =
     go : (o : Option Tuple) → find (λ (other : Tuple). other.packet == t.packet) right ≡ o
         → HaveValues V whole (zip_stream slots left right) → HaveValues V whole (cons_option (option_map (λ (other : Tuple). record
         { packet = t.packet; row = t.row ++ values_at other.row slots }) o) (zip_stream slots left right))
-    go None is more = more
+    go None _ more = more
     go (Some other) is more = (
       ap (λ row. row ++ values_at other.row slots) l.0
           ∙ ap (λ row. row_of V t.packet first ++ values_at row slots) (find_has V second t.packet right r is)
@@ -99,35 +98,34 @@ zip_has V first second slots below right r (t ∷ left) l =
 keys_have : (V : Values) (source : View) (keys : List ℕ) → AreBelow (length source) keys → (tuples : List Tuple)
     → HaveValues V source tuples
     → HaveValues V (columns_at source keys) (map (λ t. record { packet = t.packet; row = values_at t.row keys }) tuples)
-keys_have V source keys below [] h = tt
+keys_have V _ _ _ [] h = tt
 keys_have V source keys below (t ∷ tuples) h =
     (ap (λ row. values_at row keys) h.0 ∙ values_picked V t.packet source keys below, keys_have V source keys below tuples h.1)
 
 group_has : (V : Values) (source : View) (f : Option TypedFold) (keys args : List ℕ) → AreBelow (length source) keys
     → (tuples : List Tuple) → HaveValues V source tuples → HaveValues V (columns_at source keys) (group_stream f keys args tuples)
-group_has V source None keys args below tuples h = tt
-group_has V source (Some f) keys args below tuples h =
-    keys_have V _ _ below _ (filter_has V _ _ _ h)
+group_has V _ None _ _ _ _ h = tt
+group_has V _ (Some f) _ _ below _ h = keys_have V _ _ below _ (filter_has V _ _ _ h)
 
 -- ---- values by distinct names
 
 -- the value beside a name
 abbrev pub look : List ℕ → List ℕ → ℕ → ℕ
-look [] values id = 0
-look (name ∷ names) [] id = 0
+look [] _ _ = 0
+look (_ ∷ _) [] _ = 0
 look (name ∷ names) (v ∷ values) id = if nat_eq name id then v else look names values id
 
 looks_past : (name v : ℕ) (names values list : List ℕ) → is_among name list ≡ false
     → map (λ id. look (name ∷ names) (v ∷ values) id) list ≡ map (λ id. look names values id) list
-looks_past name v names values [] h = refl
+looks_past _ v _ _ [] h = refl
 looks_past name v names values (x ∷ list) h = go (nat_eq x name) refl (λ k. looks_past name v names values list k) h
   where
     go : (b : Bool) → nat_eq x name ≡ b
         → (is_among name list ≡ false → map (λ id. look (name ∷ names) (v ∷ values) id) list ≡ map (λ id. look names values id) list)
         → (b || is_among name list) ≡ false
         → map (λ id. look (name ∷ names) (v ∷ values) id) (x ∷ list) ≡ map (λ id. look names values id) (x ∷ list)
-    go true is more k = cc k
-    go false is more k =
+    go true _ _ k = cc k
+    go false _ more k =
         let other : nat_eq name x ≡ false = grind arith in
         ap (λ b. cond b v (look names values x) ∷ map (λ id. look (name ∷ names) (v ∷ values) id) list) other
         ∙ ap (λ l. look names values x ∷ l) (more k)
@@ -135,8 +133,8 @@ looks_past name v names values (x ∷ list) h = go (nat_eq x name) refl (λ k. l
 pub all_looked_up : (names values : List ℕ) → AreDistinct names → length names ≡ length values
     → map (λ id. look names values id) names ≡ values
 all_looked_up [] [] d e = refl
-all_looked_up [] (v ∷ values) d e = absurd (omega (arith, e))
-all_looked_up (name ∷ names) [] d e = absurd (omega (arith, e))
+all_looked_up [] (v ∷ _) d e = absurd (omega (arith, e))
+all_looked_up (_ ∷ _) [] d e = absurd (omega (arith, e))
 all_looked_up (name ∷ names) (v ∷ values) d e =
     ap (λ b. cond b v (look names values name) ∷ map (λ id. look (name ∷ names) (v ∷ values) id) names) (nat_is refl)
     ∙ ap (λ l. v ∷ l) (looks_past name v names values names d.0 ∙ all_looked_up names values d.1 (omega (arith, e)))
@@ -145,65 +143,65 @@ all_looked_up (name ∷ names) (v ∷ values) d e =
 
 -- these values with those of the `map` with this number
 abbrev pub with_map : Values → ℕ → (ℕ → ℕ → ℕ) → Values
-with_map V number new packet origin.Field id = V packet origin.Field id
+with_map V _ _ packet origin.Field id = V packet origin.Field id
 with_map V number new packet (origin.Map m) id = if nat_eq m number then new packet id else V packet (origin.Map m) id
 
 -- no values of the `map` with this number, or of a later one
 abbrev IsEarlier : ℕ → Origin → Type 0
-IsEarlier number origin.Field = Unit {0}
+IsEarlier _ origin.Field = Unit {0}
 IsEarlier number (origin.Map m) = m < number
 
 abbrev pub AreEarlier : ℕ → View → Type 0
-AreEarlier number [] = Unit {0}
+AreEarlier _ [] = Unit {0}
 AreEarlier number (c ∷ view) = IsEarlier number c.origin × AreEarlier number view
 
 earlier_later : (number : ℕ) (o : Origin) → IsEarlier number o → IsEarlier (suc number) o
-earlier_later number origin.Field h = tt
-earlier_later number (origin.Map m) h = omega (arith, h)
+earlier_later _ origin.Field h = tt
+earlier_later _ (origin.Map m) h = omega (arith, h)
 
 are_earlier_later : (number : ℕ) (view : View) → AreEarlier number view → AreEarlier (suc number) view
-are_earlier_later number [] h = tt
+are_earlier_later _ [] h = tt
 are_earlier_later number (c ∷ view) h = (earlier_later number c.origin h.0, are_earlier_later number view h.1)
 
 both_earlier : (number : ℕ) (view more : View) → AreEarlier number view → AreEarlier number more → AreEarlier number (view ++ more)
-both_earlier number [] more h k = k
+both_earlier _ [] _ h k = k
 both_earlier number (c ∷ view) more h k = (h.0, both_earlier number view more h.1 k)
 
 mapped_earlier : (number : ℕ) (names : List ℕ) → AreEarlier (suc number) (mapped_columns number names)
-mapped_earlier number [] = tt
-mapped_earlier number (name ∷ names) = (omega arith, mapped_earlier number names)
+mapped_earlier _ [] = tt
+mapped_earlier number (_ ∷ names) = (omega arith, mapped_earlier number names)
 
 earlier_at : (number : ℕ) (view : View) (slot : ℕ) (more : View) → AreEarlier number view → AreEarlier number more
     → AreEarlier number (cons_option (slice_get view slot) more)
-earlier_at number [] slot more h k = k
-earlier_at number (c ∷ view) zero more h k = (h.0, k)
+earlier_at _ [] _ _ h k = k
+earlier_at _ (c ∷ _) zero _ h k = (h.0, k)
 earlier_at number (c ∷ view) (suc slot) more h k = earlier_at number view slot more h.1 k
 
 picked_earlier : (number : ℕ) (view : View) (slots : List ℕ) → AreEarlier number view → AreEarlier number (columns_at view slots)
-picked_earlier number view [] h = tt
+picked_earlier _ _ [] h = tt
 picked_earlier number view (slot ∷ slots) h = earlier_at number view slot (columns_at view slots) h (picked_earlier number view slots h)
 
 value_same : (V : Values) (number : ℕ) (new : ℕ → ℕ → ℕ) {packet : ℕ} (o : Origin) {id : ℕ} → IsEarlier number o
     → V packet o id ≡ with_map V number new packet o id
-value_same V number new origin.Field h = refl
-value_same V number new {packet} (origin.Map m) {id} h =
+value_same V _ _ origin.Field h = refl
+value_same V _ new {packet} (origin.Map m) {id} h =
     ap (λ b. cond b (new packet id) (V packet (origin.Map m) id)) (sym (nat_is_not (λ e. absurd (omega (arith, h, e)))))
 
 row_same : (V : Values) (number : ℕ) (new : ℕ → ℕ → ℕ) (packet : ℕ) (view : View) → AreEarlier number view
     → row_of V packet view ≡ row_of (with_map V number new) packet view
-row_same V number new packet [] h = refl
+row_same V _ _ _ [] h = refl
 row_same V number new packet (c ∷ view) h = ap (λ n. n ∷ row_of V packet view) (value_same V number new c.origin h.0)
     ∙ ap (λ l. with_map V number new packet c.origin c.name ∷ l) (row_same V number new packet view h.1)
 
 have_same : (V : Values) (number : ℕ) (new : ℕ → ℕ → ℕ) (view : View) (tuples : List Tuple) → AreEarlier number view
     → HaveValues V view tuples → HaveValues (with_map V number new) view tuples
-have_same V number new view [] e h = tt
+have_same V _ _ _ [] e h = tt
 have_same V number new view (t ∷ tuples) e h = (h.0 ∙ row_same V number new t.packet view e, have_same V number new view tuples e h.1)
 
 -- the row of new columns has the new values
 new_row : (V : Values) (number : ℕ) (new : ℕ → ℕ → ℕ) (packet : ℕ) (names : List ℕ)
     → map (λ id. new packet id) names ≡ row_of (with_map V number new) packet (mapped_columns number names)
-new_row V number new packet [] = refl
+new_row V _ _ _ [] = refl
 new_row V number new packet (name ∷ names) =
     ap (λ b. cond b (new packet name) (V packet (origin.Map number) name) ∷ map (λ id. new packet id) names) (sym (nat_is refl))
     ∙ ap (λ l. with_map V number new packet (origin.Map number) name ∷ l) (new_row V number new packet names)
@@ -212,32 +210,32 @@ new_row V number new packet (name ∷ names) =
 
 -- streams with their columns, which were made before the stream with this number
 abbrev pub AllHave : ℕ → Values → List View → List (List Tuple) → Type 0
-AllHave number V [] [] = Unit {0}
-AllHave number V [] (tuples ∷ lists) = ⊥
-AllHave number V (view ∷ views) [] = ⊥
+AllHave _ V [] [] = Unit {0}
+AllHave _ V [] (_ ∷ _) = ⊥
+AllHave _ V (_ ∷ _) [] = ⊥
 AllHave number V (view ∷ views) (tuples ∷ lists) = (AreEarlier number view × HaveValues V view tuples) × AllHave number V views lists
 
 pub have_at : (number : ℕ) (V : Values) (views : List View) (lists : List (List Tuple)) (i : ℕ) {view : View} → AllHave number V views lists
     → slice_get views i ≡ Some view → AreEarlier number view × HaveValues V view (tuples_at lists i)
-have_at number V [] lists i h e = cc e
-have_at number V (v ∷ views) [] i h e = absurd h
-have_at number V (v ∷ views) (l ∷ lists) zero {view} h e = subst (λ z. AreEarlier number z × HaveValues V z l) (same_Some v view e) h.0
+have_at _ V [] _ i h e = cc e
+have_at _ V (v ∷ _) [] i h e = absurd h
+have_at number V (v ∷ _) (l ∷ _) zero {view} h e = subst (λ z. AreEarlier number z × HaveValues V z l) (same_Some v view e) h.0
 have_at number V (v ∷ views) (l ∷ lists) (suc i) h e = have_at number V views lists i h.1 e
 
 have_last : (number : ℕ) (V : Values) (views : List View) (lists : List (List Tuple)) (view : View) (tuples : List Tuple)
     → AllHave number V views lists → AreEarlier (suc number) view → HaveValues V view tuples
     → AllHave (suc number) V (views ++ view ∷ []) (lists ++ tuples ∷ [])
-have_last number V [] [] view tuples h e k = ((e, k), tt)
-have_last number V [] (l ∷ lists) view tuples h e k = absurd h
-have_last number V (v ∷ views) [] view tuples h e k = absurd h
+have_last _ V [] [] _ _ h e k = ((e, k), tt)
+have_last _ V [] (l ∷ _) _ _ h e k = absurd h
+have_last _ V (v ∷ _) [] _ _ h e k = absurd h
 have_last number V (v ∷ views) (l ∷ lists) view tuples h e k =
     ((are_earlier_later number v h.0.0, h.0.1), have_last number V views lists view tuples h.1 e k)
 
 all_same : (V : Values) (number : ℕ) (new : ℕ → ℕ → ℕ) (views : List View) (lists : List (List Tuple)) → AllHave number V views lists
     → AllHave number (with_map V number new) views lists
-all_same V number new [] [] h = tt
-all_same V number new [] (l ∷ lists) h = absurd h
-all_same V number new (v ∷ views) [] h = absurd h
+all_same V _ _ [] [] h = tt
+all_same V _ _ [] (l ∷ _) h = absurd h
+all_same V _ _ (v ∷ _) [] h = absurd h
 all_same V number new (v ∷ views) (l ∷ lists) h = ((h.0.0, have_same V number new v l h.0.0 h.0.1), all_same V number new views lists h.1)
 
 abbrev pub OneMore : ℕ → List View → List (List Tuple) → View → List Tuple → Type 0
@@ -247,12 +245,8 @@ module _ (folds : List TypedFold) (number : ℕ) (V : Values) (views : List View
     (h : AllHave number V views lists) where
   pub of_filter : (input : ℕ) (condition : TypedExpr) {view : View} → slice_get views input ≡ Some view
       → OneMore number views lists view (made_of folds lists (typed.Filter input condition))
-  of_filter input condition {view} e =
-      let source = have_at _ V _ _ _ h e in (
-        V,
-        have_last _ V _ _ _ _ h (are_earlier_later _ _ source.0)
-            (filter_has V _ _ _ source.1),
-      )
+  of_filter _ _ {view} e =
+      let source = have_at _ V _ _ _ h e in (V, have_last _ V _ _ _ _ h (are_earlier_later _ _ source.0) (filter_has V _ _ _ source.1))
 
   pub of_map : {input : ℕ} {values : List TypedExpr} {view : View} → OfMap views number input values view
       → OneMore number views lists view (made_of folds lists (typed.Map input values))
@@ -287,8 +281,7 @@ module _ (folds : List TypedFold) (number : ℕ) (V : Values) (views : List View
       let one = have_at _ V _ _ _ h z.one in
       let other = have_at _ V _ _ _ h z.other in (
         V,
-        have_last _ V _ _ _ _ h (subst (AreEarlier (suc number)) (sym z.is)
-            (are_earlier_later _ _
+        have_last _ V _ _ _ _ h (subst (AreEarlier (suc number)) (sym z.is) (are_earlier_later _ _
             (both_earlier _ _ _ one.0 (picked_earlier _ _ _ other.0))))
             (subst (λ v. HaveValues V v (zip_stream slots (tuples_at lists left) (tuples_at lists right))) (sym z.is)
             (zip_has V _ _ _ below _ other.1 _ one.1)),
@@ -299,8 +292,7 @@ module _ (folds : List TypedFold) (number : ℕ) (V : Values) (views : List View
   of_group {input} {keys} f args {view} g =
       let from = have_at _ V _ _ _ h g.stream in (
         V,
-        have_last _ V _ _ _ _ h (subst (AreEarlier (suc number)) (sym g.is)
-            (are_earlier_later _ _ (picked_earlier _ _ _ from.0)))
+        have_last _ V _ _ _ _ h (subst (AreEarlier (suc number)) (sym g.is) (are_earlier_later _ _ (picked_earlier _ _ _ from.0)))
             (subst (λ v. HaveValues V v (group_stream (slice_get folds f) keys args (tuples_at lists input))) (sym g.is)
             (group_has V _ _ _ _ g.below _ from.1)),
       )

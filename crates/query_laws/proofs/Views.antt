@@ -48,32 +48,32 @@ pub record OfGroup (views : List View) (input : ℕ) (keys : List ℕ) (view : V
 
 -- the operator of the stream with this number makes these columns of those of other streams
 abbrev pub Makes : List View → ℕ → TypedOp → View → Type 0
-Makes views number (typed.Filter input condition) view = slice_get views input ≡ Some view
+Makes views _ (typed.Filter input _) view = slice_get views input ≡ Some view
 Makes views number (typed.Map input values) view = OfMap views number input values view
-Makes views number (typed.Zip left right slots) view = OfZip views left right slots view
-Makes views number (typed.Group input keys f args) view = OfGroup views input keys view
+Makes views _ (typed.Zip left right slots) view = OfZip views left right slots view
+Makes views _ (typed.Group input keys f _) view = OfGroup views input keys view
 
 -- streams, each made of those before it
 abbrev pub AreMade : List View → List TypedStream → List View → Type 0
-AreMade before [] [] = Unit {0}
-AreMade before [] (view ∷ views) = ⊥
-AreMade before (one ∷ streams) [] = ⊥
+AreMade _ [] [] = Unit {0}
+AreMade _ [] (_ ∷ _) = ⊥
+AreMade _ (_ ∷ _) [] = ⊥
 AreMade before (one ∷ streams) (view ∷ views) =
     Makes before (length before) one.op view × (one.columns ≡ column_names view) × AreMade (before ++ view ∷ []) streams views
 
 pub made_long : (before : List View) (streams : List TypedStream) (views : List View) → AreMade before streams views
     → length views ≡ length streams
-made_long before [] [] h = refl
-made_long before [] (view ∷ views) h = absurd h
-made_long before (one ∷ streams) [] h = absurd h
-made_long before (one ∷ streams) (view ∷ views) h = ap suc (made_long (before ++ view ∷ []) streams views h.2)
+made_long _ [] [] h = refl
+made_long _ [] (_ ∷ _) h = absurd h
+made_long _ (_ ∷ _) [] h = absurd h
+made_long before (_ ∷ streams) (view ∷ views) h = ap suc (made_long (before ++ view ∷ []) streams views h.2)
 
 pub made_last : (before : List View) (streams : List TypedStream) (views : List View) (one : TypedStream) (view : View)
     → AreMade before streams views → Makes (before ++ views) (length (before ++ views)) one.op view → one.columns ≡ column_names view
     → AreMade before (streams ++ one ∷ []) (views ++ view ∷ [])
 made_last before [] [] one view h k e = (subst (λ l. Makes l (length l) one.op view) (append-nil before) k, e, tt)
-made_last before [] (v ∷ views) one view h k e = absurd h
-made_last before (s ∷ streams) [] one view h k e = absurd h
+made_last _ [] (v ∷ _) _ _ h k e = absurd h
+made_last _ (s ∷ _) [] _ _ h k e = absurd h
 made_last before (s ∷ streams) (v ∷ views) one view h k e = (
   h.0,
   h.1,
@@ -84,19 +84,19 @@ made_last before (s ∷ streams) (v ∷ views) one view h k e = (
 -- ---- places in lists
 
 pub get_front : {A : Type 0} (xs ys : List A) (n : ℕ) {x : A} → slice_get xs n ≡ Some x → slice_get (xs ++ ys) n ≡ Some x
-get_front [] ys n e = cc e
-get_front (z ∷ xs) ys zero e = e
+get_front [] _ n e = cc e
+get_front (z ∷ _) _ zero e = e
 get_front (z ∷ xs) ys (suc n) e = get_front xs ys n e
 
 pub get_after : {A : Type 0} (xs : List A) {y : A} (ys : List A) (n : ℕ) → n ≡ length xs → slice_get (xs ++ y ∷ ys) n ≡ Some y
 get_after [] {y} ys n e = ap (λ k. slice_get (y ∷ ys) k) e
-get_after (x ∷ xs) ys zero e = absurd (omega (arith, e))
+get_after (x ∷ _) _ zero e = absurd (omega (arith, e))
 get_after (x ∷ xs) ys (suc n) e = get_after xs ys n (omega (arith, e))
 
 -- ---- the slots that a zip takes
 
 others_from_below : (at : ℕ) (names : List ℕ) (view : View) → AreBelow (at + length view) (others_from at names view)
-others_from_below at names [] = tt
+others_from_below _ _ [] = tt
 others_from_below at names (c ∷ view) = go (is_among c.name names)
     (subst (λ n. AreBelow n (others_from (at + 1) names view)) (omega arith) (others_from_below (at + 1) names view))
   where
@@ -114,10 +114,10 @@ others_below names view = subst (λ n. AreBelow n (others_from 0 names view)) (o
 pub columns_made : (before : List View) (streams : List TypedStream) (views : List View) → AreMade before streams views
     → (i : ℕ) {view : View} → slice_get views i ≡ Some view → option_map (λ one. one.columns) (slice_get streams i) ≡ Some
     (column_names view)
-columns_made before [] [] h i e = cc e
-columns_made before [] (v ∷ views) h i e = absurd h
-columns_made before (s ∷ streams) [] h i e = absurd h
-columns_made before (s ∷ streams) (v ∷ views) h zero {view} e = ap Some (h.1 ∙ ap column_names (same_Some v view e))
+columns_made _ [] [] h i e = cc e
+columns_made _ [] (v ∷ _) h i e = absurd h
+columns_made _ (s ∷ _) [] h i e = absurd h
+columns_made _ (s ∷ _) (v ∷ _) h zero {view} e = ap Some (h.1 ∙ ap column_names (same_Some v view e))
 columns_made before (s ∷ streams) (v ∷ views) h (suc i) e = columns_made (before ++ v ∷ []) streams views h.2 i e
 
 zip_front : {before : List View} (more : List View) {left right : ℕ} {slots : List ℕ} {view : View} → OfZip before left right slots view
@@ -141,10 +141,10 @@ pub record ZipAt (views : List View) (number left right : ℕ) (slots : List ℕ
 pub zip_made : (before : List View) (streams : List TypedStream) (views : List View) → AreMade before streams views
     → (i : ℕ) {left right : ℕ} {slots : List ℕ} → option_map (λ one. one.op) (slice_get streams i) ≡ Some (typed.Zip left right slots)
     → ZipAt (before ++ views) (length before + i) left right slots
-zip_made before [] [] h i e = cc e
-zip_made before [] (v ∷ views) h i e = absurd h
-zip_made before (s ∷ streams) [] h i e = absurd h
-zip_made before (s ∷ streams) (v ∷ views) h zero {left} {right} {slots} e = record {
+zip_made _ [] [] h i e = cc e
+zip_made _ [] (v ∷ _) h i e = absurd h
+zip_made _ (s ∷ _) [] h i e = absurd h
+zip_made before (s ∷ _) (v ∷ views) h zero {left} {right} {slots} e = record {
   view = v;
   stands = get_after before views (length before + 0) (omega arith);
   made = zip_front (v ∷ views) (subst (λ op. Makes before (length before) op v) (same_Some s.op (typed.Zip left right slots) e) h.0);

@@ -19,20 +19,20 @@ use Rattle.query_laws.proofs.Rows.{HasRows, names_are, row_in}
 
 -- the first column of this name
 abbrev named : View → ℕ → Option StreamColumn
-named [] id = None
+named [] _ = None
 named (c ∷ view) id = if nat_eq c.name id then Some c else named view id
 
 abbrev value_of : Values → ℕ → Option StreamColumn → Option ℕ
 value_of V packet o = option_map (λ c. V packet c.origin c.name) o
 
 index_after : (front : List ℕ) {x : ℕ} (rest : List ℕ) → slice_index (front ++ x ∷ rest) (length front) ≡ x
-index_after [] rest = refl
+index_after [] _ = refl
 index_after (y ∷ front) rest = index_after front rest
 
 value_from : (V : Values) (packet id : ℕ) (front : List ℕ) (view : View)
     → option_map (λ slot. slice_index (front ++ row_of V packet view) slot) (place_from (length front) (column_names view) id)
     ≡ value_of V packet (named view id)
-value_from V packet id front [] = refl
+value_from V _ _ _ [] = refl
 value_from V packet id front (c ∷ view) = go (nat_eq c.name id)
     (ap (λ n. option_map (λ slot. slice_index whole slot) (place_from n (column_names view) id)) (sym (length_push front x))
     ∙ ap (λ l. option_map (λ slot. slice_index l slot) (place_from (length (front ++ x ∷ [])) (column_names view) id))
@@ -48,7 +48,7 @@ value_from V packet id front (c ∷ view) = go (nat_eq c.name id)
         (named view id)
         → option_map (λ slot. slice_index whole slot) (cond b (Some (length front)) (place_from (length front + 1) (column_names view) id))
         ≡ value_of V packet (cond b (Some c) (named view id))
-    go true more = ap (λ n. Some n) (index_after front (row_of V packet view))
+    go true _ = ap (λ n. Some n) (index_after front (row_of V packet view))
     go false more = more
 
 value_named : (V : Values) (packet id : ℕ) (view : View)
@@ -64,15 +64,15 @@ first_false false e = (refl, e)
 -- a column that is found has the name, and fails each test that no column passes
 named_fails : (view : View) {id : ℕ} {c : StreamColumn} (test : StreamColumn → Bool) → named view id ≡ Some c → list_any test view ≡ false
     → (c.name ≡ id) × (test c ≡ false)
-named_fails [] test e h = cc e
+named_fails [] _ e h = cc e
 named_fails (x ∷ view) {id} {c} test e h =
     let none = first_false (test x) h in
     go (nat_eq x.name id) refl none.0 (λ k. named_fails view test k none.1) e
   where
     go : (b : Bool) → nat_eq x.name id ≡ b → test x ≡ false → (named view id ≡ Some c → (c.name ≡ id) × (test c ≡ false))
         → cond b (Some x) (named view id) ≡ Some c → (c.name ≡ id) × (test c ≡ false)
-    go true is fails more k = subst (λ z. (z.name ≡ id) × (test z ≡ false)) (let same : x ≡ c = cc k in same) (nat_same is, fails)
-    go false is fails more k = more k
+    go true is fails _ k = subst (λ z. (z.name ≡ id) × (test z ≡ false)) (let same : x ≡ c = cc k in same) (nat_same is, fails)
+    go false _ _ more k = more k
 
 origins_same : (a b : Origin) → same_origin a b ≡ true → a ≡ b
 origins_same origin.Field origin.Field e = refl
@@ -81,14 +81,14 @@ origins_same (origin.Map a) origin.Field e = cc e
 origins_same (origin.Map a) (origin.Map b) e = ap (λ n. origin.Map n) (nat_same e)
 
 same_where : (a b : Bool) → a ≡ true → (a && not b) ≡ false → b ≡ true
-same_where true true is e = refl
-same_where true false is e = cc e
+same_where true true _ e = refl
+same_where true false _ e = cc e
 same_where false b is e = cc is
 
 -- columns of one name come from one place
 columns_same : (first second : View) (id : ℕ) {c d : StreamColumn} → clash first second ≡ false → named first id ≡ Some c
     → named second id ≡ Some d → (c.name ≡ d.name) × (c.origin ≡ d.origin)
-columns_same first second id {c} {d} apart one other =
+columns_same first second _ {c} {d} apart one other =
     let right = named_fails second (clashes_with first) other apart in
     let left = named_fails first (λ z. nat_eq z.name d.name && not (same_origin z.origin d.origin)) one right.1 in
     let name : c.name ≡ d.name = left.0 ∙ sym right.0 in (
@@ -105,12 +105,12 @@ values_same V {packet} first second id {c} {d} apart one other =
 -- ---- the columns of the zip
 
 abbrev kept : List ℕ → View → View
-kept names [] = []
+kept _ [] = []
 kept names (c ∷ view) = if is_among c.name names then kept names view else (c ∷ kept names view)
 
 others_are : (all : View) (at : ℕ) (names : List ℕ) (view : View) → ((k : ℕ) → slice_get all (at + k) ≡ slice_get view k)
     → columns_at all (others_from at names view) ≡ kept names view
-others_are all at names [] are = refl
+others_are all _ _ [] _ = refl
 others_are all at names (c ∷ view) are = go (is_among c.name names)
     (others_are all (at + 1) names view (λ k. ap (slice_get all) (let same : (at + 1) + k ≡ at + suc k = omega arith in same)
     ∙ are (suc k)))
@@ -125,44 +125,44 @@ others_are all at names (c ∷ view) are = go (is_among c.name names)
     go false more = ap (λ o. cons_option o (columns_at all (others_from (at + 1) names view))) here ∙ ap (λ l. c ∷ l) more
 
 named_front : (view more : View) (id : ℕ) {c : StreamColumn} → named view id ≡ Some c → named (view ++ more) id ≡ Some c
-named_front [] more id e = cc e
+named_front [] _ _ e = cc e
 named_front (x ∷ view) more id {c} e = go (nat_eq x.name id) (λ k. named_front view more id k) e
   where
     go : (b : Bool) → (named view id ≡ Some c → named (view ++ more) id ≡ Some c) → cond b (Some x) (named view id) ≡ Some c
         → cond b (Some x) (named (view ++ more) id) ≡ Some c
-    go true rest k = k
+    go true _ k = k
     go false rest k = rest k
 
 named_after : (view more : View) (id : ℕ) → named view id ≡ None → named (view ++ more) id ≡ named more id
-named_after [] more id e = refl
+named_after [] _ _ e = refl
 named_after (x ∷ view) more id e = go (nat_eq x.name id) (λ k. named_after view more id k) e
   where
     go : (b : Bool) → (named view id ≡ None → named (view ++ more) id ≡ named more id) → cond b (Some x) (named view id) ≡ None
         → cond b (Some x) (named (view ++ more) id) ≡ named more id
-    go true rest k = cc k
+    go true _ k = cc k
     go false rest k = rest k
 
 none_among : (view : View) (id : ℕ) → named view id ≡ None → is_among id (column_names view) ≡ false
-none_among [] id e = refl
+none_among [] _ e = refl
 none_among (x ∷ view) id e = go (nat_eq x.name id) (λ k. none_among view id k) e
   where
     go : (b : Bool) → (named view id ≡ None → is_among id (column_names view) ≡ false) → cond b (Some x) (named view id) ≡ None
         → (b || is_among id (column_names view)) ≡ false
-    go true rest k = cc k
+    go true _ k = cc k
     go false rest k = rest k
 
 -- a column of another name than these is kept
 named_kept : (names : List ℕ) (view : View) (id : ℕ) → is_among id names ≡ false → named (kept names view) id ≡ named view id
-named_kept names [] id h = refl
+named_kept _ [] _ h = refl
 named_kept names (c ∷ view) id h = go (is_among c.name names) (nat_eq c.name id) refl refl (named_kept names view id h)
   where
     go : (b e : Bool) → is_among c.name names ≡ b → nat_eq c.name id ≡ e → named (kept names view) id ≡ named view id
         → named (cond b (kept names view) (c ∷ kept names view)) id ≡ cond e (Some c) (named view id)
-    go true true is same more =
+    go true true is same _ =
         let there : is_among id names ≡ true = ap (λ n. is_among n names) (sym (nat_same same)) ∙ is in cc (there, h)
-    go true false is same more = more
-    go false true is same more = ap (λ b. cond b (Some c) (named (kept names view) id)) same
-    go false false is same more = ap (λ b. cond b (Some c) (named (kept names view) id)) same ∙ more
+    go true false _ _ more = more
+    go false true _ same _ = ap (λ b. cond b (Some c) (named (kept names view) id)) same
+    go false false _ same more = ap (λ b. cond b (Some c) (named (kept names view) id)) same ∙ more
 
 zip_after : (first second : View) (id : ℕ) → named first id ≡ None
     → named (first ++ columns_at second (others_from 0 (column_names first) second)) id ≡ named second id
@@ -179,8 +179,8 @@ agree V packet first second id {a} {b} apart l r = go (named first id) (named se
   where
     go : (o p : Option StreamColumn) → named first id ≡ o → named second id ≡ p → value_of V packet o ≡ Some a
         → value_of V packet p ≡ Some b → a ≡ b
-    go None p is other l r = cc l
-    go (Some c) None is other l r = cc r
+    go None p _ _ l r = cc l
+    go (Some c) None _ _ l r = cc r
     go (Some c) (Some d) is other l r = sym (same_Some _ a l) ∙ values_same V first second id apart is other ∙ same_Some _ b r
 
 keeps_first : (V : Values) (packet : ℕ) (first more : View) (id : ℕ) {v : ℕ} → value_of V packet (named first id) ≡ Some v
@@ -189,7 +189,7 @@ keeps_first V packet first more id {v} e = go (named first id) refl e
   where
     go : (o : Option StreamColumn) → named first id ≡ o → value_of V packet o ≡ Some v
         → value_of V packet (named (first ++ more) id) ≡ Some v
-    go None is k = cc k
+    go None _ k = cc k
     go (Some c) is k = ap (value_of V packet) (named_front first more id is) ∙ k
 
 keeps_second : (V : Values) (packet : ℕ) (first second : View) (id : ℕ) {v : ℕ} → clash first second ≡ false
@@ -202,7 +202,7 @@ keeps_second V packet first second id {v} apart e = go (named first id) (named s
 
     go : (o p : Option StreamColumn) → named first id ≡ o → named second id ≡ p → value_of V packet p ≡ Some v
         → value_of V packet (named zipped id) ≡ Some v
-    go o None is other k = cc k
+    go o None _ _ k = cc k
     go None (Some d) is other k = ap (value_of V packet) (zip_after first second id is ∙ other) ∙ k
     go (Some c) (Some d) is other k =
         ap (value_of V packet) (named_front first (columns_at second (others_from 0 (column_names first) second)) id is)
@@ -231,14 +231,14 @@ module _ (q : TypedQuery) (packets : List (List ℕ)) (r : HasRows q packets) wh
           (zip_made _ _ _ r.made i e)
 
   pub columns_agree : (number left right : ℕ) → IsZip q number left right → ColumnsAgree q packets left right
-  columns_agree number left right z t u id a b in_left in_right same l m =
+  columns_agree _ left right z t u id a b in_left in_right same l m =
       let made = (zip_at z).made in
       agree r.values u.packet made.first made.second id made.apart
       (ap (λ packet. value_of r.values packet (named made.first id)) (sym same) ∙ sym (under left id made.one in_left) ∙ l)
       (sym (under right id made.other in_right) ∙ m)
 
   pub first_kept : (number left right : ℕ) → IsZip q number left right → ColumnsAreKept q packets left number
-  first_kept number left right z t u id v in_left in_zip same e =
+  first_kept number left _ z t u id v in_left in_zip same e =
       let at = zip_at z in
       let made = at.made in
       under number id at.stands in_zip ∙ ap (λ view. value_of r.values u.packet (named view id)) made.is
@@ -246,7 +246,7 @@ module _ (q : TypedQuery) (packets : List (List ℕ)) (r : HasRows q packets) wh
       (ap (λ packet. value_of r.values packet (named made.first id)) (sym same) ∙ sym (under left id made.one in_left) ∙ e)
 
   pub second_kept : (number left right : ℕ) → IsZip q number left right → ColumnsAreKept q packets right number
-  second_kept number left right z t u id v in_right in_zip same e =
+  second_kept number _ right z t u id v in_right in_zip same e =
       let at = zip_at z in
       let made = at.made in
       under number id at.stands in_zip ∙ ap (λ view. value_of r.values u.packet (named view id)) made.is
