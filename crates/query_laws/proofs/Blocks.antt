@@ -9,8 +9,8 @@ use Rattle.query_lang.specs.declared.query.Stmt.TheVariants as whole
 use Rattle.query_lang.proofs.TreeLemmas.{term_not}
 use Rattle.query_laws.proofs.Terms.{WrongArity, Span, TypedExpr, TypedStmt, Name, Expr, Stmt, fold-roll-Stmt, ind-Stmt, roll-Stmt, map-Stmt}
 use Rattle.query_laws.proofs.Terms.{rolls-Assign, rolls-If, rolls-Emit, Body, Enclosing, Term, ReadsArguments, Checked, is_among, place_of}
-use Rattle.query_laws.proofs.Terms.{condition_of, word_of, target_at, target_of, state_in, joined, inside, emit_condition, no_state, Adding}
-use Rattle.query_laws.proofs.Terms.{in_order, stmt_step, stmt_checked, Condition, StandsAt, conjunction, emit_of, ReadArguments, HasBlock}
+use Rattle.query_laws.proofs.Terms.{word_of, target_at, target_of, joined, inside, emit_condition, no_state, Adding}
+use Rattle.query_laws.proofs.Terms.{in_order, stmt_step, stmt_checked, StandsAt, conjunction, emit_of, ReadArguments, HasBlock}
 use Rattle.query_laws.proofs.Terms.{of_none, of_assign, of_if, of_emit, at_most_one}
 use Rattle.query_laws.proofs.Steps.{must_not_ok, must_not_holds, same_ok, found_first, then_next, place_stands, stands_place}
 use Rattle.query_laws.proofs.{ExprSound.condition_sound, ExprSound.word_sound, ExprComplete.condition_complete, ExprComplete.word_complete}
@@ -151,12 +151,14 @@ step {states} {args} (stmt.If c a b) around _ found _ f is =
     let r = reads _ rule in
     let p = block_of_sound a (fits_inside f r) one.1 in
     let q = block_of_sound b (fits_inside f (not_reads r)) two.1 in
-    moved (rolls-If c firsts seconds) (subst (λ z. Added states args around (whole.If c firsts seconds) found z) (same_ok _ _ two.2) (record {
+    moved (rolls-If c firsts seconds) (subst (λ z. Added states args around (whole.If c firsts seconds) found z) (same_ok _ _ two.2)
+    (record {
       ts = typed_stmt.If t one.0.statements two.0.statements ∷ [];
       es = p.es ++ q.es;
       statements = refl;
       emits = sym (append_assoc (at_most_one found.emit) p.es q.es) ∙ ap (λ z. z ++ q.es) p.emits ∙ q.emits;
-      rule = λ rest us fs h. of_if rule (subst (λ z. HasBlock states args (t ∷ around) firsts z p.es) (sym p.statements) p.rule) (subst (λ z. HasBlock states args (typed.Not t ∷ around) seconds z q.es) (sym q.statements) q.rule) h;
+      rule = λ rest us fs h. of_if rule (subst (λ z. HasBlock states args (t ∷ around) firsts z p.es) (sym p.statements) p.rule)
+          (subst (λ z. HasBlock states args (typed.Not t ∷ around) seconds z q.es) (sym q.statements) q.rule) h;
     }))
 step {states} {args} (stmt.Emit span) around outer found made f is =
     let once = must_not_ok (is_some found.emit) WrongArity span is in

@@ -5,7 +5,7 @@ use Rattle.std.specs.Prelude.{is_some}
 use Rattle.query_lang.specs.declared.fold.TypedExpr.TheVariants as typed
 use Rattle.query_lang.specs.declared.query.Stmt.TheOpen as stmt
 use Rattle.query_lang.specs.declared.query.Stmt.TheVariants as block
-use Rattle.query_laws.proofs.Terms.{UnknownName, WrongKind, WrongArity, StateOnLine, QueryFault, Span, Name, Expr, Stmt, fold-roll-Stmt}
+use Rattle.query_laws.proofs.Terms.{WrongArity, QueryFault, Span, Name, Expr, Stmt, fold-roll-Stmt}
 use Rattle.query_laws.proofs.Terms.{ind-Stmt, roll-Stmt, map-Stmt, rolls-Assign, rolls-If, rolls-Emit, Body, Enclosing, Known, Checked}
 use Rattle.query_laws.proofs.Terms.{is_among, place_of, condition_of, word_of, target_at, target_of, inside, no_state, Adding, in_order}
 use Rattle.query_laws.proofs.Terms.{stmt_step, stmt_checked, StandsIn, HasEmit, FollowsEmit, Target, ReadsNone, in_first, in_second}
@@ -131,7 +131,8 @@ emit_step _ _ (stmt.Emit span) _ found {made} _ = emits_moved found made (rolls-
 
 stmt_emits : (states args : List ℕ) (s : Stmt) → TellsEmit states args s
 stmt_emits states args = ind-Stmt (TellsEmit states args) (λ x y is outer found made e.
-    subst (λ z. stmt_step states args (map-Stmt Stmt Adding (stmt_checked states args) z) outer found ≡ Ok made → Emits found made (roll-Stmt z ∷ [])) is (emit_step _ _ y _ _) (sym (ap (λ g. g outer found)
+    subst (λ z. stmt_step states args (map-Stmt Stmt Adding (stmt_checked states args) z) outer found ≡ Ok made
+    → Emits found made (roll-Stmt z ∷ [])) is (emit_step _ _ y _ _) (sym (ap (λ g. g outer found)
     (fold-roll-Stmt Adding (stmt_step states args) x)) ∙ e))
 
 all_emit : (states args : List ℕ) (ss : List Stmt) (outer : Enclosing) (found : Body) {made : Body}
@@ -156,7 +157,8 @@ module _ (states args : List ℕ) (known : List Known) (fault : QueryFault) wher
   abbrev InBlock : List Expr → List Stmt → Bool → Type 0
   InBlock outer ss has = BlockTold states args outer ss has known fault
 
-  told_more : {outer : List Expr} {front : List Stmt} (back : List Stmt) {has : Bool} → InBlock outer front has → InBlock outer (front ++ back) has
+  told_more : {outer : List Expr} {front : List Stmt} (back : List Stmt) {has : Bool} → InBlock outer front has
+      → InBlock outer (front ++ back) has
   told_more _ (at_statement h b) = at_statement (with_more _ h) b
   told_more _ (second _ e h is) = second _ e (with_more _ h) is
   told_more _ (follows e h) = follows e (follows_more _ h)
@@ -269,7 +271,8 @@ module _ (states args : List ℕ) (known : List Known) (fault : QueryFault) wher
 
   stmt_told : (s : Stmt) → IsToldStmt s
   stmt_told = ind-Stmt IsToldStmt (λ x y is around outer found knows e.
-      subst (λ z. stmt_step states args (map-Stmt Stmt Adding (stmt_checked states args) z) outer found ≡ Err fault → InBlock around (roll-Stmt z ∷ []) (is_some found.emit)) is (told_step y _ _ knows) (sym (ap (λ g. g outer found)
+      subst (λ z. stmt_step states args (map-Stmt Stmt Adding (stmt_checked states args) z) outer found ≡ Err fault
+      → InBlock around (roll-Stmt z ∷ []) (is_some found.emit)) is (told_step y _ _ knows) (sym (ap (λ g. g outer found)
       (fold-roll-Stmt Adding (stmt_step states args) x)) ∙ e))
 
   pub body_told : (ss : List Stmt) {around : List Expr} (outer : Enclosing) (found : Body) → Knows states around outer

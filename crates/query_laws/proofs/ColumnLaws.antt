@@ -1,5 +1,5 @@
 -- Which columns a `zip` and a `groupby` have: the rules and the checks agree.
-use Rattle.std.proofs.Common.{◌≡◌, ℕ, zero, suc, ◌+◌, ◌<◌, Bool, true, false, cond, List, [], ◌∷◌, length, Option, Some, refl, sym, ap}
+use Rattle.std.proofs.Common.{◌≡◌, ℕ, zero, suc, ◌+◌, ◌<◌, Bool, true, false, cond, List, [], ◌∷◌, length, Some, refl, sym, ap}
 use Rattle.std.proofs.Common.{subst, ◌∙◌, arith}
 use Rattle.std.specs.{Prelude.slice_get, List.cons_option}
 use Rattle.query_laws.proofs.Terms.{StreamColumn, is_among, column_names, others_from, columns_at, StandsAt}
@@ -31,7 +31,8 @@ are_there : (columns : List StreamColumn) (slots : List ℕ) → AreWithin (leng
 are_there _ [] h = tt
 are_there columns (slot ∷ slots) h =
     let c = found_column columns slot h.0 in
-    subst (λ z. AreAt columns (slot ∷ slots) z) (sym (ap (λ o. cons_option o (columns_at columns slots)) c.1)) (c.1, are_there columns slots h.1)
+    subst (λ z. AreAt columns (slot ∷ slots) z) (sym (ap (λ o. cons_option o (columns_at columns slots)) c.1))
+    (c.1, are_there columns slots h.1)
 
 stands_within : (columns : List StreamColumn) (slot id : ℕ) → StandsAt (column_names columns) slot id → slot < length columns
 stands_within [] _ _ h = absurd h
@@ -94,6 +95,7 @@ pub record Taken (names : List ℕ) (columns : List StreamColumn) : Type 0 where
 
 pub others_taken : {names : List ℕ} {columns : List StreamColumn} → Taken names columns
 others_taken {names} {columns} = record {
-      new = others_found names 0 columns;
-      there = are_there columns (others_from 0 names columns) (subst (λ n. AreWithin n (others_from 0 names columns)) (omega arith) (others_within 0 names columns));
-    }
+  new = others_found names 0 columns;
+  there = are_there columns (others_from 0 names columns) (subst (λ n. AreWithin n (others_from 0 names columns)) (omega arith)
+      (others_within 0 names columns));
+}

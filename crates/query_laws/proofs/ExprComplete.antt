@@ -1,5 +1,5 @@
 -- What has a rule is what the check of an expression gives.
-use Rattle.std.proofs.Common.{◌≡◌, ℕ, ◌<◌, Bool, true, not, List, [], ◌∷◌, map, Option, Ok, nat_lt, refl, sym, ap, ◌∙◌, arith}
+use Rattle.std.proofs.Common.{◌≡◌, ℕ, ◌<◌, Bool, true, not, List, [], ◌∷◌, map, Ok, nat_lt, refl, sym, ap, ◌∙◌, arith}
 use Rattle.query_lang.specs.declared.fold.TypedExpr.TheVariants as typed
 use Rattle.query_lang.specs.declared.query.Expr.TheOpen as expr
 use Rattle.query_lang.specs.declared.query.Expr.TheVariants as whole
@@ -91,7 +91,8 @@ two {columns} {hidden} {op} {b} x y c = must_holds _ _ (operand _ _ x.kind) ∙ 
 pair_tree : {op : Op} (at : Span) (x y : Found) {s t : TypedExpr} → x.tree ≡ s → y.tree ≡ t → (pair op at x y).tree ≡ typed.Binary op s t
 pair_tree {op} _ x y {s} p q = ap (λ z. typed.Binary op z y.tree) p ∙ ap (typed.Binary op s) q
 
-pub complete : {columns : List ℕ} (hidden : List ℕ) {k : Kind} {e : Expr} {t : TypedExpr} → HasKind columns k e t → Gives columns hidden k e t
+pub complete : {columns : List ℕ} (hidden : List ℕ) {k : Kind} {e : Expr} {t : TypedExpr} → HasKind columns k e t
+    → Gives columns hidden k e t
 complete {columns} _ (of_number {n} span) = record {
   found = record { tree = typed.Number n; sort = sort.Number n; at = span };
   is = number_is _ _;

@@ -3,7 +3,7 @@ use Rattle.std.proofs.Common.{◌≡◌, ℕ, ◌+◌, Bool, true, false, nat_eq
 use Rattle.std.proofs.Common.{refl, sym, ap, subst, ◌∙◌, arith}
 use Rattle.query_lang.specs.declared.query.Expr.TheOpen as expr
 use Rattle.query_lang.specs.declared.query.Expr.TheVariants as whole
-use Rattle.query_laws.proofs.Terms.{UnknownName, WrongKind, WrongArity, BadConstant, StateOnLine, QueryFault, Span, Op, TypedExpr, Name}
+use Rattle.query_laws.proofs.Terms.{WrongKind, WrongArity, BadConstant, QueryFault, Span, Op, TypedExpr, Name}
 use Rattle.query_laws.proofs.Terms.{Expr, fold-roll-Expr, ind-Expr, roll-Expr, map-Expr, rolls-Named, rolls-Not, rolls-Binary, rolls-Call}
 use Rattle.query_laws.proofs.Terms.{Found, Known, Checked, collected, is_among, place_from, place_of, slot_at, slot_of, is_operand}
 use Rattle.query_laws.proofs.Terms.{is_right_constant, of_two, call_of, expr_step, expr_checked, condition_of, word_of, Kind, Word}
@@ -84,7 +84,9 @@ left_step columns hidden (expr.Call op _ args) {found} e =
 
 pub stands_left : (columns hidden : List ℕ) (e : Expr) → StandsLeft columns hidden e
 stands_left columns hidden = ind-Expr (StandsLeft columns hidden) (λ x y is found e.
-    subst (λ z. expr_step columns hidden (map-Expr Expr (Checked Found) (expr_checked columns hidden) z) ≡ Ok found → found.at ≡ leftmost_step (map-Expr Expr Span leftmost z)) is (left_step _ _ y) (sym (fold-roll-Expr (Checked Found) (expr_step columns hidden) x) ∙ e)
+    subst (λ z. expr_step columns hidden (map-Expr Expr (Checked Found) (expr_checked columns hidden) z) ≡ Ok found
+    → found.at ≡ leftmost_step (map-Expr Expr Span leftmost z)) is (left_step _ _ y)
+    (sym (fold-roll-Expr (Checked Found) (expr_step columns hidden) x) ∙ e)
     ∙ sym (fold-roll-Expr Span leftmost_step x))
 
 -- ---- what is asked of a part is asked
@@ -144,19 +146,19 @@ two_told : {columns hidden : List ℕ} {k : Kind} {e : Expr} {op : Op} (at : Spa
     → ExprAsks columns hidden k e (Typed columns (operand_kind op) a) → ExprAsks columns hidden k e (Typed columns (operand_kind op) b)
     → ExprAsks columns hidden k e (Constant op b) → of_two op at x y ≡ Err fault → ExprBroken columns hidden k e fault
 two_told {columns} {hidden} {op} _ {a} {b} {x} {y} {fault} p q left right_ constant is = by_must _ _ {fault = fault} is (λ no same. record {
-      demand = Typed columns (operand_kind op) a;
-      asks = left;
-      tells = kind_told _ _ {l = operand_kind op} a x {fault = fault} p same (λ kind. not_both _ no (operand _ _ kind));
-    }) (λ yes is. by_must _ _ {fault = fault} is (λ no same. record {
-      demand = Typed columns (operand_kind op) b;
-      asks = right_;
-      tells = kind_told _ _ {l = operand_kind op} b y {fault = fault} q same (λ kind. not_both _ no (operand _ _ kind));
-    }) (λ yes is. by_must _ _ {fault = fault} is (λ no same. record {
-      demand = Constant op b;
-      asks = constant;
-      tells = λ known. told _ _ {kind = BadConstant} {span = y.at} {fault = fault} same
-          (sym (stands_left _ _ b y q), λ h. not_both _ no (right _ _ _ b y q h));
-    }) (λ yes is. no_fault {fault = fault} is)))
+  demand = Typed columns (operand_kind op) a;
+  asks = left;
+  tells = kind_told _ _ {l = operand_kind op} a x {fault = fault} p same (λ kind. not_both _ no (operand _ _ kind));
+}) (λ yes is. by_must _ _ {fault = fault} is (λ no same. record {
+  demand = Typed columns (operand_kind op) b;
+  asks = right_;
+  tells = kind_told _ _ {l = operand_kind op} b y {fault = fault} q same (λ kind. not_both _ no (operand _ _ kind));
+}) (λ yes is. by_must _ _ {fault = fault} is (λ no same. record {
+  demand = Constant op b;
+  asks = constant;
+  tells = λ known. told _ _ {kind = BadConstant} {span = y.at} {fault = fault} same
+      (sym (stands_left _ _ b y q), λ h. not_both _ no (right _ _ _ b y q h));
+}) (λ yes is. no_fault {fault = fault} is)))
 
 -- ---- expressions
 
@@ -252,7 +254,9 @@ step {columns} {hidden} (expr.Call op span args) e k = moved (rolls-Call op span
 
 pub expr_told : {columns hidden : List ℕ} (e : Expr) → IsTold columns hidden e
 expr_told {columns} {hidden} = ind-Expr (IsTold columns hidden) (λ x y is fault e k.
-    subst (λ z. expr_step columns hidden (map-Expr Expr (Checked Found) (expr_checked columns hidden) z) ≡ Err fault → (l : Kind) → ExprBroken columns hidden l (roll-Expr z) fault) is (step y) (sym (fold-roll-Expr (Checked Found) (expr_step columns hidden) x) ∙ e) k)
+    subst (λ z. expr_step columns hidden (map-Expr Expr (Checked Found) (expr_checked columns hidden) z) ≡ Err fault → (l : Kind)
+    → ExprBroken columns hidden l (roll-Expr z) fault) is (step y)
+    (sym (fold-roll-Expr (Checked Found) (expr_step columns hidden) x) ∙ e) k)
 
 pub condition_told : {columns hidden : List ℕ} {e : Expr} {fault : QueryFault} → condition_of columns hidden e ≡ Err fault
     → ExprBroken columns hidden Condition e fault
@@ -266,7 +270,7 @@ condition_told {columns} {hidden} {e} {fault} is =
 pub word_told : {columns hidden : List ℕ} {e : Expr} {fault : QueryFault} → word_of columns hidden e ≡ Err fault
     → ExprBroken columns hidden Word e fault
 word_told {columns} {hidden} {e} {fault} is = by_next _ is (λ is. expr_told e fault is Word) (λ x p is. by_must _ _ is (λ no same. record {
-      demand = Typed columns Word e;
-      asks = of_part parts.whole;
-      tells = kind_told _ _ e x p same (λ kind. not_both _ no (kind_word _ kind));
-    }) (λ yes is. no_fault is))
+  demand = Typed columns Word e;
+  asks = of_part parts.whole;
+  tells = kind_told _ _ e x p same (λ kind. not_both _ no (kind_word _ kind));
+}) (λ yes is. no_fault is))

@@ -1,5 +1,5 @@
 -- What the check of an expression gives has a rule.
-use Rattle.std.proofs.Common.{◌≡◌, ℕ, ◌<◌, Bool, true, false, not, cond, List, [], ◌∷◌, ◌++◌, map, Option, Some, None, Ok, Err, nat_lt}
+use Rattle.std.proofs.Common.{◌≡◌, ℕ, Bool, true, false, not, cond, List, [], ◌∷◌, ◌++◌, map, Option, Some, None, Ok, Err}
 use Rattle.std.proofs.Common.{refl, sym, ap, subst, ◌∙◌, append_assoc, append-nil}
 use Rattle.std.proofs.lemmas.Bool.{ltb-true}
 use Rattle.query_lang.specs.declared.fold.TypedExpr.TheVariants as typed
@@ -8,7 +8,7 @@ use Rattle.query_lang.specs.declared.query.Expr.TheVariants as whole
 use Rattle.query_lang.specs.declared.typing.Sort.TheVariants as sort
 use Rattle.query_laws.proofs.Terms.{Span, Op, Div, Rem, Shl, Shr, Decay, Eq, Ne, Lt, Le, Gt, Ge, Both, Either, TypedExpr, Name, Expr}
 use Rattle.query_laws.proofs.Terms.{fold-roll-Expr, ind-Expr, roll-Expr, map-Expr, rolls-Number, rolls-Named, rolls-Not, rolls-Binary}
-use Rattle.query_laws.proofs.Terms.{rolls-Call, Found, Sort, gives_condition, Checked, collected, is_among, place_of, slot_at, slot_of}
+use Rattle.query_laws.proofs.Terms.{rolls-Call, Found, Sort, Checked, collected, is_among, place_of, slot_at, slot_of}
 use Rattle.query_laws.proofs.Terms.{is_condition_sort, is_operand, is_number_with, is_right_constant, sort_of, of_two, call_of, expr_step}
 use Rattle.query_laws.proofs.Terms.{expr_checked, condition_of, word_of, Kind, Word, Condition, StandsAt, operand_kind, result_kind}
 use Rattle.query_laws.proofs.Terms.{IsNumberWith, IsRightOperand, HasKind, of_number, of_name, of_not, of_binary, of_call}
@@ -124,7 +124,8 @@ abbrev IsSoundLayer : List ℕ → List ℕ → expr.Expr-F Expr → Type 0
 IsSoundLayer columns hidden x = (found : Found) → expr_step columns hidden (map-Expr Expr (Checked Found) (expr_checked columns hidden) x)
     ≡ Ok found → IsTyped columns (roll-Expr x) found
 
-of_layer : {columns : List ℕ} (hidden : List ℕ) (x : expr.Expr-F Expr) → IsSoundLayer columns hidden x → IsSound columns hidden (roll-Expr x)
+of_layer : {columns : List ℕ} (hidden : List ℕ) (x : expr.Expr-F Expr) → IsSoundLayer columns hidden x
+    → IsSound columns hidden (roll-Expr x)
 of_layer {columns} hidden x layer found e = layer found (sym (fold-roll-Expr (Checked Found) (expr_step columns hidden) x) ∙ e)
 
 -- each of some expressions gives what was collected of it
@@ -173,7 +174,8 @@ moved {columns} {found} is h = subst (λ z. IsTyped columns z found) (sym is) h
 step : {columns : List ℕ} (hidden : List ℕ) (y : expr.Expr-F (Sound columns hidden))
     → IsSoundLayer columns hidden (map-Expr (Sound columns hidden) Expr (λ a. a.0) y)
 step {columns} _ (expr.Number n span) _ e =
-    moved (rolls-Number n span) (subst (λ z. IsTyped columns (whole.Number n span) z) (same_ok _ _ e) (record { rule = of_number span; number = (span, refl) }))
+    moved (rolls-Number n span) (subst (λ z. IsTyped columns (whole.Number n span) z) (same_ok _ _ e)
+    (record { rule = of_number span; number = (span, refl) }))
 step {columns} _ (expr.Named name) _ e =
     let first = found_first _ _ _ e in
     moved (rolls-Named name) (subst (λ z. IsTyped columns (whole.Named name) z) (same_ok _ _ first.2)
@@ -209,7 +211,8 @@ condition_sound {columns} _ {e} {tree} is =
     let test = must_ok _ _ _ first.2 in
     ruled (condition_kind _ test.0) refl (same_ok _ _ test.1) (expr_sound _ e first.0 first.1).rule
 
-pub word_sound : {columns : List ℕ} (hidden : List ℕ) {e : Expr} {tree : TypedExpr} → word_of columns hidden e ≡ Ok tree → HasKind columns Word e tree
+pub word_sound : {columns : List ℕ} (hidden : List ℕ) {e : Expr} {tree : TypedExpr} → word_of columns hidden e ≡ Ok tree
+    → HasKind columns Word e tree
 word_sound {columns} _ {e} {tree} is =
     let first = found_first _ _ _ is in
     let test = must_ok _ _ _ first.2 in

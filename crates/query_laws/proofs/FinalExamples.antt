@@ -1,11 +1,10 @@
 -- The examples of finals, from the rules.
 use Rattle.std.proofs.Common.{◌≡◌, ℕ, ◌≤◌, true, false, List, [], ◌∷◌, refl, sym, ap, ◌∙◌, arith}
 use Rattle.query_lang.specs.declared.fold.TypedExpr.TheVariants as typed
-use Rattle.query_lang.specs.declared.query.Expr.TheVariants.{Number, Named}
-use Rattle.query_lang.specs.declared.query.FinalOp.TheVariants.{Filter, Map, Join, Top}
+use Rattle.query_lang.specs.declared.query.Expr.TheVariants.{Named}
 use Rattle.query_lang.specs.declared.query.Key.TheVariants as key
-use Rattle.query_laws.proofs.Terms.{WrongKind, Add, Lt, FinalOp, FoldView, five_fields, IsFold, IsTable, ATable, AQuietFold, Demand, Stands}
-use Rattle.query_laws.proofs.Terms.{AColumn, New, Apart, SameKeys, Holds, Word, Condition, HasKind, of_number, of_name, of_binary}
+use Rattle.query_laws.proofs.Terms.{Add, Lt, FinalOp, FoldView, five_fields, IsFold, IsTable, Demand}
+use Rattle.query_laws.proofs.Terms.{Holds, Word, Condition, HasKind, of_number, of_name, of_binary}
 use Rattle.query_laws.specs.Asked.{FinalAsks}
 use Rattle.query_laws.specs.Asked as asks
 use Rattle.query_laws.proofs.{FaultSteps.no_fault, FoldNames.among_new, ItemsMeet.final_meets, Steps.same_ok, Steps.place_stands}
@@ -13,7 +12,7 @@ use Rattle.query_laws.proofs.{TypingExamples.no_place, TypingExamples.right_of_0
 use Rattle.query_laws.proofs.NameLaws.{fold_name_sound, fold_name_complete, table_sound, table_complete, apart_sound}
 use Rattle.query_laws.specs.TypingExamples.{here, called, first, is_above_0, new_column}
 use Rattle.query_laws.specs.FinalExamples.{group_table, final_table, without_emit, with_emit, tables, three_groupbys, MakesNoTable}
-use Rattle.query_laws.specs.FinalExamples.{table_by, MakesRows, FilteredTables, MappedTables, GroupedTables, JoinedTables}
+use Rattle.query_laws.specs.FinalExamples.{MakesRows, FilteredTables, MappedTables, GroupedTables, JoinedTables}
 use Rattle.query_laws.specs.FinalExamples.{RankedTables, FinalExamples}
 
 ten : IsTable tables 10 (group_table 0 1 3)

@@ -1,14 +1,14 @@
 -- Finals: the rules and the checks agree.
-use Rattle.std.proofs.Common.{◌≡◌, ℕ, ◌≤◌, Bool, true, false, ◌&&◌, List, [], ◌∷◌, ◌++◌, length, Ok, nat_eq, nat_lt, nat_le, refl, sym, ap}
+use Rattle.std.proofs.Common.{◌≡◌, ℕ, ◌≤◌, Bool, true, false, ◌&&◌, List, [], ◌∷◌, ◌++◌, length, Ok, nat_eq, nat_le, refl, sym, ap}
 use Rattle.std.proofs.Common.{subst, ◌∙◌, append-nil, arith}
 use Rattle.std.specs.Cmp.Lexicographic.{pointwise}
 use Rattle.std.proofs.lemmas.Bool.{ltb-true, leb-true}
 use Rattle.query_lang.specs.declared.query.FinalOp.TheVariants as ops
 use Rattle.query_lang.specs.declared.typed.TypedFinalOp.TheVariants as typed
 use Rattle.query_laws.proofs.Terms.{Span, Name, Key, Column, Expr, FinalOp, Earlier, Given, TableView, FoldView, MadeFinal, NewColumns}
-use Rattle.query_laws.proofs.Terms.{Picked, slot_of, condition_of, fold_named, new_columns, no_new_columns, keys_checked, arguments_of}
-use Rattle.query_laws.proofs.Terms.{table_named, table_number, five_fields, final_filter, final_map, quiet_fold, final_group, key_columns}
-use Rattle.query_laws.proofs.Terms.{other_columns, final_join, final_top, made_final, HasTypedColumns, HasArguments, key_ids}
+use Rattle.query_laws.proofs.Terms.{Picked, fold_named, new_columns, no_new_columns, keys_checked, arguments_of}
+use Rattle.query_laws.proofs.Terms.{table_named, table_number, five_fields, final_filter, final_map, quiet_fold, final_group}
+use Rattle.query_laws.proofs.Terms.{final_join, final_top, made_final, HasTypedColumns, HasArguments}
 use Rattle.query_laws.specs.FinalRules.{OfFilter, OfMap, OfGroup, OfJoin, OfTop, HasFinal}
 use Rattle.query_laws.proofs.Steps.{must_ok, must_not_ok, must_holds, must_not_holds, same_ok, found_first, then_next, nat_same, nat_is}
 use Rattle.query_laws.proofs.{ExprSound.slot_stands, ExprSound.condition_sound, ExprComplete.condition_complete, FoldNames.below}
@@ -111,7 +111,8 @@ group_sound given earlier {input} {keys} {fold_name} {made} is =
       picked = k.1;
       fold = fold_name_sound earlier.known fold_name (loud.1 ∙ ok same);
       quiet = sym (ap (λ (z : FoldView). z.emits) same) ∙ quiet.0;
-      taken = subst (λ (z : Picked). HasArguments source.0.columns z.names f.0 arguments.0) k.2 (arguments_sound [] fold_name.span arguments.1);
+      taken = subst (λ (z : Picked). HasArguments source.0.columns z.names f.0 arguments.0) k.2
+          (arguments_sound [] fold_name.span arguments.1);
       is = sym (same_ok _ made arguments.2) ∙ ap (groups_to given.groups source.0 f.0 arguments.0) k.2;
     }
 

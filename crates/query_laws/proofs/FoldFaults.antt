@@ -1,7 +1,7 @@
 -- What a fault in a fold says.
 use Rattle.std.proofs.Common.{◌≡◌, ℕ, false, ◌||◌, List, [], ◌∷◌, ◌++◌, length, map, Err, suc, refl, sym, ap, subst, ◌∙◌, append_assoc}
 use Rattle.std.{proofs.Common.arith, specs.Prelude.nat_lt}
-use Rattle.query_laws.proofs.Terms.{NameTaken, WrongArity, OverLimit, States, Args, QueryFault, FoldDef, Name, StateVar, Known, and_then}
+use Rattle.query_laws.proofs.Terms.{States, Args, QueryFault, FoldDef, Name, StateVar, Known, and_then}
 use Rattle.query_laws.proofs.Terms.{is_among, states_from, args_from, body_checked, fold_checked, MAX_ARGS, MAX_STATES, New, Fewer, OneEmit}
 use Rattle.query_laws.proofs.Terms.{IsNew, state_names_of, arg_names_of}
 use Rattle.query_laws.specs.Asked.{FoldAsks, of_state, of_states, of_arg, of_args, of_statement, of_emits, ids_of}
@@ -26,15 +26,15 @@ states_told : {d : FoldDef} (front ss : List StateVar) {found : List ℕ} {known
     → d.states ≡ front ++ ss → found ≡ ids front → states_from found ss ≡ Err fault → Broken (FoldAsks d) known fault
 states_told _ [] _ _ e = no_fault e
 states_told front (s ∷ ss) {found} {known} split same e = by_must_not (is_among s.name.id found) e (λ among at. record {
-      demand = New (ids front) s.name.id s.name.span;
-      asks = of_state front s ss split;
-      tells = told known (New (ids front) s.name.id s.name.span) at
-          (refl, λ fresh. not_new s.name.id found among (subst (λ z. IsNew s.name.id z) (sym same) fresh));
-    }) (λ none e. by_must (nat_lt (length found) MAX_STATES) _ e (λ full at. record {
-      demand = Fewer States (length front) s.name.span;
-      asks = of_states front s ss split;
-      tells = told known (Fewer States (length front) s.name.span) at (refl, refl, at_least (ap length same ∙ states_long front) full);
-    }) (λ few e. states_told (front ++ s ∷ []) ss (split ∙ sym (append_assoc front (s ∷ []) ss))
+  demand = New (ids front) s.name.id s.name.span;
+  asks = of_state front s ss split;
+  tells = told known (New (ids front) s.name.id s.name.span) at
+      (refl, λ fresh. not_new s.name.id found among (subst (λ z. IsNew s.name.id z) (sym same) fresh));
+}) (λ none e. by_must (nat_lt (length found) MAX_STATES) _ e (λ full at. record {
+  demand = Fewer States (length front) s.name.span;
+  asks = of_states front s ss split;
+  tells = told known (Fewer States (length front) s.name.span) at (refl, refl, at_least (ap length same ∙ states_long front) full);
+}) (λ few e. states_told (front ++ s ∷ []) ss (split ∙ sym (append_assoc front (s ∷ []) ss))
     (ap (λ z. z ++ s.name.id ∷ []) same ∙ sym (state_last front s)) e))
 
 args_told : {d : FoldDef} (front args : List Name) {found : List ℕ} {known : List Known} {fault : QueryFault}
@@ -46,7 +46,8 @@ args_told {d} front (a ∷ args) {found} {known} split same e =
       asks = of_arg front a args split;
       tells = told known (New (state_names_of d ++ ids_of front) a.id a.span) at (
         refl,
-        λ fresh. not_new a.id (state_names_of d ++ found) (among_append a.id (state_names_of d) found ∙ among) (subst (λ z. IsNew a.id (state_names_of d ++ z)) (sym same) fresh),
+        λ fresh. not_new a.id (state_names_of d ++ found) (among_append a.id (state_names_of d) found ∙ among)
+            (subst (λ z. IsNew a.id (state_names_of d ++ z)) (sym same) fresh),
       );
     }) (λ none e. by_must (nat_lt (length found) MAX_ARGS) _ e (λ full at. record {
       demand = Fewer Args (length front) a.span;
@@ -64,7 +65,8 @@ statements_told {d} {known} (follows e h) = record { demand = OneEmit d.body; as
 pub fold_faults : {d : FoldDef} {known : List Known} {fault : QueryFault} → fold_checked d ≡ Err fault → Broken (FoldAsks d) known fault
 fold_faults {d} {known} {fault} e = by_next (states_from [] d.states) e (λ is. states_told [] d.states refl refl is) (λ states p e.
     let S = (states_sound d.states [] (omega arith) p).0 in
-    by_next (args_from (state_names_of d) [] d.args) (subst (λ z. and_then (args_from z [] d.args) (λ args. rest_of d z args) ≡ Err fault) S e) (λ is. args_told [] d.args refl refl is) (λ args q e.
+    by_next (args_from (state_names_of d) [] d.args) (subst (λ z. and_then (args_from z [] d.args) (λ args. rest_of d z args) ≡ Err fault) S
+    e) (λ is. args_told [] d.args refl refl is) (λ args q e.
     let a = (args_sound (state_names_of d) d.args [] (omega arith) q).0 in
     by_next (body_checked (state_names_of d) (arg_names_of d) d.body) (subst (λ z. rest_of d (state_names_of d) z ≡ Err fault) a e)
     (λ is. statements_told (body_told (state_names_of d) (arg_names_of d) known fault d.body _ _ (λ span none. cc none) is))

@@ -1,6 +1,6 @@
 -- Folds: the rule and the check agree.
 use Rattle.std.proofs.Common.{◌≡◌, ℕ, List, [], map, None, Ok, refl, sym, ap, subst, ◌∙◌, arith, append-nil}
-use Rattle.query_laws.proofs.Terms.{TypedExpr, TypedStmt, TypedFold, FoldDef, Checked, and_then, states_from, args_from, body_checked}
+use Rattle.query_laws.proofs.Terms.{TypedFold, FoldDef, Checked, and_then, body_checked}
 use Rattle.query_laws.proofs.Terms.{fold_checked, fold_nodes, fold_statements, AreNew, HasBlock, HasFold, at_most_one, state_names_of}
 use Rattle.query_laws.proofs.Terms.{arg_names_of}
 use Rattle.query_laws.proofs.Steps.{same_ok, found_first, then_next}
@@ -42,7 +42,8 @@ fold_sound {d} {f} e =
       args = subst N s.0 (subst N (append-nil states.0) a.1);
       few_states = omega (arith, s.2);
       few_args = omega (arith, a.2);
-      statements = subst (λ z. HasBlock (state_names_of d) (arg_names_of d) [] d.body z (at_most_one body.0.emit)) (sym b.statements) (subst (λ z. HasBlock (state_names_of d) (arg_names_of d) [] d.body b.ts z) b.emits b.rule);
+      statements = subst (λ z. HasBlock (state_names_of d) (arg_names_of d) [] d.body z (at_most_one body.0.emit)) (sym b.statements)
+          (subst (λ z. HasBlock (state_names_of d) (arg_names_of d) [] d.body b.ts z) b.emits b.rule);
     }
 
 pub fold_complete : {d : FoldDef} {f : TypedFold} → HasFold d f → fold_checked d ≡ Ok f

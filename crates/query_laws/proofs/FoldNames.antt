@@ -62,7 +62,8 @@ states_complete (s ∷ ss) found h few =
 abbrev arg_ids : List Name → List ℕ
 arg_ids more = map (λ a. a.id) more
 
-pub args_sound : (states : List ℕ) (more : List Name) (found : List ℕ) {all : List ℕ} → length found ≤ MAX_ARGS → args_from states found more ≡ Ok all
+pub args_sound : (states : List ℕ) (more : List Name) (found : List ℕ) {all : List ℕ} → length found ≤ MAX_ARGS
+    → args_from states found more ≡ Ok all
     → (all ≡ found ++ arg_ids more) × AreNew (states ++ found) (arg_ids more) × (length found + length more ≤ MAX_ARGS)
 args_sound _ [] found {all} h e = (sym (same_ok _ _ e) ∙ sym (append-nil found), tt, omega (arith, h))
 args_sound states (a ∷ more) found h e =
@@ -70,8 +71,7 @@ args_sound states (a ∷ more) found h e =
     let two = must_ok _ _ _ one.1 in
     let few = ltb-true (length found) MAX_ARGS two.0 in
     let long = length-append found (a.id ∷ []) in
-    let found_rest = args_sound states more (found ++ a.id ∷ []) (omega (arith, long, few)) two.1 in
-    (
+    let found_rest = args_sound states more (found ++ a.id ∷ []) (omega (arith, long, few)) two.1 in (
       found_rest.0 ∙ append_assoc found (a.id ∷ []) (arg_ids more),
       (
         among_new a.id (states ++ found) (among_append a.id states found ∙ one.0),

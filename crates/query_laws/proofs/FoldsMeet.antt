@@ -6,11 +6,11 @@ use Rattle.query_lang.specs.declared.query.Expr.TheOpen as expr
 use Rattle.query_lang.specs.declared.query.Expr.TheVariants as whole
 use Rattle.query_lang.specs.declared.query.Stmt.TheOpen as stmt
 use Rattle.query_lang.specs.declared.query.Stmt.TheVariants as block
-use Rattle.query_laws.proofs.Terms.{WrongArity, Span, TypedExpr, TypedFold, Expr, fold-roll-Expr, rolls-Call, FoldDef, Name, StateVar, Stmt}
-use Rattle.query_laws.proofs.Terms.{fold-roll-Stmt, ind-Stmt, map-Stmt, rolls-Assign, rolls-If, rolls-Emit, Body, Enclosing, Known, Checked}
-use Rattle.query_laws.proofs.Terms.{and_then, is_among, condition_of, word_of, target_of, first_of, state_step, state_in, inside, Adding}
-use Rattle.query_laws.proofs.Terms.{in_order, stmt_step, stmt_checked, MAX_ARGS, MAX_STATES, HasPart, StandsInside, StandsIn, FollowsEmit}
-use Rattle.query_laws.proofs.Terms.{Demand, Holds, Kind, Word, Condition, IsNew, AreNew, HasFold, at_most_one, state_names_of, arg_names_of}
+use Rattle.query_laws.proofs.Terms.{Span, TypedExpr, TypedFold, Expr, fold-roll-Expr, rolls-Call, FoldDef, Name, StateVar, Stmt}
+use Rattle.query_laws.proofs.Terms.{fold-roll-Stmt, ind-Stmt, map-Stmt, rolls-Assign, rolls-If, rolls-Emit, Body, Enclosing, Known}
+use Rattle.query_laws.proofs.Terms.{and_then, condition_of, word_of, target_of, first_of, state_step, state_in, inside, Adding}
+use Rattle.query_laws.proofs.Terms.{in_order, stmt_step, stmt_checked, HasPart, StandsInside, StandsIn, FollowsEmit}
+use Rattle.query_laws.proofs.Terms.{Demand, Holds, Kind, IsNew, AreNew, HasFold, state_names_of, arg_names_of}
 use Rattle.query_laws.specs.Asked.{StmtAsks, of_target, of_value, of_condition, of_emit, FoldAsks, of_state, of_states, of_arg, of_args}
 use Rattle.query_laws.specs.Asked.{of_statement, of_emits}
 use Rattle.query_laws.specs.Demands as parts
@@ -161,9 +161,11 @@ module _ (states args : List ℕ) where
 
   stmt_keeps : (s : Stmt) → Keeping s
   stmt_keeps = ind-Stmt Keeping (λ x y is outer found made e.
-      subst (λ z. stmt_step states args (map-Stmt Stmt Adding (stmt_checked states args) z) outer found ≡ Ok made → Keeps found made) is (keep_step y _ _) (sym (ap (λ g. g outer found) (fold-roll-Stmt Adding (stmt_step states args) x)) ∙ e))
+      subst (λ z. stmt_step states args (map-Stmt Stmt Adding (stmt_checked states args) z) outer found ≡ Ok made → Keeps found made) is
+      (keep_step y _ _) (sym (ap (λ g. g outer found) (fold-roll-Stmt Adding (stmt_step states args) x)) ∙ e))
 
-  keeps : (ss : List Stmt) (outer : Enclosing) (found : Body) {made : Body} → in_order (map (stmt_checked states args) ss) outer found ≡ Ok made
+  keeps : (ss : List Stmt) (outer : Enclosing) (found : Body) {made : Body}
+      → in_order (map (stmt_checked states args) ss) outer found ≡ Ok made
       → Keeps found made
   keeps [] _ _ {made} e = λ some. sym (ap (λ (b : Body). is_some b.emit) (same_ok _ _ e)) ∙ some
   keeps (s ∷ ss) outer found {made} e =
@@ -183,7 +185,8 @@ module _ (states args : List ℕ) where
 
   emits : {before : List Expr} {ss : List Stmt} {around : List Expr} {s : Stmt} {span : Span} → StandsIn before ss around s
       → s ≡ block.Emit span
-      → (outer : Enclosing) (found : Body) {made : Body} → in_order (map (stmt_checked states args) ss) outer found ≡ Ok made → Emits found made
+      → (outer : Enclosing) (found : Body) {made : Body} → in_order (map (stmt_checked states args) ss) outer found ≡ Ok made
+      → Emits found made
   emits {span} (parts.first {s} {rest}) same outer found {made} e =
       let f = found_first _ _ _ e in
       let is = sym (stmt_is _ _ _ (rolls-Emit span) _ _) ∙ subst (λ z. stmt_checked states args z outer found ≡ Ok f.0) same f.1 in

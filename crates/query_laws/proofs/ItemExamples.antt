@@ -1,9 +1,8 @@
 -- The examples of items, from the rules.
 use Rattle.std.proofs.Common.{◌≡◌, ℕ, ◌<◌, List, [], ◌∷◌, None, refl, sym, subst, arith}
 use Rattle.query_lang.specs.declared.fold.TypedExpr.TheVariants as typed
-use Rattle.query_lang.specs.declared.query.Expr.TheVariants.{Number}
 use Rattle.query_lang.specs.declared.typed.PrintOf.TheVariants as place
-use Rattle.query_laws.proofs.Terms.{WrongKind, Lt, Name, Known, known_in, IsFree, of_number, of_binary}
+use Rattle.query_laws.proofs.Terms.{Lt, Name, Known, known_in, IsFree, of_number, of_binary}
 use Rattle.query_laws.proofs.{FaultSteps.no_fault, FoldNames.among_new}
 use Rattle.query_laws.proofs.NameLaws.{free_sound, stream_sound, table_sound, table_complete}
 use Rattle.query_laws.specs.TypingExamples.{here, called}

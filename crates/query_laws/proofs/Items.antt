@@ -1,9 +1,9 @@
 -- The numbers in the items of a text's query are words.
-use Rattle.std.proofs.Common.{ℕ, List, [], length, Option, Some, None, sym, subst, arith}
+use Rattle.std.proofs.Common.{ℕ, List, Option, Some, None, sym, subst, arith}
 use Rattle.std.{specs.Prelude.All, proofs.lemmas.List.Elements.All-weaker}
 use Rattle.query_lang.specs.declared.token.Mark.TheVariants as marks
 use Rattle.query_lang.specs.declared.token.Word.TheVariants as words
-use Rattle.query_types.specs.Numbers.{greatest_number, greatest_in, columns_number, stream_number, final_number, item_number}
+use Rattle.query_types.specs.Numbers.{columns_number, stream_number, final_number, item_number}
 use Rattle.query_grammar.specs.Grammar.{initial_of, StateVariable, Parameters, Fold, Filter, ColumnOf, Mapping, Streaming, Stream}
 use Rattle.query_grammar.specs.Grammar.{Finishing, Final, Print, ItemOf}
 use Rattle.query_laws.proofs.Terms.{Span, Column, Expr, FinalOp, Item, StateVar, StreamOp, IsWord, Language, sign, keyword}

@@ -1,8 +1,7 @@
 -- What items ask is so where they are typed.
-use Rattle.std.proofs.Common.{◌≡◌, ℕ, ◌+◌, List, [], ◌++◌, length, sym, subst, ◌∙◌, append-nil}
-use Rattle.std.specs.Prelude.{flat_map}
+use Rattle.std.proofs.Common.{◌≡◌, ℕ, List, ◌++◌, sym, subst, ◌∙◌, append-nil}
 use Rattle.query_laws.proofs.Terms.{FinalOp, Item, Name, StreamOp, FoldView, Given, Known, MadeFinal, MadeStream, StreamView, TableView}
-use Rattle.query_laws.proofs.Terms.{five_fields, key_columns, other_columns, column_names, key_names, Entry, streams_in, groups_in}
+use Rattle.query_laws.proofs.Terms.{five_fields, key_columns, other_columns, column_names, Entry}
 use Rattle.query_laws.proofs.Terms.{known_in, IsStream, IsFold, IsTable, Demand, Holds, Condition, StandsAt, HasKind, HasItem}
 use Rattle.query_laws.proofs.Terms.{HasTypedColumns, HasKeys, HasArguments, AreApart, AreSame, key_ids, HasStream}
 use Rattle.query_laws.specs.Asked.{StreamAsks, FinalAsks, ItemAsks}
@@ -22,48 +21,68 @@ one_fold _ x {f} {g} p q = same_ok f g (sym (fold_name_complete _ x p) ∙ fold_
 one_table : (known : List Known) (x : Name) {s r : TableView} → IsTable known x.id s → IsTable known x.id r → s ≡ r
 one_table _ x {s} {r} p q = same_ok s r (sym (table_complete _ x p) ∙ table_complete _ x q)
 
-pub stream_meets : {five : List ℕ} {known : List Known} (number : ℕ) {groups : ℕ} {name : Name} {op : StreamOp} (made : MadeStream) {d : Demand}
+pub stream_meets : {five : List ℕ} {known : List Known} (number : ℕ) {groups : ℕ} {name : Name} {op : StreamOp} (made : MadeStream)
+    {d : Demand}
     → HasStream five known number groups op made → StreamAsks five known groups name op d → Holds known d
 stream_meets _ _ h asks.of_filtered = (h.source, h.stream)
 stream_meets {known} _ _ h (asks.of_condition {input} {e} _ is asked) =
-    expr_meets known (h.condition, subst (λ (z : StreamView). HasKind (column_names z.columns) Condition e h.condition) (one_stream known input h.stream is) h.typed) asked
+    expr_meets known (
+      h.condition,
+      subst (λ (z : StreamView). HasKind (column_names z.columns) Condition e h.condition)
+          (one_stream known input h.stream is) h.typed,
+    ) asked
 stream_meets _ _ h asks.of_mapped = (h.source, h.stream)
 stream_meets {known} _ _ h (asks.of_columns {input} {new} _ is asked) =
-    columns_meet known h.values (subst (λ (z : StreamView). HasTypedColumns (column_names z.columns) (column_names z.columns ++ z.hidden) new h.values) (one_stream known input h.stream is) h.typed) asked
+    columns_meet known h.values (subst (λ (z : StreamView). HasTypedColumns (column_names z.columns) (column_names z.columns ++ z.hidden)
+    new h.values) (one_stream known input h.stream is) h.typed) asked
 stream_meets _ _ h asks.of_first = (h.left, h.one)
 stream_meets _ _ h asks.of_second = (h.right, h.other)
 stream_meets {known} _ _ h (asks.of_both first second left _ p q) =
-    subst (λ (z : StreamView). AreSame left.columns z.columns) (one_stream known second h.other q) (subst (λ (z : StreamView). AreSame z.columns h.right.columns) (one_stream known first h.one p) h.same)
+    subst (λ (z : StreamView). AreSame left.columns z.columns) (one_stream known second h.other q)
+    (subst (λ (z : StreamView). AreSame z.columns h.right.columns) (one_stream known first h.one p) h.same)
 stream_meets _ _ h asks.of_limit = h.few
 stream_meets _ _ h asks.of_grouped = (h.source, h.stream)
 stream_meets {five} {known} _ _ h (asks.of_keys {input} {keys} _ is asked) =
-    keys_meet known (subst (λ (z : StreamView). HasKeys (column_names z.columns) (key_ids five keys) h.slots) (one_stream known input h.stream is) h.picked) asked
+    keys_meet known (subst (λ (z : StreamView). HasKeys (column_names z.columns) (key_ids five keys) h.slots)
+    (one_stream known input h.stream is) h.picked) asked
 stream_meets _ _ h (asks.of_fold _ _ _) = (h.f, h.fold)
 stream_meets {five} {known} _ _ h (asks.of_arguments {input} {keys} {fold_name} source is there asked) =
-    arguments_meet known (subst (λ z. HasArguments (column_names source.columns) (key_ids five keys) z h.arguments) (one_fold known fold_name h.fold there) (subst (λ (z : StreamView). HasArguments (column_names z.columns) (key_ids five keys) h.f h.arguments) (one_stream known input h.stream is) h.taken)) asked
+    arguments_meet known (subst (λ z. HasArguments (column_names source.columns) (key_ids five keys) z h.arguments)
+    (one_fold known fold_name h.fold there) (subst (λ (z : StreamView). HasArguments (column_names z.columns) (key_ids five keys) h.f
+    h.arguments) (one_stream known input h.stream is) h.taken)) asked
 
 pub final_meets : (given : Given) {known : List Known} {op : FinalOp} (made : MadeFinal) {d : Demand}
     → HasFinal given known op made → FinalAsks (five_fields given.fields) known op d → Holds known d
 final_meets _ _ h asks.of_filtered = (h.source, h.table)
 final_meets _ {known} _ h (asks.of_condition {input} {e} _ is asked) =
-    expr_meets known (h.condition, subst (λ (z : TableView). HasKind z.columns Condition e h.condition) (one_table known input h.table is) h.typed) asked
+    expr_meets known (
+      h.condition,
+      subst (λ (z : TableView). HasKind z.columns Condition e h.condition) (one_table known input h.table is)
+          h.typed,
+    ) asked
 final_meets _ _ h asks.of_mapped = (h.source, h.table)
 final_meets _ {known} _ h (asks.of_columns {input} {new} source is asked) =
-    columns_meet known h.values (subst (λ z. HasTypedColumns source.columns z new h.values) (sym (append-nil source.columns)) (subst (λ (z : TableView). HasTypedColumns z.columns z.columns new h.values) (one_table known input h.table is) h.typed)) asked
+    columns_meet known h.values (subst (λ z. HasTypedColumns source.columns z new h.values) (sym (append-nil source.columns))
+    (subst (λ (z : TableView). HasTypedColumns z.columns z.columns new h.values) (one_table known input h.table is) h.typed)) asked
 final_meets _ _ h asks.of_grouped = (h.source, h.table)
 final_meets given {known} _ h (asks.of_keys {input} {keys} _ is asked) =
     let five = five_fields given.fields in
-    keys_meet known (subst (λ (z : TableView). HasKeys z.columns (key_ids five keys) h.slots) (one_table known input h.table is) h.picked) asked
+    keys_meet known (subst (λ (z : TableView). HasKeys z.columns (key_ids five keys) h.slots) (one_table known input h.table is) h.picked)
+    asked
 final_meets _ _ h (asks.of_fold _ _ _) = (h.f, h.fold, h.quiet)
 final_meets given {known} _ h (asks.of_arguments {input} {keys} {fold_name} source is there asked) =
     let five = five_fields given.fields in
-    arguments_meet known (subst (λ z. HasArguments source.columns (key_ids five keys) z h.arguments) (one_fold known fold_name h.fold there) (subst (λ (z : TableView). HasArguments z.columns (key_ids five keys) h.f h.arguments) (one_table known input h.table is) h.taken)) asked
+    arguments_meet known (subst (λ z. HasArguments source.columns (key_ids five keys) z h.arguments) (one_fold known fold_name h.fold there)
+    (subst (λ (z : TableView). HasArguments z.columns (key_ids five keys) h.f h.arguments) (one_table known input h.table is) h.taken))
+    asked
 final_meets _ _ h asks.of_first = (h.left, h.one)
 final_meets _ _ h asks.of_second = (h.right, h.other)
 final_meets _ {known} _ h (asks.of_both first second left _ p q) =
-    subst (λ z. key_columns left ≡ key_columns z) (one_table known second h.other q) (subst (λ z. key_columns z ≡ key_columns h.right) (one_table known first h.one p) h.keys)
+    subst (λ z. key_columns left ≡ key_columns z) (one_table known second h.other q)
+    (subst (λ z. key_columns z ≡ key_columns h.right) (one_table known first h.one p) h.keys)
 final_meets _ {known} _ h (asks.of_others {first} {second} left _ p q) =
-    subst (λ z. AreApart (other_columns z) left.columns) (one_table known second h.other q) (subst (λ (z : TableView). AreApart (other_columns h.right) z.columns) (one_table known first h.one p) h.apart)
+    subst (λ z. AreApart (other_columns z) left.columns) (one_table known second h.other q)
+    (subst (λ (z : TableView). AreApart (other_columns h.right) z.columns) (one_table known first h.one p) h.apart)
 final_meets _ _ h asks.of_ranked = (h.source, h.table)
 final_meets _ {known} _ h (asks.of_column {input} {column} _ _ is) =
     (h.slot, subst (λ (z : TableView). StandsAt z.columns h.slot column.id) (one_table known input h.table is) h.stands)

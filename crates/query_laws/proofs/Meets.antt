@@ -3,7 +3,7 @@ use Rattle.std.proofs.Common.{◌≡◌, ℕ, ◌<◌, ◌≤◌, List, [], ◌�
 use Rattle.std.proofs.{Common.arith, lemmas.List.length-append, lemmas.List.length-map}
 use Rattle.query_lang.specs.declared.query.Expr.TheVariants as whole
 use Rattle.query_laws.proofs.Terms.{WrongKind, Span, Op, TypedExpr, Column, Expr, Name, FoldView, Found, Known, and_then, collected}
-use Rattle.query_laws.proofs.Terms.{slot_of, is_condition_sort, of_two, call_of, negation_checked, expr_checked, MAX_KEYS, IsOneOf, HasPart}
+use Rattle.query_laws.proofs.Terms.{slot_of, is_condition_sort, of_two, call_of, negation_checked, expr_checked, IsOneOf, HasPart}
 use Rattle.query_laws.proofs.Terms.{Demand, Holds, Kind, Word, Condition, StandsAt, operand_kind, IsRightOperand, HasKind, IsNew, AreNew}
 use Rattle.query_laws.proofs.Terms.{HasTypedColumns, new_names, HasSlots, HasKeys, HasArguments}
 use Rattle.query_laws.specs.Asked.{ExprAsks, of_part, of_name, of_call, of_right, of_second, ColumnsAsk, of_value, KeysAsk, of_key, of_new}
@@ -153,12 +153,14 @@ column_at _ [] c _ [] h = absurd h
 column_at {columns} taken [] c _ (v ∷ _) h = subst (λ z. AtColumn columns z c) (sym (append-nil taken)) (h.0, (v, h.1))
 column_at _ (x ∷ _) c _ [] h = absurd h
 column_at {columns} taken (x ∷ front) c back (v ∷ values) h =
-    subst (λ z. AtColumn columns z c) (append_assoc taken (x.name.id ∷ []) (new_names front)) (column_at (taken ++ x.name.id ∷ []) front c back values h.2)
+    subst (λ z. AtColumn columns z c) (append_assoc taken (x.name.id ∷ []) (new_names front))
+    (column_at (taken ++ x.name.id ∷ []) front c back values h.2)
 
 pub columns_meet : (known : List Known) {columns hidden : List ℕ} {new : List Column} (values : List TypedExpr) {d : Demand}
     → HasTypedColumns columns (columns ++ hidden) new values → ColumnsAsk columns hidden new d → Holds known d
 columns_meet _ {columns} {hidden} values h (asks.of_name front c _ split) =
-    subst (λ z. IsNew c.name.id z) (append_assoc columns hidden (new_names front)) (column_at _ _ c _ _ (subst (λ z. HasTypedColumns columns (columns ++ hidden) z values) split h)).0
+    subst (λ z. IsNew c.name.id z) (append_assoc columns hidden (new_names front))
+    (column_at _ _ c _ _ (subst (λ z. HasTypedColumns columns (columns ++ hidden) z values) split h)).0
 columns_meet _ {columns} {hidden} values h (of_value _ c _ split asked) =
     expr_meets _ (column_at _ _ c _ _ (subst (λ z. HasTypedColumns columns (columns ++ hidden) z values) split h)).1 asked
 

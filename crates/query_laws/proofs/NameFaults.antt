@@ -3,7 +3,7 @@ use Rattle.std.proofs.Common.{◌≡◌, ℕ, suc, ◌≤◌, true, false, ◌||
 use Rattle.std.proofs.Common.{ap, subst, ◌∙◌, append_assoc, inl, inr, arith}
 use Rattle.std.specs.{Prelude.is_some, Prelude.nat_lt, List.list_any}
 use Rattle.query_lang.specs.declared.typing.Meaning.TheVariants as meaning
-use Rattle.query_laws.proofs.Terms.{UnknownName, NameTaken, WrongKind, OverLimit, Keys, QueryFault, Span, Name, Column, FoldView}
+use Rattle.query_laws.proofs.Terms.{UnknownName, WrongKind, Keys, QueryFault, Span, Name, Column, FoldView}
 use Rattle.query_laws.proofs.Terms.{StreamView, TableView, Known, Meaning, NewColumns, Picked, Checked, and_then, must_not, collected}
 use Rattle.query_laws.proofs.Terms.{is_among, slot_of, word_of, meaning_of, as_stream, stream_named, as_fold, fold_named, new_columns}
 use Rattle.query_laws.proofs.Terms.{keys_from, arguments_of, table_at, as_table, table_named, quiet_fold, MAX_KEYS, IsFree, IsNew}
@@ -111,7 +111,8 @@ new_names_last : (front : List Column) (column : Column) → new_names (front ++
 new_names_last [] _ = refl
 new_names_last (c ∷ front) column = ap (λ z. c.name.id ∷ z) (new_names_last front column)
 
-pub columns_told : {columns hidden : List ℕ} {all : List Column} (front new : List Column) (made : NewColumns) {known : List Known} {fault : QueryFault}
+pub columns_told : {columns hidden : List ℕ} {all : List Column} (front new : List Column) (made : NewColumns) {known : List Known}
+    {fault : QueryFault}
     → all ≡ front ++ new → made.names ≡ new_names front → new_columns columns hidden made new ≡ Err fault
     → Broken (ColumnsAsk columns hidden all) known fault
 columns_told _ [] _ _ _ e = no_fault e
@@ -145,7 +146,8 @@ pub ids_long : (front : List Name) → length (ids_of front) ≡ length front
 ids_long [] = refl
 ids_long (x ∷ front) = ap suc (ids_long front)
 
-pub keys_told : {columns hidden : List ℕ} {all : List Name} (front keys : List Name) (found : Picked) {known : List Known} {fault : QueryFault}
+pub keys_told : {columns hidden : List ℕ} {all : List Name} (front keys : List Name) (found : Picked) {known : List Known}
+    {fault : QueryFault}
     → all ≡ front ++ keys → found.names ≡ ids_of front → keys_from columns hidden found keys ≡ Err fault
     → Broken (KeysAsk columns hidden all) known fault
 keys_told _ [] _ _ _ e = no_fault e
@@ -154,11 +156,11 @@ keys_told {columns} {hidden} front (key ∷ keys) found {known} split same e = b
   asks = of_key front key keys split;
   tells = slot_told columns hidden key is known;
 }) (λ slot is e. by_must_not (is_among key.id found.names) e (λ among at. record {
-      demand = New (ids_of front) key.id key.span;
-      asks = of_new front key keys split;
-      tells = told known (New (ids_of front) key.id key.span) at
-          (refl, λ fresh. not_new key.id found.names among (subst (λ z. IsNew key.id z) (sym same) fresh));
-    }) (λ none e. by_must (nat_lt (length found.names) MAX_KEYS) _ e (λ full at.
+  demand = New (ids_of front) key.id key.span;
+  asks = of_new front key keys split;
+  tells = told known (New (ids_of front) key.id key.span) at
+      (refl, λ fresh. not_new key.id found.names among (subst (λ z. IsNew key.id z) (sym same) fresh));
+}) (λ none e. by_must (nat_lt (length found.names) MAX_KEYS) _ e (λ full at.
     let long : length found.names ≡ length front = ap length same ∙ ids_long front in
     record {
       demand = Fewer Keys (length front) key.span;

@@ -108,7 +108,8 @@ taken_more : (id : ℕ) (columns hidden names : List ℕ) → (columns ++ (hidde
 taken_more id columns hidden names = append_assoc columns (hidden ++ names) (id ∷ [])
     ∙ ap (λ z. columns ++ z) (append_assoc hidden names (id ∷ []))
 
-pub columns_sound : (columns hidden : List ℕ) (cs : List Column) (made : NewColumns) {all : NewColumns} → new_columns columns hidden made cs ≡ Ok all
+pub columns_sound : (columns hidden : List ℕ) (cs : List Column) (made : NewColumns) {all : NewColumns}
+    → new_columns columns hidden made cs ≡ Ok all
     → (values : List TypedExpr) × HasTypedColumns columns (columns ++ (hidden ++ made.names)) cs values
     × (all ≡ record { names = made.names ++ new_names cs; values = made.values ++ values })
 columns_sound _ _ [] made {all} e = (
@@ -120,8 +121,7 @@ columns_sound columns hidden (c ∷ cs) made {all} e =
     let one = must_not_ok _ _ _ e in
     let word = found_first (word_of columns hidden c.value) _ all one.1 in
     let rest = columns_sound columns hidden cs (record { names = made.names ++ c.name.id ∷ []; values = made.values ++ word.0 ∷ [] })
-    word.2 in
-    (
+    word.2 in (
       word.0 ∷ rest.0,
       (
         among_new c.name.id _ (taken_is c.name.id columns hidden made.names ∙ one.0),
@@ -253,7 +253,8 @@ arguments_sound {columns} _ {keys} {f} _ {slots} e =
     let s = slots_sound _ _ _ _ _ first.1 in
     record { places = subst (λ z. HasSlots columns f.args z) (sym s.1 ∙ same_ok _ _ one.1) s.2; apart = apart_sound _ _ one.0 }
 
-pub arguments_complete : {columns : List ℕ} (hidden : List ℕ) {keys : List ℕ} {f : FoldView} (span : Span) {slots : List ℕ} → HasArguments columns keys f slots
+pub arguments_complete : {columns : List ℕ} (hidden : List ℕ) {keys : List ℕ} {f : FoldView} (span : Span) {slots : List ℕ}
+    → HasArguments columns keys f slots
     → arguments_of columns hidden keys f span ≡ Ok slots
 arguments_complete {columns} _ {keys} {f} _ {slots} h = then_next _ (slots_complete _ _ _ _ _ _ h.places)
     ∙ must_not_holds _ _ (apart_complete _ _ h.apart)

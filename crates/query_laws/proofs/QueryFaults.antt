@@ -4,9 +4,9 @@ use Rattle.std.{proofs.Common.arith, specs.Prelude.is_some, specs.Prelude.nat_lt
 use Rattle.query_lang.specs.declared.fault.FaultKind.TheVariants as kinds
 use Rattle.query_lang.specs.declared.query.Item.TheVariants as item
 use Rattle.query_laws.proofs.Terms.{FaultKind, NameTaken, OverLimit, NothingPrinted, Bindings, QueryFault, Span, Item, Name, Query, Earlier}
-use Rattle.query_laws.proofs.Terms.{Given, Known, Checked, is_among, table_named, five_fields, made_final, fold_checked, meaning_of, begun}
-use Rattle.query_laws.proofs.Terms.{made_stream, item_checked, items_checked, ended, start_of, checked, typed_names, given_of, MAX_BINDINGS}
-use Rattle.query_laws.proofs.Terms.{Entry, streams_in, finals_in, prints_in, printed_in, known_in, earlier_of, ATable, Demand, Free, Stands}
+use Rattle.query_laws.proofs.Terms.{Given, Known, Checked, is_among, table_named, five_fields, made_final, meaning_of, begun}
+use Rattle.query_laws.proofs.Terms.{made_stream, item_checked, items_checked, checked, typed_names, given_of, MAX_BINDINGS}
+use Rattle.query_laws.proofs.Terms.{Entry, streams_in, finals_in, printed_in, known_in, earlier_of, ATable, Demand, Free, Stands}
 use Rattle.query_laws.proofs.Terms.{New, Fewer, Holds, Tells}
 use Rattle.query_laws.specs.Asked.{ItemAsks, of_fold_name, of_fold, of_stream_name, of_one_stream, of_stream, of_final_name, of_one_final}
 use Rattle.query_laws.specs.Asked.{of_final, of_print, of_once}
@@ -46,10 +46,10 @@ ItemTold given names items i fault = Broken (ItemAsks (five_fields given.fields)
 item_told : (given : Given) {names : List (List ℕ)} {items : List Entry} (i : Item) {fault : QueryFault}
     → item_checked given (earlier_of names items) i ≡ Err fault → ItemTold given names items i fault
 item_told _ {names} {items} (item.Fold d) e = by_must_not _ e (λ taken at. record {
-      demand = Free d.name;
-      asks = of_fold_name;
-      tells = taken_told _ _ taken at;
-    }) (λ none e. by_next _ e (λ is. broken_in (λ q asked. of_fold d q asked) (fold_faults is)) (λ f p e. no_fault e))
+  demand = Free d.name;
+  asks = of_fold_name;
+  tells = taken_told _ _ taken at;
+}) (λ none e. by_next _ e (λ is. broken_in (λ q asked. of_fold d q asked) (fold_faults is)) (λ f p e. no_fault e))
 item_told given {names} {items} (item.Stream d) {fault} e = by_next (begun (earlier_of names items) d.name) e
     (λ is. begun_told names items d.name is of_stream_name of_one_stream) (λ u p e.
     by_next (made_stream (five_fields given.fields) (earlier_of names items) d.name d.op) e (λ is. broken_in (λ q asked. of_stream asked)

@@ -3,8 +3,8 @@ use Rattle.std.proofs.Common.{◌≡◌, ℕ, List, [], ◌∷◌, length, Ok, E
 use Rattle.std.proofs.lemmas.Bool.{ltb-true}
 use Rattle.query_lang.specs.declared.query.Item.TheVariants as item
 use Rattle.query_laws.proofs.Terms.{QueryFault, Query, Item, Name, FoldDef, StreamDef, FinalDef, TypedQuery, Earlier, Given, Checked}
-use Rattle.query_laws.proofs.Terms.{fold_checked, begun, made_stream, stream_checked, table_named, five_fields, made_final, final_checked}
-use Rattle.query_laws.proofs.Terms.{fold_added, print_checked, item_checked, items_checked, typed_names, given_of, start_of, ended, checked}
+use Rattle.query_laws.proofs.Terms.{begun, made_stream, stream_checked, five_fields, made_final, final_checked}
+use Rattle.query_laws.proofs.Terms.{fold_added, print_checked, item_checked, items_checked, typed_names, given_of, ended, checked}
 use Rattle.query_laws.proofs.Terms.{MAX_BINDINGS, Entry, AFold, AStream, AFinal, APrint, known_in, prints_in, printed_in, earlier_of}
 use Rattle.query_laws.specs.QueryRules.{IsBinding, HasItem, HasItems, of_none, of_more, IsTyped}
 use Rattle.query_laws.proofs.Steps.{must_ok, must_not_ok, must_holds, must_not_holds, same_ok, found_first, then_next}
@@ -109,7 +109,8 @@ items_sound before [] {more} e = (before, of_none _, sym (same_ok _ _ e))
 items_sound {given} {names} before (i ∷ rest) {more} e =
     let first = found_first (item_checked given (earlier_of names before) i) _ more e in
     let one = item_sound given names i first.1 in
-    let others = items_sound {given = given} {names = names} (one.0 ∷ before) rest {more = more} (ap (λ z. items_checked given z rest) (sym one.2)
+    let others = items_sound {given = given} {names = names} (one.0 ∷ before) rest {more = more}
+    (ap (λ z. items_checked given z rest) (sym one.2)
     ∙ first.2) in
     (others.0, of_more before i one.0 rest others.0 one.1 others.1, others.2)
 

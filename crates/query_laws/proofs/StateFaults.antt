@@ -26,7 +26,8 @@ exprs _ es = map (λ a. a.0) es
 same_span : {a b : Span} → (let o : Option Span = Some a in o) ≡ Some b → a ≡ b
 same_span e = cc e
 
-pub either_state : {P : Type 0} (a : Option Span) {b : Option Span} {span : Span} → or_else a b ≡ Some span → (a ≡ Some span → P) → (b ≡ Some span → P) → P
+pub either_state : {P : Type 0} (a : Option Span) {b : Option Span} {span : Span} → or_else a b ≡ Some span → (a ≡ Some span → P)
+    → (b ≡ Some span → P) → P
 either_state None e _ other = other e
 either_state (Some x) e one _ = one e
 
@@ -70,7 +71,8 @@ state_of _ (expr.Call op at args) e =
 
 pub has_state : (states : List ℕ) (e : Expr) → HasState states e
 has_state states = ind-Expr (HasState states) (λ x y is span e.
-    subst (λ z. state_step states (map-Expr Expr (Option Span) (state_in states) z) ≡ Some span → State states (roll-Expr z) span) is (state_of _ y) (sym (fold-roll-Expr (Option Span) (state_step states) x) ∙ e))
+    subst (λ z. state_step states (map-Expr Expr (Option Span) (state_in states) z) ≡ Some span → State states (roll-Expr z) span) is
+    (state_of _ y) (sym (fold-roll-Expr (Option Span) (state_step states) x) ∙ e))
 
 -- what the check knows of the conditions around
 abbrev pub Knows : List ℕ → List Expr → Enclosing → Type 0

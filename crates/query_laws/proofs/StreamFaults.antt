@@ -4,11 +4,11 @@ use Rattle.std.specs.Prelude.{flat_map, nat_lt, nat_le}
 use Rattle.std.specs.List.{list_any}
 use Rattle.query_lang.specs.declared.query.FinalOp.TheVariants as final
 use Rattle.query_lang.specs.declared.query.StreamOp.TheVariants as stream
-use Rattle.query_laws.proofs.Terms.{NameTaken, WrongKind, BadConstant, OverLimit, Groupbys, QueryFault, Column, Expr, FinalOp, Key, Name}
-use Rattle.query_laws.proofs.Terms.{StreamOp, Span, Earlier, FoldView, Given, Picked, is_among, slot_of, condition_of, table_named}
+use Rattle.query_laws.proofs.Terms.{Groupbys, QueryFault, Column, Expr, FinalOp, Key, Name}
+use Rattle.query_laws.proofs.Terms.{StreamOp, Span, Earlier, FoldView, Given, Picked, is_among, slot_of, table_named}
 use Rattle.query_laws.proofs.Terms.{quiet_fold, five_fields, same_names, key_columns, other_columns, made_final, column_names, key_names}
 use Rattle.query_laws.proofs.Terms.{no_new_columns, new_columns, clash, stream_named, fold_named, keys_checked, arguments_of, made_stream}
-use Rattle.query_laws.proofs.Terms.{MAX_GROUPBYS, IsFold, key_ids}
+use Rattle.query_laws.proofs.Terms.{MAX_GROUPBYS, IsFold}
 use Rattle.query_laws.specs.Asked.{StreamAsks, FinalAsks, of_filtered, of_condition, of_mapped, of_columns, of_first, of_second, of_both}
 use Rattle.query_laws.specs.Asked.{of_limit, of_grouped, of_keys, of_fold, of_arguments}
 use Rattle.query_laws.specs.Asked as asks
@@ -87,7 +87,8 @@ stream_groupby_told {five} earlier {name} {input} {keys} {fold_name} fault is =
     }) (λ f r is. by_next (arguments_of (column_names source.columns) source.hidden picked.names f fold_name.span) is (λ is.
     let k = picked_sound five source.hidden keys q in
     broken_in (λ d asked. of_arguments source (stream_sound earlier.known input p) (fold_name_sound earlier.known fold_name r) asked)
-    (arguments_told (subst (λ z. arguments_of (column_names source.columns) source.hidden z f fold_name.span ≡ Err fault) (ap (λ (z : Picked). z.names) k.2) is))) (λ arguments s is. no_fault is)))))
+    (arguments_told (subst (λ z. arguments_of (column_names source.columns) source.hidden z f fold_name.span ≡ Err fault)
+    (ap (λ (z : Picked). z.names) k.2) is))) (λ arguments s is. no_fault is)))))
 
 pub stream_op_told : {five : List ℕ} (earlier : Earlier) {name : Name} (op : StreamOp) → StreamTold five earlier name op
 stream_op_told earlier (stream.Filter _ e) = stream_filter_told earlier
@@ -149,7 +150,8 @@ final_groupby_told given earlier {input} {keys} {fold_name} fault is =
     }) (λ f r is. by_next (arguments_of source.columns [] picked.names f fold_name.span) is (λ is.
     let k = picked_sound five [] keys q in
     broken_in (λ d asked. asks.of_arguments source (table_sound earlier.known input p) (quiet_stands earlier fold_name r) asked)
-    (arguments_told (subst (λ z. arguments_of source.columns [] z f fold_name.span ≡ Err fault) (ap (λ (z : Picked). z.names) k.2) is))) (λ arguments s is. no_fault is))))
+    (arguments_told (subst (λ z. arguments_of source.columns [] z f fold_name.span ≡ Err fault) (ap (λ (z : Picked). z.names) k.2) is)))
+    (λ arguments s is. no_fault is))))
 
 final_join_told : (given : Given) (earlier : Earlier) {first second : Name} → FinalTold given earlier (final.Join first second)
 final_join_told _ earlier {first} {second} _ is = by_next (table_named earlier.known first) is (λ is. record {

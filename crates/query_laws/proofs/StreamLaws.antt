@@ -7,8 +7,8 @@ use Rattle.query_lang.specs.declared.typed.PrintOf.TheVariants as place
 use Rattle.query_lang.specs.declared.typed.TypedOp.TheVariants as typed
 use Rattle.query_lang.specs.declared.typing.Origin.TheVariants as origin
 use Rattle.query_laws.proofs.Terms.{Name, Key, Column, Expr, StreamOp, Earlier, StreamView, FoldView, Known, MadeStream, NewColumns, Picked}
-use Rattle.query_laws.proofs.Terms.{Origin, StreamColumn, condition_of, stream_named, fold_named, column_names, key_names, new_columns}
-use Rattle.query_laws.proofs.Terms.{no_new_columns, keys_checked, arguments_of, same_origin, clashes_with, clash, others_from, columns_at}
+use Rattle.query_laws.proofs.Terms.{Origin, StreamColumn, stream_named, fold_named, column_names, key_names}
+use Rattle.query_laws.proofs.Terms.{keys_checked, arguments_of, same_origin, clashes_with, clash, others_from, columns_at}
 use Rattle.query_laws.proofs.Terms.{filtered, mapped, zipped, next_stream, made_stream, MAX_GROUPBYS, HasTypedColumns, HasKeys}
 use Rattle.query_laws.proofs.Terms.{HasArguments, key_ids, IsSame, AreSame, OfFilter, OfMap, OfZip, OfGroup, HasStream}
 use Rattle.query_laws.proofs.Steps.{must_ok, must_not_ok, must_holds, must_not_holds, same_ok, found_first, then_next, nat_same, nat_other}
@@ -163,14 +163,16 @@ zip_complete _ {first} {second} {made} h = then_next _ (stream_complete _ _ h.on
 
 -- ---- keys, from none
 
-pub picked_sound : (five : List ℕ) {columns : List ℕ} (hidden : List ℕ) (keys : List Key) {picked : Picked} → keys_checked five columns hidden keys ≡ Ok picked
+pub picked_sound : (five : List ℕ) {columns : List ℕ} (hidden : List ℕ) (keys : List Key) {picked : Picked}
+    → keys_checked five columns hidden keys ≡ Ok picked
     → (slots : List ℕ) × HasKeys columns (key_ids five keys) slots × (picked ≡ record { names = key_ids five keys; slots = slots })
 picked_sound five {columns} _ keys e =
     let k = keys_sound _ _ _ _ (omega arith) e in
     let long = length-map (flat_map (key_names five) keys) (λ (n : Name). n.id) in
     (k.0, record { places = k.1; distinct = k.2; few = omega (arith, k.3, long) }, k.4)
 
-pub picked_complete : (five : List ℕ) {columns : List ℕ} (hidden : List ℕ) (keys : List Key) {slots : List ℕ} → HasKeys columns (key_ids five keys) slots
+pub picked_complete : (five : List ℕ) {columns : List ℕ} (hidden : List ℕ) (keys : List Key) {slots : List ℕ}
+    → HasKeys columns (key_ids five keys) slots
     → keys_checked five columns hidden keys ≡ Ok (record { names = key_ids five keys; slots = slots })
 picked_complete five {columns} _ keys {slots} h =
     let long = length-map (flat_map (key_names five) keys) (λ (n : Name). n.id) in
@@ -216,7 +218,8 @@ group_sound {five} earlier _ {input} {keys} {fold_name} {made} is =
       picked = k.1;
       there = keys_there source.0.columns (key_ids five keys) k.0 k.1.places;
       fold = fold_name_sound earlier.known fold_name f.1;
-      taken = subst (λ (z : Picked). HasArguments (column_names source.0.columns) z.names f.0 arguments.0) k.2 (arguments_sound _ fold_name.span arguments.1);
+      taken = subst (λ (z : Picked). HasArguments (column_names source.0.columns) z.names f.0 arguments.0) k.2
+          (arguments_sound _ fold_name.span arguments.1);
       is = sym (same_ok _ made arguments.2) ∙ ap (groups_to earlier.groups source.0 f.0 arguments.0) k.2;
     }
 

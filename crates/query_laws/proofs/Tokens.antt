@@ -7,8 +7,8 @@ use Rattle.query_lang.specs.declared.token.{Mark.Mark, Piece.Piece, Token.Token,
 use Rattle.query_lang.specs.declared.token.Piece.TheVariants as pieces
 use Rattle.query_lang.specs.declared.token.TokenKind.TheVariants as kinds
 use Rattle.query_lang.specs.Lexis.{Cut, below_limit, cut, cut_piece, is_blank, is_digit, is_word_byte, mark_at, name_piece, number_piece}
-use Rattle.query_lang.specs.Lexis.{one_mark, piece, piece_of_mark, reserved, token_at, two_mark, with_front, word_piece}
-use Rattle.query_laws.proofs.Terms.{TokenKind, number_in, with_name, IsWord}
+use Rattle.query_lang.specs.Lexis.{one_mark, piece, piece_of_mark, reserved, token_at, with_front, word_piece}
+use Rattle.query_laws.proofs.Terms.{TokenKind, with_name, IsWord}
 
 -- a number is a word
 abbrev pub IsWordKind : TokenKind → Type 0

@@ -13,7 +13,7 @@ use Rattle.query_laws.proofs.Terms.{Column, Expr, FinalDef, FoldDef, Item, Key, 
 use Rattle.query_laws.proofs.Terms.{FoldView, Given, Known, MadeStream, Meaning, NewColumns, Picked, StreamView, is_among, slot_of, word_of}
 use Rattle.query_laws.proofs.Terms.{condition_of, fold_checked, meaning_of, as_stream, stream_named, fold_named, column_names, others_from}
 use Rattle.query_laws.proofs.Terms.{columns_at, new_columns, no_new_columns, key_names, keys_from, keys_checked, arguments_of, filtered}
-use Rattle.query_laws.proofs.Terms.{mapped, next_stream, zipped, grouped, made_stream, with_stream, begun, stream_checked, five_fields}
+use Rattle.query_laws.proofs.Terms.{mapped, next_stream, zipped, grouped, made_stream, with_stream, begun, stream_checked}
 use Rattle.query_laws.proofs.Terms.{table_named, made_final, final_checked, typed_names, field_numbers, given_of, start_of, fold_added}
 use Rattle.query_laws.proofs.Terms.{print_checked, item_checked, items_checked, ended, checked, StandsAt}
 use Rattle.query_laws.proofs.Steps.{must_ok, must_not_ok, same_ok, found_first, nat_other, nat_is_not}

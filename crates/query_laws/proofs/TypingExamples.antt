@@ -1,13 +1,13 @@
 -- The examples of expressions and streams, from the rules.
 use Rattle.std.proofs.Common.{◌≡◌, ℕ, List, [], ◌∷◌, Option, Some, None, Ok, Err, false, refl, sym, ap, ◌∙◌, arith}
 use Rattle.query_lang.specs.declared.fold.TypedExpr.TheVariants as typed
-use Rattle.query_lang.specs.declared.query.Expr.TheVariants.{Number, Named, Not, Binary, Call}
+use Rattle.query_lang.specs.declared.query.Expr.TheVariants.{Number, Named, Binary, Call}
 use Rattle.query_lang.specs.declared.query.Key.TheVariants as key
-use Rattle.query_lang.specs.declared.query.StreamOp.TheVariants.{Filter, Map, Zip, Group}
+use Rattle.query_lang.specs.declared.query.StreamOp.TheVariants.{Group}
 use Rattle.query_lang.specs.declared.typing.Origin.TheVariants as origin
 use Rattle.query_lang.specs.declared.typing.Sort.TheVariants as sort
-use Rattle.query_laws.proofs.Terms.{WrongKind, QueryFault, Op, Mul, Div, Rem, Add, Sub, Shl, Shr, And, Xor, Or, Eq, Ne, Lt, Le, Gt, Ge}
-use Rattle.query_laws.proofs.Terms.{Both, Either, Max, Min, Sadd, Decay, TypedExpr, Expr, StreamOp, Found, Sort, Checked, and_then}
+use Rattle.query_laws.proofs.Terms.{QueryFault, Op, Div, Rem, Add, Shl, Shr, Lt}
+use Rattle.query_laws.proofs.Terms.{Both, Either, Max, Decay, TypedExpr, Expr, StreamOp, Found, Sort, and_then}
 use Rattle.query_laws.proofs.Terms.{collected, is_among, place_of, of_two, call_of, negation_checked, expr_checked, IsStream, IsFold, Kind}
 use Rattle.query_laws.proofs.Terms.{Word, Condition, StandsAt, HasKind, of_number, of_name, of_not, of_binary, of_call, IsNew, HasStream}
 use Rattle.query_laws.{specs.Asked.StreamAsks, proofs.FaultSteps.no_fault, proofs.FoldNames.among_new, proofs.ItemsMeet.stream_meets}
@@ -21,7 +21,7 @@ use Rattle.query_laws.proofs.Steps.{then_next, place_stands, stands_place}
 use Rattle.query_laws.specs.TypingExamples.{here, called, two_columns, first, second, is_less, typed_is_less, with_first, RefusesNumber}
 use Rattle.query_laws.specs.TypingExamples.{RefusesColumn, ExpressionExamples}
 use Rattle.query_laws.specs.TypingExamples.{fields, zipped, a_field, by_key, mapped, unmapped, of_one_argument, of_no_argument}
-use Rattle.query_laws.specs.TypingExamples.{items_before, Makes, MakesNothing, is_above_0, new_column, grouped_by, keys_named, eight_keys}
+use Rattle.query_laws.specs.TypingExamples.{items_before, Makes, MakesNothing, is_above_0, new_column, keys_named, eight_keys}
 use Rattle.query_laws.specs.TypingExamples.{five_names, by_fields, FilterExamples, MapExamples, ZipExamples, GroupExamples, StreamExamples}
 
 -- ---- expressions

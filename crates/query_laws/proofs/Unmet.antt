@@ -2,7 +2,6 @@
 use Rattle.std.proofs.Common.{◌≡◌, ℕ, zero, suc, ◌<◌, List, [], ◌∷◌, subst, inl, inr, arith}
 use Rattle.query_lang.specs.declared.fault.FaultKind.TheVariants as kinds
 use Rattle.query_lang.specs.declared.fault.Limit.{Limit}
-use Rattle.query_lang.specs.declared.typing.Meaning.TheVariants as meaning
 use Rattle.query_laws.proofs.Terms.{FaultKind, Span, Known, IsFree, Kind, Word, Condition, other_kind, StandsAt, IsNew}
 use Rattle.query_laws.specs.Demands.{AStream, ATable, AFold, AQuietFold, Sought, IsSought, Demand, Free, Stands, AColumn, New, Target}
 use Rattle.query_laws.specs.Demands.{Typed, Two, Constant, Kept, Fewer, Same, Apart, SameKeys, ReadsNone, OneEmit, most, Holds, IsUnknown}

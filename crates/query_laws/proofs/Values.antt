@@ -6,8 +6,8 @@ use Rattle.std.specs.List.{cons_option}
 use Rattle.std.proofs.lemmas.{Bool.eqb-true, List.map-append, List.length-map, Option.same_Some}
 use Rattle.query_lang.specs.declared.typed.TypedOp.TheVariants as typed
 use Rattle.query_lang.specs.declared.typing.Origin.TheVariants as origin
-use Rattle.query_lang.specs.Streams.{Tuple, values_at, expr_value, emits_at, map_stream, zip_stream, group_stream, tuples_at, made_of}
-use Rattle.query_laws.proofs.Terms.{TypedExpr, TypedFold, Origin, StreamColumn, is_among, columns_at, holds}
+use Rattle.query_lang.specs.Streams.{Tuple, values_at, expr_value, map_stream, zip_stream, group_stream, tuples_at, made_of}
+use Rattle.query_laws.proofs.Terms.{TypedExpr, TypedFold, Origin, StreamColumn, is_among, columns_at}
 use Rattle.query_laws.proofs.Steps.{nat_is, nat_is_not}
 use Rattle.query_laws.proofs.Views.{View, AreDistinct, AreBelow, mapped_columns, OfMap, OfZip, OfGroup}
 

@@ -1,4 +1,3 @@
-use Rattle.query_lang.specs.declared.fault.FaultKind.TheVariants as kinds
 use Rattle.query_laws.proofs.QueryFaults.{at_some_item, at_end, only_these}
 use Rattle.query_laws.proofs.faults.faults_break_rules.Goals as goal
 

@@ -1,4 +1,3 @@
-use Rattle.std.specs.Prelude.{length}
 use Rattle.query_laws.proofs.Ascents.{within, stream_rises}
 use Rattle.query_laws.proofs.tuples.packets_are_of_the_trace.Goals as goal
 

@@ -1,4 +1,3 @@
-use Rattle.std.specs.Prelude.{◌+◌, length}
 use Rattle.query_laws.proofs.Ascents.{increasing, stream_rises}
 use Rattle.query_laws.proofs.tuples.packets_ascend.Goals as goal
 
