@@ -2,8 +2,7 @@
 use Rattle.std.proofs.Common.{◌≡◌, ℕ, suc, ◌+◌, Bool, true, false, cond, not, ◌&&◌, ◌||◌, List, [], ◌∷◌, ◌++◌, Some, None, length, map}
 use Rattle.std.proofs.Common.{filter, reverse, refl, sym, ap, ap₂, ◌∙◌, subst, arith, append-nil, append_assoc, length-append}
 use Rattle.std.specs.Prelude.{nat_lt}
-use Rattle.std.proofs.lemmas.List.{reverse-append, map-append}
-use Rattle.std.proofs.lemmas.List.Elements.{filter-append}
+use Rattle.std.proofs.lemmas.{List.reverse-append, List.map-append, List.Elements.filter-append}
 use Rattle.epoch_model.specs.Keys.{Key, key_eq, others, distinct, has}
 use Rattle.epoch_model.specs.Epochs.{Use, Geometry, refresh_between, is_rival, rivals, in_one_epoch, is_use_of, last_use, since_last_use}
 use Rattle.epoch_model.specs.Epochs.{goes_on_after, goes_on, onto_last, epochs_back, epochs}
@@ -25,14 +24,10 @@ key_eq-sym_true a b e = subst (λ x. key_eq x a ≡ true) (key_eq-true a b e) (k
 -- a key at the end is new where it isn't there
 distinct-snoc : (xs : List Key) (k : Key) → distinct (xs ++ k ∷ []) ≡ distinct xs ++ cond (has k xs) [] (k ∷ [])
 distinct-snoc [] k = refl
-distinct-snoc (x ∷ xs) k =
-    ap (λ ks. x ∷ others x ks) (distinct-snoc xs k)
-    ∙ (ap (λ ks. x ∷ ks) (others-append x (distinct xs) (cond (has k xs) [] (k ∷ [])))
-    ∙ by_test (has k xs)
-    (λ h. by_test (key_eq x k) (λ e. rw (h, e) refl) (λ e. rw (h, e) refl))
-    (λ h. by_test (key_eq x k)
-    (λ e. rw (h, e, key_eq-sym_true x k e) refl)
-    (λ e. rw (h, e, key_eq-sym_false x k e) refl)))
+distinct-snoc (x ∷ xs) k = ap (λ ks. x ∷ others x ks) (distinct-snoc xs k)
+    ∙ (ap (λ ks. x ∷ ks) (others-append x (distinct xs) (cond (has k xs) [] (k ∷ []))) ∙ by_test (has k xs)
+    (λ h. by_test (key_eq x k) (λ e. rw (h, e) refl) (λ e. rw (h, e) refl)) (λ h. by_test (key_eq x k)
+    (λ e. rw (h, e, key_eq-sym_true x k e) refl) (λ e. rw (h, e, key_eq-sym_false x k e) refl)))
 
 -- without a key there is one fewer where it is there
 length-others : (k : Key) (xs : List Key) → IsDistinct xs → length (others k xs) + counted (has k xs) ≡ length xs
@@ -40,8 +35,7 @@ length-others k [] d = omega arith
 length-others k (x ∷ xs) d = by_test (key_eq x k)
     (λ e. let gone : has k xs ≡ false = subst (λ j. has j xs ≡ false) (key_eq-true x k e) d.0 in
     let same = ap length (others_absent k xs gone) in
-    rw e (let n : length (others k xs) + 1 ≡ suc (length xs) = omega arith in n))
-    (λ e. let rest = length-others k xs d.1 in
+    rw e (let n : length (others k xs) + 1 ≡ suc (length xs) = omega arith in n)) (λ e. let rest = length-others k xs d.1 in
     rw e (let n : suc (length (others k xs)) + counted (has k xs) ≡ suc (length xs) = omega arith in n))
 
 has-append : (k : Key) (xs ys : List Key) → has k (xs ++ ys) ≡ (has k xs || has k ys)
@@ -53,8 +47,7 @@ reverse-cons x xs = reverse-append (x ∷ []) xs
 
 has-reverse : (k : Key) (xs : List Key) → has k (reverse xs) ≡ has k xs
 has-reverse k [] = refl
-has-reverse k (x ∷ xs) =
-    ap (has k) (reverse-cons x xs) ∙ (has-append k (reverse xs) (x ∷ [])
+has-reverse k (x ∷ xs) = ap (has k) (reverse-cons x xs) ∙ (has-append k (reverse xs) (x ∷ [])
     ∙ (ap (λ t. t || (key_eq x k || false)) (has-reverse k xs)
     ∙ by_test (has k xs) (λ h. by_test (key_eq x k) (λ e. rw (h, e) refl) (λ e. rw (h, e) refl))
     (λ h. by_test (key_eq x k) (λ e. rw (h, e) refl) (λ e. rw (h, e) refl))))
@@ -68,8 +61,7 @@ distinct-reverse (x ∷ xs) =
     let there : has x (distinct xs) ≡ has x xs = has-distinct x xs in
     let back : has x (reverse xs) ≡ has x xs = has-reverse x xs in
     ap (λ ys. length (distinct ys)) (reverse-cons x xs) ∙ (ap length (distinct-snoc (reverse xs) x)
-    ∙ (length-append (distinct (reverse xs)) (cond (has x (reverse xs)) [] (x ∷ []))
-    ∙ by_test (has x xs)
+    ∙ (length-append (distinct (reverse xs)) (cond (has x (reverse xs)) [] (x ∷ [])) ∙ by_test (has x xs)
     (λ h. let one : has x (distinct xs) ≡ true = there ∙ h in
     let n : length (others x (distinct xs)) + 1 ≡ length (distinct xs) = rw one at without in
     rw (back, h) (let m : length (distinct (reverse xs)) + 0 ≡ suc (length (others x (distinct xs))) = omega arith in m))
@@ -79,20 +71,17 @@ distinct-reverse (x ∷ xs) =
 
 map-reverse : (uses : List Use) → map (λ u. u.key) (reverse uses) ≡ reverse (map (λ u. u.key) uses)
 map-reverse [] = refl
-map-reverse (u ∷ uses) =
-    ap (map (λ (x : Use). x.key)) (reverse-cons u uses) ∙ (map-append (λ (x : Use). x.key) (reverse uses) (u ∷ [])
+map-reverse (u ∷ uses) = ap (map (λ (x : Use). x.key)) (reverse-cons u uses) ∙ (map-append (λ (x : Use). x.key) (reverse uses) (u ∷ [])
     ∙ (ap (λ ks. ks ++ u.key ∷ []) (map-reverse uses) ∙ sym (reverse-cons u.key (map (λ x. x.key) uses))))
 
 filter-reverse : (p : Key → Bool) (xs : List Key) → filter p (reverse xs) ≡ reverse (filter p xs)
 filter-reverse p [] = refl
-filter-reverse p (x ∷ xs) =
-    ap (filter p) (reverse-cons x xs) ∙ (filter-append p (reverse xs) (x ∷ [])
+filter-reverse p (x ∷ xs) = ap (filter p) (reverse-cons x xs) ∙ (filter-append p (reverse xs) (x ∷ [])
     ∙ (ap (λ ys. ys ++ filter p (x ∷ [])) (filter-reverse p xs)
     ∙ by_test (p x) (λ e. rw e (sym (reverse-cons x (filter p xs)))) (λ e. rw e (append-nil (reverse (filter p xs))))))
 
 rivals-reverse : (g : Geometry) (key : Key) (uses : List Use) → length (rivals g key (reverse uses)) ≡ length (rivals g key uses)
-rivals-reverse g key uses =
-    ap (λ ks. length (distinct (filter (is_rival g key) ks))) (map-reverse uses)
+rivals-reverse g key uses = ap (λ ks. length (distinct (filter (is_rival g key) ks))) (map-reverse uses)
     ∙ (ap (λ ks. length (distinct ks)) (filter-reverse (is_rival g key) (map (λ u. u.key) uses))
     ∙ distinct-reverse (filter (is_rival g key) (map (λ u. u.key) uses)))
 
@@ -109,10 +98,10 @@ last-none : (key : Key) (uses : List Use) → NotUsed key uses → last_use key 
 last-none key [] a = refl
 last-none key (u ∷ uses) a = rw a.0 (last-none key uses a.1)
 
-last-skip : (key : Key) (xs ys : List Use) (one : Use) → NotUsed key xs → is_use_of key one ≡ true
+last-skip : (key : Key) (xs ys : List Use) {one : Use} → NotUsed key xs → is_use_of key one ≡ true
     → last_use key (xs ++ one ∷ ys) ≡ Some one
-last-skip key [] ys one a e = rw e refl
-last-skip key (x ∷ xs) ys one a e = rw a.0 (last-skip key xs ys one a.1 e)
+last-skip key [] ys a e = rw e refl
+last-skip key (x ∷ xs) ys a e = rw a.0 (last-skip key xs ys a.1 e)
 
 since-skip : (key : Key) (xs ys : List Use) (one : Use) → NotUsed key xs → is_use_of key one ≡ true
     → since_last_use key (xs ++ one ∷ ys) ≡ xs
@@ -121,8 +110,7 @@ since-skip key (x ∷ xs) ys one a e = rw a.0 (ap (λ us. x ∷ us) (since-skip 
 
 -- the uses from the latest one back: those after a use, the use, and those before it
 back : (before between : List Use) (one : Use) → reverse (before ++ one ∷ between) ≡ reverse between ++ one ∷ reverse before
-back before between one =
-    reverse-append before (one ∷ between) ∙ (ap (λ us. us ++ reverse before) (reverse-cons one between)
+back before between one = reverse-append before (one ∷ between) ∙ (ap (λ us. us ++ reverse before) (reverse-cons one between)
     ∙ append_assoc (reverse between) (one ∷ []) (reverse before))
 
 goes_on-is : (g : Geometry) (before between : List Use) (one two : Use) → is_use_of two.key one ≡ true → NotUsed two.key between
@@ -130,7 +118,7 @@ goes_on-is : (g : Geometry) (before between : List Use) (one two : Use) → is_u
 goes_on-is g before between one two e n =
     let n' = NotUsed-reverse two.key between n in
     ap (λ us. goes_on g us two) (back before between one)
-    ∙ (ap₂ (λ last us. goes_on_after g last us two) (last-skip two.key (reverse between) (reverse before) one n' e)
+    ∙ (ap₂ (λ last us. goes_on_after g last us two) (last-skip two.key (reverse between) (reverse before) n' e)
     (since-skip two.key (reverse between) (reverse before) one n' e)
     ∙ ap (λ n. nat_lt n g.ways && not (refresh_between g.refresh one.packet two.packet)) (rivals-reverse g two.key between))
 

@@ -2,9 +2,7 @@
 use Rattle.std.proofs.Common.{◌≡◌, ℕ, zero, suc, ◌-◌, ◌≤◌, true, false, ◌&&◌, ◌||◌, List, [], ◌∷◌, ◌++◌, length, take, map, filter, refl}
 use Rattle.std.proofs.Common.{sym, ap, ◌∙◌, subst, arith, append-nil, take-append-drop, length-append}
 use Rattle.std.specs.Prelude.{nat_lt}
-use Rattle.std.proofs.lemmas.Bool.{false≢true}
-use Rattle.std.proofs.lemmas.List.{map-append}
-use Rattle.std.proofs.lemmas.List.Elements.{filter-append}
+use Rattle.std.proofs.lemmas.{Bool.false≢true, List.map-append, List.Elements.filter-append}
 use Rattle.epoch_model.specs.Keys.{Key, ArgRow, key_eq, others, has}
 use Rattle.epoch_model.specs.Epochs.{onto_last}
 use Rattle.epoch_model.specs.Machine.{Epoch, is_of, is_open, rows_in_epochs, without, with_row, with_new, all_but_last, last_alone}
@@ -21,8 +19,7 @@ is_open-has k (e ∷ es) = ap (λ t. key_eq e.key k || t) (is_open-has k es)
 
 pub keys_of-without : (k : Key) (epochs : List Epoch) → keys_of (without k epochs) ≡ others k (keys_of epochs)
 keys_of-without k [] = refl
-keys_of-without k (e ∷ es) = by_test (key_eq e.key k)
-    (λ h. rw h (keys_of-without k es))
+keys_of-without k (e ∷ es) = by_test (key_eq e.key k) (λ h. rw h (keys_of-without k es))
     (λ h. rw h (ap (λ ks. e.key ∷ ks) (keys_of-without k es)))
 
 pub lists_of-append : (k : Key) (xs ys : List Epoch) → lists_of k (xs ++ ys) ≡ lists_of k xs ++ lists_of k ys
@@ -35,16 +32,14 @@ lists_of-absent k (e ∷ es) h = let a = absent_head k e.key (keys_of es) h in r
 
 pub lists_of-without_same : (k : Key) (epochs : List Epoch) → lists_of k (without k epochs) ≡ []
 lists_of-without_same k [] = refl
-lists_of-without_same k (e ∷ es) = by_test (key_eq e.key k)
-    (λ h. rw h (lists_of-without_same k es))
+lists_of-without_same k (e ∷ es) = by_test (key_eq e.key k) (λ h. rw h (lists_of-without_same k es))
     (λ h. rw (h, h) (lists_of-without_same k es))
 
 pub lists_of-without_other : (k j : Key) (epochs : List Epoch) → key_eq k j ≡ false → lists_of j (without k epochs) ≡ lists_of j epochs
 lists_of-without_other k j [] h = refl
 lists_of-without_other k j (e ∷ es) h = by_test (key_eq e.key k)
     (λ i. let f : key_eq e.key j ≡ false = key_eq-along e.key k j i ∙ h in rw (i, f) (lists_of-without_other k j es h))
-    (λ i. by_test (key_eq e.key j)
-    (λ f. rw (i, f) (ap (λ ls. e.rows ∷ ls) (lists_of-without_other k j es h)))
+    (λ i. by_test (key_eq e.key j) (λ f. rw (i, f) (ap (λ ls. e.rows ∷ ls) (lists_of-without_other k j es h)))
     (λ f. rw (i, f) (lists_of-without_other k j es h)))
 
 -- of distinct keys one has one list
@@ -56,8 +51,7 @@ lists_of-open k (e ∷ es) d h = by_test (key_eq e.key k)
     (λ i. rw i (lists_of-open k es d.1 (sym (ap (λ t. t || has k (keys_of es)) i) ∙ h)))
 
 pub lists_of-few : (k : Key) (epochs : List Epoch) → IsDistinct (keys_of epochs) → length (lists_of k epochs) ≤ 1
-lists_of-few k epochs d = by_test (has k (keys_of epochs))
-    (λ h. rw (lists_of-open k epochs d h) (omega arith))
+lists_of-few k epochs d = by_test (has k (keys_of epochs)) (λ h. rw (lists_of-open k epochs d h) (omega arith))
     (λ h. rw (lists_of-absent k epochs h) (omega arith))
 
 -- a list of at most one element in two parts is the parts the other way round
@@ -110,9 +104,9 @@ pub lists_of-with_row_other : (k j : Key) (row : ArgRow) (epochs : List Epoch) �
     → lists_of j (with_row k row epochs) ≡ lists_of j epochs
 lists_of-with_row_other k j row epochs h = rw h (lists_of-without_other k j epochs h)
 
-pub lists_of-with_new_same : (k : Key) (row : ArgRow) (epochs : List Epoch) → lists_of k (with_new k row epochs) ≡ (row ∷ [])
+pub lists_of-with_new_same : (k : Key) {row : ArgRow} (epochs : List Epoch) → lists_of k (with_new k row epochs) ≡ (row ∷ [])
     ∷ lists_of k epochs
-lists_of-with_new_same k row epochs = rw (key_eq-refl k) refl
+lists_of-with_new_same k epochs = rw (key_eq-refl k) refl
 
 pub lists_of-with_new_other : (k j : Key) (row : ArgRow) (epochs : List Epoch) → key_eq k j ≡ false
     → lists_of j (with_new k row epochs) ≡ lists_of j epochs

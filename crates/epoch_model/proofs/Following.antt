@@ -10,8 +10,7 @@ use Rattle.epoch_model.specs.Machine.{Epoch, Machine, empty_machine, open_in, is
 use Rattle.epoch_model.specs.Laws.{HasRoom}
 use Rattle.epoch_model.proofs.KeyLists.{by_test, key_eq-true, key_eq-refl, IsDistinct, distinct-distinct}
 use Rattle.epoch_model.proofs.StackDistance.{is_fresh, fresh_keys, recent_keys, AtMost, IsDescending, hit-goes_on}
-use Rattle.epoch_model.proofs.EpochLists.{keys_of, is_open-has}
-use Rattle.epoch_model.proofs.MachineSteps.{IsTidy, bucket_of-lt}
+use Rattle.epoch_model.proofs.{EpochLists.keys_of, EpochLists.is_open-has, MachineSteps.IsTidy, MachineSteps.bucket_of-lt}
 use Rattle.epoch_model.proofs.PacketSteps.{own, packet-tidy, packet-lists_other, packet-lists_open, packet-lists_new, packet-open_other}
 use Rattle.epoch_model.proofs.PacketSteps.{packet-keys}
 
@@ -30,8 +29,7 @@ pub take_nothing : (n : ℕ) → take n (distinct []) ≡ []
 take_nothing n = take_all n [] (omega arith)
 
 pub empty_open : (g : Geometry) (bucket : ℕ) → open_in (empty_machine g) bucket ≡ []
-empty_open g bucket = by_test (nat_lt bucket g.buckets)
-    (λ h. get_or-replicate g.buckets bucket [] [] (ltb-true bucket g.buckets h))
+empty_open g bucket = by_test (nat_lt bucket g.buckets) (λ h. get_or-replicate g.buckets bucket [] [] (ltb-true bucket g.buckets h))
     (λ h. let past = ltb-false bucket g.buckets h in
     let long = length-replicate {A = List Epoch} g.buckets [] in
     get_or_past (replicate g.buckets []) bucket [] (omega arith))
@@ -47,53 +45,47 @@ pub starts-lists : (g : Geometry) (k : Key) → row_lists g (empty_machine g) k 
 unfolding row_lists
 starts-lists g k = ap (lists_of k) (empty_open g (bucket_of g.buckets k))
 
-pub starts : (g : Geometry) → Follows g 1 [] (empty_machine g)
-starts g = record {
+pub starts : {g : Geometry} → Follows g 1 [] (empty_machine g)
+starts {g} = record {
   keeps = record { tidy = starts-tidy g; lists = starts-lists g };
   recent = λ bucket l. ap keys_of (empty_open g bucket) ∙ sym (take_nothing g.ways);
   order = tt;
   latest = tt;
 }
 
-pub refresh_between-none : (refresh p now : ℕ) → now ≤ p → refresh_between refresh p now ≡ false
-refresh_between-none refresh p zero l = refl
-refresh_between-none refresh p (suc n) l = let h : nat_le p n ≡ false =
-    lt-leb p n (omega arith) in rw h (refresh_between-none refresh p n (omega arith))
+pub refresh_between-none : (refresh : ℕ) {p : ℕ} (now : ℕ) → now ≤ p → refresh_between refresh p now ≡ false
+refresh_between-none refresh zero l = refl
+refresh_between-none refresh {p} (suc n) l = let h : nat_le p n ≡ false =
+    lt-leb p n (omega arith) in rw h (refresh_between-none refresh n (omega arith))
 
-packet-lists_self : (g : Geometry) (now : ℕ) (earlier : List Use) (m : Machine) (k : Key) (row : ArgRow) → HasRoom g
-    → Follows g now earlier m
-    → row_lists g (packet g m k row) k ≡ epochs_back g (record { packet = now; key = k; row = row } ∷ earlier) k
-packet-lists_self g now earlier m k row room f =
+packet-lists_self : {g : Geometry} {now : ℕ} {earlier : List Use} {m : Machine} (k : Key) (row : ArgRow) → HasRoom g
+    → Follows g now earlier m → row_lists g (packet g m k row) k ≡ epochs_back g (record { packet = now; key = k; row = row } ∷ earlier) k
+packet-lists_self {g} {now} {earlier} {m} k row room f =
     let this : Use = record { packet = now; key = k; row = row } in
     let open_here : is_open k (open_in m (own g k)) ≡ goes_on g earlier this =
     is_open-has k (open_in m (own g k)) ∙ (ap (has k) (f.recent (own g k) (bucket_of-lt g.buckets k room.0))
     ∙ hit-goes_on g now k row earlier f.order) in
     let own_use : key_eq k k ≡ true = key_eq-refl k in
     by_test (goes_on g earlier this)
-    (λ h. rw (own_use, h) (packet-lists_open g m k row f.keeps.tidy room.0 (open_here ∙ h) ∙ ap (onto_last row) (f.keeps.lists k)))
-    (λ h. rw (own_use, h) (packet-lists_new g m k row f.keeps.tidy room.0 (open_here ∙ h)
-    ∙ ap (λ ls. ls ++ (row ∷ []) ∷ []) (f.keeps.lists k)))
+    (λ h. rw (own_use, h) (packet-lists_open k row f.keeps.tidy room.0 (open_here ∙ h) ∙ ap (onto_last row) (f.keeps.lists k)))
+    (λ h. rw (own_use, h) (packet-lists_new k row f.keeps.tidy room.0 (open_here ∙ h) ∙ ap (λ ls. ls ++ (row ∷ []) ∷ []) (f.keeps.lists k)))
 
-pub follows-packet : (g : Geometry) (now : ℕ) (earlier : List Use) (m : Machine) (k : Key) (row : ArgRow) → HasRoom g
-    → Follows g now earlier m
-    → Follows g now (record { packet = now; key = k; row = row } ∷ earlier) (packet g m k row)
-follows-packet g now earlier m k row room f =
+pub follows-packet : {g : Geometry} {now : ℕ} {earlier : List Use} {m : Machine} {k : Key} {row : ArgRow} → HasRoom g
+    → Follows g now earlier m → Follows g now (record { packet = now; key = k; row = row } ∷ earlier) (packet g m k row)
+follows-packet {g} {now} {earlier} {m} {k} {row} room f =
     let this : Use = record { packet = now; key = k; row = row } in
     record {
       keeps = record {
-        tidy = packet-tidy g m k row f.keeps.tidy room.0;
+        tidy = packet-tidy k row f.keeps.tidy room.0;
         lists = λ j. by_test (key_eq k j)
             (λ e. subst (λ x. row_lists g (packet g m k row) x ≡ epochs_back g (this ∷ earlier) x) (key_eq-true k j e)
-            (packet-lists_self g now earlier m k row room f))
-            (λ e. rw e (packet-lists_other g m k j row f.keeps.tidy room.0 e ∙ f.keeps.lists j));
+            (packet-lists_self k row room f)) (λ e. rw e (packet-lists_other k j row f.keeps.tidy room.0 e ∙ f.keeps.lists j));
       };
       recent = λ bucket l. ⊎_elim
           (λ (e : bucket ≡ own g k). subst (λ b. keys_of (open_in (packet g m k row) b) ≡ recent_keys g now b (this ∷ earlier)) (sym e)
-          (keys_here (g.ways - 1) (let w = room.1 in omega arith) (subst (λ b. b < g.buckets) e l)))
-          (λ (n : bucket ≡ own g k → ⊥).
+          (keys_here (g.ways - 1) (let w = room.1 in omega arith) (subst (λ b. b < g.buckets) e l))) (λ (n : bucket ≡ own g k → ⊥).
           let away : (bucket_of g.buckets k == bucket) ≡ false = ne_eqb (bucket_of g.buckets k) bucket (λ p. n (sym p)) in
-          ap keys_of (packet-open_other g m k row bucket n) ∙ (f.recent bucket l
-          ∙ rw (away, and_right (is_fresh g now this) false refl) refl))
+          ap keys_of (packet-open_other g m k row n) ∙ (f.recent bucket l ∙ rw (away, and_right (is_fresh g now this) false refl) refl))
           (cases_eq bucket (own g k));
       order = (f.latest, f.order);
       latest = (omega arith, f.latest);
@@ -103,8 +95,7 @@ follows-packet g now earlier m k row room f =
         (own g k) (record { packet = now; key = k; row = row } ∷ earlier)
     keys_here w s l =
         let xs = distinct (fresh_keys g now (own g k) earlier) in
-        let fresh : refresh_between g.refresh now now ≡ false = refresh_between-none g.refresh now now (omega arith) in
+        let fresh : refresh_between g.refresh now now ≡ false = refresh_between-none g.refresh now (omega arith) in
         let here : (bucket_of g.buckets k == own g k) ≡ true = eq-eqb (bucket_of g.buckets k) (own g k) refl in
-        packet-keys g m k row w xs f.keeps.tidy room.0 s (f.recent (own g k) l ∙ ap (λ n. take n xs) s)
-        (distinct-distinct (fresh_keys g now (own g k) earlier))
-        ∙ rw (s, fresh, here) refl
+        packet-keys row xs f.keeps.tidy room.0 s (f.recent (own g k) l ∙ ap (λ n. take n xs) s)
+        (distinct-distinct (fresh_keys g now (own g k) earlier)) ∙ rw (s, fresh, here) refl

@@ -1,24 +1,21 @@
 -- The order of keys, and ascending lists of keys.
 use Rattle.std.proofs.Common.{◌≡◌, Bool, true, false, ◌||◌, List, [], ◌∷◌, refl, sym, ap, ◌∙◌, subst}
-use Rattle.std.specs.declared.cmp.Ordering.{Ordering}
+use Rattle.std.specs.{declared.cmp.Ordering.Ordering, Ordering.is_lt, Ordering.ordering_reverse}
 use Rattle.std.specs.declared.cmp.Ordering.TheVariants.{Less, Equal, Greater}
-use Rattle.std.specs.Ordering.{is_lt, ordering_reverse}
-use Rattle.std.proofs.lemmas.Bool.{true≢false}
-use Rattle.std.proofs.lemmas.Cmp.{nat_list_cmp_total, tied_itself}
-use Rattle.std.proofs.lemmas.Map.Lookups.{exact_bytes}
+use Rattle.std.proofs.lemmas.{Bool.true≢false, Cmp.nat_list_cmp_total, Cmp.tied_itself, Map.Lookups.exact_bytes}
 use Rattle.epoch_model.specs.Keys.{Key, key_eq, key_cmp, has, with_key, ascending, AreAbove, IsAscending}
 use Rattle.epoch_model.specs.TableLaws.{KeysAscend}
 use Rattle.epoch_model.proofs.KeyLists.{by_test, key_eq-true, key_eq-refl}
 
 -- three cases, by an order
-by_order : {P : Type 0} (o : Ordering) → (o ≡ Less → P) → (o ≡ Equal → P) → (o ≡ Greater → P) → P
-by_order Less less equal greater = less refl
-by_order Equal less equal greater = equal refl
-by_order Greater less equal greater = greater refl
+by_order : {P : Type 0} {o : Ordering} → (o ≡ Less → P) → (o ≡ Equal → P) → (o ≡ Greater → P) → P
+by_order {o = Less} less _ _ = less refl
+by_order {o = Equal} _ equal _ = equal refl
+by_order {o = Greater} _ _ greater = greater refl
 
-key_cmp-equal : (a b : Key) → key_cmp a b ≡ Equal → a ≡ b
+key_cmp-equal : {a b : Key} → key_cmp a b ≡ Equal → a ≡ b
 unfolding key_cmp
-key_cmp-equal a b e = exact_bytes a b e
+key_cmp-equal {a} {b} e = exact_bytes a b e
 
 key_cmp-itself : (a : Key) → key_cmp a a ≡ Equal
 unfolding key_cmp
@@ -34,9 +31,7 @@ key_cmp-greater a b e = nat_list_cmp_total.antisymm b a ∙ ap ordering_reverse 
 
 -- keys of which neither is smaller are equal
 pub equal_keys : (a b : Key) → is_lt (key_cmp a b) ≡ false → is_lt (key_cmp b a) ≡ false → a ≡ b
-equal_keys a b first second = by_order (key_cmp a b)
-    (λ e. absurd (true≢false (rw e at first)))
-    (λ e. key_cmp-equal a b e)
+equal_keys a b first second = by_order (λ e. absurd (true≢false (rw e at first))) (λ e. key_cmp-equal e)
     (λ e. absurd (true≢false (rw (key_cmp-greater a b e) at second)))
 
 above_less : (a b : Key) (keys : List Key) → key_cmp a b ≡ Less → AreAbove b keys → AreAbove a keys
@@ -45,16 +40,12 @@ above_less a b (key ∷ keys) h above = (key_cmp-less a b key h above.0, above_l
 
 above-with_key : (low key : Key) (keys : List Key) → key_cmp low key ≡ Less → AreAbove low keys → AreAbove low (with_key key keys)
 above-with_key low key [] h above = (h, tt)
-above-with_key low key (first ∷ keys) h above = by_order (key_cmp key first)
-    (λ e. rw e (h, above))
-    (λ e. rw e above)
+above-with_key low key (first ∷ keys) h above = by_order {o = key_cmp key first} (λ e. rw e (h, above)) (λ e. rw e above)
     (λ e. rw e (above.0, above-with_key low key keys h above.1))
 
 with_key-ascends : (key : Key) (keys : List Key) → IsAscending keys → IsAscending (with_key key keys)
 with_key-ascends key [] s = (tt, tt)
-with_key-ascends key (first ∷ keys) s = by_order (key_cmp key first)
-    (λ e. rw e ((e, above_less key first keys e s.0), s))
-    (λ e. rw e s)
+with_key-ascends key (first ∷ keys) s = by_order {o = key_cmp key first} (λ e. rw e ((e, above_less key first keys e s.0), s)) (λ e. rw e s)
     (λ e. rw e (above-with_key first key keys (key_cmp-greater key first e) s.0, with_key-ascends key keys s.1))
 
 -- a disjunct that occurs twice, and two disjuncts the other way round
@@ -70,9 +61,8 @@ or_swap false false c = refl
 
 has-with_key : (k key : Key) (keys : List Key) → has k (with_key key keys) ≡ (key_eq key k || has k keys)
 has-with_key k key [] = refl
-has-with_key k key (first ∷ keys) = by_order (key_cmp key first)
-    (λ e. rw e refl)
-    (λ e. let same : key_eq key k ≡ key_eq first k = ap (λ x. key_eq x k) (key_cmp-equal key first e) in
+has-with_key k key (first ∷ keys) = by_order (λ e. rw e refl)
+    (λ e. let same : key_eq key k ≡ key_eq first k = ap (λ x. key_eq x k) (key_cmp-equal e) in
     rw e (or_twice (key_eq first k) (has k keys) ∙ ap (λ t. t || (key_eq first k || has k keys)) (sym same)))
     (λ e. rw e (ap (λ t. key_eq first k || t) (has-with_key k key keys) ∙ or_swap (key_eq first k) (key_eq key k) (has k keys)))
 
@@ -105,9 +95,8 @@ pub same_ascending : (xs ys : List Key) → IsAscending xs → IsAscending ys �
 same_ascending [] [] s t h = refl
 same_ascending [] (y ∷ ys) s t h = absurd (true≢false (sym (has_first y ys) ∙ sym (h y)))
 same_ascending (x ∷ xs) [] s t h = absurd (true≢false (sym (has_first x xs) ∙ h x))
-same_ascending (x ∷ xs) (y ∷ ys) s t h = by_order (key_cmp x y)
-    (λ e. absurd (true≢false (sym (has_first x xs) ∙ (h x ∙ below-absent x y ys t e))))
-    (λ e. let same = key_cmp-equal x y e in
+same_ascending (x ∷ xs) (y ∷ ys) s t h = by_order (λ e. absurd (true≢false (sym (has_first x xs) ∙ (h x ∙ below-absent x y ys t e))))
+    (λ e. let same = key_cmp-equal e in
     subst (λ z. x ∷ xs ≡ z ∷ ys) same
     (ap (λ zs. x ∷ zs) (same_ascending xs ys s.1 t.1 (tails_alike x xs ys s.0 (subst (λ z. AreAbove z ys) (sym same) t.0)
     (λ k. h k ∙ ap (λ z. key_eq z k || has k ys) (sym same))))))
@@ -115,8 +104,7 @@ same_ascending (x ∷ xs) (y ∷ ys) s t h = by_order (key_cmp x y)
   where
     tails_alike : (x : Key) (xs ys : List Key) → AreAbove x xs → AreAbove x ys → ((k : Key) → has k (x ∷ xs) ≡ has k (x ∷ ys)) → (k : Key)
         → has k xs ≡ has k ys
-    tails_alike x xs ys s t h k = by_test (key_eq x k)
-        (λ e. let same = key_eq-true x k e in
+    tails_alike x xs ys s t h k = by_test (key_eq x k) (λ e. let same = key_eq-true x k e in
         subst (λ z. has z xs ≡ has z ys) same (above-absent x xs s ∙ sym (above-absent x ys t)))
         (λ e. sym (ap (λ t. t || has k xs) e) ∙ (h k ∙ ap (λ t. t || has k ys) e))
 

@@ -6,11 +6,10 @@ use Rattle.epoch_model.specs.Epochs.{Geometry, onto_last}
 use Rattle.epoch_model.specs.Machine.{Machine, Event, Packet, Evict, Merge, empty_machine, open_in, is_open, evict, packet, merge, run}
 use Rattle.epoch_model.specs.Machine.{lists_of, row_lists, rows_in_epochs}
 use Rattle.epoch_model.specs.Laws.{HasRoom, rows_given, NoRowIsLost}
-use Rattle.epoch_model.proofs.KeyLists.{by_test, key_eq-true}
-use Rattle.epoch_model.proofs.EpochLists.{onto_last-append}
+use Rattle.epoch_model.proofs.{KeyLists.by_test, KeyLists.key_eq-true, EpochLists.onto_last-append, Following.starts-tidy}
+use Rattle.epoch_model.proofs.{Following.starts-lists}
 use Rattle.epoch_model.proofs.MachineSteps.{IsTidy, evict-tidy, evict-lists, merge-tidy, merge-lists}
 use Rattle.epoch_model.proofs.PacketSteps.{own, packet-tidy, packet-lists_other, packet-lists_open, packet-lists_new, row_lists-open}
-use Rattle.epoch_model.proofs.Following.{starts-tidy, starts-lists}
 
 abbrev pub joined : List (List ArgRow) → List ArgRow
 joined lists = flat_map (λ rows. rows) lists
@@ -20,39 +19,31 @@ joined-append xs ys = flat_map-append (λ (rows : List ArgRow). rows) xs ys
 
 joined-onto_last : (row : ArgRow) (xs : List (List ArgRow)) (rows : List ArgRow)
     → joined (onto_last row (xs ++ rows ∷ [])) ≡ joined (xs ++ rows ∷ []) ++ row ∷ []
-joined-onto_last row xs rows =
-    ap joined (onto_last-append row xs rows)
-    ∙ (joined-append xs ((rows ++ row ∷ []) ∷ [])
-    ∙ (ap (λ ls. joined xs ++ ls) (append-nil (rows ++ row ∷ []))
-    ∙ (sym (append_assoc (joined xs) rows (row ∷ []))
+joined-onto_last row xs rows = ap joined (onto_last-append row xs rows) ∙ (joined-append xs ((rows ++ row ∷ []) ∷ [])
+    ∙ (ap (λ ls. joined xs ++ ls) (append-nil (rows ++ row ∷ [])) ∙ (sym (append_assoc (joined xs) rows (row ∷ []))
     ∙ ap (λ ls. ls ++ row ∷ []) (ap (λ ls. joined xs ++ ls) (sym (append-nil rows)) ∙ sym (joined-append xs (rows ∷ []))))))
 
-packet-joined : (g : Geometry) (m : Machine) (k : Key) (row : ArgRow) → HasRoom g → IsTidy g m
+packet-joined : {g : Geometry} {m : Machine} (k : Key) (row : ArgRow) → HasRoom g → IsTidy g m
     → joined (row_lists g (packet g m k row) k) ≡ joined (row_lists g m k) ++ row ∷ []
-packet-joined g m k row room t = by_test (is_open k (open_in m (own g k)))
-    (λ h. let e = row_lists-open g m k t h in
-    ap joined (packet-lists_open g m k row t room.0 h ∙ ap (onto_last row) e)
+packet-joined {g} {m} k row room t = by_test (is_open k (open_in m (own g k))) (λ h. let e = row_lists-open k t h in
+    ap joined (packet-lists_open k row t room.0 h ∙ ap (onto_last row) e)
     ∙ (joined-onto_last row (lists_of k m.closed) (rows_in_epochs k (open_in m (own g k))) ∙ ap (λ ls. joined ls ++ row ∷ []) (sym e)))
-    (λ h. ap joined (packet-lists_new g m k row t room.0 h) ∙ joined-append (row_lists g m k) ((row ∷ []) ∷ []))
+    (λ h. ap joined (packet-lists_new k row t room.0 h) ∙ joined-append (row_lists g m k) ((row ∷ []) ∷ []))
 
-rows_kept : (g : Geometry) (events : List Event) (m : Machine) (k : Key) → HasRoom g → IsTidy g m
+rows_kept : {g : Geometry} (events : List Event) {m : Machine} (k : Key) → HasRoom g → IsTidy g m
     → joined (row_lists g (run g events m) k) ≡ joined (row_lists g m k) ++ rows_given k events
-rows_kept g [] m k room t = sym (append-nil (joined (row_lists g m k)))
-rows_kept g (Packet j row ∷ events) m k room t =
-    let t' = packet-tidy g m j row t room.0 in
-    by_test (key_eq j k)
-    (λ e. rw e (rows_kept g events (packet g m j row) k room t'
+rows_kept {g} [] {m} k room t = sym (append-nil (joined (row_lists g m k)))
+rows_kept {g} (Packet j row ∷ events) {m} k room t =
+    let t' = packet-tidy j row t room.0 in
+    by_test (key_eq j k) (λ e. rw e (rows_kept events k room t'
     ∙ (ap (λ ls. ls ++ rows_given k events) (subst (λ x. joined (row_lists g (packet g m j row) x) ≡ joined (row_lists g m x) ++ row ∷ [])
-    (key_eq-true j k e) (packet-joined g m j row room t))
-    ∙ append_assoc (joined (row_lists g m k)) (row ∷ []) (rows_given k events))))
-    (λ e. rw e (rows_kept g events (packet g m j row) k room t' ∙ ap (λ ls. joined ls ++ rows_given k events)
-    (packet-lists_other g m j k row t room.0 e)))
-rows_kept g (Evict bucket ∷ events) m k room t =
-    rows_kept g events (evict m bucket) k room (evict-tidy g m bucket t)
-    ∙ ap (λ ls. joined ls ++ rows_given k events) (evict-lists g m bucket k t)
-rows_kept g (Merge ∷ events) m k room t =
-    rows_kept g events (merge m) k room (merge-tidy g m t) ∙ ap (λ ls. joined ls ++ rows_given k events) (merge-lists g m k)
+    (key_eq-true j k e) (packet-joined j row room t)) ∙ append_assoc (joined (row_lists g m k)) (row ∷ []) (rows_given k events))))
+    (λ e. rw e (rows_kept events k room t' ∙ ap (λ ls. joined ls ++ rows_given k events) (packet-lists_other j k row t room.0 e)))
+rows_kept (Evict bucket ∷ events) k room t = rows_kept events k room (evict-tidy bucket t)
+    ∙ ap (λ ls. joined ls ++ rows_given k events) (evict-lists bucket k t)
+rows_kept {g} (Merge ∷ events) {m} k room t =
+    rows_kept events k room (merge-tidy t) ∙ ap (λ ls. joined ls ++ rows_given k events) (merge-lists g m k)
 
 pub no_row_is_lost_lem : NoRowIsLost
-no_row_is_lost_lem g events key room = rows_kept g events (empty_machine g) key room (starts-tidy g)
+no_row_is_lost_lem g events key room = rows_kept events key room (starts-tidy g)
     ∙ ap (λ ls. joined ls ++ rows_given key events) (starts-lists g key)

@@ -32,23 +32,23 @@ IsDescending [] = Unit {0}
 IsDescending (u ∷ earlier) = AtMost u.packet earlier × IsDescending earlier
 
 -- what lies between a packet and now lies between an earlier one and now
-pub refresh_between-earlier : (refresh p earlier now : ℕ) → earlier ≤ p → refresh_between refresh p now ≡ true
+pub refresh_between-earlier : (refresh : ℕ) {p earlier : ℕ} (now : ℕ) → earlier ≤ p → refresh_between refresh p now ≡ true
     → refresh_between refresh earlier now ≡ true
-refresh_between-earlier refresh p earlier zero l h = h
-refresh_between-earlier refresh p earlier (suc n) l h = by_test (nat_le p n && is_refresh refresh n)
+refresh_between-earlier refresh zero l h = h
+refresh_between-earlier refresh {p} {earlier} (suc n) l h = by_test (nat_le p n && is_refresh refresh n)
     (λ e. let parts = and_parts (nat_le p n) (is_refresh refresh n) e in
     let below = leb-true p n parts.0 in
     or_left (nat_le earlier n && is_refresh refresh n) (refresh_between refresh earlier n)
     (and_from (nat_le earlier n) (is_refresh refresh n) (le-leb earlier n (omega arith)) parts.1))
     (λ e. or_right (nat_le earlier n && is_refresh refresh n) (refresh_between refresh earlier n)
-    (refresh_between-earlier refresh p earlier n l (sym (ap (λ t. t || refresh_between refresh p n) e) ∙ h)))
+    (refresh_between-earlier refresh n l (sym (ap (λ t. t || refresh_between refresh p n) e) ∙ h)))
 
 -- before a use that is before the last refresh, no use is after that refresh
 pub fresh_keys-stale : (g : Geometry) (now bucket p : ℕ) (earlier : List Use) → AtMost p earlier → refresh_between g.refresh p now ≡ true
     → fresh_keys g now bucket earlier ≡ []
 fresh_keys-stale g now bucket p [] a h = refl
 fresh_keys-stale g now bucket p (u ∷ earlier) a h =
-    let stale : refresh_between g.refresh u.packet now ≡ true = refresh_between-earlier g.refresh p u.packet now a.0 h in
+    let stale : refresh_between g.refresh u.packet now ≡ true = refresh_between-earlier g.refresh now a.0 h in
     rw stale (fresh_keys-stale g now bucket p earlier a.1 h)
 
 abbrev pub is_fresh_last : Geometry → ℕ → Option Use → Bool
@@ -67,13 +67,11 @@ pub has-fresh_keys : (g : Geometry) (now : ℕ) (k : Key) (earlier : List Use) �
 has-fresh_keys g now k [] d = refl
 has-fresh_keys g now k (u ∷ earlier) d = by_test (key_eq u.key k)
     (λ e. let b : (bucket_of g.buckets u.key == bucket_of g.buckets k) ≡ true = same_bucket g u.key k e in
-    by_test (is_fresh g now u)
-    (λ f. rw (e, f, b, e) refl)
+    by_test (is_fresh g now u) (λ f. rw (e, f, b, e) refl)
     (λ f. rw (e, f) (ap (has k) (fresh_keys-stale g now (bucket_of g.buckets k) u.packet earlier d.0
     (not_fresh (refresh_between g.refresh u.packet now) f)))))
     (λ e. by_test (is_fresh g now u && (bucket_of g.buckets u.key == bucket_of g.buckets k))
-    (λ f. rw (e, f, e) (has-fresh_keys g now k earlier d.1))
-    (λ f. rw (e, f) (has-fresh_keys g now k earlier d.1)))
+    (λ f. rw (e, f, e) (has-fresh_keys g now k earlier d.1)) (λ f. rw (e, f) (has-fresh_keys g now k earlier d.1)))
 
 pub before-fresh_keys : (g : Geometry) (now : ℕ) (k : Key) (earlier : List Use) → IsDescending earlier
     → is_fresh_last g now (last_use k earlier) ≡ true
@@ -82,22 +80,19 @@ before-fresh_keys g now k [] d h = absurd (false≢true h)
 before-fresh_keys g now k (u ∷ earlier) d h = by_test (key_eq u.key k)
     (λ e. let b : (bucket_of g.buckets u.key == bucket_of g.buckets k) ≡ true = same_bucket g u.key k e in
     let f : is_fresh g now u ≡ true = rw e at h in
-    rw (e, f, b, e) refl)
-    (λ e. let h' : is_fresh_last g now (last_use k earlier) ≡ true = rw e at h in
-    by_test (is_fresh g now u)
-    (λ f. by_test (bucket_of g.buckets u.key == bucket_of g.buckets k)
+    rw (e, f, b, e) refl) (λ e. let h' : is_fresh_last g now (last_use k earlier) ≡ true = rw e at h in
+    by_test (is_fresh g now u) (λ f. by_test (bucket_of g.buckets u.key == bucket_of g.buckets k)
     (λ b. rw (e, f, b, e) (ap (λ ks. u.key ∷ ks) (before-fresh_keys g now k earlier d.1 h')))
     (λ b. rw (e, f, b, e) (before-fresh_keys g now k earlier d.1 h')))
     (λ f. let none = fresh_keys-stale g now (bucket_of g.buckets k) u.packet earlier d.0
     (not_fresh (refresh_between g.refresh u.packet now) f) in
     absurd (false≢true (sym (ap (has k) none) ∙ (has-fresh_keys g now k earlier d.1 ∙ h')))))
 
-hit_by : (g : Geometry) (now : ℕ) (k : Key) (row : ArgRow) (last : Option Use) (between : List Use) (there : Bool) (n : ℕ)
-    → there ≡ is_fresh_last g now last
-    → (is_fresh_last g now last ≡ true → n ≡ length (rivals g k between))
+hit_by : (g : Geometry) (now : ℕ) (k : Key) (row : ArgRow) (last : Option Use) (between : List Use) {there : Bool} {n : ℕ}
+    → there ≡ is_fresh_last g now last → (is_fresh_last g now last ≡ true → n ≡ length (rivals g k between))
     → (there && nat_lt n g.ways) ≡ goes_on_after g last between (record { packet = now; key = k; row = row })
-hit_by g now k row None between there n e h = rw e refl
-hit_by g now k row (Some u) between there n e h = by_test (is_fresh g now u)
+hit_by g now k row None between e h = rw e refl
+hit_by g now k row (Some u) between e h = by_test (is_fresh g now u)
     (λ f. rw (e, f, h f) (by_test (nat_lt (length (rivals g k between)) g.ways) (λ t. rw t refl) (λ t. rw t refl)))
     (λ f. rw (e, f) (by_test (nat_lt (length (rivals g k between)) g.ways) (λ t. rw t refl) (λ t. rw t refl)))
 
@@ -106,7 +101,6 @@ pub hit-goes_on : (g : Geometry) (now : ℕ) (k : Key) (row : ArgRow) (earlier :
     → has k (recent_keys g now (bucket_of g.buckets k) earlier) ≡ goes_on g earlier (record { packet = now; key = k; row = row })
 hit-goes_on g now k row earlier d =
     let keys = fresh_keys g now (bucket_of g.buckets k) earlier in
-    has-take g.ways k (distinct keys)
-    ∙ hit_by g now k row (last_use k earlier) (since_last_use k earlier) (has k (distinct keys)) (length (before k (distinct keys)))
+    has-take g.ways k (distinct keys) ∙ hit_by g now k row (last_use k earlier) (since_last_use k earlier)
     (has-distinct k keys ∙ has-fresh_keys g now k earlier d)
     (λ f. ap length (before-distinct k keys ∙ ap distinct (before-fresh_keys g now k earlier d f)))

@@ -7,19 +7,15 @@ use Rattle.epoch_model.specs.Keys.{Key, ArgRow, key_eq, bucket_of, has, ascendin
 use Rattle.epoch_model.specs.Epochs.{Use, Geometry, is_use_of, epochs}
 use Rattle.epoch_model.specs.Machine.{Epoch, Machine, Event, Packet, Evict, Merge, run, lists_of, row_lists, end_of, empty_machine, open_in}
 use Rattle.epoch_model.specs.Machine.{is_open, packet, evict, merge}
-use Rattle.epoch_model.specs.Timeline.{IsSwept}
-use Rattle.epoch_model.specs.Laws.{HasRoom, rows_given}
+use Rattle.epoch_model.specs.{Timeline.IsSwept, Laws.HasRoom, Laws.rows_given}
 use Rattle.epoch_model.specs.Tables.{Folding, epoch_rows, exact_row, epochs_shown, key_rows, keys_used, closed_key_rows, closed_keys}
 use Rattle.epoch_model.specs.TableLaws.{ClosedGiveTheTable, ExactRowsFoldAllPackets, keys_given}
-use Rattle.epoch_model.proofs.KeyLists.{by_test, key_eq-true}
+use Rattle.epoch_model.proofs.{KeyLists.by_test, KeyLists.key_eq-true, EpochLists.keys_of, Following.starts-tidy, Following.starts-lists}
+use Rattle.epoch_model.proofs.{Rows.joined, Rows.no_row_is_lost_lem, EndOfTrace.closed_are_epochs_lem}
 use Rattle.epoch_model.proofs.KeyOrder.{ascending-ascends, has-ascending, same_ascending}
-use Rattle.epoch_model.proofs.EpochLists.{keys_of}
 use Rattle.epoch_model.proofs.MachineSteps.{IsTidy, evict-tidy, evict-lists, merge-tidy, merge-lists}
 use Rattle.epoch_model.proofs.PacketSteps.{own, packet-tidy, packet-lists_other, packet-lists_open, packet-lists_new}
-use Rattle.epoch_model.proofs.Following.{starts-tidy, starts-lists}
-use Rattle.epoch_model.proofs.Rows.{joined, no_row_is_lost_lem}
 use Rattle.epoch_model.proofs.Cuts.{IsPiece, onto_last-pieces, more_pieces, epochs-pieces, epochs_cut_the_rows_lem}
-use Rattle.epoch_model.proofs.EndOfTrace.{closed_are_epochs_lem}
 
 -- whether the list has an element
 abbrev pub some : {A : Type 0} → List A → Bool
@@ -51,25 +47,25 @@ pub same_keys : (closed : List Epoch) (keys : List Key) → ((k : Key) → has k
 same_keys closed keys h = same_ascending (closed_keys closed) (ascending keys) (ascending-ascends (keys_of closed)) (ascending-ascends keys)
     (λ k. has-ascending k (keys_of closed) ∙ (has-some k closed ∙ (sym (h k) ∙ sym (has-ascending k keys))))
 
-flat_map-same : {A B : Type 0} (f h : A → List B) (xs : List A) → ((x : A) → f x ≡ h x) → flat_map f xs ≡ flat_map h xs
-flat_map-same f h [] e = refl
-flat_map-same f h (x ∷ xs) e = ap (λ ys. ys ++ flat_map f xs) (e x) ∙ ap (λ ys. h x ++ ys) (flat_map-same f h xs e)
+flat_map-same : {A B : Type 0} {f h : A → List B} (xs : List A) → ((x : A) → f x ≡ h x) → flat_map f xs ≡ flat_map h xs
+flat_map-same [] e = refl
+flat_map-same {f} {h} (x ∷ xs) e = ap (λ ys. ys ++ flat_map f xs) (e x) ∙ ap (λ ys. h x ++ ys) (flat_map-same xs e)
 
 pub flat_map-single : {A B : Type 0} (f : A → List B) (h : A → B) (xs : List A) → ((x : A) → f x ≡ h x ∷ []) → flat_map f xs ≡ map h xs
 flat_map-single f h [] e = refl
 flat_map-single f h (x ∷ xs) e = ap (λ ys. ys ++ flat_map f xs) (e x) ∙ ap (λ ys. h x ∷ ys) (flat_map-single f h xs e)
 
-sum_from-same : {A : Type 0} (f h : A → ℕ) (start : ℕ) (xs : List A) → ((x : A) → f x ≡ h x)
+sum_from-same : {A : Type 0} {f h : A → ℕ} (start : ℕ) (xs : List A) → ((x : A) → f x ≡ h x)
     → fold (λ a x. a + f x) start xs ≡ fold (λ a x. a + h x) start xs
-sum_from-same f h start [] e = refl
-sum_from-same f h start (x ∷ xs) e = ap (λ n. fold (λ a y. a + f y) (start + n) xs) (e x) ∙ sum_from-same f h (start + h x) xs e
+sum_from-same start [] e = refl
+sum_from-same {f} {h} start (x ∷ xs) e = ap (λ n. fold (λ a y. a + f y) (start + n) xs) (e x)
+    ∙ sum_from-same {f = f} {h = h} (start + h x) xs e
 
 rows_agree : (f : Folding) (g : Geometry) (uses : List Use) (closed : List Epoch) (key : Key) → lists_of key closed ≡ epochs g uses key
     → closed_key_rows f closed key ≡ key_rows f g uses key
 rows_agree f g uses closed key same =
     let rows = (epochs_cut_the_rows_lem g uses key).0 in
-    by_test f.row_per_epoch
-    (λ h. rw h (ap (λ ls. epoch_rows f key (length ls) 1 ls) same))
+    by_test f.row_per_epoch (λ h. rw h (ap (λ ls. epoch_rows f key (length ls) 1 ls) same))
     (λ h. rw h (ap (λ ls. exact_row f key (length ls) (joined ls) ∷ []) same
     ∙ ap (λ rs. exact_row f key (length (epochs g uses key)) rs ∷ []) rows))
 
@@ -81,31 +77,25 @@ closed_give_the_table_lem f g uses packets room t =
     λ key. let c = epochs_cut_the_rows_lem g uses key in ap some (sym c.0) ∙ joined-some (epochs g uses key) (epochs-pieces g uses key) in
     let keys : closed_keys closed ≡ keys_used uses = same_keys closed (map (λ u. u.key) uses)
     (λ key. used-some key uses ∙ (cut key ∙ ap some (sym (same key)))) in (
-      ap (flat_map (closed_key_rows f closed)) keys ∙ flat_map-same (closed_key_rows f closed) (key_rows f g uses) (keys_used uses)
-          (λ key. rows_agree f g uses closed key (same key)),
-      ap epochs_shown (ap (sum_by (λ key. length (lists_of key closed))) keys
-          ∙ sum_from-same (λ key. length (lists_of key closed)) (λ key. length (epochs g uses key)) 0 (keys_used uses)
+      ap (flat_map (closed_key_rows f closed)) keys ∙ flat_map-same (keys_used uses) (λ key. rows_agree f g uses closed key (same key)),
+      ap epochs_shown (ap (sum_by (λ key. length (lists_of key closed))) keys ∙ sum_from-same 0 (keys_used uses)
           (λ key. ap length (same key))),
     )
 
 -- no row list is empty after any events
 pub pieces_kept : (g : Geometry) (events : List Event) (m : Machine) (k : Key) → HasRoom g → IsTidy g m
-    → AllByRecursion IsPiece (row_lists g m k)
-    → AllByRecursion IsPiece (row_lists g (run g events m) k)
+    → AllByRecursion IsPiece (row_lists g m k) → AllByRecursion IsPiece (row_lists g (run g events m) k)
 pieces_kept g [] m k room t a = a
 pieces_kept g (Packet j row ∷ events) m k room t a =
-    pieces_kept g events (packet g m j row) k room (packet-tidy g m j row t room.0) (by_test (key_eq j k)
-    (λ e. let same = key_eq-true j k e in
-    subst (λ x. AllByRecursion IsPiece (row_lists g (packet g m x row) k)) (sym same)
-    (by_test (is_open k (open_in m (own g k)))
-    (λ h. subst (AllByRecursion IsPiece) (sym (packet-lists_open g m k row t room.0 h)) (onto_last-pieces row (row_lists g m k) a))
-    (λ h. subst (AllByRecursion IsPiece) (sym (packet-lists_new g m k row t room.0 h)) (more_pieces row (row_lists g m k) a))))
-    (λ e. subst (AllByRecursion IsPiece) (sym (packet-lists_other g m j k row t room.0 e)) a))
-pieces_kept g (Evict bucket ∷ events) m k room t a =
-    pieces_kept g events (evict m bucket) k room (evict-tidy g m bucket t)
-    (subst (AllByRecursion IsPiece) (sym (evict-lists g m bucket k t)) a)
+    pieces_kept g events (packet g m j row) k room (packet-tidy j row t room.0) (by_test (key_eq j k) (λ e. let same = key_eq-true j k e in
+    subst (λ x. AllByRecursion IsPiece (row_lists g (packet g m x row) k)) (sym same) (by_test (is_open k (open_in m (own g k)))
+    (λ h. subst (AllByRecursion IsPiece) (sym (packet-lists_open k row t room.0 h)) (onto_last-pieces row (row_lists g m k) a))
+    (λ h. subst (AllByRecursion IsPiece) (sym (packet-lists_new k row t room.0 h)) (more_pieces row (row_lists g m k) a))))
+    (λ e. subst (AllByRecursion IsPiece) (sym (packet-lists_other j k row t room.0 e)) a))
+pieces_kept g (Evict bucket ∷ events) m k room t a = pieces_kept g events (evict m bucket) k room (evict-tidy bucket t)
+    (subst (AllByRecursion IsPiece) (sym (evict-lists bucket k t)) a)
 pieces_kept g (Merge ∷ events) m k room t a =
-    pieces_kept g events (merge m) k room (merge-tidy g m t) (subst (AllByRecursion IsPiece) (sym (merge-lists g m k)) a)
+    pieces_kept g events (merge m) k room (merge-tidy t) (subst (AllByRecursion IsPiece) (sym (merge-lists g m k)) a)
 
 pub closed-lists : (g : Geometry) (m : Machine) (k : Key) → IsSwept m → lists_of k m.closed ≡ row_lists g m k
 unfolding row_lists
@@ -126,5 +116,4 @@ exact_rows_fold_all_packets_lem f g events room one swept =
     ∙ joined-some (lists_of k m.closed) (pieces k))) in
     ap (flat_map (closed_key_rows f m.closed)) keys
     ∙ flat_map-single (closed_key_rows f m.closed) (λ key. exact_row f key (length (lists_of key m.closed)) (rows_given key events))
-    (ascending (keys_given events))
-    (λ key. rw one (ap (λ rs. exact_row f key (length (lists_of key m.closed)) rs ∷ []) (rows key)))
+    (ascending (keys_given events)) (λ key. rw one (ap (λ rs. exact_row f key (length (lists_of key m.closed)) rs ∷ []) (rows key)))
