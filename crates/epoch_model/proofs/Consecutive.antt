@@ -106,7 +106,7 @@ last-skip key (x ∷ xs) ys a e = rw a.0 (last-skip key xs ys a.1 e)
 since-skip : (key : Key) (xs ys : List Use) (one : Use) → NotUsed key xs → is_use_of key one ≡ true
     → since_last_use key (xs ++ one ∷ ys) ≡ xs
 since-skip key [] ys one a e = rw e refl
-since-skip key (x ∷ xs) ys one a e = rw a.0 (ap (λ us. x ∷ us) (since-skip key xs ys one a.1 e))
+since-skip key (x ∷ xs) ys one a e = rw a.0 (ap (λ us. x ∷ us) (since-skip _ _ _ _ a.1 e))
 
 -- the uses from the latest one back: those after a use, the use, and those before it
 back : (before between : List Use) (one : Use) → reverse (before ++ one ∷ between) ≡ reverse between ++ one ∷ reverse before

@@ -25,8 +25,7 @@ epochs_back-joined : (g : Geometry) (earlier : List Use) (key : Key) → joined 
 epochs_back-joined g [] key = refl
 epochs_back-joined g (u ∷ earlier) key =
     let rest = epochs_back-joined g earlier key in
-    by_test (is_use_of key u)
-    (λ e. by_test (goes_on g earlier u)
+    by_test (is_use_of key u) (λ e. by_test (goes_on g earlier u)
     (λ h. rw (e, h) (onto_last-joined u.row (epochs_back g earlier key) ∙ ap (λ rows. rows ++ u.row ∷ []) rest))
     (λ h. rw (e, h) (joined-append (epochs_back g earlier key) ((u.row ∷ []) ∷ []) ∙ ap (λ rows. rows ++ u.row ∷ []) rest)))
     (λ e. rw e rest)
@@ -36,8 +35,7 @@ rows_back-reverse : (key : Key) (uses earlier : List Use) → rows_back key (rev
 rows_back-reverse key [] earlier = sym (append-nil (rows_back key earlier))
 rows_back-reverse key (u ∷ uses) earlier = by_test (is_use_of key u)
     (λ e. rows_back-reverse key uses (u ∷ earlier) ∙ rw e (append_assoc (rows_back key earlier) (u.row ∷ [])
-    (map (λ x. x.row) (filter (is_use_of key) uses))))
-    (λ e. rows_back-reverse key uses (u ∷ earlier) ∙ rw e refl)
+    (map (λ x. x.row) (filter (is_use_of key) uses)))) (λ e. rows_back-reverse key uses (u ∷ earlier) ∙ rw e refl)
 
 pub onto_last-pieces : (row : ArgRow) (pieces : List (List ArgRow)) → AllByRecursion IsPiece pieces
     → AllByRecursion IsPiece (onto_last row pieces)
@@ -54,20 +52,16 @@ epochs_back-pieces : (g : Geometry) (earlier : List Use) (key : Key) → AllByRe
 epochs_back-pieces g [] key = tt
 epochs_back-pieces g (u ∷ earlier) key =
     let rest = epochs_back-pieces g earlier key in
-    by_test (is_use_of key u)
-    (λ e. by_test (goes_on g earlier u)
-    (λ h. rw (e, h) (onto_last-pieces u.row (epochs_back g earlier key) rest))
-    (λ h. rw (e, h) (more_pieces u.row (epochs_back g earlier key) rest)))
-    (λ e. rw e rest)
+    by_test (is_use_of key u) (λ e. by_test (goes_on g earlier u) (λ h. rw (e, h) (onto_last-pieces u.row (epochs_back g earlier key) rest))
+    (λ h. rw (e, h) (more_pieces u.row (epochs_back g earlier key) rest))) (λ e. rw e rest)
 
 pub epochs-pieces : (g : Geometry) (uses : List Use) (key : Key) → AllByRecursion IsPiece (epochs g uses key)
 unfolding epochs
-epochs-pieces g uses key = epochs_back-pieces g (reverse uses) key
+epochs-pieces g uses key = epochs_back-pieces g _ _
 
 pub epochs_cut_the_rows_lem : EpochsCutTheRows
 unfolding epochs
 epochs_cut_the_rows_lem g uses key = (
   epochs_back-joined g (reverse uses) key ∙ rows_back-reverse key uses [],
-  All-from_recursion IsPiece (epochs g uses key)
-      (epochs-pieces g uses key),
+  All-from_recursion IsPiece (epochs g uses key) (epochs-pieces g uses key),
 )

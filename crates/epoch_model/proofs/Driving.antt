@@ -51,7 +51,7 @@ evict_times-none (suc times) {m} bucket e =
 
 first_eviction : (m : Machine) (bucket : ℕ) → empty_bucket (evict m bucket) bucket ≡ empty_bucket m bucket
 first_eviction m bucket = by_test (nat_lt 0 (length (open_in m bucket)))
-    (λ h. let shorter = ap length (evict-open_same m bucket h) ∙ length-take (length (open_in m bucket) - 1) (open_in m bucket) in
+    (λ h. let shorter = ap length (evict-open_same m _ h) ∙ length-take (length (open_in m bucket) - 1) (open_in m bucket) in
     let some = ltb-true 0 (length (open_in m bucket)) h in
     let count : suc (length (open_in (evict m bucket) bucket)) ≡ length (open_in m bucket) = omega arith in
     ap (λ times. evict_times times m bucket) count) (λ h. ap (λ x. empty_bucket x bucket) (evict_empty m bucket h))
@@ -186,22 +186,22 @@ end-merged g uses packets =
     merge_times-merged (length m.closed - m.merged) m (omega arith) ∙ ap length (sym (end-alike g uses packets).closed)
 
 end-swept : (g : Geometry) (uses : List Use) (packets : ℕ) → IsSwept (end_of g uses packets)
-end-swept g uses packets bucket = ap (λ r. slice_index_or r bucket []) (end-alike g uses packets).recent
-    ∙ sweep-empties (after_packets g uses packets) g.buckets (after_packets-shape g uses packets) bucket
+end-swept g uses packets bucket = ap (λ r. slice_index_or r bucket []) (end-alike g _ _).recent
+    ∙ sweep-empties _ _ (after_packets-shape g _ _) bucket
 
 whole_end : (g : Geometry) (uses : List Use) (packets : ℕ) (m : Machine) → SameEpochs m (last_swept g uses packets)
     → m.merged ≡ length m.closed → m ≡ end_of g uses packets
 whole_end g uses packets m s all =
-    let end = end-alike g uses packets in
+    let end = end-alike g _ _ in
     let closed : m.closed ≡ (end_of g uses packets).closed = s.closed ∙ sym end.closed in
     let recent : m.recent ≡ (end_of g uses packets).recent = s.recent ∙ sym end.recent in
-    let merged : m.merged ≡ (end_of g uses packets).merged = all ∙ (ap length closed ∙ sym (end-merged g uses packets)) in
+    let merged : m.merged ≡ (end_of g uses packets).merged = all ∙ (ap length closed ∙ sym (end-merged g _ _)) in
     ap₂ (λ r c. record { recent = r; closed = c; merged = m.merged }) recent closed
     ∙ ap (λ n. record { recent = (end_of g uses packets).recent; closed = (end_of g uses packets).closed; merged = n }) merged
 
 pub sweeps_reach_the_end_lem : SweepsReachTheEnd
 sweeps_reach_the_end_lem = record {
-  closed = λ g uses packets m s. s.closed ∙ sym (end-alike g uses packets).closed;
+  closed = λ g uses packets m s. s.closed ∙ sym (end-alike g _ _).closed;
   whole = whole_end;
   swept = end-swept;
   merged = end-merged;

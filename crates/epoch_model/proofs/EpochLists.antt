@@ -51,8 +51,7 @@ lists_of-open k (e ∷ es) d h = by_test (key_eq e.key k)
     (λ i. rw i (lists_of-open k es d.1 (sym (ap (λ t. t || has k (keys_of es)) i) ∙ h)))
 
 pub lists_of-few : (k : Key) (epochs : List Epoch) → IsDistinct (keys_of epochs) → length (lists_of k epochs) ≤ 1
-lists_of-few k epochs d = by_test (has k (keys_of epochs)) (λ h. rw (lists_of-open k epochs d h) (omega arith))
-    (λ h. rw (lists_of-absent k epochs h) (omega arith))
+lists_of-few k epochs d = by_test _ (λ h. rw (lists_of-open k _ d h) (omega arith)) (λ h. rw (lists_of-absent k _ h) (omega arith))
 
 -- a list of at most one element in two parts is the parts the other way round
 pub swap_few : {A : Type 0} (xs ys : List A) → length (xs ++ ys) ≤ 1 → ys ++ xs ≡ xs ++ ys
@@ -69,21 +68,20 @@ lists_of-closing k epochs d =
     (subst (λ ls. length ls ≤ 1) (sym whole) (lists_of-few k epochs d)) ∙ whole
 
 pub lists_of-last_absent : (k : Key) (epochs : List Epoch) → has k (keys_of epochs) ≡ false → lists_of k (last_alone epochs) ≡ []
-lists_of-last_absent k epochs h = nothing (lists_of k (all_but_last epochs)) (lists_of k (last_alone epochs))
-    (sym (lists_of-append k (all_but_last epochs) (last_alone epochs))
-    ∙ (ap (lists_of k) (take-append-drop (length epochs - 1) epochs) ∙ lists_of-absent k epochs h))
+lists_of-last_absent k epochs h = nothing (lists_of k (all_but_last epochs)) (lists_of k (last_alone epochs)) (sym (lists_of-append k _ _)
+    ∙ (ap (lists_of k) (take-append-drop (length epochs - 1) epochs) ∙ lists_of-absent k _ h))
   where
     nothing : (xs ys : List (List ArgRow)) → xs ++ ys ≡ [] → ys ≡ []
     nothing [] ys e = e
     nothing (x ∷ xs) ys e = cc
 
 pub has-front : (n : ℕ) (k : Key) (xs : List Key) → has k xs ≡ false → has k (take n xs) ≡ false
-has-front n k xs h = has-take n k xs ∙ ap (λ t. t && nat_lt (length (before k xs)) n) h
+has-front n k xs h = has-take n k _ ∙ ap (λ t. t && nat_lt (length (before k xs)) n) h
 
 pub distinct-take : (n : ℕ) (xs : List Key) → IsDistinct xs → IsDistinct (take n xs)
 distinct-take zero xs d = tt
 distinct-take (suc n) [] d = tt
-distinct-take (suc n) (x ∷ xs) d = (has-front n x xs d.0, distinct-take n xs d.1)
+distinct-take (suc n) (x ∷ xs) d = (has-front n x _ d.0, distinct-take n _ d.1)
 
 pub rows_of-absent : (k : Key) (epochs : List Epoch) → has k (keys_of epochs) ≡ false → rows_in_epochs k epochs ≡ []
 rows_of-absent k [] h = refl
@@ -97,12 +95,11 @@ onto_last-append row (x ∷ y ∷ xs) rows = ap (λ ls. x ∷ ls) (onto_last-app
 
 pub lists_of-with_row_same : (k : Key) (row : ArgRow) (epochs : List Epoch)
     → lists_of k (with_row k row epochs) ≡ (rows_in_epochs k epochs ++ row ∷ []) ∷ []
-lists_of-with_row_same k row epochs = rw (key_eq-refl k) (ap (λ ls. (rows_in_epochs k epochs ++ row ∷ []) ∷ ls)
-    (lists_of-without_same k epochs))
+lists_of-with_row_same k row epochs = rw (key_eq-refl k) (ap (λ ls. (rows_in_epochs k epochs ++ row ∷ []) ∷ ls) (lists_of-without_same k _))
 
 pub lists_of-with_row_other : (k j : Key) (row : ArgRow) (epochs : List Epoch) → key_eq k j ≡ false
     → lists_of j (with_row k row epochs) ≡ lists_of j epochs
-lists_of-with_row_other k j row epochs h = rw h (lists_of-without_other k j epochs h)
+lists_of-with_row_other k j row epochs h = rw h (lists_of-without_other k j _ h)
 
 pub lists_of-with_new_same : (k : Key) {row : ArgRow} (epochs : List Epoch) → lists_of k (with_new k row epochs) ≡ (row ∷ [])
     ∷ lists_of k epochs

@@ -29,7 +29,7 @@ pub take_nothing : (n : ℕ) → take n (distinct []) ≡ []
 take_nothing n = take_all n [] (omega arith)
 
 pub empty_open : (g : Geometry) (bucket : ℕ) → open_in (empty_machine g) bucket ≡ []
-empty_open g bucket = by_test (nat_lt bucket g.buckets) (λ h. get_or-replicate g.buckets bucket [] [] (ltb-true bucket g.buckets h))
+empty_open g bucket = by_test _ (λ h. get_or-replicate g.buckets bucket [] [] (ltb-true bucket g.buckets h))
     (λ h. let past = ltb-false bucket g.buckets h in
     let long = length-replicate {A = List Epoch} g.buckets [] in
     get_or_past (replicate g.buckets []) bucket [] (omega arith))
@@ -37,18 +37,18 @@ empty_open g bucket = by_test (nat_lt bucket g.buckets) (λ h. get_or-replicate 
 pub starts-tidy : (g : Geometry) → IsTidy g (empty_machine g)
 starts-tidy g = record {
   shape = length-replicate g.buckets [];
-  distinct = λ bucket. subst (λ es. IsDistinct (keys_of es)) (sym (empty_open g bucket)) tt;
-  home = λ bucket k n. ap (λ es. has k (keys_of es)) (empty_open g bucket);
+  distinct = λ bucket. subst (λ es. IsDistinct (keys_of es)) (sym (empty_open g _)) tt;
+  home = λ bucket k n. ap (λ es. has k (keys_of es)) (empty_open g _);
 }
 
 pub starts-lists : (g : Geometry) (k : Key) → row_lists g (empty_machine g) k ≡ []
 unfolding row_lists
-starts-lists g k = ap (lists_of k) (empty_open g (bucket_of g.buckets k))
+starts-lists g k = ap (lists_of k) (empty_open g _)
 
 pub starts : {g : Geometry} → Follows g 1 [] (empty_machine g)
 starts {g} = record {
   keeps = record { tidy = starts-tidy g; lists = starts-lists g };
-  recent = λ bucket l. ap keys_of (empty_open g bucket) ∙ sym (take_nothing g.ways);
+  recent = λ bucket l. ap keys_of (empty_open g _) ∙ sym (take_nothing _);
   order = tt;
   latest = tt;
 }
@@ -56,7 +56,7 @@ starts {g} = record {
 pub refresh_between-none : (refresh : ℕ) {p : ℕ} (now : ℕ) → now ≤ p → refresh_between refresh p now ≡ false
 refresh_between-none refresh zero l = refl
 refresh_between-none refresh {p} (suc n) l = let h : nat_le p n ≡ false =
-    lt-leb p n (omega arith) in rw h (refresh_between-none refresh n (omega arith))
+    lt-leb p n (omega arith) in rw h (refresh_between-none _ n (omega arith))
 
 packet-lists_self : {g : Geometry} {now : ℕ} {earlier : List Use} {m : Machine} (k : Key) (row : ArgRow) → HasRoom g
     → Follows g now earlier m → row_lists g (packet g m k row) k ≡ epochs_back g (record { packet = now; key = k; row = row } ∷ earlier) k

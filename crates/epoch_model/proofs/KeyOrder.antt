@@ -88,13 +88,13 @@ below-absent : (key first : Key) (keys : List Key) → IsAscending (first ∷ ke
 below-absent key first keys s e = above-absent key (first ∷ keys) (e, above_less key first keys e s.0)
 
 has_first : (key : Key) (keys : List Key) → has key (key ∷ keys) ≡ true
-has_first key keys = ap (λ t. t || has key keys) (key_eq-refl key)
+has_first key keys = ap (λ t. t || has key keys) (key_eq-refl _)
 
 -- ascending lists with the same keys are the same list
 pub same_ascending : (xs ys : List Key) → IsAscending xs → IsAscending ys → ((k : Key) → has k xs ≡ has k ys) → xs ≡ ys
 same_ascending [] [] s t h = refl
-same_ascending [] (y ∷ ys) s t h = absurd (true≢false (sym (has_first y ys) ∙ sym (h y)))
-same_ascending (x ∷ xs) [] s t h = absurd (true≢false (sym (has_first x xs) ∙ h x))
+same_ascending [] (y ∷ ys) s t h = absurd (true≢false (sym (has_first y _) ∙ sym (h y)))
+same_ascending (x ∷ xs) [] s t h = absurd (true≢false (sym (has_first x _) ∙ h x))
 same_ascending (x ∷ xs) (y ∷ ys) s t h = by_order (λ e. absurd (true≢false (sym (has_first x xs) ∙ (h x ∙ below-absent x y ys t e))))
     (λ e. let same = key_cmp-equal e in
     subst (λ z. x ∷ xs ≡ z ∷ ys) same

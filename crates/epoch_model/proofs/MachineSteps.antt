@@ -34,11 +34,10 @@ set-tidy {m} {bucket} epochs t l d h = record {
   shape = length-set m.recent bucket epochs ∙ t.shape;
   distinct = λ b. ⊎_elim (λ (e : b ≡ bucket). subst (λ x. IsDistinct (keys_of (open_in (set_open m bucket epochs) x))) (sym e)
       (subst (λ es. IsDistinct (keys_of es)) (sym (open_in-set_same m l)) d))
-      (λ (n : b ≡ bucket → ⊥). subst (λ es. IsDistinct (keys_of es)) (sym (open_in-set_other m epochs n)) (t.distinct b))
-      (cases_eq b bucket);
+      (λ (n : b ≡ bucket → ⊥). subst (λ es. IsDistinct (keys_of es)) (sym (open_in-set_other m _ n)) (t.distinct b)) (cases_eq b bucket);
   home = λ b k n. ⊎_elim (λ (e : b ≡ bucket). subst (λ x. has k (keys_of (open_in (set_open m bucket epochs) x)) ≡ false) (sym e)
       (ap (λ es. has k (keys_of es)) (open_in-set_same m l) ∙ h k (λ p. n (p ∙ sym e))))
-      (λ (o : b ≡ bucket → ⊥). ap (λ es. has k (keys_of es)) (open_in-set_other m epochs o) ∙ t.home b k n) (cases_eq b bucket);
+      (λ (o : b ≡ bucket → ⊥). ap (λ es. has k (keys_of es)) (open_in-set_other m _ o) ∙ t.home b k n) (cases_eq b bucket);
 }
 
 -- the row lists after a write to the key's own bucket, and to another
@@ -50,7 +49,7 @@ row_lists-set_own g m k epochs l = ap (λ es. lists_of k m.closed ++ lists_of k 
 pub row_lists-set_other : (g : Geometry) (m : Machine) {bucket : ℕ} (k : Key) (epochs : List Epoch) → (bucket_of g.buckets k ≡ bucket → ⊥)
     → row_lists g (set_open m bucket epochs) k ≡ row_lists g m k
 unfolding row_lists
-row_lists-set_other g m k epochs n = ap (λ es. lists_of k m.closed ++ lists_of k es) (open_in-set_other m epochs n)
+row_lists-set_other g m k epochs n = ap (λ es. lists_of k m.closed ++ lists_of k es) (open_in-set_other m _ n)
 
 pub row_lists-set_alike : (g : Geometry) (m : Machine) {bucket : ℕ} (k : Key) (epochs : List Epoch) → bucket < length m.recent
     → (bucket_of g.buckets k ≡ bucket → lists_of k epochs ≡ lists_of k (open_in m bucket))
@@ -59,8 +58,8 @@ unfolding row_lists
 row_lists-set_alike g m {bucket} k epochs l h = ⊎_elim (λ (e : bucket_of g.buckets k ≡ bucket).
     let l' : bucket_of g.buckets k < length m.recent = subst (λ b. b < length m.recent) (sym e) l in
     subst (λ b. row_lists g (set_open m b epochs) k ≡ row_lists g m k) e
-    (row_lists-set_own g m k epochs l' ∙ ap (λ ls. lists_of k m.closed ++ ls) (h e ∙ ap (λ b. lists_of k (open_in m b)) (sym e))))
-    (row_lists-set_other g m k epochs) (cases_eq (bucket_of g.buckets k) bucket)
+    (row_lists-set_own g m k _ l' ∙ ap (λ ls. lists_of k m.closed ++ ls) (h e ∙ ap (λ b. lists_of k (open_in m b)) (sym e))))
+    (row_lists-set_other g m k _) (cases_eq (bucket_of g.buckets k) bucket)
 
 -- an open epoch is in a bucket of the machine
 pub in_range : (m : Machine) {bucket : ℕ} → nat_lt 0 (length (open_in m bucket)) ≡ true → bucket < length m.recent
@@ -87,12 +86,10 @@ close_last-tidy : {g : Geometry} {m : Machine} (bucket : ℕ) → IsTidy g m →
 close_last-tidy bucket t = record { shape = t.shape; distinct = t.distinct; home = t.home }
 
 pub evict-tidy : {g : Geometry} {m : Machine} (bucket : ℕ) → IsTidy g m → IsTidy g (evict m bucket)
-evict-tidy {g} {m} bucket t = by_test (nat_lt 0 (length (open_in m bucket))) (λ h. subst (IsTidy g) (sym (evict_is m bucket h))
-    (set-tidy (all_but_last (open_in m bucket)) (close_last-tidy bucket t) (in_range m h)
-    (subst IsDistinct (sym (keys_of-all_but_last (open_in m bucket))) (distinct-take (length (open_in m bucket) - 1)
-    (keys_of (open_in m bucket)) (t.distinct bucket)))
-    (λ k n. ap (has k) (keys_of-all_but_last (open_in m bucket)) ∙ has-front (length (open_in m bucket) - 1) k (keys_of (open_in m bucket))
-    (t.home bucket k n)))) (λ h. subst (IsTidy g) (sym (evict_empty m bucket h)) t)
+evict-tidy {g} {m} bucket t = by_test (nat_lt 0 (length (open_in m bucket))) (λ h. subst (IsTidy g) (sym (evict_is m _ h))
+    (set-tidy _ (close_last-tidy _ t) (in_range m h) (subst IsDistinct (sym (keys_of-all_but_last _)) (distinct-take _
+    _ (t.distinct bucket))) (λ k n. ap (has k) (keys_of-all_but_last _) ∙ has-front _ k _
+    (t.home bucket k n)))) (λ h. subst (IsTidy g) (sym (evict_empty m _ h)) t)
 
 -- eviction moves a row list and keeps their order
 evict_some-lists : {g : Geometry} {m : Machine} {bucket : ℕ} (k : Key) → IsTidy g m → bucket < length m.recent
@@ -115,8 +112,8 @@ evict_some-lists {g} {m} {bucket} k t l =
 
 pub evict-lists : {g : Geometry} {m : Machine} (bucket : ℕ) (k : Key) → IsTidy g m → row_lists g (evict m bucket) k ≡ row_lists g m k
 evict-lists {g} {m} bucket k t = by_test (nat_lt 0 (length (open_in m bucket)))
-    (λ h. ap (λ n. row_lists g n k) (evict_is m bucket h) ∙ evict_some-lists k t (in_range m h))
-    (λ h. ap (λ n. row_lists g n k) (evict_empty m bucket h))
+    (λ h. ap (λ n. row_lists g n k) (evict_is m _ h) ∙ evict_some-lists k t (in_range m h))
+    (λ h. ap (λ n. row_lists g n k) (evict_empty m _ h))
 
 pub merge-tidy : {g : Geometry} {m : Machine} → IsTidy g m → IsTidy g (merge m)
 merge-tidy {m} t = by_test (nat_lt m.merged (length m.closed))

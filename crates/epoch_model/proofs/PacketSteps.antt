@@ -39,31 +39,30 @@ pub packet_cases : (g : Geometry) (m : Machine) (k : Key) (row : ArgRow) (P : Ma
     → P (set_open m (own g k) (with_new k row (open_in m (own g k)))))
     → (is_open k (open_in m (own g k)) ≡ false → nat_lt (length (open_in m (own g k))) g.ways ≡ false
     → P (set_open (evict m (own g k)) (own g k) (with_new k row (open_in (evict m (own g k)) (own g k))))) → P (packet g m k row)
-packet_cases g m k row P known free full = by_test (is_open k (open_in m (own g k)))
-    (λ h. subst P (sym (packet_open g m k row h)) (known h)) (λ h. by_test (nat_lt (length (open_in m (own g k))) g.ways)
-    (λ l. subst P (sym (packet_free g m k row h l)) (free h l)) (λ l. subst P (sym (packet_full g m k row h l)) (full h l)))
+packet_cases g m k row P known free full = by_test _ (λ h. subst P (sym (packet_open g m k _ h)) (known h)) (λ h. by_test _
+    (λ l. subst P (sym (packet_free g m k _ h l)) (free h l)) (λ l. subst P (sym (packet_full g m k _ h l)) (full h l)))
 
 pub in_own : {g : Geometry} {m : Machine} (k : Key) → IsTidy g m → 0 < g.buckets → own g k < length m.recent
-in_own {g} k t h = let l = bucket_of-lt g.buckets k h in let s = t.shape in omega arith
+in_own {g} k t h = let l = bucket_of-lt _ k h in let s = t.shape in omega arith
 
 -- a key of another bucket is another key
 other_bucket : (g : Geometry) (k j : Key) → (own g j ≡ own g k → ⊥) → key_eq k j ≡ false
-other_bucket g k j n = by_test (key_eq k j) (λ e. absurd (n (sym (ap (bucket_of g.buckets) (key_eq-true k j e))))) (λ e. e)
+other_bucket g k j n = by_test _ (λ e. absurd (n (sym (ap (bucket_of g.buckets) (key_eq-true k j e))))) (λ e. e)
 
 with_row-tidy : {g : Geometry} {m : Machine} (k : Key) (row : ArgRow) → IsTidy g m → 0 < g.buckets
     → IsTidy g (set_open m (own g k) (with_row k row (open_in m (own g k))))
 with_row-tidy {g} {m} k row t h =
     let epochs = open_in m (own g k) in
-    set-tidy (with_row k row epochs) t (in_own k t h) (subst (λ ks. IsDistinct (k ∷ ks)) (sym (keys_of-without k epochs))
-    (has-others_same k (keys_of epochs), others-distinct k (keys_of epochs) (t.distinct (own g k))))
+    set-tidy _ t (in_own k t h) (subst (λ ks. IsDistinct (k ∷ ks)) (sym (keys_of-without k _))
+    (has-others_same k _, others-distinct k _ (t.distinct (own g k))))
     (λ j n. ap (λ b. b || has j (keys_of (without k epochs))) (other_bucket g k j n)
-    ∙ (ap (has j) (keys_of-without k epochs) ∙ has-others_false k j (keys_of epochs) (t.home (own g k) j n)))
+    ∙ (ap (has j) (keys_of-without k _) ∙ has-others_false k j _ (t.home (own g k) j n)))
 
 with_new-tidy : {g : Geometry} {m : Machine} (k : Key) (row : ArgRow) → IsTidy g m → 0 < g.buckets
     → has k (keys_of (open_in m (own g k))) ≡ false → IsTidy g (set_open m (own g k) (with_new k row (open_in m (own g k))))
 with_new-tidy {g} {m} k row t h a =
     let epochs = open_in m (own g k) in
-    set-tidy (with_new k row epochs) t (in_own k t h) (a, t.distinct (own g k))
+    set-tidy _ t (in_own k t h) (a, t.distinct (own g k))
     (λ j n. ap (λ b. b || has j (keys_of epochs)) (other_bucket g k j n) ∙ t.home (own g k) j n)
 
 -- what is left of the bucket after an eviction from a bucket that isn't empty
@@ -78,13 +77,11 @@ evict-open_other m bucket other n = by_test (nat_lt 0 (length (open_in m bucket)
 
 evict-absent : (m : Machine) (bucket : ℕ) (k : Key) → has k (keys_of (open_in m bucket)) ≡ false
     → has k (keys_of (open_in (evict m bucket) bucket)) ≡ false
-evict-absent m bucket k a = by_test (nat_lt 0 (length (open_in m bucket)))
-    (λ h. ap (λ es. has k (keys_of es)) (evict-open_same m bucket h) ∙ (ap (has k) (keys_of-all_but_last (open_in m bucket))
-    ∙ has-front (length (open_in m bucket) - 1) k (keys_of (open_in m bucket)) a))
-    (λ h. ap (λ x. has k (keys_of (open_in x bucket))) (evict_empty m bucket h) ∙ a)
+evict-absent m bucket k a = by_test _ (λ h. ap (λ es. has k (keys_of es)) (evict-open_same m _ h) ∙ (ap (has k) (keys_of-all_but_last _)
+    ∙ has-front _ k _ a)) (λ h. ap (λ x. has k (keys_of (open_in x bucket))) (evict_empty m _ h) ∙ a)
 
 absent : (k : Key) (epochs : List Epoch) → is_open k epochs ≡ false → has k (keys_of epochs) ≡ false
-absent k epochs h = sym (is_open-has k epochs) ∙ h
+absent k epochs h = sym (is_open-has k _) ∙ h
 
 pub packet-tidy : {g : Geometry} {m : Machine} (k : Key) (row : ArgRow) → IsTidy g m → 0 < g.buckets → IsTidy g (packet g m k row)
 packet-tidy {g} {m} k row t h = packet_cases g m k row (IsTidy g) (λ e. with_row-tidy k row t h)
@@ -93,8 +90,7 @@ packet-tidy {g} {m} k row t h = packet_cases g m k row (IsTidy g) (λ e. with_ro
 
 with_new-lists_other : {g : Geometry} {m : Machine} (k j : Key) (row : ArgRow) → IsTidy g m → 0 < g.buckets → key_eq k j ≡ false
     → row_lists g (set_open m (own g k) (with_new k row (open_in m (own g k)))) j ≡ row_lists g m j
-with_new-lists_other {g} {m} k j row t h n = row_lists-set_alike g m j (with_new k row (open_in m (own g k))) (in_own k t h)
-    (λ _. lists_of-with_new_other k j row (open_in m (own g k)) n)
+with_new-lists_other {g} {m} k j row t h n = row_lists-set_alike g m j _ (in_own k t h) (λ _. lists_of-with_new_other k j _ _ n)
 
 -- a packet of another key changes no row list of this one
 pub packet-lists_other : {g : Geometry} {m : Machine} (k j : Key) (row : ArgRow) → IsTidy g m → 0 < g.buckets → key_eq k j ≡ false
@@ -108,17 +104,16 @@ packet-lists_other {g} {m} k j row t h n = packet_cases g m k row (λ x. row_lis
 pub row_lists-open : {g : Geometry} {m : Machine} (k : Key) → IsTidy g m → is_open k (open_in m (own g k)) ≡ true
     → row_lists g m k ≡ lists_of k m.closed ++ rows_in_epochs k (open_in m (own g k)) ∷ []
 unfolding row_lists
-row_lists-open {g} {m} k t e = ap (λ ls. lists_of k m.closed ++ ls) (lists_of-open k (open_in m (own g k)) (t.distinct (own g k))
-    (sym (is_open-has k (open_in m (own g k))) ∙ e))
+row_lists-open {g} {m} k t e = ap (λ ls. lists_of k m.closed ++ ls) (lists_of-open k _ (t.distinct (own g k)) (sym (is_open-has k _) ∙ e))
 
 -- a packet of an open key gives its last list one more row
 pub packet-lists_open : {g : Geometry} {m : Machine} (k : Key) (row : ArgRow) → IsTidy g m → 0 < g.buckets
     → is_open k (open_in m (own g k)) ≡ true → row_lists g (packet g m k row) k ≡ onto_last row (row_lists g m k)
 packet-lists_open {g} {m} k row t h e =
     let epochs = open_in m (own g k) in
-    ap (λ x. row_lists g x k) (packet_open g m k row e) ∙ (row_lists-set_own g m k (with_row k row epochs) (in_own k t h)
-    ∙ (ap (λ ls. lists_of k m.closed ++ ls) (lists_of-with_row_same k row epochs)
-    ∙ (sym (onto_last-append row (lists_of k m.closed) (rows_in_epochs k epochs)) ∙ ap (onto_last row) (sym (row_lists-open k t e)))))
+    ap (λ x. row_lists g x k) (packet_open g m k _ e) ∙ (row_lists-set_own g m k _ (in_own k t h)
+    ∙ (ap (λ ls. lists_of k m.closed ++ ls) (lists_of-with_row_same k _ _)
+    ∙ (sym (onto_last-append _ _ _) ∙ ap (onto_last row) (sym (row_lists-open k t e)))))
 
 with_new-lists_same : {g : Geometry} {m : Machine} (k : Key) (row : ArgRow) → IsTidy g m → 0 < g.buckets
     → has k (keys_of (open_in m (own g k))) ≡ false
@@ -126,9 +121,9 @@ with_new-lists_same : {g : Geometry} {m : Machine} (k : Key) (row : ArgRow) → 
 unfolding row_lists
 with_new-lists_same {g} {m} k row t h a =
     let epochs = open_in m (own g k) in
-    let none = lists_of-absent k epochs a in
-    row_lists-set_own g m k (with_new k row epochs) (in_own k t h)
-    ∙ (ap (λ ls. lists_of k m.closed ++ ls) (lists_of-with_new_same k epochs ∙ ap (λ ls. (row ∷ []) ∷ ls) none)
+    let none = lists_of-absent k _ a in
+    row_lists-set_own g m k _ (in_own k t h)
+    ∙ (ap (λ ls. lists_of k m.closed ++ ls) (lists_of-with_new_same k _ ∙ ap (λ ls. (row ∷ []) ∷ ls) none)
     ∙ (ap (λ ls. ls ++ (row ∷ []) ∷ []) (sym (append-nil (lists_of k m.closed)) ∙ ap (λ ls. lists_of k m.closed ++ ls) (sym none))))
 
 -- a packet of a key that isn't open begins a new list
@@ -151,7 +146,7 @@ packet-open_other g m k row {bucket} n = packet_cases g m k row (λ x. open_in x
 front_of : (w : ℕ) (k : Key) (xs : List Key) → has k (take (suc w) xs) ≡ false → take w (others k xs) ≡ take w xs
 front_of w k xs h =
     let shorter : take w (take (suc w) xs) ≡ take w xs = take-take w (suc w) xs (omega arith) in
-    front_new w k xs (subst (λ ks. has k ks ≡ false) shorter (has-front w k (take (suc w) xs) h))
+    front_new w k _ (subst (λ ks. has k ks ≡ false) shorter (has-front w k _ h))
 
 -- the keys of the bucket after a packet
 pub packet-keys : {g : Geometry} {m : Machine} {k : Key} (row : ArgRow) {w : ℕ} (xs : List Key) → IsTidy g m → 0 < g.buckets

@@ -35,13 +35,12 @@ IsDescending (u ∷ earlier) = AtMost u.packet earlier × IsDescending earlier
 pub refresh_between-earlier : (refresh : ℕ) {p earlier : ℕ} (now : ℕ) → earlier ≤ p → refresh_between refresh p now ≡ true
     → refresh_between refresh earlier now ≡ true
 refresh_between-earlier refresh zero l h = h
-refresh_between-earlier refresh {p} {earlier} (suc n) l h = by_test (nat_le p n && is_refresh refresh n)
-    (λ e. let parts = and_parts (nat_le p n) (is_refresh refresh n) e in
+refresh_between-earlier refresh {p} {earlier} (suc n) l h = by_test _ (λ e. let parts = and_parts (nat_le p n) (is_refresh refresh n) e in
     let below = leb-true p n parts.0 in
     or_left (nat_le earlier n && is_refresh refresh n) (refresh_between refresh earlier n)
     (and_from (nat_le earlier n) (is_refresh refresh n) (le-leb earlier n (omega arith)) parts.1))
     (λ e. or_right (nat_le earlier n && is_refresh refresh n) (refresh_between refresh earlier n)
-    (refresh_between-earlier refresh n l (sym (ap (λ t. t || refresh_between refresh p n) e) ∙ h)))
+    (refresh_between-earlier _ n l (sym (ap (λ t. t || refresh_between refresh p n) e) ∙ h)))
 
 -- before a use that is before the last refresh, no use is after that refresh
 pub fresh_keys-stale : (g : Geometry) (now bucket p : ℕ) (earlier : List Use) → AtMost p earlier → refresh_between g.refresh p now ≡ true
@@ -101,6 +100,5 @@ pub hit-goes_on : (g : Geometry) (now : ℕ) (k : Key) (row : ArgRow) (earlier :
     → has k (recent_keys g now (bucket_of g.buckets k) earlier) ≡ goes_on g earlier (record { packet = now; key = k; row = row })
 hit-goes_on g now k row earlier d =
     let keys = fresh_keys g now (bucket_of g.buckets k) earlier in
-    has-take g.ways k (distinct keys) ∙ hit_by g now k row (last_use k earlier) (since_last_use k earlier)
-    (has-distinct k keys ∙ has-fresh_keys g now k earlier d)
-    (λ f. ap length (before-distinct k keys ∙ ap distinct (before-fresh_keys g now k earlier d f)))
+    has-take _ k _ ∙ hit_by g _ k _ _ _ (has-distinct k _ ∙ has-fresh_keys g _ k _ d)
+    (λ f. ap length (before-distinct k _ ∙ ap distinct (before-fresh_keys g _ k _ d f)))

@@ -42,26 +42,25 @@ set-few : (m : Machine) {n bucket : ℕ} (epochs : List Epoch) → bucket < leng
     → ((b : ℕ) → length (open_in m b) ≤ n) → (b : ℕ) → length (open_in (set_open m bucket epochs) b) ≤ n
 set-few m {n} {bucket} epochs l s h b = ⊎_elim (λ (e : b ≡ bucket). subst (λ x. length (open_in (set_open m bucket epochs) x) ≤ n) (sym e)
     (subst (λ es. length es ≤ n) (sym (open_in-set_same m l)) s))
-    (λ (d : b ≡ bucket → ⊥). subst (λ es. length es ≤ n) (sym (open_in-set_other m epochs d)) (h b)) (cases_eq b bucket)
+    (λ (d : b ≡ bucket → ⊥). subst (λ es. length es ≤ n) (sym (open_in-set_other m _ d)) (h b)) (cases_eq b bucket)
 
 evict-fewer : (m : Machine) (bucket b : ℕ) → length (open_in (evict m bucket) b) ≤ length (open_in m b)
 evict-fewer m bucket b = ⊎_elim (λ (e : b ≡ bucket). subst (λ x. length (open_in (evict m bucket) x) ≤ length (open_in m x)) (sym e)
-    (by_test (nat_lt 0 (length (open_in m bucket)))
-    (λ h. let l = ap length (evict-open_same m bucket h) ∙ length-take (length (open_in m bucket) - 1) (open_in m bucket) in omega arith)
-    (λ h. let l = ap (λ x. length (open_in x bucket)) (evict_empty m bucket h) in omega arith)))
-    (λ (d : b ≡ bucket → ⊥). let l = ap length (evict-open_other m bucket b d) in omega arith) (cases_eq b bucket)
+    (by_test _
+    (λ h. let l = ap length (evict-open_same m _ h) ∙ length-take (length (open_in m bucket) - 1) (open_in m bucket) in omega arith)
+    (λ h. let l = ap (λ x. length (open_in x bucket)) (evict_empty m _ h) in omega arith)))
+    (λ (d : b ≡ bucket → ⊥). let l = ap length (evict-open_other m _ b d) in omega arith) (cases_eq b bucket)
 
 evict-merged : (m : Machine) (bucket : ℕ) → m.merged ≤ length m.closed → (evict m bucket).merged ≤ length (evict m bucket).closed
-evict-merged m bucket h = by_test (nat_lt 0 (length (open_in m bucket)))
-    (λ e. subst (λ x. x.merged ≤ length x.closed) (sym (evict_is m bucket e))
+evict-merged m bucket h = by_test _ (λ e. subst (λ x. x.merged ≤ length x.closed) (sym (evict_is m _ e))
     (let l = length-append m.closed (last_alone (open_in m bucket)) in omega arith))
-    (λ e. subst (λ x. x.merged ≤ length x.closed) (sym (evict_empty m bucket e)) h)
+    (λ e. subst (λ x. x.merged ≤ length x.closed) (sym (evict_empty m _ e)) h)
 
 evict-small : {g : Geometry} {m : Machine} (bucket : ℕ) → IsSmall g m → IsSmall g (evict m bucket)
 evict-small {m} bucket s = record {
-  tidy = evict-tidy bucket s.tidy;
-  few = λ b. le_trans (evict-fewer m bucket b) (s.few b);
-  merged = evict-merged m bucket s.merged;
+  tidy = evict-tidy _ s.tidy;
+  few = λ b. le_trans (evict-fewer m _ b) (s.few b);
+  merged = evict-merged m _ s.merged;
 }
 
 packet-small : {g : Geometry} {m : Machine} (k : Key) (row : ArgRow) → HasRoom g → IsSmall g m → IsSmall g (packet g m k row)
@@ -92,8 +91,7 @@ merge-small : {g : Geometry} {m : Machine} → IsSmall g m → IsSmall g (merge 
 merge-small {g} {m} s = record {
   tidy = merge-tidy s.tidy;
   few = λ b. subst (λ es. length es ≤ g.ways) (sym (merge-open m b)) (s.few b);
-  merged = by_test (nat_lt m.merged (length m.closed)) (λ h. let l = ltb-true m.merged (length m.closed) h in rw h (omega arith))
-      (λ h. rw h s.merged);
+  merged = by_test _ (λ h. let l = ltb-true m.merged (length m.closed) h in rw h (omega arith)) (λ h. rw h s.merged);
 }
 
 run-small : {g : Geometry} (events : List Event) {m : Machine} → HasRoom g → IsSmall g m → IsSmall g (run g events m)
@@ -108,8 +106,7 @@ once_lem (x ∷ xs) d = ap (λ ks. x ∷ ks) (ap (others x) (once_lem xs d.1) �
 
 -- where each other bucket's keys are absent, each epoch has a key of this one
 home_lem : (buckets : ℕ) {bucket : ℕ} (epochs : List Epoch) → ((k : Key) → (bucket_of buckets k ≡ bucket → ⊥)
-    → has k (keys_of epochs) ≡ false)
-    → AllByRecursion (λ epoch. bucket_of buckets epoch.key ≡ bucket) epochs
+    → has k (keys_of epochs) ≡ false) → AllByRecursion (λ epoch. bucket_of buckets epoch.key ≡ bucket) epochs
 home_lem buckets [] h = tt
 home_lem buckets {bucket} (e ∷ es) h = (
   ⊎_elim (λ (p : bucket_of buckets e.key ≡ bucket). p) (λ (n : bucket_of buckets e.key ≡ bucket → ⊥). absurd (true≢false
