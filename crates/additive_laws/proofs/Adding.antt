@@ -1,13 +1,10 @@
 -- A block that only adds does the same from every state: it adds to it.
 use Rattle.std.proofs.Common.{◌≡◌, ℕ, zero, suc, ◌+◌, ◌%◌, ◌^◌, ◌<◌, Bool, true, false, ◌&&◌, List, [], ◌∷◌, ◌++◌, length, set, replicate}
 use Rattle.std.proofs.Common.{slice_index, refl, sym, ap, ◌∙◌, subst, arith, if◌then◌else◌, length-set}
-use Rattle.std.proofs.lemmas.Bool.Decides.{nat_tests}
-use Rattle.std.proofs.lemmas.List.{get_or_append_left, length-replicate}
+use Rattle.std.proofs.lemmas.{Bool.Decides.nat_tests, List.get_or_append_left, List.length-replicate}
 use Rattle.std.proofs.lemmas.List.Elements.{All-nil, All-cons, All-head, All-tail}
 use Rattle.epoch_model.specs.Keys.{ArgRow}
-use Rattle.query_lang.specs.declared.fold.Op.{Op}
-use Rattle.query_lang.specs.declared.fold.Op.TheVariants.{Add, Sub}
-use Rattle.query_lang.specs.declared.fold.TypedFold.{TypedFold}
+use Rattle.query_lang.specs.declared.fold.{Op.Op, Op.TheVariants.Add, Op.TheVariants.Sub, TypedFold.TypedFold}
 use Rattle.query_lang.specs.Words.{holds, op_value, IsWord, AreWords}
 use Rattle.query_lang.specs.Terms.{Term, Literal, Read, Negation, Operation}
 use Rattle.query_lang.specs.Blocks.{Block, End, Set, Fork}
@@ -56,22 +53,21 @@ plus_set op h (x ∷ xs) (z ∷ zs) zero w e = ap (λ n. n ∷ plus xs zs) (op_s
 plus_set op h (x ∷ xs) (z ∷ zs) (suc v) w e = ap (λ ns. (x + z) % 2 ^ 64 ∷ ns) (plus_set op h xs zs v w (omega arith))
 
 module _ (states : ℕ) where
-  variable_value : (v : ℕ) (e : Term) (args xs : List ℕ) → is_variable v e ≡ true → v < length xs
+  variable_value : {v : ℕ} (e : Term) (args xs : List ℕ) → is_variable v e ≡ true → v < length xs
       → term_value e (xs ++ args) ≡ slice_index xs v
-  variable_value v (Read s) args xs h lt = let same : s ≡ v = grind (arith, nat_tests) in ap (slice_index (xs ++ args)) same
+  variable_value {v} (Read s) args xs h lt = let same : s ≡ v = grind (arith, nat_tests) in ap (slice_index (xs ++ args)) same
       ∙ get_or_append_left xs args 0 v lt
-  variable_value v (Literal n) args xs h lt = cc
-  variable_value v (Negation e) args xs h lt = cc
-  variable_value v (Operation op a b) args xs h lt = cc
+  variable_value (Literal n) args xs h lt = cc
+  variable_value (Negation e) args xs h lt = cc
+  variable_value (Operation op a b) args xs h lt = cc
 
   -- an assignment adds the same to every state
-  set_adds : (v : ℕ) (e : Term) (args xs zs : List ℕ) → is_increment states v e ≡ true → v < states → length xs ≡ states
-      → length zs ≡ states →
-      set (plus xs zs) v (term_value e (plus xs zs ++ args)) ≡ plus xs (set zs v (term_value e (zs ++ args)))
-  set_adds v (Literal n) args xs zs h lt ex ez = cc
-  set_adds v (Read s) args xs zs h lt ex ez = cc
-  set_adds v (Negation e) args xs zs h lt ex ez = cc
-  set_adds v (Operation op a b) args xs zs h lt ex ez =
+  set_adds : {v : ℕ} (e : Term) (args xs zs : List ℕ) → is_increment states v e ≡ true → v < states → length xs ≡ states
+      → length zs ≡ states → set (plus xs zs) v (term_value e (plus xs zs ++ args)) ≡ plus xs (set zs v (term_value e (zs ++ args)))
+  set_adds (Literal n) args xs zs h lt ex ez = cc
+  set_adds (Read s) args xs zs h lt ex ez = cc
+  set_adds (Negation e) args xs zs h lt ex ez = cc
+  set_adds {v} (Operation op a b) args xs zs h lt ex ez =
       let ps = plus xs zs in
       let ep : length ps ≡ states = length-plus xs zs ∙ ex in
       let adds = and_true_left (adds_or_subtracts op) (is_variable v a && names_no_state states b) h in
@@ -79,19 +75,18 @@ module _ (states : ℕ) where
       let is_v = and_true_left (is_variable v a) (names_no_state states b) right in
       let free = and_true_right (is_variable v a) (names_no_state states b) right in
       let w = term_value b (zs ++ args) in
-      ap (λ n. set ps v (op_value op n (term_value b (ps ++ args)))) (variable_value v a args ps is_v (subst (λ n. v < n) (sym ep) lt))
+      ap (λ n. set ps v (op_value op n (term_value b (ps ++ args)))) (variable_value a args ps is_v (subst (λ n. v < n) (sym ep) lt))
       ∙ ap (λ n. set ps v (op_value op (slice_index ps v) n)) (known_value states no_variable args ps zs b ep ez (λ s lt k. cc) free)
       ∙ plus_set op adds xs zs v w (ex ∙ sym ez)
-      ∙ ap (λ n. plus xs (set zs v (op_value op n w))) (sym (variable_value v a args zs is_v (subst (λ n. v < n) (sym ez) lt)))
+      ∙ ap (λ n. plus xs (set zs v (op_value op n w))) (sym (variable_value a args zs is_v (subst (λ n. v < n) (sym ez) lt)))
 
   block_adds : (nargs : ℕ) (b : Block) (args xs zs : List ℕ) → IsValidBlock states nargs b → is_additive_block states true b ≡ true
-      → length xs ≡ states → length zs ≡ states →
-      after b args (plus xs zs) ≡ plus xs (after b args zs)
+      → length xs ≡ states → length zs ≡ states → after b args (plus xs zs) ≡ plus xs (after b args zs)
   block_adds nargs End args xs zs valid h ex ez = refl
   block_adds nargs (Set v e rest) args xs zs valid h ex ez =
       let front = and_true_left (is_increment states v e) (is_additive_block states true rest) h in
       let more = and_true_right (is_increment states v e) (is_additive_block states true rest) h in
-      ap (after rest args) (set_adds v e args xs zs front valid.0 ex ez)
+      ap (after rest args) (set_adds e args xs zs front valid.0 ex ez)
       ∙ block_adds nargs rest args xs (set zs v (term_value e (zs ++ args))) valid.3 more ex
       (length-set zs v (term_value e (zs ++ args)) ∙ ez)
   block_adds nargs (Fork c a b rest) args xs zs valid h ex ez =
@@ -132,11 +127,9 @@ module _ (states : ℕ) where
           (is_additive_block states true b ≡ true → after b args (plus xs zs) ≡ plus xs (after b args zs)) →
           (if holds (term_value c (plus xs zs ++ args)) then after a args (plus xs zs) else after b args (plus xs zs))
           ≡ plus xs (if holds (term_value c (zs ++ args)) then after a args zs else after b args zs)
-      branch true e ga gb ia ib =
-          same (holds (term_value c (plus xs zs ++ args))) (holds (term_value c (zs ++ args)))
+      branch true e ga gb ia ib = same (holds (term_value c (plus xs zs ++ args))) (holds (term_value c (zs ++ args)))
           (ap holds (known_value states no_variable args (plus xs zs) zs c (length-plus xs zs ∙ ex) ez (λ s lt k. cc) e)) (ia ga) (ib gb)
-      branch false e ga gb ia ib =
-          still (holds (term_value c (plus xs zs ++ args))) (holds (term_value c (zs ++ args)))
+      branch false e ga gb ia ib = still (holds (term_value c (plus xs zs ++ args))) (holds (term_value c (zs ++ args)))
           (idle states no_variable (is_increment states) a args (plus xs zs) ga)
           (idle states no_variable (is_increment states) b args (plus xs zs) gb)
           (idle states no_variable (is_increment states) a args zs ga) (idle states no_variable (is_increment states) b args zs gb)
@@ -152,8 +145,8 @@ step_adds f state row h =
     (length-replicate (fold_states f) 0)
 
 -- the state after a row is one for the fold again
-pub step_stays : (f : TypedFold) (state : List ℕ) (row : ArgRow) → IsAdditiveFrom f state → IsAdditiveFrom f (body f state row)
-step_stays f state row h = record {
+pub step_stays : {f : TypedFold} {state : List ℕ} (row : ArgRow) → IsAdditiveFrom f state → IsAdditiveFrom f (body f state row)
+step_stays {f} {state} row h = record {
   valid = h.valid;
   additive = h.additive;
   size = length-after (fold_block f) row state ∙ h.size;

@@ -1,21 +1,17 @@
 -- What the events of a trace give each key, and the keys of the merged epochs.
 use Rattle.std.proofs.Common.{◌≡◌, ℕ, suc, true, false, ◌==◌, List, [], ◌∷◌, ◌++◌, map, Option, Some, None, refl, sym, ap, ◌∙◌, append-nil}
 use Rattle.epoch_model.specs.Keys.{Key, key_eq, has}
-use Rattle.epoch_model.specs.Epochs.{Use}
+use Rattle.epoch_model.specs.{Epochs.Use, Timeline.NoPacket, Laws.rows_given, TableLaws.keys_given}
 use Rattle.epoch_model.specs.Machine.{Event, Packet, Evict, Merge, lists_of}
-use Rattle.epoch_model.specs.Timeline.{NoPacket}
-use Rattle.epoch_model.specs.Laws.{rows_given}
-use Rattle.epoch_model.specs.TableLaws.{keys_given}
 use Rattle.epoch_model.specs.Driving.{Taken, event_of, use_at, uses_taken}
 use Rattle.epoch_model.proofs.KeyLists.{by_test}
 use Rattle.epoch_model.proofs.TableRows.{given-some, joined-some, same_keys}
-use Rattle.additive_laws.specs.Pieces.{rows_joined}
+use Rattle.additive_laws.{specs.Pieces.rows_joined, proofs.Runs.given_other}
 use Rattle.additive_laws.specs.Network.{SwitchEvent, all_events, events_at, all_epochs}
 use Rattle.additive_laws.proofs.StoreTables.{same_some, as_many, pieces}
 use Rattle.additive_laws.specs.Traces.{Step, from_switch, given, if_packet, packets_among, taken_of, whole_uses, unless_merge}
 use Rattle.additive_laws.specs.Traces.{without_switch_merges, unrefreshed}
 use Rattle.additive_laws.specs.TraceLaws.{rows_used, RunsGiveTheTrace, RunsHavePackets, MergedKeysAreUsed}
-use Rattle.additive_laws.proofs.Runs.{given_other}
 
 -- ---- the packets of a run
 
@@ -33,8 +29,7 @@ packets_none [] n = refl
 packets_none (e ∷ events) n = none e.switch e.event events (λ more. packets_none events more) n
   where
     none : (k : ℕ) (event : Event) (events : List SwitchEvent) → (NoPacket (all_events events) → packets_among events ≡ [])
-        → NoPacket (event ∷ all_events events)
-        → if_packet k event (packets_among events) ≡ []
+        → NoPacket (event ∷ all_events events) → if_packet k event (packets_among events) ≡ []
     none k (Packet key row) events rest n = absurd n
     none k (Evict bucket) events rest n = rest n
     none k Merge events rest n = rest n
@@ -60,11 +55,8 @@ packets_given (one ∷ steps) = step one.switch one.taken (given steps) (packets
     step k (Some t) more h = ap (λ es. record { switch = k; event = Packet t.key t.row } ∷ es) h
 
 pub run_has : RunsHavePackets
-run_has steps events r =
-    ap packets_among r.parts
-    ∙ (packets_on r.first r.rest
-    ∙ (ap (λ es. packets_among r.first ++ es) (packets_none r.rest r.ending)
-    ∙ (append-nil (packets_among r.first)
+run_has steps events r = ap packets_among r.parts ∙ (packets_on r.first r.rest
+    ∙ (ap (λ es. packets_among r.first ++ es) (packets_none r.rest r.ending) ∙ (append-nil (packets_among r.first)
     ∙ (packets_unmerged r.first ∙ (ap packets_among r.packets ∙ packets_given steps)))))
 
 -- ---- rows
@@ -160,8 +152,7 @@ gives steps events has = record {
 
 pub keys_are : MergedKeysAreUsed
 keys_are buckets ways steps events merged room r all = same_keys (all_epochs merged) (map (λ u. u.key) (whole_uses steps))
-    (λ k. ap (has k) (sym (gives steps events r).keys)
-    ∙ (given-some k (all_events events)
+    (λ k. ap (has k) (sym (gives steps events r).keys) ∙ (given-some k (all_events events)
     ∙ (same_some (rows_given k (all_events events)) (rows_joined (lists_of k (all_epochs merged)))
     (as_many (unrefreshed buckets ways) events merged room all k)
     ∙ joined-some (lists_of k (all_epochs merged)) (pieces (unrefreshed buckets ways) events merged room all k))))

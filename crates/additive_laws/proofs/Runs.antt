@@ -1,20 +1,16 @@
 -- The events of one switch in a run, as turns of its machine.
 use Rattle.std.proofs.Common.{◌≡◌, ℕ, suc, true, false, ◌==◌, List, [], ◌∷◌, ◌++◌, map, filter, Option, Some, None, refl, sym, ap, ◌∙◌}
-use Rattle.std.proofs.lemmas.Bool.{false≢true}
-use Rattle.std.proofs.lemmas.List.{map-append}
-use Rattle.std.proofs.lemmas.List.Elements.{filter-append}
+use Rattle.std.proofs.lemmas.{Bool.false≢true, List.map-append, List.Elements.filter-append}
 use Rattle.epoch_model.specs.Machine.{Machine, Event, Packet, Evict, Merge, run}
-use Rattle.epoch_model.specs.Laws.{unmerged}
+use Rattle.epoch_model.{specs.Laws.unmerged, proofs.KeyLists.by_test}
 use Rattle.epoch_model.specs.Timeline.{Turn, NoEvict, NoPacket, AreTurns, events_of_turn}
 use Rattle.epoch_model.specs.Timeline as timeline
 use Rattle.epoch_model.specs.Driving.{Taken, event_of, uses_taken}
-use Rattle.epoch_model.proofs.KeyLists.{by_test}
 use Rattle.additive_laws.specs.Network.{SwitchEvent, all_events, events_at}
 use Rattle.additive_laws.specs.Traces.{Step, from_switch, given, taken_of, unless_merge, without_switch_merges, unrefreshed}
 
 pub events_append : (s : ℕ) (xs ys : List SwitchEvent) → events_at s (xs ++ ys) ≡ events_at s xs ++ events_at s ys
-events_append s xs ys =
-    ap all_events (filter-append (λ e. e.switch == s) xs ys)
+events_append s xs ys = ap all_events (filter-append (λ e. e.switch == s) xs ys)
     ∙ map-append (λ e. e.event) (filter (λ e. e.switch == s) xs) (filter (λ e. e.switch == s) ys)
 
 no_rest : (event : Event) (events : List Event) → NoPacket (event ∷ events) → NoPacket events
@@ -35,8 +31,7 @@ no_packet_at s (e ∷ events) n =
     by_test (e.switch == s) (λ t. rw t (no_first e.event (all_events events) (events_at s events) n rest)) (λ t. rw t rest)
 
 unmerged_own : (k s : ℕ) → (k == s) ≡ true → (event : Event) (more : List Event) (events : List SwitchEvent)
-    → unmerged more ≡ events_at s events
-    → unmerged (event ∷ more) ≡ events_at s (unless_merge k event events)
+    → unmerged more ≡ events_at s events → unmerged (event ∷ more) ≡ events_at s (unless_merge k event events)
 unmerged_own k s t (Packet key row) more events h = rw t (ap (λ es. Packet key row ∷ es) h)
 unmerged_own k s t (Evict bucket) more events h = rw t (ap (λ es. Evict bucket ∷ es) h)
 unmerged_own k s t Merge more events h = h
@@ -52,8 +47,7 @@ pub unmerged_at : (s : ℕ) (events : List SwitchEvent) → unmerged (events_at 
 unmerged_at s [] = refl
 unmerged_at s (e ∷ events) =
     let rest = unmerged_at s events in
-    by_test (e.switch == s)
-    (λ t. rw t (unmerged_own e.switch s t e.event (events_at s events) (without_switch_merges events) rest))
+    by_test (e.switch == s) (λ t. rw t (unmerged_own e.switch s t e.event (events_at s events) (without_switch_merges events) rest))
     (λ t. rw t (rest ∙ sym (unmerged_other e.switch s t e.event (without_switch_merges events))))
 
 pub unmerged_append : (xs ys : List Event) → unmerged (xs ++ ys) ≡ unmerged xs ++ unmerged ys
@@ -75,10 +69,10 @@ turn_of taken = record { packets = event_of taken; sweep = [] }
 abbrev pub turns : List (Option Taken) → List Turn
 turns taken = map turn_of taken
 
-given_own : (k s : ℕ) → (k == s) ≡ true → (taken : Option Taken) (events : List SwitchEvent) (more : List Event) → events_at s events ≡ more
+given_own : (k s : ℕ) → (k == s) ≡ true → (taken : Option Taken) (events : List SwitchEvent) {more : List Event} → events_at s events ≡ more
     → events_at s (from_switch k (event_of taken) ++ events) ≡ (event_of taken ++ []) ++ more
-given_own k s t None events more h = h
-given_own k s t (Some one) events more h = rw t (ap (λ es. Packet one.key one.row ∷ es) h)
+given_own k s t None events h = h
+given_own k s t (Some one) events h = rw t (ap (λ es. Packet one.key one.row ∷ es) h)
 
 pub given_other : (k s : ℕ) → (k == s) ≡ false → (taken : Option Taken) (events : List SwitchEvent)
     → events_at s (from_switch k (event_of taken) ++ events) ≡ events_at s events
@@ -88,7 +82,7 @@ given_other k s t (Some one) events = rw t refl
 pub given_events : (s : ℕ) (steps : List Step) → events_at s (given steps) ≡ timeline.all_events (turns (taken_of s steps))
 given_events s [] = refl
 given_events s (one ∷ steps) = by_test (one.switch == s)
-    (λ t. rw t (given_own one.switch s t one.taken (given steps) (timeline.all_events (turns (taken_of s steps))) (given_events s steps)))
+    (λ t. rw t (given_own one.switch s t one.taken (given steps) (given_events s steps)))
     (λ t. rw t (given_other one.switch s t one.taken (given steps) ∙ given_events s steps))
 
 no_evict : (taken : Option Taken) → NoEvict (event_of taken)

@@ -1,25 +1,16 @@
 -- The table of a store that merged the epochs of several switches.
 use Rattle.std.proofs.Common.{◌≡◌, ℕ, true, false, ◌==◌, List, [], ◌∷◌, length, map, flat_map, fold, refl, sym, ap, ◌∙◌, subst, arith}
-use Rattle.std.specs.List.{AllByRecursion}
-use Rattle.std.proofs.lemmas.List.Sorted.{length_permutation}
-use Rattle.std.proofs.lemmas.Bool.Decides.{nat_tests}
-use Rattle.epoch_model.specs.declared.tables.Mark.TheVariants.{Exact}
-use Rattle.epoch_model.specs.Keys.{Key, ascending}
-use Rattle.epoch_model.specs.Epochs.{Geometry}
+use Rattle.std.{specs.List.AllByRecursion, proofs.lemmas.List.Sorted.length_permutation, proofs.lemmas.Bool.Decides.nat_tests}
+use Rattle.epoch_model.{specs.declared.tables.Mark.TheVariants.Exact, specs.Keys.Key, specs.Keys.ascending, specs.Epochs.Geometry}
+use Rattle.epoch_model.{specs.Laws.HasRoom, specs.Laws.rows_given, specs.TableLaws.keys_given, proofs.KeyLists.by_test}
+use Rattle.epoch_model.{proofs.Following.starts-tidy, proofs.Following.starts-lists, proofs.Cuts.IsPiece}
 use Rattle.epoch_model.specs.Machine.{Epoch, lists_of, empty_machine, is_of}
-use Rattle.epoch_model.specs.Laws.{HasRoom, rows_given}
 use Rattle.epoch_model.specs.Tables.{Folding, exact_row, epochs_shown, closed_rows, closed_key_rows, closed_keys}
-use Rattle.epoch_model.specs.TableLaws.{keys_given}
-use Rattle.epoch_model.proofs.KeyLists.{by_test}
-use Rattle.epoch_model.proofs.Following.{starts-tidy, starts-lists}
-use Rattle.epoch_model.proofs.Cuts.{IsPiece}
 use Rattle.epoch_model.proofs.TableRows.{some, given-some, joined-some, same_keys, flat_map-single, pieces_kept, closed-lists}
-use Rattle.query_lang.specs.declared.fold.TypedFold.{TypedFold}
-use Rattle.query_lang.specs.Folds.{body}
+use Rattle.query_lang.specs.{declared.fold.TypedFold.TypedFold, Folds.body}
 use Rattle.additive_laws.specs.Pieces.{rows_joined, all_rows, lists_merged}
 use Rattle.additive_laws.specs.Network.{SwitchEvent, SwitchEpoch, all_events, events_at, all_epochs, epochs_at, machine_at, AllMerged}
-use Rattle.additive_laws.specs.Laws.{IsAdditiveFrom}
-use Rattle.additive_laws.proofs.Orders.{interleaved_rows}
+use Rattle.additive_laws.{specs.Laws.IsAdditiveFrom, proofs.Orders.interleaved_rows}
 use Rattle.additive_laws.proofs.Stores.{given_at, pieces_at, given_rows, lists_all, events_interleave, store_folds}
 
 pub same_some : {A : Type 0} (xs ys : List A) → length xs ≡ length ys → some xs ≡ some ys
@@ -32,9 +23,7 @@ same_some (x ∷ xs) (y ∷ ys) e = refl
 gathered : (k : Key) (merged : List SwitchEpoch) → ((s : ℕ) → AllByRecursion IsPiece (lists_of k (epochs_at s merged)))
     → AllByRecursion IsPiece (lists_of k (all_epochs merged))
 gathered k [] h = tt
-gathered k (e ∷ merged) h = by_test (is_of k e.epoch)
-    (λ t. rw t (first t, gathered k merged rest))
-    (λ t. rw t (gathered k merged rest))
+gathered k (e ∷ merged) h = by_test (is_of k e.epoch) (λ t. rw t (first t, gathered k merged rest)) (λ t. rw t (gathered k merged rest))
   where
     own_switch : (e.switch == e.switch) ≡ true
     own_switch = grind (arith, nat_tests)
@@ -43,25 +32,22 @@ gathered k (e ∷ merged) h = by_test (is_of k e.epoch)
     first t = (rw t at (rw own_switch at (h e.switch))).0
 
     rest : (s : ℕ) → AllByRecursion IsPiece (lists_of k (epochs_at s merged))
-    rest s = by_test (e.switch == s)
-        (λ u. by_test (is_of k e.epoch) (λ t. (rw t at (rw u at (h s))).1) (λ t. rw t at (rw u at (h s))))
+    rest s = by_test (e.switch == s) (λ u. by_test (is_of k e.epoch) (λ t. (rw t at (rw u at (h s))).1) (λ t. rw t at (rw u at (h s))))
         (λ u. rw u at (h s))
 
 module _ (g : Geometry) (events : List SwitchEvent) (merged : List SwitchEpoch) (room : HasRoom g) (all : AllMerged g events merged)
     (key : Key) where
   pub pieces : AllByRecursion IsPiece (lists_of key (all_epochs merged))
-  pieces = gathered key merged (λ s.
-      subst (λ es. AllByRecursion IsPiece (lists_of key es)) (sym (all.epochs s))
+  pieces = gathered key merged (λ s. subst (λ es. AllByRecursion IsPiece (lists_of key es)) (sym (all.epochs s))
       (subst (AllByRecursion IsPiece) (sym (closed-lists g (machine_at g s events) key (all.swept s)))
       (pieces_kept g (events_at s events) (empty_machine g) key room (starts-tidy g)
       (subst (AllByRecursion IsPiece) (sym (starts-lists g key)) tt))))
 
   -- a key has as many rows as the merged epochs have of it
   pub as_many : length (rows_given key (all_events events)) ≡ length (rows_joined (lists_of key (all_epochs merged)))
-  as_many =
-      ap length (sym (given_rows key events))
+  as_many = ap length (sym (given_rows key events))
       ∙ (length_permutation (rows_joined (lists_merged (pieces_at key merged))) (all_rows (given_at key events))
-      (interleaved_rows (given_at key events) (pieces_at key merged) (events_interleave key g events merged room all))
+      (interleaved_rows (given_at key events) (pieces_at key merged) (events_interleave key room all))
       ∙ ap (λ ls. length (rows_joined ls)) (lists_all key merged))
 
 pub store_table : (f : TypedFold) (folding : Folding) (g : Geometry) (events : List SwitchEvent) (merged : List SwitchEpoch)
@@ -69,8 +55,7 @@ pub store_table : (f : TypedFold) (folding : Folding) (g : Geometry) (events : L
     → closed_rows folding (all_epochs merged)
     ≡ map (λ key. exact_row folding key (length (lists_of key (all_epochs merged))) (rows_given key (all_events events)))
     (ascending (keys_given (all_events events)))
-store_table f folding g events merged step one h room a =
-    ap (flat_map (closed_key_rows folding epochs)) keys
+store_table f folding g events merged step one h room a = ap (flat_map (closed_key_rows folding epochs)) keys
     ∙ flat_map-single (closed_key_rows folding epochs) (λ key. exact_row folding key (length (lists_of key epochs))
     (rows_given key (all_events events))) (ascending (keys_given (all_events events)))
     (λ key. rw one (ap (λ s. record { key = key; mark = Exact; epoch = 0; epochs = epochs_shown (length (lists_of key epochs)); values = s }
@@ -80,8 +65,7 @@ store_table f folding g events merged step one h room a =
     epochs = all_epochs merged
 
     state : (key : Key) → fold folding.step folding.initial (rows_joined (lists_of key (all_epochs merged))) ≡ fold folding.step
-        folding.initial
-        (rows_given key (all_events events))
+        folding.initial (rows_given key (all_events events))
     state key = ap (λ st. fold st folding.initial (rows_joined (lists_of key (all_epochs merged)))) step
         ∙ store_folds f folding.initial g events merged key h room a
         ∙ ap (λ st. fold st folding.initial (rows_given key (all_events events))) (sym step)

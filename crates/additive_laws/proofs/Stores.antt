@@ -1,20 +1,13 @@
 -- The rows and the pieces of one key, of the events and the merged epochs of several switches.
 use Rattle.std.proofs.Common.{◌≡◌, ℕ, true, false, ◌==◌, List, [], ◌∷◌, ◌++◌, map, filter, refl, sym, ap, ◌∙◌, if◌then◌else◌}
-use Rattle.std.specs.List.{flat_map}
-use Rattle.std.proofs.lemmas.List.Sorted.{IsPermutation-refl}
-use Rattle.epoch_model.specs.Keys.{Key, key_eq}
-use Rattle.epoch_model.specs.Epochs.{Geometry}
+use Rattle.std.{specs.List.flat_map, proofs.lemmas.List.Sorted.IsPermutation-refl}
+use Rattle.epoch_model.{specs.Keys.Key, specs.Keys.key_eq, specs.Epochs.Geometry, specs.Laws.HasRoom, specs.Laws.rows_given}
+use Rattle.epoch_model.{proofs.KeyLists.by_test, proofs.Rows.no_row_is_lost_lem, proofs.TableRows.closed-lists}
 use Rattle.epoch_model.specs.Machine.{Event, Packet, Evict, Merge, is_of, lists_of}
-use Rattle.epoch_model.specs.Laws.{HasRoom, rows_given}
-use Rattle.epoch_model.proofs.KeyLists.{by_test}
-use Rattle.epoch_model.proofs.Rows.{no_row_is_lost_lem}
-use Rattle.epoch_model.proofs.TableRows.{closed-lists}
-use Rattle.query_lang.specs.declared.fold.TypedFold.{TypedFold}
-use Rattle.query_lang.specs.Folds.{folded}
+use Rattle.query_lang.specs.{declared.fold.TypedFold.TypedFold, Folds.folded}
 use Rattle.additive_laws.specs.Pieces.{Given, Piece, rows_joined, all_rows, rows_from, lists_merged, lists_from, Interleaves}
 use Rattle.additive_laws.specs.Network.{SwitchEvent, SwitchEpoch, all_events, events_at, all_epochs, epochs_at, machine_at, AllMerged}
-use Rattle.additive_laws.specs.Laws.{IsAdditiveFrom}
-use Rattle.additive_laws.proofs.Orders.{merged_any_order}
+use Rattle.additive_laws.{specs.Laws.IsAdditiveFrom, proofs.Orders.merged_any_order}
 
 module _ (key : Key) where
   -- what an event gives the key
@@ -67,28 +60,19 @@ module _ (key : Key) where
 
   lists_at : (s : ℕ) (merged : List SwitchEpoch) → lists_from s (pieces_at merged) ≡ lists_of key (epochs_at s merged)
   lists_at s [] = refl
-  lists_at s (e ∷ merged) = by_test (is_of key e.epoch)
-      (λ t. by_test (e.switch == s)
-      (λ u. rw (t, u) (rw t (ap (λ ls. e.epoch.rows ∷ ls) (lists_at s merged))))
-      (λ u. rw (t, u) (lists_at s merged)))
-      (λ t. by_test (e.switch == s)
-      (λ u. rw (t, u) (rw t (lists_at s merged)))
-      (λ u. rw (t, u) (lists_at s merged)))
+  lists_at s (e ∷ merged) = by_test (is_of key e.epoch) (λ t. by_test (e.switch == s)
+      (λ u. rw (t, u) (rw t (ap (λ ls. e.epoch.rows ∷ ls) (lists_at s merged)))) (λ u. rw (t, u) (lists_at s merged)))
+      (λ t. by_test (e.switch == s) (λ u. rw (t, u) (rw t (lists_at s merged))) (λ u. rw (t, u) (lists_at s merged)))
 
-  pub events_interleave : (g : Geometry) (events : List SwitchEvent) (merged : List SwitchEpoch) → HasRoom g → AllMerged g events merged
+  pub events_interleave : {g : Geometry} {events : List SwitchEvent} {merged : List SwitchEpoch} → HasRoom g → AllMerged g events merged
       → Interleaves (given_at events) (pieces_at merged)
-  events_interleave g events merged room h s =
-      given_from s events
-      ∙ sym (no_row_is_lost_lem g (events_at s events) key room)
+  events_interleave {g} {events} {merged} room h s = given_from s events ∙ sym (no_row_is_lost_lem g (events_at s events) key room)
       ∙ ap rows_joined (sym (closed-lists g (machine_at g s events) key (h.swept s)))
-      ∙ ap (λ es. rows_joined (lists_of key es)) (sym (h.epochs s))
-      ∙ ap rows_joined (sym (lists_at s merged))
+      ∙ ap (λ es. rows_joined (lists_of key es)) (sym (h.epochs s)) ∙ ap rows_joined (sym (lists_at s merged))
 
 pub store_folds : (f : TypedFold) (state : List ℕ) (g : Geometry) (events : List SwitchEvent) (merged : List SwitchEpoch) (key : Key)
     → IsAdditiveFrom f state → HasRoom g → AllMerged g events merged →
     folded f state (rows_joined (lists_of key (all_epochs merged))) ≡ folded f state (rows_given key (all_events events))
-store_folds f state g events merged key h room a =
-    ap (λ ls. folded f state (rows_joined ls)) (sym (lists_all key merged))
+store_folds f state g events merged key h room a = ap (λ ls. folded f state (rows_joined ls)) (sym (lists_all key merged))
     ∙ merged_any_order f state (given_at key events) (pieces_at key merged) (pieces_at key merged) h
-    (events_interleave key g events merged room a) (IsPermutation-refl (pieces_at key merged))
-    ∙ ap (folded f state) (given_rows key events)
+    (events_interleave key room a) (IsPermutation-refl (pieces_at key merged)) ∙ ap (folded f state) (given_rows key events)

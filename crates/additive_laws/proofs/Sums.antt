@@ -1,17 +1,11 @@
 -- The state after rows as a sum, and rows in any order.
 use Rattle.std.proofs.Common.{◌≡◌, ℕ, ◌+◌, ◌%◌, ◌^◌, ◌<◌, List, [], ◌∷◌, ◌++◌, length, slice_index, refl, sym, ap, ◌∙◌, subst, arith}
-use Rattle.std.specs.List.{sum_by}
-use Rattle.std.specs.List.Sorted.{IsPermutation}
-use Rattle.std.proofs.lemmas.List.{ext_get_or}
-use Rattle.std.proofs.lemmas.List.Elements.{All-get_or}
-use Rattle.std.proofs.lemmas.List.Sums.{sum_by-cons, sum_by-append}
-use Rattle.std.proofs.lemmas.List.Sorted.{sum_by-IsPermutation}
+use Rattle.std.{specs.List.sum_by, specs.List.Sorted.IsPermutation, proofs.lemmas.List.ext_get_or}
+use Rattle.std.proofs.lemmas.List.{Elements.All-get_or, Sums.sum_by-cons, Sums.sum_by-append, Sorted.sum_by-IsPermutation}
 use Rattle.epoch_model.specs.Keys.{ArgRow}
-use Rattle.query_lang.specs.declared.fold.TypedFold.{TypedFold}
-use Rattle.query_lang.specs.Words.{IsWord}
+use Rattle.query_lang.specs.{declared.fold.TypedFold.TypedFold, Words.IsWord}
 use Rattle.query_lang.specs.Folds.{body, folded, fold_states, fold_block}
-use Rattle.additive_laws.specs.Amounts.{amount}
-use Rattle.additive_laws.specs.Laws.{IsAdditiveFrom}
+use Rattle.additive_laws.specs.{Amounts.amount, Laws.IsAdditiveFrom}
 use Rattle.fold_code.proofs.BlockLemmas.{length-after}
 use Rattle.additive_laws.proofs.Adding.{length-amount, plus_at, step_adds, step_stays}
 
@@ -32,8 +26,7 @@ state_is_a_sum f state (row ∷ rows) v h lt =
     let first : slice_index (body f state row) v ≡ (slice_index state v + slice_index (amount f row) v) % 2 ^ 64 =
     ap (λ s. slice_index s v) (step_adds f state row h) ∙ plus_at state (amount f row) v (h.size ∙ sym (length-amount f row))
     (subst (λ n. v < n) (sym h.size) lt) in
-    state_is_a_sum f (body f state row) rows v (step_stays f state row h) lt
-    ∙ ap (λ n. (n + total f v rows) % 2 ^ 64) first
+    state_is_a_sum f (body f state row) rows v (step_stays row h) lt ∙ ap (λ n. (n + total f v rows) % 2 ^ 64) first
     ∙ carry (slice_index state v) (slice_index (amount f row) v) (total f v rows)
     ∙ ap (λ n. (slice_index state v + n) % 2 ^ 64) (sym (sum_by-cons (λ r. slice_index (amount f r) v) row rows))
   where
@@ -41,9 +34,9 @@ state_is_a_sum f state (row ∷ rows) v h lt =
     carry x y z = omega arith
 
 -- rows with the same sums lead to the same state
-pub same_totals : (f : TypedFold) (state : List ℕ) (rows others : List ArgRow) → IsAdditiveFrom f state
+pub same_totals : {f : TypedFold} {state : List ℕ} (rows others : List ArgRow) → IsAdditiveFrom f state
     → ((v : ℕ) → total f v rows ≡ total f v others) → folded f state rows ≡ folded f state others
-same_totals f state rows others h e =
+same_totals {f} {state} rows others h e =
     ext_get_or 0 (folded f state rows) (folded f state others) (length-folded f state rows ∙ sym (length-folded f state others))
     (λ v lt. at v (subst (λ n. v < n) (length-folded f state rows ∙ h.size) lt))
   where
@@ -53,20 +46,19 @@ same_totals f state rows others h e =
 
 pub any_order : (f : TypedFold) (state : List ℕ) (rows others : List ArgRow) → IsAdditiveFrom f state → IsPermutation rows others
     → folded f state rows ≡ folded f state others
-any_order f state rows others h p = same_totals f state rows others h (λ v. sym
+any_order f state rows others h p = same_totals rows others h (λ v. sym
     (sum_by-IsPermutation (λ row. slice_index (amount f row) v) rows others p))
 
 pub exchanged : (f : TypedFold) (state : List ℕ) (before after : List ArgRow) (a b : ArgRow) → IsAdditiveFrom f state
     → folded f state (before ++ a ∷ b ∷ after) ≡ folded f state (before ++ b ∷ a ∷ after)
-exchanged f state before after a b h = same_totals f state (before ++ a ∷ b ∷ after) (before ++ b ∷ a ∷ after) h each
+exchanged f state before after a b h = same_totals (before ++ a ∷ b ∷ after) (before ++ b ∷ a ∷ after) h each
   where
     each : (v : ℕ) → total f v (before ++ a ∷ b ∷ after) ≡ total f v (before ++ b ∷ a ∷ after)
     each v =
         let g : ArgRow → ℕ = λ row. slice_index (amount f row) v in
         sum_by-append g before (a ∷ b ∷ after)
         ∙ ap (λ n. sum_by g before + n) (sum_by-cons g a (b ∷ after) ∙ ap (λ n. g a + n) (sum_by-cons g b after)
-        ∙ swapped (g a) (g b) (sum_by g after)
-        ∙ sym (sum_by-cons g b (a ∷ after) ∙ ap (λ n. g b + n) (sum_by-cons g a after)))
+        ∙ swapped (g a) (g b) (sum_by g after) ∙ sym (sum_by-cons g b (a ∷ after) ∙ ap (λ n. g b + n) (sum_by-cons g a after)))
         ∙ sym (sum_by-append g before (b ∷ a ∷ after))
       where
         swapped : (x y z : ℕ) → x + (y + z) ≡ y + (x + z)

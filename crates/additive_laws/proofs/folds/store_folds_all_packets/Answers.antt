@@ -1,5 +1,4 @@
-use Rattle.additive_laws.proofs.Stores.{store_folds}
-use Rattle.additive_laws.proofs.StoreTables.{store_table}
+use Rattle.additive_laws.proofs.{Stores.store_folds, StoreTables.store_table}
 use Rattle.additive_laws.proofs.folds.store_folds_all_packets.Goals as goal
 
 pub returns-clause-state : goal.returns-clause-state
