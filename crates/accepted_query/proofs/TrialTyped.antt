@@ -2,22 +2,14 @@
 use Rattle.std.proofs.Common.{◌≡◌, ℕ, ◌+◌, List, [], ◌∷◌, None, refl, ap, ◌∙◌}
 use Rattle.std.specs.Prelude.{Ok, ◌-◌, ◌^◌}
 use Rattle.query_lang.specs.declared.fold.Op.TheVariants.{Add, Eq, Ne, Max}
-use Rattle.query_lang.specs.declared.fold.TypedExpr.{TypedExpr}
+use Rattle.query_lang.specs.declared.{fold.TypedExpr.TypedExpr, fold.TypedFold.TypedFold, fold.TypedStmt.TypedStmt, fault.Span.Span}
+use Rattle.query_lang.specs.declared.{query.Expr.Expr, query.Stmt.Stmt, typing.Found.Found, typing.Body.Body, typing.Enclosing.Enclosing}
 use Rattle.query_lang.specs.declared.fold.TypedExpr.TheVariants as typed
-use Rattle.query_lang.specs.declared.fold.TypedFold.{TypedFold}
-use Rattle.query_lang.specs.declared.fold.TypedStmt.{TypedStmt}
 use Rattle.query_lang.specs.declared.fold.TypedStmt.TheVariants as typed_stmt
-use Rattle.query_lang.specs.declared.fault.Span.{Span}
-use Rattle.query_lang.specs.declared.query.Expr.{Expr}
 use Rattle.query_lang.specs.declared.query.Expr.TheVariants as whole
-use Rattle.query_lang.specs.declared.query.Stmt.{Stmt}
 use Rattle.query_lang.specs.declared.query.Stmt.TheVariants as statement
-use Rattle.query_lang.specs.declared.typing.Found.{Found}
-use Rattle.query_lang.specs.declared.typing.Body.{Body}
-use Rattle.query_lang.specs.declared.typing.Enclosing.{Enclosing}
 use Rattle.query_lang.specs.declared.typing.Sort.TheVariants as sort
-use Rattle.query_lang.specs.Checks.{and_then}
-use Rattle.query_lang.specs.TypedExprs.{condition_of, word_of}
+use Rattle.query_lang.specs.{Checks.and_then, TypedExprs.condition_of, TypedExprs.word_of}
 use Rattle.query_lang.specs.TypedFolds.{inside, in_order, stmt_checked, body_checked, fold_checked}
 use Rattle.accepted_query.proofs.TrialSteps.{number_is, named_is, binary_is, call_is, word_is, condition_is, names_is, assign_is}
 use Rattle.accepted_query.proofs.TrialSteps.{increment_is, if_is, typed_as, fold_is}
@@ -56,10 +48,10 @@ count_typed = typed_as count_fold (1 ∷ []) [] (after (increment 0 ∷ []))
 
 pub count_is : fold_checked count_fold ≡ Ok count_typed
 count_is =
-    let one = increment_is (1 ∷ []) [] (named 1 21 22) (named 1 25 26) (at 27 28) (at 29 30) 0 top (after []) refl refl in
+    let one = increment_is (1 ∷ []) [] (named 1 21 22) (named 1 25 26) (at 27 28) (at 29 30) top (after []) refl refl in
     let body : body_checked (1 ∷ []) [] count_fold.body ≡ Ok (after (increment 0 ∷ [])) =
     ap (λ r. and_then r (λ more. in_order [] top more)) one in
-    fold_is count_fold (1 ∷ []) [] (after (increment 0 ∷ [])) refl refl body
+    fold_is count_fold refl refl body
 
 abbrev lost_body : Body
 lost_body = after (typed_stmt.If (typed.Binary Eq (typed.Slot 1) (typed.Number (2 ^ 64 - 1))) (increment 0 ∷ []) [] ∷ [])
@@ -71,17 +63,15 @@ pub lost_is : fold_checked lost_fold ≡ Ok lost_typed
 lost_is =
     let written : Expr = whole.Binary Eq (at 67 69) (whole.Named (named 4 62 66)) (whole.Number (2 ^ 64 - 1) (at 70 78)) in
     let holds : TypedExpr = typed.Binary Eq (typed.Slot 1) (typed.Number (2 ^ 64 - 1)) in
-    let condition : condition_of (3 ∷ 4 ∷ []) [] written ≡ Ok holds =
-    condition_is (3 ∷ 4 ∷ []) written holds (at 62 66)
-    (binary_is (3 ∷ 4 ∷ []) Eq (at 67 69) (whole.Named (named 4 62 66)) (whole.Number (2 ^ 64 - 1) (at 70 78)) (slot_found 1 (at 62 66))
-    (number_found (2 ^ 64 - 1) (at 70 78)) (condition_found holds (at 62 66))
-    (named_is (3 ∷ 4 ∷ []) (named 4 62 66) 1 refl) (number_is (3 ∷ 4 ∷ []) (2 ^ 64 - 1) (at 70 78)) refl)
+    let condition : condition_of (3 ∷ 4 ∷ []) [] written ≡ Ok holds = condition_is (3 ∷ 4 ∷ []) written
+    (binary_is (3 ∷ 4 ∷ []) Eq (at 67 69) (whole.Named (named 4 62 66)) (whole.Number (2 ^ 64 - 1) (at 70 78))
+    (named_is (3 ∷ 4 ∷ []) (named 4 62 66) refl) (number_is (3 ∷ 4 ∷ [])) refl)
     in
-    let one = increment_is (3 ∷ []) (4 ∷ []) (named 3 82 83) (named 3 86 87) (at 88 89) (at 90 91) 0 (inside (3 ∷ []) top written holds)
+    let one = increment_is (3 ∷ []) (4 ∷ []) (named 3 82 83) (named 3 86 87) (at 88 89) (at 90 91) (inside (3 ∷ []) top written holds)
     (after []) refl refl in
-    let choice = if_is (3 ∷ []) (4 ∷ []) written (plus_one 3 82 86 88 90) top (after []) (after (increment 0 ∷ [])) holds condition one in
+    let choice = if_is (3 ∷ []) (4 ∷ []) written (plus_one 3 82 86 88 90) top (after []) condition one in
     let body : body_checked (3 ∷ []) (4 ∷ []) lost_fold.body ≡ Ok lost_body = ap (λ r. and_then r (λ more. in_order [] top more)) choice in
-    fold_is lost_fold (3 ∷ []) (4 ∷ []) lost_body refl refl body
+    fold_is lost_fold refl refl body
 
 abbrev oos_condition : TypedExpr
 oos_condition = typed.Binary Ne (typed.Slot 0) (typed.Slot 2)
@@ -102,22 +92,19 @@ oos_is =
     let sum : Expr = whole.Binary Add (at 190 191) (whole.Named (named 8 183 189)) (whole.Named (named 9 192 203)) in
     let first : Body = after (typed_stmt.If oos_condition (increment 1 ∷ []) [] ∷ []) in
     let condition : condition_of columns [] written ≡ Ok oos_condition =
-    condition_is columns written oos_condition (at 145 149) (names_is columns Ne (at 150 152) (named 6 145 149) (named 8 153 159) 0 2
-    (condition_found oos_condition (at 145 149)) refl refl refl)
+    condition_is columns written (names_is columns Ne (at 150 152) (named 6 145 149) (named 8 153 159) refl refl refl)
     in
-    let word : word_of columns [] sum ≡ Ok oos_sum = word_is columns sum oos_sum (at 183 189)
-    (names_is columns Add (at 190 191) (named 8 183 189) (named 9 192 203) 2 3 (word_found oos_sum (at 183 189)) refl refl refl) in
-    let one = increment_is (6 ∷ 7 ∷ []) (8 ∷ 9 ∷ []) (named 7 163 164) (named 7 167 168) (at 169 170) (at 171 172) 1
+    let word : word_of columns [] sum ≡ Ok oos_sum = word_is columns sum
+    (names_is columns Add (at 190 191) (named 8 183 189) (named 9 192 203) refl refl refl) in
+    let one = increment_is (6 ∷ 7 ∷ []) (8 ∷ 9 ∷ []) (named 7 163 164) (named 7 167 168) (at 169 170) (at 171 172)
     (inside (6 ∷ 7 ∷ []) top written oos_condition) (after []) refl refl in
-    let choice = if_is (6 ∷ 7 ∷ []) (8 ∷ 9 ∷ []) written (plus_one 7 163 167 169 171) top (after []) (after (increment 1 ∷ []))
-    oos_condition condition one in
-    let last = assign_is (6 ∷ 7 ∷ []) (8 ∷ 9 ∷ []) (named 6 176 180) sum 0 oos_sum top first refl word in
+    let choice = if_is (6 ∷ 7 ∷ []) (8 ∷ 9 ∷ []) written (plus_one 7 163 167 169 171) top (after []) condition one in
+    let last = assign_is (6 ∷ 7 ∷ []) (8 ∷ 9 ∷ []) (named 6 176 180) sum top first refl word in
     let body : body_checked (6 ∷ 7 ∷ []) (8 ∷ 9 ∷ []) oos_fold.body ≡ Ok oos_body =
     ap (λ r. and_then r (λ more. and_then (stmt_checked (6 ∷ 7 ∷ []) (8 ∷ 9 ∷ []) (statement.Assign (named 6 176 180) sum) top more)
-    (λ next. in_order [] top next))) choice
-    ∙ ap (λ r. and_then r (λ next. in_order [] top next)) last
+    (λ next. in_order [] top next))) choice ∙ ap (λ r. and_then r (λ next. in_order [] top next)) last
     in
-    fold_is oos_fold (6 ∷ 7 ∷ []) (8 ∷ 9 ∷ []) oos_body refl refl body
+    fold_is oos_fold refl refl body
 
 abbrev greater : TypedExpr
 greater = typed.Binary Max (typed.Slot 0) (typed.Slot 1)
@@ -132,13 +119,11 @@ pub deepest_is : fold_checked deepest_fold ≡ Ok deepest_typed
 deepest_is =
     let columns : List ℕ = 11 ∷ 12 ∷ [] in
     let call : Expr = whole.Call Max (at 239 242) (whole.Named (named 11 243 244) ∷ whole.Named (named 12 246 251) ∷ []) in
-    let word : word_of columns [] call ≡ Ok greater =
-    word_is columns call greater (at 239 242)
-    (call_is columns Max (at 239 242) (whole.Named (named 11 243 244)) (whole.Named (named 12 246 251)) (slot_found 0 (at 243 244))
-    (slot_found 1 (at 246 251)) (word_found greater (at 239 242))
-    (named_is columns (named 11 243 244) 0 refl) (named_is columns (named 12 246 251) 1 refl) refl)
+    let word : word_of columns [] call ≡ Ok greater = word_is columns call
+    (call_is columns Max (at 239 242) (whole.Named (named 11 243 244)) (whole.Named (named 12 246 251))
+    (named_is columns (named 11 243 244) refl) (named_is columns (named 12 246 251) refl) refl)
     in
-    let one = assign_is (11 ∷ []) (12 ∷ []) (named 11 235 236) call 0 greater top (after []) refl word in
+    let one = assign_is (11 ∷ []) (12 ∷ []) (named 11 235 236) call top (after []) refl word in
     let body : body_checked (11 ∷ []) (12 ∷ []) deepest_fold.body ≡ Ok deepest_body =
     ap (λ r. and_then r (λ more. in_order [] top more)) one in
-    fold_is deepest_fold (11 ∷ []) (12 ∷ []) deepest_body refl refl body
+    fold_is deepest_fold refl refl body

@@ -11,12 +11,10 @@ returns-in_err-query-clause-err c =
 pub returns-in_err-typed-clause-err : goal.returns-in_err-typed-clause-err
 returns-in_err-typed-clause-err c =
     let p = err_from_is_err_and c.from_residual-in_err-typed.result c.from_residual-in_err-typed.ensures.1 in
-    rw (p.1, p.2)
-    (untyped c.args.text.now c.in_ok-query.query c.in_err-typed.field-0.0 c.in_ok-query.ensures.given c.in_err-typed.ensures.given)
+    rw (p.1, p.2) (untyped c.args.text.now c.in_err-typed.field-0.0 c.in_ok-query.ensures.given c.in_err-typed.ensures.given)
 
 pub returns-in_err-plan-clause-err : goal.returns-in_err-plan-clause-err
 returns-in_err-plan-clause-err c =
     let p = err_from_is_err_and c.from_residual-in_err-plan.result c.from_residual-in_err-plan.ensures.1 in
-    rw (p.1, p.2)
-    (unstaged c.args.text.now c.in_ok-query.query c.in_ok-typed.typed c.in_err-plan.field-0.0 c.in_ok-query.ensures.given
+    rw (p.1, p.2) (unstaged c.args.text.now c.in_err-plan.field-0.0 c.in_ok-query.ensures.given
     c.in_ok-typed.ensures.given c.in_err-plan.ensures.refused)
