@@ -1,5 +1,6 @@
 //! Laws of accepted queries over several switches: which keys are the packet's word of a field, and that the order of packets
 //! of different switches changes nothing. Each law is the contract of a function whose body only calls laws.
+//! Two functions beside them find the columns, and the `map`s of streams, that have a field's name.
 #![tactic(auto)]
 
 mod field_keys;
