@@ -29,9 +29,8 @@ use Rattle.query_laws.specs.Context.{Entry, AFold, AStream, AFinal, APrint, stre
 use Rattle.query_laws.specs.QueryRules.{HasItem, HasItems, IsTyped, of_none, of_more, query_with}
 use Rattle.query_laws.specs.StreamRules.{HasStream}
 use Rattle.stage_plan.proofs.StreamRows.{Row, row_at, row_made, rows_from, all_rows, tuple_of, at_last, stream_rows}
-use Rattle.net_wide.specs.Combining.{columns_made}
 use Rattle.query_laws.proofs.FieldColumns.{AreKnown, all_known}
-use Rattle.net_laws.specs.Fields.{makes_field, names_field, field_word}
+use Rattle.net_laws.specs.Fields.{makes_field, field_word}
 use Rattle.net_laws.specs.FieldLaws.{KeysAreFields, KeysAreTheField}
 use Rattle.net_laws.proofs.Tells.{packet_tells}
 use Rattle.net_laws.proofs.Rows.{RowTells, SlotTells, rows_last}
@@ -50,20 +49,14 @@ AreMade five names (AFinal name made ∷ items) = AreMade five names items
 AreMade five names (APrint name table ∷ items) = AreMade five names items
 
 one_made : (given : Given) (names : List (List ℕ)) (items : List Entry) (i : Item) (one : Entry) → HasItem given names items i one
-    → AreMade (five_fields given.fields) names items
-    → AreMade (five_fields given.fields) names (one ∷ items)
-one_made given names items (item.Fold d) one h all = subst (λ z. AreMade (five_fields given.fields) names (z ∷ items)) (sym h.is) all
-one_made given names items (item.Stream d) one h all =
-    subst (λ z. AreMade (five_fields given.fields) names (z ∷ items)) (sym h.is) ((d.op, h.typed), all)
-one_made given names items (item.Final d) one h all = subst (λ z. AreMade (five_fields given.fields) names (z ∷ items)) (sym h.is) all
-one_made given names items (item.Print name) one h all = subst (λ z. AreMade (five_fields given.fields) names (z ∷ items)) (sym h.is) all
+    → AreMade (five_fields given.fields) names items → AreMade (five_fields given.fields) names (one ∷ items)
+one_made given names items (item.Stream d) one h all = rw h.is ((d.op, h.typed), all)
+one_made given names items _ one h all = subst (λ z. AreMade (five_fields given.fields) names (z ∷ items)) (sym h.is) all
 
 pub all_made : (given : Given) (names : List (List ℕ)) (before : List Entry) (list : List Item) (all : List Entry)
-    → HasItems given names before list all → AreMade (five_fields given.fields) names before
-    → AreMade (five_fields given.fields) names all
+    → HasItems given names before list all → AreMade (five_fields given.fields) names before → AreMade (five_fields given.fields) names all
 all_made given names _ _ _ (of_none before) made = made
-all_made given names _ _ _ (of_more before i one rest all h more) made =
-    all_made given names (one ∷ before) rest all more (one_made given names before i one h made)
+all_made given names _ _ _ (of_more before i one rest all h more) made = all_made _ _ _ _ _ more (one_made given _ _ i _ h made)
 
 -- ---- what the rows of one packet say
 
@@ -75,16 +68,15 @@ pub record RowsTell (field : Field) (names : List (List ℕ)) (value : ℕ) (ite
 
 none_before : {A : Type 0} (test : A → Bool) (xs : List A) (x : A) → list_any test (xs ++ x ∷ []) ≡ false
     → (list_any test xs ≡ false) × (test x ≡ false)
-none_before test [] x e = go (test x) e
+none_before test [] x e = go _ e
   where
     go : (b : Bool) → (b || false) ≡ false → (false ≡ false) × (b ≡ false)
     go true k = cc k
     go false k = (refl, refl)
-none_before test (y ∷ xs) x e = go (test y) (λ k. none_before test xs x k) e
+none_before test (y ∷ xs) x e = go _ (λ k. none_before _ xs x k) e
   where
     go : (b : Bool) → (list_any test (xs ++ x ∷ []) ≡ false → (list_any test xs ≡ false) × (test x ≡ false))
-        → (b || list_any test (xs ++ x ∷ [])) ≡ false
-        → ((b || list_any test xs) ≡ false) × (test x ≡ false)
+        → (b || list_any test (xs ++ x ∷ [])) ≡ false → ((b || list_any test xs) ≡ false) × (test x ≡ false)
     go true more k = cc k
     go false more k = more k
 
@@ -101,11 +93,11 @@ module _ (field : Field) (names : List (List ℕ)) (folds : List TypedFold) (fiv
       (
         omega arith,
         subst (λ l. RowTells field names (field_word field words) l (Some words)) (sym (names_of_new origin.Field (field_numbers names)))
-            (packet_tells field names words known size),
+            (packet_tells _ names _ known size),
       ),
       tt,
     );
-    keys = All-nil (λ one. KeysTell field names (field_word field words) (Some words ∷ []) one.columns one.op);
+    keys = All-nil _;
   }
 
   stream_more : (name : Name) (made : MadeStream) (items : List Entry) → RowsTell field names (field_word field words) items (rows items)
@@ -117,16 +109,13 @@ module _ (field : Field) (names : List (List ℕ)) (folds : List TypedFold) (fiv
       let one : TypedStream = record { name = name; columns = column_names made.columns; op = made.op } in
       let size : length (rows items ++ r ∷ []) ≡ length (rows items) + 1 = length_push (rows items) r in
       record {
-        long = omega (arith, h.long, size, length_push (streams_in items) one);
-        known = all_last field names value (rows items ++ r ∷ []) (known_in names items) _
-            (all_more field names value (rows items) r (known_in names items) h.known) (
-              omega (arith, h.long, size),
-              subst (RowTells field names value (column_names made.columns))
-                  (sym (at_last (rows items) r None (length (streams_in items) + 1) (sym h.long))) t.0,
-            );
+        long = omega (arith, size, length_push (streams_in items) one);
+        known = all_last _ _ _ _ _ _ (all_more _ _ _ _ r (known_in names items) h.known) (
+          omega (arith, h.long, size),
+          rw (at_last (rows items) r None (length (streams_in items) + 1) (sym h.long)) t.0,
+        );
         keys = All-push (λ s. KeysTell field names value (rows items ++ r ∷ []) s.columns s.op) (streams_in items) one
-            (All-weaker (λ s. KeysTell field names value (rows items) s.columns s.op)
-            (λ s. KeysTell field names value (rows items ++ r ∷ []) s.columns s.op)
+            (All-weaker (λ s. KeysTell field names value (rows items) s.columns s.op) _
             (λ s k. keys_more field names value (rows items) r s.columns s.op k) (streams_in items) h.keys)
             (keys_more field names value (rows items) r (column_names made.columns) made.op t.1);
       }
@@ -135,31 +124,19 @@ module _ (field : Field) (names : List (List ℕ)) (folds : List TypedFold) (fiv
       → RowsTell field names (field_word field words) items (rows items)
   rows_tell [] made none = packets_tell
   rows_tell (AFold f ∷ items) made none =
-      let h = rows_tell items made none in record {
-        long = h.long;
-        known =
-            all_last field names (field_word field words) (rows items) (known_in names items) _ h.known tt;
-        keys = h.keys;
-      }
+      let h = rows_tell items made none in record { long = h.long; known = all_last _ _ _ _ _ _ h.known _; keys = h.keys }
   rows_tell (AFinal name t ∷ items) made none =
-      let h = rows_tell items made none in record {
-        long = h.long;
-        known =
-            all_last field names (field_word field words) (rows items) (known_in names items) _ h.known tt;
-        keys = h.keys;
-      }
+      let h = rows_tell items made none in record { long = h.long; known = all_last _ _ _ _ _ _ h.known _; keys = h.keys }
   rows_tell (APrint name table ∷ items) made none =
       let h = rows_tell items made none in record { long = h.long; known = h.known; keys = h.keys }
   rows_tell (AStream name m ∷ items) made none =
-      let one : TypedStream = record { name = name; columns = column_names m.columns; op = m.op } in
-      let apart = none_before (λ s. names_field field names (columns_made s.columns s.op)) (streams_in items) one none in
-      let h = rows_tell items made.1 apart.0 in
-      let t = stream_tells field names (field_word field words) folds (rows items) five (known_in names items)
-      (length (streams_in items) + 1)
-      (groups_in items) made.0.0 m h.known made.0.1 apart.1 in
-      subst (RowsTell field names (field_word field words) (AStream name m ∷ items))
-      (sym (rows_last folds (Some words ∷ []) (streams_in items) one))
-      (stream_more name m items h t)
+      let one : TypedStream = assumption (column_names m.columns) in
+      let apart = none_before _ (streams_in items) _ none in
+      let h = rows_tell _ made.1 apart.0 in
+      let t = stream_tells _ _ _ _ _ _ _
+      _
+      _ _ m h.known made.0.1 apart.1 in
+      rw (rows_last folds (Some words ∷ []) (streams_in items) one) (stream_more name m items h t)
 
 -- what the rows of each whole packet say of an operator
 abbrev pub AlwaysTells : TypedQuery → Field → List ℕ → TypedOp → Type 0
@@ -172,30 +149,27 @@ pub always_tells : (query : Query) (q : TypedQuery) (field : Field) → IsTyped 
 always_tells query q field h none =
     let names = typed_names query.names in
     let given = given_of names query.items in
-    let made : AreMade (five_fields given.fields) names h.items = all_made given names [] query.items h.items h.typed tt in
-    let t : TypedQuery = query_with names h.items in
+    let made = all_made _ _ _ _ _ h.typed _ in
+    let t = query_with _ h.items in
     let K : TypedQuery → Type 0 = λ z. makes_field field z.names z.streams ≡ false
     → All (λ one. AlwaysTells z field one.columns one.op) z.streams in
     let tells : K t = λ unmade k d lt words size.
-    (rows_tell field names t.folds (five_fields given.fields) (all_known query.names) words size h.items made unmade).keys k d lt in
+    (rows_tell _ _ _ _ (all_known query.names) _ size h.items made unmade).keys k d lt in
     subst K (sym h.is) tells none
 
 -- ---- keys
 
 slot_of : (value slot : ℕ) (o : Row) → SlotTells value slot o → All (λ (t : Tuple). slice_index t.row slot ≡ value) (tuple_of 1 o ++ [])
-slot_of value slot None h = All-nil (λ (t : Tuple). slice_index t.row slot ≡ value)
+slot_of value slot None h = All-nil _
 slot_of value slot (Some row) h =
-    All-cons (λ (t : Tuple). slice_index t.row slot ≡ value) (record { packet = 1; row = row }) [] h
+    All-cons _ _ [] h
     (All-nil (λ (t : Tuple). slice_index t.row slot ≡ value))
 
 keys_of : (q : TypedQuery) (field : Field) (columns : List ℕ) (op : TypedOp)
     → (makes_field field q.names q.streams ≡ false → AlwaysTells q field columns op) → KeysAreTheField q field columns op
-keys_of q field columns (typed.Filter input condition) h = tt
-keys_of q field columns (typed.Map input values) h = tt
-keys_of q field columns (typed.Zip left right slots) h = tt
-keys_of q field columns (typed.Group input keys f args) h = λ j lt is none words size.
-    subst (All (λ (t : Tuple). slice_index t.row (slice_index keys j) ≡ field_word field words)) (sym (stream_rows q input (words ∷ [])))
+keys_of q field columns (typed.Group input keys f args) h = λ j lt is none words size. rw (stream_rows q input (words ∷ []))
     (slot_of (field_word field words) (slice_index keys j) (row_at (all_rows q words) input) ((h none words size).1 j lt is))
+keys_of q field columns _ h = tt
 
 pub keys_are : KeysAreFields
-keys_are query q field h = λ k d lt. keys_of q field _ _ (λ none. always_tells query q field h none k d lt)
+keys_are query q field h = λ k d lt. keys_of q _ _ _ (λ none. always_tells _ q _ h none k d lt)

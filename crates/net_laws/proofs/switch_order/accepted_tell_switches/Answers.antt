@@ -5,5 +5,5 @@ use Rattle.net_laws.proofs.switch_order.accepted_tell_switches.Goals as goal
 
 pub returns : goal.returns
 returns c = λ text q e.
-    let p = parts text q e in
-    record { keys = c.keys_are_fields.ensures p.0 q Switch (query_sound p.0 q p.2); words = c.accepted_start_as_words.ensures text q e }
+    let p = parts _ q e in
+    assumption (c.keys_are_fields.ensures p.0 q Switch (query_sound p.0 q p.2), c.accepted_start_as_words.ensures text q e)
