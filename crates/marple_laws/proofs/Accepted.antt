@@ -1,7 +1,6 @@
 -- The text of an accepted query's plan says what the query does.
-use Rattle.query_laws.proofs.Valid.{accepted_valid}
+use Rattle.marple_laws.proofs.Words.{accepted_valid, AcceptedLoadAsQueries}
 use Rattle.marple_laws.proofs.Loads.{loads}
-use Rattle.marple_laws.specs.AcceptedPlans.{AcceptedLoadAsQueries}
 use Rattle.marple_laws.specs.PlanOf.{plan_of}
 use Rattle.marple_laws.proofs.Hold.{plan_texts}
 use Rattle.marple_laws.proofs.PlanOf.{accepted_put}

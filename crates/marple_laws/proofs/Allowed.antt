@@ -1,40 +1,18 @@
 -- The operations of a query's plan are allowed in sequence, and its groupbys after them.
-use Rattle.std.proofs.Common.{◌≡◌, ℕ, zero, suc, ◌+◌, ◌-◌, ◌<◌, ◌≤◌, Bool, true, false, List, [], ◌∷◌, ◌++◌, length, take, Some, None}
-use Rattle.std.proofs.Common.{Option, refl, sym, ap, subst, ◌∙◌, inl, inr, arith}
-use Rattle.std.specs.Prelude.{map, slice_get, option_map, unwrap_or, nat_lt, if◌then◌else◌}
-use Rattle.std.specs.List.{range_with_len}
-use Rattle.std.proofs.lemmas.Bool.Decides.{nat_tests}
-use Rattle.std.proofs.lemmas.List.{length-take-le, length-map}
-use Rattle.std.proofs.lemmas.Option.{slice_get_within, slice_get_cases, slice_get-map, get_or_from_slice_get, same_Some}
-use Rattle.marple_base.specs.declared.field.TheConstants.{FIELDS}
-use Rattle.query_lang.specs.declared.fold.TypedFold.{TypedFold}
-use Rattle.query_lang.specs.declared.typed.TypedOp.{TypedOp}
+use Rattle.marple_laws.proofs.Words.{◌≡◌, ℕ, zero, suc, ◌+◌, ◌-◌, ◌<◌, ◌≤◌, Bool, true, false, List, [], ◌∷◌, ◌++◌, length, take, Some}
+use Rattle.marple_laws.proofs.Words.{None, Option, refl, sym, ap, subst, ◌∙◌, inl, inr, arith, option_map, unwrap_or, if◌then◌else◌}
+use Rattle.marple_laws.proofs.Words.{range_with_len, nat_tests, length-take-le, length-map, slice_get_within, slice_get_cases}
+use Rattle.marple_laws.proofs.Words.{slice_get-map, get_or_from_slice_get, same_Some, FIELDS, TypedFold, TypedOp, TypedQuery, TypedStream}
+use Rattle.marple_laws.proofs.Words.{IsValidFold, fold_states, Taking, takings, IsValidQuery, least_from, IsProgramOf, GroupPlan, Operand}
+use Rattle.marple_laws.proofs.Words.{Register, Number, PlanOp, FieldSource, reads_of, all_sources, sources_at, named_input, named_slots}
+use Rattle.marple_laws.proofs.Words.{moved, moved_op, op_numbered, wiring_of, IsPlanOf, fold_at, query_made, operand_stage, stages_of}
+use Rattle.marple_laws.proofs.Words.{GroupShape, group_shape, query_groups, PlanParts, IsWithin, IsSoundOp, AreSoundOps, IsSoundGroup}
+use Rattle.marple_laws.proofs.Words.{IsSoundPlan, ordered, op_at, stage_at, stage_of, last_stage, query_order, register_in, query_registers}
+use Rattle.marple_laws.proofs.Words.{query_ops, query_wiring, fields_of, ops_are, wiring_is, fold_found, IsNamedWell, HasPlanText}
+use Rattle.std.specs.Prelude.{map, slice_get, nat_lt}
 use Rattle.query_lang.specs.declared.typed.TypedOp.TheVariants as op
-use Rattle.query_lang.specs.declared.typed.TypedQuery.{TypedQuery}
-use Rattle.query_lang.specs.declared.typed.TypedStream.{TypedStream}
-use Rattle.query_lang.specs.Folds.{IsValidFold, fold_states}
-use Rattle.query_lang.specs.Streams.{Taking, takings}
-use Rattle.query_lang.specs.TypedQueries.{IsValidQuery}
-use Rattle.fold_class.specs.Depth.{least_from, is_enough}
-use Rattle.fold_class.specs.Program.{IsProgramOf}
-use Rattle.stage_plan.specs.declared.group.GroupPlan.{GroupPlan}
-use Rattle.stage_plan.specs.declared.op.Operand.{Operand}
-use Rattle.stage_plan.specs.declared.op.Operand.TheVariants.{Register, Number}
-use Rattle.stage_plan.specs.declared.op.PlanOp.{PlanOp}
-use Rattle.stage_plan.specs.Fields.{FieldSource, reads_of, all_sources, sources_at, named_input, named_slots}
 use Rattle.stage_plan.specs.Making.{operand_at, wires_at}
-use Rattle.stage_plan.specs.Ordering.{moved, moved_op, op_numbered, wiring_of}
-use Rattle.stage_plan.specs.Planned.{IsPlanOf, fold_at, query_made}
-use Rattle.stage_plan.specs.Registers.{operand_stage, stages_of}
-use Rattle.stage_plan.specs.Shape.{GroupShape, group_shape, query_groups}
-use Rattle.stage_plan.specs.Sound.{PlanParts, IsWithin, IsSoundOp, AreSoundOps, IsSoundGroup, IsSoundPlan}
 use Rattle.stage_plan.proofs.Groupings.{depth_is}
-use Rattle.stage_plan.proofs.Sorted.{ordered, op_at}
-use Rattle.plan_file.specs.Operations.{stage_at, stage_of, last_stage}
-use Rattle.plan_writer.specs.Ordered.{query_order, register_in, query_registers, query_ops, query_wiring}
-use Rattle.plan_writer.specs.PlanText.{fields_of}
-use Rattle.plan_writer.proofs.Plans.{ops_are, wiring_is, fold_found}
-use Rattle.marple_laws.specs.WellNamed.{IsNamedWell, HasPlanText}
 use Rattle.marple_laws.proofs.Fields.{operand_known, operand_fits, operand_readable, operands_readable}
 use Rattle.marple_laws.proofs.Groups.{HasGroup}
 use Rattle.marple_laws.proofs.Listed.{in_set}
@@ -47,9 +25,8 @@ use Rattle.marple_laws.proofs.OpLines.{IsOpOk}
 
 front_at : {A : Type 0} (xs : List A) (i k : ℕ) → k < i → slice_get (take i xs) k ≡ slice_get xs k
 front_at xs zero k lt = absurd (omega arith)
-front_at [] (suc i) k lt = refl
-front_at (x ∷ xs) (suc i) zero lt = refl
-front_at (x ∷ xs) (suc i) (suc k) lt = front_at xs i k (omega arith)
+front_at (x ∷ xs) (suc i) (suc k) lt = front_at _ i k (omega arith)
+front_at _ (suc i) _ lt = refl
 
 stage_found : (o : Option PlanOp) → stage_at o ≡ unwrap_or (option_map (λ one. one.stage) o) 0
 stage_found None = refl
@@ -84,11 +61,11 @@ last_before ops (suc j) one sound e =
 
 depth_below : (f : TypedFold) (tries d : ℕ) → least_from f tries d ≤ tries + d
 depth_below f zero d = omega arith
-depth_below f (suc tries) d = by (is_enough f d) (depth_below f tries (suc d))
+depth_below f (suc tries) d = by _ (depth_below f _ _)
   where
     by : (b : Bool) → least_from f tries (suc d) ≤ tries + suc d → (if b then d else least_from f tries (suc d)) ≤ suc tries + d
     by true h = omega arith
-    by false h = omega (arith, h)
+    by false h = omega arith
 
 module _ (q : TypedQuery) (p : PlanParts) (valid : IsValidQuery q) (text : HasPlanText q) (plan : IsPlanOf q p) (sound : IsSoundPlan p)
   where
@@ -109,8 +86,7 @@ module _ (q : TypedQuery) (p : PlanParts) (valid : IsValidQuery q) (text : HasPl
       where
         go : (o : Option ℕ) → slice_get (range_with_len 0 (length (query_made q).ops)) k ≡ o → FIELDS ≤ r
         go None h = let none : None ≡ Some r = sym (slice_get-map (register_in (query_order q))
-            (range_with_len 0 (length (query_made q).ops))
-            k ∙ ap (option_map (register_in (query_order q))) h) ∙ e in cc
+            (range_with_len 0 (length (query_made q).ops)) k ∙ ap (option_map (register_in (query_order q))) h) ∙ e in cc
         go (Some c) h =
             let same : register_in (query_order q) c ≡ r = same_Some (register_in (query_order q) c) r
             (sym (slice_get-map (register_in (query_order q)) (range_with_len 0 (length (query_made q).ops)) k
@@ -205,8 +181,7 @@ module _ (q : TypedQuery) (p : PlanParts) (valid : IsValidQuery q) (text : HasPl
         AllGood (reads_of q) (map (λ slot. moved (query_registers q) (operand_at columns slot)) slots)
     picked_good sources columns [] from r = tt
     picked_good sources columns (slot ∷ slots) from r = (
-      moved_good (reads_of q) (query_registers q) (operand_at columns slot) beyond
-          (column_good (reads_of q) sources columns slot from r.0),
+      moved_good (reads_of q) (query_registers q) (operand_at columns slot) beyond (column_good (reads_of q) sources columns slot from r.0),
       picked_good sources columns slots from r.1,
     )
 
@@ -214,7 +189,7 @@ module _ (q : TypedQuery) (p : PlanParts) (valid : IsValidQuery q) (text : HasPl
     shapes_are = ap (λ s. s.groups) plan.shape
 
     pub shapes_long : length (query_groups q) ≡ length (takings q.streams)
-    shapes_long = ap length (sym shapes_are) ∙ length-map p.groups group_shape ∙ plan.groups
+    shapes_long = ap length (sym shapes_are) ∙ length-map _ _ ∙ plan.groups
 
     -- the groupby of a shape
     has_group : (i : ℕ) (group : GroupPlan) (t : Taking) (f : TypedFold) → slice_get p.groups i ≡ Some group
@@ -245,8 +220,7 @@ module _ (q : TypedQuery) (p : PlanParts) (valid : IsValidQuery q) (text : HasPl
         args = operands_readable (reads_of q) (query_ops q) (wiring_of (query_registers q) (query_made q).streams t).args
             (picked_good (sources_at (all_sources q) t.input) (wires_at (query_made q).streams t.input).columns t.args
             (good.streams t.input).columns (read_right (reads_of q) (sources_at (all_sources q) t.input) t.keys t.args read))
-            s.arg_registers
-            few_ops;
+            s.arg_registers few_ops;
         state_names = well.state_names;
         states_differ = well.states_differ;
         states_apart = well.states_apart;
@@ -268,8 +242,7 @@ module _ (q : TypedQuery) (p : PlanParts) (valid : IsValidQuery q) (text : HasPl
 
         s : IsSoundGroup (FIELDS + length (query_ops q)) group (wiring_of (query_registers q) (query_made q).streams t)
         s = subst (λ ops. IsSoundGroup (FIELDS + length ops) group (wiring_of (query_registers q) (query_made q).streams t))
-            (ops_are q p plan)
-            (sound.each i group (wiring_of (query_registers q) (query_made q).streams t) g
+            (ops_are q p plan) (sound.each i group (wiring_of (query_registers q) (query_made q).streams t) g
             (ap (λ l. slice_get l i) (wiring_is q p plan) ∙ wired_here))
 
         program : IsProgramOf f group.program

@@ -1,99 +1,29 @@
 -- The words of a body are read as the tokens that write it.
-use Rattle.std.proofs.Common.{◌≡◌, ℕ, ◌+◌, ◌-◌, ◌^◌, ◌<◌, ◌≤◌, Bool, true, false, eqb, List, [], ◌∷◌, ◌++◌, Some, None, refl, ap, ◌∙◌}
-use Rattle.std.proofs.Common.{arith}
-use Rattle.std.specs.Prelude.{decimal, codes, map, nat_lt, if◌then◌else◌}
-use Rattle.std.proofs.lemmas.Bool.Decides.{nat_tests}
-use Rattle.std.proofs.lemmas.Fmt.{decimal_is_IsNumeral}
-use Rattle.std.proofs.lemmas.List.{map-append}
-use Rattle.std.proofs.lemmas.Str.Parse.{digit_from_value}
-use Rattle.std.specs.Str.Parse.{AllDigits}
-use Rattle.query_lang.specs.declared.fold.Op.{Op}
+use Rattle.marple_laws.proofs.Words.{◌≡◌, ℕ, ◌+◌, ◌-◌, ◌^◌, ◌<◌, ◌≤◌, Bool, true, false, eqb, List, [], ◌∷◌, ◌++◌, Some, None, refl, ap}
+use Rattle.marple_laws.proofs.Words.{◌∙◌, arith, decimal, codes, if◌then◌else◌, decimal_is_IsNumeral, map-append, digit_from_value}
+use Rattle.marple_laws.proofs.Words.{AllDigits, Op, Block, End, Set, Fork, Term, Literal, Read, Negation, Operation, IsValidTerm}
+use Rattle.marple_laws.proofs.Words.{IsValidBlock, block_count, MAX_STATEMENTS, number, function_named, lexeme_among, lexeme_of}
+use Rattle.marple_laws.proofs.Words.{slot_lexeme, written, written_block, open_braces, IsBody, function_word, number_word, state_word}
+use Rattle.marple_laws.proofs.Words.{slot_word, term_words, block_words}
+use Rattle.std.specs.Prelude.{map, nat_lt}
 use Rattle.query_lang.specs.declared.fold.Op.TheVariants as ops
-use Rattle.query_lang.specs.Blocks.{Block, End, Set, Fork}
-use Rattle.query_lang.specs.Terms.{Term, Literal, Read, Negation, Operation}
-use Rattle.query_lang.specs.Folds.{IsValidTerm, IsValidBlock, block_count}
-use Rattle.query_lang.specs.declared.fault.TheConstants.{MAX_STATEMENTS}
 use Rattle.plan_file.specs.declared.lexemes.Lexeme.TheVariants as word
-use Rattle.plan_file.specs.Lexis.{number, function_named}
-use Rattle.plan_file.specs.Lexemes.{lexeme_among, lexeme_of}
-use Rattle.plan_file.specs.Bodies.{slot_lexeme, written, written_block, open_braces, IsBody}
-use Rattle.plan_writer.specs.Words.{function_word, number_word, state_word, slot_word, term_words, block_words}
 use Rattle.marple_laws.proofs.Tokens.{is_token, AreTokens}
 use Rattle.marple_laws.proofs.Numbers.{number_decimal, token_marked}
 
 pub function_read : (op : Op) → function_named (function_word op) ≡ Some op
 unfolding function_named
 function_read ops.Mul = refl
-function_read ops.Div = refl
-function_read ops.Rem = refl
-function_read ops.Add = refl
-function_read ops.Sub = refl
-function_read ops.Shl = refl
-function_read ops.Shr = refl
-function_read ops.And = refl
-function_read ops.Xor = refl
-function_read ops.Or = refl
-function_read ops.Eq = refl
-function_read ops.Ne = refl
-function_read ops.Lt = refl
-function_read ops.Le = refl
-function_read ops.Gt = refl
-function_read ops.Ge = refl
-function_read ops.Both = refl
-function_read ops.Either = refl
-function_read ops.Max = refl
-function_read ops.Min = refl
-function_read ops.Sadd = refl
-function_read ops.Decay = refl
+function_read _ = refl
 
 pub token_function : (op : Op) → is_token (function_word op) ≡ true
 token_function ops.Mul = refl
-token_function ops.Div = refl
-token_function ops.Rem = refl
-token_function ops.Add = refl
-token_function ops.Sub = refl
-token_function ops.Shl = refl
-token_function ops.Shr = refl
-token_function ops.And = refl
-token_function ops.Xor = refl
-token_function ops.Or = refl
-token_function ops.Eq = refl
-token_function ops.Ne = refl
-token_function ops.Lt = refl
-token_function ops.Le = refl
-token_function ops.Gt = refl
-token_function ops.Ge = refl
-token_function ops.Both = refl
-token_function ops.Either = refl
-token_function ops.Max = refl
-token_function ops.Min = refl
-token_function ops.Sadd = refl
-token_function ops.Decay = refl
+token_function _ = refl
 
 function_lexeme : (op : Op) → lexeme_of (function_word op) ≡ word.Function op
 unfolding lexeme_of function_named
 function_lexeme ops.Mul = refl
-function_lexeme ops.Div = refl
-function_lexeme ops.Rem = refl
-function_lexeme ops.Add = refl
-function_lexeme ops.Sub = refl
-function_lexeme ops.Shl = refl
-function_lexeme ops.Shr = refl
-function_lexeme ops.And = refl
-function_lexeme ops.Xor = refl
-function_lexeme ops.Or = refl
-function_lexeme ops.Eq = refl
-function_lexeme ops.Ne = refl
-function_lexeme ops.Lt = refl
-function_lexeme ops.Le = refl
-function_lexeme ops.Gt = refl
-function_lexeme ops.Ge = refl
-function_lexeme ops.Both = refl
-function_lexeme ops.Either = refl
-function_lexeme ops.Max = refl
-function_lexeme ops.Min = refl
-function_lexeme ops.Sadd = refl
-function_lexeme ops.Decay = refl
+function_lexeme _ = refl
 
 number_lexeme : (n : ℕ) → n < 2 ^ 64 → lexeme_of (number_word n) ≡ word.Number n
 unfolding lexeme_of function_named
@@ -101,7 +31,7 @@ number_lexeme n small = ap (λ o. lexeme_among None o None None) (number_decimal
 
 -- a digit is none of the letters that follow `s` or `a` in another word
 other_byte : (c d : ℕ) → c ≤ 57 → 57 < d → eqb c d ≡ false
-other_byte c d low high = grind (arith, nat_tests)
+other_byte c d low high = grind arith
 
 state_digits : (ds : List ℕ) (v : ℕ) → AllDigits 10 ds → number ds ≡ Some v → lexeme_of (115 ∷ ds) ≡ word.State v
 unfolding lexeme_of function_named
@@ -113,8 +43,7 @@ state_digits (c ∷ ds) v d e =
       other_byte c 101 low (omega arith),
       other_byte c 117 low (omega arith),
       other_byte c 104 low (omega arith),
-      other_byte c 97 low
-          (omega arith),
+      other_byte c 97 low (omega arith),
     )
     (ap (λ o. lexeme_among None None o None) e)
 
@@ -198,10 +127,9 @@ block_read states args (Fork c a b next) few v =
     ++ (close_lexeme k ∷ open_lexeme k ∷ (block_read states args b few v.3 k
     ++ (close_lexeme k ∷ block_read states args next few v.4 k)))))))
   where
-    pieces : (i o e : List ℕ) (x y z n : List (List ℕ)) →
-        map lexeme_of (i ∷ (x ++ (o ∷ (y ++ (e ∷ o ∷ (z ++ (e ∷ n)))))))
-        ≡ lexeme_of i ∷ (map lexeme_of x ++ (lexeme_of o ∷ (map lexeme_of y
-        ++ (lexeme_of e ∷ lexeme_of o ∷ (map lexeme_of z ++ (lexeme_of e ∷ map lexeme_of n))))))
+    pieces : (i o e : List ℕ) (x y z n : List (List ℕ)) → map lexeme_of (i ∷ (x ++ (o ∷ (y ++ (e ∷ o ∷ (z ++ (e ∷ n))))))) ≡ lexeme_of i
+        ∷ (map lexeme_of x ++ (lexeme_of o ∷ (map lexeme_of y ++ (lexeme_of e ∷ lexeme_of o
+        ∷ (map lexeme_of z ++ (lexeme_of e ∷ map lexeme_of n))))))
     pieces i o e x y z n = simp (map-append)
 
 -- each choice is a statement, so there are no more braces open at once than statements
@@ -229,8 +157,7 @@ tokens_term states slots (Read s) few v = (token_slot states s (omega (arith, fe
 tokens_term states slots (Negation e) few v = (refl, tokens_term states slots e few v.0)
 tokens_term states slots (Operation op a b) few v = (
   token_function op,
-  tokens_append (term_words states a) (term_words states b) (tokens_term states slots a few v.0)
-      (tokens_term states slots b few v.1),
+  tokens_append (term_words states a) (term_words states b) (tokens_term states slots a few v.0) (tokens_term states slots b few v.1),
 )
 
 pub tokens_block : (states args : ℕ) (body : Block) → AreFew (states + args) → IsValidBlock states args body
@@ -250,22 +177,16 @@ tokens_block states args (Fork c a b next) few v = (
     refl,
     tokens_append (block_words states a) _ (tokens_block states args a few v.2) (
       refl,
-      (
-        refl,
-        tokens_append (block_words states b) _ (tokens_block states args b few v.3)
-            (refl, tokens_block states args next few v.4),
-      ),
+      (refl, tokens_append (block_words states b) _ (tokens_block states args b few v.3) (refl, tokens_block states args next few v.4)),
     ),
   ),
 )
 
 -- the words write the body
 pub body_written : (states args : ℕ) (body : Block) → AreFew (states + args) → IsValidBlock states args body
-    → block_count body ≤ MAX_STATEMENTS
-    → IsBody states args (map lexeme_of (block_words states body)) body
+    → block_count body ≤ MAX_STATEMENTS → IsBody states args (map lexeme_of (block_words states body)) body
 body_written states args body few v least = record {
   statements = block_read states args body few v;
   typed = v;
-  nesting =
-      omega (arith, few_braces body, least);
+  nesting = omega (arith, few_braces body, least);
 }

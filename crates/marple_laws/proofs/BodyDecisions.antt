@@ -1,16 +1,10 @@
 -- Whether tokens of bodies are the same, and whether a body is valid, is decided.
-use Rattle.std.proofs.Common.{◌≡◌, ℕ, ◌+◌, ◌<◌, ◌^◌, true, false, List, [], ◌∷◌, get_or, refl, sym, ap, ap₂, ◌∙◌, subst, inl, inr}
-use Rattle.std.specs.Prelude.{◌==◌, if◌then◌else◌}
-use Rattle.query_lang.specs.declared.fold.Op.{Op}
+use Rattle.marple_laws.proofs.Words.{◌≡◌, ℕ, ◌+◌, ◌<◌, ◌^◌, true, false, List, [], ◌∷◌, get_or, refl, sym, ap, ap₂, ◌∙◌, subst, inl, inr}
+use Rattle.marple_laws.proofs.Words.{◌==◌, if◌then◌else◌, Op, Block, End, Set, Fork, IsConstant, IsValidBlock, IsValidTerm, TakesOperands}
+use Rattle.marple_laws.proofs.Words.{is_condition, Term, Literal, Read, Negation, Operation, Lexeme, IsBody, open_braces, written_block}
+use Rattle.marple_laws.proofs.Words.{block_written, bodies}
 use Rattle.query_lang.specs.declared.fold.Op.TheVariants as ops
-use Rattle.query_lang.specs.Blocks.{Block, End, Set, Fork}
-use Rattle.query_lang.specs.Folds.{IsConstant, IsValidBlock, IsValidTerm, TakesOperands, is_condition}
-use Rattle.query_lang.specs.Terms.{Term, Literal, Read, Negation, Operation}
-use Rattle.plan_file.specs.declared.lexemes.Lexeme.{Lexeme}
 use Rattle.plan_file.specs.declared.lexemes.Lexeme.TheVariants as word
-use Rattle.plan_file.specs.Bodies.{IsBody, open_braces, written_block}
-use Rattle.plan_loader.specs.Reading.{block_written}
-use Rattle.plan_loader.proofs.BodyReading.{bodies}
 use Rattle.marple_laws.proofs.Decisions.{Decided, both, by_both, is_false, is_true, less, most, same_list, same_number}
 
 -- functions by their numbers
@@ -45,27 +39,7 @@ all_ops = ops.Mul ∷ ops.Div ∷ ops.Rem ∷ ops.Add ∷ ops.Sub ∷ ops.Shl �
 
 op_again : (op : Op) → get_or all_ops (number_of op) ops.Mul ≡ op
 op_again ops.Mul = refl
-op_again ops.Div = refl
-op_again ops.Rem = refl
-op_again ops.Add = refl
-op_again ops.Sub = refl
-op_again ops.Shl = refl
-op_again ops.Shr = refl
-op_again ops.And = refl
-op_again ops.Xor = refl
-op_again ops.Or = refl
-op_again ops.Eq = refl
-op_again ops.Ne = refl
-op_again ops.Lt = refl
-op_again ops.Le = refl
-op_again ops.Gt = refl
-op_again ops.Ge = refl
-op_again ops.Both = refl
-op_again ops.Either = refl
-op_again ops.Max = refl
-op_again ops.Min = refl
-op_again ops.Sadd = refl
-op_again ops.Decay = refl
+op_again _ = refl
 
 -- tokens as two numbers
 
@@ -102,16 +76,8 @@ word_with kind part =
     word.Other
 
 word_again : (w : Lexeme) → word_with (kind_of w) (part_of w) ≡ w
-word_again word.Set = refl
-word_again word.If = refl
-word_again word.Open = refl
-word_again word.Close = refl
-word_again word.Not = refl
-word_again (word.Function op) = ap word.Function (op_again op)
-word_again (word.Number n) = refl
-word_again (word.State n) = refl
-word_again (word.Argument n) = refl
-word_again word.Other = refl
+word_again (word.Function op) = ap word.Function (op_again _)
+word_again _ = refl
 
 same_word : (a b : Lexeme) → Decided (a ≡ b)
 same_word a b =
@@ -122,9 +88,7 @@ same_word a b =
 
 constant : (P : ℕ → Type 0) → ((n : ℕ) → Decided (P n)) → (e : Term) → Decided (IsConstant P e)
 constant P decide (Literal n) = decide n
-constant P decide (Read s) = inr (λ p. p)
-constant P decide (Negation e) = inr (λ p. p)
-constant P decide (Operation op a b) = inr (λ p. p)
+constant P decide _ = inr (λ p. p)
 
 conditions : (a b : Term) → Decided ((is_condition a ≡ true) × (is_condition b ≡ true))
 conditions a b = both (is_true (is_condition a)) (is_true (is_condition b))

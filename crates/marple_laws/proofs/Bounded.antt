@@ -1,15 +1,9 @@
 -- The bounds of accepted operands hold.
-use Rattle.std.proofs.Common.{◌≡◌, ℕ, List, [], Some, None, Ok, Err, refl}
-use Rattle.query_lang.specs.declared.typed.TypedQuery.{TypedQuery}
-use Rattle.query_lang.specs.Checks.{Checked}
+use Rattle.marple_laws.proofs.Words.{◌≡◌, ℕ, List, [], Some, None, Ok, Err, refl, TypedQuery, Checked, accepted, bounds_fault, fault_after}
+use Rattle.marple_laws.proofs.Words.{Setting, geometry_of, reads_of}
 use Rattle.query_laws.specs.ValidLaws.{AcceptedAreValid, AcceptedStartAsWords}
-use Rattle.accepted_query.specs.Accepted.{accepted}
-use Rattle.command_answers.specs.OwnChecks.{bounds_fault, fault_after}
-use Rattle.command_line.specs.declared.setting.Setting.{Setting}
 use Rattle.enclosed_query.specs.EnclosedTables.{enclose_text}
 use Rattle.enclosed_query.specs.Holding.{ShownHolds, ShownTablesHold}
-use Rattle.query_run.specs.Driven.{geometry_of}
-use Rattle.stage_plan.specs.Fields.{reads_of}
 use Rattle.trace_drive.specs.ReadPackets.{ReadPacketsAreOfWords}
 use Rattle.marple_cli.specs.Output.{enclosures_text, of_accepted}
 use Rattle.marple_laws.specs.Bounded.{AcceptedBoundsHold, words_read}
@@ -32,7 +26,7 @@ module _ (holding : ShownTablesHold) (words : ReadPacketsAreOfWords) (valid : Ac
     typed = q;
     of_text = refl;
     written = refl;
-    holds = holding q (geometry_of setting) (words_read trace q) (valid text q e) none (starts text q e) (words trace (reads_of q));
+    holds = holding q (geometry_of setting) (words_read trace q) (valid text q e) none (starts _ q e) (words trace (reads_of q));
   }
 
 pub bounds_hold : ShownTablesHold → ReadPacketsAreOfWords → AcceptedAreValid → AcceptedStartAsWords → AcceptedBoundsHold

@@ -1,11 +1,7 @@
 -- The keys of a bucket are those of the open epochs that it represents.
-use Rattle.std.proofs.Common.{◌≡◌, ℕ, ◌<◌, ◌≤◌, ◌||◌, List, [], ◌∷◌, length, map, get_or, sym, refl, ap, subst, ◌∙◌, arith}
-use Rattle.std.specs.Prelude.{All}
-use Rattle.std.proofs.lemmas.List.{length-map, get_or-map}
+use Rattle.marple_laws.proofs.Words.{◌≡◌, ℕ, ◌<◌, ◌≤◌, ◌||◌, List, [], ◌∷◌, length, map, get_or, sym, refl, ap, subst, ◌∙◌, arith, All}
+use Rattle.marple_laws.proofs.Words.{length-map, get_or-map, IsWellFormed, Epoch, Machine, open_in, IsDistinct, distinct-distinct}
 use Rattle.epoch_model.specs.Keys.{Key, key_eq, bucket_of, has}
-use Rattle.epoch_model.specs.Laws.{IsWellFormed}
-use Rattle.epoch_model.specs.Machine.{Epoch, Machine, open_in}
-use Rattle.epoch_model.proofs.KeyLists.{IsDistinct, distinct-distinct}
 use Rattle.bucket_cache.specs.Buckets.{Pair, has_key, AreKeysOnce}
 use Rattle.bucket_cache.specs.Caches.{Cache, list_at}
 use Rattle.switch_core.specs.Lanes.{Standing, PairStands, PairsStand, CacheStands, geometry}
@@ -33,7 +29,7 @@ distinct_once (p ∷ pairs) d = (has_same p.key pairs ∙ d.0, distinct_once pai
 
 same_long : (pairs : List Pair) (epochs : List Epoch) → map (λ pair. pair.key) pairs ≡ map (λ epoch. epoch.key) epochs
     → length pairs ≡ length epochs
-same_long pairs epochs e = sym (length-map pairs (λ pair. pair.key)) ∙ ap length e ∙ length-map epochs (λ epoch. epoch.key)
+same_long pairs epochs e = sym (length-map _ _) ∙ ap length e ∙ length-map _ _
 
 all_keys : (Q : Key → Type 0) (pairs : List Pair) (epochs : List Epoch) → map (λ pair. pair.key) pairs ≡ map (λ epoch. epoch.key) epochs
     → All (λ epoch. Q epoch.key) epochs → All (λ pair. Q pair.key) pairs
@@ -47,8 +43,7 @@ all_keys Q pairs epochs e all = λ k d lt.
 
 -- a cache that represents a machine has the keys of the machine's buckets
 pub keys_in_buckets : (stands : Standing) (ways : ℕ) (cache : Cache) (m : Machine) → CacheStands stands cache m
-    → IsWellFormed (geometry ways cache) m
-    → HasKeysInBuckets ways cache
+    → IsWellFormed (geometry ways cache) m → HasKeysInBuckets ways cache
 keys_in_buckets stands ways cache m s w = record {
   few = λ bucket. subst (λ n. n ≤ ways) (sym (same_long (list_at cache bucket) (open_in m bucket) (same bucket))) (w.few bucket);
   once = λ bucket. distinct_once (list_at cache bucket)

@@ -1,26 +1,15 @@
 -- The columns of folds and groupbys that were checked differ.
-use Rattle.std.proofs.Common.{◌≡◌, ℕ, zero, suc, ◌+◌, Bool, true, false, ◌||◌, List, [], ◌∷◌, ◌++◌, length, Some, None, Option, Ok, refl}
-use Rattle.std.proofs.Common.{sym, ap, subst, ◌∙◌, inl, inr, arith, nat_eq, nat_lt}
-use Rattle.std.specs.Prelude.{map, slice_get, if◌then◌else◌}
-use Rattle.std.specs.List.{list_any, cons_option}
-use Rattle.std.proofs.lemmas.Bool.Decides.{nat_tests}
-use Rattle.query_lang.specs.declared.fault.FaultKind.TheVariants.{NameTaken, OverLimit}
-use Rattle.query_lang.specs.declared.fault.Limit.TheVariants.{States, Keys}
-use Rattle.query_lang.specs.declared.fault.Span.{Span}
-use Rattle.query_lang.specs.declared.fold.TypedFold.{TypedFold}
-use Rattle.query_lang.specs.declared.query.FoldDef.{FoldDef}
-use Rattle.query_lang.specs.declared.query.Name.{Name}
+use Rattle.marple_laws.proofs.Words.{◌≡◌, ℕ, zero, suc, ◌+◌, Bool, true, false, ◌||◌, List, [], ◌∷◌, ◌++◌, length, Some, None, Option, Ok}
+use Rattle.marple_laws.proofs.Words.{refl, sym, ap, subst, ◌∙◌, inl, inr, arith, nat_eq, nat_lt, if◌then◌else◌, list_any, cons_option}
+use Rattle.marple_laws.proofs.Words.{nat_tests, NameTaken, OverLimit, States, Keys, Span, TypedFold, FoldDef, Name, FoldView, must}
+use Rattle.marple_laws.proofs.Words.{is_among, place_from, place_of, collected, slot_at, slot_of, MAX_KEYS, MAX_STATES, AreNew}
+use Rattle.std.specs.Prelude.{map, slice_get}
 use Rattle.query_lang.specs.declared.query.StateVar.{StateVar}
-use Rattle.query_lang.specs.declared.typing.FoldView.{FoldView}
 use Rattle.query_lang.specs.declared.typing.Picked.{Picked}
 use Rattle.query_lang.specs.declared.typing.StreamColumn.{StreamColumn}
-use Rattle.query_lang.specs.Checks.{must, is_among, place_from, place_of, collected}
-use Rattle.query_lang.specs.TypedExprs.{slot_at, slot_of}
 use Rattle.query_lang.specs.TypedFolds.{states_from, args_from, body_checked, fold_checked}
 use Rattle.query_lang.specs.TypedStreams.{column_names, columns_at, keys_from, arguments_of}
-use Rattle.query_lang.specs.declared.fault.TheConstants.{MAX_KEYS, MAX_STATES}
 use Rattle.marple_laws.proofs.Items.{must_ok, must_not_ok, found_first, same_ok, IsIn, not_in, new_push, apart_from}
-use Rattle.marple_laws.specs.WellNamed.{AreNew}
 use Rattle.marple_laws.proofs.Differ.{AreApart}
 
 -- the state variables of a fold
@@ -93,8 +82,7 @@ keys_new columns hidden found (key ∷ keys) all k e =
     keys_new columns hidden (record { names = found.names ++ key.id ∷ []; slots = found.slots ++ s.0 ∷ [] }) keys all
     (record {
       new = new_push [] found.names key.id k.new (not_in found.names key.id a.0);
-      are =
-          picked_push columns found.slots found.names s.0 key.id k.are (slot_found columns hidden key s.0 s.1);
+      are = picked_push columns found.slots found.names s.0 key.id k.are (slot_found columns hidden key s.0 s.1);
     }) b.1
 
 -- the columns at the slots have the names of the keys

@@ -1,27 +1,13 @@
 -- The plans that `compile` writes run as their queries.
-use Rattle.std.proofs.Common.{◌≡◌, ℕ, List, [], Some, None, refl, sym, ap, ◌∙◌, subst}
+use Rattle.marple_laws.proofs.Words.{◌≡◌, ℕ, List, [], Some, None, refl, sym, ap, ◌∙◌, subst, Setting, TypedQuery, Checked, accepted}
+use Rattle.marple_laws.proofs.Words.{fault_in, geometry_of, Made, plan_output, reads_in, IsReadingOf, compiled_text, final_fault}
+use Rattle.marple_laws.proofs.Words.{NoViewsWithoutNumber, reads_of, words_of, made_of, IsAsTheQuery, fault_after}
 use Rattle.std.specs.Prelude.{Ok, Err}
 use Rattle.command_line.specs.declared.command.Command.TheVariants.{RunPlan}
-use Rattle.command_line.specs.declared.setting.Setting.{Setting}
-use Rattle.query_lang.specs.declared.typed.TypedQuery.{TypedQuery}
-use Rattle.query_lang.specs.Checks.{Checked}
-use Rattle.accepted_query.specs.Accepted.{accepted, fault_in}
-use Rattle.query_run.specs.Driven.{geometry_of}
-use Rattle.plan_file.specs.declared.made.Made.{Made}
-use Rattle.plan_loader.specs.Meaning.{plan_output, reads_in}
-use Rattle.marple_laws.specs.Readings.{IsReadingOf}
 use Rattle.marple_laws.proofs.OneReading.{read_once}
-use Rattle.plan_writer.specs.PlanText.{compiled_text, final_fault}
 use Rattle.marple_laws.proofs.Accepted.{accepted_load}
-use Rattle.query_tables.specs.Tables.{query_text}
-use Rattle.query_run.specs.Views.{NoViewsWithoutNumber}
-use Rattle.stage_plan.specs.Fields.{reads_of}
-use Rattle.trace_drive.specs.Drives.{words_of}
 use Rattle.trace_drive.specs.ReadPackets.{ReadPacketsAreWhole}
 use Rattle.trace_reader.specs.Traces as traces
-use Rattle.marple_laws.specs.MadeOf.{made_of}
-use Rattle.marple_laws.specs.RunLaws.{IsAsTheQuery}
-use Rattle.command_answers.specs.OwnChecks.{fault_after}
 use Rattle.marple_cli.specs.Output.{IsRead, Source, fault_for, of_accepted, plan_tables_text, read_packets, run_text}
 use Rattle.marple_laws.specs.Compiled.{CompiledPlansRunAsQueries}
 
@@ -42,7 +28,7 @@ module _ (alone : NoViewsWithoutNumber) (whole : ReadPacketsAreWhole) (setting :
         let packets : List (List ℕ) = words_of (traces.packets trace (reads_of q)) in
         ap (λ reads. plan_output made (geometry_of setting) (words_of (traces.packets trace reads))) is.reads
         ∙ is.prints (geometry_of setting) packets (whole trace (reads_of q))
-        ∙ sym (alone (query_text q (geometry_of setting)) packets);
+        ∙ sym (alone _ packets);
   }
 
   alike : (text : List ℕ) (plan : Source) (found : Checked TypedQuery) → accepted text ≡ found → fault_after final_fault found ≡ None

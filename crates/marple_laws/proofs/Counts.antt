@@ -1,31 +1,16 @@
 -- The most operations that the plan of a query has.
-use Rattle.std.proofs.Common.{◌≡◌, ℕ, ◌+◌, ◌*◌, ◌≤◌, List, [], ◌∷◌, ◌++◌, length, Option, Some, None, refl, ap, ◌∙◌, arith}
-use Rattle.std.specs.Prelude.{All, IfSome, map, flat_map, fold, max, replicate, slice_get, sum_by}
-use Rattle.std.proofs.lemmas.Grind.{flat_map-append}
-use Rattle.std.proofs.lemmas.List.{length-append, length-map}
-use Rattle.std.proofs.lemmas.List.Sums.{sum_by-cons}
-use Rattle.query_lang.specs.declared.fold.TypedExpr.{TypedExpr}
-use Rattle.query_lang.specs.declared.fold.TypedFold.{TypedFold}
-use Rattle.query_lang.specs.declared.typed.TypedOp.{TypedOp}
+use Rattle.marple_laws.proofs.Words.{◌≡◌, ℕ, ◌+◌, ◌*◌, ◌≤◌, List, [], ◌∷◌, ◌++◌, length, Option, Some, None, refl, ap, ◌∙◌, arith, All}
+use Rattle.marple_laws.proofs.Words.{flat_map, fold, replicate, sum_by, flat_map-append, length-map, sum_by-cons, TypedExpr, TypedFold}
+use Rattle.marple_laws.proofs.Words.{TypedOp, TypedQuery, TypedStream, IsValidEmit, IsValidFold, fold_args, fold_states, term_nodes}
+use Rattle.marple_laws.proofs.Words.{values_at, Term, Literal, Read, Negation, Operation, term_of, AreValidStreams, IsValidOp, IsValidQuery}
+use Rattle.marple_laws.proofs.Words.{MAX_NODES, query_made, stages_of, PlanOp, QueryMade, query_fault, order_long, query_ops, query_order}
+use Rattle.marple_laws.proofs.Words.{query_registers, made_staged, moved_op, op_numbered}
+use Rattle.std.specs.Prelude.{IfSome, map, max, slice_get}
+use Rattle.std.proofs.lemmas.List.{length-append}
 use Rattle.query_lang.specs.declared.typed.TypedOp.TheVariants as typed
-use Rattle.query_lang.specs.declared.typed.TypedQuery.{TypedQuery}
-use Rattle.query_lang.specs.declared.typed.TypedStream.{TypedStream}
-use Rattle.query_lang.specs.Folds.{IsValidEmit, IsValidFold, fold_args, fold_states, term_nodes}
-use Rattle.query_lang.specs.Streams.{values_at}
-use Rattle.query_lang.specs.Terms.{Term, Literal, Read, Negation, Operation, term_of}
-use Rattle.query_lang.specs.TypedQueries.{AreValidStreams, IsValidOp, IsValidQuery}
-use Rattle.query_lang.specs.declared.fault.TheConstants.{MAX_NODES}
 use Rattle.stage_plan.specs.Depths.{StreamDepths, depths_at, depths_made, emit_depths, group_depths, joined_depths, packet_depths}
 use Rattle.stage_plan.specs.Depths.{query_depths, stage_fault, term_depth, term_depths}
-use Rattle.stage_plan.specs.Planned.{query_made}
-use Rattle.stage_plan.specs.Registers.{stages_of}
-use Rattle.stage_plan.specs.declared.op.PlanOp.{PlanOp}
-use Rattle.stage_plan.proofs.Faults.{QueryMade, query_fault}
 use Rattle.stage_plan.proofs.Faults as faults
-use Rattle.stage_plan.proofs.Sorted.{order_long}
-use Rattle.plan_writer.specs.Ordered.{query_ops, query_order, query_registers}
-use Rattle.plan_writer.proofs.Plans.{made_staged}
-use Rattle.stage_plan.specs.Ordering.{moved_op, op_numbered}
 use Rattle.marple_laws.proofs.Texts.{all_at}
 
 term_few : (columns : List ℕ) (t : Term) → length (term_depths columns t) ≤ term_nodes t
@@ -76,8 +61,7 @@ group_few (Some f) input keys args valid = emit_few f.emit (fold_states f) (fold
     input.present (values_at input.columns keys) (valid f refl).emits
 
 made_few : (folds : List TypedFold) → All IsValidFold folds → (before : List TypedStream) (width : ℕ) (op : TypedOp)
-    → IsValidOp folds before width op
-    → (streams : List StreamDepths) → length (depths_made folds streams op).operations ≤ 641
+    → IsValidOp folds before width op → (streams : List StreamDepths) → length (depths_made folds streams op).operations ≤ 641
 made_few folds valid before width (typed.Filter input condition) v streams =
     let j = joined_few (depths_at streams input).columns (term_of condition) (depths_at streams input).present
     (depths_at streams input).columns in
@@ -116,7 +100,7 @@ few_depths q v =
     omega (arith, c, s)
 
 pub made_of_query : (q : TypedQuery) → stage_fault q ≡ None → QueryMade q (query_made q).ops (query_made q).streams
-made_of_query q none = faults.query_made q (query_made q).ops (query_made q).streams refl refl (query_fault q ∙ none)
+made_of_query q none = faults.query_made q _ _ refl refl (query_fault q ∙ none)
 
 pub few_made : (q : TypedQuery) → IsValidQuery q → stage_fault q ≡ None → length (query_made q).ops ≤ 20512
 few_made q v none =

@@ -1,8 +1,7 @@
 -- Facts that are decided by their parts.
-use Rattle.std.proofs.Common.{◌≡◌, ℕ, zero, suc, ◌<◌, ◌≤◌, Bool, true, false, List, [], ◌∷◌, length, Option, Some, None, refl, inl, inr}
-use Rattle.std.proofs.Common.{arith}
-use Rattle.std.specs.Prelude.{◌⊎◌, Contains, slice_index_or}
-use Rattle.std.proofs.lemmas.Bool.{cases_eq, cases_lt}
+use Rattle.marple_laws.proofs.Words.{◌≡◌, ℕ, zero, suc, ◌<◌, ◌≤◌, Bool, true, false, List, [], ◌∷◌, length, Option, Some, None, refl, inl}
+use Rattle.marple_laws.proofs.Words.{inr, arith, slice_index_or, cases_eq, cases_lt}
+use Rattle.std.specs.Prelude.{◌⊎◌, Contains}
 
 abbrev pub Decided : Type 0 → Type 0
 Decided A = A ⊎ (A → ⊥)
@@ -31,16 +30,10 @@ by_both to back (inl a) = inl (to a)
 by_both to back (inr a) = inr (λ b. a (back b))
 
 pub less : (m n : ℕ) → Decided (m < n)
-less m n = elim (cases_lt m n) [
-  | inl lt ↦ inl lt
-  | inr le ↦ inr (λ lt. omega (arith, lt, le))
-]
+less m n = elim (cases_lt m n) [ inl lt ↦ inl lt | inr le ↦ inr (λ lt. omega (arith, lt, le)) ]
 
 pub most : (m n : ℕ) → Decided (m ≤ n)
-most m n = elim (cases_lt n m) [
-  | inl lt ↦ inr (λ le. omega (arith, lt, le))
-  | inr le ↦ inl le
-]
+most m n = elim (cases_lt n m) [ inl lt ↦ inr (λ le. omega (arith, lt, le)) | inr le ↦ inl le ]
 
 pub same_number : (m n : ℕ) → Decided (m ≡ n)
 same_number m n = cases_eq m n

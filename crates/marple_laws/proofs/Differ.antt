@@ -1,11 +1,7 @@
 -- Which names of a typed query differ.
 use Rattle.std.specs.Prelude.{◌≡◌, ℕ, ◌<◌, List, [], ◌∷◌, length, map, slice_get, Some, Contains}
-use Rattle.query_lang.specs.declared.fold.TypedFold.{TypedFold}
-use Rattle.query_lang.specs.declared.typed.TypedOp.{TypedOp}
+use Rattle.marple_laws.proofs.Words.{TypedFold, TypedOp, TypedQuery, TypedStream, AreNew}
 use Rattle.query_lang.specs.declared.typed.TypedOp.TheVariants as typed
-use Rattle.query_lang.specs.declared.typed.TypedQuery.{TypedQuery}
-use Rattle.query_lang.specs.declared.typed.TypedStream.{TypedStream}
-use Rattle.marple_laws.specs.WellNamed.{AreNew}
 
 -- no state variable has the name of a key
 abbrev pub AreApart : List ℕ → List ℕ → Type 0

@@ -1,18 +1,8 @@
 -- The fields that the text of a query's plan names are those that the query reads.
-use Rattle.std.proofs.Common.{◌≡◌, ℕ, ◌^◌, ◌<◌, max, List, [], ◌∷◌, refl, sym, ap, ◌∙◌, inl, inr, arith, bit_or}
-use Rattle.std.specs.Prelude.{fold}
-use Rattle.std.specs.Int.{bit_at}
-use Rattle.std.proofs.lemmas.Bool.{cases_eq}
-use Rattle.std.proofs.lemmas.Bool.Decides.{nat_tests}
+use Rattle.marple_laws.proofs.Words.{◌≡◌, ℕ, ◌^◌, ◌<◌, max, List, [], ◌∷◌, refl, sym, ap, ◌∙◌, inl, inr, arith, bit_or, fold, bit_at}
+use Rattle.marple_laws.proofs.Words.{cases_eq, nat_tests, Field, FieldSet, number_of, all_fields, has_field, HasField, no_fields}
+use Rattle.marple_laws.proofs.Words.{with_field, field_set, TypedQuery, read_fields, reads_of, reads_in, fields_of, made_of}
 use Rattle.std.proofs.lemmas.Nat.Bits.{bit_at_or, bit_at-lt, bit_at-zero, bit_at-pow_same, bit_at-pow_other, same_from_bits}
-use Rattle.marple_base.specs.declared.field.Field.{Field}
-use Rattle.marple_base.specs.declared.field.FieldSet.{FieldSet}
-use Rattle.marple_base.specs.Field.{number_of, all_fields, has_field, HasField, no_fields, with_field, field_set}
-use Rattle.query_lang.specs.declared.typed.TypedQuery.{TypedQuery}
-use Rattle.stage_plan.specs.Fields.{read_fields, reads_of}
-use Rattle.plan_loader.specs.Meaning.{reads_in}
-use Rattle.plan_writer.specs.PlanText.{fields_of}
-use Rattle.marple_laws.specs.MadeOf.{made_of}
 use Rattle.marple_laws.proofs.Fields.{all_in, in_filter, out_of_filter}
 use Rattle.marple_laws.proofs.Listed.{IsIn, in_set}
 

@@ -1,26 +1,11 @@
 -- The fields of a set in their order, and which registers the lines of a plan know.
-use Rattle.std.proofs.Common.{◌≡◌, ℕ, suc, ◌+◌, ◌^◌, ◌<◌, ◌≤◌, Bool, true, false, cond, List, [], ◌∷◌, length, refl, sym, ap, subst, ◌∙◌}
-use Rattle.std.proofs.Common.{inl, inr, arith, Contains}
-use Rattle.std.specs.Prelude.{All, map, filter, codes}
-use Rattle.std.proofs.lemmas.Bool.{cases_lt}
-use Rattle.std.proofs.lemmas.List.Elements.{All-head, All-tail}
-use Rattle.marple_base.specs.declared.field.Field.{Field}
-use Rattle.marple_base.specs.declared.field.Field.TheVariants.{Switch, Qid, Uid, SrcIp, DstIp, SrcPort, DstPort, Proto, PktLen, PayloadLen}
-use Rattle.marple_base.specs.declared.field.Field.TheVariants.{TcpSeq, Tin, Tout, QSize}
-use Rattle.marple_base.specs.declared.field.FieldSet.{FieldSet}
-use Rattle.marple_base.specs.Field.{number_of, field_name, all_fields, has_field}
-use Rattle.marple_base.specs.declared.field.TheConstants.{FIELDS}
-use Rattle.stage_plan.specs.declared.op.Operand.{Operand}
-use Rattle.stage_plan.specs.declared.op.Operand.TheVariants.{Register, Number}
-use Rattle.stage_plan.specs.declared.op.PlanOp.{PlanOp}
-use Rattle.stage_plan.specs.Sound.{IsWithin}
+use Rattle.marple_laws.proofs.Words.{◌≡◌, ℕ, suc, ◌+◌, ◌^◌, ◌<◌, ◌≤◌, Bool, true, false, cond, List, [], ◌∷◌, length, refl, sym, ap, subst}
+use Rattle.marple_laws.proofs.Words.{◌∙◌, inl, inr, arith, Contains, All, codes, cases_lt, All-head, All-tail, Field, Switch, Qid, Uid}
+use Rattle.marple_laws.proofs.Words.{SrcIp, DstIp, SrcPort, DstPort, Proto, PktLen, PayloadLen, TcpSeq, Tin, Tout, QSize, FieldSet}
+use Rattle.marple_laws.proofs.Words.{number_of, field_name, all_fields, has_field, FIELDS, Operand, Register, Number, PlanOp, IsWithin}
+use Rattle.marple_laws.proofs.Words.{Made, word_named, nothing, AreFrom, IsKnown, fields_of, reads_line, line}
+use Rattle.std.specs.Prelude.{map, filter}
 use Rattle.plan_file.specs.declared.line_word.LineWord.TheVariants as lead
-use Rattle.plan_file.specs.declared.made.Made.{Made}
-use Rattle.plan_file.specs.LineWords.{word_named}
-use Rattle.plan_file.specs.Lines.{nothing}
-use Rattle.plan_file.specs.Operations.{AreFrom, IsKnown}
-use Rattle.plan_writer.specs.PlanText.{fields_of, reads_line}
-use Rattle.plan_writer.specs.Words.{line}
 use Rattle.marple_laws.proofs.GroupLines.{IsReadable, AreReadable}
 use Rattle.marple_laws.proofs.Listed.{IsIn}
 use Rattle.marple_laws.proofs.Known.{IsGood, AllGood}
@@ -75,7 +60,7 @@ number_there f (g ∷ fields) (inr h) = let c = number_there f fields h in (suc 
 
 from_less : (fields : List Field) (m n : ℕ) → m ≤ n → AreFrom n fields → AreFrom m fields
 from_less [] m n le h = tt
-from_less (f ∷ fields) m n le h = (omega (arith, le, h.0), h.1)
+from_less (f ∷ fields) m n le h = (omega arith, h.1)
 
 from_filter : (test : Field → Bool) (fields : List Field) (least : ℕ) → AreFrom least fields → AreFrom least (filter test fields)
 from_filter test [] least h = tt
@@ -98,19 +83,7 @@ all_ordered = (
           omega arith,
           (
             omega arith,
-            (
-              omega arith,
-              (
-                omega arith,
-                (
-                  omega arith,
-                  (
-                    omega arith,
-                    (omega arith, (omega arith, (omega arith, (omega arith, tt)))),
-                  ),
-                ),
-              ),
-            ),
+            (omega arith, (omega arith, (omega arith, (omega arith, (omega arith, (omega arith, (omega arith, (omega arith, tt)))))))),
           ),
         ),
       ),
@@ -120,19 +93,7 @@ all_ordered = (
 
 token_field : (f : Field) → is_token (field_name f) ≡ true
 token_field Switch = refl
-token_field Qid = refl
-token_field Uid = refl
-token_field SrcIp = refl
-token_field DstIp = refl
-token_field SrcPort = refl
-token_field DstPort = refl
-token_field Proto = refl
-token_field PktLen = refl
-token_field PayloadLen = refl
-token_field TcpSeq = refl
-token_field Tin = refl
-token_field Tout = refl
-token_field QSize = refl
+token_field _ = refl
 
 tokens_fields : (fields : List Field) → AreTokens (map field_name fields)
 tokens_fields [] = tt
@@ -181,14 +142,13 @@ operand_known reads ops (Register r) good inside = elim (cases_lt r FIELDS) [
 
 pub operand_fits : (reads : FieldSet) (n : ℕ) (o : Operand) → IsGood reads o → IsWithin n o → n < 2 ^ 64 → Fits o
 operand_fits reads n (Number m) good inside small = good
-operand_fits reads n (Register r) good inside small = omega (arith, inside, small)
+operand_fits reads n (Register r) good inside small = omega arith
 
 pub operand_readable : (reads : FieldSet) (ops : List PlanOp) (o : Operand) → IsGood reads o → IsWithin (FIELDS + length ops) o
     → length ops ≤ 32768 → IsReadable (fields_of reads) ops o
 operand_readable reads ops o good inside few = record {
   known = operand_known reads ops o good inside;
-  fits =
-      operand_fits reads (FIELDS + length ops) o good inside (omega (arith, few));
+  fits = operand_fits reads (FIELDS + length ops) o good inside (omega (arith, few));
 }
 
 pub operands_readable : (reads : FieldSet) (ops : List PlanOp) (operands : List Operand) → AllGood reads operands
@@ -196,6 +156,5 @@ pub operands_readable : (reads : FieldSet) (ops : List PlanOp) (operands : List 
 operands_readable reads ops [] good inside few = tt
 operands_readable reads ops (o ∷ operands) good inside few = (
   operand_readable reads ops o good.0 (All-head (IsWithin (FIELDS + length ops)) o operands inside) few,
-  operands_readable reads ops operands
-      good.1 (All-tail (IsWithin (FIELDS + length ops)) o operands inside) few,
+  operands_readable reads ops operands good.1 (All-tail (IsWithin (FIELDS + length ops)) o operands inside) few,
 )

@@ -1,35 +1,13 @@
 -- The lines of a group, decided.
-use Rattle.std.proofs.Common.{◌≡◌, ℕ, ◌≤◌, List, [], ◌∷◌, ◌++◌, length, map, Some, None, refl, sym, ap, ◌∙◌, subst, inl, inr}
-use Rattle.std.specs.Prelude.{◌⊎◌, codes, unwrap_or, Contains}
-use Rattle.std.proofs.lemmas.List.{length-replicate}
-use Rattle.marple_base.specs.declared.field.Field.{Field}
-use Rattle.query_lang.specs.Blocks.{Block}
-use Rattle.query_lang.specs.declared.fold.TypedFold.{TypedFold}
-use Rattle.query_lang.specs.declared.typed.Class.{Class}
-use Rattle.query_lang.specs.declared.typed.Class.TheVariants.{Linear}
-use Rattle.query_lang.specs.Folds.{block_count, block_nodes, fold_block}
-use Rattle.query_lang.specs.declared.fault.TheConstants.{MAX_ARGS, MAX_GROUPBYS, MAX_KEYS, MAX_NODES, MAX_STATEMENTS, MAX_STATES}
-use Rattle.fold_class.specs.Depth.{IsDepth, depth_of}
-use Rattle.fold_class.specs.Kinds.{class_of}
-use Rattle.fold_class.proofs.LawLemmas.{depth_found_is}
-use Rattle.stage_plan.specs.declared.op.Operand.{Operand}
-use Rattle.stage_plan.specs.declared.op.PlanOp.{PlanOp}
-use Rattle.stage_plan.specs.Shape.{class_word}
-use Rattle.plan_file.specs.declared.lexemes.Lexeme.{Lexeme}
-use Rattle.plan_file.specs.declared.line_word.LineWord.{LineWord}
+use Rattle.marple_laws.proofs.Words.{◌≡◌, ℕ, ◌≤◌, List, [], ◌∷◌, ◌++◌, length, map, Some, None, refl, sym, ap, ◌∙◌, subst, inl, inr, codes}
+use Rattle.marple_laws.proofs.Words.{unwrap_or, length-replicate, Field, Block, TypedFold, Class, Linear, block_count, block_nodes}
+use Rattle.marple_laws.proofs.Words.{fold_block, MAX_ARGS, MAX_GROUPBYS, MAX_KEYS, MAX_NODES, MAX_STATEMENTS, MAX_STATES, IsDepth, depth_of}
+use Rattle.marple_laws.proofs.Words.{class_of, depth_found_is, Operand, PlanOp, class_word, Lexeme, LineWord, Folded, Group, IsBody}
+use Rattle.marple_laws.proofs.Words.{IsBodyLine, AreBounds, IsFoldLine, IsFoldOf, IsFoldWords, lexeme_of, number, tokens, IsNamedNumber}
+use Rattle.marple_laws.proofs.Words.{IsNamedOperand, IsOneOperand, words_once, fold_in, block_written, bodies, stmts_same}
+use Rattle.std.specs.Prelude.{◌⊎◌, Contains}
 use Rattle.plan_file.specs.declared.line_word.LineWord.TheVariants as words
-use Rattle.plan_file.specs.declared.made.Folded.{Folded}
-use Rattle.plan_file.specs.declared.made.Group.{Group}
-use Rattle.plan_file.specs.Bodies.{IsBody, IsBodyLine}
-use Rattle.plan_file.specs.FoldLines.{AreBounds, IsFoldLine, IsFoldOf, IsFoldWords}
 use Rattle.plan_file.specs.Groups.{IsArgLine, IsGroupBody, IsGroupLine, IsInGroup, IsKeyLine, IsNewIn, IsStateLine, group_with, names_of}
-use Rattle.plan_file.specs.Lexemes.{lexeme_of}
-use Rattle.plan_file.specs.Lexis.{number, tokens}
-use Rattle.plan_file.specs.Named.{IsNamedNumber, IsNamedOperand, IsOneOperand}
-use Rattle.plan_file.proofs.SameFold.{words_once}
-use Rattle.plan_loader.specs.Meaning.{block_in, fold_in}
-use Rattle.plan_loader.specs.Reading.{block_written}
-use Rattle.plan_loader.proofs.BodyReading.{bodies, stmts_same}
 use Rattle.plan_loader.proofs.Folds.{blocks, classes, depths}
 use Rattle.marple_laws.proofs.BodyDecisions.{is_body}
 use Rattle.marple_laws.proofs.Decisions.{Decided, both, by_both, contains, is_empty, is_none, less, most, neither, none_some, same_number}
@@ -88,8 +66,7 @@ key_line fs ops before line = by (named_operand fs ops (codes "key") line)
             value = v;
             valid = valid;
             new = q.1.1.1;
-            made =
-                refl;
+            made = refl;
           },
         ))
         (λ p.
@@ -113,8 +90,7 @@ arg_line fs ops before line = by (one_operand fs ops (codes "arg") line)
             states = q.0.1;
             body = q.1.0;
             room = q.1.1;
-            value =
-                v;
+            value = v;
             valid = valid;
             made = refl;
           },
@@ -245,10 +221,7 @@ fold_words line = by (tokens line) refl
           (first, (p.0, class)),
           (
             (p.1, ap number depth ∙ p.4.depth_is),
-            (
-              (p.2, ap number nodes ∙ p.4.nodes_are),
-              (p.3, ap number statements ∙ p.4.statements_are),
-            ),
+            ((p.2, ap number nodes ∙ p.4.nodes_are), (p.3, ap number statements ∙ p.4.statements_are)),
           ),
         ))
         (both (both (same_text a (codes "fold")) (class_named c)) (both (number_of d) (both (number_of n) (number_of s))))
@@ -268,13 +241,13 @@ fold_is one ws b has is =
     let same : b ≡ fold_block (fold_in one) =
     sym (bodies.written (length group.initial) (length group.args) ws b is)
     ∙ ap (λ o. block_written (length group.initial) (unwrap_or o [])) (sym has)
-    ∙ sym (stmts_same (block_in group)) in
+    ∙ sym (stmts_same _) in
     record {
       words = ws;
       has_body = has;
       body = subst (IsBody (length group.initial) (length group.args) ws) same is;
-      states = length-replicate (length group.initial) 0;
-      args = length-replicate (length group.args) 0;
+      states = length-replicate _ 0;
+      args = length-replicate _ 0;
       initial = refl;
       emit = refl;
     }
@@ -294,8 +267,7 @@ ended before line class depth nodes statements valid ws b has is =
         fold = f;
         is_fold = of;
         class = q.0;
-        depth =
-            subst (IsDepth f) (sym q.1.0) (depth_found_is f);
+        depth = subst (IsDepth f) (sym q.1.0) (depth_found_is f);
         bounds = q.1.1;
         made = refl;
       },

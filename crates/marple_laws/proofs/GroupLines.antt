@@ -1,22 +1,10 @@
 -- The lines of a groupby are valid in sequence.
-use Rattle.std.proofs.Common.{◌≡◌, ℕ, ◌+◌, ◌<◌, ◌≤◌, true, List, [], ◌∷◌, ◌++◌, length, Some, None, Option, refl, subst, arith}
-use Rattle.std.proofs.Common.{append_assoc, append-nil, Contains}
-use Rattle.std.specs.Prelude.{flat_map, map, codes, decimal}
-use Rattle.std.proofs.lemmas.List.{length_push}
-use Rattle.marple_base.specs.declared.field.Field.{Field}
-use Rattle.query_lang.specs.declared.fault.TheConstants.{MAX_ARGS, MAX_STATES}
-use Rattle.plan_file.specs.declared.lexemes.Lexeme.{Lexeme}
+use Rattle.marple_laws.proofs.Words.{◌≡◌, ℕ, ◌+◌, ◌<◌, ◌≤◌, true, List, [], ◌∷◌, ◌++◌, length, Some, None, Option, refl, subst, arith}
+use Rattle.marple_laws.proofs.Words.{append_assoc, append-nil, Contains, flat_map, codes, decimal, length_push, Field, MAX_ARGS, MAX_STATES}
+use Rattle.marple_laws.proofs.Words.{Lexeme, Folded, Group, Made, Operand, PlanOp, word_named, IsKnown, named_lines, line, operand_word}
+use Rattle.marple_laws.proofs.Words.{AreNames, AreNew, AreNoKeys, AllWords}
+use Rattle.std.specs.Prelude.{map}
 use Rattle.plan_file.specs.declared.line_word.LineWord.TheVariants as lead
-use Rattle.plan_file.specs.declared.made.Folded.{Folded}
-use Rattle.plan_file.specs.declared.made.Group.{Group}
-use Rattle.plan_file.specs.declared.made.Made.{Made}
-use Rattle.stage_plan.specs.declared.op.Operand.{Operand}
-use Rattle.stage_plan.specs.declared.op.PlanOp.{PlanOp}
-use Rattle.plan_file.specs.LineWords.{word_named}
-use Rattle.plan_file.specs.Operations.{IsKnown}
-use Rattle.plan_writer.specs.PlanText.{named_lines}
-use Rattle.plan_writer.specs.Words.{line, operand_word}
-use Rattle.marple_laws.specs.WellNamed.{AreNames, AreNew, AreNoKeys, AllWords}
 use Rattle.marple_laws.proofs.Numbers.{number_decimal, token_decimal}
 use Rattle.marple_laws.proofs.OpLines.{Fits, operand_read, token_operand}
 use Rattle.marple_laws.proofs.Names.{token_name}
@@ -32,7 +20,7 @@ AreReadable fields ops [] = Unit {0}
 AreReadable fields ops (o ∷ operands) = IsReadable fields ops o × AreReadable fields ops operands
 
 none_in : (name : List ℕ) → Contains [] name → ⊥
-none_in name h = omega (arith, h.1)
+none_in name h = omega arith
 
 -- what lines make while a group's lines are read
 abbrev pub within : List Field → List PlanOp → List Folded → Group → Made
@@ -53,8 +41,7 @@ module _ (fields : List Field) (ops : List PlanOp) (groups : List Folded) (name 
         keys = keys;
         args = args;
         state_names = state_names;
-        initial =
-            initial;
+        initial = initial;
         body = body;
       }
 
@@ -67,9 +54,8 @@ module _ (fields : List Field) (ops : List PlanOp) (groups : List Folded) (name 
 
   pub keys_written : (before_names : List (List ℕ)) (before : List Operand) (names : List (List ℕ)) (values : List Operand)
       → length names ≡ length values → length before + length values ≤ MAX_STATES → AreNames names → AreNew before_names names
-      → AreReadable fields ops values →
-      IsWritten (named_lines (codes "key") names (map operand_word values)) (with_keys before_names before)
-      (with_keys (before_names ++ names) (before ++ values))
+      → AreReadable fields ops values → IsWritten (named_lines (codes "key") names (map operand_word values))
+      (with_keys before_names before) (with_keys (before_names ++ names) (before ++ values))
   keys_written bn b [] [] long few named new ok = nothing_written (with_keys bn b) (with_keys (bn ++ []) (b ++ []))
       (λ k. with_keys (append-nil bn k) (append-nil b k))
   keys_written bn b (n ∷ names) (v ∷ values) long few named new ok =
@@ -150,9 +136,8 @@ module _ (fields : List Field) (ops : List PlanOp) (groups : List Folded) (name 
 
       pub states_written : (before_names : List (List ℕ)) (before : List ℕ) (names : List (List ℕ)) (values : List ℕ)
           → length names ≡ length values → length before + length values ≤ MAX_STATES → AreNames names → AreNew before_names names
-          → AreNoKeys key_names names → AllWords values →
-          IsWritten (named_lines (codes "state") names (map decimal values)) (with_states before_names before)
-          (with_states (before_names ++ names) (before ++ values))
+          → AreNoKeys key_names names → AllWords values → IsWritten (named_lines (codes "state") names (map decimal values))
+          (with_states before_names before) (with_states (before_names ++ names) (before ++ values))
       states_written bn b [] [] long few named new apart ok = nothing_written (with_states bn b) (with_states (bn ++ []) (b ++ []))
           (λ k. with_states (append-nil bn k) (append-nil b k))
       states_written bn b (n ∷ names) (v ∷ values) long few named new apart ok =

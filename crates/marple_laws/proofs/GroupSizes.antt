@@ -1,27 +1,14 @@
 -- The greatest length of the lines of a plan's groupbys.
-use Rattle.std.proofs.Common.{◌≡◌, ℕ, zero, suc, ◌+◌, ◌*◌, ◌≤◌, Bool, true, false, List, [], ◌∷◌, ◌++◌, length, Option, Some, None, refl}
-use Rattle.std.proofs.Common.{subst, arith}
-use Rattle.std.specs.Prelude.{All, codes, decimal, flat_map, map, option_map, slice_get, if◌then◌else◌}
-use Rattle.std.specs.List.{cons_option, range_with_len}
+use Rattle.marple_laws.proofs.Words.{◌≡◌, ℕ, zero, suc, ◌+◌, ◌*◌, ◌≤◌, Bool, true, false, List, [], ◌∷◌, ◌++◌, length, Option, Some, None}
+use Rattle.marple_laws.proofs.Words.{refl, subst, arith, All, codes, decimal, flat_map, option_map, if◌then◌else◌, cons_option}
+use Rattle.marple_laws.proofs.Words.{range_with_len, same_Some, TypedFold, Class, TypedOp, TypedStream, IsValidFold, fold_args, fold_block}
+use Rattle.marple_laws.proofs.Words.{fold_states, Taking, taking_of, takings, AreValidStreams, IsValidOp, MAX_ARGS, MAX_KEYS, MAX_NODES}
+use Rattle.marple_laws.proofs.Words.{MAX_STATEMENTS, MAX_STATES, depth_of, least_from, GroupWiring, Operand, GroupShape, class_word}
+use Rattle.marple_laws.proofs.Words.{group_lines, named_lines, block_words, line, operand_word, AllWords}
+use Rattle.std.specs.Prelude.{map, slice_get}
 use Rattle.std.proofs.lemmas.List.{length-append}
-use Rattle.std.proofs.lemmas.Option.{same_Some}
-use Rattle.query_lang.specs.declared.fold.TypedFold.{TypedFold}
-use Rattle.query_lang.specs.declared.typed.Class.{Class}
 use Rattle.query_lang.specs.declared.typed.Class.TheVariants as class
-use Rattle.query_lang.specs.declared.typed.TypedOp.{TypedOp}
 use Rattle.query_lang.specs.declared.typed.TypedOp.TheVariants as typed
-use Rattle.query_lang.specs.declared.typed.TypedStream.{TypedStream}
-use Rattle.query_lang.specs.Folds.{IsValidFold, fold_args, fold_block, fold_states}
-use Rattle.query_lang.specs.Streams.{Taking, taking_of, takings}
-use Rattle.query_lang.specs.TypedQueries.{AreValidStreams, IsValidOp}
-use Rattle.query_lang.specs.declared.fault.TheConstants.{MAX_ARGS, MAX_KEYS, MAX_NODES, MAX_STATEMENTS, MAX_STATES}
-use Rattle.fold_class.specs.Depth.{depth_of, is_enough, least_from}
-use Rattle.stage_plan.specs.declared.group.GroupWiring.{GroupWiring}
-use Rattle.stage_plan.specs.declared.op.Operand.{Operand}
-use Rattle.stage_plan.specs.Shape.{GroupShape, class_word}
-use Rattle.plan_writer.specs.PlanText.{group_lines, named_lines}
-use Rattle.plan_writer.specs.Words.{block_words, line, operand_word}
-use Rattle.marple_laws.specs.WellNamed.{AllWords}
 use Rattle.marple_laws.proofs.OpLines.{Fits}
 use Rattle.marple_laws.proofs.LineSizes.{after_size, block_size, decimal_size, line_size, operand_size}
 use Rattle.marple_laws.proofs.NameSizes.{total}
@@ -152,11 +139,11 @@ group_size shape wiring f l =
 
 depth_below : (f : TypedFold) (tries d : ℕ) → least_from f tries d ≤ tries + d
 depth_below f zero d = omega arith
-depth_below f (suc tries) d = by (is_enough f d) (depth_below f tries (suc d))
+depth_below f (suc tries) d = by _ (depth_below f _ _)
   where
     by : (b : Bool) → least_from f tries (suc d) ≤ tries + suc d → (if b then d else least_from f tries (suc d)) ≤ suc tries + d
     by true h = omega arith
-    by false h = omega (arith, h)
+    by false h = omega arith
 
 pub shallow : (f : TypedFold) → IsValidFold f → depth_of f ≤ MAX_STATES
 shallow f v =
@@ -179,8 +166,7 @@ args_few folds number n valid e = by (slice_get folds number) refl e
         omega (arith, same, few)
 
 pub taking_few : (names : ℕ) (folds : List TypedFold) → All IsValidFold folds → (before streams : List TypedStream)
-    → AreValidStreams names folds before streams
-    → (i : ℕ) (t : Taking) → slice_get (takings streams) i ≡ Some t → length t.args ≤ MAX_ARGS
+    → AreValidStreams names folds before streams → (i : ℕ) (t : Taking) → slice_get (takings streams) i ≡ Some t → length t.args ≤ MAX_ARGS
 taking_few names folds valid before [] v i t e = absurd (no e)
   where
     no : None ≡ Some t → ⊥

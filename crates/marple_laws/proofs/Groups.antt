@@ -1,40 +1,20 @@
 -- All lines of a groupby, and of all groupbys.
-use Rattle.std.proofs.Common.{◌≡◌, ℕ, suc, ◌+◌, ◌^◌, ◌<◌, ◌≤◌, true, List, [], ◌∷◌, ◌++◌, length, Some, None, Option, refl, sym, ap, subst}
-use Rattle.std.proofs.Common.{◌∙◌, arith, append_assoc, append-nil, Contains}
-use Rattle.std.specs.Prelude.{flat_map, map, codes, decimal, slice_get}
-use Rattle.std.specs.List.{range_with_len}
-use Rattle.std.proofs.lemmas.List.{length_push}
-use Rattle.marple_base.specs.declared.field.Field.{Field}
-use Rattle.query_lang.specs.declared.fold.TypedFold.{TypedFold}
-use Rattle.query_lang.specs.declared.typed.Class.{Class}
-use Rattle.query_lang.specs.declared.typed.Class.TheVariants.{Linear}
-use Rattle.query_lang.specs.Folds.{IsValidFold, fold_block, fold_states, fold_args}
-use Rattle.query_lang.specs.declared.fault.TheConstants.{MAX_ARGS, MAX_GROUPBYS, MAX_KEYS}
-use Rattle.fold_class.specs.Depth.{IsDepth}
-use Rattle.fold_class.specs.Kinds.{class_of}
-use Rattle.stage_plan.specs.declared.group.GroupWiring.{GroupWiring}
-use Rattle.plan_file.specs.declared.lexemes.Lexeme.{Lexeme}
+use Rattle.marple_laws.proofs.Words.{◌≡◌, ℕ, suc, ◌+◌, ◌^◌, ◌<◌, ◌≤◌, true, List, [], ◌∷◌, ◌++◌, length, Some, None, Option, refl, sym, ap}
+use Rattle.marple_laws.proofs.Words.{subst, ◌∙◌, arith, append_assoc, append-nil, Contains, flat_map, codes, decimal, range_with_len}
+use Rattle.marple_laws.proofs.Words.{length_push, Field, TypedFold, Class, Linear, IsValidFold, fold_block, fold_states, fold_args}
+use Rattle.marple_laws.proofs.Words.{MAX_ARGS, MAX_GROUPBYS, MAX_KEYS, IsDepth, class_of, GroupWiring, Lexeme, Folded, Made, Operand}
+use Rattle.marple_laws.proofs.Words.{PlanOp, IsBody, written_block, is_name, word_named, folded_with, folded_of, group_lines}
+use Rattle.marple_laws.proofs.Words.{group_lines_of, GroupShape, class_word, line, operand_word, block_words, AreNames, AreNew, AreNoKeys}
+use Rattle.marple_laws.proofs.Words.{AllWords, class_same, depth_same}
+use Rattle.std.specs.Prelude.{map, slice_get}
 use Rattle.plan_file.specs.declared.line_word.LineWord.TheVariants as lead
-use Rattle.plan_file.specs.declared.made.Folded.{Folded}
-use Rattle.plan_file.specs.declared.made.Made.{Made}
-use Rattle.stage_plan.specs.declared.op.Operand.{Operand}
-use Rattle.stage_plan.specs.declared.op.PlanOp.{PlanOp}
-use Rattle.plan_file.specs.Bodies.{IsBody, written_block}
 use Rattle.plan_file.specs.Groups.{names_of}
-use Rattle.plan_file.specs.Lexis.{is_name}
-use Rattle.plan_file.specs.LineWords.{word_named}
-use Rattle.marple_laws.specs.MadeOf.{folded_with, folded_of}
-use Rattle.plan_writer.specs.PlanText.{group_lines, group_lines_of}
-use Rattle.stage_plan.specs.Shape.{GroupShape, class_word}
-use Rattle.plan_writer.specs.Words.{line, operand_word, block_words}
 use Rattle.marple_laws.proofs.Bodies.{tokens_block, block_read, few_braces}
 use Rattle.marple_laws.proofs.GroupLines.{IsReadable, AreReadable, within, outside, group_so_far, keys_written, args_written}
 use Rattle.marple_laws.proofs.GroupLines.{states_written}
-use Rattle.marple_laws.specs.WellNamed.{AreNames, AreNew, AreNoKeys, AllWords}
 use Rattle.marple_laws.proofs.Names.{token_name}
 use Rattle.marple_laws.proofs.Numbers.{number_decimal, token_decimal}
 use Rattle.marple_laws.proofs.OpLines.{operand_read, token_operand}
-use Rattle.plan_file.proofs.SameFold.{class_same, depth_same}
 use Rattle.marple_laws.proofs.Tokens.{is_token}
 use Rattle.marple_laws.proofs.Written.{IsWritten, nothing_written, written_then, line_written}
 
@@ -104,8 +84,7 @@ module _ (fields : List Field) (ops : List PlanOp) (groups : List Folded) (shape
             token = operand_word wiring.present;
             words = cut;
             named = ok.named;
-            reads =
-                operand_read wiring.present ok.present.fits;
+            reads = operand_read wiring.present ok.present.fits;
             known = ok.present.known;
           };
           no_stream = ok.no_stream;
@@ -119,7 +98,7 @@ module _ (fields : List Field) (ops : List PlanOp) (groups : List Folded) (shape
   states = fold_states f
 
   few : fold_states f + fold_args f < 2 ^ 64
-  few = omega (arith, ok.valid.states, ok.valid.args)
+  few = omega arith
 
   is_body : IsBody (length f.initial) (length wiring.args) (written_block (fold_states f) (fold_block f)) (fold_block f)
   is_body =
@@ -128,8 +107,7 @@ module _ (fields : List Field) (ops : List PlanOp) (groups : List Folded) (shape
       (record {
         statements = refl;
         typed = ok.valid.statements;
-        nesting =
-            omega (arith, few_braces (fold_block f), ok.valid.enough_statements, ok.valid.most_statements);
+        nesting = omega (arith, few_braces (fold_block f), ok.valid.enough_statements, ok.valid.most_statements);
       }))
 
   body_written : IsWritten (line (codes "body") (block_words (fold_states f) (fold_block f)))
@@ -170,9 +148,8 @@ module _ (fields : List Field) (ops : List PlanOp) (groups : List Folded) (shape
   quiet = record f { emit = None }
 
   bounds_written : IsWritten (line (codes "fold") (class_word shape.class ∷ decimal shape.depth ∷ decimal shape.nodes
-      ∷ decimal shape.statements ∷ []))
-      (so_far shape.key_names wiring.keys wiring.args shape.state_names f.initial (Some (written_block (fold_states f) (fold_block f))))
-      (outside fields ops (groups ++ folded_with shape wiring f ∷ []))
+      ∷ decimal shape.statements ∷ [])) (so_far shape.key_names wiring.keys wiring.args shape.state_names f.initial
+      (Some (written_block (fold_states f) (fold_block f)))) (outside fields ops (groups ++ folded_with shape wiring f ∷ []))
   unfolding quiet
   bounds_written =
       line_written lead.Fold (codes "fold") (class_word shape.class ∷ decimal shape.depth ∷ decimal shape.nodes ∷ decimal shape.statements
@@ -180,10 +157,7 @@ module _ (fields : List Field) (ops : List PlanOp) (groups : List Folded) (shape
       (so_far shape.key_names wiring.keys wiring.args shape.state_names f.initial (Some (written_block (fold_states f) (fold_block f))))
       (outside fields ops (groups ++ folded_with shape wiring f ∷ [])) refl (
         class_token shape.class,
-        (
-          token_decimal shape.depth ok.shallow,
-          (token_decimal shape.nodes nodes, (token_decimal shape.statements statements, tt)),
-        ),
+        (token_decimal shape.depth ok.shallow, (token_decimal shape.nodes nodes, (token_decimal shape.statements statements, tt))),
       ) fold_lead
       (λ cut. record {
         group = group_so_far fields ops groups shape.name wiring.present shape.key_names wiring.keys wiring.args shape.state_names f.initial
@@ -268,14 +242,12 @@ pub record HasGroup (fields : List Field) (ops : List PlanOp) (shape : GroupShap
 
 -- the lines of all groupbys
 pub groups_written : (fields : List Field) (ops : List PlanOp) (shapes : List GroupShape) (wirings : List GroupWiring)
-    (folds : ℕ → Option TypedFold) → length shapes ≤ MAX_GROUPBYS →
-    ((i : ℕ) (shape : GroupShape) → slice_get shapes i ≡ Some shape → HasGroup fields ops shape wirings folds i) →
-    (rest : List GroupShape) (i : ℕ) (groups : List Folded) → i + length rest ≡ length shapes → length groups ≡ i
-    → ((k : ℕ) → slice_get shapes (i + k) ≡ slice_get rest k) → AreNew (names_of groups) (map (λ s. s.name) rest) →
-    IsWritten (flat_map (λ i. group_lines_of (slice_get shapes i) (slice_get wirings i) (folds i)) (range_with_len i (length rest)))
-    (outside fields ops groups)
-    (outside fields ops (groups ++ flat_map (λ i. folded_of (slice_get shapes i) (slice_get wirings i) (folds i))
-    (range_with_len i (length rest))))
+    (folds : ℕ → Option TypedFold) → length shapes ≤ MAX_GROUPBYS → ((i : ℕ) (shape : GroupShape) → slice_get shapes i ≡ Some shape
+    → HasGroup fields ops shape wirings folds i) → (rest : List GroupShape) (i : ℕ) (groups : List Folded) → i + length rest ≡ length shapes
+    → length groups ≡ i → ((k : ℕ) → slice_get shapes (i + k) ≡ slice_get rest k) → AreNew (names_of groups) (map (λ s. s.name) rest)
+    → IsWritten (flat_map (λ i. group_lines_of (slice_get shapes i) (slice_get wirings i) (folds i)) (range_with_len i (length rest)))
+    (outside fields ops groups) (outside fields ops (groups ++ flat_map
+    (λ i. folded_of (slice_get shapes i) (slice_get wirings i) (folds i)) (range_with_len i (length rest))))
 groups_written fields ops shapes wirings folds most each [] i groups whole long are new =
     nothing_written (outside fields ops groups) (outside fields ops (groups ++ [])) (ap (outside fields ops) (append-nil groups))
 groups_written fields ops shapes wirings folds most each (shape ∷ rest) i groups whole long are new =

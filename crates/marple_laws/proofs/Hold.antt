@@ -1,20 +1,11 @@
 -- The query of an accepted text has a plan's text.
-use Rattle.std.proofs.Common.{◌≡◌, ℕ, ◌≤◌, List, [], length, Option, Some, None, Ok, refl, sym, ap, subst, arith}
-use Rattle.std.specs.Prelude.{codes, flat_map}
+use Rattle.marple_laws.proofs.Words.{◌≡◌, ℕ, ◌≤◌, List, [], length, Option, Some, None, Ok, refl, sym, ap, subst, arith, codes, flat_map}
+use Rattle.marple_laws.proofs.Words.{Query, TypedQuery, and_then, number_in, checked, typed_names, IsQueryOf, parsed_text, accepted, staged}
+use Rattle.marple_laws.proofs.Words.{unless_fault, parts, accepted_valid, accepted_starts, printed_group, AcceptedHavePlanTexts}
 use Rattle.query_lang.specs.declared.fault.QueryFault.{QueryFault}
-use Rattle.query_lang.specs.declared.query.Query.{Query}
-use Rattle.query_lang.specs.declared.typed.TypedQuery.{TypedQuery}
-use Rattle.query_lang.specs.Checks.{and_then}
-use Rattle.query_lang.specs.Names.{number_in}
-use Rattle.query_lang.specs.Typing.{checked, typed_names}
-use Rattle.query_grammar.specs.Texts.{IsQueryOf, parsed_text}
 use Rattle.query_laws.proofs.QueryLaws.{query_sound}
 use Rattle.query_laws.proofs.Steps.{found_first, same_ok}
 use Rattle.stage_plan.specs.Depths.{stage_fault}
-use Rattle.accepted_query.specs.Accepted.{accepted, staged, unless_fault}
-use Rattle.query_laws.proofs.Valid.{parts, accepted_valid, accepted_starts}
-use Rattle.marple_laws.specs.MadeOf.{printed_group}
-use Rattle.marple_laws.specs.AcceptedPlans.{AcceptedHavePlanTexts}
 use Rattle.marple_laws.proofs.Differ.{NamesDiffer}
 use Rattle.marple_laws.proofs.Lexical.{AreGood, cut_good, typed_good}
 use Rattle.marple_laws.proofs.NameSizes.{cut_total, total, typed_total}

@@ -1,12 +1,9 @@
 -- Items that are new after others, and checks in sequence.
-use Rattle.std.proofs.Common.{◌≡◌, ℕ, zero, suc, Bool, true, false, ◌||◌, List, [], ◌∷◌, ◌++◌, Some, Ok, Err, refl, sym, ap, subst, ◌∙◌}
-use Rattle.std.proofs.Common.{inl, inr, ◌⊎◌, arith, nat_eq, append_assoc, append-nil, Contains}
+use Rattle.marple_laws.proofs.Words.{◌≡◌, ℕ, zero, suc, Bool, true, false, ◌||◌, List, [], ◌∷◌, ◌++◌, Some, Ok, Err, refl, sym, ap, subst}
+use Rattle.marple_laws.proofs.Words.{◌∙◌, inl, inr, ◌⊎◌, arith, nat_eq, append_assoc, append-nil, Contains, nat_tests, Span, Checked}
+use Rattle.marple_laws.proofs.Words.{and_then, must, must_not, is_among, AreNew}
 use Rattle.std.specs.Prelude.{slice_get}
-use Rattle.std.proofs.lemmas.Bool.Decides.{nat_tests}
 use Rattle.query_lang.specs.declared.fault.FaultKind.{FaultKind}
-use Rattle.query_lang.specs.declared.fault.Span.{Span}
-use Rattle.query_lang.specs.Checks.{Checked, and_then, must, must_not, is_among}
-use Rattle.marple_laws.specs.WellNamed.{AreNew}
 use Rattle.marple_laws.proofs.Differ.{AreApart}
 
 pub must_ok : {A : Type 0} (test : Bool) (kind : FaultKind) (span : Span) (next : Checked A) (x : A) → must test kind span next ≡ Ok x
@@ -46,10 +43,7 @@ pub in_push : {A : Type 0} (xs : List A) (y x : A) → IsIn x (xs ++ y ∷ []) �
 in_push [] y x (inl e) = inr e
 in_push [] y x (inr h) = absurd h
 in_push (z ∷ xs) y x (inl e) = inl (inl e)
-in_push (z ∷ xs) y x (inr h) = elim (in_push xs y x h) [
-  | inl i ↦ inl (inr i)
-  | inr e ↦ inr e
-]
+in_push (z ∷ xs) y x (inr h) = elim (in_push xs y x h) [ inl i ↦ inl (inr i) | inr e ↦ inr e ]
 
 pub among_in : (names : List ℕ) (id : ℕ) → IsIn id names → is_among id names ≡ true
 among_in [] id h = absurd h
@@ -72,8 +66,7 @@ pub new_push : {A : Type 0} (before items : List A) (item : A) → AreNew before
 new_push before [] item new none = (λ c. none (subst (IsIn item) (sym (append-nil before)) (contains_in before item c)), tt)
 new_push before (one ∷ items) item new none = (
   new.0,
-  new_push (before ++ one ∷ []) items item new.1
-      (λ h. none (subst (IsIn item) (append_assoc before (one ∷ []) items) h)),
+  new_push (before ++ one ∷ []) items item new.1 (λ h. none (subst (IsIn item) (append_assoc before (one ∷ []) items) h)),
 )
 
 pub apart_from : (keys states : List ℕ) → ((s : ℕ) → IsIn s states → is_among s keys ≡ false) → AreApart keys states

@@ -1,24 +1,13 @@
 -- What holds of the operations of expressions: they read fields that the query names, numbers that fit a word, and constants where
 -- they have to.
-use Rattle.std.proofs.Common.{◌≡◌, ℕ, zero, suc, ◌+◌, ◌^◌, ◌<◌, true, List, [], ◌∷◌, ◌++◌, Some, None, refl, sym, subst, inl, arith}
+use Rattle.marple_laws.proofs.Words.{◌≡◌, ℕ, zero, suc, ◌^◌, ◌<◌, true, List, [], ◌∷◌, ◌++◌, Some, None, refl, sym, subst, inl, arith}
+use Rattle.marple_laws.proofs.Words.{nat_tests, Field, FieldSet, number_of, HasField, FIELDS, Op, Term, Literal, Read, Negation, Operation}
+use Rattle.marple_laws.proofs.Words.{IsValidTerm, IsConstant, TakesOperands, Operand, Register, Number, Not, Two, PlanOp, FieldSource}
+use Rattle.marple_laws.proofs.Words.{source_at, term_slots, is_right_of, takes_right}
 use Rattle.std.specs.Prelude.{map, slice_get}
-use Rattle.std.proofs.lemmas.Bool.Decides.{nat_tests}
-use Rattle.marple_base.specs.declared.field.Field.{Field}
-use Rattle.marple_base.specs.declared.field.FieldSet.{FieldSet}
-use Rattle.marple_base.specs.Field.{number_of, HasField}
-use Rattle.marple_base.specs.declared.field.TheConstants.{FIELDS}
-use Rattle.query_lang.specs.declared.fold.Op.{Op}
 use Rattle.query_lang.specs.declared.fold.Op.TheVariants as two
-use Rattle.query_lang.specs.Terms.{Term, Literal, Read, Negation, Operation}
-use Rattle.query_lang.specs.Folds.{IsValidTerm, IsConstant, TakesOperands}
-use Rattle.stage_plan.specs.declared.op.Operand.{Operand}
-use Rattle.stage_plan.specs.declared.op.Operand.TheVariants.{Register, Number}
 use Rattle.stage_plan.specs.declared.op.Operation as operation
-use Rattle.stage_plan.specs.declared.op.Operation.TheVariants.{Not, Two}
-use Rattle.stage_plan.specs.declared.op.PlanOp.{PlanOp}
-use Rattle.stage_plan.specs.Fields.{FieldSource, source_at, term_slots}
 use Rattle.stage_plan.specs.Making.{Compiled, compiled, op_on, with_op, operand_at}
-use Rattle.plan_file.specs.Operations.{is_right_of, takes_right}
 use Rattle.marple_laws.proofs.Listed.{IsIn', in_left', in_right'}
 
 -- an operand that is allowed: a field that is read, another register, or a number that fits a word
@@ -111,8 +100,7 @@ pub columns_good : (reads : FieldSet) (sources : List FieldSource) (columns : Li
 columns_good reads sources columns [] h named = tt
 columns_good reads sources columns (slot ∷ slots) h named = (
   column_good reads sources columns slot h named.0,
-  columns_good reads sources
-      columns slots h named.1,
+  columns_good reads sources columns slots h named.1,
 )
 
 pub good_append : (reads : FieldSet) (xs ys : List Operand) → AllGood reads xs → AllGood reads ys → AllGood reads (xs ++ ys)

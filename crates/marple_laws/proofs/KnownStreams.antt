@@ -1,32 +1,16 @@
 -- What holds of all operations of a query, stream by stream.
-use Rattle.std.proofs.Common.{◌≡◌, ℕ, zero, suc, ◌+◌, ◌^◌, ◌<◌, ◌≤◌, List, [], ◌∷◌, ◌++◌, length, Some, None, Option, refl, sym, ap, subst}
-use Rattle.std.proofs.Common.{◌∙◌, inl, inr, arith, append-nil, append_assoc, IfSome}
-use Rattle.std.specs.Prelude.{All, map, flat_map, filter_map, fold, slice_get}
-use Rattle.std.specs.List.{cons_option}
-use Rattle.std.proofs.lemmas.Bool.{cases_lt, cases_eq}
-use Rattle.std.proofs.lemmas.List.{length_push}
-use Rattle.std.proofs.lemmas.List.Elements.{All-head, All-tail}
-use Rattle.marple_base.specs.declared.field.Field.{Field}
-use Rattle.marple_base.specs.declared.field.FieldSet.{FieldSet}
-use Rattle.marple_base.specs.Field.{HasField, field_set}
+use Rattle.marple_laws.proofs.Words.{◌≡◌, ℕ, zero, suc, ◌+◌, ◌^◌, ◌<◌, ◌≤◌, List, [], ◌∷◌, ◌++◌, length, Some, None, Option, refl, sym, ap}
+use Rattle.marple_laws.proofs.Words.{subst, ◌∙◌, inl, inr, arith, append-nil, append_assoc, IfSome, All, flat_map, filter_map, fold}
+use Rattle.marple_laws.proofs.Words.{cons_option, cases_lt, cases_eq, length_push, All-head, All-tail, Field, FieldSet, HasField, field_set}
+use Rattle.marple_laws.proofs.Words.{TypedExpr, TypedFold, TypedOp, TypedStream, Term, term_of, IsValidTerm, IsValidFold, IsValidEmit}
+use Rattle.marple_laws.proofs.Words.{fold_states, fold_args, AreValidStreams, IsValidOp, IsValidWord, stream_width, Operand, Number, Two}
+use Rattle.marple_laws.proofs.Words.{PlanOp, FieldSource, source_at, sources_at, packet_sources, sources_made, term_slots, named_fields}
+use Rattle.marple_laws.proofs.Words.{named_slots, named_input, AllWords}
+use Rattle.std.specs.Prelude.{map, slice_get}
 use Rattle.query_lang.specs.declared.fold.Op.TheVariants as two
-use Rattle.query_lang.specs.declared.fold.TypedExpr.{TypedExpr}
-use Rattle.query_lang.specs.declared.fold.TypedFold.{TypedFold}
-use Rattle.query_lang.specs.declared.typed.TypedOp.{TypedOp}
 use Rattle.query_lang.specs.declared.typed.TypedOp.TheVariants.{Filter, Map, Zip, Group}
-use Rattle.query_lang.specs.declared.typed.TypedStream.{TypedStream}
-use Rattle.query_lang.specs.Terms.{Term, term_of}
-use Rattle.query_lang.specs.Folds.{IsValidTerm, IsValidFold, IsValidEmit, fold_states, fold_args}
-use Rattle.query_lang.specs.TypedQueries.{AreValidStreams, IsValidOp, IsValidWord, stream_width}
-use Rattle.stage_plan.specs.declared.op.Operand.{Operand}
-use Rattle.stage_plan.specs.declared.op.Operand.TheVariants.{Number}
-use Rattle.stage_plan.specs.declared.op.Operation.TheVariants.{Two}
-use Rattle.stage_plan.specs.declared.op.PlanOp.{PlanOp}
-use Rattle.stage_plan.specs.Fields.{FieldSource, source_at, sources_at, packet_sources, sources_made, term_slots, named_fields, named_slots}
-use Rattle.stage_plan.specs.Fields.{named_input}
 use Rattle.stage_plan.specs.Making.{Made, AllMade, compiled, compiled_all, operand_at, wires_at, packet_wires, made_join, conditioned}
 use Rattle.stage_plan.specs.Making.{emit_columns, made_emit, made_group, made_by, all_made}
-use Rattle.marple_laws.specs.WellNamed.{AllWords}
 use Rattle.stage_plan.proofs.StreamRows.{at_earlier, at_last, at_past}
 use Rattle.marple_laws.proofs.Listed.{IsIn', IsIn, in_left, in_right, in_set}
 use Rattle.marple_laws.proofs.Known.{IsGood, AreWritable, AreFrom, AreRead, read_left, read_right, below_two, from_at, column_good, AllGood}
@@ -88,11 +72,9 @@ record AreMapped (reads : FieldSet) (sources : List FieldSource) (ops : List Pla
   are : AreFrom reads sources values
 
 mapped_good : (reads : FieldSet) (sources : List FieldSource) (columns : List Operand) (slots : ℕ) (values : List TypedExpr)
-    (ss : List FieldSource)
-    (found : List Operand) (ops : List PlanOp) →
-    AreFrom reads sources columns → AreFrom reads ss found → All (IsValidWord slots) values
-    → AreRead reads sources (flat_map (λ e. term_slots (term_of e)) values) → AreWritable reads ops →
-    AreMapped reads (ss ++ map (λ _. None) values) (compiled_all columns found (map term_of values) ops).ops
+    (ss : List FieldSource) (found : List Operand) (ops : List PlanOp) → AreFrom reads sources columns → AreFrom reads ss found
+    → All (IsValidWord slots) values → AreRead reads sources (flat_map (λ e. term_slots (term_of e)) values) → AreWritable reads ops
+    → AreMapped reads (ss ++ map (λ _. None) values) (compiled_all columns found (map term_of values) ops).ops
     (compiled_all columns found (map term_of values) ops).values
 mapped_good reads sources columns slots [] ss found ops from made v named w =
     record { written = w; are = subst (λ l. AreFrom reads l found) (sym (append-nil ss)) made }
@@ -117,10 +99,9 @@ numbers_good reads [] h = tt
 numbers_good reads (n ∷ numbers) h = (h.0, numbers_good reads numbers h.1)
 
 emitted_good : (reads : FieldSet) (sources : List FieldSource) (o : Option TypedExpr) (states args : ℕ) (over : List Operand)
-    (input : Wires)
-    (keys : List Operand) (ops : List PlanOp) →
-    IfSome o (λ e. IsValidEmit states args (term_of e)) → AllGood reads over → IsGood reads input.present → AreFrom reads sources keys
-    → AreWritable reads ops → IsMadeGood reads sources (made_emit o over input keys ops)
+    (input : Wires) (keys : List Operand) (ops : List PlanOp) → IfSome o (λ e. IsValidEmit states args (term_of e)) → AllGood reads over
+    → IsGood reads input.present → AreFrom reads sources keys → AreWritable reads ops
+    → IsMadeGood reads sources (made_emit o over input keys ops)
 emitted_good reads sources None states args over input keys ops v good p from w =
     record { written = w; stream = record { present = below_two 0 refl; columns = from } }
 emitted_good reads sources (Some e) states args over input keys ops v good p from w =
@@ -132,10 +113,9 @@ abbrev pub AreFit : List TypedFold → Type 0
 AreFit folds = (i : ℕ) (f : TypedFold) → slice_get folds i ≡ Some f → IsValidFold f × AllWords f.initial
 
 grouped_good : (reads : FieldSet) (sources : List FieldSource) (o : Option TypedFold) (input : Wires) (keys args : List ℕ)
-    (ops : List PlanOp) →
-    ((f : TypedFold) → o ≡ Some f → IsValidFold f × AllWords f.initial) → IsStream reads sources input
-    → AreRead reads sources (keys ++ args) → AreWritable reads ops →
-    IsMadeGood reads (map (source_at sources) keys) (made_group o input keys args ops)
+    (ops : List PlanOp) → ((f : TypedFold) → o ≡ Some f → IsValidFold f × AllWords f.initial) → IsStream reads sources input
+    → AreRead reads sources (keys ++ args) → AreWritable reads ops → IsMadeGood reads (map (source_at sources) keys)
+    (made_group o input keys args ops)
 grouped_good reads sources None input keys args ops fit s named w =
     record { written = w; stream = record { present = below_two 0 refl; columns = from_picked reads sources input.columns keys s.columns } }
 grouped_good reads sources (Some f) input keys args ops fit s named w =
@@ -150,10 +130,9 @@ abbrev pub AreStreams : FieldSet → List (List FieldSource) → List Wires → 
 AreStreams reads sources streams = (j : ℕ) → IsStream reads (sources_at sources j) (wires_at streams j)
 
 made_good : (reads : FieldSet) (folds : List TypedFold) (before : List TypedStream) (width : ℕ) (sources : List (List FieldSource))
-    (streams : List Wires) (op : TypedOp) (ops : List PlanOp) →
-    AreFit folds → IsValidOp folds before width op → AreStreams reads sources streams
-    → AreRead reads (sources_at sources (named_input op)) (named_slots op) → AreWritable reads ops →
-    IsMadeGood reads (sources_made sources op) (made_by folds streams op ops)
+    (streams : List Wires) (op : TypedOp) (ops : List PlanOp) → AreFit folds → IsValidOp folds before width op
+    → AreStreams reads sources streams → AreRead reads (sources_at sources (named_input op)) (named_slots op) → AreWritable reads ops
+    → IsMadeGood reads (sources_made sources op) (made_by folds streams op ops)
 made_good reads folds before width sources streams (Filter input condition) ops fit v all named w =
     let s = all input in
     conditioned_good reads (sources_at sources input) (wires_at streams input).columns (stream_width before input) (term_of condition) ops
@@ -178,9 +157,7 @@ made_good reads folds before width sources streams (Group input keys f args) ops
 input_before : (folds : List TypedFold) (before : List TypedStream) (width : ℕ) (op : TypedOp) → IsValidOp folds before width op
     → named_input op ≤ length before
 input_before folds before width (Filter input condition) v = v.0
-input_before folds before width (Map input values) v = v.0
-input_before folds before width (Zip left right slots) v = v.0
-input_before folds before width (Group input keys f args) v = v.0
+input_before folds before width _ v = v.0
 
 -- one more stream
 more_streams : (reads : FieldSet) (sources : List (List FieldSource)) (streams : List Wires) (made : List FieldSource) (wires : Wires)
@@ -238,8 +215,7 @@ all_good reads folds names before (one ∷ list) ops streams sources fit v few l
     let within : named_input one.op < length sources = omega (
       arith,
       few,
-      input_before folds before (length one.columns) one.op
-          v.0.operator,
+      input_before folds before (length one.columns) one.op v.0.operator,
     ) in
     let kept = kept_sources (one ∷ list) sources (named_input one.op) within in
     let m = made_good reads folds before (length one.columns) sources streams one.op ops fit v.0.operator all
@@ -255,8 +231,7 @@ read_from : (reads : FieldSet) (sources : List FieldSource) (slots : List ℕ)
     → ((f : Field) → IsIn f (filter_map (source_at sources) slots) → HasField reads f) → AreRead reads sources slots
 read_from reads sources [] h = tt
 read_from reads sources (slot ∷ slots) h = (
-  λ f e. h f (subst (λ o. IsIn f (cons_option o (filter_map (source_at sources) slots))) (sym e)
-      (inl refl)),
+  λ f e. h f (subst (λ o. IsIn f (cons_option o (filter_map (source_at sources) slots))) (sym e) (inl refl)),
   read_from reads sources slots (λ f i. h f (later f (source_at sources slot) i)),
 )
   where

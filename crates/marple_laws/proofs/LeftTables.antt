@@ -1,41 +1,27 @@
 -- The tables of a pipeline with entries for folds, by the machines that it represents.
-use Rattle.std.proofs.Common.{◌≡◌, ℕ, ◌<◌, List, map, ap, sym, subst, ◌∙◌, arith}
+use Rattle.marple_laws.proofs.Words.{◌≡◌, ℕ, ◌<◌, List, map, ap, sym, subst, ◌∙◌, arith, Setting, Geometry, HasRoom, Machine, Table, Made}
+use Rattle.marple_laws.proofs.Words.{plan_output, plan_tables, TypedQuery, geometry_of, group_tables, query_text, AreLanesOf}
+use Rattle.marple_laws.proofs.Words.{PipelineStands, PipelineView, folding_at, end_machines, words_of}
 use Rattle.std.specs.Prelude.{Ok}
 use Rattle.command_line.specs.Command.{IsSetting, ways_number}
-use Rattle.command_line.specs.declared.setting.Setting.{Setting}
 use Rattle.command_line.specs.declared.setting.Ways.{Ways}
-use Rattle.command_line.specs.declared.setting.Ways.TheVariants.{One, Two, Four, Eight, Sixteen, ThirtyTwo}
+use Rattle.command_line.specs.declared.setting.Ways.TheVariants.{One}
 use Rattle.epoch_entry.specs.declared.purpose.Entries.TheVariants.{Folds}
-use Rattle.epoch_model.specs.Epochs.{Geometry}
-use Rattle.epoch_model.specs.Laws.{HasRoom}
-use Rattle.epoch_model.specs.Machine.{Machine}
-use Rattle.final_queries.specs.declared.table.Table.{Table}
-use Rattle.plan_file.specs.declared.made.Made.{Made}
-use Rattle.plan_loader.specs.Meaning.{plan_output, plan_tables}
 use Rattle.plan_loader.proofs.SoundMade.{says_sound}
-use Rattle.query_lang.specs.declared.typed.TypedQuery.{TypedQuery}
 use Rattle.query_laws.specs.ValidLaws.{AcceptedAreValid}
-use Rattle.query_run.specs.Driven.{geometry_of}
 use Rattle.query_run.specs.PlanReports.{EndsAreTheTexts, numbered_print}
 use Rattle.query_run.specs.QueryReports.{query_print}
 use Rattle.query_run.specs.Runs.{EndsAreTheQuerys, query_ends}
-use Rattle.query_tables.specs.Tables.{group_tables, query_text}
-use Rattle.switch_core.specs.PlanLanes.{AreLanesOf, PipelineStands, PipelineView, folding_at}
 use Rattle.switch_core.specs.Pipelines.{tables_of}
-use Rattle.trace_drive.specs.Drives.{end_machines, words_of}
 use Rattle.marple_cli.specs.Driven.{StandsForEnd}
 use Rattle.marple_laws.specs.Left.{AreTablesOfPlan, AreTablesOfQuery, words_for}
 
 some_ways : (ways : Ways) → 0 < ways_number ways
 some_ways One = omega arith
-some_ways Two = omega arith
-some_ways Four = omega arith
-some_ways Eight = omega arith
-some_ways Sixteen = omega arith
-some_ways ThirtyTwo = omega arith
+some_ways _ = omega arith
 
 has_room : (setting : Setting) → IsSetting setting → HasRoom (geometry_of setting)
-has_room setting is = (omega (arith, is.some_buckets), some_ways setting.ways)
+has_room setting is = (omega arith, some_ways _)
 
 query_printed : (q : TypedQuery) (g : Geometry) (list : List (List ℕ)) (tables : List Table) → tables ≡ group_tables q g list
     → query_print q tables ≡ query_text q g list

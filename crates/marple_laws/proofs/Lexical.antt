@@ -1,30 +1,18 @@
 -- The names of a text are names by the rule of names, and no two of them are the same.
-use Rattle.std.proofs.Common.{◌≡◌, ℕ, zero, suc, ◌+◌, Bool, true, false, cond, ◌||◌, List, [], ◌∷◌, ◌++◌, length, take, drop, slice_get}
-use Rattle.std.proofs.Common.{Option, Some, None, Ok, Err, refl, sym, ap, subst, ◌∙◌, arith, inl, inr, ◌⊎◌, add-one, add_comm}
-use Rattle.std.specs.Prelude.{nat_eq, codes, not, ◌&&◌, is_none}
-use Rattle.std.specs.List.{list_any, list_all, prefix_len}
-use Rattle.std.specs.Str.{bytes_eq}
-use Rattle.std.specs.Str.Parse.{digits_value}
-use Rattle.std.proofs.lemmas.Bool.Decides.{nat_tests}
-use Rattle.std.proofs.lemmas.List.Folds.{length-prefix_len}
-use Rattle.std.proofs.lemmas.Option.{same_Some}
+use Rattle.marple_laws.proofs.Words.{◌≡◌, ℕ, zero, suc, ◌+◌, Bool, true, false, cond, ◌||◌, List, [], ◌∷◌, ◌++◌, length, take, drop}
+use Rattle.marple_laws.proofs.Words.{slice_get, Option, Some, None, Ok, Err, refl, sym, ap, subst, ◌∙◌, arith, inl, inr, ◌⊎◌, add-one}
+use Rattle.marple_laws.proofs.Words.{add_comm, codes, is_none, list_any, list_all, prefix_len, bytes_eq, digits_value, length-prefix_len}
+use Rattle.marple_laws.proofs.Words.{same_Some, Field, Switch, all_fields, field_name, Piece, Token, AreOnce, number_in, with_name}
+use Rattle.marple_laws.proofs.Words.{typed_names, with_fields, is_name}
+use Rattle.std.specs.Prelude.{nat_eq, not, ◌&&◌}
 use Rattle.std.proofs.lemmas.Slice.Eq.{bytes_eq-Decides}
-use Rattle.marple_base.specs.declared.field.Field.{Field}
-use Rattle.marple_base.specs.declared.field.Field.TheVariants.{Switch, Qid, Uid, SrcIp, DstIp, SrcPort, DstPort, Proto, PktLen, PayloadLen}
-use Rattle.marple_base.specs.declared.field.Field.TheVariants.{TcpSeq, Tin, Tout, QSize}
-use Rattle.marple_base.specs.Field.{all_fields, field_name}
 use Rattle.query_lang.proofs.NameFacts.{has_number}
 use Rattle.query_lang.specs.declared.token.Mark.{Mark}
-use Rattle.query_lang.specs.declared.token.Piece.{Piece}
 use Rattle.query_lang.specs.declared.token.Piece.TheVariants as pieces
-use Rattle.query_lang.specs.declared.token.Token.{Token}
 use Rattle.query_lang.specs.declared.token.TokenKind.TheVariants as kinds
 use Rattle.query_lang.specs.declared.token.Word.{Word}
 use Rattle.query_lang.specs.Lexis.{Cut, below_limit, cut, cut_piece, is_blank, is_digit, is_word_byte, mark_at, name_piece, number_piece}
 use Rattle.query_lang.specs.Lexis.{one_mark, piece, piece_of_mark, reserved, token_at, two_mark, with_front, word_piece}
-use Rattle.query_lang.specs.Names.{AreOnce, number_in, with_name}
-use Rattle.query_lang.specs.Typing.{typed_names, with_fields}
-use Rattle.plan_file.specs.Lexis.{is_name}
 use Rattle.marple_laws.proofs.Tokens.{both_are}
 
 -- ---- names, in sequence
@@ -49,10 +37,7 @@ at_push : (names : List (List ℕ)) (text : List ℕ) (i : ℕ) (t : List ℕ) �
 at_push [] text zero t h = inr (refl, same_Some text t h)
 at_push [] text (suc i) t h = cc
 at_push (n ∷ names) text zero t h = inl h
-at_push (n ∷ names) text (suc i) t h = elim (at_push names text i t h) [
-  | inl old ↦ inl old
-  | inr new ↦ inr (omega (arith, new.0), new.1)
-]
+at_push (n ∷ names) text (suc i) t h = elim (at_push names text i t h) [ inl old ↦ inl old | inr new ↦ inr (omega (arith, new.0), new.1) ]
 
 pushed : (names : List (List ℕ)) (text : List ℕ) → AreGood names → is_name text ≡ true → list_any (bytes_eq text) names ≡ false
     → AreGood (names ++ text ∷ [])
@@ -85,8 +70,7 @@ pub number_at : (names : List (List ℕ)) (i : ℕ) (text : List ℕ) → AreOnc
 number_at names i text once h = once (number_in names text) i text (there (list_any (bytes_eq text) names) refl (has_number names text)) h
   where
     there : (b : Bool) → list_any (bytes_eq text) names ≡ b → slice_get (cond b names (names ++ text ∷ [])) (number_in names text) ≡ Some
-        text
-        → slice_get names (number_in names text) ≡ Some text
+        text → slice_get names (number_in names text) ≡ Some text
     there true e k = k
     there false e k = absurd (absent names text i e h)
 
@@ -95,19 +79,7 @@ number_at names i text once h = once (number_in names text) i text (there (list_
 field_lexical : (f : Field) → is_name (field_name f) ≡ true
 unfolding reserved
 field_lexical Switch = refl
-field_lexical Qid = refl
-field_lexical Uid = refl
-field_lexical SrcIp = refl
-field_lexical DstIp = refl
-field_lexical SrcPort = refl
-field_lexical DstPort = refl
-field_lexical Proto = refl
-field_lexical PktLen = refl
-field_lexical PayloadLen = refl
-field_lexical TcpSeq = refl
-field_lexical Tin = refl
-field_lexical Tout = refl
-field_lexical QSize = refl
+field_lexical _ = refl
 
 fields_good : (fields : List Field) (names : List (List ℕ)) → AreGood names → AreGood (with_fields names fields)
 fields_good [] names good = good
@@ -168,10 +140,10 @@ first_byte b bytes e =
     ∙ ap (λ n. take n (b ∷ bytes)) (add_comm 1 (prefix_len is_word_byte bytes) ∙ add-one (prefix_len is_word_byte bytes))
 
 no_digit : (b : ℕ) (bytes : List ℕ) → nat_eq (prefix_len is_digit (b ∷ bytes)) 0 ≡ true → is_digit b ≡ false
-no_digit b bytes e = go (is_digit b) refl e
+no_digit b bytes e = go _ refl e
   where
     go : (t : Bool) → is_digit b ≡ t → nat_eq (cond t (1 + prefix_len is_digit bytes) 0) 0 ≡ true → is_digit b ≡ false
-    go true h e = let wrong : 1 + prefix_len is_digit bytes ≡ 0 = grind (arith, nat_tests) in absurd (omega (arith, wrong))
+    go true h e = let wrong : 1 + prefix_len is_digit bytes ≡ 0 = grind arith in absurd (omega arith)
     go false h e = h
 
 name_word : (b : ℕ) (bytes word : List ℕ) → word ≡ b ∷ take (prefix_len is_word_byte bytes) bytes → list_all is_word_byte word ≡ true
@@ -207,7 +179,7 @@ same_found : (a b : Pair) → ◌≡◌ {A = Cut} (Ok a) (Ok b) → a ≡ b
 same_found a b e = cc
 
 of_front : (t : Token) (o : Cut) (found : Pair) → ((got : Pair) → o ≡ Ok got → AreGood got.1) → with_front t o ≡ Ok found → AreGood found.1
-of_front t (Ok got) found h e = subst (λ (p : Pair). AreGood p.1) (same_found (t ∷ got.0, got.1) found e) (h got refl)
+of_front t (Ok got) found h e = subst (λ (p : Pair). AreGood p.1) (same_found _ found e) (h got refl)
 of_front t (Err fault) found h e = absurd cc
 
 of_cut_piece : (p : Piece) (at : ℕ) (known : List (List ℕ)) (bytes : List ℕ) (next : ℕ → List (List ℕ) → Cut) (found : Pair) → AreGood known
@@ -223,7 +195,7 @@ of_cut_piece (pieces.Fault kind n) at known bytes next found good is h e = absur
 
 of_end : (at : ℕ) (known : List (List ℕ)) (found : Pair) → AreGood known
     → ◌≡◌ {A = Cut} (Ok (token_at kinds.End at at ∷ [], known)) (Ok found) → AreGood found.1
-of_end at known found good e = subst (λ (p : Pair). AreGood p.1) (same_found (token_at kinds.End at at ∷ [], known) found e) good
+of_end at known found good e = subst (λ (p : Pair). AreGood p.1) (same_found _ found e) good
 
 pub cut_good : (n at : ℕ) (known : List (List ℕ)) (bytes : List ℕ) (found : Pair) → AreGood known → cut n at known bytes ≡ Ok found
     → AreGood found.1

@@ -51,3 +51,4 @@ pub mod TextSize
 pub mod Hold
 pub mod PlanOf
 pub mod Accepted
+pub mod Words

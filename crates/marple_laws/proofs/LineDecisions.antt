@@ -1,18 +1,10 @@
 -- Whether a line is valid after the lines before it is decided.
-use Rattle.std.proofs.Common.{◌≡◌, ℕ, ◌<◌, true, List, [], ◌∷◌, ◌++◌, length, Some, None, refl, sym, ap, ◌∙◌, subst, inl, inr}
-use Rattle.std.specs.Prelude.{◌⊎◌, codes, Contains}
-use Rattle.marple_base.specs.declared.field.Field.{Field}
-use Rattle.plan_file.specs.declared.line_word.LineWord.{LineWord}
+use Rattle.marple_laws.proofs.Words.{◌≡◌, ℕ, ◌<◌, true, List, [], ◌∷◌, ◌++◌, length, Some, None, refl, sym, ap, ◌∙◌, subst, inl, inr, codes}
+use Rattle.marple_laws.proofs.Words.{Field, LineWord, Group, Made, IsFoldLine, number, tokens, IsFirst, IsFold, IsGroup, IsLineOf, IsOp}
+use Rattle.marple_laws.proofs.Words.{IsPart, IsPrint, IsReads, IsValidAfter, line_word, IsOneNumber, IsOpLine}
+use Rattle.std.specs.Prelude.{◌⊎◌, Contains}
 use Rattle.plan_file.specs.declared.line_word.LineWord.TheVariants as words
-use Rattle.plan_file.specs.declared.made.Group.{Group}
-use Rattle.plan_file.specs.declared.made.Made.{Made}
-use Rattle.plan_file.specs.FoldLines.{IsFoldLine}
 use Rattle.plan_file.specs.Groups.{IsGroupLine, IsInGroup}
-use Rattle.plan_file.specs.Lexis.{number, tokens}
-use Rattle.plan_file.specs.Lines.{IsFirst, IsFold, IsGroup, IsLineOf, IsOp, IsPart, IsPrint, IsReads, IsValidAfter}
-use Rattle.plan_file.specs.LineWords.{line_word}
-use Rattle.plan_file.specs.Named.{IsOneNumber}
-use Rattle.plan_file.specs.Operations.{IsOpLine}
 use Rattle.marple_laws.proofs.Decisions.{Decided, both, by_both, contains, is_empty, is_false, is_none, is_true, less, neither, none_some}
 use Rattle.marple_laws.proofs.Decisions.{same_number, same_texts, some_same, value_of}
 use Rattle.marple_laws.proofs.GroupDecisions.{fold_line, group_line, in_group}
@@ -32,8 +24,7 @@ reads before line =
         second = q.1.0;
         fields = q.1.1.0;
         valid = q.1.1.1;
-        made =
-            refl;
+        made = refl;
       },
     ))
     (λ p. (p.1.begun, (p.1.second, (p.1.fields, p.1.valid))))
@@ -48,18 +39,13 @@ op before line = by (value_of before.reads)
         by_both
         (λ q. (
           record before { ops = before.ops ++ q.1.1.0 ∷ [] },
-          record
-              { fields = fs; reads = is; groups = q.0; current = q.1.0; op = q.1.1.0; valid = q.1.1.1; made = refl },
+          record { fields = fs; reads = is; groups = q.0; current = q.1.0; op = q.1.1.0; valid = q.1.1.1; made = refl },
         ))
         (λ p. (
           p.1.groups,
           (
             p.1.current,
-            (
-              p.1.op,
-              subst (λ f. IsOpLine f before.ops line p.1.op)
-                  (some_same before.reads p.1.fields fs p.1.reads is) p.1.valid,
-            ),
+            (p.1.op, subst (λ f. IsOpLine f before.ops line p.1.op) (some_same before.reads p.1.fields fs p.1.reads is) p.1.valid),
           ),
         ))
         (both (is_empty before.groups) (both (is_none before.current) (op_line fs before.ops line)))
@@ -78,8 +64,7 @@ group before line = by (value_of before.reads)
             reads = is;
             current = q.0;
             prints = q.1.0;
-            group =
-                q.1.1.0;
+            group = q.1.1.0;
             valid = q.1.1.1;
             made = refl;
           },
@@ -114,8 +99,7 @@ part word before line = by (value_of before.reads) (value_of before.current)
             group = g;
             current = has;
             next = q.0;
-            valid =
-                q.1;
+            valid = q.1;
             made = refl;
           },
         ))
@@ -136,8 +120,7 @@ fold before line = by (value_of before.current)
         by_both
         (λ q. (
           record before { groups = before.groups ++ q.0 ∷ []; current = None },
-          record
-              { group = g; current = has; folded = q.0; valid = q.1; made = refl },
+          record { group = g; current = has; folded = q.0; valid = q.1; made = refl },
         ))
         (λ p. (p.1.folded, subst (λ x. IsFoldLine x line p.1.folded) (some_same before.current p.1.group g p.1.current has) p.1.valid))
         (fold_line g line)
@@ -157,17 +140,12 @@ print before line = by (one_number (codes "print") line)
         by_both
         (λ q. (
           record before { prints = before.prints ++ n ∷ [] },
-          record
-              { current = q.0; group = n; valid = valid; there = q.1.0; new = q.1.1; made = refl },
+          record { current = q.0; group = n; valid = valid; there = q.1.0; new = q.1.1; made = refl },
         ))
         (λ p.
         let same = number_same p.1.group n p.1.valid valid in (
           p.1.current,
-          (
-            subst (λ i. i < length before.groups) same p.1.there,
-            λ there. p.1.new
-                (subst (Contains before.prints) (sym same) there),
-          ),
+          (subst (λ i. i < length before.groups) same p.1.there, λ there. p.1.new (subst (Contains before.prints) (sym same) there)),
         ))
         (both (is_none before.current) (both (less n (length before.groups)) (neither (contains same_number before.prints n))))
 

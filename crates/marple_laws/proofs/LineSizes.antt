@@ -1,22 +1,13 @@
 -- The greatest length of the lines of a plan's text.
-use Rattle.std.proofs.Common.{◌≡◌, ℕ, ◌+◌, ◌-◌, ◌*◌, ◌^◌, ◌<◌, ◌≤◌, Bool, true, false, List, [], ◌∷◌, ◌++◌, length, ap, ◌∙◌, arith}
-use Rattle.std.specs.Prelude.{codes, decimal, nat_lt, if◌then◌else◌}
-use Rattle.std.proofs.lemmas.Fmt.{length-decimal-le}
-use Rattle.std.proofs.lemmas.Grind.{flat_map-append}
+use Rattle.marple_laws.proofs.Words.{◌≡◌, ℕ, ◌+◌, ◌-◌, ◌*◌, ◌^◌, ◌<◌, ◌≤◌, Bool, true, false, List, [], ◌∷◌, ◌++◌, length, ap, ◌∙◌, arith}
+use Rattle.marple_laws.proofs.Words.{codes, decimal, if◌then◌else◌, length-decimal-le, flat_map-append, Op, Block, End, Set, Fork}
+use Rattle.marple_laws.proofs.Words.{IsValidBlock, IsValidTerm, block_count, block_nodes, term_nodes, Term, Literal, Read, Negation}
+use Rattle.marple_laws.proofs.Words.{Operation, Operand, Register, Number, Not, Two, PlanOp, op_line, spaced, block_words, function_word}
+use Rattle.marple_laws.proofs.Words.{line, number_word, operand_word, operation_words, slot_word, state_word, term_words}
+use Rattle.std.specs.Prelude.{nat_lt}
 use Rattle.std.proofs.lemmas.List.{length-append}
-use Rattle.query_lang.specs.declared.fold.Op.{Op}
 use Rattle.query_lang.specs.declared.fold.Op.TheVariants as ops
-use Rattle.query_lang.specs.Blocks.{Block, End, Set, Fork}
-use Rattle.query_lang.specs.Folds.{IsValidBlock, IsValidTerm, block_count, block_nodes, term_nodes}
-use Rattle.query_lang.specs.Terms.{Term, Literal, Read, Negation, Operation}
-use Rattle.stage_plan.specs.declared.op.Operand.{Operand}
-use Rattle.stage_plan.specs.declared.op.Operand.TheVariants.{Register, Number}
 use Rattle.stage_plan.specs.declared.op.Operation as operation
-use Rattle.stage_plan.specs.declared.op.Operation.TheVariants.{Not, Two}
-use Rattle.stage_plan.specs.declared.op.PlanOp.{PlanOp}
-use Rattle.plan_writer.specs.PlanText.{op_line}
-use Rattle.plan_writer.specs.Words.{spaced, block_words, function_word, line, number_word, operand_word, operation_words, slot_word}
-use Rattle.plan_writer.specs.Words.{state_word, term_words}
 use Rattle.marple_laws.proofs.OpLines.{Fits}
 
 pub after_size : (word : List ℕ) (words : List (List ℕ)) → length (spaced (word ∷ words)) ≡ length word + length (spaced words) + 1
@@ -32,38 +23,18 @@ line_size first words =
     omega (arith, a, b)
 
 pub decimal_size : (n : ℕ) → n < 2 ^ 64 → length (decimal n) ≤ 20
-decimal_size n small = length-decimal-le 20 n (omega arith) (omega (arith, small)) small
+decimal_size n small = length-decimal-le 20 n (omega arith) (omega arith) small
 
 pub short_decimal : (n : ℕ) → n < 100 → length (decimal n) ≤ 2
-short_decimal n small = length-decimal-le 2 n (omega arith) (omega (arith, small)) (omega (arith, small))
+short_decimal n small = length-decimal-le 2 n (omega arith) (omega arith) (omega arith)
 
 pub operand_size : (o : Operand) → Fits o → length (operand_word o) ≤ 21
-operand_size (Register r) fits = let d = decimal_size r fits in omega (arith, d)
-operand_size (Number n) fits = let d = decimal_size n fits in omega (arith, d)
+operand_size (Register r) fits = let d = decimal_size r fits in omega arith
+operand_size (Number n) fits = let d = decimal_size n fits in omega arith
 
 function_size : (op : Op) → length (function_word op) ≤ 6
 function_size ops.Mul = omega arith
-function_size ops.Div = omega arith
-function_size ops.Rem = omega arith
-function_size ops.Add = omega arith
-function_size ops.Sub = omega arith
-function_size ops.Shl = omega arith
-function_size ops.Shr = omega arith
-function_size ops.And = omega arith
-function_size ops.Xor = omega arith
-function_size ops.Or = omega arith
-function_size ops.Eq = omega arith
-function_size ops.Ne = omega arith
-function_size ops.Lt = omega arith
-function_size ops.Le = omega arith
-function_size ops.Gt = omega arith
-function_size ops.Ge = omega arith
-function_size ops.Both = omega arith
-function_size ops.Either = omega arith
-function_size ops.Max = omega arith
-function_size ops.Min = omega arith
-function_size ops.Sadd = omega arith
-function_size ops.Decay = omega arith
+function_size _ = omega arith
 
 operation_size : (op : operation.Operation) (left right : Operand) → Fits left → Fits right
     → length (spaced (operation_words op left right)) ≤ 51
@@ -92,7 +63,7 @@ op_size one stage l r =
 -- ---- the statements of a fold
 
 state_size : (v : ℕ) → v < 2 ^ 64 → length (state_word v) ≤ 21
-state_size v small = let d = decimal_size v small in omega (arith, d)
+state_size v small = let d = decimal_size v small in omega arith
 
 slot_size : (states s : ℕ) → s < 2 ^ 64 → length (slot_word states s) ≤ 21
 slot_size states s small = go (nat_lt s states)

@@ -1,12 +1,7 @@
 -- The slots and the fields of a list; the fields are in their set.
-use Rattle.std.proofs.Common.{◌≡◌, ℕ, ◌+◌, ◌^◌, List, [], ◌∷◌, ◌++◌, ap, ◌∙◌, inl, inr, ◌⊎◌, arith, bit_or}
-use Rattle.std.specs.Prelude.{fold}
-use Rattle.std.proofs.lemmas.Bool.Decides.{nat_tests}
+use Rattle.marple_laws.proofs.Words.{◌≡◌, ℕ, ◌^◌, List, [], ◌∷◌, ◌++◌, ap, ◌∙◌, inl, inr, ◌⊎◌, arith, bit_or, fold, nat_tests, bit_at}
+use Rattle.marple_laws.proofs.Words.{Field, FieldSet, number_of, HasField, no_fields, with_field, field_set}
 use Rattle.std.proofs.lemmas.Nat.Bits.{bit_at_or, bit_at-pow_same, bit_at-lt}
-use Rattle.std.specs.Int.{bit_at}
-use Rattle.marple_base.specs.declared.field.Field.{Field}
-use Rattle.marple_base.specs.declared.field.FieldSet.{FieldSet}
-use Rattle.marple_base.specs.Field.{number_of, HasField, no_fields, with_field, field_set}
 
 -- a slot of a list
 abbrev pub IsIn' : ℕ → List ℕ → Type 0

@@ -1,18 +1,10 @@
 -- It still holds where the operations are put into the order of their stages.
-use Rattle.std.proofs.Common.{◌≡◌, ℕ, ◌-◌, ◌≤◌, Bool, true, false, List, Some, None, Option, refl, ap, arith}
-use Rattle.std.specs.Prelude.{nat_lt, slice_get, if◌then◌else◌}
-use Rattle.marple_base.specs.declared.field.FieldSet.{FieldSet}
-use Rattle.marple_base.specs.declared.field.TheConstants.{FIELDS}
-use Rattle.query_lang.specs.declared.fold.Op.{Op}
+use Rattle.marple_laws.proofs.Words.{◌≡◌, ℕ, ◌-◌, ◌≤◌, Bool, true, false, List, Some, None, Option, refl, ap, arith, if◌then◌else◌}
+use Rattle.marple_laws.proofs.Words.{FieldSet, FIELDS, Op, Operation, Operand, Register, Number, Not, Two, PlanOp, moved, moved_op}
+use Rattle.marple_laws.proofs.Words.{register_or_none, is_right_of, takes_right}
+use Rattle.std.specs.Prelude.{nat_lt, slice_get}
 use Rattle.query_lang.specs.declared.fold.Op.TheVariants as two
-use Rattle.query_lang.specs.Terms.{Operation}
-use Rattle.stage_plan.specs.declared.op.Operand.{Operand}
-use Rattle.stage_plan.specs.declared.op.Operand.TheVariants.{Register, Number}
 use Rattle.stage_plan.specs.declared.op.Operation as operation
-use Rattle.stage_plan.specs.declared.op.Operation.TheVariants.{Not, Two}
-use Rattle.stage_plan.specs.declared.op.PlanOp.{PlanOp}
-use Rattle.stage_plan.specs.Ordering.{moved, moved_op, register_or_none}
-use Rattle.plan_file.specs.Operations.{is_right_of, takes_right}
 use Rattle.marple_laws.proofs.Known.{IsGood, IsSingle, IsWritable, below_two}
 
 -- what is moved with the registers of operations

@@ -1,26 +1,13 @@
 -- The total length of the names of a text.
-use Rattle.std.proofs.Common.{◌≡◌, ℕ, zero, suc, ◌+◌, ◌*◌, ◌<◌, ◌≤◌, Bool, true, false, cond, List, [], ◌∷◌, ◌++◌, length, take, drop}
-use Rattle.std.proofs.Common.{Option, Some, None, Ok, Err, refl, sym, ap, subst, ◌∙◌, inl, inr, arith}
-use Rattle.std.specs.Prelude.{All, map, slice_get}
-use Rattle.std.specs.List.{cons_option, list_any}
-use Rattle.std.specs.Str.{bytes_eq}
-use Rattle.std.proofs.lemmas.List.{length-drop, length-take}
-use Rattle.marple_base.specs.declared.field.Field.{Field}
-use Rattle.marple_base.specs.declared.field.Field.TheVariants.{Switch, Qid, Uid, SrcIp, DstIp, SrcPort, DstPort, Proto, PktLen, PayloadLen}
-use Rattle.marple_base.specs.declared.field.Field.TheVariants.{TcpSeq, Tin, Tout, QSize}
-use Rattle.marple_base.specs.Field.{all_fields, field_name}
-use Rattle.query_lang.specs.declared.fold.TypedFold.{TypedFold}
-use Rattle.query_lang.specs.declared.token.Piece.{Piece}
+use Rattle.marple_laws.proofs.Words.{◌≡◌, ℕ, zero, suc, ◌+◌, ◌*◌, ◌<◌, ◌≤◌, Bool, true, false, cond, List, [], ◌∷◌, ◌++◌, length, take}
+use Rattle.marple_laws.proofs.Words.{drop, Option, Some, None, Ok, Err, refl, sym, ap, subst, ◌∙◌, inl, inr, arith, All, cons_option}
+use Rattle.marple_laws.proofs.Words.{list_any, bytes_eq, length-drop, length-take, Field, Switch, all_fields, field_name, TypedFold, Piece}
+use Rattle.marple_laws.proofs.Words.{Token, TypedStream, number_in, with_name, typed_names, with_fields, AreValidStreams, GroupShape}
+use Rattle.marple_laws.proofs.Words.{shape_made, text_at, AreNew, AreNoKeys, IsNamedWell}
+use Rattle.std.specs.Prelude.{map, slice_get}
 use Rattle.query_lang.specs.declared.token.Piece.TheVariants as pieces
-use Rattle.query_lang.specs.declared.token.Token.{Token}
 use Rattle.query_lang.specs.declared.token.TokenKind.TheVariants as kinds
-use Rattle.query_lang.specs.declared.typed.TypedStream.{TypedStream}
 use Rattle.query_lang.specs.Lexis.{Cut, cut, cut_piece, piece, token_at, with_front}
-use Rattle.query_lang.specs.Names.{number_in, with_name}
-use Rattle.query_lang.specs.Typing.{typed_names, with_fields}
-use Rattle.query_lang.specs.TypedQueries.{AreValidStreams}
-use Rattle.stage_plan.specs.Shape.{GroupShape, shape_made, text_at}
-use Rattle.marple_laws.specs.WellNamed.{AreNew, AreNoKeys, IsNamedWell}
 use Rattle.marple_laws.proofs.Items.{IsIn, in_at}
 use Rattle.marple_laws.proofs.Queries.{in_last}
 use Rattle.marple_laws.proofs.Texts.{covers_all, groups_of, in_contains, name_of, new_apart, text_there}
@@ -46,10 +33,7 @@ without f [] x h = absurd h
 without f (y ∷ ys) x (inl e) = record {
   left = ys;
   sum = ap (λ z. f z + weigh f ys) (sym e);
-  keeps = λ z i no. elim i [
-    | inl here ↦ absurd (no (here ∙ sym e))
-    | inr more ↦ more
-  ];
+  keeps = λ z i no. elim i [ inl here ↦ absurd (no (here ∙ sym e)) | inr more ↦ more ];
 }
 without f (y ∷ ys) x (inr h) =
     let r = without f ys x h in
@@ -57,10 +41,7 @@ without f (y ∷ ys) x (inr h) =
     record {
       left = y ∷ r.left;
       sum = omega (arith, s);
-      keeps = λ z i no. elim i [
-        | inl here ↦ inl here
-        | inr more ↦ inr (r.keeps z more no)
-      ];
+      keeps = λ z i no. elim i [ inl here ↦ inl here | inr more ↦ inr (r.keeps z more no) ];
     }
 
 -- what is left of a list without some of its items, no two of them the same
@@ -124,8 +105,7 @@ group_names_in names folds (one ∷ rest) earlier v t i =
     by (Some s) e (inr h) more = more h
 
 pub group_names_total : (names : List (List ℕ)) (folds : List TypedFold) (streams : List TypedStream)
-    → AreValidStreams (length names) folds [] streams
-    → AreNew [] (map (λ shape. shape.name) (groups_of names folds streams))
+    → AreValidStreams (length names) folds [] streams → AreNew [] (map (λ shape. shape.name) (groups_of names folds streams))
     → total (map (λ shape. shape.name) (groups_of names folds streams)) ≤ total names
 group_names_total names folds streams v new =
     let t = taken length (map (λ (shape : GroupShape). shape.name) (groups_of names folds streams)) names [] new
@@ -148,19 +128,7 @@ with_total names text = go (list_any (bytes_eq text) names)
 
 pub field_size : (f : Field) → length (field_name f) ≤ 11
 field_size Switch = omega arith
-field_size Qid = omega arith
-field_size Uid = omega arith
-field_size SrcIp = omega arith
-field_size DstIp = omega arith
-field_size SrcPort = omega arith
-field_size DstPort = omega arith
-field_size Proto = omega arith
-field_size PktLen = omega arith
-field_size PayloadLen = omega arith
-field_size TcpSeq = omega arith
-field_size Tin = omega arith
-field_size Tout = omega arith
-field_size QSize = omega arith
+field_size _ = omega arith
 
 fields_total : (fields : List Field) (names : List (List ℕ)) → total (with_fields names fields) ≤ total names + 11 * length fields
 fields_total [] names = omega arith
@@ -187,7 +155,7 @@ cut_apart n bytes =
 
 of_front : (t : Token) (o : Cut) (found : Pair) (most : ℕ) → ((got : Pair) → o ≡ Ok got → total got.1 ≤ most) → with_front t o ≡ Ok found
     → total found.1 ≤ most
-of_front t (Ok got) found most h e = subst (λ (p : Pair). total p.1 ≤ most) (same_found (t ∷ got.0, got.1) found e) (h got refl)
+of_front t (Ok got) found most h e = subst (λ (p : Pair). total p.1 ≤ most) (same_found _ found e) (h got refl)
 of_front t (Err fault) found most h e = absurd cc
 
 of_cut_piece : (p : Piece) (at : ℕ) (known : List (List ℕ)) (bytes : List ℕ) (next : ℕ → List (List ℕ) → Cut) (found : Pair)
@@ -212,10 +180,8 @@ of_cut_piece (pieces.Token kind n) at known bytes next found h e =
 of_cut_piece (pieces.Fault kind n) at known bytes next found h e = absurd cc
 
 of_end : (at : ℕ) (known : List (List ℕ)) (bytes : List ℕ) (found : Pair)
-    → ◌≡◌ {A = Cut} (Ok (token_at kinds.End at at ∷ [], known)) (Ok found)
-    → total found.1 ≤ total known + length bytes
-of_end at known bytes found e =
-    subst (λ (p : Pair). total p.1 ≤ total known + length bytes) (same_found (token_at kinds.End at at ∷ [], known) found e) (omega arith)
+    → ◌≡◌ {A = Cut} (Ok (token_at kinds.End at at ∷ [], known)) (Ok found) → total found.1 ≤ total known + length bytes
+of_end at known bytes found e = subst (λ (p : Pair). total p.1 ≤ total known + length bytes) (same_found _ found e) (omega arith)
 
 pub cut_total : (n at : ℕ) (known : List (List ℕ)) (bytes : List ℕ) (found : Pair) → cut n at known bytes ≡ Ok found
     → total found.1 ≤ total known + length bytes

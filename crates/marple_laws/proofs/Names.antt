@@ -1,10 +1,8 @@
 -- Names are tokens.
-use Rattle.std.proofs.Common.{◌≡◌, ℕ, Bool, true, false, List, [], ◌∷◌, refl, ap, subst, arith}
-use Rattle.std.specs.Prelude.{not, ◌&&◌, ◌==◌, is_none}
-use Rattle.std.specs.List.{list_all}
-use Rattle.std.proofs.lemmas.Bool.Decides.{nat_tests}
+use Rattle.marple_laws.proofs.Words.{◌≡◌, ℕ, Bool, true, false, List, [], ◌∷◌, refl, ap, subst, arith, ◌==◌, is_none, list_all, nat_tests}
+use Rattle.marple_laws.proofs.Words.{is_name}
+use Rattle.std.specs.Prelude.{not, ◌&&◌}
 use Rattle.query_lang.specs.Lexis.{is_digit, is_word_byte, reserved}
-use Rattle.plan_file.specs.Lexis.{is_name}
 use Rattle.marple_laws.proofs.Tokens.{both_true, both_are, is_plain, is_token}
 
 plain_byte : (b : ℕ) → is_word_byte b ≡ true → is_plain b ≡ true

@@ -1,5 +1,5 @@
 -- Inputs and sinks that never fail have no fault.
-use Rattle.std.proofs.Common.{inl, inr, arith}
+use Rattle.marple_laws.proofs.Words.{inl, inr, arith}
 use Rattle.marple_base.specs.Faults.{Rose}
 use Rattle.marple_base.specs.Sound.{sound_input}
 use Rattle.marple_base.specs.declared.inputs.Which.{Which}
@@ -7,8 +7,8 @@ use Rattle.marple_base.specs.declared.inputs.Which.TheVariants.{Query, Trace}
 use Rattle.marple_base.specs.declared.sound.SoundInputs.{SoundInputs}
 
 pub never_rose : Rose 0 0 → ⊥
-never_rose (inl less) = omega (arith, less)
-never_rose (inr last) = omega (arith, last)
+never_rose (inl less) = omega arith
+never_rose (inr last) = omega arith
 
 pub no_input_fault : (before after : SoundInputs) (which : Which) → Rose (sound_input before which).faults (sound_input after which).faults
     → ⊥

@@ -1,29 +1,23 @@
 -- Numbers that are written are read again.
-use Rattle.std.proofs.Common.{◌≡◌, ℕ, ◌^◌, ◌<◌, ◌≤◌, Bool, true, false, List, [], ◌∷◌, length, get_or, Some, None, refl, ap, ◌∙◌, inl, inr}
-use Rattle.std.proofs.Common.{arith}
-use Rattle.std.specs.Prelude.{decimal, not, nat_lt, if◌then◌else◌, ◌==◌}
-use Rattle.std.specs.List.{list_all}
-use Rattle.std.specs.Str.Parse.{AllDigits, digits_value}
-use Rattle.std.proofs.lemmas.Bool.{cases_lt}
-use Rattle.std.proofs.lemmas.Bool.Decides.{nat_tests}
-use Rattle.std.proofs.lemmas.Fmt.{decimal_is_IsNumeral, decimal_digit, first_decimal}
-use Rattle.std.proofs.lemmas.Str.Parse.{digit_from_value}
+use Rattle.marple_laws.proofs.Words.{◌≡◌, ℕ, ◌^◌, ◌<◌, ◌≤◌, Bool, true, false, List, [], ◌∷◌, length, get_or, Some, None, refl, ap, ◌∙◌}
+use Rattle.marple_laws.proofs.Words.{inl, inr, arith, decimal, if◌then◌else◌, ◌==◌, list_all, AllDigits, digits_value, cases_lt, nat_tests}
+use Rattle.marple_laws.proofs.Words.{decimal_is_IsNumeral, decimal_digit, first_decimal, digit_from_value, is_first_digit, number}
+use Rattle.std.specs.Prelude.{not, nat_lt}
 use Rattle.query_lang.specs.Lexis.{below_limit, is_digit}
-use Rattle.plan_file.specs.Lexis.{is_first_digit, number}
 use Rattle.marple_laws.proofs.Tokens.{both_are, is_plain, is_token}
 
 -- a decimal digit, which is neither a space nor LF
 digit_in : (c : ℕ) → 48 ≤ c → c ≤ 57 → is_digit c ≡ true
 digit_in c low high =
-    let a : nat_lt c 58 ≡ true = grind (arith, nat_tests) in
-    let b : nat_lt c 48 ≡ false = grind (arith, nat_tests) in
-    both_are (nat_lt c 58) (if nat_lt c 48 then false else true) a (ap (λ t. if t then false else true) b)
+    let a : nat_lt c 58 ≡ true = grind arith in
+    let b : nat_lt c 48 ≡ false = grind arith in
+    both_are _ _ a (ap (λ t. if t then false else true) b)
 
 plain_digit : (c : ℕ) → 48 ≤ c → is_plain c ≡ true
 plain_digit c low =
-    let a : (c == 32) ≡ false = grind (arith, nat_tests) in
-    let b : (c == 10) ≡ false = grind (arith, nat_tests) in
-    both_are (not (c == 32)) (not (c == 10)) (ap not a) (ap not b)
+    let a : (c == 32) ≡ false = grind arith in
+    let b : (c == 10) ≡ false = grind arith in
+    both_are _ _ (ap not a) (ap not b)
 
 digits_are : (ds : List ℕ) → AllDigits 10 ds → list_all is_digit ds ≡ true
 digits_are [] d = refl

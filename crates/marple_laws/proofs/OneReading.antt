@@ -1,11 +1,7 @@
 -- A text has one reading alone.
-use Rattle.std.proofs.Common.{Some, ap}
+use Rattle.marple_laws.proofs.Words.{Some, ap, same_Some, makes_one, not_refused, says_one, TextsAreReadOnce}
 use Rattle.std.specs.Prelude.{Ok, Err}
-use Rattle.std.proofs.lemmas.Option.{same_Some}
-use Rattle.plan_file.proofs.LineLaws.{makes_one}
-use Rattle.plan_file.proofs.TextLaws.{not_refused, says_one}
 use Rattle.plan_loader.proofs.OneFault.{one_fault}
-use Rattle.marple_laws.specs.Readings.{TextsAreReadOnce}
 
 pub read_once : TextsAreReadOnce
 read_once text (Ok a) (Ok b) p q = ap Ok (says_one makes_one text a b p q)

@@ -1,21 +1,11 @@
 -- The lines of operations are valid in sequence.
-use Rattle.std.proofs.Common.{◌≡◌, ℕ, ◌^◌, ◌<◌, true, List, [], ◌∷◌, ◌++◌, length, take, Some, None, refl, sym, ap, subst, ◌∙◌}
-use Rattle.std.proofs.Common.{append_assoc, append-nil}
-use Rattle.std.specs.Prelude.{flat_map, codes, decimal, slice_get}
-use Rattle.std.proofs.lemmas.List.{take_at}
-use Rattle.marple_base.specs.declared.field.Field.{Field}
+use Rattle.marple_laws.proofs.Words.{◌≡◌, ℕ, ◌^◌, ◌<◌, true, List, [], ◌∷◌, ◌++◌, length, take, Some, None, refl, sym, ap, subst, ◌∙◌}
+use Rattle.marple_laws.proofs.Words.{append_assoc, append-nil, flat_map, codes, decimal, take_at, Field, Made, Operand, Register, Number}
+use Rattle.marple_laws.proofs.Words.{Not, Two, PlanOp, word_named, function_named, operand, either_operand, op_words, not_of, two_of}
+use Rattle.marple_laws.proofs.Words.{IsAllowed, op_line, operand_word, operation_words, function_word}
+use Rattle.std.specs.Prelude.{slice_get}
 use Rattle.plan_file.specs.declared.line_word.LineWord.TheVariants as lead
-use Rattle.plan_file.specs.declared.made.Made.{Made}
-use Rattle.stage_plan.specs.declared.op.Operand.{Operand}
-use Rattle.stage_plan.specs.declared.op.Operand.TheVariants.{Register, Number}
 use Rattle.stage_plan.specs.declared.op.Operation as operation
-use Rattle.stage_plan.specs.declared.op.Operation.TheVariants.{Not, Two}
-use Rattle.stage_plan.specs.declared.op.PlanOp.{PlanOp}
-use Rattle.plan_file.specs.LineWords.{word_named}
-use Rattle.plan_file.specs.Lexis.{function_named}
-use Rattle.plan_file.specs.Operations.{operand, either_operand, op_words, not_of, two_of, IsAllowed}
-use Rattle.plan_writer.specs.PlanText.{op_line}
-use Rattle.plan_writer.specs.Words.{operand_word, operation_words, function_word}
 use Rattle.marple_laws.proofs.Bodies.{function_read, token_function}
 use Rattle.marple_laws.proofs.Known.{IsSingle}
 use Rattle.marple_laws.proofs.Numbers.{number_decimal, token_decimal, token_marked}
@@ -84,8 +74,7 @@ op_written fields before one ok =
       op = one;
       valid = record {
         words = ap op_words cut ∙ op_read one.stage one.op one.left one.right ok.stage ok.left ok.right ok.single;
-        allowed =
-            ok.allowed;
+        allowed = ok.allowed;
       };
       made = refl;
     })

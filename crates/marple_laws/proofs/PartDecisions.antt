@@ -1,18 +1,11 @@
 -- The parts of lines, decided.
-use Rattle.std.proofs.Common.{◌≡◌, ℕ, ◌+◌, ◌≤◌, max, List, [], ◌∷◌, length, map, Some, None, refl, sym, ap, ap₂, ◌∙◌, subst, inl, inr}
-use Rattle.std.specs.Prelude.{◌⊎◌, codes}
-use Rattle.marple_base.specs.declared.field.Field.{Field}
+use Rattle.marple_laws.proofs.Words.{◌≡◌, ℕ, ◌+◌, ◌≤◌, max, List, [], ◌∷◌, length, map, Some, None, refl, sym, ap, ap₂, ◌∙◌, subst, inl}
+use Rattle.marple_laws.proofs.Words.{inr, codes, Field, all_fields, field_name, number_of, FIELDS, MAX_STAGES, Operand, Register, Number}
+use Rattle.marple_laws.proofs.Words.{PlanOp, is_name, number, tokens, IsNamedNumber, IsNamedOperand, IsOneNumber, IsOneOperand, AreFrom}
+use Rattle.marple_laws.proofs.Words.{IsAllowed, IsKnown, IsOpLine, IsReadsLine, IsStaged, is_right_of, last_stage, op_words, operand}
+use Rattle.marple_laws.proofs.Words.{stage_of}
+use Rattle.std.specs.Prelude.{◌⊎◌}
 use Rattle.marple_base.specs.declared.field.Field.TheVariants as fields
-use Rattle.marple_base.specs.Field.{all_fields, field_name, number_of}
-use Rattle.marple_base.specs.declared.field.TheConstants.{FIELDS}
-use Rattle.query_lang.specs.declared.fault.TheConstants.{MAX_STAGES}
-use Rattle.stage_plan.specs.declared.op.Operand.{Operand}
-use Rattle.stage_plan.specs.declared.op.Operand.TheVariants.{Register, Number}
-use Rattle.stage_plan.specs.declared.op.PlanOp.{PlanOp}
-use Rattle.plan_file.specs.Lexis.{is_name, number, tokens}
-use Rattle.plan_file.specs.Named.{IsNamedNumber, IsNamedOperand, IsOneNumber, IsOneOperand}
-use Rattle.plan_file.specs.Operations.{AreFrom, IsAllowed, IsKnown, IsOpLine, IsReadsLine, IsStaged, is_right_of, last_stage, op_words}
-use Rattle.plan_file.specs.Operations.{operand, stage_of}
 use Rattle.plan_file.proofs.ReadsFacts.{same_name}
 use Rattle.marple_laws.proofs.Decisions.{Decided, both, by_both, contains, either, is_true, less, most, none_some, same_number, same_text}
 use Rattle.marple_laws.proofs.Decisions.{some_same, three_tokens, two_tokens, value_of}
@@ -151,11 +144,7 @@ named_operand fs ops word line = by (three_tokens (tokens line))
         let name : n ≡ p.0 = cc in
         let same : t ≡ p.2.token = cc in (
           first,
-          (
-            ap is_name name ∙ p.2.named,
-            subst (IsKnown fs ops) (some_same (operand t) p.1 v (ap operand same ∙ p.2.reads) r)
-                p.2.known,
-          ),
+          (ap is_name name ∙ p.2.named, subst (IsKnown fs ops) (some_same (operand t) p.1 v (ap operand same ∙ p.2.reads) r) p.2.known),
         ))
         (both (same_text a word) (both (is_true (is_name n)) (known fs ops v)))
 

@@ -1,40 +1,24 @@
 -- What holds of the names and tables of the items before some place.
-use Rattle.std.proofs.Common.{◌≡◌, ℕ, zero, suc, ◌+◌, ◌<◌, ◌≤◌, Bool, true, false, List, [], ◌∷◌, ◌++◌, length, Some, None, Option, Ok}
-use Rattle.std.proofs.Common.{refl, sym, ap, subst, ◌∙◌, inl, inr, ◌⊎◌, arith, nat_eq, nat_lt, is_some}
-use Rattle.std.specs.Prelude.{map, flat_map, slice_get, option_map, if◌then◌else◌}
-use Rattle.std.proofs.lemmas.Bool.Decides.{nat_tests}
-use Rattle.std.proofs.lemmas.List.{map-append}
-use Rattle.query_lang.specs.declared.fault.FaultKind.TheVariants.{NameTaken, OverLimit}
-use Rattle.query_lang.specs.declared.fault.Limit.TheVariants.{Groupbys}
-use Rattle.query_lang.specs.declared.fold.TypedFold.{TypedFold}
-use Rattle.query_lang.specs.declared.query.FoldDef.{FoldDef}
+use Rattle.marple_laws.proofs.Words.{◌≡◌, ℕ, zero, suc, ◌+◌, ◌<◌, ◌≤◌, Bool, true, false, List, [], ◌∷◌, ◌++◌, length, Some, None, Option}
+use Rattle.marple_laws.proofs.Words.{Ok, refl, sym, ap, subst, ◌∙◌, inl, inr, ◌⊎◌, arith, nat_eq, nat_lt, is_some, flat_map, option_map}
+use Rattle.marple_laws.proofs.Words.{if◌then◌else◌, nat_tests, map-append, NameTaken, OverLimit, Groupbys, TypedFold, FoldDef, Name}
+use Rattle.marple_laws.proofs.Words.{PrintOf, TypedOp, TypedStream, Earlier, FoldView, Known, Meaning, TableView, condition_of, with_fold}
+use Rattle.marple_laws.proofs.Words.{fold_added, MAX_GROUPBYS, AreNew}
+use Rattle.std.specs.Prelude.{map, slice_get}
 use Rattle.query_lang.specs.declared.query.Key.{Key}
-use Rattle.query_lang.specs.declared.query.Name.{Name}
 use Rattle.query_lang.specs.declared.query.StreamDef.{StreamDef}
 use Rattle.query_lang.specs.declared.query.StreamOp.{StreamOp}
 use Rattle.query_lang.specs.declared.query.StreamOp.TheVariants as ops
-use Rattle.query_lang.specs.declared.typed.PrintOf.{PrintOf}
 use Rattle.query_lang.specs.declared.typed.PrintOf.TheVariants as place
-use Rattle.query_lang.specs.declared.typed.TypedOp.{TypedOp}
 use Rattle.query_lang.specs.declared.typed.TypedOp.TheVariants as typed
-use Rattle.query_lang.specs.declared.typed.TypedStream.{TypedStream}
-use Rattle.query_lang.specs.declared.typing.Earlier.{Earlier}
-use Rattle.query_lang.specs.declared.typing.FoldView.{FoldView}
-use Rattle.query_lang.specs.declared.typing.Known.{Known}
 use Rattle.query_lang.specs.declared.typing.MadeStream.{MadeStream}
-use Rattle.query_lang.specs.declared.typing.Meaning.{Meaning}
 use Rattle.query_lang.specs.declared.typing.Meaning.TheVariants as meaning
-use Rattle.query_lang.specs.declared.typing.TableView.{TableView}
 use Rattle.query_lang.specs.TypedFolds.{fold_checked}
 use Rattle.query_lang.specs.TypedStreams.{meaning_of, begun, as_fold, stream_named, fold_named, column_names, columns_at, new_columns}
 use Rattle.query_lang.specs.TypedStreams.{no_new_columns, keys_checked, key_names, arguments_of, clash, grouped, made_stream, with_stream}
 use Rattle.query_lang.specs.TypedStreams.{stream_checked, next_stream}
-use Rattle.query_lang.specs.TypedExprs.{condition_of}
-use Rattle.query_lang.specs.Typing.{with_fold, fold_added}
-use Rattle.query_lang.specs.declared.fault.TheConstants.{MAX_GROUPBYS}
 use Rattle.marple_laws.proofs.Items.{must_ok, must_not_ok, found_first, same_ok, IsIn, in_push, new_push}
 use Rattle.marple_laws.proofs.Columns.{fold_new, states_apart, AreKeyColumns, key_columns_are}
-use Rattle.marple_laws.specs.WellNamed.{AreNew}
 use Rattle.marple_laws.proofs.Differ.{AreApart, HasOwnColumns}
 
 -- the place of the table that a name refers to
@@ -140,8 +124,8 @@ place_kept known entry id p e = by (meaning_of known id) refl e
     by (Some m) h e = ap place_in (meaning_kept known entry id m h) ∙ e
 
 below_more : (g h f k : ℕ) (p : PrintOf) → g ≤ h → f ≤ k → IsBelow g f p → IsBelow h k p
-below_more g h f k (place.Group n) a b l = omega (arith, a, l)
-below_more g h f k (place.Final n) a b l = omega (arith, b, l)
+below_more g h f k (place.Group n) a b l = omega arith
+below_more g h f k (place.Final n) a b l = omega arith
 
 -- the names and tables with one more name, which has no table or a new one
 pub record Grown (packets : ℕ) (e : Earlier) (entry : Known) (groups finals : ℕ) : Type 0 where
@@ -151,20 +135,15 @@ pub record Grown (packets : ℕ) (e : Earlier) (entry : Known) (groups finals : 
   pub streams_known : (id : ℕ) → IsIn id (packets ∷ stream_ids e.streams) → is_some (meaning_of (e.known ++ entry ∷ []) id) ≡ true
 
 pub grown : (packets : ℕ) (e : Earlier) (entry : Known) (groups finals : ℕ) → Good packets e → e.groups ≤ groups → length e.finals ≤ finals
-    →
-    ((p : PrintOf) → place_in (Some entry.meaning) ≡ Some p → IsBelow e.groups (length e.finals) p → ⊥)
-    → ((p : PrintOf) → place_in (Some entry.meaning) ≡ Some p → IsBelow groups finals p) →
-    Grown packets e entry groups finals
+    → ((p : PrintOf) → place_in (Some entry.meaning) ≡ Some p → IsBelow e.groups (length e.finals) p → ⊥)
+    → ((p : PrintOf) → place_in (Some entry.meaning) ≡ Some p → IsBelow groups finals p) → Grown packets e entry groups finals
 grown packets e entry groups finals good more_groups more_finals fresh below = record {
   places = λ a b p ea eb. elim (place_cases e.known entry a p ea) [
     | inl oa ↦ elim (place_cases e.known entry b p eb) [
       | inl ob ↦ good.places a b p oa ob
       | inr nb ↦ absurd (fresh p nb.1 (good.bounds a p oa))
     ]
-    | inr na ↦ elim (place_cases e.known entry b p eb) [
-      | inl ob ↦ absurd (fresh p na.1 (good.bounds b p ob))
-      | inr nb ↦ na.0 ∙ sym nb.0
-    ]
+    | inr na ↦ elim (place_cases e.known entry b p eb) [ inl ob ↦ absurd (fresh p na.1 (good.bounds b p ob)) | inr nb ↦ na.0 ∙ sym nb.0 ]
   ];
   bounds = λ a p ea. elim (place_cases e.known entry a p ea) [
     | inl oa ↦ below_more e.groups groups (length e.finals) finals p more_groups more_finals (good.bounds a p oa)
@@ -201,8 +180,7 @@ fold_good packets e after d good ok =
     added f new =
         let entry : Known = record {
           name = f.name.id;
-          meaning = meaning.Fold
-              (record { number = length e.folds; states = f.state_names; args = f.arg_names; emits = is_some f.emit });
+          meaning = meaning.Fold (record { number = length e.folds; states = f.state_names; args = f.arg_names; emits = is_some f.emit });
         } in
         let g = grown packets e entry e.groups (length e.finals) good (omega arith) (omega arith) (λ p h. cc) (λ p h. cc) in
         record {
@@ -218,8 +196,7 @@ fold_good packets e after d good ok =
                 let same : record { number = length e.folds; states = f.state_names; args = f.arg_names; emits = is_some f.emit } ≡ v =
                 cc in (
                   f,
-                  ap (slice_get (e.folds ++ f ∷ [])) (ap (λ (w : FoldView). w.number) (sym same))
-                      ∙ last_at e.folds f,
+                  ap (slice_get (e.folds ++ f ∷ [])) (ap (λ (w : FoldView). w.number) (sym same)) ∙ last_at e.folds f,
                   ap (λ (w : FoldView). w.states) (sym same),
                 )
           ];
@@ -237,7 +214,7 @@ record IsMade (e : Earlier) (made : MadeStream) : Type 0 where
 
 fold_there : (e : Earlier) (packets : ℕ) → Good packets e → (name : Name) (v : FoldView) → fold_named e.known name ≡ Ok v
     → HasFold e.folds v
-fold_there e packets good name v ok = by (meaning_of e.known name.id) refl ok
+fold_there e packets good name v ok = by _ refl ok
   where
     by : (o : Option Meaning) → meaning_of e.known name.id ≡ o → as_fold o name.span ≡ Ok v → HasFold e.folds v
     by None h ok = cc
@@ -260,10 +237,7 @@ grouped_made packets five e input keys fold_name made good ok =
     fold_name.span arguments.0 arguments.1 in
     let apart_columns : AreApart (column_names (columns_at source.0.columns picked.0.slots)) has.0.state_names =
     subst (λ l. AreApart l has.0.state_names) (sym k.names) (subst (AreApart picked.0.names) has.2 apart) in
-    subst (IsMade e) (same_ok _ made arguments.2) (record {
-      table = inr (_, refl, refl);
-      columns = (k.new, (has.0, has.1, apart_columns));
-    })
+    subst (IsMade e) (same_ok _ made arguments.2) (record { table = inr (_, refl, refl); columns = (k.new, (has.0, has.1, apart_columns)) })
 
 stream_made : (packets : ℕ) (five : List ℕ) (e : Earlier) (name : Name) (op : StreamOp) (made : MadeStream) → Good packets e
     → made_stream five e name op ≡ Ok made → IsMade e made
@@ -288,8 +262,7 @@ stream_made packets five e name (ops.Group input keys fold_name) made good ok =
 abbrev entry_of : Earlier → Name → MadeStream → Known
 entry_of e name made = record {
   name = name.id;
-  meaning = meaning.Stream
-      (record { number = next_stream e; columns = made.columns; hidden = made.hidden; table = made.table });
+  meaning = meaning.Stream (record { number = next_stream e; columns = made.columns; hidden = made.hidden; table = made.table });
 }
 
 -- how many groupbys there are with an added stream's
@@ -302,24 +275,23 @@ HasTable made p = option_map (λ (t : TableView). t.place) made.table ≡ Some p
 place_of_table : (e : Earlier) (made : MadeStream) → IsMade e made → (p : PrintOf) → HasTable made p
     → (place.Group e.groups ≡ p) × (groups_with e made ≡ e.groups + 1)
 place_of_table e made is p h = elim is.table [
-  | inl none ↦ (let z : None ≡ Some p = sym (ap (option_map (λ (t : TableView). t.place)) none) ∙ h in cc)
+  | inl none ↦ (let z : None ≡ Some p = sym (ap (option_map _) none) ∙ h in cc)
   | inr some ↦
-      let z : Some some.0.place ≡ Some p = sym (ap (option_map (λ (t : TableView). t.place)) some.1) ∙ h in
+      let z : Some some.0.place ≡ Some p = sym (ap (option_map _) some.1) ∙ h in
       (cc, ap (λ o. e.groups + (if is_some o then 1 else 0)) some.1)
 ]
 
-fresh_table : (e : Earlier) (made : MadeStream) → IsMade e made → (p : PrintOf) → HasTable made p
-    → IsBelow e.groups (length e.finals) p → ⊥
+fresh_table : (e : Earlier) (made : MadeStream) → IsMade e made → (p : PrintOf) → HasTable made p → IsBelow e.groups (length e.finals) p → ⊥
 fresh_table e made is p h l =
-    let low : e.groups < e.groups = subst (IsBelow e.groups (length e.finals)) (sym (place_of_table e made is p h).0) l in
-    omega (arith, low)
+    let low : e.groups < e.groups = subst (IsBelow e.groups (length e.finals)) (sym (place_of_table e _ is p h).0) l in
+    omega arith
 
 table_below : (e : Earlier) (made : MadeStream) → IsMade e made → (p : PrintOf) → HasTable made p
     → IsBelow (groups_with e made) (length e.finals) p
 table_below e made is p h =
-    let at = place_of_table e made is p h in
+    let at = place_of_table e _ is p h in
     let one = at.1 in
-    subst (IsBelow (groups_with e made) (length e.finals)) at.0 (omega (arith, one))
+    subst (IsBelow (groups_with e made) (length e.finals)) at.0 (omega arith)
 
 -- one more stream
 with_stream_good : (packets : ℕ) (e : Earlier) (name : Name) (made : MadeStream) → Good packets e
@@ -365,7 +337,7 @@ with_stream_good packets e name made good free is =
     ]
 
 begun_free : (e : Earlier) (name : Name) (u : Unit {0}) → begun e name ≡ Ok u → is_some (meaning_of e.known name.id) ≡ false
-begun_free e name u ok = (must_not_ok (is_some (meaning_of e.known name.id)) NameTaken name.span _ u ok).0
+begun_free e name u ok = (must_not_ok _ _ _ _ u ok).0
 
 pub stream_good : (packets : ℕ) (five : List ℕ) (e after : Earlier) (d : StreamDef) → Good packets e → stream_checked five e d ≡ Ok after
     → Good packets after

@@ -1,39 +1,22 @@
 -- The query of an accepted text has the plan that definitions give.
-use Rattle.std.proofs.Common.{◌≡◌, ℕ, zero, suc, List, [], ◌∷◌, length, Option, Some, None, Ok, refl, sym, ap, subst, ◌∙◌, inl, inr, arith}
-use Rattle.std.specs.Prelude.{All, map, filter_map, slice_get, option_map}
-use Rattle.std.specs.List.{cons_option}
-use Rattle.std.proofs.lemmas.List.Elements.{All-head, All-tail}
+use Rattle.marple_laws.proofs.Words.{◌≡◌, ℕ, zero, suc, List, [], ◌∷◌, length, Option, Some, None, Ok, refl, sym, ap, subst, ◌∙◌, inl, inr}
+use Rattle.marple_laws.proofs.Words.{arith, All, filter_map, option_map, cons_option, All-head, All-tail, same_Some, slice_get_cases}
+use Rattle.marple_laws.proofs.Words.{TypedFold, TypedOp, TypedQuery, TypedStream, IsValidFold, Taking, taking_of, takings, IsValidQuery}
+use Rattle.marple_laws.proofs.Words.{IsProgramOf, depth_found_is, GroupPlan, reads_of, query_made, stages_of, GroupShape, group_shape}
+use Rattle.marple_laws.proofs.Words.{shape_made, shape_with, query_fault, query_order, query_ops, query_registers, query_wiring}
+use Rattle.marple_laws.proofs.Words.{register_in, accepted, accepted_valid, AcceptedHavePlans}
+use Rattle.std.specs.Prelude.{map, slice_get}
 use Rattle.std.proofs.lemmas.List.FromFn.{length-map-range_with_len}
-use Rattle.std.proofs.lemmas.Option.{same_Some, slice_get_cases}
-use Rattle.query_lang.specs.declared.fold.TypedFold.{TypedFold}
-use Rattle.query_lang.specs.declared.typed.TypedOp.{TypedOp}
 use Rattle.query_lang.specs.declared.typed.TypedOp.TheVariants as typed
-use Rattle.query_lang.specs.declared.typed.TypedQuery.{TypedQuery}
-use Rattle.query_lang.specs.declared.typed.TypedStream.{TypedStream}
-use Rattle.query_lang.specs.Folds.{IsValidFold}
-use Rattle.query_lang.specs.Streams.{Taking, taking_of, takings}
-use Rattle.query_lang.specs.TypedQueries.{IsValidQuery}
 use Rattle.fold_code.specs.Meaning.{IsCodeOf}
 use Rattle.fold_code.proofs.Meanings.{meaning_of}
-use Rattle.fold_class.specs.Program.{IsProgramOf}
-use Rattle.fold_class.proofs.LawLemmas.{depth_found_is}
 use Rattle.fold_class.proofs.ProgramLemmas.{rows_are}
-use Rattle.stage_plan.specs.declared.group.GroupPlan.{GroupPlan}
 use Rattle.stage_plan.specs.Depths.{stage_fault}
-use Rattle.stage_plan.specs.Fields.{reads_of}
 use Rattle.stage_plan.specs.Grouping.{FitsGroup, IsGroupFor, IsGroupOf, AreGroupsOf}
-use Rattle.stage_plan.specs.Planned.{query_made}
-use Rattle.stage_plan.specs.Registers.{stages_of}
-use Rattle.stage_plan.specs.Shape.{GroupShape, group_shape, shape_made, shape_with}
 use Rattle.stage_plan.proofs.Counts.{all_fit}
-use Rattle.stage_plan.proofs.Faults.{query_fault}
 use Rattle.stage_plan.proofs.Groupings.{args_are, fitting_sound, shape_is}
 use Rattle.stage_plan.proofs.Putting.{IsPut, put}
-use Rattle.plan_writer.specs.Ordered.{query_order, query_ops, query_registers, query_wiring, register_in}
 use Rattle.plan_writer.proofs.Once.{registers_placed}
-use Rattle.accepted_query.specs.Accepted.{accepted}
-use Rattle.query_laws.proofs.Valid.{accepted_valid}
-use Rattle.marple_laws.specs.AcceptedPlans.{AcceptedHavePlans}
 use Rattle.marple_laws.specs.PlanOf.{code_of, rows_of, program_of, group_with, group_planned, groups_planned, plan_of}
 use Rattle.marple_laws.proofs.Counts.{few_made}
 use Rattle.marple_laws.proofs.Hold.{staged_none}
@@ -52,7 +35,7 @@ program_is f valid = record {
 }
   where
     code : IsCodeOf f (code_of f)
-    code = meaning_of f (code_of f) valid refl refl refl
+    code = meaning_of f _ valid refl refl refl
 
 module _ (q : TypedQuery) (valid : IsValidQuery q) where
   program_at : (number : ℕ) (f : TypedFold) → slice_get q.folds number ≡ Some f → IsProgramOf f (program_of f)
@@ -66,9 +49,8 @@ module _ (q : TypedQuery) (valid : IsValidQuery q) where
   one_shape one (typed.Zip left right slots) fits = refl
   one_shape one (typed.Group input keys number args) fits = by (slice_get q.folds number) refl
     where
-      by : (o : Option TypedFold) → slice_get q.folds number ≡ o
-          → option_map group_shape (option_map (group_with q.names one) o) ≡ option_map
-          (shape_with q.names one.name.id one.columns (length args)) o
+      by : (o : Option TypedFold) → slice_get q.folds number ≡ o → option_map group_shape (option_map (group_with q.names one) o)
+          ≡ option_map (shape_with q.names one.name.id one.columns (length args)) o
       by None e = refl
       by (Some f) e =
           let count : length f.arg_names ≡ length args = args_are q.folds number (length args) f e fits.all_args in
@@ -105,8 +87,6 @@ module _ (q : TypedQuery) (valid : IsValidQuery q) where
       → IsGroupOf q.folds t group
       → AreOf all groups shapes → AreOf (cons_option t all) (cons_option group groups) (cons_option (option_map group_shape group) shapes)
   one_more None None all groups shapes h rest = rest
-  one_more None (Some group) all groups shapes h rest = absurd h
-  one_more (Some t) None all groups shapes h rest = absurd h
   one_more (Some t) (Some group) all groups shapes h rest = record {
     shapes_are = ap (λ l. group_shape group ∷ l) rest.shapes_are;
     sound = sound;
@@ -114,8 +94,9 @@ module _ (q : TypedQuery) (valid : IsValidQuery q) where
   }
     where
       sound : AreGroupsOf q.folds (t ∷ all) (group ∷ groups)
-      sound zero u other e f = subst (λ x. is_for x other) (same_Some t u e) (subst (is_for t) (same_Some group other f) h)
+      sound zero u other e f = subst (λ x. is_for x other) (same_Some t u e) (subst (is_for t) (same_Some _ _ f) h)
       sound (suc i) u other e f = rest.sound i u other e f
+  one_more _ _ all groups shapes h rest = absurd h
 
   groups_are : (streams : List TypedStream) → All (λ one. FitsGroup q one one.op) streams
       → AreOf (takings streams) (groups_planned q.names q.folds streams) (filter_map (λ one. shape_made q.names q.folds one one.op) streams)
@@ -156,7 +137,4 @@ pub accepted_put : (text : List ℕ) (q : TypedQuery) → accepted text ≡ Ok q
 accepted_put text q e = plan_put q (accepted_valid text q e) (staged_none text q e)
 
 pub have_plans : AcceptedHavePlans
-have_plans = record {
-  is_plan = λ text q e. (accepted_put text q e).is_plan;
-  is_sound = λ text q e. (accepted_put text q e).is_sound;
-}
+have_plans = record { is_plan = λ text q e. (accepted_put text q e).is_plan; is_sound = λ text q e. (accepted_put text q e).is_sound }

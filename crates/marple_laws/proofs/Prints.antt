@@ -1,17 +1,10 @@
 -- What a query without finals prints, and what its folds begin with.
-use Rattle.std.proofs.Common.{◌≡◌, ℕ, ◌<◌, List, [], ◌∷◌, ◌++◌, length, Some, None, refl, sym, subst, inl, inr, arith}
-use Rattle.std.specs.Prelude.{All, flat_map, slice_get}
-use Rattle.std.proofs.lemmas.List.Elements.{All-head, All-tail}
-use Rattle.query_lang.specs.declared.fold.TypedFold.{TypedFold}
-use Rattle.query_lang.specs.declared.typed.PrintOf.{PrintOf}
+use Rattle.marple_laws.proofs.Words.{◌≡◌, ℕ, ◌<◌, List, [], ◌∷◌, ◌++◌, length, Some, None, refl, sym, subst, inl, inr, arith, All, flat_map}
+use Rattle.marple_laws.proofs.Words.{All-head, All-tail, TypedFold, PrintOf, TypedFinal, TypedQuery, IsQueryTable, final_fault, first_final}
+use Rattle.marple_laws.proofs.Words.{printed_group, AllWords, AreNew}
+use Rattle.std.specs.Prelude.{slice_get}
 use Rattle.query_lang.specs.declared.typed.PrintOf.TheVariants as place
-use Rattle.query_lang.specs.declared.typed.TypedFinal.{TypedFinal}
-use Rattle.query_lang.specs.declared.typed.TypedQuery.{TypedQuery}
-use Rattle.query_lang.specs.TypedQueries.{IsQueryTable}
 use Rattle.query_lang.specs.Words.{AreWords, IsWord}
-use Rattle.plan_writer.specs.PlanText.{final_fault, first_final}
-use Rattle.marple_laws.specs.MadeOf.{printed_group}
-use Rattle.marple_laws.specs.WellNamed.{AllWords, AreNew}
 use Rattle.marple_laws.proofs.Items.{IsIn, contains_in, in_push}
 use Rattle.marple_laws.proofs.Queries.{in_left, in_last}
 use Rattle.marple_laws.proofs.Texts.{all_at, in_contains}
@@ -40,8 +33,7 @@ as_many (place.Group i ∷ prints) are = let rest = as_many prints are in omega 
 as_many (place.Final i ∷ prints) are = absurd are
 
 pub numbers_new : (prints before : List PrintOf) (numbers : List ℕ) → ((i : ℕ) → IsIn i numbers → IsIn (place.Group i) before)
-    → AreGroups prints → AreNew before prints
-    → AreNew numbers (flat_map printed_group prints)
+    → AreGroups prints → AreNew before prints → AreNew numbers (flat_map printed_group prints)
 numbers_new [] before numbers cover are new = tt
 numbers_new (place.Group i ∷ prints) before numbers cover are new = (
   (λ c. new.0 (in_contains before (place.Group i) (cover i (contains_in numbers i c)))),

@@ -1,32 +1,19 @@
 -- The names of each query that was checked differ.
-use Rattle.std.proofs.Common.{◌≡◌, ℕ, ◌+◌, ◌<◌, Bool, true, false, List, [], ◌∷◌, ◌++◌, length, Some, None, Option, Ok, refl, sym, ap}
-use Rattle.std.proofs.Common.{subst, ◌∙◌, inl, inr, arith, nat_eq, nat_lt, is_some}
-use Rattle.std.specs.Prelude.{codes, map, option_map, if◌then◌else◌}
-use Rattle.std.proofs.lemmas.Bool.Decides.{nat_tests}
-use Rattle.std.proofs.lemmas.List.{length_push}
-use Rattle.query_lang.specs.declared.fault.FaultKind.TheVariants.{NameTaken, NothingPrinted}
+use Rattle.marple_laws.proofs.Words.{◌≡◌, ℕ, ◌+◌, ◌<◌, Bool, true, false, List, [], ◌∷◌, ◌++◌, length, Some, None, Option, Ok, refl, sym}
+use Rattle.marple_laws.proofs.Words.{ap, subst, ◌∙◌, inl, inr, arith, nat_eq, nat_lt, is_some, codes, option_map, if◌then◌else◌, nat_tests}
+use Rattle.marple_laws.proofs.Words.{length_push, NameTaken, NothingPrinted, Name, Query, PrintOf, TypedQuery, Earlier, FoldView, Given}
+use Rattle.marple_laws.proofs.Words.{Known, Meaning, TableView, is_among, number_in, field_numbers, print_checked, item_checked}
+use Rattle.marple_laws.proofs.Words.{items_checked, start_of, typed_names, given_of, checked}
+use Rattle.std.specs.Prelude.{map}
 use Rattle.query_lang.specs.declared.query.FinalDef.{FinalDef}
 use Rattle.query_lang.specs.declared.query.Item.{Item}
 use Rattle.query_lang.specs.declared.query.Item.TheVariants as item
-use Rattle.query_lang.specs.declared.query.Name.{Name}
-use Rattle.query_lang.specs.declared.query.Query.{Query}
-use Rattle.query_lang.specs.declared.typed.PrintOf.{PrintOf}
 use Rattle.query_lang.specs.declared.typed.PrintOf.TheVariants as place
-use Rattle.query_lang.specs.declared.typed.TypedQuery.{TypedQuery}
-use Rattle.query_lang.specs.declared.typing.Earlier.{Earlier}
-use Rattle.query_lang.specs.declared.typing.FoldView.{FoldView}
-use Rattle.query_lang.specs.declared.typing.Given.{Given}
-use Rattle.query_lang.specs.declared.typing.Known.{Known}
 use Rattle.query_lang.specs.declared.typing.MadeFinal.{MadeFinal}
-use Rattle.query_lang.specs.declared.typing.Meaning.{Meaning}
 use Rattle.query_lang.specs.declared.typing.Meaning.TheVariants as meaning
 use Rattle.query_lang.specs.declared.typing.Origin.TheVariants as origin
-use Rattle.query_lang.specs.declared.typing.TableView.{TableView}
-use Rattle.query_lang.specs.Checks.{is_among}
-use Rattle.query_lang.specs.Names.{number_in}
 use Rattle.query_lang.specs.TypedFinals.{as_table, table_at, table_named, five_fields, made_final, with_final, final_checked}
 use Rattle.query_lang.specs.TypedStreams.{meaning_of, begun}
-use Rattle.query_lang.specs.Typing.{field_numbers, print_checked, item_checked, items_checked, start_of, typed_names, given_of, checked}
 use Rattle.marple_laws.proofs.Items.{must_ok, must_not_ok, found_first, same_ok, IsIn, in_at, in_push, not_in, new_push}
 use Rattle.marple_laws.proofs.Places.{place_in, place_at, IsBelow, Good, fold_good, stream_good, grown, meaning_cases}
 use Rattle.marple_laws.proofs.Differ.{NamesDiffer}
@@ -36,8 +23,7 @@ with_final_good : (packets : ℕ) (e : Earlier) (name : Name) (made : MadeFinal)
 with_final_good packets e name made good =
     let entry : Known = record {
       name = name.id;
-      meaning = meaning.Final
-          (record { place = place.Final (length e.finals); columns = made.columns; keys = made.keys });
+      meaning = meaning.Final (record { place = place.Final (length e.finals); columns = made.columns; keys = made.keys });
     } in
     let g = grown packets e entry e.groups (length (with_final e name made).finals) good (omega arith) (omega (arith, more)) fresh below in
     record {
@@ -82,7 +68,7 @@ final_good packets given e after d good ok =
 
 -- the place of a table that has a name
 place_of_table : (known : List Known) (name : Name) (t : TableView) → table_named known name ≡ Ok t → place_at known name.id ≡ Some t.place
-place_of_table known name t ok = by (meaning_of known name.id) ok
+place_of_table known name t ok = by _ ok
   where
     at : (o : Option TableView) → table_at o name.span ≡ Ok t → option_map (λ (t : TableView). t.place) o ≡ Some t.place
     at None ok = cc
@@ -91,7 +77,7 @@ place_of_table known name t ok = by (meaning_of known name.id) ok
     by : (o : Option Meaning) → as_table o name.span ≡ Ok t → place_in o ≡ Some t.place
     by None ok = cc
     by (Some (meaning.Fold f)) ok = cc
-    by (Some (meaning.Stream s)) ok = at s.table ok
+    by (Some (meaning.Stream s)) ok = at _ ok
     by (Some (meaning.Final s)) ok = ap (λ (t : TableView). Some t.place) (same_ok s t ok)
 
 pub in_left : {A : Type 0} (x : A) (xs ys : List A) → IsIn x xs → IsIn x (xs ++ ys)
@@ -162,8 +148,7 @@ start_good names = record {
           number = 0;
           columns = map (λ id. record { name = id; origin = origin.Field }) (field_numbers names);
           hidden = [];
-          table =
-              None;
+          table = None;
         })) else None) ≡ Some p → ⊥
         by true e = cc
         by false e = cc
@@ -173,12 +158,10 @@ start_good names = record {
       where
         by : (b : Bool) → (if b then Some (meaning.Stream (record {
           number = 0;
-          columns =
-              map (λ id. record { name = id; origin = origin.Field }) (field_numbers names);
+          columns = map (λ id. record { name = id; origin = origin.Field }) (field_numbers names);
           hidden = [];
           table = None;
-        })) else None) ≡ Some
-            (meaning.Fold v) → ⊥
+        })) else None) ≡ Some (meaning.Fold v) → ⊥
         by true e = cc
         by false e = cc
 
@@ -187,8 +170,7 @@ start_good names = record {
         let t : nat_eq (number_in names (codes "pktstream")) id ≡ true = grind (arith, nat_tests) in
         ap (λ b. is_some (if b then Some (meaning.Stream (record {
           number = 0;
-          columns =
-              map (λ id. record { name = id; origin = origin.Field }) (field_numbers names);
+          columns = map (λ id. record { name = id; origin = origin.Field }) (field_numbers names);
           hidden = [];
           table = None;
         })) else None)) t

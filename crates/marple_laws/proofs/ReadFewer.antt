@@ -1,23 +1,15 @@
 -- A trace that is read with all fields and has no fault is read with fewer fields, and has 0 in the others.
-use Rattle.std.proofs.Common.{◌≡◌, ℕ, ◌+◌, Bool, true, false, cond, not, List, [], ◌∷◌, length, Option, Some, None, Result, Ok, Err, refl}
-use Rattle.std.proofs.Common.{sym, ap, subst, ◌∙◌}
-use Rattle.std.specs.Prelude.{◌==◌, nat_lt}
-use Rattle.std.specs.List.{zip}
-use Rattle.marple_base.specs.Field.{all_fields, field_name, has_field}
-use Rattle.marple_base.specs.declared.field.Field.{Field}
-use Rattle.marple_base.specs.declared.field.Field.TheVariants.{Switch, Qid, Uid, SrcIp, DstIp, SrcPort, DstPort, Proto, PktLen, PayloadLen}
-use Rattle.marple_base.specs.declared.field.Field.TheVariants.{TcpSeq, Tin, Tout, QSize}
-use Rattle.marple_base.specs.declared.field.FieldSet.{FieldSet}
-use Rattle.marple_base.specs.declared.field.Packet.{Packet}
+use Rattle.marple_laws.proofs.Words.{◌≡◌, ℕ, ◌+◌, Bool, true, false, cond, not, List, [], ◌∷◌, length, Option, Some, None, Result, Ok, Err}
+use Rattle.marple_laws.proofs.Words.{refl, sym, ap, subst, ◌∙◌, ◌==◌, zip, all_fields, field_name, has_field, Field, Switch, FieldSet}
+use Rattle.marple_laws.proofs.Words.{Packet, MAX_RECORDS, MAX_TRACE, zeroed, as_read, all_as_read}
+use Rattle.std.specs.Prelude.{nat_lt}
 use Rattle.trace_reader.specs.Reading.{records}
 use Rattle.trace_reader.specs.Traces.{Contents, Layout, column_of_field, columns_named, columns_of_fields, contents, contents_from}
 use Rattle.trace_reader.specs.Traces.{contents_with, each}
 use Rattle.trace_reader.specs.Traces.{layout_of, layout_with, only_column, opening, packet_of, packet_with}
 use Rattle.trace_reader.specs.Traces.{rest_of, with_first, with_packet, word_at, words_in_columns}
-use Rattle.trace_reader.specs.declared.fault.TheConstants.{MAX_RECORDS, MAX_TRACE}
 use Rattle.trace_reader.specs.declared.fault.TraceFault.{TraceFault}
 use Rattle.trace_reader.specs.declared.fault.TraceFault.TheVariants as fault
-use Rattle.marple_laws.specs.FewerFields.{zeroed, as_read, all_as_read}
 
 -- the set of all fields
 abbrev pub whole : FieldSet
@@ -25,19 +17,7 @@ whole = record { bits = 16383 }
 
 pub every : (f : Field) → has_field whole f ≡ true
 every Switch = refl
-every Qid = refl
-every Uid = refl
-every SrcIp = refl
-every DstIp = refl
-every SrcPort = refl
-every DstPort = refl
-every Proto = refl
-every PktLen = refl
-every PayloadLen = refl
-every TcpSeq = refl
-every Tin = refl
-every Tout = refl
-every QSize = refl
+every _ = refl
 
 -- the columns of fewer fields
 abbrev masked : FieldSet → List Field → List (Option ℕ) → List (Option ℕ)
@@ -85,7 +65,7 @@ word_of_pair fields p = word_at fields p.0 p.1
 
 word_masked : (reads : FieldSet) (texts : List (List ℕ)) (f : Field) (column : Option ℕ) (word : ℕ) → word_at texts f column ≡ Ok word
     → word_at texts f (cond (has_field reads f) column None) ≡ Ok (cond (has_field reads f) word 0)
-word_masked reads texts f column word e = go (has_field reads f)
+word_masked reads texts f column word e = go _
   where
     go : (b : Bool) → word_at texts f (cond b column None) ≡ Ok (cond b word 0)
     go true = e
@@ -110,13 +90,10 @@ words_masked reads texts (f ∷ fields) (column ∷ columns) words e =
     go (words_masked reads texts fields columns) (word_at texts f column) refl (each (word_of_pair texts) (zip fields columns)) refl e
   where
     go : ((ws : List ℕ) → each (word_of_pair texts) (zip fields columns) ≡ Ok ws
-        → each (word_of_pair texts) (zip fields (masked reads fields columns)) ≡ Ok (zeroed reads fields ws))
-        → (a : Result ℕ Field) → word_at texts f column ≡ a → (b : Result (List ℕ) Field)
-        → each (word_of_pair texts) (zip fields columns) ≡ b
-        → with_first a b ≡ Ok words
-        → with_first (word_at texts f (cond (has_field reads f) column None))
-        (each (word_of_pair texts) (zip fields (masked reads fields columns)))
-        ≡ Ok (zeroed reads (f ∷ fields) words)
+        → each (word_of_pair texts) (zip fields (masked reads fields columns)) ≡ Ok (zeroed reads fields ws)) → (a : Result ℕ Field)
+        → word_at texts f column ≡ a → (b : Result (List ℕ) Field) → each (word_of_pair texts) (zip fields columns) ≡ b
+        → with_first a b ≡ Ok words → with_first (word_at texts f (cond (has_field reads f) column None))
+        (each (word_of_pair texts) (zip fields (masked reads fields columns))) ≡ Ok (zeroed reads (f ∷ fields) words)
     go rest (Err x) ea b eb h = absurd (cc h)
     go rest (Ok w) ea (Err x) eb h = absurd (cc h)
     go rest (Ok w) ea (Ok ws) eb h =
@@ -141,8 +118,7 @@ module _ (reads : FieldSet) (width : ℕ) (columns : List (Option ℕ)) where
       go : (a b : Bool) (w : Result (List ℕ) Field) → words_in_columns columns texts ≡ w
           → cond a (Err fault.TooManyPackets) (cond b (Err (fault.FieldCount n)) (packet_with n w)) ≡ Ok p
           → cond a (Err fault.TooManyPackets) (cond b (Err (fault.FieldCount n))
-          (packet_with n (words_in_columns (masked reads all_fields columns) texts)))
-          ≡ Ok (as_read reads p)
+          (packet_with n (words_in_columns (masked reads all_fields columns) texts))) ≡ Ok (as_read reads p)
       go true b w ew h = absurd (cc h)
       go false true w ew h = absurd (cc h)
       go false false (Err f) ew h = absurd (cc h)
@@ -160,11 +136,10 @@ module _ (reads : FieldSet) (width : ℕ) (columns : List (Option ℕ)) where
       (contents_from full (n + 1) rest) refl e
     where
       go : ((later : List Packet) → contents_from full (n + 1) rest ≡ record { packets = later; fault = None }
-          → contents_from fewer (n + 1) rest ≡ record { packets = all_as_read reads later; fault = None })
-          → (a : Result Packet TraceFault) → packet_of full n texts ≡ a → (b : Contents) → contents_from full (n + 1) rest ≡ b
-          → with_packet a b ≡ record { packets = sent; fault = None }
-          → with_packet (packet_of fewer n texts) (contents_from fewer (n + 1) rest) ≡ record
-          { packets = all_as_read reads sent; fault = None }
+          → contents_from fewer (n + 1) rest ≡ record { packets = all_as_read reads later; fault = None }) → (a : Result Packet TraceFault)
+          → packet_of full n texts ≡ a → (b : Contents) → contents_from full (n + 1) rest ≡ b
+          → with_packet a b ≡ record { packets = sent; fault = None } → with_packet (packet_of fewer n texts)
+          (contents_from fewer (n + 1) rest) ≡ record { packets = all_as_read reads sent; fault = None }
       go after (Err x) ea b eb h = let none : Some x ≡ None = ap (λ (c : Contents). c.fault) h in absurd (cc none)
       go after (Ok p) ea b eb h =
           let none : b.fault ≡ None = ap (λ (c : Contents). c.fault) h in
@@ -185,16 +160,14 @@ unfolding contents opening
 read_fewer text reads sent e = go (nat_lt MAX_TRACE (length text)) (records text) e
   where
     inner : (header : List (List ℕ)) (rest : List (List (List ℕ))) (r : Result (List (Option ℕ)) TraceFault)
-        → columns_of_fields whole header ≡ r
-        → contents_with (layout_with (length header) r) rest ≡ good sent
+        → columns_of_fields whole header ≡ r → contents_with (layout_with (length header) r) rest ≡ good sent
         → contents_with (layout_with (length header) (columns_of_fields reads header)) rest ≡ good (all_as_read reads sent)
     inner header rest (Err x) er h = let none : Some x ≡ None = ap (λ (c : Contents). c.fault) h in absurd (cc none)
     inner header rest (Ok columns) er h =
         rw (columns_masked reads header all_fields columns er) (contents_masked reads (length header) columns 1 rest sent h)
 
     go : (b : Bool) (rs : List (List (List ℕ))) → contents_with (cond b (Err fault.TraceTooLong) (layout_of rs whole)) (rest_of rs) ≡ good
-        sent
-        → contents_with (cond b (Err fault.TraceTooLong) (layout_of rs reads)) (rest_of rs) ≡ good (all_as_read reads sent)
+        sent → contents_with (cond b (Err fault.TraceTooLong) (layout_of rs reads)) (rest_of rs) ≡ good (all_as_read reads sent)
     go true rs h = let none : Some fault.TraceTooLong ≡ None = ap (λ (c : Contents). c.fault) h in absurd (cc none)
     go false [] h = let none : Some fault.NoHeader ≡ None = ap (λ (c : Contents). c.fault) h in absurd (cc none)
     go false (header ∷ rest) h = inner header rest (columns_of_fields whole header) refl h

@@ -1,47 +1,19 @@
 -- What the text of a query's plan prints over packets is what the query prints.
-use Rattle.std.proofs.Common.{◌≡◌, ℕ, suc, ◌+◌, ◌<◌, List, [], ◌∷◌, ◌++◌, length, Some, None, refl, sym, ap, subst, ◌∙◌, inl, inr, arith}
-use Rattle.std.specs.Prelude.{All, map, flat_map, slice_get, option_map, unwrap_or}
-use Rattle.std.specs.List.{range_with_len}
-use Rattle.std.proofs.lemmas.List.{length-map}
-use Rattle.std.proofs.lemmas.List.Elements.{All-head, All-tail}
-use Rattle.std.proofs.lemmas.Option.{slice_get_within, slice_get_cases, slice_get-map}
-use Rattle.marple_base.specs.declared.field.TheConstants.{FIELDS}
-use Rattle.query_lang.specs.declared.fold.TypedFold.{TypedFold}
-use Rattle.query_lang.specs.declared.typed.PrintOf.{PrintOf}
+use Rattle.marple_laws.proofs.Words.{◌≡◌, ℕ, suc, ◌+◌, ◌<◌, List, [], ◌∷◌, ◌++◌, length, Some, None, refl, sym, ap, subst, ◌∙◌, inl, inr}
+use Rattle.marple_laws.proofs.Words.{arith, All, flat_map, option_map, unwrap_or, range_with_len, length-map, All-head, All-tail}
+use Rattle.marple_laws.proofs.Words.{slice_get_within, slice_get_cases, slice_get-map, FIELDS, TypedFold, PrintOf, TypedFinal, TypedQuery}
+use Rattle.marple_laws.proofs.Words.{IsValidFold, body, fold_block, fold_states, fold_args, Taking, takings, IsValidQuery, IsQueryTable}
+use Rattle.marple_laws.proofs.Words.{uses, uses_taken, Geometry, folding_of, per_epoch, Table, with_finals, group_table, IsProgramOf}
+use Rattle.marple_laws.proofs.Words.{heading_of_shape, query_table, table_if, tables_from, group_tables, table_text_at, query_text}
+use Rattle.marple_laws.proofs.Words.{GroupPlan, GroupWiring, Number, wiring_of, IsPlanOf, fold_at, query_made, wiring_at, registers_after}
+use Rattle.marple_laws.proofs.Words.{stages_of, taken_at, GroupShape, query_groups, PlanParts, IsSoundGroup, IsSoundPlan, Folded, IsBody}
+use Rattle.marple_laws.proofs.Words.{written_block, IsFoldOf, class_same, fold_in, table_in, uses_in, plan_tables, plan_output}
+use Rattle.marple_laws.proofs.Words.{query_registers, query_wiring, first_final, final_fault, ops_are, wiring_is, fold_found, folded_with}
+use Rattle.marple_laws.proofs.Words.{folded_of, group_made, printed_group, made_of}
+use Rattle.std.specs.Prelude.{map, slice_get}
 use Rattle.query_lang.specs.declared.typed.PrintOf.TheVariants as printed
-use Rattle.query_lang.specs.declared.typed.TypedFinal.{TypedFinal}
-use Rattle.query_lang.specs.declared.typed.TypedQuery.{TypedQuery}
-use Rattle.query_lang.specs.Folds.{IsValidFold, body, fold_block, fold_states, fold_args}
-use Rattle.query_lang.specs.Streams.{Taking, takings}
 use Rattle.query_lang.specs.TypedFinals.{table_number}
-use Rattle.query_lang.specs.TypedQueries.{IsValidQuery, IsQueryTable}
-use Rattle.query_types.specs.Uses.{uses}
-use Rattle.epoch_model.specs.Driving.{uses_taken}
-use Rattle.epoch_model.specs.Epochs.{Geometry}
-use Rattle.epoch_entry.specs.Foldings.{folding_of, per_epoch}
-use Rattle.final_queries.specs.declared.table.Table.{Table}
-use Rattle.final_queries.specs.Finals.{with_finals}
-use Rattle.final_queries.specs.GroupTable.{group_table}
-use Rattle.fold_class.specs.Program.{IsProgramOf}
-use Rattle.query_tables.specs.Tables.{heading_of_shape, query_table, table_if, tables_from, group_tables, table_text_at, query_text}
-use Rattle.stage_plan.specs.declared.group.GroupPlan.{GroupPlan}
-use Rattle.stage_plan.specs.declared.group.GroupWiring.{GroupWiring}
-use Rattle.stage_plan.specs.declared.op.Operand.TheVariants.{Number}
-use Rattle.stage_plan.specs.Ordering.{wiring_of}
-use Rattle.stage_plan.specs.Planned.{IsPlanOf, fold_at, query_made, wiring_at}
-use Rattle.stage_plan.specs.Registers.{registers_after, stages_of, taken_at}
-use Rattle.stage_plan.specs.Shape.{GroupShape, group_shape, query_groups}
-use Rattle.stage_plan.specs.Sound.{PlanParts, IsSoundGroup, IsSoundPlan}
-use Rattle.plan_file.specs.declared.made.Folded.{Folded}
-use Rattle.plan_file.specs.Bodies.{IsBody, written_block}
-use Rattle.plan_file.specs.FoldLines.{IsFoldOf}
-use Rattle.plan_file.proofs.SameFold.{class_same}
-use Rattle.plan_loader.specs.Meaning.{fold_in, table_in, uses_in, plan_tables, plan_output}
 use Rattle.plan_loader.proofs.Folds.{fold_in_is, foldings}
-use Rattle.plan_writer.specs.Ordered.{query_registers, query_wiring}
-use Rattle.plan_writer.specs.PlanText.{first_final, final_fault}
-use Rattle.plan_writer.proofs.Plans.{ops_are, wiring_is, fold_found}
-use Rattle.marple_laws.specs.MadeOf.{folded_with, folded_of, group_made, printed_group, made_of}
 use Rattle.marple_laws.proofs.Bodies.{few_braces}
 
 no_finals_from : (finals : List TypedFinal) → first_final finals ≡ None → finals ≡ []
@@ -72,8 +44,7 @@ module _ (shape : GroupShape) (w : GroupWiring) (f : TypedFold) (valid : IsValid
       (record {
         statements = refl;
         typed = valid.statements;
-        nesting =
-            omega (arith, few_braces (fold_block f), valid.enough_statements, valid.most_statements);
+        nesting = omega (arith, few_braces (fold_block f), valid.enough_statements, valid.most_statements);
       }))
 
   of_group : IsFoldOf one.group quiet
@@ -95,7 +66,7 @@ module _ (shape : GroupShape) (w : GroupWiring) (f : TypedFold) (valid : IsValid
 
 module _ (q : TypedQuery) (p : PlanParts) (valid : IsValidQuery q) (plan : IsPlanOf q p) (sound : IsSoundPlan p) where
   shapes_long : length (query_groups q) ≡ length p.groups
-  shapes_long = ap (λ s. length s.groups) (sym plan.shape) ∙ length-map p.groups group_shape
+  shapes_long = ap (λ s. length s.groups) (sym plan.shape) ∙ length-map _ _
 
   parts_of : (i : ℕ) (group : GroupPlan) (t : Taking) (f : TypedFold) → slice_get p.groups i ≡ Some group
       → slice_get (takings q.streams) i ≡ Some t → fold_at q i ≡ Some f → HasParts q i
@@ -109,8 +80,7 @@ module _ (q : TypedQuery) (p : PlanParts) (valid : IsValidQuery q) (plan : IsPla
   }
     where
       wired : slice_get (query_wiring q) i ≡ Some (wiring_of (query_registers q) (query_made q).streams t)
-      wired = slice_get-map (wiring_of (query_registers q) (query_made q).streams) (takings q.streams) i
-          ∙ ap (option_map (wiring_of (query_registers q) (query_made q).streams)) e
+      wired = slice_get-map (wiring_of (query_registers q) (query_made q).streams) (takings q.streams) i ∙ ap (option_map _) e
 
       s : IsSoundGroup (FIELDS + length p.ops) group (wiring_of (query_registers q) (query_made q).streams t)
       s = sound.each i group (wiring_of (query_registers q) (query_made q).streams t) g

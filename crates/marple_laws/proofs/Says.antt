@@ -1,35 +1,14 @@
 -- The text of a query's plan is valid, and makes the query's plan.
-use Rattle.std.proofs.Common.{◌≡◌, ℕ, suc, ◌+◌, ◌^◌, ◌<◌, ◌≤◌, true, List, [], ◌∷◌, ◌++◌, length, Some, None, Option, refl, sym, ap, subst}
-use Rattle.std.proofs.Common.{◌∙◌, arith, append_assoc, append-nil}
-use Rattle.std.specs.Prelude.{All, flat_map, codes, decimal, slice_get}
-use Rattle.std.specs.List.{range_with_len}
-use Rattle.std.proofs.lemmas.List.Elements.{All-head, All-tail}
-use Rattle.marple_base.specs.declared.field.Field.{Field}
-use Rattle.query_lang.specs.declared.fold.TypedFold.{TypedFold}
-use Rattle.query_lang.specs.declared.typed.PrintOf.{PrintOf}
+use Rattle.marple_laws.proofs.Words.{◌≡◌, ℕ, suc, ◌+◌, ◌^◌, ◌<◌, ◌≤◌, true, List, [], ◌∷◌, ◌++◌, length, Some, None, Option, refl, sym, ap}
+use Rattle.marple_laws.proofs.Words.{subst, ◌∙◌, arith, append_assoc, append-nil, All, flat_map, codes, decimal, range_with_len, All-head}
+use Rattle.marple_laws.proofs.Words.{All-tail, Field, TypedFold, PrintOf, TypedQuery, takings, IsValidQuery, IsQueryTable, MAX_GROUPBYS}
+use Rattle.marple_laws.proofs.Words.{GroupWiring, PlanOp, reads_of, IsPlanOf, fold_at, GroupShape, query_groups, PlanParts, IsSoundPlan}
+use Rattle.marple_laws.proofs.Words.{Folded, Made, lines, bytes_after_lines, nothing, word_named, Make, Says, query_ops, query_wiring}
+use Rattle.marple_laws.proofs.Words.{fields_of, reads_line, op_line, group_text, print_line, compiled_text, line, folded_with, folded_of}
+use Rattle.marple_laws.proofs.Words.{group_made, printed_group, made_of, AreNew, HasPlanText}
+use Rattle.std.specs.Prelude.{slice_get}
 use Rattle.query_lang.specs.declared.typed.PrintOf.TheVariants as printed
-use Rattle.query_lang.specs.declared.typed.TypedQuery.{TypedQuery}
-use Rattle.query_lang.specs.Streams.{takings}
-use Rattle.query_lang.specs.TypedQueries.{IsValidQuery, IsQueryTable}
-use Rattle.query_lang.specs.declared.fault.TheConstants.{MAX_GROUPBYS}
-use Rattle.stage_plan.specs.declared.group.GroupWiring.{GroupWiring}
-use Rattle.stage_plan.specs.declared.op.PlanOp.{PlanOp}
-use Rattle.stage_plan.specs.Fields.{reads_of}
-use Rattle.stage_plan.specs.Planned.{IsPlanOf, fold_at}
-use Rattle.stage_plan.specs.Shape.{GroupShape, query_groups}
-use Rattle.stage_plan.specs.Sound.{PlanParts, IsSoundPlan}
 use Rattle.plan_file.specs.declared.line_word.LineWord.TheVariants as lead
-use Rattle.plan_file.specs.declared.made.Folded.{Folded}
-use Rattle.plan_file.specs.declared.made.Made.{Made}
-use Rattle.plan_file.specs.Lexis.{lines, bytes_after_lines}
-use Rattle.plan_file.specs.Lines.{nothing}
-use Rattle.plan_file.specs.LineWords.{word_named}
-use Rattle.plan_file.specs.Texts.{Make, Says}
-use Rattle.plan_writer.specs.Ordered.{query_ops, query_wiring}
-use Rattle.plan_writer.specs.PlanText.{fields_of, reads_line, op_line, group_text, print_line, compiled_text}
-use Rattle.plan_writer.specs.Words.{line}
-use Rattle.marple_laws.specs.MadeOf.{folded_with, folded_of, group_made, printed_group, made_of}
-use Rattle.marple_laws.specs.WellNamed.{AreNew, HasPlanText}
 use Rattle.marple_laws.proofs.Allowed.{op_ok, shapes_long, group_ok}
 use Rattle.marple_laws.proofs.Fields.{begun, first_written, reads_written}
 use Rattle.marple_laws.proofs.GroupLines.{outside}
@@ -70,8 +49,7 @@ printing fields ops groups prints = record {
   ops = ops;
   groups = groups;
   current = None;
-  prints =
-      prints;
+  prints = prints;
 }
 
 -- each printed groupby exists
@@ -112,8 +90,7 @@ tables_there : (q : TypedQuery) (prints : List PrintOf) → All (IsQueryTable q)
 tables_there q [] h = tt
 tables_there q (printed.Group i ∷ prints) h = (
   All-head (IsQueryTable q) (printed.Group i) prints h,
-  tables_there q prints
-      (All-tail (IsQueryTable q) (printed.Group i) prints h),
+  tables_there q prints (All-tail (IsQueryTable q) (printed.Group i) prints h),
 )
 tables_there q (printed.Final i ∷ prints) h = tables_there q prints (All-tail (IsQueryTable q) (printed.Final i) prints h)
 

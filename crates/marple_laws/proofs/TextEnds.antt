@@ -1,24 +1,10 @@
 -- What the pipeline that a command leaves represents.
-use Rattle.std.proofs.Common.{◌≡◌, ℕ, zero, suc, List, [], ◌∷◌, length, map, drop, Option, Some, refl, ap, ap₂, ◌∙◌, subst}
-use Rattle.std.specs.Prelude.{slice_get, option_map, unwrap_or}
-use Rattle.std.proofs.lemmas.Option.{slice_get-map}
-use Rattle.epoch_model.specs.Driving.{Taken, uses_taken}
-use Rattle.epoch_model.specs.Epochs.{Geometry}
-use Rattle.epoch_model.specs.Machine.{end_of}
-use Rattle.plan_file.specs.declared.made.Folded.{Folded}
-use Rattle.plan_file.specs.declared.made.Made.{Made}
-use Rattle.plan_loader.specs.Meaning.{uses_in, wiring_in}
+use Rattle.marple_laws.proofs.Words.{◌≡◌, ℕ, zero, suc, List, [], ◌∷◌, length, map, drop, Option, Some, refl, ap, ap₂, ◌∙◌, subst}
+use Rattle.marple_laws.proofs.Words.{option_map, unwrap_or, slice_get-map, Taken, uses_taken, Geometry, end_of, Folded, Made, uses_in}
+use Rattle.marple_laws.proofs.Words.{wiring_in, geometry_of, GroupPlan, GroupWiring, Number, PlanOp, wiring_at, registers_after, stages_of}
+use Rattle.marple_laws.proofs.Words.{taken_at, PlanParts, PipelineStands, end_machines, ends_from, uses_by}
+use Rattle.std.specs.Prelude.{slice_get}
 use Rattle.plan_loader.specs.Parts.{AreGroupsFrom, IsPlanFrom}
-use Rattle.query_run.specs.Driven.{geometry_of}
-use Rattle.stage_plan.specs.declared.group.GroupPlan.{GroupPlan}
-use Rattle.stage_plan.specs.declared.group.GroupWiring.{GroupWiring}
-use Rattle.stage_plan.specs.declared.op.Operand.TheVariants.{Number}
-use Rattle.stage_plan.specs.declared.op.PlanOp.{PlanOp}
-use Rattle.stage_plan.specs.Planned.{wiring_at}
-use Rattle.stage_plan.specs.Registers.{registers_after, stages_of, taken_at}
-use Rattle.stage_plan.specs.Sound.{PlanParts}
-use Rattle.switch_core.specs.PlanLanes.{PipelineStands}
-use Rattle.trace_drive.specs.Drives.{end_machines, ends_from, uses_by}
 use Rattle.marple_laws.specs.Left.{PlansStandForTheirTexts, text_ends, words_for}
 
 nothing : {A : Type 0} {x : A} {rest : List A} → [] ≡ x ∷ rest → ⊥
@@ -38,7 +24,7 @@ module _ (made : Made) (plan : PlanParts) (from : IsPlanFrom made plan) (g : Geo
   wiring_same i one at =
       let none : GroupWiring = record { present = Number 0; keys = []; args = [] } in
       ap (λ ws. unwrap_or (slice_get ws i) none) from.wiring
-      ∙ ap (λ w. unwrap_or w none) (slice_get-map wiring_in made.groups i ∙ ap (option_map wiring_in) at)
+      ∙ ap (λ w. unwrap_or w none) (slice_get-map wiring_in made.groups i ∙ ap (option_map _) at)
 
   uses_same : (i : ℕ) (one : Folded) → slice_get made.groups i ≡ Some one → uses_by plan i list ≡ uses_in made one list
   uses_same i one at =

@@ -1,14 +1,8 @@
 -- Every text is valid, or it is refused at some place.
-use Rattle.std.proofs.Common.{◌≡◌, ℕ, suc, ◌<◌, ◌≤◌, List, [], ◌∷◌, length, take, Some, refl, inl, inr, arith}
+use Rattle.marple_laws.proofs.Words.{◌≡◌, ℕ, suc, ◌<◌, ◌≤◌, List, [], ◌∷◌, length, take, Some, refl, inl, inr, arith, Checked, BadPlan}
+use Rattle.marple_laws.proofs.Words.{Made, bytes_after_lines, lines, start_of_line, IsLine, IsValidAfter, nothing, IsBadAt, Make, MAX_PLAN}
+use Rattle.marple_laws.proofs.Words.{EveryTextIsRead, IsReadingOf}
 use Rattle.std.specs.Prelude.{◌⊎◌, Ok, Err, slice_get}
-use Rattle.query_lang.specs.Checks.{Checked}
-use Rattle.query_lang.specs.declared.fault.FaultKind.TheVariants.{BadPlan}
-use Rattle.plan_file.specs.declared.made.Made.{Made}
-use Rattle.plan_file.specs.Lexis.{bytes_after_lines, lines, start_of_line}
-use Rattle.plan_file.specs.Lines.{IsLine, IsValidAfter, nothing}
-use Rattle.plan_file.specs.Texts.{IsBadAt, Make}
-use Rattle.plan_file.specs.declared.texts.TheConstants.{MAX_PLAN}
-use Rattle.marple_laws.specs.Readings.{EveryTextIsRead, IsReadingOf}
 use Rattle.marple_laws.proofs.Decisions.{Decided, is_empty, most}
 use Rattle.marple_laws.proofs.LineDecisions.{valid_after}
 
@@ -35,8 +29,7 @@ reached (line ∷ ls) first = by (λ next. reached ls next) (valid_after first l
       record {
         before = b.before;
         valid_before = (next, valid, b.valid_before);
-        line =
-            b.line;
+        line = b.line;
         is = b.is;
         bad = b.bad;
       },
@@ -68,8 +61,7 @@ every_text text = by_size (most (length text) MAX_PLAN)
         size = size;
         valid = valid;
         ended = whole;
-        printed =
-            some_items plan.prints some;
+        printed = some_items plan.prints some;
       },
     )
 

@@ -1,47 +1,21 @@
 -- The text of a query's plan is not too long.
-use Rattle.std.proofs.Common.{◌≡◌, ℕ, zero, suc, ◌+◌, ◌-◌, ◌*◌, ◌^◌, ◌<◌, ◌≤◌, Bool, true, false, cond, List, [], ◌∷◌, ◌++◌, length, Option}
-use Rattle.std.proofs.Common.{Some, None, refl, sym, ap, subst, ◌∙◌, inl, inr, arith}
-use Rattle.std.specs.Prelude.{All, codes, decimal, filter, flat_map, map, nat_eq, nat_lt, not, option_and_then, option_map, slice_get, ◌==◌}
-use Rattle.std.specs.Prelude.{if◌then◌else◌}
-use Rattle.std.specs.List.{range_with_len}
-use Rattle.std.proofs.lemmas.Bool.{eqb-false}
-use Rattle.std.proofs.lemmas.Bool.Decides.{nat_tests}
-use Rattle.std.proofs.lemmas.List.{length-append, length-map}
-use Rattle.std.proofs.lemmas.List.Elements.{All-head, All-tail}
-use Rattle.std.proofs.lemmas.List.Sums.{prefix_len-le-length}
-use Rattle.std.proofs.lemmas.Option.{same_Some, slice_get-map}
-use Rattle.marple_base.specs.declared.field.Field.{Field}
-use Rattle.marple_base.specs.declared.field.FieldSet.{FieldSet}
-use Rattle.marple_base.specs.Field.{all_fields, field_name, has_field}
-use Rattle.marple_base.specs.declared.field.TheConstants.{FIELDS}
-use Rattle.query_lang.specs.declared.fold.TypedFold.{TypedFold}
-use Rattle.query_lang.specs.declared.typed.PrintOf.{PrintOf}
+use Rattle.marple_laws.proofs.Words.{◌≡◌, ℕ, zero, suc, ◌+◌, ◌-◌, ◌*◌, ◌^◌, ◌<◌, ◌≤◌, Bool, true, false, cond, List, [], ◌∷◌, ◌++◌, length}
+use Rattle.marple_laws.proofs.Words.{Option, Some, None, refl, sym, ap, subst, ◌∙◌, inl, inr, arith, All, codes, decimal, flat_map}
+use Rattle.marple_laws.proofs.Words.{option_and_then, option_map, ◌==◌, if◌then◌else◌, range_with_len, eqb-false, nat_tests, length-map}
+use Rattle.marple_laws.proofs.Words.{All-head, All-tail, prefix_len-le-length, same_Some, slice_get-map, Field, FieldSet, all_fields}
+use Rattle.marple_laws.proofs.Words.{field_name, has_field, FIELDS, TypedFold, PrintOf, TypedOp, TypedQuery, TypedStream, IsValidFold}
+use Rattle.marple_laws.proofs.Words.{Taking, takings, AreValidStreams, HasNames, IsQueryTable, IsValidOp, IsValidQuery, MAX_GROUPBYS}
+use Rattle.marple_laws.proofs.Words.{MAX_KEYS, depth_of, Operand, Register, Number, PlanOp, FieldSource, all_sources, reads_of, sources_at}
+use Rattle.marple_laws.proofs.Words.{moved, moved_op, op_numbered, register_or_none, wiring_of, fold_at, query_made, stages_of, GroupShape}
+use Rattle.marple_laws.proofs.Words.{query_groups, shape_made, text_at, op_at, ordered, MAX_PLAN, query_ops, query_order, query_registers}
+use Rattle.marple_laws.proofs.Words.{query_wiring, register_in, compiled_text, fields_of, group_lines_of, group_text, op_line, print_line}
+use Rattle.marple_laws.proofs.Words.{reads_line, spaced, line, AllWords, AreNew, IsNamedWell}
+use Rattle.std.specs.Prelude.{filter, map, nat_eq, nat_lt, not, slice_get}
+use Rattle.std.proofs.lemmas.List.{length-append}
 use Rattle.query_lang.specs.declared.typed.PrintOf.TheVariants as place
-use Rattle.query_lang.specs.declared.typed.TypedOp.{TypedOp}
 use Rattle.query_lang.specs.declared.typed.TypedOp.TheVariants as typed
-use Rattle.query_lang.specs.declared.typed.TypedQuery.{TypedQuery}
-use Rattle.query_lang.specs.declared.typed.TypedStream.{TypedStream}
-use Rattle.query_lang.specs.Folds.{IsValidFold}
-use Rattle.query_lang.specs.Streams.{Taking, takings}
-use Rattle.query_lang.specs.TypedQueries.{AreValidStreams, HasNames, IsQueryTable, IsValidOp, IsValidQuery}
-use Rattle.query_lang.specs.declared.fault.TheConstants.{MAX_GROUPBYS, MAX_KEYS}
-use Rattle.fold_class.specs.Depth.{depth_of}
-use Rattle.stage_plan.specs.declared.op.Operand.{Operand}
-use Rattle.stage_plan.specs.declared.op.Operand.TheVariants.{Register, Number}
-use Rattle.stage_plan.specs.declared.op.PlanOp.{PlanOp}
 use Rattle.stage_plan.specs.Depths.{stage_fault}
-use Rattle.stage_plan.specs.Fields.{FieldSource, all_sources, reads_of, sources_at}
 use Rattle.stage_plan.specs.Making.{operand_at, wires_at}
-use Rattle.stage_plan.specs.Ordering.{moved, moved_op, op_numbered, register_or_none, wiring_of}
-use Rattle.stage_plan.specs.Planned.{fold_at, query_made}
-use Rattle.stage_plan.specs.Registers.{stages_of}
-use Rattle.stage_plan.specs.Shape.{GroupShape, query_groups, shape_made, text_at}
-use Rattle.stage_plan.proofs.Sorted.{op_at, ordered}
-use Rattle.plan_file.specs.declared.texts.TheConstants.{MAX_PLAN}
-use Rattle.plan_writer.specs.Ordered.{query_ops, query_order, query_registers, query_wiring, register_in}
-use Rattle.plan_writer.specs.PlanText.{compiled_text, fields_of, group_lines_of, group_text, op_line, print_line, reads_line}
-use Rattle.plan_writer.specs.Words.{spaced, line}
-use Rattle.marple_laws.specs.WellNamed.{AllWords, AreNew, IsNamedWell}
 use Rattle.marple_laws.proofs.Known.{AreFrom, IsFrom, IsGood, IsWritable, writable_at}
 use Rattle.marple_laws.proofs.KnownStreams.{AllAreGood, AreFit, query_good}
 use Rattle.marple_laws.proofs.OpLines.{Fits}
@@ -97,7 +71,7 @@ up (suc n) = place.Group n ∷ up n
 
 up_long : (n : ℕ) → weigh (λ p. 1) (up n) ≡ n
 up_long zero = refl
-up_long (suc n) = let h = up_long n in omega (arith, h)
+up_long (suc n) = let h = up_long n in omega arith
 
 as_long : (prints : List PrintOf) → weigh (λ p. 1) prints ≡ length prints
 as_long [] = refl
@@ -140,7 +114,7 @@ good_fits reads (Register r) g = tt
 good_fits reads (Number n) g = g
 
 from_fits : (reads : FieldSet) (s : FieldSource) (o : Operand) → IsFrom reads s o → NumFits o
-from_fits reads None o h = good_fits reads o h
+from_fits reads None o h = good_fits _ o h
 from_fits reads (Some f) o h = subst NumFits (sym h) tt
 
 column_fits : (reads : FieldSet) (sources : List FieldSource) (columns : List Operand) (slot : ℕ) → AreFrom reads sources columns
@@ -167,13 +141,11 @@ moved_fits registers small (Register r) g = by (nat_lt r FIELDS) refl
     by false e = new (slice_get registers (r - FIELDS)) refl
 
 slots_fit : (registers : List ℕ) → AreSmall registers → (reads : FieldSet) (sources : List FieldSource) (columns : List Operand)
-    → AreFrom reads sources columns → (slots : List ℕ)
-    → AllFit (map (λ slot. moved registers (operand_at columns slot)) slots)
+    → AreFrom reads sources columns → (slots : List ℕ) → AllFit (map (λ slot. moved registers (operand_at columns slot)) slots)
 slots_fit registers small reads sources columns from [] = tt
 slots_fit registers small reads sources columns from (slot ∷ slots) = (
   moved_fits registers small (operand_at columns slot) (column_fits reads sources columns slot from),
-  slots_fit registers small reads
-      sources columns from slots,
+  slots_fit registers small reads sources columns from slots,
 )
 
 ops_size : (ops : List PlanOp) → ((i : ℕ) (one : PlanOp) → slice_get ops i ≡ Some one → length (op_line one) ≤ 57)
@@ -188,20 +160,16 @@ ops_size (one ∷ ops) each =
 -- ---- how many key columns a groupby has
 
 keys_few : (folds : List TypedFold) (before : List TypedStream) (names : List (List ℕ)) (one : TypedStream) (width : ℕ) (op : TypedOp)
-    (shape : GroupShape)
-    → IsValidOp folds before width op → shape_made names folds one op ≡ Some shape → width ≤ MAX_KEYS
-keys_few folds before names one width (typed.Filter input condition) shape w e = cc
-keys_few folds before names one width (typed.Map input values) shape w e = cc
-keys_few folds before names one width (typed.Zip left right slots) shape w e = cc
+    (shape : GroupShape) → IsValidOp folds before width op → shape_made names folds one op ≡ Some shape → width ≤ MAX_KEYS
 keys_few folds before names one width (typed.Group input keys f args) shape w e =
     let same = w.2 in
     let few = w.1.most_keys in
-    omega (arith, same, few)
+    omega arith
+keys_few folds before names one width _ shape w e = cc
 
 columns_few : (count : ℕ) (names : List (List ℕ)) (folds : List TypedFold) (before streams : List TypedStream)
-    → AreValidStreams count folds before streams
-    → (j : ℕ) (one : TypedStream) (shape : GroupShape) → slice_get streams j ≡ Some one → shape_made names folds one one.op ≡ Some shape
-    → length one.columns ≤ MAX_KEYS
+    → AreValidStreams count folds before streams → (j : ℕ) (one : TypedStream) (shape : GroupShape) → slice_get streams j ≡ Some one
+    → shape_made names folds one one.op ≡ Some shape → length one.columns ≤ MAX_KEYS
 columns_few count names folds before [] v j one shape e made = cc
 columns_few count names folds before (s ∷ streams) v zero one shape e made =
     let same : s ≡ one = same_Some s one e in
@@ -318,8 +286,7 @@ module _ (q : TypedQuery) (v : IsValidQuery q) (staged : stage_fault q ≡ None)
         shape_fold = all_at IsValidFold q.folds made.number made.f v.folds made.at
 
     columns_short : (i : ℕ) (shape : GroupShape) (j : ℕ) (one : TypedStream) → slice_get (query_groups q) i ≡ Some shape
-        → slice_get q.streams j ≡ Some one
-        → IsMadeBy q.names q.folds one shape → total shape.key_names + total shape.state_names ≤ 65690
+        → slice_get q.streams j ≡ Some one → IsMadeBy q.names q.folds one shape → total shape.key_names + total shape.state_names ≤ 65690
     columns_short i shape j one e here made =
         let below = stream_below (length q.names) q.folds [] q.streams j one v.streams here in
         let states = (all_at (HasNames (length q.names)) q.folds made.number made.f v.fold_names made.at).states in

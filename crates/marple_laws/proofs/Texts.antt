@@ -1,20 +1,12 @@
 -- Names whose numbers differ have texts that differ.
-use Rattle.std.proofs.Common.{◌≡◌, ℕ, zero, suc, ◌<◌, List, [], ◌∷◌, ◌++◌, length, Option, Some, None, refl, sym, ap, subst, ◌∙◌, inl, inr}
-use Rattle.std.proofs.Common.{arith, Contains}
-use Rattle.std.specs.Prelude.{All, map, filter_map, slice_get, codes, option_map}
-use Rattle.std.specs.List.{cons_option}
-use Rattle.std.proofs.lemmas.List.Elements.{All-head, All-tail}
-use Rattle.std.proofs.lemmas.Option.{same_Some}
-use Rattle.query_lang.specs.declared.fold.TypedFold.{TypedFold}
-use Rattle.query_lang.specs.declared.typed.TypedOp.{TypedOp}
+use Rattle.marple_laws.proofs.Words.{◌≡◌, ℕ, zero, suc, ◌<◌, List, [], ◌∷◌, ◌++◌, length, Option, Some, None, refl, sym, ap, subst, ◌∙◌}
+use Rattle.marple_laws.proofs.Words.{inl, inr, arith, Contains, All, filter_map, codes, option_map, cons_option, All-head, All-tail}
+use Rattle.marple_laws.proofs.Words.{same_Some, TypedFold, TypedOp, TypedQuery, TypedStream, AreOnce, number_in, AreValidStreams, HasNames}
+use Rattle.marple_laws.proofs.Words.{IsValidQuery, GroupShape, query_groups, shape_made, shape_with, text_at, AreNames, AreNew, AreNoKeys}
+use Rattle.marple_laws.proofs.Words.{IsNamedWell}
+use Rattle.std.specs.Prelude.{map, slice_get}
 use Rattle.query_lang.specs.declared.typed.TypedOp.TheVariants as typed
-use Rattle.query_lang.specs.declared.typed.TypedQuery.{TypedQuery}
-use Rattle.query_lang.specs.declared.typed.TypedStream.{TypedStream}
-use Rattle.query_lang.specs.Names.{AreOnce, number_in}
-use Rattle.query_lang.specs.TypedQueries.{AreValidStreams, HasNames, IsValidQuery}
 use Rattle.query_lang.specs.TypedQueries as valid
-use Rattle.stage_plan.specs.Shape.{GroupShape, query_groups, shape_made, shape_with, text_at}
-use Rattle.marple_laws.specs.WellNamed.{AreNames, AreNew, AreNoKeys, IsNamedWell}
 use Rattle.marple_laws.proofs.Differ.{AreApart, HasOwnColumns, NamesDiffer}
 use Rattle.marple_laws.proofs.Items.{IsIn, contains_in, in_push}
 use Rattle.marple_laws.proofs.Queries.{in_left, in_last}
@@ -50,8 +42,7 @@ abbrev pub Cover : List (List ℕ) → List ℕ → List (List ℕ) → Type 0
 Cover names before texts = (t : List ℕ) → IsIn t texts → (id : ℕ) × IsIn id before × (slice_get names id ≡ Some t)
 
 covers_more : (names : List (List ℕ)) (before : List ℕ) (texts : List (List ℕ)) (id : ℕ) (text : List ℕ) → Cover names before texts
-    → slice_get names id ≡ Some text
-    → Cover names (before ++ id ∷ []) (texts ++ text ∷ [])
+    → slice_get names id ≡ Some text → Cover names (before ++ id ∷ []) (texts ++ text ∷ [])
 covers_more names before texts id text cover e t h = elim (in_push texts text t h) [
   | inl old ↦ (let k = cover t old in (k.0, in_left k.0 before (id ∷ []) k.1, k.2))
   | inr same ↦ (id, in_last before id, e ∙ ap Some (sym same))
@@ -66,16 +57,14 @@ covers_all names [] all t h = absurd h
 covers_all names (id ∷ ids) all t (inl e) = (
   id,
   inl refl,
-  text_there names id (All-head (λ id. id < length names) id ids all)
-      ∙ ap Some (sym e),
+  text_there names id (All-head (λ id. id < length names) id ids all) ∙ ap Some (sym e),
 )
 covers_all names (id ∷ ids) all t (inr h) =
     let k = covers_all names ids (All-tail (λ id. id < length names) id ids all) t h in
     (k.0, inr k.1, k.2)
 
 new_text : (names : List (List ℕ)) → AreOnce names → (before : List ℕ) (texts : List (List ℕ)) (id : ℕ) (text : List ℕ)
-    → Cover names before texts
-    → (Contains before id → ⊥) → slice_get names id ≡ Some text → Contains texts text → ⊥
+    → Cover names before texts → (Contains before id → ⊥) → slice_get names id ≡ Some text → Contains texts text → ⊥
 new_text names once before texts id text cover new e c =
     let k = cover text (contains_in texts text c) in
     let same : k.0 ≡ id = once k.0 id text k.2 e in
@@ -88,13 +77,11 @@ new_texts names once (id ∷ ids) before texts cover all new =
     let there : slice_get names id ≡ Some (text_at names id) = text_there names id (All-head (λ id. id < length names) id ids all) in (
       new_text names once before texts id (text_at names id) cover new.0 there,
       new_texts names once ids (before ++ id ∷ []) (texts ++ text_at names id ∷ [])
-          (covers_more names before texts id (text_at names id) cover there)
-          (All-tail (λ id. id < length names) id ids all) new.1,
+          (covers_more names before texts id (text_at names id) cover there) (All-tail (λ id. id < length names) id ids all) new.1,
     )
 
 apart_texts : (names : List (List ℕ)) → AreOnce names → (keys states : List ℕ) → All (λ id. id < length names) keys
-    → All (λ id. id < length names) states
-    → AreApart keys states → AreNoKeys (map (text_at names) keys) (map (text_at names) states)
+    → All (λ id. id < length names) states → AreApart keys states → AreNoKeys (map (text_at names) keys) (map (text_at names) states)
 apart_texts names once keys [] below all apart = tt
 apart_texts names once keys (s ∷ states) below all apart = (
   new_text names once keys (map (text_at names) keys) s (text_at names s) (covers_all names keys below) apart.0
@@ -123,13 +110,11 @@ pub record IsMadeBy (names : List (List ℕ)) (folds : List TypedFold) (one : Ty
   pub apart : AreApart one.columns f.state_names
 
 pub made_by : (names : List (List ℕ)) (folds : List TypedFold) (one : TypedStream) (op : TypedOp) (shape : GroupShape)
-    → shape_made names folds one op ≡ Some shape
-    → HasOwnColumns folds one.columns op → IsMadeBy names folds one shape
+    → shape_made names folds one op ≡ Some shape → HasOwnColumns folds one.columns op → IsMadeBy names folds one shape
 made_by names folds one (typed.Group input keys number args) shape e own = by (slice_get folds number) refl e
   where
     by : (o : Option TypedFold) → slice_get folds number ≡ o → option_map (shape_with names one.name.id one.columns (length args)) o ≡ Some
-        shape
-        → IsMadeBy names folds one shape
+        shape → IsMadeBy names folds one shape
     by None h e = cc
     by (Some f) h e =
         let same : own.1.0 ≡ f = same_Some own.1.0 f (sym own.1.1 ∙ h) in
@@ -147,8 +132,7 @@ made_by names folds one (typed.Map input values) shape is own = cc
 made_by names folds one (typed.Zip left right slots) shape is own = cc
 
 pub name_of : (names : List (List ℕ)) (folds : List TypedFold) (one : TypedStream) (op : TypedOp) (shape : GroupShape)
-    → shape_made names folds one op ≡ Some shape
-    → shape.name ≡ text_at names one.name.id
+    → shape_made names folds one op ≡ Some shape → shape.name ≡ text_at names one.name.id
 name_of names folds one (typed.Group input keys number args) shape e = by (slice_get folds number) e
   where
     by : (o : Option TypedFold) → option_map (shape_with names one.name.id one.columns (length args)) o ≡ Some shape
@@ -179,8 +163,7 @@ group_from names folds (one ∷ rest) i shape h = by (shape_made names folds one
 
 -- the numbers of a stream's name and columns are below that of the names
 pub stream_below : (names : ℕ) (folds : List TypedFold) (before streams : List TypedStream) (j : ℕ) (one : TypedStream)
-    → AreValidStreams names folds before streams
-    → slice_get streams j ≡ Some one → (one.name.id < names) × valid.AreNames names one.columns
+    → AreValidStreams names folds before streams → slice_get streams j ≡ Some one → (one.name.id < names) × valid.AreNames names one.columns
 stream_below names folds before [] j one v h = cc
 stream_below names folds before (s ∷ rest) zero one v h =
     subst (λ (t : TypedStream). (t.name.id < names) × valid.AreNames names t.columns) (same_Some s one h) (v.0.name, v.0.columns)
@@ -188,9 +171,8 @@ stream_below names folds before (s ∷ rest) (suc j) one v h = stream_below name
 
 -- the names of groupbys differ
 names_new : (names : List (List ℕ)) → AreOnce names → (folds : List TypedFold) (streams earlier : List TypedStream)
-    → AreValidStreams (length names) folds earlier streams
-    → (before : List ℕ) (texts : List (List ℕ)) → Cover names before texts → AreNew before (map (λ one. one.name.id) streams)
-    → AreNew texts (map (λ shape. shape.name) (groups_of names folds streams))
+    → AreValidStreams (length names) folds earlier streams → (before : List ℕ) (texts : List (List ℕ)) → Cover names before texts
+    → AreNew before (map (λ one. one.name.id) streams) → AreNew texts (map (λ shape. shape.name) (groups_of names folds streams))
 names_new names once folds [] earlier v before texts cover new = tt
 names_new names once folds (one ∷ rest) earlier v before texts cover new = by (shape_made names folds one one.op) refl
     (λ more covered. names_new names once folds rest (earlier ++ one ∷ []) v.1 (before ++ one.name.id ∷ []) more covered new.1)
@@ -219,18 +201,16 @@ id_in (s ∷ streams) zero one h = inl (ap (λ (t : TypedStream). t.name.id) (sy
 id_in (s ∷ streams) (suc j) one h = inr (id_in streams j one h)
 
 shape_named : (q : TypedQuery) (packets : ℕ) → packets ≡ number_in q.names (codes "pktstream") → IsValidQuery q → AreGood q.names
-    → NamesDiffer packets q
-    → (j : ℕ) (one : TypedStream) (args number : ℕ) (f : TypedFold) → slice_get q.streams j ≡ Some one → slice_get q.folds number ≡ Some f
-    → AreNew [] one.columns
-    → AreApart one.columns f.state_names → IsNamedWell (shape_with q.names one.name.id one.columns args f)
+    → NamesDiffer packets q → (j : ℕ) (one : TypedStream) (args number : ℕ) (f : TypedFold) → slice_get q.streams j ≡ Some one
+    → slice_get q.folds number ≡ Some f → AreNew [] one.columns → AreApart one.columns f.state_names
+    → IsNamedWell (shape_with q.names one.name.id one.columns args f)
 shape_named q packets is v good differ j one args number f here fold new apart =
     let below = stream_below (length q.names) q.folds [] q.streams j one v.streams here in
     let states = (all_at (HasNames (length q.names)) q.folds number f v.fold_names fold).states in
     let there : slice_get q.names one.name.id ≡ Some (text_at q.names one.name.id) = text_there q.names one.name.id below.0 in
     record {
       named = good.lexical one.name.id (text_at q.names one.name.id) there;
-      no_stream = λ e.
-          (let same : number_in q.names (codes "pktstream") ≡ one.name.id =
+      no_stream = λ e. (let same : number_in q.names (codes "pktstream") ≡ one.name.id =
           number_at q.names one.name.id (codes "pktstream") good.once (there ∙ ap Some e) in
           new_apart (packets ∷ []) (map (λ (s : TypedStream). s.name.id) q.streams) one.name.id differ.streams (inl (sym (is ∙ same)))
           (id_in q.streams j one here));
@@ -242,8 +222,7 @@ shape_named q packets is v good differ j one args number f here fold new apart =
     }
 
 pub named_well : (q : TypedQuery) (packets : ℕ) → packets ≡ number_in q.names (codes "pktstream") → IsValidQuery q → AreGood q.names
-    → NamesDiffer packets q
-    → (i : ℕ) (shape : GroupShape) → slice_get (query_groups q) i ≡ Some shape → IsNamedWell shape
+    → NamesDiffer packets q → (i : ℕ) (shape : GroupShape) → slice_get (query_groups q) i ≡ Some shape → IsNamedWell shape
 named_well q packets is v good differ i shape e =
     let from = group_from q.names q.folds q.streams i shape e in
     let made = made_by q.names q.folds from.1 from.1.op shape from.3 (differ.columns from.0 from.1 from.2) in

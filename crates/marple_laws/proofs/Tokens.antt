@@ -1,12 +1,9 @@
 -- Words without a space and without LF, and how a line of them is split.
-use Rattle.std.proofs.Common.{◌≡◌, ℕ, Bool, true, false, List, [], ◌∷◌, ◌++◌, refl, ap, ◌∙◌, append-nil, append_assoc}
-use Rattle.std.specs.Prelude.{All, flat_map, not, ◌&&◌}
-use Rattle.std.specs.List.{list_all}
-use Rattle.std.proofs.lemmas.List.Elements.{All-nil, All-cons}
-use Rattle.std.proofs.lemmas.List.Folds.{list_all-append}
+use Rattle.marple_laws.proofs.Words.{◌≡◌, ℕ, Bool, true, false, List, [], ◌∷◌, ◌++◌, refl, ap, ◌∙◌, append-nil, append_assoc, All, flat_map}
+use Rattle.marple_laws.proofs.Words.{list_all, All-nil, All-cons, list_all-append, is_line_feed, is_space, pieces, lines, bytes_after_lines}
+use Rattle.marple_laws.proofs.Words.{all_but_last, last_of, tokens, spaced}
+use Rattle.std.specs.Prelude.{not, ◌&&◌}
 use Rattle.std.proofs.lemmas.List.Splits.{slice_split_at, slice_split_none}
-use Rattle.plan_file.specs.Lexis.{is_line_feed, is_space, pieces, lines, bytes_after_lines, all_but_last, last_of, tokens}
-use Rattle.plan_writer.specs.Words.{spaced}
 
 -- both of two tests
 pub both_true : (a b : Bool) → (a && b) ≡ true → (a ≡ true) × (b ≡ true)
@@ -96,9 +93,8 @@ pieces_of (one ∷ all) are =
     ∙ ap (λ l. one ∷ l) (pieces_of all are.1)
 
 but_last : (all : List (List ℕ)) → all_but_last (all ++ [] ∷ []) ≡ all
-but_last [] = refl
-but_last (one ∷ []) = refl
-but_last (one ∷ next ∷ all) = ap (λ l. one ∷ l) (but_last (next ∷ all))
+but_last (one ∷ next ∷ all) = ap (λ l. one ∷ l) (but_last _)
+but_last _ = refl
 
 the_last : (all : List (List ℕ)) → last_of (all ++ [] ∷ []) ≡ []
 the_last [] = refl

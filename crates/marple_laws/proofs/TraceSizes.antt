@@ -1,20 +1,13 @@
 -- The words of generated packets are small, so that the text of a million packets keeps the limit of a trace.
-use Rattle.std.proofs.Common.{◌≡◌, ◌⊎◌, inl, inr, ℕ, zero, suc, ◌+◌, ◌-◌, ◌*◌, ◌%◌, ◌^◌, ◌<◌, ◌≤◌, Bool, true, false, cond, List, [], ◌∷◌}
-use Rattle.std.proofs.Common.{◌++◌, length, filter, Option, Some, None, refl, ap, ◌∙◌, arith, length-append}
-use Rattle.std.specs.Prelude.{◌==◌, codes, decimal, flat_map, nat_lt, unwrap_or}
-use Rattle.std.proofs.lemmas.Bool.Decides.{nat_tests}
-use Rattle.std.proofs.lemmas.Fmt.{length-decimal-le}
-use Rattle.std.proofs.lemmas.Grind.{flat_map-append}
-use Rattle.epoch_model.proofs.KeyLists.{by_test}
-use Rattle.marple_base.specs.declared.field.Field.TheVariants.{Tout}
-use Rattle.marple_base.specs.declared.field.Packet.{Packet}
-use Rattle.marple_base.specs.declared.field.TheConstants.{FIELDS}
-use Rattle.trace_reader.specs.declared.fault.TheConstants.{MAX_TRACE}
+use Rattle.marple_laws.proofs.Words.{◌≡◌, ◌⊎◌, inl, inr, ℕ, zero, suc, ◌+◌, ◌-◌, ◌*◌, ◌%◌, ◌^◌, ◌<◌, ◌≤◌, Bool, true, false, cond, List, []}
+use Rattle.marple_laws.proofs.Words.{◌∷◌, ◌++◌, length, filter, Option, Some, None, refl, ap, ◌∙◌, arith, length-append, ◌==◌, codes}
+use Rattle.marple_laws.proofs.Words.{decimal, flat_map, unwrap_or, length-decimal-le, flat_map-append, by_test, Tout, Packet, FIELDS}
+use Rattle.marple_laws.proofs.Words.{MAX_TRACE, ArePackets, ArePacketWords, continued, header, packet_texts, trace_text, word_text}
+use Rattle.std.specs.Prelude.{nat_lt}
 use Rattle.queue_sim.specs.Generator.{Arrival, arrival_by, arrivals, drawn_after, last_time, leaves, generated_packet, packets_from}
 use Rattle.queue_sim.specs.Generator.{simulated}
 use Rattle.queue_sim.specs.Generator.{still_there, switch_of, touts_at, with_some}
-use Rattle.queue_sim.specs.ReadBack.{ArePackets, ArePacketWords}
-use Rattle.queue_sim.specs.TraceText.{continued, header, line, packet_texts, trace_text, word_text}
+use Rattle.queue_sim.specs.TraceText.{line}
 use Rattle.queue_sim.proofs.Bounds.{drawn_small, number_small, time_small, tout_small}
 
 -- ---- lines
@@ -47,16 +40,16 @@ record IsSmall (a : Arrival) : Type 0 where
   tout : (unwrap_or a.tout (2 ^ 64 - 1) < 10 ^ 10) ⊎ (unwrap_or a.tout (2 ^ 64 - 1) ≡ 2 ^ 64 - 1)
 
 tout_short : (w : ℕ) → (w < 10 ^ 10) ⊎ (w ≡ 2 ^ 64 - 1) → length (word_text Tout w) ≤ 10
-tout_short w h = go (w == 2 ^ 64 - 1) refl h
+tout_short w h = go _ refl h
   where
     go : (b : Bool) → (w == 2 ^ 64 - 1) ≡ b → (w < 10 ^ 10) ⊎ (w ≡ 2 ^ 64 - 1) → length (cond b (codes "inf") (decimal w)) ≤ 10
     go true t some = omega arith
     go false t (inl small) = short w small
-    go false t (inr e) = let no : ⊥ = grind (arith, nat_tests) in absurd no
+    go false t (inr e) = let no : ⊥ = grind arith in absurd no
 
 tout_word : (w : ℕ) → (w < 10 ^ 10) ⊎ (w ≡ 2 ^ 64 - 1) → w < 2 ^ 64
 tout_word w (inl small) = omega arith
-tout_word w (inr e) = omega (arith, e)
+tout_word w (inr e) = omega arith
 
 module _ (n : ℕ) (a : Arrival) (few : n ≤ 1000000) (small : IsSmall a) where
   packet_line : length (line (packet_texts (generated_packet n a))) ≤ 165
@@ -82,13 +75,7 @@ module _ (n : ℕ) (a : Arrival) (few : n ≤ 1000000) (small : IsSmall a) where
                       short a.payload (omega (arith, small.payload)),
                       (
                         short a.seq small.seq,
-                        (
-                          short a.time small.time,
-                          (
-                            tout_short (unwrap_or a.tout (2 ^ 64 - 1)) small.tout,
-                            (short a.qsize small.qsize, tt),
-                          ),
-                        ),
+                        (short a.time small.time, (tout_short (unwrap_or a.tout (2 ^ 64 - 1)) small.tout, (short a.qsize small.qsize, tt))),
                       ),
                     ),
                   ),
@@ -109,32 +96,14 @@ module _ (n : ℕ) (a : Arrival) (few : n ≤ 1000000) (small : IsSmall a) where
       (
         omega arith,
         (
-          omega (arith, small.flow),
+          omega arith,
           (
             omega arith,
             (
-              omega (arith, small.flow),
+              omega arith,
               (
                 omega arith,
-                (
-                  omega arith,
-                  (
-                    omega (arith, small.payload),
-                    (
-                      omega (arith, small.payload),
-                      (
-                        omega (arith, small.seq),
-                        (
-                          omega (arith, small.time),
-                          (
-                            tout_word (unwrap_or a.tout (2 ^ 64 - 1)) small.tout,
-                            (omega (arith, small.qsize), tt),
-                          ),
-                        ),
-                      ),
-                    ),
-                  ),
-                ),
+                (omega arith, (omega arith, (omega arith, (omega arith, (omega arith, (tout_word _ small.tout, (omega arith, tt))))))),
               ),
             ),
           ),
@@ -147,9 +116,7 @@ module _ (n : ℕ) (a : Arrival) (few : n ≤ 1000000) (small : IsSmall a) where
 
 filter_few : {A : Type 0} (p : A → Bool) (xs : List A) → length (filter p xs) ≤ length xs
 filter_few p [] = omega arith
-filter_few p (x ∷ xs) = by_test (p x)
-    (λ t. rw t (omega (arith, filter_few p xs)))
-    (λ t. rw t (omega (arith, filter_few p xs)))
+filter_few p (x ∷ xs) = by_test (p x) (λ t. rw t (omega (arith, filter_few p xs))) (λ t. rw t (omega (arith, filter_few p xs)))
 
 touts_few : (switch : ℕ) (list : List Arrival) → length (touts_at switch list) ≤ length list
 touts_few switch [] = omega arith
@@ -192,8 +159,7 @@ module _ (start capacity : ℕ) where
       waiting = omega (
         arith,
         filter_few (nat_lt (next_time n)) (next_touts n),
-        touts_few (switch_of (drawn_after start (4 * n)).flow)
-            (arrivals start capacity n),
+        touts_few (switch_of (drawn_after start (4 * n)).flow) (arrivals start capacity n),
         arrivals_many n,
       )
 
@@ -203,14 +169,12 @@ module _ (start capacity : ℕ) where
         time_small start capacity n,
         drawn.0,
         drawn.2,
-        tout_small start capacity n
-            (switch_of (drawn_after start (4 * n)).flow),
+        tout_small start capacity n (switch_of (drawn_after start (4 * n)).flow),
       )
 
       go : (b : Bool) → (unwrap_or (cond b (Some (leaves (next_time n) (drawn_after start (4 * n)).payload (next_touts n))) None)
-          (2 ^ 64 - 1) < 10 ^ 10)
-          ⊎ (unwrap_or (cond b (Some (leaves (next_time n) (drawn_after start (4 * n)).payload (next_touts n))) None) (2 ^ 64 - 1) ≡ 2 ^ 64
-          - 1)
+          (2 ^ 64 - 1) < 10 ^ 10) ⊎ (unwrap_or (cond b (Some (leaves (next_time n) (drawn_after start (4 * n)).payload (next_touts n)))
+          None) (2 ^ 64 - 1) ≡ 2 ^ 64 - 1)
       go true = inl leaving
       go false = inr refl
 

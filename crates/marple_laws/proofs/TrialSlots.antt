@@ -1,48 +1,22 @@
 -- The groupbys of the trial's query take from the packets themselves, and only words of fields that the query reads.
-use Rattle.std.proofs.Common.{◌≡◌, inl, inr, ℕ, zero, suc, Bool, true, false, cond, ◌&&◌, List, [], ◌∷◌, ◌++◌, length, map, Option, Some}
-use Rattle.std.proofs.Common.{None, refl, sym, ap, ap₂, subst, ◌∙◌, arith}
-use Rattle.std.specs.Prelude.{◌==◌, Ok, Err, slice_get, slice_index}
-use Rattle.std.specs.List.{list_all, list_any}
-use Rattle.std.proofs.lemmas.Bool.{and_parts, false≢true}
-use Rattle.std.proofs.lemmas.Bool.Decides.{nat_tests}
-use Rattle.std.proofs.lemmas.List.Elements.{All-head, All-tail}
-use Rattle.epoch_model.specs.Epochs.{Geometry}
-use Rattle.epoch_model.proofs.KeyLists.{by_test}
-use Rattle.epoch_entry.specs.Foldings.{folding_of}
-use Rattle.final_queries.specs.Finals.{with_finals}
-use Rattle.final_queries.specs.GroupTable.{group_table}
-use Rattle.marple_base.specs.Field.{all_fields, has_field, number_of}
-use Rattle.marple_base.specs.declared.field.Field.{Field}
-use Rattle.marple_base.specs.declared.field.Field.TheVariants.{Switch, Qid, Uid, SrcIp, DstIp, SrcPort, DstPort, Proto, PktLen, PayloadLen}
-use Rattle.marple_base.specs.declared.field.Field.TheVariants.{TcpSeq, Tin, Tout, QSize}
-use Rattle.marple_base.specs.declared.field.FieldSet.{FieldSet}
-use Rattle.marple_base.specs.declared.field.TheConstants.{FIELDS}
-use Rattle.query_lang.specs.declared.fold.TypedFold.{TypedFold}
+use Rattle.marple_laws.proofs.Words.{◌≡◌, inl, inr, ℕ, zero, suc, Bool, true, cond, ◌&&◌, List, [], ◌∷◌, ◌++◌, length, map, Option, Some}
+use Rattle.marple_laws.proofs.Words.{None, refl, sym, ap, ap₂, subst, ◌∙◌, arith, ◌==◌, slice_index, list_all, list_any, and_parts}
+use Rattle.marple_laws.proofs.Words.{false≢true, nat_tests, All-head, All-tail, Geometry, by_test, folding_of, with_finals, group_table}
+use Rattle.marple_laws.proofs.Words.{all_fields, has_field, number_of, Field, Switch, Qid, Uid, SrcIp, DstIp, SrcPort, DstPort, Proto}
+use Rattle.marple_laws.proofs.Words.{PktLen, PayloadLen, TcpSeq, Tin, Tout, QSize, FieldSet, FIELDS, TypedFold, TypedQuery, TypedStream}
+use Rattle.marple_laws.proofs.Words.{Earlier, Given, Checked, and_then, Taking, stream, takings, values_at, given_of, start_of, typed_names}
+use Rattle.marple_laws.proofs.Words.{items_checked, ended, with_fold, checked, parsed_text, group_tables, heading_of_shape, printed}
+use Rattle.marple_laws.proofs.Words.{query_text, table_if, tables_from, taken_by, use_of, uses, read_fields, reads_of, AreWhole, fold_at}
+use Rattle.marple_laws.proofs.Words.{GroupShape, query_groups, accepted, staged, trial_query, zeroed}
+use Rattle.std.specs.Prelude.{Ok, Err, slice_get}
 use Rattle.query_lang.specs.declared.query.Item.TheVariants as item
-use Rattle.query_lang.specs.declared.typed.TypedQuery.{TypedQuery}
-use Rattle.query_lang.specs.declared.typed.TypedStream.{TypedStream}
-use Rattle.query_lang.specs.declared.typing.Earlier.{Earlier}
-use Rattle.query_lang.specs.declared.typing.Given.{Given}
-use Rattle.query_lang.specs.Checks.{Checked, and_then}
 use Rattle.query_lang.specs.Lexis.{reserved, cut}
-use Rattle.query_lang.specs.Streams.{Taking, stream, takings, values_at}
-use Rattle.query_lang.specs.Typing.{given_of, start_of, typed_names, items_checked, ended, with_fold, checked}
 use Rattle.query_grammar.specs.Reading.{expr_at, stmt_at}
-use Rattle.query_grammar.specs.Texts.{parsed_text}
-use Rattle.query_tables.specs.Tables.{group_tables, heading_of_shape, printed, query_text, table_if, tables_from}
-use Rattle.query_types.specs.Uses.{taken_by, use_of, uses}
-use Rattle.stage_plan.specs.Fields.{read_fields, reads_of}
-use Rattle.stage_plan.specs.Packets.{AreWhole}
-use Rattle.stage_plan.specs.Planned.{fold_at}
-use Rattle.stage_plan.specs.Shape.{GroupShape, query_groups}
 use Rattle.stage_plan.proofs.StreamRows.{Row, all_rows, row_at, row_made, rows_from, stream_rows, tuple_of, tuples}
-use Rattle.accepted_query.specs.Accepted.{accepted, staged}
-use Rattle.accepted_query.specs.TrialQuery.{trial_query}
 use Rattle.accepted_query.proofs.TrialSteps.{fold_next}
 use Rattle.accepted_query.proofs.TrialParts.{at, count_fold, lost_fold, oos_fold, deepest_fold, trial_names, trial_rest, trial_read}
 use Rattle.accepted_query.proofs.TrialTyped.{count_typed, count_is, lost_typed, lost_is, oos_typed, oos_is, deepest_typed, deepest_is}
 use Rattle.marple_laws.proofs.Listed.{IsIn, in_set}
-use Rattle.marple_laws.specs.FewerFields.{zeroed}
 
 -- ---- a query whose groupbys take from the packets, out of fields that it reads
 
@@ -121,14 +95,13 @@ word_kept reads (a ∷ b ∷ c ∷ d ∷ e ∷ g ∷ h ∷ i ∷ j ∷ k ∷ l �
     by Tin t = ap (λ x. cond x m 0) t
     by Tout t = ap (λ x. cond x n 0) t
     by QSize t = ap (λ x. cond x o 0) t
-word_kept reads words size f has = absurd (omega (arith, size))
+word_kept reads words size f has = absurd (omega arith)
 
 found_field : (fields : List Field) (slot : ℕ) → list_any (λ f. number_of f == slot) fields ≡ true
     → (f : Field) × IsIn f fields × (number_of f ≡ slot)
 found_field [] slot e = absurd (false≢true e)
-found_field (f ∷ fields) slot e = by_test (number_of f == slot)
-    (λ t. let same : number_of f ≡ slot = grind (arith, nat_tests) in (f, inl refl, same))
-    (λ t. let more = found_field fields slot (rw t at e) in (more.0, inr more.1, more.2))
+found_field (f ∷ fields) slot e = by_test (number_of f == slot) (λ t. let same : number_of f ≡ slot =
+    grind (arith, nat_tests) in (f, inl refl, same)) (λ t. let more = found_field fields slot (rw t at e) in (more.0, inr more.1, more.2))
 
 module _ (q : TypedQuery) where
   abbrev kept : List ℕ → List ℕ
@@ -167,9 +140,8 @@ module _ (q : TypedQuery) where
       ∙ same_tuples (λ words. row_at (all_rows q words) 0) (λ words. Some words) (λ words. first_kept q.streams (Some words) []) 1 packets
 
   along : (t : Taking) → list_all (is_slot_read q) t.keys ≡ true → list_all (is_slot_read q) t.args ≡ true
-      → (n : ℕ) (packets : List (List ℕ))
-      → AreWhole packets → map (use_of t) (tuples (λ words. Some words) n (map kept packets)) ≡ map (use_of t)
-      (tuples (λ words. Some words) n packets)
+      → (n : ℕ) (packets : List (List ℕ)) → AreWhole packets → map (use_of t) (tuples (λ words. Some words) n (map kept packets)) ≡ map
+      (use_of t) (tuples (λ words. Some words) n packets)
   along t keys args n [] whole = refl
   along t keys args n (words ∷ packets) whole =
       let size : length words ≡ FIELDS = All-head (λ (ws : List ℕ). length ws ≡ FIELDS) words packets whole in

@@ -1,21 +1,10 @@
 -- The text of generated packets, read for the trial's query.
-use Rattle.std.proofs.Common.{◌≡◌, ℕ, List, [], ◌∷◌, length, map, None, refl, ap, ap₂, ◌∙◌, arith}
-use Rattle.std.proofs.lemmas.List.Elements.{All-nil, All-cons}
-use Rattle.marple_base.specs.Field.{all_fields}
-use Rattle.marple_base.specs.declared.field.FieldSet.{FieldSet}
-use Rattle.marple_base.specs.declared.field.Packet.{Packet}
-use Rattle.marple_base.specs.declared.field.TheConstants.{FIELDS}
-use Rattle.query_tables.specs.Tables.{query_text}
+use Rattle.marple_laws.proofs.Words.{◌≡◌, ℕ, List, [], ◌∷◌, length, map, None, refl, ap, ap₂, ◌∙◌, arith, All-nil, All-cons, all_fields}
+use Rattle.marple_laws.proofs.Words.{FieldSet, Packet, FIELDS, query_text, ArePackets, trace_text, reads_of, AreWhole, words_of, zeroed}
+use Rattle.marple_laws.proofs.Words.{all_as_read, TrialsRunOverTexts}
 use Rattle.queue_sim.specs.Generator.{simulated}
-use Rattle.queue_sim.specs.ReadBack.{ArePackets}
-use Rattle.queue_sim.specs.TraceText.{trace_text}
 use Rattle.queue_sim.proofs.ReadBackFacts.{texts_read_back_lem}
-use Rattle.stage_plan.specs.Fields.{reads_of}
-use Rattle.stage_plan.specs.Packets.{AreWhole}
-use Rattle.trace_drive.specs.Drives.{words_of}
 use Rattle.trace_reader.specs.Traces.{Contents, contents}
-use Rattle.marple_laws.specs.FewerFields.{zeroed, all_as_read}
-use Rattle.marple_laws.specs.TrialRuns.{TrialsRunOverTexts}
 use Rattle.marple_laws.proofs.ReadFewer.{whole, every, read_fewer}
 use Rattle.marple_laws.proofs.TraceSizes.{made_packets, made_many, text_fits}
 use Rattle.marple_laws.proofs.TrialSlots.{trial_is_plain, text_kept}
@@ -41,8 +30,6 @@ run_over_texts q count start capacity e few =
     let fewer = read_fewer text (reads_of q) made all in
     record {
       accepted = ap (λ (c : Contents). c.fault) fewer;
-      written = λ g.
-          ap (λ (c : Contents). query_text q g (words_of c.packets)) fewer
-          ∙ ap (query_text q g) (words_as_read (reads_of q) made)
-          ∙ text_kept q (trial_is_plain q e) g (words_of made) (are_whole made are);
+      written = λ g. ap (λ (c : Contents). query_text q g (words_of c.packets)) fewer
+          ∙ ap (query_text q g) (words_as_read (reads_of q) made) ∙ text_kept q (trial_is_plain q e) g (words_of made) (are_whole made are);
     }

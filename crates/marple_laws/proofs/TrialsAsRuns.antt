@@ -1,16 +1,6 @@
 -- A trial writes what a run writes over the generated text.
-use Rattle.std.proofs.Common.{◌≡◌, ℕ, List, Ok, ap, sym, ◌∙◌}
-use Rattle.accepted_query.specs.Accepted.{accepted, fault_in}
-use Rattle.accepted_query.specs.TrialQuery.{trial_query}
-use Rattle.marple_base.specs.declared.field.Packet.{Packet}
-use Rattle.query_lang.specs.declared.typed.TypedQuery.{TypedQuery}
-use Rattle.query_lang.specs.Checks.{Checked}
-use Rattle.query_run.specs.Driven.{geometry_of}
-use Rattle.query_run.specs.Views.{NoViewsWithoutNumber}
-use Rattle.query_tables.specs.Tables.{query_text}
-use Rattle.queue_sim.specs.TraceText.{trace_text}
-use Rattle.trace_drive.specs.Drives.{words_of}
-use Rattle.marple_laws.specs.TrialRuns.{TrialsRunOverTexts}
+use Rattle.marple_laws.proofs.Words.{◌≡◌, ℕ, List, Ok, ap, sym, ◌∙◌, accepted, fault_in, trial_query, Packet, TypedQuery, Checked}
+use Rattle.marple_laws.proofs.Words.{geometry_of, NoViewsWithoutNumber, query_text, trace_text, words_of, TrialsRunOverTexts}
 use Rattle.marple_cli.specs.Output.{fault_for, made_packets, read_packets, run_text, tables_text}
 use Rattle.marple_laws.specs.Trials.{TrialsAreRuns}
 

@@ -1,13 +1,7 @@
 -- Texts of whole lines, and what their lines make.
-use Rattle.std.proofs.Common.{◌≡◌, ℕ, true, List, [], ◌∷◌, ◌++◌, refl, sym, ap, subst, ◌∙◌, append_assoc, append-nil}
-use Rattle.std.proofs.lemmas.Grind.{flat_map-append}
-use Rattle.plan_file.specs.declared.line_word.LineWord.{LineWord}
-use Rattle.plan_file.specs.declared.made.Made.{Made}
-use Rattle.plan_file.specs.LineWords.{first_line_word, line_word, word_named}
-use Rattle.plan_file.specs.Lexis.{tokens}
-use Rattle.plan_file.specs.Lines.{IsLineOf}
-use Rattle.plan_file.specs.Texts.{Make}
-use Rattle.plan_writer.specs.Words.{spaced, line}
+use Rattle.marple_laws.proofs.Words.{◌≡◌, ℕ, true, List, [], ◌∷◌, ◌++◌, refl, sym, ap, subst, ◌∙◌, append_assoc, append-nil}
+use Rattle.marple_laws.proofs.Words.{flat_map-append, LineWord, Made, first_line_word, line_word, word_named, tokens, IsLineOf, Make}
+use Rattle.marple_laws.proofs.Words.{spaced, line}
 use Rattle.marple_laws.proofs.Tokens.{is_token, AreTokens, AreLines, ended, tokens_of, none_in_line, lines_append}
 
 pub make_both : (xs ys : List (List ℕ)) (before mid after : Made) → Make xs before mid → Make ys mid after → Make (xs ++ ys) before after
@@ -35,17 +29,15 @@ written_then a b before mid after p q = record {
 
 -- one line of these words
 pub line_written : (word : LineWord) (first : List ℕ) (words : List (List ℕ)) (before after : Made) → is_token first ≡ true
-    → AreTokens words → word_named first ≡ word →
-    (tokens (first ++ spaced words) ≡ first ∷ words → IsLineOf word before (first ++ spaced words) after)
-    → IsWritten (line first words) before after
+    → AreTokens words → word_named first ≡ word → (tokens (first ++ spaced words) ≡ first ∷ words
+    → IsLineOf word before (first ++ spaced words) after) → IsWritten (line first words) before after
 line_written word first words before after t are named valid = record {
   all = (first ++ spaced words) ∷ [];
   each = (none_in_line first words t are, tt);
   text_is = sym (append_assoc first (spaced words) (10 ∷ [])) ∙ sym (append-nil ((first ++ spaced words) ++ 10 ∷ []));
   make = (
     after,
-    subst (λ w. IsLineOf w before (first ++ spaced words) after) (sym (first_is ∙ named))
-        (valid (tokens_of first words t are)),
+    subst (λ w. IsLineOf w before (first ++ spaced words) after) (sym (first_is ∙ named)) (valid (tokens_of first words t are)),
     refl,
   );
 }

@@ -1,4 +1,4 @@
-use Rattle.epoch_model.specs.Machine.{run, empty_machine}
+use Rattle.marple_laws.proofs.Words.{run, empty_machine}
 use Rattle.switch_core.specs.Lanes.{geometry}
 use Rattle.marple_laws.proofs.BucketKeys.{keys_in_buckets}
 use Rattle.marple_laws.proofs.lanes.lanes_keep_keys_in_buckets.Goals as goal

@@ -1,5 +1,4 @@
-use Rattle.std.proofs.Common.{subst}
-use Rattle.switch_core.specs.PlanLanes.{AreLanesOf}
+use Rattle.marple_laws.proofs.Words.{subst, AreLanesOf}
 use Rattle.marple_laws.proofs.LeftTables.{of_query, of_plan}
 use Rattle.marple_laws.proofs.left.closed_tables.Goals as goal
 
