@@ -1,11 +1,10 @@
 -- The text of an accepted query's plan says what the query does.
 use Rattle.marple_laws.proofs.Words.{accepted_valid, AcceptedLoadAsQueries}
 use Rattle.marple_laws.proofs.Loads.{loads}
-use Rattle.marple_laws.specs.PlanOf.{plan_of}
 use Rattle.marple_laws.proofs.Hold.{plan_texts}
 use Rattle.marple_laws.proofs.PlanOf.{accepted_put}
 
 pub accepted_load : AcceptedLoadAsQueries
 accepted_load text q e none =
-    let plan = accepted_put text q e in
-    loads q (plan_of q) (accepted_valid text q e) (plan_texts text q e none) plan.is_plan plan.is_sound none
+    let plan = accepted_put _ q e in
+    loads q _ (accepted_valid text q e) (plan_texts text q e none) plan.is_plan plan.is_sound none

@@ -1,14 +1,14 @@
 -- The operations of a query's plan are allowed in sequence, and its groupbys after them.
 use Rattle.marple_laws.proofs.Words.{◌≡◌, ℕ, zero, suc, ◌+◌, ◌-◌, ◌<◌, ◌≤◌, Bool, true, false, List, [], ◌∷◌, ◌++◌, length, take, Some}
 use Rattle.marple_laws.proofs.Words.{None, Option, refl, sym, ap, subst, ◌∙◌, inl, inr, arith, option_map, unwrap_or, if◌then◌else◌}
-use Rattle.marple_laws.proofs.Words.{range_with_len, nat_tests, length-take-le, length-map, slice_get_within, slice_get_cases}
-use Rattle.marple_laws.proofs.Words.{slice_get-map, get_or_from_slice_get, same_Some, FIELDS, TypedFold, TypedOp, TypedQuery, TypedStream}
-use Rattle.marple_laws.proofs.Words.{IsValidFold, fold_states, Taking, takings, IsValidQuery, least_from, IsProgramOf, GroupPlan, Operand}
-use Rattle.marple_laws.proofs.Words.{Register, Number, PlanOp, FieldSource, reads_of, all_sources, sources_at, named_input, named_slots}
-use Rattle.marple_laws.proofs.Words.{moved, moved_op, op_numbered, wiring_of, IsPlanOf, fold_at, query_made, operand_stage, stages_of}
-use Rattle.marple_laws.proofs.Words.{GroupShape, group_shape, query_groups, PlanParts, IsWithin, IsSoundOp, AreSoundOps, IsSoundGroup}
-use Rattle.marple_laws.proofs.Words.{IsSoundPlan, ordered, op_at, stage_at, stage_of, last_stage, query_order, register_in, query_registers}
-use Rattle.marple_laws.proofs.Words.{query_ops, query_wiring, fields_of, ops_are, wiring_is, fold_found, IsNamedWell, HasPlanText}
+use Rattle.marple_laws.proofs.Words.{range_with_len, length-take-le, length-map, slice_get_within, slice_get_cases, slice_get-map}
+use Rattle.marple_laws.proofs.Words.{get_or_from_slice_get, same_Some, FIELDS, TypedFold, TypedOp, TypedQuery, TypedStream, IsValidFold}
+use Rattle.marple_laws.proofs.Words.{fold_states, Taking, takings, IsValidQuery, least_from, IsProgramOf, GroupPlan, Operand, Register}
+use Rattle.marple_laws.proofs.Words.{Number, PlanOp, FieldSource, reads_of, all_sources, sources_at, named_input, named_slots, moved}
+use Rattle.marple_laws.proofs.Words.{moved_op, op_numbered, wiring_of, IsPlanOf, fold_at, query_made, operand_stage, stages_of, GroupShape}
+use Rattle.marple_laws.proofs.Words.{group_shape, query_groups, PlanParts, IsWithin, IsSoundOp, AreSoundOps, IsSoundGroup, IsSoundPlan}
+use Rattle.marple_laws.proofs.Words.{ordered, op_at, stage_at, stage_of, last_stage, query_order, register_in, query_registers, query_ops}
+use Rattle.marple_laws.proofs.Words.{query_wiring, fields_of, ops_are, wiring_is, fold_found, IsNamedWell, HasPlanText}
 use Rattle.std.specs.Prelude.{map, slice_get, nat_lt}
 use Rattle.query_lang.specs.declared.typed.TypedOp.TheVariants as op
 use Rattle.stage_plan.specs.Making.{operand_at, wires_at}
@@ -35,14 +35,14 @@ stage_found (Some one) = refl
 -- an operand of an earlier operation keeps its stage
 stage_before : (ops : List PlanOp) (i : ℕ) (o : Operand) → IsWithin (FIELDS + i) o → stage_of (take i ops) o ≡ operand_stage ops o
 stage_before ops i (Number n) inside = refl
-stage_before ops i (Register r) inside = by (nat_lt r FIELDS) refl
+stage_before ops i (Register r) inside = by _ refl
   where
     by : (b : Bool) → nat_lt r FIELDS ≡ b → (if b then 0 else stage_at (slice_get (take i ops) (r - FIELDS)))
         ≡ (if b then 0 else unwrap_or (option_map (λ one. one.stage) (slice_get ops (r - FIELDS))) 0)
     by true e = refl
     by false e =
-        let late : FIELDS ≤ r = grind (arith, nat_tests) in
-        ap stage_at (front_at ops i (r - FIELDS) (omega (arith, late, inside))) ∙ stage_found (slice_get ops (r - FIELDS))
+        let late : FIELDS ≤ r = grind arith in
+        ap stage_at (front_at _ i _ (omega arith)) ∙ stage_found (slice_get ops (r - FIELDS))
 
 last_before : (ops : List PlanOp) (i : ℕ) (one : PlanOp) → AreSoundOps ops → slice_get ops i ≡ Some one
     → last_stage (take i ops) ≤ one.stage
@@ -71,27 +71,27 @@ module _ (q : TypedQuery) (p : PlanParts) (valid : IsValidQuery q) (text : HasPl
   where
     fit : AreFit q.folds
     fit i f e =
-        let v : IsValidFold f = subst IsValidFold (get_or_from_slice_get q.folds i f f e)
+        let v : IsValidFold f = subst IsValidFold (get_or_from_slice_get _ i f f e)
         (valid.folds i f (slice_get_within q.folds i f e)) in
         (v, text.initial i f e)
 
     good : AllAreGood (reads_of q) (all_sources q) (query_made q)
-    good = query_good q.folds (length q.names) q.streams fit valid.streams
+    good = query_good _ _ _ fit valid.streams
 
     named : AreNamed (reads_of q) (all_sources q) q.streams
-    named = named_from (reads_of q) (all_sources q) q.streams (λ f i. in_set _ f i)
+    named = named_from _ _ _ (λ f i. in_set _ f i)
 
     beyond : AreAfterFields (query_registers q)
-    beyond k r e = go (slice_get (range_with_len 0 (length (query_made q).ops)) k) refl
+    beyond k r e = go _ refl
       where
         go : (o : Option ℕ) → slice_get (range_with_len 0 (length (query_made q).ops)) k ≡ o → FIELDS ≤ r
         go None h = let none : None ≡ Some r = sym (slice_get-map (register_in (query_order q))
-            (range_with_len 0 (length (query_made q).ops)) k ∙ ap (option_map (register_in (query_order q))) h) ∙ e in cc
+            (range_with_len 0 (length (query_made q).ops)) k ∙ ap (option_map _) h) ∙ e in cc
         go (Some c) h =
-            let same : register_in (query_order q) c ≡ r = same_Some (register_in (query_order q) c) r
+            let same : register_in (query_order q) c ≡ r = same_Some _ r
             (sym (slice_get-map (register_in (query_order q)) (range_with_len 0 (length (query_made q).ops)) k
-            ∙ ap (option_map (register_in (query_order q))) h) ∙ e) in
-            omega (arith, same)
+            ∙ ap (option_map _) h) ∙ e) in
+            omega arith
 
     sound_ops : AreSoundOps (query_ops q)
     sound_ops = subst AreSoundOps (ops_are q p plan) sound.ops
@@ -109,14 +109,14 @@ module _ (q : TypedQuery) (p : PlanParts) (valid : IsValidQuery q) (text : HasPl
         at = slice_get-map new_op (query_order q) i
 
         go : (o : Option ℕ) → slice_get (query_order q) i ≡ o → IsWritable (reads_of q) one
-        go None h = let none : None ≡ Some one = sym (at ∙ ap (option_map new_op) h) ∙ e in cc
+        go None h = let none : None ≡ Some one = sym (at ∙ ap (option_map _) h) ∙ e in cc
         go (Some c) h =
             let o = ordered (query_made q).ops (stages_of (query_made q).ops) i c h in
-            let same : new_op c ≡ one = same_Some (new_op c) one (sym (at ∙ ap (option_map new_op) h) ∙ e) in
+            let same : new_op c ≡ one = same_Some (new_op c) _ (sym (at ∙ ap (option_map new_op) h) ∙ e) in
             let is : moved_op (query_registers q) o.one ≡ one = ap (moved_op (query_registers q))
-            (sym (op_at (query_made q).ops c o.one o.found)) ∙ same in
-            subst (IsWritable (reads_of q)) is (moved_writable (reads_of q) (query_registers q) o.one beyond
-            (writable_at (reads_of q) (query_made q).ops c o.one good.written o.found))
+            (sym (op_at (query_made q).ops c _ o.found)) ∙ same in
+            subst (IsWritable (reads_of q)) is (moved_writable (reads_of q) (query_registers q) _ beyond
+            (writable_at (reads_of q) (query_made q).ops c _ good.written o.found))
 
     pub op_ok : (i : ℕ) (one : PlanOp) → slice_get (query_ops q) i ≡ Some one → IsOpOk (fields_of (reads_of q)) (take i (query_ops q)) one
     op_ok i one e = record {
@@ -161,7 +161,7 @@ module _ (q : TypedQuery) (p : PlanParts) (valid : IsValidQuery q) (text : HasPl
       where
         no : None ≡ Some t → ⊥
         no f = cc
-    named_taking sources (one ∷ streams) n i t e = by one.op n.0 (named_taking sources streams n.1) i e
+    named_taking sources (one ∷ streams) n i t e = by _ n.0 (named_taking sources streams n.1) i e
       where
         by : (o : TypedOp) → AreRead (reads_of q) (sources_at sources (named_input o)) (named_slots o)
             → ((i : ℕ) (t : Taking) → slice_get (takings streams) i ≡ Some t

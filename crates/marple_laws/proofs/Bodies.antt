@@ -57,10 +57,10 @@ argument_digits (c ∷ ds) v d e =
     (ap (λ o. lexeme_among None None None o) e)
 
 state_lexeme : (v : ℕ) → v < 2 ^ 64 → lexeme_of (state_word v) ≡ word.State v
-state_lexeme v small = state_digits (decimal v) v (decimal_is_IsNumeral v small).0.1 (number_decimal v small)
+state_lexeme v small = state_digits _ v (decimal_is_IsNumeral v small).0.1 (number_decimal v small)
 
 slot_read : (states s : ℕ) → s < 2 ^ 64 → lexeme_of (slot_word states s) ≡ slot_lexeme states s
-slot_read states s small = by (nat_lt s states)
+slot_read states s small = by _
   where
     less : s - states < 2 ^ 64
     less = omega arith
@@ -68,8 +68,7 @@ slot_read states s small = by (nat_lt s states)
     by : (b : Bool) → lexeme_of (if b then state_word s else 97 ∷ decimal (s - states))
         ≡ (if b then word.State s else word.Argument (s - states))
     by true = state_lexeme s small
-    by false = argument_digits (decimal (s - states)) (s - states) (decimal_is_IsNumeral (s - states) less).0.1
-        (number_decimal (s - states) less)
+    by false = argument_digits _ _ (decimal_is_IsNumeral (s - states) less).0.1 (number_decimal _ less)
 
 set_lexeme : lexeme_of (codes "set") ≡ word.Set
 unfolding lexeme_of

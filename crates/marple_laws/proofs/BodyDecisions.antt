@@ -1,8 +1,7 @@
 -- Whether tokens of bodies are the same, and whether a body is valid, is decided.
 use Rattle.marple_laws.proofs.Words.{◌≡◌, ℕ, ◌+◌, ◌<◌, ◌^◌, true, false, List, [], ◌∷◌, get_or, refl, sym, ap, ap₂, ◌∙◌, subst, inl, inr}
 use Rattle.marple_laws.proofs.Words.{◌==◌, if◌then◌else◌, Op, Block, End, Set, Fork, IsConstant, IsValidBlock, IsValidTerm, TakesOperands}
-use Rattle.marple_laws.proofs.Words.{is_condition, Term, Literal, Read, Negation, Operation, Lexeme, IsBody, open_braces, written_block}
-use Rattle.marple_laws.proofs.Words.{block_written, bodies}
+use Rattle.marple_laws.proofs.Words.{is_condition, Term, Literal, Read, Negation, Operation, Lexeme, IsBody, block_written, bodies}
 use Rattle.query_lang.specs.declared.fold.Op.TheVariants as ops
 use Rattle.plan_file.specs.declared.lexemes.Lexeme.TheVariants as word
 use Rattle.marple_laws.proofs.Decisions.{Decided, both, by_both, is_false, is_true, less, most, same_list, same_number}
@@ -82,7 +81,7 @@ word_again _ = refl
 same_word : (a b : Lexeme) → Decided (a ≡ b)
 same_word a b =
     by_both (λ p. sym (word_again a) ∙ ap₂ word_with p.0 p.1 ∙ word_again b) (λ e. (ap kind_of e, ap part_of e))
-    (both (same_number (kind_of a) (kind_of b)) (same_number (part_of a) (part_of b)))
+    (both (same_number _ _) (same_number _ _))
 
 -- valid terms and blocks
 
@@ -91,16 +90,16 @@ constant P decide (Literal n) = decide n
 constant P decide _ = inr (λ p. p)
 
 conditions : (a b : Term) → Decided ((is_condition a ≡ true) × (is_condition b ≡ true))
-conditions a b = both (is_true (is_condition a)) (is_true (is_condition b))
+conditions a b = both (is_true _) (is_true _)
 
 two_words : (a b : Term) → Decided ((is_condition a ≡ false) × (is_condition b ≡ false))
-two_words a b = both (is_false (is_condition a)) (is_false (is_condition b))
+two_words a b = both (is_false _) (is_false _)
 
 divided : (a b : Term) → Decided ((is_condition a ≡ false) × IsConstant (λ n. 0 < n) b)
-divided a b = both (is_false (is_condition a)) (constant (λ n. 0 < n) (λ n. less 0 n) b)
+divided a b = both (is_false _) (constant _ (λ n. less 0 n) b)
 
 shifted : (a b : Term) → Decided ((is_condition a ≡ false) × IsConstant (λ n. n < 64) b)
-shifted a b = both (is_false (is_condition a)) (constant (λ n. n < 64) (λ n. less n 64) b)
+shifted a b = both (is_false _) (constant _ (λ n. less n 64) b)
 
 takes : (op : Op) (a b : Term) → Decided (TakesOperands op a b)
 takes ops.Mul a b = two_words a b
@@ -129,9 +128,9 @@ takes ops.Decay a b = shifted a b
 valid_term : (slots : ℕ) (e : Term) → Decided (IsValidTerm slots e)
 valid_term slots (Literal n) = less n (2 ^ 64)
 valid_term slots (Read s) = less s slots
-valid_term slots (Negation e) = both (valid_term slots e) (is_true (is_condition e))
+valid_term slots (Negation e) = both (valid_term _ e) (is_true _)
 valid_term slots (Operation op a b) =
-    by_both (λ p. (p.0.0, p.0.1, p.1)) (λ p. ((p.0, p.1), p.2)) (both (both (valid_term slots a) (valid_term slots b)) (takes op a b))
+    by_both (λ p. (p.0.0, p.0.1, p.1)) (λ p. ((p.0, p.1), p.2)) (both (both (valid_term _ a) (valid_term _ b)) (takes _ a b))
 
 valid_block : (states args : ℕ) (b : Block) → Decided (IsValidBlock states args b)
 valid_block states args End = inl tt
@@ -153,4 +152,4 @@ is_body states args words =
     let same : found.0 ≡ body = sym (bodies.written states args words found.0 found.1) in
     let is = subst (IsBody states args words) same found.1 in
     (is.statements, (is.typed, is.nesting)))
-    (both (same_list same_word words (written_block states body)) (both (valid_block states args body) (most (open_braces body) 64)))
+    (both (same_list same_word _ _) (both (valid_block _ _ _) (most _ _)))

@@ -31,7 +31,7 @@ module _ (holding : ShownTablesHold) (words : ReadPacketsAreOfWords) (valid : Ac
 
 pub bounds_hold : ShownTablesHold → ReadPacketsAreOfWords → AcceptedAreValid → AcceptedStartAsWords → AcceptedBoundsHold
 bounds_hold holding words valid starts setting query trace is =
-    let w = writes holding words valid starts setting query.text trace (accepted query.text) refl is.by_query in
+    let w = writes holding words valid starts setting query.text _ (accepted query.text) refl is.by_query in
     record {
       typed = w.typed;
       of_text = w.of_text;

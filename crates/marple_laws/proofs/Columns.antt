@@ -1,8 +1,8 @@
 -- The columns of folds and groupbys that were checked differ.
 use Rattle.marple_laws.proofs.Words.{◌≡◌, ℕ, zero, suc, ◌+◌, Bool, true, false, ◌||◌, List, [], ◌∷◌, ◌++◌, length, Some, None, Option, Ok}
 use Rattle.marple_laws.proofs.Words.{refl, sym, ap, subst, ◌∙◌, inl, inr, arith, nat_eq, nat_lt, if◌then◌else◌, list_any, cons_option}
-use Rattle.marple_laws.proofs.Words.{nat_tests, NameTaken, OverLimit, States, Keys, Span, TypedFold, FoldDef, Name, FoldView, must}
-use Rattle.marple_laws.proofs.Words.{is_among, place_from, place_of, collected, slot_at, slot_of, MAX_KEYS, MAX_STATES, AreNew}
+use Rattle.marple_laws.proofs.Words.{NameTaken, OverLimit, States, Keys, Span, TypedFold, FoldDef, Name, FoldView, must, is_among}
+use Rattle.marple_laws.proofs.Words.{place_from, place_of, collected, slot_at, slot_of, MAX_KEYS, MAX_STATES, AreNew}
 use Rattle.std.specs.Prelude.{map, slice_get}
 use Rattle.query_lang.specs.declared.query.StateVar.{StateVar}
 use Rattle.query_lang.specs.declared.typing.Picked.{Picked}
@@ -35,24 +35,24 @@ fold_new d f e =
 place_found : (at : ℕ) (names : List ℕ) (id slot : ℕ) → place_from at names id ≡ Some slot → (k : ℕ) × (slot ≡ at + k)
     × (slice_get names k ≡ Some id)
 place_found at [] id slot e = cc
-place_found at (name ∷ names) id slot e = by (nat_eq name id) refl e (place_found (at + 1) names id slot)
+place_found at (name ∷ names) id slot e = by _ refl e (place_found (at + 1) names id slot)
   where
     by : (b : Bool) → nat_eq name id ≡ b → (if b then Some at else place_from (at + 1) names id) ≡ Some slot →
         (place_from (at + 1) names id ≡ Some slot → (k : ℕ) × (slot ≡ at + 1 + k) × (slice_get names k ≡ Some id)) → (k : ℕ)
         × (slot ≡ at + k) × (slice_get (name ∷ names) k ≡ Some id)
-    by true t e rest = let s : at ≡ slot = cc in let n : name ≡ id = grind (arith, nat_tests) in (0, omega (arith, s), ap Some n)
-    by false t e rest = let r = rest e in (suc r.0, omega (arith, r.1), r.2)
+    by true t e rest = let s : at ≡ slot = cc in let n : name ≡ id = grind arith in (0, omega arith, ap Some n)
+    by false t e rest = let r = rest e in (suc r.0, omega arith, r.2)
 
 slot_found : (columns hidden : List ℕ) (key : Name) (slot : ℕ) → slot_of columns hidden key ≡ Ok slot → slice_get columns slot ≡ Some key.id
-slot_found columns hidden key slot e = by (place_of columns key.id) refl (is_among key.id hidden) e
+slot_found columns hidden key slot e = by _ refl _ e
   where
     by : (o : Option ℕ) → place_of columns key.id ≡ o → (h : Bool) → slot_at o h key.span ≡ Ok slot → slice_get columns slot ≡ Some key.id
     by None p true e = cc
     by None p false e = cc
     by (Some s) p h e =
-        let same : s ≡ slot = same_ok s slot e in
-        let f = place_found 0 columns key.id s p in
-        let at : slot ≡ f.0 = omega (arith, f.1, same) in
+        let same : s ≡ slot = same_ok s _ e in
+        let f = place_found 0 _ _ s p in
+        let at : slot ≡ f.0 = omega arith in
         ap (slice_get columns) at ∙ f.2
 
 -- each slot has its name
@@ -65,8 +65,7 @@ picked_push : (columns slots names : List ℕ) (slot name : ℕ) → ArePicked c
     → ArePicked columns (slots ++ slot ∷ []) (names ++ name ∷ [])
 picked_push columns [] [] slot name p e = (e, tt)
 picked_push columns (s ∷ slots) (n ∷ names) slot name p e = (p.0, picked_push columns slots names slot name p.1 e)
-picked_push columns [] (n ∷ names) slot name p e = absurd p
-picked_push columns (s ∷ slots) [] slot name p e = absurd p
+picked_push columns _ _ slot name p e = absurd p
 
 record AreKeys (columns : List ℕ) (picked : Picked) : Type 0 where
   new : AreNew [] picked.names
@@ -105,7 +104,7 @@ picked_names columns (slot ∷ slots) [] p = absurd p
 
 none_among : (keys states : List ℕ) → list_any (λ state. is_among state keys) states ≡ false → (s : ℕ) → IsIn s states
     → is_among s keys ≡ false
-none_among keys (t ∷ states) e s h = by (is_among t keys) refl e h (none_among keys states)
+none_among keys (t ∷ states) e s h = by _ refl e h (none_among keys states)
   where
     by : (b : Bool) → is_among t keys ≡ b → (b || list_any (λ state. is_among state keys) states) ≡ false → IsIn s (t ∷ states) →
         (list_any (λ state. is_among state keys) states ≡ false → (s : ℕ) → IsIn s states → is_among s keys ≡ false)
@@ -118,9 +117,9 @@ none_among keys [] e s h = absurd h
 pub states_apart : (columns hidden keys : List ℕ) (f : FoldView) (span : Span) (slots : List ℕ)
     → arguments_of columns hidden keys f span ≡ Ok slots → AreApart keys f.states
 states_apart columns hidden keys f span slots e =
-    let s = found_first (collected [] (map (λ id. slot_of columns hidden (record { id = id; span = span })) f.args)) _ slots e in
-    let a = must_not_ok (list_any (λ state. is_among state keys) f.states) NameTaken span _ slots s.2 in
-    apart_from keys f.states (none_among keys f.states a.0)
+    let s = found_first (collected [] (map (λ id. slot_of columns hidden (record { id = id; span = span })) f.args)) _ _ e in
+    let a = must_not_ok (list_any (λ state. is_among state keys) f.states) _ _ _ _ s.2 in
+    apart_from _ _ (none_among _ _ a.0)
 
 -- the key columns that a groupby has
 pub record AreKeyColumns (columns : List StreamColumn) (picked : Picked) : Type 0 where
@@ -130,6 +129,6 @@ pub record AreKeyColumns (columns : List StreamColumn) (picked : Picked) : Type 
 pub key_columns_are : (columns : List StreamColumn) (hidden : List ℕ) (keys : List Name) (picked : Picked)
     → keys_from (column_names columns) hidden (record { names = []; slots = [] }) keys ≡ Ok picked → AreKeyColumns columns picked
 key_columns_are columns hidden keys picked e =
-    let k = keys_new (column_names columns) hidden (record { names = []; slots = [] }) keys picked (record { new = tt; are = tt }) e in
-    let n = picked_names columns picked.slots picked.names k.are in
+    let k = keys_new _ _ _ _ _ (record { new = tt; are = tt }) e in
+    let n = picked_names _ _ picked.names k.are in
     record { new = subst (AreNew []) (sym n) k.new; names = n }

@@ -42,7 +42,7 @@ module _ (alone : NoViewsWithoutNumber) (whole : ReadPacketsAreWhole) (setting :
       let same : plan.plan ≡ Ok (made_of q) =
       read_once (compiled_text q) plan.plan (Ok (made_of q)) (subst (λ t. IsReadingOf t plan.plan) written read) loads.valid
       in
-      subst (AreAlike (Ok q)) (sym same) (same_run q (made_of q) (loads.only (made_of q) loads.valid))
+      subst (AreAlike (Ok q)) (sym same) (same_run q _ (loads.only (made_of q) loads.valid))
 
 pub run_alike : NoViewsWithoutNumber → ReadPacketsAreWhole → CompiledPlansRunAsQueries
 run_alike alone whole query plan setting trace compiled read =

@@ -1,10 +1,10 @@
 -- The most operations that the plan of a query has.
 use Rattle.marple_laws.proofs.Words.{◌≡◌, ℕ, ◌+◌, ◌*◌, ◌≤◌, List, [], ◌∷◌, ◌++◌, length, Option, Some, None, refl, ap, ◌∙◌, arith, All}
 use Rattle.marple_laws.proofs.Words.{flat_map, fold, replicate, sum_by, flat_map-append, length-map, sum_by-cons, TypedExpr, TypedFold}
-use Rattle.marple_laws.proofs.Words.{TypedOp, TypedQuery, TypedStream, IsValidEmit, IsValidFold, fold_args, fold_states, term_nodes}
-use Rattle.marple_laws.proofs.Words.{values_at, Term, Literal, Read, Negation, Operation, term_of, AreValidStreams, IsValidOp, IsValidQuery}
-use Rattle.marple_laws.proofs.Words.{MAX_NODES, query_made, stages_of, PlanOp, QueryMade, query_fault, order_long, query_ops, query_order}
-use Rattle.marple_laws.proofs.Words.{query_registers, made_staged, moved_op, op_numbered}
+use Rattle.marple_laws.proofs.Words.{TypedOp, TypedQuery, TypedStream, IsValidEmit, IsValidFold, term_nodes, Term, Literal, Read, Negation}
+use Rattle.marple_laws.proofs.Words.{Operation, term_of, AreValidStreams, IsValidOp, IsValidQuery, MAX_NODES, query_made, stages_of, PlanOp}
+use Rattle.marple_laws.proofs.Words.{QueryMade, query_fault, order_long, query_ops, query_order, query_registers, made_staged, moved_op}
+use Rattle.marple_laws.proofs.Words.{op_numbered}
 use Rattle.std.specs.Prelude.{IfSome, map, max, slice_get}
 use Rattle.std.proofs.lemmas.List.{length-append}
 use Rattle.query_lang.specs.declared.typed.TypedOp.TheVariants as typed
@@ -57,8 +57,7 @@ emit_few (Some c) states args initial over present columns h =
 group_few : (o : Option TypedFold) (input : StreamDepths) (keys args : List ℕ) → ((f : TypedFold) → o ≡ Some f → IsValidFold f)
     → length (group_depths o input keys args).operations ≤ 641
 group_few None input keys args valid = omega arith
-group_few (Some f) input keys args valid = emit_few f.emit (fold_states f) (fold_args f) (length f.initial) (values_at input.columns args)
-    input.present (values_at input.columns keys) (valid f refl).emits
+group_few (Some f) input keys args valid = emit_few _ _ _ (length f.initial) _ _ _ (valid f refl).emits
 
 made_few : (folds : List TypedFold) → All IsValidFold folds → (before : List TypedStream) (width : ℕ) (op : TypedOp)
     → IsValidOp folds before width op → (streams : List StreamDepths) → length (depths_made folds streams op).operations ≤ 641
@@ -95,9 +94,9 @@ counted folds valid names before (one ∷ list) v depths =
 
 few_depths : (q : TypedQuery) → IsValidQuery q → length (query_depths q) ≤ 20512
 few_depths q v =
-    let c = counted q.folds v.folds (length q.names) [] q.streams v.streams (packet_depths ∷ []) in
+    let c = counted _ v.folds _ [] _ v.streams (packet_depths ∷ []) in
     let s = v.most_bindings in
-    omega (arith, c, s)
+    omega arith
 
 pub made_of_query : (q : TypedQuery) → stage_fault q ≡ None → QueryMade q (query_made q).ops (query_made q).streams
 made_of_query q none = faults.query_made q _ _ refl refl (query_fault q ∙ none)
@@ -108,11 +107,11 @@ few_made q v none =
     ap length (made_of_query q none).stages_are in
     let same = length-map (query_made q).ops (λ (one : PlanOp). one.stage) in
     let few = few_depths q v in
-    omega (arith, stages, same, few)
+    omega arith
 
 pub few_ops : (q : TypedQuery) → IsValidQuery q → stage_fault q ≡ None → length (query_ops q) ≤ 20512
 few_ops q v none =
     let long = order_long (query_made q).ops (stages_of (query_made q).ops) (made_staged q) in
     let ops = length-map (query_order q) (λ number. moved_op (query_registers q) (op_numbered (query_made q).ops number)) in
     let few = few_made q v none in
-    omega (arith, long, ops, few)
+    omega arith

@@ -30,10 +30,10 @@ by_both to back (inl a) = inl (to a)
 by_both to back (inr a) = inr (λ b. a (back b))
 
 pub less : (m n : ℕ) → Decided (m < n)
-less m n = elim (cases_lt m n) [ inl lt ↦ inl lt | inr le ↦ inr (λ lt. omega (arith, lt, le)) ]
+less m n = elim (cases_lt m n) [ inl lt ↦ inl lt | inr le ↦ inr (λ lt. omega arith) ]
 
 pub most : (m n : ℕ) → Decided (m ≤ n)
-most m n = elim (cases_lt n m) [ inl lt ↦ inr (λ le. omega (arith, lt, le)) | inr le ↦ inl le ]
+most m n = elim (cases_lt n m) [ inl lt ↦ inr (λ le. omega arith) | inr le ↦ inl le ]
 
 pub same_number : (m n : ℕ) → Decided (m ≡ n)
 same_number m n = cases_eq m n
@@ -87,17 +87,12 @@ contains {A} same (y ∷ xs) x = by (same y x) (contains same xs x)
 
 -- a list of this many tokens
 pub two_tokens : (ts : List (List ℕ)) → Decided ((a : List ℕ) × (b : List ℕ) × (ts ≡ a ∷ b ∷ []))
-two_tokens [] = inr (λ p. (let e = p.2 in cc))
-two_tokens (a ∷ []) = inr (λ p. (let e = p.2 in cc))
 two_tokens (a ∷ b ∷ []) = inl (a, b, refl)
-two_tokens (a ∷ b ∷ c ∷ ts) = inr (λ p. (let e = p.2 in cc))
+two_tokens _ = inr (λ p. (let e = p.2 in cc))
 
 pub three_tokens : (ts : List (List ℕ)) → Decided ((a : List ℕ) × (b : List ℕ) × (c : List ℕ) × (ts ≡ a ∷ b ∷ c ∷ []))
-three_tokens [] = inr (λ p. (let e = p.3 in cc))
-three_tokens (a ∷ []) = inr (λ p. (let e = p.3 in cc))
-three_tokens (a ∷ b ∷ []) = inr (λ p. (let e = p.3 in cc))
 three_tokens (a ∷ b ∷ c ∷ []) = inl (a, b, c, refl)
-three_tokens (a ∷ b ∷ c ∷ d ∷ ts) = inr (λ p. (let e = p.3 in cc))
+three_tokens _ = inr (λ p. (let e = p.3 in cc))
 
 -- the value of an option
 pub value_of : {A : Type 0} (o : Option A) → ((a : A) × (o ≡ Some a)) ⊎ (o ≡ None)

@@ -1,8 +1,8 @@
 -- The fields that the text of a query's plan names are those that the query reads.
 use Rattle.marple_laws.proofs.Words.{◌≡◌, ℕ, ◌^◌, ◌<◌, max, List, [], ◌∷◌, refl, sym, ap, ◌∙◌, inl, inr, arith, bit_or, fold, bit_at}
-use Rattle.marple_laws.proofs.Words.{cases_eq, nat_tests, Field, FieldSet, number_of, all_fields, has_field, HasField, no_fields}
-use Rattle.marple_laws.proofs.Words.{with_field, field_set, TypedQuery, read_fields, reads_of, reads_in, fields_of, made_of}
-use Rattle.std.proofs.lemmas.Nat.Bits.{bit_at_or, bit_at-lt, bit_at-zero, bit_at-pow_same, bit_at-pow_other, same_from_bits}
+use Rattle.marple_laws.proofs.Words.{cases_eq, Field, FieldSet, number_of, all_fields, has_field, HasField, no_fields, with_field}
+use Rattle.marple_laws.proofs.Words.{field_set, TypedQuery, read_fields, reads_of, reads_in, fields_of, made_of}
+use Rattle.std.proofs.lemmas.Nat.Bits.{bit_at_or, bit_at-lt, bit_at-pow_same, bit_at-pow_other, same_from_bits}
 use Rattle.marple_laws.proofs.Fields.{all_in, in_filter, out_of_filter}
 use Rattle.marple_laws.proofs.Listed.{IsIn, in_set}
 
@@ -50,10 +50,10 @@ some_named (f ∷ fields) i e = elim (cases_eq i (number_of f)) [
 
 has_from : (fields : List Field) (f : Field) → HasField (field_set fields) f → among (number_of f) fields ≡ 1
 has_from fields f h =
-    let bit : bit_at (field_set fields).bits (number_of f) ≡ 1 = grind (arith, nat_tests) in
+    let bit : bit_at (field_set fields).bits (number_of f) ≡ 1 = grind arith in
     let all : bit_at (field_set fields).bits (number_of f) ≡ max (bit_at 0 (number_of f)) (among (number_of f) fields) =
-    bits_are fields no_fields (number_of f) in
-    omega (arith, bit, all, bit_at-zero (number_of f))
+    bits_are _ _ _ in
+    omega arith
 
 same_among : (fields : List Field) (i : ℕ) → among i (fields_of (field_set fields)) ≡ among i fields
 same_among fields i = elim (cases_eq (among i fields) 1) [

@@ -27,7 +27,7 @@ in_filter test f (g ∷ fields) e (inr h) = by (test g) (in_filter test f fields
 -- the test holds for a field that is left
 pub out_of_filter : (test : Field → Bool) (f : Field) (fields : List Field) → IsIn f (filter test fields) → test f ≡ true
 out_of_filter test f [] h = absurd h
-out_of_filter test f (g ∷ fields) h = by (test g) refl h (out_of_filter test f fields)
+out_of_filter test f (g ∷ fields) h = by _ refl h (out_of_filter test f fields)
   where
     by : (b : Bool) → test g ≡ b → IsIn f (cond b (g ∷ filter test fields) (filter test fields))
         → (IsIn f (filter test fields) → test f ≡ true) → test f ≡ true
@@ -109,8 +109,7 @@ abbrev pub begun : Made
 begun = record nothing { begun = true }
 
 pub first_written : IsWritten (line (codes "marple-plan") (codes "1" ∷ [])) nothing begun
-first_written = line_written lead.Plan (codes "marple-plan") (codes "1" ∷ []) nothing begun refl (refl, tt) plan_lead
-    (λ cut. record { first = refl; words = cut; made = refl })
+first_written = line_written _ _ _ _ _ refl (refl, tt) plan_lead (λ cut. record { first = refl; words = cut; made = refl })
 
 -- the line of fields
 
@@ -147,8 +146,8 @@ operand_fits reads n (Register r) good inside small = omega arith
 pub operand_readable : (reads : FieldSet) (ops : List PlanOp) (o : Operand) → IsGood reads o → IsWithin (FIELDS + length ops) o
     → length ops ≤ 32768 → IsReadable (fields_of reads) ops o
 operand_readable reads ops o good inside few = record {
-  known = operand_known reads ops o good inside;
-  fits = operand_fits reads (FIELDS + length ops) o good inside (omega (arith, few));
+  known = operand_known _ _ o good inside;
+  fits = operand_fits _ _ o good inside (omega arith);
 }
 
 pub operands_readable : (reads : FieldSet) (ops : List PlanOp) (operands : List Operand) → AllGood reads operands

@@ -27,7 +27,7 @@ number_name w line n m u v p q =
 
 pub group_line : (fs : List Field) (ops : List PlanOp) (groups : List Folded) (line : List ℕ)
     → Decided ((after : Group) × IsGroupLine fs ops groups line after)
-group_line fs ops groups line = by (named_operand fs ops (codes "group") line)
+group_line fs ops groups line = by (named_operand _ _ (codes "group") _)
   where
     by : Decided ((name : List ℕ) × (v : Operand) × IsNamedOperand fs ops (codes "group") line name v)
         → Decided ((after : Group) × IsGroupLine fs ops groups line after)
@@ -36,7 +36,7 @@ group_line fs ops groups line = by (named_operand fs ops (codes "group") line)
         by_both
         (λ q. (group_with n v, record { room = q.0; valid = valid; no_stream = q.1.0; new = q.1.1; made = refl }))
         (λ p.
-        let same : p.0.name ≡ n = operand_name fs fs ops (codes "group") line p.0.name n p.0.present v p.1.valid valid in
+        let same : p.0.name ≡ n = operand_name _ _ _ (codes "group") _ _ n _ v p.1.valid valid in
         (p.1.room, (λ e. p.1.no_stream (same ∙ e), λ there. p.1.new (subst (Contains (names_of groups)) (sym same) there))))
         (both (less (length groups) MAX_GROUPBYS) (both (neither (same_text n (codes "pktstream")))
         (neither (contains same_text (names_of groups) n))))
@@ -44,11 +44,11 @@ group_line fs ops groups line = by (named_operand fs ops (codes "group") line)
 new_in : (group : Group) (name : List ℕ) → Decided (IsNewIn group name)
 new_in group name =
     by_both (λ p. record { no_key = p.0; no_state = p.1 }) (λ r. (r.no_key, r.no_state))
-    (both (neither (contains same_text group.key_names name)) (neither (contains same_text group.state_names name)))
+    (both (neither (contains same_text _ _)) (neither (contains same_text _ _)))
 
 key_line : (fs : List Field) (ops : List PlanOp) (before : Group) (line : List ℕ)
     → Decided ((after : Group) × IsKeyLine fs ops before line after)
-key_line fs ops before line = by (named_operand fs ops (codes "key") line)
+key_line fs ops before line = by (named_operand _ _ (codes "key") _)
   where
     by : Decided ((name : List ℕ) × (v : Operand) × IsNamedOperand fs ops (codes "key") line name v)
         → Decided ((after : Group) × IsKeyLine fs ops before line after)
@@ -70,14 +70,14 @@ key_line fs ops before line = by (named_operand fs ops (codes "key") line)
           },
         ))
         (λ p.
-        let same : p.1.name ≡ n = operand_name fs fs ops (codes "key") line p.1.name n p.1.value v p.1.valid valid in
+        let same : p.1.name ≡ n = operand_name _ _ _ (codes "key") _ _ n _ v p.1.valid valid in
         ((p.1.args, p.1.states), (p.1.body, (p.1.room, subst (IsNewIn before) same p.1.new))))
         (both (both (is_empty before.args) (is_empty before.state_names))
-        (both (is_none before.body) (both (less (length before.keys) MAX_KEYS) (new_in before n))))
+        (both (is_none _) (both (less (length before.keys) MAX_KEYS) (new_in _ n))))
 
 arg_line : (fs : List Field) (ops : List PlanOp) (before : Group) (line : List ℕ)
     → Decided ((after : Group) × IsArgLine fs ops before line after)
-arg_line fs ops before line = by (one_operand fs ops (codes "arg") line)
+arg_line fs ops before line = by (one_operand _ _ (codes "arg") _)
   where
     by : Decided ((v : Operand) × IsOneOperand fs ops (codes "arg") line v) → Decided ((after : Group) × IsArgLine fs ops before line after)
     by (inr none) = inr (λ p. none (p.1.value, p.1.valid))
@@ -97,10 +97,10 @@ arg_line fs ops before line = by (one_operand fs ops (codes "arg") line)
         ))
         (λ p. ((p.1.keys, p.1.states), (p.1.body, p.1.room)))
         (both (both (less 0 (length before.keys)) (is_empty before.state_names))
-        (both (is_none before.body) (less (length before.args) MAX_ARGS)))
+        (both (is_none _) (less (length before.args) MAX_ARGS)))
 
 state_line : (before : Group) (line : List ℕ) → Decided ((after : Group) × IsStateLine before line after)
-state_line before line = by (named_number (codes "state") line)
+state_line before line = by (named_number (codes "state") _)
   where
     by : Decided ((name : List ℕ) × (v : ℕ) × IsNamedNumber (codes "state") line name v)
         → Decided ((after : Group) × IsStateLine before line after)
@@ -112,9 +112,9 @@ state_line before line = by (named_number (codes "state") line)
           record { keys = q.0.0; body = q.0.1; room = q.1.0; name = n; value = v; valid = valid; new = q.1.1; made = refl },
         ))
         (λ p.
-        let same : p.1.name ≡ n = number_name (codes "state") line p.1.name n p.1.value v p.1.valid valid in
+        let same : p.1.name ≡ n = number_name (codes "state") _ _ n _ v p.1.valid valid in
         ((p.1.keys, p.1.body), (p.1.room, subst (IsNewIn before) same p.1.new)))
-        (both (both (less 0 (length before.keys)) (is_none before.body)) (both (less (length before.initial) MAX_STATES) (new_in before n)))
+        (both (both (less 0 (length before.keys)) (is_none _)) (both (less (length before.initial) MAX_STATES) (new_in _ n)))
 
 body_words : (states args : ℕ) (line : List ℕ) → Decided ((ws : List Lexeme) × IsBodyLine states args line ws)
 body_words states args line = by (tokens line) refl
@@ -129,28 +129,22 @@ body_words states args line = by (tokens line) refl
         let first : t ≡ codes "body" = cc in
         let same : p.1.rest ≡ rest = cc in
         (first, (p.1.body, subst (λ ws. IsBody states args ws p.1.body) (p.1.are ∙ ap (map lexeme_of) same) p.1.is_body)))
-        (both (same_text t (codes "body")) (is_body states args (map lexeme_of rest)))
+        (both (same_text t (codes "body")) (is_body _ _ (map lexeme_of rest)))
 
 body_line : (before : Group) (line : List ℕ) → Decided ((after : Group) × IsGroupBody before line after)
 body_line before line =
     by_both
     (λ q. (record before { body = Some q.1.1.0 }, record { keys = q.0; once = q.1.0; words = q.1.1.0; valid = q.1.1.1; made = refl }))
     (λ p. (p.1.keys, (p.1.once, (p.1.words, p.1.valid))))
-    (both (less 0 (length before.keys)) (both (is_none before.body) (body_words (length before.initial) (length before.args) line)))
+    (both (less 0 (length before.keys)) (both (is_none _) (body_words _ _ _)))
 
 pub in_group : (word : LineWord) (fs : List Field) (ops : List PlanOp) (before : Group) (line : List ℕ)
     → Decided ((after : Group) × IsInGroup word fs ops before line after)
-in_group words.Key fs ops before line = key_line fs ops before line
-in_group words.Arg fs ops before line = arg_line fs ops before line
-in_group words.State fs ops before line = state_line before line
-in_group words.Body fs ops before line = body_line before line
-in_group words.Plan fs ops before line = inr (λ p. p.1)
-in_group words.Reads fs ops before line = inr (λ p. p.1)
-in_group words.Op fs ops before line = inr (λ p. p.1)
-in_group words.Group fs ops before line = inr (λ p. p.1)
-in_group words.Fold fs ops before line = inr (λ p. p.1)
-in_group words.Print fs ops before line = inr (λ p. p.1)
-in_group words.Other fs ops before line = inr (λ p. p.1)
+in_group words.Key fs ops before line = key_line _ _ _ _
+in_group words.Arg fs ops before line = arg_line _ _ _ _
+in_group words.State fs ops before line = state_line _ _
+in_group words.Body fs ops before line = body_line _ _
+in_group _ fs ops before line = inr (λ p. p.1)
 
 -- the line `fold`
 
@@ -230,8 +224,8 @@ bounds : (f : TypedFold) (nodes statements : ℕ) → Decided (AreBounds f nodes
 bounds f nodes statements =
     by_both (λ p. record { enough_nodes = p.0.0; most_nodes = p.0.1; enough_statements = p.1.0; most_statements = p.1.1 })
     (λ b. ((b.enough_nodes, b.most_nodes), (b.enough_statements, b.most_statements)))
-    (both (both (most (block_nodes (fold_block f)) nodes) (most nodes MAX_NODES))
-    (both (most (block_count (fold_block f)) statements) (most statements MAX_STATEMENTS)))
+    (both (both (most _ _) (most _ _))
+    (both (most _ _) (most _ _)))
 
 -- the fold that a `fold` line of these words ends
 fold_is : (one : Folded) (ws : List Lexeme) (b : Block) → one.group.body ≡ Some ws
@@ -294,7 +288,7 @@ ended before line class depth nodes statements valid ws b has is =
     (both (same_class class (class_of f)) (both (same_number depth (depth_of f)) (bounds f nodes statements)))
 
 pub fold_line : (before : Group) (line : List ℕ) → Decided ((after : Folded) × IsFoldLine before line after)
-fold_line before line = by (fold_words line) (value_of before.body)
+fold_line before line = by (fold_words _) (value_of before.body)
   where
     with_body : FoldWords line → (ws : List Lexeme) → before.body ≡ Some ws
         → Decided ((b : Block) × IsBody (length before.initial) (length before.args) ws b)
@@ -311,4 +305,4 @@ fold_line before line = by (fold_words line) (value_of before.body)
         → Decided ((after : Folded) × IsFoldLine before line after)
     by (inr none) body = inr (λ p. none (p.0.class, p.0.depth, p.0.nodes, p.0.statements, p.1.valid))
     by (inl said) (inr none) = inr (λ p. none_some before.body p.1.is_fold.words none p.1.is_fold.has_body)
-    by (inl said) (inl (ws, has)) = with_body said ws has (is_body (length before.initial) (length before.args) ws)
+    by (inl said) (inl (ws, has)) = with_body said _ has (is_body (length before.initial) (length before.args) _)

@@ -29,7 +29,7 @@ operands_short (o ∷ operands) fit = (operand_size o fit.0, operands_short oper
 
 words_short : (numbers : List ℕ) → AllWords numbers → AreShort (map decimal numbers)
 words_short [] all = tt
-words_short (n ∷ numbers) all = ((let d = decimal_size n all.0 in omega (arith, d)), words_short numbers all.1)
+words_short (n ∷ numbers) all = ((let d = decimal_size n all.0 in omega arith), words_short numbers all.1)
 
 named_size : (word : List ℕ) → length word ≤ 5 → (names lasts : List (List ℕ)) → AreShort lasts
     → length (named_lines word names lasts) ≤ total names + 29 * length names
@@ -86,12 +86,12 @@ body_size f v =
     let n = line_size (codes "body") (block_words (length f.state_names) (fold_block f)) in
     let states = v.states in
     let args = v.args in
-    let b = block_size (fold_states f) (fold_args f) (omega (arith, states, args)) (fold_block f) v.statements in
+    let b = block_size (fold_states f) (fold_args f) (omega arith) (fold_block f) v.statements in
     let c = v.enough_nodes in
     let d = v.most_nodes in
     let e = v.enough_statements in
     let g = v.most_statements in
-    omega (arith, n, b, c, d, e, g)
+    omega arith
 
 fold_size : (shape : GroupShape) → shape.depth ≤ MAX_STATES → shape.nodes ≤ MAX_NODES → shape.statements ≤ MAX_STATEMENTS
     → length (line (codes "fold") (class_word shape.class ∷ decimal shape.depth ∷ decimal shape.nodes ∷ decimal shape.statements ∷ [])) ≤ 75

@@ -114,11 +114,11 @@ module _ (fields : List Field) (ops : List PlanOp) (groups : List Folded) (shape
       (so_far shape.key_names wiring.keys wiring.args shape.state_names f.initial None)
       (so_far shape.key_names wiring.keys wiring.args shape.state_names f.initial (Some (written_block (fold_states f) (fold_block f))))
   body_written =
-      line_written lead.Body (codes "body") (block_words (fold_states f) (fold_block f))
-      (so_far shape.key_names wiring.keys wiring.args shape.state_names f.initial None)
-      (so_far shape.key_names wiring.keys wiring.args shape.state_names f.initial (Some (written_block (fold_states f) (fold_block f))))
+      line_written _ _ _
+      _
+      _
       refl
-      (tokens_block (fold_states f) (fold_args f) (fold_block f) few ok.valid.statements) body_lead
+      (tokens_block _ _ _ few ok.valid.statements) body_lead
       (λ cut. record {
         fields = fields;
         reads = refl;
@@ -134,7 +134,7 @@ module _ (fields : List Field) (ops : List PlanOp) (groups : List Folded) (shape
           valid = record {
             rest = block_words (fold_states f) (fold_block f);
             begins = cut;
-            are = sym (block_read (fold_states f) (fold_args f) (fold_block f) few ok.valid.statements);
+            are = sym (block_read _ _ _ few ok.valid.statements);
             body = fold_block f;
             is_body = is_body;
           };
@@ -152,13 +152,9 @@ module _ (fields : List Field) (ops : List PlanOp) (groups : List Folded) (shape
       (Some (written_block (fold_states f) (fold_block f)))) (outside fields ops (groups ++ folded_with shape wiring f ∷ []))
   unfolding quiet
   bounds_written =
-      line_written lead.Fold (codes "fold") (class_word shape.class ∷ decimal shape.depth ∷ decimal shape.nodes ∷ decimal shape.statements
-      ∷ [])
-      (so_far shape.key_names wiring.keys wiring.args shape.state_names f.initial (Some (written_block (fold_states f) (fold_block f))))
-      (outside fields ops (groups ++ folded_with shape wiring f ∷ [])) refl (
-        class_token shape.class,
-        (token_decimal shape.depth ok.shallow, (token_decimal shape.nodes nodes, (token_decimal shape.statements statements, tt))),
-      ) fold_lead
+      line_written _ _ _
+      _
+      _ refl (class_token _, (token_decimal _ ok.shallow, (token_decimal _ nodes, (token_decimal _ statements, tt)))) fold_lead
       (λ cut. record {
         group = group_so_far fields ops groups shape.name wiring.present shape.key_names wiring.keys wiring.args shape.state_names f.initial
             (Some (written_block (fold_states f) (fold_block f)));
@@ -170,9 +166,9 @@ module _ (fields : List Field) (ops : List PlanOp) (groups : List Folded) (shape
             nodes_token = decimal shape.nodes;
             statements_token = decimal shape.statements;
             words = cut;
-            depth_is = number_decimal shape.depth ok.shallow;
-            nodes_are = number_decimal shape.nodes nodes;
-            statements_are = number_decimal shape.statements statements;
+            depth_is = number_decimal _ ok.shallow;
+            nodes_are = number_decimal _ nodes;
+            statements_are = number_decimal _ statements;
           };
           fold = quiet;
           is_fold = record {
@@ -187,10 +183,10 @@ module _ (fields : List Field) (ops : List PlanOp) (groups : List Folded) (shape
           class = ok.class ∙ class_same f quiet refl refl;
           depth = depth_same f quiet refl refl shape.depth ok.depth;
           bounds = record {
-            enough_nodes = omega (arith, ok.valid.enough_nodes, ok.nodes);
-            most_nodes = omega (arith, ok.valid.most_nodes, ok.nodes);
-            enough_statements = omega (arith, ok.valid.enough_statements, ok.statements);
-            most_statements = omega (arith, ok.valid.most_statements, ok.statements);
+            enough_nodes = omega arith;
+            most_nodes = omega arith;
+            enough_statements = omega arith;
+            most_statements = omega arith;
           };
           made = refl;
         };
@@ -198,33 +194,33 @@ module _ (fields : List Field) (ops : List PlanOp) (groups : List Folded) (shape
       })
     where
       nodes : shape.nodes < 2 ^ 64
-      nodes = omega (arith, ok.nodes, ok.valid.most_nodes)
+      nodes = omega arith
 
       statements : shape.statements < 2 ^ 64
-      statements = omega (arith, ok.statements, ok.valid.most_statements)
+      statements = omega arith
 
   pub group_written : IsWritten (group_lines shape wiring f) (outside fields ops groups)
       (outside fields ops (groups ++ folded_with shape wiring f ∷ []))
   group_written =
-      written_then _ _ (outside fields ops groups) (so_far [] [] [] [] [] None)
-      (outside fields ops (groups ++ folded_with shape wiring f ∷ [])) name_written
-      (written_then _ _ (so_far [] [] [] [] [] None) (so_far shape.key_names wiring.keys [] [] [] None)
-      (outside fields ops (groups ++ folded_with shape wiring f ∷ []))
-      (keys_written fields ops groups shape.name wiring.present [] [] shape.key_names wiring.keys ok.all_keys (omega (arith, ok.most_keys))
+      written_then _ _ _ _
+      _ name_written
+      (written_then _ _ _ _
+      _
+      (keys_written _ _ _ _ wiring.present [] [] shape.key_names wiring.keys ok.all_keys (omega arith)
       ok.key_names ok.keys_differ ok.keys)
-      (written_then _ _ (so_far shape.key_names wiring.keys [] [] [] None) (so_far shape.key_names wiring.keys wiring.args [] [] None)
-      (outside fields ops (groups ++ folded_with shape wiring f ∷ []))
-      (args_written fields ops groups shape.name wiring.present shape.key_names wiring.keys ok.some_keys [] wiring.args
-      (omega (arith, ok.most_args)) ok.args)
-      (written_then _ _ (so_far shape.key_names wiring.keys wiring.args [] [] None)
-      (so_far shape.key_names wiring.keys wiring.args shape.state_names f.initial None)
-      (outside fields ops (groups ++ folded_with shape wiring f ∷ []))
-      (states_written fields ops groups shape.name wiring.present shape.key_names wiring.keys ok.some_keys wiring.args [] []
-      shape.state_names f.initial ok.all_states (omega (arith, ok.valid.states, ok.valid.starts)) ok.state_names ok.states_differ
+      (written_then _ _ _ _
+      _
+      (args_written _ _ groups shape.name wiring.present shape.key_names wiring.keys ok.some_keys [] wiring.args
+      (omega arith) ok.args)
+      (written_then _ _ _
+      _
+      _
+      (states_written _ _ _ _ wiring.present shape.key_names wiring.keys ok.some_keys wiring.args [] []
+      shape.state_names f.initial ok.all_states (omega arith) ok.state_names ok.states_differ
       ok.states_apart ok.initial)
-      (written_then _ _ (so_far shape.key_names wiring.keys wiring.args shape.state_names f.initial None)
-      (so_far shape.key_names wiring.keys wiring.args shape.state_names f.initial (Some (written_block (fold_states f) (fold_block f))))
-      (outside fields ops (groups ++ folded_with shape wiring f ∷ []))
+      (written_then _ _ _
+      _
+      _
       body_written bounds_written))))
 
 names_push : (groups : List Folded) (one : Folded) → names_of (groups ++ one ∷ []) ≡ names_of groups ++ one.group.name ∷ []

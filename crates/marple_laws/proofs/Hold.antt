@@ -16,8 +16,7 @@ use Rattle.marple_laws.proofs.Prints.{only_groups, as_many, numbers_new, starts}
 
 -- the names of a text's query
 names_good : (text : List ℕ) (query : Query) → IsQueryOf text query → AreGood query.names
-names_good text query h = cut_good (length text) 0 [] text (h.tokens, query.names)
-    (record { once = λ i j t a b. cc; lexical = λ i t a. cc }) h.cut
+names_good text query h = cut_good _ 0 _ _ _ (record { once = λ i j t a b. cc; lexical = λ i t a. cc }) h.cut
 
 names_short : (text : List ℕ) (query : Query) → IsQueryOf text query → total (typed_names query.names) ≤ 65690
 names_short text query h =
@@ -36,7 +35,7 @@ unfolding accepted
 staged_none text q e =
     let first = found_first (parsed_text text) (λ (z : Query). and_then (checked z) staged) q e in
     let second = found_first (checked first.0) staged q first.2 in
-    let none = fault_none (stage_fault second.0) second.0 q second.2 in
+    let none = fault_none _ second.0 q second.2 in
     subst (λ (z : TypedQuery). stage_fault z ≡ None) none.1 none.0
 
 pub plan_texts : AcceptedHavePlanTexts

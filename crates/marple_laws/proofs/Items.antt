@@ -1,7 +1,7 @@
 -- Items that are new after others, and checks in sequence.
 use Rattle.marple_laws.proofs.Words.{◌≡◌, ℕ, zero, suc, Bool, true, false, ◌||◌, List, [], ◌∷◌, ◌++◌, Some, Ok, Err, refl, sym, ap, subst}
-use Rattle.marple_laws.proofs.Words.{◌∙◌, inl, inr, ◌⊎◌, arith, nat_eq, append_assoc, append-nil, Contains, nat_tests, Span, Checked}
-use Rattle.marple_laws.proofs.Words.{and_then, must, must_not, is_among, AreNew}
+use Rattle.marple_laws.proofs.Words.{◌∙◌, inl, inr, ◌⊎◌, arith, nat_eq, append_assoc, append-nil, Contains, Span, Checked, and_then, must}
+use Rattle.marple_laws.proofs.Words.{must_not, is_among, AreNew}
 use Rattle.std.specs.Prelude.{slice_get}
 use Rattle.query_lang.specs.declared.fault.FaultKind.{FaultKind}
 use Rattle.marple_laws.proofs.Differ.{AreApart}
@@ -30,7 +30,7 @@ IsIn x [] = ⊥
 IsIn x (y ∷ ys) = (x ≡ y) ⊎ IsIn x ys
 
 pub contains_in : {A : Type 0} (xs : List A) (x : A) → Contains xs x → IsIn x xs
-contains_in [] x (k, lt, e) = absurd (omega (arith, lt))
+contains_in [] x (k, lt, e) = absurd (omega arith)
 contains_in (y ∷ xs) x (zero, lt, e) = inl (sym e)
 contains_in (y ∷ xs) x (suc k, lt, e) = inr (contains_in xs x (k, omega (arith, lt), e))
 
@@ -47,7 +47,7 @@ in_push (z ∷ xs) y x (inr h) = elim (in_push xs y x h) [ inl i ↦ inl (inr i)
 
 pub among_in : (names : List ℕ) (id : ℕ) → IsIn id names → is_among id names ≡ true
 among_in [] id h = absurd h
-among_in (name ∷ names) id (inl e) = let t : nat_eq name id ≡ true = grind (arith, nat_tests) in ap (λ b. b || is_among id names) t
+among_in (name ∷ names) id (inl e) = let t : nat_eq name id ≡ true = grind arith in ap (λ b. b || is_among id names) t
 among_in (name ∷ names) id (inr h) = ap (λ b. nat_eq name id || b) (among_in names id h) ∙ either (nat_eq name id)
   where
     either : (b : Bool) → (b || true) ≡ true
@@ -55,10 +55,10 @@ among_in (name ∷ names) id (inr h) = ap (λ b. nat_eq name id || b) (among_in 
     either false = refl
 
 pub not_among : (names : List ℕ) (id : ℕ) → is_among id names ≡ false → Contains names id → ⊥
-not_among names id none c = let t = among_in names id (contains_in names id c) in cc
+not_among names id none c = let t = among_in _ _ (contains_in _ _ c) in cc
 
 pub not_in : (names : List ℕ) (id : ℕ) → is_among id names ≡ false → IsIn id names → ⊥
-not_in names id none c = let t = among_in names id c in cc
+not_in names id none c = let t = among_in _ _ c in cc
 
 -- one more item after others
 pub new_push : {A : Type 0} (before items : List A) (item : A) → AreNew before items → (IsIn item (before ++ items) → ⊥)

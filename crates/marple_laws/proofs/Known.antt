@@ -1,13 +1,13 @@
 -- What holds of the operations of expressions: they read fields that the query names, numbers that fit a word, and constants where
 -- they have to.
 use Rattle.marple_laws.proofs.Words.{◌≡◌, ℕ, zero, suc, ◌^◌, ◌<◌, true, List, [], ◌∷◌, ◌++◌, Some, None, refl, sym, subst, inl, arith}
-use Rattle.marple_laws.proofs.Words.{nat_tests, Field, FieldSet, number_of, HasField, FIELDS, Op, Term, Literal, Read, Negation, Operation}
+use Rattle.marple_laws.proofs.Words.{Field, FieldSet, number_of, HasField, FIELDS, Op, Term, Literal, Read, Negation, Operation}
 use Rattle.marple_laws.proofs.Words.{IsValidTerm, IsConstant, TakesOperands, Operand, Register, Number, Not, Two, PlanOp, FieldSource}
 use Rattle.marple_laws.proofs.Words.{source_at, term_slots, is_right_of, takes_right}
 use Rattle.std.specs.Prelude.{map, slice_get}
 use Rattle.query_lang.specs.declared.fold.Op.TheVariants as two
 use Rattle.stage_plan.specs.declared.op.Operation as operation
-use Rattle.stage_plan.specs.Making.{Compiled, compiled, op_on, with_op, operand_at}
+use Rattle.stage_plan.specs.Making.{Compiled, compiled, with_op, operand_at}
 use Rattle.marple_laws.proofs.Listed.{IsIn', in_left', in_right'}
 
 -- an operand that is allowed: a field that is read, another register, or a number that fits a word
@@ -77,8 +77,7 @@ pub from_at : (reads : FieldSet) (sources : List FieldSource) (columns : List Op
 from_at reads [] [] slot h = below_two 0 refl
 from_at reads (s ∷ sources) (o ∷ columns) zero h = h.0
 from_at reads (s ∷ sources) (o ∷ columns) (suc slot) h = from_at reads sources columns slot h.1
-from_at reads [] (o ∷ columns) slot h = absurd h
-from_at reads (s ∷ sources) [] slot h = absurd h
+from_at reads _ _ _ h = absurd h
 
 -- a column whose field is read
 good_from : (reads : FieldSet) (s : FieldSource) (o : Operand) → IsFrom reads s o → ((f : Field) → s ≡ Some f → HasField reads f)
@@ -88,8 +87,7 @@ good_from reads (Some f) o h named = subst (IsGood reads) (sym h) (λ _. (f, ref
 
 pub column_good : (reads : FieldSet) (sources : List FieldSource) (columns : List Operand) (slot : ℕ) → AreFrom reads sources columns
     → ((f : Field) → source_at sources slot ≡ Some f → HasField reads f) → IsGood reads (operand_at columns slot)
-column_good reads sources columns slot h named = good_from reads (source_at sources slot) (operand_at columns slot)
-    (from_at reads sources columns slot h) named
+column_good reads sources columns slot h named = good_from _ _ _ (from_at _ _ _ _ h) named
 
 abbrev pub AllGood : FieldSet → List Operand → Type 0
 AllGood reads [] = Unit {0}
@@ -121,8 +119,8 @@ pub with_one : (reads : FieldSet) (op : operation.Operation) (ops : List PlanOp)
     → IsGood reads left → IsGood reads right → is_right_of op right ≡ true → IsSingle op right →
     AreCompiled reads (with_op op ops left right)
 with_one reads op ops left right w l r c s = record {
-  written = writable_push reads ops (op_on ops op left right) w (record { left = l; right = r; constant = c; single = s });
-  value = λ early. absurd (omega (arith, early));
+  written = writable_push _ _ _ w (record { left = l; right = r; constant = c; single = s });
+  value = λ early. absurd (omega arith);
 }
 
 -- an operator that takes what isn't a constant
@@ -154,14 +152,14 @@ others two.Sadd a b value t p q = refl
 -- the right operand of an operator is compiled to a number where it has to be one
 right_is : (op : Op) (columns : List Operand) (a b : Term) (ops : List PlanOp) → TakesOperands op a b
     → takes_right op (compiled columns b ops).value ≡ true
-right_is op columns a (Literal n) ops t = by op t
+right_is op columns a (Literal n) ops t = by _ t
   where
     by : (op : Op) → TakesOperands op a (Literal n) → takes_right op (Number n) ≡ true
-    by two.Div t = let h = t.1 in grind (arith, nat_tests)
-    by two.Rem t = let h = t.1 in grind (arith, nat_tests)
-    by two.Shl t = let h = t.1 in grind (arith, nat_tests)
-    by two.Shr t = let h = t.1 in grind (arith, nat_tests)
-    by two.Decay t = let h = t.1 in grind (arith, nat_tests)
+    by two.Div t = let h = t.1 in grind arith
+    by two.Rem t = let h = t.1 in grind arith
+    by two.Shl t = let h = t.1 in grind arith
+    by two.Shr t = let h = t.1 in grind arith
+    by two.Decay t = let h = t.1 in grind arith
     by two.Mul t = refl
     by two.Add t = refl
     by two.Sub t = refl
@@ -180,9 +178,7 @@ right_is op columns a (Literal n) ops t = by op t
     by two.Min t = refl
     by two.Sadd t = refl
 right_is op columns a (Read s) ops t = others op a (Read s) (operand_at columns s) t (λ h. h) (λ h. h)
-right_is op columns a (Negation e) ops t = others op a (Negation e) (compiled columns (Negation e) ops).value t (λ h. h) (λ h. h)
-right_is op columns a (Operation o x y) ops t = others op a (Operation o x y) (compiled columns (Operation o x y) ops).value t (λ h. h)
-    (λ h. h)
+right_is op columns a b ops t = others op a b (compiled columns b ops).value t (λ h. h) (λ h. h)
 
 -- an expression over columns whose slots are good
 pub compiled_good : (reads : FieldSet) (columns : List Operand) (slots : ℕ) (e : Term) (ops : List PlanOp)

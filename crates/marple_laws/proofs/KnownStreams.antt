@@ -3,14 +3,12 @@ use Rattle.marple_laws.proofs.Words.{◌≡◌, ℕ, zero, suc, ◌+◌, ◌^◌
 use Rattle.marple_laws.proofs.Words.{subst, ◌∙◌, inl, inr, arith, append-nil, append_assoc, IfSome, All, flat_map, filter_map, fold}
 use Rattle.marple_laws.proofs.Words.{cons_option, cases_lt, cases_eq, length_push, All-head, All-tail, Field, FieldSet, HasField, field_set}
 use Rattle.marple_laws.proofs.Words.{TypedExpr, TypedFold, TypedOp, TypedStream, Term, term_of, IsValidTerm, IsValidFold, IsValidEmit}
-use Rattle.marple_laws.proofs.Words.{fold_states, fold_args, AreValidStreams, IsValidOp, IsValidWord, stream_width, Operand, Number, Two}
-use Rattle.marple_laws.proofs.Words.{PlanOp, FieldSource, source_at, sources_at, packet_sources, sources_made, term_slots, named_fields}
-use Rattle.marple_laws.proofs.Words.{named_slots, named_input, AllWords}
+use Rattle.marple_laws.proofs.Words.{AreValidStreams, IsValidOp, IsValidWord, Operand, Number, PlanOp, FieldSource, source_at, sources_at}
+use Rattle.marple_laws.proofs.Words.{packet_sources, sources_made, term_slots, named_fields, named_slots, named_input, AllWords}
 use Rattle.std.specs.Prelude.{map, slice_get}
-use Rattle.query_lang.specs.declared.fold.Op.TheVariants as two
 use Rattle.query_lang.specs.declared.typed.TypedOp.TheVariants.{Filter, Map, Zip, Group}
 use Rattle.stage_plan.specs.Making.{Made, AllMade, compiled, compiled_all, operand_at, wires_at, packet_wires, made_join, conditioned}
-use Rattle.stage_plan.specs.Making.{emit_columns, made_emit, made_group, made_by, all_made}
+use Rattle.stage_plan.specs.Making.{made_emit, made_group, made_by, all_made}
 use Rattle.stage_plan.proofs.StreamRows.{at_earlier, at_last, at_past}
 use Rattle.marple_laws.proofs.Listed.{IsIn', IsIn, in_left, in_right, in_set}
 use Rattle.marple_laws.proofs.Known.{IsGood, AreWritable, AreFrom, AreRead, read_left, read_right, below_two, from_at, column_good, AllGood}
@@ -37,7 +35,7 @@ joined_good : (reads : FieldSet) (sources : List FieldSource) (ops : List PlanOp
     → AreWritable reads ops → IsGood reads present → IsGood reads condition → AreFrom reads sources columns →
     IsMadeGood reads sources (made_join ops present condition columns)
 joined_good reads sources ops present condition columns w p c from =
-    let one = with_one reads (Two two.Both) ops present condition w p c refl tt in
+    let one = with_one _ _ ops present condition w p c refl tt in
     record { written = one.written; stream = record { present = one.value; columns = from } }
 
 slot_good : (reads : FieldSet) (sources : List FieldSource) (columns : List Operand) (slots : List ℕ) → AreFrom reads sources columns
@@ -52,15 +50,14 @@ conditioned_good : (reads : FieldSet) (sources : List FieldSource) (over : List 
     IsValidTerm slots e → AreWritable reads ops → IsGood reads present → AreFrom reads sources columns
     → IsMadeGood reads sources (conditioned over e ops present columns)
 conditioned_good reads sources over slots e ops present columns good v w p from =
-    let c = compiled_good reads over slots e ops good v w in
-    joined_good reads sources (compiled over e ops).ops present (compiled over e ops).value columns c.written p c.value from
+    let c = compiled_good _ _ _ e _ good v w in
+    joined_good _ _ _ _ _ _ c.written p c.value from
 
 from_append : (reads : FieldSet) (ss ts : List FieldSource) (os ps : List Operand) → AreFrom reads ss os → AreFrom reads ts ps
     → AreFrom reads (ss ++ ts) (os ++ ps)
 from_append reads [] ts [] ps a b = b
 from_append reads (s ∷ ss) ts (o ∷ os) ps a b = (a.0, from_append reads ss ts os ps a.1 b)
-from_append reads [] ts (o ∷ os) ps a b = absurd a
-from_append reads (s ∷ ss) ts [] ps a b = absurd a
+from_append reads _ ts _ ps a b = absurd a
 
 from_picked : (reads : FieldSet) (sources : List FieldSource) (columns : List Operand) (slots : List ℕ) → AreFrom reads sources columns
     → AreFrom reads (map (source_at sources) slots) (map (operand_at columns) slots)
@@ -105,7 +102,7 @@ emitted_good : (reads : FieldSet) (sources : List FieldSource) (o : Option Typed
 emitted_good reads sources None states args over input keys ops v good p from w =
     record { written = w; stream = record { present = below_two 0 refl; columns = from } }
 emitted_good reads sources (Some e) states args over input keys ops v good p from w =
-    conditioned_good reads sources over (states + args) (term_of e) ops input.present keys (λ s h. good_at reads over s good) v.slots w p
+    conditioned_good _ _ _ _ _ _ _ _ (λ s h. good_at _ _ s good) v.slots w p
     from
 
 -- a fold within the limits, whose initial numbers fit words
@@ -117,14 +114,14 @@ grouped_good : (reads : FieldSet) (sources : List FieldSource) (o : Option Typed
     → AreRead reads sources (keys ++ args) → AreWritable reads ops → IsMadeGood reads (map (source_at sources) keys)
     (made_group o input keys args ops)
 grouped_good reads sources None input keys args ops fit s named w =
-    record { written = w; stream = record { present = below_two 0 refl; columns = from_picked reads sources input.columns keys s.columns } }
+    record { written = w; stream = record { present = below_two 0 refl; columns = from_picked _ _ _ _ s.columns } }
 grouped_good reads sources (Some f) input keys args ops fit s named w =
     let v = fit f refl in
-    emitted_good reads (map (source_at sources) keys) f.emit (fold_states f) (fold_args f) (emit_columns f.initial input.columns args) input
-    (map (operand_at input.columns) keys) ops v.0.emits
-    (good_append reads (map Number f.initial) (map (operand_at input.columns) args) (numbers_good reads f.initial v.1)
-    (columns_good reads sources input.columns args s.columns (read_right reads sources keys args named)))
-    s.present (from_picked reads sources input.columns keys s.columns) w
+    emitted_good _ _ _ _ _ _ _
+    _ _ v.0.emits
+    (good_append _ _ _ (numbers_good _ _ v.1)
+    (columns_good _ _ _ _ s.columns (read_right _ _ _ _ named)))
+    s.present (from_picked _ _ _ _ s.columns) w
 
 abbrev pub AreStreams : FieldSet → List (List FieldSource) → List Wires → Type 0
 AreStreams reads sources streams = (j : ℕ) → IsStream reads (sources_at sources j) (wires_at streams j)
@@ -135,23 +132,23 @@ made_good : (reads : FieldSet) (folds : List TypedFold) (before : List TypedStre
     → IsMadeGood reads (sources_made sources op) (made_by folds streams op ops)
 made_good reads folds before width sources streams (Filter input condition) ops fit v all named w =
     let s = all input in
-    conditioned_good reads (sources_at sources input) (wires_at streams input).columns (stream_width before input) (term_of condition) ops
-    (wires_at streams input).present (wires_at streams input).columns
-    (slot_good reads (sources_at sources input) (wires_at streams input).columns (term_slots (term_of condition)) s.columns named) v.1.0.0 w
+    conditioned_good _ _ _ _ _ _
+    _ _
+    (slot_good _ _ _ _ s.columns named) v.1.0.0 w
     s.present s.columns
 made_good reads folds before width sources streams (Map input values) ops fit v all named w =
     let s = all input in
-    let m = mapped_good reads (sources_at sources input) (wires_at streams input).columns (stream_width before input) values
-    (sources_at sources input) (wires_at streams input).columns ops s.columns s.columns v.1.0 named w in
+    let m = mapped_good _ _ _ _ _
+    _ _ _ s.columns s.columns v.1.0 named w in
     record { written = m.written; stream = record { present = s.present; columns = m.are } }
 made_good reads folds before width sources streams (Zip left right slots) ops fit v all named w =
-    joined_good reads (sources_made sources (Zip left right slots)) ops (wires_at streams left).present (wires_at streams right).present
-    ((wires_at streams left).columns ++ map (operand_at (wires_at streams right).columns) slots) w (all left).present (all right).present
-    (from_append reads (sources_at sources left) (map (source_at (sources_at sources right)) slots) (wires_at streams left).columns
-    (map (operand_at (wires_at streams right).columns) slots)
-    (all left).columns (from_picked reads (sources_at sources right) (wires_at streams right).columns slots (all right).columns))
+    joined_good _ _ _ _ _
+    _ w (all left).present (all right).present
+    (from_append _ _ _ _
+    _
+    (all left).columns (from_picked _ _ _ _ (all right).columns))
 made_good reads folds before width sources streams (Group input keys f args) ops fit v all named w =
-    grouped_good reads (sources_at sources input) (slice_get folds f) (wires_at streams input) keys args ops (λ one e. fit f one e)
+    grouped_good _ _ _ _ _ _ _ (λ one e. fit f one e)
     (all input) named w
 
 input_before : (folds : List TypedFold) (before : List TypedStream) (width : ℕ) (op : TypedOp) → IsValidOp folds before width op
@@ -266,6 +263,6 @@ pub query_good : (folds : List TypedFold) (names : ℕ) (list : List TypedStream
     (sources_after (packet_sources ∷ []) list) (all_made folds [] (packet_wires ∷ []) list)
 query_good folds names list fit v =
     let reads = field_set (flat_map (λ one. named_fields (sources_after (packet_sources ∷ []) list) one.op) list) in
-    all_good reads folds names [] list [] (packet_wires ∷ []) (packet_sources ∷ []) fit v refl refl (packets_good reads)
-    (named_from reads (sources_after (packet_sources ∷ []) list) list (λ f i. in_set
-    (flat_map (λ one. named_fields (sources_after (packet_sources ∷ []) list) one.op) list) f i)) tt
+    all_good _ _ _ _ _ _ _ _ fit v refl refl (packets_good _)
+    (named_from _ _ _ (λ f i. in_set
+    _ f i)) tt

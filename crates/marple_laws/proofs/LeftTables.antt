@@ -42,11 +42,11 @@ module _ (p : PipelineView) (lanes : AreLanesOf Folds p.plan p.buckets p.lanes) 
         let words : List (List ℕ) = words_of (list q) in
         let of_q : StandsForEnd setting (Ok q) list p = subst (λ r. StandsForEnd setting r list p) found stands in
         let same : tables ≡ group_tables q g words =
-        closed (query_ends q g words) of_q.1
+        closed (query_ends q g _) of_q.1
         ∙ ap (tables_of p.plan.groups (map folding_at p.lanes)) (sym (ends.machines q p.plan g words of_q.0 whole))
-        ∙ ends.tables q p.plan p.buckets p.lanes g words (valid text q found) of_q.0 lanes (has_room setting is) whole
+        ∙ ends.tables q p.plan p.buckets p.lanes g words (valid text q found) of_q.0 lanes (has_room _ is) whole
         in
-        (same, query_printed q g words tables same)
+        (same, query_printed q g _ _ same)
 
     pub of_plan : EndsAreTheTexts → AreTablesOfPlan p tables
     of_plan ends setting text made trace is says stands =
@@ -54,6 +54,6 @@ module _ (p : PipelineView) (lanes : AreLanesOf Folds p.plan p.buckets p.lanes) 
         let words : List (List ℕ) = words_for made trace in
         let same : tables ≡ plan_tables made g words =
         closed (end_machines p.plan g words) stands.1
-        ∙ ends made p.plan p.buckets p.lanes g words (says_sound text made says) stands.0 lanes (has_room setting is)
+        ∙ ends made p.plan p.buckets _ g words (says_sound _ _ says) stands.0 lanes (has_room _ is)
         in
-        (same, plan_printed made g words tables same)
+        (same, plan_printed _ g _ _ same)

@@ -4,7 +4,7 @@ use Rattle.marple_laws.proofs.Words.{slice_get, Option, Some, None, Ok, Err, ref
 use Rattle.marple_laws.proofs.Words.{add_comm, codes, is_none, list_any, list_all, prefix_len, bytes_eq, digits_value, length-prefix_len}
 use Rattle.marple_laws.proofs.Words.{same_Some, Field, Switch, all_fields, field_name, Piece, Token, AreOnce, number_in, with_name}
 use Rattle.marple_laws.proofs.Words.{typed_names, with_fields, is_name}
-use Rattle.std.specs.Prelude.{nat_eq, not, ◌&&◌}
+use Rattle.std.specs.Prelude.{nat_eq, not}
 use Rattle.std.proofs.lemmas.Slice.Eq.{bytes_eq-Decides}
 use Rattle.query_lang.proofs.NameFacts.{has_number}
 use Rattle.query_lang.specs.declared.token.Mark.{Mark}
@@ -24,12 +24,12 @@ pub record AreGood (names : List (List ℕ)) : Type 0 where
 
 absent : (names : List (List ℕ)) (text : List ℕ) (i : ℕ) → list_any (bytes_eq text) names ≡ false → slice_get names i ≡ Some text → ⊥
 absent [] text i e h = cc
-absent (n ∷ names) text i e h = go (bytes_eq text n) refl e i h (λ k. absent names text k)
+absent (n ∷ names) text i e h = go _ refl e i h (λ k. absent names text k)
   where
     go : (b : Bool) → bytes_eq text n ≡ b → (b || list_any (bytes_eq text) names) ≡ false → (i : ℕ) → slice_get (n ∷ names) i ≡ Some text
         → ((k : ℕ) → list_any (bytes_eq text) names ≡ false → slice_get names k ≡ Some text → ⊥) → ⊥
     go true t e i h rest = cc
-    go false t e zero h rest = let y : bytes_eq text n ≡ true = (bytes_eq-Decides text n).1 (sym (same_Some n text h)) in cc
+    go false t e zero h rest = let y : bytes_eq text n ≡ true = (bytes_eq-Decides _ n).1 (sym (same_Some n _ h)) in cc
     go false t e (suc i) h rest = rest i e h
 
 at_push : (names : List (List ℕ)) (text : List ℕ) (i : ℕ) (t : List ℕ) → slice_get (names ++ text ∷ []) i ≡ Some t
@@ -42,37 +42,28 @@ at_push (n ∷ names) text (suc i) t h = elim (at_push names text i t h) [ inl o
 pushed : (names : List (List ℕ)) (text : List ℕ) → AreGood names → is_name text ≡ true → list_any (bytes_eq text) names ≡ false
     → AreGood (names ++ text ∷ [])
 pushed names text good lexical none = record {
-  once = λ i j t h g. elim (at_push names text i t h) [
-    | inl oi ↦ elim (at_push names text j t g) [
-      | inl oj ↦ good.once i j t oi oj
-      | inr nj ↦ absurd (absent names text i none (oi ∙ ap Some (sym nj.1)))
-    ]
-    | inr ni ↦ elim (at_push names text j t g) [
-      | inl oj ↦ absurd (absent names text j none (oj ∙ ap Some (sym ni.1)))
-      | inr nj ↦ ni.0 ∙ sym nj.0
-    ]
+  once = λ i j t h g. elim (at_push _ _ i t h) [
+    | inl oi ↦ elim (at_push _ _ j t g) [ inl oj ↦ good.once i j t oi oj | inr nj ↦ absurd (absent _ _ i none (oi ∙ ap Some (sym nj.1))) ]
+    | inr ni ↦ elim (at_push _ _ j t g) [ inl oj ↦ absurd (absent _ _ j none (oj ∙ ap Some (sym ni.1))) | inr nj ↦ ni.0 ∙ sym nj.0 ]
   ];
-  lexical = λ i t h. elim (at_push names text i t h) [
-    | inl old ↦ good.lexical i t old
-    | inr new ↦ subst (λ w. is_name w ≡ true) new.1 lexical
-  ];
+  lexical = λ i t h. elim (at_push _ _ i t h) [ inl old ↦ good.lexical i t old | inr new ↦ subst (λ w. is_name w ≡ true) new.1 lexical ];
 }
 
 with_good : (names : List (List ℕ)) (text : List ℕ) → AreGood names → is_name text ≡ true → AreGood (with_name names text)
-with_good names text good lexical = go (list_any (bytes_eq text) names) refl
+with_good names text good lexical = go _ refl
   where
     go : (b : Bool) → list_any (bytes_eq text) names ≡ b → AreGood (cond b names (names ++ text ∷ []))
     go true e = good
-    go false e = pushed names text good lexical e
+    go false e = pushed _ text good lexical e
 
 -- the number of a name is its place
 pub number_at : (names : List (List ℕ)) (i : ℕ) (text : List ℕ) → AreOnce names → slice_get names i ≡ Some text → number_in names text ≡ i
-number_at names i text once h = once (number_in names text) i text (there (list_any (bytes_eq text) names) refl (has_number names text)) h
+number_at names i text once h = once _ i _ (there _ refl (has_number _ _)) h
   where
     there : (b : Bool) → list_any (bytes_eq text) names ≡ b → slice_get (cond b names (names ++ text ∷ [])) (number_in names text) ≡ Some
         text → slice_get names (number_in names text) ≡ Some text
     there true e k = k
-    there false e k = absurd (absent names text i e h)
+    there false e k = absurd (absent _ _ i e h)
 
 -- ---- the fields' names
 
@@ -150,9 +141,9 @@ name_word : (b : ℕ) (bytes word : List ℕ) → word ≡ b ∷ take (prefix_le
     → is_digit b ≡ false → is_none (reserved word) ≡ true → is_name word ≡ true
 name_word b bytes word e all digit free =
     let rest : List ℕ = take (prefix_len is_word_byte bytes) bytes in
-    subst (λ w. is_name w ≡ true) (sym e) (both_are (list_all is_word_byte (b ∷ rest)) (not (is_digit b) && is_none (reserved (b ∷ rest)))
+    subst (λ w. is_name w ≡ true) (sym e) (both_are _ _
     (subst (λ w. list_all is_word_byte w ≡ true) e all)
-    (both_are (not (is_digit b)) (is_none (reserved (b ∷ rest))) (ap not digit) (subst (λ w. is_none (reserved w) ≡ true) e free)))
+    (both_are _ _ (ap not digit) (subst (λ w. is_none (reserved w) ≡ true) e free)))
 
 of_word : (b : ℕ) (bytes : List ℕ) → is_word_byte b ≡ true
     → IsNamePiece (b ∷ bytes) (word_piece (take (prefix_len is_word_byte (b ∷ bytes)) (b ∷ bytes)) (prefix_len is_digit (b ∷ bytes)))
@@ -187,10 +178,9 @@ of_cut_piece : (p : Piece) (at : ℕ) (known : List (List ℕ)) (bytes : List �
     → cut_piece p at known bytes next ≡ Ok found → AreGood found.1
 of_cut_piece (pieces.Blank n) at known bytes next found good is h e = h n known found good e
 of_cut_piece (pieces.Name n) at known bytes next found good is h e =
-    of_front (token_at (kinds.Name (number_in known (take n bytes))) at (at + n)) (next n (with_name known (take n bytes))) found
-    (λ got. h n (with_name known (take n bytes)) got (with_good known (take n bytes) good is)) e
-of_cut_piece (pieces.Token kind n) at known bytes next found good is h e =
-    of_front (token_at kind at (at + n)) (next n known) found (λ got. h n known got good) e
+    of_front _ _ _
+    (λ got. h n (with_name known (take n _)) got (with_good _ _ good is)) e
+of_cut_piece (pieces.Token kind n) at known bytes next found good is h e = of_front _ _ _ (λ got. h n known got good) e
 of_cut_piece (pieces.Fault kind n) at known bytes next found good is h e = absurd cc
 
 of_end : (at : ℕ) (known : List (List ℕ)) (found : Pair) → AreGood known

@@ -1,7 +1,7 @@
 -- Whether a line is valid after the lines before it is decided.
 use Rattle.marple_laws.proofs.Words.{◌≡◌, ℕ, ◌<◌, true, List, [], ◌∷◌, ◌++◌, length, Some, None, refl, sym, ap, ◌∙◌, subst, inl, inr, codes}
 use Rattle.marple_laws.proofs.Words.{Field, LineWord, Group, Made, IsFoldLine, number, tokens, IsFirst, IsFold, IsGroup, IsLineOf, IsOp}
-use Rattle.marple_laws.proofs.Words.{IsPart, IsPrint, IsReads, IsValidAfter, line_word, IsOneNumber, IsOpLine}
+use Rattle.marple_laws.proofs.Words.{IsPart, IsPrint, IsReads, IsValidAfter, IsOneNumber, IsOpLine}
 use Rattle.std.specs.Prelude.{◌⊎◌, Contains}
 use Rattle.plan_file.specs.declared.line_word.LineWord.TheVariants as words
 use Rattle.plan_file.specs.Groups.{IsGroupLine, IsInGroup}
@@ -105,11 +105,10 @@ part word before line = by (value_of before.reads) (value_of before.current)
         ))
         (λ p. (
           p.1.next,
-          subst (λ f. IsInGroup word f before.ops g line p.1.next) (some_same before.reads p.1.fields fs p.1.reads is)
-              (subst (λ x. IsInGroup word p.1.fields before.ops x line p.1.next) (some_same before.current p.1.group g p.1.current has)
-              p.1.valid),
+          subst (λ f. IsInGroup word f before.ops g line p.1.next) (some_same _ _ fs p.1.reads is)
+              (subst (λ x. IsInGroup word p.1.fields before.ops x line p.1.next) (some_same _ _ g p.1.current has) p.1.valid),
         ))
-        (in_group word fs before.ops g line)
+        (in_group _ _ _ g _)
 
 fold : (before : Made) (line : List ℕ) → Decided ((after : Made) × IsFold before line after)
 fold before line = by (value_of before.current)
@@ -122,11 +121,11 @@ fold before line = by (value_of before.current)
           record before { groups = before.groups ++ q.0 ∷ []; current = None },
           record { group = g; current = has; folded = q.0; valid = q.1; made = refl },
         ))
-        (λ p. (p.1.folded, subst (λ x. IsFoldLine x line p.1.folded) (some_same before.current p.1.group g p.1.current has) p.1.valid))
-        (fold_line g line)
+        (λ p. (p.1.folded, subst (λ x. IsFoldLine x line p.1.folded) (some_same _ _ g p.1.current has) p.1.valid))
+        (fold_line g _)
 
 print : (before : Made) (line : List ℕ) → Decided ((after : Made) × IsPrint before line after)
-print before line = by (one_number (codes "print") line)
+print before line = by (one_number (codes "print") _)
   where
     number_same : (n m : ℕ) → IsOneNumber (codes "print") line n → IsOneNumber (codes "print") line m → n ≡ m
     number_same n m p q =
@@ -143,24 +142,21 @@ print before line = by (one_number (codes "print") line)
           record { current = q.0; group = n; valid = valid; there = q.1.0; new = q.1.1; made = refl },
         ))
         (λ p.
-        let same = number_same p.1.group n p.1.valid valid in (
+        let same = number_same _ n p.1.valid valid in (
           p.1.current,
           (subst (λ i. i < length before.groups) same p.1.there, λ there. p.1.new (subst (Contains before.prints) (sym same) there)),
         ))
-        (both (is_none before.current) (both (less n (length before.groups)) (neither (contains same_number before.prints n))))
+        (both (is_none _) (both (less n (length before.groups)) (neither (contains same_number _ n))))
 
 of_word : (word : LineWord) (before : Made) (line : List ℕ) → Decided ((after : Made) × IsLineOf word before line after)
 of_word words.Plan before line = first before line
 of_word words.Reads before line = reads before line
 of_word words.Op before line = op before line
-of_word words.Group before line = group before line
-of_word words.Key before line = part words.Key before line
-of_word words.Arg before line = part words.Arg before line
-of_word words.State before line = part words.State before line
-of_word words.Body before line = part words.Body before line
-of_word words.Fold before line = fold before line
-of_word words.Print before line = print before line
+of_word words.Group before line = group before _
+of_word words.Fold before line = fold _ _
+of_word words.Print before line = print _ _
 of_word words.Other before line = inr (λ p. p.1)
+of_word word before line = part word before line
 
 pub valid_after : (before : Made) (line : List ℕ) → Decided (IsValidAfter before line)
-valid_after before line = of_word (line_word line) before line
+valid_after before line = of_word _ _ line

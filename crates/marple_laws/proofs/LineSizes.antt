@@ -14,7 +14,7 @@ pub after_size : (word : List ℕ) (words : List (List ℕ)) → length (spaced 
 after_size word words = let n = length-append (32 ∷ word) (spaced words) in omega (arith, n)
 
 after_both : (words more : List (List ℕ)) → length (spaced (words ++ more)) ≡ length (spaced words) + length (spaced more)
-after_both words more = ap length (flat_map-append (λ word. 32 ∷ word) words more) ∙ length-append (spaced words) (spaced more)
+after_both words more = ap length (flat_map-append (λ word. 32 ∷ word) words more) ∙ length-append _ _
 
 pub line_size : (first : List ℕ) (words : List (List ℕ)) → length (line first words) ≡ length first + length (spaced words) + 1
 line_size first words =

@@ -1,6 +1,6 @@
 -- The slots and the fields of a list; the fields are in their set.
-use Rattle.marple_laws.proofs.Words.{◌≡◌, ℕ, ◌^◌, List, [], ◌∷◌, ◌++◌, ap, ◌∙◌, inl, inr, ◌⊎◌, arith, bit_or, fold, nat_tests, bit_at}
-use Rattle.marple_laws.proofs.Words.{Field, FieldSet, number_of, HasField, no_fields, with_field, field_set}
+use Rattle.marple_laws.proofs.Words.{◌≡◌, ℕ, ◌^◌, List, [], ◌∷◌, ◌++◌, ap, ◌∙◌, inl, inr, ◌⊎◌, arith, bit_or, fold, bit_at, Field, FieldSet}
+use Rattle.marple_laws.proofs.Words.{number_of, HasField, with_field, field_set}
 use Rattle.std.proofs.lemmas.Nat.Bits.{bit_at_or, bit_at-pow_same, bit_at-lt}
 
 -- a slot of a list
@@ -50,4 +50,4 @@ has_bit (g ∷ fields) set f (inr h) = has_bit fields (with_field set g) f h
 has_bit [] set f h = absurd h
 
 pub in_set : (fields : List Field) (f : Field) → IsIn f fields → HasField (field_set fields) f
-in_set fields f h = let e : bit_at (field_set fields).bits (number_of f) ≡ 1 = has_bit fields no_fields f h in grind (arith, nat_tests)
+in_set fields f h = let e : bit_at (field_set fields).bits (number_of f) ≡ 1 = has_bit _ _ f h in grind arith

@@ -15,15 +15,15 @@ AreAfterFields registers = (k r : ℕ) → slice_get registers k ≡ Some r → 
 pub moved_good : (reads : FieldSet) (registers : List ℕ) (o : Operand) → AreAfterFields registers → IsGood reads o
     → IsGood reads (moved registers o)
 moved_good reads registers (Number n) beyond g = g
-moved_good reads registers (Register r) beyond g = by (nat_lt r FIELDS) refl
+moved_good reads registers (Register r) beyond g = by _ refl
   where
     new : (o : Option ℕ) → slice_get registers (r - FIELDS) ≡ o → IsGood reads (register_or_none o)
     new None e = below_two 0 refl
-    new (Some x) e = λ early. absurd (omega (arith, early, beyond (r - FIELDS) x e))
+    new (Some x) e = λ early. absurd (omega (arith, early, beyond _ x e))
 
     by : (b : Bool) → nat_lt r FIELDS ≡ b → IsGood reads (if b then Register r else register_or_none (slice_get registers (r - FIELDS)))
     by true e = g
-    by false e = new (slice_get registers (r - FIELDS)) refl
+    by false e = new _ refl
 
 moved_right : (registers : List ℕ) (op : operation.Operation) (right : Operand) → is_right_of op right ≡ true
     → is_right_of op (moved registers right) ≡ true

@@ -1,9 +1,9 @@
 -- The total length of the names of a text.
-use Rattle.marple_laws.proofs.Words.{◌≡◌, ℕ, zero, suc, ◌+◌, ◌*◌, ◌<◌, ◌≤◌, Bool, true, false, cond, List, [], ◌∷◌, ◌++◌, length, take}
-use Rattle.marple_laws.proofs.Words.{drop, Option, Some, None, Ok, Err, refl, sym, ap, subst, ◌∙◌, inl, inr, arith, All, cons_option}
-use Rattle.marple_laws.proofs.Words.{list_any, bytes_eq, length-drop, length-take, Field, Switch, all_fields, field_name, TypedFold, Piece}
-use Rattle.marple_laws.proofs.Words.{Token, TypedStream, number_in, with_name, typed_names, with_fields, AreValidStreams, GroupShape}
-use Rattle.marple_laws.proofs.Words.{shape_made, text_at, AreNew, AreNoKeys, IsNamedWell}
+use Rattle.marple_laws.proofs.Words.{◌≡◌, ℕ, suc, ◌+◌, ◌*◌, ◌<◌, ◌≤◌, Bool, true, false, cond, List, [], ◌∷◌, ◌++◌, length, take, drop}
+use Rattle.marple_laws.proofs.Words.{Option, Some, None, Ok, Err, refl, sym, ap, subst, ◌∙◌, inl, inr, arith, All, cons_option, list_any}
+use Rattle.marple_laws.proofs.Words.{bytes_eq, length-drop, length-take, Field, Switch, all_fields, field_name, TypedFold, Piece, Token}
+use Rattle.marple_laws.proofs.Words.{TypedStream, number_in, with_name, typed_names, with_fields, AreValidStreams, GroupShape, shape_made}
+use Rattle.marple_laws.proofs.Words.{text_at, AreNew, AreNoKeys, IsNamedWell}
 use Rattle.std.specs.Prelude.{map, slice_get}
 use Rattle.query_lang.specs.declared.token.Piece.TheVariants as pieces
 use Rattle.query_lang.specs.declared.token.TokenKind.TheVariants as kinds
@@ -78,14 +78,14 @@ pub columns_total : (names : List (List ℕ)) (shape : GroupShape) → IsNamedWe
 columns_total names shape well keys states =
     let k = taken length shape.key_names names [] well.keys_differ keys in
     let s = taken length shape.state_names k.left [] well.states_differ
-    (λ t i. k.keeps t (states t i) (λ j. no_key shape.key_names shape.state_names t well.states_apart i j)) in
+    (λ t i. k.keeps t (states t i) (λ j. no_key _ _ t well.states_apart i j)) in
     let a = k.sum in
     let b = s.sum in
-    omega (arith, a, b)
+    omega arith
 
 pub texts_in : (names : List (List ℕ)) (ids : List ℕ) → All (λ id. id < length names) ids → (t : List ℕ) → IsIn t (map (text_at names) ids)
     → IsIn t names
-texts_in names ids all t i = let k = covers_all names ids all t i in in_at names k.0 t k.2
+texts_in names ids all t i = let k = covers_all _ _ all t i in in_at _ _ t k.2
 
 group_names_in : (names : List (List ℕ)) (folds : List TypedFold) (streams earlier : List TypedStream)
     → AreValidStreams (length names) folds earlier streams
@@ -109,9 +109,9 @@ pub group_names_total : (names : List (List ℕ)) (folds : List TypedFold) (stre
     → total (map (λ shape. shape.name) (groups_of names folds streams)) ≤ total names
 group_names_total names folds streams v new =
     let t = taken length (map (λ (shape : GroupShape). shape.name) (groups_of names folds streams)) names [] new
-    (group_names_in names folds streams [] v) in
+    (group_names_in _ _ _ _ v) in
     let s = t.sum in
-    omega (arith, s)
+    omega arith
 
 -- ---- the names of a text
 
@@ -186,8 +186,7 @@ of_end at known bytes found e = subst (λ (p : Pair). total p.1 ≤ total known 
 pub cut_total : (n at : ℕ) (known : List (List ℕ)) (bytes : List ℕ) (found : Pair) → cut n at known bytes ≡ Ok found
     → total found.1 ≤ total known + length bytes
 unfolding cut
-cut_total zero at known bytes found e = of_end at known bytes found e
-cut_total (suc n) at known [] found e = of_end at known [] found e
 cut_total (suc n) at known (b ∷ bytes) found e =
-    of_cut_piece (piece (b ∷ bytes)) at known (b ∷ bytes) (λ k later. cut n (at + k) later (drop k (b ∷ bytes))) found
-    (λ k later got h. cut_total n (at + k) later (drop k (b ∷ bytes)) got h) e
+    of_cut_piece (piece (b ∷ bytes)) _ _ (b ∷ bytes) (λ k later. cut n (at + k) later (drop k (b ∷ bytes))) _
+    (λ k later got h. cut_total n (at + k) _ (drop k (b ∷ bytes)) _ h) e
+cut_total _ at known bytes found e = of_end at known bytes found e

@@ -6,7 +6,7 @@ use Rattle.query_lang.specs.Lexis.{is_digit, is_word_byte, reserved}
 use Rattle.marple_laws.proofs.Tokens.{both_true, both_are, is_plain, is_token}
 
 plain_byte : (b : ℕ) → is_word_byte b ≡ true → is_plain b ≡ true
-plain_byte b e = both_are (not (b == 32)) (not (b == 10)) (apart 32 refl (b == 32) refl) (apart 10 refl (b == 10) refl)
+plain_byte b e = both_are _ _ (apart _ refl _ refl) (apart _ refl _ refl)
   where
     apart : (c : ℕ) → is_word_byte c ≡ false → (t : Bool) → (b == c) ≡ t → not (b == c) ≡ true
     apart c bad false is = ap not is

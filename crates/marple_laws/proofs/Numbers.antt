@@ -21,19 +21,18 @@ plain_digit c low =
 
 digits_are : (ds : List ℕ) → AllDigits 10 ds → list_all is_digit ds ≡ true
 digits_are [] d = refl
-digits_are (c ∷ ds) d = let k = digit_from_value c d.0 in both_are (is_digit c) (list_all is_digit ds) (digit_in c k.0 k.1)
-    (digits_are ds d.1)
+digits_are (c ∷ ds) d = let k = digit_from_value c d.0 in both_are _ _ (digit_in c k.0 k.1) (digits_are ds d.1)
 
 plain_digits : (ds : List ℕ) → AllDigits 10 ds → is_token ds ≡ true
 plain_digits [] d = refl
-plain_digits (c ∷ ds) d = let k = digit_from_value c d.0 in both_are (is_plain c) (is_token ds) (plain_digit c k.0) (plain_digits ds d.1)
+plain_digits (c ∷ ds) d = let k = digit_from_value c d.0 in both_are _ _ (plain_digit c k.0) (plain_digits ds d.1)
 
 pub token_decimal : (n : ℕ) → n < 2 ^ 64 → is_token (decimal n) ≡ true
-token_decimal n small = plain_digits (decimal n) (decimal_is_IsNumeral n small).0.1
+token_decimal n small = plain_digits _ (decimal_is_IsNumeral n small).0.1
 
 -- after a byte that says what kind of number it is
 pub token_marked : (mark n : ℕ) → is_plain mark ≡ true → n < 2 ^ 64 → is_token (mark ∷ decimal n) ≡ true
-token_marked mark n plain small = both_are (is_plain mark) (is_token (decimal n)) plain (token_decimal n small)
+token_marked mark n plain small = both_are _ _ plain (token_decimal n small)
 
 one_digit : (ds : List ℕ) → AllDigits 10 ds → 0 < length ds → (get_or ds 0 0 ≡ 48 → length ds ≡ 1) → digits_value 10 ds < 2 ^ 64
     → number ds ≡ Some (digits_value 10 ds)
@@ -58,7 +57,7 @@ one_digit (c ∷ ds) d some first small =
 pub number_decimal : (n : ℕ) → n < 2 ^ 64 → number (decimal n) ≡ Some n
 number_decimal n small =
     let d = decimal_is_IsNumeral n small in
-    one_digit (decimal n) d.0.1 d.0.0 leading (omega (arith, d.1)) ∙ ap Some d.1
+    one_digit _ d.0.1 d.0.0 leading (omega arith) ∙ ap Some d.1
   where
     leading : get_or (decimal n) 0 0 ≡ 48 → length (decimal n) ≡ 1
     leading e = elim (cases_lt 0 n) [

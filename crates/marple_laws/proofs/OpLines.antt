@@ -37,20 +37,20 @@ op_read : (stage : ℕ) (op : operation.Operation) (left right : Operand) → st
     op_words (codes "op" ∷ decimal stage ∷ operation_words op left right) ≡ Some
     (record { stage = stage; op = op; left = left; right = right })
 op_read stage Not left right s l r single =
-    ap (λ n. not_of n (operand (operand_word left))) (number_decimal stage s)
-    ∙ ap (not_of (Some stage)) (operand_read left l)
+    ap (λ n. not_of n (operand (operand_word left))) (number_decimal _ s)
+    ∙ ap (not_of (Some stage)) (operand_read _ l)
     ∙ ap (λ b. Some (record { stage = stage; op = Not; left = left; right = b })) (sym single)
 op_read stage (Two f) left right s l r single =
     ap (λ n. two_of n (function_named (function_word f)) (operand (operand_word left)) (operand (operand_word right)))
-    (number_decimal stage s)
+    (number_decimal _ s)
     ∙ ap (λ g. two_of (Some stage) g (operand (operand_word left)) (operand (operand_word right))) (function_read f)
-    ∙ ap (λ a. two_of (Some stage) (Some f) a (operand (operand_word right))) (operand_read left l)
-    ∙ ap (λ b. two_of (Some stage) (Some f) (Some left) b) (operand_read right r)
+    ∙ ap (λ a. two_of (Some stage) (Some f) a (operand (operand_word right))) (operand_read _ l)
+    ∙ ap (λ b. two_of (Some stage) (Some f) (Some left) b) (operand_read _ r)
 
 op_tokens : (stage : ℕ) (op : operation.Operation) (left right : Operand) → stage < 2 ^ 64 → Fits left → Fits right
     → AreTokens (decimal stage ∷ operation_words op left right)
-op_tokens stage Not left right s l r = (token_decimal stage s, (refl, (token_operand left l, tt)))
-op_tokens stage (Two f) left right s l r = (token_decimal stage s, (token_function f, (token_operand left l, (token_operand right r, tt))))
+op_tokens stage Not left right s l r = (token_decimal _ s, (refl, (token_operand _ l, tt)))
+op_tokens stage (Two f) left right s l r = (token_decimal _ s, (token_function f, (token_operand _ l, (token_operand _ r, tt))))
 
 op_word : word_named (codes "op") ≡ lead.Op
 unfolding word_named
@@ -63,19 +63,16 @@ with_ops fields ops = record { begun = true; reads = Some fields; ops = ops; gro
 op_written : (fields : List Field) (before : List PlanOp) (one : PlanOp) → IsOpOk fields before one
     → IsWritten (op_line one) (with_ops fields before) (with_ops fields (before ++ one ∷ []))
 op_written fields before one ok =
-    line_written lead.Op (codes "op") (decimal one.stage ∷ operation_words one.op one.left one.right) (with_ops fields before)
+    line_written _ (codes "op") (decimal one.stage ∷ operation_words one.op one.left one.right) (with_ops fields before)
     (with_ops fields (before ++ one ∷ [])) refl
-    (op_tokens one.stage one.op one.left one.right ok.stage ok.left ok.right) op_word
+    (op_tokens _ _ _ _ ok.stage ok.left ok.right) op_word
     (λ cut. record {
       fields = fields;
       reads = refl;
       groups = refl;
       current = refl;
       op = one;
-      valid = record {
-        words = ap op_words cut ∙ op_read one.stage one.op one.left one.right ok.stage ok.left ok.right ok.single;
-        allowed = ok.allowed;
-      };
+      valid = record { words = ap op_words cut ∙ op_read _ _ _ _ ok.stage ok.left ok.right ok.single; allowed = ok.allowed };
       made = refl;
     })
 

@@ -1,9 +1,8 @@
 -- The parts of lines, decided.
-use Rattle.marple_laws.proofs.Words.{◌≡◌, ℕ, ◌+◌, ◌≤◌, max, List, [], ◌∷◌, length, map, Some, None, refl, sym, ap, ap₂, ◌∙◌, subst, inl}
-use Rattle.marple_laws.proofs.Words.{inr, codes, Field, all_fields, field_name, number_of, FIELDS, MAX_STAGES, Operand, Register, Number}
-use Rattle.marple_laws.proofs.Words.{PlanOp, is_name, number, tokens, IsNamedNumber, IsNamedOperand, IsOneNumber, IsOneOperand, AreFrom}
-use Rattle.marple_laws.proofs.Words.{IsAllowed, IsKnown, IsOpLine, IsReadsLine, IsStaged, is_right_of, last_stage, op_words, operand}
-use Rattle.marple_laws.proofs.Words.{stage_of}
+use Rattle.marple_laws.proofs.Words.{◌≡◌, ℕ, ◌+◌, ◌≤◌, List, [], ◌∷◌, length, map, Some, None, refl, sym, ap, ap₂, ◌∙◌, subst, inl, inr}
+use Rattle.marple_laws.proofs.Words.{codes, Field, all_fields, field_name, number_of, FIELDS, Operand, Register, Number, PlanOp, is_name}
+use Rattle.marple_laws.proofs.Words.{number, tokens, IsNamedNumber, IsNamedOperand, IsOneNumber, IsOneOperand, AreFrom, IsAllowed, IsKnown}
+use Rattle.marple_laws.proofs.Words.{IsOpLine, IsReadsLine, IsStaged, op_words, operand}
 use Rattle.std.specs.Prelude.{◌⊎◌}
 use Rattle.marple_base.specs.declared.field.Field.TheVariants as fields
 use Rattle.plan_file.proofs.ReadsFacts.{same_name}
@@ -91,27 +90,27 @@ reads_line line = by (tokens line) refl
         let first : t ≡ codes "reads" = cc in
         let rest : ts ≡ map field_name p.0 = cc in
         (first, (p.0, rest, p.1.order)))
-        (both (same_text t (codes "reads")) (reads_from 0 ts))
+        (both (same_text t (codes "reads")) (reads_from 0 _))
 
 -- operands and the lines `op`
 
 pub known : (fs : List Field) (ops : List PlanOp) (o : Operand) → Decided (IsKnown fs ops o)
-known fs ops (Register r) = either (contains same_number (map number_of fs) r) (both (most FIELDS r) (less r (FIELDS + length ops)))
-known fs ops (Number n) = inl tt
+known fs ops (Register r) = either (contains same_number _ r) (both (most _ r) (less r (FIELDS + length ops)))
+known fs ops (Number n) = inl _
 
 staged : (ops : List PlanOp) (op : PlanOp) → Decided (IsStaged ops op)
 staged ops op =
     by_both
     (λ p. record { room = p.0.0; least = p.0.1; most = p.1.0.0; order = p.1.0.1; stage = p.1.1.0; constant = p.1.1.1 })
     (λ s. ((s.room, s.least), ((s.most, s.order), (s.stage, s.constant))))
-    (both (both (less (length ops) 32768) (most 1 op.stage))
-    (both (both (most op.stage MAX_STAGES) (most (last_stage ops) op.stage))
-    (both (same_number op.stage (1 + max (stage_of ops op.left) (stage_of ops op.right))) (is_true (is_right_of op.op op.right)))))
+    (both (both (less (length ops) 32768) (most 1 _))
+    (both (both (most _ _) (most _ _))
+    (both (same_number _ _) (is_true _))))
 
 allowed : (fs : List Field) (ops : List PlanOp) (op : PlanOp) → Decided (IsAllowed fs ops op)
 allowed fs ops op =
     by_both (λ p. record { left = p.0.0; right = p.0.1; staged = p.1 }) (λ a. ((a.left, a.right), a.staged))
-    (both (both (known fs ops op.left) (known fs ops op.right)) (staged ops op))
+    (both (both (known _ ops op.left) (known _ ops op.right)) (staged _ _))
 
 pub op_line : (fs : List Field) (ops : List PlanOp) (line : List ℕ) → Decided ((op : PlanOp) × IsOpLine fs ops line op)
 op_line fs ops line = by (value_of (op_words (tokens line)))
@@ -120,7 +119,7 @@ op_line fs ops line = by (value_of (op_words (tokens line)))
         → Decided ((op : PlanOp) × IsOpLine fs ops line op)
     by (inl (op, e)) =
         by_both (λ a. (op, record { words = e; allowed = a }))
-        (λ p. subst (IsAllowed fs ops) (some_same (op_words (tokens line)) p.0 op p.1.words e) p.1.allowed) (allowed fs ops op)
+        (λ p. subst (IsAllowed fs ops) (some_same (op_words (tokens line)) _ op p.1.words e) p.1.allowed) (allowed _ _ op)
     by (inr none) = inr (λ p. none_some (op_words (tokens line)) p.0 none p.1.words)
 
 -- lines of a word, a name and an operand or a number
@@ -144,9 +143,9 @@ named_operand fs ops word line = by (three_tokens (tokens line))
         let name : n ≡ p.0 = cc in
         let same : t ≡ p.2.token = cc in (
           first,
-          (ap is_name name ∙ p.2.named, subst (IsKnown fs ops) (some_same (operand t) p.1 v (ap operand same ∙ p.2.reads) r) p.2.known),
+          (ap is_name name ∙ p.2.named, subst (IsKnown fs ops) (some_same (operand t) _ v (ap operand same ∙ p.2.reads) r) p.2.known),
         ))
-        (both (same_text a word) (both (is_true (is_name n)) (known fs ops v)))
+        (both (same_text a _) (both (is_true (is_name n)) (known _ ops v)))
 
     by : Decided ((a : List ℕ) × (n : List ℕ) × (t : List ℕ) × (tokens line ≡ a ∷ n ∷ t ∷ []))
         → Decided ((name : List ℕ) × (v : Operand) × IsNamedOperand fs ops word line name v)
@@ -169,8 +168,8 @@ one_operand fs ops word line = by (two_tokens (tokens line))
         let words : a ∷ t ∷ [] ≡ word ∷ p.1.token ∷ [] = sym e ∙ p.1.words in
         let first : a ≡ word = cc in
         let same : t ≡ p.1.token = cc in
-        (first, subst (IsKnown fs ops) (some_same (operand t) p.0 v (ap operand same ∙ p.1.reads) r) p.1.known))
-        (both (same_text a word) (known fs ops v))
+        (first, subst (IsKnown fs ops) (some_same (operand t) _ v (ap operand same ∙ p.1.reads) r) p.1.known))
+        (both (same_text a _) (known _ ops v))
 
     by : Decided ((a : List ℕ) × (t : List ℕ) × (tokens line ≡ a ∷ t ∷ [])) → Decided ((v : Operand) × IsOneOperand fs ops word line v)
     by (inr none) = inr (λ p. none (word, p.1.token, p.1.words))
@@ -193,7 +192,7 @@ named_number word line = by (three_tokens (tokens line))
         let first : a ≡ word = cc in
         let name : n ≡ p.0 = cc in
         (first, ap is_name name ∙ p.2.named))
-        (both (same_text a word) (is_true (is_name n)))
+        (both (same_text a _) (is_true (is_name n)))
 
     by : Decided ((a : List ℕ) × (n : List ℕ) × (t : List ℕ) × (tokens line ≡ a ∷ n ∷ t ∷ []))
         → Decided ((name : List ℕ) × (v : ℕ) × IsNamedNumber word line name v)
@@ -212,7 +211,7 @@ one_number word line = by (two_tokens (tokens line))
     with_value a t e (inl (v, r)) =
         by_both (λ q. (v, record { token = t; words = e ∙ ap (λ w. w ∷ t ∷ []) q; reads = r }))
         (λ p. (let words : a ∷ t ∷ [] ≡ word ∷ p.1.token ∷ [] = sym e ∙ p.1.words in cc))
-        (same_text a word)
+        (same_text a _)
 
     by : Decided ((a : List ℕ) × (t : List ℕ) × (tokens line ≡ a ∷ t ∷ [])) → Decided ((v : ℕ) × IsOneNumber word line v)
     by (inr none) = inr (λ p. none (word, p.1.token, p.1.words))

@@ -74,7 +74,7 @@ meaning_cases (k ∷ known) entry id m e = by (nat_eq k.name id) e (meaning_case
 meaning_kept : (known : List Known) (entry : Known) (id : ℕ) (m : Meaning) → meaning_of known id ≡ Some m
     → meaning_of (known ++ entry ∷ []) id ≡ Some m
 meaning_kept [] entry id m e = cc
-meaning_kept (k ∷ known) entry id m e = by (nat_eq k.name id) e (meaning_kept known entry id m)
+meaning_kept (k ∷ known) entry id m e = by _ e (meaning_kept known entry id m)
   where
     by : (b : Bool) → (if b then Some k.meaning else meaning_of known id) ≡ Some m
         → (meaning_of known id ≡ Some m → meaning_of (known ++ entry ∷ []) id ≡ Some m) →
@@ -85,7 +85,7 @@ meaning_kept (k ∷ known) entry id m e = by (nat_eq k.name id) e (meaning_kept 
 some_kept : (known : List Known) (entry : Known) (id : ℕ) → is_some (meaning_of known id) ≡ true
     → is_some (meaning_of (known ++ entry ∷ []) id) ≡ true
 some_kept [] entry id e = cc
-some_kept (k ∷ known) entry id e = by (nat_eq k.name id) e (some_kept known entry id)
+some_kept (k ∷ known) entry id e = by _ e (some_kept known entry id)
   where
     by : (b : Bool) → is_some (if b then Some k.meaning else meaning_of known id) ≡ true
         → (is_some (meaning_of known id) ≡ true → is_some (meaning_of (known ++ entry ∷ []) id) ≡ true) →

@@ -117,11 +117,11 @@ module _ (q : TypedQuery) (valid : IsValidQuery q) where
 
   pub plan_put : stage_fault q ≡ None → IsPut q (plan_of q)
   plan_put none =
-      let groups = groups_are q.streams (all_fit q valid) in
+      let groups = groups_are _ (all_fit q valid) in
       let few = few_made q valid none in
       put q (query_made q).ops (query_made q).streams (query_order q) (query_registers q) (query_ops q) (query_wiring q)
       (groups_planned q.names q.folds q.streams) (reads_of q) (record {
-        made = record { valid = valid; ops_are = refl; streams_are = refl; fits = query_fault q ∙ none; few = omega (arith, few) };
+        made = record { valid = valid; ops_are = refl; streams_are = refl; fits = query_fault q ∙ none; few = omega arith };
         order_is = refl;
         placed = registers_placed (query_made q).ops (stages_of (query_made q).ops);
         long = length-map-range_with_len (register_in (query_order q)) 0 (length (query_made q).ops);
@@ -134,7 +134,7 @@ module _ (q : TypedQuery) (valid : IsValidQuery q) where
       })
 
 pub accepted_put : (text : List ℕ) (q : TypedQuery) → accepted text ≡ Ok q → IsPut q (plan_of q)
-accepted_put text q e = plan_put q (accepted_valid text q e) (staged_none text q e)
+accepted_put text q e = plan_put q (accepted_valid text q e) (staged_none _ q e)
 
 pub have_plans : AcceptedHavePlans
-have_plans = record { is_plan = λ text q e. (accepted_put text q e).is_plan; is_sound = λ text q e. (accepted_put text q e).is_sound }
+have_plans = record { is_plan = λ text q e. (accepted_put _ q e).is_plan; is_sound = λ text q e. (accepted_put _ q e).is_sound }

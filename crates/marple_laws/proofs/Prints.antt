@@ -53,4 +53,4 @@ all_words (n ∷ numbers) all = (All-head IsWord n numbers all, all_words number
 
 pub starts : (folds : List TypedFold) → All (λ f. AreWords f.initial) folds → (i : ℕ) (f : TypedFold) → slice_get folds i ≡ Some f
     → AllWords f.initial
-starts folds all i f e = all_words f.initial (all_at (λ (g : TypedFold). AreWords g.initial) folds i f all e)
+starts folds all i f e = all_words _ (all_at (λ (g : TypedFold). AreWords g.initial) _ i f all e)

@@ -62,9 +62,9 @@ with_final_good packets e name made good =
 final_good : (packets : ℕ) (given : Given) (e after : Earlier) (d : FinalDef) → Good packets e → final_checked given e d ≡ Ok after
     → Good packets after
 final_good packets given e after d good ok =
-    let b = found_first (begun e d.name) _ after ok in
-    let m = found_first (made_final given e d.op) _ after b.2 in
-    subst (Good packets) (same_ok (with_final e d.name m.0) after m.2) (with_final_good packets e d.name m.0 good)
+    let b = found_first (begun e d.name) _ _ ok in
+    let m = found_first (made_final given e d.op) _ _ b.2 in
+    subst (Good packets) (same_ok (with_final e d.name m.0) _ m.2) (with_final_good _ e _ _ good)
 
 -- the place of a table that has a name
 place_of_table : (known : List Known) (name : Name) (t : TableView) → table_named known name ≡ Ok t → place_at known name.id ≡ Some t.place
@@ -134,15 +134,15 @@ start_good names = record {
   bounds = λ a p ea. absurd (no a p ea);
   prints_known = λ p i. absurd i;
   prints = tt;
-  streams_known = λ id i. known id i;
+  streams_known = λ id i. known _ i;
   streams = tt;
-  folds_known = λ id v h. absurd (none id v h);
+  folds_known = λ id v h. absurd (none _ v h);
   folds = λ f i. absurd i;
   columns = λ one i. absurd i;
 }
   where
     no : (a : ℕ) (p : PrintOf) → place_at (start_of names).known a ≡ Some p → ⊥
-    no a p e = by (nat_eq (number_in names (codes "pktstream")) a) e
+    no a p e = by _ e
       where
         by : (b : Bool) → place_in (if b then Some (meaning.Stream (record {
           number = 0;
@@ -154,7 +154,7 @@ start_good names = record {
         by false e = cc
 
     none : (id : ℕ) (v : FoldView) → meaning_of (start_of names).known id ≡ Some (meaning.Fold v) → ⊥
-    none id v e = by (nat_eq (number_in names (codes "pktstream")) id) e
+    none id v e = by _ e
       where
         by : (b : Bool) → (if b then Some (meaning.Stream (record {
           number = 0;
@@ -167,7 +167,7 @@ start_good names = record {
 
     known : (id : ℕ) → IsIn id (number_in names (codes "pktstream") ∷ []) → is_some (meaning_of (start_of names).known id) ≡ true
     known id (inl e) =
-        let t : nat_eq (number_in names (codes "pktstream")) id ≡ true = grind (arith, nat_tests) in
+        let t : nat_eq (number_in names (codes "pktstream")) id ≡ true = grind arith in
         ap (λ b. is_some (if b then Some (meaning.Stream (record {
           number = 0;
           columns = map (λ id. record { name = id; origin = origin.Field }) (field_numbers names);

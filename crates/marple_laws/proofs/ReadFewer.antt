@@ -163,11 +163,10 @@ read_fewer text reads sent e = go (nat_lt MAX_TRACE (length text)) (records text
         → columns_of_fields whole header ≡ r → contents_with (layout_with (length header) r) rest ≡ good sent
         → contents_with (layout_with (length header) (columns_of_fields reads header)) rest ≡ good (all_as_read reads sent)
     inner header rest (Err x) er h = let none : Some x ≡ None = ap (λ (c : Contents). c.fault) h in absurd (cc none)
-    inner header rest (Ok columns) er h =
-        rw (columns_masked reads header all_fields columns er) (contents_masked reads (length header) columns 1 rest sent h)
+    inner header rest (Ok columns) er h = rw (columns_masked _ _ _ _ er) (contents_masked _ (length header) _ 1 rest sent h)
 
     go : (b : Bool) (rs : List (List (List ℕ))) → contents_with (cond b (Err fault.TraceTooLong) (layout_of rs whole)) (rest_of rs) ≡ good
         sent → contents_with (cond b (Err fault.TraceTooLong) (layout_of rs reads)) (rest_of rs) ≡ good (all_as_read reads sent)
     go true rs h = let none : Some fault.TraceTooLong ≡ None = ap (λ (c : Contents). c.fault) h in absurd (cc none)
     go false [] h = let none : Some fault.NoHeader ≡ None = ap (λ (c : Contents). c.fault) h in absurd (cc none)
-    go false (header ∷ rest) h = inner header rest (columns_of_fields whole header) refl h
+    go false (header ∷ rest) h = inner _ _ (columns_of_fields whole header) refl h

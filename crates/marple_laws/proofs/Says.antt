@@ -31,7 +31,7 @@ groups_long fields ops shapes wirings folds each (shape ∷ rest) i are =
     let made_is : folded_of (slice_get shapes i) (slice_get wirings i) (folds i) ≡ folded_with shape h.wiring h.fold ∷ [] =
     (λ k. folded_of (here k) (h.wired k) (h.folds_are k)) in
     let more = groups_long fields ops shapes wirings folds each rest (i + 1)
-    (λ k. (let z : i + 1 + k ≡ i + suc k = omega arith in ap (slice_get shapes) z ∙ are (suc k))) in
+    (λ k. (let z : i + 1 + k ≡ i + suc k = omega arith in ap (slice_get shapes) z ∙ are _)) in
     ap (λ l. length (l ++ flat_map (λ i. folded_of (slice_get shapes i) (slice_get wirings i) (folds i))
     (range_with_len (i + 1) (length rest)))) made_is ∙ ap suc more
 
@@ -105,8 +105,8 @@ module _ (q : TypedQuery) (p : PlanParts) (valid : IsValidQuery q) (text : HasPl
     long : length groups ≡ length (takings q.streams)
     long =
         ap (λ n. length (flat_map (group_made q) (range_with_len 0 n))) (sym (shapes_long q p valid text plan sound))
-        ∙ groups_long fields (query_ops q) (query_groups q) (query_wiring q) (fold_at q) (group_ok q p valid text plan sound)
-        (query_groups q)
+        ∙ groups_long _ _ _ _ _ (group_ok q p valid text plan sound)
+        _
         0 (λ k. (let z : 0 + k ≡ k = omega arith in ap (slice_get (query_groups q)) z))
         ∙ shapes_long q p valid text plan sound
 
@@ -145,7 +145,7 @@ module _ (q : TypedQuery) (p : PlanParts) (valid : IsValidQuery q) (text : HasPl
         let w = text_written in
         record {
           size = text.short;
-          valid = subst (λ l. Make l nothing (made_of q)) (sym (ap lines w.text_is ∙ lines_of w.all w.each)) w.make;
-          ended = ap bytes_after_lines w.text_is ∙ nothing_after w.all w.each;
+          valid = subst (λ l. Make l nothing (made_of q)) (sym (ap lines w.text_is ∙ lines_of _ w.each)) w.make;
+          ended = ap bytes_after_lines w.text_is ∙ nothing_after _ w.each;
           printed = text.printed;
         }

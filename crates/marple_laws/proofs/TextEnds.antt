@@ -16,7 +16,7 @@ first_at : {A : Type 0} (xs : List A) (i : ℕ) (x : A) (rest : List A) → drop
 first_at [] zero x rest e = absurd (nothing e)
 first_at (y ∷ xs) zero x rest e = let a : y ≡ x = cc in let b : xs ≡ rest = cc in (ap Some a, b)
 first_at [] (suc i) x rest e = absurd (nothing e)
-first_at (y ∷ xs) (suc i) x rest e = first_at xs i x rest e
+first_at (y ∷ xs) (suc i) x rest e = first_at _ i x _ e
 
 module _ (made : Made) (plan : PlanParts) (from : IsPlanFrom made plan) (g : Geometry) (list : List (List ℕ)) where
   -- a groupby of the plan takes what its group takes
@@ -30,21 +30,20 @@ module _ (made : Made) (plan : PlanParts) (from : IsPlanFrom made plan) (g : Geo
   uses_same i one at =
       let take : GroupWiring → List PlanOp → List ℕ → Option Taken = λ w ops words. taken_at w
       (registers_after ops words (stages_of ops)) in
-      ap (λ w. uses_taken 1 (map (take w plan.ops) list)) (wiring_same i one at)
+      ap (λ w. uses_taken 1 (map (take w plan.ops) list)) (wiring_same i _ at)
       ∙ ap (λ ops. uses_taken 1 (map (take (wiring_in one) ops) list)) from.ops
 
   ends_at : (i : ℕ) (ones : List Folded) (groups : List GroupPlan) → drop i made.groups ≡ ones → AreGroupsFrom ones groups
       → ends_from plan g list i groups ≡ map (λ one. end_of g (uses_in made one list) (length list)) ones
   ends_at i [] [] e zip = refl
-  ends_at i [] (group ∷ groups) e zip = absurd zip
-  ends_at i (one ∷ ones) [] e zip = absurd zip
   ends_at i (one ∷ ones) (group ∷ groups) e zip =
-      let at = first_at made.groups i one ones e in
-      ap₂ (λ m ms. m ∷ ms) (ap (λ uses. end_of g uses (length list)) (uses_same i one at.0)) (ends_at (suc i) ones groups at.1 zip.1)
+      let at = first_at _ i _ _ e in
+      ap₂ (λ m ms. m ∷ ms) (ap (λ uses. end_of g uses (length list)) (uses_same i _ at.0)) (ends_at _ _ _ at.1 zip.1)
+  ends_at i _ _ e zip = absurd zip
 
   -- so the plan's machines at the end are those of the text's groups
   pub ends_same : end_machines plan g list ≡ text_ends made g list
-  ends_same = ends_at 0 made.groups plan.groups refl from.groups
+  ends_same = ends_at 0 _ _ refl from.groups
 
 pub stand_for_texts : PlansStandForTheirTexts
 stand_for_texts setting made trace p stands =

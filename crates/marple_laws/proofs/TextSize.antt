@@ -96,12 +96,12 @@ prints_in q (place.Final n ∷ prints) all are p i = absurd are
 
 few_prints : (q : TypedQuery) → IsValidQuery q → AreGroups q.prints → AreNew [] q.prints → length q.prints ≤ MAX_GROUPBYS
 few_prints q v are new =
-    let t = taken (λ p. 1) q.prints (up (length (takings q.streams))) [] new (prints_in q q.prints v.prints are) in
+    let t = taken (λ p. 1) q.prints (up (length (takings q.streams))) [] new (prints_in q _ v.prints are) in
     let s = t.sum in
     let a = up_long (length (takings q.streams)) in
     let b = as_long q.prints in
     let m = v.most_groupbys in
-    omega (arith, s, a, b, m)
+    omega arith
 
 -- ---- operands
 
@@ -120,25 +120,24 @@ from_fits reads (Some f) o h = subst NumFits (sym h) tt
 column_fits : (reads : FieldSet) (sources : List FieldSource) (columns : List Operand) (slot : ℕ) → AreFrom reads sources columns
     → NumFits (operand_at columns slot)
 column_fits reads [] [] slot h = omega arith
-column_fits reads (s ∷ sources) (o ∷ columns) zero h = from_fits reads s o h.0
+column_fits reads (s ∷ sources) (o ∷ columns) zero h = from_fits _ s o h.0
 column_fits reads (s ∷ sources) (o ∷ columns) (suc slot) h = column_fits reads sources columns slot h.1
-column_fits reads [] (o ∷ columns) slot h = absurd h
-column_fits reads (s ∷ sources) [] slot h = absurd h
+column_fits reads _ _ _ h = absurd h
 
 abbrev AreSmall : List ℕ → Type 0
 AreSmall registers = (k r : ℕ) → slice_get registers k ≡ Some r → r < 2 ^ 64
 
 moved_fits : (registers : List ℕ) → AreSmall registers → (o : Operand) → NumFits o → Fits (moved registers o)
 moved_fits registers small (Number n) g = g
-moved_fits registers small (Register r) g = by (nat_lt r FIELDS) refl
+moved_fits registers small (Register r) g = by _ refl
   where
     new : (o : Option ℕ) → slice_get registers (r - FIELDS) ≡ o → Fits (register_or_none o)
     new None e = omega arith
-    new (Some x) e = small (r - FIELDS) x e
+    new (Some x) e = small _ x e
 
     by : (b : Bool) → nat_lt r FIELDS ≡ b → Fits (if b then Register r else register_or_none (slice_get registers (r - FIELDS)))
-    by true e = let lt : r < FIELDS = grind (arith, nat_tests) in omega (arith, lt)
-    by false e = new (slice_get registers (r - FIELDS)) refl
+    by true e = let lt : r < FIELDS = grind arith in omega arith
+    by false e = new _ refl
 
 slots_fit : (registers : List ℕ) → AreSmall registers → (reads : FieldSet) (sources : List FieldSource) (columns : List Operand)
     → AreFrom reads sources columns → (slots : List ℕ) → AllFit (map (λ slot. moved registers (operand_at columns slot)) slots)
@@ -187,19 +186,19 @@ module _ (q : TypedQuery) (v : IsValidQuery q) (staged : stage_fault q ≡ None)
     fit i f e = (all_at IsValidFold q.folds i f v.folds e, initial i f e)
 
     good : AllAreGood (reads_of q) (all_sources q) (query_made q)
-    good = query_good q.folds (length q.names) q.streams fit v.streams
+    good = query_good _ _ _ fit v.streams
 
     order_few : length (query_order q) ≤ 20512
     order_few =
         let n = few_ops q v staged in
         let m = length-map (query_order q) (λ number. moved_op (query_registers q) (op_numbered (query_made q).ops number)) in
-        omega (arith, n, m)
+        omega arith
 
     register_small : (c : ℕ) → register_in (query_order q) c < 2 ^ 64
     register_small c =
         let p = prefix_len-le-length (λ other. not (other == c)) (query_order q) in
         let f = order_few in
-        omega (arith, p, f)
+        omega arith
 
     small : AreSmall (query_registers q)
     small k r e = go (slice_get (range_with_len 0 (length (query_made q).ops)) k) refl
@@ -228,21 +227,21 @@ module _ (q : TypedQuery) (v : IsValidQuery q) (staged : stage_fault q ≡ None)
         at = slice_get-map new_op (query_order q) i
 
         go : (o : Option ℕ) → slice_get (query_order q) i ≡ o → length (op_line one) ≤ 57
-        go None h = let none : None ≡ Some one = sym (at ∙ ap (option_map new_op) h) ∙ e in absurd (no none)
+        go None h = let none : None ≡ Some one = sym (at ∙ ap (option_map _) h) ∙ e in absurd (no none)
           where
             no : None ≡ Some one → ⊥
             no z = cc
         go (Some c) h =
             let o = ordered (query_made q).ops (stages_of (query_made q).ops) i c h in
-            let same : new_op c ≡ one = same_Some (new_op c) one (sym (at ∙ ap (option_map new_op) h) ∙ e) in
+            let same : new_op c ≡ one = same_Some (new_op c) _ (sym (at ∙ ap (option_map new_op) h) ∙ e) in
             let is : moved_op (query_registers q) o.one ≡ one = ap (moved_op (query_registers q))
-            (sym (op_at (query_made q).ops c o.one o.found)) ∙ same in
-            let w : IsWritable (reads_of q) o.one = writable_at (reads_of q) (query_made q).ops c o.one good.written o.found in
+            (sym (op_at (query_made q).ops c _ o.found)) ∙ same in
+            let w : IsWritable (reads_of q) o.one = writable_at (reads_of q) (query_made q).ops c _ good.written o.found in
             let s = ((made_of_query q staged).made.each c o.one o.found).stage in
             subst (λ x. length (op_line x) ≤ 57) is
-            (op_size (moved_op (query_registers q) o.one) (omega (arith, s))
-            (moved_fits (query_registers q) small o.one.left (good_fits (reads_of q) o.one.left w.left))
-            (moved_fits (query_registers q) small o.one.right (good_fits (reads_of q) o.one.right w.right)))
+            (op_size (moved_op (query_registers q) o.one) (omega arith)
+            (moved_fits (query_registers q) small _ (good_fits (reads_of q) _ w.left))
+            (moved_fits (query_registers q) small _ (good_fits (reads_of q) _ w.right)))
 
     limited : (shape : GroupShape) (j : ℕ) (one : TypedStream) (t : Taking) (i : ℕ) (f : TypedFold) (number : ℕ)
         → slice_get q.streams j ≡ Some one
@@ -288,19 +287,19 @@ module _ (q : TypedQuery) (v : IsValidQuery q) (staged : stage_fault q ≡ None)
     columns_short : (i : ℕ) (shape : GroupShape) (j : ℕ) (one : TypedStream) → slice_get (query_groups q) i ≡ Some shape
         → slice_get q.streams j ≡ Some one → IsMadeBy q.names q.folds one shape → total shape.key_names + total shape.state_names ≤ 65690
     columns_short i shape j one e here made =
-        let below = stream_below (length q.names) q.folds [] q.streams j one v.streams here in
-        let states = (all_at (HasNames (length q.names)) q.folds made.number made.f v.fold_names made.at).states in
-        let n = columns_total q.names shape (well i shape e)
-        (λ t k. texts_in q.names one.columns below.1 t (subst (λ (s : GroupShape). IsIn t s.key_names) made.is k))
-        (λ t k. texts_in q.names made.f.state_names states t (subst (λ (s : GroupShape). IsIn t s.state_names) made.is k)) in
-        omega (arith, n, short)
+        let below = stream_below (length q.names) _ _ _ j _ v.streams here in
+        let states = (all_at (HasNames (length q.names)) _ made.number made.f v.fold_names made.at).states in
+        let n = columns_total _ _ (well i shape e)
+        (λ t k. texts_in _ _ below.1 t (subst (λ (s : GroupShape). IsIn t s.key_names) made.is k))
+        (λ t k. texts_in _ _ states t (subst (λ (s : GroupShape). IsIn t s.state_names) made.is k)) in
+        omega arith
 
     each_group : (i : ℕ) (shape : GroupShape) → slice_get (query_groups q) i ≡ Some shape → length (group_text q i) ≤ 79690
         + length shape.name
     each_group i shape e =
         subst (λ o. length (group_lines_of o (slice_get (query_wiring q) i) (fold_at q i)) ≤ 79690 + length shape.name) (sym e)
         (subst (λ o. length (group_lines_of (Some shape) o (fold_at q i)) ≤ 79690 + length shape.name) (sym wiring_at)
-        (go (slice_get (takings q.streams) i) refl))
+        (go _ refl))
       where
         wiring_at : slice_get (query_wiring q) i ≡ option_map (wiring_of (query_registers q) (query_made q).streams)
             (slice_get (takings q.streams) i)
@@ -310,23 +309,23 @@ module _ (q : TypedQuery) (v : IsValidQuery q) (staged : stage_fault q ≡ None)
             → length (group_lines_of (Some shape) (option_map (wiring_of (query_registers q) (query_made q).streams) o)
             (option_and_then (λ t. slice_get q.folds t.fold_number) o)) ≤ 79690 + length shape.name
         go None h = omega arith
-        go (Some t) h = by (slice_get q.folds t.fold_number) refl
+        go (Some t) h = by _ refl
           where
             from : (j : ℕ) × (one : TypedStream) × (slice_get q.streams j ≡ Some one) × (shape_made q.names q.folds one one.op ≡ Some shape)
-            from = group_from q.names q.folds q.streams i shape e
+            from = group_from _ _ _ i _ e
 
             made : IsMadeBy q.names q.folds from.1 shape
-            made = made_by q.names q.folds from.1 from.1.op shape from.3 (own from.0 from.1 from.2)
+            made = made_by _ _ _ _ _ from.3 (own from.0 from.1 from.2)
 
             by : (o : Option TypedFold) → slice_get q.folds t.fold_number ≡ o
                 → length (group_lines_of (Some shape) (Some (wiring_of (query_registers q) (query_made q).streams t)) o) ≤ 79690
                 + length shape.name
             by None k = omega arith
             by (Some f) k =
-                let n = group_size shape (wiring_of (query_registers q) (query_made q).streams t) f
-                (limited shape from.0 from.1 t i f t.fold_number from.2 from.3 h k made) in
-                let c = columns_short i shape from.0 from.1 e from.2 made in
-                omega (arith, n, c)
+                let n = group_size _ _ f
+                (limited _ _ _ t i f _ from.2 from.3 h k made) in
+                let c = columns_short i _ _ _ e from.2 made in
+                omega arith
 
     no_group : (i : ℕ) → slice_get (query_groups q) i ≡ None → length (group_text q i) ≡ 0
     no_group i e = ap (λ o. length (group_lines_of o (slice_get (query_wiring q) i) (fold_at q i))) e

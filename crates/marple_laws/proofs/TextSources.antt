@@ -12,14 +12,8 @@ abbrev source_of : List ℕ → Checked Made → Source
 source_of text plan = record { text = text; plan = plan }
 
 pub there : SourcesAreThere
-there (commands.Run setting every) text = (source_of text (Ok nothing), refl, tt)
-there (commands.Plan ways) text = (source_of text (Ok nothing), refl, tt)
-there (commands.Gen generation) text = (source_of text (Ok nothing), refl, tt)
-there (commands.Trial generation setting) text = (source_of text (Ok nothing), refl, tt)
-there (commands.Net setting) text = (source_of text (Ok nothing), refl, tt)
-there (commands.Enclose setting) text = (source_of text (Ok nothing), refl, tt)
-there commands.Compile text = (source_of text (Ok nothing), refl, tt)
 there (commands.RunPlan setting) text = (let found = every_text text in (source_of text found.0, refl, found.1))
+there _ text = (source_of text (Ok nothing), refl, tt)
 
 -- sources with one text and one plan
 same_source : (command : Command) (a b : Source) → a.text ≡ b.text → a.plan ≡ b.plan → AreAlike command a b

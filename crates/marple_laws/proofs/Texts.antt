@@ -50,7 +50,7 @@ covers_more names before texts id text cover e t h = elim (in_push texts text t 
 
 covers_still : (names : List (List ℕ)) (before : List ℕ) (texts : List (List ℕ)) (id : ℕ) → Cover names before texts
     → Cover names (before ++ id ∷ []) texts
-covers_still names before texts id cover t h = let k = cover t h in (k.0, in_left k.0 before (id ∷ []) k.1, k.2)
+covers_still names before texts id cover t h = let k = cover t h in (k.0, in_left _ _ _ k.1, k.2)
 
 pub covers_all : (names : List (List ℕ)) (ids : List ℕ) → All (λ id. id < length names) ids → Cover names ids (map (text_at names) ids)
 covers_all names [] all t h = absurd h
@@ -66,9 +66,9 @@ covers_all names (id ∷ ids) all t (inr h) =
 new_text : (names : List (List ℕ)) → AreOnce names → (before : List ℕ) (texts : List (List ℕ)) (id : ℕ) (text : List ℕ)
     → Cover names before texts → (Contains before id → ⊥) → slice_get names id ≡ Some text → Contains texts text → ⊥
 new_text names once before texts id text cover new e c =
-    let k = cover text (contains_in texts text c) in
-    let same : k.0 ≡ id = once k.0 id text k.2 e in
-    new (in_contains before id (subst (λ z. IsIn z before) same k.1))
+    let k = cover _ (contains_in _ _ c) in
+    let same : k.0 ≡ id = once _ id _ k.2 e in
+    new (in_contains _ _ (subst (λ z. IsIn z before) same k.1))
 
 new_texts : (names : List (List ℕ)) → AreOnce names → (ids before : List ℕ) (texts : List (List ℕ)) → Cover names before texts
     → All (λ id. id < length names) ids → AreNew before ids → AreNew texts (map (text_at names) ids)
@@ -133,12 +133,12 @@ made_by names folds one (typed.Zip left right slots) shape is own = cc
 
 pub name_of : (names : List (List ℕ)) (folds : List TypedFold) (one : TypedStream) (op : TypedOp) (shape : GroupShape)
     → shape_made names folds one op ≡ Some shape → shape.name ≡ text_at names one.name.id
-name_of names folds one (typed.Group input keys number args) shape e = by (slice_get folds number) e
+name_of names folds one (typed.Group input keys number args) shape e = by _ e
   where
     by : (o : Option TypedFold) → option_map (shape_with names one.name.id one.columns (length args)) o ≡ Some shape
         → shape.name ≡ text_at names one.name.id
     by None e = cc
-    by (Some f) e = ap (λ (s : GroupShape). s.name) (sym (same_Some (shape_with names one.name.id one.columns (length args) f) shape e))
+    by (Some f) e = ap (λ (s : GroupShape). s.name) (sym (same_Some _ _ e))
 name_of names folds one (typed.Filter input e) shape is = cc
 name_of names folds one (typed.Map input values) shape is = cc
 name_of names folds one (typed.Zip left right slots) shape is = cc
@@ -150,7 +150,7 @@ pub group_from : (names : List (List ℕ)) (folds : List TypedFold) (streams : L
     → slice_get (groups_of names folds streams) i ≡ Some shape
     → (j : ℕ) × (one : TypedStream) × (slice_get streams j ≡ Some one) × (shape_made names folds one one.op ≡ Some shape)
 group_from names folds [] i shape h = cc
-group_from names folds (one ∷ rest) i shape h = by (shape_made names folds one one.op) refl i h (λ k. group_from names folds rest k shape)
+group_from names folds (one ∷ rest) i shape h = by _ refl i h (λ k. group_from names folds rest k shape)
   where
     by : (o : Option GroupShape) → shape_made names folds one one.op ≡ o → (i : ℕ)
         → slice_get (cons_option o (groups_of names folds rest)) i ≡ Some shape
@@ -166,7 +166,7 @@ pub stream_below : (names : ℕ) (folds : List TypedFold) (before streams : List
     → AreValidStreams names folds before streams → slice_get streams j ≡ Some one → (one.name.id < names) × valid.AreNames names one.columns
 stream_below names folds before [] j one v h = cc
 stream_below names folds before (s ∷ rest) zero one v h =
-    subst (λ (t : TypedStream). (t.name.id < names) × valid.AreNames names t.columns) (same_Some s one h) (v.0.name, v.0.columns)
+    subst (λ (t : TypedStream). (t.name.id < names) × valid.AreNames names t.columns) (same_Some s _ h) (v.0.name, v.0.columns)
 stream_below names folds before (s ∷ rest) (suc j) one v h = stream_below names folds (before ++ s ∷ []) rest j one v.1 h
 
 -- the names of groupbys differ
@@ -191,8 +191,7 @@ names_new names once folds (one ∷ rest) earlier v before texts cover new = by 
 
 pub names_differ : (q : TypedQuery) (packets : ℕ) → IsValidQuery q → AreGood q.names → NamesDiffer packets q
     → AreNew [] (map (λ shape. shape.name) (query_groups q))
-names_differ q packets v good differ = names_new q.names good.once q.folds q.streams [] v.streams (packets ∷ []) [] (λ t h. absurd h)
-    differ.streams
+names_differ q packets v good differ = names_new _ good.once _ _ _ v.streams (packets ∷ []) _ (λ t h. absurd h) differ.streams
 
 id_in : (streams : List TypedStream) (j : ℕ) (one : TypedStream) → slice_get streams j ≡ Some one
     → IsIn one.name.id (map (λ (s : TypedStream). s.name.id) streams)
@@ -205,20 +204,20 @@ shape_named : (q : TypedQuery) (packets : ℕ) → packets ≡ number_in q.names
     → slice_get q.folds number ≡ Some f → AreNew [] one.columns → AreApart one.columns f.state_names
     → IsNamedWell (shape_with q.names one.name.id one.columns args f)
 shape_named q packets is v good differ j one args number f here fold new apart =
-    let below = stream_below (length q.names) q.folds [] q.streams j one v.streams here in
-    let states = (all_at (HasNames (length q.names)) q.folds number f v.fold_names fold).states in
-    let there : slice_get q.names one.name.id ≡ Some (text_at q.names one.name.id) = text_there q.names one.name.id below.0 in
+    let below = stream_below (length q.names) _ _ _ j _ v.streams here in
+    let states = (all_at (HasNames (length q.names)) _ number f v.fold_names fold).states in
+    let there : slice_get q.names one.name.id ≡ Some (text_at q.names one.name.id) = text_there _ _ below.0 in
     record {
       named = good.lexical one.name.id (text_at q.names one.name.id) there;
       no_stream = λ e. (let same : number_in q.names (codes "pktstream") ≡ one.name.id =
-          number_at q.names one.name.id (codes "pktstream") good.once (there ∙ ap Some e) in
-          new_apart (packets ∷ []) (map (λ (s : TypedStream). s.name.id) q.streams) one.name.id differ.streams (inl (sym (is ∙ same)))
-          (id_in q.streams j one here));
-      key_names = names_are q.names good one.columns below.1;
-      keys_differ = new_texts q.names good.once one.columns [] [] (λ t h. absurd h) below.1 new;
-      state_names = names_are q.names good f.state_names states;
-      states_differ = new_texts q.names good.once f.state_names [] [] (λ t h. absurd h) states (differ.states number f fold);
-      states_apart = apart_texts q.names good.once one.columns f.state_names below.1 states apart;
+          number_at _ one.name.id (codes "pktstream") good.once (there ∙ ap Some e) in
+          new_apart (packets ∷ []) (map (λ (s : TypedStream). s.name.id) q.streams) _ differ.streams (inl (sym (is ∙ same)))
+          (id_in _ j _ here));
+      key_names = names_are _ good one.columns below.1;
+      keys_differ = new_texts _ good.once _ _ _ (λ t h. absurd h) below.1 new;
+      state_names = names_are _ good f.state_names states;
+      states_differ = new_texts _ good.once _ _ _ (λ t h. absurd h) states (differ.states number f fold);
+      states_apart = apart_texts _ good.once _ _ below.1 states apart;
     }
 
 pub named_well : (q : TypedQuery) (packets : ℕ) → packets ≡ number_in q.names (codes "pktstream") → IsValidQuery q → AreGood q.names

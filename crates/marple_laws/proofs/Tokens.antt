@@ -22,9 +22,9 @@ abbrev pub has_none : (ℕ → Bool) → List ℕ → Bool
 has_none test text = list_all (λ b. not (test b)) text
 
 none_pass : (test : ℕ → Bool) (text : List ℕ) → has_none test text ≡ true → All (λ x. test x ≡ false) text
-none_pass test [] e = All-nil (λ x. test x ≡ false)
+none_pass test [] e = All-nil _
 none_pass test (b ∷ text) e =
-    let parts = both_true (not (test b)) (has_none test text) e in
+    let parts = both_true _ (has_none test text) e in
     All-cons (λ x. test x ≡ false) b text (not_false (test b) parts.0) (none_pass test text parts.1)
 
 -- a byte that is neither a space nor LF
@@ -41,16 +41,16 @@ AreTokens (word ∷ words) = (is_token word ≡ true) × AreTokens words
 pub no_space : (word : List ℕ) → is_token word ≡ true → has_none is_space word ≡ true
 no_space [] e = refl
 no_space (b ∷ word) e =
-    let p = both_true (is_plain b) (is_token word) e in
-    let q = both_true (not (is_space b)) (not (is_line_feed b)) p.0 in
-    both_are (not (is_space b)) (has_none is_space word) q.0 (no_space word p.1)
+    let p = both_true _ _ e in
+    let q = both_true _ _ p.0 in
+    both_are _ _ q.0 (no_space word p.1)
 
 pub no_line_feed : (word : List ℕ) → is_token word ≡ true → has_none is_line_feed word ≡ true
 no_line_feed [] e = refl
 no_line_feed (b ∷ word) e =
-    let p = both_true (is_plain b) (is_token word) e in
-    let q = both_true (not (is_space b)) (not (is_line_feed b)) p.0 in
-    both_are (not (is_line_feed b)) (has_none is_line_feed word) q.1 (no_line_feed word p.1)
+    let p = both_true _ _ e in
+    let q = both_true _ _ p.0 in
+    both_are _ _ q.1 (no_line_feed word p.1)
 
 -- the tokens of words with a space between each two
 pub tokens_of : (first : List ℕ) (words : List (List ℕ)) → is_token first ≡ true → AreTokens words → tokens (first ++ spaced words) ≡ first
@@ -97,12 +97,11 @@ but_last (one ∷ next ∷ all) = ap (λ l. one ∷ l) (but_last _)
 but_last _ = refl
 
 the_last : (all : List (List ℕ)) → last_of (all ++ [] ∷ []) ≡ []
-the_last [] = refl
-the_last (one ∷ []) = refl
 the_last (one ∷ next ∷ all) = the_last (next ∷ all)
+the_last _ = refl
 
 pub lines_of : (all : List (List ℕ)) → AreLines all → lines (ended all) ≡ all
-lines_of all are = ap all_but_last (pieces_of all are) ∙ but_last all
+lines_of all are = ap all_but_last (pieces_of _ are) ∙ but_last _
 
 pub nothing_after : (all : List (List ℕ)) → AreLines all → bytes_after_lines (ended all) ≡ []
 nothing_after all are = ap last_of (pieces_of all are) ∙ the_last all

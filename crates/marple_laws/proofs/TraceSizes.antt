@@ -60,22 +60,22 @@ module _ (n : ℕ) (a : Arrival) (few : n ≤ 1000000) (small : IsSmall a) where
       (
         short n (omega arith),
         (
-          short (167772160 + a.flow) (omega (arith, small.flow)),
+          short (167772160 + a.flow) (omega arith),
           (
             short (167837696 + a.flow % 8) (omega arith),
             (
-              short (1024 + a.flow) (omega (arith, small.flow)),
+              short (1024 + a.flow) (omega arith),
               (
-                short 80 (omega arith),
+                short _ (omega arith),
                 (
                   short 6 (omega arith),
                   (
-                    short (a.payload + 40) (omega (arith, small.payload)),
+                    short (a.payload + 40) (omega arith),
                     (
-                      short a.payload (omega (arith, small.payload)),
+                      short _ (omega arith),
                       (
-                        short a.seq small.seq,
-                        (short a.time small.time, (tout_short (unwrap_or a.tout (2 ^ 64 - 1)) small.tout, (short a.qsize small.qsize, tt))),
+                        short _ small.seq,
+                        (short _ small.time, (tout_short (unwrap_or a.tout (2 ^ 64 - 1)) small.tout, (short _ small.qsize, tt))),
                       ),
                     ),
                   ),
@@ -124,9 +124,9 @@ touts_few switch (a ∷ list) = go (touts_few switch list) (switch_of a.flow == 
   where
     go : length (touts_at switch list) ≤ length list → (b : Bool) (o : Option ℕ)
         → length (cond b (with_some o (touts_at switch list)) (touts_at switch list)) ≤ suc (length list)
-    go few true None = omega (arith, few)
-    go few true (Some t) = omega (arith, few)
-    go few false o = omega (arith, few)
+    go few true None = omega arith
+    go few true (Some t) = omega arith
+    go few false o = omega arith
 
 module _ (start capacity : ℕ) where
   arrivals_many : (n : ℕ) → length (arrivals start capacity n) ≡ n

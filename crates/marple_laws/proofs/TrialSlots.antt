@@ -6,8 +6,8 @@ use Rattle.marple_laws.proofs.Words.{all_fields, has_field, number_of, Field, Sw
 use Rattle.marple_laws.proofs.Words.{PktLen, PayloadLen, TcpSeq, Tin, Tout, QSize, FieldSet, FIELDS, TypedFold, TypedQuery, TypedStream}
 use Rattle.marple_laws.proofs.Words.{Earlier, Given, Checked, and_then, Taking, stream, takings, values_at, given_of, start_of, typed_names}
 use Rattle.marple_laws.proofs.Words.{items_checked, ended, with_fold, checked, parsed_text, group_tables, heading_of_shape, printed}
-use Rattle.marple_laws.proofs.Words.{query_text, table_if, tables_from, taken_by, use_of, uses, read_fields, reads_of, AreWhole, fold_at}
-use Rattle.marple_laws.proofs.Words.{GroupShape, query_groups, accepted, staged, trial_query, zeroed}
+use Rattle.marple_laws.proofs.Words.{query_text, table_if, tables_from, taken_by, use_of, uses, read_fields, reads_of, AreWhole, GroupShape}
+use Rattle.marple_laws.proofs.Words.{query_groups, accepted, staged, trial_query, zeroed}
 use Rattle.std.specs.Prelude.{Ok, Err, slice_get}
 use Rattle.query_lang.specs.declared.query.Item.TheVariants as item
 use Rattle.query_lang.specs.Lexis.{reserved, cut}
@@ -50,13 +50,13 @@ folds = with_fold (with_fold (with_fold (with_fold start count_typed) lost_typed
 
 items : items_checked given start trial_read.items ≡ items_checked given folds trial_rest
 items =
-    fold_next given start count_fold count_typed (item.Fold lost_fold ∷ item.Fold oos_fold ∷ item.Fold deepest_fold ∷ trial_rest) refl
+    fold_next given start count_fold _ (item.Fold lost_fold ∷ item.Fold oos_fold ∷ item.Fold deepest_fold ∷ trial_rest) refl
     count_is
-    ∙ fold_next given (with_fold start count_typed) lost_fold lost_typed (item.Fold oos_fold ∷ item.Fold deepest_fold ∷ trial_rest) refl
+    ∙ fold_next given (with_fold start count_typed) lost_fold _ (item.Fold oos_fold ∷ item.Fold deepest_fold ∷ trial_rest) refl
     lost_is
-    ∙ fold_next given (with_fold (with_fold start count_typed) lost_typed) oos_fold oos_typed (item.Fold deepest_fold ∷ trial_rest) refl
+    ∙ fold_next given (with_fold (with_fold start count_typed) lost_typed) oos_fold _ (item.Fold deepest_fold ∷ trial_rest) refl
     oos_is
-    ∙ fold_next given (with_fold (with_fold (with_fold start count_typed) lost_typed) oos_typed) deepest_fold deepest_typed trial_rest refl
+    ∙ fold_next given (with_fold (with_fold (with_fold start count_typed) lost_typed) oos_typed) deepest_fold _ trial_rest refl
     deepest_is
 
 rest : plain_in (and_then (and_then (items_checked given folds trial_rest) (ended (typed_names trial_names) (at 540 540))) staged) ≡ true
@@ -110,9 +110,9 @@ module _ (q : TypedQuery) where
   slot_kept : (words : List ℕ) (slot : ℕ) → length words ≡ FIELDS → is_slot_read q slot ≡ true
       → slice_index (kept words) slot ≡ slice_index words slot
   slot_kept words slot size e =
-      let f = found_field (read_fields q) slot e in
+      let f = found_field _ _ e in
       subst (λ k. slice_index (kept words) k ≡ slice_index words k) f.2
-      (word_kept (reads_of q) words size f.0 (in_set (read_fields q) f.0 f.1))
+      (word_kept _ _ size _ (in_set _ _ f.1))
 
   values_kept : (words slots : List ℕ) → length words ≡ FIELDS → list_all (is_slot_read q) slots ≡ true
       → values_at (kept words) slots ≡ values_at words slots
@@ -163,20 +163,20 @@ module _ (q : TypedQuery) where
       found
 
   uses_kept : is_plain q ≡ true → (i : ℕ) (packets : List (List ℕ)) → AreWhole packets → uses q i (map kept packets) ≡ uses q i packets
-  uses_kept all i packets whole = go (slice_get (takings q.streams) i) refl
+  uses_kept all i packets whole = go _ refl
     where
       go : (o : Option Taking) → slice_get (takings q.streams) i ≡ o → taken_by q (map kept packets) o ≡ taken_by q packets o
       go None e = refl
       go (Some t) e =
           let takes = and_parts (t.input == 0) (list_all (is_slot_read q) t.keys && list_all (is_slot_read q) t.args)
-          (taking_at (takings q.streams) i t all e) in
+          (taking_at _ i t all e) in
           let slots = and_parts (list_all (is_slot_read q) t.keys) (list_all (is_slot_read q) t.args) takes.1 in
           let first : (t.input == 0) ≡ true = takes.0 in
-          let input : t.input ≡ 0 = grind (arith, nat_tests) in
+          let input : t.input ≡ 0 = grind arith in
           ap (λ n. map (use_of t) (stream q n (map kept packets))) input
-          ∙ ap (map (use_of t)) (packets_stream (map kept packets))
+          ∙ ap (map (use_of t)) (packets_stream _)
           ∙ along t slots.0 slots.1 1 packets whole
-          ∙ ap (map (use_of t)) (sym (packets_stream packets))
+          ∙ ap (map (use_of t)) (sym (packets_stream _))
           ∙ ap (λ n. map (use_of t) (stream q n packets)) (sym input)
 
   -- ---- and what the query prints
@@ -184,7 +184,7 @@ module _ (q : TypedQuery) where
   tables_same : (g : Geometry) (a b : List (List ℕ)) → ((i : ℕ) → uses q i a ≡ uses q i b) → (i : ℕ) (shapes : List GroupShape)
       → tables_from q g a i shapes ≡ tables_from q g b i shapes
   tables_same g a b same i [] = refl
-  tables_same g a b same i (shape ∷ shapes) = ap₂ (λ x y. x ++ y) (go (fold_at q i)) (tables_same g a b same (suc i) shapes)
+  tables_same g a b same i (shape ∷ shapes) = ap₂ (λ x y. x ++ y) (go _) (tables_same g a b same (suc i) shapes)
     where
       go : (o : Option TypedFold) → table_if q g a i shape o ≡ table_if q g b i shape o
       go None = refl
@@ -196,4 +196,4 @@ module _ (q : TypedQuery) where
 
   pub text_kept : is_plain q ≡ true → (g : Geometry) (packets : List (List ℕ)) → AreWhole packets
       → query_text q g (map (zeroed (reads_of q) all_fields) packets) ≡ query_text q g packets
-  text_kept all g packets whole = text_same g (map kept packets) packets (λ i. uses_kept all i packets whole)
+  text_kept all g packets whole = text_same g _ packets (λ i. uses_kept all i _ whole)

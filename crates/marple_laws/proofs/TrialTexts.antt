@@ -14,7 +14,7 @@ words_as_read reads [] = refl
 words_as_read reads (packet ∷ list) = ap (λ l. zeroed reads all_fields packet.words ∷ l) (words_as_read reads list)
 
 are_whole : (list : List Packet) → ArePackets list → AreWhole (words_of list)
-are_whole [] are = All-nil (λ (words : List ℕ). length words ≡ FIELDS)
+are_whole [] are = All-nil _
 are_whole (packet ∷ list) are = All-cons (λ (words : List ℕ). length words ≡ FIELDS) packet.words (words_of list) are.0
     (are_whole list are.2)
 

@@ -22,9 +22,9 @@ pub written_then : (a b : List ℕ) (before mid after : Made) → IsWritten a be
     → IsWritten (a ++ b) before after
 written_then a b before mid after p q = record {
   all = p.all ++ q.all;
-  each = lines_append p.all q.all p.each q.each;
-  text_is = ap (λ t. t ++ b) p.text_is ∙ ap (λ t. ended p.all ++ t) q.text_is ∙ sym (flat_map-append (λ one. one ++ 10 ∷ []) p.all q.all);
-  make = make_both p.all q.all before mid after p.make q.make;
+  each = lines_append _ _ p.each q.each;
+  text_is = ap (λ t. t ++ b) p.text_is ∙ ap (λ t. ended p.all ++ t) q.text_is ∙ sym (flat_map-append (λ one. one ++ 10 ∷ []) _ _);
+  make = make_both _ _ _ _ _ p.make q.make;
 }
 
 -- one line of these words

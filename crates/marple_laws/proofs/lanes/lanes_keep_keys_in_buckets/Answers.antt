@@ -1,4 +1,3 @@
-use Rattle.marple_laws.proofs.Words.{run, empty_machine}
 use Rattle.switch_core.specs.Lanes.{geometry}
 use Rattle.marple_laws.proofs.BucketKeys.{keys_in_buckets}
 use Rattle.marple_laws.proofs.lanes.lanes_keep_keys_in_buckets.Goals as goal
@@ -6,5 +5,5 @@ use Rattle.marple_laws.proofs.lanes.lanes_keep_keys_in_buckets.Goals as goal
 pub returns : goal.returns
 returns c = λ ways lane events room stands.
     let g = geometry ways lane.cache in
-    keys_in_buckets _ ways lane.cache (run g events (empty_machine g)) stands.front.cached
+    keys_in_buckets _ _ _ _ stands.front.cached
     (c.machines_are_well_formed.ensures g events room)
