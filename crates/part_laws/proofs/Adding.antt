@@ -26,7 +26,7 @@ pub one_row_each : (folding : Folding) (g : Geometry) (given : List Use) (state 
     → map but_for_epochs (group_rows folding g given) ≡ map (λ key. row_of_state key (state key)) (keys_used given)
 one_row_each folding g given state one is =
     map_joined but_for_epochs (key_rows folding g given) (keys_used given)
-    ∙ flat_map-single (λ key. map but_for_epochs (key_rows folding g given key)) own (keys_used given) each
+    ∙ flat_map-single _ _ _ each
   where
     own : Key → Row
     own key = row_of_state key (state key)
@@ -41,32 +41,29 @@ packet_adds f q i key v words = added f v (rows_of_one q i key words)
 pub added_along : (f : TypedFold) (q : TypedQuery) (i : ℕ) (key : Key) (v : ℕ) (packets : List (List ℕ))
     → added f v (whole_rows q i key packets) ≡ sum_by (packet_adds f q i key v) packets
 added_along f q i key v packets =
-    ap (added f v) (rows_packetwise q i key packets) ∙ sum_joined (λ row. slice_index (amount f row) v) (rows_of_one q i key) packets
+    ap (added f v) (rows_packetwise q i _ _) ∙ sum_joined (λ row. slice_index (amount f row) v) (rows_of_one q i _) packets
 
 added_by_parts : (f : TypedFold) (partition : Partition) (q : TypedQuery) (i : ℕ) (packets : List (List ℕ)) (parts : List ℕ) (key : Key)
     → AreTheParts partition packets parts → (v : ℕ)
     → added f v (whole_rows q i key packets) ≡ sum_by (λ n. added f v (part_rows partition q i key packets n)) parts
 added_by_parts f partition q i packets parts key the v =
     let adds : List ℕ → ℕ = packet_adds f q i key v in
-    added_along f q i key v packets
-    ∙ (sum_of_parts partition adds parts the.apart packets the.each
-    ∙ same_sums (λ n. sum_by adds (part_at partition n packets)) (λ n. added f v (part_rows partition q i key packets n)) parts
-    (λ n. sym (added_along f q i key v (part_at partition n packets))))
+    added_along f q i _ v _
+    ∙ (sum_of_parts partition _ _ the.apart _ the.each
+    ∙ same_sums _ _ parts
+    (λ n. sym (added_along f q i key v (part_at _ n _))))
 
 pub parts_add : AdditivePartsAdd
 parts_add f state partition q i packets parts key h the = variables_add f state h (whole_rows q i key packets)
-    (part_rows partition q i key packets) parts
-    (added_by_parts f partition q i packets parts key the)
+    (part_rows partition q i key packets) parts (added_by_parts f _ q i _ _ _ the)
 
 pub states_of_parts_add : StatesFromZerosAdd
 states_of_parts_add f state partition q i packets parts key h the = states_add f state h (whole_rows q i key packets)
-    (part_rows partition q i key packets) parts
-    (added_by_parts f partition q i packets parts key the)
+    (part_rows partition q i key packets) parts (added_by_parts f _ q i _ _ _ the)
 
 pub words_of_parts_add : PartWordsAdd
 words_of_parts_add f state partition q i packets parts key h the = words_add f state h (whole_rows q i key packets)
-    (part_rows partition q i key packets) parts
-    (added_by_parts f partition q i packets parts key the)
+    (part_rows partition q i key packets) parts (added_by_parts f _ q i _ _ _ the)
 
 -- ---- whole tables
 

@@ -27,10 +27,10 @@ module _ (part_of : Key → ℕ) (n : ℕ) where
 
   mapped_there : (values : List TypedExpr) (rows : List Row) → All IsThere rows → All IsThere (mapped_rows values rows)
   unfolding mapped_row
-  mapped_there values [] all = All-nil IsThere
+  mapped_there values [] all = All-nil _
   mapped_there values (row ∷ rows) all =
       All-cons IsThere (mapped_row values row) (mapped_rows values rows) (All-head IsThere row rows all)
-      (mapped_there values rows (All-tail IsThere row rows all))
+      (mapped_there _ rows (All-tail IsThere row rows all))
 
   found_there : (row : Row) (o : Option Row) (rows : List Row) → IsThere row → All IsThere rows
       → All IsThere (cons_option (option_map (λ other. plain_row row.key (row.values ++ other.values)) o) rows)
@@ -40,8 +40,8 @@ module _ (part_of : Key → ℕ) (n : ℕ) where
   joined_there : (right left : List Row) → All IsThere left → All IsThere (joined_rows left right)
   joined_there right [] all = All-nil IsThere
   joined_there right (row ∷ left) all =
-      found_there row (find (is_of_key row.key) right) (joined_rows left right) (All-head IsThere row left all)
-      (joined_there right left (All-tail IsThere row left all))
+      found_there row (find (is_of_key row.key) right) (joined_rows left right) (All-head IsThere _ left all)
+      (joined_there _ left (All-tail IsThere row left all))
 
 pub filters_stay : FiltersStayOfParts
 filters_stay part_of parts condition whole rows are = record {

@@ -32,9 +32,8 @@ named_at : (field : Field) (names : List (List ℕ)) (columns : List ℕ) → na
     → (first_named field names columns < length columns) × (is_named field names (slice_index columns (first_named field names columns))
     ≡ true)
 named_at field names [] e = cc e
-named_at field names (id ∷ columns) e = by_test (is_named field names id)
-    (λ t. rw t (omega arith, t))
-    (λ t. let more = named_at field names columns (rw t at e) in rw t (omega (arith, more.0), more.1))
+named_at field names (id ∷ columns) e = by_test (is_named field names id) (λ t. rw t (omega arith, t))
+    (λ t. let more = named_at _ _ columns (rw t at e) in rw t (omega (arith, more.0), more.1))
 
 -- this holds of the stream, and it is the groupby whose taking has this number
 abbrev IsAt : (TypedStream → Type 0) → List TypedStream → ℕ → TypedStream → Type 0
@@ -44,13 +43,12 @@ IsAt P streams i one = P one × (slice_get (takings streams) i ≡ taking_of one
 groupby_at : (P : TypedStream → Type 0) (streams : List TypedStream) (i : ℕ) (one : TypedStream) → All P streams
     → slice_get (filter (λ s. is_some (taking_of s.op)) streams) i ≡ Some one → IsAt P streams i one
 groupby_at P [] i one all e = cc e
-groupby_at P (s ∷ streams) i one all e = go (λ k at. groupby_at P streams k one (All-tail P s streams all) at) (taking_of s.op) refl i e
+groupby_at P (s ∷ streams) i one all e = go (λ k at. groupby_at P streams k _ (All-tail P s streams all) at) _ refl i e
   where
-    go : ((k : ℕ) → slice_get (filter (λ s. is_some (taking_of s.op)) streams) k ≡ Some one → IsAt P streams k one)
-        → (o : Option Taking) → taking_of s.op ≡ o → (k : ℕ)
-        → slice_get (cond (is_some o) (s ∷ filter (λ s. is_some (taking_of s.op)) streams) (filter (λ s. is_some (taking_of s.op)) streams))
-        k ≡ Some one
-        → P one × (slice_get (cons_option o (takings streams)) k ≡ taking_of one.op) × (is_some (taking_of one.op) ≡ true)
+    go : ((k : ℕ) → slice_get (filter (λ s. is_some (taking_of s.op)) streams) k ≡ Some one → IsAt P streams k one) → (o : Option Taking)
+        → taking_of s.op ≡ o → (k : ℕ) → slice_get (cond (is_some o) (s ∷ filter (λ s. is_some (taking_of s.op)) streams)
+        (filter (λ s. is_some (taking_of s.op)) streams)) k ≡ Some one → P one
+        × (slice_get (cons_option o (takings streams)) k ≡ taking_of one.op) × (is_some (taking_of one.op) ≡ true)
     go more None is k e = more k e
     go more (Some t) is zero e =
         let same : s ≡ one = same_Some s one e in (
@@ -63,11 +61,11 @@ groupby_at P (s ∷ streams) i one all e = go (λ k at. groupby_at P streams k o
 -- the keys that a packet's row gives
 key_tells : (t : Taking) (value j : ℕ) (o : Row) → j < length t.keys → SlotTells value (slice_index t.keys j) o
     → All (λ u. value ≡ slice_index u.key j) (map (use_of t) (tuple_of 1 o ++ []))
-key_tells t value j None lt h = All-nil (λ (u : Use). value ≡ slice_index u.key j)
+key_tells t value j None lt h = All-nil _
 key_tells t value j (Some row) lt h =
     All-cons (λ (u : Use). value ≡ slice_index u.key j) (use_of t (record { packet = 1; row = row })) []
-    (sym (get_or-map (λ slot. slice_index row slot) t.keys j 0 0 lt ∙ h))
-    (All-nil (λ (u : Use). value ≡ slice_index u.key j))
+    (sym (get_or-map (λ slot. slice_index row slot) _ j 0 0 lt ∙ h))
+    (All-nil _)
 
 -- each key that a packet gives to the groupby has the packet's word of the field, in the first column of its name
 abbrev GivesWords : TypedQuery → ℕ → Field → List ℕ → Type 0
@@ -94,14 +92,14 @@ gives_words q i field columns (typed.Group input keys f args) at is named tells 
 field_gives : (query : Query) (q : TypedQuery) (i : ℕ) (field : Field) → IsTyped query q → (has : HasFieldKey q i field)
     → GivesWords q i field has.one.columns
 field_gives query q i field h key =
-    let at = groupby_at (λ one. AlwaysTells q field one.columns one.op) q.streams i key.one (always_tells query q field h key.unmade)
+    let at = groupby_at (λ one. AlwaysTells q field one.columns one.op) _ i key.one (always_tells _ q _ h key.unmade)
     key.groupby in
-    gives_words q i field key.one.columns key.one.op at.1 at.2 key.key at.0
+    gives_words q i _ _ _ at.1 at.2 key.key at.0
 
 pub fields_keep : FieldsKeepKeys
 fields_keep query q i field choose h has = record {
   part_of = λ key. choose (slice_index key (first_named field q.names has.one.columns));
-  goes = λ words size k d lt. ap choose (field_gives query q i field h has words size k d lt);
+  goes = λ words size k d lt. ap choose (field_gives _ q i _ h has words size k d lt);
 }
 
 -- ---- several fields
@@ -109,8 +107,7 @@ fields_keep query q i field choose h has = record {
 all_give : (query : Query) (q : TypedQuery) (i : ℕ) → IsTyped query q → (one : TypedStream) → slice_get (groupbys q) i ≡ Some one
     → (fields : List Field) → All (HasFieldKey q i) fields → (words : List ℕ) → length words ≡ FIELDS
     → All (λ u. map (λ field. field_word field words) fields ≡ map (λ field. slice_index u.key (first_named field q.names one.columns))
-    fields)
-    (uses q i (words ∷ []))
+    fields) (uses q i (words ∷ []))
 all_give query q i h one at [] all words size k d lt = refl
 all_give query q i h one at (field ∷ fields) all words size k d lt =
     let has : HasFieldKey q i field = All-head (HasFieldKey q i) field fields all in
@@ -125,8 +122,8 @@ all_give query q i h one at (field ∷ fields) all words size k d lt =
 pub field_lists_give : FieldListsGiveTheParts
 field_lists_give query q i fields choose one h all at = (
   record {
-    part_of = part_by q.names one.columns fields choose;
-    goes = λ words size k d lt. ap choose (all_give query q i h one at fields all words size k d lt);
+    part_of = part_by _ _ _ choose;
+    goes = λ words size k d lt. ap choose (all_give _ q i h _ at _ all _ size k d lt);
   },
   λ key. refl,
 )

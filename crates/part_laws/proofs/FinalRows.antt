@@ -32,11 +32,10 @@ one_filtered condition row = cond (holds (expr_value condition (columns_of row))
 filtered_each : (condition : TypedExpr) (rows : List Row) → filtered_rows condition rows ≡ flat_map (one_filtered condition) rows
 filtered_each condition [] = refl
 filtered_each condition (row ∷ rows) = by_test (holds (expr_value condition (columns_of row)))
-    (λ e. rw e (ap (λ xs. plain_row row.key row.values ∷ xs) (filtered_each condition rows)))
-    (λ e. rw e (filtered_each condition rows))
+    (λ e. rw e (ap (λ xs. plain_row row.key row.values ∷ xs) (filtered_each condition rows))) (λ e. rw e (filtered_each condition rows))
 
 filtered_keeps : (condition : TypedExpr) → KeepsKey (one_filtered condition)
-filtered_keeps condition row k = go (holds (expr_value condition (columns_of row)))
+filtered_keeps condition row k = go _
   where
     one : List Row
     one = plain_row row.key row.values ∷ []
@@ -48,13 +47,13 @@ filtered_keeps condition row k = go (holds (expr_value condition (columns_of row
     go : (b : Bool) → filter (is_of_key k) (cond b (plain_row row.key row.values ∷ []) []) ≡ cond (key_eq row.key k)
         (cond b (plain_row row.key row.values ∷ []) []) []
     go true = refl
-    go false = none (key_eq row.key k)
+    go false = none _
 
 pub filters_of_parts : FiltersAreOfParts
 filters_of_parts condition rows parts =
-    filtered_each condition (rows_of_all rows parts)
-    ∙ (of_parts (one_filtered condition) (filtered_keeps condition) rows parts
-    ∙ ap by_key (same_each (λ n. flat_map (one_filtered condition) (rows n)) (λ n. filtered_rows condition (rows n)) parts
+    filtered_each _ _
+    ∙ (of_parts _ (filtered_keeps _) rows _
+    ∙ ap by_key (same_each _ _ parts
     (λ n. sym (filtered_each condition (rows n)))))
 
 abbrev one_mapped : List TypedExpr → Row → List Row
@@ -62,7 +61,7 @@ one_mapped values row = mapped_row values row ∷ []
 
 mapped_each : (values : List TypedExpr) (rows : List Row) → mapped_rows values rows ≡ flat_map (one_mapped values) rows
 mapped_each values [] = refl
-mapped_each values (row ∷ rows) = ap (λ xs. mapped_row values row ∷ xs) (mapped_each values rows)
+mapped_each values (row ∷ rows) = ap (λ xs. mapped_row values row ∷ xs) (mapped_each _ rows)
 
 mapped_keeps : (values : List TypedExpr) → KeepsKey (one_mapped values)
 unfolding mapped_row
@@ -70,9 +69,9 @@ mapped_keeps values row k = refl
 
 pub maps_of_parts : MapsAreOfParts
 maps_of_parts values rows parts =
-    mapped_each values (rows_of_all rows parts)
-    ∙ (of_parts (one_mapped values) (mapped_keeps values) rows parts
-    ∙ ap by_key (same_each (λ n. flat_map (one_mapped values) (rows n)) (λ n. mapped_rows values (rows n)) parts
+    mapped_each _ _
+    ∙ (of_parts _ (mapped_keeps _) rows _
+    ∙ ap by_key (same_each _ _ parts
     (λ n. sym (mapped_each values (rows n)))))
 
 -- ---- `join`
@@ -92,12 +91,11 @@ more_found row (Some other) xs ys e = ap (λ list. plain_row row.key (row.values
 
 pub joined_each : (right left : List Row) → joined_rows left right ≡ flat_map (one_joined right) left
 joined_each right [] = refl
-joined_each right (row ∷ left) =
-    more_found row (find (is_of_key row.key) right) (joined_rows left right) (flat_map (one_joined right) left) (joined_each right left)
+joined_each right (row ∷ left) = more_found row (find (is_of_key row.key) right) (joined_rows left right) _ (joined_each right left)
 
 found_keeps : (row : Row) (k : Key) (o : Option Row) → filter (is_of_key k) (with_found row o) ≡ cond (key_eq row.key k) (with_found row o)
     []
-found_keeps row k None = none (key_eq row.key k)
+found_keeps row k None = none _
   where
     none : (b : Bool) → let empty : List Row = [] in empty ≡ cond b empty empty
     none true = refl
@@ -105,7 +103,7 @@ found_keeps row k None = none (key_eq row.key k)
 found_keeps row k (Some other) = refl
 
 joined_keeps : (right : List Row) → KeepsKey (one_joined right)
-joined_keeps right row k = found_keeps row k (find (is_of_key row.key) right)
+joined_keeps right row k = found_keeps row k _
 
 abbrev first_of : List Row → Option Row
 first_of [] = None
@@ -119,17 +117,14 @@ find_first p (row ∷ rows) = by_test (p row) (λ e. rw e refl) (λ e. rw e (fin
 no_part : {A : Type 0} (f : ℕ → List A) (n : ℕ) (parts : List ℕ) → has_number n parts ≡ false → ((m : ℕ) → m ≢ n → f m ≡ [])
     → flat_map f parts ≡ []
 no_part f n [] e none = refl
-no_part f n (k ∷ parts) e none = by_test (k == n)
-    (λ t. absurd (true≢false (rw t at e)))
+no_part f n (k ∷ parts) e none = by_test _ (λ t. absurd (true≢false (rw t at e)))
     (λ t. ap (λ xs. xs ++ flat_map f parts) (none k (not_number k n t)) ∙ no_part f n parts (rw t at e) none)
 
 pub only_part : {A : Type 0} (f : ℕ → List A) (n : ℕ) (parts : List ℕ) → AreApart parts → has_number n parts ≡ true
-    → ((m : ℕ) → m ≢ n → f m ≡ [])
-    → flat_map f parts ≡ f n
+    → ((m : ℕ) → m ≢ n → f m ≡ []) → flat_map f parts ≡ f n
 only_part f n [] apart e none = absurd (false≢true e)
-only_part f n (k ∷ parts) apart e none = by_test (k == n)
-    (λ t. let same : k ≡ n = same_number k n t in
-    ap (λ xs. f k ++ xs) (no_part f n parts (subst (λ x. has_number x parts ≡ false) same apart.0) none) ∙ (append-nil (f k) ∙ ap f same))
+only_part f n (k ∷ parts) apart e none = by_test _ (λ t. let same : k ≡ n = same_number k n t in
+    ap (λ xs. f k ++ xs) (no_part f n _ (subst (λ x. has_number x parts ≡ false) same apart.0) none) ∙ (append-nil _ ∙ ap f same))
     (λ t. ap (λ xs. xs ++ flat_map f parts) (none k (not_number k n t)) ∙ only_part f n parts apart.1 (rw t at e) none)
 
 pub same_members : {A : Type 0} (f h : ℕ → List A) (parts : List ℕ) → ((n : ℕ) → has_number n parts ≡ true → f n ≡ h n)
@@ -137,7 +132,7 @@ pub same_members : {A : Type 0} (f h : ℕ → List A) (parts : List ℕ) → ((
 same_members f h [] e = refl
 same_members f h (k ∷ parts) e =
     ap (λ xs. xs ++ flat_map f parts) (e k (ap (λ b. b || has_number k parts) (own_number k)))
-    ∙ ap (λ xs. h k ++ xs) (same_members f h parts (λ n t. e n (ap (λ b. (k == n) || b) t ∙ or_true (k == n))))
+    ∙ ap (λ xs. h k ++ xs) (same_members f h parts (λ n t. e n (ap (λ b. (k == n) || b) t ∙ or_true _)))
   where
     or_true : (b : Bool) → (b || true) ≡ true
     or_true true = refl
@@ -146,7 +141,7 @@ same_members f h (k ∷ parts) e =
 module _ (part_of : Key → ℕ) (right : ℕ → List Row) (parts : List ℕ) (apart : AreApart parts) (there : AreInTheirParts part_of right) where
   -- no other part has a row of the key
   pub none_elsewhere : (key : Key) (m : ℕ) → m ≢ part_of key → filter (is_of_key key) (right m) ≡ []
-  none_elsewhere key m other = go (right m) (there m)
+  none_elsewhere key m other = go _ (there m)
     where
       go : (rows : List Row) → All (λ row. part_of row.key ≡ m) rows → filter (is_of_key key) rows ≡ []
       go [] all = refl
@@ -160,13 +155,13 @@ module _ (part_of : Key → ℕ) (right : ℕ → List Row) (parts : List ℕ) (
   rows_of_key key n is has =
       of_key_in_order key (flat_map right parts)
       ∙ (filter_joined (is_of_key key) right parts
-      ∙ only_part (λ m. filter (is_of_key key) (right m)) n parts apart has (λ m other. none_elsewhere key m (λ e. other (e ∙ sym is))))
+      ∙ only_part (λ m. filter (is_of_key key) (right m)) n _ apart has (λ m other. none_elsewhere key m (λ e. other (e ∙ sym is))))
 
   same_found : (n : ℕ) → has_number n parts ≡ true → (row : Row) → part_of row.key ≡ n
       → find (is_of_key row.key) (rows_of_all right parts) ≡ find (is_of_key row.key) (right n)
   same_found n has row e =
       find_first (is_of_key row.key) (rows_of_all right parts)
-      ∙ (ap first_of (rows_of_key row.key n (sym e) has) ∙ sym (find_first (is_of_key row.key) (right n)))
+      ∙ (ap first_of (rows_of_key _ n (sym e) has) ∙ sym (find_first (is_of_key row.key) (right n)))
 
   same_joined : (n : ℕ) → has_number n parts ≡ true → (left : List Row) → All (λ row. part_of row.key ≡ n) left
       → flat_map (one_joined (rows_of_all right parts)) left ≡ flat_map (one_joined (right n)) left
@@ -180,15 +175,15 @@ pub joins_of_parts : JoinsAreOfParts
 joins_of_parts part_of left right parts apart lefts rights =
     let all = rows_of_all right parts in
     joined_each all (rows_of_all left parts)
-    ∙ (of_parts (one_joined all) (joined_keeps all) left parts
-    ∙ ap by_key (same_members (λ n. flat_map (one_joined all) (left n)) (λ n. joined_rows (left n) (right n)) parts
-    (λ n has. same_joined part_of right parts apart rights n has (left n) (lefts n) ∙ sym (joined_each (right n) (left n)))))
+    ∙ (of_parts _ (joined_keeps _) left _
+    ∙ ap by_key (same_members _ _ _
+    (λ n has. same_joined part_of right _ apart rights n has (left n) (lefts n) ∙ sym (joined_each (right n) (left n)))))
 
 -- ---- `groupby`
 
 pub groupbys_not_of_parts : GroupbysAreNotOfParts
 unfolding key_eq key_cmp
 groupbys_not_of_parts f = (
-  λ n. All-cons (λ (r : Row). slice_index r.key 0 ≡ n) (plain_row (n ∷ 5 ∷ []) []) [] refl (All-nil (λ (r : Row). slice_index r.key 0 ≡ n)),
-  λ e. let few : 1 ≡ 2 = ap length e in absurd (omega (arith, few)),
+  λ n. All-cons (λ (r : Row). slice_index r.key 0 ≡ n) (plain_row (n ∷ 5 ∷ []) []) [] refl (All-nil _),
+  λ e. let few : 1 ≡ 2 = ap length e in absurd (omega arith),
 )

@@ -1,7 +1,7 @@
 -- What the pieces of a trace give in sequence.
 use Rattle.std.proofs.Common.{◌≡◌, ℕ, List, map, flat_map, fold, slice_index, sym, ap, ◌∙◌}
 use Rattle.std.specs.List.{sum_by}
-use Rattle.epoch_model.specs.Keys.{Key, ascending}
+use Rattle.epoch_model.specs.Keys.{Key}
 use Rattle.epoch_model.specs.Tables.{keys_used}
 use Rattle.epoch_model.proofs.KeyOrder.{ascending-ascends, has-ascending, same_ascending}
 use Rattle.epoch_model.proofs.TableRows.{some}
@@ -25,15 +25,14 @@ use Rattle.part_laws.proofs.Tables.{has_of_lists}
 
 pub pieces_have_rows : PiecesHaveTheRows
 pieces_have_rows q i pieces key =
-    rows_packetwise q i key (in_sequence pieces)
-    ∙ (flat_joined (rows_of_one q i key) (λ piece. piece) pieces
-    ∙ same_each (λ piece. flat_map (rows_of_one q i key) piece) (whole_rows q i key) pieces (λ piece. sym (rows_packetwise q i key piece)))
+    rows_packetwise q i _ _
+    ∙ (flat_joined (rows_of_one q i _) (λ piece. piece) pieces
+    ∙ same_each _ _ _ (λ piece. sym (rows_packetwise q i _ _)))
 
 pub keys_of_pieces : KeysAreOfAllPieces
-keys_of_pieces q i pieces = same_ascending (keys_used (uses q i (in_sequence pieces))) (ascending all_keys)
-    (ascending-ascends (map (λ u. u.key) (uses q i (in_sequence pieces)))) (ascending-ascends all_keys)
-    (λ key. key_has_rows key (uses q i (in_sequence pieces))
-    ∙ (ap some (pieces_have_rows q i pieces key) ∙ (sym (has_of_lists key (uses q i) pieces) ∙ sym (has-ascending key all_keys))))
+keys_of_pieces q i pieces = same_ascending _ _ (ascending-ascends (map (λ u. u.key) (uses q i (in_sequence pieces))))
+    (ascending-ascends all_keys) (λ key. key_has_rows key _ ∙ (ap some (pieces_have_rows q i pieces key)
+    ∙ (sym (has_of_lists key (uses q i) pieces) ∙ sym (has-ascending key all_keys))))
   where
     all_keys : List Key
     all_keys = flat_map (λ piece. keys_used (uses q i piece)) pieces

@@ -26,14 +26,13 @@ module _ (partition : Partition) (q : TypedQuery) (i : ℕ) (kept : KeepsKeys pa
 
   -- a packet that goes elsewhere gives the key no row
   none_elsewhere : (words : List ℕ) → length words ≡ FIELDS → partition words ≢ kept.part_of key → rows words ≡ []
-  none_elsewhere words size other = none (uses q i (words ∷ [])) (kept.goes words size)
+  none_elsewhere words size other = none _ (kept.goes words size)
     where
       none : (us : List Use) → All (λ u. partition words ≡ kept.part_of u.key) us → rows_used key us ≡ []
       none [] h = refl
-      none (u ∷ us) h = by_test (key_eq u.key key)
-          (λ e. absurd (other (All-head (λ (v : Use). partition words ≡ kept.part_of v.key) u us h
-          ∙ ap kept.part_of (key_eq-true u.key key e))))
-          (λ e. rw e (none us (All-tail (λ (v : Use). partition words ≡ kept.part_of v.key) u us h)))
+      none (u ∷ us) h = by_test _ (λ e. absurd (other (All-head (λ (v : Use). partition words ≡ kept.part_of v.key) u us h
+          ∙ ap kept.part_of (key_eq-true u.key key e)))) (λ e. rw e (none us
+          (All-tail (λ (v : Use). partition words ≡ kept.part_of v.key) u us h)))
 
   own_part : (n : ℕ) → n ≡ kept.part_of key → (packets : List (List ℕ)) → AreWhole packets
       → flat_map rows packets ≡ flat_map rows (part_at partition n packets)
@@ -59,21 +58,19 @@ module _ (partition : Partition) (q : TypedQuery) (i : ℕ) (kept : KeepsKeys pa
 
 pub parts_have_rows : PartsHaveTheRows
 parts_have_rows partition q i kept packets key whole =
-    rows_packetwise q i key packets
-    ∙ (own_part partition q i kept key (kept.part_of key) refl packets whole
-    ∙ sym (rows_packetwise q i key (part_at partition (kept.part_of key) packets)))
+    rows_packetwise q i _ _
+    ∙ (own_part _ q i kept key (kept.part_of _) refl packets whole
+    ∙ sym (rows_packetwise q i _ _))
 
 pub others_have_none : OtherPartsHaveNone
-others_have_none partition q i kept packets key whole n other =
-    rows_packetwise q i key (part_at partition n packets) ∙ other_part partition q i kept key n other packets whole
+others_have_none partition q i kept packets key whole n other = rows_packetwise q i _ _ ∙ other_part _ q i kept key n other packets whole
 
 -- ---- which keys a table has
 
 pub has_contained : (key : Key) (keys : List Key) → has key keys ≡ true → Contains keys key
 has_contained key [] e = absurd (false≢true e)
-has_contained key (first ∷ keys) e = by_test (key_eq first key)
-    (λ t. (0, omega arith, key_eq-true first key t))
-    (λ t. let c = has_contained key keys (rw t at e) in (suc c.0, omega (arith, c.1), c.2))
+has_contained key (first ∷ keys) e = by_test _ (λ t. (0, omega arith, key_eq-true _ _ t))
+    (λ t. let c = has_contained _ keys (rw t at e) in (suc c.0, omega (arith, c.1), c.2))
 
 or_true : (b : Bool) → (b || true) ≡ true
 or_true true = refl
@@ -82,31 +79,29 @@ or_true false = refl
 contained_has : (key : Key) (keys : List Key) (k : ℕ) → k < length keys → slice_index_or keys k key ≡ key → has key keys ≡ true
 contained_has key [] k lt e = absurd (omega (arith, lt))
 contained_has key (first ∷ keys) zero lt e = ap (λ x. key_eq x key || has key keys) e ∙ ap (λ b. b || has key keys) (key_eq-refl key)
-contained_has key (first ∷ keys) (suc k) lt e =
-    ap (λ b. key_eq first key || b) (contained_has key keys k (omega (arith, lt)) e) ∙ or_true (key_eq first key)
+contained_has key (first ∷ keys) (suc k) lt e = ap (λ b. key_eq first key || b) (contained_has key keys k (omega arith) e) ∙ or_true _
 
 used_some : (key : Key) (us : List Use) → has key (map (λ u. u.key) us) ≡ some (rows_used key us)
 used_some key [] = refl
-used_some key (u ∷ us) = by_test (key_eq u.key key) (λ e. rw e refl) (λ e. rw e (used_some key us))
+used_some key (u ∷ us) = by_test (key_eq u.key key) (λ e. rw e refl) (λ e. rw e (used_some _ us))
 
 -- a table has a key exactly where the key has a row
 pub key_has_rows : (key : Key) (us : List Use) → has key (keys_used us) ≡ some (rows_used key us)
-key_has_rows key us = has-ascending key (map (λ u. u.key) us) ∙ used_some key us
+key_has_rows key us = has-ascending _ _ ∙ used_some _ _
 
 same_place : (key : Key) (us others : List Use) → rows_used key us ≡ rows_used key others → Contains (keys_used us) key
     → Contains (keys_used others) key
-same_place key us others e c = has_contained key (keys_used others)
-    (key_has_rows key others ∙ (ap some (sym e) ∙ (sym (key_has_rows key us) ∙ contained_has key (keys_used us) c.0 c.1 c.2)))
+same_place key us others e c = has_contained _ _
+    (key_has_rows key _ ∙ (ap some (sym e) ∙ (sym (key_has_rows key _) ∙ contained_has _ _ _ c.1 c.2)))
 
 pub keys_of_parts : KeysAreOfTheirParts
 keys_of_parts partition q i kept packets key whole =
     let e = parts_have_rows partition q i kept packets key whole in
-    let part = uses q i (part_at partition (kept.part_of key) packets) in
-    (same_place key (uses q i packets) part e, same_place key part (uses q i packets) (sym e))
+    let part = uses q i (part_at partition (kept.part_of _) packets) in
+    (same_place _ (uses q i packets) _ e, same_place _ part _ (sym e))
 
 pub keys_of_no_other : KeysAreOfNoOtherPart
-keys_of_no_other partition q i kept packets key whole n c = by_test (n == kept.part_of key)
-    (λ e. same_number n (kept.part_of key) e)
+keys_of_no_other partition q i kept packets key whole n c = by_test _ (λ e. same_number n _ e)
     (λ e. let us = uses q i (part_at partition n packets) in
-    let none = others_have_none partition q i kept packets key whole n (not_number n (kept.part_of key) e) in
-    absurd (true≢false (sym (contained_has key (keys_used us) c.0 c.1 c.2) ∙ (key_has_rows key us ∙ ap some none))))
+    let none = others_have_none partition q i kept packets key whole n (not_number n (kept.part_of _) e) in
+    absurd (true≢false (sym (contained_has _ _ _ c.1 c.2) ∙ (key_has_rows key _ ∙ ap some none))))

@@ -17,8 +17,7 @@ use Rattle.part_laws.proofs.FinalRows.{one_joined, with_found, joined_each}
 pub filters_bare : FiltersReadNoEpochs
 filters_bare condition [] = refl
 filters_bare condition (row ∷ rows) = by_test (holds (expr_value condition (columns_of row)))
-    (λ e. rw e (ap (λ xs. plain_row row.key row.values ∷ xs) (filters_bare condition rows)))
-    (λ e. rw e (filters_bare condition rows))
+    (λ e. rw e (ap (λ xs. plain_row row.key row.values ∷ xs) (filters_bare condition rows))) (λ e. rw e (filters_bare condition rows))
 
 pub maps_bare : MapsReadNoEpochs
 unfolding mapped_row
@@ -31,22 +30,21 @@ same_map f h (x ∷ xs) e = ap (λ y. y ∷ map f xs) (e x) ∙ ap (λ ys. h x �
 
 bare_keys : (keys : List ℕ) (rows : List Row) → map (grouped_key keys) (map but_for_epochs rows) ≡ map (grouped_key keys) rows
 bare_keys keys [] = refl
-bare_keys keys (row ∷ rows) = ap (λ ks. grouped_key keys row ∷ ks) (bare_keys keys rows)
+bare_keys keys (row ∷ rows) = ap (λ ks. grouped_key keys row ∷ ks) (bare_keys _ rows)
 
 bare_args : (keys args : List ℕ) (key : Key) (rows : List Row) → grouped_args keys args (map but_for_epochs rows) key ≡ grouped_args keys
     args rows key
 bare_args keys args key [] = refl
 bare_args keys args key (row ∷ rows) = by_test (key_eq (grouped_key keys row) key)
-    (λ e. rw e (ap (λ xs. values_at (columns_of row) args ∷ xs) (bare_args keys args key rows)))
-    (λ e. rw e (bare_args keys args key rows))
+    (λ e. rw e (ap (λ xs. values_at (columns_of row) args ∷ xs) (bare_args _ _ _ rows))) (λ e. rw e (bare_args keys args key rows))
 
 pub groupbys_bare : GroupbysReadNoEpochs
 groupbys_bare keys None args rows = refl
 groupbys_bare keys (Some f) args rows =
     ap (λ ks. map (λ key. plain_row key (folded f (initial_state f) (grouped_args keys args (map but_for_epochs rows) key))) (ascending ks))
     (bare_keys keys rows)
-    ∙ same_map (λ key. plain_row key (folded f (initial_state f) (grouped_args keys args (map but_for_epochs rows) key)))
-    (λ key. plain_row key (folded f (initial_state f) (grouped_args keys args rows key))) (ascending (map (grouped_key keys) rows))
+    ∙ same_map _
+    _ _
     (λ key. ap (λ list. plain_row key (folded f (initial_state f) list)) (bare_args keys args key rows))
 
 bare_found : (row : Row) (right : List Row) → with_found row (find (is_of_key row.key) (map but_for_epochs right)) ≡ with_found row
@@ -73,9 +71,8 @@ bare_count column row (first ∷ rows) =
     sum_by-cons one (but_for_epochs first) (map but_for_epochs rows)
     ∙ (ap (λ n. one first + n) (bare_count column row rows) ∙ sym (sum_by-cons one first rows))
 
-bare_tops : (column kept : ℕ) (all rows : List Row)
-    → map (λ row. plain_row row.key row.values) (filter (λ row. nat_lt
-    (count_by (λ other. goes_before column other row) (map but_for_epochs all)) kept) (map but_for_epochs rows))
+bare_tops : (column kept : ℕ) (all rows : List Row) → map (λ row. plain_row row.key row.values)
+    (filter (λ row. nat_lt (count_by (λ other. goes_before column other row) (map but_for_epochs all)) kept) (map but_for_epochs rows))
     ≡ map (λ row. plain_row row.key row.values) (filter (λ row. nat_lt (count_by (λ other. goes_before column other row) all) kept) rows)
 bare_tops column kept all [] = refl
 bare_tops column kept all (row ∷ rows) =

@@ -23,7 +23,7 @@ module _ (t : Taking) (f : List ℕ → Row) (key : Key) where
   along n packets = rows_used key (map (use_of t) (tuples f n packets))
 
   one_more : (n : ℕ) (words : List ℕ) (packets : List (List ℕ)) → along n (words ∷ packets) ≡ along 1 (words ∷ []) ++ along (suc n) packets
-  one_more n words packets = go (f words)
+  one_more n words packets = go _
     where
       go : (o : Row) → rows_used key (map (use_of t) (tuple_of n o ++ tuples f (suc n) packets)) ≡ rows_used key
           (map (use_of t) (tuple_of 1 o ++ [])) ++ along (suc n) packets
@@ -32,7 +32,7 @@ module _ (t : Taking) (f : List ℕ → Row) (key : Key) where
 
   each_alone : (n : ℕ) (packets : List (List ℕ)) → along n packets ≡ flat_map (λ words. along 1 (words ∷ [])) packets
   each_alone n [] = refl
-  each_alone n (words ∷ packets) = one_more n words packets ∙ ap (λ rows. along 1 (words ∷ []) ++ rows) (each_alone (suc n) packets)
+  each_alone n (words ∷ packets) = one_more n words packets ∙ ap (λ rows. along 1 (words ∷ []) ++ rows) (each_alone _ packets)
 
 none_taken : (packets : List (List ℕ)) → let none : List ArgRow = [] in none ≡ flat_map (λ words. none) packets
 none_taken [] = refl
@@ -47,8 +47,8 @@ rows_packetwise q i key packets = go (slice_get (takings q.streams) i)
     go None = none_taken packets
     go (Some t) =
         let f : List ℕ → Row = λ words. row_at (all_rows q words) t.input in
-        ap (λ tuples. rows_used key (map (use_of t) tuples)) (stream_rows q t.input packets)
+        ap (λ tuples. rows_used key (map (use_of t) tuples)) (stream_rows q t.input _)
         ∙ (each_alone t f key 1 packets
-        ∙ same_each (λ words. rows_used key (map (use_of t) (tuples f 1 (words ∷ []))))
-        (λ words. rows_used key (taken_by q (words ∷ []) (Some t))) packets
+        ∙ same_each _
+        _ packets
         (λ words. ap (λ tuples. rows_used key (map (use_of t) tuples)) (sym (stream_rows q t.input (words ∷ [])))))

@@ -11,7 +11,7 @@ use Rattle.part_laws.specs.Parts.{Partition, part_at}
 
 pub zeros_sum : {X : Type 0} (xs : List X) → sum_by (λ x. 0) xs ≡ 0
 zeros_sum [] = refl
-zeros_sum (x ∷ xs) = sum_by-cons (λ x. 0) x xs ∙ (ap (λ n. 0 + n) (zeros_sum xs) ∙ none)
+zeros_sum (x ∷ xs) = sum_by-cons _ x xs ∙ (ap (λ n. 0 + n) (zeros_sum xs) ∙ none)
   where
     none : 0 + 0 ≡ 0
     none = refl
@@ -22,22 +22,19 @@ same_sums f h (x ∷ xs) e =
     sum_by-cons f x xs ∙ (ap (λ n. n + sum_by f xs) (e x) ∙ (ap (λ n. h x + n) (same_sums f h xs e) ∙ sym (sum_by-cons h x xs)))
 
 turned : (a b : ℕ) → (a == b) ≡ false → (b == a) ≡ false
-turned a b t = by_test (b == a) (λ u. absurd (not_number a b t (sym (same_number b a u)))) (λ u. u)
+turned a b t = by_test _ (λ u. absurd (not_number a b t (sym (same_number b a u)))) (λ u. u)
 
 -- u is t, but for more at one number
 module _ (p more : ℕ) (t u : ℕ → ℕ) (here : (p == p) ≡ true → u p ≡ more + t p) (elsewhere : (n : ℕ) → (p == n) ≡ false → u n ≡ t n) where
   untouched : (parts : List ℕ) → has_number p parts ≡ false → sum_by u parts ≡ sum_by t parts
   untouched [] none = refl
-  untouched (k ∷ parts) none = by_test (k == p)
-      (λ e. absurd (true≢false (rw e at none)))
-      (λ e. sum_by-cons u k parts
-      ∙ (ap (λ n. n + sum_by u parts) (elsewhere k (turned k p e))
+  untouched (k ∷ parts) none = by_test _ (λ e. absurd (true≢false (rw e at none)))
+      (λ e. sum_by-cons u k parts ∙ (ap (λ n. n + sum_by u parts) (elsewhere k (turned k p e))
       ∙ (ap (λ n. t k + n) (untouched parts (rw e at none)) ∙ sym (sum_by-cons t k parts))))
 
   touched : (parts : List ℕ) → AreApart parts → has_number p parts ≡ true → sum_by u parts ≡ more + sum_by t parts
   touched [] apart some = absurd (false≢true some)
-  touched (k ∷ parts) apart some = by_test (k == p)
-      (λ e. let same = same_number k p e in
+  touched (k ∷ parts) apart some = by_test (k == p) (λ e. let same = same_number k p e in
       sum_by-cons u k parts
       ∙ (ap (λ n. n + sum_by u parts) (ap u same ∙ (here (own_number p) ∙ ap (λ n. more + t n) (sym same)))
       ∙ (ap (λ n. (more + t k) + n) (untouched parts (subst (λ n. has_number n parts ≡ false) same apart.0))
@@ -71,4 +68,4 @@ pub sum_joined : {X Y : Type 0} (h : Y → ℕ) (g : X → List Y) (xs : List X)
 sum_joined h g [] = refl
 sum_joined h g (x ∷ xs) =
     sum_by-append h (g x) (flat_map g xs)
-    ∙ (ap (λ n. sum_by h (g x) + n) (sum_joined h g xs) ∙ sym (sum_by-cons (λ y. sum_by h (g y)) x xs))
+    ∙ (ap (λ n. sum_by h (g x) + n) (sum_joined h g xs) ∙ sym (sum_by-cons _ x xs))

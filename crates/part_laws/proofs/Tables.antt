@@ -28,26 +28,24 @@ exact_rows partition q i kept packets key whole f g h one =
 
 one_piece : (f : Folding) (key : Key) (pieces : List (List ArgRow)) → length pieces ≡ 1
     → epoch_rows f key (length pieces) 1 pieces ≡ valid_row f key (flat_map (λ rows. rows) pieces) ∷ []
-one_piece f key [] e = absurd (omega (arith, e))
 one_piece f key (rows ∷ []) e = ap (λ rs. valid_row f key rs ∷ []) (sym (append-nil rows))
-one_piece f key (rows ∷ more ∷ pieces) e = absurd (omega (arith, e))
+one_piece f key _ e = absurd (omega arith)
 
 -- the row of a key with one epoch
 pub one_epoch : (f : Folding) (g : Geometry) (us : List Use) (key : Key) → f.row_per_epoch ≡ true → length (epochs g us key) ≡ 1
     → key_rows f g us key ≡ valid_row f key (rows_used key us) ∷ []
-one_epoch f g us key each one =
-    rw each (one_piece f key (epochs g us key) one ∙ ap (λ rows. valid_row f key rows ∷ []) (epochs_cut_the_rows_lem g us key).0)
+one_epoch f g us key each one = rw each (one_piece f _ _ one ∙ ap (λ rows. valid_row f key rows ∷ []) (epochs_cut_the_rows_lem g us key).0)
 
 pub valid_rows : ValidRowsFoldTheWhole
 valid_rows partition q i kept packets key whole f g each one =
-    one_epoch f g (uses q i (part_at partition (kept.part_of key) packets)) key each one
+    one_epoch f g _ _ each one
     ∙ ap (λ rows. valid_row f key rows ∷ []) (sym (parts_have_rows partition q i kept packets key whole))
 
 -- ---- whole tables
 
 pub has_joined : (key : Key) (xs ys : List Key) → has key (xs ++ ys) ≡ (has key xs || has key ys)
 has_joined key [] ys = refl
-has_joined key (x ∷ xs) ys = ap (λ b. key_eq x key || b) (has_joined key xs ys) ∙ turn (key_eq x key) (has key xs) (has key ys)
+has_joined key (x ∷ xs) ys = ap (λ b. key_eq x key || b) (has_joined _ xs ys) ∙ turn (key_eq x key) (has key xs) (has key ys)
   where
     turn : (a b c : Bool) → (a || (b || c)) ≡ ((a || b) || c)
     turn true b c = refl
@@ -64,7 +62,7 @@ has_of_lists key us [] = refl
 has_of_lists key us (n ∷ parts) =
     has_joined key (keys_used (us n)) (flat_map (λ k. keys_used (us k)) parts)
     ∙ (ap (λ b. b || has key (flat_map (λ k. keys_used (us k)) parts)) (key_has_rows key (us n))
-    ∙ (ap (λ b. some (rows_used key (us n)) || b) (has_of_lists key us parts)
+    ∙ (ap (λ b. some (rows_used key (us n)) || b) (has_of_lists _ _ parts)
     ∙ sym (some_joined (rows_used key (us n)) (flat_map (λ k. rows_used key (us k)) parts))))
 
 module _ (partition : Partition) (q : TypedQuery) (i : ℕ) (packets : List (List ℕ)) (parts : List ℕ)
@@ -75,22 +73,21 @@ module _ (partition : Partition) (q : TypedQuery) (i : ℕ) (packets : List (Lis
   -- all parts give a key as many rows as the whole trace
   as_many : (key : Key) → length (rows_used key (uses q i packets)) ≡ length (flat_map (λ n. rows_used key (part n)) parts)
   as_many key =
-      long packets
-      ∙ (sum_of_parts partition (λ words. length (rows_of_one q i key words)) parts the.apart packets the.each
-      ∙ (same_sums (λ n. sum_by (λ words. length (rows_of_one q i key words)) (part_at partition n packets))
-      (λ n. length (rows_used key (part n))) parts
-      (λ n. sym (long (part_at partition n packets)))
-      ∙ sym (length-flat_map (λ n. rows_used key (part n)) parts)))
+      long _
+      ∙ (sum_of_parts partition _ _ the.apart _ the.each
+      ∙ (same_sums _
+      _ parts
+      (λ n. sym (long (part_at _ n _)))
+      ∙ sym (length-flat_map _ parts)))
     where
       long : (list : List (List ℕ)) → length (rows_used key (uses q i list)) ≡ sum_by (λ words. length (rows_of_one q i key words)) list
-      long list = ap length (rows_packetwise q i key list) ∙ length-flat_map (rows_of_one q i key) list
+      long list = ap length (rows_packetwise q i _ _) ∙ length-flat_map _ list
 
   keys_of_all : keys_used (uses q i packets) ≡ ascending (flat_map (λ n. keys_used (part n)) parts)
-  keys_of_all = same_ascending (keys_used (uses q i packets)) (ascending (flat_map (λ n. keys_used (part n)) parts))
-      (ascending-ascends (map (λ u. u.key) (uses q i packets))) (ascending-ascends (flat_map (λ n. keys_used (part n)) parts))
-      (λ key. key_has_rows key (uses q i packets)
-      ∙ (same_some (rows_used key (uses q i packets)) (flat_map (λ n. rows_used key (part n)) parts) (as_many key)
-      ∙ (sym (has_of_lists key part parts) ∙ sym (has-ascending key (flat_map (λ n. keys_used (part n)) parts)))))
+  keys_of_all = same_ascending _ _ (ascending-ascends (map (λ u. u.key) (uses q i packets)))
+      (ascending-ascends (flat_map (λ n. keys_used (part n)) parts)) (λ key. key_has_rows key _
+      ∙ (same_some _ _ (as_many _) ∙ (sym (has_of_lists key part parts)
+      ∙ sym (has-ascending key (flat_map (λ n. keys_used (part n)) parts)))))
 
 pub keys_of_all_parts : KeysAreOfAllParts
 keys_of_all_parts partition q i packets parts the = keys_of_all partition q i packets parts the

@@ -3,7 +3,7 @@ use Rattle.std.proofs.Common.{◌≡◌, ℕ, ◌+◌, ◌<◌, Bool, true, fals
 use Rattle.std.proofs.Common.{◌⊎◌, inl, inr, refl, sym, ap, ◌∙◌, arith}
 use Rattle.std.specs.List.{sum_by, count_by}
 use Rattle.std.specs.declared.cmp.Ordering.{Ordering}
-use Rattle.std.specs.declared.cmp.Ordering.TheVariants.{Less, Equal, Greater}
+use Rattle.std.specs.declared.cmp.Ordering.TheVariants.{Less}
 use Rattle.std.specs.Ordering.{is_lt}
 use Rattle.std.proofs.lemmas.Bool.{true≢false, false≢true}
 use Rattle.std.proofs.lemmas.Bool.Decides.{nat_tests}
@@ -29,25 +29,21 @@ key_cmp-less a b c = nat_list_cmp_total.trans a b c
 
 less_is : (o : Ordering) → is_lt o ≡ true → o ≡ Less
 less_is Less e = refl
-less_is Equal e = absurd (false≢true e)
-less_is Greater e = absurd (false≢true e)
+less_is _ e = absurd (false≢true e)
 
 nothing_less : (column : ℕ) (row : Row) → goes_before column row row ≡ false
 nothing_less column row =
     let c = column_at column row in
     let none : nat_lt c c ≡ false = grind (arith, nat_tests) in
-    rw none (rw (key_cmp-itself row.key) (and_false (c == c)))
+    rw none (rw (key_cmp-itself _) (and_false _))
   where
     and_false : (b : Bool) → (b && false) ≡ false
     and_false true = refl
     and_false false = refl
 
 apart_by : (a b : ℕ) (o : Bool) → (nat_lt b a || ((b == a) && o)) ≡ true → (b < a) ⊎ ((b ≡ a) × (o ≡ true))
-apart_by a b o e = by_test (nat_lt b a)
-    (λ t. inl (grind (arith, nat_tests)))
-    (λ t. by_test (b == a)
-    (λ u. inr (grind (arith, nat_tests), rw t at (rw u at e)))
-    (λ u. absurd (false≢true (rw t at (rw u at e)))))
+apart_by a b o e = by_test (nat_lt b a) (λ t. inl (grind (arith, nat_tests)))
+    (λ t. by_test (b == a) (λ u. inr (grind (arith, nat_tests), rw t at (rw u at e))) (λ u. absurd (false≢true (rw t at (rw u at e)))))
 
 before_by : (a b : ℕ) (o : Bool) → (b < a) ⊎ ((b ≡ a) × (o ≡ true)) → (nat_lt b a || ((b == a) && o)) ≡ true
 before_by a b o (inl lt) = let t : nat_lt b a ≡ true = grind (arith, nat_tests) in rw t refl
@@ -57,9 +53,7 @@ before_by a b o (inr e) =
     rw t (rw u e.1)
 
 before_after : (column : ℕ) (x y z : Row) → goes_before column x y ≡ true → goes_before column y z ≡ true → goes_before column x z ≡ true
-before_after column x y z e k = before_by (column_at column x) (column_at column z) (is_lt (key_cmp x.key z.key))
-    (go (apart_by (column_at column x) (column_at column y) (is_lt (key_cmp x.key y.key)) e)
-    (apart_by (column_at column y) (column_at column z) (is_lt (key_cmp y.key z.key)) k))
+before_after column x y z e k = before_by _ _ _ (go (apart_by _ _ _ e) (apart_by _ _ _ k))
   where
     go : (column_at column y < column_at column x) ⊎ ((column_at column y ≡ column_at column x) × (is_lt (key_cmp x.key y.key) ≡ true))
         → (column_at column z < column_at column y) ⊎ ((column_at column z ≡ column_at column y) × (is_lt (key_cmp y.key z.key) ≡ true))
@@ -75,39 +69,34 @@ before_after column x y z e k = before_by (column_at column x) (column_at column
 -- ---- counts of rows in the order of keys
 
 count_one : (p : Row → Bool) (x : Row) (xs : List Row) → count_by p (x ∷ xs) ≡ cond (p x) 1 0 + count_by p xs
-count_one p x xs = sum_by-cons (λ y. cond (p y) 1 0) x xs
+count_one p x xs = sum_by-cons _ x xs
 
 -- u is t, but for more at one key
 module _ (k : Key) (more : ℕ) (t u : Key → ℕ) (here : (key : Key) → key_eq k key ≡ true → u key ≡ more + t key)
     (elsewhere : (key : Key) → key_eq k key ≡ false → u key ≡ t key) where
   untouched : (keys : List Key) → has k keys ≡ false → sum_by u keys ≡ sum_by t keys
   untouched [] none = refl
-  untouched (key ∷ keys) none = by_test (key_eq key k)
-      (λ e. absurd (true≢false (rw e at none)))
-      (λ e. let rest = untouched keys (rw e at none) in
+  untouched (key ∷ keys) none = by_test _ (λ e. absurd (true≢false (rw e at none))) (λ e. let rest = untouched keys (rw e at none) in
       let same = elsewhere key (turned e) in
-      omega (arith, rest, same, sum_by-cons u key keys, sum_by-cons t key keys))
+      omega (arith, sum_by-cons u key keys, sum_by-cons t key keys))
     where
       turned : key_eq key k ≡ false → key_eq k key ≡ false
-      turned e = by_test (key_eq k key)
-          (λ s. absurd (true≢false (sym (key_eq-refl key) ∙ (ap (λ x. key_eq key x) (sym (key_eq-true k key s)) ∙ e))))
+      turned e = by_test _ (λ s. absurd (true≢false (sym (key_eq-refl _) ∙ (ap (λ x. key_eq key x) (sym (key_eq-true k _ s)) ∙ e))))
           (λ s. s)
 
   touched : (keys : List Key) → IsAscending keys → has k keys ≡ true → sum_by u keys ≡ more + sum_by t keys
   touched [] s some = absurd (false≢true some)
-  touched (key ∷ keys) s some = by_test (key_eq key k)
-      (λ e. let same : key ≡ k = key_eq-true key k e in
-      let none : has k keys ≡ false = ap (λ x. has x keys) (sym same) ∙ absent_above key keys s.0 in
+  touched (key ∷ keys) s some = by_test _ (λ e. let same : key ≡ k = key_eq-true _ k e in
+      let none : has k keys ≡ false = ap (λ x. has x keys) (sym same) ∙ absent_above _ keys s.0 in
       let rest = untouched keys none in
       let one = here key (ap (λ x. key_eq x key) (sym same) ∙ key_eq-refl key) in
       omega (arith, rest, one, sum_by-cons u key keys, sum_by-cons t key keys))
       (λ e. let rest = touched keys s.1 (rw e at some) in
       let one = elsewhere key (turned e) in
-      omega (arith, rest, one, sum_by-cons u key keys, sum_by-cons t key keys))
+      omega (arith, sum_by-cons u key keys, sum_by-cons t key keys))
     where
       turned : key_eq key k ≡ false → key_eq k key ≡ false
-      turned e = by_test (key_eq k key)
-          (λ s. absurd (true≢false (sym (key_eq-refl key) ∙ (ap (λ x. key_eq key x) (sym (key_eq-true k key s)) ∙ e))))
+      turned e = by_test _ (λ s. absurd (true≢false (sym (key_eq-refl _) ∙ (ap (λ x. key_eq key x) (sym (key_eq-true k _ s)) ∙ e))))
           (λ s. s)
 
 or_true : (b : Bool) → (b || true) ≡ true
@@ -132,7 +121,7 @@ counts_by_key p keys s (row ∷ rows) in_keys =
 count_in_order : (p : Row → Bool) (rows : List Row) → count_by p (by_key rows) ≡ count_by p rows
 count_in_order p rows =
     sum_joined (λ row. cond (p row) 1 0) (λ key. filter (is_of_key key) rows) (ascending (keys_of rows))
-    ∙ counts_by_key p (ascending (keys_of rows)) (ascending-ascends (keys_of rows)) rows (λ k e. has-ascending k (keys_of rows) ∙ e)
+    ∙ counts_by_key p (ascending (keys_of rows)) (ascending-ascends (keys_of rows)) rows (λ k e. has-ascending k (keys_of _) ∙ e)
 
 -- ---- top rows
 
@@ -141,12 +130,10 @@ bare row = plain_row row.key row.values
 
 picked_each : (t : Row → Bool) (rows : List Row) → map bare (filter t rows) ≡ flat_map (λ row. cond (t row) (bare row ∷ []) []) rows
 picked_each t [] = refl
-picked_each t (row ∷ rows) = by_test (t row)
-    (λ e. rw e (ap (λ xs. bare row ∷ xs) (picked_each t rows)))
-    (λ e. rw e (picked_each t rows))
+picked_each t (row ∷ rows) = by_test (t row) (λ e. rw e (ap (λ xs. bare row ∷ xs) (picked_each t rows))) (λ e. rw e (picked_each t rows))
 
 picked_keeps : (t : Row → Bool) → KeepsKey (λ row. cond (t row) (bare row ∷ []) [])
-picked_keeps t row k = go (t row)
+picked_keeps t row k = go _
   where
     none : (b : Bool) → let empty : List Row = [] in empty ≡ cond b empty empty
     none true = refl
@@ -155,7 +142,7 @@ picked_keeps t row k = go (t row)
     go : (b : Bool) → filter (is_of_key k) (cond b (plain_row row.key row.values ∷ []) []) ≡ cond (key_eq row.key k)
         (cond b (plain_row row.key row.values ∷ []) []) []
     go true = refl
-    go false = none (key_eq row.key k)
+    go false = none _
 
 module _ (column kept : ℕ) where
   abbrev before : Row → Row → Bool
@@ -192,8 +179,8 @@ pub tops_are_of_tops : TopsAreOfTops
 tops_are_of_tops column kept rows parts =
     let before : Row → Row → Bool = goes_before column in
     let tops : ℕ → List Row = λ n. top_of (goes_before column) kept (rows n) in
-    top_in_order column kept (flat_map rows parts)
-    ∙ ap by_key (ap (map bare) (sym (tops_of_tops (goes_before column) (nothing_less column) (before_after column) kept rows parts))
+    top_in_order _ kept (flat_map rows parts)
+    ∙ ap by_key (ap (map bare) (sym (tops_of_tops _ (nothing_less _) (before_after _) kept rows parts))
     ∙ sym (bare_tops column kept (flat_map tops parts) (flat_map tops parts)))
-    ∙ sym (top_in_order column kept (flat_map (λ n. top_rows column kept (rows n)) parts)
+    ∙ sym (top_in_order _ kept (flat_map (λ n. top_rows column kept (rows n)) parts)
     ∙ ap (λ all. by_key (top_rows column kept all)) (sym (map_joined bare tops parts)))

@@ -1,6 +1,6 @@
 -- The top rows of all parts are among the parts' own top rows.
-use Rattle.std.proofs.Common.{◌≡◌, ℕ, zero, suc, ◌+◌, ◌≤◌, ◌<◌, Bool, true, false, cond, ◌==◌, nat_lt, min, List, [], ◌∷◌, ◌++◌, filter}
-use Rattle.std.proofs.Common.{flat_map, ◌⊎◌, inl, inr, refl, sym, ap, ◌∙◌, arith}
+use Rattle.std.proofs.Common.{◌≡◌, ℕ, zero, suc, ◌+◌, ◌≤◌, ◌<◌, Bool, true, false, cond, nat_lt, min, List, [], ◌∷◌, ◌++◌, filter, flat_map}
+use Rattle.std.proofs.Common.{◌⊎◌, inl, inr, refl, sym, ap, ◌∙◌, arith}
 use Rattle.std.specs.List.{count_by}
 use Rattle.std.proofs.lemmas.Bool.{false≢true}
 use Rattle.std.proofs.lemmas.Bool.Decides.{nat_tests}
@@ -14,7 +14,7 @@ use Rattle.part_laws.proofs.FinalRows.{same_members}
 -- ---- any order on any list
 
 count_one : {A : Type 0} (p : A → Bool) (x : A) (xs : List A) → count_by p (x ∷ xs) ≡ cond (p x) 1 0 + count_by p xs
-count_one p x xs = sum_by-cons (λ y. cond (p y) 1 0) x xs
+count_one p x xs = sum_by-cons _ x xs
 
 -- what passes one test passes the other
 counts_less : {A : Type 0} (p q : A → Bool) (xs : List A) → ((x : A) → p x ≡ true → q x ≡ true) → count_by p xs ≤ count_by q xs
@@ -23,24 +23,23 @@ counts_less p q (x ∷ xs) more =
     let rest = counts_less p q xs more in by_test (p x)
     (λ e. omega (
       arith,
-      rest,
       count_one p x xs ∙ ap (λ b. cond b 1 0 + count_by p xs) e,
       count_one q x xs
           ∙ ap (λ b. cond b 1 0 + count_by q xs) (more x e),
     ))
-    (λ e. omega (arith, rest, count_one p x xs ∙ ap (λ b. cond b 1 0 + count_by p xs) e, count_one q x xs))
+    (λ e. omega (arith, count_one p x xs ∙ ap (λ b. cond b 1 0 + count_by p xs) e, count_one q x xs))
 
 fewer : {A : Type 0} (p t : A → Bool) (xs : List A) → count_by p (filter t xs) ≤ count_by p xs
 fewer p t [] = omega arith
 fewer p t (x ∷ xs) =
     let rest = fewer p t xs in by_test (t x)
-    (λ e. rw e (omega (arith, rest, count_one p x xs, count_one p x (filter t xs))))
-    (λ e. rw e (omega (arith, rest, count_one p x xs)))
+    (λ e. rw e (omega (arith, count_one p x xs, count_one p x (filter t xs))))
+    (λ e. rw e (omega (arith, count_one p x xs)))
 
 count_both : {A : Type 0} (p : A → Bool) (xs ys : List A) → count_by p (xs ++ ys) ≡ count_by p xs + count_by p ys
 count_both p [] ys = omega arith
 count_both p (x ∷ xs) ys =
-    let rest = count_both p xs ys in omega (arith, rest, count_one p x xs, count_one p x (xs ++ ys))
+    let rest = count_both p xs ys in omega (arith, count_one p x xs, count_one p x (xs ++ ys))
 
 -- an element that passes the one test and not the other, among these
 record Found {A : Type 0} (p t : A → Bool) (xs : List A) : Type 0 where
@@ -55,15 +54,14 @@ more_found p t x xs h = record {
   passes = h.passes;
   fails = h.fails;
   strict = λ q r more no yes.
-      let rest = h.strict q r more no yes in by_test (q x)
+      let rest = h.strict q r more no yes in by_test _
       (λ e. omega (
         arith,
-        rest,
         count_one q x xs ∙ ap (λ b. cond b 1 0 + count_by q xs) e,
         count_one r x xs
             ∙ ap (λ b. cond b 1 0 + count_by r xs) (more x e),
       ))
-      (λ e. omega (arith, rest, count_one q x xs ∙ ap (λ b. cond b 1 0 + count_by q xs) e, count_one r x xs));
+      (λ e. omega (arith, count_one q x xs ∙ ap (λ b. cond b 1 0 + count_by q xs) e, count_one r x xs));
 }
 
 first_found : {A : Type 0} (p t : A → Bool) (x : A) (xs : List A) → p x ≡ true → t x ≡ false → Found p t (x ∷ xs)
@@ -71,14 +69,12 @@ first_found p t x xs passes fails = record {
   found = x;
   passes = passes;
   fails = fails;
-  strict = λ q r more no yes.
-      omega (
-        arith,
-        counts_less q r xs more,
-        count_one q x xs ∙ ap (λ b. cond b 1 0 + count_by q xs) no,
-        count_one r x xs
-            ∙ ap (λ b. cond b 1 0 + count_by r xs) yes,
-      );
+  strict = λ q r more no yes. omega (
+    arith,
+    counts_less q r xs more,
+    count_one q x xs ∙ ap (λ b. cond b 1 0 + count_by q xs) no,
+    count_one r x xs ∙ ap (λ b. cond b 1 0 + count_by r xs) yes,
+  );
 }
 
 -- either all that pass the one test pass the other, or one of them doesn't
@@ -89,28 +85,25 @@ search_for p t (x ∷ xs) = go (search_for p t xs)
     go : (count_by p (filter t xs) ≡ count_by p xs) ⊎ Found p t xs → (count_by p (filter t (x ∷ xs)) ≡ count_by p (x ∷ xs)) ⊎ Found p t
         (x ∷ xs)
     go (inr h) = inr (more_found p t x xs h)
-    go (inl e) = by_test (t x)
-        (λ k. inl (rw k (count_one p x (filter t xs) ∙ (ap (λ n. cond (p x) 1 0 + n) e ∙ sym (count_one p x xs)))))
-        (λ k. by_test (p x)
-        (λ y. inr (first_found p t x xs y k))
-        (λ y. inl (rw k (omega (arith, e, count_one p x xs ∙ ap (λ b. cond b 1 0 + count_by p xs) y)))))
+    go (inl e) = by_test (t x) (λ k. inl (rw k (count_one p x (filter t xs) ∙ (ap (λ n. cond (p x) 1 0 + n) e ∙ sym (count_one p x xs)))))
+        (λ k. by_test (p x) (λ y. inr (first_found p t x xs y k)) (λ y. inl
+        (rw k (omega (arith, e, count_one p x xs ∙ ap (λ b. cond b 1 0 + count_by p xs) y)))))
 
 below_kept : (n kept : ℕ) → nat_lt n kept ≡ false → kept ≤ n
 below_kept n kept e = grind (arith, nat_tests)
 
 same_below : (a b kept : ℕ) → min kept b ≤ a → a ≤ b → nat_lt a kept ≡ nat_lt b kept
-same_below a b kept few most = by_test (nat_lt b kept)
-    (λ e. let lt : b < kept = grind (arith, nat_tests) in
-    let less : a < kept = omega (arith, lt, most) in
+same_below a b kept few most = by_test _ (λ e. let lt : b < kept = grind (arith, nat_tests) in
+    let less : a < kept = omega arith in
     let is : nat_lt a kept ≡ true = grind (arith, nat_tests) in is ∙ sym e)
     (λ e. let le : kept ≤ b = grind (arith, nat_tests) in
-    let more : kept ≤ a = omega (arith, le, few) in
+    let more : kept ≤ a = omega arith in
     let is : nat_lt a kept ≡ false = grind (arith, nat_tests) in is ∙ sym e)
 
 below_less : (a b kept : ℕ) → a ≤ b → nat_lt b kept ≡ true → nat_lt a kept ≡ true
 below_less a b kept le e =
     let lt : b < kept = grind (arith, nat_tests) in
-    let less : a < kept = omega (arith, lt, le) in grind (arith, nat_tests)
+    let less : a < kept = omega arith in grind (arith, nat_tests)
 
 -- how many go before
 abbrev pub rank_in : {A : Type 0} → (A → A → Bool) → List A → A → ℕ
@@ -136,22 +129,20 @@ module _ {A : Type 0} (before : A → A → Bool) (irreflexive : (x : A) → bef
 
   enough_by : (all : List A) (x : A) → ((y : A) → rank_in before all y < rank_in before all x → HasEnough all y)
       → (count_by (λ y. before y x) (top_of before kept all) ≡ rank_in before all x) ⊎ Found (λ y. before y x)
-      (λ y. nat_lt (rank_in before all y) kept) all
-      → HasEnough all x
-  enough_by all x again (inl e) = omega (arith, e)
+      (λ y. nat_lt (rank_in before all y) kept) all → HasEnough all x
+  enough_by all x again (inl e) = omega arith
   enough_by all x again (inr h) =
       let more : (y : A) → before y h.found ≡ true → before y x ≡ true = λ y b. transitive y h.found x b h.passes in
-      let lt = h.strict (λ y. before y h.found) (λ y. before y x) more (irreflexive h.found) h.passes in
-      let most = below_kept (rank_in before all h.found) kept h.fails in
-      let less = counts_less (λ y. before y h.found) (λ y. before y x) (top_of before kept all) more in
-      omega (arith, most, again h.found lt, less)
+      let lt = h.strict (λ y. before y _) (λ y. before y x) more (irreflexive h.found) h.passes in
+      let most = below_kept _ _ h.fails in
+      let less = counts_less _ _ (top_of before kept all) more in
+      omega (arith, again h.found lt)
 
   enough : (fuel : ℕ) (all : List A) (x : A) → rank_in before all x ≤ fuel → HasEnough all x
-  enough zero all x le =
-      enough_by all x (λ y lt. absurd (omega (arith, lt, le))) (search_for (λ y. before y x) (λ y. nat_lt (rank_in before all y) kept) all)
+  enough zero all x le = enough_by _ x (λ y lt. absurd (omega (arith, lt))) (search_for _ _ _)
   enough (suc n) all x le =
-      enough_by all x (λ y lt. enough n all y (omega (arith, lt, le)))
-      (search_for (λ y. before y x) (λ y. nat_lt (rank_in before all y) kept) all)
+      enough_by _ x (λ y lt. enough n _ y (omega (arith, lt)))
+      (search_for _ _ _)
 
   module _ (rows : ℕ → List A) where
     abbrev tops : ℕ → List A
@@ -172,9 +163,9 @@ module _ {A : Type 0} (before : A → A → Bool) (irreflexive : (x : A) → bef
         → rank_in before (rows n) x ≤ rank_in before (flat_map rows parts) x
     part_less x n [] e = absurd (false≢true e)
     part_less x n (m ∷ parts) e =
-        let all = count_both (λ y. before y x) (rows m) (flat_map rows parts) in by_test (m == n)
+        let all = count_both (λ y. before y x) (rows m) (flat_map rows parts) in by_test _
         (λ t. let same : rank_in before (rows m) x ≡ rank_in before (rows n) x =
-        ap (λ k. rank_in before (rows k) x) (same_number m n t) in omega (arith, all, same))
+        ap (λ k. rank_in before (rows k) x) (same_number m n t) in omega arith)
         (λ t. let rest = part_less x n parts (rw t at e) in omega (arith, all, rest))
 
     -- the top rows of the parts' top rows are those of all rows
@@ -186,7 +177,7 @@ module _ {A : Type 0} (before : A → A → Bool) (irreflexive : (x : A) → bef
         let top_here : A → Bool = λ x. nat_lt (rank_in before some x) kept in
         filter_joined top_here tops parts
         ∙ (same_members (λ n. filter top_here (tops n)) (λ n. filter top (rows n)) parts
-        (λ n has. filter_both top_here (λ x. nat_lt (rank_in before (rows n) x) kept) top (rows n)
-        (λ x. let b = tops_between x parts in same_below (rank_in before some x) (rank_in before all x) kept b.0 b.1)
-        (λ x e. below_less (rank_in before (rows n) x) (rank_in before all x) kept (part_less x n parts has) e))
+        (λ n has. filter_both _ (λ x. nat_lt (rank_in before (rows n) x) kept) _ (rows n)
+        (λ x. let b = tops_between x parts in same_below _ _ _ b.0 b.1)
+        (λ x e. below_less _ _ kept (part_less x n parts has) e))
         ∙ sym (filter_joined top rows parts))
