@@ -1,18 +1,9 @@
 -- What parts add to the state of an additive fold.
-use Rattle.std.proofs.Common.{◌≡◌, ℕ, false, List, [], ◌∷◌, map, fold, slice_index, sym, ap, ◌∙◌}
-use Rattle.std.specs.List.{sum_by}
-use Rattle.epoch_model.specs.declared.tables.Row.{Row}
+use Rattle.part_laws.proofs.Words.{◌≡◌, ℕ, false, List, [], ◌∷◌, map, fold, sym, ap, ◌∙◌, sum_by, Row, Key, Folding, group_rows, key_rows}
+use Rattle.part_laws.proofs.Words.{keys_used, flat_map-single, TypedFold, TypedQuery, folded, uses, amount, plus, zeros, rows_used}
+use Rattle.part_laws.proofs.Words.{Partition, part_at, AreTheParts, whole_rows, part_rows}
+use Rattle.std.proofs.Common.{slice_index}
 use Rattle.epoch_model.specs.Epochs.{Geometry, Use}
-use Rattle.epoch_model.specs.Keys.{Key}
-use Rattle.epoch_model.specs.Tables.{Folding, group_rows, key_rows, keys_used}
-use Rattle.epoch_model.proofs.TableRows.{flat_map-single}
-use Rattle.query_lang.specs.declared.fold.TypedFold.{TypedFold}
-use Rattle.query_lang.specs.declared.typed.TypedQuery.{TypedQuery}
-use Rattle.query_lang.specs.Folds.{folded}
-use Rattle.query_types.specs.Uses.{uses}
-use Rattle.additive_laws.specs.Amounts.{amount, plus, zeros}
-use Rattle.additive_laws.specs.TraceLaws.{rows_used}
-use Rattle.part_laws.specs.Parts.{Partition, part_at, AreTheParts, whole_rows, part_rows}
 use Rattle.part_laws.specs.PartLaws.{added, but_for_epochs, row_of_state, AdditivePartsAdd, StatesFromZerosAdd, PartWordsAdd}
 use Rattle.part_laws.specs.PartLaws.{AdditiveTablesJoin}
 use Rattle.part_laws.proofs.AddingLists.{variables_add, states_add, words_add}

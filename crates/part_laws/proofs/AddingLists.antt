@@ -1,15 +1,8 @@
 -- The state of an additive fold after rows that add what several lists of rows add together.
-use Rattle.std.proofs.Common.{◌≡◌, ℕ, suc, ◌+◌, ◌-◌, ◌%◌, ◌^◌, ◌<◌, List, [], ◌∷◌, length, map, fold, slice_index, replicate, sym, refl, ap}
-use Rattle.std.proofs.Common.{◌∙◌, subst, arith}
-use Rattle.std.specs.List.{sum_by}
-use Rattle.std.proofs.lemmas.List.{ext_get_or, length-replicate}
-use Rattle.std.proofs.lemmas.List.Elements.{All-get_or, All-replicate}
-use Rattle.std.proofs.lemmas.List.Sums.{sum_by-cons}
-use Rattle.epoch_model.specs.Keys.{ArgRow}
-use Rattle.query_lang.specs.declared.fold.TypedFold.{TypedFold}
-use Rattle.query_lang.specs.Words.{IsWord, AreWords}
-use Rattle.query_lang.specs.Folds.{fold_states, folded}
-use Rattle.additive_laws.specs.Amounts.{plus, zeros}
+use Rattle.part_laws.proofs.Words.{◌≡◌, ℕ, suc, ◌+◌, ◌-◌, ◌%◌, ◌^◌, ◌<◌, List, [], ◌∷◌, length, map, fold, replicate, sym, refl, ap, ◌∙◌}
+use Rattle.part_laws.proofs.Words.{subst, arith, sum_by, ext_get_or, length-replicate, All-get_or, All-replicate, sum_by-cons, ArgRow}
+use Rattle.part_laws.proofs.Words.{TypedFold, IsWord, AreWords, fold_states, folded, plus, zeros}
+use Rattle.std.proofs.Common.{slice_index}
 use Rattle.additive_laws.specs.Laws.{IsAdditiveFrom}
 use Rattle.additive_laws.proofs.Adding.{length-plus, words-plus, plus_at}
 use Rattle.additive_laws.proofs.Sums.{length-folded, state_is_a_sum}

@@ -1,15 +1,8 @@
 -- What finals make of rows that are those of parts is that again.
-use Rattle.std.proofs.Common.{◌≡◌, All, ℕ, List, [], ◌∷◌, ◌++◌, Option, Some, None, ap, ◌∙◌}
-use Rattle.std.specs.Prelude.{find, option_map}
-use Rattle.std.specs.List.{cons_option}
-use Rattle.std.proofs.lemmas.List.Elements.{All-nil, All-cons, All-head, All-tail}
-use Rattle.epoch_model.specs.declared.tables.Row.{Row}
-use Rattle.epoch_model.specs.Keys.{Key}
-use Rattle.epoch_model.proofs.KeyLists.{by_test}
-use Rattle.query_lang.specs.declared.fold.TypedExpr.{TypedExpr}
-use Rattle.query_lang.specs.Words.{holds}
-use Rattle.query_lang.specs.Streams.{expr_value}
-use Rattle.final_queries.specs.Finals.{columns_of, plain_row, is_of_key, filtered_rows, mapped_row, mapped_rows, joined_rows}
+use Rattle.part_laws.proofs.Words.{◌≡◌, ℕ, List, [], ◌∷◌, ◌++◌, Option, Some, None, ap, ◌∙◌, find, option_map, cons_option, All-nil}
+use Rattle.part_laws.proofs.Words.{All-cons, All-head, All-tail, Row, Key, by_test, TypedExpr, holds, expr_value, columns_of, plain_row}
+use Rattle.part_laws.proofs.Words.{is_of_key, filtered_rows, mapped_row, mapped_rows, joined_rows}
+use Rattle.std.proofs.Common.{All}
 use Rattle.part_laws.specs.FinalParts.{rows_of_all, FiltersStayOfParts, MapsStayOfParts, JoinsStayOfParts}
 use Rattle.part_laws.proofs.FinalRows.{filters_of_parts, maps_of_parts, joins_of_parts}
 

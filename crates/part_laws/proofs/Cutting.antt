@@ -1,26 +1,16 @@
 -- A key has no more epochs in its part than in the whole trace, where no refresh cuts.
-use Rattle.std.proofs.Common.{◌≡◌, ℕ, zero, suc, ◌<◌, ◌≤◌, max, Bool, true, false, not, ◌&&◌, ◌||◌, ◌==◌, List, [], ◌∷◌, ◌++◌, length, map}
-use Rattle.std.proofs.Common.{filter, Option, Some, None, refl, sym, ap, ◌∙◌, subst, arith, length-append}
-use Rattle.std.specs.Prelude.{nat_lt, nat_le, slice_get, reverse}
+use Rattle.part_laws.proofs.Words.{◌≡◌, ℕ, zero, suc, ◌<◌, ◌≤◌, max, Bool, true, false, not, ◌&&◌, ◌||◌, ◌==◌, List, [], ◌∷◌, ◌++◌, length}
+use Rattle.part_laws.proofs.Words.{map, filter, Option, Some, None, refl, sym, ap, ◌∙◌, subst, arith, length-append, nat_lt, nat_le}
+use Rattle.part_laws.proofs.Words.{slice_get, reverse, All, All-head, All-tail, true≢false, false≢true, lt-ltb, ltb-true, FIELDS, Key}
+use Rattle.part_laws.proofs.Words.{ArgRow, key_eq, others, distinct, has, by_test, key_eq-true, key_eq-refl, IsDistinct, distinct-distinct}
+use Rattle.part_laws.proofs.Words.{has-distinct, has-others_other, TypedQuery, Taking, takings, stream, values_at, use_of, taken_by, uses}
+use Rattle.part_laws.proofs.Words.{AreWhole, row_at, all_rows, tuple_of, tuples, stream_rows, some, joined-some, rows_used, not_number}
+use Rattle.part_laws.proofs.Words.{Partition, part_at, KeepsKeys}
 use mathlib.Core.List.{reverse_aux}
-use Rattle.std.specs.Prelude.{All}
-use Rattle.std.proofs.lemmas.List.Elements.{All-head, All-tail}
-use Rattle.std.proofs.lemmas.Bool.{true≢false, false≢true, lt-ltb, ltb-true}
-use Rattle.marple_base.specs.declared.field.TheConstants.{FIELDS}
-use Rattle.epoch_model.specs.Keys.{Key, ArgRow, key_eq, others, distinct, has}
 use Rattle.epoch_model.specs.Epochs.{Use, Geometry, is_refresh, refresh_between, is_rival, rivals, in_one_epoch, is_use_of, last_use}
 use Rattle.epoch_model.specs.Epochs.{since_last_use, goes_on, goes_on_after, onto_last, epochs_back, epochs}
-use Rattle.epoch_model.proofs.KeyLists.{by_test, key_eq-true, key_eq-refl, IsDistinct, distinct-distinct, has-distinct, has-others_other}
-use Rattle.query_lang.specs.declared.typed.TypedQuery.{TypedQuery}
-use Rattle.query_lang.specs.Streams.{Taking, takings, stream, values_at}
-use Rattle.query_types.specs.Uses.{use_of, taken_by, uses}
-use Rattle.stage_plan.specs.Packets.{AreWhole}
-use Rattle.stage_plan.proofs.StreamRows.{Row, row_at, all_rows, tuple_of, tuples, stream_rows}
+use Rattle.stage_plan.proofs.StreamRows.{Row}
 use Rattle.epoch_model.proofs.Cuts.{epochs-pieces, epochs_cut_the_rows_lem}
-use Rattle.epoch_model.proofs.TableRows.{some, joined-some}
-use Rattle.additive_laws.specs.TraceLaws.{rows_used}
-use Rattle.additive_laws.proofs.Counts.{not_number}
-use Rattle.part_laws.specs.Parts.{Partition, part_at, KeepsKeys}
 use Rattle.part_laws.specs.PartLaws.{PartsCutNoMore, ValidRowsAreTheParts}
 use Rattle.part_laws.proofs.Keeping.{parts_have_rows}
 use Rattle.part_laws.proofs.Tables.{one_epoch, valid_rows}

@@ -1,28 +1,21 @@
 -- The keys of a typed query that have a field's name are the packet's words of it.
-use Rattle.std.proofs.Common.{◌≡◌, ℕ, zero, suc, ◌<◌, true, cond, List, [], ◌∷◌, ◌++◌, length, map, filter, slice_index, Option, Some, None}
-use Rattle.std.proofs.Common.{refl, sym, ap, ◌∙◌, subst, arith}
-use Rattle.std.specs.Prelude.{All, is_some, slice_get, slice_index_or}
-use Rattle.std.specs.List.{cons_option}
-use Rattle.std.proofs.lemmas.List.{get_or-map}
+use Rattle.part_laws.proofs.Words.{◌≡◌, ℕ, zero, suc, ◌<◌, true, cond, List, [], ◌∷◌, ◌++◌, length, map, filter, Option, Some, None, refl}
+use Rattle.part_laws.proofs.Words.{sym, ap, ◌∙◌, subst, arith, All, is_some, slice_get, slice_index_or, cons_option, get_or-map, All-nil}
+use Rattle.part_laws.proofs.Words.{All-cons, All-head, All-tail, by_test, FIELDS, TypedQuery, Taking, taking_of, takings, use_of, taken_by}
+use Rattle.part_laws.proofs.Words.{uses, row_at, all_rows, tuple_of, stream_rows, groupbys, first_named, part_by, HasFieldKey}
+use Rattle.std.proofs.Common.{slice_index}
 use Rattle.std.proofs.lemmas.Option.{same_Some}
-use Rattle.std.proofs.lemmas.List.Elements.{All-nil, All-cons, All-head, All-tail}
 use Rattle.epoch_model.specs.Epochs.{Use}
-use Rattle.epoch_model.proofs.KeyLists.{by_test}
 use Rattle.marple_base.specs.declared.field.Field.{Field}
-use Rattle.marple_base.specs.declared.field.TheConstants.{FIELDS}
 use Rattle.query_lang.specs.declared.query.Query.{Query}
 use Rattle.query_lang.specs.declared.typed.TypedOp.{TypedOp}
 use Rattle.query_lang.specs.declared.typed.TypedOp.TheVariants as typed
-use Rattle.query_lang.specs.declared.typed.TypedQuery.{TypedQuery}
 use Rattle.query_lang.specs.declared.typed.TypedStream.{TypedStream}
-use Rattle.query_lang.specs.Streams.{Taking, taking_of, takings}
 use Rattle.query_laws.specs.QueryRules.{IsTyped}
-use Rattle.query_types.specs.Uses.{use_of, taken_by, uses}
-use Rattle.stage_plan.proofs.StreamRows.{Row, row_at, all_rows, tuple_of, stream_rows}
+use Rattle.stage_plan.proofs.StreamRows.{Row}
 use Rattle.net_laws.specs.Fields.{field_word, is_named, names_field}
 use Rattle.net_laws.proofs.Fields.{AlwaysTells, always_tells}
 use Rattle.net_laws.proofs.Rows.{SlotTells}
-use Rattle.part_laws.specs.Parts.{groupbys, first_named, part_by, HasFieldKey}
 use Rattle.part_laws.specs.PartLaws.{FieldsKeepKeys, FieldListsKeepKeys, FieldListsGiveTheParts}
 
 -- ---- keys

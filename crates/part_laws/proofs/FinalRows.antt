@@ -1,19 +1,10 @@
 -- What finals make of rows in the order of their keys, part by part.
-use Rattle.std.proofs.Common.{◌≡◌, ◌≢◌, All, ℕ, Bool, true, false, cond, ◌||◌, ◌==◌, List, [], ◌∷◌, ◌++◌, filter, flat_map, Option, Some}
-use Rattle.std.proofs.Common.{None, refl, sym, ap, ◌∙◌, subst, append-nil, length, arith}
-use Rattle.std.specs.Prelude.{find, option_map, slice_index}
-use Rattle.std.specs.List.{cons_option}
-use Rattle.std.proofs.lemmas.Bool.{true≢false, false≢true}
-use Rattle.std.proofs.lemmas.List.Elements.{All-nil, All-cons, All-head, All-tail}
-use Rattle.epoch_model.specs.declared.tables.Row.{Row}
-use Rattle.epoch_model.specs.Keys.{Key, key_eq, key_cmp}
-use Rattle.epoch_model.proofs.KeyLists.{by_test, key_eq-true}
-use Rattle.query_lang.specs.declared.fold.TypedExpr.{TypedExpr}
-use Rattle.query_lang.specs.Words.{holds}
-use Rattle.query_lang.specs.Streams.{expr_value}
-use Rattle.final_queries.specs.Finals.{columns_of, plain_row, is_of_key, filtered_rows, mapped_row, mapped_rows, joined_rows}
-use Rattle.additive_laws.specs.TraceLaws.{AreApart, has_number}
-use Rattle.additive_laws.proofs.Counts.{same_number, not_number, own_number}
+use Rattle.part_laws.proofs.Words.{◌≡◌, ◌≢◌, ℕ, Bool, true, false, cond, ◌||◌, ◌==◌, List, [], ◌∷◌, ◌++◌, filter, flat_map, Option, Some}
+use Rattle.part_laws.proofs.Words.{None, refl, sym, ap, ◌∙◌, subst, append-nil, length, arith, find, option_map, slice_index, cons_option}
+use Rattle.part_laws.proofs.Words.{true≢false, false≢true, All-nil, All-cons, All-head, All-tail, Row, Key, key_eq, key_cmp, by_test}
+use Rattle.part_laws.proofs.Words.{key_eq-true, TypedExpr, holds, expr_value, columns_of, plain_row, is_of_key, filtered_rows, mapped_row}
+use Rattle.part_laws.proofs.Words.{mapped_rows, joined_rows, AreApart, has_number, same_number, not_number, own_number}
+use Rattle.std.proofs.Common.{All}
 use Rattle.part_laws.specs.FinalParts.{by_key, rows_of_all, AreInTheirParts, FiltersAreOfParts, MapsAreOfParts, JoinsAreOfParts}
 use Rattle.part_laws.specs.FinalParts.{GroupbysAreNotOfParts}
 use Rattle.part_laws.proofs.Packetwise.{same_each}

@@ -1,21 +1,11 @@
 -- Whole tables have the rows of the parts' tables in the order of keys.
-use Rattle.std.proofs.Common.{◌≡◌, All, ℕ, Bool, true, false, cond, ◌||◌, ◌==◌, List, [], ◌∷◌, ◌++◌, map, filter, flat_map, refl, sym, ap}
-use Rattle.std.proofs.Common.{◌∙◌, subst}
-use Rattle.std.proofs.lemmas.Bool.{false≢true}
-use Rattle.std.proofs.lemmas.List.Elements.{All-nil, All-cons, All-head, All-tail}
-use Rattle.epoch_model.specs.declared.tables.Row.{Row}
-use Rattle.epoch_model.specs.Keys.{Key, key_eq, has, ascending}
+use Rattle.part_laws.proofs.Words.{◌≡◌, ℕ, Bool, true, false, cond, ◌||◌, ◌==◌, List, [], ◌∷◌, ◌++◌, map, filter, flat_map, refl, sym, ap}
+use Rattle.part_laws.proofs.Words.{◌∙◌, subst, false≢true, All-nil, All-cons, All-head, All-tail, Row, Key, key_eq, has, ascending, Folding}
+use Rattle.part_laws.proofs.Words.{exact_row, key_rows, keys_used, group_rows, by_test, key_eq-refl, ascending-ascends, has-ascending}
+use Rattle.part_laws.proofs.Words.{flat_map-single, TypedQuery, AreWhole, is_of_key, rows_used, has_number, own_number, Partition}
+use Rattle.part_laws.proofs.Words.{AreTheParts, KeepsKeys, part_uses}
+use Rattle.std.proofs.Common.{All}
 use Rattle.epoch_model.specs.Epochs.{Use, Geometry}
-use Rattle.epoch_model.specs.Tables.{Folding, exact_row, key_rows, keys_used, group_rows}
-use Rattle.epoch_model.proofs.KeyLists.{by_test, key_eq-refl}
-use Rattle.epoch_model.proofs.KeyOrder.{ascending-ascends, has-ascending}
-use Rattle.epoch_model.proofs.TableRows.{flat_map-single}
-use Rattle.query_lang.specs.declared.typed.TypedQuery.{TypedQuery}
-use Rattle.stage_plan.specs.Packets.{AreWhole}
-use Rattle.final_queries.specs.Finals.{is_of_key}
-use Rattle.additive_laws.specs.TraceLaws.{rows_used, has_number}
-use Rattle.additive_laws.proofs.Counts.{own_number}
-use Rattle.part_laws.specs.Parts.{Partition, AreTheParts, KeepsKeys, part_uses}
 use Rattle.part_laws.specs.PartLaws.{but_for_epochs}
 use Rattle.part_laws.specs.FinalParts.{AreInTheirParts, ExactTablesInOrder}
 use Rattle.part_laws.proofs.Packetwise.{same_each}

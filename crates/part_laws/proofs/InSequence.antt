@@ -1,17 +1,8 @@
 -- What the pieces of a trace give in sequence.
-use Rattle.std.proofs.Common.{◌≡◌, ℕ, List, map, flat_map, fold, slice_index, sym, ap, ◌∙◌}
-use Rattle.std.specs.List.{sum_by}
-use Rattle.epoch_model.specs.Keys.{Key}
-use Rattle.epoch_model.specs.Tables.{keys_used}
-use Rattle.epoch_model.proofs.KeyOrder.{ascending-ascends, has-ascending, same_ascending}
-use Rattle.epoch_model.proofs.TableRows.{some}
-use Rattle.query_lang.specs.declared.fold.TypedFold.{TypedFold}
-use Rattle.query_lang.specs.declared.typed.TypedQuery.{TypedQuery}
-use Rattle.query_lang.specs.Folds.{folded}
-use Rattle.query_types.specs.Uses.{uses}
-use Rattle.additive_laws.specs.Amounts.{amount, plus, zeros}
-use Rattle.additive_laws.specs.TraceLaws.{rows_used}
-use Rattle.part_laws.specs.Parts.{whole_rows}
+use Rattle.part_laws.proofs.Words.{◌≡◌, ℕ, List, map, flat_map, fold, sym, ap, ◌∙◌, sum_by, Key, keys_used, ascending-ascends}
+use Rattle.part_laws.proofs.Words.{has-ascending, same_ascending, some, TypedFold, TypedQuery, folded, uses, amount, plus, zeros, rows_used}
+use Rattle.part_laws.proofs.Words.{whole_rows}
+use Rattle.std.proofs.Common.{slice_index}
 use Rattle.part_laws.specs.PartLaws.{added, row_of_state}
 use Rattle.part_laws.specs.Pieces.{in_sequence, PiecesHaveTheRows, KeysAreOfAllPieces, AdditivePiecesAdd, StatesOfPiecesAdd, PieceWordsAdd}
 use Rattle.part_laws.specs.Pieces.{AdditivePiecesJoin}

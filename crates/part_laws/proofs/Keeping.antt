@@ -1,22 +1,10 @@
 -- A key's rows and its place in the table, where its packets all go to one part.
-use Rattle.std.proofs.Common.{◌≡◌, ◌≢◌, All, ℕ, zero, suc, ◌<◌, Bool, true, false, ◌||◌, ◌==◌, List, [], ◌∷◌, ◌++◌, length, map, flat_map}
-use Rattle.std.proofs.Common.{refl, sym, ap, ◌∙◌, arith, Contains}
-use Rattle.std.specs.Prelude.{slice_index_or}
-use Rattle.std.proofs.lemmas.Bool.{true≢false, false≢true}
-use Rattle.std.proofs.lemmas.List.Elements.{All-head, All-tail}
-use Rattle.marple_base.specs.declared.field.TheConstants.{FIELDS}
-use Rattle.epoch_model.specs.Keys.{Key, ArgRow, key_eq, has}
+use Rattle.part_laws.proofs.Words.{◌≡◌, ◌≢◌, ℕ, zero, suc, ◌<◌, Bool, true, false, ◌||◌, ◌==◌, List, [], ◌∷◌, ◌++◌, length, map, flat_map}
+use Rattle.part_laws.proofs.Words.{refl, sym, ap, ◌∙◌, arith, Contains, slice_index_or, true≢false, false≢true, All-head, All-tail, FIELDS}
+use Rattle.part_laws.proofs.Words.{Key, ArgRow, key_eq, has, keys_used, by_test, key_eq-true, key_eq-refl, has-ascending, some, TypedQuery}
+use Rattle.part_laws.proofs.Words.{uses, rows_used, same_number, not_number, AreWhole, Partition, part_at, KeepsKeys}
+use Rattle.std.proofs.Common.{All}
 use Rattle.epoch_model.specs.Epochs.{Use}
-use Rattle.epoch_model.specs.Tables.{keys_used}
-use Rattle.epoch_model.proofs.KeyLists.{by_test, key_eq-true, key_eq-refl}
-use Rattle.epoch_model.proofs.KeyOrder.{has-ascending}
-use Rattle.epoch_model.proofs.TableRows.{some}
-use Rattle.query_lang.specs.declared.typed.TypedQuery.{TypedQuery}
-use Rattle.query_types.specs.Uses.{uses}
-use Rattle.additive_laws.specs.TraceLaws.{rows_used}
-use Rattle.additive_laws.proofs.Counts.{same_number, not_number}
-use Rattle.stage_plan.specs.Packets.{AreWhole}
-use Rattle.part_laws.specs.Parts.{Partition, part_at, KeepsKeys}
 use Rattle.part_laws.specs.PartLaws.{PartsHaveTheRows, OtherPartsHaveNone, KeysAreOfTheirParts, KeysAreOfNoOtherPart}
 use Rattle.part_laws.proofs.Packetwise.{rows_of_one, rows_packetwise}
 

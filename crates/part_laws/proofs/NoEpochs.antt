@@ -1,15 +1,8 @@
 -- Finals make the same of rows, whatever their numbers of epochs.
-use Rattle.std.proofs.Common.{◌≡◌, ℕ, ◌+◌, cond, List, [], ◌∷◌, ◌++◌, map, filter, flat_map, Some, None, refl, sym, ap, ◌∙◌}
-use Rattle.std.specs.Prelude.{find, nat_lt}
-use Rattle.std.specs.List.{count_by}
-use Rattle.std.proofs.lemmas.List.Sums.{sum_by-cons}
-use Rattle.epoch_model.specs.declared.tables.Row.{Row}
-use Rattle.epoch_model.specs.Keys.{Key, key_eq, ascending}
-use Rattle.epoch_model.proofs.KeyLists.{by_test}
-use Rattle.query_lang.specs.Words.{holds}
-use Rattle.query_lang.specs.Folds.{folded, initial_state}
-use Rattle.query_lang.specs.Streams.{expr_value, values_at}
-use Rattle.final_queries.specs.Finals.{columns_of, plain_row, is_of_key, mapped_row, grouped_key, grouped_args, goes_before}
+use Rattle.part_laws.proofs.Words.{◌≡◌, ℕ, ◌+◌, cond, List, [], ◌∷◌, ◌++◌, map, filter, flat_map, Some, None, refl, sym, ap, ◌∙◌, find}
+use Rattle.part_laws.proofs.Words.{nat_lt, count_by, sum_by-cons, Row, Key, key_eq, ascending, by_test, holds, folded, initial_state}
+use Rattle.part_laws.proofs.Words.{expr_value, values_at, columns_of, plain_row, is_of_key, mapped_row, grouped_key, grouped_args}
+use Rattle.part_laws.proofs.Words.{goes_before}
 use Rattle.part_laws.specs.PartLaws.{but_for_epochs}
 use Rattle.part_laws.specs.FinalParts.{FiltersReadNoEpochs, MapsReadNoEpochs, GroupbysReadNoEpochs, JoinsReadNoEpochs, TopsReadNoEpochs}
 use Rattle.part_laws.proofs.FinalRows.{one_joined, with_found, joined_each}

@@ -1,16 +1,9 @@
 -- Rows in the order of their keys, and what is made of each row alone.
-use Rattle.std.proofs.Common.{◌≡◌, Bool, true, false, cond, ◌&&◌, ◌||◌, List, [], ◌∷◌, ◌++◌, map, filter, flat_map, refl, sym, ap, ◌∙◌}
-use Rattle.std.specs.declared.cmp.Ordering.TheVariants.{Less, Equal}
-use Rattle.std.proofs.lemmas.Bool.{true≢false}
-use Rattle.std.proofs.lemmas.Cmp.{nat_list_cmp_total, tied_itself}
+use Rattle.part_laws.proofs.Words.{◌≡◌, Bool, true, false, cond, ◌&&◌, ◌||◌, List, [], ◌∷◌, ◌++◌, map, filter, flat_map, refl, sym, ap, ◌∙◌}
+use Rattle.part_laws.proofs.Words.{Less, Equal, true≢false, nat_list_cmp_total, tied_itself, filter-append, Row, Key, key_eq, key_cmp, has}
+use Rattle.part_laws.proofs.Words.{ascending, AreAbove, IsAscending, by_test, key_eq-true, ascending-ascends, has-ascending, same_ascending}
+use Rattle.part_laws.proofs.Words.{some, is_of_key}
 use Rattle.std.proofs.lemmas.Grind.{flat_map-append}
-use Rattle.std.proofs.lemmas.List.Elements.{filter-append}
-use Rattle.epoch_model.specs.declared.tables.Row.{Row}
-use Rattle.epoch_model.specs.Keys.{Key, key_eq, key_cmp, has, ascending, AreAbove, IsAscending}
-use Rattle.epoch_model.proofs.KeyLists.{by_test, key_eq-true}
-use Rattle.epoch_model.proofs.KeyOrder.{ascending-ascends, has-ascending, same_ascending}
-use Rattle.epoch_model.proofs.TableRows.{some}
-use Rattle.final_queries.specs.Finals.{is_of_key}
 use Rattle.part_laws.specs.FinalParts.{by_key}
 
 -- ---- lists

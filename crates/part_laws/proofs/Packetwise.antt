@@ -1,13 +1,8 @@
 -- What a trace gives a key is what its packets give it in sequence.
-use Rattle.std.proofs.Common.{◌≡◌, ℕ, suc, List, [], ◌∷◌, ◌++◌, map, flat_map, Option, Some, None, refl, sym, ap, ◌∙◌}
-use Rattle.std.specs.Prelude.{slice_get}
-use Rattle.epoch_model.specs.Keys.{Key, ArgRow, key_eq}
-use Rattle.epoch_model.proofs.KeyLists.{by_test}
-use Rattle.query_lang.specs.declared.typed.TypedQuery.{TypedQuery}
-use Rattle.query_lang.specs.Streams.{Taking, takings, values_at}
-use Rattle.query_types.specs.Uses.{use_of, taken_by, uses}
-use Rattle.stage_plan.proofs.StreamRows.{Row, row_at, all_rows, tuple_of, tuples, stream_rows}
-use Rattle.additive_laws.specs.TraceLaws.{rows_used}
+use Rattle.part_laws.proofs.Words.{◌≡◌, ℕ, suc, List, [], ◌∷◌, ◌++◌, map, flat_map, Option, Some, None, refl, sym, ap, ◌∙◌, slice_get, Key}
+use Rattle.part_laws.proofs.Words.{ArgRow, key_eq, by_test, TypedQuery, Taking, takings, values_at, use_of, taken_by, uses, row_at}
+use Rattle.part_laws.proofs.Words.{all_rows, tuple_of, tuples, stream_rows, rows_used}
+use Rattle.stage_plan.proofs.StreamRows.{Row}
 
 -- what one packet gives the key
 abbrev pub rows_of_one : TypedQuery → ℕ → Key → List ℕ → List ArgRow

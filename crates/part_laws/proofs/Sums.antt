@@ -1,13 +1,8 @@
 -- Sums over packets, part by part.
-use Rattle.std.proofs.Common.{◌≡◌, ℕ, ◌+◌, true, false, ◌==◌, All, List, [], ◌∷◌, flat_map, refl, sym, ap, ◌∙◌, subst, arith}
-use Rattle.std.specs.List.{sum_by}
-use Rattle.std.proofs.lemmas.Bool.{true≢false, false≢true}
-use Rattle.std.proofs.lemmas.List.Elements.{All-head, All-tail}
-use Rattle.std.proofs.lemmas.List.Sums.{sum_by-cons, sum_by-append}
-use Rattle.epoch_model.proofs.KeyLists.{by_test}
-use Rattle.additive_laws.specs.TraceLaws.{AreApart, has_number}
-use Rattle.additive_laws.proofs.Counts.{same_number, not_number, own_number}
-use Rattle.part_laws.specs.Parts.{Partition, part_at}
+use Rattle.part_laws.proofs.Words.{◌≡◌, ℕ, ◌+◌, true, false, ◌==◌, List, [], ◌∷◌, flat_map, refl, sym, ap, ◌∙◌, subst, arith, sum_by}
+use Rattle.part_laws.proofs.Words.{true≢false, false≢true, All-head, All-tail, sum_by-cons, sum_by-append, by_test, AreApart, has_number}
+use Rattle.part_laws.proofs.Words.{same_number, not_number, own_number, Partition, part_at}
+use Rattle.std.proofs.Common.{All}
 
 pub zeros_sum : {X : Type 0} (xs : List X) → sum_by (λ x. 0) xs ≡ 0
 zeros_sum [] = refl

@@ -1,21 +1,12 @@
 -- The table rows of a key in its part, and tables of parts together.
-use Rattle.std.proofs.Common.{◌≡◌, ℕ, Bool, true, false, ◌||◌, List, [], ◌∷◌, ◌++◌, length, map, flat_map, refl, sym, ap, ◌∙◌, arith}
-use Rattle.std.proofs.Common.{append-nil}
-use Rattle.std.specs.List.{sum_by}
-use Rattle.std.proofs.lemmas.List.{map-append}
+use Rattle.part_laws.proofs.Words.{◌≡◌, ℕ, Bool, true, false, ◌||◌, List, [], ◌∷◌, ◌++◌, length, map, flat_map, refl, sym, ap, ◌∙◌, arith}
+use Rattle.part_laws.proofs.Words.{append-nil, sum_by, map-append, Row, Key, ArgRow, key_eq, has, ascending, Folding, epoch_rows, exact_row}
+use Rattle.part_laws.proofs.Words.{key_rows, keys_used, ascending-ascends, has-ascending, same_ascending, some, TypedQuery, uses, rows_used}
+use Rattle.part_laws.proofs.Words.{Partition, part_at, AreTheParts}
 use Rattle.std.proofs.lemmas.List.Concat.{length-flat_map}
-use Rattle.epoch_model.specs.declared.tables.Row.{Row}
-use Rattle.epoch_model.specs.Keys.{Key, ArgRow, key_eq, has, ascending}
 use Rattle.epoch_model.specs.Epochs.{Use, Geometry, epochs}
-use Rattle.epoch_model.specs.Tables.{Folding, epoch_rows, exact_row, key_rows, keys_used}
 use Rattle.epoch_model.proofs.Cuts.{epochs_cut_the_rows_lem}
-use Rattle.epoch_model.proofs.KeyOrder.{ascending-ascends, has-ascending, same_ascending}
-use Rattle.epoch_model.proofs.TableRows.{some}
 use Rattle.additive_laws.proofs.StoreTables.{same_some}
-use Rattle.query_lang.specs.declared.typed.TypedQuery.{TypedQuery}
-use Rattle.query_types.specs.Uses.{uses}
-use Rattle.additive_laws.specs.TraceLaws.{rows_used}
-use Rattle.part_laws.specs.Parts.{Partition, part_at, AreTheParts}
 use Rattle.part_laws.specs.PartLaws.{but_for_epochs, valid_row, ExactRowsAreTheParts, ValidRowsFoldTheWhole, KeysAreOfAllParts}
 use Rattle.part_laws.specs.PartLaws.{ExactTablesJoin}
 use Rattle.part_laws.proofs.Packetwise.{rows_of_one, rows_packetwise, same_each}

@@ -1,20 +1,12 @@
 -- `top` of all rows is `top` of the parts' top rows.
-use Rattle.std.proofs.Common.{◌≡◌, ℕ, ◌+◌, ◌<◌, Bool, true, false, cond, ◌||◌, ◌&&◌, ◌==◌, nat_lt, List, [], ◌∷◌, map, filter, flat_map}
-use Rattle.std.proofs.Common.{◌⊎◌, inl, inr, refl, sym, ap, ◌∙◌, arith}
-use Rattle.std.specs.List.{sum_by, count_by}
+use Rattle.part_laws.proofs.Words.{◌≡◌, ℕ, ◌+◌, ◌<◌, Bool, true, false, cond, ◌||◌, ◌&&◌, ◌==◌, List, [], ◌∷◌, map, filter, flat_map, ◌⊎◌}
+use Rattle.part_laws.proofs.Words.{inl, inr, refl, sym, ap, ◌∙◌, arith, sum_by, count_by, Less, true≢false, false≢true, nat_tests}
+use Rattle.part_laws.proofs.Words.{nat_list_cmp_total, filter_agree, sum_by-cons, Row, Key, key_eq, key_cmp, has, ascending, IsAscending}
+use Rattle.part_laws.proofs.Words.{by_test, key_eq-true, key_eq-refl, ascending-ascends, has-ascending, plain_row, is_of_key, column_at}
+use Rattle.part_laws.proofs.Words.{goes_before, top_rows}
+use Rattle.std.proofs.Common.{nat_lt}
 use Rattle.std.specs.declared.cmp.Ordering.{Ordering}
-use Rattle.std.specs.declared.cmp.Ordering.TheVariants.{Less}
 use Rattle.std.specs.Ordering.{is_lt}
-use Rattle.std.proofs.lemmas.Bool.{true≢false, false≢true}
-use Rattle.std.proofs.lemmas.Bool.Decides.{nat_tests}
-use Rattle.std.proofs.lemmas.Cmp.{nat_list_cmp_total}
-use Rattle.std.proofs.lemmas.List.Elements.{filter_agree}
-use Rattle.std.proofs.lemmas.List.Sums.{sum_by-cons}
-use Rattle.epoch_model.specs.declared.tables.Row.{Row}
-use Rattle.epoch_model.specs.Keys.{Key, key_eq, key_cmp, has, ascending, IsAscending}
-use Rattle.epoch_model.proofs.KeyLists.{by_test, key_eq-true, key_eq-refl}
-use Rattle.epoch_model.proofs.KeyOrder.{ascending-ascends, has-ascending}
-use Rattle.final_queries.specs.Finals.{plain_row, is_of_key, column_at, goes_before, top_rows}
 use Rattle.part_laws.specs.FinalParts.{by_key, TopsAreOfTops}
 use Rattle.part_laws.proofs.Sums.{zeros_sum, sum_joined}
 use Rattle.part_laws.proofs.Tables.{map_joined}

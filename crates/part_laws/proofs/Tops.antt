@@ -1,13 +1,8 @@
 -- The top rows of all parts are among the parts' own top rows.
-use Rattle.std.proofs.Common.{◌≡◌, ℕ, zero, suc, ◌+◌, ◌≤◌, ◌<◌, Bool, true, false, cond, nat_lt, min, List, [], ◌∷◌, ◌++◌, filter, flat_map}
-use Rattle.std.proofs.Common.{◌⊎◌, inl, inr, refl, sym, ap, ◌∙◌, arith}
-use Rattle.std.specs.List.{count_by}
-use Rattle.std.proofs.lemmas.Bool.{false≢true}
-use Rattle.std.proofs.lemmas.Bool.Decides.{nat_tests}
-use Rattle.std.proofs.lemmas.List.Sums.{sum_by-cons}
-use Rattle.epoch_model.proofs.KeyLists.{by_test}
-use Rattle.additive_laws.specs.TraceLaws.{has_number}
-use Rattle.additive_laws.proofs.Counts.{same_number}
+use Rattle.part_laws.proofs.Words.{◌≡◌, ℕ, zero, suc, ◌+◌, ◌≤◌, ◌<◌, Bool, true, false, cond, min, List, [], ◌∷◌, ◌++◌, filter, flat_map}
+use Rattle.part_laws.proofs.Words.{◌⊎◌, inl, inr, refl, sym, ap, ◌∙◌, arith, count_by, false≢true, nat_tests, sum_by-cons, by_test}
+use Rattle.part_laws.proofs.Words.{has_number, same_number}
+use Rattle.std.proofs.Common.{nat_lt}
 use Rattle.part_laws.proofs.Ordered.{filter_joined}
 use Rattle.part_laws.proofs.FinalRows.{same_members}
 

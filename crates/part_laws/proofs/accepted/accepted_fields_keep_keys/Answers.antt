@@ -1,5 +1,4 @@
-use Rattle.query_laws.proofs.QueryLaws.{query_sound}
-use Rattle.query_laws.proofs.Valid.{parts}
+use Rattle.part_laws.proofs.Words.{query_sound, parts}
 use Rattle.part_laws.proofs.accepted.accepted_fields_keep_keys.Goals as goal
 
 pub returns : goal.returns

@@ -1,7 +1,4 @@
-use Rattle.std.proofs.Common.{sym, ◌∙◌}
-use Rattle.query_laws.proofs.QueryLaws.{query_sound}
-use Rattle.query_laws.proofs.Valid.{parts}
-use Rattle.part_laws.specs.Parts.{by_fields}
+use Rattle.part_laws.proofs.Words.{sym, ◌∙◌, query_sound, parts, by_fields}
 use Rattle.part_laws.proofs.accepted.accepted_tables_are_in_order.Goals as goal
 
 pub returns : goal.returns

@@ -1,4 +1,4 @@
-use Rattle.part_laws.specs.Parts.{KeepsKeys, by_fields}
+use Rattle.part_laws.proofs.Words.{KeepsKeys, by_fields}
 use Rattle.part_laws.proofs.accepted.accepted_tables_join.Goals as goal
 
 pub returns : goal.returns
