@@ -2,7 +2,6 @@
 use Rattle.std.proofs.Common.{◌≡◌, ℕ, zero, suc, ◌+◌, List, [], ◌∷◌, Some, length, map, sym, ap, ◌∙◌, subst}
 use Rattle.std.proofs.Common.{arith}
 use Rattle.std.specs.Prelude.{slice_get}
-use Rattle.marple_base.specs.declared.field.TheConstants.{FIELDS}
 use Rattle.query_lang.specs.declared.fold.TypedFold.{TypedFold}
 use Rattle.epoch_model.specs.Epochs.{Geometry}
 use Rattle.epoch_model.specs.Laws.{HasRoom}
@@ -43,8 +42,7 @@ module _ (plan : PlanParts) (buckets : ℕ) (sound : IsSoundPlan plan) where
       (f : TypedFold) (at : slice_get plan.groups number ≡ Some group)
       (bounded : IsBoundedGroup f group) (given : TakesWords (events number)) where
     heading : IsHeadingOf f (heading_of group)
-    heading = let known = group_sound plan number group sound at in heading_is (FIELDS + length plan.ops) group known.0 f known.2
-        bounded.program
+    heading = let known = group_sound _ _ _ sound at in heading_is _ _ _ f known.2 bounded.program
 
     one_holds : (n : ℕ) (lane : LaneView) → IsLane n lane group → IsSwept (run g (events number) (empty_machine g))
         → HoldsAfter f (events number) (shown (table_of group lane (run g (events number) (empty_machine g))))
@@ -54,10 +52,9 @@ module _ (plan : PlanParts) (buckets : ℕ) (sound : IsSoundPlan plan) where
         heading bounded.program.valid bounded.bounded bounded.words given
 
     pub holds_from : (k j i : ℕ) (lanes : List LaneView) (groups : List GroupPlan) (t : Enclosed) → number ≡ k + i
-        → EachFrom IsLane k lanes groups
-        → EachFrom (λ n. IsDone) j lanes (after_events g events k (empty_machines g groups)) → slice_get groups i ≡ Some group
-        → slice_get (map shown (tables_of groups (map folding_at lanes) (after_events g events k (empty_machines g groups)))) i ≡ Some t
-        → HoldsAfter f (events number) t
+        → EachFrom IsLane k lanes groups → EachFrom (λ n. IsDone) j lanes (after_events g events k (empty_machines g groups))
+        → slice_get groups i ≡ Some group → slice_get (map shown (tables_of groups (map folding_at lanes)
+        (after_events g events k (empty_machines g groups)))) i ≡ Some t → HoldsAfter f (events number) t
     holds_from k j i [] [] t e of_lanes done here found = absurd (none i here)
       where
         none : (i : ℕ) → slice_get {X = GroupPlan} [] i ≡ Some group → ⊥

@@ -64,18 +64,18 @@ module _ (f : TypedFold) (g : Geometry) (given : List Use) where
 
   whole_rows : class_of f ≡ Linear → (keys : List Key) → flat_map (key_rows (folding_of f) g given) keys ≡ map whole_row keys
   whole_rows e [] = refl
-  whole_rows e (key ∷ keys) = ap (λ rows. rows ++ flat_map (key_rows (folding_of f) g given) keys) (one_whole_row e key)
+  whole_rows e (key ∷ keys) = ap (λ rows. rows ++ flat_map (key_rows (folding_of f) g given) keys) (one_whole_row e _)
       ∙ ap (λ rows. whole_row key ∷ rows) (whole_rows e keys)
 
   keys_whole : (keys : List Key) → map (λ (row : Row). row.key) (map whole_row keys) ≡ keys
   keys_whole [] = refl
-  keys_whole (key ∷ keys) = ap (λ ks. key ∷ ks) (keys_whole keys)
+  keys_whole (key ∷ keys) = ap (λ ks. key ∷ ks) (keys_whole _)
 
   abbrev RowHolds : Row → Type 0
   RowHolds row = row.values ≡ key_fold f given row.key
 
   rows_whole : (keys : List Key) → All RowHolds (map whole_row keys)
-  rows_whole keys = All-map RowHolds whole_row keys (λ k d lt. refl)
+  rows_whole keys = All-map RowHolds _ keys (λ k d lt. refl)
 
   -- the table of bounds of a monotone fold
 
@@ -85,22 +85,22 @@ module _ (f : TypedFold) (g : Geometry) (given : List Use) where
   rows_bounded : KeyBoundsEnclose → IsValidFold f → is_bounded Other f ≡ true → AreWords (initial_state f)
       → All (λ (u : Use). AreWords u.row) given → All BoundsHold (map (key_bounds f g given) (keys_used given))
   rows_bounded law valid mono words rows =
-      All-map BoundsHold (key_bounds f g given) (keys_used given)
+      All-map BoundsHold _ (keys_used given)
       (λ k d lt. let key = get_or (keys_used given) k d in
       law f g given key valid mono words
-      (All-map AreWords (λ (u : Use). u.row) (filter (is_use_of key) given)
-      (All-filter (is_use_of key) (λ (u : Use). AreWords u.row) given rows))
-      (some_rows given k d lt))
+      (All-map AreWords _ (filter (is_use_of key) given)
+      (All-filter _ (λ (u : Use). AreWords u.row) given rows))
+      (some_rows _ k d lt))
 
   one_holds : KeyBoundsEnclose → IsValidFold f → is_bounded (class_of f) f ≡ true → AreWords (initial_state f)
       → All (λ (u : Use). AreWords u.row) given
       → (heading : Heading) (class : Class) → class_of f ≡ class → HoldsOver f given (enclosed_by class heading f g given)
   one_holds law valid bounded words rows heading Linear e = record {
-    keys = ap (map (λ (row : Row). row.key)) (whole_rows e (keys_used given)) ∙ keys_whole (keys_used given);
-    rows = subst (All RowHolds) (sym (whole_rows e (keys_used given))) (rows_whole (keys_used given));
+    keys = ap (map (λ (row : Row). row.key)) (whole_rows e _) ∙ keys_whole _;
+    rows = subst (All RowHolds) (sym (whole_rows e _)) (rows_whole _);
   }
   one_holds law valid bounded words rows heading Other e = record {
-    keys = keys_bounded f g given (keys_used given);
+    keys = keys_bounded f g _ _;
     rows = rows_bounded law valid (sym (ap (λ c. is_bounded c f) e) ∙ bounded) words rows;
   }
 
@@ -133,7 +133,7 @@ module _ (q : TypedQuery) (g : Geometry) (packets : List (List ℕ)) (number : �
 
 -- a fold that is there is one of the query's
 within_takings : (q : TypedQuery) (i : ℕ) (f : TypedFold) → fold_at q i ≡ Some f → i < length (takings q.streams)
-within_takings q i f e = by_taking (slice_get (takings q.streams) i) refl e
+within_takings q i f e = by_taking _ refl e
   where
     by_taking : (o : Option Taking) → slice_get (takings q.streams) i ≡ o
         → option_and_then (λ (t : Taking). slice_get q.folds t.fold_number) o ≡ Some f → i < length (takings q.streams)
@@ -141,11 +141,11 @@ within_takings q i f e = by_taking (slice_get (takings q.streams) i) refl e
     by_taking (Some t) is e = slice_get_within (takings q.streams) i t is
 
 one_of : (P : TypedFold → Type 0) (q : TypedQuery) (i : ℕ) (f : TypedFold) → All P q.folds → fold_at q i ≡ Some f → P f
-one_of P q i f all e = by_taking (slice_get (takings q.streams) i) e
+one_of P q i f all e = by_taking _ e
   where
     by_taking : (o : Option Taking) → option_and_then (λ (t : Taking). slice_get q.folds t.fold_number) o ≡ Some f → P f
     by_taking None e = absurd cc
-    by_taking (Some t) e = subst P (get_or_from_slice_get q.folds t.fold_number f f e)
+    by_taking (Some t) e = subst P (get_or_from_slice_get _ t.fold_number f f e)
         (all t.fold_number f (slice_get_within q.folds t.fold_number f e))
 
 pub tables_hold : KeyBoundsEnclose → NoFaultMeansBounds → ShownTablesHold

@@ -11,13 +11,12 @@ use Rattle.query_lang.specs.TypedQueries.{IsValidQuery, group_shape}
 use Rattle.query_types.specs.Uses.{uses}
 use Rattle.epoch_model.specs.Epochs.{Use, Geometry}
 use Rattle.epoch_model.specs.Keys.{Key, IsAscending}
-use Rattle.epoch_model.specs.Tables.{keys_used}
 use Rattle.epoch_model.proofs.KeyOrder.{ascending-ascends}
 use Rattle.epoch_entry.specs.Foldings.{folding_of}
 use Rattle.fold_class.specs.Kinds.{class_of}
 use Rattle.final_queries.specs.declared.table.Table.{Table}
 use Rattle.final_queries.specs.declared.table.TableKind.{TableKind}
-use Rattle.final_queries.specs.declared.table.TableKind.TheVariants.{Group, Final}
+use Rattle.final_queries.specs.declared.table.TableKind.TheVariants.{Group}
 use Rattle.final_queries.specs.Finals.{IsTable, table_shape}
 use Rattle.final_queries.specs.GroupTable.{group_table}
 use Rattle.stage_plan.specs.Planned.{fold_at}
@@ -35,7 +34,7 @@ use Rattle.enclosed_query.specs.Reading.{IsWhole, EnclosedTablesAreRead}
 pub keys_bounded : (f : TypedFold) (g : Geometry) (given : List Use) (keys : List Key)
     → map (λ (row : BoundsRow). row.key) (map (key_bounds f g given) keys) ≡ keys
 keys_bounded f g given [] = refl
-keys_bounded f g given (key ∷ keys) = ap (λ ks. key ∷ ks) (keys_bounded f g given keys)
+keys_bounded f g given (key ∷ keys) = ap (λ ks. key ∷ ks) (keys_bounded f g _ _)
 
 module _ (exact : ExactTablesAreRead) (q : TypedQuery) (g : Geometry) (packets : List (List ℕ)) where
   one_read : (class : Class) (shape : GroupShape) (f : TypedFold) (given : List Use)
@@ -44,7 +43,7 @@ module _ (exact : ExactTablesAreRead) (q : TypedQuery) (g : Geometry) (packets :
       → IsTable (table_read (enclosed_by class (heading_of_shape shape) f g given))
   one_read Linear shape f given table whole = table
   one_read Other shape f given table whole =
-      exact (bounds_table (heading_of_shape shape) f g given) whole (subst IsAscending (sym (keys_bounded f g given (keys_used given)))
+      exact (bounds_table (heading_of_shape shape) f g given) whole (subst IsAscending (sym (keys_bounded f g _ _))
       (ascending-ascends (map (λ u. u.key) given)))
 
   read_if : (o : Option TypedFold) (i : ℕ) (shape : GroupShape) (shapes : List GroupShape)
@@ -92,8 +91,7 @@ module _ (q : TypedQuery) (g : Geometry) (packets : List (List ℕ)) where
   shapes_from i (shape ∷ shapes) = shapes_if (fold_at q i) i shape shapes (shapes_from (suc i) shapes)
 
 all_read : QueryTablesAreRead → ExactTablesAreRead → (q : TypedQuery) (g : Geometry) (packets : List (List ℕ)) → IsValidQuery q
-    → All IsWhole (enclosed_tables q g packets)
-    → All IsTable (map table_read (enclosed_tables q g packets))
+    → All IsWhole (enclosed_tables q g packets) → All IsTable (map table_read (enclosed_tables q g packets))
 unfolding enclosed_tables group_tables
 all_read law exact q g packets valid whole = read_from exact q g packets 0 (query_groups q) (law q g packets valid).0 whole
 
@@ -108,9 +106,8 @@ tables_read law exact = record { read = all_read law exact; shapes = all_shapes 
 -- the tables of bounds that are shown are whole
 
 one_whole : TriplesGiveWholeTables → (kind : TableKind) (t : Table) → MayBeShownBy kind t → IsWhole (shown_by kind t)
-one_whole law (Group Linear depth epochs) t may = tt
 one_whole law (Group Other depth epochs) t may = law t may.triples may.some_keys may.most_keys
-one_whole law Final t may = tt
+one_whole law _ t may = tt
 
 pub all_whole : TriplesGiveWholeTables → (tables : List Table) → All MayBeShown tables → All IsWhole (map shown tables)
 all_whole law [] may = All-nil IsWhole

@@ -1,34 +1,30 @@
 -- The tables of what the lanes of a pipeline for bounds hold may be shown, whatever they hold.
-use Rattle.std.proofs.Common.{◌≡◌, ℕ, suc, ◌+◌, ◌*◌, ◌==◌, ◌||◌, Bool, true, false, List, [], ◌∷◌, ◌++◌, Some, length, map, drop, refl, sym}
-use Rattle.std.proofs.Common.{ap, ◌∙◌, subst, arith, length-append}
+use Rattle.std.proofs.Common.{◌≡◌, ℕ, suc, ◌+◌, ◌*◌, ◌==◌, ◌||◌, Bool, true, false, List, [], ◌∷◌, Some, length, map, drop, refl, sym, ap}
+use Rattle.std.proofs.Common.{◌∙◌, subst, arith, length-append}
 use Rattle.std.specs.List.{All, flat_map}
 use Rattle.std.specs.Prelude.{slice_get, sum_by}
 use Rattle.std.proofs.Math.Logic.{∥∥₁_elim}
 use Rattle.std.proofs.Props.{props}
 use Rattle.std.proofs.lemmas.Bool.{false≢true}
 use Rattle.std.proofs.lemmas.List.Elements.{All-nil, All-cons, All-head, All-tail, All-append, All-map, All-weaker}
-use Rattle.marple_base.specs.declared.field.TheConstants.{FIELDS}
 use Rattle.query_lang.specs.declared.fold.TypedFold.{TypedFold}
 use Rattle.query_lang.specs.declared.typed.Class.{Class}
 use Rattle.query_lang.specs.declared.typed.Class.TheVariants as class
-use Rattle.query_lang.specs.Folds.{fold_states}
 use Rattle.epoch_model.specs.declared.tables.Mark.TheVariants.{Plain}
 use Rattle.epoch_model.specs.declared.tables.Row.{Row}
 use Rattle.epoch_model.specs.Tables.{epochs_shown}
-use Rattle.epoch_model.specs.Keys.{Key, ascending, has, key_eq}
+use Rattle.epoch_model.specs.Keys.{Key, ascending, has}
 use Rattle.epoch_model.proofs.KeyLists.{by_test, key_eq-true}
 use Rattle.epoch_model.proofs.KeyOrder.{has-ascending}
 use Rattle.backing_store.specs.Merged.{epochs_in, shown_row}
 use Rattle.backing_store.specs.SortedRows.{numbered, stored_rows, sorted_rows}
 use Rattle.backing_store.specs.Store.{Store, StoredKey, StoredRow, IsStore, AreKeysOf, AreRowsOf, number_of, states_at, states_of}
-use Rattle.fold_class.specs.Kinds.{class_of}
 use Rattle.epoch_entry.specs.declared.purpose.Entries.TheVariants.{Bounds}
 use Rattle.epoch_entry.specs.contracts.any.AnyEpochsEpochKind.TheImpl.{ghosts}
 use Rattle.epoch_entry.specs.Purposes.{IsBoundingKind}
 use Rattle.final_queries.specs.declared.table.Table.{Table}
 use Rattle.final_queries.specs.declared.table.TableKind.TheVariants.{Group}
 use Rattle.final_queries.specs.Finals.{HasColumns}
-use Rattle.final_queries.specs.GroupTable.{Heading}
 use Rattle.stage_plan.specs.declared.group.GroupPlan.{GroupPlan}
 use Rattle.stage_plan.specs.Planned.{wiring_at}
 use Rattle.stage_plan.specs.Sound.{PlanParts, IsSoundPlan}
@@ -50,20 +46,17 @@ keys_of keys = map (λ stored. stored.key) keys
 
 key_from : (n : ℕ) (keys : List StoredKey) → AreKeysOf n keys → (key : Key) → has key (keys_of keys) ≡ true → length key ≡ n
 key_from n [] all key e = absurd (false≢true e)
-key_from n (stored ∷ keys) all key e = by_test (key_eq stored.key key)
-    (λ t. subst (λ k. length k ≡ n) (key_eq-true stored.key key t) all.0.size)
+key_from n (stored ∷ keys) all key e = by_test _ (λ t. subst (λ k. length k ≡ n) (key_eq-true _ _ t) all.0.size)
     (λ t. key_from n keys all.1 key (sym (ap (λ b. b || has key (keys_of keys)) t) ∙ e))
 
 keys_have : (n : ℕ) (keys : List StoredKey) → AreKeysOf n keys → All (λ key. length key ≡ n) (ascending (keys_of keys))
-keys_have n keys all = all_of (λ key. length key ≡ n) (ascending (keys_of keys))
-    (λ key e. key_from n keys all key (sym (has-ascending key (keys_of keys)) ∙ e))
+keys_have n keys all = all_of _ _ (λ key e. key_from n _ all _ (sym (has-ascending _ _) ∙ e))
 
 states_have : (keys n number : ℕ) (rows : List StoredRow) → AreRowsOf keys n rows → All (λ state. length state ≡ n) (states_at rows number)
 states_have keys n number [] all = All-nil (λ (state : List ℕ). length state ≡ n)
 states_have keys n number (row ∷ rows) all = by_test (row.key == number)
     (λ t. rw t (All-cons (λ (state : List ℕ). length state ≡ n) row.words (states_at rows number) all.1
-    (states_have keys n number rows all.2)))
-    (λ t. rw t (states_have keys n number rows all.2))
+    (states_have keys n number rows all.2))) (λ t. rw t (states_have keys n number rows all.2))
 
 -- so its rows have them too
 
@@ -94,9 +87,9 @@ all_have : (per_epoch : Bool) (store : Store) → IsStore store
     → All (HasColumns store.key_words store.state_words) (map (shown_row per_epoch) (sorted_rows store))
 all_have per_epoch store is =
     let P = HasColumns store.key_words store.state_words in
-    All-map P (shown_row per_epoch) (sorted_rows store)
-    (All-weaker P (λ row. P (shown_row per_epoch row)) (λ row has. shown_has store.key_words store.state_words per_epoch row has)
-    (sorted_rows store) (rows_have store (ascending (keys_of store.keys)) is (keys_have store.key_words store.keys is.keys)))
+    All-map P _ (sorted_rows store)
+    (All-weaker P (λ row. P (shown_row per_epoch row)) (λ row has. shown_has _ _ _ _ has)
+    (sorted_rows store) (rows_have _ (ascending (keys_of store.keys)) is (keys_have _ _ is.keys)))
 
 -- whether a table may be shown is a proposition
 may_prop : (c : Class) (depth epochs : ℕ) (t : Table) → IsProp (MayBeShownBy (Group c depth epochs) t)
@@ -114,17 +107,16 @@ module _ (plan : PlanParts) (buckets : ℕ) (sound : IsSoundPlan plan) where
   abbrev epochs_of : GroupPlan → LaneView → ℕ
   epochs_of group lane = epochs_shown (sum_by (epochs_in (folding_at lane).row_per_epoch) (sorted_rows lane.store))
 
-  triples : (group : GroupPlan) (lane : LaneView) (states : ℕ) → length group.state_names ≡ states
-      → (ghosts.sizes lane.kind).state ≡ 3 * states → lane.cache.key_words ≡ length group.key_names → HasStoredRows lane
-      → HasTriples (table_of group lane)
+  triples : (group : GroupPlan) (lane : LaneView) (states : ℕ) → length group.state_names ≡ states → (ghosts.sizes lane.kind).state ≡ 3
+      * states → lane.cache.key_words ≡ length group.key_names → HasStoredRows lane → HasTriples (table_of group lane)
   triples group lane states named sized words has =
       let wide = length-append group.key_names group.state_names in
       let three : lane.store.state_words ≡ 3 * states_in (table_of group lane) =
-      has.state ∙ (sized ∙ (let e : 3 * states ≡ 3 * states_in (table_of group lane) = omega (arith, wide, named) in e)) in record {
-        keys = omega (arith, wide);
+      has.state ∙ (sized ∙ (let e : 3 * states ≡ 3 * states_in (table_of group lane) = omega arith in e)) in record {
+        keys = omega arith;
         rows = subst (λ n. All (HasColumns (length group.key_names) n) (table_of group lane).rows) three
             (subst (λ k. All (HasColumns k lane.store.state_words) (table_of group lane).rows) (has.words ∙ words)
-            (all_have (folding_at lane).row_per_epoch lane.store has.store));
+            (all_have _ lane.store has.store));
       }
 
   may_by : (group : GroupPlan) (lane : LaneView) (f : TypedFold) (c : Class) (depth epochs : ℕ) → IsHeadingOf f (heading_of group)
@@ -133,7 +125,7 @@ module _ (plan : PlanParts) (buckets : ℕ) (sound : IsSoundPlan plan) where
       → MayBeShownBy (Group c depth epochs) (table_of group lane)
   may_by group lane f class.Linear depth epochs is words has kind = tt
   may_by group lane f class.Other depth epochs is words has kind = record {
-    triples = triples group lane (fold_states f) is.states kind.state words has;
+    triples = triples group _ _ is.states kind.state words has;
     some_keys = is.some_keys;
     most_keys = is.most_keys;
   }
@@ -141,12 +133,12 @@ module _ (plan : PlanParts) (buckets : ℕ) (sound : IsSoundPlan plan) where
   one_may : (i : ℕ) (group : GroupPlan) (lane : LaneView) → slice_get plan.groups i ≡ Some group → IsLane i lane group → HasStoredRows lane
       → MayBeShown (table_of group lane)
   one_may i group lane at of_lane has =
-      let known = group_sound plan i group sound at in
-      ∥∥₁_elim known.2.program (may_prop group.program.class group.program.depth (epochs_of group lane) (table_of group lane))
+      let known = group_sound _ i _ sound at in
+      ∥∥₁_elim known.2.program (may_prop _ _ _ _)
       (λ h.
-      let is = heading_is (FIELDS + length plan.ops) group known.0 h.0 known.2 h.1 in
+      let is = heading_is _ _ _ _ known.2 h.1 in
       subst (λ c. MayBeShownBy (Group c group.program.depth (epochs_of group lane)) (table_of group lane)) (sym is.class)
-      (may_by group lane h.0 (class_of h.0) group.program.depth (epochs_of group lane) is of_lane.keys has (of_lane.kind h.0 h.1)))
+      (may_by group lane _ _ _ _ is of_lane.keys has (of_lane.kind h.0 h.1)))
 
   pub all_may : (i : ℕ) (lanes : List LaneView) (groups : List GroupPlan) → drop i plan.groups ≡ groups → EachFrom IsLane i lanes groups
       → HaveStoredRows lanes → All MayBeShown (stored_tables groups lanes)

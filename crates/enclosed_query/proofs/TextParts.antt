@@ -54,8 +54,8 @@ others_after names folds tables (one ∷ finals) =
 after_are : (names : List (List ℕ)) (folds : List TypedFold) (tables : List Table) (finals : List TypedFinal)
     → with_finals names folds tables finals ≡ tables ++ drop (length tables) (with_finals names folds tables finals)
 after_are names folds tables finals =
-    let others = others_after names folds tables finals in
-    others.1 ∙ ap (λ rest. tables ++ rest) (sym (drop-append_seam tables others.0) ∙ ap (drop (length tables)) (sym others.1))
+    let others = others_after names folds _ finals in
+    others.1 ∙ ap (λ rest. tables ++ rest) (sym (drop-append_seam tables _) ∙ ap (drop (length tables)) (sym others.1))
 
 -- all of what a query prints
 module _ (q : TypedQuery) (groups : List Enclosed) where
@@ -65,7 +65,7 @@ module _ (q : TypedQuery) (groups : List Enclosed) where
   one_text : (n : ℕ) → text_at (map bounds_shown groups) all_tables n ≡ unwrap_or (slice_get (all_texts q groups) n) []
   one_text n =
       ap (λ ts. text_at (map bounds_shown groups) ts n) (after_are q.names q.folds (map table_read groups) q.finals)
-      ∙ (parts_at groups (drop (length (map table_read groups)) all_tables) n
+      ∙ (parts_at _ (drop (length (map table_read groups)) _) n
       ∙ ap (λ k. unwrap_or (slice_get (map shown_text groups ++ map table_text (drop k all_tables)) n) []) (length-map groups table_read))
 
   all_prints : (prints : List PrintOf) → flat_map (λ one. text_at (map bounds_shown groups) all_tables
@@ -75,24 +75,23 @@ module _ (q : TypedQuery) (groups : List Enclosed) where
   all_prints (one ∷ prints) =
       let number = table_number (length (takings q.streams)) one in
       ap (λ text. text ++ flat_map (λ (p : PrintOf). text_at (map bounds_shown groups) all_tables
-      (table_number (length (takings q.streams)) p)) prints) (one_text number)
+      (table_number (length (takings q.streams)) p)) prints) (one_text _)
       ∙ ap (λ texts. unwrap_or (slice_get (all_texts q groups) number) [] ++ texts) (all_prints prints)
 
   prints_are : flat_map (λ one. text_at (map bounds_shown groups) all_tables (table_number (length (takings q.streams)) one)) q.prints
       ≡ enclosed_print q groups
-  prints_are = all_prints q.prints
+  prints_are = all_prints _
 
 -- by the parts of what is shown, and the finals after them
 pub texts_are : (q : TypedQuery) (groups : List Enclosed) (count : ℕ) (bounds : List (Option BoundsTable)) (read tables : List Table)
-    (prints : List PrintOf)
-    → count ≡ length groups → map table_shape (map table_read groups) ≡ map (group_shape q.folds) (takings q.streams)
-    → bounds ≡ map bounds_shown groups → read ≡ map table_read groups
+    (prints : List PrintOf) → count ≡ length groups → map table_shape (map table_read groups) ≡ map (group_shape q.folds)
+    (takings q.streams) → bounds ≡ map bounds_shown groups → read ≡ map table_read groups
     → tables ≡ with_finals q.names q.folds read q.finals → prints ≡ q.prints
     → flat_map (λ one. text_at bounds tables (table_number count one)) prints ≡ enclosed_print q groups
 texts_are q groups count bounds read tables prints count_is shapes bounds_are read_are tables_are all =
     let taken : count ≡ length (takings q.streams) =
-    count_is ∙ (sym (length-map groups table_read) ∙ (sym (length-map (map table_read groups) table_shape)
-    ∙ (ap (λ ss. length ss) shapes ∙ length-map (takings q.streams) (group_shape q.folds)))) in
+    count_is ∙ (sym (length-map _ _) ∙ (sym (length-map _ _)
+    ∙ (ap (λ ss. length ss) shapes ∙ length-map _ _))) in
     ap (λ n. flat_map (λ one. text_at bounds tables (table_number n one)) prints) taken
     ∙ (ap (λ bs. flat_map (λ one. text_at bs tables (table_number (length (takings q.streams)) one)) prints) bounds_are
     ∙ (ap (λ ts. flat_map (λ one. text_at (map bounds_shown groups) ts (table_number (length (takings q.streams)) one)) prints)

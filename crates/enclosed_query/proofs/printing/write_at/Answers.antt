@@ -18,7 +18,7 @@ returns-clause-ok g c =
     ] in
     subst (λ text. OnOk c.write_table.result (TakesAllBut (g.O.Sink.taken c.args.out.now) (g.O.Sink.taken c.write_table.new.out)
     c.write_table.new.text (c.args.text.now ++ text)))
-    (sym (table_text_at bounds c.args.tables.now number c.get-2.result.now c.get-2.ensures none)) c.write_table.ensures.ok
+    (sym (table_text_at bounds _ _ _ c.get-2.ensures none)) c.write_table.ensures.ok
 
 pub returns-clause-err : goal.returns-clause-err
 returns-clause-err g c =
@@ -31,4 +31,4 @@ returns-clause-err g c =
     ] in
     subst (λ text. OnErr c.write_table.result (TakesFront (g.O.Sink.taken c.args.out.now) (g.O.Sink.taken c.write_table.new.out)
     (c.args.text.now ++ text)))
-    (sym (table_text_at bounds c.args.tables.now number c.get-2.result.now c.get-2.ensures none)) c.write_table.ensures.err
+    (sym (table_text_at bounds _ _ _ c.get-2.ensures none)) c.write_table.ensures.err

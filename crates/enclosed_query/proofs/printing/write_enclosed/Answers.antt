@@ -10,30 +10,29 @@ use Rattle.enclosed_query.proofs.printing.write_enclosed.Goals as goal
 
 pub returns-in_err-bounds-clause-err : goal.returns-in_err-bounds-clause-err
 returns-in_err-bounds-clause-err g c =
-    on_err c.from_residual.result _ (none_taken (g.O.Sink.taken c.args.out.now)
+    on_err _ _ (none_taken _
     (c.args.text.now ++ enclosed_print c.args.q.now c.args.groups))
 
 pub returns-in_err-tables-clause-err : goal.returns-in_err-tables-clause-err
 returns-in_err-tables-clause-err g c =
-    on_err c.from_residual-in_err-tables.result _ (none_taken (g.O.Sink.taken c.args.out.now)
+    on_err _ _ (none_taken _
     (c.args.text.now ++ enclosed_print c.args.q.now c.args.groups))
 
 pub write_printed-requires-clause-bounds : goal.write_printed-requires-clause-bounds
-write_printed-requires-clause-bounds g c = subst (All IsWholeIfThere) (sym c.in_ok-bounds.ensures.bounds)
-    (whole_parts c.args.groups c.requires.whole)
+write_printed-requires-clause-bounds g c = subst (All IsWholeIfThere) (sym c.in_ok-bounds.ensures.bounds) (whole_parts _ c.requires.whole)
 
 pub returns-clause-ok : goal.returns-clause-ok
 returns-clause-ok g c =
-    let same = texts_are c.args.q.now c.args.groups c.len-count.result c.in_ok-bounds.field-0.bounds c.in_ok-bounds.field-0.tables
-    c.in_ok-tables.tables c.as_slice.result.now c.len-count.ensures c.requires.shapes
+    let same = texts_are c.args.q.now _ _ _ _
+    c.in_ok-tables.tables _ c.len-count.ensures c.requires.shapes
     c.in_ok-bounds.ensures.bounds c.in_ok-bounds.ensures.tables c.in_ok-tables.ensures.tables c.as_slice.ensures in
     subst (λ text. OnOk c.write_printed.result (TakesAllBut (g.O.Sink.taken c.args.out.now) (g.O.Sink.taken c.write_printed.new.out)
     c.write_printed.new.text (c.args.text.now ++ text))) same c.write_printed.ensures.ok
 
 pub returns-clause-err : goal.returns-clause-err
 returns-clause-err g c =
-    let same = texts_are c.args.q.now c.args.groups c.len-count.result c.in_ok-bounds.field-0.bounds c.in_ok-bounds.field-0.tables
-    c.in_ok-tables.tables c.as_slice.result.now c.len-count.ensures c.requires.shapes
+    let same = texts_are c.args.q.now _ _ _ _
+    c.in_ok-tables.tables _ c.len-count.ensures c.requires.shapes
     c.in_ok-bounds.ensures.bounds c.in_ok-bounds.ensures.tables c.in_ok-tables.ensures.tables c.as_slice.ensures in
     subst (λ text. OnErr c.write_printed.result (TakesFront (g.O.Sink.taken c.args.out.now) (g.O.Sink.taken c.write_printed.new.out)
     (c.args.text.now ++ text))) same c.write_printed.ensures.err

@@ -23,7 +23,7 @@ pub loop-one-init : goal.loop-one-init
 loop-one-init g c =
     let text_of : PrintOf → List ℕ = λ one. text_at c.args.bounds.now c.args.tables.now (table_number c.args.groups one) in
     record {
-      written = all_waits (g.O.Sink.taken c.args.out.now) (c.args.text.now ++ flat_map text_of c.args.prints.now);
+      written = all_waits _ _;
       out_later = omega arith;
     }
 
@@ -38,11 +38,11 @@ returns-in_err-write_at-clause-err g c =
     let old = g.O.Sink.taken c.args.out.now in
     let mid = g.O.Sink.taken c.loop-one.out in
     let whole = c.args.text.now ++ flat_map text_of prints in
-    on_err c.from_residual.result _
-    (part_broke old mid (g.O.Sink.taken c.write_at.new.out) c.loop-one.text (text_at bounds tables number)
-    (flat_map text_of (drop (i + 1) prints)) whole
+    on_err _ _
+    (part_broke _ _ _ c.loop-one.text (text_at bounds tables number)
+    (flat_map text_of (drop (i + 1) _)) _
     (subst (λ left. TakesAllBut old mid (c.loop-one.text ++ left) whole)
-    (next bounds tables c.args.groups prints i number _ c.loop-one-test.true c.table_number.ensures) c.loop-one.invariant.written)
+    (next _ tables c.args.groups _ i _ _ c.loop-one-test.true c.table_number.ensures) c.loop-one.invariant.written)
     c.in_err-write_at.ensures.err)
 
 pub loop-one-preserved : goal.loop-one-preserved
@@ -57,10 +57,9 @@ loop-one-preserved g c =
     let mid = g.O.Sink.taken c.loop-one.out in
     let whole = c.args.text.now ++ flat_map text_of prints in
     record {
-      written = part_more old mid (g.O.Sink.taken c.write_at.new.out) c.loop-one.text c.write_at.new.text (text_at bounds tables number)
-          (flat_map text_of (drop (i + 1) prints)) whole
+      written = part_more _ _ _ _ c.write_at.new.text (text_at bounds tables number) _ _
           (subst (λ left. TakesAllBut old mid (c.loop-one.text ++ left) whole)
-          (next bounds tables c.args.groups prints i number _ c.loop-one-test.true c.table_number.ensures) c.loop-one.invariant.written)
+          (next _ tables c.args.groups _ i _ _ c.loop-one-test.true c.table_number.ensures) c.loop-one.invariant.written)
           c.in_ok-write_at.ensures.ok;
       out_later = omega (arith, c.loop-one.invariant.out_later, c.write_at.ensures.out_later);
     }
@@ -69,7 +68,7 @@ pub returns-clause-ok : goal.returns-clause-ok
 returns-clause-ok g c =
     let text_of : PrintOf → List ℕ = λ one. text_at c.args.bounds.now c.args.tables.now (table_number c.args.groups one) in
     let prints = c.args.prints.now in
-    let none = ap (flat_map text_of) (drop_all c.loop-one.one-index prints c.loop-one-test.false) in
+    let none = ap (flat_map text_of) (drop_all _ _ c.loop-one-test.false) in
     subst (λ waiting. TakesAllBut (g.O.Sink.taken c.args.out.now) (g.O.Sink.taken c.loop-one.out) waiting
     (c.args.text.now ++ flat_map text_of prints))
-    (ap (λ text. c.loop-one.text ++ text) none ∙ append-nil c.loop-one.text) c.loop-one.invariant.written
+    (ap (λ text. c.loop-one.text ++ text) none ∙ append-nil _) c.loop-one.invariant.written

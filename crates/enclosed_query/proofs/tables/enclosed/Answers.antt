@@ -17,7 +17,7 @@ returns-clause-shown g c machines stand = c.in_ok-made.ensures.made ∙ ap (map 
 pub returns-clause-holds : goal.returns-clause-holds
 returns-clause-holds g c of events room stand i group f t at bounded given found =
     let machines = machines_after c.args.pipeline.now.plan of events in
-    c.machines_known.ensures.holds of events room stand i group f t at bounded given
+    c.machines_known.ensures.holds of events room stand i _ f t at bounded given
     (ap (λ ts. slice_get ts i) (sym (c.in_ok-made.ensures.made ∙ ap (map shown) (c.in_ok-tables.ensures.closed machines stand))) ∙ found)
 
 pub returns-clause-tables : goal.returns-clause-tables

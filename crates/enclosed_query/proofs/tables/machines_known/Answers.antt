@@ -9,7 +9,7 @@ pub returns : goal.returns
 returns g c = record {
   holds = λ of events room stand i group f t at bounded given found.
       let p = c.args.pipeline.now in
-      holds_from p.plan p.buckets (subst IsSoundPlan c.plan.ensures c.invariant-2.ensures) c.closed_tables_hold.ensures of events room i
+      holds_from p.plan _ (subst IsSoundPlan c.plan.ensures c.invariant-2.ensures) c.closed_tables_hold.ensures of events room i
       group f at bounded given 0 0 i p.lanes p.plan.groups t (omega arith)
       (subst (λ entries. AreLanesOf entries p.plan p.buckets p.lanes) c.requires.entries c.invariant.ensures)
       (c.drained-drained.ensures.done (c.drained-drained.ensures.value ∙ c.requires.drained) (machines_after p.plan of events) stand) at

@@ -1,4 +1,4 @@
-use Rattle.std.proofs.Common.{◌≡◌, ltb, sym, ap, ◌∙◌, subst, arith}
+use Rattle.std.proofs.Common.{◌≡◌, sym, ap, ◌∙◌, subst, arith}
 use Rattle.std.specs.Prelude.{slice_get}
 use Rattle.std.proofs.lemmas.Bool.{ltb-true, ltb-false}
 use Rattle.epoch_model.proofs.KeyLists.{by_test}
@@ -10,12 +10,12 @@ use Rattle.enclosed_query.proofs.tables.stores_known.Goals as goal
 pub loop-i-preserved : goal.loop-i-preserved
 loop-i-preserved g c n lane below at =
     let i = c.loop-i.i in
-    by_test (ltb n i)
+    by_test _
     (λ e. c.loop-i.invariant n lane (ltb-true n i e) at)
     (λ e.
     let least = ltb-false n i e in
-    let same : n ≡ i = omega (arith, below, least) in
-    let is : c.lane-lane.result.now ≡ lane = same_some c.lane-lane.result.now lane
+    let same : n ≡ i = omega arith in
+    let is : c.lane-lane.result.now ≡ lane = same_some _ _
     (sym c.lane-lane.ensures.lane ∙ (ap (slice_get c.args.pipeline.now.lanes) (sym same) ∙ at)) in
     subst HasStoredRows is (record {
       store = subst IsStore c.store.ensures c.invariant-in-loop-i.ensures;
@@ -25,7 +25,7 @@ loop-i-preserved g c n lane below at =
 
 pub returns : goal.returns
 returns g c n lane at =
-    let within = got_below c.args.pipeline.now.lanes n lane at in
+    let within = got_below _ n _ at in
     let end = c.loop-i-test.false in
     let lanes = c.lanes-i-end.ensures in
-    c.loop-i.invariant n lane (omega (arith, within, end, lanes)) at
+    c.loop-i.invariant n lane (omega arith) at
