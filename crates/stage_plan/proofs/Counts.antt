@@ -27,60 +27,57 @@ record IsAfter (names : ℕ) (folds : List TypedFold) (streams : ℕ) (one : Typ
   pub valid : IsValidStream names folds before one
 
 beyond : (names : ℕ) (folds : List TypedFold) (before list : List TypedStream) (i : ℕ) (d : TypedStream)
-    → AreValidStreams names folds before list → i < length list →
-    IsAfter names folds (length before + i) (get_or list i d)
-beyond names folds before [] i d all lt = absurd (omega arith)
-beyond names folds before (one ∷ rest) zero d all lt = record { before = before; long = omega arith; valid = all.0 }
+    → AreValidStreams names folds before list → i < length list → IsAfter names folds (length before + i) (get_or list i d)
+beyond _ _ _ [] i d _ lt = absurd (omega arith)
+beyond _ _ before (_ ∷ _) zero d all lt = record { before = before; long = omega arith; valid = all.0 }
 beyond names folds before (one ∷ rest) (suc i) d all lt =
-    let r : IsAfter names folds (length (before ++ one ∷ []) + i) (get_or rest i d) =
-    beyond names folds (before ++ one ∷ []) rest i d all.1 (omega arith) in
+    let r = beyond names folds (before ++ one ∷ []) rest i d all.1 (omega arith) in
     let same : length (before ++ one ∷ []) + i ≡ length before + suc i = omega (arith, length_push before one) in
-    subst (λ n. IsAfter names folds n (get_or rest i d)) same r
+    rw same at r
 
 after_none : (q : TypedQuery) → IsValidQuery q → (i : ℕ) (d : TypedStream) → i < length q.streams
     → IsAfter (length q.names) q.folds i (get_or q.streams i d)
 after_none q valid i d lt =
     let same : 0 + i ≡ i = omega arith in
-    subst (λ n. IsAfter (length q.names) q.folds n (get_or q.streams i d)) same
-    (beyond (length q.names) q.folds [] q.streams i d valid.streams lt)
+    rw same at (beyond (length q.names) q.folds [] q.streams i d valid.streams lt)
 
 inputs_there : (folds : List TypedFold) (before : List TypedStream) (width : ℕ) (op : TypedOp) → IsValidOp folds before width op
     → HasInputs (length before + 1) op
-inputs_there folds before width (Filter input condition) v = let h = v.0 in omega arith
-inputs_there folds before width (Map input values) v = let h = v.0 in omega arith
-inputs_there folds before width (Zip left right slots) v = let l = v.0 in let r = v.1 in (omega arith, omega arith)
-inputs_there folds before width (Group input keys f args) v = let h = v.0 in omega arith
+inputs_there _ _ _ (Filter _ _) v = omega arith
+inputs_there _ _ _ (Map _ _) v = omega arith
+inputs_there _ _ _ (Zip _ _ _) v = (omega arith, omega arith)
+inputs_there _ _ _ (Group _ _ f _) v = omega arith
 
 fold_there : (folds : List TypedFold) (before : List TypedStream) (width : ℕ) (op : TypedOp) → IsValidOp folds before width op
     → HasFold (length folds) op
-fold_there folds before width (Filter input condition) v = tt
-fold_there folds before width (Map input values) v = tt
-fold_there folds before width (Zip left right slots) v = tt
-fold_there folds before width (Group input keys f args) v = v.1.is_fold
+fold_there _ _ _ (Filter _ _) v = tt
+fold_there _ _ _ (Map _ _) v = tt
+fold_there _ _ _ (Zip _ _ _) v = tt
+fold_there _ _ _ (Group _ _ f _) v = v.1.is_fold
 
 emit_few : (states args : ℕ) (o : Option TypedExpr) → IfSome o (λ e. IsValidEmit states args (term_of e)) → emit_most o ≤ 641
-emit_few states args None h = omega arith
-emit_few states args (Some e) h = let n = h.nodes in omega arith
+emit_few _ _ None h = omega arith
+emit_few _ _ (Some e) h = omega arith
 
 fold_few : (folds : List TypedFold) (number : ℕ) → All IsValidFold folds
     → emit_most (option_and_then (λ f. f.emit) (slice_get folds number)) ≤ 641
 fold_few folds number all = elim ((slice_get_cases folds number).1) [
   | inl found ↦
       let f : TypedFold = found.0 in
-      let valid : IsValidFold f = subst IsValidFold found.3 (All-get_or IsValidFold folds number f found.1 all) in
+      let valid : IsValidFold f = rw (← found.3) (All-get_or IsValidFold folds number f found.1 all) in
       let few : emit_most f.emit ≤ 641 = emit_few (fold_states f) (fold_args f) f.emit valid.emits in
-      subst (λ (o : Option TypedFold). emit_most (option_and_then (λ (g : TypedFold). g.emit) o) ≤ 641) (sym found.2) few
+      subst (λ o. emit_most (option_and_then (λ g. g.emit) o) ≤ 641) (sym found.2) few
   | inr past ↦
       let none : emit_most None ≤ 641 = omega arith in
-      subst (λ (o : Option TypedFold). emit_most (option_and_then (λ (g : TypedFold). g.emit) o) ≤ 641) (sym past.1) none
+      subst (λ o. emit_most (option_and_then (λ g. g.emit) o) ≤ 641) (sym past.1) none
 ]
 
 op_few : (folds : List TypedFold) (before : List TypedStream) (width : ℕ) (op : TypedOp) → All IsValidFold folds
     → IsValidOp folds before width op → op_most folds op ≤ 641
-op_few folds before width (Filter input condition) all v = let n = v.1.0.1 in omega arith
-op_few folds before width (Map input values) all v = let n = v.1.1 in omega arith
-op_few folds before width (Zip left right slots) all v = omega arith
-op_few folds before width (Group input keys f args) all v = fold_few folds f all
+op_few _ _ _ (Filter _ _) _ v = omega arith
+op_few _ _ _ (Map _ _) _ v = omega arith
+op_few _ _ _ (Zip _ _ _) _ v = omega arith
+op_few folds _ _ (Group _ _ f _) all v = fold_few _ f all
 
 -- what the operator of a valid query's stream names is there, and few operations are made for it
 pub record Stands (q : TypedQuery) (i : ℕ) (op : TypedOp) : Type 0 where
@@ -90,36 +87,36 @@ pub record Stands (q : TypedQuery) (i : ℕ) (op : TypedOp) : Type 0 where
 
 stands_at : (q : TypedQuery) → IsValidQuery q → (i : ℕ) (d : TypedStream) → i < length q.streams → Stands q i (get_or q.streams i d).op
 stands_at q valid i d lt =
-    let b : IsAfter (length q.names) q.folds i (get_or q.streams i d) = after_none q valid i d lt in
+    let b = after_none q valid i d lt in
     let v = b.valid.operator in
     record {
-      inputs = subst (λ n. HasInputs (n + 1) (get_or q.streams i d).op) b.long (inputs_there q.folds b.before _ _ v);
-      fold = fold_there q.folds b.before _ _ v;
-      few = op_few q.folds b.before _ _ valid.folds v;
+      inputs = rw b.long at (inputs_there q.folds b.before _ _ v);
+      fold = fold_there _ _ _ _ v;
+      few = op_few _ _ _ _ valid.folds v;
     }
 
 pub stands : (q : TypedQuery) (list : List TypedStream) (i : ℕ) (one : TypedStream) → IsValidQuery q → list ≡ q.streams → i < length list
     → one ≡ get_or list i one → Stands q i one.op
-stands q list i one valid same lt is =
-    let here : one ≡ get_or q.streams i one = is ∙ ap (λ l. get_or l i one) same in
-    subst (λ (x : TypedStream). Stands q i x.op) (sym here) (stands_at q valid i one (omega (arith, ap length same)))
+stands q _ i one valid same lt is =
+    let here = is ∙ ap (λ l. get_or l i one) same in
+    rw here (stands_at q valid i one (omega (arith, ap length same)))
 
 -- this many more operations fit
 pub op_fits : (q : TypedQuery) (folds : List TypedFold) (i : ℕ) (op : TypedOp) → folds ≡ q.folds → Stands q i op → op_most folds op ≤ 641
-op_fits q folds i op same s = subst (λ (l : List TypedFold). op_most l op ≤ 641) (sym same) s.few
+op_fits q _ i op same s = rw same s.few
 
 pub fold_fits : (q : TypedQuery) (folds : List TypedFold) (i : ℕ) (op : TypedOp) → folds ≡ q.folds → Stands q i op
     → HasFold (length folds) op
-fold_fits q folds i op same s = subst (λ (l : List TypedFold). HasFold (length l) op) (sym same) s.fold
+fold_fits q _ i op same s = rw same s.fold
 
 pub inputs_at : (n m : ℕ) (op : TypedOp) → n ≡ m → HasInputs n op → HasInputs m op
-inputs_at n m op e h = subst (λ k. HasInputs k op) e h
+inputs_at n m op e h = rw e at h
 
 inputs_more : (n m : ℕ) (op : TypedOp) → n ≤ m → HasInputs n op → HasInputs m op
-inputs_more n m (Filter input condition) le h = omega arith
-inputs_more n m (Map input values) le h = omega arith
-inputs_more n m (Zip left right slots) le h = let l = h.0 in let r = h.1 in (omega arith, omega arith)
-inputs_more n m (Group input keys f args) le h = omega arith
+inputs_more n m (Filter _ _) le h = omega arith
+inputs_more n m (Map _ _) le h = omega arith
+inputs_more n m (Zip _ _ _) le h = (omega arith, omega arith)
+inputs_more n m (Group _ _ f _) le h = omega arith
 
 -- every stream is made of those that are made
 made_long : (folds : List TypedFold) (ops : List PlanOp) (streams : List StreamWires) (list : List TypedStream)
@@ -140,16 +137,14 @@ all_inputs q streams wires start list valid made there same = λ k d lt.
     let one : HasInputs (k + 1) (get_or q.streams k d).op = (stands_at q valid k d few).inputs in
     let more : HasInputs (length wires) (get_or q.streams k d).op = inputs_more (k + 1) (length wires) (get_or q.streams k d).op
     (omega arith) one in
-    subst (λ (l : List TypedStream). HasInputs (length wires) (get_or l k d).op) (sym same) more
+    subst (λ l. HasInputs (length wires) (get_or l k d).op) (sym same) more
 
 group_fits : (q : TypedQuery) (one : TypedStream) (before : List TypedStream) → IsValidStream (length q.names) q.folds before one
     → (op : TypedOp) → IsValidOp q.folds before (length one.columns) op → FitsGroup q one op
-group_fits q one before s (Filter input condition) v = tt
-group_fits q one before s (Map input values) v = tt
-group_fits q one before s (Zip left right slots) v = tt
-group_fits q one before s (Group input keys f args) v =
-    let some = v.1.some_keys in
-    let most = v.1.most_keys in
+group_fits q _ _ s (Filter _ _) v = tt
+group_fits q _ _ s (Map _ _) v = tt
+group_fits q _ _ s (Zip _ _ _) v = tt
+group_fits q _ _ s (Group _ _ f _) v =
     let count = v.2 in
     record {
       name = s.name;
@@ -163,5 +158,5 @@ group_fits q one before s (Group input keys f args) v =
 
 pub all_fit : (q : TypedQuery) → IsValidQuery q → All (λ one. FitsGroup q one one.op) q.streams
 all_fit q valid = λ k d lt.
-    let b : IsAfter (length q.names) q.folds k (get_or q.streams k d) = after_none q valid k d lt in
-    group_fits q (get_or q.streams k d) b.before b.valid (get_or q.streams k d).op b.valid.operator
+    let b = after_none q valid k d lt in
+    group_fits q _ _ b.valid _ b.valid.operator

@@ -1,7 +1,7 @@
 -- The stage of an operand is its depth, and each operation reads what is before it.
-use Rattle.std.proofs.Common.{◌≡◌, ℕ, zero, suc, ◌+◌, ◌-◌, ◌<◌, max, min, true, List, [], ◌∷◌, ◌++◌, length, Some, refl, sym}
-use Rattle.std.proofs.Common.{ap, subst, ◌∙◌, inl, inr, arith, append_assoc, append-nil}
-use Rattle.std.specs.Prelude.{map, replicate, nat_lt, slice_get, slice_index, option_map, unwrap_or, if◌then◌else◌}
+use Rattle.std.proofs.Common.{◌≡◌, ℕ, zero, suc, ◌+◌, ◌-◌, ◌<◌, max, min, true, List, [], ◌∷◌, ◌++◌, length, Some, refl, sym, ap, subst}
+use Rattle.std.proofs.Common.{◌∙◌, inl, inr, arith, append_assoc, append-nil}
+use Rattle.std.specs.Prelude.{map, replicate, nat_lt, slice_get, slice_index}
 use Rattle.std.proofs.lemmas.Bool.{cases_lt}
 use Rattle.std.proofs.lemmas.Bool.Decides.{nat_tests}
 use Rattle.std.proofs.lemmas.List.{length_push, map-append}
@@ -29,16 +29,13 @@ same_stage ops more (Register r) e w =
     elim (cases_lt r FIELDS) [
       | inl field ↦
           let early : nat_lt r FIELDS ≡ true = grind (arith, nat_tests) in
-          ap (λ b. if b then 0 else unwrap_or (option_map (λ (x : PlanOp). x.stage) (slice_get more (r - FIELDS))) 0) early
-          ∙ ap (λ b. if b then 0 else unwrap_or (option_map (λ (x : PlanOp). x.stage) (slice_get ops (r - FIELDS))) 0) (sym early)
+          simp early
       | inr later ↦
           let j : ℕ = r - FIELDS in
           let at : r ≡ FIELDS + j = omega arith in
           let lt : j < length ops = omega arith in
           elim ((slice_get_cases ops j).1) [
-            | inl found ↦
-                ap (λ n. operand_stage more (Register n)) at ∙ stage_of_register more j found.0 (e.keeps j found.0 found.2)
-                ∙ sym (stage_of_register ops j found.0 found.2) ∙ ap (λ n. operand_stage ops (Register n)) (sym at)
+            | inl found ↦ cc (stage_of_register more j found.0 (e.keeps j found.0 found.2), stage_of_register ops j found.0 found.2)
             | inr past ↦ absurd (omega arith)
           ]
     ]
@@ -49,49 +46,49 @@ pub record IsAt (ops : List PlanOp) (o : Operand) (depth : ℕ) : Type 0 where
   pub stage : operand_stage ops o ≡ min (MAX_STAGES + 1) depth
 
 pub is_more : (ops more : List PlanOp) (o : Operand) (depth : ℕ) → Extends ops more → IsAt ops o depth → IsAt more o depth
-is_more ops more o depth e h = record {
-  within = (let g = e.grows in within_more (FIELDS + length ops) (FIELDS + length more) o (omega arith) h.within);
-  stage = same_stage ops more o e h.within ∙ h.stage;
+is_more ops more o _ e h = record {
+  within = (within_more _ _ o (omega arith) h.within);
+  stage = cc (same_stage ops more o e h.within);
 }
 
 pub number_at : (ops : List PlanOp) (n : ℕ) → IsAt ops (Number n) 0
-number_at ops n = record { within = tt; stage = refl }
+number_at _ n = record { within = tt; stage = refl }
 
 abbrev pub AreAt : List PlanOp → List Operand → List ℕ → Type 0
-AreAt ops [] [] = Unit {0}
+AreAt _ [] [] = Unit {0}
 AreAt ops (o ∷ columns) (d ∷ depths) = IsAt ops o d × AreAt ops columns depths
-AreAt ops _ _ = ⊥
+AreAt _ _ _ = ⊥
 
 pub are_more : (ops more : List PlanOp) (columns : List Operand) (depths : List ℕ) → Extends ops more → AreAt ops columns depths
     → AreAt more columns depths
-are_more ops more [] [] e h = tt
-are_more ops more (o ∷ columns) (d ∷ depths) e h = (is_more ops more o d e h.0, are_more ops more columns depths e h.1)
-are_more ops more [] (d ∷ depths) e h = absurd h
-are_more ops more (o ∷ columns) [] e h = absurd h
+are_more _ _ [] [] e h = tt
+are_more ops more (o ∷ columns) (d ∷ depths) e h = (is_more _ _ o d e h.0, are_more ops more columns depths e h.1)
+are_more _ _ [] (d ∷ _) e h = absurd h
+are_more _ _ (o ∷ _) [] e h = absurd h
 
 pub column_is : (ops : List PlanOp) (columns : List Operand) (depths : List ℕ) (slot : ℕ) → AreAt ops columns depths
     → IsAt ops (operand_at columns slot) (slice_index depths slot)
-column_is ops [] [] slot h = number_at ops 0
-column_is ops (o ∷ columns) (d ∷ depths) zero h = h.0
+column_is ops [] [] _ h = number_at _ 0
+column_is _ (o ∷ _) (d ∷ _) zero h = h.0
 column_is ops (o ∷ columns) (d ∷ depths) (suc slot) h = column_is ops columns depths slot h.1
-column_is ops [] (d ∷ depths) slot h = absurd h
-column_is ops (o ∷ columns) [] slot h = absurd h
+column_is _ [] (d ∷ _) _ h = absurd h
+column_is _ (o ∷ _) [] _ h = absurd h
 
 pub are_picked : (ops : List PlanOp) (columns : List Operand) (depths : List ℕ) (slots : List ℕ) → AreAt ops columns depths
     → AreAt ops (map (operand_at columns) slots) (values_at depths slots)
-are_picked ops columns depths [] h = tt
-are_picked ops columns depths (slot ∷ slots) h = (column_is ops columns depths slot h, are_picked ops columns depths slots h)
+are_picked _ _ _ [] h = tt
+are_picked ops columns depths (slot ∷ slots) h = (column_is _ _ _ _ h, are_picked ops columns depths slots h)
 
 pub are_append : (ops : List PlanOp) (xs ys : List Operand) (ds es : List ℕ) → AreAt ops xs ds → AreAt ops ys es
     → AreAt ops (xs ++ ys) (ds ++ es)
-are_append ops [] ys [] es h k = k
+are_append _ [] ys [] es h k = k
 are_append ops (x ∷ xs) ys (d ∷ ds) es h k = (h.0, are_append ops xs ys ds es h.1 k)
-are_append ops [] ys (d ∷ ds) es h k = absurd h
-are_append ops (x ∷ xs) ys [] es h k = absurd h
+are_append _ [] ys (d ∷ ds) es h k = absurd h
+are_append _ (x ∷ xs) ys [] es h k = absurd h
 
 pub are_numbers : (ops : List PlanOp) (initial : List ℕ) → AreAt ops (map Number initial) (replicate (length initial) 0)
-are_numbers ops [] = tt
-are_numbers ops (n ∷ initial) = (number_at ops n, are_numbers ops initial)
+are_numbers _ [] = tt
+are_numbers ops (n ∷ initial) = (number_at _ n, are_numbers ops initial)
 
 -- operation number i reads what is before it
 pub record IsMade (ops : List PlanOp) (i : ℕ) (one : PlanOp) : Type 0 where
@@ -103,8 +100,7 @@ pub record AreMade (ops : List PlanOp) : Type 0 where
   pub each : (i : ℕ) (one : PlanOp) → slice_get ops i ≡ Some one → IsMade ops i one
 
 made_more : (ops : List PlanOp) (op : operation.Operation) (left right : Operand) → AreMade ops → IsWithin (FIELDS + length ops) left
-    → IsWithin (FIELDS + length ops) right →
-    AreMade (ops ++ op_on ops op left right ∷ [])
+    → IsWithin (FIELDS + length ops) right → AreMade (ops ++ op_on ops op left right ∷ [])
 made_more ops op left right made l r = record {
   each = λ i one found. elim (push_cases ops new i one found) [
     | inl old ↦
@@ -113,8 +109,7 @@ made_more ops op left right made l r = record {
         record {
           left = h.left;
           right = h.right;
-          stage = h.stage
-              ∙ ap (λ s. stage_after s (operand_stage ops one.right)) (sym
+          stage = h.stage ∙ ap (λ s. stage_after s (operand_stage ops one.right)) (sym
               (same_stage ops (ops ++ new ∷ []) one.left (one_more ops new)
               (within_more (FIELDS + i) (FIELDS + length ops) one.left (omega arith) h.left)))
               ∙ ap (λ s. stage_after (operand_stage (ops ++ new ∷ []) one.left) s)
@@ -124,10 +119,8 @@ made_more ops op left right made l r = record {
     | inr last ↦ subst (IsMade (ops ++ new ∷ []) i) last.1 (subst (λ k. IsMade (ops ++ new ∷ []) k new) (sym last.0) (record {
       left = l;
       right = r;
-      stage =
-          ap (λ s. stage_after s (operand_stage ops right)) (sym (same_stage ops (ops ++ new ∷ []) left (one_more ops new) l))
-          ∙ ap (λ s. stage_after (operand_stage (ops ++ new ∷ []) left) s)
-          (sym (same_stage ops (ops ++ new ∷ []) right (one_more ops new) r));
+      stage = ap (λ s. stage_after s (operand_stage ops right)) (sym (same_stage _ _ _ (one_more _ _) l))
+          ∙ ap (λ s. stage_after (operand_stage (ops ++ new ∷ []) left) s) (sym (same_stage _ _ _ (one_more _ _) r));
     }))
   ];
 }
@@ -148,33 +141,29 @@ pub record Added (ops more : List PlanOp) (depths : List ℕ) : Type 0 where
   pub stages_are : stages more ≡ stages ops ++ capped depths
 
 pub added_none : (ops : List PlanOp) → AreMade ops → Added ops ops []
-added_none ops made = record { extends = same_ops ops; made = made; stages_are = sym (append-nil (stages ops)) }
+added_none ops made = record { extends = same_ops _; made = made; stages_are = simp append-nil }
 
 pub added_then : (a b c : List PlanOp) (ds es : List ℕ) → Added a b ds → Added b c es → Added a c (ds ++ es)
 added_then a b c ds es p q = record {
   extends = and_more a b c p.extends q.extends;
   made = q.made;
-  stages_are = q.stages_are ∙ ap (λ l. l ++ capped es) p.stages_are ∙ append_assoc (stages a) (capped ds) (capped es)
-      ∙ ap (λ l. stages a ++ l) (sym (map-append (λ depth. min (MAX_STAGES + 1) depth) ds es));
+  stages_are = simp (q.stages_are, p.stages_are, append_assoc, map-append);
 }
 
 pub added_one : (ops : List PlanOp) (op : operation.Operation) (left right : Operand) (d e : ℕ) → AreMade ops → IsAt ops left d
     → IsAt ops right e → Added ops (ops ++ op_on ops op left right ∷ []) ((1 + max d e) ∷ [])
 added_one ops op left right d e made l r =
-    let stage : stage_after (operand_stage ops left) (operand_stage ops right) ≡ min (MAX_STAGES + 1) (1 + max d e) =
-    (let a = l.stage in let b = r.stage in omega arith) in
+    let stage : stage_after (operand_stage ops left) (operand_stage ops right) ≡ min (MAX_STAGES + 1) (1 + max d e) = (omega arith) in
     record {
-      extends = one_more ops (op_on ops op left right);
-      made = made_more ops op left right made l.within r.within;
-      stages_are = map-append (λ (one : PlanOp). one.stage) ops (op_on ops op left right ∷ []) ∙ ap (λ s. stages ops ++ s ∷ []) stage;
+      extends = one_more _ _;
+      made = made_more _ op _ _ made l.within r.within;
+      stages_are = simp (map-append, stage);
     }
 
 pub last_at : (ops : List PlanOp) (op : operation.Operation) (left right : Operand) (d e : ℕ) → IsAt ops left d → IsAt ops right e →
     IsAt (ops ++ op_on ops op left right ∷ []) (Register (FIELDS + length ops)) (1 + max d e)
 last_at ops op left right d e l r = record {
   within = (let n = length_push ops (op_on ops op left right) in omega arith);
-  stage =
-      stage_of_register (ops ++ op_on ops op left right ∷ []) (length ops) (op_on ops op left right)
-      (slice_get-last ops (op_on ops op left right))
-      ∙ (let a = l.stage in let b = r.stage in omega arith);
+  stage = stage_of_register (ops ++ op_on ops op left right ∷ []) (length ops) (op_on ops op left right)
+      (slice_get-last ops (op_on ops op left right)) ∙ (let a = l.stage in let b = r.stage in omega arith);
 }

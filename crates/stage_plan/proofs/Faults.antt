@@ -1,7 +1,7 @@
 -- A query is too deep exactly where an operation that is made for it is, and else the stages are its depths.
-use Rattle.std.proofs.Common.{◌≡◌, ℕ, zero, suc, ◌+◌, ◌-◌, ◌<◌, ◌≤◌, min, Bool, true, false, cond, List, [], ◌∷◌, ◌++◌, length, drop, Some}
-use Rattle.std.proofs.Common.{None, refl, sym, ap, subst, ◌∙◌, inl, inr, arith, lit<}
-use Rattle.std.specs.Prelude.{flat_map, nat_lt, ◌||◌, slice_get, option_map, unwrap_or, if◌then◌else◌}
+use Rattle.std.proofs.Common.{◌≡◌, ℕ, zero, suc, ◌+◌, ◌<◌, ◌≤◌, min, Bool, true, false, cond, List, [], ◌∷◌, ◌++◌, length, Some, None, refl}
+use Rattle.std.proofs.Common.{sym, ap, subst, ◌∙◌, inl, inr, arith, lit<}
+use Rattle.std.specs.Prelude.{nat_lt, ◌||◌}
 use Rattle.std.specs.List.{list_any}
 use Rattle.std.proofs.lemmas.Bool.{cases_lt}
 use Rattle.std.proofs.lemmas.Bool.Decides.{nat_tests}
@@ -22,13 +22,12 @@ use Rattle.stage_plan.specs.Depths.{StreamDepths, packet_depths, depths_at, dept
 use Rattle.stage_plan.specs.Depths.{stage_fault}
 use Rattle.stage_plan.specs.Making.{wires_at, packet_wires, made_by, all_made, are_deep, made_fault}
 use Rattle.stage_plan.proofs.Depths.{IsAt, number_at, AreMade, capped, stages, Added}
-use Rattle.stage_plan.proofs.Deep.{WiresAt, Makes, AllAt, op_makes, depths_after}
-use Rattle.stage_plan.proofs.Deep.{depths_are, all_more, AllMakes, all_make}
+use Rattle.stage_plan.proofs.Deep.{WiresAt, Makes, AllAt, op_makes, depths_after, depths_are, all_more, AllMakes, all_make}
 
 -- where an operation is too deep, some depth is
 deep_stages : (ops : List PlanOp) → are_deep ops ≡ list_any (λ s. nat_lt MAX_STAGES s) (stages ops)
 deep_stages [] = refl
-deep_stages (one ∷ ops) = ap (λ b. nat_lt MAX_STAGES one.stage || b) (deep_stages ops)
+deep_stages (one ∷ ops) = cc (deep_stages ops)
 
 deep_one : (d : ℕ) → nat_lt MAX_STAGES (min (MAX_STAGES + 1) d) ≡ nat_lt MAX_STAGES d
 deep_one d = elim (cases_lt MAX_STAGES d) [
@@ -38,22 +37,18 @@ deep_one d = elim (cases_lt MAX_STAGES d) [
       let b : nat_lt MAX_STAGES d ≡ true = grind (arith, nat_tests) in
       a ∙ sym b
   | inr le ↦
-      let a : nat_lt MAX_STAGES (min (MAX_STAGES + 1) d) ≡ false =
-      (let m : min (MAX_STAGES + 1) d ≤ MAX_STAGES = omega arith in grind (arith, nat_tests)) in
+      let a : nat_lt MAX_STAGES (min (MAX_STAGES + 1) d) ≡ false = (grind (arith, nat_tests)) in
       let b : nat_lt MAX_STAGES d ≡ false = grind (arith, nat_tests) in
       a ∙ sym b
 ]
 
 deep_capped : (depths : List ℕ) → list_any (λ s. nat_lt MAX_STAGES s) (capped depths) ≡ is_too_deep depths
 deep_capped [] = refl
-deep_capped (d ∷ depths) = ap (λ b. b || list_any (λ s. nat_lt MAX_STAGES s) (capped depths)) (deep_one d)
-    ∙ ap (λ b. nat_lt MAX_STAGES d || b) (deep_capped depths)
+deep_capped (d ∷ depths) = cc (deep_one d, deep_capped depths)
 
 added_deep : (ops more : List PlanOp) (depths : List ℕ) → Added ops more depths → are_deep ops ≡ false → are_deep more ≡ is_too_deep depths
 added_deep ops more depths a none =
-    deep_stages more ∙ ap (list_any (λ s. nat_lt MAX_STAGES s)) a.stages_are
-    ∙ list_any-append (λ s. nat_lt MAX_STAGES s) (stages ops) (capped depths)
-    ∙ ap (λ b. b || list_any (λ s. nat_lt MAX_STAGES s) (capped depths)) (sym (deep_stages ops) ∙ none) ∙ deep_capped depths
+    cc (deep_stages more, list_any-append (λ s. nat_lt MAX_STAGES s) (stages ops) (capped depths), deep_stages ops, deep_capped depths)
 
 pub faults_are : (folds : List TypedFold) (ops : List PlanOp) (streams : List StreamWires) (depths : List StreamDepths)
     (list : List TypedStream) → AreMade ops → length streams ≡ length depths → AllAt ops streams depths →
@@ -75,45 +70,36 @@ faults_are folds ops streams depths (one ∷ list) made long at none =
         (streams ++ (made_by folds streams one.op ops).wires ∷ []) list ≡ first_too_deep list
         (depths_after folds (depths ++ depths_made folds depths one.op ∷ []) list)) →
         made_fault folds ops streams (one ∷ list) ≡ first_too_deep (one ∷ list) (depths_after folds depths (one ∷ list))
-    go true is same rest =
-        ap (λ b. cond b (Some (record { kind = OverLimit Stages; span = one.name.span }))
+    go true is same rest = ap (λ b. cond b (Some (record { kind = OverLimit Stages; span = one.name.span }))
         (made_fault folds (made_by folds streams one.op ops).ops (streams ++ (made_by folds streams one.op ops).wires ∷ []) list)) is
         ∙ ap (λ b. cond b (Some (record { kind = OverLimit Stages; span = one.name.span }))
         (first_too_deep list (depths_after folds (depths ++ depths_made folds depths one.op ∷ []) list))) (sym is ∙ same)
-    go false is same rest =
-        ap (λ b. cond b (Some (record { kind = OverLimit Stages; span = one.name.span }))
+    go false is same rest = ap (λ b. cond b (Some (record { kind = OverLimit Stages; span = one.name.span }))
         (made_fault folds (made_by folds streams one.op ops).ops (streams ++ (made_by folds streams one.op ops).wires ∷ []) list)) is
-        ∙ rest is
-        ∙ ap (λ b. cond b (Some (record { kind = OverLimit Stages; span = one.name.span }))
+        ∙ rest is ∙ ap (λ b. cond b (Some (record { kind = OverLimit Stages; span = one.name.span }))
         (first_too_deep list (depths_after folds (depths ++ depths_made folds depths one.op ∷ []) list))) (sym is ∙ same)
 
 no_deep : (folds : List TypedFold) (ops : List PlanOp) (streams : List StreamWires) (list : List TypedStream) → are_deep ops ≡ false
     → made_fault folds ops streams list ≡ None → are_deep (all_made folds ops streams list).ops ≡ false
-no_deep folds ops streams [] none e = none
-no_deep folds ops streams (one ∷ list) none e = go (are_deep (made_by folds streams one.op ops).ops) refl
+no_deep _ _ _ [] none e = none
+no_deep folds ops streams (one ∷ list) _ e = go _ refl
     (no_deep folds (made_by folds streams one.op ops).ops (streams ++ (made_by folds streams one.op ops).wires ∷ []) list)
   where
     go : (b : Bool) → are_deep (made_by folds streams one.op ops).ops ≡ b →
         (are_deep (made_by folds streams one.op ops).ops ≡ false → made_fault folds (made_by folds streams one.op ops).ops
         (streams ++ (made_by folds streams one.op ops).wires ∷ []) list ≡ None
-        → are_deep (all_made folds ops streams (one ∷ list)).ops ≡ false) →
-        are_deep (all_made folds ops streams (one ∷ list)).ops ≡ false
-    go true is rest =
-        let fault : QueryFault = record { kind = OverLimit Stages; span = one.name.span } in let f : Some fault ≡ None =
-        sym (ap (λ b. cond b (Some (record { kind = OverLimit Stages; span = one.name.span }))
-        (made_fault folds (made_by folds streams one.op ops).ops (streams ++ (made_by folds streams one.op ops).wires ∷ []) list)) is)
-        ∙ e in cc
-    go false is rest =
-        rest is (sym (ap (λ b. cond b (Some (record { kind = OverLimit Stages; span = one.name.span }))
-        (made_fault folds (made_by folds streams one.op ops).ops (streams ++ (made_by folds streams one.op ops).wires ∷ []) list)) is)
-        ∙ e)
+        → are_deep (all_made folds ops streams (one ∷ list)).ops ≡ false) → are_deep (all_made folds ops streams (one ∷ list)).ops ≡ false
+    go true is _ =
+        let fault : QueryFault = record { kind = OverLimit Stages; span = one.name.span } in cc
+    go false is rest = rest is (sym (ap (λ b. cond b (Some (record { kind = OverLimit Stages; span = one.name.span }))
+        (made_fault folds (made_by folds streams one.op ops).ops (streams ++ (made_by folds streams one.op ops).wires ∷ []) list)) is) ∙ e)
 
 field_at : (k : ℕ) → k < FIELDS → IsAt [] (Register k) 0
 field_at k lt =
     let early : nat_lt k FIELDS ≡ true = grind (arith, nat_tests) in
     record {
       within = omega arith;
-      stage = ap (λ b. if b then 0 else unwrap_or (option_map (λ (x : PlanOp). x.stage) (slice_get [] (k - FIELDS))) 0) early;
+      stage = rw early;
     }
 
 -- the packets' operands
@@ -165,18 +151,16 @@ made_none = record { each = λ i one found. cc }
 
 capped_none : (depths : List ℕ) → list_any (λ s. nat_lt MAX_STAGES s) (capped depths) ≡ false → capped depths ≡ depths
 capped_none [] e = refl
-capped_none (d ∷ depths) e = go (nat_lt MAX_STAGES (min (MAX_STAGES + 1) d)) refl (capped_none depths)
+capped_none (d ∷ depths) e = go _ refl (capped_none depths)
   where
     go : (b : Bool) → nat_lt MAX_STAGES (min (MAX_STAGES + 1) d) ≡ b → (list_any (λ s. nat_lt MAX_STAGES s) (capped depths) ≡ false
-        → capped depths ≡ depths)
-        → capped (d ∷ depths) ≡ d ∷ depths
-    go true is rest =
-        let f : true ≡ false = sym (ap (λ b. b || list_any (λ s. nat_lt MAX_STAGES s) (capped depths)) is) ∙ e in cc
+        → capped depths ≡ depths) → capped (d ∷ depths) ≡ d ∷ depths
+    go true is _ =
+        let f = sym (ap (λ b. b || list_any (λ s. nat_lt MAX_STAGES s) (capped depths)) is) ∙ e in cc
     go false is rest =
         let few : min (MAX_STAGES + 1) d ≤ MAX_STAGES = grind (arith, nat_tests) in
         let same : min (MAX_STAGES + 1) d ≡ d = omega arith in
-        ap (λ x. x ∷ capped depths) same ∙ ap (λ l. d ∷ l) (rest (sym (ap (λ b. b || list_any (λ s. nat_lt MAX_STAGES s) (capped depths))
-        is) ∙ e))
+        cc (rest (sym (ap (λ b. b || list_any (λ s. nat_lt MAX_STAGES s) (capped depths)) is) ∙ e))
 
 -- the operations that are made for a query
 pub record QueryMade (q : TypedQuery) (ops : List PlanOp) (streams : List StreamWires) : Type 0 where
@@ -186,29 +170,28 @@ pub record QueryMade (q : TypedQuery) (ops : List PlanOp) (streams : List Stream
   pub none : are_deep ops ≡ false
 
 pub query_fault : (q : TypedQuery) → made_fault q.folds [] (packet_wires ∷ []) q.streams ≡ stage_fault q
-query_fault q =
-    faults_are q.folds [] (packet_wires ∷ []) (packet_depths ∷ []) q.streams made_none refl packets_at refl
-    ∙ sym (ap (λ l. first_too_deep q.streams (drop 1 l)) (depths_are q))
+query_fault q = cc (faults_are q.folds [] (packet_wires ∷ []) (packet_depths ∷ []) q.streams made_none refl packets_at refl, depths_are q)
 
 pub query_made : (q : TypedQuery) (ops : List PlanOp) (streams : List StreamWires)
     → ops ≡ (all_made q.folds [] (packet_wires ∷ []) q.streams).ops → streams ≡ (all_made q.folds [] (packet_wires ∷ []) q.streams).streams
-    →
-    made_fault q.folds [] (packet_wires ∷ []) q.streams ≡ None → QueryMade q ops streams
-query_made q ops streams e f fits =
-    subst (λ o. QueryMade q o streams) (sym e) (subst (QueryMade q (all_made q.folds [] (packet_wires ∷ []) q.streams).ops) (sym f)
+    → made_fault q.folds [] (packet_wires ∷ []) q.streams ≡ None → QueryMade q ops streams
+query_made q _ streams e f fits =
+    rw e (subst (QueryMade q (all_made q.folds [] (packet_wires ∷ []) q.streams).ops) (sym f)
     (record {
       made = all.added.made;
       within = all.within;
-      stages_are = capped_are ∙ capped_none (query_depths q) (ap (list_any (λ s. nat_lt MAX_STAGES s)) (sym capped_are)
-          ∙ sym (deep_stages (all_made q.folds [] (packet_wires ∷ []) q.streams).ops) ∙ shallow);
+      stages_are = capped_are ∙ capped_none (query_depths q)
+          (ap (list_any (λ s. nat_lt MAX_STAGES s)) (sym capped_are)
+          ∙ sym (deep_stages (all_made q.folds [] (packet_wires ∷ []) q.streams).ops) ∙
+          shallow);
       none = shallow;
     }))
   where
     all : AllMakes q.folds [] (packet_wires ∷ []) (packet_depths ∷ []) q.streams
-    all = all_make q.folds [] (packet_wires ∷ []) (packet_depths ∷ []) q.streams made_none refl packets_at
+    all = all_make _ [] _ _ _ made_none refl packets_at
 
     capped_are : stages (all_made q.folds [] (packet_wires ∷ []) q.streams).ops ≡ capped (query_depths q)
-    capped_are = all.added.stages_are ∙ ap (λ l. capped (flat_map (λ (d : StreamDepths). d.operations) l)) (sym (depths_are q))
+    capped_are = simp (all.added.stages_are, depths_are)
 
     shallow : are_deep (all_made q.folds [] (packet_wires ∷ []) q.streams).ops ≡ false
-    shallow = no_deep q.folds [] (packet_wires ∷ []) q.streams refl fits
+    shallow = no_deep _ [] _ q.streams refl fits

@@ -1,6 +1,6 @@
 -- No placement of sound operations has fewer stages than they have.
-use Rattle.std.proofs.Common.{◌≡◌, ℕ, zero, suc, ◌+◌, ◌-◌, ◌<◌, ◌≤◌, max, true, false, List, [], ◌∷◌, length, get_or, Some, Option, refl}
-use Rattle.std.proofs.Common.{sym, ap, subst, ◌∙◌, inl, inr, arith}
+use Rattle.std.proofs.Common.{◌≡◌, ℕ, zero, suc, ◌+◌, ◌-◌, ◌<◌, ◌≤◌, true, false, List, [], ◌∷◌, length, get_or, Some, Option, refl, sym}
+use Rattle.std.proofs.Common.{ap, subst, ◌∙◌, inl, inr, arith}
 use Rattle.std.specs.Prelude.{map, nat_lt, slice_get, slice_index, option_map, unwrap_or, if◌then◌else◌}
 use Rattle.std.proofs.lemmas.Bool.{cases_lt}
 use Rattle.std.proofs.lemmas.Bool.Decides.{nat_tests}
@@ -19,7 +19,7 @@ use Rattle.stage_plan.proofs.PlanParts.{stages_within}
 
 pub highest : (ops : List PlanOp) → greatest (map (λ (one : PlanOp). one.stage) ops) ≡ stages_of ops
 highest [] = refl
-highest (one ∷ ops) = ap (max one.stage) (highest ops)
+highest (one ∷ ops) = cc (highest ops)
 
 greatest_above : (stages : List ℕ) (i : ℕ) → slice_index stages i ≤ greatest stages
 greatest_above [] i = omega arith
@@ -45,17 +45,16 @@ module _ (ops : List PlanOp) (stages : List ℕ) (p : IsPlacement ops stages) wh
         let late : nat_lt r FIELDS ≡ false = grind (arith, nat_tests) in
         let here : slice_index stages number < slice_index stages i = later number (ap Register same) in
         let there : operand_stage ops (Register r) ≡ unwrap_or (option_map (λ (x : PlanOp). x.stage) (slice_get ops number)) 0 =
-        ap (λ b. if b then 0 else unwrap_or (option_map (λ (x : PlanOp). x.stage) (slice_get ops (r - FIELDS))) 0) late
+        ap (λ b. if b then 0 else unwrap_or (option_map (λ x. x.stage) (slice_get ops (r - FIELDS))) 0) late
         in
         elim ((slice_get_cases ops number).1) [
           | inl found ↦
               let low : found.0.stage ≤ slice_index stages number = before number found.0 (omega arith) found.2 in
               let is : operand_stage ops (Register r) ≡ found.0.stage = there
-              ∙ ap (λ (x : Option PlanOp). unwrap_or (option_map (λ (y : PlanOp). y.stage) x) 0) found.2 in
+              ∙ ap (λ x. unwrap_or (option_map (λ y. y.stage) x) 0) found.2 in
               omega arith
           | inr past ↦
-              let is : operand_stage ops (Register r) ≡ 0 = there ∙ ap
-              (λ (x : Option PlanOp). unwrap_or (option_map (λ (y : PlanOp). y.stage) x) 0) past.1 in
+              let is : operand_stage ops (Register r) ≡ 0 = there ∙ ap (λ x. unwrap_or (option_map (λ y. y.stage) x) 0) past.1 in
               omega arith
         ]
   ]
@@ -86,15 +85,15 @@ module _ (ops : List PlanOp) (stages : List ℕ) (p : IsPlacement ops stages) wh
 
 stage_index : (ops : List PlanOp) (i : ℕ) (one : PlanOp) → slice_get ops i ≡ Some one
     → slice_index (map (λ (x : PlanOp). x.stage) ops) i ≡ one.stage
-stage_index [] i one e = cc
-stage_index (first ∷ ops) zero one e = ap (λ (x : PlanOp). x.stage) (same_Some first one e)
-stage_index (first ∷ ops) (suc i) one e = stage_index ops i one e
+stage_index [] i _ e = cc
+stage_index (first ∷ _) zero one e = cc (same_Some first one e)
+stage_index (_ ∷ ops) (suc i) one e = stage_index ops i one e
 
 -- the stages that the operations have are a placement
 pub placed : (ops : List PlanOp) → AreSoundOps ops → IsPlacement ops (map (λ (one : PlanOp). one.stage) ops)
 placed ops sound = record {
-  all = length-map ops (λ (one : PlanOp). one.stage);
-  some = λ i d lt. each_some i d (omega (arith, length-map ops (λ (one : PlanOp). one.stage)));
+  all = length-map ops (λ one. one.stage);
+  some = λ i d lt. each_some i d (omega (arith, length-map ops (λ one. one.stage)));
   beyond = each_after;
 }
   where
@@ -102,7 +101,7 @@ placed ops sound = record {
     each_some i d lt = elim ((slice_get_cases ops i).1) [
       | inl found ↦
           let s = (sound.each i found.0 found.2).stage in
-          let is : get_or (map (λ (one : PlanOp). one.stage) ops) i d ≡ (get_or ops i found.0).stage =
+          let is : get_or (map (λ one. one.stage) ops) i d ≡ (get_or ops i found.0).stage =
           get_or-map (λ (one : PlanOp). one.stage) ops i found.0 d lt in
           let same = ap (λ (x : PlanOp). x.stage) found.3 in
           omega arith
@@ -110,8 +109,7 @@ placed ops sound = record {
     ]
 
     reads : (i number : ℕ) (one : PlanOp) (o : Operand) → slice_get ops i ≡ Some one → o ≡ Register (FIELDS + number)
-        → IsWithin (FIELDS + i) o
-        → operand_stage ops o < one.stage →
+        → IsWithin (FIELDS + i) o → operand_stage ops o < one.stage →
         slice_index (map (λ (x : PlanOp). x.stage) ops) number < slice_index (map (λ (x : PlanOp). x.stage) ops) i
     reads i number one o found e within less =
         let near : FIELDS + number < FIELDS + i = subst (IsWithin (FIELDS + i)) e within in

@@ -24,23 +24,22 @@ found_from : (f : TypedFold) (tries d : ℕ) → ((e : ℕ) → e < d → is_eno
     → IsDepth f (least_from f tries d)
 found_from f zero d before enough = let same : d + 0 ≡ d = omega arith in depth_found f d (subst (λ n. is_enough f n ≡ true) same enough)
     before
-found_from f (suc tries) d before enough = pick (is_enough f d) refl (found_from f tries (suc d))
+found_from f (suc tries) d before enough = pick _ refl (found_from f tries _)
   where
     pick : (b : Bool) → is_enough f d ≡ b → (((e : ℕ) → e < suc d → is_enough f e ≡ false) → is_enough f (suc d + tries) ≡ true
-        → IsDepth f (least_from f tries (suc d))) →
-        IsDepth f (if b then d else least_from f tries (suc d))
-    pick true now later = depth_found f d now before
+        → IsDepth f (least_from f tries (suc d))) → IsDepth f (if b then d else least_from f tries (suc d))
+    pick true now _ = depth_found f d now before
     pick false now later =
         let same : d + suc tries ≡ suc d + tries = omega arith in
         later (λ e lt. elim (cases_eq e d) [
-          | inl here ↦ subst (λ n. is_enough f n ≡ false) (sym here) now
+          | inl here ↦ rw here now
           | inr other ↦ before e (omega arith)
         ]) (subst (λ n. is_enough f n ≡ true) same enough)
 
 pub depth_is : (f : TypedFold) (d : ℕ) → IsDepth f d → d ≡ depth_of f
 depth_is f d h =
-    let found : IsDepth f (depth_of f) = found_from f (fold_states f) 0 (λ e lt. absurd (omega arith))
-    (let all : 0 + fold_states f ≡ fold_states f = omega arith in subst (λ n. is_enough f n ≡ true) (sym all) (covered_last f)) in
+    let found = found_from f (fold_states f) 0 (λ e lt. absurd (omega arith))
+    (let all : 0 + fold_states f ≡ fold_states f = omega arith in rw all (covered_last f)) in
     omega (arith, h.least (depth_of f) found.enough, found.least d h.enough)
 
 pub shape_is : (names : List (List ℕ)) (one : TypedStream) (args : ℕ) (f : TypedFold) (group : GroupPlan) → IsProgramOf f group.program →
@@ -50,8 +49,8 @@ pub shape_is : (names : List (List ℕ)) (one : TypedStream) (args : ℕ) (f : T
 shape_is names one args f group is name keys states count =
     let class = is.class in
     let algebra = is.algebra in
-    let depth : group.program.depth ≡ depth_of f = depth_is f group.program.depth is.depth in
-    let row : group.program.layout.args ≡ args = is.layout.args ∙ count in
+    let depth = depth_is f _ is.depth in
+    let row = is.layout.args ∙ count in
     let nodes = is.layout.nodes in
     let statements = is.layout.statements in
     cc
@@ -59,16 +58,13 @@ shape_is names one args f group is name keys states count =
 -- a fold that takes this many arguments
 pub args_are : (folds : List TypedFold) (number args : ℕ) (f : TypedFold) → slice_get folds number ≡ Some f
     → option_map fold_args (slice_get folds number) ≡ Some args → length f.arg_names ≡ args
-args_are folds number args f found all = same_Some (fold_args f) args (sym (ap (option_map fold_args) found) ∙ all)
+args_are _ _ args f found all = same_Some (fold_args f) args (sym (ap (option_map fold_args) found) ∙ all)
 
 pub fitting_shape : (q : TypedQuery) (one : TypedStream) (number args : ℕ) (f : TypedFold) (group : GroupPlan)
     → slice_get q.folds number ≡ Some f → IsProgramOf f group.program →
     group.name ≡ text_at q.names one.name.id → group.key_names ≡ map (text_at q.names) one.columns
-    → group.state_names ≡ map (text_at q.names) f.state_names →
-    length f.arg_names ≡ args → IsGroupShape q one number args group
-fitting_shape q one number args f group found is name keys states count =
-    ap Some (shape_is q.names one args f group is name keys states count)
-    ∙ ap (option_map (shape_with q.names one.name.id one.columns args)) (sym found)
+    → group.state_names ≡ map (text_at q.names) f.state_names → length f.arg_names ≡ args → IsGroupShape q one number args group
+fitting_shape q one _ args f group found is name keys states count = cc (shape_is q.names one args f group is name keys states count)
 
 pub fitting_sound : (folds : List TypedFold) (names : List (List ℕ)) (number keys args : ℕ) (ids : List ℕ) (f : TypedFold)
     (group : GroupPlan) → slice_get folds number ≡ Some f →
@@ -76,7 +72,7 @@ pub fitting_sound : (folds : List TypedFold) (names : List (List ℕ)) (number k
     0 < length ids → length ids ≤ MAX_KEYS → length ids ≡ keys → length f.arg_names ≡ args → IsGroupFor folds number keys args group
 fitting_sound folds names number keys args ids f group found is key_names state_names some most count row =
     let words : length group.key_names ≡ length ids = ap length key_names ∙ length-map ids (text_at names) in
-    let states : length group.state_names ≡ fold_states f = ap length state_names ∙ length-map f.state_names (text_at names) in
+    let states : length group.state_names ≡ fold_states f = ap length state_names ∙ length-map _ _ in
     record {
       program = λ g there. subst (λ x. IsProgramOf x group.program) (same_Some f g (sym found ∙ there)) is;
       is_program = ∣ (f, is) ∣₁;
@@ -90,23 +86,19 @@ fitting_sound folds names number keys args ids f group found is key_names state_
     }
 
 pub shapes_more : (shape : TypedStream → Option GroupShape) (old : List GroupPlan) (xs : List TypedStream) (i : ℕ) (x : TypedStream)
-    (o : Option GroupPlan) → i < length xs → x ≡ get_or xs i x →
-    option_map group_shape o ≡ shape x →
+    (o : Option GroupPlan) → i < length xs → x ≡ get_or xs i x → option_map group_shape o ≡ shape x →
     map group_shape (old ++ option_to_list o) ++ filter_map shape (drop (i + 1) xs) ≡ map group_shape old ++ filter_map shape (drop i xs)
-shapes_more shape old xs i x o lt is same = go (filter_map shape (drop (i + 1) xs)) front o same
+shapes_more shape old xs i x o lt is same = go _ front o same
   where
     front : filter_map shape (drop i xs) ≡ cons_option (shape x) (filter_map shape (drop (i + 1) xs))
-    front = ap (filter_map shape) (drop_more xs i x lt) ∙ ap (λ z. cons_option (shape z) (filter_map shape (drop (i + 1) xs))) (sym is)
+    front = cc (drop_more xs i x lt)
 
     go : (rest : List GroupShape) → filter_map shape (drop i xs) ≡ cons_option (shape x) rest → (p : Option GroupPlan)
         → option_map group_shape p ≡ shape x →
         map group_shape (old ++ option_to_list p) ++ rest ≡ map group_shape old ++ filter_map shape (drop i xs)
-    go rest f None e = ap (λ l. map group_shape l ++ rest) (append-nil old) ∙ ap (λ s. map group_shape old ++ cons_option s rest) e
-        ∙ ap (λ l. map group_shape old ++ l) (sym f)
+    go rest f None e = cc (append-nil old)
     go rest f (Some group) e =
-        ap (λ l. l ++ rest) (map-append group_shape old (group ∷ []))
-        ∙ append_assoc (map group_shape old) (group_shape group ∷ []) rest
-        ∙ ap (λ s. map group_shape old ++ cons_option s rest) e ∙ ap (λ l. map group_shape old ++ l) (sym f)
+        cc (map-append group_shape old (group ∷ []), append_assoc (map group_shape old) (group_shape group ∷ []) rest)
 
 -- what is kept while the groupbys are planned in turn
 pub record Grouped (folds : List TypedFold) (all left : List Taking) (groups : List GroupPlan) : Type 0 where
@@ -121,14 +113,13 @@ pub grouped_more : (folds : List TypedFold) (all : List Taking) (old : List Grou
 grouped_more folds all old xs i x o lt is one before = go (taking_of x.op) o refl one
   where
     front : (m : Option Taking) → taking_of x.op ≡ m → drop (length old) all ≡ cons_option m (takings (drop (i + 1) xs))
-    front m e =
-        before.rest ∙ ap takings (drop_more xs i x lt) ∙ ap (λ z. cons_option (taking_of z.op) (takings (drop (i + 1) xs))) (sym is)
+    front m e = before.rest ∙ ap takings (drop_more xs i x lt) ∙ ap (λ z. cons_option (taking_of z.op) (takings (drop (i + 1) xs))) (sym is)
         ∙ ap (λ z. cons_option z (takings (drop (i + 1) xs))) e
 
     go : (m : Option Taking) (p : Option GroupPlan) → taking_of x.op ≡ m → IsGroupOf folds m p
         → Grouped folds all (takings (drop (i + 1) xs)) (old ++ option_to_list p)
     go None None e h = subst (Grouped folds all (takings (drop (i + 1) xs))) (sym (append-nil old))
-        (record { rest = front None e; sound = before.sound; few = before.few })
+        (record { rest = front _ e; sound = before.sound; few = before.few })
     go (Some t) (Some group) e h =
         let at = stands_at all (length old) t (takings (drop (i + 1) xs)) (front (Some t) e) in
         let long : length (old ++ group ∷ []) ≡ length old + 1 = length_push old group in
@@ -147,8 +138,7 @@ grouped_more folds all old xs i x o lt is one before = go (taking_of x.op) o ref
     go (Some t) None e h = absurd h
 
 pub all_grouped : (folds : List TypedFold) (all : List Taking) (groups : List GroupPlan) (xs : List TypedStream) (i : ℕ) → length xs ≤ i
-    → Grouped folds all (takings (drop i xs)) groups →
-    length groups ≡ length all
-all_grouped folds all groups xs i le g =
-    let none : length (drop (length groups) all) ≡ 0 = ap length (g.rest ∙ ap takings (drop_all i xs le)) in
+    → Grouped folds all (takings (drop i xs)) groups → length groups ≡ length all
+all_grouped _ all groups xs i le g =
+    let none = ap length (g.rest ∙ ap takings (drop_all i xs le)) in
     omega (arith, none, length-drop (length groups) all, g.few)

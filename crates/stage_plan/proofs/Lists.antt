@@ -1,5 +1,5 @@
 -- Elements of lists that grow at the end.
-use Rattle.std.proofs.Common.{◌≡◌, ℕ, zero, suc, ◌+◌, ◌<◌, List, [], ◌∷◌, ◌++◌, length, drop, Some, refl, ap, ◌∙◌, inl, inr, ◌⊎◌, arith}
+use Rattle.std.proofs.Common.{◌≡◌, ℕ, zero, suc, ◌+◌, ◌<◌, List, [], ◌∷◌, ◌++◌, length, drop, Some, refl, ap, inl, inr, ◌⊎◌, arith}
 use Rattle.std.specs.Prelude.{slice_get}
 use Rattle.std.proofs.lemmas.Option.{same_Some}
 
@@ -36,4 +36,4 @@ stands_at (y ∷ all) zero x rest e =
 stands_at (y ∷ all) (suc n) x rest e =
     let r = stands_at all n x rest e in
     let one : suc n + 1 ≡ suc (n + 1) = omega arith in
-    record { found = r.found; next = ap (λ k. drop k (y ∷ all)) one ∙ r.next; within = omega (arith, r.within) }
+    record { found = r.found; next = simp (one, r.next); within = omega (arith, r.within) }

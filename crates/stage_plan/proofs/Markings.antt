@@ -1,5 +1,5 @@
 -- Marking the fields that are named gives the set of them.
-use Rattle.std.proofs.Common.{◌≡◌, ℕ, List, [], ◌∷◌, ◌++◌, Some, None, refl, sym, ap, ◌∙◌}
+use Rattle.std.proofs.Common.{◌≡◌, ℕ, List, [], ◌∷◌, ◌++◌, Some, None, refl, sym, ◌∙◌}
 use Rattle.std.specs.Prelude.{fold, flat_map, filter_map}
 use Rattle.std.proofs.lemmas.List.Sums.{fold-append}
 use Rattle.std.specs.List.{cons_option}
@@ -17,8 +17,8 @@ use Rattle.stage_plan.specs.Marking.{marked, marked_slots, marked_term, marked_o
 -- one column after another
 filtered : (source : ℕ → FieldSource) (fields : FieldSet) (slots : List ℕ) → fold (λ b slot. marked b (source slot)) fields slots ≡ fold
     with_field fields (filter_map source slots)
-filtered source fields [] = refl
-filtered source fields (slot ∷ slots) = filtered source (marked fields (source slot)) slots ∙ go (source slot)
+filtered _ _ [] = refl
+filtered source fields (slot ∷ slots) = filtered source (marked fields (source slot)) slots ∙ go _
   where
     go : (o : FieldSource) → fold with_field (marked fields o) (filter_map source slots) ≡ fold with_field fields
         (cons_option o (filter_map source slots))
@@ -31,52 +31,54 @@ slots_are columns fields slots = filtered (source_at columns) fields slots
 
 term_marks : (columns : List FieldSource) (fields : FieldSet) (e : Term) → marked_term columns fields e ≡ marked_slots columns fields
     (term_slots e)
-term_marks columns fields (Literal n) = refl
-term_marks columns fields (Read s) = refl
+term_marks _ _ (Literal n) = refl
+term_marks _ _ (Read s) = refl
 term_marks columns fields (Negation e) = term_marks columns fields e
 term_marks columns fields (Operation op a b) =
-    term_marks columns (marked_term columns fields a) b
-    ∙ ap (λ z. marked_slots columns z (term_slots b)) (term_marks columns fields a)
-    ∙ sym (fold-append (λ c slot. marked c (source_at columns slot)) fields (term_slots a) (term_slots b))
+    cc (
+      term_marks columns (marked_term columns fields a) b,
+      term_marks columns fields a,
+      fold-append
+          (λ c slot. marked c (source_at columns slot)) fields (term_slots a) (term_slots b),
+    )
 
 terms_mark : (columns : List FieldSource) (fields : FieldSet) (values : List TypedExpr) →
     fold (λ b e. marked_term columns b (term_of e)) fields values ≡ marked_slots columns fields
     (flat_map (λ e. term_slots (term_of e)) values)
-terms_mark columns fields [] = refl
+terms_mark _ _ [] = refl
 terms_mark columns fields (e ∷ values) =
-    terms_mark columns (marked_term columns fields (term_of e)) values
-    ∙ ap (λ z. marked_slots columns z (flat_map (λ e. term_slots (term_of e)) values)) (term_marks columns fields (term_of e))
-    ∙ sym (fold-append (λ c slot. marked c (source_at columns slot)) fields (term_slots (term_of e))
-    (flat_map (λ e. term_slots (term_of e)) values))
+    cc (
+      terms_mark columns (marked_term columns fields (term_of e)) values,
+      term_marks columns fields (term_of e),
+      fold-append
+          (λ c slot. marked c (source_at columns slot)) fields (term_slots (term_of e)) (flat_map (λ e. term_slots (term_of e)) values),
+    )
 
 op_marks : (streams : List (List FieldSource)) (fields : FieldSet) (op : TypedOp)
     → marked_op streams fields op ≡ fold with_field fields (named_fields streams op)
-op_marks streams fields (Filter input condition) = term_marks (sources_at streams input) fields (term_of condition)
-    ∙ slots_are (sources_at streams input) fields (term_slots (term_of condition))
-op_marks streams fields (Map input values) =
-    terms_mark (sources_at streams input) fields values ∙ slots_are (sources_at streams input) fields
-    (flat_map (λ e. term_slots (term_of e)) values)
-op_marks streams fields (Zip left right slots) = refl
+op_marks streams fields (Filter input condition) = simp (term_marks, slots_are)
+op_marks streams fields (Map input values) = simp (terms_mark, slots_are)
+op_marks _ _ (Zip _ _ _) = refl
 op_marks streams fields (Group input keys f args) =
     sym (fold-append (λ c slot. marked c (source_at (sources_at streams input) slot)) fields keys args)
     ∙ slots_are (sources_at streams input) fields (keys ++ args)
 
 all_mark : (streams : List (List FieldSource)) (fields : FieldSet) (list : List TypedStream) →
     fold (λ b one. marked_op streams b one.op) fields list ≡ fold with_field fields (flat_map (λ one. named_fields streams one.op) list)
-all_mark streams fields [] = refl
+all_mark _ _ [] = refl
 all_mark streams fields (one ∷ list) =
-    all_mark streams (marked_op streams fields one.op) list
-    ∙ ap (λ z. fold with_field z (flat_map (λ one. named_fields streams one.op) list)) (op_marks streams fields one.op)
-    ∙ sym (fold-append with_field fields (named_fields streams one.op) (flat_map (λ one. named_fields streams one.op) list))
+    cc (
+      all_mark streams (marked_op streams fields one.op) list,
+      op_marks streams fields one.op,
+      fold-append with_field fields
+          (named_fields streams one.op) (flat_map (λ one. named_fields streams one.op) list),
+    )
 
 -- all that a query names is the set that it reads
 pub query_marks : (q : TypedQuery) → fold (λ b one. marked_op (all_sources q) b one.op) no_fields q.streams ≡ field_set (read_fields q)
 query_marks q = all_mark (all_sources q) no_fields q.streams
 
 pub reads_are : (q : TypedQuery) (columns : List (List FieldSource)) (streams : List TypedStream) (fields : FieldSet)
-    → columns ≡ all_sources q
-    → streams ≡ q.streams →
+    → columns ≡ all_sources q → streams ≡ q.streams →
     fields ≡ fold (λ b one. marked_op columns b one.op) no_fields streams → fields ≡ field_set (read_fields q)
-reads_are q columns streams fields same list is =
-    is ∙ ap (λ c. fold (λ b one. marked_op c b one.op) no_fields streams) same
-    ∙ ap (λ l. fold (λ b one. marked_op (all_sources q) b one.op) no_fields l) list ∙ query_marks q
+reads_are q _ streams _ same list is = simp (is, same, list, query_marks)

@@ -1,8 +1,6 @@
 -- What is made of one stream more.
-use Rattle.std.proofs.Common.{◌≡◌, ℕ, ◌+◌, ◌<◌, false, cond, List, [], ◌∷◌, ◌++◌, length, get_or, drop, Some, sym, ap, ◌∙◌}
+use Rattle.std.proofs.Common.{◌≡◌, ℕ, ◌+◌, ◌<◌, false, List, [], ◌∷◌, ◌++◌, length, get_or, drop, sym, ap, ◌∙◌}
 use Rattle.std.proofs.lemmas.List.{drop_more}
-use Rattle.query_lang.specs.declared.fault.FaultKind.TheVariants.{OverLimit}
-use Rattle.query_lang.specs.declared.fault.Limit.TheVariants.{Stages}
 use Rattle.query_lang.specs.declared.fold.TypedFold.{TypedFold}
 use Rattle.query_lang.specs.declared.typed.TypedStream.{TypedStream}
 use Rattle.stage_plan.specs.declared.op.PlanOp.{PlanOp}
@@ -19,30 +17,19 @@ pub record IsNext (folds : List TypedFold) (ops more : List PlanOp) (streams oth
 pub is_next : (folds given : List TypedFold) (ops more : List PlanOp) (streams before others : List StreamWires) (wires : StreamWires)
     (list : List TypedStream) (i : ℕ) (one : TypedStream) →
     i < length list → one ≡ get_or list i one → given ≡ folds → before ≡ streams → more ≡ (made_by given before one.op ops).ops
-    → wires ≡ (made_by given before one.op ops).wires →
-    others ≡ streams ++ wires ∷ [] → IsNext folds ops more streams others list i one
-is_next folds given ops more streams before others wires list i one lt is same known made wired pushed = record {
-  front = drop_more list i one lt ∙ ap (λ x. x ∷ drop (i + 1) list) (sym is);
-  ops_are = made ∙ ap (λ f. (made_by f before one.op ops).ops) same ∙ ap (λ s. (made_by folds s one.op ops).ops) known;
-  streams_are =
-      pushed ∙ ap (λ w. streams ++ w ∷ []) (wired ∙ ap (λ f. (made_by f before one.op ops).wires) same
-      ∙ ap (λ s. (made_by folds s one.op ops).wires) known);
+    → wires ≡ (made_by given before one.op ops).wires → others ≡ streams ++ wires ∷ [] → IsNext folds ops more streams others list i one
+is_next folds _ ops _ streams before _ _ list i one lt is same known made wired pushed = record {
+  front = cc (drop_more list i one lt);
+  ops_are = rw (made, same, known);
+  streams_are = rw (pushed, wired, same, known);
 }
 
 module _ (folds : List TypedFold) (ops more : List PlanOp) (streams others : List StreamWires) (list : List TypedStream) (i : ℕ)
     (one : TypedStream) (next : IsNext folds ops more streams others list i one) where
   pub next_made : all_made folds more others (drop (i + 1) list) ≡ all_made folds ops streams (drop i list)
-  next_made =
-      ap (λ o. all_made folds o others (drop (i + 1) list)) next.ops_are
-      ∙ ap (λ s. all_made folds (made_by folds streams one.op ops).ops s (drop (i + 1) list)) next.streams_are
-      ∙ sym (ap (all_made folds ops streams) next.front)
+  next_made = rw (next.ops_are, next.streams_are, next.front)
 
   pub next_fault : are_deep more ≡ false → made_fault folds more others (drop (i + 1) list) ≡ made_fault folds ops streams (drop i list)
   next_fault shallow =
-      let none : are_deep (made_by folds streams one.op ops).ops ≡ false = ap are_deep (sym next.ops_are) ∙ shallow in
-      ap (λ o. made_fault folds o others (drop (i + 1) list)) next.ops_are
-      ∙ ap (λ s. made_fault folds (made_by folds streams one.op ops).ops s (drop (i + 1) list)) next.streams_are
-      ∙ sym (ap (λ b. cond b (Some (record { kind = OverLimit Stages; span = one.name.span }))
-      (made_fault folds (made_by folds streams one.op ops).ops (streams ++ (made_by folds streams one.op ops).wires ∷ [])
-      (drop (i + 1) list))) none)
-      ∙ sym (ap (made_fault folds ops streams) next.front)
+      let none = ap are_deep (sym next.ops_are) ∙ shallow in
+      simp (next.ops_are, next.streams_are, none, next.front)

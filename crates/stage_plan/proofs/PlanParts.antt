@@ -1,15 +1,16 @@
 -- The parts that are made for a query are its plan.
 use Rattle.std.proofs.Common.{◌≡◌, ℕ, zero, suc, ◌+◌, ◌<◌, ◌≤◌, max, Bool, true, false, cond, List, [], ◌∷◌, length, get_or, Some, None}
 use Rattle.std.proofs.Common.{Option, refl, sym, ap, subst, ◌∙◌, inl, inr, arith}
-use Rattle.std.specs.Prelude.{All, map, sum_by, count_by, nat_lt, ◌||◌, ◌==◌, slice_get, slice_index, option_map, option_and_then}
-use Rattle.std.specs.Prelude.{unwrap_or, if◌then◌else◌}
-use Rattle.std.specs.List.{list_any}
+use Rattle.std.specs.Prelude.{All, map, sum_by, count_by, ◌==◌, slice_get, slice_index, option_map, option_and_then, unwrap_or}
+use Rattle.std.specs.Prelude.{if◌then◌else◌}
 use Rattle.std.proofs.lemmas.Bool.Decides.{nat_tests}
-use Rattle.std.proofs.lemmas.List.{length-map, get_or-map}
+use Rattle.std.proofs.lemmas.List.{length-map}
+use Rattle.std.proofs.lemmas.List.Elements.{All-map}
 use Rattle.std.proofs.lemmas.List.Sums.{sum_by-cons}
 use Rattle.std.proofs.lemmas.Option.{slice_get_within, same_Some, slice_get_cases, slice_get-map}
 use Rattle.epoch_model.specs.Driving.{Taken, uses_taken}
 use Rattle.fold_class.specs.Program.{IsProgramOf}
+use Rattle.fold_class.proofs.TableLemmas.{or_false_right}
 use Rattle.marple_base.specs.declared.field.FieldSet.{FieldSet}
 use Rattle.marple_base.specs.declared.field.TheConstants.{FIELDS}
 use Rattle.query_lang.specs.Words.{holds}
@@ -38,30 +39,15 @@ use Rattle.stage_plan.proofs.Depths.{IsMade, column_is, stages}
 use Rattle.stage_plan.proofs.Faults.{QueryMade}
 use Rattle.stage_plan.proofs.Runs.{within_more, stage_below, Filled, after_filled}
 use Rattle.stage_plan.proofs.Sorted.{Staged, whole_sum}
-use Rattle.stage_plan.proofs.Reordered.{all, all_long, Stands, stands, Comes, comes, Keeps, keeps, all_ascends, stands_before, unmoved}
+use Rattle.stage_plan.proofs.Reordered.{Arranged, all, all_long, Stands, stands, Comes, comes, keeps, all_ascends, stands_before, unmoved}
 use Rattle.stage_plan.proofs.Reordered.{moved_value, unmoved_front, unmoved_long, unmoved_solved}
 use Rattle.stage_plan.proofs.StreamRows.{Row, row_at, all_rows, row_taken, uses_are}
 use Rattle.stage_plan.proofs.Values.{column_value, Solved, Matches, Matched, all_matched, packets_matched}
 
-or_false : (a b : Bool) → (a || b) ≡ false → (a ≡ false) × (b ≡ false)
-or_false true b e = absurd (no e)
-  where
-    no : true ≡ false → ⊥
-    no f = cc
-or_false false b e = (refl, e)
-
 each_shallow : (ops : List PlanOp) (i : ℕ) (one : PlanOp) → are_deep ops ≡ false → slice_get ops i ≡ Some one → one.stage ≤ MAX_STAGES
-each_shallow [] i one none e = absurd (no e)
-  where
-    no : None ≡ Some one → ⊥
-    no f = cc
-each_shallow (first ∷ ops) zero one none e =
-    let same : first.stage ≡ one.stage = ap (λ (x : PlanOp). x.stage) (same_Some first one e) in
-    let test : nat_lt MAX_STAGES first.stage ≡ false = (or_false (nat_lt MAX_STAGES first.stage)
-    (list_any (λ x. nat_lt MAX_STAGES x.stage) ops) none).0 in
-    grind (arith, nat_tests)
-each_shallow (first ∷ ops) (suc i) one none e = each_shallow ops i one
-    ((or_false (nat_lt MAX_STAGES first.stage) (list_any (λ x. nat_lt MAX_STAGES x.stage) ops) none).1) e
+each_shallow [] i _ _ e = cc
+each_shallow (first ∷ _) zero one none e = grind (arith, nat_tests)
+each_shallow (first ∷ ops) (suc i) one none e = each_shallow ops i _ (or_false_right _ _ none) e
 
 pub stages_within : (xs : List PlanOp) (b : ℕ) → ((i : ℕ) (x : PlanOp) → slice_get xs i ≡ Some x → x.stage ≤ b) → stages_of xs ≤ b
 stages_within [] b h = omega arith
@@ -69,20 +55,15 @@ stages_within (x ∷ xs) b h = omega (arith, h 0 x refl, stages_within xs b (λ 
 
 greatest_is : (xs : List PlanOp) → stages_of xs ≡ greatest (stages xs)
 greatest_is [] = refl
-greatest_is (x ∷ xs) = ap (max x.stage) (greatest_is xs)
+greatest_is (x ∷ xs) = cc (greatest_is xs)
 
 pub sum_map : {A B : Type 0} (f : B → ℕ) (g : A → B) (xs : List A) → sum_by f (map g xs) ≡ sum_by (λ x. f (g x)) xs
 sum_map f g [] = refl
-sum_map f g (x ∷ xs) = sum_by-cons f (g x) (map g xs) ∙ ap (λ n. f (g x) + n) (sum_map f g xs) ∙ sym (sum_by-cons (λ y. f (g y)) x xs)
+sum_map f g (x ∷ xs) = cc (sum_by-cons f (g x) (map g xs), sum_map f g xs, sum_by-cons (λ y. f (g y)) x xs)
 
 same_map : {A B : Type 0} (f g : A → B) (xs : List A) → ((x : A) → f x ≡ g x) → map f xs ≡ map g xs
-same_map f g [] same = refl
-same_map f g (x ∷ xs) same = ap (λ y. y ∷ map f xs) (same x) ∙ ap (λ l. g x ∷ l) (same_map f g xs same)
-
-all_map : (P : Operand → Type 0) (f : ℕ → Operand) (xs : List ℕ) → ((x : ℕ) → P (f x)) → All P (map f xs)
-all_map P f xs h = λ k d lt.
-    let lt' : k < length xs = omega (arith, length-map xs f) in
-    subst P (sym (get_or-map f xs k 0 d lt')) (h (get_or xs k 0))
+same_map f g [] _ = refl
+same_map f g (x ∷ xs) same = cc (same x, same_map f g xs same)
 
 abbrev taken_with : List ℕ → List ℕ → Taken
 taken_with key row = record { key = key; row = row }
@@ -102,34 +83,36 @@ module _ (q : TypedQuery) (valid : IsValidQuery q) (ops : List PlanOp) (streams 
     most = λ i one e. stage_below ops i one e;
   }
 
+  pub arranged : Arranged ops (stages_of ops) registers
+  arranged = record { staged = staged; placed = placed; long = long }
+
   abbrev pub sorted : List PlanOp
-  sorted = all ops (stages_of ops) staged registers placed long
+  sorted = all arranged
 
   sorted_long : length sorted ≡ length ops
-  sorted_long = all_long ops (stages_of ops) staged registers placed long
+  sorted_long = all_long arranged
 
-  kept : (o : Operand) → IsWithin (FIELDS + length ops) o → Keeps ops (stages_of ops) staged registers placed long o
-  kept = keeps ops (stages_of ops) staged registers placed long
+  abbrev before : List ℕ → List ℕ
+  before row = unmoved arranged row
+
+  abbrev operand_of : StreamWires → ℕ → Operand
+  operand_of source slot = moved registers (operand_at source.columns slot)
 
   sound_op : (k : ℕ) (new : PlanOp) → slice_get sorted k ≡ Some new → IsSoundOp sorted k new
   sound_op k new e =
-      let c : Comes ops (stages_of ops) staged registers placed long k new =
-      comes ops (stages_of ops) staged registers placed long k new e in
+      let c : Comes arranged k new = comes arranged k new e in
       let m : IsMade ops c.number c.one = made.made.each c.number c.one c.found in
       let lt : c.number < length ops = slice_get_within ops c.number c.one c.found in
-      let l = kept c.one.left (within_more (FIELDS + c.number) (FIELDS + length ops) c.one.left (omega arith) m.left) in
-      let r = kept c.one.right (within_more (FIELDS + c.number) (FIELDS + length ops) c.one.right (omega arith) m.right) in
+      let l = keeps arranged c.one.left (within_more (FIELDS + c.number) (FIELDS + length ops) c.one.left (omega arith) m.left) in
+      let r = keeps arranged c.one.right (within_more (FIELDS + c.number) (FIELDS + length ops) c.one.right (omega arith) m.right) in
       let low : c.one.stage ≤ MAX_STAGES = each_shallow ops c.number c.one made.none c.found in
       let stage : c.one.stage ≡ suc (max (operand_stage sorted (moved registers c.one.left))
-      (operand_stage sorted (moved registers c.one.right))) =
-      (let a = m.stage in let b = l.stage in let d = r.stage in omega arith)
+      (operand_stage sorted (moved registers c.one.right))) = (let a = m.stage in let b = l.stage in let d = r.stage in omega arith)
       in
       let here : slice_get sorted k ≡ Some (moved_op registers c.one) = e ∙ ap Some c.is in
       subst (IsSoundOp sorted k) (sym c.is) (record {
-        left = stands_before ops (stages_of ops) staged registers placed long k (moved_op registers c.one) (moved registers c.one.left) here
-            l.within (omega arith);
-        right = stands_before ops (stages_of ops) staged registers placed long k (moved_op registers c.one) (moved registers c.one.right)
-            here r.within (omega arith);
+        left = stands_before arranged k (moved_op registers c.one) (moved registers c.one.left) here l.within (omega arith);
+        right = stands_before arranged k (moved_op registers c.one) (moved registers c.one.right) here r.within (omega arith);
         stage = stage;
         most = low;
       })
@@ -137,62 +120,47 @@ module _ (q : TypedQuery) (valid : IsValidQuery q) (ops : List PlanOp) (streams 
   pub sound_ops : AreSoundOps sorted
   sound_ops = record {
     each = sound_op;
-    ordered = all_ascends ops (stages_of ops) staged registers placed long;
+    ordered = all_ascends arranged;
     most = omega (arith, sorted_long);
   }
 
   -- what a groupby takes
-  taken_is : (row : List ℕ) (t : Taking) (source : StreamWires) (r : Row) → FIELDS ≤ length row
-      → Matches (unmoved ops (stages_of ops) staged registers placed long row) source r →
+  taken_is : (row : List ℕ) (t : Taking) (source : StreamWires) (r : Row) → FIELDS ≤ length row → Matches (before row) source r →
       option_map (row_taken t) r ≡ taken_at (wired registers source t.keys t.args) row
   taken_is row t source r fields m = go r m
     where
-      value : (o : Operand) → operand_value row (moved registers o) ≡ operand_value
-          (unmoved ops (stages_of ops) staged registers placed long row) o
-      value = moved_value ops (stages_of ops) staged registers placed long row fields
+      value : (o : Operand) → operand_value row (moved registers o) ≡ operand_value (before row) o
+      value = moved_value arranged row fields
 
-      present : (b : Bool) → holds (operand_value (unmoved ops (stages_of ops) staged registers placed long row) source.present) ≡ b
+      present : (b : Bool) → holds (operand_value (before row) source.present) ≡ b
           → holds (operand_value row (moved registers source.present)) ≡ b
       present b e = ap holds (value source.present) ∙ e
 
       column : (columns : List Operand) (slot : ℕ) → operand_value row (moved registers (operand_at columns slot)) ≡ slice_index
-          (map (operand_value (unmoved ops (stages_of ops) staged registers placed long row)) columns) slot
-      column columns slot = value (operand_at columns slot) ∙ column_value (unmoved ops (stages_of ops) staged registers placed long row)
-          columns slot
+          (map (operand_value (before row)) columns) slot
+      column columns slot = value (operand_at columns slot) ∙ column_value (before row) columns slot
 
-      words : (slots : List ℕ) → map (operand_value row) (map (λ slot. moved registers (operand_at source.columns slot)) slots)
-          ≡ values_at (map (operand_value (unmoved ops (stages_of ops) staged registers placed long row)) source.columns) slots
+      words : (slots : List ℕ) → map (operand_value row) (map (operand_of source) slots)
+          ≡ values_at (map (operand_value (before row)) source.columns) slots
       words [] = refl
-      words (slot ∷ slots) =
-          ap (λ x. x ∷ map (operand_value row) (map (λ slot. moved registers (operand_at source.columns slot)) slots))
-          (column source.columns slot)
-          ∙ ap (λ l. slice_index (map (operand_value (unmoved ops (stages_of ops) staged registers placed long row)) source.columns) slot
-          ∷ l) (words slots)
+      words (slot ∷ slots) = ap (λ x. x ∷ map (operand_value row) (map (operand_of source) slots)) (column source.columns slot)
+          ∙ ap (λ l. slice_index (map (operand_value (before row)) source.columns) slot ∷ l) (words slots)
 
-      go : (r : Row) → Matches (unmoved ops (stages_of ops) staged registers placed long row) source r
-          → option_map (row_taken t) r ≡ taken_at (wired registers source t.keys t.args) row
-      go None m =
-          sym (ap (λ b. if b then Some (record {
-            key = map (operand_value row)
-                (map (λ slot. moved registers (operand_at source.columns slot)) t.keys);
-            row =
-                map (operand_value row) (map (λ slot. moved registers (operand_at source.columns slot)) t.args);
-          }) else None)
-          (present false m))
+      go : (r : Row) → Matches (before row) source r → option_map (row_taken t) r ≡ taken_at (wired registers source t.keys t.args) row
+      go None m = sym (ap (λ b. if b then Some (record {
+        key = map (operand_value row) (map (operand_of source) t.keys);
+        row = map (operand_value row) (map (operand_of source) t.args);
+      }) else None) (present false m))
       go (Some values) m =
-          let a : map (operand_value row) (map (λ slot. moved registers (operand_at source.columns slot)) t.keys) ≡ values_at values
+          let a : map (operand_value row) (map (operand_of source) t.keys) ≡ values_at values
           t.keys = words t.keys ∙ ap (λ l. values_at l t.keys) m.1 in
-          let b : map (operand_value row) (map (λ slot. moved registers (operand_at source.columns slot)) t.args) ≡ values_at values
+          let b : map (operand_value row) (map (operand_of source) t.args) ≡ values_at values
           t.args = words t.args ∙ ap (λ l. values_at l t.args) m.1 in
           sym (
           ap (λ b. if b then Some (record {
-            key = map (operand_value row)
-                (map (λ slot. moved registers (operand_at source.columns slot)) t.keys);
-            row =
-                map (operand_value row) (map (λ slot. moved registers (operand_at source.columns slot)) t.args);
-          }) else None)
-          (present true m.0)
-          ∙ made_taken _ _ _ _ a b
+            key = map (operand_value row) (map (operand_of source) t.keys);
+            row = map (operand_value row) (map (operand_of source) t.args);
+          }) else None) (present true m.0) ∙ made_taken _ _ _ _ a b
           )
 
   packet_taken : (t : Taking) (words : List ℕ) → length words ≡ FIELDS
@@ -202,23 +170,16 @@ module _ (q : TypedQuery) (valid : IsValidQuery q) (ops : List PlanOp) (streams 
       let filled : Filled sorted words (registers_after sorted words (stages_of sorted)) = after_filled sorted words sound_ops words_long in
       let row : List ℕ = registers_after sorted words (stages_of sorted) in
       let fields : FIELDS ≤ length row = (let l = filled.long in omega arith) in
-      let solved : Solved ops (unmoved ops (stages_of ops) staged registers placed long row) =
-      unmoved_solved ops (stages_of ops) staged registers placed long row fields (record { each = filled.each }) in
-      let start : Matched (unmoved ops (stages_of ops) staged registers placed long row) (packet_wires ∷ []) (Some words ∷ []) =
-      packets_matched (unmoved ops (stages_of ops) staged registers placed long row) words
-      (unmoved_long ops (stages_of ops) staged registers placed long row fields)
-      (unmoved_front ops (stages_of ops) staged registers placed long row fields ∙ filled.front)
+      let solved : Solved ops (before row) = unmoved_solved arranged row fields (record { each = filled.each }) in
+      let start : Matched (before row) (packet_wires ∷ []) (Some words ∷ []) = packets_matched (before row) words
+      (unmoved_long arranged row fields) (unmoved_front arranged row fields ∙ filled.front)
       in
-      let matched : Matched (unmoved ops (stages_of ops) staged registers placed long row)
-      (all_made q.folds [] (packet_wires ∷ []) q.streams).streams (all_rows q words) =
-      all_matched (unmoved ops (stages_of ops) staged registers placed long row) q.folds q.streams [] (packet_wires ∷ []) (Some words ∷ [])
-      start
-      (let P : List PlanOp → Type 0 = λ l. Solved l (unmoved ops (stages_of ops) staged registers placed long row) in subst P ops_are
-      solved)
+      let matched : Matched (before row) (all_made q.folds [] (packet_wires ∷ []) q.streams).streams (all_rows q words) =
+      all_matched (before row) q.folds q.streams [] (packet_wires ∷ []) (Some words ∷ []) start
+      (let P : List PlanOp → Type 0 = λ l. Solved l (before row) in subst P ops_are solved)
       in
-      let here : Matches (unmoved ops (stages_of ops) staged registers placed long row) (wires_at streams t.input)
-      (row_at (all_rows q words) t.input) =
-      (let P : List StreamWires → Type 0 = λ l. Matches (unmoved ops (stages_of ops) staged registers placed long row) (wires_at l t.input)
+      let here : Matches (before row) (wires_at streams t.input) (row_at (all_rows q words) t.input) =
+      (let P : List StreamWires → Type 0 = λ l. Matches (before row) (wires_at l t.input)
       (row_at (all_rows q words) t.input) in subst P (sym streams_are) (matched.each t.input))
       in
       taken_is row t (wires_at streams t.input) (row_at (all_rows q words) t.input) fields here
@@ -227,22 +188,18 @@ module _ (q : TypedQuery) (valid : IsValidQuery q) (ops : List PlanOp) (streams 
   same_stages : stages_of sorted ≡ stages_of ops
   same_stages =
       let a : stages_of sorted ≤ stages_of ops = stages_within sorted (stages_of ops) (λ k new e.
-      let c : Comes ops (stages_of ops) staged registers placed long k new =
-      comes ops (stages_of ops) staged registers placed long k new e in
+      let c : Comes arranged k new = comes arranged k new e in
       let s : new.stage ≡ c.one.stage = ap (λ (x : PlanOp). x.stage) c.is in
       omega (arith, stage_below ops c.number c.one c.found)) in
       let b : stages_of ops ≤ stages_of sorted = stages_within ops (stages_of sorted) (λ i one e.
-      let st : Stands ops (stages_of ops) staged registers placed long i one =
-      stands ops (stages_of ops) staged registers placed long i one e in
+      let st : Stands arranged i one = stands arranged i one e in
       stage_below sorted st.place (moved_op registers one) st.found) in
       omega arith
 
   same_count : (stage : ℕ) → count_by (λ depth. depth == stage) (stages sorted) ≡ count_by (λ depth. depth == stage) (query_depths q)
-  same_count stage =
-      sum_map (λ depth. cond (depth == stage) 1 0) (λ (one : PlanOp). one.stage) sorted
+  same_count stage = sum_map (λ depth. cond (depth == stage) 1 0) (λ (one : PlanOp). one.stage) sorted
       ∙ sum_map (λ (one : PlanOp). cond (one.stage == stage) 1 0) (λ number. moved_op registers (op_numbered ops number))
-      (order_of ops (stages_of ops))
-      ∙ whole_sum (λ one. cond (one.stage == stage) 1 0) ops (stages_of ops) staged
+      (order_of ops (stages_of ops)) ∙ whole_sum (λ one. cond (one.stage == stage) 1 0) ops (stages_of ops) staged
       ∙ sym (sum_map (λ depth. cond (depth == stage) 1 0) (λ (one : PlanOp). one.stage) ops)
       ∙ ap (count_by (λ depth. depth == stage)) made.stages_are
 
@@ -267,8 +224,7 @@ module _ (q : TypedQuery) (valid : IsValidQuery q) (ops : List PlanOp) (streams 
 
     same_shape : shape_of parts ≡ query_shape q
     unfolding shape_with
-    same_shape =
-        ap (λ n. shape_with n (sizes_of (stages_of sorted) (stages sorted)) (map group_shape groups)) same_operations
+    same_shape = ap (λ n. shape_with n (sizes_of (stages_of sorted) (stages sorted)) (map group_shape groups)) same_operations
         ∙ ap (λ sizes. shape_with (length (query_depths q)) sizes (map group_shape groups)) same_sizes
         ∙ ap (λ list. shape_with (length (query_depths q)) (sizes_of (greatest (query_depths q)) (query_depths q)) list) shapes
 
@@ -293,11 +249,7 @@ module _ (q : TypedQuery) (valid : IsValidQuery q) (ops : List PlanOp) (streams 
     programs_are i f group e g = go (slice_get (takings q.streams) i) refl
       where
         go : (o : Option Taking) → slice_get (takings q.streams) i ≡ o → IsProgramOf f group.program
-        go None h = let none : None ≡ Some f = sym (ap (option_and_then (λ (t : Taking). slice_get q.folds t.fold_number)) h)
-            ∙ e in absurd (no none)
-          where
-            no : None ≡ Some f → ⊥
-            no z = cc
+        go None h = let none : None ≡ Some f = sym (ap (option_and_then (λ t. slice_get q.folds t.fold_number)) h) ∙ e in cc
         go (Some t) h = (sound i t group h g).program f (sym (ap (option_and_then (λ (t : Taking). slice_get q.folds t.fold_number)) h) ∙ e)
 
     staged_here : IsStaged ops streams (takings q.streams) sorted (map (wiring_of registers streams) (takings q.streams))
@@ -334,12 +286,11 @@ module _ (q : TypedQuery) (valid : IsValidQuery q) (ops : List PlanOp) (streams 
           let at = made.within t.input in
           let source : StreamWires = wires_at streams t.input in
           let column : (slot : ℕ) → IsWithin (FIELDS + length sorted) (moved registers (operand_at source.columns slot)) =
-          λ slot. (kept (operand_at source.columns slot) (column_is ops source.columns at.0.columns slot at.1.columns).within).within
+          λ slot. (keeps arranged (operand_at source.columns slot) (column_is ops source.columns at.0.columns slot
+          at.1.columns).within).within
           in
-          let keys : length (wiring_of registers streams t).keys ≡ length t.keys =
-          length-map t.keys (λ slot. moved registers (operand_at source.columns slot)) in
-          let args : length (wiring_of registers streams t).args ≡ length t.args =
-          length-map t.args (λ slot. moved registers (operand_at source.columns slot)) in
+          let keys : length (wiring_of registers streams t).keys ≡ length t.keys = length-map t.keys (operand_of source) in
+          let args : length (wiring_of registers streams t).args ≡ length t.args = length-map t.args (operand_of source) in
           subst (IsSoundGroup (FIELDS + length sorted) group) (sym w) (record {
             program = h.is_program;
             some_keys = h.some_keys;
@@ -349,11 +300,9 @@ module _ (q : TypedQuery) (valid : IsValidQuery q) (ops : List PlanOp) (streams 
             keys = keys ∙ sym h.keys;
             args = args ∙ sym h.args;
             most_args = (let m = h.most_args in omega arith);
-            present = (kept source.present at.1.present.within).within;
-            key_registers = all_map (IsWithin (FIELDS + length sorted)) (λ slot. moved registers (operand_at source.columns slot)) t.keys
-                column;
-            arg_registers = all_map (IsWithin (FIELDS + length sorted)) (λ slot. moved registers (operand_at source.columns slot)) t.args
-                column;
+            present = (keeps arranged source.present at.1.present.within).within;
+            key_registers = All-map (IsWithin (FIELDS + length sorted)) (operand_of source) t.keys (λ k d _. column (get_or t.keys k d));
+            arg_registers = All-map (IsWithin (FIELDS + length sorted)) (operand_of source) t.args (λ k d _. column (get_or t.args k d));
           })
       | inr past ↦ absurd (let n = slice_get_within groups i group g in omega arith)
     ]

@@ -1,5 +1,5 @@
 -- A plan is put together from parts that were made in turn.
-use Rattle.std.proofs.Common.{◌≡◌, ℕ, ◌<◌, ◌≤◌, List, [], ◌∷◌, length, None, sym, ap, subst, ◌∙◌, arith}
+use Rattle.std.proofs.Common.{◌≡◌, ℕ, ◌<◌, ◌≤◌, List, [], ◌∷◌, length, None, sym, ap, subst, arith}
 use Rattle.std.specs.Prelude.{All, map}
 use Rattle.marple_base.specs.declared.field.FieldSet.{FieldSet}
 use Rattle.query_lang.specs.declared.typed.TypedQuery.{TypedQuery}
@@ -35,15 +35,15 @@ pub record MadeOf (q : TypedQuery) (ops : List PlanOp) (streams : List StreamWir
   pub few : length ops ≤ 32768
 
 made_query : (q : TypedQuery) (ops : List PlanOp) (streams : List StreamWires) → MadeOf q ops streams → QueryMade q ops streams
-made_query q ops streams m = query_made q ops streams m.ops_are m.streams_are m.fits
+made_query q ops streams m = query_made q _ _ m.ops_are m.streams_are m.fits
 
 -- the order's numbers are there, and there are few
 pub numbers_within : (ops : List PlanOp) (order : List ℕ) (n : ℕ) → order ≡ order_of ops (stages_of ops) → n ≡ length ops
     → All (λ number. number < n) order
-numbers_within ops order n e len =
+numbers_within ops _ n e len =
     let P : List ℕ → Type 0 = λ l. All (λ number. number < n) l in
     let Q : ℕ → Type 0 = λ m. All (λ number. number < m) (order_of ops (stages_of ops)) in
-    subst P (sym e) (subst Q (sym len) (order_within ops (stages_of ops)))
+    rw e (subst Q (sym len) (order_within ops (stages_of ops)))
 
 -- the parts that were made
 pub record PartsOf (q : TypedQuery) (ops : List PlanOp) (streams : List StreamWires) (order registers : List ℕ) (sorted : List PlanOp)
@@ -71,27 +71,23 @@ pub put : (q : TypedQuery) (ops : List PlanOp) (streams : List StreamWires) (ord
     (wiring : List GroupWiring) (groups : List GroupPlan) (reads : FieldSet) →
     PartsOf q ops streams order registers new wiring groups reads → IsPut q
     (record { reads = reads; ops = new; groups = groups; wiring = wiring })
-put q ops streams order registers new wiring groups reads p = subst (IsPut q) same (record {
-  is_plan = is_plan q p.made.valid ops streams made p.made.ops_are p.made.streams_are p.made.few registers placed p.long groups p.shapes
-      p.sound p.count reads p.reads_are;
-  is_sound = sound_plan q p.made.valid ops streams made p.made.ops_are p.made.streams_are p.made.few registers placed p.long groups p.shapes
-      p.sound p.count reads p.reads_are;
-})
+put q ops streams _ registers new wiring groups reads p =
+    rw (← same) (record {
+      is_plan = is_plan q p.made.valid ops streams made p.made.ops_are p.made.streams_are p.made.few registers placed
+          p.long groups p.shapes p.sound p.count reads p.reads_are;
+      is_sound = sound_plan q p.made.valid ops streams made p.made.ops_are
+          p.made.streams_are p.made.few registers placed p.long groups p.shapes p.sound p.count reads p.reads_are;
+    })
   where
     made : QueryMade q ops streams
-    made = made_query q ops streams p.made
+    made = made_query q _ _ p.made
 
     placed : ArePlaced (order_of ops (stages_of ops)) registers (length (order_of ops (stages_of ops)))
-    placed = let P : List ℕ → Type 0 = λ o. ArePlaced o registers (length o) in subst P p.order_is p.placed
+    placed = let P : List ℕ → Type 0 = λ o. ArePlaced o registers (length o) in rw p.order_is at p.placed
 
     same : parts_with reads groups (map (λ number. moved_op registers (op_numbered ops number)) (order_of ops (stages_of ops)))
-        (map (wiring_of registers streams) (takings q.streams))
-        ≡ record { reads = reads; ops = new; groups = groups; wiring = wiring }
-    same =
-        ap (λ o. parts_with reads groups (map (λ number. moved_op registers (op_numbered ops number)) o)
-        (map (wiring_of registers streams) (takings q.streams))) (sym p.order_is)
-        ∙ ap (λ o. parts_with reads groups o (map (wiring_of registers streams) (takings q.streams))) (sym p.sorted_are)
-        ∙ ap (λ w. parts_with reads groups new w) (sym p.wiring_is)
+        (map (wiring_of registers streams) (takings q.streams)) ≡ record { reads = reads; ops = new; groups = groups; wiring = wiring }
+    same = simp (p.order_is, p.sorted_are, p.wiring_is)
 
 pub few_numbers : (q : TypedQuery) (ops : List PlanOp) (streams : List StreamWires) (order : List ℕ) → MadeOf q ops streams
     → order ≡ order_of ops (stages_of ops) → length order ≤ 32768
@@ -107,26 +103,18 @@ few_numbers q ops streams order m e =
 pub put_from : (q : TypedQuery) (ops o1 : List PlanOp) (streams s1 : List StreamWires) (t1 : List TypedStream) (stages : ℕ)
     (order a1 a2 registers r1 r2 : List ℕ) (new : List PlanOp) (wiring : List GroupWiring) (groups : List GroupPlan) (reads : FieldSet) →
     MadeOf q ops streams → o1 ≡ ops → stages ≡ stages_of o1 → order ≡ order_of o1 stages → a1 ≡ order → ArePlaced a1 registers (length a1)
-    → length registers ≡ length o1 →
-    a2 ≡ order → r1 ≡ registers → new ≡ map (λ number. moved_op r1 (op_numbered o1 number)) a2 →
+    → length registers ≡ length o1 → a2 ≡ order → r1 ≡ registers → new ≡ map (λ number. moved_op r1 (op_numbered o1 number)) a2 →
     t1 ≡ q.streams → s1 ≡ streams → r2 ≡ registers → wiring ≡ map (wiring_of r2 s1) (takings t1) →
     map group_shape groups ≡ query_groups q → AreGroupsOf q.folds (takings q.streams) groups → length groups ≡ length (takings q.streams)
-    → reads ≡ reads_of q →
-    IsPut q (record { reads = reads; ops = new; groups = groups; wiring = wiring })
-put_from q ops o1 streams s1 t1 stages order a1 a2 registers r1 r2 new wiring groups reads made eo es eorder ea1 placed long ea2 er1 enew et
-    est er2 ewiring shapes sound count ereads =
-    put q ops streams order registers new wiring groups reads (record {
+    → reads ≡ reads_of q → IsPut q (record { reads = reads; ops = new; groups = groups; wiring = wiring })
+put_from q ops o1 streams s1 t1 _ order a1 a2 registers r1 r2 new wiring groups reads made eo es eorder ea1 placed long ea2 er1 enew et
+    est er2 ewiring shapes sound count ereads = put q _ _ _ _ _ _ _ _ (record {
       made = made;
-      order_is = eorder ∙ ap (order_of o1) es ∙ ap (λ o. order_of o (stages_of o)) eo;
-      placed = (let P : List ℕ → Type 0 = λ l. ArePlaced l registers (length l) in subst P ea1 placed);
-      long = long ∙ ap length eo;
-      sorted_are =
-          enew ∙ ap (λ r. map (λ number. moved_op r (op_numbered o1 number)) a2) er1
-          ∙ ap (λ o. map (λ number. moved_op registers (op_numbered o number)) a2) eo
-          ∙ ap (map (λ number. moved_op registers (op_numbered ops number))) ea2;
-      wiring_is =
-          ewiring ∙ ap (λ r. map (wiring_of r s1) (takings t1)) er2 ∙ ap (λ s. map (wiring_of registers s) (takings t1)) est
-          ∙ ap (λ t. map (wiring_of registers streams) (takings t)) et;
+      order_is = rw (eorder, es, eo);
+      placed = (let P : List ℕ → Type 0 = λ l. ArePlaced l registers (length l) in rw ea1 at placed);
+      long = rw (long, eo);
+      sorted_are = rw (enew, er1, eo, ea2);
+      wiring_is = rw (ewiring, er2, est, et);
       shapes = shapes;
       sound = sound;
       count = count;
@@ -136,9 +124,9 @@ put_from q ops o1 streams s1 t1 stages order a1 a2 registers r1 r2 new wiring gr
 -- the order that a step gives
 pub order_from : (ops o1 : List PlanOp) (stages : ℕ) (order a1 : List ℕ) → o1 ≡ ops → stages ≡ stages_of o1 → order ≡ order_of o1 stages
     → a1 ≡ order → a1 ≡ order_of ops (stages_of ops)
-order_from ops o1 stages order a1 eo es eorder ea1 = ea1 ∙ eorder ∙ ap (order_of o1) es ∙ ap (λ o. order_of o (stages_of o)) eo
+order_from _ o1 _ _ a1 eo es eorder ea1 = rw (ea1, eorder, es, eo)
 
 -- a fault of the operations is one of the stages
 pub refusal : (q : TypedQuery) (error : QueryError) → IsTold (made_fault q.folds [] (packet_wires ∷ []) q.streams) error
     → IsTold (stage_fault q) error
-refusal q error h = subst (λ o. IsTold o error) (query_fault q) h
+refusal q error h = rw (query_fault q) at h

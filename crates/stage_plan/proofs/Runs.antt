@@ -1,7 +1,7 @@
 -- Registers in which each operation's own holds its result: there is one way to fill them, and the stages fill them so.
 use Rattle.std.proofs.Common.{◌≡◌, ℕ, zero, suc, ◌+◌, ◌-◌, ◌<◌, ◌≤◌, ◌≢◌, true, false, eqb, ltb, List, [], ◌∷◌, ◌++◌, length, get_or, set}
 use Rattle.std.proofs.Common.{take, drop, Some, refl, sym, ap, ◌∙◌, inl, inr, arith, length-append, length-drop}
-use Rattle.std.specs.Prelude.{slice_get, option_map, unwrap_or, if◌then◌else◌, ◌==◌, replicate}
+use Rattle.std.specs.Prelude.{slice_get, if◌then◌else◌, ◌==◌, replicate}
 use Rattle.std.proofs.lemmas.List.{ext_get_or, get_or-set_same, get_or-set_other, get_or-take, get_or-drop, length-replicate, take_at}
 use Rattle.std.proofs.lemmas.List.{get_or-append_right, length-take-le}
 use Rattle.std.proofs.lemmas.Option.{slice_get_within, same_Some, slice_get_cases, slice_get-get_or}
@@ -11,21 +11,21 @@ use Rattle.marple_base.specs.declared.field.TheConstants.{FIELDS}
 use Rattle.stage_plan.specs.declared.op.Operand.{Operand}
 use Rattle.stage_plan.specs.declared.op.Operand.TheVariants.{Register, Number}
 use Rattle.stage_plan.specs.declared.op.PlanOp.{PlanOp}
-use Rattle.stage_plan.specs.Registers.{operand_value, operation_value, result_of, stage_results, registers_after, stages_of, operand_stage}
+use Rattle.stage_plan.specs.Registers.{operand_value, result_of, stage_results, registers_after, stages_of, operand_stage}
 use Rattle.stage_plan.specs.Sound.{IsWithin, IsSoundOp, AreSoundOps}
 
 -- two lists of registers that agree below a number give an operand below it one value
 pub same_operand : (r s : List ℕ) (n : ℕ) (o : Operand) → ((k : ℕ) → k < n → get_or r k 0 ≡ get_or s k 0) → IsWithin n o
     → operand_value r o ≡ operand_value s o
 same_operand r s n (Register k) same within = same k within
-same_operand r s n (Number v) same within = refl
+same_operand r s n (Number v) _ _ = refl
 
 pub same_result : (r s : List ℕ) (n : ℕ) (one : PlanOp) → ((k : ℕ) → k < n → get_or r k 0 ≡ get_or s k 0) → IsWithin n one.left
     → IsWithin n one.right → result_of r one ≡ result_of s one
 same_result r s n one same left right =
-    let a = same_operand r s n one.left same left in
-    let b = same_operand r s n one.right same right in
-    ap (λ x. operation_value one.op x (operand_value r one.right)) a ∙ ap (λ y. operation_value one.op (operand_value s one.left) y) b
+    let a = same_operand r s n _ same left in
+    let b = same_operand r s n _ same right in
+    rw (a, b)
 
 -- each operation's register holds its result
 pub record Filled (ops : List PlanOp) (words registers : List ℕ) : Type 0 where
@@ -38,7 +38,7 @@ agree : (ops : List PlanOp) (words r s : List ℕ) → AreSoundOps ops → Fille
     → (k : ℕ) → k < FIELDS + n → get_or r k 0 ≡ get_or s k 0
 agree ops words r s sound fr fs zero le k lt =
     let lt' : k < FIELDS = omega arith in
-    sym (get_or-take FIELDS r k 0 lt') ∙ ap (λ l. get_or l k 0) (fr.front ∙ sym fs.front) ∙ get_or-take FIELDS s k 0 lt'
+    sym (get_or-take _ r k 0 lt') ∙ ap (λ l. get_or l k 0) (fr.front ∙ sym fs.front) ∙ get_or-take _ s k 0 lt'
 agree ops words r s sound fr fs (suc n) le k lt =
     let before = agree ops words r s sound fr fs n (omega arith) in
     elim ((slice_get_cases ops n).1) [
@@ -46,8 +46,7 @@ agree ops words r s sound fr fs (suc n) le k lt =
           elim (cases_eq k (FIELDS + n)) [
             | inl same ↦
                 let one = found.0 in let here = sound.each n one found.2 in
-                ap (λ j. get_or r j 0) same ∙ fr.each n one found.2 ∙ same_result r s (FIELDS + n) one before here.left here.right
-                ∙ sym (fs.each n one found.2) ∙ ap (λ j. get_or s j 0) (sym same)
+                cc (fr.each n one found.2, same_result r s (FIELDS + n) one before here.left here.right, fs.each n one found.2)
             | inr other ↦ before k (omega arith)
           ]
       | inr past ↦ before k (omega arith)
@@ -64,54 +63,46 @@ within_more m n (Number v) le h = tt
 -- the operation at a place of the list reads registers that are there
 pub reads_left : (ops : List PlanOp) (i n : ℕ) (d : PlanOp) → AreSoundOps ops → i < length ops → FIELDS + length ops ≤ n
     → IsWithin n (get_or ops i d).left
-reads_left ops i n d sound lt le = within_more (FIELDS + i) n (get_or ops i d).left (omega arith)
-    (sound.each i (get_or ops i d) (slice_get-get_or ops i d lt)).left
+reads_left ops i n d sound lt le = within_more _ n _ (omega arith) (sound.each i (get_or ops i d) (slice_get-get_or _ i d lt)).left
 
 pub reads_right : (ops : List PlanOp) (i n : ℕ) (d : PlanOp) → AreSoundOps ops → i < length ops → FIELDS + length ops ≤ n
     → IsWithin n (get_or ops i d).right
-reads_right ops i n d sound lt le = within_more (FIELDS + i) n (get_or ops i d).right (omega arith)
-    (sound.each i (get_or ops i d) (slice_get-get_or ops i d lt)).right
+reads_right ops i n d sound lt le = within_more _ n _ (omega arith) (sound.each i (get_or ops i d) (slice_get-get_or _ i d lt)).right
 
 -- one more result, which no earlier one reads
 pub results_more : (ops : List PlanOp) (r : List ℕ) (n v : ℕ) (d : PlanOp) → AreSoundOps ops → n < length ops → length r ≡ FIELDS
-    + length ops →
-    ((i : ℕ) (one : PlanOp) → i < n → slice_get ops i ≡ Some one → get_or r (FIELDS + i) 0 ≡ result_of r one) →
+    + length ops → ((i : ℕ) (one : PlanOp) → i < n → slice_get ops i ≡ Some one → get_or r (FIELDS + i) 0 ≡ result_of r one) →
     v ≡ result_of r (get_or ops n d) →
     (i : ℕ) (one : PlanOp) → i < n + 1 → slice_get ops i ≡ Some one → get_or (set r (FIELDS + n) v) (FIELDS + i) 0 ≡ result_of
-    (set r (FIELDS + n) v)
-    one
+    (set r (FIELDS + n) v) one
 results_more ops r n v d sound lt long before is i one below found =
     let here = sound.each i one found in
     let other : (k : ℕ) → k < FIELDS + i → get_or (set r (FIELDS + n) v) k 0 ≡ get_or r k 0 =
     λ k h. (let ne : k ≢ FIELDS + n = omega arith in get_or-set_other r (FIELDS + n) k v 0 ne) in
     let same : result_of (set r (FIELDS + n) v) one ≡ result_of r one =
-    same_result (set r (FIELDS + n) v) r (FIELDS + i) one other here.left
-    here.right in
+    same_result (set r (FIELDS + n) v) r (FIELDS + i) one other here.left here.right in
     elim (cases_eq i n) [
       | inl at ↦
           let room : FIELDS + n < length r = omega arith in
           let there : one ≡ get_or ops n d = same_Some _ _ (sym found ∙ ap (slice_get ops) at ∙ slice_get-get_or ops n d lt) in
-          ap (λ j. get_or (set r (FIELDS + n) v) (FIELDS + j) 0) at ∙ get_or-set_same r (FIELDS + n) v 0 room ∙ is
-          ∙ ap (result_of r) (sym there)
-          ∙ sym same
+          cc (get_or-set_same r (FIELDS + n) v 0 room)
       | inr apart ↦
           let ne : FIELDS + i ≢ FIELDS + n = omega arith in
-          get_or-set_other r (FIELDS + n) (FIELDS + i) v 0 ne ∙ before i one (omega arith) found ∙ sym same
+          cc (get_or-set_other r (FIELDS + n) (FIELDS + i) v 0 ne, before i one (omega arith) found)
     ]
 
 pub length_results : (stage : ℕ) (r : List ℕ) (ops : List PlanOp) (olds : List ℕ) → length olds ≡ length ops
     → length (stage_results stage r ops olds) ≡ length ops
-length_results stage r [] olds e = refl
-length_results stage r (one ∷ ops) [] e = absurd (omega arith)
-length_results stage r (one ∷ ops) (old ∷ olds) e = ap suc (length_results stage r ops olds (omega arith))
+length_results _ r [] _ e = refl
+length_results _ r (_ ∷ _) [] e = omega arith
+length_results stage r (_ ∷ ops) (_ ∷ olds) e = cc (length_results stage r ops olds (omega arith))
 
 pub at_results : (stage : ℕ) (r : List ℕ) (ops : List PlanOp) (olds : List ℕ) (i : ℕ) (one : PlanOp) → length olds ≡ length ops
     → slice_get ops i ≡ Some one →
     get_or (stage_results stage r ops olds) i 0 ≡ (if one.stage == stage then result_of r one else get_or olds i 0)
 at_results stage r [] olds i one e found = cc
-at_results stage r (first ∷ ops) [] i one e found = absurd (omega arith)
-at_results stage r (first ∷ ops) (old ∷ olds) zero one e found =
-    ap (λ x. if x.stage == stage then result_of r x else old) (same_Some first one found)
+at_results stage r (first ∷ ops) [] i one e found = cc
+at_results stage r (first ∷ ops) (old ∷ olds) zero one e found = cc (same_Some first one found)
 at_results stage r (first ∷ ops) (old ∷ olds) (suc i) one e found = at_results stage r ops olds i one (omega arith) found
 
 -- one stage over registers of the right length
@@ -120,7 +111,7 @@ module _ (ops : List PlanOp) (r : List ℕ) (stage : ℕ) (long : length r ≡ F
   next = take FIELDS r ++ stage_results stage r ops (drop FIELDS r)
 
   front_long : length (take FIELDS r) ≡ FIELDS
-  front_long = length-take-le FIELDS r (omega arith)
+  front_long = length-take-le _ r (omega arith)
 
   olds_long : length (drop FIELDS r) ≡ length ops
   olds_long = omega (arith, length-drop FIELDS r)
@@ -130,31 +121,29 @@ module _ (ops : List PlanOp) (r : List ℕ) (stage : ℕ) (long : length r ≡ F
     arith,
     length-append (take FIELDS r) (stage_results stage r ops (drop FIELDS r)),
     front_long,
-    length_results stage r ops
-        (drop FIELDS r) olds_long,
+    length_results stage r ops (drop FIELDS r) olds_long,
   )
 
   pub front_stage : take FIELDS next ≡ take FIELDS r
-  front_stage = take_at (take FIELDS r) (stage_results stage r ops (drop FIELDS r)) FIELDS front_long
+  front_stage = take_at _ _ _ front_long
 
   pub at_stage : (i : ℕ) (one : PlanOp) → slice_get ops i ≡ Some one →
       get_or next (FIELDS + i) 0 ≡ (if one.stage == stage then result_of r one else get_or r (FIELDS + i) 0)
   at_stage i one found =
       let back : FIELDS + i - FIELDS ≡ i = omega arith in
-      get_or-append_right (take FIELDS r) (stage_results stage r ops (drop FIELDS r)) FIELDS (FIELDS + i) 0 front_long (omega arith)
-      ∙ ap (λ k. get_or (stage_results stage r ops (drop FIELDS r)) k 0) back
-      ∙ at_results stage r ops (drop FIELDS r) i one olds_long found
-      ∙ ap (λ old. if one.stage == stage then result_of r one else old) (get_or-drop FIELDS r i 0)
+      cc (
+        get_or-append_right (take FIELDS r) (stage_results stage r ops (drop FIELDS r)) FIELDS (FIELDS + i) 0 front_long (omega arith),
+        at_results stage r ops (drop FIELDS r) i one olds_long found,
+        get_or-drop FIELDS r i 0,
+      )
 
 -- the stage of a register that an operation writes
 pub stage_of_register : (ops : List PlanOp) (j : ℕ) (one : PlanOp) → slice_get ops j ≡ Some one
     → operand_stage ops (Register (FIELDS + j)) ≡ one.stage
-stage_of_register ops j one found =
+stage_of_register ops j _ found =
     let late : ltb (FIELDS + j) FIELDS ≡ false = grind (arith, nat_tests) in
     let back : FIELDS + j - FIELDS ≡ j = omega arith in
-    ap (λ b. if b then 0 else unwrap_or (option_map (λ (x : PlanOp). x.stage) (slice_get ops (FIELDS + j - FIELDS))) 0) late
-    ∙ ap (λ k. unwrap_or (option_map (λ (x : PlanOp). x.stage) (slice_get ops k)) 0) back
-    ∙ ap (λ o. unwrap_or (option_map (λ (x : PlanOp). x.stage) o) 0) found
+    rw (late, back, found)
 
 -- a stage keeps what earlier stages wrote, and the fields
 pub kept_operand : (ops : List PlanOp) (r : List ℕ) (stage : ℕ) (long : length r ≡ FIELDS + length ops) (o : Operand) →
@@ -162,9 +151,8 @@ pub kept_operand : (ops : List PlanOp) (r : List ℕ) (stage : ℕ) (long : leng
 kept_operand ops r stage long (Number v) within below = refl
 kept_operand ops r stage long (Register k) within below =
     elim (cases_lt k FIELDS) [
-      | inl field ↦
-          sym (get_or-take FIELDS (next ops r stage long) k 0 field) ∙ ap (λ l. get_or l k 0) (front_stage ops r stage long)
-          ∙ get_or-take FIELDS r k 0 field
+      | inl field ↦ sym (get_or-take _ (next ops r stage long) k 0 field) ∙ ap (λ l. get_or l k 0) (front_stage ops r stage long)
+          ∙ get_or-take _ r k 0 field
       | inr later ↦
           let j : ℕ = k - FIELDS in
           let at : k ≡ FIELDS + j = omega arith in
@@ -172,13 +160,9 @@ kept_operand ops r stage long (Register k) within below =
           elim ((slice_get_cases ops j).1) [
             | inl found ↦
                 let other : PlanOp = found.0 in
-                let same : operand_stage ops (Register k) ≡ other.stage = ap (λ n. operand_stage ops (Register n)) at
-                ∙ stage_of_register ops j other found.2 in
+                let same = ap (λ n. operand_stage ops (Register n)) at ∙ stage_of_register ops j _ found.2 in
                 let earlier : eqb other.stage stage ≡ false = grind (arith, nat_tests) in
-                ap (λ n. get_or (next ops r stage long) n 0) at
-                ∙ at_stage ops r stage long j other found.2
-                ∙ ap (λ b. if b then result_of r other else get_or r (FIELDS + j) 0) earlier
-                ∙ ap (λ n. get_or r n 0) (sym at)
+                cc (at_stage ops r stage long j other found.2)
             | inr past ↦ absurd (omega arith)
           ]
     ]
@@ -190,8 +174,7 @@ kept_result ops r stage long i one lt sound le =
     (omega (arith, sound.stage)) in
     let b = kept_operand ops r stage long one.right (within_more (FIELDS + i) (FIELDS + length ops) one.right (omega arith) sound.right)
     (omega (arith, sound.stage)) in
-    ap (λ x. operation_value one.op x (operand_value (next ops r stage long) one.right)) a
-    ∙ ap (λ y. operation_value one.op (operand_value r one.left) y) b
+    rw (a, b)
 
 pub length_after : (ops : List PlanOp) (words : List ℕ) → length words ≡ FIELDS → (s : ℕ) → length (registers_after ops words s) ≡ FIELDS
     + length ops
@@ -199,8 +182,8 @@ length_after ops words long zero = omega (arith, length-append words (replicate 
 length_after ops words long (suc s) = length_stage ops (registers_after ops words s) (suc s) (length_after ops words long s)
 
 pub front_after : (ops : List PlanOp) (words : List ℕ) → length words ≡ FIELDS → (s : ℕ) → take FIELDS (registers_after ops words s) ≡ words
-front_after ops words long zero = take_at words (replicate (length ops) 0) FIELDS long
-front_after ops words long (suc s) = front_stage ops (registers_after ops words s) (suc s) (length_after ops words long s)
+front_after ops words long zero = take_at _ _ _ long
+front_after ops words long (suc s) = front_stage ops (registers_after ops words s) (suc s) (length_after _ _ long s)
     ∙ front_after ops words long s
 
 -- once an operation's stage is over, its register holds its result
@@ -223,26 +206,25 @@ settled ops words sound long (suc s) i one found le =
       | inr earlier ↦
           let test : eqb one.stage (suc s) ≡ false = grind (arith, nat_tests) in
           here ∙ ap (λ b. if b then result_of r one else get_or r (FIELDS + i) 0) test
-          ∙ settled ops words sound long s i one found (omega arith) ∙ sym kept
+          ∙ settled _ _ sound long s i _ found (omega arith) ∙ sym kept
     ]
 
 pub stage_below : (ops : List PlanOp) (i : ℕ) (one : PlanOp) → slice_get ops i ≡ Some one → one.stage ≤ stages_of ops
 stage_below [] i one found = cc
 stage_below (first ∷ ops) zero one found =
-    let same = ap (λ (x : PlanOp). x.stage) (same_Some first one found) in omega arith
+    let same = ap (λ x. x.stage) (same_Some first one found) in omega arith
 stage_below (first ∷ ops) (suc i) one found = omega (arith, stage_below ops i one found)
 
 -- after the last stage each operation's register holds its result
 pub after_filled : (ops : List PlanOp) (words : List ℕ) → AreSoundOps ops → length words ≡ FIELDS
     → Filled ops words (registers_after ops words (stages_of ops))
 after_filled ops words sound long = record {
-  long = length_after ops words long (stages_of ops);
-  front = front_after ops words long (stages_of ops);
-  each = λ i one found. settled ops words sound long (stages_of ops) i one found (stage_below ops i one found);
+  long = length_after _ _ long (stages_of ops);
+  front = front_after ops _ long (stages_of ops);
+  each = λ i one found. settled _ _ sound long _ i _ found (stage_below ops i _ found);
 }
 
 -- registers that were filled in turn are those after the last stage
 pub filled_is_after : (ops : List PlanOp) (words r : List ℕ) → AreSoundOps ops → length words ≡ FIELDS → Filled ops words r
     → r ≡ registers_after ops words (stages_of ops)
-filled_is_after ops words r sound long filled = one_filling ops words r (registers_after ops words (stages_of ops)) sound filled
-    (after_filled ops words sound long)
+filled_is_after ops words r sound long filled = one_filling _ _ r _ sound filled (after_filled _ _ sound long)

@@ -16,19 +16,20 @@ up_to_long zero = refl
 up_to_long (suc n) = length_push (up_to n) (suc n) ∙ (let e = up_to_long n in omega arith)
 
 sizes_long : (n : ℕ) (depths : List ℕ) → length (sizes_of n depths) ≡ n
-sizes_long n depths = length-map (up_to n) (λ stage. count_by (λ depth. depth == stage) depths) ∙ up_to_long n
+sizes_long n depths = simp (length-map, up_to_long)
 
 lines_push : (n : ℕ) (xs : List ℕ) (x : ℕ) → stage_lines n (xs ++ x ∷ []) ≡ stage_lines n xs
     ++ line (counted (counted (codes "stage") (n + length xs)) x)
 lines_push n [] x =
     let e : n ≡ n + 0 = omega arith in
-    append-nil (line (counted (counted (codes "stage") n) x)) ∙ ap (λ k. line (counted (counted (codes "stage") k) x)) e
+    cc (append-nil (line (counted (counted (codes "stage") n) x)))
 lines_push n (y ∷ xs) x =
     let e : suc n + length xs ≡ n + suc (length xs) = omega arith in
-    ap (λ l. line (counted (counted (codes "stage") n) y) ++ l) (lines_push (suc n) xs x)
-    ∙ ap (λ k. line (counted (counted (codes "stage") n) y) ++ (stage_lines (suc n) xs ++ line (counted (counted (codes "stage") k) x))) e
-    ∙ sym (append_assoc (line (counted (counted (codes "stage") n) y)) (stage_lines (suc n) xs)
-    (line (counted (counted (codes "stage") (n + suc (length xs))) x)))
+    cc (
+      lines_push (suc n) xs x,
+      append_assoc (line (counted (counted (codes "stage") n) y)) (stage_lines (suc n) xs)
+          (line (counted (counted (codes "stage") (n + suc (length xs))) x)),
+    )
 
 -- the line of one more stage
 pub stage_more : (ops : List PlanOp) (b size : ℕ) → size ≡ count_by (λ one. one.stage == (b + 1)) ops →
@@ -37,14 +38,13 @@ pub stage_more : (ops : List PlanOp) (b size : ℕ) → size ≡ count_by (λ on
 stage_more ops b size is =
     let next : b + 1 ≡ suc b = omega arith in
     let place : b + 1 ≡ 1 + length (sizes_of b (stages ops)) = (let e = sizes_long b (stages ops) in omega arith) in
-    let count : size ≡ count_by (λ depth. depth == suc b) (stages ops) = is ∙ ap (λ k. count_by (λ (one : PlanOp). one.stage == k) ops) next
-    ∙ sym (sum_map (λ depth. cond (depth == suc b) 1 0) (λ (one : PlanOp). one.stage) ops) in
-    ap (λ k. stage_lines 1 (sizes_of b (stages ops)) ++ line (counted (counted (codes "stage") k) size)) place
-    ∙ ap (λ x. stage_lines 1 (sizes_of b (stages ops)) ++ line (counted (counted (codes "stage") (1 + length (sizes_of b (stages ops)))) x))
-    count
-    ∙ sym (lines_push 1 (sizes_of b (stages ops)) (count_by (λ depth. depth == suc b) (stages ops)))
-    ∙ ap (stage_lines 1) (sym (map-append (λ stage. count_by (λ depth. depth == stage) (stages ops)) (up_to b) (suc b ∷ [])))
-    ∙ ap (λ k. stage_lines 1 (sizes_of k (stages ops))) (sym next)
+    let count : size ≡ count_by (λ depth. depth == suc b) (stages ops) = is ∙ ap (λ k. count_by (λ one. one.stage == k) ops) next
+    ∙ sym (sum_map (λ depth. cond (depth == suc b) 1 0) (λ one. one.stage) ops) in
+    cc (
+      lines_push 1 (sizes_of b (stages ops)) (count_by (λ depth. depth == suc b) (stages ops)),
+      map-append
+          (λ stage. count_by (λ depth. depth == stage) (stages ops)) (up_to b) (suc b ∷ []),
+    )
 
 five : (t0 t1 t2 t3 t4 t5 a b c d e : List ℕ) → t0 ≡ [] → t1 ≡ t0 ++ a → t2 ≡ t1 ++ b → t3 ≡ t2 ++ c → t4 ≡ t3 ++ d → t5 ≡ t4 ++ e → t5 ≡ a
     ++ (b ++ (c ++ (d ++ e)))
@@ -57,15 +57,9 @@ pub text_is : (p : PlanParts) (ways s o r b : ℕ) (ops : List PlanOp) (groups :
     s ≡ stages_of p.ops → o ≡ length p.ops → r ≡ stages_of p.ops → b ≡ plan_bound p ways → ops ≡ p.ops → groups ≡ p.groups →
     t0 ≡ [] → t1 ≡ t0 ++ line (counted (codes "stages") s) → t2 ≡ t1 ++ line (counted (codes "operations") o) →
     t3 ≡ t2 ++ stage_lines 1 (sizes_of r (stages ops)) → t4 ≡ t3 ++ flat_map group_line (map group_shape groups) → t5 ≡ t4
-    ++ line (counted (codes "bound") b) →
-    t5 ≡ plan_text_of (shape_of p) ways
-text_is p ways s o r b ops groups t0 t1 t2 t3 t4 t5 es eo er eb eops egroups e0 e1 e2 e3 e4 e5 =
-    five t0 t1 t2 t3 t4 t5 (line (counted (codes "stages") (length (sizes_of (stages_of p.ops) (stages p.ops)))))
-    (line (counted (codes "operations") (length p.ops))) (stage_lines 1 (sizes_of (stages_of p.ops) (stages p.ops)))
-    (flat_map group_line (map group_shape p.groups)) (line (counted (codes "bound") (plan_bound p ways))) e0
-    (e1 ∙ ap (λ n. t0 ++ line (counted (codes "stages") n)) (es ∙ sym (sizes_long (stages_of p.ops) (stages p.ops))))
+    ++ line (counted (codes "bound") b) → t5 ≡ plan_text_of (shape_of p) ways
+text_is p ways s o r b ops _ t0 t1 t2 t3 t4 t5 es eo er eb eops egroups e0 e1 e2 e3 e4 e5 = five t0 t1 t2 t3 t4 t5 _ _ _ _ _ e0
+    (e1 ∙ ap (λ n. t0 ++ line (counted (codes "stages") n)) (es ∙ sym (sizes_long _ (stages p.ops))))
     (e2 ∙ ap (λ n. t1 ++ line (counted (codes "operations") n)) eo)
     (e3 ∙ ap (λ n. t2 ++ stage_lines 1 (sizes_of n (stages ops))) er ∙ ap (λ l. t2 ++ stage_lines 1 (sizes_of (stages_of p.ops) (stages l)))
-    eops)
-    (e4 ∙ ap (λ l. t3 ++ flat_map group_line (map group_shape l)) egroups)
-    (e5 ∙ ap (λ n. t4 ++ line (counted (codes "bound") n)) eb)
+    eops) (e4 ∙ ap (λ l. t3 ++ flat_map group_line (map group_shape l)) egroups) (e5 ∙ ap (λ n. t4 ++ line (counted (codes "bound") n)) eb)

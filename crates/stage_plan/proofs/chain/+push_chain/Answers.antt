@@ -7,4 +7,4 @@ pub returns : goal.returns
 returns t c =
     let P : List ℕ → Type 0 = λ l. EndsAt c.args.ops.now l c.args.at in
     subst P (sym (c.in_ok-push-2.ensures.ok ∙ ap (λ l. l ++ c.args.at ∷ []) c.requires.empty))
-    (chain_first c.args.ops.now c.args.at _ c.requires.sound c.requires.there c.if-ops-at-gt1.false)
+    (chain_first _ c.args.at _ c.requires.sound c.requires.there c.if-ops-at-gt1.false)

@@ -6,14 +6,14 @@ use Rattle.stage_plan.proofs.groups.plan_fitting.Goals as goal
 pub returns-clause-shape : goal.returns-clause-shape
 returns-clause-shape c =
     let found = ap (λ l. slice_get l c.args.number) (sym c.as_slice.ensures) ∙ c.fold_of-f.ensures in
-    fitting_shape c.args.q.now c.args.one.now _ _ c.fold_of-f.result.now _ found
+    fitting_shape c.args.q.now c.args.one.now _ _ _ _ found
     c.in_ok-group.ensures.program c.in_ok-group.ensures.name c.in_ok-group.ensures.key_names c.in_ok-group.ensures.state_names
-    (args_are c.args.q.now.folds c.args.number c.args.args c.fold_of-f.result.now found c.requires.fits.all_args)
+    (args_are c.args.q.now.folds c.args.number _ _ found c.requires.fits.all_args)
 
 pub returns-clause-sound : goal.returns-clause-sound
 returns-clause-sound c =
     let found = ap (λ l. slice_get l c.args.number) (sym c.as_slice.ensures) ∙ c.fold_of-f.ensures in
-    fitting_sound c.args.q.now.folds c.args.q.now.names _ _ _ c.args.one.now.columns c.fold_of-f.result.now _ found
+    fitting_sound c.args.q.now.folds c.args.q.now.names _ _ _ c.args.one.now.columns _ _ found
     c.in_ok-group.ensures.program c.in_ok-group.ensures.key_names c.in_ok-group.ensures.state_names
     c.requires.fits.some_keys c.requires.fits.most_keys c.requires.fits.all_keys
-    (args_are c.args.q.now.folds c.args.number c.args.args c.fold_of-f.result.now found c.requires.fits.all_args)
+    (args_are c.args.q.now.folds c.args.number _ _ found c.requires.fits.all_args)

@@ -6,15 +6,15 @@ use Rattle.marple_base.specs.declared.field.TheConstants.{FIELDS}
 use Rattle.stage_plan.proofs.rows.fill_results.Goals as goal
 
 pub result_in-requires-clause-left : goal.result_in-requires-clause-left
-result_in-requires-clause-left g c = reads_left c.args.ops.now c.loop-at.at _ _ c.requires.sound c.loop-at-test.true (omega arith)
+result_in-requires-clause-left g c = reads_left _ c.loop-at.at _ _ c.requires.sound c.loop-at-test.true (omega arith)
 
 pub result_in-requires-clause-right : goal.result_in-requires-clause-right
-result_in-requires-clause-right g c = reads_right c.args.ops.now c.loop-at.at _ _ c.requires.sound c.loop-at-test.true (omega arith)
+result_in-requires-clause-right g c = reads_right _ c.loop-at.at _ _ c.requires.sound c.loop-at-test.true (omega arith)
 
 pub loop-at-preserved : goal.loop-at-preserved
 loop-at-preserved g c = record {
   fields = take-set-le FIELDS c.loop-at.registers _ _ (omega arith) ∙ c.loop-at.invariant.fields;
-  results = results_more c.args.ops.now c.loop-at.registers c.loop-at.at _ _ c.requires.sound c.loop-at-test.true (omega arith)
+  results = results_more _ c.loop-at.registers c.loop-at.at _ _ c.requires.sound c.loop-at-test.true (omega arith)
       c.loop-at.invariant.results c.result_in.ensures;
 }
 

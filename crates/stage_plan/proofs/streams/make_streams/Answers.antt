@@ -10,11 +10,10 @@ pub make_stream-requires : goal.make_stream-requires
 make_stream-requires c =
     let q = c.args.q.now in
     let op = c.one-item.result.op in
-    let here : Stands q c.loop-one.one-index op =
-    stands q c.as_slice-one-items.result.now c.loop-one.one-index c.one-item.result c.requires c.as_slice-one-items.ensures
+    let here : Stands q c.loop-one.one-index op = stands q _ c.loop-one.one-index _ c.requires c.as_slice-one-items.ensures
     c.loop-one-test.true c.one-item.is
     in
-    let most : op_most c.as_slice.result.now op ≤ 641 = op_fits q c.as_slice.result.now c.loop-one.one-index op c.as_slice.ensures here in
+    let most : op_most c.as_slice.result.now op ≤ 641 = op_fits q _ _ op c.as_slice.ensures here in
     let before = c.loop-one.invariant.few in
     let bindings = c.requires.most_bindings in
     let long = ap length c.as_slice-one-items.ensures in
@@ -22,8 +21,8 @@ make_stream-requires c =
     let made : c.loop-one.one-index + 1 ≡ length c.as_slice-in-loop-one.result.now =
     omega (arith, ap length c.as_slice-in-loop-one.ensures, c.loop-one.invariant.long) in
     record {
-      inputs = inputs_at (c.loop-one.one-index + 1) (length c.as_slice-in-loop-one.result.now) op made here.inputs;
-      fold = fold_fits q c.as_slice.result.now c.loop-one.one-index op c.as_slice.ensures here;
+      inputs = inputs_at _ _ op made here.inputs;
+      fold = fold_fits q _ _ op c.as_slice.ensures here;
       room = omega arith;
     }
 
@@ -31,17 +30,14 @@ pub loop-one-preserved : goal.loop-one-preserved
 loop-one-preserved c =
     let q = c.args.q.now in
     let op = c.one-item.result.op in
-    let here : Stands q c.loop-one.one-index op =
-    stands q c.as_slice-one-items.result.now c.loop-one.one-index c.one-item.result c.requires c.as_slice-one-items.ensures
+    let here : Stands q c.loop-one.one-index op = stands q _ c.loop-one.one-index _ c.requires c.as_slice-one-items.ensures
     c.loop-one-test.true c.one-item.is
     in
-    let most : op_most c.as_slice.result.now op ≤ 641 = op_fits q c.as_slice.result.now c.loop-one.one-index op c.as_slice.ensures here in
+    let most : op_most c.as_slice.result.now op ≤ 641 = op_fits q _ _ op c.as_slice.ensures here in
     let items = c.as_slice-one-items.result.now in
     let i = c.loop-one.one-index in
     let next : IsNext q.folds c.loop-one.ops c.make_stream.new.ops c.loop-one.streams c.push-in-loop-one.new.self items i
-    c.one-item.result =
-    is_next q.folds c.as_slice.result.now c.loop-one.ops c.make_stream.new.ops c.loop-one.streams c.as_slice-in-loop-one.result.now
-    c.push-in-loop-one.new.self c.in_ok-wires.wires items i c.one-item.result
+    c.one-item.result = is_next _ _ c.loop-one.ops _ _ _ _ _ items i _
     c.loop-one-test.true c.one-item.is c.as_slice.ensures c.as_slice-in-loop-one.ensures c.in_ok-wires.ensures.ops
     c.in_ok-wires.ensures.wires c.in_ok-push-2.ensures.ok
     in

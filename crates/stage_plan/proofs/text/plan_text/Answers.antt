@@ -3,9 +3,7 @@ use Rattle.stage_plan.proofs.Texts.{text_is}
 use Rattle.stage_plan.proofs.text.plan_text.Goals as goal
 
 pub returns : goal.returns
-returns c =
-    text_is c.args.p.now c.args.ways c.from.result c.from-2.result c.stages-2.result c.bound.result c.ops.result.now c.all_groups.result.now
-    c.new-text.result c.push_line.new.text c.push_line-2.new.text c.push_stages.new.text c.push_groups.new.text c.push_line-3.new.text
+returns c = text_is c.args.p.now c.args.ways _ _ _ _ _ _ _ _ _ _ _ _
     (c.from.ensures ∙ c.stages.ensures) (c.from-2.ensures ∙ c.operations.ensures) c.stages-2.ensures c.bound.ensures c.ops.ensures.ops
     c.all_groups.ensures
     c.new-text.ensures c.in_ok-push_line.ensures c.in_ok-push_line-2.ensures c.in_ok-push_stages.ensures c.in_ok-push_groups.ensures
