@@ -1,22 +1,21 @@
 -- An additive fold is linear by sums, and no variable of it has a depth.
-use Rattle.std.proofs.Common.{◌≡◌, ℕ, zero, suc, ◌<◌, ◌≤◌, Bool, true, false, not, ◌&&◌, ◌||◌, ◌==◌, nat_lt, if◌then◌else◌, refl, sym, ap}
-use Rattle.std.proofs.Common.{◌∙◌, subst, arith, true≢false}
+use Rattle.std.proofs.Common.{◌≡◌, ℕ, zero, suc, ◌<◌, ◌≤◌, Bool, true, false, ◌&&◌, ◌||◌, ◌==◌, nat_lt, if◌then◌else◌, refl, sym, ap, ◌∙◌}
+use Rattle.std.proofs.Common.{subst, arith}
 use Rattle.std.proofs.lemmas.Bool.Decides.{nat_tests}
 use Rattle.query_lang.specs.declared.fold.Op.{Op}
 use Rattle.query_lang.specs.declared.fold.Op.TheVariants.{Add, Sub}
 use Rattle.query_lang.specs.Terms.{Term, Literal, Read, Negation, Operation}
 use Rattle.query_lang.specs.declared.fold.TypedFold.{TypedFold}
 use Rattle.query_lang.specs.Blocks.{Block, End, Set, Fork}
-use Rattle.query_lang.specs.Folds.{fold_states, fold_args, fold_block, IsValidBlock, IsValidFold}
+use Rattle.query_lang.specs.Folds.{fold_states, fold_block, IsValidBlock, IsValidFold}
 use Rattle.fold_class.specs.declared.class.Algebra.TheVariants.{Sums}
 use Rattle.fold_class.specs.declared.class.Kind.{Kind}
 use Rattle.fold_class.specs.declared.class.Kind.TheVariants.{Pure, Affine}
 use Rattle.fold_class.specs.Tables.{update, all_below}
-use Rattle.fold_class.specs.Depth.{assigns, expr_reads, reads_after, reads_first, fold_reads, is_within, is_history}
+use Rattle.fold_class.specs.Depth.{assigns, expr_reads, reads_after, fold_reads, is_within, is_history}
 use Rattle.fold_code.proofs.BlockLemmas.{argument_is}
 use Rattle.fold_code.specs.Additive.{names_no_state, adds_or_subtracts, is_variable, is_increment, is_additive_block, is_additive}
-use Rattle.fold_class.specs.Kinds.{greater, expr_kind, outside_kind, role, role_kind, marked, chosen_kinds, kinds_after, kinds_first}
-use Rattle.fold_class.specs.Kinds.{fold_kinds, is_no_other, is_linear_by}
+use Rattle.fold_class.specs.Kinds.{greater, expr_kind, role, role_kind, marked, chosen_kinds, kinds_after, is_no_other, is_linear_by}
 use Rattle.fold_class.proofs.TableLemmas.{and_true_left, and_true_right, or_true_left, implied, below_at}
 use Rattle.fold_class.proofs.HistoryKinds.{role_pure, marked_kept, chosen_kept, kinds_kept}
 
@@ -37,70 +36,72 @@ and_false true = refl
 and_false false = refl
 
 or_both_false : (a b : Bool) → a ≡ false → b ≡ false → (a || b) ≡ false
-or_both_false a b e f = ap (λ z. z || b) e ∙ f
+or_both_false a b e f = rw (e, f)
 
 module _ (states : ℕ) where
   -- where the enclosing conditions are not free, nothing is assigned
   none_assigned : (b : Block) → is_additive_block states false b ≡ true → (s : ℕ) → assigns b s ≡ false
   none_assigned End h s = refl
-  none_assigned (Set v e rest) h s = cc
+  none_assigned (Set v e _) h s = cc
   none_assigned (Fork c a b rest) h s =
       let inner = and_true_left (is_additive_block states false a && is_additive_block states false b) (is_additive_block states false rest)
       h in
-      or_both_false (assigns a s || assigns b s) (assigns rest s)
-      (or_both_false (assigns a s) (assigns b s) (none_assigned a (and_true_left (is_additive_block states false a)
-      (is_additive_block states false b) inner) s) (none_assigned b
-      (and_true_right (is_additive_block states false a) (is_additive_block states false b) inner) s))
+      or_both_false _ _ (or_both_false _ _ (none_assigned a (and_true_left (is_additive_block states false a)
+      (is_additive_block states false b) inner) _) (none_assigned b
+      (and_true_right (is_additive_block states false a) (is_additive_block states false b) inner) _))
       (none_assigned rest (and_true_right (is_additive_block states false a && is_additive_block states false b)
-      (is_additive_block states false rest) h) s)
+      (is_additive_block states false rest) h) _)
 
   -- a valid block assigns to no argument
   args_kept : (nargs : ℕ) (b : Block) → IsValidBlock states nargs b → (s : ℕ) → states ≤ s → assigns b s ≡ false
-  args_kept nargs End valid s h = refl
+  args_kept _ End _ s h = refl
   args_kept nargs (Set v e rest) valid s h =
-      let lt : v < states = valid.0 in
       let off : (s == v) ≡ false = grind (arith, nat_tests) in
-      or_both_false (s == v) (assigns rest s) off (args_kept nargs rest valid.3 s h)
-  args_kept nargs (Fork c a b rest) valid s h =
-      or_both_false (assigns a s || assigns b s) (assigns rest s) (or_both_false (assigns a s) (assigns b s) (args_kept nargs a valid.2 s h)
-      (args_kept nargs b valid.3 s h)) (args_kept nargs rest valid.4 s h)
+      or_both_false _ _ off (args_kept _ rest valid.3 _ h)
+  args_kept nargs (Fork c a b rest) valid s h = or_both_false _ _ (or_both_false _ _ (args_kept _ a valid.2 _ h)
+      (args_kept _ b valid.3 _ h)) (args_kept _ rest valid.4 _ h)
 
   clean_pure : (e : Term) (kinds : ℕ → Kind) → ((s : ℕ) → states ≤ s → kinds s ≡ Pure) → names_no_state states e ≡ true
       → expr_kind (role Sums) e kinds ≡ Pure
-  clean_pure (Literal n) kinds p h = refl
-  clean_pure (Read s) kinds p h = p s (argument_is states s h)
-  clean_pure (Negation e) kinds p h = ap (outside_kind Pure) (clean_pure e kinds p h)
+  clean_pure (Literal n) _ p h = refl
+  clean_pure (Read s) _ p h = p s (argument_is _ _ h)
+  clean_pure (Negation e) kinds p h = cc (clean_pure e kinds p h)
   clean_pure (Operation op a b) kinds p h =
-      ap (λ z. role_kind (role Sums op) z (expr_kind (role Sums) b kinds))
-      (clean_pure a kinds p (and_true_left (names_no_state states a) (names_no_state states b) h))
-      ∙ ap (role_kind (role Sums op) Pure) (clean_pure b kinds p (and_true_right (names_no_state states a) (names_no_state states b) h))
-      ∙ role_pure (role Sums op)
+      cc (
+        clean_pure a kinds p (and_true_left (names_no_state states a) (names_no_state states b) h),
+        clean_pure b kinds p
+            (and_true_right (names_no_state states a) (names_no_state states b) h),
+        role_pure (role Sums op),
+      )
 
   op_kind : (op : Op) → adds_or_subtracts op ≡ true → (k : Kind) → role_kind (role Sums op) k Pure ≡ k
-  op_kind Add h k = greater_pure k
-  op_kind Sub h k = greater_pure k
+  op_kind Add h k = greater_pure _
+  op_kind Sub h k = greater_pure _
   op_kind _ h k = cc
 
   variable_kind : (v : ℕ) (a : Term) (kinds : ℕ → Kind) → is_variable v a ≡ true → expr_kind (role Sums) a kinds ≡ kinds v
-  variable_kind v (Read s) kinds h = let same : s ≡ v = grind (arith, nat_tests) in ap kinds same
-  variable_kind v (Literal n) kinds h = cc
-  variable_kind v (Negation e) kinds h = cc
-  variable_kind v (Operation op a b) kinds h = cc
+  variable_kind v (Read s) kinds h = let same : s ≡ v = grind (arith, nat_tests) in rw same
+  variable_kind v (Literal n) _ h = cc
+  variable_kind v (Negation e) _ h = cc
+  variable_kind v (Operation op a b) _ h = cc
 
   increment_kind : (v : ℕ) (e : Term) (kinds : ℕ → Kind) → ((s : ℕ) → states ≤ s → kinds s ≡ Pure) → is_increment states v e ≡ true
       → expr_kind (role Sums) e kinds ≡ kinds v
-  increment_kind v (Literal n) kinds p h = cc
-  increment_kind v (Read s) kinds p h = cc
-  increment_kind v (Negation e) kinds p h = cc
+  increment_kind v (Literal n) _ p h = cc
+  increment_kind v (Read s) _ p h = cc
+  increment_kind v (Negation e) _ p h = cc
   increment_kind v (Operation op a b) kinds p h =
       let right = and_true_right (adds_or_subtracts op) (is_variable v a && names_no_state states b) h in
-      ap (λ z. role_kind (role Sums op) z (expr_kind (role Sums) b kinds))
-      (variable_kind v a kinds (and_true_left (is_variable v a) (names_no_state states b) right))
-      ∙ ap (role_kind (role Sums op) (kinds v)) (clean_pure b kinds p (and_true_right (is_variable v a) (names_no_state states b) right))
-      ∙ op_kind op (and_true_left (adds_or_subtracts op) (is_variable v a && names_no_state states b) h) (kinds v)
+      cc (
+        variable_kind v a kinds (and_true_left (is_variable v a) (names_no_state states b) right),
+        clean_pure b kinds p
+            (and_true_right (is_variable v a) (names_no_state states b) right),
+        op_kind op
+            (and_true_left (adds_or_subtracts op) (is_variable v a && names_no_state states b) h) (kinds v),
+      )
 
   stays : (free : Bool) (b : Block) → is_additive_block states (free && false) b ≡ true → (s : ℕ) → assigns b s ≡ false
-  stays free b h = none_assigned b (subst (λ z. is_additive_block states z b ≡ true) (and_false free) h)
+  stays free b h = none_assigned b (subst (λ z. is_additive_block states z b ≡ true) (and_false _) h)
 
   additive_good : (nargs : ℕ) (b : Block) (free : Bool) (kinds : ℕ → Kind) → IsValidBlock states nargs b
       → ((s : ℕ) → states ≤ s → kinds s ≡ Pure) → ((s : ℕ) → is_no_other (kinds s) ≡ true) →
@@ -158,66 +159,58 @@ module _ (states : ℕ) where
           ap is_no_other (kept s na nb) ∙ g s
 
   variable_reads : (v : ℕ) (a : Term) (reads : ℕ → ℕ → Bool) → is_variable v a ≡ true → reads v v ≡ true → expr_reads a reads v ≡ true
-  variable_reads v (Read s) reads h r = let same : v ≡ s = grind (arith, nat_tests) in subst (λ z. reads z v ≡ true) same r
-  variable_reads v (Literal n) reads h r = cc
-  variable_reads v (Negation e) reads h r = cc
-  variable_reads v (Operation op a b) reads h r = cc
+  variable_reads v (Read s) reads h r = let same : v ≡ s = grind (arith, nat_tests) in rw (← same) r
+  variable_reads v (Literal n) _ h r = cc
+  variable_reads v (Negation e) _ h r = cc
+  variable_reads v (Operation op a b) _ h r = cc
 
   increment_reads : (v : ℕ) (e : Term) (reads : ℕ → ℕ → Bool) → is_increment states v e ≡ true → reads v v ≡ true
       → expr_reads e reads v ≡ true
-  increment_reads v (Literal n) reads h r = cc
-  increment_reads v (Read s) reads h r = cc
-  increment_reads v (Negation e) reads h r = cc
-  increment_reads v (Operation op a b) reads h r =
-      or_true_left (expr_reads a reads v) (expr_reads b reads v)
+  increment_reads v (Literal n) _ h r = cc
+  increment_reads v (Read s) _ h r = cc
+  increment_reads v (Negation e) _ h r = cc
+  increment_reads v (Operation op a b) reads h r = or_true_left _ (expr_reads b reads v)
       (variable_reads v a reads (and_true_left (is_variable v a) (names_no_state states b)
       (and_true_right (adds_or_subtracts op) (is_variable v a && names_no_state states b) h)) r)
 
   -- each variable still depends on itself
   reads_self : (b : Block) (free : Bool) (reads : ℕ → ℕ → Bool) → is_additive_block states free b ≡ true
       → ((v : ℕ) → v < states → reads v v ≡ true) → (s : ℕ) → s < states → reads_after b reads s s ≡ true
-  reads_self End free reads h r = r
+  reads_self End _ _ h r = r
   reads_self (Set v e rest) free reads h r =
       let front = and_true_left (free && is_increment states v e) (is_additive_block states free rest) h in
-      reads_self rest free (update reads v (expr_reads e reads)) (and_true_right (free && is_increment states v e)
-      (is_additive_block states free rest) h)
-      (λ s lt. at_each s (s == v) refl lt (and_true_right free (is_increment states v e) front))
+      reads_self rest _ _ (and_true_right (free && is_increment states v e)
+      (is_additive_block states free rest) h) (λ s lt. at_each _ _ refl lt (and_true_right free (is_increment states v e) front))
     where
       at_each : (s : ℕ) (b : Bool) → (s == v) ≡ b → s < states → is_increment states v e ≡ true
           → (if s == v then expr_reads e reads else reads s) s ≡ true
       at_each s true t lt inc =
           let same : v ≡ s = grind (arith, nat_tests) in
-          ap (λ b. (if b then expr_reads e reads else reads s) s) t ∙ subst (λ z. expr_reads e reads z ≡ true) same
-          (increment_reads v e reads inc (r v (subst (λ z. z < states) (sym same) lt)))
-      at_each s false t lt inc = ap (λ b. (if b then expr_reads e reads else reads s) s) t ∙ r s lt
+          cc (subst (λ z. expr_reads e reads z ≡ true) same (increment_reads v e reads inc (r v (subst (λ z. z < states) (sym same) lt))))
+      at_each s false t lt _ = simp (t, r)
   reads_self (Fork c a b rest) free reads h r =
       let inner = free && names_no_state states c in
       let front = and_true_left (is_additive_block states inner a && is_additive_block states inner b) (is_additive_block states free rest)
       h in
-      let ia = reads_self a inner reads (and_true_left (is_additive_block states inner a) (is_additive_block states inner b) front) r in
-      reads_self rest free (λ v. if assigns a v || assigns b v then (λ u. (reads_after a reads v u || reads_after b reads v u) || expr_reads
-      c reads u) else reads v)
+      let ia = reads_self a _ _ (and_true_left (is_additive_block states inner a) (is_additive_block states inner b) front) r in
+      reads_self rest _ _
       (and_true_right (is_additive_block states inner a && is_additive_block states inner b) (is_additive_block states free rest) h)
-      (λ s lt. at_each s (assigns a s || assigns b s) (ia s lt) (r s lt))
+      (λ s lt. at_each _ _ (ia s lt) (r s lt))
     where
       at_each : (s : ℕ) (t : Bool) → reads_after a reads s s ≡ true → reads s s ≡ true
           → (if t then (λ u. (reads_after a reads s u || reads_after b reads s u) || expr_reads c reads u) else reads s) s ≡ true
-      at_each s true x y = or_true_left (reads_after a reads s s || reads_after b reads s s) (expr_reads c reads s)
-          (or_true_left (reads_after a reads s s) (reads_after b reads s s) x)
+      at_each s true x y = or_true_left _ _ (or_true_left _ _ x)
       at_each s false x y = y
 
 below_all : (n : ℕ) (p : ℕ → Bool) → ((s : ℕ) → p s ≡ true) → all_below n p ≡ true
 below_all zero p h = refl
-below_all (suc n) p h = ap (λ z. z && p n) (below_all n p h) ∙ h n
+below_all (suc n) p h = cc (below_all n p h, h n)
 
 -- an additive fold is linear by sums
 pub additive_linear : (f : TypedFold) → IsValidFold f → is_additive f ≡ true → is_linear_by Sums f ≡ true
-additive_linear f valid h =
-    below_all (fold_states f) (λ v. is_no_other (fold_kinds Sums f v))
-    (additive_good (fold_states f) (fold_args f) (fold_block f) true (kinds_first f) valid.statements
+additive_linear f valid h = below_all (fold_states f) _ (additive_good _ _ _ _ _ valid.statements
     (λ s ge. let off : nat_lt s (fold_states f) ≡ false = grind (arith, nat_tests) in ap
-    (λ b. if b then (if is_history f s then Pure else Affine) else Pure) off)
-    (λ s. start (nat_lt s (fold_states f)) (is_history f s)) h)
+    (λ b. if b then (if is_history f s then Pure else Affine) else Pure) off) (λ s. start _ _) h)
   where
     start : (b t : Bool) → is_no_other (if b then (if t then Pure else Affine) else Pure) ≡ true
     start true true = refl
@@ -227,16 +220,15 @@ additive_linear f valid h =
 -- and none of its variables has a depth, so its depth is 0
 pub additive_no_depth : (f : TypedFold) → is_additive f ≡ true → (d v : ℕ) → v < fold_states f → is_within f d v ≡ false
 additive_no_depth f h zero v lt = refl
-additive_no_depth f h (suc d) v lt = place (additive_no_depth f h d v lt) (is_within f (suc d) v) refl
+additive_no_depth f h (suc d) v lt = place (additive_no_depth f h d _ lt) _ refl
   where
     self : fold_reads f v v ≡ true
-    self = reads_self (fold_states f) (fold_block f) true (reads_first (fold_states f)) h
+    self = reads_self _ (fold_block f) _ _ h
         (λ s ls. let a : nat_lt s (fold_states f) ≡ true = grind (arith, nat_tests) in let b : (s == s) ≡ true =
-        grind (arith, nat_tests) in ap (λ z. z && (s == s)) a ∙ b) v lt
+        grind (arith, nat_tests) in ap (λ z. z && (s == s)) a ∙ b) _ lt
 
     place : is_within f d v ≡ false → (b : Bool) → is_within f (suc d) v ≡ b → is_within f (suc d) v ≡ false
-    place shallower false e = e
+    place _ false e = e
     place shallower true e =
-        let deeper = implied (fold_reads f v v) (is_within f d v) (below_at (fold_states f) (λ u. not (fold_reads f v u) || is_within f d u)
-        v lt e) self in
-        absurd (true≢false (sym deeper ∙ shallower))
+        let deeper = implied _ _ (below_at _ _ _ lt e) self in
+        cc

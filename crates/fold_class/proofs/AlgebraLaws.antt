@@ -88,6 +88,5 @@ maxima_are = record {
   sum_value = maxima_sum;
   difference_value = maxima_difference;
   product_value = maxima_product;
-  product_comm =
-      maxima_comm;
+  product_comm = maxima_comm;
 }

@@ -1,10 +1,10 @@
 -- A column of a run over rows is the run over that column.
 use Rattle.std.proofs.Common.{◌≡◌, ℕ, zero, suc, Bool, true, false, ◌==◌, if◌then◌else◌, List, [], ◌∷◌, ◌++◌, map, get_or, set, slice_index}
-use Rattle.std.proofs.Common.{refl, sym, ap, ◌∙◌}
+use Rattle.std.proofs.Common.{refl, ap, ◌∙◌}
 use Rattle.std.proofs.lemmas.List.{map-append, map-set}
 use Rattle.query_lang.specs.Terms.{Term, Literal, Read, Negation, Operation}
 use Rattle.query_lang.specs.declared.fold.TypedFold.{TypedFold}
-use Rattle.query_lang.specs.Words.{holds, op_value}
+use Rattle.query_lang.specs.Words.{op_value}
 use Rattle.query_lang.specs.Blocks.{Block, End, Set, Fork}
 use Rattle.query_lang.specs.Folds.{fold_states, fold_block}
 use Rattle.fold_code.specs.Machine.{Domain, at}
@@ -25,7 +25,7 @@ column_of c Lost = Lost
 pub get_or-map : {A B : Type 0} (h : A → B) (xs : List A) (i : ℕ) (d : A) → h (get_or xs i d) ≡ get_or (map h xs) i (h d)
 get_or-map h [] i d = refl
 get_or-map h (x ∷ xs) zero d = refl
-get_or-map h (x ∷ xs) (suc i) d = get_or-map h xs i d
+get_or-map h (x ∷ xs) (suc i) d = get_or-map _ xs i _
 
 module _ {C : Type 0} (k : Elements C) (n : ℕ) (algebra : Algebra) (c : ℕ) where
   abbrev rows : Domain (Part (ℕ → C))
@@ -84,16 +84,16 @@ module _ {C : Type 0} (k : Elements C) (n : ℕ) (algebra : Algebra) (c : ℕ) w
   test_column b Lost = refl
 
   mask_column : (b : Bool) (m p : Part (ℕ → C)) → col (part_mask b m p) ≡ part_mask b (col m) (col p)
-  mask_column b (Fixed w) p = either (holds w)
+  mask_column b (Fixed w) p = either _
     where
       either : (t : Bool) → col (if t then part_test b p else Fixed 0) ≡ (if t then part_test b (col p) else Fixed 0)
-      either true = test_column b p
+      either true = test_column _ _
       either false = refl
   mask_column b (Share e) p = refl
   mask_column b Lost p = refl
 
   choice_column : (m p q : Part (ℕ → C)) → col (part_choice m p q) ≡ part_choice (col m) (col p) (col q)
-  choice_column (Fixed w) p q = either (holds w)
+  choice_column (Fixed w) p q = either _
     where
       either : (t : Bool) → col (if t then p else q) ≡ (if t then col p else col q)
       either true = refl
@@ -104,22 +104,17 @@ module _ {C : Type 0} (k : Elements C) (n : ℕ) (algebra : Algebra) (c : ℕ) w
   expr_column : (e : Term) (ps : List (Part (ℕ → C))) → col (term_in rows e ps) ≡ term_in column e (map col ps)
   expr_column (Literal m) ps = refl
   expr_column (Read s) ps = get_or-map col ps s (Fixed 0)
-  expr_column (Negation e) ps = negation_column (term_in rows e ps) ∙ ap part_negation (expr_column e ps)
+  expr_column (Negation e) ps = cc (negation_column (term_in rows e ps), expr_column e ps)
   expr_column (Operation op a b) ps =
-      operation_column (role algebra op) (op_value op) (term_in rows a ps) (term_in rows b ps)
-      ∙ ap (λ z. part_operation (column_shares k n c) (role algebra op) (op_value op) z (col (term_in rows b ps))) (expr_column a ps)
-      ∙ ap (part_operation (column_shares k n c) (role algebra op) (op_value op) (term_in column a (map col ps))) (expr_column b ps)
+      cc (operation_column (role algebra op) (op_value op) (term_in rows a ps) (term_in rows b ps), expr_column a ps, expr_column b ps)
 
   pub after_column : (b : Block) (m : Part (ℕ → C)) (args vars : List (Part (ℕ → C)))
       → map col (after_in rows m b args vars) ≡ after_in column (col m) b (map col args) (map col vars)
   after_column End m args vars = refl
   after_column (Set v e rest) m args vars =
       let p = part_choice m (term_in rows e (vars ++ args)) (at rows vars v) in
-      after_column rest m args (set vars v p)
-      ∙ ap (after_in column (col m) rest (map col args))
-      (map-set col vars v p
-      ∙ ap (set (map col vars) v)
-      (choice_column m (term_in rows e (vars ++ args)) (at rows vars v)
+      after_column rest m args (set vars v p) ∙ ap (after_in column (col m) rest (map col args)) (map-set col vars v p
+      ∙ ap (set (map col vars) v) (choice_column m (term_in rows e (vars ++ args)) (at rows vars v)
       ∙ ap (λ z. part_choice (col m) z (col (at rows vars v))) (expr_column e (vars ++ args)
       ∙ ap (term_in column e) (map-append col vars args))
       ∙ ap (part_choice (col m) (term_in column e (map col vars ++ map col args))) (get_or-map col vars v (Fixed 0))))
@@ -132,31 +127,29 @@ module _ {C : Type 0} (k : Elements C) (n : ℕ) (algebra : Algebra) (c : ℕ) w
       let va' = after_in column (part_mask true (col m) q') a (map col args) (map col vars) in
       let ea : map col va ≡ va' = after_column a (part_mask true m q) args vars
       ∙ ap (λ z. after_in column z a (map col args) (map col vars)) (mask_column true m q ∙ ap (part_mask true (col m)) same) in
-      let eb : map col vb ≡ after_in column (part_mask false (col m) q') b (map col args) va' =
-      after_column b (part_mask false m q) args va
+      let eb : map col vb ≡ after_in column (part_mask false (col m) q') b (map col args) va' = after_column b (part_mask false m q) args va
       ∙ ap (λ z. after_in column z b (map col args) (map col va)) (mask_column false m q ∙ ap (part_mask false (col m)) same)
       ∙ ap (after_in column (part_mask false (col m) q') b (map col args)) ea in
       after_column rest m args vb ∙ ap (after_in column (col m) rest (map col args)) eb
 
 map_list_of : {A B : Type 0} (h : A → B) (n : ℕ) (f : ℕ → A) (g : ℕ → B) → ((i : ℕ) → h (f i) ≡ g i) → map h (list_of n f) ≡ list_of n g
 map_list_of h zero f g e = refl
-map_list_of h (suc n) f g e = map-append h (list_of n f) (f n ∷ []) ∙ ap (λ z. z ++ h (f n) ∷ []) (map_list_of h n f g e)
-    ∙ ap (λ z. list_of n g ++ z ∷ []) (e n)
+map_list_of h (suc n) f g e = cc (map-append h (list_of n f) (f n ∷ []), map_list_of h n f g e, e n)
 
 map_fixed : {C : Type 0} (c : ℕ) (args : List ℕ) → map (column_of {C = C} c) (map (λ w. Fixed w) args) ≡ map (λ w. Fixed w) args
 map_fixed c [] = refl
-map_fixed c (w ∷ args) = ap (λ z. Fixed w ∷ z) (map_fixed c args)
+map_fixed c (w ∷ args) = ap (λ z. Fixed w ∷ z) (map_fixed _ args)
 
 pub step_column_is : {C : Type 0} (k : Elements C) (algebra : Algebra) (f : TypedFold) (c : ℕ) (state args : List ℕ)
     → step_column k algebra f c state args ≡ map (column_of c) (step_rows k algebra f state args)
-step_column_is k algebra f c state args =
-    sym (after_column k (dimension f) algebra c (fold_block f) (Fixed 1) (map (λ w. Fixed w) args)
-    (list_of (fold_states f) (first_row k algebra f state))
-    ∙ ap (λ z. after_in (parts (column_shares k (dimension f) c) algebra) (Fixed 1) (fold_block f) z
-    (map (column_of c) (list_of (fold_states f) (first_row k algebra f state)))) (map_fixed c args)
-    ∙ ap (after_in (parts (column_shares k (dimension f) c) algebra) (Fixed 1) (fold_block f) (map (λ w. Fixed w) args))
-    (map_list_of (column_of c) (fold_states f) (first_row k algebra f state) (first_column k algebra f c state)
-    (λ v. first v (is_history f v))))
+step_column_is k algebra f c state args = cc (
+  after_column k (dimension f) algebra c (fold_block f) (Fixed 1) (map (λ w. Fixed w) args)
+      (list_of (fold_states f) (first_row k algebra f state)),
+  map_fixed c args,
+  map_list_of (column_of c) (fold_states f)
+      (first_row k algebra f state) (first_column k algebra f c state)
+      (λ v. first v (is_history f v)),
+)
   where
     first : (v : ℕ) (b : Bool) → column_of c (if b then Fixed (slice_index state v) else Share
         (λ j. if j == rank f v then k.one else k.zero)) ≡ (if b then Fixed (slice_index state v) else Share

@@ -24,10 +24,8 @@ pub round_step : (f : TypedFold) (d : ℕ) (old new : List Bool) → ((v : ℕ) 
     (v : ℕ) → v < fold_states f → flag_in new v ≡ is_within f (d + 1) v
 round_step f d old new was is v lt =
     let e : suc d ≡ d + 1 = omega arith in
-    is v lt
-    ∙ all_same (fold_states f) (λ u. not (fold_reads f v u) || flag_in old u) (λ u. not (fold_reads f v u) || is_within f d u)
-    (λ u lu. ap (λ z. not (fold_reads f v u) || z) (was u lu))
-    ∙ ap (λ n. is_within f n v) e
+    is v lt ∙ all_same (fold_states f) (λ u. not (fold_reads f v u) || flag_in old u) (λ u. not (fold_reads f v u) || is_within f d u)
+    (λ u lu. ap (λ z. not (fold_reads f v u) || z) (was u lu)) ∙ ap (λ n. is_within f n v) e
 
 -- how many of the first variables have a depth of d at most
 abbrev count : TypedFold → ℕ → ℕ → ℕ
@@ -56,8 +54,7 @@ count_grows f d (suc n) =
     omega (
       arith,
       count_grows f d n,
-      one_if (is_within f d n) (is_within f (suc d) n)
-          (λ w. subst (λ m. is_within f m n ≡ true) e (within_more f d 1 n w)),
+      one_if (is_within f d n) (is_within f (suc d) n) (λ w. subst (λ m. is_within f m n ≡ true) e (within_more f d 1 n w)),
     )
 
 count_more : (f : TypedFold) (d n v : ℕ) → v < n → is_within f (suc d) v ≡ true → is_within f d v ≡ false → count f d n
@@ -73,8 +70,7 @@ count_more f d (suc n) v h grown not_yet = place (λ lt. count_more f d n v lt g
         omega (
           arith,
           front lt,
-          one_if (is_within f d n) (is_within f (suc d) n)
-              (λ w. subst (λ m. is_within f m n ≡ true) e (within_more f d 1 n w)),
+          one_if (is_within f d n) (is_within f (suc d) n) (λ w. subst (λ m. is_within f m n ≡ true) e (within_more f d 1 n w)),
         )
     place front false t =
         let same : v ≡ n = grind (arith, nat_tests) in
@@ -90,8 +86,7 @@ added p q zero = inl (λ v h t. absurd (omega arith))
 added p q (suc n) = both (added p q n) (p n) (q n) refl refl
   where
     both : ((v : ℕ) → v < n → p v ≡ true → q v ≡ true) ⊎ ((v : ℕ) × (v < n) × (p v ≡ true) × (q v ≡ false)) → (b c : Bool) → p n ≡ b
-        → q n ≡ c →
-        ((v : ℕ) → v < suc n → p v ≡ true → q v ≡ true) ⊎ ((v : ℕ) × (v < suc n) × (p v ≡ true) × (q v ≡ false))
+        → q n ≡ c → ((v : ℕ) → v < suc n → p v ≡ true → q v ≡ true) ⊎ ((v : ℕ) × (v < suc n) × (p v ≡ true) × (q v ≡ false))
     both (inr r) b c eb ec = inr (r.0, omega (arith, r.1), r.2, r.3)
     both (inl old) true false eb ec = inr (n, omega arith, eb, ec)
     both (inl old) b true eb ec = inl (λ v h t. last v h t (nat_lt v n) refl)
@@ -165,8 +160,7 @@ pub covered_by : (f : TypedFold) (d : ℕ) (history within : List Bool) (n : ℕ
     → ((v : ℕ) → v < fold_states f → flag_in history v ≡ is_history f v)
     → ((v : ℕ) → v < fold_states f → flag_in within v ≡ is_within f d v) →
     b ≡ all_below n (λ v. not (flag_in history v) || flag_in within v) → is_covered f d ≡ b
-covered_by f d history within n b en eh ew e =
-    sym (e ∙ ap (λ m. all_below m (λ v. not (flag_in history v) || flag_in within v)) en
+covered_by f d history within n b en eh ew e = sym (e ∙ ap (λ m. all_below m (λ v. not (flag_in history v) || flag_in within v)) en
     ∙ all_same (fold_states f) (λ v. not (flag_in history v) || flag_in within v) (λ v. not (is_history f v) || is_within f d v)
     (λ v lt. ap (λ z. not z || flag_in within v) (eh v lt) ∙ ap (λ z. not (is_history f v) || z) (ew v lt)))
 
@@ -222,6 +216,5 @@ depth_below f d v lt off deep = pick (settles f (fold_states f))
     pick (inl r) =
         let z : r.0 + (fold_states f - r.0) ≡ fold_states f = omega (arith, r.1) in
         let all : (u : ℕ) → u < fold_states f → IsHistory f u → is_within f r.0 u ≡ true =
-        λ u lu h. (stays f r.0 (fold_states f - r.0) r.2).1 u lu (subst (λ m. is_within f m u ≡ true) (sym z)
-        (history_rounds f u lu h)) in
+        λ u lu h. (stays f r.0 (fold_states f - r.0) r.2).1 u lu (subst (λ m. is_within f m u ≡ true) (sym z) (history_rounds f u lu h)) in
         omega (arith, deep.least r.0 all, r.1)

@@ -31,8 +31,7 @@ updated f v x s e = ap (λ b. if b then x else f s) e
 
 pub marked_kept : (b : Block) (kinds : ℕ → Kind) (s : ℕ) → assigns b s ≡ false → marked b kinds s ≡ kinds s
 marked_kept End kinds s h = refl
-marked_kept (Set v e rest) kinds s h =
-    marked_kept rest (update kinds v Kind.Other) s (or_false_right (s == v) (assigns rest s) h)
+marked_kept (Set v e rest) kinds s h = marked_kept rest (update kinds v Kind.Other) s (or_false_right (s == v) (assigns rest s) h)
     ∙ updated kinds v Kind.Other s (or_false_left (s == v) (assigns rest s) h)
 marked_kept (Fork c a b rest) kinds s h =
     let first = or_false_left (assigns a s || assigns b s) (assigns rest s) h in
@@ -57,8 +56,7 @@ module _ (algebra : Algebra) where
       let na = or_false_left (assigns a s) (assigns b s) first in
       let nb = or_false_right (assigns a s) (assigns b s) first in
       kinds_kept rest (chosen_kinds (expr_kind (role algebra) c kinds) (kinds_after (role algebra) a kinds)
-      (kinds_after (role algebra) b kinds) (marked b (marked a kinds))) s
-      (or_false_right (assigns a s || assigns b s) (assigns rest s) h)
+      (kinds_after (role algebra) b kinds) (marked b (marked a kinds))) s (or_false_right (assigns a s || assigns b s) (assigns rest s) h)
       ∙ chosen_kept (expr_kind (role algebra) c kinds) (kinds_after (role algebra) a kinds) (kinds_after (role algebra) b kinds)
       (marked b (marked a kinds)) kinds s
       (kinds_kept a kinds s na) (kinds_kept b kinds s nb) (marked_kept b (marked a kinds) s nb ∙ marked_kept a kinds s na)
@@ -73,12 +71,10 @@ module _ (algebra : Algebra) where
     expr_pure (Literal m) reads kinds h p = refl
     expr_pure (Read s) reads kinds h p = h s p
     expr_pure (Negation e) reads kinds h p = ap (outside_kind Pure) (expr_pure e reads kinds h p)
-    expr_pure (Operation op a b) reads kinds h p =
-        ap (λ z. role_kind (role algebra op) z (expr_kind (role algebra) b kinds))
+    expr_pure (Operation op a b) reads kinds h p = ap (λ z. role_kind (role algebra op) z (expr_kind (role algebra) b kinds))
         (expr_pure a reads kinds h (λ u lt t. p u lt (or_true_left (expr_reads a reads u) (expr_reads b reads u) t)))
         ∙ ap (role_kind (role algebra op) Pure) (expr_pure b reads kinds h
-        (λ u lt t. p u lt (or_true_right (expr_reads a reads u) (expr_reads b reads u) t)))
-        ∙ role_pure (role algebra op)
+        (λ u lt t. p u lt (or_true_right (expr_reads a reads u) (expr_reads b reads u) t))) ∙ role_pure (role algebra op)
 
     block_pure : (b : Block) (reads : ℕ → ℕ → Bool) (kinds : ℕ → Kind) → PureWhere reads kinds
         → PureWhere (reads_after b reads) (kinds_after (role algebra) b kinds)
@@ -112,15 +108,13 @@ module _ (algebra : Algebra) where
             let pb = ib s (λ u lt t. p u lt (or_true_left (reads_after a reads s u || reads_after b reads s u) (expr_reads c reads u)
             (or_true_right (reads_after a reads s u) (reads_after b reads s u) t))) in
             ap (λ z. chosen_kinds z (kinds_after (role algebra) a kinds) (kinds_after (role algebra) b kinds) (marked b (marked a kinds)) s)
-            kc
-            ∙ ap (λ z. greater z (kinds_after (role algebra) b kinds s)) pa ∙ pb
+            kc ∙ ap (λ z. greater z (kinds_after (role algebra) b kinds s)) pa ∙ pb
         at_each ia ib s false e p =
             let na = or_false_left (assigns a s) (assigns b s) e in
             let nb = or_false_right (assigns a s) (assigns b s) e in
             chosen_kept (expr_kind (role algebra) c kinds) (kinds_after (role algebra) a kinds) (kinds_after (role algebra) b kinds)
             (marked b (marked a kinds)) kinds s
-            (kinds_kept a kinds s na) (kinds_kept b kinds s nb) (marked_kept b (marked a kinds) s nb ∙ marked_kept a kinds s na)
-            ∙ h s p
+            (kinds_kept a kinds s na) (kinds_kept b kinds s nb) (marked_kept b (marked a kinds) s nb ∙ marked_kept a kinds s na) ∙ h s p
 
   start_pure : (f : TypedFold) → PureWhere (fold_states f) (is_history f) (reads_first (fold_states f)) (kinds_first f)
   start_pure f s p = at_each (nat_lt s (fold_states f)) refl (is_history f s) refl
@@ -139,8 +133,7 @@ module _ (algebra : Algebra) where
   reads_known : (f : TypedFold) (n v : ℕ) → n ≡ fold_states f → is_within f n v ≡ true → (u : ℕ) → u < fold_states f
       → fold_reads f v u ≡ true → is_within f n u ≡ true
   reads_known f zero v e h u lt t = cc
-  reads_known f (suc m) v e h u lt t =
-      within_next f m u (implied (fold_reads f v u) (is_within f m u) (below_at (fold_states f)
+  reads_known f (suc m) v e h u lt t = within_next f m u (implied (fold_reads f v u) (is_within f m u) (below_at (fold_states f)
       (λ u. not (fold_reads f v u) || is_within f m u) u lt h) t)
 
   pub history_pure : (f : TypedFold) (v : ℕ) → is_history f v ≡ true → fold_kinds algebra f v ≡ Pure

@@ -202,8 +202,7 @@ module _ {A : Type 0} (sh : Shares A) (algebra : Algebra) where
   dead_parts (Set v e rest) args vars = ap (after_in pdom (Fixed 0) rest args) (set-get_or vars v (Fixed 0)) ∙ dead_parts rest args vars
   dead_parts (Fork c a b rest) args vars =
       ap (λ z. after_in pdom (Fixed 0) rest args (after_in pdom (Fixed 0) b args z)) (dead_parts a args vars)
-      ∙ ap (after_in pdom (Fixed 0) rest args) (dead_parts b args vars)
-      ∙ dead_parts rest args vars
+      ∙ ap (after_in pdom (Fixed 0) rest args) (dead_parts b args vars) ∙ dead_parts rest args vars
 
   module _ (states nargs : ℕ) (fargs : List (Part A)) where
     -- whatever the mask is, only the marked variables change
@@ -227,8 +226,7 @@ module _ {A : Type 0} (sh : Shares A) (algebra : Algebra) where
 
     -- a choice: by its condition's kind
     choice_allowed : (a b : Block) (kc : Kind) (q : Part A) (kinds : ℕ → Kind) (vars : List (Part A)) → IsValidBlock states nargs a
-        → IsValidBlock states nargs b → length vars ≡ states →
-        Allows kc q → AllAllowed kinds (vars ++ fargs) →
+        → IsValidBlock states nargs b → length vars ≡ states → Allows kc q → AllAllowed kinds (vars ++ fargs) →
         AllAllowed (kinds_after (role algebra) a kinds) (after_in pdom (Fixed 1) a fargs vars ++ fargs)
         → AllAllowed (kinds_after (role algebra) b kinds) (after_in pdom (Fixed 1) b fargs vars ++ fargs) →
         AllAllowed (chosen_kinds kc (kinds_after (role algebra) a kinds) (kinds_after (role algebra) b kinds) (marked b (marked a kinds)))

@@ -11,14 +11,13 @@ use Rattle.query_lang.specs.Folds.{fold_states, fold_block}
 use Rattle.fold_class.specs.declared.class.Kind.{Kind}
 use Rattle.fold_class.specs.declared.class.Kind.TheVariants.{Pure, Affine}
 use Rattle.fold_class.specs.Tables.{all_below}
-use Rattle.fold_class.specs.Kinds.{Role, kinds_after, kinds_from, is_no_other, has_no_other}
+use Rattle.fold_class.specs.Kinds.{Role, kinds_after, is_no_other, has_no_other}
 use Rattle.fold_class.specs.Walk.{kinds_in}
 
 -- what is fixed counts for the fold's variables alone
 pub same_fixed : (roles : Op → Role) (f : TypedFold) (fixed other : ℕ → Bool) → ((v : ℕ) → v < fold_states f → fixed v ≡ other v)
     → has_no_other roles fixed f ≡ has_no_other roles other f
-same_fixed roles f fixed other h =
-    ap (λ (z : ℕ → Kind). all_below (fold_states f) (λ v. is_no_other (kinds_after roles (fold_block f) z v)))
+same_fixed roles f fixed other h = ap (λ z. all_below (fold_states f) (λ v. is_no_other (kinds_after roles (fold_block f) z v)))
     (fun_ext (λ s. at s (nat_lt s (fold_states f)) refl))
   where
     at : (s : ℕ) (b : Bool) → nat_lt s (fold_states f) ≡ b → (if b then (if fixed s then Pure else Affine) else Pure)
@@ -31,11 +30,9 @@ pub kept_from : (roles : Op → Role) (f : TypedFold) (fixed : ℕ → Bool) (n 
     ((s : ℕ) → kinds_in start s ≡ (if nat_lt s n then (if fixed s then Pure else Affine) else Pure))
     → kinds_in walked ≡ kinds_after roles (block_of block) (kinds_in start) →
     b ≡ all_below n (λ v. is_no_other (kinds_in walked v)) → b ≡ has_no_other roles fixed f
-kept_from roles f fixed n block start walked b en eb es ew e =
-    let first : kinds_in start ≡ kinds_from fixed f = fun_ext (λ s. es s
-    ∙ ap (λ m. if nat_lt s m then (if fixed s then Pure else Affine) else Pure) en) in
-    e
-    ∙ ap (λ m. all_below m (λ v. is_no_other (kinds_in walked v))) en
+kept_from roles f fixed n _ start walked b en eb es ew e =
+    let first = fun_ext (λ s. es s ∙ ap (λ m. if nat_lt s m then (if fixed s then Pure else Affine) else Pure) en) in
+    e ∙ ap (λ m. all_below m (λ v. is_no_other (kinds_in walked v))) en
     ∙ ap (λ z. all_below (fold_states f) (λ v. is_no_other (z v))) (ew ∙ ap (λ l. kinds_after roles (block_of l) (kinds_in start)) eb
     ∙ ap (kinds_after roles (fold_block f)) first)
 
@@ -56,5 +53,5 @@ kind_step kinds g v k h e old s = at (s == v) refl
         get_or-set_other kinds v s k Pure off ∙ old s ∙ ap (λ b. if b then g s else Pure) (same_test (nat_lt s v) refl off)
       where
         same_test : (b : Bool) → nat_lt s v ≡ b → s ≢ v → nat_lt s v ≡ nat_lt s (v + 1)
-        same_test true u off = let next : nat_lt s (v + 1) ≡ true = grind (arith, nat_tests) in u ∙ sym next
-        same_test false u off = let next : nat_lt s (v + 1) ≡ false = grind (arith, nat_tests) in u ∙ sym next
+        same_test true u _ = let next : nat_lt s (v + 1) ≡ true = grind (arith, nat_tests) in u ∙ sym next
+        same_test false u _ = let next : nat_lt s (v + 1) ≡ false = grind (arith, nat_tests) in u ∙ sym next

@@ -30,11 +30,10 @@ module _ (algebra : Algebra) (states : ℕ) (known : ℕ → Bool) where
 
     known_same : (args xs ys : List ℕ) (e : Term) → length xs ≡ states → length ys ≡ states → Related xs ys
         → names_known states known e ≡ true → term_value e (xs ++ args) ≡ term_value e (ys ++ args)
-    known_same args xs ys e hx hy r h = known_value states known args xs ys e hx hy r.same h
+    known_same args xs ys e hx hy r h = known_value _ _ args _ _ e hx hy r.same h
 
     move_keeps : (args xs ys : List ℕ) (v : ℕ) (e : Term) → length xs ≡ states → length ys ≡ states → v < states → known v ≡ false
-        → Related xs ys → is_move algebra states known v e ≡ true →
-        R v (term_value e (xs ++ args)) (term_value e (ys ++ args))
+        → Related xs ys → is_move algebra states known v e ≡ true → R v (term_value e (xs ++ args)) (term_value e (ys ++ args))
     move_keeps args xs ys v (Literal n) hx hy lt k r h = cc
     move_keeps args xs ys v (Negation e) hx hy lt k r h = cc
     move_keeps args xs ys v (Read s) hx hy lt k r h =
@@ -77,8 +76,7 @@ module _ (algebra : Algebra) (states : ℕ) (known : ℕ → Bool) where
             second false e p = p
 
     pub block_keeps : (nargs : ℕ) (b : Block) (free : Bool) (args xs ys : List ℕ) → IsValidBlock states nargs b → length xs ≡ states
-        → length ys ≡ states → is_moving algebra states known free b ≡ true →
-        Related xs ys → Related (after b args xs) (after b args ys)
+        → length ys ≡ states → is_moving algebra states known free b ≡ true → Related xs ys → Related (after b args xs) (after b args ys)
     block_keeps nargs End free args xs ys valid hx hy h r = r
     block_keeps nargs (Set v e rest) free args xs ys valid hx hy h r =
         let x = term_value e (xs ++ args) in
@@ -86,9 +84,8 @@ module _ (algebra : Algebra) (states : ℕ) (known : ℕ → Bool) where
         let given = if known v then names_known states known e else is_move algebra states known v e in
         let front = and_true_right free given (and_true_left (free && given) (is_moving algebra states known free rest) h) in
         block_keeps nargs rest free args (set xs v x) (set ys v y) valid.3 (length-set xs v x ∙ hx) (length-set ys v y ∙ hy)
-        (and_true_right (free && given) (is_moving algebra states known free rest) h)
-        (record {
-          same = λ s lt k. set_index xs v x s (omega (arith, valid.0)) ∙ same_at front s lt k (s == v) refl
+        (and_true_right (free && given) (is_moving algebra states known free rest) h) (record {
+          same = λ s lt k. set_index _ v x s (omega (arith, valid.0)) ∙ same_at front s lt k (s == v) refl
               ∙ sym (set_index ys v y s (omega (arith, valid.0)));
           related = λ s lt k. subst (λ z. R s z (slice_index (set ys v y) s)) (sym (set_index xs v x s (omega (arith, valid.0))))
               (subst (R s (if s == v then x else slice_index xs s)) (sym (set_index ys v y s (omega (arith, valid.0))))
@@ -96,8 +93,7 @@ module _ (algebra : Algebra) (states : ℕ) (known : ℕ → Bool) where
         })
       where
         same_at : (if known v then names_known states known e else is_move algebra states known v e) ≡ true → (s : ℕ) → s < states
-            → known s ≡ true → (b : Bool) → (s == v) ≡ b →
-            (if s == v then term_value e (xs ++ args) else slice_index xs s)
+            → known s ≡ true → (b : Bool) → (s == v) ≡ b → (if s == v then term_value e (xs ++ args) else slice_index xs s)
             ≡ (if s == v then term_value e (ys ++ args) else slice_index ys s)
         same_at g s lt k true t =
             let e1 : s ≡ v = grind (arith, nat_tests) in
@@ -110,8 +106,7 @@ module _ (algebra : Algebra) (states : ℕ) (known : ℕ → Bool) where
             ∙ sym (ap (λ b. if b then term_value e (ys ++ args) else slice_index ys s) t)
 
         related_at : (if known v then names_known states known e else is_move algebra states known v e) ≡ true → (s : ℕ) → s < states
-            → known s ≡ false → (b : Bool) → (s == v) ≡ b →
-            R s (if s == v then term_value e (xs ++ args) else slice_index xs s)
+            → known s ≡ false → (b : Bool) → (s == v) ≡ b → R s (if s == v then term_value e (xs ++ args) else slice_index xs s)
             (if s == v then term_value e (ys ++ args) else slice_index ys s)
         related_at g s lt k true t =
             let e1 : s ≡ v = grind (arith, nat_tests) in
@@ -123,8 +118,7 @@ module _ (algebra : Algebra) (states : ℕ) (known : ℕ → Bool) where
             subst (λ (z : Bool). R s (if z then term_value e (xs ++ args) else slice_index xs s)
             (if z then term_value e (ys ++ args) else slice_index ys s)) (sym t)
             (subst (λ z. R z (term_value e (xs ++ args)) (term_value e (ys ++ args))) e2 (move_keeps args xs ys v e hx hy lv kv r g'))
-        related_at g s lt k false t =
-            subst (λ (z : Bool). R s (if z then term_value e (xs ++ args) else slice_index xs s)
+        related_at g s lt k false t = subst (λ (z : Bool). R s (if z then term_value e (xs ++ args) else slice_index xs s)
             (if z then term_value e (ys ++ args) else slice_index ys s)) (sym t) (r.related s lt k)
     block_keeps nargs (Fork c a b rest) free args xs ys valid hx hy h r =
         let inner = free && names_known states known c in

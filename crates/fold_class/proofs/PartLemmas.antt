@@ -23,8 +23,7 @@ module _ {C : Type 0} {is_element : C → Type 0} {k : Elements C} (laws : Eleme
       let E = λ (j : ℕ). k.mul (e j) (k.embed (x j)) in
       ap (λ z. k.add z (k.add (d n) (e n)))
       (sum_same s n (λ j. k.mul (k.add (d j) (e j)) (k.embed (x j))) (λ j. k.add (D j) (E j)) (λ j h. s.add_mul (d j) (e j) (k.embed (x j)))
-      ∙ sum_add s n D E)
-      ∙ exchange s (S D) (S E) (d n) (e n)
+      ∙ sum_add s n D E) ∙ exchange s (S D) (S E) (d n) (e n)
 
   total-scale : (w : ℕ) (e : ℕ → C) → total (λ c. k.mul (k.embed w) (e c)) ≡ k.mul (k.embed w) (total e)
   total-scale w e =
@@ -33,8 +32,7 @@ module _ {C : Type 0} {is_element : C → Type 0} {k : Elements C} (laws : Eleme
       let E = λ (j : ℕ). k.mul (e j) (k.embed (x j)) in
       ap (λ z. k.add z (k.mul (k.embed w) (e n)))
       (sum_same s n (λ j. k.mul (k.mul (k.embed w) (e j)) (k.embed (x j))) (λ j. k.mul (k.embed w) (E j))
-      (λ j h. s.mul_assoc (k.embed w) (e j) (k.embed (x j))) ∙ sym (mul_sum s n (k.embed w) E))
-      ∙ sym (s.mul_add (k.embed w) (S E) (e n))
+      (λ j h. s.mul_assoc (k.embed w) (e j) (k.embed (x j))) ∙ sym (mul_sum s n (k.embed w) E)) ∙ sym (s.mul_add (k.embed w) (S E) (e n))
 
   lift_at : (w c : ℕ) → c ≢ n → (if c == n then k.embed w else k.zero) ≡ k.zero
   lift_at w c h = let off : (c == n) ≡ false = grind (arith, nat_tests) in ap (λ b. if b then k.embed w else k.zero) off
@@ -48,9 +46,7 @@ module _ {C : Type 0} {is_element : C → Type 0} {k : Elements C} (laws : Eleme
       ap (λ z. k.add z (if n == n then k.embed w else k.zero))
       (sum_same s n (λ j. k.mul (if j == n then k.embed w else k.zero) (k.embed (x j))) (λ j. k.zero)
       (λ j lt. let off : j ≢ n = omega arith in ap (λ z. k.mul z (k.embed (x j))) (lift_at w j off) ∙ s.zero_mul (k.embed (x j)))
-      ∙ sum_nothing s n)
-      ∙ ap (k.add k.zero) (lift_last w)
-      ∙ s.zero_add (k.embed w) (laws.embed_is w h)
+      ∙ sum_nothing s n) ∙ ap (k.add k.zero) (lift_last w) ∙ s.zero_add (k.embed w) (laws.embed_is w h)
 
   embed_word : (w : ℕ) → IsWordOf k (k.embed w)
   embed_word w = ap k.embed (laws.to_word-embed w)
@@ -103,40 +99,33 @@ module _ {C : Type 0} {is_element : C → Type 0} {k : Elements C} (laws : Eleme
 
     -- an operator on two parts represents the operator on their words
     pub operation_stands : (r : Role) → role algebra op ≡ r → (a b : Part (ℕ → C)) (v w : ℕ) → IsWord v → IsWord w → StandsFor k n x a v
-        → StandsFor k n x b w →
-        StandsFor k n x (part_operation (row_shares k n) r (op_value op) a b) (op_value op v w)
+        → StandsFor k n x b w → StandsFor k n x (part_operation (row_shares k n) r (op_value op) a b) (op_value op v w)
     operation_stands r er (Fixed u) (Fixed t) v w hv hw p q = ap (λ z. op_value op z t) p ∙ ap (op_value op v) q
     operation_stands Sum er (Fixed u) (Share e) v w hv hw p q = (
-      sum_stands (λ c. if c == n then k.embed u else k.zero) e v w er
-          (lift_stands u v hv p) q.0,
+      sum_stands (λ c. if c == n then k.embed u else k.zero) e v w er (lift_stands u v hv p) q.0,
       sum_has (λ c. if c == n then k.embed u else k.zero) e (lift_has u),
     )
     operation_stands Sum er (Share d) (Fixed t) v w hv hw p q = (
-      sum_stands d (λ c. if c == n then k.embed t else k.zero) v w er p.0
-          (lift_stands t w hw q),
+      sum_stands d (λ c. if c == n then k.embed t else k.zero) v w er p.0 (lift_stands t w hw q),
       sum_has d (λ c. if c == n then k.embed t else k.zero) p.1,
     )
     operation_stands Sum er (Share d) (Share e) v w hv hw p q = (sum_stands d e v w er p.0 q.0, sum_has d e p.1)
     operation_stands Difference er (Fixed u) (Share e) v w hv hw p q = (
       difference_stands (λ c. if c == n then k.embed u else k.zero) e v w er hw (lift_stands u v hv p) q.0,
-      sum_has
-          (λ c. if c == n then k.embed u else k.zero) (λ c. k.mul (k.embed minus_one) (e c)) (lift_has u),
+      sum_has (λ c. if c == n then k.embed u else k.zero) (λ c. k.mul (k.embed minus_one) (e c)) (lift_has u),
     )
     operation_stands Difference er (Share d) (Fixed t) v w hv hw p q = (
       difference_stands d (λ c. if c == n then k.embed t else k.zero) v w er hw p.0 (lift_stands t w hw q),
-      sum_has d
-          (λ c. k.mul (k.embed minus_one) (if c == n then k.embed t else k.zero)) p.1,
+      sum_has d (λ c. k.mul (k.embed minus_one) (if c == n then k.embed t else k.zero)) p.1,
     )
     operation_stands Difference er (Share d) (Share e) v w hv hw p q =
         (difference_stands d e v w er hw p.0 q.0, sum_has d (λ c. k.mul (k.embed minus_one) (e c)) p.1)
     operation_stands Product er (Fixed u) (Share e) v w hv hw p q = (
-      product_stands u e w er q.1 q.0
-          ∙ ap (λ z. op_value op z w) p,
+      product_stands u e w er q.1 q.0 ∙ ap (λ z. op_value op z w) p,
       scale_has u e q.1,
     )
     operation_stands Product er (Share d) (Fixed t) v w hv hw p q = (
-      product_stands t d v er p.1 p.0 ∙ alg.product_comm op er t v
-          ∙ ap (op_value op v) q,
+      product_stands t d v er p.1 p.0 ∙ alg.product_comm op er t v ∙ ap (op_value op v) q,
       scale_has t d p.1,
     )
     operation_stands Product er (Share d) (Share e) v w hv hw p q = tt

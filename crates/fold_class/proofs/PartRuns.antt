@@ -59,10 +59,8 @@ module _ {C : Type 0} {is_element : C → Type 0} {k : Elements C} (laws : Eleme
   dead : (b : Block) (args vars : List Row) → after_in dom (Fixed 0) b args vars ≡ vars
   dead End args vars = refl
   dead (Set v e rest) args vars = ap (after_in dom (Fixed 0) rest args) (set-get_or vars v (Fixed 0)) ∙ dead rest args vars
-  dead (Fork c a b rest) args vars =
-      ap (λ z. after_in dom (Fixed 0) rest args (after_in dom (Fixed 0) b args z)) (dead a args vars)
-      ∙ ap (after_in dom (Fixed 0) rest args) (dead b args vars)
-      ∙ dead rest args vars
+  dead (Fork c a b rest) args vars = ap (λ z. after_in dom (Fixed 0) rest args (after_in dom (Fixed 0) b args z)) (dead a args vars)
+      ∙ ap (after_in dom (Fixed 0) rest args) (dead b args vars) ∙ dead rest args vars
 
   set_stands : (ps : List Row) (vs : List ℕ) (v : ℕ) (p : Row) (w : ℕ) → v < length ps → v < length vs → AllStand ps vs → Stands p w
       → IsWord w → AllStand (set ps v p) (set vs v w)
@@ -161,8 +159,7 @@ module _ {C : Type 0} {is_element : C → Type 0} {k : Elements C} (laws : Eleme
 
     -- a choice whose condition represents a word
     branch : (a b : Block) (vars : List Row) (state : List ℕ) (q : Row) (cv : ℕ) → IsValidBlock states nargs a → IsValidBlock states nargs b
-        → VarsStand vars state → Stands q cv →
-        VarsStand (after_in dom (Fixed 1) a fargs vars) (after a args state)
+        → VarsStand vars state → Stands q cv → VarsStand (after_in dom (Fixed 1) a fargs vars) (after a args state)
         → VarsStand (after_in dom (Fixed 1) b fargs vars) (after b args state) →
         VarsStand (after_in dom (part_mask false (Fixed 1) q) b fargs (after_in dom (part_mask true (Fixed 1) q) a fargs vars))
         (if holds cv then after a args state else after b args state)

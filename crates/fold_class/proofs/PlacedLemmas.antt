@@ -15,16 +15,16 @@ or_false true = refl
 or_false false = refl
 
 in_pushed : (xs : List ℕ) (n v : ℕ) → is_in (xs ++ n ∷ []) v ≡ (is_in xs v || (v == n))
-in_pushed [] n v = or_false (v == n)
-in_pushed (x ∷ xs) n v = ap (λ z. (v == x) || z) (in_pushed xs n v) ∙ three (v == x) (is_in xs v) (v == n)
+in_pushed [] n v = or_false _
+in_pushed (x ∷ xs) n v = cc (in_pushed xs n v, three (v == x) (is_in xs v) (v == n))
   where
     three : (a b c : Bool) → (a || (b || c)) ≡ ((a || b) || c)
     three true b c = refl
     three false b c = refl
 
 in_places : (p : ℕ → Bool) (n v : ℕ) → is_in (places p n) v ≡ (nat_lt v n && p v)
-in_places p zero v = let off : nat_lt v 0 ≡ false = grind (arith, nat_tests) in sym (ap (λ b. b && p v) off)
-in_places p (suc n) v = at (in_places p n v) (p n) refl ∙ last (nat_lt v n) refl (v == n) refl
+in_places p zero v = let off : nat_lt v 0 ≡ false = grind (arith, nat_tests) in rw off
+in_places p (suc n) v = at (in_places _ n _) (p n) refl ∙ last _ refl _ refl
   where
     at : is_in (places p n) v ≡ (nat_lt v n && p v) → (b : Bool) → p n ≡ b
         → is_in (if b then places p n ++ n ∷ [] else places p n) v ≡ ((nat_lt v n && p v) || ((v == n) && b))
@@ -44,15 +44,15 @@ in_places p (suc n) v = at (in_places p n v) (p n) refl ∙ last (nat_lt v n) re
     last true t k u =
         let on : nat_lt v (suc n) ≡ true = grind (arith, nat_tests) in
         let off : (v == n) ≡ false = grind (arith, nat_tests) in
-        ap (λ z. (z && p v) || ((v == n) && p n)) t ∙ ap (λ z. p v || (z && p n)) off ∙ or_false (p v) ∙ sym (ap (λ z. z && p v) on)
+        simp (t, off, or_false, on)
     last false t true u =
         let same : n ≡ v = grind (arith, nat_tests) in
         let on : nat_lt v (suc n) ≡ true = grind (arith, nat_tests) in
         ap (λ z. (z && p v) || ((v == n) && p n)) t ∙ ap (λ z. z && p n) u ∙ ap p same ∙ sym (ap (λ z. z && p v) on)
     last false t false u =
         let off : nat_lt v (suc n) ≡ false = grind (arith, nat_tests) in
-        ap (λ z. (z && p v) || ((v == n) && p n)) t ∙ ap (λ z. z && p n) u ∙ sym (ap (λ z. z && p v) off)
+        rw (t, u, off)
 
 -- the list of a fold's history variables has them
 pub listed : (f : TypedFold) (list : List ℕ) → list ≡ history_places f → is_in list ≡ is_remembered f
-listed f list e = ap is_in e ∙ fun_ext (λ v. in_places (is_history f) (fold_states f) v)
+listed f _ e = cc (fun_ext (λ v. in_places (is_history f) (fold_states f) v))

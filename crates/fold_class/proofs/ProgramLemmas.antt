@@ -90,12 +90,10 @@ module _ (f : TypedFold) (rows : Rows) (valid : IsValidFold f) (ec : IsCodeOf f 
           WritesAlgebra (if a then Sums else (if b then Maxima else Sums)) f rows
       pick true la b lb h er = λ history args map' history' state st al aw leaves.
           step_from sums_laws Sums sums_are wrapping_words wrapping_from_words 1 wrapping_storage.load_store f rows valid la ei er eo el eh
-          history args map' history' state st al aw
-          (subst (λ z. leaves_in z rows history args map' history') er leaves)
+          history args map' history' state st al aw (subst (λ z. leaves_in z rows history args map' history') er leaves)
       pick false la true lb h er = λ history args map' history' state st al aw leaves.
           step_from maxima_laws Maxima maxima_are max_plus_words max_plus_from_words 2 max_plus_storage.load_store f rows valid lb ei er eo
-          el eh history args map' history' state st al aw
-          (subst (λ z. leaves_in z rows history args map' history') er leaves)
+          el eh history args map' history' state st al aw (subst (λ z. leaves_in z rows history args map' history') er leaves)
       pick false la false lb h er = cc
 
   pub rows_are : IsRowsOf f rows
@@ -111,8 +109,7 @@ module _ (f : TypedFold) (rows : Rows) (valid : IsValidFold f) (ec : IsCodeOf f 
         subst (λ a. rows_steps rows ≤ (fold_states f + 1) * (f.nodes + 4 * f.statements + 1) + 2 * element_size a * (fold_states f + 1)
         * (fold_states f + 1)) ea
         (subst (λ n. (length rows.linear + 1) * (n + steps_of rows.code.instrs + length rows.linear * element_size rows.algebra)
-        + length rows.history
-        ≤ (fold_states f + 1) * (f.nodes + 4 * f.statements + 1) + 2 * element_size rows.algebra * (fold_states f + 1)
+        + length rows.history ≤ (fold_states f + 1) * (f.nodes + 4 * f.statements + 1) + 2 * element_size rows.algebra * (fold_states f + 1)
         * (fold_states f + 1)) (sym origins_long)
         (bound rows.algebra (fold_states f) (length rows.linear) (length rows.history) (f.nodes + 4 * f.statements + 1)
         (steps_of rows.code.instrs) sorts ec.steps));

@@ -23,28 +23,29 @@ outside_or false false = refl
 
 expr_shows : (e : Term) (reads : ℕ → ℕ → Bool) (u : ℕ) → expr_kind outside e (λ s. other_where (reads s u)) ≡ other_where
     (expr_reads e reads u)
-expr_shows (Literal n) reads u = refl
-expr_shows (Read s) reads u = refl
-expr_shows (Negation e) reads u = ap (outside_kind Pure) (expr_shows e reads u) ∙ outside_or false (expr_reads e reads u)
+expr_shows (Literal n) _ u = refl
+expr_shows (Read s) _ u = refl
+expr_shows (Negation e) reads u = cc (expr_shows e reads u, outside_or false (expr_reads e reads u))
 expr_shows (Operation op a b) reads u =
-    ap (λ z. outside_kind z (expr_kind outside b (λ s. other_where (reads s u)))) (expr_shows a reads u)
-    ∙ ap (outside_kind (other_where (expr_reads a reads u))) (expr_shows b reads u)
-    ∙ outside_or (expr_reads a reads u) (expr_reads b reads u)
+    cc (expr_shows a reads u, expr_shows b reads u, outside_or (expr_reads a reads u) (expr_reads b reads u))
 
 -- a marked table
 marked_is : (b : Block) (kinds : ℕ → Kind) (v : ℕ) → marked b kinds v ≡ (if assigns b v then Kind.Other else kinds v)
-marked_is End kinds v = refl
-marked_is (Set w e rest) kinds v = marked_is rest (update kinds w Kind.Other) v ∙ both (v == w) (assigns rest v)
+marked_is End _ v = refl
+marked_is (Set w e rest) kinds v = marked_is rest _ _ ∙ both _ _
   where
     both : (p q : Bool) → (if q then Kind.Other else (if p then Kind.Other else kinds v)) ≡ (if p || q then Kind.Other else kinds v)
     both true true = refl
     both true false = refl
     both false q = refl
 marked_is (Fork c x y rest) kinds v =
-    marked_is rest (marked y (marked x kinds)) v
-    ∙ ap (λ z. if assigns rest v then Kind.Other else z) (marked_is y (marked x kinds) v
-    ∙ ap (λ z. if assigns y v then Kind.Other else z) (marked_is x kinds v))
-    ∙ three (assigns x v) (assigns y v) (assigns rest v)
+    cc (
+      marked_is rest (marked y (marked x kinds)) v,
+      marked_is y (marked x kinds) v,
+      marked_is x kinds v,
+      three (assigns x v) (assigns y v)
+          (assigns rest v),
+    )
   where
     three : (p q r : Bool) → (if r then Kind.Other else (if q then Kind.Other else (if p then Kind.Other else kinds v)))
         ≡ (if (p || q) || r then Kind.Other else kinds v)
@@ -57,15 +58,20 @@ marked_is (Fork c x y rest) kinds v =
     three false false r = refl
 
 reads_kept : (b : Block) (reads : ℕ → ℕ → Bool) (v u : ℕ) → assigns b v ≡ false → reads_after b reads v u ≡ reads v u
-reads_kept End reads v u h = refl
+reads_kept End _ v u h = refl
 reads_kept (Set w e rest) reads v u h =
-    reads_kept rest (update reads w (expr_reads e reads)) v u (or_false_right (v == w) (assigns rest v) h)
-    ∙ ap (λ b. (if b then expr_reads e reads else reads v) u) (or_false_left (v == w) (assigns rest v) h)
+    cc (
+      reads_kept rest (update reads w (expr_reads e reads)) v u (or_false_right (v == w) (assigns rest v) h),
+      or_false_left (v == w)
+          (assigns rest v) h,
+    )
 reads_kept (Fork c x y rest) reads v u h =
-    reads_kept rest (λ v. if assigns x v || assigns y v then (λ u. (reads_after x reads v u || reads_after y reads v u) || expr_reads c
-    reads u) else reads v) v u (or_false_right (assigns x v || assigns y v) (assigns rest v) h)
-    ∙ ap (λ b. (if b then (λ u. (reads_after x reads v u || reads_after y reads v u) || expr_reads c reads u) else reads v) u)
-    (or_false_left (assigns x v || assigns y v) (assigns rest v) h)
+    cc (
+      reads_kept rest (λ v. if assigns x v || assigns y v then (λ u. (reads_after x reads v u || reads_after y reads v u) || expr_reads c
+          reads u) else reads v) v u (or_false_right (assigns x v || assigns y v) (assigns rest v) h),
+      or_false_left (assigns x v || assigns y v)
+          (assigns rest v) h,
+    )
 
 greater_or : (a b : Bool) → greater (other_where a) (other_where b) ≡ other_where (a || b)
 greater_or true b = refl
@@ -90,10 +96,7 @@ module _ (c : Term) (x y : Block) (reads : ℕ → ℕ → Bool) (u : ℕ) where
       chosen_kinds (other_where k) (λ (v : ℕ). other_where (reads_after x reads v u)) (λ (v : ℕ). other_where (reads_after y reads v u))
       (marked y (marked x (λ s. other_where (reads s u)))) v
       ≡ other_where (if a then (reads_after x reads v u || reads_after y reads v u) || k else reads v u)
-  joined_kind v true true e =
-      marked_is y (marked x (λ s. other_where (reads s u))) v ∙ ap (λ z. if assigns y v then Kind.Other else z)
-      (marked_is x (λ s. other_where (reads s u)) v)
-      ∙ two (assigns x v) (assigns y v) e ∙ sym (ap other_where (or_true (reads_after x reads v u || reads_after y reads v u)))
+  joined_kind v true true e = simp (marked_is, two, or_true)
     where
       two : (p q : Bool) → (p || q) ≡ true → (if q then Kind.Other else (if p then Kind.Other else other_where (reads v u))) ≡ Kind.Other
       two true true h = refl
@@ -101,19 +104,22 @@ module _ (c : Term) (x y : Block) (reads : ℕ → ℕ → Bool) (u : ℕ) where
       two false true h = refl
       two false false h = cc
   joined_kind v true false e =
-      marked_is y (marked x (λ s. other_where (reads s u))) v ∙ ap (λ z. if assigns y v then Kind.Other else z)
-      (marked_is x (λ s. other_where (reads s u)) v)
-      ∙ ap (λ z. if z then Kind.Other else (if assigns x v then Kind.Other else other_where (reads v u)))
-      (or_false_right (assigns x v) (assigns y v) e)
-      ∙ ap (λ z. if z then Kind.Other else other_where (reads v u)) (or_false_left (assigns x v) (assigns y v) e)
-  joined_kind v false true e = greater_or (reads_after x reads v u) (reads_after y reads v u)
-      ∙ sym (ap other_where (or_end (reads_after x reads v u || reads_after y reads v u)))
+      cc (
+        marked_is y (marked x (λ s. other_where (reads s u))) v,
+        marked_is x (λ s. other_where (reads s u)) v,
+        or_false_right
+            (assigns x v) (assigns y v) e,
+        or_false_left (assigns x v) (assigns y v) e,
+      )
+  joined_kind v false true e = simp (greater_or, or_end)
   joined_kind v false false e =
-      ap (λ z. greater (other_where z) (other_where (reads_after y reads v u)))
-      (reads_kept x reads v u (or_false_left (assigns x v) (assigns y v) e))
-      ∙ ap (λ z. greater (other_where (reads v u)) (other_where z)) (reads_kept y reads v u
-      (or_false_right (assigns x v) (assigns y v) e))
-      ∙ greater_or (reads v u) (reads v u) ∙ ap other_where (or_same (reads v u))
+      cc (
+        reads_kept x reads v u (or_false_left (assigns x v) (assigns y v) e),
+        reads_kept y reads v u
+            (or_false_right (assigns x v) (assigns y v) e),
+        greater_or (reads v u) (reads v u),
+        or_same (reads v u),
+      )
 
   spread : (v : ℕ) (a : Bool) → other_where (if a then (reads_after x reads v u || reads_after y reads v u) || expr_reads c reads u else
       reads v u)
@@ -128,39 +134,38 @@ module _ (c : Term) (x y : Block) (reads : ℕ → ℕ → Bool) (u : ℕ) where
       ≡ other_where ((if assigns x v || assigns y v then (λ u. (reads_after x reads v u || reads_after y reads v u) || expr_reads c reads
       u) else reads v) u)
   choice_joins v ex ey =
-      ap (λ z. chosen_kinds z (kinds_after outside x (λ s. other_where (reads s u)))
-      (kinds_after outside y (λ s. other_where (reads s u))) (marked y (marked x (λ s. other_where (reads s u)))) v)
-      (expr_shows c reads u)
-      ∙ ap (λ z. chosen_kinds (other_where (expr_reads c reads u)) z (kinds_after outside y (λ s. other_where (reads s u)))
-      (marked y (marked x (λ s. other_where (reads s u)))) v) ex
-      ∙ ap (λ z. chosen_kinds (other_where (expr_reads c reads u)) (λ (v : ℕ). other_where (reads_after x reads v u)) z
-      (marked y (marked x (λ s. other_where (reads s u)))) v) ey
-      ∙ joined_kind v (expr_reads c reads u) (assigns x v || assigns y v) refl
-      ∙ spread v (assigns x v || assigns y v)
+      cc (
+        expr_shows c reads u,
+        joined_kind v (expr_reads c reads u) (assigns x v || assigns y v) refl,
+        spread v
+            (assigns x v || assigns y v),
+      )
 
 pub walk_shows : (b : Block) (reads : ℕ → ℕ → Bool) (u : ℕ) → kinds_after outside b (λ s. other_where (reads s u))
     ≡ (λ (v : ℕ). other_where (reads_after b reads v u))
-walk_shows End reads u = refl
-walk_shows (Set w e rest) reads u =
-    ap (kinds_after outside rest) (fun_ext (λ s. at s (s == w))) ∙ walk_shows rest (update reads w (expr_reads e reads)) u
+walk_shows End _ u = refl
+walk_shows (Set w e rest) reads u = cc (fun_ext (λ s. at s (s == w)), walk_shows rest (update reads w (expr_reads e reads)) u)
   where
     at : (s : ℕ) (b : Bool) → (if b then expr_kind outside e (λ s. other_where (reads s u)) else other_where (reads s u)) ≡ other_where
         ((if b then expr_reads e reads else reads s) u)
     at s true = expr_shows e reads u
     at s false = refl
 walk_shows (Fork c x y rest) reads u =
-    ap (kinds_after outside rest) (fun_ext (λ v. choice_joins c x y reads u v (walk_shows x reads u) (walk_shows y reads u)))
-    ∙ walk_shows rest (λ v. if assigns x v || assigns y v then (λ u. (reads_after x reads v u || reads_after y reads v u) || expr_reads c
-    reads u) else reads v) u
+    cc (
+      fun_ext (λ v. choice_joins c x y reads u v (walk_shows x reads u) (walk_shows y reads u)),
+      walk_shows rest
+          (λ v. if assigns x v || assigns y v then (λ u. (reads_after x reads v u || reads_after y reads v u) || expr_reads c
+          reads u) else reads v) u,
+    )
 
 -- a valid block assigns below any number that the variables are below
 pub valid_below : (n states args : ℕ) (b : Block) → states ≤ n → IsValidBlock states args b → AssignsBelow n b
-valid_below n states args End h valid = tt
-valid_below n states args (Set v e rest) h valid = (omega (arith, valid.0), valid_below n states args rest h valid.3)
+valid_below n _ _ End h _ = tt
+valid_below n states args (Set v e rest) h valid = (omega (arith, valid.0), valid_below _ _ _ rest h valid.3)
 valid_below n states args (Fork c a b rest) h valid = (
-  valid_below n states args a h valid.2,
-  valid_below n states args b h valid.3,
-  valid_below n states args rest h valid.4,
+  valid_below _ _ _ a h valid.2,
+  valid_below _ _ _ b h valid.3,
+  valid_below _ _ _ rest h valid.4,
 )
 
 -- a table where all kinds are Pure
@@ -179,13 +184,10 @@ other_back false = refl
 
 -- what the walk from one variable leaves is what reads it
 pub column_shows : (f : TypedFold) (u : ℕ) (start last : List Kind) → u < fold_states f → kinds_in start ≡ update (λ s. Pure) u Kind.Other
-    → kinds_in last ≡ kinds_after outside (fold_block f) (kinds_in start) →
-    (v : ℕ) → is_other (kinds_in last v) ≡ fold_reads f v u
-column_shows f u start last lt es el v =
-    ap (λ z. is_other (z v)) (el ∙ ap (kinds_after outside (fold_block f))
-    (es ∙ fun_ext (λ s. at s (s == u) refl (nat_lt s (fold_states f)) refl))
-    ∙ walk_shows (fold_block f) (reads_first (fold_states f)) u)
-    ∙ other_back (fold_reads f v u)
+    → kinds_in last ≡ kinds_after outside (fold_block f) (kinds_in start) → (v : ℕ) → is_other (kinds_in last v) ≡ fold_reads f v u
+column_shows f u _ _ lt es el v = ap (λ z. is_other (z v)) (el ∙ ap (kinds_after outside (fold_block f))
+    (es ∙ fun_ext (λ s. at s (s == u) refl (nat_lt s (fold_states f)) refl)) ∙ walk_shows (fold_block f) (reads_first (fold_states f)) u)
+    ∙ other_back _
   where
     at : (s : ℕ) (b : Bool) → (s == u) ≡ b → (l : Bool) → nat_lt s (fold_states f) ≡ l
         → (if s == u then Kind.Other else Pure) ≡ other_where (nat_lt s (fold_states f) && (s == u))
@@ -200,4 +202,4 @@ column_shows f u start last lt es el v =
         end false = refl
 
 pub start_is : (ks : List Kind) (u : ℕ) → AllPure ks → u < length ks → kinds_in (set ks u Kind.Other) ≡ update (λ s. Pure) u Kind.Other
-start_is ks u all h = set_kind ks u Kind.Other h ∙ fun_ext (λ s. ap (λ z. if s == u then Kind.Other else z) (pure_at ks s all))
+start_is ks u all h = set_kind _ _ _ h ∙ fun_ext (λ s. ap (λ z. if s == u then Kind.Other else z) (pure_at _ _ all))

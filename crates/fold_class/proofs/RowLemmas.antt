@@ -19,10 +19,8 @@ pub start_more : {A B : Type 0} (g : A → B) (xs : List A) (v : ℕ) (d : A) (P
     list_of v P ++ map g (drop v xs) ≡ all → list_of (v + 1) P' ++ map g (drop (v + 1) xs) ≡ all
 start_more g xs v d P P' x all h e others here so =
     ap (λ z. z ++ map g (drop (v + 1) xs)) (list_more v P P' x (λ i lt. others i (omega arith)) here)
-    ∙ append_assoc (list_of v P) (x ∷ []) (map g (drop (v + 1) xs))
-    ∙ ap (λ z. list_of v P ++ z ∷ map g (drop (v + 1) xs)) e
-    ∙ ap (λ z. list_of v P ++ map g z) (sym (drop_more xs v d h))
-    ∙ so
+    ∙ append_assoc (list_of v P) (x ∷ []) (map g (drop (v + 1) xs)) ∙ ap (λ z. list_of v P ++ z ∷ map g (drop (v + 1) xs)) e
+    ∙ ap (λ z. list_of v P ++ map g z) (sym (drop_more xs v d h)) ∙ so
 
 -- two places of a table are the same only if their columns are
 pub same_column : (n i c j d : ℕ) → c ≤ n → d ≤ n → i * (n + 1) + c ≡ j * (n + 1) + d → c ≡ d
@@ -62,8 +60,7 @@ module _ {C : Type 0} (k : Elements C) (rows : Rows) (history args : List ℕ) (
   entries_from words size ws linear e places written i h =
       let Q : List ℕ → Type 0 = λ l. (i : ℕ) → i < length l → stored_entry size (length l) ws i column ≡ words
       (share_of (column_shares k (length l) column) (P (slice_index l i))) in
-      subst Q e written i h
-      ∙ ap (λ p. words (share_of (column_shares k (rows_dimension rows) column) p))
+      subst Q e written i h ∙ ap (λ p. words (share_of (column_shares k (rows_dimension rows) column) p))
       (part_there (slice_index rows.linear i) (all_at (λ v. v < n) rows.linear i places h))
 
   -- the words of the history, from the parts of the last column
@@ -80,8 +77,7 @@ module _ {C : Type 0} (k : Elements C) (rows : Rows) (history args : List ℕ) (
 pub last_column : {C : Type 0} (k : Elements C) (words : C → List ℕ) (size : ℕ) (rows : Rows) (history args before after : List ℕ) (n : ℕ)
     → n ≡ rows_dimension rows →
     ((i c : ℕ) → i < rows_dimension rows → c < rows_dimension rows → stored_entry size (rows_dimension rows) before i c ≡ words
-    (entry_of k rows history args i c)) →
-    ((i c : ℕ) → i < rows_dimension rows → c ≤ rows_dimension rows → c ≢ n
+    (entry_of k rows history args i c)) → ((i c : ℕ) → i < rows_dimension rows → c ≤ rows_dimension rows → c ≢ n
     → stored_entry size (rows_dimension rows) after i c ≡ stored_entry size (rows_dimension rows) before i c) →
     ((i : ℕ) → i < rows_dimension rows → stored_entry size (rows_dimension rows) after i n ≡ words (entry_of k rows history args i n)) →
     (i c : ℕ) → i < rows_dimension rows → c ≤ rows_dimension rows → stored_entry size (rows_dimension rows) after i c ≡ words

@@ -103,17 +103,14 @@ module _ {C : Type 0} {is_element : C → Type 0} {k : Elements C} (laws : Eleme
 
   -- the parts at the start of a column
   start_is : (c : ℕ) → map (first_part k c history) rows.origins ≡ list_of n (first_column k algebra f c state)
-  start_is c =
-      ap (map (first_part k c history)) eo
+  start_is c = ap (map (first_part k c history)) eo
       ∙ map_list_below (first_part k c history) n (origin_of f) (first_column k algebra f c state) (λ v lt. one v lt (is_history f v) refl)
     where
       one : (v : ℕ) → v < n → (b : Bool) → is_history f v ≡ b →
           first_part k c history (if b then Remembered (length (places (is_history f) v)) else Carried
           (length (places (λ v. not (is_history f v)) v)))
           ≡ (if b then Fixed (slice_index state v) else Share (if c == rank f v then k.one else k.zero))
-      one v lt true e =
-          ap (λ w. Fixed w)
-          (ap (λ z. slice_index z (length (places (is_history f) v))) (sym st.same)
+      one v lt true e = ap (λ w. Fixed w) (ap (λ z. slice_index z (length (places (is_history f) v))) (sym st.same)
           ∙ word_of (is_history f) n v state lt e (places_less (is_history f) v n lt e))
       one v lt false e = ap (λ r. Share (if c == r then k.one else k.zero)) (sym (rank_size f v))
 
@@ -122,8 +119,7 @@ module _ {C : Type 0} {is_element : C → Type 0} {k : Elements C} (laws : Eleme
       let args' = map (λ w. Fixed w) args in
       let dom = parts (column_shares k d c) algebra in
       ap (λ z. run_code (parts (column_shares k z c) rows.algebra) rows.code.instrs args' (map (first_part k c history) rows.origins) [])
-      dim
-      ∙ ap (λ z. run_code (parts (column_shares k d c) z) rows.code.instrs args' (map (first_part k c history) rows.origins) []) ea
+      dim ∙ ap (λ z. run_code (parts (column_shares k d c) z) rows.code.instrs args' (map (first_part k c history) rows.origins) []) ea
       ∙ ap (λ z. run_code dom z args' (map (first_part k c history) rows.origins) []) ei
       ∙ ap (λ z. run_code dom (fold_instrs f) args' z []) (start_is c)
       ∙ code_runs dom args' n (fold_block f) (list_of n (first_column k algebra f c state))
@@ -132,8 +128,7 @@ module _ {C : Type 0} {is_element : C → Type 0} {k : Elements C} (laws : Eleme
   -- the part of a variable at the end of a column
   part_is : (c v : ℕ) → get_or (column_after k rows c history args) v (Fixed 0) ≡ column_of c
       (at (parts (row_shares k d) algebra) (step_rows k algebra f state args) v)
-  part_is c v =
-      ap (λ z. get_or z v (Fixed 0)) (column_is c ∙ step_column_is k algebra f c state args)
+  part_is c v = ap (λ z. get_or z v (Fixed 0)) (column_is c ∙ step_column_is k algebra f c state args)
       ∙ sym (get_or-map (column_of c) (step_rows k algebra f state args) v (Fixed 0))
 
   abbrev row : ℕ → ℕ → C
@@ -163,18 +158,15 @@ module _ {C : Type 0} {is_element : C → Type 0} {k : Elements C} (laws : Eleme
   place_in : (i : ℕ) → i < d → place i < n
   place_in i h = (placed (λ v. not (is_history f v)) n i (omega (arith, linear_size))).0
 
-  linear_step : (i : ℕ) → i < d →
-      k.to_word (map_apply k d (table_of from_words size d map') (λ j. k.embed (x j)) i) ≡ slice_index
+  linear_step : (i : ℕ) → i < d → k.to_word (map_apply k d (table_of from_words size d map') (λ j. k.embed (x j)) i) ≡ slice_index
       (words_at (body f state args) (linear_places f)) i
   linear_step i h =
       let T = table_of from_words size d map' in
       let inside : i < length (linear_places f) = omega (arith, linear_size) in
-      ap k.to_word
-      (ap (λ z. k.add z (T i d)) (sum_same laws d (λ j. k.mul (T i j) (k.embed (x j))) (λ j. k.mul (row i j) (k.embed (x j)))
+      ap k.to_word (ap (λ z. k.add z (T i d)) (sum_same laws d (λ j. k.mul (T i j) (k.embed (x j))) (λ j. k.mul (row i j) (k.embed (x j)))
       (λ j hj. ap (λ z. k.mul z (k.embed (x j))) (table_is i j h (omega arith))))
       ∙ ap (k.add (sum_below k d (λ j. k.mul (row i j) (k.embed (x j))))) (table_is i d h (omega arith)))
-      ∙ step.value (place i) (place_in i h)
-      ∙ sym (map_at (slice_index (body f state args)) (linear_places f) i inside)
+      ∙ step.value (place i) (place_in i h) ∙ sym (map_at (slice_index (body f state args)) (linear_places f) i inside)
 
   has_word : (i : ℕ) → i < d → HasWord k d (table_of from_words size d map' i)
   has_word i h =
@@ -182,8 +174,7 @@ module _ {C : Type 0} {is_element : C → Type 0} {k : Elements C} (laws : Eleme
       (r.0, r.1, subst (IsWordOf k) (sym (table_is i r.0 h r.1)) r.2)
 
   history_step : words_at (body f state args) (history_places f) ≡ history'
-  history_step =
-      ext_get_or 0 (words_at (body f state args) (history_places f)) history'
+  history_step = ext_get_or 0 (words_at (body f state args) (history_places f)) history'
       (length-map (slice_index (body f state args)) (history_places f) ∙ sym (leaves.long ∙ ap (λ l. length l) eh))
       (λ i lt. one i (omega (arith, lt, length-map (slice_index (body f state args)) (history_places f))))
     where
@@ -193,8 +184,7 @@ module _ {C : Type 0} {is_element : C → Type 0} {k : Elements C} (laws : Eleme
           let v = slice_index (history_places f) i in
           let r = placed (is_history f) n i h in
           let h' : i < length rows.history = omega (arith, ap (λ l. length l) eh) in
-          map_at (slice_index (body f state args)) (history_places f) i h
-          ∙ sym (leaves.kept i h'
+          map_at (slice_index (body f state args)) (history_places f) i h ∙ sym (leaves.kept i h'
           ∙ ap (λ z. fixed_word (get_or (column_after k rows (rows_dimension rows) history args) (slice_index z i) (Fixed 0))) eh
           ∙ ap fixed_word (part_is (rows_dimension rows) v)
           ∙ ap (λ p. fixed_word (column_of (rows_dimension rows) p)) (step.history v r.0 r.1))

@@ -88,10 +88,8 @@ module _ {C : Type 0} {is_element : C → Type 0} {k : Elements C} (laws : Eleme
       ∙ s.zero_mul (k.embed (x j)) in
       ap k.to_word
       (ap (λ z. k.add z (if n == r then k.one else k.zero)) (sum_single n (λ j. k.mul (if j == r then k.one else k.zero) (k.embed (x j))) r
-      (k.embed (x r)) lt (laws.embed_is (x r) h) own rest)
-      ∙ ap (λ b. k.add (k.embed (x r)) (if b then k.one else k.zero)) off
-      ∙ add_zero (k.embed (x r)) (laws.embed_is (x r) h))
-      ∙ laws.to_word-embed (x r)
+      (k.embed (x r)) lt (laws.embed_is (x r) h) own rest) ∙ ap (λ b. k.add (k.embed (x r)) (if b then k.one else k.zero)) off
+      ∙ add_zero (k.embed (x r)) (laws.embed_is (x r) h)) ∙ laws.to_word-embed (x r)
 
   pub unit_has : (n r : ℕ) → r < n → HasWord k n (λ c. if c == r then k.one else k.zero)
   unit_has n r lt =
@@ -201,8 +199,7 @@ module _ {C : Type 0} {is_element : C → Type 0} {k : Elements C} (laws : Eleme
         (omega (arith, lt, r.state_long))) (r.stand.each v))
 
     pub part_allowed : (v : ℕ) → v < n → Allows (fold_kinds algebra f v) (at dom last v)
-    part_allowed v lt =
-        subst (Allows (fold_kinds algebra f v)) (last_at v lt)
+    part_allowed v lt = subst (Allows (fold_kinds algebra f v)) (last_at v lt)
         (live_allowed (row_shares k d) algebra n (fold_args f) fargs (fold_block f) (kinds_first f) first fit.valid.statements
         (length-list_of n (first_row k algebra f state)) start_allowed v)
 

@@ -29,11 +29,9 @@ step_related algebra R left right f args xs ys a related v lt k = after.related 
   where
     after : Related algebra (fold_states f) (is_remembered f) R left right (body f xs args) (body f ys args)
     after = block_keeps algebra (fold_states f) (is_remembered f) R left right (fold_args f) (fold_block f) true args xs ys
-        a.valid.statements a.first_long a.second_long a.translates
-        (record {
+        a.valid.statements a.first_long a.second_long a.translates (record {
           same = λ s lt k. a.same s lt (sym (remembered f s lt) ∙ k);
-          related =
-              λ s lt k. related s lt (sym (remembered f s lt) ∙ k);
+          related = λ s lt k. related s lt (sym (remembered f s lt) ∙ k);
         })
 
 -- a move of one word and of the same word, moved by t
@@ -74,8 +72,7 @@ pub step_moves : (algebra : Algebra) (f : TypedFold) (table : ℕ → ℕ) (args
     → AreMoved algebra f table xs ys → AreMoved algebra f table (body f xs args) (body f ys args)
 step_moves algebra f table args xs ys a move =
     step_related algebra (λ v x y. y ≡ translated algebra (table v) x) (λ v op x y w m e. move_left algebra (table v) op x y w m e)
-    (λ v op x y w m e. move_right algebra (table v) op x y w m e)
-    f args xs ys a move
+    (λ v op x y w m e. move_right algebra (table v) op x y w m e) f args xs ys a move
 
 -- sums: the same is added to both
 cross_left : (p q : ℕ) (op : Op) (x y w : ℕ) → moves_left Sums op ≡ true → (x + q) % 2 ^ 64 ≡ (y + p) % 2 ^ 64
@@ -93,11 +90,9 @@ cross_right p q _ x y w h e = cc
 
 pub step_sums : (f : TypedFold) (args xs ys : List ℕ) (v : ℕ) → AreAlikeStates Sums f xs ys → v < fold_states f → is_history f v ≡ false →
     (slice_index (body f xs args) v + slice_index ys v) % 2 ^ 64 ≡ (slice_index (body f ys args) v + slice_index xs v) % 2 ^ 64
-step_sums f args xs ys v a lt k =
-    step_related Sums (λ v x y. (x + slice_index ys v) % 2 ^ 64 ≡ (y + slice_index xs v) % 2 ^ 64)
+step_sums f args xs ys v a lt k = step_related Sums (λ v x y. (x + slice_index ys v) % 2 ^ 64 ≡ (y + slice_index xs v) % 2 ^ 64)
     (λ v op x y w m e. cross_left (slice_index xs v) (slice_index ys v) op x y w m e)
-    (λ v op x y w m e. cross_right (slice_index xs v) (slice_index ys v) op x y w m e)
-    f args xs ys a (λ v lt k. omega arith) v lt k
+    (λ v op x y w m e. cross_right (slice_index xs v) (slice_index ys v) op x y w m e) f args xs ys a (λ v lt k. omega arith) v lt k
 
 -- maxima: the greater of each and the same word
 abbrev Common : ℕ → ℕ → ℕ → ℕ → Type 0
@@ -116,18 +111,15 @@ common_right p q Max x y w h c = (max c.0 w, omega (arith, c.1), omega (arith, c
 common_right p q _ x y w h c = cc
 
 pub step_maxima : (f : TypedFold) (args xs ys : List ℕ) (v : ℕ) → AreAlikeStates Maxima f xs ys → v < fold_states f → is_history f v ≡ false
-    →
-    (b : ℕ) × (slice_index (body f xs args) v ≡ max (slice_index xs v) b) × (slice_index (body f ys args) v ≡ max (slice_index ys v) b)
-step_maxima f args xs ys v a lt k =
-    step_related Maxima (λ v x y. Common (slice_index xs v) (slice_index ys v) x y)
+    → (b : ℕ) × (slice_index (body f xs args) v ≡ max (slice_index xs v) b) × (slice_index (body f ys args) v ≡ max (slice_index ys v) b)
+step_maxima f args xs ys v a lt k = step_related Maxima (λ v x y. Common (slice_index xs v) (slice_index ys v) x y)
     (λ v op x y w m e. common_left (slice_index xs v) (slice_index ys v) op x y w m e)
     (λ v op x y w m e. common_right (slice_index xs v) (slice_index ys v) op x y w m e)
     f args xs ys a (λ v lt k. (0, omega arith, omega arith)) v lt k
 
 -- rows, one by one
 pub rows_moves : (algebra : Algebra) (f : TypedFold) (table : ℕ → ℕ) (rows : List (List ℕ)) (xs ys : List ℕ)
-    → AreAlikeStates algebra f xs ys
-    → AreMoved algebra f table xs ys → AreMoved algebra f table (folded f xs rows) (folded f ys rows)
+    → AreAlikeStates algebra f xs ys → AreMoved algebra f table xs ys → AreMoved algebra f table (folded f xs rows) (folded f ys rows)
 rows_moves algebra f table [] xs ys a move = move
 rows_moves algebra f table (row ∷ rows) xs ys a move = rows_moves algebra f table rows (body f xs row) (body f ys row)
     (alike_after algebra f row xs ys a) (step_moves algebra f table row xs ys a move)
@@ -137,10 +129,8 @@ from_zero Sums x z h e = omega (arith, h, e)
 from_zero Maxima x z h e = omega (arith, h, e)
 
 pub rows_from_zeros : (algebra : Algebra) (f : TypedFold) (rows : List (List ℕ)) (zeros state : List ℕ)
-    → AreAlikeStates algebra f zeros state
-    → AreWords state → HasZeros f zeros →
+    → AreAlikeStates algebra f zeros state → AreWords state → HasZeros f zeros →
     AreMoved algebra f (slice_index state) (folded f zeros rows) (folded f state rows)
-rows_from_zeros algebra f rows zeros state a words none =
-    rows_moves algebra f (slice_index state) rows zeros state a
+rows_from_zeros algebra f rows zeros state a words none = rows_moves algebra f (slice_index state) rows zeros state a
     (λ v lt k. let long = a.second_long in from_zero algebra (slice_index state v) (slice_index zeros v)
     (words v 0 (omega (arith, lt, long))) (none v lt k))

@@ -32,12 +32,12 @@ set_kind kinds v k h = fun_ext (λ s. at s (s == v) refl)
 module _ (roles : Op → Role) where
   pub kinds_end : (xs : List TypedStmt) (i : ℕ) (t all : ℕ → Kind) → length xs ≤ i → kinds_after roles (block_of (drop i xs)) t ≡ all
       → t ≡ all
-  kinds_end xs i t all h so = sym (ap (λ z. kinds_after roles (block_of z) t) (drop_all i xs h)) ∙ so
+  kinds_end xs i t _ h so = cc (drop_all i xs h)
 
   pub kinds_if : (s : TypedStmt) (c : TypedExpr) (a b : List TypedStmt) (t : ℕ → Kind) → s ≡ If c a b →
       kinds_after roles (stmt_block s) t ≡ chosen_kinds (expr_kind roles (term_of c) t) (kinds_after roles (block_of a) t)
       (kinds_after roles (block_of b) t) (marked (block_of b) (marked (block_of a) t))
-  kinds_if s c a b t is = ap (λ z. kinds_after roles (stmt_block z) t) is ∙ ap (λ z. kinds_after roles z t) (block_if c a b)
+  kinds_if s c a b t is = simp (is, block_if)
 
   -- both blocks of a choice, where its condition is Pure
   pub branches_from : (s : TypedStmt) (c : TypedExpr) (a b p q : List TypedStmt) (t ta tb r : ℕ → Kind) → s ≡ If c a b → p ≡ a → q ≡ b
@@ -47,8 +47,6 @@ module _ (roles : Op → Role) where
   branches_from s c a b p q t ta tb r is ep eq ek ea eb er =
       let A = kinds_after roles (block_of a) t in
       let B = kinds_after roles (block_of b) t in
-      er
-      ∙ ap {B = ℕ → Kind} (λ (z : ℕ → Kind) (v : ℕ). greater (z v) (tb v)) (ea ∙ ap (λ z. kinds_after roles (block_of z) t) ep)
+      er ∙ ap {B = ℕ → Kind} (λ (z : ℕ → Kind) (v : ℕ). greater (z v) (tb v)) (ea ∙ ap (λ z. kinds_after roles (block_of z) t) ep)
       ∙ ap {B = ℕ → Kind} (λ (z : ℕ → Kind) (v : ℕ). greater (A v) (z v)) (eb ∙ ap (λ z. kinds_after roles (block_of z) t) eq)
-      ∙ ap (λ z. chosen_kinds z A B (marked (block_of b) (marked (block_of a) t))) ek
-      ∙ sym (kinds_if s c a b t is)
+      ∙ ap (λ z. chosen_kinds z A B (marked (block_of b) (marked (block_of a) t))) ek ∙ sym (kinds_if _ _ _ _ _ is)

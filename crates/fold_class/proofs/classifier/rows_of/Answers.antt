@@ -12,8 +12,7 @@ new-requires c =
       algebra = c.args.algebra;
       origins = p.origins;
       linear = p.linear;
-      history =
-          p.history;
+      history = p.history;
     } in
     sound_rows c.args.f.now rows c.requires.valid c.in_ok-code.ensures.meaning c.in_ok-code.ensures.instrs c.requires.algebra
     c.in_ok-places.ensures.origins c.in_ok-places.ensures.linear c.in_ok-places.ensures.history
@@ -26,8 +25,7 @@ returns c =
       algebra = c.args.algebra;
       origins = p.origins;
       linear = p.linear;
-      history =
-          p.history;
+      history = p.history;
     } in
     subst (IsRowsOf c.args.f.now) (sym c.new.ensures)
     (rows_are c.args.f.now rows c.requires.valid c.in_ok-code.ensures.meaning c.in_ok-code.ensures.instrs c.requires.algebra

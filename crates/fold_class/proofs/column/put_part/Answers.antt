@@ -9,5 +9,4 @@ returns-in-Share-clause-part g c =
     let laws = g.met.C.Coeff.storage in
     share_stored m.from_words m.WORDS _ (set c.args.to.now 0 1) c.store.new.to
     (ap (λ l. length l) c.store.ensures ∙ laws.length_words c.in-Share.element) (get_or-set_same c.args.to.now 0 1 0 (omega arith))
-    ∙ ap (λ z. Share z) (ap m.from_words c.store.ensures ∙ laws.load_store c.in-Share.element)
-    ∙ sym c.in-Share.is
+    ∙ ap (λ z. Share z) (ap m.from_words c.store.ensures ∙ laws.load_store c.in-Share.element) ∙ sym c.in-Share.is

@@ -10,10 +10,8 @@ returns-clause-vars g c =
     let m = g.C.Coeff in
     let before = part_at m.from_words m.WORDS c.args.scratch.now in
     let written = part_at m.from_words m.WORDS c.write_value.new.scratch in
-    c.store_variable.ensures.vars
-    ∙ ap (λ value. vars_after c.args.instr value (list_of c.args.states written)) c.write_value.ensures.here
-    ∙ ap (vars_after c.args.instr _)
-    (list_same c.args.states written before
+    c.store_variable.ensures.vars ∙ ap (λ value. vars_after c.args.instr value (list_of c.args.states written)) c.write_value.ensures.here
+    ∙ ap (vars_after c.args.instr _) (list_same c.args.states written before
     (λ i lt. let ne : i ≢ c.args.states + c.args.number = omega arith in c.write_value.ensures.others i ne))
 
 pub returns-clause-values : goal.returns-clause-values

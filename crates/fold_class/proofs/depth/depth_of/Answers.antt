@@ -5,11 +5,9 @@ use Rattle.fold_class.proofs.DepthLemmas.{round_step, covered_by, covered_last, 
 use Rattle.fold_class.proofs.depth.depth_of.Goals as goal
 
 pub returns-then-covers : goal.returns-then-covers
-returns-then-covers c =
-    depth_found c.args.f.now c.loop-depth.depth
+returns-then-covers c = depth_found c.args.f.now c.loop-depth.depth
     (covered_by c.args.f.now c.loop-depth.depth c.args.history.now c.loop-depth.within c.len-states.result c.covers.result
-    c.len-states.ensures c.requires.history c.loop-depth.invariant.within c.covers.ensures ∙ c.if-covers.true)
-    c.loop-depth.invariant.above
+    c.len-states.ensures c.requires.history c.loop-depth.invariant.within c.covers.ensures ∙ c.if-covers.true) c.loop-depth.invariant.above
 
 pub loop-depth-preserved : goal.loop-depth-preserved
 loop-depth-preserved c = record {
@@ -23,6 +21,5 @@ loop-depth-preserved c = record {
 pub returns : goal.returns
 returns c =
     let same : c.len-states.result ≡ fold_states c.args.f.now = c.len-states.ensures in
-    subst (IsDepth c.args.f.now) (sym same)
-    (depth_found c.args.f.now (fold_states c.args.f.now) (covered_last c.args.f.now)
+    subst (IsDepth c.args.f.now) (sym same) (depth_found c.args.f.now (fold_states c.args.f.now) (covered_last c.args.f.now)
     (λ e h. c.loop-depth.invariant.above e (omega (arith, h, same, c.loop-depth-test.false))))

@@ -11,8 +11,7 @@ pub walk_block-requires-clause-below : goal.walk_block-requires-clause-below
 walk_block-requires-clause-below g c =
     let f = c.args.f.now in
     subst (λ z. AssignsBelow MAX_STATES (block_of z)) (sym c.as_slice.ensures)
-    (valid_below MAX_STATES (fold_states f) (fold_args f) (block_of f.body)
-    c.requires.valid.states c.requires.valid.statements)
+    (valid_below MAX_STATES (fold_states f) (fold_args f) (block_of f.body) c.requires.valid.states c.requires.valid.statements)
 
 pub returns : goal.returns
 returns g c =

@@ -10,8 +10,7 @@ loop-row-preserved g c =
     let n = length c.args.linear.now in
     let r = c.loop-row.row in
     let col = c.args.column in record {
-      entries = below_more _ _
-          (λ i h. let ne : i * (n + 1) + col ≢ r * (n + 1) + col = λ e. let same : i ≡ r =
+      entries = below_more _ _ (λ i h. let ne : i * (n + 1) + col ≢ r * (n + 1) + col = λ e. let same : i ≡ r =
           same_row n i r col e in omega arith in c.store_at.ensures.others (i * (n + 1) + col) ne ∙ c.loop-row.invariant.entries i h)
           (c.store_at.ensures.here ∙ ap m.words (c.share.ensures ∙ ap (share_of (column_shares m.elements n col))
           c.load_part-part.ensures));

@@ -15,5 +15,4 @@ returns-after-else_block g t c =
     c.in-If.is c.as_slice-inner-items.ensures c.as_slice-inner-items-in-Pure.ensures c.in-Pure.ensures
     (kinds_end roles p c.then_block.inner-index (kinds_in c.then_block.kinds) _ c.then_block-test.false c.then_block.invariant.kinds)
     (kinds_end roles q c.else_block.inner-index (kinds_in c.else_block.others) _ c.else_block-test.false
-    (c.else_block.invariant.kinds ∙ ap (λ z. kinds_after roles (block_of q) (kinds_in z)) c.copied-others.ensures))
-    c.join.ensures
+    (c.else_block.invariant.kinds ∙ ap (λ z. kinds_after roles (block_of q) (kinds_in z)) c.copied-others.ensures)) c.join.ensures
