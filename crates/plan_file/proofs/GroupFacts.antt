@@ -35,15 +35,12 @@ pub state_added : (before : Group) (name : List ℕ) (value : ℕ) (names : List
     → names ≡ before.state_names ++ name ∷ [] → initial ≡ before.initial ++ value ∷ []
     → record before { state_names = names; initial = initial }
     ≡ record before { state_names = before.state_names ++ name ∷ []; initial = before.initial ++ value ∷ [] }
-state_added before name value names initial n i =
-    ap (λ names. record before { state_names = names; initial = initial }) n
+state_added before name value names initial n i = ap (λ names. record before { state_names = names; initial = initial }) n
     ∙ ap (λ initial. record before { state_names = before.state_names ++ name ∷ []; initial = initial }) i
 
 -- a key is added
 pub key_added : (before : Group) (name : List ℕ) (value : Operand) (names : List (List ℕ)) (keys : List Operand)
-    → names ≡ before.key_names ++ name ∷ [] → keys ≡ before.keys ++ value ∷ []
-    → record before { key_names = names; keys = keys }
+    → names ≡ before.key_names ++ name ∷ [] → keys ≡ before.keys ++ value ∷ [] → record before { key_names = names; keys = keys }
     ≡ record before { key_names = before.key_names ++ name ∷ []; keys = before.keys ++ value ∷ [] }
-key_added before name value names keys n k =
-    ap (λ names. record before { key_names = names; keys = keys }) n
+key_added before name value names keys n k = ap (λ names. record before { key_names = names; keys = keys }) n
     ∙ ap (λ keys. record before { key_names = before.key_names ++ name ∷ []; keys = keys }) k

@@ -20,8 +20,7 @@ some_same : (p q : PlanOp) → Some p ≡ Some q → p ≡ q
 some_same p q e = cc
 
 pub two_no_left : (fields : List Field) (ops : List PlanOp) (s : Option ℕ) (f : Option Op) (a b : Option Operand)
-    → ((v : Operand) → a ≡ Some v → IsKnown fields ops v → ⊥)
-    → (op : PlanOp) → two_of s f a b ≡ Some op → IsAllowed fields ops op → ⊥
+    → ((v : Operand) → a ≡ Some v → IsKnown fields ops v → ⊥) → (op : PlanOp) → two_of s f a b ≡ Some op → IsAllowed fields ops op → ⊥
 two_no_left fields ops None f a b none op e allowed = cc
 two_no_left fields ops (Some s) None a b none op e allowed = cc
 two_no_left fields ops (Some s) (Some f) None b none op e allowed = cc
@@ -44,8 +43,7 @@ other_word word (a ∷ b ∷ c ∷ d ∷ []) e = rw e refl
 other_word word (a ∷ b ∷ c ∷ d ∷ f ∷ rest) e = refl
 
 pub no_other_word : (fields : List Field) (ops : List PlanOp) (line word : List ℕ) (rest : List (List ℕ)) → tokens line ≡ word ∷ rest
-    → bytes_eq word (codes "op") ≡ false
-    → (op : PlanOp) → IsOpLine fields ops line op → ⊥
+    → bytes_eq word (codes "op") ≡ false → (op : PlanOp) → IsOpLine fields ops line op → ⊥
 no_other_word fields ops line word rest e other = no_line fields ops line (ap op_words e ∙ other_word word rest other)
 
 -- six tokens are no operation

@@ -11,8 +11,7 @@ use Rattle.marple_base.specs.declared.field.TheConstants.{FIELDS}
 use Rattle.stage_plan.specs.declared.op.Operand.{Operand}
 use Rattle.stage_plan.specs.declared.op.Operand.TheVariants.{Register, Number}
 use Rattle.stage_plan.specs.declared.op.PlanOp.{PlanOp}
-use Rattle.plan_file.specs.Operations.{operand, register}
-use Rattle.plan_file.specs.Operations.{IsKnown, IsKnownRegister}
+use Rattle.plan_file.specs.Operations.{operand, register, IsKnown, IsKnownRegister}
 
 pub same_default : (xs : List ℕ) (k a b : ℕ) → k < length xs → get_or xs k a ≡ get_or xs k b
 same_default [] k a b h = elim h [ ]
@@ -77,8 +76,7 @@ pub known_bound : (fields : List Field) (ops : List PlanOp) (n : ℕ) → length
 known_bound fields ops n few large = not_known fields ops n (omega (arith, large)) (omega (arith, few, large))
 
 pub register_unknown : (fields : List Field) (ops : List PlanOp) (token : List ℕ) (n : ℕ) → register token ≡ Some n
-    → (IsKnownRegister fields ops n → ⊥)
-    → (v : Operand) → operand token ≡ Some v → IsKnown fields ops v → ⊥
+    → (IsKnownRegister fields ops n → ⊥) → (v : Operand) → operand token ≡ Some v → IsKnown fields ops v → ⊥
 register_unknown fields ops token n b none (Register r) e known =
     let same : Some (Register n) ≡ Some (Register r) = rw b at e in
     let equal : r ≡ n = cc in

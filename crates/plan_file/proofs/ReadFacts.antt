@@ -1,13 +1,12 @@
 -- How far the lines of a text are read.
 use Rattle.std.proofs.Common.{◌≡◌, ℕ, zero, suc, ◌+◌, ◌<◌, ◌≤◌, List, [], ◌∷◌, length, take, Some, refl, sym, ap, subst, arith, add-one}
-use Rattle.std.proofs.Common.{inl, inr}
 use Rattle.std.specs.Prelude.{slice_get}
 use Rattle.std.proofs.lemmas.List.{take_all, length-drop}
 use Rattle.plan_file.specs.declared.made.Made.{Made}
 use Rattle.plan_file.specs.declared.texts.TheConstants.{MAX_PLAN}
 use Rattle.plan_file.specs.Lexis.{lines, bytes_after_lines}
 use Rattle.plan_file.specs.Lines.{nothing, IsLine}
-use Rattle.plan_file.specs.Texts.{Make, Says, IsBadAt, IsLineStart, IsAfterLines}
+use Rattle.plan_file.specs.Texts.{Make, Says, IsLineStart, IsAfterLines}
 
 -- this many lines are read, up to a byte, and they made this
 pub record IsReached (text : List ℕ) (i at : ℕ) (made : Made) : Type 0 where
@@ -23,53 +22,17 @@ make_more (m ∷ ls) zero x y z line p e l =
     (z, subst (λ t. IsLine x t z) (sym same) (subst (λ w. IsLine w line z) p l), refl)
 make_more (m ∷ ls) (suc i) x y z line p e l = (p.0, p.1, make_more ls i p.0 y z line p.2 e l)
 
-pub reached_first : (text : List ℕ) → IsReached text 0 0 nothing
-reached_first text = record {
-  start = record { start = refl; count = omega arith; rest = refl; within = omega arith };
-  valid = refl;
-}
-
 pub reached_more : (text : List ℕ) (i at next : ℕ) (made after : Made) (line : List ℕ) → IsReached text i at made
-    → slice_get (lines text) i ≡ Some line → IsLineStart text (i + 1) next → IsLine made line after
-    → IsReached text (i + 1) next after
+    → slice_get (lines text) i ≡ Some line → IsLineStart text (i + 1) next → IsLine made line after → IsReached text (i + 1) next after
 reached_more text i at next made after line r e start l = record {
   start = start;
   valid = subst (λ n. Make (take n (lines text)) nothing after) (sym (add-one i))
       (make_more (lines text) i nothing made after line r.valid e l);
 }
 
--- a line that isn't valid after those that were read
-pub bad_line : (text : List ℕ) (i at : ℕ) (made : Made) (line : List ℕ) → length text ≤ MAX_PLAN → IsReached text i at made
-    → slice_get (lines text) i ≡ Some line → ((after : Made) → IsLine made line after → ⊥) → IsBadAt text at
-bad_line text i at made line small r e bad = inr (
-  small,
-  inl (
-    i,
-    record
-        { before = made; valid_before = r.valid; line = line; is = e; bad = λ v. bad v.0 v.1 },
-    r.start.start,
-  ),
-)
-
 -- all lines are read
 pub all_made : (text : List ℕ) (i at : ℕ) (made : Made) → IsReached text i at made → IsAfterLines text i at → Make (lines text) nothing made
 all_made text i at made r b = subst (λ ls. Make ls nothing made) (take_all i (lines text) (omega (arith, b.count))) r.valid
-
-pub bad_rest : (text : List ℕ) (i at : ℕ) (made : Made) → length text ≤ MAX_PLAN → at < length text → IsReached text i at made
-    → IsAfterLines text i at → IsBadAt text (length text)
-bad_rest text i at made small lt r b =
-    let size : 0 < length (bytes_after_lines text) = omega (arith, ap length b.rest, length-drop at text) in
-    inr (small, inr (record { plan = made; valid = all_made text i at made r b; bad = inl size }, refl))
-
-pub no_print : (text : List ℕ) (i at : ℕ) (made : Made) → length text ≤ MAX_PLAN → made.prints ≡ [] → IsReached text i at made
-    → IsAfterLines text i at → IsBadAt text (length text)
-no_print text i at made small none r b = inr (
-  small,
-  inr (
-    record { plan = made; valid = all_made text i at made r b; bad = inr none },
-    refl,
-  ),
-)
 
 pub says : (text : List ℕ) (i at : ℕ) (made : Made) → length text ≤ MAX_PLAN → length text ≤ at → (made.prints ≡ [] → ⊥)
     → IsReached text i at made → IsAfterLines text i at → Says text made

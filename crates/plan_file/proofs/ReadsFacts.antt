@@ -15,8 +15,7 @@ use Rattle.plan_file.specs.Operations.{AreFrom, IsReadsLine}
 
 -- a field by its number, and by its name
 abbrev numbered : ℕ → Field
-numbered n =
-    if nat_eq n 0 then Switch else if nat_eq n 1 then Qid else if nat_eq n 2 then Uid else if nat_eq n 3 then SrcIp else
+numbered n = if nat_eq n 0 then Switch else if nat_eq n 1 then Qid else if nat_eq n 2 then Uid else if nat_eq n 3 then SrcIp else
     if nat_eq n 4 then DstIp else if nat_eq n 5 then SrcPort else if nat_eq n 6 then DstPort else if nat_eq n 7 then Proto else
     if nat_eq n 8 then PktLen else if nat_eq n 9 then PayloadLen else if nat_eq n 10 then TcpSeq else if nat_eq n 11 then Tin else
     if nat_eq n 12 then Tout else QSize
@@ -38,21 +37,13 @@ numbered_is Tout = refl
 numbered_is QSize = refl
 
 abbrev named : List ℕ → Field
-named text =
-    if bytes_eq text (codes "switch") then Switch else
-    if bytes_eq text (codes "qid") then Qid else
-    if bytes_eq text (codes "uid") then Uid else
-    if bytes_eq text (codes "srcip") then SrcIp else
-    if bytes_eq text (codes "dstip") then DstIp else
-    if bytes_eq text (codes "srcport") then SrcPort else
-    if bytes_eq text (codes "dstport") then DstPort else
-    if bytes_eq text (codes "proto") then Proto else
-    if bytes_eq text (codes "pkt_len") then PktLen else
-    if bytes_eq text (codes "payload_len") then PayloadLen else
-    if bytes_eq text (codes "tcpseq") then TcpSeq else
-    if bytes_eq text (codes "tin") then Tin else
-    if bytes_eq text (codes "tout") then Tout else
-    QSize
+named text = if bytes_eq text (codes "switch") then Switch else if bytes_eq text (codes "qid") then Qid else
+    if bytes_eq text (codes "uid") then Uid else if bytes_eq text (codes "srcip") then SrcIp else
+    if bytes_eq text (codes "dstip") then DstIp else if bytes_eq text (codes "srcport") then SrcPort else
+    if bytes_eq text (codes "dstport") then DstPort else if bytes_eq text (codes "proto") then Proto else
+    if bytes_eq text (codes "pkt_len") then PktLen else if bytes_eq text (codes "payload_len") then PayloadLen else
+    if bytes_eq text (codes "tcpseq") then TcpSeq else if bytes_eq text (codes "tin") then Tin else
+    if bytes_eq text (codes "tout") then Tout else QSize
 
 named_is : (f : Field) → named (field_name f) ≡ f
 named_is Switch = refl
@@ -107,27 +98,6 @@ tail_is a b xs ys e = cc
 head_is : (a b : List ℕ) (xs ys : List (List ℕ)) → a ∷ xs ≡ b ∷ ys → a ≡ b
 head_is a b xs ys e = cc
 
-pub passed_start : (line : List ℕ) (left : List (List ℕ)) → tokens line ≡ codes "reads" ∷ left → IsPassed line [] 0 left
-passed_start line left e = record {
-  words = e;
-  order = omega arith;
-  all = λ fields valid. (
-    fields,
-    refl,
-    valid.order,
-    tail_is (codes "reads") (codes "reads") (map field_name fields) left
-        (sym valid.words ∙ e),
-  );
-}
-
--- a line other than `reads`
-pub no_reads : (line word : List ℕ) (rest : List (List ℕ)) → tokens line ≡ word ∷ rest → bytes_eq word (codes "reads") ≡ false
-    → (fields : List Field) → IsReadsLine line fields → ⊥
-no_reads line word rest e other fields valid =
-    let same : word ≡ codes "reads" = head_is word (codes "reads") rest (map field_name fields) (sym e ∙ valid.words) in
-    let yes : bytes_eq word (codes "reads") ≡ true = rw same refl in
-    cc
-
 skipped : (f : Field) (t : List ℕ) (ts : List (List ℕ)) (i : ℕ) → number_of f ≡ i → (t ≡ field_name f → ⊥)
     → (more : List Field) → AreFrom i more → map field_name more ≡ t ∷ ts → AreFrom (i + 1) more
 skipped f t ts i e other [] order words = cc
@@ -154,8 +124,7 @@ passed_end line found i p = record {
 
 -- the field isn't named
 pub passed_other : (line : List ℕ) (found : List Field) (i : ℕ) (f : Field) (t : List ℕ) (ts : List (List ℕ))
-    → IsPassed line found i (t ∷ ts) → number_of f ≡ i → (t ≡ field_name f → ⊥)
-    → IsPassed line found (i + 1) (t ∷ ts)
+    → IsPassed line found i (t ∷ ts) → number_of f ≡ i → (t ≡ field_name f → ⊥) → IsPassed line found (i + 1) (t ∷ ts)
 passed_other line found i f t ts p e other = record {
   words = p.words;
   order = in_more found 0 i p.order;
@@ -181,8 +150,7 @@ map_with (g ∷ found) f ts = ap (λ rest. field_name g ∷ rest) (map_with foun
 
 -- the field is named
 pub passed_with : (line : List ℕ) (found : List Field) (i : ℕ) (f : Field) (t : List ℕ) (ts : List (List ℕ))
-    → IsPassed line found i (t ∷ ts) → number_of f ≡ i → t ≡ field_name f
-    → IsPassed line (found ++ f ∷ []) (i + 1) ts
+    → IsPassed line found i (t ∷ ts) → number_of f ≡ i → t ≡ field_name f → IsPassed line (found ++ f ∷ []) (i + 1) ts
 passed_with line found i f t ts p e name = record {
   words = p.words ∙ ap (λ h. codes "reads" ∷ (map field_name found ++ h ∷ ts)) name
       ∙ ap (λ rest. codes "reads" ∷ rest) (map_with found f ts);
@@ -197,8 +165,7 @@ nil_end (x ∷ xs) = ap (λ rest. x ∷ rest) (nil_end xs)
 pub passed_all : (line : List ℕ) (found : List Field) (i : ℕ) → IsPassed line found i [] → IsReadsLine line found
 passed_all line found i p = record {
   words = p.words ∙ ap (λ rest. codes "reads" ∷ rest) (nil_end (map field_name found));
-  order =
-      in_from found 0 i p.order;
+  order = in_from found 0 i p.order;
 }
 
 number_below : (f : Field) → number_of f < FIELDS
@@ -223,23 +190,20 @@ past_all (f ∷ rest) i t ts past order words = omega (arith, number_below f, or
 
 -- a token is left after all fields
 pub passed_none : (line : List ℕ) (found : List Field) (i : ℕ) (t : List ℕ) (ts : List (List ℕ)) → FIELDS ≤ i
-    → IsPassed line found i (t ∷ ts)
-    → (fields : List Field) → IsReadsLine line fields → ⊥
+    → IsPassed line found i (t ∷ ts) → (fields : List Field) → IsReadsLine line fields → ⊥
 passed_none line found i t ts past p fields valid =
     let a = p.all fields valid in
     past_all a.0 i t ts past a.2 a.3
 
 -- what an iteration over one field does, in each of its three ways
 pub step_with : (line : List ℕ) (found new : List Field) (i : ℕ) (f : Field) (t : List ℕ) (left ts : List (List ℕ))
-    → IsPassed line found i left → left ≡ t ∷ ts → number_of f ≡ i
-    → t ≡ field_name f → new ≡ found ++ f ∷ [] → IsPassed line new (i + 1) ts
+    → IsPassed line found i left → left ≡ t ∷ ts → number_of f ≡ i → t ≡ field_name f → new ≡ found ++ f ∷ [] → IsPassed line new (i + 1) ts
 step_with line found new i f t left ts p is e name new_is =
     subst (λ xs. IsPassed line xs (i + 1) ts) (sym new_is) (passed_with line found i f t ts (subst (λ xs. IsPassed line found i xs) is p) e
     name)
 
 pub step_other : (line : List ℕ) (found : List Field) (i : ℕ) (f : Field) (t : List ℕ) (left ts : List (List ℕ))
-    → IsPassed line found i left → left ≡ t ∷ ts → number_of f ≡ i
-    → (t ≡ field_name f → ⊥) → IsPassed line found (i + 1) left
+    → IsPassed line found i left → left ≡ t ∷ ts → number_of f ≡ i → (t ≡ field_name f → ⊥) → IsPassed line found (i + 1) left
 step_other line found i f t left ts p is e other =
     subst (λ xs. IsPassed line found (i + 1) xs) (sym is) (passed_other line found i f t ts (subst (λ xs. IsPassed line found i xs) is p) e
     other)

@@ -24,8 +24,7 @@ module _ (f g : TypedFold) (e : fold_states f ≡ fold_states g) (h : fold_block
 
   within_same : (d v : ℕ) → is_within f d v ≡ is_within g d v
   within_same zero v = refl
-  within_same (suc d) v =
-      ap (λ n. all_below n (λ u. not (fold_reads f v u) || is_within f d u)) e
+  within_same (suc d) v = ap (λ n. all_below n (λ u. not (fold_reads f v u) || is_within f d u)) e
       ∙ all_same (fold_states g) (λ u. not (fold_reads f v u) || is_within f d u) (λ u. not (fold_reads g v u) || is_within g d u)
       (λ u lt. ap (λ r. not (r v u) || is_within f d u) reads_same ∙ ap (λ z. not (fold_reads g v u) || z) (within_same d u))
 
@@ -40,18 +39,15 @@ module _ (f g : TypedFold) (e : fold_states f ≡ fold_states g) (h : fold_block
   kinds_same algebra = ap (λ b. kinds_after (role algebra) b (kinds_first f)) h ∙ ap (kinds_after (role algebra) (fold_block g)) first_same
 
   linear_same : (algebra : Algebra) → is_linear_by algebra f ≡ is_linear_by algebra g
-  linear_same algebra =
-      ap (λ (k : ℕ → Kind). all_below (fold_states f) (λ v. is_no_other (k v))) (kinds_same algebra)
+  linear_same algebra = ap (λ (k : ℕ → Kind). all_below (fold_states f) (λ v. is_no_other (k v))) (kinds_same algebra)
       ∙ ap (λ n. all_below n (λ v. is_no_other (fold_kinds algebra g v))) e
 
   pub class_same : class_of f ≡ class_of g
-  class_same =
-      ap (λ z. if z || is_linear_by Maxima f then Linear else Class.Other) (linear_same Sums)
+  class_same = ap (λ z. if z || is_linear_by Maxima f then Linear else Class.Other) (linear_same Sums)
       ∙ ap (λ z. if is_linear_by Sums g || z then Linear else Class.Other) (linear_same Maxima)
 
   pub algebra_same : algebra_of f ≡ algebra_of g
-  algebra_same =
-      ap (λ z. if z then Sums else (if is_linear_by Maxima f then Maxima else Sums)) (linear_same Sums)
+  algebra_same = ap (λ z. if z then Sums else (if is_linear_by Maxima f then Maxima else Sums)) (linear_same Sums)
       ∙ ap (λ z. if is_linear_by Sums g then Sums else (if z then Maxima else Sums)) (linear_same Maxima)
 
   pub depth_same : (d : ℕ) → IsDepth f d → IsDepth g d

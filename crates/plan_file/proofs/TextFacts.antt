@@ -56,12 +56,10 @@ start_more text i x y rest next =
     let f : List ℕ → ℕ = λ line. length line + 1 in
     let one : sum_by f (x ∷ []) ≡ length x + 1 = omega arith in
     ap (λ k. sum_by f (take k (lines text))) (add-one i) ∙ ap (λ ls. sum_by f ls) next.taken
-    ∙ sum_by-append f (take i (lines text)) (x ∷ [])
-    ∙ ap (λ n. sum_by f (take i (lines text)) + n) one
+    ∙ sum_by-append f (take i (lines text)) (x ∷ []) ∙ ap (λ n. sum_by f (take i (lines text)) + n) one
 
 pub next_start : (text : List ℕ) (i at : ℕ) (x left : List ℕ) → IsLineStart text i at → slice_split is_line_feed (drop at text) ≡ x
-    ∷ slice_split is_line_feed left
-    → left ≡ drop (length x + 1) (drop at text) → length x < length (drop at text)
+    ∷ slice_split is_line_feed left → left ≡ drop (length x + 1) (drop at text) → length x < length (drop at text)
     → (slice_get (lines text) i ≡ Some x) × IsLineStart text (i + 1) (at + length x + 1)
 next_start text i at x left start cut left_is size = by (slice_split is_line_feed left) refl cut
   where

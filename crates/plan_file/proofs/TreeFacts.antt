@@ -97,10 +97,6 @@ abbrev pub IsLeft : ℕ → ℕ → List TypedStmt → List Lexeme → Block →
 IsLeft states args found left b rest =
     (next : Block) × IsValidBlock states args next × (followed (block_of found) next ≡ b) × (left ≡ written_block states next ++ rest)
 
-pub left_first : (states args : ℕ) (words : List Lexeme) (b : Block) (rest : List Lexeme) → IsValidBlock states args b
-    → words ≡ written_block states b ++ rest → IsLeft states args [] words b rest
-left_first states args words b rest v is = (b, v, refl, is)
-
 no_begin : (rest : List Lexeme) → Closes rest → begins_statement rest ≡ true → ⊥
 no_begin [] c e = cc
 no_begin (word.Close ∷ rest) c e = cc
@@ -116,8 +112,7 @@ no_begin (word.Other ∷ rest) c e = absurd c
 
 -- no statement begins: the block has ended
 pub left_last : (states args : ℕ) (found : List TypedStmt) (left : List Lexeme) (b : Block) (rest : List Lexeme)
-    → begins_statement left ≡ false → IsLeft states args found left b rest
-    → (block_of found ≡ b) × (left ≡ rest)
+    → begins_statement left ≡ false → IsLeft states args found left b rest → (block_of found ≡ b) × (left ≡ rest)
 left_last states args found left b rest none (End, v, f, is) = (sym (followed_end (block_of found)) ∙ f, is)
 left_last states args found left b rest none (Set u e next, v, f, is) =
     absurd (let t : begins_statement left ≡ true = ap begins_statement is in cc)
@@ -135,8 +130,7 @@ pub record IsAhead (states args : ℕ) (found : List TypedStmt) (left : List Lex
   pub left_is : left ≡ written_block states one ++ (written_block states next ++ rest)
 
 pub left_ahead : (states args : ℕ) (found : List TypedStmt) (left : List Lexeme) (b : Block) (rest : List Lexeme) → Closes rest
-    → begins_statement left ≡ true → IsLeft states args found left b rest
-    → IsAhead states args found left b rest
+    → begins_statement left ≡ true → IsLeft states args found left b rest → IsAhead states args found left b rest
 left_ahead states args found left b rest c some (End, v, f, is) = absurd (no_begin rest c (sym (ap begins_statement is) ∙ some))
 left_ahead states args found left b rest c some (Set u e next, v, f, is) = record {
   one = Set u e End;

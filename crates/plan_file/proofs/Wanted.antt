@@ -1,6 +1,6 @@
 -- Reading one token at a time reads what a stack of expected things reads.
-use Rattle.std.proofs.Common.{◌≡◌, ℕ, ◌+◌, ◌-◌, ◌^◌, ◌<◌, Bool, true, false, ◌&&◌, List, [], ◌∷◌, ◌++◌, Some, None}
-use Rattle.std.proofs.Common.{refl, sym, ap, ◌∙◌, subst, arith, inl, inr}
+use Rattle.std.proofs.Common.{◌≡◌, ℕ, ◌+◌, ◌^◌, ◌<◌, Bool, true, false, ◌&&◌, List, [], ◌∷◌, ◌++◌, Some, None, refl, sym, ap, ◌∙◌, subst}
+use Rattle.std.proofs.Common.{arith, inl, inr}
 use Rattle.std.specs.Prelude.{nat_lt, reverse, ◌⊎◌}
 use Rattle.std.proofs.lemmas.Bool.Decides.{nat_tests}
 use Rattle.std.proofs.lemmas.List.{reverse-append}
@@ -42,8 +42,7 @@ module _ (states args : ℕ) where
       both false b p q r = cc
 
   number_from : (test : ℕ → Bool) (w : Lexeme) (wants : List Want) (front : List Lexeme) → after_number test w ≡ Some wants
-      → AllRead states args (reverse wants) front
-      → (n : ℕ) × (w ∷ front ≡ word.Number n ∷ []) × (n < 2 ^ 64) × (test n ≡ true)
+      → AllRead states args (reverse wants) front → (n : ℕ) × (w ∷ front ≡ word.Number n ∷ []) × (n < 2 ^ 64) × (test n ≡ true)
   number_from test (word.Number n) wants front h p =
       let t = where_some (nat_lt n (2 ^ 64) && test n) [] wants h in
       let b = and_both (nat_lt n (2 ^ 64)) (test n) t.0 in
@@ -73,8 +72,7 @@ module _ (states args : ℕ) where
       grind (arith, nat_tests)
 
   target_back : (w : Lexeme) (wants : List Want) (front : List Lexeme) → after_target states w ≡ Some wants
-      → AllRead states args (reverse wants) front
-      → Reads states args Target (w ∷ front)
+      → AllRead states args (reverse wants) front → Reads states args Target (w ∷ front)
   target_back (word.State v) wants front h p =
       let t = where_some (nat_lt v states) [] wants h in
       let small : v < states = (let e : nat_lt v states ≡ true = t.0 in grind (arith, nat_tests)) in
@@ -108,8 +106,7 @@ module _ (states args : ℕ) where
   term_first e w front eq =
       let both : w ∷ front ≡ first_of states args e ∷ rest_of states args e = eq ∙ first_rest states args e in (
         head_same w (first_of states args e) front (rest_of states args e) both,
-        tail_same w (first_of states args e) front
-            (rest_of states args e) both,
+        tail_same w (first_of states args e) front (rest_of states args e) both,
       )
 
   goes : (want : Want) (w : Lexeme) (front : List Lexeme) (wants : List Want) → past states (states + args) want w ≡ Some wants

@@ -1,5 +1,5 @@
 -- Reading the first token of a block reads what the block is.
-use Rattle.std.proofs.Common.{◌≡◌, ℕ, zero, suc, ◌+◌, ◌-◌, ◌≤◌, List, [], ◌∷◌, ◌++◌, Some, None, refl, sym, ap, ◌∙◌, arith, append_assoc}
+use Rattle.std.proofs.Common.{◌≡◌, ℕ, zero, suc, ◌≤◌, List, [], ◌∷◌, ◌++◌, Some, None, refl, sym, ap, ◌∙◌, arith, append_assoc}
 use Rattle.std.specs.Prelude.{reverse}
 use Rattle.query_lang.specs.Blocks as blocks
 use Rattle.query_lang.specs.Terms.{Term}
@@ -15,8 +15,7 @@ use Rattle.plan_file.proofs.WantedTerms.{wanted_back}
 
 module _ (states args : ℕ) where
   -- a block
-  choice_tail : (c a b n t : List Lexeme)
-      → (c ++ (word.Open ∷ (a ++ (word.Close ∷ word.Open ∷ (b ++ (word.Close ∷ n)))))) ++ t ≡ c
+  choice_tail : (c a b n t : List Lexeme) → (c ++ (word.Open ∷ (a ++ (word.Close ∷ word.Open ∷ (b ++ (word.Close ∷ n)))))) ++ t ≡ c
       ++ (word.Open ∷ (a ++ (word.Close ∷ word.Open ∷ (b ++ (word.Close ∷ (n ++ t))))))
   choice_tail c a b n t = simp append_assoc
 

@@ -1,6 +1,6 @@
 -- What a stack of expected things reads, and that reading the first token of an expression reads the same.
-use Rattle.std.proofs.Common.{◌≡◌, ℕ, ◌+◌, ◌-◌, ◌^◌, ◌<◌, ◌≤◌, Bool, true, false, not, ◌&&◌, List, [], ◌∷◌, ◌++◌, Some, None}
-use Rattle.std.proofs.Common.{refl, sym, ap, ◌∙◌, subst, arith, append_assoc, append-nil}
+use Rattle.std.proofs.Common.{◌≡◌, ℕ, ◌+◌, ◌-◌, ◌^◌, ◌<◌, ◌≤◌, Bool, true, false, not, ◌&&◌, List, [], ◌∷◌, ◌++◌, Some, None, refl, sym, ap}
+use Rattle.std.proofs.Common.{◌∙◌, subst, arith, append_assoc, append-nil}
 use Rattle.std.specs.Prelude.{nat_lt, reverse, if◌then◌else◌}
 use Rattle.std.proofs.lemmas.Bool.Decides.{nat_tests}
 use Rattle.query_lang.specs.declared.fold.Op.{Op}
@@ -220,8 +220,7 @@ module _ (states args : ℕ) where
       not_both false e f = cc
 
   pub word_back : (w : Lexeme) (wants : List Want) (front : List Lexeme) → past_word states slots w ≡ Some wants
-      → AllRead (reverse wants) front
-      → ReadsTerm false (w ∷ front)
+      → AllRead (reverse wants) front → ReadsTerm false (w ∷ front)
   word_back (word.Number n) wants front h p =
       let t = where_some (nat_lt n (2 ^ 64)) [] wants h in
       let small : n < 2 ^ 64 = (let e : nat_lt n (2 ^ 64) ≡ true = t.0 in grind (arith, nat_tests)) in
@@ -254,8 +253,7 @@ module _ (states args : ℕ) where
 
   -- an expression whose value is a condition
   pub condition_goes : (e : Term) (wants : List Want) → after_condition (first_of e) ≡ Some wants → IsValidTerm slots e
-      → is_condition e ≡ true
-      → AllRead (reverse wants) (rest_of e)
+      → is_condition e ≡ true → AllRead (reverse wants) (rest_of e)
   condition_goes (Literal n) wants h v k = cc
   condition_goes (Read s) wants h v k = cc
   condition_goes (Negation e) wants h v k =
@@ -272,8 +270,7 @@ module _ (states args : ℕ) where
   condition_sticks (Operation op a b) h k = cc (k, where_none (gives_condition op) (operands op) h)
 
   pub condition_back : (w : Lexeme) (wants : List Want) (front : List Lexeme) → after_condition w ≡ Some wants
-      → AllRead (reverse wants) front
-      → ReadsTerm true (w ∷ front)
+      → AllRead (reverse wants) front → ReadsTerm true (w ∷ front)
   condition_back word.Not wants front h p =
       let same : wants ≡ Condition ∷ [] = cc in
       let q = only_one Condition front (wanted_back (Condition ∷ []) wants front same p) in

@@ -12,12 +12,8 @@ use Rattle.plan_file.specs.declared.made.Group.{Group}
 use Rattle.plan_file.specs.declared.made.Made.{Made}
 use Rattle.plan_file.specs.Bodies.{IsBody}
 use Rattle.plan_file.specs.Groups.{IsInGroup, IsKeyLine, IsArgLine, IsStateLine, IsGroupBody, group_with}
-use Rattle.plan_file.specs.Lines.{nothing, IsLine, IsLineOf, IsFirst, IsReads, IsOp, IsGroup, IsPart, IsFold, IsPrint, IsWithin}
-use Rattle.plan_file.specs.Lines.{IsGroupWithin}
+use Rattle.plan_file.specs.Lines.{IsLine, IsLineOf, IsFirst, IsReads, IsOp, IsGroup, IsPart, IsFold, IsPrint, IsWithin, IsGroupWithin}
 use Rattle.plan_file.specs.LineWords.{line_word}
-
-pub nothing_within : IsWithin nothing
-nothing_within = record { ops = omega arith; groups = omega arith; room = tt; current = tt }
 
 abbrev HasBody : Group → Type 0
 HasBody g = IfSome g.body (λ tokens. (body : Block) × IsBody (length g.initial) (length g.args) tokens body)
@@ -35,8 +31,7 @@ arg_within fields ops g line n p w =
     subst IsGroupWithin (sym p.made) (record {
       states = w.states;
       args = omega (arith, length-append g.args (p.value ∷ []), room);
-      body =
-          subst B (sym p.body) tt;
+      body = subst B (sym p.body) tt;
     })
 
 state_within : (g : Group) (line : List ℕ) (n : Group) → IsStateLine g line n → IsGroupWithin g → IsGroupWithin n
@@ -47,16 +42,14 @@ state_within g line n p w =
     subst IsGroupWithin (sym p.made) (record {
       states = omega (arith, length-append g.initial (p.value ∷ []), room);
       args = w.args;
-      body =
-          subst B (sym p.body) tt;
+      body = subst B (sym p.body) tt;
     })
 
 body_within : (g : Group) (line : List ℕ) (n : Group) → IsGroupBody g line n → IsGroupWithin g → IsGroupWithin n
 body_within g line n p w = subst IsGroupWithin (sym p.made) (record {
   states = w.states;
   args = w.args;
-  body =
-      (p.valid.body, p.valid.is_body);
+  body = (p.valid.body, p.valid.is_body);
 })
 
 group_within : (word : LineWord) (fields : List Field) (ops : List PlanOp) (g : Group) (line : List ℕ) (n : Group)
@@ -85,8 +78,7 @@ op_within b line a p w =
     subst IsWithin (sym p.made) (record {
       ops = omega (arith, length-append b.ops (p.op ∷ []), room);
       groups = w.groups;
-      room =
-          w.room;
+      room = w.room;
       current = w.current;
     })
 
@@ -97,8 +89,7 @@ begun_within b line a p w =
       ops = w.ops;
       groups = w.groups;
       room = p.valid.room;
-      current =
-          subst IsGroupWithin (sym p.valid.made) new;
+      current = subst IsGroupWithin (sym p.valid.made) new;
     })
 
 part_within : (word : LineWord) (b : Made) (line : List ℕ) (a : Made) → IsPart word b line a → IsWithin b → IsWithin a
@@ -109,8 +100,7 @@ part_within word b line a p w =
       ops = w.ops;
       groups = w.groups;
       room = room;
-      current =
-          group_within word p.fields b.ops p.group line p.next p.valid old;
+      current = group_within word p.fields b.ops p.group line p.next p.valid old;
     })
 
 fold_within : (b : Made) (line : List ℕ) (a : Made) → IsFold b line a → IsWithin b → IsWithin a
@@ -119,8 +109,7 @@ fold_within b line a p w =
     subst IsWithin (sym p.made) (record {
       ops = w.ops;
       groups = omega (arith, length-append b.groups (p.folded ∷ []), room);
-      room =
-          tt;
+      room = tt;
       current = tt;
     })
 

@@ -15,8 +15,7 @@ returns-then-not-is_said c after is =
     c.in-Some.words.nodes after.statements c.in-Some.words.statements is.valid c.in-Some.ensures in
     let states : fold_states is.fold ≡ fold_states c.in-Some-2.fold = is.is_fold.states ∙ sym h.0.states in
     let block = h.5 is.fold is.is_fold in
-    c.is_said.ensures.no c.if-not-is_said.true
-    (c.in_ok-class.ensures.0 ∙ sym (class_same is.fold f states block) ∙ sym is.class ∙ once.0)
+    c.is_said.ensures.no c.if-not-is_said.true (c.in_ok-class.ensures.0 ∙ sym (class_same is.fold f states block) ∙ sym is.class ∙ once.0)
     (depth_once f c.in_ok-class.depth after.depth c.in_ok-class.ensures.1 (depth_same is.fold f states block after.depth is.depth) ∙ once.1)
 
 pub returns : goal.returns

@@ -21,11 +21,9 @@ loop-one-preserved c =
     omega (arith, count_names c.args.groups.now, c.loop-one-test.true) in
     let test : bytes_eq c.one-item.result.group.name c.args.name.now ≡ false =
     cc (c.is_text.ensures, c.as_slice.ensures, c.if-is_text.false) in
-    below_more _ _ c.loop-one.invariant
-    (other_at names c.args.name.now c.one-item.result.group.name c.loop-one.one-index lt
+    below_more _ _ c.loop-one.invariant (other_at names c.args.name.now c.one-item.result.group.name c.loop-one.one-index lt
     (named_at c.args.groups.now c.one-item.result c.loop-one.one-index c.loop-one-test.true c.one-item.is) test)
 
 pub returns-clause-no : goal.returns-clause-no
-returns-clause-no c _ =
-    not_among (names_of c.args.groups.now) c.args.name.now (λ k lt. c.loop-one.invariant k
+returns-clause-no c _ = not_among (names_of c.args.groups.now) c.args.name.now (λ k lt. c.loop-one.invariant k
     (omega (arith, lt, count_names c.args.groups.now, c.loop-one-test.false)))

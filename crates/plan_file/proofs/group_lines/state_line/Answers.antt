@@ -20,5 +20,6 @@ returns c = record {
   valid = c.in-Some.ensures;
   new = c.is_new_in.ensures.yes c.if-not-is_new_in.false;
   made = state_added c.args.group.now c.in-Some.found.0.now c.in-Some.found.1 c.push.new.self c.push-2.new.self
-      (c.in_ok-push.ensures.ok ∙ ap (λ name. c.args.group.now.state_names ++ name ∷ []) c.in_ok-from_slice.ensures) c.in_ok-push-2.ensures.ok;
+      (c.in_ok-push.ensures.ok ∙ ap (λ name. c.args.group.now.state_names ++ name ∷ []) c.in_ok-from_slice.ensures)
+      c.in_ok-push-2.ensures.ok;
 }

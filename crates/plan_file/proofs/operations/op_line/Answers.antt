@@ -10,14 +10,11 @@ returns-then-not-is_text c =
     c.in_ok-word.ensures.parts (search rules)
 
 pub returns-in-Some-cut_at_space : goal.returns-in-Some-cut_at_space
-returns-in-Some-cut_at_space c =
-    no_line c.args.fields.now c.args.ops.now c.args.line.now
-    (rw (
-      c.in_ok-word.ensures.parts,
-      c.in_ok-stage.ensures.parts,
-      c.in_ok-function.ensures.parts,
-      c.in-Some.ensures.parts,
-      c.in-Some-cut_at_space.ensures.parts,
-    )
-    (six_tokens c.in_ok-word.word.now c.in_ok-stage.stage.now c.in_ok-function.function.now c.in-Some.a.now
+returns-in-Some-cut_at_space c = no_line c.args.fields.now c.args.ops.now c.args.line.now (rw (
+  c.in_ok-word.ensures.parts,
+  c.in_ok-stage.ensures.parts,
+  c.in_ok-function.ensures.parts,
+  c.in-Some.ensures.parts,
+  c.in-Some-cut_at_space.ensures.parts,
+) (six_tokens c.in_ok-word.word.now c.in_ok-stage.stage.now c.in_ok-function.function.now c.in-Some.a.now
     c.in-Some-cut_at_space.field-0.0.now c.in-Some-cut_at_space.field-0.1.now))

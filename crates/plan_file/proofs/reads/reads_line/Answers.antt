@@ -26,18 +26,15 @@ loop-i-preserved c =
           (tokens_left c.loop-i.left c.loop-i.rest.now) (tokens_left w.first_token-more.result.2 w.first_token-more.result.1.now)
           c.loop-i.invariant words w.field_at-field.ensures (λ e. text_other w.first_token-more.result.0.now w.name.result.now test
           (e ∙ sym w.name.ensures)))
-      | else-left w ↦
-          rw (w.found-is, w.left-is, w.rest-is)
+      | else-left w ↦ rw (w.found-is, w.left-is, w.rest-is)
           (step_end c.args.line.now c.loop-i.found c.loop-i.i (tokens_left c.loop-i.left c.loop-i.rest.now) c.loop-i.invariant
           (ap (λ b. tokens_left b c.loop-i.rest.now) w.if-left.false))
     ]
 
 pub returns-then-left-2 : goal.returns-then-left-2
-returns-then-left-2 c =
-    left_over c.args.line.now c.loop-i.rest.now c.loop-i.found c.loop-i.i c.loop-i-test.false
+returns-then-left-2 c = left_over c.args.line.now c.loop-i.rest.now c.loop-i.found c.loop-i.i c.loop-i-test.false
     (subst (λ b. IsPassed c.args.line.now c.loop-i.found c.loop-i.i (tokens_left b c.loop-i.rest.now)) c.if-left-2.true c.loop-i.invariant)
 
 pub returns-else-left-2 : goal.returns-else-left-2
-returns-else-left-2 c =
-    passed_all c.args.line.now c.loop-i.found c.loop-i.i
+returns-else-left-2 c = passed_all c.args.line.now c.loop-i.found c.loop-i.i
     (subst (λ b. IsPassed c.args.line.now c.loop-i.found c.loop-i.i (tokens_left b c.loop-i.rest.now)) c.if-left-2.false c.loop-i.invariant)

@@ -9,15 +9,13 @@ use Rattle.plan_file.proofs.tree.+statements.Goals as goal
 
 pub braced-returns-in-Some-after_brace-clause-found : goal.braced-returns-in-Some-after_brace-clause-found
 braced-returns-in-Some-after_brace-clause-found t c b rest valid is =
-    let e = tail_same word.Open word.Open c.in-Some.inside.now (written_block c.args.states b ++ word.Close ∷ rest)
-    (sym c.in-Some.ensures ∙ is) in
+    let e = tail_same _ _ _ _ (sym c.in-Some.ensures ∙ is) in
     let h = rw c.in-Some-2.is at (c.in_ok-found.ensures.found b (word.Close ∷ rest) tt valid e) in
-    (h.0, tail_same word.Close word.Close c.in-Some-after_brace.rest.now rest (sym c.in-Some-after_brace.ensures ∙ h.1))
+    (h.0, tail_same _ _ _ _ (sym c.in-Some-after_brace.ensures ∙ h.1))
 
 pub braced-returns-in-None-after_brace-clause-found : goal.braced-returns-in-None-after_brace-clause-found
 braced-returns-in-None-after_brace-clause-found t c b rest valid is =
-    let e = tail_same word.Open word.Open c.in-Some.inside.now (written_block c.args.states b ++ word.Close ∷ rest)
-    (sym c.in-Some.ensures ∙ is) in
+    let e = tail_same _ _ _ _ (sym c.in-Some.ensures ∙ is) in
     let h = rw c.in-Some-2.is at (c.in_ok-found.ensures.found b (word.Close ∷ rest) tt valid e) in
     c.in-None-after_brace.ensures rest h.1
 
@@ -26,46 +24,35 @@ braced-returns-in-None-clause-found t c b rest valid is = c.in-None.ensures (wri
 
 pub braced-returns-in-None-2-clause-found : goal.braced-returns-in-None-2-clause-found
 braced-returns-in-None-2-clause-found t c b rest valid is =
-    let e = tail_same word.Open word.Open c.in-Some.inside.now (written_block c.args.states b ++ word.Close ∷ rest)
-    (sym c.in-Some.ensures ∙ is) in
+    let e = tail_same _ _ _ _ (sym c.in-Some.ensures ∙ is) in
     rw c.in-None-2.is at (c.in_ok-found.ensures.found b (word.Close ∷ rest) tt valid e)
 
 pub choice-returns-in-None-clause-found : goal.choice-returns-in-None-clause-found
-choice-returns-in-None-clause-found t c t' a b rest vc va vb is =
-    let wb = written_block c.args.states b in
-    let after = word.Open ∷ (wb ++ word.Close ∷ rest) in
-    rw c.in-None.is at (c.in_ok-found.ensures.found t' (word.Open ∷ (written_block c.args.states a ++ word.Close ∷ after)) vc
-    (is ∙ choice_front (written c.args.states t') (written_block c.args.states a) wb rest))
+choice-returns-in-None-clause-found t c t' a b rest vc va vb is = rw c.in-None.is at (c.in_ok-found.ensures.found t' _ vc
+    (is ∙ choice_front (written c.args.states t') (written_block c.args.states a) (written_block c.args.states b) rest))
 
 pub choice-returns-in-None-2-clause-found : goal.choice-returns-in-None-2-clause-found
 choice-returns-in-None-2-clause-found t c t' a b rest vc va vb is =
-    let wb = written_block c.args.states b in
-    let after = word.Open ∷ (wb ++ word.Close ∷ rest) in
-    let h1 = rw c.in-Some.is at (c.in_ok-found.ensures.found t' (word.Open ∷ (written_block c.args.states a ++ word.Close ∷ after)) vc
-    (is ∙ choice_front (written c.args.states t') (written_block c.args.states a) wb rest)) in
-    rw c.in-None-2.is at (c.in_ok-found-2.ensures.found a after va h1.1)
+    let h1 = rw c.in-Some.is at (c.in_ok-found.ensures.found t' _ vc
+    (is ∙ choice_front (written c.args.states t') (written_block c.args.states a) (written_block c.args.states b) rest)) in
+    rw c.in-None-2.is at (c.in_ok-found-2.ensures.found a _ va h1.1)
 
 pub choice-returns-in-None-3-clause-found : goal.choice-returns-in-None-3-clause-found
 choice-returns-in-None-3-clause-found t c t' a b rest vc va vb is =
-    let wb = written_block c.args.states b in
-    let after = word.Open ∷ (wb ++ word.Close ∷ rest) in
-    let h1 = rw c.in-Some.is at (c.in_ok-found.ensures.found t' (word.Open ∷ (written_block c.args.states a ++ word.Close ∷ after)) vc
-    (is ∙ choice_front (written c.args.states t') (written_block c.args.states a) wb rest)) in
-    let h2 = rw c.in-Some-2.is at (c.in_ok-found-2.ensures.found a after va h1.1) in
+    let h1 = rw c.in-Some.is at (c.in_ok-found.ensures.found t' _ vc
+    (is ∙ choice_front (written c.args.states t') (written_block c.args.states a) (written_block c.args.states b) rest)) in
+    let h2 = rw c.in-Some-2.is at (c.in_ok-found-2.ensures.found a _ va h1.1) in
     rw c.in-None-3.is at (c.in_ok-else_block.ensures.found b rest vb h2.1)
 
 pub choice-returns-in-Some-3-clause-found : goal.choice-returns-in-Some-3-clause-found
 choice-returns-in-Some-3-clause-found t c t' a b rest vc va vb is =
-    let wb = written_block c.args.states b in
-    let after = word.Open ∷ (wb ++ word.Close ∷ rest) in
-    let h1 = rw c.in-Some.is at (c.in_ok-found.ensures.found t' (word.Open ∷ (written_block c.args.states a ++ word.Close ∷ after)) vc
-    (is ∙ choice_front (written c.args.states t') (written_block c.args.states a) wb rest)) in
-    let h2 = rw c.in-Some-2.is at (c.in_ok-found-2.ensures.found a after va h1.1) in
+    let h1 = rw c.in-Some.is at (c.in_ok-found.ensures.found t' _ vc
+    (is ∙ choice_front (written c.args.states t') (written_block c.args.states a) (written_block c.args.states b) rest)) in
+    let h2 = rw c.in-Some-2.is at (c.in_ok-found-2.ensures.found a _ va h1.1) in
     let h3 = rw c.in-Some-3.is at (c.in_ok-else_block.ensures.found b rest vb h2.1) in (
       block_if c.in-Some.found.0 c.in-Some-2.found.0 c.in-Some-3.else_block
           ∙ ap (λ x. Fork x (block_of c.in-Some-2.found.0) (block_of c.in-Some-3.else_block) End) h1.0
-          ∙ ap (λ x. Fork t' x (block_of c.in-Some-3.else_block) End) h2.0
-          ∙ ap (λ x. Fork t' a x End) h3.0,
+          ∙ ap (λ x. Fork t' x (block_of c.in-Some-3.else_block) End) h2.0 ∙ ap (λ x. Fork t' a x End) h3.0,
       h3.1,
     )
 

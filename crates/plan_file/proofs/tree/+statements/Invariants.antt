@@ -23,8 +23,7 @@ abbrev pub invariant-statements-statements : goal.invariant-statements-statement
 invariant-statements-statements l = record {
   size : length l.left ≤ length l.words;
   goes : (b : Block) (rest : List Lexeme) → Closes rest → IsValidBlock l.states (l.slots - l.states) b → l.words ≡ written_block l.states b
-      ++ rest
-      → IsLeft l.states (l.slots - l.states) l.found l.left b rest;
+      ++ rest → IsLeft l.states (l.slots - l.states) l.found l.left b rest;
 }
 
 abbrev pub decreases-statements-statements : goal.decreases-statements-statements

@@ -17,6 +17,5 @@ returns-in-Some c b is =
     (h.0, small.0, small.1)
 
 pub returns-in-None : goal.returns-in-None
-returns-in-None c b is n s =
-    absurd (rw c.in-None.is at (c.in_ok-body.ensures.found b [] tt (same_args c.args.states c.args.args b is.typed)
+returns-in-None c b is n s = absurd (rw c.in-None.is at (c.in_ok-body.ensures.found b [] tt (same_args c.args.states c.args.args b is.typed)
     (is.statements ∙ sym (append-nil (written_block c.args.states b)))))

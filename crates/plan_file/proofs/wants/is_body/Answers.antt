@@ -96,11 +96,9 @@ returns c =
     = λ p. c.loop-word.invariant.back (subst (StackReads c.args.states c.args.args old) (sym same) p) in
     let len : vec_len c.step-2.new.wants ≡ length c.step-2.new.wants.items = omega (arith, c.step-2.new.wants.ok) in
     elim c.if-closed.branch [
-      | then-closed w ↦
-          finish c.args.states c.args.args c.args.words.now old c.step-2.new.wants.items c.if-closed.result
+      | then-closed w ↦ finish c.args.states c.args.args c.args.words.now old c.step-2.new.wants.items c.if-closed.result
           (w.result-is ∙ w.is_empty.ensures ∙ ap (λ n. n == 0) len)
           (yes _ _ c.in_ok-closed.closed w.if-closed.true c.in_ok-closed.ensures) goes back
-      | else-closed w ↦
-          refuse c.args.states c.args.args c.args.words.now old c.if-closed.result (w.result-is ∙ w.if-closed.false)
+      | else-closed w ↦ refuse c.args.states c.args.args c.args.words.now old c.if-closed.result (w.result-is ∙ w.if-closed.false)
           (no _ _ c.in_ok-closed.closed w.if-closed.false c.in_ok-closed.ensures) goes
     ]
