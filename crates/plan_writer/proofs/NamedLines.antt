@@ -1,9 +1,7 @@
 -- Lines of names and last words that are written in sequence.
-use Rattle.std.proofs.Common.{◌≡◌, ℕ, ◌+◌, ◌<◌, ◌≤◌, List, [], ◌∷◌, ◌++◌, length, get_or, drop, map, min, sym, ap, ◌∙◌, arith, append_assoc}
-use Rattle.std.proofs.Common.{append-nil, refl, inl, inr}
-use Rattle.std.proofs.lemmas.List.{drop_more, drop_all}
+use Rattle.std.proofs.Common.{◌≡◌, ℕ, ◌≤◌, List, [], ◌∷◌, ◌++◌, length, drop, map, min, sym, ap, ◌∙◌, arith, append-nil, refl, inl, inr}
+use Rattle.std.proofs.lemmas.List.{drop_all}
 use Rattle.std.proofs.lemmas.Bool.{cases_lt}
-use Rattle.plan_writer.specs.Words.{line}
 use Rattle.plan_writer.specs.PlanText.{named_lines}
 
 no_names : (word : List ℕ) (lasts : List (List ℕ)) → named_lines word [] lasts ≡ []
@@ -13,20 +11,6 @@ no_names word (last ∷ lasts) = refl
 no_lasts : (word : List ℕ) (names : List (List ℕ)) → named_lines word names [] ≡ []
 no_lasts word [] = refl
 no_lasts word (name ∷ names) = refl
-
--- one more line
-pub named_more : {A : Type 0} (said : A → List ℕ) (word : List ℕ) (names : List (List ℕ)) (values : List A) (i : ℕ) (name : List ℕ) (d : A)
-    (t1 t2 : List ℕ) →
-    i < length names → i < length values → name ≡ get_or names i [] → t2 ≡ t1 ++ line word (name ∷ said (get_or values i d) ∷ []) →
-    t2 ++ named_lines word (drop (i + 1) names) (map said (drop (i + 1) values)) ≡ t1
-    ++ named_lines word (drop i names) (map said (drop i values))
-named_more said word names values i name d t1 t2 a b is e =
-    ap (λ t. t ++ named_lines word (drop (i + 1) names) (map said (drop (i + 1) values))) e
-    ∙ append_assoc t1 (line word (name ∷ said (get_or values i d) ∷ []))
-    (named_lines word (drop (i + 1) names) (map said (drop (i + 1) values)))
-    ∙ ap (λ n. t1 ++ named_lines word (n ∷ drop (i + 1) names) (map said (get_or values i d ∷ drop (i + 1) values))) is
-    ∙ ap (λ l. t1 ++ named_lines word l (map said (get_or values i d ∷ drop (i + 1) values))) (sym (drop_more names i [] a))
-    ∙ ap (λ l. t1 ++ named_lines word (drop i names) (map said l)) (sym (drop_more values i d b))
 
 -- and all are written
 pub named_end : {A : Type 0} (said : A → List ℕ) (word : List ℕ) (names : List (List ℕ)) (values : List A) (i : ℕ) (t1 t2 : List ℕ) →

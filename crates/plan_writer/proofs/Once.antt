@@ -62,8 +62,7 @@ numbers_ascend stage n (one ∷ ops) i j a b lt e f = go (eqb one.stage stage) i
   where
     go : (t : Bool) (i j : ℕ) → i < j →
         ((i j a b : ℕ) → i < j → slice_get (numbers_at stage (n + 1) ops) i ≡ Some a → slice_get (numbers_at stage (n + 1) ops) j ≡ Some b
-        → a < b) →
-        slice_get (cond t (n ∷ numbers_at stage (n + 1) ops) (numbers_at stage (n + 1) ops)) i ≡ Some a →
+        → a < b) → slice_get (cond t (n ∷ numbers_at stage (n + 1) ops) (numbers_at stage (n + 1) ops)) i ≡ Some a →
         slice_get (cond t (n ∷ numbers_at stage (n + 1) ops) (numbers_at stage (n + 1) ops)) j ≡ Some b → a < b
     go true zero zero lt rest e f = absurd (omega arith)
     go true zero (suc j) lt rest e f = let here : n ≡ a = same_Some n a e in omega
@@ -108,8 +107,7 @@ stands_once ops (suc s) i j c lt e f =
 -- a number's place in the order is the one place where it occurs
 place_is : (ops : List PlanOp) (s k c : ℕ) → slice_get (order_of ops s) k ≡ Some c
     → position_or_len (λ other. other == c) (order_of ops s) ≡ k
-place_is ops s k c e =
-    position_or_len_is (λ other. other == c) (order_of ops s) k 0 (let w = within in omega arith)
+place_is ops s k c e = position_or_len_is (λ other. other == c) (order_of ops s) k 0 (let w = within in omega arith)
     (λ i lt. others (get_or (order_of ops s) i 0 == c) i lt refl) (λ lt.
     (let here = get_or_from_slice_get (order_of ops s) k c 0 e in grind (arith, nat_tests)))
   where
@@ -126,8 +124,7 @@ place_is ops s k c e =
 pub registers_are : (ops : List PlanOp) (s : ℕ) (registers : List ℕ) → Staged ops s
     → ArePlaced (order_of ops s) registers (length (order_of ops s)) → length registers ≡ length ops →
     registers ≡ registers_in (order_of ops s) (length ops)
-registers_are ops s registers staged placed long =
-    same_number_lists registers (registers_in (order_of ops s) (length ops))
+registers_are ops s registers staged placed long = same_number_lists registers (registers_in (order_of ops s) (length ops))
     (long ∙ sym (length-map-range_with_len (register_in (order_of ops s)) 0 (length ops)))
     (λ c lt. (let in_ops : c < length ops = omega (arith, lt, long) in one_is c in_ops
     ∙ sym (get_or-map-range_with_len (register_in (order_of ops s)) 0 (length ops) c c 0 in_ops (omega arith))))

@@ -20,11 +20,9 @@ after_both xs ys = flat_map-append (λ word. 32 ∷ word) xs ys
 -- the words of a block and then those of another
 pub words_followed : (states : ℕ) (p q : Block) → block_words states (followed p q) ≡ block_words states p ++ block_words states q
 words_followed states End q = λ _. block_words states q
-words_followed states (Set v e next) q =
-    ap (λ l. codes "set" ∷ state_word v ∷ (term_words states e ++ l)) (words_followed states next q)
+words_followed states (Set v e next) q = ap (λ l. codes "set" ∷ state_word v ∷ (term_words states e ++ l)) (words_followed states next q)
     ∙ ap (λ l. codes "set" ∷ state_word v ∷ l) (sym (append_assoc (term_words states e) (block_words states next) (block_words states q)))
-words_followed states (Fork c a b next) q =
-    ap (λ l. codes "if" ∷ (term_words states c ++ (codes "{" ∷ (block_words states a
+words_followed states (Fork c a b next) q = ap (λ l. codes "if" ∷ (term_words states c ++ (codes "{" ∷ (block_words states a
     ++ (codes "}" ∷ codes "{" ∷ (block_words states b ++ (codes "}" ∷ l))))))) (words_followed states next q)
     ∙ regrouped (codes "if") (codes "{") (codes "}") (term_words states c) (block_words states a) (block_words states b)
     (block_words states next) (block_words states q)
@@ -65,10 +63,8 @@ choice_written states s c a b p q t0 t1 t2 t3 t4 t5 t6 t7 t8 is ea eb e1 e2 e3 e
     let z = spaced (block_words states (block_of q)) in
     let all : t8 ≡ (((((((t0 ++ spaced (codes "if" ∷ [])) ++ x) ++ spaced (codes "{" ∷ [])) ++ y) ++ spaced (codes "}" ∷ []))
     ++ spaced (codes "{" ∷ [])) ++ z) ++ spaced (codes "}" ∷ []) = cc in
-    all
-    ∙ glued t0 (codes "if") (codes "{") (codes "}") (term_words states (term_of c)) (block_words states (block_of p))
-    (block_words states (block_of q))
-    ∙ ap (λ l. t0 ++ spaced (block_words states (Fork (term_of c) (block_of l) (block_of q) End))) ea
+    all ∙ glued t0 (codes "if") (codes "{") (codes "}") (term_words states (term_of c)) (block_words states (block_of p))
+    (block_words states (block_of q)) ∙ ap (λ l. t0 ++ spaced (block_words states (Fork (term_of c) (block_of l) (block_of q) End))) ea
     ∙ ap (λ l. t0 ++ spaced (block_words states (Fork (term_of c) (block_of a) (block_of l) End))) eb
     ∙ ap (λ l. t0 ++ spaced (block_words states l)) (sym (block_if c a b))
     ∙ ap (λ l. t0 ++ spaced (block_words states (stmt_block l))) (sym is)
@@ -83,10 +79,8 @@ choice_written states s c a b p q t0 t1 t2 t3 t4 t5 t6 t7 t8 is ea eb e1 e2 e3 e
 
     glued : (t0 i o e : List ℕ) (x y z : List (List ℕ)) →
         (((((((t0 ++ spaced (i ∷ [])) ++ spaced x) ++ spaced (o ∷ [])) ++ spaced y) ++ spaced (e ∷ [])) ++ spaced (o ∷ [])) ++ spaced z)
-        ++ spaced (e ∷ [])
-        ≡ t0 ++ spaced (i ∷ (x ++ (o ∷ (y ++ (e ∷ o ∷ (z ++ (e ∷ [])))))))
-    glued t0 i o e x y z =
-        flat t0 (spaced (i ∷ [])) (spaced x) (spaced (o ∷ [])) (spaced y) (spaced (e ∷ [])) (spaced z)
+        ++ spaced (e ∷ []) ≡ t0 ++ spaced (i ∷ (x ++ (o ∷ (y ++ (e ∷ o ∷ (z ++ (e ∷ [])))))))
+    glued t0 i o e x y z = flat t0 (spaced (i ∷ [])) (spaced x) (spaced (o ∷ [])) (spaced y) (spaced (e ∷ [])) (spaced z)
         ∙ ap (λ l. t0 ++ l) (sym (parts (i ∷ []) x (o ∷ []) y (e ∷ []) z))
 
 -- the three pieces of an assignment
@@ -96,19 +90,16 @@ pub assignment_written : (states v n : ℕ) (s : TypedStmt) (e : TypedExpr) (t0 
 assignment_written states v n s e t0 t1 t2 t3 is same e1 e2 e3 =
     let x = spaced (term_words states (term_of e)) in
     let all : t3 ≡ ((t0 ++ spaced (codes "set" ∷ [])) ++ spaced (state_word n ∷ [])) ++ x = cc in
-    all
-    ∙ glued t0 (codes "set") (state_word n) (term_words states (term_of e))
+    all ∙ glued t0 (codes "set") (state_word n) (term_words states (term_of e))
     ∙ ap (λ m. t0 ++ spaced (codes "set" ∷ state_word m ∷ term_words states (term_of e))) same
     ∙ ap (λ l. t0 ++ spaced (codes "set" ∷ state_word v ∷ l)) (sym (append-nil (term_words states (term_of e))))
     ∙ ap (λ l. t0 ++ spaced (block_words states l)) (sym (block_assign v e))
     ∙ ap (λ l. t0 ++ spaced (block_words states (stmt_block l))) (sym is)
   where
     glued : (t0 i o : List ℕ) (x : List (List ℕ)) → ((t0 ++ spaced (i ∷ [])) ++ spaced (o ∷ [])) ++ spaced x ≡ t0 ++ spaced (i ∷ o ∷ x)
-    glued t0 i o x =
-        append_assoc (t0 ++ spaced (i ∷ [])) (spaced (o ∷ [])) (spaced x)
+    glued t0 i o x = append_assoc (t0 ++ spaced (i ∷ [])) (spaced (o ∷ [])) (spaced x)
         ∙ append_assoc t0 (spaced (i ∷ [])) (spaced (o ∷ []) ++ spaced x)
-        ∙ ap (λ l. t0 ++ (spaced (i ∷ []) ++ l)) (sym (after_both (o ∷ []) x))
-        ∙ ap (λ l. t0 ++ l) (sym (after_both (i ∷ []) (o ∷ x)))
+        ∙ ap (λ l. t0 ++ (spaced (i ∷ []) ++ l)) (sym (after_both (o ∷ []) x)) ∙ ap (λ l. t0 ++ l) (sym (after_both (i ∷ []) (o ∷ x)))
 
 -- one more field's name is written, where it is in the set
 pub fields_more : (reads : FieldSet) (fields : List Field) (i : ℕ) (d : Field) (t0 t1 t2 : List ℕ) → i < length fields → t1 ≡ t0
@@ -118,8 +109,7 @@ pub fields_more : (reads : FieldSet) (fields : List Field) (i : ℕ) (d : Field)
 fields_more reads fields i d t0 t1 t2 lt e f =
     let x = filter (has_field reads) (take i fields) in
     let y = filter (has_field reads) (get_or fields i d ∷ []) in
-    f ∙ ap (λ t. t ++ spaced (map field_name y)) e
-    ∙ append_assoc t0 (spaced (map field_name x)) (spaced (map field_name y))
+    f ∙ ap (λ t. t ++ spaced (map field_name y)) e ∙ append_assoc t0 (spaced (map field_name x)) (spaced (map field_name y))
     ∙ ap (λ l. t0 ++ l) (sym (after_both (map field_name x) (map field_name y)))
     ∙ ap (λ l. t0 ++ spaced l) (sym (map-append field_name x y))
     ∙ ap (λ l. t0 ++ spaced (map field_name l)) (sym (filter-append (has_field reads) (take i fields) (get_or fields i d ∷ [])))

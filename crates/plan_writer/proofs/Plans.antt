@@ -1,6 +1,6 @@
 -- The operations and the wiring of each plan of a query are those that its text has.
-use Rattle.std.proofs.Common.{◌≡◌, ℕ, zero, suc, ◌+◌, ◌<◌, ◌≤◌, ◌-◌, get_or, List, [], ◌∷◌, ◌++◌, length, Option, Some, None, refl}
-use Rattle.std.proofs.Common.{sym, ap, subst, ◌∙◌, arith, append_assoc, append-nil}
+use Rattle.std.proofs.Common.{◌≡◌, ℕ, zero, suc, ◌+◌, ◌<◌, ◌≤◌, get_or, List, [], ◌∷◌, ◌++◌, length, Option, Some, None, refl, sym, ap}
+use Rattle.std.proofs.Common.{subst, ◌∙◌, arith, append_assoc, append-nil}
 use Rattle.std.specs.List.{range_with_len}
 use Rattle.std.specs.Prelude.{All, map, flat_map, codes, take, slice_get, option_map, option_and_then}
 use Rattle.std.proofs.lemmas.Grind.{flat_map-append}
@@ -138,12 +138,9 @@ few_states folds number f valid e =
 -- one more item of a list is written
 pub items_more : {A : Type 0} (said : A → List ℕ) (xs : List A) (i : ℕ) (x : A) (t0 t1 t2 : List ℕ) → slice_get xs i ≡ Some x → t1 ≡ t0
     ++ flat_map said (take i xs) → t2 ≡ t1 ++ said x → t2 ≡ t0 ++ flat_map said (take (i + 1) xs)
-items_more said xs i x t0 t1 t2 found e f =
-    f ∙ ap (λ t. t ++ said x) e
-    ∙ append_assoc t0 (flat_map said (take i xs)) (said x)
+items_more said xs i x t0 t1 t2 found e f = f ∙ ap (λ t. t ++ said x) e ∙ append_assoc t0 (flat_map said (take i xs)) (said x)
     ∙ ap (λ l. t0 ++ (flat_map said (take i xs) ++ l)) (sym (append-nil (said x)))
-    ∙ ap (λ l. t0 ++ l) (sym (flat_map-append said (take i xs) (x ∷ [])))
-    ∙ ap (λ l. t0 ++ flat_map said l) (sym one_more)
+    ∙ ap (λ l. t0 ++ l) (sym (flat_map-append said (take i xs) (x ∷ []))) ∙ ap (λ l. t0 ++ flat_map said l) (sym one_more)
   where
     one_more : take (i + 1) xs ≡ take i xs ++ x ∷ []
     one_more = take_more xs i x (slice_get_within xs i x found) ∙ ap (λ y. take i xs ++ y ∷ []) (get_or_from_slice_get xs i x x found)
@@ -159,9 +156,7 @@ range_more a n = (let z : n + 1 ≡ suc n = omega arith in ap (range_with_len a)
 -- one more groupby is written
 pub groups_more : (said : ℕ → List ℕ) (i : ℕ) (t0 t1 t2 : List ℕ) → t1 ≡ t0 ++ flat_map said (range_with_len 0 i) → t2 ≡ t1 ++ said i
     → t2 ≡ t0 ++ flat_map said (range_with_len 0 (i + 1))
-groups_more said i t0 t1 t2 e f =
-    f ∙ ap (λ t. t ++ said i) e
-    ∙ append_assoc t0 (flat_map said (range_with_len 0 i)) (said i)
+groups_more said i t0 t1 t2 e f = f ∙ ap (λ t. t ++ said i) e ∙ append_assoc t0 (flat_map said (range_with_len 0 i)) (said i)
     ∙ ap (λ l. t0 ++ (flat_map said (range_with_len 0 i) ++ l)) (sym (append-nil (said i)))
     ∙ ap (λ l. t0 ++ l) (sym (flat_map-append said (range_with_len 0 i) (i ∷ [])))
     ∙ ap (λ l. t0 ++ flat_map said l) (sym (range_more 0 i ∙ (let z : 0 + i ≡ i = omega arith in ap (λ m. range_with_len 0 i ++ m ∷ []) z)))
@@ -172,8 +167,7 @@ pub head_is : (reads : FieldSet) (t0 t1 t2 t3 : List ℕ) → t1 ≡ t0 ++ codes
     t3 ≡ t0 ++ (line (codes "marple-plan") (codes "1" ∷ []) ++ reads_line reads)
 head_is reads t0 t1 t2 t3 e f g =
     let x = spaced (map field_name (fields_of reads)) in
-    g ∙ ap (λ t. t ++ 10 ∷ []) f ∙ ap (λ t. (t ++ x) ++ 10 ∷ []) e
-    ∙ append_assoc (t0 ++ codes "marple-plan 1\nreads") x (10 ∷ [])
+    g ∙ ap (λ t. t ++ 10 ∷ []) f ∙ ap (λ t. (t ++ x) ++ 10 ∷ []) e ∙ append_assoc (t0 ++ codes "marple-plan 1\nreads") x (10 ∷ [])
     ∙ append_assoc t0 (codes "marple-plan 1\nreads") (x ++ 10 ∷ [])
 
 -- The pieces of a plan's text, in sequence.

@@ -6,8 +6,7 @@ pub else_block-preserved : goal.else_block-preserved
 else_block-preserved t c =
     stmts_more c.args.states c.as_slice-inner-items-in-If.result.now c.else_block.inner-index c.inner-item-in-else_block.result
     c.else_block.text c.push_stmt-in-else_block.new.text
-    c.else_block-test.true c.inner-item-in-else_block.is c.in_ok-push_stmt-in-If-2.ensures
-    ∙ c.else_block.invariant
+    c.else_block-test.true c.inner-item-in-else_block.is c.in_ok-push_stmt-in-If-2.ensures ∙ c.else_block.invariant
 
 pub returns-in_ok-push_expr-in-Assign : goal.returns-in_ok-push_expr-in-Assign
 returns-in_ok-push_expr-in-Assign t c =
@@ -25,8 +24,6 @@ returns-in_ok-push_word-in-If-5 t c =
     c.in-If.is c.as_slice-inner-items.ensures c.as_slice-inner-items-in-If.ensures
     c.in_ok-push_word-in-If.ensures c.in_ok-push_expr-in-If.ensures c.in_ok-push_word-in-If-2.ensures
     (stmts_end c.args.states c.as_slice-inner-items.result.now c.then_block.inner-index c.then_block.text _ c.then_block-test.false
-    c.then_block.invariant)
-    c.in_ok-push_word-in-If-3.ensures c.in_ok-push_word-in-If-4.ensures
+    c.then_block.invariant) c.in_ok-push_word-in-If-3.ensures c.in_ok-push_word-in-If-4.ensures
     (stmts_end c.args.states c.as_slice-inner-items-in-If.result.now c.else_block.inner-index c.else_block.text _ c.else_block-test.false
-    c.else_block.invariant)
-    c.in_ok-push_word-in-If-5.ensures
+    c.else_block.invariant) c.in_ok-push_word-in-If-5.ensures
