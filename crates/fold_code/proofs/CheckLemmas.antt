@@ -31,22 +31,19 @@ module _ (states : ℕ) (known : ℕ → Bool) (passes : ℕ → Term → Bool) 
 
   pass_first : (free : Bool) (xs : List TypedStmt) (i : ℕ) (x : TypedStmt) → i < length xs → x ≡ get_or xs i x →
       check free (block_of (drop i xs)) ≡ (check free (stmt_block x) && check free (block_of (drop (i + 1) xs)))
-  pass_first free xs i x h is =
-      ap (λ z. check free (block_of z)) (drop_more xs i x h)
+  pass_first free xs i x h is = ap (λ z. check free (block_of z)) (drop_more xs i x h)
       ∙ sym (ap (λ z. check free (followed (stmt_block z) (block_of (drop (i + 1) xs)))) is)
       ∙ pass_followed free (stmt_block x) (block_of (drop (i + 1) xs))
 
   -- one more statement that passes
   pub pass_rest : (free : Bool) (xs : List TypedStmt) (i : ℕ) (x : TypedStmt) (all : Bool) → i < length xs → x ≡ get_or xs i x
-      → true ≡ check free (stmt_block x) →
-      check free (block_of (drop i xs)) ≡ all → check free (block_of (drop (i + 1) xs)) ≡ all
+      → true ≡ check free (stmt_block x) → check free (block_of (drop i xs)) ≡ all → check free (block_of (drop (i + 1) xs)) ≡ all
   pass_rest free xs i x all h is good so = ap (λ z. z && check free (block_of (drop (i + 1) xs))) good ∙ sym (pass_first free xs i x h is)
       ∙ so
 
   -- a statement that does not
   pub pass_stop : (free : Bool) (xs : List TypedStmt) (i : ℕ) (x : TypedStmt) (all : Bool) → i < length xs → x ≡ get_or xs i x
-      → false ≡ check free (stmt_block x) →
-      check free (block_of (drop i xs)) ≡ all → all ≡ false
+      → false ≡ check free (stmt_block x) → check free (block_of (drop i xs)) ≡ all → all ≡ false
   pass_stop free xs i x all h is fails so = sym so ∙ pass_first free xs i x h is
       ∙ sym (ap (λ z. z && check free (block_of (drop (i + 1) xs))) fails)
 
@@ -57,11 +54,9 @@ module _ (states : ℕ) (known : ℕ → Bool) (passes : ℕ → Term → Bool) 
   pub pass_if : (free inside : Bool) (s : TypedStmt) (c : TypedExpr) (a b p q : List TypedStmt) (l m : Bool) → s ≡ If c a b → p ≡ a → q ≡ b
       → inside ≡ (free && names_known states known (term_of c)) →
       check inside (block_of p) ≡ l → check inside (block_of q) ≡ m → check free (stmt_block s) ≡ (l && m)
-  pass_if free inside s c a b p q l m is ep eq ei el em =
-      ap (λ z. check free (stmt_block z)) is ∙ ap (check free) (block_if c a b)
+  pass_if free inside s c a b p q l m is ep eq ei el em = ap (λ z. check free (stmt_block z)) is ∙ ap (check free) (block_if c a b)
       ∙ and_end (check (free && names_known states known (term_of c)) (block_of a) && check (free && names_known states known (term_of c))
-      (block_of b))
-      ∙ sym (ap (λ z. check z (block_of a) && check z (block_of b)) ei)
+      (block_of b)) ∙ sym (ap (λ z. check z (block_of a) && check z (block_of b)) ei)
       ∙ ap (λ z. check inside (block_of z) && check inside (block_of b)) (sym ep)
       ∙ ap (λ z. check inside (block_of p) && check inside (block_of z)) (sym eq)
       ∙ ap (λ z. z && check inside (block_of q)) el ∙ ap (λ z. l && z) em

@@ -20,8 +20,7 @@ returns-then-not-stmt_passes-2 g t c =
     let p = c.as_slice-inner-items.result.now in
     let q = c.as_slice-inner-items-in-If.result.now in
     sym (pass_if c.args.states known passes c.args.free c.stays_known-inside.result c.args.s.now c.in-If.c c.in-If.a c.in-If.b p q true
-    false
-    c.in-If.is c.as_slice-inner-items.ensures c.as_slice-inner-items-in-If.ensures c.stays_known-inside.ensures
+    false c.in-If.is c.as_slice-inner-items.ensures c.as_slice-inner-items-in-If.ensures c.stays_known-inside.ensures
     (pass_end c.args.states known passes c.stays_known-inside.result p c.then_block.inner-index
     (all_pass c.args.states known passes c.stays_known-inside.result (block_of p)) c.then_block-test.false c.then_block.invariant)
     (pass_stop c.args.states known passes c.stays_known-inside.result q c.else_block.inner-index c.inner-item-in-else_block.result

@@ -29,8 +29,7 @@ then_block-preserved t c = record {
     arith,
     c.then_block.invariant.length,
     c.in_ok-emit_stmt-in-If.ensures.length,
-    size_rest c.as_slice-inner-items.result.now
-        c.then_block.inner-index c.inner-item.result c.then_block-test.true c.inner-item.is,
+    size_rest c.as_slice-inner-items.result.now c.then_block.inner-index c.inner-item.result c.then_block-test.true c.inner-item.is,
   );
 }
 
@@ -63,8 +62,7 @@ else_block-preserved t c = record {
     arith,
     c.else_block.invariant.length,
     c.in_ok-emit_stmt-in-If-2.ensures.length,
-    size_rest
-        c.as_slice-inner-items-in-If.result.now c.else_block.inner-index c.inner-item-in-else_block.result c.else_block-test.true
+    size_rest c.as_slice-inner-items-in-If.result.now c.else_block.inner-index c.inner-item-in-else_block.result c.else_block-test.true
         c.inner-item-in-else_block.is,
   );
 }
@@ -72,35 +70,31 @@ else_block-preserved t c = record {
 pub returns-after-else_block-clause-items : goal.returns-after-else_block-clause-items
 returns-after-else_block-clause-items t c =
     emitted_if _ _ _ c.args.s.now c.in-If.c c.in-If.a c.in-If.b c.as_slice-inner-items.result.now c.as_slice-inner-items-in-If.result.now _
-    _ _ _ _ _ _ _ _ _ _
-    c.in-If.is c.as_slice-inner-items.ensures c.as_slice-inner-items-in-If.ensures
+    _ _ _ _ _ _ _ _ _ _ c.in-If.is c.as_slice-inner-items.ensures c.as_slice-inner-items-in-If.ensures
     c.in_ok-condition-in-If.ensures.items c.in_ok-then_mask-in-If.ensures.items c.in_ok-else_mask-in-If.ensures.items
     (code_end _ _ _ c.as_slice-inner-items.result.now c.then_block.inner-index _ _ c.then_block-test.false c.then_block.invariant.items)
     (code_end _ _ _ c.as_slice-inner-items-in-If.result.now c.else_block.inner-index _ _ c.else_block-test.false
-    c.else_block.invariant.items)
-    c.in_ok-condition-in-If.ensures.place
+    c.else_block.invariant.items) c.in_ok-condition-in-If.ensures.place
     (omega (arith, c.in_ok-then_mask-in-If.ensures.place, c.in_ok-condition-in-If.ensures.length))
     (omega (arith, c.in_ok-then_mask-in-If.ensures.place, c.in_ok-else_mask-in-If.ensures.place, c.in_ok-then_mask-in-If.ensures.length))
     (omega (arith, c.in_ok-then_mask-in-If.ensures.place, c.in_ok-then_mask-in-If.ensures.length, c.in_ok-else_mask-in-If.ensures.length))
     (omega (
       arith,
       c.then_block.invariant.length,
-      size_end c.as_slice-inner-items.result.now c.then_block.inner-index
-          c.then_block-test.false,
+      size_end c.as_slice-inner-items.result.now c.then_block.inner-index c.then_block-test.false,
     ))
 
 pub returns-after-else_block-clause-length : goal.returns-after-else_block-clause-length
-returns-after-else_block-clause-length t c =
-    omega (
-      arith,
-      size_if c.args.s.now c.in-If.c c.in-If.a c.in-If.b c.in-If.is,
-      ap (λ l. block_size (block_of l)) c.as_slice-inner-items.ensures,
-      ap (λ l. block_size (block_of l)) c.as_slice-inner-items-in-If.ensures,
-      size_end c.as_slice-inner-items.result.now c.then_block.inner-index c.then_block-test.false,
-      size_end c.as_slice-inner-items-in-If.result.now c.else_block.inner-index c.else_block-test.false,
-      c.then_block.invariant.length,
-      c.else_block.invariant.length,
-      c.in_ok-condition-in-If.ensures.length,
-      c.in_ok-then_mask-in-If.ensures.length,
-      c.in_ok-else_mask-in-If.ensures.length,
-    )
+returns-after-else_block-clause-length t c = omega (
+  arith,
+  size_if c.args.s.now c.in-If.c c.in-If.a c.in-If.b c.in-If.is,
+  ap (λ l. block_size (block_of l)) c.as_slice-inner-items.ensures,
+  ap (λ l. block_size (block_of l)) c.as_slice-inner-items-in-If.ensures,
+  size_end c.as_slice-inner-items.result.now c.then_block.inner-index c.then_block-test.false,
+  size_end c.as_slice-inner-items-in-If.result.now c.else_block.inner-index c.else_block-test.false,
+  c.then_block.invariant.length,
+  c.else_block.invariant.length,
+  c.in_ok-condition-in-If.ensures.length,
+  c.in_ok-then_mask-in-If.ensures.length,
+  c.in_ok-else_mask-in-If.ensures.length,
+)

@@ -6,8 +6,7 @@ pub emit_stmt-requires : goal.emit_stmt-requires
 emit_stmt-requires c = omega (
   arith,
   c.loop-s.invariant.length,
-  size_rest c.args.block.now c.loop-s.s-index c.s-item.result
-      c.loop-s-test.true c.s-item.is,
+  size_rest c.args.block.now c.loop-s.s-index c.s-item.result c.loop-s-test.true c.s-item.is,
 )
 
 pub loop-s-preserved : goal.loop-s-preserved
@@ -18,7 +17,6 @@ loop-s-preserved c = record {
     arith,
     c.loop-s.invariant.length,
     c.in_ok-emit_stmt.ensures.length,
-    size_rest c.args.block.now c.loop-s.s-index
-        c.s-item.result c.loop-s-test.true c.s-item.is,
+    size_rest c.args.block.now c.loop-s.s-index c.s-item.result c.loop-s-test.true c.s-item.is,
   );
 }
