@@ -55,24 +55,22 @@ module _ (states : ℕ) where
   -- a valid block assigns to no argument
   args_kept : (nargs : ℕ) (b : Block) → IsValidBlock states nargs b → (s : ℕ) → states ≤ s → assigns b s ≡ false
   args_kept _ End _ s h = refl
-  args_kept nargs (Set v e rest) valid s h =
+  args_kept _ (Set v e rest) valid s h =
       let off : (s == v) ≡ false = grind (arith, nat_tests) in
       or_both_false _ _ off (args_kept _ rest valid.3 _ h)
-  args_kept nargs (Fork c a b rest) valid s h = or_both_false _ _ (or_both_false _ _ (args_kept _ a valid.2 _ h)
+  args_kept _ (Fork c a b rest) valid s h = or_both_false _ _ (or_both_false _ _ (args_kept _ a valid.2 _ h)
       (args_kept _ b valid.3 _ h)) (args_kept _ rest valid.4 _ h)
 
   clean_pure : (e : Term) (kinds : ℕ → Kind) → ((s : ℕ) → states ≤ s → kinds s ≡ Pure) → names_no_state states e ≡ true
       → expr_kind (role Sums) e kinds ≡ Pure
   clean_pure (Literal n) _ p h = refl
   clean_pure (Read s) _ p h = p s (argument_is _ _ h)
-  clean_pure (Negation e) kinds p h = cc (clean_pure e kinds p h)
-  clean_pure (Operation op a b) kinds p h =
-      cc (
-        clean_pure a kinds p (and_true_left (names_no_state states a) (names_no_state states b) h),
-        clean_pure b kinds p
-            (and_true_right (names_no_state states a) (names_no_state states b) h),
-        role_pure (role Sums op),
-      )
+  clean_pure (Negation e) kinds p h = cc (clean_pure e _ p h)
+  clean_pure (Operation op a b) kinds p h = cc (
+    clean_pure a _ p (and_true_left (names_no_state states a) (names_no_state states b) h),
+    clean_pure b _ p (and_true_right (names_no_state states a) (names_no_state states b) h),
+    role_pure _,
+  )
 
   op_kind : (op : Op) → adds_or_subtracts op ≡ true → (k : Kind) → role_kind (role Sums op) k Pure ≡ k
   op_kind Add h k = greater_pure _
@@ -80,7 +78,7 @@ module _ (states : ℕ) where
   op_kind _ h k = cc
 
   variable_kind : (v : ℕ) (a : Term) (kinds : ℕ → Kind) → is_variable v a ≡ true → expr_kind (role Sums) a kinds ≡ kinds v
-  variable_kind v (Read s) kinds h = let same : s ≡ v = grind (arith, nat_tests) in rw same
+  variable_kind v (Read s) _ h = let same : s ≡ v = grind (arith, nat_tests) in rw same
   variable_kind v (Literal n) _ h = cc
   variable_kind v (Negation e) _ h = cc
   variable_kind v (Operation op a b) _ h = cc
@@ -93,15 +91,13 @@ module _ (states : ℕ) where
   increment_kind v (Operation op a b) kinds p h =
       let right = and_true_right (adds_or_subtracts op) (is_variable v a && names_no_state states b) h in
       cc (
-        variable_kind v a kinds (and_true_left (is_variable v a) (names_no_state states b) right),
-        clean_pure b kinds p
-            (and_true_right (is_variable v a) (names_no_state states b) right),
-        op_kind op
-            (and_true_left (adds_or_subtracts op) (is_variable v a && names_no_state states b) h) (kinds v),
+        variable_kind _ a kinds (and_true_left (is_variable v a) (names_no_state states b) right),
+        clean_pure b kinds p (and_true_right (is_variable v a) (names_no_state states b) right),
+        op_kind op (and_true_left (adds_or_subtracts op) (is_variable v a && names_no_state states b) h) (kinds v),
       )
 
   stays : (free : Bool) (b : Block) → is_additive_block states (free && false) b ≡ true → (s : ℕ) → assigns b s ≡ false
-  stays free b h = none_assigned b (subst (λ z. is_additive_block states z b ≡ true) (and_false _) h)
+  stays _ b h = none_assigned b (subst (λ z. is_additive_block states z b ≡ true) (and_false _) h)
 
   additive_good : (nargs : ℕ) (b : Block) (free : Bool) (kinds : ℕ → Kind) → IsValidBlock states nargs b
       → ((s : ℕ) → states ≤ s → kinds s ≡ Pure) → ((s : ℕ) → is_no_other (kinds s) ≡ true) →
@@ -116,7 +112,7 @@ module _ (states : ℕ) where
       (λ s. at_each (s == v) s (ap is_no_other same ∙ g v) (g s)) more
     where
       apart : (s : ℕ) → states ≤ s → (s == v) ≡ false
-      apart s ge = let lt : v < states = valid.0 in grind (arith, nat_tests)
+      apart s ge = grind (arith, nat_tests)
 
       at_each : (b : Bool) (s : ℕ) → is_no_other (expr_kind (role Sums) e kinds) ≡ true → is_no_other (kinds s) ≡ true
           → is_no_other (if b then expr_kind (role Sums) e kinds else kinds s) ≡ true
@@ -159,7 +155,7 @@ module _ (states : ℕ) where
           ap is_no_other (kept s na nb) ∙ g s
 
   variable_reads : (v : ℕ) (a : Term) (reads : ℕ → ℕ → Bool) → is_variable v a ≡ true → reads v v ≡ true → expr_reads a reads v ≡ true
-  variable_reads v (Read s) reads h r = let same : v ≡ s = grind (arith, nat_tests) in rw (← same) r
+  variable_reads v (Read s) _ h r = let same : v ≡ s = grind (arith, nat_tests) in rw (← same) r
   variable_reads v (Literal n) _ h r = cc
   variable_reads v (Negation e) _ h r = cc
   variable_reads v (Operation op a b) _ h r = cc
@@ -186,7 +182,7 @@ module _ (states : ℕ) where
           → (if s == v then expr_reads e reads else reads s) s ≡ true
       at_each s true t lt inc =
           let same : v ≡ s = grind (arith, nat_tests) in
-          cc (subst (λ z. expr_reads e reads z ≡ true) same (increment_reads v e reads inc (r v (subst (λ z. z < states) (sym same) lt))))
+          cc (subst (λ z. expr_reads e reads z ≡ true) same (increment_reads _ e reads inc (r v (subst (λ z. z < states) (sym same) lt))))
       at_each s false t lt _ = simp (t, r)
   reads_self (Fork c a b rest) free reads h r =
       let inner = free && names_no_state states c in
@@ -204,7 +200,7 @@ module _ (states : ℕ) where
 
 below_all : (n : ℕ) (p : ℕ → Bool) → ((s : ℕ) → p s ≡ true) → all_below n p ≡ true
 below_all zero p h = refl
-below_all (suc n) p h = cc (below_all n p h, h n)
+below_all (suc n) p h = cc (below_all n _ h, h n)
 
 -- an additive fold is linear by sums
 pub additive_linear : (f : TypedFold) → IsValidFold f → is_additive f ≡ true → is_linear_by Sums f ≡ true

@@ -85,7 +85,7 @@ module _ (algebra : Algebra) (states : ℕ) (known : ℕ → Bool) where
         let front = and_true_right free given (and_true_left (free && given) (is_moving algebra states known free rest) h) in
         block_keeps nargs rest free args (set xs v x) (set ys v y) valid.3 (length-set xs v x ∙ hx) (length-set ys v y ∙ hy)
         (and_true_right (free && given) (is_moving algebra states known free rest) h) (record {
-          same = λ s lt k. set_index _ v x s (omega (arith, valid.0)) ∙ same_at front s lt k (s == v) refl
+          same = λ s lt k. set_index _ _ x s (omega (arith, valid.0)) ∙ same_at front s lt k (s == v) refl
               ∙ sym (set_index ys v y s (omega (arith, valid.0)));
           related = λ s lt k. subst (λ z. R s z (slice_index (set ys v y) s)) (sym (set_index xs v x s (omega (arith, valid.0))))
               (subst (R s (if s == v then x else slice_index xs s)) (sym (set_index ys v y s (omega (arith, valid.0))))
@@ -97,29 +97,22 @@ module _ (algebra : Algebra) (states : ℕ) (known : ℕ → Bool) where
             ≡ (if s == v then term_value e (ys ++ args) else slice_index ys s)
         same_at g s lt k true t =
             let e1 : s ≡ v = grind (arith, nat_tests) in
-            let kv : known v ≡ true = subst (λ z. known z ≡ true) e1 k in
-            let g' : names_known states known e ≡ true = subst (λ (z : Bool).
-            (if z then names_known states known e else is_move algebra states known v e) ≡ true) kv g in
-            ap (λ b. if b then term_value e (xs ++ args) else slice_index xs s) t ∙ known_same args xs ys e hx hy r g'
-            ∙ sym (ap (λ b. if b then term_value e (ys ++ args) else slice_index ys s) t)
-        same_at g s lt k false t = ap (λ b. if b then term_value e (xs ++ args) else slice_index xs s) t ∙ r.same s lt k
-            ∙ sym (ap (λ b. if b then term_value e (ys ++ args) else slice_index ys s) t)
+            let kv = rw e1 at k in
+            let g' = rw kv at g in
+            cc (known_same args xs ys e hx hy r g')
+        same_at g s lt k false t = simp (t, r.same)
 
         related_at : (if known v then names_known states known e else is_move algebra states known v e) ≡ true → (s : ℕ) → s < states
             → known s ≡ false → (b : Bool) → (s == v) ≡ b → R s (if s == v then term_value e (xs ++ args) else slice_index xs s)
             (if s == v then term_value e (ys ++ args) else slice_index ys s)
         related_at g s lt k true t =
             let e1 : s ≡ v = grind (arith, nat_tests) in
-            let e2 : v ≡ s = sym e1 in
-            let kv : known v ≡ false = subst (λ z. known z ≡ false) e1 k in
-            let g' : is_move algebra states known v e ≡ true = subst (λ (z : Bool).
-            (if z then names_known states known e else is_move algebra states known v e) ≡ true) kv g in
-            let lv : v < states = valid.0 in
-            subst (λ (z : Bool). R s (if z then term_value e (xs ++ args) else slice_index xs s)
-            (if z then term_value e (ys ++ args) else slice_index ys s)) (sym t)
-            (subst (λ z. R z (term_value e (xs ++ args)) (term_value e (ys ++ args))) e2 (move_keeps args xs ys v e hx hy lv kv r g'))
-        related_at g s lt k false t = subst (λ (z : Bool). R s (if z then term_value e (xs ++ args) else slice_index xs s)
-            (if z then term_value e (ys ++ args) else slice_index ys s)) (sym t) (r.related s lt k)
+            let e2 = sym e1 in
+            let kv = rw e1 at k in
+            let g' = rw kv at g in
+            let lv = valid.0 in
+            rw t (subst (λ z. R z (term_value e (xs ++ args)) (term_value e (ys ++ args))) e2 (move_keeps args xs ys v e hx hy lv kv r g'))
+        related_at g s lt k false t = rw t (r.related s lt k)
     block_keeps nargs (Fork c a b rest) free args xs ys valid hx hy h r =
         let inner = free && names_known states known c in
         let front = and_true_left (is_moving algebra states known inner a && is_moving algebra states known inner b)
@@ -136,8 +129,8 @@ module _ (algebra : Algebra) (states : ℕ) (known : ℕ → Bool) where
         (block_keeps nargs b inner args xs ys valid.3 hx hy hb r))
       where
         size : (zs : List ℕ) → length zs ≡ states → (k : Bool) → length (if k then after a args zs else after b args zs) ≡ states
-        size zs hz true = length-after a args zs ∙ hz
-        size zs hz false = length-after b args zs ∙ hz
+        size zs hz true = simp (length-after, hz)
+        size zs hz false = simp (length-after, hz)
 
         either : (k l : Bool) → k ≡ l → Related (after a args xs) (after a args ys) → Related (after b args xs) (after b args ys)
             → Related (if k then after a args xs else after b args xs) (if l then after a args ys else after b args ys)
@@ -159,9 +152,8 @@ module _ (algebra : Algebra) (states : ℕ) (known : ℕ → Bool) where
         branches true t ha hb ra rb = either (holds (term_value c (xs ++ args))) (holds (term_value c (ys ++ args)))
             (ap holds (known_same args xs ys c hx hy r t)) ra rb
         branches false t ha hb ra rb =
-            let off : (free && names_known states known c) ≡ false = ap (λ z. free && z) t ∙ and_false free in
+            let off : (free && names_known states known c) ≡ false = ap (λ z. free && z) t ∙ and_false _ in
             let pa = subst (λ z. is_moving algebra states known z a ≡ true) off ha in
             let pb = subst (λ z. is_moving algebra states known z b ≡ true) off hb in
-            subst (λ z. Related z (if holds (term_value c (ys ++ args)) then after a args ys else after b args ys))
-            (sym (stays xs (holds (term_value c (xs ++ args))) pa pb))
-            (subst (Related xs) (sym (stays ys (holds (term_value c (ys ++ args))) pa pb)) r)
+            subst (λ z. Related z (if holds (term_value c (ys ++ args)) then after a args ys else after b args ys)) (sym (stays _ _ pa pb))
+            (subst (Related xs) (sym (stays _ _ pa pb)) r)

@@ -32,7 +32,7 @@ set_kind kinds v k h = fun_ext (λ s. at s (s == v) refl)
 module _ (roles : Op → Role) where
   pub kinds_end : (xs : List TypedStmt) (i : ℕ) (t all : ℕ → Kind) → length xs ≤ i → kinds_after roles (block_of (drop i xs)) t ≡ all
       → t ≡ all
-  kinds_end xs i t _ h so = cc (drop_all i xs h)
+  kinds_end xs i t _ h so = cc (drop_all _ _ h)
 
   pub kinds_if : (s : TypedStmt) (c : TypedExpr) (a b : List TypedStmt) (t : ℕ → Kind) → s ≡ If c a b →
       kinds_after roles (stmt_block s) t ≡ chosen_kinds (expr_kind roles (term_of c) t) (kinds_after roles (block_of a) t)
