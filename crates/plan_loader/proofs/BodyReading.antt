@@ -120,21 +120,17 @@ expr_same : (e : Term) → term_of (expr_for e) ≡ e
 expr_same (Literal n) = term_number n
 expr_same (Read s) = term_slot s
 expr_same (Negation e) = term_not (expr_for e) ∙ ap Negation (expr_same e)
-expr_same (Operation op a b) =
-    term_binary op (expr_for a) (expr_for b) ∙ ap (λ x. Operation op x (term_of (expr_for b))) (expr_same a)
+expr_same (Operation op a b) = term_binary op (expr_for a) (expr_for b) ∙ ap (λ x. Operation op x (term_of (expr_for b))) (expr_same a)
     ∙ ap (Operation op a) (expr_same b)
 
 pub stmts_same : (b : Block) → block_of (stmts_for b) ≡ b
 stmts_same End = refl
-stmts_same (Set v e next) =
-    ap (λ x. followed x (block_of (stmts_for next))) (block_assign v (expr_for e))
+stmts_same (Set v e next) = ap (λ x. followed x (block_of (stmts_for next))) (block_assign v (expr_for e))
     ∙ ap (λ t. Set v t (block_of (stmts_for next))) (expr_same e) ∙ ap (Set v e) (stmts_same next)
-stmts_same (Fork c a b next) =
-    ap (λ x. followed x (block_of (stmts_for next))) (block_if (expr_for c) (stmts_for a) (stmts_for b))
+stmts_same (Fork c a b next) = ap (λ x. followed x (block_of (stmts_for next))) (block_if (expr_for c) (stmts_for a) (stmts_for b))
     ∙ ap (λ t. Fork t (block_of (stmts_for a)) (block_of (stmts_for b)) (block_of (stmts_for next))) (expr_same c)
     ∙ ap (λ x. Fork c x (block_of (stmts_for b)) (block_of (stmts_for next))) (stmts_same a)
-    ∙ ap (λ x. Fork c a x (block_of (stmts_for next))) (stmts_same b)
-    ∙ ap (Fork c a b) (stmts_same next)
+    ∙ ap (λ x. Fork c a x (block_of (stmts_for next))) (stmts_same b) ∙ ap (Fork c a b) (stmts_same next)
 
 pub bodies : BodiesAreRead
 bodies = record { written = whole; stated = stmts_same }

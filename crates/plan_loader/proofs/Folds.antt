@@ -23,8 +23,7 @@ use Rattle.plan_loader.proofs.BodyReading.{bodies, stmts_same}
 
 -- the body of a group's fold is read from its tokens
 pub block_is : (group : Group) (f : TypedFold) → IsFoldOf group f → fold_block f ≡ block_in group
-block_is group f is =
-    sym (bodies.written (length group.initial) (length group.args) is.words (fold_block f) is.body)
+block_is group f is = sym (bodies.written (length group.initial) (length group.args) is.words (fold_block f) is.body)
     ∙ ap (λ o. block_written (length group.initial) (unwrap_or o [])) (sym is.has_body)
 
 -- the fold that the text gives is one of the group

@@ -115,18 +115,17 @@ state_begun registers g line n p b =
     })
 
 body_begun : (registers : ℕ) (g : Group) (line : List ℕ) (n : Group) → IsGroupBody g line n → IsBegun registers g → IsBegun registers n
-body_begun registers g line n p b =
-    subst (IsBegun registers) (sym p.made) (record {
-      most_keys = b.most_keys;
-      key_names = b.key_names;
-      most_args = b.most_args;
-      most_states = b.most_states;
-      state_names = b.state_names;
-      present = b.present;
-      key_registers = b.key_registers;
-      arg_registers = b.arg_registers;
-      after_keys = p.keys;
-    })
+body_begun registers g line n p b = subst (IsBegun registers) (sym p.made) (record {
+  most_keys = b.most_keys;
+  key_names = b.key_names;
+  most_args = b.most_args;
+  most_states = b.most_states;
+  state_names = b.state_names;
+  present = b.present;
+  key_registers = b.key_registers;
+  arg_registers = b.arg_registers;
+  after_keys = p.keys;
+})
 
 group_begun : (word : LineWord) (fs : List Field) (ops : List PlanOp) (g : Group) (line : List ℕ) (n : Group)
     → IsInGroup word fs ops g line n → IsBegun (FIELDS + length ops) g → IsBegun (FIELDS + length ops) n
@@ -169,8 +168,7 @@ first_more b line a p s = subst IsSoundSoFar (sym p.made) (record {
   ops = s.ops;
   most_groups = s.most_groups;
   groups = s.groups;
-  current =
-      s.current;
+  current = s.current;
   prints = s.prints;
 })
 
@@ -179,8 +177,7 @@ reads_more b line a p s = subst IsSoundSoFar (sym p.made) (record {
   ops = s.ops;
   most_groups = s.most_groups;
   groups = s.groups;
-  current =
-      s.current;
+  current = s.current;
   prints = s.prints;
 })
 

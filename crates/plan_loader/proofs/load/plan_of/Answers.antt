@@ -24,12 +24,10 @@ plan_from made parts plans wirings is groups wiring = record {
 }
 
 pub wired_groups-requires : goal.wired_groups-requires
-wired_groups-requires c =
-    subst (λ (p : Parts). All IsWhole p.groups) (sym c.parts_of-ops.ensures) (all_whole c.args.made c.requires)
+wired_groups-requires c = subst (λ (p : Parts). All IsWhole p.groups) (sym c.parts_of-ops.ensures) (all_whole c.args.made c.requires)
 
 pub of_parts-requires : goal.of_parts-requires
-of_parts-requires c =
-    sound_plan c.args.made _ c.requires
+of_parts-requires c = sound_plan c.args.made _ c.requires
     (plan_from c.args.made c.parts_of-ops.result c.in_ok-plans.plans c.in_ok-plans.wirings c.parts_of-ops.ensures
     c.in_ok-plans.ensures.groups c.in_ok-plans.ensures.wiring)
 

@@ -20,6 +20,5 @@ returns-in_err-made-clause-exact c =
     rw (p.1, p.2) (only_answer c.args.text.now c.in_err-made.field-0.0 c.in_err-made.ensures)
 
 pub returns-clause-bound : goal.returns-clause-bound
-returns-clause-bound c = λ made ways says.
-    ap (bound_of ways) (c.in_ok-loaded.ensures.shape ∙ ap text_shape
+returns-clause-bound c = λ made ways says. ap (bound_of ways) (c.in_ok-loaded.ensures.shape ∙ ap text_shape
     (says_one makes_one c.args.text.now c.in_ok-made.made made c.in_ok-made.ensures says))
