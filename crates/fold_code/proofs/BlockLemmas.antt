@@ -21,9 +21,7 @@ pub length-after : (b : Block) (args state : List ℕ) → length (after b args 
 length-after End args state = refl
 length-after (Set v e rest) args state = length-after rest args (set state v (term_value e (state ++ args)))
     ∙ length-set state v (term_value e (state ++ args))
-length-after (Fork c a b rest) args state =
-    length-after rest args (if holds (term_value c (state ++ args)) then after a args state else after b args state)
-    ∙ either (holds (term_value c (state ++ args))) (length-after a args state) (length-after b args state)
+length-after (Fork c a b rest) args state = length-after rest _ _ ∙ either _ (length-after a _ _) (length-after b _ _)
   where
     either : (h : Bool) → length (after a args state) ≡ length state → length (after b args state) ≡ length state
         → length (if h then after a args state else after b args state) ≡ length state
@@ -51,26 +49,26 @@ module _ (states : ℕ) (known : ℕ → Bool) where
       names_known states known e ≡ true → term_value e (xs ++ args) ≡ term_value e (ys ++ args)
   known_value args xs ys (Literal n) hx hy same h = refl
   known_value args xs ys (Read s) hx hy same h = slots_same args xs ys s hx hy same h
-  known_value args xs ys (Negation e) hx hy same h = ap (λ z. flag (not (holds z))) (known_value args xs ys e hx hy same h)
+  known_value args xs ys (Negation e) hx hy same h = ap (λ z. flag (not (holds z))) (known_value _ _ _ e hx hy same h)
   known_value args xs ys (Operation op a b) hx hy same h =
-      ap (λ z. op_value op z (term_value b (xs ++ args))) (known_value args xs ys a hx hy same
-      (and_true_left (names_known states known a) (names_known states known b) h))
-      ∙ ap (op_value op (term_value a (ys ++ args))) (known_value args xs ys b hx hy same
-      (and_true_right (names_known states known a) (names_known states known b) h))
+      ap (λ z. op_value op z (term_value b (xs ++ args))) (known_value _ _ _ a hx hy same (and_true_left _ _ h))
+      ∙ ap (op_value op (term_value a (ys ++ args))) (known_value _ _ _ b hx hy same (and_true_right _ _ h))
 
   module _ (passes : ℕ → Term → Bool) where
     -- where the conditions around a block are not known, it assigns no variable
     pub idle : (b : Block) (args state : List ℕ) → all_pass states known passes false b ≡ true → after b args state ≡ state
-    idle End args state h = refl
-    idle (Set v e rest) args state h = cc
+    idle End _ _ h = refl
+    idle (Set v e _) _ _ h = cc
     idle (Fork c a b rest) args state h =
-        let front = and_true_left (all_pass states known passes false a && all_pass states known passes false b)
-        (all_pass states known passes false rest) h in
-        let ia = idle a args state (and_true_left (all_pass states known passes false a) (all_pass states known passes false b) front) in
-        let ib = idle b args state (and_true_right (all_pass states known passes false a) (all_pass states known passes false b) front) in
-        ap (after rest args) (either (holds (term_value c (state ++ args))) ia ib)
-        ∙ idle rest args state (and_true_right (all_pass states known passes false a && all_pass states known passes false b)
-        (all_pass states known passes false rest) h)
+        let front = and_true_left _ _ h in
+        let ia = idle a _ _ (and_true_left _ _ front) in
+        let ib = idle b _ _ (and_true_right _ _ front) in
+        cc (
+          either (holds (term_value c (state ++ args))) ia ib,
+          idle rest args state
+              (and_true_right (all_pass states known passes false a && all_pass states known passes false b)
+              (all_pass states known passes false rest) h),
+        )
       where
         either : (h : Bool) → after a args state ≡ state → after b args state ≡ state
             → (if h then after a args state else after b args state) ≡ state

@@ -1,5 +1,5 @@
 -- The check of a block is that of its first statement and then that of the rest.
-use Rattle.std.proofs.Common.{◌≡◌, ℕ, ◌+◌, ◌<◌, ◌≤◌, Bool, true, false, ◌&&◌, List, length, get_or, drop, refl, sym, ap, ◌∙◌}
+use Rattle.std.proofs.Common.{◌≡◌, ℕ, ◌+◌, ◌<◌, ◌≤◌, Bool, true, false, ◌&&◌, List, length, get_or, drop, refl, ap, ◌∙◌}
 use Rattle.std.proofs.lemmas.List.{drop_more, drop_all}
 use Rattle.query_lang.specs.declared.fold.TypedExpr.{TypedExpr}
 use Rattle.query_lang.specs.declared.fold.TypedStmt.{TypedStmt, If}
@@ -31,32 +31,29 @@ module _ (states : ℕ) (known : ℕ → Bool) (passes : ℕ → Term → Bool) 
 
   pass_first : (free : Bool) (xs : List TypedStmt) (i : ℕ) (x : TypedStmt) → i < length xs → x ≡ get_or xs i x →
       check free (block_of (drop i xs)) ≡ (check free (stmt_block x) && check free (block_of (drop (i + 1) xs)))
-  pass_first free xs i x h is = ap (λ z. check free (block_of z)) (drop_more xs i x h)
-      ∙ sym (ap (λ z. check free (followed (stmt_block z) (block_of (drop (i + 1) xs)))) is)
-      ∙ pass_followed free (stmt_block x) (block_of (drop (i + 1) xs))
+  pass_first free xs i x h is = cc (drop_more xs i x h, pass_followed free (stmt_block x) (block_of (drop (i + 1) xs)))
 
   -- one more statement that passes
   pub pass_rest : (free : Bool) (xs : List TypedStmt) (i : ℕ) (x : TypedStmt) (all : Bool) → i < length xs → x ≡ get_or xs i x
       → true ≡ check free (stmt_block x) → check free (block_of (drop i xs)) ≡ all → check free (block_of (drop (i + 1) xs)) ≡ all
-  pass_rest free xs i x all h is good so = ap (λ z. z && check free (block_of (drop (i + 1) xs))) good ∙ sym (pass_first free xs i x h is)
-      ∙ so
+  pass_rest free xs i x _ h is good so = cc (pass_first free xs i x h is)
 
   -- a statement that does not
   pub pass_stop : (free : Bool) (xs : List TypedStmt) (i : ℕ) (x : TypedStmt) (all : Bool) → i < length xs → x ≡ get_or xs i x
       → false ≡ check free (stmt_block x) → check free (block_of (drop i xs)) ≡ all → all ≡ false
-  pass_stop free xs i x all h is fails so = sym so ∙ pass_first free xs i x h is
-      ∙ sym (ap (λ z. z && check free (block_of (drop (i + 1) xs))) fails)
+  pass_stop free xs i x _ h is fails so = cc (pass_first free xs i x h is)
 
   pub pass_end : (free : Bool) (xs : List TypedStmt) (i : ℕ) (all : Bool) → length xs ≤ i → check free (block_of (drop i xs)) ≡ all
       → all ≡ true
-  pass_end free xs i all h so = sym so ∙ ap (λ z. check free (block_of z)) (drop_all i xs h)
+  pass_end free xs i _ h so = cc (drop_all i xs h)
 
   pub pass_if : (free inside : Bool) (s : TypedStmt) (c : TypedExpr) (a b p q : List TypedStmt) (l m : Bool) → s ≡ If c a b → p ≡ a → q ≡ b
       → inside ≡ (free && names_known states known (term_of c)) →
       check inside (block_of p) ≡ l → check inside (block_of q) ≡ m → check free (stmt_block s) ≡ (l && m)
-  pass_if free inside s c a b p q l m is ep eq ei el em = ap (λ z. check free (stmt_block z)) is ∙ ap (check free) (block_if c a b)
-      ∙ and_end (check (free && names_known states known (term_of c)) (block_of a) && check (free && names_known states known (term_of c))
-      (block_of b)) ∙ sym (ap (λ z. check z (block_of a) && check z (block_of b)) ei)
-      ∙ ap (λ z. check inside (block_of z) && check inside (block_of b)) (sym ep)
-      ∙ ap (λ z. check inside (block_of p) && check inside (block_of z)) (sym eq)
-      ∙ ap (λ z. z && check inside (block_of q)) el ∙ ap (λ z. l && z) em
+  pass_if free inside s c a b p q l m is ep eq ei el em =
+      cc (
+        block_if c a b,
+        and_end (check (free && names_known states known (term_of c)) (block_of a) && check
+            (free && names_known states known (term_of c))
+            (block_of b)),
+      )
