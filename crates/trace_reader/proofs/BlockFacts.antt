@@ -1,11 +1,11 @@
 -- Digits that are read eight or four at once.
-use Rattle.std.proofs.Common.{◌≡◌, ℕ, ◌+◌, ◌-◌, ◌*◌, ◌/◌, ◌%◌, ◌^◌, ◌<◌, ◌≤◌, true, List, length, get_or, refl, sym, ap, ◌∙◌, subst, arith}
+use Rattle.std.proofs.Common.{◌≡◌, ℕ, zero, suc, ◌+◌, ◌-◌, ◌*◌, ◌/◌, ◌%◌, ◌^◌, ◌<◌, ◌≤◌, true, List, length, get_or, refl, sym, ap, ◌∙◌, subst, arith}
 use Rattle.std.specs.Prelude.{bit_and, bit_or, min, max}
 use Rattle.std.specs.Char.{is_ascii_digit}
 use Rattle.std.specs.Int.{bit_at}
-use Rattle.std.proofs.Math.Nat.{div-div-eq-div-mul}
+use Rattle.std.proofs.Math.Nat.{div-div-eq-div-mul, mul_assoc, pow-succ'}
 use Rattle.std.proofs.lemmas.Bool.Decides.{nat_tests}
-use Rattle.std.proofs.lemmas.Nat.{and_block, and_mask}
+use Rattle.std.proofs.lemmas.Nat.{and_block, and_mask, pow-add}
 use Rattle.std.proofs.lemmas.Nat.Bits.{bit_at_and, bit_at_or, bit_at-zero}
 use Rattle.trace_reader.specs.Blocks.{IsFront}
 use Rattle.trace_reader.proofs.NumberFacts.{digits_value_digit, list_all_digit}
@@ -47,70 +47,51 @@ low_byte : (b r a c x y m n : ℕ) → b < 256 → a + 256 * m ≡ b + 256 * r +
 low_byte b r a c x y m n byte sum rest no_sum no_rest =
     record { digit = (omega arith, omega arith); sum = omega arith; rest = omega arith }
 
--- the same of the byte at this place
-byte_at : (b r a c x y m n p q k : ℕ) → b < 256 → a / p + 256 * m ≡ b + 256 * r + (70 + 256 * x) → c / p + 256 * n ≡ b + 256 * r
-    + (208 + 256 * y)
-    → (bit_at a k ≡ 0) × (bit_at c k ≡ 0) → p * 256 ≡ q → p * 128 ≡ 2 ^ k → GoesOn b r (a / q) (c / q) x y m n
-byte_at b r a c x y m n p q k byte sum rest bits next half =
-    let no_sum : a / p / 128 % 2 ≡ 0 = ap (λ z. z % 2) (div-div-eq-div-mul a p 128 ∙ ap (λ z. a / z) half) ∙ bits.0 in
-    let no_rest : c / p / 128 % 2 ≡ 0 = ap (λ z. z % 2) (div-div-eq-div-mul c p 128 ∙ ap (λ z. c / z) half) ∙ bits.1 in
-    let found = low_byte b r (a / p) (c / p) x y m n byte sum rest no_sum no_rest in
-    record {
-      digit = found.digit;
-      sum = ap (λ z. z + m) (sym (div-div-eq-div-mul a p 256 ∙ ap (λ z. a / z) next)) ∙ found.sum;
-      rest = ap (λ z. z + n) (sym (div-div-eq-div-mul c p 256 ∙ ap (λ z. c / z) next)) ∙ found.rest;
-    }
+-- the number of so many bytes, the lowest one first
+abbrev pub bytes_word : (ℕ → ℕ) → ℕ → ℕ
+bytes_word b zero = 0
+bytes_word b (suc n) = b 0 + 256 * bytes_word (λ i. b (suc i)) n
 
--- where no sum with 70 and no difference from 48 sets the highest bit of one of eight bytes, these are digits
-eight_bytes : (b : ℕ → ℕ) (v a c k j : ℕ) → ((i : ℕ) → b i < 256) → v ≡ b 0 + 256
-    * (b 1 + 256 * (b 2 + 256 * (b 3 + 256 * (b 4 + 256 * (b 5 + 256 * (b 6 + 256 * b 7))))))
-    → a + 2 ^ 64 * k ≡ v + 5063812098665367110 → c + 2 ^ 64 * j ≡ v + 14974415777481871312 → bit_and (bit_or a c) 9259542123273814144 ≡ 0
-    → IsDigit (b 0) × IsDigit (b 1) × IsDigit (b 2) × IsDigit (b 3) × IsDigit (b 4) × IsDigit (b 5) × IsDigit (b 6) × IsDigit (b 7)
-eight_bytes b v a c k j byte is sum rest none =
-    let r8 : ℕ = 0 in
-    let r7 : ℕ = b 7 + 256 * r8 in
-    let r6 : ℕ = b 6 + 256 * r7 in
-    let r5 : ℕ = b 5 + 256 * r6 in
-    let r4 : ℕ = b 4 + 256 * r5 in
-    let r3 : ℕ = b 3 + 256 * r4 in
-    let r2 : ℕ = b 2 + 256 * r3 in
-    let r1 : ℕ = b 1 + 256 * r2 in
-    let s0 = byte_at (b 0) r1 a c 19780516010411590 58493811630788559 (2 ^ 56 * k) (2 ^ 56 * j) (2 ^ 0) (2 ^ 8) 7 (byte 0)
-    (omega (arith, is, sum)) (omega (arith, is, rest)) (clear_bit a c 9259542123273814144 7 none refl) refl refl in
-    let s1 = byte_at (b 1) r2 a c 77267640665670 228491451682767 (2 ^ 48 * k) (2 ^ 48 * j) (2 ^ 8) (2 ^ 16) 15 (byte 1)
-    (omega (arith, s0.sum)) (omega (arith, s0.rest)) (clear_bit a c 9259542123273814144 15 none refl) refl refl in
-    let s2 = byte_at (b 2) r3 a c 301826721350 892544733135 (2 ^ 40 * k) (2 ^ 40 * j) (2 ^ 16) (2 ^ 24) 23 (byte 2) (omega (arith, s1.sum))
-    (omega (arith, s1.rest)) (clear_bit a c 9259542123273814144 23 none refl) refl refl in
-    let s3 = byte_at (b 3) r4 a c 1179010630 3486502863 (2 ^ 32 * k) (2 ^ 32 * j) (2 ^ 24) (2 ^ 32) 31 (byte 3) (omega (arith, s2.sum))
-    (omega (arith, s2.rest)) (clear_bit a c 9259542123273814144 31 none refl) refl refl in
-    let s4 = byte_at (b 4) r5 a c 4605510 13619151 (2 ^ 24 * k) (2 ^ 24 * j) (2 ^ 32) (2 ^ 40) 39 (byte 4) (omega (arith, s3.sum))
-    (omega (arith, s3.rest)) (clear_bit a c 9259542123273814144 39 none refl) refl refl in
-    let s5 = byte_at (b 5) r6 a c 17990 53199 (2 ^ 16 * k) (2 ^ 16 * j) (2 ^ 40) (2 ^ 48) 47 (byte 5) (omega (arith, s4.sum))
-    (omega (arith, s4.rest)) (clear_bit a c 9259542123273814144 47 none refl) refl refl in
-    let s6 = byte_at (b 6) r7 a c 70 207 (2 ^ 8 * k) (2 ^ 8 * j) (2 ^ 48) (2 ^ 56) 55 (byte 6) (omega (arith, s5.sum))
-    (omega (arith, s5.rest)) (clear_bit a c 9259542123273814144 55 none refl) refl refl in
-    let s7 = byte_at (b 7) r8 a c 0 0 (2 ^ 0 * k) (2 ^ 0 * j) (2 ^ 56) (2 ^ 64) 63 (byte 7) (omega (arith, s6.sum)) (omega (arith, s6.rest))
-    (clear_bit a c 9259542123273814144 63 none refl) refl refl in
-    (s0.digit, s1.digit, s2.digit, s3.digit, s4.digit, s5.digit, s6.digit, s7.digit)
+-- this holds of so many first numbers
+abbrev AllBelow : (ℕ → Type 0) → ℕ → Type 0
+AllBelow P zero = Unit {0}
+AllBelow P (suc n) = P 0 × AllBelow (λ i. P (suc i)) n
 
--- where no sum with 70 and no difference from 48 sets the highest bit of one of four bytes, these are digits
-four_bytes : (b : ℕ → ℕ) (v a c k j : ℕ) → ((i : ℕ) → b i < 256) → v ≡ b 0 + 256 * (b 1 + 256 * (b 2 + 256 * b 3))
-    → a + 2 ^ 32 * k ≡ v + 1179010630 → c + 2 ^ 32 * j ≡ v + 3486502864 → bit_and (bit_or a c) 2155905152 ≡ 0
-    → IsDigit (b 0) × IsDigit (b 1) × IsDigit (b 2) × IsDigit (b 3)
-four_bytes b v a c k j byte is sum rest none =
-    let r4 : ℕ = 0 in
-    let r3 : ℕ = b 3 + 256 * r4 in
-    let r2 : ℕ = b 2 + 256 * r3 in
-    let r1 : ℕ = b 1 + 256 * r2 in
-    let s0 = byte_at (b 0) r1 a c 4605510 13619151 (2 ^ 24 * k) (2 ^ 24 * j) (2 ^ 0) (2 ^ 8) 7 (byte 0) (omega (arith, is, sum))
-    (omega (arith, is, rest)) (clear_bit a c 2155905152 7 none refl) refl refl in
-    let s1 = byte_at (b 1) r2 a c 17990 53199 (2 ^ 16 * k) (2 ^ 16 * j) (2 ^ 8) (2 ^ 16) 15 (byte 1) (omega (arith, s0.sum))
-    (omega (arith, s0.rest)) (clear_bit a c 2155905152 15 none refl) refl refl in
-    let s2 = byte_at (b 2) r3 a c 70 207 (2 ^ 8 * k) (2 ^ 8 * j) (2 ^ 16) (2 ^ 24) 23 (byte 2) (omega (arith, s1.sum))
-    (omega (arith, s1.rest)) (clear_bit a c 2155905152 23 none refl) refl refl in
-    let s3 = byte_at (b 3) r4 a c 0 0 (2 ^ 0 * k) (2 ^ 0 * j) (2 ^ 24) (2 ^ 32) 31 (byte 3) (omega (arith, s2.sum)) (omega (arith, s2.rest))
-    (clear_bit a c 2155905152 31 none refl) refl refl in
-    (s0.digit, s1.digit, s2.digit, s3.digit)
+all_map : (P Q : ℕ → Type 0) (n : ℕ) → ((i : ℕ) → P i → Q i) → AllBelow P n → AllBelow Q n
+all_map P Q zero h all = tt
+all_map P Q (suc n) h all = (h 0 all.0, all_map (λ i. P (suc i)) (λ i. Q (suc i)) n (λ i. h (suc i)) all.1)
+
+-- the highest bit of a byte is that of the byte before, without the lowest byte
+pub byte_before : (x i : ℕ) → bit_at (x / 256) (i * 8 + 7) ≡ bit_at x (suc i * 8 + 7)
+byte_before x i =
+    let place : i * 8 + 7 + 8 ≡ suc i * 8 + 7 = omega arith in
+    let same : 256 * 2 ^ (i * 8 + 7) ≡ 2 ^ (i * 8 + 7 + 8) = omega (arith, pow-add 2 (i * 8 + 7) 8) in
+    ap (λ z. z % 2) (div-div-eq-div-mul x 256 (2 ^ (i * 8 + 7)) ∙ ap (λ z. x / z) (same ∙ ap (λ k. 2 ^ k) place))
+
+-- the mask of highest bits has each of them
+pub mask_bit : (n i : ℕ) → i < n → bit_at (bytes_word (λ k. 128) n) (i * 8 + 7) ≡ 1
+mask_bit zero i below = absurd (omega arith)
+mask_bit (suc n) zero below = omega arith
+mask_bit (suc n) (suc i) below =
+    let rest : (128 + 256 * bytes_word (λ k. 128) n) / 256 ≡ bytes_word (λ k. 128) n = omega arith in
+    sym (byte_before (128 + 256 * bytes_word (λ k. 128) n) i) ∙ (ap (λ x. bit_at x (i * 8 + 7)) rest ∙ mask_bit n i (omega arith))
+
+pub byte_more : (n k : ℕ) → 256 ^ suc n * k ≡ 256 * (256 ^ n * k)
+byte_more n k = ap (λ z. z * k) (pow-succ' 256 n) ∙ mul_assoc 256 (256 ^ n) k
+
+-- where no sum with 70 and no difference from 48 sets the highest bit of a byte, these are digits
+digits_of : (n : ℕ) (b : ℕ → ℕ) (a c k j : ℕ) → ((i : ℕ) → b i < 256) → a + 256 ^ n * k ≡ bytes_word b n + bytes_word (λ i. 70) n
+    → c + 256 ^ n * j ≡ bytes_word b n + (bytes_word (λ i. 207) n + 1)
+    → ((i : ℕ) → i < n → (bit_at a (i * 8 + 7) ≡ 0) × (bit_at c (i * 8 + 7) ≡ 0)) → AllBelow (λ i. IsDigit (b i)) n
+digits_of zero b a c k j byte sum rest clear = tt
+digits_of (suc n) b a c k j byte sum rest clear =
+    let bits = clear 0 (omega arith) in
+    let low = low_byte (b 0) (bytes_word (λ i. b (suc i)) n) a c (bytes_word (λ i. 70) n) (bytes_word (λ i. 207) n) (256 ^ n * k)
+    (256 ^ n * j) (byte 0) (omega (arith, sum, byte_more n k)) (omega (arith, rest, byte_more n j)) bits.0 bits.1 in (
+      low.digit,
+      digits_of n (λ i. b (suc i)) (a / 256) (c / 256) k j (λ i. byte (suc i)) low.sum low.rest
+          (λ i below. let high = clear (suc i) (omega arith) in (byte_before a i ∙ high.0, byte_before c i ∙ high.1)),
+    )
 
 -- the lowest bytes of both halves
 two_bytes : (high low : ℕ) → low < 2 ^ 32 → bit_and (high * 2 ^ 32 + low) 1095216660735 ≡ high % 256 * 2 ^ 32 + low % 256
@@ -119,8 +100,7 @@ two_bytes high low small =
     ∙ ap (λ n. high % 256 * 2 ^ 32 + n) (and_mask low 8))
 
 -- the number of eight digits: of pairs of them, and of pairs of these
-eight_pairs : (d : ℕ → ℕ) (w p first second : ℕ) → (d 0 ≤ 9) × (d 1 ≤ 9) × (d 2 ≤ 9) × (d 3 ≤ 9) × (d 4 ≤ 9) × (d 5 ≤ 9) × (d 6 ≤ 9)
-    × (d 7 ≤ 9) → w ≡ d 0 + 256 * (d 1 + 256 * (d 2 + 256 * (d 3 + 256 * (d 4 + 256 * (d 5 + 256 * (d 6 + 256 * d 7))))))
+eight_pairs : (d : ℕ → ℕ) (w p first second : ℕ) → AllBelow (λ i. d i ≤ 9) 8 → w ≡ bytes_word d 8
     → p ≡ (w * 10 % 2 ^ 64 + w / 2 ^ 8) % 2 ^ 64 → first ≡ bit_and p 1095216660735 * 4294967296000100 % 2 ^ 64
     → second ≡ bit_and (p / 2 ^ 16) 1095216660735 * 42949672960001 % 2 ^ 64
     → (first + second) % 2 ^ 64 / 2 ^ 32 ≡ (((((((0 * 10 + d 0) * 10 + d 1) * 10 + d 2) * 10 + d 3) * 10 + d 4) * 10 + d 5) * 10 + d 6) * 10
@@ -139,16 +119,12 @@ eight_pairs d w p first second few is p_is first_is second_is =
     omega (arith, even, odd, first_is, second_is)
 
 -- eight digits less 48 each
-eight_rest : (b d : ℕ → ℕ) (word rest : ℕ) → (b 0 ≡ d 0 + 48) × (b 1 ≡ d 1 + 48) × (b 2 ≡ d 2 + 48) × (b 3 ≡ d 3 + 48) × (b 4 ≡ d 4 + 48)
-    × (b 5 ≡ d 5 + 48) × (b 6 ≡ d 6 + 48) × (b 7 ≡ d 7 + 48) → (d 0 ≤ 9) × (d 1 ≤ 9) × (d 2 ≤ 9) × (d 3 ≤ 9) × (d 4 ≤ 9) × (d 5 ≤ 9)
-    × (d 6 ≤ 9) × (d 7 ≤ 9) → word ≡ b 0 + 256 * (b 1 + 256 * (b 2 + 256 * (b 3 + 256 * (b 4 + 256 * (b 5 + 256 * (b 6 + 256 * b 7))))))
-    → rest ≡ (word + 14974415777481871312) % 2 ^ 64 → rest ≡ d 0 + 256
-    * (d 1 + 256 * (d 2 + 256 * (d 3 + 256 * (d 4 + 256 * (d 5 + 256 * (d 6 + 256 * d 7))))))
+eight_rest : (b d : ℕ → ℕ) (word rest : ℕ) → AllBelow (λ i. b i ≡ d i + 48) 8 → AllBelow (λ i. d i ≤ 9) 8 → word ≡ bytes_word b 8
+    → rest ≡ (word + 14974415777481871312) % 2 ^ 64 → rest ≡ bytes_word d 8
 eight_rest b d word rest same few is rest_is = omega arith
 
 -- the number of four digits
-four_pairs : (d : ℕ → ℕ) (w p : ℕ) → (d 0 ≤ 9) × (d 1 ≤ 9) × (d 2 ≤ 9) × (d 3 ≤ 9) → w ≡ d 0 + 256 * (d 1 + 256 * (d 2 + 256 * d 3))
-    → p ≡ (w * 10 % 2 ^ 32 + w / 2 ^ 8) % 2 ^ 32
+four_pairs : (d : ℕ → ℕ) (w p : ℕ) → AllBelow (λ i. d i ≤ 9) 4 → w ≡ bytes_word d 4 → p ≡ (w * 10 % 2 ^ 32 + w / 2 ^ 8) % 2 ^ 32
     → p % 256 * 100 + p / 2 ^ 16 % 256 ≡ ((d 0 * 10 + d 1) * 10 + d 2) * 10 + d 3
 four_pairs d w p few is p_is = omega arith
 
@@ -161,45 +137,23 @@ pub eight_read : (text : List ℕ) (word sum rest pairs : ℕ) → 8 ≤ length 
     → IsFront text 8 ((bit_and pairs 1095216660735 * 4294967296000100 % 2 ^ 64 + bit_and (pairs / 2 ^ 16) 1095216660735
     * 42949672960001 % 2 ^ 64) % 2 ^ 64 / 2 ^ 32)
 eight_read text word sum rest pairs room byte is sum_is rest_is none pairs_is =
-    let digits = eight_bytes (λ i. get_or text i 0) word sum rest ((word + 5063812098665367110) / 2 ^ 64)
-    ((word + 14974415777481871312) / 2 ^ 64) byte is (omega (arith, sum_is)) (omega (arith, rest_is)) none in
-    let front = front_none text in
-    let few : (get_or text 0 0 - 48 ≤ 9) × (get_or text 1 0 - 48 ≤ 9) × (get_or text 2 0 - 48 ≤ 9) × (get_or text 3 0 - 48 ≤ 9)
-    × (get_or text 4 0 - 48 ≤ 9) × (get_or text 5 0 - 48 ≤ 9) × (get_or text 6 0 - 48 ≤ 9) × (get_or text 7 0 - 48 ≤ 9) = (
-      omega (arith, digits.0),
-      omega (arith, digits.1),
-      omega (arith, digits.2),
-      omega (arith, digits.3),
-      omega (arith, digits.4),
-      omega
-          (arith, digits.5),
-      omega (arith, digits.6),
-      omega (arith, digits.7),
-    ) in
-    let same : (get_or text 0 0 ≡ get_or text 0 0 - 48 + 48) × (get_or text 1 0 ≡ get_or text 1 0 - 48 + 48)
-    × (get_or text 2 0 ≡ get_or text 2 0 - 48 + 48) × (get_or text 3 0 ≡ get_or text 3 0 - 48 + 48)
-    × (get_or text 4 0 ≡ get_or text 4 0 - 48 + 48) × (get_or text 5 0 ≡ get_or text 5 0 - 48 + 48)
-    × (get_or text 6 0 ≡ get_or text 6 0 - 48 + 48) × (get_or text 7 0 ≡ get_or text 7 0 - 48 + 48) = (
-      omega (arith, digits.0),
-      omega (arith, digits.1),
-      omega (arith, digits.2),
-      omega (arith, digits.3),
-      omega (arith, digits.4),
-      omega
-          (arith, digits.5),
-      omega (arith, digits.6),
-      omega (arith, digits.7),
-    ) in
-    let f1 = front_more text 0 1 _ (omega (arith, room)) (omega arith) digits.0 front in
-    let f2 = front_more text 1 2 _ (omega (arith, room)) (omega arith) digits.1 f1 in
-    let f3 = front_more text 2 3 _ (omega (arith, room)) (omega arith) digits.2 f2 in
-    let f4 = front_more text 3 4 _ (omega (arith, room)) (omega arith) digits.3 f3 in
-    let f5 = front_more text 4 5 _ (omega (arith, room)) (omega arith) digits.4 f4 in
-    let f6 = front_more text 5 6 _ (omega (arith, room)) (omega arith) digits.5 f5 in
-    let f7 = front_more text 6 7 _ (omega (arith, room)) (omega arith) digits.6 f6 in
-    let f8 = front_more text 7 8 _ (omega (arith, room)) (omega arith) digits.7 f7 in
-    let value = eight_pairs (λ i. get_or text i 0 - 48) rest pairs _ _ few
-    (eight_rest (λ i. get_or text i 0) (λ i. get_or text i 0 - 48) word rest same few is rest_is) pairs_is refl refl in
+    let b : ℕ → ℕ = λ i. get_or text i 0 in
+    let word_is : word ≡ bytes_word b 8 = omega (arith, is) in
+    let d = digits_of 8 b sum rest ((word + 5063812098665367110) / 2 ^ 64) ((word + 14974415777481871312) / 2 ^ 64) byte
+    (omega (arith, word_is, sum_is)) (omega (arith, word_is, rest_is))
+    (λ i below. clear_bit sum rest 9259542123273814144 (i * 8 + 7) none (mask_bit 8 i below)) in
+    let few = all_map (λ i. IsDigit (b i)) (λ i. b i - 48 ≤ 9) 8 (λ i digit. omega arith) d in
+    let same = all_map (λ i. IsDigit (b i)) (λ i. b i ≡ b i - 48 + 48) 8 (λ i digit. omega arith) d in
+    let f1 = front_more text 0 1 _ (omega (arith, room)) (omega arith) d.0 (front_none text) in
+    let f2 = front_more text 1 2 _ (omega (arith, room)) (omega arith) d.1.0 f1 in
+    let f3 = front_more text 2 3 _ (omega (arith, room)) (omega arith) d.1.1.0 f2 in
+    let f4 = front_more text 3 4 _ (omega (arith, room)) (omega arith) d.1.1.1.0 f3 in
+    let f5 = front_more text 4 5 _ (omega (arith, room)) (omega arith) d.1.1.1.1.0 f4 in
+    let f6 = front_more text 5 6 _ (omega (arith, room)) (omega arith) d.1.1.1.1.1.0 f5 in
+    let f7 = front_more text 6 7 _ (omega (arith, room)) (omega arith) d.1.1.1.1.1.1.0 f6 in
+    let f8 = front_more text 7 8 _ (omega (arith, room)) (omega arith) d.1.1.1.1.1.1.1.0 f7 in
+    let value = eight_pairs (λ i. b i - 48) rest pairs _ _ few (eight_rest b (λ i. b i - 48) word rest same few word_is rest_is) pairs_is
+    refl refl in
     record { digits = f8.digits; value = value ∙ f8.value }
 
 -- four bytes of a text
@@ -213,13 +167,15 @@ four_read text read number word sum rest pairs front room byte is sum_is rest_is
     let b : ℕ → ℕ = λ i. get_or text (read + i) 0 in
     let here : read + 0 ≡ read = omega arith in
     let first : get_or text (read + 0) 0 ≡ get_or text read 0 = ap (λ i. get_or text i 0) here in
-    let digits = four_bytes b word sum rest ((word + 1179010630) / 2 ^ 32) ((word + 3486502864) / 2 ^ 32) (λ i. byte (read + i))
-    (omega (arith, is, first)) (omega (arith, sum_is)) (omega (arith, rest_is)) none in
-    let f1 = front_more text read (read + 1) _ (omega (arith, room)) (omega arith) (subst (λ i. IsDigit (get_or text i 0)) here digits.0)
+    let word_is : word ≡ bytes_word b 4 = omega (arith, is, first) in
+    let d = digits_of 4 b sum rest ((word + 1179010630) / 2 ^ 32) ((word + 3486502864) / 2 ^ 32) (λ i. byte (read + i))
+    (omega (arith, word_is, sum_is)) (omega (arith, word_is, rest_is))
+    (λ i below. clear_bit sum rest 2155905152 (i * 8 + 7) none (mask_bit 4 i below)) in
+    let f1 = front_more text read (read + 1) _ (omega (arith, room)) (omega arith) (subst (λ i. IsDigit (get_or text i 0)) here d.0)
     front in
-    let f2 = front_more text (read + 1) (read + 2) _ (omega (arith, room)) (omega arith) digits.1 f1 in
-    let f3 = front_more text (read + 2) (read + 3) _ (omega (arith, room)) (omega arith) digits.2 f2 in
-    let f4 = front_more text (read + 3) (read + 4) _ (omega (arith, room)) (omega arith) digits.3 f3 in
-    let value = four_pairs (λ i. b i - 48) rest pairs (omega arith, omega arith, omega arith, omega arith)
-    (omega (arith, is, first, rest_is, digits)) pairs_is in
+    let f2 = front_more text (read + 1) (read + 2) _ (omega (arith, room)) (omega arith) d.1.0 f1 in
+    let f3 = front_more text (read + 2) (read + 3) _ (omega (arith, room)) (omega arith) d.1.1.0 f2 in
+    let f4 = front_more text (read + 3) (read + 4) _ (omega (arith, room)) (omega arith) d.1.1.1.0 f3 in
+    let value = four_pairs (λ i. b i - 48) rest pairs (all_map (λ i. IsDigit (b i)) (λ i. b i - 48 ≤ 9) 4 (λ i digit. omega arith) d)
+    (omega (arith, word_is, rest_is, d)) pairs_is in
     record { digits = f4.digits; value = omega (arith, value, first, f4.value) }

@@ -3,9 +3,9 @@ use Rattle.std.proofs.Common.{◌≡◌, ℕ, suc, zero, ◌+◌, ◌-◌, ◌*�
 use Rattle.std.proofs.Common.{inl, inr, arith}
 use Rattle.std.specs.Prelude.{bit_and, min}
 use Rattle.std.specs.Int.{bit_at, bit_not, trailing_zeros, w64}
-use Rattle.std.proofs.Math.Nat.{div-div-eq-div-mul}
 use Rattle.std.proofs.lemmas.Bool.Decides.{leb_tells}
 use Rattle.std.proofs.lemmas.Nat.Bits.{bit_at_and, bit_at_not, bit_at-lt, bit_at-trailing_zeros, bit_at-zero}
+use Rattle.trace_reader.proofs.BlockFacts.{byte_before, byte_more, bytes_word, mask_bit}
 
 -- a bit of the mask that isn't marked is set in the word, or clear in the difference
 unmarked : (c w m k : ℕ) → w < 2 ^ 64 → k < 64 → bit_at (bit_and (bit_and c (bit_not w64 w)) m) k ≡ 0 → bit_at m k ≡ 1
@@ -34,84 +34,21 @@ low_byte b r v c y n byte word rest clear =
     ] in
     record { above = above; word = omega arith; rest = omega arith }
 
--- the same of the byte at this place
-byte_at : (b r w c y n p q k : ℕ) → b < 256 → w / p ≡ b + 256 * r → c / p + 256 * n ≡ b + 256 * r + (211 + 256 * y)
-    → (bit_at w k ≡ 0 → bit_at c k ≡ 0) → p * 256 ≡ q → p * 128 ≡ 2 ^ k → Above b r (w / q) (c / q) y n
-byte_at b r w c y n p q k byte word rest clear next half =
-    let bit_of : (x : ℕ) → x / p / 128 % 2 ≡ bit_at x k =
-    λ x. ap (λ z. z % 2) (div-div-eq-div-mul x p 128 ∙ ap (λ z. x / z) half) in
-    let found = low_byte b r (w / p) (c / p) y n byte word rest (λ none. bit_of c ∙ clear (sym (bit_of w) ∙ none)) in
-    record {
-      above = found.above;
-      word = sym (div-div-eq-div-mul w p 256 ∙ ap (λ z. w / z) next) ∙ found.word;
-      rest = ap (λ z. z + n) (sym (div-div-eq-div-mul c p 256 ∙ ap (λ z. c / z) next)) ∙ found.rest;
-    }
-
--- a fact of each of eight places
-pick : (b : ℕ → ℕ) (n : ℕ) → n ≤ 8 → (0 < n → 45 ≤ b 0) → (1 < n → 45 ≤ b 1) → (2 < n → 45 ≤ b 2) → (3 < n → 45 ≤ b 3)
-    → (4 < n → 45 ≤ b 4) → (5 < n → 45 ≤ b 5) → (6 < n → 45 ≤ b 6) → (7 < n → 45 ≤ b 7) → (k : ℕ) → k < n → 45 ≤ b k
-pick b n few f0 f1 f2 f3 f4 f5 f6 f7 zero below = f0 below
-pick b n few f0 f1 f2 f3 f4 f5 f6 f7 (suc zero) below = f1 below
-pick b n few f0 f1 f2 f3 f4 f5 f6 f7 (suc (suc zero)) below = f2 below
-pick b n few f0 f1 f2 f3 f4 f5 f6 f7 (suc (suc (suc zero))) below = f3 below
-pick b n few f0 f1 f2 f3 f4 f5 f6 f7 (suc (suc (suc (suc zero)))) below = f4 below
-pick b n few f0 f1 f2 f3 f4 f5 f6 f7 (suc (suc (suc (suc (suc zero))))) below = f5 below
-pick b n few f0 f1 f2 f3 f4 f5 f6 f7 (suc (suc (suc (suc (suc (suc zero)))))) below = f6 below
-pick b n few f0 f1 f2 f3 f4 f5 f6 f7 (suc (suc (suc (suc (suc (suc (suc zero))))))) below = f7 below
-pick b n few f0 f1 f2 f3 f4 f5 f6 f7 (suc (suc (suc (suc (suc (suc (suc (suc k)))))))) below = absurd (omega arith)
-
 -- bytes before the first mark are above a comma
-all_above : (b : ℕ → ℕ) (w c j n : ℕ) → ((i : ℕ) → b i < 256) → w ≡ b 0 + 256
-    * (b 1 + 256 * (b 2 + 256 * (b 3 + 256 * (b 4 + 256 * (b 5 + 256 * (b 6 + 256 * b 7))))))
-    → c + 2 ^ 64 * j ≡ w + 15191436295996101331
-    → ((i : ℕ) → i < 8 * n → bit_at (bit_and (bit_and c (bit_not w64 w)) 9259542123273814144) i ≡ 0) → n ≤ 8
-    → (k : ℕ) → k < n → 45 ≤ b k
-all_above b w c j n byte is sum none few =
-    let r8 : ℕ = 0 in
-    let r7 : ℕ = b 7 + 256 * r8 in
-    let r6 : ℕ = b 6 + 256 * r7 in
-    let r5 : ℕ = b 5 + 256 * r6 in
-    let r4 : ℕ = b 4 + 256 * r5 in
-    let r3 : ℕ = b 3 + 256 * r4 in
-    let r2 : ℕ = b 2 + 256 * r3 in
-    let r1 : ℕ = b 1 + 256 * r2 in
-    let small : w < 2 ^ 64 =
-    omega (arith, is, byte 0, byte 1, byte 2, byte 3, byte 4, byte 5, byte 6, byte 7) in
-    let clear : (i : ℕ) → i < 8 * n → bit_at 9259542123273814144 i ≡ 1 → bit_at w i ≡ 0 → bit_at c i ≡ 0 =
-    λ i below. unmarked c w 9259542123273814144 i small (omega (arith, below, few)) (none i below) in
-    let s0 : 0 < n → Above (b 0) r1 (w / 2 ^ 8) (c / 2 ^ 8) 59341548031234770 (2 ^ 56 * j) =
-    λ h. byte_at (b 0) r1 w c 59341548031234770 (2 ^ 56 * j) (2 ^ 0) (2 ^ 8) 7 (byte 0) (omega (arith, is)) (omega (arith, is, sum))
-    (clear 7 (omega (arith, h)) refl) refl refl in
-    let s1 : 1 < n → Above (b 1) r2 (w / 2 ^ 16) (c / 2 ^ 16) 231802921997010 (2 ^ 48 * j) =
-    λ h. let s = s0 (omega (arith, h)) in
-    byte_at (b 1) r2 w c 231802921997010 (2 ^ 48 * j) (2 ^ 8) (2 ^ 16) 15 (byte 1) s.word (omega (arith, s.rest))
-    (clear 15 (omega (arith, h)) refl) refl refl in
-    let s2 : 2 < n → Above (b 2) r3 (w / 2 ^ 24) (c / 2 ^ 24) 905480164050 (2 ^ 40 * j) =
-    λ h. let s = s1 (omega (arith, h)) in
-    byte_at (b 2) r3 w c 905480164050 (2 ^ 40 * j) (2 ^ 16) (2 ^ 24) 23 (byte 2) s.word (omega (arith, s.rest))
-    (clear 23 (omega (arith, h)) refl) refl refl in
-    let s3 : 3 < n → Above (b 3) r4 (w / 2 ^ 32) (c / 2 ^ 32) 3537031890 (2 ^ 32 * j) =
-    λ h. let s = s2 (omega (arith, h)) in
-    byte_at (b 3) r4 w c 3537031890 (2 ^ 32 * j) (2 ^ 24) (2 ^ 32) 31 (byte 3) s.word (omega (arith, s.rest))
-    (clear 31 (omega (arith, h)) refl) refl refl in
-    let s4 : 4 < n → Above (b 4) r5 (w / 2 ^ 40) (c / 2 ^ 40) 13816530 (2 ^ 24 * j) =
-    λ h. let s = s3 (omega (arith, h)) in
-    byte_at (b 4) r5 w c 13816530 (2 ^ 24 * j) (2 ^ 32) (2 ^ 40) 39 (byte 4) s.word (omega (arith, s.rest))
-    (clear 39 (omega (arith, h)) refl) refl refl in
-    let s5 : 5 < n → Above (b 5) r6 (w / 2 ^ 48) (c / 2 ^ 48) 53970 (2 ^ 16 * j) =
-    λ h. let s = s4 (omega (arith, h)) in
-    byte_at (b 5) r6 w c 53970 (2 ^ 16 * j) (2 ^ 40) (2 ^ 48) 47 (byte 5) s.word (omega (arith, s.rest))
-    (clear 47 (omega (arith, h)) refl) refl refl in
-    let s6 : 6 < n → Above (b 6) r7 (w / 2 ^ 56) (c / 2 ^ 56) 210 (2 ^ 8 * j) =
-    λ h. let s = s5 (omega (arith, h)) in
-    byte_at (b 6) r7 w c 210 (2 ^ 8 * j) (2 ^ 48) (2 ^ 56) 55 (byte 6) s.word (omega (arith, s.rest))
-    (clear 55 (omega (arith, h)) refl) refl refl in
-    let s7 : 7 < n → Above (b 7) r8 (w / 2 ^ 64) (c / 2 ^ 64) 0 (2 ^ 0 * j) =
-    λ h. let s = s6 (omega (arith, h)) in
-    byte_at (b 7) r8 w c 0 (2 ^ 0 * j) (2 ^ 56) (2 ^ 64) 63 (byte 7) s.word (omega (arith, s.rest))
-    (clear 63 (omega (arith, h)) refl) refl refl in
-    pick b n few (λ h. (s0 h).above) (λ h. (s1 h).above) (λ h. (s2 h).above) (λ h. (s3 h).above)
-    (λ h. (s4 h).above) (λ h. (s5 h).above) (λ h. (s6 h).above) (λ h. (s7 h).above)
+all_above : (m : ℕ) (b : ℕ → ℕ) (w c j n : ℕ) → ((i : ℕ) → b i < 256) → w ≡ bytes_word b m
+    → c + 256 ^ m * j ≡ w + (bytes_word (λ i. 210) m + 1)
+    → ((i : ℕ) → i < n → bit_at w (i * 8 + 7) ≡ 0 → bit_at c (i * 8 + 7) ≡ 0) → n ≤ m → (k : ℕ) → k < n → 45 ≤ b k
+all_above m b w c j zero byte is sum clear few k below = absurd (omega arith)
+all_above zero b w c j (suc n) byte is sum clear few k below = absurd (omega arith)
+all_above (suc m) b w c j (suc n) byte is sum clear few k below =
+    let low = low_byte (b 0) (bytes_word (λ i. b (suc i)) m) w c (bytes_word (λ i. 210) m) (256 ^ m * j) (byte 0) is
+    (omega (arith, is, sum, byte_more m j)) (clear 0 (omega arith)) in
+    each low.above (all_above m (λ i. b (suc i)) (w / 256) (c / 256) j n (λ i. byte (suc i)) low.word (omega (arith, low.word, low.rest))
+    (λ i less bit. byte_before c i ∙ clear (suc i) (omega arith) (sym (byte_before w i) ∙ bit)) (omega arith)) k below
+  where
+    each : 45 ≤ b 0 → ((i : ℕ) → i < n → 45 ≤ b (suc i)) → (k : ℕ) → k < suc n → 45 ≤ b k
+    each first rest zero below = first
+    each first rest (suc k) below = rest k (omega arith)
 
 -- no mark is below the lowest one
 no_mark_below : (m i : ℕ) → m < 2 ^ 64 → i < trailing_zeros w64 m → bit_at m i ≡ 0
@@ -131,8 +68,22 @@ going_on text at w c marks n byte is sum marks_are small count most k low high =
     let first : get_or text (at + 0) 0 ≡ get_or text at 0 = ap (λ i. get_or text i 0) here in
     let none : (i : ℕ) → i < 8 * n → bit_at (bit_and (bit_and c (bit_not w64 w)) 9259542123273814144) i ≡ 0 =
     λ i below. subst (λ m. bit_at m i ≡ 0) marks_are (no_mark_below marks i small (omega (arith, below, count))) in
-    let above = all_above b w c ((w + 15191436295996101331) / 2 ^ 64) n (λ i. byte (at + i)) (omega (arith, is, first))
-    (omega (arith, sum)) none (omega (arith, count, most)) (k - at) (omega (arith, low, high)) in
+    let word : w ≡ bytes_word b 8 = omega (arith, is, first) in
+    let fits : w < 2 ^ 64 = omega (
+      arith,
+      word,
+      byte at,
+      byte (at + 1),
+      byte (at + 2),
+      byte (at + 3),
+      byte (at + 4),
+      byte (at + 5),
+      byte (at + 6),
+      byte (at + 7),
+    ) in
+    let above = all_above 8 b w c ((w + 15191436295996101331) / 2 ^ 64) n (λ i. byte (at + i)) word (omega (arith, sum))
+    (λ i below. unmarked c w 9259542123273814144 (i * 8 + 7) fits (omega (arith, count, most, below)) (none (i * 8 + 7) (omega arith))
+    (mask_bit 8 i (omega (arith, count, most, below)))) (omega (arith, count, most)) (k - at) (omega (arith, low, high)) in
     let place : at + (k - at) ≡ k = omega (arith, low) in
     let here : 45 ≤ get_or text k 0 = subst (λ i. 45 ≤ get_or text i 0) place above in
     omega (arith, here)
