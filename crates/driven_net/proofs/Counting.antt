@@ -6,10 +6,10 @@ use Rattle.std.proofs.lemmas.Bool.Decides.{nat_tests}
 use Rattle.std.proofs.lemmas.List.{length-set}
 use Rattle.epoch_model.proofs.KeyLists.{by_test}
 use Rattle.switch_core.proofs.LaneFacts.{got_set}
-use Rattle.switch_core.proofs.SideBySide.{same_some}
+use Rattle.switch_core.proofs.SideBySide.{got_below, same_some}
 use Rattle.trace_drive.specs.Clocks.{HasCounted}
 use Rattle.trace_drive.specs.declared.clock.Clock.{Clock}
-use Rattle.network.proofs.SharedSteps.{got_other, got_within}
+use Rattle.network.proofs.SharedSteps.{got_other}
 use Rattle.network.specs.Networks.{NetworkView}
 use Rattle.network.specs.Running.{NetworkEvent, Takes, turn_events}
 use Rattle.driven_net.specs.Lags.{AreLagClocks, CountsAt, HaveCounted, taken_by}
@@ -19,7 +19,7 @@ use Rattle.driven_net.proofs.Following.{by_on, turn_by}
 module _ (clocks : List Clock) (at : ℕ) (old new : Clock) (here : slice_get clocks at ≡ Some old)
     (counts : (number : ℕ) → HasCounted number old → HasCounted (suc number) new) where
   there : slice_get (set clocks at new) at ≡ Some new
-  there = got_set clocks at new (got_within clocks at old here)
+  there = got_set clocks at new (got_below clocks at old here)
 
   is_new : (s : ℕ) (clock : Clock) → (s == at) ≡ true → slice_get (set clocks at new) s ≡ Some clock → clock ≡ new
   is_new s clock t e =

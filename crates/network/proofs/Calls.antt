@@ -22,6 +22,7 @@ use Rattle.network.specs.Events.{GroupBreaksOff, GroupMakesAll, IsLeft, StaysBut
 use Rattle.network.specs.Networks.{IsNetwork, NetworkView}
 use Rattle.network.specs.Running.{Evicts, FrontsStay, Merges, NetworkRuns, RunBreaksOff, calls_of, front_at, front_of, joined_below}
 use Rattle.network.specs.Running.{lane_calls, upkeep_calls}
+use Rattle.network.proofs.GroupSteps.{group_at}
 use Rattle.network.proofs.CostSteps.{kept_at}
 use Rattle.network.proofs.MakeSteps.{make_one, ready_at, switch_within}
 use Rattle.network.proofs.NetworkSteps.{with_groups}
@@ -213,7 +214,6 @@ pub all_emptied : (ways : ℕ) (net : NetworkView) → IsNetwork ways net
     → ((n s : ℕ) → n < length net.groups → s < net.switches → IsEmptied (front_at net n s)) → list_all group_is_drained net.groups ≡ true
 all_emptied ways net is each = all_pass group_is_drained net.groups (λ n group e.
     all_pass (λ (front : FrontOf AnyEpochs). is_drained front.cache front.pipe) group.fronts (λ s front f.
-    let found = each_at (λ k x part. IsGroup net.switches part (wiring_at net.plan k) x) 0 n net.groups net.plan.groups group is.groups e in
-    let many = (found.2 n (omega arith)).count in
+    let many = (group_at net.plan net.switches n net.groups group is.groups e).2.count in
     let less = got_below group.fronts s front f in
     subst IsEmptied (ap (front_of s) e ∙ f) (each n s (got_below net.groups n group e) (omega arith))))

@@ -12,7 +12,7 @@ use Rattle.query_lang.specs.declared.typed.TypedStream.{TypedStream}
 use Rattle.query_lang.specs.Streams.{Taking, takings}
 use Rattle.query_lang.specs.TypedQueries.{IsValidQuery, AreValidStreams, IsValidOp}
 use Rattle.epoch_model.specs.Keys.{ArgRow, Key}
-use Rattle.epoch_model.specs.Machine.{Epoch, Evict, Merge}
+use Rattle.epoch_model.specs.Machine.{Epoch, Event, Evict, Merge}
 use Rattle.epoch_model.specs.Laws.{HasRoom}
 use Rattle.epoch_model.specs.Timeline.{NoPacket}
 use Rattle.epoch_model.specs.Driving.{Taken, event_of}
@@ -29,7 +29,7 @@ use Rattle.stage_plan.specs.Sound.{PlanParts}
 use Rattle.switch_core.specs.Pipelines.{event_at, heading_of}
 use Rattle.switch_core.specs.Rows.{EachFrom}
 use Rattle.switch_core.proofs.LaneFacts.{all_at}
-use Rattle.switch_core.proofs.SideBySide.{each_long}
+use Rattle.switch_core.proofs.SideBySide.{each_long, got_below, got_some}
 use Rattle.additive_laws.specs.Network.{SwitchEvent, SwitchEpoch, all_epochs, all_events, AllMerged}
 use Rattle.additive_laws.specs.Traces.{HasPackets, IsRun, from_switch, given, packets_among, without_switch_merges}
 use Rattle.net_wide.specs.NetTables.{caches_of, net_pieces, net_table, net_table_if, net_tables, net_tables_from, tables_of_pieces}
@@ -58,13 +58,10 @@ module _ (plan : PlanParts) (n : ℕ) where
   unmerged_more at None more = refl
   unmerged_more at (Some t) more = refl
 
-  no_packet_more : (at lane bucket : ℕ) (more : List SwitchEvent) → packets_among (from_switch at (event_at lane (Evict bucket) n) ++ more)
-      ≡ packets_among more
-  no_packet_more at lane bucket more = by_test (n == lane) (λ t. rw t refl) (λ t. rw t refl)
-
-  no_packet_merged : (at lane : ℕ) (more : List SwitchEvent) → packets_among (from_switch at (event_at lane Merge n) ++ more)
-      ≡ packets_among more
-  no_packet_merged at lane more = by_test (n == lane) (λ t. rw t refl) (λ t. rw t refl)
+  no_packet_more : (event : Event) (at lane : ℕ) (more : List SwitchEvent)
+      → packets_among (record { switch = at; event = event } ∷ more) ≡ packets_among more
+      → packets_among (from_switch at (event_at lane event n) ++ more) ≡ packets_among more
+  no_packet_more event at lane more none = by_test (n == lane) (λ t. rw t none) (λ t. rw t refl)
 
   merged_more : (at lane : ℕ) (more : List SwitchEvent) → without_switch_merges (from_switch at (event_at lane Merge n) ++ more)
       ≡ without_switch_merges
@@ -79,9 +76,9 @@ module _ (plan : PlanParts) (n : ℕ) where
       packets_more switch t (all_given plan n events)
       ∙ (ap (λ es. from_switch switch (event_of t) ++ es) (has_packets number events at.1)
       ∙ ap (λ k. from_switch k (event_of t) ++ given (net_steps number (taken plan n) (packets_taken events))) at.0)
-  has_packets number (Evicts switch lane bucket ∷ events) at = no_packet_more switch lane bucket (all_given plan n events)
+  has_packets number (Evicts switch lane bucket ∷ events) at = no_packet_more (Evict bucket) switch lane (all_given plan n events) refl
       ∙ has_packets number events at
-  has_packets number (Merges switch lane ∷ events) at = no_packet_merged switch lane (all_given plan n events)
+  has_packets number (Merges switch lane ∷ events) at = no_packet_more Merge switch lane (all_given plan n events) refl
       ∙ has_packets number events at
 
   first_given : (number : ℕ → ℕ) (events : List NetworkEvent) → NoEviction events → AreAtTheirSwitches number events
@@ -140,21 +137,11 @@ folds_there names folds before (one ∷ streams) valid = by_op one.op valid.0.op
     by_op (op.Group input keys f args) v rest = All-cons (HasFold folds)
         (record { input = input; keys = keys; fold_number = f; args = args }) (takings streams) v.1.is_fold rest
 
-got_at : {A : Type 0} (xs : List A) (i : ℕ) → i < length xs → (x : A) × (slice_get xs i ≡ Some x)
-got_at [] i h = absurd (omega arith)
-got_at (x ∷ xs) zero h = (x, refl)
-got_at (x ∷ xs) (suc i) h = got_at xs i (omega (arith, h))
-
-got_in : {A : Type 0} (xs : List A) (i : ℕ) (x : A) → slice_get xs i ≡ Some x → i < length xs
-got_in [] i x e = cc
-got_in (y ∷ xs) zero x e = omega arith
-got_in (y ∷ xs) (suc i) x e = let r = got_in xs i x e in omega arith
-
 fold_there : (q : TypedQuery) (i : ℕ) → IsValidQuery q → i < length (takings q.streams) → (f : TypedFold) × (fold_at q i ≡ Some f)
 fold_there q i valid within =
-    let t = got_at (takings q.streams) i within in
+    let t = got_some (takings q.streams) i within in
     let has = at_place (HasFold q.folds) (takings q.streams) i t.0 (folds_there (length q.names) q.folds [] q.streams valid.streams) t.1 in
-    let f = got_at q.folds t.0.fold_number has in
+    let f = got_some q.folds t.0.fold_number has in
     (f.0, rw t.1 f.1)
 
 -- ---- the tables from one groupby on, of the epochs that the stores hold
@@ -201,7 +188,7 @@ module _ (law : AlikeFoldingsMakeOneTable) (make : MergedMakeTheTable) (ways : �
       law.by_closed (heading_of part) (folding_in group) (folding_of f) (all_epochs (merged i)) alike
       ∙ make q net.plan net.buckets ways packets number over.valid over.combine over.tells over.planned room over.whole over.numbered i
       (group_shape part) f
-      (all_given net.plan i events) (merged i) (got_in net.plan.groups i part at) has (has_packets net.plan i number events over.switches)
+      (all_given net.plan i events) (merged i) (got_below net.plan.groups i part at) has (has_packets net.plan i number events over.switches)
       (is_merged i group here)
 
   tables_from : (i : ℕ) (parts : List GroupPlan) (groups : List GroupView) → drop i net.plan.groups ≡ parts
@@ -213,7 +200,7 @@ module _ (law : AlikeFoldingsMakeOneTable) (make : MergedMakeTheTable) (ways : �
   tables_from i (part ∷ parts) [] e are there = absurd are
   tables_from i (part ∷ parts) (group ∷ groups) e are there =
       let at = first_at net.plan.groups i part parts e in
-      let within = got_in net.plan.groups i part at.0 in
+      let within = got_below net.plan.groups i part at.0 in
       let f = fold_there q i over.valid (subst (λ n. i < n) over.planned.groups within) in
       let here = there 0 i group (omega arith) refl in
       let one = one_table i part group f.0 here are.0 at.0 f.1 in
@@ -243,7 +230,7 @@ module _ (law : AlikeFoldingsMakeOneTable) (make : MergedMakeTheTable) (ways : �
       → tables ≡ net_tables q (caches_of net.buckets ways) packets
   tables_defined epochs last tables same =
       same ∙ pieces_same q packets net.plan pieces (net_pieces q (caches_of net.buckets ways) packets) over.planned (λ i key less.
-      let group = got_at net.groups i (subst (λ n. i < n) (sym (each_long _ 0 net.groups net.plan.groups is.groups)) less) in
+      let group = got_some net.groups i (subst (λ n. i < n) (sym (each_long _ 0 net.groups net.plan.groups is.groups)) less) in
       epochs q net.plan net.buckets ways packets number over.planned room over.whole over.numbered i (all_given net.plan i events)
       (merged i) key less
       (is_run net.plan i number events last over.switches) (is_merged i group.0 group.1))

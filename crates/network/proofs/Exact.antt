@@ -16,7 +16,7 @@ use Rattle.epoch_model.specs.Keys.{AreAbove, ArgRow, IsAscending, Key, ascending
 use Rattle.epoch_model.specs.Driving.{Taken, event_of}
 use Rattle.epoch_model.specs.Epochs.{Geometry}
 use Rattle.epoch_model.specs.Laws.{HasRoom, rows_given}
-use Rattle.epoch_model.specs.Machine.{Epoch, Evict, Merge, lists_of}
+use Rattle.epoch_model.specs.Machine.{Epoch, Event, Evict, Merge, lists_of}
 use Rattle.epoch_model.specs.TableLaws.{keys_given}
 use Rattle.epoch_model.specs.Tables.{Folding, closed_key_rows, closed_keys, closed_rows, epoch_rows, epochs_shown}
 use Rattle.epoch_model.specs.Tables.{exact_row, folded, mark_of}
@@ -149,15 +149,11 @@ module _ (plan : PlanParts) (n j at : ℕ) (key : Key) (place : IsSwitchPlace pl
       (λ v. rw u (rw v rest)))
       (λ u. rw u rest)
 
-  none_given : (lane switch : ℕ) (more : List SwitchEvent) → rows_given key (events_at other more) ≡ []
-      → rows_given key (events_at other (from_switch switch (event_at lane Merge n) ++ more)) ≡ []
-  none_given lane switch more rest = by_test (n == lane) (λ t. by_test (switch == other) (λ u. rw (t, u) rest) (λ u. rw (t, u) rest))
-      (λ t. rw t rest)
-
-  none_evicted : (lane switch bucket : ℕ) (more : List SwitchEvent) → rows_given key (events_at other more) ≡ []
-      → rows_given key (events_at other (from_switch switch (event_at lane (Evict bucket) n) ++ more)) ≡ []
-  none_evicted lane switch bucket more rest = by_test (n == lane)
-      (λ t. by_test (switch == other) (λ u. rw (t, u) rest) (λ u. rw (t, u) rest)) (λ t. rw t rest)
+  none_given : (event : Event) (lane switch : ℕ) (more : List SwitchEvent)
+      → ((es : List Event) → rows_given key (event ∷ es) ≡ rows_given key es) → rows_given key (events_at other more) ≡ []
+      → rows_given key (events_at other (from_switch switch (event_at lane event n) ++ more)) ≡ []
+  none_given event lane switch more no_row rest = by_test (n == lane)
+      (λ t. by_test (switch == other) (λ u. rw (t, u, no_row) rest) (λ u. rw (t, u) rest)) (λ t. rw t rest)
 
   others_given : (events : List NetworkEvent) → AreWhole (packets_taken events) → AreTakenAt at (slice_index key j) events
       → rows_given key (events_at other (all_given plan n events)) ≡ []
@@ -166,10 +162,10 @@ module _ (plan : PlanParts) (n j at : ℕ) (key : Key) (place : IsSwitchPlace pl
       one_given switch words (taken plan n words) (all_given plan n events) refl
       (All-head (λ w. length w ≡ FIELDS) words (packets_taken events) whole) theirs.0
       (others_given events (All-tail (λ w. length w ≡ FIELDS) words (packets_taken events) whole) theirs.1)
-  others_given (Evicts switch lane bucket ∷ events) whole theirs = none_evicted lane switch bucket (all_given plan n events)
-      (others_given events whole theirs)
-  others_given (Merges switch lane ∷ events) whole theirs = none_given lane switch (all_given plan n events)
-      (others_given events whole theirs)
+  others_given (Evicts switch lane bucket ∷ events) whole theirs = none_given (Evict bucket) lane switch (all_given plan n events)
+      (λ es. refl) (others_given events whole theirs)
+  others_given (Merges switch lane ∷ events) whole theirs = none_given Merge lane switch (all_given plan n events)
+      (λ es. refl) (others_given events whole theirs)
 
 -- ---- one table of those that the stores hold
 

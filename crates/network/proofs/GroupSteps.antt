@@ -26,22 +26,19 @@ use Rattle.switch_core.specs.Pipelines.{heading_of}
 use Rattle.switch_core.specs.Rows.{Each, EachFrom}
 use Rattle.switch_core.proofs.LanesMade.{group_sound}
 use Rattle.switch_core.proofs.SideBySide.{each_at, each_long, each_map, got_below}
-use Rattle.network.specs.Groups.{AllHavePlaces, AllWide, AreWide, HavePlaces, GroupGrows, GroupKept, GroupView, IsGroup, IsKindOfProgram}
+use Rattle.network.specs.Groups.{GroupGrows, GroupKept, GroupView, IsGroup, IsKindOfProgram}
 use Rattle.network.specs.Groups.{AreGroups, folding_in, shared_tables, with_first}
+use Rattle.backing_store.specs.Store.{Store}
 use Rattle.network.specs.Shared.{AllShare, FrontKept, MayShare}
-use Rattle.network.proofs.SharedSteps.{each_back, still_share}
+use Rattle.network.proofs.SharedSteps.{each_back, each_flip, each_on, still_share}
 use Rattle.network.proofs.Sharing.{got_push}
 
 -- what is said of items and parts, and what is made of each item, says something of the new items and the parts
 pub each_made : {A B : Type 0} (R : ℕ → A → B → Type 0) (S : ℕ → A → A → Type 0) (T : ℕ → A → B → Type 0) (k : ℕ) (olds news : List A)
     (parts : List B)
     → ((n : ℕ) (a b : A) (p : B) → R n a p → S n a b → T n b p) → EachFrom R k olds parts → EachFrom S k olds news → EachFrom T k news parts
-each_made R S T k [] [] [] h r s = tt
-each_made R S T k [] [] (p ∷ parts) h r s = absurd r
-each_made R S T k [] (b ∷ news) parts h r s = absurd s
-each_made R S T k (a ∷ olds) [] parts h r s = absurd s
-each_made R S T k (a ∷ olds) (b ∷ news) [] h r s = absurd r
-each_made R S T k (a ∷ olds) (b ∷ news) (p ∷ parts) h r s = (h k a b p r.0 s.0, each_made R S T (suc k) olds news parts h r.1 s.1)
+each_made R S T k olds news parts h r s =
+    each_on (λ n b a. S n a b) R T k news olds parts (λ n b a p q t. h n a b p t q) (each_flip S k olds news s) r
 
 -- a groupby with its part of the plan
 pub record HasPart (plan : PlanParts) (switches n : ℕ) (group : GroupView) : Type 0 where
@@ -55,12 +52,19 @@ pub record HasPart (plan : PlanParts) (switches n : ℕ) (group : GroupView) : T
   pub few_keys : length (wiring_at plan n).keys ≤ MAX_KEYS
   pub few_args : length (wiring_at plan n).args ≤ MAX_ARGS
 
+-- the groupby of the plan with this number
+pub group_at : (plan : PlanParts) (switches n : ℕ) (groups : List GroupView) (group : GroupView) → AreGroups plan switches groups
+    → slice_get groups n ≡ Some group → (part : GroupPlan) × (slice_get plan.groups n ≡ Some part) × IsGroup switches part (wiring_at plan n) group
+group_at plan switches n groups group are here =
+    let found = each_at (λ k g part. IsGroup switches part (wiring_at plan k) g) 0 n groups plan.groups group are here in
+    (found.0, found.1, found.2 n (omega arith))
+
 pub part_of : (plan : PlanParts) (switches n : ℕ) (groups : List GroupView) (group : GroupView) → IsSoundPlan plan
     → AreGroups plan switches groups → slice_get groups n ≡ Some group
     → HasPart plan switches n group
 part_of plan switches n groups group sound are here =
-    let found = each_at (λ i g part. IsGroup switches part (wiring_at plan i) g) 0 n groups plan.groups group are here in
-    let own = found.2 n (omega arith) in
+    let found = group_at plan switches n groups group are here in
+    let own = found.2 in
     let wired = group_sound plan n found.0 sound found.1 in
     let good : IsSoundGroup (FIELDS + length plan.ops) found.0 (wiring_at plan n) =
     subst (IsSoundGroup (FIELDS + length plan.ops) found.0) (sym wired.1) wired.2 in
@@ -209,31 +213,10 @@ module _ (view : GroupView) (part : GroupPlan) (wiring : GroupWiring) (registers
     ];
   }
 
-pub wide_push : {kind : AnyEpochs} (buckets key_words places : ℕ) (view after : GroupView)
-    → AddsFront kind buckets key_words places view.fronts after.fronts
-    → AreWide buckets view → AreWide buckets after
-wide_push buckets key_words places view after adds wide s front e = elim
-    (got_push view.fronts adds.front front s (ap (λ xs. slice_get xs s) (sym adds.added) ∙ e)) [
-      | inl there ↦ wide s front there
-      | inr new ↦ ap (λ (x : FrontOf AnyEpochs). length x.cache.lists) (sym new.1) ∙ adds.has_buckets
-    ]
-
-pub places_push : {kind : AnyEpochs} (buckets key_words places : ℕ) (view after : GroupView)
-    → AddsFront kind buckets key_words places view.fronts after.fronts
-    → HavePlaces places view → HavePlaces places after
-places_push buckets key_words places view after adds have s front e = elim
-    (got_push view.fronts adds.front front s (ap (λ xs. slice_get xs s) (sym adds.added) ∙ e)) [
-      | inl there ↦ have s front there
-      | inr new ↦ ap (λ (x : FrontOf AnyEpochs). x.pipe.places) (sym new.1) ∙ adds.has_places
-    ]
-
-pub others_push : {kind : AnyEpochs} (buckets key_words places : ℕ) (view after : GroupView)
-    → AddsFront kind buckets key_words places view.fronts after.fronts
-    → after.kind ≡ view.kind → after.store ≡ view.store → with_first (length view.fronts) after ≡ view
-others_push buckets key_words places view after adds kind store =
-    ap (λ k. record { kind = k; fronts = take (length view.fronts) after.fronts; store = after.store }) kind
-    ∙ (ap (λ s. record view { fronts = take (length view.fronts) after.fronts; store = s }) store
-    ∙ ap (λ xs. record view { fronts = xs }) (ap (take (length view.fronts)) adds.added ∙ take-append_seam view.fronts (adds.front ∷ [])))
+pub others_push : (view : GroupView) (news : List (FrontOf AnyEpochs)) (new : FrontOf AnyEpochs) → news ≡ view.fronts ++ new ∷ []
+    → with_first (length view.fronts) (record view { fronts = news }) ≡ view
+others_push view news new added =
+    ap (λ xs. record view { fronts = xs }) (ap (take (length view.fronts)) added ∙ take-append_seam view.fronts (new ∷ []))
 
 -- a groupby with all its fronts
 pub all_first : (group : GroupView) → with_first (length group.fronts) group ≡ group
@@ -269,47 +252,43 @@ kept_back plan switches k (a ∷ olds) (b ∷ mids) (c ∷ news) (p ∷ parts) a
     let first : c ≡ a = kept.0 ∙ (ap (λ n. with_first n b) (sym are.0.count) ∙ others.0) in
     ap (λ x. x ∷ news) first ∙ ap (λ xs. a ∷ xs) (kept_back plan switches (suc k) olds mids news parts are.1 others.1 kept.1)
 
--- caches stay as wide
-pub wide_kept : (buckets : ℕ) (olds news : List GroupView) → Each GroupKept olds news → AllWide buckets olds → AllWide buckets news
-wide_kept buckets olds news kept wide n now e s front f =
-    let group = each_back (λ k. GroupKept) 0 olds news n now kept e in
-    let was = each_back (λ k. FrontKept) 0 group.0.fronts now.fronts s front (group.2 n (omega arith)).fronts f in
-    (was.2 s (omega arith)).buckets ∙ wide n group.0 group.1 s was.0 was.1
+-- What each front of each groupby has of something, as the width of its cache or the places of its pipe, is kept.
+module _ (of : FrontOf AnyEpochs → ℕ) (many : ℕ) where
+  abbrev Have : GroupView → Type 0
+  Have group = (s : ℕ) (front : FrontOf AnyEpochs) → slice_get group.fronts s ≡ Some front → of front ≡ many
 
-pub wide_grown : (ways buckets places : ℕ) (olds news : List GroupView) → Each (GroupGrows ways buckets places) olds news
-    → AllWide buckets olds → AllWide buckets news
-wide_grown ways buckets places olds news grown wide n now e =
-    let group = each_back (λ k. GroupGrows ways buckets places) 0 olds news n now grown e in
-    (group.2 n (omega arith)).wide (wide n group.0 group.1)
+  abbrev AllHave : List GroupView → Type 0
+  AllHave groups = (n : ℕ) (group : GroupView) → slice_get groups n ≡ Some group → Have group
 
--- pipes have the places that they had
-pub places_kept : (places : ℕ) (olds news : List GroupView) → Each GroupKept olds news → AllHavePlaces places olds
-    → AllHavePlaces places news
-places_kept places olds news kept have n now e s front f =
-    let group = each_back (λ k. GroupKept) 0 olds news n now kept e in
-    let was = each_back (λ k. FrontKept) 0 group.0.fronts now.fronts s front (group.2 n (omega arith)).fronts f in
-    (was.2 s (omega arith)).places ∙ have n group.0 group.1 s was.0 was.1
+  pub have_kept : (olds news : List GroupView) → ((a b : FrontOf AnyEpochs) → FrontKept a b → of b ≡ of a) → Each GroupKept olds news
+      → AllHave olds → AllHave news
+  have_kept olds news same kept have n now e s front f =
+      let group = each_back (λ k. GroupKept) 0 olds news n now kept e in
+      let was = each_back (λ k. FrontKept) 0 group.0.fronts now.fronts s front (group.2 n (omega arith)).fronts f in
+      same was.0 front (was.2 s (omega arith)) ∙ have n group.0 group.1 s was.0 was.1
 
-pub places_grown : (ways buckets places : ℕ) (olds news : List GroupView) → Each (GroupGrows ways buckets places) olds news
-    → AllHavePlaces places olds → AllHavePlaces places news
-places_grown ways buckets places olds news grown have n now e =
-    let group = each_back (λ k. GroupGrows ways buckets places) 0 olds news n now grown e in
-    (group.2 n (omega arith)).pipes (have n group.0 group.1)
+  pub have_grown : (ways buckets places : ℕ) (olds news : List GroupView)
+      → ((a b : GroupView) → GroupGrows ways buckets places a b → Have a → Have b) → Each (GroupGrows ways buckets places) olds news
+      → AllHave olds → AllHave news
+  have_grown ways buckets places olds news grows grown have n now e =
+      let group = each_back (λ k. GroupGrows ways buckets places) 0 olds news n now grown e in
+      grows group.0 now (group.2 n (omega arith)) (have n group.0 group.1)
 
--- without a switch there is no cache and no pipe
-pub wide_start : (plan : PlanParts) (buckets : ℕ) (groups : List GroupView) → AreGroups plan 0 groups → AllWide buckets groups
-wide_start plan buckets groups are n group e s front f =
-    let own = each_at (λ k g part. IsGroup 0 part (wiring_at plan k) g) 0 n groups plan.groups group are e in
-    let none = (own.2 n (omega arith)).count in
-    let some = got_below group.fronts s front f in
-    absurd (omega arith)
+  -- without a switch there is no front
+  pub have_start : (plan : PlanParts) (groups : List GroupView) → AreGroups plan 0 groups → AllHave groups
+  have_start plan groups are n group e s front f =
+      let none = (group_at plan 0 n groups group are e).2.count in
+      let some = got_below group.fronts s front f in
+      absurd (omega arith)
 
-pub places_start : (plan : PlanParts) (places : ℕ) (groups : List GroupView) → AreGroups plan 0 groups → AllHavePlaces places groups
-places_start plan places groups are n group e s front f =
-    let own = each_at (λ k g part. IsGroup 0 part (wiring_at plan k) g) 0 n groups plan.groups group are e in
-    let none = (own.2 n (omega arith)).count in
-    let some = got_below group.fronts s front f in
-    absurd (omega arith)
+  pub have_push : (fronts news : List (FrontOf AnyEpochs)) (new : FrontOf AnyEpochs) (kind : AnyEpochs) (store : Store)
+      → news ≡ fronts ++ new ∷ [] → of new ≡ many → Have (record { kind = kind; fronts = fronts; store = store })
+      → Have (record { kind = kind; fronts = news; store = store })
+  have_push fronts news new kind store added size have s front e = elim
+      (got_push fronts new front s (ap (λ xs. slice_get xs s) (sym added) ∙ e)) [
+        | inl there ↦ have s front there
+        | inr same ↦ ap of (sym same.1) ∙ size
+      ]
 
 pub none_there : {X : Type 0} (s : ℕ) (x : X) → slice_get {X = X} [] s ≡ Some x → ⊥
 none_there s x e = cc

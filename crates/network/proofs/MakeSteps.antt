@@ -28,6 +28,7 @@ use Rattle.network.specs.Shared.{AllShare, FrontKept}
 use Rattle.network.specs.Groups.{AreGroups, GroupKept, GroupView, IsGroup, folding_in, group_is_drained}
 use Rattle.network.specs.Events.{AreAllMerged, GroupBreaksOff, GroupMakes, GroupMakesAll, GroupsMake, IsLeft, LaneCarries, LeavesCache}
 use Rattle.network.specs.Events.{OthersStay, StaysBut, StoresStay, has_room, is_ready_at, with_lane}
+use Rattle.network.proofs.GroupSteps.{group_at}
 use Rattle.network.proofs.SharedSteps.{each_on, fronts_same, got_other, kept_on, one_kept, set_set, store_on}
 use Rattle.network.proofs.Sharing.{all_done, fronts_next, held_next}
 
@@ -256,14 +257,11 @@ pub switch_within : (plan : PlanParts) (switches at n : ℕ) (groups : List Grou
     → AreGroups plan switches groups → slice_get groups n ≡ Some group
     → at < length group.fronts
 switch_within plan switches at n groups group within are here =
-    let found = each_at (λ k x part. IsGroup switches part (wiring_at plan k) x) 0 n groups plan.groups group are here in
-    let many = (found.2 n (omega arith)).count in
+    let many = (group_at plan switches n groups group are here).2.count in
     omega arith
 
 -- and its fronts can share the store
 pub shares_at : (plan : PlanParts) (switches n : ℕ) (groups : List GroupView) (group : GroupView) → AreGroups plan switches groups
     → slice_get groups n ≡ Some group
     → AllShare ghosts.sizes ghosts.folding (folding_in group) (length (wiring_at plan n).args) group.fronts group.store
-shares_at plan switches n groups group are here =
-    let found = each_at (λ k x part. IsGroup switches part (wiring_at plan k) x) 0 n groups plan.groups group are here in
-    (found.2 n (omega arith)).shares
+shares_at plan switches n groups group are here = (group_at plan switches n groups group are here).2.shares

@@ -9,7 +9,7 @@ use Rattle.switch_core.proofs.SideBySide.{got_here}
 use Rattle.network.specs.Groups.{AreGroups, GroupGrows, GroupKept, GroupView}
 use Rattle.network.specs.Events.{GroupsMake}
 use Rattle.network.specs.Networks.{IsNetwork, NetworkView}
-use Rattle.network.proofs.GroupSteps.{places_grown, places_kept, still_groups, wide_grown, wide_kept}
+use Rattle.network.proofs.GroupSteps.{have_grown, have_kept, still_groups}
 use Rattle.network.proofs.MakeSteps.{groups_kept}
 
 -- a network of these parts
@@ -34,8 +34,8 @@ pub kept_network : (ways : ℕ) (old : NetworkView) (news : List GroupView) → 
 kept_network ways old news kept is = record {
   few = is.few;
   groups = still_groups old.switches old.plan old.groups news kept is.groups;
-  wide = wide_kept old.buckets old.groups news kept is.wide;
-  pipes = places_kept old.pipe_records old.groups news kept is.pipes;
+  wide = have_kept (λ x. length x.cache.lists) old.buckets old.groups news (λ a b k. k.buckets) kept is.wide;
+  pipes = have_kept (λ x. x.pipe.places) old.pipe_records old.groups news (λ a b k. k.places) kept is.pipes;
   some_ways = is.some_ways;
   some_buckets = is.some_buckets;
   places = is.places;
@@ -68,8 +68,10 @@ pub grown_network : (ways : ℕ) (old : NetworkView) (news : List GroupView) →
 grown_network ways old news few are grown is = record {
   few = omega arith;
   groups = are;
-  wide = wide_grown ways old.buckets old.pipe_records old.groups news grown is.wide;
-  pipes = places_grown ways old.buckets old.pipe_records old.groups news grown is.pipes;
+  wide = have_grown (λ x. length x.cache.lists) old.buckets ways old.buckets old.pipe_records old.groups news (λ a b g. g.wide) grown
+      is.wide;
+  pipes = have_grown (λ x. x.pipe.places) old.pipe_records ways old.buckets old.pipe_records old.groups news (λ a b g. g.pipes) grown
+      is.pipes;
   some_ways = is.some_ways;
   some_buckets = is.some_buckets;
   places = is.places;

@@ -13,6 +13,7 @@ use Rattle.backing_store.specs.Merged.{StoreHolds, stored}
 use Rattle.final_queries.specs.FinalLaws.{AreAlike}
 use Rattle.switch_core.specs.FrontParts.{FrontOf, FitsStore}
 use Rattle.switch_core.specs.Rows.{Each, EachFrom}
+use Rattle.switch_core.proofs.SideBySide.{each_at}
 use Rattle.network.specs.Shared.{AllShare, FrontKept, StoreKept}
 
 -- alike foldings mean the same of a store
@@ -91,14 +92,10 @@ set_set [] i x y = refl
 set_set (z ∷ xs) zero x y = refl
 set_set (z ∷ xs) (suc i) x y = ap (λ zs. z ∷ zs) (set_set xs i x y)
 
-pub got_within : {X : Type 0} (xs : List X) (i : ℕ) (x : X) → slice_get xs i ≡ Some x → i < length xs
-got_within [] i x e = cc
-got_within (y ∷ xs) zero x e = omega arith
-got_within (y ∷ xs) (suc i) x e = let r = got_within xs i x e in omega arith
-
--- what is said of items and then of what was made of them
-pub each_on : {A : Type 0} (R S T : ℕ → A → A → Type 0) (k : ℕ) (xs ys zs : List A) → ((n : ℕ) (a b c : A) → R n a b → S n b c → T n a c)
-    → EachFrom R k xs ys → EachFrom S k ys zs → EachFrom T k xs zs
+-- what is said of items and what was made of them, and then of what was made of those
+pub each_on : {A B C : Type 0} (R : ℕ → A → B → Type 0) (S : ℕ → B → C → Type 0) (T : ℕ → A → C → Type 0) (k : ℕ) (xs : List A) (ys : List B)
+    (zs : List C) → ((n : ℕ) (a : A) (b : B) (c : C) → R n a b → S n b c → T n a c) → EachFrom R k xs ys → EachFrom S k ys zs
+    → EachFrom T k xs zs
 each_on R S T k [] [] [] h p q = tt
 each_on R S T k [] [] (z ∷ zs) h p q = absurd q
 each_on R S T k [] (y ∷ ys) zs h p q = absurd p
@@ -106,17 +103,19 @@ each_on R S T k (x ∷ xs) [] zs h p q = absurd p
 each_on R S T k (x ∷ xs) (y ∷ ys) [] h p q = absurd q
 each_on R S T k (x ∷ xs) (y ∷ ys) (z ∷ zs) h p q = (h k x y z p.0 q.0, each_on R S T (suc k) xs ys zs h p.1 q.1)
 
+-- it is said of what was made and the items as well
+pub each_flip : {A B : Type 0} (R : ℕ → A → B → Type 0) (k : ℕ) (xs : List A) (ys : List B) → EachFrom R k xs ys
+    → EachFrom (λ n y x. R n x y) k ys xs
+each_flip R k [] [] p = tt
+each_flip R k [] (y ∷ ys) p = absurd p
+each_flip R k (x ∷ xs) [] p = absurd p
+each_flip R k (x ∷ xs) (y ∷ ys) p = (p.0, each_flip R (suc k) xs ys p.1)
+
 -- the item before, of which this one was made
 pub each_back : {A B : Type 0} (R : ℕ → A → B → Type 0) (k : ℕ) (olds : List A) (news : List B) (s : ℕ) (now : B) → EachFrom R k olds news
     → slice_get news s ≡ Some now
     → (was : A) × (slice_get olds s ≡ Some was) × ((n : ℕ) → n ≡ k + s → R n was now)
-each_back R k [] [] s now p e = cc
-each_back R k [] (y ∷ news) s now p e = absurd p
-each_back R k (x ∷ olds) [] s now p e = absurd p
-each_back R k (x ∷ olds) (y ∷ news) zero now p e = let same : y ≡ now =
-    cc in (x, refl, λ n q. let is : k ≡ n = omega arith in subst (λ m. R m x now) is (subst (R k x) same p.0))
-each_back R k (x ∷ olds) (y ∷ news) (suc s) now p e = let rest = each_back R (suc k) olds news s now p.1 e
-    in (rest.0, rest.1, λ n q. rest.2 n (omega arith))
+each_back R k olds news s now p = each_at (λ n y x. R n x y) k s news olds now (each_flip R k olds news p)
 
 -- fronts that kept their kinds and sizes can still share
 pub still_share : {K : Type 0} (sizes : K → Sizes) (folding : K → Folding) (f : Folding) (args : ℕ) (olds news : List (FrontOf K))

@@ -1,4 +1,4 @@
-use Rattle.std.proofs.Common.{◌+◌, ◌≤◌, refl, sym, subst, arith, lit<}
+use Rattle.std.proofs.Common.{◌+◌, ◌≤◌, length, refl, sym, subst, arith, lit<}
 use Rattle.std.proofs.Math.Logic.{∥∥₁_elim}
 use Rattle.std.proofs.Props.{props}
 use Rattle.fold_class.specs.Program.{IsProgram, IsProgramOf}
@@ -6,7 +6,7 @@ use Rattle.epoch_entry.specs.declared.purpose.Entries.TheVariants.{Folds}
 use Rattle.epoch_entry.specs.contracts.any.AnyEpochsEpochKind.TheImpl.{ghosts}
 use Rattle.network.specs.Shared.{FrontsStand}
 use Rattle.network.specs.Groups.{GroupGrows, GroupView, IsGroup}
-use Rattle.network.proofs.GroupSteps.{AddsFront, grown_group, others_push, places_push, wide_push}
+use Rattle.network.proofs.GroupSteps.{AddsFront, grown_group, have_push, others_push}
 use Rattle.network.proofs.Sharing.{one_more_stands}
 use Rattle.network.proofs.group.Group.add_switch.Goals as goal
 
@@ -65,23 +65,17 @@ returns-clause-grows g c =
     let new = c.push.new.self.items in
     let after : GroupView = record { kind = p.kind; fronts = new; store = p.store } in
     let made = c.in_ok-front.ensures in
-    let adds : AddsFront c.of-kind.result c.args.buckets c.len-keys.result c.args.pipe_records p.fronts.items new = record {
-      front = c.in_ok-front.front;
-      added = c.in_ok-push.ensures.items;
-      has_kind = made.kind;
-      has_buckets = made.buckets;
-      has_key_words = made.key;
-      has_places = made.places;
-    } in
+    let front = c.in_ok-front.front in
+    let added = c.in_ok-push.ensures.items in
     subst (λ v. GroupGrows g.row.WAYS c.args.buckets c.args.pipe_records v after) c.self.view_is
     (let grows : GroupGrows g.row.WAYS c.args.buckets c.args.pipe_records view after = record {
       kind = refl;
-      wide = wide_push c.args.buckets c.len-keys.result c.args.pipe_records view after adds;
-      pipes = places_push c.args.buckets c.len-keys.result c.args.pipe_records view after adds;
-      others = others_push c.args.buckets c.len-keys.result c.args.pipe_records view after adds refl refl;
+      wide = have_push (λ x. length x.cache.lists) c.args.buckets p.fronts.items new front p.kind p.store added made.buckets;
+      pipes = have_push (λ x. x.pipe.places) c.args.pipe_records p.fronts.items new front p.kind p.store added made.places;
+      others = others_push view new front added;
       stands = λ events merged s. record {
-        fronts = subst (λ fronts. FrontsStand ghosts.stands g.row.WAYS c.args.buckets fronts events merged) (sym c.in_ok-push.ensures.items)
-            (one_more_stands ghosts.stands g.row.WAYS c.args.buckets p.fronts.items c.in_ok-front.front events merged made.buckets
+        fronts = subst (λ fronts. FrontsStand ghosts.stands g.row.WAYS c.args.buckets fronts events merged) (sym added)
+            (one_more_stands ghosts.stands g.row.WAYS c.args.buckets p.fronts.items front events merged made.buckets
             made.stands s.fronts);
         store = s.store;
       };

@@ -39,11 +39,7 @@ returns-clause-held g c =
     subst (λ (v : NetworkView). closed v.plan.groups v.groups) c.self.view_is
     (subst (closed p.plan.groups) c.deref.ensures.value c.group_tables.ensures)
 
--- what is known of the tables
-abbrev AreHeld : NetworkView → List Table → Type 0
-AreHeld net tables =
-    (epochs : List (List Epoch)) → StoresHold net.groups epochs → tables ≡ shared_tables net.plan.groups net.groups epochs
-
+-- what follows from what is known of the tables
 if_ok_map : {X E : Type 0} (P Q : X → Type 0) (r : Result X E) → ((x : X) → P x → Q x) → IfOk r P → IfOk r Q
 if_ok_map P Q (Ok x) h p = h x p
 if_ok_map P Q (Err e) h p = tt
@@ -53,10 +49,7 @@ returns-clause-pieces g c =
     let ways = g.row.WAYS in
     let net = c.args.self.now in
     let is = subst (IsNetwork ways) c.self.view_is c.self.invariant.0 in
-    if_ok_map (AreHeld net)
-    (λ tables. (q : TypedQuery) (number : ℕ → ℕ) (events : List NetworkEvent) → CombineOver q net.plan number events
-    → NetworkStands ways net events → list_all group_is_drained net.groups ≡ true
-    → tables ≡ tables_of_pieces q (packets_taken events) (pieces_closed number ways net events)) c.group_tables.result
+    if_ok_map _ _ c.group_tables.result
     (λ tables held q number events over stands drained.
     tables_closed c.alike_foldings_make_one_table.ensures c.merged_make_the_table.ensures ways net q number events is over stands drained
     tables held)
@@ -67,10 +60,7 @@ returns-clause-defined g c =
     let ways = g.row.WAYS in
     let net = c.args.self.now in
     let is = subst (IsNetwork ways) c.self.view_is c.self.invariant.0 in
-    if_ok_map (AreHeld net)
-    (λ tables. (q : TypedQuery) (number : ℕ → ℕ) (events : List NetworkEvent) → CombineOver q net.plan number events
-    → NetworkStands ways net events → list_all group_is_drained net.groups ≡ true
-    → EvictsLast events → tables ≡ net_tables q (caches_of net.buckets ways) (packets_taken events)) c.group_tables.result
+    if_ok_map _ _ c.group_tables.result
     (λ tables held q number events over stands drained last.
     tables_defined c.alike_foldings_make_one_table.ensures c.merged_make_the_table.ensures ways net q number events is over stands drained
     c.pieces_are_the_epochs.ensures last tables
@@ -83,12 +73,7 @@ returns-clause-additive g c =
     let ways = g.row.WAYS in
     let net = c.args.self.now in
     let is = subst (IsNetwork ways) c.self.view_is c.self.invariant.0 in
-    if_ok_map (AreHeld net)
-    (λ tables. (n : ℕ) (f : TypedFold) (table : Table) (events : List NetworkEvent) → IsDrainedWith ways net n f events
-    → slice_get tables n ≡ Some table → IsAdditiveFrom f (initial_state f)
-    → let given = all_given net.plan n events in let merged = all_epochs (merged_after ways net.buckets [] given) in
-    table.rows ≡ map (λ key. exact_row (folding_of f) key (length (lists_of key merged)) (rows_given key (all_events given)))
-    (ascending (keys_given (all_events given)))) c.group_tables.result
+    if_ok_map _ _ c.group_tables.result
     (λ tables held n f table events d there a. additive_rows c.alike_foldings_make_one_table.ensures ways net n f events is d tables table
     held there a)
     (returns-clause-held g c)
@@ -98,13 +83,7 @@ returns-clause-own g c =
     let ways = g.row.WAYS in
     let net = c.args.self.now in
     let is = subst (IsNetwork ways) c.self.view_is c.self.invariant.0 in
-    if_ok_map (AreHeld net)
-    (λ tables. (n j at : ℕ) (f : TypedFold) (table : Table) (key : Key) (events : List NetworkEvent) → IsDrainedWith ways net n f events
-    → slice_get tables n ≡ Some table → AreWhole (packets_taken events)
-    → IsSwitchPlace net.plan n j → AreTakenAt at (slice_index key j) events
-    → let given = all_given net.plan n events in has key (keys_given (all_events given)) ≡ true
-    → filter (is_of_key key) table.rows ≡ closed_key_rows (folding_of f) (machine_at (caches_of net.buckets ways) at given).closed key)
-    c.group_tables.result
+    if_ok_map _ _ c.group_tables.result
     (λ tables held n j at f table key events d there whole place theirs is_given.
     own_rows_are c.alike_foldings_make_one_table.ensures ways net n f events is d tables table held there j at key whole place theirs
     is_given)

@@ -1,5 +1,5 @@
-use Rattle.std.proofs.Common.{rules, arith}
-use Rattle.network.proofs.GroupSteps.{places_start, wide_start}
+use Rattle.std.proofs.Common.{length, rules, arith}
+use Rattle.network.proofs.GroupSteps.{have_start}
 use Rattle.network.specs.Networks.{NetworkView}
 use Rattle.network.proofs.Representing.{fresh_stands}
 use Rattle.network.proofs.network.Network.new.Goals as goal
@@ -9,8 +9,8 @@ invariant_of-result g c = (
   record {
     few = omega arith;
     groups = c.in_ok-groups.ensures.are;
-    wide = wide_start c.args.plan c.args.buckets c.in_ok-groups.groups.items c.in_ok-groups.ensures.are;
-    pipes = places_start c.args.plan c.args.pipe_records c.in_ok-groups.groups.items c.in_ok-groups.ensures.are;
+    wide = have_start (λ x. length x.cache.lists) c.args.buckets c.args.plan c.in_ok-groups.groups.items c.in_ok-groups.ensures.are;
+    pipes = have_start (λ x. x.pipe.places) c.args.pipe_records c.args.plan c.in_ok-groups.groups.items c.in_ok-groups.ensures.are;
     some_ways = c.requires.ways;
     some_buckets = c.requires.buckets;
     places = c.requires.places;
