@@ -1,6 +1,5 @@
 -- What the steps of one switch's lanes come to.
-use Rattle.std.proofs.Common.{◌≡◌, ℕ, zero, suc, ◌+◌, ◌*◌, ◌<◌, ◌≤◌, List, [], ◌∷◌, Option, Some, None, length, refl, sym, ap, ◌∙◌, subst}
-use Rattle.std.proofs.Common.{arith}
+use Rattle.std.proofs.Common.{◌≡◌, ℕ, zero, suc, ◌+◌, ◌*◌, ◌<◌, ◌≤◌, List, [], ◌∷◌, Option, Some, None, length, refl, sym, ap, ◌∙◌, arith}
 use Rattle.std.specs.Prelude.{slice_get, sum_by}
 use Rattle.std.proofs.lemmas.List.Sums.{sum_by-cons}
 use Rattle.epoch_entry.specs.declared.any.AnyEpochs.{AnyEpochs}
@@ -30,7 +29,7 @@ pub group_within : (ways at start end : ℕ) (group : GroupView) → at < length
     → AtLaneIn (λ lane. end ≤ start + lane_cost ways lane) group at → end ≤ start + group_cost ways at group
 group_within ways at start end group within cost =
     let here = got_some group.fronts at within in
-    subst (λ n. end ≤ start + n) (sym (ap (front_cost ways group) here.1)) (cost here.0 here.1)
+    rw here.1 (cost here.0 here.1)
 
 -- an item more in a sum of steps
 pub within_next : (start before end sum more next : ℕ) → next ≡ sum + more → before ≤ start + sum → end ≤ before + more → end ≤ start + next
@@ -41,12 +40,12 @@ pub upkeep_within : (upkeep : Upkeep) (at start end : ℕ) (group : GroupView) (
     → slice_get group.fronts at ≡ Some front
     → end ≤ start + upkeep_cost upkeep front.cache front.pipe (ghosts.merge_bound front.kind)
     → end ≤ start + group_upkeep_cost upkeep at group
-upkeep_within upkeep at start end group front here cost = subst (λ n. end ≤ start + n) (sym (ap (front_upkeep_cost upkeep) here)) cost
+upkeep_within upkeep at start end _ _ here cost = rw here cost
 
 -- room for a record takes the steps of a merge
 room_same : (o : Option (FrontOf AnyEpochs)) → front_upkeep_cost due.Room o ≡ front_upkeep_cost due.Lag o
 room_same None = refl
-room_same (Some front) = refl
+room_same (Some _) = refl
 
 pub room_cost : (at : ℕ) (groups : List GroupView)
     → sum_by (group_upkeep_cost due.Room at) groups ≡ sum_by (group_upkeep_cost due.Lag at) groups
@@ -61,48 +60,45 @@ room_cost at (x ∷ groups) =
 pub kept_at : {X : Type 0} (F G : Option (FrontOf AnyEpochs) → X) → G None ≡ F None
     → ((a b : FrontOf AnyEpochs) → FrontKept a b → G (Some b) ≡ F (Some a)) → (k at : ℕ) (olds news : List (FrontOf AnyEpochs))
     → EachFrom (λ n. FrontKept) k olds news → G (slice_get news at) ≡ F (slice_get olds at)
-kept_at F G none some k at [] [] e = none
-kept_at F G none some k at [] (y ∷ news) e = absurd e
-kept_at F G none some k at (x ∷ olds) [] e = absurd e
-kept_at F G none some k zero (x ∷ olds) (y ∷ news) e = some x y e.0
+kept_at F G none _ k at [] [] e = none
+kept_at F G _ _ k at [] (y ∷ _) e = absurd e
+kept_at F G _ _ k at (x ∷ _) [] e = absurd e
+kept_at F G _ some k zero (x ∷ _) (y ∷ _) e = some x y e.0
 kept_at F G none some k (suc at) (x ∷ olds) (y ∷ news) e = kept_at F G none some (suc k) at olds news e.1
 
 cost_kept : (ways at : ℕ) (old new : GroupView) → GroupKept old new → group_cost ways at new ≡ group_cost ways at old
 cost_kept ways at old new kept =
     let by : ℕ → AnyEpochs → ℕ = λ w k. (w + (ghosts.sizes k).args) + (w + 2 * ways * (w + 1) + (w + (ghosts.sizes k).entry)
     + ghosts.open_bound k + ghosts.absorb_bound k) in
-    kept_at (front_cost ways old) (front_cost ways new) refl (λ a b one. ap (λ w. by w b.kind) one.key_words
-    ∙ ap (by a.cache.key_words) one.kind) 0 at old.fronts new.fronts kept.fronts
+    kept_at (front_cost ways old) (front_cost ways new) refl (λ a b one. rw (one.key_words, one.kind)) 0 at old.fronts new.fronts kept.fronts
 
 merge_kept : (at : ℕ) (old new : GroupView) → GroupKept old new → group_merge_cost at new ≡ group_merge_cost at old
 merge_kept at old new kept =
     let by : ℕ → ℕ → AnyEpochs → ℕ = λ w e k. merge_cost w e (ghosts.merge_bound k) in
     kept_at (front_upkeep_cost due.Lag) (front_upkeep_cost due.Lag) refl (λ a b one.
-    ap (λ w. by w b.cache.entry_words b.kind) one.key_words
-    ∙ (ap (λ e. by a.cache.key_words e b.kind) one.entry_words ∙ ap (by a.cache.key_words a.cache.entry_words) one.kind)) 0 at
+    rw (one.key_words, one.entry_words, one.kind)) 0 at
     old.fronts new.fronts kept.fronts
 
 sum_same : (f : GroupView → ℕ) (k : ℕ) (olds news : List GroupView) → EachFrom (λ n a b. f b ≡ f a) k olds news
     → sum_by f news ≡ sum_by f olds
 sum_same f k [] [] e = refl
-sum_same f k [] (b ∷ news) e = absurd e
-sum_same f k (a ∷ olds) [] e = absurd e
+sum_same f k [] (b ∷ _) e = absurd e
+sum_same f k (a ∷ _) [] e = absurd e
 sum_same f k (a ∷ olds) (b ∷ news) e =
-    sum_by-cons f b news ∙ (ap (λ n. n + sum_by f news) e.0 ∙ (ap (λ n. f a + n) (sum_same f (suc k) olds news e.1)
-    ∙ sym (sum_by-cons f a olds)))
+    rw (sum_by-cons f b news, e.0, sum_same f (suc k) olds news e.1, sum_by-cons f a olds)
 
 pub costs_kept : (ways at : ℕ) (olds news : List GroupView) → Each GroupKept olds news
     → sum_by (group_cost ways at) news ≡ sum_by (group_cost ways at) olds
 costs_kept ways at olds news kept =
     sum_same (group_cost ways at) 0 olds news
-    (each_map (λ n. GroupKept) (λ n a b. group_cost ways at b ≡ group_cost ways at a) 0 olds news
+    (each_map _ _ 0 olds news
     (λ j n a b q x y r. cost_kept ways at a b r) kept)
 
 pub merges_kept : (at : ℕ) (olds news : List GroupView) → Each GroupKept olds news
     → sum_by (group_merge_cost at) news ≡ sum_by (group_merge_cost at) olds
 merges_kept at olds news kept =
     sum_same (group_merge_cost at) 0 olds news
-    (each_map (λ n. GroupKept) (λ n a b. group_merge_cost at b ≡ group_merge_cost at a) 0 olds news (λ j n a b q x y r. merge_kept at a b r)
+    (each_map _ _ 0 olds news (λ j n a b q x y r. merge_kept at a b r)
     kept)
 
 -- The lane of a switch is the one that the plan's groupby has in a pipeline.
@@ -110,7 +106,7 @@ lane_is : (switches at buckets : ℕ) (part : GroupPlan) (wiring : GroupWiring) 
     → slice_get group.fronts at ≡ Some front → AreWide buckets group → IsGroup switches part wiring group
     → IsLaneOf Folds buckets front.cache (ghosts.sizes front.kind) (ghosts.folding front.kind) (ghosts.open_bound front.kind)
     (ghosts.absorb_bound front.kind) part wiring
-lane_is switches at buckets part wiring group front here wide is =
+lane_is _ at _ _ _ _ front here wide is =
     let share = is.shares at front here in
     record {
       many = wide at front here;
@@ -130,9 +126,9 @@ record LanesAt (ways at buckets k : ℕ) (plan : PlanParts) (groups : List Group
 lanes_at : (ways at switches buckets k : ℕ) (plan : PlanParts) (groups : List GroupView) (parts : List GroupPlan) → at < switches
     → AllWide buckets groups
     → EachFrom (λ n group part. IsGroup switches part (wiring_at plan n) group) k groups parts → LanesAt ways at buckets k plan groups parts
-lanes_at ways at switches buckets k plan [] [] within wide is = record { lanes = []; are = tt; cost = refl }
-lanes_at ways at switches buckets k plan [] (part ∷ parts) within wide is = absurd is
-lanes_at ways at switches buckets k plan (group ∷ groups) [] within wide is = absurd is
+lanes_at _ at _ _ k _ [] [] _ _ _ = record { lanes = []; are = tt; cost = refl }
+lanes_at _ at _ _ k _ [] (_ ∷ _) _ _ is = absurd is
+lanes_at _ at _ _ k _ (_ ∷ _) [] _ _ is = absurd is
 lanes_at ways at switches buckets k plan (group ∷ groups) (part ∷ parts) within wide is =
     let front = got_some group.fronts at (let many = is.0.count in omega arith) in
     let lane = lane_in group front.0 in
@@ -140,9 +136,7 @@ lanes_at ways at switches buckets k plan (group ∷ groups) (part ∷ parts) wit
     record {
       lanes = lane ∷ rest.lanes;
       are = (lane_is switches at buckets part (wiring_at plan k) group front.0 front.1 (wide 0 group refl) is.0, rest.are);
-      cost = sum_by-cons (group_cost ways at) group groups
-          ∙ (ap (λ n. n + sum_by (group_cost ways at) groups) (ap (front_cost ways group) front.1)
-          ∙ (ap (λ n. lane_cost ways lane + n) rest.cost ∙ sym (sum_by-cons (lane_cost ways) lane rest.lanes)));
+      cost = rw (sum_by-cons (group_cost ways at) group groups, front.1, rest.cost, sum_by-cons (lane_cost ways) lane rest.lanes);
     }
 
 as_one : (registers cost lanes bound : ℕ) → cost ≡ lanes → registers + lanes ≤ 1 * bound → registers + cost ≤ bound
@@ -155,5 +149,5 @@ pub groups_within : (ways at switches buckets : ℕ) (plan : PlanParts) (groups 
 groups_within ways at switches buckets plan groups one suit sound within wide are =
     let found = lanes_at ways at switches buckets 0 plan groups plan.groups within wide are in
     let view : PipelineView = record { plan = plan; entries = Folds; buckets = buckets; lanes = found.lanes } in
-    as_one (registers_of plan) (sum_by (group_cost ways at) groups) (sum_by (lane_cost ways) found.lanes) (plan_bound plan ways) found.cost
+    as_one (registers_of plan) _ _ (plan_bound plan ways) found.cost
     (packet_within one suit ways view sound found.are)

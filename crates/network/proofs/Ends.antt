@@ -1,6 +1,6 @@
 -- The tables of a network that is drained.
-use Rattle.std.proofs.Common.{◌≡◌, ℕ, zero, suc, ◌+◌, ◌<◌, ◌==◌, true, List, [], ◌∷◌, ◌++◌, Option, Some, None, length, map, drop, refl}
-use Rattle.std.proofs.Common.{sym, ap, ◌∙◌, subst, arith, append-nil}
+use Rattle.std.proofs.Common.{◌≡◌, ℕ, suc, ◌+◌, ◌<◌, ◌==◌, true, List, [], ◌∷◌, ◌++◌, Option, Some, None, length, map, drop, refl, sym, ap}
+use Rattle.std.proofs.Common.{◌∙◌, subst, arith, append-nil}
 use Rattle.std.specs.Prelude.{slice_get}
 use Rattle.std.specs.List.{All, list_all}
 use Rattle.std.proofs.lemmas.List.Elements.{All-nil, All-cons}
@@ -50,32 +50,30 @@ use Rattle.network.proofs.Representing.{given_on}
 module _ (plan : PlanParts) (n : ℕ) where
   packets_more : (at : ℕ) (t : Option Taken) (more : List SwitchEvent)
       → packets_among (from_switch at (event_of t) ++ more) ≡ from_switch at (event_of t) ++ packets_among more
-  packets_more at None more = refl
-  packets_more at (Some t) more = refl
+  packets_more at None _ = refl
+  packets_more at (Some t) _ = refl
 
   unmerged_more : (at : ℕ) (t : Option Taken) (more : List SwitchEvent)
       → without_switch_merges (from_switch at (event_of t) ++ more) ≡ from_switch at (event_of t) ++ without_switch_merges more
-  unmerged_more at None more = refl
-  unmerged_more at (Some t) more = refl
+  unmerged_more at None _ = refl
+  unmerged_more at (Some t) _ = refl
 
   no_packet_more : (event : Event) (at lane : ℕ) (more : List SwitchEvent)
       → packets_among (record { switch = at; event = event } ∷ more) ≡ packets_among more
       → packets_among (from_switch at (event_at lane event n) ++ more) ≡ packets_among more
-  no_packet_more event at lane more none = by_test (n == lane) (λ t. rw t none) (λ t. rw t refl)
+  no_packet_more _ at lane _ none = by_test (n == lane) (λ t. rw t none) (λ t. rw t)
 
   merged_more : (at lane : ℕ) (more : List SwitchEvent) → without_switch_merges (from_switch at (event_at lane Merge n) ++ more)
       ≡ without_switch_merges
       more
-  merged_more at lane more = by_test (n == lane) (λ t. rw t refl) (λ t. rw t refl)
+  merged_more at lane _ = by_test (n == lane) (λ t. rw t) (λ t. rw t)
 
   pub has_packets : (number : ℕ → ℕ) (events : List NetworkEvent) → AreAtTheirSwitches number events
       → HasPackets (net_steps number (taken plan n) (packets_taken events)) (all_given plan n events)
-  has_packets number [] at = refl
+  has_packets _ [] at = refl
   has_packets number (Takes switch words ∷ events) at =
       let t = taken plan n words in
-      packets_more switch t (all_given plan n events)
-      ∙ (ap (λ es. from_switch switch (event_of t) ++ es) (has_packets number events at.1)
-      ∙ ap (λ k. from_switch k (event_of t) ++ given (net_steps number (taken plan n) (packets_taken events))) at.0)
+      rw (packets_more switch t (all_given plan n events), has_packets number events at.1, at.0)
   has_packets number (Evicts switch lane bucket ∷ events) at = no_packet_more (Evict bucket) switch lane (all_given plan n events) refl
       ∙ has_packets number events at
   has_packets number (Merges switch lane ∷ events) at = no_packet_more Merge switch lane (all_given plan n events) refl
@@ -83,38 +81,34 @@ module _ (plan : PlanParts) (n : ℕ) where
 
   first_given : (number : ℕ → ℕ) (events : List NetworkEvent) → NoEviction events → AreAtTheirSwitches number events
       → without_switch_merges (all_given plan n events) ≡ given (net_steps number (taken plan n) (packets_taken events))
-  first_given number [] none at = refl
+  first_given _ [] _ at = refl
   first_given number (Takes switch words ∷ events) none at =
       let t = taken plan n words in
-      unmerged_more switch t (all_given plan n events)
-      ∙ (ap (λ es. from_switch switch (event_of t) ++ es) (first_given number events none at.1)
-      ∙ ap (λ k. from_switch k (event_of t) ++ given (net_steps number (taken plan n) (packets_taken events))) at.0)
-  first_given number (Evicts switch lane bucket ∷ events) none at = absurd none
+      rw (unmerged_more switch t (all_given plan n events), first_given number events none at.1, at.0)
+  first_given _ (Evicts _ _ _ ∷ _) none at = absurd none
   first_given number (Merges switch lane ∷ events) none at = merged_more switch lane (all_given plan n events)
       ∙ first_given number events none at
 
   rest_given : (events : List NetworkEvent) → packets_taken events ≡ [] → NoPacket (all_events (all_given plan n events))
-  rest_given [] none = tt
+  rest_given [] _ = tt
   rest_given (Takes switch words ∷ events) none = cc
-  rest_given (Evicts switch lane bucket ∷ events) none = by_test (n == lane) (λ t. rw t (rest_given events none))
+  rest_given (Evicts _ lane _ ∷ events) none = by_test (n == lane) (λ t. rw t (rest_given events none))
       (λ t. rw t (rest_given events none))
-  rest_given (Merges switch lane ∷ events) none = by_test (n == lane) (λ t. rw t (rest_given events none))
+  rest_given (Merges _ lane ∷ events) none = by_test (n == lane) (λ t. rw t (rest_given events none))
       (λ t. rw t (rest_given events none))
 
 is_run : (plan : PlanParts) (n : ℕ) (number : ℕ → ℕ) (events : List NetworkEvent) → EvictsLast events → AreAtTheirSwitches number events
     → IsRun (net_steps number (taken plan n) (packets_taken events)) (all_given plan n events)
 is_run plan n number events last at =
-    let all : packets_taken events ≡ packets_taken last.first =
+    let all =
     ap packets_taken last.parts ∙ (taken_on last.first last.rest ∙ (ap (λ ps. packets_taken last.first ++ ps) last.after
     ∙ append-nil (packets_taken last.first))) in
     record {
       first = all_given plan n last.first;
       rest = all_given plan n last.rest;
-      parts = ap (all_given plan n) last.parts ∙ given_on plan n last.first last.rest;
+      parts = rw (last.parts, given_on plan n last.first last.rest);
       packets =
-          first_given plan n number last.first last.before (first_theirs number last.first last.rest
-          (subst (AreAtTheirSwitches number) last.parts at))
-          ∙ ap (λ ps. given (net_steps number (taken plan n) ps)) (sym all);
+          rw (first_given plan n number last.first last.before (first_theirs number last.first last.rest (subst (AreAtTheirSwitches number) last.parts at)), all);
       ending = rest_given plan n last.rest last.after;
     }
 
@@ -125,15 +119,15 @@ HasFold folds t = t.fold_number < length folds
 
 folds_there : (names : ℕ) (folds : List TypedFold) (before streams : List TypedStream) → AreValidStreams names folds before streams
     → All (HasFold folds) (takings streams)
-folds_there names folds before [] valid = All-nil (HasFold folds)
+folds_there _ folds _ [] _ = All-nil (HasFold folds)
 folds_there names folds before (one ∷ streams) valid = by_op one.op valid.0.operator
     (folds_there names folds (before ++ one ∷ []) streams valid.1)
   where
     by_op : (o : TypedOp) → IsValidOp folds before (length one.columns) o → All (HasFold folds) (takings streams)
         → All (HasFold folds) (takings (record one { op = o } ∷ streams))
-    by_op (op.Filter input condition) v rest = rest
-    by_op (op.Map input values) v rest = rest
-    by_op (op.Zip left right slots) v rest = rest
+    by_op (op.Filter _ _) v rest = rest
+    by_op (op.Map _ _) v rest = rest
+    by_op (op.Zip _ _ _) v rest = rest
     by_op (op.Group input keys f args) v rest = All-cons (HasFold folds)
         (record { input = input; keys = keys; fold_number = f; args = args }) (takings streams) v.1.is_fold rest
 
@@ -185,19 +179,15 @@ module _ (law : AlikeFoldingsMakeOneTable) (make : MergedMakeTheTable) (ways : �
         states =
             λ rows. kind.folded rows;
       } in
-      law.by_closed (heading_of part) (folding_in group) (folding_of f) (all_epochs (merged i)) alike
-      ∙ make q net.plan net.buckets ways packets number over.valid over.combine over.tells over.planned room over.whole over.numbered i
-      (group_shape part) f
-      (all_given net.plan i events) (merged i) (got_below net.plan.groups i part at) has (has_packets net.plan i number events over.switches)
-      (is_merged i group here)
+      rw (law.by_closed (heading_of part) (folding_in group) (folding_of f) (all_epochs (merged i)) alike, make q net.plan net.buckets ways packets number over.valid over.combine over.tells over.planned room over.whole over.numbered i (group_shape part) f (all_given net.plan i events) (merged i) (got_below net.plan.groups i part at) has (has_packets net.plan i number events over.switches) (is_merged i group here))
 
   tables_from : (i : ℕ) (parts : List GroupPlan) (groups : List GroupView) → drop i net.plan.groups ≡ parts
       → EachFrom (λ n group part. IsGroup net.switches part (wiring_at net.plan n) group) i groups parts
       → ((j n : ℕ) (group : GroupView) → n ≡ i + j → slice_get groups j ≡ Some group → slice_get net.groups n ≡ Some group)
       → TablesFrom q packets pieces i parts groups
-  tables_from i [] [] e are there = record { epochs = []; hold = tt; same = refl }
-  tables_from i [] (group ∷ groups) e are there = absurd are
-  tables_from i (part ∷ parts) [] e are there = absurd are
+  tables_from i [] [] e _ _ = record { epochs = []; hold = tt; same = refl }
+  tables_from i [] (_ ∷ _) e are _ = absurd are
+  tables_from i (_ ∷ _) [] e are _ = absurd are
   tables_from i (part ∷ parts) (group ∷ groups) e are there =
       let at = first_at net.plan.groups i part parts e in
       let within = got_below net.plan.groups i part at.0 in
@@ -228,9 +218,5 @@ module _ (law : AlikeFoldingsMakeOneTable) (make : MergedMakeTheTable) (ways : �
 
   pub tables_defined : PiecesAreTheEpochs → EvictsLast events → (tables : List Table) → tables ≡ tables_of_pieces q packets pieces
       → tables ≡ net_tables q (caches_of net.buckets ways) packets
-  tables_defined epochs last tables same =
-      same ∙ pieces_same q packets net.plan pieces (net_pieces q (caches_of net.buckets ways) packets) over.planned (λ i key less.
-      let group = got_some net.groups i (subst (λ n. i < n) (sym (each_long _ 0 net.groups net.plan.groups is.groups)) less) in
-      epochs q net.plan net.buckets ways packets number over.planned room over.whole over.numbered i (all_given net.plan i events)
-      (merged i) key less
-      (is_run net.plan i number events last over.switches) (is_merged i group.0 group.1))
+  tables_defined epochs last _ same =
+      rw (same, pieces_same q packets net.plan pieces (net_pieces q (caches_of net.buckets ways) packets) over.planned (λ i key less. let group = got_some net.groups i (subst (λ n. i < n) (sym (each_long _ 0 net.groups net.plan.groups is.groups)) less) in epochs q net.plan net.buckets ways packets number over.planned room over.whole over.numbered i (all_given net.plan i events) (merged i) key less (is_run net.plan i number events last over.switches) (is_merged i group.0 group.1)))

@@ -1,5 +1,5 @@
 -- Lists of a network's events.
-use Rattle.std.proofs.Common.{◌≡◌, ℕ, zero, suc, nat_lt, List, [], ◌∷◌, ◌++◌, length, replicate, Option, Some, None, refl, sym, ap, ◌∙◌}
+use Rattle.std.proofs.Common.{◌≡◌, ℕ, zero, suc, nat_lt, List, [], ◌∷◌, ◌++◌, length, replicate, Option, Some, None, refl, sym, ◌∙◌}
 use Rattle.epoch_model.specs.Machine.{Event, Packet, Evict, Merge}
 use Rattle.epoch_model.proofs.KeyLists.{by_test}
 use Rattle.epoch_entry.specs.declared.any.AnyEpochs.{AnyEpochs}
@@ -15,54 +15,54 @@ use Rattle.network.proofs.Runs.{without_on}
 -- ---- some events and then others
 
 pub taken_on : (xs ys : List NetworkEvent) → packets_taken (xs ++ ys) ≡ packets_taken xs ++ packets_taken ys
-taken_on [] ys = refl
-taken_on (Takes switch words ∷ xs) ys = ap (λ ps. words ∷ ps) (taken_on xs ys)
-taken_on (Evicts switch lane bucket ∷ xs) ys = taken_on xs ys
-taken_on (Merges switch lane ∷ xs) ys = taken_on xs ys
+taken_on [] _ = refl
+taken_on (Takes _ words ∷ xs) ys = rw (taken_on xs ys)
+taken_on (Evicts _ _ _ ∷ xs) ys = taken_on xs ys
+taken_on (Merges _ _ ∷ xs) ys = taken_on xs ys
 
 pub theirs_on : (number : ℕ → ℕ) (xs ys : List NetworkEvent) → AreAtTheirSwitches number xs → AreAtTheirSwitches number ys
     → AreAtTheirSwitches number (xs ++ ys)
-theirs_on number [] ys a b = b
-theirs_on number (Takes switch words ∷ xs) ys a b = (a.0, theirs_on number xs ys a.1 b)
-theirs_on number (Evicts switch lane bucket ∷ xs) ys a b = theirs_on number xs ys a b
-theirs_on number (Merges switch lane ∷ xs) ys a b = theirs_on number xs ys a b
+theirs_on _ [] _ a b = b
+theirs_on number (Takes _ _ ∷ xs) ys a b = (a.0, theirs_on number xs ys a.1 b)
+theirs_on number (Evicts _ _ _ ∷ xs) ys a b = theirs_on number xs ys a b
+theirs_on number (Merges _ _ ∷ xs) ys a b = theirs_on number xs ys a b
 
 pub first_theirs : (number : ℕ → ℕ) (xs ys : List NetworkEvent) → AreAtTheirSwitches number (xs ++ ys) → AreAtTheirSwitches number xs
-first_theirs number [] ys at = tt
-first_theirs number (Takes switch words ∷ xs) ys at = (at.0, first_theirs number xs ys at.1)
-first_theirs number (Evicts switch lane bucket ∷ xs) ys at = first_theirs number xs ys at
-first_theirs number (Merges switch lane ∷ xs) ys at = first_theirs number xs ys at
+first_theirs _ [] _ at = tt
+first_theirs number (Takes _ _ ∷ xs) ys at = (at.0, first_theirs number xs ys at.1)
+first_theirs number (Evicts _ _ _ ∷ xs) ys at = first_theirs number xs ys at
+first_theirs number (Merges _ _ ∷ xs) ys at = first_theirs number xs ys at
 
 pub none_on : (xs ys : List NetworkEvent) → NoEviction xs → NoEviction ys → NoEviction (xs ++ ys)
-none_on [] ys a b = b
-none_on (Takes switch words ∷ xs) ys a b = none_on xs ys a b
-none_on (Evicts switch lane bucket ∷ xs) ys a b = absurd a
-none_on (Merges switch lane ∷ xs) ys a b = none_on xs ys a b
+none_on [] _ a b = b
+none_on (Takes _ _ ∷ xs) ys a b = none_on xs ys a b
+none_on (Evicts _ _ _ ∷ _) _ a b = absurd a
+none_on (Merges _ _ ∷ xs) ys a b = none_on xs ys a b
 
 -- ---- events that take no packet
 
 pub taken_unmerged : (xs : List NetworkEvent) → packets_taken xs ≡ packets_taken (without_merges xs)
 taken_unmerged [] = refl
-taken_unmerged (Takes switch words ∷ xs) = ap (λ ps. words ∷ ps) (taken_unmerged xs)
-taken_unmerged (Evicts switch lane bucket ∷ xs) = taken_unmerged xs
-taken_unmerged (Merges switch lane ∷ xs) = taken_unmerged xs
+taken_unmerged (Takes _ words ∷ xs) = rw (taken_unmerged xs)
+taken_unmerged (Evicts _ _ _ ∷ xs) = taken_unmerged xs
+taken_unmerged (Merges _ _ ∷ xs) = taken_unmerged xs
 
 pub theirs_none : (number : ℕ → ℕ) (xs : List NetworkEvent) → packets_taken xs ≡ [] → AreAtTheirSwitches number xs
-theirs_none number [] none = tt
+theirs_none _ [] _ = tt
 theirs_none number (Takes switch words ∷ xs) none = cc
-theirs_none number (Evicts switch lane bucket ∷ xs) none = theirs_none number xs none
-theirs_none number (Merges switch lane ∷ xs) none = theirs_none number xs none
+theirs_none number (Evicts _ _ _ ∷ xs) none = theirs_none number xs none
+theirs_none number (Merges _ _ ∷ xs) none = theirs_none number xs none
 
 none_below : (lists : ℕ → List NetworkEvent) → ((i : ℕ) → packets_taken (lists i) ≡ []) → (n : ℕ)
     → packets_taken (joined_below n lists) ≡ []
-none_below lists none zero = refl
+none_below _ _ zero = refl
 none_below lists none (suc n) =
-    taken_on (joined_below n lists) (lists n) ∙ (ap (λ ps. ps ++ packets_taken (lists n)) (none_below lists none n) ∙ none n)
+    rw (taken_on (joined_below n lists) (lists n), none_below lists none n, none n)
 
 calls_none : (at lane : ℕ) (events : List Event) → packets_taken (calls_of at lane events) ≡ []
-calls_none at lane [] = refl
-calls_none at lane (Packet key row ∷ events) = calls_none at lane events
-calls_none at lane (Evict bucket ∷ events) = calls_none at lane events
+calls_none at _ [] = refl
+calls_none at lane (Packet _ _ ∷ events) = calls_none at lane events
+calls_none at lane (Evict _ ∷ events) = calls_none at lane events
 calls_none at lane (Merge ∷ events) = calls_none at lane events
 
 -- evictions of all caches take no packet
@@ -76,20 +76,20 @@ evictions_take_none net = none_below (λ at. without_merges (upkeep_calls at due
 
 without_below : (lists : ℕ → List NetworkEvent) → ((i : ℕ) → without_merges (lists i) ≡ []) → (n : ℕ)
     → without_merges (joined_below n lists) ≡ []
-without_below lists none zero = refl
+without_below _ _ zero = refl
 without_below lists none (suc n) =
-    without_on (joined_below n lists) (lists n) ∙ (ap (λ es. es ++ without_merges (lists n)) (without_below lists none n) ∙ none n)
+    rw (without_on (joined_below n lists) (lists n), without_below lists none n, none n)
 
 room_alone : (at lane : ℕ) (o : Option (FrontOf AnyEpochs)) → without_merges (calls_of at lane (upkeep_in due.Room o)) ≡ []
-room_alone at lane None = refl
-room_alone at lane (Some front) = by_test (nat_lt (length front.pipe.records) front.pipe.places) (λ t. rw t refl) (λ t. rw t refl)
+room_alone at _ None = refl
+room_alone at _ (Some front) = by_test (nat_lt (length front.pipe.records) front.pipe.places) (λ t. rw t) (λ t. rw t)
 
 lag_alone : (at lane : ℕ) (o : Option (FrontOf AnyEpochs)) → without_merges (calls_of at lane (upkeep_in due.Lag o)) ≡ []
-lag_alone at lane None = refl
-lag_alone at lane (Some front) = refl
+lag_alone at _ None = refl
+lag_alone at _ (Some _) = refl
 
 rest_alone : (at lane : ℕ) (o : Option (FrontOf AnyEpochs)) → without_merges (calls_of at lane (upkeep_in due.Rest o)) ≡ []
-rest_alone at lane None = refl
+rest_alone at _ None = refl
 rest_alone at lane (Some front) = merges (length front.pipe.records)
   where
     merges : (n : ℕ) → without_merges (calls_of at lane (replicate n Merge)) ≡ []
@@ -106,10 +106,10 @@ pub rest_is_merges : (at : ℕ) (net : NetworkView) → without_merges (upkeep_c
 rest_is_merges at net = without_below (lane_calls at due.Rest net) (λ lane. rest_alone at lane (front_at net lane at)) (length net.groups)
 
 pub merges_take_none : (xs : List NetworkEvent) → without_merges xs ≡ [] → packets_taken xs ≡ []
-merges_take_none xs alone = taken_unmerged xs ∙ ap packets_taken alone
+merges_take_none xs alone = rw (taken_unmerged xs, alone)
 
 pub merges_evict_none : (xs : List NetworkEvent) → without_merges xs ≡ [] → NoEviction xs
-merges_evict_none [] alone = tt
+merges_evict_none [] _ = tt
 merges_evict_none (Takes switch words ∷ xs) alone = cc
 merges_evict_none (Evicts switch lane bucket ∷ xs) alone = cc
-merges_evict_none (Merges switch lane ∷ xs) alone = merges_evict_none xs alone
+merges_evict_none (Merges _ _ ∷ xs) alone = merges_evict_none xs alone

@@ -18,12 +18,12 @@ use Rattle.epoch_model.specs.Epochs.{Geometry}
 use Rattle.epoch_model.specs.Laws.{HasRoom, rows_given}
 use Rattle.epoch_model.specs.Machine.{Epoch, Event, Evict, Merge, lists_of}
 use Rattle.epoch_model.specs.TableLaws.{keys_given}
-use Rattle.epoch_model.specs.Tables.{Folding, closed_key_rows, closed_keys, closed_rows, epoch_rows, epochs_shown}
-use Rattle.epoch_model.specs.Tables.{exact_row, folded, mark_of}
+use Rattle.epoch_model.specs.Tables.{Folding, closed_key_rows, closed_keys, closed_rows, epoch_rows, epochs_shown, exact_row, folded}
+use Rattle.epoch_model.specs.Tables.{mark_of}
 use Rattle.epoch_model.proofs.KeyLists.{by_test, key_eq-true}
 use Rattle.epoch_model.proofs.KeyOrder.{ascending-ascends, has-ascending}
 use Rattle.epoch_model.proofs.TableRows.{given-some, joined-some, same_keys}
-use Rattle.epoch_entry.specs.Foldings.{folding_of, per_epoch}
+use Rattle.epoch_entry.specs.Foldings.{folding_of}
 use Rattle.final_queries.specs.Finals.{is_of_key}
 use Rattle.final_queries.specs.FinalLaws.{AlikeFoldingsMakeOneTable, AreAlike}
 use Rattle.final_queries.specs.GroupTable.{closed_table}
@@ -58,7 +58,7 @@ unfolding key_cmp
 key_cmp-itself key = tied_itself nat_list_cmp_total key
 
 above_absent : (key : Key) (keys : List Key) → AreAbove key keys → has key keys ≡ false
-above_absent key [] above = refl
+above_absent _ [] _ = refl
 above_absent key (first ∷ keys) above = by_test (key_eq first key)
     (λ e. absurd (apart (sym above.0 ∙ (ap (λ x. key_cmp key x) (key_eq-true first key e) ∙ key_cmp-itself key))))
     (λ e. rw e (above_absent key keys above.1))
@@ -68,7 +68,7 @@ above_absent key (first ∷ keys) above = by_test (key_eq first key)
 
 rows_stay : (f : Folding) (other key : Key) → key_eq other key ≡ true → (count number : ℕ) (lists : List (List ArgRow))
     → filter (is_of_key key) (epoch_rows f other count number lists) ≡ epoch_rows f other count number lists
-rows_stay f other key e count number [] = refl
+rows_stay f _ _ e _ _ [] = refl
 rows_stay f other key e count number (rows ∷ lists) =
     let row : Row = record {
       key = other;
@@ -77,12 +77,12 @@ rows_stay f other key e count number (rows ∷ lists) =
       epochs = epochs_shown count;
       values = folded f rows;
     } in
-    rw e (ap (λ rs. row ∷ rs) (rows_stay f other key e count (suc number) lists))
+    rw e (rw (rows_stay f other key e count (suc number) lists))
 
 rows_go : (f : Folding) (other key : Key) → key_eq other key ≡ false → (count number : ℕ) (lists : List (List ArgRow))
     → filter (is_of_key key) (epoch_rows f other count number lists) ≡ []
-rows_go f other key e count number [] = refl
-rows_go f other key e count number (rows ∷ lists) = rw e (rows_go f other key e count (suc number) lists)
+rows_go f _ _ e _ _ [] = refl
+rows_go f other key e count number (_ ∷ lists) = rw e (rows_go f other key e count (suc number) lists)
 
 module _ (f : Folding) (closed : List Epoch) (key : Key) where
   abbrev of_key : Key → List Row
@@ -91,12 +91,12 @@ module _ (f : Folding) (closed : List Epoch) (key : Key) where
   own_rows : (other : Key) → key_eq other key ≡ true → filter (is_of_key key) (of_key other) ≡ of_key other
   own_rows other e = by_test f.row_per_epoch
       (λ t. rw t (rows_stay f other key e (length (lists_of other closed)) 1 (lists_of other closed)))
-      (λ t. rw (t, e) refl)
+      (λ t. rw (t, e))
 
   other_rows : (other : Key) → key_eq other key ≡ false → filter (is_of_key key) (of_key other) ≡ []
   other_rows other e = by_test f.row_per_epoch
       (λ t. rw t (rows_go f other key e (length (lists_of other closed)) 1 (lists_of other closed)))
-      (λ t. rw (t, e) refl)
+      (λ t. rw (t, e))
 
   none_of : (keys : List Key) → has key keys ≡ false → filter (is_of_key key) (flat_map of_key keys) ≡ []
   none_of [] h = refl
@@ -108,7 +108,7 @@ module _ (f : Folding) (closed : List Epoch) (key : Key) where
       ∙ (ap (λ rs. rs ++ filter (is_of_key key) (flat_map of_key keys)) (other_rows other t) ∙ none_of keys rest))
 
   one_of : (keys : List Key) → IsAscending keys → has key keys ≡ true → filter (is_of_key key) (flat_map of_key keys) ≡ of_key key
-  one_of [] up h = absurd (true≢false (sym h))
+  one_of [] _ h = absurd (true≢false (sym h))
   one_of (other ∷ keys) up h = by_test (key_eq other key)
       (λ t.
       let same : other ≡ key = key_eq-true other key t in
@@ -122,15 +122,13 @@ module _ (f : Folding) (closed : List Epoch) (key : Key) where
       ∙ (ap (λ rs. rs ++ filter (is_of_key key) (flat_map of_key keys)) (other_rows other t) ∙ one_of keys up.1 rest))
 
   key_has_rows : has key (closed_keys closed) ≡ true → filter (is_of_key key) (closed_rows f closed) ≡ closed_key_rows f closed key
-  key_has_rows h = one_of (closed_keys closed) (ascending-ascends (map (λ (epoch : Epoch). epoch.key) closed)) h
+  key_has_rows h = one_of (closed_keys closed) (ascending-ascends (map _ closed)) h
 
 -- the merged epochs have the keys that are given
 store_keys : (g : Geometry) (events : List SwitchEvent) (merged : List SwitchEpoch) → HasRoom g → AllMerged g events merged
     → closed_keys (all_epochs merged) ≡ ascending (keys_given (all_events events))
 store_keys g events merged room all = same_keys (all_epochs merged) (keys_given (all_events events)) (λ k.
-    given-some k (all_events events)
-    ∙ same_length (rows_given k (all_events events)) (rows_joined (lists_of k (all_epochs merged))) (as_many g events merged room all k)
-    ∙ joined-some (lists_of k (all_epochs merged)) (pieces g events merged room all k))
+    rw (given-some k (all_events events), same_length (rows_given k (all_events events)) (rows_joined (lists_of k (all_epochs merged))) (as_many g events merged room all k), joined-some (lists_of k (all_epochs merged)) (pieces g events merged room all k)))
 
 -- ---- what other switches are given of a key
 
@@ -138,7 +136,7 @@ module _ (plan : PlanParts) (n j at : ℕ) (key : Key) (place : IsSwitchPlace pl
   one_given : (switch : ℕ) (words : List ℕ) (o : Option Taken) (more : List SwitchEvent) → taken plan n words ≡ o → length words ≡ FIELDS
       → (switch_in words ≡ slice_index key j → switch ≡ at)
       → rows_given key (events_at other more) ≡ [] → rows_given key (events_at other (from_switch switch (event_of o) ++ more)) ≡ []
-  one_given switch words None more is whole theirs rest = rest
+  one_given _ _ None _ _ _ _ rest = rest
   one_given switch words (Some t) more is whole theirs rest = by_test (switch == other)
       (λ u. by_test (key_eq t.key key)
       (λ v.
@@ -175,13 +173,13 @@ module _ (ways : ℕ) (net : NetworkView) (events : List NetworkEvent) where
 
   abbrev epochs_from_on : ℕ → List GroupView → List (List Epoch)
   epochs_from_on i [] = []
-  epochs_from_on i (group ∷ groups) = all_epochs (merged i) ∷ epochs_from_on (suc i) groups
+  epochs_from_on i (_ ∷ groups) = all_epochs (merged i) ∷ epochs_from_on (suc i) groups
 
   all_hold : (i : ℕ) (groups : List GroupView)
       → ((k n : ℕ) (group : GroupView) → n ≡ i + k → slice_get groups k ≡ Some group
       → StoreHolds (folding_in group) group.store (all_epochs (merged n)))
       → EachFrom (λ n group. StoreHolds (folding_in group) group.store) i groups (epochs_from_on i groups)
-  all_hold i [] hold = tt
+  all_hold i [] _ = tt
   all_hold i (group ∷ groups) hold = (
     hold 0 i group (omega arith) refl,
     all_hold (suc i) groups
@@ -198,9 +196,7 @@ module _ (ways : ℕ) (net : NetworkView) (events : List NetworkEvent) where
       let same : n ≡ i = omega arith in
       let one : p1 ≡ part = cc in
       let other : g1 ≡ group = cc in
-      ap (λ x. Some (closed_table (heading_of x) (folding_in g1) (all_epochs (merged i)))) one
-      ∙ (ap (λ x. Some (closed_table (heading_of part) (folding_in x) (all_epochs (merged i)))) other
-      ∙ ap (λ x. Some (closed_table (heading_of part) (folding_in group) (all_epochs (merged x)))) (sym same))
+      rw (one, other, same)
   table_there i (suc k) n (p1 ∷ parts) (g1 ∷ groups) part group e p g = table_there (suc i) k n parts groups part group (omega arith) p g
 
 module _ (law : AlikeFoldingsMakeOneTable) (ways : ℕ) (net : NetworkView) (n : ℕ) (f : TypedFold) (events : List NetworkEvent)
@@ -224,7 +220,7 @@ module _ (law : AlikeFoldingsMakeOneTable) (ways : ℕ) (net : NetworkView) (n :
   found : (group : GroupView) × (slice_get net.groups n ≡ Some group) × IsGroup net.switches d.part (wiring_at net.plan n) group
   found =
       let R : ℕ → GroupView → GroupPlan → Type 0 = λ k group part. IsGroup net.switches part (wiring_at net.plan k) group in
-      let back = each_back R 0 net.groups net.plan.groups n d.part is.groups d.there in
+      let back = each_back R 0 net.groups net.plan.groups n _ is.groups d.there in
       (back.0, back.1, back.2 n (omega arith))
 
   all : AllMerged g given epochs
@@ -251,7 +247,7 @@ module _ (law : AlikeFoldingsMakeOneTable) (ways : ℕ) (net : NetworkView) (n :
       → table.rows ≡ map (λ key. exact_row (folding_of f) key (length (lists_of key (all_epochs epochs)))
       (rows_given key (all_events given))) (ascending (keys_given (all_events given)))
   additive_rows a =
-      rows_are ∙ store_table f (folding_of f) g given epochs refl (ap per_epoch (additive_class f a.valid a.additive)) a room all
+      rows_are ∙ store_table f (folding_of f) g _ _ refl (rw (additive_class f a.valid a.additive)) a room all
 
   pub own_rows_are : (j at : ℕ) (key : Key) → AreWhole (packets_taken events) → IsSwitchPlace net.plan n j
       → AreTakenAt at (slice_index key j) events → has key (keys_given (all_events given)) ≡ true

@@ -1,6 +1,6 @@
 -- Groupbys side by side.
-use Rattle.std.proofs.Common.{◌≡◌, ℕ, zero, suc, ◌+◌, ◌<◌, ◌≤◌, nat_lt, List, [], ◌∷◌, ◌++◌, inl, inr, Some, length, take, refl, sym}
-use Rattle.std.proofs.Common.{ap, ◌∙◌, subst, arith, length-append}
+use Rattle.std.proofs.Common.{◌≡◌, ℕ, zero, suc, ◌+◌, ◌<◌, ◌≤◌, nat_lt, List, [], ◌∷◌, ◌++◌, inl, inr, Some, length, take, refl, sym, ap}
+use Rattle.std.proofs.Common.{◌∙◌, subst, arith, length-append}
 use Rattle.std.proofs.Math.Logic.{∥∥₁_elim}
 use Rattle.std.proofs.Props.{props}
 use Rattle.std.proofs.Math.Seq.{take-append_seam, take-length}
@@ -26,10 +26,9 @@ use Rattle.switch_core.specs.Pipelines.{heading_of}
 use Rattle.switch_core.specs.Rows.{Each, EachFrom}
 use Rattle.switch_core.proofs.LanesMade.{group_sound}
 use Rattle.switch_core.proofs.SideBySide.{each_at, each_long, each_map, got_below}
-use Rattle.network.specs.Groups.{GroupGrows, GroupKept, GroupView, IsGroup, IsKindOfProgram}
-use Rattle.network.specs.Groups.{AreGroups, folding_in, shared_tables, with_first}
+use Rattle.network.specs.Groups.{GroupGrows, GroupKept, GroupView, IsGroup, AreGroups, folding_in, shared_tables, with_first}
 use Rattle.backing_store.specs.Store.{Store}
-use Rattle.network.specs.Shared.{AllShare, FrontKept, MayShare}
+use Rattle.network.specs.Shared.{FrontKept, MayShare}
 use Rattle.network.proofs.SharedSteps.{each_back, each_flip, each_on, still_share}
 use Rattle.network.proofs.Sharing.{got_push}
 
@@ -38,7 +37,7 @@ pub each_made : {A B : Type 0} (R : ℕ → A → B → Type 0) (S : ℕ → A �
     (parts : List B)
     → ((n : ℕ) (a b : A) (p : B) → R n a p → S n a b → T n b p) → EachFrom R k olds parts → EachFrom S k olds news → EachFrom T k news parts
 each_made R S T k olds news parts h r s =
-    each_on (λ n b a. S n a b) R T k news olds parts (λ n b a p q t. h n a b p t q) (each_flip S k olds news s) r
+    each_on _ R T k news olds parts (λ n b a p q t. h n a b p t q) (each_flip S k olds news s) r
 
 -- a groupby with its part of the plan
 pub record HasPart (plan : PlanParts) (switches n : ℕ) (group : GroupView) : Type 0 where
@@ -56,26 +55,26 @@ pub record HasPart (plan : PlanParts) (switches n : ℕ) (group : GroupView) : T
 pub group_at : (plan : PlanParts) (switches n : ℕ) (groups : List GroupView) (group : GroupView) → AreGroups plan switches groups
     → slice_get groups n ≡ Some group → (part : GroupPlan) × (slice_get plan.groups n ≡ Some part) × IsGroup switches part (wiring_at plan n) group
 group_at plan switches n groups group are here =
-    let found = each_at (λ k g part. IsGroup switches part (wiring_at plan k) g) 0 n groups plan.groups group are here in
+    let found = each_at _ 0 n groups plan.groups group are here in
     (found.0, found.1, found.2 n (omega arith))
 
 pub part_of : (plan : PlanParts) (switches n : ℕ) (groups : List GroupView) (group : GroupView) → IsSoundPlan plan
     → AreGroups plan switches groups → slice_get groups n ≡ Some group
     → HasPart plan switches n group
 part_of plan switches n groups group sound are here =
-    let found = group_at plan switches n groups group are here in
+    let found = group_at plan switches n groups _ are here in
     let own = found.2 in
     let wired = group_sound plan n found.0 sound found.1 in
-    let good : IsSoundGroup (FIELDS + length plan.ops) found.0 (wiring_at plan n) =
+    let good =
     subst (IsSoundGroup (FIELDS + length plan.ops) found.0) (sym wired.1) wired.2 in
     record {
       part = found.0;
       there = found.1;
-      within = got_below plan.groups n found.0 found.1;
+      within = got_below plan.groups n _ found.1;
       is = own;
       registers = FIELDS + length plan.ops;
       sound = good;
-      keys = own.keys ∙ sym good.keys;
+      keys = rw (own.keys, good.keys);
       few_keys = let a = good.keys in let b = good.most_keys in omega arith;
       few_args = good.most_args;
     }
@@ -85,26 +84,22 @@ pub still_group : (switches : ℕ) (part : GroupPlan) (plan : PlanParts) (n : �
     → IsGroup switches part (wiring_at plan n) old → IsGroup switches part (wiring_at plan n) new
 still_group switches part plan n old new kept is = record {
   keys = kept.store.key_words ∙ is.keys;
-  states = kept.store.state_words ∙ (is.states ∙ ap (λ k. (ghosts.sizes k).state) (sym kept.kind));
-  class = ap (λ k. (ghosts.folding k).row_per_epoch) kept.kind ∙ is.class;
-  kind = λ f program. subst (λ k. IsKindOf f (ghosts.sizes k) (ghosts.folding k) (ghosts.open_bound k) (ghosts.absorb_bound k))
-      (sym kept.kind) (is.kind f program);
+  states = rw (kept.store.state_words, is.states, kept.kind);
+  class = rw (kept.kind, is.class);
+  kind = λ f program. rw kept.kind (is.kind f program);
   kinds = λ s front e.
-      let was = each_back (λ n. FrontKept) 0 old.fronts new.fronts s front kept.fronts e in
-      subst (IsKindOfProgram part.program) (sym (was.2 s (omega arith)).kind) (is.kinds s was.0 was.1);
+      let was = each_back _ 0 old.fronts new.fronts s _ kept.fronts e in
+      rw (← sym (was.2 s (omega arith)).kind) (is.kinds s was.0 was.1);
   count = sym (each_long _ 0 old.fronts new.fronts kept.fronts) ∙ is.count;
-  shares = subst (λ k. AllShare ghosts.sizes ghosts.folding (ghosts.folding k) (length (wiring_at plan n).args) new.fronts new.store)
-      (sym kept.kind)
-      (still_share ghosts.sizes ghosts.folding (folding_in old) (length (wiring_at plan n).args) old.fronts new.fronts old.store new.store
-      kept.fronts kept.store is.shares);
+  shares = rw kept.kind (still_share ghosts.sizes ghosts.folding (folding_in old) (length (wiring_at plan n).args) old.fronts new.fronts old.store new.store kept.fronts kept.store is.shares);
 }
 
 pub still_groups : (switches : ℕ) (plan : PlanParts) (olds news : List GroupView) → Each GroupKept olds news → AreGroups plan switches olds
     → AreGroups plan switches news
 still_groups switches plan olds news kept is =
-    each_made (λ n group part. IsGroup switches part (wiring_at plan n) group) (λ n. GroupKept)
-    (λ n group part. IsGroup switches part (wiring_at plan n) group) 0 olds news plan.groups
-    (λ n a b p r s. still_group switches p plan n a b s r) is kept
+    each_made _ _
+    _ 0 olds news plan.groups
+    (λ n a b p r s. still_group _ p plan n a b s r) is kept
 
 -- tables in sequence
 
@@ -117,9 +112,9 @@ tables_next_at [] groups epochs i part group es a b e = cc
 tables_next_at (p ∷ parts) [] epochs i part group es a b e = cc
 tables_next_at (p ∷ parts) (g ∷ groups) [] i part group es a b e = cc
 tables_next_at (p ∷ parts) (g ∷ groups) (n ∷ epochs) zero part group es a b e =
-    let x : p ≡ part = cc in let y : g ≡ group = cc in let z : n ≡ es = cc in rw (x, y, z) refl
+    let x : p ≡ part = cc in let y : g ≡ group = cc in let z : n ≡ es = cc in rw (x, y, z)
 tables_next_at (p ∷ parts) (g ∷ groups) (n ∷ epochs) (suc i) part group es a b e =
-    ap (λ ts. closed_table (heading_of p) (folding_in g) n ∷ ts) (tables_next_at parts groups epochs i part group es a b e)
+    rw (tables_next_at parts groups epochs i part group es a b e)
 
 pub tables_next : (parts : List GroupPlan) (groups : List GroupView) (epochs : List (List Epoch)) (i : ℕ) (part : GroupPlan)
     (group : GroupView) (es : List Epoch)
@@ -128,19 +123,18 @@ pub tables_next : (parts : List GroupPlan) (groups : List GroupView) (epochs : L
     ++ closed_table (heading_of part) (folding_in group) es ∷ []
 tables_next parts groups epochs i part group es a b e =
     ap (λ n. take n (shared_tables parts groups epochs)) (let q : i + 1 ≡ suc i = omega arith in q)
-    ∙ tables_next_at parts groups epochs i part group es a b e
+    ∙ tables_next_at parts groups epochs i _ _ es a b e
 
 pub tables_whole : (parts : List GroupPlan) (groups : List GroupView) (epochs : List (List Epoch)) (i : ℕ) → length groups ≤ i
     → take i (shared_tables parts groups epochs) ≡ shared_tables parts groups epochs
-tables_whole [] groups epochs zero h = refl
-tables_whole [] groups epochs (suc i) h = refl
-tables_whole (p ∷ parts) [] epochs zero h = refl
-tables_whole (p ∷ parts) [] epochs (suc i) h = refl
-tables_whole (p ∷ parts) (g ∷ groups) [] zero h = refl
-tables_whole (p ∷ parts) (g ∷ groups) [] (suc i) h = refl
+tables_whole [] _ _ zero h = refl
+tables_whole [] _ _ (suc i) h = refl
+tables_whole (p ∷ _) [] _ zero h = refl
+tables_whole (p ∷ _) [] _ (suc i) h = refl
+tables_whole (p ∷ _) (g ∷ _) [] zero h = refl
+tables_whole (p ∷ _) (g ∷ _) [] (suc i) h = refl
 tables_whole (p ∷ parts) (g ∷ groups) (n ∷ epochs) zero h = absurd (omega arith)
-tables_whole (p ∷ parts) (g ∷ groups) (n ∷ epochs) (suc i) h = ap (λ ts. closed_table (heading_of p) (folding_in g) n ∷ ts)
-    (tables_whole parts groups epochs i (omega arith))
+tables_whole (p ∷ parts) (g ∷ groups) (n ∷ epochs) (suc i) h = rw (tables_whole parts groups epochs i (omega arith))
 
 -- a groupby has a front more
 abbrev pub Grown : PlanParts → ℕ → GroupView → GroupView → Type 0
@@ -177,22 +171,22 @@ module _ (view : GroupView) (part : GroupPlan) (wiring : GroupWiring) (registers
   alike = ∥∥₁_elim program (hlevel props) (λ h.
       let a = of_kind h.0 h.1 in
       let b = is.kind h.0 h.1 in
-      record { row_per_epoch = a.row_per_epoch ∙ sym b.row_per_epoch; states = λ rows. a.folded rows ∙ sym (b.folded rows) })
+      record { row_per_epoch = rw (a.row_per_epoch, b.row_per_epoch); states = λ rows. rw (a.folded rows, b.folded rows) })
 
   states : view.store.state_words ≡ (ghosts.sizes kind).state
-  states = ∥∥₁_elim program (hlevel props) (λ h. is.states ∙ ((is.kind h.0 h.1).state ∙ sym (of_kind h.0 h.1).state))
+  states = ∥∥₁_elim program (hlevel props) (λ h. rw (is.states, (is.kind h.0 h.1).state, sym (of_kind h.0 h.1).state))
 
   args : (ghosts.sizes kind).args ≡ length wiring.args
   args = ∥∥₁_elim program (hlevel props) (λ h. (of_kind h.0 h.1).args ∙ (sym h.1.layout.args ∙ sym sound.args))
 
   new_share : MayShare ghosts.sizes ghosts.folding (folding_in view) (length wiring.args) view.store adds.front
   new_share = record {
-    alike = subst (λ k. AreAlike (ghosts.folding k) (folding_in view)) (sym adds.has_kind) alike;
+    alike = rw adds.has_kind alike;
     fits = record {
       key = is.keys ∙ (sym words ∙ sym adds.has_key_words);
-      state = states ∙ ap (λ k. (ghosts.sizes k).state) (sym adds.has_kind);
+      state = rw (states, adds.has_kind);
     };
-    args = ap (λ k. (ghosts.sizes k).args) adds.has_kind ∙ args;
+    args = rw (adds.has_kind, args);
   }
 
   pub grown_group : IsGroup (switches + 1) part wiring (record { kind = view.kind; fronts = news; store = view.store })
@@ -203,37 +197,36 @@ module _ (view : GroupView) (part : GroupPlan) (wiring : GroupWiring) (registers
     kind = is.kind;
     kinds = λ s front e. elim (got_push view.fronts adds.front front s (ap (λ xs. slice_get xs s) (sym adds.added) ∙ e)) [
       | inl there ↦ is.kinds s front there
-      | inr new ↦ subst (λ (x : FrontOf AnyEpochs). IsKindOfProgram part.program x.kind) new.1
-          (subst (IsKindOfProgram part.program) (sym adds.has_kind) of_kind)
+      | inr new ↦ rw (← new.1, adds.has_kind) of_kind
     ];
-    count = ap length adds.added ∙ (length-append view.fronts (adds.front ∷ []) ∙ ap (λ n. n + 1) is.count);
+    count = rw (adds.added, length-append view.fronts (adds.front ∷ []), is.count);
     shares = λ s front e. elim (got_push view.fronts adds.front front s (ap (λ xs. slice_get xs s) (sym adds.added) ∙ e)) [
       | inl there ↦ is.shares s front there
-      | inr new ↦ subst (MayShare ghosts.sizes ghosts.folding (folding_in view) (length wiring.args) view.store) new.1 new_share
+      | inr new ↦ rw (← new.1) new_share
     ];
   }
 
 pub others_push : (view : GroupView) (news : List (FrontOf AnyEpochs)) (new : FrontOf AnyEpochs) → news ≡ view.fronts ++ new ∷ []
     → with_first (length view.fronts) (record view { fronts = news }) ≡ view
-others_push view news new added =
-    ap (λ xs. record view { fronts = xs }) (ap (take (length view.fronts)) added ∙ take-append_seam view.fronts (new ∷ []))
+others_push view _ new added =
+    rw (added, take-append_seam view.fronts (new ∷ []))
 
 -- a groupby with all its fronts
 pub all_first : (group : GroupView) → with_first (length group.fronts) group ≡ group
-all_first group = ap (λ xs. record group { fronts = xs }) (take-length group.fronts)
+all_first group = rw (take-length group.fronts)
 
 -- the groupbys so far have their fronts and perhaps one more, and the others are unchanged
 pub others_so_far : (i k : ℕ) (olds news : List GroupView) → EachFrom (λ n (a b : GroupView). n < i → with_first (length a.fronts) b ≡ a) k
     olds news
     → EachFrom (λ n (a b : GroupView). i ≤ n → b ≡ a) k olds news → EachFrom (λ n (a b : GroupView). with_first (length a.fronts) b ≡ a) k
     olds news
-others_so_far i k [] [] done same = tt
-others_so_far i k [] (b ∷ news) done same = absurd done
-others_so_far i k (a ∷ olds) [] done same = absurd done
+others_so_far i k [] [] _ _ = tt
+others_so_far i k [] (b ∷ _) done _ = absurd done
+others_so_far i k (a ∷ _) [] done _ = absurd done
 others_so_far i k (a ∷ olds) (b ∷ news) done same = (
   by_test (nat_lt k i)
       (λ t. done.0 (let l : k < i = grind (arith, nat_tests) in l))
-      (λ t. ap (with_first (length a.fronts)) (same.0 (let l : i ≤ k = grind (arith, nat_tests) in l)) ∙ all_first a),
+      (λ t. rw (same.0 (let l : i ≤ k = grind (arith, nat_tests) in l), all_first a)),
   others_so_far i (suc k) olds news done.1 same.1,
 )
 
@@ -242,15 +235,15 @@ pub kept_back : (plan : PlanParts) (switches k : ℕ) (olds mids news : List Gro
     → EachFrom (λ n group part. IsGroup switches part (wiring_at plan n) group) k olds parts
     → EachFrom (λ n (a b : GroupView). with_first (length a.fronts) b ≡ a) k olds mids
     → EachFrom (λ n (a b : GroupView). b ≡ with_first switches a) k mids news → news ≡ olds
-kept_back plan switches k [] [] [] parts are others kept = refl
-kept_back plan switches k [] [] (c ∷ news) parts are others kept = absurd kept
-kept_back plan switches k [] (b ∷ mids) news parts are others kept = absurd others
-kept_back plan switches k (a ∷ olds) [] news parts are others kept = absurd others
-kept_back plan switches k (a ∷ olds) (b ∷ mids) [] parts are others kept = absurd kept
-kept_back plan switches k (a ∷ olds) (b ∷ mids) (c ∷ news) [] are others kept = absurd are
+kept_back _ _ k [] [] [] _ _ _ _ = refl
+kept_back _ _ k [] [] (c ∷ _) _ _ _ kept = absurd kept
+kept_back _ _ k [] (b ∷ _) _ _ _ others _ = absurd others
+kept_back _ _ k (a ∷ _) [] _ _ _ others _ = absurd others
+kept_back _ _ k (a ∷ _) (b ∷ _) [] _ _ _ kept = absurd kept
+kept_back _ _ k (a ∷ _) (b ∷ _) (c ∷ _) [] are _ _ = absurd are
 kept_back plan switches k (a ∷ olds) (b ∷ mids) (c ∷ news) (p ∷ parts) are others kept =
-    let first : c ≡ a = kept.0 ∙ (ap (λ n. with_first n b) (sym are.0.count) ∙ others.0) in
-    ap (λ x. x ∷ news) first ∙ ap (λ xs. a ∷ xs) (kept_back plan switches (suc k) olds mids news parts are.1 others.1 kept.1)
+    let first = kept.0 ∙ (ap (λ n. with_first n b) (sym are.0.count) ∙ others.0) in
+    rw (first, kept_back plan switches (suc k) olds mids news parts are.1 others.1 kept.1)
 
 -- What each front of each groupby has of something, as the width of its cache or the places of its pipe, is kept.
 module _ (of : FrontOf AnyEpochs → ℕ) (many : ℕ) where
@@ -263,22 +256,22 @@ module _ (of : FrontOf AnyEpochs → ℕ) (many : ℕ) where
   pub have_kept : (olds news : List GroupView) → ((a b : FrontOf AnyEpochs) → FrontKept a b → of b ≡ of a) → Each GroupKept olds news
       → AllHave olds → AllHave news
   have_kept olds news same kept have n now e s front f =
-      let group = each_back (λ k. GroupKept) 0 olds news n now kept e in
-      let was = each_back (λ k. FrontKept) 0 group.0.fronts now.fronts s front (group.2 n (omega arith)).fronts f in
+      let group = each_back _ 0 olds news n _ kept e in
+      let was = each_back _ 0 group.0.fronts now.fronts s _ (group.2 n (omega arith)).fronts f in
       same was.0 front (was.2 s (omega arith)) ∙ have n group.0 group.1 s was.0 was.1
 
   pub have_grown : (ways buckets places : ℕ) (olds news : List GroupView)
       → ((a b : GroupView) → GroupGrows ways buckets places a b → Have a → Have b) → Each (GroupGrows ways buckets places) olds news
       → AllHave olds → AllHave news
   have_grown ways buckets places olds news grows grown have n now e =
-      let group = each_back (λ k. GroupGrows ways buckets places) 0 olds news n now grown e in
+      let group = each_back _ 0 olds news n _ grown e in
       grows group.0 now (group.2 n (omega arith)) (have n group.0 group.1)
 
   -- without a switch there is no front
   pub have_start : (plan : PlanParts) (groups : List GroupView) → AreGroups plan 0 groups → AllHave groups
   have_start plan groups are n group e s front f =
-      let none = (group_at plan 0 n groups group are e).2.count in
-      let some = got_below group.fronts s front f in
+      let none = (group_at plan 0 n groups _ are e).2.count in
+      let some = got_below group.fronts s _ f in
       absurd (omega arith)
 
   pub have_push : (fronts news : List (FrontOf AnyEpochs)) (new : FrontOf AnyEpochs) (kind : AnyEpochs) (store : Store)

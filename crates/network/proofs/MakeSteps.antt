@@ -1,6 +1,6 @@
 -- What an event of one switch makes of a groupby, and of all groupbys side by side.
-use Rattle.std.proofs.Common.{◌≡◌, ℕ, zero, suc, ◌<◌, ◌≤◌, ◌==◌, nat_lt, true, false, List, [], ◌∷◌, length, replicate, get_or}
-use Rattle.std.proofs.Common.{set, Option, Some, None, Result, Ok, Err, OnOk, OnErr, refl, sym, ap, subst, ◌∙◌, arith, append-nil}
+use Rattle.std.proofs.Common.{◌≡◌, ℕ, zero, suc, ◌<◌, ◌==◌, true, false, List, [], ◌∷◌, length, replicate, get_or, set, Option, Some, None}
+use Rattle.std.proofs.Common.{Result, Ok, Err, OnOk, OnErr, refl, sym, ap, subst, ◌∙◌, arith, append-nil}
 use Rattle.std.specs.Prelude.{slice_get}
 use Rattle.std.proofs.lemmas.Bool.{lt-ltb}
 use Rattle.std.proofs.lemmas.Bool.Decides.{nat_tests}
@@ -9,7 +9,6 @@ use Rattle.epoch_model.specs.Driving.{Taken, event_of}
 use Rattle.backing_store.specs.Store.{Store}
 use Rattle.epoch_entry.specs.declared.any.AnyEpochs.{AnyEpochs}
 use Rattle.epoch_entry.specs.contracts.any.AnyEpochsEpochKind.TheImpl.{ghosts}
-use Rattle.backing_store.specs.Merged.{StoreHolds}
 use Rattle.final_queries.specs.FinalLaws.{AreAlike}
 use Rattle.stage_plan.specs.Planned.{wiring_at}
 use Rattle.stage_plan.specs.Sound.{PlanParts}
@@ -22,10 +21,9 @@ use Rattle.switch_core.specs.Upkeeps.{IsKept, upkeep_events}
 use Rattle.switch_core.specs.declared.upkeep.Upkeep.{Upkeep}
 use Rattle.switch_core.specs.declared.upkeep.Upkeep.TheVariants as due
 use Rattle.switch_core.proofs.LaneFacts.{got_set, set_same}
-use Rattle.switch_core.proofs.SideBySide.{each_at, each_map, each_set, got_below, got_here, same_some, untouched_start}
-use Rattle.additive_laws.specs.Network.{all_epochs}
+use Rattle.switch_core.proofs.SideBySide.{each_map, each_set, got_below, got_here, same_some, untouched_start}
 use Rattle.network.specs.Shared.{AllShare, FrontKept}
-use Rattle.network.specs.Groups.{AreGroups, GroupKept, GroupView, IsGroup, folding_in, group_is_drained}
+use Rattle.network.specs.Groups.{AreGroups, GroupKept, GroupView, folding_in, group_is_drained}
 use Rattle.network.specs.Events.{AreAllMerged, GroupBreaksOff, GroupMakes, GroupMakesAll, GroupsMake, IsLeft, LaneCarries, LeavesCache}
 use Rattle.network.specs.Events.{OthersStay, StaysBut, StoresStay, has_room, is_ready_at, with_lane}
 use Rattle.network.proofs.GroupSteps.{group_at}
@@ -40,13 +38,13 @@ group_same a = record { kind = refl; fronts = fronts_same 0 a.fronts; store = re
 group_on : (a b c : GroupView) → GroupKept a b → GroupKept b c → GroupKept a c
 group_on a b c one two = record {
   kind = two.kind ∙ one.kind;
-  fronts = each_on (λ n. FrontKept) (λ n. FrontKept) (λ n. FrontKept) 0 a.fronts b.fronts c.fronts (λ n x y z. kept_on x y z) one.fronts
+  fronts = each_on _ _ _ 0 a.fronts b.fronts c.fronts (λ n x y z. kept_on x y z) one.fronts
       two.fronts;
-  store = store_on a.store b.store c.store one.store two.store;
+  store = store_on _ _ _ one.store two.store;
 }
 
 one_made : (ways at : ℕ) (event : Event) (old new : GroupView) → GroupMakes ways at event old new → GroupKept old new
-one_made ways at event old new m =
+one_made _ at _ old _ m =
     let size = m.carries.sizes in
     let kept : FrontKept m.was (front_of m.now.kind m.now.cache m.now.pipe) = record {
       kind = size.kind;
@@ -55,25 +53,21 @@ one_made ways at event old new m =
       entry_words = size.entry_words;
       places = size.places;
     } in
-    subst (GroupKept old) (sym m.made) (record {
-      kind = refl;
-      fronts = one_kept 0 at old.fronts m.was (front_of m.now.kind m.now.cache m.now.pipe) m.here kept;
-      store = record { key_words = size.stored_key_words; state_words = size.state_words };
-    })
+    rw m.made (record { kind = refl; fronts = one_kept 0 at old.fronts m.was (front_of m.now.kind m.now.cache m.now.pipe) m.here kept; store = record { key_words = size.stored_key_words; state_words = size.state_words } })
 
 pub makes_kept : (ways at : ℕ) (events : List Event) (old new : GroupView) → GroupMakesAll ways at events old new → GroupKept old new
-makes_kept ways at [] old new same = subst (GroupKept old) (sym same) (group_same old)
+makes_kept _ at [] old _ same = rw same (group_same old)
 makes_kept ways at (event ∷ events) old new made =
-    group_on old made.0 new (one_made ways at event old made.0 made.1) (makes_kept ways at events made.0 new made.2)
+    group_on _ _ _ (one_made ways at event old made.0 made.1) (makes_kept ways at events made.0 new made.2)
 
 pub groups_kept : (ways at : ℕ) (events : ℕ → List Event) (olds news : List GroupView) → GroupsMake ways at events olds news
     → Each GroupKept olds news
 groups_kept ways at events olds news made =
-    each_map (λ n. GroupMakesAll ways at (events n)) (λ n. GroupKept) 0 olds news (λ j n a b q e f r. makes_kept ways at (events n) a b r)
+    each_map _ _ 0 olds news (λ j n a b q e f r. makes_kept ways at (events n) a b r)
     made
 
 pub kept_after : (olds mids news : List GroupView) → Each GroupKept olds mids → Each GroupKept mids news → Each GroupKept olds news
-kept_after olds mids news one two = each_on (λ n. GroupKept) (λ n. GroupKept) (λ n. GroupKept) 0 olds mids news (λ n a b c. group_on a b c)
+kept_after olds mids news one two = each_on _ _ _ 0 olds mids news (λ n a b c. group_on a b c)
     one two
 
 pub none_kept : (k : ℕ) (groups : List GroupView) → EachFrom (λ n. GroupKept) k groups groups
@@ -83,8 +77,8 @@ none_kept k (x ∷ groups) = (group_same x, none_kept (suc k) groups)
 -- the other switches' fronts
 
 stays_but : (ways at : ℕ) (events : List Event) (old new : GroupView) → GroupMakesAll ways at events old new → StaysBut at old new
-stays_but ways at [] old new same other apart = ap (λ v. slice_get v.fronts other) same
-stays_but ways at (event ∷ events) old new made other apart =
+stays_but _ at [] _ _ same other _ = rw same
+stays_but ways at (_ ∷ events) old new made other apart =
     let m = made.1 in
     stays_but ways at events made.0 new made.2 other apart
     ∙ (ap (λ (v : GroupView). slice_get v.fronts other) m.made
@@ -93,7 +87,7 @@ stays_but ways at (event ∷ events) old new made other apart =
 pub others_stay : (ways at : ℕ) (events : ℕ → List Event) (olds news : List GroupView) → GroupsMake ways at events olds news
     → OthersStay at olds news
 others_stay ways at events olds news made =
-    each_map (λ n. GroupMakesAll ways at (events n)) (λ n. StaysBut at) 0 olds news (λ j n a b q e f r. stays_but ways at (events n) a b r)
+    each_map _ _ 0 olds news (λ j n a b q e f r. stays_but ways at (events n) a b r)
     made
 
 pub none_changes : (at k : ℕ) (groups : List GroupView) → EachFrom (λ n. StaysBut at) k groups groups
@@ -134,15 +128,14 @@ module _ (ways at : ℕ) where
     stands = λ buckets events merged s. record {
       fronts = fronts_next ghosts.stands ghosts.folding ways buckets at (Evict bucket) group.fronts was group.store now here made events
           merged s.fronts;
-      store = subst (λ ms. StoreHolds (folding_in group) now.store (all_epochs ms)) (sym (append-nil merged))
-          (subst (λ x. StoreHolds (folding_in group) x (all_epochs merged)) (sym made.leaves.store) s.store);
+      store = rw (append-nil merged, made.leaves.store) s.store;
     };
   }
 
   pub all_made : (events : List Event) (group : GroupView) (was : FrontOf AnyEpochs) (new : LaneView)
       → slice_get group.fronts at ≡ Some was → AreAlike (ghosts.folding was.kind) (folding_in group)
       → LaneCarries ways events (with_store was group.store) new → GroupMakesAll ways at events group (with_lane at new group)
-  all_made [] group was new here alike same =
+  all_made [] group was _ here _ same =
       ap (λ (lane : LaneView). with_lane at lane group) same ∙ ap (λ xs. record group { fronts = xs }) (set_same group.fronts at was here)
   all_made (event ∷ events) group was new here alike made =
       let lane = made.0 in
@@ -164,20 +157,20 @@ module _ (ways at : ℕ) where
       → slice_get group.fronts at ≡ Some was → AreAlike (ghosts.folding was.kind) (folding_in group)
       → CarriesFirst ghosts.stands ghosts.folding ways events (with_store was group.store) new
       → GroupBreaksOff ways at events group (with_lane at new group)
-  first_made events group was new here alike broke = (broke.0, broke.1, all_made broke.0 group was new here alike broke.2)
+  first_made _ group was new here alike broke = (broke.0, broke.1, all_made broke.0 group was new here alike broke.2)
 
 -- the front that is found at a place is there
 pub front_there : (view old : GroupView) (at : ℕ) (front : FrontOf AnyEpochs) → view ≡ old → at < length old.fronts
     → front ≡ get_or view.fronts at front → slice_get view.fronts at ≡ Some front
-front_there view old at front same within value =
-    got_here view.fronts at front (subst (λ (v : GroupView). at < length v.fronts) (sym same) within)
+front_there view _ at front same within value =
+    got_here view.fronts at front (rw same within)
     ∙ ap (λ (x : FrontOf AnyEpochs). Some x) (sym value)
 
 -- a front and a store that are as they were
 pub same_lane : (at : ℕ) (view : GroupView) (front new : FrontOf AnyEpochs) (store : Store) → slice_get view.fronts at ≡ Some front
     → new ≡ front → store ≡ view.store
     → with_lane at (with_store new store) view ≡ view
-same_lane at view front new store here same held =
+same_lane at view front _ store here same held =
     ap (λ x. with_lane at (with_store x store) view) same
     ∙ (ap (λ x. with_lane at (with_store front x) view) held ∙ ap (λ xs. record view { fronts = xs }) (set_same view.fronts at front here))
 
@@ -185,24 +178,24 @@ same_lane at view front new store here same held =
 pub left_by : (ways : ℕ) (upkeep : Upkeep) (was : FrontOf AnyEpochs) (store : Store) (now : LaneView)
     → LaneCarries ways (upkeep_events upkeep was.cache was.pipe) (with_store was store) now
     → IsKept upkeep now.cache now.pipe → IsKept upkeep now.cache now.pipe × LeavesCache upkeep was.cache now.cache
-left_by ways due.Room was store now made kept = (kept, tt)
-left_by ways due.Lag was store now made kept = (kept, tt)
-left_by ways due.Sweep was store now made kept = (kept, tt)
+left_by _ due.Room _ _ _ _ kept = (kept, tt)
+left_by _ due.Lag _ _ _ _ kept = (kept, tt)
+left_by _ due.Sweep _ _ _ _ kept = (kept, tt)
 left_by ways due.Rest was store now made kept = (kept, merged (suc (length was.pipe.records)) (with_store was store) now made)
   where
     merged : (n : ℕ) (a b : LaneView) → LaneCarries ways (replicate n Merge) a b → b.cache ≡ a.cache
-    merged zero a b same = ap (λ (x : LaneView). x.cache) same
+    merged zero a b same = rw same
     merged (suc n) a b m = merged n m.0 b m.2 ∙ m.1.leaves.cache
 
 pub left_here : (upkeep : Upkeep) (o n : Option (FrontOf AnyEpochs)) (was now : FrontOf AnyEpochs) → o ≡ Some was → n ≡ Some now
     → IsLeft upkeep (Some was) (Some now) → IsLeft upkeep o n
-left_here upkeep o n was now e f left = subst (λ x. IsLeft upkeep x n) (sym e) (subst (IsLeft upkeep (Some was)) (sym f) left)
+left_here upkeep o n was _ e f left = rw (e, f) left
 
 -- a store that no event changes
 pub store_kept : (ways : ℕ) (taken : Option Taken) (was : FrontOf AnyEpochs) (store : Store) (now : LaneView)
     → LaneCarries ways (event_of taken) (with_store was store) now → now.store ≡ store
-store_kept ways None was store now same = ap (λ (x : LaneView). x.store) same
-store_kept ways (Some t) was store now made = ap (λ (x : LaneView). x.store) made.2 ∙ made.1.leaves
+store_kept _ None _ _ _ same = rw same
+store_kept _ (Some t) _ _ _ made = rw (made.2, made.1.leaves)
 
 -- one groupby alone makes an event
 
@@ -210,21 +203,21 @@ pub make_one : (ways at lane : ℕ) (event : Event) (groups : List GroupView) (g
     → GroupMakes ways at event group new
     → GroupsMake ways at (event_at lane event) groups (set groups lane new)
 make_one ways at lane event groups group new here made =
-    each_set (λ n a b. 0 ≤ n → b ≡ a) (λ n. GroupMakesAll ways at (event_at lane event n)) 0 lane groups groups new
+    each_set _ _ 0 lane groups groups new
     (λ j n a b q apart r.
     let other : (n == lane) ≡ false = let d : n ≡ lane → ⊥ = λ z. apart (omega arith) in grind (arith, nat_tests) in
-    subst (λ x. GroupMakesAll ways at (event_at lane event n) a x) (sym (r (omega arith))) (rw other refl))
+    rw (r (omega arith)) (rw other refl))
     (λ n x q e.
     let same : (n == lane) ≡ true = grind (arith, nat_tests) in
-    rw same (subst (λ v. GroupMakesAll ways at (event ∷ []) v new) (same_some group x (sym here ∙ e)) (new, made, refl)))
+    rw same (rw (← same_some group x (sym here ∙ e)) (new, made, refl)))
     (untouched_start 0 0 groups)
 
 pub stores_one : (lane : ℕ) (groups : List GroupView) (group new : GroupView) → slice_get groups lane ≡ Some group → new.store ≡ group.store
     → StoresStay groups (set groups lane new)
 stores_one lane groups group new here same =
-    each_set (λ n a b. 0 ≤ n → b ≡ a) (λ n (a b : GroupView). b.store ≡ a.store) 0 lane groups groups new
-    (λ j n a b q apart r. ap (λ v. v.store) (r (omega arith)))
-    (λ n x q e. same ∙ ap (λ v. v.store) (same_some group x (sym here ∙ e)))
+    each_set _ _ 0 lane groups groups new
+    (λ j n a b q apart r. rw (r (omega arith)))
+    (λ n x q e. rw (same, same_some group x (sym here ∙ e)))
     (untouched_start 0 0 groups)
 
 -- whether a pipe has room, as a fact and as a test
@@ -232,12 +225,12 @@ stores_one lane groups group new here same =
 pub room_at : (at : ℕ) (group : GroupView) (front : FrontOf AnyEpochs) → is_ready_at at group ≡ true
     → slice_get group.fronts at ≡ Some front → length front.pipe.records < front.pipe.places
 room_at at group front ready e =
-    let test : nat_lt (length front.pipe.records) front.pipe.places ≡ true = sym (ap has_room e) ∙ ready in
+    let test = sym (ap has_room e) ∙ ready in
     grind (arith, nat_tests)
 
 pub ready_at : (at : ℕ) (group : GroupView) (front : FrontOf AnyEpochs) → slice_get group.fronts at ≡ Some front
     → length front.pipe.records < front.pipe.places → is_ready_at at group ≡ true
-ready_at at group front here room = ap has_room here ∙ lt-ltb (length front.pipe.records) front.pipe.places room
+ready_at at _ front here room = rw (here, lt-ltb (length front.pipe.records) front.pipe.places room)
 
 -- what holds anyway holds after a refusal too
 pub if_err : {X E : Type 0} (P : Type 0) (r : Result X E) → P → OnErr r P
@@ -257,11 +250,11 @@ pub switch_within : (plan : PlanParts) (switches at n : ℕ) (groups : List Grou
     → AreGroups plan switches groups → slice_get groups n ≡ Some group
     → at < length group.fronts
 switch_within plan switches at n groups group within are here =
-    let many = (group_at plan switches n groups group are here).2.count in
+    let many = (group_at plan switches n groups _ are here).2.count in
     omega arith
 
 -- and its fronts can share the store
 pub shares_at : (plan : PlanParts) (switches n : ℕ) (groups : List GroupView) (group : GroupView) → AreGroups plan switches groups
     → slice_get groups n ≡ Some group
     → AllShare ghosts.sizes ghosts.folding (folding_in group) (length (wiring_at plan n).args) group.fronts group.store
-shares_at plan switches n groups group are here = (group_at plan switches n groups group are here).2.shares
+shares_at plan switches n groups group are here = (group_at plan switches n groups _ are here).2.shares

@@ -24,14 +24,14 @@ with_groups net groups = net_of net.plan net.buckets net.pipe_records net.switch
 -- the groupby that is found at a place is there
 pub group_there : (view old : NetworkView) (lane : ℕ) (group : GroupView) → view ≡ old → lane < length old.groups
     → group ≡ get_or view.groups lane group → slice_get view.groups lane ≡ Some group
-group_there view old lane group same within value =
+group_there view _ lane group same within value =
     got_here view.groups lane group (subst (λ (v : NetworkView). lane < length v.groups) (sym same) within)
     ∙ ap (λ (x : GroupView). Some x) (sym value)
 
 -- A network whose groupbys kept kinds and sizes is one as before.
 pub kept_network : (ways : ℕ) (old : NetworkView) (news : List GroupView) → Each GroupKept old.groups news → IsNetwork ways old
     → IsNetwork ways (with_groups old news)
-kept_network ways old news kept is = record {
+kept_network _ old news kept is = record {
   few = is.few;
   groups = still_groups old.switches old.plan old.groups news kept is.groups;
   wide = have_kept (λ x. length x.cache.lists) old.buckets old.groups news (λ a b k. k.buckets) kept is.wide;
@@ -52,7 +52,7 @@ made_network ways at events old news made is = kept_network ways old news (group
 -- and one in which nothing happened
 pub same_network : (ways : ℕ) (old : NetworkView) (news : List GroupView) → news ≡ old.groups → IsNetwork ways old
     → IsNetwork ways (with_groups old news)
-same_network ways old news same is = subst (λ groups. IsNetwork ways (with_groups old groups)) (sym same) is
+same_network ways old _ same is = rw same is
 
 -- a network with a switch more
 pub grown_network : (ways : ℕ) (old : NetworkView) (news : List GroupView) → old.switches < 64 → AreGroups old.plan (old.switches + 1) news
@@ -83,5 +83,5 @@ grown_network ways old news few are grown is = record {
 pub ran_whole : (R : List GroupView → List GroupView → Type 0) (olds before news : List GroupView) (many : ℕ) → before ≡ olds
     → length news ≡ many → R before news
     → R olds (take many (news ++ drop (length news) olds))
-ran_whole R olds before news many was long ran =
-    subst (R olds) (sym (whole_written news (drop (length news) olds) many long)) (subst (λ xs. R xs news) was ran)
+ran_whole R olds _ news many was long ran =
+    rw (whole_written news (drop (length news) olds) many long, ← was) ran

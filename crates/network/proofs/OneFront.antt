@@ -39,7 +39,7 @@ module _ {view old : GroupView} {at : ℕ} {front : FrontOf AnyEpochs} (f : IsFr
   front_was = sym (ap (λ (v : GroupView). slice_get v.fronts at) f.same) ∙ f.here
 
   pub front_room : is_ready_at at old ≡ true → length front.pipe.records < front.pipe.places
-  front_room ready = room_at at view front (ap (is_ready_at at) f.same ∙ ready) f.here
+  front_room ready = room_at at view front (rw (f.same, ready)) f.here
 
   -- another one stands there
   pub front_now : (new : FrontOf AnyEpochs) → slice_get (set view.fronts at new) at ≡ Some new

@@ -1,5 +1,5 @@
 -- A groupby of a network that is another one now, and the network with it.
-use Rattle.std.proofs.Common.{◌≡◌, ℕ, ◌<◌, Some, length, get_or, set, refl, sym, ap, ◌∙◌, subst}
+use Rattle.std.proofs.Common.{◌≡◌, ℕ, ◌<◌, Some, length, get_or, set, refl, sym, ap, ◌∙◌}
 use Rattle.std.specs.Prelude.{slice_get}
 use Rattle.epoch_model.specs.Machine.{Event}
 use Rattle.epoch_entry.specs.declared.any.AnyEpochs.{AnyEpochs}
@@ -32,15 +32,15 @@ pub record IsLane (ways : ℕ) (view net : NetworkView) (lane : ℕ) (group : Gr
 pub lane_found : {ways : ℕ} {view net : NetworkView} {lane : ℕ} {group : GroupView} → IsNetwork ways view → view ≡ net
     → lane < length net.groups → group ≡ get_or view.groups lane group → IsLane ways view net lane group
 lane_found {ways} {view} {net} {lane} {group} network same within value =
-    record { network = network; same = same; here = group_there view net lane group same within value }
+    record { network = network; same = same; here = group_there _ _ lane _ same within value }
 
 module _ {ways : ℕ} {view net : NetworkView} {lane : ℕ} {group : GroupView} (l : IsLane ways view net lane group) where
   pub lane_switch : {at : ℕ} → at < net.switches → at < length group.fronts
   lane_switch {at} within = switch_within view.plan view.switches at lane view.groups group
-      (subst (λ (v : NetworkView). at < v.switches) (sym l.same) within) l.network.groups l.here
+      (rw l.same within) l.network.groups l.here
 
   pub lane_shares : (args : ℕ) × AllShare ghosts.sizes ghosts.folding (folding_in group) args group.fronts group.store
-  lane_shares = (length (wiring_at view.plan lane).args, shares_at view.plan view.switches lane view.groups group l.network.groups l.here)
+  lane_shares = (length (wiring_at view.plan lane).args, shares_at view.plan view.switches lane view.groups _ l.network.groups l.here)
 
   -- the groupby and the fronts that contracts speak of
   pub lane_is : {x : GroupView} → slice_get net.groups lane ≡ Some x → group ≡ x
@@ -48,7 +48,7 @@ module _ {ways : ℕ} {view net : NetworkView} {lane : ℕ} {group : GroupView} 
 
   pub lane_front : (at : ℕ) {x : GroupView} {front : FrontOf AnyEpochs} → slice_get net.groups lane ≡ Some x
       → slice_get x.fronts at ≡ Some front → slice_get group.fronts at ≡ Some front
-  lane_front at e f = ap (λ (v : GroupView). slice_get v.fronts at) (lane_is e) ∙ f
+  lane_front at e f = rw (lane_is e, f)
 
   pub front_was : (at : ℕ) → slice_get group.fronts at ≡ front_at net lane at
   front_was at = sym (front_here at lane view group l.here) ∙ ap (λ v. front_at v lane at) l.same
@@ -59,28 +59,26 @@ module _ {ways : ℕ} {view net : NetworkView} {lane : ℕ} {group : GroupView} 
     after = with_groups view (set view.groups lane new)
 
     pub lane_now : slice_get after.groups lane ≡ Some new
-    lane_now = got_set view.groups lane new (got_below view.groups lane group l.here)
+    lane_now = got_set view.groups lane new (got_below view.groups lane _ l.here)
 
     pub front_now : (at : ℕ) → slice_get new.fronts at ≡ front_at after lane at
     front_now at = sym (front_here at lane after new lane_now)
 
     as_before : new ≡ group → after.groups ≡ view.groups
-    as_before same = ap (set view.groups lane) same ∙ set_same view.groups lane group l.here
+    as_before same = rw (same, set_same view.groups lane group l.here)
 
     pub lane_kept : new ≡ group → after ≡ net
-    lane_kept same = ap (with_groups view) (as_before same) ∙ l.same
+    lane_kept same = rw (as_before same, l.same)
 
     pub kept_network : new ≡ group → IsNetwork ways after
-    kept_network same = same_network ways view after.groups (as_before same) l.network
+    kept_network same = same_network _ _ _ (as_before same) l.network
 
     pub kept_others : (at : ℕ) → new ≡ group → OthersStay at net.groups after.groups
-    kept_others at same = subst (λ (v : NetworkView). OthersStay at v.groups after.groups) l.same
-        (subst (OthersStay at view.groups) (sym (as_before same)) (none_changes at 0 view.groups))
+    kept_others at same = rw (← l.same, as_before same) (none_changes at 0 view.groups)
 
     pub event_made : (e : NetworkEvent) → GroupsMake ways (switch_of e) (gives view.plan e) view.groups after.groups
         → NetworkMakes ways e net after
-    event_made e made = subst (λ v. NetworkMakes ways e v after) l.same
-        (record { groups = made; switches = refl; keeps = record { plan = refl; buckets = refl; pipe_records = refl } })
+    event_made e made = rw (← l.same) (record { groups = made; switches = refl; keeps = record { plan = refl; buckets = refl; pipe_records = refl } })
 
     -- it made an event of a switch
     module _ (at : ℕ) (event : Event) (made : GroupMakes ways at event group new) where
@@ -91,5 +89,4 @@ module _ {ways : ℕ} {view net : NetworkView} {lane : ℕ} {group : GroupView} 
       network_made = made_network ways at (event_at lane event) view after.groups groups_made l.network
 
       pub others_made : OthersStay at net.groups after.groups
-      others_made = subst (λ (v : NetworkView). OthersStay at v.groups after.groups) l.same
-          (others_stay ways at (event_at lane event) view.groups after.groups groups_made)
+      others_made = rw (← l.same) (others_stay ways at (event_at lane event) view.groups after.groups groups_made)

@@ -6,7 +6,7 @@ use Rattle.stage_plan.specs.Sound.{PlanParts}
 use Rattle.additive_laws.specs.Network.{SwitchEvent}
 use Rattle.additive_laws.specs.Traces.{from_switch}
 use Rattle.net_wide.proofs.SameTexts.{at_place}
-use Rattle.network.specs.Groups.{GroupGrows, GroupStands, GroupView}
+use Rattle.network.specs.Groups.{GroupStands, GroupView}
 use Rattle.network.specs.Events.{GroupMakesAll}
 use Rattle.network.specs.Networks.{NetworkGrows, NetworkView}
 use Rattle.network.specs.Running.{NetworkEvent, NetworkMakes, NetworkStands, RunsFollowEvents, all_given, gives, merged_after, switch_of}
@@ -15,23 +15,19 @@ use Rattle.network.proofs.SharedSteps.{each_back}
 
 pub given_on : (plan : PlanParts) (n : ℕ) (xs ys : List NetworkEvent) → all_given plan n (xs ++ ys) ≡ all_given plan n xs
     ++ all_given plan n ys
-given_on plan n [] ys = refl
+given_on _ n [] _ = refl
 given_on plan n (e ∷ xs) ys =
     let first = from_switch (switch_of e) (gives plan e n) in
-    ap (λ es. first ++ es) (given_on plan n xs ys) ∙ sym (append_assoc first (all_given plan n xs) (all_given plan n ys))
+    rw (given_on plan n xs ys, append_assoc first (all_given plan n xs) (all_given plan n ys))
 
 merged_last : (ways buckets : ℕ) (before events : List SwitchEvent) (e : SwitchEvent)
     → merged_after ways buckets before (events ++ e ∷ []) ≡ merged_after ways buckets before events
     ++ merged_by ways buckets e.switch e.event (before ++ events)
 merged_last ways buckets before [] e =
-    append-nil (merged_by ways buckets e.switch e.event before) ∙ ap (merged_by ways buckets e.switch e.event) (sym (append-nil before))
+    rw (append-nil (merged_by ways buckets e.switch e.event before), append-nil before)
 merged_last ways buckets before (x ∷ events) e =
     let first = merged_by ways buckets x.switch x.event before in
-    ap (λ es. first ++ es) (merged_last ways buckets (before ++ x ∷ []) events e)
-    ∙ (ap (λ es. first ++ (merged_after ways buckets (before ++ x ∷ []) events ++ merged_by ways buckets e.switch e.event es))
-    (append_assoc before (x ∷ []) events)
-    ∙ sym (append_assoc first (merged_after ways buckets (before ++ x ∷ []) events)
-    (merged_by ways buckets e.switch e.event (before ++ x ∷ events))))
+    rw (merged_last ways buckets (before ++ x ∷ []) events e, append_assoc before (x ∷ []) events, append_assoc first (merged_after ways buckets (before ++ x ∷ []) events) (merged_by ways buckets e.switch e.event (before ++ x ∷ events)))
 
 -- the groupby represents what it is given, and its store holds what that merges
 abbrev Stands : ℕ → ℕ → GroupView → List SwitchEvent → Type 0
@@ -40,34 +36,29 @@ Stands ways buckets group given = GroupStands ways buckets group given (merged_a
 group_stands : (ways buckets at : ℕ) (events : List Event) (old new : GroupView) (before : List SwitchEvent)
     → GroupMakesAll ways at events old new → Stands ways buckets old before
     → Stands ways buckets new (before ++ from_switch at events)
-group_stands ways buckets at [] old new before same s =
-    subst (λ v. Stands ways buckets v (before ++ [])) (sym same) (subst (Stands ways buckets old) (sym (append-nil before)) s)
-group_stands ways buckets at (event ∷ events) old new before made s =
+group_stands ways buckets at [] old _ before same s =
+    rw (same, append-nil before) s
+group_stands ways buckets at (event ∷ events) _ new before made s =
     let e : SwitchEvent = record { switch = at; event = event } in
     let one = made.1.stands buckets before (merged_after ways buckets [] before) s in
     let next = subst (GroupStands ways buckets made.0 (with_event before at event)) (sym (merged_last ways buckets [] before e)) one in
-    subst (Stands ways buckets new) (append_assoc before (e ∷ []) (from_switch at events))
-    (group_stands ways buckets at events made.0 new (with_event before at event) made.2 next)
+    rw (← append_assoc before (e ∷ []) (from_switch at events)) (group_stands ways buckets at events made.0 new (with_event before at event) made.2 next)
 
 makes_stand : (ways : ℕ) (e : NetworkEvent) (a b : NetworkView) (events : List NetworkEvent) → NetworkMakes ways e a b
     → NetworkStands ways a events → NetworkStands ways b (events ++ e ∷ [])
 makes_stand ways e a b events made stand n group here =
-    let back = each_back (λ k. GroupMakesAll ways (switch_of e) (gives a.plan e k)) 0 a.groups b.groups n group made.groups here in
+    let back = each_back _ 0 a.groups b.groups n _ made.groups here in
     let on = group_stands ways a.buckets (switch_of e) (gives a.plan e n) back.0 group (all_given a.plan n events) (back.2 n (omega arith))
     (stand n back.0 back.1) in
     let last = from_switch (switch_of e) (gives a.plan e n) in
-    let all : all_given a.plan n (events ++ e ∷ []) ≡ all_given a.plan n events ++ last =
+    let all =
     given_on a.plan n events (e ∷ []) ∙ ap (λ es. all_given a.plan n events ++ es) (append-nil last) in
-    subst (λ k. Stands ways k group (all_given b.plan n (events ++ e ∷ []))) (sym made.keeps.buckets)
-    (subst (λ p. Stands ways a.buckets group (all_given p n (events ++ e ∷ []))) (sym made.keeps.plan)
-    (subst (Stands ways a.buckets group) (sym all) on))
+    rw (made.keeps.buckets, made.keeps.plan, all) on
 
 pub runs_stand : RunsFollowEvents
-runs_stand ways [] before a b same stand = subst (λ v. NetworkStands ways v (before ++ [])) (sym same)
-    (subst (NetworkStands ways a) (sym (append-nil before)) stand)
+runs_stand ways [] before a b same stand = rw (same, append-nil before) stand
 runs_stand ways (e ∷ events) before a b ran stand =
-    subst (NetworkStands ways b) (append_assoc before (e ∷ []) events)
-    (runs_stand ways events (before ++ e ∷ []) ran.0 b ran.2 (makes_stand ways e a ran.0 before ran.1 stand))
+    rw (← append_assoc before (e ∷ []) events) (runs_stand ways events (before ++ e ∷ []) ran.0 b ran.2 (makes_stand ways e a ran.0 before ran.1 stand))
 
 pub fresh_stands : (ways : ℕ) (net : NetworkView) → All (λ group. GroupStands ways net.buckets group [] []) net.groups
     → NetworkStands ways net []
@@ -76,8 +67,6 @@ fresh_stands ways net fresh n group here = at_place (λ x. GroupStands ways net.
 pub grown_stands : (ways : ℕ) (a b : NetworkView) (events : List NetworkEvent) → NetworkGrows ways a b → NetworkStands ways a events
     → NetworkStands ways b events
 grown_stands ways a b events grown stand n group here =
-    let back = each_back (λ k. GroupGrows ways a.buckets a.pipe_records) 0 a.groups b.groups n group grown.groups here in
+    let back = each_back _ 0 a.groups b.groups n _ grown.groups here in
     let given = all_given a.plan n events in
-    subst (λ k. Stands ways k group (all_given b.plan n events)) (sym grown.keeps.buckets)
-    (subst (λ p. Stands ways a.buckets group (all_given p n events)) (sym grown.keeps.plan)
-    ((back.2 n (omega arith)).stands given (merged_after ways a.buckets [] given) (stand n back.0 back.1)))
+    rw (grown.keeps.buckets, grown.keeps.plan) ((back.2 n (omega arith)).stands given (merged_after ways a.buckets [] given) (stand n back.0 back.1))

@@ -1,6 +1,6 @@
 -- Runs of a network, in sequence.
-use Rattle.std.proofs.Common.{◌≡◌, ℕ, zero, suc, ◌+◌, ◌<◌, ◌≤◌, nat_lt, List, [], ◌∷◌, ◌++◌, length, refl, sym, ap}
-use Rattle.std.proofs.Common.{subst, ◌∙◌, arith, append-nil, append_assoc}
+use Rattle.std.proofs.Common.{◌≡◌, ℕ, zero, suc, ◌+◌, ◌<◌, ◌≤◌, nat_lt, List, [], ◌∷◌, ◌++◌, length, refl, sym, ap, ◌∙◌, arith, append-nil}
+use Rattle.std.proofs.Common.{append_assoc}
 use Rattle.std.specs.Prelude.{sum_by}
 use Rattle.std.proofs.lemmas.Bool.Decides.{nat_tests}
 use Rattle.epoch_model.proofs.KeyLists.{by_test}
@@ -15,27 +15,26 @@ use Rattle.network.specs.Running.{Evicts, Merges, MergingBreaksOff, NetworkEvent
 use Rattle.network.specs.Running.{Takes, gives, joined_below, switch_of, without_merges}
 use Rattle.network.proofs.CostSteps.{costs_kept, merges_kept}
 use Rattle.network.proofs.MakeSteps.{groups_kept, kept_after, none_kept}
-use Rattle.network.proofs.NetworkSteps.{made_network, net_of, with_groups}
+use Rattle.network.proofs.NetworkSteps.{made_network, with_groups}
 
 -- ---- lists of events
 
 pub first_on : (xs ys zs : List NetworkEvent) → AreFirst ys zs → AreFirst (xs ++ ys) (xs ++ zs)
-first_on xs ys zs first = (first.0, append_assoc xs ys first.0 ∙ ap (λ es. xs ++ es) first.1)
+first_on xs ys _ first = (first.0, rw (append_assoc xs ys first.0, first.1))
 
 pub first_in : (xs ys zs : List NetworkEvent) → AreFirst xs ys → AreFirst ys zs → AreFirst xs zs
-first_in xs ys zs one two = (one.0 ++ two.0, sym (append_assoc xs one.0 two.0) ∙ (ap (λ es. es ++ two.0) one.1 ∙ two.1))
+first_in xs _ _ one two = (one.0 ++ two.0, sym (append_assoc xs one.0 two.0) ∙ (ap (λ es. es ++ two.0) one.1 ∙ two.1))
 
 pub first_of : (xs ys : List NetworkEvent) → AreFirst xs (xs ++ ys)
-first_of xs ys = (ys, refl)
+first_of _ ys = (ys, refl)
 
 first_all : (xs : List NetworkEvent) → AreFirst xs xs
 first_all xs = ([], append-nil xs)
 
 pub first_below : (lists : ℕ → List NetworkEvent) (i n : ℕ) → i ≤ n → AreFirst (joined_below i lists) (joined_below n lists)
-first_below lists i zero h = let none : i ≡ 0 = omega arith in subst (λ k. AreFirst (joined_below k lists) []) (sym none) (first_all [])
+first_below lists i zero h = let none : i ≡ 0 = omega arith in rw none (first_all [])
 first_below lists i (suc n) h = by_test (nat_lt n i)
-    (λ t. let last : suc n ≡ i = grind (arith, nat_tests) in subst (λ k. AreFirst (joined_below k lists) (joined_below (suc n) lists)) last
-    (first_all (joined_below (suc n) lists)))
+    (λ t. let last : suc n ≡ i = grind (arith, nat_tests) in rw (← last) (first_all (joined_below (suc n) lists)))
     (λ t. let less : i ≤ n = grind (arith, nat_tests) in
     first_in (joined_below i lists) (joined_below n lists) (joined_below (suc n) lists) (first_below lists i n less)
     (first_of (joined_below n lists) (lists n)))
@@ -44,34 +43,29 @@ pub below_next : (lists : ℕ → List NetworkEvent) (n : ℕ) → joined_below 
 below_next lists n = ap (λ k. joined_below k lists) (let q : n + 1 ≡ suc n = omega arith in q)
 
 pub without_on : (xs ys : List NetworkEvent) → without_merges (xs ++ ys) ≡ without_merges xs ++ without_merges ys
-without_on [] ys = refl
-without_on (Takes at words ∷ xs) ys = ap (λ es. Takes at words ∷ es) (without_on xs ys)
-without_on (Evicts at lane bucket ∷ xs) ys = ap (λ es. Evicts at lane bucket ∷ es) (without_on xs ys)
-without_on (Merges at lane ∷ xs) ys = without_on xs ys
+without_on [] _ = refl
+without_on (Takes at words ∷ xs) ys = rw (without_on xs ys)
+without_on (Evicts at lane bucket ∷ xs) ys = rw (without_on xs ys)
+without_on (Merges at _ ∷ xs) ys = without_on xs ys
 
 -- lists that are the same number by number
 pub below_same : (f h : ℕ → List NetworkEvent) (n : ℕ) → ((i : ℕ) → i < n → f i ≡ h i) → joined_below n f ≡ joined_below n h
-below_same f h zero same = refl
-below_same f h (suc n) same = ap (λ es. es ++ f n) (below_same f h n (λ i less. same i (omega arith)))
-    ∙ ap (λ es. joined_below n h ++ es) (same n (omega arith))
+below_same f h zero _ = refl
+below_same f h (suc n) same = rw (below_same f h n (λ i less. same i (omega arith)), same n (omega arith))
 
 -- ---- what events keep
 
 as_made : (ways : ℕ) (e : NetworkEvent) (a b : NetworkView) → NetworkMakes ways e a b → b ≡ with_groups a b.groups
-as_made ways e a b made =
-    ap (λ p. net_of p b.buckets b.pipe_records b.switches b.groups) made.keeps.plan
-    ∙ (ap (λ n. net_of a.plan n b.pipe_records b.switches b.groups) made.keeps.buckets
-    ∙ (ap (λ n. net_of a.plan a.buckets n b.switches b.groups) made.keeps.pipe_records
-    ∙ ap (λ n. net_of a.plan a.buckets a.pipe_records n b.groups) made.switches))
+as_made _ e a b made =
+    rw (made.keeps.plan, made.keeps.buckets, made.keeps.pipe_records, made.switches)
 
 made_is : (ways : ℕ) (e : NetworkEvent) (a b : NetworkView) → NetworkMakes ways e a b → IsNetwork ways a → IsNetwork ways b
-made_is ways e a b made is = subst (IsNetwork ways) (sym (as_made ways e a b made))
-    (made_network ways (switch_of e) (gives a.plan e) a b.groups made.groups is)
+made_is ways e a b made is = rw (as_made ways e a b made) (made_network ways (switch_of e) (gives a.plan e) a b.groups made.groups is)
 
 pub runs_is : (ways : ℕ) (events : List NetworkEvent) (a b : NetworkView) → NetworkRuns ways events a b → IsNetwork ways a
     → IsNetwork ways b
-runs_is ways [] a b same is = subst (IsNetwork ways) (sym same) is
-runs_is ways (e ∷ events) a b ran is = runs_is ways events ran.0 b ran.2 (made_is ways e a ran.0 ran.1 is)
+runs_is ways [] a b same is = rw same is
+runs_is ways (e ∷ events) a b ran is = runs_is _ events _ b ran.2 (made_is _ e a _ ran.1 is)
 
 -- the sizes of a network are unchanged
 pub record NetworkKept (a b : NetworkView) : Type 0 where
@@ -80,13 +74,8 @@ pub record NetworkKept (a b : NetworkView) : Type 0 where
   pub groups : Each GroupKept a.groups b.groups
 
 pub runs_kept : (ways : ℕ) (events : List NetworkEvent) (a b : NetworkView) → NetworkRuns ways events a b → NetworkKept a b
-runs_kept ways [] a b same =
-    subst (NetworkKept a) (sym same) (record {
-      keeps = record { plan = refl; buckets = refl; pipe_records = refl };
-      switches =
-          refl;
-      groups = none_kept 0 a.groups;
-    })
+runs_kept _ [] a b same =
+    rw same (record { keeps = record { plan = refl; buckets = refl; pipe_records = refl }; switches = refl; groups = none_kept 0 a.groups })
 runs_kept ways (e ∷ events) a b ran =
     let first = ran.1 in
     let rest = runs_kept ways events ran.0 b ran.2 in
@@ -102,7 +91,7 @@ runs_kept ways (e ∷ events) a b ran =
     }
 
 pub kept_long : (a b : NetworkView) → NetworkKept a b → length b.groups ≡ length a.groups
-kept_long a b kept = sym (each_long (λ n. GroupKept) 0 a.groups b.groups kept.groups)
+kept_long a b kept = sym (each_long _ 0 a.groups b.groups kept.groups)
 
 pub packet_cost_kept : (ways at : ℕ) (a b : NetworkView) → NetworkKept a b → network_cost ways at b ≡ network_cost ways at a
 packet_cost_kept ways at a b kept =
@@ -115,18 +104,17 @@ merges_cost_kept at a b kept = merges_kept at a.groups b.groups kept.groups
 -- ---- runs in sequence
 
 pub runs_one : (ways : ℕ) (e : NetworkEvent) (a b : NetworkView) → NetworkMakes ways e a b → NetworkRuns ways (e ∷ []) a b
-runs_one ways e a b made = (b, made, refl)
+runs_one _ e a b made = (b, made, refl)
 
 pub runs_on : (ways : ℕ) (xs ys : List NetworkEvent) (a b c : NetworkView) → NetworkRuns ways xs a b → NetworkRuns ways ys b c
     → NetworkRuns ways (xs ++ ys) a c
-runs_on ways [] ys a b c same two = subst (λ x. NetworkRuns ways ys x c) same two
+runs_on ways [] ys a b c same two = rw (← same) two
 runs_on ways (e ∷ xs) ys a b c one two = (one.0, one.1, runs_on ways xs ys one.0 b c one.2 two)
 
 pub runs_next : (ways : ℕ) (lists : ℕ → List NetworkEvent) (i : ℕ) (a b c : NetworkView) → NetworkRuns ways (joined_below i lists) a b
     → NetworkRuns ways (lists i) b c
     → NetworkRuns ways (joined_below (i + 1) lists) a c
-runs_next ways lists i a b c one two = subst (λ es. NetworkRuns ways es a c) (sym (below_next lists i))
-    (runs_on ways (joined_below i lists) (lists i) a b c one two)
+runs_next ways lists i a b c one two = rw (below_next lists i) (runs_on ways (joined_below i lists) (lists i) a b c one two)
 
 pub run_breaks_on : (ways : ℕ) (xs ys : List NetworkEvent) (a b c : NetworkView) → NetworkRuns ways xs a b → RunBreaksOff ways ys b c
     → RunBreaksOff ways (xs ++ ys) a c
@@ -140,21 +128,21 @@ run_breaks ways lists i n a b c within ran broke =
     (on.0, first_in on.0 (joined_below (suc i) lists) (joined_below n lists) on.1 (first_below lists (suc i) n (omega arith)), on.2)
 
 pub run_breaks_in : (ways : ℕ) (xs ys : List NetworkEvent) (a b : NetworkView) → RunBreaksOff ways xs a b → RunBreaksOff ways (xs ++ ys) a b
-run_breaks_in ways xs ys a b ran = (ran.0, first_in ran.0 xs (xs ++ ys) ran.1 (first_of xs ys), ran.2)
+run_breaks_in _ xs ys a b ran = (ran.0, first_in ran.0 xs (xs ++ ys) ran.1 (first_of xs ys), ran.2)
 
 -- ---- with merges among the events
 
 pub merging_none : (ways : ℕ) (a : NetworkView) → RunsWithMerges ways [] a a
-merging_none ways a = ([], refl, refl)
+merging_none _ a = ([], refl, refl)
 
 -- a run, of which the merges are left out
 pub merging_run : (ways : ℕ) (xs : List NetworkEvent) (a b : NetworkView) → NetworkRuns ways xs a b
     → RunsWithMerges ways (without_merges xs) a b
-merging_run ways xs a b ran = (xs, refl, ran)
+merging_run _ xs a b ran = (xs, refl, ran)
 
 pub merging_first : (ways : ℕ) (xs : List NetworkEvent) (a b : NetworkView) → RunBreaksOff ways xs a b
     → MergingBreaksOff ways (without_merges xs) a b
-merging_first ways xs a b broke = (
+merging_first ways _ a b broke = (
   without_merges broke.0,
   (without_merges broke.1.0, sym (without_on broke.0 broke.1.0) ∙ ap without_merges broke.1.1),
   merging_run ways broke.0 a b broke.2,
@@ -162,22 +150,21 @@ merging_first ways xs a b broke = (
 
 pub merging_on : (ways : ℕ) (xs ys : List NetworkEvent) (a b c : NetworkView) → RunsWithMerges ways xs a b → RunsWithMerges ways ys b c
     → RunsWithMerges ways (xs ++ ys) a c
-merging_on ways xs ys a b c one two = (
+merging_on ways xs _ a b c one two = (
   one.0 ++ two.0,
-  without_on one.0 two.0 ∙ (ap (λ es. es ++ without_merges two.0) one.1 ∙ ap (λ es. xs ++ es) two.1),
+  rw (without_on one.0 two.0, one.1, two.1),
   runs_on ways one.0 two.0 a b c one.2 two.2,
 )
 
 -- merges after the events change none of them
 pub merging_after : (ways : ℕ) (xs : List NetworkEvent) (a b c : NetworkView) → RunsWithMerges ways xs a b → RunsWithMerges ways [] b c
     → RunsWithMerges ways xs a c
-merging_after ways xs a b c one two = subst (λ es. RunsWithMerges ways es a c) (append-nil xs) (merging_on ways xs [] a b c one two)
+merging_after ways xs a b c one two = rw (← append-nil xs) (merging_on ways xs [] a b c one two)
 
 pub merging_next : (ways : ℕ) (lists : ℕ → List NetworkEvent) (i : ℕ) (a b c : NetworkView) → RunsWithMerges ways (joined_below i lists) a b
     → RunsWithMerges ways (lists i) b c
     → RunsWithMerges ways (joined_below (i + 1) lists) a c
-merging_next ways lists i a b c one two = subst (λ es. RunsWithMerges ways es a c) (sym (below_next lists i))
-    (merging_on ways (joined_below i lists) (lists i) a b c one two)
+merging_next ways lists i a b c one two = rw (below_next lists i) (merging_on ways (joined_below i lists) (lists i) a b c one two)
 
 pub merging_breaks_on : (ways : ℕ) (xs ys : List NetworkEvent) (a b c : NetworkView) → RunsWithMerges ways xs a b
     → MergingBreaksOff ways ys b c → MergingBreaksOff ways (xs ++ ys) a c
@@ -193,12 +180,11 @@ merging_breaks ways lists i n a b c within one two =
 -- all of the events happened, and then some merges
 pub merging_breaks_end : (ways : ℕ) (xs : List NetworkEvent) (a b c : NetworkView) → RunsWithMerges ways xs a b
     → MergingBreaksOff ways [] b c → MergingBreaksOff ways xs a c
-merging_breaks_end ways xs a b c one two = subst (λ es. MergingBreaksOff ways es a c) (append-nil xs)
-    (merging_breaks_on ways xs [] a b c one two)
+merging_breaks_end ways xs a b c one two = rw (← append-nil xs) (merging_breaks_on ways xs [] a b c one two)
 
 pub merging_is : (ways : ℕ) (events : List NetworkEvent) (a b : NetworkView) → RunsWithMerges ways events a b → IsNetwork ways a
     → IsNetwork ways b
-merging_is ways events a b ran is = runs_is ways ran.0 a b ran.2 is
+merging_is ways _ a b ran is = runs_is _ ran.0 a b ran.2 is
 
 pub merging_kept : (ways : ℕ) (events : List NetworkEvent) (a b : NetworkView) → RunsWithMerges ways events a b → NetworkKept a b
-merging_kept ways events a b ran = runs_kept ways ran.0 a b ran.2
+merging_kept ways _ a b ran = runs_kept ways ran.0 a b ran.2

@@ -1,6 +1,5 @@
 -- Fronts side by side, and the store that they share.
-use Rattle.std.proofs.Common.{◌≡◌, ◌≢◌, ℕ, zero, suc, ◌+◌, ◌<◌, Bool, true, false, List, [], ◌∷◌, length, map, set, Some, refl, sym, ap}
-use Rattle.std.proofs.Common.{subst, ◌∙◌, arith}
+use Rattle.std.proofs.Common.{◌≡◌, ◌≢◌, ℕ, zero, suc, ◌+◌, Bool, true, false, List, [], ◌∷◌, map, set, Some, refl, sym, ◌∙◌, arith}
 use Rattle.std.specs.Prelude.{slice_get, flat_map}
 use Rattle.std.specs.List.{list_all}
 use Rattle.epoch_model.specs.Keys.{ArgRow}
@@ -25,16 +24,16 @@ stored_alike f h a lists = by_test f.row_per_epoch
   where
     each : (lists : List (List ArgRow)) → map (folded f) lists ≡ map (folded h) lists
     each [] = refl
-    each (rows ∷ lists) = ap (λ s. s ∷ map (folded f) lists) (a.states rows) ∙ ap (λ ss. folded h rows ∷ ss) (each lists)
+    each (rows ∷ lists) = rw (a.states rows, each lists)
 
     whole : (lists : List (List ArgRow)) → stored (record f { row_per_epoch = false }) lists ≡ stored (record h { row_per_epoch = false })
         lists
     whole [] = refl
-    whole (rows ∷ lists) = ap (λ s. s ∷ []) (a.states (flat_map (λ rs. rs) (rows ∷ lists)))
+    whole (rows ∷ lists) = rw (a.states (flat_map (λ rs. rs) (rows ∷ lists)))
 
 pub holds_alike : (f h : Folding) (store : Store) (epochs : List Epoch) → AreAlike f h → StoreHolds f store epochs
     → StoreHolds h store epochs
-holds_alike f h store epochs a s = record { count = s.count; rows = λ key. s.rows key ∙ stored_alike f h a _ }
+holds_alike f h _ _ a s = record { count = s.count; rows = λ key. s.rows key ∙ stored_alike f h a _ }
 
 pub alike_back : (f h : Folding) → AreAlike f h → AreAlike h f
 alike_back f h a = record { row_per_epoch = sym a.row_per_epoch; states = λ rows. sym (a.states rows) }
@@ -60,9 +59,8 @@ store_on a b c k l = record { key_words = l.key_words ∙ k.key_words; state_wor
 pub fits_on : {K : Type 0} (sizes : K → Sizes) (a b : FrontOf K) (s t : Store) → FrontKept a b → StoreKept s t
     → FitsStore (sizes a.kind) a.cache s → FitsStore (sizes b.kind) b.cache t
 fits_on sizes a b s t k l fits = record {
-  key = l.key_words ∙ (fits.key ∙ sym k.key_words);
-  state = l.state_words
-      ∙ (fits.state ∙ ap (λ x. (sizes x).state) (sym k.kind));
+  key = rw (l.key_words, fits.key, k.key_words);
+  state = rw (l.state_words, fits.state, k.kind);
 }
 
 pub fronts_same : {K : Type 0} (k : ℕ) (fronts : List (FrontOf K)) → EachFrom (λ n. FrontKept) k fronts fronts
@@ -72,50 +70,50 @@ fronts_same k (x ∷ fronts) = (kept_start x, fronts_same (suc k) fronts)
 -- one front is another one with its kind and sizes
 pub one_kept : {K : Type 0} (k i : ℕ) (fronts : List (FrontOf K)) (was now : FrontOf K) → slice_get fronts i ≡ Some was
     → FrontKept was now → EachFrom (λ n. FrontKept) k fronts (set fronts i now)
-one_kept k i [] was now here kept = tt
+one_kept k i [] _ _ _ _ = tt
 one_kept k zero (x ∷ fronts) was now here kept = let same : was ≡ x = cc in
-    (subst (λ y. FrontKept y now) same kept, fronts_same (suc k) fronts)
+    (rw (← same) kept, fronts_same (suc k) fronts)
 one_kept k (suc i) (x ∷ fronts) was now here kept = (kept_start x, one_kept (suc k) i fronts was now here kept)
 
 -- places in lists
 
 pub got_other : {X : Type 0} (xs : List X) (i s : ℕ) (x : X) → s ≢ i → slice_get (set xs i x) s ≡ slice_get xs s
 got_other [] i s x d = refl
-got_other (y ∷ xs) zero zero x d = absurd (d refl)
-got_other (y ∷ xs) zero (suc s) x d = refl
-got_other (y ∷ xs) (suc i) zero x d = refl
-got_other (y ∷ xs) (suc i) (suc s) x d = got_other xs i s x (λ e. d (ap suc e))
+got_other (y ∷ _) zero zero x d = absurd (d refl)
+got_other (y ∷ _) zero (suc s) x d = refl
+got_other (y ∷ _) (suc i) zero x d = refl
+got_other (y ∷ xs) (suc i) (suc s) x d = got_other xs i s x (λ e. d (rw e))
 
 -- the last of two items that are written at one place stays
 pub set_set : {X : Type 0} (xs : List X) (i : ℕ) (x y : X) → set (set xs i x) i y ≡ set xs i y
 set_set [] i x y = refl
-set_set (z ∷ xs) zero x y = refl
-set_set (z ∷ xs) (suc i) x y = ap (λ zs. z ∷ zs) (set_set xs i x y)
+set_set (z ∷ _) zero x y = refl
+set_set (z ∷ xs) (suc i) x y = rw (set_set xs i x y)
 
 -- what is said of items and what was made of them, and then of what was made of those
 pub each_on : {A B C : Type 0} (R : ℕ → A → B → Type 0) (S : ℕ → B → C → Type 0) (T : ℕ → A → C → Type 0) (k : ℕ) (xs : List A) (ys : List B)
     (zs : List C) → ((n : ℕ) (a : A) (b : B) (c : C) → R n a b → S n b c → T n a c) → EachFrom R k xs ys → EachFrom S k ys zs
     → EachFrom T k xs zs
 each_on R S T k [] [] [] h p q = tt
-each_on R S T k [] [] (z ∷ zs) h p q = absurd q
-each_on R S T k [] (y ∷ ys) zs h p q = absurd p
-each_on R S T k (x ∷ xs) [] zs h p q = absurd p
-each_on R S T k (x ∷ xs) (y ∷ ys) [] h p q = absurd q
+each_on R S T k [] [] (z ∷ _) h p q = absurd q
+each_on R S T k [] (y ∷ _) _ h p q = absurd p
+each_on R S T k (x ∷ _) [] _ h p q = absurd p
+each_on R S T k (x ∷ _) (y ∷ _) [] h p q = absurd q
 each_on R S T k (x ∷ xs) (y ∷ ys) (z ∷ zs) h p q = (h k x y z p.0 q.0, each_on R S T (suc k) xs ys zs h p.1 q.1)
 
 -- it is said of what was made and the items as well
 pub each_flip : {A B : Type 0} (R : ℕ → A → B → Type 0) (k : ℕ) (xs : List A) (ys : List B) → EachFrom R k xs ys
     → EachFrom (λ n y x. R n x y) k ys xs
 each_flip R k [] [] p = tt
-each_flip R k [] (y ∷ ys) p = absurd p
-each_flip R k (x ∷ xs) [] p = absurd p
+each_flip R k [] (y ∷ _) p = absurd p
+each_flip R k (x ∷ _) [] p = absurd p
 each_flip R k (x ∷ xs) (y ∷ ys) p = (p.0, each_flip R (suc k) xs ys p.1)
 
 -- the item before, of which this one was made
 pub each_back : {A B : Type 0} (R : ℕ → A → B → Type 0) (k : ℕ) (olds : List A) (news : List B) (s : ℕ) (now : B) → EachFrom R k olds news
     → slice_get news s ≡ Some now
     → (was : A) × (slice_get olds s ≡ Some was) × ((n : ℕ) → n ≡ k + s → R n was now)
-each_back R k olds news s now p = each_at (λ n y x. R n x y) k s news olds now (each_flip R k olds news p)
+each_back R k olds news s now p = each_at _ k s news olds now (each_flip R k olds news p)
 
 -- fronts that kept their kinds and sizes can still share
 pub still_share : {K : Type 0} (sizes : K → Sizes) (folding : K → Folding) (f : Folding) (args : ℕ) (olds news : List (FrontOf K))
@@ -123,16 +121,16 @@ pub still_share : {K : Type 0} (sizes : K → Sizes) (folding : K → Folding) (
     → Each FrontKept olds news → StoreKept before after → AllShare sizes folding f args olds before
     → AllShare sizes folding f args news after
 still_share {K = K} sizes folding f args olds news before after kept store share s now e =
-    let was = each_back (λ n. FrontKept) 0 olds news s now kept e in
+    let was = each_back _ 0 olds news s _ kept e in
     let one = was.2 s (omega arith) in
     let old = share s was.0 was.1 in
     record {
-      alike = subst (λ kind. AreAlike (folding kind) f) (sym one.kind) old.alike;
-      fits = fits_on sizes was.0 now before after one store old.fits;
-      args = ap (λ kind. (sizes kind).args) one.kind ∙ old.args;
+      alike = rw one.kind old.alike;
+      fits = fits_on sizes _ _ _ _ one store old.fits;
+      args = rw (one.kind, old.args);
     }
 
 -- a test that each item passes
 pub all_pass : {X : Type 0} (p : X → Bool) (xs : List X) → ((s : ℕ) (x : X) → slice_get xs s ≡ Some x → p x ≡ true) → list_all p xs ≡ true
 all_pass p [] h = refl
-all_pass p (x ∷ xs) h = let t : p x ≡ true = h 0 x refl in rw t (all_pass p xs (λ s. h (suc s)))
+all_pass p (x ∷ xs) h = let t = h 0 x refl in rw t (all_pass p xs (λ s. h (suc s)))

@@ -5,8 +5,7 @@ use Rattle.query_lang.specs.declared.fault.TheConstants.{MAX_KEYS}
 use Rattle.stage_plan.specs.Planned.{wiring_at}
 use Rattle.stage_plan.specs.Sound.{IsSoundGroup}
 use Rattle.switch_core.proofs.SideBySide.{same_some, each_long, done_start, untouched_start, done_next, untouched_next, untouched_was}
-use Rattle.switch_core.proofs.SideBySide.{done_end}
-use Rattle.switch_core.proofs.SideBySide.{got_here}
+use Rattle.switch_core.proofs.SideBySide.{done_end, got_here}
 use Rattle.network.specs.Groups.{GroupGrows, GroupView, IsGroup, with_first}
 use Rattle.network.proofs.GroupSteps.{Grown, all_first, all_grown, others_so_far, part_of}
 use Rattle.network.proofs.groups.add_fronts.Goals as goal
@@ -14,9 +13,9 @@ use Rattle.network.proofs.groups.add_fronts.Goals.{In-loop-i}
 
 pub loop-i-init : goal.loop-i-init
 loop-i-init g c = record {
-  are = done_start (Grown c.args.plan.now) 0 c.args.groups.now;
-  grow = done_start (λ n. GroupGrows g.row.WAYS c.args.buckets c.args.pipe_records) 0 c.args.groups.now;
-  others = done_start (λ n (a b : GroupView). with_first (length a.fronts) b ≡ a) 0 c.args.groups.now;
+  are = done_start _ 0 c.args.groups.now;
+  grow = done_start _ 0 c.args.groups.now;
+  others = done_start _ 0 c.args.groups.now;
   same = untouched_start 0 0 c.args.groups.now;
 }
 
@@ -27,13 +26,13 @@ there g c d =
     let groups = c.loop-i.groups in
     let kept = c.loop-i.auto.groups in
     let below : c.loop-i.i < length groups = let b = c.loop-i-test.true in omega arith in
-    untouched_was c.loop-i.i c.args.groups.now groups (get_or groups c.loop-i.i d) c.loop-i.invariant.same (omega arith)
+    untouched_was c.loop-i.i c.args.groups.now groups _ c.loop-i.invariant.same (omega arith)
     (got_here groups c.loop-i.i d below)
 
 pub overflow_cast-i : goal.overflow_cast-i
 overflow_cast-i g c =
     let many = c.invariant.ensures.most_groups in
-    let long : length c.args.groups.now ≡ length c.args.plan.now.groups =
+    let long =
     each_long _ 0 c.args.groups.now c.args.plan.now.groups c.requires.groups.1 in
     let kept = c.loop-i.auto.groups in
     let below = c.loop-i-test.true in
@@ -41,7 +40,7 @@ overflow_cast-i g c =
 
 pub group-requires : goal.group-requires
 group-requires g c =
-    let long : length c.args.groups.now ≡ length c.args.plan.now.groups =
+    let long =
     each_long _ 0 c.args.groups.now c.args.plan.now.groups c.requires.groups.1 in
     let kept = c.loop-i.auto.groups in
     let below = c.loop-i-test.true in
@@ -88,12 +87,12 @@ loop-i-preserved g c =
     (subst (λ p. IsSoundGroup own.registers p (wiring_at plan i)) (one ∙ sym other) own.sound)
     (subst (λ p. IsGroup switches p (wiring_at plan i) group) (sym other) is)) in
     record {
-      are = done_next (Grown plan) i first groups new c.loop-i.invariant.are
+      are = done_next _ i first groups new c.loop-i.invariant.are
           (λ x e. subst (λ v. Grown plan i v new) (same_some group x (sym was ∙ e)) grown);
-      grow = done_next (λ n. GroupGrows g.row.WAYS c.args.buckets c.args.pipe_records) i first groups new c.loop-i.invariant.grow
+      grow = done_next _ i first groups new c.loop-i.invariant.grow
           (λ x e. subst (λ v. GroupGrows g.row.WAYS c.args.buckets c.args.pipe_records v new) (same_some group x (sym was ∙ e))
           c.in_ok-add_switch.ensures.grows);
-      others = done_next (λ n (a b : GroupView). with_first (length a.fronts) b ≡ a) i first groups new c.loop-i.invariant.others
+      others = done_next _ i first groups new c.loop-i.invariant.others
           (λ x e. subst (λ (v : GroupView). with_first (length v.fronts) new ≡ v) (same_some group x (sym was ∙ e))
           c.in_ok-add_switch.ensures.grows.others);
       same = untouched_next i first groups new c.loop-i.invariant.same;
@@ -104,13 +103,13 @@ returns-clause-are g c switches are =
     let kept = c.loop-i.auto.groups in
     let end = c.loop-i-test.false in
     all_grown c.args.plan.now switches c.args.groups.now c.loop-i.groups are
-    (done_end (Grown c.args.plan.now) c.loop-i.i c.args.groups.now c.loop-i.groups c.loop-i.invariant.are (omega arith))
+    (done_end _ c.loop-i.i c.args.groups.now c.loop-i.groups c.loop-i.invariant.are (omega arith))
 
 pub returns-clause-grow : goal.returns-clause-grow
 returns-clause-grow g c =
     let kept = c.loop-i.auto.groups in
     let end = c.loop-i-test.false in
-    done_end (λ n. GroupGrows g.row.WAYS c.args.buckets c.args.pipe_records) c.loop-i.i c.args.groups.now c.loop-i.groups
+    done_end _ c.loop-i.i c.args.groups.now c.loop-i.groups
     c.loop-i.invariant.grow (omega arith)
 
 pub returns-clause-others : goal.returns-clause-others
@@ -125,10 +124,10 @@ returns-in_err-add_switch-clause-others g c =
     let new = c.add_switch.new.self in
     let kept = c.loop-i.auto.groups in
     let below : i < length groups = let b = c.loop-i-test.true in omega arith in
-    let was = untouched_was i first groups group c.loop-i.invariant.same (omega arith) (got_here groups i c.index-groups-i.result below) in
-    let same : with_first (length group.fronts) new ≡ group = ap (with_first (length group.fronts)) c.in_err-add_switch.ensures.err
+    let was = untouched_was i first groups _ c.loop-i.invariant.same (omega arith) (got_here groups i c.index-groups-i.result below) in
+    let same = ap (with_first (length group.fronts)) c.in_err-add_switch.ensures.err
     ∙ all_first group in
     others_so_far (i + 1) 0 first (set groups i new)
-    (done_next (λ n (a b : GroupView). with_first (length a.fronts) b ≡ a) i first groups new c.loop-i.invariant.others
+    (done_next _ i first groups new c.loop-i.invariant.others
     (λ x e. subst (λ (v : GroupView). with_first (length v.fronts) new ≡ v) (same_some group x (sym was ∙ e)) same))
     (untouched_next i first groups new c.loop-i.invariant.same)

@@ -1,4 +1,4 @@
-use Rattle.std.proofs.Common.{◌≡◌, ◌<◌, true, Some, length, take, sym, ap, ◌∙◌, arith}
+use Rattle.std.proofs.Common.{◌≡◌, true, Some, length, take, sym, ap, ◌∙◌, arith}
 use Rattle.std.specs.List.{list_all}
 use Rattle.std.proofs.Math.Seq.{take-length}
 use Rattle.switch_core.proofs.LaneFacts.{all_at, all_fails, all_next}
@@ -11,7 +11,7 @@ pub returns-then-not-drained-clause-value : goal.returns-then-not-drained-clause
 returns-then-not-drained-clause-value g c =
     let groups = c.args.groups.now in
     let i = c.loop-group.group-index in
-    let below : i < length groups = c.loop-group-test.true in
+    let below = c.loop-group-test.true in
     sym (all_fails group_is_drained groups i c.group-item.result (got_here groups i c.group-item.result below
     ∙ ap (λ x. Some x) (sym c.group-item.is))
     (sym c.drained.ensures.value ∙ c.if-not-drained.true))
@@ -20,7 +20,7 @@ pub loop-group-preserved : goal.loop-group-preserved
 loop-group-preserved g c =
     let groups = c.args.groups.now in
     let i = c.loop-group.group-index in
-    let below : i < length groups = c.loop-group-test.true in
+    let below = c.loop-group-test.true in
     all_next group_is_drained groups i c.group-item.result c.loop-group.invariant
     (got_here groups i c.group-item.result below ∙ ap (λ x. Some x) (sym c.group-item.is))
     (sym c.drained.ensures.value ∙ c.if-not-drained.false)
@@ -30,6 +30,6 @@ returns-clause-done g c t n group e =
     let groups = c.args.groups.now in
     let i = c.loop-group.group-index in
     let end : i ≡ length groups = omega (arith, c.loop-group-test.false, c.loop-group.auto.group-index-end) in
-    let all : list_all group_is_drained groups ≡ true = ap (list_all group_is_drained)
+    let all = ap (list_all group_is_drained)
     (sym (ap (λ k. take k groups) end ∙ take-length groups)) ∙ c.loop-group.invariant in
     all_merged g.row.WAYS group (all_at group_is_drained groups n group all e)

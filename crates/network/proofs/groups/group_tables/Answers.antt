@@ -1,25 +1,22 @@
-use Rattle.std.proofs.Common.{◌≡◌, ◌++◌, [], ◌∷◌, Some, length, take, sym, ap, ◌∙◌, arith}
+use Rattle.std.proofs.Common.{◌++◌, [], ◌∷◌, Some, length, take, sym, ap, ◌∙◌, arith}
 use Rattle.std.proofs.Math.Facts.{Fits-below}
-use Rattle.std.specs.Prelude.{slice_get}
 use Rattle.query_lang.specs.declared.fault.TheConstants.{MAX_KEYS}
-use Rattle.backing_store.specs.Merged.{StoreHolds}
-use Rattle.switch_core.proofs.SideBySide.{same_some, each_long, each_at}
-use Rattle.switch_core.proofs.SideBySide.{got_here}
-use Rattle.network.specs.Groups.{folding_in, shared_tables}
+use Rattle.switch_core.proofs.SideBySide.{same_some, each_long, each_at, got_here}
+use Rattle.network.specs.Groups.{shared_tables}
 use Rattle.network.proofs.GroupSteps.{part_of, tables_next, tables_whole}
 use Rattle.network.proofs.groups.group_tables.Goals as goal
 
 pub overflow_cast-i : goal.overflow_cast-i
 overflow_cast-i g c =
     let many = c.invariant.ensures.most_groups in
-    let long : length c.args.groups.now ≡ length c.args.plan.now.groups =
+    let long =
     each_long _ 0 c.args.groups.now c.args.plan.now.groups c.requires.groups.1 in
     let below = c.loop-i-test.true in
     Fits-below {n = MAX_KEYS} tt (omega arith)
 
 pub group-requires : goal.group-requires
 group-requires g c =
-    let long : length c.args.groups.now ≡ length c.args.plan.now.groups =
+    let long =
     each_long _ 0 c.args.groups.now c.args.plan.now.groups c.requires.groups.1 in
     let below = c.loop-i-test.true in
     omega arith
@@ -29,7 +26,7 @@ table-requires g c =
     let i = c.loop-i.i in
     let groups = c.args.groups.now in
     let group = c.index-groups-i.result in
-    let here : slice_get groups i ≡ Some group = got_here groups i group c.loop-i-test.true ∙ ap (λ x. Some x) (sym c.index-groups-i.is) in
+    let here = got_here groups i group c.loop-i-test.true ∙ ap (λ x. Some x) (sym c.index-groups-i.is) in
     let own = part_of c.args.plan.now c.requires.groups.0 i groups group c.invariant.ensures c.requires.groups.1 here in
     let same = same_some own.part c.group.result.now (sym own.there ∙ c.group.ensures) in
     let keys = ap (λ x. length x.key_names) same in
@@ -42,12 +39,12 @@ loop-i-preserved g c epochs hold =
     let groups = c.args.groups.now in
     let parts = c.args.plan.now.groups in
     let group = c.index-groups-i.result in
-    let here : slice_get groups i ≡ Some group = got_here groups i group c.loop-i-test.true ∙ ap (λ x. Some x) (sym c.index-groups-i.is) in
-    let found = each_at (λ n x. StoreHolds (folding_in x) x.store) 0 i groups epochs group hold here in
+    let here = got_here groups i group c.loop-i-test.true ∙ ap (λ x. Some x) (sym c.index-groups-i.is) in
+    let found = each_at _ 0 i groups epochs group hold here in
     let table = c.in_ok-table.ensures found.0 (found.2 i (omega arith)) in
     c.in_ok-push.ensures.ok ∙ (ap (λ ts. ts ++ c.in_ok-table.field-0 ∷ []) (c.loop-i.invariant epochs hold)
     ∙ (ap (λ t. take i (shared_tables parts groups epochs) ++ t ∷ []) table
-    ∙ sym (tables_next parts groups epochs i c.group.result.now group found.0 c.group.ensures here found.1)))
+    ∙ sym (tables_next parts groups epochs i _ _ _ c.group.ensures here found.1)))
 
 pub returns : goal.returns
 returns g c epochs hold =

@@ -1,12 +1,12 @@
-use Rattle.std.proofs.Common.{◌≡◌, ◌<◌, length, get_or, sym, ap, ◌∙◌, arith}
+use Rattle.std.proofs.Common.{◌<◌, length, get_or, sym, ap, ◌∙◌, arith}
 use Rattle.switch_core.proofs.SideBySide.{same_some, done_start, untouched_start, done_next, untouched_next, untouched_was, done_end}
 use Rattle.switch_core.proofs.SideBySide.{got_here}
-use Rattle.network.specs.Groups.{GroupView, with_first}
+use Rattle.network.specs.Groups.{with_first}
 use Rattle.network.proofs.groups.keep_switches.Goals as goal
 
 pub loop-i-init : goal.loop-i-init
 loop-i-init g c = record {
-  kept = done_start (λ n (a b : GroupView). b ≡ with_first c.args.switches a) 0 c.args.groups.now;
+  kept = done_start _ 0 c.args.groups.now;
   same = untouched_start 0 0 c.args.groups.now;
 }
 
@@ -19,9 +19,9 @@ loop-i-preserved g c =
     let new = c.keep_switches.new.self in
     let kept = c.loop-i.auto.groups in
     let below : i < length groups = let b = c.loop-i-test.true in omega arith in
-    let was = untouched_was i first groups group c.loop-i.invariant.same (omega arith) (got_here groups i c.index-groups-i.result below) in
+    let was = untouched_was i first groups _ c.loop-i.invariant.same (omega arith) (got_here groups i c.index-groups-i.result below) in
     record {
-      kept = done_next (λ n (a b : GroupView). b ≡ with_first c.args.switches a) i first groups new c.loop-i.invariant.kept
+      kept = done_next _ i first groups new c.loop-i.invariant.kept
           (λ x e. c.keep_switches.ensures ∙ ap (with_first c.args.switches) (same_some group x (sym was ∙ e)));
       same = untouched_next i first groups new c.loop-i.invariant.same;
     }
@@ -30,5 +30,5 @@ pub returns : goal.returns
 returns g c =
     let kept = c.loop-i.auto.groups in
     let end = c.loop-i-test.false in
-    done_end (λ n (a b : GroupView). b ≡ with_first c.args.switches a) c.loop-i.i c.args.groups.now c.loop-i.groups c.loop-i.invariant.kept
+    done_end _ c.loop-i.i c.args.groups.now c.loop-i.groups c.loop-i.invariant.kept
     (omega arith)

@@ -1,12 +1,10 @@
-use Rattle.std.proofs.Common.{◌≡◌, ℕ, ◌+◌, ◌++◌, [], ◌∷◌, length, take, sym, ◌∙◌, subst, arith, lit<}
+use Rattle.std.proofs.Common.{ℕ, ◌+◌, ◌++◌, [], ◌∷◌, take, sym, subst, lit<}
 use Rattle.std.specs.List.{All}
-use Rattle.std.proofs.lemmas.List.{length-take-le}
 use Rattle.std.proofs.lemmas.List.Elements.{All-append, All-cons, All-nil}
 use Rattle.stage_plan.specs.declared.group.GroupPlan.{GroupPlan}
 use Rattle.stage_plan.specs.Planned.{wiring_at}
 use Rattle.switch_core.specs.Rows.{EachFrom}
 use Rattle.switch_core.proofs.LanesMade.{each_push, take_next, group_sound}
-use Rattle.switch_core.proofs.SideBySide.{got_below, each_long}
 use Rattle.network.specs.Groups.{GroupStands, GroupView, IsGroup}
 use Rattle.network.proofs.groups.made_groups.Goals as goal
 
@@ -21,9 +19,7 @@ loop-i-preserved g c =
     let groups = c.loop-i.groups.items in
     let group = c.in_ok-group.group in
     let pushed = c.in_ok-push.ensures.items in
-    let more : take (i + 1) plan.groups ≡ take i plan.groups ++ part ∷ [] = take_next plan.groups i part c.group.ensures in
-    let many : length groups ≡ i = each_long _ 0 groups (take i plan.groups) c.loop-i.invariant.are
-    ∙ length-take-le i plan.groups (let b = got_below plan.groups i part c.group.ensures in omega arith) in
+    let more = take_next plan.groups i part c.group.ensures in
     let R : ℕ → GroupView → GroupPlan → Type 0 = λ n x p. IsGroup 0 p (wiring_at plan n) x in
     record {
       are = subst (λ gs. EachFrom R 0 gs (take (i + 1) plan.groups)) (sym pushed)
@@ -33,5 +29,5 @@ loop-i-preserved g c =
       stand = λ buckets. subst (All (λ x. GroupStands g.row.WAYS buckets x [] [])) (sym pushed)
           (All-append (λ x. GroupStands g.row.WAYS buckets x [] []) groups (group ∷ []) (c.loop-i.invariant.stand buckets)
           (All-cons (λ x. GroupStands g.row.WAYS buckets x [] []) group [] (c.in_ok-group.ensures.stands buckets)
-          (All-nil (λ x. GroupStands g.row.WAYS buckets x [] []))));
+          (All-nil _)));
     }

@@ -1,6 +1,5 @@
 use Rattle.std.proofs.Common.{◌≡◌, ◌<◌, ◌+◌, ℕ, length, Some, take, get_or, refl, sym, ◌∙◌, subst, arith, lit<}
-use Rattle.std.specs.Prelude.{sum_by}
-use Rattle.std.specs.Prelude.{slice_get}
+use Rattle.std.specs.Prelude.{sum_by, slice_get}
 use Rattle.std.proofs.Math.Facts.{Fits-below}
 use Rattle.epoch_model.specs.Driving.{event_of}
 use Rattle.query_lang.specs.declared.fault.TheConstants.{MAX_KEYS}
@@ -9,8 +8,7 @@ use Rattle.stage_plan.specs.Registers.{taken_at}
 use Rattle.switch_core.proofs.LaneFacts.{all_at}
 use Rattle.switch_core.proofs.SweepCosts.{sum_within}
 use Rattle.switch_core.proofs.SideBySide.{same_some, each_long, done_start, untouched_start, done_next, untouched_next, untouched_was}
-use Rattle.switch_core.proofs.SideBySide.{done_end, sum_next}
-use Rattle.switch_core.proofs.SideBySide.{got_here}
+use Rattle.switch_core.proofs.SideBySide.{done_end, sum_next, got_here}
 use Rattle.network.specs.Groups.{GroupView}
 use Rattle.network.specs.Events.{GroupMakesAll, is_ready_at}
 use Rattle.network.specs.Costs.{group_cost}
@@ -21,9 +19,9 @@ use Rattle.network.proofs.groups.packet_groups.Goals.{In-loop-i}
 
 pub loop-i-init : goal.loop-i-init
 loop-i-init g c = record {
-  makes = done_start (λ n. GroupMakesAll g.row.WAYS c.args.at (event_of (taken_at (wiring_at c.args.plan.now n) c.args.registers.now))) 0
+  makes = done_start _ 0
       c.args.groups.now;
-  stores = done_start (λ n (a b : GroupView). b.store ≡ a.store) 0 c.args.groups.now;
+  stores = done_start _ 0 c.args.groups.now;
   same = untouched_start 0 0 c.args.groups.now;
   later = omega arith;
   cost = omega arith;
@@ -38,13 +36,13 @@ there g c d =
     let groups = c.loop-i.groups in
     let kept = c.loop-i.auto.groups in
     let below : c.loop-i.i < length groups = let b = c.loop-i-test.true in omega arith in
-    untouched_was c.loop-i.i c.args.groups.now groups (get_or groups c.loop-i.i d) c.loop-i.invariant.same (omega arith)
+    untouched_was c.loop-i.i c.args.groups.now groups _ c.loop-i.invariant.same (omega arith)
     (got_here groups c.loop-i.i d below)
 
 pub overflow_cast-i : goal.overflow_cast-i
 overflow_cast-i g c =
     let many = c.invariant.ensures.most_groups in
-    let long : length c.args.groups.now ≡ length c.args.plan.now.groups =
+    let long =
     each_long _ 0 c.args.groups.now c.args.plan.now.groups c.requires.groups.2 in
     let kept = c.loop-i.auto.groups in
     let below = c.loop-i-test.true in
@@ -80,16 +78,16 @@ loop-i-preserved g c =
     let own = part_of c.args.plan.now c.requires.groups.0 i first group c.invariant.ensures c.requires.groups.2 was in
     let at : c.args.at < length group.fronts = let a = c.requires.groups.1 in let b = own.is.count in omega arith in
     record {
-      makes = done_next made i first groups new c.loop-i.invariant.makes
+      makes = done_next _ i first groups new c.loop-i.invariant.makes
           (λ x e. subst (λ v. made i v new) (same_some group x (sym was ∙ e)) c.packet.ensures.makes);
-      stores = done_next (λ n (a b : GroupView). b.store ≡ a.store) i first groups new c.loop-i.invariant.stores
+      stores = done_next _ i first groups new c.loop-i.invariant.stores
           (λ x e. subst (λ (v : GroupView). new.store ≡ v.store) (same_some group x (sym was ∙ e)) c.packet.ensures.store);
       same = untouched_next i first groups new c.loop-i.invariant.same;
       later = let a = c.packet.ensures.steps in let b = c.loop-i.invariant.later in omega arith;
       cost =
           let most = group_cost g.row.WAYS c.args.at in
           within_next c.args.steps.now c.loop-i.steps c.packet.new.steps (sum_by most (take i first)) (most group)
-          (sum_by most (take (i + 1) first)) (sum_next most first i group was)
+          (sum_by most (take (i + 1) first)) (sum_next most first i _ was)
           c.loop-i.invariant.cost (group_within g.row.WAYS c.args.at c.loop-i.steps c.packet.new.steps group at c.packet.ensures.cost);
       key = c.packet.auto.key ∙ c.loop-i.invariant.key;
       args = c.packet.auto.args ∙ c.loop-i.invariant.args;
@@ -99,7 +97,7 @@ pub returns-clause-makes : goal.returns-clause-makes
 returns-clause-makes g c =
     let kept = c.loop-i.auto.groups in
     let end = c.loop-i-test.false in
-    done_end (λ n. GroupMakesAll g.row.WAYS c.args.at (event_of (taken_at (wiring_at c.args.plan.now n) c.args.registers.now))) c.loop-i.i
+    done_end _ c.loop-i.i
     c.args.groups.now c.loop-i.groups c.loop-i.invariant.makes
     (omega arith)
 
@@ -107,7 +105,7 @@ pub returns-clause-stores : goal.returns-clause-stores
 returns-clause-stores g c =
     let kept = c.loop-i.auto.groups in
     let end = c.loop-i-test.false in
-    done_end (λ n (a b : GroupView). b.store ≡ a.store) c.loop-i.i c.args.groups.now c.loop-i.groups c.loop-i.invariant.stores (omega arith)
+    done_end _ c.loop-i.i c.args.groups.now c.loop-i.groups c.loop-i.invariant.stores (omega arith)
 
 pub returns-clause-cost : goal.returns-clause-cost
 returns-clause-cost g c = omega (arith, sum_within (group_cost g.row.WAYS c.args.at) c.loop-i.i c.args.groups.now, c.loop-i.invariant.cost)

@@ -2,7 +2,6 @@ use Rattle.std.proofs.Common.{◌≡◌, ℕ, ◌+◌, ◌*◌, ◌≤◌, true,
 use Rattle.epoch_model.specs.Driving.{Taken, event_of}
 use Rattle.epoch_model.specs.Keys.{Key, ArgRow}
 use Rattle.epoch_entry.specs.contracts.any.AnyEpochsEpochKind.TheImpl.{ghosts}
-use Rattle.query_lang.specs.Words.{holds}
 use Rattle.stage_plan.specs.Planned.{wiring_at}
 use Rattle.stage_plan.specs.Registers.{operand_value, taken_at}
 use Rattle.switch_core.specs.FrontEvents.{with_store}
@@ -15,7 +14,7 @@ returns-then-present-clause-carries g c store =
     let new = with_store c.packet.new.self store in
     let wiring = wiring_at c.args.plan.now c.args.group in
     let registers = c.args.registers.now in
-    let t : holds (operand_value registers wiring.present) ≡ true = sym c.present.ensures ∙ c.if-present.true in
+    let t = sym c.present.ensures ∙ c.if-present.true in
     let key = c.key_into.new.key in
     let row = c.args_into.new.args in
     let taking : Key → ArgRow → Option Taken = λ k r. Some (record { key = k; row = r }) in
@@ -29,8 +28,8 @@ returns-else-present-clause-carries g c store =
     let lane = with_store c.args.front.now store in
     let wiring = wiring_at c.args.plan.now c.args.group in
     let registers = c.args.registers.now in
-    let t : holds (operand_value registers wiring.present) ≡ false = sym c.present.ensures ∙ c.if-present.false in
-    let none : [] ≡ event_of (taken_at wiring registers) = rw t refl in
+    let t = sym c.present.ensures ∙ c.if-present.false in
+    let none : [] ≡ event_of (taken_at wiring registers) = rw t in
     subst (λ events. LaneCarries g.row.WAYS events lane lane) none refl
 
 -- steps of a key and of a row of arguments, and then of a packet
@@ -39,7 +38,7 @@ copied : (start key args end keys row most : ℕ) → key ≡ start + keys → a
 copied start key args end keys row most k r e = omega arith
 
 pub returns-then-present-clause-cost : goal.returns-then-present-clause-cost
-returns-then-present-clause-cost g c store =
+returns-then-present-clause-cost g c _ =
     let start = c.args.steps.now in
     let front = c.args.front.now in
     let words = front.cache.key_words in

@@ -1,4 +1,4 @@
-use Rattle.std.proofs.Common.{◌+◌, ◌≤◌, length, refl, sym, subst, arith, lit<}
+use Rattle.std.proofs.Common.{length, refl, sym, subst, arith, lit<}
 use Rattle.std.proofs.Math.Logic.{∥∥₁_elim}
 use Rattle.std.proofs.Props.{props}
 use Rattle.fold_class.specs.Program.{IsProgram, IsProgramOf}
@@ -18,7 +18,7 @@ new-requires g c =
     let keys = c.requires.keys in
     let long = c.len-keys.ensures in
     let kind = c.of-kind.result in
-    let small : c.len-keys.result + (ghosts.sizes kind).entry ≤ 512 = ∥∥₁_elim c.requires.program (hlevel props) (λ h.
+    let small = ∥∥₁_elim c.requires.program (hlevel props) (λ h.
     let of_kind = c.of-kind.ensures.kind h.0 (subst (IsProgramOf h.0) (sym c.in_ok-copy.ensures) h.1) in
     let few = c.entries_are_small.ensures Folds h.0 (ghosts.sizes kind) (ghosts.folding kind) (ghosts.open_bound kind)
     (ghosts.absorb_bound kind) c.len-keys.result h.1.valid of_kind
@@ -72,10 +72,10 @@ returns-clause-grows g c =
       kind = refl;
       wide = have_push (λ x. length x.cache.lists) c.args.buckets p.fronts.items new front p.kind p.store added made.buckets;
       pipes = have_push (λ x. x.pipe.places) c.args.pipe_records p.fronts.items new front p.kind p.store added made.places;
-      others = others_push view new front added;
+      others = others_push view _ front added;
       stands = λ events merged s. record {
         fronts = subst (λ fronts. FrontsStand ghosts.stands g.row.WAYS c.args.buckets fronts events merged) (sym added)
-            (one_more_stands ghosts.stands g.row.WAYS c.args.buckets p.fronts.items front events merged made.buckets
+            (one_more_stands _ _ _ _ front _ _ made.buckets
             made.stands s.fronts);
         store = s.store;
       };

@@ -1,13 +1,11 @@
 -- An upkeep of a switch's front, with the groupby's store.
 use Rattle.std.proofs.Common.{rules, ◌+◌, ◌≤◌, subst}
-use Rattle.std.specs.Prelude.{slice_get}
-use Rattle.epoch_entry.specs.contracts.any.AnyEpochsEpochKind.TheImpl.{ghosts}
-use Rattle.switch_core.specs.FrontEvents.{CarriesFirst, with_store}
-use Rattle.switch_core.specs.Upkeeps.{IsKept, upkeep_events}
+use Rattle.switch_core.specs.FrontEvents.{with_store}
+use Rattle.switch_core.specs.Upkeeps.{upkeep_events}
 use Rattle.switch_core.proofs.LaneFacts.{on_err, on_ok}
 use Rattle.switch_core.proofs.LaneMakes.{on_both}
 use Rattle.network.specs.Costs.{group_upkeep_cost}
-use Rattle.network.specs.Events.{GroupBreaksOff, GroupMakesAll, IsLeft, LaneCarries, upkeep_in, with_lane}
+use Rattle.network.specs.Events.{GroupBreaksOff, GroupMakesAll, with_lane}
 use Rattle.network.proofs.CostSteps.{upkeep_within}
 use Rattle.network.proofs.MakeSteps.{all_made, first_made, left_by, left_here}
 use Rattle.network.proofs.OneFront.{IsFront, group_of, front_found, front_shares, front_was, front_now}
@@ -31,8 +29,8 @@ returns-clause-makes g c =
     let front = c.index_mut-front.result.now in
     let events = upkeep_events c.args.upkeep front.cache front.pipe in
     let lane = with_store c.keep_up.new.front c.keep_up.new.store in
-    on_ok (LaneCarries g.row.WAYS events (with_store front view.store) lane)
-    (GroupMakesAll g.row.WAYS at (upkeep_in c.args.upkeep (slice_get c.args.self.now.fronts at)) c.args.self.now (with_lane at lane view))
+    on_ok _
+    _
     c.keep_up.result
     (λ made. rw (front_was f) (subst (λ v. GroupMakesAll g.row.WAYS at events v (with_lane at lane view)) f.same
     (all_made g.row.WAYS at events view front lane f.here (front_shares f c.requires.shares.0 c.requires.shares.1).alike made)))
@@ -46,8 +44,8 @@ returns-clause-breaks_off g c =
     let front = c.index_mut-front.result.now in
     let events = upkeep_events c.args.upkeep front.cache front.pipe in
     let lane = with_store c.keep_up.new.front c.keep_up.new.store in
-    on_err (CarriesFirst ghosts.stands ghosts.folding g.row.WAYS events (with_store front view.store) lane)
-    (GroupBreaksOff g.row.WAYS at (upkeep_in c.args.upkeep (slice_get c.args.self.now.fronts at)) c.args.self.now (with_lane at lane view))
+    on_err _
+    _
     c.keep_up.result
     (λ broke. rw (front_was f) (subst (λ v. GroupBreaksOff g.row.WAYS at events v (with_lane at lane view)) f.same
     (first_made g.row.WAYS at events view front lane f.here (front_shares f c.requires.shares.0 c.requires.shares.1).alike broke)))
@@ -61,10 +59,10 @@ returns-clause-left g c =
     let front = c.index_mut-front.result.now in
     let new = c.keep_up.new.front in
     let lane = with_store new c.keep_up.new.store in
-    on_both (LaneCarries g.row.WAYS (upkeep_events c.args.upkeep front.cache front.pipe) (with_store front view.store) lane)
-    (IsKept c.args.upkeep new.cache new.pipe)
-    (IsLeft c.args.upkeep (slice_get c.args.self.now.fronts at) (slice_get (with_lane at lane view).fronts at)) c.keep_up.result
-    (λ made kept. left_here c.args.upkeep (slice_get c.args.self.now.fronts at) (slice_get (with_lane at lane view).fronts at) front new
+    on_both _
+    _
+    _ c.keep_up.result
+    (λ made kept. left_here c.args.upkeep _ _ _ _
     (front_was f) (front_now f new) (left_by g.row.WAYS c.args.upkeep front view.store lane made kept))
     c.keep_up.ensures.carries c.keep_up.ensures.left
 

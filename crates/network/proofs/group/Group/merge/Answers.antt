@@ -1,12 +1,11 @@
-use Rattle.std.proofs.Common.{rules, ◌≡◌, ◌+◌, ◌≤◌, ◌<◌, true, length, sym, ap, ◌∙◌, subst}
-use Rattle.epoch_entry.specs.contracts.any.AnyEpochsEpochKind.TheImpl.{ghosts}
+use Rattle.std.proofs.Common.{rules, ◌+◌, ◌≤◌, length, sym, ap, ◌∙◌, subst}
 use Rattle.epoch_model.specs.Machine.{Merge}
-use Rattle.switch_core.specs.FrontEvents.{Carries, with_store}
+use Rattle.switch_core.specs.FrontEvents.{with_store}
 use Rattle.switch_core.specs.PlanLanes.{lane_merge_cost}
 use Rattle.switch_core.specs.declared.upkeep.Upkeep.TheVariants as due
 use Rattle.switch_core.proofs.LaneFacts.{on_err, on_ok}
 use Rattle.network.specs.Costs.{group_merge_cost, lane_in}
-use Rattle.network.specs.Events.{GroupMakes, is_ready_at, with_lane}
+use Rattle.network.specs.Events.{GroupMakes, with_lane}
 use Rattle.network.proofs.CostSteps.{upkeep_within}
 use Rattle.network.proofs.MakeSteps.{one_makes, ready_at}
 use Rattle.network.proofs.OneFront.{IsFront, group_of, front_found, front_shares, front_is, front_now, front_kept}
@@ -29,8 +28,8 @@ returns-clause-makes g c =
     let view = group_of c.self.inside in
     let front = c.index_mut-front.result.now in
     let lane = with_store c.merge_into.new.self c.merge_into.new.store in
-    on_ok (Carries ghosts.stands ghosts.folding g.row.WAYS Merge (with_store front view.store) lane)
-    (GroupMakes g.row.WAYS at Merge c.args.self.now (with_lane at lane view)) c.merge_into.result
+    on_ok _
+    _ c.merge_into.result
     (λ made. subst (λ v. GroupMakes g.row.WAYS at Merge v (with_lane at lane view)) c.self.view_is
     (one_makes g.row.WAYS at Merge view front lane f.here (front_shares f c.requires.shares.0 c.requires.shares.1).alike made))
     c.merge_into.ensures.carries
@@ -40,7 +39,7 @@ returns-clause-ready g c =
     let f = front g (goal.at.returns-clause-ready g c).After-index_mut-front in
     let new = c.merge_into.new.self in
     let after = with_lane c.args.at (with_store new c.merge_into.new.store) (group_of c.self.inside) in
-    on_ok (length new.pipe.records < new.pipe.places) (is_ready_at c.args.at after ≡ true) c.merge_into.result
+    on_ok _ _ c.merge_into.result
     (ready_at c.args.at after new (front_now f new)) c.merge_into.ensures.ready
 
 pub returns-clause-empty : goal.returns-clause-empty
@@ -59,8 +58,8 @@ returns-clause-err g c =
     let view = group_of c.self.inside in
     let new = c.merge_into.new.self in
     let store = c.merge_into.new.store in
-    on_err ((new ≡ c.index_mut-front.result.now) × (store ≡ view.store))
-    (with_lane c.args.at (with_store new store) view ≡ c.args.self.now) c.merge_into.result (front_kept f new store)
+    on_err _
+    _ c.merge_into.result (front_kept f new store)
     c.merge_into.ensures.err
 
 pub returns-clause-cost : goal.returns-clause-cost

@@ -11,7 +11,7 @@ pub of-kind-requires : goal.of-kind-requires
 of-kind-requires g c = subst IsProgram (sym c.in_ok-copy.ensures) c.requires.program
 
 pub returns-clause-is : goal.returns-clause-is
-returns-clause-is g c wiring = record {
+returns-clause-is g c _ = record {
   keys = ap (λ s. s.key_words) c.new-store.ensures ∙ c.len.ensures;
   states = ap (λ s. s.state_words) c.new-store.ensures ∙ c.state_words.ensures;
   class = ∥∥₁_elim c.requires.program (hlevel props) (λ h. (c.of-kind.ensures.kind h.0

@@ -44,12 +44,12 @@ grown : (g : _) (c : In_ok-add_switch g) → (let p = c.self.inside in let new =
     Each (GroupGrows g.row.WAYS p.buckets p.pipe_records) p.groups.items (take p.groups.len (new ++ drop (length new) p.groups.items)))
 grown g c =
     let p = c.self.inside in
-    ran_whole (Each (GroupGrows g.row.WAYS p.buckets p.pipe_records)) p.groups.items c.deref_mut.result.now c.add_switch.new.groups
+    ran_whole (Each (GroupGrows g.row.WAYS p.buckets p.pipe_records)) _ _ c.add_switch.new.groups
     p.groups.len c.deref_mut.ensures.value (c.add_switch.auto.groups ∙ c.deref_mut.ensures.len) c.in_ok-add_switch.ensures.grow
 
 pub invariant_of-self : goal.invariant_of-self
 invariant_of-self g c = (
-  same_network g.row.WAYS (view_of c.self.inside) _ (same g (goal.at.invariant_of-self g c).In_err-add_switch) c.self.invariant.0,
+  same_network _ _ _ (same g (goal.at.invariant_of-self g c).In_err-add_switch) c.self.invariant.0,
   c.self.invariant.1,
 )
 
@@ -61,7 +61,7 @@ invariant_of-self-2 g c =
     (c.add_switch.auto.groups ∙ c.deref_mut.ensures.len)))
     (c.in_ok-add_switch.ensures.are p.switches (subst (AreGroups p.plan p.switches) (sym c.deref_mut.ensures.value)
     c.self.invariant.0.groups)) in (
-      grown_network g.row.WAYS (view_of p) _ (subst (λ (v : NetworkView). v.switches < 64) (sym c.self.view_is) c.requires) are
+      grown_network _ _ _ (subst (λ (v : NetworkView). v.switches < 64) (sym c.self.view_is) c.requires) are
           (grown g (goal.at.invariant_of-self-2 g c).In_ok-add_switch) c.self.invariant.0,
       c.self.invariant.1,
     )
@@ -78,7 +78,7 @@ returns-clause-grows g c =
     })
 
 pub returns-clause-stands : goal.returns-clause-stands
-returns-clause-stands g c events stand = grown_stands g.row.WAYS c.args.self.now _ events (returns-clause-grows g c) stand
+returns-clause-stands g c events stand = grown_stands _ _ _ events (returns-clause-grows g c) stand
 
 pub returns-in_err-add_switch-clause-err : goal.returns-in_err-add_switch-clause-err
 returns-in_err-add_switch-clause-err g c =

@@ -1,26 +1,9 @@
-use Rattle.std.proofs.Common.{◌≡◌, ℕ, true, [], List, Result, Ok, Err, Some, length, sym, subst, lit<}
-use Rattle.std.specs.Prelude.{IfOk, filter, map, slice_get, slice_index}
-use Rattle.std.specs.List.{list_all}
-use Rattle.query_lang.specs.declared.typed.TypedQuery.{TypedQuery}
-use Rattle.query_lang.specs.Folds.{initial_state}
-use Rattle.query_lang.specs.declared.fold.TypedFold.{TypedFold}
-use Rattle.epoch_model.specs.Keys.{Key, ascending, has}
-use Rattle.epoch_model.specs.Laws.{rows_given}
-use Rattle.epoch_model.specs.Machine.{Epoch, lists_of}
-use Rattle.epoch_model.specs.TableLaws.{keys_given}
-use Rattle.epoch_model.specs.Tables.{closed_key_rows, exact_row}
-use Rattle.epoch_entry.specs.Foldings.{folding_of}
-use Rattle.final_queries.specs.Finals.{is_of_key}
-use Rattle.final_queries.specs.declared.table.Table.{Table}
-use Rattle.additive_laws.specs.Laws.{IsAdditiveFrom}
-use Rattle.additive_laws.specs.Network.{all_epochs, all_events, machine_at}
-use Rattle.stage_plan.specs.Packets.{AreWhole}
+use Rattle.std.proofs.Common.{◌≡◌, List, Result, Ok, Err, sym, subst, lit<}
+use Rattle.std.specs.Prelude.{IfOk}
+use Rattle.epoch_model.specs.Machine.{Epoch}
 use Rattle.stage_plan.specs.declared.group.GroupPlan.{GroupPlan}
-use Rattle.net_wide.specs.NetTables.{caches_of, net_tables, tables_of_pieces}
-use Rattle.network.specs.Ends.{AreTakenAt, CombineOver, EvictsLast, IsDrainedWith, IsSwitchPlace, packets_taken, pieces_closed}
-use Rattle.network.specs.Groups.{AreGroups, GroupView, StoresHold, group_is_drained, shared_tables}
+use Rattle.network.specs.Groups.{AreGroups, GroupView, StoresHold, shared_tables}
 use Rattle.network.specs.Networks.{IsNetwork, NetworkView}
-use Rattle.network.specs.Running.{NetworkEvent, NetworkStands, all_given, merged_after}
 use Rattle.network.proofs.Ends.{tables_closed, tables_defined}
 use Rattle.network.proofs.Exact.{additive_rows, own_rows_are}
 use Rattle.network.proofs.network.Network.close.Goals as goal

@@ -19,7 +19,7 @@ sweeps net at = without_merges (upkeep_calls at due.Sweep net)
 module _ (ways at : ℕ) (old cur mid new : NetworkView) (was : RunsWithMerges ways (joined_below at (sweeps old)) old cur) (same : (n : ℕ)
     → front_at cur n at ≡ front_at old n at) where
   calls : upkeep_calls at due.Sweep cur ≡ upkeep_calls at due.Sweep old
-  calls = calls_same at due.Sweep old cur (kept_long old cur (merging_kept ways (joined_below at (sweeps old)) old cur was)) same
+  calls = calls_same at due.Sweep old cur (kept_long _ _ (merging_kept ways (joined_below at (sweeps old)) old cur was)) same
 
   swept : NetworkRuns ways (upkeep_calls at due.Sweep cur) cur mid → RunsWithMerges ways (sweeps old at) cur mid
   swept ran = subst (λ es. RunsWithMerges ways (without_merges es) cur mid) calls
@@ -88,8 +88,8 @@ loop-at-preserved g c =
     let sweep = c.in_ok-keep_up.ensures in
     let rest = c.in_ok-keep_up-2.ensures in
     let kept = merging_kept ways (joined_below at (sweeps old)) old cur was.runs in
-    let long = kept_long old cur kept in
-    let longer = kept_long cur mid (runs_kept ways (upkeep_calls at due.Sweep cur) cur mid sweep.runs) in
+    let long = kept_long _ _ kept in
+    let longer = kept_long _ _ (runs_kept ways (upkeep_calls at due.Sweep cur) cur mid sweep.runs) in
     record {
       runs = merging_next ways (sweeps old) at old cur new was.runs
           (next ways at old cur mid new was.runs (λ n. was.same n at (omega arith)) sweep.runs rest.runs);
@@ -125,10 +125,10 @@ returns-clause-drained g c =
     let events = joined_below c.loop-at.at (sweeps old) in
     let kept = merging_kept ways events old cur was.runs in
     let many = kept.switches in
-    let long = kept_long old cur kept in
+    let long = kept_long _ _ kept in
     let a = c.loop-at-test.false in
     let d = c.switches-at-end.ensures in
-    all_emptied ways cur (merging_is ways events old cur was.runs c.invariant.ensures)
+    all_emptied _ _ (merging_is _ events _ cur was.runs c.invariant.ensures)
     (λ n s below within. was.drained n s (omega arith) (omega arith))
 
 pub returns-in_err-keep_up-clause-breaks_off : goal.returns-in_err-keep_up-clause-breaks_off
@@ -139,7 +139,7 @@ returns-in_err-keep_up-clause-breaks_off g c =
     let mid = c.keep_up.new.self in
     let end = c.switches-at-end.ensures in
     let less = c.loop-at-test.true in
-    if_err (MergingBreaksOff g.row.WAYS (all_evictions old) old mid) c.from_residual.result
+    if_err _ c.from_residual.result
     (sweep_breaks g.row.WAYS at old c.loop-at.self mid mid was.runs (λ n. was.same n at (omega arith))
     (omega arith) c.in_err-keep_up.ensures.breaks_off)
 
@@ -151,6 +151,6 @@ returns-in_err-keep_up-2-clause-breaks_off g c =
     let new = c.keep_up-in-loop-at.new.self in
     let end = c.switches-at-end.ensures in
     let less = c.loop-at-test.true in
-    if_err (MergingBreaksOff g.row.WAYS (all_evictions old) old new) c.from_residual-in_err-keep_up-2.result
+    if_err _ c.from_residual-in_err-keep_up-2.result
     (rest_breaks g.row.WAYS at old c.loop-at.self c.keep_up.new.self new was.runs (λ n. was.same n at (omega arith))
     (omega arith) c.in_ok-keep_up.ensures.runs c.in_err-keep_up-2.ensures.breaks_off)

@@ -48,7 +48,7 @@ returns-clause-stores g c =
     let l = lane g (goal.at.returns-clause-stores g c).After-index_mut-group in
     let groups = c.self.inside.groups.items in
     subst (λ (v : NetworkView). StoresStay v.groups (set groups c.args.lane c.evict.new.self)) c.self.view_is
-    (stores_one c.args.lane groups c.index_mut-group.result.now c.evict.new.self l.here c.evict.ensures.store)
+    (stores_one c.args.lane groups _ c.evict.new.self l.here c.evict.ensures.store)
 
 pub returns-clause-some : goal.returns-clause-some
 returns-clause-some g c x e front f =

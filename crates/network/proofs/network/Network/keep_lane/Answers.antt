@@ -5,7 +5,7 @@ use Rattle.switch_core.proofs.LaneFacts.{either_way, on_err, on_ok}
 use Rattle.network.specs.Costs.{front_upkeep_cost}
 use Rattle.network.specs.Events.{GroupBreaksOff, GroupMakesAll, IsLeft, upkeep_in}
 use Rattle.network.specs.Networks.{IsNetwork}
-use Rattle.network.specs.Running.{FrontsStay, NetworkRuns, RunBreaksOff, front_at, lane_calls}
+use Rattle.network.specs.Running.{FrontsStay, NetworkRuns, RunBreaksOff, lane_calls}
 use Rattle.network.proofs.Calls.{lane_stays, upkeep_breaks, upkeep_runs}
 use Rattle.network.proofs.MakeSteps.{others_stay}
 use Rattle.network.proofs.OneLane.{IsLane, view_of, after, lane_found, lane_switch, lane_shares, front_was, front_now}
@@ -33,10 +33,10 @@ invariant_of-self g c =
     let events = upkeep_in c.args.upkeep (slice_get group.fronts at) in (
       either_way (GroupMakesAll ways at events group new) (GroupBreaksOff ways at events group new)
           (IsNetwork ways (after l new)) c.keep_up.result c.keep_up.ensures.makes c.keep_up.ensures.breaks_off
-          (λ made. runs_is ways (lane_calls at c.args.upkeep view c.args.lane) view (after l new)
+          (λ made. runs_is _ (lane_calls at c.args.upkeep view c.args.lane) _ (after l new)
           (upkeep_runs ways at c.args.lane c.args.upkeep view group new l.here made) l.network)
           (λ broke. let first = upkeep_breaks ways at c.args.lane c.args.upkeep view group new l.here broke in
-          runs_is ways first.0 view (after l new) first.2 l.network),
+          runs_is _ first.0 _ (after l new) first.2 l.network),
       c.self.invariant.1,
     )
 
@@ -45,8 +45,8 @@ returns-clause-runs g c =
     let l = lane g (goal.at.returns-clause-runs g c).After-index_mut-group in
     let group = c.index_mut-group.result.now in
     let new = c.keep_up.new.self in
-    on_ok (GroupMakesAll g.row.WAYS c.args.at (upkeep_in c.args.upkeep (slice_get group.fronts c.args.at)) group new)
-    (NetworkRuns g.row.WAYS (lane_calls c.args.at c.args.upkeep c.args.self.now c.args.lane) c.args.self.now (after l new)) c.keep_up.result
+    on_ok _
+    _ c.keep_up.result
     (λ made. subst (λ v. NetworkRuns g.row.WAYS (lane_calls c.args.at c.args.upkeep v c.args.lane) v (after l new)) c.self.view_is
     (upkeep_runs g.row.WAYS c.args.at c.args.lane c.args.upkeep (view_of c.self.inside) group new l.here made)) c.keep_up.ensures.makes
 
@@ -55,8 +55,8 @@ returns-clause-breaks_off g c =
     let l = lane g (goal.at.returns-clause-breaks_off g c).After-index_mut-group in
     let group = c.index_mut-group.result.now in
     let new = c.keep_up.new.self in
-    on_err (GroupBreaksOff g.row.WAYS c.args.at (upkeep_in c.args.upkeep (slice_get group.fronts c.args.at)) group new)
-    (RunBreaksOff g.row.WAYS (lane_calls c.args.at c.args.upkeep c.args.self.now c.args.lane) c.args.self.now (after l new))
+    on_err _
+    _
     c.keep_up.result
     (λ broke. subst (λ v. RunBreaksOff g.row.WAYS (lane_calls c.args.at c.args.upkeep v c.args.lane) v (after l new)) c.self.view_is
     (upkeep_breaks g.row.WAYS c.args.at c.args.lane c.args.upkeep (view_of c.self.inside) group new l.here broke))
@@ -68,8 +68,8 @@ returns-clause-left g c =
     let at = c.args.at in
     let group = c.index_mut-group.result.now in
     let new = c.keep_up.new.self in
-    on_ok (IsLeft c.args.upkeep (slice_get group.fronts at) (slice_get new.fronts at))
-    (IsLeft c.args.upkeep (front_at c.args.self.now c.args.lane at) (front_at (after l new) c.args.lane at)) c.keep_up.result
+    on_ok _
+    _ c.keep_up.result
     (subst₂ (IsLeft c.args.upkeep) (front_was l at) (front_now l new at)) c.keep_up.ensures.left
 
 pub returns-clause-others : goal.returns-clause-others
@@ -80,7 +80,7 @@ returns-clause-others g c =
     let group = c.index_mut-group.result.now in
     let new = c.keep_up.new.self in
     let events = upkeep_in c.args.upkeep (slice_get group.fronts at) in
-    on_ok (GroupMakesAll ways at events group new) (FrontsStay c.args.lane at c.args.self.now (after l new)) c.keep_up.result
+    on_ok _ _ c.keep_up.result
     (λ made. subst (λ v. FrontsStay c.args.lane at v (after l new)) c.self.view_is
     (lane_stays at c.args.lane (view_of c.self.inside) group new l.here
     (others_stay ways at (λ n. events) (group ∷ []) (new ∷ []) (made, tt)).0))

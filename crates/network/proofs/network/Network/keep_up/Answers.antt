@@ -30,7 +30,7 @@ keep_lane-requires g c =
     let old = c.args.self.now in
     let cur = c.loop-lane.self in
     let kept = runs_kept g.row.WAYS (joined_below c.loop-lane.lane (lane_calls at c.args.upkeep old)) old cur c.loop-lane.invariant.runs in
-    let long = kept_long old cur kept in
+    let long = kept_long _ _ kept in
     let end = c.lanes-lane-end.ensures in
     let less = c.loop-lane-test.true in
     (lit< tt, (subst (λ n. at < n) (sym kept.switches) c.requires, omega arith))
@@ -47,7 +47,7 @@ loop-lane-preserved g c =
     let was = c.loop-lane.invariant in
     let end = c.lanes-lane-end.ensures in
     let less = c.loop-lane-test.true in
-    let same : front_at cur lane at ≡ front_at old lane at = was.still lane at (λ e. let l = e.0 in omega arith) in
+    let same = was.still lane at (λ e. let l = e.0 in omega arith) in
     let done = c.in_ok-keep_lane.ensures in
     record {
       runs = runs_next ways (lane_calls at upkeep old) lane old cur new was.runs
@@ -66,11 +66,11 @@ loop-lane-preserved g c =
       cost =
           let most = group_upkeep_cost upkeep at in
           let here = got_some old.groups lane (omega arith) in
-          let cost : c.keep_lane.new.steps ≤ c.loop-lane.steps + most here.0 =
+          let cost =
           subst (λ o. c.keep_lane.new.steps ≤ c.loop-lane.steps + front_upkeep_cost upkeep o)
           (same ∙ front_here at lane old here.0 here.1) c.keep_lane.ensures.cost in
           within_next c.args.steps.now c.loop-lane.steps c.keep_lane.new.steps (sum_by most (take lane old.groups)) (most here.0)
-          (sum_by most (take (lane + 1) old.groups)) (sum_next most old.groups lane here.0 here.1)
+          (sum_by most (take (lane + 1) old.groups)) (sum_next most old.groups lane _ here.1)
           was.cost cost;
     }
 
@@ -112,7 +112,7 @@ returns-in_err-keep_lane-clause-breaks_off g c =
     let was = c.loop-lane.invariant in
     let less = c.loop-lane-test.true in
     let end = c.lanes-lane-end.ensures in
-    let same : front_at cur lane at ≡ front_at old lane at = was.still lane at (λ e. let l = e.0 in omega arith) in
+    let same = was.still lane at (λ e. let l = e.0 in omega arith) in
     if_err _ c.from_residual.result (run_breaks ways (lane_calls at upkeep old) lane (length old.groups) old cur new (omega arith) was.runs
     (subst (λ o. RunBreaksOff ways (calls_of at lane (upkeep_in upkeep o)) cur new) same c.in_err-keep_lane.ensures.breaks_off))
 
@@ -127,12 +127,12 @@ returns-in_err-keep_lane-clause-cost g c =
     let end = c.lanes-lane-end.ensures in
     let less = c.loop-lane-test.true in
     let here = got_some old.groups lane (omega arith) in
-    let same : front_at c.loop-lane.self lane at ≡ front_at old lane at = was.still lane at (λ e. let l = e.0 in omega arith) in
-    let cost : c.keep_lane.new.steps ≤ c.loop-lane.steps + most here.0 =
+    let same = was.still lane at (λ e. let l = e.0 in omega arith) in
+    let cost =
     subst (λ o. c.keep_lane.new.steps ≤ c.loop-lane.steps + front_upkeep_cost upkeep o) (same ∙ front_here at lane old here.0 here.1)
     c.keep_lane.ensures.cost in
     let next = within_next c.args.steps.now c.loop-lane.steps c.keep_lane.new.steps (sum_by most (take lane old.groups)) (most here.0)
-    (sum_by most (take (lane + 1) old.groups)) (sum_next most old.groups lane here.0 here.1)
+    (sum_by most (take (lane + 1) old.groups)) (sum_next most old.groups lane _ here.1)
     was.cost cost in
     let all = sum_within most (lane + 1) old.groups in
     omega arith

@@ -12,5 +12,5 @@ pub ready-requires : goal.ready-requires
 ready-requires g c = (lit< tt, lane_switch (lane g c) c.requires.switch)
 
 pub returns : goal.returns
-returns g c group e =
+returns g c _ e =
     c.ready.ensures ∙ ap (is_ready_at c.args.at) (lane_is (lane g (goal.at.returns g c).After-index-group) e)

@@ -1,11 +1,11 @@
-use Rattle.std.proofs.Common.{◌≡◌, ◌+◌, ◌≤◌, true, sym, ap, ◌∙◌, subst, lit<}
+use Rattle.std.proofs.Common.{◌≡◌, ◌+◌, ◌≤◌, sym, ap, ◌∙◌, subst, lit<}
 use Rattle.epoch_model.specs.Machine.{Merge}
 use Rattle.switch_core.proofs.LaneFacts.{either_way, on_err, on_ok}
 use Rattle.switch_core.proofs.SideBySide.{same_some}
 use Rattle.network.specs.Costs.{group_merge_cost}
-use Rattle.network.specs.Events.{AtGroup, GroupMakes, OthersStay, is_ready_at}
+use Rattle.network.specs.Events.{GroupMakes, OthersStay, is_ready_at}
 use Rattle.network.specs.Networks.{IsNetwork}
-use Rattle.network.specs.Running.{Merges, NetworkMakes}
+use Rattle.network.specs.Running.{Merges}
 use Rattle.network.proofs.OneLane.{IsLane, view_of, after, lane_found, lane_switch, lane_shares, lane_is, lane_front, lane_now, lane_kept}
 use Rattle.network.proofs.OneLane.{kept_network, kept_others, groups_made, network_made, others_made, event_made}
 use Rattle.network.proofs.network.Network.merge.Goals as goal
@@ -34,8 +34,8 @@ pub returns-clause-makes : goal.returns-clause-makes
 returns-clause-makes g c =
     let l = lane g (goal.at.returns-clause-makes g c).After-index_mut-group in
     let new = c.merge.new.self in
-    on_ok (GroupMakes g.row.WAYS c.args.at Merge c.index_mut-group.result.now new)
-    (NetworkMakes g.row.WAYS (Merges c.args.at c.args.lane) c.args.self.now (after l new)) c.merge.result
+    on_ok _
+    _ c.merge.result
     (λ made. event_made l new (Merges c.args.at c.args.lane) (groups_made l new c.args.at Merge made)) c.merge.ensures.makes
 
 pub returns-clause-others : goal.returns-clause-others
@@ -50,7 +50,7 @@ pub returns-clause-ready : goal.returns-clause-ready
 returns-clause-ready g c =
     let l = lane g (goal.at.returns-clause-ready g c).After-index_mut-group in
     let new = c.merge.new.self in
-    on_ok (is_ready_at c.args.at new ≡ true) (AtGroup (λ group. is_ready_at c.args.at group ≡ true) (after l new).groups c.args.lane)
+    on_ok _ _
     c.merge.result (λ ready x e. ap (is_ready_at c.args.at) (same_some x new (sym e ∙ lane_now l new)) ∙ ready) c.merge.ensures.ready
 
 pub returns-clause-empty : goal.returns-clause-empty
@@ -64,7 +64,7 @@ returns-clause-same g c is =
 pub returns-clause-err : goal.returns-clause-err
 returns-clause-err g c =
     let l = lane g (goal.at.returns-clause-err g c).After-index_mut-group in
-    on_err (c.merge.new.self ≡ c.index_mut-group.result.now) (after l c.merge.new.self ≡ c.args.self.now) c.merge.result
+    on_err _ _ c.merge.result
     (lane_kept l c.merge.new.self) c.merge.ensures.err
 
 pub returns-clause-cost : goal.returns-clause-cost

@@ -1,7 +1,7 @@
 use Rattle.std.proofs.Common.{◌≡◌, ◌+◌, ◌≤◌, ◌++◌, ℕ, List, length, take, drop, refl, ap, ◌∙◌, subst, arith}
 use Rattle.std.specs.Prelude.{sum_by}
 use Rattle.epoch_model.specs.Driving.{event_of}
-use Rattle.stage_plan.specs.Planned.{plan_bound, registers_of, packet_registers, wiring_at}
+use Rattle.stage_plan.specs.Planned.{plan_bound, registers_of, wiring_at}
 use Rattle.stage_plan.specs.Registers.{taken_at}
 use Rattle.stage_plan.specs.Sound.{IsSoundPlan}
 use Rattle.switch_core.specs.Pipelines.{packet_events}
@@ -33,10 +33,10 @@ made g c =
     let filled = c.row.new.registers in
     let before = c.deref_mut-2.result.now in
     let new = c.packet_groups.new.groups in
-    let registers : c.deref.result.now ≡ packet_registers p.plan words =
+    let registers =
     c.deref.ensures.value
     ∙ (whole_written filled (drop (length filled) p.registers.items) p.registers.len (registers_back g c) ∙ c.row.ensures.row) in
-    ran_whole (GroupsMake g.row.WAYS c.args.at (packet_events p.plan words)) p.groups.items before new p.groups.len
+    ran_whole (GroupsMake g.row.WAYS c.args.at (packet_events p.plan words)) _ _ new _
     c.deref_mut-2.ensures.value (groups_back g c)
     (subst (λ rs. GroupsMake g.row.WAYS c.args.at (λ n. event_of (taken_at (wiring_at p.plan n) rs)) before new) registers
     c.packet_groups.ensures.makes)
@@ -44,7 +44,7 @@ made g c =
 -- a lent vector that is written over is as long as before
 as_long : (new old : List ℕ) (lent : List ℕ) (many : ℕ) → length new ≡ length lent → length lent ≡ many → lent ≡ old
     → length (take many (new ++ drop (length new) old)) ≡ length old
-as_long new old lent many long len same = ap length (whole_written new (drop (length new) old) many (long ∙ len)) ∙ (long ∙ ap length same)
+as_long new old _ many long len same = ap length (whole_written new (drop (length new) old) many (long ∙ len)) ∙ (long ∙ ap length same)
 
 pub invariant_of-self : goal.invariant_of-self
 invariant_of-self g c =
@@ -84,7 +84,7 @@ returns-clause-stores g c =
     let p = c.self.inside in
     let new = c.packet_groups.new.groups in
     subst (λ (v : NetworkView). StoresStay v.groups (take p.groups.len (new ++ drop (length new) p.groups.items))) c.self.view_is
-    (ran_whole StoresStay p.groups.items c.deref_mut-2.result.now new p.groups.len
+    (ran_whole StoresStay _ _ new _
     c.deref_mut-2.ensures.value (groups_back g (goal.at.returns-clause-stores g c).After-packet_groups) c.packet_groups.ensures.stores)
 
 after_row : (start row end registers groups : ℕ) → row ≡ start + registers → end ≤ row + groups → end ≤ start + (registers + groups)
@@ -98,7 +98,7 @@ returns-clause-cost g c =
     let p = c.self.inside in
     let most = group_cost g.row.WAYS c.args.at in
     subst (λ v. c.packet_groups.new.steps ≤ c.args.steps.now + network_cost g.row.WAYS c.args.at v) c.self.view_is
-    (after_row c.args.steps.now c.row.new.steps c.packet_groups.new.steps (registers_of p.plan) (sum_by most p.groups.items)
+    (after_row c.args.steps.now _ c.packet_groups.new.steps (registers_of p.plan) (sum_by most p.groups.items)
     c.row.ensures.steps
     (subst (λ xs. c.packet_groups.new.steps ≤ c.row.new.steps + sum_by most xs) c.deref_mut-2.ensures.value c.packet_groups.ensures.cost))
 

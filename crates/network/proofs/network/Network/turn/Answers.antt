@@ -1,13 +1,11 @@
-use Rattle.std.proofs.Common.{◌≡◌, ℕ, ◌+◌, ◌*◌, ◌≤◌, ◌<◌, Bool, true, false, List, [], ◌∷◌, ◌++◌, length, sym, ap, ◌∙◌, subst}
-use Rattle.std.proofs.Common.{arith, append_assoc, lit<}
+use Rattle.std.proofs.Common.{◌≡◌, ℕ, ◌+◌, ◌*◌, ◌≤◌, ◌<◌, Bool, true, false, List, [], ◌∷◌, ◌++◌, sym, ap, ◌∙◌, subst, arith, append_assoc}
+use Rattle.std.proofs.Common.{lit<}
 use Rattle.std.specs.Prelude.{if◌then◌else◌}
-use Rattle.std.specs.List.{list_all}
 use Rattle.switch_core.specs.declared.upkeep.Upkeep.TheVariants as due
 use Rattle.switch_core.proofs.LaneFacts.{on_err, on_ok}
 use Rattle.switch_core.proofs.LaneMakes.{on_both}
-use Rattle.network.specs.Events.{IsLeft, is_ready_at}
 use Rattle.network.specs.Networks.{NetworkView, network_cost, upkeeps_cost}
-use Rattle.network.specs.Running.{NetworkEvent, NetworkMakes, NetworkRuns, RunBreaksOff, Takes, front_at, turn_events, upkeep_calls}
+use Rattle.network.specs.Running.{NetworkEvent, NetworkMakes, NetworkRuns, RunBreaksOff, Takes, turn_events, upkeep_calls}
 use Rattle.network.proofs.Calls.{lag_same, ready_left}
 use Rattle.network.proofs.CostSteps.{room_cost}
 use Rattle.network.proofs.MakeSteps.{if_err}
@@ -29,8 +27,8 @@ packet-requires g c =
       lit< tt,
       (
         within,
-        ready_left ways at due.Room old room (runs_is ways events old room ran c.invariant.ensures) within
-            (kept_long old room kept) (λ front k. k) c.in_ok-keep_up.ensures.left,
+        ready_left ways at due.Room old room (runs_is _ events _ room ran c.invariant.ensures) within
+            (kept_long _ _ kept) (λ front k. k) c.in_ok-keep_up.ensures.left,
       ),
     )
 
@@ -45,14 +43,14 @@ before_lag : (ways at : ℕ) (words : List ℕ) (old room after : NetworkView) �
     → NetworkMakes ways (Takes at words) room after
     → NetworkRuns ways (upkeep_calls at due.Room old ++ Takes at words ∷ []) old after
 before_lag ways at words old room after ran made =
-    runs_on ways (upkeep_calls at due.Room old) (Takes at words ∷ []) old room after ran (runs_one ways (Takes at words) room after made)
+    runs_on ways (upkeep_calls at due.Room old) (Takes at words ∷ []) old room after ran (runs_one _ _ _ _ made)
 
 pub returns-then-not-lag_over-clause-runs : goal.returns-then-not-lag_over-clause-runs
 returns-then-not-lag_over-clause-runs g c =
     let old = c.args.self.now in
     let at = c.args.at in
     let words = c.args.packet.now.words in
-    let over : c.args.lag_over ≡ false = c.if-not-lag_over.true in
+    let over = c.if-not-lag_over.true in
     subst (λ b. NetworkRuns g.row.WAYS (turn_events at words b old) old c.packet.new.self) (sym over)
     (before_lag g.row.WAYS at words old c.keep_up.new.self c.packet.new.self c.in_ok-keep_up.ensures.runs c.packet.ensures.makes)
 
@@ -60,7 +58,7 @@ returns-then-not-lag_over-clause-runs g c =
 turn_is : (at : ℕ) (words : List ℕ) (over : Bool) (old : NetworkView) (merges : List NetworkEvent) → over ≡ true
     → merges ≡ upkeep_calls at due.Lag old
     → (upkeep_calls at due.Room old ++ Takes at words ∷ []) ++ merges ≡ turn_events at words over old
-turn_is at words over old merges e same =
+turn_is at words _ old merges e same =
     append_assoc (upkeep_calls at due.Room old) (Takes at words ∷ []) merges
     ∙ (ap (λ es. upkeep_calls at due.Room old ++ Takes at words ∷ es) same
     ∙ ap (λ b. upkeep_calls at due.Room old ++ Takes at words ∷ (if b then upkeep_calls at due.Lag old else [])) (sym e))
@@ -85,8 +83,8 @@ returns-clause-runs g c =
     let after = c.packet.new.self in
     let new = c.keep_up-2.new.self in
     let merges = upkeep_calls c.args.at due.Lag after in
-    on_ok (NetworkRuns g.row.WAYS merges after new)
-    (NetworkRuns g.row.WAYS (turn_events c.args.at c.args.packet.now.words c.args.lag_over old) old new) c.keep_up-2.result
+    on_ok _
+    _ c.keep_up-2.result
     (λ ran. subst (λ es. NetworkRuns g.row.WAYS es old new) (whole_turn g x c.if-not-lag_over.false)
     (runs_on g.row.WAYS _ merges old after new (first g x) ran)) c.keep_up-2.ensures.runs
 
@@ -97,15 +95,15 @@ returns-clause-breaks_off g c =
     let after = c.packet.new.self in
     let new = c.keep_up-2.new.self in
     let merges = upkeep_calls c.args.at due.Lag after in
-    on_err (RunBreaksOff g.row.WAYS merges after new)
-    (RunBreaksOff g.row.WAYS (turn_events c.args.at c.args.packet.now.words c.args.lag_over old) old new) c.keep_up-2.result
+    on_err _
+    _ c.keep_up-2.result
     (λ ran. subst (λ es. RunBreaksOff g.row.WAYS es old new) (whole_turn g x c.if-not-lag_over.false)
     (run_breaks_on g.row.WAYS _ merges old after new (first g x) ran)) c.keep_up-2.ensures.breaks_off
 
 pub returns-in_err-keep_up-clause-breaks_off : goal.returns-in_err-keep_up-clause-breaks_off
 returns-in_err-keep_up-clause-breaks_off g c =
     let old = c.args.self.now in
-    let rest : List NetworkEvent = Takes c.args.at c.args.packet.now.words ∷
+    let rest = Takes c.args.at c.args.packet.now.words ∷
     (if c.args.lag_over then upkeep_calls c.args.at due.Lag old else []) in
     if_err _ c.from_residual.result (run_breaks_in g.row.WAYS (upkeep_calls c.args.at due.Room old) rest old c.keep_up.new.self
     c.in_err-keep_up.ensures.breaks_off)
@@ -120,15 +118,14 @@ returns-clause-merged g c =
     let new = c.keep_up-2.new.self in
     let before = upkeep_calls at due.Room old ++ Takes at c.args.packet.now.words ∷ [] in
     let kept = runs_kept ways before old after ran_first in
-    let is = runs_is ways before old after ran_first c.invariant.ensures in
+    let is = runs_is _ before _ after ran_first c.invariant.ensures in
     let merges = upkeep_calls at due.Lag after in
-    on_both (NetworkRuns ways merges after new) ((n : ℕ) → n < length after.groups
-    → IsLeft due.Lag (front_at after n at) (front_at new n at))
-    (c.args.lag_over ≡ true → list_all (is_ready_at at) new.groups ≡ true) c.keep_up-2.result
+    on_both _ _
+    _ c.keep_up-2.result
     (λ ran left over.
     let last = runs_kept ways merges after new ran in
     let within = subst (λ n. at < n) (sym (last.switches ∙ kept.switches)) c.requires in
-    ready_left ways at due.Lag after new (runs_is ways merges after new ran is) within (kept_long after new last) (λ front k. k) left)
+    ready_left ways at due.Lag after new (runs_is _ merges _ new ran is) within (kept_long _ _ last) (λ front k. k) left)
     c.keep_up-2.ensures.runs c.keep_up-2.ensures.left
 
 -- the steps of merges, a packet, and merges again
@@ -177,7 +174,7 @@ returns-clause-cost g c =
     let kept = runs_kept ways (upkeep_calls at due.Room old) old mid c.in_ok-keep_up.ensures.runs in
     let all = runs_kept ways (upkeep_calls at due.Room old ++ Takes at c.args.packet.now.words ∷ []) old after
     (before_lag ways at c.args.packet.now.words old mid after c.in_ok-keep_up.ensures.runs c.packet.ensures.makes) in
-    turn_within start c.keep_up.new.steps c.packet.new.steps c.keep_up-2.new.steps (upkeeps_cost due.Lag at old)
-    (upkeeps_cost due.Lag at after) (network_cost ways at old) (network_cost ways at mid)
+    turn_within start c.keep_up.new.steps c.packet.new.steps c.keep_up-2.new.steps _
+    _ _ _
     (room_is at start c.keep_up.new.steps old c.keep_up.ensures.cost) (packet_cost_kept ways at old mid kept) c.packet.ensures.cost
     (merges_cost_kept at old after all) c.keep_up-2.ensures.cost
