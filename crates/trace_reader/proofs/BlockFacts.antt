@@ -33,7 +33,7 @@ clear_bit : (a b m k : ℕ) → bit_and (bit_or a b) m ≡ 0 → bit_at m k ≡ 
 clear_bit a b m k none one =
     let both : min (max (bit_at a k) (bit_at b k)) (bit_at m k) ≡ 0 =
     ap (λ n. min n (bit_at m k)) (sym (bit_at_or a b k)) ∙ (sym (bit_at_and (bit_or a b) m k)
-    ∙ (ap (λ n. bit_at n k) none ∙ bit_at-zero k)) in
+    ∙ (rw (none, bit_at-zero k))) in
     (omega (arith, both, one), omega (arith, both, one))
 
 -- the lowest byte is a digit, and the sum and the difference go on with the others
@@ -66,7 +66,7 @@ pub byte_before : (x i : ℕ) → bit_at (x / 256) (i * 8 + 7) ≡ bit_at x (suc
 byte_before x i =
     let place : i * 8 + 7 + 8 ≡ suc i * 8 + 7 = omega arith in
     let same : 256 * 2 ^ (i * 8 + 7) ≡ 2 ^ (i * 8 + 7 + 8) = omega (arith, pow-add 2 (i * 8 + 7) 8) in
-    ap (λ z. z % 2) (div-div-eq-div-mul x 256 (2 ^ (i * 8 + 7)) ∙ ap (λ z. x / z) (same ∙ ap (λ k. 2 ^ k) place))
+    rw (div-div-eq-div-mul x 256 (2 ^ (i * 8 + 7)), same, place)
 
 -- the mask of highest bits has each of them
 pub mask_bit : (n i : ℕ) → i < n → bit_at (bytes_word (λ k. 128) n) (i * 8 + 7) ≡ 1
@@ -74,10 +74,10 @@ mask_bit zero i below = absurd (omega arith)
 mask_bit (suc n) zero below = omega arith
 mask_bit (suc n) (suc i) below =
     let rest : (128 + 256 * bytes_word (λ k. 128) n) / 256 ≡ bytes_word (λ k. 128) n = omega arith in
-    sym (byte_before (128 + 256 * bytes_word (λ k. 128) n) i) ∙ (ap (λ x. bit_at x (i * 8 + 7)) rest ∙ mask_bit n i (omega arith))
+    sym (byte_before (128 + 256 * bytes_word (λ k. 128) n) i) ∙ (rw (rest, mask_bit n i (omega arith)))
 
 pub byte_more : (n k : ℕ) → 256 ^ suc n * k ≡ 256 * (256 ^ n * k)
-byte_more n k = ap (λ z. z * k) (pow-succ' 256 n) ∙ mul_assoc 256 (256 ^ n) k
+byte_more n k = rw (pow-succ' 256 n, mul_assoc 256 (256 ^ n) k)
 
 -- where no sum with 70 and no difference from 48 sets the highest bit of a byte, these are digits
 digits_of : (n : ℕ) (b : ℕ → ℕ) (a c k j : ℕ) → ((i : ℕ) → b i < 256) → a + 256 ^ n * k ≡ bytes_word b n + bytes_word (λ i. 70) n
@@ -96,8 +96,7 @@ digits_of (suc n) b a c k j byte sum rest clear =
 -- the lowest bytes of both halves
 two_bytes : (high low : ℕ) → low < 2 ^ 32 → bit_and (high * 2 ^ 32 + low) 1095216660735 ≡ high % 256 * 2 ^ 32 + low % 256
 two_bytes high low small =
-    and_block 32 high 255 low 255 small (omega arith) ∙ (ap (λ n. n * 2 ^ 32 + bit_and low 255) (and_mask high 8)
-    ∙ ap (λ n. high % 256 * 2 ^ 32 + n) (and_mask low 8))
+    rw (and_block 32 high 255 low 255 small (omega arith), and_mask high 8, and_mask low 8)
 
 -- the number of eight digits: of pairs of them, and of pairs of these
 eight_pairs : (d : ℕ → ℕ) (w p first second : ℕ) → AllBelow (λ i. d i ≤ 9) 8 → w ≡ bytes_word d 8
@@ -166,12 +165,12 @@ pub four_read : (text : List ℕ) (read number word sum rest pairs : ℕ) → Is
 four_read text read number word sum rest pairs front room byte is sum_is rest_is none pairs_is =
     let b : ℕ → ℕ = λ i. get_or text (read + i) 0 in
     let here : read + 0 ≡ read = omega arith in
-    let first : get_or text (read + 0) 0 ≡ get_or text read 0 = ap (λ i. get_or text i 0) here in
+    let first : get_or text (read + 0) 0 ≡ get_or text read 0 = rw here in
     let word_is : word ≡ bytes_word b 4 = omega (arith, is, first) in
     let d = digits_of 4 b sum rest ((word + 1179010630) / 2 ^ 32) ((word + 3486502864) / 2 ^ 32) (λ i. byte (read + i))
     (omega (arith, word_is, sum_is)) (omega (arith, word_is, rest_is))
     (λ i below. clear_bit sum rest 2155905152 (i * 8 + 7) none (mask_bit 4 i below)) in
-    let f1 = front_more text read (read + 1) _ (omega (arith, room)) (omega arith) (subst (λ i. IsDigit (get_or text i 0)) here d.0)
+    let f1 = front_more text read (read + 1) _ (omega (arith, room)) (omega arith) (rw (← here) d.0)
     front in
     let f2 = front_more text (read + 1) (read + 2) _ (omega (arith, room)) (omega arith) d.1.0 f1 in
     let f3 = front_more text (read + 2) (read + 3) _ (omega (arith, room)) (omega arith) d.1.1.0 f2 in

@@ -16,7 +16,7 @@ unfolding strip_bom
 mark_goes [] long is = absurd (omega arith)
 mark_goes (a ∷ []) long is = absurd (omega arith)
 mark_goes (a ∷ b ∷ []) long is = absurd (omega arith)
-mark_goes (a ∷ b ∷ c ∷ rest) long is = rw is refl
+mark_goes (a ∷ b ∷ c ∷ rest) long is = rw is
 
 pub no_mark : (text : List ℕ) → 3 ≤ length text → is_bom (get_or text 0 0) (get_or text 1 0) (get_or text 2 0) ≡ false
     → text ≡ strip_bom text
@@ -24,7 +24,7 @@ unfolding strip_bom
 no_mark [] long is = absurd (omega arith)
 no_mark (a ∷ []) long is = absurd (omega arith)
 no_mark (a ∷ b ∷ []) long is = absurd (omega arith)
-no_mark (a ∷ b ∷ c ∷ rest) long is = rw is refl
+no_mark (a ∷ b ∷ c ∷ rest) long is = rw is
 
 pub short_stays : (text : List ℕ) → length text < 3 → text ≡ strip_bom text
 unfolding strip_bom
@@ -38,7 +38,7 @@ pub first_plain : (a : ℕ) (rest : List ℕ) → (a == 239) ≡ false → strip
 unfolding strip_bom
 first_plain a [] e = refl
 first_plain a (b ∷ []) e = refl
-first_plain a (b ∷ c ∷ rest) e = rw e refl
+first_plain a (b ∷ c ∷ rest) e = rw e
 
 line_end_plain : (c : ℕ) → ends_line c ≡ true → (c == 239) ≡ false
 line_end_plain c ends =
@@ -57,5 +57,4 @@ after_line text at some within ends =
     let plain : strip_bom (drop (at - 1) text) ≡ drop (at - 1) text =
     ap strip_bom first ∙ first_plain (get_or text (at - 1) 0) (drop (at - 1 + 1) text) (line_end_plain (get_or text (at - 1) 0) ends)
     ∙ sym first in
-    ap (records_after st.StartRecord) plain ∙ skip_line_end text (at - 1) here ends
-    ∙ ap (λ n. records_after st.StartRecord (drop n text)) next
+    rw (plain, skip_line_end text (at - 1) here ends, next)

@@ -30,7 +30,7 @@ joins : (c : ℕ) → ends_field c ≡ false → does st.InField c ≡ (st.InFie
 joins c goes = in_field_by (c == 44) (ends_line c) _ _ _ goes
 
 comma : (c : ℕ) → (c == 44) ≡ true → does st.InField c ≡ (st.StartField, act.EndField)
-comma c is = rw is refl
+comma c is = rw is
 
 line_by : (a b : Bool) (x y z : State × Action) → (a || b) ≡ true → a ≡ false → cond a x (cond b y z) ≡ y
 line_by true b x y z ends none = absurd (cc none)
@@ -42,20 +42,20 @@ line c ends none = line_by (c == 44) (ends_line c) _ _ _ ends none
 
 -- a field without a quote at its start
 unquoted_start : (c : ℕ) → (c == 34) ≡ false → does st.StartField c ≡ does st.InField c
-unquoted_start c none = rw none refl
+unquoted_start c none = rw none
 
 -- a record that begins with a byte
 record_start : (c : ℕ) → ends_line c ≡ false → does st.StartRecord c ≡ does st.StartField c
-record_start c none = rw none refl
+record_start c none = rw none
 
 skipped : (c : ℕ) → ends_line c ≡ true → does st.StartRecord c ≡ (st.StartRecord, act.Skip)
-skipped c ends = rw ends refl
+skipped c ends = rw ends
 
 -- ---- a line end before a record changes nothing
 
 skip_rows : (c : ℕ) (rest : List ℕ) → ends_line c ≡ true → rows_from st.StartRecord [] [] (c ∷ rest) ≡ rows_from st.StartRecord [] [] rest
 unfolding rows_from
-skip_rows c rest ends = rw (skipped c ends) refl
+skip_rows c rest ends = rw (skipped c ends)
 
 pub skip_line_end : (text : List ℕ) (at : ℕ) → at < length text → ends_line (get_or text at 0) ≡ true
     → records_after st.StartRecord (drop at text) ≡ records_after st.StartRecord (drop (at + 1) text)
@@ -76,16 +76,14 @@ begins text at within none =
 one_joined : (f : List (List ℕ)) (p : List ℕ) (c : ℕ) (rest : List ℕ) → ends_field c ≡ false
     → rows_from st.InField f p (c ∷ rest) ≡ rows_from st.InField f (p ++ c ∷ []) rest
 unfolding rows_from
-one_joined f p c rest goes = rw (joins c goes) refl
+one_joined f p c rest goes = rw (joins c goes)
 
 all_joined : (f : List (List ℕ)) (p text : List ℕ) (n : ℕ) → n ≤ length text → ((k : ℕ) → k < n → ends_field (get_or text k 0) ≡ false)
     → rows_from st.InField f p text ≡ rows_from st.InField f (p ++ take n text) (drop n text)
-all_joined f p text zero within goes = ap (λ q. rows_from st.InField f q text) (sym (append-nil p))
+all_joined f p text zero within goes = rw (append-nil p)
 all_joined f p [] (suc n) within goes = absurd (omega arith)
 all_joined f p (c ∷ rest) (suc n) within goes =
-    one_joined f p c rest (goes zero (omega arith))
-    ∙ all_joined f (p ++ c ∷ []) rest n (omega arith) (λ k below. goes (suc k) (omega arith))
-    ∙ ap (λ q. rows_from st.InField f q (drop n rest)) (append_assoc p (c ∷ []) (take n rest))
+    rw (one_joined f p c rest (goes zero (omega arith)), all_joined f (p ++ c ∷ []) rest n (omega arith) (λ k below. goes (suc k) (omega arith)), append_assoc p (c ∷ []) (take n rest))
 
 -- a field up to its end
 to_end : (f : List (List ℕ)) (text : List ℕ) (start end : ℕ) → IsField text start end
@@ -101,19 +99,18 @@ to_end f text start end field =
     (unquoted_start (get_or text start 0) field.unquoted)
     ∙ ap (rows_from st.InField f []) (sym first)
     ∙ all_joined f [] (drop start text) (end - start) size (λ k below.
-    ap ends_field (get_or-drop start text k 0) ∙ field.ended.goes_on (start + k) (omega arith) (omega arith))
-    ∙ ap (rows_from st.InField f (take (end - start) (drop start text))) (drop-drop (end - start) start text
-    ∙ ap (λ n. drop n text) place ∙ drop_more text end 0 field.ended.within)
+    rw (get_or-drop start text k 0, field.ended.goes_on (start + k) (omega arith) (omega arith)))
+    ∙ ap (rows_from st.InField f (take (end - start) (drop start text))) (rw (drop-drop (end - start) start text, place, drop_more text end 0 field.ended.within))
 
 comma_ends : (f : List (List ℕ)) (p : List ℕ) (c : ℕ) (rest : List ℕ) → (c == 44) ≡ true
     → rows_from st.InField f p (c ∷ rest) ≡ rows_from st.StartField (f ++ p ∷ []) [] rest
 unfolding rows_from
-comma_ends f p c rest is = rw (comma c is) refl
+comma_ends f p c rest is = rw (comma c is)
 
 line_ends : (f : List (List ℕ)) (p : List ℕ) (c : ℕ) (rest : List ℕ) → ends_field c ≡ true → (c == 44) ≡ false
     → rows_from st.InField f p (c ∷ rest) ≡ (f ++ p ∷ []) ∷ rows_from (after_end term.CRLF c) [] [] rest
 unfolding rows_from
-line_ends f p c rest ends none = rw (line c ends none) refl
+line_ends f p c rest ends none = rw (line c ends none)
 
 -- ---- fields at their spans
 
@@ -123,7 +120,7 @@ at_span : (text : List ℕ) (start end : ℕ) → IsField text start end
 at_span text start end field =
     let ordered : nat_le start end ≡ true = grind (arith, nat_tests, field.ended.ordered) in
     let within : nat_le end (length text) ≡ true = grind (arith, nat_tests, field.ended.within) in
-    rw (ordered, within) refl
+    rw (ordered, within)
 
 fields_more : (text : List ℕ) (spans more : List Span) (start end : ℕ) → IsField text start end
     → more ≡ spans ++ record { start = start; end = end } ∷ []
@@ -135,7 +132,7 @@ fields_more text spans more start end field grown =
 -- ---- spans within a text
 
 pub none_inside : (text : List ℕ) (spans : List Span) → spans ≡ [] → All (IsInside text) spans
-none_inside text spans none = λ k d low. absurd (let few : length spans ≡ 0 = ap length none in omega arith)
+none_inside text spans none = λ k d low. absurd (let few : length spans ≡ 0 = rw none in omega arith)
 
 with_last : {X : Type 0} (P : X → Type 0) (xs : List X) (x : X) → All P xs → P x → All P (xs ++ x ∷ [])
 with_last P [] x all last zero d low = last
@@ -148,7 +145,7 @@ pub inside_more : (text : List ℕ) (spans more : List Span) (start end : ℕ) �
 inside_more text spans more start end field grown all =
     let span : Span = record { start = start; end = end } in
     let last : IsInside text span = record { ordered = field.ended.ordered; within = omega (arith, field.ended.within) } in
-    subst (λ s. All (IsInside text) s) (sym grown) (with_last (IsInside text) spans span all last)
+    rw grown (with_last (IsInside text) spans span all last)
 
 -- a field that a comma ends
 pub field_more : (text : List ℕ) (all : List (List (List ℕ))) (spans more : List Span) (start end : ℕ) → IsField text start end
@@ -156,9 +153,7 @@ pub field_more : (text : List ℕ) (all : List (List (List ℕ))) (spans more : 
     → all ≡ rows_from st.StartField (fields_at text spans) [] (drop start text)
     → all ≡ rows_from st.StartField (fields_at text more) [] (drop (end + 1) text)
 field_more text all spans more start end field is grown so_far =
-    so_far ∙ to_end (fields_at text spans) text start end field
-    ∙ comma_ends (fields_at text spans) (take (end - start) (drop start text)) (get_or text end 0) (drop (end + 1) text) is
-    ∙ ap (λ f. rows_from st.StartField f [] (drop (end + 1) text)) (fields_more text spans more start end field grown)
+    rw (so_far, to_end (fields_at text spans) text start end field, comma_ends (fields_at text spans) (take (end - start) (drop start text)) (get_or text end 0) (drop (end + 1) text) is, fields_more text spans more start end field grown)
 
 line_of : (c : ℕ) → ends_field c ≡ true → (c == 44) ≡ false → ends_line c ≡ true
 line_of c ends none = rw none at ends
@@ -176,13 +171,9 @@ record_ends text from spans more start end field none grown all so_far =
       after = record {
         some = omega arith;
         within = omega (arith, field.ended.within);
-        ended = ap (λ n. ends_line (get_or text n 0)) here ∙ line_of c field.ended.ends none;
+        ended = rw (here, line_of c field.ended.ends none);
       };
-      first = so_far ∙ to_end (fields_at text spans) text start end field
-          ∙ line_ends (fields_at text spans) (take (end - start) (drop start text)) c rest field.ended.ends none
-          ∙ ap (λ f. f ∷ rows_from (after_end term.CRLF c) [] [] rest) (fields_more text spans more start end field grown)
-          ∙ ap (λ later. fields_at text more ∷ later)
-          (from_between (after_end term.CRLF c) rest (after_end_between term.CRLF c) ∙ sym (rows_are rest));
+      first = rw (so_far, to_end (fields_at text spans) text start end field, line_ends (fields_at text spans) (take (end - start) (drop start text)) c rest field.ended.ends none, fields_more text spans more start end field grown, from_between (after_end term.CRLF c) rest (after_end_between term.CRLF c), rows_are rest);
       inside = inside_more text spans more start end field grown all;
     }
 
@@ -190,7 +181,7 @@ record_ends text from spans more start end field none grown all so_far =
 pub goes_on_more : (text : List ℕ) (start at : ℕ) → ((k : ℕ) → start ≤ k → k < at → ends_field (get_or text k 0) ≡ false)
     → ends_field (get_or text at 0) ≡ false → (k : ℕ) → start ≤ k → k < at + 1 → ends_field (get_or text k 0) ≡ false
 goes_on_more text start at before here k low high = elim (eqb_tells k at) [
-  | inl same ↦ subst (λ n. ends_field (get_or text n 0) ≡ false) (sym same.1) here
+  | inl same ↦ rw same.1 here
   | inr differs ↦ before k low (omega (arith, differs.1))
 ]
 
@@ -249,11 +240,11 @@ short_field text start stop ordered within above comma =
     let unquoted : (get_or text start 0 == 34) ≡ false = elim (leb_tells stop start) [
       | inl past ↦
           let same : stop ≡ start = omega (arith, past.1) in
-          let here : get_or text start 0 ≡ 44 = subst (λ n. get_or text n 0 ≡ 44) same comma in
-          rw here refl
+          let here : get_or text start 0 ≡ 44 = rw (← same) comma in
+          rw here
       | inr before ↦ let here = above start (omega arith) before.1 in grind (arith, nat_tests)
     ] in
     record {
       unquoted = unquoted;
-      ended = record { ordered = ordered; within = within; goes_on = above_goes text start stop above; ends = rw comma refl };
+      ended = record { ordered = ordered; within = within; goes_on = above_goes text start stop above; ends = rw comma };
     }

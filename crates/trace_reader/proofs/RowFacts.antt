@@ -46,7 +46,7 @@ next_rows (suc m) s f p (c ∷ rest) short =
         (next_record default_config (does s c).0 (fields_after (does s c).1 f p) (field_after (does s c).1 c p) rest))
         ≡ cond b (fields_after (does s c).1 f p ∷ rows_from (does s c).0 [] [] rest)
         (rows_from (does s c).0 (fields_after (does s c).1 f p) (field_after (does s c).1 c p) rest)
-    by true ended goes = ap (λ later. fields_after (does s c).1 f p ∷ later) ended
+    by true ended goes = rw ended
     by false ended goes = goes
 
 pub rows_are : (text : List ℕ) → records_after st.StartRecord text ≡ rows_from st.StartRecord [] [] text
@@ -60,20 +60,19 @@ rows_are text =
 pub going : (s : State) (f : List (List ℕ)) (p : List ℕ) (c : ℕ) (more : List ℕ) → is_end (does s c).1 ≡ false
     → rows_from s f p (c ∷ more) ≡ rows_from (does s c).0 (fields_after (does s c).1 f p) (field_after (does s c).1 c p) more
 unfolding rows_from
-going s f p c more e = rw e refl
+going s f p c more e = rw e
 
 pub ending : (s : State) (f : List (List ℕ)) (p : List ℕ) (c : ℕ) (more : List ℕ) → is_end (does s c).1 ≡ true
     → rows_from s f p (c ∷ more) ≡ fields_after (does s c).1 f p ∷ rows_from (does s c).0 [] [] more
 unfolding rows_from
-ending s f p c more e = rw e refl
+ending s f p c more e = rw e
 
 -- a byte that does the same in two states
 pub same_step : (s t : State) (f : List (List ℕ)) (p : List ℕ) (c : ℕ) (more : List ℕ) → does s c ≡ does t c
     → rows_from s f p (c ∷ more) ≡ rows_from t f p (c ∷ more)
 unfolding rows_from
 same_step s t f p c more e =
-    ap (λ (x : State × Action). cond (is_end x.1) (fields_after x.1 f p ∷ rows_from x.0 [] [] more)
-    (rows_from x.0 (fields_after x.1 f p) (field_after x.1 c p) more)) e
+    rw e
 
 -- ---- a carriage return before a record changes nothing
 

@@ -65,9 +65,9 @@ pub going_on : (text : List ℕ) (at w c marks n : ℕ) → ((i : ℕ) → get_o
 going_on text at w c marks n byte is sum marks_are small count most k low high =
     let b : ℕ → ℕ = λ i. get_or text (at + i) 0 in
     let here : at + 0 ≡ at = omega arith in
-    let first : get_or text (at + 0) 0 ≡ get_or text at 0 = ap (λ i. get_or text i 0) here in
+    let first : get_or text (at + 0) 0 ≡ get_or text at 0 = rw here in
     let none : (i : ℕ) → i < 8 * n → bit_at (bit_and (bit_and c (bit_not w64 w)) 9259542123273814144) i ≡ 0 =
-    λ i below. subst (λ m. bit_at m i ≡ 0) marks_are (no_mark_below marks i small (omega (arith, below, count))) in
+    λ i below. rw (← marks_are) (no_mark_below marks i small (omega (arith, below, count))) in
     let word : w ≡ bytes_word b 8 = omega (arith, is, first) in
     let fits : w < 2 ^ 64 = omega (
       arith,
@@ -85,5 +85,5 @@ going_on text at w c marks n byte is sum marks_are small count most k low high =
     (λ i below. unmarked c w 9259542123273814144 (i * 8 + 7) fits (omega (arith, count, most, below)) (none (i * 8 + 7) (omega arith))
     (mask_bit 8 i (omega (arith, count, most, below)))) (omega (arith, count, most)) (k - at) (omega (arith, low, high)) in
     let place : at + (k - at) ≡ k = omega (arith, low) in
-    let here : 45 ≤ get_or text k 0 = subst (λ i. 45 ≤ get_or text i 0) place above in
+    let here : 45 ≤ get_or text k 0 = rw (← place) above in
     omega (arith, here)

@@ -55,7 +55,7 @@ packet_within layout n fields packet is = by (nat_lt MAX_RECORDS n) refl is
 too_long_test : (text : List ℕ) (b : Bool) → nat_lt MAX_TRACE (length text) ≡ b → (reads : FieldSet)
     → opening text reads ≡ cond b (Err fault.TraceTooLong) (layout_of (records text) reads)
 unfolding opening
-too_long_test text b e reads = rw e refl
+too_long_test text b e reads = rw e
 
 pub opening_long : (text : List ℕ) (reads : FieldSet) → MAX_TRACE < length text → opening text reads ≡ Err fault.TraceTooLong
 opening_long text reads long = too_long_test text true (grind (arith, nat_tests)) reads
@@ -65,7 +65,7 @@ opening_short text reads short = too_long_test text false (grind (arith, nat_tes
 
 pub opening_empty : (text : List ℕ) (reads : FieldSet) → length text ≤ MAX_TRACE → records text ≡ []
     → opening text reads ≡ Err fault.NoHeader
-opening_empty text reads short none = opening_short text reads short ∙ ap (λ rows. layout_of rows reads) none
+opening_empty text reads short none = rw (opening_short text reads short, none)
 
 pub opening_bad : (text : List ℕ) (reads : FieldSet) (header : List (List ℕ)) (rest : List (List (List ℕ))) (found : TraceFault)
     → length text ≤ MAX_TRACE → records text ≡ header ∷ rest → Err found ≡ columns_of_fields reads header → opening text reads ≡ Err found
@@ -82,7 +82,7 @@ pub contents_good : (text : List ℕ) (reads : FieldSet) (header : List (List �
     → length text ≤ MAX_TRACE → records text ≡ header ∷ rest → Ok columns ≡ columns_of_fields reads header
     → contents text reads ≡ contents_from (record { width = length header; columns = columns }) 1 rest
 unfolding contents
-contents_good text reads header rest columns short all good = rw (opening_good text reads header rest columns short all good, all) refl
+contents_good text reads header rest columns short all good = rw (opening_good text reads header rest columns short all good, all)
 
 -- what is still to come, of what a trace contains
 abbrev seen : Contents → Upcoming

@@ -30,7 +30,7 @@ all_from = (refl, (refl, (refl, (refl, (refl, (refl, (refl, (refl, (refl, (refl,
 
 set_here : (front rest : List ℕ) (x y : ℕ) → set (front ++ x ∷ rest) (length front) y ≡ front ++ y ∷ rest
 set_here [] rest x y = refl
-set_here (z ∷ front) rest x y = ap (λ more. z ∷ more) (set_here front rest x y)
+set_here (z ∷ front) rest x y = rw (set_here front rest x y)
 
 -- one more word after those so far
 word_after : (next : List ℕ → Result (List ℕ) Field) (rest : Result (List ℕ) Field) (front zeros : List ℕ) (x : ℕ)
@@ -106,12 +106,12 @@ words_are all fields read i words past so_far = so_far ∙ rw (drop_all i read p
 pub read_none : (columns : List (Option ℕ)) (fs : List Field) (i : ℕ) (f : Field) → i < length fs → i < length columns
     → get_or columns i None ≡ None
     → read_of (zip (drop i fs) (drop i columns)) ≡ read_of (zip (drop (i + 1) fs) (drop (i + 1) columns))
-read_none columns fs i f in_fields in_columns is = rw (drop_more fs i f in_fields, drop_more columns i None in_columns, is) refl
+read_none columns fs i f in_fields in_columns is = rw (drop_more fs i f in_fields, drop_more columns i None in_columns, is)
 
 pub read_one : (columns : List (Option ℕ)) (fs : List Field) (i : ℕ) (f : Field) (c : ℕ) → i < length fs → i < length columns
     → get_or columns i None ≡ Some c
     → read_of (zip (drop i fs) (drop i columns)) ≡ (get_or fs i f, c) ∷ read_of (zip (drop (i + 1) fs) (drop (i + 1) columns))
-read_one columns fs i f c in_fields in_columns is = rw (drop_more fs i f in_fields, drop_more columns i None in_columns, is) refl
+read_one columns fs i f c in_fields in_columns is = rw (drop_more fs i f in_fields, drop_more columns i None in_columns, is)
 
 pub not_some : (o : Option ℕ) → ((x : ℕ) → o ≡ Some x → ⊥) → o ≡ None
 not_some None other = refl
