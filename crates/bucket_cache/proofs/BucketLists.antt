@@ -23,10 +23,10 @@ Matches keys ways at key answer = key_eq (get_or keys (get_or ways at 0) []) key
 -- the ways in use are the first ones
 matches-front : (used at : ℕ) (order : List ℕ) (keys : List Key) (key : Key) (answer : Bool) → at < used
     → Matches keys order at key answer → Matches keys (take used order) at key answer
-matches-front used at order keys key answer l h = ap (λ way. key_eq (get_or keys way []) key) (get_or-take used order at 0 l) ∙ h
+matches-front used at order keys key _ l h = ap (λ way. key_eq (get_or keys way []) key) (get_or-take used order at 0 l) ∙ h
 
 in-front : (used at : ℕ) (order : List ℕ) → used ≤ length order → at < used → at < length (take used order)
-in-front used at order w l = subst (λ n. at < n) (sym (length-take-le used order w)) l
+in-front used at order w l = rw (length-take-le used order w) l
 
 matching : (first at : ℕ) (ways : List ℕ) (keys : List Key) (key : Key) → at < length ways → Matches keys ways at key true
     → key_eq (get_or (pairs_at first keys ways) at (pair_at first keys 0)).key key ≡ true
@@ -86,8 +86,7 @@ module _ {first kw used : ℕ} {order : List ℕ} {keys : List Key} (b : IsBucke
         ways = subst (λ n. All (λ way. way < n) (at_front at order)) (sym long)
             (All-at_front (λ way. way < length order) at order b.ways);
         apart = AllPairs-at_front at order low b.apart;
-        once = subst AreKeysOnce (sym hit-pairs)
-            (once-front key (first + get_or order at 0) (pairs_at first keys (take used order)) b.once);
+        once = rw hit-pairs (once-front key (first + get_or order at 0) (pairs_at first keys (take used order)) b.once);
       }
 
 -- where the first pair has another key, so has the first way in use
@@ -95,25 +94,25 @@ pub other-first : (first used : ℕ) (order : List ℕ) (keys : List Key) (key :
     → has_key key (take 1 (pairs_at first keys (take used order))) ≡ false → Matches keys order 0 key false
 other-first first zero order keys key some within h = absurd (omega arith)
 other-first first (suc used) [] keys key some within h = absurd (omega arith)
-other-first first (suc used) (way ∷ ways) keys key some within h = (absent_head key (pair_at first keys way) [] h).0
+other-first first (suc _) (way ∷ _) keys key _ _ h = (absent_head key (pair_at first keys way) [] h).0
 
 pub none-has : (first : ℕ) (ways : List ℕ) (keys : List Key) (key : Key) → ((at : ℕ) → at < length ways → Matches keys ways at key false)
     → has_key key (pairs_at first keys ways) ≡ false
-none-has first [] keys key h = refl
+none-has _ [] _ _ h = refl
 none-has first (way ∷ ways) keys key h =
-    let this : key_eq (get_or keys way []) key ≡ false = h 0 (omega arith) in
+    let this = h 0 (omega arith) in
     rw this (none-has first ways keys key (λ at l. h (suc at) (omega arith)))
 
 pub none-in-front : (first used : ℕ) (order : List ℕ) (keys : List Key) (key : Key) → used ≤ length order
     → ((at : ℕ) → at < used → Matches keys order at key false) → has_key key (pairs_at first keys (take used order)) ≡ false
 none-in-front first used order keys key w h = none-has first (take used order) keys key (λ at l.
-    let l' : at < used = subst (λ n. at < n) (length-take-le used order w) l in
+    let l' = subst (λ n. at < n) (length-take-le used order w) l in
     matches-front used at order keys key false l' (h at l'))
 
 -- a key at a way that isn't among these changes no pair of these
 pairs-set : (first way : ℕ) (key : Key) (keys : List Key) (ways : List ℕ) → AllByRecursion (λ other. other ≢ way) ways
     → pairs_at first (set keys way key) ways ≡ pairs_at first keys ways
-pairs-set first way key keys [] a = refl
+pairs-set _ _ _ _ [] a = refl
 pairs-set first way key keys (other ∷ ways) a =
     ap₂ (λ k ps. record { key = k; place = first + other } ∷ ps) (get_or-set_other keys way other key [] a.0)
     (pairs-set first way key keys ways a.1)
@@ -169,11 +168,9 @@ pub place-pair : (first used i : ℕ) (order : List ℕ) (keys : List Key) → u
 place-pair first used i order keys l h =
     let ways = take used order in
     let ps = pairs_at first keys ways in
-    let in_ways : i < length ways = in-front used i order l h in
-    let in_pairs : i < length ps = subst (λ n. i < n) (sym (long_pairs first ways keys)) in_ways in
-    slice_get-get_or (places_of ps) i 0 (subst (λ n. i < n) (sym (length-map ps (λ (p : Pair). p.place))) in_pairs)
-    ∙ ap (λ n. Some n) (get_or-map (λ (p : Pair). p.place) ps i (pair_at first keys 0) 0 in_pairs
-    ∙ place_is first used i order keys in_ways h)
+    let in_ways = in-front used i order l h in
+    let in_pairs = subst (λ n. i < n) (sym (long_pairs first ways keys)) in_ways in
+    rw (slice_get-get_or (places_of ps) i 0 (subst (λ n. i < n) (sym (length-map ps (λ (p : Pair). p.place))) in_pairs), get_or-map (λ (p : Pair). p.place) ps i (pair_at first keys 0) 0 in_pairs, place_is first used i order keys in_ways h)
 
 pub no-place : (first used i : ℕ) (order : List ℕ) (keys : List Key) → used ≤ length order → used ≤ i
     → slice_get (places_of (pairs_at first keys (take used order))) i ≡ None
@@ -189,8 +186,7 @@ pub least-pair : (first used : ℕ) (order : List ℕ) (keys : List Key) → 0 <
     → IsLeast (pairs_at first keys (take used order)) (first + get_or order (used - 1) 0)
 least-pair first used order keys h l =
     let ps = pairs_at first keys (take used order) in
-    ap (λ n. slice_get (places_of ps) (n - 1)) (long_pairs first (take used order) keys ∙ length-take-le used order l)
-    ∙ place-pair first used (used - 1) order keys l (omega arith)
+    rw (long_pairs first (take used order) keys, length-take-le used order l, place-pair first used (used - 1) order keys l (omega arith))
 
 pub few-pairs : (first used : ℕ) (order : List ℕ) (keys : List Key) → used ≤ length order
     → length (pairs_at first keys (take used order)) ≡ used
@@ -219,8 +215,7 @@ fewer-bucket {first} {kw} {used} {order} {keys} b =
       places = b.places;
       ways = b.ways;
       apart = b.apart;
-      once = subst AreKeysOnce (sym (fewer-pairs first used order keys b.within))
-          (once-take (length (pairs_at first keys (take used order)) - 1) (pairs_at first keys (take used order)) b.once);
+      once = rw (fewer-pairs first used order keys b.within) (once-take (length (pairs_at first keys (take used order)) - 1) (pairs_at first keys (take used order)) b.once);
     }
 
 module _ {first kw used : ℕ} {order : List ℕ} {keys : List Key} (b : IsBucket first kw used order keys) (full : used ≡ length order) where
@@ -263,11 +258,11 @@ pub bucket_sound : (first kw used : ℕ) (order : List ℕ) (keys : List Key) �
     → IsSound (record { first = first; ways = length order; key_words = kw; pairs = pairs_at first keys (take used order) })
 bucket_sound first kw used order keys b =
     let ps = pairs_at first keys (take used order) in
-    let long : length ps ≡ used = few-pairs first used order keys b.within in
+    let long = few-pairs first used order keys b.within in
     let within = b.within in
     let same = b.same in
     let is : (k : ℕ) (d : Pair) → k < length ps → get_or ps k d ≡ pair_at first keys (get_or order k 0) =
-    λ k d l. pair-is first used k order keys d b.within (subst (λ n. k < n) long l) in
+    λ k d l. pair-is first used k order keys d b.within (rw (← long) l) in
     record {
       few = omega arith;
       once = b.once;
@@ -275,7 +270,7 @@ bucket_sound first kw used order keys b =
           let h : get_or order k 0 < length keys = let w = b.ways k 0 (omega arith) in omega arith in
           ap (λ (p : Pair). length p.key) (is k d l) ∙ b.words (get_or order k 0) [] h;
       places = λ k d l.
-          let h : get_or order k 0 < length order = b.ways k 0 (omega arith) in
+          let h = b.ways k 0 (omega arith) in
           let e = ap (λ (p : Pair). p.place) (is k d l) in
           (omega arith, omega arith);
       apart = λ i j d l m.

@@ -1,6 +1,6 @@
 -- The lists of a cache, by its buckets.
 use Rattle.std.proofs.Common.{◌≡◌, ◌≢◌, ◌⊎◌, ℕ, suc, ◌∷◌, ◌+◌, ◌*◌, ◌<◌, ◌≤◌, List, [], Some, length, map, get_or, take, replicate, All}
-use Rattle.std.proofs.Common.{AllPairs, mul_comm, refl, sym, ap, ap₂, ◌∙◌, subst, ⊎_elim, arith}
+use Rattle.std.proofs.Common.{AllPairs, mul_comm, refl, sym, ap, ◌∙◌, subst, ⊎_elim, arith}
 use Rattle.std.specs.Prelude.{nat_lt, slice_get, sum_by, ◌/◌, ◌%◌}
 use Rattle.std.proofs.Math.Nat.{div-add-mod, mod-lt, div-lt_iff_lt-mul}
 use Rattle.std.proofs.lemmas.Bool.{cases_order, ltb-true, ltb-false}
@@ -24,7 +24,7 @@ list_old buckets i r h e = get_or-map (λ (r : Recency). r.pairs) buckets i r []
 
 pub home_at : (ways kw ew : ℕ) (buckets : List Recency) (entries : List (List ℕ)) (i : ℕ) (r : Recency)
     → IsShaped ways kw ew buckets entries → i < length buckets → r ≡ get_or buckets i r → IsHome ways kw (i * ways) r
-home_at ways kw ew buckets entries i r s h e = subst (IsHome ways kw (i * ways)) (sym e) (s.each i r h)
+home_at ways kw _ _ _ i r s h e = rw e (s.each i r h)
 
 -- two rows that share a place are one row
 pub same_row : (one two width place : ℕ) → one * width ≤ place → place < one * width + width → two * width ≤ place → place < two * width
@@ -54,19 +54,19 @@ IsIn first ways pair = (first ≤ pair.place) × (pair.place < first + ways)
 
 in_lists : (ways kw ew : ℕ) (buckets : List Recency) (entries : List (List ℕ)) → IsShaped ways kw ew buckets entries → (b : ℕ)
     → All (IsIn (b * ways) ways) (get_or (lists_of buckets) b [])
-in_lists ways kw ew buckets entries s = on_lists buckets (λ b ps. All (IsIn (b * ways) ways) ps) (λ b. All-nil (IsIn (b * ways) ways))
+in_lists ways _ _ buckets _ s = on_lists buckets (λ b ps. All (IsIn (b * ways) ways) ps) (λ b. All-nil (IsIn (b * ways) ways))
     (λ b l. let h = s.each b nothing l in let r = get_or buckets b nothing in
     subst (λ n. All (IsIn (b * ways) n) r.pairs) h.of_ways (subst (λ n. All (IsIn n r.ways) r.pairs) h.of_first h.sound.places))
 
 -- the fact about a pair, by its number in the list
 at_pair : (P : Pair → Type 0) (pairs : List Pair) (i : ℕ) (p : Pair) → All P pairs → slice_get pairs i ≡ Some p → P p
-at_pair P pairs i p a e = subst P (get_or_from_slice_get pairs i p p e) (a i p (some-get pairs i p e))
+at_pair P pairs i p a e = rw (← get_or_from_slice_get pairs i p p e) (a i p (some-get pairs i p e))
 
 -- in one list a place is that of one pair
 one_list : (pairs : List Pair) (i j : ℕ) (p q : Pair) → AllPairs (λ pair other. pair.place ≢ other.place) pairs → slice_get pairs i ≡ Some p
     → slice_get pairs j ≡ Some q → p.place ≡ q.place → i ≡ j
 one_list pairs i j p q a e f s =
-    let same : (get_or pairs i p).place ≡ (get_or pairs j p).place =
+    let same =
     ap (λ (x : Pair). x.place) (get_or_from_slice_get pairs i p p e) ∙ (s
     ∙ ap (λ (x : Pair). x.place) (sym (get_or_from_slice_get pairs j q p f))) in
     ⊎_elim
@@ -81,21 +81,20 @@ pub cache_sound : (ways kw ew : ℕ) (buckets : List Recency) (entries : List (L
     → IsSoundCache ways (record { key_words = kw; entry_words = ew; lists = lists_of buckets; entries = entries })
 cache_sound ways kw ew buckets entries s =
     let inside = in_lists ways kw ew buckets entries s in
-    let apart : (b : ℕ) → AllPairs (λ pair other. pair.place ≢ other.place) (get_or (lists_of buckets) b []) =
+    let apart =
     on_lists buckets (λ b ps. AllPairs (λ pair other. pair.place ≢ other.place) ps) (λ b i j d l m. absurd (omega arith))
     (λ b l. (s.each b nothing l).sound.apart) in
-    let long : length (lists_of buckets) ≡ length buckets = length-map buckets (λ (r : Recency). r.pairs) in
+    let long = length-map buckets (λ (r : Recency). r.pairs) in
     record {
       few = on_lists buckets (λ b ps. length ps ≤ ways) (λ b. omega arith)
-          (λ b l. let h = s.each b nothing l in subst (λ n. length (get_or buckets b nothing).pairs ≤ n) h.of_ways h.sound.few);
+          (λ b l. let h = s.each b nothing l in rw (← h.of_ways) h.sound.few);
       once = on_lists buckets (λ b ps. AreKeysOnce ps) (λ b. tt) (λ b l. (s.each b nothing l).sound.once);
       words = on_lists buckets (λ b ps. All (λ pair. length pair.key ≡ kw) ps) (λ b. All-nil (λ pair. length pair.key ≡ kw))
-          (λ b l. let h = s.each b nothing l in subst (λ n. All (λ pair. length pair.key ≡ n) (get_or buckets b nothing).pairs)
-          h.of_key_words h.sound.words);
+          (λ b l. let h = s.each b nothing l in rw (← h.of_key_words) h.sound.words);
       places = inside;
       within = λ b k d l.
           let home = inside b k d l in
-          let in_range : b < length buckets = by_test (nat_lt b (length buckets)) (λ t. ltb-true b (length buckets) t)
+          let in_range = by_test (nat_lt b (length buckets)) (λ t. ltb-true b (length buckets) t)
           (λ t. let past = ltb-false b (length buckets) t in let none =
           ap length (get_or_past (lists_of buckets) b [] (omega arith)) in absurd (omega arith)) in
           let f = row_fits b (length buckets) ways in_range in
@@ -105,13 +104,13 @@ cache_sound ways kw ew buckets entries s =
       apart = λ one two i j p q e f same.
           let a = at_pair (IsIn (one * ways) ways) (get_or (lists_of buckets) one []) i p (inside one) e in
           let b = at_pair (IsIn (two * ways) ways) (get_or (lists_of buckets) two []) j q (inside two) f in
-          let bucket : one ≡ two = same_row one two ways p.place a.0 a.1 (subst (λ n. two * ways ≤ n) (sym same) b.0)
-          (subst (λ n. n < two * ways + ways) (sym same) b.1) in (
+          let bucket = same_row one two ways p.place a.0 a.1 (rw same b.0)
+          (rw same b.1) in (
             bucket,
             one_list (get_or (lists_of buckets) two []) i j p q (apart two)
-                (subst (λ n. slice_get (get_or (lists_of buckets) n []) i ≡ Some p) bucket e) f same,
+                (rw (← bucket) e) f same,
           );
-      entries = s.places ∙ ap (λ n. n * ways) (sym long);
+      entries = rw (s.places, long);
       entry_words = s.words;
     }
 
@@ -120,7 +119,7 @@ pub place_in : (ways place : ℕ) → 0 < ways → (place / ways * ways + place 
 place_in ways place h = (let e = div-add-mod place ways in let c = mul_comm ways (place / ways) in omega arith, mod-lt place h)
 
 pub bucket_in_range : (ways place count : ℕ) → 0 < ways → place < count * ways → place / ways < count
-bucket_in_range ways place count h l = (div-lt_iff_lt-mul h).1 l
+bucket_in_range _ _ _ h l = (div-lt_iff_lt-mul h).1 l
 
 -- the pair at a place is in the place's bucket
 pub pair_home : (ways kw ew : ℕ) (buckets : List Recency) (entries : List (List ℕ)) (bucket i place : ℕ) (pair : Pair)
@@ -139,7 +138,7 @@ pair_home ways kw ew buckets entries bucket i place pair s e p =
 pub empty_lists : (buckets : List Recency) → ((k : ℕ) (d : Recency) → k < length buckets → (get_or buckets k d).pairs ≡ [])
     → lists_of buckets ≡ replicate (length buckets) []
 empty_lists [] h = refl
-empty_lists (r ∷ buckets) h = ap₂ (λ ps ls. ps ∷ ls) (h 0 r (omega arith)) (empty_lists buckets (λ k d l. h (suc k) d (omega arith)))
+empty_lists (r ∷ buckets) h = rw (h 0 r (omega arith), empty_lists buckets (λ k d l. h (suc k) d (omega arith)))
 
 -- one bucket more is counted
 pub held_more : (ways kw ew held : ℕ) (buckets : List Recency) (entries : List (List ℕ)) (i : ℕ) (r : Recency)
@@ -149,7 +148,7 @@ pub held_more : (ways kw ew held : ℕ) (buckets : List Recency) (entries : List
 held_more ways kw ew held buckets entries i r s h e n b =
     let long = length-map buckets (λ (r : Recency). r.pairs) in
     let home = home_at ways kw ew buckets entries i r s h e in
-    let few : length r.pairs ≤ ways = subst (λ w. length r.pairs ≤ w) home.of_ways home.sound.few in
+    let few = subst (λ w. length r.pairs ≤ w) home.of_ways home.sound.few in
     let more = sum_by_more (λ (ps : List Pair). length ps) (lists_of buckets) i [] (omega arith) in
     let this = ap length (list_old buckets i r h e) in
     (omega arith, omega arith)

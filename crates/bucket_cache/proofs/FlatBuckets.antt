@@ -1,6 +1,6 @@
 -- Buckets whose parts are stored one after another.
-use Rattle.std.proofs.Common.{◌≡◌, ℕ, zero, suc, ◌+◌, ◌-◌, ◌*◌, ◌<◌, List, [], ◌∷◌, ◌++◌, length, map, take, drop, get_or, set, refl}
-use Rattle.std.proofs.Common.{sym, ap, ap₂, ◌∙◌, subst, subst₂, arith, ⊎_elim, length-set, length-drop, get_or-set_same, get_or-set_other}
+use Rattle.std.proofs.Common.{◌≡◌, ℕ, zero, suc, ◌+◌, ◌*◌, ◌<◌, List, [], ◌∷◌, ◌++◌, length, take, drop, get_or, set, refl, sym, ap, ap₂}
+use Rattle.std.proofs.Common.{◌∙◌, subst, subst₂, arith, ⊎_elim, length-set, length-drop, get_or-set_same, get_or-set_other}
 use Rattle.std.proofs.lemmas.Bool.{cases_eq}
 use Rattle.std.proofs.lemmas.List.{length-take-le, length-append, length-map, map-set, get_or-map}
 use Rattle.bucket_cache.specs.Slices.{rows_of}
@@ -23,11 +23,11 @@ with_row width b row xs = take (b * width) xs ++ (row ++ drop width (drop (b * w
 module _ (ways kw : ℕ) where
   length-buckets_from : (first : ℕ) (used : List ℕ) (orders rows : List (List ℕ)) → length orders ≡ length used
       → length rows ≡ length used → length (buckets_from ways kw first used orders rows) ≡ length used
-  length-buckets_from first [] orders rows e f = refl
+  length-buckets_from _ [] _ _ e f = refl
   length-buckets_from first (u ∷ used) [] rows e f = absurd (omega arith)
   length-buckets_from first (u ∷ used) (o ∷ orders) [] e f = absurd (omega arith)
   length-buckets_from first (u ∷ used) (o ∷ orders) (w ∷ rows) e f =
-      ap (λ n. suc n) (length-buckets_from (first + ways) used orders rows (omega arith) (omega arith))
+      rw (length-buckets_from (first + ways) used orders rows (omega arith) (omega arith))
 
   get-buckets_from : (first b : ℕ) (used : List ℕ) (orders rows : List (List ℕ)) (d : Recency) → length orders ≡ length used
       → length rows ≡ length used → b < length used → get_or (buckets_from ways kw first used orders rows) b d
@@ -40,8 +40,7 @@ module _ (ways kw : ℕ) where
       ap (λ n. bucket_of ways kw n u o w) here
   get-buckets_from first (suc b) (u ∷ used) (o ∷ orders) (w ∷ rows) d e f h =
       let there : first + ways + b * ways ≡ first + suc b * ways = omega arith in
-      get-buckets_from (first + ways) b used orders rows d (omega arith) (omega arith) (omega arith)
-      ∙ ap (λ n. bucket_of ways kw n (get_or used b 0) (get_or orders b []) (get_or rows b [])) there
+      rw (get-buckets_from (first + ways) b used orders rows d (omega arith) (omega arith) (omega arith), there)
 
   set-buckets_from : (first b u' : ℕ) (o' w' used : List ℕ) (orders rows : List (List ℕ)) → length orders ≡ length used
       → length rows ≡ length used → b < length used → buckets_from ways kw first (set used b u') (set orders b o') (set rows b w')
@@ -54,9 +53,7 @@ module _ (ways kw : ℕ) where
       ap (λ n. bucket_of ways kw n u' o' w' ∷ buckets_from ways kw (first + ways) used orders rows) here
   set-buckets_from first (suc b) u' o' w' (u ∷ used) (o ∷ orders) (w ∷ rows) e f h =
       let there : first + ways + b * ways ≡ first + suc b * ways = omega arith in
-      ap (λ rs. bucket_of ways kw first u o w ∷ rs)
-      (set-buckets_from (first + ways) b u' o' w' used orders rows (omega arith) (omega arith) (omega arith)
-      ∙ ap (λ n. set (buckets_from ways kw (first + ways) used orders rows) b (bucket_of ways kw n u' o' w')) there)
+      rw (set-buckets_from (first + ways) b u' o' w' used orders rows (omega arith) (omega arith) (omega arith), there)
 
   module _ (used order words : List ℕ) where
     many_orders : length (orders_of ways used order) ≡ length used
@@ -78,8 +75,7 @@ module _ (ways kw : ℕ) where
         let none : 0 + b * ways ≡ b * ways = omega arith in
         let orders = orders_of ways used order in
         let rows = words_of ways kw used words in
-        get-buckets_from 0 b used orders rows d many_orders many_rows h
-        ∙ ap (λ n. bucket_of ways kw n (get_or used b 0) (get_or orders b []) (get_or rows b [])) none
+        rw (get-buckets_from 0 b used orders rows d many_orders many_rows h, none)
 
     -- the pairs of a bucket, by its row of the order and its row of the words
     pub list-is : (b : ℕ) → b < length used
@@ -96,16 +92,16 @@ module _ (ways kw : ℕ) where
 pub row-long : (width b count : ℕ) (xs : List ℕ) → b < count → length xs ≡ count * width → length (flat_row width b xs) ≡ width
 row-long width b count xs h e =
     let f = row_fits b count width h in
-    let rest : length (drop (b * width) xs) ≡ length xs - b * width = length-drop (b * width) xs in
+    let rest = length-drop (b * width) xs in
     length-take-le width (drop (b * width) xs) (omega arith)
 
 length-with_row : (width b count : ℕ) (row xs : List ℕ) → b < count → length xs ≡ count * width → length row ≡ width
     → length (with_row width b row xs) ≡ length xs
 length-with_row width b count row xs h e w =
     let f = row_fits b count width h in
-    let front : length (take (b * width) xs) ≡ b * width = length-take-le (b * width) xs (omega arith) in
-    let rest : length (drop (b * width) xs) ≡ length xs - b * width = length-drop (b * width) xs in
-    let back : length (drop width (drop (b * width) xs)) ≡ length (drop (b * width) xs) - width = length-drop width (drop (b * width) xs) in
+    let front = length-take-le (b * width) xs (omega arith) in
+    let rest = length-drop (b * width) xs in
+    let back = length-drop width (drop (b * width) xs) in
     let whole = length-append (take (b * width) xs) (row ++ drop width (drop (b * width) xs)) in
     let end = length-append row (drop width (drop (b * width) xs)) in
     omega arith
@@ -129,8 +125,7 @@ each-set P b u' o' w' used orders rows e f h each this k l = ⊎_elim
 -- the rows after one was written over
 rows-with_row : (width b : ℕ) (row xs used : List ℕ) (u' : ℕ) → b < length used → length xs ≡ length used * width → length row ≡ width
     → rows_of width (length (set used b u')) (with_row width b row xs) ≡ set (rows_of width (length used) xs) b row
-rows-with_row width b row xs used u' h e w = ap (λ n. rows_of width n (with_row width b row xs)) (length-set used b u')
-    ∙ set-rows_of width (length used) xs b row h e w
+rows-with_row width b row xs used u' h e w = rw (length-set used b u', set-rows_of width (length used) xs b row h e w)
 
 -- One bucket of those that are stored.
 module _ {ways kw : ℕ} {used order words : List ℕ} (b : ℕ) (are : AreBuckets ways kw used order words) (h : b < length used) where
@@ -145,38 +140,32 @@ module _ {ways kw : ℕ} {used order words : List ℕ} (b : ℕ) (are : AreBucke
       (get-rows_of (ways * kw) (length used) words b [] h) (are.each b h)
 
   pub all-used : length (list_in ways kw used order words b) ≡ get_or used b 0
-  all-used = ap length (list-is ways kw used order words b h)
-      ∙ few-pairs (b * ways) (get_or used b 0) (flat_row ways b order) (flat_keys ways kw b words) bucket-is.within
+  all-used = rw (list-is ways kw used order words b h, few-pairs (b * ways) (get_or used b 0) (flat_row ways b order) (flat_keys ways kw b words) bucket-is.within)
 
   -- other rows take the place of the bucket's
   module _ (u' : ℕ) (o' w' : List ℕ) (lo : length o' ≡ ways) (lw : length w' ≡ ways * kw) where
     pub written-buckets : IsBucket (b * ways) kw u' o' (rows_of kw ways w')
         → AreBuckets ways kw (set used b u') (with_row ways b o' order) (with_row (ways * kw) b w' words)
     written-buckets this =
-        let same : length (set used b u') ≡ length used = length-set used b u' in
+        let same = length-set used b u' in
         let orders = orders_of ways used order in
         let rows = words_of ways kw used words in
         let P : ℕ → ℕ → List ℕ → List ℕ → Type 0 = λ n u o w. IsBucket (n * ways) kw u o (rows_of kw ways w) in
         record {
-          orders = length-with_row ways b (length used) o' order h are.orders lo ∙ (are.orders ∙ ap (λ n. n * ways) (sym same));
-          flat = length-with_row (ways * kw) b (length used) w' words h are.flat lw ∙ (are.flat ∙ ap (λ n. n * (ways * kw)) (sym same));
+          orders = rw (length-with_row ways b (length used) o' order h are.orders lo, are.orders, same);
+          flat = rw (length-with_row (ways * kw) b (length used) w' words h are.flat lw, are.flat, same);
           each = λ k l. subst₂ (λ os ws. P k (get_or (set used b u') k 0) (get_or os k []) (get_or ws k []))
               (sym (rows-with_row ways b o' order used u' h are.orders lo))
               (sym (rows-with_row (ways * kw) b w' words used u' h are.flat lw))
               (each-set P b u' o' w' used orders rows (many_orders ways kw used order words) (many_rows ways kw used order words) h are.each
-              this k (subst (λ n. k < n) same l));
+              this k (rw (← same) l));
         }
 
     pub written-lists : lists_in ways kw (set used b u') (with_row ways b o' order) (with_row (ways * kw) b w' words)
         ≡ set (lists_in ways kw used order words) b (pairs_at (b * ways) (rows_of kw ways w') (take u' o'))
     written-lists =
         let none : 0 + b * ways ≡ b * ways = omega arith in
-        ap₂ (λ os ws. map (λ (r : Recency). r.pairs) (buckets_from ways kw 0 (set used b u') os ws))
-        (rows-with_row ways b o' order used u' h are.orders lo) (rows-with_row (ways * kw) b w' words used u' h are.flat lw)
-        ∙ (ap (map (λ (r : Recency). r.pairs)) (set-buckets_from ways kw 0 b u' o' w' used (orders_of ways used order)
-        (words_of ways kw used words) (many_orders ways kw used order words) (many_rows ways kw used order words) h
-        ∙ ap (λ n. set (buckets_of ways kw used order words) b (bucket_of ways kw n u' o' w')) none)
-        ∙ map-set (λ (r : Recency). r.pairs) (buckets_of ways kw used order words) b (bucket_of ways kw (b * ways) u' o' w'))
+        rw (rows-with_row ways b o' order used u' h are.orders lo, rows-with_row (ways * kw) b w' words used u' h are.flat lw, set-buckets_from ways kw 0 b u' o' w' used (orders_of ways used order) (words_of ways kw used words) (many_orders ways kw used order words) (many_rows ways kw used order words) h, none, map-set (λ (r : Recency). r.pairs) (buckets_of ways kw used order words) b (bucket_of ways kw (b * ways) u' o' w'))
 
     -- the list of the bucket that was written over
     pub written-list : list_in ways kw (set used b u') (with_row ways b o' order) (with_row (ways * kw) b w' words) b

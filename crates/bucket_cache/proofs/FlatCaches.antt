@@ -1,5 +1,5 @@
 -- A cache whose buckets are stored one after another.
-use Rattle.std.proofs.Common.{◌≡◌, ℕ, ◌*◌, ◌<◌, ◌≤◌, List, ◌++◌, length, take, drop, get_or, [], sym, ap, ◌∙◌, subst, refl}
+use Rattle.std.proofs.Common.{◌≡◌, ℕ, ◌*◌, ◌<◌, List, ◌++◌, length, take, drop, get_or, [], sym, ap, ◌∙◌, subst, refl}
 use Rattle.std.proofs.lemmas.List.{get_or_read, take_at}
 use Rattle.bucket_cache.specs.Slices.{rows_of}
 use Rattle.bucket_cache.specs.Buckets.{IsSound, pairs_at}
@@ -38,15 +38,14 @@ module _ {ways kw ew : ℕ} {used order words : List ℕ} {entries : List (List 
 
   pub shaped : IsShaped ways kw ew (buckets_of ways kw used order words) entries
   shaped =
-      let long : length (buckets_of ways kw used order words) ≡ length used = length-buckets_of ways kw used order words in
+      let long = length-buckets_of ways kw used order words in
       record {
         some = s.some;
         each = λ b d l.
-            let h : b < length used = subst (λ n. b < n) long l in
-            subst (IsHome ways kw (b * ways)) (sym (get-buckets_of ways kw used order words b d h))
-            (home-flat ways kw b used order words s.buckets h);
-        room = subst (λ n. n * ways ≤ 65536) (sym long) s.room;
-        places = s.places ∙ ap (λ n. n * ways) (sym long);
+            let h = subst (λ n. b < n) long l in
+            rw (get-buckets_of ways kw used order words b d h) (home-flat ways kw b used order words s.buckets h);
+        room = rw long s.room;
+        places = rw (s.places, long);
         words = s.widths;
       }
 
@@ -59,15 +58,15 @@ module _ {ways kw ew : ℕ} {used order words : List ℕ} {entries : List (List 
   flat-kept are same = record {
     some = s.some;
     buckets = are;
-    room = subst (λ n. n * ways ≤ 65536) (sym same) s.room;
-    places = s.places ∙ ap (λ n. n * ways) (sym same);
+    room = rw same s.room;
+    places = rw (s.places, same);
     widths = s.widths;
   }
 
   -- what contracts see of a cache is sound, and a bucket of its lists is one of the flat parts
   module _ {cache : Cache} (view : the_cache used order words ≡ cache) where
     pub view-sound : IsSoundCache ways cache
-    view-sound = subst (IsSoundCache ways) view flat_sound
+    view-sound = rw (← view) flat_sound
 
     pub in-flat : {b : ℕ} → b < length cache.lists → b < length used
     in-flat {b} h = subst (λ n. b < n) (ap (λ x. length x.lists) (sym view) ∙ length-lists_in ways kw used order words) h

@@ -1,6 +1,6 @@
 -- What is read from buckets that are stored one after another.
-use Rattle.std.proofs.Common.{◌≡◌, ℕ, ◌+◌, ◌-◌, ◌*◌, ◌<◌, ◌≤◌, List, [], ◌++◌, Some, None, length, take, drop, get_or, set, replicate, sym}
-use Rattle.std.proofs.Common.{ap, ap₂, ◌∙◌, subst, subst₂, arith, take-append-drop, drop-drop, get_or-drop, get_or-take, take-take}
+use Rattle.std.proofs.Common.{◌≡◌, ℕ, ◌+◌, ◌-◌, ◌*◌, ◌<◌, ◌≤◌, List, [], Some, None, length, take, drop, get_or, set, replicate, sym, ap}
+use Rattle.std.proofs.Common.{ap₂, ◌∙◌, subst, subst₂, arith, take-append-drop, drop-drop, get_or-drop, get_or-take, take-take}
 use Rattle.std.specs.Prelude.{slice_get, sum_by, ◌/◌, ◌%◌}
 use Rattle.std.proofs.lemmas.List.{drop-take, get_or-replicate, length-replicate, get_or_default, get_or-map}
 use Rattle.std.proofs.lemmas.Nat.{mod-mul-add}
@@ -28,7 +28,7 @@ read-order ways b i order h = get_or-take ways (drop (b * ways) order) i 0 h ∙
 
 -- a row written over with itself
 same-row : (width b : ℕ) (xs : List ℕ) → with_row width b (flat_row width b xs) xs ≡ xs
-same-row width b xs = ap (λ ys. take (b * width) xs ++ ys) (take-append-drop width (drop (b * width) xs)) ∙ take-append-drop (b * width) xs
+same-row width b xs = rw (take-append-drop width (drop (b * width) xs), take-append-drop (b * width) xs)
 
 module _ {ways kw : ℕ} {used order words : List ℕ} (b : ℕ) (are : AreBuckets ways kw used order words) (h : b < length used) where
   pub stands : (i : ℕ) → i < get_or used b 0 → Stands ways b i order
@@ -47,18 +47,15 @@ module _ {ways kw : ℕ} {used order words : List ℕ} (b : ℕ) (are : AreBucke
   pub flat-place : (i : ℕ) → i < get_or used b 0
       → slice_get (places_of (list_in ways kw used order words b)) i ≡ Some (b * ways + get_or order (b * ways + i) 0)
   flat-place i l =
-      ap (λ ps. slice_get (places_of ps) i) (list-is ways kw used order words b h)
-      ∙ (place-pair (b * ways) (get_or used b 0) i (flat_row ways b order) (flat_keys ways kw b words) (bucket-is b are h).within l
-      ∙ ap (λ n. Some (b * ways + n)) (read-order ways b i order (stands i l).below))
+      rw (list-is ways kw used order words b h, place-pair (b * ways) (get_or used b 0) i (flat_row ways b order) (flat_keys ways kw b words) (bucket-is b are h).within l, read-order ways b i order (stands i l).below)
 
   pub flat-no-place : (i : ℕ) → get_or used b 0 ≤ i → slice_get (places_of (list_in ways kw used order words b)) i ≡ None
   flat-no-place i l =
-      ap (λ ps. slice_get (places_of ps) i) (list-is ways kw used order words b h)
-      ∙ no-place (b * ways) (get_or used b 0) i (flat_row ways b order) (flat_keys ways kw b words) (bucket-is b are h).within l
+      rw (list-is ways kw used order words b h, no-place (b * ways) (get_or used b 0) i (flat_row ways b order) (flat_keys ways kw b words) (bucket-is b are h).within l)
 
   pub flat-least : slice_get (places_of (list_in ways kw used order words b)) (get_or used b 0 - 1)
       ≡ least_place (list_in ways kw used order words b)
-  flat-least = ap (λ n. slice_get (places_of (list_in ways kw used order words b)) (n - 1)) (sym (all-used b are h))
+  flat-least = rw (all-used b are h)
 
   pub flat-no-least : get_or used b 0 ≡ 0 → least_place (list_in ways kw used order words b) ≡ None
   flat-no-least none = sym flat-least ∙ flat-no-place (get_or used b 0 - 1) (omega arith)
@@ -99,7 +96,7 @@ row-key b ways way kw words h =
 module _ {ways kw ew : ℕ} {used order words : List ℕ} {entries : List (List ℕ)} (s : IsFlatCache ways kw ew used order words entries)
     (at : ℕ) (h : at < length entries) where
   in_places : at < length used * ways
-  in_places = subst (λ n. at < n) s.places h
+  in_places = rw (← s.places) h
 
   pub key-fits : at * kw + kw ≤ length words
   key-fits =
@@ -109,7 +106,7 @@ module _ {ways kw ew : ℕ} {used order words : List ℕ} {entries : List (List 
       omega arith
 
   pub key-long : (row : List ℕ) → row ≡ take kw (drop (at * kw) words) → length row ≡ kw
-  key-long row e = row_width (length used * ways) at kw words row in_places (s.buckets.flat ∙ sym (mul_assoc (length used) ways kw)) e
+  key-long row e = row_width (length used * ways) at kw words row in_places (rw (s.buckets.flat, mul_assoc (length used) ways kw)) e
 
   pub flat-key : (bucket i : ℕ) (pair : Pair) → slice_get (list_in ways kw used order words bucket) i ≡ Some pair → pair.place ≡ at
       → take kw (drop (at * kw) words) ≡ pair.key
@@ -183,10 +180,9 @@ pub flat-more : {ways kw ew : ℕ} {used order words : List ℕ} {entries : List
     × (held + get_or used i 0 ≤ (i + 1) * ways)
 flat-more {ways} {kw} {ew} {used} {order} {words} {entries} s held i h e b =
     let buckets = buckets_of ways kw used order words in
-    let inside : i < length buckets = subst (λ n. i < n) (sym (length-buckets_of ways kw used order words)) h in
+    let inside = subst (λ n. i < n) (sym (length-buckets_of ways kw used order words)) h in
     let r = get_or buckets i no_bucket in
     let more = held_more ways kw ew held buckets entries i r (shaped s) inside (get_or_default buckets i no_bucket r inside) e b in
-    let pairs : length r.pairs ≡ get_or used i 0 = sym (ap length (get_or-map (λ (x : Recency). x.pairs) buckets i no_bucket [] inside))
+    let pairs = sym (ap length (get_or-map (λ (x : Recency). x.pairs) buckets i no_bucket [] inside))
     ∙ all-used i s.buckets h in
-    subst (λ n. (held + n ≡ sum_by (λ ps. length ps) (take (i + 1) (lists_in ways kw used order words))) × (held + n ≤ (i + 1) * ways))
-    pairs more
+    rw (← pairs) more

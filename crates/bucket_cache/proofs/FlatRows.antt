@@ -1,6 +1,6 @@
 -- Rows that are stored one after another in one list of words.
-use Rattle.std.proofs.Common.{◌≡◌, ℕ, zero, suc, ◌+◌, ◌-◌, ◌*◌, ◌<◌, ◌≤◌, List, ◌∷◌, ◌++◌, length, take, drop, get_or, set, refl, sym, ap}
-use Rattle.std.proofs.Common.{ap₂, ◌∙◌, arith, All, drop-drop, length-drop, append_assoc}
+use Rattle.std.proofs.Common.{◌≡◌, ℕ, zero, suc, ◌+◌, ◌*◌, ◌<◌, ◌≤◌, List, ◌∷◌, ◌++◌, length, take, drop, get_or, set, refl, sym, ap, ap₂}
+use Rattle.std.proofs.Common.{◌∙◌, arith, All, drop-drop, length-drop, append_assoc}
 use Rattle.std.proofs.lemmas.List.{length-take-le, take_at, drop_at}
 use Rattle.std.proofs.Math.Nat.{mul_assoc}
 use Rattle.std.proofs.Math.Seq.{take-add}
@@ -20,12 +20,12 @@ pub row_width : (ways way width : ℕ) (words row : List ℕ) → way < ways →
     → row ≡ take width (drop (way * width) words) → length row ≡ width
 row_width ways way width words row h e r =
     let fits = row_fits way ways width h in
-    let rest : length (drop (way * width) words) ≡ length words - way * width = length-drop (way * width) words in
-    ap length r ∙ length-take-le width (drop (way * width) words) (omega arith)
+    let rest = length-drop (way * width) words in
+    rw (r, length-take-le width (drop (way * width) words) (omega arith))
 
 pub length-rows_of : (width count : ℕ) (words : List ℕ) → length (rows_of width count words) ≡ count
-length-rows_of width zero words = refl
-length-rows_of width (suc count) words = ap (λ n. suc n) (length-rows_of width count (drop width words))
+length-rows_of _ zero _ = refl
+length-rows_of width (suc count) words = rw (length-rows_of width count (drop width words))
 
 -- a place of the rows is one of their number
 pub place_within : (width count : ℕ) (words : List ℕ) {rows : List (List ℕ)} {at : ℕ} → rows_of width count words ≡ rows → at < length rows
@@ -55,13 +55,12 @@ pub set-rows_of : (width count : ℕ) (words : List ℕ) (at : ℕ) (key : List 
 set-rows_of width zero words at key h e w = absurd (omega arith)
 set-rows_of width (suc count) words zero key h e w =
     let none : 0 * width ≡ 0 = omega arith in
-    ap (λ n. rows_of width (suc count) (take n words ++ (key ++ drop width (drop n words)))) none
-    ∙ ap₂ (λ row rest. row ∷ rows_of width count rest) (take_at key (drop width words) width w) (drop_at key (drop width words) width w)
+    rw (none, take_at key (drop width words) width w, drop_at key (drop width words) width w)
 set-rows_of width (suc count) words (suc at) key h e w =
-    let front : length (take width words) ≡ width = length-take-le width words (omega arith) in
+    let front = length-take-le width words (omega arith) in
     let split : suc at * width ≡ width + at * width = omega arith in
     let rest = take (at * width) (drop width words) ++ (key ++ drop width (drop (at * width) (drop width words))) in
-    let joined : take (suc at * width) words ++ (key ++ drop width (drop (suc at * width) words)) ≡ take width words ++ rest =
+    let joined =
     ap (λ n. take n words ++ (key ++ drop width (drop n words))) split
     ∙ (ap₂ (λ xs ys. xs ++ (key ++ drop width ys)) (take-add width (at * width) words) (sym (drop-drop (at * width) width words))
     ∙ append_assoc (take width words) (take (at * width) (drop width words)) (key ++ drop width (drop (at * width) (drop width words)))) in

@@ -9,8 +9,8 @@ use Rattle.std.proofs.lemmas.Bool.{cases_order, ltb-true, ltb-false}
 use Rattle.bucket_cache.specs.Slices.{at_front}
 
 pub by_test : {P : Type 0} (t : Bool) → (t ≡ true → P) → (t ≡ false → P) → P
-by_test true so not_so = so refl
-by_test false so not_so = not_so refl
+by_test true so _ = so refl
+by_test false _ not_so = not_so refl
 
 -- the element that comes to the front, and the others
 pub front-cons : {X : Type 0} (at : ℕ) (d : X) (xs : List X) → at < length xs → at_front at xs ≡ get_or xs at d
@@ -29,17 +29,17 @@ length-at_front at xs h =
 
 pub front-append : {X : Type 0} (at : ℕ) (p q : List X) → at < length p → at_front at (p ++ q) ≡ at_front at p ++ q
 front-append {X} at p q h =
-    let one : take 1 (drop at (p ++ q)) ≡ take 1 (drop at p) =
+    let one =
     ap (take 1) (drop-append-le at p q (omega arith)) ∙ take-append-le 1 (drop at p) q (omega (arith, length-drop at p)) in
-    let before : take at (p ++ q) ≡ take at p = take-append-le at p q (omega arith) in
-    let after : drop (at + 1) (p ++ q) ≡ drop (at + 1) p ++ q = drop-append-le (at + 1) p q (omega arith) in
+    let before = take-append-le at p q (omega arith) in
+    let after = drop-append-le (at + 1) p q (omega arith) in
     ap₂ (λ xs ys. xs ++ ys) one (ap₂ (λ xs ys. xs ++ ys) before after)
     ∙ simp append_assoc
 
 -- a move among the first n elements
 pub take-at_front : {X : Type 0} (n at : ℕ) (xs : List X) → at < n → n ≤ length xs → take n (at_front at xs) ≡ at_front at (take n xs)
 take-at_front {X} n at xs h l =
-    let long : length (take n xs) ≡ n = length-take-le n xs l in
+    let long = length-take-le n xs l in
     ap (λ ys. take n (at_front at ys)) (sym (take-append-drop n xs))
     ∙ (ap (take n) (front-append at (take n xs) (drop n xs) (omega arith))
     ∙ take_at (at_front at (take n xs)) (drop n xs) n (length-at_front at (take n xs) (omega arith) ∙ long))
@@ -55,8 +55,7 @@ pub take_more-at_front : {X : Type 0} (n : ℕ) (d : X) (xs : List X) → n < le
     ∷ take n xs
 take_more-at_front n d xs h =
     ap (λ k. take k (at_front n xs)) (let e : n + 1 ≡ suc n = omega arith in e)
-    ∙ (ap (take (suc n)) (front-cons n d xs h)
-    ∙ ap (λ ys. get_or xs n d ∷ ys) (take_at (take n xs) (drop (n + 1) xs) n (length-take-le n xs (omega arith))))
+    ∙ (rw (front-cons n d xs h, take_at (take n xs) (drop (n + 1) xs) n (length-take-le n xs (omega arith))))
 
 pub All-at_front : {X : Type 0} (P : X → Type 0) (at : ℕ) (xs : List X) → All P xs → All P (at_front at xs)
 All-at_front P at xs a = All-append P (take 1 (drop at xs)) (take at xs ++ drop (at + 1) xs)
@@ -89,7 +88,7 @@ pub at_front-get : {X : Type 0} (at k : ℕ) (d : X) (xs : List X) → at < leng
     → get_or (at_front at xs) k d ≡ get_or xs (source at k) d
 at_front-get at zero d xs h l = ap (λ ys. get_or ys 0 d) (front-cons at d xs h)
 at_front-get at (suc k) d xs h l =
-    let long : length (take at xs) ≡ at = length-take-le at xs (omega arith) in
+    let long = length-take-le at xs (omega arith) in
     ap (λ ys. get_or ys (suc k) d) (front-cons at d xs h)
     ∙ by_test (ltb k at)
     (λ t. let below = ltb-true k at t in rw t (get_or_append_left (take at xs) (drop (at + 1) xs) d k (omega arith)
@@ -103,7 +102,7 @@ AllPairs-at_front at xs h a i j d l m =
     let i_in : i < length xs = omega arith in
     let j_in : j < length xs = omega arith in
     λ e.
-    let same : get_or xs (source at i) d ≡ get_or xs (source at j) d = sym (at_front-get at i d xs h i_in)
+    let same = sym (at_front-get at i d xs h i_in)
     ∙ (e ∙ at_front-get at j d xs h j_in) in
     ⊎_elim (λ (p : source at i ≡ source at j). source-apart at i j l p)
     (λ (p : (source at i < source at j) ⊎ (source at j < source at i)). ⊎_elim

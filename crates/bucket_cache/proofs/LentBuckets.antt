@@ -1,6 +1,6 @@
 -- The parts of one bucket, lent by their bounds and written over.
-use Rattle.std.proofs.Common.{◌≡◌, ℕ, ◌+◌, ◌-◌, ◌*◌, ◌<◌, ◌≤◌, List, ◌++◌, length, take, drop, get_or, set, sym}
-use Rattle.std.proofs.Common.{ap, ap₂, ◌∙◌, subst, subst₂, arith}
+use Rattle.std.proofs.Common.{◌≡◌, ℕ, ◌+◌, ◌-◌, ◌*◌, ◌<◌, ◌≤◌, List, ◌++◌, length, take, drop, get_or, set, sym, ap, ap₂, ◌∙◌, subst}
+use Rattle.std.proofs.Common.{subst₂, arith}
 use Rattle.std.proofs.lemmas.List.{set-get_or}
 use Rattle.std.proofs.Math.Nat.{mul-le-mul_left}
 use Rattle.epoch_model.specs.Keys.{Key}
@@ -10,8 +10,8 @@ use Rattle.bucket_cache.specs.FlatBuckets.{lists_in, list_in, AreBuckets}
 use Rattle.bucket_cache.specs.declared.bucket.Touch.{Touch}
 use Rattle.bucket_cache.specs.Touches.{Touches}
 use Rattle.bucket_cache.proofs.FlatRows.{place-word, row_fits}
-use Rattle.bucket_cache.proofs.FlatBuckets.{flat_row, with_row, list-is, order-long, words-long, bucket-is, all-used}
-use Rattle.bucket_cache.proofs.FlatBuckets.{written-buckets, written-lists, written-list}
+use Rattle.bucket_cache.proofs.FlatBuckets.{flat_row, with_row, list-is, order-long, words-long, bucket-is, all-used, written-buckets}
+use Rattle.bucket_cache.proofs.FlatBuckets.{written-lists, written-list}
 
 -- how many items there are between a row's bounds
 abbrev between : ℕ → ℕ → ℕ
@@ -28,10 +28,10 @@ wide : (width b : ℕ) → between width b ≡ width
 wide width b = omega arith
 
 lent-is : (width b : ℕ) (xs : List ℕ) → lent_row width b xs ≡ flat_row width b xs
-lent-is width b xs = ap (λ n. take n (drop (b * width) xs)) (wide width b)
+lent-is width b xs = rw (wide width b)
 
 with-is : (width b : ℕ) (row xs : List ℕ) → with_row width b row xs ≡ with_lent width b row xs
-with-is width b row xs = ap (λ n. take (b * width) xs ++ (row ++ drop n (drop (b * width) xs))) (sym (wide width b))
+with-is width b row xs = rw (wide width b)
 
 pub record IsBounded (ways kw b : ℕ) (order words : List ℕ) : Type 0 where
   pub first : b * ways + ways ≤ 65536
@@ -45,7 +45,7 @@ row-lies width b count xs h e = let f = row_fits b count width h in omega arith
 
 module _ {ways kw : ℕ} {used order words : List ℕ} (b : ℕ) (are : AreBuckets ways kw used order words) (h : b < length used) where
   long : length (lent_row ways b order) ≡ ways
-  long = ap length (lent-is ways b order) ∙ order-long b are h
+  long = rw (lent-is ways b order, order-long b are h)
 
   -- the bounds of the rows lie within the parts, which are small
   pub bounded : IsBounded ways kw b order words
@@ -69,9 +69,7 @@ module _ {ways kw : ℕ} {used order words : List ℕ} (b : ℕ) (are : AreBucke
   lent_keys words = rows_of kw (length (lent_row ways b order)) words
 
   pub lent-bucket : IsBucket (b * ways) kw (get_or used b 0) (lent_row ways b order) (lent_keys (lent_row (ways * kw) b words))
-  lent-bucket = subst (λ n. IsBucket (b * ways) kw (get_or used b 0) (lent_row ways b order) (rows_of kw n (lent_row (ways * kw) b words)))
-      (sym long) (subst₂ (λ o w. IsBucket (b * ways) kw (get_or used b 0) o (rows_of kw ways w)) (sym (lent-is ways b order))
-      (sym (lent-is (ways * kw) b words)) (bucket-is b are h))
+  lent-bucket = rw long (subst₂ (λ o w. IsBucket (b * ways) kw (get_or used b 0) o (rows_of kw ways w)) (sym (lent-is ways b order)) (sym (lent-is (ways * kw) b words)) (bucket-is b are h))
 
   pub lent-list : list_in ways kw used order words b
       ≡ pairs_at (b * ways) (lent_keys (lent_row (ways * kw) b words)) (take (get_or used b 0) (lent_row ways b order))
@@ -89,7 +87,7 @@ module _ {ways kw : ℕ} {used order words : List ℕ} (b : ℕ) (are : AreBucke
     lo = so ∙ long
 
     lw : length w' ≡ ways * kw
-    lw = sw ∙ (ap length (lent-is (ways * kw) b words) ∙ words-long b are h)
+    lw = rw (sw, lent-is (ways * kw) b words, words-long b are h)
 
     abbrev new_list : List ℕ → List ℕ → List Pair
     new_list order words = list_in ways kw (set used b u') order words b
@@ -134,16 +132,13 @@ module _ {ways kw : ℕ} {used order words : List ℕ} (b : ℕ) (are : AreBucke
 
     pub full-list : list_in ways kw used order words b
         ≡ pairs_at (b * ways) (lent_keys (lent_row (ways * kw) b words)) (take (length (lent_row ways b order)) (lent_row ways b order))
-    full-list = lent-list
-        ∙ ap (λ u. pairs_at (b * ways) (lent_keys (lent_row (ways * kw) b words)) (take u (lent_row ways b order))) full-used
+    full-list = rw (lent-list, full-used)
 
     module _ (o' w' : List ℕ) (so : length o' ≡ length (lent_row ways b order))
         (sw : length w' ≡ length (lent_row (ways * kw) b words)) where
       pub full-buckets : IsBucket (b * ways) kw (length (lent_row ways b order)) o' (lent_keys w')
           → AreBuckets ways kw used (with_lent ways b o' order) (with_lent (ways * kw) b w' words)
-      full-buckets is = subst (λ us. AreBuckets ways kw us (with_lent ways b o' order) (with_lent (ways * kw) b w' words))
-          (set-get_or used b 0)
-          (lent-buckets (get_or used b 0) o' w' so sw (subst (λ u. IsBucket (b * ways) kw u o' (lent_keys w')) (sym full-used) is))
+      full-buckets is = rw (← set-get_or used b 0) (lent-buckets (get_or used b 0) o' w' so sw (subst (λ u. IsBucket (b * ways) kw u o' (lent_keys w')) (sym full-used) is))
 
       pub full-lists : (change : List Pair → List Pair) → pairs_at (b * ways) (lent_keys w') (take (length (lent_row ways b order)) o')
           ≡ change (pairs_at (b * ways) (lent_keys (lent_row (ways * kw) b words))

@@ -11,13 +11,13 @@ over-none : (xs : List ℕ) → written_over xs [] ≡ xs
 over-none xs = take_all (length xs) xs (omega arith)
 
 take-over : (n : ℕ) (xs w : List ℕ) → take n (written_over xs w) ≡ written_over (take n xs) w
-take-over zero xs w = refl
+take-over zero _ w = refl
 take-over (suc n) [] w = refl
 take-over (suc n) (x ∷ xs) [] = ap (take (suc n)) (over-none (x ∷ xs)) ∙ sym (over-none (take (suc n) (x ∷ xs)))
-take-over (suc n) (x ∷ xs) (y ∷ w) = ap (λ rest. y ∷ rest) (take-over n xs w)
+take-over (suc n) (x ∷ xs) (y ∷ w) = rw (take-over n xs w)
 
 drop-over : (n : ℕ) (xs w : List ℕ) → drop n (written_over xs w) ≡ written_over (drop n xs) (drop n w)
-drop-over zero xs w = refl
+drop-over zero _ w = refl
 drop-over (suc n) [] w = refl
 drop-over (suc n) (x ∷ xs) [] = ap (drop (suc n)) (over-none (x ∷ xs)) ∙ sym (over-none (drop (suc n) (x ∷ xs)))
 drop-over (suc n) (x ∷ xs) (y ∷ w) = drop-over n xs w
@@ -27,27 +27,24 @@ pub written_from : (i len : ℕ) (items w : List ℕ) → len ≡ length items �
     → (let X : List ℕ = take i items ++ (w ++ drop (length w) (drop i items)) in take len (X ++ drop (length X) items)) ≡ take i items
     ++ written_over (drop i items) w
 written_from zero len items w same within =
-    let X : List ℕ = w ++ drop (length w) items in
+    let X = w ++ drop (length w) items in
     let long : length items ≤ length X = omega (arith, length-append w (drop (length w) items), length-drop (length w) items) in
-    ap (λ rest. take len (X ++ rest)) (drop_all (length X) items long) ∙ (ap (take len) (append-nil X) ∙ ap (λ n. take n X) same)
+    rw (drop_all (length X) items long, append-nil X, same)
 written_from (suc i) len [] w same within = absurd (omega (arith, within))
 written_from (suc i) len (x ∷ items) w same within =
-    let X : List ℕ = take i items ++ (w ++ drop (length w) (drop i items)) in
-    ap (λ n. take n (x ∷ (X ++ drop (length X) items))) same ∙ ap (λ rest. x ∷ rest)
-    (written_from i (length items) items w refl (omega (arith, within)))
+    let X = take i items ++ (w ++ drop (length w) (drop i items)) in
+    rw (same, written_from i (length items) items w refl (omega (arith, within)))
 
 first_written : (width count : ℕ) (words w : List ℕ) → length words ≡ count * width
     → rows_of width count (written_over words w) ≡ with_entry (rows_of width count words) zero w
-first_written width zero words w flat = refl
+first_written _ zero _ w _ = refl
 first_written width (suc count) words w flat =
-    let long : length (take width words) ≡ width = length-take-le width words (omega (arith, flat)) in
+    let long = length-take-le width words (omega (arith, flat)) in
     let rest : length (drop width words) ≡ count * width = omega (arith, length-drop width words, flat) in
-    ap₂ (λ row more. row ∷ rows_of width count more) (take-over width words w) (drop-over width words w)
-    ∙ (ap (λ more. written_over (take width words) w ∷ more) (first_written width count (drop width words) (drop width w) rest)
-    ∙ ap (λ n. written_over (take width words) w ∷ with_entry (rows_of width count (drop width words)) zero (drop n w)) (sym long))
+    rw (take-over width words w, drop-over width words w, first_written width count (drop width words) (drop width w) rest, long)
 
 front-take : (width m : ℕ) (words more : List ℕ) → width + m ≤ length words → take width (take (width + m) words ++ more) ≡ take width words
-front-take zero m words more h = refl
+front-take zero m _ _ h = refl
 front-take (suc width) m [] more h = absurd (omega (arith, h))
 front-take (suc width) m (x ∷ words) more h =
     ap (λ n. take (suc width) (take n (x ∷ words) ++ more)) (let e : suc width + m ≡ suc (width + m) = omega arith in e)
@@ -71,7 +68,7 @@ entry_written zero width (suc count) words w low flat =
     ∙ first_written width (suc count) words w flat
 entry_written (suc at) width (suc count) words w low flat =
     let split : suc at * width ≡ width + at * width = omega arith in
-    let fits : at * width + width ≤ count * width = row_fits at count width (omega (arith, low)) in
+    let fits = row_fits at count width (omega (arith, low)) in
     let within : width + at * width ≤ length words = omega (arith, flat, fits) in
     let rest : length (drop width words) ≡ count * width = omega (arith, length-drop width words, flat) in
     let more = written_over (drop (width + at * width) words) w in
@@ -92,17 +89,14 @@ entries-kept (entry ∷ entries) =
 
 pub over-all : (old w : List ℕ) → length w ≡ length old → written_over old w ≡ w
 over-all old w same =
-    ap (λ rest. take (length old) (w ++ rest)) (drop_all (length w) old (omega (arith, same)))
-    ∙ (ap (take (length old)) (append-nil w) ∙ take_all (length old) w (omega (arith, same)))
+    rw (drop_all (length w) old (omega (arith, same)), append-nil w, take_all (length old) w (omega (arith, same)))
 
 -- as many words as an entry has take its place
 pub entry_replaced : (entries : List (List ℕ)) (at : ℕ) (w : List ℕ) → at < length entries → length w ≡ length (get_or entries at [])
     → with_entry entries at w ≡ set entries at w
 entry_replaced [] at w low same = absurd (omega (arith, low))
 entry_replaced (entry ∷ entries) zero w low same =
-    ap₂ (λ (words : List ℕ) (rest : List ℕ). words ∷ with_entry entries zero rest) (over-all entry w same)
-    (drop_all (length entry) w (omega (arith, same)))
-    ∙ ap (λ others. w ∷ others) (entries-kept entries)
+    rw (over-all entry w same, drop_all (length entry) w (omega (arith, same)), entries-kept entries)
 entry_replaced (entry ∷ entries) (suc at) w low same = ap (λ others. entry ∷ others) (entry_replaced entries at w (omega (arith, low)) same)
 
 -- as many words as before
@@ -118,8 +112,8 @@ length-over old w =
 -- as many entries as before
 pub length-with_entry : (entries : List (List ℕ)) (at : ℕ) (w : List ℕ) → length (with_entry entries at w) ≡ length entries
 length-with_entry [] at w = refl
-length-with_entry (entry ∷ entries) zero w = ap (λ n. suc n) (length-with_entry entries zero (drop (length entry) w))
-length-with_entry (entry ∷ entries) (suc at) w = ap (λ n. suc n) (length-with_entry entries at w)
+length-with_entry (entry ∷ entries) zero w = rw (length-with_entry entries zero (drop (length entry) w))
+length-with_entry (_ ∷ entries) (suc at) w = ap (λ n. suc n) (length-with_entry entries at w)
 
 abbrev has_words : ℕ → List ℕ → Type 0
 has_words count entry = length entry ≡ count
@@ -127,7 +121,7 @@ has_words count entry = length entry ≡ count
 -- and as many words in each
 pub entries-wide : (count : ℕ) (entries : List (List ℕ)) (at : ℕ) (w : List ℕ) → All (λ entry. length entry ≡ count) entries
     → All (λ entry. length entry ≡ count) (with_entry entries at w)
-entries-wide count [] at w all = all
+entries-wide _ [] at w all = all
 entries-wide count (entry ∷ entries) zero w all =
     All-cons (has_words count) (written_over entry w) (with_entry entries zero (drop (length entry) w))
     (length-over entry w ∙ All-head (has_words count) entry entries all)
@@ -150,8 +144,7 @@ drop-zeros (suc n) m = ap (λ k. drop (suc n) (zeros k)) (let e : suc n + m ≡ 
 
 -- entries of zeros
 pub zero-entries : (width count : ℕ) → rows_of width count (replicate (count * width) 0) ≡ replicate count (replicate width 0)
-zero-entries width zero = refl
+zero-entries _ zero = refl
 zero-entries width (suc count) =
     ap (λ k. rows_of width (suc count) (zeros k)) (let e : suc count * width ≡ width + count * width = omega arith in e)
-    ∙ (ap₂ (λ row more. row ∷ rows_of width count more) (take-zeros width (count * width)) (drop-zeros width (count * width))
-    ∙ ap (λ others. zeros width ∷ others) (zero-entries width count))
+    ∙ (rw (take-zeros width (count * width), drop-zeros width (count * width), zero-entries width count))

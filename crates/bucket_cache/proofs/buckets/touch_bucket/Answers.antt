@@ -1,5 +1,4 @@
-use Rattle.std.proofs.Common.{arith, subst}
-use Rattle.bucket_cache.specs.Touches.{IsNotFirst}
+use Rattle.std.proofs.Common.{arith}
 use Rattle.bucket_cache.proofs.LentBuckets.{bounded, lent-bucket, lent-list, lent-touched, lent-buckets, lent-rest}
 use Rattle.bucket_cache.proofs.buckets.touch_bucket.Goals as goal
 
@@ -23,7 +22,7 @@ touch_ways-requires-clause-bucket g c = lent-bucket c.args.bucket c.requires.buc
 
 pub touch_ways-requires-clause-other : goal.touch_ways-requires-clause-other
 touch_ways-requires-clause-other g c =
-    subst (IsNotFirst c.args.key.now) (lent-list c.args.bucket c.requires.buckets c.requires.range) c.requires.other
+    rw (← lent-list c.args.bucket c.requires.buckets c.requires.range) c.requires.other
 
 pub returns-clause-buckets : goal.returns-clause-buckets
 returns-clause-buckets g c =

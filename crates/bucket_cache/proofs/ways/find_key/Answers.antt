@@ -40,7 +40,7 @@ loop-i-preserved g c =
     let order = c.args.order.now in
     let rows = rows_of (length key) (length order) c.args.words.now in
     let i = c.loop-i.i in
-    let this : key_eq (get_or rows (get_or order i 0) []) key ≡ false =
+    let this =
     ap (λ k. key_eq k key) (get-rows_of (length key) (length order) c.args.words.now (get_or order i 0) []
     (c.requires.ways i 0 (omega arith)) ∙ sym c.row-held.ensures)
     ∙ (sym c.compare-same.ensures.answer ∙ c.if-same.false) in
@@ -50,8 +50,8 @@ loop-i-preserved g c =
     let kept = c.loop-i.invariant.compared in
     record {
       none = λ at h. ⊎_elim
-          (λ (e : at ≡ i). subst (λ n. key_eq (get_or rows (get_or order n 0) []) key ≡ false) (sym e) this)
-          (λ (d : at ≡ i → ⊥). c.loop-i.invariant.none at (let l : at < i = below at i h d in l))
+          (λ (e : at ≡ i). rw e this)
+          (λ (d : at ≡ i → ⊥). c.loop-i.invariant.none at (let l = below at i h d in l))
           (cases_eq at i);
       steps = c.loop-i.invariant.steps;
       compared = omega arith;

@@ -1,11 +1,10 @@
-use Rattle.std.proofs.Common.{◌≡◌, ◌+◌, ◌-◌, ◌*◌, ◌<◌, ◌++◌, length, take, drop, ap₂, subst, sym, ◌∙◌, arith}
-use Rattle.bucket_cache.specs.Slices.{rows_of}
+use Rattle.std.proofs.Common.{◌≡◌, ◌+◌, ◌-◌, ◌*◌, ◌<◌, length, subst, sym, arith}
 use Rattle.bucket_cache.proofs.FlatRows.{row_fits, set-rows_of}
 use Rattle.bucket_cache.proofs.ways.put.Goals as goal
 
 pub slice_bounds-copy_words-end : goal.slice_bounds-copy_words-end
 slice_bounds-copy_words-end g c =
-    let below : c.way_at-way.result < length c.args.order.now = subst (λ way. way < length c.args.order.now) (sym c.way_at-way.ensures)
+    let below = subst (λ way. way < length c.args.order.now) (sym c.way_at-way.ensures)
     (c.requires.ways c.args.at 0 c.requires.within) in
     let fits = row_fits c.way_at-way.result (length c.args.order.now) (length c.args.key.now) below in
     let flat = c.requires.flat in
@@ -15,11 +14,8 @@ pub returns-clause-keys : goal.returns-clause-keys
 returns-clause-keys g c =
     let kw = length c.args.key.now in
     let words = c.args.words.now in
-    let below : c.way_at-way.result < length c.args.order.now = subst (λ way. way < length c.args.order.now) (sym c.way_at-way.ensures)
+    let below = subst (λ way. way < length c.args.order.now) (sym c.way_at-way.ensures)
     (c.requires.ways c.args.at 0 c.requires.within) in
     let start = c.way_at-way.result * kw in
     let width : start + kw - start ≡ kw = omega arith in
-    ap₂ (λ n key. rows_of kw (length c.args.order.now) (take start words ++ (key ++ drop n (drop start words)))) width
-    c.copy_words.ensures.words
-    ∙ set-rows_of kw (length c.args.order.now) words c.way_at-way.result c.args.key.now below c.requires.flat
-    (let e : kw ≡ kw = omega arith in e)
+    rw (width, c.copy_words.ensures.words, set-rows_of kw (length c.args.order.now) words c.way_at-way.result c.args.key.now below c.requires.flat (let e : kw ≡ kw = omega arith in e))

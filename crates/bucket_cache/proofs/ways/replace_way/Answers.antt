@@ -1,7 +1,6 @@
-use Rattle.std.proofs.Common.{◌≡◌, ◌∙◌, ◌+◌, ◌-◌, length, take, get_or, set, sym, ap, refl, subst, le_refl}
+use Rattle.std.proofs.Common.{◌≡◌, length, take, set, refl, subst, le_refl}
 use Rattle.bucket_cache.specs.Slices.{rows_of}
-use Rattle.bucket_cache.specs.Buckets.{pairs_at, IsBucket}
-use Rattle.bucket_cache.specs.Touches.{IsLeast, with_pair_first}
+use Rattle.bucket_cache.specs.Buckets.{pairs_at}
 use Rattle.bucket_cache.proofs.BucketLists.{least-pair, replaced-bucket, replaced-pairs}
 use Rattle.bucket_cache.proofs.ways.replace_way.Goals as goal
 
@@ -11,16 +10,14 @@ returns-clause-bucket g c =
     let order = c.args.order.now in
     let keys = rows_of (length key) (length order) c.args.words.now in
     let keys' = rows_of (length key) (length order) c.put-way.new.words in
-    let way : c.put-way.result ≡ get_or order (length order - 1) 0 = c.put-way.ensures.way in
-    subst (λ o. IsBucket c.args.first (length key) (length order) o keys') (sym c.put-way.ensures.moved)
-    (replaced-bucket c.requires.bucket refl key (subst (λ w. keys' ≡ set keys w key) way c.put-way.ensures.keys) c.requires.absent refl)
+    let way = c.put-way.ensures.way in
+    rw c.put-way.ensures.moved (replaced-bucket c.requires.bucket refl key (subst (λ w. keys' ≡ set keys w key) way c.put-way.ensures.keys) c.requires.absent refl)
 
 pub returns-clause-place : goal.returns-clause-place
 returns-clause-place g c =
     let order = c.args.order.now in
     let keys = rows_of (length c.args.key.now) (length order) c.args.words.now in
-    subst (λ w. IsLeast (pairs_at c.args.first keys (take (length order) order)) (c.args.first + w)) (sym c.put-way.ensures.way)
-    (least-pair c.args.first (length order) order keys c.requires.bucket.some (le_refl (length order)))
+    rw c.put-way.ensures.way (least-pair c.args.first (length order) order keys c.requires.bucket.some (le_refl (length order)))
 
 pub returns-clause-pairs : goal.returns-clause-pairs
 returns-clause-pairs g c =
@@ -29,7 +26,5 @@ returns-clause-pairs g c =
     let keys = rows_of (length key) (length order) c.args.words.now in
     let keys' = rows_of (length key) (length order) c.put-way.new.words in
     let old = pairs_at c.args.first keys (take (length order) order) in
-    let way : c.put-way.result ≡ get_or order (length order - 1) 0 = c.put-way.ensures.way in
-    ap (λ o. pairs_at c.args.first keys' (take (length order) o)) c.put-way.ensures.moved
-    ∙ (replaced-pairs c.requires.bucket refl key (subst (λ w. keys' ≡ set keys w key) way c.put-way.ensures.keys)
-    ∙ ap (λ w. with_pair_first key (c.args.first + w) (take (length old - 1) old)) (sym way))
+    let way = c.put-way.ensures.way in
+    rw (c.put-way.ensures.moved, replaced-pairs c.requires.bucket refl key (subst (λ w. keys' ≡ set keys w key) way c.put-way.ensures.keys), way)

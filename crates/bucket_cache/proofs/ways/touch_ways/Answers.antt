@@ -1,9 +1,8 @@
-use Rattle.std.proofs.Common.{◌≡◌, ◌∙◌, ◌+◌, ◌<◌, length, take, get_or, set, ap, refl, subst, sym, arith}
+use Rattle.std.proofs.Common.{◌≡◌, ◌∙◌, length, take, set, ap, refl, subst, arith}
 use Rattle.bucket_cache.specs.Slices.{rows_of}
-use Rattle.bucket_cache.specs.Buckets.{pairs_at, IsBucket}
-use Rattle.bucket_cache.specs.Touches.{with_pair_first}
-use Rattle.bucket_cache.proofs.BucketLists.{hit-has, hit-place, hit-pairs, hit-bucket, none-in-front}
-use Rattle.bucket_cache.proofs.BucketLists.{free-pairs, free-bucket, least-pair, few-pairs, other-first}
+use Rattle.bucket_cache.specs.Buckets.{pairs_at}
+use Rattle.bucket_cache.proofs.BucketLists.{hit-has, hit-place, hit-pairs, hit-bucket, none-in-front, free-pairs, free-bucket, least-pair}
+use Rattle.bucket_cache.proofs.BucketLists.{few-pairs, other-first}
 use Rattle.bucket_cache.proofs.ways.touch_ways.Goals as goal
 
 pub find_key-requires-clause-other : goal.find_key-requires-clause-other
@@ -15,8 +14,7 @@ pub returns-in-Some-clause-bucket : goal.returns-in-Some-clause-bucket
 returns-in-Some-clause-bucket g c =
     let key = c.args.key.now in
     let keys = rows_of (length key) (length c.args.order.now) c.args.words.now in
-    subst (λ o. IsBucket c.args.first (length key) c.args.used.now o keys) (sym c.move_to_front.ensures.moved)
-    (hit-bucket c.requires.bucket c.in-Some.at key c.in-Some.ensures.found c.in-Some.ensures.same)
+    rw c.move_to_front.ensures.moved (hit-bucket c.requires.bucket c.in-Some.at key c.in-Some.ensures.found c.in-Some.ensures.same)
 
 pub returns-in-Some-clause-touched : goal.returns-in-Some-clause-touched
 returns-in-Some-clause-touched g c =
@@ -39,10 +37,8 @@ returns-then-used-order-clause-bucket g c =
     let used = c.args.used.now in
     let keys = rows_of (length key) (length order) c.args.words.now in
     let keys' = rows_of (length key) (length order) c.put-way.new.words in
-    let way : c.put-way.result ≡ get_or order used 0 = c.put-way.ensures.way in
-    subst (λ o. IsBucket c.args.first (length key) (used + 1) o keys') (sym c.put-way.ensures.moved)
-    (free-bucket c.requires.bucket c.if-used-order.true key (subst (λ w. keys' ≡ set keys w key) way c.put-way.ensures.keys)
-    (none-in-front c.args.first used order keys key c.requires.bucket.within c.in-None.ensures.none) refl)
+    let way = c.put-way.ensures.way in
+    rw c.put-way.ensures.moved (free-bucket c.requires.bucket c.if-used-order.true key (subst (λ w. keys' ≡ set keys w key) way c.put-way.ensures.keys) (none-in-front c.args.first used order keys key c.requires.bucket.within c.in-None.ensures.none) refl)
 
 pub returns-then-used-order-clause-touched : goal.returns-then-used-order-clause-touched
 returns-then-used-order-clause-touched g c =
@@ -51,14 +47,12 @@ returns-then-used-order-clause-touched g c =
     let used = c.args.used.now in
     let keys = rows_of (length key) (length order) c.args.words.now in
     let keys' = rows_of (length key) (length order) c.put-way.new.words in
-    let way : c.put-way.result ≡ get_or order used 0 = c.put-way.ensures.way in
+    let way = c.put-way.ensures.way in
     let few = few-pairs c.args.first used order keys c.requires.bucket.within in
     let room = c.if-used-order.true in (
       none-in-front c.args.first used order keys key c.requires.bucket.within c.in-None.ensures.none,
-      subst (λ n. n < length order) (sym few) room,
-      ap (λ o. pairs_at c.args.first keys' (take (used + 1) o)) c.put-way.ensures.moved
-          ∙ (free-pairs c.requires.bucket room key (subst (λ w. keys' ≡ set keys w key) way c.put-way.ensures.keys)
-          ∙ ap (λ w. with_pair_first key (c.args.first + w) (pairs_at c.args.first keys (take used order))) (sym way)),
+      rw few room,
+      rw (c.put-way.ensures.moved, free-pairs c.requires.bucket room key (subst (λ w. keys' ≡ set keys w key) way c.put-way.ensures.keys), way),
     )
 
 pub returns-else-used-order-clause-touched : goal.returns-else-used-order-clause-touched

@@ -1,6 +1,6 @@
-use Rattle.std.proofs.Common.{◌≡◌, ◌-◌, ◌<◌, length, get_or, set, sym, ap, ◌∙◌, subst, arith, length-set, refl}
+use Rattle.std.proofs.Common.{◌≡◌, ◌-◌, ◌<◌, length, get_or, set, sym, subst, arith, length-set, refl}
 use Rattle.bucket_cache.specs.Caches.{list_at}
-use Rattle.bucket_cache.specs.FlatBuckets.{lists_in, list_in, IsFlatCache}
+use Rattle.bucket_cache.specs.FlatBuckets.{IsFlatCache}
 use Rattle.bucket_cache.proofs.FlatBuckets.{all-used}
 use Rattle.bucket_cache.proofs.FlatCaches.{in-flat, read-used, view-sound, flat-kept}
 use Rattle.bucket_cache.proofs.FlatReads.{fewer-buckets, fewer-lists}
@@ -18,7 +18,7 @@ read g c = read-used c.self.invariant c.self.view_is c.requires.range c.index_mu
 pub overflow_sub-index_mut : goal.overflow_sub-index_mut
 overflow_sub-index_mut g c =
     let b = c.self.inside in
-    let some : 0 < length (list_in g.row.WAYS b.key_words b.used.items b.order.items b.words.items c.args.bucket) =
+    let some =
     subst (λ cache. 0 < length (list_at cache c.args.bucket)) (sym c.self.view_is) c.requires.some in
     let all = all-used c.args.bucket c.self.invariant.buckets (in-flat c.self.invariant c.self.view_is c.requires.range) in
     let r = read g (goal.at.overflow_sub-index_mut g c).After-index_mut in
@@ -29,10 +29,7 @@ kept : (g : _) (c : After-index_mut g) → (let b = c.self.inside in IsFlatCache
     (set b.used.items c.args.bucket (c.index_mut.result.now - 1)) b.order.items b.words.items b.entries)
 kept g c =
     let b = c.self.inside in
-    subst (λ n. IsFlatCache g.row.WAYS b.key_words b.entry_words (set b.used.items c.args.bucket (n - 1)) b.order.items b.words.items
-    b.entries) (sym (read g c)) (flat-kept c.self.invariant
-    (fewer-buckets c.args.bucket c.self.invariant.buckets (in-flat c.self.invariant c.self.view_is c.requires.range))
-    (length-set b.used.items c.args.bucket (get_or b.used.items c.args.bucket 0 - 1)))
+    rw (read g c) (flat-kept c.self.invariant (fewer-buckets c.args.bucket c.self.invariant.buckets (in-flat c.self.invariant c.self.view_is c.requires.range)) (length-set b.used.items c.args.bucket (get_or b.used.items c.args.bucket 0 - 1)))
 
 pub invariant_of-self : goal.invariant_of-self
 invariant_of-self g c = kept g (goal.at.invariant_of-self g c).After-index_mut
@@ -40,10 +37,7 @@ invariant_of-self g c = kept g (goal.at.invariant_of-self g c).After-index_mut
 pub returns-clause-pairs : goal.returns-clause-pairs
 returns-clause-pairs g c =
     let b = c.self.inside in
-    rw (← c.self.view_is) (ap (λ ls. record { key_words = b.key_words; entry_words = b.entry_words; lists = ls; entries = b.entries })
-    (ap (λ n. lists_in g.row.WAYS b.key_words (set b.used.items c.args.bucket (n - 1)) b.order.items b.words.items)
-    (read g (goal.at.returns-clause-pairs g c).After-index_mut)
-    ∙ fewer-lists c.args.bucket c.self.invariant.buckets (in-flat c.self.invariant c.self.view_is c.requires.range)))
+    rw (← c.self.view_is) (rw (read g (goal.at.returns-clause-pairs g c).After-index_mut, fewer-lists c.args.bucket c.self.invariant.buckets (in-flat c.self.invariant c.self.view_is c.requires.range)))
 
 pub returns-clause-sound : goal.returns-clause-sound
 returns-clause-sound g c = view-sound (kept g (goal.at.returns-clause-sound g c).After-index_mut) refl

@@ -1,7 +1,5 @@
-use Rattle.std.proofs.Common.{◌≡◌, ◌+◌, ◌*◌, ◌<◌, ◌≤◌, List, length, take, get_or, ap, sym, ◌∙◌, subst, arith}
-use Rattle.std.specs.Prelude.{sum_by}
+use Rattle.std.proofs.Common.{◌≡◌, length, get_or, ap, arith}
 use Rattle.std.proofs.lemmas.List.{take_all}
-use Rattle.bucket_cache.specs.Buckets.{Pair}
 use Rattle.bucket_cache.proofs.FlatBuckets.{length-lists_in}
 use Rattle.bucket_cache.proofs.FlatReads.{flat-more}
 use Rattle.bucket_cache.proofs.cache.BucketCache.held.Goals as goal
@@ -13,12 +11,11 @@ loop-used-preserved g c =
     let lists = ap (λ x. x.lists) c.self.view_is in
     let i = c.loop-used.used-index in
     let item = ap (λ xs. get_or xs i 0) value in
-    let more = flat-more c.self.invariant c.loop-used.held i (subst (λ xs. i < length xs) value c.loop-used-test.true)
-    (c.loop-used.invariant.number ∙ ap (λ (ls : List (List Pair)). sum_by (λ ps. length ps) (take i ls)) (sym lists))
+    let more = flat-more c.self.invariant c.loop-used.held i (rw (← value) c.loop-used-test.true)
+    (rw (c.loop-used.invariant.number, lists))
     c.loop-used.invariant.bound in
     record {
-      number = ap (λ n. c.loop-used.held + n) item
-          ∙ (more.0 ∙ ap (λ (ls : List (List Pair)). sum_by (λ ps. length ps) (take (i + 1) ls)) lists);
+      number = rw (item, more.0, lists);
       bound = let m = more.1 in omega arith;
     }
 
@@ -34,8 +31,7 @@ all g c =
 pub returns-clause-number : goal.returns-clause-number
 returns-clause-number g c =
     let lists = c.args.self.now.lists in
-    c.loop-used.invariant.number ∙ ap (λ (ls : List (List Pair)). sum_by (λ ps. length ps) ls)
-    (ap (λ n. take n lists) (all g c) ∙ take_all (length lists) lists (omega arith))
+    rw (c.loop-used.invariant.number, all g c, take_all (length lists) lists (omega arith))
 
 pub returns-clause-bound : goal.returns-clause-bound
-returns-clause-bound g c = subst (λ n. c.loop-used.held ≤ n * g.row.WAYS) (all g c) c.loop-used.invariant.bound
+returns-clause-bound g c = rw (← all g c) c.loop-used.invariant.bound

@@ -1,4 +1,4 @@
-use Rattle.std.proofs.Common.{◌≡◌, ◌+◌, ◌*◌, ◌<◌, ◌≤◌, length, take, drop, sym, ap, ◌∙◌, subst}
+use Rattle.std.proofs.Common.{◌≡◌, ◌*◌, ◌<◌, length, take, drop, sym, ap, ◌∙◌, subst}
 use Rattle.bucket_cache.proofs.FlatReads.{key-fits, key-long, flat-key}
 use Rattle.bucket_cache.proofs.cache.BucketCache.key.Goals as goal
 use Rattle.bucket_cache.proofs.cache.BucketCache.key.Goals.{After-self, After-row}
@@ -9,14 +9,13 @@ stands g c = subst (λ n. c.args.at < n) (ap (λ x. length x.entries) (sym c.sel
 pub row-requires : goal.row-requires
 row-requires g c =
     let b = c.self.inside in
-    subst (λ xs. c.args.at * b.key_words + b.key_words ≤ length xs) (sym c.deref.ensures.value)
-    (key-fits c.self.invariant c.args.at (stands g (goal.at.row-requires g c).After-self))
+    rw c.deref.ensures.value (key-fits c.self.invariant c.args.at (stands g (goal.at.row-requires g c).After-self))
 
 row_is : (g : _) (c : After-row g)
     → c.row.result.now ≡ take c.self.inside.key_words (drop (c.args.at * c.self.inside.key_words) c.self.inside.words.items)
 row_is g c =
     let kw = c.self.inside.key_words in
-    c.row.ensures ∙ ap (λ xs. take kw (drop (c.args.at * kw) xs)) c.deref.ensures.value
+    rw (c.row.ensures, c.deref.ensures.value)
 
 pub returns-clause-length : goal.returns-clause-length
 returns-clause-length g c =

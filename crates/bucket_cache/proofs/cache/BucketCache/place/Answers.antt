@@ -1,5 +1,5 @@
 -- Where the bucket has the pair, its number stands in the flat order, and the place is that of the way there.
-use Rattle.std.proofs.Common.{◌≡◌, ◌+◌, ◌*◌, ◌<◌, Some, length, get_or, sym, ap, ◌∙◌, subst, arith}
+use Rattle.std.proofs.Common.{◌≡◌, ◌+◌, ◌*◌, ◌<◌, length, get_or, sym, subst, arith}
 use Rattle.bucket_cache.proofs.FlatCaches.{in-flat, read-used}
 use Rattle.bucket_cache.proofs.FlatReads.{Stands, stands, flat-place, flat-no-place}
 use Rattle.bucket_cache.proofs.cache.BucketCache.place.Goals as goal
@@ -11,7 +11,7 @@ index-requires g c =
     omega (arith, in-flat c.self.invariant c.self.view_is c.requires, used.ok.0)
 
 in_use : (g : _) (c : Then-i-index g) → c.args.i < get_or c.self.inside.used.items c.args.bucket 0
-in_use g c = subst (λ n. c.args.i < n) (read-used c.self.invariant c.self.view_is c.requires c.index.ensures) c.if-i-index.true
+in_use g c = rw (← read-used c.self.invariant c.self.view_is c.requires c.index.ensures) c.if-i-index.true
 
 stood : (g : _) (c : Then-i-index g) → Stands g.row.WAYS c.args.bucket c.args.i c.self.inside.order.items
 stood g c = stands c.args.bucket c.self.invariant.buckets (in-flat c.self.invariant c.self.view_is c.requires) c.args.i (in_use g c)
@@ -34,7 +34,7 @@ way_at-requires-clause-below g c =
 
 way_is : (g : _) (c : After-way_at g)
     → c.way_at.result ≡ get_or c.self.inside.order.items (c.args.bucket * g.row.WAYS + c.args.i) 0
-way_is g c = c.way_at.ensures ∙ ap (λ xs. get_or xs (c.args.bucket * g.row.WAYS + c.args.i) 0) c.deref.ensures.value
+way_is g c = rw (c.way_at.ensures, c.deref.ensures.value)
 
 pub overflow_add-result : goal.overflow_add-result
 overflow_add-result g c =
@@ -46,8 +46,7 @@ pub returns-then-i-index : goal.returns-then-i-index
 returns-then-i-index g c =
     let inside = in-flat c.self.invariant c.self.view_is c.requires in
     let within = in_use g (goal.at.returns-then-i-index g c).Then-i-index in
-    rw (← c.self.view_is) (ap (λ n. Some (c.args.bucket * g.row.WAYS + n)) (way_is g c)
-    ∙ sym (flat-place c.args.bucket c.self.invariant.buckets inside c.args.i within))
+    rw (← c.self.view_is) (rw (way_is g c, flat-place c.args.bucket c.self.invariant.buckets inside c.args.i within))
 
 pub returns-else-i-index : goal.returns-else-i-index
 returns-else-i-index g c =

@@ -1,4 +1,4 @@
-use Rattle.std.proofs.Common.{◌<◌, length, sym, ap, ◌∙◌, subst, subst₂, refl}
+use Rattle.std.proofs.Common.{sym, ap, ◌∙◌, subst₂, refl}
 use Rattle.bucket_cache.specs.FlatBuckets.{AreBuckets, IsFlatCache}
 use Rattle.bucket_cache.proofs.FlatCaches.{in-flat, view-sound, flat-kept, held, now-holds}
 use Rattle.bucket_cache.proofs.cache.BucketCache.replace.Goals as goal
@@ -6,7 +6,7 @@ use Rattle.bucket_cache.proofs.cache.BucketCache.replace.Goals.{After-replace_in
 
 pub replace_in_bucket-requires-clause-range : goal.replace_in_bucket-requires-clause-range
 replace_in_bucket-requires-clause-range g c =
-    subst (λ xs. c.args.bucket < length xs) (sym c.deref.ensures.value) (in-flat c.self.invariant c.self.view_is c.requires.range)
+    rw c.deref.ensures.value (in-flat c.self.invariant c.self.view_is c.requires.range)
 
 -- the parts that come back are those of a cache
 written : (g : _) (c : After-replace_in_bucket g) → (let b = c.self.inside in let new = c.replace_in_bucket.new in

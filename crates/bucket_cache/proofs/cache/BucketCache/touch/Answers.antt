@@ -1,4 +1,4 @@
-use Rattle.std.proofs.Common.{◌≤◌, ◌<◌, ◌+◌, ◌*◌, ℕ, zero, suc, length, arith}
+use Rattle.std.proofs.Common.{◌≤◌, ◌<◌, ◌+◌, ◌*◌, ℕ, zero, suc, arith}
 use Rattle.bucket_cache.specs.Caches.{list_at}
 use Rattle.bucket_cache.proofs.BucketLists.{some-get}
 use Rattle.bucket_cache.proofs.PairLists.{first-stays}
@@ -16,8 +16,8 @@ one_way (suc ways) key_words h = omega arith
 pub returns-in-Ok-clause-cost : goal.returns-in-Ok-clause-cost
 returns-in-Ok-clause-cost g c =
     let pairs = list_at c.args.self.now c.args.bucket in
-    let some : 0 < length pairs = some-get pairs 0 _ c.in-Ok.ensures.first in
-    let few : length pairs ≤ g.row.WAYS = c.invariant.ensures.few c.args.bucket in
+    let some = some-get pairs 0 _ c.in-Ok.ensures.first in
+    let few = c.invariant.ensures.few c.args.bucket in
     let one = one_way g.row.WAYS c.args.self.now.key_words (omega arith) in
     let counted = c.tick_many.ensures in
     let words = c.requires.words in

@@ -1,4 +1,4 @@
-use Rattle.std.proofs.Common.{◌+◌, ◌*◌, ◌≤◌, ◌∙◌, [], length, take, drop, sym, ap, subst, arith}
+use Rattle.std.proofs.Common.{◌*◌, ◌∙◌, [], take, drop, sym, ap, arith}
 use Rattle.bucket_cache.proofs.FlatRows.{get-rows_of, place_within, row_fits}
 use Rattle.bucket_cache.proofs.entries.Entries.entry.Goals as goal
 
@@ -6,8 +6,7 @@ pub row-requires : goal.row-requires
 row-requires c =
     let a = c.self.inside in
     let low = place_within a.width a.places a.words.items c.self.view_is c.requires in
-    subst (λ ws. c.args.at * a.width + a.width ≤ length ws) (sym c.as_slice.ensures.value)
-    (omega (arith, row_fits c.args.at a.places a.width low, c.self.invariant))
+    rw c.as_slice.ensures.value (omega (arith, row_fits c.args.at a.places a.width low, c.self.invariant))
 
 pub returns : goal.returns
 returns c =

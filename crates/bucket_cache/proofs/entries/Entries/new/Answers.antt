@@ -1,7 +1,6 @@
-use Rattle.std.proofs.Common.{◌≡◌, ◌∙◌, ◌*◌, ap, length, replicate, arith}
+use Rattle.std.proofs.Common.{◌∙◌, ◌*◌, ap, length, arith}
 use Rattle.std.proofs.Math.Nat.{mul-le-mul_left}
 use Rattle.std.proofs.lemmas.List.{length-replicate}
-use Rattle.bucket_cache.specs.Slices.{rows_of}
 use Rattle.bucket_cache.proofs.LentEntries.{zero-entries}
 use Rattle.bucket_cache.proofs.entries.Entries.new.Goals as goal
 
@@ -10,12 +9,12 @@ overflow_mul-places c = omega (arith, mul-le-mul_left c.args.places c.requires.w
 
 pub invariant_of-result : goal.invariant_of-result
 invariant_of-result c =
-    let zeros : c.in_ok-vec.field-0.items ≡ replicate (c.args.places * c.args.entry_words) 0 =
+    let zeros =
     c.in_ok-vec.ensures.items_if_clones_equal (λ y h. h) in
     ap length zeros ∙ length-replicate (c.args.places * c.args.entry_words) 0
 
 pub returns : goal.returns
 returns c =
-    let zeros : c.in_ok-vec.field-0.items ≡ replicate (c.args.places * c.args.entry_words) 0 =
+    let zeros =
     c.in_ok-vec.ensures.items_if_clones_equal (λ y h. h) in
-    ap (rows_of c.args.entry_words c.args.places) zeros ∙ zero-entries c.args.entry_words c.args.places
+    rw (zeros, zero-entries c.args.entry_words c.args.places)
