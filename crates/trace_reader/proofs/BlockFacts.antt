@@ -1,5 +1,6 @@
 -- Digits that are read eight or four at once.
-use Rattle.std.proofs.Common.{◌≡◌, ℕ, zero, suc, ◌+◌, ◌-◌, ◌*◌, ◌/◌, ◌%◌, ◌^◌, ◌<◌, ◌≤◌, true, List, length, get_or, refl, sym, ap, ◌∙◌, subst, arith}
+use Rattle.std.proofs.Common.{◌≡◌, ℕ, zero, suc, ◌+◌, ◌-◌, ◌*◌, ◌/◌, ◌%◌, ◌^◌, ◌<◌, ◌≤◌, true, List, length, get_or, refl, sym, ap, ◌∙◌}
+use Rattle.std.proofs.Common.{arith}
 use Rattle.std.specs.Prelude.{bit_and, bit_or, min, max}
 use Rattle.std.specs.Char.{is_ascii_digit}
 use Rattle.std.specs.Int.{bit_at}
@@ -12,7 +13,7 @@ use Rattle.trace_reader.proofs.NumberFacts.{digits_value_digit, list_all_digit}
 
 -- no byte is read
 pub front_none : (text : List ℕ) → IsFront text 0 0
-front_none text = record { digits = refl; value = refl }
+front_none _ = record { digits = refl; value = refl }
 
 -- the byte of a digit
 abbrev pub IsDigit : ℕ → Type 0
@@ -58,7 +59,7 @@ AllBelow P zero = Unit {0}
 AllBelow P (suc n) = P 0 × AllBelow (λ i. P (suc i)) n
 
 all_map : (P Q : ℕ → Type 0) (n : ℕ) → ((i : ℕ) → P i → Q i) → AllBelow P n → AllBelow Q n
-all_map P Q zero h all = tt
+all_map P Q zero h _ = tt
 all_map P Q (suc n) h all = (h 0 all.0, all_map (λ i. P (suc i)) (λ i. Q (suc i)) n (λ i. h (suc i)) all.1)
 
 -- the highest bit of a byte is that of the byte before, without the lowest byte
@@ -83,7 +84,7 @@ byte_more n k = rw (pow-succ' 256 n, mul_assoc 256 (256 ^ n) k)
 digits_of : (n : ℕ) (b : ℕ → ℕ) (a c k j : ℕ) → ((i : ℕ) → b i < 256) → a + 256 ^ n * k ≡ bytes_word b n + bytes_word (λ i. 70) n
     → c + 256 ^ n * j ≡ bytes_word b n + (bytes_word (λ i. 207) n + 1)
     → ((i : ℕ) → i < n → (bit_at a (i * 8 + 7) ≡ 0) × (bit_at c (i * 8 + 7) ≡ 0)) → AllBelow (λ i. IsDigit (b i)) n
-digits_of zero b a c k j byte sum rest clear = tt
+digits_of zero b a c k j _ _ _ _ = tt
 digits_of (suc n) b a c k j byte sum rest clear =
     let bits = clear 0 (omega arith) in
     let low = low_byte (b 0) (bytes_word (λ i. b (suc i)) n) a c (bytes_word (λ i. 70) n) (bytes_word (λ i. 207) n) (256 ^ n * k)

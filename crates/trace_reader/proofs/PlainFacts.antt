@@ -1,6 +1,6 @@
 -- Fields and records that stand in a text.
 use Rattle.std.proofs.Common.{◌≡◌, ℕ, suc, zero, ◌+◌, ◌-◌, ◌<◌, ◌≤◌, Bool, true, false, cond, List, [], ◌∷◌, ◌++◌, length, get_or, take}
-use Rattle.std.proofs.Common.{drop, Option, Some, None, refl, sym, ap, subst, inl, inr, ◌∙◌, append_assoc, arith, length-drop}
+use Rattle.std.proofs.Common.{drop, Option, Some, None, refl, sym, ap, inl, inr, ◌∙◌, append_assoc, arith, length-drop}
 use Rattle.std.specs.Prelude.{◌||◌, ◌==◌, nat_le, All, IfSome}
 use Rattle.std.proofs.lemmas.Bool.Decides.{eqb_tells, leb_tells, nat_tests}
 use Rattle.std.proofs.lemmas.List.{append-nil, drop-drop, drop_more, get_or-drop, map-append}
@@ -24,7 +24,7 @@ use Rattle.trace_reader.proofs.RowFacts.{does, from_between, rows_are, rows_from
 in_field_by : (a b : Bool) (x y z : State × Action) → (a || b) ≡ false → cond a x (cond b y z) ≡ z
 in_field_by true b x y z goes = absurd (cc goes)
 in_field_by false true x y z goes = absurd (cc goes)
-in_field_by false false x y z goes = refl
+in_field_by false false x y z _ = refl
 
 joins : (c : ℕ) → ends_field c ≡ false → does st.InField c ≡ (st.InField, act.Copy)
 joins c goes = in_field_by (c == 44) (ends_line c) _ _ _ goes
@@ -34,7 +34,7 @@ comma c is = rw is
 
 line_by : (a b : Bool) (x y z : State × Action) → (a || b) ≡ true → a ≡ false → cond a x (cond b y z) ≡ y
 line_by true b x y z ends none = absurd (cc none)
-line_by false true x y z ends none = refl
+line_by false true x y z _ _ = refl
 line_by false false x y z ends none = absurd (cc ends)
 
 line : (c : ℕ) → ends_field c ≡ true → (c == 44) ≡ false → does st.InField c ≡ (after_end term.CRLF c, act.EndRecord)
@@ -55,7 +55,7 @@ skipped c ends = rw ends
 
 skip_rows : (c : ℕ) (rest : List ℕ) → ends_line c ≡ true → rows_from st.StartRecord [] [] (c ∷ rest) ≡ rows_from st.StartRecord [] [] rest
 unfolding rows_from
-skip_rows c rest ends = rw (skipped c ends)
+skip_rows c _ ends = rw (skipped c ends)
 
 pub skip_line_end : (text : List ℕ) (at : ℕ) → at < length text → ends_line (get_or text at 0) ≡ true
     → records_after st.StartRecord (drop at text) ≡ records_after st.StartRecord (drop (at + 1) text)
@@ -76,11 +76,11 @@ begins text at within none =
 one_joined : (f : List (List ℕ)) (p : List ℕ) (c : ℕ) (rest : List ℕ) → ends_field c ≡ false
     → rows_from st.InField f p (c ∷ rest) ≡ rows_from st.InField f (p ++ c ∷ []) rest
 unfolding rows_from
-one_joined f p c rest goes = rw (joins c goes)
+one_joined f p c _ goes = rw (joins c goes)
 
 all_joined : (f : List (List ℕ)) (p text : List ℕ) (n : ℕ) → n ≤ length text → ((k : ℕ) → k < n → ends_field (get_or text k 0) ≡ false)
     → rows_from st.InField f p text ≡ rows_from st.InField f (p ++ take n text) (drop n text)
-all_joined f p text zero within goes = rw (append-nil p)
+all_joined f p _ zero _ _ = rw (append-nil p)
 all_joined f p [] (suc n) within goes = absurd (omega arith)
 all_joined f p (c ∷ rest) (suc n) within goes =
     rw (one_joined f p c rest (goes zero (omega arith)), all_joined f (p ++ c ∷ []) rest n (omega arith) (λ k below. goes (suc k) (omega arith)), append_assoc p (c ∷ []) (take n rest))
@@ -105,12 +105,12 @@ to_end f text start end field =
 comma_ends : (f : List (List ℕ)) (p : List ℕ) (c : ℕ) (rest : List ℕ) → (c == 44) ≡ true
     → rows_from st.InField f p (c ∷ rest) ≡ rows_from st.StartField (f ++ p ∷ []) [] rest
 unfolding rows_from
-comma_ends f p c rest is = rw (comma c is)
+comma_ends f p c _ is = rw (comma c is)
 
 line_ends : (f : List (List ℕ)) (p : List ℕ) (c : ℕ) (rest : List ℕ) → ends_field c ≡ true → (c == 44) ≡ false
     → rows_from st.InField f p (c ∷ rest) ≡ (f ++ p ∷ []) ∷ rows_from (after_end term.CRLF c) [] [] rest
 unfolding rows_from
-line_ends f p c rest ends none = rw (line c ends none)
+line_ends f p c _ ends none = rw (line c ends none)
 
 -- ---- fields at their spans
 
@@ -125,7 +125,7 @@ at_span text start end field =
 fields_more : (text : List ℕ) (spans more : List Span) (start end : ℕ) → IsField text start end
     → more ≡ spans ++ record { start = start; end = end } ∷ []
     → fields_at text spans ++ take (end - start) (drop start text) ∷ [] ≡ fields_at text more
-fields_more text spans more start end field grown =
+fields_more text spans _ start end field grown =
     ap (λ (p : List ℕ). fields_at text spans ++ p ∷ []) (sym (at_span text start end field))
     ∙ sym (map-append (part_of text) spans (record { start = start; end = end } ∷ [])) ∙ ap (fields_at text) (sym grown)
 
@@ -135,7 +135,7 @@ pub none_inside : (text : List ℕ) (spans : List Span) → spans ≡ [] → All
 none_inside text spans none = λ k d low. absurd (let few : length spans ≡ 0 = rw none in omega arith)
 
 with_last : {X : Type 0} (P : X → Type 0) (xs : List X) (x : X) → All P xs → P x → All P (xs ++ x ∷ [])
-with_last P [] x all last zero d low = last
+with_last P [] x _ last zero d _ = last
 with_last P [] x all last (suc k) d low = absurd (omega arith)
 with_last P (y ∷ xs) x all last zero d low = all zero d (omega arith)
 with_last P (y ∷ xs) x all last (suc k) d low = with_last P xs x (λ j e less. all (suc j) e (omega arith)) last k d (omega arith)
@@ -152,7 +152,7 @@ pub field_more : (text : List ℕ) (all : List (List (List ℕ))) (spans more : 
     → (get_or text end 0 == 44) ≡ true → more ≡ spans ++ record { start = start; end = end } ∷ []
     → all ≡ rows_from st.StartField (fields_at text spans) [] (drop start text)
     → all ≡ rows_from st.StartField (fields_at text more) [] (drop (end + 1) text)
-field_more text all spans more start end field is grown so_far =
+field_more text _ spans more start end field is grown so_far =
     rw (so_far, to_end (fields_at text spans) text start end field, comma_ends (fields_at text spans) (take (end - start) (drop start text)) (get_or text end 0) (drop (end + 1) text) is, fields_more text spans more start end field grown)
 
 line_of : (c : ℕ) → ends_field c ≡ true → (c == 44) ≡ false → ends_line c ≡ true
@@ -190,7 +190,7 @@ pub none_yet : (text : List ℕ) (from start : ℕ) (spans : List Span) → span
     → ends_line (get_or text start 0) ≡ false
     → records_after st.StartRecord (drop start text) ≡ records_after st.StartRecord (drop from text)
     → records_after st.StartRecord (drop from text) ≡ rows_from st.StartField (fields_at text spans) [] (drop start text)
-none_yet text from start spans none within line same =
+none_yet text _ start _ none within line same =
     sym same ∙ begins text start within line ∙ ap (λ s. rows_from st.StartField (fields_at text s) [] (drop start text)) (sym none)
 
 -- the field at a column
@@ -198,14 +198,14 @@ pub at_column : (text : List ℕ) (spans : List Span) (column : ℕ) (d : Span) 
     → field_text_at (fields_at text spans) column ≡ part_of text (get_or spans column d)
 unfolding field_at
 at_column text [] column d within = absurd (omega arith)
-at_column text (span ∷ spans) zero d within = refl
+at_column _ (_ ∷ _) zero d _ = refl
 at_column text (span ∷ spans) (suc column) d within = at_column text spans column d (omega arith)
 
 -- no field ends between two places, nor from the second one up to a third one
 pub joined : (text : List ℕ) (from at end : ℕ) → ((k : ℕ) → from ≤ k → k < at → ends_field (get_or text k 0) ≡ false)
     → ((k : ℕ) → at ≤ k → k < end → ends_field (get_or text k 0) ≡ false)
     → (k : ℕ) → from ≤ k → k < end → ends_field (get_or text k 0) ≡ false
-joined text from at end first second k low high = elim (leb_tells at k) [
+joined _ _ at _ first second k low high = elim (leb_tells at k) [
   | inl past ↦ second k past.1 high
   | inr below ↦ first k low below.1
 ]
@@ -213,14 +213,14 @@ joined text from at end first second k low high = elim (leb_tells at k) [
 -- the field that ends there has no quote at its start
 pub field_ends : (text : List ℕ) (start : ℕ) (found : Option ℕ) → (get_or text start 0 == 34) ≡ false
     → IfSome found (IsEnd text start) → IfSome found (IsField text start)
-field_ends text start None unquoted none = tt
-field_ends text start (Some end) unquoted ended = record { unquoted = unquoted; ended = ended }
+field_ends _ _ None _ _ = tt
+field_ends _ _ (Some _) unquoted ended = record { unquoted = unquoted; ended = ended }
 
 -- the first end from a later place on is that from a place on, if no field ends between them
 pub end_later : (text : List ℕ) (from at : ℕ) (found : Option ℕ) → from ≤ at
     → ((k : ℕ) → from ≤ k → k < at → ends_field (get_or text k 0) ≡ false)
     → IfSome found (IsEnd text at) → IfSome found (IsEnd text from)
-end_later text from at None later before none = tt
+end_later _ _ at None _ _ _ = tt
 end_later text from at (Some end) later before is = record {
   ordered = omega (arith, is.ordered);
   within = is.within;

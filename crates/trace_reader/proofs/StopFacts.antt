@@ -1,6 +1,5 @@
 -- Bytes that surely go on in a field, eight at once.
-use Rattle.std.proofs.Common.{◌≡◌, ℕ, suc, zero, ◌+◌, ◌-◌, ◌*◌, ◌/◌, ◌%◌, ◌^◌, ◌<◌, ◌≤◌, List, get_or, refl, sym, ap, ◌∙◌, subst}
-use Rattle.std.proofs.Common.{inl, inr, arith}
+use Rattle.std.proofs.Common.{◌≡◌, ℕ, suc, zero, ◌+◌, ◌-◌, ◌*◌, ◌/◌, ◌%◌, ◌^◌, ◌<◌, ◌≤◌, List, get_or, sym, ap, ◌∙◌, inl, inr, arith}
 use Rattle.std.specs.Prelude.{bit_and, min}
 use Rattle.std.specs.Int.{bit_at, bit_not, trailing_zeros, w64}
 use Rattle.std.proofs.lemmas.Bool.Decides.{leb_tells}
@@ -11,7 +10,7 @@ use Rattle.trace_reader.proofs.BlockFacts.{byte_before, byte_more, bytes_word, m
 unmarked : (c w m k : ℕ) → w < 2 ^ 64 → k < 64 → bit_at (bit_and (bit_and c (bit_not w64 w)) m) k ≡ 0 → bit_at m k ≡ 1
     → bit_at w k ≡ 0 → bit_at c k ≡ 0
 unmarked c w m k small within none one clear =
-    let both : min (min (bit_at c k) (1 - bit_at w k)) (bit_at m k) ≡ 0 =
+    let both =
     ap (λ n. min (min (bit_at c k) n) (bit_at m k)) (sym (bit_at_not w64 w k small within))
     ∙ (ap (λ n. min n (bit_at m k)) (sym (bit_at_and c (bit_not w64 w) k))
     ∙ (sym (bit_at_and (bit_and c (bit_not w64 w)) m k) ∙ none)) in
@@ -47,12 +46,12 @@ all_above (suc m) b w c j (suc n) byte is sum clear few k below =
     (λ i less bit. byte_before c i ∙ clear (suc i) (omega arith) (sym (byte_before w i) ∙ bit)) (omega arith)) k below
   where
     each : 45 ≤ b 0 → ((i : ℕ) → i < n → 45 ≤ b (suc i)) → (k : ℕ) → k < suc n → 45 ≤ b k
-    each first rest zero below = first
+    each first _ zero _ = first
     each first rest (suc k) below = rest k (omega arith)
 
 -- no mark is below the lowest one
 no_mark_below : (m i : ℕ) → m < 2 ^ 64 → i < trailing_zeros w64 m → bit_at m i ≡ 0
-no_mark_below zero i small below = bit_at-zero i
+no_mark_below zero i _ _ = bit_at-zero i
 no_mark_below (suc n) i small below = (bit_at-trailing_zeros w64 (suc n) (omega arith) small).2 i below
 
 -- bytes of a text before the lowest mark of eight are above a comma

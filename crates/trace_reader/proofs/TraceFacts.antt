@@ -23,7 +23,7 @@ pub taken : (old : Upcoming) (at : Progress) (layout : Layout) (n : ℕ) (left r
     → packet_of layout n fields ≡ Ok packet
     → Gives old packet (upcoming_by at (contents_from layout (n + 1) rest))
 unfolding contents_from
-taken old at layout n left rest fields packet view reading has is = rw (← view, reading, has, is)
+taken _ at _ n _ _ _ _ view reading has is = rw (← view, reading, has, is)
     (record { packets = refl; fault = refl; going = refl })
 
 -- a record with a fault
@@ -33,14 +33,14 @@ pub refused : (old : Upcoming) (at : Progress) (layout : Layout) (n : ℕ) (left
     → packet_of layout n fields ≡ Err found
     → IsAtFault old found
 unfolding contents_from
-refused old at layout n left rest fields found view reading has is = rw (← view, reading, has, is) (record { packets = refl; fault = refl })
+refused _ at _ n _ _ _ _ view reading has is = rw (← view, reading, has, is) (record { packets = refl; fault = refl })
 
 -- no record
 pub ended : (old : Upcoming) (at : Progress) (layout : Layout) (n : ℕ) (left : List (List (List ℕ)))
     → upcoming_by at (contents_from layout n left) ≡ old → at ≡ progress.Reading → left ≡ []
     → IsAtEnd old × (record { packets = []; fault = None; stopped = None } ≡ old)
 unfolding contents_from
-ended old at layout n left view reading none = rw (← view, reading, none) (record { packets = refl; fault = refl }, refl)
+ended _ at _ n _ view reading none = rw (← view, reading, none) (record { packets = refl; fault = refl }, refl)
 
 -- a packet's record is one of those that a trace may have
 pub packet_within : (layout : Layout) (n : ℕ) (fields : List (List ℕ)) (packet : Packet) → packet_of layout n fields ≡ Ok packet
@@ -55,7 +55,7 @@ packet_within layout n fields packet is = by (nat_lt MAX_RECORDS n) refl is
 too_long_test : (text : List ℕ) (b : Bool) → nat_lt MAX_TRACE (length text) ≡ b → (reads : FieldSet)
     → opening text reads ≡ cond b (Err fault.TraceTooLong) (layout_of (records text) reads)
 unfolding opening
-too_long_test text b e reads = rw e
+too_long_test _ b e _ = rw e
 
 pub opening_long : (text : List ℕ) (reads : FieldSet) → MAX_TRACE < length text → opening text reads ≡ Err fault.TraceTooLong
 opening_long text reads long = too_long_test text true (grind (arith, nat_tests)) reads
@@ -69,13 +69,13 @@ opening_empty text reads short none = rw (opening_short text reads short, none)
 
 pub opening_bad : (text : List ℕ) (reads : FieldSet) (header : List (List ℕ)) (rest : List (List (List ℕ))) (found : TraceFault)
     → length text ≤ MAX_TRACE → records text ≡ header ∷ rest → Err found ≡ columns_of_fields reads header → opening text reads ≡ Err found
-opening_bad text reads header rest found short all bad = opening_short text reads short ∙ ap (λ rows. layout_of rows reads) all
+opening_bad text reads header _ _ short all bad = opening_short text reads short ∙ ap (λ rows. layout_of rows reads) all
     ∙ ap (layout_with (length header)) (sym bad)
 
 pub opening_good : (text : List ℕ) (reads : FieldSet) (header : List (List ℕ)) (rest : List (List (List ℕ))) (columns : List (Option ℕ))
     → length text ≤ MAX_TRACE → records text ≡ header ∷ rest → Ok columns ≡ columns_of_fields reads header
     → opening text reads ≡ Ok (record { width = length header; columns = columns })
-opening_good text reads header rest columns short all good = opening_short text reads short ∙ ap (λ rows. layout_of rows reads) all
+opening_good text reads header _ _ short all good = opening_short text reads short ∙ ap (λ rows. layout_of rows reads) all
     ∙ ap (layout_with (length header)) (sym good)
 
 pub contents_good : (text : List ℕ) (reads : FieldSet) (header : List (List ℕ)) (rest : List (List (List ℕ))) (columns : List (Option ℕ))
@@ -100,4 +100,4 @@ upcoming_good text reads header rest columns width short all good size =
 pub fault_early : (text : List ℕ) (reads : FieldSet) (found : TraceFault) → opening text reads ≡ Err found
     → trace_fault text reads ≡ Some found
 unfolding contents
-fault_early text reads found bad = ap (λ o. (contents_with o (rest_of (records text))).fault) bad
+fault_early text _ _ bad = ap (λ o. (contents_with o (rest_of (records text))).fault) bad

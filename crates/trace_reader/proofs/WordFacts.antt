@@ -13,11 +13,11 @@ use Rattle.trace_reader.proofs.EachFacts.{onto, onto_value}
 
 abbrev pub then_fill : (List ℕ → Result (List ℕ) Field) → ℕ → List ℕ → Result ℕ Field → Result (List ℕ) Field
 then_fill next at words (Ok word) = next (set words at word)
-then_fill next at words (Err field) = Err field
+then_fill _ at _ (Err field) = Err field
 
 -- words with those of some fields written into them, or the first field that is no number
 unfoldable pub fill : List (List ℕ) → List (Field × ℕ) → List ℕ → Result (List ℕ) Field
-fill fields [] words = Ok words
+fill _ [] words = Ok words
 fill fields (p ∷ rest) words = then_fill (fill fields rest) (number_of p.0) words (word_at fields p.0 (Some p.1))
 
 -- the fields have the numbers from n on
@@ -29,7 +29,7 @@ all_from : AreFrom 0 all_fields
 all_from = (refl, (refl, (refl, (refl, (refl, (refl, (refl, (refl, (refl, (refl, (refl, (refl, (refl, (refl, tt))))))))))))))
 
 set_here : (front rest : List ℕ) (x y : ℕ) → set (front ++ x ∷ rest) (length front) y ≡ front ++ y ∷ rest
-set_here [] rest x y = refl
+set_here [] _ x y = refl
 set_here (z ∷ front) rest x y = rw (set_here front rest x y)
 
 -- one more word after those so far
@@ -42,7 +42,7 @@ word_filled : (next : List ℕ → Result (List ℕ) Field) (rest : Result (List
     → then_fill next n (front ++ 0 ∷ zeros) r ≡ onto front (with_first r rest)
 word_filled next rest front zeros n at more (Ok x) =
     ap (λ k. next (set (front ++ 0 ∷ zeros) k x)) at ∙ ap next (set_here front zeros 0 x) ∙ word_after next rest front zeros x (more x)
-word_filled next rest front zeros n at more (Err e) = refl
+word_filled _ _ _ _ n at _ (Err e) = refl
 
 column_filled : (fields : List (List ℕ)) (f : Field) (reads : List (Field × ℕ)) (rest : Result (List ℕ) Field) (front zeros : List ℕ)
     → number_of f ≡ length front
@@ -59,7 +59,7 @@ filled : (fields : List (List ℕ)) (front : List ℕ) (fs : List Field) (column
     → fill fields (read_of (zip fs columns)) (front ++ replicate (length fs) 0) ≡ onto front
     (each (λ p. word_at fields p.0 p.1) (zip fs columns))
 unfolding fill each
-filled fields front [] columns from size = refl
+filled _ _ [] _ _ _ = refl
 filled fields front (f ∷ fs) [] from size = absurd (omega arith)
 filled fields front (f ∷ fs) (column ∷ columns) from size =
     column_filled fields f (read_of (zip fs columns)) (each (λ p. word_at fields p.0 p.1) (zip fs columns)) front (replicate (length fs) 0)
@@ -71,7 +71,7 @@ filled fields front (f ∷ fs) (column ∷ columns) from size =
     ) column
 
 onto_nothing : (r : Result (List ℕ) Field) → onto [] r ≡ r
-onto_nothing (Ok xs) = refl
+onto_nothing (Ok _) = refl
 onto_nothing (Err e) = refl
 
 -- all words of a record
@@ -87,20 +87,20 @@ pub word_written : (all : Result (List ℕ) Field) (fields : List (List ℕ)) (r
     → all ≡ fill fields (drop i read) words → Ok x ≡ word_at fields (get_or read i d).0 (Some (get_or read i d).1)
     → all ≡ fill fields (drop (i + 1) read) (set words (number_of (get_or read i d).0) x)
 unfolding fill
-word_written all fields read i d words x within so_far is = so_far ∙ rw (drop_more read i d within, ← is) refl
+word_written _ _ read i d _ x within so_far is = so_far ∙ rw (drop_more read i d within, ← is) refl
 
 -- the turn that meets a field that is no number
 pub field_met : (all : Result (List ℕ) Field) (fields : List (List ℕ)) (read : List (Field × ℕ)) (i : ℕ) (d : Field × ℕ) (words : List ℕ)
     (e : Field) → i < length read
     → all ≡ fill fields (drop i read) words → Err e ≡ word_at fields (get_or read i d).0 (Some (get_or read i d).1) → all ≡ Err e
 unfolding fill
-field_met all fields read i d words e within so_far is = so_far ∙ rw (drop_more read i d within, ← is) refl
+field_met _ _ read i d _ e within so_far is = so_far ∙ rw (drop_more read i d within, ← is) refl
 
 -- after the last turn
 pub words_are : (all : Result (List ℕ) Field) (fields : List (List ℕ)) (read : List (Field × ℕ)) (i : ℕ) (words : List ℕ) → length read ≤ i
     → all ≡ fill fields (drop i read) words → all ≡ Ok words
 unfolding fill
-words_are all fields read i words past so_far = so_far ∙ rw (drop_all i read past) refl
+words_are _ _ read i _ past so_far = so_far ∙ rw (drop_all i read past) refl
 
 -- the fields that are read, as they are found in turn
 pub read_none : (columns : List (Option ℕ)) (fs : List Field) (i : ℕ) (f : Field) → i < length fs → i < length columns
@@ -114,11 +114,11 @@ pub read_one : (columns : List (Option ℕ)) (fs : List Field) (i : ℕ) (f : Fi
 read_one columns fs i f c in_fields in_columns is = rw (drop_more fs i f in_fields, drop_more columns i None in_columns, is)
 
 pub not_some : (o : Option ℕ) → ((x : ℕ) → o ≡ Some x → ⊥) → o ≡ None
-not_some None other = refl
+not_some None _ = refl
 not_some (Some x) other = absurd (other x refl)
 
 -- one more that is read
 pub found_more : {A : Type 0} (all items more now rest : List A) (x : A) → all ≡ items ++ now → now ≡ x ∷ rest → more ≡ items ++ x ∷ []
     → all ≡ more ++ rest
-found_more all items more now rest x so_far is grown =
+found_more _ items _ _ rest x so_far is grown =
     so_far ∙ ap (λ xs. items ++ xs) is ∙ sym (append_assoc items (x ∷ []) rest) ∙ ap (λ xs. xs ++ rest) (sym grown)

@@ -1,4 +1,4 @@
-use Rattle.std.proofs.Common.{◌≡◌, ◌+◌, ◌%◌, ◌^◌, length, take, refl, arith}
+use Rattle.std.proofs.Common.{◌+◌, ◌%◌, ◌^◌, take, refl, arith}
 use Rattle.std.proofs.lemmas.List.{length-take-le}
 use Rattle.trace_reader.proofs.BlockFacts.{four_read}
 use Rattle.trace_reader.proofs.NumberFacts.{digits_below}
@@ -7,7 +7,7 @@ use Rattle.trace_reader.proofs.blocks.with_four.Goals as goal
 pub overflow_mul-result : goal.overflow_mul-result
 overflow_mul-result c =
     let text = c.args.text.now in
-    let size : length (take c.args.read text) ≡ c.args.read = length-take-le c.args.read text (omega (arith, c.requires.room)) in
+    let size = length-take-le c.args.read text (omega (arith, c.requires.room)) in
     omega (
       arith,
       digits_below (take c.args.read text) 15 c.requires.front.digits (omega (arith, size, c.requires.few)),
@@ -17,7 +17,7 @@ overflow_mul-result c =
 pub overflow_add-result : goal.overflow_add-result
 overflow_add-result c =
     let text = c.args.text.now in
-    let size : length (take c.args.read text) ≡ c.args.read = length-take-le c.args.read text (omega (arith, c.requires.room)) in
+    let size = length-take-le c.args.read text (omega (arith, c.requires.room)) in
     omega (
       arith,
       digits_below (take c.args.read text) 15 c.requires.front.digits (omega (arith, size, c.requires.few)),

@@ -9,7 +9,7 @@ pub overflow_mul-number : goal.overflow_mul-number
 overflow_mul-number c =
     let text = c.args.text.now in
     let i = c.loop-i.i in
-    let size : length (take i text) ≡ i = length-take-le i text (omega (arith, c.loop-i-test.true)) in
+    let size = length-take-le i text (omega (arith, c.loop-i-test.true)) in
     let few : length (take i text) ≤ 18 = omega (arith, size, c.loop-i-test.true, c.requires.few) in
     omega (arith, digits_below (take i text) 18 c.loop-i.invariant.digits few, c.loop-i.invariant.value)
 
@@ -17,7 +17,7 @@ pub overflow_add-number : goal.overflow_add-number
 overflow_add-number c =
     let text = c.args.text.now in
     let i = c.loop-i.i in
-    let size : length (take i text) ≡ i = length-take-le i text (omega (arith, c.loop-i-test.true)) in
+    let size = length-take-le i text (omega (arith, c.loop-i-test.true)) in
     let few : length (take i text) ≤ 18 = omega (arith, size, c.loop-i-test.true, c.requires.few) in
     let digit : is_ascii_digit (get_or text i 0) ≡ true = search rules in
     let small : get_or text i 0 ≤ 57 = grind (arith, nat_tests) in

@@ -26,7 +26,7 @@ fields-preserved-then-text-stop-eq44 c =
     let start = c.fields.start in
     let stop = start + c.going.result in
     let within : stop < length text = omega (arith, c.going.ensures.few) in
-    let comma : get_or text stop 0 ≡ 44 = c.if-text-stop-eq44.true in
+    let comma = c.if-text-stop-eq44.true in
     let is : (get_or text stop 0 == 44) ≡ true = rw comma refl in
     let field = short_field text start stop (omega arith) within c.going.ensures.above comma in
     record {
