@@ -90,9 +90,9 @@ module _ (q : TypedQuery) where
           → (first_apart q streams ≡ None → AllCombine streams)
           → (i : ℕ) (t : Taking) (f : TypedFold) → slice_get (cons_option (taking_of op) (takings streams)) i ≡ Some t
           → slice_get q.folds t.fold_number ≡ Some f → Combines q t f
-      go (Filter input condition) e v k rest i t f at is = rest e i t f at is
-      go (Map input values) e v k rest i t f at is = rest e i t f at is
-      go (Zip left right slots) e v k rest i t f at is = rest e i t f at is
+      go (Filter _ _) e v k rest i t f at is = rest e i t f at is
+      go (Map _ _) e v k rest i t f at is = rest e i t f at is
+      go (Zip _ _ _) e v k rest i t f at is = rest e i t f at is
       go (Group input keys n args) e v k rest zero t f at is = by_test (combines q n one.columns)
           (λ h. let same : record { input = input; keys = keys; fold_number = n; args = args } ≡ t = cc in
           subst (λ t. slice_get q.folds t.fold_number ≡ Some f → Combines q t f) same

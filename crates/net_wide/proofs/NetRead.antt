@@ -33,7 +33,7 @@ use Rattle.stage_plan.specs.Sound.{PlanParts, IsSoundGroup, IsSoundPlan}
 use Rattle.final_queries.specs.Finals.{IsTable, HasColumns, table_shape}
 use Rattle.final_queries.proofs.GroupRead.{HasOneAtMost, epochs_read, all_in_order, epochs_have}
 use Rattle.final_queries.proofs.StateLengths.{states_length}
-use Rattle.query_tables.specs.Tables.{query_table, table_if, tables_from, group_tables}
+use Rattle.query_tables.specs.Tables.{table_if, tables_from, group_tables}
 use Rattle.query_tables.specs.TableLaws.{QueryTablesAreRead}
 use Rattle.net_wide.specs.NetTables.{net_epochs, key_args, net_key_rows, net_rows, net_table, net_table_if, net_pieces, net_tables_from}
 use Rattle.net_wide.specs.NetTables.{net_tables, tables_of_pieces}
@@ -41,7 +41,7 @@ use Rattle.net_wide.proofs.Places.{first_at}
 use Rattle.net_wide.specs.NetEnds.{NetTablesAreRead}
 
 key_read : (f : Folding) (pieces : List (List ArgRow)) (args : List ArgRow) (key : Key) → HasOneAtMost key (net_key_rows f pieces args key)
-key_read f pieces args key = by_test f.row_per_epoch (λ t. rw t (epochs_read f key pieces)) (λ t. rw t (inr refl))
+key_read f pieces _ key = by_test f.row_per_epoch (λ t. rw t (epochs_read f key pieces)) (λ t. rw t (inr refl))
 
 -- this number of key words and values
 
@@ -58,7 +58,7 @@ module _ (words states : ℕ) (f : Folding) (long : (rows : List ArgRow) → len
 
   rows_have : (h : Key → List Row) → ((key : Key) → length key ≡ words → All (HasColumns words states) (h key)) → (keys : List Key)
       → AreLong words keys → All (HasColumns words states) (flat_map h keys)
-  rows_have h each [] all = All-nil (HasColumns words states)
+  rows_have h _ [] _ = All-nil (HasColumns words states)
   rows_have h each (key ∷ keys) all =
       All-append (HasColumns words states) (h key) (flat_map h keys) (each key (all key (ap (λ b. b || has key keys) (key_eq-refl key))))
       (rows_have h each keys (λ k e. all k (or_has (key_eq key k) (has k keys) e)))
@@ -68,7 +68,7 @@ module _ (words states : ℕ) (f : Folding) (long : (rows : List ArgRow) → len
       or_has false b e = e
 
 used_long : (words : ℕ) (used : List Use) → All (λ u. length u.key ≡ words) used → AreLong words (map (λ u. u.key) used)
-used_long words [] all key e = absurd (true≢false (sym e))
+used_long _ [] _ _ e = absurd (true≢false (sym e))
 used_long words (u ∷ used) all key e = by_test (key_eq u.key key)
     (λ t. subst (λ k. length k ≡ words) (key_eq-true u.key key t) (All-head (λ (x : Use). length x.key ≡ words) u used all))
     (λ t. used_long words used (All-tail (λ (x : Use). length x.key ≡ words) u used all) key
@@ -99,7 +99,7 @@ table_read q g packets i shape f keys states =
 -- what the plan takes has as many key words as the groupby has key names
 taken_long : (plan : PlanParts) (i n words : ℕ) (packets : List (List ℕ)) → length (wiring_at plan i).keys ≡ words
     → All (λ u. length u.key ≡ words) (uses_taken n (map (taken plan i) packets))
-taken_long plan i n words [] wide = All-nil (λ (u : Use). length u.key ≡ words)
+taken_long _ i n words [] _ = All-nil _
 taken_long plan i n words (one ∷ packets) wide = by_test (holds (operand_value registers wiring.present))
     (λ t. rw t (All-cons (λ (u : Use). length u.key ≡ words) (record {
       packet = n;
@@ -108,8 +108,8 @@ taken_long plan i n words (one ∷ packets) wide = by_test (holds (operand_value
           map (operand_value registers) wiring.args;
     })
     (uses_taken (suc n) (map (taken plan i) packets)) (length-map wiring.keys (operand_value registers) ∙ wide)
-    (taken_long plan i (suc n) words packets wide)))
-    (λ t. rw t (taken_long plan i (suc n) words packets wide))
+    (taken_long plan i (suc n) _ packets wide)))
+    (λ t. rw t (taken_long plan i (suc n) _ packets wide))
   where
     registers : List ℕ
     registers = packet_registers plan one
@@ -122,7 +122,7 @@ module _ (q : TypedQuery) (plan : PlanParts) (g : Geometry) (packets : List (Lis
   wired : (i : ℕ) (part : GroupPlan) → slice_get plan.groups i ≡ Some part → (w : GroupWiring) × (wiring_at plan i ≡ w)
       × IsSoundGroup (FIELDS + length plan.ops) part w
   wired i part at = elim ((slice_get_cases plan.wiring i).1) [
-    | inl there ↦ (there.0, rw there.2 refl, sound.each i part there.0 at there.2)
+    | inl there ↦ (there.0, rw there.2, sound.each i part there.0 at there.2)
     | inr past ↦ absurd (let less = slice_get_within plan.groups i part at in let many = sound.wired in omega arith)
   ]
 
@@ -150,7 +150,7 @@ module _ (q : TypedQuery) (plan : PlanParts) (g : Geometry) (packets : List (Lis
           ++ net_tables_from q packets (net_pieces q g packets) (suc i) shapes) ≡ map table_shape
           (table_if q g packets i shape o ++ tables_from q g packets (suc i) shapes)
       go None h = h
-      go (Some f) h = ap (λ ss. table_shape (query_table q g packets i shape f) ∷ ss) h
+      go (Some f) h = rw h
 
   all_read : (i : ℕ) (parts : List GroupPlan) → drop i plan.groups ≡ parts
       → All IsTable (net_tables_from q packets (net_pieces q g packets) i (map group_shape parts))
@@ -161,7 +161,7 @@ module _ (q : TypedQuery) (plan : PlanParts) (g : Geometry) (packets : List (Lis
           (map group_shape parts))
           → All IsTable (net_table_if q packets (net_epochs q i g packets) i (group_shape part) o
           ++ net_tables_from q packets (net_pieces q g packets) (suc i) (map group_shape parts))
-      go None is rest = rest
+      go None _ rest = rest
       go (Some f) is rest = All-cons IsTable (net_table q packets (net_epochs q i g packets) i (group_shape part) f)
           (net_tables_from q packets (net_pieces q g packets) (suc i) (map group_shape parts))
           (one_read i part f (first_at plan.groups i part parts e).0 is) rest

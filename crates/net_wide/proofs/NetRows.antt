@@ -1,7 +1,7 @@
 -- The merged epochs of all switches give the rows of the definition.
-use Rattle.std.proofs.Common.{◌≡◌, ◌≢◌, ℕ, suc, ◌+◌, ◌<◌, true, false, Bool, ◌||◌, ◌==◌, List, [], ◌∷◌, ◌++◌, length, map, flat_map, fold}
-use Rattle.std.proofs.Common.{slice_index, Option, Some, None, refl, sym, ap, ◌∙◌, subst, inl, inr}
-use Rattle.std.specs.Prelude.{slice_get, option_map, option_and_then, if◌then◌else◌}
+use Rattle.std.proofs.Common.{◌≡◌, ◌≢◌, ℕ, suc, ◌<◌, true, false, Bool, ◌||◌, ◌==◌, List, [], ◌∷◌, ◌++◌, length, map, flat_map, slice_index}
+use Rattle.std.proofs.Common.{Option, Some, None, refl, sym, ap, ◌∙◌, subst, inl, inr}
+use Rattle.std.specs.Prelude.{slice_get, option_map, option_and_then}
 use Rattle.std.specs.List.{list_any}
 use Rattle.std.proofs.lemmas.List.Elements.{All-nil, All-cons, All-head, All-tail, All-filter}
 use Rattle.marple_base.specs.declared.field.TheConstants.{FIELDS}
@@ -21,8 +21,7 @@ use Rattle.epoch_model.specs.Epochs.{Use, Geometry, epochs}
 use Rattle.epoch_model.specs.Machine.{lists_of}
 use Rattle.epoch_model.specs.Laws.{HasRoom, rows_given}
 use Rattle.epoch_model.specs.Driving.{Taken, use_at, uses_taken}
-use Rattle.epoch_model.specs.Tables.{Folding, exact_row, epoch_rows, epochs_shown, keys_used, closed_key_rows, closed_keys, closed_rows}
-use Rattle.epoch_model.specs.Tables.{closed_epochs}
+use Rattle.epoch_model.specs.Tables.{Folding, exact_row, keys_used, closed_key_rows, closed_keys, closed_rows, closed_epochs}
 use Rattle.epoch_model.proofs.KeyLists.{by_test}
 use Rattle.epoch_model.proofs.Rows.{no_row_is_lost_lem}
 use Rattle.epoch_model.proofs.TableRows.{closed-lists, flat_map-single}
@@ -32,7 +31,6 @@ use Rattle.stage_plan.specs.Planned.{IsPlanOf, taken}
 use Rattle.stage_plan.specs.Shape.{GroupShape}
 use Rattle.stage_plan.specs.Sound.{PlanParts}
 use Rattle.stage_plan.proofs.StreamRows as packetwise
-use Rattle.final_queries.specs.declared.table.Table.{Table}
 use Rattle.final_queries.specs.declared.table.TableKind.TheVariants as kind
 use Rattle.final_queries.specs.GroupTable.{closed_table}
 use Rattle.query_tables.specs.Tables.{heading_of_shape}
@@ -56,11 +54,11 @@ use Rattle.net_wide.proofs.SwitchLists.{AreOnes, first, keys_of, ones, ones_rest
 
 abbrev first_key : List Use → Key
 first_key [] = []
-first_key (u ∷ used) = u.key
+first_key (u ∷ _) = u.key
 
 abbrev first_row : List Use → ArgRow
 first_row [] = []
-first_row (u ∷ used) = u.row
+first_row (u ∷ _) = u.row
 
 same_taken : (a b : Option Taken) → use_at 1 a ++ [] ≡ use_at 1 b ++ [] → a ≡ b
 same_taken None None e = refl
@@ -79,23 +77,23 @@ seen_more words packets s seen = or_right (switch_in words == s) (list_any (λ w
     or_right false b e = e
 
 seen_first : (words : List ℕ) (packets : List (List ℕ)) → IsSeen (switch_in words) (words ∷ packets)
-seen_first words packets = ap (λ b. b || list_any (λ ws. switch_in ws == switch_in words) packets) (own_number (switch_in words))
+seen_first words packets = rw (own_number (switch_in words))
 
 module _ (number : ℕ → ℕ) (take : List ℕ → Option Taken) (all : List (List ℕ)) where
   -- a number that no switch has gives nothing
   none_taken : (k : ℕ) → ((s : ℕ) → IsSeen s all → (number s == k) ≡ false) → (packets : List (List ℕ))
       → ((s : ℕ) → IsSeen s packets → IsSeen s all)
       → taken_of k (net_steps number take packets) ≡ []
-  none_taken k none [] sub = refl
+  none_taken k _ [] _ = refl
   none_taken k none (words ∷ packets) sub =
-      let t : (number (switch_in words) == k) ≡ false = none (switch_in words) (sub (switch_in words) (seen_first words packets)) in
+      let t = none (switch_in words) (sub (switch_in words) (seen_first words packets)) in
       rw t (none_taken k none packets (λ s seen. sub s (seen_more words packets s seen)))
 
   -- a switch's number has what is taken of the switch's packets
   taken_own : AreSwitchesNumbered number all → (s : ℕ) → IsSeen s all → (packets : List (List ℕ))
       → ((a : ℕ) → IsSeen a packets → IsSeen a all)
       → taken_of (number s) (net_steps number take packets) ≡ map take (packets_at s packets)
-  taken_own numbered s seen [] sub = refl
+  taken_own _ s _ [] _ = refl
   taken_own numbered s seen (words ∷ packets) sub =
       let rest = taken_own numbered s seen packets (λ a some. sub a (seen_more words packets a some)) in
       by_test (switch_in words == s)
@@ -125,7 +123,7 @@ module _ (number : ℕ → ℕ) (take : List ℕ → Option Taken) (all : List (
             → rows_used key (use_at n o ++ uses_taken (suc n) (taken_of one (net_steps number take packets))) ≡ rows_used key
             (use_at m o ++ uses_taken (suc m) (map take packets))
         here None h = h
-        here (Some x) h = by_test (key_eq x.key key) (λ k. rw k (ap (λ rs. x.row ∷ rs) h)) (λ k. rw k h)
+        here (Some x) h = by_test (key_eq x.key key) (λ k. rw k (rw h)) (λ k. rw k h)
 
         there : (number (switch_in words) == one) ≡ false → (o : Option Taken) → take words ≡ o
             → rows_used key (uses_taken n (taken_of one (net_steps number take packets))) ≡ rows_used key
@@ -150,7 +148,7 @@ module _ (number : ℕ → ℕ) (take : List ℕ → Option Taken) (all : List (
         here : (number (switch_in words) == k) ≡ true → (o : Option Taken) → take words ≡ o
             → rows_used key (uses_taken (suc n) (taken_of k (net_steps number take packets))) ≡ []
             → rows_used key (use_at n o ++ uses_taken (suc n) (taken_of k (net_steps number take packets))) ≡ []
-        here t None is h = h
+        here t None _ h = h
         here t (Some x) is h = by_test (key_eq x.key key)
             (λ e. absurd (d (sym (same_number (number (switch_in words)) k t)
             ∙ only words x (All-head (λ w. length w ≡ FIELDS) words packets whole) is e)))
@@ -158,8 +156,8 @@ module _ (number : ℕ → ℕ) (take : List ℕ → Option Taken) (all : List (
 
 whole_taken : (number : ℕ → ℕ) (take : List ℕ → Option Taken) (packets : List (List ℕ))
     → map (λ one. one.taken) (net_steps number take packets) ≡ map take packets
-whole_taken number take [] = refl
-whole_taken number take (words ∷ packets) = ap (λ ts. take words ∷ ts) (whole_taken number take packets)
+whole_taken _ _ [] = refl
+whole_taken number take (words ∷ packets) = rw (whole_taken number take packets)
 
 module _ (q : TypedQuery) (plan : PlanParts) (buckets ways : ℕ) (packets : List (List ℕ)) (number : ℕ → ℕ) (p : IsPlanOf q plan)
     (room : HasRoom (caches_of buckets ways)) (whole : AreWhole packets) (numbered : AreSwitchesNumbered number packets) (i : ℕ)
@@ -176,10 +174,10 @@ module _ (q : TypedQuery) (plan : PlanParts) (buckets ways : ℕ) (packets : Lis
   steps = net_steps number take packets
 
   uses_are : whole_uses steps ≡ uses q i packets
-  uses_are = ap (uses_taken 1) (whole_taken number take packets) ∙ sym (p.takes i packets within whole)
+  uses_are = rw (whole_taken number take packets, p.takes i packets within whole)
 
   own_lists : (key : Key) (k : ℕ) → lists_of key (epochs_at k merged) ≡ lists_of key (machine_at g k events).closed
-  own_lists key k = ap (lists_of key) (all.epochs k)
+  own_lists key k = rw (all.epochs k)
 
   -- a switch whose uses give the key no row closes none of it
   no_lists : (key : Key) (k : ℕ) → rows_used key (own_uses k steps) ≡ [] → lists_of key (epochs_at k merged) ≡ []
@@ -190,8 +188,7 @@ module _ (q : TypedQuery) (plan : PlanParts) (buckets ways : ℕ) (packets : Lis
     apart = all_apart packets number numbered;
     others = λ k none.
         no_lists key k
-        (ap (λ ts. rows_used key (uses_taken 1 ts)) (none_taken number take packets k (λ s seen. no_number packets number k s seen none)
-        packets (λ s seen. seen)));
+        (rw (none_taken number take packets k (λ s seen. no_number packets number k s seen none) packets (λ s seen. seen)));
   }
 
   abbrev pieces : Key → List (List ArgRow)
@@ -200,25 +197,21 @@ module _ (q : TypedQuery) (plan : PlanParts) (buckets ways : ℕ) (packets : Lis
   pieces_from : (key : Key) (numbers : List ℕ)
       → flat_map (λ k. lists_of key (epochs_at k merged)) (map number numbers) ≡ flat_map
       (λ s. lists_of key (machine_at g (number s) events).closed) numbers
-  pieces_from key [] = refl
+  pieces_from _ [] = refl
   pieces_from key (s ∷ numbers) =
-      ap (λ ls. ls ++ flat_map (λ k. lists_of key (epochs_at k merged)) (map number numbers)) (own_lists key (number s))
-      ∙ ap (λ ls. lists_of key (machine_at g (number s) events).closed ++ ls) (pieces_from key numbers)
+      rw (own_lists key (number s), pieces_from key numbers)
 
   pieces_are : (key : Key) → flat_map (λ k. lists_of key (epochs_at k merged)) (map number (switches packets)) ≡ pieces key
   pieces_are key = pieces_from key (switches packets)
 
   counts_are : (key : Key) → length (lists_of key (all_epochs merged)) ≡ length (pieces key)
-  counts_are key = added key merged (map number (switches packets)) (switches_of key) ∙ ap length (pieces_are key)
+  counts_are key = rw (added key merged (map number (switches packets)) (switches_of key), pieces_are key)
 
   keys_same : closed_keys (all_epochs merged) ≡ keys_used (uses q i packets)
-  keys_same = keys_are buckets ways steps events merged room has all ∙ ap keys_used uses_are
+  keys_same = rw (keys_are buckets ways steps events merged room has all, uses_are)
 
   epochs_same : closed_epochs (all_epochs merged) ≡ net_count q i packets pieces
-  epochs_same = ap epochs_shown
-      (sums_alike (λ key. length (lists_of key (all_epochs merged))) (λ key. length (pieces key)) 0 (closed_keys (all_epochs merged))
-      counts_are
-      ∙ ap (fold (λ a key. a + length (pieces key)) 0) keys_same)
+  epochs_same = rw (sums_alike (λ key. length (lists_of key (all_epochs merged))) (λ key. length (pieces key)) 0 (closed_keys (all_epochs merged)) counts_are, keys_same)
 
   abbrev net_row : Folding → Key → List Row
   net_row f key = net_key_rows f (pieces key) (key_args key (uses q i packets)) key
@@ -228,22 +221,17 @@ module _ (q : TypedQuery) (plan : PlanParts) (buckets ways : ℕ) (packets : Lis
 
   exact_is : (f : Folding) → f.row_per_epoch ≡ false → (key : Key) → exact f key ∷ [] ≡ net_row f key
   exact_is f one key =
-      let rows : rows_given key (all_events events) ≡ key_args key (uses q i packets) = (gives steps events has).rows key
+      let rows = (gives steps events has).rows key
       ∙ ap (rows_used key) uses_are in
-      rw one (ap (λ n. exact_row f key n (rows_given key (all_events events)) ∷ []) (counts_are key)
-      ∙ ap (λ rs. exact_row f key (length (pieces key)) rs ∷ []) rows)
+      rw one (rw (counts_are key, rows))
 
   -- an additive fold
   additive_rows : (f : TypedFold) → per_epoch (class_of f) ≡ false → IsValidFold f → is_additive f ≡ true → AreWords f.initial
       → closed_rows (folding_of f) (all_epochs merged) ≡ net_rows q i packets pieces (folding_of f)
   additive_rows f linear valid additive words =
-      store_table f (folding_of f) g events merged refl linear (record
+      store_table f (folding_of f) g _ _ refl linear (record
       { valid = valid; additive = additive; size = valid.starts; words = words }) room all
-      ∙ (sym (flat_map-single (λ key. exact (folding_of f) key ∷ []) (exact (folding_of f)) (ascending (keys_given (all_events events)))
-      (λ key. refl))
-      ∙ (flat_maps_alike (λ key. exact (folding_of f) key ∷ []) (net_row (folding_of f)) (ascending (keys_given (all_events events)))
-      (exact_is (folding_of f) linear)
-      ∙ ap (λ keys. flat_map (net_row (folding_of f)) (ascending keys)) ((gives steps events has).keys ∙ ap (map (λ u. u.key)) uses_are)))
+      ∙ (rw (flat_map-single (λ key. exact (folding_of f) key ∷ []) (exact (folding_of f)) (ascending (keys_given (all_events events))) (λ key. refl), flat_maps_alike (λ key. exact (folding_of f) key ∷ []) (net_row (folding_of f)) (ascending (keys_given (all_events events))) (exact_is (folding_of f) linear), (gives steps events has).keys, uses_are))
 
   -- a key that gives the switch
   module _ (t : Taking) (at : slice_get (takings q.streams) i ≡ Some t) (k : HasSwitchKey q t) (key : Key) where
@@ -254,7 +242,7 @@ module _ (q : TypedQuery) (plan : PlanParts) (buckets ways : ℕ) (packets : Lis
     read words = option_map (packetwise.row_taken t) (packetwise.row_at (packetwise.all_rows q words) t.input)
 
     alone : (words : List ℕ) → length words ≡ FIELDS → AreWhole (words ∷ [])
-    alone words size = All-cons (λ ws. length ws ≡ FIELDS) words [] size (All-nil (λ ws. length ws ≡ FIELDS))
+    alone words size = All-cons (λ ws. length ws ≡ FIELDS) words [] size (All-nil _)
 
     take_is : (words : List ℕ) → length words ≡ FIELDS → take words ≡ read words
     take_is words size = same_taken (take words) (read words)
@@ -274,40 +262,21 @@ module _ (q : TypedQuery) (plan : PlanParts) (buckets ways : ℕ) (packets : Lis
 
     args : rows_joined (lists_of key (all_epochs merged)) ≡ key_args key (uses q i packets)
     args =
-        ap rows_joined (of_one key one merged others ∙ own_lists key one)
-        ∙ (ap rows_joined (closed-lists g (machine_at g one events) key (all.swept one))
-        ∙ (no_row_is_lost_lem g (events_at one events) key room
-        ∙ ((gives steps events has).own one key
-        ∙ (rows_of_one number take packets key one only 1 1 packets whole
-        ∙ ap (rows_used key) (sym (p.takes i packets within whole))))))
+        rw (of_one key one merged others, own_lists key one, closed-lists g (machine_at g one events) key (all.swept one), no_row_is_lost_lem g (events_at one events) key room, (gives steps events has).own one key, rows_of_one number take packets key one only 1 1 packets whole, p.takes i packets within whole)
 
     key_rows_are : (f : Folding) → closed_key_rows f (all_epochs merged) key ≡ net_row f key
     key_rows_are f =
-        ap (λ (rs : List ArgRow). if f.row_per_epoch then epoch_rows f key (length (lists_of key (all_epochs merged))) 1
-        (lists_of key (all_epochs merged)) else (exact_row f key (length (lists_of key (all_epochs merged))) rs ∷ [])) args
-        ∙ ap (λ ls. net_key_rows f ls (key_args key (uses q i packets)) key) lists
+        rw (args, lists)
 
   switch_rows : (f : Folding) (t : Taking) → slice_get (takings q.streams) i ≡ Some t → HasSwitchKey q t
       → closed_rows f (all_epochs merged) ≡ net_rows q i packets pieces f
   switch_rows f t at k =
-      flat_maps_alike (closed_key_rows f (all_epochs merged)) (net_row f) (closed_keys (all_epochs merged))
-      (λ key. key_rows_are t at k key f)
-      ∙ ap (flat_map (net_row f)) keys_same
+      rw (flat_maps_alike (closed_key_rows f (all_epochs merged)) (net_row f) (closed_keys (all_epochs merged)) (λ key. key_rows_are t at k key f), keys_same)
 
   table_is : (shape : GroupShape) (f : TypedFold) → closed_rows (folding_of f) (all_epochs merged) ≡ net_rows q i packets pieces
       (folding_of f)
       → closed_table (heading_of_shape shape) (folding_of f) (all_epochs merged) ≡ net_table q packets pieces i shape f
-  table_is shape f rows =
-      ap (λ n. made n (closed_rows (folding_of f) (all_epochs merged))) epochs_same ∙ ap (made (net_count q i packets pieces)) rows
-    where
-      made : ℕ → List Row → Table
-      made n rows = record {
-        name = shape.name;
-        columns = shape.key_names ++ shape.state_names;
-        keys = length shape.key_names;
-        kind = kind.Group shape.class shape.depth n;
-        rows = rows;
-      }
+  table_is _ f rows = rw (epochs_same, rows)
 
 pub make_the_table : ((f : TypedFold) → IsValidFold f → is_additive f ≡ true → class_of f ≡ Linear) → MergedMakeTheTable
 make_the_table linear q plan buckets ways packets number valid none tells p room whole numbered i shape f events merged within at has all =
@@ -324,7 +293,7 @@ make_the_table linear q plan buckets ways packets number valid none tells p room
         additive_rows q plan buckets ways packets number p room whole numbered i within events merged has all f
         (ap per_epoch (linear f sound additive)) sound additive
         (at_place (λ f. AreWords f.initial) q.folds t.fold_number f tells.words is)
-    rows_by t e is (inr k) = switch_rows q plan buckets ways packets number p room whole numbered i within events merged has all
+    rows_by t e _ (inr k) = switch_rows q plan buckets ways packets number p room whole numbered i within events merged has all
         (folding_of f) t e k
 
     go : (o : Option Taking) → slice_get (takings q.streams) i ≡ o → option_and_then (λ t. slice_get q.folds t.fold_number) o ≡ Some f
@@ -343,9 +312,7 @@ module _ (q : TypedQuery) (plan : PlanParts) (buckets ways : ℕ) (packets : Lis
 
   uses_of : (s : ℕ) → IsSeen s packets → own_uses (number s) (net_steps number (taken plan i) packets) ≡ uses_at q i packets s
   uses_of s seen =
-      ap (uses_taken 1) (taken_own number (taken plan i) packets numbered s seen packets (λ a some. some))
-      ∙ sym (p.takes i (packets_at s packets) within (All-filter (λ words. switch_in words == s) (λ words. length words ≡ FIELDS) packets
-      whole))
+      rw (taken_own number (taken plan i) packets numbered s seen packets (λ a some. some), p.takes i (packets_at s packets) within (All-filter (λ words. switch_in words == s) (λ words. length words ≡ FIELDS) packets whole))
 
   epochs_of : (s : ℕ) → IsSeen s packets → lists_of key (machine_at cuts (number s) events).closed ≡ epochs cuts (uses_at q i packets s) key
   epochs_of s seen =
@@ -359,9 +326,7 @@ module _ (q : TypedQuery) (plan : PlanParts) (buckets ways : ℕ) (packets : Lis
   epochs_from [] o = refl
   epochs_from (k ∷ keys) o =
       let one = one_first packets k keys o in
-      ap (λ ls. ls ++ flat_map (λ s. lists_of key (machine_at cuts (number s) events).closed) (map first keys))
-      (epochs_of (first k) (subst (λ s. IsSeen s packets) (sym (ap first one.is)) one.seen))
-      ∙ ap (λ ls. epochs cuts (uses_at q i packets (first k)) key ++ ls) (epochs_from keys (ones_rest packets k keys o))
+      rw (epochs_of (first k) (subst (λ s. IsSeen s packets) (sym (ap first one.is)) one.seen), epochs_from keys (ones_rest packets k keys o))
 
 pub are_the_epochs : PiecesAreTheEpochs
 are_the_epochs q plan buckets ways packets number p room whole numbered i events merged key within ran all =

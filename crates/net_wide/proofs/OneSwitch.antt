@@ -1,12 +1,11 @@
 -- A key that only one switch has packets of: the epochs of other switches are of other keys.
-use Rattle.std.proofs.Common.{◌≡◌, ◌≢◌, ℕ, true, false, ◌==◌, List, [], ◌∷◌, length, refl, sym, ap, ◌∙◌, subst, arith, if◌then◌else◌}
-use Rattle.std.specs.List.{AllByRecursion, flat_map}
+use Rattle.std.proofs.Common.{◌≡◌, ◌≢◌, ℕ, true, false, ◌==◌, List, [], ◌∷◌, refl, sym, ap, ◌∙◌, subst, arith}
+use Rattle.std.specs.List.{AllByRecursion}
 use Rattle.std.proofs.lemmas.Bool.Decides.{nat_tests}
 use Rattle.epoch_model.specs.Keys.{Key, ArgRow}
 use Rattle.epoch_model.specs.Epochs.{Geometry}
 use Rattle.epoch_model.specs.Machine.{lists_of, is_of, empty_machine}
 use Rattle.epoch_model.specs.Laws.{HasRoom, rows_given}
-use Rattle.epoch_model.specs.Tables.{epoch_rows, exact_row}
 use Rattle.epoch_model.proofs.KeyLists.{by_test}
 use Rattle.epoch_model.proofs.Following.{starts-tidy, starts-lists}
 use Rattle.epoch_model.proofs.Cuts.{IsPiece}
@@ -28,7 +27,7 @@ module _ (key : Key) (s : ℕ) where
   of_one [] h = refl
   of_one (e ∷ merged) h = by_test (e.switch == s)
       (λ u. by_test (is_of key e.epoch)
-      (λ t. rw u (rw t (ap (λ ls. e.epoch.rows ∷ ls) (of_one merged rest))))
+      (λ t. rw u (rw t (rw (of_one merged rest))))
       (λ t. rw u (rw t (of_one merged rest))))
       (λ u. by_test (is_of key e.epoch)
       (λ t. absurd (other u t))
@@ -39,7 +38,7 @@ module _ (key : Key) (s : ℕ) where
 
       other : (e.switch == s) ≡ false → is_of key e.epoch ≡ true → ⊥
       other u t =
-          let apart : e.switch ≢ s = λ same. (let yes : (e.switch == s) ≡ true = grind (arith, nat_tests) in let wrong : true ≡ false =
+          let apart : e.switch ≢ s = λ same. (let yes : (e.switch == s) ≡ true = grind (arith, nat_tests) in let wrong =
           sym yes ∙ u in cc) in
           let some = rw t at (rw own at (h e.switch apart)) in cc
 
@@ -53,18 +52,14 @@ module _ (key : Key) (s : ℕ) where
     pub none_closed : (k : ℕ) → rows_given key (events_at k events) ≡ [] → lists_of key (machine_at g k events).closed ≡ []
     none_closed k none =
         no_pieces (lists_of key (machine_at g k events).closed)
-        (subst (AllByRecursion IsPiece) (sym (closed-lists g (machine_at g k events) key (all.swept k)))
-        (pieces_kept g (events_at k events) (empty_machine g) key room (starts-tidy g)
-        (subst (AllByRecursion IsPiece) (sym (starts-lists g key)) tt)))
-        (ap rows_joined (closed-lists g (machine_at g k events) key (all.swept k))
-        ∙ (no_row_is_lost_lem g (events_at k events) key room ∙ none))
+        (rw (closed-lists g (machine_at g k events) key (all.swept k)) (pieces_kept g (events_at k events) (empty_machine g) key room (starts-tidy g) (subst (AllByRecursion IsPiece) (sym (starts-lists g key)) tt)))
+        (rw (closed-lists g (machine_at g k events) key (all.swept k), no_row_is_lost_lem g (events_at k events) key room, none))
 
     lists_are : ((k : ℕ) → k ≢ s → rows_given key (events_at k events) ≡ [])
         → lists_of key (all_epochs merged) ≡ lists_of key (machine_at g s events).closed
     lists_are none =
-        of_one merged (λ k d. ap (lists_of key) (all.epochs k) ∙ none_closed k (none k d)) ∙ ap (lists_of key) (all.epochs s)
+        rw (of_one merged (λ k d. ap (lists_of key) (all.epochs k) ∙ none_closed k (none k d)), all.epochs s)
 
 pub one_switch : KeysOfOneSwitch
 one_switch f g events merged key s room all none =
-    ap (λ (ls : List (List ArgRow)). if f.row_per_epoch then epoch_rows f key (length ls) 1 ls else
-    (exact_row f key (length ls) (flat_map (λ rows. rows) ls) ∷ [])) (lists_are key s g events merged room all none)
+    rw (lists_are key s g events merged room all none)

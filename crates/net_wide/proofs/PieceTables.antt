@@ -1,17 +1,15 @@
 -- Tables are the same where the pieces of each key are.
-use Rattle.std.proofs.Common.{◌≡◌, ℕ, suc, ◌+◌, ◌<◌, List, [], ◌∷◌, ◌++◌, length, map, Option, Some, None, refl, ap, ◌∙◌, subst, arith}
+use Rattle.std.proofs.Common.{◌≡◌, ℕ, suc, ◌+◌, ◌<◌, List, [], ◌∷◌, length, map, Option, Some, None, refl, ap, subst, arith}
 use Rattle.std.proofs.lemmas.List.{length-map}
 use Rattle.query_lang.specs.declared.fold.TypedFold.{TypedFold}
 use Rattle.query_lang.specs.declared.typed.TypedQuery.{TypedQuery}
 use Rattle.query_types.specs.Uses.{uses}
-use Rattle.epoch_model.specs.declared.tables.Row.{Row}
 use Rattle.epoch_model.specs.Keys.{Key, ArgRow}
-use Rattle.epoch_model.specs.Tables.{epochs_shown, keys_used}
+use Rattle.epoch_model.specs.Tables.{keys_used}
 use Rattle.epoch_entry.specs.Foldings.{folding_of}
 use Rattle.stage_plan.specs.Planned.{IsPlanOf, fold_at}
 use Rattle.stage_plan.specs.Shape.{GroupShape, group_shape}
 use Rattle.stage_plan.specs.Sound.{PlanParts}
-use Rattle.final_queries.specs.declared.table.Table.{Table}
 use Rattle.final_queries.specs.declared.table.TableKind.TheVariants as kind
 use Rattle.net_wide.specs.NetTables.{key_args, net_count, net_key_rows, net_rows, net_table, net_table_if, net_tables_from}
 use Rattle.net_wide.specs.NetTables.{tables_of_pieces}
@@ -21,39 +19,26 @@ module _ (q : TypedQuery) (packets : List (List ℕ)) where
   table_same : (pieces other : Key → List (List ArgRow)) (i : ℕ) (shape : GroupShape) (f : TypedFold)
       → ((key : Key) → pieces key ≡ other key)
       → net_table q packets pieces i shape f ≡ net_table q packets other i shape f
-  table_same pieces other i shape f same =
-      ap (λ n. made n (net_rows q i packets pieces (folding_of f))) count ∙ ap (made (net_count q i packets other)) rows
+  table_same pieces other i _ f same = rw (count, rows)
     where
-      made : ℕ → List Row → Table
-      made n rows = record {
-        name = shape.name;
-        columns = shape.key_names ++ shape.state_names;
-        keys = length shape.key_names;
-        kind = kind.Group shape.class shape.depth n;
-        rows = rows;
-      }
-
       count : net_count q i packets pieces ≡ net_count q i packets other
-      count = ap epochs_shown (sums_alike (λ key. length (pieces key)) (λ key. length (other key)) 0 (keys_used (uses q i packets))
-          (λ key. ap length (same key)))
+      count = rw (sums_alike (λ key. length (pieces key)) (λ key. length (other key)) 0 (keys_used (uses q i packets)) (λ key. ap length (same key)))
 
       rows : net_rows q i packets pieces (folding_of f) ≡ net_rows q i packets other (folding_of f)
       rows = flat_maps_alike (λ key. net_key_rows (folding_of f) (pieces key) (key_args key (uses q i packets)) key)
           (λ key. net_key_rows (folding_of f) (other key) (key_args key (uses q i packets)) key) (keys_used (uses q i packets))
-          (λ key. ap (λ ls. net_key_rows (folding_of f) ls (key_args key (uses q i packets)) key) (same key))
+          (λ key. rw (same key))
 
   from_same : (pieces other : ℕ → Key → List (List ArgRow)) (i : ℕ) (shapes : List GroupShape)
       → ((j : ℕ) (key : Key) → j < i + length shapes → pieces j key ≡ other j key)
       → net_tables_from q packets pieces i shapes ≡ net_tables_from q packets other i shapes
-  from_same pieces other i [] same = refl
+  from_same _ _ i [] _ = refl
   from_same pieces other i (shape ∷ shapes) same =
-      ap (λ ts. ts ++ net_tables_from q packets pieces (suc i) shapes) (one (fold_at q i))
-      ∙ ap (λ ts. net_table_if q packets (other i) i shape (fold_at q i) ++ ts)
-      (from_same pieces other (suc i) shapes (λ j key less. same j key (omega arith)))
+      rw (one (fold_at q i), from_same pieces other (suc i) shapes (λ j key less. same j key (omega arith)))
     where
       one : (o : Option TypedFold) → net_table_if q packets (pieces i) i shape o ≡ net_table_if q packets (other i) i shape o
       one None = refl
-      one (Some f) = ap (λ table. table ∷ []) (table_same (pieces i) (other i) i shape f (λ key. same i key (omega arith)))
+      one (Some f) = rw (table_same (pieces i) (other i) i shape f (λ key. same i key (omega arith)))
 
   pub pieces_same : (plan : PlanParts) (pieces other : ℕ → Key → List (List ArgRow)) → IsPlanOf q plan
       → ((j : ℕ) (key : Key) → j < length plan.groups → pieces j key ≡ other j key)

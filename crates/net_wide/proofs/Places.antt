@@ -1,5 +1,5 @@
 -- Places in lists.
-use Rattle.std.proofs.Common.{◌≡◌, ℕ, zero, suc, List, [], ◌∷◌, Some, drop, ap}
+use Rattle.std.proofs.Common.{◌≡◌, ℕ, zero, suc, List, [], ◌∷◌, Some, drop}
 use Rattle.std.specs.Prelude.{slice_get}
 
 -- the item at a place is the first of those from there on
@@ -10,5 +10,5 @@ first_at {A = A} [] i x rest e = absurd (nothing i e)
     nothing : (i : ℕ) → drop {A = A} i [] ≡ x ∷ rest → ⊥
     nothing zero e = cc
     nothing (suc i) e = cc
-first_at (y ∷ xs) zero x rest e = let a : y ≡ x = cc in let b : xs ≡ rest = cc in (ap Some a, b)
+first_at (y ∷ xs) zero x rest e = let a : y ≡ x = cc in let b : xs ≡ rest = cc in (rw a, b)
 first_at (y ∷ xs) (suc i) x rest e = first_at xs i x rest e

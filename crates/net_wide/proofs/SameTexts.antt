@@ -1,18 +1,17 @@
 -- Lists that have the same packets of each switch have the same tables.
 use Rattle.std.proofs.Common.{◌≡◌, ℕ, suc, ◌+◌, true, List, [], ◌∷◌, ◌++◌, length, map, flat_map, fold, slice_index, Option, Some, None}
 use Rattle.std.proofs.Common.{refl, sym, ap, subst, ◌∙◌, inl, inr}
-use Rattle.std.specs.Prelude.{slice_get, option_map, option_and_then, if◌then◌else◌}
+use Rattle.std.specs.Prelude.{slice_get, option_map, option_and_then}
 use Rattle.std.specs.List.{All}
 use Rattle.std.proofs.lemmas.List.{get_or-map}
 use Rattle.std.proofs.lemmas.List.Elements.{All-head}
 use Rattle.std.proofs.lemmas.Option.{slice_get_within, get_or_from_slice_get}
 use Rattle.marple_base.specs.declared.field.TheConstants.{FIELDS}
-use Rattle.epoch_model.specs.declared.tables.Mark.TheVariants.{Exact}
 use Rattle.epoch_model.specs.declared.tables.Row.{Row}
 use Rattle.epoch_model.specs.Keys.{Key, ArgRow, key_eq}
 use Rattle.epoch_model.specs.Epochs.{Geometry, epochs}
 use Rattle.epoch_model.specs.Driving.{Taken, uses_taken}
-use Rattle.epoch_model.specs.Tables.{Folding, epoch_rows, epochs_shown, keys_used}
+use Rattle.epoch_model.specs.Tables.{Folding, keys_used}
 use Rattle.epoch_model.proofs.KeyLists.{key_eq-true}
 use Rattle.query_lang.specs.declared.fold.TypedFold.{TypedFold}
 use Rattle.query_lang.specs.declared.typed.TypedQuery.{TypedQuery}
@@ -23,13 +22,9 @@ use Rattle.query_lang.specs.TypedQueries.{IsValidQuery}
 use Rattle.query_types.specs.Uses.{uses}
 use Rattle.epoch_entry.specs.Foldings.{folding_of}
 use Rattle.stage_plan.specs.Packets.{AreWhole}
-use Rattle.stage_plan.specs.Planned.{fold_at}
 use Rattle.stage_plan.specs.Shape.{GroupShape, query_groups}
 use Rattle.stage_plan.proofs.StreamRows as packetwise
-use Rattle.final_queries.specs.declared.table.Table.{Table}
 use Rattle.final_queries.specs.declared.table.TableKind.TheVariants as kind
-use Rattle.final_queries.specs.Finals.{with_finals}
-use Rattle.query_tables.specs.Tables.{printed}
 use Rattle.additive_laws.specs.Pieces.{all_rows}
 use Rattle.additive_laws.proofs.Orders.{any_interleaving}
 use Rattle.net_wide.specs.Combining.{net_fault}
@@ -41,21 +36,19 @@ use Rattle.net_wide.proofs.Combined.{HasSwitchKey, Combines, all_combine}
 
 pub flat_maps_alike : {A B : Type 0} (f h : A → List B) (xs : List A) → ((x : A) → f x ≡ h x) → flat_map f xs ≡ flat_map h xs
 flat_maps_alike f h [] e = refl
-flat_maps_alike f h (x ∷ xs) e = ap (λ ys. ys ++ flat_map f xs) (e x) ∙ ap (λ ys. h x ++ ys) (flat_maps_alike f h xs e)
+flat_maps_alike f h (x ∷ xs) e = rw (e x, flat_maps_alike f h xs e)
 
 pub sums_alike : {A : Type 0} (f h : A → ℕ) (start : ℕ) (xs : List A) → ((x : A) → f x ≡ h x)
     → fold (λ a x. a + f x) start xs ≡ fold (λ a x. a + h x) start xs
-sums_alike f h start [] e = refl
-sums_alike f h start (x ∷ xs) e = ap (λ n. fold (λ a y. a + f y) (start + n) xs) (e x) ∙ sums_alike f h (start + h x) xs e
+sums_alike f h _ [] e = refl
+sums_alike f h start (x ∷ xs) e = rw (e x, sums_alike f h (start + h x) xs e)
 
 -- a key's rows are the same where its epochs are the same, and its argument rows lead to the same state
 key_rows_alike : (f : Folding) (pieces others : List (List ArgRow)) (args more : List ArgRow) (key : Key) → pieces ≡ others
     → fold f.step f.initial args ≡ fold f.step f.initial more
     → net_key_rows f pieces args key ≡ net_key_rows f others more key
-key_rows_alike f pieces others args more key same state =
-    ap (λ ps. net_key_rows f ps args key) same
-    ∙ ap (λ (s : List ℕ). if f.row_per_epoch then epoch_rows f key (length others) 1 others else
-    (record { key = key; mark = Exact; epoch = 0; epochs = epochs_shown (length others); values = s } ∷ [])) state
+key_rows_alike f _ others args _ key same state =
+    rw (same, state)
 
 module _ (q : TypedQuery) (i : ℕ) (t : Taking) (at : slice_get (takings q.streams) i ≡ Some t) (packets other : List (List ℕ))
     (whole : AreWhole packets) (other_whole : AreWhole other) (same : SameOfEachSwitch packets other) where
@@ -67,11 +60,10 @@ module _ (q : TypedQuery) (i : ℕ) (t : Taking) (at : slice_get (takings q.stre
   taken_of ps whole = packetwise.uses_are q i t take at (λ words size. refl) ps whole
 
   args_of : (ps : List (List ℕ)) (key : Key) → AreWhole ps → key_args key (uses q i ps) ≡ all_rows (given take key ps)
-  args_of ps key whole = ap (key_args key) (taken_of ps whole) ∙ args_given take key 1 ps
+  args_of ps key whole = rw (taken_of ps whole, args_given take key 1 ps)
 
   pub keys_alike : keys_used (uses q i packets) ≡ keys_used (uses q i other)
-  keys_alike = ap keys_used (taken_of packets whole) ∙ (same_keys_used take packets other same
-      ∙ ap keys_used (sym (taken_of other other_whole)))
+  keys_alike = rw (taken_of packets whole, same_keys_used take packets other same, taken_of other other_whole)
 
   -- a packet that gives the key has the switch that is in the key
   pub tells_switch : (k : HasSwitchKey q t) (key : Key) (words : List ℕ) (one : Taken) → length words ≡ FIELDS → take words ≡ Some one
@@ -96,56 +88,32 @@ module _ (q : TypedQuery) (i : ℕ) (t : Taking) (at : slice_get (takings q.stre
   state_alike : (f : TypedFold) (key : Key) → IsValidFold f → AreWords f.initial → Combines q t f
       → folded f f.initial (key_args key (uses q i packets)) ≡ folded f f.initial (key_args key (uses q i other))
   state_alike f key valid words c =
-      ap (folded f f.initial) (args_of packets key whole) ∙ (by_case c ∙ ap (folded f f.initial) (sym (args_of other key other_whole)))
+      rw (args_of packets key whole, by_case c, args_of other key other_whole)
     where
       by_case : Combines q t f → folded f f.initial (all_rows (given take key packets)) ≡ folded f f.initial
           (all_rows (given take key other))
       by_case (inl additive) = any_interleaving f f.initial (given take key packets) (given take key other)
           (record { valid = valid; additive = additive; size = valid.starts; words = words }) (same_of_each take key packets other same)
-      by_case (inr k) = ap (folded f f.initial)
-          (alone take key (slice_index key k.at) (tells_switch k key) packets whole
-          ∙ (same_of_each take key packets other same (slice_index key k.at)
-          ∙ sym (alone take key (slice_index key k.at) (tells_switch k key) other other_whole)))
+      by_case (inr k) = rw (alone take key (slice_index key k.at) (tells_switch k key) packets whole, same_of_each take key packets other same (slice_index key k.at), alone take key (slice_index key k.at) (tells_switch k key) other other_whole)
 
   epochs_alike : (g : Geometry) (key : Key) → net_epochs q i g packets key ≡ net_epochs q i g other key
   epochs_alike g key =
-      flat_maps_alike (λ s. epochs g (uses_at q i packets s) key) (λ s. epochs g (uses_at q i other s) key) (switches packets)
-      (λ s. ap (λ ps. epochs g (uses q i ps) key) (same s))
-      ∙ ap (flat_map (λ s. epochs g (uses_at q i other s) key)) (same_switches packets other same)
+      rw (flat_maps_alike (λ s. epochs g (uses_at q i packets s) key) (λ s. epochs g (uses_at q i other s) key) (switches packets) (λ s. ap (λ ps. epochs g (uses q i ps) key) (same s)), same_switches packets other same)
 
   count_alike : (g : Geometry) → net_count q i packets (net_epochs q i g packets) ≡ net_count q i other (net_epochs q i g other)
-  count_alike g = ap epochs_shown
-      (sums_alike (λ key. length (net_epochs q i g packets key)) (λ key. length (net_epochs q i g other key)) 0
-      (keys_used (uses q i packets)) (λ key. ap length (epochs_alike g key))
-      ∙ ap (fold (λ a key. a + length (net_epochs q i g other key)) 0) keys_alike)
+  count_alike g = rw (sums_alike (λ key. length (net_epochs q i g packets key)) (λ key. length (net_epochs q i g other key)) 0 (keys_used (uses q i packets)) (λ key. ap length (epochs_alike g key)), keys_alike)
 
   rows_alike : (g : Geometry) (f : TypedFold) → IsValidFold f → AreWords f.initial → Combines q t f
       → net_rows q i packets (net_epochs q i g packets) (folding_of f) ≡ net_rows q i other (net_epochs q i g other) (folding_of f)
   rows_alike g f valid words c =
-      flat_maps_alike (λ key. net_key_rows (folding_of f) (net_epochs q i g packets key) (key_args key (uses q i packets)) key)
-      (λ key. net_key_rows (folding_of f) (net_epochs q i g other key) (key_args key (uses q i other)) key) (keys_used (uses q i packets))
-      (λ key. key_rows_alike (folding_of f) (net_epochs q i g packets key) (net_epochs q i g other key) (key_args key (uses q i packets))
-      (key_args key (uses q i other)) key
-      (epochs_alike g key) (state_alike f key valid words c))
-      ∙ ap (flat_map (λ key. net_key_rows (folding_of f) (net_epochs q i g other key) (key_args key (uses q i other)) key)) keys_alike
+      rw (flat_maps_alike (λ key. net_key_rows (folding_of f) (net_epochs q i g packets key) (key_args key (uses q i packets)) key) (λ key. net_key_rows (folding_of f) (net_epochs q i g other key) (key_args key (uses q i other)) key) (keys_used (uses q i packets)) (λ key. key_rows_alike (folding_of f) (net_epochs q i g packets key) (net_epochs q i g other key) (key_args key (uses q i packets)) (key_args key (uses q i other)) key (epochs_alike g key) (state_alike f key valid words c)), keys_alike)
 
   pub table_alike : (g : Geometry) (shape : GroupShape) (f : TypedFold) → IsValidFold f → AreWords f.initial → Combines q t f
       → net_table q packets (net_epochs q i g packets) i shape f ≡ net_table q other (net_epochs q i g other) i shape f
-  table_alike g shape f valid words c =
-      ap (λ n. made n (net_rows q i packets (net_epochs q i g packets) (folding_of f))) (count_alike g)
-      ∙ ap (made (net_count q i other (net_epochs q i g other))) (rows_alike g f valid words c)
-    where
-      made : ℕ → List Row → Table
-      made n rows = record {
-        name = shape.name;
-        columns = shape.key_names ++ shape.state_names;
-        keys = length shape.key_names;
-        kind = kind.Group shape.class shape.depth n;
-        rows = rows;
-      }
+  table_alike g _ f valid words c = rw (count_alike g, rows_alike g f valid words c)
 
 pub at_place : {A : Type 0} (P : A → Type 0) (xs : List A) (i : ℕ) (x : A) → All P xs → slice_get xs i ≡ Some x → P x
-at_place P xs i x all e = subst P (get_or_from_slice_get xs i x x e) (all i x (slice_get_within xs i x e))
+at_place P xs i x all e = rw (← get_or_from_slice_get xs i x x e) (all i x (slice_get_within xs i x e))
 
 module _ (q : TypedQuery) (g : Geometry) (packets other : List (List ℕ)) (valid : IsValidQuery q) (none : net_fault q ≡ None)
     (tells : TellsSwitches q)
@@ -153,12 +121,12 @@ module _ (q : TypedQuery) (g : Geometry) (packets other : List (List ℕ)) (vali
   one_alike : (i : ℕ) (shape : GroupShape) (o : Option Taking) → slice_get (takings q.streams) i ≡ o
       → net_table_if q packets (net_epochs q i g packets) i shape (option_and_then (λ t. slice_get q.folds t.fold_number) o) ≡ net_table_if
       q other (net_epochs q i g other) i shape (option_and_then (λ t. slice_get q.folds t.fold_number) o)
-  one_alike i shape None at = refl
+  one_alike i _ None at = refl
   one_alike i shape (Some t) at = go (slice_get q.folds t.fold_number) refl
     where
       go : (o : Option TypedFold) → slice_get q.folds t.fold_number ≡ o
           → net_table_if q packets (net_epochs q i g packets) i shape o ≡ net_table_if q other (net_epochs q i g other) i shape o
-      go None is = refl
+      go None _ = refl
       go (Some f) is =
           ap (λ table. table ∷ []) (table_alike q i t at packets other whole other_whole same g shape f
           (at_place IsValidFold q.folds t.fold_number f valid.folds is)
@@ -169,9 +137,7 @@ module _ (q : TypedQuery) (g : Geometry) (packets other : List (List ℕ)) (vali
       (net_pieces q g other) i shapes
   all_alike i [] = refl
   all_alike i (shape ∷ shapes) =
-      ap (λ ts. ts ++ net_tables_from q packets (net_pieces q g packets) (suc i) shapes)
-      (one_alike i shape (slice_get (takings q.streams) i) refl)
-      ∙ ap (λ ts. net_table_if q other (net_epochs q i g other) i shape (fold_at q i) ++ ts) (all_alike (suc i) shapes)
+      rw (one_alike i shape (slice_get (takings q.streams) i) refl, all_alike (suc i) shapes)
 
   pub tables_alike : net_tables q g packets ≡ net_tables q g other
   unfolding tables_of_pieces
@@ -180,5 +146,4 @@ module _ (q : TypedQuery) (g : Geometry) (packets other : List (List ℕ)) (vali
 pub same_text : SwitchesDoNotWait
 unfolding net_text
 same_text q buckets ways packets other valid none tells whole other_whole same =
-    ap (λ tables. printed q (with_finals q.names q.folds tables q.finals))
-    (tables_alike q (caches_of buckets ways) packets other valid none tells whole other_whole same)
+    rw (tables_alike q (caches_of buckets ways) packets other valid none tells whole other_whole same)

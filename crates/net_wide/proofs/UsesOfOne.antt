@@ -40,7 +40,7 @@ module _ (take : List ℕ → Option Taken) (s : ℕ) (all : List (List ℕ)) wh
           → map taken_in (use_at n o ++ uses_taken (suc n) (map take (packets_at s packets))) ≡ map taken_in
           (filter is_here (use_at (suc k) o ++ uses_taken (suc (suc k)) (map take packets)))
       own e None h = h
-      own e (Some t) h = rw e (ap (λ ts. record { key = t.key; row = t.row } ∷ ts) h)
+      own e (Some t) h = rw e (rw h)
 
       other : (switch_of all (suc k) == s) ≡ false → (o : Option Taken)
           → map taken_in (uses_taken n (map take (packets_at s packets))) ≡ map taken_in
@@ -61,8 +61,4 @@ uses_of_one q i packets s whole = go (slice_get (takings q.streams) i) refl
     go (Some t) e =
         let take : List ℕ → Option Taken = λ words. option_map (packetwise.row_taken t)
         (packetwise.row_at (packetwise.all_rows q words) t.input) in
-        ap (map taken_in) (packetwise.uses_are q i t take e (λ words size. refl) (packets_at s packets)
-        (All-filter (λ words. switch_in words == s) (λ words. length words ≡ FIELDS) packets whole))
-        ∙ (kept take s packets 1 0 packets (λ j lt. ap (λ z. get_or packets z []) (let same : 0 + j ≡ j = omega arith in same))
-        ∙ ap (λ us. map taken_in (filter (λ u. switch_of packets u.packet == s) us))
-        (sym (packetwise.uses_are q i t take e (λ words size. refl) packets whole)))
+        rw (packetwise.uses_are q i t take e (λ words size. refl) (packets_at s packets) (All-filter (λ words. switch_in words == s) (λ words. length words ≡ FIELDS) packets whole), kept take s packets 1 0 packets (λ j lt. ap (λ z. get_or packets z []) (let same : 0 + j ≡ j = omega arith in same)), packetwise.uses_are q i t take e (λ words size. refl) packets whole)
