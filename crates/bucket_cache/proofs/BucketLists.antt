@@ -170,7 +170,12 @@ place-pair first used i order keys l h =
     let ps = pairs_at first keys ways in
     let in_ways = in-front used i order l h in
     let in_pairs = subst (λ n. i < n) (sym (long_pairs first ways keys)) in_ways in
-    rw (slice_get-get_or (places_of ps) i 0 (subst (λ n. i < n) (sym (length-map ps (λ (p : Pair). p.place))) in_pairs), get_or-map (λ (p : Pair). p.place) ps i (pair_at first keys 0) 0 in_pairs, place_is first used i order keys in_ways h)
+    rw (
+      slice_get-get_or (places_of ps) i 0 (subst (λ n. i < n) (sym (length-map ps (λ (p : Pair). p.place))) in_pairs),
+      get_or-map
+          (λ (p : Pair). p.place) ps i (pair_at first keys 0) 0 in_pairs,
+      place_is first used i order keys in_ways h,
+    )
 
 pub no-place : (first used i : ℕ) (order : List ℕ) (keys : List Key) → used ≤ length order → used ≤ i
     → slice_get (places_of (pairs_at first keys (take used order))) i ≡ None
@@ -215,7 +220,8 @@ fewer-bucket {first} {kw} {used} {order} {keys} b =
       places = b.places;
       ways = b.ways;
       apart = b.apart;
-      once = rw (fewer-pairs first used order keys b.within) (once-take (length (pairs_at first keys (take used order)) - 1) (pairs_at first keys (take used order)) b.once);
+      once = rw (fewer-pairs first used order keys b.within) (once-take (length (pairs_at first keys (take used order)) - 1)
+          (pairs_at first keys (take used order)) b.once);
     }
 
 module _ {first kw used : ℕ} {order : List ℕ} {keys : List Key} (b : IsBucket first kw used order keys) (full : used ≡ length order) where

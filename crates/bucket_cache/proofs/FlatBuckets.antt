@@ -140,7 +140,11 @@ module _ {ways kw : ℕ} {used order words : List ℕ} (b : ℕ) (are : AreBucke
       (get-rows_of (ways * kw) (length used) words b [] h) (are.each b h)
 
   pub all-used : length (list_in ways kw used order words b) ≡ get_or used b 0
-  all-used = rw (list-is ways kw used order words b h, few-pairs (b * ways) (get_or used b 0) (flat_row ways b order) (flat_keys ways kw b words) bucket-is.within)
+  all-used = rw (
+    list-is ways kw used order words b h,
+    few-pairs (b * ways) (get_or used b 0) (flat_row ways b order)
+        (flat_keys ways kw b words) bucket-is.within,
+  )
 
   -- other rows take the place of the bucket's
   module _ (u' : ℕ) (o' w' : List ℕ) (lo : length o' ≡ ways) (lw : length w' ≡ ways * kw) where
@@ -165,7 +169,15 @@ module _ {ways kw : ℕ} {used order words : List ℕ} (b : ℕ) (are : AreBucke
         ≡ set (lists_in ways kw used order words) b (pairs_at (b * ways) (rows_of kw ways w') (take u' o'))
     written-lists =
         let none : 0 + b * ways ≡ b * ways = omega arith in
-        rw (rows-with_row ways b o' order used u' h are.orders lo, rows-with_row (ways * kw) b w' words used u' h are.flat lw, set-buckets_from ways kw 0 b u' o' w' used (orders_of ways used order) (words_of ways kw used words) (many_orders ways kw used order words) (many_rows ways kw used order words) h, none, map-set (λ (r : Recency). r.pairs) (buckets_of ways kw used order words) b (bucket_of ways kw (b * ways) u' o' w'))
+        rw (
+          rows-with_row ways b o' order used u' h are.orders lo,
+          rows-with_row (ways * kw) b w' words used u' h are.flat lw,
+          set-buckets_from ways kw 0 b u' o' w' used (orders_of ways used order) (words_of ways kw used words)
+              (many_orders ways kw used order words) (many_rows ways kw used order words) h,
+          none,
+          map-set (λ (r : Recency). r.pairs)
+              (buckets_of ways kw used order words) b (bucket_of ways kw (b * ways) u' o' w'),
+        )
 
     -- the list of the bucket that was written over
     pub written-list : list_in ways kw (set used b u') (with_row ways b o' order) (with_row (ways * kw) b w' words) b

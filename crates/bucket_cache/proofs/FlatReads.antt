@@ -47,11 +47,20 @@ module _ {ways kw : ℕ} {used order words : List ℕ} (b : ℕ) (are : AreBucke
   pub flat-place : (i : ℕ) → i < get_or used b 0
       → slice_get (places_of (list_in ways kw used order words b)) i ≡ Some (b * ways + get_or order (b * ways + i) 0)
   flat-place i l =
-      rw (list-is ways kw used order words b h, place-pair (b * ways) (get_or used b 0) i (flat_row ways b order) (flat_keys ways kw b words) (bucket-is b are h).within l, read-order ways b i order (stands i l).below)
+      rw (
+        list-is ways kw used order words b h,
+        place-pair (b * ways) (get_or used b 0) i (flat_row ways b order)
+            (flat_keys ways kw b words) (bucket-is b are h).within l,
+        read-order ways b i order (stands i l).below,
+      )
 
   pub flat-no-place : (i : ℕ) → get_or used b 0 ≤ i → slice_get (places_of (list_in ways kw used order words b)) i ≡ None
   flat-no-place i l =
-      rw (list-is ways kw used order words b h, no-place (b * ways) (get_or used b 0) i (flat_row ways b order) (flat_keys ways kw b words) (bucket-is b are h).within l)
+      rw (
+        list-is ways kw used order words b h,
+        no-place (b * ways) (get_or used b 0) i (flat_row ways b order) (flat_keys ways kw b words)
+            (bucket-is b are h).within l,
+      )
 
   pub flat-least : slice_get (places_of (list_in ways kw used order words b)) (get_or used b 0 - 1)
       ≡ least_place (list_in ways kw used order words b)

@@ -69,7 +69,8 @@ module _ {ways kw : ℕ} {used order words : List ℕ} (b : ℕ) (are : AreBucke
   lent_keys words = rows_of kw (length (lent_row ways b order)) words
 
   pub lent-bucket : IsBucket (b * ways) kw (get_or used b 0) (lent_row ways b order) (lent_keys (lent_row (ways * kw) b words))
-  lent-bucket = rw long (subst₂ (λ o w. IsBucket (b * ways) kw (get_or used b 0) o (rows_of kw ways w)) (sym (lent-is ways b order)) (sym (lent-is (ways * kw) b words)) (bucket-is b are h))
+  lent-bucket = rw long (subst₂ (λ o w. IsBucket (b * ways) kw (get_or used b 0) o (rows_of kw ways w)) (sym (lent-is ways b order))
+      (sym (lent-is (ways * kw) b words)) (bucket-is b are h))
 
   pub lent-list : list_in ways kw used order words b
       ≡ pairs_at (b * ways) (lent_keys (lent_row (ways * kw) b words)) (take (get_or used b 0) (lent_row ways b order))
@@ -138,7 +139,8 @@ module _ {ways kw : ℕ} {used order words : List ℕ} (b : ℕ) (are : AreBucke
         (sw : length w' ≡ length (lent_row (ways * kw) b words)) where
       pub full-buckets : IsBucket (b * ways) kw (length (lent_row ways b order)) o' (lent_keys w')
           → AreBuckets ways kw used (with_lent ways b o' order) (with_lent (ways * kw) b w' words)
-      full-buckets is = rw (← set-get_or used b 0) (lent-buckets (get_or used b 0) o' w' so sw (subst (λ u. IsBucket (b * ways) kw u o' (lent_keys w')) (sym full-used) is))
+      full-buckets is = rw (← set-get_or used b 0) (lent-buckets (get_or used b 0) o' w' so sw
+          (subst (λ u. IsBucket (b * ways) kw u o' (lent_keys w')) (sym full-used) is))
 
       pub full-lists : (change : List Pair → List Pair) → pairs_at (b * ways) (lent_keys w') (take (length (lent_row ways b order)) o')
           ≡ change (pairs_at (b * ways) (lent_keys (lent_row (ways * kw) b words))

@@ -121,7 +121,7 @@ first-stays key place (pair ∷ pairs) o e =
     let is : pair.key ≡ key = ap (λ (p : Pair). p.key) same in
     let first : key_eq pair.key key ≡ true = ap (λ k. key_eq k key) is ∙ key_eq-refl key in
     let absent : has_key key pairs ≡ false = subst (λ k. has_key k pairs ≡ false) is o.0 in (
-      rw first refl,
+      rw first,
       rw first (ap (λ (p : Pair). Some p.place) same),
       rw first
           (ap₂ (λ p ps. p ∷ ps) same (sym (without_absent key pairs absent))),

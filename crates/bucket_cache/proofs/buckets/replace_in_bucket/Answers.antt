@@ -22,7 +22,8 @@ pub replace_way-requires-clause-bucket : goal.replace_way-requires-clause-bucket
 replace_way-requires-clause-bucket g c = full-bucket c.args.bucket c.requires.buckets c.requires.range c.requires.full
 
 pub replace_way-requires-clause-absent : goal.replace_way-requires-clause-absent
-replace_way-requires-clause-absent g c = rw (← full-list c.args.bucket c.requires.buckets c.requires.range c.requires.full) c.requires.absent
+replace_way-requires-clause-absent g c = rw (← full-list c.args.bucket c.requires.buckets c.requires.range c.requires.full)
+    c.requires.absent
 
 pub returns-clause-buckets : goal.returns-clause-buckets
 returns-clause-buckets g c = full-buckets c.args.bucket c.requires.buckets c.requires.range c.requires.full c.replace_way.new.order

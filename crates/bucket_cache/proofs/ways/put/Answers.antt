@@ -18,4 +18,9 @@ returns-clause-keys g c =
     (c.requires.ways c.args.at 0 c.requires.within) in
     let start = c.way_at-way.result * kw in
     let width : start + kw - start ≡ kw = omega arith in
-    rw (width, c.copy_words.ensures.words, set-rows_of kw (length c.args.order.now) words c.way_at-way.result c.args.key.now below c.requires.flat (let e : kw ≡ kw = omega arith in e))
+    rw (
+      width,
+      c.copy_words.ensures.words,
+      set-rows_of kw (length c.args.order.now) words c.way_at-way.result c.args.key.now below
+          c.requires.flat (let e : kw ≡ kw = omega arith in e),
+    )

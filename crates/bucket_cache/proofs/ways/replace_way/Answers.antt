@@ -11,7 +11,8 @@ returns-clause-bucket g c =
     let keys = rows_of (length key) (length order) c.args.words.now in
     let keys' = rows_of (length key) (length order) c.put-way.new.words in
     let way = c.put-way.ensures.way in
-    rw c.put-way.ensures.moved (replaced-bucket c.requires.bucket refl key (subst (λ w. keys' ≡ set keys w key) way c.put-way.ensures.keys) c.requires.absent refl)
+    rw c.put-way.ensures.moved (replaced-bucket c.requires.bucket refl key (subst (λ w. keys' ≡ set keys w key) way c.put-way.ensures.keys)
+    c.requires.absent refl)
 
 pub returns-clause-place : goal.returns-clause-place
 returns-clause-place g c =
@@ -27,4 +28,8 @@ returns-clause-pairs g c =
     let keys' = rows_of (length key) (length order) c.put-way.new.words in
     let old = pairs_at c.args.first keys (take (length order) order) in
     let way = c.put-way.ensures.way in
-    rw (c.put-way.ensures.moved, replaced-pairs c.requires.bucket refl key (subst (λ w. keys' ≡ set keys w key) way c.put-way.ensures.keys), way)
+    rw (
+      c.put-way.ensures.moved,
+      replaced-pairs c.requires.bucket refl key (subst (λ w. keys' ≡ set keys w key) way c.put-way.ensures.keys),
+      way,
+    )

@@ -38,7 +38,9 @@ returns-then-used-order-clause-bucket g c =
     let keys = rows_of (length key) (length order) c.args.words.now in
     let keys' = rows_of (length key) (length order) c.put-way.new.words in
     let way = c.put-way.ensures.way in
-    rw c.put-way.ensures.moved (free-bucket c.requires.bucket c.if-used-order.true key (subst (λ w. keys' ≡ set keys w key) way c.put-way.ensures.keys) (none-in-front c.args.first used order keys key c.requires.bucket.within c.in-None.ensures.none) refl)
+    rw c.put-way.ensures.moved (free-bucket c.requires.bucket c.if-used-order.true key
+    (subst (λ w. keys' ≡ set keys w key) way c.put-way.ensures.keys)
+    (none-in-front c.args.first used order keys key c.requires.bucket.within c.in-None.ensures.none) refl)
 
 pub returns-then-used-order-clause-touched : goal.returns-then-used-order-clause-touched
 returns-then-used-order-clause-touched g c =
@@ -52,7 +54,11 @@ returns-then-used-order-clause-touched g c =
     let room = c.if-used-order.true in (
       none-in-front c.args.first used order keys key c.requires.bucket.within c.in-None.ensures.none,
       rw few room,
-      rw (c.put-way.ensures.moved, free-pairs c.requires.bucket room key (subst (λ w. keys' ≡ set keys w key) way c.put-way.ensures.keys), way),
+      rw (
+        c.put-way.ensures.moved,
+        free-pairs c.requires.bucket room key (subst (λ w. keys' ≡ set keys w key) way c.put-way.ensures.keys),
+        way,
+      ),
     )
 
 pub returns-else-used-order-clause-touched : goal.returns-else-used-order-clause-touched

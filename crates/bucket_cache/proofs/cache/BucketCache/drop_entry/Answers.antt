@@ -29,7 +29,9 @@ kept : (g : _) (c : After-index_mut g) → (let b = c.self.inside in IsFlatCache
     (set b.used.items c.args.bucket (c.index_mut.result.now - 1)) b.order.items b.words.items b.entries)
 kept g c =
     let b = c.self.inside in
-    rw (read g c) (flat-kept c.self.invariant (fewer-buckets c.args.bucket c.self.invariant.buckets (in-flat c.self.invariant c.self.view_is c.requires.range)) (length-set b.used.items c.args.bucket (get_or b.used.items c.args.bucket 0 - 1)))
+    rw (read g c) (flat-kept c.self.invariant (fewer-buckets c.args.bucket c.self.invariant.buckets
+    (in-flat c.self.invariant c.self.view_is c.requires.range)) (length-set b.used.items c.args.bucket
+    (get_or b.used.items c.args.bucket 0 - 1)))
 
 pub invariant_of-self : goal.invariant_of-self
 invariant_of-self g c = kept g (goal.at.invariant_of-self g c).After-index_mut
@@ -37,7 +39,11 @@ invariant_of-self g c = kept g (goal.at.invariant_of-self g c).After-index_mut
 pub returns-clause-pairs : goal.returns-clause-pairs
 returns-clause-pairs g c =
     let b = c.self.inside in
-    rw (← c.self.view_is) (rw (read g (goal.at.returns-clause-pairs g c).After-index_mut, fewer-lists c.args.bucket c.self.invariant.buckets (in-flat c.self.invariant c.self.view_is c.requires.range)))
+    rw (← c.self.view_is) (rw (
+      read g (goal.at.returns-clause-pairs g c).After-index_mut,
+      fewer-lists c.args.bucket c.self.invariant.buckets
+          (in-flat c.self.invariant c.self.view_is c.requires.range),
+    ))
 
 pub returns-clause-sound : goal.returns-clause-sound
 returns-clause-sound g c = view-sound (kept g (goal.at.returns-clause-sound g c).After-index_mut) refl

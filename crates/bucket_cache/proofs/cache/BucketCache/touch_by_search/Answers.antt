@@ -17,7 +17,11 @@ written g c =
     let new = c.touch_bucket.new in
     let lent = c.touch_bucket.auto in
     let used = now-holds b.used.items new.used (lent.used ∙ c.deref_mut.ensures.len) in
-    flat-kept c.self.invariant (rw used (subst₂ (AreBuckets g.row.WAYS b.key_words new.used) (sym (now-holds b.order.items new.order (lent.order ∙ c.deref_mut-2.ensures.len))) (sym (now-holds b.words.items new.words (lent.words ∙ c.deref_mut-3.ensures.len))) (subst (λ n. AreBuckets g.row.WAYS n new.used new.order new.words) (c.requires.words ∙ ap (λ x. x.key_words) (sym c.self.view_is)) c.touch_bucket.ensures.buckets))) (rw (used, lent.used, c.deref_mut.ensures.value))
+    flat-kept c.self.invariant (rw used (subst₂ (AreBuckets g.row.WAYS b.key_words new.used)
+    (sym (now-holds b.order.items new.order (lent.order ∙ c.deref_mut-2.ensures.len)))
+    (sym (now-holds b.words.items new.words (lent.words ∙ c.deref_mut-3.ensures.len)))
+    (subst (λ n. AreBuckets g.row.WAYS n new.used new.order new.words) (c.requires.words ∙ ap (λ x. x.key_words) (sym c.self.view_is))
+    c.touch_bucket.ensures.buckets))) (rw (used, lent.used, c.deref_mut.ensures.value))
 
 pub invariant_of-self : goal.invariant_of-self
 invariant_of-self g c = written g (goal.at.invariant_of-self g c).After-touch_bucket
