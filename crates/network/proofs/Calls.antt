@@ -156,7 +156,11 @@ pub calls_same : (at : ℕ) (upkeep : Upkeep) (a b : NetworkView) → length b.g
     → ((n : ℕ) → front_at b n at ≡ front_at a n at)
     → upkeep_calls at upkeep b ≡ upkeep_calls at upkeep a
 calls_same at upkeep a b long same =
-    rw (below_same (lane_calls at upkeep b) (lane_calls at upkeep a) (length b.groups) (λ n less. ap (λ o. calls_of at n (upkeep_in upkeep o)) (same n)), long)
+    rw (
+      below_same (lane_calls at upkeep b) (lane_calls at upkeep a) (length b.groups)
+          (λ n less. ap (λ o. calls_of at n (upkeep_in upkeep o)) (same n)),
+      long,
+    )
 
 lag_in : (k n at : ℕ) (olds news : List GroupView) → EachFrom (λ n. GroupKept) k olds news
     → upkeep_in due.Lag (front_of at (slice_get news n)) ≡ upkeep_in due.Lag (front_of at (slice_get olds n))
@@ -169,7 +173,11 @@ lag_in k (suc n) at (a ∷ olds) (b ∷ news) e = lag_in (suc k) n at olds news 
 
 pub lag_same : (at : ℕ) (a b : NetworkView) → NetworkKept a b → upkeep_calls at due.Lag b ≡ upkeep_calls at due.Lag a
 lag_same at a b kept =
-    rw (below_same (lane_calls at due.Lag b) (lane_calls at due.Lag a) (length b.groups) (λ n less. ap (calls_of at n) (lag_in 0 n at a.groups b.groups kept.groups)), kept_long a b kept)
+    rw (
+      below_same (lane_calls at due.Lag b) (lane_calls at due.Lag a) (length b.groups)
+          (λ n less. ap (calls_of at n) (lag_in 0 n at a.groups b.groups kept.groups)),
+      kept_long a b kept,
+    )
 
 -- ---- what an upkeep leaves
 

@@ -10,7 +10,6 @@ use Rattle.stage_plan.specs.declared.group.GroupPlan.{GroupPlan}
 use Rattle.stage_plan.specs.declared.group.GroupWiring.{GroupWiring}
 use Rattle.stage_plan.specs.Planned.{plan_bound, registers_of, wiring_at}
 use Rattle.stage_plan.specs.Sound.{PlanParts, IsSoundPlan}
-use Rattle.switch_core.specs.Costs.{merge_cost}
 use Rattle.switch_core.specs.FrontParts.{FrontOf}
 use Rattle.switch_core.specs.Pipelines.{IsLaneOf}
 use Rattle.switch_core.specs.PlanLanes.{LaneView, PipelineView, lane_cost}
@@ -68,13 +67,11 @@ kept_at F G none some k (suc at) (x ∷ olds) (y ∷ news) e = kept_at F G none 
 
 cost_kept : (ways at : ℕ) (old new : GroupView) → GroupKept old new → group_cost ways at new ≡ group_cost ways at old
 cost_kept ways at old new kept =
-    let by : ℕ → AnyEpochs → ℕ = λ w k. (w + (ghosts.sizes k).args) + (w + 2 * ways * (w + 1) + (w + (ghosts.sizes k).entry)
-    + ghosts.open_bound k + ghosts.absorb_bound k) in
-    kept_at (front_cost ways old) (front_cost ways new) refl (λ a b one. rw (one.key_words, one.kind)) 0 at old.fronts new.fronts kept.fronts
+    kept_at (front_cost ways old) (front_cost ways new) refl (λ a b one. rw (one.key_words, one.kind)) 0 at old.fronts new.fronts
+    kept.fronts
 
 merge_kept : (at : ℕ) (old new : GroupView) → GroupKept old new → group_merge_cost at new ≡ group_merge_cost at old
 merge_kept at old new kept =
-    let by : ℕ → ℕ → AnyEpochs → ℕ = λ w e k. merge_cost w e (ghosts.merge_bound k) in
     kept_at (front_upkeep_cost due.Lag) (front_upkeep_cost due.Lag) refl (λ a b one.
     rw (one.key_words, one.entry_words, one.kind)) 0 at
     old.fronts new.fronts kept.fronts

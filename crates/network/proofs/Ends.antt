@@ -108,7 +108,11 @@ is_run plan n number events last at =
       rest = all_given plan n last.rest;
       parts = rw (last.parts, given_on plan n last.first last.rest);
       packets =
-          rw (first_given plan n number last.first last.before (first_theirs number last.first last.rest (subst (AreAtTheirSwitches number) last.parts at)), all);
+          rw (
+            first_given plan n number last.first last.before (first_theirs number last.first last.rest
+                (subst (AreAtTheirSwitches number) last.parts at)),
+            all,
+          );
       ending = rest_given plan n last.rest last.after;
     }
 
@@ -179,7 +183,13 @@ module _ (law : AlikeFoldingsMakeOneTable) (make : MergedMakeTheTable) (ways : �
         states =
             λ rows. kind.folded rows;
       } in
-      rw (law.by_closed (heading_of part) (folding_in group) (folding_of f) (all_epochs (merged i)) alike, make q net.plan net.buckets ways packets number over.valid over.combine over.tells over.planned room over.whole over.numbered i (group_shape part) f (all_given net.plan i events) (merged i) (got_below net.plan.groups i part at) has (has_packets net.plan i number events over.switches) (is_merged i group here))
+      rw (
+        law.by_closed (heading_of part) (folding_in group) (folding_of f) (all_epochs (merged i)) alike,
+        make q net.plan net.buckets ways
+            packets number over.valid over.combine over.tells over.planned room over.whole over.numbered i (group_shape part) f
+            (all_given net.plan i events) (merged i) (got_below net.plan.groups i part at) has
+            (has_packets net.plan i number events over.switches) (is_merged i group here),
+      )
 
   tables_from : (i : ℕ) (parts : List GroupPlan) (groups : List GroupView) → drop i net.plan.groups ≡ parts
       → EachFrom (λ n group part. IsGroup net.switches part (wiring_at net.plan n) group) i groups parts
@@ -219,4 +229,11 @@ module _ (law : AlikeFoldingsMakeOneTable) (make : MergedMakeTheTable) (ways : �
   pub tables_defined : PiecesAreTheEpochs → EvictsLast events → (tables : List Table) → tables ≡ tables_of_pieces q packets pieces
       → tables ≡ net_tables q (caches_of net.buckets ways) packets
   tables_defined epochs last _ same =
-      rw (same, pieces_same q packets net.plan pieces (net_pieces q (caches_of net.buckets ways) packets) over.planned (λ i key less. let group = got_some net.groups i (subst (λ n. i < n) (sym (each_long _ 0 net.groups net.plan.groups is.groups)) less) in epochs q net.plan net.buckets ways packets number over.planned room over.whole over.numbered i (all_given net.plan i events) (merged i) key less (is_run net.plan i number events last over.switches) (is_merged i group.0 group.1)))
+      rw (
+        same,
+        pieces_same q packets net.plan pieces (net_pieces q (caches_of net.buckets ways) packets) over.planned
+            (λ i key less. let group = got_some net.groups i (subst (λ n. i < n) (sym (each_long _ 0 net.groups net.plan.groups is.groups))
+            less) in epochs q net.plan net.buckets ways packets number over.planned room over.whole over.numbered i
+            (all_given net.plan i events) (merged i) key less (is_run net.plan i number events last over.switches)
+            (is_merged i group.0 group.1)),
+      )

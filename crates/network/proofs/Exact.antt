@@ -18,8 +18,7 @@ use Rattle.epoch_model.specs.Epochs.{Geometry}
 use Rattle.epoch_model.specs.Laws.{HasRoom, rows_given}
 use Rattle.epoch_model.specs.Machine.{Epoch, Event, Evict, Merge, lists_of}
 use Rattle.epoch_model.specs.TableLaws.{keys_given}
-use Rattle.epoch_model.specs.Tables.{Folding, closed_key_rows, closed_keys, closed_rows, epoch_rows, epochs_shown, exact_row, folded}
-use Rattle.epoch_model.specs.Tables.{mark_of}
+use Rattle.epoch_model.specs.Tables.{Folding, closed_key_rows, closed_keys, closed_rows, epoch_rows, exact_row, folded}
 use Rattle.epoch_model.proofs.KeyLists.{by_test, key_eq-true}
 use Rattle.epoch_model.proofs.KeyOrder.{ascending-ascends, has-ascending}
 use Rattle.epoch_model.proofs.TableRows.{given-some, joined-some, same_keys}
@@ -70,13 +69,6 @@ rows_stay : (f : Folding) (other key : Key) → key_eq other key ≡ true → (c
     → filter (is_of_key key) (epoch_rows f other count number lists) ≡ epoch_rows f other count number lists
 rows_stay f _ _ e _ _ [] = refl
 rows_stay f other key e count number (rows ∷ lists) =
-    let row : Row = record {
-      key = other;
-      mark = mark_of count;
-      epoch = number;
-      epochs = epochs_shown count;
-      values = folded f rows;
-    } in
     rw e (rw (rows_stay f other key e count (suc number) lists))
 
 rows_go : (f : Folding) (other key : Key) → key_eq other key ≡ false → (count number : ℕ) (lists : List (List ArgRow))
@@ -128,7 +120,12 @@ module _ (f : Folding) (closed : List Epoch) (key : Key) where
 store_keys : (g : Geometry) (events : List SwitchEvent) (merged : List SwitchEpoch) → HasRoom g → AllMerged g events merged
     → closed_keys (all_epochs merged) ≡ ascending (keys_given (all_events events))
 store_keys g events merged room all = same_keys (all_epochs merged) (keys_given (all_events events)) (λ k.
-    rw (given-some k (all_events events), same_length (rows_given k (all_events events)) (rows_joined (lists_of k (all_epochs merged))) (as_many g events merged room all k), joined-some (lists_of k (all_epochs merged)) (pieces g events merged room all k)))
+    rw (
+      given-some k (all_events events),
+      same_length (rows_given k (all_events events)) (rows_joined (lists_of k (all_epochs merged)))
+          (as_many g events merged room all k),
+      joined-some (lists_of k (all_epochs merged)) (pieces g events merged room all k),
+    ))
 
 -- ---- what other switches are given of a key
 

@@ -53,7 +53,8 @@ pub record HasPart (plan : PlanParts) (switches n : ℕ) (group : GroupView) : T
 
 -- the groupby of the plan with this number
 pub group_at : (plan : PlanParts) (switches n : ℕ) (groups : List GroupView) (group : GroupView) → AreGroups plan switches groups
-    → slice_get groups n ≡ Some group → (part : GroupPlan) × (slice_get plan.groups n ≡ Some part) × IsGroup switches part (wiring_at plan n) group
+    → slice_get groups n ≡ Some group → (part : GroupPlan) × (slice_get plan.groups n ≡ Some part)
+    × IsGroup switches part (wiring_at plan n) group
 group_at plan switches n groups group are here =
     let found = each_at _ 0 n groups plan.groups group are here in
     (found.0, found.1, found.2 n (omega arith))
@@ -91,7 +92,8 @@ still_group switches part plan n old new kept is = record {
       let was = each_back _ 0 old.fronts new.fronts s _ kept.fronts e in
       rw (← sym (was.2 s (omega arith)).kind) (is.kinds s was.0 was.1);
   count = sym (each_long _ 0 old.fronts new.fronts kept.fronts) ∙ is.count;
-  shares = rw kept.kind (still_share ghosts.sizes ghosts.folding (folding_in old) (length (wiring_at plan n).args) old.fronts new.fronts old.store new.store kept.fronts kept.store is.shares);
+  shares = rw kept.kind (still_share ghosts.sizes ghosts.folding (folding_in old) (length (wiring_at plan n).args) old.fronts new.fronts
+      old.store new.store kept.fronts kept.store is.shares);
 }
 
 pub still_groups : (switches : ℕ) (plan : PlanParts) (olds news : List GroupView) → Each GroupKept olds news → AreGroups plan switches olds

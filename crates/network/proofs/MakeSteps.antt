@@ -1,11 +1,10 @@
 -- What an event of one switch makes of a groupby, and of all groupbys side by side.
-use Rattle.std.proofs.Common.{◌≡◌, ℕ, zero, suc, ◌<◌, ◌==◌, true, false, List, [], ◌∷◌, length, replicate, get_or, set, Option, Some, None}
+use Rattle.std.proofs.Common.{◌≡◌, ℕ, zero, suc, ◌<◌, ◌==◌, true, false, List, [], ◌∷◌, length, replicate, get_or, set, Option, Some}
 use Rattle.std.proofs.Common.{Result, Ok, Err, OnOk, OnErr, refl, sym, ap, subst, ◌∙◌, arith, append-nil}
 use Rattle.std.specs.Prelude.{slice_get}
 use Rattle.std.proofs.lemmas.Bool.{lt-ltb}
 use Rattle.std.proofs.lemmas.Bool.Decides.{nat_tests}
 use Rattle.epoch_model.specs.Machine.{Event, Evict, Merge}
-use Rattle.epoch_model.specs.Driving.{Taken, event_of}
 use Rattle.backing_store.specs.Store.{Store}
 use Rattle.epoch_entry.specs.declared.any.AnyEpochs.{AnyEpochs}
 use Rattle.epoch_entry.specs.contracts.any.AnyEpochsEpochKind.TheImpl.{ghosts}
@@ -53,7 +52,11 @@ one_made _ at _ old _ m =
       entry_words = size.entry_words;
       places = size.places;
     } in
-    rw m.made (record { kind = refl; fronts = one_kept 0 at old.fronts m.was (front_of m.now.kind m.now.cache m.now.pipe) m.here kept; store = record { key_words = size.stored_key_words; state_words = size.state_words } })
+    rw m.made (record {
+      kind = refl;
+      fronts = one_kept 0 at old.fronts m.was (front_of m.now.kind m.now.cache m.now.pipe) m.here kept;
+      store = record { key_words = size.stored_key_words; state_words = size.state_words };
+    })
 
 pub makes_kept : (ways at : ℕ) (events : List Event) (old new : GroupView) → GroupMakesAll ways at events old new → GroupKept old new
 makes_kept _ at [] old _ same = rw same (group_same old)
@@ -191,12 +194,6 @@ pub left_here : (upkeep : Upkeep) (o n : Option (FrontOf AnyEpochs)) (was now : 
     → IsLeft upkeep (Some was) (Some now) → IsLeft upkeep o n
 left_here upkeep o n was _ e f left = rw (e, f) left
 
--- a store that no event changes
-pub store_kept : (ways : ℕ) (taken : Option Taken) (was : FrontOf AnyEpochs) (store : Store) (now : LaneView)
-    → LaneCarries ways (event_of taken) (with_store was store) now → now.store ≡ store
-store_kept _ None _ _ _ same = rw same
-store_kept _ (Some t) _ _ _ made = rw (made.2, made.1.leaves)
-
 -- one groupby alone makes an event
 
 pub make_one : (ways at lane : ℕ) (event : Event) (groups : List GroupView) (group new : GroupView) → slice_get groups lane ≡ Some group
@@ -206,7 +203,7 @@ make_one ways at lane event groups group new here made =
     each_set _ _ 0 lane groups groups new
     (λ j n a b q apart r.
     let other : (n == lane) ≡ false = let d : n ≡ lane → ⊥ = λ z. apart (omega arith) in grind (arith, nat_tests) in
-    rw (r (omega arith)) (rw other refl))
+    rw (r (omega arith)) (rw other))
     (λ n x q e.
     let same : (n == lane) ≡ true = grind (arith, nat_tests) in
     rw same (rw (← same_some group x (sym here ∙ e)) (new, made, refl)))

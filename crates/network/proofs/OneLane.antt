@@ -78,7 +78,12 @@ module _ {ways : ℕ} {view net : NetworkView} {lane : ℕ} {group : GroupView} 
 
     pub event_made : (e : NetworkEvent) → GroupsMake ways (switch_of e) (gives view.plan e) view.groups after.groups
         → NetworkMakes ways e net after
-    event_made e made = rw (← l.same) (record { groups = made; switches = refl; keeps = record { plan = refl; buckets = refl; pipe_records = refl } })
+    event_made e made = rw (← l.same) (record {
+      groups = made;
+      switches = refl;
+      keeps =
+          record { plan = refl; buckets = refl; pipe_records = refl };
+    })
 
     -- it made an event of a switch
     module _ (at : ℕ) (event : Event) (made : GroupMakes ways at event group new) where

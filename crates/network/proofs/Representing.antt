@@ -27,7 +27,12 @@ merged_last ways buckets before [] e =
     rw (append-nil (merged_by ways buckets e.switch e.event before), append-nil before)
 merged_last ways buckets before (x ∷ events) e =
     let first = merged_by ways buckets x.switch x.event before in
-    rw (merged_last ways buckets (before ++ x ∷ []) events e, append_assoc before (x ∷ []) events, append_assoc first (merged_after ways buckets (before ++ x ∷ []) events) (merged_by ways buckets e.switch e.event (before ++ x ∷ events)))
+    rw (
+      merged_last ways buckets (before ++ x ∷ []) events e,
+      append_assoc before (x ∷ []) events,
+      append_assoc first
+          (merged_after ways buckets (before ++ x ∷ []) events) (merged_by ways buckets e.switch e.event (before ++ x ∷ events)),
+    )
 
 -- the groupby represents what it is given, and its store holds what that merges
 abbrev Stands : ℕ → ℕ → GroupView → List SwitchEvent → Type 0
@@ -42,7 +47,8 @@ group_stands ways buckets at (event ∷ events) _ new before made s =
     let e : SwitchEvent = record { switch = at; event = event } in
     let one = made.1.stands buckets before (merged_after ways buckets [] before) s in
     let next = subst (GroupStands ways buckets made.0 (with_event before at event)) (sym (merged_last ways buckets [] before e)) one in
-    rw (← append_assoc before (e ∷ []) (from_switch at events)) (group_stands ways buckets at events made.0 new (with_event before at event) made.2 next)
+    rw (← append_assoc before (e ∷ []) (from_switch at events)) (group_stands ways buckets at events made.0 new (with_event before at event)
+    made.2 next)
 
 makes_stand : (ways : ℕ) (e : NetworkEvent) (a b : NetworkView) (events : List NetworkEvent) → NetworkMakes ways e a b
     → NetworkStands ways a events → NetworkStands ways b (events ++ e ∷ [])
@@ -58,7 +64,8 @@ makes_stand ways e a b events made stand n group here =
 pub runs_stand : RunsFollowEvents
 runs_stand ways [] before a b same stand = rw (same, append-nil before) stand
 runs_stand ways (e ∷ events) before a b ran stand =
-    rw (← append_assoc before (e ∷ []) events) (runs_stand ways events (before ++ e ∷ []) ran.0 b ran.2 (makes_stand ways e a ran.0 before ran.1 stand))
+    rw (← append_assoc before (e ∷ []) events) (runs_stand ways events (before ++ e ∷ []) ran.0 b ran.2
+    (makes_stand ways e a ran.0 before ran.1 stand))
 
 pub fresh_stands : (ways : ℕ) (net : NetworkView) → All (λ group. GroupStands ways net.buckets group [] []) net.groups
     → NetworkStands ways net []
@@ -69,4 +76,5 @@ pub grown_stands : (ways : ℕ) (a b : NetworkView) (events : List NetworkEvent)
 grown_stands ways a b events grown stand n group here =
     let back = each_back _ 0 a.groups b.groups n _ grown.groups here in
     let given = all_given a.plan n events in
-    rw (grown.keeps.buckets, grown.keeps.plan) ((back.2 n (omega arith)).stands given (merged_after ways a.buckets [] given) (stand n back.0 back.1))
+    rw (grown.keeps.buckets, grown.keeps.plan) ((back.2 n (omega arith)).stands given (merged_after ways a.buckets [] given)
+    (stand n back.0 back.1))

@@ -91,7 +91,8 @@ set_set (z ∷ _) zero x y = refl
 set_set (z ∷ xs) (suc i) x y = rw (set_set xs i x y)
 
 -- what is said of items and what was made of them, and then of what was made of those
-pub each_on : {A B C : Type 0} (R : ℕ → A → B → Type 0) (S : ℕ → B → C → Type 0) (T : ℕ → A → C → Type 0) (k : ℕ) (xs : List A) (ys : List B)
+pub each_on : {A B C : Type 0} (R : ℕ → A → B → Type 0) (S : ℕ → B → C → Type 0) (T : ℕ → A → C → Type 0) (k : ℕ) (xs : List A)
+    (ys : List B)
     (zs : List C) → ((n : ℕ) (a : A) (b : B) (c : C) → R n a b → S n b c → T n a c) → EachFrom R k xs ys → EachFrom S k ys zs
     → EachFrom T k xs zs
 each_on R S T k [] [] [] h p q = tt

@@ -57,14 +57,14 @@ all_from k (x ∷ xs) = ap (λ es. x ∷ es) (all_from k xs)
 module _ (g : Geometry) (k : ℕ) (event : Event) (events : List SwitchEvent) (s : ℕ) where
   machine_next : (k == s) ≡ true → machine_at g s (with_event events k event) ≡ step g (machine_at g s events) event
   machine_next t =
-      let one : events_at s (record { switch = k; event = event } ∷ []) ≡ event ∷ [] = rw t refl in
+      let one : events_at s (record { switch = k; event = event } ∷ []) ≡ event ∷ [] = rw t in
       ap (λ es. run g es (empty_machine g)) (events_more s events (record { switch = k; event = event })
       ∙ ap (λ l. events_at s events ++ l) one)
       ∙ run-append g (events_at s events) (event ∷ []) (empty_machine g)
 
   events_same : (k == s) ≡ false → events_at s (with_event events k event) ≡ events_at s events
   events_same t =
-      let one : events_at s (record { switch = k; event = event } ∷ []) ≡ [] = rw t refl in
+      let one : events_at s (record { switch = k; event = event } ∷ []) ≡ [] = rw t in
       events_more s events (record { switch = k; event = event })
       ∙ (ap (λ l. events_at s events ++ l) one ∙ append-nil (events_at s events))
 

@@ -54,7 +54,6 @@ returns-clause-breaks_off g c =
 pub returns-clause-left : goal.returns-clause-left
 returns-clause-left g c =
     let f = front g (goal.at.returns-clause-left g c).After-index_mut-front in
-    let at = c.args.at in
     let view = group_of c.self.inside in
     let front = c.index_mut-front.result.now in
     let new = c.keep_up.new.front in

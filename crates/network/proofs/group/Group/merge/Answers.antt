@@ -55,7 +55,6 @@ returns-clause-same g c is = front_kept (front g (goal.at.returns-clause-same g 
 pub returns-clause-err : goal.returns-clause-err
 returns-clause-err g c =
     let f = front g (goal.at.returns-clause-err g c).After-index_mut-front in
-    let view = group_of c.self.inside in
     let new = c.merge_into.new.self in
     let store = c.merge_into.new.store in
     on_err _

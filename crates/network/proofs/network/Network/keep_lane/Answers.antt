@@ -66,7 +66,6 @@ pub returns-clause-left : goal.returns-clause-left
 returns-clause-left g c =
     let l = lane g (goal.at.returns-clause-left g c).After-index_mut-group in
     let at = c.args.at in
-    let group = c.index_mut-group.result.now in
     let new = c.keep_up.new.self in
     on_ok _
     _ c.keep_up.result
