@@ -83,7 +83,12 @@ all_joined : (f : List (List ℕ)) (p text : List ℕ) (n : ℕ) → n ≤ lengt
 all_joined f p _ zero _ _ = rw (append-nil p)
 all_joined f p [] (suc n) within goes = absurd (omega arith)
 all_joined f p (c ∷ rest) (suc n) within goes =
-    rw (one_joined f p c rest (goes zero (omega arith)), all_joined f (p ++ c ∷ []) rest n (omega arith) (λ k below. goes (suc k) (omega arith)), append_assoc p (c ∷ []) (take n rest))
+    rw (
+      one_joined f p c rest (goes zero (omega arith)),
+      all_joined f (p ++ c ∷ []) rest n (omega arith)
+          (λ k below. goes (suc k) (omega arith)),
+      append_assoc p (c ∷ []) (take n rest),
+    )
 
 -- a field up to its end
 to_end : (f : List (List ℕ)) (text : List ℕ) (start end : ℕ) → IsField text start end
@@ -100,7 +105,8 @@ to_end f text start end field =
     ∙ ap (rows_from st.InField f []) (sym first)
     ∙ all_joined f [] (drop start text) (end - start) size (λ k below.
     rw (get_or-drop start text k 0, field.ended.goes_on (start + k) (omega arith) (omega arith)))
-    ∙ ap (rows_from st.InField f (take (end - start) (drop start text))) (rw (drop-drop (end - start) start text, place, drop_more text end 0 field.ended.within))
+    ∙ ap (rows_from st.InField f (take (end - start) (drop start text)))
+    (rw (drop-drop (end - start) start text, place, drop_more text end 0 field.ended.within))
 
 comma_ends : (f : List (List ℕ)) (p : List ℕ) (c : ℕ) (rest : List ℕ) → (c == 44) ≡ true
     → rows_from st.InField f p (c ∷ rest) ≡ rows_from st.StartField (f ++ p ∷ []) [] rest
@@ -153,7 +159,13 @@ pub field_more : (text : List ℕ) (all : List (List (List ℕ))) (spans more : 
     → all ≡ rows_from st.StartField (fields_at text spans) [] (drop start text)
     → all ≡ rows_from st.StartField (fields_at text more) [] (drop (end + 1) text)
 field_more text _ spans more start end field is grown so_far =
-    rw (so_far, to_end (fields_at text spans) text start end field, comma_ends (fields_at text spans) (take (end - start) (drop start text)) (get_or text end 0) (drop (end + 1) text) is, fields_more text spans more start end field grown)
+    rw (
+      so_far,
+      to_end (fields_at text spans) text start end field,
+      comma_ends (fields_at text spans) (take (end - start) (drop start text))
+          (get_or text end 0) (drop (end + 1) text) is,
+      fields_more text spans more start end field grown,
+    )
 
 line_of : (c : ℕ) → ends_field c ≡ true → (c == 44) ≡ false → ends_line c ≡ true
 line_of c ends none = rw none at ends
@@ -173,7 +185,15 @@ record_ends text from spans more start end field none grown all so_far =
         within = omega (arith, field.ended.within);
         ended = rw (here, line_of c field.ended.ends none);
       };
-      first = rw (so_far, to_end (fields_at text spans) text start end field, line_ends (fields_at text spans) (take (end - start) (drop start text)) c rest field.ended.ends none, fields_more text spans more start end field grown, from_between (after_end term.CRLF c) rest (after_end_between term.CRLF c), rows_are rest);
+      first = rw (
+        so_far,
+        to_end (fields_at text spans) text start end field,
+        line_ends (fields_at text spans)
+            (take (end - start) (drop start text)) c rest field.ended.ends none,
+        fields_more text spans more start end field grown,
+        from_between (after_end term.CRLF c) rest (after_end_between term.CRLF c),
+        rows_are rest,
+      );
       inside = inside_more text spans more start end field grown all;
     }
 

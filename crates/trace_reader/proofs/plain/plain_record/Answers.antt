@@ -1,5 +1,5 @@
 use Rattle.std.specs.Prelude.{◌==◌}
-use Rattle.std.proofs.Common.{◌≡◌, ◌+◌, ◌<◌, arith, false, get_or, length, refl, true}
+use Rattle.std.proofs.Common.{◌≡◌, ◌+◌, ◌<◌, arith, false, get_or, length, true}
 use Rattle.std.proofs.lemmas.Bool.Decides.{nat_tests}
 use Rattle.trace_reader.proofs.PlainFacts.{field_more, inside_more, none_inside, none_yet, record_ends, short_field}
 use Rattle.trace_reader.proofs.plain.plain_record.Goals as goal
@@ -27,7 +27,7 @@ fields-preserved-then-text-stop-eq44 c =
     let stop = start + c.going.result in
     let within : stop < length text = omega (arith, c.going.ensures.few) in
     let comma = c.if-text-stop-eq44.true in
-    let is : (get_or text stop 0 == 44) ≡ true = rw comma refl in
+    let is : (get_or text stop 0 == 44) ≡ true = rw comma in
     let field = short_field text start stop (omega arith) within c.going.ensures.above comma in
     record {
       within = omega (arith, within);

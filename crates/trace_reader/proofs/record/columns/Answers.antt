@@ -1,4 +1,4 @@
-use Rattle.std.proofs.Common.{arith, length, refl, rules}
+use Rattle.std.proofs.Common.{arith, length, rules}
 use Rattle.std.proofs.Math.ListN.{length-set}
 use Rattle.std.proofs.lemmas.List.{drop_all}
 use Rattle.marple_base.specs.Field.{all_fields}
@@ -36,4 +36,4 @@ pub returns-clause-value : goal.returns-clause-value
 unfolding each
 returns-clause-value c =
     let none = drop_all c.loop-i.i all_fields c.loop-i-test.false in
-    all_written _ _ c.loop-i.columns c.loop-i.i (omega arith) c.loop-i.invariant.filled (rw none refl)
+    all_written _ _ c.loop-i.columns c.loop-i.i (omega arith) c.loop-i.invariant.filled (rw none)

@@ -1,4 +1,4 @@
-use Rattle.std.proofs.Common.{◌∙◌, sym, refl}
+use Rattle.std.proofs.Common.{◌∙◌, sym}
 use Rattle.trace_reader.proofs.TraceFacts.{fault_early, opening_bad, opening_empty, opening_good, opening_long, upcoming_good}
 use Rattle.trace_reader.proofs.trace.open_trace.Goals as goal
 
@@ -42,4 +42,4 @@ pub returns-clause-accepted : goal.returns-clause-accepted
 returns-clause-accepted c =
     let all = sym c.new-records.ensures ∙ c.in-Ok-true.ensures.some c.in-Ok-true.field-0-test in
     rw (opening_good c.args.bytes.now c.args.reads c.next.new.self.fields c.next.new.self.left c.in-Ok.columns
-    c.if-bytes-gt-MAX_TRACE.false all c.in-Ok.ensures.value) refl
+    c.if-bytes-gt-MAX_TRACE.false all c.in-Ok.ensures.value)

@@ -1,4 +1,4 @@
-use Rattle.std.proofs.Common.{refl, rules, sym, ◌∙◌, ap, ◌++◌}
+use Rattle.std.proofs.Common.{rules, sym, ◌∙◌, ap, ◌++◌}
 use Rattle.std.proofs.lemmas.List.{append-nil, drop_all}
 use Rattle.marple_base.specs.Field.{all_fields}
 use Rattle.marple_base.specs.declared.field.Field.TheVariants as f
@@ -9,7 +9,7 @@ use Rattle.trace_reader.proofs.columns.Columns.new.Goals.{in-Some+in_ok-push, in
 
 pub loop-i-init : goal.loop-i-init
 unfolding read_columns
-loop-i-init c = rw c.new-read.ensures.items refl
+loop-i-init c = rw c.new-read.ensures.items
 
 pub loop-i-preserved : goal.loop-i-preserved
 loop-i-preserved c =
