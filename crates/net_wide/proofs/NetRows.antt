@@ -211,7 +211,11 @@ module _ (q : TypedQuery) (plan : PlanParts) (buckets ways : ℕ) (packets : Lis
   keys_same = rw (keys_are buckets ways steps events merged room has all, uses_are)
 
   epochs_same : closed_epochs (all_epochs merged) ≡ net_count q i packets pieces
-  epochs_same = rw (sums_alike (λ key. length (lists_of key (all_epochs merged))) (λ key. length (pieces key)) 0 (closed_keys (all_epochs merged)) counts_are, keys_same)
+  epochs_same = rw (
+    sums_alike (λ key. length (lists_of key (all_epochs merged))) (λ key. length (pieces key)) 0
+        (closed_keys (all_epochs merged)) counts_are,
+    keys_same,
+  )
 
   abbrev net_row : Folding → Key → List Row
   net_row f key = net_key_rows f (pieces key) (key_args key (uses q i packets)) key
@@ -231,7 +235,14 @@ module _ (q : TypedQuery) (plan : PlanParts) (buckets ways : ℕ) (packets : Lis
   additive_rows f linear valid additive words =
       store_table f (folding_of f) g _ _ refl linear (record
       { valid = valid; additive = additive; size = valid.starts; words = words }) room all
-      ∙ (rw (flat_map-single (λ key. exact (folding_of f) key ∷ []) (exact (folding_of f)) (ascending (keys_given (all_events events))) (λ key. refl), flat_maps_alike (λ key. exact (folding_of f) key ∷ []) (net_row (folding_of f)) (ascending (keys_given (all_events events))) (exact_is (folding_of f) linear), (gives steps events has).keys, uses_are))
+      ∙ (rw (
+        flat_map-single (λ key. exact (folding_of f) key ∷ []) (exact (folding_of f)) (ascending (keys_given (all_events events)))
+            (λ key. refl),
+        flat_maps_alike (λ key. exact (folding_of f) key ∷ []) (net_row (folding_of f))
+            (ascending (keys_given (all_events events))) (exact_is (folding_of f) linear),
+        (gives steps events has).keys,
+        uses_are,
+      ))
 
   -- a key that gives the switch
   module _ (t : Taking) (at : slice_get (takings q.streams) i ≡ Some t) (k : HasSwitchKey q t) (key : Key) where
@@ -262,7 +273,16 @@ module _ (q : TypedQuery) (plan : PlanParts) (buckets ways : ℕ) (packets : Lis
 
     args : rows_joined (lists_of key (all_epochs merged)) ≡ key_args key (uses q i packets)
     args =
-        rw (of_one key one merged others, own_lists key one, closed-lists g (machine_at g one events) key (all.swept one), no_row_is_lost_lem g (events_at one events) key room, (gives steps events has).own one key, rows_of_one number take packets key one only 1 1 packets whole, p.takes i packets within whole)
+        rw (
+          of_one key one merged others,
+          own_lists key one,
+          closed-lists g (machine_at g one events) key (all.swept one),
+          no_row_is_lost_lem g (events_at one events) key room,
+          (gives steps events has).own one key,
+          rows_of_one number take packets key
+              one only 1 1 packets whole,
+          p.takes i packets within whole,
+        )
 
     key_rows_are : (f : Folding) → closed_key_rows f (all_epochs merged) key ≡ net_row f key
     key_rows_are f =
@@ -271,7 +291,11 @@ module _ (q : TypedQuery) (plan : PlanParts) (buckets ways : ℕ) (packets : Lis
   switch_rows : (f : Folding) (t : Taking) → slice_get (takings q.streams) i ≡ Some t → HasSwitchKey q t
       → closed_rows f (all_epochs merged) ≡ net_rows q i packets pieces f
   switch_rows f t at k =
-      rw (flat_maps_alike (closed_key_rows f (all_epochs merged)) (net_row f) (closed_keys (all_epochs merged)) (λ key. key_rows_are t at k key f), keys_same)
+      rw (
+        flat_maps_alike (closed_key_rows f (all_epochs merged)) (net_row f) (closed_keys (all_epochs merged))
+            (λ key. key_rows_are t at k key f),
+        keys_same,
+      )
 
   table_is : (shape : GroupShape) (f : TypedFold) → closed_rows (folding_of f) (all_epochs merged) ≡ net_rows q i packets pieces
       (folding_of f)
@@ -312,7 +336,11 @@ module _ (q : TypedQuery) (plan : PlanParts) (buckets ways : ℕ) (packets : Lis
 
   uses_of : (s : ℕ) → IsSeen s packets → own_uses (number s) (net_steps number (taken plan i) packets) ≡ uses_at q i packets s
   uses_of s seen =
-      rw (taken_own number (taken plan i) packets numbered s seen packets (λ a some. some), p.takes i (packets_at s packets) within (All-filter (λ words. switch_in words == s) (λ words. length words ≡ FIELDS) packets whole))
+      rw (
+        taken_own number (taken plan i) packets numbered s seen packets (λ a some. some),
+        p.takes i (packets_at s packets) within
+            (All-filter (λ words. switch_in words == s) (λ words. length words ≡ FIELDS) packets whole),
+      )
 
   epochs_of : (s : ℕ) → IsSeen s packets → lists_of key (machine_at cuts (number s) events).closed ≡ epochs cuts (uses_at q i packets s) key
   epochs_of s seen =
@@ -326,7 +354,11 @@ module _ (q : TypedQuery) (plan : PlanParts) (buckets ways : ℕ) (packets : Lis
   epochs_from [] o = refl
   epochs_from (k ∷ keys) o =
       let one = one_first packets k keys o in
-      rw (epochs_of (first k) (subst (λ s. IsSeen s packets) (sym (ap first one.is)) one.seen), epochs_from keys (ones_rest packets k keys o))
+      rw (
+        epochs_of (first k) (subst (λ s. IsSeen s packets) (sym (ap first one.is)) one.seen),
+        epochs_from keys
+            (ones_rest packets k keys o),
+      )
 
 pub are_the_epochs : PiecesAreTheEpochs
 are_the_epochs q plan buckets ways packets number p room whole numbered i events merged key within ran all =

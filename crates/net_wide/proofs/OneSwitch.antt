@@ -52,7 +52,9 @@ module _ (key : Key) (s : ℕ) where
     pub none_closed : (k : ℕ) → rows_given key (events_at k events) ≡ [] → lists_of key (machine_at g k events).closed ≡ []
     none_closed k none =
         no_pieces (lists_of key (machine_at g k events).closed)
-        (rw (closed-lists g (machine_at g k events) key (all.swept k)) (pieces_kept g (events_at k events) (empty_machine g) key room (starts-tidy g) (subst (AllByRecursion IsPiece) (sym (starts-lists g key)) tt)))
+        (rw (closed-lists g (machine_at g k events) key (all.swept k))
+        (pieces_kept g (events_at k events) (empty_machine g) key room (starts-tidy g)
+        (subst (AllByRecursion IsPiece) (sym (starts-lists g key)) tt)))
         (rw (closed-lists g (machine_at g k events) key (all.swept k), no_row_is_lost_lem g (events_at k events) key room, none))
 
     lists_are : ((k : ℕ) → k ≢ s → rows_given key (events_at k events) ≡ [])

@@ -22,7 +22,8 @@ module _ (q : TypedQuery) (packets : List (List ℕ)) where
   table_same pieces other i _ f same = rw (count, rows)
     where
       count : net_count q i packets pieces ≡ net_count q i packets other
-      count = rw (sums_alike (λ key. length (pieces key)) (λ key. length (other key)) 0 (keys_used (uses q i packets)) (λ key. ap length (same key)))
+      count = rw (sums_alike (λ key. length (pieces key)) (λ key. length (other key)) 0 (keys_used (uses q i packets))
+          (λ key. ap length (same key)))
 
       rows : net_rows q i packets pieces (folding_of f) ≡ net_rows q i packets other (folding_of f)
       rows = flat_maps_alike (λ key. net_key_rows (folding_of f) (pieces key) (key_args key (uses q i packets)) key)

@@ -94,19 +94,38 @@ module _ (q : TypedQuery) (i : ℕ) (t : Taking) (at : slice_get (takings q.stre
           (all_rows (given take key other))
       by_case (inl additive) = any_interleaving f f.initial (given take key packets) (given take key other)
           (record { valid = valid; additive = additive; size = valid.starts; words = words }) (same_of_each take key packets other same)
-      by_case (inr k) = rw (alone take key (slice_index key k.at) (tells_switch k key) packets whole, same_of_each take key packets other same (slice_index key k.at), alone take key (slice_index key k.at) (tells_switch k key) other other_whole)
+      by_case (inr k) = rw (
+        alone take key (slice_index key k.at) (tells_switch k key) packets whole,
+        same_of_each take key packets other
+            same (slice_index key k.at),
+        alone take key (slice_index key k.at) (tells_switch k key) other other_whole,
+      )
 
   epochs_alike : (g : Geometry) (key : Key) → net_epochs q i g packets key ≡ net_epochs q i g other key
   epochs_alike g key =
-      rw (flat_maps_alike (λ s. epochs g (uses_at q i packets s) key) (λ s. epochs g (uses_at q i other s) key) (switches packets) (λ s. ap (λ ps. epochs g (uses q i ps) key) (same s)), same_switches packets other same)
+      rw (
+        flat_maps_alike (λ s. epochs g (uses_at q i packets s) key) (λ s. epochs g (uses_at q i other s) key) (switches packets)
+            (λ s. ap (λ ps. epochs g (uses q i ps) key) (same s)),
+        same_switches packets other same,
+      )
 
   count_alike : (g : Geometry) → net_count q i packets (net_epochs q i g packets) ≡ net_count q i other (net_epochs q i g other)
-  count_alike g = rw (sums_alike (λ key. length (net_epochs q i g packets key)) (λ key. length (net_epochs q i g other key)) 0 (keys_used (uses q i packets)) (λ key. ap length (epochs_alike g key)), keys_alike)
+  count_alike g = rw (
+    sums_alike (λ key. length (net_epochs q i g packets key)) (λ key. length (net_epochs q i g other key)) 0
+        (keys_used (uses q i packets)) (λ key. ap length (epochs_alike g key)),
+    keys_alike,
+  )
 
   rows_alike : (g : Geometry) (f : TypedFold) → IsValidFold f → AreWords f.initial → Combines q t f
       → net_rows q i packets (net_epochs q i g packets) (folding_of f) ≡ net_rows q i other (net_epochs q i g other) (folding_of f)
   rows_alike g f valid words c =
-      rw (flat_maps_alike (λ key. net_key_rows (folding_of f) (net_epochs q i g packets key) (key_args key (uses q i packets)) key) (λ key. net_key_rows (folding_of f) (net_epochs q i g other key) (key_args key (uses q i other)) key) (keys_used (uses q i packets)) (λ key. key_rows_alike (folding_of f) (net_epochs q i g packets key) (net_epochs q i g other key) (key_args key (uses q i packets)) (key_args key (uses q i other)) key (epochs_alike g key) (state_alike f key valid words c)), keys_alike)
+      rw (
+        flat_maps_alike (λ key. net_key_rows (folding_of f) (net_epochs q i g packets key) (key_args key (uses q i packets)) key)
+            (λ key. net_key_rows (folding_of f) (net_epochs q i g other key) (key_args key (uses q i other)) key)
+            (keys_used (uses q i packets)) (λ key. key_rows_alike (folding_of f) (net_epochs q i g packets key) (net_epochs q i g other key)
+            (key_args key (uses q i packets)) (key_args key (uses q i other)) key (epochs_alike g key) (state_alike f key valid words c)),
+        keys_alike,
+      )
 
   pub table_alike : (g : Geometry) (shape : GroupShape) (f : TypedFold) → IsValidFold f → AreWords f.initial → Combines q t f
       → net_table q packets (net_epochs q i g packets) i shape f ≡ net_table q other (net_epochs q i g other) i shape f

@@ -109,7 +109,8 @@ module _ (packets : List (List ℕ)) (number : ℕ → ℕ) where
   apart _ [] _ o = tt
   apart numbered (key ∷ keys) ascends o =
       let one = one_first packets key keys o in (
-        rw one.is (not_in numbered one.switch one.seen keys (ones_rest packets key keys o) (subst (λ k. has k keys ≡ false) one.is (not_above key keys ascends.0))),
+        rw one.is (not_in numbered one.switch one.seen keys (ones_rest packets key keys o)
+            (subst (λ k. has k keys ≡ false) one.is (not_above key keys ascends.0))),
         apart numbered keys ascends.1 (ones_rest packets key keys o),
       )
 

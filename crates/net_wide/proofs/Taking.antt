@@ -74,7 +74,12 @@ module _ (take : List ℕ → Option Taken) (key : Key) where
       → has key (map (λ u. u.key) (uses_taken 1 (map take packets))) ≡ has key (map (λ u. u.key) (uses_taken 1 (map take other)))
   same_has packets other h =
       keys_some 1 packets
-      ∙ (rw (same_some (all_rows (given packets)) (all_rows (given other)) (sym (length_permutation (all_rows (given packets)) (all_rows (given other)) (same_rows (given packets) (given other) (same_of_each packets other h)))), keys_some 1 other))
+      ∙ (rw (
+        same_some (all_rows (given packets)) (all_rows (given other))
+            (sym (length_permutation (all_rows (given packets)) (all_rows (given other))
+            (same_rows (given packets) (given other) (same_of_each packets other h)))),
+        keys_some 1 other,
+      ))
 
   -- where the key gives the switch, all its rows are of that switch
   pub alone : (s : ℕ) → ((words : List ℕ) (t : Taken) → length words ≡ FIELDS → take words ≡ Some t → key_eq t.key key ≡ true

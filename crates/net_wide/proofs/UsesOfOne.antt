@@ -61,4 +61,11 @@ uses_of_one q i packets s whole = go (slice_get (takings q.streams) i) refl
     go (Some t) e =
         let take : List ℕ → Option Taken = λ words. option_map (packetwise.row_taken t)
         (packetwise.row_at (packetwise.all_rows q words) t.input) in
-        rw (packetwise.uses_are q i t take e (λ words size. refl) (packets_at s packets) (All-filter (λ words. switch_in words == s) (λ words. length words ≡ FIELDS) packets whole), kept take s packets 1 0 packets (λ j lt. ap (λ z. get_or packets z []) (let same : 0 + j ≡ j = omega arith in same)), packetwise.uses_are q i t take e (λ words size. refl) packets whole)
+        rw (
+          packetwise.uses_are q i t take e (λ words size. refl) (packets_at s packets)
+              (All-filter (λ words. switch_in words == s) (λ words. length words ≡ FIELDS) packets whole),
+          kept take s packets 1 0 packets
+              (λ j lt. ap (λ z. get_or packets z []) (let same : 0 + j ≡ j = omega arith in same)),
+          packetwise.uses_are q i t take e
+              (λ words size. refl) packets whole,
+        )
