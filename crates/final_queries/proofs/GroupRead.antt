@@ -23,7 +23,7 @@ abbrev keys_read : List Row → List Key
 keys_read rows = map key_of (reads rows)
 
 -- no row is read, or one of this key
-abbrev HasOneAtMost : Key → List Row → Type 0
+abbrev pub HasOneAtMost : Key → List Row → Type 0
 HasOneAtMost key rows = (keys_read rows ≡ []) ⊎ (keys_read rows ≡ key ∷ [])
 
 none_read : (f : Folding) (key : Key) (count number : ℕ) (lists : List (List ArgRow)) → is_read (mark_of count) ≡ false
@@ -36,7 +36,7 @@ several n =
     let e : (suc (suc n) == 1) ≡ false = grind (arith, nat_tests) in
     rw e refl
 
-epochs_read : (f : Folding) (key : Key) (lists : List (List ArgRow)) → HasOneAtMost key (epoch_rows f key (length lists) 1 lists)
+pub epochs_read : (f : Folding) (key : Key) (lists : List (List ArgRow)) → HasOneAtMost key (epoch_rows f key (length lists) 1 lists)
 epochs_read f key [] = inl refl
 epochs_read f key (rows ∷ []) = inr refl
 epochs_read f key (rows ∷ more ∷ lists) = inl (none_read f key (suc (suc (length lists))) 1 (rows ∷ more ∷ lists) (several (length lists)))
@@ -60,7 +60,7 @@ module _ (h : Key → List Row) (one : (key : Key) → HasOneAtMost key (h key))
         | inr e ↦ rw e (above.0, more)
       ])
 
-  all_in_order : (keys : List Key) → IsAscending keys → IsAscending (keys_read (flat_map h keys))
+  pub all_in_order : (keys : List Key) → IsAscending keys → IsAscending (keys_read (flat_map h keys))
   all_in_order [] order = tt
   all_in_order (key ∷ keys) order =
       let more = all_in_order keys order.1 in
@@ -77,7 +77,7 @@ all_flat P h (key ∷ keys) all = All-append P (h key) (flat_map h keys) (All-he
     (all_flat P h keys (All-tail (λ k. All P (h k)) key keys all))
 
 module _ (words states : ℕ) (f : Folding) (long : (rows : List ArgRow) → length (folded f rows) ≡ states) where
-  epochs_have : (key : Key) (count number : ℕ) (lists : List (List ArgRow)) → length key ≡ words
+  pub epochs_have : (key : Key) (count number : ℕ) (lists : List (List ArgRow)) → length key ≡ words
       → All (HasColumns words states) (epoch_rows f key count number lists)
   epochs_have key count number [] e = All-nil (HasColumns words states)
   epochs_have key count number (rows ∷ lists) e =
