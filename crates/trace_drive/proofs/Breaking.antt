@@ -59,7 +59,8 @@ module _ {O : Type 0} (taken : O → Option (List ℕ)) (faults : O → ℕ) (te
 
   -- out of memory after some of a sound trace's text was written; of a trace that may have a fault nothing was written
   pub memory_after : (old new : O) (done rest : List ℕ) → text ≡ done ++ rest → ((found : TraceFault) → fault ≡ Some found → done ≡ [])
-      → Appends (taken old) (taken new) done → BreaksOff taken faults text fault old new Memory
+      → Appends (taken old) (taken new) done
+      → BreaksOff taken faults text fault old new Memory
   memory_after old new done rest is none whole = by_fault fault refl
     where
       by_fault : (f : Option TraceFault) → fault ≡ f → TakesFront (taken old) (taken new) (text_unless f text)
@@ -81,7 +82,8 @@ module _ {O : Type 0} (taken : O → Option (List ℕ)) (faults : O → ℕ) (te
   write_breaks old mid new done piece rest is sound whole later rose front = (
     sound,
     rose_since (faults old) (faults mid) (faults new) later rose,
-    subst (TakesFront (taken old) (taken new)) (sym is) (TakesFront-more (taken old) (taken mid) (taken new) done piece rest whole front),
+    subst (TakesFront (taken old) (taken new)) (sym is)
+        (TakesFront-more (taken old) (taken mid) (taken new) done piece rest whole front),
   )
 
   -- a part of the text broke off after what was written
@@ -98,6 +100,7 @@ module _ {O : Type 0} (taken : O → Option (List ℕ)) (faults : O → ℕ) (te
 
   -- a sound trace's text wasn't written whole
   pub unwritten : (old new : O) → fault ≡ None → (answer : WriteError) → (answer ≡ writes.Failed → Rose (faults old) (faults new))
-      → TakesFront (taken old) (taken new) text → BreaksOff taken faults text fault old new (answer_of answer)
+      → TakesFront (taken old) (taken new) text
+      → BreaksOff taken faults text fault old new (answer_of answer)
   unwritten old new sound writes.Failed rose front = (sound, rose refl, front)
   unwritten old new sound writes.Memory rose front = subst (λ f. TakesFront (taken old) (taken new) (text_unless f text)) (sym sound) front

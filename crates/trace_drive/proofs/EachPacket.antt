@@ -2,7 +2,6 @@
 use Rattle.std.proofs.Common.{◌≡◌, ℕ, suc, ◌+◌, List, [], ◌∷◌, length, Option, Result, Ok, Err, refl, sym, ap, ◌∙◌, arith}
 use Rattle.std.specs.List.{All, zip}
 use Rattle.std.proofs.lemmas.List.Elements.{All-nil, All-cons}
-use Rattle.std.proofs.lemmas.Slice.Zip.{length-zip}
 use Rattle.std.specs.Prelude.{◌==◌, not, nat_lt}
 use Rattle.epoch_model.proofs.KeyLists.{by_test}
 use Rattle.marple_base.specs.declared.field.Field.{Field}
@@ -36,12 +35,18 @@ each_long f (x ∷ xs) ys e =
     ap length first.4 ∙ ap (λ n. suc n) (each_long f xs first.1 first.3)
 
 pub zip_long : {X Y : Type 0} (xs : List X) (ys : List Y) → length xs ≡ length ys → length (zip xs ys) ≡ length xs
-zip_long xs ys e = omega (arith, length-zip xs ys)
+zip_long [] ys e = refl
+zip_long (x ∷ xs) [] e = absurd (no e)
+  where
+    no : {n : ℕ} → suc n ≡ 0 → ⊥
+    no e = omega (arith, e)
+zip_long (x ∷ xs) (y ∷ ys) e = ap (λ n. suc n) (zip_long xs ys (omega (arith, e)))
 
 -- a fact of each packet that has the words of some record, by the columns of some header
 abbrev pub HoldsOfRead : FieldSet → (Packet → Type 0) → Type 0
 HoldsOfRead reads P = (header fields : List (List ℕ)) (columns : List (Option ℕ)) (packet : Packet)
-    → columns_of_fields reads header ≡ Ok columns → words_in_columns columns fields ≡ Ok packet.words → P packet
+    → columns_of_fields reads header ≡ Ok columns
+    → words_in_columns columns fields ≡ Ok packet.words → P packet
 
 with_words : (n : ℕ) (words : Result (List ℕ) Field) (packet : Packet) → packet_with n words ≡ Ok packet → words ≡ Ok packet.words
 with_words n (Err field) packet e = absurd (not_ok _ packet e)
@@ -50,8 +55,10 @@ with_words n (Ok ws) packet e = ap (λ p. Ok p.words) (same_ok (record { words =
 packet_words : (layout : Layout) (n : ℕ) (fields : List (List ℕ)) (packet : Packet) → packet_of layout n fields ≡ Ok packet
     → words_in_columns layout.columns fields ≡ Ok packet.words
 unfolding packet_of
-packet_words layout n fields packet e = by_test (nat_lt MAX_RECORDS n) (λ t. absurd (not_ok _ packet (rw t at e)))
-    (λ t. by_test (not (length fields == layout.width)) (λ s. absurd (not_ok _ packet (rw (t, s) at e)))
+packet_words layout n fields packet e = by_test (nat_lt MAX_RECORDS n)
+    (λ t. absurd (not_ok _ packet (rw t at e)))
+    (λ t. by_test (not (length fields == layout.width))
+    (λ s. absurd (not_ok _ packet (rw (t, s) at e)))
     (λ s. with_words n (words_in_columns layout.columns fields) packet (rw (t, s) at e)))
 
 with_one : (P : Packet → Type 0) (one : Result Packet TraceFault) (more : Contents) → ((packet : Packet) → one ≡ Ok packet → P packet)
@@ -82,7 +89,8 @@ layout_columns (header ∷ left) reads layout e = (header, by_columns (columns_o
 opening_columns : (text : List ℕ) (reads : FieldSet) (layout : Layout) → opening text reads ≡ Ok layout → (header : List (List ℕ))
     × (columns_of_fields reads header ≡ Ok layout.columns)
 unfolding opening
-opening_columns text reads layout e = by_test (nat_lt MAX_TRACE (length text)) (λ t. absurd (not_ok _ layout (rw t at e)))
+opening_columns text reads layout e = by_test (nat_lt MAX_TRACE (length text))
+    (λ t. absurd (not_ok _ layout (rw t at e)))
     (λ t. layout_columns (records text) reads layout (rw t at e))
 
 with_layout : (P : Packet → Type 0) (reads : FieldSet) (found : Result Layout TraceFault) (left : List (List (List ℕ)))

@@ -45,7 +45,8 @@ last plan g words i = empty_buckets g.buckets (after_packets g (uses_by plan i w
 ends_reached : SweepsReachTheEnd → (plan : PlanParts) (g : Geometry) (words : List (List ℕ)) (i k : ℕ) (lanes : List LaneView)
     (machines : List Machine) (groups : List GroupPlan)
     → length lanes ≡ length groups → EachFrom (λ n. StandsFor) k lanes machines → AlikeFrom (last plan g words) i machines
-    → AreKept due.Rest lanes → EachFrom (λ n. StandsFor) k lanes (ends_from plan g words i groups)
+    → AreKept due.Rest lanes
+    → EachFrom (λ n. StandsFor) k lanes (ends_from plan g words i groups)
 ends_reached law plan g words i k [] machines [] long s a none = tt
 ends_reached law plan g words i k [] machines (group ∷ groups) long s a none = absurd (omega arith)
 ends_reached law plan g words i k (lane ∷ lanes) machines [] long s a none = absurd (omega arith)
@@ -88,7 +89,8 @@ both_zero : (a b : ℕ) → a ≡ 0 → b ≡ 0 → ((a == 0) && (b == 0)) ≡ t
 both_zero a b e f = rw (e, f) refl
 
 drained_from : SweepsReachTheEnd → (plan : PlanParts) (g : Geometry) (words : List (List ℕ)) (i k : ℕ) (lanes : List LaneView)
-    (groups : List GroupPlan) → EachFrom (λ n. StandsFor) k lanes (ends_from plan g words i groups) → AreKept due.Rest lanes
+    (groups : List GroupPlan)
+    → EachFrom (λ n. StandsFor) k lanes (ends_from plan g words i groups) → AreKept due.Rest lanes
     → list_all (λ lane. is_drained lane.cache lane.pipe) lanes ≡ true
 drained_from law plan g words i k [] groups s none = refl
 drained_from law plan g words i k (lane ∷ lanes) [] s none = absurd s
@@ -106,7 +108,8 @@ end_drained law g words plan p s none = drained_from law plan g words 0 0 p.lane
 
 -- the machines after a last sweep, in terms of the plan and the words of the trace
 last_as : (g : Geometry) (plan here : PlanParts) (words : List (List ℕ)) (buckets count : ℕ) → here ≡ plan → buckets ≡ g.buckets
-    → count ≡ length words → (i : ℕ) → empty_buckets buckets (after_packets g (uses_by here i words) count) ≡ last plan g words i
+    → count ≡ length words → (i : ℕ)
+    → empty_buckets buckets (after_packets g (uses_by here i words) count) ≡ last plan g words i
 last_as g plan here words buckets count p b n i =
     ap (λ x. empty_buckets x (after_packets g (uses_by here i words) count)) b
     ∙ (ap (λ x. empty_buckets g.buckets (after_packets g (uses_by x i words) count)) p
@@ -145,6 +148,7 @@ pub whole_trace : SweepsReachTheEnd → (g : Geometry) (plan : PlanParts) (words
 whole_trace law g plan words count start took done p b n k l are f none =
     let long = lanes_long done.entries done.plan done.buckets done.lanes are ∙ ap (λ x. length x.groups) (l.plan ∙ (k.plan ∙ p)) in
     let past = follows_as (λ (i : ℕ). empty_buckets took.buckets (after_packets g (uses_by start.plan i words) count)) (last plan g words)
-    done (last_as g plan start.plan words took.buckets count p (k.buckets ∙ b) n) f in
+    done
+    (last_as g plan start.plan words took.buckets count p (k.buckets ∙ b) n) f in
     let stands = end_reached law g words plan done long past none in
     (stands, end_drained law g words plan done stands none)

@@ -9,14 +9,14 @@ use Rattle.trace_reader.specs.Traces.{with_packet}
 use Rattle.trace_reader.specs.declared.fault.TheConstants.{MAX_RECORDS}
 use Rattle.trace_reader.specs.declared.fault.TraceFault.{TraceFault}
 use Rattle.trace_drive.specs.ReadPackets.{ReadPacketsAreFew}
-use Rattle.trace_drive.proofs.EachPacket.{not_ok}
 
 -- a record beyond the limit gives no packet
 none_beyond : (layout : Layout) (n : ℕ) (fields : List (List ℕ)) (p : Packet) → MAX_RECORDS + 1 ≤ n → packet_of layout n fields ≡ Ok p → ⊥
 unfolding packet_of
-none_beyond layout n fields p beyond is =
-    let test : nat_lt MAX_RECORDS n ≡ true = grind (arith, nat_tests) in
-    not_ok _ p (rw test at is)
+none_beyond layout n fields p beyond is = let test : nat_lt MAX_RECORDS n ≡ true = grind (arith, nat_tests) in no_packet (rw test at is)
+  where
+    no_packet : {fault : TraceFault} → Err fault ≡ Ok p → ⊥
+    no_packet e = cc
 
 few_from : (layout : Layout) (n : ℕ) (rows : List (List (List ℕ))) → n ≤ MAX_RECORDS + 1 → length (contents_from layout n rows).packets
     + n ≤ MAX_RECORDS + 1
@@ -31,7 +31,8 @@ few_from layout n (fields ∷ rows) within = by_packet (packet_of layout n field
     by_packet (Err fault) none more = omega arith
     by_packet (Ok p) none more =
         by_test (nat_lt n (MAX_RECORDS + 1))
-        (λ below. let few = more (grind (arith, nat_tests)) in omega arith) (λ beyond. absurd (none p refl (grind (arith, nat_tests))))
+        (λ below. let few = more (grind (arith, nat_tests)) in omega arith)
+        (λ beyond. absurd (none p refl (grind (arith, nat_tests))))
 
 few_with : (found : Result Layout TraceFault) (left : List (List (List ℕ))) → length (contents_with found left).packets ≤ MAX_RECORDS
 few_with (Err fault) left = omega arith

@@ -1,5 +1,5 @@
 -- Pipelines, and the machines that their lanes are as far as.
-use Rattle.std.proofs.Common.{◌≡◌, ℕ, zero, suc, ◌<◌, Bool, true, false, List, [], ◌∷◌, Option, Some, None, Result, OnOk, length}
+use Rattle.std.proofs.Common.{◌≡◌, ℕ, zero, suc, ◌<◌, Bool, true, false, List, [], ◌∷◌, Option, Some, None, Result, Ok, Err, OnOk, length}
 use Rattle.std.proofs.Common.{nat_lt, replicate, refl, sym, ap, ◌∙◌, subst}
 use Rattle.std.proofs.Common.{if◌then◌else◌}
 use Rattle.std.specs.List.{slice_get, list_all}
@@ -18,8 +18,10 @@ use Rattle.switch_core.specs.declared.upkeep.Upkeep.{Upkeep}
 use Rattle.switch_core.specs.declared.upkeep.Upkeep.TheVariants as due
 use Rattle.switch_core.specs.Rows.{EachFrom}
 use Rattle.trace_drive.specs.Follows.{AlikeFrom, FollowsBy, Keeps}
-use Rattle.trace_drive.specs.Turns.{past}
-use Rattle.trace_drive.proofs.Breaking.{then_ok}
+
+pub on_ok : {X E : Type 0} (P Q : Type 0) (r : Result X E) → (P → Q) → OnOk r P → OnOk r Q
+on_ok P Q (Ok x) f p = f p
+on_ok P Q (Err e) f p = p
 
 alike_along : (m n o : Machine) → SameEpochs m n → SameEpochs n o → SameEpochs m o
 alike_along m n o a b = record { recent = a.recent ∙ b.recent; closed = a.closed ∙ b.closed }
@@ -29,7 +31,8 @@ keeps_along a b c k l = record {
   plan = l.plan ∙ k.plan;
   entries = l.entries ∙ k.entries;
   buckets = l.buckets ∙ k.buckets;
-  lanes = l.lanes ∙ k.lanes;
+  lanes = l.lanes
+      ∙ k.lanes;
   places = l.places ∙ k.places;
 }
 
@@ -162,29 +165,50 @@ sweep_follows alike old new after swept f =
     let s = swept.stands f.machines f.stands in
     record { machines = s.0; stands = s.1; alike = swept_alike alike old.buckets after 0 0 f.machines s.0 s.2 f.alike }
 
--- a packet, which doesn't depend on the refresh of a geometry, and a sweep where the clock is due
-turn_as : (number : ℕ) (g : Geometry) (is_due : Bool) (taking : Option Taken) (m : Machine) → is_due ≡ is_refresh g.refresh number
-    → (if is_due then empty_buckets g.buckets (run (geometry_without_refresh g.ways g.buckets) (event_of taking) m)
-    else run (geometry_without_refresh g.ways g.buckets) (event_of taking) m) ≡ after_packet g number (event_of taking) m
-turn_as number g is_due None m due = ap (λ (b : Bool). if b then empty_buckets g.buckets m else m) due
-turn_as number g is_due (Some t) m due =
-    let packed = run g (Packet t.key t.row ∷ []) m in
-    ap (λ (b : Bool). if b then empty_buckets g.buckets packed else packed) due
+-- a packet doesn't depend on the refresh of a geometry
+run_as : (g h : Geometry) (taking : Option Taken) (m : Machine) → g.buckets ≡ h.buckets → g.ways ≡ h.ways
+    → run g (event_of taking) m ≡ run h (event_of taking) m
+run_as g h None m b w = refl
+run_as g h (Some t) m b w =
+    ap (λ n. run (record { buckets = n; ways = g.ways; refresh = 0 }) (Packet t.key t.row ∷ []) m) b
+    ∙ ap (λ n. run (record { buckets = h.buckets; ways = n; refresh = 0 }) (Packet t.key t.row ∷ []) m) w
+
+-- a packet, and a sweep where the clock is_due
+pub turn_as : (ways number : ℕ) (g : Geometry) (is_due : Bool) (buckets next : ℕ) (taking : Option Taken) (m : Machine) → g.ways ≡ ways
+    → g.buckets ≡ buckets → next ≡ buckets → is_due ≡ is_refresh g.refresh number
+    → (if is_due then empty_buckets next (run (geometry_without_refresh ways buckets) (event_of taking) m) else run
+    (geometry_without_refresh ways buckets)
+    (event_of taking) m) ≡ after_packet g number (event_of taking) m
+turn_as ways number g is_due buckets next taking m w b k s =
+    let same = run_as (geometry_without_refresh ways buckets) g taking m (sym b) (sym w) in
+    ap (λ x. if is_due then empty_buckets next x else x) same
+    ∙ (ap (λ n. if is_due then empty_buckets n (run g (event_of taking) m) else run g (event_of taking) m) (k ∙ sym b)
+    ∙ ap (λ (t : Bool). if t then empty_buckets g.buckets (run g (event_of taking) m) else run g (event_of taking) m) s)
 
 -- a turn leads to the machines after the packet's number, whether the clock is due or not
 pub turn_leads : {X E : Type 0} (ways refresh : ℕ) (old new : PipelineView) (words : List ℕ) (is_due : Bool) (Counted : ℕ → Type 0)
-    (r : Result X E) → ((number : ℕ) → Counted number → is_due ≡ is_refresh refresh (suc number))
-    → OnOk r ((after : ℕ → Machine) → FollowsBy after old
-    → FollowsBy (λ i. if is_due then empty_buckets old.buckets (past ways words old after i) else past ways words old after i) new)
+    (r : Result X E)
+    → ((number : ℕ) → Counted number → is_due ≡ is_refresh refresh (suc number))
+    → OnOk r ((after : ℕ → Machine) → FollowsBy after old → FollowsBy (λ i. if is_due then empty_buckets old.buckets
+    (run (geometry_without_refresh ways old.buckets) (event_of (taken old.plan i words)) (after i))
+    else run (geometry_without_refresh ways old.buckets) (event_of (taken old.plan i words)) (after i)) new)
     → OnOk r ((number : ℕ) (after : ℕ → Machine) → Counted number → FollowsBy after old
     → FollowsBy (λ i. after_packet (record { buckets = old.buckets; ways = ways; refresh = refresh }) (suc number)
     (event_of (taken old.plan i words)) (after i)) new)
 turn_leads ways refresh old new words is_due Counted r told =
     let geometry : Geometry = record { buckets = old.buckets; ways = ways; refresh = refresh } in
-    then_ok r _ _ (λ led number after counted f.
-    follows_as (λ i. if is_due then empty_buckets old.buckets (past ways words old after i) else past ways words old after i)
-    (λ i. after_packet geometry (suc number) (event_of (taken old.plan i words)) (after i)) new
-    (λ i. turn_as (suc number) geometry is_due (taken old.plan i words) (after i) (told number counted)) (led after f))
+    let past = λ (after : ℕ → Machine) (i : ℕ). run (geometry_without_refresh ways old.buckets) (event_of (taken old.plan i words))
+    (after i) in
+    let swept = λ (after : ℕ → Machine) (i : ℕ). if is_due then empty_buckets old.buckets (past after i) else past after i in
+    on_ok ((after : ℕ → Machine) → FollowsBy after old → FollowsBy (swept after) new)
+    ((number : ℕ) (after : ℕ → Machine) → Counted number → FollowsBy after old
+    → FollowsBy (λ i. after_packet geometry (suc number) (event_of (taken old.plan i words)) (after i)) new)
+    r
+    (λ led number after counted f.
+    follows_as (swept after) (λ i. after_packet geometry (suc number) (event_of (taken old.plan i words)) (after i)) new
+    (λ i. turn_as ways (suc number) geometry is_due old.buckets old.buckets (taken old.plan i words) (after i) refl refl refl
+    (told number counted))
+    (led after f))
 
 start_alike : EventsKeepAlike → (g : Geometry) (i : ℕ) (groups : List GroupPlan)
     → AlikeFrom (λ j. empty_machine g) i (empty_machines g groups)

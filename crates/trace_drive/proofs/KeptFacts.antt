@@ -58,7 +58,8 @@ by_place m (f ∷ fs) n front [] at from long = absurd (omega arith)
 by_place m (f ∷ fs) n front (word ∷ rest) at from long =
     let here : get_or (front ++ word ∷ rest) (number_of f) 0 ≡ word = get_or_at front word rest 0 (number_of f) (sym (from.0 ∙ at)) in
     let later = by_place m fs (n + 1) (front ++ word ∷ []) rest (one_longer n front word at) from.1 (omega arith) in
-    ap₂ (λ x xs. m f x ∷ xs) here (subst (λ words. map (λ f. m f (get_or words (number_of f) 0)) fs ≡ map (λ p. m p.0 p.1) (zip fs rest))
+    ap₂ (λ x xs. m f x ∷ xs) here
+    (subst (λ words. map (λ f. m f (get_or words (number_of f) 0)) fs ≡ map (λ p. m p.0 p.1) (zip fs rest))
     (append_assoc front (word ∷ []) rest) later)
 
 -- where a packet has a word for each field, the words that are kept are those of the fields beside them
@@ -136,7 +137,8 @@ place_within (suc at) (suc count) width within = omega (
   arith,
   one_times at width,
   one_times count width,
-  place_within at count width (omega arith),
+  place_within at count width
+      (omega arith),
 )
 
 -- a packet more, with 0 in the fields that aren't kept
@@ -147,4 +149,5 @@ kept_more set fields count words packet all long =
     let next : count + 1 ≡ suc count = omega arith in
     let row : packet_in fields (map (word_in packet) fields) ≡ kept_of set packet = rw all (kept_is set packet) in
     ap (λ n. packets_in fields n (words ++ map (word_in packet) fields)) next
-    ∙ (packets_more fields count words (map (word_in packet) fields) long ∙ ap (λ p. packets_in fields count words ++ p ∷ []) row)
+    ∙ (packets_more fields count words (map (word_in packet) fields) long
+    ∙ ap (λ p. packets_in fields count words ++ p ∷ []) row)

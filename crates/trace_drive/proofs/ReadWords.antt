@@ -59,11 +59,13 @@ quad_small (a ∷ []) = tt
 quad_small (a ∷ b ∷ []) = tt
 quad_small (a ∷ b ∷ c ∷ []) = tt
 quad_small (a ∷ b ∷ c ∷ d ∷ []) =
-    let third = λ (w x y : ℕ). option_map (λ z. ((w * 256 + x) * 256 + y) * 256 + z) (octet_word d) in
-    let second = λ (w x : ℕ). option_and_then (third w x) (octet_word c) in
-    then_some (octet_word a) (λ w. option_and_then (second w) (octet_word b)) IsOctet IsWord (below_limit 3 256 a)
-    (λ w hw. then_some (octet_word b) (second w) IsOctet IsWord (below_limit 3 256 b)
-    (λ x hx. then_some (octet_word c) (third w x) IsOctet IsWord (below_limit 3 256 c)
+    then_some (octet_word a) (λ w. option_and_then (λ x. option_and_then
+    (λ y. option_map (λ z. ((w * 256 + x) * 256 + y) * 256 + z) (octet_word d)) (octet_word c)) (octet_word b)) IsOctet IsWord
+    (below_limit 3 256 a)
+    (λ w hw. then_some (octet_word b) (λ x. option_and_then (λ y. option_map (λ z. ((w * 256 + x) * 256 + y) * 256 + z) (octet_word d))
+    (octet_word c)) IsOctet IsWord (below_limit 3 256 b)
+    (λ x hx. then_some (octet_word c) (λ y. option_map (λ z. ((w * 256 + x) * 256 + y) * 256 + z) (octet_word d)) IsOctet IsWord
+    (below_limit 3 256 c)
     (λ y hy. map_some (octet_word d) (λ z. ((w * 256 + x) * 256 + y) * 256 + z) IsOctet IsWord (below_limit 3 256 d)
     (λ z hz. omega arith))))
 quad_small (a ∷ b ∷ c ∷ d ∷ e ∷ rest) = tt

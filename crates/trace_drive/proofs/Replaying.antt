@@ -43,7 +43,8 @@ pub one_more : PacketsFollowTheTrace → TakenUsesAreInTrace → {ways : ℕ} (s
     (event_of (taken old.pipeline.plan i p.words)) (after_packets (geometry_for ways schedule)
     (uses_by old.pipeline.plan i (words_of all)) count)) new.pipeline
     → HasCounted (suc count) new.refreshes → HasCounted (suc count) new.lags → new.refreshes.every ≡ old.refreshes.every
-    → new.lags.every ≡ old.lags.every → IsUnderWay schedule all (count + 1) new
+    → new.lags.every ≡ old.lags.every
+    → IsUnderWay schedule all (count + 1) new
 one_more follow law {ways} schedule all count p old new way given keeps follows refreshes lags refresh lag =
     let g = geometry_for ways schedule in
     let plan = old.pipeline.plan in
@@ -111,7 +112,8 @@ less_left schedule all count old new before after =
 pub at_the_end : SweepsReachTheEnd → {ways : ℕ} (schedule : Schedule) (all : List Packet) (took : Replay ways) (done : PipelineView)
     → IsUnderWay schedule all (length all) took → Keeps took.pipeline done
     → AreLanesOf done.entries done.plan done.buckets done.lanes → ((after : ℕ → Machine) → FollowsBy after took.pipeline
-    → FollowsBy (λ i. empty_buckets took.pipeline.buckets (after i)) done) → AreKept due.Rest done.lanes
+    → FollowsBy (λ i. empty_buckets took.pipeline.buckets (after i)) done)
+    → AreKept due.Rest done.lanes
     → PipelineStands done (end_machines done.plan (geometry_for ways schedule) (words_of all))
     × (list_all lane_is_drained done.lanes ≡ true)
 at_the_end law {ways} schedule all took done way keeps lanes follows none =

@@ -33,13 +33,15 @@ all_taken all count left within = omega (arith, length-drop {A = Packet} count a
 
 -- what is taken of the packet at this place is its event
 event_at : TakenUsesAreInTrace → (plan : PlanParts) (i : ℕ) (all : List Packet) (count : ℕ) (p : Packet) → count < length all
-    → get_or all count p ≡ p → packets_of (suc count) (uses_by plan i (words_of all)) ≡ event_of (taken plan i p.words)
+    → get_or all count p ≡ p
+    → packets_of (suc count) (uses_by plan i (words_of all)) ≡ event_of (taken plan i p.words)
 event_at law plan i all count p within is =
     let words = words_of all in
     let long : length words ≡ length all = length-map all (λ x. x.words) in
     let inside : count < length words = omega arith in
     let many : length (map (taken plan i) words) ≡ length words = length-map words (taken plan i) in
-    law.event (map (taken plan i) words) count (omega arith) ∙ ap event_of (get_or-map (taken plan i) words count p.words None inside
+    law.event (map (taken plan i) words) count (omega arith)
+    ∙ ap event_of (get_or-map (taken plan i) words count p.words None inside
     ∙ ap (taken plan i) (get_or-map (λ (x : Packet). x.words) all count p p.words within ∙ ap (λ x. x.words) is))
 
 -- the machine of a groupby after one packet more
@@ -62,4 +64,5 @@ after_turn follow law g plan here buckets refresh all count p rest left same b r
     let m = after_packets g (uses_by plan i (words_of all)) count in
     ap (λ n. after_packet (record { buckets = n; ways = g.ways; refresh = refresh }) (suc count) (event_of (taken here i p.words)) m) b
     ∙ (ap (λ n. after_packet (record { buckets = g.buckets; ways = g.ways; refresh = n }) (suc count) (event_of (taken here i p.words)) m) r
-    ∙ (ap (λ x. after_packet g (suc count) (event_of (taken x i p.words)) m) same ∙ after_next follow law g plan i all count p rest left))
+    ∙ (ap (λ x. after_packet g (suc count) (event_of (taken x i p.words)) m) same
+    ∙ after_next follow law g plan i all count p rest left))

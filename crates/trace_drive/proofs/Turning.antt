@@ -1,5 +1,5 @@
 -- The events of a packet's turn, one list of them after another.
-use Rattle.std.proofs.Common.{◌≡◌, ℕ, suc, Bool, true, false, List, [], ◌∷◌, ◌++◌, length, map, zero, refl, sym, ap, ◌∙◌, subst, arith}
+use Rattle.std.proofs.Common.{◌≡◌, ℕ, suc, true, false, List, [], ◌∷◌, ◌++◌, length, map, zero, refl, sym, ap, ◌∙◌, subst, arith}
 use Rattle.std.proofs.Common.{append-nil, append_assoc}
 use Rattle.std.proofs.lemmas.List.{length-map}
 use Rattle.epoch_model.specs.Driving.{EventsKeepAlike, event_of}
@@ -10,8 +10,8 @@ use Rattle.stage_plan.specs.Sound.{PlanParts}
 use Rattle.switch_core.specs.Pipelines.{after_events, geometry_without_refresh, packet_events}
 use Rattle.switch_core.specs.PlanLanes.{LaneView, PipelineMakes, PipelineStands, PipelineView, upkeeps_at}
 use Rattle.switch_core.specs.declared.upkeep.Upkeep.TheVariants as due
-use Rattle.trace_drive.specs.Follows.{FollowsBy}
-use Rattle.trace_drive.specs.Turns.{IsPacked, MakesTurn, past, turn_at}
+use Rattle.trace_drive.specs.Follows.{FollowsBy, Keeps}
+use Rattle.trace_drive.specs.Turns.{turn_at}
 use Rattle.trace_drive.proofs.Following.{keeps_along, makes_keeps, packet_follows, upkeep_follows}
 
 run_on : (g : Geometry) (xs ys : List Event) (m : Machine) → run g (xs ++ ys) m ≡ run g ys (run g xs m)
@@ -26,11 +26,17 @@ after_both g xs ys k (m ∷ ms) = ap (λ n. n ∷ after_events g (λ n. xs n ++ 
 
 no_first : (xs ys : List Event) → xs ++ ys ≡ [] → xs ≡ []
 no_first [] ys e = refl
-no_first (x ∷ xs) ys e = absurd (cc)
+no_first (x ∷ xs) ys e = absurd (never e)
+  where
+    never : x ∷ (xs ++ ys) ≡ [] → ⊥
+    never e = cc
 
 no_second : (xs ys : List Event) → xs ++ ys ≡ [] → ys ≡ []
 no_second [] ys e = e
-no_second (x ∷ xs) ys e = absurd (cc)
+no_second (x ∷ xs) ys e = absurd (never e)
+  where
+    never : x ∷ (xs ++ ys) ≡ [] → ⊥
+    never e = cc
 
 -- events, and then others
 pub makes_on : (ways : ℕ) (xs ys : ℕ → List Event) (a b c : PipelineView) → PipelineMakes ways xs a b → PipelineMakes ways ys b c
@@ -118,6 +124,16 @@ makes_none ways p = record {
     same g k [] = refl
     same g k (m ∷ ms) = ap (λ ns. m ∷ ns) (same g (suc k) ms)
 
+-- the machines after a packet with these words
+abbrev pub past : ℕ → List ℕ → PipelineView → (ℕ → Machine) → ℕ → Machine
+past ways words old after i = run (geometry_without_refresh ways old.buckets) (event_of (taken old.plan i words)) (after i)
+
+-- what the packet of a turn, with the room before it, makes of a pipeline
+pub record IsPacked (ways : ℕ) (words : List ℕ) (old packed : PipelineView) : Type 0 where
+  pub makes : PipelineMakes ways (turn_at words false old) old packed
+  pub keeps : Keeps old packed
+  pub follows : (after : ℕ → Machine) → FollowsBy after old → FollowsBy (past ways words old after) packed
+
 pub packed_by : EventsKeepAlike → (ways : ℕ) (words : List ℕ) (old roomy packed : PipelineView)
     → PipelineMakes ways (upkeeps_at due.Room old.lanes) old roomy → PipelineMakes ways (packet_events roomy.plan words) roomy packed
     → IsPacked ways words old packed
@@ -128,7 +144,8 @@ packed_by alike ways words old roomy packed room took = record {
   follows = λ after f.
       let led = packet_follows alike ways words roomy packed after took (upkeep_follows alike ways due.Room old roomy after tt room f) in
       subst (λ (n : ℕ). FollowsBy (λ i. run (geometry_without_refresh ways n) (event_of (taken old.plan i words)) (after i)) packed)
-      room.buckets (subst (λ (plan : PlanParts). FollowsBy
+      room.buckets
+      (subst (λ (plan : PlanParts). FollowsBy
       (λ i. run (geometry_without_refresh ways roomy.buckets) (event_of (taken plan i words)) (after i)) packed) room.plan led);
 }
 
@@ -139,9 +156,3 @@ pub swept_after : (ways : ℕ) (words : List ℕ) (old packed new : PipelineView
 swept_after ways words old packed new p led after f =
     subst (λ (n : ℕ). FollowsBy (λ i. empty_buckets n (past ways words old after i)) new) p.keeps.buckets
     (led (past ways words old after) (p.follows after f))
-
--- a turn, where what is due is told by these tests
-pub turn_due : (ways : ℕ) (words : List ℕ) (old new : PipelineView) (swept late sweep over : Bool) → swept ≡ sweep → late ≡ over
-    → MakesTurn ways words swept late old new → MakesTurn ways words sweep over old new
-turn_due ways words old new swept late sweep over s l made =
-    subst (λ b. MakesTurn ways words b over old new) s (subst (λ b. MakesTurn ways words swept b old new) l made)

@@ -26,7 +26,8 @@ text_unless None text = text
 text_unless (Some fault) text = []
 
 -- A run broke off with an answer; it would have written this text over a trace with this first fault, if it has one.
-module _ {O : Type 0} (taken : O → Option (List ℕ)) (faults : O → ℕ) (text : List ℕ) (fault : Option TraceFault) (old new : O) where
+module _ {O : Type 0} (taken : O → Option (List ℕ)) (faults : O
+    → ℕ) (text : List ℕ) (fault : Option TraceFault) (old new : O) where
   abbrev pub BreaksOff : RunError → Type 0
   BreaksOff (Refused found) = (fault ≡ Some found) × (new ≡ old)
   BreaksOff Memory = TakesFront (taken old) (taken new) (text_unless fault text)

@@ -1,13 +1,10 @@
 -- Which events the lanes of a pipeline make for a packet.
 use Rattle.std.specs.Prelude.{◌≡◌, ℕ, suc, Bool, true, false, List, [], ◌∷◌, ◌++◌, if◌then◌else◌}
-use Rattle.epoch_model.specs.Driving.{event_of}
 use Rattle.epoch_model.specs.Epochs.{is_refresh}
-use Rattle.epoch_model.specs.Machine.{Event, Machine, run}
-use Rattle.stage_plan.specs.Planned.{taken}
-use Rattle.switch_core.specs.Pipelines.{geometry_without_refresh, packet_events}
+use Rattle.epoch_model.specs.Machine.{Event}
+use Rattle.switch_core.specs.Pipelines.{packet_events}
 use Rattle.switch_core.specs.PlanLanes.{PipelineMakes, PipelineView, upkeeps_at}
 use Rattle.switch_core.specs.declared.upkeep.Upkeep.TheVariants as due
-use Rattle.trace_drive.specs.Follows.{FollowsBy, Keeps}
 
 -- a merge of the lane with this number, where the lag is over
 abbrev pub lag_at : Bool → PipelineView → ℕ → List Event
@@ -39,13 +36,3 @@ Drains ways old new = (swept : PipelineView) × PipelineMakes ways (upkeeps_at d
 -- All packets with these words take their turns, from the first one on, and then the pipeline is drained.
 abbrev pub RunsInTurns : ℕ → ℕ → ℕ → List (List ℕ) → PipelineView → PipelineView → Type 0
 RunsInTurns ways refresh lag packets old new = (last : PipelineView) × MakesTurns ways refresh lag 1 packets old last × Drains ways last new
-
--- the machines after a packet with these words
-abbrev pub past : ℕ → List ℕ → PipelineView → (ℕ → Machine) → ℕ → Machine
-past ways words old after i = run (geometry_without_refresh ways old.buckets) (event_of (taken old.plan i words)) (after i)
-
--- What the packet of a turn, with the room before it, makes of a pipeline.
-pub record IsPacked (ways : ℕ) (words : List ℕ) (old packed : PipelineView) : Type 0 where
-  pub makes : PipelineMakes ways (turn_at words false old) old packed
-  pub keeps : Keeps old packed
-  pub follows : (after : ℕ → Machine) → FollowsBy after old → FollowsBy (past ways words old after) packed

@@ -9,7 +9,7 @@ ghost use Rattle.stage_plan.specs.Planned.{taken};
 ghost use Rattle.switch_core.specs.PlanLanes.{PipelineMakes, PipelineView, lane_is_ready, upkeeps_at};
 ghost use Rattle.trace_drive.specs.Clocks.{HasCounted};
 ghost use Rattle.trace_drive.specs.Follows.{FollowsBy, Keeps};
-ghost use Rattle.trace_drive.specs.Turns.{IsPacked, MakesTurn, lag_at};
+ghost use Rattle.trace_drive.specs.Turns.{MakesTurn, lag_at};
 
 use crate::clock::Clock;
 use epoch_model::events_keep_alike;
@@ -41,22 +41,6 @@ fn sweep_after<const WAYS: usize, L: Ledger>(
         return Ok(());
     }
     pipeline.keep_up(Upkeep::Lag, steps)
-}
-
-// A packet, for which full pipes make room before.
-#[inline(always)]
-fn take_packet<const WAYS: usize, L: Ledger>(
-    pipeline: &mut Pipeline<WAYS>,
-    packet: &Packet,
-    steps: &mut Steps<L>,
-) -> Result<(), AllocError>
-    ensures packed { OnOk result (IsPacked WAYS packet.now.words pipeline.old pipeline.new) }
-    ensures steps { steps.old ≤ steps.new }
-{
-    events_keep_alike();
-    pipeline.keep_up(Upkeep::Room, steps)?;
-    pipeline.packet(packet, steps);
-    Ok(())
 }
 
 /// A packet, for which full pipes make room before, and then the sweep and the merges that are due by the clocks.
@@ -91,7 +75,8 @@ pub fn turn<const WAYS: usize, L: Ledger>(
     events_keep_alike();
     let refresh_now = refreshes.is_due();
     let lag_over = lags.is_due();
-    take_packet(pipeline, packet, steps)?;
+    pipeline.keep_up(Upkeep::Room, steps)?;
+    pipeline.packet(packet, steps);
     if refresh_now {
         return sweep_after(pipeline, lag_over, steps);
     }

@@ -15,7 +15,8 @@ loop-field-preserved c =
     elim c.if-has.branch [
       | then-has+in_ok-push w ↦
           let one = among_one set all_fields i f.Switch c.loop-field-test.true (sym c.has.ensures ∙ w.if-has.true) in
-          rw (w.fields-is, w.in_ok-push.ensures.items) (c.loop-field.invariant ∙ (ap (λ rest. so_far ++ rest) one ∙ sym
+          rw (w.fields-is, w.in_ok-push.ensures.items)
+          (c.loop-field.invariant ∙ (ap (λ rest. so_far ++ rest) one ∙ sym
           (append_assoc so_far (get_or all_fields i f.Switch ∷ []) (fields_among (drop (i + 1) all_fields) set))))
       | else-has w ↦
           let other = among_other set all_fields i f.Switch c.loop-field-test.true (sym c.has.ensures ∙ w.if-has.false) in

@@ -17,7 +17,8 @@ loop-field-preserved c =
     let one_more = ap (map word) (take_more fields i f.Switch c.loop-field-test.true) ∙ map-append word (take i fields) (next ∷ []) in
     let got = sym (get_or_from_slice_get c.args.packet.now.words (number_of next) c.get.result 0 c.get.ensures) in
     let items : c.push_reserved.new.self.items ≡ words ++ map word (take (i + 1) fields) =
-    c.push_reserved.ensures.items ∙ (ap₂ (λ so_far last. so_far ++ last ∷ []) c.loop-field.invariant.0 got
+    c.push_reserved.ensures.items
+    ∙ (ap₂ (λ so_far last. so_far ++ last ∷ []) c.loop-field.invariant.0 got
     ∙ (append_assoc words (map word (take i fields)) (word next ∷ []) ∙ ap (λ row. words ++ row) (sym one_more))) in
     let len : vec_len c.push_reserved.new.self ≡ vec_len c.args.words.now + (i + 1) = search rules in
     let capacity : vec_capacity c.push_reserved.new.self ≡ vec_capacity c.args.words.now = search rules in

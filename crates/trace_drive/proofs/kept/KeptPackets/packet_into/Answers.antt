@@ -24,5 +24,6 @@ returns c =
     let row : c.words_from-words.result.now ≡ drop (c.args.at * length fields) words =
     c.words_from-words.ensures.words ∙ ap₂ (λ n ws. drop (c.args.at * n) ws) (c.len.ensures ∙ kept.fields.ok.0) c.deref.ensures.value in
     let found = c.row_into.ensures ∙ ap₂ packet_in c.deref-2.ensures.value row in
-    ap (λ k. slice_get k.packets c.args.at) (sym c.self.view_is) ∙ packet_at fields kept.count words c.args.at (omega arith)
+    ap (λ k. slice_get k.packets c.args.at) (sym c.self.view_is)
+    ∙ packet_at fields kept.count words c.args.at (omega arith)
     ∙ ap Some (sym found)

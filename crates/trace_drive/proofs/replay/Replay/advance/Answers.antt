@@ -8,11 +8,11 @@ use Rattle.trace_drive.proofs.replay.Replay.advance.Goals as goal
 
 pub packets-init : goal.packets-init
 packets-init g c = record {
-  taken = none_taken _;
-  turns = no_turns _;
+  taken = none_taken c.args.self.now;
+  turns = no_turns c.args.self.now;
   fault = refl;
   keeps =
-      keeps_itself _;
+      keeps_itself c.args.self.now.pipeline;
   later = omega arith;
 }
 
@@ -26,10 +26,12 @@ packets-preserved g c =
     let was = c.packets.invariant in
     let done = c.in_ok-step.ensures in
     record {
-      taken = taken_next _ _ _ _ was.taken (done.next (ap Ok c.if-not-branch.false));
-      turns = turns_next _ _ _ c.step.new.self was.taken was.turns (done.turn (ap Ok c.if-not-branch.false));
+      taken = taken_next c.packets._taken c.args.self.now c.packets.self c.step.new.self was.taken
+          (done.next (ap Ok c.if-not-branch.false));
+      turns = turns_next c.packets._taken c.args.self.now c.packets.self c.step.new.self was.taken was.turns
+          (done.turn (ap Ok c.if-not-branch.false));
       fault = done.fault ∙ was.fault;
-      keeps = keeps_along _ _ _ was.keeps done.keeps;
+      keeps = keeps_along c.args.self.now.pipeline c.packets.self.pipeline c.step.new.self.pipeline was.keeps done.keeps;
       later = let a = was.later in let b = c.step.ensures.steps in omega arith;
     }
 
@@ -42,7 +44,7 @@ returns-then-not-branch-clause-end g c is schedule all count way =
 pub returns-then-not-branch-clause-all_turns : goal.returns-then-not-branch-clause-all_turns
 returns-then-not-branch-clause-all_turns g c is =
     let ended = c.in_ok-step.ensures in
-    turns_of_all _ _ _ _ c.packets.invariant.taken c.packets.invariant.turns
+    turns_of_all c.packets._taken c.args.self.now c.packets.self c.step.new.self c.packets.invariant.taken c.packets.invariant.turns
     (ended.end (ap Ok c.if-not-branch.true)) (ended.still (ap Ok c.if-not-branch.true))
 
 pub returns-clause-all : goal.returns-clause-all

@@ -10,7 +10,9 @@ pub returns-in-Ok-clause-next : goal.returns-in-Ok-clause-next
 returns-in-Ok-clause-next g c is schedule all count way =
     let old = c.args.self.now in
     let turned = c.in-Ok.ensures in
-    one_more c.packets_follow_the_trace.ensures c.taken_uses_are_in_trace.ensures schedule all count _ old _ way
+    one_more c.packets_follow_the_trace.ensures c.taken_uses_are_in_trace.ensures schedule all count c.next_into.new.packet old
+    (record { pipeline = c.turn.new.pipeline; packets = c.next_into.new.self; refreshes = c.turn.new.refreshes; lags = c.turn.new.lags })
+    way
     (c.in_ok-next_into.ensures.packet (ap Ok c.if-not-branch.false)) turned.keeps
     (turned.follows count (λ (i : ℕ). after_packets (geometry_for g.row.WAYS schedule) (uses_by old.pipeline.plan i (words_of all)) count)
     way.refreshes way.follows)
@@ -19,9 +21,9 @@ returns-in-Ok-clause-next g c is schedule all count way =
 pub returns-then-not-branch-clause-end : goal.returns-then-not-branch-clause-end
 returns-then-not-branch-clause-end g c is schedule all count way =
     let ended = c.in_ok-next_into.ensures.end (ap Ok c.if-not-branch.true) in
-    none_more _ _ _ _ _ way ended.0 ended.1
+    none_more schedule all count c.args.self.now c.next_into.new.self way ended.0 ended.1
 
 pub returns-in-Ok-clause-turn : goal.returns-in-Ok-clause-turn
 returns-in-Ok-clause-turn g c is schedule all count way =
-    one_turn _ _ _ _ _ _ c.next_into.new.self way
+    one_turn schedule all count c.next_into.new.packet c.args.self.now c.turn.new.pipeline c.next_into.new.self way
     (c.in_ok-next_into.ensures.packet (ap Ok c.if-not-branch.false)) (c.in-Ok.ensures.turns count count way.refreshes way.lags)
