@@ -14,7 +14,8 @@ pub home_within : (print homes : ℕ) → 0 < homes → home_of print homes < ho
 unfolding home_of
 home_within print homes some =
     let spread : ℕ = (print * 0x9e37_79b9_7f4a_7c15) % 2 ^ 64 in
-    let low = and_le_r (bit_xor spread (spread / 2 ^ 32)) (homes - 1) in
+    let mixed : ℕ = (bit_xor spread (spread / 2 ^ 32) * 0x9e37_79b9_7f4a_7c15) % 2 ^ 64 in
+    let low = and_le_r (mixed / 2 ^ 32) (homes - 1) in
     omega (arith, some, low)
 
 -- the last key below a limit is below it

@@ -6,7 +6,8 @@ use Rattle.std.specs.Int.RustNames.{bit_and, bit_xor}
 unfoldable pub home_of : ℕ → ℕ → ℕ
 home_of print homes =
     let spread = (print * 0x9e37_79b9_7f4a_7c15) % 2 ^ 64 in
-    bit_and (bit_xor spread (spread / 2 ^ 32)) (homes - 1)
+    let mixed = (bit_xor spread (spread / 2 ^ 32) * 0x9e37_79b9_7f4a_7c15) % 2 ^ 64 in
+    bit_and (mixed / 2 ^ 32) (homes - 1)
 
 -- the home of the key with a number, by the fingerprints of all keys
 abbrev pub home_at : ℕ → List ℕ → ℕ → ℕ

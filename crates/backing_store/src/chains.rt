@@ -48,7 +48,8 @@ fn home_of(print: u64, homes: usize) -> usize
     ensures within { 0 < homes → result < homes }
 {
     let spread = print.wrapping_mul(0x9e37_79b9_7f4a_7c15);
-    ((spread ^ (spread >> 32)) as usize) & homes.saturating_sub(1)
+    let mixed = (spread ^ (spread >> 32)).wrapping_mul(0x9e37_79b9_7f4a_7c15);
+    ((mixed >> 32) as usize) & homes.saturating_sub(1)
 }
 
 // The last key of a home: one more than its number, or 0.
