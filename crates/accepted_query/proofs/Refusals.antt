@@ -1,8 +1,7 @@
 -- The fault of the first step that has one is the text's first fault.
-use Rattle.std.proofs.Common.{◌≡◌, ℕ, List, ap, ◌∙◌}
-use Rattle.std.specs.Prelude.{Ok, Err}
-use Rattle.query_lang.specs.{declared.error.QueryError.QueryError, declared.query.Query.Query, declared.typed.TypedQuery.TypedQuery}
-use Rattle.query_lang.specs.{Answers.Answers, Answers.IsTold, Checks.and_then, Typing.checked}
+use Rattle.std.{proofs.Common.{◌≡◌, ℕ, List, ap, ◌∙◌}, specs.Prelude.{Ok, Err}}
+use Rattle.query_lang.specs.declared.{error.QueryError.QueryError, query.Query.Query, typed.TypedQuery.TypedQuery}
+use Rattle.query_lang.specs.{Answers.{Answers, IsTold}, Checks.and_then, Typing.checked}
 use Rattle.query_lang.specs.declared.error.QueryError.TheVariants.{Refused, Memory}
 use Rattle.query_grammar.specs.Texts.{parsed_text}
 use Rattle.stage_plan.specs.Depths.{stage_fault}

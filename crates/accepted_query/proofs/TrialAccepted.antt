@@ -1,12 +1,10 @@
 -- The query of a trial is accepted, by computing the definitions.
-use Rattle.std.proofs.Common.{◌≡◌, Bool, true, false, ◌∷◌, refl, ap, ◌∙◌}
-use Rattle.std.specs.Prelude.{Ok, Err}
+use Rattle.std.{proofs.Common.{◌≡◌, Bool, true, false, ◌∷◌, refl, ap, ◌∙◌}, specs.Prelude.{Ok, Err}}
 use Rattle.query_lang.specs.declared.query.Item.TheVariants as item
-use Rattle.query_lang.specs.declared.{typed.TypedQuery.TypedQuery, typing.Earlier.Earlier, typing.Given.Given}
-use Rattle.query_lang.specs.{Lexis.reserved, Lexis.cut, Checks.Checked, Checks.and_then}
-use Rattle.query_lang.specs.Typing.{given_of, start_of, typed_names, items_checked, ended, with_fold, checked}
-use Rattle.query_grammar.specs.{Reading.expr_at, Reading.stmt_at, Texts.parsed_text}
-use Rattle.accepted_query.{specs.Accepted.accepted, specs.Accepted.staged, specs.TrialQuery.trial_query, proofs.TrialSteps.fold_next}
+use Rattle.query_lang.specs.{declared.{typed.TypedQuery.TypedQuery, typing.{Earlier.Earlier, Given.Given}}, Lexis.{reserved, cut}}
+use Rattle.query_lang.specs.{Checks.{Checked, and_then}, Typing.{given_of, start_of, typed_names, items_checked, ended, with_fold, checked}}
+use Rattle.query_grammar.specs.{Reading.{expr_at, stmt_at}, Texts.parsed_text}
+use Rattle.accepted_query.{specs.{Accepted.{accepted, staged}, TrialQuery.trial_query}, proofs.TrialSteps.fold_next}
 use Rattle.accepted_query.proofs.TrialParts.{at, count_fold, lost_fold, oos_fold, deepest_fold, trial_names, trial_rest, trial_read}
 use Rattle.accepted_query.proofs.TrialTyped.{count_typed, count_is, lost_typed, lost_is, oos_typed, oos_is, deepest_typed, deepest_is}
 

@@ -1,8 +1,7 @@
 -- The text of the trial's query as it is read.
 use Rattle.std.specs.Prelude.{ℕ, ◌-◌, ◌^◌, List, [], ◌∷◌, codes}
-use Rattle.query_lang.specs.declared.{fault.Span.Span, query.Name.Name, query.Stmt.TheVariants.Assign, query.Stmt.TheVariants.If}
-use Rattle.query_lang.specs.declared.{query.FoldDef.FoldDef, query.Item.Item, query.Query.Query}
-use Rattle.query_lang.specs.declared.fold.Op.TheVariants.{Add, Eq, Ne, Max}
+use Rattle.query_lang.specs.declared.{fault.Span.Span, query.{Name.Name, Stmt.TheVariants.{Assign, If}, FoldDef.FoldDef, Item.Item}}
+use Rattle.query_lang.specs.declared.{query.Query.Query, fold.Op.TheVariants.{Add, Eq, Ne, Max}}
 use Rattle.query_lang.specs.declared.query.Expr.TheVariants.{Number, Named, Binary, Call}
 use Rattle.query_lang.specs.declared.query.Item.TheVariants as item
 use Rattle.query_lang.specs.declared.query.Key.TheVariants as keys

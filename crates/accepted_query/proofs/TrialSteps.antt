@@ -1,12 +1,9 @@
 -- The typing of expressions, statements and folds whose parts are typed.
-use Rattle.std.proofs.Common.{◌≡◌, ℕ, false, List, [], ◌∷◌, ◌++◌, refl, sym, ap, ◌∙◌}
-use Rattle.std.specs.Prelude.{Ok, map, not, is_some}
-use Rattle.query_lang.specs.declared.{fault.FaultKind.TheVariants.NameTaken, fault.FaultKind.TheVariants.WrongKind, fault.Span.Span}
-use Rattle.query_lang.specs.declared.{fold.Op.Op, fold.Op.TheVariants.Add, fold.TypedExpr.TypedExpr, fold.TypedFold.TypedFold}
-use Rattle.query_lang.specs.declared.{query.FoldDef.FoldDef, query.Item.Item, query.Name.Name, query.Expr.Expr, query.Expr.fold-roll-Expr}
-use Rattle.query_lang.specs.declared.{query.Stmt.Stmt, query.Stmt.fold-roll-Stmt, query.Stmt.TheVariants.rolls-Assign}
-use Rattle.query_lang.specs.declared.{query.Stmt.TheVariants.rolls-If, typing.Body.Body, typing.Enclosing.Enclosing, typing.Earlier.Earlier}
-use Rattle.query_lang.specs.declared.{typing.Found.Found, typing.Given.Given}
+use Rattle.std.{proofs.Common.{◌≡◌, ℕ, false, List, [], ◌∷◌, ◌++◌, refl, sym, ap, ◌∙◌}, specs.Prelude.{Ok, map, not, is_some}}
+use Rattle.query_lang.specs.declared.{fault.{FaultKind.TheVariants.{NameTaken, WrongKind}, Span.Span}, fold.Op.{Op, TheVariants.Add}}
+use Rattle.query_lang.specs.declared.{fold.{TypedExpr.TypedExpr, TypedFold.TypedFold}, query.{FoldDef.FoldDef, Item.Item, Name.Name}}
+use Rattle.query_lang.specs.declared.query.{Expr.{Expr, fold-roll-Expr}, Stmt.{Stmt, fold-roll-Stmt, TheVariants.{rolls-Assign, rolls-If}}}
+use Rattle.query_lang.specs.declared.typing.{Body.Body, Enclosing.Enclosing, Earlier.Earlier, Found.Found, Given.Given}
 use Rattle.query_lang.specs.declared.fold.TypedExpr.TheVariants as typed
 use Rattle.query_lang.specs.declared.fold.TypedStmt.TheVariants as typed_stmt
 use Rattle.query_lang.specs.declared.query.Item.TheVariants as item
@@ -19,8 +16,8 @@ use Rattle.query_lang.specs.declared.typing.Sort.TheVariants as sort
 use Rattle.query_lang.specs.Checks.{Checked, and_then, must, must_not, collected}
 use Rattle.query_lang.specs.TypedExprs.{is_condition_sort, slot_of, of_two, call_of, expr_step, expr_checked, condition_of, word_of}
 use Rattle.query_lang.specs.TypedFolds.{Adding, states_from, args_from, target_of, inside, in_order, new_block, stmt_step, stmt_checked}
-use Rattle.query_lang.specs.TypedFolds.{body_checked, fold_nodes, fold_statements, fold_checked}
-use Rattle.query_lang.specs.{TypedStreams.meaning_of, Typing.with_fold, Typing.items_checked}
+use Rattle.query_lang.specs.{TypedFolds.{body_checked, fold_nodes, fold_statements, fold_checked}, TypedStreams.meaning_of}
+use Rattle.query_lang.specs.Typing.{with_fold, items_checked}
 
 -- ---- expressions
 

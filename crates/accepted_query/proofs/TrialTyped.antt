@@ -1,15 +1,13 @@
 -- The trial's folds are typed, and then its query is.
-use Rattle.std.proofs.Common.{◌≡◌, ℕ, ◌+◌, List, [], ◌∷◌, None, refl, ap, ◌∙◌}
-use Rattle.std.specs.Prelude.{Ok, ◌-◌, ◌^◌}
-use Rattle.query_lang.specs.declared.fold.Op.TheVariants.{Add, Eq, Ne, Max}
-use Rattle.query_lang.specs.declared.{fold.TypedExpr.TypedExpr, fold.TypedFold.TypedFold, fold.TypedStmt.TypedStmt, fault.Span.Span}
-use Rattle.query_lang.specs.declared.{query.Expr.Expr, query.Stmt.Stmt, typing.Found.Found, typing.Body.Body, typing.Enclosing.Enclosing}
+use Rattle.std.{proofs.Common.{◌≡◌, ℕ, ◌+◌, List, [], ◌∷◌, None, refl, ap, ◌∙◌}, specs.Prelude.{Ok, ◌-◌, ◌^◌}}
+use Rattle.query_lang.specs.declared.fold.{Op.TheVariants.{Add, Eq, Ne, Max}, TypedExpr.TypedExpr, TypedFold.TypedFold, TypedStmt.TypedStmt}
+use Rattle.query_lang.specs.declared.{fault.Span.Span, query.{Expr.Expr, Stmt.Stmt}, typing.{Found.Found, Body.Body, Enclosing.Enclosing}}
 use Rattle.query_lang.specs.declared.fold.TypedExpr.TheVariants as typed
 use Rattle.query_lang.specs.declared.fold.TypedStmt.TheVariants as typed_stmt
 use Rattle.query_lang.specs.declared.query.Expr.TheVariants as whole
 use Rattle.query_lang.specs.declared.query.Stmt.TheVariants as statement
 use Rattle.query_lang.specs.declared.typing.Sort.TheVariants as sort
-use Rattle.query_lang.specs.{Checks.and_then, TypedExprs.condition_of, TypedExprs.word_of}
+use Rattle.query_lang.specs.{Checks.and_then, TypedExprs.{condition_of, word_of}}
 use Rattle.query_lang.specs.TypedFolds.{inside, in_order, stmt_checked, body_checked, fold_checked}
 use Rattle.accepted_query.proofs.TrialSteps.{number_is, named_is, binary_is, call_is, word_is, condition_is, names_is, assign_is}
 use Rattle.accepted_query.proofs.TrialSteps.{increment_is, if_is, typed_as, fold_is}

@@ -1,8 +1,6 @@
 -- Which query texts are accepted.
 use Rattle.std.specs.Prelude.{ℕ, List, Option, Some, None, Ok, Err}
-use Rattle.query_lang.specs.declared.fault.QueryFault.{QueryFault}
-use Rattle.query_lang.specs.declared.typed.TypedQuery.{TypedQuery}
-use Rattle.query_lang.specs.Checks.{Checked, and_then}
+use Rattle.query_lang.specs.{declared.{fault.QueryFault.QueryFault, typed.TypedQuery.TypedQuery}, Checks.{Checked, and_then}}
 use Rattle.query_lang.specs.Typing.{checked}
 use Rattle.query_grammar.specs.Texts.{parsed_text}
 use Rattle.stage_plan.specs.Depths.{stage_fault}

@@ -1,8 +1,7 @@
 //! Parsing, typing and planning, in sequence.
 
 ghost use Rattle.std.specs.Prelude.{◌≡◌, Ok, IfOk, IfErr};
-ghost use Rattle.query_lang.specs.Answers.{IsTold};
-ghost use Rattle.query_lang.specs.TypedQueries.{IsValidQuery};
+ghost use Rattle.query_lang.specs.{Answers.IsTold, TypedQueries.IsValidQuery};
 ghost use Rattle.stage_plan.specs.Planned.{IsPlanOf};
 ghost use Rattle.accepted_query.specs.Accepted.{accepted, query_fault};
 

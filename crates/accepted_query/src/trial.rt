@@ -2,8 +2,7 @@
 
 ghost use Rattle.std.specs.Prelude.{◌≡◌, Ok};
 ghost use Rattle.query_lang.specs.declared.typed.TypedQuery.{TypedQuery};
-ghost use Rattle.accepted_query.specs.Accepted.{accepted};
-ghost use Rattle.accepted_query.specs.TrialQuery.{trial_query};
+ghost use Rattle.accepted_query.specs.{Accepted.accepted, TrialQuery.trial_query};
 
 const TRIAL_QUERY: &[u8] = b"def count([c], []) { c = c + 1; }\n\
 def lost([d], [tout]) { if (tout == infinity) { d = d + 1; } }\n\

@@ -1,18 +1,15 @@
 -- A block that only adds does the same from every state: it adds to it.
 use Rattle.std.proofs.Common.{◌≡◌, ℕ, zero, suc, ◌+◌, ◌%◌, ◌^◌, ◌<◌, Bool, true, false, ◌&&◌, List, [], ◌∷◌, ◌++◌, length, set, replicate}
-use Rattle.std.proofs.Common.{slice_index, refl, sym, ap, ◌∙◌, subst, arith, if◌then◌else◌, length-set}
-use Rattle.std.proofs.lemmas.{Bool.Decides.nat_tests, List.get_or_append_left, List.length-replicate}
-use Rattle.std.proofs.lemmas.List.Elements.{All-nil, All-cons, All-head, All-tail}
+use Rattle.std.proofs.{Common.{slice_index, refl, sym, ap, ◌∙◌, subst, arith, if◌then◌else◌, length-set}, lemmas.Bool.Decides.nat_tests}
+use Rattle.std.proofs.lemmas.List.{get_or_append_left, length-replicate, Elements.{All-nil, All-cons, All-head, All-tail}}
 use Rattle.epoch_model.specs.Keys.{ArgRow}
-use Rattle.query_lang.specs.declared.fold.{Op.Op, Op.TheVariants.Add, Op.TheVariants.Sub, TypedFold.TypedFold}
-use Rattle.query_lang.specs.Words.{holds, op_value, IsWord, AreWords}
-use Rattle.query_lang.specs.Terms.{Term, Literal, Read, Negation, Operation}
+use Rattle.query_lang.specs.declared.fold.{Op.{Op, TheVariants.{Add, Sub}}, TypedFold.TypedFold}
+use Rattle.query_lang.specs.{Words.{holds, op_value, IsWord, AreWords}, Terms.{Term, Literal, Read, Negation, Operation}}
 use Rattle.query_lang.specs.Blocks.{Block, End, Set, Fork}
 use Rattle.query_lang.specs.Folds.{term_value, after, body, fold_states, fold_args, fold_block, IsValidBlock}
 use Rattle.fold_code.specs.Additive.{no_variable, names_no_state, adds_or_subtracts, is_variable, is_increment, is_additive_block}
 use Rattle.fold_code.proofs.BlockLemmas.{and_true_left, and_true_right, length-after, known_value, idle}
-use Rattle.additive_laws.specs.Amounts.{zeros, amount, plus}
-use Rattle.additive_laws.specs.Laws.{IsAdditiveFrom}
+use Rattle.additive_laws.specs.{Amounts.{zeros, amount, plus}, Laws.IsAdditiveFrom}
 
 pub length-plus : (xs ys : List ℕ) → length (plus xs ys) ≡ length xs
 length-plus [] ys = refl

@@ -1,8 +1,8 @@
 -- The merged epochs of a key, switch by switch.
 use Rattle.std.proofs.Common.{◌≡◌, ◌≢◌, ℕ, ◌+◌, Bool, true, false, not, ◌||◌, ◌==◌, List, [], ◌∷◌, ◌++◌, length, filter, flat_map, refl}
-use Rattle.std.proofs.Common.{sym, ap, ◌∙◌, subst, arith, append-nil, length-append}
-use Rattle.std.proofs.lemmas.{Bool.true≢false, Bool.false≢true, Bool.Decides.nat_tests}
-use Rattle.epoch_model.{specs.Keys.Key, specs.Keys.ArgRow, specs.Machine.is_of, specs.Machine.lists_of, proofs.KeyLists.by_test}
+use Rattle.std.proofs.{Common.{sym, ap, ◌∙◌, subst, arith, append-nil, length-append}, lemmas.Bool.{true≢false, false≢true}}
+use Rattle.std.proofs.lemmas.Bool.Decides.{nat_tests}
+use Rattle.epoch_model.{specs.{Keys.{Key, ArgRow}, Machine.{is_of, lists_of}}, proofs.KeyLists.by_test}
 use Rattle.additive_laws.specs.Network.{SwitchEpoch, all_epochs, epochs_at}
 use Rattle.additive_laws.specs.TraceLaws.{has_number, AreApart, AreSwitchesOf, EpochsAddUp, EpochsOfOneSwitch}
 

@@ -1,17 +1,12 @@
 -- What the events of a trace give each key, and the keys of the merged epochs.
 use Rattle.std.proofs.Common.{◌≡◌, ℕ, suc, true, false, ◌==◌, List, [], ◌∷◌, ◌++◌, map, Option, Some, None, refl, sym, ap, ◌∙◌, append-nil}
-use Rattle.epoch_model.specs.Keys.{Key, key_eq, has}
-use Rattle.epoch_model.specs.{Epochs.Use, Timeline.NoPacket, Laws.rows_given, TableLaws.keys_given}
-use Rattle.epoch_model.specs.Machine.{Event, Packet, Evict, Merge, lists_of}
-use Rattle.epoch_model.specs.Driving.{Taken, event_of, use_at, uses_taken}
-use Rattle.epoch_model.proofs.KeyLists.{by_test}
-use Rattle.epoch_model.proofs.TableRows.{given-some, joined-some, same_keys}
-use Rattle.additive_laws.{specs.Pieces.rows_joined, proofs.Runs.given_other}
-use Rattle.additive_laws.specs.Network.{SwitchEvent, all_events, events_at, all_epochs}
-use Rattle.additive_laws.proofs.StoreTables.{same_some, as_many, pieces}
-use Rattle.additive_laws.specs.Traces.{Step, from_switch, given, if_packet, packets_among, taken_of, whole_uses, unless_merge}
-use Rattle.additive_laws.specs.Traces.{without_switch_merges, unrefreshed}
-use Rattle.additive_laws.specs.TraceLaws.{rows_used, RunsGiveTheTrace, RunsHavePackets, MergedKeysAreUsed}
+use Rattle.epoch_model.specs.{Keys.{Key, key_eq, has}, Epochs.Use, Timeline.NoPacket, Laws.rows_given, TableLaws.keys_given}
+use Rattle.epoch_model.specs.{Machine.{Event, Packet, Evict, Merge, lists_of}, Driving.{Taken, event_of, use_at, uses_taken}}
+use Rattle.epoch_model.proofs.{KeyLists.by_test, TableRows.{given-some, joined-some, same_keys}}
+use Rattle.additive_laws.specs.{Pieces.rows_joined, Network.{SwitchEvent, all_events, events_at, all_epochs}, Traces.{Step, from_switch}}
+use Rattle.additive_laws.specs.Traces.{given, if_packet, packets_among, taken_of, whole_uses, unless_merge, without_switch_merges}
+use Rattle.additive_laws.specs.{Traces.unrefreshed, TraceLaws.{rows_used, RunsGiveTheTrace, RunsHavePackets, MergedKeysAreUsed}}
+use Rattle.additive_laws.proofs.{Runs.given_other, StoreTables.{same_some, as_many, pieces}}
 
 -- ---- the packets of a run
 

@@ -1,11 +1,9 @@
 -- Rows of several switches: one switch's rows stay in order, and pieces are merged in any order.
 use Rattle.std.proofs.Common.{◌≡◌, ℕ, ◌+◌, Bool, true, false, cond, ◌==◌, List, [], ◌∷◌, ◌++◌, map, filter, slice_index, refl, sym, ap, ◌∙◌}
-use Rattle.std.proofs.Common.{subst, arith}
-use Rattle.std.proofs.lemmas.{Bool.Decides.nat_tests, List.map-append, List.Elements.filter-append, List.Sums.sum_by-cons}
-use Rattle.std.proofs.lemmas.{List.Sums.sum_by-append}
-use Rattle.std.specs.{List.sum_by, List.flat_map, List.Sorted.IsPermutation}
-use Rattle.std.proofs.lemmas.List.Sorted.{IsPermutation-refl, IsPermutation-sym, IsPermutation-trans, IsPermutation-cons}
-use Rattle.std.proofs.lemmas.List.Sorted.{IsPermutation-middle, IsPermutation-map, sum_by-IsPermutation}
+use Rattle.std.proofs.{Common.{subst, arith}, lemmas.{Bool.Decides.nat_tests, List.{map-append, Elements.filter-append}}}
+use Rattle.std.proofs.lemmas.List.{Sums.{sum_by-cons, sum_by-append}, Sorted.{IsPermutation-refl, IsPermutation-sym, IsPermutation-trans}}
+use Rattle.std.proofs.lemmas.List.Sorted.{IsPermutation-cons, IsPermutation-middle, IsPermutation-map, sum_by-IsPermutation}
+use Rattle.std.specs.List.{sum_by, flat_map, Sorted.IsPermutation}
 use Rattle.epoch_model.specs.Keys.{ArgRow}
 use Rattle.query_lang.specs.{declared.fold.TypedFold.TypedFold, Folds.folded}
 use Rattle.additive_laws.specs.{Amounts.amount, Laws.IsAdditiveFrom}

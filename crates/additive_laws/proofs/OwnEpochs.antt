@@ -1,16 +1,13 @@
 -- A switch's merged epochs are those of its own packets.
-use Rattle.std.proofs.Common.{◌≡◌, ℕ, List, [], ◌++◌, Option, refl, ap, ◌∙◌}
-use Rattle.std.specs.Prelude.{slice_index_or}
-use Rattle.epoch_model.{specs.Keys.Key, specs.Keys.bucket_of, specs.Epochs.Geometry, specs.Epochs.epochs, specs.Driving.Taken}
-use Rattle.epoch_model.{proofs.Merges.merges_decide_nothing_lem, proofs.TableRows.closed-lists, proofs.Turns.row_lists_are_epochs_lem}
+use Rattle.std.{proofs.Common.{◌≡◌, ℕ, List, [], ◌++◌, Option, refl, ap, ◌∙◌}, specs.Prelude.slice_index_or}
+use Rattle.epoch_model.specs.{Keys.{Key, bucket_of}, Epochs.{Geometry, epochs}, Driving.Taken}
 use Rattle.epoch_model.specs.Machine.{Machine, Event, run, empty_machine, lists_of, open_in, row_lists}
-use Rattle.epoch_model.specs.Laws.{HasRoom, SameEpochs, unmerged}
+use Rattle.epoch_model.{specs.Laws.{HasRoom, SameEpochs, unmerged}, proofs.{Merges.merges_decide_nothing_lem, TableRows.closed-lists}}
+use Rattle.epoch_model.proofs.Turns.{row_lists_are_epochs_lem}
 use Rattle.epoch_model.specs.Timeline as timeline
 use Rattle.additive_laws.specs.Network.{SwitchEvent, SwitchEpoch, events_at, epochs_at, machine_at, AllMerged}
-use Rattle.additive_laws.specs.Traces.{Step, IsRun, own_uses, taken_of, unrefreshed}
-use Rattle.additive_laws.specs.TraceLaws.{OwnEpochs}
-use Rattle.additive_laws.proofs.Runs.{events_append, no_packet_at, unmerged_at, unmerged_append, unmerged_none, turns, given_events}
-use Rattle.additive_laws.proofs.Runs.{are_turns, turn_uses}
+use Rattle.additive_laws.{specs.{Traces.{Step, IsRun, own_uses, taken_of, unrefreshed}, TraceLaws.OwnEpochs}, proofs.Runs.events_append}
+use Rattle.additive_laws.proofs.Runs.{no_packet_at, unmerged_at, unmerged_append, unmerged_none, turns, given_events, are_turns, turn_uses}
 
 -- machines with the same epochs have the same row lists
 same_lists : (g : Geometry) {m n : Machine} (key : Key) → SameEpochs m n → row_lists g m key ≡ row_lists g n key

@@ -1,9 +1,8 @@
 -- The events of one switch in a run, as turns of its machine.
 use Rattle.std.proofs.Common.{◌≡◌, ℕ, suc, true, false, ◌==◌, List, [], ◌∷◌, ◌++◌, map, filter, Option, Some, None, refl, sym, ap, ◌∙◌}
-use Rattle.std.proofs.lemmas.{Bool.false≢true, List.map-append, List.Elements.filter-append}
-use Rattle.epoch_model.specs.Machine.{Machine, Event, Packet, Evict, Merge, run}
-use Rattle.epoch_model.{specs.Laws.unmerged, proofs.KeyLists.by_test}
-use Rattle.epoch_model.specs.Timeline.{Turn, NoEvict, NoPacket, AreTurns, events_of_turn}
+use Rattle.std.proofs.lemmas.{Bool.false≢true, List.{map-append, Elements.filter-append}}
+use Rattle.epoch_model.specs.{Machine.{Machine, Event, Packet, Evict, Merge, run}, Laws.unmerged}
+use Rattle.epoch_model.{specs.Timeline.{Turn, NoEvict, NoPacket, AreTurns, events_of_turn}, proofs.KeyLists.by_test}
 use Rattle.epoch_model.specs.Timeline as timeline
 use Rattle.epoch_model.specs.Driving.{Taken, event_of, uses_taken}
 use Rattle.additive_laws.specs.Network.{SwitchEvent, all_events, events_at}

@@ -1,11 +1,10 @@
 -- The table of a store that merged the epochs of several switches.
 use Rattle.std.proofs.Common.{◌≡◌, ℕ, true, false, ◌==◌, List, [], ◌∷◌, length, map, flat_map, fold, refl, sym, ap, ◌∙◌, subst, arith}
-use Rattle.std.{specs.List.AllByRecursion, proofs.lemmas.List.Sorted.length_permutation, proofs.lemmas.Bool.Decides.nat_tests}
-use Rattle.epoch_model.{specs.declared.tables.Mark.TheVariants.Exact, specs.Keys.Key, specs.Keys.ascending, specs.Epochs.Geometry}
-use Rattle.epoch_model.{specs.Laws.HasRoom, specs.Laws.rows_given, specs.TableLaws.keys_given, proofs.KeyLists.by_test}
-use Rattle.epoch_model.{proofs.Following.starts-tidy, proofs.Following.starts-lists, proofs.Cuts.IsPiece}
-use Rattle.epoch_model.specs.Machine.{Epoch, lists_of, empty_machine, is_of}
-use Rattle.epoch_model.specs.Tables.{Folding, exact_row, epochs_shown, closed_rows, closed_key_rows, closed_keys}
+use Rattle.std.{proofs.lemmas.{List.Sorted.length_permutation, Bool.Decides.nat_tests}, specs.List.AllByRecursion}
+use Rattle.epoch_model.specs.{declared.tables.Mark.TheVariants.Exact, Keys.{Key, ascending}, Epochs.Geometry, Laws.{HasRoom, rows_given}}
+use Rattle.epoch_model.specs.{TableLaws.keys_given, Machine.{Epoch, lists_of, empty_machine, is_of}}
+use Rattle.epoch_model.{specs.Tables.{Folding, exact_row, epochs_shown, closed_rows, closed_key_rows, closed_keys}, proofs.KeyLists.by_test}
+use Rattle.epoch_model.proofs.{Following.{starts-tidy, starts-lists}, Cuts.IsPiece}
 use Rattle.epoch_model.proofs.TableRows.{some, given-some, joined-some, same_keys, flat_map-single, pieces_kept, closed-lists}
 use Rattle.query_lang.specs.{declared.fold.TypedFold.TypedFold, Folds.body}
 use Rattle.additive_laws.specs.Pieces.{rows_joined, all_rows, lists_merged}

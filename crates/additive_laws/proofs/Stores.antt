@@ -1,9 +1,9 @@
 -- The rows and the pieces of one key, of the events and the merged epochs of several switches.
 use Rattle.std.proofs.Common.{◌≡◌, ℕ, true, false, ◌==◌, List, [], ◌∷◌, ◌++◌, map, filter, refl, sym, ap, ◌∙◌, if◌then◌else◌}
-use Rattle.std.{specs.List.flat_map, proofs.lemmas.List.Sorted.IsPermutation-refl}
-use Rattle.epoch_model.{specs.Keys.Key, specs.Keys.key_eq, specs.Epochs.Geometry, specs.Laws.HasRoom, specs.Laws.rows_given}
-use Rattle.epoch_model.{proofs.KeyLists.by_test, proofs.Rows.no_row_is_lost_lem, proofs.TableRows.closed-lists}
-use Rattle.epoch_model.specs.Machine.{Event, Packet, Evict, Merge, is_of, lists_of}
+use Rattle.std.{proofs.lemmas.List.Sorted.IsPermutation-refl, specs.List.flat_map}
+use Rattle.epoch_model.specs.{Keys.{Key, key_eq}, Epochs.Geometry, Laws.{HasRoom, rows_given}}
+use Rattle.epoch_model.{specs.Machine.{Event, Packet, Evict, Merge, is_of, lists_of}, proofs.{KeyLists.by_test, Rows.no_row_is_lost_lem}}
+use Rattle.epoch_model.proofs.TableRows.{closed-lists}
 use Rattle.query_lang.specs.{declared.fold.TypedFold.TypedFold, Folds.folded}
 use Rattle.additive_laws.specs.Pieces.{Given, Piece, rows_joined, all_rows, rows_from, lists_merged, lists_from, Interleaves}
 use Rattle.additive_laws.specs.Network.{SwitchEvent, SwitchEpoch, all_events, events_at, all_epochs, epochs_at, machine_at, AllMerged}

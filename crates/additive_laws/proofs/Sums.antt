@@ -1,13 +1,11 @@
 -- The state after rows as a sum, and rows in any order.
 use Rattle.std.proofs.Common.{◌≡◌, ℕ, ◌+◌, ◌%◌, ◌^◌, ◌<◌, List, [], ◌∷◌, ◌++◌, length, slice_index, refl, sym, ap, ◌∙◌, subst, arith}
-use Rattle.std.{specs.List.sum_by, specs.List.Sorted.IsPermutation, proofs.lemmas.List.ext_get_or}
-use Rattle.std.proofs.lemmas.List.{Elements.All-get_or, Sums.sum_by-cons, Sums.sum_by-append, Sorted.sum_by-IsPermutation}
+use Rattle.std.proofs.lemmas.List.{ext_get_or, Elements.All-get_or, Sums.{sum_by-cons, sum_by-append}, Sorted.sum_by-IsPermutation}
+use Rattle.std.specs.List.{sum_by, Sorted.IsPermutation}
 use Rattle.epoch_model.specs.Keys.{ArgRow}
-use Rattle.query_lang.specs.{declared.fold.TypedFold.TypedFold, Words.IsWord}
-use Rattle.query_lang.specs.Folds.{body, folded, fold_states, fold_block}
-use Rattle.additive_laws.specs.{Amounts.amount, Laws.IsAdditiveFrom}
+use Rattle.query_lang.specs.{declared.fold.TypedFold.TypedFold, Words.IsWord, Folds.{body, folded, fold_states, fold_block}}
+use Rattle.additive_laws.{specs.{Amounts.amount, Laws.IsAdditiveFrom}, proofs.Adding.{length-amount, plus_at, step_adds, step_stays}}
 use Rattle.fold_code.proofs.BlockLemmas.{length-after}
-use Rattle.additive_laws.proofs.Adding.{length-amount, plus_at, step_adds, step_stays}
 
 pub length-folded : (f : TypedFold) (state : List ℕ) (rows : List ArgRow) → length (folded f state rows) ≡ length state
 length-folded f state [] = refl

@@ -1,19 +1,11 @@
 -- The laws of additive folds.
-use Rattle.std.specs.Prelude.{◌≡◌, ℕ, ◌+◌, ◌%◌, ◌^◌, ◌<◌, true, false, List, ◌∷◌, ◌++◌, length, map}
-use Rattle.std.specs.Prelude.{slice_index, sum_by}
+use Rattle.std.specs.Prelude.{◌≡◌, ℕ, ◌+◌, ◌%◌, ◌^◌, ◌<◌, true, false, List, ◌∷◌, ◌++◌, length, map, slice_index, sum_by}
 use Rattle.std.specs.List.Sorted.{IsPermutation}
-use Rattle.epoch_model.specs.Keys.{Key, ArgRow, ascending}
-use Rattle.epoch_model.specs.Epochs.{Geometry}
-use Rattle.epoch_model.specs.Machine.{lists_of}
-use Rattle.epoch_model.specs.Laws.{HasRoom, rows_given}
-use Rattle.epoch_model.specs.Tables.{Folding, exact_row, closed_rows}
-use Rattle.epoch_model.specs.TableLaws.{keys_given}
-use Rattle.query_lang.specs.declared.fold.TypedFold.{TypedFold}
-use Rattle.query_lang.specs.Words.{AreWords}
-use Rattle.query_lang.specs.Folds.{IsValidFold, fold_states, body, folded}
+use Rattle.epoch_model.specs.{Keys.{Key, ArgRow, ascending}, Epochs.Geometry, Machine.lists_of, Laws.{HasRoom, rows_given}}
+use Rattle.epoch_model.specs.{Tables.{Folding, exact_row, closed_rows}, TableLaws.keys_given}
+use Rattle.query_lang.specs.{declared.fold.TypedFold.TypedFold, Words.AreWords, Folds.{IsValidFold, fold_states, body, folded}}
 use Rattle.fold_code.specs.Additive.{is_additive}
-use Rattle.additive_laws.specs.Amounts.{amount, plus}
-use Rattle.additive_laws.specs.Pieces.{Given, Piece, rows_joined, all_rows, rows_from, lists_merged, Interleaves}
+use Rattle.additive_laws.specs.{Amounts.{amount, plus}, Pieces.{Given, Piece, rows_joined, all_rows, rows_from, lists_merged, Interleaves}}
 use Rattle.additive_laws.specs.Network.{SwitchEvent, SwitchEpoch, all_events, all_epochs, AllMerged}
 
 -- a valid additive fold, and a state for it

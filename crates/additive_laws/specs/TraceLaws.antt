@@ -1,12 +1,7 @@
 -- Which epochs the machines of several switches close of a trace, and what the store that merges them has of a key.
-use Rattle.std.specs.Prelude.{◌≡◌, ◌≢◌, ◌==◌, ℕ, Bool, false, List, [], ◌∷◌, length, map, filter, flat_map}
-use Rattle.std.specs.List.{list_any}
-use Rattle.epoch_model.specs.Keys.{Key, ArgRow, ascending}
-use Rattle.epoch_model.specs.Epochs.{Use, is_use_of, epochs}
-use Rattle.epoch_model.specs.Machine.{lists_of}
-use Rattle.epoch_model.specs.Laws.{HasRoom, rows_given}
-use Rattle.epoch_model.specs.Tables.{closed_keys}
-use Rattle.epoch_model.specs.TableLaws.{keys_given}
+use Rattle.std.specs.{Prelude.{◌≡◌, ◌≢◌, ◌==◌, ℕ, Bool, false, List, [], ◌∷◌, length, map, filter, flat_map}, List.list_any}
+use Rattle.epoch_model.specs.{Keys.{Key, ArgRow, ascending}, Epochs.{Use, is_use_of, epochs}, Machine.lists_of, Laws.{HasRoom, rows_given}}
+use Rattle.epoch_model.specs.{Tables.closed_keys, TableLaws.keys_given}
 use Rattle.additive_laws.specs.Network.{SwitchEvent, SwitchEpoch, all_events, all_epochs, epochs_at, events_at, AllMerged}
 use Rattle.additive_laws.specs.Traces.{Step, HasPackets, IsRun, own_uses, whole_uses, unrefreshed}
 

@@ -1,8 +1,6 @@
 -- A trace's packets by switch, and the events that they give the machines of the switches.
 use Rattle.std.specs.Prelude.{◌≡◌, ℕ, ◌==◌, List, [], ◌∷◌, ◌++◌, map, filter, Option}
-use Rattle.epoch_model.specs.Epochs.{Use, Geometry}
-use Rattle.epoch_model.specs.Machine.{Event, Packet, Evict, Merge}
-use Rattle.epoch_model.specs.Timeline.{NoPacket}
+use Rattle.epoch_model.specs.{Epochs.{Use, Geometry}, Machine.{Event, Packet, Evict, Merge}, Timeline.NoPacket}
 use Rattle.epoch_model.specs.Driving.{Taken, event_of, uses_taken}
 use Rattle.additive_laws.specs.Network.{SwitchEvent, all_events}
 

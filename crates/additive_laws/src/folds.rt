@@ -1,8 +1,7 @@
 //! Laws of additive folds. Each is the contract of a function without a body.
 
-ghost use Rattle.additive_laws.specs.Laws.{StepAdds, StateIsASum, NeighboursMayBeExchanged, RowsComeInAnyOrder};
-ghost use Rattle.additive_laws.specs.Laws.{SwitchesInterleaveAnyWay, PiecesMergeInAnyOrder};
-ghost use Rattle.additive_laws.specs.Laws.{StoreFoldsAllPackets, StoreTableFoldsAllPackets};
+ghost use Rattle.additive_laws.specs.Laws.{StepAdds, StateIsASum, NeighboursMayBeExchanged, RowsComeInAnyOrder, SwitchesInterleaveAnyWay};
+ghost use Rattle.additive_laws.specs.Laws.{PiecesMergeInAnyOrder, StoreFoldsAllPackets, StoreTableFoldsAllPackets};
 
 /// A step adds to each state variable, modulo 2^64, an amount that the argument row alone gives.
 pub fn additive_step_adds()

@@ -1,11 +1,8 @@
 -- Chains of keys: what lies between a key and the one before it, one key more, and keys in chains that begin anew.
 use Rattle.std.proofs.Common.{◌≡◌, ◌≢◌, ℕ, zero, suc, ◌+◌, ◌-◌, ◌*◌, ◌/◌, ◌%◌, ◌^◌, ◌<◌, ◌≤◌, inl, inr, eqb, List, [], ◌∷◌, ◌++◌, length}
-use Rattle.std.proofs.Common.{get_or, refl, sym, ap, ◌∙◌, arith}
-use Rattle.std.specs.Prelude.{set}
+use Rattle.std.proofs.{Common.{get_or, refl, sym, ap, ◌∙◌, arith}, lemmas.Bool.{cases_eq, eqb-true, ne_eqb, true≢false, eq-eqb}}
+use Rattle.std.{proofs.lemmas.{List.{get_or-set_same, get_or-set_other, length-set}, Nat.and_le_r}, specs.Prelude.set}
 use Rattle.std.specs.Int.RustNames.{bit_xor}
-use Rattle.std.proofs.lemmas.Bool.{cases_eq, eqb-true, ne_eqb, true≢false, eq-eqb}
-use Rattle.std.proofs.lemmas.List.{get_or-set_same, get_or-set_other, length-set}
-use Rattle.std.proofs.lemmas.Nat.{and_le_r}
 use Rattle.epoch_model.proofs.KeyLists.{by_test}
 use Rattle.backing_store.specs.Chains.{AreChained, home_at, home_of, last_below}
 

@@ -1,25 +1,15 @@
 -- The rows of a store that holds all closed epochs are those of their table.
 use Rattle.std.proofs.Common.{◌≡◌, ℕ, zero, suc, ◌+◌, ◌<◌, ◌==◌, ◌||◌, Bool, true, false, List, [], ◌∷◌, ◌++◌, length, map, refl, sym, ap}
-use Rattle.std.proofs.Common.{◌∙◌, subst, arith}
-use Rattle.std.specs.List.{flat_map, sum_by}
+use Rattle.std.proofs.{Common.{◌∙◌, subst, arith}, lemmas.List.{map-append, length-map, Sums.{sum_by-append, sum_by-cons}}}
+use Rattle.std.{proofs.lemmas.Bool.{true≢false, lt-ltb, Decides.nat_tests}, specs.List.{flat_map, sum_by}}
 use Rattle.std.specs.Prelude.{nat_lt, if◌then◌else◌}
-use Rattle.std.proofs.lemmas.List.{map-append, length-map}
-use Rattle.std.proofs.lemmas.List.Sums.{sum_by-append, sum_by-cons}
-use Rattle.std.proofs.lemmas.Bool.{true≢false, lt-ltb}
-use Rattle.std.proofs.lemmas.Bool.Decides.{nat_tests}
-use Rattle.epoch_model.specs.declared.tables.Row.{Row}
-use Rattle.epoch_model.specs.declared.tables.Mark.{Mark}
-use Rattle.epoch_model.specs.declared.tables.Mark.TheVariants.{Plain, Valid, Invalid}
-use Rattle.epoch_model.specs.Keys.{Key, ArgRow, key_eq, has, ascending}
-use Rattle.epoch_model.specs.Machine.{Epoch, lists_of}
-use Rattle.epoch_model.specs.Tables.{Folding, folded, epochs_shown, mark_of, exact_row, epoch_rows, closed_key_rows, closed_keys}
-use Rattle.epoch_model.specs.Tables.{closed_rows, closed_epochs}
+use Rattle.epoch_model.specs.declared.tables.{Row.Row, Mark.{Mark, TheVariants.{Plain, Valid, Invalid}}}
+use Rattle.epoch_model.specs.{Keys.{Key, ArgRow, key_eq, has, ascending}, Machine.{Epoch, lists_of}, Tables.{Folding, folded, epochs_shown}}
+use Rattle.epoch_model.specs.Tables.{mark_of, exact_row, epoch_rows, closed_key_rows, closed_keys, closed_rows, closed_epochs}
 use Rattle.epoch_model.proofs.KeyLists.{by_test, key_eq-true, key_eq-refl, key_eq-sym_false}
 use Rattle.epoch_model.proofs.KeyOrder.{ascending-ascends, has-ascending, same_ascending}
-use Rattle.backing_store.specs.Store.{Store, StoredKey, IsStore, AreKeysOf, epochs_of, states_of}
-use Rattle.backing_store.specs.StoreLaws.{keys_of}
-use Rattle.backing_store.specs.SortedRows.{numbered, stored_rows, sorted_rows}
-use Rattle.backing_store.specs.Merged.{StoreHolds, stored, shown_row, epochs_in}
+use Rattle.backing_store.specs.{Store.{Store, StoredKey, IsStore, AreKeysOf, epochs_of, states_of}, StoreLaws.keys_of}
+use Rattle.backing_store.specs.{SortedRows.{numbered, stored_rows, sorted_rows}, Merged.{StoreHolds, stored, shown_row, epochs_in}}
 use Rattle.backing_store.specs.HeldRows.{HeldRowsAreTheTables}
 
 -- the keys of the store and of the closed epochs are the same

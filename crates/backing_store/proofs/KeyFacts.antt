@@ -1,10 +1,8 @@
 -- Rows that are stored one after another in one list of words.
 use Rattle.std.proofs.Common.{◌≡◌, ◌≢◌, ℕ, zero, suc, ◌+◌, ◌-◌, ◌*◌, ◌<◌, ◌≤◌, List, [], ◌∷◌, ◌++◌, length, take, drop, sym, ap, ap₂, ◌∙◌}
-use Rattle.std.proofs.Common.{arith, length-drop, Some, slice_get}
-use Rattle.std.proofs.lemmas.List.{drop-append-le, take-append-le, drop_at, take_all}
-use Rattle.bucket_cache.specs.Slices.{rows_of}
+use Rattle.std.proofs.{Common.{arith, length-drop, Some, slice_get}, lemmas.List.{drop-append-le, take-append-le, drop_at, take_all}}
 use Rattle.std.proofs.lemmas.Option.{slice_get-get_or, slice_get_within, same_Some}
-use Rattle.bucket_cache.proofs.FlatRows.{row_fits, get-rows_of, length-rows_of}
+use Rattle.bucket_cache.{specs.Slices.rows_of, proofs.FlatRows.{row_fits, get-rows_of, length-rows_of}}
 use Rattle.backing_store.specs.Prints.{row_at}
 
 -- a place at which a row is within the words

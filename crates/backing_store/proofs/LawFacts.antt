@@ -1,19 +1,13 @@
 -- What an epoch of a key, and what is written into its last row, mean for each key.
 use Rattle.std.proofs.Common.{◌≡◌, ℕ, suc, zero, ◌<◌, ◌≤◌, ◌||◌, Bool, true, false, cond, List, [], ◌∷◌, ◌++◌, drop, length, slice_get}
-use Rattle.std.proofs.Common.{Some, refl, sym, ap, ◌∙◌, eq-eqb, inl, inr, arith}
-use Rattle.std.specs.Prelude.{◌==◌}
-use Rattle.std.proofs.lemmas.Bool.{cases_lt, ne_eqb}
-use Rattle.std.proofs.lemmas.List.{drop_all}
-use Rattle.std.proofs.lemmas.Option.{same_Some}
-use Rattle.epoch_model.specs.Keys.{Key, has, key_eq}
-use Rattle.epoch_model.proofs.KeyLists.{by_test, key_eq-not, key_eq-refl, key_eq-sym_false, key_eq-true}
+use Rattle.std.proofs.{Common.{Some, refl, sym, ap, ◌∙◌, eq-eqb, inl, inr, arith}, lemmas.{Bool.{cases_lt, ne_eqb}, List.drop_all}}
+use Rattle.std.{proofs.lemmas.Option.same_Some, specs.Prelude.{◌==◌}}
+use Rattle.epoch_model.{specs.Keys.{Key, has, key_eq}, proofs.KeyLists.{by_test, key_eq-not, key_eq-refl, key_eq-sym_false, key_eq-true}}
 use Rattle.bucket_cache.proofs.LentEntries.{over-all}
 use Rattle.backing_store.specs.Store.{AreRowsOf, IsLastIn, Store, StoredKey, StoredRow, makes_row, number_of, row_keys, states_at}
 use Rattle.backing_store.specs.Store.{with_epoch}
 use Rattle.backing_store.specs.StoreLaws.{EpochsAreCounted, KeysAreKept, LastRowsAreWritten, RowsAreAdded, keys_of, with_last}
-use Rattle.backing_store.specs.StoreLending.{with_words_at}
-use Rattle.backing_store.proofs.SortedFacts.{no_states, states_push}
-use Rattle.backing_store.proofs.StateFacts.{written-whole}
+use Rattle.backing_store.{specs.StoreLending.with_words_at, proofs.{SortedFacts.{no_states, states_push}, StateFacts.written-whole}}
 use Rattle.backing_store.proofs.StoreKept.{missing_counted, store_counted}
 
 or_swap : (a b c : Bool) → (a || (b || c)) ≡ (b || (a || c))

@@ -1,11 +1,7 @@
 -- Words that are written over others, row by row.
 use Rattle.std.proofs.Common.{◌≡◌, ℕ, zero, suc, ◌*◌, ◌<◌, List, [], ◌∷◌, ◌++◌, length, take, drop, refl, ap, ◌∙◌}
-use Rattle.bucket_cache.specs.LendingRows.{with_entry, written_over}
-use Rattle.bucket_cache.specs.Slices.{rows_of}
-use Rattle.bucket_cache.proofs.LentEntries.{entry_written}
-use Rattle.backing_store.specs.Store.{StoredRow}
-use Rattle.backing_store.specs.States.{paired, states_in}
-use Rattle.backing_store.specs.StoreLending.{with_words_at}
+use Rattle.bucket_cache.{specs.{LendingRows.{with_entry, written_over}, Slices.rows_of}, proofs.LentEntries.entry_written}
+use Rattle.backing_store.specs.{Store.StoredRow, States.{paired, states_in}, StoreLending.with_words_at}
 
 -- rows are written as entries are
 paired_written : (keys : List ℕ) (rows : List (List ℕ)) (at : ℕ) (w : List ℕ)

@@ -1,12 +1,7 @@
 -- Links of keys, of which each shows a fingerprint and the key before it: one that is put in its chain, and one more.
-use Rattle.std.proofs.Common.{◌≡◌, ℕ, ◌+◌, ◌<◌, List, [], ◌∷◌, ◌++◌, length, get_or, refl, arith}
-use Rattle.std.specs.Prelude.{set}
-use Rattle.std.proofs.Math.ListN.{get_or-map}
-use Rattle.std.proofs.Math.Seq.{map-set_same}
-use Rattle.std.proofs.lemmas.List.{length-map, map-append, map-set}
-use Rattle.backing_store.specs.Chains.{home_of}
-use Rattle.backing_store.specs.Prints.{LinksAreChained, before_of, prints_of}
-use Rattle.backing_store.specs.declared.chains.Link.{Link}
+use Rattle.std.proofs.{Common.{◌≡◌, ℕ, ◌+◌, ◌<◌, List, [], ◌∷◌, ◌++◌, length, get_or, refl, arith}, Math.ListN.get_or-map}
+use Rattle.std.{proofs.{Math.Seq.map-set_same, lemmas.List.{length-map, map-append, map-set}}, specs.Prelude.set}
+use Rattle.backing_store.specs.{Chains.home_of, Prints.{LinksAreChained, before_of, prints_of}, declared.chains.Link.Link}
 use Rattle.backing_store.proofs.ChainFacts.{chained_more, chained_pushed}
 
 abbrev pub no_link : Link

@@ -1,17 +1,12 @@
 -- A store, by its parts, after a key got a row or one of its rows was counted again.
-use Rattle.std.proofs.Common.{◌≡◌, ◌≢◌, ◌<◌, ◌∙◌, ℕ, Bool, true, false, List, [], ◌∷◌, ◌++◌, length, map, get_or, set, slice_get}
-use Rattle.std.proofs.Common.{Some, refl, sym, ap, subst, arith}
-use Rattle.std.specs.List.{zip}
+use Rattle.std.proofs.Common.{◌≡◌, ◌≢◌, ◌<◌, ◌∙◌, ℕ, Bool, true, false, List, [], ◌∷◌, ◌++◌, length, map, get_or, set, slice_get, Some}
+use Rattle.std.{proofs.{Common.{refl, sym, ap, subst, arith}, lemmas.Option.{slice_get_read, slice_get_within}}, specs.List.zip}
 use Rattle.std.specs.Map.{values_of}
-use Rattle.std.proofs.lemmas.Option.{slice_get_read, slice_get_within}
-use Rattle.backing_store.specs.Store.{Store, StoredRow, IsLastIn, IsStore, counted, number_of, one_more, row_keys}
-use Rattle.backing_store.specs.Stored.{stored}
-use Rattle.backing_store.specs.StoreView.{IsSound, IsWhole, SoundFor, store_of, store_with}
-use Rattle.backing_store.specs.declared.store.Merged.{Merged}
-use Rattle.backing_store.specs.declared.store.BackingStore.TheInside.{Inside}
-use Rattle.backing_store.proofs.StoreFacts.{Entry, FirstAt, counted_again, counted_first, counted_row, place_kept, place_pushed}
-use Rattle.backing_store.proofs.StoreFacts.{set_value_at, sound_again, sound_first, sound_row}
-use Rattle.backing_store.proofs.StoreKept.{store_counted}
+use Rattle.backing_store.specs.{Store.{Store, StoredRow, IsLastIn, IsStore, counted, number_of, one_more, row_keys}, Stored.stored}
+use Rattle.backing_store.specs.{StoreView.{IsSound, IsWhole, SoundFor, store_of, store_with}, declared.store.Merged.Merged}
+use Rattle.backing_store.{specs.declared.store.BackingStore.TheInside.Inside, proofs.StoreFacts.{Entry, FirstAt, counted_again}}
+use Rattle.backing_store.proofs.StoreFacts.{counted_first, counted_row, place_kept, place_pushed, set_value_at, sound_again, sound_first}
+use Rattle.backing_store.proofs.{StoreFacts.sound_row, StoreKept.store_counted}
 use Rattle.backing_store.proofs.ZipFacts.{first_of_once, length-zip, none_of_absent, zip-push, zip-set, zip-value}
 
 -- a store of which a row for a key is asked

@@ -1,15 +1,11 @@
 -- A search that follows a chain: of all keys that it has passed none is the one that is sought. And one key more.
-use Rattle.std.proofs.Common.{◌≡◌, ◌≢◌, ℕ, suc, ◌+◌, ◌*◌, ◌<◌, ◌≤◌, inl, inr, List, [], ◌∷◌, length, get_or, refl, sym, ap, ap₂, ◌∙◌, ◌++◌, arith, length-append}
-use Rattle.std.proofs.lemmas.Bool.{cases_eq, cases_lt}
-use Rattle.std.proofs.Math.ListN.{get_or-map}
-use Rattle.std.proofs.lemmas.List.{length-map}
+use Rattle.std.proofs.Common.{◌≡◌, ◌≢◌, ℕ, suc, ◌+◌, ◌*◌, ◌<◌, ◌≤◌, inl, inr, List, [], ◌∷◌, length, get_or, refl, sym, ap, ap₂, ◌∙◌, ◌++◌}
+use Rattle.std.proofs.{Common.{arith, length-append}, lemmas.{Bool.{cases_eq, cases_lt}, List.length-map}, Math.ListN.get_or-map}
 use Rattle.epoch_model.specs.Keys.{Key}
-use Rattle.backing_store.specs.Chains.{home_at, home_of, last_below}
-use Rattle.backing_store.specs.Prints.{AreKeys, LinksAreChained, fingerprint, prints_of, row_at}
+use Rattle.backing_store.specs.{Chains.{home_at, home_of, last_below}, Prints.{AreKeys, LinksAreChained, fingerprint, prints_of, row_at}}
 use Rattle.backing_store.specs.declared.chains.Link.{Link}
 use Rattle.backing_store.proofs.ChainFacts.{below_limit, get_push, get_pushed, home_of_last, home_within, none_between}
-use Rattle.backing_store.proofs.KeyFacts.{row_at-append, row_at-new, row_within}
-use Rattle.backing_store.proofs.LinkFacts.{no_link}
+use Rattle.backing_store.proofs.{KeyFacts.{row_at-append, row_at-new, row_within}, LinkFacts.no_link}
 
 -- no key from a number on is the key, and a key just below the number has the home of the key
 pub record IsFollowed (width : ℕ) (words : List ℕ) (links : List Link) (ends : List ℕ) (key : Key) (next : ℕ) : Type 0 where

@@ -2,13 +2,9 @@
 use Rattle.std.proofs.Common.{◌≡◌, ℕ, zero, suc, ◌+◌, ◌-◌, ◌*◌, ◌<◌, ◌≤◌, List, [], ◌∷◌, ◌++◌, length, take, drop, slice_get, option_map}
 use Rattle.std.proofs.Common.{Some, refl, sym, ap, ap₂, ◌∙◌, arith, length-append}
 use Rattle.std.proofs.lemmas.List.{take_at, take_all, drop_all, take-take, drop-take}
-use Rattle.bucket_cache.specs.Slices.{rows_of}
-use Rattle.bucket_cache.proofs.FlatRows.{length-rows_of}
-use Rattle.backing_store.specs.Prints.{row_at}
-use Rattle.backing_store.specs.States.{StateList, paired, states_in}
-use Rattle.backing_store.specs.Store.{StoredRow, row_keys}
-use Rattle.backing_store.specs.StoreLending.{with_words_at}
-use Rattle.backing_store.proofs.KeyFacts.{got_row, rows_more}
+use Rattle.bucket_cache.{specs.Slices.rows_of, proofs.FlatRows.length-rows_of}
+use Rattle.backing_store.specs.{Prints.row_at, States.{StateList, paired, states_in}, Store.{StoredRow, row_keys}}
+use Rattle.backing_store.{specs.StoreLending.with_words_at, proofs.KeyFacts.{got_row, rows_more}}
 
 pub length-paired : (keys : List ℕ) (rows : List (List ℕ)) → length keys ≡ length rows → length (paired keys rows) ≡ length keys
 length-paired [] rows same = refl

@@ -1,15 +1,10 @@
 -- The entries of the map, as a store's keys.
 use Rattle.std.proofs.Common.{◌≡◌, ℕ, suc, zero, ◌<◌, Bool, true, false, List, [], ◌∷◌, ◌++◌, length, map, slice_get, length-append, Some}
-use Rattle.std.proofs.Common.{None, refl, sym, ap, ◌∙◌, ◌⊎◌, inl, inr, arith, eq-eqb}
-use Rattle.std.specs.Prelude.{◌==◌, ◌||◌}
-use Rattle.std.proofs.lemmas.Bool.{ne_eqb}
-use Rattle.std.specs.Map.{lookup, values_of}
-use Rattle.std.proofs.lemmas.Option.{none-some, same_Some, slice_get_past}
-use Rattle.epoch_model.specs.Keys.{key_eq}
-use Rattle.epoch_model.proofs.KeyLists.{key_eq-refl}
+use Rattle.std.proofs.{Common.{None, refl, sym, ap, ◌∙◌, ◌⊎◌, inl, inr, arith, eq-eqb}, lemmas.Bool.ne_eqb}
+use Rattle.std.{proofs.lemmas.Option.{none-some, same_Some, slice_get_past}, specs.{Prelude.{◌==◌, ◌||◌}, Map.{lookup, values_of}}}
+use Rattle.epoch_model.{specs.Keys.key_eq, proofs.KeyLists.key_eq-refl}
 use Rattle.backing_store.specs.Store.{IsLastIn, counted, number_of, one_more, row_keys, with_epoch, StoredRow}
-use Rattle.backing_store.specs.declared.store.Merged.{Merged}
-use Rattle.backing_store.specs.StoreView.{SoundFor, store_with, stored}
+use Rattle.backing_store.specs.{declared.store.Merged.Merged, StoreView.{SoundFor, store_with, stored}}
 
 -- the entries with another value at a place
 abbrev pub set_value_at : List (List ℕ × Merged) → ℕ → Merged → List (List ℕ × Merged)

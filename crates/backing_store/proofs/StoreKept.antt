@@ -1,13 +1,10 @@
 -- What holds of every store is kept by a counted epoch and by what is written into a row.
 use Rattle.std.proofs.Common.{◌≡◌, ◌↔◌, Some, option_map, slice_get, ℕ, suc, zero, ◌<◌, ◌≤◌, ◌^◌, Bool, false, List, [], ◌∷◌, ◌++◌, length}
-use Rattle.std.proofs.Common.{drop, refl, sym, ap, ◌∙◌, arith}
-use Rattle.std.proofs.lemmas.Option.{same_Some}
-use Rattle.epoch_model.specs.Keys.{Key, key_eq}
-use Rattle.epoch_model.proofs.KeyLists.{by_test, key_eq-sym_false}
+use Rattle.std.proofs.{Common.{drop, refl, sym, ap, ◌∙◌, arith}, lemmas.Option.same_Some}
+use Rattle.epoch_model.{specs.Keys.{Key, key_eq}, proofs.KeyLists.{by_test, key_eq-sym_false}}
 use Rattle.bucket_cache.proofs.LentEntries.{length-over}
 use Rattle.backing_store.specs.Store.{AreKeysOf, AreOnce, AreRowsOf, IsStore, Store, StoredKey, StoredRow, counted, epochs_of, makes_row}
-use Rattle.backing_store.specs.Store.{number_of, one_more, with_epoch}
-use Rattle.backing_store.specs.StoreLending.{with_words_at}
+use Rattle.backing_store.specs.{Store.{number_of, one_more, with_epoch}, StoreLending.with_words_at}
 
 -- one epoch more is one at least, and a word
 one_more-word : (n : ℕ) → (0 < one_more n) × (one_more n < 2 ^ 64)

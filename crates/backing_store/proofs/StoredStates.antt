@@ -1,22 +1,13 @@
 -- One more epoch of a key in a store: what it counts, and what its states are.
 use Rattle.std.proofs.Common.{◌≡◌, ℕ, zero, suc, ◌+◌, ◌<◌, ◌==◌, true, false, List, [], ◌∷◌, ◌++◌, Some, length, map, fold, refl, sym, ap}
-use Rattle.std.proofs.Common.{◌∙◌, subst, arith, length-append}
-use Rattle.std.specs.List.{filter, flat_map}
+use Rattle.std.proofs.{Common.{◌∙◌, subst, arith, length-append}, lemmas.List.{map-append, Elements.filter-append, Sums.fold-append}}
+use Rattle.std.{proofs.lemmas.{Grind.flat_map-append, Bool.{true≢false, Decides.nat_tests}}, specs.List.{filter, flat_map}}
 use Rattle.std.specs.Prelude.{slice_get, option_map, if◌then◌else◌}
-use Rattle.std.proofs.lemmas.List.{map-append}
-use Rattle.std.proofs.lemmas.List.Elements.{filter-append}
-use Rattle.std.proofs.lemmas.List.Sums.{fold-append}
-use Rattle.std.proofs.lemmas.Grind.{flat_map-append}
-use Rattle.std.proofs.lemmas.Bool.{true≢false}
-use Rattle.std.proofs.lemmas.Bool.Decides.{nat_tests}
-use Rattle.epoch_model.specs.Keys.{Key, ArgRow, key_eq}
-use Rattle.epoch_model.specs.Machine.{Epoch, is_of, lists_of}
-use Rattle.epoch_model.specs.Tables.{Folding, folded, epochs_shown}
+use Rattle.epoch_model.specs.{Keys.{Key, ArgRow, key_eq}, Machine.{Epoch, is_of, lists_of}, Tables.{Folding, folded, epochs_shown}}
 use Rattle.epoch_model.proofs.KeyLists.{by_test, key_eq-true}
 use Rattle.backing_store.specs.Store.{Store, StoredKey, StoredRow, IsStore, AreKeysOf, IsLastIn, epochs_of, number_of, one_more, with_epoch}
 use Rattle.backing_store.specs.Store.{makes_row, row_keys, states_at, states_of}
-use Rattle.backing_store.specs.StoreLaws.{EpochsAreCounted, RowsAreAdded, LastRowsAreWritten, with_last}
-use Rattle.backing_store.specs.Merged.{stored}
+use Rattle.backing_store.specs.{StoreLaws.{EpochsAreCounted, RowsAreAdded, LastRowsAreWritten, with_last}, Merged.stored}
 use Rattle.backing_store.specs.HeldRows.{MergedEpochsAreHeld}
 
 -- the rows of one more epoch of a key

@@ -1,14 +1,8 @@
 -- Keys zipped with what is kept for each.
 use Rattle.std.proofs.Common.{◌≡◌, ◌≢◌, ℕ, zero, suc, ◌<◌, List, [], ◌∷◌, ◌++◌, length, map, set, slice_get, None, Some, refl, sym, ap}
-use Rattle.std.proofs.Common.{arith}
-use Rattle.std.specs.List.{zip}
-use Rattle.std.specs.Map.{lookup, values_of}
-use Rattle.std.proofs.lemmas.Option.{same_Some}
-use Rattle.epoch_model.specs.Keys.{Key, key_eq}
-use Rattle.epoch_model.proofs.KeyLists.{by_test, key_eq-refl, key_eq-true}
-use Rattle.backing_store.specs.Store.{AreOnce, number_of, epochs_of}
-use Rattle.backing_store.specs.StoreView.{stored}
-use Rattle.backing_store.specs.declared.store.Merged.{Merged}
+use Rattle.std.{proofs.{Common.arith, lemmas.Option.same_Some}, specs.{List.zip, Map.{lookup, values_of}}}
+use Rattle.epoch_model.{specs.Keys.{Key, key_eq}, proofs.KeyLists.{by_test, key_eq-refl, key_eq-true}}
+use Rattle.backing_store.specs.{Store.{AreOnce, number_of, epochs_of}, StoreView.stored, declared.store.Merged.Merged}
 pub use Rattle.backing_store.proofs.StoreFacts.{length-stored}
 use Rattle.backing_store.proofs.StoreFacts.{FirstAt, set_value_at}
 

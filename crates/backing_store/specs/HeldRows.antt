@@ -1,11 +1,7 @@
 -- A store after one epoch more, and the table of the epochs that a store holds.
 use Rattle.std.specs.Prelude.{◌≡◌, ℕ, true, List, [], ◌∷◌, ◌++◌, Some, length, map, fold, slice_get, option_map, sum_by}
-use Rattle.epoch_model.specs.Keys.{Key, ArgRow}
-use Rattle.epoch_model.specs.Machine.{Epoch}
-use Rattle.epoch_model.specs.Tables.{Folding, epochs_shown, closed_rows, closed_epochs}
-use Rattle.backing_store.specs.Store.{Store, IsStore, IsLastRowOf, counted}
-use Rattle.backing_store.specs.StoreLending.{with_words_at}
-use Rattle.backing_store.specs.SortedRows.{sorted_rows}
+use Rattle.epoch_model.specs.{Keys.{Key, ArgRow}, Machine.Epoch, Tables.{Folding, epochs_shown, closed_rows, closed_epochs}}
+use Rattle.backing_store.specs.{Store.{Store, IsStore, IsLastRowOf, counted}, StoreLending.with_words_at, SortedRows.sorted_rows}
 use Rattle.backing_store.specs.Merged.{StoreHolds, shown_row, epochs_in}
 
 -- One epoch of a key was counted, and its rows folded into the words of the key's last row: the store holds that epoch after the others.

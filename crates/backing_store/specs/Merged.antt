@@ -1,9 +1,6 @@
 -- When a store holds epochs, and the table rows for its rows.
 use Rattle.std.specs.Prelude.{◌≡◌, ℕ, Bool, List, [], ◌∷◌, length, map, flat_map, if◌then◌else◌}
-use Rattle.epoch_model.specs.declared.tables.Mark.TheVariants.{Exact}
-use Rattle.epoch_model.specs.declared.tables.Row.{Row}
-use Rattle.epoch_model.specs.Keys.{Key, ArgRow}
-use Rattle.epoch_model.specs.Machine.{Epoch, lists_of}
+use Rattle.epoch_model.specs.{declared.tables.{Mark.TheVariants.Exact, Row.Row}, Keys.{Key, ArgRow}, Machine.{Epoch, lists_of}}
 use Rattle.epoch_model.specs.Tables.{Folding, folded, epochs_shown, mark_of}
 use Rattle.backing_store.specs.Store.{Store, epochs_of, states_of}
 

@@ -1,9 +1,7 @@
 -- Fingerprints of keys, and how the words of keys and their links show keys that can be found.
 use Rattle.std.specs.Prelude.{◌≡◌, ℕ, List, [], ◌∷◌, ◌*◌, ◌<◌, ◌≤◌, drop, get_or, length, map, take}
 use Rattle.epoch_model.specs.Keys.{Key}
-use Rattle.backing_store.specs.Chains.{AreChained}
-use Rattle.backing_store.specs.SipHash.{sip_hash}
-use Rattle.backing_store.specs.declared.chains.Link.{Link}
+use Rattle.backing_store.specs.{Chains.AreChained, SipHash.sip_hash, declared.chains.Link.Link}
 
 -- the row of a width at a place
 abbrev pub row_at : ℕ → List ℕ → ℕ → List ℕ

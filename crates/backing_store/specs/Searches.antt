@@ -1,9 +1,7 @@
 -- What a search for a key finds.
 use Rattle.std.specs.Prelude.{◌≡◌, ◌≢◌, ℕ, List, ◌<◌, slice_get, Some}
 use Rattle.epoch_model.specs.Keys.{Key}
-use Rattle.backing_store.specs.Prints.{fingerprint, row_at}
-use Rattle.backing_store.specs.declared.chains.Search.{Search}
-use Rattle.backing_store.specs.declared.chains.Search.TheVariants.{Found, Free}
+use Rattle.backing_store.specs.{Prints.{fingerprint, row_at}, declared.chains.Search.{Search, TheVariants.{Found, Free}}}
 
 -- among the words of so many keys: the place of the key, or that it is at no place, and its fingerprint
 abbrev pub Finds : ℕ → List ℕ → ℕ → Key → Search → Type 0

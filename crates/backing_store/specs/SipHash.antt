@@ -1,6 +1,5 @@
 -- SipHash of words: one round for each and three at the end, with keys of 0.
-use Rattle.std.specs.Prelude.{ℕ, ◌+◌, ◌%◌, ◌^◌, List, bit_xor, fold}
-use Rattle.std.specs.Int.{w64, rotate_left}
+use Rattle.std.specs.{Prelude.{ℕ, ◌+◌, ◌%◌, ◌^◌, List, bit_xor, fold}, Int.{w64, rotate_left}}
 use Rattle.backing_store.specs.declared.sip.Sip.{Sip}
 
 abbrev pub wrapping_add : ℕ → ℕ → ℕ

@@ -1,9 +1,8 @@
 -- What an epoch of a key, and what is written into its last row, mean for each key.
 use Rattle.std.specs.Prelude.{ℕ, ◌≡◌, ◌||◌, ◌&&◌, Bool, List, [], ◌∷◌, ◌++◌, if◌then◌else◌, length, map}
 use Rattle.epoch_model.specs.Keys.{Key, has, key_eq}
-use Rattle.backing_store.specs.Store.{IsLastRowOf, IsStore, Store, StoredKey}
-use Rattle.backing_store.specs.Store.{counted, epochs_of, makes_row, one_more, states_of, with_epoch}
-use Rattle.backing_store.specs.StoreLending.{with_words_at}
+use Rattle.backing_store.specs.Store.{IsLastRowOf, IsStore, Store, StoredKey, counted, epochs_of, makes_row, one_more, states_of}
+use Rattle.backing_store.specs.{Store.with_epoch, StoreLending.with_words_at}
 
 -- the keys of a store
 abbrev pub keys_of : List StoredKey → List Key

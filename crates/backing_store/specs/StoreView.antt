@@ -1,11 +1,8 @@
 -- How the fields of a store show it.
-use Rattle.std.specs.Prelude.{ℕ, List, ◌≡◌, length, map, slice_get, Some}
-use Rattle.std.specs.List.{zip}
-use Rattle.std.specs.Map.{values_of}
+use Rattle.std.specs.{Prelude.{ℕ, List, ◌≡◌, length, map, slice_get, Some}, List.zip, Map.values_of}
 use Rattle.backing_store.specs.Store.{IsLastIn, IsStore, Store, StoredRow, row_keys}
 pub use Rattle.backing_store.specs.Stored.{stored}
-use Rattle.backing_store.specs.declared.store.BackingStore.TheInside.{Inside}
-use Rattle.backing_store.specs.declared.store.Merged.{Merged}
+use Rattle.backing_store.specs.declared.store.{BackingStore.TheInside.Inside, Merged.Merged}
 
 abbrev pub store_with : List (List ℕ × Merged) → List StoredRow → ℕ → ℕ → Store
 store_with es rows key_words state_words = record { keys = map stored es; rows = rows; key_words = key_words; state_words = state_words }

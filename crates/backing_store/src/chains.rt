@@ -2,9 +2,7 @@
 
 ghost use Rattle.std.specs.Prelude.{◌≡◌, ℕ, [], ◌∷◌, ◌+◌, ◌*◌, ◌++◌, ◌<◌, ◌≤◌, get_or, length, vec_capacity, vec_len, OnOk, OnErr};
 ghost use Rattle.epoch_model.specs.Keys.{key_eq};
-ghost use Rattle.backing_store.specs.Chains.{home_of};
-ghost use Rattle.backing_store.specs.Prints.{fingerprint, prints_of, row_at, AreKeys, LinksAreChained};
-ghost use Rattle.backing_store.specs.Searches.{Finds};
+ghost use Rattle.backing_store.specs.{Chains.home_of, Prints.{fingerprint, prints_of, row_at, AreKeys, LinksAreChained}, Searches.Finds};
 
 use crate::sip::sip_hash;
 use crate::slices::{is_same, row};

@@ -1,9 +1,7 @@
 //! Keys of one width, in the order in which they were added.
 
-ghost use Rattle.std.specs.Prelude.{◌≡◌, ◌<◌, ◌++◌, ◌∷◌, [], length, slice_get, Some};
-ghost use Rattle.std.specs.Prelude.{IfOk, OnOk, OnErr};
-ghost use Rattle.backing_store.specs.Prints.{fingerprint};
-ghost use Rattle.backing_store.specs.Searches.{FindsKey};
+ghost use Rattle.std.specs.Prelude.{◌≡◌, ◌<◌, ◌++◌, ◌∷◌, [], length, slice_get, Some, IfOk, OnOk, OnErr};
+ghost use Rattle.backing_store.specs.{Prints.fingerprint, Searches.FindsKey};
 
 use crate::chains::{Link, Search, add_key, find_key, first_found};
 use crate::slices::row;
@@ -35,8 +33,7 @@ impl Drop for Keys {
 impl Model for Keys {
     ghost use Rattle.std.specs.Prelude.{length};
     ghost use Rattle.bucket_cache.specs.Slices.{rows_of};
-    ghost use Rattle.backing_store.specs.KeyList.{KeyList};
-    ghost use Rattle.backing_store.specs.Prints.{AreKeys};
+    ghost use Rattle.backing_store.specs.{KeyList.KeyList, Prints.AreKeys};
 
     ghost Value = { KeyList };
 

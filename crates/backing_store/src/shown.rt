@@ -1,11 +1,9 @@
 //! Table rows, from the rows of a store.
 
 ghost use Rattle.std.specs.Prelude.{◌≡◌, ◌<◌, List, length, map, slice_get, slice_set, sum_by, Some, IfOk};
-ghost use Rattle.epoch_model.specs.declared.tables.Row.{Row};
-ghost use Rattle.epoch_model.specs.Machine.{Epoch};
+ghost use Rattle.epoch_model.specs.{declared.tables.Row.Row, Machine.Epoch};
 ghost use Rattle.epoch_model.specs.Tables.{Folding, closed_epochs, closed_rows, epochs_shown, mark_of};
-ghost use Rattle.backing_store.specs.Merged.{StoreHolds, epochs_in, shown_row};
-ghost use Rattle.backing_store.specs.SortedRows.{sorted_rows};
+ghost use Rattle.backing_store.specs.{Merged.{StoreHolds, epochs_in, shown_row}, SortedRows.sorted_rows};
 
 use crate::BackingStore;
 use crate::held::held_rows_are_the_tables;

@@ -1,7 +1,6 @@
 //! Rows of state of one width, each with the number of its key.
 
-ghost use Rattle.std.specs.Prelude.{◌≡◌, ◌<◌, ◌-◌, ◌++◌, ◌∷◌, [], length, option_map, slice_get, take, Some};
-ghost use Rattle.std.specs.Prelude.{IfOk, OnOk, OnErr};
+ghost use Rattle.std.specs.Prelude.{◌≡◌, ◌<◌, ◌-◌, ◌++◌, ◌∷◌, [], length, option_map, slice_get, take, Some, IfOk, OnOk, OnErr};
 
 use crate::slices::row;
 use std::alloc::{AllocError, Global};

@@ -1,14 +1,10 @@
 //! The store: keys with their numbers of epochs, and rows of state.
 
-ghost use Rattle.std.specs.Prelude.{◌≡◌, ◌<◌, ◌↔◌, ℕ, Some, option_map, slice_get, ◌++◌, ◌∷◌, [], IfOk};
-ghost use Rattle.std.specs.Prelude.{OnErr, OnOk, length};
-ghost use Rattle.std.specs.Prelude.{map};
+ghost use Rattle.std.specs.Prelude.{◌≡◌, ◌<◌, ◌↔◌, ℕ, Some, option_map, slice_get, ◌++◌, ◌∷◌, [], IfOk, OnErr, OnOk, length, map};
 ghost use Rattle.std.specs.List.{zip};
 ghost use Rattle.backing_store.specs.SortedRows.{IsMade, sorted_rows};
-ghost use Rattle.backing_store.specs.Store.{AreOnce, AreRowsOf, IsLastRowOf, IsStore, counted, epochs_of, number_of};
-ghost use Rattle.backing_store.specs.Stored.{stored};
-ghost use Rattle.backing_store.specs.Places.{AreByKey};
-ghost use Rattle.backing_store.specs.RowOrder.{Ascends};
+ghost use Rattle.backing_store.specs.{Store.{AreOnce, AreRowsOf, IsLastRowOf, IsStore, counted, epochs_of, number_of}, Stored.stored};
+ghost use Rattle.backing_store.specs.{Places.AreByKey, RowOrder.Ascends};
 
 use crate::chains::Search;
 use crate::fetching::fetch_next;

@@ -2,17 +2,12 @@
 use Rattle.std.proofs.Common.{◌≡◌, ◌≢◌, length-set, ℕ, zero, suc, ◌+◌, ◌-◌, ◌*◌, ◌<◌, ◌≤◌, Bool, true, false, List, [], ◌∷◌, Some, None}
 use Rattle.std.proofs.Common.{length, take, get_or, set, refl, sym, ap, ap₂, ◌∙◌, subst, arith, All, AllPairs, get_or-take}
 use Rattle.std.proofs.Common.{get_or-set_other, get_or-set_same, take-take}
-use Rattle.std.specs.List.{AllByRecursion}
-use Rattle.std.proofs.lemmas.List.{get_or_default, length-map, take-map, get_or-map, length-take-le}
-use Rattle.std.proofs.lemmas.List.Elements.{All-set, recursion_from_All}
-use Rattle.std.proofs.lemmas.Option.{slice_get-get_or, slice_get_past, get_or_from_slice_get}
-use Rattle.epoch_model.specs.Keys.{Key, key_eq}
+use Rattle.std.proofs.lemmas.List.{get_or_default, length-map, take-map, get_or-map, length-take-le, Elements.{All-set, recursion_from_All}}
+use Rattle.std.{proofs.lemmas.Option.{slice_get-get_or, slice_get_past, get_or_from_slice_get}, specs.List.AllByRecursion}
 use Rattle.std.specs.Prelude.{slice_get}
-use Rattle.bucket_cache.specs.Slices.{at_front, rows_of}
-use Rattle.bucket_cache.specs.Touches.{IsLeast}
-use Rattle.bucket_cache.proofs.FlatRows.{length-rows_of, rows_of-words}
-use Rattle.bucket_cache.specs.Buckets.{Pair, has_key, place_of_key, places_of, without_key, AreKeysOnce, pair_at, pairs_at, IsBucket}
-use Rattle.bucket_cache.specs.Buckets.{IsSound}
+use Rattle.epoch_model.specs.Keys.{Key, key_eq}
+use Rattle.bucket_cache.specs.{Slices.{at_front, rows_of}, Touches.IsLeast, Buckets.{Pair, has_key, place_of_key, places_of, without_key}}
+use Rattle.bucket_cache.{specs.Buckets.{AreKeysOnce, pair_at, pairs_at, IsBucket, IsSound}, proofs.FlatRows.{length-rows_of, rows_of-words}}
 use Rattle.bucket_cache.proofs.Fronts.{length-at_front, take-at_front, map-at_front, take_more-at_front, All-at_front, AllPairs-at_front}
 use Rattle.bucket_cache.proofs.PairLists.{absent_head, has-at, place-at, front-pair, once-front, has-front, once-take}
 

@@ -1,19 +1,11 @@
 -- The lists of a cache, by its buckets.
 use Rattle.std.proofs.Common.{◌≡◌, ◌≢◌, ◌⊎◌, ℕ, suc, ◌∷◌, ◌+◌, ◌*◌, ◌<◌, ◌≤◌, List, [], Some, length, map, get_or, take, replicate, All}
 use Rattle.std.proofs.Common.{AllPairs, mul_comm, refl, sym, ap, ◌∙◌, subst, ⊎_elim, arith}
+use Rattle.std.proofs.{Math.Nat.{div-add-mod, mod-lt, div-lt_iff_lt-mul}, lemmas.Bool.{cases_order, ltb-true, ltb-false}}
+use Rattle.std.proofs.lemmas.{List.{get_or-map, length-map, get_or_past, Elements.All-nil, Sums.sum_by_more}, Option.get_or_from_slice_get}
 use Rattle.std.specs.Prelude.{nat_lt, slice_get, sum_by, ◌/◌, ◌%◌}
-use Rattle.std.proofs.Math.Nat.{div-add-mod, mod-lt, div-lt_iff_lt-mul}
-use Rattle.std.proofs.lemmas.Bool.{cases_order, ltb-true, ltb-false}
-use Rattle.std.proofs.lemmas.List.{get_or-map, length-map, get_or_past}
-use Rattle.std.proofs.lemmas.List.Elements.{All-nil}
-use Rattle.std.proofs.lemmas.List.Sums.{sum_by_more}
-use Rattle.std.proofs.lemmas.Option.{get_or_from_slice_get}
-use Rattle.bucket_cache.specs.Buckets.{Pair, Recency, AreKeysOnce}
-use Rattle.bucket_cache.specs.Caches.{IsSoundCache}
-use Rattle.bucket_cache.proofs.Shapes.{IsHome, IsShaped}
-use Rattle.bucket_cache.proofs.FlatRows.{row_fits}
-use Rattle.bucket_cache.proofs.BucketLists.{some-get}
-use Rattle.bucket_cache.proofs.Fronts.{by_test}
+use Rattle.bucket_cache.{specs.{Buckets.{Pair, Recency, AreKeysOnce}, Caches.IsSoundCache}, proofs.Shapes.{IsHome, IsShaped}}
+use Rattle.bucket_cache.proofs.{FlatRows.row_fits, BucketLists.some-get, Fronts.by_test}
 
 abbrev pub lists_of : List Recency → List (List Pair)
 lists_of buckets = map (λ r. r.pairs) buckets

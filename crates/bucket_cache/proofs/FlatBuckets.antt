@@ -1,14 +1,11 @@
 -- Buckets whose parts are stored one after another.
 use Rattle.std.proofs.Common.{◌≡◌, ℕ, zero, suc, ◌+◌, ◌*◌, ◌<◌, List, [], ◌∷◌, ◌++◌, length, take, drop, get_or, set, refl, sym, ap, ap₂}
 use Rattle.std.proofs.Common.{◌∙◌, subst, subst₂, arith, ⊎_elim, length-set, length-drop, get_or-set_same, get_or-set_other}
-use Rattle.std.proofs.lemmas.Bool.{cases_eq}
-use Rattle.std.proofs.lemmas.List.{length-take-le, length-append, length-map, map-set, get_or-map}
-use Rattle.bucket_cache.specs.Slices.{rows_of}
-use Rattle.bucket_cache.specs.Buckets.{Recency, IsBucket, pairs_at}
+use Rattle.std.proofs.lemmas.{Bool.cases_eq, List.{length-take-le, length-append, length-map, map-set, get_or-map}}
+use Rattle.bucket_cache.specs.{Slices.rows_of, Buckets.{Recency, IsBucket, pairs_at}}
 use Rattle.bucket_cache.specs.FlatBuckets.{bucket_of, buckets_from, orders_of, words_of, buckets_of, lists_in, list_in, AreBuckets}
+use Rattle.bucket_cache.proofs.{BucketLists.few-pairs, FlatRows.{row_fits, length-rows_of, get-rows_of, set-rows_of}}
 use Rattle.epoch_model.specs.Keys.{Key}
-use Rattle.bucket_cache.proofs.BucketLists.{few-pairs}
-use Rattle.bucket_cache.proofs.FlatRows.{row_fits, length-rows_of, get-rows_of, set-rows_of}
 
 -- a row of a flat part, the keys of a row of words, and the part with another row
 abbrev pub flat_row : ℕ → ℕ → List ℕ → List ℕ

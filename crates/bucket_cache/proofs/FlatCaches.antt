@@ -1,14 +1,10 @@
 -- A cache whose buckets are stored one after another.
 use Rattle.std.proofs.Common.{◌≡◌, ℕ, ◌*◌, ◌<◌, List, ◌++◌, length, take, drop, get_or, [], sym, ap, ◌∙◌, subst, refl}
 use Rattle.std.proofs.lemmas.List.{get_or_read, take_at}
-use Rattle.bucket_cache.specs.Slices.{rows_of}
-use Rattle.bucket_cache.specs.Buckets.{IsSound, pairs_at}
+use Rattle.bucket_cache.specs.{Slices.rows_of, Buckets.{IsSound, pairs_at}}
 use Rattle.bucket_cache.specs.FlatBuckets.{bucket_of, buckets_of, lists_in, orders_of, words_of, AreBuckets, IsFlatCache}
-use Rattle.bucket_cache.specs.Caches.{Cache, IsSoundCache}
-use Rattle.bucket_cache.proofs.Shapes.{IsHome, IsShaped}
-use Rattle.bucket_cache.proofs.FlatRows.{get-rows_of}
-use Rattle.bucket_cache.proofs.BucketLists.{bucket_sound}
-use Rattle.bucket_cache.proofs.FlatBuckets.{length-buckets_of, length-lists_in, get-buckets_of, order-long}
+use Rattle.bucket_cache.{specs.Caches.{Cache, IsSoundCache}, proofs.{Shapes.{IsHome, IsShaped}, FlatRows.get-rows_of}}
+use Rattle.bucket_cache.proofs.{BucketLists.bucket_sound, FlatBuckets.{length-buckets_of, length-lists_in, get-buckets_of, order-long}}
 use Rattle.bucket_cache.proofs.CacheLists.{cache_sound}
 
 home-flat : (ways kw b : ℕ) (used order words : List ℕ) → AreBuckets ways kw used order words → b < length used

@@ -1,20 +1,15 @@
 -- What is read from buckets that are stored one after another.
 use Rattle.std.proofs.Common.{◌≡◌, ℕ, ◌+◌, ◌-◌, ◌*◌, ◌<◌, ◌≤◌, List, [], Some, None, length, take, drop, get_or, set, replicate, sym, ap}
 use Rattle.std.proofs.Common.{ap₂, ◌∙◌, subst, subst₂, arith, take-append-drop, drop-drop, get_or-drop, get_or-take, take-take}
-use Rattle.std.specs.Prelude.{slice_get, sum_by, ◌/◌, ◌%◌}
-use Rattle.std.proofs.lemmas.List.{drop-take, get_or-replicate, length-replicate, get_or_default, get_or-map}
-use Rattle.std.proofs.lemmas.Nat.{mod-mul-add}
-use Rattle.std.proofs.Math.Nat.{mul_assoc}
-use Rattle.bucket_cache.specs.Slices.{rows_of}
-use Rattle.bucket_cache.specs.Buckets.{Pair, Recency, IsBucket, pairs_at, places_of}
-use Rattle.bucket_cache.specs.Touches.{least_place}
+use Rattle.std.proofs.lemmas.{List.{drop-take, get_or-replicate, length-replicate, get_or_default, get_or-map}, Nat.mod-mul-add}
+use Rattle.std.{proofs.Math.Nat.mul_assoc, specs.Prelude.{slice_get, sum_by, ◌/◌, ◌%◌}}
+use Rattle.bucket_cache.specs.{Slices.rows_of, Buckets.{Pair, Recency, IsBucket, pairs_at, places_of}, Touches.least_place}
 use Rattle.bucket_cache.specs.FlatBuckets.{no_bucket, buckets_of, lists_in, list_in, orders_of, words_of, AreBuckets, IsFlatCache}
 use Rattle.bucket_cache.proofs.FlatRows.{place-word, row_fits, row_width, get-rows_of}
-use Rattle.bucket_cache.proofs.BucketLists.{place-pair, no-place, key-pair, fewer-pairs, fewer-bucket, empty-bucket}
-use Rattle.bucket_cache.proofs.FlatBuckets.{flat_row, flat_keys, with_row, length-buckets_of, get-buckets_of, list-is, bucket-is, all-used}
-use Rattle.bucket_cache.proofs.FlatBuckets.{row-long, order-long, words-long, written-buckets, written-lists}
-use Rattle.bucket_cache.proofs.CacheLists.{pair_home, place_in, bucket_in_range, empty_lists, held_more}
-use Rattle.bucket_cache.proofs.FlatCaches.{shaped}
+use Rattle.bucket_cache.proofs.{BucketLists.{place-pair, no-place, key-pair, fewer-pairs, fewer-bucket, empty-bucket}, FlatBuckets.flat_row}
+use Rattle.bucket_cache.proofs.FlatBuckets.{flat_keys, with_row, length-buckets_of, get-buckets_of, list-is, bucket-is, all-used, row-long}
+use Rattle.bucket_cache.proofs.FlatBuckets.{order-long, words-long, written-buckets, written-lists}
+use Rattle.bucket_cache.proofs.{CacheLists.{pair_home, place_in, bucket_in_range, empty_lists, held_more}, FlatCaches.shaped}
 
 -- a number within a bucket's row is in the flat order, and names a way
 pub record Stands (ways b i : ℕ) (order : List ℕ) : Type 0 where

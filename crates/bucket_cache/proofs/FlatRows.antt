@@ -1,9 +1,7 @@
 -- Rows that are stored one after another in one list of words.
 use Rattle.std.proofs.Common.{◌≡◌, ℕ, zero, suc, ◌+◌, ◌*◌, ◌<◌, ◌≤◌, List, ◌∷◌, ◌++◌, length, take, drop, get_or, set, refl, sym, ap, ap₂}
-use Rattle.std.proofs.Common.{◌∙◌, arith, All, drop-drop, length-drop, append_assoc}
-use Rattle.std.proofs.lemmas.List.{length-take-le, take_at, drop_at}
-use Rattle.std.proofs.Math.Nat.{mul_assoc}
-use Rattle.std.proofs.Math.Seq.{take-add}
+use Rattle.std.proofs.{Common.{◌∙◌, arith, All, drop-drop, length-drop, append_assoc}, lemmas.List.{length-take-le, take_at, drop_at}}
+use Rattle.std.proofs.Math.{Nat.mul_assoc, Seq.take-add}
 use Rattle.bucket_cache.specs.Slices.{rows_of}
 
 -- the row of a way below the number of ways is within the words

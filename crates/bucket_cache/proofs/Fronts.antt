@@ -1,11 +1,9 @@
 -- Lists after one of their elements moved to the front.
 use Rattle.std.proofs.Common.{◌≡◌, ◌≢◌, ◌⊎◌, ℕ, zero, suc, ◌+◌, ◌-◌, ◌<◌, ◌≤◌, Bool, true, false, cond, List, ◌∷◌, ◌++◌, length, take, drop}
 use Rattle.std.proofs.Common.{get_or, map, refl, sym, ap, ap₂, ◌∙◌, ⊎_elim, arith, All, AllPairs, get_or-take, get_or-drop, length-take}
-use Rattle.std.proofs.Common.{length-drop, length-append, take-append-drop, append_assoc, ltb}
-use Rattle.std.proofs.lemmas.List.{drop-append-le, drop_more, map-append, take-map, drop-map, get_or_append_left, get_or-append_right}
-use Rattle.std.proofs.lemmas.List.{take-append-le, take_at, length-take-le}
-use Rattle.std.proofs.lemmas.List.Elements.{All-append, All-take, All-drop}
-use Rattle.std.proofs.lemmas.Bool.{cases_order, ltb-true, ltb-false}
+use Rattle.std.proofs.{Common.{length-drop, length-append, take-append-drop, append_assoc, ltb}, lemmas.List.{drop-append-le, drop_more}}
+use Rattle.std.proofs.lemmas.List.{map-append, take-map, drop-map, get_or_append_left, get_or-append_right, take-append-le, take_at}
+use Rattle.std.proofs.lemmas.{List.{length-take-le, Elements.{All-append, All-take, All-drop}}, Bool.{cases_order, ltb-true, ltb-false}}
 use Rattle.bucket_cache.specs.Slices.{at_front}
 
 pub by_test : {P : Type 0} (t : Bool) → (t ≡ true → P) → (t ≡ false → P) → P

@@ -1,15 +1,9 @@
 -- The parts of one bucket, lent by their bounds and written over.
 use Rattle.std.proofs.Common.{◌≡◌, ℕ, ◌+◌, ◌-◌, ◌*◌, ◌<◌, ◌≤◌, List, ◌++◌, length, take, drop, get_or, set, sym, ap, ap₂, ◌∙◌, subst}
-use Rattle.std.proofs.Common.{subst₂, arith}
-use Rattle.std.proofs.lemmas.List.{set-get_or}
-use Rattle.std.proofs.Math.Nat.{mul-le-mul_left}
+use Rattle.std.proofs.{Common.{subst₂, arith}, lemmas.List.set-get_or, Math.Nat.mul-le-mul_left}
 use Rattle.epoch_model.specs.Keys.{Key}
-use Rattle.bucket_cache.specs.Slices.{rows_of}
-use Rattle.bucket_cache.specs.Buckets.{Pair, IsBucket, pairs_at}
-use Rattle.bucket_cache.specs.FlatBuckets.{lists_in, list_in, AreBuckets}
-use Rattle.bucket_cache.specs.declared.bucket.Touch.{Touch}
-use Rattle.bucket_cache.specs.Touches.{Touches}
-use Rattle.bucket_cache.proofs.FlatRows.{place-word, row_fits}
+use Rattle.bucket_cache.specs.{Slices.rows_of, Buckets.{Pair, IsBucket, pairs_at}, FlatBuckets.{lists_in, list_in, AreBuckets}}
+use Rattle.bucket_cache.{specs.{declared.bucket.Touch.Touch, Touches.Touches}, proofs.FlatRows.{place-word, row_fits}}
 use Rattle.bucket_cache.proofs.FlatBuckets.{flat_row, with_row, list-is, order-long, words-long, bucket-is, all-used, written-buckets}
 use Rattle.bucket_cache.proofs.FlatBuckets.{written-lists, written-list}
 

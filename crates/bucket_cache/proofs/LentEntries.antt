@@ -1,11 +1,8 @@
 -- Words that are written over others, entry by entry.
 use Rattle.std.proofs.Common.{◌≡◌, ℕ, zero, suc, ◌+◌, ◌*◌, ◌<◌, ◌≤◌, List, [], ◌∷◌, ◌++◌, length, take, drop, get_or, set, replicate, refl}
 use Rattle.std.proofs.Common.{sym, ap, ap₂, ◌∙◌, arith, length-append, length-drop, drop-drop, All}
-use Rattle.std.proofs.lemmas.List.{append-nil, take_all, drop_all, length-take-le}
-use Rattle.std.proofs.lemmas.List.Elements.{All-cons, All-head, All-tail}
-use Rattle.bucket_cache.specs.Slices.{rows_of}
-use Rattle.bucket_cache.specs.LendingRows.{with_entry, written_over}
-use Rattle.bucket_cache.proofs.FlatRows.{row_fits}
+use Rattle.std.proofs.lemmas.List.{append-nil, take_all, drop_all, length-take-le, Elements.{All-cons, All-head, All-tail}}
+use Rattle.bucket_cache.{specs.{Slices.rows_of, LendingRows.{with_entry, written_over}}, proofs.FlatRows.row_fits}
 
 over-none : (xs : List ℕ) → written_over xs [] ≡ xs
 over-none xs = take_all (length xs) xs (omega arith)

@@ -1,12 +1,8 @@
 -- Lists of pairs with distinct keys.
 use Rattle.std.proofs.Common.{◌≡◌, ℕ, zero, suc, ◌+◌, ◌<◌, true, false, ◌||◌, List, [], ◌∷◌, ◌++◌, Some, length, take, drop, get_or, find}
-use Rattle.std.proofs.Common.{option_map, refl, sym, ap, ap₂, ◌∙◌, subst, arith, All}
-use Rattle.std.specs.Prelude.{slice_get}
-use Rattle.std.proofs.lemmas.Bool.{true≢false}
-use Rattle.epoch_model.specs.Keys.{Key, key_eq}
-use Rattle.epoch_model.proofs.KeyLists.{key_eq-refl, key_eq-true}
-use Rattle.bucket_cache.specs.Slices.{at_front}
-use Rattle.bucket_cache.specs.Buckets.{Pair, is_pair_of, has_key, place_of_key, places_of, without_key, AreKeysOnce}
+use Rattle.std.{proofs.{Common.{option_map, refl, sym, ap, ap₂, ◌∙◌, subst, arith, All}, lemmas.Bool.true≢false}, specs.Prelude.slice_get}
+use Rattle.epoch_model.{specs.Keys.{Key, key_eq}, proofs.KeyLists.{key_eq-refl, key_eq-true}}
+use Rattle.bucket_cache.specs.{Slices.at_front, Buckets.{Pair, is_pair_of, has_key, place_of_key, places_of, without_key, AreKeysOnce}}
 use Rattle.bucket_cache.proofs.Fronts.{by_test, front-cons}
 
 pub absent_head : (key : Key) (pair : Pair) (pairs : List Pair) → has_key key (pair ∷ pairs) ≡ false → (key_eq pair.key key ≡ false)

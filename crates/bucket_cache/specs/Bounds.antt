@@ -1,8 +1,6 @@
 -- How many steps a use of the cache takes.
 use Rattle.std.specs.Prelude.{ℕ, ◌+◌, ◌*◌, ◌<◌, ◌≤◌}
-use Rattle.bucket_cache.specs.declared.bucket.Touch.{Touch}
-use Rattle.bucket_cache.specs.declared.bucket.Touch.TheVariants.{Full}
-use Rattle.bucket_cache.specs.Touches.{touch_cost, replace_cost}
+use Rattle.bucket_cache.specs.{declared.bucket.Touch.{Touch, TheVariants.Full}, Touches.{touch_cost, replace_cost}}
 
 -- A touch, or a touch that finds the bucket full and the replacement after it, takes at most 2 × ways × (key words + 1) steps.
 pub record AreBounded (ways key_words : ℕ) : Type 0 where

@@ -1,7 +1,6 @@
 -- A bucket's keys by recent use, each with its place.
-use Rattle.std.specs.Prelude.{◌≡◌, ◌≢◌, ℕ, Bool, false, List, [], ◌∷◌, ◌+◌, ◌<◌, ◌≤◌, not, filter, map}
-use Rattle.std.specs.Prelude.{length, take, slice_index_or, All, AllPairs, Option, find, option_map}
-use Rattle.std.specs.List.{list_any}
+use Rattle.std.specs.Prelude.{◌≡◌, ◌≢◌, ℕ, Bool, false, List, [], ◌∷◌, ◌+◌, ◌<◌, ◌≤◌, not, filter, map, length, take, slice_index_or, All}
+use Rattle.std.specs.{Prelude.{AllPairs, Option, find, option_map}, List.list_any}
 use Rattle.epoch_model.specs.Keys.{Key, key_eq}
 use Rattle.bucket_cache.specs.Slices.{rows_of}
 

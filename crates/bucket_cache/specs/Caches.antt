@@ -1,6 +1,5 @@
 -- A cache: for each bucket its pairs, and the entry words by place.
-use Rattle.std.specs.Prelude.{◌≡◌, ℕ, List, [], Some, ◌+◌, ◌*◌, ◌<◌, ◌≤◌, length, slice_get, slice_index_or}
-use Rattle.std.specs.Prelude.{slice_set, replicate, All}
+use Rattle.std.specs.Prelude.{◌≡◌, ℕ, List, [], Some, ◌+◌, ◌*◌, ◌<◌, ◌≤◌, length, slice_get, slice_index_or, slice_set, replicate, All}
 use Rattle.bucket_cache.specs.Buckets.{Pair, AreKeysOnce}
 
 pub record Cache : Type 0 where

@@ -1,7 +1,6 @@
 -- Buckets of one shape, whose parts are stored one after another.
 use Rattle.std.specs.Prelude.{◌≡◌, ℕ, List, [], ◌∷◌, ◌+◌, ◌*◌, ◌<◌, ◌≤◌, length, map, take, slice_index_or, All}
-use Rattle.bucket_cache.specs.Slices.{rows_of}
-use Rattle.bucket_cache.specs.Buckets.{Pair, Recency, pairs_at, IsBucket}
+use Rattle.bucket_cache.specs.{Slices.rows_of, Buckets.{Pair, Recency, pairs_at, IsBucket}}
 
 -- the bucket from this place on: how many of its ways are in use, their order, and the words of its keys
 abbrev pub bucket_of : ℕ → ℕ → ℕ → ℕ → List ℕ → List ℕ → Recency

@@ -1,9 +1,6 @@
 -- What a lent entry leaves of a cache.
-use Rattle.std.specs.Prelude.{ℕ, List}
-use Rattle.std.specs.Borrow.{Lends, MutBor, Fml, RattleType, Array, u64}
-use Rattle.bucket_cache.specs.Caches.{Cache}
-use Rattle.bucket_cache.specs.LendingRows.{with_entry}
-use Rattle.bucket_cache.specs.contracts.cache.BucketCache.{the_row}
+use Rattle.std.specs.{Prelude.{ℕ, List}, Borrow.{Lends, MutBor, Fml, RattleType, Array, u64}}
+use Rattle.bucket_cache.specs.{Caches.Cache, LendingRows.with_entry, contracts.cache.BucketCache.the_row}
 
 abbrev pub with_entry_at : Cache → ℕ → List ℕ → Cache
 with_entry_at cache place words = record cache { entries = with_entry cache.entries place words }

@@ -1,9 +1,7 @@
 -- What a touch answers, and what it leaves.
-use Rattle.std.specs.Prelude.{◌≡◌, ℕ, true, false, List, ◌∷◌, ◌+◌, ◌*◌, ◌<◌, ◌-◌, length, slice_get, take}
-use Rattle.std.specs.Prelude.{Option, Some}
+use Rattle.std.specs.Prelude.{◌≡◌, ℕ, true, false, List, ◌∷◌, ◌+◌, ◌*◌, ◌<◌, ◌-◌, length, slice_get, take, Option, Some}
 use Rattle.epoch_model.specs.Keys.{Key}
-use Rattle.bucket_cache.specs.Buckets.{Pair, has_key, place_of_key, places_of, without_key}
-use Rattle.bucket_cache.specs.declared.bucket.Touch.{Touch}
+use Rattle.bucket_cache.specs.{Buckets.{Pair, has_key, place_of_key, places_of, without_key}, declared.bucket.Touch.Touch}
 use Rattle.bucket_cache.specs.declared.bucket.Touch.TheVariants.{Hit, Free, Full}
 
 -- the place of the least recently used pair, if there is a pair

@@ -1,8 +1,7 @@
 //! One of the buckets whose parts are stored one after another.
 
 ghost use Rattle.std.specs.Prelude.{◌≡◌, ◌+◌, ◌-◌, ◌<◌, ◌≤◌, length, take, false, slice_set};
-ghost use Rattle.bucket_cache.specs.Buckets.{has_key};
-ghost use Rattle.bucket_cache.specs.FlatBuckets.{lists_in, list_in, AreBuckets};
+ghost use Rattle.bucket_cache.specs.{Buckets.has_key, FlatBuckets.{lists_in, list_in, AreBuckets}};
 ghost use Rattle.bucket_cache.specs.Touches.{Touches, IsLeast, IsNotFirst, with_pair_first, touch_cost, replace_cost};
 
 use crate::bucket::Touch;

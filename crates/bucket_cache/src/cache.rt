@@ -1,12 +1,10 @@
 //! The buckets of a cache.
 
-ghost use Rattle.std.specs.Prelude.{◌≡◌, ℕ, List, ◌+◌, ◌-◌, ◌*◌, ◌<◌, ◌≤◌, length, take, false, IfErr, IfOk, OnErr, Some};
-ghost use Rattle.std.specs.Prelude.{slice_get, slice_set, sum_by};
-ghost use Rattle.std.specs.Borrow.{sem};
+ghost use Rattle.std.specs.Prelude.{◌≡◌, ℕ, List, ◌+◌, ◌-◌, ◌*◌, ◌<◌, ◌≤◌, length, take, false, IfErr, IfOk, OnErr, Some, slice_get};
+ghost use Rattle.std.specs.{Prelude.{slice_set, sum_by}, Borrow.sem};
 ghost use Rattle.bucket_cache.specs.Buckets.{Pair, has_key, places_of};
 ghost use Rattle.bucket_cache.specs.Touches.{Touches, IsLeast, IsNotFirst, least_place, with_pair_first, touch_cost, replace_cost};
-ghost use Rattle.bucket_cache.specs.LendingRows.{with_entry};
-ghost use Rattle.bucket_cache.specs.Caches.{Cache, list_at, entry_at, with_list, empty_cache, IsSoundCache};
+ghost use Rattle.bucket_cache.specs.{LendingRows.with_entry, Caches.{Cache, list_at, entry_at, with_list, empty_cache, IsSoundCache}};
 
 use crate::bucket::Touch;
 use crate::buckets::{replace_in_bucket, touch_bucket};
@@ -47,8 +45,7 @@ impl<const WAYS: usize> Drop for BucketCache<WAYS> {
 }
 
 impl<const WAYS: usize> Model for BucketCache<WAYS> {
-    ghost use Rattle.bucket_cache.specs.Caches.{Cache};
-    ghost use Rattle.bucket_cache.specs.FlatBuckets.{lists_in, IsFlatCache};
+    ghost use Rattle.bucket_cache.specs.{Caches.Cache, FlatBuckets.{lists_in, IsFlatCache}};
 
     ghost Value = { Cache };
 

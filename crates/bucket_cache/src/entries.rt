@@ -1,7 +1,6 @@
 //! The words of an entry at each place.
 
-ghost use Rattle.std.specs.Prelude.{◌≡◌, ℕ, ◌+◌, ◌<◌, ◌≤◌, List, [], length, slice_index_or, replicate, IfOk};
-ghost use Rattle.std.specs.Borrow.{sem};
+ghost use Rattle.std.specs.{Prelude.{◌≡◌, ℕ, ◌+◌, ◌<◌, ◌≤◌, List, [], length, slice_index_or, replicate, IfOk}, Borrow.sem};
 ghost use Rattle.bucket_cache.specs.LendingRows.{LendsEntry};
 
 use crate::slices::row;

@@ -1,10 +1,9 @@
 //! The ways of one bucket: their order by recent use, with free ways at the end, and the words of their keys.
 
-ghost use Rattle.std.specs.Prelude.{◌≡◌, ℕ, ◌+◌, ◌-◌, ◌*◌, ◌<◌, ◌≤◌, length, take, slice_index};
-ghost use Rattle.std.specs.Prelude.{slice_index_or, slice_set, IfSome, IfNone, true, false, All, []};
+ghost use Rattle.std.specs.Prelude.{◌≡◌, ℕ, ◌+◌, ◌-◌, ◌*◌, ◌<◌, ◌≤◌, length, take, slice_index, slice_index_or, slice_set, IfSome, IfNone};
+ghost use Rattle.std.specs.Prelude.{true, false, All, []};
 ghost use Rattle.epoch_model.specs.Keys.{key_eq};
-ghost use Rattle.bucket_cache.specs.Slices.{at_front};
-ghost use Rattle.bucket_cache.specs.Buckets.{pairs_at, has_key, way_keys, IsBucket};
+ghost use Rattle.bucket_cache.specs.{Slices.at_front, Buckets.{pairs_at, has_key, way_keys, IsBucket}};
 ghost use Rattle.bucket_cache.specs.Touches.{Touches, IsLeast, IsNotFirst, with_pair_first, touch_cost, replace_cost};
 
 use crate::bucket::Touch;

@@ -1,8 +1,7 @@
 -- Sums of elements, and what the composition of two maps does.
 use Rattle.std.proofs.Common.{◌≡◌, ℕ, zero, suc, ◌<◌, ◌≤◌, Bool, true, false, ◌==◌, nat_lt, if◌then◌else◌, refl, sym, ap, ◌∙◌, subst, arith}
 use Rattle.std.proofs.lemmas.Bool.Decides.{nat_tests}
-use Rattle.coeff_algebra.specs.Elements.{Elements, ElementLaws, IsWordOf}
-use Rattle.coeff_algebra.specs.Maps.{sum_below, map_apply, map_compose, HasWord}
+use Rattle.coeff_algebra.specs.{Elements.{Elements, ElementLaws, IsWordOf}, Maps.{sum_below, map_apply, map_compose, HasWord}}
 
 module _ {C : Type 0} {is_element : C → Type 0} {k : Elements C} (s : ElementLaws is_element k) where
   abbrev o : C

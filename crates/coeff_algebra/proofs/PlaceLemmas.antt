@@ -1,8 +1,6 @@
 -- Where the elements of a table are in the words.
 use Rattle.std.proofs.Common.{◌≡◌, ◌≢◌, ℕ, ◌+◌, ◌-◌, ◌*◌, ◌<◌, ◌≤◌, Bool, true, false, nat_lt, List, ◌++◌, length, take, drop, refl, sym}
-use Rattle.std.proofs.Common.{ap, ◌∙◌, subst, arith, length-take}
-use Rattle.std.proofs.lemmas.Bool.Decides.{nat_tests}
-use Rattle.std.proofs.lemmas.List.{drop-take, take_at, drop_at}
+use Rattle.std.proofs.{Common.{ap, ◌∙◌, subst, arith, length-take}, lemmas.{Bool.Decides.nat_tests, List.{drop-take, take_at, drop_at}}}
 use Rattle.std.proofs.lemmas.Slice.{take-put_mid_below, drop-put_mid}
 use borrow.Rule.Slice.PartMut.{put_mid, post_of}
 use Rattle.coeff_algebra.specs.Maps.{stored_at}

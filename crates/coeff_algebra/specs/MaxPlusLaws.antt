@@ -1,7 +1,6 @@
 -- Words with an absent element form a semiring.
 use Rattle.std.proofs.Common.{◌≡◌, length, refl, ap, arith}
-use Rattle.coeff_algebra.specs.Elements.{ElementLaws, StorageLaws, IsWordOf}
-use Rattle.coeff_algebra.specs.declared.max_plus.MaxPlus64.{MaxPlus64}
+use Rattle.coeff_algebra.specs.{Elements.{ElementLaws, StorageLaws, IsWordOf}, declared.max_plus.MaxPlus64.MaxPlus64}
 use Rattle.coeff_algebra.specs.declared.max_plus.MaxPlus64.TheVariants.{Absent, Word}
 use Rattle.coeff_algebra.specs.MaxPlusModel.{max_plus_add, max_plus_mul, IsMaxPlus, max_plus_elements, max_plus_words, max_plus_from_words}
 

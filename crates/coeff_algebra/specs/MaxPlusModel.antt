@@ -1,9 +1,7 @@
 -- Words with an absent element as coefficients.
 use Rattle.std.specs.Prelude.{ℕ, ◌+◌, ◌-◌, ◌^◌, min, max, ◌==◌, if◌then◌else◌, List, [], ◌∷◌, slice_index}
 use Rattle.query_lang.specs.Words.{IsWord}
-use Rattle.coeff_algebra.specs.Elements.{Elements}
-use Rattle.coeff_algebra.specs.declared.max_plus.MaxPlus64.{MaxPlus64}
-use Rattle.coeff_algebra.specs.declared.max_plus.MaxPlus64.TheVariants.{Absent, Word}
+use Rattle.coeff_algebra.specs.{Elements.Elements, declared.max_plus.MaxPlus64.{MaxPlus64, TheVariants.{Absent, Word}}}
 
 abbrev pub max_plus_embed : ℕ → MaxPlus64
 max_plus_embed n = Word n

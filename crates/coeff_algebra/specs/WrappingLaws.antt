@@ -1,6 +1,5 @@
 -- Words modulo 2^64 form a semiring.
-use Rattle.std.proofs.Common.{◌≡◌, ℕ, ◌+◌, ◌*◌, ◌%◌, ◌^◌, refl, ap, sym, ◌∙◌, arith}
-use Rattle.std.proofs.lemmas.Nat.{mul-mod_first}
+use Rattle.std.proofs.{Common.{◌≡◌, ℕ, ◌+◌, ◌*◌, ◌%◌, ◌^◌, refl, ap, sym, ◌∙◌, arith}, lemmas.Nat.mul-mod_first}
 use Rattle.std.proofs.Math.Nat.{mul_comm, mul_assoc, mul-add, add-mul}
 use Rattle.coeff_algebra.specs.Elements.{ElementLaws, StorageLaws}
 use Rattle.coeff_algebra.specs.WrappingModel.{wrapping_embed, IsWrapping, wrapping_elements, wrapping_words, wrapping_from_words}

@@ -1,8 +1,7 @@
 -- Words modulo 2^64 as coefficients.
 use Rattle.std.specs.Prelude.{ℕ, ◌+◌, ◌*◌, ◌%◌, ◌^◌, List, [], ◌∷◌, slice_index}
 use Rattle.query_lang.specs.Words.{IsWord}
-use Rattle.coeff_algebra.specs.Elements.{Elements}
-use Rattle.coeff_algebra.specs.declared.wrapping.Wrapping64.{Wrapping64}
+use Rattle.coeff_algebra.specs.{Elements.Elements, declared.wrapping.Wrapping64.Wrapping64}
 
 abbrev pub wrapping_embed : ℕ → Wrapping64
 wrapping_embed n = record { word = n }

@@ -1,14 +1,9 @@
 -- What a command with a check of its own refuses.
 use Rattle.std.proofs.Common.{◌≡◌, ℕ, List, Option, None, Some, IfSome, Ok, Err, ap, refl, ◌∙◌}
-use Rattle.marple_base.specs.Inputs.{Input}
-use Rattle.marple_base.specs.declared.inputs.Which.TheVariants.{Query, Trace}
-use Rattle.query_lang.specs.Checks.{Checked}
-use Rattle.query_lang.specs.declared.fault.QueryFault.{QueryFault}
-use Rattle.query_lang.specs.declared.typed.TypedQuery.{TypedQuery}
+use Rattle.marple_base.specs.{Inputs.Input, declared.inputs.Which.TheVariants.{Query, Trace}}
+use Rattle.query_lang.specs.{Checks.Checked, declared.{fault.QueryFault.QueryFault, typed.TypedQuery.TypedQuery}}
 use Rattle.accepted_query.specs.Accepted.{accepted, fault_in, query_fault}
-use Rattle.command_answers.specs.Phases.{QueryEnds}
-use Rattle.command_answers.specs.OwnChecks.{fault_after, fault_with}
-use Rattle.command_answers.specs.declared.status.Status.{Status}
+use Rattle.command_answers.specs.{Phases.QueryEnds, OwnChecks.{fault_after, fault_with}, declared.status.Status.Status}
 use Rattle.command_answers.specs.declared.status.Status.TheVariants as statuses
 use Rattle.command_answers.proofs.Limits.{IfSome-map}
 use Rattle.trace_drive.proofs.Breaking.{none_some}

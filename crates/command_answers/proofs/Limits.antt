@@ -1,27 +1,16 @@
 -- What is read to one byte more than a limit says the same as all the bytes, where all longer texts are alike.
 use Rattle.std.proofs.Common.{inl, inr, ◌≡◌, ℕ, ◌+◌, ◌<◌, ◌≤◌, true, nat_lt, List, length, take, Option, None, Some, IfSome, ap, sym, ◌∙◌}
-use Rattle.std.proofs.Common.{arith, Ok, Err, refl, [], subst}
-use Rattle.std.proofs.lemmas.Bool.Decides.{leb_tells, nat_tests}
-use Rattle.std.proofs.lemmas.Grind.{common_steps}
-use Rattle.marple_base.specs.Inputs.{Input}
-use Rattle.marple_base.specs.Sink.{TakesFront}
-use Rattle.marple_base.specs.declared.field.FieldSet.{FieldSet}
-use Rattle.marple_base.specs.declared.inputs.Which.TheVariants.{Query, Trace}
-use Rattle.query_lang.specs.Answers.{IsTold}
-use Rattle.query_lang.specs.Checks.{Checked}
-use Rattle.query_lang.specs.Lexis.{fault_at}
+use Rattle.std.proofs.{Common.{arith, Ok, Err, refl, [], subst}, lemmas.{Bool.Decides.{leb_tells, nat_tests}, Grind.common_steps}}
+use Rattle.marple_base.specs.{Inputs.Input, Sink.TakesFront, declared.{field.FieldSet.FieldSet, inputs.Which.TheVariants.{Query, Trace}}}
+use Rattle.query_lang.specs.{Answers.IsTold, Checks.Checked, Lexis.fault_at}
 use Rattle.query_lang.specs.declared.fault.FaultKind.TheVariants as kinds
-use Rattle.query_lang.specs.declared.fault.TheConstants.{MAX_QUERY}
-use Rattle.query_lang.specs.declared.typed.TypedQuery.{TypedQuery}
-use Rattle.trace_reader.specs.Traces.{Contents, contents, opening}
-use Rattle.trace_reader.specs.declared.fault.TheConstants.{MAX_TRACE}
+use Rattle.query_lang.specs.declared.{fault.TheConstants.MAX_QUERY, typed.TypedQuery.TypedQuery}
+use Rattle.trace_reader.specs.{Traces.{Contents, contents, opening}, declared.fault.TheConstants.MAX_TRACE}
 use Rattle.trace_reader.specs.declared.fault.TraceFault.TheVariants as faults
 use Rattle.trace_reader.specs.declared.fault.TraceFault.{TraceFault}
 use Rattle.accepted_query.specs.Accepted.{accepted, fault_in, query_fault}
-use Rattle.query_lang.specs.declared.error.QueryError.{QueryError}
-use Rattle.query_lang.specs.declared.error.QueryError.TheVariants.{Refused, Memory}
-use Rattle.trace_drive.specs.Answers.{BreaksOff, text_unless}
-use Rattle.trace_drive.specs.declared.answer.RunError.{RunError}
+use Rattle.query_lang.specs.declared.error.QueryError.{QueryError, TheVariants.{Refused, Memory}}
+use Rattle.trace_drive.specs.{Answers.{BreaksOff, text_unless}, declared.answer.RunError.RunError}
 use Rattle.trace_drive.specs.declared.answer.RunError.TheVariants as breaks
 use Rattle.command_answers.specs.Phases.{QueryEnds, ReadEnds, TraceEnds, WriteEnds, refusal_status, status_for}
 use Rattle.command_answers.specs.declared.status.Status.{Status}

@@ -2,16 +2,10 @@
 use Rattle.std.proofs.Common.{inl, inr, ◌≡◌, ℕ, ◌+◌, ◌<◌, ◌≤◌, List, length, take, Option, None, Some, IfSome, arith, sym, ◌∙◌, subst}
 use Rattle.std.proofs.lemmas.Bool.Decides.{leb_tells}
 use Rattle.marple_base.specs.Inputs.{Input}
-use Rattle.query_lang.specs.declared.fault.QueryFault.{QueryFault}
-use Rattle.plan_file.specs.Texts.{IsBadAt, IsRefused, Says}
-use Rattle.query_lang.specs.declared.error.QueryError.{QueryError}
-use Rattle.query_lang.specs.declared.error.QueryError.TheVariants.{Refused, Memory}
-use Rattle.plan_file.specs.declared.made.Made.{Made}
-use Rattle.plan_file.specs.declared.texts.TheConstants.{MAX_PLAN}
-use Rattle.plan_loader.specs.Loaded.{IsLoaded}
-use Rattle.plan_loader.specs.declared.loaded.LoadedPlan.{LoadedPlan}
-use Rattle.command_answers.specs.Phases.{IsReadFrom, PlanEnds, refusal_status}
-use Rattle.command_answers.proofs.Limits.{take_long, take_whole}
+use Rattle.query_lang.specs.declared.{fault.QueryFault.QueryFault, error.QueryError.{QueryError, TheVariants.{Refused, Memory}}}
+use Rattle.plan_file.specs.{Texts.{IsBadAt, IsRefused, Says}, declared.{made.Made.Made, texts.TheConstants.MAX_PLAN}}
+use Rattle.plan_loader.specs.{Loaded.IsLoaded, declared.loaded.LoadedPlan.LoadedPlan}
+use Rattle.command_answers.{specs.Phases.{IsReadFrom, PlanEnds, refusal_status}, proofs.Limits.{take_long, take_whole}}
 
 -- what was read of a text, to one byte more than the limit, says what the text says
 pub told_says : (left : Option (List ℕ)) (text slice : List ℕ) (made : Made) → IfSome left (λ bytes. text ≡ take (MAX_PLAN + 1) bytes)

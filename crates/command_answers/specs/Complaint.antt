@@ -1,7 +1,6 @@
 -- The line that a status other than Ok writes to standard error, and its number.
 use Rattle.std.specs.Prelude.{ℕ, List, [], ◌++◌, codes, decimal}
-use Rattle.marple_base.specs.Field.{field_name}
-use Rattle.marple_base.specs.declared.inputs.Which.TheVariants.{Query, Trace}
+use Rattle.marple_base.specs.{Field.field_name, declared.inputs.Which.TheVariants.{Query, Trace}}
 use Rattle.query_lang.specs.declared.fault.FaultKind.{FaultKind}
 use Rattle.query_lang.specs.declared.fault.FaultKind.TheVariants as kinds
 use Rattle.query_lang.specs.declared.fault.Limit.TheVariants as limits

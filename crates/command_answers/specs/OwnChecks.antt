@@ -1,8 +1,6 @@
 -- The first fault of a query for a command that has a check of its own.
 use Rattle.std.specs.Prelude.{List, ℕ, Option, Some, Ok, Err}
-use Rattle.query_lang.specs.declared.fault.QueryFault.{QueryFault}
-use Rattle.query_lang.specs.declared.typed.TypedQuery.{TypedQuery}
-use Rattle.query_lang.specs.Checks.{Checked}
+use Rattle.query_lang.specs.{declared.{fault.QueryFault.QueryFault, typed.TypedQuery.TypedQuery}, Checks.Checked}
 use Rattle.accepted_query.specs.Accepted.{accepted}
 use Rattle.enclosure_folds.specs.Check.{enclose_fault}
 

@@ -1,22 +1,15 @@
 -- How the phases of a command end, by status.
 use Rattle.std.specs.Prelude.{◌≡◌, ℕ, List, Option, None, Some, IfSome, ⊤, Ok}
-use Rattle.marple_base.specs.Faults.{Rose}
-use Rattle.marple_base.specs.Inputs.{Input}
-use Rattle.marple_base.specs.Sink.{TakesFront}
-use Rattle.marple_base.specs.declared.inputs.Which.TheVariants.{Query, Trace}
+use Rattle.marple_base.specs.{Faults.Rose, Inputs.Input, Sink.TakesFront, declared.inputs.Which.TheVariants.{Query, Trace}}
 use Rattle.query_lang.specs.declared.error.QueryError.{QueryError}
 use Rattle.query_lang.specs.declared.error.QueryError.TheVariants as errors
-use Rattle.query_lang.specs.declared.fault.QueryFault.{QueryFault}
-use Rattle.query_lang.specs.declared.typed.TypedQuery.{TypedQuery}
+use Rattle.query_lang.specs.declared.{fault.QueryFault.QueryFault, typed.TypedQuery.TypedQuery}
 use Rattle.accepted_query.specs.Accepted.{accepted}
-use Rattle.trace_drive.specs.Answers.{text_unless}
-use Rattle.trace_drive.specs.declared.answer.RunError.{RunError}
+use Rattle.trace_drive.specs.{Answers.text_unless, declared.answer.RunError.RunError}
 use Rattle.trace_drive.specs.declared.answer.RunError.TheVariants as breaks
 use Rattle.trace_reader.specs.declared.fault.TraceFault.{TraceFault}
-use Rattle.plan_file.specs.Texts.{IsRefused, Says}
-use Rattle.plan_file.specs.declared.made.Made.{Made}
-use Rattle.plan_loader.specs.Loaded.{IsLoadedFrom}
-use Rattle.plan_loader.specs.declared.loaded.LoadedPlan.{LoadedPlan}
+use Rattle.plan_file.specs.{Texts.{IsRefused, Says}, declared.made.Made.Made}
+use Rattle.plan_loader.specs.{Loaded.IsLoadedFrom, declared.loaded.LoadedPlan.LoadedPlan}
 use Rattle.command_answers.specs.declared.status.Status.{Status}
 use Rattle.command_answers.specs.declared.status.Status.TheVariants as statuses
 

@@ -4,12 +4,10 @@ ghost use Rattle.marple_base.specs.Inputs.{IsClosed, LosesUpTo};
 ghost use Rattle.query_lang.specs.TypedQueries.{IsValidQuery};
 ghost use Rattle.stage_plan.specs.Planned.{IsPlanOf};
 ghost use Rattle.accepted_query.specs.Accepted.{accepted};
-ghost use Rattle.net_wide.specs.Combining.{net_fault};
-ghost use Rattle.net_wide.specs.NetLaws.{TellsSwitches};
+ghost use Rattle.net_wide.specs.{Combining.net_fault, NetLaws.TellsSwitches};
 ghost use Rattle.enclosure_folds.specs.Check.{enclose_fault};
 ghost use Rattle.plan_writer.specs.PlanText.{final_fault};
-ghost use Rattle.command_answers.specs.Phases.{QueryEnds};
-ghost use Rattle.command_answers.specs.OwnChecks.{fault_with};
+ghost use Rattle.command_answers.specs.{Phases.QueryEnds, OwnChecks.fault_with};
 
 use crate::operands::read_query;
 use crate::status::Status;

@@ -1,11 +1,7 @@
 //! The line that a status writes to standard error, piece by piece and without allocating memory.
-ghost use Rattle.std.specs.Prelude.{◌≡◌, OnOk};
-ghost use Rattle.std.specs.List.{flat_map};
-ghost use Rattle.std.specs.Io.KnownBytes.{Appends};
-ghost use Rattle.marple_base.specs.Faults.{HasCause};
-ghost use Rattle.marple_base.specs.Sink.{TakesFront};
-ghost use Rattle.command_answers.specs.Complaint.{complaint, kind_text};
-ghost use Rattle.command_answers.specs.Piece.{piece_text};
+ghost use Rattle.std.specs.{Prelude.{◌≡◌, OnOk}, List.flat_map, Io.KnownBytes.Appends};
+ghost use Rattle.marple_base.specs.{Faults.HasCause, Sink.TakesFront};
+ghost use Rattle.command_answers.specs.{Complaint.{complaint, kind_text}, Piece.piece_text};
 
 use crate::pieces::{
     Line, Piece, plain_line, query_line, trace_line, trace_line_in_record, write_pieces,

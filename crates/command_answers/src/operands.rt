@@ -3,8 +3,7 @@ ghost use Rattle.std.specs.Prelude.{◌≡◌, ◌+◌, ◌≤◌, Ok, IfOk, IfE
 ghost use Rattle.marple_base.specs.Inputs.{IsClosed, LosesUpTo};
 ghost use Rattle.query_lang.specs.TypedQueries.{IsValidQuery};
 ghost use Rattle.stage_plan.specs.Planned.{IsPlanOf};
-ghost use Rattle.accepted_query.specs.Accepted.{accepted, query_fault};
-ghost use Rattle.accepted_query.specs.TrialQuery.{trial_query};
+ghost use Rattle.accepted_query.specs.{Accepted.{accepted, query_fault}, TrialQuery.trial_query};
 ghost use Rattle.command_answers.specs.Phases.{IsOfText, IsReadFrom, PlanEnds, QueryEnds, ReadEnds};
 
 use crate::status::Status;

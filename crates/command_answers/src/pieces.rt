@@ -1,9 +1,6 @@
 //! Lines on standard error, made of pieces and written without allocating memory.
-ghost use Rattle.std.specs.Prelude.{◌≡◌, ◌++◌, codes, decimal, OnOk};
-ghost use Rattle.std.specs.List.{flat_map};
-ghost use Rattle.std.specs.Io.KnownBytes.{Appends};
-ghost use Rattle.marple_base.specs.Faults.{HasCause};
-ghost use Rattle.marple_base.specs.Sink.{TakesFront};
+ghost use Rattle.std.specs.{Prelude.{◌≡◌, ◌++◌, codes, decimal, OnOk}, List.flat_map, Io.KnownBytes.Appends};
+ghost use Rattle.marple_base.specs.{Faults.HasCause, Sink.TakesFront};
 ghost use Rattle.command_answers.specs.Piece.{piece_text};
 
 use itoa::Buffer;

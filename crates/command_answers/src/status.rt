@@ -1,7 +1,6 @@
 //! How a command ends.
 ghost use Rattle.std.specs.Prelude.{◌≡◌};
-ghost use Rattle.command_answers.specs.Complaint.{number_of};
-ghost use Rattle.command_answers.specs.Phases.{refusal_status, status_for};
+ghost use Rattle.command_answers.specs.{Complaint.number_of, Phases.{refusal_status, status_for}};
 ghost use Rattle.command_answers.specs.declared.status.Status.TheVariants.{Memory, OutputFault};
 
 use marple_base::{Failed, Which};

@@ -1,8 +1,6 @@
 -- Options, pair by pair.
-use Rattle.std.proofs.Common.{◌≡◌, ℕ, List, ◌∷◌, map, Some, ap, ◌∙◌}
-use Rattle.std.specs.Option.{option_and_then}
-use Rattle.command_line.specs.Command.{options_from, with_option}
-use Rattle.command_line.specs.declared.options.Options.{Options}
+use Rattle.std.{proofs.Common.{◌≡◌, ℕ, List, ◌∷◌, map, Some, ap, ◌∙◌}, specs.Option.option_and_then}
+use Rattle.command_line.specs.{Command.{options_from, with_option}, declared.options.Options.Options}
 
 -- one pair more, and then the others
 pub options_from_pair : {W : Type 0} (bytes : W → List ℕ) (options more : Options) (words values rest : List W) (name value : W)

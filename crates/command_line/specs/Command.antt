@@ -1,16 +1,10 @@
 -- What the words of a command line ask for.
-use Rattle.std.specs.Prelude.{ℕ, ◌*◌, ◌≤◌, Bool, ◌&&◌, ◌==◌, nat_le, List, [], ◌∷◌, Option, None, Some}
-use Rattle.std.specs.Prelude.{is_none, unwrap_or, bytes_eq, codes, if◌then◌else◌}
-use Rattle.std.specs.Option.{option_and_then, option_map}
-use Rattle.command_line.specs.Number.{number_within}
-use Rattle.command_line.specs.declared.command.Command.{Command}
+use Rattle.std.specs.Prelude.{ℕ, ◌*◌, ◌≤◌, Bool, ◌&&◌, ◌==◌, nat_le, List, [], ◌∷◌, Option, None, Some, is_none, unwrap_or, bytes_eq, codes}
+use Rattle.std.specs.{Prelude.if◌then◌else◌, Option.{option_and_then, option_map}}
+use Rattle.command_line.specs.{Number.number_within, declared.command.Command.Command}
 use Rattle.command_line.specs.declared.command.Command.TheVariants.{Run, Plan, Gen, Trial, Net, Enclose, Compile, RunPlan}
-use Rattle.command_line.specs.declared.command.Generation.{Generation}
-use Rattle.command_line.specs.declared.options.Options.{Options}
-use Rattle.command_line.specs.declared.setting.NetSetting.{NetSetting}
-use Rattle.command_line.specs.declared.setting.Setting.{Setting}
-use Rattle.command_line.specs.declared.setting.Ways.{Ways}
-use Rattle.command_line.specs.declared.setting.Ways.TheVariants.{One, Two, Four, Eight, Sixteen, ThirtyTwo}
+use Rattle.command_line.specs.declared.{command.Generation.Generation, options.Options.Options, setting.NetSetting.NetSetting}
+use Rattle.command_line.specs.declared.setting.{Setting.Setting, Ways.{Ways, TheVariants.{One, Two, Four, Eight, Sixteen, ThirtyTwo}}}
 
 -- how many keys a bucket holds
 abbrev pub ways_number : Ways → ℕ

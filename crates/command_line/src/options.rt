@@ -1,8 +1,8 @@
 //! Options, as pairs of words.
 
 ghost use Rattle.std.specs.Prelude.{◌≡◌, ◌≤◌, ◌*◌, map, string_bytes, IfSome, ⊤};
-ghost use Rattle.command_line.specs.Command.{IsSetting, IsNetSetting, is_new, no_options, with_option, options_from, setting_of, setting_from};
-ghost use Rattle.command_line.specs.Command.{net_setting_of, net_setting_from, AreWithin};
+ghost use Rattle.command_line.specs.Command.{IsSetting, IsNetSetting, is_new, no_options, with_option, options_from, setting_of};
+ghost use Rattle.command_line.specs.Command.{setting_from, net_setting_of, net_setting_from, AreWithin};
 
 use crate::number::number_within;
 use crate::setting::{NetSetting, Setting, Ways, ways_of};

@@ -1,19 +1,11 @@
 -- Clocks of switches, of which one counts a packet.
 use Rattle.std.proofs.Common.{◌≡◌, ◌≢◌, ℕ, zero, suc, ◌==◌, Bool, true, false, List, [], ◌∷◌, ◌++◌, replicate, set, Some, refl, sym, ap}
-use Rattle.std.proofs.Common.{◌∙◌, subst, arith}
-use Rattle.std.specs.Prelude.{slice_get}
-use Rattle.std.proofs.lemmas.Bool.Decides.{nat_tests}
-use Rattle.std.proofs.lemmas.List.{length-set}
+use Rattle.std.{proofs.{Common.{◌∙◌, subst, arith}, lemmas.{Bool.Decides.nat_tests, List.length-set}}, specs.Prelude.slice_get}
 use Rattle.epoch_model.proofs.KeyLists.{by_test}
-use Rattle.switch_core.proofs.LaneFacts.{got_set}
-use Rattle.switch_core.proofs.SideBySide.{got_below, same_some}
-use Rattle.trace_drive.specs.Clocks.{HasCounted}
-use Rattle.trace_drive.specs.declared.clock.Clock.{Clock}
-use Rattle.network.proofs.SharedSteps.{got_other}
-use Rattle.network.specs.Networks.{NetworkView}
-use Rattle.network.specs.Running.{NetworkEvent, Takes, turn_events}
-use Rattle.driven_net.specs.Lags.{AreLagClocks, CountsAt, HaveCounted, taken_by}
-use Rattle.driven_net.proofs.Following.{by_on, turn_by}
+use Rattle.switch_core.proofs.{LaneFacts.got_set, SideBySide.{got_below, same_some}}
+use Rattle.trace_drive.specs.{Clocks.HasCounted, declared.clock.Clock.Clock}
+use Rattle.network.{proofs.SharedSteps.got_other, specs.{Networks.NetworkView, Running.{NetworkEvent, Takes, turn_events}}}
+use Rattle.driven_net.{specs.Lags.{AreLagClocks, CountsAt, HaveCounted, taken_by}, proofs.Following.{by_on, turn_by}}
 
 -- one clock counts
 module _ (clocks : List Clock) (at : ℕ) (old new : Clock) (here : slice_get clocks at ≡ Some old)

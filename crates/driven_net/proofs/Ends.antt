@@ -1,26 +1,15 @@
 -- The tables of a network at the end of a trace.
-use Rattle.std.proofs.Common.{◌≡◌, ℕ, true, List, [], ◌++◌, None, refl, sym, ap, ◌∙◌, subst, append-nil}
-use Rattle.std.specs.List.{list_all}
-use Rattle.query_lang.specs.declared.typed.TypedQuery.{TypedQuery}
-use Rattle.query_lang.specs.TypedQueries.{IsValidQuery}
-use Rattle.final_queries.specs.declared.table.Table.{Table}
-use Rattle.final_queries.specs.Finals.{with_finals}
-use Rattle.stage_plan.specs.Packets.{AreWhole}
-use Rattle.stage_plan.specs.Planned.{IsPlanOf}
+use Rattle.std.{proofs.Common.{◌≡◌, ℕ, true, List, [], ◌++◌, None, refl, sym, ap, ◌∙◌, subst, append-nil}, specs.List.list_all}
+use Rattle.query_lang.specs.{declared.typed.TypedQuery.TypedQuery, TypedQueries.IsValidQuery}
+use Rattle.final_queries.specs.{declared.table.Table.Table, Finals.with_finals}
+use Rattle.stage_plan.specs.{Packets.AreWhole, Planned.IsPlanOf}
 use Rattle.query_tables.specs.Tables.{printed}
-use Rattle.net_wide.specs.Combining.{net_fault}
-use Rattle.net_wide.specs.NetTables.{caches_of, net_tables, net_text}
-use Rattle.net_wide.specs.NetLaws.{TellsSwitches}
-use Rattle.net_wide.specs.Numbering.{place_among}
+use Rattle.net_wide.specs.{Combining.net_fault, NetTables.{caches_of, net_tables, net_text}, NetLaws.TellsSwitches, Numbering.place_among}
 use Rattle.net_wide.specs.NetEnds.{IsSeen}
-use Rattle.network.specs.Ends.{CombineOver, EvictsLast, packets_taken}
-use Rattle.network.specs.Groups.{group_is_drained}
-use Rattle.network.specs.Networks.{NetworkView}
+use Rattle.network.specs.{Ends.{CombineOver, EvictsLast, packets_taken}, Groups.group_is_drained, Networks.NetworkView}
 use Rattle.network.specs.Running.{NetworkEvent, NetworkStands, RunsFollowEvents, RunsWithMerges, all_evictions}
-use Rattle.network.proofs.EventLists.{evictions_take_none, taken_on, taken_unmerged, theirs_none, theirs_on}
-use Rattle.network.proofs.Runs.{merging_kept}
-use Rattle.driven_net.specs.Follows.{NetFollows}
-use Rattle.driven_net.proofs.Known.{numbered}
+use Rattle.network.proofs.{EventLists.{evictions_take_none, taken_on, taken_unmerged, theirs_none, theirs_on}, Runs.merging_kept}
+use Rattle.driven_net.{specs.Follows.NetFollows, proofs.Known.numbered}
 
 -- what is printed of those tables is the text of the definition
 pub text_is : (q : TypedQuery) (buckets ways : ℕ) (packets : List (List ℕ)) (tables : List Table) (text : List ℕ)

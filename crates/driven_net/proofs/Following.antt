@@ -1,24 +1,15 @@
 -- A network that follows the packets of a trace.
-use Rattle.std.proofs.Common.{◌≡◌, ℕ, ◌+◌, ◌<◌, ◌==◌, Bool, true, false, List, [], ◌∷◌, ◌++◌, length, inl, inr, refl, sym, ap, ◌∙◌}
-use Rattle.std.proofs.Common.{subst, arith, length-append, append-nil, append_assoc}
+use Rattle.std.proofs.Common.{◌≡◌, ℕ, ◌+◌, ◌<◌, ◌==◌, Bool, true, false, List, [], ◌∷◌, ◌++◌, length, inl, inr, refl, sym, ap, ◌∙◌, subst}
+use Rattle.std.proofs.{Common.{arith, length-append, append-nil, append_assoc}, lemmas.Bool.{true≢false, Decides.nat_tests}}
 use Rattle.std.specs.Prelude.{if◌then◌else◌}
-use Rattle.std.proofs.lemmas.Bool.{true≢false}
-use Rattle.std.proofs.lemmas.Bool.Decides.{nat_tests}
 use Rattle.epoch_model.proofs.KeyLists.{by_test}
 use Rattle.switch_core.specs.declared.upkeep.Upkeep.TheVariants as due
-use Rattle.net_wide.specs.NetTables.{packets_at, switch_in}
-use Rattle.net_wide.specs.Numbering.{place_among, with_switch}
-use Rattle.net_wide.specs.NetEnds.{IsSeen}
-use Rattle.network.specs.Ends.{AreAtTheirSwitches, NoEviction, packets_taken}
-use Rattle.network.specs.Networks.{NetworkGrows, NetworkView}
-use Rattle.network.specs.Running.{Evicts, Merges, NetworkEvent, NetworkRuns, NetworkStands, RunsFollowEvents, Takes, turn_events}
-use Rattle.network.specs.Running.{upkeep_calls, without_merges}
-use Rattle.network.proofs.EventLists.{lag_is_merges, merges_evict_none, merges_take_none, none_on, room_is_merges, taken_on, theirs_none}
-use Rattle.network.proofs.EventLists.{theirs_on}
-use Rattle.network.proofs.Runs.{runs_kept}
-use Rattle.driven_net.specs.Follows.{NetFollows}
-use Rattle.driven_net.specs.Lags.{taken_by}
-use Rattle.driven_net.specs.Turns.{MakesTurn, MakesTurns, known_after}
+use Rattle.net_wide.specs.{NetTables.{packets_at, switch_in}, Numbering.{place_among, with_switch}, NetEnds.IsSeen}
+use Rattle.network.specs.{Ends.{AreAtTheirSwitches, NoEviction, packets_taken}, Networks.{NetworkGrows, NetworkView}, Running.Evicts}
+use Rattle.network.specs.Running.{Merges, NetworkEvent, NetworkRuns, NetworkStands, RunsFollowEvents, Takes, turn_events, upkeep_calls}
+use Rattle.network.{specs.Running.without_merges, proofs.EventLists.{lag_is_merges, merges_evict_none, merges_take_none, none_on}}
+use Rattle.network.proofs.{EventLists.{room_is_merges, taken_on, theirs_none, theirs_on}, Runs.runs_kept}
+use Rattle.driven_net.specs.{Follows.NetFollows, Lags.taken_by, Turns.{MakesTurn, MakesTurns, known_after}}
 use Rattle.driven_net.proofs.Known.{place_after, place_tells, seen_first, seen_last, seen_more}
 
 -- ---- packets by switch

@@ -1,15 +1,10 @@
 -- Switches that are known, by number.
 use Rattle.std.proofs.Common.{◌≡◌, ◌≢◌, ℕ, suc, ◌<◌, ◌≤◌, Bool, true, false, ◌||◌, ◌==◌, nat_lt, List, [], ◌∷◌, ◌++◌, length, slice_index}
-use Rattle.std.proofs.Common.{◌⊎◌, inl, inr, Option, Some, None, refl, sym, ap, ◌∙◌, subst, arith, length-append}
-use Rattle.std.specs.Prelude.{slice_get}
-use Rattle.std.specs.List.{list_any}
-use Rattle.std.proofs.lemmas.Bool.{true≢false}
-use Rattle.std.proofs.lemmas.Bool.Decides.{nat_tests}
-use Rattle.epoch_model.specs.Driving.{Taken}
-use Rattle.epoch_model.proofs.KeyLists.{by_test}
+use Rattle.std.proofs.{Common.{◌⊎◌, inl, inr, Option, Some, None, refl, sym, ap, ◌∙◌, subst, arith, length-append}, lemmas.Bool.true≢false}
+use Rattle.std.{proofs.lemmas.Bool.Decides.nat_tests, specs.{Prelude.slice_get, List.list_any}}
+use Rattle.epoch_model.{specs.Driving.Taken, proofs.KeyLists.by_test}
 use Rattle.additive_laws.proofs.Counts.{same_number, own_number}
-use Rattle.net_wide.specs.NetTables.{switch_in}
-use Rattle.net_wide.specs.Numbering.{place_among, switch_number, with_switch}
+use Rattle.net_wide.specs.{NetTables.switch_in, Numbering.{place_among, switch_number, with_switch}}
 use Rattle.net_wide.specs.NetEnds.{IsSeen, AreSwitchesNumbered, net_steps}
 
 place_of : (known : List ℕ) (s : ℕ) → place_among known s < length known → slice_index known (place_among known s) ≡ s

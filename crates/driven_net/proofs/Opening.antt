@@ -1,12 +1,8 @@
 -- A trace that can't be opened has that fault for several switches too.
 use Rattle.std.proofs.Common.{◌≡◌, List, ℕ, Some, Result, Err, ap}
 use Rattle.marple_base.specs.declared.field.FieldSet.{FieldSet}
-use Rattle.trace_reader.specs.Faults.{IfRefused}
-use Rattle.trace_reader.specs.Reading.{records}
-use Rattle.trace_reader.specs.Traces.{Layout, contents, contents_with, opening, rest_of}
-use Rattle.trace_reader.specs.declared.fault.TraceAnswer.{TraceAnswer}
-use Rattle.trace_reader.specs.declared.fault.TraceAnswer.TheVariants.{Refused, Memory}
-use Rattle.trace_reader.specs.declared.fault.TraceFault.{TraceFault}
+use Rattle.trace_reader.specs.{Faults.IfRefused, Reading.records, Traces.{Layout, contents, contents_with, opening, rest_of}}
+use Rattle.trace_reader.specs.declared.fault.{TraceAnswer.{TraceAnswer, TheVariants.{Refused, Memory}}, TraceFault.TraceFault}
 use Rattle.driven_net.specs.NetTraces.{net_fault_in}
 
 pub opening_fault : (text : List ℕ) (reads : FieldSet) (fault : TraceFault) → opening text reads ≡ Err fault

@@ -1,10 +1,7 @@
 -- A network that has taken the packets of a trace.
 use Rattle.std.specs.Prelude.{◌≡◌, ℕ, ◌<◌, List, length}
-use Rattle.net_wide.specs.Numbering.{place_among}
-use Rattle.net_wide.specs.NetEnds.{IsSeen}
-use Rattle.network.specs.Ends.{AreAtTheirSwitches, NoEviction, packets_taken}
-use Rattle.network.specs.Networks.{NetworkView}
-use Rattle.network.specs.Running.{NetworkEvent, NetworkStands}
+use Rattle.net_wide.specs.{Numbering.place_among, NetEnds.IsSeen}
+use Rattle.network.specs.{Ends.{AreAtTheirSwitches, NoEviction, packets_taken}, Networks.NetworkView, Running.{NetworkEvent, NetworkStands}}
 
 -- The network's switches are these, by their numbers, and all switches of the packets are among them. It represents events that take
 -- the packets, each at the number of its switch, with merges among them.

@@ -1,7 +1,6 @@
 -- The clocks of the switches' lags: when the lanes of a switch merge.
 use Rattle.std.specs.Prelude.{◌≡◌, ◌≢◌, ◌+◌, ◌==◌, ℕ, suc, List, [], ◌∷◌, length, slice_get, Some, if◌then◌else◌}
-use Rattle.trace_drive.specs.Clocks.{HasCounted}
-use Rattle.trace_drive.specs.declared.clock.Clock.{Clock}
+use Rattle.trace_drive.specs.{Clocks.HasCounted, declared.clock.Clock.Clock}
 use Rattle.network.specs.Running.{Evicts, Merges, NetworkEvent, Takes}
 
 -- a clock for each of 64 switches, which is due at each multiple of the lag and counts the packets of its switch

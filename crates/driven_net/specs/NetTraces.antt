@@ -1,17 +1,11 @@
 -- What a query over several switches reads of a trace, and the trace's first fault for it.
 use Rattle.std.specs.Prelude.{ℕ, suc, List, [], ◌∷◌, ◌++◌, Option, Some, None}
-use Rattle.marple_base.specs.declared.field.Field.TheVariants.{Switch}
-use Rattle.marple_base.specs.declared.field.FieldSet.{FieldSet}
-use Rattle.marple_base.specs.declared.field.Packet.{Packet}
-use Rattle.marple_base.specs.Field.{field_set}
+use Rattle.marple_base.specs.{declared.field.{Field.TheVariants.Switch, FieldSet.FieldSet, Packet.Packet}, Field.field_set}
 use Rattle.query_lang.specs.declared.typed.TypedQuery.{TypedQuery}
 use Rattle.stage_plan.specs.Fields.{read_fields}
 use Rattle.trace_drive.specs.Drives.{words_of}
-use Rattle.trace_reader.specs.Traces.{Contents, contents}
-use Rattle.trace_reader.specs.declared.fault.TraceFault.{TraceFault}
-use Rattle.trace_reader.specs.declared.fault.TraceFault.TheVariants.{TooManySwitches}
-use Rattle.net_wide.specs.NetTables.{switch_in}
-use Rattle.net_wide.specs.Numbering.{switch_number, with_switch}
+use Rattle.trace_reader.specs.{Traces.{Contents, contents}, declared.fault.TraceFault.{TraceFault, TheVariants.TooManySwitches}}
+use Rattle.net_wide.specs.{NetTables.switch_in, Numbering.{switch_number, with_switch}}
 
 -- the fields that the query reads, and always the switch
 abbrev pub net_reads : TypedQuery → FieldSet

@@ -1,10 +1,8 @@
 -- The turns of a trace's packets at a network: which events it makes, and no others.
 use Rattle.std.specs.Prelude.{◌≡◌, ◌<◌, ℕ, suc, List, [], ◌∷◌, ◌++◌, length}
 use Rattle.epoch_model.specs.Epochs.{is_refresh}
-use Rattle.net_wide.specs.NetTables.{packets_at, switch_in}
-use Rattle.net_wide.specs.Numbering.{place_among, with_switch}
-use Rattle.network.specs.Networks.{NetworkGrows, NetworkView}
-use Rattle.network.specs.Running.{NetworkRuns, turn_events}
+use Rattle.net_wide.specs.{NetTables.{packets_at, switch_in}, Numbering.{place_among, with_switch}}
+use Rattle.network.specs.{Networks.{NetworkGrows, NetworkView}, Running.{NetworkRuns, turn_events}}
 
 -- these switches, and after them the others of the packets, by first appearance
 abbrev pub known_after : List ℕ → List (List ℕ) → List ℕ

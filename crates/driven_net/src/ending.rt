@@ -1,17 +1,12 @@
 //! The end of a trace over several switches.
 
-ghost use Rattle.std.specs.Prelude.{◌≡◌, ◌≤◌, ℕ, All, List, None, IfErr, IfOk, OnOk, map};
-ghost use Rattle.std.specs.Io.KnownBytes.{Appends};
-ghost use Rattle.query_lang.specs.Streams.{takings};
-ghost use Rattle.query_lang.specs.TypedQueries.{IsValidQuery, group_shape};
-ghost use Rattle.stage_plan.specs.Packets.{AreWhole};
-ghost use Rattle.stage_plan.specs.Planned.{IsPlanOf};
+ghost use Rattle.std.specs.{Prelude.{◌≡◌, ◌≤◌, ℕ, All, List, None, IfErr, IfOk, OnOk, map}, Io.KnownBytes.Appends};
+ghost use Rattle.query_lang.specs.{Streams.takings, TypedQueries.{IsValidQuery, group_shape}};
+ghost use Rattle.stage_plan.specs.{Packets.AreWhole, Planned.IsPlanOf};
 ghost use Rattle.final_queries.specs.Finals.{IsTable, table_shape, with_finals};
 ghost use Rattle.query_tables.specs.Tables.{printed};
 ghost use Rattle.trace_drive.specs.Answers.{BreaksOff};
-ghost use Rattle.net_wide.specs.Combining.{net_fault};
-ghost use Rattle.net_wide.specs.NetTables.{caches_of, net_tables};
-ghost use Rattle.net_wide.specs.NetLaws.{TellsSwitches};
+ghost use Rattle.net_wide.specs.{Combining.net_fault, NetTables.{caches_of, net_tables}, NetLaws.TellsSwitches};
 ghost use Rattle.driven_net.specs.Follows.{NetFollows};
 
 use final_queries::Table;

@@ -1,15 +1,10 @@
 //! A query over the packets of several switches.
 
-ghost use Rattle.std.specs.Prelude.{◌≡◌, ◌≤◌, None, IfErr, OnOk};
-ghost use Rattle.std.specs.Io.KnownBytes.{Appends};
-ghost use Rattle.query_lang.specs.declared.typed.TypedQuery.{TypedQuery};
-ghost use Rattle.query_lang.specs.TypedQueries.{IsValidQuery};
+ghost use Rattle.std.specs.{Prelude.{◌≡◌, ◌≤◌, None, IfErr, OnOk}, Io.KnownBytes.Appends};
+ghost use Rattle.query_lang.specs.{declared.typed.TypedQuery.TypedQuery, TypedQueries.IsValidQuery};
 ghost use Rattle.stage_plan.specs.Planned.{IsPlanOf};
-ghost use Rattle.trace_drive.specs.Answers.{BreaksOff};
-ghost use Rattle.trace_drive.specs.Drives.{words_of};
-ghost use Rattle.net_wide.specs.Combining.{net_fault};
-ghost use Rattle.net_wide.specs.NetTables.{net_text};
-ghost use Rattle.net_wide.specs.NetLaws.{TellsSwitches};
+ghost use Rattle.trace_drive.specs.{Answers.BreaksOff, Drives.words_of};
+ghost use Rattle.net_wide.specs.{Combining.net_fault, NetTables.net_text, NetLaws.TellsSwitches};
 ghost use Rattle.command_line.specs.Command.{IsNetSetting, ways_number};
 ghost use Rattle.driven_net.specs.NetTraces.{net_packets, net_reads, net_trace_fault};
 

@@ -1,20 +1,13 @@
 //! The packets of a trace, each at its switch.
 
-ghost use Rattle.std.specs.Prelude.{◌≡◌, ◌+◌, ◌<◌, ◌≤◌, ℕ, suc, List, [], ◌∷◌, ◌++◌, All, None, Some, true};
-ghost use Rattle.std.specs.Prelude.{length, slice_get};
-ghost use Rattle.std.specs.Prelude.{IfErr, IfOk, OnOk};
-ghost use Rattle.network.specs.Networks.{IsNetwork, KeepsNetwork};
-ghost use Rattle.network.specs.Running.{NetworkStands};
-ghost use Rattle.net_wide.specs.NetTables.{switch_in};
-ghost use Rattle.net_wide.specs.Numbering.{switch_number, with_switch};
+ghost use Rattle.std.specs.Prelude.{◌≡◌, ◌+◌, ◌<◌, ◌≤◌, ℕ, suc, List, [], ◌∷◌, ◌++◌, All, None, Some, true, length, slice_get, IfErr, IfOk};
+ghost use Rattle.std.specs.Prelude.{OnOk};
+ghost use Rattle.network.specs.{Networks.{IsNetwork, KeepsNetwork}, Running.NetworkStands};
+ghost use Rattle.net_wide.specs.{NetTables.switch_in, Numbering.{switch_number, with_switch}};
 ghost use Rattle.epoch_model.specs.Epochs.{is_refresh};
-ghost use Rattle.trace_drive.specs.Clocks.{HasCounted};
-ghost use Rattle.trace_drive.specs.Drives.{words_of};
-ghost use Rattle.trace_reader.specs.Faults.{IfRefused};
-ghost use Rattle.trace_reader.specs.declared.fault.TraceFault.TheVariants.{TooManySwitches as SwitchFault};
-ghost use Rattle.driven_net.specs.Follows.{NetFollows};
-ghost use Rattle.driven_net.specs.Lags.{AreLagClocks, CountsAt, HaveCounted};
-ghost use Rattle.driven_net.specs.NetTraces.{first_fault};
+ghost use Rattle.trace_drive.specs.{Clocks.HasCounted, Drives.words_of};
+ghost use Rattle.trace_reader.specs.{Faults.IfRefused, declared.fault.TraceFault.TheVariants.{TooManySwitches as SwitchFault}};
+ghost use Rattle.driven_net.specs.{Follows.NetFollows, Lags.{AreLagClocks, CountsAt, HaveCounted}, NetTraces.first_fault};
 ghost use Rattle.driven_net.specs.Turns.{MakesTurn, MakesTurns, Meets, known_after};
 
 use marple_base::{FIELDS, Field, Packet, Seq, Steps};

@@ -1,23 +1,14 @@
 //! A query over several switches, with the ways that a setting gives.
 
-ghost use Rattle.std.specs.Prelude.{◌≡◌, ◌*◌, ◌<◌, ◌≤◌, ℕ, List, None, Some, [], length, IfErr, IfOk, OnOk};
-ghost use Rattle.std.specs.Io.KnownBytes.{Appends};
+ghost use Rattle.std.specs.{Prelude.{◌≡◌, ◌*◌, ◌<◌, ◌≤◌, ℕ, List, None, Some, [], length, IfErr, IfOk, OnOk}, Io.KnownBytes.Appends};
 ghost use Rattle.query_lang.specs.TypedQueries.{IsValidQuery};
-ghost use Rattle.stage_plan.specs.Packets.{AreWhole};
-ghost use Rattle.stage_plan.specs.Planned.{IsPlanOf};
-ghost use Rattle.trace_drive.specs.Answers.{BreaksOff};
-ghost use Rattle.trace_drive.specs.Drives.{words_of};
+ghost use Rattle.stage_plan.specs.{Packets.AreWhole, Planned.IsPlanOf};
+ghost use Rattle.trace_drive.specs.{Answers.BreaksOff, Drives.words_of};
 ghost use Rattle.trace_reader.specs.Faults.{IfRefused};
-ghost use Rattle.net_wide.specs.Combining.{net_fault};
-ghost use Rattle.net_wide.specs.NetTables.{net_text};
-ghost use Rattle.net_wide.specs.NetLaws.{TellsSwitches};
+ghost use Rattle.net_wide.specs.{Combining.net_fault, NetTables.net_text, NetLaws.TellsSwitches};
 ghost use Rattle.command_line.specs.Command.{IsNetSetting, ways_number};
-ghost use Rattle.network.specs.Groups.{AllHavePlaces};
-ghost use Rattle.network.specs.Networks.{NetworkView};
-ghost use Rattle.network.specs.Running.{NetworkStands};
-ghost use Rattle.driven_net.specs.Follows.{NetFollows};
-ghost use Rattle.driven_net.specs.NetTraces.{first_fault};
-ghost use Rattle.driven_net.specs.Turns.{MakesTurns};
+ghost use Rattle.network.specs.{Groups.AllHavePlaces, Networks.NetworkView, Running.NetworkStands};
+ghost use Rattle.driven_net.specs.{Follows.NetFollows, NetTraces.first_fault, Turns.MakesTurns};
 
 use crate::ending::{end_tables, write_text};
 use crate::taking::take_all;

@@ -1,29 +1,16 @@
 -- What is shown of a drained pipeline for bounds, lane by lane.
-use Rattle.std.proofs.Common.{◌≡◌, ℕ, zero, suc, ◌+◌, List, [], ◌∷◌, Some, length, map, sym, ap, ◌∙◌, subst}
-use Rattle.std.proofs.Common.{arith}
+use Rattle.std.proofs.Common.{◌≡◌, ℕ, zero, suc, ◌+◌, List, [], ◌∷◌, Some, length, map, sym, ap, ◌∙◌, subst, arith}
 use Rattle.std.specs.Prelude.{slice_get}
 use Rattle.query_lang.specs.declared.fold.TypedFold.{TypedFold}
-use Rattle.epoch_model.specs.Epochs.{Geometry}
-use Rattle.epoch_model.specs.Laws.{HasRoom}
-use Rattle.epoch_model.specs.Machine.{Event, Machine, empty_machine, run}
-use Rattle.epoch_model.specs.Timeline.{IsSwept}
-use Rattle.epoch_entry.specs.declared.purpose.Entries.TheVariants.{Bounds}
-use Rattle.epoch_entry.specs.contracts.any.AnyEpochsEpochKind.TheImpl.{ghosts}
-use Rattle.final_queries.specs.declared.table.Table.{Table}
-use Rattle.final_queries.specs.GroupTable.{closed_table}
-use Rattle.stage_plan.specs.declared.group.GroupPlan.{GroupPlan}
-use Rattle.stage_plan.specs.Planned.{wiring_at}
-use Rattle.stage_plan.specs.Sound.{PlanParts, IsSoundPlan}
-use Rattle.switch_core.specs.Pipelines.{IsLaneOf, after_events, empty_machines, heading_of, tables_of}
-use Rattle.switch_core.specs.PlanLanes.{LaneView, folding_at}
-use Rattle.switch_core.specs.Rows.{EachFrom}
-use Rattle.switch_core.proofs.LanesMade.{group_sound}
-use Rattle.enclosure_folds.specs.declared.table.Enclosed.{Enclosed}
-use Rattle.enclosure_folds.specs.Closed.{ClosedTablesHold}
-use Rattle.enclosure_folds.specs.Holding.{HoldsAfter, TakesWords}
+use Rattle.epoch_model.specs.{Epochs.Geometry, Laws.HasRoom, Machine.{Event, Machine, empty_machine, run}, Timeline.IsSwept}
+use Rattle.epoch_entry.specs.{declared.purpose.Entries.TheVariants.Bounds, contracts.any.AnyEpochsEpochKind.TheImpl.ghosts}
+use Rattle.final_queries.specs.{declared.table.Table.Table, GroupTable.closed_table}
+use Rattle.stage_plan.specs.{declared.group.GroupPlan.GroupPlan, Planned.wiring_at, Sound.{PlanParts, IsSoundPlan}}
+use Rattle.switch_core.specs.{Pipelines.{IsLaneOf, after_events, empty_machines, heading_of, tables_of}, PlanLanes.{LaneView, folding_at}}
+use Rattle.switch_core.{specs.Rows.EachFrom, proofs.LanesMade.group_sound}
+use Rattle.enclosure_folds.specs.{declared.table.Enclosed.Enclosed, Closed.ClosedTablesHold, Holding.{HoldsAfter, TakesWords}}
 use Rattle.enclosure_folds.specs.Shown.{IsHeadingOf, shown}
-use Rattle.enclosed_query.specs.AfterEvents.{IsBoundedGroup}
-use Rattle.enclosed_query.proofs.Groups.{heading_is}
+use Rattle.enclosed_query.{specs.AfterEvents.IsBoundedGroup, proofs.Groups.heading_is}
 
 module _ (plan : PlanParts) (buckets : ℕ) (sound : IsSoundPlan plan) where
   abbrev IsLane : ℕ → LaneView → GroupPlan → Type 0

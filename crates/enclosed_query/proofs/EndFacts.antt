@@ -1,43 +1,22 @@
 -- The machines of a plan at the end of a trace, groupby by groupby, and what is shown of them.
 use Rattle.std.proofs.Common.{◌≡◌, ℕ, zero, suc, ◌+◌, ◌<◌, List, [], ◌∷◌, ◌++◌, Option, Some, length, map, drop, refl, sym, ap, ◌∙◌, subst}
-use Rattle.std.proofs.Common.{arith}
-use Rattle.std.specs.Prelude.{option_and_then, unwrap_or}
+use Rattle.std.{proofs.{Common.arith, lemmas.List.{length-map, Elements.{All-nil, All-cons}}}, specs.Prelude.{option_and_then, unwrap_or}}
 use Rattle.std.specs.List.{All, slice_get}
-use Rattle.std.proofs.lemmas.List.{length-map}
-use Rattle.std.proofs.lemmas.List.Elements.{All-nil, All-cons}
-use Rattle.query_lang.specs.declared.fold.TypedFold.{TypedFold}
-use Rattle.query_lang.specs.declared.typed.TypedOp.{TypedOp}
+use Rattle.query_lang.specs.declared.{fold.TypedFold.TypedFold, typed.TypedOp.TypedOp}
 use Rattle.query_lang.specs.declared.typed.TypedOp.TheVariants as op
-use Rattle.query_lang.specs.declared.typed.TypedQuery.{TypedQuery}
-use Rattle.query_lang.specs.declared.typed.TypedStream.{TypedStream}
-use Rattle.query_lang.specs.Streams.{takings}
-use Rattle.query_lang.specs.TypedQueries.{IsValidQuery, AreValidStreams, IsValidOp}
-use Rattle.query_lang.specs.Words.{holds}
+use Rattle.query_lang.specs.{declared.typed.{TypedQuery.TypedQuery, TypedStream.TypedStream}, Streams.takings}
+use Rattle.query_lang.specs.{TypedQueries.{IsValidQuery, AreValidStreams, IsValidOp}, Words.holds}
 use Rattle.query_types.specs.Uses.{uses}
-use Rattle.epoch_model.specs.Driving.{TakenUsesAreInTrace, uses_taken}
-use Rattle.epoch_model.specs.Epochs.{Geometry}
-use Rattle.epoch_model.specs.Laws.{HasRoom, IsInTrace}
-use Rattle.epoch_model.specs.Machine.{end_of}
+use Rattle.epoch_model.specs.{Driving.{TakenUsesAreInTrace, uses_taken}, Epochs.Geometry, Laws.{HasRoom, IsInTrace}, Machine.end_of}
 use Rattle.epoch_model.proofs.KeyLists.{by_test}
-use Rattle.epoch_entry.specs.declared.purpose.Entries.TheVariants.{Bounds}
-use Rattle.epoch_entry.specs.contracts.any.AnyEpochsEpochKind.TheImpl.{ghosts}
-use Rattle.final_queries.specs.declared.table.Table.{Table}
-use Rattle.final_queries.specs.GroupTable.{ClosedGiveTheGroupTable, closed_table}
-use Rattle.stage_plan.specs.Packets.{AreWhole}
-use Rattle.stage_plan.specs.declared.group.GroupPlan.{GroupPlan}
-use Rattle.stage_plan.specs.declared.group.GroupWiring.{GroupWiring}
-use Rattle.stage_plan.specs.declared.op.Operand.TheVariants.{Number}
-use Rattle.stage_plan.specs.Planned.{IsPlanOf, fold_at, taken, wiring_at, packet_registers}
-use Rattle.stage_plan.specs.Registers.{operand_value}
-use Rattle.stage_plan.specs.Shape.{group_shape}
-use Rattle.stage_plan.specs.Sound.{PlanParts, IsSoundPlan}
-use Rattle.switch_core.specs.Pipelines.{IsLaneOf, heading_of, tables_of}
-use Rattle.switch_core.specs.PlanLanes.{LaneView, AreLanesOf, folding_at}
-use Rattle.switch_core.specs.Rows.{EachFrom}
+use Rattle.epoch_entry.specs.{declared.purpose.Entries.TheVariants.Bounds, contracts.any.AnyEpochsEpochKind.TheImpl.ghosts}
+use Rattle.final_queries.specs.{declared.table.Table.Table, GroupTable.{ClosedGiveTheGroupTable, closed_table}}
+use Rattle.stage_plan.specs.{Packets.AreWhole, declared.group.{GroupPlan.GroupPlan, GroupWiring.GroupWiring}}
+use Rattle.stage_plan.specs.{declared.op.Operand.TheVariants.Number, Planned.{IsPlanOf, fold_at, taken, wiring_at, packet_registers}}
+use Rattle.stage_plan.specs.{Registers.operand_value, Shape.group_shape, Sound.{PlanParts, IsSoundPlan}}
+use Rattle.switch_core.specs.{Pipelines.{IsLaneOf, heading_of, tables_of}, PlanLanes.{LaneView, AreLanesOf, folding_at}, Rows.EachFrom}
 use Rattle.trace_drive.specs.Drives.{uses_by, ends_from, end_machines}
-use Rattle.enclosure_folds.specs.KeyBounds.{enclosed_table}
-use Rattle.enclosure_folds.specs.Shown.{MayBeShown, shown, TablesGiveBounds}
-use Rattle.enclosure_folds.proofs.CheckFacts.{stands}
+use Rattle.enclosure_folds.{specs.{KeyBounds.enclosed_table, Shown.{MayBeShown, shown, TablesGiveBounds}}, proofs.CheckFacts.stands}
 use Rattle.enclosed_query.specs.EnclosedTables.{enclosed_if, enclosed_from, enclosed_tables, EndsGiveEnclosedTables}
 use Rattle.enclosed_query.proofs.Groups.{heading_is}
 

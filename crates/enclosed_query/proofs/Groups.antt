@@ -2,9 +2,7 @@
 use Rattle.std.proofs.Common.{ℕ, length, ap, ◌∙◌}
 use Rattle.query_lang.specs.declared.fold.TypedFold.{TypedFold}
 use Rattle.fold_class.specs.Program.{IsProgramOf}
-use Rattle.stage_plan.specs.declared.group.GroupPlan.{GroupPlan}
-use Rattle.stage_plan.specs.declared.group.GroupWiring.{GroupWiring}
-use Rattle.stage_plan.specs.Sound.{IsSoundGroup}
+use Rattle.stage_plan.specs.{declared.group.{GroupPlan.GroupPlan, GroupWiring.GroupWiring}, Sound.IsSoundGroup}
 use Rattle.switch_core.specs.Pipelines.{heading_of}
 use Rattle.enclosure_folds.specs.Shown.{IsHeadingOf}
 

@@ -1,41 +1,24 @@
 -- What is shown of each groupby holds over all packets.
 use Rattle.std.proofs.Common.{◌≡◌, ℕ, zero, suc, ◌+◌, ◌<◌, List, [], ◌∷◌, ◌++◌, Option, Some, None, length, get_or, map, true, refl, sym}
-use Rattle.std.proofs.Common.{ap, ◌∙◌, subst, arith, if◌then◌else◌}
-use Rattle.std.specs.Prelude.{option_and_then}
+use Rattle.std.proofs.{Common.{ap, ◌∙◌, subst, arith, if◌then◌else◌}, lemmas.List.{length-map, Elements.{All-filter, All-map}}}
+use Rattle.std.{proofs.lemmas.Option.{get_or_from_slice_get, slice_get_within}, specs.Prelude.option_and_then}
 use Rattle.std.specs.List.{All, filter, flat_map, slice_get}
-use Rattle.std.proofs.lemmas.List.{length-map}
-use Rattle.std.proofs.lemmas.List.Elements.{All-filter, All-map}
-use Rattle.std.proofs.lemmas.Option.{get_or_from_slice_get, slice_get_within}
-use Rattle.query_lang.specs.declared.fold.TypedFold.{TypedFold}
-use Rattle.query_lang.specs.declared.typed.Class.{Class}
-use Rattle.query_lang.specs.declared.typed.Class.TheVariants.{Linear, Other}
-use Rattle.query_lang.specs.declared.typed.TypedQuery.{TypedQuery}
-use Rattle.query_lang.specs.Folds.{IsValidFold, folded, initial_state}
-use Rattle.query_lang.specs.Streams.{Taking, takings}
-use Rattle.query_lang.specs.Words.{AreWords}
+use Rattle.query_lang.specs.declared.{fold.TypedFold.TypedFold, typed.{Class.{Class, TheVariants.{Linear, Other}}, TypedQuery.TypedQuery}}
+use Rattle.query_lang.specs.{Folds.{IsValidFold, folded, initial_state}, Streams.{Taking, takings}, Words.AreWords}
 use Rattle.query_types.specs.Uses.{uses}
-use Rattle.epoch_model.specs.declared.tables.Row.{Row}
-use Rattle.epoch_model.specs.Epochs.{Use, Geometry, epochs, is_use_of}
-use Rattle.epoch_model.specs.Keys.{Key}
-use Rattle.epoch_model.specs.Tables.{exact_row, epoch_rows, key_rows, keys_used}
-use Rattle.epoch_model.proofs.KeyOrder.{has-ascending}
+use Rattle.epoch_model.specs.{declared.tables.Row.Row, Epochs.{Use, Geometry, epochs, is_use_of}, Keys.Key}
+use Rattle.epoch_model.{specs.Tables.{exact_row, epoch_rows, key_rows, keys_used}, proofs.KeyOrder.has-ascending}
 use Rattle.epoch_entry.specs.Foldings.{folding_of, per_epoch}
 use Rattle.fold_class.specs.Kinds.{class_of}
 use Rattle.final_queries.specs.GroupTable.{Heading}
-use Rattle.stage_plan.specs.Planned.{fold_at}
-use Rattle.stage_plan.specs.Shape.{GroupShape, query_groups}
+use Rattle.stage_plan.specs.{Planned.fold_at, Shape.{GroupShape, query_groups}}
 use Rattle.query_tables.specs.Tables.{heading_of_shape}
-use Rattle.enclosure_folds.specs.declared.table.BoundsRow.{BoundsRow}
-use Rattle.enclosure_folds.specs.declared.table.Enclosed.{Enclosed}
-use Rattle.enclosure_folds.specs.Bounds.{Encloses}
+use Rattle.enclosure_folds.specs.{declared.table.{BoundsRow.BoundsRow, Enclosed.Enclosed}, Bounds.Encloses}
 use Rattle.enclosure_folds.specs.Check.{is_bounded, NoFaultMeansBounds}
 use Rattle.enclosure_folds.specs.KeyBounds.{KeyBoundsEnclose, enclosed_by, enclosed_table, key_bounds, use_rows}
 use Rattle.enclosure_folds.proofs.RowFacts.{all_of, has_use}
-use Rattle.enclosed_query.specs.EnclosedTables.{enclosed_from, enclosed_if, enclosed_tables}
-use Rattle.enclosed_query.specs.Holding.{HoldsOver, ShownTablesHold}
-use Rattle.enclosed_query.proofs.EndFacts.{fold_there}
-use Rattle.enclosed_query.proofs.ReadTables.{keys_bounded}
-use Rattle.enclosed_query.proofs.StreamWords.{uses_words}
+use Rattle.enclosed_query.specs.{EnclosedTables.{enclosed_from, enclosed_if, enclosed_tables}, Holding.{HoldsOver, ShownTablesHold}}
+use Rattle.enclosed_query.proofs.{EndFacts.fold_there, ReadTables.keys_bounded, StreamWords.uses_words}
 
 -- each key of the table has a packet
 some_rows : (given : List Use) → All (λ key. 0 < length (use_rows given key)) (keys_used given)

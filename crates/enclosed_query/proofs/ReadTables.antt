@@ -1,30 +1,17 @@
 -- What finals read of the groupbys of a query, groupby by groupby.
 use Rattle.std.proofs.Common.{◌≡◌, ℕ, suc, List, [], ◌∷◌, ◌++◌, Option, Some, None, map, refl, sym, ap, ◌∙◌, subst}
-use Rattle.std.specs.List.{All}
-use Rattle.std.proofs.lemmas.List.Elements.{All-nil, All-cons, All-head, All-tail}
-use Rattle.query_lang.specs.declared.fold.TypedFold.{TypedFold}
-use Rattle.query_lang.specs.declared.typed.Class.{Class}
-use Rattle.query_lang.specs.declared.typed.Class.TheVariants.{Linear, Other}
-use Rattle.query_lang.specs.declared.typed.TypedQuery.{TypedQuery}
-use Rattle.query_lang.specs.Streams.{takings}
-use Rattle.query_lang.specs.TypedQueries.{IsValidQuery, group_shape}
+use Rattle.std.{proofs.lemmas.List.Elements.{All-nil, All-cons, All-head, All-tail}, specs.List.All}
+use Rattle.query_lang.specs.declared.{fold.TypedFold.TypedFold, typed.{Class.{Class, TheVariants.{Linear, Other}}, TypedQuery.TypedQuery}}
+use Rattle.query_lang.specs.{Streams.takings, TypedQueries.{IsValidQuery, group_shape}}
 use Rattle.query_types.specs.Uses.{uses}
-use Rattle.epoch_model.specs.Epochs.{Use, Geometry}
-use Rattle.epoch_model.specs.Keys.{Key, IsAscending}
-use Rattle.epoch_model.proofs.KeyOrder.{ascending-ascends}
+use Rattle.epoch_model.{specs.{Epochs.{Use, Geometry}, Keys.{Key, IsAscending}}, proofs.KeyOrder.ascending-ascends}
 use Rattle.epoch_entry.specs.Foldings.{folding_of}
 use Rattle.fold_class.specs.Kinds.{class_of}
-use Rattle.final_queries.specs.declared.table.Table.{Table}
-use Rattle.final_queries.specs.declared.table.TableKind.{TableKind}
-use Rattle.final_queries.specs.declared.table.TableKind.TheVariants.{Group}
-use Rattle.final_queries.specs.Finals.{IsTable, table_shape}
+use Rattle.final_queries.specs.{declared.table.{Table.Table, TableKind.{TableKind, TheVariants.Group}}, Finals.{IsTable, table_shape}}
 use Rattle.final_queries.specs.GroupTable.{group_table}
-use Rattle.stage_plan.specs.Planned.{fold_at}
-use Rattle.stage_plan.specs.Shape.{GroupShape, query_groups}
-use Rattle.query_tables.specs.Tables.{heading_of_shape, table_if, tables_from, group_tables}
-use Rattle.query_tables.specs.TableLaws.{QueryTablesAreRead}
-use Rattle.enclosure_folds.specs.declared.table.BoundsRow.{BoundsRow}
-use Rattle.enclosure_folds.specs.BoundsTables.{ExactTablesAreRead}
+use Rattle.stage_plan.specs.{Planned.fold_at, Shape.{GroupShape, query_groups}}
+use Rattle.query_tables.specs.{Tables.{heading_of_shape, table_if, tables_from, group_tables}, TableLaws.QueryTablesAreRead}
+use Rattle.enclosure_folds.specs.{declared.table.BoundsRow.BoundsRow, BoundsTables.ExactTablesAreRead}
 use Rattle.enclosure_folds.specs.KeyBounds.{TriplesGiveWholeTables, bounds_table, enclosed_by, key_bounds}
 use Rattle.enclosure_folds.specs.Shown.{MayBeShown, MayBeShownBy, shown, shown_by}
 use Rattle.enclosed_query.specs.EnclosedTables.{enclosed_if, enclosed_from, enclosed_tables, table_read}

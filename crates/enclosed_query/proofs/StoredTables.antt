@@ -1,43 +1,23 @@
 -- The tables of what the lanes of a pipeline for bounds hold may be shown, whatever they hold.
 use Rattle.std.proofs.Common.{◌≡◌, ℕ, suc, ◌+◌, ◌*◌, ◌==◌, ◌||◌, Bool, true, false, List, [], ◌∷◌, Some, length, map, drop, refl, sym, ap}
-use Rattle.std.proofs.Common.{◌∙◌, subst, arith, length-append}
-use Rattle.std.specs.List.{All, flat_map}
-use Rattle.std.specs.Prelude.{slice_get, sum_by}
-use Rattle.std.proofs.Math.Logic.{∥∥₁_elim}
-use Rattle.std.proofs.Props.{props}
-use Rattle.std.proofs.lemmas.Bool.{false≢true}
+use Rattle.std.proofs.{Common.{◌∙◌, subst, arith, length-append}, Math.Logic.{∥∥₁_elim}, Props.props, lemmas.Bool.false≢true}
 use Rattle.std.proofs.lemmas.List.Elements.{All-nil, All-cons, All-head, All-tail, All-append, All-map, All-weaker}
-use Rattle.query_lang.specs.declared.fold.TypedFold.{TypedFold}
-use Rattle.query_lang.specs.declared.typed.Class.{Class}
+use Rattle.std.specs.{List.{All, flat_map}, Prelude.{slice_get, sum_by}}
+use Rattle.query_lang.specs.declared.{fold.TypedFold.TypedFold, typed.Class.Class}
 use Rattle.query_lang.specs.declared.typed.Class.TheVariants as class
-use Rattle.epoch_model.specs.declared.tables.Mark.TheVariants.{Plain}
-use Rattle.epoch_model.specs.declared.tables.Row.{Row}
-use Rattle.epoch_model.specs.Tables.{epochs_shown}
-use Rattle.epoch_model.specs.Keys.{Key, ascending, has}
-use Rattle.epoch_model.proofs.KeyLists.{by_test, key_eq-true}
-use Rattle.epoch_model.proofs.KeyOrder.{has-ascending}
-use Rattle.backing_store.specs.Merged.{epochs_in, shown_row}
-use Rattle.backing_store.specs.SortedRows.{numbered, stored_rows, sorted_rows}
+use Rattle.epoch_model.specs.{declared.tables.{Mark.TheVariants.Plain, Row.Row}, Tables.epochs_shown, Keys.{Key, ascending, has}}
+use Rattle.epoch_model.proofs.{KeyLists.{by_test, key_eq-true}, KeyOrder.has-ascending}
+use Rattle.backing_store.specs.{Merged.{epochs_in, shown_row}, SortedRows.{numbered, stored_rows, sorted_rows}}
 use Rattle.backing_store.specs.Store.{Store, StoredKey, StoredRow, IsStore, AreKeysOf, AreRowsOf, number_of, states_at, states_of}
-use Rattle.epoch_entry.specs.declared.purpose.Entries.TheVariants.{Bounds}
-use Rattle.epoch_entry.specs.contracts.any.AnyEpochsEpochKind.TheImpl.{ghosts}
+use Rattle.epoch_entry.specs.{declared.purpose.Entries.TheVariants.Bounds, contracts.any.AnyEpochsEpochKind.TheImpl.ghosts}
 use Rattle.epoch_entry.specs.Purposes.{IsBoundingKind}
-use Rattle.final_queries.specs.declared.table.Table.{Table}
-use Rattle.final_queries.specs.declared.table.TableKind.TheVariants.{Group}
-use Rattle.final_queries.specs.Finals.{HasColumns}
-use Rattle.stage_plan.specs.declared.group.GroupPlan.{GroupPlan}
-use Rattle.stage_plan.specs.Planned.{wiring_at}
-use Rattle.stage_plan.specs.Sound.{PlanParts, IsSoundPlan}
-use Rattle.switch_core.specs.Pipelines.{IsLaneOf, heading_of, stored_table}
-use Rattle.switch_core.specs.PlanLanes.{LaneView, folding_at, stored_tables}
-use Rattle.switch_core.specs.Rows.{EachFrom}
-use Rattle.switch_core.proofs.LanesMade.{group_sound}
-use Rattle.enclosure_folds.specs.KeyBounds.{HasTriples, states_in}
-use Rattle.enclosure_folds.specs.Shown.{IsHeadingOf, MayBeShown, MayBeShownBy}
-use Rattle.enclosure_folds.proofs.CheckFacts.{stands}
-use Rattle.enclosure_folds.proofs.RowFacts.{all_of}
-use Rattle.enclosed_query.specs.AfterEvents.{HasStoredRows, HaveStoredRows}
-use Rattle.enclosed_query.proofs.Groups.{heading_is}
+use Rattle.final_queries.specs.{declared.table.{Table.Table, TableKind.TheVariants.Group}, Finals.HasColumns}
+use Rattle.stage_plan.specs.{declared.group.GroupPlan.GroupPlan, Planned.wiring_at, Sound.{PlanParts, IsSoundPlan}}
+use Rattle.switch_core.specs.{Pipelines.{IsLaneOf, heading_of, stored_table}, PlanLanes.{LaneView, folding_at, stored_tables}}
+use Rattle.switch_core.{specs.Rows.EachFrom, proofs.LanesMade.group_sound}
+use Rattle.enclosure_folds.specs.{KeyBounds.{HasTriples, states_in}, Shown.{IsHeadingOf, MayBeShown, MayBeShownBy}}
+use Rattle.enclosure_folds.proofs.{CheckFacts.stands, RowFacts.all_of}
+use Rattle.enclosed_query.{specs.AfterEvents.{HasStoredRows, HaveStoredRows}, proofs.Groups.heading_is}
 
 -- the keys and the states of a store have its numbers of words
 

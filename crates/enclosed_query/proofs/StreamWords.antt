@@ -1,23 +1,15 @@
 -- Streams over packets of words consist of words.
 use Rattle.std.proofs.Common.{ℕ, zero, suc, List, [], ◌∷◌, ◌++◌, Option, Some, None, length, get_or, map, slice_index, Bool, true, false}
-use Rattle.std.proofs.Common.{not}
-use Rattle.std.specs.Prelude.{IfSome, fold, option_map, ◌==◌, if◌then◌else◌}
-use Rattle.std.specs.List.{All, cons_option, filter, filter_map, find, slice_get}
-use Rattle.std.proofs.lemmas.List.Elements.{All-nil, All-cons, All-head, All-tail, All-append, All-filter, All-map, All-push}
+use Rattle.std.proofs.{Common.not, lemmas.List.Elements.{All-nil, All-cons, All-head, All-tail, All-append, All-filter, All-map, All-push}}
+use Rattle.std.specs.{Prelude.{IfSome, fold, option_map, ◌==◌, if◌then◌else◌}, List.{All, cons_option, filter, filter_map, find, slice_get}}
 use Rattle.epoch_entry.proofs.FoldLemmas.{word_at}
 use Rattle.epoch_model.specs.Epochs.{Use}
-use Rattle.query_lang.specs.declared.fold.TypedExpr.{TypedExpr}
-use Rattle.query_lang.specs.declared.fold.TypedFold.{TypedFold}
-use Rattle.query_lang.specs.declared.typed.TypedOp.{TypedOp}
+use Rattle.query_lang.specs.declared.{fold.{TypedExpr.TypedExpr, TypedFold.TypedFold}, typed.TypedOp.TypedOp}
 use Rattle.query_lang.specs.declared.typed.TypedOp.TheVariants as op
-use Rattle.query_lang.specs.declared.typed.TypedQuery.{TypedQuery}
-use Rattle.query_lang.specs.declared.typed.TypedStream.{TypedStream}
-use Rattle.query_lang.specs.Folds.{IsValidTerm, term_value}
+use Rattle.query_lang.specs.{declared.typed.{TypedQuery.TypedQuery, TypedStream.TypedStream}, Folds.{IsValidTerm, term_value}}
 use Rattle.query_lang.specs.Streams.{Tuple, Taking, all_streams, emits_at, expr_value, group_stream, tuples_at, made_of, numbered, takings}
-use Rattle.query_lang.specs.Streams.{values_at}
-use Rattle.query_lang.specs.Terms.{Term, Literal, Read, Negation, Operation, term_of}
-use Rattle.query_lang.specs.TypedQueries.{IsValidOp, IsValidQuery, IsValidWord, AreValidStreams}
-use Rattle.query_lang.specs.Words.{AreWords, IsWord, holds}
+use Rattle.query_lang.specs.{Streams.values_at, Terms.{Term, Literal, Read, Negation, Operation, term_of}}
+use Rattle.query_lang.specs.{TypedQueries.{IsValidOp, IsValidQuery, IsValidWord, AreValidStreams}, Words.{AreWords, IsWord, holds}}
 use Rattle.query_lang.proofs.WordLemmas.{flag_word, op_word}
 use Rattle.query_types.specs.Uses.{taken_by, use_of, uses}
 

@@ -1,28 +1,15 @@
 -- The texts of tables in two parts are those of what is shown.
 use Rattle.std.proofs.Common.{◌≡◌, ℕ, zero, suc, List, [], ◌∷◌, ◌++◌, Option, None, Some, length, map, drop, refl, sym, ap, ap₂, ◌∙◌}
-use Rattle.std.proofs.Common.{append-nil, append_assoc}
-use Rattle.std.specs.Prelude.{option_map, unwrap_or}
-use Rattle.std.specs.List.{All, flat_map, slice_get}
-use Rattle.std.proofs.Math.Seq.{drop-append_seam}
-use Rattle.std.proofs.lemmas.List.{length-map}
-use Rattle.std.proofs.lemmas.List.Elements.{All-nil, All-cons, All-head, All-tail}
-use Rattle.std.proofs.lemmas.Option.{slice_get-map}
-use Rattle.query_lang.specs.declared.fold.TypedFold.{TypedFold}
-use Rattle.query_lang.specs.declared.typed.TypedFinal.{TypedFinal}
-use Rattle.query_lang.specs.declared.typed.PrintOf.{PrintOf}
-use Rattle.query_lang.specs.declared.typed.TypedQuery.{TypedQuery}
-use Rattle.query_lang.specs.Streams.{takings}
-use Rattle.query_lang.specs.TypedFinals.{table_number}
-use Rattle.query_lang.specs.TypedQueries.{group_shape}
-use Rattle.final_queries.specs.declared.table.Table.{Table}
-use Rattle.final_queries.specs.Finals.{final_table, table_shape, with_finals}
+use Rattle.std.proofs.{Common.{append-nil, append_assoc}, Math.Seq.drop-append_seam, lemmas.List.length-map}
+use Rattle.std.proofs.lemmas.{List.Elements.{All-nil, All-cons, All-head, All-tail}, Option.slice_get-map}
+use Rattle.std.specs.{Prelude.{option_map, unwrap_or}, List.{All, flat_map, slice_get}}
+use Rattle.query_lang.specs.declared.{fold.TypedFold.TypedFold, typed.{TypedFinal.TypedFinal, PrintOf.PrintOf, TypedQuery.TypedQuery}}
+use Rattle.query_lang.specs.{Streams.takings, TypedFinals.table_number, TypedQueries.group_shape}
+use Rattle.final_queries.specs.{declared.table.Table.Table, Finals.{final_table, table_shape, with_finals}}
 use Rattle.table_printer.specs.TableText.{table_text}
-use Rattle.enclosure_folds.specs.declared.table.BoundsTable.{BoundsTable}
-use Rattle.enclosure_folds.specs.declared.table.Enclosed.{Enclosed}
-use Rattle.enclosure_folds.specs.declared.table.Enclosed.TheVariants.{Linear, Bounds}
+use Rattle.enclosure_folds.specs.declared.table.{BoundsTable.BoundsTable, Enclosed.{Enclosed, TheVariants.{Linear, Bounds}}}
 use Rattle.enclosed_query.specs.EnclosedTables.{all_texts, enclosed_print, shown_text, table_read}
-use Rattle.enclosed_query.specs.Parts.{IsWholeIfThere, bounds_at, bounds_shown, text_at, text_shown}
-use Rattle.enclosed_query.specs.Reading.{IsWhole}
+use Rattle.enclosed_query.specs.{Parts.{IsWholeIfThere, bounds_at, bounds_shown, text_at, text_shown}, Reading.IsWhole}
 
 -- a table that has no bounds
 pub table_text_at : (bounds : List (Option BoundsTable)) (tables : List Table) (n : ℕ) (t : Table) → slice_get tables n ≡ Some t

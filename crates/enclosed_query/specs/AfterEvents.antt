@@ -1,22 +1,13 @@
 -- What is shown of a pipeline for bounds after any events, in whatever order packets, evictions and merges came.
 use Rattle.std.specs.Prelude.{◌≡◌, ℕ, true, List, map, slice_get, Some}
-use Rattle.query_lang.specs.declared.fold.TypedFold.{TypedFold}
-use Rattle.query_lang.specs.Folds.{initial_state}
-use Rattle.query_lang.specs.Words.{AreWords}
-use Rattle.epoch_model.specs.Epochs.{Geometry}
-use Rattle.epoch_model.specs.Machine.{Event, Machine}
+use Rattle.query_lang.specs.{declared.fold.TypedFold.TypedFold, Folds.initial_state, Words.AreWords}
+use Rattle.epoch_model.specs.{Epochs.Geometry, Machine.{Event, Machine}}
 use Rattle.epoch_entry.specs.contracts.any.AnyEpochsEpochKind.TheImpl.{ghosts}
-use Rattle.fold_class.specs.Kinds.{class_of}
-use Rattle.fold_class.specs.Program.{IsProgramOf}
+use Rattle.fold_class.specs.{Kinds.class_of, Program.IsProgramOf}
 use Rattle.backing_store.specs.Store.{IsStore}
-use Rattle.stage_plan.specs.declared.group.GroupPlan.{GroupPlan}
-use Rattle.stage_plan.specs.Sound.{PlanParts}
-use Rattle.switch_core.specs.Pipelines.{after_events, empty_machines, tables_of}
-use Rattle.switch_core.specs.PlanLanes.{LaneView, PipelineView, folding_at}
-use Rattle.enclosure_folds.specs.declared.table.Enclosed.{Enclosed}
-use Rattle.enclosure_folds.specs.Check.{is_bounded}
-use Rattle.enclosure_folds.specs.Holding.{HoldsAfter, TakesWords}
-use Rattle.enclosure_folds.specs.Shown.{shown}
+use Rattle.stage_plan.specs.{declared.group.GroupPlan.GroupPlan, Sound.PlanParts}
+use Rattle.switch_core.specs.{Pipelines.{after_events, empty_machines, tables_of}, PlanLanes.{LaneView, PipelineView, folding_at}}
+use Rattle.enclosure_folds.specs.{declared.table.Enclosed.Enclosed, Check.is_bounded, Holding.{HoldsAfter, TakesWords}, Shown.shown}
 
 -- What is shown of a pipeline that represents these machines: the tables of their closed epochs, groupby by groupby.
 abbrev pub shown_tables : PipelineView → List Machine → List Enclosed

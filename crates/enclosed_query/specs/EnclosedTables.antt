@@ -1,31 +1,20 @@
 -- What is shown of a query where bounds are asked for, and what it prints.
-use Rattle.std.specs.Prelude.{◌≡◌, ℕ, suc, List, [], ◌∷◌, ◌++◌, All, length, map, drop, flat_map, slice_get, Option}
-use Rattle.std.specs.Prelude.{Some, None, unwrap_or}
-use Rattle.query_lang.specs.declared.fold.TypedFold.{TypedFold}
-use Rattle.query_lang.specs.declared.typed.TypedQuery.{TypedQuery}
-use Rattle.query_lang.specs.Streams.{takings}
-use Rattle.query_lang.specs.TypedFinals.{table_number}
+use Rattle.std.specs.Prelude.{◌≡◌, ℕ, suc, List, [], ◌∷◌, ◌++◌, All, length, map, drop, flat_map, slice_get, Option, Some, None, unwrap_or}
+use Rattle.query_lang.specs.{declared.{fold.TypedFold.TypedFold, typed.TypedQuery.TypedQuery}, Streams.takings, TypedFinals.table_number}
 use Rattle.query_lang.specs.TypedQueries.{IsValidQuery}
 use Rattle.query_types.specs.Uses.{uses}
-use Rattle.epoch_model.specs.Epochs.{Geometry}
-use Rattle.epoch_model.specs.Laws.{HasRoom}
+use Rattle.epoch_model.specs.{Epochs.Geometry, Laws.HasRoom}
 use Rattle.epoch_entry.specs.declared.purpose.Entries.TheVariants.{Bounds}
-use Rattle.stage_plan.specs.Packets.{AreWhole}
-use Rattle.stage_plan.specs.Planned.{IsPlanOf, fold_at}
-use Rattle.stage_plan.specs.Shape.{GroupShape, query_groups}
+use Rattle.stage_plan.specs.{Packets.AreWhole, Planned.{IsPlanOf, fold_at}, Shape.{GroupShape, query_groups}}
 use Rattle.stage_plan.specs.Sound.{PlanParts, IsSoundPlan}
-use Rattle.final_queries.specs.declared.table.Table.{Table}
-use Rattle.final_queries.specs.Finals.{with_finals}
+use Rattle.final_queries.specs.{declared.table.Table.Table, Finals.with_finals}
 use Rattle.table_printer.specs.TableText.{table_text}
 use Rattle.query_tables.specs.Tables.{heading_of_shape}
-use Rattle.switch_core.specs.Pipelines.{tables_of}
-use Rattle.switch_core.specs.PlanLanes.{LaneView, PipelineView, AreLanesOf, PipelineStands, folding_at}
+use Rattle.switch_core.specs.{Pipelines.tables_of, PlanLanes.{LaneView, PipelineView, AreLanesOf, PipelineStands, folding_at}}
 use Rattle.trace_drive.specs.Drives.{end_machines}
 use Rattle.enclosure_folds.specs.declared.table.Enclosed.{Enclosed}
 use Rattle.enclosure_folds.specs.declared.table.Enclosed.TheVariants as enclosed
-use Rattle.enclosure_folds.specs.BoundsTables.{bounds_text, exact_table}
-use Rattle.enclosure_folds.specs.KeyBounds.{enclosed_table}
-use Rattle.enclosure_folds.specs.Shown.{MayBeShown, shown}
+use Rattle.enclosure_folds.specs.{BoundsTables.{bounds_text, exact_table}, KeyBounds.enclosed_table, Shown.{MayBeShown, shown}}
 
 -- what is shown of a groupby with this number; one whose fold isn't there shows nothing, and each groupby of a valid query has a fold
 abbrev pub enclosed_if : TypedQuery → Geometry → List (List ℕ) → ℕ → GroupShape → Option TypedFold → List Enclosed

@@ -1,18 +1,11 @@
 -- What is shown of groupbys holds over all packets, whatever the caches evicted meanwhile.
 use Rattle.std.specs.Prelude.{◌≡◌, ℕ, List, All, slice_get, Some, None}
-use Rattle.query_lang.specs.declared.fold.TypedFold.{TypedFold}
-use Rattle.query_lang.specs.declared.typed.TypedQuery.{TypedQuery}
-use Rattle.query_lang.specs.Folds.{initial_state}
-use Rattle.query_lang.specs.TypedQueries.{IsValidQuery}
-use Rattle.query_lang.specs.Words.{AreWords}
+use Rattle.query_lang.specs.{declared.{fold.TypedFold.TypedFold, typed.TypedQuery.TypedQuery}, Folds.initial_state}
+use Rattle.query_lang.specs.{TypedQueries.IsValidQuery, Words.AreWords}
 use Rattle.query_types.specs.Uses.{uses}
-use Rattle.epoch_model.specs.Epochs.{Use, Geometry}
-use Rattle.epoch_model.specs.Tables.{keys_used}
+use Rattle.epoch_model.specs.{Epochs.{Use, Geometry}, Tables.keys_used}
 use Rattle.stage_plan.specs.Planned.{fold_at}
-use Rattle.enclosure_folds.specs.declared.table.Enclosed.{Enclosed}
-use Rattle.enclosure_folds.specs.Check.{enclose_fault}
-use Rattle.enclosure_folds.specs.Holding.{HoldsFor}
-use Rattle.enclosure_folds.specs.KeyBounds.{use_rows}
+use Rattle.enclosure_folds.specs.{declared.table.Enclosed.Enclosed, Check.enclose_fault, Holding.HoldsFor, KeyBounds.use_rows}
 use Rattle.enclosed_query.specs.EnclosedTables.{enclosed_tables}
 
 -- there is a row for each key that has a packet, in ascending order, and the rows hold over all packets of their key

@@ -2,8 +2,7 @@
 use Rattle.std.specs.Prelude.{ℕ, List, [], slice_get, Option, Some, None, IfSome, option_and_then, option_map, unwrap_or}
 use Rattle.final_queries.specs.declared.table.Table.{Table}
 use Rattle.table_printer.specs.TableText.{table_text}
-use Rattle.enclosure_folds.specs.declared.table.BoundsTable.{BoundsTable}
-use Rattle.enclosure_folds.specs.declared.table.Enclosed.{Enclosed}
+use Rattle.enclosure_folds.specs.declared.table.{BoundsTable.BoundsTable, Enclosed.Enclosed}
 use Rattle.enclosure_folds.specs.declared.table.Enclosed.TheVariants as enclosed
 use Rattle.enclosure_folds.specs.BoundsTables.{IsBoundsTable, bounds_text}
 

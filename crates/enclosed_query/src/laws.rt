@@ -1,8 +1,6 @@
 //! What the machines at the end of a trace give where bounds are asked for.
 
-ghost use Rattle.enclosed_query.specs.EnclosedTables.{EndsGiveEnclosedTables};
-ghost use Rattle.enclosed_query.specs.Holding.{ShownTablesHold};
-ghost use Rattle.enclosed_query.specs.Reading.{EnclosedTablesAreRead};
+ghost use Rattle.enclosed_query.specs.{EnclosedTables.EndsGiveEnclosedTables, Holding.ShownTablesHold, Reading.EnclosedTablesAreRead};
 
 use enclosure_folds::{
     exact_tables_are_read, key_bounds_enclose, no_fault_means_bounds, tables_give_bounds,

@@ -1,17 +1,11 @@
 //! What a query prints where bounds are asked for.
 
-ghost use Rattle.std.specs.Prelude.{◌≡◌, ◌++◌, ◌<◌, ◌≤◌, All, [], ◌∷◌, length, map, flat_map};
-ghost use Rattle.std.specs.Prelude.{IfOk, IsErrOf, OnErr, OnOk};
-ghost use Rattle.marple_base.specs.Faults.{Rose};
-ghost use Rattle.marple_base.specs.Sink.{TakesFront};
-ghost use Rattle.query_lang.specs.TypedQueries.{IsValidQuery, group_shape};
-ghost use Rattle.query_lang.specs.Streams.{takings};
-ghost use Rattle.query_lang.specs.TypedFinals.{table_number};
+ghost use Rattle.std.specs.Prelude.{◌≡◌, ◌++◌, ◌<◌, ◌≤◌, All, [], ◌∷◌, length, map, flat_map, IfOk, IsErrOf, OnErr, OnOk};
+ghost use Rattle.marple_base.specs.{Faults.Rose, Sink.TakesFront, Pieces.TakesAllBut};
+ghost use Rattle.query_lang.specs.{TypedQueries.{IsValidQuery, group_shape}, Streams.takings, TypedFinals.table_number};
 ghost use Rattle.final_queries.specs.Finals.{IsTable, table_shape};
 ghost use Rattle.enclosed_query.specs.EnclosedTables.{enclosed_print, table_read};
-ghost use Rattle.enclosed_query.specs.Parts.{IsWholeIfThere, bounds_at, bounds_shown, text_at};
-ghost use Rattle.enclosed_query.specs.Reading.{IsWhole};
-ghost use Rattle.marple_base.specs.Pieces.{TakesAllBut};
+ghost use Rattle.enclosed_query.specs.{Parts.{IsWholeIfThere, bounds_at, bounds_shown, text_at}, Reading.IsWhole};
 
 use enclosure_folds::{BoundsTable, Enclosed, exact_rows, write_bounds};
 use final_queries::Table;

@@ -1,7 +1,6 @@
 //! The words that the variables of folds start from.
 
-ghost use Rattle.query_lang.specs.Folds.{initial_state};
-ghost use Rattle.query_lang.specs.Words.{AreWords};
+ghost use Rattle.query_lang.specs.{Folds.initial_state, Words.AreWords};
 ghost use Rattle.enclosed_query.specs.Holding.{StartFromWords};
 
 use query_lang::{TypedFold, TypedQuery};

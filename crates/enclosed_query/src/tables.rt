@@ -1,17 +1,13 @@
 //! What is shown of the groupbys of a pipeline.
 
-ghost use Rattle.std.specs.Prelude.{◌≡◌, ℕ, All, List, map, true, IfOk};
-ghost use Rattle.std.specs.List.{list_all};
+ghost use Rattle.std.specs.{Prelude.{◌≡◌, ℕ, All, List, map, true, IfOk}, List.list_all};
 ghost use Rattle.query_lang.specs.declared.typed.TypedQuery.{TypedQuery as AnyQuery};
 ghost use Rattle.epoch_entry.specs.declared.purpose.Entries.TheVariants.{Bounds};
-ghost use Rattle.epoch_model.specs.Epochs.{Geometry};
-ghost use Rattle.epoch_model.specs.Laws.{HasRoom};
-ghost use Rattle.epoch_model.specs.Machine.{Event, Machine};
+ghost use Rattle.epoch_model.specs.{Epochs.Geometry, Laws.HasRoom, Machine.{Event, Machine}};
 ghost use Rattle.switch_core.specs.PlanLanes.{PipelineStands, lane_is_drained, stored_tables};
 ghost use Rattle.enclosure_folds.specs.Shown.{MayBeShown, shown};
 ghost use Rattle.enclosed_query.specs.AfterEvents.{HaveStoredRows, ShownHoldsAfter, machines_after, shown_tables};
-ghost use Rattle.enclosed_query.specs.EnclosedTables.{enclosed_tables, EndsAt};
-ghost use Rattle.enclosed_query.specs.Reading.{IsWhole};
+ghost use Rattle.enclosed_query.specs.{EnclosedTables.{enclosed_tables, EndsAt}, Reading.IsWhole};
 
 use crate::laws::ends_give_enclosed_tables;
 use enclosure_folds::{Enclosed, closed_tables_hold, enclosed_of, triples_give_whole_tables};

@@ -1,27 +1,19 @@
 -- The bounds of a key enclose the fold over all of its rows.
 use Rattle.std.proofs.Common.{◌≡◌, ℕ, suc, ◌<◌, true, List, [], ◌∷◌, ◌++◌, All, length, map, refl, sym, ap, ◌∙◌, subst, arith}
-use Rattle.std.proofs.Common.{length-append, if◌then◌else◌}
-use Rattle.std.specs.Prelude.{fold, filter}
-use Rattle.std.proofs.Math.Nat.{le_refl}
+use Rattle.std.proofs.{Common.{length-append, if◌then◌else◌}, Math.Nat.le_refl}
 use Rattle.std.proofs.lemmas.List.{get_or_append_left, append-nil, append_assoc, length-map, length-replicate}
-use Rattle.std.specs.Cmp.Lexicographic.{same_text}
+use Rattle.std.specs.{Prelude.{fold, filter}, Cmp.Lexicographic.same_text}
 use mathlib.Core.Path.{fun_ext}
-use Rattle.query_lang.specs.declared.fold.TypedFold.{TypedFold}
-use Rattle.query_lang.specs.Words.{AreWords}
-use Rattle.query_lang.specs.Folds.{folded, fold_states, initial_state, IsValidFold}
-use Rattle.epoch_model.specs.Keys.{Key, ArgRow}
-use Rattle.epoch_model.specs.Epochs.{Use, Geometry, is_use_of, epochs}
-use Rattle.epoch_model.specs.Tables.{Folding, epoch_rows, exact_row, key_rows}
-use Rattle.epoch_model.proofs.Cuts.{epochs_cut_the_rows_lem}
-use Rattle.epoch_entry.specs.Kinds.{Sizes}
-use Rattle.epoch_entry.proofs.FoldLemmas.{length-folded}
-use Rattle.enclosure_folds.specs.Kinds.{is_monotone}
-use Rattle.enclosure_folds.specs.States.{IsAtMost}
+use Rattle.query_lang.specs.{declared.fold.TypedFold.TypedFold, Words.AreWords, Folds.{folded, fold_states, initial_state, IsValidFold}}
+use Rattle.epoch_model.specs.{Keys.{Key, ArgRow}, Epochs.{Use, Geometry, is_use_of, epochs}}
+use Rattle.epoch_model.{specs.Tables.{Folding, epoch_rows, exact_row, key_rows}, proofs.Cuts.epochs_cut_the_rows_lem}
+use Rattle.epoch_entry.{specs.Kinds.Sizes, proofs.FoldLemmas.length-folded}
+use Rattle.enclosure_folds.specs.{Kinds.is_monotone, States.IsAtMost}
 use Rattle.enclosure_folds.proofs.Enclosure as Enclosure
 use Rattle.epoch_entry.specs.Triples.{first_third, second_third, last_third}
 use Rattle.epoch_entry.specs.Bounds.{least_state, greatest_state, bounds_after, IsBoundsKindOf}
-use Rattle.enclosure_folds.specs.Bounds.{last_or, low_bound, high_bound, is_exact, Encloses, row_words, RowsEnclose, all_rows}
 use Rattle.epoch_entry.proofs.TripleLemmas.{first_is, second_is, last_is}
+use Rattle.enclosure_folds.specs.Bounds.{last_or, low_bound, high_bound, is_exact, Encloses, row_words, RowsEnclose, all_rows}
 
 pub exact_equal : (low high : List ℕ) → is_exact low high ≡ true → low ≡ high
 exact_equal low high e = same_text low high (sym e)

@@ -1,20 +1,12 @@
 -- The groupbys of a query and those of its plan, one by one.
 use Rattle.std.proofs.Common.{◌≡◌, ℕ, zero, suc, ◌+◌, ◌<◌, Bool, true, false, if◌then◌else◌, List, [], ◌∷◌, length, get_or, drop, Some}
-use Rattle.std.proofs.Common.{None, Option, refl, sym, ap, ◌∙◌, arith}
-use Rattle.std.specs.Prelude.{is_some, slice_get, option_map, option_and_then}
-use Rattle.std.specs.List.{cons_option}
-use Rattle.std.proofs.lemmas.List.{drop_more}
-use Rattle.query_lang.specs.declared.fault.FaultKind.TheVariants.{NotMonotone}
-use Rattle.query_lang.specs.declared.fault.QueryFault.{QueryFault}
-use Rattle.query_lang.specs.declared.query.Name.{Name}
-use Rattle.query_lang.specs.declared.fold.TypedFold.{TypedFold}
-use Rattle.query_lang.specs.declared.typed.TypedQuery.{TypedQuery}
-use Rattle.query_lang.specs.declared.typed.TypedStream.{TypedStream}
+use Rattle.std.proofs.{Common.{None, Option, refl, sym, ap, ◌∙◌, arith}, lemmas.List.drop_more}
+use Rattle.std.specs.{Prelude.{is_some, slice_get, option_map, option_and_then}, List.cons_option}
+use Rattle.query_lang.specs.declared.{fault.{FaultKind.TheVariants.NotMonotone, QueryFault.QueryFault}, query.Name.Name}
+use Rattle.query_lang.specs.declared.{fold.TypedFold.TypedFold, typed.{TypedQuery.TypedQuery, TypedStream.TypedStream}}
 use Rattle.query_lang.specs.Streams.{Taking, taking_of, takings}
 use Rattle.fold_class.specs.Kinds.{class_of}
-use Rattle.stage_plan.specs.declared.group.GroupPlan.{GroupPlan}
-use Rattle.stage_plan.specs.Planned.{IsPlanOf, fold_at}
-use Rattle.stage_plan.specs.Sound.{PlanParts}
+use Rattle.stage_plan.specs.{declared.group.GroupPlan.GroupPlan, Planned.{IsPlanOf, fold_at}, Sound.PlanParts}
 use Rattle.enclosure_folds.specs.Check.{is_bounded, fold_fault, stream_fault, or_else, first_fault, NoFaultMeansBounds}
 
 pub record Stands {A : Type 0} (xs : List A) (n : ℕ) (x : A) (rest : List A) : Type 0 where

@@ -1,49 +1,27 @@
 -- The table of closed epochs, and what is shown of them after any events.
 use Rattle.std.proofs.Common.{◌≡◌, ℕ, suc, ◌*◌, ◌<◌, true, false, ◌||◌, List, [], ◌∷◌, length, get_or, map, refl, sym, ap, ◌∙◌, subst}
 use Rattle.std.proofs.Common.{arith, length-append, if◌then◌else◌}
-use Rattle.std.specs.List.{All, flat_map}
-use Rattle.std.proofs.lemmas.List.Elements.{All-nil, All-cons, All-head, All-tail, All-append, All-map}
-use Rattle.query_lang.specs.declared.fold.TypedFold.{TypedFold}
-use Rattle.query_lang.specs.declared.typed.Class.{Class}
+use Rattle.std.{proofs.lemmas.List.Elements.{All-nil, All-cons, All-head, All-tail, All-append, All-map}, specs.List.{All, flat_map}}
+use Rattle.query_lang.specs.declared.{fold.TypedFold.TypedFold, typed.Class.Class}
 use Rattle.query_lang.specs.declared.typed.Class.TheVariants as class
 use Rattle.query_lang.specs.Folds as Folds
-use Rattle.query_lang.specs.Folds.{fold_states, initial_state, IsValidFold}
-use Rattle.query_lang.specs.Words.{AreWords}
-use Rattle.epoch_model.specs.declared.tables.Row.{Row}
-use Rattle.epoch_model.specs.Epochs.{Geometry}
-use Rattle.epoch_model.specs.Keys.{Key, ArgRow, ascending, has}
-use Rattle.epoch_model.specs.Laws.{HasRoom, rows_given}
-use Rattle.epoch_model.specs.Machine.{Epoch, Event, empty_machine, lists_of, run}
-use Rattle.epoch_model.specs.TableLaws.{keys_given}
-use Rattle.epoch_model.specs.Tables.{Folding, folded, mark_of, epochs_shown, epoch_rows, exact_row, closed_key_rows, closed_keys}
-use Rattle.epoch_model.specs.Tables.{closed_rows, closed_epochs}
-use Rattle.epoch_model.specs.Timeline.{IsSwept}
-use Rattle.epoch_model.proofs.EpochLists.{keys_of}
-use Rattle.epoch_model.proofs.KeyLists.{by_test, key_eq-true}
-use Rattle.epoch_model.proofs.KeyOrder.{ascending-ascends, has-ascending}
-use Rattle.epoch_model.proofs.Rows.{no_row_is_lost_lem}
+use Rattle.query_lang.specs.{Folds.{fold_states, initial_state, IsValidFold}, Words.AreWords}
+use Rattle.epoch_model.specs.{declared.tables.Row.Row, Epochs.Geometry, Keys.{Key, ArgRow, ascending, has}, Laws.{HasRoom, rows_given}}
+use Rattle.epoch_model.specs.{Machine.{Epoch, Event, empty_machine, lists_of, run}, TableLaws.keys_given, Tables.{Folding, folded, mark_of}}
+use Rattle.epoch_model.specs.Tables.{epochs_shown, epoch_rows, exact_row, closed_key_rows, closed_keys, closed_rows, closed_epochs}
+use Rattle.epoch_model.{specs.Timeline.IsSwept, proofs.{EpochLists.keys_of, KeyLists.{by_test, key_eq-true}}}
+use Rattle.epoch_model.proofs.{KeyOrder.{ascending-ascends, has-ascending}, Rows.no_row_is_lost_lem}
 use Rattle.epoch_model.proofs.TableRows.{some, has-some, closed-lists, exact_rows_fold_all_packets_lem, flat_map-single}
 use Rattle.fold_class.specs.Kinds.{class_of}
-use Rattle.epoch_entry.specs.Bounds.{IsBoundsKindOf}
-use Rattle.epoch_entry.specs.Foldings.{folding_of, per_epoch}
-use Rattle.epoch_entry.specs.Kinds.{Sizes}
-use Rattle.epoch_entry.specs.Purposes.{IsBoundingKind}
-use Rattle.final_queries.specs.declared.table.TableKind.TheVariants.{Group}
-use Rattle.final_queries.specs.FinalLaws.{AlikeFoldingsMakeOneTable}
-use Rattle.final_queries.specs.Finals.{HasColumns}
+use Rattle.epoch_entry.specs.{Bounds.IsBoundsKindOf, Foldings.{folding_of, per_epoch}, Kinds.Sizes, Purposes.IsBoundingKind}
+use Rattle.final_queries.specs.{declared.table.TableKind.TheVariants.Group, FinalLaws.AlikeFoldingsMakeOneTable, Finals.HasColumns}
 use Rattle.final_queries.specs.GroupTable.{Heading, closed_table}
 use Rattle.enclosure_folds.specs.declared.table.BoundsRow.{BoundsRow}
 use Rattle.enclosure_folds.specs.declared.table.Enclosed.TheVariants as enclosed
-use Rattle.enclosure_folds.specs.Bounds.{all_rows, Encloses}
-use Rattle.enclosure_folds.specs.Check.{is_bounded}
-use Rattle.enclosure_folds.specs.Closed.{closed_bounds, closed_bounds_table, closed_by, ClosedTablesGiveBounds, ClosedBoundsEnclose}
-use Rattle.enclosure_folds.specs.Closed.{ClosedTablesHold}
-use Rattle.enclosure_folds.specs.Holding.{HoldsAfter, TakesWords}
-use Rattle.enclosure_folds.specs.KeyBounds.{HasTriples, states_in, table_bounds}
-use Rattle.enclosure_folds.specs.Shown.{shown_by, MayBeShownBy, IsHeadingOf}
-use Rattle.enclosure_folds.proofs.BoundLemmas.{enclosed, some_pieces}
-use Rattle.enclosure_folds.proofs.RowFacts.{all_of, rows_give, gives}
-use Rattle.enclosure_folds.proofs.ShownFacts.{long_bounds}
+use Rattle.enclosure_folds.specs.{Bounds.{all_rows, Encloses}, Check.is_bounded, Closed.{closed_bounds, closed_bounds_table, closed_by}}
+use Rattle.enclosure_folds.specs.{Closed.{ClosedTablesGiveBounds, ClosedBoundsEnclose, ClosedTablesHold}, Holding.{HoldsAfter, TakesWords}}
+use Rattle.enclosure_folds.specs.{KeyBounds.{HasTriples, states_in, table_bounds}, Shown.{shown_by, MayBeShownBy, IsHeadingOf}}
+use Rattle.enclosure_folds.proofs.{BoundLemmas.{enclosed, some_pieces}, RowFacts.{all_of, rows_give, gives}, ShownFacts.long_bounds}
 
 -- the keys of closed epochs, and their row lists
 

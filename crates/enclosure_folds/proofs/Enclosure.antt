@@ -1,22 +1,14 @@
 -- The laws of monotone folds.
 use Rattle.std.proofs.Common.{◌≡◌, ℕ, suc, ◌-◌, ◌^◌, ◌<◌, ◌≤◌, Bool, true, false, nat_lt, if◌then◌else◌, List, [], ◌∷◌, ◌++◌, All, length}
-use Rattle.std.proofs.Common.{slice_index, refl, sym, ap, ◌∙◌, subst, arith}
-use Rattle.std.proofs.lemmas.Bool.Decides.{nat_tests}
+use Rattle.std.proofs.{Common.{slice_index, refl, sym, ap, ◌∙◌, subst, arith}, lemmas.Bool.Decides.nat_tests}
 use Rattle.std.proofs.lemmas.List.{get_or_append_left, get_or-append_right, length-replicate, get_or-replicate}
-use Rattle.std.proofs.lemmas.List.Elements.{AllZip-get_or, length_all_zip}
-use Rattle.std.proofs.lemmas.List.Sums.{fold-append}
-use Rattle.query_lang.specs.declared.fold.TypedFold.{TypedFold}
-use Rattle.query_lang.specs.Words.{AreWords}
+use Rattle.std.proofs.lemmas.List.{Elements.{AllZip-get_or, length_all_zip}, Sums.fold-append}
+use Rattle.query_lang.specs.{declared.fold.TypedFold.TypedFold, Words.AreWords}
 use Rattle.query_lang.specs.Folds.{body, folded, initial_state, fold_states, fold_args, fold_block, IsValidFold}
-use Rattle.fold_class.proofs.History.{length-after}
-use Rattle.epoch_entry.proofs.FoldLemmas.{word_at, body_words, length-body, length-folded}
-use Rattle.fold_class.specs.declared.class.Kind.TheVariants.{Pure as Free, Affine as Rising}
-use Rattle.fold_class.specs.Kinds.{kinds_from, end_kinds, is_no_other}
-use Rattle.fold_class.proofs.TableLemmas.{below_at}
-use Rattle.enclosure_folds.specs.Kinds.{role, none_fixed, is_monotone}
-use Rattle.enclosure_folds.specs.States.{IsAtMost}
-use Rattle.epoch_entry.specs.Bounds.{least_state, greatest_state}
-use Rattle.enclosure_folds.proofs.Ties.{Tied, Ties, tied_order}
+use Rattle.fold_class.proofs.{History.length-after, TableLemmas.below_at}
+use Rattle.fold_class.specs.{declared.class.Kind.TheVariants.{Pure as Free, Affine as Rising}, Kinds.{kinds_from, end_kinds, is_no_other}}
+use Rattle.epoch_entry.{proofs.FoldLemmas.{word_at, body_words, length-body, length-folded}, specs.Bounds.{least_state, greatest_state}}
+use Rattle.enclosure_folds.{specs.{Kinds.{role, none_fixed, is_monotone}, States.IsAtMost}, proofs.Ties.{Tied, Ties, tied_order}}
 use Rattle.enclosure_folds.proofs.Runs.{block_tied}
 
 -- order by place

@@ -1,16 +1,10 @@
 -- The examples, from their definitions.
-use Rattle.std.proofs.Common.{◌≡◌, ℕ, ◌-◌, ◌^◌, Bool, true, false, List, [], ◌∷◌, map, replicate, refl, ap, ◌∙◌}
-use Rattle.std.specs.Prelude.{fold}
-use Rattle.query_lang.specs.declared.fold.TypedFold.{TypedFold}
-use Rattle.query_lang.specs.Words.{op_value}
-use Rattle.query_lang.specs.Blocks.{Block}
-use Rattle.query_lang.specs.Folds.{after, fold_block, initial_state}
+use Rattle.std.{proofs.Common.{◌≡◌, ℕ, ◌-◌, ◌^◌, Bool, true, false, List, [], ◌∷◌, map, replicate, refl, ap, ◌∙◌}, specs.Prelude.fold}
+use Rattle.query_lang.specs.{declared.fold.TypedFold.TypedFold, Words.op_value, Blocks.Block, Folds.{after, fold_block, initial_state}}
 use Rattle.epoch_model.specs.Keys.{ArgRow}
-use Rattle.enclosure_folds.specs.MonotoneExamples.{HasBody, decayed_sum, clamped}
-use Rattle.epoch_entry.specs.Triples.{beside}
-use Rattle.epoch_entry.specs.Bounds.{bounds_after}
-use Rattle.enclosure_folds.specs.Bounds.{low_bound, high_bound, is_exact}
+use Rattle.enclosure_folds.specs.{MonotoneExamples.{HasBody, decayed_sum, clamped}, Bounds.{low_bound, high_bound, is_exact}}
 use Rattle.enclosure_folds.specs.Examples.{AreKeyBounds, one_epoch, two_epochs}
+use Rattle.epoch_entry.specs.{Triples.beside, Bounds.bounds_after}
 
 abbrev triple_by : ℕ → Block → List ℕ → List ArgRow → List ℕ
 triple_by n b start rows = beside (fold (λ s a. after b a s) start rows) (fold (λ s a. after b a s) (replicate n 0) rows)

@@ -1,16 +1,10 @@
 -- The examples, from their definitions.
 use Rattle.std.proofs.Common.{◌≡◌, ℕ, ◌-◌, ◌^◌, Bool, true, false, nat_lt, if◌then◌else◌, List, [], ◌∷◌, replicate, ap, ◌∙◌}
-use Rattle.query_lang.specs.declared.fold.TypedFold.{TypedFold}
-use Rattle.query_lang.specs.Words.{op_value}
-use Rattle.query_lang.specs.Blocks.{Block}
-use Rattle.query_lang.specs.Folds.{after, fold_block, folded}
-use Rattle.fold_class.specs.declared.class.Kind.TheVariants.{Pure, Affine}
-use Rattle.fold_class.specs.Tables.{all_below}
-use Rattle.fold_class.specs.Kinds.{kinds_after, is_no_other}
-use Rattle.enclosure_folds.specs.Kinds.{role, is_monotone}
+use Rattle.query_lang.specs.{declared.fold.TypedFold.TypedFold, Words.op_value, Blocks.Block, Folds.{after, fold_block, folded}}
+use Rattle.fold_class.specs.{declared.class.Kind.TheVariants.{Pure, Affine}, Tables.all_below, Kinds.{kinds_after, is_no_other}}
+use Rattle.enclosure_folds.specs.{Kinds.{role, is_monotone}, MonotoneExamples.{HasBody, IsFound, AreBounds, decayed_sum, clamped}}
+use Rattle.enclosure_folds.specs.MonotoneExamples.{wrapping_sum, shifted_left, choice_by_argument, choice_by_state, overwritten}
 use Rattle.epoch_entry.specs.Bounds.{least_state, greatest_state}
-use Rattle.enclosure_folds.specs.MonotoneExamples.{HasBody, IsFound, AreBounds, decayed_sum, clamped, wrapping_sum, shifted_left}
-use Rattle.enclosure_folds.specs.MonotoneExamples.{choice_by_argument, choice_by_state, overwritten}
 
 abbrev walk : ℕ → Block → Bool
 walk n b = all_below n (λ v. is_no_other (kinds_after role b (λ s. if nat_lt s n then Affine else Pure) v))

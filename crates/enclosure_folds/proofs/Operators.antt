@@ -1,15 +1,9 @@
 -- What operators make of ordered operands.
 use Rattle.std.proofs.Common.{◌≡◌, ℕ, zero, suc, ◌+◌, ◌-◌, ◌*◌, ◌/◌, ◌^◌, ◌<◌, ◌≤◌, Bool, true, false, if◌then◌else◌, refl, ap, arith}
-use Rattle.std.proofs.Math.Nat.{div-zero, div-le_self, div-mul-le_self, add-div_left}
-use Rattle.std.proofs.lemmas.Nat.{le-div, pow_pos}
-use Rattle.query_lang.specs.declared.fold.Op.{Op}
-use Rattle.query_lang.specs.declared.fold.Op.TheVariants.{Div, Shr, Max, Min, Sadd, Decay}
-use Rattle.query_lang.specs.Words.{op_value}
-use Rattle.query_lang.specs.Terms.{Term, Literal, Read, Negation, Operation}
-use Rattle.query_lang.specs.Folds.{TakesOperands}
-use Rattle.fold_class.specs.declared.class.Kind.{Kind}
-use Rattle.fold_class.specs.declared.class.Kind.TheVariants.{Pure as Free}
-use Rattle.fold_class.specs.declared.class.Role.TheVariants.{Sum, Difference, Product}
+use Rattle.std.proofs.{Math.Nat.{div-zero, div-le_self, div-mul-le_self, add-div_left}, lemmas.Nat.{le-div, pow_pos}}
+use Rattle.query_lang.specs.{declared.fold.Op.{Op, TheVariants.{Div, Shr, Max, Min, Sadd, Decay}}, Words.op_value}
+use Rattle.query_lang.specs.{Terms.{Term, Literal, Read, Negation, Operation}, Folds.TakesOperands}
+use Rattle.fold_class.specs.declared.class.{Kind.{Kind, TheVariants.{Pure as Free}}, Role.TheVariants.{Sum, Difference, Product}}
 use Rattle.fold_class.specs.Kinds.{expr_kind}
 use Rattle.enclosure_folds.specs.Kinds.{role}
 

@@ -1,13 +1,9 @@
 -- Finals may read the rows whose bounds are equal.
 use Rattle.std.proofs.Common.{◌≡◌, ℕ, ◌-◌, List, [], ◌∷◌, ◌++◌, length, map, arith, length-append}
-use Rattle.std.specs.List.{All, filter}
-use Rattle.std.proofs.lemmas.List.Elements.{All-nil, All-cons, All-head, All-tail}
-use Rattle.epoch_model.specs.declared.tables.Row.{Row}
-use Rattle.epoch_model.specs.Keys.{Key, AreAbove, IsAscending}
-use Rattle.epoch_model.proofs.KeyLists.{by_test}
+use Rattle.std.{proofs.lemmas.List.Elements.{All-nil, All-cons, All-head, All-tail}, specs.List.{All, filter}}
+use Rattle.epoch_model.{specs.{declared.tables.Row.Row, Keys.{Key, AreAbove, IsAscending}}, proofs.KeyLists.by_test}
 use Rattle.final_queries.specs.Finals.{HasColumns, is_read}
-use Rattle.enclosure_folds.specs.declared.table.BoundsRow.{BoundsRow}
-use Rattle.enclosure_folds.specs.BoundsTables.{HasBounds, row_is_exact, exact_row, ExactTablesAreRead}
+use Rattle.enclosure_folds.specs.{declared.table.BoundsRow.BoundsRow, BoundsTables.{HasBounds, row_is_exact, exact_row, ExactTablesAreRead}}
 
 abbrev key_of : BoundsRow → Key
 key_of row = row.key

@@ -1,39 +1,23 @@
 -- The last row of each key gives its bounds.
-use Rattle.std.proofs.Common.{◌≡◌, ℕ, suc, ◌*◌, ◌<◌, ◌==◌, Bool, true, false, ◌||◌, List, [], ◌∷◌, ◌++◌, length, map, drop, refl, sym}
-use Rattle.std.proofs.Common.{ap, ◌∙◌, subst, arith, length-append, if◌then◌else◌}
-use Rattle.std.specs.declared.cmp.Ordering.TheVariants.{Less}
+use Rattle.std.proofs.Common.{◌≡◌, ℕ, suc, ◌*◌, ◌<◌, ◌==◌, Bool, true, false, ◌||◌, List, [], ◌∷◌, ◌++◌, length, map, drop, refl, sym, ap}
+use Rattle.std.proofs.{Common.{◌∙◌, subst, arith, length-append, if◌then◌else◌}, lemmas.Bool.Decides.nat_tests}
+use Rattle.std.proofs.lemmas.List.{length-map, length-take-le, length-drop, places, Elements.{All-nil, All-cons, All-head, All-tail}}
+use Rattle.std.{proofs.Math.Seq.{take-append_seam, drop-append_seam}, specs.declared.cmp.Ordering.TheVariants.Less}
 use Rattle.std.specs.List.{All, filter, flat_map}
-use Rattle.std.proofs.lemmas.Bool.Decides.{nat_tests}
-use Rattle.std.proofs.lemmas.List.{length-map, length-take-le, length-drop, places}
-use Rattle.std.proofs.lemmas.List.Elements.{All-nil, All-cons, All-head, All-tail}
-use Rattle.std.proofs.Math.Seq.{take-append_seam, drop-append_seam}
-use Rattle.query_lang.specs.declared.fold.TypedFold.{TypedFold}
-use Rattle.query_lang.specs.Words.{AreWords}
+use Rattle.query_lang.specs.{declared.fold.TypedFold.TypedFold, Words.AreWords}
 use Rattle.query_lang.specs.Folds as Folds
 use Rattle.query_lang.specs.Folds.{fold_states, initial_state}
-use Rattle.epoch_model.specs.declared.tables.Mark.{Mark}
-use Rattle.epoch_model.specs.declared.tables.Mark.TheVariants.{Exact, Valid, Invalid, Plain}
-use Rattle.epoch_model.specs.declared.tables.Row.{Row}
-use Rattle.epoch_model.specs.Keys.{Key, ArgRow, key_eq, key_cmp, has, AreAbove, IsAscending}
-use Rattle.epoch_model.specs.Epochs.{Use, Geometry, is_use_of, epochs}
+use Rattle.epoch_model.specs.declared.tables.{Mark.{Mark, TheVariants.{Exact, Valid, Invalid, Plain}}, Row.Row}
+use Rattle.epoch_model.specs.{Keys.{Key, ArgRow, key_eq, key_cmp, has, AreAbove, IsAscending}, Epochs.{Use, Geometry, is_use_of, epochs}}
 use Rattle.epoch_model.specs.Tables.{Folding, folded, mark_of, epochs_shown, epoch_rows, exact_row, key_rows, keys_used, group_rows}
-use Rattle.epoch_model.specs.Tables.{group_epochs}
-use Rattle.epoch_model.proofs.Cuts.{epochs_cut_the_rows_lem}
-use Rattle.epoch_model.proofs.KeyLists.{by_test, key_eq-true, key_eq-refl}
+use Rattle.epoch_model.{specs.Tables.group_epochs, proofs.{Cuts.epochs_cut_the_rows_lem, KeyLists.{by_test, key_eq-true, key_eq-refl}}}
 use Rattle.epoch_model.proofs.KeyOrder.{ascending-ascends, has-ascending, same_ascending}
-use Rattle.epoch_entry.specs.Bounds.{bounds_after, IsBoundsKindOf}
-use Rattle.epoch_entry.specs.Kinds.{Sizes}
-use Rattle.final_queries.specs.Finals.{HasColumns}
-use Rattle.final_queries.specs.declared.table.Table.{Table}
-use Rattle.final_queries.specs.declared.table.TableKind.TheVariants.{Group}
-use Rattle.final_queries.specs.GroupTable.{Heading}
-use Rattle.enclosure_folds.specs.declared.table.BoundsRow.{BoundsRow}
-use Rattle.enclosure_folds.specs.declared.table.BoundsTable.{BoundsTable}
-use Rattle.enclosure_folds.specs.Bounds.{last_or, all_rows, Encloses}
-use Rattle.enclosure_folds.specs.BoundsTables.{HasBounds}
-use Rattle.enclosure_folds.specs.KeyBounds.{key_bounds, listed_bounds, table_bounds, goes_on, row_bounds, bounds_in, low_in, high_in}
-use Rattle.enclosure_folds.specs.KeyBounds.{states_in, use_rows, EpochRowsGiveBounds, KeyBoundsEnclose, TriplesGiveWholeTables}
-use Rattle.enclosure_folds.proofs.BoundLemmas.{last_map, some_pieces, enclosed}
+use Rattle.epoch_entry.specs.{Bounds.{bounds_after, IsBoundsKindOf}, Kinds.Sizes}
+use Rattle.final_queries.specs.{Finals.HasColumns, declared.table.{Table.Table, TableKind.TheVariants.Group}, GroupTable.Heading}
+use Rattle.enclosure_folds.specs.{declared.table.{BoundsRow.BoundsRow, BoundsTable.BoundsTable}, Bounds.{last_or, all_rows, Encloses}}
+use Rattle.enclosure_folds.specs.{BoundsTables.HasBounds, KeyBounds.{key_bounds, listed_bounds, table_bounds, goes_on, row_bounds}}
+use Rattle.enclosure_folds.specs.KeyBounds.{bounds_in, low_in, high_in, states_in, use_rows, EpochRowsGiveBounds, KeyBoundsEnclose}
+use Rattle.enclosure_folds.{specs.KeyBounds.TriplesGiveWholeTables, proofs.BoundLemmas.{last_map, some_pieces, enclosed}}
 
 -- each key that is used has an epoch
 

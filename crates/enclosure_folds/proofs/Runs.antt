@@ -1,18 +1,11 @@
 -- Two runs of a block from tied states end in tied states.
 use Rattle.std.proofs.Common.{◌≡◌, ℕ, ◌+◌, ◌<◌, Bool, true, false, ◌==◌, if◌then◌else◌, List, ◌++◌, length, set, slice_index, refl, sym, ap}
-use Rattle.std.proofs.Common.{◌∙◌, subst, arith, length-set, length-append}
-use Rattle.std.proofs.lemmas.List.{set-append_left}
-use Rattle.query_lang.specs.Words.{holds}
-use Rattle.query_lang.specs.Blocks.{Block, End, Set, Fork}
-use Rattle.query_lang.specs.Folds.{term_value, after, IsValidBlock}
-use Rattle.fold_class.specs.declared.class.Kind.{Kind}
-use Rattle.fold_class.specs.declared.class.Kind.TheVariants.{Pure as Free, Affine as Rising, Other as Wild}
-use Rattle.fold_class.specs.Tables.{update}
-use Rattle.fold_class.proofs.History.{length-after}
+use Rattle.std.proofs.{Common.{◌∙◌, subst, arith, length-set, length-append}, lemmas.List.set-append_left}
+use Rattle.query_lang.specs.{Words.holds, Blocks.{Block, End, Set, Fork}, Folds.{term_value, after, IsValidBlock}}
+use Rattle.fold_class.specs.{declared.class.Kind.{Kind, TheVariants.{Pure as Free, Affine as Rising, Other as Wild}}, Tables.update}
+use Rattle.fold_class.{specs.Kinds.{greater, expr_kind, marked, chosen_kinds, kinds_after, is_no_other}, proofs.History.length-after}
 use Rattle.fold_class.proofs.TableLemmas.{set_index}
-use Rattle.fold_class.specs.Kinds.{greater, expr_kind, marked, chosen_kinds, kinds_after, is_no_other}
-use Rattle.enclosure_folds.specs.Kinds.{role}
-use Rattle.enclosure_folds.proofs.Ties.{Tied, Ties, greater_left, greater_right, expr_tied}
+use Rattle.enclosure_folds.{specs.Kinds.role, proofs.Ties.{Tied, Ties, greater_left, greater_right, expr_tied}}
 
 set_row : (xs args : List ℕ) (v x s : ℕ) → v < length xs → slice_index (set xs v x ++ args) s ≡ update (slice_index (xs ++ args)) v x s
 set_row xs args v x s h =

@@ -1,28 +1,19 @@
 -- The table of a groupby by entries for bounds, and what is shown of it.
 use Rattle.std.proofs.Common.{◌≡◌, ℕ, ◌-◌, ◌*◌, List, length, replicate, sym, ap, ◌∙◌, subst, arith, length-append, ◌++◌}
-use Rattle.std.specs.List.{All}
-use Rattle.std.proofs.lemmas.List.{length-replicate}
-use Rattle.query_lang.specs.declared.fold.TypedFold.{TypedFold}
-use Rattle.query_lang.specs.declared.typed.Class.{Class}
+use Rattle.std.{proofs.lemmas.List.length-replicate, specs.List.All}
+use Rattle.query_lang.specs.declared.{fold.TypedFold.TypedFold, typed.Class.Class}
 use Rattle.query_lang.specs.declared.typed.Class.TheVariants as class
 use Rattle.query_lang.specs.Folds as Folds
 use Rattle.query_lang.specs.Folds.{fold_states, initial_state, IsValidFold}
-use Rattle.epoch_model.specs.Keys.{ArgRow}
-use Rattle.epoch_model.specs.Epochs.{Use, Geometry}
-use Rattle.epoch_model.specs.Tables.{Folding, group_epochs}
+use Rattle.epoch_model.specs.{Keys.ArgRow, Epochs.{Use, Geometry}, Tables.{Folding, group_epochs}}
 use Rattle.fold_class.specs.Kinds.{class_of}
-use Rattle.epoch_entry.specs.Bounds.{least_state, greatest_state, bounds_after, IsBoundsKindOf}
-use Rattle.epoch_entry.specs.Foldings.{folding_of}
-use Rattle.epoch_entry.specs.Kinds.{Sizes}
-use Rattle.epoch_entry.specs.Purposes.{IsBoundingKind}
-use Rattle.epoch_entry.proofs.FoldLemmas.{length-folded}
-use Rattle.final_queries.specs.declared.table.TableKind.TheVariants.{Group}
-use Rattle.final_queries.specs.FinalLaws.{AlikeFoldingsMakeOneTable, GroupTablesAreRead}
+use Rattle.epoch_entry.specs.{Bounds.{least_state, greatest_state, bounds_after, IsBoundsKindOf}, Foldings.folding_of, Kinds.Sizes}
+use Rattle.epoch_entry.{specs.Purposes.IsBoundingKind, proofs.FoldLemmas.length-folded}
+use Rattle.final_queries.specs.{declared.table.TableKind.TheVariants.Group, FinalLaws.{AlikeFoldingsMakeOneTable, GroupTablesAreRead}}
 use Rattle.final_queries.specs.GroupTable.{Heading, group_table}
 use Rattle.enclosure_folds.specs.declared.table.Enclosed.TheVariants as enclosed
 use Rattle.enclosure_folds.specs.KeyBounds.{HasTriples, states_in, enclosed_by}
-use Rattle.enclosure_folds.specs.Shown.{shown_by, MayBeShownBy, IsHeadingOf, TablesGiveBounds}
-use Rattle.enclosure_folds.proofs.RowFacts.{give_bounds}
+use Rattle.enclosure_folds.{specs.Shown.{shown_by, MayBeShownBy, IsHeadingOf, TablesGiveBounds}, proofs.RowFacts.give_bounds}
 
 pub long_bounds : (f : TypedFold) → IsValidFold f → (rows : List ArgRow) → length (bounds_after f rows) ≡ 3 * fold_states f
 long_bounds f valid rows =

@@ -1,16 +1,11 @@
 -- What a kind says of the values of one expression in two runs.
 use Rattle.std.proofs.Common.{◌≡◌, ℕ, ◌≤◌, true, not, List, slice_index, refl, ap, ◌∙◌, subst, arith}
-use Rattle.query_lang.specs.declared.fold.Op.{Op}
-use Rattle.query_lang.specs.Words.{flag, holds, op_value}
-use Rattle.query_lang.specs.Terms.{Term, Literal, Read, Negation, Operation}
+use Rattle.query_lang.specs.{declared.fold.Op.Op, Words.{flag, holds, op_value}, Terms.{Term, Literal, Read, Negation, Operation}}
 use Rattle.query_lang.specs.Folds.{term_value, IsValidTerm}
-use Rattle.fold_class.specs.declared.class.Kind.{Kind}
-use Rattle.fold_class.specs.declared.class.Kind.TheVariants.{Pure as Free, Affine as Rising, Other as Wild}
-use Rattle.fold_class.specs.declared.class.Role.{Role}
+use Rattle.fold_class.specs.declared.class.{Kind.{Kind, TheVariants.{Pure as Free, Affine as Rising, Other as Wild}}, Role.Role}
 use Rattle.fold_class.specs.declared.class.Role.TheVariants.{Sum, Difference, Product, Outside}
 use Rattle.fold_class.specs.Kinds.{greater, product_kind, outside_kind, role_kind, expr_kind, is_no_other}
-use Rattle.enclosure_folds.specs.Kinds.{role}
-use Rattle.enclosure_folds.proofs.Operators.{sum_order, product_order, no_difference, number_free}
+use Rattle.enclosure_folds.{specs.Kinds.role, proofs.Operators.{sum_order, product_order, no_difference, number_free}}
 
 -- Free values are the same, and Rising ones in order
 abbrev pub Tied : Kind → ℕ → ℕ → Type 0

@@ -1,8 +1,6 @@
 -- The bounds of a key, by the rows that a table has for it: one row for each of its epochs, with three states side by side.
-use Rattle.std.specs.Prelude.{◌≡◌, ℕ, Bool, true, List, [], ◌∷◌, map, flat_map, nat_eq}
-use Rattle.std.specs.Cmp.Lexicographic.{pointwise}
-use Rattle.epoch_model.specs.Keys.{ArgRow}
-use Rattle.epoch_model.specs.declared.tables.Row.{Row}
+use Rattle.std.specs.{Prelude.{◌≡◌, ℕ, Bool, true, List, [], ◌∷◌, map, flat_map, nat_eq}, Cmp.Lexicographic.pointwise}
+use Rattle.epoch_model.specs.{Keys.ArgRow, declared.tables.Row.Row}
 use Rattle.enclosure_folds.specs.States.{IsAtMost}
 use Rattle.epoch_entry.specs.Triples.{first_third, second_third, last_third}
 

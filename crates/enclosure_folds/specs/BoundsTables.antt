@@ -1,18 +1,10 @@
 -- Tables of bounds: their text, and the rows that finals read of them.
-use Rattle.std.specs.Prelude.{◌≡◌, ℕ, ◌<◌, ◌≤◌, Bool, true, false, List, [], ◌∷◌, ◌++◌, All, length, map}
-use Rattle.std.specs.Prelude.{filter, flat_map, codes, decimal}
-use Rattle.query_lang.specs.declared.typed.Class.TheVariants.{Other}
-use Rattle.epoch_model.specs.declared.tables.Mark.TheVariants.{Exact}
-use Rattle.epoch_model.specs.declared.tables.Row.{Row}
-use Rattle.epoch_model.specs.Keys.{IsAscending}
-use Rattle.query_lang.specs.declared.fault.TheConstants.{MAX_KEYS}
-use Rattle.final_queries.specs.declared.table.Table.{Table}
-use Rattle.final_queries.specs.declared.table.TableKind.TheVariants.{Group}
-use Rattle.final_queries.specs.Finals.{IsTable}
+use Rattle.std.specs.Prelude.{◌≡◌, ℕ, ◌<◌, ◌≤◌, Bool, true, false, List, [], ◌∷◌, ◌++◌, All, length, map, filter, flat_map, codes, decimal}
+use Rattle.query_lang.specs.declared.{typed.Class.TheVariants.Other, fault.TheConstants.MAX_KEYS}
+use Rattle.epoch_model.specs.{declared.tables.{Mark.TheVariants.Exact, Row.Row}, Keys.IsAscending}
+use Rattle.final_queries.specs.{declared.table.{Table.Table, TableKind.TheVariants.Group}, Finals.IsTable}
 use Rattle.table_printer.specs.TableText.{table_line, numbers}
-use Rattle.enclosure_folds.specs.declared.table.BoundsTable.{BoundsTable}
-use Rattle.enclosure_folds.specs.declared.table.BoundsRow.{BoundsRow}
-use Rattle.enclosure_folds.specs.Bounds.{is_exact}
+use Rattle.enclosure_folds.specs.{declared.table.{BoundsTable.BoundsTable, BoundsRow.BoundsRow}, Bounds.is_exact}
 
 -- a row with this many words in its key, and this many in each of its bounds
 pub record HasBounds (keys states : ℕ) (row : BoundsRow) : Type 0 where

@@ -1,15 +1,8 @@
 -- Which queries have bounds, and the fault of one that has none.
-use Rattle.std.specs.Prelude.{◌≡◌, ℕ, Bool, true, List, [], ◌∷◌, slice_get, Option, Some, None, option_and_then}
-use Rattle.std.specs.Prelude.{if◌then◌else◌}
-use Rattle.query_lang.specs.declared.fault.FaultKind.TheVariants.{NotMonotone}
-use Rattle.query_lang.specs.declared.fault.QueryFault.{QueryFault}
-use Rattle.query_lang.specs.declared.fold.TypedFold.{TypedFold}
-use Rattle.query_lang.specs.declared.query.Name.{Name}
-use Rattle.query_lang.specs.declared.typed.Class.{Class}
-use Rattle.query_lang.specs.declared.typed.Class.TheVariants.{Linear, Other}
-use Rattle.query_lang.specs.declared.typed.TypedQuery.{TypedQuery}
-use Rattle.query_lang.specs.declared.typed.TypedStream.{TypedStream}
-use Rattle.query_lang.specs.Streams.{taking_of}
+use Rattle.std.specs.Prelude.{◌≡◌, ℕ, Bool, true, List, [], ◌∷◌, slice_get, Option, Some, None, option_and_then, if◌then◌else◌}
+use Rattle.query_lang.specs.declared.{fault.{FaultKind.TheVariants.NotMonotone, QueryFault.QueryFault}, fold.TypedFold.TypedFold}
+use Rattle.query_lang.specs.declared.{query.Name.Name, typed.{Class.{Class, TheVariants.{Linear, Other}}, TypedQuery.TypedQuery}}
+use Rattle.query_lang.specs.{declared.typed.TypedStream.TypedStream, Streams.taking_of}
 use Rattle.fold_class.specs.Kinds.{class_of}
 use Rattle.stage_plan.specs.Planned.{fold_at}
 use Rattle.enclosure_folds.specs.Kinds.{is_monotone}

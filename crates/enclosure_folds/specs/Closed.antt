@@ -1,31 +1,16 @@
 -- What is shown of closed epochs, whatever events closed them.
 use Rattle.std.specs.Prelude.{◌≡◌, ℕ, ◌<◌, true, List, All, length, map}
-use Rattle.query_lang.specs.declared.fold.TypedFold.{TypedFold}
-use Rattle.query_lang.specs.declared.typed.Class.{Class}
+use Rattle.query_lang.specs.declared.{fold.TypedFold.TypedFold, typed.Class.Class}
 use Rattle.query_lang.specs.declared.typed.Class.TheVariants as class
-use Rattle.query_lang.specs.Folds.{folded, initial_state, IsValidFold}
-use Rattle.query_lang.specs.Words.{AreWords}
-use Rattle.epoch_model.specs.Epochs.{Geometry}
-use Rattle.epoch_model.specs.Keys.{Key}
-use Rattle.epoch_model.specs.Laws.{HasRoom, rows_given}
-use Rattle.epoch_model.specs.Machine.{Epoch, Event, empty_machine, lists_of, run}
-use Rattle.epoch_model.specs.Tables.{Folding, closed_epochs, closed_keys}
-use Rattle.epoch_model.specs.Timeline.{IsSwept}
+use Rattle.query_lang.specs.{Folds.{folded, initial_state, IsValidFold}, Words.AreWords}
+use Rattle.epoch_model.specs.{Epochs.Geometry, Keys.Key, Laws.{HasRoom, rows_given}, Machine.{Epoch, Event, empty_machine, lists_of, run}}
+use Rattle.epoch_model.specs.{Tables.{Folding, closed_epochs, closed_keys}, Timeline.IsSwept}
 use Rattle.fold_class.specs.Kinds.{class_of}
-use Rattle.enclosure_folds.specs.Kinds.{is_monotone}
-use Rattle.epoch_entry.specs.declared.purpose.Entries.TheVariants.{Bounds}
-use Rattle.epoch_entry.specs.Foldings.{folding_of}
-use Rattle.epoch_entry.specs.Kinds.{Sizes}
-use Rattle.epoch_entry.specs.Purposes.{IsKindFor}
+use Rattle.enclosure_folds.specs.{Kinds.is_monotone, declared.table.{BoundsRow.BoundsRow, BoundsTable.BoundsTable, Enclosed.Enclosed}}
+use Rattle.epoch_entry.specs.{declared.purpose.Entries.TheVariants.Bounds, Foldings.folding_of, Kinds.Sizes, Purposes.IsKindFor}
 use Rattle.final_queries.specs.GroupTable.{Heading, closed_table}
-use Rattle.enclosure_folds.specs.declared.table.BoundsRow.{BoundsRow}
-use Rattle.enclosure_folds.specs.declared.table.BoundsTable.{BoundsTable}
-use Rattle.enclosure_folds.specs.declared.table.Enclosed.{Enclosed}
 use Rattle.enclosure_folds.specs.declared.table.Enclosed.TheVariants as enclosed
-use Rattle.enclosure_folds.specs.Bounds.{Encloses}
-use Rattle.enclosure_folds.specs.Check.{is_bounded}
-use Rattle.enclosure_folds.specs.Holding.{HoldsAfter, TakesWords}
-use Rattle.enclosure_folds.specs.KeyBounds.{listed_bounds}
+use Rattle.enclosure_folds.specs.{Bounds.Encloses, Check.is_bounded, Holding.{HoldsAfter, TakesWords}, KeyBounds.listed_bounds}
 use Rattle.enclosure_folds.specs.Shown.{IsHeadingOf, MayBeShown, shown}
 
 -- the row of a key

@@ -1,12 +1,9 @@
 -- The bounds of keys of small folds, computed.
 use Rattle.std.specs.Prelude.{◌≡◌, ℕ, Bool, List, [], ◌∷◌, map}
-use Rattle.query_lang.specs.declared.fold.TypedFold.{TypedFold}
-use Rattle.query_lang.specs.Blocks.{Block}
-use Rattle.query_lang.specs.Folds.{initial_state}
+use Rattle.query_lang.specs.{declared.fold.TypedFold.TypedFold, Blocks.Block, Folds.initial_state}
 use Rattle.epoch_model.specs.Keys.{ArgRow}
-use Rattle.enclosure_folds.specs.MonotoneExamples.{HasBody}
+use Rattle.enclosure_folds.specs.{MonotoneExamples.HasBody, Bounds.{low_bound, high_bound, is_exact}}
 use Rattle.epoch_entry.specs.Bounds.{bounds_after}
-use Rattle.enclosure_folds.specs.Bounds.{low_bound, high_bound, is_exact}
 
 -- the bounds of a key with these row lists, of a fold whose one variable starts at 0, and whether they are marked exact
 abbrev pub AreKeyBounds : Block → List (List ArgRow) → ℕ → ℕ → Bool → Type 0

@@ -1,12 +1,7 @@
 -- What is shown of a groupby holds over all rows of its keys, whatever the caches evicted meanwhile.
 use Rattle.std.specs.Prelude.{◌≡◌, List, All, map}
-use Rattle.query_lang.specs.declared.fold.TypedFold.{TypedFold}
-use Rattle.query_lang.specs.Folds.{folded, initial_state}
-use Rattle.query_lang.specs.Words.{AreWords}
-use Rattle.epoch_model.specs.Keys.{Key, ArgRow, ascending}
-use Rattle.epoch_model.specs.Laws.{rows_given}
-use Rattle.epoch_model.specs.Machine.{Event}
-use Rattle.epoch_model.specs.TableLaws.{keys_given}
+use Rattle.query_lang.specs.{declared.fold.TypedFold.TypedFold, Folds.{folded, initial_state}, Words.AreWords}
+use Rattle.epoch_model.specs.{Keys.{Key, ArgRow, ascending}, Laws.rows_given, Machine.Event, TableLaws.keys_given}
 use Rattle.enclosure_folds.specs.declared.table.Enclosed.{Enclosed}
 use Rattle.enclosure_folds.specs.declared.table.Enclosed.TheVariants as enclosed
 use Rattle.enclosure_folds.specs.Bounds.{Encloses}

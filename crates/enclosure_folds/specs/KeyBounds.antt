@@ -1,35 +1,19 @@
 -- The table of bounds of a groupby: by the uses of the whole trace, and by the rows that a table of three states has for its epochs.
-use Rattle.std.specs.Prelude.{◌≡◌, ℕ, ◌-◌, ◌*◌, ◌<◌, ◌≤◌, Bool, true, false, List, [], ◌∷◌, All, length}
-use Rattle.std.specs.Prelude.{map, filter, take, drop, if◌then◌else◌}
-use Rattle.query_lang.specs.declared.fold.TypedFold.{TypedFold}
-use Rattle.query_lang.specs.declared.typed.Class.{Class}
+use Rattle.std.specs.Prelude.{◌≡◌, ℕ, ◌-◌, ◌*◌, ◌<◌, ◌≤◌, Bool, true, false, List, [], ◌∷◌, All, length, map, filter, take, drop}
+use Rattle.std.specs.Prelude.{if◌then◌else◌}
+use Rattle.query_lang.specs.declared.{fold.TypedFold.TypedFold, typed.Class.Class}
 use Rattle.query_lang.specs.declared.typed.Class.TheVariants as class
-use Rattle.query_lang.specs.Folds.{folded, fold_states, initial_state, IsValidFold}
-use Rattle.query_lang.specs.Words.{AreWords}
-use Rattle.epoch_model.specs.declared.tables.Mark.{Mark}
-use Rattle.epoch_model.specs.declared.tables.Mark.TheVariants.{Valid}
-use Rattle.epoch_model.specs.declared.tables.Row.{Row}
-use Rattle.epoch_model.specs.Keys.{Key, ArgRow, key_eq}
-use Rattle.epoch_model.specs.Epochs.{Use, Geometry, is_use_of, epochs}
-use Rattle.epoch_model.specs.Tables.{Folding, epochs_shown, keys_used, group_epochs}
-use Rattle.query_lang.specs.declared.fault.TheConstants.{MAX_KEYS}
+use Rattle.query_lang.specs.{Folds.{folded, fold_states, initial_state, IsValidFold}, Words.AreWords, declared.fault.TheConstants.MAX_KEYS}
+use Rattle.epoch_model.specs.{declared.tables.{Mark.{Mark, TheVariants.Valid}, Row.Row}, Keys.{Key, ArgRow, key_eq}}
+use Rattle.epoch_model.specs.{Epochs.{Use, Geometry, is_use_of, epochs}, Tables.{Folding, epochs_shown, keys_used, group_epochs}}
 use Rattle.fold_class.specs.Kinds.{class_of}
-use Rattle.enclosure_folds.specs.Kinds.{is_monotone}
-use Rattle.epoch_entry.specs.Bounds.{bounds_after, IsBoundsKindOf}
-use Rattle.epoch_entry.specs.Foldings.{folding_of}
-use Rattle.epoch_entry.specs.Kinds.{Sizes}
+use Rattle.enclosure_folds.specs.{Kinds.is_monotone, declared.table.{BoundsRow.BoundsRow, BoundsTable.BoundsTable, Enclosed.Enclosed}}
+use Rattle.epoch_entry.specs.{Bounds.{bounds_after, IsBoundsKindOf}, Foldings.folding_of, Kinds.Sizes}
 use Rattle.epoch_entry.specs.Triples.{first_third, second_third, last_third}
-use Rattle.final_queries.specs.declared.table.Table.{Table}
-use Rattle.final_queries.specs.declared.table.TableKind.{TableKind}
-use Rattle.final_queries.specs.declared.table.TableKind.TheVariants.{Group, Final}
-use Rattle.final_queries.specs.Finals.{HasColumns}
+use Rattle.final_queries.specs.{declared.table.{Table.Table, TableKind.{TableKind, TheVariants.{Group, Final}}}, Finals.HasColumns}
 use Rattle.final_queries.specs.GroupTable.{Heading, group_table}
-use Rattle.enclosure_folds.specs.declared.table.BoundsRow.{BoundsRow}
-use Rattle.enclosure_folds.specs.declared.table.BoundsTable.{BoundsTable}
-use Rattle.enclosure_folds.specs.declared.table.Enclosed.{Enclosed}
 use Rattle.enclosure_folds.specs.declared.table.Enclosed.TheVariants as enclosed
-use Rattle.enclosure_folds.specs.BoundsTables.{IsBoundsTable}
-use Rattle.enclosure_folds.specs.Bounds.{low_bound, high_bound, Encloses}
+use Rattle.enclosure_folds.specs.{BoundsTables.IsBoundsTable, Bounds.{low_bound, high_bound, Encloses}}
 
 -- By the uses of a trace.
 

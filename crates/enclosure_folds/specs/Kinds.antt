@@ -2,12 +2,8 @@
 -- A value of kind Pure is the same from every state, one of kind Affine no less from a greater state, and of one of kind Other
 -- nothing is known.
 use Rattle.std.specs.Prelude.{ℕ, Bool, false}
-use Rattle.query_lang.specs.declared.fold.Op.{Op}
-use Rattle.query_lang.specs.declared.fold.Op.TheVariants.{Div, Shr, Max, Min, Sadd, Decay}
-use Rattle.query_lang.specs.declared.fold.TypedFold.{TypedFold}
-use Rattle.fold_class.specs.declared.class.Role.{Role}
-use Rattle.fold_class.specs.declared.class.Role.TheVariants.{Sum, Product, Outside}
-use Rattle.fold_class.specs.Kinds.{has_no_other}
+use Rattle.query_lang.specs.declared.fold.{Op.{Op, TheVariants.{Div, Shr, Max, Min, Sadd, Decay}}, TypedFold.TypedFold}
+use Rattle.fold_class.specs.{declared.class.Role.{Role, TheVariants.{Sum, Product, Outside}}, Kinds.has_no_other}
 
 -- an operator that rises with both operands is a sum, and one that rises with its left operand, where the right one is always a
 -- number, a product

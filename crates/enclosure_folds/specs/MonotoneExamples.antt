@@ -1,10 +1,7 @@
 -- Small folds, computed.
 use Rattle.std.specs.Prelude.{◌≡◌, ℕ, Bool, List, [], ◌∷◌}
-use Rattle.query_lang.specs.declared.fold.Op.TheVariants.{Add, Shl, Gt, Max, Min, Sadd, Decay}
-use Rattle.query_lang.specs.declared.fold.TypedFold.{TypedFold}
-use Rattle.query_lang.specs.Terms.{Literal, Read, Operation}
-use Rattle.query_lang.specs.Blocks.{Block, End, Set, Fork}
-use Rattle.query_lang.specs.Folds.{fold_states, fold_block, folded}
+use Rattle.query_lang.specs.declared.fold.{Op.TheVariants.{Add, Shl, Gt, Max, Min, Sadd, Decay}, TypedFold.TypedFold}
+use Rattle.query_lang.specs.{Terms.{Literal, Read, Operation}, Blocks.{Block, End, Set, Fork}, Folds.{fold_states, fold_block, folded}}
 use Rattle.enclosure_folds.specs.Kinds.{is_monotone}
 use Rattle.epoch_entry.specs.Bounds.{least_state, greatest_state}
 

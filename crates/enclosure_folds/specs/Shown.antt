@@ -2,18 +2,11 @@
 use Rattle.std.specs.Prelude.{◌≡◌, ℕ, ◌<◌, ◌≤◌, List, All, length}
 use Rattle.query_lang.specs.declared.fold.TypedFold.{TypedFold}
 use Rattle.query_lang.specs.declared.typed.Class.TheVariants as class
-use Rattle.query_lang.specs.Folds.{fold_states, IsValidFold}
-use Rattle.epoch_model.specs.Epochs.{Use, Geometry}
-use Rattle.epoch_model.specs.Tables.{Folding}
-use Rattle.query_lang.specs.declared.fault.TheConstants.{MAX_KEYS}
+use Rattle.query_lang.specs.{Folds.{fold_states, IsValidFold}, declared.fault.TheConstants.MAX_KEYS}
+use Rattle.epoch_model.specs.{Epochs.{Use, Geometry}, Tables.Folding}
 use Rattle.fold_class.specs.Kinds.{class_of}
-use Rattle.epoch_entry.specs.declared.purpose.Entries.TheVariants.{Bounds}
-use Rattle.epoch_entry.specs.Kinds.{Sizes}
-use Rattle.epoch_entry.specs.Purposes.{IsKindFor}
-use Rattle.final_queries.specs.declared.table.Table.{Table}
-use Rattle.final_queries.specs.declared.table.TableKind.{TableKind}
-use Rattle.final_queries.specs.declared.table.TableKind.TheVariants.{Group}
-use Rattle.final_queries.specs.GroupTable.{Heading, group_table}
+use Rattle.epoch_entry.specs.{declared.purpose.Entries.TheVariants.Bounds, Kinds.Sizes, Purposes.IsKindFor}
+use Rattle.final_queries.specs.{declared.table.{Table.Table, TableKind.{TableKind, TheVariants.Group}}, GroupTable.{Heading, group_table}}
 use Rattle.enclosure_folds.specs.declared.table.Enclosed.{Enclosed}
 use Rattle.enclosure_folds.specs.declared.table.Enclosed.TheVariants as enclosed
 use Rattle.enclosure_folds.specs.KeyBounds.{HasTriples, table_bounds, enclosed_table}

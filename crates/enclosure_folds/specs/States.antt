@@ -1,6 +1,5 @@
 -- The order of states.
-use Rattle.std.specs.Prelude.{ℕ, ◌≤◌, List}
-use Rattle.std.specs.List.{AllZip}
+use Rattle.std.specs.{Prelude.{ℕ, ◌≤◌, List}, List.AllZip}
 
 -- equally many words, and each is at most the other's
 abbrev pub IsAtMost : List ℕ → List ℕ → Type 0

@@ -1,9 +1,7 @@
 //! Whether all groupbys of a query have bounds.
 
 ghost use Rattle.std.specs.Prelude.{◌≡◌, ◌<◌, All, Some, option_map, slice_get};
-ghost use Rattle.query_lang.specs.declared.fold.TypedFold.{TypedFold as AnyFold};
-ghost use Rattle.query_lang.specs.Folds.{IsValidFold};
-ghost use Rattle.query_lang.specs.Streams.{taking_of};
+ghost use Rattle.query_lang.specs.{declared.fold.TypedFold.{TypedFold as AnyFold}, Folds.IsValidFold, Streams.taking_of};
 ghost use Rattle.query_lang.specs.TypedQueries.{IsValidQuery};
 ghost use Rattle.fold_class.specs.Kinds.{class_of};
 ghost use Rattle.stage_plan.specs.Planned.{IsPlanOf};

@@ -1,22 +1,15 @@
 //! Laws of bounds.
 
 ghost use Rattle.std.specs.Prelude.{◌≡◌, ℕ, ◌<◌, true, false, List, map, filter, length, All};
-ghost use Rattle.query_lang.specs.declared.fold.TypedFold.{TypedFold};
-ghost use Rattle.query_lang.specs.Words.{AreWords};
+ghost use Rattle.query_lang.specs.{declared.fold.TypedFold.TypedFold, Words.AreWords};
 ghost use Rattle.query_lang.specs.Folds.{IsValidFold, fold_states, folded, initial_state};
-ghost use Rattle.epoch_model.specs.Keys.{Key, ArgRow};
-ghost use Rattle.epoch_model.specs.Epochs.{Use, Geometry, is_use_of};
-ghost use Rattle.epoch_model.specs.Tables.{Folding, epoch_rows, key_rows};
-ghost use Rattle.epoch_entry.specs.Kinds.{Sizes};
-ghost use Rattle.enclosure_folds.specs.Kinds.{is_monotone};
-ghost use Rattle.enclosure_folds.specs.MonotoneExamples.{decayed_sum, clamped};
+ghost use Rattle.epoch_model.specs.{Keys.{Key, ArgRow}, Epochs.{Use, Geometry, is_use_of}, Tables.{Folding, epoch_rows, key_rows}};
+ghost use Rattle.epoch_entry.specs.{Kinds.Sizes, Bounds.{bounds_after, IsBoundsKindOf}};
+ghost use Rattle.enclosure_folds.specs.{Kinds.is_monotone, MonotoneExamples.{decayed_sum, clamped}};
 ghost use Rattle.enclosure_folds.specs.Examples.{AreKeyBounds, one_epoch, two_epochs};
-ghost use Rattle.epoch_entry.specs.Bounds.{bounds_after, IsBoundsKindOf};
 ghost use Rattle.enclosure_folds.specs.Bounds.{low_bound, high_bound, is_exact, Encloses, RowsEnclose, all_rows};
-ghost use Rattle.enclosure_folds.specs.BoundsTables.{ExactTablesAreRead};
-ghost use Rattle.enclosure_folds.specs.Check.{NoFaultMeansBounds};
-ghost use Rattle.enclosure_folds.specs.Closed.{ClosedBoundsEnclose, ClosedTablesGiveBounds, ClosedTablesHold};
-ghost use Rattle.enclosure_folds.specs.Shown.{TablesGiveBounds};
+ghost use Rattle.enclosure_folds.specs.{BoundsTables.ExactTablesAreRead, Check.NoFaultMeansBounds};
+ghost use Rattle.enclosure_folds.specs.{Closed.{ClosedBoundsEnclose, ClosedTablesGiveBounds, ClosedTablesHold}, Shown.TablesGiveBounds};
 ghost use Rattle.enclosure_folds.specs.KeyBounds.{EpochRowsGiveBounds, KeyBoundsEnclose, TriplesGiveWholeTables};
 
 use final_queries::{alike_foldings_make_one_table, group_tables_are_read};

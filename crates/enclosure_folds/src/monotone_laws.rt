@@ -1,15 +1,12 @@
 //! Laws of monotone folds.
 
 ghost use Rattle.std.specs.Prelude.{◌≡◌, ℕ, true, false, List, [], ◌∷◌, All, ◌++◌, length};
-ghost use Rattle.query_lang.specs.declared.fold.TypedFold.{TypedFold};
-ghost use Rattle.query_lang.specs.Words.{AreWords};
+ghost use Rattle.query_lang.specs.{declared.fold.TypedFold.TypedFold, Words.AreWords};
 ghost use Rattle.query_lang.specs.Folds.{IsValidFold, fold_states, body, folded, initial_state};
-ghost use Rattle.enclosure_folds.specs.Kinds.{is_monotone};
-ghost use Rattle.enclosure_folds.specs.States.{IsAtMost};
+ghost use Rattle.enclosure_folds.specs.{Kinds.is_monotone, States.IsAtMost, MonotoneExamples.{decayed_sum, clamped, wrapping_sum}};
+ghost use Rattle.enclosure_folds.specs.MonotoneExamples.{shifted_left, choice_by_argument, choice_by_state, overwritten, IsFound};
+ghost use Rattle.enclosure_folds.specs.MonotoneExamples.{AreBounds};
 ghost use Rattle.epoch_entry.specs.Bounds.{least_state, greatest_state};
-ghost use Rattle.enclosure_folds.specs.MonotoneExamples.{decayed_sum, clamped, wrapping_sum, shifted_left};
-ghost use Rattle.enclosure_folds.specs.MonotoneExamples.{choice_by_argument, choice_by_state};
-ghost use Rattle.enclosure_folds.specs.MonotoneExamples.{overwritten, IsFound, AreBounds};
 
 /// One step of a monotone fold keeps the order of states, word by word.
 pub fn step_keeps_order()

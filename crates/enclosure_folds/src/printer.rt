@@ -1,12 +1,10 @@
 //! The text of tables of bounds.
 
 ghost use Rattle.std.specs.Prelude.{◌≡◌, ◌<◌, ◌≤◌, ◌++◌, ◌∷◌, [], length, flat_map, codes, decimal, IsErrOf, OnErr, OnOk};
-ghost use Rattle.marple_base.specs.Faults.{Rose};
-ghost use Rattle.marple_base.specs.Sink.{TakesFront};
+ghost use Rattle.marple_base.specs.{Faults.Rose, Sink.TakesFront, Pieces.TakesAllBut};
 ghost use Rattle.table_printer.specs.TableText.{cells_continued, cells_joined, table_line, numbers};
 ghost use Rattle.enclosure_folds.specs.BoundsTables.{IsBoundsTable, row_is_exact, mark_text, in_turn, bound_names, bounds_title};
 ghost use Rattle.enclosure_folds.specs.BoundsTables.{bounds_heading, bounds_parts, bounds_text};
-ghost use Rattle.marple_base.specs.Pieces.{TakesAllBut};
 
 use crate::rows::is_exact;
 use crate::table::{BoundsRow, BoundsTable};

@@ -1,33 +1,18 @@
 -- The sizes and the bounds of the kinds.
 use Rattle.std.proofs.Common.{◌≡◌, ℕ, ◌+◌, ◌*◌, ◌<◌, ◌≤◌, length, sym, ap, ◌∙◌, subst, refl, arith}
-use Rattle.std.specs.Prelude.{fold}
-use Rattle.std.proofs.Math.Nat.{add-mul, mul-le-mul_left, mul-le-mul_right}
-use Rattle.std.proofs.Math.Logic.{∥∥₁_elim}
-use Rattle.std.proofs.Math.Nat.{ℕ_set}
-use Rattle.query_lang.specs.declared.fold.TypedFold.{TypedFold}
-use Rattle.query_lang.specs.declared.typed.Class.{Class}
-use Rattle.query_lang.specs.declared.typed.Class.TheVariants.{Linear}
+use Rattle.std.{proofs.Math.{Nat.{add-mul, mul-le-mul_left, mul-le-mul_right, ℕ_set}, Logic.{∥∥₁_elim}}, specs.Prelude.fold}
+use Rattle.query_lang.specs.declared.{fold.TypedFold.TypedFold, typed.Class.{Class, TheVariants.Linear}}
 use Rattle.query_lang.specs.Folds.{fold_states, fold_args, initial_state, IsValidFold}
 use Rattle.query_lang.specs.declared.fault.TheConstants.{MAX_ARGS, MAX_KEYS, MAX_STATES}
-use Rattle.coeff_algebra.specs.WrappingModel.{wrapping_from_words}
-use Rattle.coeff_algebra.specs.MaxPlusModel.{max_plus_from_words}
+use Rattle.coeff_algebra.specs.{WrappingModel.wrapping_from_words, MaxPlusModel.max_plus_from_words}
 use Rattle.fold_code.specs.Meaning.{code_step, code_steps}
-use Rattle.fold_class.specs.declared.class.Algebra.{Algebra}
-use Rattle.fold_class.specs.declared.class.Algebra.TheVariants.{Sums, Maxima}
-use Rattle.fold_class.specs.declared.program.FoldProgram.{FoldProgram}
-use Rattle.fold_class.specs.Algebras.{sums, maxima}
-use Rattle.fold_class.specs.Depth.{is_history, depth_of}
-use Rattle.fold_class.specs.Kinds.{algebra_of}
-use Rattle.fold_class.specs.Rows.{element_size, rows_steps}
-use Rattle.fold_class.specs.Program.{IsProgram, IsProgramOf, WritesAlgebra}
-use Rattle.fold_class.proofs.AlgebraLaws.{sums_are, maxima_are}
-use Rattle.fold_class.proofs.DepthLemmas.{history_rounds}
-use Rattle.fold_class.proofs.LawLemmas.{depth_is, depth_found_is, maxima_depth}
-use Rattle.fold_class.proofs.PlaceLemmas.{both_sorts}
-use Rattle.epoch_entry.specs.Foldings.{per_epoch, entry_bound, IsKindOf, merge_bound}
-use Rattle.epoch_entry.specs.Entries.{other_sizes, other_folding, other_open, other_absorb, linear_rank, history_words, linear_sizes}
-use Rattle.epoch_entry.specs.Entries.{linear_folding, linear_open, linear_absorb, other_merge, linear_merge, WritesInto}
-use Rattle.epoch_entry.proofs.FoldLemmas.{code_folds}
+use Rattle.fold_class.specs.declared.{class.Algebra.{Algebra, TheVariants.{Sums, Maxima}}, program.FoldProgram.FoldProgram}
+use Rattle.fold_class.specs.{Algebras.{sums, maxima}, Depth.{is_history, depth_of}, Kinds.algebra_of, Rows.{element_size, rows_steps}}
+use Rattle.fold_class.{specs.Program.{IsProgram, IsProgramOf, WritesAlgebra}, proofs.AlgebraLaws.{sums_are, maxima_are}}
+use Rattle.fold_class.proofs.{DepthLemmas.history_rounds, LawLemmas.{depth_is, depth_found_is, maxima_depth}, PlaceLemmas.both_sorts}
+use Rattle.epoch_entry.specs.{Foldings.{per_epoch, entry_bound, IsKindOf, merge_bound}, Entries.{other_sizes, other_folding, other_open}}
+use Rattle.epoch_entry.specs.Entries.{other_absorb, linear_rank, history_words, linear_sizes, linear_folding, linear_open, linear_absorb}
+use Rattle.epoch_entry.{specs.Entries.{other_merge, linear_merge, WritesInto}, proofs.FoldLemmas.code_folds}
 
 pub other_kind : (f : TypedFold) (p : FoldProgram) → IsProgramOf f p → p.class ≡ Class.Other
     → IsKindOf f (other_sizes p) (other_folding p) (other_open p) (other_absorb p)

@@ -1,26 +1,14 @@
 -- The state that an entry is merged into.
 use Rattle.std.proofs.Common.{◌≡◌, ◌≢◌, ℕ, ◌<◌, ◌≤◌, Bool, true, false, not, List, min, length, slice_index, take, refl, sym, ap, ◌∙◌}
-use Rattle.std.proofs.Common.{arith}
-use Rattle.std.specs.Prelude.{fold}
-use Rattle.std.proofs.lemmas.List.{take_all, ext_get_or}
-use Rattle.query_lang.specs.declared.fold.TypedFold.{TypedFold}
-use Rattle.query_lang.specs.Words.{AreWords}
-use Rattle.query_lang.specs.Folds.{folded, fold_states}
+use Rattle.std.{proofs.{Common.arith, lemmas.List.{take_all, ext_get_or}}, specs.Prelude.fold}
+use Rattle.query_lang.specs.{declared.fold.TypedFold.TypedFold, Words.AreWords, Folds.{folded, fold_states}}
 use Rattle.epoch_model.specs.Keys.{ArgRow}
-use Rattle.coeff_algebra.specs.Elements.{Elements}
-use Rattle.coeff_algebra.specs.Maps.{map_apply, table_of}
+use Rattle.coeff_algebra.specs.{Elements.Elements, Maps.{map_apply, table_of}}
 use Rattle.fold_code.specs.Meaning.{code_step}
-use Rattle.fold_class.specs.declared.program.FoldProgram.{FoldProgram}
-use Rattle.fold_class.specs.Depth.{is_history}
-use Rattle.fold_class.specs.Step.{places, dimension, linear_places, words_at}
-use Rattle.fold_class.specs.Program.{IsProgramOf}
-use Rattle.fold_class.proofs.PlaceLemmas.{map_at, place_at, places_less}
-use Rattle.fold_class.proofs.LawLemmas.{forgets}
-use Rattle.epoch_entry.specs.Entries.{linear_rank, logged_rows, PartsStand}
-use Rattle.epoch_entry.specs.Shape.{IsShaped}
-use Rattle.epoch_entry.specs.Absorbing.{IsCarried}
-use Rattle.epoch_entry.proofs.FoldLemmas.{length-folded, code_folds}
-use Rattle.epoch_entry.proofs.EntryLemmas.{dimension_is, logged_count}
+use Rattle.fold_class.specs.{declared.program.FoldProgram.FoldProgram, Depth.is_history, Step.{places, dimension, linear_places, words_at}}
+use Rattle.fold_class.{specs.Program.IsProgramOf, proofs.{PlaceLemmas.{map_at, place_at, places_less}, LawLemmas.forgets}}
+use Rattle.epoch_entry.specs.{Entries.{linear_rank, logged_rows, PartsStand}, Shape.IsShaped, Absorbing.IsCarried}
+use Rattle.epoch_entry.proofs.{FoldLemmas.{length-folded, code_folds}, EntryLemmas.{dimension_is, logged_count}}
 
 module _ {C : Type 0} (k : Elements C) (from_words : List ℕ → C) (size : ℕ) (p : FoldProgram) (count : ℕ) (log history map' : List ℕ)
     (rows : List ArgRow) (st : PartsStand k from_words size p count log history map' rows)

@@ -1,14 +1,11 @@
 -- The words of a state's variables in the order of their places.
 use Rattle.std.proofs.Common.{◌≡◌, ℕ, ◌<◌, Bool, true, false, not, List, length, slice_index, refl, sym, ap, ◌∙◌, arith}
 use Rattle.std.proofs.lemmas.List.{ext_get_or}
-use Rattle.query_lang.specs.declared.fold.TypedFold.{TypedFold}
-use Rattle.query_lang.specs.Folds.{body, fold_states, IsValidFold}
-use Rattle.fold_class.specs.declared.class.Algebra.{Algebra}
-use Rattle.fold_class.specs.Depth.{is_history}
+use Rattle.query_lang.specs.{declared.fold.TypedFold.TypedFold, Folds.{body, fold_states, IsValidFold}}
+use Rattle.fold_class.specs.{declared.class.Algebra.Algebra, Depth.is_history}
 use Rattle.fold_class.specs.Step.{dimension, places, linear_places, history_places, words_at}
 use Rattle.fold_class.specs.Translations.{translated, SameHistory, AreMoved}
-use Rattle.fold_class.proofs.PlaceLemmas.{map_at, length-map, places_less, place_at, placed, rank_size}
-use Rattle.fold_class.proofs.TranslationLaws.{step_history}
+use Rattle.fold_class.proofs.{PlaceLemmas.{map_at, length-map, places_less, place_at, placed, rank_size}, TranslationLaws.step_history}
 
 not_true : (b : Bool) → not b ≡ true → b ≡ false
 not_true true e = cc

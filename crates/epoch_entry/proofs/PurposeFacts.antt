@@ -1,22 +1,12 @@
 -- The kinds of entries for each purpose.
-use Rattle.std.proofs.Common.{◌≡◌, ℕ, ◌+◌, ◌*◌, ◌≤◌, sym, ap, ◌∙◌, subst, refl, arith}
-use Rattle.std.proofs.Math.Nat.{add-mul}
-use Rattle.query_lang.specs.declared.fold.TypedFold.{TypedFold}
-use Rattle.query_lang.specs.declared.typed.Class.{Class}
-use Rattle.query_lang.specs.declared.typed.Class.TheVariants.{Linear, Other}
-use Rattle.query_lang.specs.Folds.{fold_states, IsValidFold}
+use Rattle.std.proofs.{Common.{◌≡◌, ℕ, ◌+◌, ◌*◌, ◌≤◌, sym, ap, ◌∙◌, subst, refl, arith}, Math.Nat.add-mul}
+use Rattle.query_lang.specs.declared.{fold.TypedFold.TypedFold, typed.Class.{Class, TheVariants.{Linear, Other}}}
+use Rattle.query_lang.specs.{Folds.{fold_states, IsValidFold}, declared.fault.TheConstants.MAX_KEYS}
 use Rattle.epoch_model.specs.Tables.{Folding}
-use Rattle.query_lang.specs.declared.fault.TheConstants.{MAX_KEYS}
-use Rattle.fold_class.specs.declared.program.FoldProgram.{FoldProgram}
-use Rattle.fold_class.specs.Kinds.{class_of}
-use Rattle.fold_class.specs.Program.{IsProgramOf}
-use Rattle.epoch_entry.specs.declared.purpose.Entries.{Entries}
-use Rattle.epoch_entry.specs.declared.purpose.Entries.TheVariants.{Folds, Bounds}
-use Rattle.epoch_entry.specs.Kinds.{Sizes}
-use Rattle.epoch_entry.specs.Foldings.{IsKindOf, entry_bound, absorb_bound, per_epoch}
-use Rattle.epoch_entry.specs.Bounds.{IsBoundsKindOf}
-use Rattle.epoch_entry.specs.Purposes.{IsBoundingKind, IsKindFor, SuitsFold, runs_of}
-use Rattle.epoch_entry.proofs.KindFacts.{entry_fits}
+use Rattle.fold_class.specs.{declared.program.FoldProgram.FoldProgram, Kinds.class_of, Program.IsProgramOf}
+use Rattle.epoch_entry.specs.{declared.purpose.Entries.{Entries, TheVariants.{Folds, Bounds}}, Kinds.Sizes}
+use Rattle.epoch_entry.specs.{Foldings.{IsKindOf, entry_bound, absorb_bound, per_epoch}, Bounds.IsBoundsKindOf}
+use Rattle.epoch_entry.{specs.Purposes.{IsBoundingKind, IsKindFor, SuitsFold, runs_of}, proofs.KindFacts.entry_fits}
 
 module _ (f : TypedFold) (sizes : Sizes) (folding : Folding) (opening absorbing : ℕ) where
   own_suits : IsKindOf f sizes folding opening absorbing → SuitsFold 1 f sizes folding opening absorbing

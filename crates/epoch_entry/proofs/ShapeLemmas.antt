@@ -1,20 +1,11 @@
 -- The parts of a fold's program fit together.
 use Rattle.std.proofs.Common.{◌≡◌, ◌≢◌, ℕ, zero, suc, ◌<◌, ◌≤◌, Bool, true, false, not, nat_lt, if◌then◌else◌, List, [], ◌∷◌, ◌++◌, length}
-use Rattle.std.proofs.Common.{slice_index, All, refl, sym, ap, ◌∙◌, subst, arith, length-append}
-use Rattle.std.proofs.Math.Logic.{∥∥₁_elim}
-use Rattle.std.proofs.Props.{props}
-use Rattle.std.proofs.lemmas.Bool.Decides.{nat_tests}
-use Rattle.std.proofs.lemmas.List.{get_or_append_left, get_or_push}
-use Rattle.query_lang.specs.declared.fold.TypedFold.{TypedFold}
-use Rattle.query_lang.specs.Folds.{fold_states}
-use Rattle.fold_class.specs.declared.program.FoldProgram.{FoldProgram}
-use Rattle.fold_class.specs.Depth.{is_history}
-use Rattle.fold_class.specs.Step.{places, history_places}
-use Rattle.fold_class.specs.Program.{IsProgram, IsProgramOf}
-use Rattle.fold_class.proofs.DepthLemmas.{history_rounds}
-use Rattle.fold_class.proofs.PlaceLemmas.{placed, both_sorts}
-use Rattle.epoch_entry.specs.Shape.{IsShaped, IsAscending}
-use Rattle.epoch_entry.proofs.FoldLemmas.{default_free}
+use Rattle.std.proofs.{Common.{slice_index, All, refl, sym, ap, ◌∙◌, subst, arith, length-append}, Math.Logic.{∥∥₁_elim}, Props.props}
+use Rattle.std.proofs.lemmas.{Bool.Decides.nat_tests, List.{get_or_append_left, get_or_push}}
+use Rattle.query_lang.specs.{declared.fold.TypedFold.TypedFold, Folds.fold_states}
+use Rattle.fold_class.specs.{declared.program.FoldProgram.FoldProgram, Depth.is_history, Step.{places, history_places}}
+use Rattle.fold_class.{specs.Program.{IsProgram, IsProgramOf}, proofs.{DepthLemmas.history_rounds, PlaceLemmas.{placed, both_sorts}}}
+use Rattle.epoch_entry.{specs.Shape.{IsShaped, IsAscending}, proofs.FoldLemmas.default_free}
 
 places_ascend : (p : ℕ → Bool) (n : ℕ) → IsAscending (places p n)
 places_ascend p zero i j lt h = absurd (omega arith)

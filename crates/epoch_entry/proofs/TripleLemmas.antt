@@ -1,19 +1,15 @@
 -- Three states side by side, and the kind of the entries that hold them.
 use Rattle.std.proofs.Common.{◌≡◌, ℕ, ◌-◌, ◌^◌, ◌≤◌, List, [], ◌∷◌, ◌++◌, length, take, drop, refl, sym, ap, ◌∙◌, arith}
+use Rattle.std.proofs.{lemmas.List.{length-take-le, length-drop, length-replicate}, Math.Seq.{take-append_seam, drop-append_seam}}
 use Rattle.std.specs.Prelude.{fold}
-use Rattle.std.proofs.lemmas.List.{length-take-le, length-drop, length-replicate}
-use Rattle.std.proofs.Math.Seq.{take-append_seam, drop-append_seam}
-use Rattle.query_lang.specs.declared.fold.TypedFold.{TypedFold}
-use Rattle.query_lang.specs.Folds.{body, folded, fold_states, initial_state}
+use Rattle.query_lang.specs.{declared.fold.TypedFold.TypedFold, Folds.{body, folded, fold_states, initial_state}}
 use Rattle.epoch_model.specs.Keys.{ArgRow}
 use Rattle.epoch_entry.proofs.FoldLemmas.{length-body}
-use Rattle.fold_code.specs.Meaning.{code_step}
-use Rattle.fold_class.specs.declared.program.FoldProgram.{FoldProgram}
-use Rattle.fold_class.specs.Program.{IsProgramOf}
-use Rattle.epoch_entry.specs.Triples.{first_third, second_third, last_third, beside, step_beside, start_beside}
-use Rattle.epoch_entry.specs.Bounds.{least_state, greatest_state, bounds_sizes, bounds_folding, bounds_open, bounds_absorb, bounds_merge}
-use Rattle.epoch_entry.specs.Bounds.{IsBoundsKindOf}
+use Rattle.epoch_entry.specs.{Triples.{first_third, second_third, last_third, beside, step_beside, start_beside}, Bounds.least_state}
+use Rattle.epoch_entry.specs.Bounds.{greatest_state, bounds_sizes, bounds_folding, bounds_open, bounds_absorb, bounds_merge, IsBoundsKindOf}
 use Rattle.epoch_entry.specs.Foldings.{merge_bound}
+use Rattle.fold_code.specs.Meaning.{code_step}
+use Rattle.fold_class.specs.{declared.program.FoldProgram.FoldProgram, Program.IsProgramOf}
 
 -- the thirds
 

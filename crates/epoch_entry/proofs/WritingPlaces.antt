@@ -1,7 +1,6 @@
 -- A word that is written at the next place of an ascending list of places.
-use Rattle.std.proofs.Common.{◌≡◌, ◌≢◌, ℕ, ◌+◌, ◌<◌, List, length}
-use Rattle.std.proofs.Common.{slice_index, ◌∙◌, arith, below_more, get_or-set_other, get_or-set_same, sym}
-use Rattle.std.proofs.Math.ListN.{set}
+use Rattle.std.proofs.Common.{◌≡◌, ◌≢◌, ℕ, ◌+◌, ◌<◌, List, length, slice_index, ◌∙◌, arith, below_more, get_or-set_other, get_or-set_same}
+use Rattle.std.proofs.{Common.sym, Math.ListN.set}
 use Rattle.epoch_entry.specs.Shape.{IsAscending}
 
 pub next_written : (places state : List ℕ) (r w : ℕ) (f : ℕ → ℕ) → IsAscending places → r < length places

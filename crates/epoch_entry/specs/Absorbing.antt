@@ -1,12 +1,9 @@
 -- What becomes of an entry as it takes a row.
 use Rattle.std.specs.Prelude.{◌≡◌, ◌≢◌, ℕ, ◌+◌, ◌<◌, ◌≤◌, List, length, slice_index}
 use Rattle.epoch_model.specs.Keys.{ArgRow}
-use Rattle.coeff_algebra.specs.Elements.{Elements}
-use Rattle.coeff_algebra.specs.Maps.{map_apply, map_compose, table_of, stored_at}
+use Rattle.coeff_algebra.specs.{Elements.Elements, Maps.{map_apply, map_compose, table_of, stored_at}}
 use Rattle.fold_code.specs.Meaning.{code_step}
-use Rattle.fold_class.specs.declared.program.FoldProgram.{FoldProgram}
-use Rattle.fold_class.specs.Rows.{LeavesRows}
-use Rattle.fold_class.specs.Step.{words_at}
+use Rattle.fold_class.specs.{declared.program.FoldProgram.FoldProgram, Rows.LeavesRows, Step.words_at}
 use Rattle.epoch_entry.specs.Entries.{linear_rank}
 
 -- a state of the fold whose history variables have these words

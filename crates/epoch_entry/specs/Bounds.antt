@@ -1,13 +1,10 @@
 -- Entries of three states of a fold, run side by side from its initial state, the least and the greatest, and what they are folded to.
 use Rattle.std.specs.Prelude.{◌≡◌, ℕ, ◌+◌, ◌-◌, ◌*◌, ◌^◌, ◌≤◌, true, List, length, fold, replicate}
-use Rattle.query_lang.specs.declared.fold.TypedFold.{TypedFold}
-use Rattle.query_lang.specs.Folds.{body, folded, fold_states, fold_args, initial_state}
-use Rattle.epoch_model.specs.Keys.{ArgRow}
-use Rattle.epoch_model.specs.Tables.{Folding}
+use Rattle.query_lang.specs.{declared.fold.TypedFold.TypedFold, Folds.{body, folded, fold_states, fold_args, initial_state}}
+use Rattle.epoch_model.specs.{Keys.ArgRow, Tables.Folding}
 use Rattle.fold_code.specs.Meaning.{code_step, code_steps, code_scratch}
 use Rattle.fold_class.specs.declared.program.FoldProgram.{FoldProgram}
-use Rattle.epoch_entry.specs.Kinds.{Sizes}
-use Rattle.epoch_entry.specs.Triples.{beside, step_beside, start_beside}
+use Rattle.epoch_entry.specs.{Kinds.Sizes, Triples.{beside, step_beside, start_beside}}
 
 -- by the definition of a fold
 

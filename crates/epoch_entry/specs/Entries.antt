@@ -1,21 +1,13 @@
 -- The words of an entry, by the program of a fold, and what they represent.
-use Rattle.std.specs.Prelude.{◌≡◌, ℕ, ◌+◌, ◌*◌, ◌<◌, ◌≤◌, max, false, true, List, length, take, drop}
-use Rattle.std.specs.Prelude.{slice_index, All}
-use Rattle.query_lang.specs.declared.fold.TypedFold.{TypedFold}
-use Rattle.query_lang.specs.Words.{IsWord, AreWords}
-use Rattle.epoch_model.specs.Keys.{ArgRow}
-use Rattle.epoch_model.specs.Tables.{Folding}
-use Rattle.coeff_algebra.specs.Elements.{Elements}
-use Rattle.coeff_algebra.specs.Maps.{map_apply, table_of, stored_at}
+use Rattle.std.specs.Prelude.{◌≡◌, ℕ, ◌+◌, ◌*◌, ◌<◌, ◌≤◌, max, false, true, List, length, take, drop, slice_index, All}
+use Rattle.query_lang.specs.{declared.fold.TypedFold.TypedFold, Words.{IsWord, AreWords}}
+use Rattle.epoch_model.specs.{Keys.ArgRow, Tables.Folding}
+use Rattle.coeff_algebra.specs.{Elements.Elements, Maps.{map_apply, table_of, stored_at}}
 use Rattle.fold_code.specs.Meaning.{code_step, code_steps, code_scratch}
-use Rattle.fold_class.specs.declared.program.FoldProgram.{FoldProgram}
-use Rattle.fold_class.specs.Entries.{LinearEntry, LinearStandsFor, OtherStandsFor}
-use Rattle.fold_class.specs.Program.{IsProgramOf, WritesElements}
-use Rattle.fold_class.specs.Rows.{element_size, rows_steps, rows_scratch}
-use Rattle.fold_class.specs.Parts.{IsAlgebraOf}
+use Rattle.fold_class.specs.{declared.program.FoldProgram.FoldProgram, Entries.{LinearEntry, LinearStandsFor, OtherStandsFor}}
+use Rattle.fold_class.specs.{Program.{IsProgramOf, WritesElements}, Rows.{element_size, rows_steps, rows_scratch}, Parts.IsAlgebraOf}
 use Rattle.fold_class.specs.Step.{list_of, dimension}
-use Rattle.epoch_entry.specs.Kinds.{Sizes}
-use Rattle.epoch_entry.specs.Identity.{unit_at}
+use Rattle.epoch_entry.specs.{Kinds.Sizes, Identity.unit_at}
 
 -- an argument row with this number of words
 pub record IsRow (args : ℕ) (row : ArgRow) : Type 0 where

@@ -1,14 +1,9 @@
 -- What a fold asks of a kind of entries: what its rows are folded to, and how many words and steps it may take.
 use Rattle.std.specs.Prelude.{◌≡◌, ℕ, ◌+◌, ◌*◌, ◌≤◌, Bool, true, false, List, fold, length}
-use Rattle.query_lang.specs.declared.fold.TypedFold.{TypedFold}
-use Rattle.query_lang.specs.declared.typed.Class.{Class}
-use Rattle.query_lang.specs.declared.typed.Class.TheVariants.{Linear}
+use Rattle.query_lang.specs.declared.{fold.TypedFold.TypedFold, typed.Class.{Class, TheVariants.Linear}}
 use Rattle.query_lang.specs.Folds.{body, folded, fold_states, fold_args, initial_state}
-use Rattle.epoch_model.specs.Keys.{ArgRow}
-use Rattle.epoch_model.specs.Tables.{Folding}
-use Rattle.fold_class.specs.Depth.{depth_of}
-use Rattle.fold_class.specs.Kinds.{class_of, algebra_of}
-use Rattle.fold_class.specs.Rows.{element_size}
+use Rattle.epoch_model.specs.{Keys.ArgRow, Tables.Folding}
+use Rattle.fold_class.specs.{Depth.depth_of, Kinds.{class_of, algebra_of}, Rows.element_size}
 use Rattle.epoch_entry.specs.Kinds.{Sizes}
 
 -- whether each epoch of a fold of this class has a separate row

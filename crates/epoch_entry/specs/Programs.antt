@@ -1,7 +1,6 @@
 -- The program of a fold's entries, whatever they are for.
 use Rattle.fold_class.specs.declared.program.FoldProgram.{FoldProgram}
-use Rattle.epoch_entry.specs.declared.any.AnyEpochs.{AnyEpochs}
-use Rattle.epoch_entry.specs.declared.any.AnyEpochs.TheVariants.{Linear, Maxima, Other, Bounds}
+use Rattle.epoch_entry.specs.declared.any.AnyEpochs.{AnyEpochs, TheVariants.{Linear, Maxima, Other, Bounds}}
 
 -- the program by which such entries take a row
 abbrev pub program_in : AnyEpochs → FoldProgram

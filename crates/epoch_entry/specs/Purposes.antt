@@ -1,17 +1,11 @@
 -- The kind of a fold's entries by what a pipeline's entries are for.
 use Rattle.std.specs.Prelude.{◌≡◌, ℕ, ◌+◌, ◌*◌, ◌≤◌}
-use Rattle.query_lang.specs.declared.fold.TypedFold.{TypedFold}
-use Rattle.query_lang.specs.declared.typed.Class.{Class}
-use Rattle.query_lang.specs.declared.typed.Class.TheVariants.{Linear, Other}
-use Rattle.query_lang.specs.Folds.{IsValidFold, fold_args}
+use Rattle.query_lang.specs.declared.{fold.TypedFold.TypedFold, typed.Class.{Class, TheVariants.{Linear, Other}}}
+use Rattle.query_lang.specs.{Folds.{IsValidFold, fold_args}, declared.fault.TheConstants.MAX_KEYS}
 use Rattle.epoch_model.specs.Tables.{Folding}
-use Rattle.query_lang.specs.declared.fault.TheConstants.{MAX_KEYS}
 use Rattle.fold_class.specs.Kinds.{class_of}
-use Rattle.epoch_entry.specs.declared.purpose.Entries.{Entries}
-use Rattle.epoch_entry.specs.declared.purpose.Entries.TheVariants.{Folds, Bounds}
-use Rattle.epoch_entry.specs.Kinds.{Sizes}
-use Rattle.epoch_entry.specs.Foldings.{IsKindOf, absorb_bound, entry_bound, per_epoch}
-use Rattle.epoch_entry.specs.Bounds.{IsBoundsKindOf}
+use Rattle.epoch_entry.specs.{declared.purpose.Entries.{Entries, TheVariants.{Folds, Bounds}}, Kinds.Sizes}
+use Rattle.epoch_entry.specs.{Foldings.{IsKindOf, absorb_bound, entry_bound, per_epoch}, Bounds.IsBoundsKindOf}
 
 -- where bounds are asked for, a linear fold has its own entries, since they lose nothing, and any other fold those of its bounds
 abbrev pub IsBoundingKind : Class → TypedFold → Sizes → Folding → ℕ → ℕ → Type 0

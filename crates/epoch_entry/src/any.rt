@@ -36,9 +36,7 @@ impl Drop for AnyEpochs {
 
 impl AnyEpochs {
     ghost use Rattle.query_lang.specs.declared.fold.TypedFold.{TypedFold};
-    ghost use Rattle.epoch_entry.specs.Foldings.{IsKindOf, merge_bound};
-    ghost use Rattle.epoch_entry.specs.Programs.{program_in};
-    ghost use Rattle.epoch_entry.specs.Purposes.{IsKindFor};
+    ghost use Rattle.epoch_entry.specs.{Foldings.{IsKindOf, merge_bound}, Programs.program_in, Purposes.IsKindFor};
 
     /// The entries of a program's fold: their sizes, what they are folded to and their bounds on steps are the fold's.
     pub fn of(program: FoldProgram) -> AnyEpochs

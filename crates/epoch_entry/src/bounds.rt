@@ -21,8 +21,7 @@ pub struct BoundsEpochs {
 
 impl BoundsEpochs {
     ghost use Rattle.query_lang.specs.declared.fold.TypedFold.{TypedFold};
-    ghost use Rattle.epoch_entry.specs.Bounds.{IsBoundsKindOf};
-    ghost use Rattle.epoch_entry.specs.Foldings.{merge_bound};
+    ghost use Rattle.epoch_entry.specs.{Bounds.IsBoundsKindOf, Foldings.merge_bound};
 
     /// The entries of the bounds of a program's fold.
     pub fn of(program: FoldProgram) -> BoundsEpochs

@@ -1,8 +1,7 @@
 //! What an entry is to a cache.
 
 ghost use Rattle.std.specs.Prelude.{◌≡◌, ℕ, ◌+◌, ◌≤◌, Bool, true, List, [], ◌∷◌, ◌++◌, length, fold};
-ghost use Rattle.epoch_model.specs.Keys.{ArgRow};
-ghost use Rattle.epoch_model.specs.Tables.{Folding};
+ghost use Rattle.epoch_model.specs.{Keys.ArgRow, Tables.Folding};
 ghost use Rattle.epoch_entry.specs.Kinds.{Sizes, MayTake};
 
 use marple_base::Steps;

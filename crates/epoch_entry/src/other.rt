@@ -19,8 +19,7 @@ pub struct OtherEpochs {
 }
 
 impl OtherEpochs {
-    ghost use Rattle.query_lang.specs.declared.fold.TypedFold.{TypedFold};
-    ghost use Rattle.query_lang.specs.declared.typed.Class.{Class};
+    ghost use Rattle.query_lang.specs.declared.{fold.TypedFold.TypedFold, typed.Class.Class};
     ghost use Rattle.epoch_entry.specs.Foldings.{IsKindOf, merge_bound};
 
     /// The entries of a program's fold.

@@ -2,8 +2,7 @@
 
 ghost use Rattle.std.specs.Prelude.{◌≡◌, ℕ, ◌+◌, ◌*◌, ◌<◌, ◌≤◌, length};
 ghost use Rattle.fold_code.specs.Meaning.{code_steps, code_scratch};
-ghost use Rattle.epoch_entry.specs.Entries.{history_words, map_words, run_steps, scratch_words};
-ghost use Rattle.epoch_entry.specs.Absorbing.{Remembers, Moves};
+ghost use Rattle.epoch_entry.specs.{Entries.{history_words, map_words, run_steps, scratch_words}, Absorbing.{Remembers, Moves}};
 ghost use Rattle.epoch_entry.specs.Shape.{IsShaped};
 
 use crate::column::{column_to_state, state_to_column};

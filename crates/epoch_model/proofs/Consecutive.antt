@@ -1,14 +1,11 @@
 -- Where a key's rows are cut, with the uses in the order of the trace.
 use Rattle.std.proofs.Common.{◌≡◌, ℕ, suc, ◌+◌, Bool, true, false, cond, not, ◌&&◌, ◌||◌, List, [], ◌∷◌, ◌++◌, Some, None, length, map}
 use Rattle.std.proofs.Common.{filter, reverse, refl, sym, ap, ap₂, ◌∙◌, subst, arith, append-nil, append_assoc, length-append}
-use Rattle.std.specs.Prelude.{nat_lt}
-use Rattle.std.proofs.lemmas.{List.reverse-append, List.map-append, List.Elements.filter-append}
-use Rattle.epoch_model.specs.Keys.{Key, key_eq, others, distinct, has}
-use Rattle.epoch_model.specs.Epochs.{Use, Geometry, refresh_between, is_rival, rivals, in_one_epoch, is_use_of, last_use, since_last_use}
-use Rattle.epoch_model.specs.Epochs.{goes_on_after, goes_on, onto_last, epochs_back, epochs}
-use Rattle.epoch_model.specs.Laws.{NotUsed, EpochsAreCutBetweenUses}
-use Rattle.epoch_model.proofs.KeyLists.{by_test, key_eq-true, key_eq-refl, key_eq-sym_false, IsDistinct, others_absent, distinct-distinct}
-use Rattle.epoch_model.proofs.KeyLists.{has-distinct}
+use Rattle.std.{proofs.lemmas.List.{reverse-append, map-append, Elements.filter-append}, specs.Prelude.nat_lt}
+use Rattle.epoch_model.specs.{Keys.{Key, key_eq, others, distinct, has}, Epochs.{Use, Geometry, refresh_between, is_rival, rivals}}
+use Rattle.epoch_model.specs.Epochs.{in_one_epoch, is_use_of, last_use, since_last_use, goes_on_after, goes_on, onto_last, epochs_back}
+use Rattle.epoch_model.{specs.{Epochs.epochs, Laws.{NotUsed, EpochsAreCutBetweenUses}}, proofs.KeyLists.{by_test, key_eq-true, key_eq-refl}}
+use Rattle.epoch_model.proofs.KeyLists.{key_eq-sym_false, IsDistinct, others_absent, distinct-distinct, has-distinct}
 
 -- 1 for a key that is there
 abbrev counted : Bool → ℕ

@@ -1,11 +1,10 @@
 -- The epochs of a key cut its rows.
 use Rattle.std.proofs.Common.{◌≡◌, ◌<◌, cond, List, [], ◌∷◌, ◌++◌, map, filter, reverse, length, refl, sym, ap, ◌∙◌, append-nil}
-use Rattle.std.proofs.Common.{append_assoc, arith, length-append}
-use Rattle.std.{proofs.lemmas.List.Elements.All-from_recursion, specs.List.AllByRecursion}
+use Rattle.std.{proofs.{Common.{append_assoc, arith, length-append}, lemmas.List.Elements.All-from_recursion}, specs.List.AllByRecursion}
 use mathlib.Core.List.{reverse_aux}
-use Rattle.epoch_model.specs.{Keys.Key, Keys.ArgRow, Laws.EpochsCutTheRows}
-use Rattle.epoch_model.specs.Epochs.{Use, Geometry, is_use_of, goes_on, onto_last, epochs_back, epochs}
-use Rattle.epoch_model.proofs.{KeyLists.by_test, Rows.joined, Rows.joined-append}
+use Rattle.epoch_model.specs.{Keys.{Key, ArgRow}, Laws.EpochsCutTheRows}
+use Rattle.epoch_model.{specs.Epochs.{Use, Geometry, is_use_of, goes_on, onto_last, epochs_back, epochs}, proofs.KeyLists.by_test}
+use Rattle.epoch_model.proofs.Rows.{joined, joined-append}
 
 abbrev pub IsPiece : List ArgRow → Type 0
 IsPiece rows = 0 < length rows

@@ -1,17 +1,14 @@
 -- What a program needs that makes the events of a trace in sequence.
 use Rattle.std.proofs.Common.{◌≡◌, ◌<◌, ◌≤◌, ◌-◌, ℕ, zero, suc, true, false, List, [], ◌∷◌, length, refl, sym, ap, ap₂, ◌∙◌, subst, arith}
-use Rattle.std.proofs.{Common.length-set, Common.length-take, lemmas.List.get_or_past, lemmas.List.length-replicate}
-use Rattle.std.specs.Prelude.{nat_lt, ◌==◌, ◌+◌, Option, Some, None, slice_index_or}
+use Rattle.std.proofs.{Common.{length-set, length-take}, lemmas.List.{get_or_past, length-replicate}}
 use Rattle.std.proofs.lemmas.Bool.{ltb-true, ltb-false, lt-ltb, ne_eqb, eq-eqb}
-use Rattle.epoch_model.specs.{Keys.Key, Keys.ArgRow, Timeline.IsSwept}
-use Rattle.epoch_model.specs.Epochs.{Use, Geometry, is_refresh}
-use Rattle.epoch_model.specs.Machine.{Machine, Event, Packet, Evict, Merge, open_in, evict, packet, merge, run, evict_times, empty_bucket}
-use Rattle.epoch_model.specs.Machine.{empty_buckets, merge_times, packets_of, after_packets, end_of}
-use Rattle.epoch_model.specs.Laws.{StartsFrom, EndsBy, SameEpochs}
+use Rattle.std.specs.Prelude.{nat_lt, ◌==◌, ◌+◌, Option, Some, None, slice_index_or}
+use Rattle.epoch_model.specs.{Keys.{Key, ArgRow}, Timeline.IsSwept, Epochs.{Use, Geometry, is_refresh}, Machine.{Machine, Event, Packet}}
+use Rattle.epoch_model.specs.Machine.{Evict, Merge, open_in, evict, packet, merge, run, evict_times, empty_bucket, empty_buckets}
+use Rattle.epoch_model.specs.{Machine.{merge_times, packets_of, after_packets, end_of}, Laws.{StartsFrom, EndsBy, SameEpochs}}
 use Rattle.epoch_model.specs.Driving.{EventsKeepAlike, BucketsEmptyByEvictions, PacketsFollowTheTrace, SweepsReachTheEnd}
-use Rattle.epoch_model.specs.Driving.{TakenUsesAreInTrace, Taken, uses_taken, event_of, after_packet}
-use Rattle.epoch_model.proofs.{KeyLists.by_test, MachineSteps.evict_empty, EndOfTrace.empty_buckets-empties}
-use Rattle.epoch_model.proofs.PacketSteps.{evict-open_same, packet_cases, own}
+use Rattle.epoch_model.{specs.Driving.{TakenUsesAreInTrace, Taken, uses_taken, event_of, after_packet}, proofs.KeyLists.by_test}
+use Rattle.epoch_model.proofs.{MachineSteps.evict_empty, EndOfTrace.empty_buckets-empties, PacketSteps.{evict-open_same, packet_cases, own}}
 use Rattle.epoch_model.proofs.Merges.{packet-alike, evict-alike, merge-alike}
 
 -- alike machines stay alike

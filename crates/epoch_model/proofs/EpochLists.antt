@@ -1,12 +1,9 @@
 -- Lists of epochs: the keys that they have, and the row lists of one key.
 use Rattle.std.proofs.Common.{◌≡◌, ℕ, zero, suc, ◌-◌, ◌≤◌, true, false, ◌&&◌, ◌||◌, List, [], ◌∷◌, ◌++◌, length, take, map, filter, refl}
-use Rattle.std.proofs.Common.{sym, ap, ◌∙◌, subst, arith, append-nil, take-append-drop, length-append}
-use Rattle.std.specs.Prelude.{nat_lt}
-use Rattle.std.proofs.lemmas.{Bool.false≢true, List.map-append, List.Elements.filter-append}
-use Rattle.epoch_model.specs.Keys.{Key, ArgRow, key_eq, others, has}
-use Rattle.epoch_model.specs.Epochs.{onto_last}
-use Rattle.epoch_model.specs.Machine.{Epoch, is_of, is_open, rows_in_epochs, without, with_row, with_new, all_but_last, last_alone}
-use Rattle.epoch_model.specs.Machine.{lists_of}
+use Rattle.std.proofs.{Common.{sym, ap, ◌∙◌, subst, arith, append-nil, take-append-drop, length-append}, lemmas.Bool.false≢true}
+use Rattle.std.{proofs.lemmas.List.{map-append, Elements.filter-append}, specs.Prelude.nat_lt}
+use Rattle.epoch_model.specs.{Keys.{Key, ArgRow, key_eq, others, has}, Epochs.onto_last, Machine.{Epoch, is_of, is_open, rows_in_epochs}}
+use Rattle.epoch_model.specs.Machine.{without, with_row, with_new, all_but_last, last_alone, lists_of}
 use Rattle.epoch_model.proofs.KeyLists.{by_test, key_eq-true, key_eq-refl, key_eq-along, before, has-take, IsDistinct, absent_head}
 
 -- the keys of these epochs

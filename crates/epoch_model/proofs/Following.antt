@@ -1,18 +1,15 @@
 -- The machine follows the uses: its row lists are the epochs so far, and its buckets have the last few distinct keys.
 use Rattle.std.proofs.Common.{◌≡◌, ℕ, zero, suc, ◌-◌, ◌<◌, ◌≤◌, true, false, List, [], ◌∷◌, ◌++◌, take, replicate, refl, sym, ap, ◌∙◌}
 use Rattle.std.proofs.Common.{subst, ⊎_elim, arith, take_all}
-use Rattle.std.specs.Prelude.{nat_lt, nat_le, ◌==◌}
 use Rattle.std.proofs.lemmas.Bool.{cases_eq, ltb-true, ltb-false, lt-leb, eq-eqb, ne_eqb, and_right}
-use Rattle.std.proofs.lemmas.List.{get_or-replicate, get_or_past, length-replicate}
+use Rattle.std.{proofs.lemmas.List.{get_or-replicate, get_or_past, length-replicate}, specs.Prelude.{nat_lt, nat_le, ◌==◌}}
 use Rattle.epoch_model.specs.Keys.{Key, ArgRow, key_eq, bucket_of, distinct, has}
 use Rattle.epoch_model.specs.Epochs.{Use, Geometry, refresh_between, goes_on, onto_last, epochs_back}
-use Rattle.epoch_model.specs.Machine.{Epoch, Machine, empty_machine, open_in, is_open, packet, lists_of, row_lists}
-use Rattle.epoch_model.specs.Laws.{HasRoom}
+use Rattle.epoch_model.specs.{Machine.{Epoch, Machine, empty_machine, open_in, is_open, packet, lists_of, row_lists}, Laws.HasRoom}
 use Rattle.epoch_model.proofs.KeyLists.{by_test, key_eq-true, key_eq-refl, IsDistinct, distinct-distinct}
 use Rattle.epoch_model.proofs.StackDistance.{is_fresh, fresh_keys, recent_keys, AtMost, IsDescending, hit-goes_on}
-use Rattle.epoch_model.proofs.{EpochLists.keys_of, EpochLists.is_open-has, MachineSteps.IsTidy, MachineSteps.bucket_of-lt}
-use Rattle.epoch_model.proofs.PacketSteps.{own, packet-tidy, packet-lists_other, packet-lists_open, packet-lists_new, packet-open_other}
-use Rattle.epoch_model.proofs.PacketSteps.{packet-keys}
+use Rattle.epoch_model.proofs.{EpochLists.{keys_of, is_open-has}, MachineSteps.{IsTidy, bucket_of-lt}, PacketSteps.{own, packet-tidy}}
+use Rattle.epoch_model.proofs.PacketSteps.{packet-lists_other, packet-lists_open, packet-lists_new, packet-open_other, packet-keys}
 
 -- the row lists are the epochs of the uses, which come from the latest one back
 pub record Keeps (g : Geometry) (earlier : List Use) (m : Machine) : Type 0 where

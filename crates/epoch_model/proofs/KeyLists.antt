@@ -1,8 +1,7 @@
 -- Lists of keys: which keys they have, each key once, and what comes before a key.
 use Rattle.std.proofs.Common.{◌≡◌, ℕ, zero, suc, Bool, true, false, cond, ◌&&◌, ◌||◌, List, [], ◌∷◌, length, take, ltb, refl, sym, ap, ◌∙◌}
-use Rattle.std.proofs.Common.{subst, arith}
+use Rattle.std.proofs.{Common.{subst, arith}, lemmas.Bool.{true≢false, false≢true, lt-ltb, le-ltb, ltb-true, ltb-false}}
 use Rattle.std.specs.{Prelude.nat_lt, Cmp.Lexicographic.bytes_decides}
-use Rattle.std.proofs.lemmas.Bool.{true≢false, false≢true, lt-ltb, le-ltb, ltb-true, ltb-false}
 use Rattle.epoch_model.specs.Keys.{Key, key_eq, others, distinct, has}
 
 -- two cases, by a test

@@ -1,10 +1,8 @@
 -- The order of keys, and ascending lists of keys.
-use Rattle.std.proofs.Common.{◌≡◌, Bool, true, false, ◌||◌, List, [], ◌∷◌, refl, sym, ap, ◌∙◌, subst}
-use Rattle.std.specs.{declared.cmp.Ordering.Ordering, Ordering.is_lt, Ordering.ordering_reverse}
-use Rattle.std.specs.declared.cmp.Ordering.TheVariants.{Less, Equal, Greater}
-use Rattle.std.proofs.lemmas.{Bool.true≢false, Cmp.nat_list_cmp_total, Cmp.tied_itself, Map.Lookups.exact_bytes}
-use Rattle.epoch_model.specs.Keys.{Key, key_eq, key_cmp, has, with_key, ascending, AreAbove, IsAscending}
-use Rattle.epoch_model.specs.TableLaws.{KeysAscend}
+use Rattle.std.proofs.{Common.{◌≡◌, Bool, true, false, ◌||◌, List, [], ◌∷◌, refl, sym, ap, ◌∙◌, subst}, lemmas.Bool.true≢false}
+use Rattle.std.{proofs.lemmas.{Cmp.{nat_list_cmp_total, tied_itself}, Map.Lookups.exact_bytes}, specs.declared.cmp.Ordering.Ordering}
+use Rattle.std.specs.{Ordering.{is_lt, ordering_reverse}, declared.cmp.Ordering.TheVariants.{Less, Equal, Greater}}
+use Rattle.epoch_model.specs.{Keys.{Key, key_eq, key_cmp, has, with_key, ascending, AreAbove, IsAscending}, TableLaws.KeysAscend}
 use Rattle.epoch_model.proofs.KeyLists.{by_test, key_eq-true, key_eq-refl}
 
 -- three cases, by an order

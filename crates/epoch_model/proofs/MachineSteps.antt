@@ -1,12 +1,10 @@
 -- What each event does to the row lists of a key, and to the keys of a bucket.
 use Rattle.std.proofs.Common.{◌≡◌, ℕ, ◌-◌, ◌<◌, true, false, List, [], ◌++◌, length, take, refl, sym, ap, ◌∙◌, subst, ⊎_elim, arith}
-use Rattle.std.proofs.Common.{append-nil, append_assoc, length-set}
-use Rattle.std.specs.Prelude.{nat_lt}
-use Rattle.std.proofs.lemmas.Bool.{cases_eq, ltb-true, ltb-false}
-use Rattle.std.proofs.lemmas.List.{take-map, get_or-set_same, get_or-set_other, get_or_past}
-use Rattle.epoch_model.specs.Keys.{Key, bucket_of, has}
-use Rattle.epoch_model.{specs.Epochs.Geometry, proofs.KeyLists.by_test, proofs.KeyLists.IsDistinct}
+use Rattle.std.proofs.{Common.{append-nil, append_assoc, length-set}, lemmas.Bool.{cases_eq, ltb-true, ltb-false}}
+use Rattle.std.{proofs.lemmas.List.{take-map, get_or-set_same, get_or-set_other, get_or_past}, specs.Prelude.nat_lt}
+use Rattle.epoch_model.specs.{Keys.{Key, bucket_of, has}, Epochs.Geometry}
 use Rattle.epoch_model.specs.Machine.{Epoch, Machine, open_in, all_but_last, last_alone, set_open, evict, merge, lists_of, row_lists}
+use Rattle.epoch_model.proofs.KeyLists.{by_test, IsDistinct}
 use Rattle.epoch_model.proofs.EpochLists.{keys_of, lists_of-append, lists_of-closing, lists_of-last_absent, has-front, distinct-take}
 
 -- each bucket has distinct keys, all of that bucket

@@ -1,9 +1,8 @@
 -- Where merges fall makes no difference to epochs.
-use Rattle.std.proofs.Common.{◌≡◌, ℕ, [], ◌∷◌, length, refl, sym, ap, ap₂, ◌∙◌}
-use Rattle.std.specs.Prelude.{nat_lt}
-use Rattle.epoch_model.specs.Keys.{Key, ArgRow, bucket_of}
-use Rattle.epoch_model.{specs.Epochs.Geometry, specs.Laws.SameEpochs, specs.Laws.MergesDecideNothing, proofs.KeyLists.by_test}
+use Rattle.std.{proofs.Common.{◌≡◌, ℕ, [], ◌∷◌, length, refl, sym, ap, ap₂, ◌∙◌}, specs.Prelude.nat_lt}
+use Rattle.epoch_model.specs.{Keys.{Key, ArgRow, bucket_of}, Epochs.Geometry, Laws.{SameEpochs, MergesDecideNothing}}
 use Rattle.epoch_model.specs.Machine.{Machine, Packet, Evict, Merge, open_in, is_open, set_open, with_new, evict, packet, merge}
+use Rattle.epoch_model.proofs.KeyLists.{by_test}
 
 -- the machine with another number of merged epochs
 abbrev pub with_merged : ℕ → Machine → Machine

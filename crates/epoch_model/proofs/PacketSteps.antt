@@ -1,17 +1,13 @@
 -- What a packet does to the row lists of a key, and to the keys of its bucket.
 use Rattle.std.proofs.Common.{◌≡◌, ℕ, suc, ◌-◌, ◌<◌, min, true, false, ◌||◌, List, [], ◌∷◌, ◌++◌, length, take, refl, sym, ap, ◌∙◌, subst}
-use Rattle.std.proofs.Common.{arith, append-nil, take_all, take-take, length-take}
-use Rattle.std.{specs.Prelude.nat_lt, proofs.lemmas.List.length-map}
-use Rattle.std.proofs.lemmas.Bool.{true≢false, ltb-true, ltb-false, lt-ltb}
-use Rattle.epoch_model.specs.Keys.{Key, ArgRow, key_eq, bucket_of, others, has}
-use Rattle.epoch_model.specs.Epochs.{Geometry, onto_last}
-use Rattle.epoch_model.specs.Machine.{Epoch, Machine, open_in, is_open, with_row, with_new, all_but_last, set_open, evict, packet, lists_of}
-use Rattle.epoch_model.specs.Machine.{row_lists, rows_in_epochs, without}
-use Rattle.epoch_model.proofs.KeyLists.{by_test, key_eq-true, IsDistinct, has-others_same, has-others_false, others-distinct, front_known}
-use Rattle.epoch_model.proofs.KeyLists.{front_new}
-use Rattle.epoch_model.proofs.EpochLists.{keys_of, is_open-has, keys_of-without, lists_of-absent, lists_of-open, has-front}
-use Rattle.epoch_model.proofs.EpochLists.{onto_last-append, lists_of-with_row_same, lists_of-with_row_other, lists_of-with_new_same}
-use Rattle.epoch_model.proofs.EpochLists.{lists_of-with_new_other}
+use Rattle.std.proofs.{Common.{arith, append-nil, take_all, take-take, length-take}, lemmas.List.length-map}
+use Rattle.std.{proofs.lemmas.Bool.{true≢false, ltb-true, ltb-false, lt-ltb}, specs.Prelude.nat_lt}
+use Rattle.epoch_model.specs.{Keys.{Key, ArgRow, key_eq, bucket_of, others, has}, Epochs.{Geometry, onto_last}, Machine.{Epoch, Machine}}
+use Rattle.epoch_model.specs.Machine.{open_in, is_open, with_row, with_new, all_but_last, set_open, evict, packet, lists_of, row_lists}
+use Rattle.epoch_model.{specs.Machine.{rows_in_epochs, without}, proofs.KeyLists.{by_test, key_eq-true, IsDistinct, has-others_same}}
+use Rattle.epoch_model.proofs.{KeyLists.{has-others_false, others-distinct, front_known, front_new}, EpochLists.{keys_of, is_open-has}}
+use Rattle.epoch_model.proofs.EpochLists.{keys_of-without, lists_of-absent, lists_of-open, has-front, onto_last-append}
+use Rattle.epoch_model.proofs.EpochLists.{lists_of-with_row_same, lists_of-with_row_other, lists_of-with_new_same, lists_of-with_new_other}
 use Rattle.epoch_model.proofs.MachineSteps.{IsTidy, bucket_of-lt, open_in-set_same, open_in-set_other, set-tidy, row_lists-set_own}
 use Rattle.epoch_model.proofs.MachineSteps.{row_lists-set_alike, in_range, close_last, evict_is, evict_empty, keys_of-all_but_last}
 use Rattle.epoch_model.proofs.MachineSteps.{evict-tidy, evict-lists}

@@ -1,13 +1,10 @@
 -- No row is lost: the row lists of a key, joined, are the rows of its packets.
 use Rattle.std.proofs.Common.{◌≡◌, List, [], ◌∷◌, ◌++◌, sym, ap, ◌∙◌, subst, append-nil, append_assoc, flat_map}
 use Rattle.std.proofs.lemmas.List.Concat.{flat_map-append}
-use Rattle.epoch_model.specs.Keys.{Key, ArgRow, key_eq}
-use Rattle.epoch_model.specs.Epochs.{Geometry, onto_last}
-use Rattle.epoch_model.specs.Machine.{Machine, Event, Packet, Evict, Merge, empty_machine, open_in, is_open, evict, packet, merge, run}
-use Rattle.epoch_model.specs.Machine.{lists_of, row_lists, rows_in_epochs}
-use Rattle.epoch_model.specs.Laws.{HasRoom, rows_given, NoRowIsLost}
-use Rattle.epoch_model.proofs.{KeyLists.by_test, KeyLists.key_eq-true, EpochLists.onto_last-append, Following.starts-tidy}
-use Rattle.epoch_model.proofs.{Following.starts-lists}
+use Rattle.epoch_model.specs.{Keys.{Key, ArgRow, key_eq}, Epochs.{Geometry, onto_last}, Machine.{Machine, Event, Packet, Evict, Merge}}
+use Rattle.epoch_model.specs.Machine.{empty_machine, open_in, is_open, evict, packet, merge, run, lists_of, row_lists, rows_in_epochs}
+use Rattle.epoch_model.{specs.Laws.{HasRoom, rows_given, NoRowIsLost}, proofs.KeyLists.{by_test, key_eq-true}}
+use Rattle.epoch_model.proofs.{EpochLists.onto_last-append, Following.{starts-tidy, starts-lists}}
 use Rattle.epoch_model.proofs.MachineSteps.{IsTidy, evict-tidy, evict-lists, merge-tidy, merge-lists}
 use Rattle.epoch_model.proofs.PacketSteps.{own, packet-tidy, packet-lists_other, packet-lists_open, packet-lists_new, row_lists-open}
 

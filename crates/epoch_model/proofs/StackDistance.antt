@@ -1,11 +1,10 @@
 -- A key is among the last few distinct keys of its bucket exactly where its next use goes on with its epoch.
 use Rattle.std.proofs.Common.{◌≡◌, ℕ, zero, suc, ◌≤◌, Bool, true, false, cond, not, ◌&&◌, ◌||◌, List, [], ◌∷◌, Option, Some, None, length}
 use Rattle.std.proofs.Common.{take, map, filter, refl, sym, ap, ◌∙◌, arith}
-use Rattle.std.specs.Prelude.{nat_lt, nat_le, ◌==◌}
 use Rattle.std.proofs.lemmas.Bool.{true≢false, false≢true, le-leb, leb-true, eq-eqb, and_parts, or_right, or_left, and_from}
-use Rattle.epoch_model.specs.Keys.{Key, ArgRow, key_eq, bucket_of, distinct, has}
-use Rattle.epoch_model.specs.Epochs.{Use, Geometry, is_refresh, refresh_between, is_rival, rivals, last_use, since_last_use, goes_on_after}
-use Rattle.epoch_model.specs.Epochs.{goes_on}
+use Rattle.std.specs.Prelude.{nat_lt, nat_le, ◌==◌}
+use Rattle.epoch_model.specs.{Keys.{Key, ArgRow, key_eq, bucket_of, distinct, has}, Epochs.{Use, Geometry, is_refresh, refresh_between}}
+use Rattle.epoch_model.specs.Epochs.{is_rival, rivals, last_use, since_last_use, goes_on_after, goes_on}
 use Rattle.epoch_model.proofs.KeyLists.{by_test, key_eq-true, before, has-take, has-distinct, before-distinct}
 
 -- no refresh lies between the use and this packet

@@ -1,18 +1,13 @@
 -- Closed epochs give the table: the same keys, and of each key the same rows.
 use Rattle.std.proofs.Common.{◌≡◌, ℕ, Bool, true, false, List, [], ◌∷◌, ◌++◌, length, map, filter, flat_map, fold, refl, sym, ap, ◌∙◌}
-use Rattle.std.proofs.Common.{subst, arith, append-nil}
-use Rattle.std.specs.Prelude.{sum_by, ◌+◌}
-use Rattle.std.specs.List.{AllByRecursion}
-use Rattle.epoch_model.specs.Keys.{Key, ArgRow, key_eq, bucket_of, has, ascending}
-use Rattle.epoch_model.specs.Epochs.{Use, Geometry, is_use_of, epochs}
+use Rattle.std.{proofs.Common.{subst, arith, append-nil}, specs.{Prelude.{sum_by, ◌+◌}, List.AllByRecursion}}
+use Rattle.epoch_model.specs.{Keys.{Key, ArgRow, key_eq, bucket_of, has, ascending}, Epochs.{Use, Geometry, is_use_of, epochs}}
 use Rattle.epoch_model.specs.Machine.{Epoch, Machine, Event, Packet, Evict, Merge, run, lists_of, row_lists, end_of, empty_machine, open_in}
-use Rattle.epoch_model.specs.Machine.{is_open, packet, evict, merge}
-use Rattle.epoch_model.specs.{Timeline.IsSwept, Laws.HasRoom, Laws.rows_given}
+use Rattle.epoch_model.specs.{Machine.{is_open, packet, evict, merge}, Timeline.IsSwept, Laws.{HasRoom, rows_given}}
 use Rattle.epoch_model.specs.Tables.{Folding, epoch_rows, exact_row, epochs_shown, key_rows, keys_used, closed_key_rows, closed_keys}
-use Rattle.epoch_model.specs.TableLaws.{ClosedGiveTheTable, ExactRowsFoldAllPackets, keys_given}
-use Rattle.epoch_model.proofs.{KeyLists.by_test, KeyLists.key_eq-true, EpochLists.keys_of, Following.starts-tidy, Following.starts-lists}
-use Rattle.epoch_model.proofs.{Rows.joined, Rows.no_row_is_lost_lem, EndOfTrace.closed_are_epochs_lem}
-use Rattle.epoch_model.proofs.KeyOrder.{ascending-ascends, has-ascending, same_ascending}
+use Rattle.epoch_model.{specs.TableLaws.{ClosedGiveTheTable, ExactRowsFoldAllPackets, keys_given}, proofs.KeyLists.{by_test, key_eq-true}}
+use Rattle.epoch_model.proofs.{EpochLists.keys_of, Following.{starts-tidy, starts-lists}, Rows.{joined, no_row_is_lost_lem}}
+use Rattle.epoch_model.proofs.{EndOfTrace.closed_are_epochs_lem, KeyOrder.{ascending-ascends, has-ascending, same_ascending}}
 use Rattle.epoch_model.proofs.MachineSteps.{IsTidy, evict-tidy, evict-lists, merge-tidy, merge-lists}
 use Rattle.epoch_model.proofs.PacketSteps.{own, packet-tidy, packet-lists_other, packet-lists_open, packet-lists_new}
 use Rattle.epoch_model.proofs.Cuts.{IsPiece, onto_last-pieces, more_pieces, epochs-pieces, epochs_cut_the_rows_lem}

@@ -1,17 +1,14 @@
 -- The machine stays well formed.
 use Rattle.std.proofs.Common.{◌≡◌, ℕ, suc, ◌-◌, ◌<◌, ◌≤◌, true, false, List, [], ◌∷◌, length, refl, sym, ap, ◌∙◌, subst, ⊎_elim, arith}
-use Rattle.std.proofs.Common.{length-take, length-append, le_trans}
-use Rattle.std.{specs.Prelude.nat_lt, proofs.lemmas.List.Elements.All-from_recursion, specs.List.AllByRecursion}
-use Rattle.std.{proofs.lemmas.List.length-map}
-use Rattle.std.proofs.lemmas.Bool.{true≢false, false≢true, cases_eq, ltb-true, ltb-false, lt-ltb}
-use Rattle.epoch_model.specs.Keys.{Key, ArgRow, key_eq, bucket_of, others, distinct, has}
-use Rattle.epoch_model.specs.{Epochs.Geometry, Laws.HasRoom, Laws.MachinesAreWellFormed}
-use Rattle.epoch_model.specs.Machine.{Epoch, Machine, Event, Packet, Evict, Merge, empty_machine, open_in, is_open, with_row, with_new}
-use Rattle.epoch_model.specs.Machine.{without, set_open, last_alone, evict, packet, merge, run}
+use Rattle.std.proofs.{Common.{length-take, length-append, le_trans}, lemmas.List.{Elements.All-from_recursion, length-map}}
+use Rattle.std.{proofs.lemmas.Bool.{true≢false, false≢true, cases_eq, ltb-true, ltb-false, lt-ltb}, specs.Prelude.nat_lt}
+use Rattle.std.specs.List.{AllByRecursion}
+use Rattle.epoch_model.specs.{Keys.{Key, ArgRow, key_eq, bucket_of, others, distinct, has}, Epochs.Geometry}
+use Rattle.epoch_model.specs.{Laws.{HasRoom, MachinesAreWellFormed}, Machine.{Epoch, Machine, Event, Packet, Evict, Merge, empty_machine}}
+use Rattle.epoch_model.specs.Machine.{open_in, is_open, with_row, with_new, without, set_open, last_alone, evict, packet, merge, run}
 use Rattle.epoch_model.proofs.KeyLists.{by_test, key_eq-refl, IsDistinct, absent_head, others_absent}
-use Rattle.epoch_model.proofs.EpochLists.{keys_of, is_open-has, keys_of-without}
-use Rattle.epoch_model.proofs.MachineSteps.{IsTidy, open_in-set_same, open_in-set_other, evict_is, evict_empty, evict-tidy, merge-tidy}
-use Rattle.epoch_model.proofs.MachineSteps.{merge-open}
+use Rattle.epoch_model.proofs.{EpochLists.{keys_of, is_open-has, keys_of-without}, MachineSteps.{IsTidy, open_in-set_same}}
+use Rattle.epoch_model.proofs.MachineSteps.{open_in-set_other, evict_is, evict_empty, evict-tidy, merge-tidy, merge-open}
 use Rattle.epoch_model.proofs.PacketSteps.{own, packet_cases, in_own, packet-tidy, evict-open_same, evict-open_other}
 use Rattle.epoch_model.proofs.Following.{starts-tidy, empty_open}
 

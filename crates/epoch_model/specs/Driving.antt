@@ -1,12 +1,8 @@
 -- What a program needs that makes the events of a trace in sequence, with merges anywhere.
-use Rattle.std.specs.Prelude.{◌≡◌, ℕ, suc, ◌<◌, List, [], ◌∷◌, ◌++◌, length, Option, Some, None, slice_index_or}
-use Rattle.std.specs.Prelude.{if◌then◌else◌}
-use Rattle.epoch_model.specs.Keys.{Key, ArgRow}
-use Rattle.epoch_model.specs.Epochs.{Use, Geometry, is_refresh}
-use Rattle.epoch_model.specs.Machine.{Machine, Event, Packet, open_in, packet, evict, merge, empty_bucket, empty_buckets, run}
-use Rattle.epoch_model.specs.Machine.{packets_of, after_packets, end_of, empty_machine}
-use Rattle.epoch_model.specs.Timeline.{IsSwept}
-use Rattle.epoch_model.specs.Laws.{IsInTrace, SameEpochs}
+use Rattle.std.specs.Prelude.{◌≡◌, ℕ, suc, ◌<◌, List, [], ◌∷◌, ◌++◌, length, Option, Some, None, slice_index_or, if◌then◌else◌}
+use Rattle.epoch_model.specs.{Keys.{Key, ArgRow}, Epochs.{Use, Geometry, is_refresh}, Machine.{Machine, Event, Packet, open_in, packet}}
+use Rattle.epoch_model.specs.Machine.{evict, merge, empty_bucket, empty_buckets, run, packets_of, after_packets, end_of, empty_machine}
+use Rattle.epoch_model.specs.{Timeline.IsSwept, Laws.{IsInTrace, SameEpochs}}
 
 -- Each event keeps two machines alike but for the number of merged epochs, and one of them may merge alone.
 pub record EventsKeepAlike : Type 0 where

@@ -1,6 +1,6 @@
 -- The epochs of a key: how its uses are cut, by counting the distinct other keys between two uses.
-use Rattle.std.specs.Prelude.{ℕ, zero, suc, Bool, false, List, [], ◌∷◌, ◌++◌, Option, Some, None, filter, find, map, length}
-use Rattle.std.specs.Prelude.{reverse, not, ◌&&◌, ◌||◌, ◌==◌, ◌%◌, nat_lt, nat_le, if◌then◌else◌}
+use Rattle.std.specs.Prelude.{ℕ, zero, suc, Bool, false, List, [], ◌∷◌, ◌++◌, Option, Some, None, filter, find, map, length, reverse, not}
+use Rattle.std.specs.Prelude.{◌&&◌, ◌||◌, ◌==◌, ◌%◌, nat_lt, nat_le, if◌then◌else◌}
 use Rattle.epoch_model.specs.Keys.{Key, ArgRow, key_eq, bucket_of, distinct}
 
 -- what a groupby takes of one packet: the packet's number in the trace, the key and the argument row

@@ -1,12 +1,7 @@
 -- Small traces, with their epochs and tables written out.
 use Rattle.std.specs.Prelude.{◌≡◌, ℕ, ◌+◌, Bool, true, false, List, [], ◌∷◌, length, suc, map, sum}
-use Rattle.epoch_model.specs.declared.tables.Mark.{Mark}
-use Rattle.epoch_model.specs.declared.tables.Mark.TheVariants.{Exact, Valid, Invalid}
-use Rattle.epoch_model.specs.declared.tables.Row.{Row}
-use Rattle.epoch_model.specs.Keys.{bucket_of}
-use Rattle.epoch_model.specs.Epochs.{Use, Geometry, epochs}
-use Rattle.epoch_model.specs.Machine.{end_of}
-use Rattle.epoch_model.specs.Tables.{Folding, group_rows, group_epochs}
+use Rattle.epoch_model.specs.{declared.tables.{Mark.{Mark, TheVariants.{Exact, Valid, Invalid}}, Row.Row}, Keys.bucket_of}
+use Rattle.epoch_model.specs.{Epochs.{Use, Geometry, epochs}, Machine.end_of, Tables.{Folding, group_rows, group_epochs}}
 
 -- one use for each packet, from this number on, with the number as the row
 abbrev pub uses_from : ℕ → List ℕ → List Use

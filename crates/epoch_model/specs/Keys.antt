@@ -1,9 +1,6 @@
 -- Keys of a groupby, the bucket that a key has, and lists of keys.
-use Rattle.std.specs.Prelude.{ℕ, Bool, List, [], ◌∷◌, filter, not, nat_eq, bit_xor, ◌*◌, ◌%◌, ◌/◌, ◌^◌, false}
-use Rattle.std.specs.Prelude.{◌||◌, ◌≡◌, if◌then◌else◌}
-use Rattle.std.specs.declared.cmp.Ordering.{Ordering}
-use Rattle.std.specs.declared.cmp.Ordering.TheVariants.{Less}
-use Rattle.std.specs.Ordering.{nat_cmp, is_lt, is_gt}
+use Rattle.std.specs.Prelude.{ℕ, Bool, List, [], ◌∷◌, filter, not, nat_eq, bit_xor, ◌*◌, ◌%◌, ◌/◌, ◌^◌, false, ◌||◌, ◌≡◌, if◌then◌else◌}
+use Rattle.std.specs.{declared.cmp.Ordering.{Ordering, TheVariants.Less}, Ordering.{nat_cmp, is_lt, is_gt}}
 use Rattle.std.specs.Cmp.Lexicographic.{pointwise, slice_cmp}
 
 -- the words of a key

@@ -1,6 +1,5 @@
 -- The laws of the machine and of epochs.
-use Rattle.std.specs.Prelude.{◌≡◌, true, false, ℕ, List, [], ◌∷◌, ◌++◌, ◌<◌, ◌≤◌, if◌then◌else◌}
-use Rattle.std.specs.Prelude.{flat_map, map, filter, length, All}
+use Rattle.std.specs.Prelude.{◌≡◌, true, false, ℕ, List, [], ◌∷◌, ◌++◌, ◌<◌, ◌≤◌, if◌then◌else◌, flat_map, map, filter, length, All}
 use Rattle.epoch_model.specs.Keys.{Key, ArgRow, key_eq, bucket_of, distinct}
 use Rattle.epoch_model.specs.Epochs.{Use, Geometry, is_use_of, in_one_epoch, onto_last, epochs}
 use Rattle.epoch_model.specs.Machine.{Machine, Event, Packet, Evict, Merge, run, merge, empty_machine, open_in, row_lists, lists_of, end_of}

@@ -1,9 +1,7 @@
 -- The machine that the cache, pipe and store of a groupby represent, and its events.
-use Rattle.std.specs.Prelude.{ℕ, zero, suc, Bool, List, [], ◌∷◌, ◌++◌, filter, map, length, replicate, take, drop, not}
-use Rattle.std.specs.Prelude.{◌==◌, ◌+◌, ◌-◌, nat_lt, slice_index_or, slice_set, if◌then◌else◌}
-use Rattle.std.specs.List.{list_any}
-use Rattle.epoch_model.specs.Keys.{Key, ArgRow, key_eq, bucket_of}
-use Rattle.epoch_model.specs.Epochs.{Use, Geometry, is_refresh}
+use Rattle.std.specs.Prelude.{ℕ, zero, suc, Bool, List, [], ◌∷◌, ◌++◌, filter, map, length, replicate, take, drop, not, ◌==◌, ◌+◌, ◌-◌}
+use Rattle.std.specs.{Prelude.{nat_lt, slice_index_or, slice_set, if◌then◌else◌}, List.list_any}
+use Rattle.epoch_model.specs.{Keys.{Key, ArgRow, key_eq, bucket_of}, Epochs.{Use, Geometry, is_refresh}}
 
 -- an epoch of a key: the rows of its packets, the first one first
 pub record Epoch : Type 0 where

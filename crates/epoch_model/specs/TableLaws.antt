@@ -1,9 +1,7 @@
 -- The laws of tables: that closed epochs give them, and that evictions decide nothing where a key has one row.
 use Rattle.std.specs.Prelude.{◌≡◌, false, ℕ, List, [], ◌∷◌, map, length}
-use Rattle.epoch_model.specs.Keys.{Key, has, ascending, IsAscending}
-use Rattle.epoch_model.specs.Epochs.{Use, Geometry}
-use Rattle.epoch_model.specs.Machine.{Event, Packet, Evict, Merge, run, empty_machine, lists_of, end_of}
-use Rattle.epoch_model.specs.Timeline.{IsSwept}
+use Rattle.epoch_model.specs.{Keys.{Key, has, ascending, IsAscending}, Epochs.{Use, Geometry}}
+use Rattle.epoch_model.specs.{Machine.{Event, Packet, Evict, Merge, run, empty_machine, lists_of, end_of}, Timeline.IsSwept}
 use Rattle.epoch_model.specs.Laws.{HasRoom, IsInTrace, rows_given}
 use Rattle.epoch_model.specs.Tables.{Folding, exact_row, group_rows, group_epochs, closed_rows, closed_epochs}
 

@@ -1,12 +1,7 @@
 -- The rows of a groupby's table, for any way of folding: by the uses of the whole trace, and by closed epochs.
-use Rattle.std.specs.Prelude.{ℕ, suc, ◌-◌, ◌^◌, Bool, List, [], ◌∷◌, ◌==◌, min, fold, length, map, filter, flat_map}
-use Rattle.std.specs.Prelude.{sum_by, if◌then◌else◌}
-use Rattle.epoch_model.specs.declared.tables.Mark.{Mark}
-use Rattle.epoch_model.specs.declared.tables.Mark.TheVariants.{Exact, Valid, Invalid}
-use Rattle.epoch_model.specs.declared.tables.Row.{Row}
-use Rattle.epoch_model.specs.Keys.{Key, ArgRow, ascending}
-use Rattle.epoch_model.specs.Epochs.{Use, Geometry, is_use_of, epochs}
-use Rattle.epoch_model.specs.Machine.{Epoch, lists_of}
+use Rattle.std.specs.Prelude.{ℕ, suc, ◌-◌, ◌^◌, Bool, List, [], ◌∷◌, ◌==◌, min, fold, length, map, filter, flat_map, sum_by, if◌then◌else◌}
+use Rattle.epoch_model.specs.{declared.tables.{Mark.{Mark, TheVariants.{Exact, Valid, Invalid}}, Row.Row}, Keys.{Key, ArgRow, ascending}}
+use Rattle.epoch_model.specs.{Epochs.{Use, Geometry, is_use_of, epochs}, Machine.{Epoch, lists_of}}
 
 -- How argument rows are folded into a state, and whether each epoch has a table row of its own.
 pub record Folding : Type 0 where

@@ -3,11 +3,9 @@
 #![tactic(auto)]
 
 ghost use Rattle.epoch_model.specs.Laws.{MergeKeepsEpochs, NoRowIsLost, RowListsAreEpochs, ClosedAreEpochs, MachinesAreWellFormed};
-ghost use Rattle.epoch_model.specs.Laws.{EpochsCutTheRows, EpochsAreCutBetweenUses, MergesDecideNothing};
-ghost use Rattle.epoch_model.specs.Examples.{AreWorkedExamples};
-ghost use Rattle.epoch_model.specs.TableLaws.{KeysAscend, ClosedGiveTheTable, ExactRowsFoldAllPackets};
-ghost use Rattle.epoch_model.specs.Driving.{EventsKeepAlike, BucketsEmptyByEvictions, PacketsFollowTheTrace, SweepsReachTheEnd};
-ghost use Rattle.epoch_model.specs.Driving.{TakenUsesAreInTrace};
+ghost use Rattle.epoch_model.specs.{Laws.{EpochsCutTheRows, EpochsAreCutBetweenUses, MergesDecideNothing}, Examples.AreWorkedExamples};
+ghost use Rattle.epoch_model.specs.{TableLaws.{KeysAscend, ClosedGiveTheTable, ExactRowsFoldAllPackets}, Driving.EventsKeepAlike};
+ghost use Rattle.epoch_model.specs.Driving.{BucketsEmptyByEvictions, PacketsFollowTheTrace, SweepsReachTheEnd, TakenUsesAreInTrace};
 
 mod tables;
 

@@ -1,11 +1,9 @@
 -- The records of a ring, and what is left of them after one is written or dropped.
-use Rattle.std.proofs.Common.{◌≡◌, ◌≢◌, ◌<◌, ◌≤◌, ◌+◌, ◌-◌, ◌*◌, ℕ, zero, suc, List, [], ◌∷◌, ◌++◌, length, take, drop, get_or}
-use Rattle.std.proofs.Common.{sym, ap, ◌∙◌, ◌⊎◌, arith, length-append, length-drop, All, inl, inr, Vec, Global}
+use Rattle.std.proofs.Common.{◌≡◌, ◌≢◌, ◌<◌, ◌≤◌, ◌+◌, ◌-◌, ◌*◌, ℕ, zero, suc, List, [], ◌∷◌, ◌++◌, length, take, drop, get_or, sym, ap}
+use Rattle.std.proofs.Common.{◌∙◌, ◌⊎◌, arith, length-append, length-drop, All, inl, inr, Vec, Global}
 use Rattle.std.proofs.lemmas.List.{length-take-le, same_lists, get_or-drop, with_items_is}
 use Rattle.std.proofs.lemmas.List.FromFn.{length-map-range_with_len, get_or-map-range_with_len, map-range_with_len_more}
-use Rattle.std.proofs.lemmas.Slice.{between_is, take-put_mid_below, drop-put_mid, between-put_mid}
-use Rattle.std.proofs.lemmas.Bool.{cases_lt}
-use Rattle.std.specs.Vec.{with_items}
+use Rattle.std.{proofs.lemmas.{Slice.{between_is, take-put_mid_below, drop-put_mid, between-put_mid}, Bool.cases_lt}, specs.Vec.with_items}
 use Rattle.evict_pipe.specs.Rings.{place_after, words_at, records_in, IsRing}
 use borrow.Rule.Slice.PartMut.{put_mid}
 

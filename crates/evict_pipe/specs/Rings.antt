@@ -1,6 +1,5 @@
 -- The ring of a pipe: the words of its places, one place after another, and the first place after the last one.
-use Rattle.std.specs.Prelude.{◌≡◌, ◌≤◌, ◌<◌, ◌+◌, ◌-◌, ◌*◌, ℕ, List, length, take, drop, map, nat_lt, if◌then◌else◌}
-use Rattle.std.specs.List.{range_with_len}
+use Rattle.std.specs.{Prelude.{◌≡◌, ◌≤◌, ◌<◌, ◌+◌, ◌-◌, ◌*◌, ℕ, List, length, take, drop, map, nat_lt, if◌then◌else◌}, List.range_with_len}
 
 -- the place that comes so many places after the first one
 abbrev pub place_after : ℕ → ℕ → ℕ → ℕ

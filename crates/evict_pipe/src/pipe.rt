@@ -36,8 +36,7 @@ impl Drop for EvictPipe {
 }
 
 impl Model for EvictPipe {
-    ghost use Rattle.evict_pipe.specs.Pipes.{Pipe};
-    ghost use Rattle.evict_pipe.specs.Rings.{IsRing, records_in};
+    ghost use Rattle.evict_pipe.specs.{Pipes.Pipe, Rings.{IsRing, records_in}};
 
     ghost Value = { Pipe };
 

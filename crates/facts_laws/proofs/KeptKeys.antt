@@ -1,29 +1,16 @@
 -- The fields by which facts say that a trace may be split are keys of each needed groupby.
-use Rattle.std.proofs.Common.{◌≡◌, ℕ, suc, zero, ◌+◌, ◌<◌, Bool, true, false, cond, not, List, [], ◌∷◌, length, Option}
-use Rattle.std.proofs.Common.{None, Some, slice_get, refl, sym, ap, ◌∙◌, subst, arith}
-use Rattle.std.specs.Prelude.{All, filter, is_some}
-use Rattle.std.specs.List.{list_all}
-use Rattle.std.proofs.lemmas.Bool.{and_parts}
-use Rattle.std.proofs.lemmas.List.Elements.{All-nil, All-cons, All-weaker}
-use Rattle.marple_base.specs.Field.{all_fields}
-use Rattle.marple_base.specs.declared.field.Field.{Field}
+use Rattle.std.proofs.Common.{◌≡◌, ℕ, suc, zero, ◌+◌, ◌<◌, Bool, true, false, cond, not, List, [], ◌∷◌, length, Option, None, Some}
+use Rattle.std.proofs.{Common.{slice_get, refl, sym, ap, ◌∙◌, subst, arith}, lemmas.Bool.and_parts}
+use Rattle.std.{proofs.lemmas.List.Elements.{All-nil, All-cons, All-weaker}, specs.{Prelude.{All, filter, is_some}, List.list_all}}
+use Rattle.marple_base.specs.{Field.all_fields, declared.field.Field.Field}
 use Rattle.net_laws.specs.Fields.{makes_field, names_field}
-use Rattle.part_laws.specs.AcceptedParts.{AcceptedFieldsKeepKeys}
-use Rattle.part_laws.specs.Parts.{HasFieldKey, groupbys}
+use Rattle.part_laws.specs.{AcceptedParts.AcceptedFieldsKeepKeys, Parts.{HasFieldKey, groupbys}}
 use Rattle.query_facts.specs.Needs as needs
-use Rattle.query_facts.specs.Needs.{is_one_of, needed_from, needed_groupbys, needed_tables}
-use Rattle.query_facts.specs.Parts.{all_have, by_or, first_blocked, first_needed, first_not_additive, place_has_field, keeps, names_it}
-use Rattle.query_facts.specs.Parts.{parts_of}
-use Rattle.query_facts.specs.Parts.{shared_fields, sums_by, unless_blocked}
-use Rattle.query_facts.specs.declared.parts.Parts.{Parts}
-use Rattle.query_facts.specs.declared.parts.Parts.TheVariants.{By}
-use Rattle.query_facts.specs.declared.parts.Unsplit.{Unsplit}
-use Rattle.query_lang.specs.Streams.{taking_of}
-use Rattle.query_lang.specs.declared.fault.Span.{Span}
-use Rattle.query_lang.specs.declared.typed.TypedOp.{TypedOp}
-use Rattle.query_lang.specs.declared.typed.TypedOp.TheVariants.{Filter, Map, Zip, Group}
-use Rattle.query_lang.specs.declared.typed.TypedQuery.{TypedQuery}
-use Rattle.query_lang.specs.declared.typed.TypedStream.{TypedStream}
+use Rattle.query_facts.specs.{Needs.{is_one_of, needed_from, needed_groupbys, needed_tables}, Parts.{all_have, by_or, first_blocked}}
+use Rattle.query_facts.specs.Parts.{first_needed, first_not_additive, place_has_field, keeps, names_it, parts_of, shared_fields, sums_by}
+use Rattle.query_facts.specs.{Parts.unless_blocked, declared.parts.{Parts.{Parts, TheVariants.By}, Unsplit.Unsplit}}
+use Rattle.query_lang.specs.{Streams.taking_of, declared.{fault.Span.Span, typed.TypedOp.{TypedOp, TheVariants.{Filter, Map, Zip, Group}}}}
+use Rattle.query_lang.specs.declared.typed.{TypedQuery.TypedQuery, TypedStream.TypedStream}
 use Rattle.facts_laws.specs.FactLaws.{NeededKeysAreKept}
 
 -- ---- the fields

@@ -3,9 +3,7 @@ use Rattle.std.specs.Prelude.{◌≡◌, ◌<◌, ℕ, true, List, length, Ok}
 use Rattle.accepted_query.specs.Accepted.{accepted}
 use Rattle.marple_base.specs.declared.field.Field.{Field}
 use Rattle.part_laws.specs.Parts.{KeepsKeys, by_fields, groupbys}
-use Rattle.query_facts.specs.Needs.{is_one_of, needed_tables}
-use Rattle.query_facts.specs.Parts.{parts_of}
-use Rattle.query_facts.specs.declared.parts.Parts.TheVariants.{By}
+use Rattle.query_facts.specs.{Needs.{is_one_of, needed_tables}, Parts.parts_of, declared.parts.Parts.TheVariants.By}
 use Rattle.query_lang.specs.declared.typed.TypedQuery.{TypedQuery}
 
 -- Where facts say that the trace of an accepted text may be split by some fields, a partition by any function of these fields keeps the

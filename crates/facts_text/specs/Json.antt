@@ -1,9 +1,7 @@
 -- What is a JSON text.
 use Rattle.std.specs.Prelude.{◌≡◌, ℕ, List}
-use Rattle.json.specs.Print.{print}
-use Rattle.json.specs.Lex.{tokens}
-use Rattle.serde_json.specs.Data.{Data}
-use Rattle.serde_json.specs.Written.{IsInOrder}
+use Rattle.json.specs.{Print.print, Lex.tokens}
+use Rattle.serde_json.specs.{Data.Data, Written.IsInOrder}
 
 -- The text is one JSON value, with no blanks between its tokens.
 pub record IsJson (text : List ℕ) : Type 0 where

@@ -1,12 +1,7 @@
 -- Foldings that give the same states make the same tables.
-use Rattle.std.proofs.Common.{◌≡◌, ℕ, suc, List, [], ◌∷◌, length, map, refl}
-use Rattle.std.specs.List.{filter, flat_map}
-use Rattle.std.specs.Prelude.{if◌then◌else◌}
-use Rattle.epoch_model.specs.declared.tables.Row.{Row}
-use Rattle.epoch_model.specs.Keys.{Key, ArgRow}
-use Rattle.epoch_model.specs.Epochs.{Use, Geometry, is_use_of, epochs}
-use Rattle.epoch_model.specs.Machine.{Epoch, lists_of}
-use Rattle.epoch_model.specs.Tables.{Folding, exact_row, epoch_rows, key_rows, keys_used, group_rows}
+use Rattle.std.{proofs.Common.{◌≡◌, ℕ, suc, List, [], ◌∷◌, length, map, refl}, specs.{List.{filter, flat_map}, Prelude.if◌then◌else◌}}
+use Rattle.epoch_model.specs.{declared.tables.Row.Row, Keys.{Key, ArgRow}, Epochs.{Use, Geometry, is_use_of, epochs}}
+use Rattle.epoch_model.specs.{Machine.{Epoch, lists_of}, Tables.{Folding, exact_row, epoch_rows, key_rows, keys_used, group_rows}}
 use Rattle.epoch_model.specs.Tables.{closed_key_rows, closed_keys, closed_rows}
 use Rattle.final_queries.specs.FinalLaws.{AreAlike, AlikeFoldingsMakeOneTable}
 

@@ -1,20 +1,12 @@
 -- The table of a groupby may be read by finals: of each key at most one row is read.
-use Rattle.std.proofs.Common.{◌≡◌, ℕ, suc, ◌-◌, ◌==◌, false, List, [], ◌∷◌, ◌++◌, ◌⊎◌, inl, inr, length, map, refl, ap, ◌∙◌}
-use Rattle.std.proofs.Common.{arith, length-append}
-use Rattle.std.specs.List.{All, filter, flat_map}
-use Rattle.std.proofs.lemmas.Bool.Decides.{nat_tests}
-use Rattle.std.proofs.lemmas.List.{map-append}
+use Rattle.std.proofs.Common.{◌≡◌, ℕ, suc, ◌-◌, ◌==◌, false, List, [], ◌∷◌, ◌++◌, ◌⊎◌, inl, inr, length, map, refl, ap, ◌∙◌, arith}
+use Rattle.std.proofs.{Common.length-append, lemmas.{Bool.Decides.nat_tests, List.map-append}}
 use Rattle.std.proofs.lemmas.List.Elements.{All-nil, All-cons, All-head, All-tail, All-append, All-map, filter-append}
-use Rattle.epoch_model.specs.declared.tables.Row.{Row}
-use Rattle.epoch_model.specs.Keys.{Key, ArgRow, AreAbove, IsAscending}
-use Rattle.epoch_model.specs.Epochs.{Use, Geometry, is_use_of, epochs}
-use Rattle.epoch_model.specs.Tables.{Folding, folded, mark_of, epoch_rows, key_rows, keys_used, group_rows}
-use Rattle.epoch_model.specs.TableLaws.{KeysAscend}
+use Rattle.std.specs.List.{All, filter, flat_map}
+use Rattle.epoch_model.specs.{declared.tables.Row.Row, Keys.{Key, ArgRow, AreAbove, IsAscending}, Epochs.{Use, Geometry, is_use_of, epochs}}
+use Rattle.epoch_model.specs.{Tables.{Folding, folded, mark_of, epoch_rows, key_rows, keys_used, group_rows}, TableLaws.KeysAscend}
 use Rattle.epoch_model.proofs.KeyLists.{by_test}
-use Rattle.final_queries.specs.Finals.{is_read, HasColumns}
-use Rattle.final_queries.specs.FinalLaws.{GroupTablesAreRead}
-use Rattle.final_queries.specs.Joining.{reads}
-use Rattle.final_queries.proofs.KeyLists.{all_ascending}
+use Rattle.final_queries.{specs.{Finals.{is_read, HasColumns}, FinalLaws.GroupTablesAreRead, Joining.reads}, proofs.KeyLists.all_ascending}
 
 abbrev key_of : Row → Key
 key_of row = row.key

@@ -1,23 +1,14 @@
 -- A store that holds the rows of a table, one by one, has the rows of the table grouped.
 use Rattle.std.proofs.Common.{◌≡◌, ℕ, ◌+◌, Bool, false, List, [], ◌∷◌, ◌++◌, Some, length, map, take, slice_get, refl, sym, ap, ◌∙◌}
+use Rattle.std.proofs.lemmas.{List.{map-append, take_more, Elements.filter-append}, Option.{slice_get_within, get_or_from_slice_get}}
 use Rattle.std.specs.List.{flat_map}
-use Rattle.std.proofs.lemmas.List.{map-append, take_more}
-use Rattle.std.proofs.lemmas.List.Elements.{filter-append}
-use Rattle.std.proofs.lemmas.Option.{slice_get_within, get_or_from_slice_get}
-use Rattle.query_lang.specs.declared.fold.TypedFold.{TypedFold}
-use Rattle.query_lang.specs.Folds.{folded, initial_state}
-use Rattle.epoch_model.specs.declared.tables.Row.{Row}
-use Rattle.epoch_model.specs.Keys.{Key, key_eq}
-use Rattle.epoch_model.specs.Machine.{lists_of}
-use Rattle.epoch_model.specs.Tables.{exact_row, closed_keys}
+use Rattle.query_lang.specs.{declared.fold.TypedFold.TypedFold, Folds.{folded, initial_state}}
+use Rattle.epoch_model.specs.{declared.tables.Row.Row, Keys.{Key, key_eq}, Machine.lists_of, Tables.{exact_row, closed_keys}}
 use Rattle.epoch_model.proofs.KeyLists.{by_test}
-use Rattle.backing_store.specs.Store.{Store, IsStore}
-use Rattle.backing_store.specs.SortedRows.{sorted_rows}
-use Rattle.backing_store.specs.HeldRows.{HeldRowsAreTheTables}
+use Rattle.backing_store.specs.{Store.{Store, IsStore}, SortedRows.sorted_rows, HeldRows.HeldRowsAreTheTables}
 use Rattle.backing_store.specs.Merged.{StoreHolds, shown_row}
 use Rattle.final_queries.specs.Finals.{is_read, plain_row, grouped_key, grouped_args, grouped_rows}
-use Rattle.final_queries.specs.Grouped.{whole_folding, row_epoch, row_epochs, plain_of}
-use Rattle.final_queries.specs.Joining.{reads}
+use Rattle.final_queries.specs.{Grouped.{whole_folding, row_epoch, row_epochs, plain_of}, Joining.reads}
 
 -- the rows of a key, joined, are the arguments of the rows with that key
 args_of : (keys args : List ℕ) (rows : List Row) (key : Key) → flat_map (λ rs. rs) (lists_of key (row_epochs keys args rows)) ≡ grouped_args

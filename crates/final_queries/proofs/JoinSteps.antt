@@ -1,12 +1,8 @@
 -- Two tables in the order of their keys, walked side by side.
 use Rattle.std.proofs.Common.{◌≡◌, ℕ, zero, suc, ◌+◌, true, false, List, [], ◌∷◌, ◌++◌, map, take, drop, refl, sym, ap, ◌∙◌, subst, add-one}
-use Rattle.std.proofs.Common.{append_assoc}
-use Rattle.std.specs.Prelude.{Option, None, find, option_map}
-use Rattle.std.proofs.lemmas.List.{take-append-drop}
-use Rattle.epoch_model.specs.declared.tables.Row.{Row}
-use Rattle.std.specs.declared.cmp.Ordering.TheVariants.{Less}
-use Rattle.std.specs.Ordering.{is_lt}
-use Rattle.epoch_model.specs.Keys.{Key, key_eq, key_cmp, AreAbove, IsAscending}
+use Rattle.std.{proofs.{Common.append_assoc, lemmas.List.take-append-drop}, specs.Prelude.{Option, None, find, option_map}}
+use Rattle.std.specs.{declared.cmp.Ordering.TheVariants.Less, Ordering.is_lt}
+use Rattle.epoch_model.specs.{declared.tables.Row.Row, Keys.{Key, key_eq, key_cmp, AreAbove, IsAscending}}
 use Rattle.epoch_model.proofs.KeyLists.{by_test, key_eq-sym_false}
 use Rattle.final_queries.specs.Finals.{is_read, is_of_key, plain_row, joined_rows}
 use Rattle.final_queries.specs.Joining.{reads, AreSmaller, StartsAtLeast, joined_first}

@@ -1,12 +1,8 @@
 -- The order of keys.
-use Rattle.std.proofs.Common.{◌≡◌, true, false, List, [], ◌∷◌, refl, ap, ◌∙◌}
-use Rattle.std.specs.declared.cmp.Ordering.{Ordering}
-use Rattle.std.specs.declared.cmp.Ordering.TheVariants.{Less, Equal, Greater}
+use Rattle.std.proofs.{Common.{◌≡◌, true, false, List, [], ◌∷◌, refl, ap, ◌∙◌}, lemmas.Cmp.{nat_list_cmp_total, tied_itself}}
+use Rattle.std.{proofs.lemmas.Map.Lookups.exact_bytes, specs.declared.cmp.Ordering.{Ordering, TheVariants.{Less, Equal, Greater}}}
 use Rattle.std.specs.Ordering.{is_lt, ordering_reverse}
-use Rattle.std.proofs.lemmas.Cmp.{nat_list_cmp_total, tied_itself}
-use Rattle.std.proofs.lemmas.Map.Lookups.{exact_bytes}
-use Rattle.epoch_model.specs.Keys.{Key, key_eq, key_cmp, AreAbove}
-use Rattle.epoch_model.proofs.KeyLists.{by_test, key_eq-true, key_eq-refl}
+use Rattle.epoch_model.{specs.Keys.{Key, key_eq, key_cmp, AreAbove}, proofs.KeyLists.{by_test, key_eq-true, key_eq-refl}}
 
 -- three cases, by an order
 pub by_order : {P : Type 0} (o : Ordering) → (o ≡ Less → P) → (o ≡ Equal → P) → (o ≡ Greater → P) → P

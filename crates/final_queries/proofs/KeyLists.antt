@@ -1,7 +1,5 @@
 -- What holds of each key of a list holds of each of the ascending keys.
-use Rattle.std.proofs.Common.{List, [], ◌∷◌}
-use Rattle.std.specs.List.{All}
-use Rattle.std.proofs.lemmas.List.Elements.{All-nil, All-cons, All-head, All-tail}
+use Rattle.std.{proofs.{Common.{List, [], ◌∷◌}, lemmas.List.Elements.{All-nil, All-cons, All-head, All-tail}}, specs.List.All}
 use Rattle.epoch_model.specs.Keys.{Key, key_cmp, with_key, ascending}
 use Rattle.final_queries.proofs.KeyFacts.{by_order}
 

@@ -1,33 +1,19 @@
 -- The rows of a valid final may be read: they have its columns, and distinct keys in ascending order.
 use Rattle.std.proofs.Common.{◌≡◌, ℕ, zero, suc, ◌+◌, ◌-◌, ◌<◌, ◌≤◌, Bool, true, List, [], ◌∷◌, ◌++◌, Option, Some, None, length, map, refl}
-use Rattle.std.proofs.Common.{sym, ap, ◌∙◌, subst, arith, length-append, map-id, get_or}
-use Rattle.std.specs.List.{All, filter}
+use Rattle.std.proofs.{Common.{sym, ap, ◌∙◌, subst, arith, length-append, map-id, get_or}, lemmas.{Bool.false≢true, List.Folds.find_at}}
+use Rattle.std.proofs.lemmas.List.{length-map, Elements.{All-nil, All-head, All-tail, All-map, All-filter, filter_passes}}
+use Rattle.std.{proofs.lemmas.Option.{slice_get_within, get_or_from_slice_get}, specs.List.{All, filter}}
 use Rattle.std.specs.Prelude.{find, option_map, unwrap_or, slice_get, is_some}
-use Rattle.std.proofs.lemmas.Bool.{false≢true}
-use Rattle.std.proofs.lemmas.List.Folds.{find_at}
-use Rattle.std.proofs.lemmas.List.{length-map}
-use Rattle.std.proofs.lemmas.List.Elements.{All-nil, All-head, All-tail, All-map, All-filter, filter_passes}
-use Rattle.std.proofs.lemmas.Option.{slice_get_within, get_or_from_slice_get}
-use Rattle.query_lang.specs.declared.fold.TypedExpr.{TypedExpr}
-use Rattle.query_lang.specs.declared.fold.TypedFold.{TypedFold}
-use Rattle.query_lang.specs.declared.typed.TypedFinalOp.{TypedFinalOp}
+use Rattle.query_lang.specs.declared.{fold.{TypedExpr.TypedExpr, TypedFold.TypedFold}, typed.TypedFinalOp.TypedFinalOp}
 use Rattle.query_lang.specs.declared.typed.TypedFinalOp.TheVariants.{Filter, Map, Group, Join, Top}
-use Rattle.query_lang.specs.Folds.{folded, initial_state, fold_states, IsValidFold}
-use Rattle.query_lang.specs.Streams.{expr_value}
+use Rattle.query_lang.specs.{Folds.{folded, initial_state, fold_states, IsValidFold}, Streams.expr_value}
 use Rattle.query_lang.specs.TypedQueries.{Shape, shape_at, IsValidFinalOp, final_shape}
-use Rattle.epoch_model.specs.declared.tables.Row.{Row}
-use Rattle.epoch_model.specs.Keys.{Key, ascending, AreAbove, IsAscending}
-use Rattle.epoch_model.specs.TableLaws.{KeysAscend}
+use Rattle.epoch_model.specs.{declared.tables.Row.Row, Keys.{Key, ascending, AreAbove, IsAscending}, TableLaws.KeysAscend}
 use Rattle.epoch_model.proofs.KeyLists.{by_test}
-use Rattle.final_queries.specs.declared.table.Table.{Table}
-use Rattle.final_queries.specs.Finals.{is_read, is_of_key, plain_row, columns_of, mapped_row, mapped_rows}
-use Rattle.final_queries.specs.Finals.{grouped_key, grouped_args, grouped_rows, joined_rows, read_at, name_text}
-use Rattle.final_queries.specs.Finals.{final_rows, table_shape, HasColumns, IsTable}
-use Rattle.final_queries.specs.FinalLaws.{FinalTablesAreRead}
-use Rattle.final_queries.specs.Joining.{reads}
-use Rattle.final_queries.proofs.KeyLists.{all_ascending}
-use Rattle.final_queries.proofs.StateLengths.{states_length}
-use Rattle.final_queries.proofs.TablesRead.{fold_valid}
+use Rattle.final_queries.specs.{declared.table.Table.Table, Finals.{is_read, is_of_key, plain_row, columns_of, mapped_row, mapped_rows}}
+use Rattle.final_queries.specs.Finals.{grouped_key, grouped_args, grouped_rows, joined_rows, read_at, name_text, final_rows, table_shape}
+use Rattle.final_queries.{specs.{Finals.{HasColumns, IsTable}, FinalLaws.FinalTablesAreRead, Joining.reads}, proofs.KeyLists.all_ascending}
+use Rattle.final_queries.proofs.{StateLengths.states_length, TablesRead.fold_valid}
 
 abbrev key_of : Row → Key
 key_of row = row.key

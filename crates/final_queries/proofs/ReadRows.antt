@@ -3,8 +3,7 @@ use Rattle.std.proofs.Common.{length, sym, ◌≡◌, ℕ, ◌+◌, true, false,
 use Rattle.std.specs.List.{All}
 use Rattle.epoch_model.specs.declared.tables.Row.{Row}
 use Rattle.table_rows.proofs.LentFacts.{holds_at, rows_from}
-use Rattle.final_queries.specs.Finals.{is_read, columns_of}
-use Rattle.final_queries.specs.Joining.{reads}
+use Rattle.final_queries.specs.{Finals.{is_read, columns_of}, Joining.reads}
 
 -- a row that is read comes first
 pub read_first : (rows : List Row) (at : ℕ) (row : Row) → slice_get rows at ≡ Some row → is_read row.mark ≡ true

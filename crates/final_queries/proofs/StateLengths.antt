@@ -1,8 +1,6 @@
 -- A fold keeps the number of its state variables.
 use Rattle.std.proofs.Common.{◌≡◌, ℕ, Bool, true, false, List, [], ◌∷◌, ◌++◌, length, set, refl, ◌∙◌, if◌then◌else◌, length-set}
-use Rattle.query_lang.specs.Words.{holds}
-use Rattle.query_lang.specs.Blocks.{Block, End, Set, Fork}
-use Rattle.query_lang.specs.declared.fold.TypedFold.{TypedFold}
+use Rattle.query_lang.specs.{Words.holds, Blocks.{Block, End, Set, Fork}, declared.fold.TypedFold.TypedFold}
 use Rattle.query_lang.specs.Folds.{term_value, after, body, folded, fold_block, fold_states, initial_state, IsValidFold}
 
 after_length : (b : Block) (args state : List ℕ) → length (after b args state) ≡ length state

@@ -1,19 +1,12 @@
 -- What a valid final says of the tables that it reads.
-use Rattle.std.proofs.Common.{◌≡◌, ℕ, ◌<◌, List, Some, length, map, refl, subst, arith, length-append}
-use Rattle.std.specs.List.{All}
+use Rattle.std.proofs.{Common.{◌≡◌, ℕ, ◌<◌, List, Some, length, map, refl, subst, arith, length-append}, lemmas.List.length-map}
+use Rattle.std.{proofs.lemmas.Option.{slice_get_within, get_or_from_slice_get, slice_get-map}, specs.List.All}
 use Rattle.std.specs.Prelude.{option_map, slice_get}
-use Rattle.std.proofs.lemmas.List.{length-map}
-use Rattle.std.proofs.lemmas.Option.{slice_get_within, get_or_from_slice_get, slice_get-map}
 use Rattle.epoch_model.specs.Keys.{IsAscending}
-use Rattle.query_lang.specs.declared.fold.TypedExpr.{TypedExpr}
-use Rattle.query_lang.specs.declared.fold.TypedFold.{TypedFold}
-use Rattle.query_lang.specs.declared.typed.TypedFinal.{TypedFinal}
-use Rattle.query_lang.specs.declared.typed.TypedFinalOp.{TypedFinalOp}
-use Rattle.query_lang.specs.Folds.{IsValidFold, IsValidTerm, fold_args}
-use Rattle.query_lang.specs.Terms.{term_of}
+use Rattle.query_lang.specs.declared.{fold.{TypedExpr.TypedExpr, TypedFold.TypedFold}, typed.TypedFinal.TypedFinal}
+use Rattle.query_lang.specs.{declared.typed.TypedFinalOp.TypedFinalOp, Folds.{IsValidFold, IsValidTerm, fold_args}, Terms.term_of}
 use Rattle.query_lang.specs.TypedQueries.{Shape, shape_at, IsValidFinal, IsValidFinalOp, final_shape, AreSlots, AreValidWords}
-use Rattle.final_queries.specs.declared.table.Table.{Table}
-use Rattle.final_queries.specs.Finals.{columns_of, rows_read, read_at, table_shape, IsTable}
+use Rattle.final_queries.specs.{declared.table.Table.Table, Finals.{columns_of, rows_read, read_at, table_shape, IsTable}}
 
 pub operator_valid : (names : ℕ) (folds : List TypedFold) (shapes : List Shape) (one : TypedFinal) (op : TypedFinalOp) → one.op ≡ op
     → IsValidFinal names folds shapes one → IsValidFinalOp folds shapes (final_shape one) op

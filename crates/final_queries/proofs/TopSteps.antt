@@ -1,24 +1,12 @@
 -- The rows that `top` keeps, by ranks.
-use Rattle.std.proofs.Common.{◌≡◌, ℕ, suc, ◌+◌, ◌-◌, ◌<◌, ◌≤◌, Bool, true, false, not, cond, List, [], ◌∷◌, ◌++◌, Option}
-use Rattle.std.proofs.Common.{◌*◌, zero-mul, suc-mul, add_comm, length, map, get_or, refl, sym, ap, ◌∙◌, subst, arith, append_assoc}
-use Rattle.std.proofs.Common.{length-append}
-use Rattle.std.specs.List.{All, filter, count_by}
-use Rattle.std.specs.List.Sorted.{IsPermutation}
-use Rattle.std.specs.Prelude.{nat_lt}
-use Rattle.std.specs.declared.cmp.Ordering.TheVariants.{Less}
-use Rattle.std.specs.Ordering.{is_lt}
-use Rattle.std.proofs.lemmas.Bool.{true≢false}
-use Rattle.std.proofs.lemmas.Bool.Decides.{nat_tests}
-use Rattle.std.proofs.lemmas.List.Sorted.{sum_by-IsPermutation}
-use Rattle.std.proofs.lemmas.List.Sums.{sum_by-append, sum_by-cons, count_by-le-length}
-use Rattle.epoch_model.specs.declared.tables.Row.{Row}
-use Rattle.epoch_model.specs.Keys.{key_cmp, AreAbove, IsAscending}
-use Rattle.epoch_model.proofs.KeyLists.{by_test}
-use Rattle.final_queries.specs.declared.top.Rank.{Rank}
-use Rattle.final_queries.specs.Finals.{is_read, plain_row, goes_before, top_rows}
-use Rattle.final_queries.specs.Joining.{reads}
-use Rattle.final_queries.specs.Ranks.{rank_of, ranks_from, is_before, is_within}
-use Rattle.final_queries.specs.TopRows.{kept_from}
+use Rattle.std.proofs.Common.{◌≡◌, ℕ, suc, ◌+◌, ◌-◌, ◌<◌, ◌≤◌, Bool, true, false, not, cond, List, [], ◌∷◌, ◌++◌, Option, ◌*◌, zero-mul}
+use Rattle.std.proofs.Common.{suc-mul, add_comm, length, map, get_or, refl, sym, ap, ◌∙◌, subst, arith, append_assoc, length-append}
+use Rattle.std.proofs.lemmas.{Bool.{true≢false, Decides.nat_tests}, List.Sorted.sum_by-IsPermutation}
+use Rattle.std.{proofs.lemmas.List.Sums.{sum_by-append, sum_by-cons, count_by-le-length}, specs.List.{All, filter, count_by}}
+use Rattle.std.specs.{List.Sorted.IsPermutation, Prelude.nat_lt, declared.cmp.Ordering.TheVariants.Less, Ordering.is_lt}
+use Rattle.epoch_model.{specs.{declared.tables.Row.Row, Keys.{key_cmp, AreAbove, IsAscending}}, proofs.KeyLists.by_test}
+use Rattle.final_queries.specs.{declared.top.Rank.Rank, Finals.{is_read, plain_row, goes_before, top_rows}, Joining.reads}
+use Rattle.final_queries.specs.{Ranks.{rank_of, ranks_from, is_before, is_within}, TopRows.kept_from}
 use Rattle.final_queries.proofs.KeyFacts.{key_cmp-itself, key_cmp-back}
 
 -- ranks have an order

@@ -1,15 +1,9 @@
 -- Which tables finals may read, and which foldings make the same table.
 use Rattle.std.specs.Prelude.{◌≡◌, ℕ, List, length, map, All}
-use Rattle.query_lang.specs.declared.fold.TypedFold.{TypedFold}
-use Rattle.query_lang.specs.declared.typed.TypedFinal.{TypedFinal}
-use Rattle.query_lang.specs.Folds.{IsValidFold}
+use Rattle.query_lang.specs.{declared.{fold.TypedFold.TypedFold, typed.TypedFinal.TypedFinal}, Folds.IsValidFold}
 use Rattle.query_lang.specs.TypedQueries.{IsValidFinal, final_shape}
-use Rattle.epoch_model.specs.Keys.{ArgRow}
-use Rattle.epoch_model.specs.Epochs.{Use, Geometry}
-use Rattle.epoch_model.specs.Machine.{Epoch}
-use Rattle.epoch_model.specs.Tables.{Folding, folded}
-use Rattle.final_queries.specs.declared.table.Table.{Table}
-use Rattle.final_queries.specs.GroupTable.{Heading, group_table, closed_table}
+use Rattle.epoch_model.specs.{Keys.ArgRow, Epochs.{Use, Geometry}, Machine.Epoch, Tables.{Folding, folded}}
+use Rattle.final_queries.specs.{declared.table.Table.Table, GroupTable.{Heading, group_table, closed_table}}
 use Rattle.final_queries.specs.Finals.{IsTable, table_shape, final_table}
 
 -- The table of a groupby may be read, where the keys of its uses have the heading's key columns and its states the other columns.

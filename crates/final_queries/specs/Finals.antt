@@ -1,20 +1,10 @@
 -- Tables made of tables, as functions on lists of rows.
-use Rattle.std.specs.Prelude.{◌≡◌, ℕ, ◌-◌, ◌≤◌, Bool, true, false, ◌&&◌, ◌||◌, ◌==◌, nat_lt, List, []}
-use Rattle.std.specs.Prelude.{◌∷◌, ◌++◌, length, map, filter, filter_map, find, fold, count_by, All, slice_get, Option, Some}
-use Rattle.std.specs.Prelude.{None, option_map, unwrap_or}
-use Rattle.std.specs.Ordering.{is_lt}
-use Rattle.query_lang.specs.declared.fold.TypedExpr.{TypedExpr}
-use Rattle.query_lang.specs.declared.fold.TypedFold.{TypedFold}
-use Rattle.query_lang.specs.declared.typed.TypedFinal.{TypedFinal}
-use Rattle.query_lang.specs.declared.typed.TypedFinalOp.{TypedFinalOp}
-use Rattle.query_lang.specs.declared.typed.TypedFinalOp.TheVariants.{Filter, Map, Group, Join, Top}
-use Rattle.query_lang.specs.Words.{holds}
-use Rattle.query_lang.specs.Folds.{folded, initial_state}
-use Rattle.query_lang.specs.Streams.{expr_value, values_at}
-use Rattle.query_lang.specs.TypedQueries.{Shape}
-use Rattle.epoch_model.specs.declared.tables.Mark.{Mark}
-use Rattle.epoch_model.specs.declared.tables.Mark.TheVariants.{Exact, Valid, Invalid, Plain}
-use Rattle.epoch_model.specs.declared.tables.Row.{Row}
+use Rattle.std.specs.Prelude.{◌≡◌, ℕ, ◌-◌, ◌≤◌, Bool, true, false, ◌&&◌, ◌||◌, ◌==◌, nat_lt, List, [], ◌∷◌, ◌++◌, length, map, filter}
+use Rattle.std.specs.{Prelude.{filter_map, find, fold, count_by, All, slice_get, Option, Some, None, option_map, unwrap_or}, Ordering.is_lt}
+use Rattle.query_lang.specs.declared.{fold.{TypedExpr.TypedExpr, TypedFold.TypedFold}, typed.TypedFinal.TypedFinal}
+use Rattle.query_lang.specs.{declared.typed.TypedFinalOp.{TypedFinalOp, TheVariants.{Filter, Map, Group, Join, Top}}, Words.holds}
+use Rattle.query_lang.specs.{Folds.{folded, initial_state}, Streams.{expr_value, values_at}, TypedQueries.Shape}
+use Rattle.epoch_model.specs.declared.tables.{Mark.{Mark, TheVariants.{Exact, Valid, Invalid, Plain}}, Row.Row}
 use Rattle.epoch_model.specs.Keys.{Key, key_eq, key_cmp, ascending, IsAscending}
 use Rattle.final_queries.specs.declared.table.Table.{Table}
 use Rattle.final_queries.specs.declared.table.TableKind.TheVariants as kind

@@ -1,12 +1,9 @@
 -- The table of a groupby: by the uses of the whole trace, and by its closed epochs.
 use Rattle.std.specs.Prelude.{◌≡◌, ℕ, List, ◌++◌, length}
 use Rattle.query_lang.specs.declared.typed.Class.{Class}
-use Rattle.epoch_model.specs.Epochs.{Use, Geometry}
-use Rattle.epoch_model.specs.Machine.{Epoch, end_of}
-use Rattle.epoch_model.specs.Laws.{HasRoom, IsInTrace}
+use Rattle.epoch_model.specs.{Epochs.{Use, Geometry}, Machine.{Epoch, end_of}, Laws.{HasRoom, IsInTrace}}
 use Rattle.epoch_model.specs.Tables.{Folding, group_rows, group_epochs, closed_rows, closed_epochs}
-use Rattle.final_queries.specs.declared.table.Table.{Table}
-use Rattle.final_queries.specs.declared.table.TableKind.TheVariants.{Group}
+use Rattle.final_queries.specs.declared.table.{Table.Table, TableKind.TheVariants.Group}
 
 -- What a groupby's table says besides its rows: the names of the groupby, of its keys and of its fold's state variables,
 -- and the fold's class and depth.

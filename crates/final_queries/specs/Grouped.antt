@@ -1,11 +1,7 @@
 -- A table grouped by columns, as epochs of one row each.
 use Rattle.std.specs.Prelude.{ℕ, false, List, [], ◌∷◌, map}
-use Rattle.query_lang.specs.declared.fold.TypedFold.{TypedFold}
-use Rattle.query_lang.specs.Folds.{body, initial_state}
-use Rattle.query_lang.specs.Streams.{values_at}
-use Rattle.epoch_model.specs.declared.tables.Row.{Row}
-use Rattle.epoch_model.specs.Machine.{Epoch}
-use Rattle.epoch_model.specs.Tables.{Folding}
+use Rattle.query_lang.specs.{declared.fold.TypedFold.TypedFold, Folds.{body, initial_state}, Streams.values_at}
+use Rattle.epoch_model.specs.{declared.tables.Row.Row, Machine.Epoch, Tables.Folding}
 use Rattle.final_queries.specs.Finals.{columns_of, grouped_key, plain_row}
 
 -- the fold's body, with one row for each key

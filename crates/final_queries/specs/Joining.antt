@@ -1,8 +1,6 @@
 -- Two tables whose rows are in ascending order of their keys, walked side by side.
-use Rattle.std.specs.Prelude.{◌≡◌, true, false, List, [], ◌∷◌, ◌++◌, filter, if◌then◌else◌}
-use Rattle.std.specs.Ordering.{is_lt}
-use Rattle.epoch_model.specs.Keys.{Key, key_cmp, key_eq}
-use Rattle.epoch_model.specs.declared.tables.Row.{Row}
+use Rattle.std.specs.{Prelude.{◌≡◌, true, false, List, [], ◌∷◌, ◌++◌, filter, if◌then◌else◌}, Ordering.is_lt}
+use Rattle.epoch_model.specs.{Keys.{Key, key_cmp, key_eq}, declared.tables.Row.Row}
 use Rattle.final_queries.specs.Finals.{is_read, plain_row}
 
 -- the rows that finals read

@@ -1,9 +1,7 @@
 -- Rows by the order in which `top` takes them.
-use Rattle.std.specs.Prelude.{ℕ, suc, Bool, true, not, List, [], ◌∷◌, Option, Some, None, if◌then◌else◌}
-use Rattle.std.specs.Prelude.{◌==◌, ◌&&◌, ◌||◌, nat_lt}
+use Rattle.std.specs.Prelude.{ℕ, suc, Bool, true, not, List, [], ◌∷◌, Option, Some, None, if◌then◌else◌, ◌==◌, ◌&&◌, ◌||◌, nat_lt}
 use Rattle.epoch_model.specs.declared.tables.Row.{Row}
-use Rattle.final_queries.specs.declared.top.Rank.{Rank}
-use Rattle.final_queries.specs.Finals.{is_read, column_at}
+use Rattle.final_queries.specs.{declared.top.Rank.Rank, Finals.{is_read, column_at}}
 
 -- a row's rank by a column and its place
 abbrev pub rank_of : ℕ → ℕ → Row → Rank

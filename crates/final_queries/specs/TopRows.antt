@@ -1,9 +1,7 @@
 -- The rows that `top` keeps, by their ranks.
 use Rattle.std.specs.Prelude.{ℕ, suc, ◌&&◌, List, [], ◌∷◌, Option, if◌then◌else◌}
 use Rattle.epoch_model.specs.declared.tables.Row.{Row}
-use Rattle.final_queries.specs.declared.top.Rank.{Rank}
-use Rattle.final_queries.specs.Finals.{is_read, plain_row}
-use Rattle.final_queries.specs.Ranks.{rank_of, is_within}
+use Rattle.final_queries.specs.{declared.top.Rank.Rank, Finals.{is_read, plain_row}, Ranks.{rank_of, is_within}}
 
 -- the rows that are read and whose ranks are within the last one, where the first row has this place
 abbrev pub kept_from : Option Rank → ℕ → ℕ → List Row → List Row

@@ -5,12 +5,9 @@ ghost use Rattle.epoch_model.specs.Machine.{Epoch};
 ghost use Rattle.fold_code.specs.Meaning.{IsCodeOf, code_scratch};
 ghost use Rattle.table_rows.specs.LentRows.{row_of};
 ghost use Rattle.backing_store.specs.Merged.{StoreHolds};
-ghost use Rattle.query_lang.specs.declared.fold.TypedFold.{TypedFold as AnyFold};
-ghost use Rattle.query_lang.specs.Folds.{IsValidFold, fold_args, initial_state};
+ghost use Rattle.query_lang.specs.{declared.fold.TypedFold.{TypedFold as AnyFold}, Folds.{IsValidFold, fold_args, initial_state}};
 ghost use Rattle.query_lang.specs.TypedQueries.{AreSlots};
-ghost use Rattle.final_queries.specs.Finals.{columns_of, grouped_rows};
-ghost use Rattle.final_queries.specs.Grouped.{whole_folding, row_epochs, plain_of};
-ghost use Rattle.final_queries.specs.Joining.{reads};
+ghost use Rattle.final_queries.specs.{Finals.{columns_of, grouped_rows}, Grouped.{whole_folding, row_epochs, plain_of}, Joining.reads};
 
 use crate::rows::is_read;
 use crate::value::values_into;

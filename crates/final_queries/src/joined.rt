@@ -3,8 +3,7 @@
 ghost use Rattle.std.specs.Prelude.{◌≡◌, ◌≤◌, ◌-◌, ◌++◌, ◌∷◌, [], length, map, take, drop, IfOk, OnOk};
 ghost use Rattle.epoch_model.specs.Keys.{IsAscending};
 ghost use Rattle.table_rows.specs.LentRows.{row_of};
-ghost use Rattle.final_queries.specs.Finals.{plain_row, joined_rows};
-ghost use Rattle.final_queries.specs.Joining.{reads, joined_first, AreSmaller, StartsAtLeast};
+ghost use Rattle.final_queries.specs.{Finals.{plain_row, joined_rows}, Joining.{reads, joined_first, AreSmaller, StartsAtLeast}};
 
 use crate::keys::{is_same_key, is_smaller_key};
 use crate::rows::{is_read, push_plain};

@@ -1,7 +1,6 @@
 // Keys, compared word by word.
 
-ghost use Rattle.std.specs.Prelude.{◌≡◌};
-ghost use Rattle.std.specs.Ordering.{is_lt};
+ghost use Rattle.std.specs.{Prelude.{◌≡◌}, Ordering.is_lt};
 ghost use Rattle.epoch_model.specs.Keys.{key_cmp, key_eq};
 
 #[tactic(auto, unfolding(epoch_model::specs::Keys::key_eq))]

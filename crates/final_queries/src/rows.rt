@@ -1,12 +1,9 @@
 // Finals that take one table row by row.
 
 ghost use Rattle.std.specs.Prelude.{◌≡◌, ◌≤◌, ◌++◌, ◌∷◌, [], All, length, map, IfOk, OnOk};
-ghost use Rattle.query_lang.specs.Streams.{expr_value};
-ghost use Rattle.query_lang.specs.Folds.{IsValidTerm};
-ghost use Rattle.query_lang.specs.Terms.{term_of};
+ghost use Rattle.query_lang.specs.{Streams.expr_value, Folds.IsValidTerm, Terms.term_of};
 ghost use Rattle.table_rows.specs.LentRows.{row_of};
-ghost use Rattle.final_queries.specs.Finals.{is_read, columns_of, plain_row, filtered_rows, mapped_row, mapped_rows};
-ghost use Rattle.final_queries.specs.Joining.{reads};
+ghost use Rattle.final_queries.specs.{Finals.{is_read, columns_of, plain_row, filtered_rows, mapped_row, mapped_rows}, Joining.reads};
 
 use crate::value::value_of;
 use epoch_model::Mark;

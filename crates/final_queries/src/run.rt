@@ -1,8 +1,7 @@
 //! Tables made of tables.
 
 ghost use Rattle.std.specs.Prelude.{◌≡◌, ◌<◌, ◌≤◌, All, length, map, IfOk};
-ghost use Rattle.query_lang.specs.Folds.{IsValidFold};
-ghost use Rattle.query_lang.specs.TypedQueries.{AreNames, IsValidFinal, final_shape};
+ghost use Rattle.query_lang.specs.{Folds.IsValidFold, TypedQueries.{AreNames, IsValidFinal, final_shape}};
 ghost use Rattle.final_queries.specs.Finals.{IsTable, table_shape, name_text, final_rows, final_table};
 
 use crate::grouped::grouped;

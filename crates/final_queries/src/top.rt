@@ -1,12 +1,9 @@
 // The rows of a table that are greatest in one column.
 
-ghost use Rattle.std.specs.Prelude.{◌≡◌, ◌-◌, ◌^◌, ◌<◌, ◌≤◌, All, Some, length, map, nat_lt, count_by, slice_get};
-ghost use Rattle.std.specs.Prelude.{IfOk};
+ghost use Rattle.std.specs.Prelude.{◌≡◌, ◌-◌, ◌^◌, ◌<◌, ◌≤◌, All, Some, length, map, nat_lt, count_by, slice_get, IfOk};
 ghost use Rattle.epoch_model.specs.Keys.{IsAscending};
 ghost use Rattle.table_rows.specs.LentRows.{row_of};
-ghost use Rattle.final_queries.specs.Finals.{columns_of, top_rows};
-ghost use Rattle.final_queries.specs.Joining.{reads};
-ghost use Rattle.final_queries.specs.Ranks.{rank_of, ranks_from, is_before, is_within};
+ghost use Rattle.final_queries.specs.{Finals.{columns_of, top_rows}, Joining.reads, Ranks.{rank_of, ranks_from, is_before, is_within}};
 
 use crate::rows::{is_read, push_plain, read_count};
 use marple_base::Steps;

@@ -1,10 +1,7 @@
 // The values of expressions over the columns of a row.
 
 ghost use Rattle.std.specs.Prelude.{◌≡◌, ◌≤◌, length, OnOk};
-ghost use Rattle.query_lang.specs.Folds.{IsValidTerm};
-ghost use Rattle.query_lang.specs.Streams.{expr_value, values_at};
-ghost use Rattle.query_lang.specs.Terms.{term_of};
-ghost use Rattle.query_lang.specs.TypedQueries.{AreSlots};
+ghost use Rattle.query_lang.specs.{Folds.IsValidTerm, Streams.{expr_value, values_at}, Terms.term_of, TypedQueries.AreSlots};
 
 use marple_base::Steps;
 use query_lang::TypedExpr;

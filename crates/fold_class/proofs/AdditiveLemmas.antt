@@ -1,23 +1,16 @@
 -- An additive fold is linear by sums, and no variable of it has a depth.
 use Rattle.std.proofs.Common.{◌≡◌, ℕ, zero, suc, ◌<◌, ◌≤◌, Bool, true, false, ◌&&◌, ◌||◌, ◌==◌, nat_lt, if◌then◌else◌, refl, sym, ap, ◌∙◌}
-use Rattle.std.proofs.Common.{subst, arith}
-use Rattle.std.proofs.lemmas.Bool.Decides.{nat_tests}
-use Rattle.query_lang.specs.declared.fold.Op.{Op}
-use Rattle.query_lang.specs.declared.fold.Op.TheVariants.{Add, Sub}
-use Rattle.query_lang.specs.Terms.{Term, Literal, Read, Negation, Operation}
-use Rattle.query_lang.specs.declared.fold.TypedFold.{TypedFold}
-use Rattle.query_lang.specs.Blocks.{Block, End, Set, Fork}
+use Rattle.std.proofs.{Common.{subst, arith}, lemmas.Bool.Decides.nat_tests}
+use Rattle.query_lang.specs.{declared.fold.Op.{Op, TheVariants.{Add, Sub}}, Terms.{Term, Literal, Read, Negation, Operation}}
+use Rattle.query_lang.specs.{declared.fold.TypedFold.TypedFold, Blocks.{Block, End, Set, Fork}}
 use Rattle.query_lang.specs.Folds.{fold_states, fold_block, IsValidBlock, IsValidFold}
-use Rattle.fold_class.specs.declared.class.Algebra.TheVariants.{Sums}
-use Rattle.fold_class.specs.declared.class.Kind.{Kind}
-use Rattle.fold_class.specs.declared.class.Kind.TheVariants.{Pure, Affine}
-use Rattle.fold_class.specs.Tables.{update, all_below}
+use Rattle.fold_class.specs.{declared.class.{Algebra.TheVariants.Sums, Kind.{Kind, TheVariants.{Pure, Affine}}}, Tables.{update, all_below}}
 use Rattle.fold_class.specs.Depth.{assigns, expr_reads, reads_after, fold_reads, is_within, is_history}
-use Rattle.fold_code.proofs.BlockLemmas.{argument_is}
-use Rattle.fold_code.specs.Additive.{names_no_state, adds_or_subtracts, is_variable, is_increment, is_additive_block, is_additive}
 use Rattle.fold_class.specs.Kinds.{greater, expr_kind, role, role_kind, marked, chosen_kinds, kinds_after, is_no_other, is_linear_by}
 use Rattle.fold_class.proofs.TableLemmas.{and_true_left, and_true_right, or_true_left, implied, below_at}
 use Rattle.fold_class.proofs.HistoryKinds.{role_pure, marked_kept, chosen_kept, kinds_kept}
+use Rattle.fold_code.proofs.BlockLemmas.{argument_is}
+use Rattle.fold_code.specs.Additive.{names_no_state, adds_or_subtracts, is_variable, is_increment, is_additive_block, is_additive}
 
 greater_pure : (k : Kind) → greater k Pure ≡ k
 greater_pure Pure = refl

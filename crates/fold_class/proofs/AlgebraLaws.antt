@@ -1,21 +1,11 @@
 -- Wrapping words are the algebra of sums, and words with an absent element that of maxima.
-use Rattle.std.proofs.Common.{◌≡◌, ℕ, ◌+◌, ◌-◌, ◌%◌, ◌^◌, min, max, refl, ap, arith}
-use Rattle.std.proofs.Math.Nat.{mul_comm}
-use Rattle.query_lang.specs.declared.fold.Op.{Op}
-use Rattle.query_lang.specs.declared.fold.Op.TheVariants.{Mul, Add, Sub, Max, Sadd}
-use Rattle.query_lang.specs.Words.{IsWord, op_value}
-use Rattle.coeff_algebra.specs.declared.wrapping.Wrapping64.{Wrapping64}
-use Rattle.coeff_algebra.specs.declared.max_plus.MaxPlus64.{MaxPlus64}
-use Rattle.coeff_algebra.specs.declared.max_plus.MaxPlus64.TheVariants.{Absent, Word}
-use Rattle.coeff_algebra.specs.Elements.{ElementLaws, IsWordOf}
-use Rattle.coeff_algebra.specs.WrappingModel.{IsWrapping}
-use Rattle.coeff_algebra.specs.WrappingLaws.{wrapping_laws}
-use Rattle.coeff_algebra.specs.MaxPlusModel.{IsMaxPlus}
-use Rattle.coeff_algebra.specs.MaxPlusLaws.{max_plus_laws}
-use Rattle.fold_class.specs.declared.class.Algebra.TheVariants.{Sums, Maxima}
-use Rattle.fold_class.specs.Kinds.{Sum, Difference, Product, role}
-use Rattle.fold_class.specs.Parts.{minus_one, IsAlgebraOf}
-use Rattle.fold_class.specs.Algebras.{sums, maxima}
+use Rattle.std.proofs.{Common.{◌≡◌, ℕ, ◌+◌, ◌-◌, ◌%◌, ◌^◌, min, max, refl, ap, arith}, Math.Nat.mul_comm}
+use Rattle.query_lang.specs.{declared.fold.Op.{Op, TheVariants.{Mul, Add, Sub, Max, Sadd}}, Words.{IsWord, op_value}}
+use Rattle.coeff_algebra.specs.declared.{wrapping.Wrapping64.Wrapping64, max_plus.MaxPlus64.{MaxPlus64, TheVariants.{Absent, Word}}}
+use Rattle.coeff_algebra.specs.{Elements.{ElementLaws, IsWordOf}, WrappingModel.IsWrapping, WrappingLaws.wrapping_laws}
+use Rattle.coeff_algebra.specs.{MaxPlusModel.IsMaxPlus, MaxPlusLaws.max_plus_laws}
+use Rattle.fold_class.specs.{declared.class.Algebra.TheVariants.{Sums, Maxima}, Kinds.{Sum, Difference, Product, role}}
+use Rattle.fold_class.specs.{Parts.{minus_one, IsAlgebraOf}, Algebras.{sums, maxima}}
 
 pub sums_laws : ElementLaws IsWrapping sums
 sums_laws = wrapping_laws

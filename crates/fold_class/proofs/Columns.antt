@@ -1,18 +1,11 @@
 -- A column of a run over rows is the run over that column.
 use Rattle.std.proofs.Common.{◌≡◌, ℕ, zero, suc, Bool, true, false, ◌==◌, if◌then◌else◌, List, [], ◌∷◌, ◌++◌, map, get_or, set, slice_index}
-use Rattle.std.proofs.Common.{refl, ap, ◌∙◌}
-use Rattle.std.proofs.lemmas.List.{map-append, map-set}
-use Rattle.query_lang.specs.Terms.{Term, Literal, Read, Negation, Operation}
-use Rattle.query_lang.specs.declared.fold.TypedFold.{TypedFold}
-use Rattle.query_lang.specs.Words.{op_value}
-use Rattle.query_lang.specs.Blocks.{Block, End, Set, Fork}
-use Rattle.query_lang.specs.Folds.{fold_states, fold_block}
-use Rattle.fold_code.specs.Machine.{Domain, at}
-use Rattle.fold_code.specs.Tree.{term_in, after_in}
+use Rattle.std.proofs.{Common.{refl, ap, ◌∙◌}, lemmas.List.{map-append, map-set}}
+use Rattle.query_lang.specs.{Terms.{Term, Literal, Read, Negation, Operation}, declared.fold.TypedFold.TypedFold, Words.op_value}
+use Rattle.query_lang.specs.{Blocks.{Block, End, Set, Fork}, Folds.{fold_states, fold_block}}
+use Rattle.fold_code.specs.{Machine.{Domain, at}, Tree.{term_in, after_in}}
 use Rattle.coeff_algebra.specs.Elements.{Elements}
-use Rattle.fold_class.specs.declared.class.Algebra.{Algebra}
-use Rattle.fold_class.specs.Kinds.{Role, Sum, Difference, Product, Outside, role}
-use Rattle.fold_class.specs.Depth.{is_history}
+use Rattle.fold_class.specs.{declared.class.Algebra.Algebra, Kinds.{Role, Sum, Difference, Product, Outside, role}, Depth.is_history}
 use Rattle.fold_class.specs.Parts.{Part, Fixed, Share, Lost, parts, part_operation, part_negation, part_test, part_mask, part_choice}
 use Rattle.fold_class.specs.Parts.{row_shares, column_shares}
 use Rattle.fold_class.specs.Step.{list_of, rank, dimension, first_row, step_rows, first_column, step_column}

@@ -1,14 +1,9 @@
 -- As many rounds as there are variables find each depth, and the number of the first round that covers the history is the fold's depth.
 use Rattle.std.proofs.Common.{◌≡◌, ℕ, zero, suc, ◌+◌, ◌-◌, ◌<◌, ◌≤◌, Bool, true, false, not, ◌&&◌, ◌||◌, nat_lt, if◌then◌else◌, List, ◌⊎◌}
-use Rattle.std.proofs.Common.{inl, inr, refl, sym, ap, ◌∙◌, subst, arith}
-use Rattle.std.proofs.lemmas.Bool.Decides.{nat_tests}
-use Rattle.query_lang.specs.declared.fold.TypedFold.{TypedFold}
-use Rattle.query_lang.specs.Folds.{fold_states}
-use Rattle.fold_class.specs.Tables.{all_below}
-use Rattle.fold_class.specs.Depth.{fold_reads, is_within, IsHistory, is_history, IsDepth}
-use Rattle.fold_class.specs.Walk.{flag_in}
-use Rattle.fold_class.proofs.TableLemmas.{implied, implies_more, below_at, below_more}
-use Rattle.fold_class.proofs.History.{within_more}
+use Rattle.std.proofs.{Common.{inl, inr, refl, sym, ap, ◌∙◌, subst, arith}, lemmas.Bool.Decides.nat_tests}
+use Rattle.query_lang.specs.{declared.fold.TypedFold.TypedFold, Folds.fold_states}
+use Rattle.fold_class.specs.{Tables.all_below, Depth.{fold_reads, is_within, IsHistory, is_history, IsDepth}, Walk.flag_in}
+use Rattle.fold_class.proofs.{TableLemmas.{implied, implies_more, below_at, below_more}, History.within_more}
 
 pub all_same : (n : ℕ) (p q : ℕ → Bool) → ((u : ℕ) → u < n → p u ≡ q u) → all_below n p ≡ all_below n q
 all_same zero p q h = refl

@@ -1,17 +1,12 @@
 -- A history variable is Pure at the end of each walk.
 use Rattle.std.proofs.Common.{◌≡◌, ℕ, zero, suc, ◌<◌, Bool, true, false, not, ◌&&◌, ◌||◌, ◌==◌, nat_lt, if◌then◌else◌, refl, ap, ◌∙◌, arith}
 use Rattle.std.proofs.lemmas.Bool.Decides.{nat_tests}
-use Rattle.query_lang.specs.Terms.{Term, Literal, Read, Negation, Operation}
-use Rattle.query_lang.specs.declared.fold.TypedFold.{TypedFold}
-use Rattle.query_lang.specs.Blocks.{Block, End, Set, Fork}
-use Rattle.query_lang.specs.Folds.{fold_states, fold_block}
-use Rattle.fold_class.specs.declared.class.Algebra.{Algebra}
-use Rattle.fold_class.specs.declared.class.Kind.{Kind}
-use Rattle.fold_class.specs.declared.class.Kind.TheVariants.{Pure, Affine}
-use Rattle.fold_class.specs.Tables.{update}
-use Rattle.fold_class.specs.Depth.{assigns, expr_reads, reads_after, reads_first, fold_reads, is_within, is_history}
-use Rattle.fold_class.specs.Kinds.{Role, Sum, Difference, Product, Outside, role, greater, outside_kind, role_kind, expr_kind, marked}
-use Rattle.fold_class.specs.Kinds.{chosen_kinds, kinds_after, kinds_first, fold_kinds}
+use Rattle.query_lang.specs.{Terms.{Term, Literal, Read, Negation, Operation}, declared.fold.TypedFold.TypedFold}
+use Rattle.query_lang.specs.{Blocks.{Block, End, Set, Fork}, Folds.{fold_states, fold_block}}
+use Rattle.fold_class.specs.{declared.class.{Algebra.Algebra, Kind.{Kind, TheVariants.{Pure, Affine}}}, Tables.update}
+use Rattle.fold_class.specs.{Depth.{assigns, expr_reads, reads_after, reads_first, fold_reads, is_within, is_history}, Kinds.{Role, Sum}}
+use Rattle.fold_class.specs.Kinds.{Difference, Product, Outside, role, greater, outside_kind, role_kind, expr_kind, marked, chosen_kinds}
+use Rattle.fold_class.specs.Kinds.{kinds_after, kinds_first, fold_kinds}
 use Rattle.fold_class.proofs.TableLemmas.{or_false_left, or_false_right, or_true_left, or_true_right, implied, below_at}
 use Rattle.fold_class.proofs.History.{within_next}
 

@@ -1,24 +1,14 @@
 -- What the walk with kinds says of a run over parts.
 use Rattle.std.proofs.Common.{◌≡◌, ◌≢◌, ℕ, ◌<◌, Bool, true, false, not, ◌==◌, if◌then◌else◌, List, ◌++◌, length, set, refl, sym, ap, ◌∙◌}
-use Rattle.std.proofs.Common.{subst, arith, length-set, length-append, get_or-set_same, get_or-set_other}
-use Rattle.std.proofs.lemmas.Bool.Decides.{nat_tests}
+use Rattle.std.proofs.{Common.{subst, arith, length-set, length-append, get_or-set_same, get_or-set_other}, lemmas.Bool.Decides.nat_tests}
 use Rattle.std.proofs.lemmas.List.{set-get_or, set-append_left}
-use Rattle.query_lang.specs.Terms.{Term, Literal, Read, Negation, Operation}
-use Rattle.query_lang.specs.Words.{flag, holds, op_value}
-use Rattle.query_lang.specs.Blocks.{Block, End, Set, Fork}
-use Rattle.query_lang.specs.Folds.{IsValidBlock}
-use Rattle.fold_code.specs.Machine.{Domain, at}
-use Rattle.fold_code.specs.Tree.{term_in, after_in}
-use Rattle.fold_code.proofs.Runs.{length-after}
-use Rattle.fold_class.specs.declared.class.Algebra.{Algebra}
-use Rattle.fold_class.specs.declared.class.Kind.{Kind}
-use Rattle.fold_class.specs.declared.class.Kind.TheVariants.{Pure, Affine}
-use Rattle.fold_class.specs.Kinds.{Role, Sum, Difference, Product, Outside, role, greater, product_kind, outside_kind, role_kind, expr_kind}
-use Rattle.fold_class.specs.Kinds.{marked, chosen_kinds, kinds_after}
-use Rattle.fold_class.specs.Parts.{Part, Fixed, Share, Lost, Shares, minus_one, parts, part_mask, part_choice, part_negation}
-use Rattle.fold_class.specs.Parts.{part_operation}
-use Rattle.fold_class.specs.Fitting.{Allows}
-use Rattle.fold_class.specs.Tables.{update}
+use Rattle.query_lang.specs.{Terms.{Term, Literal, Read, Negation, Operation}, Words.{flag, holds, op_value}}
+use Rattle.query_lang.specs.{Blocks.{Block, End, Set, Fork}, Folds.IsValidBlock}
+use Rattle.fold_code.{specs.{Machine.{Domain, at}, Tree.{term_in, after_in}}, proofs.Runs.length-after}
+use Rattle.fold_class.specs.{declared.class.{Algebra.Algebra, Kind.{Kind, TheVariants.{Pure, Affine}}}, Kinds.{Role, Sum, Difference}}
+use Rattle.fold_class.specs.Kinds.{Product, Outside, role, greater, product_kind, outside_kind, role_kind, expr_kind, marked, chosen_kinds}
+use Rattle.fold_class.specs.{Kinds.kinds_after, Parts.{Part, Fixed, Share, Lost, Shares, minus_one, parts, part_mask, part_choice}}
+use Rattle.fold_class.specs.{Parts.{part_negation, part_operation}, Fitting.Allows, Tables.update}
 
 module _ {A : Type 0} (sh : Shares A) (algebra : Algebra) where
   abbrev pub pdom : Domain (Part A)

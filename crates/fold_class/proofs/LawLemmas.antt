@@ -1,21 +1,13 @@
 -- Laws of depth and class, from those of single variables.
 use Rattle.std.proofs.Common.{◌≡◌, ℕ, zero, suc, ◌+◌, ◌<◌, ◌≤◌, Bool, true, false, ◌||◌, nat_lt, if◌then◌else◌, List, length, slice_index}
-use Rattle.std.proofs.Common.{◌⊎◌, inl, inr, refl, sym, ap, ◌∙◌, subst, arith}
-use Rattle.std.proofs.lemmas.Bool.Decides.{nat_tests}
-use Rattle.std.proofs.lemmas.List.{ext_get_or}
-use Rattle.query_lang.specs.declared.fold.TypedFold.{TypedFold}
-use Rattle.query_lang.specs.declared.typed.Class.{Class}
-use Rattle.query_lang.specs.declared.typed.Class.TheVariants.{Linear}
+use Rattle.std.proofs.{Common.{◌⊎◌, inl, inr, refl, sym, ap, ◌∙◌, subst, arith}, lemmas.{Bool.Decides.nat_tests, List.ext_get_or}}
+use Rattle.query_lang.specs.declared.{fold.TypedFold.TypedFold, typed.Class.{Class, TheVariants.Linear}}
 use Rattle.query_lang.specs.Folds.{IsValidFold, fold_states, folded}
 use Rattle.fold_code.specs.Additive.{is_additive}
-use Rattle.fold_class.specs.declared.class.Algebra.TheVariants.{Sums, Maxima}
-use Rattle.fold_class.specs.Depth.{is_history, IsDepth, least_from, depth_of}
-use Rattle.fold_class.specs.Kinds.{fold_kinds, is_no_other, is_linear_by, class_of, algebra_of}
-use Rattle.fold_class.specs.Step.{history_places, words_at}
-use Rattle.fold_class.proofs.History.{history_forgets}
-use Rattle.fold_class.proofs.DepthLemmas.{all_true, is_covered, covered_last, depth_found, depth_below}
-use Rattle.fold_class.proofs.HistoryKinds.{history_pure}
-use Rattle.fold_class.proofs.PlaceLemmas.{map_at, length-map, placed}
+use Rattle.fold_class.specs.{declared.class.Algebra.TheVariants.{Sums, Maxima}, Depth.{is_history, IsDepth, least_from, depth_of}}
+use Rattle.fold_class.specs.{Kinds.{fold_kinds, is_no_other, is_linear_by, class_of, algebra_of}, Step.{history_places, words_at}}
+use Rattle.fold_class.proofs.{History.history_forgets, DepthLemmas.{all_true, is_covered, covered_last, depth_found, depth_below}}
+use Rattle.fold_class.proofs.{HistoryKinds.history_pure, PlaceLemmas.{map_at, length-map, placed}}
 use Rattle.fold_class.proofs.AdditiveLemmas.{additive_linear, additive_no_depth}
 
 pub forgets : (f : TypedFold) (depth : ℕ) (xs ys : List ℕ) (rows : List (List ℕ)) → IsValidFold f → IsDepth f depth

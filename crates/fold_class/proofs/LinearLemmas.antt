@@ -1,18 +1,11 @@
 -- The walk from the kinds at the start says whether a variable is Other at the end.
 use Rattle.std.proofs.Common.{◌≡◌, ◌≢◌, ℕ, ◌+◌, ◌<◌, Bool, true, false, ◌==◌, nat_lt, if◌then◌else◌, List, length, set, refl, sym, ap, ◌∙◌}
-use Rattle.std.proofs.Common.{subst, arith, get_or-set_same, get_or-set_other}
-use Rattle.std.proofs.lemmas.Bool.Decides.{nat_tests}
+use Rattle.std.proofs.{Common.{subst, arith, get_or-set_same, get_or-set_other}, lemmas.Bool.Decides.nat_tests}
 use mathlib.Core.Path.{fun_ext}
-use Rattle.query_lang.specs.declared.fold.Op.{Op}
-use Rattle.query_lang.specs.declared.fold.TypedFold.{TypedFold}
-use Rattle.query_lang.specs.declared.fold.TypedStmt.{TypedStmt}
-use Rattle.query_lang.specs.Blocks.{block_of}
+use Rattle.query_lang.specs.{declared.fold.{Op.Op, TypedFold.TypedFold, TypedStmt.TypedStmt}, Blocks.block_of}
 use Rattle.query_lang.specs.Folds.{fold_states, fold_block}
-use Rattle.fold_class.specs.declared.class.Kind.{Kind}
-use Rattle.fold_class.specs.declared.class.Kind.TheVariants.{Pure, Affine}
-use Rattle.fold_class.specs.Tables.{all_below}
-use Rattle.fold_class.specs.Kinds.{Role, kinds_after, is_no_other, has_no_other}
-use Rattle.fold_class.specs.Walk.{kinds_in}
+use Rattle.fold_class.specs.{declared.class.Kind.{Kind, TheVariants.{Pure, Affine}}, Tables.all_below}
+use Rattle.fold_class.specs.{Kinds.{Role, kinds_after, is_no_other, has_no_other}, Walk.kinds_in}
 
 -- what is fixed counts for the fold's variables alone
 pub same_fixed : (roles : Op → Role) (f : TypedFold) (fixed other : ℕ → Bool) → ((v : ℕ) → v < fold_states f → fixed v ≡ other v)

@@ -1,18 +1,11 @@
 -- What a translation does to two states with the same history.
 use Rattle.std.proofs.Common.{◌≡◌, ℕ, ◌<◌, Bool, true, false, ◌&&◌, ◌||◌, ◌==◌, if◌then◌else◌, List, ◌++◌, length, set, slice_index, refl}
-use Rattle.std.proofs.Common.{sym, ap, ◌∙◌, subst, arith, length-set}
-use Rattle.std.proofs.lemmas.Bool.Decides.{nat_tests}
-use Rattle.std.proofs.lemmas.List.{get_or_append_left}
-use Rattle.query_lang.specs.declared.fold.Op.{Op}
-use Rattle.query_lang.specs.Words.{holds, op_value}
-use Rattle.query_lang.specs.Terms.{Term, Literal, Read, Negation, Operation}
-use Rattle.query_lang.specs.Blocks.{Block, End, Set, Fork}
-use Rattle.query_lang.specs.Folds.{term_value, after, IsValidBlock}
-use Rattle.fold_class.specs.declared.class.Algebra.{Algebra}
-use Rattle.fold_code.proofs.BlockLemmas.{length-after, known_value, idle}
+use Rattle.std.proofs.{Common.{sym, ap, ◌∙◌, subst, arith, length-set}, lemmas.{Bool.Decides.nat_tests, List.get_or_append_left}}
+use Rattle.query_lang.specs.{declared.fold.Op.Op, Words.{holds, op_value}, Terms.{Term, Literal, Read, Negation, Operation}}
+use Rattle.query_lang.specs.{Blocks.{Block, End, Set, Fork}, Folds.{term_value, after, IsValidBlock}}
+use Rattle.fold_class.specs.{declared.class.Algebra.Algebra, Translations.{moves_left, moves_right, is_move, keeps_moves, is_moving}}
 use Rattle.fold_class.proofs.TableLemmas.{and_true_left, and_true_right, set_index}
-use Rattle.fold_code.specs.Checks.{names_known}
-use Rattle.fold_class.specs.Translations.{moves_left, moves_right, is_move, keeps_moves, is_moving}
+use Rattle.fold_code.{proofs.BlockLemmas.{length-after, known_value, idle}, specs.Checks.names_known}
 
 and_false : (b : Bool) → (b && false) ≡ false
 and_false true = refl

@@ -1,13 +1,10 @@
 -- What rows of shares give at the words of the linear variables.
 use Rattle.std.proofs.Common.{◌≡◌, ◌≢◌, ℕ, ◌<◌, ◌≤◌, Bool, true, false, ◌==◌, nat_lt, if◌then◌else◌, refl, sym, ap, ◌∙◌, subst, arith}
 use Rattle.std.proofs.lemmas.Bool.Decides.{nat_tests}
-use Rattle.query_lang.specs.declared.fold.Op.{Op}
-use Rattle.query_lang.specs.Words.{IsWord, op_value}
-use Rattle.coeff_algebra.specs.Elements.{Elements, ElementLaws, IsWordOf}
-use Rattle.coeff_algebra.specs.Maps.{sum_below, HasWord}
+use Rattle.query_lang.specs.{declared.fold.Op.Op, Words.{IsWord, op_value}}
+use Rattle.coeff_algebra.specs.{Elements.{Elements, ElementLaws, IsWordOf}, Maps.{sum_below, HasWord}}
 use Rattle.coeff_algebra.proofs.MapLemmas.{sum_same, sum_nothing, sum_add, mul_sum, exchange, word_add, sum_word}
-use Rattle.fold_class.specs.declared.class.Algebra.{Algebra}
-use Rattle.fold_class.specs.Kinds.{Role, Sum, Difference, Product, Outside, role}
+use Rattle.fold_class.specs.{declared.class.Algebra.Algebra, Kinds.{Role, Sum, Difference, Product, Outside, role}}
 use Rattle.fold_class.specs.Parts.{Part, Fixed, Share, Lost, minus_one, part_operation, row_shares, row_value, StandsFor, IsAlgebraOf}
 
 module _ {C : Type 0} {is_element : C → Type 0} {k : Elements C} (laws : ElementLaws is_element k) (n : ℕ) (x : ℕ → ℕ) where

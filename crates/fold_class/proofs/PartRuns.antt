@@ -1,18 +1,12 @@
 -- A run over rows of shares represents the run over words.
 use Rattle.std.proofs.Common.{◌≡◌, ◌≢◌, ℕ, ◌+◌, ◌<◌, Bool, true, false, not, ◌==◌, if◌then◌else◌, List, ◌++◌, length, set, slice_index}
 use Rattle.std.proofs.Common.{refl, sym, ap, ◌∙◌, subst, arith, length-set, length-append, get_or-set_same, get_or-set_other}
-use Rattle.std.proofs.lemmas.Bool.Decides.{nat_tests}
-use Rattle.std.proofs.lemmas.List.{set-get_or, set-append_left}
-use Rattle.query_lang.specs.Terms.{Term, Literal, Read, Negation, Operation}
-use Rattle.query_lang.specs.Words.{IsWord, flag, holds}
-use Rattle.query_lang.specs.Blocks.{Block, End, Set, Fork}
-use Rattle.query_lang.specs.Folds.{term_value, after, IsValidTerm, IsValidBlock}
-use Rattle.query_lang.proofs.WordLemmas.{flag_word, op_word}
-use Rattle.fold_code.specs.Machine.{Domain, at}
-use Rattle.fold_code.specs.Tree.{term_in, after_in}
+use Rattle.std.proofs.lemmas.{Bool.Decides.nat_tests, List.{set-get_or, set-append_left}}
+use Rattle.query_lang.specs.{Terms.{Term, Literal, Read, Negation, Operation}, Words.{IsWord, flag, holds}, Blocks.{Block, End, Set, Fork}}
+use Rattle.query_lang.{specs.Folds.{term_value, after, IsValidTerm, IsValidBlock}, proofs.WordLemmas.{flag_word, op_word}}
+use Rattle.fold_code.specs.{Machine.{Domain, at}, Tree.{term_in, after_in}}
 use Rattle.coeff_algebra.specs.Elements.{Elements, ElementLaws}
-use Rattle.fold_class.specs.declared.class.Algebra.{Algebra}
-use Rattle.fold_class.specs.Kinds.{role}
+use Rattle.fold_class.specs.{declared.class.Algebra.Algebra, Kinds.role}
 use Rattle.fold_class.specs.Parts.{Part, Fixed, Share, Lost, parts, part_mask, part_negation, row_shares, StandsFor, IsAlgebraOf}
 use Rattle.fold_class.proofs.PartLemmas.{operation_stands}
 

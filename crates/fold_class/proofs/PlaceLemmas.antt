@@ -1,11 +1,9 @@
 -- The places of the variables that pass a test, in the order of declaration.
 use Rattle.std.proofs.Common.{◌≡◌, ℕ, zero, suc, ◌+◌, ◌<◌, ◌≤◌, Bool, true, false, not, nat_lt, if◌then◌else◌, List, [], ◌∷◌, ◌++◌, map}
-use Rattle.std.proofs.Common.{length, slice_index, refl, sym, ap, ◌∙◌, subst, arith, length-append}
-use Rattle.std.proofs.lemmas.Bool.Decides.{nat_tests}
+use Rattle.std.proofs.{Common.{length, slice_index, refl, sym, ap, ◌∙◌, subst, arith, length-append}, lemmas.Bool.Decides.nat_tests}
 use Rattle.std.proofs.lemmas.List.{get_or_append_left, get_or_push}
 use Rattle.query_lang.specs.declared.fold.TypedFold.{TypedFold}
-use Rattle.fold_class.specs.Depth.{is_history}
-use Rattle.fold_class.specs.Step.{rank, places}
+use Rattle.fold_class.specs.{Depth.is_history, Step.{rank, places}}
 
 pub map_at : (g : ℕ → ℕ) (xs : List ℕ) (i : ℕ) → i < length xs → slice_index (map g xs) i ≡ g (slice_index xs i)
 map_at g [] i h = absurd (omega arith)

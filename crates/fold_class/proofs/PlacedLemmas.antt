@@ -1,14 +1,10 @@
 -- The places of the history variables are those of the history variables.
 use Rattle.std.proofs.Common.{◌≡◌, ℕ, zero, suc, Bool, true, false, ◌&&◌, ◌||◌, ◌==◌, nat_lt, if◌then◌else◌, List, [], ◌∷◌, ◌++◌, refl, sym}
-use Rattle.std.proofs.Common.{ap, ◌∙◌, arith}
-use Rattle.std.proofs.lemmas.Bool.Decides.{nat_tests}
+use Rattle.std.proofs.{Common.{ap, ◌∙◌, arith}, lemmas.Bool.Decides.nat_tests}
 use mathlib.Core.Path.{fun_ext}
-use Rattle.query_lang.specs.declared.fold.TypedFold.{TypedFold}
-use Rattle.query_lang.specs.Folds.{fold_states}
-use Rattle.fold_class.specs.Depth.{is_history}
-use Rattle.fold_class.specs.Step.{places, history_places}
+use Rattle.query_lang.specs.{declared.fold.TypedFold.TypedFold, Folds.fold_states}
+use Rattle.fold_class.specs.{Depth.is_history, Step.{places, history_places}, Translations.is_remembered}
 use Rattle.fold_code.specs.Checks.{is_in}
-use Rattle.fold_class.specs.Translations.{is_remembered}
 
 or_false : (b : Bool) → (b || false) ≡ b
 or_false true = refl

@@ -1,31 +1,18 @@
 -- The rows that are made of a fold's code and the places of its variables are the fold's rows.
 use Rattle.std.proofs.Common.{◌≡◌, ℕ, zero, suc, ◌+◌, ◌*◌, ◌<◌, ◌≤◌, Bool, true, false, not, ◌||◌, if◌then◌else◌, List, [], ◌∷◌, length}
-use Rattle.std.proofs.Common.{get_or, slice_index, All, refl, sym, ap, ◌∙◌, subst, arith}
-use Rattle.std.proofs.Math.Nat.{mul-le-mul_left, mul-le-mul_right}
-use Rattle.query_lang.specs.declared.fold.TypedFold.{TypedFold}
-use Rattle.query_lang.specs.declared.typed.Class.{Class}
-use Rattle.query_lang.specs.declared.typed.Class.TheVariants.{Linear}
+use Rattle.std.proofs.{Common.{get_or, slice_index, All, refl, sym, ap, ◌∙◌, subst, arith}, Math.Nat.{mul-le-mul_left, mul-le-mul_right}}
+use Rattle.query_lang.specs.declared.{fold.TypedFold.TypedFold, typed.Class.{Class, TheVariants.Linear}}
 use Rattle.query_lang.specs.Folds.{fold_states, fold_block, IsValidFold}
-use Rattle.fold_code.specs.Code.{fold_instrs}
-use Rattle.fold_code.specs.Machine.{steps_of}
-use Rattle.fold_code.specs.Meaning.{IsCodeOf}
-use Rattle.fold_code.proofs.FitLemmas.{length-block_code}
+use Rattle.fold_code.{specs.{Code.fold_instrs, Machine.steps_of, Meaning.IsCodeOf}, proofs.FitLemmas.length-block_code}
 use Rattle.fold_code.proofs.Meanings.{fold_size}
-use Rattle.coeff_algebra.specs.WrappingModel.{wrapping_words, wrapping_from_words}
-use Rattle.coeff_algebra.specs.WrappingLaws.{wrapping_storage}
-use Rattle.coeff_algebra.specs.MaxPlusModel.{max_plus_words, max_plus_from_words}
-use Rattle.coeff_algebra.specs.MaxPlusLaws.{max_plus_storage}
-use Rattle.fold_class.specs.declared.class.Algebra.{Algebra}
-use Rattle.fold_class.specs.declared.class.Algebra.TheVariants.{Sums, Maxima}
-use Rattle.fold_class.specs.Depth.{is_history}
-use Rattle.fold_class.specs.Kinds.{is_linear_by, class_of, algebra_of}
-use Rattle.fold_class.specs.Step.{places, linear_places, history_places}
+use Rattle.coeff_algebra.specs.{WrappingModel.{wrapping_words, wrapping_from_words}, WrappingLaws.wrapping_storage}
+use Rattle.coeff_algebra.specs.{MaxPlusModel.{max_plus_words, max_plus_from_words}, MaxPlusLaws.max_plus_storage}
+use Rattle.fold_class.specs.{declared.class.Algebra.{Algebra, TheVariants.{Sums, Maxima}}, Depth.is_history}
+use Rattle.fold_class.specs.{Kinds.{is_linear_by, class_of, algebra_of}, Step.{places, linear_places, history_places}}
 use Rattle.fold_class.specs.Rows.{Rows, Remembered, Carried, rows_steps, element_size, leaves_in, IsWithin, AreSoundRows}
-use Rattle.fold_class.specs.Program.{origin_of, origins_of, WritesAlgebra, IsRowsOf}
-use Rattle.fold_class.proofs.StepLemmas.{length-list_of, list_of_at}
+use Rattle.fold_class.{specs.Program.{origin_of, origins_of, WritesAlgebra, IsRowsOf}, proofs.StepLemmas.{length-list_of, list_of_at}}
 use Rattle.fold_class.proofs.AlgebraLaws.{sums_laws, maxima_laws, sums_are, maxima_are}
-use Rattle.fold_class.proofs.PlaceLemmas.{places_less, places_most, placed, both_sorts}
-use Rattle.fold_class.proofs.RowsOf.{step_from}
+use Rattle.fold_class.proofs.{PlaceLemmas.{places_less, places_most, placed, both_sorts}, RowsOf.step_from}
 
 default_free : (xs : List ℕ) (i d : ℕ) → i < length xs → get_or xs i d ≡ slice_index xs i
 default_free [] i d h = absurd (omega arith)

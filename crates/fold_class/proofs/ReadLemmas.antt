@@ -1,20 +1,14 @@
 -- The walk where only reads count gives what each variable reads.
 use Rattle.std.proofs.Common.{◌≡◌, ℕ, zero, suc, ◌<◌, ◌≤◌, Bool, true, false, ◌&&◌, ◌||◌, ◌==◌, nat_lt, if◌then◌else◌, List, [], ◌∷◌, set}
-use Rattle.std.proofs.Common.{length, refl, sym, ap, ◌∙◌, arith}
-use Rattle.std.proofs.lemmas.Bool.Decides.{nat_tests}
+use Rattle.std.proofs.{Common.{length, refl, sym, ap, ◌∙◌, arith}, lemmas.Bool.Decides.nat_tests}
 use mathlib.Core.Path.{fun_ext}
-use Rattle.query_lang.specs.Terms.{Term, Literal, Read, Negation, Operation}
-use Rattle.query_lang.specs.declared.fold.TypedFold.{TypedFold}
-use Rattle.query_lang.specs.Blocks.{Block, End, Set, Fork}
-use Rattle.query_lang.specs.Folds.{IsValidBlock, fold_states, fold_block}
-use Rattle.fold_class.specs.declared.class.Kind.{Kind}
-use Rattle.fold_class.specs.declared.class.Kind.TheVariants.{Pure}
-use Rattle.fold_class.specs.Tables.{update}
+use Rattle.query_lang.specs.{Terms.{Term, Literal, Read, Negation, Operation}, declared.fold.TypedFold.TypedFold}
+use Rattle.query_lang.specs.{Blocks.{Block, End, Set, Fork}, Folds.{IsValidBlock, fold_states, fold_block}}
+use Rattle.fold_class.specs.{declared.class.Kind.{Kind, TheVariants.Pure}, Tables.update}
 use Rattle.fold_class.specs.Depth.{assigns, expr_reads, reads_after, reads_first, fold_reads}
 use Rattle.fold_class.specs.Kinds.{greater, outside_kind, expr_kind, marked, chosen_kinds, kinds_after}
 use Rattle.fold_class.specs.Walk.{outside, kinds_in, AssignsBelow, is_other, other_where}
-use Rattle.fold_class.proofs.TableLemmas.{or_false_left, or_false_right}
-use Rattle.fold_class.proofs.WalkLemmas.{set_kind}
+use Rattle.fold_class.proofs.{TableLemmas.{or_false_left, or_false_right}, WalkLemmas.set_kind}
 
 outside_or : (a b : Bool) → outside_kind (other_where a) (other_where b) ≡ other_where (a || b)
 outside_or true b = refl

@@ -1,16 +1,11 @@
 -- Parts stored in words, with one more variable, and entries of a map, with one more row.
 use Rattle.std.proofs.Common.{◌≡◌, ◌≢◌, ℕ, ◌+◌, ◌*◌, ◌<◌, ◌≤◌, Bool, true, false, nat_lt, List, [], ◌∷◌, ◌++◌, map, length, get_or, drop}
-use Rattle.std.proofs.Common.{slice_index, All, refl, sym, ap, ◌∙◌, subst, arith, append_assoc}
-use Rattle.std.proofs.lemmas.Bool.Decides.{nat_tests}
+use Rattle.std.proofs.{Common.{slice_index, All, refl, sym, ap, ◌∙◌, subst, arith, append_assoc}, lemmas.Bool.Decides.nat_tests}
 use Rattle.std.proofs.lemmas.List.{drop_more}
-use Rattle.coeff_algebra.proofs.PlaceLemmas.{one_less}
+use Rattle.coeff_algebra.{proofs.PlaceLemmas.one_less, specs.{Elements.Elements, Maps.stored_entry}}
 use Rattle.fold_code.specs.Machine.{at}
-use Rattle.coeff_algebra.specs.Elements.{Elements}
-use Rattle.coeff_algebra.specs.Maps.{stored_entry}
-use Rattle.fold_class.specs.Parts.{Part, Fixed, parts, column_shares}
-use Rattle.fold_class.specs.Step.{list_of, share_of}
-use Rattle.fold_class.specs.Rows.{Rows, rows_dimension, column_after, entry_of, fixed_word}
-use Rattle.fold_class.proofs.StepLemmas.{list_of_at}
+use Rattle.fold_class.specs.{Parts.{Part, Fixed, parts, column_shares}, Step.{list_of, share_of}}
+use Rattle.fold_class.{specs.Rows.{Rows, rows_dimension, column_after, entry_of, fixed_word}, proofs.StepLemmas.list_of_at}
 use Rattle.fold_class.proofs.StoredLemmas.{list_more}
 
 -- one more variable has its part

@@ -1,27 +1,18 @@
 -- The rows of a fold compute one step of it.
 use Rattle.std.proofs.Common.{◌≡◌, ℕ, zero, suc, ◌<◌, ◌≤◌, Bool, true, false, not, ◌==◌, nat_lt, if◌then◌else◌, List, [], ◌∷◌, ◌++◌, map}
-use Rattle.std.proofs.Common.{length, get_or, slice_index, refl, sym, ap, ◌∙◌, subst, arith}
-use Rattle.std.proofs.lemmas.Bool.Decides.{nat_tests}
+use Rattle.std.proofs.{Common.{length, get_or, slice_index, refl, sym, ap, ◌∙◌, subst, arith}, lemmas.Bool.Decides.nat_tests}
 use Rattle.std.proofs.lemmas.List.{map-append, get_or_past, ext_get_or}
-use Rattle.query_lang.specs.declared.fold.TypedFold.{TypedFold}
-use Rattle.query_lang.specs.Words.{IsWord, AreWords}
+use Rattle.query_lang.specs.{declared.fold.TypedFold.TypedFold, Words.{IsWord, AreWords}}
 use Rattle.query_lang.specs.Folds.{body, fold_states, fold_args, fold_block, IsValidFold}
-use Rattle.fold_code.specs.Code.{fold_instrs}
-use Rattle.fold_code.specs.Machine.{at, run_code}
-use Rattle.fold_code.proofs.Runs.{code_runs}
-use Rattle.coeff_algebra.specs.Elements.{Elements, ElementLaws, IsWordOf}
-use Rattle.coeff_algebra.specs.Maps.{sum_below, map_apply, table_of, stored_entry, HasWord}
+use Rattle.fold_code.{specs.{Code.fold_instrs, Machine.{at, run_code}}, proofs.Runs.code_runs}
+use Rattle.coeff_algebra.specs.{Elements.{Elements, ElementLaws, IsWordOf}, Maps.{sum_below, map_apply, table_of, stored_entry, HasWord}}
 use Rattle.coeff_algebra.proofs.MapLemmas.{sum_same}
-use Rattle.fold_class.specs.declared.class.Algebra.{Algebra}
-use Rattle.fold_class.specs.Depth.{is_history}
-use Rattle.fold_class.specs.Kinds.{is_linear_by}
-use Rattle.fold_class.specs.Parts.{Part, Fixed, Share, Lost, parts, row_shares, column_shares, IsAlgebraOf}
-use Rattle.fold_class.specs.Step.{list_of, rank, dimension, places, linear_places, history_places, words_at, step_rows, first_column}
-use Rattle.fold_class.specs.Step.{step_column, share_of}
-use Rattle.fold_class.specs.StepMap.{Fitting, IsStepOf}
+use Rattle.fold_class.specs.{declared.class.Algebra.Algebra, Depth.is_history, Kinds.is_linear_by}
+use Rattle.fold_class.specs.{Parts.{Part, Fixed, Share, Lost, parts, row_shares, column_shares, IsAlgebraOf}, Step.{list_of, rank}}
+use Rattle.fold_class.specs.Step.{dimension, places, linear_places, history_places, words_at, step_rows, first_column, step_column}
+use Rattle.fold_class.specs.{Step.share_of, StepMap.{Fitting, IsStepOf}}
 use Rattle.fold_class.specs.Rows.{Rows, Remembered, Carried, rows_dimension, first_part, column_after, entry_of, fixed_word, Leaves}
-use Rattle.fold_class.specs.Program.{IsStateWith, IsStepFrom, origin_of, origins_of}
-use Rattle.fold_class.proofs.StepLemmas.{length-list_of, is_step}
+use Rattle.fold_class.{specs.Program.{IsStateWith, IsStepFrom, origin_of, origins_of}, proofs.StepLemmas.{length-list_of, is_step}}
 use Rattle.fold_class.proofs.Columns.{column_of, get_or-map, step_column_is}
 use Rattle.fold_class.proofs.PlaceLemmas.{map_at, length-map, place_at, places_less, placed, rank_size}
 

@@ -1,31 +1,18 @@
 -- The rows of a step represent the state after the body.
 use Rattle.std.proofs.Common.{◌≡◌, ◌≢◌, ℕ, zero, suc, ◌+◌, ◌-◌, ◌<◌, ◌≤◌, Bool, true, false, ◌==◌, nat_lt, if◌then◌else◌, List, [], ◌∷◌}
 use Rattle.std.proofs.Common.{◌++◌, map, length, get_or, slice_index, refl, sym, ap, ◌∙◌, subst, arith, length-append}
-use Rattle.std.proofs.lemmas.Bool.Decides.{nat_tests}
-use Rattle.std.proofs.lemmas.List.{get_or_append_left, get_or-append_right, get_or_push}
-use Rattle.query_lang.specs.declared.fold.TypedFold.{TypedFold}
-use Rattle.query_lang.specs.declared.fold.Op.TheVariants.{Add}
-use Rattle.query_lang.specs.Words.{IsWord}
+use Rattle.std.proofs.lemmas.{Bool.Decides.nat_tests, List.{get_or_append_left, get_or-append_right, get_or_push}}
+use Rattle.query_lang.specs.{declared.fold.{TypedFold.TypedFold, Op.TheVariants.Add}, Words.IsWord}
 use Rattle.query_lang.specs.Folds.{body, fold_states, fold_args, fold_block}
-use Rattle.fold_code.specs.Machine.{Domain, at}
-use Rattle.fold_code.proofs.Runs.{length-after}
-use Rattle.coeff_algebra.specs.Elements.{Elements, ElementLaws, IsWordOf}
-use Rattle.coeff_algebra.specs.Maps.{sum_below, HasWord}
+use Rattle.fold_code.{specs.Machine.{Domain, at}, proofs.Runs.length-after}
+use Rattle.coeff_algebra.specs.{Elements.{Elements, ElementLaws, IsWordOf}, Maps.{sum_below, HasWord}}
 use Rattle.coeff_algebra.proofs.MapLemmas.{sum_same, sum_nothing}
-use Rattle.fold_class.specs.declared.class.Algebra.{Algebra}
-use Rattle.fold_class.specs.declared.class.Kind.{Kind}
-use Rattle.fold_class.specs.declared.class.Kind.TheVariants.{Pure, Affine}
-use Rattle.fold_class.specs.Depth.{is_history}
+use Rattle.fold_class.specs.{declared.class.{Algebra.Algebra, Kind.{Kind, TheVariants.{Pure, Affine}}}, Depth.is_history}
 use Rattle.fold_class.specs.Kinds.{kinds_first, fold_kinds, is_no_other, is_linear_by}
-use Rattle.fold_class.specs.Parts.{Part, Fixed, Share, Lost, parts, row_shares, row_value, StandsFor, IsAlgebraOf}
-use Rattle.fold_class.specs.Fitting.{Allows}
-use Rattle.fold_class.specs.Step.{list_of, rank, dimension, first_row, step_rows, share_of}
-use Rattle.fold_class.specs.StepMap.{Fitting, IsStepOf}
-use Rattle.fold_class.proofs.TableLemmas.{below_at}
-use Rattle.fold_class.proofs.PartLemmas.{lift_stands, lift_has}
-use Rattle.fold_class.proofs.PartRuns.{AllStand, live_stands}
-use Rattle.fold_class.proofs.KindLemmas.{AllAllowed, live_allowed}
-use Rattle.fold_class.proofs.HistoryKinds.{history_pure}
+use Rattle.fold_class.specs.{Parts.{Part, Fixed, Share, Lost, parts, row_shares, row_value, StandsFor, IsAlgebraOf}, Fitting.Allows}
+use Rattle.fold_class.specs.{Step.{list_of, rank, dimension, first_row, step_rows, share_of}, StepMap.{Fitting, IsStepOf}}
+use Rattle.fold_class.proofs.{TableLemmas.below_at, PartLemmas.{lift_stands, lift_has}, PartRuns.{AllStand, live_stands}}
+use Rattle.fold_class.proofs.{KindLemmas.{AllAllowed, live_allowed}, HistoryKinds.history_pure}
 
 pub length-list_of : {A : Type 0} (n : ℕ) (f : ℕ → A) → length (list_of n f) ≡ n
 length-list_of zero f = refl

@@ -1,19 +1,11 @@
 -- One step, and rows, of a translation.
 use Rattle.std.proofs.Common.{◌≡◌, ℕ, ◌+◌, ◌%◌, ◌^◌, ◌<◌, max, true, false, ◌&&◌, nat_lt, List, [], ◌∷◌, length, slice_index, sym, ap, ◌∙◌}
-use Rattle.std.proofs.Common.{arith}
-use Rattle.std.proofs.lemmas.Bool.Decides.{nat_tests}
-use Rattle.query_lang.specs.declared.fold.Op.{Op}
-use Rattle.query_lang.specs.declared.fold.Op.TheVariants.{Add, Sub, Max}
-use Rattle.query_lang.specs.Words.{IsWord, AreWords, op_value}
-use Rattle.query_lang.specs.declared.fold.TypedFold.{TypedFold}
+use Rattle.std.proofs.{Common.arith, lemmas.Bool.Decides.nat_tests}
+use Rattle.query_lang.specs.{declared.fold.{Op.{Op, TheVariants.{Add, Sub, Max}}, TypedFold.TypedFold}, Words.{IsWord, AreWords, op_value}}
 use Rattle.query_lang.specs.Folds.{body, folded, fold_states, fold_args, fold_block, IsValidFold}
-use Rattle.fold_class.specs.declared.class.Algebra.{Algebra}
-use Rattle.fold_class.specs.declared.class.Algebra.TheVariants.{Sums, Maxima}
-use Rattle.fold_class.specs.Depth.{is_history}
-use Rattle.fold_class.proofs.History.{length-after, rows_agree_within, within_more}
-use Rattle.fold_class.specs.Translations.{translated, moves_left, moves_right, is_remembered, SameHistory, AreAlikeStates, AreMoved}
-use Rattle.fold_class.specs.Translations.{HasZeros}
-use Rattle.fold_class.proofs.Moves.{Related, block_keeps}
+use Rattle.fold_class.specs.{declared.class.Algebra.{Algebra, TheVariants.{Sums, Maxima}}, Depth.is_history, Translations.translated}
+use Rattle.fold_class.specs.Translations.{moves_left, moves_right, is_remembered, SameHistory, AreAlikeStates, AreMoved, HasZeros}
+use Rattle.fold_class.proofs.{History.{length-after, rows_agree_within, within_more}, Moves.{Related, block_keeps}}
 
 remembered : (f : TypedFold) (v : ℕ) → v < fold_states f → is_remembered f v ≡ is_history f v
 remembered f v lt = let t : nat_lt v (fold_states f) ≡ true = grind (arith, nat_tests) in ap (λ b. b && is_history f v) t

@@ -1,20 +1,11 @@
 -- What the walk over a table of kinds leaves.
 use Rattle.std.proofs.Common.{◌≡◌, ◌≢◌, ℕ, ◌<◌, ◌≤◌, Bool, true, false, ◌==◌, if◌then◌else◌, List, length, get_or, set, drop, refl, sym, ap}
-use Rattle.std.proofs.Common.{◌∙◌, subst, arith, get_or-set_same, get_or-set_other}
-use Rattle.std.proofs.lemmas.Bool.Decides.{nat_tests}
-use Rattle.std.proofs.lemmas.List.{drop_all}
+use Rattle.std.proofs.{Common.{◌∙◌, subst, arith, get_or-set_same, get_or-set_other}, lemmas.{Bool.Decides.nat_tests, List.drop_all}}
 use mathlib.Core.Path.{fun_ext}
-use Rattle.query_lang.specs.declared.fold.Op.{Op}
-use Rattle.query_lang.specs.declared.fold.TypedExpr.{TypedExpr}
-use Rattle.query_lang.specs.declared.fold.TypedStmt.{TypedStmt, If}
-use Rattle.query_lang.specs.Terms.{term_of}
-use Rattle.query_lang.specs.Blocks.{stmt_block, block_of}
-use Rattle.query_lang.proofs.TreeLemmas.{block_if}
-use Rattle.fold_class.specs.declared.class.Kind.{Kind}
-use Rattle.fold_class.specs.declared.class.Kind.TheVariants.{Pure}
-use Rattle.fold_class.specs.Tables.{update}
-use Rattle.fold_class.specs.Kinds.{Role, greater, expr_kind, marked, chosen_kinds, kinds_after}
-use Rattle.fold_class.specs.Walk.{kinds_in}
+use Rattle.query_lang.specs.{declared.fold.{Op.Op, TypedExpr.TypedExpr, TypedStmt.{TypedStmt, If}}, Terms.term_of}
+use Rattle.query_lang.{specs.Blocks.{stmt_block, block_of}, proofs.TreeLemmas.block_if}
+use Rattle.fold_class.specs.{declared.class.Kind.{Kind, TheVariants.Pure}, Tables.update}
+use Rattle.fold_class.specs.{Kinds.{Role, greater, expr_kind, marked, chosen_kinds, kinds_after}, Walk.kinds_in}
 
 -- a table with one entry changed
 pub set_kind : (kinds : List Kind) (v : ℕ) (k : Kind) → v < length kinds → kinds_in (set kinds v k) ≡ update (kinds_in kinds) v k

@@ -1,10 +1,7 @@
 -- What an entry of a fold's epoch represents.
 use Rattle.std.specs.Prelude.{◌≡◌, ℕ, ◌<◌, ◌≤◌, List, length, take, slice_index}
-use Rattle.query_lang.specs.declared.fold.TypedFold.{TypedFold}
-use Rattle.query_lang.specs.Words.{AreWords}
-use Rattle.query_lang.specs.Folds.{folded, fold_states, initial_state}
-use Rattle.coeff_algebra.specs.Elements.{Elements, IsWordOf}
-use Rattle.coeff_algebra.specs.Maps.{map_apply}
+use Rattle.query_lang.specs.{declared.fold.TypedFold.TypedFold, Words.AreWords, Folds.{folded, fold_states, initial_state}}
+use Rattle.coeff_algebra.specs.{Elements.{Elements, IsWordOf}, Maps.map_apply}
 use Rattle.fold_class.specs.Step.{dimension, linear_places, history_places, words_at}
 
 -- an entry of a linear fold, as a log, the history's words and a map by row and column

@@ -1,21 +1,13 @@
 -- The kinds of expressions and variables, and the class of a fold.
 use Rattle.std.specs.Prelude.{ℕ, Bool, true, false, ◌||◌, nat_lt, if◌then◌else◌}
-use Rattle.query_lang.specs.declared.fold.Op.{Op}
-use Rattle.query_lang.specs.declared.fold.Op.TheVariants.{Mul, Add, Sub, Max, Sadd}
-use Rattle.query_lang.specs.Terms.{Term, Literal, Read, Negation, Operation}
-use Rattle.query_lang.specs.declared.fold.TypedFold.{TypedFold}
-use Rattle.query_lang.specs.Blocks.{Block, End, Set, Fork}
-use Rattle.query_lang.specs.Folds.{fold_states, fold_block}
-use Rattle.query_lang.specs.declared.typed.Class.{Class}
+use Rattle.query_lang.specs.declared.fold.Op.{Op, TheVariants.{Mul, Add, Sub, Max, Sadd}}
+use Rattle.query_lang.specs.{Terms.{Term, Literal, Read, Negation, Operation}, declared.fold.TypedFold.TypedFold}
+use Rattle.query_lang.specs.{Blocks.{Block, End, Set, Fork}, Folds.{fold_states, fold_block}, declared.typed.Class.Class}
 use Rattle.query_lang.specs.declared.typed.Class.TheVariants.{Linear}
-use Rattle.fold_class.specs.declared.class.Algebra.{Algebra}
-use Rattle.fold_class.specs.declared.class.Algebra.TheVariants.{Sums, Maxima}
-use Rattle.fold_class.specs.declared.class.Kind.{Kind}
-use Rattle.fold_class.specs.declared.class.Kind.TheVariants.{Pure, Affine}
+use Rattle.fold_class.specs.declared.class.{Algebra.{Algebra, TheVariants.{Sums, Maxima}}, Kind.{Kind, TheVariants.{Pure, Affine}}}
 pub use Rattle.fold_class.specs.declared.class.Role.{Role}
 pub use Rattle.fold_class.specs.declared.class.Role.TheVariants.{Sum, Difference, Product, Outside}
-use Rattle.fold_class.specs.Tables.{update, all_below}
-use Rattle.fold_class.specs.Depth.{is_history}
+use Rattle.fold_class.specs.{Tables.{update, all_below}, Depth.is_history}
 
 -- the role of an operator in an algebra
 abbrev pub role : Algebra → Op → Role

@@ -1,14 +1,11 @@
 -- A run of a fold's code over parts: what a value is, as far as one column of the step's map shows it.
 use Rattle.std.specs.Prelude.{◌≡◌, ℕ, ◌-◌, ◌^◌, Bool, true, false, not, ◌==◌, if◌then◌else◌}
-use Rattle.query_lang.specs.declared.fold.Op.{Op}
-use Rattle.query_lang.specs.Words.{IsWord, flag, holds, op_value}
+use Rattle.query_lang.specs.{declared.fold.Op.Op, Words.{IsWord, flag, holds, op_value}}
 use Rattle.fold_code.specs.Machine.{Domain}
-use Rattle.coeff_algebra.specs.Elements.{Elements, IsWordOf}
-use Rattle.coeff_algebra.specs.Maps.{map_apply, HasWord}
+use Rattle.coeff_algebra.specs.{Elements.{Elements, IsWordOf}, Maps.{map_apply, HasWord}}
 pub use Rattle.fold_class.specs.declared.part.Part.{Part}
 pub use Rattle.fold_class.specs.declared.part.Part.TheVariants.{Fixed, Share, Lost}
-use Rattle.fold_class.specs.declared.class.Algebra.{Algebra}
-use Rattle.fold_class.specs.Kinds.{Role, Sum, Difference, Product, role}
+use Rattle.fold_class.specs.{declared.class.Algebra.Algebra, Kinds.{Role, Sum, Difference, Product, role}}
 
 -- how shares are made, added and multiplied by a word
 pub record Shares (A : Type 0) : Type 0 where

@@ -1,22 +1,13 @@
 -- What a fold's program is: its class, whether it is a translation, its depth, its code, and for a linear fold the affine map of one step.
 use Rattle.std.specs.Prelude.{◌≡◌, ℕ, ◌+◌, ◌*◌, ◌<◌, ◌≤◌, not, if◌then◌else◌, List, length, slice_index}
-use Rattle.query_lang.specs.declared.fold.TypedFold.{TypedFold}
-use Rattle.query_lang.specs.declared.typed.Class.TheVariants.{Linear}
-use Rattle.query_lang.specs.Words.{AreWords}
+use Rattle.query_lang.specs.{declared.{fold.TypedFold.TypedFold, typed.Class.TheVariants.Linear}, Words.AreWords}
 use Rattle.query_lang.specs.Folds.{body, fold_states, fold_args, initial_state, IsValidFold}
 use Rattle.fold_code.specs.Meaning.{IsCodeOf}
-use Rattle.coeff_algebra.specs.Elements.{Elements}
-use Rattle.coeff_algebra.specs.Maps.{map_apply, table_of, HasWord}
-use Rattle.coeff_algebra.specs.WrappingModel.{wrapping_from_words}
+use Rattle.coeff_algebra.specs.{Elements.Elements, Maps.{map_apply, table_of, HasWord}, WrappingModel.wrapping_from_words}
 use Rattle.coeff_algebra.specs.MaxPlusModel.{max_plus_from_words}
-use Rattle.fold_class.specs.declared.class.Algebra.{Algebra}
-use Rattle.fold_class.specs.declared.class.Algebra.TheVariants.{Sums, Maxima}
-use Rattle.fold_class.specs.declared.layout.Layout.{Layout}
-use Rattle.fold_class.specs.declared.program.FoldProgram.{FoldProgram}
-use Rattle.fold_class.specs.Depth.{is_history, IsDepth}
-use Rattle.fold_class.specs.Kinds.{class_of, algebra_of}
-use Rattle.fold_class.specs.Algebras.{sums, maxima}
-use Rattle.fold_class.specs.Translations.{is_translation}
+use Rattle.fold_class.specs.declared.{class.Algebra.{Algebra, TheVariants.{Sums, Maxima}}, layout.Layout.Layout}
+use Rattle.fold_class.specs.{declared.program.FoldProgram.FoldProgram, Depth.{is_history, IsDepth}, Kinds.{class_of, algebra_of}}
+use Rattle.fold_class.specs.{Algebras.{sums, maxima}, Translations.is_translation}
 use Rattle.fold_class.specs.Step.{dimension, places, linear_places, history_places, words_at, list_of}
 use Rattle.fold_class.specs.Rows.{Rows, Origin, Remembered, Carried, rows_steps, element_size, LeavesRows}
 

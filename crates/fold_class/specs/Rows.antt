@@ -1,20 +1,12 @@
 -- The rows of one step of a fold, as code computes them: one run for each column, over the parts of the variables.
-use Rattle.std.specs.Prelude.{◌≡◌, ℕ, ◌+◌, ◌*◌, ◌<◌, ◌≤◌, ◌==◌, if◌then◌else◌, List, [], map, length}
-use Rattle.std.specs.Prelude.{slice_index, All}
+use Rattle.std.specs.Prelude.{◌≡◌, ℕ, ◌+◌, ◌*◌, ◌<◌, ◌≤◌, ◌==◌, if◌then◌else◌, List, [], map, length, slice_index, All}
 use Rattle.query_lang.specs.declared.fault.TheConstants.{MAX_STATES}
-use Rattle.fold_code.specs.Machine.{run_code, at, steps_of}
-use Rattle.fold_code.specs.Meaning.{Code}
-use Rattle.coeff_algebra.specs.Elements.{Elements}
-use Rattle.coeff_algebra.specs.Maps.{stored_entry}
-use Rattle.coeff_algebra.specs.WrappingModel.{wrapping_words}
-use Rattle.coeff_algebra.specs.MaxPlusModel.{max_plus_words}
-use Rattle.fold_class.specs.declared.class.Algebra.{Algebra}
-use Rattle.fold_class.specs.declared.class.Algebra.TheVariants.{Sums, Maxima}
+use Rattle.fold_code.specs.{Machine.{run_code, at, steps_of}, Meaning.Code}
+use Rattle.coeff_algebra.specs.{Elements.Elements, Maps.stored_entry, WrappingModel.wrapping_words, MaxPlusModel.max_plus_words}
+use Rattle.fold_class.specs.declared.class.Algebra.{Algebra, TheVariants.{Sums, Maxima}}
 pub use Rattle.fold_class.specs.declared.origin.Origin.{Origin}
 pub use Rattle.fold_class.specs.declared.origin.Origin.TheVariants.{Remembered, Carried}
-use Rattle.fold_class.specs.Parts.{Part, Fixed, Share, parts, column_shares}
-use Rattle.fold_class.specs.Algebras.{sums, maxima}
-use Rattle.fold_class.specs.Step.{share_of}
+use Rattle.fold_class.specs.{Parts.{Part, Fixed, Share, parts, column_shares}, Algebras.{sums, maxima}, Step.share_of}
 
 -- the rows of a fold, as their contracts see them: the fold's code, where each variable's part comes from, and the places of the
 -- linear and of the history variables

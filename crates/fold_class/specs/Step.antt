@@ -1,12 +1,9 @@
 -- The affine map of one run of a fold's body on its linear variables.
-use Rattle.std.specs.Prelude.{ℕ, zero, suc, ◌+◌, Bool, not, ◌==◌, if◌then◌else◌, List, [], ◌∷◌, ◌++◌, map}
-use Rattle.std.specs.Prelude.{slice_index}
-use Rattle.query_lang.specs.declared.fold.TypedFold.{TypedFold}
-use Rattle.query_lang.specs.Folds.{fold_states, fold_block}
+use Rattle.std.specs.Prelude.{ℕ, zero, suc, ◌+◌, Bool, not, ◌==◌, if◌then◌else◌, List, [], ◌∷◌, ◌++◌, map, slice_index}
+use Rattle.query_lang.specs.{declared.fold.TypedFold.TypedFold, Folds.{fold_states, fold_block}}
 use Rattle.fold_code.specs.Tree.{after_in}
 use Rattle.coeff_algebra.specs.Elements.{Elements}
-use Rattle.fold_class.specs.declared.class.Algebra.{Algebra}
-use Rattle.fold_class.specs.Depth.{is_history}
+use Rattle.fold_class.specs.{declared.class.Algebra.Algebra, Depth.is_history}
 use Rattle.fold_class.specs.Parts.{Part, Fixed, Share, Lost, Shares, parts, row_shares, column_shares}
 
 -- the first n values of a table

@@ -1,14 +1,9 @@
 -- What the rows of a step promise.
 use Rattle.std.specs.Prelude.{◌≡◌, ℕ, ◌<◌, true, false, List, length, slice_index}
-use Rattle.query_lang.specs.declared.fold.TypedFold.{TypedFold}
-use Rattle.query_lang.specs.Words.{IsWord}
-use Rattle.query_lang.specs.Folds.{body, fold_states, fold_args, IsValidFold}
+use Rattle.query_lang.specs.{declared.fold.TypedFold.TypedFold, Words.IsWord, Folds.{body, fold_states, fold_args, IsValidFold}}
 use Rattle.fold_code.specs.Machine.{at}
-use Rattle.coeff_algebra.specs.Elements.{Elements}
-use Rattle.fold_class.specs.declared.class.Algebra.{Algebra}
-use Rattle.fold_class.specs.Depth.{is_history}
-use Rattle.coeff_algebra.specs.Maps.{HasWord}
-use Rattle.fold_class.specs.Parts.{Fixed, parts, row_shares, row_value}
+use Rattle.coeff_algebra.specs.{Elements.Elements, Maps.HasWord}
+use Rattle.fold_class.specs.{declared.class.Algebra.Algebra, Depth.is_history, Parts.{Fixed, parts, row_shares, row_value}}
 use Rattle.fold_class.specs.Step.{rank, dimension, step_rows, share_of}
 
 -- a state and a row of arguments that fit the fold, with x as the words of its linear variables

@@ -1,7 +1,6 @@
 -- How parts are stored in words: a mark, and then a word or an element.
 use Rattle.std.specs.Prelude.{ℕ, ◌<◌, ◌==◌, if◌then◌else◌, List, take, drop, slice_index}
-use Rattle.fold_code.specs.declared.instr.Instr.{Instr}
-use Rattle.fold_code.specs.declared.instr.Instr.TheVariants.{Keep}
+use Rattle.fold_code.specs.declared.instr.Instr.{Instr, TheVariants.Keep}
 use Rattle.coeff_algebra.specs.Maps.{element_at}
 use Rattle.fold_class.specs.Parts.{Part, Fixed, Share, Lost}
 

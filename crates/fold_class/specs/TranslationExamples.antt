@@ -1,11 +1,8 @@
 -- Folds that are translations, and folds that are not.
-use Rattle.std.specs.Prelude.{◌≡◌, ℕ, Bool, true, false, ◌==◌}
-use Rattle.std.proofs.Common.{refl}
-use Rattle.query_lang.specs.declared.fold.Op.TheVariants.{Add, Sub, Mul, Ne, Gt, Max}
-use Rattle.query_lang.specs.Terms.{Literal, Read, Operation}
+use Rattle.std.{specs.Prelude.{◌≡◌, ℕ, Bool, true, false, ◌==◌}, proofs.Common.refl}
+use Rattle.query_lang.specs.{declared.fold.Op.TheVariants.{Add, Sub, Mul, Ne, Gt, Max}, Terms.{Literal, Read, Operation}}
 use Rattle.query_lang.specs.Blocks.{Block, End, Set, Fork}
-use Rattle.fold_class.specs.declared.class.Algebra.TheVariants.{Sums, Maxima}
-use Rattle.fold_class.specs.Translations.{is_moving}
+use Rattle.fold_class.specs.{declared.class.Algebra.TheVariants.{Sums, Maxima}, Translations.is_moving}
 
 -- if (last != seq) { n = n + 1; } last = seq + len; where `last` is of the history
 abbrev first : ℕ → Bool

@@ -1,17 +1,10 @@
 -- Folds that move each linear variable by what the history and the arguments alone give.
-use Rattle.std.specs.Prelude.{◌≡◌, ℕ, ◌+◌, ◌%◌, ◌^◌, ◌<◌, max, Bool, true, false, ◌&&◌, ◌||◌}
-use Rattle.std.specs.Prelude.{◌==◌, nat_lt, if◌then◌else◌, List, length, slice_index}
-use Rattle.query_lang.specs.declared.fold.Op.{Op}
-use Rattle.query_lang.specs.declared.fold.Op.TheVariants.{Add, Sub, Max}
-use Rattle.query_lang.specs.Terms.{Term, Literal, Read, Negation, Operation}
-use Rattle.query_lang.specs.declared.fold.TypedFold.{TypedFold}
-use Rattle.query_lang.specs.Blocks.{Block}
-use Rattle.query_lang.specs.Folds.{fold_states, fold_block, IsValidFold}
+use Rattle.std.specs.Prelude.{◌≡◌, ℕ, ◌+◌, ◌%◌, ◌^◌, ◌<◌, max, Bool, true, false, ◌&&◌, ◌||◌, ◌==◌, nat_lt, if◌then◌else◌, List, length}
+use Rattle.std.specs.Prelude.{slice_index}
+use Rattle.query_lang.specs.{declared.fold.Op.{Op, TheVariants.{Add, Sub, Max}}, Terms.{Term, Literal, Read, Negation, Operation}}
+use Rattle.query_lang.specs.{declared.fold.TypedFold.TypedFold, Blocks.Block, Folds.{fold_states, fold_block, IsValidFold}}
 use Rattle.fold_code.specs.Checks.{names_known, all_pass}
-use Rattle.fold_class.specs.declared.class.Algebra.{Algebra}
-use Rattle.fold_class.specs.declared.class.Algebra.TheVariants.{Sums, Maxima}
-use Rattle.fold_class.specs.Depth.{is_history}
-use Rattle.fold_class.specs.Kinds.{algebra_of}
+use Rattle.fold_class.specs.{declared.class.Algebra.{Algebra, TheVariants.{Sums, Maxima}}, Depth.is_history, Kinds.algebra_of}
 
 -- a word moved by another: their sum modulo 2^64, or the greater
 abbrev pub translated : Algebra → ℕ → ℕ → ℕ

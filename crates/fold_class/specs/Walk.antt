@@ -1,10 +1,7 @@
 -- The walk over a fold's statements with a table of kinds, as code makes it.
 use Rattle.std.specs.Prelude.{ℕ, ◌<◌, Bool, true, false, if◌then◌else◌, List, slice_index_or}
-use Rattle.query_lang.specs.declared.fold.Op.{Op}
-use Rattle.query_lang.specs.Blocks.{Block, End, Set, Fork}
-use Rattle.fold_class.specs.declared.class.Kind.{Kind}
-use Rattle.fold_class.specs.declared.class.Kind.TheVariants.{Pure}
-use Rattle.fold_class.specs.Kinds.{Role, Outside}
+use Rattle.query_lang.specs.{declared.fold.Op.Op, Blocks.{Block, End, Set, Fork}}
+use Rattle.fold_class.specs.{declared.class.Kind.{Kind, TheVariants.Pure}, Kinds.{Role, Outside}}
 
 -- the kinds of the slots: those of a list, and Pure past its end
 abbrev pub kinds_in : List Kind → ℕ → Kind

@@ -3,9 +3,7 @@
 ghost use Rattle.std.specs.Prelude.{◌≡◌, ℕ, ◌<◌, length, IfOk};
 ghost use Rattle.query_lang.specs.Folds.{IsValidFold, fold_states};
 ghost use Rattle.fold_code.specs.Meaning.{IsCodeOf};
-ghost use Rattle.fold_class.specs.Depth.{is_history};
-ghost use Rattle.fold_class.specs.Kinds.{is_linear_by, class_of, algebra_of};
-ghost use Rattle.fold_class.specs.Walk.{flag_in};
+ghost use Rattle.fold_class.specs.{Depth.is_history, Kinds.{is_linear_by, class_of, algebra_of}, Walk.flag_in};
 ghost use Rattle.fold_class.specs.Program.{IsRowsOf, IsLayoutOf, IsProgramOf};
 
 use crate::class::Algebra;

@@ -2,8 +2,7 @@
 
 ghost use Rattle.std.specs.Prelude.{◌≡◌, ℕ, ◌<◌, ◌≤◌, Bool, true, false, not, ◌&&◌, ◌||◌, length, slice_get};
 ghost use Rattle.query_lang.specs.Folds.{IsValidFold, fold_states};
-ghost use Rattle.fold_class.specs.Tables.{all_below};
-ghost use Rattle.fold_class.specs.Depth.{fold_reads, is_within, is_history, IsDepth};
+ghost use Rattle.fold_class.specs.{Tables.all_below, Depth.{fold_reads, is_within, is_history, IsDepth}};
 ghost use Rattle.fold_class.specs.Walk.{kinds_in, is_other, flag_in};
 
 use crate::class::Kind;

@@ -3,9 +3,7 @@
 ghost use Rattle.std.specs.Prelude.{◌≡◌, ℕ, ◌≤◌, nat_lt, if◌then◌else◌, length};
 ghost use Rattle.query_lang.specs.Folds.{IsValidFold};
 ghost use Rattle.fold_class.specs.Kinds as Kinds;
-ghost use Rattle.fold_class.specs.Kinds.{is_no_other};
-ghost use Rattle.fold_class.specs.Tables.{all_below};
-ghost use Rattle.fold_class.specs.Walk.{kinds_in, flag_in};
+ghost use Rattle.fold_class.specs.{Kinds.is_no_other, Tables.all_below, Walk.{kinds_in, flag_in}};
 
 use crate::class::Kind;
 use crate::operators::Operators;

@@ -1,15 +1,10 @@
 //! Laws of depth and class, and of translations.
 
-ghost use Rattle.std.specs.Prelude.{◌≡◌, ◌≤◌, ◌<◌, ◌↔◌, ℕ, ◌+◌, ◌%◌, ◌^◌, max, true, false, List};
-ghost use Rattle.std.specs.Prelude.{length, slice_index};
-ghost use Rattle.query_lang.specs.Words.{AreWords};
-ghost use Rattle.query_lang.specs.declared.fold.TypedFold.{TypedFold};
-ghost use Rattle.query_lang.specs.Folds.{IsValidFold, fold_states, body, folded};
+ghost use Rattle.std.specs.Prelude.{◌≡◌, ◌≤◌, ◌<◌, ◌↔◌, ℕ, ◌+◌, ◌%◌, ◌^◌, max, true, false, List, length, slice_index};
+ghost use Rattle.query_lang.specs.{Words.AreWords, declared.fold.TypedFold.TypedFold, Folds.{IsValidFold, fold_states, body, folded}};
 ghost use Rattle.fold_code.specs.Additive.{is_additive};
-ghost use Rattle.fold_class.specs.Depth.{IsHistory, is_history, IsDepth, depth_of};
-ghost use Rattle.fold_class.specs.Kinds.{class_of, algebra_of};
-ghost use Rattle.fold_class.specs.declared.class.Algebra.{Algebra as AlgebraOf};
-ghost use Rattle.fold_class.specs.Step.{history_places, words_at};
+ghost use Rattle.fold_class.specs.{Depth.{IsHistory, is_history, IsDepth, depth_of}, Kinds.{class_of, algebra_of}};
+ghost use Rattle.fold_class.specs.{declared.class.Algebra.{Algebra as AlgebraOf}, Step.{history_places, words_at}};
 ghost use Rattle.fold_class.specs.Translations.{SameHistory, AreAlikeStates, AreMoved, HasZeros};
 
 use crate::class::Algebra;

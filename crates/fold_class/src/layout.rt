@@ -2,10 +2,7 @@
 
 ghost use Rattle.std.specs.Prelude.{◌≡◌, ℕ, ◌<◌, ◌≤◌, ◌++◌, ◌∷◌, [], Bool, true, false, not, length, if◌then◌else◌, IfOk, OnOk};
 ghost use Rattle.query_lang.specs.Folds.{IsValidFold, fold_states, fold_args};
-ghost use Rattle.fold_class.specs.Depth.{is_history};
-ghost use Rattle.fold_class.specs.Step.{linear_places, history_places};
-ghost use Rattle.fold_class.specs.Program.{origins_of};
-ghost use Rattle.fold_class.specs.Rows.{Carried, Remembered};
+ghost use Rattle.fold_class.specs.{Depth.is_history, Step.{linear_places, history_places}, Program.origins_of, Rows.{Carried, Remembered}};
 ghost use Rattle.fold_class.specs.Walk.{flag_in};
 
 use crate::origin::Origin;

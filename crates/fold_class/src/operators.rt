@@ -2,9 +2,7 @@
 
 ghost use Rattle.std.specs.Prelude.{◌≡◌};
 ghost use Rattle.query_lang.specs.declared.fold.Op.{Op as AnyOp};
-ghost use Rattle.fold_class.specs.declared.class.Role.{Role as AnyRole};
-ghost use Rattle.fold_class.specs.Kinds.{role};
-ghost use Rattle.fold_class.specs.Walk.{outside};
+ghost use Rattle.fold_class.specs.{declared.class.Role.{Role as AnyRole}, Kinds.role, Walk.outside};
 
 use crate::class::{Algebra, Role};
 use query_lang::Op;

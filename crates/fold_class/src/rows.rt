@@ -3,11 +3,9 @@
 ghost use Rattle.std.specs.Prelude.{◌≡◌, ◌≢◌, ℕ, ◌+◌, ◌*◌, ◌<◌, ◌≤◌, length, map, slice_index, All, IfOk};
 ghost use Rattle.coeff_algebra.specs.Maps.{stored_entry};
 ghost use Rattle.fold_code.specs.Machine.{at, steps_of};
-ghost use Rattle.fold_class.specs.Parts.{parts, column_shares};
-ghost use Rattle.fold_class.specs.Step.{list_of, share_of};
-ghost use Rattle.fold_class.specs.Stored.{part_at};
-ghost use Rattle.fold_class.specs.Rows.{Rows, rows_dimension, rows_words, rows_scratch, steps_with, rows_steps, first_part, column_after};
-ghost use Rattle.fold_class.specs.Rows.{entry_of, fixed_word, Leaves, LeavesRows, IsWithin, AreSoundRows};
+ghost use Rattle.fold_class.specs.{Parts.{parts, column_shares}, Step.{list_of, share_of}, Stored.part_at, Rows.{Rows, rows_dimension}};
+ghost use Rattle.fold_class.specs.Rows.{rows_words, rows_scratch, steps_with, rows_steps, first_part, column_after, entry_of, fixed_word};
+ghost use Rattle.fold_class.specs.Rows.{Leaves, LeavesRows, IsWithin, AreSoundRows};
 
 use crate::class::Algebra;
 use crate::column::{lift, load_part, run_column, store_part};

@@ -1,11 +1,9 @@
 //! Whether a fold is a translation.
 
 ghost use Rattle.std.specs.Prelude.{◌≡◌};
-ghost use Rattle.query_lang.specs.Terms.{term_of};
-ghost use Rattle.query_lang.specs.Folds.{IsValidFold};
+ghost use Rattle.query_lang.specs.{Terms.term_of, Folds.IsValidFold};
 ghost use Rattle.fold_code.specs.Checks.{is_in};
-ghost use Rattle.fold_class.specs.Step.{history_places};
-ghost use Rattle.fold_class.specs.Translations.{moves_left, moves_right, is_move, keeps_moves, is_translation_by};
+ghost use Rattle.fold_class.specs.{Step.history_places, Translations.{moves_left, moves_right, is_move, keeps_moves, is_translation_by}};
 
 use crate::class::Algebra;
 use fold_code::{Checks, body_passes, contains, is_known};

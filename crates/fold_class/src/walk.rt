@@ -1,10 +1,8 @@
 //! The walk over a fold's statements with the kinds of its variables.
 
 ghost use Rattle.std.specs.Prelude.{◌≡◌, ℕ, ◌<◌, ◌≤◌, length};
-ghost use Rattle.query_lang.specs.Terms.{term_of};
-ghost use Rattle.query_lang.specs.Blocks.{stmt_block, block_of};
-ghost use Rattle.fold_class.specs.Kinds.{greater, product_kind, outside_kind, role_kind, expr_kind, marked, kinds_after};
-ghost use Rattle.fold_class.specs.Tables.{update};
+ghost use Rattle.query_lang.specs.{Terms.term_of, Blocks.{stmt_block, block_of}};
+ghost use Rattle.fold_class.specs.{Kinds.{greater, product_kind, outside_kind, role_kind, expr_kind, marked, kinds_after}, Tables.update};
 ghost use Rattle.fold_class.specs.Walk.{kinds_in, AssignsBelow};
 
 use crate::class::{Kind, Role};

@@ -1,12 +1,9 @@
 -- What a block leaves of a state, and what a check that passes says of that.
 use Rattle.std.proofs.Common.{◌≡◌, ℕ, ◌<◌, ◌≤◌, Bool, true, false, not, ◌&&◌, ◌||◌, nat_lt, if◌then◌else◌, List, ◌++◌, length, set}
-use Rattle.std.proofs.Common.{slice_index, refl, sym, ap, ◌∙◌, arith, length-set}
-use Rattle.std.proofs.lemmas.Bool.Decides.{nat_tests}
+use Rattle.std.proofs.{Common.{slice_index, refl, sym, ap, ◌∙◌, arith, length-set}, lemmas.Bool.Decides.nat_tests}
 use Rattle.std.proofs.lemmas.List.{get_or_append_left, get_or-append_right}
-use Rattle.query_lang.specs.Words.{flag, holds, op_value}
-use Rattle.query_lang.specs.Terms.{Term, Literal, Read, Negation, Operation}
-use Rattle.query_lang.specs.Blocks.{Block, End, Set, Fork}
-use Rattle.query_lang.specs.Folds.{term_value, after}
+use Rattle.query_lang.specs.{Words.{flag, holds, op_value}, Terms.{Term, Literal, Read, Negation, Operation}}
+use Rattle.query_lang.specs.{Blocks.{Block, End, Set, Fork}, Folds.{term_value, after}}
 use Rattle.fold_code.specs.Checks.{names_known, all_pass}
 
 pub and_true_left : (a b : Bool) → (a && b) ≡ true → a ≡ true

@@ -1,11 +1,8 @@
 -- The check of a block is that of its first statement and then that of the rest.
 use Rattle.std.proofs.Common.{◌≡◌, ℕ, ◌+◌, ◌<◌, ◌≤◌, Bool, true, false, ◌&&◌, List, length, get_or, drop, refl, ap, ◌∙◌}
 use Rattle.std.proofs.lemmas.List.{drop_more, drop_all}
-use Rattle.query_lang.specs.declared.fold.TypedExpr.{TypedExpr}
-use Rattle.query_lang.specs.declared.fold.TypedStmt.{TypedStmt, If}
-use Rattle.query_lang.specs.Terms.{Term, term_of}
-use Rattle.query_lang.specs.Blocks.{Block, End, Set, Fork, followed, stmt_block, block_of}
-use Rattle.query_lang.proofs.TreeLemmas.{block_if}
+use Rattle.query_lang.specs.{declared.fold.{TypedExpr.TypedExpr, TypedStmt.{TypedStmt, If}}, Terms.{Term, term_of}}
+use Rattle.query_lang.{specs.Blocks.{Block, End, Set, Fork, followed, stmt_block, block_of}, proofs.TreeLemmas.block_if}
 use Rattle.fold_code.specs.Checks.{names_known, all_pass}
 
 and_group : (a b c : Bool) → (a && (b && c)) ≡ ((a && b) && c)

@@ -1,11 +1,7 @@
 -- Folds whose assignments add to a variable what does not depend on the state.
 use Rattle.std.specs.Prelude.{ℕ, Bool, true, false, ◌&&◌, ◌==◌, []}
-use Rattle.query_lang.specs.declared.fold.Op.{Op}
-use Rattle.query_lang.specs.declared.fold.Op.TheVariants.{Add, Sub}
-use Rattle.query_lang.specs.Terms.{Term, Read, Operation}
-use Rattle.query_lang.specs.declared.fold.TypedFold.{TypedFold}
-use Rattle.query_lang.specs.Blocks.{Block}
-use Rattle.query_lang.specs.Folds.{fold_states, fold_block}
+use Rattle.query_lang.specs.{declared.fold.{Op.{Op, TheVariants.{Add, Sub}}, TypedFold.TypedFold}, Terms.{Term, Read, Operation}}
+use Rattle.query_lang.specs.{Blocks.Block, Folds.{fold_states, fold_block}}
 use Rattle.fold_code.specs.Checks.{is_in, names_known, all_pass}
 
 -- no state variable counts as known

@@ -1,7 +1,6 @@
 -- A check of a block: each assignment passes a test, and stands under known conditions.
 use Rattle.std.specs.Prelude.{ℕ, Bool, true, false, not, ◌&&◌, ◌||◌, ◌==◌, nat_lt, List, [], ◌∷◌}
-use Rattle.query_lang.specs.Terms.{Term, Literal, Read, Negation, Operation}
-use Rattle.query_lang.specs.Blocks.{Block, End, Set, Fork}
+use Rattle.query_lang.specs.{Terms.{Term, Literal, Read, Negation, Operation}, Blocks.{Block, End, Set, Fork}}
 
 -- whether a number is in a list
 abbrev pub is_in : List ℕ → ℕ → Bool

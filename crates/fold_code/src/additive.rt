@@ -1,8 +1,7 @@
 //! Folds whose assignments add to a variable what does not depend on the state.
 
 ghost use Rattle.std.specs.Prelude.{◌≡◌, ◌&&◌};
-ghost use Rattle.query_lang.specs.Terms.{term_of};
-ghost use Rattle.query_lang.specs.Folds.{IsValidFold};
+ghost use Rattle.query_lang.specs.{Terms.term_of, Folds.IsValidFold};
 ghost use Rattle.fold_code.specs.Additive.{is_variable, adds_known, is_additive as is_additive_fold};
 
 use crate::checks::{Checks, body_passes, is_known};

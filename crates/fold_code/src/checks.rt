@@ -1,9 +1,7 @@
 //! A check of a fold's assignments, and of the conditions around them.
 
 ghost use Rattle.std.specs.Prelude.{◌≡◌, ℕ, Bool, true, ◌&&◌, ◌||◌};
-ghost use Rattle.query_lang.specs.Terms.{Term, term_of};
-ghost use Rattle.query_lang.specs.Blocks.{stmt_block, block_of};
-ghost use Rattle.query_lang.specs.Folds.{IsValidFold, fold_states, fold_block};
+ghost use Rattle.query_lang.specs.{Terms.{Term, term_of}, Blocks.{stmt_block, block_of}, Folds.{IsValidFold, fold_states, fold_block}};
 ghost use Rattle.fold_code.specs.Checks.{is_in, names_known, all_pass};
 
 use query_lang::{TypedExpr, TypedFold, TypedStmt};

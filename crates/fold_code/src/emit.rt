@@ -1,9 +1,7 @@
 //! From a fold's statements to instructions.
 
 ghost use Rattle.std.specs.Prelude.{◌≡◌, ◌+◌, ◌-◌, ◌<◌, ◌≤◌, [], ◌∷◌, ◌++◌, IfOk, OnOk, vec_len};
-ghost use Rattle.query_lang.specs.Blocks.{stmt_block, block_of};
-ghost use Rattle.query_lang.specs.Terms.{term_of};
-ghost use Rattle.query_lang.specs.Folds.{term_nodes};
+ghost use Rattle.query_lang.specs.{Blocks.{stmt_block, block_of}, Terms.term_of, Folds.term_nodes};
 ghost use Rattle.fold_code.specs.Code.{term_code, block_size, block_code};
 
 use crate::instr::Instr;

@@ -1,15 +1,11 @@
 -- Which epochs are closed once all buckets are emptied.
 use Rattle.std.proofs.Common.{◌≡◌, ◌≤◌, ◌<◌, ◌-◌, ℕ, zero, suc, true, List, [], ◌∷◌, ◌++◌, length, take, drop, get_or, set, map, flat_map}
 use Rattle.std.proofs.Common.{reverse, refl, sym, ap, ap₂, ◌∙◌, arith, append-nil, append_assoc, get_or-set_same, length-take}
-use Rattle.std.specs.Prelude.{nat_lt}
-use Rattle.std.proofs.lemmas.Bool.{lt-ltb, ltb-true, ltb-false}
-use Rattle.std.proofs.lemmas.List.{length-map, map-append, get_or_past, get_or_at, set_at, set-set, set-get_or, nil_from_length, take_all}
-use Rattle.std.proofs.lemmas.List.{drop_all}
-use Rattle.std.proofs.lemmas.List.Concat.{flat_map-append}
-use Rattle.std.proofs.Math.Seq.{take-suc, drop-cons}
+use Rattle.std.proofs.lemmas.{Bool.{lt-ltb, ltb-true, ltb-false}, List.{length-map, map-append, get_or_past, get_or_at, set_at, set-set}}
+use Rattle.std.proofs.lemmas.List.{set-get_or, nil_from_length, take_all, drop_all, Concat.flat_map-append}
+use Rattle.std.{proofs.Math.Seq.{take-suc, drop-cons}, specs.Prelude.nat_lt}
 use Rattle.epoch_model.specs.Machine.{Epoch, Machine, open_in, evict, evict_times, empty_bucket, empty_buckets}
-use Rattle.live_view.specs.Views.{all_epochs}
-use Rattle.live_view.proofs.Lists.{by_test, last_first}
+use Rattle.live_view.{specs.Views.all_epochs, proofs.Lists.{by_test, last_first}}
 
 abbrev machine : List (List Epoch) → List Epoch → ℕ → Machine
 machine recent closed merged = record { recent = recent; closed = closed; merged = merged }

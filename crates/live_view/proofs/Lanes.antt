@@ -1,20 +1,11 @@
 -- The tables of lanes, in order.
 use Rattle.std.proofs.Common.{◌≡◌, ◌+◌, ◌<◌, ◌≤◌, ℕ, zero, suc, List, [], ◌∷◌, ◌++◌, Some, length, map, take, refl, sym, ap, ◌∙◌, subst}
-use Rattle.std.proofs.Common.{arith}
-use Rattle.std.specs.Prelude.{slice_get}
-use Rattle.std.proofs.Math.Logic.{∥∥₁_elim}
-use Rattle.std.proofs.Props.{props}
+use Rattle.std.{proofs.{Common.arith, Math.Logic.{∥∥₁_elim}, Props.props}, specs.Prelude.slice_get}
 use Rattle.epoch_model.specs.Machine.{Machine}
-use Rattle.epoch_entry.specs.declared.purpose.Entries.{Entries}
-use Rattle.epoch_entry.specs.Purposes.{EntriesAreSmall}
-use Rattle.epoch_entry.specs.contracts.any.AnyEpochsEpochKind.TheImpl.{ghosts}
+use Rattle.epoch_entry.specs.{declared.purpose.Entries.Entries, Purposes.EntriesAreSmall, contracts.any.AnyEpochsEpochKind.TheImpl.ghosts}
 use Rattle.final_queries.specs.GroupTable.{closed_table}
-use Rattle.stage_plan.specs.declared.group.GroupPlan.{GroupPlan}
-use Rattle.stage_plan.specs.Planned.{wiring_at}
-use Rattle.stage_plan.specs.Sound.{PlanParts, IsSoundPlan}
-use Rattle.switch_core.specs.Rows.{EachFrom}
-use Rattle.switch_core.specs.Pipelines.{IsLaneOf, heading_of}
-use Rattle.switch_core.specs.PlanLanes.{LaneView, AreLanesOf, folding_at}
+use Rattle.stage_plan.specs.{declared.group.GroupPlan.GroupPlan, Planned.wiring_at, Sound.{PlanParts, IsSoundPlan}}
+use Rattle.switch_core.specs.{Rows.EachFrom, Pipelines.{IsLaneOf, heading_of}, PlanLanes.{LaneView, AreLanesOf, folding_at}}
 use Rattle.live_view.specs.Views.{all_epochs, tables_seen}
 
 pub each_long : {X Y : Type 0} (R : ℕ → X → Y → Type 0) (k : ℕ) (xs : List X) (ys : List Y) → EachFrom R k xs ys → length xs ≡ length ys

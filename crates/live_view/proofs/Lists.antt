@@ -1,7 +1,6 @@
 -- Lists that are filtered, and lists from their end back.
 use Rattle.std.proofs.Common.{◌≡◌, ◌≤◌, ℕ, zero, suc, Bool, true, false, List, [], ◌∷◌, ◌++◌, length, take, drop, get_or, filter, flat_map}
-use Rattle.std.proofs.Common.{reverse, refl, sym, ap, ◌∙◌, arith, append-nil, length-drop, take-append-drop}
-use Rattle.std.proofs.lemmas.List.{reverse-append}
+use Rattle.std.proofs.{Common.{reverse, refl, sym, ap, ◌∙◌, arith, append-nil, length-drop, take-append-drop}, lemmas.List.reverse-append}
 use Rattle.std.proofs.lemmas.List.Elements.{filter-append}
 
 -- two cases, by a test

@@ -1,15 +1,10 @@
 -- A machine after the first packets doesn't depend on those after them.
 use Rattle.std.proofs.Common.{◌≡◌, ◌≤◌, ◌<◌, ℕ, zero, suc, List, length, take, refl, sym, ap, ap₂, ◌∙◌, arith, length-take}
-use Rattle.std.specs.Prelude.{Option, None}
-use Rattle.std.proofs.lemmas.List.{get_or-take}
+use Rattle.std.{proofs.lemmas.List.get_or-take, specs.Prelude.{Option, None}}
 use Rattle.epoch_model.specs.Driving.{PacketsFollowTheTrace, SweepsReachTheEnd, TakenUsesAreInTrace, Taken, uses_taken, event_of}
-use Rattle.epoch_model.specs.Driving.{after_packet}
-use Rattle.epoch_model.specs.Epochs.{Geometry}
-use Rattle.epoch_model.specs.Laws.{SameEpochs}
+use Rattle.epoch_model.specs.{Driving.after_packet, Epochs.Geometry, Laws.SameEpochs}
 use Rattle.epoch_model.specs.Machine.{packets_of, after_packets, empty_buckets, merge_all, end_of}
-use Rattle.live_view.specs.Laws.{ViewsEndTheTrace}
-use Rattle.live_view.specs.Views.{all_closed}
-use Rattle.live_view.proofs.Emptied.{empty_all}
+use Rattle.live_view.{specs.{Laws.ViewsEndTheTrace, Views.all_closed}, proofs.Emptied.empty_all}
 
 -- the events of a packet among the first ones
 same_events : TakenUsesAreInTrace → (packets : List (Option Taken)) (number i : ℕ) → number ≤ length packets → i < number

@@ -1,15 +1,10 @@
 -- The row lists of a key in a view.
 use Rattle.std.proofs.Common.{◌≡◌, ◌≤◌, ℕ, true, List, [], ◌∷◌, ◌++◌, length, map, filter, reverse, refl, sym, ap, subst, ◌∙◌, arith}
-use Rattle.std.specs.Prelude.{All, not}
+use Rattle.std.{proofs.lemmas.List.{map-append, Elements.{All-head, All-tail, filter-append}}, specs.Prelude.{All, not}}
 use Rattle.std.specs.Cmp.Lexicographic.{bytes_decides}
-use Rattle.std.proofs.lemmas.List.{map-append}
-use Rattle.std.proofs.lemmas.List.Elements.{All-head, All-tail, filter-append}
-use Rattle.epoch_model.specs.Epochs.{Geometry}
-use Rattle.epoch_model.specs.Keys.{Key, key_eq, bucket_of, others, distinct}
-use Rattle.epoch_model.specs.Laws.{IsWellFormed}
+use Rattle.epoch_model.specs.{Epochs.Geometry, Keys.{Key, key_eq, bucket_of, others, distinct}, Laws.IsWellFormed}
 use Rattle.epoch_model.specs.Machine.{Epoch, Machine, open_in, is_of, lists_of, row_lists}
-use Rattle.live_view.specs.Views.{open_epochs, all_epochs}
-use Rattle.live_view.proofs.Lists.{by_test, one_passes, few_pass, all_pass}
+use Rattle.live_view.{specs.Views.{open_epochs, all_epochs}, proofs.Lists.{by_test, one_passes, few_pass, all_pass}}
 
 same_key : (a b : Key) → key_eq a b ≡ true → a ≡ b
 unfolding key_eq

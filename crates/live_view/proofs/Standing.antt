@@ -1,12 +1,9 @@
 -- Which epochs are merged by a loop over what represents them.
 use Rattle.std.proofs.Common.{◌≡◌, ◌<◌, ◌≤◌, ◌+◌, ℕ, zero, suc, List, [], ◌∷◌, ◌++◌, Some, None, length, take, drop, get_or, flat_map}
 use Rattle.std.proofs.Common.{reverse, refl, sym, ap, ◌∙◌, subst, arith, append-nil, append_assoc}
+use Rattle.std.proofs.lemmas.List.{reverse-append, take_more, Concat.flat_map-append, Elements.{All-head, All-tail}}
 use Rattle.std.specs.Prelude.{slice_get, All}
-use Rattle.std.proofs.lemmas.List.{reverse-append, take_more}
-use Rattle.std.proofs.lemmas.List.Concat.{flat_map-append}
-use Rattle.std.proofs.lemmas.List.Elements.{All-head, All-tail}
-use Rattle.epoch_model.specs.Keys.{Key}
-use Rattle.epoch_model.specs.Machine.{Epoch}
+use Rattle.epoch_model.specs.{Keys.Key, Machine.Epoch}
 use Rattle.bucket_cache.specs.Buckets.{Pair, places_of}
 use Rattle.switch_core.specs.Lanes.{Standing, RecordStands, RecordsStand, PairsStand}
 

@@ -1,9 +1,6 @@
 -- What a view has of a running trace.
 use Rattle.std.specs.Prelude.{◌≡◌, ◌≤◌, ℕ, List, length, take, Option}
-use Rattle.epoch_model.specs.Driving.{Taken, uses_taken}
-use Rattle.epoch_model.specs.Epochs.{Geometry}
-use Rattle.epoch_model.specs.Keys.{Key}
-use Rattle.epoch_model.specs.Laws.{HasRoom, SameEpochs}
+use Rattle.epoch_model.specs.{Driving.{Taken, uses_taken}, Epochs.Geometry, Keys.Key, Laws.{HasRoom, SameEpochs}}
 use Rattle.epoch_model.specs.Machine.{Machine, Event, run, empty_machine, row_lists, lists_of, after_packets, end_of}
 use Rattle.live_view.specs.Views.{all_epochs, all_closed}
 

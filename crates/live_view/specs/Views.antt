@@ -1,7 +1,6 @@
 -- What a view of a running trace shows.
 use Rattle.std.specs.Prelude.{List, [], ◌++◌, length, map, flat_map, reverse}
-use Rattle.epoch_model.specs.Machine.{Epoch, Machine}
-use Rattle.epoch_model.specs.Tables.{Folding}
+use Rattle.epoch_model.specs.{Machine.{Epoch, Machine}, Tables.Folding}
 use Rattle.final_queries.specs.declared.table.Table.{Table}
 use Rattle.stage_plan.specs.declared.group.GroupPlan.{GroupPlan}
 use Rattle.switch_core.specs.Pipelines.{tables_of}

@@ -5,8 +5,7 @@ ghost use Rattle.epoch_model.specs.Machine.{Epoch, Machine};
 ghost use Rattle.bucket_cache.specs.Caches.{IsSoundCache, list_at};
 ghost use Rattle.backing_store.specs.Merged.{StoreHolds};
 ghost use Rattle.switch_core.specs.Lanes.{CacheStands, PairStands, PairsStand, RecordsStand};
-ghost use Rattle.live_view.specs.Merging.{FitsKind};
-ghost use Rattle.live_view.specs.Views.{open_epochs};
+ghost use Rattle.live_view.specs.{Merging.FitsKind, Views.open_epochs};
 
 use backing_store::BackingStore;
 use bucket_cache::BucketCache;

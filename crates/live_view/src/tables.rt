@@ -3,9 +3,7 @@
 ghost use Rattle.std.specs.Prelude.{◌≡◌, ◌+◌, ◌≤◌, List, map, length, IfOk};
 ghost use Rattle.epoch_model.specs.Machine.{Machine};
 ghost use Rattle.final_queries.specs.GroupTable.{closed_table};
-ghost use Rattle.switch_core.specs.Lanes.{LaneStands};
-ghost use Rattle.switch_core.specs.Pipelines.{heading_of};
-ghost use Rattle.switch_core.specs.PlanLanes.{PipelineStands, folding_at};
+ghost use Rattle.switch_core.specs.{Lanes.LaneStands, Pipelines.heading_of, PlanLanes.{PipelineStands, folding_at}};
 ghost use Rattle.live_view.specs.Views.{all_epochs, tables_seen};
 
 use crate::keeping::keep_released;

@@ -1,12 +1,8 @@
 -- A text that is written in pieces, of which the last bytes wait.
 use Rattle.std.proofs.Common.{◌≡◌, ℕ, ◌+◌, List, [], ◌++◌, length, take, subst, refl, sym, ap, ◌∙◌, Option, Result, Ok, Err, OnErr, arith}
-use Rattle.std.proofs.Common.{append_assoc, append-nil, length-append}
-use Rattle.std.proofs.KnownBytes.{Appends-nil, Appends-trans}
-use Rattle.std.proofs.Math.Seq.{take-append-add}
-use Rattle.std.proofs.lemmas.List.{take-append-le}
-use Rattle.std.specs.Io.KnownBytes.{Appends}
-use Rattle.marple_base.specs.Sink.{TakesFront}
-use Rattle.marple_base.specs.Pieces.{TakesAllBut}
+use Rattle.std.proofs.{Common.{append_assoc, append-nil, length-append}, KnownBytes.{Appends-nil, Appends-trans}, Math.Seq.take-append-add}
+use Rattle.std.{proofs.lemmas.List.take-append-le, specs.Io.KnownBytes.Appends}
+use Rattle.marple_base.specs.{Sink.TakesFront, Pieces.TakesAllBut}
 
 -- nothing was taken of it
 pub none_taken : (bytes : Option (List ℕ)) (text : List ℕ) → TakesFront bytes bytes text

@@ -1,10 +1,7 @@
 //! The bytes of a text that wait to be written.
 
-ghost use Rattle.std.specs.Prelude.{◌≡◌, ◌++◌, ◌<◌, ◌∷◌, [], length, OnErr, OnOk};
-ghost use Rattle.std.specs.Io.KnownBytes.{Appends};
-ghost use Rattle.marple_base.specs.Faults.{HasCause};
-ghost use Rattle.marple_base.specs.Sink.{TakesFront};
-ghost use Rattle.marple_base.specs.Pieces.{TakesAllBut};
+ghost use Rattle.std.specs.{Prelude.{◌≡◌, ◌++◌, ◌<◌, ◌∷◌, [], length, OnErr, OnOk}, Io.KnownBytes.Appends};
+ghost use Rattle.marple_base.specs.{Faults.HasCause, Sink.TakesFront, Pieces.TakesAllBut};
 
 use crate::{Failed, Sink, write_all};
 use std::alloc::{AllocError, Global};

@@ -1,15 +1,11 @@
 -- What the table of statuses says of a call, clause by clause.
 use Rattle.std.proofs.Common.{inl, inr, ◌≡◌, ◌⊎◌, ℕ, Bool, true, false, List, Option, None, Some, refl, sym, ap, ◌∙◌, subst}
-use Rattle.marple_base.specs.Faults.{Rose}
-use Rattle.marple_base.specs.Inputs.{Input}
-use Rattle.marple_base.specs.declared.inputs.Which.{Which}
-use Rattle.marple_base.specs.declared.inputs.Which.TheVariants.{Query, Trace}
+use Rattle.marple_base.specs.{Faults.Rose, Inputs.Input, declared.inputs.Which.{Which, TheVariants.{Query, Trace}}}
 use Rattle.query_lang.specs.declared.fault.QueryFault.{QueryFault}
 use Rattle.trace_reader.specs.declared.fault.TraceFault.{TraceFault}
 use Rattle.trace_drive.proofs.Breaking.{none_some}
 use Rattle.command_line.specs.declared.command.Command.{Command}
-use Rattle.marple_cli.specs.Call.{Holds, IsBeforeOutput, IsBeforeTrace, Takes, WhereQueryTold, WhereTold}
-use Rattle.marple_cli.specs.Ends.{Answers, Ends, QueryTold}
+use Rattle.marple_cli.specs.{Call.{Holds, IsBeforeOutput, IsBeforeTrace, Takes, WhereQueryTold, WhereTold}, Ends.{Answers, Ends, QueryTold}}
 use Rattle.marple_cli.specs.Output.{IsRead, Source, refusal, takes, trace_refusal}
 use Rattle.command_answers.specs.declared.status.Status.{Status}
 use Rattle.command_answers.specs.declared.status.Status.TheVariants as statuses

@@ -1,48 +1,24 @@
 -- How commands end: what each status says, and why it does.
 use Rattle.std.proofs.Common.{◌≡◌, ℕ, true, List, [], Option, None, Some, IfSome, Result, Ok, Err, refl, sym, ap, ap₂, ◌∙◌, subst}
-use Rattle.std.proofs.Common.{if◌then◌else◌}
-use Rattle.std.specs.Prelude.{is_some}
-use Rattle.std.specs.Result.{IsErrAnd}
-use Rattle.std.specs.Io.KnownBytes.{Appends}
-use Rattle.marple_base.specs.Inputs.{Input}
-use Rattle.marple_base.specs.Sink.{TakesFront}
-use Rattle.marple_base.specs.declared.inputs.Which.{Which}
-use Rattle.marple_base.specs.declared.inputs.Which.TheVariants.{Query, Trace}
-use Rattle.query_lang.specs.declared.fault.QueryFault.{QueryFault}
-use Rattle.query_lang.specs.declared.typed.TypedQuery.{TypedQuery}
-use Rattle.stage_plan.specs.Fields.{reads_of}
-use Rattle.stage_plan.specs.Packets.{AreWhole}
-use Rattle.stage_plan.specs.Planned.{IsPlanOf}
-use Rattle.stage_plan.specs.Shape.{query_shape, plan_text_of}
-use Rattle.stage_plan.specs.Sound.{PlanParts}
+use Rattle.std.{proofs.Common.if◌then◌else◌, specs.{Prelude.is_some, Result.IsErrAnd, Io.KnownBytes.Appends}}
+use Rattle.marple_base.specs.{Inputs.Input, Sink.TakesFront, declared.inputs.Which.{Which, TheVariants.{Query, Trace}}}
+use Rattle.query_lang.specs.declared.{fault.QueryFault.QueryFault, typed.TypedQuery.TypedQuery}
+use Rattle.stage_plan.specs.{Fields.reads_of, Packets.AreWhole, Planned.IsPlanOf, Shape.{query_shape, plan_text_of}, Sound.PlanParts}
 use Rattle.trace_reader.specs.Traces as traces
 use Rattle.trace_reader.specs.declared.fault.TraceFault.{TraceFault}
-use Rattle.trace_drive.specs.Answers.{text_unless}
-use Rattle.trace_drive.specs.Drives.{end_machines, words_of}
-use Rattle.trace_drive.specs.declared.answer.RunError.{RunError}
+use Rattle.trace_drive.specs.{Answers.text_unless, Drives.{end_machines, words_of}, declared.answer.RunError.RunError}
 use Rattle.trace_drive.specs.declared.answer.RunError.TheVariants as breaks
-use Rattle.trace_drive.proofs.Breaking.{nothing_taken}
-use Rattle.trace_drive.proofs.WholePackets.{read_whole}
-use Rattle.query_run.specs.Runs.{query_ends}
-use Rattle.switch_core.specs.PlanLanes.{PipelineStands, PipelineView}
-use Rattle.accepted_query.specs.Accepted.{accepted, query_fault, fault_in}
-use Rattle.command_line.specs.Command.{ways_number}
-use Rattle.command_line.specs.declared.command.Command.{Command}
-use Rattle.command_line.specs.declared.command.Command.TheVariants.{Run, Plan, Trial}
-use Rattle.command_line.specs.declared.command.Generation.{Generation}
-use Rattle.command_line.specs.declared.setting.Setting.{Setting}
-use Rattle.command_line.specs.declared.setting.Ways.{Ways}
-use Rattle.query_run.specs.Driven.{IsLeftBy, geometry_of, pipeline_in}
-use Rattle.query_run.specs.declared.driven.Driven.{Driven}
+use Rattle.trace_drive.proofs.{Breaking.nothing_taken, WholePackets.read_whole}
+use Rattle.query_run.specs.{Runs.query_ends, Driven.{IsLeftBy, geometry_of, pipeline_in}, declared.driven.Driven.Driven}
 use Rattle.query_run.proofs.QueryEnds.{machines_are}
-use Rattle.marple_cli.specs.Call.{ToldOf}
-use Rattle.marple_cli.specs.Driven.{DrivenAfter, Leaves, StandsForEnd}
-use Rattle.command_answers.specs.Phases.{OperandEnds, QueryEnds, TraceEnds, WriteEnds, status_for}
-use Rattle.marple_cli.specs.Ends.{Ends, QueryTold, status_of}
-use Rattle.command_answers.specs.OwnChecks.{fault_after, fault_with}
-use Rattle.marple_cli.specs.Output.{IsAccepted, IsRead, Source, defined_text, output, read_packets, refusal}
-use Rattle.marple_cli.specs.Output.{stages_text, tables_text, made_packets, takes, trace_refusal}
-use Rattle.accepted_query.specs.TrialQuery.{trial_query}
+use Rattle.switch_core.specs.PlanLanes.{PipelineStands, PipelineView}
+use Rattle.accepted_query.specs.{Accepted.{accepted, query_fault, fault_in}, TrialQuery.trial_query}
+use Rattle.command_line.specs.{Command.ways_number, declared.command.Command.{Command, TheVariants.{Run, Plan, Trial}}}
+use Rattle.command_line.specs.declared.{command.Generation.Generation, setting.{Setting.Setting, Ways.Ways}}
+use Rattle.marple_cli.specs.{Call.ToldOf, Driven.{DrivenAfter, Leaves, StandsForEnd}, Ends.{Ends, QueryTold, status_of}, Output.IsAccepted}
+use Rattle.marple_cli.specs.Output.{IsRead, Source, defined_text, output, read_packets, refusal, stages_text, tables_text, made_packets}
+use Rattle.marple_cli.specs.Output.{takes, trace_refusal}
+use Rattle.command_answers.specs.{Phases.{OperandEnds, QueryEnds, TraceEnds, WriteEnds, status_for}, OwnChecks.{fault_after, fault_with}}
 use Rattle.command_answers.specs.declared.status.Status.{Status}
 use Rattle.command_answers.specs.declared.status.Status.TheVariants as statuses
 

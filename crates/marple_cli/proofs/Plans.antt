@@ -1,35 +1,21 @@
 -- The text of a plan as the first operand.
 use Rattle.std.proofs.Common.{◌≡◌, ℕ, List, [], Option, None, Some, IfSome, Ok, Err, ap, refl, sym, ◌∙◌, subst}
-use Rattle.marple_base.specs.Inputs.{Input}
-use Rattle.marple_base.specs.declared.inputs.Which.{Which}
-use Rattle.marple_base.specs.declared.inputs.Which.TheVariants.{Query, Trace}
-use Rattle.query_lang.specs.Checks.{Checked}
-use Rattle.query_lang.specs.declared.fault.QueryFault.{QueryFault}
+use Rattle.marple_base.specs.{Inputs.Input, declared.inputs.Which.{Which, TheVariants.{Query, Trace}}}
+use Rattle.query_lang.specs.{Checks.Checked, declared.fault.QueryFault.QueryFault}
 use Rattle.switch_core.specs.PlanLanes.{PipelineStands}
 use Rattle.trace_drive.specs.Drives.{end_machines, words_of}
 use Rattle.trace_reader.specs.Traces.{contents, packets}
 use Rattle.trace_reader.specs.Traces as traces
-use Rattle.command_line.specs.declared.command.Command.TheVariants.{RunPlan}
-use Rattle.command_line.specs.declared.setting.Setting.{Setting}
-use Rattle.query_run.specs.Driven.{IsLeftBy, geometry_of, pipeline_in}
-use Rattle.query_run.specs.Views.{views_text}
+use Rattle.command_line.specs.declared.{command.Command.TheVariants.RunPlan, setting.Setting.Setting}
+use Rattle.query_run.specs.{Driven.{IsLeftBy, geometry_of, pipeline_in}, Views.views_text, declared.driven.Driven.Driven}
 use Rattle.query_run.proofs.ViewTexts.{tables_alone}
-use Rattle.query_run.specs.declared.driven.Driven.{Driven}
-use Rattle.plan_file.specs.Texts.{IsRefused, Says}
+use Rattle.plan_file.{specs.{Texts.{IsRefused, Says}, declared.made.Made.Made}, proofs.AnswerFacts.{nowhere, only_answer}}
+use Rattle.plan_file.proofs.{LineLaws.makes_one, TextLaws.says_one}
 use Rattle.query_lang.specs.declared.error.QueryError.TheVariants.{Refused}
-use Rattle.plan_file.specs.declared.made.Made.{Made}
-use Rattle.plan_file.proofs.AnswerFacts.{nowhere, only_answer}
-use Rattle.plan_file.proofs.LineLaws.{makes_one}
-use Rattle.plan_file.proofs.TextLaws.{says_one}
-use Rattle.plan_loader.specs.Meaning.{plan_output, reads_in}
-use Rattle.plan_loader.specs.Parts.{IsPlanFrom}
-use Rattle.plan_loader.specs.declared.loaded.LoadedPlan.{LoadedPlan}
-use Rattle.marple_cli.specs.Driven.{Leaves, StandsForPlan}
-use Rattle.command_answers.specs.Phases.{IsReadFrom}
-use Rattle.command_answers.specs.OwnChecks.{fault_after}
-use Rattle.marple_cli.specs.Output.{SaysPlan, Source, of_accepted, plan_tables_text, refusal}
-use Rattle.marple_cli.proofs.Ending.{told}
-use Rattle.marple_cli.proofs.Traced.{IsOver}
+use Rattle.plan_loader.specs.{Meaning.{plan_output, reads_in}, Parts.IsPlanFrom, declared.loaded.LoadedPlan.LoadedPlan}
+use Rattle.marple_cli.specs.{Driven.{Leaves, StandsForPlan}, Output.{SaysPlan, Source, of_accepted, plan_tables_text, refusal}}
+use Rattle.marple_cli.proofs.{Ending.told, Traced.IsOver}
+use Rattle.command_answers.specs.{Phases.IsReadFrom, OwnChecks.fault_after}
 
 -- a fault is given by its parts
 same_fault : (one other : QueryFault) → one.kind ≡ other.kind → one.span.start ≡ other.span.start → one.span.end ≡ other.span.end

@@ -1,9 +1,6 @@
 -- How much is read of the operands.
-use Rattle.std.proofs.Common.{◌≡◌, ℕ, List, [], Option, None, Some, refl, sym, subst, arith}
-use Rattle.std.specs.Io.KnownBytes.{Consumes}
-use Rattle.marple_base.specs.Inputs.{Input, LosesUpTo}
-use Rattle.marple_base.specs.declared.inputs.Which.{Which}
-use Rattle.marple_base.specs.declared.inputs.Which.TheVariants.{Query, Trace}
+use Rattle.std.{proofs.Common.{◌≡◌, ℕ, List, [], Option, None, Some, refl, sym, subst, arith}, specs.Io.KnownBytes.Consumes}
+use Rattle.marple_base.specs.{Inputs.{Input, LosesUpTo}, declared.inputs.Which.{Which, TheVariants.{Query, Trace}}}
 use Rattle.command_line.specs.declared.command.Command.{Command}
 use Rattle.marple_cli.specs.Call.{LosesWhatIsRead, most_read}
 

@@ -1,31 +1,22 @@
 -- What commands write of a query that they accepted, and for which faults they refuse the trace.
 use Rattle.std.proofs.Common.{◌≡◌, ℕ, List, [], None, Some, IfSome, Ok, refl, sym, ap, ◌∙◌}
-use Rattle.marple_base.specs.Inputs.{Input}
-use Rattle.marple_base.specs.declared.field.FieldSet.{FieldSet}
-use Rattle.marple_base.specs.declared.inputs.Which.{Which}
-use Rattle.marple_base.specs.declared.inputs.Which.TheVariants.{Query, Trace}
+use Rattle.marple_base.specs.{Inputs.Input, declared.{field.FieldSet.FieldSet, inputs.Which.{Which, TheVariants.{Query, Trace}}}}
 use Rattle.query_lang.specs.declared.typed.TypedQuery.{TypedQuery}
 use Rattle.stage_plan.specs.Fields.{reads_of}
 use Rattle.trace_reader.specs.Traces as traces
 use Rattle.accepted_query.specs.Accepted.{accepted}
-use Rattle.command_line.specs.Command.{ways_number}
-use Rattle.command_line.specs.declared.command.Command.TheVariants.{Run, Net, Enclose, Compile}
-use Rattle.command_line.specs.declared.setting.NetSetting.{NetSetting}
-use Rattle.command_line.specs.declared.setting.Setting.{Setting}
+use Rattle.command_line.specs.{Command.ways_number, declared.command.Command.TheVariants.{Run, Net, Enclose, Compile}}
+use Rattle.command_line.specs.declared.setting.{NetSetting.NetSetting, Setting.Setting}
 use Rattle.driven_net.specs.NetTraces.{net_fault_in, net_reads, net_trace_fault}
-use Rattle.net_wide.specs.Combining.{net_fault}
-use Rattle.net_wide.specs.NetTables.{net_text}
+use Rattle.net_wide.specs.{Combining.net_fault, NetTables.net_text}
 use Rattle.query_tables.specs.Tables.{query_text}
 use Rattle.enclosed_query.specs.EnclosedTables.{enclose_text}
-use Rattle.query_run.specs.Driven.{geometry_of}
-use Rattle.query_run.specs.Views.{views_text}
-use Rattle.query_run.proofs.ViewTexts.{tables_alone}
+use Rattle.query_run.{specs.{Driven.geometry_of, Views.views_text}, proofs.ViewTexts.tables_alone}
 use Rattle.trace_drive.specs.Drives.{words_of}
 use Rattle.plan_writer.specs.PlanText.{compiled_text, final_fault}
 use Rattle.command_answers.specs.OwnChecks.{bounds_fault, fault_after}
 use Rattle.marple_cli.specs.Output.{Source, enclosures_text, fault_for, network_text, of_accepted, read_packets, run_text}
-use Rattle.marple_cli.proofs.Ending.{IsText, query_fits, query_told, told}
-use Rattle.marple_cli.proofs.Traced.{IsOver}
+use Rattle.marple_cli.proofs.{Ending.{IsText, query_fits, query_told, told}, Traced.IsOver}
 
 module _ (before : Which → Input) (found : TypedQuery) (known : IfSome (before Query).left (λ query. accepted query ≡ Ok found)) where
   read : (query : Source) → (before Query).left ≡ Some query.text → accepted query.text ≡ Ok found

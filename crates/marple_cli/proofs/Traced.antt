@@ -1,21 +1,11 @@
 -- How a command over a trace ends, phase by phase.
-use Rattle.std.proofs.Common.{◌≡◌, ◌+◌, ℕ, true, List, take, Option, None, IfSome, subst}
-use Rattle.std.specs.Io.KnownBytes.{Appends}
-use Rattle.marple_base.specs.Inputs.{Input}
-use Rattle.marple_base.specs.declared.field.FieldSet.{FieldSet}
-use Rattle.marple_base.specs.declared.inputs.Which.{Which}
-use Rattle.marple_base.specs.declared.inputs.Which.TheVariants.{Query, Trace}
-use Rattle.trace_reader.specs.Traces.{Contents, contents}
-use Rattle.trace_reader.specs.declared.fault.TheConstants.{MAX_TRACE}
-use Rattle.trace_reader.specs.declared.fault.TraceFault.{TraceFault}
-use Rattle.trace_drive.specs.Answers.{BreaksOff}
-use Rattle.trace_drive.specs.declared.answer.RunError.{RunError}
+use Rattle.std.{proofs.Common.{◌≡◌, ◌+◌, ℕ, true, List, take, Option, None, IfSome, subst}, specs.Io.KnownBytes.Appends}
+use Rattle.marple_base.specs.{Inputs.Input, declared.{field.FieldSet.FieldSet, inputs.Which.{Which, TheVariants.{Query, Trace}}}}
+use Rattle.trace_reader.specs.{Traces.{Contents, contents}, declared.fault.{TheConstants.MAX_TRACE, TraceFault.TraceFault}}
+use Rattle.trace_drive.specs.{Answers.BreaksOff, declared.answer.RunError.RunError}
 use Rattle.command_line.specs.declared.command.Command.{Command}
-use Rattle.marple_cli.specs.Call.{ToldOf}
-use Rattle.command_answers.specs.Phases.{ReadEnds, TraceEnds, status_for}
-use Rattle.marple_cli.specs.Ends.{Ends, QueryTold}
-use Rattle.marple_cli.specs.Output.{output, refusal, takes, trace_refusal}
-use Rattle.command_answers.specs.declared.status.Status.{Status}
+use Rattle.marple_cli.specs.{Call.ToldOf, Ends.{Ends, QueryTold}, Output.{output, refusal, takes, trace_refusal}}
+use Rattle.command_answers.specs.{Phases.{ReadEnds, TraceEnds, status_for}, declared.status.Status.Status}
 use Rattle.command_answers.specs.declared.status.Status.TheVariants as statuses
 use Rattle.marple_cli.proofs.Ending.{Ended, by_trace, trace_written}
 use Rattle.command_answers.proofs.Limits.{read_ends, told_contents, trace_ends}

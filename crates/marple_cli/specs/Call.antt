@@ -1,16 +1,10 @@
 -- What a call of `marple` is about, and what each of its answers says.
-use Rattle.std.specs.Prelude.{◌≡◌, ◌+◌, ℕ, true, List, Option, None, Some, String, map, string_bytes, ⊤}
-use Rattle.std.specs.Io.KnownBytes.{Appends}
-use Rattle.marple_base.specs.Faults.{Rose}
-use Rattle.marple_base.specs.Inputs.{Input, LosesUpTo}
-use Rattle.marple_base.specs.Sink.{TakesFront}
-use Rattle.marple_base.specs.declared.inputs.Which.{Which}
+use Rattle.std.specs.{Prelude.{◌≡◌, ◌+◌, ℕ, true, List, Option, None, Some, String, map, string_bytes, ⊤}, Io.KnownBytes.Appends}
+use Rattle.marple_base.specs.{Faults.Rose, Inputs.{Input, LosesUpTo}, Sink.TakesFront, declared.inputs.Which.Which}
 use Rattle.marple_base.specs.declared.inputs.Which.TheVariants.{Query, Trace}
 use Rattle.query_lang.specs.declared.fault.TheConstants.{MAX_QUERY}
 use Rattle.trace_reader.specs.declared.fault.TheConstants.{MAX_TRACE}
-use Rattle.command_line.specs.Command.{asked}
-use Rattle.command_line.specs.declared.command.Command.{Command}
-use Rattle.command_line.specs.declared.command.Command.TheVariants.{RunPlan}
+use Rattle.command_line.specs.{Command.asked, declared.command.Command.{Command, TheVariants.RunPlan}}
 use Rattle.plan_file.specs.declared.texts.TheConstants.{MAX_PLAN}
 use Rattle.marple_cli.specs.Output.{IsAccepted, IsRead, Source, output, takes}
 use Rattle.command_answers.specs.declared.status.Status.{Status}

@@ -1,28 +1,20 @@
 -- The working parts that a run leaves.
 use Rattle.std.specs.Prelude.{◌≡◌, ℕ, List, Option, Some, None, Ok, Err}
-use Rattle.query_lang.specs.declared.typed.TypedQuery.{TypedQuery}
-use Rattle.query_lang.specs.Checks.{Checked}
-use Rattle.marple_base.specs.Inputs.{Input}
-use Rattle.marple_base.specs.declared.field.Packet.{Packet}
-use Rattle.marple_base.specs.declared.inputs.Which.{Which}
+use Rattle.query_lang.specs.{declared.typed.TypedQuery.TypedQuery, Checks.Checked}
+use Rattle.marple_base.specs.{Inputs.Input, declared.{field.Packet.Packet, inputs.Which.Which}}
 use Rattle.stage_plan.specs.Planned.{IsPlanOf}
 use Rattle.switch_core.specs.PlanLanes.{PipelineView, PipelineStands}
 use Rattle.query_run.specs.Runs.{query_ends}
 use Rattle.trace_drive.specs.Drives.{end_machines, words_of}
 use Rattle.trace_reader.specs.Traces as traces
 use Rattle.plan_file.specs.declared.made.Made.{Made}
-use Rattle.plan_loader.specs.Meaning.{reads_in}
-use Rattle.plan_loader.specs.Parts.{IsPlanFrom}
+use Rattle.plan_loader.specs.{Meaning.reads_in, Parts.IsPlanFrom}
 use Rattle.accepted_query.specs.Accepted.{accepted}
-use Rattle.command_line.specs.declared.command.Command.{Command}
-use Rattle.command_line.specs.declared.command.Command.TheVariants.{Run, RunPlan, Trial}
-use Rattle.command_line.specs.declared.setting.Setting.{Setting}
-use Rattle.query_run.specs.Driven.{IsLeftBy, geometry_of, pipeline_in}
-use Rattle.query_run.specs.declared.driven.Driven.{Driven}
+use Rattle.command_line.specs.declared.{command.Command.{Command, TheVariants.{Run, RunPlan, Trial}}, setting.Setting.Setting}
+use Rattle.query_run.specs.{Driven.{IsLeftBy, geometry_of, pipeline_in}, declared.driven.Driven.Driven}
 use Rattle.command_answers.specs.declared.status.Status.{Status}
 use Rattle.command_answers.specs.declared.status.Status.TheVariants as statuses
-use Rattle.marple_cli.specs.Call.{ToldOf}
-use Rattle.marple_cli.specs.Output.{read_packets, made_packets}
+use Rattle.marple_cli.specs.{Call.ToldOf, Output.{read_packets, made_packets}}
 use Rattle.accepted_query.specs.TrialQuery.{trial_query}
 
 -- the pipeline is of a plan of the query, and represents the machines of the query's groupbys at the end of these packets

@@ -1,15 +1,10 @@
 -- What each status says of a command.
 use Rattle.std.specs.Prelude.{◌≡◌, ℕ, true, false, List, Option, None, Some, Result, Ok, Err}
-use Rattle.marple_base.specs.Faults.{Rose}
-use Rattle.marple_base.specs.Inputs.{Input}
-use Rattle.marple_base.specs.Sink.{TakesFront}
-use Rattle.marple_base.specs.declared.inputs.Which.{Which}
-use Rattle.marple_base.specs.declared.inputs.Which.TheVariants.{Query, Trace}
+use Rattle.marple_base.specs.{Faults.Rose, Inputs.Input, Sink.TakesFront, declared.inputs.Which.{Which, TheVariants.{Query, Trace}}}
 use Rattle.command_line.specs.declared.command.Command.{Command}
 use Rattle.command_answers.specs.declared.status.Status.{Status}
 use Rattle.command_answers.specs.declared.status.Status.TheVariants as statuses
-use Rattle.marple_cli.specs.Call.{ToldOf, WritesOutput, WritesFront}
-use Rattle.marple_cli.specs.Output.{IsRead, Source, defined_text, refusal, takes, trace_refusal}
+use Rattle.marple_cli.specs.{Call.{ToldOf, WritesOutput, WritesFront}, Output.{IsRead, Source, defined_text, refusal, takes, trace_refusal}}
 
 -- P holds of the query or the plan, where the command has one and the bytes of its input are known.
 abbrev pub QueryTold : Command → (Which → Input) → (Source → Type 0) → Type 0

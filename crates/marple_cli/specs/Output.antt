@@ -1,40 +1,25 @@
 -- Which queries and traces are accepted, and what a command writes: each definition has one case for each command.
-use Rattle.std.specs.Prelude.{◌≡◌, ℕ, Bool, true, false, List, [], Option, None, is_some, Ok, Err, ⊤}
-use Rattle.std.specs.Prelude.{if◌then◌else◌}
-use Rattle.marple_base.specs.declared.field.Packet.{Packet}
-use Rattle.marple_base.specs.declared.inputs.Which.{Which}
-use Rattle.marple_base.specs.declared.inputs.Which.TheVariants.{Query, Trace}
-use Rattle.query_lang.specs.declared.fault.QueryFault.{QueryFault}
-use Rattle.query_lang.specs.declared.typed.TypedQuery.{TypedQuery}
-use Rattle.query_lang.specs.Checks.{Checked}
+use Rattle.std.specs.Prelude.{◌≡◌, ℕ, Bool, true, false, List, [], Option, None, is_some, Ok, Err, ⊤, if◌then◌else◌}
+use Rattle.marple_base.specs.declared.{field.Packet.Packet, inputs.Which.{Which, TheVariants.{Query, Trace}}}
+use Rattle.query_lang.specs.{declared.{fault.QueryFault.QueryFault, typed.TypedQuery.TypedQuery}, Checks.Checked}
 use Rattle.trace_reader.specs.Traces as traces
 use Rattle.trace_reader.specs.declared.fault.TraceFault.{TraceFault}
-use Rattle.stage_plan.specs.Fields.{reads_of}
-use Rattle.stage_plan.specs.Shape.{query_shape, plan_text_of}
-use Rattle.accepted_query.specs.Accepted.{accepted, query_fault}
-use Rattle.query_run.specs.Views.{views_text}
+use Rattle.stage_plan.specs.{Fields.reads_of, Shape.{query_shape, plan_text_of}}
+use Rattle.accepted_query.specs.{Accepted.{accepted, query_fault}, TrialQuery.trial_query}
+use Rattle.query_run.specs.{Views.views_text, Driven.geometry_of}
 use Rattle.query_tables.specs.Tables.{query_text}
 use Rattle.trace_drive.specs.Drives.{words_of}
-use Rattle.queue_sim.specs.Generator.{simulated}
-use Rattle.queue_sim.specs.TraceText.{trace_text}
-use Rattle.command_line.specs.Command.{ways_number}
-use Rattle.command_line.specs.declared.command.Command.{Command}
+use Rattle.queue_sim.specs.{Generator.simulated, TraceText.trace_text}
+use Rattle.command_line.specs.{Command.ways_number, declared.command.Command.Command}
 use Rattle.command_line.specs.declared.command.Command.TheVariants.{Run, Plan, Gen, Trial, Net, Enclose, Compile, RunPlan}
-use Rattle.command_line.specs.declared.command.Generation.{Generation}
-use Rattle.command_line.specs.declared.setting.NetSetting.{NetSetting}
-use Rattle.command_line.specs.declared.setting.Setting.{Setting}
-use Rattle.command_line.specs.declared.setting.Ways.{Ways}
-use Rattle.query_run.specs.Driven.{geometry_of}
-use Rattle.net_wide.specs.Combining.{net_fault}
-use Rattle.net_wide.specs.NetTables.{net_text}
+use Rattle.command_line.specs.declared.{command.Generation.Generation, setting.{NetSetting.NetSetting, Setting.Setting, Ways.Ways}}
+use Rattle.net_wide.specs.{Combining.net_fault, NetTables.net_text}
 use Rattle.driven_net.specs.NetTraces.{net_packets, net_trace_fault}
 use Rattle.enclosed_query.specs.EnclosedTables.{enclose_text}
 use Rattle.plan_writer.specs.PlanText.{compiled_text, final_fault}
-use Rattle.plan_file.specs.Texts.{IsRefused, Says}
+use Rattle.plan_file.specs.{Texts.{IsRefused, Says}, declared.made.Made.Made}
 use Rattle.query_lang.specs.declared.error.QueryError.TheVariants.{Refused}
-use Rattle.plan_file.specs.declared.made.Made.{Made}
 use Rattle.plan_loader.specs.Meaning.{plan_output, reads_in}
-use Rattle.accepted_query.specs.TrialQuery.{trial_query}
 use Rattle.command_answers.specs.OwnChecks.{bounds_fault, fault_after, fault_with}
 
 -- The text of the first operand, and where it is run as a plan, what its lines make or the fault for which it is refused.

@@ -1,7 +1,6 @@
 //! The trace that the generator makes.
 ghost use Rattle.std.specs.Prelude.{◌≤◌};
-ghost use Rattle.marple_base.specs.Inputs.{Input};
-ghost use Rattle.marple_base.specs.declared.inputs.Which.{Which as AnyWhich};
+ghost use Rattle.marple_base.specs.{Inputs.Input, declared.inputs.Which.{Which as AnyWhich}};
 ghost use Rattle.command_line.specs.Command.{IsGeneration};
 ghost use Rattle.marple_cli.specs.Ends.{Ends, status_of};
 

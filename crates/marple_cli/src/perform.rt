@@ -2,10 +2,7 @@
 ghost use Rattle.std.specs.Prelude.{◌≡◌, ◌≤◌, Some, false};
 ghost use Rattle.marple_base.specs.Inputs.{IsClosed};
 ghost use Rattle.command_line.specs.Command.{IsCommand};
-ghost use Rattle.marple_cli.specs.Call.{LosesWhatIsRead};
-ghost use Rattle.marple_cli.specs.Driven.{DrivenAfter};
-ghost use Rattle.marple_cli.specs.Ends.{Ends, status_of};
-ghost use Rattle.marple_cli.specs.Output.{takes};
+ghost use Rattle.marple_cli.specs.{Call.LosesWhatIsRead, Driven.DrivenAfter, Ends.{Ends, status_of}, Output.takes};
 
 use crate::compile::compile;
 use crate::enclose::enclose;

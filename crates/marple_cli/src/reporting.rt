@@ -1,6 +1,5 @@
 //! A report over the trace of a command.
-ghost use Rattle.std.specs.Prelude.{◌≡◌, ◌≤◌, ◌+◌, ℕ, List, None, IfOk, IfErr, IfSome};
-ghost use Rattle.std.specs.Io.KnownBytes.{Appends};
+ghost use Rattle.std.specs.{Prelude.{◌≡◌, ◌≤◌, ◌+◌, ℕ, List, None, IfOk, IfErr, IfSome}, Io.KnownBytes.Appends};
 ghost use Rattle.epoch_model.specs.Epochs.{Geometry};
 ghost use Rattle.marple_base.specs.Inputs.{IsClosed, LosesUpTo};
 ghost use Rattle.switch_core.specs.PlanLanes.{PipelineStands};
@@ -8,9 +7,7 @@ ghost use Rattle.trace_drive.specs.Drives.{end_machines, words_of};
 ghost use Rattle.trace_reader.specs.Traces.{trace_fault, packets};
 ghost use Rattle.command_answers.specs.Phases.{TraceEnds};
 ghost use Rattle.command_line.specs.Command.{IsSetting};
-ghost use Rattle.query_run.specs.Driven.{IsLeftWith, geometry_of, pipeline_in};
-ghost use Rattle.query_run.specs.Reports.{MayPrint, Prints};
-ghost use Rattle.query_run.specs.Views.{views_text};
+ghost use Rattle.query_run.specs.{Driven.{IsLeftWith, geometry_of, pipeline_in}, Reports.{MayPrint, Prints}, Views.views_text};
 
 use command_answers::{Status, read_trace};
 use command_line::Setting;

@@ -2,9 +2,7 @@
 ghost use Rattle.std.specs.Prelude.{◌≤◌, Some};
 ghost use Rattle.marple_base.specs.Inputs.{IsClosed};
 ghost use Rattle.command_line.specs.Command.{IsSetting};
-ghost use Rattle.marple_cli.specs.Call.{LosesWhatIsRead};
-ghost use Rattle.marple_cli.specs.Driven.{DrivenAfter};
-ghost use Rattle.marple_cli.specs.Ends.{Ends, status_of};
+ghost use Rattle.marple_cli.specs.{Call.LosesWhatIsRead, Driven.DrivenAfter, Ends.{Ends, status_of}};
 
 use crate::reporting::report_over;
 use accepted_query::AcceptedQuery;

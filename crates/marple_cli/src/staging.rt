@@ -1,8 +1,7 @@
 //! The stages of a query.
 ghost use Rattle.std.specs.Prelude.{◌≡◌, ◌≤◌, Some};
 ghost use Rattle.marple_base.specs.Inputs.{IsClosed};
-ghost use Rattle.marple_cli.specs.Call.{LosesWhatIsRead};
-ghost use Rattle.marple_cli.specs.Ends.{Ends, status_of};
+ghost use Rattle.marple_cli.specs.{Call.LosesWhatIsRead, Ends.{Ends, status_of}};
 
 use command_answers::{Status, read_query};
 use command_line::{Command, Ways};

@@ -2,8 +2,7 @@
 ghost use Rattle.std.specs.Prelude.{◌≤◌, Some};
 ghost use Rattle.marple_base.specs.Inputs.{IsClosed};
 ghost use Rattle.command_line.specs.Command.{IsNetSetting};
-ghost use Rattle.marple_cli.specs.Call.{LosesWhatIsRead};
-ghost use Rattle.marple_cli.specs.Ends.{Ends, status_of};
+ghost use Rattle.marple_cli.specs.{Call.LosesWhatIsRead, Ends.{Ends, status_of}};
 
 use command_answers::{Status, query_for_net, read_trace};
 use command_line::{Command, NetSetting};

@@ -1,15 +1,10 @@
 //! The top call: all that the program does, over any inputs and sinks.
-ghost use Rattle.std.specs.Prelude.{◌≡◌, ◌≤◌, ◌↔◌, ◌⊎◌, None, Some};
-ghost use Rattle.std.specs.Io.KnownBytes.{Appends};
-ghost use Rattle.marple_base.specs.Faults.{Rose};
-ghost use Rattle.marple_base.specs.Inputs.{IsClosed};
-ghost use Rattle.marple_base.specs.Sink.{TakesFront};
+ghost use Rattle.std.specs.{Prelude.{◌≡◌, ◌≤◌, ◌↔◌, ◌⊎◌, None, Some}, Io.KnownBytes.Appends};
+ghost use Rattle.marple_base.specs.{Faults.Rose, Inputs.IsClosed, Sink.TakesFront};
 ghost use Rattle.marple_cli.specs.Call.{IsBeforeOutput, IsBeforeTrace, IsQuiet, Takes, WhereQueryTold, WhereTold, WritesFront};
-ghost use Rattle.marple_cli.specs.Call.{LosesWhatIsRead, WritesOutput, asked_by};
-ghost use Rattle.command_answers.specs.Complaint.{complaint};
-ghost use Rattle.marple_cli.specs.Driven.{DrivenAfter};
-ghost use Rattle.marple_cli.specs.Ends.{Answers};
+ghost use Rattle.marple_cli.specs.{Call.{LosesWhatIsRead, WritesOutput, asked_by}, Driven.DrivenAfter, Ends.Answers};
 ghost use Rattle.marple_cli.specs.Output.{IsAccepted, refusal, trace_refusal, defined_text};
+ghost use Rattle.command_answers.specs.Complaint.{complaint};
 
 use crate::perform::perform;
 use command_answers::{Status, complain};

@@ -1,10 +1,8 @@
 //! The trial's query over generated packets.
 ghost use Rattle.std.specs.Prelude.{◌≤◌, Some};
-ghost use Rattle.marple_base.specs.Inputs.{Input};
-ghost use Rattle.marple_base.specs.declared.inputs.Which.{Which as AnyWhich};
+ghost use Rattle.marple_base.specs.{Inputs.Input, declared.inputs.Which.{Which as AnyWhich}};
 ghost use Rattle.command_line.specs.Command.{IsGeneration, IsSetting};
-ghost use Rattle.marple_cli.specs.Driven.{DrivenAfter};
-ghost use Rattle.marple_cli.specs.Ends.{Ends, status_of};
+ghost use Rattle.marple_cli.specs.{Driven.DrivenAfter, Ends.{Ends, status_of}};
 
 use crate::generate::CAPACITY;
 use accepted_query::AcceptedQuery;

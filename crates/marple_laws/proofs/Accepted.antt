@@ -1,8 +1,5 @@
 -- The text of an accepted query's plan says what the query does.
-use Rattle.marple_laws.proofs.Words.{accepted_valid, AcceptedLoadAsQueries}
-use Rattle.marple_laws.proofs.Loads.{loads}
-use Rattle.marple_laws.proofs.Hold.{plan_texts}
-use Rattle.marple_laws.proofs.PlanOf.{accepted_put}
+use Rattle.marple_laws.proofs.{Words.{accepted_valid, AcceptedLoadAsQueries}, Loads.loads, Hold.plan_texts, PlanOf.accepted_put}
 
 pub accepted_load : AcceptedLoadAsQueries
 accepted_load text q e none =

@@ -11,15 +11,11 @@ use Rattle.marple_laws.proofs.Words.{ordered, op_at, stage_at, stage_of, last_st
 use Rattle.marple_laws.proofs.Words.{query_wiring, fields_of, ops_are, wiring_is, fold_found, IsNamedWell, HasPlanText}
 use Rattle.std.specs.Prelude.{map, slice_get, nat_lt}
 use Rattle.query_lang.specs.declared.typed.TypedOp.TheVariants as op
-use Rattle.stage_plan.specs.Making.{operand_at, wires_at}
-use Rattle.stage_plan.proofs.Groupings.{depth_is}
-use Rattle.marple_laws.proofs.Fields.{operand_known, operand_fits, operand_readable, operands_readable}
-use Rattle.marple_laws.proofs.Groups.{HasGroup}
-use Rattle.marple_laws.proofs.Listed.{in_set}
+use Rattle.stage_plan.{specs.Making.{operand_at, wires_at}, proofs.Groupings.depth_is}
+use Rattle.marple_laws.proofs.{Fields.{operand_known, operand_fits, operand_readable, operands_readable}, Groups.HasGroup, Listed.in_set}
 use Rattle.marple_laws.proofs.Known.{AreFrom, AreRead, AllGood, IsWritable, column_good, read_left, read_right, writable_at}
 use Rattle.marple_laws.proofs.KnownStreams.{AreFit, AreNamed, AllAreGood, named_from, query_good}
-use Rattle.marple_laws.proofs.Moved.{AreAfterFields, moved_good, moved_writable}
-use Rattle.marple_laws.proofs.OpLines.{IsOpOk}
+use Rattle.marple_laws.proofs.{Moved.{AreAfterFields, moved_good, moved_writable}, OpLines.IsOpOk}
 
 -- a prefix of a list
 

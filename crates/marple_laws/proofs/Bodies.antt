@@ -8,8 +8,7 @@ use Rattle.marple_laws.proofs.Words.{slot_word, term_words, block_words}
 use Rattle.std.specs.Prelude.{map, nat_lt}
 use Rattle.query_lang.specs.declared.fold.Op.TheVariants as ops
 use Rattle.plan_file.specs.declared.lexemes.Lexeme.TheVariants as word
-use Rattle.marple_laws.proofs.Tokens.{is_token, AreTokens}
-use Rattle.marple_laws.proofs.Numbers.{number_decimal, token_marked}
+use Rattle.marple_laws.proofs.{Tokens.{is_token, AreTokens}, Numbers.{number_decimal, token_marked}}
 
 pub function_read : (op : Op) → function_named (function_word op) ≡ Some op
 unfolding function_named

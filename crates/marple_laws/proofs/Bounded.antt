@@ -1,12 +1,10 @@
 -- The bounds of accepted operands hold.
 use Rattle.marple_laws.proofs.Words.{◌≡◌, ℕ, List, [], Some, None, Ok, Err, refl, TypedQuery, Checked, accepted, bounds_fault, fault_after}
-use Rattle.marple_laws.proofs.Words.{Setting, geometry_of, reads_of}
+use Rattle.marple_laws.{proofs.Words.{Setting, geometry_of, reads_of}, specs.Bounded.{AcceptedBoundsHold, words_read}}
 use Rattle.query_laws.specs.ValidLaws.{AcceptedAreValid, AcceptedStartAsWords}
-use Rattle.enclosed_query.specs.EnclosedTables.{enclose_text}
-use Rattle.enclosed_query.specs.Holding.{ShownHolds, ShownTablesHold}
+use Rattle.enclosed_query.specs.{EnclosedTables.enclose_text, Holding.{ShownHolds, ShownTablesHold}}
 use Rattle.trace_drive.specs.ReadPackets.{ReadPacketsAreOfWords}
 use Rattle.marple_cli.specs.Output.{enclosures_text, of_accepted}
-use Rattle.marple_laws.specs.Bounded.{AcceptedBoundsHold, words_read}
 
 module _ (holding : ShownTablesHold) (words : ReadPacketsAreOfWords) (valid : AcceptedAreValid) (starts : AcceptedStartAsWords)
     (setting : Setting) (text trace : List ℕ) where

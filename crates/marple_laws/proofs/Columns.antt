@@ -3,14 +3,11 @@ use Rattle.marple_laws.proofs.Words.{◌≡◌, ℕ, zero, suc, ◌+◌, Bool, t
 use Rattle.marple_laws.proofs.Words.{refl, sym, ap, subst, ◌∙◌, inl, inr, arith, nat_eq, nat_lt, if◌then◌else◌, list_any, cons_option}
 use Rattle.marple_laws.proofs.Words.{NameTaken, OverLimit, States, Keys, Span, TypedFold, FoldDef, Name, FoldView, must, is_among}
 use Rattle.marple_laws.proofs.Words.{place_from, place_of, collected, slot_at, slot_of, MAX_KEYS, MAX_STATES, AreNew}
+use Rattle.marple_laws.proofs.{Items.{must_ok, must_not_ok, found_first, same_ok, IsIn, not_in, new_push, apart_from}, Differ.AreApart}
 use Rattle.std.specs.Prelude.{map, slice_get}
-use Rattle.query_lang.specs.declared.query.StateVar.{StateVar}
-use Rattle.query_lang.specs.declared.typing.Picked.{Picked}
-use Rattle.query_lang.specs.declared.typing.StreamColumn.{StreamColumn}
+use Rattle.query_lang.specs.declared.{query.StateVar.StateVar, typing.{Picked.Picked, StreamColumn.StreamColumn}}
 use Rattle.query_lang.specs.TypedFolds.{states_from, args_from, body_checked, fold_checked}
 use Rattle.query_lang.specs.TypedStreams.{column_names, columns_at, keys_from, arguments_of}
-use Rattle.marple_laws.proofs.Items.{must_ok, must_not_ok, found_first, same_ok, IsIn, not_in, new_push, apart_from}
-use Rattle.marple_laws.proofs.Differ.{AreApart}
 
 -- the state variables of a fold
 

@@ -1,11 +1,10 @@
 -- The plans that `compile` writes run as their queries.
 use Rattle.marple_laws.proofs.Words.{◌≡◌, ℕ, List, [], Some, None, refl, sym, ap, ◌∙◌, subst, Setting, TypedQuery, Checked, accepted}
 use Rattle.marple_laws.proofs.Words.{fault_in, geometry_of, Made, plan_output, reads_in, IsReadingOf, compiled_text, final_fault}
-use Rattle.marple_laws.proofs.Words.{NoViewsWithoutNumber, reads_of, words_of, made_of, IsAsTheQuery, fault_after}
+use Rattle.marple_laws.proofs.{Words.{NoViewsWithoutNumber, reads_of, words_of, made_of, IsAsTheQuery, fault_after}, OneReading.read_once}
+use Rattle.marple_laws.proofs.Accepted.{accepted_load}
 use Rattle.std.specs.Prelude.{Ok, Err}
 use Rattle.command_line.specs.declared.command.Command.TheVariants.{RunPlan}
-use Rattle.marple_laws.proofs.OneReading.{read_once}
-use Rattle.marple_laws.proofs.Accepted.{accepted_load}
 use Rattle.trace_drive.specs.ReadPackets.{ReadPacketsAreWhole}
 use Rattle.trace_reader.specs.Traces as traces
 use Rattle.marple_cli.specs.Output.{IsRead, Source, fault_for, of_accepted, plan_tables_text, read_packets, run_text}

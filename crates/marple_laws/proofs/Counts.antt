@@ -5,8 +5,7 @@ use Rattle.marple_laws.proofs.Words.{TypedOp, TypedQuery, TypedStream, IsValidEm
 use Rattle.marple_laws.proofs.Words.{Operation, term_of, AreValidStreams, IsValidOp, IsValidQuery, MAX_NODES, query_made, stages_of, PlanOp}
 use Rattle.marple_laws.proofs.Words.{QueryMade, query_fault, order_long, query_ops, query_order, query_registers, made_staged, moved_op}
 use Rattle.marple_laws.proofs.Words.{op_numbered}
-use Rattle.std.specs.Prelude.{IfSome, map, max, slice_get}
-use Rattle.std.proofs.lemmas.List.{length-append}
+use Rattle.std.{specs.Prelude.{IfSome, map, max, slice_get}, proofs.lemmas.List.length-append}
 use Rattle.query_lang.specs.declared.typed.TypedOp.TheVariants as typed
 use Rattle.stage_plan.specs.Depths.{StreamDepths, depths_at, depths_made, emit_depths, group_depths, joined_depths, packet_depths}
 use Rattle.stage_plan.specs.Depths.{query_depths, stage_fault, term_depth, term_depths}

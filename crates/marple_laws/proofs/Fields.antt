@@ -6,12 +6,8 @@ use Rattle.marple_laws.proofs.Words.{number_of, field_name, all_fields, has_fiel
 use Rattle.marple_laws.proofs.Words.{Made, word_named, nothing, AreFrom, IsKnown, fields_of, reads_line, line}
 use Rattle.std.specs.Prelude.{map, filter}
 use Rattle.plan_file.specs.declared.line_word.LineWord.TheVariants as lead
-use Rattle.marple_laws.proofs.GroupLines.{IsReadable, AreReadable}
-use Rattle.marple_laws.proofs.Listed.{IsIn}
-use Rattle.marple_laws.proofs.Known.{IsGood, AllGood}
-use Rattle.marple_laws.proofs.OpLines.{Fits, with_ops}
-use Rattle.marple_laws.proofs.Tokens.{is_token, AreTokens}
-use Rattle.marple_laws.proofs.Written.{IsWritten, line_written}
+use Rattle.marple_laws.proofs.{GroupLines.{IsReadable, AreReadable}, Listed.IsIn, Known.{IsGood, AllGood}, OpLines.{Fits, with_ops}}
+use Rattle.marple_laws.proofs.{Tokens.{is_token, AreTokens}, Written.{IsWritten, line_written}}
 
 pub in_filter : (test : Field → Bool) (f : Field) (fields : List Field) → test f ≡ true → IsIn f fields → IsIn f (filter test fields)
 in_filter test f [] e h = absurd h

@@ -9,9 +9,8 @@ use Rattle.std.specs.Prelude.{◌⊎◌, Contains}
 use Rattle.plan_file.specs.declared.line_word.LineWord.TheVariants as words
 use Rattle.plan_file.specs.Groups.{IsArgLine, IsGroupBody, IsGroupLine, IsInGroup, IsKeyLine, IsNewIn, IsStateLine, group_with, names_of}
 use Rattle.plan_loader.proofs.Folds.{blocks, classes, depths}
-use Rattle.marple_laws.proofs.BodyDecisions.{is_body}
-use Rattle.marple_laws.proofs.Decisions.{Decided, both, by_both, contains, is_empty, is_none, less, most, neither, none_some, same_number}
-use Rattle.marple_laws.proofs.Decisions.{same_text, some_same, value_of}
+use Rattle.marple_laws.proofs.{BodyDecisions.is_body, Decisions.{Decided, both, by_both, contains, is_empty, is_none, less, most, neither}}
+use Rattle.marple_laws.proofs.Decisions.{none_some, same_number, same_text, some_same, value_of}
 use Rattle.marple_laws.proofs.PartDecisions.{named_number, named_operand, one_operand}
 
 operand_name : (fs gs : List Field) (o : List PlanOp) (w line n m : List ℕ) (u v : Operand) → IsNamedOperand fs o w line n u

@@ -5,9 +5,7 @@ use Rattle.marple_laws.proofs.Words.{Lexeme, Folded, Group, Made, Operand, PlanO
 use Rattle.marple_laws.proofs.Words.{AreNames, AreNew, AreNoKeys, AllWords}
 use Rattle.std.specs.Prelude.{map}
 use Rattle.plan_file.specs.declared.line_word.LineWord.TheVariants as lead
-use Rattle.marple_laws.proofs.Numbers.{number_decimal, token_decimal}
-use Rattle.marple_laws.proofs.OpLines.{Fits, operand_read, token_operand}
-use Rattle.marple_laws.proofs.Names.{token_name}
+use Rattle.marple_laws.proofs.{Numbers.{number_decimal, token_decimal}, OpLines.{Fits, operand_read, token_operand}, Names.token_name}
 use Rattle.marple_laws.proofs.Written.{IsWritten, nothing_written, written_then, line_written}
 
 -- an operand whose register is known, with a number that fits a word

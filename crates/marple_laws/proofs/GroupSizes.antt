@@ -5,13 +5,10 @@ use Rattle.marple_laws.proofs.Words.{range_with_len, same_Some, TypedFold, Class
 use Rattle.marple_laws.proofs.Words.{fold_states, Taking, taking_of, takings, AreValidStreams, IsValidOp, MAX_ARGS, MAX_KEYS, MAX_NODES}
 use Rattle.marple_laws.proofs.Words.{MAX_STATEMENTS, MAX_STATES, depth_of, least_from, GroupWiring, Operand, GroupShape, class_word}
 use Rattle.marple_laws.proofs.Words.{group_lines, named_lines, block_words, line, operand_word, AllWords}
-use Rattle.std.specs.Prelude.{map, slice_get}
-use Rattle.std.proofs.lemmas.List.{length-append}
+use Rattle.std.{specs.Prelude.{map, slice_get}, proofs.lemmas.List.length-append}
 use Rattle.query_lang.specs.declared.typed.Class.TheVariants as class
 use Rattle.query_lang.specs.declared.typed.TypedOp.TheVariants as typed
-use Rattle.marple_laws.proofs.OpLines.{Fits}
-use Rattle.marple_laws.proofs.LineSizes.{after_size, block_size, decimal_size, line_size, operand_size}
-use Rattle.marple_laws.proofs.NameSizes.{total}
+use Rattle.marple_laws.proofs.{OpLines.Fits, LineSizes.{after_size, block_size, decimal_size, line_size, operand_size}, NameSizes.total}
 use Rattle.marple_laws.proofs.Texts.{all_at}
 
 -- words of at most 21 bytes

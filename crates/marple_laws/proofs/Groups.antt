@@ -9,13 +9,9 @@ use Rattle.marple_laws.proofs.Words.{AllWords, class_same, depth_same}
 use Rattle.std.specs.Prelude.{map, slice_get}
 use Rattle.plan_file.specs.declared.line_word.LineWord.TheVariants as lead
 use Rattle.plan_file.specs.Groups.{names_of}
-use Rattle.marple_laws.proofs.Bodies.{tokens_block, block_read, few_braces}
-use Rattle.marple_laws.proofs.GroupLines.{IsReadable, AreReadable, within, outside, group_so_far, keys_written, args_written}
-use Rattle.marple_laws.proofs.GroupLines.{states_written}
-use Rattle.marple_laws.proofs.Names.{token_name}
-use Rattle.marple_laws.proofs.Numbers.{number_decimal, token_decimal}
-use Rattle.marple_laws.proofs.OpLines.{operand_read, token_operand}
-use Rattle.marple_laws.proofs.Tokens.{is_token}
+use Rattle.marple_laws.proofs.{Bodies.{tokens_block, block_read, few_braces}, GroupLines.{IsReadable, AreReadable, within, outside}}
+use Rattle.marple_laws.proofs.{GroupLines.{group_so_far, keys_written, args_written, states_written}, Names.token_name}
+use Rattle.marple_laws.proofs.{Numbers.{number_decimal, token_decimal}, OpLines.{operand_read, token_operand}, Tokens.is_token}
 use Rattle.marple_laws.proofs.Written.{IsWritten, nothing_written, written_then, line_written}
 
 -- what holds of a groupby whose lines are allowed in a plan with these fields and operations

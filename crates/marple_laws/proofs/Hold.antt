@@ -2,17 +2,12 @@
 use Rattle.marple_laws.proofs.Words.{◌≡◌, ℕ, ◌≤◌, List, [], length, Option, Some, None, Ok, refl, sym, ap, subst, arith, codes, flat_map}
 use Rattle.marple_laws.proofs.Words.{Query, TypedQuery, and_then, number_in, checked, typed_names, IsQueryOf, parsed_text, accepted, staged}
 use Rattle.marple_laws.proofs.Words.{unless_fault, parts, accepted_valid, accepted_starts, printed_group, AcceptedHavePlanTexts}
-use Rattle.query_lang.specs.declared.fault.QueryFault.{QueryFault}
-use Rattle.query_laws.proofs.QueryLaws.{query_sound}
-use Rattle.query_laws.proofs.Steps.{found_first, same_ok}
-use Rattle.stage_plan.specs.Depths.{stage_fault}
-use Rattle.marple_laws.proofs.Differ.{NamesDiffer}
-use Rattle.marple_laws.proofs.Lexical.{AreGood, cut_good, typed_good}
-use Rattle.marple_laws.proofs.NameSizes.{cut_total, total, typed_total}
-use Rattle.marple_laws.proofs.Queries.{checked_differ}
-use Rattle.marple_laws.proofs.Texts.{named_well, names_differ}
-use Rattle.marple_laws.proofs.TextSize.{text_size}
+use Rattle.marple_laws.proofs.{Differ.NamesDiffer, Lexical.{AreGood, cut_good, typed_good}, NameSizes.{cut_total, total, typed_total}}
+use Rattle.marple_laws.proofs.{Queries.checked_differ, Texts.{named_well, names_differ}, TextSize.text_size}
 use Rattle.marple_laws.proofs.Prints.{only_groups, as_many, numbers_new, starts}
+use Rattle.query_lang.specs.declared.fault.QueryFault.{QueryFault}
+use Rattle.query_laws.proofs.{QueryLaws.query_sound, Steps.{found_first, same_ok}}
+use Rattle.stage_plan.specs.Depths.{stage_fault}
 
 -- the names of a text's query
 names_good : (text : List ℕ) (query : Query) → IsQueryOf text query → AreGood query.names

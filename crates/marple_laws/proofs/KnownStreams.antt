@@ -5,14 +5,13 @@ use Rattle.marple_laws.proofs.Words.{cons_option, cases_lt, cases_eq, length_pus
 use Rattle.marple_laws.proofs.Words.{TypedExpr, TypedFold, TypedOp, TypedStream, Term, term_of, IsValidTerm, IsValidFold, IsValidEmit}
 use Rattle.marple_laws.proofs.Words.{AreValidStreams, IsValidOp, IsValidWord, Operand, Number, PlanOp, FieldSource, source_at, sources_at}
 use Rattle.marple_laws.proofs.Words.{packet_sources, sources_made, term_slots, named_fields, named_slots, named_input, AllWords}
+use Rattle.marple_laws.proofs.{Listed.{IsIn', IsIn, in_left, in_right, in_set}, Known.{IsGood, AreWritable, AreFrom, AreRead, read_left}}
+use Rattle.marple_laws.proofs.Known.{read_right, below_two, from_at, column_good, AllGood, columns_good, good_append, good_at, with_one}
+use Rattle.marple_laws.proofs.Known.{compiled_good}
 use Rattle.std.specs.Prelude.{map, slice_get}
 use Rattle.query_lang.specs.declared.typed.TypedOp.TheVariants.{Filter, Map, Zip, Group}
 use Rattle.stage_plan.specs.Making.{Made, AllMade, compiled, compiled_all, operand_at, wires_at, packet_wires, made_join, conditioned}
-use Rattle.stage_plan.specs.Making.{made_emit, made_group, made_by, all_made}
-use Rattle.stage_plan.proofs.StreamRows.{at_earlier, at_last, at_past}
-use Rattle.marple_laws.proofs.Listed.{IsIn', IsIn, in_left, in_right, in_set}
-use Rattle.marple_laws.proofs.Known.{IsGood, AreWritable, AreFrom, AreRead, read_left, read_right, below_two, from_at, column_good, AllGood}
-use Rattle.marple_laws.proofs.Known.{columns_good, good_append, good_at, with_one, compiled_good}
+use Rattle.stage_plan.{specs.Making.{made_emit, made_group, made_by, all_made}, proofs.StreamRows.{at_earlier, at_last, at_past}}
 
 -- the type of a value
 abbrev type_of : {A : Type 0} → A → Type 0

@@ -2,19 +2,15 @@
 use Rattle.marple_laws.proofs.Words.{◌≡◌, ℕ, ◌<◌, List, map, ap, sym, subst, ◌∙◌, arith, Setting, Geometry, HasRoom, Machine, Table, Made}
 use Rattle.marple_laws.proofs.Words.{plan_output, plan_tables, TypedQuery, geometry_of, group_tables, query_text, AreLanesOf}
 use Rattle.marple_laws.proofs.Words.{PipelineStands, PipelineView, folding_at, end_machines, words_of}
+use Rattle.marple_laws.specs.Left.{AreTablesOfPlan, AreTablesOfQuery, words_for}
 use Rattle.std.specs.Prelude.{Ok}
-use Rattle.command_line.specs.Command.{IsSetting, ways_number}
-use Rattle.command_line.specs.declared.setting.Ways.{Ways}
-use Rattle.command_line.specs.declared.setting.Ways.TheVariants.{One}
+use Rattle.command_line.specs.{Command.{IsSetting, ways_number}, declared.setting.Ways.{Ways, TheVariants.One}}
 use Rattle.epoch_entry.specs.declared.purpose.Entries.TheVariants.{Folds}
 use Rattle.plan_loader.proofs.SoundMade.{says_sound}
 use Rattle.query_laws.specs.ValidLaws.{AcceptedAreValid}
-use Rattle.query_run.specs.PlanReports.{EndsAreTheTexts, numbered_print}
-use Rattle.query_run.specs.QueryReports.{query_print}
-use Rattle.query_run.specs.Runs.{EndsAreTheQuerys, query_ends}
+use Rattle.query_run.specs.{PlanReports.{EndsAreTheTexts, numbered_print}, QueryReports.query_print, Runs.{EndsAreTheQuerys, query_ends}}
 use Rattle.switch_core.specs.Pipelines.{tables_of}
 use Rattle.marple_cli.specs.Driven.{StandsForEnd}
-use Rattle.marple_laws.specs.Left.{AreTablesOfPlan, AreTablesOfQuery, words_for}
 
 some_ways : (ways : Ways) → 0 < ways_number ways
 some_ways One = omega arith

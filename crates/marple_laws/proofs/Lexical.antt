@@ -4,15 +4,13 @@ use Rattle.marple_laws.proofs.Words.{slice_get, Option, Some, None, Ok, Err, ref
 use Rattle.marple_laws.proofs.Words.{add_comm, codes, is_none, list_any, list_all, prefix_len, bytes_eq, digits_value, length-prefix_len}
 use Rattle.marple_laws.proofs.Words.{same_Some, Field, Switch, all_fields, field_name, Piece, Token, AreOnce, number_in, with_name}
 use Rattle.marple_laws.proofs.Words.{typed_names, with_fields, is_name}
-use Rattle.std.specs.Prelude.{nat_eq, not}
-use Rattle.std.proofs.lemmas.Slice.Eq.{bytes_eq-Decides}
-use Rattle.query_lang.proofs.NameFacts.{has_number}
-use Rattle.query_lang.specs.declared.token.Mark.{Mark}
+use Rattle.std.{specs.Prelude.{nat_eq, not}, proofs.lemmas.Slice.Eq.bytes_eq-Decides}
+use Rattle.query_lang.{proofs.NameFacts.has_number, specs.declared.token.Mark.Mark}
 use Rattle.query_lang.specs.declared.token.Piece.TheVariants as pieces
 use Rattle.query_lang.specs.declared.token.TokenKind.TheVariants as kinds
-use Rattle.query_lang.specs.declared.token.Word.{Word}
-use Rattle.query_lang.specs.Lexis.{Cut, below_limit, cut, cut_piece, is_blank, is_digit, is_word_byte, mark_at, name_piece, number_piece}
-use Rattle.query_lang.specs.Lexis.{one_mark, piece, piece_of_mark, reserved, token_at, two_mark, with_front, word_piece}
+use Rattle.query_lang.specs.{declared.token.Word.Word, Lexis.{Cut, below_limit, cut, cut_piece, is_blank, is_digit, is_word_byte, mark_at}}
+use Rattle.query_lang.specs.Lexis.{name_piece, number_piece, one_mark, piece, piece_of_mark, reserved, token_at, two_mark, with_front}
+use Rattle.query_lang.specs.Lexis.{word_piece}
 use Rattle.marple_laws.proofs.Tokens.{both_are}
 
 -- ---- names, in sequence

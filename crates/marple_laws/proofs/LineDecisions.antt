@@ -6,8 +6,7 @@ use Rattle.std.specs.Prelude.{◌⊎◌, Contains}
 use Rattle.plan_file.specs.declared.line_word.LineWord.TheVariants as words
 use Rattle.plan_file.specs.Groups.{IsGroupLine, IsInGroup}
 use Rattle.marple_laws.proofs.Decisions.{Decided, both, by_both, contains, is_empty, is_false, is_none, is_true, less, neither, none_some}
-use Rattle.marple_laws.proofs.Decisions.{same_number, same_texts, some_same, value_of}
-use Rattle.marple_laws.proofs.GroupDecisions.{fold_line, group_line, in_group}
+use Rattle.marple_laws.proofs.{Decisions.{same_number, same_texts, some_same, value_of}, GroupDecisions.{fold_line, group_line, in_group}}
 use Rattle.marple_laws.proofs.PartDecisions.{one_number, op_line, reads_line}
 
 first : (before : Made) (line : List ℕ) → Decided ((after : Made) × IsFirst before line after)

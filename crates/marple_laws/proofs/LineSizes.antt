@@ -4,8 +4,7 @@ use Rattle.marple_laws.proofs.Words.{codes, decimal, if◌then◌else◌, length
 use Rattle.marple_laws.proofs.Words.{IsValidBlock, IsValidTerm, block_count, block_nodes, term_nodes, Term, Literal, Read, Negation}
 use Rattle.marple_laws.proofs.Words.{Operation, Operand, Register, Number, Not, Two, PlanOp, op_line, spaced, block_words, function_word}
 use Rattle.marple_laws.proofs.Words.{line, number_word, operand_word, operation_words, slot_word, state_word, term_words}
-use Rattle.std.specs.Prelude.{nat_lt}
-use Rattle.std.proofs.lemmas.List.{length-append}
+use Rattle.std.{specs.Prelude.nat_lt, proofs.lemmas.List.length-append}
 use Rattle.query_lang.specs.declared.fold.Op.TheVariants as ops
 use Rattle.stage_plan.specs.declared.op.Operation as operation
 use Rattle.marple_laws.proofs.OpLines.{Fits}

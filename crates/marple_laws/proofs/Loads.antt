@@ -1,8 +1,6 @@
 -- All that the text of a query's plan says agrees with the query.
 use Rattle.marple_laws.proofs.Words.{◌≡◌, None, subst, TypedQuery, IsValidQuery, IsPlanOf, PlanParts, IsSoundPlan, says_one, makes_one}
-use Rattle.marple_laws.proofs.Words.{final_fault, IsAsTheQuery, LoadsAsTheQuery, HasPlanText}
-use Rattle.marple_laws.proofs.FieldSets.{one_reading}
-use Rattle.marple_laws.proofs.Runs.{one_output}
+use Rattle.marple_laws.proofs.{Words.{final_fault, IsAsTheQuery, LoadsAsTheQuery, HasPlanText}, FieldSets.one_reading, Runs.one_output}
 use Rattle.marple_laws.proofs.Says.{text_says}
 
 pub loads : (q : TypedQuery) (p : PlanParts) → IsValidQuery q → HasPlanText q → IsPlanOf q p → IsSoundPlan p → final_fault q ≡ None

@@ -8,8 +8,7 @@ use Rattle.std.specs.Prelude.{map, slice_get}
 use Rattle.query_lang.specs.declared.token.Piece.TheVariants as pieces
 use Rattle.query_lang.specs.declared.token.TokenKind.TheVariants as kinds
 use Rattle.query_lang.specs.Lexis.{Cut, cut, cut_piece, piece, token_at, with_front}
-use Rattle.marple_laws.proofs.Items.{IsIn, in_at}
-use Rattle.marple_laws.proofs.Queries.{in_last}
+use Rattle.marple_laws.proofs.{Items.{IsIn, in_at}, Queries.in_last}
 use Rattle.marple_laws.proofs.Texts.{covers_all, groups_of, in_contains, name_of, new_apart, text_there}
 
 -- ---- sums over lists

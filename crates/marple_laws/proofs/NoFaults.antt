@@ -1,9 +1,6 @@
 -- Inputs and sinks that never fail have no fault.
 use Rattle.marple_laws.proofs.Words.{inl, inr, arith}
-use Rattle.marple_base.specs.Faults.{Rose}
-use Rattle.marple_base.specs.Sound.{sound_input}
-use Rattle.marple_base.specs.declared.inputs.Which.{Which}
-use Rattle.marple_base.specs.declared.inputs.Which.TheVariants.{Query, Trace}
+use Rattle.marple_base.specs.{Faults.Rose, Sound.sound_input, declared.inputs.Which.{Which, TheVariants.{Query, Trace}}}
 use Rattle.marple_base.specs.declared.sound.SoundInputs.{SoundInputs}
 
 pub never_rose : Rose 0 0 → ⊥

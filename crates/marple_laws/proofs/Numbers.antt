@@ -2,9 +2,9 @@
 use Rattle.marple_laws.proofs.Words.{◌≡◌, ℕ, ◌^◌, ◌<◌, ◌≤◌, Bool, true, false, List, [], ◌∷◌, length, get_or, Some, None, refl, ap, ◌∙◌}
 use Rattle.marple_laws.proofs.Words.{inl, inr, arith, decimal, if◌then◌else◌, ◌==◌, list_all, AllDigits, digits_value, cases_lt, nat_tests}
 use Rattle.marple_laws.proofs.Words.{decimal_is_IsNumeral, decimal_digit, first_decimal, digit_from_value, is_first_digit, number}
+use Rattle.marple_laws.proofs.Tokens.{both_are, is_plain, is_token}
 use Rattle.std.specs.Prelude.{not, nat_lt}
 use Rattle.query_lang.specs.Lexis.{below_limit, is_digit}
-use Rattle.marple_laws.proofs.Tokens.{both_are, is_plain, is_token}
 
 -- a decimal digit, which is neither a space nor LF
 digit_in : (c : ℕ) → 48 ≤ c → c ≤ 57 → is_digit c ≡ true

@@ -6,10 +6,8 @@ use Rattle.marple_laws.proofs.Words.{IsAllowed, op_line, operand_word, operation
 use Rattle.std.specs.Prelude.{slice_get}
 use Rattle.plan_file.specs.declared.line_word.LineWord.TheVariants as lead
 use Rattle.stage_plan.specs.declared.op.Operation as operation
-use Rattle.marple_laws.proofs.Bodies.{function_read, token_function}
-use Rattle.marple_laws.proofs.Known.{IsSingle}
-use Rattle.marple_laws.proofs.Numbers.{number_decimal, token_decimal, token_marked}
-use Rattle.marple_laws.proofs.Tokens.{is_token, AreTokens}
+use Rattle.marple_laws.proofs.{Bodies.{function_read, token_function}, Known.IsSingle}
+use Rattle.marple_laws.proofs.{Numbers.{number_decimal, token_decimal, token_marked}, Tokens.{is_token, AreTokens}}
 use Rattle.marple_laws.proofs.Written.{IsWritten, nothing_written, written_then, line_written}
 
 -- the number of an operand fits a word

@@ -5,21 +5,17 @@ use Rattle.marple_laws.proofs.Words.{if◌then◌else◌, nat_tests, map-append,
 use Rattle.marple_laws.proofs.Words.{PrintOf, TypedOp, TypedStream, Earlier, FoldView, Known, Meaning, TableView, condition_of, with_fold}
 use Rattle.marple_laws.proofs.Words.{fold_added, MAX_GROUPBYS, AreNew}
 use Rattle.std.specs.Prelude.{map, slice_get}
-use Rattle.query_lang.specs.declared.query.Key.{Key}
-use Rattle.query_lang.specs.declared.query.StreamDef.{StreamDef}
-use Rattle.query_lang.specs.declared.query.StreamOp.{StreamOp}
+use Rattle.query_lang.specs.declared.query.{Key.Key, StreamDef.StreamDef, StreamOp.StreamOp}
 use Rattle.query_lang.specs.declared.query.StreamOp.TheVariants as ops
 use Rattle.query_lang.specs.declared.typed.PrintOf.TheVariants as place
 use Rattle.query_lang.specs.declared.typed.TypedOp.TheVariants as typed
 use Rattle.query_lang.specs.declared.typing.MadeStream.{MadeStream}
 use Rattle.query_lang.specs.declared.typing.Meaning.TheVariants as meaning
-use Rattle.query_lang.specs.TypedFolds.{fold_checked}
-use Rattle.query_lang.specs.TypedStreams.{meaning_of, begun, as_fold, stream_named, fold_named, column_names, columns_at, new_columns}
-use Rattle.query_lang.specs.TypedStreams.{no_new_columns, keys_checked, key_names, arguments_of, clash, grouped, made_stream, with_stream}
-use Rattle.query_lang.specs.TypedStreams.{stream_checked, next_stream}
+use Rattle.query_lang.specs.{TypedFolds.fold_checked, TypedStreams.{meaning_of, begun, as_fold, stream_named, fold_named, column_names}}
+use Rattle.query_lang.specs.TypedStreams.{columns_at, new_columns, no_new_columns, keys_checked, key_names, arguments_of, clash, grouped}
+use Rattle.query_lang.specs.TypedStreams.{made_stream, with_stream, stream_checked, next_stream}
 use Rattle.marple_laws.proofs.Items.{must_ok, must_not_ok, found_first, same_ok, IsIn, in_push, new_push}
-use Rattle.marple_laws.proofs.Columns.{fold_new, states_apart, AreKeyColumns, key_columns_are}
-use Rattle.marple_laws.proofs.Differ.{AreApart, HasOwnColumns}
+use Rattle.marple_laws.proofs.{Columns.{fold_new, states_apart, AreKeyColumns, key_columns_are}, Differ.{AreApart, HasOwnColumns}}
 
 -- the place of the table that a name refers to
 abbrev pub place_in : Option Meaning → Option PrintOf

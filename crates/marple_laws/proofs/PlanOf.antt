@@ -5,22 +5,15 @@ use Rattle.marple_laws.proofs.Words.{TypedFold, TypedOp, TypedQuery, TypedStream
 use Rattle.marple_laws.proofs.Words.{IsProgramOf, depth_found_is, GroupPlan, reads_of, query_made, stages_of, GroupShape, group_shape}
 use Rattle.marple_laws.proofs.Words.{shape_made, shape_with, query_fault, query_order, query_ops, query_registers, query_wiring}
 use Rattle.marple_laws.proofs.Words.{register_in, accepted, accepted_valid, AcceptedHavePlans}
-use Rattle.std.specs.Prelude.{map, slice_get}
-use Rattle.std.proofs.lemmas.List.FromFn.{length-map-range_with_len}
+use Rattle.std.{specs.Prelude.{map, slice_get}, proofs.lemmas.List.FromFn.length-map-range_with_len}
 use Rattle.query_lang.specs.declared.typed.TypedOp.TheVariants as typed
-use Rattle.fold_code.specs.Meaning.{IsCodeOf}
-use Rattle.fold_code.proofs.Meanings.{meaning_of}
+use Rattle.fold_code.{specs.Meaning.IsCodeOf, proofs.Meanings.meaning_of}
 use Rattle.fold_class.proofs.ProgramLemmas.{rows_are}
-use Rattle.stage_plan.specs.Depths.{stage_fault}
-use Rattle.stage_plan.specs.Grouping.{FitsGroup, IsGroupFor, IsGroupOf, AreGroupsOf}
-use Rattle.stage_plan.proofs.Counts.{all_fit}
-use Rattle.stage_plan.proofs.Groupings.{args_are, fitting_sound, shape_is}
-use Rattle.stage_plan.proofs.Putting.{IsPut, put}
+use Rattle.stage_plan.{specs.{Depths.stage_fault, Grouping.{FitsGroup, IsGroupFor, IsGroupOf, AreGroupsOf}}, proofs.Counts.all_fit}
+use Rattle.stage_plan.proofs.{Groupings.{args_are, fitting_sound, shape_is}, Putting.{IsPut, put}}
 use Rattle.plan_writer.proofs.Once.{registers_placed}
 use Rattle.marple_laws.specs.PlanOf.{code_of, rows_of, program_of, group_with, group_planned, groups_planned, plan_of}
-use Rattle.marple_laws.proofs.Counts.{few_made}
-use Rattle.marple_laws.proofs.Hold.{staged_none}
-use Rattle.marple_laws.proofs.Texts.{all_at}
+use Rattle.marple_laws.proofs.{Counts.few_made, Hold.staged_none, Texts.all_at}
 
 program_is : (f : TypedFold) → IsValidFold f → IsProgramOf f (program_of f)
 program_is f valid = record {

@@ -5,9 +5,7 @@ use Rattle.marple_laws.proofs.Words.{printed_group, AllWords, AreNew}
 use Rattle.std.specs.Prelude.{slice_get}
 use Rattle.query_lang.specs.declared.typed.PrintOf.TheVariants as place
 use Rattle.query_lang.specs.Words.{AreWords, IsWord}
-use Rattle.marple_laws.proofs.Items.{IsIn, contains_in, in_push}
-use Rattle.marple_laws.proofs.Queries.{in_left, in_last}
-use Rattle.marple_laws.proofs.Texts.{all_at, in_contains}
+use Rattle.marple_laws.proofs.{Items.{IsIn, contains_in, in_push}, Queries.{in_left, in_last}, Texts.{all_at, in_contains}}
 
 none_first : (finals : List TypedFinal) → first_final finals ≡ None → length finals ≡ 0
 none_first [] e = refl

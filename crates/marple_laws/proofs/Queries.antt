@@ -5,8 +5,7 @@ use Rattle.marple_laws.proofs.Words.{length_push, NameTaken, NothingPrinted, Nam
 use Rattle.marple_laws.proofs.Words.{Known, Meaning, TableView, is_among, number_in, field_numbers, print_checked, item_checked}
 use Rattle.marple_laws.proofs.Words.{items_checked, start_of, typed_names, given_of, checked}
 use Rattle.std.specs.Prelude.{map}
-use Rattle.query_lang.specs.declared.query.FinalDef.{FinalDef}
-use Rattle.query_lang.specs.declared.query.Item.{Item}
+use Rattle.query_lang.specs.declared.query.{FinalDef.FinalDef, Item.Item}
 use Rattle.query_lang.specs.declared.query.Item.TheVariants as item
 use Rattle.query_lang.specs.declared.typed.PrintOf.TheVariants as place
 use Rattle.query_lang.specs.declared.typing.MadeFinal.{MadeFinal}
@@ -15,8 +14,7 @@ use Rattle.query_lang.specs.declared.typing.Origin.TheVariants as origin
 use Rattle.query_lang.specs.TypedFinals.{as_table, table_at, table_named, five_fields, made_final, with_final, final_checked}
 use Rattle.query_lang.specs.TypedStreams.{meaning_of, begun}
 use Rattle.marple_laws.proofs.Items.{must_ok, must_not_ok, found_first, same_ok, IsIn, in_at, in_push, not_in, new_push}
-use Rattle.marple_laws.proofs.Places.{place_in, place_at, IsBelow, Good, fold_good, stream_good, grown, meaning_cases}
-use Rattle.marple_laws.proofs.Differ.{NamesDiffer}
+use Rattle.marple_laws.proofs.{Places.{place_in, place_at, IsBelow, Good, fold_good, stream_good, grown, meaning_cases}, Differ.NamesDiffer}
 
 -- one more final
 with_final_good : (packets : ℕ) (e : Earlier) (name : Name) (made : MadeFinal) → Good packets e → Good packets (with_final e name made)

@@ -3,11 +3,9 @@ use Rattle.marple_laws.proofs.Words.{◌≡◌, ℕ, ◌+◌, Bool, true, false,
 use Rattle.marple_laws.proofs.Words.{refl, sym, ap, subst, ◌∙◌, ◌==◌, zip, all_fields, field_name, has_field, Field, Switch, FieldSet}
 use Rattle.marple_laws.proofs.Words.{Packet, MAX_RECORDS, MAX_TRACE, zeroed, as_read, all_as_read}
 use Rattle.std.specs.Prelude.{nat_lt}
-use Rattle.trace_reader.specs.Reading.{records}
-use Rattle.trace_reader.specs.Traces.{Contents, Layout, column_of_field, columns_named, columns_of_fields, contents, contents_from}
-use Rattle.trace_reader.specs.Traces.{contents_with, each}
-use Rattle.trace_reader.specs.Traces.{layout_of, layout_with, only_column, opening, packet_of, packet_with}
-use Rattle.trace_reader.specs.Traces.{rest_of, with_first, with_packet, word_at, words_in_columns}
+use Rattle.trace_reader.specs.{Reading.records, Traces.{Contents, Layout, column_of_field, columns_named, columns_of_fields, contents}}
+use Rattle.trace_reader.specs.Traces.{contents_from, contents_with, each, layout_of, layout_with, only_column, opening, packet_of}
+use Rattle.trace_reader.specs.Traces.{packet_with, rest_of, with_first, with_packet, word_at, words_in_columns}
 use Rattle.trace_reader.specs.declared.fault.TraceFault.{TraceFault}
 use Rattle.trace_reader.specs.declared.fault.TraceFault.TheVariants as fault
 

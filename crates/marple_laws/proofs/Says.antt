@@ -9,14 +9,9 @@ use Rattle.marple_laws.proofs.Words.{group_made, printed_group, made_of, AreNew,
 use Rattle.std.specs.Prelude.{slice_get}
 use Rattle.query_lang.specs.declared.typed.PrintOf.TheVariants as printed
 use Rattle.plan_file.specs.declared.line_word.LineWord.TheVariants as lead
-use Rattle.marple_laws.proofs.Allowed.{op_ok, shapes_long, group_ok}
-use Rattle.marple_laws.proofs.Fields.{begun, first_written, reads_written}
-use Rattle.marple_laws.proofs.GroupLines.{outside}
-use Rattle.marple_laws.proofs.Groups.{HasGroup, groups_written}
-use Rattle.marple_laws.proofs.Numbers.{number_decimal, token_decimal}
-use Rattle.marple_laws.proofs.OpLines.{with_ops, ops_written}
-use Rattle.marple_laws.proofs.Tokens.{lines_of, nothing_after}
-use Rattle.marple_laws.proofs.Written.{IsWritten, nothing_written, written_then, line_written}
+use Rattle.marple_laws.proofs.{Allowed.{op_ok, shapes_long, group_ok}, Fields.{begun, first_written, reads_written}, GroupLines.outside}
+use Rattle.marple_laws.proofs.{Groups.{HasGroup, groups_written}, Numbers.{number_decimal, token_decimal}, OpLines.{with_ops, ops_written}}
+use Rattle.marple_laws.proofs.{Tokens.{lines_of, nothing_after}, Written.{IsWritten, nothing_written, written_then, line_written}}
 
 -- as many groups are made as there are groupbys
 groups_long : (fields : List Field) (ops : List PlanOp) (shapes : List GroupShape) (wirings : List GroupWiring)

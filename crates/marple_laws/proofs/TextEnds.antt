@@ -3,9 +3,9 @@ use Rattle.marple_laws.proofs.Words.{◌≡◌, ℕ, zero, suc, List, [], ◌∷
 use Rattle.marple_laws.proofs.Words.{option_map, unwrap_or, slice_get-map, Taken, uses_taken, Geometry, end_of, Folded, Made, uses_in}
 use Rattle.marple_laws.proofs.Words.{wiring_in, geometry_of, GroupPlan, GroupWiring, Number, PlanOp, wiring_at, registers_after, stages_of}
 use Rattle.marple_laws.proofs.Words.{taken_at, PlanParts, PipelineStands, end_machines, ends_from, uses_by}
+use Rattle.marple_laws.specs.Left.{PlansStandForTheirTexts, text_ends, words_for}
 use Rattle.std.specs.Prelude.{slice_get}
 use Rattle.plan_loader.specs.Parts.{AreGroupsFrom, IsPlanFrom}
-use Rattle.marple_laws.specs.Left.{PlansStandForTheirTexts, text_ends, words_for}
 
 nothing : {A : Type 0} {x : A} {rest : List A} → [] ≡ x ∷ rest → ⊥
 nothing e = cc

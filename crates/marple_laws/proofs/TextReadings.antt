@@ -1,10 +1,8 @@
 -- Every text is valid, or it is refused at some place.
 use Rattle.marple_laws.proofs.Words.{◌≡◌, ℕ, suc, ◌<◌, ◌≤◌, List, [], ◌∷◌, length, take, Some, refl, inl, inr, arith, Checked, BadPlan}
 use Rattle.marple_laws.proofs.Words.{Made, bytes_after_lines, lines, start_of_line, IsLine, IsValidAfter, nothing, IsBadAt, Make, MAX_PLAN}
-use Rattle.marple_laws.proofs.Words.{EveryTextIsRead, IsReadingOf}
+use Rattle.marple_laws.proofs.{Words.{EveryTextIsRead, IsReadingOf}, Decisions.{Decided, is_empty, most}, LineDecisions.valid_after}
 use Rattle.std.specs.Prelude.{◌⊎◌, Ok, Err, slice_get}
-use Rattle.marple_laws.proofs.Decisions.{Decided, is_empty, most}
-use Rattle.marple_laws.proofs.LineDecisions.{valid_after}
 
 -- the first line that is not valid after those before it
 record IsBadIn (ls : List (List ℕ)) (first : Made) (i : ℕ) : Type 0 where

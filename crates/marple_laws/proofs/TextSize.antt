@@ -10,20 +10,13 @@ use Rattle.marple_laws.proofs.Words.{moved, moved_op, op_numbered, register_or_n
 use Rattle.marple_laws.proofs.Words.{query_groups, shape_made, text_at, op_at, ordered, MAX_PLAN, query_ops, query_order, query_registers}
 use Rattle.marple_laws.proofs.Words.{query_wiring, register_in, compiled_text, fields_of, group_lines_of, group_text, op_line, print_line}
 use Rattle.marple_laws.proofs.Words.{reads_line, spaced, line, AllWords, AreNew, IsNamedWell}
-use Rattle.std.specs.Prelude.{filter, map, nat_eq, nat_lt, not, slice_get}
-use Rattle.std.proofs.lemmas.List.{length-append}
+use Rattle.std.{specs.Prelude.{filter, map, nat_eq, nat_lt, not, slice_get}, proofs.lemmas.List.length-append}
 use Rattle.query_lang.specs.declared.typed.PrintOf.TheVariants as place
 use Rattle.query_lang.specs.declared.typed.TypedOp.TheVariants as typed
-use Rattle.stage_plan.specs.Depths.{stage_fault}
-use Rattle.stage_plan.specs.Making.{operand_at, wires_at}
-use Rattle.marple_laws.proofs.Known.{AreFrom, IsFrom, IsGood, IsWritable, writable_at}
-use Rattle.marple_laws.proofs.KnownStreams.{AllAreGood, AreFit, query_good}
-use Rattle.marple_laws.proofs.OpLines.{Fits}
-use Rattle.marple_laws.proofs.Items.{IsIn}
-use Rattle.marple_laws.proofs.Prints.{AreGroups}
-use Rattle.marple_laws.proofs.Texts.{IsMadeBy, all_at, group_from, made_by, stream_below}
-use Rattle.marple_laws.proofs.Differ.{HasOwnColumns}
-use Rattle.marple_laws.proofs.Counts.{few_ops, made_of_query}
+use Rattle.stage_plan.specs.{Depths.stage_fault, Making.{operand_at, wires_at}}
+use Rattle.marple_laws.proofs.{Known.{AreFrom, IsFrom, IsGood, IsWritable, writable_at}, KnownStreams.{AllAreGood, AreFit, query_good}}
+use Rattle.marple_laws.proofs.{OpLines.Fits, Items.IsIn, Prints.AreGroups, Texts.{IsMadeBy, all_at, group_from, made_by, stream_below}}
+use Rattle.marple_laws.proofs.{Differ.HasOwnColumns, Counts.{few_ops, made_of_query}}
 use Rattle.marple_laws.proofs.LineSizes.{after_size, decimal_size, line_size, op_size}
 use Rattle.marple_laws.proofs.NameSizes.{columns_total, field_size, group_names_total, taken, texts_in, total, weigh}
 use Rattle.marple_laws.proofs.GroupSizes.{AllFit, IsLimited, group_size, groups_size, shallow, taking_few}

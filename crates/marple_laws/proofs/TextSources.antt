@@ -3,10 +3,8 @@ use Rattle.marple_laws.proofs.Words.{◌≡◌, ℕ, List, refl, ap, ◌∙◌, 
 use Rattle.std.specs.Prelude.{Ok}
 use Rattle.command_line.specs.declared.command.Command.{Command}
 use Rattle.command_line.specs.declared.command.Command.TheVariants as commands
-use Rattle.marple_laws.proofs.OneReading.{read_once}
-use Rattle.marple_laws.proofs.TextReadings.{every_text}
+use Rattle.marple_laws.{proofs.{OneReading.read_once, TextReadings.every_text}, specs.Sources.{AreAlike, SourcesAreOne, SourcesAreThere}}
 use Rattle.marple_cli.specs.Output.{Source, defined_text, refusal, trace_refusal}
-use Rattle.marple_laws.specs.Sources.{AreAlike, SourcesAreOne, SourcesAreThere}
 
 abbrev source_of : List ℕ → Checked Made → Source
 source_of text plan = record { text = text; plan = plan }

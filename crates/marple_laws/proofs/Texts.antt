@@ -7,10 +7,8 @@ use Rattle.marple_laws.proofs.Words.{IsNamedWell}
 use Rattle.std.specs.Prelude.{map, slice_get}
 use Rattle.query_lang.specs.declared.typed.TypedOp.TheVariants as typed
 use Rattle.query_lang.specs.TypedQueries as valid
-use Rattle.marple_laws.proofs.Differ.{AreApart, HasOwnColumns, NamesDiffer}
-use Rattle.marple_laws.proofs.Items.{IsIn, contains_in, in_push}
-use Rattle.marple_laws.proofs.Queries.{in_left, in_last}
-use Rattle.marple_laws.proofs.Lexical.{AreGood, number_at}
+use Rattle.marple_laws.proofs.{Differ.{AreApart, HasOwnColumns, NamesDiffer}, Items.{IsIn, contains_in, in_push}}
+use Rattle.marple_laws.proofs.{Queries.{in_left, in_last}, Lexical.{AreGood, number_at}}
 
 -- ---- items of lists
 

@@ -5,9 +5,7 @@ use Rattle.marple_laws.proofs.Words.{decimal, flat_map, unwrap_or, length-decima
 use Rattle.marple_laws.proofs.Words.{MAX_TRACE, ArePackets, ArePacketWords, continued, header, packet_texts, trace_text, word_text}
 use Rattle.std.specs.Prelude.{nat_lt}
 use Rattle.queue_sim.specs.Generator.{Arrival, arrival_by, arrivals, drawn_after, last_time, leaves, generated_packet, packets_from}
-use Rattle.queue_sim.specs.Generator.{simulated}
-use Rattle.queue_sim.specs.Generator.{still_there, switch_of, touts_at, with_some}
-use Rattle.queue_sim.specs.TraceText.{line}
+use Rattle.queue_sim.specs.{Generator.{simulated, still_there, switch_of, touts_at, with_some}, TraceText.line}
 use Rattle.queue_sim.proofs.Bounds.{drawn_small, number_small, time_small, tout_small}
 
 -- ---- lines

@@ -3,11 +3,8 @@ use Rattle.std.specs.Prelude.{◌≡◌, ℕ, List, Ok, None}
 use Rattle.query_lang.specs.declared.typed.TypedQuery.{TypedQuery}
 use Rattle.accepted_query.specs.Accepted.{accepted}
 use Rattle.plan_writer.specs.PlanText.{final_fault}
-use Rattle.stage_plan.specs.Planned.{IsPlanOf}
-use Rattle.stage_plan.specs.Sound.{IsSoundPlan}
-use Rattle.marple_laws.specs.RunLaws.{LoadsAsTheQuery}
-use Rattle.marple_laws.specs.WellNamed.{HasPlanText}
-use Rattle.marple_laws.specs.PlanOf.{plan_of}
+use Rattle.stage_plan.specs.{Planned.IsPlanOf, Sound.IsSoundPlan}
+use Rattle.marple_laws.specs.{RunLaws.LoadsAsTheQuery, WellNamed.HasPlanText, PlanOf.plan_of}
 
 -- The query of an accepted text has a plan.
 pub record AcceptedHavePlans : Type 0 where

@@ -2,10 +2,8 @@
 use Rattle.std.specs.Prelude.{◌≡◌, ℕ, List, Ok}
 use Rattle.query_lang.specs.declared.typed.TypedQuery.{TypedQuery}
 use Rattle.accepted_query.specs.Accepted.{accepted}
-use Rattle.command_line.specs.declared.command.Command.TheVariants.{Enclose}
-use Rattle.command_line.specs.declared.setting.Setting.{Setting}
-use Rattle.enclosed_query.specs.EnclosedTables.{enclose_text}
-use Rattle.enclosed_query.specs.Holding.{ShownHolds}
+use Rattle.command_line.specs.declared.{command.Command.TheVariants.Enclose, setting.Setting.Setting}
+use Rattle.enclosed_query.specs.{EnclosedTables.enclose_text, Holding.ShownHolds}
 use Rattle.query_run.specs.Driven.{geometry_of}
 use Rattle.trace_drive.specs.Drives.{words_of}
 use Rattle.marple_cli.specs.Output.{IsAccepted, Source, output, read_packets}

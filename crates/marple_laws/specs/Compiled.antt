@@ -1,7 +1,6 @@
 -- What `run-plan` does with the text that `compile` writes of a query.
 use Rattle.std.specs.Prelude.{◌≡◌, ℕ, List, [], None}
-use Rattle.command_line.specs.declared.command.Command.TheVariants.{Compile, Run, RunPlan}
-use Rattle.command_line.specs.declared.setting.Setting.{Setting}
+use Rattle.command_line.specs.declared.{command.Command.TheVariants.{Compile, Run, RunPlan}, setting.Setting.Setting}
 use Rattle.marple_cli.specs.Output.{IsRead, Source, output, refusal, trace_refusal}
 
 -- `compile` accepts the query, and the text that it writes is that of the plan. It reads no trace.

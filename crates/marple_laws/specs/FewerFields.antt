@@ -1,9 +1,6 @@
 -- Packets of which only some fields are read.
 use Rattle.std.specs.Prelude.{ℕ, List, [], ◌∷◌, map, if◌then◌else◌}
-use Rattle.marple_base.specs.Field.{all_fields, has_field}
-use Rattle.marple_base.specs.declared.field.Field.{Field}
-use Rattle.marple_base.specs.declared.field.FieldSet.{FieldSet}
-use Rattle.marple_base.specs.declared.field.Packet.{Packet}
+use Rattle.marple_base.specs.{Field.{all_fields, has_field}, declared.field.{Field.Field, FieldSet.FieldSet, Packet.Packet}}
 
 -- the words of these fields, with 0 for each field that isn't in the set
 abbrev pub zeroed : FieldSet → List Field → List ℕ → List ℕ

@@ -1,12 +1,8 @@
 -- What holds of a lane that represents a machine.
 use Rattle.std.specs.Prelude.{◌≡◌, ◌≤◌, ℕ, List, length, All}
-use Rattle.epoch_model.specs.Keys.{bucket_of}
-use Rattle.epoch_model.specs.Laws.{HasRoom}
-use Rattle.epoch_model.specs.Machine.{Event, run, empty_machine}
-use Rattle.bucket_cache.specs.Buckets.{AreKeysOnce}
-use Rattle.bucket_cache.specs.Caches.{Cache, list_at}
-use Rattle.switch_core.specs.Lanes.{geometry}
-use Rattle.switch_core.specs.PlanLanes.{LaneView, StandsFor}
+use Rattle.epoch_model.specs.{Keys.bucket_of, Laws.HasRoom, Machine.{Event, run, empty_machine}}
+use Rattle.bucket_cache.specs.{Buckets.AreKeysOnce, Caches.{Cache, list_at}}
+use Rattle.switch_core.specs.{Lanes.geometry, PlanLanes.{LaneView, StandsFor}}
 
 -- Each bucket of the cache has distinct keys of that bucket, and at most as many as there are ways.
 pub record HasKeysInBuckets (ways : ℕ) (cache : Cache) : Type 0 where

@@ -1,19 +1,14 @@
 -- The machines and tables of the pipeline that a command leaves.
 use Rattle.std.specs.Prelude.{◌≡◌, ℕ, List, length, map, Ok}
-use Rattle.epoch_model.specs.Epochs.{Geometry}
-use Rattle.epoch_model.specs.Machine.{Machine, end_of}
+use Rattle.epoch_model.specs.{Epochs.Geometry, Machine.{Machine, end_of}}
 use Rattle.final_queries.specs.declared.table.Table.{Table}
 use Rattle.marple_base.specs.declared.field.Packet.{Packet}
 use Rattle.query_lang.specs.declared.typed.TypedQuery.{TypedQuery}
 use Rattle.accepted_query.specs.Accepted.{accepted}
-use Rattle.query_run.specs.Driven.{geometry_of}
-use Rattle.query_run.specs.PlanReports.{numbered_print}
-use Rattle.query_run.specs.QueryReports.{query_print}
+use Rattle.query_run.specs.{Driven.geometry_of, PlanReports.numbered_print, QueryReports.query_print}
 use Rattle.query_tables.specs.Tables.{group_tables, query_text}
-use Rattle.command_line.specs.Command.{IsSetting}
-use Rattle.command_line.specs.declared.setting.Setting.{Setting}
-use Rattle.plan_file.specs.declared.made.Made.{Made}
-use Rattle.plan_file.specs.Texts.{Says}
+use Rattle.command_line.specs.{Command.IsSetting, declared.setting.Setting.Setting}
+use Rattle.plan_file.specs.{declared.made.Made.Made, Texts.Says}
 use Rattle.plan_loader.specs.Meaning.{plan_output, plan_tables, reads_in, uses_in}
 use Rattle.stage_plan.specs.Packets.{AreWhole}
 use Rattle.switch_core.specs.PlanLanes.{PipelineStands, PipelineView}

@@ -1,21 +1,11 @@
 -- What the lines of a query's plan make.
-use Rattle.std.specs.Prelude.{ℕ, true, List, [], ◌∷◌, length, flat_map, slice_get, Option, Some, None}
-use Rattle.std.specs.List.{range_with_len}
-use Rattle.query_lang.specs.declared.fold.TypedFold.{TypedFold}
-use Rattle.query_lang.specs.declared.typed.PrintOf.{PrintOf}
+use Rattle.std.specs.{Prelude.{ℕ, true, List, [], ◌∷◌, length, flat_map, slice_get, Option, Some, None}, List.range_with_len}
+use Rattle.query_lang.specs.declared.{fold.TypedFold.TypedFold, typed.PrintOf.PrintOf}
 use Rattle.query_lang.specs.declared.typed.PrintOf.TheVariants as printed
-use Rattle.query_lang.specs.declared.typed.TypedQuery.{TypedQuery}
-use Rattle.query_lang.specs.Folds.{fold_block}
-use Rattle.query_lang.specs.Streams.{takings}
-use Rattle.stage_plan.specs.declared.group.GroupWiring.{GroupWiring}
-use Rattle.stage_plan.specs.Fields.{reads_of}
-use Rattle.stage_plan.specs.Planned.{fold_at}
-use Rattle.stage_plan.specs.Shape.{GroupShape, query_groups}
-use Rattle.plan_file.specs.declared.made.Folded.{Folded}
-use Rattle.plan_file.specs.declared.made.Made.{Made}
-use Rattle.plan_file.specs.Bodies.{written_block}
-use Rattle.plan_writer.specs.Ordered.{query_ops, query_wiring}
-use Rattle.plan_writer.specs.PlanText.{fields_of}
+use Rattle.query_lang.specs.{declared.typed.TypedQuery.TypedQuery, Folds.fold_block, Streams.takings}
+use Rattle.stage_plan.specs.{declared.group.GroupWiring.GroupWiring, Fields.reads_of, Planned.fold_at, Shape.{GroupShape, query_groups}}
+use Rattle.plan_file.specs.{declared.made.{Folded.Folded, Made.Made}, Bodies.written_block}
+use Rattle.plan_writer.specs.{Ordered.{query_ops, query_wiring}, PlanText.fields_of}
 
 -- a groupby as its lines make it
 abbrev pub folded_with : GroupShape → GroupWiring → TypedFold → Folded

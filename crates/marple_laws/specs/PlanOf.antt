@@ -1,25 +1,11 @@
 -- A plan of each query, by definitions alone.
 use Rattle.std.specs.Prelude.{ℕ, List, map, filter_map, slice_get, Option, None, option_map}
-use Rattle.query_lang.specs.declared.fold.TypedFold.{TypedFold}
-use Rattle.query_lang.specs.declared.typed.TypedOp.{TypedOp}
-use Rattle.query_lang.specs.declared.typed.TypedOp.TheVariants.{Filter, Map, Zip, Group}
-use Rattle.query_lang.specs.declared.typed.TypedQuery.{TypedQuery}
-use Rattle.query_lang.specs.declared.typed.TypedStream.{TypedStream}
-use Rattle.query_lang.specs.Folds.{fold_states, fold_args, initial_state}
-use Rattle.fold_code.specs.Code.{fold_instrs}
-use Rattle.fold_code.specs.Meaning.{Code}
-use Rattle.fold_class.specs.declared.layout.Layout.{Layout}
-use Rattle.fold_class.specs.declared.program.FoldProgram.{FoldProgram}
-use Rattle.fold_class.specs.Depth.{depth_of}
-use Rattle.fold_class.specs.Kinds.{class_of, algebra_of}
-use Rattle.fold_class.specs.Program.{origins_of}
-use Rattle.fold_class.specs.Rows.{Rows}
-use Rattle.fold_class.specs.Step.{linear_places, history_places}
-use Rattle.fold_class.specs.Translations.{is_translation}
-use Rattle.stage_plan.specs.declared.group.GroupPlan.{GroupPlan}
-use Rattle.stage_plan.specs.Fields.{reads_of}
-use Rattle.stage_plan.specs.Shape.{text_at}
-use Rattle.stage_plan.specs.Sound.{PlanParts}
+use Rattle.query_lang.specs.declared.{fold.TypedFold.TypedFold, typed.TypedOp.{TypedOp, TheVariants.{Filter, Map, Zip, Group}}}
+use Rattle.query_lang.specs.{declared.typed.{TypedQuery.TypedQuery, TypedStream.TypedStream}, Folds.{fold_states, fold_args, initial_state}}
+use Rattle.fold_code.specs.{Code.fold_instrs, Meaning.Code}
+use Rattle.fold_class.specs.{declared.{layout.Layout.Layout, program.FoldProgram.FoldProgram}, Depth.depth_of, Kinds.{class_of, algebra_of}}
+use Rattle.fold_class.specs.{Program.origins_of, Rows.Rows, Step.{linear_places, history_places}, Translations.is_translation}
+use Rattle.stage_plan.specs.{declared.group.GroupPlan.GroupPlan, Fields.reads_of, Shape.text_at, Sound.PlanParts}
 use Rattle.plan_writer.specs.Ordered.{query_ops, query_wiring}
 
 abbrev pub code_of : TypedFold → Code

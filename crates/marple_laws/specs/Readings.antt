@@ -1,9 +1,7 @@
 -- The reading of a text.
 use Rattle.std.specs.Prelude.{◌≡◌, ℕ, List, Ok, Err}
-use Rattle.query_lang.specs.Checks.{Checked}
-use Rattle.query_lang.specs.declared.error.QueryError.TheVariants.{Refused}
-use Rattle.plan_file.specs.declared.made.Made.{Made}
-use Rattle.plan_file.specs.Texts.{IsRefused, Says}
+use Rattle.query_lang.specs.{Checks.Checked, declared.error.QueryError.TheVariants.Refused}
+use Rattle.plan_file.specs.{declared.made.Made.Made, Texts.{IsRefused, Says}}
 
 -- what the lines of a valid text make, or the fault of any other one
 abbrev pub IsReadingOf : List ℕ → Checked Made → Type 0

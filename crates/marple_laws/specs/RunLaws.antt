@@ -5,8 +5,7 @@ use Rattle.query_lang.specs.declared.typed.TypedQuery.{TypedQuery}
 use Rattle.epoch_model.specs.Epochs.{Geometry}
 use Rattle.plan_loader.specs.Meaning.{reads_in, plan_output}
 use Rattle.query_tables.specs.Tables.{query_text}
-use Rattle.plan_file.specs.declared.made.Made.{Made}
-use Rattle.plan_file.specs.Texts.{Says}
+use Rattle.plan_file.specs.{declared.made.Made.Made, Texts.Says}
 use Rattle.stage_plan.specs.Fields.{reads_of}
 use Rattle.plan_writer.specs.PlanText.{compiled_text}
 use Rattle.marple_laws.specs.MadeOf.{made_of}

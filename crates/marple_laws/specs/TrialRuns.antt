@@ -3,11 +3,9 @@ use Rattle.std.specs.Prelude.{◌≡◌, ℕ, ◌≤◌, List, None, Ok}
 use Rattle.epoch_model.specs.Epochs.{Geometry}
 use Rattle.marple_base.specs.declared.field.Packet.{Packet}
 use Rattle.query_lang.specs.declared.typed.TypedQuery.{TypedQuery}
-use Rattle.accepted_query.specs.Accepted.{accepted}
-use Rattle.accepted_query.specs.TrialQuery.{trial_query}
+use Rattle.accepted_query.specs.{Accepted.accepted, TrialQuery.trial_query}
 use Rattle.query_tables.specs.Tables.{query_text}
-use Rattle.queue_sim.specs.Generator.{simulated}
-use Rattle.queue_sim.specs.TraceText.{trace_text}
+use Rattle.queue_sim.specs.{Generator.simulated, TraceText.trace_text}
 use Rattle.stage_plan.specs.Fields.{reads_of}
 use Rattle.trace_drive.specs.Drives.{words_of}
 use Rattle.trace_reader.specs.Traces.{packets, trace_fault}

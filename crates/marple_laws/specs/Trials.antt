@@ -1,9 +1,7 @@
 -- What `run` does with the trial's query and the text that `gen` writes.
 use Rattle.std.specs.Prelude.{◌≡◌, ℕ, List, [], None}
 use Rattle.accepted_query.specs.TrialQuery.{trial_query}
-use Rattle.command_line.specs.Command.{IsGeneration}
-use Rattle.command_line.specs.declared.command.Command.TheVariants.{Gen, Run, Trial}
-use Rattle.command_line.specs.declared.command.Generation.{Generation}
+use Rattle.command_line.specs.{Command.IsGeneration, declared.command.{Command.TheVariants.{Gen, Run, Trial}, Generation.Generation}}
 use Rattle.command_line.specs.declared.setting.Setting.{Setting}
 use Rattle.marple_cli.specs.Output.{Source, output, refusal, trace_refusal}
 

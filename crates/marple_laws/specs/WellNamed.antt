@@ -1,11 +1,8 @@
 -- Names, numbers and prints that the lines of a plan may have.
-use Rattle.std.specs.Prelude.{◌≡◌, ℕ, ◌^◌, ◌<◌, ◌≤◌, true, List, [], ◌∷◌, ◌++◌, length, map, flat_map}
-use Rattle.std.specs.Prelude.{codes, slice_get, Some, Contains}
-use Rattle.query_lang.specs.declared.fold.TypedFold.{TypedFold}
-use Rattle.query_lang.specs.declared.typed.TypedQuery.{TypedQuery}
+use Rattle.std.specs.Prelude.{◌≡◌, ℕ, ◌^◌, ◌<◌, ◌≤◌, true, List, [], ◌∷◌, ◌++◌, length, map, flat_map, codes, slice_get, Some, Contains}
+use Rattle.query_lang.specs.declared.{fold.TypedFold.TypedFold, typed.TypedQuery.TypedQuery}
 use Rattle.stage_plan.specs.Shape.{GroupShape, query_groups}
-use Rattle.plan_file.specs.Lexis.{is_name}
-use Rattle.plan_file.specs.declared.texts.TheConstants.{MAX_PLAN}
+use Rattle.plan_file.specs.{Lexis.is_name, declared.texts.TheConstants.MAX_PLAN}
 use Rattle.plan_writer.specs.PlanText.{compiled_text}
 use Rattle.marple_laws.specs.MadeOf.{printed_group}
 

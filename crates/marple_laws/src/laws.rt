@@ -1,9 +1,7 @@
 //! Laws of the sources of texts, and of what commands write of accepted ones.
 
-ghost use Rattle.marple_laws.specs.Bounded.{AcceptedBoundsHold};
-ghost use Rattle.marple_laws.specs.Compiled.{CompiledPlansRunAsQueries};
-ghost use Rattle.marple_laws.specs.Sources.{SourcesAreOne, SourcesAreThere};
-ghost use Rattle.marple_laws.specs.Trials.{TrialsAreRuns};
+ghost use Rattle.marple_laws.specs.{Bounded.AcceptedBoundsHold, Compiled.CompiledPlansRunAsQueries};
+ghost use Rattle.marple_laws.specs.{Sources.{SourcesAreOne, SourcesAreThere}, Trials.TrialsAreRuns};
 
 use crate::trials_run_over_texts;
 use accepted_query::trial_is_accepted;

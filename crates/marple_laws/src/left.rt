@@ -1,7 +1,6 @@
 //! The tables of the pipeline that a command leaves.
 
-ghost use Rattle.std.specs.Prelude.{◌≡◌, true, IfOk};
-ghost use Rattle.std.specs.List.{list_all};
+ghost use Rattle.std.specs.{Prelude.{◌≡◌, true, IfOk}, List.list_all};
 ghost use Rattle.epoch_entry.specs.declared.purpose.Entries.TheVariants.{Folds};
 ghost use Rattle.query_run.specs.Driven.{pipeline_in};
 ghost use Rattle.switch_core.specs.PlanLanes.{lane_is_drained};

@@ -2,14 +2,11 @@
 
 ghost use Rattle.std.specs.Prelude.{◌≡◌, None};
 ghost use Rattle.query_lang.specs.TypedQueries.{IsValidQuery};
-ghost use Rattle.stage_plan.specs.Planned.{IsPlanOf};
+ghost use Rattle.stage_plan.specs.{Planned.IsPlanOf, Fields.reads_of};
 ghost use Rattle.plan_file.specs.Texts.{Says};
 ghost use Rattle.plan_writer.specs.PlanText.{compiled_text, final_fault};
-ghost use Rattle.marple_laws.specs.MadeOf.{made_of};
-ghost use Rattle.stage_plan.specs.Fields.{reads_of};
+ghost use Rattle.marple_laws.specs.{MadeOf.made_of, RunLaws.{RunsAsTheQuery, LoadsAsTheQuery}, WellNamed.HasPlanText};
 ghost use Rattle.plan_loader.specs.Meaning.{reads_in};
-ghost use Rattle.marple_laws.specs.RunLaws.{RunsAsTheQuery, LoadsAsTheQuery};
-ghost use Rattle.marple_laws.specs.WellNamed.{HasPlanText};
 
 use query_lang::TypedQuery;
 use stage_plan::Plan;

@@ -1,10 +1,8 @@
 //! Calls of `marple` over inputs and a sink that never fail.
 
 ghost use Rattle.std.specs.Prelude.{◌≡◌, ◌⊎◌, Some};
-ghost use Rattle.marple_base.specs.Inputs.{IsClosed};
-ghost use Rattle.marple_base.specs.Sound.{sound_input};
-ghost use Rattle.marple_cli.specs.Call.{WhereTold, asked_by};
-ghost use Rattle.marple_cli.specs.Output.{IsAccepted};
+ghost use Rattle.marple_base.specs.{Inputs.IsClosed, Sound.sound_input};
+ghost use Rattle.marple_cli.specs.{Call.{WhereTold, asked_by}, Output.IsAccepted};
 
 use command_answers::Status;
 use marple_base::{Inputs, Sink, SoundInputs, SoundSink, Steps, Which};

@@ -1,9 +1,7 @@
 //! One call of the program over inputs and sinks in memory.
 
 ghost use Rattle.std.specs.Prelude.{◌≡◌, ◌<◌, IfOk};
-ghost use Rattle.marple_base.specs.Inputs.{IsClosed};
-ghost use Rattle.marple_base.specs.MemoryInputs.{memory_input};
-ghost use Rattle.marple_base.specs.declared.inputs.Which.TheVariants.{Query, Trace};
+ghost use Rattle.marple_base.specs.{Inputs.IsClosed, MemoryInputs.memory_input, declared.inputs.Which.TheVariants.{Query, Trace}};
 
 use marple_base::{FailAt, Inputs, MemoryInputs, MemorySink, Seq, Steps, Text, Which};
 use marple_cli::{Driven, Status, marple};

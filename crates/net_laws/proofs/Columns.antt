@@ -1,12 +1,8 @@
 -- The columns that keys and zips pick, by their names and slots.
 use Rattle.std.proofs.Common.{◌≡◌, ℕ, zero, suc, ◌<◌, List, [], ◌∷◌, ◌++◌, length, drop, slice_index, Some, refl, arith}
 use Rattle.std.specs.Prelude.{slice_get}
-use Rattle.query_lang.specs.declared.typing.StreamColumn.{StreamColumn}
-use Rattle.query_lang.specs.Streams.{values_at}
-use Rattle.query_lang.specs.TypedStreams.{column_names, columns_at}
-use Rattle.query_laws.specs.StreamRules.{HasSlots}
-use Rattle.query_laws.proofs.Typed.{stands_below}
-use Rattle.query_laws.proofs.Views.{AreBelow}
+use Rattle.query_lang.specs.{declared.typing.StreamColumn.StreamColumn, Streams.values_at, TypedStreams.{column_names, columns_at}}
+use Rattle.query_laws.{specs.StreamRules.HasSlots, proofs.{Typed.stands_below, Views.AreBelow}}
 
 found_column : (columns : List StreamColumn) (slot : ℕ) → slot < length columns
     → (c : StreamColumn) × (slice_get columns slot ≡ Some c) × (c.name ≡ slice_index (column_names columns) slot)

@@ -1,38 +1,21 @@
 -- The keys of a typed query that have a field's name are the packet's words of it.
 use Rattle.std.proofs.Common.{◌≡◌, ℕ, ◌+◌, Bool, true, false, ◌||◌, List, [], ◌∷◌, ◌++◌, length, slice_index, Some, None, refl, sym, subst}
-use Rattle.std.proofs.Common.{arith}
-use Rattle.std.specs.Prelude.{All}
+use Rattle.std.{proofs.{Common.arith, lemmas.List.{length_push, Elements.{All-nil, All-cons, All-push, All-weaker}}}, specs.Prelude.All}
 use Rattle.std.specs.List.{list_any}
-use Rattle.std.proofs.lemmas.List.{length_push}
-use Rattle.std.proofs.lemmas.List.Elements.{All-nil, All-cons, All-push, All-weaker}
-use Rattle.marple_base.specs.declared.field.Field.{Field}
-use Rattle.marple_base.specs.Field.{all_fields}
-use Rattle.marple_base.specs.declared.field.TheConstants.{FIELDS}
-use Rattle.query_lang.specs.declared.fold.TypedFold.{TypedFold}
-use Rattle.query_lang.specs.declared.query.Item.{Item}
+use Rattle.marple_base.specs.{declared.field.{Field.Field, TheConstants.FIELDS}, Field.all_fields}
+use Rattle.query_lang.specs.declared.{fold.TypedFold.TypedFold, query.Item.Item}
 use Rattle.query_lang.specs.declared.query.Item.TheVariants as item
-use Rattle.query_lang.specs.declared.query.Name.{Name}
-use Rattle.query_lang.specs.declared.query.Query.{Query}
-use Rattle.query_lang.specs.declared.query.StreamOp.{StreamOp}
-use Rattle.query_lang.specs.declared.typed.TypedOp.{TypedOp}
+use Rattle.query_lang.specs.declared.{query.{Name.Name, Query.Query, StreamOp.StreamOp}, typed.TypedOp.TypedOp}
 use Rattle.query_lang.specs.declared.typed.TypedOp.TheVariants as typed
-use Rattle.query_lang.specs.declared.typed.TypedQuery.{TypedQuery}
-use Rattle.query_lang.specs.declared.typed.TypedStream.{TypedStream}
-use Rattle.query_lang.specs.declared.typing.Given.{Given}
-use Rattle.query_lang.specs.declared.typing.MadeStream.{MadeStream}
+use Rattle.query_lang.specs.declared.{typed.{TypedQuery.TypedQuery, TypedStream.TypedStream}, typing.{Given.Given, MadeStream.MadeStream}}
 use Rattle.query_lang.specs.declared.typing.Origin.TheVariants as origin
-use Rattle.query_lang.specs.Streams.{Tuple}
-use Rattle.query_lang.specs.TypedFinals.{five_fields}
-use Rattle.query_lang.specs.TypedStreams.{column_names}
+use Rattle.query_lang.specs.{Streams.Tuple, TypedFinals.five_fields, TypedStreams.column_names}
 use Rattle.query_lang.specs.Typing.{typed_names, field_numbers, given_of}
 use Rattle.query_laws.specs.Context.{Entry, AFold, AStream, AFinal, APrint, streams_in, known_in, groups_in}
-use Rattle.query_laws.specs.QueryRules.{HasItem, HasItems, IsTyped, of_none, of_more, query_with}
-use Rattle.query_laws.specs.StreamRules.{HasStream}
-use Rattle.stage_plan.proofs.StreamRows.{Row, row_at, row_made, rows_from, all_rows, tuple_of, at_last, stream_rows}
+use Rattle.query_laws.specs.{QueryRules.{HasItem, HasItems, IsTyped, of_none, of_more, query_with}, StreamRules.HasStream}
 use Rattle.query_laws.proofs.FieldColumns.{AreKnown, all_known}
-use Rattle.net_laws.specs.Fields.{makes_field, field_word}
-use Rattle.net_laws.specs.FieldLaws.{KeysAreFields, KeysAreTheField}
-use Rattle.net_laws.proofs.Tells.{packet_tells}
+use Rattle.stage_plan.proofs.StreamRows.{Row, row_at, row_made, rows_from, all_rows, tuple_of, at_last, stream_rows}
+use Rattle.net_laws.{specs.{Fields.{makes_field, field_word}, FieldLaws.{KeysAreFields, KeysAreTheField}}, proofs.Tells.packet_tells}
 use Rattle.net_laws.proofs.Rows.{RowTells, SlotTells, rows_last}
 use Rattle.net_laws.proofs.Made.{AllTell, KeysTell, MadeTells, names_of_new, all_last, all_more, keys_more, stream_tells}
 

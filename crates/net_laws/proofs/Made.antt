@@ -1,34 +1,23 @@
 -- Each stream that the rules make of streams that give a packet's word of one field gives it.
 use Rattle.std.proofs.Common.{◌≡◌, ℕ, zero, suc, ◌-◌, ◌<◌, true, false, List, [], ◌∷◌, ◌++◌, length, drop, map, slice_index, None, refl}
-use Rattle.std.proofs.Common.{sym, ap, subst, ◌∙◌, inl, inr, arith}
+use Rattle.std.proofs.{Common.{sym, ap, subst, ◌∙◌, inl, inr, arith}, lemmas.List.{length-append, length-map, get_or-map}}
 use Rattle.std.specs.Prelude.{slice_get}
-use Rattle.std.proofs.lemmas.List.{length-append, length-map, get_or-map}
 use Rattle.marple_base.specs.declared.field.Field.{Field}
-use Rattle.query_lang.specs.declared.fold.TypedExpr.{TypedExpr}
-use Rattle.query_lang.specs.declared.fold.TypedFold.{TypedFold}
-use Rattle.query_lang.specs.declared.query.Column.{Column}
-use Rattle.query_lang.specs.declared.query.Expr.{Expr}
-use Rattle.query_lang.specs.declared.query.Key.{Key}
-use Rattle.query_lang.specs.declared.query.Name.{Name}
+use Rattle.query_lang.specs.declared.{fold.{TypedExpr.TypedExpr, TypedFold.TypedFold}, query.{Column.Column, Expr.Expr, Key.Key, Name.Name}}
 use Rattle.query_lang.specs.declared.query.StreamOp.{StreamOp}
 use Rattle.query_lang.specs.declared.query.StreamOp.TheVariants as ops
 use Rattle.query_lang.specs.declared.typed.TypedOp.{TypedOp}
 use Rattle.query_lang.specs.declared.typed.TypedOp.TheVariants as typed
-use Rattle.query_lang.specs.declared.typing.Known.{Known}
-use Rattle.query_lang.specs.declared.typing.MadeStream.{MadeStream}
-use Rattle.query_lang.specs.declared.typing.Meaning.{Meaning}
+use Rattle.query_lang.specs.declared.typing.{Known.Known, MadeStream.MadeStream, Meaning.Meaning}
 use Rattle.query_lang.specs.declared.typing.Meaning.TheVariants as meaning
 use Rattle.query_lang.specs.declared.typing.Origin.{Origin}
 use Rattle.query_lang.specs.declared.typing.Origin.TheVariants as origin
-use Rattle.query_lang.specs.declared.typing.StreamColumn.{StreamColumn}
-use Rattle.query_lang.specs.TypedStreams.{column_names, others_from}
-use Rattle.query_laws.specs.Context.{NameStandsFor}
-use Rattle.query_laws.specs.StreamRules.{HasTypedColumns, new_names, OfFilter, OfMap, OfZip, OfGroup, HasStream}
-use Rattle.query_laws.proofs.StreamLaws.{zip_is, group_is}
+use Rattle.query_lang.specs.{declared.typing.StreamColumn.StreamColumn, TypedStreams.{column_names, others_from}}
+use Rattle.query_laws.specs.{Context.NameStandsFor, StreamRules.{HasTypedColumns, new_names, OfFilter, OfMap, OfZip, OfGroup, HasStream}}
+use Rattle.query_laws.proofs.{StreamLaws.{zip_is, group_is}, Views.{AreBelow, others_below}}
 use Rattle.stage_plan.proofs.StreamRows.{Row, row_at, row_made, at_earlier}
 use Rattle.net_wide.specs.Combining.{columns_made}
 use Rattle.net_laws.specs.Fields.{is_named, names_field}
-use Rattle.query_laws.proofs.Views.{AreBelow, others_below}
 use Rattle.net_laws.proofs.Columns.{picked_names, names_long, names_of_both, slots_below, rest_after}
 use Rattle.net_laws.proofs.Rows.{RowTells, SlotTells, filter_tells, map_tells, zip_tells, group_tells, slot_tells}
 

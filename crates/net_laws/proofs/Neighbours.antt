@@ -3,8 +3,7 @@ use Rattle.std.proofs.Common.{◌≡◌, ◌≢◌, ℕ, Bool, true, false, cond
 use Rattle.std.proofs.lemmas.List.Elements.{All-cons, All-head, All-tail}
 use Rattle.marple_base.specs.declared.field.TheConstants.{FIELDS}
 use Rattle.stage_plan.specs.Packets.{AreWhole}
-use Rattle.net_wide.specs.NetLaws.{SameOfEachSwitch}
-use Rattle.net_wide.specs.NetTables.{switch_in, packets_at}
+use Rattle.net_wide.specs.{NetLaws.SameOfEachSwitch, NetTables.{switch_in, packets_at}}
 
 abbrev is_whole : List ℕ → Type 0
 is_whole words = length words ≡ FIELDS

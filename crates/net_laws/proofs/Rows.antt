@@ -1,16 +1,11 @@
 -- What operators make of rows that give a packet's word of one field.
 use Rattle.std.proofs.Common.{◌≡◌, ℕ, ◌<◌, Bool, true, false, cond, List, [], ◌∷◌, ◌++◌, length, slice_index, Option, Some, None, refl, sym}
-use Rattle.std.proofs.Common.{◌∙◌}
-use Rattle.std.proofs.lemmas.List.{length-map}
+use Rattle.std.proofs.{Common.{◌∙◌}, lemmas.List.length-map}
 use Rattle.marple_base.specs.declared.field.Field.{Field}
-use Rattle.query_lang.specs.declared.fold.TypedExpr.{TypedExpr}
-use Rattle.query_lang.specs.declared.fold.TypedFold.{TypedFold}
-use Rattle.query_lang.specs.declared.typed.TypedStream.{TypedStream}
-use Rattle.query_lang.specs.Streams.{values_at}
+use Rattle.query_lang.specs.{declared.{fold.{TypedExpr.TypedExpr, TypedFold.TypedFold}, typed.TypedStream.TypedStream}, Streams.values_at}
 use Rattle.stage_plan.proofs.StreamRows.{Row, filter_row, map_row, zip_row, group_row, row_made, rows_from}
-use Rattle.net_laws.specs.Fields.{is_named, names_field}
+use Rattle.net_laws.{specs.Fields.{is_named, names_field}, proofs.Tells.{Tells, both_tell, others_tell, tells_at, picked_tell}}
 use Rattle.query_laws.proofs.Views.{AreBelow}
-use Rattle.net_laws.proofs.Tells.{Tells, both_tell, others_tell, tells_at, picked_tell}
 
 -- one operator more makes one row more
 pub rows_last : (folds : List TypedFold) (rows : List Row) (streams : List TypedStream) (one : TypedStream)

@@ -1,17 +1,11 @@
 -- Which words of a row are a packet's word of one field, by the names of its columns.
 use Rattle.std.proofs.Common.{◌≡◌, ℕ, zero, suc, ◌+◌, ◌<◌, Bool, true, false, not, ◌&&◌, ◌||◌, ◌==◌, List, [], ◌∷◌, ◌++◌, length, map}
-use Rattle.std.proofs.Common.{slice_index, refl, ap, ◌∙◌, arith}
-use Rattle.std.specs.Str.{bytes_eq}
-use Rattle.marple_base.specs.declared.field.Field.{Field}
-use Rattle.marple_base.specs.declared.field.Field.TheVariants.{Switch}
-use Rattle.marple_base.specs.Field.{all_fields, field_name, number_of}
+use Rattle.std.{proofs.Common.{slice_index, refl, ap, ◌∙◌, arith}, specs.Str.bytes_eq}
+use Rattle.marple_base.specs.{declared.field.Field.{Field, TheVariants.Switch}, Field.{all_fields, field_name, number_of}}
 use Rattle.marple_base.specs.declared.field.TheConstants.{FIELDS}
-use Rattle.query_lang.specs.Names.{number_in}
-use Rattle.query_lang.specs.Streams.{values_at}
-use Rattle.query_lang.specs.Typing.{field_numbers}
+use Rattle.query_lang.specs.{Names.number_in, Streams.values_at, Typing.field_numbers}
 use Rattle.net_laws.specs.Fields.{is_named, names_field, field_word}
-use Rattle.query_laws.proofs.FieldColumns.{AreKnown}
-use Rattle.query_laws.proofs.Views.{AreBelow}
+use Rattle.query_laws.proofs.{FieldColumns.AreKnown, Views.AreBelow}
 
 -- a row has a word for each of these columns, and where the column has the field's name, this one
 abbrev pub Tells : Field → List (List ℕ) → ℕ → List ℕ → List ℕ → Type 0

@@ -1,12 +1,8 @@
 -- That such columns have the packet's word of the field.
 use Rattle.std.specs.Prelude.{◌≡◌, ℕ, ◌<◌, true, false, List, [], ◌∷◌, length, slice_index, All}
-use Rattle.marple_base.specs.declared.field.Field.{Field}
-use Rattle.marple_base.specs.declared.field.TheConstants.{FIELDS}
-use Rattle.query_lang.specs.declared.query.Query.{Query}
-use Rattle.query_lang.specs.declared.typed.TypedOp.{TypedOp}
-use Rattle.query_lang.specs.declared.typed.TypedOp.TheVariants.{Filter, Map, Zip, Group}
-use Rattle.query_lang.specs.declared.typed.TypedQuery.{TypedQuery}
-use Rattle.query_lang.specs.Streams.{stream}
+use Rattle.marple_base.specs.declared.field.{Field.Field, TheConstants.FIELDS}
+use Rattle.query_lang.specs.declared.{query.Query.Query, typed.TypedOp.{TypedOp, TheVariants.{Filter, Map, Zip, Group}}}
+use Rattle.query_lang.specs.{declared.typed.TypedQuery.TypedQuery, Streams.stream}
 use Rattle.query_laws.specs.QueryRules.{IsTyped}
 use Rattle.net_laws.specs.Fields.{is_named, makes_field, field_word}
 

@@ -1,9 +1,6 @@
 -- Columns that have a field's name.
-use Rattle.std.specs.Prelude.{ℕ, Bool, List, slice_index}
-use Rattle.std.specs.List.{list_any}
-use Rattle.std.specs.Str.{bytes_eq}
-use Rattle.marple_base.specs.declared.field.Field.{Field}
-use Rattle.marple_base.specs.Field.{field_name, number_of}
+use Rattle.std.specs.{Prelude.{ℕ, Bool, List, slice_index}, List.list_any, Str.bytes_eq}
+use Rattle.marple_base.specs.{declared.field.Field.Field, Field.{field_name, number_of}}
 use Rattle.query_lang.specs.declared.typed.TypedStream.{TypedStream}
 use Rattle.stage_plan.specs.Shape.{text_at}
 use Rattle.net_wide.specs.Combining.{columns_made}

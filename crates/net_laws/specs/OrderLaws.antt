@@ -3,9 +3,7 @@ use Rattle.std.specs.Prelude.{◌≡◌, ◌≢◌, ℕ, List, ◌∷◌, ◌++�
 use Rattle.query_lang.specs.declared.typed.TypedQuery.{TypedQuery}
 use Rattle.stage_plan.specs.Packets.{AreWhole}
 use Rattle.accepted_query.specs.Accepted.{accepted}
-use Rattle.net_wide.specs.Combining.{net_fault}
-use Rattle.net_wide.specs.NetLaws.{SameOfEachSwitch, TellsSwitches}
-use Rattle.net_wide.specs.NetTables.{switch_in, net_text}
+use Rattle.net_wide.specs.{Combining.net_fault, NetLaws.{SameOfEachSwitch, TellsSwitches}, NetTables.{switch_in, net_text}}
 
 -- In each accepted text a groupby's key named `switch` is the packet's switch, unless some `map` makes a column of that name; and
 -- the state variables start as words.

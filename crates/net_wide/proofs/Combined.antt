@@ -1,18 +1,12 @@
 -- In a query whose groupbys all combine each groupby has an additive fold or the switch among its keys.
 use Rattle.std.proofs.Common.{◌≡◌, ℕ, zero, suc, ◌<◌, Bool, true, false, not, ◌&&◌, ◌||◌, cond, List, [], ◌∷◌, ◌++◌, length, slice_index}
 use Rattle.std.proofs.Common.{Option, Some, None, refl, sym, ap, subst, ◌∙◌, ◌⊎◌, inl, inr, arith}
-use Rattle.std.specs.Prelude.{slice_get, if◌then◌else◌}
+use Rattle.std.{proofs.lemmas.List.Elements.{All-head, All-tail}, specs.Prelude.{slice_get, if◌then◌else◌}}
 use Rattle.std.specs.List.{All, list_any, cons_option}
-use Rattle.std.proofs.lemmas.List.Elements.{All-head, All-tail}
 use Rattle.epoch_model.proofs.KeyLists.{by_test}
-use Rattle.query_lang.specs.declared.fault.FaultKind.TheVariants.{NotAdditive}
-use Rattle.query_lang.specs.declared.fault.QueryFault.{QueryFault}
-use Rattle.query_lang.specs.declared.fold.TypedFold.{TypedFold}
-use Rattle.query_lang.specs.declared.typed.TypedOp.{TypedOp}
-use Rattle.query_lang.specs.declared.typed.TypedOp.TheVariants.{Filter, Map, Zip, Group}
-use Rattle.query_lang.specs.declared.typed.TypedQuery.{TypedQuery}
-use Rattle.query_lang.specs.declared.typed.TypedStream.{TypedStream}
-use Rattle.query_lang.specs.Streams.{Taking, taking_of, takings}
+use Rattle.query_lang.specs.declared.{fault.{FaultKind.TheVariants.NotAdditive, QueryFault.QueryFault}, fold.TypedFold.TypedFold}
+use Rattle.query_lang.specs.declared.typed.{TypedOp.{TypedOp, TheVariants.{Filter, Map, Zip, Group}}, TypedQuery.TypedQuery}
+use Rattle.query_lang.specs.{declared.typed.TypedStream.TypedStream, Streams.{Taking, taking_of, takings}}
 use Rattle.query_lang.specs.TypedQueries.{IsValidOp, AreValidStreams}
 use Rattle.fold_code.specs.Additive.{is_additive}
 use Rattle.net_wide.specs.Combining.{is_switch, names_switch, makes_switch, adds, combines, may_stand, first_apart}

@@ -1,44 +1,25 @@
 -- Finals can read the tables of several switches: of each key they read at most one row.
 use Rattle.std.proofs.Common.{◌≡◌, ℕ, suc, ◌+◌, ◌-◌, Bool, true, false, ◌||◌, List, [], ◌∷◌, ◌++◌, inl, inr, length, drop, map, flat_map}
-use Rattle.std.proofs.Common.{Option, Some, None, refl, sym, ap, ◌∙◌, subst, arith, length-append}
-use Rattle.std.specs.Prelude.{slice_get}
-use Rattle.std.specs.List.{All}
-use Rattle.std.proofs.lemmas.Bool.{true≢false}
-use Rattle.std.proofs.lemmas.List.{length-map}
-use Rattle.std.proofs.lemmas.Option.{slice_get_cases, slice_get_within}
-use Rattle.std.proofs.lemmas.List.Elements.{All-nil, All-cons, All-append, All-head, All-tail}
+use Rattle.std.proofs.{Common.{Option, Some, None, refl, sym, ap, ◌∙◌, subst, arith, length-append}, lemmas.Bool.true≢false}
+use Rattle.std.proofs.lemmas.{List.length-map, Option.{slice_get_cases, slice_get_within}}
+use Rattle.std.{proofs.lemmas.List.Elements.{All-nil, All-cons, All-append, All-head, All-tail}, specs.{Prelude.slice_get, List.All}}
 use Rattle.marple_base.specs.declared.field.TheConstants.{FIELDS}
-use Rattle.query_lang.specs.declared.fold.TypedFold.{TypedFold}
-use Rattle.query_lang.specs.declared.typed.TypedQuery.{TypedQuery}
-use Rattle.query_lang.specs.Streams.{takings}
-use Rattle.query_lang.specs.TypedQueries.{IsValidQuery}
+use Rattle.query_lang.specs.{declared.{fold.TypedFold.TypedFold, typed.TypedQuery.TypedQuery}, Streams.takings, TypedQueries.IsValidQuery}
 use Rattle.query_lang.specs.TypedQueries as of_query
 use Rattle.query_types.specs.Uses.{uses}
-use Rattle.epoch_model.specs.declared.tables.Row.{Row}
-use Rattle.epoch_model.specs.Keys.{Key, ArgRow, has, key_eq}
-use Rattle.epoch_model.specs.Epochs.{Use, Geometry}
-use Rattle.epoch_model.specs.Tables.{Folding, folded, exact_row, keys_used}
-use Rattle.epoch_model.proofs.KeyLists.{by_test, key_eq-refl, key_eq-true}
-use Rattle.epoch_model.proofs.KeyOrder.{ascending-ascends, has-ascending}
+use Rattle.epoch_model.specs.{declared.tables.Row.Row, Keys.{Key, ArgRow, has, key_eq}, Epochs.{Use, Geometry}}
+use Rattle.epoch_model.specs.{Tables.{Folding, folded, exact_row, keys_used}, Driving.uses_taken}
+use Rattle.epoch_model.proofs.{KeyLists.{by_test, key_eq-refl, key_eq-true}, KeyOrder.{ascending-ascends, has-ascending}}
 use Rattle.epoch_entry.specs.Foldings.{folding_of}
-use Rattle.epoch_model.specs.Driving.{uses_taken}
 use Rattle.query_lang.specs.Words.{holds}
-use Rattle.stage_plan.specs.Packets.{AreWhole}
-use Rattle.stage_plan.specs.declared.group.GroupPlan.{GroupPlan}
-use Rattle.stage_plan.specs.declared.group.GroupWiring.{GroupWiring}
-use Rattle.stage_plan.specs.Planned.{IsPlanOf, fold_at, packet_registers, taken, wiring_at}
-use Rattle.stage_plan.specs.Registers.{operand_value}
-use Rattle.stage_plan.specs.Shape.{GroupShape, group_shape, query_groups}
-use Rattle.stage_plan.specs.Sound.{PlanParts, IsSoundGroup, IsSoundPlan}
+use Rattle.stage_plan.specs.{Packets.AreWhole, declared.group.{GroupPlan.GroupPlan, GroupWiring.GroupWiring}}
+use Rattle.stage_plan.specs.{Planned.{IsPlanOf, fold_at, packet_registers, taken, wiring_at}, Registers.operand_value}
+use Rattle.stage_plan.specs.{Shape.{GroupShape, group_shape, query_groups}, Sound.{PlanParts, IsSoundGroup, IsSoundPlan}}
 use Rattle.final_queries.specs.Finals.{IsTable, HasColumns, table_shape}
-use Rattle.final_queries.proofs.GroupRead.{HasOneAtMost, epochs_read, all_in_order, epochs_have}
-use Rattle.final_queries.proofs.StateLengths.{states_length}
-use Rattle.query_tables.specs.Tables.{table_if, tables_from, group_tables}
-use Rattle.query_tables.specs.TableLaws.{QueryTablesAreRead}
+use Rattle.final_queries.proofs.{GroupRead.{HasOneAtMost, epochs_read, all_in_order, epochs_have}, StateLengths.states_length}
+use Rattle.query_tables.specs.{Tables.{table_if, tables_from, group_tables}, TableLaws.QueryTablesAreRead}
 use Rattle.net_wide.specs.NetTables.{net_epochs, key_args, net_key_rows, net_rows, net_table, net_table_if, net_pieces, net_tables_from}
-use Rattle.net_wide.specs.NetTables.{net_tables, tables_of_pieces}
-use Rattle.net_wide.proofs.Places.{first_at}
-use Rattle.net_wide.specs.NetEnds.{NetTablesAreRead}
+use Rattle.net_wide.{specs.{NetTables.{net_tables, tables_of_pieces}, NetEnds.NetTablesAreRead}, proofs.Places.first_at}
 
 key_read : (f : Folding) (pieces : List (List ArgRow)) (args : List ArgRow) (key : Key) → HasOneAtMost key (net_key_rows f pieces args key)
 key_read f pieces _ key = by_test f.row_per_epoch (λ t. rw t (epochs_read f key pieces)) (λ t. rw t (inr refl))

@@ -1,53 +1,35 @@
 -- The merged epochs of all switches give the rows of the definition.
 use Rattle.std.proofs.Common.{◌≡◌, ◌≢◌, ℕ, suc, ◌<◌, true, false, Bool, ◌||◌, ◌==◌, List, [], ◌∷◌, ◌++◌, length, map, flat_map, slice_index}
 use Rattle.std.proofs.Common.{Option, Some, None, refl, sym, ap, ◌∙◌, subst, inl, inr}
-use Rattle.std.specs.Prelude.{slice_get, option_map, option_and_then}
-use Rattle.std.specs.List.{list_any}
 use Rattle.std.proofs.lemmas.List.Elements.{All-nil, All-cons, All-head, All-tail, All-filter}
+use Rattle.std.specs.{Prelude.{slice_get, option_map, option_and_then}, List.list_any}
 use Rattle.marple_base.specs.declared.field.TheConstants.{FIELDS}
-use Rattle.query_lang.specs.declared.fold.TypedFold.{TypedFold}
-use Rattle.query_lang.specs.declared.typed.Class.TheVariants.{Linear}
-use Rattle.query_lang.specs.declared.typed.TypedQuery.{TypedQuery}
-use Rattle.query_lang.specs.Words.{AreWords}
-use Rattle.query_lang.specs.Folds.{IsValidFold}
-use Rattle.query_lang.specs.Streams.{Taking, takings}
+use Rattle.query_lang.specs.{declared.{fold.TypedFold.TypedFold, typed.{Class.TheVariants.Linear, TypedQuery.TypedQuery}}, Words.AreWords}
+use Rattle.query_lang.specs.{Folds.IsValidFold, Streams.{Taking, takings}}
 use Rattle.query_types.specs.Uses.{uses}
 use Rattle.fold_code.specs.Additive.{is_additive}
 use Rattle.fold_class.specs.Kinds.{class_of}
-use Rattle.epoch_model.specs.declared.tables.Row.{Row}
-use Rattle.epoch_model.specs.Keys.{Key, ArgRow, key_eq, ascending}
-use Rattle.epoch_model.specs.TableLaws.{keys_given}
-use Rattle.epoch_model.specs.Epochs.{Use, Geometry, epochs}
-use Rattle.epoch_model.specs.Machine.{lists_of}
-use Rattle.epoch_model.specs.Laws.{HasRoom, rows_given}
+use Rattle.epoch_model.specs.{declared.tables.Row.Row, Keys.{Key, ArgRow, key_eq, ascending}, TableLaws.keys_given}
+use Rattle.epoch_model.specs.{Epochs.{Use, Geometry, epochs}, Machine.lists_of, Laws.{HasRoom, rows_given}}
 use Rattle.epoch_model.specs.Driving.{Taken, use_at, uses_taken}
 use Rattle.epoch_model.specs.Tables.{Folding, exact_row, keys_used, closed_key_rows, closed_keys, closed_rows, closed_epochs}
-use Rattle.epoch_model.proofs.KeyLists.{by_test}
-use Rattle.epoch_model.proofs.Rows.{no_row_is_lost_lem}
-use Rattle.epoch_model.proofs.TableRows.{closed-lists, flat_map-single}
+use Rattle.epoch_model.proofs.{KeyLists.by_test, Rows.no_row_is_lost_lem, TableRows.{closed-lists, flat_map-single}}
 use Rattle.epoch_entry.specs.Foldings.{folding_of, per_epoch}
-use Rattle.stage_plan.specs.Packets.{AreWhole}
-use Rattle.stage_plan.specs.Planned.{IsPlanOf, taken}
-use Rattle.stage_plan.specs.Shape.{GroupShape}
-use Rattle.stage_plan.specs.Sound.{PlanParts}
+use Rattle.stage_plan.specs.{Packets.AreWhole, Planned.{IsPlanOf, taken}, Shape.GroupShape, Sound.PlanParts}
 use Rattle.stage_plan.proofs.StreamRows as packetwise
 use Rattle.final_queries.specs.declared.table.TableKind.TheVariants as kind
 use Rattle.final_queries.specs.GroupTable.{closed_table}
 use Rattle.query_tables.specs.Tables.{heading_of_shape}
 use Rattle.additive_laws.specs.Pieces.{rows_joined}
 use Rattle.additive_laws.specs.Network.{SwitchEvent, SwitchEpoch, all_events, all_epochs, epochs_at, events_at, machine_at, AllMerged}
-use Rattle.additive_laws.proofs.StoreTables.{store_table}
-use Rattle.additive_laws.specs.Traces.{Step, HasPackets, IsRun, own_uses, whole_uses, taken_of}
-use Rattle.additive_laws.specs.TraceLaws.{rows_used, AreSwitchesOf}
-use Rattle.additive_laws.proofs.OwnEpochs.{own}
-use Rattle.additive_laws.proofs.Givens.{gives, keys_are}
+use Rattle.additive_laws.specs.{Traces.{Step, HasPackets, IsRun, own_uses, whole_uses, taken_of}, TraceLaws.{rows_used, AreSwitchesOf}}
+use Rattle.additive_laws.proofs.{StoreTables.store_table, OwnEpochs.own, Givens.{gives, keys_are}}
 use Rattle.additive_laws.proofs.Counts.{added, of_one_switch, of_one, same_number, own_number, not_number}
 use Rattle.net_wide.specs.NetTables.{switch_in, packets_at, switches, caches_of, uses_at, key_args, net_key_rows, net_rows, net_count}
 use Rattle.net_wide.specs.NetTables.{net_table}
-use Rattle.net_wide.proofs.Combined.{HasSwitchKey, Combines, all_combine}
-use Rattle.net_wide.proofs.OneSwitch.{none_closed}
-use Rattle.net_wide.proofs.SameTexts.{flat_maps_alike, sums_alike, tells_switch, at_place}
 use Rattle.net_wide.specs.NetEnds.{IsSeen, AreSwitchesNumbered, net_steps, closed_pieces, MergedMakeTheTable, PiecesAreTheEpochs}
+use Rattle.net_wide.proofs.{Combined.{HasSwitchKey, Combines, all_combine}, OneSwitch.none_closed}
+use Rattle.net_wide.proofs.SameTexts.{flat_maps_alike, sums_alike, tells_switch, at_place}
 use Rattle.net_wide.proofs.SwitchLists.{AreOnes, first, keys_of, ones, ones_rest, one_first, no_number, all_apart}
 
 -- two ways to take, where the uses of one packet are the same

@@ -1,15 +1,8 @@
 -- A key that only one switch has packets of: the epochs of other switches are of other keys.
 use Rattle.std.proofs.Common.{◌≡◌, ◌≢◌, ℕ, true, false, ◌==◌, List, [], ◌∷◌, refl, sym, ap, ◌∙◌, subst, arith}
-use Rattle.std.specs.List.{AllByRecursion}
-use Rattle.std.proofs.lemmas.Bool.Decides.{nat_tests}
-use Rattle.epoch_model.specs.Keys.{Key, ArgRow}
-use Rattle.epoch_model.specs.Epochs.{Geometry}
-use Rattle.epoch_model.specs.Machine.{lists_of, is_of, empty_machine}
-use Rattle.epoch_model.specs.Laws.{HasRoom, rows_given}
-use Rattle.epoch_model.proofs.KeyLists.{by_test}
-use Rattle.epoch_model.proofs.Following.{starts-tidy, starts-lists}
-use Rattle.epoch_model.proofs.Cuts.{IsPiece}
-use Rattle.epoch_model.proofs.Rows.{no_row_is_lost_lem}
+use Rattle.std.{proofs.lemmas.Bool.Decides.nat_tests, specs.List.AllByRecursion}
+use Rattle.epoch_model.specs.{Keys.{Key, ArgRow}, Epochs.Geometry, Machine.{lists_of, is_of, empty_machine}, Laws.{HasRoom, rows_given}}
+use Rattle.epoch_model.proofs.{KeyLists.by_test, Following.{starts-tidy, starts-lists}, Cuts.IsPiece, Rows.no_row_is_lost_lem}
 use Rattle.epoch_model.proofs.TableRows.{pieces_kept, closed-lists}
 use Rattle.additive_laws.specs.Pieces.{rows_joined}
 use Rattle.additive_laws.specs.Network.{SwitchEvent, SwitchEpoch, events_at, all_epochs, epochs_at, machine_at, AllMerged}

@@ -1,19 +1,14 @@
 -- Tables are the same where the pieces of each key are.
 use Rattle.std.proofs.Common.{◌≡◌, ℕ, suc, ◌+◌, ◌<◌, List, [], ◌∷◌, length, map, Option, Some, None, refl, ap, subst, arith}
 use Rattle.std.proofs.lemmas.List.{length-map}
-use Rattle.query_lang.specs.declared.fold.TypedFold.{TypedFold}
-use Rattle.query_lang.specs.declared.typed.TypedQuery.{TypedQuery}
+use Rattle.query_lang.specs.declared.{fold.TypedFold.TypedFold, typed.TypedQuery.TypedQuery}
 use Rattle.query_types.specs.Uses.{uses}
-use Rattle.epoch_model.specs.Keys.{Key, ArgRow}
-use Rattle.epoch_model.specs.Tables.{keys_used}
+use Rattle.epoch_model.specs.{Keys.{Key, ArgRow}, Tables.keys_used}
 use Rattle.epoch_entry.specs.Foldings.{folding_of}
-use Rattle.stage_plan.specs.Planned.{IsPlanOf, fold_at}
-use Rattle.stage_plan.specs.Shape.{GroupShape, group_shape}
-use Rattle.stage_plan.specs.Sound.{PlanParts}
+use Rattle.stage_plan.specs.{Planned.{IsPlanOf, fold_at}, Shape.{GroupShape, group_shape}, Sound.PlanParts}
 use Rattle.final_queries.specs.declared.table.TableKind.TheVariants as kind
 use Rattle.net_wide.specs.NetTables.{key_args, net_count, net_key_rows, net_rows, net_table, net_table_if, net_tables_from}
-use Rattle.net_wide.specs.NetTables.{tables_of_pieces}
-use Rattle.net_wide.proofs.SameTexts.{flat_maps_alike, sums_alike}
+use Rattle.net_wide.{specs.NetTables.tables_of_pieces, proofs.SameTexts.{flat_maps_alike, sums_alike}}
 
 module _ (q : TypedQuery) (packets : List (List ℕ)) where
   table_same : (pieces other : Key → List (List ArgRow)) (i : ℕ) (shape : GroupShape) (f : TypedFold)

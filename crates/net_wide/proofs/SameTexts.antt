@@ -1,36 +1,22 @@
 -- Lists that have the same packets of each switch have the same tables.
 use Rattle.std.proofs.Common.{◌≡◌, ℕ, suc, ◌+◌, true, List, [], ◌∷◌, ◌++◌, length, map, flat_map, fold, slice_index, Option, Some, None}
-use Rattle.std.proofs.Common.{refl, sym, ap, subst, ◌∙◌, inl, inr}
-use Rattle.std.specs.Prelude.{slice_get, option_map, option_and_then}
+use Rattle.std.proofs.{Common.{refl, sym, ap, subst, ◌∙◌, inl, inr}, lemmas.List.{get_or-map, Elements.All-head}}
+use Rattle.std.{proofs.lemmas.Option.{slice_get_within, get_or_from_slice_get}, specs.Prelude.{slice_get, option_map, option_and_then}}
 use Rattle.std.specs.List.{All}
-use Rattle.std.proofs.lemmas.List.{get_or-map}
-use Rattle.std.proofs.lemmas.List.Elements.{All-head}
-use Rattle.std.proofs.lemmas.Option.{slice_get_within, get_or_from_slice_get}
 use Rattle.marple_base.specs.declared.field.TheConstants.{FIELDS}
-use Rattle.epoch_model.specs.declared.tables.Row.{Row}
-use Rattle.epoch_model.specs.Keys.{Key, ArgRow, key_eq}
-use Rattle.epoch_model.specs.Epochs.{Geometry, epochs}
-use Rattle.epoch_model.specs.Driving.{Taken, uses_taken}
-use Rattle.epoch_model.specs.Tables.{Folding, keys_used}
-use Rattle.epoch_model.proofs.KeyLists.{key_eq-true}
-use Rattle.query_lang.specs.declared.fold.TypedFold.{TypedFold}
-use Rattle.query_lang.specs.declared.typed.TypedQuery.{TypedQuery}
-use Rattle.query_lang.specs.Words.{AreWords}
-use Rattle.query_lang.specs.Folds.{IsValidFold, folded}
-use Rattle.query_lang.specs.Streams.{Tuple, Taking, takings, stream}
-use Rattle.query_lang.specs.TypedQueries.{IsValidQuery}
+use Rattle.epoch_model.specs.{declared.tables.Row.Row, Keys.{Key, ArgRow, key_eq}, Epochs.{Geometry, epochs}, Driving.{Taken, uses_taken}}
+use Rattle.epoch_model.{specs.Tables.{Folding, keys_used}, proofs.KeyLists.key_eq-true}
+use Rattle.query_lang.specs.{declared.{fold.TypedFold.TypedFold, typed.TypedQuery.TypedQuery}, Words.AreWords, Folds.{IsValidFold, folded}}
+use Rattle.query_lang.specs.{Streams.{Tuple, Taking, takings, stream}, TypedQueries.IsValidQuery}
 use Rattle.query_types.specs.Uses.{uses}
 use Rattle.epoch_entry.specs.Foldings.{folding_of}
-use Rattle.stage_plan.specs.Packets.{AreWhole}
-use Rattle.stage_plan.specs.Shape.{GroupShape, query_groups}
+use Rattle.stage_plan.specs.{Packets.AreWhole, Shape.{GroupShape, query_groups}}
 use Rattle.stage_plan.proofs.StreamRows as packetwise
 use Rattle.final_queries.specs.declared.table.TableKind.TheVariants as kind
-use Rattle.additive_laws.specs.Pieces.{all_rows}
-use Rattle.additive_laws.proofs.Orders.{any_interleaving}
-use Rattle.net_wide.specs.Combining.{net_fault}
-use Rattle.net_wide.specs.NetTables.{switch_in, switches, uses_at, caches_of, net_epochs, key_args, net_key_rows, net_rows, net_count}
-use Rattle.net_wide.specs.NetTables.{net_table, net_table_if, net_pieces, net_tables_from, net_tables, net_text, tables_of_pieces}
-use Rattle.net_wide.specs.NetLaws.{SameOfEachSwitch, TellsSwitches, SwitchesDoNotWait}
+use Rattle.additive_laws.{specs.Pieces.all_rows, proofs.Orders.any_interleaving}
+use Rattle.net_wide.specs.{Combining.net_fault, NetTables.{switch_in, switches, uses_at, caches_of, net_epochs, key_args, net_key_rows}}
+use Rattle.net_wide.specs.NetTables.{net_rows, net_count, net_table, net_table_if, net_pieces, net_tables_from, net_tables, net_text}
+use Rattle.net_wide.specs.{NetTables.tables_of_pieces, NetLaws.{SameOfEachSwitch, TellsSwitches, SwitchesDoNotWait}}
 use Rattle.net_wide.proofs.Taking.{given, args_given, same_of_each, alone, same_keys_used, same_switches}
 use Rattle.net_wide.proofs.Combined.{HasSwitchKey, Combines, all_combine}
 

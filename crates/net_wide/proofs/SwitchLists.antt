@@ -1,16 +1,11 @@
 -- The switches of packets, in ascending order and by number.
 use Rattle.std.proofs.Common.{◌≡◌, ℕ, true, false, ◌||◌, Bool, ◌==◌, List, [], ◌∷◌, map, slice_index, refl, sym, ap, ◌∙◌, subst}
-use Rattle.std.specs.declared.cmp.Ordering.TheVariants.{Less, Equal}
-use Rattle.std.proofs.lemmas.Bool.{true≢false}
-use Rattle.std.proofs.lemmas.Cmp.{nat_list_cmp_total, tied_itself}
-use Rattle.std.specs.List.{list_any}
+use Rattle.std.proofs.lemmas.{Bool.true≢false, Cmp.{nat_list_cmp_total, tied_itself}}
+use Rattle.std.specs.{declared.cmp.Ordering.TheVariants.{Less, Equal}, List.list_any}
 use Rattle.epoch_model.specs.Keys.{Key, key_eq, key_cmp, has, ascending, AreAbove, IsAscending}
-use Rattle.epoch_model.proofs.KeyLists.{by_test, key_eq-true, key_eq-refl}
-use Rattle.epoch_model.proofs.KeyOrder.{ascending-ascends, has-ascending}
-use Rattle.additive_laws.specs.TraceLaws.{has_number, AreApart}
-use Rattle.additive_laws.proofs.Counts.{both_fail, either, same_number, own_number}
-use Rattle.net_wide.specs.NetTables.{switch_in, switches}
-use Rattle.net_wide.specs.NetEnds.{IsSeen, AreSwitchesNumbered}
+use Rattle.epoch_model.proofs.{KeyLists.{by_test, key_eq-true, key_eq-refl}, KeyOrder.{ascending-ascends, has-ascending}}
+use Rattle.additive_laws.{specs.TraceLaws.{has_number, AreApart}, proofs.Counts.{both_fail, either, same_number, own_number}}
+use Rattle.net_wide.specs.{NetTables.{switch_in, switches}, NetEnds.{IsSeen, AreSwitchesNumbered}}
 
 less_equal : Less ≡ Equal → ⊥
 less_equal e = cc

@@ -1,24 +1,13 @@
 -- What is taken of the packets, switch by switch: the same keys, and the same rows of each key but for their order.
 use Rattle.std.proofs.Common.{◌≡◌, ℕ, suc, true, false, ◌==◌, List, [], ◌∷◌, ◌++◌, length, map, slice_index, Option, Some, None, refl, sym}
-use Rattle.std.proofs.Common.{ap, ◌∙◌, arith, if◌then◌else◌}
-use Rattle.std.specs.List.{flat_map}
-use Rattle.std.proofs.lemmas.Bool.Decides.{nat_tests}
-use Rattle.std.proofs.lemmas.List.Elements.{All-head, All-tail}
-use Rattle.std.proofs.lemmas.List.Sorted.{length_permutation}
+use Rattle.std.proofs.{Common.{ap, ◌∙◌, arith, if◌then◌else◌}, lemmas.{Bool.Decides.nat_tests, List.Elements.{All-head, All-tail}}}
+use Rattle.std.{proofs.lemmas.List.Sorted.length_permutation, specs.List.flat_map}
 use Rattle.marple_base.specs.declared.field.TheConstants.{FIELDS}
-use Rattle.epoch_model.specs.Keys.{Key, key_eq, has, ascending}
-use Rattle.epoch_model.specs.Epochs.{Use}
-use Rattle.epoch_model.specs.Driving.{Taken, use_at, uses_taken}
-use Rattle.epoch_model.specs.Tables.{keys_used}
-use Rattle.epoch_model.proofs.KeyLists.{by_test}
-use Rattle.epoch_model.proofs.KeyOrder.{ascending-ascends, has-ascending, same_ascending}
-use Rattle.epoch_model.proofs.TableRows.{some}
-use Rattle.additive_laws.specs.Pieces.{Given, all_rows, rows_from}
-use Rattle.additive_laws.proofs.Orders.{same_rows}
-use Rattle.additive_laws.proofs.StoreTables.{same_some}
+use Rattle.epoch_model.specs.{Keys.{Key, key_eq, has, ascending}, Epochs.Use, Driving.{Taken, use_at, uses_taken}, Tables.keys_used}
+use Rattle.epoch_model.proofs.{KeyLists.by_test, KeyOrder.{ascending-ascends, has-ascending, same_ascending}, TableRows.some}
+use Rattle.additive_laws.{specs.Pieces.{Given, all_rows, rows_from}, proofs.{Orders.same_rows, StoreTables.same_some}}
 use Rattle.stage_plan.specs.Packets.{AreWhole}
-use Rattle.net_wide.specs.NetTables.{switch_in, packets_at, switches, key_args}
-use Rattle.net_wide.specs.NetLaws.{SameOfEachSwitch}
+use Rattle.net_wide.specs.{NetTables.{switch_in, packets_at, switches, key_args}, NetLaws.SameOfEachSwitch}
 
 module _ (take : List ℕ → Option Taken) (key : Key) where
   -- what a packet of the switch gives the key

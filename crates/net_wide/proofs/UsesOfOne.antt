@@ -1,17 +1,13 @@
 -- What is taken of the packets of one switch is what is taken of all packets, where the packet is of that switch.
 use Rattle.std.proofs.Common.{◌≡◌, ℕ, suc, ◌+◌, ◌-◌, ◌<◌, Bool, true, false, ◌==◌, List, [], ◌∷◌, ◌++◌, length, map, filter, get_or, Option}
-use Rattle.std.proofs.Common.{Some, None, refl, sym, ap, ◌∙◌, arith}
+use Rattle.std.proofs.{Common.{Some, None, refl, sym, ap, ◌∙◌, arith}, lemmas.List.Elements.All-filter}
 use Rattle.std.specs.Prelude.{slice_get, option_map}
-use Rattle.std.proofs.lemmas.List.Elements.{All-filter}
 use Rattle.marple_base.specs.declared.field.TheConstants.{FIELDS}
-use Rattle.epoch_model.specs.Epochs.{Use}
-use Rattle.epoch_model.specs.Driving.{Taken, use_at, uses_taken}
-use Rattle.epoch_model.proofs.KeyLists.{by_test}
+use Rattle.epoch_model.{specs.{Epochs.Use, Driving.{Taken, use_at, uses_taken}}, proofs.KeyLists.by_test}
 use Rattle.query_lang.specs.Streams.{Taking, takings}
 use Rattle.query_types.specs.Uses.{taken_by, uses}
 use Rattle.stage_plan.proofs.StreamRows as packetwise
-use Rattle.net_wide.specs.NetTables.{switch_in, packets_at, uses_at}
-use Rattle.net_wide.specs.NetLaws.{switch_of, taken_in, UsesAreTheSwitchs}
+use Rattle.net_wide.specs.{NetTables.{switch_in, packets_at, uses_at}, NetLaws.{switch_of, taken_in, UsesAreTheSwitchs}}
 
 module _ (take : List ℕ → Option Taken) (s : ℕ) (all : List (List ℕ)) where
   abbrev is_here : Use → Bool

@@ -1,16 +1,9 @@
 -- Which groupbys may merge the epochs of several switches into one store, and the fault of a query with one that may not.
-use Rattle.std.specs.Prelude.{ℕ, ◌-◌, Bool, true, false, not, ◌&&◌, ◌||◌, if◌then◌else◌}
-use Rattle.std.specs.Prelude.{List, [], ◌∷◌, length, drop, slice_get, Option, Some, None}
-use Rattle.std.specs.List.{list_any}
-use Rattle.std.specs.Str.{bytes_eq}
-use Rattle.marple_base.specs.declared.field.Field.TheVariants.{Switch}
-use Rattle.marple_base.specs.Field.{field_name}
-use Rattle.query_lang.specs.declared.fault.FaultKind.TheVariants.{NotAdditive}
-use Rattle.query_lang.specs.declared.fault.QueryFault.{QueryFault}
-use Rattle.query_lang.specs.declared.fold.TypedFold.{TypedFold}
-use Rattle.query_lang.specs.declared.typed.TypedOp.{TypedOp}
-use Rattle.query_lang.specs.declared.typed.TypedOp.TheVariants.{Filter, Map, Zip, Group}
-use Rattle.query_lang.specs.declared.typed.TypedQuery.{TypedQuery}
+use Rattle.std.specs.Prelude.{ℕ, ◌-◌, Bool, true, false, not, ◌&&◌, ◌||◌, if◌then◌else◌, List, [], ◌∷◌, length, drop, slice_get, Option}
+use Rattle.std.specs.{Prelude.{Some, None}, List.list_any, Str.bytes_eq}
+use Rattle.marple_base.specs.{declared.field.Field.TheVariants.Switch, Field.field_name}
+use Rattle.query_lang.specs.declared.{fault.{FaultKind.TheVariants.NotAdditive, QueryFault.QueryFault}, fold.TypedFold.TypedFold}
+use Rattle.query_lang.specs.declared.typed.{TypedOp.{TypedOp, TheVariants.{Filter, Map, Zip, Group}}, TypedQuery.TypedQuery}
 use Rattle.query_lang.specs.declared.typed.TypedStream.{TypedStream}
 use Rattle.fold_code.specs.Additive.{is_additive}
 use Rattle.stage_plan.specs.Shape.{text_at}

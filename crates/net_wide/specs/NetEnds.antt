@@ -1,27 +1,14 @@
 -- What a store that merged all epochs of several switches gives is the table of the definition.
-use Rattle.std.specs.Prelude.{◌≡◌, ◌<◌, ℕ, true, None, Some, Option, List, length, map, flat_map, All, ◌==◌}
-use Rattle.std.specs.List.{list_any}
-use Rattle.query_lang.specs.declared.fold.TypedFold.{TypedFold}
-use Rattle.query_lang.specs.declared.typed.TypedQuery.{TypedQuery}
-use Rattle.query_lang.specs.TypedQueries.{IsValidQuery, group_shape}
-use Rattle.epoch_model.specs.Keys.{ArgRow, Key}
-use Rattle.epoch_model.specs.Machine.{lists_of}
-use Rattle.epoch_model.specs.Driving.{Taken}
-use Rattle.epoch_model.specs.Laws.{HasRoom}
-use Rattle.epoch_entry.specs.Foldings.{folding_of}
-use Rattle.stage_plan.specs.Packets.{AreWhole}
-use Rattle.stage_plan.specs.Planned.{IsPlanOf, fold_at, taken}
-use Rattle.stage_plan.specs.Shape.{GroupShape}
-use Rattle.stage_plan.specs.Sound.{PlanParts, IsSoundPlan}
-use Rattle.final_queries.specs.Finals.{IsTable, table_shape}
-use Rattle.final_queries.specs.GroupTable.{closed_table}
+use Rattle.std.specs.{Prelude.{◌≡◌, ◌<◌, ℕ, true, None, Some, Option, List, length, map, flat_map, All, ◌==◌}, List.list_any}
+use Rattle.query_lang.specs.{declared.{fold.TypedFold.TypedFold, typed.TypedQuery.TypedQuery}, TypedQueries.{IsValidQuery, group_shape}}
 use Rattle.query_lang.specs.Streams.{takings}
-use Rattle.epoch_model.specs.Epochs.{Geometry}
+use Rattle.epoch_model.specs.{Keys.{ArgRow, Key}, Machine.lists_of, Driving.Taken, Laws.HasRoom, Epochs.Geometry}
+use Rattle.epoch_entry.specs.Foldings.{folding_of}
+use Rattle.stage_plan.specs.{Packets.AreWhole, Planned.{IsPlanOf, fold_at, taken}, Shape.GroupShape, Sound.{PlanParts, IsSoundPlan}}
+use Rattle.final_queries.specs.{Finals.{IsTable, table_shape}, GroupTable.closed_table}
 use Rattle.query_tables.specs.Tables.{heading_of_shape}
-use Rattle.additive_laws.specs.Network.{SwitchEvent, SwitchEpoch, all_epochs, machine_at, AllMerged}
-use Rattle.additive_laws.specs.Traces.{Step, HasPackets, IsRun}
-use Rattle.net_wide.specs.Combining.{net_fault}
-use Rattle.net_wide.specs.NetTables.{switch_in, switches, caches_of, net_epochs, net_table, net_tables}
+use Rattle.additive_laws.specs.{Network.{SwitchEvent, SwitchEpoch, all_epochs, machine_at, AllMerged}, Traces.{Step, HasPackets, IsRun}}
+use Rattle.net_wide.specs.{Combining.net_fault, NetTables.{switch_in, switches, caches_of, net_epochs, net_table, net_tables}}
 use Rattle.net_wide.specs.NetLaws.{TellsSwitches}
 
 -- a packet of this switch is among these

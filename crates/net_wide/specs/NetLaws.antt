@@ -1,23 +1,15 @@
 -- That the order of packets of different switches makes no difference.
-use Rattle.std.specs.Prelude.{◌≡◌, ◌≢◌, ◌==◌, ℕ, ◌-◌, ◌<◌, true, false, None}
-use Rattle.std.specs.Prelude.{List, [], ◌∷◌, length, map, filter, slice_index, slice_index_or, All}
+use Rattle.std.specs.Prelude.{◌≡◌, ◌≢◌, ◌==◌, ℕ, ◌-◌, ◌<◌, true, false, None, List, [], ◌∷◌, length, map, filter, slice_index}
+use Rattle.std.specs.Prelude.{slice_index_or, All}
 use Rattle.marple_base.specs.declared.field.TheConstants.{FIELDS}
-use Rattle.query_lang.specs.declared.typed.TypedOp.{TypedOp}
-use Rattle.query_lang.specs.declared.typed.TypedOp.TheVariants.{Filter, Map, Zip, Group}
-use Rattle.query_lang.specs.declared.typed.TypedQuery.{TypedQuery}
-use Rattle.query_lang.specs.Words.{AreWords}
-use Rattle.query_lang.specs.Streams.{stream}
-use Rattle.query_lang.specs.TypedQueries.{IsValidQuery}
-use Rattle.epoch_model.specs.Keys.{Key}
-use Rattle.epoch_model.specs.Epochs.{Use, Geometry}
-use Rattle.epoch_model.specs.Driving.{Taken}
-use Rattle.query_types.specs.Uses.{uses}
-use Rattle.epoch_model.specs.Laws.{HasRoom, rows_given}
+use Rattle.query_lang.specs.declared.typed.{TypedOp.{TypedOp, TheVariants.{Filter, Map, Zip, Group}}, TypedQuery.TypedQuery}
+use Rattle.query_lang.specs.{Words.AreWords, Streams.stream, TypedQueries.IsValidQuery}
+use Rattle.epoch_model.specs.{Keys.Key, Epochs.{Use, Geometry}, Driving.Taken, Laws.{HasRoom, rows_given}}
 use Rattle.epoch_model.specs.Tables.{Folding, closed_key_rows}
+use Rattle.query_types.specs.Uses.{uses}
 use Rattle.additive_laws.specs.Network.{SwitchEvent, SwitchEpoch, events_at, all_epochs, machine_at, AllMerged}
 use Rattle.stage_plan.specs.Packets.{AreWhole}
-use Rattle.net_wide.specs.Combining.{is_switch, makes_switch, net_fault}
-use Rattle.net_wide.specs.NetTables.{switch_in, packets_at, uses_at, net_text}
+use Rattle.net_wide.specs.{Combining.{is_switch, makes_switch, net_fault}, NetTables.{switch_in, packets_at, uses_at, net_text}}
 
 -- both lists have the same packets of each switch, in the same order
 abbrev pub SameOfEachSwitch : List (List ℕ) → List (List ℕ) → Type 0

@@ -1,8 +1,7 @@
 //! Which queries may run over several switches.
 
 ghost use Rattle.std.specs.Prelude.{◌≡◌, All, Some, slice_get};
-ghost use Rattle.query_lang.specs.Folds.{IsValidFold};
-ghost use Rattle.query_lang.specs.TypedQueries.{IsValidQuery};
+ghost use Rattle.query_lang.specs.{Folds.IsValidFold, TypedQueries.IsValidQuery};
 ghost use Rattle.net_wide.specs.Combining.{is_switch, names_switch, columns_made, makes_switch, adds, combines, may_stand, net_fault};
 
 use marple_base::Field;

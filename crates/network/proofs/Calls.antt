@@ -1,32 +1,20 @@
 -- The calls of upkeeps, and what they leave of a network's fronts.
 use Rattle.std.proofs.Common.{◌≡◌, ◌≢◌, ℕ, zero, suc, ◌+◌, ◌<◌, ◌==◌, nat_lt, true, List, [], ◌∷◌, ◌++◌, length, replicate, set, Option}
-use Rattle.std.proofs.Common.{Some, None, refl, sym, ap, subst, ◌∙◌, arith}
-use Rattle.std.specs.Prelude.{slice_get, if◌then◌else◌}
-use Rattle.std.specs.List.{list_all}
-use Rattle.std.proofs.lemmas.Bool.Decides.{nat_tests}
-use Rattle.epoch_model.specs.Machine.{Event, Packet, Evict, Merge}
-use Rattle.epoch_model.specs.Timeline.{NoPacket}
-use Rattle.epoch_model.proofs.KeyLists.{by_test}
+use Rattle.std.proofs.{Common.{Some, None, refl, sym, ap, subst, ◌∙◌, arith}, lemmas.Bool.Decides.nat_tests}
+use Rattle.std.specs.{Prelude.{slice_get, if◌then◌else◌}, List.list_all}
+use Rattle.epoch_model.{specs.{Machine.{Event, Packet, Evict, Merge}, Timeline.NoPacket}, proofs.KeyLists.by_test}
 use Rattle.epoch_entry.specs.declared.any.AnyEpochs.{AnyEpochs}
-use Rattle.switch_core.specs.Closing.{held_in, is_drained}
-use Rattle.switch_core.specs.FrontParts.{FrontOf}
-use Rattle.switch_core.specs.Rows.{EachFrom}
+use Rattle.switch_core.specs.{Closing.{held_in, is_drained}, FrontParts.FrontOf, Rows.EachFrom}
 use Rattle.switch_core.specs.Upkeeps.{IsKept, Try, counts_of, left_waiting, room_events, sweep_events, tries}
 use Rattle.switch_core.specs.declared.upkeep.Upkeep.{Upkeep}
 use Rattle.switch_core.specs.declared.upkeep.Upkeep.TheVariants as due
-use Rattle.switch_core.proofs.LaneFacts.{got_set, set_same}
-use Rattle.switch_core.proofs.SideBySide.{got_below, got_some}
+use Rattle.switch_core.proofs.{LaneFacts.{got_set, set_same}, SideBySide.{got_below, got_some}}
 use Rattle.network.specs.Groups.{GroupKept, GroupView, group_is_drained}
 use Rattle.network.specs.Events.{GroupBreaksOff, GroupMakesAll, IsLeft, StaysBut, is_ready_at, upkeep_in}
-use Rattle.network.specs.Networks.{IsNetwork, NetworkView}
-use Rattle.network.specs.Running.{Evicts, FrontsStay, Merges, NetworkRuns, RunBreaksOff, calls_of, front_at, front_of, lane_calls}
-use Rattle.network.specs.Running.{upkeep_calls}
-use Rattle.network.proofs.GroupSteps.{group_at}
-use Rattle.network.proofs.CostSteps.{kept_at}
-use Rattle.network.proofs.MakeSteps.{make_one, ready_at, switch_within}
-use Rattle.network.proofs.NetworkSteps.{with_groups}
-use Rattle.network.proofs.Runs.{NetworkKept, below_same, kept_long}
-use Rattle.network.proofs.SharedSteps.{all_pass, got_other, set_set}
+use Rattle.network.specs.{Networks.{IsNetwork, NetworkView}, Running.{Evicts, FrontsStay, Merges, NetworkRuns, RunBreaksOff, calls_of}}
+use Rattle.network.{specs.Running.{front_at, front_of, lane_calls, upkeep_calls}, proofs.{GroupSteps.group_at, CostSteps.kept_at}}
+use Rattle.network.proofs.{MakeSteps.{make_one, ready_at, switch_within}, NetworkSteps.with_groups}
+use Rattle.network.proofs.{Runs.{NetworkKept, below_same, kept_long}, SharedSteps.{all_pass, got_other, set_set}}
 
 -- ---- no upkeep takes a packet
 

@@ -1,26 +1,15 @@
 -- What the steps of one switch's lanes come to.
 use Rattle.std.proofs.Common.{◌≡◌, ℕ, zero, suc, ◌+◌, ◌*◌, ◌<◌, ◌≤◌, List, [], ◌∷◌, Option, Some, None, length, refl, sym, ap, ◌∙◌, arith}
-use Rattle.std.specs.Prelude.{slice_get, sum_by}
-use Rattle.std.proofs.lemmas.List.Sums.{sum_by-cons}
-use Rattle.epoch_entry.specs.declared.any.AnyEpochs.{AnyEpochs}
-use Rattle.epoch_entry.specs.declared.purpose.Entries.TheVariants.{Folds}
-use Rattle.epoch_entry.specs.Purposes.{EntriesSuitFolds}
+use Rattle.std.{proofs.lemmas.List.Sums.sum_by-cons, specs.Prelude.{slice_get, sum_by}}
+use Rattle.epoch_entry.specs.{declared.{any.AnyEpochs.AnyEpochs, purpose.Entries.TheVariants.Folds}, Purposes.EntriesSuitFolds}
 use Rattle.epoch_entry.specs.contracts.any.AnyEpochsEpochKind.TheImpl.{ghosts}
-use Rattle.stage_plan.specs.declared.group.GroupPlan.{GroupPlan}
-use Rattle.stage_plan.specs.declared.group.GroupWiring.{GroupWiring}
-use Rattle.stage_plan.specs.Planned.{plan_bound, registers_of, wiring_at}
+use Rattle.stage_plan.specs.{declared.group.{GroupPlan.GroupPlan, GroupWiring.GroupWiring}, Planned.{plan_bound, registers_of, wiring_at}}
 use Rattle.stage_plan.specs.Sound.{PlanParts, IsSoundPlan}
-use Rattle.switch_core.specs.FrontParts.{FrontOf}
-use Rattle.switch_core.specs.Pipelines.{IsLaneOf}
-use Rattle.switch_core.specs.PlanLanes.{LaneView, PipelineView, lane_cost}
-use Rattle.switch_core.specs.Rows.{Each, EachFrom}
-use Rattle.switch_core.specs.Upkeeps.{upkeep_cost}
-use Rattle.switch_core.specs.declared.upkeep.Upkeep.{Upkeep}
+use Rattle.switch_core.specs.{FrontParts.FrontOf, Pipelines.IsLaneOf, PlanLanes.{LaneView, PipelineView, lane_cost}, Rows.{Each, EachFrom}}
+use Rattle.switch_core.specs.{Upkeeps.upkeep_cost, declared.upkeep.Upkeep.Upkeep}
 use Rattle.switch_core.specs.declared.upkeep.Upkeep.TheVariants as due
-use Rattle.switch_core.proofs.PacketBound.{HasOneDepth, packet_within}
-use Rattle.switch_core.proofs.SideBySide.{each_map, got_some}
-use Rattle.network.specs.Shared.{FrontKept}
-use Rattle.network.specs.Groups.{AllWide, AreGroups, AreWide, GroupKept, GroupView, IsGroup}
+use Rattle.switch_core.proofs.{PacketBound.{HasOneDepth, packet_within}, SideBySide.{each_map, got_some}}
+use Rattle.network.specs.{Shared.FrontKept, Groups.{AllWide, AreGroups, AreWide, GroupKept, GroupView, IsGroup}}
 use Rattle.network.specs.Costs.{AtLaneIn, front_cost, front_upkeep_cost, group_cost, group_merge_cost, group_upkeep_cost, lane_in}
 
 -- steps within those of the switch's lane are within those of the groupby

@@ -1,49 +1,29 @@
 -- The tables of a network that is drained.
 use Rattle.std.proofs.Common.{◌≡◌, ℕ, suc, ◌+◌, ◌<◌, ◌==◌, true, List, [], ◌∷◌, ◌++◌, Option, Some, None, length, map, drop, refl, sym, ap}
-use Rattle.std.proofs.Common.{◌∙◌, subst, arith, append-nil}
-use Rattle.std.specs.Prelude.{slice_get}
+use Rattle.std.{proofs.{Common.{◌∙◌, subst, arith, append-nil}, lemmas.List.Elements.{All-nil, All-cons}}, specs.Prelude.slice_get}
 use Rattle.std.specs.List.{All, list_all}
-use Rattle.std.proofs.lemmas.List.Elements.{All-nil, All-cons}
-use Rattle.query_lang.specs.declared.fold.TypedFold.{TypedFold}
-use Rattle.query_lang.specs.declared.typed.TypedOp.{TypedOp}
+use Rattle.query_lang.specs.declared.{fold.TypedFold.TypedFold, typed.TypedOp.TypedOp}
 use Rattle.query_lang.specs.declared.typed.TypedOp.TheVariants as op
-use Rattle.query_lang.specs.declared.typed.TypedQuery.{TypedQuery}
-use Rattle.query_lang.specs.declared.typed.TypedStream.{TypedStream}
-use Rattle.query_lang.specs.Streams.{Taking, takings}
+use Rattle.query_lang.specs.{declared.typed.{TypedQuery.TypedQuery, TypedStream.TypedStream}, Streams.{Taking, takings}}
 use Rattle.query_lang.specs.TypedQueries.{IsValidQuery, AreValidStreams, IsValidOp}
-use Rattle.epoch_model.specs.Keys.{ArgRow, Key}
-use Rattle.epoch_model.specs.Machine.{Epoch, Event, Evict, Merge}
-use Rattle.epoch_model.specs.Laws.{HasRoom}
-use Rattle.epoch_model.specs.Timeline.{NoPacket}
-use Rattle.epoch_model.specs.Driving.{Taken, event_of}
-use Rattle.epoch_model.proofs.KeyLists.{by_test}
+use Rattle.epoch_model.specs.{Keys.{ArgRow, Key}, Machine.{Epoch, Event, Evict, Merge}, Laws.HasRoom, Timeline.NoPacket}
+use Rattle.epoch_model.{specs.Driving.{Taken, event_of}, proofs.KeyLists.by_test}
 use Rattle.epoch_entry.specs.Foldings.{folding_of}
 use Rattle.backing_store.specs.Merged.{StoreHolds}
-use Rattle.final_queries.specs.declared.table.Table.{Table}
-use Rattle.final_queries.specs.GroupTable.{closed_table}
-use Rattle.final_queries.specs.FinalLaws.{AreAlike, AlikeFoldingsMakeOneTable}
-use Rattle.stage_plan.specs.declared.group.GroupPlan.{GroupPlan}
-use Rattle.stage_plan.specs.Planned.{fold_at, taken, wiring_at}
-use Rattle.stage_plan.specs.Shape.{group_shape}
-use Rattle.stage_plan.specs.Sound.{PlanParts}
-use Rattle.switch_core.specs.Pipelines.{event_at, heading_of}
-use Rattle.switch_core.specs.Rows.{EachFrom}
-use Rattle.switch_core.proofs.LaneFacts.{all_at}
+use Rattle.final_queries.specs.{declared.table.Table.Table, GroupTable.closed_table, FinalLaws.{AreAlike, AlikeFoldingsMakeOneTable}}
+use Rattle.stage_plan.specs.{declared.group.GroupPlan.GroupPlan, Planned.{fold_at, taken, wiring_at}, Shape.group_shape, Sound.PlanParts}
+use Rattle.switch_core.{specs.{Pipelines.{event_at, heading_of}, Rows.EachFrom}, proofs.LaneFacts.all_at}
 use Rattle.switch_core.proofs.SideBySide.{each_long, got_below, got_some}
 use Rattle.additive_laws.specs.Network.{SwitchEvent, SwitchEpoch, all_epochs, all_events, AllMerged}
 use Rattle.additive_laws.specs.Traces.{HasPackets, IsRun, from_switch, given, packets_among, without_switch_merges}
 use Rattle.net_wide.specs.NetTables.{caches_of, net_pieces, net_table, net_table_if, net_tables, net_tables_from, tables_of_pieces}
-use Rattle.net_wide.proofs.SameTexts.{at_place}
-use Rattle.net_wide.specs.NetEnds.{MergedMakeTheTable, PiecesAreTheEpochs, net_steps}
-use Rattle.net_wide.proofs.PieceTables.{pieces_same}
-use Rattle.net_wide.proofs.Places.{first_at}
+use Rattle.net_wide.{specs.NetEnds.{MergedMakeTheTable, PiecesAreTheEpochs, net_steps}, proofs.SameTexts.at_place}
+use Rattle.net_wide.proofs.{PieceTables.pieces_same, Places.first_at}
 use Rattle.network.specs.Ends.{AreAtTheirSwitches, CombineOver, EvictsLast, NoEviction, packets_taken, pieces_closed}
 use Rattle.network.specs.Groups.{GroupView, IsGroup, StoresHold, folding_in, group_is_drained, shared_tables}
 use Rattle.network.specs.Networks.{IsNetwork, NetworkView}
 use Rattle.network.specs.Running.{Evicts, Merges, NetworkEvent, NetworkStands, Takes, all_given, merged_after}
-use Rattle.network.proofs.EventLists.{first_theirs, taken_on}
-use Rattle.network.proofs.MakeSteps.{all_merged}
-use Rattle.network.proofs.Representing.{given_on}
+use Rattle.network.proofs.{EventLists.{first_theirs, taken_on}, MakeSteps.all_merged, Representing.given_on}
 
 -- ---- what a groupby is given of the events
 

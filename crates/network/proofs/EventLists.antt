@@ -1,16 +1,12 @@
 -- Lists of a network's events.
 use Rattle.std.proofs.Common.{◌≡◌, ℕ, zero, suc, nat_lt, List, [], ◌∷◌, ◌++◌, length, replicate, Option, Some, None, refl, sym, ◌∙◌}
-use Rattle.epoch_model.specs.Machine.{Event, Packet, Evict, Merge}
-use Rattle.epoch_model.proofs.KeyLists.{by_test}
+use Rattle.epoch_model.{specs.Machine.{Event, Packet, Evict, Merge}, proofs.KeyLists.by_test}
 use Rattle.epoch_entry.specs.declared.any.AnyEpochs.{AnyEpochs}
 use Rattle.switch_core.specs.FrontParts.{FrontOf}
 use Rattle.switch_core.specs.declared.upkeep.Upkeep.TheVariants as due
-use Rattle.network.specs.Ends.{AreAtTheirSwitches, NoEviction, packets_taken}
-use Rattle.network.specs.Events.{upkeep_in}
-use Rattle.network.specs.Networks.{NetworkView}
-use Rattle.network.specs.Running.{Evicts, Merges, NetworkEvent, Takes, all_evictions, calls_of, front_at, joined_below, lane_calls}
-use Rattle.network.specs.Running.{upkeep_calls, without_merges}
-use Rattle.network.proofs.Runs.{without_on}
+use Rattle.network.specs.{Ends.{AreAtTheirSwitches, NoEviction, packets_taken}, Events.upkeep_in, Networks.NetworkView, Running.Evicts}
+use Rattle.network.specs.Running.{Merges, NetworkEvent, Takes, all_evictions, calls_of, front_at, joined_below, lane_calls, upkeep_calls}
+use Rattle.network.{specs.Running.without_merges, proofs.Runs.without_on}
 
 -- ---- some events and then others
 

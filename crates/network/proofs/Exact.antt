@@ -1,54 +1,32 @@
 -- The rows of one groupby's table of a drained network: of an additive fold, and of a key that gives the switch.
 use Rattle.std.proofs.Common.{◌≡◌, ◌≢◌, ℕ, zero, suc, ◌+◌, ◌==◌, true, false, ◌||◌, List, [], ◌∷◌, ◌++◌, length, filter, flat_map}
-use Rattle.std.proofs.Common.{slice_index, Option, Some, None, refl, sym, ap, subst, ◌∙◌, arith, append-nil}
-use Rattle.std.specs.Prelude.{slice_get, map}
+use Rattle.std.proofs.{Common.{slice_index, Option, Some, None, refl, sym, ap, subst, ◌∙◌, arith, append-nil}, lemmas.Bool.true≢false}
+use Rattle.std.proofs.lemmas.{Bool.Decides.nat_tests, Cmp.{nat_list_cmp_total, tied_itself}}
+use Rattle.std.{proofs.lemmas.List.Elements.{All-head, All-tail, filter-append}, specs.Prelude.{slice_get, map}}
 use Rattle.std.specs.declared.cmp.Ordering.TheVariants.{Less, Equal}
-use Rattle.std.proofs.lemmas.Bool.{true≢false}
-use Rattle.std.proofs.lemmas.Bool.Decides.{nat_tests}
-use Rattle.std.proofs.lemmas.Cmp.{nat_list_cmp_total, tied_itself}
-use Rattle.std.proofs.lemmas.List.Elements.{All-head, All-tail, filter-append}
 use Rattle.marple_base.specs.declared.field.TheConstants.{FIELDS}
-use Rattle.query_lang.specs.declared.fold.TypedFold.{TypedFold}
-use Rattle.query_lang.specs.Folds.{initial_state}
+use Rattle.query_lang.specs.{declared.fold.TypedFold.TypedFold, Folds.initial_state}
 use Rattle.fold_class.proofs.LawLemmas.{additive_class}
-use Rattle.epoch_model.specs.declared.tables.Row.{Row}
-use Rattle.epoch_model.specs.Keys.{AreAbove, ArgRow, IsAscending, Key, ascending, has, key_cmp, key_eq}
-use Rattle.epoch_model.specs.Driving.{Taken, event_of}
-use Rattle.epoch_model.specs.Epochs.{Geometry}
-use Rattle.epoch_model.specs.Laws.{HasRoom, rows_given}
-use Rattle.epoch_model.specs.Machine.{Epoch, Event, Evict, Merge, lists_of}
-use Rattle.epoch_model.specs.TableLaws.{keys_given}
+use Rattle.epoch_model.specs.{declared.tables.Row.Row, Keys.{AreAbove, ArgRow, IsAscending, Key, ascending, has, key_cmp, key_eq}}
+use Rattle.epoch_model.specs.{Driving.{Taken, event_of}, Epochs.Geometry, Laws.{HasRoom, rows_given}}
+use Rattle.epoch_model.specs.{Machine.{Epoch, Event, Evict, Merge, lists_of}, TableLaws.keys_given}
 use Rattle.epoch_model.specs.Tables.{Folding, closed_key_rows, closed_keys, closed_rows, epoch_rows, exact_row, folded}
-use Rattle.epoch_model.proofs.KeyLists.{by_test, key_eq-true}
-use Rattle.epoch_model.proofs.KeyOrder.{ascending-ascends, has-ascending}
+use Rattle.epoch_model.proofs.{KeyLists.{by_test, key_eq-true}, KeyOrder.{ascending-ascends, has-ascending}}
 use Rattle.epoch_model.proofs.TableRows.{given-some, joined-some, same_keys}
 use Rattle.epoch_entry.specs.Foldings.{folding_of}
-use Rattle.final_queries.specs.Finals.{is_of_key}
-use Rattle.final_queries.specs.FinalLaws.{AlikeFoldingsMakeOneTable, AreAlike}
-use Rattle.final_queries.specs.GroupTable.{closed_table}
+use Rattle.final_queries.specs.{Finals.is_of_key, FinalLaws.{AlikeFoldingsMakeOneTable, AreAlike}, GroupTable.closed_table}
 use Rattle.final_queries.specs.declared.table.Table.{Table}
 use Rattle.backing_store.specs.Merged.{StoreHolds}
-use Rattle.stage_plan.specs.Packets.{AreWhole}
-use Rattle.stage_plan.specs.Planned.{taken, wiring_at}
-use Rattle.stage_plan.specs.Sound.{PlanParts}
-use Rattle.stage_plan.specs.declared.group.GroupPlan.{GroupPlan}
-use Rattle.switch_core.specs.Pipelines.{event_at, heading_of}
-use Rattle.switch_core.specs.Rows.{EachFrom}
-use Rattle.switch_core.proofs.LaneFacts.{all_at}
-use Rattle.switch_core.proofs.SideBySide.{same_some}
-use Rattle.additive_laws.specs.Laws.{IsAdditiveFrom}
-use Rattle.additive_laws.specs.Pieces.{rows_joined}
+use Rattle.stage_plan.specs.{Packets.AreWhole, Planned.{taken, wiring_at}, Sound.PlanParts, declared.group.GroupPlan.GroupPlan}
+use Rattle.switch_core.{specs.{Pipelines.{event_at, heading_of}, Rows.EachFrom}, proofs.{LaneFacts.all_at, SideBySide.same_some}}
+use Rattle.additive_laws.specs.{Laws.IsAdditiveFrom, Pieces.rows_joined}
 use Rattle.additive_laws.specs.Network.{AllMerged, SwitchEvent, SwitchEpoch, all_epochs, all_events, events_at, machine_at}
-use Rattle.additive_laws.specs.Traces.{from_switch}
-use Rattle.additive_laws.proofs.StoreTables.{as_many, pieces, same_some as same_length, store_table}
-use Rattle.net_wide.specs.NetTables.{caches_of, switch_in}
-use Rattle.net_wide.proofs.OneSwitch.{one_switch}
+use Rattle.additive_laws.{specs.Traces.from_switch, proofs.StoreTables.{as_many, pieces, same_some as same_length, store_table}}
+use Rattle.net_wide.{specs.NetTables.{caches_of, switch_in}, proofs.OneSwitch.one_switch}
 use Rattle.network.specs.Ends.{AreTakenAt, IsDrainedWith, IsSwitchPlace, packets_taken}
 use Rattle.network.specs.Groups.{GroupView, IsGroup, StoresHold, folding_in, group_is_drained, shared_tables}
-use Rattle.network.specs.Networks.{IsNetwork, NetworkView}
-use Rattle.network.specs.Running.{Evicts, Merges, NetworkEvent, Takes, all_given, merged_after}
-use Rattle.network.proofs.MakeSteps.{all_merged}
-use Rattle.network.proofs.SharedSteps.{each_back}
+use Rattle.network.specs.{Networks.{IsNetwork, NetworkView}, Running.{Evicts, Merges, NetworkEvent, Takes, all_given, merged_after}}
+use Rattle.network.proofs.{MakeSteps.all_merged, SharedSteps.each_back}
 
 -- ---- the rows of one key among those of all
 

@@ -1,36 +1,20 @@
 -- Groupbys side by side.
 use Rattle.std.proofs.Common.{◌≡◌, ℕ, zero, suc, ◌+◌, ◌<◌, ◌≤◌, nat_lt, List, [], ◌∷◌, ◌++◌, inl, inr, Some, length, take, refl, sym, ap}
-use Rattle.std.proofs.Common.{◌∙◌, subst, arith, length-append}
-use Rattle.std.proofs.Math.Logic.{∥∥₁_elim}
-use Rattle.std.proofs.Props.{props}
-use Rattle.std.proofs.Math.Seq.{take-append_seam, take-length}
-use Rattle.std.proofs.lemmas.Bool.Decides.{nat_tests}
-use Rattle.epoch_model.proofs.KeyLists.{by_test}
+use Rattle.std.proofs.{Common.{◌∙◌, subst, arith, length-append}, Math.{Logic.{∥∥₁_elim}, Seq.{take-append_seam, take-length}}, Props.props}
+use Rattle.std.{proofs.lemmas.Bool.Decides.nat_tests, specs.Prelude.slice_get}
+use Rattle.epoch_model.{proofs.KeyLists.by_test, specs.Machine.Epoch}
 use Rattle.fold_class.specs.Program.{IsProgram, IsProgramOf}
-use Rattle.query_lang.specs.declared.fold.TypedFold.{TypedFold}
-use Rattle.epoch_entry.specs.declared.any.AnyEpochs.{AnyEpochs}
-use Rattle.final_queries.specs.FinalLaws.{AreAlike}
-use Rattle.stage_plan.specs.declared.group.GroupWiring.{GroupWiring}
-use Rattle.switch_core.specs.FrontParts.{FrontOf}
-use Rattle.std.specs.Prelude.{slice_get}
-use Rattle.marple_base.specs.declared.field.TheConstants.{FIELDS}
-use Rattle.epoch_model.specs.Machine.{Epoch}
-use Rattle.query_lang.specs.declared.fault.TheConstants.{MAX_ARGS, MAX_KEYS}
-use Rattle.epoch_entry.specs.Foldings.{IsKindOf}
-use Rattle.epoch_entry.specs.contracts.any.AnyEpochsEpochKind.TheImpl.{ghosts}
-use Rattle.final_queries.specs.GroupTable.{closed_table}
-use Rattle.stage_plan.specs.declared.group.GroupPlan.{GroupPlan}
-use Rattle.stage_plan.specs.Planned.{wiring_at}
+use Rattle.query_lang.specs.declared.{fold.TypedFold.TypedFold, fault.TheConstants.{MAX_ARGS, MAX_KEYS}}
+use Rattle.epoch_entry.specs.{declared.any.AnyEpochs.AnyEpochs, Foldings.IsKindOf, contracts.any.AnyEpochsEpochKind.TheImpl.ghosts}
+use Rattle.final_queries.specs.{FinalLaws.AreAlike, GroupTable.closed_table}
+use Rattle.stage_plan.specs.{declared.group.{GroupWiring.GroupWiring, GroupPlan.GroupPlan}, Planned.wiring_at}
 use Rattle.stage_plan.specs.Sound.{PlanParts, IsSoundPlan, IsSoundGroup}
-use Rattle.switch_core.specs.Pipelines.{heading_of}
-use Rattle.switch_core.specs.Rows.{Each, EachFrom}
-use Rattle.switch_core.proofs.LanesMade.{group_sound}
+use Rattle.switch_core.{specs.{FrontParts.FrontOf, Pipelines.heading_of, Rows.{Each, EachFrom}}, proofs.LanesMade.group_sound}
 use Rattle.switch_core.proofs.SideBySide.{each_at, each_long, each_map, got_below}
+use Rattle.marple_base.specs.declared.field.TheConstants.{FIELDS}
 use Rattle.network.specs.Groups.{GroupGrows, GroupKept, GroupView, IsGroup, AreGroups, folding_in, shared_tables, with_first}
+use Rattle.network.{specs.Shared.{FrontKept, MayShare}, proofs.{SharedSteps.{each_back, each_flip, each_on, still_share}, Sharing.got_push}}
 use Rattle.backing_store.specs.Store.{Store}
-use Rattle.network.specs.Shared.{FrontKept, MayShare}
-use Rattle.network.proofs.SharedSteps.{each_back, each_flip, each_on, still_share}
-use Rattle.network.proofs.Sharing.{got_push}
 
 -- what is said of items and parts, and what is made of each item, says something of the new items and the parts
 pub each_made : {A B : Type 0} (R : ℕ → A → B → Type 0) (S : ℕ → A → A → Type 0) (T : ℕ → A → B → Type 0) (k : ℕ) (olds news : List A)

@@ -1,31 +1,20 @@
 -- What an event of one switch makes of a groupby, and of all groupbys side by side.
 use Rattle.std.proofs.Common.{◌≡◌, ℕ, zero, suc, ◌<◌, ◌==◌, true, false, List, [], ◌∷◌, length, replicate, get_or, set, Option, Some}
-use Rattle.std.proofs.Common.{Result, Ok, Err, OnOk, OnErr, refl, sym, ap, subst, ◌∙◌, arith, append-nil}
-use Rattle.std.specs.Prelude.{slice_get}
-use Rattle.std.proofs.lemmas.Bool.{lt-ltb}
-use Rattle.std.proofs.lemmas.Bool.Decides.{nat_tests}
+use Rattle.std.proofs.{Common.{Result, Ok, Err, OnOk, OnErr, refl, sym, ap, subst, ◌∙◌, arith, append-nil}, lemmas.Bool.lt-ltb}
+use Rattle.std.{proofs.lemmas.Bool.Decides.nat_tests, specs.Prelude.slice_get}
 use Rattle.epoch_model.specs.Machine.{Event, Evict, Merge}
 use Rattle.backing_store.specs.Store.{Store}
-use Rattle.epoch_entry.specs.declared.any.AnyEpochs.{AnyEpochs}
-use Rattle.epoch_entry.specs.contracts.any.AnyEpochsEpochKind.TheImpl.{ghosts}
+use Rattle.epoch_entry.specs.{declared.any.AnyEpochs.AnyEpochs, contracts.any.AnyEpochsEpochKind.TheImpl.ghosts}
 use Rattle.final_queries.specs.FinalLaws.{AreAlike}
-use Rattle.stage_plan.specs.Planned.{wiring_at}
-use Rattle.stage_plan.specs.Sound.{PlanParts}
-use Rattle.switch_core.specs.FrontEvents.{Carries, CarriesFirst, with_store}
-use Rattle.switch_core.specs.FrontParts.{FrontOf, front_of}
-use Rattle.switch_core.specs.Pipelines.{event_at}
-use Rattle.switch_core.specs.PlanLanes.{LaneView}
-use Rattle.switch_core.specs.Rows.{Each, EachFrom}
-use Rattle.switch_core.specs.Upkeeps.{IsKept, upkeep_events}
-use Rattle.switch_core.specs.declared.upkeep.Upkeep.{Upkeep}
+use Rattle.stage_plan.specs.{Planned.wiring_at, Sound.PlanParts}
+use Rattle.switch_core.specs.{FrontEvents.{Carries, CarriesFirst, with_store}, FrontParts.{FrontOf, front_of}, Pipelines.event_at}
+use Rattle.switch_core.specs.{PlanLanes.LaneView, Rows.{Each, EachFrom}, Upkeeps.{IsKept, upkeep_events}, declared.upkeep.Upkeep.Upkeep}
 use Rattle.switch_core.specs.declared.upkeep.Upkeep.TheVariants as due
 use Rattle.switch_core.proofs.LaneFacts.{got_set, set_same}
 use Rattle.switch_core.proofs.SideBySide.{each_map, each_set, got_below, got_here, same_some, untouched_start}
-use Rattle.network.specs.Shared.{AllShare, FrontKept}
-use Rattle.network.specs.Groups.{AreGroups, GroupKept, GroupView, folding_in, group_is_drained}
+use Rattle.network.specs.{Shared.{AllShare, FrontKept}, Groups.{AreGroups, GroupKept, GroupView, folding_in, group_is_drained}}
 use Rattle.network.specs.Events.{AreAllMerged, GroupBreaksOff, GroupMakes, GroupMakesAll, GroupsMake, IsLeft, LaneCarries, LeavesCache}
-use Rattle.network.specs.Events.{OthersStay, StaysBut, StoresStay, has_room, is_ready_at, with_lane}
-use Rattle.network.proofs.GroupSteps.{group_at}
+use Rattle.network.{specs.Events.{OthersStay, StaysBut, StoresStay, has_room, is_ready_at, with_lane}, proofs.GroupSteps.group_at}
 use Rattle.network.proofs.SharedSteps.{each_on, fronts_same, got_other, kept_on, one_kept, set_set, store_on}
 use Rattle.network.proofs.Sharing.{all_done, fronts_next, held_next}
 

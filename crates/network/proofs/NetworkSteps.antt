@@ -3,14 +3,9 @@ use Rattle.std.proofs.Common.{◌≡◌, ℕ, ◌+◌, ◌<◌, List, ◌++◌, 
 use Rattle.std.specs.Prelude.{slice_get}
 use Rattle.epoch_model.specs.Machine.{Event}
 use Rattle.stage_plan.specs.Sound.{PlanParts}
-use Rattle.switch_core.specs.Rows.{Each}
-use Rattle.switch_core.proofs.LaneFacts.{whole_written}
-use Rattle.switch_core.proofs.SideBySide.{got_here}
-use Rattle.network.specs.Groups.{AreGroups, GroupGrows, GroupKept, GroupView}
-use Rattle.network.specs.Events.{GroupsMake}
-use Rattle.network.specs.Networks.{IsNetwork, NetworkView}
-use Rattle.network.proofs.GroupSteps.{have_grown, have_kept, still_groups}
-use Rattle.network.proofs.MakeSteps.{groups_kept}
+use Rattle.switch_core.{specs.Rows.Each, proofs.{LaneFacts.whole_written, SideBySide.got_here}}
+use Rattle.network.specs.{Groups.{AreGroups, GroupGrows, GroupKept, GroupView}, Events.GroupsMake, Networks.{IsNetwork, NetworkView}}
+use Rattle.network.proofs.{GroupSteps.{have_grown, have_kept, still_groups}, MakeSteps.groups_kept}
 
 -- a network of these parts
 abbrev pub net_of : PlanParts → ℕ → ℕ → ℕ → List GroupView → NetworkView

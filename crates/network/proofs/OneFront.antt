@@ -1,18 +1,10 @@
 -- A front of a groupby that is another one now, with the groupby's store, and the groupby with them.
-use Rattle.std.proofs.Common.{◌≡◌, ℕ, ◌<◌, true, Some, length, get_or, set, sym, ap, ◌∙◌, subst}
-use Rattle.std.specs.Prelude.{slice_get}
-use Rattle.epoch_entry.specs.declared.any.AnyEpochs.{AnyEpochs}
-use Rattle.epoch_entry.specs.contracts.any.AnyEpochsEpochKind.TheImpl.{ghosts}
+use Rattle.std.{proofs.Common.{◌≡◌, ℕ, ◌<◌, true, Some, length, get_or, set, sym, ap, ◌∙◌, subst}, specs.Prelude.slice_get}
+use Rattle.epoch_entry.specs.{declared.any.AnyEpochs.AnyEpochs, contracts.any.AnyEpochsEpochKind.TheImpl.ghosts}
 use Rattle.backing_store.specs.Store.{Store}
-use Rattle.switch_core.specs.FrontEvents.{with_store}
-use Rattle.switch_core.specs.FrontParts.{FrontOf}
-use Rattle.switch_core.proofs.LaneFacts.{got_set}
-use Rattle.switch_core.proofs.SideBySide.{got_below, same_some}
-use Rattle.network.specs.Shared.{MayShare}
-use Rattle.network.specs.Groups.{GroupShares, GroupView, folding_in}
-use Rattle.network.specs.Events.{is_ready_at, with_lane}
-use Rattle.network.specs.declared.group.Group.TheInside.{Inside}
-use Rattle.network.proofs.MakeSteps.{front_there, room_at, same_lane}
+use Rattle.switch_core.{specs.{FrontEvents.with_store, FrontParts.FrontOf}, proofs.{LaneFacts.got_set, SideBySide.{got_below, same_some}}}
+use Rattle.network.specs.{Shared.MayShare, Groups.{GroupShares, GroupView, folding_in}, Events.{is_ready_at, with_lane}}
+use Rattle.network.{specs.declared.group.Group.TheInside.Inside, proofs.MakeSteps.{front_there, room_at, same_lane}}
 
 -- a groupby by its parts
 abbrev pub group_of : {ways : ℕ} → Inside ways → GroupView

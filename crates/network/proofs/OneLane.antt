@@ -1,21 +1,13 @@
 -- A groupby of a network that is another one now, and the network with it.
-use Rattle.std.proofs.Common.{◌≡◌, ℕ, ◌<◌, Some, length, get_or, set, refl, sym, ap, ◌∙◌}
-use Rattle.std.specs.Prelude.{slice_get}
+use Rattle.std.{proofs.Common.{◌≡◌, ℕ, ◌<◌, Some, length, get_or, set, refl, sym, ap, ◌∙◌}, specs.Prelude.slice_get}
 use Rattle.epoch_model.specs.Machine.{Event}
-use Rattle.epoch_entry.specs.declared.any.AnyEpochs.{AnyEpochs}
-use Rattle.epoch_entry.specs.contracts.any.AnyEpochsEpochKind.TheImpl.{ghosts}
+use Rattle.epoch_entry.specs.{declared.any.AnyEpochs.AnyEpochs, contracts.any.AnyEpochsEpochKind.TheImpl.ghosts}
 use Rattle.stage_plan.specs.Planned.{wiring_at}
-use Rattle.switch_core.specs.FrontParts.{FrontOf}
-use Rattle.switch_core.specs.Pipelines.{event_at}
-use Rattle.switch_core.proofs.LaneFacts.{got_set, set_same}
+use Rattle.switch_core.{specs.{FrontParts.FrontOf, Pipelines.event_at}, proofs.LaneFacts.{got_set, set_same}}
 use Rattle.switch_core.proofs.SideBySide.{got_below, same_some}
-use Rattle.network.specs.Events.{GroupMakes, GroupsMake, OthersStay}
-use Rattle.network.specs.Groups.{GroupView, folding_in}
-use Rattle.network.specs.Networks.{IsNetwork, NetworkView}
-use Rattle.network.specs.Running.{NetworkEvent, NetworkMakes, front_at, gives, switch_of}
-use Rattle.network.specs.Shared.{AllShare}
-use Rattle.network.specs.declared.network.Network.TheInside.{Inside}
-use Rattle.network.proofs.Calls.{front_here}
+use Rattle.network.specs.{Events.{GroupMakes, GroupsMake, OthersStay}, Groups.{GroupView, folding_in}, Networks.{IsNetwork, NetworkView}}
+use Rattle.network.specs.{Running.{NetworkEvent, NetworkMakes, front_at, gives, switch_of}, Shared.AllShare}
+use Rattle.network.{specs.declared.network.Network.TheInside.Inside, proofs.Calls.front_here}
 use Rattle.network.proofs.MakeSteps.{make_one, none_changes, others_stay, shares_at, switch_within}
 use Rattle.network.proofs.NetworkSteps.{group_there, made_network, net_of, same_network, with_groups}
 

@@ -1,17 +1,12 @@
 -- What a network represents after the events that it makes.
-use Rattle.std.proofs.Common.{◌≡◌, ℕ, List, [], ◌∷◌, ◌++◌, refl, sym, ap, subst, ◌∙◌, arith, append-nil, append_assoc}
-use Rattle.std.specs.List.{All}
+use Rattle.std.{proofs.Common.{◌≡◌, ℕ, List, [], ◌∷◌, ◌++◌, refl, sym, ap, subst, ◌∙◌, arith, append-nil, append_assoc}, specs.List.All}
 use Rattle.epoch_model.specs.Machine.{Event}
 use Rattle.stage_plan.specs.Sound.{PlanParts}
-use Rattle.additive_laws.specs.Network.{SwitchEvent}
-use Rattle.additive_laws.specs.Traces.{from_switch}
+use Rattle.additive_laws.specs.{Network.SwitchEvent, Traces.from_switch}
 use Rattle.net_wide.proofs.SameTexts.{at_place}
-use Rattle.network.specs.Groups.{GroupStands, GroupView}
-use Rattle.network.specs.Events.{GroupMakesAll}
-use Rattle.network.specs.Networks.{NetworkGrows, NetworkView}
+use Rattle.network.specs.{Groups.{GroupStands, GroupView}, Events.GroupMakesAll, Networks.{NetworkGrows, NetworkView}}
 use Rattle.network.specs.Running.{NetworkEvent, NetworkMakes, NetworkStands, RunsFollowEvents, all_given, gives, merged_after, switch_of}
-use Rattle.network.specs.Shared.{merged_by, with_event}
-use Rattle.network.proofs.SharedSteps.{each_back}
+use Rattle.network.{specs.Shared.{merged_by, with_event}, proofs.SharedSteps.each_back}
 
 pub given_on : (plan : PlanParts) (n : ℕ) (xs ys : List NetworkEvent) → all_given plan n (xs ++ ys) ≡ all_given plan n xs
     ++ all_given plan n ys

@@ -1,21 +1,15 @@
 -- Runs of a network, in sequence.
 use Rattle.std.proofs.Common.{◌≡◌, ℕ, zero, suc, ◌+◌, ◌<◌, ◌≤◌, nat_lt, List, [], ◌∷◌, ◌++◌, length, refl, sym, ap, ◌∙◌, arith, append-nil}
-use Rattle.std.proofs.Common.{append_assoc}
-use Rattle.std.specs.Prelude.{sum_by}
-use Rattle.std.proofs.lemmas.Bool.Decides.{nat_tests}
+use Rattle.std.{proofs.{Common.append_assoc, lemmas.Bool.Decides.nat_tests}, specs.Prelude.sum_by}
 use Rattle.epoch_model.proofs.KeyLists.{by_test}
 use Rattle.stage_plan.specs.Planned.{registers_of}
 use Rattle.switch_core.specs.Rows.{AreFirst, Each}
 use Rattle.switch_core.specs.declared.upkeep.Upkeep.TheVariants as due
 use Rattle.switch_core.proofs.SideBySide.{each_long}
-use Rattle.network.specs.Groups.{GroupKept}
-use Rattle.network.specs.Costs.{group_cost}
-use Rattle.network.specs.Networks.{IsNetwork, KeepsNetwork, NetworkView, network_cost, upkeeps_cost}
+use Rattle.network.specs.{Groups.GroupKept, Costs.group_cost, Networks.{IsNetwork, KeepsNetwork, NetworkView, network_cost, upkeeps_cost}}
 use Rattle.network.specs.Running.{Evicts, Merges, MergingBreaksOff, NetworkEvent, NetworkMakes, NetworkRuns, RunBreaksOff, RunsWithMerges}
-use Rattle.network.specs.Running.{Takes, gives, joined_below, switch_of, without_merges}
-use Rattle.network.proofs.CostSteps.{costs_kept, merges_kept}
-use Rattle.network.proofs.MakeSteps.{groups_kept, kept_after, none_kept}
-use Rattle.network.proofs.NetworkSteps.{made_network, with_groups}
+use Rattle.network.{specs.Running.{Takes, gives, joined_below, switch_of, without_merges}, proofs.CostSteps.{costs_kept, merges_kept}}
+use Rattle.network.proofs.{MakeSteps.{groups_kept, kept_after, none_kept}, NetworkSteps.{made_network, with_groups}}
 
 -- ---- lists of events
 

@@ -1,18 +1,11 @@
 -- Fronts side by side, and the store that they share.
 use Rattle.std.proofs.Common.{◌≡◌, ◌≢◌, ℕ, zero, suc, ◌+◌, Bool, true, false, List, [], ◌∷◌, map, set, Some, refl, sym, ◌∙◌, arith}
-use Rattle.std.specs.Prelude.{slice_get, flat_map}
-use Rattle.std.specs.List.{list_all}
-use Rattle.epoch_model.specs.Keys.{ArgRow}
-use Rattle.epoch_model.specs.Machine.{Epoch}
-use Rattle.epoch_model.specs.Tables.{Folding, folded}
-use Rattle.epoch_model.proofs.KeyLists.{by_test}
+use Rattle.std.specs.{Prelude.{slice_get, flat_map}, List.list_all}
+use Rattle.epoch_model.{specs.{Keys.ArgRow, Machine.Epoch, Tables.{Folding, folded}}, proofs.KeyLists.by_test}
 use Rattle.epoch_entry.specs.Kinds.{Sizes}
-use Rattle.backing_store.specs.Store.{Store}
-use Rattle.backing_store.specs.Merged.{StoreHolds, stored}
+use Rattle.backing_store.specs.{Store.Store, Merged.{StoreHolds, stored}}
 use Rattle.final_queries.specs.FinalLaws.{AreAlike}
-use Rattle.switch_core.specs.FrontParts.{FrontOf, FitsStore}
-use Rattle.switch_core.specs.Rows.{Each, EachFrom}
-use Rattle.switch_core.proofs.SideBySide.{each_at}
+use Rattle.switch_core.{specs.{FrontParts.{FrontOf, FitsStore}, Rows.{Each, EachFrom}}, proofs.SideBySide.each_at}
 use Rattle.network.specs.Shared.{AllShare, FrontKept, StoreKept}
 
 -- alike foldings mean the same of a store

@@ -1,33 +1,17 @@
 -- What an event of one switch makes of the fronts of all, and of the store that they share.
 use Rattle.std.proofs.Common.{◌≡◌, ◌≢◌, ℕ, zero, suc, true, false, ◌==◌, List, [], ◌∷◌, ◌++◌, length, filter, take, replicate, get_or, set}
-use Rattle.std.proofs.Common.{Option, Some, None, refl, sym, ap, subst, ◌∙◌, arith, append-nil, ◌⊎◌, inl, inr}
-use Rattle.std.proofs.Math.Seq.{take-length}
-use Rattle.std.specs.List.{list_all}
-use Rattle.std.specs.Prelude.{slice_get}
-use Rattle.std.proofs.lemmas.Bool.Decides.{nat_tests}
-use Rattle.std.proofs.lemmas.List.{map-append}
-use Rattle.std.proofs.lemmas.List.Elements.{filter-append}
-use Rattle.epoch_model.specs.Epochs.{Geometry}
-use Rattle.epoch_model.specs.Machine.{Epoch, Machine, Event, step, run, empty_machine}
-use Rattle.epoch_model.specs.Tables.{Folding}
-use Rattle.epoch_model.specs.Timeline.{IsSwept}
-use Rattle.epoch_model.proofs.KeyLists.{by_test}
-use Rattle.epoch_model.proofs.Turns.{run-append}
-use Rattle.backing_store.specs.Store.{Store}
-use Rattle.backing_store.specs.Merged.{StoreHolds}
+use Rattle.std.proofs.{Common.{Option, Some, None, refl, sym, ap, subst, ◌∙◌, arith, append-nil, ◌⊎◌, inl, inr}, Math.Seq.take-length}
+use Rattle.std.{proofs.lemmas.{Bool.Decides.nat_tests, List.{map-append, Elements.filter-append}}, specs.{List.list_all, Prelude.slice_get}}
+use Rattle.epoch_model.specs.{Epochs.Geometry, Machine.{Epoch, Machine, Event, step, run, empty_machine}, Tables.Folding, Timeline.IsSwept}
+use Rattle.epoch_model.proofs.{KeyLists.by_test, Turns.run-append}
+use Rattle.backing_store.specs.{Store.Store, Merged.StoreHolds}
 use Rattle.final_queries.specs.FinalLaws.{AreAlike}
-use Rattle.switch_core.specs.Closing.{is_drained}
-use Rattle.switch_core.specs.FrontEvents.{Carries, merges_of, with_store}
-use Rattle.switch_core.specs.FrontParts.{FrontOf, LaneOf, front_of}
-use Rattle.switch_core.specs.Lanes.{Standing, FrontStands, geometry}
-use Rattle.switch_core.proofs.Carrying.{merged_after}
-use Rattle.switch_core.proofs.Drained.{drained_is_done}
-use Rattle.switch_core.proofs.LaneFacts.{got_set, all_at}
-use Rattle.switch_core.proofs.SideBySide.{same_some, got_below}
+use Rattle.switch_core.specs.{Closing.is_drained, FrontEvents.{Carries, merges_of, with_store}, FrontParts.{FrontOf, LaneOf, front_of}}
+use Rattle.switch_core.{specs.Lanes.{Standing, FrontStands, geometry}, proofs.{Carrying.merged_after, Drained.drained_is_done}}
+use Rattle.switch_core.proofs.{LaneFacts.{got_set, all_at}, SideBySide.{same_some, got_below}}
 use Rattle.additive_laws.specs.Network.{SwitchEvent, SwitchEpoch, all_events, events_at, all_epochs, epochs_at, machine_at, AllMerged}
 use Rattle.net_wide.specs.NetTables.{caches_of}
-use Rattle.network.specs.Shared.{FrontsStand, epochs_from, with_event}
-use Rattle.network.proofs.SharedSteps.{alike_back, got_other, holds_alike}
+use Rattle.network.{specs.Shared.{FrontsStand, epochs_from, with_event}, proofs.SharedSteps.{alike_back, got_other, holds_alike}}
 
 -- events and epochs, some after the others
 

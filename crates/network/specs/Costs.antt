@@ -1,15 +1,9 @@
 -- How many steps the events of a switch take at the groupbys of a network.
 use Rattle.std.specs.Prelude.{ℕ, List, slice_get, Option, Some, None}
-use Rattle.epoch_entry.specs.declared.any.AnyEpochs.{AnyEpochs}
-use Rattle.epoch_entry.specs.contracts.any.AnyEpochsEpochKind.TheImpl.{ghosts}
-use Rattle.switch_core.specs.FrontParts.{FrontOf}
-use Rattle.switch_core.specs.PlanLanes.{LaneView, lane_cost}
-use Rattle.switch_core.specs.Upkeeps.{upkeep_cost}
-use Rattle.switch_core.specs.declared.upkeep.Upkeep.{Upkeep}
+use Rattle.epoch_entry.specs.{declared.any.AnyEpochs.AnyEpochs, contracts.any.AnyEpochsEpochKind.TheImpl.ghosts}
+use Rattle.switch_core.specs.{FrontParts.FrontOf, PlanLanes.{LaneView, lane_cost}, Upkeeps.upkeep_cost, declared.upkeep.Upkeep.Upkeep}
 use Rattle.switch_core.specs.declared.upkeep.Upkeep.TheVariants as due
-use Rattle.network.specs.Groups.{GroupView}
-use Rattle.network.specs.Shared.{AtSwitch}
-use Rattle.network.specs.Events.{AtGroup}
+use Rattle.network.specs.{Groups.GroupView, Shared.AtSwitch, Events.AtGroup}
 
 -- a front of a groupby is a lane, with the store that all its fronts share
 abbrev pub lane_in : GroupView → FrontOf AnyEpochs → LaneView

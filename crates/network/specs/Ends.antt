@@ -1,23 +1,13 @@
 -- What the tables of a drained network are.
-use Rattle.std.specs.Prelude.{◌≡◌, ℕ, None, Some, List, [], ◌∷◌, ◌++◌, length, slice_get, slice_index, true}
-use Rattle.std.specs.List.{list_all}
+use Rattle.std.specs.{Prelude.{◌≡◌, ℕ, None, Some, List, [], ◌∷◌, ◌++◌, length, slice_get, slice_index, true}, List.list_all}
 use Rattle.marple_base.specs.declared.field.TheConstants.{FIELDS}
-use Rattle.query_lang.specs.declared.fold.TypedFold.{TypedFold}
-use Rattle.query_lang.specs.declared.typed.TypedQuery.{TypedQuery}
-use Rattle.query_lang.specs.TypedQueries.{IsValidQuery}
+use Rattle.query_lang.specs.{declared.{fold.TypedFold.TypedFold, typed.TypedQuery.TypedQuery}, TypedQueries.IsValidQuery}
 use Rattle.fold_class.specs.Program.{IsProgramOf}
-use Rattle.epoch_model.specs.Driving.{Taken}
-use Rattle.epoch_model.specs.Keys.{ArgRow, Key}
-use Rattle.stage_plan.specs.declared.group.GroupPlan.{GroupPlan}
-use Rattle.stage_plan.specs.Packets.{AreWhole}
-use Rattle.stage_plan.specs.Planned.{IsPlanOf, taken}
-use Rattle.stage_plan.specs.Sound.{PlanParts}
-use Rattle.net_wide.specs.Combining.{net_fault}
-use Rattle.net_wide.specs.NetLaws.{TellsSwitches}
-use Rattle.net_wide.specs.NetTables.{caches_of, switch_in}
+use Rattle.epoch_model.specs.{Driving.Taken, Keys.{ArgRow, Key}}
+use Rattle.stage_plan.specs.{declared.group.GroupPlan.GroupPlan, Packets.AreWhole, Planned.{IsPlanOf, taken}, Sound.PlanParts}
+use Rattle.net_wide.specs.{Combining.net_fault, NetLaws.TellsSwitches, NetTables.{caches_of, switch_in}}
 use Rattle.net_wide.specs.NetEnds.{AreSwitchesNumbered, closed_pieces}
-use Rattle.network.specs.Groups.{group_is_drained}
-use Rattle.network.specs.Networks.{NetworkView}
+use Rattle.network.specs.{Groups.group_is_drained, Networks.NetworkView}
 use Rattle.network.specs.Running.{Evicts, Merges, NetworkEvent, NetworkStands, Takes, all_given}
 
 -- the packets that were taken, in order

@@ -1,21 +1,14 @@
 -- What an event of one switch makes of the groupbys of a network.
-use Rattle.std.specs.Prelude.{◌≡◌, ◌≢◌, ℕ, Bool, false, nat_lt, List, [], ◌∷◌, ◌++◌, length, slice_get, slice_set, Option}
-use Rattle.std.specs.Prelude.{Some, None}
+use Rattle.std.specs.Prelude.{◌≡◌, ◌≢◌, ℕ, Bool, false, nat_lt, List, [], ◌∷◌, ◌++◌, length, slice_get, slice_set, Option, Some, None}
 use Rattle.epoch_model.specs.Machine.{Event}
-use Rattle.epoch_entry.specs.declared.any.AnyEpochs.{AnyEpochs}
-use Rattle.epoch_entry.specs.contracts.any.AnyEpochsEpochKind.TheImpl.{ghosts}
+use Rattle.epoch_entry.specs.{declared.any.AnyEpochs.AnyEpochs, contracts.any.AnyEpochsEpochKind.TheImpl.ghosts}
 use Rattle.bucket_cache.specs.Caches.{Cache}
-use Rattle.switch_core.specs.FrontEvents.{Carries, CarriesAll, with_store}
-use Rattle.switch_core.specs.FrontParts.{FrontOf, front_of}
-use Rattle.switch_core.specs.PlanLanes.{LaneView}
-use Rattle.switch_core.specs.Rows.{AreFirst, Each, EachFrom}
-use Rattle.switch_core.specs.Upkeeps.{IsKept, upkeep_events}
-use Rattle.switch_core.specs.declared.upkeep.Upkeep.{Upkeep}
+use Rattle.switch_core.specs.{FrontEvents.{Carries, CarriesAll, with_store}, FrontParts.{FrontOf, front_of}, PlanLanes.LaneView}
+use Rattle.switch_core.specs.{Rows.{AreFirst, Each, EachFrom}, Upkeeps.{IsKept, upkeep_events}, declared.upkeep.Upkeep.Upkeep}
 use Rattle.switch_core.specs.declared.upkeep.Upkeep.TheVariants as due
 use Rattle.additive_laws.specs.Network.{AllMerged, SwitchEvent, SwitchEpoch}
 use Rattle.net_wide.specs.NetTables.{caches_of}
-use Rattle.network.specs.Shared.{AtSwitch, merged_by, with_event}
-use Rattle.network.specs.Groups.{GroupView, GroupStands}
+use Rattle.network.specs.{Shared.{AtSwitch, merged_by, with_event}, Groups.{GroupView, GroupStands}}
 
 -- whether there is a front, and its pipe has room for a record
 abbrev pub has_room : {K : Type 0} → Option (FrontOf K) → Bool

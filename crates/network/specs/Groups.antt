@@ -1,26 +1,14 @@
 -- The groupbys of a plan over several switches.
-use Rattle.std.specs.Prelude.{◌≡◌, ℕ, Bool, List, [], ◌∷◌, length, slice_get, take, Some}
-use Rattle.std.specs.List.{list_all}
-use Rattle.fold_class.specs.declared.program.FoldProgram.{FoldProgram}
-use Rattle.fold_class.specs.Program.{IsProgramOf}
+use Rattle.std.specs.{Prelude.{◌≡◌, ℕ, Bool, List, [], ◌∷◌, length, slice_get, take, Some}, List.list_all}
+use Rattle.fold_class.specs.{declared.program.FoldProgram.FoldProgram, Program.IsProgramOf}
 use Rattle.query_lang.specs.declared.fold.TypedFold.{TypedFold}
-use Rattle.epoch_model.specs.Machine.{Epoch}
-use Rattle.epoch_model.specs.Tables.{Folding}
-use Rattle.epoch_entry.specs.declared.any.AnyEpochs.{AnyEpochs}
-use Rattle.epoch_entry.specs.contracts.any.AnyEpochsEpochKind.TheImpl.{ghosts}
+use Rattle.epoch_model.specs.{Machine.Epoch, Tables.Folding}
+use Rattle.epoch_entry.specs.{declared.any.AnyEpochs.AnyEpochs, contracts.any.AnyEpochsEpochKind.TheImpl.ghosts}
 use Rattle.epoch_entry.specs.Foldings.{IsKindOf, per_epoch}
-use Rattle.backing_store.specs.Store.{Store}
-use Rattle.backing_store.specs.Merged.{StoreHolds}
-use Rattle.final_queries.specs.declared.table.Table.{Table}
-use Rattle.final_queries.specs.GroupTable.{closed_table}
-use Rattle.stage_plan.specs.declared.group.GroupPlan.{GroupPlan}
-use Rattle.stage_plan.specs.declared.group.GroupWiring.{GroupWiring}
-use Rattle.stage_plan.specs.Planned.{wiring_at}
-use Rattle.stage_plan.specs.Sound.{PlanParts}
-use Rattle.switch_core.specs.FrontParts.{FrontOf}
-use Rattle.switch_core.specs.Closing.{is_drained}
-use Rattle.switch_core.specs.Pipelines.{heading_of}
-use Rattle.switch_core.specs.Rows.{Each, EachFrom}
+use Rattle.backing_store.specs.{Store.Store, Merged.StoreHolds}
+use Rattle.final_queries.specs.{declared.table.Table.Table, GroupTable.closed_table}
+use Rattle.stage_plan.specs.{declared.group.{GroupPlan.GroupPlan, GroupWiring.GroupWiring}, Planned.wiring_at, Sound.PlanParts}
+use Rattle.switch_core.specs.{FrontParts.FrontOf, Closing.is_drained, Pipelines.heading_of, Rows.{Each, EachFrom}}
 use Rattle.additive_laws.specs.Network.{SwitchEvent, SwitchEpoch}
 use Rattle.network.specs.Shared.{AllShare, FrontKept, SharedStand, StoreKept}
 

@@ -1,12 +1,9 @@
 -- A plan over several switches, as contracts see it.
 use Rattle.std.specs.Prelude.{◌≡◌, ℕ, ◌+◌, ◌*◌, ◌<◌, ◌≤◌, List, sum_by}
-use Rattle.stage_plan.specs.Planned.{registers_of}
-use Rattle.stage_plan.specs.Sound.{PlanParts}
-use Rattle.switch_core.specs.Rows.{Each}
-use Rattle.switch_core.specs.declared.upkeep.Upkeep.{Upkeep}
+use Rattle.stage_plan.specs.{Planned.registers_of, Sound.PlanParts}
+use Rattle.switch_core.specs.{Rows.Each, declared.upkeep.Upkeep.Upkeep}
 use Rattle.switch_core.specs.declared.upkeep.Upkeep.TheVariants as due
-use Rattle.network.specs.Groups.{GroupGrows, GroupView, AreGroups, AllHavePlaces, AllWide}
-use Rattle.network.specs.Costs.{group_cost, group_upkeep_cost}
+use Rattle.network.specs.{Groups.{GroupGrows, GroupView, AreGroups, AllHavePlaces, AllWide}, Costs.{group_cost, group_upkeep_cost}}
 
 -- the plan, the number of buckets of a cache and of records of a pipe, the number of switches, and the groupbys in order
 pub record NetworkView : Type 0 where

@@ -1,19 +1,12 @@
 -- What happens at a network: its events, and what they make of it.
-use Rattle.std.specs.Prelude.{◌≡◌, ◌≢◌, ℕ, zero, suc, Bool, if◌then◌else◌, List, [], ◌∷◌, ◌++◌, length, slice_get}
-use Rattle.std.specs.Prelude.{Option, Some, None}
+use Rattle.std.specs.Prelude.{◌≡◌, ◌≢◌, ℕ, zero, suc, Bool, if◌then◌else◌, List, [], ◌∷◌, ◌++◌, length, slice_get, Option, Some, None}
 use Rattle.epoch_model.specs.Machine.{Event, Packet, Evict, Merge}
 use Rattle.epoch_entry.specs.declared.any.AnyEpochs.{AnyEpochs}
 use Rattle.stage_plan.specs.Sound.{PlanParts}
-use Rattle.switch_core.specs.FrontParts.{FrontOf}
-use Rattle.switch_core.specs.Pipelines.{event_at, packet_events}
-use Rattle.switch_core.specs.Rows.{AreFirst}
-use Rattle.switch_core.specs.declared.upkeep.Upkeep.{Upkeep}
+use Rattle.switch_core.specs.{FrontParts.FrontOf, Pipelines.{event_at, packet_events}, Rows.AreFirst, declared.upkeep.Upkeep.Upkeep}
 use Rattle.switch_core.specs.declared.upkeep.Upkeep.TheVariants as due
-use Rattle.additive_laws.specs.Network.{SwitchEvent, SwitchEpoch}
-use Rattle.additive_laws.specs.Traces.{from_switch}
-use Rattle.network.specs.Groups.{GroupStands, GroupView}
-use Rattle.network.specs.Events.{AtGroup, GroupsMake, upkeep_in}
-use Rattle.network.specs.Networks.{KeepsNetwork, NetworkView}
+use Rattle.additive_laws.specs.{Network.{SwitchEvent, SwitchEpoch}, Traces.from_switch}
+use Rattle.network.specs.{Groups.{GroupStands, GroupView}, Events.{AtGroup, GroupsMake, upkeep_in}, Networks.{KeepsNetwork, NetworkView}}
 use Rattle.network.specs.Shared.{merged_by}
 
 -- a packet with these words comes to a switch; or a switch evicts from a bucket, or merges a record, at one groupby

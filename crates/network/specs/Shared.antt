@@ -1,14 +1,10 @@
 -- The fronts of all switches at one groupby, and the store that they share.
 use Rattle.std.specs.Prelude.{◌≡◌, ℕ, List, [], ◌∷◌, ◌++◌, length, map, take, slice_get, Some, None}
-use Rattle.epoch_model.specs.Machine.{Epoch, Event}
-use Rattle.epoch_model.specs.Tables.{Folding}
-use Rattle.backing_store.specs.Store.{Store}
-use Rattle.backing_store.specs.Merged.{StoreHolds}
+use Rattle.epoch_model.specs.{Machine.{Epoch, Event}, Tables.Folding}
+use Rattle.backing_store.specs.{Store.Store, Merged.StoreHolds}
 use Rattle.final_queries.specs.FinalLaws.{AreAlike}
 use Rattle.epoch_entry.specs.Kinds.{Sizes}
-use Rattle.switch_core.specs.FrontEvents.{merges_of}
-use Rattle.switch_core.specs.FrontParts.{FrontOf, FitsStore}
-use Rattle.switch_core.specs.Lanes.{Standing, FrontStands}
+use Rattle.switch_core.specs.{FrontEvents.merges_of, FrontParts.{FrontOf, FitsStore}, Lanes.{Standing, FrontStands}}
 use Rattle.additive_laws.specs.Network.{SwitchEvent, SwitchEpoch, events_at, all_epochs, epochs_at, machine_at}
 use Rattle.net_wide.specs.NetTables.{caches_of}
 

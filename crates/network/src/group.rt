@@ -1,26 +1,17 @@
 //! The fronts of all switches at one groupby, and the store that they share.
 
-ghost use Rattle.std.specs.Prelude.{◌≡◌, ◌+◌, ◌*◌, ◌==◌, ◌<◌, ◌≤◌, ◌↔◌, ℕ, List, [], Ok, true, not};
-ghost use Rattle.std.specs.Prelude.{length, slice_get};
-ghost use Rattle.std.specs.Prelude.{if◌then◌else◌, IfOk, OnOk, OnErr};
-ghost use Rattle.std.specs.List.{list_all};
+ghost use Rattle.std.specs.Prelude.{◌≡◌, ◌+◌, ◌*◌, ◌==◌, ◌<◌, ◌≤◌, ◌↔◌, ℕ, List, [], Ok, true, not, length, slice_get, if◌then◌else◌, IfOk};
+ghost use Rattle.std.specs.{Prelude.{OnOk, OnErr}, List.list_all};
 ghost use Rattle.bucket_cache.specs.Caches.{list_at};
-ghost use Rattle.epoch_model.specs.Driving.{event_of};
-ghost use Rattle.epoch_model.specs.Machine.{Epoch, Evict, Merge};
+ghost use Rattle.epoch_model.specs.{Driving.event_of, Machine.{Epoch, Evict, Merge}};
 ghost use Rattle.fold_class.specs.Program.{IsProgram};
 ghost use Rattle.backing_store.specs.Merged.{StoreHolds};
 ghost use Rattle.final_queries.specs.GroupTable.{closed_table};
-ghost use Rattle.stage_plan.specs.declared.group.GroupWiring.{GroupWiring};
-ghost use Rattle.stage_plan.specs.Planned.{registers_of, wiring_at};
-ghost use Rattle.stage_plan.specs.Registers.{taken_at};
+ghost use Rattle.stage_plan.specs.{declared.group.GroupWiring.GroupWiring, Planned.{registers_of, wiring_at}, Registers.taken_at};
 ghost use Rattle.stage_plan.specs.Sound.{IsSoundGroup};
-ghost use Rattle.switch_core.specs.Closing.{is_drained};
-ghost use Rattle.switch_core.specs.Costs.{evict_cost};
-ghost use Rattle.switch_core.specs.Pipelines.{heading_of};
-ghost use Rattle.switch_core.specs.PlanLanes.{lane_cost, lane_merge_cost};
+ghost use Rattle.switch_core.specs.{Closing.is_drained, Costs.evict_cost, Pipelines.heading_of, PlanLanes.{lane_cost, lane_merge_cost}};
 ghost use Rattle.network.specs.Shared.{AtSwitch};
-ghost use Rattle.network.specs.Groups.{GroupGrows, GroupShares, GroupStands, IsGroup, folding_in, group_is_drained};
-ghost use Rattle.network.specs.Groups.{with_first};
+ghost use Rattle.network.specs.Groups.{GroupGrows, GroupShares, GroupStands, IsGroup, folding_in, group_is_drained, with_first};
 ghost use Rattle.network.specs.Events.{AreAllMerged, GroupBreaksOff, GroupMakes, GroupMakesAll, IsLeft, is_ready_at, upkeep_in};
 ghost use Rattle.network.specs.Costs.{AtLaneIn, group_merge_cost, group_upkeep_cost};
 

@@ -1,17 +1,11 @@
 //! The groupbys of a plan, side by side.
 
-ghost use Rattle.std.specs.Prelude.{◌≡◌, ◌+◌, ◌*◌, ◌<◌, ◌≤◌, ℕ, List, [], true, length};
-ghost use Rattle.std.specs.Prelude.{All, sum_by, IfOk, OnOk, OnErr};
-ghost use Rattle.std.specs.List.{list_all};
-ghost use Rattle.epoch_model.specs.Driving.{event_of};
-ghost use Rattle.epoch_model.specs.Machine.{Epoch};
-ghost use Rattle.stage_plan.specs.Planned.{registers_of, wiring_at};
-ghost use Rattle.stage_plan.specs.Registers.{taken_at};
-ghost use Rattle.stage_plan.specs.Sound.{PlanParts};
+ghost use Rattle.std.specs.{Prelude.{◌≡◌, ◌+◌, ◌*◌, ◌<◌, ◌≤◌, ℕ, List, [], true, length, All, sum_by, IfOk, OnOk, OnErr}, List.list_all};
+ghost use Rattle.epoch_model.specs.{Driving.event_of, Machine.Epoch};
+ghost use Rattle.stage_plan.specs.{Planned.{registers_of, wiring_at}, Registers.taken_at, Sound.PlanParts};
 ghost use Rattle.switch_core.specs.Rows.{Each};
 ghost use Rattle.network.specs.Groups.{AreGroups, GroupGrows, GroupStands, StoresHold, group_is_drained, shared_tables, with_first};
-ghost use Rattle.network.specs.Events.{AreAllMerged, AtGroup, GroupsMake, StoresStay, is_ready_at};
-ghost use Rattle.network.specs.Costs.{group_cost};
+ghost use Rattle.network.specs.{Events.{AreAllMerged, AtGroup, GroupsMake, StoresStay, is_ready_at}, Costs.group_cost};
 
 use crate::group::Group;
 use final_queries::Table;

@@ -1,33 +1,23 @@
 //! A plan over several switches: a call for each event of a switch, and their tables.
 
-ghost use Rattle.std.specs.Prelude.{◌≡◌, ◌+◌, ◌*◌, ◌==◌, ◌<◌, ◌≤◌, ◌↔◌, ℕ, List, [], Ok, true, not};
-ghost use Rattle.std.specs.Prelude.{length, filter, map, slice_get, slice_index, if◌then◌else◌, IfOk, OnOk, OnErr, Some};
-ghost use Rattle.std.specs.List.{list_all};
+ghost use Rattle.std.specs.Prelude.{◌≡◌, ◌+◌, ◌*◌, ◌==◌, ◌<◌, ◌≤◌, ◌↔◌, ℕ, List, [], Ok, true, not, length, filter, map, slice_get};
+ghost use Rattle.std.specs.{Prelude.{slice_index, if◌then◌else◌, IfOk, OnOk, OnErr, Some}, List.list_all};
 ghost use Rattle.bucket_cache.specs.Caches.{list_at};
-ghost use Rattle.epoch_model.specs.Keys.{Key, ascending, has};
-ghost use Rattle.epoch_model.specs.Laws.{rows_given};
-ghost use Rattle.epoch_model.specs.Machine.{Epoch, lists_of};
-ghost use Rattle.epoch_model.specs.TableLaws.{keys_given};
+ghost use Rattle.epoch_model.specs.{Keys.{Key, ascending, has}, Laws.rows_given, Machine.{Epoch, lists_of}, TableLaws.keys_given};
 ghost use Rattle.epoch_model.specs.Tables.{closed_key_rows, exact_row};
 ghost use Rattle.epoch_entry.specs.Foldings.{folding_of};
 ghost use Rattle.final_queries.specs.Finals.{is_of_key};
-ghost use Rattle.additive_laws.specs.Laws.{IsAdditiveFrom};
-ghost use Rattle.additive_laws.specs.Network.{all_epochs, all_events, machine_at};
-ghost use Rattle.stage_plan.specs.Packets.{AreWhole};
-ghost use Rattle.stage_plan.specs.Planned.{plan_bound};
-ghost use Rattle.switch_core.specs.Costs.{evict_cost};
-ghost use Rattle.switch_core.specs.PlanLanes.{lane_merge_cost};
-ghost use Rattle.query_lang.specs.Folds.{initial_state};
-ghost use Rattle.query_lang.specs.declared.fold.TypedFold.{TypedFold};
-ghost use Rattle.query_lang.specs.declared.typed.TypedQuery.{TypedQuery};
+ghost use Rattle.additive_laws.specs.{Laws.IsAdditiveFrom, Network.{all_epochs, all_events, machine_at}};
+ghost use Rattle.stage_plan.specs.{Packets.AreWhole, Planned.plan_bound};
+ghost use Rattle.switch_core.specs.{Costs.evict_cost, PlanLanes.lane_merge_cost};
+ghost use Rattle.query_lang.specs.{Folds.initial_state, declared.{fold.TypedFold.TypedFold, typed.TypedQuery.TypedQuery}};
 ghost use Rattle.net_wide.specs.NetTables.{caches_of, net_tables, tables_of_pieces};
 ghost use Rattle.network.specs.Ends.{AreTakenAt, CombineOver, EvictsLast, IsDrainedWith, IsSwitchPlace, packets_taken, pieces_closed};
 ghost use Rattle.network.specs.Groups.{StoresHold, group_is_drained, shared_tables};
 ghost use Rattle.network.specs.Events.{AreAllMerged, AtFront, AtGroup, IsLeft, OthersStay, StoresStay, is_ready_at};
 ghost use Rattle.network.specs.Costs.{AtSwitchLane, front_upkeep_cost, group_merge_cost};
-ghost use Rattle.network.specs.Networks.{IsNetwork, NetworkGrows, network_cost, upkeeps_cost};
-ghost use Rattle.network.specs.Running.{Evicts, FrontsStay, Merges, NetworkEvent, NetworkMakes, NetworkRuns};
-ghost use Rattle.network.specs.Running.{NetworkStands, RunBreaksOff, SwitchesStay, Takes};
+ghost use Rattle.network.specs.{Networks.{IsNetwork, NetworkGrows, network_cost, upkeeps_cost}, Running.{Evicts, FrontsStay, Merges}};
+ghost use Rattle.network.specs.Running.{NetworkEvent, NetworkMakes, NetworkRuns, NetworkStands, RunBreaksOff, SwitchesStay, Takes};
 ghost use Rattle.network.specs.Running.{all_given, front_at, lane_calls, merged_after, upkeep_calls};
 
 use crate::group::Group;

@@ -3,10 +3,8 @@
 ghost use Rattle.std.specs.Prelude.{◌≡◌, ◌+◌, ◌<◌, ◌≤◌, length};
 ghost use Rattle.epoch_model.specs.Driving.{event_of};
 ghost use Rattle.backing_store.specs.Store.{Store};
-ghost use Rattle.stage_plan.specs.Planned.{registers_of, wiring_at};
-ghost use Rattle.stage_plan.specs.Registers.{taken_at};
-ghost use Rattle.switch_core.specs.FrontEvents.{with_store};
-ghost use Rattle.switch_core.specs.PlanLanes.{lane_cost};
+ghost use Rattle.stage_plan.specs.{Planned.{registers_of, wiring_at}, Registers.taken_at};
+ghost use Rattle.switch_core.specs.{FrontEvents.with_store, PlanLanes.lane_cost};
 ghost use Rattle.network.specs.Events.{LaneCarries};
 
 use epoch_entry::{AnyEpochs, EpochKind};

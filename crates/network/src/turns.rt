@@ -1,10 +1,7 @@
 //! The calls that make the events which a trace needs, in their order: those of a packet's turn, and those of the end.
 
-ghost use Rattle.std.specs.Prelude.{◌≡◌, ◌+◌, ◌<◌, ◌≤◌, true, OnOk, OnErr};
-ghost use Rattle.std.specs.List.{list_all};
-ghost use Rattle.network.specs.Groups.{group_is_drained};
-ghost use Rattle.network.specs.Events.{is_ready_at};
-ghost use Rattle.network.specs.Networks.{turn_cost};
+ghost use Rattle.std.specs.{Prelude.{◌≡◌, ◌+◌, ◌<◌, ◌≤◌, true, OnOk, OnErr}, List.list_all};
+ghost use Rattle.network.specs.{Groups.group_is_drained, Events.is_ready_at, Networks.turn_cost};
 ghost use Rattle.network.specs.Running.{MergingBreaksOff, NetworkRuns, RunBreaksOff, RunsWithMerges, all_evictions, turn_events};
 
 use crate::network::Network;

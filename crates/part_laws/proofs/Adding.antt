@@ -2,14 +2,11 @@
 use Rattle.part_laws.proofs.Words.{◌≡◌, ℕ, false, List, [], ◌∷◌, map, fold, sym, ap, ◌∙◌, sum_by, Row, Key, Folding, group_rows, key_rows}
 use Rattle.part_laws.proofs.Words.{keys_used, flat_map-single, TypedFold, TypedQuery, folded, uses, amount, plus, zeros, rows_used}
 use Rattle.part_laws.proofs.Words.{Partition, part_at, AreTheParts, whole_rows, part_rows}
+use Rattle.part_laws.proofs.{AddingLists.{variables_add, states_add, words_add}, Packetwise.{rows_of_one, rows_packetwise}}
+use Rattle.part_laws.{proofs.{Sums.{same_sums, sum_of_parts, sum_joined}, Tables.{keys_of_all_parts, map_joined}}, specs.PartLaws.added}
+use Rattle.part_laws.specs.PartLaws.{but_for_epochs, row_of_state, AdditivePartsAdd, StatesFromZerosAdd, PartWordsAdd, AdditiveTablesJoin}
 use Rattle.std.proofs.Common.{slice_index}
 use Rattle.epoch_model.specs.Epochs.{Geometry, Use}
-use Rattle.part_laws.specs.PartLaws.{added, but_for_epochs, row_of_state, AdditivePartsAdd, StatesFromZerosAdd, PartWordsAdd}
-use Rattle.part_laws.specs.PartLaws.{AdditiveTablesJoin}
-use Rattle.part_laws.proofs.AddingLists.{variables_add, states_add, words_add}
-use Rattle.part_laws.proofs.Packetwise.{rows_of_one, rows_packetwise}
-use Rattle.part_laws.proofs.Sums.{same_sums, sum_of_parts, sum_joined}
-use Rattle.part_laws.proofs.Tables.{keys_of_all_parts, map_joined}
 
 -- a table in which each key has one row, by the states of the keys
 pub one_row_each : (folding : Folding) (g : Geometry) (given : List Use) (state : Key → List ℕ) → folding.row_per_epoch ≡ false

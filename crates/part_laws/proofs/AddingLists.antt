@@ -1,12 +1,10 @@
 -- The state of an additive fold after rows that add what several lists of rows add together.
 use Rattle.part_laws.proofs.Words.{◌≡◌, ℕ, suc, ◌+◌, ◌-◌, ◌%◌, ◌^◌, ◌<◌, List, [], ◌∷◌, length, map, fold, replicate, sym, refl, ap, ◌∙◌}
 use Rattle.part_laws.proofs.Words.{subst, arith, sum_by, ext_get_or, length-replicate, All-get_or, All-replicate, sum_by-cons, ArgRow}
-use Rattle.part_laws.proofs.Words.{TypedFold, IsWord, AreWords, fold_states, folded, plus, zeros}
+use Rattle.part_laws.{proofs.Words.{TypedFold, IsWord, AreWords, fold_states, folded, plus, zeros}, specs.PartLaws.added}
 use Rattle.std.proofs.Common.{slice_index}
-use Rattle.additive_laws.specs.Laws.{IsAdditiveFrom}
-use Rattle.additive_laws.proofs.Adding.{length-plus, words-plus, plus_at}
+use Rattle.additive_laws.{specs.Laws.IsAdditiveFrom, proofs.Adding.{length-plus, words-plus, plus_at}}
 use Rattle.additive_laws.proofs.Sums.{length-folded, state_is_a_sum}
-use Rattle.part_laws.specs.PartLaws.{added}
 
 carry : (s z a rest : ℕ) → z ≡ a % 2 ^ 64 → ((s + z) % 2 ^ 64 + rest) % 2 ^ 64 ≡ (s + (a + rest)) % 2 ^ 64
 carry s z a rest e = omega arith

@@ -2,9 +2,9 @@
 use Rattle.part_laws.proofs.Words.{◌≡◌, ℕ, List, [], ◌∷◌, ◌++◌, Option, Some, None, ap, ◌∙◌, find, option_map, cons_option, All-nil}
 use Rattle.part_laws.proofs.Words.{All-cons, All-head, All-tail, Row, Key, by_test, TypedExpr, holds, expr_value, columns_of, plain_row}
 use Rattle.part_laws.proofs.Words.{is_of_key, filtered_rows, mapped_row, mapped_rows, joined_rows}
-use Rattle.std.proofs.Common.{All}
-use Rattle.part_laws.specs.FinalParts.{rows_of_all, FiltersStayOfParts, MapsStayOfParts, JoinsStayOfParts}
 use Rattle.part_laws.proofs.FinalRows.{filters_of_parts, maps_of_parts, joins_of_parts}
+use Rattle.part_laws.specs.FinalParts.{rows_of_all, FiltersStayOfParts, MapsStayOfParts, JoinsStayOfParts}
+use Rattle.std.proofs.Common.{All}
 
 module _ (part_of : Key → ℕ) (n : ℕ) where
   abbrev IsThere : Row → Type 0

@@ -9,10 +9,9 @@ use Rattle.part_laws.proofs.Words.{Partition, part_at, KeepsKeys}
 use mathlib.Core.List.{reverse_aux}
 use Rattle.epoch_model.specs.Epochs.{Use, Geometry, is_refresh, refresh_between, is_rival, rivals, in_one_epoch, is_use_of, last_use}
 use Rattle.epoch_model.specs.Epochs.{since_last_use, goes_on, goes_on_after, onto_last, epochs_back, epochs}
-use Rattle.stage_plan.proofs.StreamRows.{Row}
 use Rattle.epoch_model.proofs.Cuts.{epochs-pieces, epochs_cut_the_rows_lem}
-use Rattle.part_laws.specs.PartLaws.{PartsCutNoMore, ValidRowsAreTheParts}
-use Rattle.part_laws.proofs.Keeping.{parts_have_rows}
+use Rattle.stage_plan.proofs.StreamRows.{Row}
+use Rattle.part_laws.{specs.PartLaws.{PartsCutNoMore, ValidRowsAreTheParts}, proofs.Keeping.parts_have_rows}
 use Rattle.part_laws.proofs.Tables.{one_epoch, valid_rows}
 
 -- ---- distinct keys

@@ -3,19 +3,15 @@ use Rattle.part_laws.proofs.Words.{◌≡◌, ℕ, zero, suc, ◌<◌, true, con
 use Rattle.part_laws.proofs.Words.{sym, ap, ◌∙◌, subst, arith, All, is_some, slice_get, slice_index_or, cons_option, get_or-map, All-nil}
 use Rattle.part_laws.proofs.Words.{All-cons, All-head, All-tail, by_test, FIELDS, TypedQuery, Taking, taking_of, takings, use_of, taken_by}
 use Rattle.part_laws.proofs.Words.{uses, row_at, all_rows, tuple_of, stream_rows, groupbys, first_named, part_by, HasFieldKey}
-use Rattle.std.proofs.Common.{slice_index}
-use Rattle.std.proofs.lemmas.Option.{same_Some}
+use Rattle.std.proofs.{Common.slice_index, lemmas.Option.same_Some}
 use Rattle.epoch_model.specs.Epochs.{Use}
 use Rattle.marple_base.specs.declared.field.Field.{Field}
-use Rattle.query_lang.specs.declared.query.Query.{Query}
-use Rattle.query_lang.specs.declared.typed.TypedOp.{TypedOp}
+use Rattle.query_lang.specs.declared.{query.Query.Query, typed.TypedOp.TypedOp}
 use Rattle.query_lang.specs.declared.typed.TypedOp.TheVariants as typed
 use Rattle.query_lang.specs.declared.typed.TypedStream.{TypedStream}
 use Rattle.query_laws.specs.QueryRules.{IsTyped}
 use Rattle.stage_plan.proofs.StreamRows.{Row}
-use Rattle.net_laws.specs.Fields.{field_word, is_named, names_field}
-use Rattle.net_laws.proofs.Fields.{AlwaysTells, always_tells}
-use Rattle.net_laws.proofs.Rows.{SlotTells}
+use Rattle.net_laws.{specs.Fields.{field_word, is_named, names_field}, proofs.{Fields.{AlwaysTells, always_tells}, Rows.SlotTells}}
 use Rattle.part_laws.specs.PartLaws.{FieldsKeepKeys, FieldListsKeepKeys, FieldListsGiveTheParts}
 
 -- ---- keys

@@ -4,11 +4,10 @@ use Rattle.part_laws.proofs.Words.{None, refl, sym, ap, ◌∙◌, subst, append
 use Rattle.part_laws.proofs.Words.{true≢false, false≢true, All-nil, All-cons, All-head, All-tail, Row, Key, key_eq, key_cmp, by_test}
 use Rattle.part_laws.proofs.Words.{key_eq-true, TypedExpr, holds, expr_value, columns_of, plain_row, is_of_key, filtered_rows, mapped_row}
 use Rattle.part_laws.proofs.Words.{mapped_rows, joined_rows, AreApart, has_number, same_number, not_number, own_number}
-use Rattle.std.proofs.Common.{All}
+use Rattle.part_laws.proofs.{Packetwise.same_each, Ordered.{flat_joined, filter_joined, KeepsKey, made_by_key, of_key_in_order}}
 use Rattle.part_laws.specs.FinalParts.{by_key, rows_of_all, AreInTheirParts, FiltersAreOfParts, MapsAreOfParts, JoinsAreOfParts}
 use Rattle.part_laws.specs.FinalParts.{GroupbysAreNotOfParts}
-use Rattle.part_laws.proofs.Packetwise.{same_each}
-use Rattle.part_laws.proofs.Ordered.{flat_joined, filter_joined, KeepsKey, made_by_key, of_key_in_order}
+use Rattle.std.proofs.Common.{All}
 
 -- a function of each row alone, of the rows of all parts
 of_parts : (f : Row → List Row) → KeepsKey f → (rows : ℕ → List Row) (parts : List ℕ)

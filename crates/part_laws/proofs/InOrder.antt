@@ -3,16 +3,12 @@ use Rattle.part_laws.proofs.Words.{◌≡◌, ℕ, Bool, true, false, cond, ◌|
 use Rattle.part_laws.proofs.Words.{◌∙◌, subst, false≢true, All-nil, All-cons, All-head, All-tail, Row, Key, key_eq, has, ascending, Folding}
 use Rattle.part_laws.proofs.Words.{exact_row, key_rows, keys_used, group_rows, by_test, key_eq-refl, ascending-ascends, has-ascending}
 use Rattle.part_laws.proofs.Words.{flat_map-single, TypedQuery, AreWhole, is_of_key, rows_used, has_number, own_number, Partition}
-use Rattle.part_laws.proofs.Words.{AreTheParts, KeepsKeys, part_uses}
+use Rattle.part_laws.proofs.{Words.{AreTheParts, KeepsKeys, part_uses}, Packetwise.same_each, Keeping.{has_contained, keys_of_no_other}}
+use Rattle.part_laws.proofs.{Tables.{has_joined, map_joined, tables_join}, Ordered.{keys_of, at_key, filter_joined}}
+use Rattle.part_laws.{proofs.FinalRows.{only_part, none_elsewhere}, specs.PartLaws.but_for_epochs}
+use Rattle.part_laws.specs.FinalParts.{AreInTheirParts, ExactTablesInOrder}
 use Rattle.std.proofs.Common.{All}
 use Rattle.epoch_model.specs.Epochs.{Use, Geometry}
-use Rattle.part_laws.specs.PartLaws.{but_for_epochs}
-use Rattle.part_laws.specs.FinalParts.{AreInTheirParts, ExactTablesInOrder}
-use Rattle.part_laws.proofs.Packetwise.{same_each}
-use Rattle.part_laws.proofs.Keeping.{has_contained, keys_of_no_other}
-use Rattle.part_laws.proofs.Tables.{has_joined, map_joined, tables_join}
-use Rattle.part_laws.proofs.Ordered.{keys_of, at_key, filter_joined}
-use Rattle.part_laws.proofs.FinalRows.{only_part, none_elsewhere}
 
 or_true : (b : Bool) → (b || true) ≡ true
 or_true true = refl

@@ -1,18 +1,12 @@
 -- What the pieces of a trace give in sequence.
 use Rattle.part_laws.proofs.Words.{◌≡◌, ℕ, List, map, flat_map, fold, sym, ap, ◌∙◌, sum_by, Key, keys_used, ascending-ascends}
 use Rattle.part_laws.proofs.Words.{has-ascending, same_ascending, some, TypedFold, TypedQuery, folded, uses, amount, plus, zeros, rows_used}
-use Rattle.part_laws.proofs.Words.{whole_rows}
-use Rattle.std.proofs.Common.{slice_index}
-use Rattle.part_laws.specs.PartLaws.{added, row_of_state}
-use Rattle.part_laws.specs.Pieces.{in_sequence, PiecesHaveTheRows, KeysAreOfAllPieces, AdditivePiecesAdd, StatesOfPiecesAdd, PieceWordsAdd}
+use Rattle.part_laws.proofs.{Words.whole_rows, Adding.one_row_each, AddingLists.{variables_add, states_add, words_add}}
+use Rattle.part_laws.proofs.{Keeping.key_has_rows, Ordered.flat_joined, Packetwise.{rows_of_one, rows_packetwise, same_each}}
+use Rattle.part_laws.{proofs.{Sums.sum_joined, Tables.has_of_lists}, specs.{PartLaws.{added, row_of_state}, Pieces.in_sequence}}
+use Rattle.part_laws.specs.Pieces.{PiecesHaveTheRows, KeysAreOfAllPieces, AdditivePiecesAdd, StatesOfPiecesAdd, PieceWordsAdd}
 use Rattle.part_laws.specs.Pieces.{AdditivePiecesJoin}
-use Rattle.part_laws.proofs.Adding.{one_row_each}
-use Rattle.part_laws.proofs.AddingLists.{variables_add, states_add, words_add}
-use Rattle.part_laws.proofs.Keeping.{key_has_rows}
-use Rattle.part_laws.proofs.Ordered.{flat_joined}
-use Rattle.part_laws.proofs.Packetwise.{rows_of_one, rows_packetwise, same_each}
-use Rattle.part_laws.proofs.Sums.{sum_joined}
-use Rattle.part_laws.proofs.Tables.{has_of_lists}
+use Rattle.std.proofs.Common.{slice_index}
 
 pub pieces_have_rows : PiecesHaveTheRows
 pieces_have_rows q i pieces key =

@@ -3,10 +3,10 @@ use Rattle.part_laws.proofs.Words.{◌≡◌, ◌≢◌, ℕ, zero, suc, ◌<◌
 use Rattle.part_laws.proofs.Words.{refl, sym, ap, ◌∙◌, arith, Contains, slice_index_or, true≢false, false≢true, All-head, All-tail, FIELDS}
 use Rattle.part_laws.proofs.Words.{Key, ArgRow, key_eq, has, keys_used, by_test, key_eq-true, key_eq-refl, has-ascending, some, TypedQuery}
 use Rattle.part_laws.proofs.Words.{uses, rows_used, same_number, not_number, AreWhole, Partition, part_at, KeepsKeys}
+use Rattle.part_laws.proofs.Packetwise.{rows_of_one, rows_packetwise}
+use Rattle.part_laws.specs.PartLaws.{PartsHaveTheRows, OtherPartsHaveNone, KeysAreOfTheirParts, KeysAreOfNoOtherPart}
 use Rattle.std.proofs.Common.{All}
 use Rattle.epoch_model.specs.Epochs.{Use}
-use Rattle.part_laws.specs.PartLaws.{PartsHaveTheRows, OtherPartsHaveNone, KeysAreOfTheirParts, KeysAreOfNoOtherPart}
-use Rattle.part_laws.proofs.Packetwise.{rows_of_one, rows_packetwise}
 
 module _ (partition : Partition) (q : TypedQuery) (i : ℕ) (kept : KeepsKeys partition q i) (key : Key) where
   abbrev rows : List ℕ → List ArgRow

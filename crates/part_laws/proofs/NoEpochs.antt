@@ -2,10 +2,8 @@
 use Rattle.part_laws.proofs.Words.{◌≡◌, ℕ, ◌+◌, cond, List, [], ◌∷◌, ◌++◌, map, filter, flat_map, Some, None, refl, sym, ap, ◌∙◌, find}
 use Rattle.part_laws.proofs.Words.{nat_lt, count_by, sum_by-cons, Row, Key, key_eq, ascending, by_test, holds, folded, initial_state}
 use Rattle.part_laws.proofs.Words.{expr_value, values_at, columns_of, plain_row, is_of_key, mapped_row, grouped_key, grouped_args}
-use Rattle.part_laws.proofs.Words.{goes_before}
-use Rattle.part_laws.specs.PartLaws.{but_for_epochs}
+use Rattle.part_laws.{proofs.{Words.goes_before, FinalRows.{one_joined, with_found, joined_each}}, specs.PartLaws.but_for_epochs}
 use Rattle.part_laws.specs.FinalParts.{FiltersReadNoEpochs, MapsReadNoEpochs, GroupbysReadNoEpochs, JoinsReadNoEpochs, TopsReadNoEpochs}
-use Rattle.part_laws.proofs.FinalRows.{one_joined, with_found, joined_each}
 
 pub filters_bare : FiltersReadNoEpochs
 filters_bare condition [] = refl

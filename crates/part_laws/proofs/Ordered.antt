@@ -2,9 +2,8 @@
 use Rattle.part_laws.proofs.Words.{◌≡◌, Bool, true, false, cond, ◌&&◌, ◌||◌, List, [], ◌∷◌, ◌++◌, map, filter, flat_map, refl, sym, ap, ◌∙◌}
 use Rattle.part_laws.proofs.Words.{Less, Equal, true≢false, nat_list_cmp_total, tied_itself, filter-append, Row, Key, key_eq, key_cmp, has}
 use Rattle.part_laws.proofs.Words.{ascending, AreAbove, IsAscending, by_test, key_eq-true, ascending-ascends, has-ascending, same_ascending}
-use Rattle.part_laws.proofs.Words.{some, is_of_key}
+use Rattle.part_laws.{proofs.Words.{some, is_of_key}, specs.FinalParts.by_key}
 use Rattle.std.proofs.lemmas.Grind.{flat_map-append}
-use Rattle.part_laws.specs.FinalParts.{by_key}
 
 -- ---- lists
 

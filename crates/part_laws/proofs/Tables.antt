@@ -2,16 +2,12 @@
 use Rattle.part_laws.proofs.Words.{◌≡◌, ℕ, Bool, true, false, ◌||◌, List, [], ◌∷◌, ◌++◌, length, map, flat_map, refl, sym, ap, ◌∙◌, arith}
 use Rattle.part_laws.proofs.Words.{append-nil, sum_by, map-append, Row, Key, ArgRow, key_eq, has, ascending, Folding, epoch_rows, exact_row}
 use Rattle.part_laws.proofs.Words.{key_rows, keys_used, ascending-ascends, has-ascending, same_ascending, some, TypedQuery, uses, rows_used}
-use Rattle.part_laws.proofs.Words.{Partition, part_at, AreTheParts}
+use Rattle.part_laws.proofs.{Words.{Partition, part_at, AreTheParts}, Packetwise.{rows_of_one, rows_packetwise, same_each}}
+use Rattle.part_laws.{proofs.{Keeping.{parts_have_rows, key_has_rows}, Sums.{same_sums, sum_of_parts}}, specs.PartLaws.but_for_epochs}
+use Rattle.part_laws.specs.PartLaws.{valid_row, ExactRowsAreTheParts, ValidRowsFoldTheWhole, KeysAreOfAllParts, ExactTablesJoin}
 use Rattle.std.proofs.lemmas.List.Concat.{length-flat_map}
-use Rattle.epoch_model.specs.Epochs.{Use, Geometry, epochs}
-use Rattle.epoch_model.proofs.Cuts.{epochs_cut_the_rows_lem}
+use Rattle.epoch_model.{specs.Epochs.{Use, Geometry, epochs}, proofs.Cuts.epochs_cut_the_rows_lem}
 use Rattle.additive_laws.proofs.StoreTables.{same_some}
-use Rattle.part_laws.specs.PartLaws.{but_for_epochs, valid_row, ExactRowsAreTheParts, ValidRowsFoldTheWhole, KeysAreOfAllParts}
-use Rattle.part_laws.specs.PartLaws.{ExactTablesJoin}
-use Rattle.part_laws.proofs.Packetwise.{rows_of_one, rows_packetwise, same_each}
-use Rattle.part_laws.proofs.Keeping.{parts_have_rows, key_has_rows}
-use Rattle.part_laws.proofs.Sums.{same_sums, sum_of_parts}
 
 pub exact_rows : ExactRowsAreTheParts
 exact_rows partition q i kept packets key whole f g h one =

@@ -3,15 +3,10 @@ use Rattle.part_laws.proofs.Words.{◌≡◌, ℕ, ◌+◌, ◌<◌, Bool, true,
 use Rattle.part_laws.proofs.Words.{inl, inr, refl, sym, ap, ◌∙◌, arith, sum_by, count_by, Less, true≢false, false≢true, nat_tests}
 use Rattle.part_laws.proofs.Words.{nat_list_cmp_total, filter_agree, sum_by-cons, Row, Key, key_eq, key_cmp, has, ascending, IsAscending}
 use Rattle.part_laws.proofs.Words.{by_test, key_eq-true, key_eq-refl, ascending-ascends, has-ascending, plain_row, is_of_key, column_at}
-use Rattle.part_laws.proofs.Words.{goes_before, top_rows}
-use Rattle.std.proofs.Common.{nat_lt}
-use Rattle.std.specs.declared.cmp.Ordering.{Ordering}
-use Rattle.std.specs.Ordering.{is_lt}
+use Rattle.part_laws.proofs.{Words.{goes_before, top_rows}, Sums.{zeros_sum, sum_joined}, Tables.map_joined}
+use Rattle.part_laws.proofs.{Ordered.{keys_of, key_cmp-itself, absent_above, KeepsKey, made_by_key}, Tops.{rank_in, top_of, tops_of_tops}}
 use Rattle.part_laws.specs.FinalParts.{by_key, TopsAreOfTops}
-use Rattle.part_laws.proofs.Sums.{zeros_sum, sum_joined}
-use Rattle.part_laws.proofs.Tables.{map_joined}
-use Rattle.part_laws.proofs.Ordered.{keys_of, key_cmp-itself, absent_above, KeepsKey, made_by_key}
-use Rattle.part_laws.proofs.Tops.{rank_in, top_of, tops_of_tops}
+use Rattle.std.{proofs.Common.nat_lt, specs.{declared.cmp.Ordering.Ordering, Ordering.is_lt}}
 
 -- ---- the order of rows
 

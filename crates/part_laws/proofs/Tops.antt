@@ -1,10 +1,8 @@
 -- The top rows of all parts are among the parts' own top rows.
 use Rattle.part_laws.proofs.Words.{◌≡◌, ℕ, zero, suc, ◌+◌, ◌≤◌, ◌<◌, Bool, true, false, cond, min, List, [], ◌∷◌, ◌++◌, filter, flat_map}
 use Rattle.part_laws.proofs.Words.{◌⊎◌, inl, inr, refl, sym, ap, ◌∙◌, arith, count_by, false≢true, nat_tests, sum_by-cons, by_test}
-use Rattle.part_laws.proofs.Words.{has_number, same_number}
+use Rattle.part_laws.proofs.{Words.{has_number, same_number}, Ordered.filter_joined, FinalRows.same_members}
 use Rattle.std.proofs.Common.{nat_lt}
-use Rattle.part_laws.proofs.Ordered.{filter_joined}
-use Rattle.part_laws.proofs.FinalRows.{same_members}
 
 -- ---- any order on any list
 

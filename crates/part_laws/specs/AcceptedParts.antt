@@ -1,16 +1,12 @@
 -- What parts give of the groupbys of each accepted text.
 use Rattle.std.specs.Prelude.{◌≡◌, ℕ, false, List, map, flat_map, slice_get, All, Some, Ok}
-use Rattle.epoch_model.specs.Keys.{Key, ascending}
-use Rattle.epoch_model.specs.Epochs.{Geometry}
-use Rattle.epoch_model.specs.Tables.{Folding, key_rows, keys_used, group_rows}
+use Rattle.epoch_model.specs.{Keys.{Key, ascending}, Epochs.Geometry, Tables.{Folding, key_rows, keys_used, group_rows}}
 use Rattle.marple_base.specs.declared.field.Field.{Field}
-use Rattle.query_lang.specs.declared.typed.TypedQuery.{TypedQuery}
-use Rattle.query_lang.specs.declared.typed.TypedStream.{TypedStream}
+use Rattle.query_lang.specs.declared.typed.{TypedQuery.TypedQuery, TypedStream.TypedStream}
 use Rattle.query_types.specs.Uses.{uses}
 use Rattle.stage_plan.specs.Packets.{AreWhole}
 use Rattle.accepted_query.specs.Accepted.{accepted}
-use Rattle.part_laws.specs.Parts.{KeepsKeys, AreTheParts, part_uses, by_fields, groupbys, part_by, HasFieldKey}
-use Rattle.part_laws.specs.PartLaws.{but_for_epochs}
+use Rattle.part_laws.specs.{Parts.{KeepsKeys, AreTheParts, part_uses, by_fields, groupbys, part_by, HasFieldKey}, PartLaws.but_for_epochs}
 use Rattle.part_laws.specs.FinalParts.{AreOfParts}
 
 -- this holds of each groupby of an accepted text, and of each partition by fields that are keys of the groupby and that no `map`

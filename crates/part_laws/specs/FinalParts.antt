@@ -1,19 +1,13 @@
 -- What finals make of the tables of parts. A table is represented by the rows that finals read of it, and the tables of parts by a
 -- function of the parts' numbers.
 use Rattle.std.specs.Prelude.{◌≡◌, ◌≢◌, ℕ, false, List, [], ◌∷◌, map, filter, flat_map, slice_index, All, Option, Some}
-use Rattle.epoch_model.specs.declared.tables.Row.{Row}
-use Rattle.epoch_model.specs.Keys.{Key, ascending}
-use Rattle.epoch_model.specs.Epochs.{Geometry}
-use Rattle.epoch_model.specs.Tables.{Folding, group_rows}
-use Rattle.query_lang.specs.declared.fold.TypedExpr.{TypedExpr}
-use Rattle.query_lang.specs.declared.fold.TypedFold.{TypedFold}
-use Rattle.query_lang.specs.declared.typed.TypedQuery.{TypedQuery}
+use Rattle.epoch_model.specs.{declared.tables.Row.Row, Keys.{Key, ascending}, Epochs.Geometry, Tables.{Folding, group_rows}}
+use Rattle.query_lang.specs.declared.{fold.{TypedExpr.TypedExpr, TypedFold.TypedFold}, typed.TypedQuery.TypedQuery}
 use Rattle.query_types.specs.Uses.{uses}
 use Rattle.stage_plan.specs.Packets.{AreWhole}
 use Rattle.final_queries.specs.Finals.{is_of_key, plain_row, filtered_rows, mapped_rows, grouped_rows, joined_rows, top_rows}
 use Rattle.additive_laws.specs.TraceLaws.{AreApart}
-use Rattle.part_laws.specs.Parts.{Partition, KeepsKeys, AreTheParts, part_uses}
-use Rattle.part_laws.specs.PartLaws.{but_for_epochs}
+use Rattle.part_laws.specs.{Parts.{Partition, KeepsKeys, AreTheParts, part_uses}, PartLaws.but_for_epochs}
 
 -- the rows in the ascending order of their keys, where rows of one key stay in their order
 abbrev pub by_key : List Row → List Row

@@ -1,26 +1,18 @@
 -- A trace's parts, each run by itself, give what the whole trace gives.
-use Rattle.std.specs.Prelude.{◌≡◌, ◌≢◌, ◌↔◌, ℕ, ◌+◌, ◌-◌, ◌%◌, ◌^◌, ◌<◌, ◌≤◌, true, false, List, [], ◌∷◌}
-use Rattle.std.specs.Prelude.{Some, slice_get, length, map, flat_map, fold, slice_index, sum_by, All, Contains}
-use Rattle.epoch_model.specs.declared.tables.Mark.TheVariants.{Exact, Valid}
-use Rattle.epoch_model.specs.declared.tables.Row.{Row}
-use Rattle.epoch_model.specs.Keys.{Key, ArgRow, ascending}
-use Rattle.epoch_model.specs.Epochs.{Geometry, epochs}
-use Rattle.epoch_model.specs.Tables.{Folding, key_rows, keys_used, group_rows}
+use Rattle.std.specs.Prelude.{◌≡◌, ◌≢◌, ◌↔◌, ℕ, ◌+◌, ◌-◌, ◌%◌, ◌^◌, ◌<◌, ◌≤◌, true, false, List, [], ◌∷◌, Some, slice_get, length, map}
+use Rattle.std.specs.Prelude.{flat_map, fold, slice_index, sum_by, All, Contains}
+use Rattle.epoch_model.specs.{declared.tables.{Mark.TheVariants.{Exact, Valid}, Row.Row}, Keys.{Key, ArgRow, ascending}}
+use Rattle.epoch_model.specs.{Epochs.{Geometry, epochs}, Tables.{Folding, key_rows, keys_used, group_rows}}
 use Rattle.epoch_model.specs.Tables as tables
 use Rattle.marple_base.specs.declared.field.Field.{Field}
-use Rattle.query_lang.specs.declared.fold.TypedFold.{TypedFold}
-use Rattle.query_lang.specs.declared.query.Query.{Query}
-use Rattle.query_lang.specs.declared.typed.TypedQuery.{TypedQuery}
-use Rattle.query_lang.specs.declared.typed.TypedStream.{TypedStream}
+use Rattle.query_lang.specs.declared.{fold.TypedFold.TypedFold, query.Query.Query, typed.{TypedQuery.TypedQuery, TypedStream.TypedStream}}
 use Rattle.query_lang.specs.Folds.{fold_states, body, folded}
 use Rattle.stage_plan.specs.Packets.{AreWhole}
 use Rattle.query_laws.specs.QueryRules.{IsTyped}
 use Rattle.query_types.specs.Uses.{uses}
-use Rattle.additive_laws.specs.Amounts.{amount, plus, zeros}
-use Rattle.additive_laws.specs.Laws.{IsAdditiveFrom}
-use Rattle.additive_laws.specs.TraceLaws.{rows_used}
-use Rattle.part_laws.specs.Parts.{Partition, KeepsKeys, AreTheParts, part_uses, own_uses, whole_rows, part_rows}
-use Rattle.part_laws.specs.Parts.{by_field, by_fields, groupbys, part_by, HasFieldKey}
+use Rattle.additive_laws.specs.{Amounts.{amount, plus, zeros}, Laws.IsAdditiveFrom, TraceLaws.rows_used}
+use Rattle.part_laws.specs.Parts.{Partition, KeepsKeys, AreTheParts, part_uses, own_uses, whole_rows, part_rows, by_field, by_fields}
+use Rattle.part_laws.specs.Parts.{groupbys, part_by, HasFieldKey}
 
 -- this holds of each partition that keeps a groupby's keys, of all whole packets and of each key
 abbrev pub WhereKeysAreKept : ((partition : Partition) (q : TypedQuery) (i : ℕ) → KeepsKeys partition q i → List (List ℕ) → Key

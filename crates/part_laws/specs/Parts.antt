@@ -1,13 +1,9 @@
 -- The packets of a trace, split into parts by a function of each packet's words, and what it means that parts keep a key whole.
-use Rattle.std.specs.Prelude.{◌≡◌, ℕ, ◌==◌, true, false, is_some, List, [], ◌∷◌, length, map, filter, All}
-use Rattle.std.specs.Prelude.{suc, if◌then◌else◌, Some, slice_get, slice_index}
-use Rattle.marple_base.specs.declared.field.Field.{Field}
-use Rattle.marple_base.specs.declared.field.TheConstants.{FIELDS}
-use Rattle.query_lang.specs.declared.typed.TypedQuery.{TypedQuery}
-use Rattle.query_lang.specs.declared.typed.TypedStream.{TypedStream}
-use Rattle.query_lang.specs.Streams.{taking_of}
-use Rattle.epoch_model.specs.Keys.{Key, ArgRow}
-use Rattle.epoch_model.specs.Epochs.{Use}
+use Rattle.std.specs.Prelude.{◌≡◌, ℕ, ◌==◌, true, false, is_some, List, [], ◌∷◌, length, map, filter, All, suc, if◌then◌else◌, Some}
+use Rattle.std.specs.Prelude.{slice_get, slice_index}
+use Rattle.marple_base.specs.declared.field.{Field.Field, TheConstants.FIELDS}
+use Rattle.query_lang.specs.{declared.typed.{TypedQuery.TypedQuery, TypedStream.TypedStream}, Streams.taking_of}
+use Rattle.epoch_model.specs.{Keys.{Key, ArgRow}, Epochs.Use}
 use Rattle.query_types.specs.Uses.{uses}
 use Rattle.net_laws.specs.Fields.{is_named, makes_field, names_field, field_word}
 use Rattle.additive_laws.specs.TraceLaws.{AreApart, has_number, rows_used}

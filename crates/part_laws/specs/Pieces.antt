@@ -1,16 +1,10 @@
 -- A trace cut into pieces by place, as a file may be cut anywhere between two records: each piece runs by itself.
 use Rattle.std.specs.Prelude.{◌≡◌, ℕ, ◌+◌, ◌-◌, ◌%◌, ◌^◌, ◌<◌, false, List, map, flat_map, fold, slice_index, sum_by}
-use Rattle.epoch_model.specs.Keys.{Key, ascending}
-use Rattle.epoch_model.specs.Epochs.{Geometry}
-use Rattle.epoch_model.specs.Tables.{Folding, keys_used, group_rows}
-use Rattle.query_lang.specs.declared.fold.TypedFold.{TypedFold}
-use Rattle.query_lang.specs.declared.typed.TypedQuery.{TypedQuery}
-use Rattle.query_lang.specs.Folds.{fold_states, body, folded}
+use Rattle.epoch_model.specs.{Keys.{Key, ascending}, Epochs.Geometry, Tables.{Folding, keys_used, group_rows}}
+use Rattle.query_lang.specs.{declared.{fold.TypedFold.TypedFold, typed.TypedQuery.TypedQuery}, Folds.{fold_states, body, folded}}
 use Rattle.query_types.specs.Uses.{uses}
-use Rattle.additive_laws.specs.Amounts.{plus, zeros}
-use Rattle.additive_laws.specs.Laws.{IsAdditiveFrom}
-use Rattle.part_laws.specs.Parts.{whole_rows}
-use Rattle.part_laws.specs.PartLaws.{added, but_for_epochs, row_of_state}
+use Rattle.additive_laws.specs.{Amounts.{plus, zeros}, Laws.IsAdditiveFrom}
+use Rattle.part_laws.specs.{Parts.whole_rows, PartLaws.{added, but_for_epochs, row_of_state}}
 
 -- the packets of all pieces, one piece after another
 abbrev pub in_sequence : List (List (List ℕ)) → List (List ℕ)

@@ -1,8 +1,7 @@
 //! Laws of finals over the tables of parts.
 
-ghost use Rattle.part_laws.specs.FinalParts.{ExactTablesInOrder, FiltersAreOfParts, MapsAreOfParts, JoinsAreOfParts};
-ghost use Rattle.part_laws.specs.FinalParts.{FiltersStayOfParts, MapsStayOfParts, JoinsStayOfParts};
-ghost use Rattle.part_laws.specs.FinalParts.{TopsAreOfTops, GroupbysAreNotOfParts, FiltersReadNoEpochs};
+ghost use Rattle.part_laws.specs.FinalParts.{ExactTablesInOrder, FiltersAreOfParts, MapsAreOfParts, JoinsAreOfParts, FiltersStayOfParts};
+ghost use Rattle.part_laws.specs.FinalParts.{MapsStayOfParts, JoinsStayOfParts, TopsAreOfTops, GroupbysAreNotOfParts, FiltersReadNoEpochs};
 ghost use Rattle.part_laws.specs.FinalParts.{MapsReadNoEpochs, GroupbysReadNoEpochs, JoinsReadNoEpochs, TopsReadNoEpochs};
 
 /// Where each key has one row, the table of the whole trace has the rows of the parts' tables in the order of their keys, but

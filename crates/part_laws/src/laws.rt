@@ -1,12 +1,11 @@
 //! Laws of parts. Each is the contract of a function without a body.
 
 ghost use Rattle.part_laws.specs.PartLaws.{PartsHaveTheRows, OtherPartsHaveNone, KeysAreOfTheirParts, KeysAreOfNoOtherPart};
-ghost use Rattle.part_laws.specs.PartLaws.{ExactRowsAreTheParts, ValidRowsFoldTheWhole, FieldsKeepKeys};
-ghost use Rattle.part_laws.specs.PartLaws.{PartsCutNoMore, ValidRowsAreTheParts, KeysAreOfAllParts, ExactTablesJoin};
-ghost use Rattle.part_laws.specs.PartLaws.{FieldListsKeepKeys, FieldListsGiveTheParts};
-ghost use Rattle.part_laws.specs.Pieces.{PiecesHaveTheRows, KeysAreOfAllPieces, AdditivePiecesAdd, StatesOfPiecesAdd};
-ghost use Rattle.part_laws.specs.Pieces.{PieceWordsAdd, AdditivePiecesJoin};
-ghost use Rattle.part_laws.specs.PartLaws.{AdditivePartsAdd, StatesFromZerosAdd, PartWordsAdd, AdditiveTablesJoin};
+ghost use Rattle.part_laws.specs.PartLaws.{ExactRowsAreTheParts, ValidRowsFoldTheWhole, FieldsKeepKeys, PartsCutNoMore};
+ghost use Rattle.part_laws.specs.PartLaws.{ValidRowsAreTheParts, KeysAreOfAllParts, ExactTablesJoin, FieldListsKeepKeys};
+ghost use Rattle.part_laws.specs.PartLaws.{FieldListsGiveTheParts, AdditivePartsAdd, StatesFromZerosAdd, PartWordsAdd, AdditiveTablesJoin};
+ghost use Rattle.part_laws.specs.Pieces.{PiecesHaveTheRows, KeysAreOfAllPieces, AdditivePiecesAdd, StatesOfPiecesAdd, PieceWordsAdd};
+ghost use Rattle.part_laws.specs.Pieces.{AdditivePiecesJoin};
 
 /// The argument rows that the whole trace gives a key are, in order, those of the key's part alone.
 pub fn parts_have_the_rows()

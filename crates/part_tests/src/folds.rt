@@ -1,7 +1,6 @@
 //! Folds from their text: the maps of one step, and products of maps.
 ghost use Rattle.std.specs.Prelude.{◌≡◌, ◌+◌, ◌*◌, ◌<◌, ◌≤◌, length};
-ghost use Rattle.fold_class.specs.Program.{IsProgram};
-ghost use Rattle.fold_class.specs.Rows.{element_size};
+ghost use Rattle.fold_class.specs.{Program.IsProgram, Rows.element_size};
 
 use crate::fold_programs::{
     ACCUMULATE, DEEPEST, DOUBLE, FULL, HASH, MIX, OUT_OF_SEQUENCE, PEAK, TWO_STEPS, program_of,

@@ -1,29 +1,17 @@
 -- A text of the fields that are read reads back.
-use Rattle.std.proofs.Common.{◌≡◌, ℕ, suc, ◌+◌, ◌≤◌, Bool, true, false, cond, List, [], ◌∷◌, length, map}
-use Rattle.std.proofs.Common.{slice_index, Option, Some, None, Result, Ok, refl, sym, ap, subst, ◌∙◌}
-use Rattle.std.proofs.Common.{eq-eqb, arith}
-use Rattle.std.specs.Prelude.{◌==◌, filter, nat_lt}
-use Rattle.std.specs.List.{zip}
-use Rattle.std.specs.Option.{ok_or}
-use Rattle.std.proofs.lemmas.Bool.Decides.{nat_tests}
-use Rattle.marple_base.specs.Field.{all_fields, field_name, has_field, number_of}
-use Rattle.marple_base.specs.declared.field.Field.{Field}
-use Rattle.marple_base.specs.declared.field.Field.TheVariants.{Uid}
-use Rattle.marple_base.specs.declared.field.FieldSet.{FieldSet}
-use Rattle.marple_base.specs.declared.field.Packet.{Packet}
-use Rattle.trace_reader.specs.Numbers.{without_blanks, word_of_text}
-use Rattle.trace_reader.specs.Reading.{records}
-use Rattle.trace_reader.specs.Traces.{Contents, Layout, column_of_field, columns_named, columns_of_fields, contents, contents_from, each}
-use Rattle.trace_reader.specs.Traces.{only_column, packet_of, field_text_at, word_at, words_in_columns}
-use Rattle.trace_reader.specs.declared.fault.TheConstants.{MAX_RECORDS}
+use Rattle.std.proofs.Common.{◌≡◌, ℕ, suc, ◌+◌, ◌≤◌, Bool, true, false, cond, List, [], ◌∷◌, length, map, slice_index, Option, Some, None}
+use Rattle.std.proofs.{Common.{Result, Ok, refl, sym, ap, subst, ◌∙◌, eq-eqb, arith}, lemmas.Bool.Decides.nat_tests}
+use Rattle.std.specs.{Prelude.{◌==◌, filter, nat_lt}, List.zip, Option.ok_or}
+use Rattle.marple_base.specs.{Field.{all_fields, field_name, has_field, number_of}, declared.field.Field.{Field, TheVariants.Uid}}
+use Rattle.marple_base.specs.declared.field.{FieldSet.FieldSet, Packet.Packet}
+use Rattle.trace_reader.specs.{Numbers.{without_blanks, word_of_text}, Reading.records, Traces.{Contents, Layout, column_of_field}}
+use Rattle.trace_reader.specs.Traces.{columns_named, columns_of_fields, contents, contents_from, each, only_column, packet_of}
+use Rattle.trace_reader.specs.{Traces.{field_text_at, word_at, words_in_columns}, declared.fault.TheConstants.MAX_RECORDS}
 use Rattle.trace_reader.proofs.TraceFacts.{contents_good}
-use Rattle.queue_sim.specs.ReadBack.{ArePackets, ArePacketWords}
-use Rattle.queue_sim.specs.TraceText.{word_text, word_texts}
-use Rattle.queue_sim.proofs.DigitFacts.{word_read}
+use Rattle.queue_sim.{specs.{ReadBack.{ArePackets, ArePacketWords}, TraceText.{word_text, word_texts}}, proofs.DigitFacts.word_read}
 use Rattle.queue_sim.proofs.ReadBackFacts.{word_small}
 use Rattle.part_texts.specs.Laws.{FieldTextsReadBack, as_read, word_if_read}
-use Rattle.part_texts.specs.Texts.{fields_in, fields_text, lines_of, one_at_least, written_fields}
-use Rattle.part_texts.proofs.TextRecords.{text_records}
+use Rattle.part_texts.{specs.Texts.{fields_in, fields_text, lines_of, one_at_least, written_fields}, proofs.TextRecords.text_records}
 use Rattle.part_texts.proofs.ReadColumns.{places, named_places, place_after, text_after, before, later, parted, others_before, others_later}
 
 -- the place of a field among those that are read

@@ -1,11 +1,8 @@
 -- The line of the names of fields.
 use Rattle.std.proofs.Common.{◌≡◌, ℕ, ◌+◌, ◌<◌, ◌≤◌, List, [], ◌∷◌, ◌++◌, length, get_or, drop, map, refl, sym, ap, ◌∙◌, append_assoc}
 use Rattle.std.proofs.Common.{append-nil, arith}
-use Rattle.marple_base.specs.Field.{field_name}
-use Rattle.marple_base.specs.declared.field.Field.{Field}
-use Rattle.marple_base.specs.declared.field.Field.TheVariants.{Switch}
-use Rattle.queue_sim.specs.TraceText.{continued, joined, line}
-use Rattle.queue_sim.proofs.TextFacts.{texts_end, texts_from}
+use Rattle.marple_base.specs.{Field.field_name, declared.field.Field.{Field, TheVariants.Switch}}
+use Rattle.queue_sim.{specs.TraceText.{continued, joined, line}, proofs.TextFacts.{texts_end, texts_from}}
 
 -- the first name, before the others
 pub names_start : (fields : List Field) → 0 < length fields

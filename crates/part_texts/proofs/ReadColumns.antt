@@ -1,22 +1,12 @@
 -- The places of the fields that are read, among all fields.
-use Rattle.std.proofs.Common.{◌≡◌, ℕ, suc, ◌+◌, Bool, true, false, cond, not, List, [], ◌∷◌, ◌++◌, length, map}
-use Rattle.std.proofs.Common.{refl, sym, ap, ◌∙◌, inl, inr}
-use Rattle.std.proofs.Common.{eq-eqb, arith}
-use Rattle.std.specs.Prelude.{◌==◌, if◌then◌else◌, codes, filter}
-use Rattle.std.specs.List.{list_all}
-use Rattle.std.specs.Str.{bytes_eq}
-use Rattle.std.proofs.lemmas.Bool.{and_parts}
-use Rattle.std.proofs.lemmas.Bool.Decides.{eqb_tells}
-use Rattle.std.proofs.lemmas.Slice.Eq.{bytes_eq-Decides}
+use Rattle.std.proofs.Common.{◌≡◌, ℕ, suc, ◌+◌, Bool, true, false, cond, not, List, [], ◌∷◌, ◌++◌, length, map, refl, sym, ap, ◌∙◌, inl}
+use Rattle.std.proofs.{Common.{inr, eq-eqb, arith}, lemmas.{Bool.{and_parts, Decides.eqb_tells}, Slice.Eq.bytes_eq-Decides}}
+use Rattle.std.specs.{Prelude.{◌==◌, if◌then◌else◌, codes, filter}, List.list_all, Str.bytes_eq}
 use Rattle.csv.specs.Records.{field_at}
-use Rattle.marple_base.specs.Field.{all_fields, field_name, number_of}
-use Rattle.marple_base.proofs.Fields.{same_field}
-use Rattle.marple_base.specs.declared.field.Field.{Field}
-use Rattle.marple_base.specs.declared.field.Field.TheVariants.{Switch, Qid, Uid, SrcIp, DstIp, SrcPort, DstPort, Proto, PktLen, PayloadLen}
-use Rattle.marple_base.specs.declared.field.Field.TheVariants.{TcpSeq, Tin, Tout, QSize}
-use Rattle.trace_reader.specs.Numbers.{without_blanks}
-use Rattle.trace_reader.specs.Traces.{columns_named}
-use Rattle.trace_reader.specs.Traces.{field_text_at}
+use Rattle.marple_base.specs.{Field.{all_fields, field_name, number_of}, declared.field.Field.{Field, TheVariants.{Switch, Qid, Uid}}}
+use Rattle.marple_base.specs.declared.field.Field.TheVariants.{SrcIp, DstIp, SrcPort, DstPort, Proto, PktLen, PayloadLen, TcpSeq, Tin, Tout}
+use Rattle.marple_base.{specs.declared.field.Field.TheVariants.QSize, proofs.Fields.same_field}
+use Rattle.trace_reader.specs.{Numbers.without_blanks, Traces.{columns_named, field_text_at}}
 
 -- whether two fields are one, by their numbers
 abbrev is_same : Field → Field → Bool

@@ -1,10 +1,7 @@
 -- The texts of parts, packet by packet.
-use Rattle.std.proofs.Common.{◌≡◌, ℕ, Bool, true, false, cond, List, [], ◌∷◌, ◌++◌, map, refl, sym, ap, ◌∙◌, append_assoc}
-use Rattle.std.proofs.Common.{append-nil}
+use Rattle.std.proofs.Common.{◌≡◌, ℕ, Bool, true, false, cond, List, [], ◌∷◌, ◌++◌, map, refl, sym, ap, ◌∙◌, append_assoc, append-nil}
 use Rattle.std.specs.Prelude.{◌==◌, flat_map}
-use Rattle.marple_base.specs.Field.{field_name}
-use Rattle.marple_base.specs.declared.field.Field.{Field}
-use Rattle.marple_base.specs.declared.field.Packet.{Packet}
+use Rattle.marple_base.specs.{Field.field_name, declared.field.{Field.Field, Packet.Packet}}
 use Rattle.queue_sim.specs.TraceText.{fields_line, line}
 use Rattle.part_texts.specs.Texts.{lines_of, packets_of_part}
 

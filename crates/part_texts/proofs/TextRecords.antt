@@ -1,32 +1,20 @@
 -- The records of a text of packets: a line for its columns, and one for each packet.
-use Rattle.std.proofs.Common.{◌≡◌, ℕ, suc, zero, ◌-◌, ◌<◌, ◌≤◌, ◌^◌, Bool, true, false, cond, List, [], ◌∷◌, ◌++◌, length, map}
-use Rattle.std.proofs.Common.{slice_index, refl, sym, ap, ◌∙◌, append_assoc}
-use Rattle.std.proofs.Common.{append-nil, lit<, arith}
-use Rattle.std.specs.Prelude.{⊤, ◌||◌, ◌==◌, codes, decimal}
-use Rattle.std.specs.List.{list_any}
-use Rattle.std.proofs.lemmas.Fmt.{decimal_is_IsNumeral}
-use Rattle.csv.specs.Machine.{field_after, fields_after, is_end}
-use Rattle.csv.specs.Quoting.{needs_byte}
-use Rattle.csv.specs.Reading.{strip_bom}
-use Rattle.csv.specs.Writing.{default_writer}
+use Rattle.std.proofs.Common.{◌≡◌, ℕ, suc, zero, ◌-◌, ◌<◌, ◌≤◌, ◌^◌, Bool, true, false, cond, List, [], ◌∷◌, ◌++◌, length, map, slice_index}
+use Rattle.std.proofs.{Common.{refl, sym, ap, ◌∙◌, append_assoc, append-nil, lit<, arith}, lemmas.Fmt.decimal_is_IsNumeral}
+use Rattle.std.specs.{Prelude.{⊤, ◌||◌, ◌==◌, codes, decimal}, List.list_any}
+use Rattle.csv.specs.{Machine.{field_after, fields_after, is_end}, Quoting.needs_byte, Reading.strip_bom, Writing.default_writer}
 use Rattle.csv.specs.declared.parser.Action.{Action}
 use Rattle.csv.specs.declared.parser.Action.TheVariants as act
 use Rattle.csv.specs.declared.parser.State.{State}
 use Rattle.csv.specs.declared.parser.State.TheVariants as st
-use Rattle.marple_base.specs.Field.{field_name, number_of}
-use Rattle.marple_base.specs.declared.field.Field.{Field}
-use Rattle.marple_base.specs.declared.field.Field.TheVariants.{Switch, Qid, Uid, SrcIp, DstIp, SrcPort, DstPort, Proto, PktLen, PayloadLen}
-use Rattle.marple_base.specs.declared.field.Field.TheVariants.{TcpSeq, Tin, Tout, QSize}
+use Rattle.marple_base.specs.{Field.{field_name, number_of}, declared.field.Field.{Field, TheVariants.{Switch, Qid, Uid, SrcIp, DstIp}}}
+use Rattle.marple_base.specs.declared.field.Field.TheVariants.{SrcPort, DstPort, Proto, PktLen, PayloadLen, TcpSeq, Tin, Tout, QSize}
 use Rattle.marple_base.specs.declared.field.Packet.{Packet}
-use Rattle.trace_reader.specs.Reading.{records}
-use Rattle.queue_sim.specs.ReadBack.{ArePackets, ArePacketWords}
-use Rattle.queue_sim.specs.TraceText.{continued, line, word_text, word_texts}
-use Rattle.queue_sim.proofs.DigitFacts.{word_plain}
-use Rattle.queue_sim.proofs.ReadBackFacts.{word_small}
+use Rattle.trace_reader.{specs.Reading.records, proofs.RowFacts.{does, rows_are, rows_from}}
+use Rattle.queue_sim.specs.{ReadBack.{ArePackets, ArePacketWords}, TraceText.{continued, line, word_text, word_texts}}
+use Rattle.queue_sim.proofs.{DigitFacts.word_plain, ReadBackFacts.word_small}
 use Rattle.trace_pieces.specs.Machine.{rows}
-use Rattle.trace_reader.proofs.RowFacts.{does, rows_are, rows_from}
-use Rattle.part_texts.specs.Texts.{lines_of}
-use Rattle.part_texts.proofs.TextFacts.{body_of}
+use Rattle.part_texts.{specs.Texts.lines_of, proofs.TextFacts.body_of}
 
 -- the reader is before a field or in one without quotes
 abbrev IsInLine : State → Type 0

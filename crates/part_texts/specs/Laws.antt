@@ -1,11 +1,7 @@
 -- Laws of the texts of parts.
 use Rattle.std.specs.Prelude.{◌≡◌, ℕ, ◌≤◌, if◌then◌else◌, List, length, map, None, slice_index}
-use Rattle.marple_base.specs.Field.{all_fields, has_field, number_of}
-use Rattle.marple_base.specs.declared.field.Field.{Field}
-use Rattle.marple_base.specs.declared.field.FieldSet.{FieldSet}
-use Rattle.marple_base.specs.declared.field.Packet.{Packet}
-use Rattle.trace_reader.specs.Traces.{packets, trace_fault}
-use Rattle.trace_reader.specs.declared.fault.TheConstants.{MAX_RECORDS, MAX_TRACE}
+use Rattle.marple_base.specs.{Field.{all_fields, has_field, number_of}, declared.field.{Field.Field, FieldSet.FieldSet, Packet.Packet}}
+use Rattle.trace_reader.specs.{Traces.{packets, trace_fault}, declared.fault.TheConstants.{MAX_RECORDS, MAX_TRACE}}
 use Rattle.queue_sim.specs.ReadBack.{ArePackets}
 use Rattle.part_texts.specs.Texts.{fields_text}
 

@@ -1,11 +1,8 @@
 -- The texts of the parts that a trace is split into.
 use Rattle.std.specs.Prelude.{ℕ, ◌==◌, List, [], ◌∷◌, ◌++◌, filter, flat_map, map, slice_index}
 use Rattle.epoch_model.specs.Keys.{bucket_of}
-use Rattle.marple_base.specs.Field.{all_fields, field_name, has_field, number_of}
-use Rattle.marple_base.specs.declared.field.Field.{Field}
-use Rattle.marple_base.specs.declared.field.Field.TheVariants.{Uid}
-use Rattle.marple_base.specs.declared.field.FieldSet.{FieldSet}
-use Rattle.marple_base.specs.declared.field.Packet.{Packet}
+use Rattle.marple_base.specs.{Field.{all_fields, field_name, has_field, number_of}, declared.field.Field.{Field, TheVariants.Uid}}
+use Rattle.marple_base.specs.declared.field.{FieldSet.FieldSet, Packet.Packet}
 use Rattle.queue_sim.specs.TraceText.{fields_line, line}
 
 -- the fields of a set, in the order of the fields

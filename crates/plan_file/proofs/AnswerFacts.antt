@@ -2,9 +2,7 @@
 use Rattle.std.proofs.Common.{ℕ, List}
 use Rattle.query_lang.specs.declared.error.QueryError.{QueryError}
 use Rattle.query_lang.specs.declared.error.QueryError.TheVariants as answers
-use Rattle.plan_file.specs.declared.made.Made.{Made}
-use Rattle.plan_file.specs.Texts.{Says, IsBadAt, IsRefused, IsOnlyAnswer}
-use Rattle.plan_file.proofs.LineLaws.{makes_one}
+use Rattle.plan_file.{specs.{declared.made.Made.Made, Texts.{Says, IsBadAt, IsRefused, IsOnlyAnswer}}, proofs.LineLaws.makes_one}
 use Rattle.plan_file.proofs.TextLaws.{not_refused, place_once}
 
 pub nowhere : (text : List ℕ) (made : Made) → Says text made → (place : ℕ) → IsBadAt text place → ⊥

@@ -1,11 +1,8 @@
 -- The lines of a group that is read in place.
 use Rattle.std.proofs.Common.{◌≡◌, ℕ, ◌<◌, ◌∷◌, ◌++◌, [], List, Bool, true, false, codes, length, IsTrue, refl, subst, ap, ◌∙◌, arith}
-use Rattle.stage_plan.specs.declared.op.Operand.{Operand}
-use Rattle.stage_plan.specs.declared.op.PlanOp.{PlanOp}
+use Rattle.stage_plan.specs.declared.op.{Operand.Operand, PlanOp.PlanOp}
 use Rattle.marple_base.specs.declared.field.Field.{Field}
-use Rattle.plan_file.specs.declared.made.Group.{Group}
-use Rattle.plan_file.specs.Groups.{IsKeyLine, IsNewIn, IsStateLine}
-use Rattle.plan_file.specs.Named.{IsNamedNumber, IsNamedOperand}
+use Rattle.plan_file.specs.{declared.made.Group.Group, Groups.{IsKeyLine, IsNewIn, IsStateLine}, Named.{IsNamedNumber, IsNamedOperand}}
 
 -- a list that is not empty
 pub some_items : {A : Type 0} (xs : List A) (b : Bool) → (IsTrue b → xs ≡ []) × (xs ≡ [] → IsTrue b) → b ≡ false → 0 < length xs

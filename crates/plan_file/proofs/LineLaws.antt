@@ -1,25 +1,14 @@
 -- A line makes at most one thing of what was made before it.
-use Rattle.std.proofs.Common.{◌≡◌, ℕ, List, [], ◌∷◌, map, Some, refl, sym, ap, ◌∙◌, subst}
-use Rattle.std.specs.Prelude.{codes}
-use Rattle.marple_base.specs.declared.field.Field.{Field}
-use Rattle.marple_base.specs.Field.{field_name}
+use Rattle.std.{proofs.Common.{◌≡◌, ℕ, List, [], ◌∷◌, map, Some, refl, sym, ap, ◌∙◌, subst}, specs.Prelude.codes}
+use Rattle.marple_base.specs.{declared.field.Field.Field, Field.field_name}
 use Rattle.query_lang.specs.declared.typed.Class.{Class}
-use Rattle.stage_plan.specs.declared.op.Operand.{Operand}
-use Rattle.stage_plan.specs.declared.op.PlanOp.{PlanOp}
+use Rattle.stage_plan.specs.declared.op.{Operand.Operand, PlanOp.PlanOp}
 use Rattle.plan_file.specs.declared.line_word.LineWord.{LineWord}
 use Rattle.plan_file.specs.declared.line_word.LineWord.TheVariants as words
-use Rattle.plan_file.specs.declared.made.Group.{Group}
-use Rattle.plan_file.specs.declared.made.Folded.{Folded}
-use Rattle.plan_file.specs.declared.made.Made.{Made}
-use Rattle.plan_file.specs.Lexis.{number}
-use Rattle.plan_file.specs.Lexemes.{lexeme_of}
-use Rattle.plan_file.specs.LineWords.{line_word}
-use Rattle.plan_file.specs.Operations.{operand}
-use Rattle.plan_file.specs.Named.{IsNamedOperand, IsNamedNumber, IsOneOperand, IsOneNumber}
-use Rattle.plan_file.specs.Groups.{IsGroupLine, IsInGroup, group_with}
-use Rattle.plan_file.specs.FoldLines.{IsFoldLine}
-use Rattle.plan_file.specs.Lines.{IsFirst, IsReads, IsOp, IsGroup, IsPart, IsFold, IsPrint, IsLine, IsLineOf}
-use Rattle.plan_file.proofs.ReadsFacts.{same_name}
+use Rattle.plan_file.specs.{declared.made.{Group.Group, Folded.Folded, Made.Made}, Lexis.number, Lexemes.lexeme_of, LineWords.line_word}
+use Rattle.plan_file.specs.{Operations.operand, Named.{IsNamedOperand, IsNamedNumber, IsOneOperand, IsOneNumber}}
+use Rattle.plan_file.specs.{Groups.{IsGroupLine, IsInGroup, group_with}, FoldLines.IsFoldLine}
+use Rattle.plan_file.{specs.Lines.{IsFirst, IsReads, IsOp, IsGroup, IsPart, IsFold, IsPrint, IsLine, IsLineOf}, proofs.ReadsFacts.same_name}
 use Rattle.plan_file.proofs.SameFold.{words_once}
 
 value_same : {A : Type 0} (x y : A) → Some x ≡ Some y → x ≡ y

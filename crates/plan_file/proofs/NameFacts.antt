@@ -1,9 +1,7 @@
 -- Whether a name is among names.
 use Rattle.std.proofs.Common.{◌≡◌, ℕ, zero, suc, ◌<◌, true, false, List, [], ◌∷◌, length, get_or, refl, sym, ap, ◌∙◌, arith, Contains}
 use Rattle.std.specs.Str.{bytes_eq}
-use Rattle.plan_file.specs.declared.made.Folded.{Folded}
-use Rattle.plan_file.specs.Groups.{names_of}
-use Rattle.plan_file.proofs.ReadsFacts.{text_same, text_other}
+use Rattle.plan_file.{specs.{declared.made.Folded.Folded, Groups.names_of}, proofs.ReadsFacts.{text_same, text_other}}
 
 default_same : {A : Type 0} (xs : List A) (k : ℕ) (a b : A) → k < length xs → get_or xs k a ≡ get_or xs k b
 default_same [] k a b h = elim h [ ]

@@ -1,7 +1,6 @@
 -- Lines with too many tokens.
-use Rattle.std.proofs.Common.{◌≡◌, ℕ, List, [], ◌∷◌, length, ap, arith, refl}
+use Rattle.std.proofs.{Common.{◌≡◌, ℕ, List, [], ◌∷◌, length, ap, arith, refl}, lemmas.List.Splits.length-slice_split}
 use Rattle.std.specs.List.{slice_split}
-use Rattle.std.proofs.lemmas.List.Splits.{length-slice_split}
 use Rattle.plan_file.specs.Lexis.{is_space}
 
 pub one_more : (x a text : List ℕ) → x ∷ slice_split is_space text ≡ a ∷ [] → ⊥

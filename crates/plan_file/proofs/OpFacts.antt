@@ -1,15 +1,10 @@
 -- What the words of a line `op` say of its operation.
 use Rattle.std.proofs.Common.{◌≡◌, ℕ, false, List, [], ◌∷◌, Option, Some, None, refl, sym, ap, ◌∙◌, arith, length, subst}
-use Rattle.std.specs.Prelude.{codes}
-use Rattle.std.specs.Str.{bytes_eq}
-use Rattle.std.specs.List.{slice_split}
-use Rattle.std.proofs.lemmas.List.Splits.{length-slice_split}
+use Rattle.std.{proofs.lemmas.List.Splits.length-slice_split, specs.{Prelude.codes, Str.bytes_eq, List.slice_split}}
 use Rattle.marple_base.specs.declared.field.Field.{Field}
 use Rattle.query_lang.specs.declared.fold.Op.{Op}
-use Rattle.stage_plan.specs.declared.op.Operand.{Operand}
-use Rattle.stage_plan.specs.declared.op.PlanOp.{PlanOp}
-use Rattle.plan_file.specs.Lexis.{is_space, tokens}
-use Rattle.plan_file.specs.Operations.{IsKnown, IsAllowed, IsOpLine, two_of, op_words}
+use Rattle.stage_plan.specs.declared.op.{Operand.Operand, PlanOp.PlanOp}
+use Rattle.plan_file.specs.{Lexis.{is_space, tokens}, Operations.{IsKnown, IsAllowed, IsOpLine, two_of, op_words}}
 
 -- no words, no operation
 pub no_words : (fields : List Field) (ops : List PlanOp) (w : Option PlanOp) → w ≡ None → (op : PlanOp) → w ≡ Some op

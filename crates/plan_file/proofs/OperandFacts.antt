@@ -1,16 +1,10 @@
 -- Which registers are known.
 use Rattle.std.proofs.Common.{◌≡◌, ℕ, zero, suc, ◌+◌, ◌<◌, ◌≤◌, Bool, true, false, List, [], ◌∷◌, length, get_or, map, Some, refl, sym, ap}
-use Rattle.std.proofs.Common.{◌∙◌, arith, inl, inr, Contains, subst}
-use Rattle.std.specs.Prelude.{nat_lt}
-use Rattle.std.proofs.lemmas.Bool.Decides.{nat_tests}
-use Rattle.marple_base.specs.declared.field.Field.{Field}
-use Rattle.marple_base.specs.declared.field.Field.TheVariants.{Switch, Qid, Uid, SrcIp, DstIp, SrcPort, DstPort, Proto, PktLen, PayloadLen}
-use Rattle.marple_base.specs.declared.field.Field.TheVariants.{TcpSeq, Tin, Tout, QSize}
-use Rattle.marple_base.specs.Field.{number_of}
+use Rattle.std.{proofs.{Common.{◌∙◌, arith, inl, inr, Contains, subst}, lemmas.Bool.Decides.nat_tests}, specs.Prelude.nat_lt}
+use Rattle.marple_base.specs.declared.field.Field.{Field, TheVariants.{Switch, Qid, Uid, SrcIp, DstIp, SrcPort, DstPort, Proto, PktLen}}
+use Rattle.marple_base.specs.{declared.field.Field.TheVariants.{PayloadLen, TcpSeq, Tin, Tout, QSize}, Field.number_of}
 use Rattle.marple_base.specs.declared.field.TheConstants.{FIELDS}
-use Rattle.stage_plan.specs.declared.op.Operand.{Operand}
-use Rattle.stage_plan.specs.declared.op.Operand.TheVariants.{Register, Number}
-use Rattle.stage_plan.specs.declared.op.PlanOp.{PlanOp}
+use Rattle.stage_plan.specs.declared.op.{Operand.{Operand, TheVariants.{Register, Number}}, PlanOp.PlanOp}
 use Rattle.plan_file.specs.Operations.{operand, register, IsKnown, IsKnownRegister}
 
 pub same_default : (xs : List ℕ) (k a b : ℕ) → k < length xs → get_or xs k a ≡ get_or xs k b

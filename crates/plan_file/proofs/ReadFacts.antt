@@ -1,12 +1,8 @@
 -- How far the lines of a text are read.
 use Rattle.std.proofs.Common.{◌≡◌, ℕ, zero, suc, ◌+◌, ◌<◌, ◌≤◌, List, [], ◌∷◌, length, take, Some, refl, sym, ap, subst, arith, add-one}
-use Rattle.std.specs.Prelude.{slice_get}
-use Rattle.std.proofs.lemmas.List.{take_all, length-drop}
-use Rattle.plan_file.specs.declared.made.Made.{Made}
-use Rattle.plan_file.specs.declared.texts.TheConstants.{MAX_PLAN}
-use Rattle.plan_file.specs.Lexis.{lines, bytes_after_lines}
-use Rattle.plan_file.specs.Lines.{nothing, IsLine}
-use Rattle.plan_file.specs.Texts.{Make, Says, IsLineStart, IsAfterLines}
+use Rattle.std.{proofs.lemmas.List.{take_all, length-drop}, specs.Prelude.slice_get}
+use Rattle.plan_file.specs.{declared.{made.Made.Made, texts.TheConstants.MAX_PLAN}, Lexis.{lines, bytes_after_lines}}
+use Rattle.plan_file.specs.{Lines.{nothing, IsLine}, Texts.{Make, Says, IsLineStart, IsAfterLines}}
 
 -- this many lines are read, up to a byte, and they made this
 pub record IsReached (text : List ℕ) (i at : ℕ) (made : Made) : Type 0 where

@@ -1,17 +1,11 @@
 -- The fields of a line `reads`, taken in their order.
 use Rattle.std.proofs.Common.{◌≡◌, ℕ, ◌+◌, ◌<◌, ◌≤◌, Bool, true, false, List, [], ◌∷◌, ◌++◌, map, refl, sym, ap, ◌∙◌, arith, append_assoc}
-use Rattle.std.proofs.Common.{length, subst}
-use Rattle.std.proofs.lemmas.List.Splits.{length-slice_split}
-use Rattle.std.specs.Prelude.{codes, nat_eq, if◌then◌else◌}
-use Rattle.std.specs.Str.{bytes_eq}
-use Rattle.std.proofs.lemmas.Bool.Decides.{nat_tests}
-use Rattle.marple_base.specs.declared.field.Field.{Field}
-use Rattle.marple_base.specs.declared.field.Field.TheVariants.{Switch, Qid, Uid, SrcIp, DstIp, SrcPort, DstPort, Proto, PktLen, PayloadLen}
-use Rattle.marple_base.specs.declared.field.Field.TheVariants.{TcpSeq, Tin, Tout, QSize}
-use Rattle.marple_base.specs.Field.{number_of, field_name}
+use Rattle.std.proofs.{Common.{length, subst}, lemmas.{List.Splits.length-slice_split, Bool.Decides.nat_tests}}
+use Rattle.std.specs.{Prelude.{codes, nat_eq, if◌then◌else◌}, Str.bytes_eq}
+use Rattle.marple_base.specs.declared.field.Field.{Field, TheVariants.{Switch, Qid, Uid, SrcIp, DstIp, SrcPort, DstPort, Proto, PktLen}}
+use Rattle.marple_base.specs.{declared.field.Field.TheVariants.{PayloadLen, TcpSeq, Tin, Tout, QSize}, Field.{number_of, field_name}}
 use Rattle.marple_base.specs.declared.field.TheConstants.{FIELDS}
-use Rattle.plan_file.specs.Lexis.{is_space, tokens}
-use Rattle.plan_file.specs.Operations.{AreFrom, IsReadsLine}
+use Rattle.plan_file.specs.{Lexis.{is_space, tokens}, Operations.{AreFrom, IsReadsLine}}
 
 -- a field by its number, and by its name
 abbrev numbered : ℕ → Field

@@ -2,21 +2,13 @@
 use Rattle.std.proofs.Common.{◌≡◌, ℕ, zero, suc, not, ◌||◌, List, [], ◌∷◌, Some, refl, sym, ap, ◌∙◌, arith}
 use Rattle.std.specs.Prelude.{nat_lt, if◌then◌else◌, codes}
 use mathlib.Core.Path.{fun_ext}
-use Rattle.query_lang.specs.declared.fold.TypedFold.{TypedFold}
-use Rattle.query_lang.specs.declared.typed.Class.{Class}
-use Rattle.query_lang.specs.declared.typed.Class.TheVariants.{Linear}
-use Rattle.query_lang.specs.Folds.{fold_states, fold_block}
-use Rattle.fold_class.specs.declared.class.Algebra.{Algebra}
-use Rattle.fold_class.specs.declared.class.Algebra.TheVariants.{Sums, Maxima}
-use Rattle.fold_class.specs.declared.class.Kind.{Kind}
-use Rattle.fold_class.specs.declared.class.Kind.TheVariants.{Pure, Affine}
-use Rattle.fold_class.specs.Tables.{all_below}
-use Rattle.fold_class.specs.Depth.{reads_after, reads_first, fold_reads, is_within, is_history, IsDepth}
+use Rattle.query_lang.specs.{declared.{fold.TypedFold.TypedFold, typed.Class.{Class, TheVariants.Linear}}, Folds.{fold_states, fold_block}}
+use Rattle.fold_class.specs.declared.class.{Algebra.{Algebra, TheVariants.{Sums, Maxima}}, Kind.{Kind, TheVariants.{Pure, Affine}}}
+use Rattle.fold_class.specs.{Tables.all_below, Depth.{reads_after, reads_first, fold_reads, is_within, is_history, IsDepth}}
 use Rattle.fold_class.specs.Kinds.{role, kinds_after, kinds_first, fold_kinds, is_no_other, is_linear_by, algebra_of, class_of}
 use Rattle.fold_class.proofs.DepthLemmas.{all_same}
 use Rattle.stage_plan.specs.Shape.{class_word}
-use Rattle.plan_file.specs.Lexis.{number}
-use Rattle.plan_file.specs.FoldLines.{IsFoldWords}
+use Rattle.plan_file.specs.{Lexis.number, FoldLines.IsFoldWords}
 
 module _ (f g : TypedFold) (e : fold_states f ≡ fold_states g) (h : fold_block f ≡ fold_block g) where
   reads_same : fold_reads f ≡ fold_reads g

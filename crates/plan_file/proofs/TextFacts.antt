@@ -1,13 +1,8 @@
 -- Where the lines of a text begin.
 use Rattle.std.proofs.Common.{◌≡◌, ℕ, zero, suc, ◌+◌, ◌<◌, ◌≤◌, List, [], ◌∷◌, ◌++◌, length, take, drop, Some, refl, sym, ap, ◌∙◌, arith}
-use Rattle.std.proofs.Common.{add-one}
-use Rattle.std.specs.Prelude.{slice_get, sum_by}
-use Rattle.std.specs.List.{slice_split}
-use Rattle.std.proofs.lemmas.List.Splits.{length-slice_split}
-use Rattle.std.proofs.lemmas.List.Sums.{sum_by-append}
-use Rattle.std.proofs.lemmas.List.{length-drop, drop-drop}
-use Rattle.plan_file.specs.Lexis.{all_but_last, last_of, is_line_feed, lines, pieces, start_of_line}
-use Rattle.plan_file.specs.Texts.{IsLineStart, IsAfterLines}
+use Rattle.std.proofs.{Common.add-one, lemmas.List.{Splits.length-slice_split, Sums.sum_by-append, length-drop, drop-drop}}
+use Rattle.std.specs.{Prelude.{slice_get, sum_by}, List.slice_split}
+use Rattle.plan_file.specs.{Lexis.{all_but_last, last_of, is_line_feed, lines, pieces, start_of_line}, Texts.{IsLineStart, IsAfterLines}}
 
 -- what one more line is, where a further piece follows it
 pub record IsNext (ps : List (List ℕ)) (i : ℕ) (x y : List ℕ) (rest : List (List ℕ)) : Type 0 where

@@ -1,10 +1,7 @@
 -- Laws of texts, from the law that a line makes at most one thing of what was made before it. That law is a premise here.
 use Rattle.std.proofs.Common.{◌≡◌, ℕ, zero, suc, ◌<◌, List, [], ◌∷◌, length, take, Some, sym, ap, ◌∙◌, arith, inl, inr, subst, refl}
-use Rattle.std.specs.Prelude.{slice_get, ◌⊎◌, nat_lt, Bool, true, false}
-use Rattle.std.proofs.lemmas.Bool.Decides.{nat_tests}
-use Rattle.plan_file.specs.declared.made.Made.{Made}
-use Rattle.plan_file.specs.Lexis.{bytes_after_lines, lines, start_of_line}
-use Rattle.plan_file.specs.Lines.{IsLine, IsValidAfter, nothing}
+use Rattle.std.{proofs.lemmas.Bool.Decides.nat_tests, specs.Prelude.{slice_get, ◌⊎◌, nat_lt, Bool, true, false}}
+use Rattle.plan_file.specs.{declared.made.Made.Made, Lexis.{bytes_after_lines, lines, start_of_line}, Lines.{IsLine, IsValidAfter, nothing}}
 use Rattle.plan_file.specs.Texts.{Make, Says, IsBadAt, IsFirstBadLine}
 
 -- a line makes at most one thing

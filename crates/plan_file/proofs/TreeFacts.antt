@@ -1,11 +1,8 @@
 -- What the tokens of an expression and of a block begin with.
 use Rattle.std.proofs.Common.{◌≡◌, ℕ, ◌+◌, ◌-◌, ◌<◌, ◌≤◌, Bool, true, false, List, [], ◌∷◌, ◌++◌, length, get_or, drop, refl, sym, ap, ◌∙◌}
-use Rattle.std.proofs.Common.{subst, arith, append_assoc}
+use Rattle.std.proofs.{Common.{subst, arith, append_assoc}, lemmas.List.Sums.sum_by-append}
 use Rattle.std.specs.Prelude.{nat_lt, if◌then◌else◌, cond, count_by}
-use Rattle.std.proofs.lemmas.List.Sums.{sum_by-append}
-use Rattle.query_lang.specs.declared.fold.Op.{Op}
-use Rattle.query_lang.specs.declared.fold.TypedStmt.{TypedStmt}
-use Rattle.query_lang.specs.Terms.{Term, Literal, Read, Negation, Operation}
+use Rattle.query_lang.specs.{declared.fold.{Op.Op, TypedStmt.TypedStmt}, Terms.{Term, Literal, Read, Negation, Operation}}
 use Rattle.query_lang.specs.Blocks.{Block, End, Set, Fork, followed, block_of, stmt_block}
 use Rattle.query_lang.specs.Folds.{IsValidTerm, IsValidBlock, term_nodes, block_nodes, block_count}
 use Rattle.plan_file.specs.declared.lexemes.Lexeme.{Lexeme}

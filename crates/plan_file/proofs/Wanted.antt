@@ -1,16 +1,12 @@
 -- Reading one token at a time reads what a stack of expected things reads.
 use Rattle.std.proofs.Common.{◌≡◌, ℕ, ◌+◌, ◌^◌, ◌<◌, Bool, true, false, ◌&&◌, List, [], ◌∷◌, ◌++◌, Some, None, refl, sym, ap, ◌∙◌, subst}
-use Rattle.std.proofs.Common.{arith, inl, inr}
+use Rattle.std.proofs.{Common.{arith, inl, inr}, lemmas.{Bool.Decides.nat_tests, List.reverse-append}}
 use Rattle.std.specs.Prelude.{nat_lt, reverse, ◌⊎◌}
-use Rattle.std.proofs.lemmas.Bool.Decides.{nat_tests}
-use Rattle.std.proofs.lemmas.List.{reverse-append}
 use Rattle.query_lang.specs.Blocks as blocks
-use Rattle.query_lang.specs.Terms.{Term}
-use Rattle.query_lang.specs.declared.fault.TheConstants.{MAX_NESTING}
+use Rattle.query_lang.specs.{Terms.Term, declared.fault.TheConstants.MAX_NESTING}
 use Rattle.plan_file.specs.declared.lexemes.Lexeme.{Lexeme}
 use Rattle.plan_file.specs.declared.lexemes.Lexeme.TheVariants as word
-use Rattle.plan_file.specs.declared.wants.Want.{Want}
-use Rattle.plan_file.specs.declared.wants.Want.TheVariants.{Word, Condition, Divisor, Shift, Target, Open, Block}
+use Rattle.plan_file.specs.declared.wants.Want.{Want, TheVariants.{Word, Condition, Divisor, Shift, Target, Open, Block}}
 use Rattle.plan_file.specs.Bodies.{written, written_block, IsBody}
 use Rattle.plan_file.specs.Wants.{past_word, after_condition, after_number, after_target, after_open, past, Steps, Sticks}
 use Rattle.plan_file.proofs.WantedTerms.{head_same, tail_same, where_some, where_none, and_both, Reads, AllRead, all_join, all_split}

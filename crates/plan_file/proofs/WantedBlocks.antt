@@ -2,16 +2,12 @@
 use Rattle.std.proofs.Common.{◌≡◌, ℕ, zero, suc, ◌≤◌, List, [], ◌∷◌, ◌++◌, Some, None, refl, sym, ap, ◌∙◌, arith, append_assoc}
 use Rattle.std.specs.Prelude.{reverse}
 use Rattle.query_lang.specs.Blocks as blocks
-use Rattle.query_lang.specs.Terms.{Term}
-use Rattle.query_lang.specs.Folds.{IsValidBlock}
+use Rattle.query_lang.specs.{Terms.Term, Folds.IsValidBlock}
 use Rattle.plan_file.specs.declared.lexemes.Lexeme.{Lexeme}
 use Rattle.plan_file.specs.declared.lexemes.Lexeme.TheVariants as word
-use Rattle.plan_file.specs.declared.wants.Want.{Want}
-use Rattle.plan_file.specs.declared.wants.Want.TheVariants.{Word, Condition, Target, Open, Block}
-use Rattle.plan_file.specs.Bodies.{written, written_block, open_braces}
-use Rattle.plan_file.specs.Wants.{after_if, after_block}
-use Rattle.plan_file.proofs.WantedTerms.{head_same, tail_same, ReadsBlock, AllRead, one_read, only_one, nothing_read, wanted_go}
-use Rattle.plan_file.proofs.WantedTerms.{wanted_back}
+use Rattle.plan_file.specs.declared.wants.Want.{Want, TheVariants.{Word, Condition, Target, Open, Block}}
+use Rattle.plan_file.{specs.{Bodies.{written, written_block, open_braces}, Wants.{after_if, after_block}}, proofs.WantedTerms.head_same}
+use Rattle.plan_file.proofs.WantedTerms.{tail_same, ReadsBlock, AllRead, one_read, only_one, nothing_read, wanted_go, wanted_back}
 
 module _ (states args : ℕ) where
   -- a block

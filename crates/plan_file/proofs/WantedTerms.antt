@@ -1,8 +1,7 @@
 -- What a stack of expected things reads, and that reading the first token of an expression reads the same.
 use Rattle.std.proofs.Common.{◌≡◌, ℕ, ◌+◌, ◌-◌, ◌^◌, ◌<◌, ◌≤◌, Bool, true, false, not, ◌&&◌, List, [], ◌∷◌, ◌++◌, Some, None, refl, sym, ap}
-use Rattle.std.proofs.Common.{◌∙◌, subst, arith, append_assoc, append-nil}
+use Rattle.std.proofs.{Common.{◌∙◌, subst, arith, append_assoc, append-nil}, lemmas.Bool.Decides.nat_tests}
 use Rattle.std.specs.Prelude.{nat_lt, reverse, if◌then◌else◌}
-use Rattle.std.proofs.lemmas.Bool.Decides.{nat_tests}
 use Rattle.query_lang.specs.declared.fold.Op.{Op}
 use Rattle.query_lang.specs.declared.fold.Op.TheVariants as ops
 use Rattle.query_lang.specs.Blocks as blocks
@@ -10,8 +9,7 @@ use Rattle.query_lang.specs.Terms.{Term, Literal, Read, Negation, Operation}
 use Rattle.query_lang.specs.Folds.{gives_condition, is_condition, IsConstant, TakesOperands, IsValidTerm, IsValidBlock}
 use Rattle.plan_file.specs.declared.lexemes.Lexeme.{Lexeme}
 use Rattle.plan_file.specs.declared.lexemes.Lexeme.TheVariants as word
-use Rattle.plan_file.specs.declared.wants.Want.{Want}
-use Rattle.plan_file.specs.declared.wants.Want.TheVariants.{Word, Condition, Divisor, Shift, Target, Open, Block}
+use Rattle.plan_file.specs.declared.wants.Want.{Want, TheVariants.{Word, Condition, Divisor, Shift, Target, Open, Block}}
 use Rattle.plan_file.specs.Bodies.{slot_lexeme, written, written_block, open_braces}
 use Rattle.plan_file.specs.Wants.{operands, where_true, past_word, after_condition}
 

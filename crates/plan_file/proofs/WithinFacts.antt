@@ -1,16 +1,11 @@
 -- What holds of all that lines make.
-use Rattle.std.proofs.Common.{ℕ, ◌<◌, List, [], ◌∷◌, ◌++◌, length, Option, sym, subst, arith, length-append}
-use Rattle.std.specs.Prelude.{IfSome}
+use Rattle.std.{proofs.Common.{ℕ, ◌<◌, List, [], ◌∷◌, ◌++◌, length, Option, sym, subst, arith, length-append}, specs.Prelude.IfSome}
 use Rattle.marple_base.specs.declared.field.Field.{Field}
-use Rattle.query_lang.specs.Blocks.{Block}
-use Rattle.query_lang.specs.declared.fault.TheConstants.{MAX_ARGS, MAX_GROUPBYS, MAX_STATES}
+use Rattle.query_lang.specs.{Blocks.Block, declared.fault.TheConstants.{MAX_ARGS, MAX_GROUPBYS, MAX_STATES}}
 use Rattle.stage_plan.specs.declared.op.PlanOp.{PlanOp}
-use Rattle.plan_file.specs.declared.lexemes.Lexeme.{Lexeme}
-use Rattle.plan_file.specs.declared.line_word.LineWord.{LineWord}
+use Rattle.plan_file.specs.declared.{lexemes.Lexeme.Lexeme, line_word.LineWord.LineWord}
 use Rattle.plan_file.specs.declared.line_word.LineWord.TheVariants as words
-use Rattle.plan_file.specs.declared.made.Group.{Group}
-use Rattle.plan_file.specs.declared.made.Made.{Made}
-use Rattle.plan_file.specs.Bodies.{IsBody}
+use Rattle.plan_file.specs.{declared.made.{Group.Group, Made.Made}, Bodies.IsBody}
 use Rattle.plan_file.specs.Groups.{IsInGroup, IsKeyLine, IsArgLine, IsStateLine, IsGroupBody, group_with}
 use Rattle.plan_file.specs.Lines.{IsLine, IsLineOf, IsFirst, IsReads, IsOp, IsGroup, IsPart, IsFold, IsPrint, IsWithin, IsGroupWithin}
 use Rattle.plan_file.specs.LineWords.{line_word}

@@ -1,14 +1,10 @@
 -- The line `body`: the statements of a fold in prefix form.
-use Rattle.std.specs.Prelude.{◌≡◌, ℕ, ◌+◌, ◌-◌, ◌≤◌, max, nat_lt, if◌then◌else◌, List, [], ◌∷◌}
-use Rattle.std.specs.Prelude.{◌++◌, map, codes}
-use Rattle.query_lang.specs.Blocks.{Block, End, Set, Fork}
-use Rattle.query_lang.specs.Terms.{Term, Literal, Read, Negation, Operation}
-use Rattle.query_lang.specs.Folds.{IsValidBlock}
+use Rattle.std.specs.Prelude.{◌≡◌, ℕ, ◌+◌, ◌-◌, ◌≤◌, max, nat_lt, if◌then◌else◌, List, [], ◌∷◌, ◌++◌, map, codes}
+use Rattle.query_lang.specs.{Blocks.{Block, End, Set, Fork}, Terms.{Term, Literal, Read, Negation, Operation}, Folds.IsValidBlock}
 use Rattle.query_lang.specs.declared.fault.TheConstants.{MAX_NESTING}
 use Rattle.plan_file.specs.declared.lexemes.Lexeme.{Lexeme}
 use Rattle.plan_file.specs.declared.lexemes.Lexeme.TheVariants as word
-use Rattle.plan_file.specs.Lexis.{tokens}
-use Rattle.plan_file.specs.Lexemes.{lexeme_of}
+use Rattle.plan_file.specs.{Lexis.tokens, Lexemes.lexeme_of}
 
 -- `sI` is a state variable, and `aI` an argument, whose slot comes after those of the variables
 abbrev pub slot_lexeme : ℕ → ℕ → Lexeme

@@ -1,17 +1,11 @@
 -- The line `fold`: the class, the depth and the bounds of a group's fold.
 use Rattle.std.specs.Prelude.{◌≡◌, ℕ, ◌≤◌, List, [], ◌∷◌, length, codes, Some, None}
-use Rattle.query_lang.specs.declared.fold.TypedFold.{TypedFold}
-use Rattle.query_lang.specs.declared.typed.Class.{Class}
+use Rattle.query_lang.specs.declared.{fold.TypedFold.TypedFold, typed.Class.Class}
 use Rattle.query_lang.specs.Folds.{block_count, block_nodes, fold_args, fold_block, fold_states}
 use Rattle.query_lang.specs.declared.fault.TheConstants.{MAX_NODES, MAX_STATEMENTS}
-use Rattle.fold_class.specs.Kinds.{class_of}
-use Rattle.fold_class.specs.Depth.{IsDepth}
+use Rattle.fold_class.specs.{Kinds.class_of, Depth.IsDepth}
 use Rattle.stage_plan.specs.Shape.{class_word}
-use Rattle.plan_file.specs.declared.lexemes.Lexeme.{Lexeme}
-use Rattle.plan_file.specs.declared.made.Group.{Group}
-use Rattle.plan_file.specs.declared.made.Folded.{Folded}
-use Rattle.plan_file.specs.Lexis.{tokens, number}
-use Rattle.plan_file.specs.Bodies.{IsBody}
+use Rattle.plan_file.specs.{declared.{lexemes.Lexeme.Lexeme, made.{Group.Group, Folded.Folded}}, Lexis.{tokens, number}, Bodies.IsBody}
 
 -- a fold of a group, with its state variables, its arguments and the statements of its body
 pub record IsFoldOf (group : Group) (fold : TypedFold) : Type 0 where

@@ -1,7 +1,5 @@
 -- A group with what its line `fold` says of it.
-use Rattle.plan_file.specs.declared.fold_line.Said.{Said}
-use Rattle.plan_file.specs.declared.made.Folded.{Folded}
-use Rattle.plan_file.specs.declared.made.Group.{Group}
+use Rattle.plan_file.specs.declared.{fold_line.Said.Said, made.{Folded.Folded, Group.Group}}
 
 abbrev pub folded_as : Group → Said → Folded
 folded_as group said = record {

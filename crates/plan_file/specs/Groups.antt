@@ -2,14 +2,10 @@
 use Rattle.std.specs.Prelude.{◌≡◌, ℕ, ◌<◌, List, [], ◌∷◌, ◌++◌, length, map, codes, Some, None, Contains}
 use Rattle.marple_base.specs.declared.field.Field.{Field}
 use Rattle.query_lang.specs.declared.fault.TheConstants.{MAX_ARGS, MAX_GROUPBYS, MAX_KEYS, MAX_STATES}
-use Rattle.stage_plan.specs.declared.op.Operand.{Operand}
-use Rattle.stage_plan.specs.declared.op.PlanOp.{PlanOp}
-use Rattle.plan_file.specs.declared.lexemes.Lexeme.{Lexeme}
-use Rattle.plan_file.specs.declared.line_word.LineWord.{LineWord}
+use Rattle.stage_plan.specs.declared.op.{Operand.Operand, PlanOp.PlanOp}
+use Rattle.plan_file.specs.declared.{lexemes.Lexeme.Lexeme, line_word.LineWord.LineWord}
 use Rattle.plan_file.specs.declared.line_word.LineWord.TheVariants as words
-use Rattle.plan_file.specs.declared.made.Group.{Group}
-use Rattle.plan_file.specs.declared.made.Folded.{Folded}
-use Rattle.plan_file.specs.Named.{IsNamedOperand, IsNamedNumber, IsOneOperand}
+use Rattle.plan_file.specs.{declared.made.{Group.Group, Folded.Folded}, Named.{IsNamedOperand, IsNamedNumber, IsOneOperand}}
 use Rattle.plan_file.specs.Bodies.{IsBodyLine}
 
 -- the names of groups

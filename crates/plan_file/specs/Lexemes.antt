@@ -1,6 +1,5 @@
 -- The tokens of a `body` line.
-use Rattle.std.specs.Prelude.{ℕ, List, codes, Option, Some, None, if◌then◌else◌}
-use Rattle.std.specs.Str.{bytes_eq}
+use Rattle.std.specs.{Prelude.{ℕ, List, codes, Option, Some, None, if◌then◌else◌}, Str.bytes_eq}
 use Rattle.query_lang.specs.declared.fold.Op.{Op}
 use Rattle.plan_file.specs.declared.lexemes.Lexeme.{Lexeme}
 use Rattle.plan_file.specs.declared.lexemes.Lexeme.TheVariants.{Set, If, Open, Close, Not, Function, Number, State, Argument, Other}

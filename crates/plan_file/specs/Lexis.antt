@@ -1,10 +1,7 @@
 -- Lines, tokens, numbers, operands and names.
-use Rattle.std.specs.Prelude.{ℕ, ◌+◌, Bool, true, false, not, ◌==◌, ◌&&◌, if◌then◌else◌, List, [], ◌∷◌, length}
-use Rattle.std.specs.Prelude.{take, sum_by, codes, Option, Some, None, is_none}
-use Rattle.std.specs.List.{list_all, slice_split}
-use Rattle.std.specs.Str.Parse.{digits_value}
-use Rattle.query_lang.specs.Lexis.{below_limit, is_digit, is_word_byte, reserved}
-use Rattle.query_lang.specs.declared.fold.Op.{Op}
+use Rattle.std.specs.Prelude.{ℕ, ◌+◌, Bool, true, false, not, ◌==◌, ◌&&◌, if◌then◌else◌, List, [], ◌∷◌, length, take, sum_by, codes, Option}
+use Rattle.std.specs.{Prelude.{Some, None, is_none}, List.{list_all, slice_split}, Str.Parse.digits_value}
+use Rattle.query_lang.specs.{Lexis.{below_limit, is_digit, is_word_byte, reserved}, declared.fold.Op.Op}
 use Rattle.query_lang.specs.declared.fold.Op.TheVariants as ops
 use Rattle.std.specs.Str.{bytes_eq}
 

@@ -1,6 +1,5 @@
 -- The first words of lines.
-use Rattle.std.specs.Prelude.{ℕ, List, [], ◌∷◌, codes, if◌then◌else◌}
-use Rattle.std.specs.Str.{bytes_eq}
+use Rattle.std.specs.{Prelude.{ℕ, List, [], ◌∷◌, codes, if◌then◌else◌}, Str.bytes_eq}
 use Rattle.plan_file.specs.declared.line_word.LineWord.{LineWord}
 use Rattle.plan_file.specs.declared.line_word.LineWord.TheVariants as words
 use Rattle.plan_file.specs.Lexis.{tokens}

@@ -1,21 +1,12 @@
 -- Which line is valid after the lines before it, and what is made with it.
-use Rattle.std.specs.Prelude.{◌≡◌, ℕ, ◌<◌, ◌≤◌, true, false, List, [], ◌∷◌, ◌++◌, length, codes, Some, None}
-use Rattle.std.specs.Prelude.{Contains, IfSome}
+use Rattle.std.specs.Prelude.{◌≡◌, ℕ, ◌<◌, ◌≤◌, true, false, List, [], ◌∷◌, ◌++◌, length, codes, Some, None, Contains, IfSome}
 use Rattle.marple_base.specs.declared.field.Field.{Field}
-use Rattle.query_lang.specs.Blocks.{Block}
-use Rattle.query_lang.specs.declared.fault.TheConstants.{MAX_ARGS, MAX_GROUPBYS, MAX_STATES}
+use Rattle.query_lang.specs.{Blocks.Block, declared.fault.TheConstants.{MAX_ARGS, MAX_GROUPBYS, MAX_STATES}}
 use Rattle.stage_plan.specs.declared.op.PlanOp.{PlanOp}
 use Rattle.plan_file.specs.declared.line_word.LineWord.{LineWord}
 use Rattle.plan_file.specs.declared.line_word.LineWord.TheVariants as words
-use Rattle.plan_file.specs.declared.made.Group.{Group}
-use Rattle.plan_file.specs.declared.made.Folded.{Folded}
-use Rattle.plan_file.specs.declared.made.Made.{Made}
-use Rattle.plan_file.specs.Lexis.{tokens}
-use Rattle.plan_file.specs.LineWords.{line_word}
-use Rattle.plan_file.specs.Operations.{IsReadsLine, IsOpLine}
-use Rattle.plan_file.specs.Named.{IsOneNumber}
-use Rattle.plan_file.specs.Bodies.{IsBody}
-use Rattle.plan_file.specs.Groups.{IsGroupLine, IsInGroup}
+use Rattle.plan_file.specs.{declared.made.{Group.Group, Folded.Folded, Made.Made}, Lexis.tokens, LineWords.line_word}
+use Rattle.plan_file.specs.{Operations.{IsReadsLine, IsOpLine}, Named.IsOneNumber, Bodies.IsBody, Groups.{IsGroupLine, IsInGroup}}
 use Rattle.plan_file.specs.FoldLines.{IsFoldLine}
 
 abbrev pub nothing : Made

@@ -1,10 +1,8 @@
 -- Lines with a word, a name and an operand or a number.
 use Rattle.std.specs.Prelude.{◌≡◌, ℕ, true, List, [], ◌∷◌, Some}
 use Rattle.marple_base.specs.declared.field.Field.{Field}
-use Rattle.stage_plan.specs.declared.op.Operand.{Operand}
-use Rattle.stage_plan.specs.declared.op.PlanOp.{PlanOp}
-use Rattle.plan_file.specs.Lexis.{tokens, number, is_name}
-use Rattle.plan_file.specs.Operations.{operand, IsKnown}
+use Rattle.stage_plan.specs.declared.op.{Operand.Operand, PlanOp.PlanOp}
+use Rattle.plan_file.specs.{Lexis.{tokens, number, is_name}, Operations.{operand, IsKnown}}
 
 -- a word, a name and an operand whose register is known
 pub record IsNamedOperand (fields : List Field) (ops : List PlanOp) (word line name : List ℕ) (value : Operand) : Type 0 where

@@ -1,18 +1,9 @@
 -- The lines `reads` and `op`, and operands after them.
-use Rattle.std.specs.Prelude.{◌≡◌, ℕ, ◌+◌, ◌-◌, ◌<◌, ◌≤◌, max, Bool, true, false, ◌&&◌, nat_lt}
-use Rattle.std.specs.Prelude.{if◌then◌else◌, List, [], ◌∷◌, length, map, codes, Option, Some, None, Contains, slice_get}
-use Rattle.std.specs.Prelude.{◌⊎◌}
-use Rattle.std.specs.Str.{bytes_eq}
-use Rattle.marple_base.specs.declared.field.Field.{Field}
-use Rattle.marple_base.specs.Field.{field_name, number_of}
-use Rattle.marple_base.specs.declared.field.TheConstants.{FIELDS}
-use Rattle.query_lang.specs.declared.fold.Op.{Op}
-use Rattle.query_lang.specs.declared.fold.Op.TheVariants.{Div, Rem, Shl, Shr, Decay}
-use Rattle.query_lang.specs.declared.fault.TheConstants.{MAX_STAGES}
-use Rattle.stage_plan.specs.declared.op.Operand.{Operand}
-use Rattle.stage_plan.specs.declared.op.Operand.TheVariants.{Register, Number}
-use Rattle.stage_plan.specs.declared.op.Operation.{Operation}
-use Rattle.stage_plan.specs.declared.op.Operation.TheVariants.{Not, Two}
+use Rattle.std.specs.Prelude.{◌≡◌, ℕ, ◌+◌, ◌-◌, ◌<◌, ◌≤◌, max, Bool, true, false, ◌&&◌, nat_lt, if◌then◌else◌, List, [], ◌∷◌, length, map}
+use Rattle.std.specs.{Prelude.{codes, Option, Some, None, Contains, slice_get, ◌⊎◌}, Str.bytes_eq}
+use Rattle.marple_base.specs.{declared.field.{Field.Field, TheConstants.FIELDS}, Field.{field_name, number_of}}
+use Rattle.query_lang.specs.declared.{fold.Op.{Op, TheVariants.{Div, Rem, Shl, Shr, Decay}}, fault.TheConstants.MAX_STAGES}
+use Rattle.stage_plan.specs.declared.op.{Operand.{Operand, TheVariants.{Register, Number}}, Operation.{Operation, TheVariants.{Not, Two}}}
 use Rattle.stage_plan.specs.declared.op.PlanOp.{PlanOp}
 use Rattle.plan_file.specs.Lexis.{tokens, number, number_after, literal, function_named}
 

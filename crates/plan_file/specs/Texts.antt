@@ -3,9 +3,7 @@ use Rattle.std.specs.Prelude.{◌≡◌, ℕ, ◌<◌, ◌≤◌, List, [], ◌�
 use Rattle.query_lang.specs.declared.fault.FaultKind.TheVariants as kinds
 use Rattle.query_lang.specs.declared.error.QueryError.{QueryError}
 use Rattle.query_lang.specs.declared.error.QueryError.TheVariants as answers
-use Rattle.plan_file.specs.declared.made.Made.{Made}
-use Rattle.plan_file.specs.declared.texts.TheConstants.{MAX_PLAN}
-use Rattle.plan_file.specs.Lexis.{lines, pieces, bytes_after_lines, start_of_line}
+use Rattle.plan_file.specs.{declared.{made.Made.Made, texts.TheConstants.MAX_PLAN}, Lexis.{lines, pieces, bytes_after_lines, start_of_line}}
 use Rattle.plan_file.specs.Lines.{nothing, IsLine, IsValidAfter}
 
 -- lines that are valid in sequence, from what was made before them to what is made with them

@@ -1,13 +1,9 @@
 -- What is still expected while the tokens of a body are read one by one.
-use Rattle.std.specs.Prelude.{◌≡◌, ℕ, zero, suc, ◌+◌, ◌^◌, ◌++◌, Bool, true, false, not, ◌&&◌, nat_lt, List, []}
-use Rattle.std.specs.Prelude.{◌∷◌, Option, Some, None}
-use Rattle.query_lang.specs.declared.fold.Op.{Op}
-use Rattle.query_lang.specs.declared.fold.Op.TheVariants.{Div, Rem, Shl, Shr, Decay, Both, Either}
-use Rattle.query_lang.specs.Folds.{gives_condition}
+use Rattle.std.specs.Prelude.{◌≡◌, ℕ, zero, suc, ◌+◌, ◌^◌, ◌++◌, Bool, true, false, not, ◌&&◌, nat_lt, List, [], ◌∷◌, Option, Some, None}
+use Rattle.query_lang.specs.{declared.fold.Op.{Op, TheVariants.{Div, Rem, Shl, Shr, Decay, Both, Either}}, Folds.gives_condition}
 use Rattle.plan_file.specs.declared.lexemes.Lexeme.{Lexeme}
 use Rattle.plan_file.specs.declared.lexemes.Lexeme.TheVariants as word
-use Rattle.plan_file.specs.declared.wants.Want.{Want}
-use Rattle.plan_file.specs.declared.wants.Want.TheVariants.{Word, Condition, Divisor, Shift, Target, Open, Block}
+use Rattle.plan_file.specs.declared.wants.Want.{Want, TheVariants.{Word, Condition, Divisor, Shift, Target, Open, Block}}
 
 -- the operands of a function, the right one first
 abbrev pub operands : Op → List Want

@@ -1,17 +1,11 @@
 //! A line `fold` as it is read.
 
 ghost use Rattle.std.specs.Prelude.{◌≡◌, ◌≤◌, ℕ, true, false, length, MatchOption, IfOk};
-ghost use Rattle.query_lang.specs.declared.fold.TypedFold.{TypedFold};
-ghost use Rattle.query_lang.specs.declared.typed.Class.{Class};
-ghost use Rattle.query_lang.specs.Folds.{IsValidFold, fold_block};
-ghost use Rattle.fold_class.specs.Kinds.{class_of};
-ghost use Rattle.fold_class.specs.Depth.{IsDepth};
+ghost use Rattle.query_lang.specs.{declared.{fold.TypedFold.TypedFold, typed.Class.Class}, Folds.{IsValidFold, fold_block}};
+ghost use Rattle.fold_class.specs.{Kinds.class_of, Depth.IsDepth};
 ghost use Rattle.stage_plan.specs.Shape.{class_word};
-ghost use Rattle.plan_file.specs.Finding.{Finds};
-ghost use Rattle.plan_file.specs.declared.made.Folded.{Folded};
-ghost use Rattle.plan_file.specs.FoldLines.{IsFoldOf, IsFoldWords, AreBounds, IsFoldLine};
-ghost use Rattle.plan_file.specs.FoldSaid.{folded_as};
-ghost use Rattle.plan_file.specs.Lines.{IsGroupWithin};
+ghost use Rattle.plan_file.specs.{Finding.Finds, declared.made.Folded.Folded, FoldLines.{IsFoldOf, IsFoldWords, AreBounds, IsFoldLine}};
+ghost use Rattle.plan_file.specs.{FoldSaid.folded_as, Lines.IsGroupWithin};
 
 use crate::lexis::{cut_at_space, number};
 use crate::made::Group;

@@ -1,9 +1,7 @@
 //! The lines of a group, from `group` to `body`, as they are read.
 
 ghost use Rattle.std.specs.Prelude.{◌≡◌, ◌≤◌, ◌+◌, ◌<◌, ◌^◌, length, true, false, Contains, IfOk};
-ghost use Rattle.plan_file.specs.Finding.{Finds};
-ghost use Rattle.plan_file.specs.InPlace.{Makes};
-ghost use Rattle.plan_file.specs.Bodies.{IsBodyLine};
+ghost use Rattle.plan_file.specs.{Finding.Finds, InPlace.Makes, Bodies.IsBodyLine};
 ghost use Rattle.plan_file.specs.Groups as Groups;
 ghost use Rattle.plan_file.specs.Groups.{names_of, IsGroupLine, IsNewIn, IsKeyLine, IsArgLine, IsStateLine, IsGroupBody, IsInGroup};
 

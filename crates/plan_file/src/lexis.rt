@@ -1,7 +1,6 @@
 //! Lines, tokens, numbers and operands as they are read.
 
-ghost use Rattle.std.specs.Prelude.{◌≡◌, ◌+◌, ◌<◌, ◌≤◌, if◌then◌else◌, ◌∷◌, [], true, length};
-ghost use Rattle.std.specs.Prelude.{MatchOption, IfSome, drop};
+ghost use Rattle.std.specs.Prelude.{◌≡◌, ◌+◌, ◌<◌, ◌≤◌, if◌then◌else◌, ◌∷◌, [], true, length, MatchOption, IfSome, drop};
 ghost use Rattle.std.specs.List.{list_all, slice_split};
 ghost use Rattle.query_lang.specs.Lexis.{is_digit};
 ghost use Rattle.plan_file.specs.Lexis as Lexis;

@@ -1,12 +1,10 @@
 //! Lines with a word, a name and an operand or a number, as they are read.
 
-ghost use Rattle.std.specs.Prelude.{◌≡◌, ◌≤◌, ◌∷◌, [], List, ℕ, true, false, codes, length, MatchOption};
-ghost use Rattle.std.specs.List.{list_all};
+ghost use Rattle.std.specs.{Prelude.{◌≡◌, ◌≤◌, ◌∷◌, [], List, ℕ, true, false, codes, length, MatchOption}, List.list_all};
 ghost use Rattle.query_lang.specs.Lexis.{is_word_byte};
 ghost use Rattle.plan_file.specs.Finding.{Finds};
 ghost use Rattle.plan_file.specs.Lexis as Lexis;
-ghost use Rattle.plan_file.specs.Lexis.{tokens};
-ghost use Rattle.plan_file.specs.Named.{IsNamedNumber, IsNamedOperand, IsOneNumber, IsOneOperand};
+ghost use Rattle.plan_file.specs.{Lexis.tokens, Named.{IsNamedNumber, IsNamedOperand, IsOneNumber, IsOneOperand}};
 
 use crate::lexis::{cut_at_space, number};
 use crate::operations::operand;

@@ -2,8 +2,7 @@
 
 ghost use Rattle.std.specs.Prelude.{◌≡◌, ◌<◌, IfOk};
 ghost use Rattle.marple_base.specs.Field.{number_of};
-ghost use Rattle.plan_file.specs.Finding.{Finds};
-ghost use Rattle.plan_file.specs.Operations.{IsReadsLine};
+ghost use Rattle.plan_file.specs.{Finding.Finds, Operations.IsReadsLine};
 
 use crate::lexis::first_token;
 use marple_base::{FIELDS, Field, Seq};

@@ -1,9 +1,7 @@
 //! The lines of a text, in sequence.
 
 ghost use Rattle.std.specs.Prelude.{◌≡◌, ◌≤◌, ◌<◌, ◌+◌, ℕ, length, slice_get, IfSome, MatchOption, MatchResult, Some};
-ghost use Rattle.plan_file.specs.Lexis.{lines};
-ghost use Rattle.plan_file.specs.Lines.{nothing as nothing_made};
-ghost use Rattle.plan_file.specs.Texts.{IsAfterLines, IsLineStart, Says, IsRefused};
+ghost use Rattle.plan_file.specs.{Lexis.lines, Lines.{nothing as nothing_made}, Texts.{IsAfterLines, IsLineStart, Says, IsRefused}};
 
 use crate::lexis::cut_at_line_feed;
 use crate::lines::{nothing, one_more};

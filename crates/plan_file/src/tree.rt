@@ -1,12 +1,10 @@
 //! The statements of a body as a tree. It is built only for bodies within the bounds of a fold, so it isn't deep.
 
-ghost use Rattle.std.specs.Prelude.{◌≡◌, ◌≤◌, ◌↔◌, IsTrue, true, false, ◌+◌, ◌-◌, ◌<◌, ◌++◌, ◌∷◌, []};
-ghost use Rattle.std.specs.Prelude.{List, length, count_by, IfOk, IfSome, MatchOption};
-ghost use Rattle.query_lang.specs.Blocks.{Block, End, Fork, Set, block_of, stmt_block};
-ghost use Rattle.query_lang.specs.Terms.{Term, term_of};
+ghost use Rattle.std.specs.Prelude.{◌≡◌, ◌≤◌, ◌↔◌, IsTrue, true, false, ◌+◌, ◌-◌, ◌<◌, ◌++◌, ◌∷◌, [], List, length, count_by, IfOk, IfSome};
+ghost use Rattle.std.specs.Prelude.{MatchOption};
+ghost use Rattle.query_lang.specs.{Blocks.{Block, End, Fork, Set, block_of, stmt_block}, Terms.{Term, term_of}};
 ghost use Rattle.query_lang.specs.Folds.{IsValidTerm, IsValidBlock, block_nodes, block_count};
-ghost use Rattle.plan_file.specs.declared.lexemes.Lexeme.{Lexeme};
-ghost use Rattle.plan_file.specs.Bodies.{written, written_block, IsBody};
+ghost use Rattle.plan_file.specs.{declared.lexemes.Lexeme.Lexeme, Bodies.{written, written_block, IsBody}};
 ghost use Rattle.plan_file.specs.Trees as Trees;
 ghost use Rattle.plan_file.specs.Trees.{AreSmall, Closes, IsStatement, is_leaf, first_of};
 

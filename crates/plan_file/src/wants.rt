@@ -1,13 +1,12 @@
 //! A body is read token by token, with a stack of what is still expected: so a deep expression needs no deep recursion.
 
-ghost use Rattle.std.specs.Prelude.{◌≡◌, ◌+◌, ◌++◌, ◌^◌, ◌<◌, ◌∷◌, [], true, false, ◌≤◌, Some};
-ghost use Rattle.std.specs.Prelude.{MatchBool, IfOk};
+ghost use Rattle.std.specs.Prelude.{◌≡◌, ◌+◌, ◌++◌, ◌^◌, ◌<◌, ◌∷◌, [], true, false, ◌≤◌, Some, MatchBool, IfOk};
 ghost use Rattle.query_lang.specs.Blocks as blocks;
 ghost use Rattle.query_lang.specs.Folds as Folds;
 ghost use Rattle.plan_file.specs.Bodies.{IsBody};
 ghost use Rattle.plan_file.specs.Wants as Wants;
-ghost use Rattle.plan_file.specs.Wants.{past_word, after_condition, after_number, after_target, after_open, after_if};
-ghost use Rattle.plan_file.specs.Wants.{after_block, past, GoesOn, Steps, Sticks};
+ghost use Rattle.plan_file.specs.Wants.{past_word, after_condition, after_number, after_target, after_open, after_if, after_block, past};
+ghost use Rattle.plan_file.specs.Wants.{GoesOn, Steps, Sticks};
 
 use crate::lexemes::Lexeme;
 use query_lang::{MAX_NESTING, Op};

@@ -1,17 +1,13 @@
 -- The statements that tokens write are read from them.
 use Rattle.std.proofs.Common.{◌≡◌, ℕ, zero, suc, ◌+◌, ◌-◌, ◌≤◌, Bool, true, false, List, [], ◌∷◌, ◌++◌, length, drop, refl, sym, ap, ◌∙◌}
-use Rattle.std.proofs.Common.{arith, append_assoc, append-nil, length-append}
+use Rattle.std.proofs.{Common.{arith, append_assoc, append-nil, length-append}, lemmas.Bool.Decides.nat_tests}
 use Rattle.std.specs.Prelude.{nat_lt, if◌then◌else◌}
-use Rattle.std.proofs.lemmas.Bool.Decides.{nat_tests}
-use Rattle.query_lang.specs.Terms.{Term, Literal, Read, Negation, Operation, term_of}
-use Rattle.query_lang.specs.Blocks.{Block, End, Set, Fork, block_of, followed}
+use Rattle.query_lang.specs.{Terms.{Term, Literal, Read, Negation, Operation, term_of}, Blocks.{Block, End, Set, Fork, block_of, followed}}
 use Rattle.query_lang.proofs.TreeLemmas.{term_number, term_slot, term_not, term_binary, block_assign, block_if}
 use Rattle.plan_file.specs.declared.lexemes.Lexeme.{Lexeme}
 use Rattle.plan_file.specs.declared.lexemes.Lexeme.TheVariants as word
-use Rattle.plan_file.specs.Bodies.{slot_lexeme, written, written_block, IsBody}
-use Rattle.plan_file.specs.Trees.{Closes}
-use Rattle.plan_loader.specs.Loaded.{BodiesAreRead}
-use Rattle.plan_loader.specs.Reading.{Front, read_term, read_block, block_written, expr_for, stmts_for}
+use Rattle.plan_file.specs.{Bodies.{slot_lexeme, written, written_block, IsBody}, Trees.Closes}
+use Rattle.plan_loader.specs.{Loaded.BodiesAreRead, Reading.{Front, read_term, read_block, block_written, expr_for, stmts_for}}
 
 abbrev front : {A : Type 0} → A → List Lexeme → Front A
 front found left = record { found = found; left = left }

@@ -1,25 +1,13 @@
 -- All folds of a group have its body, and so the class, the depth and the folding of the fold that the text gives.
-use Rattle.std.proofs.Common.{◌≡◌, ℕ, List, [], length, Option, refl, sym, ap, ◌∙◌, subst}
+use Rattle.std.proofs.{Common.{◌≡◌, ℕ, List, [], length, Option, refl, sym, ap, ◌∙◌, subst}, lemmas.List.length-replicate}
 use Rattle.std.specs.Prelude.{unwrap_or, Bool, IfSome}
-use Rattle.std.proofs.lemmas.List.{length-replicate}
-use Rattle.query_lang.specs.Blocks.{Block}
-use Rattle.query_lang.specs.declared.fold.TypedFold.{TypedFold}
-use Rattle.query_lang.specs.Folds.{after, body, fold_block, fold_states}
+use Rattle.query_lang.specs.{Blocks.Block, declared.fold.TypedFold.TypedFold, Folds.{after, body, fold_block, fold_states}}
 use Rattle.epoch_entry.specs.Foldings.{folding_of, per_epoch}
 use Rattle.epoch_model.specs.Tables.{Folding}
-use Rattle.fold_class.specs.Depth.{IsDepth}
-use Rattle.fold_class.specs.Kinds.{algebra_of, class_of}
-use Rattle.plan_file.specs.declared.lexemes.Lexeme.{Lexeme}
-use Rattle.plan_file.specs.declared.made.Folded.{Folded}
-use Rattle.plan_file.specs.declared.made.Group.{Group}
-use Rattle.plan_file.specs.Bodies.{IsBody}
-use Rattle.plan_file.specs.FoldLines.{IsFoldOf}
-use Rattle.plan_file.specs.Lines.{IsGroupWithin}
-use Rattle.plan_file.proofs.SameFold.{algebra_same, class_same, depth_once, depth_same}
-use Rattle.plan_loader.specs.Meaning.{block_in, fold_in}
-use Rattle.plan_loader.specs.Parts.{IsWhole}
-use Rattle.plan_loader.specs.Reading.{block_written}
-use Rattle.plan_loader.proofs.BodyReading.{bodies, stmts_same}
+use Rattle.fold_class.specs.{Depth.IsDepth, Kinds.{algebra_of, class_of}}
+use Rattle.plan_file.specs.{declared.{lexemes.Lexeme.Lexeme, made.{Folded.Folded, Group.Group}}, Bodies.IsBody, FoldLines.IsFoldOf}
+use Rattle.plan_file.{specs.Lines.IsGroupWithin, proofs.SameFold.{algebra_same, class_same, depth_once, depth_same}}
+use Rattle.plan_loader.{specs.{Meaning.{block_in, fold_in}, Parts.IsWhole, Reading.block_written}, proofs.BodyReading.{bodies, stmts_same}}
 
 -- the body of a group's fold is read from its tokens
 pub block_is : (group : Group) (f : TypedFold) → IsFoldOf group f → fold_block f ≡ block_in group

@@ -1,9 +1,7 @@
 -- A text has one fault at most.
 use Rattle.std.proofs.Common.{◌≡◌, ℕ, Some, None, refl, sym, ap, ◌∙◌}
-use Rattle.query_lang.specs.declared.fault.FaultKind.{FaultKind}
-use Rattle.query_lang.specs.declared.fault.QueryFault.{QueryFault}
-use Rattle.plan_file.proofs.LineLaws.{makes_one}
-use Rattle.plan_file.proofs.TextLaws.{not_refused, place_once}
+use Rattle.query_lang.specs.declared.fault.{FaultKind.FaultKind, QueryFault.QueryFault}
+use Rattle.plan_file.proofs.{LineLaws.makes_one, TextLaws.{not_refused, place_once}}
 use Rattle.plan_loader.specs.Faults.{OnePlanFault}
 
 pub one_fault : OnePlanFault

@@ -1,27 +1,16 @@
 -- What the lines of a valid text make is sound.
 use Rattle.std.proofs.Common.{◌≡◌, ℕ, ◌+◌, ◌<◌, ◌≤◌, List, [], ◌∷◌, ◌++◌, length, Option, Some, None, refl, sym, subst, arith}
-use Rattle.std.specs.Prelude.{IfSome, All}
-use Rattle.std.proofs.lemmas.List.{length_push}
-use Rattle.std.proofs.lemmas.List.Elements.{All-nil, All-push, All-weaker}
-use Rattle.marple_base.specs.declared.field.Field.{Field}
-use Rattle.marple_base.specs.declared.field.TheConstants.{FIELDS}
+use Rattle.std.{proofs.lemmas.List.{length_push, Elements.{All-nil, All-push, All-weaker}}, specs.Prelude.{IfSome, All}}
+use Rattle.marple_base.specs.declared.field.{Field.Field, TheConstants.FIELDS}
 use Rattle.query_lang.specs.declared.fault.TheConstants.{MAX_ARGS, MAX_GROUPBYS, MAX_KEYS, MAX_STATES}
-use Rattle.stage_plan.specs.declared.op.PlanOp.{PlanOp}
-use Rattle.stage_plan.specs.Sound.{AreSoundOps, IsWithin}
-use Rattle.plan_file.specs.declared.lexemes.Lexeme.{Lexeme}
-use Rattle.plan_file.specs.declared.line_word.LineWord.{LineWord}
+use Rattle.stage_plan.specs.{declared.op.PlanOp.PlanOp, Sound.{AreSoundOps, IsWithin}}
+use Rattle.plan_file.specs.declared.{lexemes.Lexeme.Lexeme, line_word.LineWord.LineWord}
 use Rattle.plan_file.specs.declared.line_word.LineWord.TheVariants as words
-use Rattle.plan_file.specs.declared.made.Folded.{Folded}
-use Rattle.plan_file.specs.declared.made.Group.{Group}
-use Rattle.plan_file.specs.declared.made.Made.{Made}
-use Rattle.plan_file.specs.FoldLines.{IsFoldLine, IsFoldOf}
-use Rattle.plan_file.specs.Groups.{IsInGroup, IsKeyLine, IsArgLine, IsStateLine, IsGroupBody, group_with}
-use Rattle.plan_file.specs.Lexis.{lines}
-use Rattle.plan_file.specs.Lines.{nothing, IsLineOf, IsFirst, IsReads, IsOp, IsGroup, IsPart, IsFold, IsPrint}
-use Rattle.plan_file.specs.LineWords.{line_word}
+use Rattle.plan_file.specs.{declared.made.{Folded.Folded, Group.Group, Made.Made}, FoldLines.{IsFoldLine, IsFoldOf}}
+use Rattle.plan_file.specs.{Groups.{IsInGroup, IsKeyLine, IsArgLine, IsStateLine, IsGroupBody, group_with}, Lexis.lines}
+use Rattle.plan_file.specs.{Lines.{nothing, IsLineOf, IsFirst, IsReads, IsOp, IsGroup, IsPart, IsFold, IsPrint}, LineWords.line_word}
 use Rattle.plan_file.specs.Texts.{Make, Says}
-use Rattle.plan_loader.specs.Parts.{IsSoundFolded, IsSoundMade}
-use Rattle.plan_loader.proofs.SoundOps.{known_within, ops_more}
+use Rattle.plan_loader.{specs.Parts.{IsSoundFolded, IsSoundMade}, proofs.SoundOps.{known_within, ops_more}}
 
 -- a group while its lines are read, where there are this many registers
 record IsBegun (registers : ℕ) (group : Group) : Type 0 where

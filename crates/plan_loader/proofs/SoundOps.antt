@@ -1,24 +1,15 @@
 -- The operations that the lines of a valid text make are those of a plan.
 use Rattle.std.proofs.Common.{◌≡◌, ℕ, suc, ◌+◌, ◌-◌, ◌<◌, ◌≤◌, max, List, [], ◌∷◌, ◌++◌, length, map, Option, Some, None, refl, sym, ap}
-use Rattle.std.proofs.Common.{ap₂, ◌∙◌, subst, inl, inr, arith}
-use Rattle.std.specs.Prelude.{slice_get, nat_lt, if◌then◌else◌, option_map, unwrap_or, Contains, All}
-use Rattle.std.proofs.lemmas.Bool.{cases_lt}
-use Rattle.std.proofs.lemmas.List.{length_push}
+use Rattle.std.proofs.{Common.{ap₂, ◌∙◌, subst, inl, inr, arith}, lemmas.{Bool.cases_lt, List.length_push}}
 use Rattle.std.proofs.lemmas.List.Elements.{All-contains, All-map, All-nil, All-cons}
 use Rattle.std.proofs.lemmas.Option.{slice_get_within, slice_get_cases, same_Some}
+use Rattle.std.specs.Prelude.{slice_get, nat_lt, if◌then◌else◌, option_map, unwrap_or, Contains, All}
 use Rattle.marple_base.specs.declared.field.Field.{Field}
 use Rattle.marple_base.specs.declared.field.Field.TheVariants as fields
-use Rattle.marple_base.specs.Field.{number_of}
-use Rattle.marple_base.specs.declared.field.TheConstants.{FIELDS}
+use Rattle.marple_base.specs.{Field.number_of, declared.field.TheConstants.FIELDS}
 use Rattle.query_lang.specs.declared.fault.TheConstants.{MAX_STAGES}
-use Rattle.stage_plan.specs.declared.op.Operand.{Operand}
-use Rattle.stage_plan.specs.declared.op.Operand.TheVariants.{Register, Number}
-use Rattle.stage_plan.specs.declared.op.PlanOp.{PlanOp}
-use Rattle.stage_plan.specs.Registers.{operand_stage}
-use Rattle.stage_plan.specs.Sound.{AreSoundOps, IsSoundOp, IsWithin}
-use Rattle.stage_plan.proofs.Depths.{same_stage}
-use Rattle.stage_plan.proofs.Lists.{push_cases}
-use Rattle.stage_plan.proofs.Runs.{within_more}
+use Rattle.stage_plan.specs.{declared.op.{Operand.{Operand, TheVariants.{Register, Number}}, PlanOp.PlanOp}, Registers.operand_stage}
+use Rattle.stage_plan.{specs.Sound.{AreSoundOps, IsSoundOp, IsWithin}, proofs.{Depths.same_stage, Lists.push_cases, Runs.within_more}}
 use Rattle.stage_plan.proofs.Extending.{one_more}
 use Rattle.plan_file.specs.Operations.{IsKnown, IsAllowed, last_stage, stage_at, stage_of}
 

@@ -1,20 +1,14 @@
 -- The plan of what a valid text makes is sound, with the sizes that the text gives.
 use Rattle.std.proofs.Common.{◌≡◌, ℕ, zero, suc, ◌+◌, List, [], ◌∷◌, ◌++◌, length, map, Some, None, refl, sym, ap, ap₂, ◌∙◌, subst, arith}
-use Rattle.std.specs.Prelude.{slice_get, option_map, All}
-use Rattle.std.specs.List.{AllZip}
-use Rattle.std.proofs.lemmas.List.{length-map}
-use Rattle.std.proofs.lemmas.List.Elements.{All-get_or, All-head, All-tail, All-weaker}
+use Rattle.std.proofs.lemmas.List.{length-map, Elements.{All-get_or, All-head, All-tail, All-weaker}}
 use Rattle.std.proofs.lemmas.Option.{get_or_from_slice_get, same_Some, slice_get-map, slice_get_within}
+use Rattle.std.specs.{Prelude.{slice_get, option_map, All}, List.AllZip}
 use Rattle.marple_base.specs.declared.field.TheConstants.{FIELDS}
 use Rattle.fold_class.specs.Kinds.{algebra_of}
-use Rattle.stage_plan.specs.declared.group.GroupPlan.{GroupPlan}
-use Rattle.stage_plan.specs.declared.op.PlanOp.{PlanOp}
-use Rattle.stage_plan.specs.Planned.{shape_of}
-use Rattle.stage_plan.specs.Registers.{stages_of}
+use Rattle.stage_plan.specs.{declared.{group.GroupPlan.GroupPlan, op.PlanOp.PlanOp}, Planned.shape_of, Registers.stages_of}
 use Rattle.stage_plan.specs.Shape.{GroupShape, PlanShape, group_shape, sizes_of}
 use Rattle.stage_plan.specs.Sound.{PlanParts, AreSoundOps, IsSoundGroup, IsSoundPlan}
-use Rattle.plan_file.specs.declared.made.Folded.{Folded}
-use Rattle.plan_file.specs.declared.made.Made.{Made}
+use Rattle.plan_file.specs.declared.made.{Folded.Folded, Made.Made}
 use Rattle.plan_loader.specs.Meaning.{fold_in, shape_in, text_shape, wiring_in}
 use Rattle.plan_loader.specs.Parts.{AreGroupsFrom, IsGroupFrom, IsPlanFrom, IsSoundFolded, IsSoundMade, IsWhole}
 use Rattle.plan_loader.proofs.Folds.{algebras, classes, depths, fold_in_is}

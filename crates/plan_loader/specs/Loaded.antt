@@ -1,14 +1,9 @@
 -- What is read from a plan's text, and the laws of reading.
 use Rattle.std.specs.Prelude.{◌≡◌, ℕ, List}
 use Rattle.query_lang.specs.Blocks.{Block, block_of}
-use Rattle.plan_file.specs.declared.made.Made.{Made}
-use Rattle.plan_file.specs.declared.lexemes.Lexeme.{Lexeme}
-use Rattle.plan_file.specs.Bodies.{IsBody}
-use Rattle.plan_file.specs.Texts.{Says}
+use Rattle.plan_file.specs.{declared.{made.Made.Made, lexemes.Lexeme.Lexeme}, Bodies.IsBody, Texts.Says}
 use Rattle.stage_plan.specs.Planned.{plan_bound, shape_of}
-use Rattle.plan_loader.specs.declared.loaded.LoadedPlan.{LoadedPlan}
-use Rattle.plan_loader.specs.Meaning.{text_bound, text_shape}
-use Rattle.plan_loader.specs.Parts.{IsPlanFrom, IsSoundMade}
+use Rattle.plan_loader.specs.{declared.loaded.LoadedPlan.LoadedPlan, Meaning.{text_bound, text_shape}, Parts.{IsPlanFrom, IsSoundMade}}
 use Rattle.plan_loader.specs.Reading.{block_written, stmts_for}
 
 -- a plan of what these lines make, with the sizes that they give, and the numbers of the groups that they print

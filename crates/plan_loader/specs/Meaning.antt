@@ -1,23 +1,16 @@
 -- What the text of a plan means, by what its lines make: the fields that it reads, what its groups take of packets,
 -- their folds and tables, and what it prints.
 use Rattle.std.specs.Prelude.{ℕ, List, [], length, map, replicate, flat_map, Option, None, unwrap_or}
-use Rattle.marple_base.specs.declared.field.FieldSet.{FieldSet}
-use Rattle.marple_base.specs.Field.{field_set}
-use Rattle.query_lang.specs.Blocks.{Block}
-use Rattle.query_lang.specs.declared.fold.TypedFold.{TypedFold}
-use Rattle.epoch_model.specs.Driving.{Taken, uses_taken}
-use Rattle.epoch_model.specs.Epochs.{Geometry, Use}
+use Rattle.marple_base.specs.{declared.field.FieldSet.FieldSet, Field.field_set}
+use Rattle.query_lang.specs.{Blocks.Block, declared.fold.TypedFold.TypedFold}
+use Rattle.epoch_model.specs.{Driving.{Taken, uses_taken}, Epochs.{Geometry, Use}}
 use Rattle.epoch_entry.specs.Foldings.{folding_of}
 use Rattle.fold_class.specs.Kinds.{algebra_of}
-use Rattle.final_queries.specs.declared.table.Table.{Table}
-use Rattle.final_queries.specs.GroupTable.{Heading, group_table}
+use Rattle.final_queries.specs.{declared.table.Table.Table, GroupTable.{Heading, group_table}}
 use Rattle.query_tables.specs.Tables.{table_text_at}
-use Rattle.stage_plan.specs.declared.group.GroupWiring.{GroupWiring}
-use Rattle.stage_plan.specs.Registers.{registers_after, stages_of, taken_at}
+use Rattle.stage_plan.specs.{declared.group.GroupWiring.GroupWiring, Registers.{registers_after, stages_of, taken_at}}
 use Rattle.stage_plan.specs.Shape.{GroupShape, PlanShape, bound_of, sizes_of}
-use Rattle.plan_file.specs.declared.made.Folded.{Folded}
-use Rattle.plan_file.specs.declared.made.Group.{Group}
-use Rattle.plan_file.specs.declared.made.Made.{Made}
+use Rattle.plan_file.specs.declared.made.{Folded.Folded, Group.Group, Made.Made}
 use Rattle.plan_loader.specs.Reading.{block_written, stmts_for}
 
 -- the fields that the `reads` line names

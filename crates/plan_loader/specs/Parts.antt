@@ -1,17 +1,10 @@
 -- The plan that a text makes, and what holds of all that the lines of a valid text make.
-use Rattle.std.specs.Prelude.{◌≡◌, ℕ, ◌+◌, ◌<◌, ◌≤◌, List, length, map, All}
-use Rattle.std.specs.List.{AllZip}
+use Rattle.std.specs.{Prelude.{◌≡◌, ℕ, ◌+◌, ◌<◌, ◌≤◌, List, length, map, All}, List.AllZip}
 use Rattle.marple_base.specs.declared.field.TheConstants.{FIELDS}
-use Rattle.query_lang.specs.declared.fold.TypedFold.{TypedFold}
-use Rattle.query_lang.specs.declared.fault.TheConstants.{MAX_ARGS, MAX_GROUPBYS, MAX_KEYS, MAX_STATES}
-use Rattle.fold_class.specs.Depth.{IsDepth}
-use Rattle.fold_class.specs.Kinds.{class_of}
-use Rattle.fold_class.specs.Program.{IsProgramOf}
-use Rattle.stage_plan.specs.declared.group.GroupPlan.{GroupPlan}
-use Rattle.stage_plan.specs.Sound.{PlanParts, AreSoundOps, IsWithin}
-use Rattle.plan_file.specs.declared.made.Folded.{Folded}
-use Rattle.plan_file.specs.declared.made.Made.{Made}
-use Rattle.plan_file.specs.FoldLines.{IsFoldOf, AreBounds}
+use Rattle.query_lang.specs.declared.{fold.TypedFold.TypedFold, fault.TheConstants.{MAX_ARGS, MAX_GROUPBYS, MAX_KEYS, MAX_STATES}}
+use Rattle.fold_class.specs.{Depth.IsDepth, Kinds.class_of, Program.IsProgramOf}
+use Rattle.stage_plan.specs.{declared.group.GroupPlan.GroupPlan, Sound.{PlanParts, AreSoundOps, IsWithin}}
+use Rattle.plan_file.specs.{declared.made.{Folded.Folded, Made.Made}, FoldLines.{IsFoldOf, AreBounds}}
 use Rattle.plan_loader.specs.Meaning.{reads_in, wiring_in}
 
 -- a fold of a group with the bounds that its `fold` line gives

@@ -1,10 +1,8 @@
 -- The statements that the tokens of a body write, read from the first token on. A count bounds how far is read; the number
 -- of tokens is enough.
 use Rattle.std.specs.Prelude.{ℕ, zero, suc, ◌+◌, List, [], ◌∷◌, drop, length}
-use Rattle.query_lang.specs.declared.fold.TypedExpr.{TypedExpr, Number, Slot, Not, Binary}
-use Rattle.query_lang.specs.declared.fold.TypedStmt.{TypedStmt, Assign, If}
-use Rattle.query_lang.specs.Terms.{Term, Literal, Read, Negation, Operation}
-use Rattle.query_lang.specs.Blocks.{Block, End, Set, Fork}
+use Rattle.query_lang.specs.declared.fold.{TypedExpr.{TypedExpr, Number, Slot, Not, Binary}, TypedStmt.{TypedStmt, Assign, If}}
+use Rattle.query_lang.specs.{Terms.{Term, Literal, Read, Negation, Operation}, Blocks.{Block, End, Set, Fork}}
 use Rattle.plan_file.specs.declared.lexemes.Lexeme.{Lexeme}
 use Rattle.plan_file.specs.declared.lexemes.Lexeme.TheVariants as word
 

@@ -4,8 +4,7 @@ ghost use Rattle.std.specs.Prelude.{◌≡◌, map, unwrap_or, [], All, IfOk};
 ghost use Rattle.marple_base.specs.Field.{field_set};
 ghost use Rattle.query_lang.specs.declared.fold.TypedFold.{TypedFold as AnyFold};
 ghost use Rattle.fold_class.specs.Program.{IsProgramOf};
-ghost use Rattle.plan_loader.specs.Meaning.{wiring_in};
-ghost use Rattle.plan_loader.specs.Parts.{AreGroupsFrom, IsFoldIn, IsGroupFrom, IsWhole};
+ghost use Rattle.plan_loader.specs.{Meaning.wiring_in, Parts.{AreGroupsFrom, IsFoldIn, IsGroupFrom, IsWhole}};
 
 use fold_class::{FoldProgram, classify};
 use fold_code::compile;

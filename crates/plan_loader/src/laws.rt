@@ -1,7 +1,6 @@
 //! Laws of the texts of plans.
 
-ghost use Rattle.plan_loader.specs.Faults.{OnePlanFault};
-ghost use Rattle.plan_loader.specs.Loaded.{BodiesAreRead, TextsSayOne};
+ghost use Rattle.plan_loader.specs.{Faults.OnePlanFault, Loaded.{BodiesAreRead, TextsSayOne}};
 
 /// The statements of a body are read from its tokens.
 pub fn bodies_are_read()

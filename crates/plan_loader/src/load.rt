@@ -2,9 +2,7 @@
 
 ghost use Rattle.std.specs.Prelude.{◌≡◌, ℕ, IfOk, MatchResult};
 ghost use Rattle.plan_file.specs.Texts.{IsBadAt, IsOnlyAnswer, IsRefused};
-ghost use Rattle.plan_loader.specs.Loaded.{HasBoundOf, IsLoaded, IsLoadedFrom};
-ghost use Rattle.plan_loader.specs.Meaning.{reads_in};
-ghost use Rattle.plan_loader.specs.Parts.{IsSoundMade};
+ghost use Rattle.plan_loader.specs.{Loaded.{HasBoundOf, IsLoaded, IsLoadedFrom}, Meaning.reads_in, Parts.IsSoundMade};
 
 use crate::groups::{set_read, wired_groups};
 use crate::loaded::LoadedPlan;

@@ -1,7 +1,6 @@
 -- Lines of names and last words that are written in sequence.
 use Rattle.std.proofs.Common.{◌≡◌, ℕ, ◌≤◌, List, [], ◌∷◌, ◌++◌, length, drop, map, min, sym, ap, ◌∙◌, arith, append-nil, refl, inl, inr}
-use Rattle.std.proofs.lemmas.List.{drop_all}
-use Rattle.std.proofs.lemmas.Bool.{cases_lt}
+use Rattle.std.proofs.lemmas.{List.drop_all, Bool.cases_lt}
 use Rattle.plan_writer.specs.PlanText.{named_lines}
 
 no_names : (word : List ℕ) (lasts : List (List ℕ)) → named_lines word [] lasts ≡ []

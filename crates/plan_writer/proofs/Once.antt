@@ -1,16 +1,12 @@
 -- Each operation occurs once in the order of stages, and so the registers of operations are those of their places.
 use Rattle.std.proofs.Common.{◌≡◌, ℕ, zero, suc, ◌+◌, ◌-◌, ◌<◌, ◌≤◌, ◌==◌, Bool, true, false, cond, eqb, List, [], ◌∷◌, ◌++◌, length}
-use Rattle.std.proofs.Common.{get_or, Some, None, refl, sym, ap, subst, ◌∙◌, inl, inr, ◌⊎◌, arith}
-use Rattle.std.specs.Prelude.{slice_get}
-use Rattle.std.specs.List.{position_or_len}
-use Rattle.std.proofs.lemmas.Bool.Decides.{nat_tests}
-use Rattle.std.proofs.lemmas.Grind.{same_number_lists}
-use Rattle.std.proofs.lemmas.List.Sums.{position_or_len_is}
+use Rattle.std.proofs.{Common.{get_or, Some, None, refl, sym, ap, subst, ◌∙◌, inl, inr, ◌⊎◌, arith}, lemmas.Bool.Decides.nat_tests}
+use Rattle.std.proofs.lemmas.{Grind.same_number_lists, List.Sums.position_or_len_is}
 use Rattle.std.proofs.lemmas.List.FromFn.{get_or-map-range_with_len, length-map-range_with_len}
-use Rattle.std.proofs.lemmas.Option.{slice_get_within, same_Some, slice_get-get_or, get_or_from_slice_get}
+use Rattle.std.{proofs.lemmas.Option.{slice_get_within, same_Some, slice_get-get_or, get_or_from_slice_get}, specs.Prelude.slice_get}
+use Rattle.std.specs.List.{position_or_len}
 use Rattle.marple_base.specs.declared.field.TheConstants.{FIELDS}
-use Rattle.stage_plan.specs.declared.op.PlanOp.{PlanOp}
-use Rattle.stage_plan.specs.Ordering.{numbers_at, order_of, IsPlaced, ArePlaced}
+use Rattle.stage_plan.specs.{declared.op.PlanOp.PlanOp, Ordering.{numbers_at, order_of, IsPlaced, ArePlaced}}
 use Rattle.stage_plan.proofs.Sorted.{ordered, Has, order_has, Staged}
 use Rattle.plan_writer.specs.Ordered.{register_in, registers_in}
 

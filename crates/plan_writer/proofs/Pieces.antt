@@ -1,17 +1,10 @@
 -- Pieces of a line that are written in sequence.
 use Rattle.std.proofs.Common.{◌≡◌, ℕ, ◌+◌, ◌<◌, ◌≤◌, List, [], ◌∷◌, ◌++◌, length, get_or, drop, sym, ap, ◌∙◌, append_assoc, append-nil}
+use Rattle.std.proofs.lemmas.{List.{drop_more, drop_all, map-append, take_more, Elements.filter-append}, Grind.flat_map-append}
 use Rattle.std.specs.Prelude.{codes, map, filter, take}
-use Rattle.std.proofs.lemmas.List.{drop_more, drop_all, map-append, take_more}
-use Rattle.std.proofs.lemmas.List.Elements.{filter-append}
-use Rattle.marple_base.specs.declared.field.Field.{Field}
-use Rattle.marple_base.specs.declared.field.FieldSet.{FieldSet}
-use Rattle.marple_base.specs.Field.{field_name, has_field}
-use Rattle.std.proofs.lemmas.Grind.{flat_map-append}
-use Rattle.query_lang.specs.declared.fold.TypedExpr.{TypedExpr}
-use Rattle.query_lang.specs.declared.fold.TypedStmt.{TypedStmt, Assign, If}
-use Rattle.query_lang.specs.Terms.{term_of}
-use Rattle.query_lang.specs.Blocks.{Block, End, Set, Fork, followed, stmt_block, block_of}
-use Rattle.query_lang.proofs.TreeLemmas.{block_assign, block_if}
+use Rattle.marple_base.specs.{declared.field.{Field.Field, FieldSet.FieldSet}, Field.{field_name, has_field}}
+use Rattle.query_lang.specs.{declared.fold.{TypedExpr.TypedExpr, TypedStmt.{TypedStmt, Assign, If}}, Terms.term_of}
+use Rattle.query_lang.{specs.Blocks.{Block, End, Set, Fork, followed, stmt_block, block_of}, proofs.TreeLemmas.{block_assign, block_if}}
 use Rattle.plan_writer.specs.Words.{spaced, state_word, term_words, block_words}
 
 pub after_both : (xs ys : List (List ℕ)) → spaced (xs ++ ys) ≡ spaced xs ++ spaced ys

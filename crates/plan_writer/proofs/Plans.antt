@@ -1,38 +1,19 @@
 -- The operations and the wiring of each plan of a query are those that its text has.
 use Rattle.std.proofs.Common.{◌≡◌, ℕ, zero, suc, ◌+◌, ◌<◌, ◌≤◌, get_or, List, [], ◌∷◌, ◌++◌, length, Option, Some, None, refl, sym, ap}
-use Rattle.std.proofs.Common.{subst, ◌∙◌, arith, append_assoc, append-nil}
-use Rattle.std.specs.List.{range_with_len}
-use Rattle.std.specs.Prelude.{All, map, flat_map, codes, take, slice_get, option_map, option_and_then}
-use Rattle.std.proofs.lemmas.Grind.{flat_map-append}
-use Rattle.std.proofs.lemmas.List.{take_more}
+use Rattle.std.proofs.{Common.{subst, ◌∙◌, arith, append_assoc, append-nil}, lemmas.{Grind.flat_map-append, List.take_more}}
 use Rattle.std.proofs.lemmas.Option.{slice_get-map, same_Some, slice_get_within, slice_get-get_or, get_or_from_slice_get}
-use Rattle.marple_base.specs.declared.field.FieldSet.{FieldSet}
-use Rattle.marple_base.specs.Field.{field_name}
-use Rattle.query_lang.specs.declared.typed.PrintOf.{PrintOf}
+use Rattle.std.specs.{List.range_with_len, Prelude.{All, map, flat_map, codes, take, slice_get, option_map, option_and_then}}
+use Rattle.marple_base.specs.{declared.field.FieldSet.FieldSet, Field.field_name}
+use Rattle.query_lang.specs.declared.{typed.{PrintOf.PrintOf, TypedOp.TypedOp}, fold.TypedFold.TypedFold}
 use Rattle.stage_plan.specs.Fields.{reads_of}
 use Rattle.plan_writer.specs.Words.{spaced, line}
-use Rattle.query_lang.specs.declared.fold.TypedFold.{TypedFold}
-use Rattle.query_lang.specs.declared.typed.TypedOp.{TypedOp}
 use Rattle.query_lang.specs.declared.typed.TypedOp.TheVariants as op
-use Rattle.query_lang.specs.declared.typed.TypedQuery.{TypedQuery}
-use Rattle.query_lang.specs.declared.typed.TypedStream.{TypedStream}
-use Rattle.query_lang.specs.Folds.{IsValidFold}
-use Rattle.query_lang.specs.Streams.{Taking, takings}
-use Rattle.query_lang.specs.TypedQueries.{AreValidStreams, IsValidOp, IsValidQuery}
-use Rattle.query_lang.specs.declared.fault.TheConstants.{MAX_STATES}
-use Rattle.stage_plan.specs.declared.group.GroupPlan.{GroupPlan}
-use Rattle.stage_plan.specs.declared.group.GroupWiring.{GroupWiring}
-use Rattle.stage_plan.specs.Depths.{packet_depths}
-use Rattle.stage_plan.specs.Making.{packet_wires}
-use Rattle.stage_plan.specs.Ordering.{moved_op, op_numbered, wiring_of}
-use Rattle.stage_plan.specs.Planned.{IsPlanOf, fold_at, query_made}
-use Rattle.stage_plan.specs.Registers.{stages_of}
-use Rattle.stage_plan.specs.Shape.{group_shape, query_groups}
-use Rattle.stage_plan.specs.Sound.{PlanParts}
-use Rattle.stage_plan.proofs.Deep.{AllMakes, all_make}
-use Rattle.stage_plan.proofs.Faults.{made_none, packets_at}
-use Rattle.stage_plan.proofs.Runs.{stage_below}
-use Rattle.stage_plan.proofs.Sorted.{Staged}
+use Rattle.query_lang.specs.{declared.typed.{TypedQuery.TypedQuery, TypedStream.TypedStream}, Folds.IsValidFold, Streams.{Taking, takings}}
+use Rattle.query_lang.specs.{TypedQueries.{AreValidStreams, IsValidOp, IsValidQuery}, declared.fault.TheConstants.MAX_STATES}
+use Rattle.stage_plan.specs.{declared.group.{GroupPlan.GroupPlan, GroupWiring.GroupWiring}, Depths.packet_depths, Making.packet_wires}
+use Rattle.stage_plan.specs.{Ordering.{moved_op, op_numbered, wiring_of}, Planned.{IsPlanOf, fold_at, query_made}, Registers.stages_of}
+use Rattle.stage_plan.{specs.{Shape.{group_shape, query_groups}, Sound.PlanParts}, proofs.Deep.{AllMakes, all_make}}
+use Rattle.stage_plan.proofs.{Faults.{made_none, packets_at}, Runs.stage_below, Sorted.Staged}
 use Rattle.plan_writer.specs.Ordered.{query_order, query_registers, query_ops, query_wiring}
 use Rattle.plan_writer.specs.PlanText.{fields_of, reads_line, op_line, print_line, compiled_text, group_lines, group_lines_of, group_text}
 use Rattle.plan_writer.proofs.Once.{registers_are}

@@ -1,14 +1,9 @@
 -- The operations and the wiring of the one plan that a query has.
-use Rattle.std.specs.Prelude.{ℕ, ◌+◌, ◌==◌, List, length, map}
-use Rattle.std.specs.List.{position_or_len, range_with_len}
+use Rattle.std.specs.{Prelude.{ℕ, ◌+◌, ◌==◌, List, length, map}, List.{position_or_len, range_with_len}}
 use Rattle.marple_base.specs.declared.field.TheConstants.{FIELDS}
-use Rattle.query_lang.specs.declared.typed.TypedQuery.{TypedQuery}
-use Rattle.query_lang.specs.Streams.{takings}
-use Rattle.stage_plan.specs.declared.op.PlanOp.{PlanOp}
-use Rattle.stage_plan.specs.declared.group.GroupWiring.{GroupWiring}
-use Rattle.stage_plan.specs.Ordering.{order_of, moved_op, op_numbered, wiring_of}
-use Rattle.stage_plan.specs.Planned.{query_made}
-use Rattle.stage_plan.specs.Registers.{stages_of}
+use Rattle.query_lang.specs.{declared.typed.TypedQuery.TypedQuery, Streams.takings}
+use Rattle.stage_plan.specs.declared.{op.PlanOp.PlanOp, group.GroupWiring.GroupWiring}
+use Rattle.stage_plan.specs.{Ordering.{order_of, moved_op, op_numbered, wiring_of}, Planned.query_made, Registers.stages_of}
 
 -- the numbers that a query's operations had as they were made, in ascending stage, and within a stage in the order in which they were made
 abbrev pub query_order : TypedQuery → List ℕ

@@ -1,26 +1,14 @@
 -- The text of a query's plan.
-use Rattle.std.specs.Prelude.{ℕ, List, [], ◌∷◌, ◌++◌, length, map, flat_map, filter, codes, decimal, slice_get, Option, Some}
-use Rattle.std.specs.Prelude.{None}
+use Rattle.std.specs.Prelude.{ℕ, List, [], ◌∷◌, ◌++◌, length, map, flat_map, filter, codes, decimal, slice_get, Option, Some, None}
 use Rattle.std.specs.List.{range_with_len}
-use Rattle.marple_base.specs.declared.field.Field.{Field}
-use Rattle.marple_base.specs.declared.field.FieldSet.{FieldSet}
-use Rattle.marple_base.specs.Field.{all_fields, field_name, has_field}
-use Rattle.query_lang.specs.declared.fault.FaultKind.TheVariants.{FinalInPlan}
-use Rattle.query_lang.specs.declared.fault.QueryFault.{QueryFault}
-use Rattle.query_lang.specs.declared.fold.TypedFold.{TypedFold}
+use Rattle.marple_base.specs.{declared.field.{Field.Field, FieldSet.FieldSet}, Field.{all_fields, field_name, has_field}}
+use Rattle.query_lang.specs.declared.{fault.{FaultKind.TheVariants.FinalInPlan, QueryFault.QueryFault}, fold.TypedFold.TypedFold}
 use Rattle.query_lang.specs.declared.typed.PrintOf.{PrintOf}
 use Rattle.query_lang.specs.declared.typed.PrintOf.TheVariants as printed
-use Rattle.query_lang.specs.declared.typed.TypedFinal.{TypedFinal}
-use Rattle.query_lang.specs.declared.typed.TypedQuery.{TypedQuery}
-use Rattle.query_lang.specs.Folds.{fold_block}
-use Rattle.query_lang.specs.Streams.{takings}
-use Rattle.stage_plan.specs.declared.op.PlanOp.{PlanOp}
-use Rattle.stage_plan.specs.declared.group.GroupWiring.{GroupWiring}
-use Rattle.stage_plan.specs.Fields.{reads_of}
-use Rattle.stage_plan.specs.Planned.{fold_at}
+use Rattle.query_lang.specs.{declared.typed.{TypedFinal.TypedFinal, TypedQuery.TypedQuery}, Folds.fold_block, Streams.takings}
+use Rattle.stage_plan.specs.{declared.{op.PlanOp.PlanOp, group.GroupWiring.GroupWiring}, Fields.reads_of, Planned.fold_at}
 use Rattle.stage_plan.specs.Shape.{GroupShape, class_word, query_groups}
-use Rattle.plan_writer.specs.Words.{line, operand_word, operation_words, block_words}
-use Rattle.plan_writer.specs.Ordered.{query_ops, query_wiring}
+use Rattle.plan_writer.specs.{Words.{line, operand_word, operation_words, block_words}, Ordered.{query_ops, query_wiring}}
 
 -- the fields of a set, in their order
 abbrev pub fields_of : FieldSet → List Field

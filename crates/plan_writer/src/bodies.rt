@@ -1,8 +1,7 @@
 //! The statements of a fold in prefix form.
 
 ghost use Rattle.std.specs.Prelude.{◌≡◌, ◌++◌, ◌∷◌, [], OnOk};
-ghost use Rattle.query_lang.specs.Blocks.{stmt_block, block_of};
-ghost use Rattle.query_lang.specs.Terms.{term_of};
+ghost use Rattle.query_lang.specs.{Blocks.{stmt_block, block_of}, Terms.term_of};
 ghost use Rattle.plan_writer.specs.Words.{spaced, slot_word, term_words, block_words};
 
 use crate::operations::function_name;

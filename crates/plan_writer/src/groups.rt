@@ -1,15 +1,10 @@
 //! The groupbys of a plan.
 
-ghost use Rattle.std.specs.Prelude.{◌≡◌, ℕ, ◌<◌, ◌≤◌, ◌∷◌, ◌++◌, [], Some, length, map, flat_map, codes};
-ghost use Rattle.std.specs.Prelude.{decimal, option_to_list, IfOk, OnOk};
-ghost use Rattle.std.specs.List.{range_with_len};
-ghost use Rattle.query_lang.specs.Folds.{fold_block};
-ghost use Rattle.query_lang.specs.Streams.{taking_of, takings};
-ghost use Rattle.query_lang.specs.TypedQueries.{IsValidQuery};
-ghost use Rattle.stage_plan.specs.Planned.{IsPlanOf, fold_at};
-ghost use Rattle.stage_plan.specs.Shape.{class_word, group_shape};
-ghost use Rattle.plan_writer.specs.Words.{spaced, line, operand_word, block_words};
-ghost use Rattle.plan_writer.specs.PlanText.{named_lines, group_lines, group_text};
+ghost use Rattle.std.specs.Prelude.{◌≡◌, ℕ, ◌<◌, ◌≤◌, ◌∷◌, ◌++◌, [], Some, length, map, flat_map, codes, decimal, option_to_list, IfOk};
+ghost use Rattle.std.specs.{Prelude.OnOk, List.range_with_len};
+ghost use Rattle.query_lang.specs.{Folds.fold_block, Streams.{taking_of, takings}, TypedQueries.IsValidQuery};
+ghost use Rattle.stage_plan.specs.{Planned.{IsPlanOf, fold_at}, Shape.{class_word, group_shape}};
+ghost use Rattle.plan_writer.specs.{Words.{spaced, line, operand_word, block_words}, PlanText.{named_lines, group_lines, group_text}};
 
 use crate::bodies::push_body;
 use crate::words::{push_number, push_operand, push_word};

@@ -2,8 +2,7 @@
 
 ghost use Rattle.std.specs.Prelude.{◌≡◌, ◌∷◌, ◌++◌, [], map, filter, flat_map, codes, decimal, OnOk};
 ghost use Rattle.marple_base.specs.Field.{field_name, has_field};
-ghost use Rattle.plan_writer.specs.Words.{spaced, line};
-ghost use Rattle.plan_writer.specs.PlanText.{reads_line, print_line};
+ghost use Rattle.plan_writer.specs.{Words.{spaced, line}, PlanText.{reads_line, print_line}};
 
 use crate::words::{push_number, push_word};
 use marple_base::{Field, FieldSet, Text};

@@ -1,8 +1,7 @@
 //! The operations of a plan.
 
 ghost use Rattle.std.specs.Prelude.{◌≡◌, ◌++◌, flat_map, OnOk};
-ghost use Rattle.plan_writer.specs.Words.{spaced, function_word, operation_words};
-ghost use Rattle.plan_writer.specs.PlanText.{op_line};
+ghost use Rattle.plan_writer.specs.{Words.{spaced, function_word, operation_words}, PlanText.op_line};
 
 use crate::words::{push_number, push_operand, push_word};
 use marple_base::Text;

@@ -1,10 +1,7 @@
 -- Queries that stay readable with more names or items.
 use Rattle.std.proofs.Common.{◌≡◌, ℕ, ◌+◌, ◌<◌, ◌≤◌, List, [], ◌∷◌, ◌++◌, length, take}
-use Rattle.std.specs.List.{All}
-use Rattle.std.proofs.lemmas.List.Elements.{All-nil, All-cons, All-append, All-take}
-use Rattle.query_lang.specs.declared.query.Item.{Item}
-use Rattle.query_lang.specs.declared.query.Query.{Query}
-use Rattle.query_lang.specs.Limits.{HasKeys, IsNumbered, IsReadable, KeepsLimits}
+use Rattle.std.{proofs.lemmas.List.Elements.{All-nil, All-cons, All-append, All-take}, specs.List.All}
+use Rattle.query_lang.specs.{declared.query.{Item.Item, Query.Query}, Limits.{HasKeys, IsNumbered, IsReadable, KeepsLimits}}
 use Rattle.query_types.proofs.ValidLaws.{item_more}
 
 pub first_readable : (q : Query) (count : ℕ) → IsReadable q

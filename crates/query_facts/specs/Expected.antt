@@ -1,11 +1,8 @@
 -- The tokens that may stand at the place of a fault of the grammar.
-use Rattle.std.specs.Prelude.{ℕ, ◌+◌, Bool, true, false, nat_lt, if◌then◌else◌, List, [], ◌∷◌, ◌++◌, codes, filter, length, take}
-use Rattle.std.specs.Prelude.{Option, Some, None, Result, Ok, Err}
-use Rattle.query_lang.specs.declared.fault.FaultKind.{FaultKind}
-use Rattle.query_lang.specs.declared.fault.FaultKind.TheVariants.{QueryTooLong, UnexpectedToken}
-use Rattle.query_lang.specs.declared.fault.QueryFault.{QueryFault}
-use Rattle.query_lang.specs.declared.query.Query.{Query}
-use Rattle.query_lang.specs.declared.token.Mark.{Mark}
+use Rattle.std.specs.Prelude.{ℕ, ◌+◌, Bool, true, false, nat_lt, if◌then◌else◌, List, [], ◌∷◌, ◌++◌, codes, filter, length, take, Option}
+use Rattle.std.specs.Prelude.{Some, None, Result, Ok, Err}
+use Rattle.query_lang.specs.declared.fault.{FaultKind.{FaultKind, TheVariants.{QueryTooLong, UnexpectedToken}}, QueryFault.QueryFault}
+use Rattle.query_lang.specs.declared.{query.Query.Query, token.Mark.Mark}
 use Rattle.query_lang.specs.declared.token.Mark.TheVariants as marks
 use Rattle.query_lang.specs.declared.token.TokenKind.{TokenKind}
 use Rattle.query_lang.specs.declared.token.TokenKind.TheVariants as kinds

@@ -1,22 +1,15 @@
 -- The facts of a query.
 use Rattle.std.specs.Prelude.{◌≡◌, ℕ, List, map, Ok, Err}
-use Rattle.query_lang.specs.declared.fault.QueryFault.{QueryFault}
-use Rattle.query_lang.specs.declared.typed.TypedQuery.{TypedQuery}
+use Rattle.query_lang.specs.declared.{fault.QueryFault.QueryFault, typed.TypedQuery.TypedQuery}
 use Rattle.stage_plan.specs.Fields.{reads_of}
 use Rattle.accepted_query.specs.Accepted.{accepted}
 use Rattle.net_wide.specs.Combining.{net_fault}
 use Rattle.enclosure_folds.specs.Check.{enclose_fault}
 use Rattle.plan_writer.specs.PlanText.{final_fault}
-use Rattle.query_facts.specs.declared.commands.Commands.{Commands}
-use Rattle.query_facts.specs.declared.answer.AcceptedFacts.{AcceptedFacts}
-use Rattle.query_facts.specs.declared.answer.RefusedFacts.{RefusedFacts}
+use Rattle.query_facts.specs.declared.{commands.Commands.Commands, answer.{AcceptedFacts.AcceptedFacts, RefusedFacts.RefusedFacts}}
 use Rattle.query_facts.specs.declared.answer.Facts as answers
-use Rattle.query_facts.specs.declared.answer.Facts.TheVariants.{Accepted, Refused}
-use Rattle.query_facts.specs.Columns.{all_origins}
-use Rattle.query_facts.specs.Expected.{expected_of}
-use Rattle.query_facts.specs.Folds.{fold_facts}
-use Rattle.query_facts.specs.Needs.{needed_groupbys, needed_tables}
-use Rattle.query_facts.specs.Parts.{parts_of}
+use Rattle.query_facts.specs.{declared.answer.Facts.TheVariants.{Accepted, Refused}, Columns.all_origins, Expected.expected_of}
+use Rattle.query_facts.specs.{Folds.fold_facts, Needs.{needed_groupbys, needed_tables}, Parts.parts_of}
 
 -- what each command refuses of an accepted query
 abbrev pub command_faults : TypedQuery → Commands

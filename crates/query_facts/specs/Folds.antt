@@ -1,9 +1,7 @@
 -- What a fold is.
 use Rattle.query_lang.specs.declared.fold.TypedFold.{TypedFold}
 use Rattle.fold_code.specs.Additive.{is_additive}
-use Rattle.fold_class.specs.Depth.{depth_of}
-use Rattle.fold_class.specs.Kinds.{class_of, algebra_of}
-use Rattle.fold_class.specs.Step.{history_places}
+use Rattle.fold_class.specs.{Depth.depth_of, Kinds.{class_of, algebra_of}, Step.history_places}
 use Rattle.enclosure_folds.specs.Kinds.{is_monotone}
 use Rattle.query_facts.specs.declared.folds.FoldFacts.{FoldFacts}
 

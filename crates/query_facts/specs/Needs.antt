@@ -1,15 +1,12 @@
 -- The tables that a query's prints need. Tables are numbered with the groupbys first, and then the finals.
-use Rattle.std.specs.Prelude.{ℕ, suc, ◌+◌, Bool, true, false, List, [], ◌∷◌, ◌++◌, map, count_by, nat_eq, if◌then◌else◌}
-use Rattle.std.specs.List.{list_any}
+use Rattle.std.specs.{Prelude.{ℕ, suc, ◌+◌, Bool, true, false, List, [], ◌∷◌, ◌++◌, map, count_by, nat_eq, if◌then◌else◌}, List.list_any}
 use Rattle.query_lang.specs.declared.typed.PrintOf.{PrintOf}
 use Rattle.query_lang.specs.declared.typed.PrintOf.TheVariants as place
-use Rattle.query_lang.specs.declared.typed.TypedFinal.{TypedFinal}
-use Rattle.query_lang.specs.declared.typed.TypedFinalOp.{TypedFinalOp}
+use Rattle.query_lang.specs.declared.typed.{TypedFinal.TypedFinal, TypedFinalOp.TypedFinalOp}
 use Rattle.query_lang.specs.declared.typed.TypedFinalOp.TheVariants as final
 use Rattle.query_lang.specs.declared.typed.TypedOp.{TypedOp}
 use Rattle.query_lang.specs.declared.typed.TypedOp.TheVariants as op
-use Rattle.query_lang.specs.declared.typed.TypedQuery.{TypedQuery}
-use Rattle.query_lang.specs.declared.typed.TypedStream.{TypedStream}
+use Rattle.query_lang.specs.declared.typed.{TypedQuery.TypedQuery, TypedStream.TypedStream}
 
 abbrev pub is_one_of : List ℕ → ℕ → Bool
 is_one_of numbers n = list_any (λ one. nat_eq one n) numbers

@@ -1,17 +1,12 @@
 -- How a trace may be split into parts that run by themselves.
-use Rattle.std.specs.Prelude.{ℕ, suc, ◌+◌, ◌-◌, Bool, true, false, not, ◌&&◌, ◌||◌, nat_lt, if◌then◌else◌, List, [], ◌∷◌}
-use Rattle.std.specs.Prelude.{filter, slice_get, Option, Some, None}
-use Rattle.std.specs.List.{list_all, list_any}
-use Rattle.marple_base.specs.declared.field.Field.{Field}
-use Rattle.marple_base.specs.Field.{all_fields}
-use Rattle.query_lang.specs.declared.fault.Span.{Span}
-use Rattle.query_lang.specs.declared.typed.TypedFinal.{TypedFinal}
-use Rattle.query_lang.specs.declared.typed.TypedFinalOp.{TypedFinalOp}
+use Rattle.std.specs.Prelude.{ℕ, suc, ◌+◌, ◌-◌, Bool, true, false, not, ◌&&◌, ◌||◌, nat_lt, if◌then◌else◌, List, [], ◌∷◌, filter, slice_get}
+use Rattle.std.specs.{Prelude.{Option, Some, None}, List.{list_all, list_any}}
+use Rattle.marple_base.specs.{declared.field.Field.Field, Field.all_fields}
+use Rattle.query_lang.specs.declared.{fault.Span.Span, typed.{TypedFinal.TypedFinal, TypedFinalOp.TypedFinalOp}}
 use Rattle.query_lang.specs.declared.typed.TypedFinalOp.TheVariants as final
 use Rattle.query_lang.specs.declared.typed.TypedOp.{TypedOp}
 use Rattle.query_lang.specs.declared.typed.TypedOp.TheVariants as op
-use Rattle.query_lang.specs.declared.typed.TypedQuery.{TypedQuery}
-use Rattle.query_lang.specs.declared.typed.TypedStream.{TypedStream}
+use Rattle.query_lang.specs.declared.typed.{TypedQuery.TypedQuery, TypedStream.TypedStream}
 use Rattle.net_wide.specs.Combining.{adds}
 use Rattle.net_laws.specs.Fields.{names_field, makes_field}
 use Rattle.query_facts.specs.declared.parts.Parts.{Parts}

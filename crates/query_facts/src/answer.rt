@@ -1,8 +1,7 @@
 //! The facts of a query's text.
 
 ghost use Rattle.std.specs.Prelude.{◌≡◌, ◌≤◌, Ok, Err, length, IfOk, IfSome};
-ghost use Rattle.query_lang.specs.Limits.{IsReadable};
-ghost use Rattle.query_lang.specs.TypedQueries.{IsValidQuery};
+ghost use Rattle.query_lang.specs.{Limits.IsReadable, TypedQueries.IsValidQuery};
 ghost use Rattle.stage_plan.specs.Planned.{IsPlanOf};
 ghost use Rattle.accepted_query.specs.Accepted.{accepted};
 ghost use Rattle.query_facts.specs.Facts.{AreFactsOf, AreOfText, AreRefused};

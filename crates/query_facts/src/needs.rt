@@ -1,8 +1,8 @@
 //! The tables that a query's prints need. Tables are numbered with the groupbys first, and then the finals.
 
 ghost use Rattle.std.specs.Prelude.{◌≡◌, ℕ, ◌+◌, ◌^◌, ◌<◌, ◌≤◌, ◌++◌, length, map, IfOk, OnOk};
-ghost use Rattle.query_facts.specs.Needs.{is_one_of, is_groupby, groupbys, table_of, with_inputs, needs_from, needed_tables};
-ghost use Rattle.query_facts.specs.Needs.{inputs_of, needed_from, needed_groupbys};
+ghost use Rattle.query_facts.specs.Needs.{is_one_of, is_groupby, groupbys, table_of, with_inputs, needs_from, needed_tables, inputs_of};
+ghost use Rattle.query_facts.specs.Needs.{needed_from, needed_groupbys};
 
 use marple_base::Seq;
 use query_lang::{PrintOf, TypedFinal, TypedFinalOp, TypedOp, TypedQuery, TypedStream};

@@ -4,9 +4,9 @@ ghost use Rattle.std.specs.Prelude.{◌≡◌, ◌+◌, ◌^◌, ◌<◌, All, l
 ghost use Rattle.net_laws.specs.Fields.{names_field, makes_field};
 ghost use Rattle.net_wide.specs.Combining.{adds};
 ghost use Rattle.query_lang.specs.Folds.{IsValidFold};
-ghost use Rattle.query_facts.specs.Parts.{place_has_field, all_have, keeps, shared_among, shared_fields, is_top, is_top_table};
-ghost use Rattle.query_facts.specs.Parts.{reads_top, blocks, first_blocked, first_needed, adds_at, first_not_additive};
-ghost use Rattle.query_facts.specs.Parts.{by_or, unless_blocked, sums_by, parts_of};
+ghost use Rattle.query_facts.specs.Parts.{place_has_field, all_have, keeps, shared_among, shared_fields, is_top, is_top_table, reads_top};
+ghost use Rattle.query_facts.specs.Parts.{blocks, first_blocked, first_needed, adds_at, first_not_additive, by_or, unless_blocked, sums_by};
+ghost use Rattle.query_facts.specs.Parts.{parts_of};
 
 use crate::needs::{groupbys, is_in, needed_groupbys, needed_tables};
 use marple_base::{Field, Seq};

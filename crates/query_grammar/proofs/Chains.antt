@@ -1,14 +1,11 @@
 -- A chain of turns keeps that a parser meets its language.
 use Rattle.std.proofs.Common.{◌≡◌, ℕ, zero, suc, ◌<◌, ◌≤◌, Bool, true, false, cond, List, [], ◌∷◌, ◌++◌, length, Option, Some, None, refl}
-use Rattle.std.proofs.Common.{sym, ap, ◌∙◌, append_assoc, arith, inl, inr, ◌⊎◌}
-use Rattle.std.proofs.lemmas.List.{append-nil, length-append}
+use Rattle.std.proofs.{Common.{sym, ap, ◌∙◌, append_assoc, arith, inl, inr, ◌⊎◌}, lemmas.List.{append-nil, length-append}}
 use Rattle.query_lang.specs.declared.token.Token.{Token}
-use Rattle.query_grammar.specs.declared.stop.Counts.{Counts}
-use Rattle.query_grammar.specs.Language.{Language, Leaf, tokens_of, Chain, Chained}
+use Rattle.query_grammar.specs.{declared.stop.Counts.Counts, Language.{Language, Leaf, tokens_of, Chain, Chained}}
 use Rattle.query_grammar.specs.Parser.{Limits, Outcome, Done, Stopped, Parser, and_then, next_is, linked, next_turn, chain_turns, chained}
 use Rattle.query_grammar.proofs.Parses.{Apart, Keeps, SameNext, Found, Meets, Reads, reads, passes, Begins, nothing, something, Parses}
-use Rattle.query_grammar.proofs.Parses.{starts_of}
-use Rattle.query_grammar.proofs.Parses.{next_starts, next_clear, next_of, same_next, fewer, tokens-append, pays_both}
+use Rattle.query_grammar.proofs.Parses.{starts_of, next_starts, next_clear, next_of, same_next, fewer, tokens-append, pays_both}
 
 module _ {A B : Type 0} (m : Limits) (T : Language (A ⊎ B)) (p : Parser (A ⊎ B)) (test : Token → Bool)
     (pm : (c : Counts) (ts : List Token) → Meets m T p c ts (p c ts)) (pb : (w : List Leaf) (v : A ⊎ B) → T w v → Begins test false w) where

@@ -2,11 +2,10 @@
 use Rattle.std.proofs.Common.{◌≡◌, Bool, true, false, cond, List, [], ◌∷◌, ◌++◌, Option, Some, None, refl, ap, ◌∙◌, inl, inr, ◌⊎◌}
 use Rattle.query_lang.specs.declared.{fault.Span.Span, token.Token.Token}
 use Rattle.query_grammar.specs.Language.{Language, Plain, Leaf, tokens_of, Word, Then, AtMostOnce, Either, Meaning}
-use Rattle.query_grammar.specs.declared.stop.{Counts.Counts, Stop.TheVariants.Unexpected, Stop.TheVariants.Nesting}
+use Rattle.query_grammar.specs.declared.stop.{Counts.Counts, Stop.TheVariants.{Unexpected, Nesting}}
 use Rattle.query_grammar.specs.Parser.{Limits, Limited, Outcome, Done, Stopped, Parser, and_then, next_is, at_most_once, either}
 use Rattle.query_grammar.proofs.Parses.{Apart, Keeps, Widens, meets_as, SameNext, Meets, Reads, Begins, Parses, next_of, same_next}
-use Rattle.query_grammar.proofs.Parses.{starts_of, next_starts}
-use Rattle.query_grammar.proofs.Parses.{next_clear, fewer, wider, is_some_of, reads, passes, nothing, something}
+use Rattle.query_grammar.proofs.Parses.{starts_of, next_starts, next_clear, fewer, wider, is_some_of, reads, passes, nothing, something}
 
 -- ---- one or the other
 

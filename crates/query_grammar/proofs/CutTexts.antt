@@ -1,14 +1,11 @@
 -- How a text is cut: into blanks, names, which are whole words, and other tokens, with the end as the last one.
 use Rattle.std.proofs.Common.{◌≡◌, ℕ, zero, suc, ◌+◌, ◌<◌, ◌≤◌, Bool, true, false, cond, List, [], ◌∷◌, length, take, drop, Option, Some}
-use Rattle.std.proofs.Common.{None, Ok, Err, refl, ap, subst}
-use Rattle.std.specs.{Prelude.nat_eq, Prelude.codes, List.prefix_len, Str.bytes_eq, Str.Parse.digits_value}
-use Rattle.std.proofs.lemmas.List.Folds.{length-prefix_len}
-use Rattle.query_lang.{proofs.Pieces.takes_some, specs.Names.number_in, specs.Names.with_name}
-use Rattle.query_lang.specs.declared.{fault.Span.Span, query.Name.Name, token.Mark.Mark, token.Piece.Piece, token.Token.Token}
-use Rattle.query_lang.specs.declared.{token.TokenKind.TokenKind, token.Word.Word}
-use Rattle.query_lang.specs.Lexis.{Cut, TakesSome, below_limit, cut, cut_piece, is_blank, is_digit, is_word_byte, mark_at, name_piece}
-use Rattle.query_lang.specs.Lexis.{number_piece, one_mark, piece, piece_of_mark, reserved, token_at, tokens_of, two_mark, with_front}
-use Rattle.query_lang.specs.Lexis.{word_piece}
+use Rattle.std.{proofs.{Common.{None, Ok, Err, refl, ap, subst}, lemmas.List.Folds.length-prefix_len}, specs.Prelude.{nat_eq, codes}}
+use Rattle.std.specs.{List.prefix_len, Str.{bytes_eq, Parse.digits_value}}
+use Rattle.query_lang.{proofs.Pieces.takes_some, specs.{Names.{number_in, with_name}, declared.{fault.Span.Span, query.Name.Name}}}
+use Rattle.query_lang.specs.{declared.token.{Mark.Mark, Piece.Piece, Token.Token, TokenKind.TokenKind, Word.Word}, Lexis.{Cut, TakesSome}}
+use Rattle.query_lang.specs.Lexis.{below_limit, cut, cut_piece, is_blank, is_digit, is_word_byte, mark_at, name_piece, number_piece}
+use Rattle.query_lang.specs.Lexis.{one_mark, piece, piece_of_mark, reserved, token_at, tokens_of, two_mark, with_front, word_piece}
 use Rattle.query_grammar.specs.{Fault.HasEnd, Kinds.name_of}
 use Rattle.query_lang.specs.declared.token.Piece.TheVariants as pieces
 use Rattle.query_lang.specs.declared.token.TokenKind.TheVariants as kinds

@@ -1,14 +1,13 @@
 -- More brackets derive no less.
 use Rattle.std.proofs.Common.{subst, ◌≡◌, ℕ, zero, suc, ◌≤◌, ◌<◌, List, [], ◌∷◌, Option, Some, None, arith, inl, inr, ◌⊎◌}
 use Rattle.std.proofs.lemmas.Bool.{cases_lt}
-use Rattle.query_lang.specs.declared.{query.Expr.Expr, query.Stmt.Stmt, token.TokenKind.TokenKind}
+use Rattle.query_lang.specs.declared.{query.{Expr.Expr, Stmt.Stmt}, token.TokenKind.TokenKind}
 use Rattle.query_grammar.specs.Language.{Leaf, Language, Then, Repeated, AtMostOnce, Either, Meaning, Chain, Chained}
-use Rattle.query_grammar.specs.Kinds.{sign, keyword}
-use Rattle.query_grammar.specs.Grammar.{list_of, listed, Token_of, Plain_name, After, Before, Between, Parens, Brackets, Separated, Listed}
-use Rattle.query_grammar.specs.Grammar.{Operators, either_ops, both_ops, or_ops, xor_ops, and_ops, shift_ops, sum_ops, product_ops, Level}
-use Rattle.query_grammar.specs.Grammar.{Atom, Unary, Product, Sum, Shift, BitAnd, BitXor, BitOr, Comparison, Conjunction, Disjunction}
-use Rattle.query_grammar.specs.Grammar.{Expression, Assignment, Emission, Block, IfPart, ElsePart, IfStatement, Statement_at, Fold, Filter}
-use Rattle.query_grammar.specs.Grammar.{ColumnOf, Mapping, Stream, Final, Print, Query}
+use Rattle.query_grammar.specs.{Kinds.{sign, keyword}, Grammar.{list_of, listed, Token_of, Plain_name, After, Before, Between, Parens}}
+use Rattle.query_grammar.specs.Grammar.{Brackets, Separated, Listed, Operators, either_ops, both_ops, or_ops, xor_ops, and_ops, shift_ops}
+use Rattle.query_grammar.specs.Grammar.{sum_ops, product_ops, Level, Atom, Unary, Product, Sum, Shift, BitAnd, BitXor, BitOr, Comparison}
+use Rattle.query_grammar.specs.Grammar.{Conjunction, Disjunction, Expression, Assignment, Emission, Block, IfPart, ElsePart, IfStatement}
+use Rattle.query_grammar.specs.Grammar.{Statement_at, Fold, Filter, ColumnOf, Mapping, Stream, Final, Print, Query}
 use Rattle.query_lang.specs.declared.token.Word.TheVariants as words
 use Rattle.query_lang.specs.declared.token.Mark.TheVariants as marks
 

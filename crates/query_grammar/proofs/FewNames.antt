@@ -1,9 +1,7 @@
 -- A text has so few names that a byte fits between any two of them.
 use Rattle.std.proofs.Common.{◌≡◌, ℕ, suc, ◌+◌, ◌*◌, ◌≤◌, Bool, true, false, cond, List, [], ◌∷◌, ◌++◌, length, take, drop, refl, ap, ◌∙◌}
-use Rattle.std.proofs.Common.{arith}
-use Rattle.std.specs.{List.list_any, List.prefix_len, Str.bytes_eq}
-use Rattle.std.proofs.lemmas.List.{length-append, length-drop}
-use Rattle.query_lang.specs.{declared.fault.TheConstants.MAX_QUERY, declared.token.Token.Token, Lexis.is_word_byte, Names.with_name}
+use Rattle.std.{proofs.{Common.arith, lemmas.List.{length-append, length-drop}}, specs.{List.{list_any, prefix_len}, Str.bytes_eq}}
+use Rattle.query_lang.specs.{declared.{fault.TheConstants.MAX_QUERY, token.Token.Token}, Lexis.is_word_byte, Names.with_name}
 use Rattle.query_grammar.proofs.CutTexts.{IsCut, ends, skips, named, other, word_begins}
 
 begins_once : (bytes : List ℕ) → word_begins bytes ≤ 1

@@ -1,11 +1,8 @@
 -- The tokens of a fold that are counted are its nodes and its statements.
-use Rattle.std.proofs.Common.{◌≡◌, ℕ, cond, List, [], ◌∷◌, refl, ap, arith}
-use Rattle.std.proofs.lemmas.List.Sums.{sum_by-cons}
-use Rattle.query_lang.specs.declared.query.FoldDef.{FoldDef}
-use Rattle.query_lang.specs.TypedFolds.{stmt_nodes, stmt_count, fold_nodes, fold_statements}
-use Rattle.query_grammar.specs.FoldTokens.{counts_as_node, begins_statement, nodes_among, statements_among}
-use Rattle.query_grammar.{specs.Grammar.Fold, proofs.ItemWeights.opens_fold}
-use Rattle.query_grammar.specs.Language.{Role, Plain, Node, Statement, Opening, Leaf}
+use Rattle.std.proofs.{Common.{◌≡◌, ℕ, cond, List, [], ◌∷◌, refl, ap, arith}, lemmas.List.Sums.sum_by-cons}
+use Rattle.query_lang.specs.{declared.query.FoldDef.FoldDef, TypedFolds.{stmt_nodes, stmt_count, fold_nodes, fold_statements}}
+use Rattle.query_grammar.specs.{FoldTokens.{counts_as_node, begins_statement, nodes_among, statements_among}, Grammar.Fold}
+use Rattle.query_grammar.{specs.Language.{Role, Plain, Node, Statement, Opening, Leaf}, proofs.ItemWeights.opens_fold}
 use Rattle.query_grammar.proofs.Weighing.{is_node, is_statement, leaves_by, sum_total}
 use Rattle.query_lang.specs.declared.query.Item.TheVariants as items
 

@@ -1,29 +1,26 @@
 -- The parser of each line meets the language of the line.
 use Rattle.std.proofs.Common.{◌≡◌, ℕ, zero, suc, Bool, true, false, List, [], ◌∷◌, ◌++◌, Some, refl}
-use Rattle.query_lang.specs.declared.{fault.Span.Span, fold.Op.Op, query.Expr.Expr, query.Stmt.Stmt, query.Item.Item}
-use Rattle.query_lang.specs.declared.{token.TokenKind.TokenKind}
+use Rattle.query_lang.specs.declared.{fault.Span.Span, fold.Op.Op, query.{Expr.Expr, Stmt.Stmt, Item.Item}, token.TokenKind.TokenKind}
 use Rattle.query_grammar.specs.Language.{Plain, Node, Statement, Opening, Leaf, Language, Then, Repeated, Either, Meaning}
 use Rattle.query_grammar.specs.Parser.{Limits, Limited, Unlimited, Parser, followed_by, repeated}
-use Rattle.query_grammar.specs.Kinds.{one_of, among, kind, kind_number, is, operator, kinds_of, sign, keyword}
-use Rattle.query_grammar.specs.Grammar.{Token_of, After, Parens, Listed, Operators, either_ops, both_ops, comparing_ops, or_ops, xor_ops}
-use Rattle.query_grammar.specs.Grammar.{and_ops, shift_ops, sum_ops, product_ops, functions, Level, Atom, Primary, Unary, Product, Sum}
-use Rattle.query_grammar.specs.Grammar.{Shift, BitAnd, BitXor, BitOr, Comparison, Conjunction, Disjunction, Expression, Assignment}
-use Rattle.query_grammar.specs.Grammar.{Emission, Block, IfPart, IfStatement, Statement_at, StateVariable, Parameters, Fold, Filter}
-use Rattle.query_grammar.specs.Grammar.{ColumnOf, Mapping, Pairing, KeyOf, Group, Best, Streaming, Stream, Finishing, Final, Print, ItemOf}
-use Rattle.query_grammar.specs.Grammar.{Query}
-use Rattle.query_grammar.specs.Reading.{token_of, parens, listed_by, blocked, atom_starts, primary_starts, expr_starts, level, atom}
-use Rattle.query_grammar.specs.Reading.{primary, unary, product, sum, shift, bit_and, bit_xor, bit_or, comparison, conjunction, disjunction}
-use Rattle.query_grammar.specs.Reading.{expr_at, assignment, emission, stmt_starts, block, if_part, if_statement, statement, stmt_at}
-use Rattle.query_grammar.specs.Reading.{state_variable, parameters, fold_def, filter_of, column_of, mapping, pairing, key_of, group, best}
-use Rattle.query_grammar.specs.Reading.{streaming, stream, finishing, final, print, item, item_starts, query}
-use Rattle.query_grammar.proofs.Parses.{Parses, parses_wider, parses_wider_on, parses_word}
-use Rattle.query_grammar.proofs.{Choices.parses_blocked, Sequences.parses_null_then}
-use Rattle.query_grammar.proofs.Lines.{subset, disjoint, disjoint_is, Line, EndFree, free_word, free_both, line_then, line_then_null}
-use Rattle.query_grammar.proofs.Lines.{line_null_then, line_either, line_once, line_repeated, line_meaning, line_sets, line_chained}
-use Rattle.query_grammar.proofs.Lines.{more_left, more_right, less_left}
-use Rattle.query_grammar.proofs.LineParts.{is_kind, no_place, sample_of, is_itself, line_is, line_operator, line_name, line_number}
-use Rattle.query_grammar.proofs.LineParts.{disjoint_nil, line_after, line_before, line_before_null, line_parens, line_parens_null}
-use Rattle.query_grammar.proofs.LineParts.{line_brackets, line_brackets_null, line_separated, line_listed, line_comma}
+use Rattle.query_grammar.specs.{Kinds.{one_of, among, kind, kind_number, is, operator, kinds_of, sign, keyword}, Grammar.{Token_of, After}}
+use Rattle.query_grammar.specs.Grammar.{Parens, Listed, Operators, either_ops, both_ops, comparing_ops, or_ops, xor_ops, and_ops, shift_ops}
+use Rattle.query_grammar.specs.Grammar.{sum_ops, product_ops, functions, Level, Atom, Primary, Unary, Product, Sum, Shift, BitAnd, BitXor}
+use Rattle.query_grammar.specs.Grammar.{BitOr, Comparison, Conjunction, Disjunction, Expression, Assignment, Emission, Block, IfPart}
+use Rattle.query_grammar.specs.Grammar.{IfStatement, Statement_at, StateVariable, Parameters, Fold, Filter, ColumnOf, Mapping, Pairing}
+use Rattle.query_grammar.specs.{Grammar.{KeyOf, Group, Best, Streaming, Stream, Finishing, Final, Print, ItemOf, Query}, Reading.token_of}
+use Rattle.query_grammar.specs.Reading.{parens, listed_by, blocked, atom_starts, primary_starts, expr_starts, level, atom, primary, unary}
+use Rattle.query_grammar.specs.Reading.{product, sum, shift, bit_and, bit_xor, bit_or, comparison, conjunction, disjunction, expr_at}
+use Rattle.query_grammar.specs.Reading.{assignment, emission, stmt_starts, block, if_part, if_statement, statement, stmt_at, state_variable}
+use Rattle.query_grammar.specs.Reading.{parameters, fold_def, filter_of, column_of, mapping, pairing, key_of, group, best, streaming}
+use Rattle.query_grammar.specs.Reading.{stream, finishing, final, print, item, item_starts, query}
+use Rattle.query_grammar.proofs.{Parses.{Parses, parses_wider, parses_wider_on, parses_word}, Choices.parses_blocked}
+use Rattle.query_grammar.proofs.{Sequences.parses_null_then, Lines.{subset, disjoint, disjoint_is, Line, EndFree, free_word, free_both}}
+use Rattle.query_grammar.proofs.Lines.{line_then, line_then_null, line_null_then, line_either, line_once, line_repeated, line_meaning}
+use Rattle.query_grammar.proofs.{Lines.{line_sets, line_chained, more_left, more_right, less_left}, LineParts.{is_kind, no_place}}
+use Rattle.query_grammar.proofs.LineParts.{sample_of, is_itself, line_is, line_operator, line_name, line_number, disjoint_nil, line_after}
+use Rattle.query_grammar.proofs.LineParts.{line_before, line_before_null, line_parens, line_parens_null, line_brackets, line_brackets_null}
+use Rattle.query_grammar.proofs.LineParts.{line_separated, line_listed, line_comma}
 use Rattle.query_lang.specs.declared.fold.Op.TheVariants as operations
 use Rattle.query_lang.specs.declared.token.Word.TheVariants as words
 use Rattle.query_lang.specs.declared.token.Mark.TheVariants as marks

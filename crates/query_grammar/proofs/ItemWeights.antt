@@ -1,20 +1,18 @@
 -- The items of an accepted query keep the limits on nodes and statements.
 use Rattle.std.proofs.Common.{◌≡◌, ℕ, zero, suc, ◌+◌, ◌<◌, ◌≤◌, Bool, true, false, cond, ltb, List, [], ◌∷◌, ◌++◌, Option, Some, None, refl}
-use Rattle.std.proofs.Common.{sym, ap, ◌∙◌, arith, inl, inr, ◌⊎◌}
-use Rattle.std.{specs.Prelude.All, specs.Option.option_and_then, proofs.lemmas.Bool.ltb-true}
-use Rattle.query_lang.specs.declared.{fault.Span.Span, query.Column.Column, query.Expr.Expr, query.Item.Item, token.TokenKind.TokenKind}
-use Rattle.query_lang.specs.declared.{token.Token.Token, fault.TheConstants.MAX_NODES, fault.TheConstants.MAX_STATEMENTS}
+use Rattle.std.{proofs.{Common.{sym, ap, ◌∙◌, arith, inl, inr, ◌⊎◌}, lemmas.Bool.ltb-true}, specs.{Prelude.All, Option.option_and_then}}
+use Rattle.query_lang.specs.declared.{fault.Span.Span, query.{Column.Column, Expr.Expr, Item.Item}, token.TokenKind.TokenKind}
+use Rattle.query_lang.specs.declared.{token.Token.Token, fault.TheConstants.{MAX_NODES, MAX_STATEMENTS}}
 use Rattle.query_lang.specs.TypedFolds.{expr_nodes, stmt_nodes, stmt_count}
 use Rattle.query_lang.specs.Limits.{columns_nodes, stream_nodes, final_nodes, KeepsLimits}
-use Rattle.query_grammar.specs.{declared.stop.Counts.Counts, Kinds.sign, Kinds.keyword, Fault.IsAccepted}
+use Rattle.query_grammar.specs.{declared.stop.Counts.Counts, Kinds.{sign, keyword}, Fault.IsAccepted}
 use Rattle.query_grammar.specs.Language.{Role, Plain, Node, Statement, Opening, Leaf, Language, Word, Then, Repeated, Either, Meaning}
-use Rattle.query_grammar.specs.Parser.{Limited, charge, no_counts}
-use Rattle.query_grammar.specs.Grammar.{Plain_name, After, Brackets, Separated, Listed, StateVariable, Parameters, Fold, Filter, ColumnOf}
-use Rattle.query_grammar.specs.Grammar.{Mapping, Pairing, KeyOf, Group, Best, Streaming, Stream, Finishing, Final, Print, ItemOf}
-use Rattle.query_grammar.proofs.{Parses.pays, Parses.pays-append, Runs.Value, Runs.pays_is}
-use Rattle.query_grammar.proofs.Weighing.{weigh_as, same_weight, total, sum_total, is_node, is_statement, is_opening, leaves_by, Weight}
-use Rattle.query_grammar.proofs.Weighing.{Weighs, none, weigh_plain, weigh_then, weigh_either, weigh_once, weigh_same, weigh_after}
-use Rattle.query_grammar.proofs.Weighing.{weigh_before, weigh_between, weigh_separated, weigh_listed, if_some}
+use Rattle.query_grammar.specs.{Parser.{Limited, charge, no_counts}, Grammar.{Plain_name, After, Brackets, Separated, Listed}}
+use Rattle.query_grammar.specs.Grammar.{StateVariable, Parameters, Fold, Filter, ColumnOf, Mapping, Pairing, KeyOf, Group, Best, Streaming}
+use Rattle.query_grammar.{specs.Grammar.{Stream, Finishing, Final, Print, ItemOf}, proofs.Parses.{pays, pays-append}}
+use Rattle.query_grammar.proofs.{Runs.{Value, pays_is}, Weighing.{weigh_as, same_weight, total, sum_total, is_node, is_statement}}
+use Rattle.query_grammar.proofs.Weighing.{is_opening, leaves_by, Weight, Weighs, none, weigh_plain, weigh_then, weigh_either, weigh_once}
+use Rattle.query_grammar.proofs.Weighing.{weigh_same, weigh_after, weigh_before, weigh_between, weigh_separated, weigh_listed, if_some}
 use Rattle.query_grammar.proofs.Weights.{weigh_parens, weigh_block, weigh_expr, weigh_stmt, nothing_in}
 use Rattle.query_lang.specs.declared.query.Item.TheVariants as items
 use Rattle.query_lang.specs.declared.token.Mark.TheVariants as marks

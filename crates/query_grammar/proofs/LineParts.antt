@@ -1,14 +1,11 @@
 -- The parser of each way to build lines meets its language, and kinds of tokens.
 use Rattle.std.proofs.Common.{◌≡◌, ℕ, Bool, true, false, cond, eqb, List, [], ◌∷◌, ◌++◌, Option, Some, None, refl, ap, eq-eqb}
-use Rattle.query_lang.specs.declared.{fault.Span.Span, fold.Op.Op, token.TokenKind.TokenKind, token.Token.Token}
-use Rattle.query_grammar.specs.Language.{Role, Plain, Node, Language, Word}
-use Rattle.query_grammar.specs.Parser.{Limits, Parser, word}
+use Rattle.query_lang.specs.declared.{fault.Span.Span, fold.Op.Op, token.{TokenKind.TokenKind, Token.Token}}
+use Rattle.query_grammar.specs.{Language.{Role, Plain, Node, Language, Word}, Parser.{Limits, Parser, word}}
 use Rattle.query_grammar.specs.Kinds.{one_of, among, kind, kind_number, is, name, name_of, number, token_number, operator, kinds_of, sign}
 use Rattle.query_grammar.specs.Grammar.{After, Before, Parens, Brackets, Separated, Listed, Operators}
-use Rattle.query_grammar.specs.Reading.{after, before, parens, brackets, separated, listed_by}
-use Rattle.query_grammar.proofs.Parses.{is_some_of}
-use Rattle.query_grammar.proofs.Lines.{disjoint, Line, line_word, line_then, line_then_null, line_null_then, line_once, line_repeated}
-use Rattle.query_grammar.proofs.Lines.{line_meaning}
+use Rattle.query_grammar.{specs.Reading.{after, before, parens, brackets, separated, listed_by}, proofs.{Parses.is_some_of, Lines.disjoint}}
+use Rattle.query_grammar.proofs.Lines.{Line, line_word, line_then, line_then_null, line_null_then, line_once, line_repeated, line_meaning}
 use Rattle.query_lang.specs.declared.token.Mark.TheVariants as marks
 use Rattle.query_lang.specs.declared.token.TokenKind.TheVariants as kinds
 

@@ -1,14 +1,12 @@
 -- The ways to build a parser, with the tokens that begin it and the tokens at which it goes on as lists of kinds: each
 -- side condition computes.
 use Rattle.std.proofs.Common.{◌≡◌, ℕ, Bool, true, false, cond, eqb, List, [], ◌∷◌, ◌++◌, Option, Some, None, refl, sym, ap, ◌∙◌, inl, inr}
-use Rattle.std.proofs.Common.{◌⊎◌}
-use Rattle.std.proofs.lemmas.Bool.{eqb-true}
+use Rattle.std.proofs.{Common.{◌⊎◌}, lemmas.Bool.eqb-true}
 use Rattle.query_lang.specs.declared.token.Token.{Token}
 use Rattle.query_grammar.specs.Language.{Language, Role, Leaf, Word, Then, Repeated, AtMostOnce, Either, Meaning, Chain, Chained}
 use Rattle.query_grammar.specs.Parser.{Limits, Parser, word, followed_by, mapped, at_most_once, either, repeated, chained}
-use Rattle.query_grammar.specs.Kinds.{one_of, among, kind}
-use Rattle.query_grammar.proofs.{Chains.parses_chained, Choices.parses_either, Choices.parses_once, Repeats.parses_repeated}
-use Rattle.query_grammar.proofs.Parses.{Parses, is_some_of, parses_word, parses_wider, parses_wider_on}
+use Rattle.query_grammar.{specs.Kinds.{one_of, among, kind}, proofs.{Chains.parses_chained, Choices.{parses_either, parses_once}}}
+use Rattle.query_grammar.proofs.{Repeats.parses_repeated, Parses.{Parses, is_some_of, parses_word, parses_wider, parses_wider_on}}
 use Rattle.query_grammar.proofs.Sequences.{parses_then, parses_null_then, parses_mapped}
 
 abbrev pub disjoint : List ℕ → List ℕ → Bool

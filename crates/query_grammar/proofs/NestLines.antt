@@ -1,21 +1,19 @@
 -- The brackets of each line of the grammar.
 use Rattle.std.proofs.Common.{◌≡◌, ℕ, zero, suc, true, List, [], ◌∷◌, ◌++◌, refl, arith}
-use Rattle.query_lang.specs.declared.{fault.Span.Span, query.Expr.Expr, query.Stmt.Stmt, token.TokenKind.TokenKind}
-use Rattle.query_grammar.specs.Language.{Language, Then, Repeated, Either}
-use Rattle.query_grammar.{specs.Parser.Limited, specs.Parser.Parser, proofs.Lines.disjoint}
-use Rattle.query_grammar.specs.Kinds.{among, kind_number, kinds_of, sign, keyword}
-use Rattle.query_grammar.specs.Grammar.{Token_of, After, Before, Between, Parens, Brackets, Separated, Listed, Operators, either_ops}
-use Rattle.query_grammar.specs.Grammar.{both_ops, comparing_ops, or_ops, xor_ops, and_ops, shift_ops, sum_ops, product_ops, functions}
-use Rattle.query_grammar.specs.Grammar.{Level, Primary, Disjunction, Expression, Assignment, Emission, Block, IfPart, IfStatement}
-use Rattle.query_grammar.specs.Grammar.{Statement_at, StateVariable, Parameters, Fold, Filter, Mapping, Pairing, Group, Best, Stream, Final}
-use Rattle.query_grammar.specs.Grammar.{Print}
-use Rattle.query_grammar.specs.Reading.{after, before, between, parens, brackets, separated, listed_by, atom_starts, expr_starts, level}
-use Rattle.query_grammar.specs.Reading.{primary, unary, disjunction, expr_at, assignment, emission, empty_parens, stmt_starts, block}
-use Rattle.query_grammar.specs.Reading.{if_part, if_statement, statement, stmt_at, state_variable, parameters, fold_def, filter_of, mapping}
-use Rattle.query_grammar.specs.Reading.{pairing, group, best, stream, final, print, item, item_starts, query}
-use Rattle.query_grammar.specs.Fault.{opening, closing, opens, closes}
-use Rattle.query_grammar.proofs.Nests.{Nests, nests_then, nests_both, nests_level, nests_mapped, nests_either, nests_once, nests_repeated}
-use Rattle.query_grammar.proofs.Nests.{nests_chained, nests_is, nests_keyword, nests_operator, nests_name, nests_number, nests_blocked}
+use Rattle.query_lang.specs.declared.{fault.Span.Span, query.{Expr.Expr, Stmt.Stmt}, token.TokenKind.TokenKind}
+use Rattle.query_grammar.specs.{Language.{Language, Then, Repeated, Either}, Parser.{Limited, Parser}}
+use Rattle.query_grammar.specs.{Kinds.{among, kind_number, kinds_of, sign, keyword}, Grammar.{Token_of, After, Before, Between, Parens}}
+use Rattle.query_grammar.specs.Grammar.{Brackets, Separated, Listed, Operators, either_ops, both_ops, comparing_ops, or_ops, xor_ops}
+use Rattle.query_grammar.specs.Grammar.{and_ops, shift_ops, sum_ops, product_ops, functions, Level, Primary, Disjunction, Expression}
+use Rattle.query_grammar.specs.Grammar.{Assignment, Emission, Block, IfPart, IfStatement, Statement_at, StateVariable, Parameters, Fold}
+use Rattle.query_grammar.specs.{Grammar.{Filter, Mapping, Pairing, Group, Best, Stream, Final, Print}, Reading.{after, before, between}}
+use Rattle.query_grammar.specs.Reading.{parens, brackets, separated, listed_by, atom_starts, expr_starts, level, primary, unary}
+use Rattle.query_grammar.specs.Reading.{disjunction, expr_at, assignment, emission, empty_parens, stmt_starts, block, if_part, if_statement}
+use Rattle.query_grammar.specs.Reading.{statement, stmt_at, state_variable, parameters, fold_def, filter_of, mapping, pairing, group, best}
+use Rattle.query_grammar.specs.{Reading.{stream, final, print, item, item_starts, query}, Fault.{opening, closing, opens, closes}}
+use Rattle.query_grammar.proofs.{Lines.disjoint, Nests.{Nests, nests_then, nests_both, nests_level, nests_mapped, nests_either, nests_once}}
+use Rattle.query_grammar.proofs.Nests.{nests_repeated, nests_chained, nests_is, nests_keyword, nests_operator, nests_name, nests_number}
+use Rattle.query_grammar.proofs.Nests.{nests_blocked}
 use Rattle.query_lang.specs.declared.token.Word.TheVariants as words
 use Rattle.query_lang.specs.declared.token.Mark.TheVariants as marks
 use Rattle.query_lang.specs.declared.token.TokenKind.TheVariants as kinds

@@ -1,19 +1,15 @@
 -- How many brackets are open where a parser stops for one too many, and that it reads none that is one too many.
 use Rattle.std.proofs.Common.{◌≡◌, ℕ, zero, suc, ◌+◌, ◌<◌, ◌≤◌, Bool, true, false, cond, eqb, List, [], ◌∷◌, ◌++◌, length, Option, Some}
-use Rattle.std.proofs.Common.{None, refl, sym, ap, subst, ◌∙◌, append_assoc, arith, inl, inr, ◌⊎◌}
-use Rattle.std.proofs.lemmas.Bool.{eqb-true}
-use Rattle.query_lang.specs.declared.{fault.Span.Span, token.TokenKind.TokenKind, token.Token.Token, fault.TheConstants.MAX_NESTING}
-use Rattle.query_grammar.{specs.declared.stop.Counts.Counts, specs.declared.stop.Stop.Stop, specs.Grammar.Operators, specs.Reading.blocked}
-use Rattle.query_grammar.{specs.Reading.blocked_at, proofs.Parses.is_some_of}
-use Rattle.query_grammar.specs.declared.stop.Stop.TheVariants.{Unexpected, Nodes, Statements, Nesting}
-use Rattle.query_grammar.specs.Language.{Language, Role, Plain, Node, Statement, Opening, Word, Then, Repeated, AtMostOnce, Either, Meaning}
-use Rattle.query_grammar.specs.Language.{Chained}
+use Rattle.std.proofs.{Common.{None, refl, sym, ap, subst, ◌∙◌, append_assoc, arith, inl, inr, ◌⊎◌}, lemmas.Bool.eqb-true}
+use Rattle.query_lang.specs.declared.{fault.{Span.Span, TheConstants.MAX_NESTING}, token.{TokenKind.TokenKind, Token.Token}}
+use Rattle.query_grammar.specs.{declared.stop.{Counts.Counts, Stop.Stop}, Grammar.Operators, Reading.{blocked, blocked_at}}
+use Rattle.query_grammar.specs.{declared.stop.Stop.TheVariants.{Unexpected, Nodes, Statements, Nesting}, Language.{Language, Role, Plain}}
+use Rattle.query_grammar.specs.Language.{Node, Statement, Opening, Word, Then, Repeated, AtMostOnce, Either, Meaning, Chained}
 use Rattle.query_grammar.specs.Parser.{Limited, Outcome, Done, Stopped, Parser, charge, limit_of, paid, taken, word, and_then, followed_by}
 use Rattle.query_grammar.specs.Parser.{mapped, next_is, at_most_once, either, repeated, linked, next_turn, chain_turns, chained}
 use Rattle.query_grammar.specs.Kinds.{one_of, among, kind, kind_number, is, name, number, operator, kinds_of}
-use Rattle.query_grammar.specs.Fault.{opening, closing, opens, closes, opened, closed, IsShallow}
-use Rattle.query_grammar.proofs.Repeats.{as_turn, turns_of, same_turns}
-use Rattle.query_grammar.proofs.Lines.{disjoint, disjoint_is, less_left, less_right}
+use Rattle.query_grammar.{specs.Fault.{opening, closing, opens, closes, opened, closed, IsShallow}, proofs.Parses.is_some_of}
+use Rattle.query_grammar.proofs.{Repeats.{as_turn, turns_of, same_turns}, Lines.{disjoint, disjoint_is, less_left, less_right}}
 use Rattle.query_grammar.proofs.LineParts.{is_kind, operator_kind, name_kind_of, number_kind_of}
 
 opened-append : (xs ys : List Token) → opened (xs ++ ys) ≡ opened xs + opened ys

@@ -1,19 +1,15 @@
 -- The names of a query that is read from a text have numbers below the count of its names, and its groupbys have keys.
 use Rattle.std.proofs.Common.{◌≡◌, ℕ, ◌+◌, ◌<◌, ◌≤◌, Bool, true, false, cond, List, [], ◌∷◌, ◌++◌, length, take, Option, Some, None, ap}
-use Rattle.std.proofs.Common.{subst, arith, inl, inr, ◌⊎◌}
-use Rattle.std.{specs.Prelude.All, specs.List.list_any, specs.Str.bytes_eq, proofs.lemmas.List.length-append}
-use Rattle.std.proofs.lemmas.Option.{slice_get_within, same_Some}
-use Rattle.query_lang.{proofs.NameFacts.has_number, specs.Lexis.cut, specs.Lexis.token_at, specs.Names.number_in, specs.Names.with_name}
-use Rattle.query_lang.specs.declared.{query.Column.Column, query.Expr.Expr, query.Name.Name, query.Query.Query, query.StateVar.StateVar}
-use Rattle.query_lang.specs.declared.{token.Token.Token, token.TokenKind.TokenKind, token.Word.Word}
-use Rattle.query_lang.specs.Limits.{AreNumbered, HasFinalKeys, HasKeys, HasStreamKeys, IsNumbered, IsNumberedFinal, IsNumberedStream}
-use Rattle.query_lang.specs.Limits.{IsReadable}
+use Rattle.std.proofs.{Common.{subst, arith, inl, inr, ◌⊎◌}, lemmas.{List.length-append, Option.{slice_get_within, same_Some}}}
+use Rattle.std.specs.{Prelude.All, List.list_any, Str.bytes_eq}
+use Rattle.query_lang.{proofs.NameFacts.has_number, specs.{Lexis.{cut, token_at}, Names.{number_in, with_name}}}
+use Rattle.query_lang.specs.declared.{query.{Column.Column, Expr.Expr, Name.Name, Query.Query, StateVar.StateVar}, token.Token.Token}
+use Rattle.query_lang.specs.{declared.token.{TokenKind.TokenKind, Word.Word}, Limits.{AreNumbered, HasFinalKeys, HasKeys, HasStreamKeys}}
+use Rattle.query_lang.specs.Limits.{IsNumbered, IsNumberedFinal, IsNumberedStream, IsReadable}
 use Rattle.query_grammar.specs.Grammar.{After, Before, Between, Expression, Final, Fold, Group, ItemOf, KeyOf, Listed, Mapping, Parameters}
-use Rattle.query_grammar.specs.Grammar.{Query as Whole, Separated, Stream, listed}
-use Rattle.query_grammar.specs.Kinds.{keyword, name, sign}
-use Rattle.query_grammar.specs.Language.{AtMostOnce, Either, Language, Leaf, Meaning, Repeated, Role, Then}
-use Rattle.query_grammar.{specs.Texts.IsQueryOf, proofs.FewNames.few_names}
-use Rattle.query_grammar.proofs.CutTexts.{IsCut, ends, skips, named, other, text_is_cut}
+use Rattle.query_grammar.specs.{Grammar.{Query as Whole, Separated, Stream, listed}, Kinds.{keyword, name, sign}}
+use Rattle.query_grammar.specs.{Language.{AtMostOnce, Either, Language, Leaf, Meaning, Repeated, Role, Then}, Texts.IsQueryOf}
+use Rattle.query_grammar.proofs.{FewNames.few_names, CutTexts.{IsCut, ends, skips, named, other, text_is_cut}}
 use Rattle.query_grammar.proofs.ItemWeights.{accepted_keeps, all_cons, all_none}
 use Rattle.query_lang.specs.declared.token.Mark.TheVariants as marks
 use Rattle.query_lang.specs.declared.token.TokenKind.TheVariants as kinds

@@ -1,19 +1,14 @@
 -- What parsing gives is what the grammar says.
 use Rattle.std.proofs.Common.{◌≡◌, ℕ, ◌≤◌, Bool, true, false, cond, eqb, ltb, List, [], ◌∷◌, ◌++◌, Some, None, refl, sym, ap, subst, ◌∙◌}
-use Rattle.std.proofs.Common.{append_assoc}
-use Rattle.std.proofs.lemmas.{List.append-nil, List.append_cancel_right, Bool.ltb-false}
-use Rattle.query_lang.specs.declared.token.{TokenKind.TokenKind, Token.Token}
-use Rattle.query_lang.specs.declared.fault.TheConstants.{MAX_NESTING, MAX_NODES, MAX_STATEMENTS}
-use Rattle.query_grammar.specs.{declared.stop.Counts.Counts, declared.stop.Stop.Stop, Kinds.kind, Kinds.kind_number, Reading.all_read}
-use Rattle.query_grammar.specs.{Reading.parsed}
+use Rattle.std.proofs.{Common.append_assoc, lemmas.{List.{append-nil, append_cancel_right}, Bool.ltb-false}}
+use Rattle.query_lang.specs.declared.{token.{TokenKind.TokenKind, Token.Token}, fault.TheConstants.{MAX_NESTING, MAX_NODES, MAX_STATEMENTS}}
+use Rattle.query_grammar.specs.{declared.stop.{Counts.Counts, Stop.Stop}, Kinds.{kind, kind_number}, Reading.{all_read, parsed}}
 use Rattle.query_grammar.specs.declared.stop.Stop.TheVariants.{Unexpected, Nodes, Statements, Nesting}
 use Rattle.query_grammar.specs.Language.{Role, Plain, Node, Statement, Leaf, tokens_of}
 use Rattle.query_grammar.specs.Parser.{no_counts, Limited, charge, Outcome, Done, Stopped}
 use Rattle.query_grammar.specs.Fault.{IsShallow, BeginsQuery, IsGrammatical, HasEnd, Says}
-use Rattle.query_grammar.proofs.Parses.{IsLimit, StopsFirst, stops_limit, pays}
-use Rattle.query_grammar.proofs.{Lines.EndFree, Lines.free_front, GrammarLines.items_free}
-use Rattle.query_grammar.proofs.Nests.{shallow_is, StopLevel, LevelMeets}
-use Rattle.query_grammar.proofs.Splits.{Place, inside, at_end, beyond, place, head_is, tail_is}
+use Rattle.query_grammar.proofs.{Parses.{IsLimit, StopsFirst, stops_limit, pays}, Lines.{EndFree, free_front}, GrammarLines.items_free}
+use Rattle.query_grammar.proofs.{Nests.{shallow_is, StopLevel, LevelMeets}, Splits.{Place, inside, at_end, beyond, place, head_is, tail_is}}
 use Rattle.query_grammar.proofs.Runs.{IsMet, IsHalted, Value, depth, run, met, leveled, stop_facts, stop_shallow, Run, whole, halts, run_of}
 use Rattle.query_grammar.proofs.Runs.{pays_is}
 use Rattle.query_lang.specs.declared.token.TokenKind.TheVariants as kinds

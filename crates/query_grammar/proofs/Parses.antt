@@ -3,8 +3,7 @@ use Rattle.std.proofs.Common.{◌≡◌, Bool, true, false, List, [], ◌∷◌,
 use Rattle.std.{proofs.lemmas.List.map-append, specs.Option.option_and_then}
 use Rattle.query_lang.specs.declared.token.Token.{Token}
 use Rattle.query_grammar.specs.Language.{Language, Role, Plain, Node, Statement, Opening, Leaf, tokens_of, Word}
-use Rattle.query_grammar.specs.declared.stop.{Counts.Counts, Stop.Stop}
-use Rattle.query_grammar.specs.declared.stop.Stop.TheVariants.{Unexpected, Nodes, Statements, Nesting}
+use Rattle.query_grammar.specs.declared.stop.{Counts.Counts, Stop.{Stop, TheVariants.{Unexpected, Nodes, Statements, Nesting}}}
 use Rattle.query_grammar.specs.Parser.{Limits, Limited, Unlimited, charge, limit_of, Outcome, Done, Stopped, Parser, paid, taken, word}
 use Rattle.query_grammar.specs.Parser.{next_is}
 

@@ -2,11 +2,10 @@
 use mathlib.Core.Path.{fun_ext}
 use Rattle.std.proofs.Common.{◌≡◌, ℕ, zero, suc, Bool, true, false, cond, List, [], ◌∷◌, length, Option, Some, None, refl, inl, ◌⊎◌}
 use Rattle.query_lang.specs.declared.token.Token.{Token}
-use Rattle.query_grammar.specs.declared.stop.Counts.{Counts}
-use Rattle.query_grammar.specs.Language.{Language, Leaf, Repeated, Meaning, Chain, Chained}
-use Rattle.query_grammar.specs.Parser.{Limits, Outcome, Done, Stopped, Parser, and_then, next_is, mapped, turns, repeated, linked}
-use Rattle.query_grammar.specs.Parser.{chain_turns, next_turn, chained}
-use Rattle.query_grammar.proofs.{Chains.parses_chained, Parses.Parses, Parses.meets_as, Sequences.parses_mapped, Parses.Apart, Parses.Keeps}
+use Rattle.query_grammar.specs.{declared.stop.Counts.Counts, Language.{Language, Leaf, Repeated, Meaning, Chain, Chained}, Parser.Limits}
+use Rattle.query_grammar.specs.Parser.{Outcome, Done, Stopped, Parser, and_then, next_is, mapped, turns, repeated, linked, chain_turns}
+use Rattle.query_grammar.{specs.Parser.{next_turn, chained}, proofs.{Chains.parses_chained, Parses.{Parses, meets_as, Apart, Keeps}}}
+use Rattle.query_grammar.proofs.Sequences.{parses_mapped}
 
 abbrev pub as_turn : {A : Type 0} → A → A ⊎ ⊥
 as_turn a = inl a

@@ -1,17 +1,14 @@
 -- What the parser does on the words of queries.
 use Rattle.std.proofs.Common.{◌≡◌, ℕ, zero, suc, ◌+◌, ◌≤◌, false, List, [], ◌∷◌, ◌++◌, Option, Some, None, refl, sym, ap, ◌∙◌, append_assoc}
-use Rattle.std.proofs.Common.{arith}
-use Rattle.std.proofs.lemmas.List.{append-nil, map-append, append_cancel_right}
-use Rattle.std.specs.Option.{option_and_then}
-use Rattle.query_lang.specs.declared.{fault.Span.Span, query.Item.Item, token.Token.Token, fault.TheConstants.MAX_NESTING}
-use Rattle.query_grammar.specs.{declared.stop.Counts.Counts, declared.stop.Stop.Stop, Kinds.kind, Kinds.among, Language.Leaf}
-use Rattle.query_grammar.specs.{Language.tokens_of, Grammar.Query, Grammar.Derives, Reading.query, Reading.item_starts}
+use Rattle.std.{proofs.{Common.arith, lemmas.List.{append-nil, map-append, append_cancel_right}}, specs.Option.option_and_then}
+use Rattle.query_lang.specs.declared.{fault.{Span.Span, TheConstants.MAX_NESTING}, query.Item.Item, token.Token.Token}
+use Rattle.query_grammar.specs.{declared.stop.{Counts.Counts, Stop.Stop}, Kinds.{kind, among}, Language.{Leaf, tokens_of}}
+use Rattle.query_grammar.specs.{Grammar.{Query, Derives}, Reading.{query, item_starts}}
 use Rattle.query_grammar.specs.declared.stop.Stop.TheVariants.{Unexpected, Nodes, Statements, Nesting}
 use Rattle.query_grammar.specs.Parser.{no_counts, Limits, Limited, Unlimited, charge, Outcome, Done, Stopped}
 use Rattle.query_grammar.specs.Fault.{opens, opened, closed, IsShallow, BeginsQuery, counted}
 use Rattle.query_grammar.proofs.Parses.{Parses, Found, Halted, Meets, Reads, reads, passes, Stops, pays, pays-append}
-use Rattle.query_grammar.proofs.Nests.{Shallow, Level_is, reached_of, StopLevel, LevelMeets}
-use Rattle.query_grammar.proofs.{NestLines.nests_query, Depths.deeper_query}
+use Rattle.query_grammar.proofs.{Nests.{Shallow, Level_is, reached_of, StopLevel, LevelMeets}, NestLines.nests_query, Depths.deeper_query}
 use Rattle.query_grammar.proofs.GrammarLines.{Deeper, here, under, parses_unlimited, parses_limited}
 
 abbrev pub Value : Type 0

@@ -1,12 +1,10 @@
 -- One parser after the other keeps that each meets its language, and so does another meaning.
 use Rattle.std.proofs.Common.{◌≡◌, Bool, true, false, List, ◌∷◌, ◌++◌, refl, sym, ap, ◌∙◌, append_assoc}
 use Rattle.query_lang.specs.declared.token.Token.{Token}
-use Rattle.query_grammar.specs.Language.{Language, Leaf, tokens_of, Then, Meaning}
-use Rattle.query_grammar.specs.declared.stop.{Counts.Counts, Stop.Stop}
-use Rattle.query_grammar.specs.Parser.{Limits, Outcome, Done, Stopped, Parser, and_then, followed_by, mapped}
-use Rattle.query_grammar.proofs.Parses.{Apart, Keeps, Widens, pays_both, tokens-append, Found, Halted, Meets, Reads, Begins}
-use Rattle.query_grammar.proofs.Parses.{Parses, next_of, starts_of}
-use Rattle.query_grammar.proofs.Parses.{next_clear, fewer, wider, cause_more, reads, passes, nothing, something}
+use Rattle.query_grammar.specs.{Language.{Language, Leaf, tokens_of, Then, Meaning}, declared.stop.{Counts.Counts, Stop.Stop}}
+use Rattle.query_grammar.{specs.Parser.{Limits, Outcome, Done, Stopped, Parser, and_then, followed_by, mapped}, proofs.Parses.Apart}
+use Rattle.query_grammar.proofs.Parses.{Keeps, Widens, pays_both, tokens-append, Found, Halted, Meets, Reads, Begins, Parses, next_of}
+use Rattle.query_grammar.proofs.Parses.{starts_of, next_clear, fewer, wider, cause_more, reads, passes, nothing, something}
 
 module _ {A B : Type 0} (m : Limits) (L : Language A) (M : Language B) (p : Parser A) (q : Parser B) where
   then_done : (c : Counts) (ts : List Token) (a : A) (d : Counts) (mid : List Token) (b : B) (e : Counts) (rest : List Token)

@@ -1,16 +1,11 @@
 -- The query of a text is the one that the grammar relates to it, and its fault the first.
 use Rattle.std.proofs.Common.{◌≡◌, ℕ, ◌<◌, ◌≤◌, Bool, true, false, cond, ltb, List, [], ◌∷◌, length, refl, sym, ap, subst, ◌∙◌, arith, Ok}
-use Rattle.std.proofs.Common.{Err, Result, ◌⊎◌, inl, inr}
-use Rattle.std.proofs.lemmas.Bool.{le-ltb, cases_lt}
-use Rattle.query_lang.specs.declared.{fault.FaultKind.TheVariants.QueryTooLong, fault.QueryFault.QueryFault, fault.TheConstants.MAX_QUERY}
-use Rattle.query_lang.specs.declared.{query.Query.Query, token.Token.Token}
-use Rattle.query_lang.specs.Lexis.{Cut, cut, fault_at, tokens_of}
-use Rattle.query_grammar.{specs.Fault.Says, specs.Reading.parsed, proofs.Runs.Value, proofs.Parsed.parsed_says}
-use Rattle.query_grammar.{proofs.Whole.accepted_parsed, proofs.Whole.fault_found}
-use Rattle.query_grammar.specs.Parser.{Outcome, Done, Stopped}
-use Rattle.query_grammar.specs.Texts.{IsQueryOf, IsFaultOf, too_long, in_lexis, in_grammar, answered, fault_of, with_names, parsed_cut}
-use Rattle.query_grammar.specs.Texts.{parsed_text}
-use Rattle.query_grammar.proofs.CutTexts.{Pair, text_is_cut, cut_end}
+use Rattle.std.proofs.{Common.{Err, Result, ◌⊎◌, inl, inr}, lemmas.Bool.{le-ltb, cases_lt}}
+use Rattle.query_lang.specs.declared.fault.{FaultKind.TheVariants.QueryTooLong, QueryFault.QueryFault, TheConstants.MAX_QUERY}
+use Rattle.query_lang.specs.{declared.{query.Query.Query, token.Token.Token}, Lexis.{Cut, cut, fault_at, tokens_of}}
+use Rattle.query_grammar.specs.{Fault.Says, Reading.parsed, Parser.{Outcome, Done, Stopped}, Texts.{IsQueryOf, IsFaultOf, too_long}}
+use Rattle.query_grammar.{specs.Texts.{in_lexis, in_grammar, answered, fault_of, with_names, parsed_cut, parsed_text}, proofs.Runs.Value}
+use Rattle.query_grammar.proofs.{Parsed.parsed_says, Whole.{accepted_parsed, fault_found}, CutTexts.{Pair, text_is_cut, cut_end}}
 
 short_text : (text : List ℕ) → length text ≤ MAX_QUERY → parsed_text text ≡ parsed_cut (tokens_of text)
 short_text text le = let b : ltb MAX_QUERY (length text) ≡ false = le-ltb _ _ le in rw b refl

@@ -1,16 +1,13 @@
 -- What the ways to build a parser keep of the nodes and statements among a word's leaves.
 use Rattle.std.proofs.Common.{◌≡◌, ℕ, ◌+◌, List, [], ◌∷◌, ◌++◌, map, Option, Some, None, refl, sym, ap, ◌∙◌, arith, inl, inr, ◌⊎◌}
 use Rattle.std.specs.Prelude.{sum, sum_by, fold}
-use Rattle.query_lang.specs.declared.{fault.Span.Span, fold.Op.Op, query.Name.Name, token.TokenKind.TokenKind, token.Token.Token}
+use Rattle.query_lang.specs.declared.{fault.Span.Span, fold.Op.Op, query.Name.Name, token.{TokenKind.TokenKind, Token.Token}}
 use Rattle.query_lang.specs.declared.query.Expr.{Expr, Number, Named, Not, Binary, Call, fold-roll-Expr}
 use Rattle.query_lang.specs.declared.query.Expr.TheVariants.{rolls-Number, rolls-Named, rolls-Not, rolls-Binary, rolls-Call}
-use Rattle.query_lang.specs.declared.query.Stmt.{Stmt, Assign, If, Emit, fold-roll-Stmt}
-use Rattle.query_lang.specs.declared.query.Stmt.TheVariants.{rolls-Assign, rolls-If, rolls-Emit}
+use Rattle.query_lang.specs.declared.query.Stmt.{Stmt, Assign, If, Emit, fold-roll-Stmt, TheVariants.{rolls-Assign, rolls-If, rolls-Emit}}
 use Rattle.query_lang.specs.TypedFolds.{expr_nodes, nodes_step, stmt_nodes, stmt_nodes_step, stmt_count, count_step}
 use Rattle.query_grammar.specs.Language.{Role, Plain, Node, Statement, Opening, Leaf, Language, Word, Then, Repeated, AtMostOnce, Either}
-use Rattle.query_grammar.specs.Language.{Meaning}
-use Rattle.query_grammar.specs.Kinds.{sign}
-use Rattle.query_grammar.specs.Grammar.{listed, After, Before, Between, Separated, Listed}
+use Rattle.query_grammar.specs.{Language.Meaning, Kinds.sign, Grammar.{listed, After, Before, Between, Separated, Listed}}
 use Rattle.query_lang.specs.declared.query.Expr.TheOpen as expr
 use Rattle.query_lang.specs.declared.query.Stmt.TheOpen as stmt
 use Rattle.query_lang.specs.declared.token.Mark.TheVariants as marks

@@ -1,16 +1,15 @@
 -- The nodes and statements of what a word means are counted among the word's leaves.
 use Rattle.std.proofs.Common.{◌≡◌, ℕ, zero, suc, ◌+◌, ◌-◌, ◌^◌, List, [], ◌∷◌, Option, Some, None, refl, sym, arith, inl, inr, ◌⊎◌}
-use Rattle.query_lang.specs.declared.{fault.Span.Span, fold.Op.Op, query.Expr.Expr, query.Expr.Binary, query.Stmt.Stmt}
+use Rattle.query_lang.specs.declared.{fault.Span.Span, fold.Op.Op, query.{Expr.{Expr, Binary}, Stmt.Stmt}}
 use Rattle.query_lang.specs.TypedFolds.{expr_nodes, stmt_nodes, stmt_count}
-use Rattle.query_grammar.specs.Language.{Leaf, Language, Chain, Chained}
-use Rattle.query_grammar.specs.Kinds.{sign, keyword}
-use Rattle.query_grammar.specs.Grammar.{grouped, compared, negated, else_of, Parens, Operators, either_ops, both_ops, or_ops, xor_ops}
-use Rattle.query_grammar.specs.Grammar.{and_ops, shift_ops, sum_ops, product_ops, Level, Atom, CallOf, Unary, Comparison, Disjunction}
-use Rattle.query_grammar.specs.Grammar.{Expression, Assignment, Emission, Block, IfPart, ElsePart, IfStatement, Statement_at}
-use Rattle.query_grammar.proofs.Weighing.{weigh_as, total, node_number, node_named, node_not, node_binary, node_call, nodes_assign}
-use Rattle.query_grammar.proofs.Weighing.{nodes_if, nodes_emit, count_assign, count_if, count_emit, Weight, both, nothing, same_weight}
-use Rattle.query_grammar.proofs.Weighing.{none, one, weigh_plain, weigh_node, weigh_statement, weigh_then, weigh_meaning, weigh_either}
-use Rattle.query_grammar.proofs.Weighing.{weigh_repeated, Weighs, if_some, weigh_once, weigh_after, weigh_between, weigh_listed}
+use Rattle.query_grammar.specs.{Language.{Leaf, Language, Chain, Chained}, Kinds.{sign, keyword}, Grammar.{grouped, compared, negated}}
+use Rattle.query_grammar.specs.Grammar.{else_of, Parens, Operators, either_ops, both_ops, or_ops, xor_ops, and_ops, shift_ops, sum_ops}
+use Rattle.query_grammar.specs.Grammar.{product_ops, Level, Atom, CallOf, Unary, Comparison, Disjunction, Expression, Assignment, Emission}
+use Rattle.query_grammar.{specs.Grammar.{Block, IfPart, ElsePart, IfStatement, Statement_at}, proofs.Weighing.{weigh_as, total}}
+use Rattle.query_grammar.proofs.Weighing.{node_number, node_named, node_not, node_binary, node_call, nodes_assign, nodes_if, nodes_emit}
+use Rattle.query_grammar.proofs.Weighing.{count_assign, count_if, count_emit, Weight, both, nothing, same_weight, none, one, weigh_plain}
+use Rattle.query_grammar.proofs.Weighing.{weigh_node, weigh_statement, weigh_then, weigh_meaning, weigh_either, weigh_repeated, Weighs}
+use Rattle.query_grammar.proofs.Weighing.{if_some, weigh_once, weigh_after, weigh_between, weigh_listed}
 use Rattle.query_lang.specs.declared.token.Mark.TheVariants as marks
 use Rattle.query_lang.specs.declared.token.Word.TheVariants as words
 

@@ -1,19 +1,16 @@
 -- What the grammar says is what parsing gives.
 use Rattle.std.proofs.Common.{◌≡◌, ℕ, suc, ◌≤◌, List, [], ◌∷◌, ◌++◌, length, Some, None, refl, sym, ap, ◌∙◌, append_assoc, arith}
-use Rattle.std.proofs.lemmas.List.{append-nil, map-append, length-append}
-use Rattle.std.proofs.lemmas.Bool.{le-ltb}
-use Rattle.query_lang.specs.declared.{token.Token.Token, fault.TheConstants.MAX_NODES, fault.TheConstants.MAX_STATEMENTS}
-use Rattle.query_grammar.specs.{declared.stop.Counts.Counts, declared.stop.Stop.Stop, Grammar.Query, Reading.all_read, Reading.parsed}
+use Rattle.std.proofs.lemmas.{List.{append-nil, map-append, length-append}, Bool.le-ltb}
+use Rattle.query_lang.specs.declared.{token.Token.Token, fault.TheConstants.{MAX_NODES, MAX_STATEMENTS}}
+use Rattle.query_grammar.specs.{declared.stop.{Counts.Counts, Stop.Stop}, Grammar.Query, Reading.{all_read, parsed}}
 use Rattle.query_grammar.specs.declared.stop.Stop.TheVariants.{Unexpected, Nodes, Statements, Nesting}
 use Rattle.query_grammar.specs.Language.{Role, Plain, Node, Statement, Opening, Leaf, tokens_of}
 use Rattle.query_grammar.specs.Parser.{no_counts, Limited, charge, Outcome, Done, Stopped}
 use Rattle.query_grammar.specs.Fault.{IsShallow, BeginsQuery, IsSound, IsGrammatical, StandsAt, IsAccepted}
-use Rattle.query_grammar.proofs.Parses.{Stops, StopsFirst, Cause, pays}
-use Rattle.query_grammar.proofs.Nests.{shallow_is}
-use Rattle.query_grammar.proofs.Splits.{Place, inside, at_end, beyond, place, head_is, tail_is}
-use Rattle.query_grammar.proofs.Runs.{IsHalted, IsFound, Value, depth, run, halted_of, found_of, StopFacts, same_stop, tokens_cons, Run}
-use Rattle.query_grammar.proofs.Runs.{whole, halts, run_of, begins_of, begins_front, pays_is, no_stop}
-use Rattle.query_grammar.proofs.Parsed.{done_or_stopped, same_place, no_more}
+use Rattle.query_grammar.proofs.{Parses.{Stops, StopsFirst, Cause, pays}, Nests.shallow_is}
+use Rattle.query_grammar.proofs.{Splits.{Place, inside, at_end, beyond, place, head_is, tail_is}, Runs.{IsHalted, IsFound, Value, depth}}
+use Rattle.query_grammar.proofs.Runs.{run, halted_of, found_of, StopFacts, same_stop, tokens_cons, Run, whole, halts, run_of, begins_of}
+use Rattle.query_grammar.proofs.{Runs.{begins_front, pays_is, no_stop}, Parsed.{done_or_stopped, same_place, no_more}}
 
 -- ---- backwards
 

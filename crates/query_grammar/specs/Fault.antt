@@ -1,19 +1,12 @@
 -- Which fault is at which token: the first at which no query goes on, or at which a limit is passed.
-use Rattle.std.specs.Prelude.{◌≡◌, ℕ, ◌+◌, ◌<◌, ◌≤◌, List, [], ◌∷◌, ◌++◌, Option, Some, option_and_then}
-use Rattle.std.specs.Prelude.{if◌then◌else◌}
-use Rattle.query_lang.specs.declared.fault.Span.{Span}
-use Rattle.query_lang.specs.declared.query.Item.{Item}
+use Rattle.std.specs.Prelude.{◌≡◌, ℕ, ◌+◌, ◌<◌, ◌≤◌, List, [], ◌∷◌, ◌++◌, Option, Some, option_and_then, if◌then◌else◌}
+use Rattle.query_lang.specs.declared.{fault.Span.Span, query.Item.Item}
 use Rattle.query_lang.specs.declared.token.Mark.TheVariants as marks
 use Rattle.query_lang.specs.declared.token.TokenKind.TheVariants as kinds
-use Rattle.query_lang.specs.declared.token.Token.{Token}
-use Rattle.query_lang.specs.declared.fault.TheConstants.{MAX_NESTING, MAX_NODES, MAX_STATEMENTS}
-use Rattle.query_grammar.specs.declared.stop.Counts.{Counts}
-use Rattle.query_grammar.specs.declared.stop.Stop.{Stop}
-use Rattle.query_grammar.specs.declared.stop.Stop.TheVariants.{Unexpected, Nodes, Statements, Nesting}
-use Rattle.query_grammar.specs.Kinds.{one_of, kind, kind_number, sign}
-use Rattle.query_grammar.specs.Language.{Leaf, Plain, Node, Statement, tokens_of}
-use Rattle.query_grammar.specs.Parser.{no_counts, Outcome, Done, Stopped, Limits, Limited, charge}
-use Rattle.query_grammar.specs.Grammar.{Query, Derives}
+use Rattle.query_lang.specs.declared.{token.Token.Token, fault.TheConstants.{MAX_NESTING, MAX_NODES, MAX_STATEMENTS}}
+use Rattle.query_grammar.specs.declared.stop.{Counts.Counts, Stop.{Stop, TheVariants.{Unexpected, Nodes, Statements, Nesting}}}
+use Rattle.query_grammar.specs.{Kinds.{one_of, kind, kind_number, sign}, Language.{Leaf, Plain, Node, Statement, tokens_of}}
+use Rattle.query_grammar.specs.{Parser.{no_counts, Outcome, Done, Stopped, Limits, Limited, charge}, Grammar.{Query, Derives}}
 
 -- ---- brackets
 

@@ -1,17 +1,12 @@
 -- The grammar, a definition for each line. Each gives the words of the line with what they mean.
-use Rattle.std.specs.Prelude.{◌≡◌, ℕ, ◌-◌, ◌^◌, zero, suc, List, [], ◌∷◌, Option, Some, None, ◌⊎◌}
-use Rattle.std.proofs.Common.{inl, inr}
-use Rattle.query_lang.specs.declared.fault.Span.{Span}
-use Rattle.query_lang.specs.declared.fold.Op.{Op}
+use Rattle.std.{specs.Prelude.{◌≡◌, ℕ, ◌-◌, ◌^◌, zero, suc, List, [], ◌∷◌, Option, Some, None, ◌⊎◌}, proofs.Common.{inl, inr}}
+use Rattle.query_lang.specs.declared.{fault.Span.Span, fold.Op.Op}
 use Rattle.query_lang.specs.declared.fold.Op.TheVariants as ops
-use Rattle.query_lang.specs.declared.query.Name.{Name}
-use Rattle.query_lang.specs.declared.query.Expr.{Expr}
+use Rattle.query_lang.specs.declared.query.{Name.Name, Expr.Expr}
 use Rattle.query_lang.specs.declared.query.Expr.TheVariants as exprs
 use Rattle.query_lang.specs.declared.query.Stmt.{Stmt}
 use Rattle.query_lang.specs.declared.query.Stmt.TheVariants as stmts
-use Rattle.query_lang.specs.declared.query.StateVar.{StateVar}
-use Rattle.query_lang.specs.declared.query.Column.{Column}
-use Rattle.query_lang.specs.declared.query.Key.{Key}
+use Rattle.query_lang.specs.declared.query.{StateVar.StateVar, Column.Column, Key.Key}
 use Rattle.query_lang.specs.declared.query.Key.TheVariants as keys
 use Rattle.query_lang.specs.declared.query.StreamOp.{StreamOp}
 use Rattle.query_lang.specs.declared.query.StreamOp.TheVariants as streams
@@ -25,8 +20,7 @@ use Rattle.query_lang.specs.declared.token.TokenKind.{TokenKind}
 use Rattle.query_lang.specs.declared.token.TokenKind.TheVariants as kinds
 use Rattle.query_lang.specs.declared.token.Token.{Token}
 use Rattle.query_grammar.specs.Language.{Plain, Node, Statement, Opening, Leaf, Language, tokens_of, Word, Then, Repeated, AtMostOnce}
-use Rattle.query_grammar.specs.Language.{Either, Meaning, Chained}
-use Rattle.query_grammar.specs.Kinds.{is, name, number, operator, sign, keyword}
+use Rattle.query_grammar.specs.{Language.{Either, Meaning, Chained}, Kinds.{is, name, number, operator, sign, keyword}}
 
 -- ---- what the words mean
 

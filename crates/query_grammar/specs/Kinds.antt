@@ -1,9 +1,6 @@
 -- Kinds of tokens by number, and which tokens a word of the grammar represents.
 use Rattle.std.specs.Prelude.{ℕ, Bool, true, false, Option, Some, None, List, [], ◌∷◌, nat_eq, if◌then◌else◌}
-use Rattle.query_lang.specs.declared.fault.Span.{Span}
-use Rattle.query_lang.specs.declared.fold.Op.{Op}
-use Rattle.query_lang.specs.declared.query.Name.{Name}
-use Rattle.query_lang.specs.declared.token.Word.{Word}
+use Rattle.query_lang.specs.declared.{fault.Span.Span, fold.Op.Op, query.Name.Name, token.Word.Word}
 use Rattle.query_lang.specs.declared.token.Word.TheVariants as words
 use Rattle.query_lang.specs.declared.token.Mark.{Mark}
 use Rattle.query_lang.specs.declared.token.Mark.TheVariants as marks

@@ -1,6 +1,5 @@
 -- Languages as relations between words and what they mean, and the ways to build one from others.
-use Rattle.std.specs.Prelude.{◌≡◌, List, [], ◌∷◌, ◌++◌, map, Option, Some, None, ◌⊎◌}
-use Rattle.std.proofs.Common.{inl, inr}
+use Rattle.std.{specs.Prelude.{◌≡◌, List, [], ◌∷◌, ◌++◌, map, Option, Some, None, ◌⊎◌}, proofs.Common.{inl, inr}}
 use Rattle.query_lang.specs.declared.token.Token.{Token}
 
 -- What a token counts as: nothing, a node of an item's expressions, the first token of a statement, or the first token of an

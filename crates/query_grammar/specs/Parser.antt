@@ -1,12 +1,8 @@
 -- Parsers that go by the next token, as functions on lists of tokens.
-use Rattle.std.specs.Prelude.{ℕ, zero, suc, ◌+◌, Bool, false, List, [], ◌∷◌, length, Option, Some, None, nat_lt}
-use Rattle.std.specs.Prelude.{if◌then◌else◌, ◌⊎◌}
+use Rattle.std.specs.Prelude.{ℕ, zero, suc, ◌+◌, Bool, false, List, [], ◌∷◌, length, Option, Some, None, nat_lt, if◌then◌else◌, ◌⊎◌}
 use Rattle.std.proofs.Common.{inl, inr}
-use Rattle.query_lang.specs.declared.token.Token.{Token}
-use Rattle.query_lang.specs.declared.fault.TheConstants.{MAX_NODES, MAX_STATEMENTS}
-use Rattle.query_grammar.specs.declared.stop.Counts.{Counts}
-use Rattle.query_grammar.specs.declared.stop.Stop.{Stop}
-use Rattle.query_grammar.specs.declared.stop.Stop.TheVariants.{Unexpected, Nodes, Statements}
+use Rattle.query_lang.specs.declared.{token.Token.Token, fault.TheConstants.{MAX_NODES, MAX_STATEMENTS}}
+use Rattle.query_grammar.specs.declared.stop.{Counts.Counts, Stop.{Stop, TheVariants.{Unexpected, Nodes, Statements}}}
 use Rattle.query_grammar.specs.Language.{Role, Plain, Node, Statement, Opening}
 
 -- whether the limits count

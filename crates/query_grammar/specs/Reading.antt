@@ -1,14 +1,10 @@
 -- The parser of each line, by the next token. Its argument says how many more brackets may be opened.
 use Rattle.std.specs.Prelude.{ℕ, ◌-◌, ◌^◌, zero, suc, List, [], ◌∷◌, Option, Some, None, ◌⊎◌}
-use Rattle.query_lang.specs.declared.fault.Span.{Span}
-use Rattle.query_lang.specs.declared.query.Name.{Name}
-use Rattle.query_lang.specs.declared.query.Expr.{Expr}
+use Rattle.query_lang.specs.declared.{fault.Span.Span, query.{Name.Name, Expr.Expr}}
 use Rattle.query_lang.specs.declared.query.Expr.TheVariants as exprs
 use Rattle.query_lang.specs.declared.query.Stmt.{Stmt}
 use Rattle.query_lang.specs.declared.query.Stmt.TheVariants as stmts
-use Rattle.query_lang.specs.declared.query.StateVar.{StateVar}
-use Rattle.query_lang.specs.declared.query.Column.{Column}
-use Rattle.query_lang.specs.declared.query.Key.{Key}
+use Rattle.query_lang.specs.declared.query.{StateVar.StateVar, Column.Column, Key.Key}
 use Rattle.query_lang.specs.declared.query.Key.TheVariants as keys
 use Rattle.query_lang.specs.declared.query.StreamOp.{StreamOp}
 use Rattle.query_lang.specs.declared.query.StreamOp.TheVariants as streams
@@ -20,16 +16,13 @@ use Rattle.query_lang.specs.declared.token.Word.TheVariants as words
 use Rattle.query_lang.specs.declared.token.Mark.TheVariants as marks
 use Rattle.query_lang.specs.declared.token.TokenKind.{TokenKind}
 use Rattle.query_lang.specs.declared.token.TokenKind.TheVariants as kinds
-use Rattle.query_lang.specs.declared.token.Token.{Token}
-use Rattle.query_lang.specs.declared.fault.TheConstants.{MAX_NESTING}
-use Rattle.query_grammar.specs.declared.stop.Stop.TheVariants.{Unexpected, Nesting}
-use Rattle.query_grammar.specs.Language.{Plain, Node, Statement, Opening}
-use Rattle.query_grammar.specs.Kinds.{among, is, name, number, operator, kinds_of, sign, keyword}
-use Rattle.query_grammar.specs.Parser.{no_counts, Limits, Limited, Unlimited, Outcome, Done, Stopped, Parser, word, followed_by, mapped}
-use Rattle.query_grammar.specs.Parser.{at_most_once, either, repeated, chained}
-use Rattle.query_grammar.specs.Grammar.{grouped, compared, negated, list_of, listed, is_last, is_another, else_of, initial_of, Operators}
-use Rattle.query_grammar.specs.Grammar.{either_ops, both_ops, comparing_ops, or_ops, xor_ops, and_ops, shift_ops, sum_ops, product_ops}
-use Rattle.query_grammar.specs.Grammar.{functions}
+use Rattle.query_lang.specs.declared.{token.Token.Token, fault.TheConstants.MAX_NESTING}
+use Rattle.query_grammar.specs.{declared.stop.Stop.TheVariants.{Unexpected, Nesting}, Language.{Plain, Node, Statement, Opening}}
+use Rattle.query_grammar.specs.{Kinds.{among, is, name, number, operator, kinds_of, sign, keyword}, Parser.{no_counts, Limits, Limited}}
+use Rattle.query_grammar.specs.Parser.{Unlimited, Outcome, Done, Stopped, Parser, word, followed_by, mapped, at_most_once, either, repeated}
+use Rattle.query_grammar.specs.{Parser.chained, Grammar.{grouped, compared, negated, list_of, listed, is_last, is_another, else_of}}
+use Rattle.query_grammar.specs.Grammar.{initial_of, Operators, either_ops, both_ops, comparing_ops, or_ops, xor_ops, and_ops, shift_ops}
+use Rattle.query_grammar.specs.Grammar.{sum_ops, product_ops, functions}
 
 -- ---- signs and words around
 

@@ -1,21 +1,11 @@
 -- What a text means, or which fault is its first.
-use Rattle.std.specs.Prelude.{◌≡◌, ℕ, ◌<◌, ◌≤◌, List, [], ◌∷◌, ◌++◌, length, Result, Ok, Err, nat_lt}
-use Rattle.std.specs.Prelude.{if◌then◌else◌}
-use Rattle.query_lang.specs.declared.fault.FaultKind.{FaultKind}
-use Rattle.query_lang.specs.declared.fault.FaultKind.TheVariants.{QueryTooLong, UnexpectedToken, OverLimit}
+use Rattle.std.specs.Prelude.{◌≡◌, ℕ, ◌<◌, ◌≤◌, List, [], ◌∷◌, ◌++◌, length, Result, Ok, Err, nat_lt, if◌then◌else◌}
+use Rattle.query_lang.specs.declared.fault.FaultKind.{FaultKind, TheVariants.{QueryTooLong, UnexpectedToken, OverLimit}}
 use Rattle.query_lang.specs.declared.fault.Limit.TheVariants as limits
-use Rattle.query_lang.specs.declared.fault.QueryFault.{QueryFault}
-use Rattle.query_lang.specs.declared.fault.Span.{Span}
-use Rattle.query_lang.specs.declared.fault.TheConstants.{MAX_QUERY}
-use Rattle.query_lang.specs.declared.query.Item.{Item}
-use Rattle.query_lang.specs.declared.query.Query.{Query}
-use Rattle.query_lang.specs.declared.token.Token.{Token}
-use Rattle.query_lang.specs.Lexis.{Cut, fault_at, tokens_of}
-use Rattle.query_grammar.specs.declared.stop.Stop.{Stop}
-use Rattle.query_grammar.specs.declared.stop.Stop.TheVariants.{Unexpected, Nodes, Statements, Nesting}
-use Rattle.query_grammar.specs.Fault.{StandsAt, IsAccepted}
-use Rattle.query_grammar.specs.Parser.{Outcome, Done, Stopped}
-use Rattle.query_grammar.specs.Reading.{parsed}
+use Rattle.query_lang.specs.declared.{fault.{QueryFault.QueryFault, Span.Span, TheConstants.MAX_QUERY}, query.{Item.Item, Query.Query}}
+use Rattle.query_lang.specs.{declared.token.Token.Token, Lexis.{Cut, fault_at, tokens_of}}
+use Rattle.query_grammar.specs.declared.stop.Stop.{Stop, TheVariants.{Unexpected, Nodes, Statements, Nesting}}
+use Rattle.query_grammar.specs.{Fault.{StandsAt, IsAccepted}, Parser.{Outcome, Done, Stopped}, Reading.parsed}
 
 abbrev pub kind_of : Stop → FaultKind
 kind_of Unexpected = UnexpectedToken

@@ -1,24 +1,13 @@
 //! Laws about the grammar: a text has one meaning at most, and the function on tokens gives it or exactly the first fault.
 
 ghost use Rattle.std.specs.Prelude.{◌≡◌, ◌↔◌, ℕ, List, [], ◌∷◌, ◌++◌};
-ghost use Rattle.query_lang.specs.declared.fault.QueryFault.{QueryFault};
-ghost use Rattle.query_lang.specs.declared.fault.Span.{Span};
-ghost use Rattle.query_lang.specs.declared.query.FoldDef.{FoldDef};
-ghost use Rattle.query_lang.specs.declared.query.Item.{Item};
+ghost use Rattle.query_lang.specs.declared.{fault.{QueryFault.QueryFault, Span.Span}, query.{FoldDef.FoldDef, Item.Item}};
 ghost use Rattle.query_lang.specs.declared.query.Item.TheVariants as items;
-ghost use Rattle.query_lang.specs.declared.query.Query.{Query};
-ghost use Rattle.query_lang.specs.declared.token.Token.{Token};
-ghost use Rattle.query_grammar.specs.declared.stop.Counts.{Counts};
-ghost use Rattle.query_grammar.specs.declared.stop.Stop.{Stop};
-ghost use Rattle.query_lang.specs.Limits.{IsReadable};
+ghost use Rattle.query_lang.specs.{declared.{query.Query.Query, token.Token.Token}, Limits.IsReadable};
 ghost use Rattle.query_lang.specs.TypedFolds.{fold_nodes, fold_statements};
-ghost use Rattle.query_grammar.specs.FoldTokens.{nodes_among, statements_among};
-ghost use Rattle.query_grammar.specs.Language.{Leaf};
-ghost use Rattle.query_grammar.specs.Parser.{Done, Stopped};
-ghost use Rattle.query_grammar.specs.Grammar.{Derives, Fold};
-ghost use Rattle.query_grammar.specs.Reading.{parsed};
-ghost use Rattle.query_grammar.specs.Fault.{StandsAt, IsAccepted, HasEnd, Says};
-ghost use Rattle.query_grammar.specs.Texts.{IsFaultOf, IsQueryOf, parsed_text};
+ghost use Rattle.query_grammar.specs.{declared.stop.{Counts.Counts, Stop.Stop}, FoldTokens.{nodes_among, statements_among}, Language.Leaf};
+ghost use Rattle.query_grammar.specs.{Parser.{Done, Stopped}, Grammar.{Derives, Fold}, Reading.parsed};
+ghost use Rattle.query_grammar.specs.{Fault.{StandsAt, IsAccepted, HasEnd, Says}, Texts.{IsFaultOf, IsQueryOf, parsed_text}};
 
 /// Tokens are those of one query at most.
 pub fn one_meaning()

@@ -1,16 +1,10 @@
 -- Where a text is among names, and one name more.
-use Rattle.std.proofs.Common.{◌≡◌, ℕ, suc, ◌+◌, ◌<◌, ◌≤◌, inl, inr, Bool, true, false, cond, not, ◌||◌, List, [], ◌∷◌, ◌++◌, length, map, get_or, take, ◌*◌, ◌%◌, ◌^◌}
-use Rattle.std.proofs.Common.{slice_get, Some, refl, sym, ap, ◌∙◌, arith, add-one, add_comm, Vec, Global, zero}
-use Rattle.std.specs.List.{list_any}
-use Rattle.std.specs.Int.RustNames.{bit_xor}
-use Rattle.std.specs.Str.{bytes_eq}
-use Rattle.std.proofs.lemmas.Bool.{cases_lt, true≢false}
-use Rattle.std.proofs.lemmas.List.{get_or-map, map-append}
-use Rattle.std.proofs.Math.Seq.{take-suc}
-use Rattle.std.proofs.lemmas.List.Sums.{fold-append, prefix_len-le-length}
-use Rattle.std.proofs.lemmas.Map.Keys.{any_passes_from_place}
-use Rattle.std.proofs.lemmas.Option.{same_Some, slice_get_within}
-use Rattle.std.proofs.lemmas.Slice.Eq.{bytes_eq-Decides}
+use Rattle.std.proofs.Common.{◌≡◌, ℕ, suc, ◌+◌, ◌<◌, ◌≤◌, inl, inr, Bool, true, false, cond, not, ◌||◌, List, [], ◌∷◌, ◌++◌, length, map}
+use Rattle.std.proofs.Common.{get_or, take, ◌*◌, ◌%◌, ◌^◌, slice_get, Some, refl, sym, ap, ◌∙◌, arith, add-one, add_comm, Vec, Global, zero}
+use Rattle.std.proofs.{lemmas.{Bool.{cases_lt, true≢false}, List.{get_or-map, map-append}}, Math.Seq.take-suc}
+use Rattle.std.proofs.lemmas.{List.Sums.{fold-append, prefix_len-le-length}, Map.Keys.any_passes_from_place}
+use Rattle.std.{proofs.lemmas.{Option.{same_Some, slice_get_within}, Slice.Eq.bytes_eq-Decides}, specs.List.list_any}
+use Rattle.std.specs.{Int.RustNames.bit_xor, Str.bytes_eq}
 use Rattle.query_lang.specs.Names.{AreNumbered, AreOnce, number_in, print_of, texts_of, with_name}
 
 -- a new name has the next number

@@ -1,9 +1,6 @@
 -- The number that digits write.
 use Rattle.std.proofs.Common.{◌≡◌, ℕ, ◌+◌, ◌*◌, ◌^◌, ◌<◌, ◌≤◌, false, ltb, List, [], ◌∷◌, length, get_or, drop, None, refl, sym, ap, ◌∙◌}
-use Rattle.std.proofs.Common.{arith, add-one, drop-cons}
-use Rattle.std.proofs.lemmas.Bool.{le-ltb}
-use Rattle.std.specs.Char.{digit_value}
-use Rattle.std.specs.Str.Parse.{digits_value_after}
+use Rattle.std.{proofs.{Common.{arith, add-one, drop-cons}, lemmas.Bool.le-ltb}, specs.{Char.digit_value, Str.Parse.digits_value_after}}
 use Rattle.query_lang.specs.Lexis.{below_limit}
 
 grows : (ds : List ℕ) (n : ℕ) → n ≤ digits_value_after 10 n ds

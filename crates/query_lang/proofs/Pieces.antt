@@ -1,22 +1,13 @@
 -- Each piece takes a byte.
-use Rattle.std.proofs.Common.{◌≡◌, ℕ, zero, suc, ◌+◌, ◌<◌, ◌≤◌, true, List, [], ◌∷◌, length, drop, take, Option, Some}
-use Rattle.std.proofs.Common.{None, refl, sym, ap, ◌∙◌, arith, Ok}
-use Rattle.std.specs.Prelude.{codes, nat_eq}
-use Rattle.std.specs.List.{prefix_len}
-use Rattle.std.specs.Str.{bytes_eq}
+use Rattle.std.proofs.Common.{◌≡◌, ℕ, zero, suc, ◌+◌, ◌<◌, ◌≤◌, true, List, [], ◌∷◌, length, drop, take, Option, Some, None, refl, sym, ap}
+use Rattle.std.proofs.{Common.{◌∙◌, arith, Ok}, lemmas.{Bool.{cond_both, eqb-false}, List.{length-drop, length-take}}}
+use Rattle.std.{proofs.lemmas.List.Sums.prefix_len-le-length, specs.{Prelude.{codes, nat_eq}, List.prefix_len, Str.bytes_eq}}
 use Rattle.std.specs.Str.Parse.{digits_value}
-use Rattle.std.proofs.lemmas.Bool.{cond_both, eqb-false}
-use Rattle.std.proofs.lemmas.List.{length-drop, length-take}
-use Rattle.std.proofs.lemmas.List.Sums.{prefix_len-le-length}
-use Rattle.query_lang.specs.declared.token.Word.{Word}
-use Rattle.query_lang.specs.declared.token.Mark.{Mark}
-use Rattle.query_lang.specs.declared.token.Piece.{Piece}
+use Rattle.query_lang.specs.declared.token.{Word.Word, Mark.Mark, Piece.Piece}
 use Rattle.query_lang.specs.declared.token.Piece.TheVariants as pieces
-use Rattle.query_lang.specs.declared.token.TokenKind.TheVariants.{End, Name}
-use Rattle.query_lang.specs.Names.{with_name, number_in}
-use Rattle.query_lang.specs.Lexis.{is_digit, is_word_byte, is_blank, is_not_line_feed, one_mark, two_mark, reserved, below_limit}
-use Rattle.query_lang.specs.Lexis.{number_piece, name_piece, word_piece, piece_of_mark, mark_at, piece, Cut, with_front, token_at}
-use Rattle.query_lang.specs.Lexis.{cut_piece, cut, TakesSome}
+use Rattle.query_lang.specs.{declared.token.TokenKind.TheVariants.{End, Name}, Names.{with_name, number_in}, Lexis.{is_digit, is_word_byte}}
+use Rattle.query_lang.specs.Lexis.{is_blank, is_not_line_feed, one_mark, two_mark, reserved, below_limit, number_piece, name_piece}
+use Rattle.query_lang.specs.Lexis.{word_piece, piece_of_mark, mark_at, piece, Cut, with_front, token_at, cut_piece, cut, TakesSome}
 
 number_takes : (o : Option ℕ) (len most : ℕ) → 0 < len → len ≤ most → TakesSome (number_piece o len) most
 number_takes None len most more le = omega arith

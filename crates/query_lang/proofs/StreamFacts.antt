@@ -1,15 +1,8 @@
 -- The examples of streams.
-use Rattle.std.proofs.Common.{◌≡◌, ℕ, List, [], ◌∷◌, Option, Some, refl, subst, ap, sym, ◌∙◌}
-use Rattle.std.specs.Prelude.{filter, map, fold, ◌++◌}
-use Rattle.query_lang.specs.declared.fold.Op.TheVariants.{Lt}
-use Rattle.query_lang.specs.declared.fold.TypedExpr.{TypedExpr}
-use Rattle.query_lang.specs.declared.fold.TypedFold.{TypedFold}
-use Rattle.query_lang.specs.declared.typed.TypedOp.{TypedOp}
-use Rattle.query_lang.specs.declared.typed.TypedOp.TheVariants.{Group}
-use Rattle.query_lang.specs.declared.typed.TypedStream.{TypedStream}
-use Rattle.query_lang.specs.Words.{holds, op_value}
-use Rattle.query_lang.specs.Terms.{Term, Literal, Read, Operation}
-use Rattle.query_lang.specs.Folds.{term_value}
+use Rattle.std.{proofs.Common.{◌≡◌, ℕ, List, [], ◌∷◌, Option, Some, refl, subst, ap, sym, ◌∙◌}, specs.Prelude.{filter, map, fold, ◌++◌}}
+use Rattle.query_lang.specs.declared.{fold.{Op.TheVariants.Lt, TypedExpr.TypedExpr, TypedFold.TypedFold}, typed.TypedOp.TypedOp}
+use Rattle.query_lang.specs.{declared.typed.{TypedOp.TheVariants.Group, TypedStream.TypedStream}, Words.{holds, op_value}}
+use Rattle.query_lang.specs.{Terms.{Term, Literal, Read, Operation}, Folds.term_value}
 use Rattle.query_lang.specs.Streams.{Tuple, numbered, values_at, holds_at, filter_stream, made_of, tuples_at}
 use Rattle.query_lang.specs.StreamExamples.{three_packets, tuple, FilterExample, MapExample, ZipExample, GroupExample}
 

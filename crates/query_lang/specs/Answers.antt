@@ -1,8 +1,6 @@
 -- What is answered where memory may run out, from what a definition gives.
 use Rattle.std.specs.Prelude.{◌≡◌, Result, Ok, Err, Option, Some}
-use Rattle.query_lang.specs.declared.error.QueryError.{QueryError}
-use Rattle.query_lang.specs.declared.error.QueryError.TheVariants.{Refused, Memory}
-use Rattle.query_lang.specs.declared.fault.QueryFault.{QueryFault}
+use Rattle.query_lang.specs.declared.{error.QueryError.{QueryError, TheVariants.{Refused, Memory}}, fault.QueryFault.QueryFault}
 use Rattle.query_lang.specs.Checks.{Checked}
 
 -- the answer is what is expected, or memory ran out

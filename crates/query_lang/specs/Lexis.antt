@@ -1,8 +1,6 @@
 -- How a text is cut into tokens.
-use Rattle.std.specs.Prelude.{ℕ, zero, suc, ◌+◌, ◌^◌, ◌<◌, ◌≤◌, Bool, true, false, List, [], ◌∷◌, length, take}
-use Rattle.std.specs.Prelude.{drop, codes, Option, Some, None, Result, Ok, Err, nat_eq, nat_lt, if◌then◌else◌, ◌&&◌, ◌||◌}
-use Rattle.std.specs.List.{prefix_len}
-use Rattle.std.specs.Str.{bytes_eq}
+use Rattle.std.specs.Prelude.{ℕ, zero, suc, ◌+◌, ◌^◌, ◌<◌, ◌≤◌, Bool, true, false, List, [], ◌∷◌, length, take, drop, codes, Option, Some}
+use Rattle.std.specs.{Prelude.{None, Result, Ok, Err, nat_eq, nat_lt, if◌then◌else◌, ◌&&◌, ◌||◌}, List.prefix_len, Str.bytes_eq}
 use Rattle.std.specs.Str.Parse.{digits_value}
 use Rattle.query_lang.specs.declared.token.Word.{Word}
 use Rattle.query_lang.specs.declared.token.Word.TheVariants as words
@@ -10,12 +8,8 @@ use Rattle.query_lang.specs.declared.token.Mark.{Mark}
 use Rattle.query_lang.specs.declared.token.Mark.TheVariants as marks
 use Rattle.query_lang.specs.declared.token.TokenKind.{TokenKind}
 use Rattle.query_lang.specs.declared.token.TokenKind.TheVariants as kinds
-use Rattle.query_lang.specs.declared.token.Token.{Token}
-use Rattle.query_lang.specs.declared.fault.FaultKind.{FaultKind}
-use Rattle.query_lang.specs.declared.fault.FaultKind.TheVariants.{BadByte, NumberTooLarge}
-use Rattle.query_lang.specs.declared.fault.QueryFault.{QueryFault}
-use Rattle.query_lang.specs.Names.{number_in, with_name}
-use Rattle.query_lang.specs.declared.token.Piece.{Piece}
+use Rattle.query_lang.specs.declared.{token.Token.Token, fault.FaultKind.{FaultKind, TheVariants.{BadByte, NumberTooLarge}}}
+use Rattle.query_lang.specs.{declared.{fault.QueryFault.QueryFault, token.Piece.Piece}, Names.{number_in, with_name}}
 use Rattle.query_lang.specs.declared.token.Piece.TheVariants as pieces
 
 abbrev pub is_in : ℕ → ℕ → ℕ → Bool

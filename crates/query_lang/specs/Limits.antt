@@ -1,16 +1,13 @@
 -- What holds of each query that is read from a text: its items keep the limits of the grammar, groupbys have keys, and its names have
 -- numbers, of which there are so few that each number of a column or a fold fits 16 bits.
 use Rattle.std.specs.Prelude.{ℕ, ◌<◌, ◌≤◌, List, length, sum_by, All}
-use Rattle.query_lang.specs.declared.query.Column.{Column}
-use Rattle.query_lang.specs.declared.query.FinalOp.{FinalOp}
+use Rattle.query_lang.specs.declared.query.{Column.Column, FinalOp.FinalOp}
 use Rattle.query_lang.specs.declared.query.FinalOp.TheVariants as final
 use Rattle.query_lang.specs.declared.query.Item.{Item}
 use Rattle.query_lang.specs.declared.query.Item.TheVariants as item
-use Rattle.query_lang.specs.declared.query.Query.{Query}
-use Rattle.query_lang.specs.declared.query.StreamOp.{StreamOp}
+use Rattle.query_lang.specs.declared.query.{Query.Query, StreamOp.StreamOp}
 use Rattle.query_lang.specs.declared.query.StreamOp.TheVariants as stream
-use Rattle.query_lang.specs.TypedFolds.{expr_nodes, fold_nodes, fold_statements}
-use Rattle.query_lang.specs.declared.fault.TheConstants.{MAX_NODES, MAX_STATEMENTS}
+use Rattle.query_lang.specs.{TypedFolds.{expr_nodes, fold_nodes, fold_statements}, declared.fault.TheConstants.{MAX_NODES, MAX_STATEMENTS}}
 
 abbrev pub columns_nodes : List Column → ℕ
 columns_nodes columns = sum_by (λ column. expr_nodes column.value) columns

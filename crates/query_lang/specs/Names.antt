@@ -1,8 +1,6 @@
 -- Names, numbered from 0 by first appearance.
 use Rattle.std.specs.Prelude.{◌≡◌, ℕ, ◌*◌, ◌%◌, ◌^◌, List, [], ◌∷◌, ◌++◌, Some, bit_xor, fold, map, slice_get, Vec, if◌then◌else◌}
-use Rattle.std.specs.Global.{Global}
-use Rattle.std.specs.List.{list_any, position_or_len}
-use Rattle.std.specs.Str.{bytes_eq}
+use Rattle.std.specs.{Global.Global, List.{list_any, position_or_len}, Str.bytes_eq}
 
 -- the number of a text: its place among the names, or the next number where it isn't among them
 abbrev pub number_in : List (List ℕ) → List ℕ → ℕ

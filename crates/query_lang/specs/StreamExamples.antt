@@ -1,11 +1,7 @@
 -- Streams of three packets of two words, computed.
 use Rattle.std.specs.Prelude.{◌≡◌, ℕ, List, [], ◌∷◌, Some}
-use Rattle.query_lang.specs.declared.fold.Op.TheVariants.{Add, Lt}
-use Rattle.query_lang.specs.declared.fold.TypedExpr.{TypedExpr}
-use Rattle.query_lang.specs.declared.fold.TypedFold.{TypedFold}
-use Rattle.query_lang.specs.declared.typed.TypedOp.TheVariants.{Filter, Group}
-use Rattle.query_lang.specs.declared.typed.TypedQuery.{TypedQuery}
-use Rattle.query_lang.specs.declared.typed.TypedStream.{TypedStream}
+use Rattle.query_lang.specs.declared.fold.{Op.TheVariants.{Add, Lt}, TypedExpr.TypedExpr, TypedFold.TypedFold}
+use Rattle.query_lang.specs.declared.typed.{TypedOp.TheVariants.{Filter, Group}, TypedQuery.TypedQuery, TypedStream.TypedStream}
 use Rattle.query_lang.specs.Terms.{Literal, Read, Operation, term_of}
 use Rattle.query_lang.specs.Streams.{Tuple, numbered, filter_stream, map_stream, zip_stream, stream}
 

@@ -1,15 +1,9 @@
 -- What the streams of a typed query are, over the list of all packets.
-use Rattle.std.specs.Prelude.{ℕ, suc, Bool, false, ◌==◌, List, [], ◌∷◌, ◌++◌, map, filter, filter_map, find, fold}
-use Rattle.std.specs.Prelude.{slice_get, slice_index, Option, Some, None, option_map, unwrap_or}
-use Rattle.query_lang.specs.declared.fold.TypedExpr.{TypedExpr}
-use Rattle.query_lang.specs.declared.fold.TypedFold.{TypedFold}
-use Rattle.query_lang.specs.declared.typed.TypedOp.{TypedOp}
-use Rattle.query_lang.specs.declared.typed.TypedOp.TheVariants.{Filter, Map, Zip, Group}
-use Rattle.query_lang.specs.declared.typed.TypedQuery.{TypedQuery}
-use Rattle.query_lang.specs.declared.typed.TypedStream.{TypedStream}
-use Rattle.query_lang.specs.Words.{holds}
-use Rattle.query_lang.specs.Terms.{term_of}
-use Rattle.query_lang.specs.Folds.{term_value}
+use Rattle.std.specs.Prelude.{ℕ, suc, Bool, false, ◌==◌, List, [], ◌∷◌, ◌++◌, map, filter, filter_map, find, fold, slice_get, slice_index}
+use Rattle.std.specs.Prelude.{Option, Some, None, option_map, unwrap_or}
+use Rattle.query_lang.specs.declared.{fold.{TypedExpr.TypedExpr, TypedFold.TypedFold}, typed.TypedOp.TypedOp}
+use Rattle.query_lang.specs.declared.typed.{TypedOp.TheVariants.{Filter, Map, Zip, Group}, TypedQuery.TypedQuery, TypedStream.TypedStream}
+use Rattle.query_lang.specs.{Words.holds, Terms.term_of, Folds.term_value}
 
 -- a packet's number, and the row that a stream has for it. A stream is a list of these, with at most one for each packet
 pub record Tuple : Type 0 where

@@ -1,18 +1,11 @@
 -- The typing of expressions.
 use Rattle.std.specs.Prelude.{ℕ, Bool, true, false, not, nat_lt, List, [], ◌∷◌, Option, Some, None, Ok, if◌then◌else◌}
-use Rattle.query_lang.specs.declared.fault.FaultKind.TheVariants.{UnknownName, WrongKind, WrongArity, BadConstant, StateOnLine}
-use Rattle.query_lang.specs.declared.fault.Span.{Span}
-use Rattle.query_lang.specs.declared.fold.Op.{Op}
-use Rattle.query_lang.specs.declared.fold.Op.TheVariants.{Div, Rem, Shl, Shr, Decay, Both, Either}
-use Rattle.query_lang.specs.declared.fold.TypedExpr.{TypedExpr}
+use Rattle.query_lang.specs.declared.fault.{FaultKind.TheVariants.{UnknownName, WrongKind, WrongArity, BadConstant, StateOnLine}, Span.Span}
+use Rattle.query_lang.specs.declared.fold.{Op.{Op, TheVariants.{Div, Rem, Shl, Shr, Decay, Both, Either}}, TypedExpr.TypedExpr}
 use Rattle.query_lang.specs.declared.fold.TypedExpr.TheVariants as typed
-use Rattle.query_lang.specs.declared.query.Name.{Name}
-use Rattle.query_lang.specs.declared.query.Expr.{Expr, fold-Expr}
+use Rattle.query_lang.specs.declared.query.{Name.Name, Expr.{Expr, fold-Expr}}
 use Rattle.query_lang.specs.declared.query.Expr.TheOpen as expr
-use Rattle.query_lang.specs.declared.typing.Found.{Found}
-use Rattle.query_lang.specs.declared.typing.Sort.{Sort}
-use Rattle.query_lang.specs.declared.typing.Sort.TheVariants.{Number, Word, Condition}
-use Rattle.query_lang.specs.Folds.{gives_condition}
+use Rattle.query_lang.specs.{declared.typing.{Found.Found, Sort.{Sort, TheVariants.{Number, Word, Condition}}}, Folds.gives_condition}
 use Rattle.query_lang.specs.Checks.{Checked, refused, and_then, must, collected, is_among, place_of}
 
 -- the slot of a name: its place among the columns. Otherwise it is a hidden state, which is not read while packets pass, or unknown.

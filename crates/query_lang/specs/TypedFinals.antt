@@ -1,30 +1,16 @@
 -- The typing of finals.
-use Rattle.std.specs.Prelude.{ℕ, ◌+◌, Bool, ◌&&◌, nat_eq, nat_lt, nat_le, List, [], ◌∷◌, ◌++◌, length, take, drop}
-use Rattle.std.specs.Prelude.{Option, Some, None, Ok}
-use Rattle.std.specs.Cmp.Lexicographic.{pointwise}
-use Rattle.std.specs.List.{list_any}
-use Rattle.query_lang.specs.declared.fault.FaultKind.TheVariants.{UnknownName, NameTaken, WrongKind, BadConstant}
-use Rattle.query_lang.specs.declared.fault.Span.{Span}
-use Rattle.query_lang.specs.declared.query.Name.{Name}
-use Rattle.query_lang.specs.declared.query.Key.{Key}
-use Rattle.query_lang.specs.declared.query.Column.{Column}
-use Rattle.query_lang.specs.declared.query.Expr.{Expr}
-use Rattle.query_lang.specs.declared.query.FinalDef.{FinalDef}
-use Rattle.query_lang.specs.declared.query.FinalOp.{FinalOp}
+use Rattle.std.specs.Prelude.{ℕ, ◌+◌, Bool, ◌&&◌, nat_eq, nat_lt, nat_le, List, [], ◌∷◌, ◌++◌, length, take, drop, Option, Some, None, Ok}
+use Rattle.std.specs.{Cmp.Lexicographic.pointwise, List.list_any}
+use Rattle.query_lang.specs.declared.fault.{FaultKind.TheVariants.{UnknownName, NameTaken, WrongKind, BadConstant}, Span.Span}
+use Rattle.query_lang.specs.declared.query.{Name.Name, Key.Key, Column.Column, Expr.Expr, FinalDef.FinalDef, FinalOp.FinalOp}
 use Rattle.query_lang.specs.declared.query.FinalOp.TheVariants as ops
 use Rattle.query_lang.specs.declared.typed.PrintOf.{PrintOf}
 use Rattle.query_lang.specs.declared.typed.PrintOf.TheVariants as place
 use Rattle.query_lang.specs.declared.typed.TypedFinalOp.TheVariants as typed
-use Rattle.query_lang.specs.declared.typing.Earlier.{Earlier}
-use Rattle.query_lang.specs.declared.typing.Given.{Given}
-use Rattle.query_lang.specs.declared.typing.FoldView.{FoldView}
-use Rattle.query_lang.specs.declared.typing.Known.{Known}
-use Rattle.query_lang.specs.declared.typing.Meaning.{Meaning}
+use Rattle.query_lang.specs.declared.typing.{Earlier.Earlier, Given.Given, FoldView.FoldView, Known.Known, Meaning.Meaning}
 use Rattle.query_lang.specs.declared.typing.Meaning.TheVariants as meaning
-use Rattle.query_lang.specs.declared.typing.MadeFinal.{MadeFinal}
-use Rattle.query_lang.specs.declared.typing.TableView.{TableView}
-use Rattle.query_lang.specs.Checks.{Checked, refused, and_then, must, must_not, is_among}
-use Rattle.query_lang.specs.TypedExprs.{slot_of, condition_of}
+use Rattle.query_lang.specs.declared.typing.{MadeFinal.MadeFinal, TableView.TableView}
+use Rattle.query_lang.specs.{Checks.{Checked, refused, and_then, must, must_not, is_among}, TypedExprs.{slot_of, condition_of}}
 use Rattle.query_lang.specs.TypedStreams.{meaning_of, begun, fold_named, new_columns, no_new_columns, keys_checked, arguments_of}
 
 -- a name that has to denote a table: a groupby or a final

@@ -1,25 +1,17 @@
 -- The typing of folds.
-use Rattle.std.specs.Prelude.{ℕ, ◌+◌, Bool, true, false, nat_lt, is_some, List, [], ◌∷◌, ◌++◌, length, map, sum, sum_by}
-use Rattle.std.specs.Prelude.{Option, Some, None, Ok, ◌||◌, if◌then◌else◌}
+use Rattle.std.specs.Prelude.{ℕ, ◌+◌, Bool, true, false, nat_lt, is_some, List, [], ◌∷◌, ◌++◌, length, map, sum, sum_by, Option, Some, None}
+use Rattle.std.specs.Prelude.{Ok, ◌||◌, if◌then◌else◌}
 use Rattle.query_lang.specs.declared.fault.FaultKind.TheVariants.{UnknownName, NameTaken, WrongKind, WrongArity, StateOnLine, OverLimit}
-use Rattle.query_lang.specs.declared.fault.Limit.TheVariants.{States, Args}
-use Rattle.query_lang.specs.declared.fault.Span.{Span}
-use Rattle.query_lang.specs.declared.fold.Op.TheVariants.{Both}
-use Rattle.query_lang.specs.declared.fold.TypedExpr.{TypedExpr}
+use Rattle.query_lang.specs.declared.{fault.{Limit.TheVariants.{States, Args}, Span.Span}, fold.{Op.TheVariants.Both, TypedExpr.TypedExpr}}
 use Rattle.query_lang.specs.declared.fold.TypedExpr.TheVariants as typed
 use Rattle.query_lang.specs.declared.fold.TypedStmt.TheVariants as typed_stmt
-use Rattle.query_lang.specs.declared.fold.TypedFold.{TypedFold}
-use Rattle.query_lang.specs.declared.query.Name.{Name}
-use Rattle.query_lang.specs.declared.query.StateVar.{StateVar}
-use Rattle.query_lang.specs.declared.query.FoldDef.{FoldDef}
+use Rattle.query_lang.specs.declared.{fold.TypedFold.TypedFold, query.{Name.Name, StateVar.StateVar, FoldDef.FoldDef}}
 use Rattle.query_lang.specs.declared.query.Expr.{Expr, fold-Expr}
 use Rattle.query_lang.specs.declared.query.Expr.TheOpen as expr
 use Rattle.query_lang.specs.declared.query.Stmt.{Stmt, fold-Stmt}
 use Rattle.query_lang.specs.declared.query.Stmt.TheOpen as stmt
-use Rattle.query_lang.specs.declared.typing.Enclosing.{Enclosing}
-use Rattle.query_lang.specs.declared.typing.Body.{Body}
-use Rattle.query_lang.specs.Checks.{Checked, refused, and_then, must, must_not, is_among, place_of}
-use Rattle.query_lang.specs.TypedExprs.{condition_of, word_of}
+use Rattle.query_lang.specs.declared.typing.{Enclosing.Enclosing, Body.Body}
+use Rattle.query_lang.specs.{Checks.{Checked, refused, and_then, must, must_not, is_among, place_of}, TypedExprs.{condition_of, word_of}}
 use Rattle.query_lang.specs.declared.fault.TheConstants.{MAX_ARGS, MAX_STATES}
 
 -- each state variable is new, and there are at most MAX_STATES

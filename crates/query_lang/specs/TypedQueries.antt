@@ -1,22 +1,16 @@
 -- Which typed queries are valid: what they name is there, conditions, words and constants are where they are allowed, and the limits
 -- are kept.
-use Rattle.std.specs.Prelude.{◌≡◌, ℕ, zero, suc, ◌+◌, ◌-◌, ◌<◌, ◌≤◌, true, false, List, [], ◌∷◌}
-use Rattle.std.specs.Prelude.{◌++◌, length, map, sum_by, All, slice_get, Option, Some, None, option_map, unwrap_or}
+use Rattle.std.specs.Prelude.{◌≡◌, ℕ, zero, suc, ◌+◌, ◌-◌, ◌<◌, ◌≤◌, true, false, List, [], ◌∷◌, ◌++◌, length, map, sum_by, All, slice_get}
+use Rattle.std.specs.Prelude.{Option, Some, None, option_map, unwrap_or}
 use Rattle.marple_base.specs.declared.field.TheConstants.{FIELDS}
-use Rattle.query_lang.specs.declared.fold.TypedExpr.{TypedExpr}
-use Rattle.query_lang.specs.declared.fold.TypedFold.{TypedFold}
-use Rattle.query_lang.specs.declared.typed.PrintOf.{PrintOf}
+use Rattle.query_lang.specs.declared.{fold.{TypedExpr.TypedExpr, TypedFold.TypedFold}, typed.PrintOf.PrintOf}
 use Rattle.query_lang.specs.declared.typed.PrintOf.TheVariants as printed
-use Rattle.query_lang.specs.declared.typed.TypedFinal.{TypedFinal}
-use Rattle.query_lang.specs.declared.typed.TypedFinalOp.{TypedFinalOp}
+use Rattle.query_lang.specs.declared.typed.{TypedFinal.TypedFinal, TypedFinalOp.TypedFinalOp}
 use Rattle.query_lang.specs.declared.typed.TypedFinalOp.TheVariants as final
 use Rattle.query_lang.specs.declared.typed.TypedOp.{TypedOp}
 use Rattle.query_lang.specs.declared.typed.TypedOp.TheVariants as op
-use Rattle.query_lang.specs.declared.typed.TypedQuery.{TypedQuery}
-use Rattle.query_lang.specs.declared.typed.TypedStream.{TypedStream}
-use Rattle.query_lang.specs.Terms.{term_of}
-use Rattle.query_lang.specs.Folds.{IsValidTerm, is_condition, term_nodes, IsValidFold, fold_states, fold_args}
-use Rattle.query_lang.specs.Streams.{Taking, takings}
+use Rattle.query_lang.specs.{declared.typed.{TypedQuery.TypedQuery, TypedStream.TypedStream}, Terms.term_of}
+use Rattle.query_lang.specs.{Folds.{IsValidTerm, is_condition, term_nodes, IsValidFold, fold_states, fold_args}, Streams.{Taking, takings}}
 use Rattle.query_lang.specs.declared.fault.TheConstants.{MAX_BINDINGS, MAX_GROUPBYS, MAX_KEYS, MAX_NODES}
 
 -- an expression over a row of this many slots

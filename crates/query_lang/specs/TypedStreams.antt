@@ -1,32 +1,18 @@
 -- The typing of streams.
-use Rattle.std.specs.Prelude.{ℕ, ◌+◌, Bool, true, false, not, ◌&&◌, ◌||◌, nat_eq, nat_lt, is_some, List, [], ◌∷◌}
-use Rattle.std.specs.Prelude.{◌++◌, length, map, flat_map, filter_map, slice_get, Option, Some, None, Ok, if◌then◌else◌}
-use Rattle.std.specs.List.{list_any}
+use Rattle.std.specs.Prelude.{ℕ, ◌+◌, Bool, true, false, not, ◌&&◌, ◌||◌, nat_eq, nat_lt, is_some, List, [], ◌∷◌, ◌++◌, length, map}
+use Rattle.std.specs.{Prelude.{flat_map, filter_map, slice_get, Option, Some, None, Ok, if◌then◌else◌}, List.list_any}
 use Rattle.query_lang.specs.declared.fault.FaultKind.TheVariants.{UnknownName, NameTaken, WrongKind, OverLimit}
-use Rattle.query_lang.specs.declared.fault.Limit.TheVariants.{Groupbys, Keys, Bindings}
-use Rattle.query_lang.specs.declared.fault.Span.{Span}
-use Rattle.query_lang.specs.declared.query.Name.{Name}
-use Rattle.query_lang.specs.declared.query.Key.{Key}
-use Rattle.query_lang.specs.declared.query.Key.TheVariants.{Named, FiveTuple}
-use Rattle.query_lang.specs.declared.query.Column.{Column}
-use Rattle.query_lang.specs.declared.query.Expr.{Expr}
-use Rattle.query_lang.specs.declared.query.StreamDef.{StreamDef}
+use Rattle.query_lang.specs.declared.{fault.{Limit.TheVariants.{Groupbys, Keys, Bindings}, Span.Span}, query.{Name.Name, Key.Key}}
+use Rattle.query_lang.specs.declared.query.{Key.TheVariants.{Named, FiveTuple}, Column.Column, Expr.Expr, StreamDef.StreamDef}
 use Rattle.query_lang.specs.declared.query.StreamOp.{StreamOp}
 use Rattle.query_lang.specs.declared.query.StreamOp.TheVariants as ops
 use Rattle.query_lang.specs.declared.typed.PrintOf.TheVariants as place
 use Rattle.query_lang.specs.declared.typed.TypedOp.TheVariants as typed
-use Rattle.query_lang.specs.declared.typing.Earlier.{Earlier}
-use Rattle.query_lang.specs.declared.typing.FoldView.{FoldView}
-use Rattle.query_lang.specs.declared.typing.StreamView.{StreamView}
-use Rattle.query_lang.specs.declared.typing.Known.{Known}
-use Rattle.query_lang.specs.declared.typing.Meaning.{Meaning}
+use Rattle.query_lang.specs.declared.typing.{Earlier.Earlier, FoldView.FoldView, StreamView.StreamView, Known.Known, Meaning.Meaning}
 use Rattle.query_lang.specs.declared.typing.Meaning.TheVariants as meaning
-use Rattle.query_lang.specs.declared.typing.MadeStream.{MadeStream}
-use Rattle.query_lang.specs.declared.typing.NewColumns.{NewColumns}
-use Rattle.query_lang.specs.declared.typing.Origin.{Origin}
+use Rattle.query_lang.specs.declared.typing.{MadeStream.MadeStream, NewColumns.NewColumns, Origin.Origin}
 use Rattle.query_lang.specs.declared.typing.Origin.TheVariants as origin
-use Rattle.query_lang.specs.declared.typing.Picked.{Picked}
-use Rattle.query_lang.specs.declared.typing.StreamColumn.{StreamColumn}
+use Rattle.query_lang.specs.declared.typing.{Picked.Picked, StreamColumn.StreamColumn}
 use Rattle.query_lang.specs.Checks.{Checked, refused, and_then, must, must_not, collected, is_among}
 use Rattle.query_lang.specs.TypedExprs.{slot_of, condition_of, word_of}
 use Rattle.query_lang.specs.declared.fault.TheConstants.{MAX_BINDINGS, MAX_GROUPBYS, MAX_KEYS}

@@ -1,28 +1,15 @@
 -- The typing of queries: the typed query, or the first fault.
-use Rattle.std.specs.Prelude.{ℕ, Bool, true, false, nat_lt, min, is_some, List, [], ◌∷◌, ◌++◌, length, map, count_by, fold}
-use Rattle.std.specs.Prelude.{codes, None, Ok}
-use Rattle.marple_base.specs.declared.field.Field.{Field}
-use Rattle.marple_base.specs.Field.{all_fields, field_name}
-use Rattle.query_lang.specs.declared.fault.FaultKind.TheVariants.{NameTaken, NothingPrinted}
-use Rattle.query_lang.specs.declared.fault.Span.{Span}
-use Rattle.query_lang.specs.declared.query.Query.{Query}
-use Rattle.query_lang.specs.declared.query.Item.{Item}
+use Rattle.std.specs.Prelude.{ℕ, Bool, true, false, nat_lt, min, is_some, List, [], ◌∷◌, ◌++◌, length, map, count_by, fold, codes, None, Ok}
+use Rattle.marple_base.specs.{declared.field.Field.Field, Field.{all_fields, field_name}}
+use Rattle.query_lang.specs.declared.{fault.{FaultKind.TheVariants.{NameTaken, NothingPrinted}, Span.Span}, query.{Query.Query, Item.Item}}
 use Rattle.query_lang.specs.declared.query.Item.TheVariants as item
-use Rattle.query_lang.specs.declared.query.Name.{Name}
-use Rattle.query_lang.specs.declared.query.FoldDef.{FoldDef}
-use Rattle.query_lang.specs.declared.query.StreamOp.{StreamOp}
+use Rattle.query_lang.specs.declared.query.{Name.Name, FoldDef.FoldDef, StreamOp.StreamOp}
 use Rattle.query_lang.specs.declared.query.StreamOp.TheVariants as ops
-use Rattle.query_lang.specs.declared.fold.TypedFold.{TypedFold}
-use Rattle.query_lang.specs.declared.typed.TypedQuery.{TypedQuery}
-use Rattle.query_lang.specs.declared.typing.Earlier.{Earlier}
-use Rattle.query_lang.specs.declared.typing.Given.{Given}
+use Rattle.query_lang.specs.declared.{fold.TypedFold.TypedFold, typed.TypedQuery.TypedQuery, typing.{Earlier.Earlier, Given.Given}}
 use Rattle.query_lang.specs.declared.typing.Meaning.TheVariants as meaning
 use Rattle.query_lang.specs.declared.typing.Origin.TheVariants as origin
-use Rattle.query_lang.specs.Names.{number_in, with_name}
-use Rattle.query_lang.specs.Checks.{Checked, and_then, must, must_not, is_among}
-use Rattle.query_lang.specs.TypedFolds.{fold_checked}
-use Rattle.query_lang.specs.TypedStreams.{meaning_of, stream_checked}
-use Rattle.query_lang.specs.TypedFinals.{table_named, five_fields, final_checked}
+use Rattle.query_lang.specs.{Names.{number_in, with_name}, Checks.{Checked, and_then, must, must_not, is_among}, TypedFolds.fold_checked}
+use Rattle.query_lang.specs.{TypedStreams.{meaning_of, stream_checked}, TypedFinals.{table_named, five_fields, final_checked}}
 use Rattle.query_lang.specs.declared.fault.TheConstants.{MAX_GROUPBYS}
 
 -- with one more fold

@@ -1,9 +1,7 @@
 //! The value of an expression.
 
 ghost use Rattle.std.specs.Prelude.{◌≡◌, length};
-ghost use Rattle.query_lang.specs.Folds.{IsValidTerm};
-ghost use Rattle.query_lang.specs.Streams.{expr_value};
-ghost use Rattle.query_lang.specs.Terms.{term_of};
+ghost use Rattle.query_lang.specs.{Folds.IsValidTerm, Streams.expr_value, Terms.term_of};
 
 use crate::fold::TypedExpr;
 

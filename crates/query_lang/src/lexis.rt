@@ -1,9 +1,6 @@
 //! Bytes, words and numbers, as the texts of queries and of plans have them.
 
-ghost use Rattle.std.specs.Prelude.{◌≡◌, ℕ, ◌<◌, length, slice_index, true};
-ghost use Rattle.std.specs.Char.{digit_value};
-ghost use Rattle.std.specs.Str.{bytes_eq};
-ghost use Rattle.std.specs.Str.Parse.{digits_value};
+ghost use Rattle.std.specs.{Prelude.{◌≡◌, ℕ, ◌<◌, length, slice_index, true}, Char.digit_value, Str.{bytes_eq, Parse.digits_value}};
 ghost use Rattle.query_lang.specs.Lexis.{is_word_byte, is_digit, reserved, below_limit};
 
 use crate::token::Word;

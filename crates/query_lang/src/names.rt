@@ -1,7 +1,6 @@
 //! The names of a query, by number.
 
-ghost use Rattle.std.specs.Prelude.{◌≡◌, ℕ, ◌-◌, ◌^◌, ◌<◌, Some, [], length, map, slice_get, IfOk, OnOk, OnErr};
-ghost use Rattle.std.specs.Str.{bytes_eq};
+ghost use Rattle.std.specs.{Prelude.{◌≡◌, ℕ, ◌-◌, ◌^◌, ◌<◌, Some, [], length, map, slice_get, IfOk, OnOk, OnErr}, Str.bytes_eq};
 ghost use Rattle.query_lang.specs.Names.{AreOnce, number_in, print_of, texts_of, with_name};
 
 use std::alloc::{AllocError, Global};

@@ -3,15 +3,12 @@ use Rattle.std.proofs.Common.{◌≡◌, ℕ, List, Option, Some, None, Ok, Err,
 use Rattle.query_lang.specs.declared.fault.FaultKind.TheVariants as kinds
 use Rattle.query_grammar.proofs.TextFaults.{query_of_text, text_of_query, fault_of_text}
 use Rattle.query_laws.proofs.Terms.{FaultKind, QueryFault, Span, Query, TypedQuery, and_then, checked, parsed_text, IsTyped, accepted}
-use Rattle.query_laws.proofs.Terms.{staged, unless_fault}
+use Rattle.query_laws.proofs.{Terms.{staged, unless_fault}, FaultSteps.{at_span, by_next, no_fault}}
+use Rattle.query_laws.proofs.{QueryFaults.{at_some_item, at_end, only_these}, QueryLaws.{query_sound, query_complete, no_form}}
+use Rattle.query_laws.proofs.{Steps.{found_first, then_next, same_ok}, Stages.{fits_stages, no_stage_fault}}
 use Rattle.query_laws.specs.FaultLaws.{HasFault, IsOfTyping}
-use Rattle.query_laws.proofs.FaultSteps.{at_span, by_next, no_fault}
-use Rattle.query_laws.proofs.QueryFaults.{at_some_item, at_end, only_these}
-use Rattle.query_laws.proofs.QueryLaws.{query_sound, query_complete, no_form}
-use Rattle.query_laws.proofs.Steps.{found_first, then_next, same_ok}
-use Rattle.stage_plan.specs.Depths.{stage_fault}
 use Rattle.query_laws.specs.ByRules.{FitsStages, IsAcceptedAs, BreaksRule, of_item, of_end, IsRefusedFor, by_grammar, by_typing, by_stages}
-use Rattle.query_laws.proofs.Stages.{fits_stages, no_stage_fault}
+use Rattle.stage_plan.specs.Depths.{stage_fault}
 
 stage_same : (o : Option QueryFault) {p q : TypedQuery} → unless_fault o p ≡ Ok q → (o ≡ None) × (p ≡ q)
 stage_same None {p} {q} e = (refl, same_ok p q e)

@@ -1,11 +1,9 @@
 -- Each operator keeps the order of the packets.
 use Rattle.std.proofs.Common.{◌≡◌, ℕ, zero, suc, ◌+◌, ◌<◌, ◌≤◌, Bool, true, false, cond, List, [], ◌∷◌, ◌++◌, length, Option, Some, None}
-use Rattle.std.proofs.Common.{slice_index, subst, arith}
-use Rattle.std.specs.Prelude.{All, map, filter, find, fold, option_map, ◌==◌}
-use Rattle.std.specs.{List.cons_option, List.Sorted.IsStrictlyIncreasing}
+use Rattle.std.{proofs.Common.{slice_index, subst, arith}, specs.Prelude.{All, map, filter, find, fold, option_map, ◌==◌}}
+use Rattle.std.specs.List.{cons_option, Sorted.IsStrictlyIncreasing}
 use Rattle.query_lang.specs.Streams.{Tuple, numbered, values_at, zip_stream, group_stream, tuples_at, made_of, stream}
-use Rattle.query_laws.proofs.Terms.{TypedFold, TypedOp, Filter, Map, Zip, Group, TypedQuery, TypedStream}
-use Rattle.query_laws.specs.TupleLaws.{packet_numbers}
+use Rattle.query_laws.{proofs.Terms.{TypedFold, TypedOp, Filter, Map, Zip, Group, TypedQuery, TypedStream}, specs.TupleLaws.packet_numbers}
 
 -- the packets' numbers rise from this one on, and stay below that one
 abbrev pub Rises : ℕ → ℕ → List Tuple → Type 0

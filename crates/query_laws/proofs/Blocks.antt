@@ -1,7 +1,6 @@
 -- The statements of a fold: what the check gives has a rule, and what has a rule is what the check gives.
 use Rattle.std.proofs.Common.{◌≡◌, ℕ, Bool, true, false, List, [], ◌∷◌, ◌++◌, length, map, Option, Some, None, Ok, refl, sym, ap, subst}
-use Rattle.std.proofs.Common.{◌∙◌, append_assoc, append-nil}
-use Rattle.std.specs.Prelude.{is_some}
+use Rattle.std.{proofs.Common.{◌∙◌, append_assoc, append-nil}, specs.Prelude.is_some}
 use Rattle.query_lang.specs.declared.fold.TypedExpr.TheVariants as typed
 use Rattle.query_lang.specs.declared.fold.TypedStmt.TheVariants as typed_stmt
 use Rattle.query_lang.specs.declared.query.Stmt.TheOpen as stmt
@@ -9,11 +8,11 @@ use Rattle.query_lang.specs.declared.query.Stmt.TheVariants as whole
 use Rattle.query_lang.proofs.TreeLemmas.{term_not}
 use Rattle.query_laws.proofs.Terms.{WrongArity, Span, TypedExpr, TypedStmt, Name, Expr, Stmt, fold-roll-Stmt, ind-Stmt, roll-Stmt, map-Stmt}
 use Rattle.query_laws.proofs.Terms.{rolls-Assign, rolls-If, rolls-Emit, Body, Enclosing, Term, ReadsArguments, Checked, is_among, place_of}
-use Rattle.query_laws.proofs.Terms.{word_of, target_at, target_of, joined, inside, emit_condition, no_state, Adding}
-use Rattle.query_laws.proofs.Terms.{in_order, stmt_step, stmt_checked, StandsAt, conjunction, emit_of, ReadArguments, HasBlock}
-use Rattle.query_laws.proofs.Terms.{of_none, of_assign, of_if, of_emit, at_most_one}
+use Rattle.query_laws.proofs.Terms.{word_of, target_at, target_of, joined, inside, emit_condition, no_state, Adding, in_order, stmt_step}
+use Rattle.query_laws.proofs.Terms.{stmt_checked, StandsAt, conjunction, emit_of, ReadArguments, HasBlock, of_none, of_assign, of_if}
+use Rattle.query_laws.proofs.Terms.{of_emit, at_most_one}
 use Rattle.query_laws.proofs.Steps.{must_not_ok, must_not_holds, same_ok, found_first, then_next, place_stands, stands_place}
-use Rattle.query_laws.proofs.{ExprSound.condition_sound, ExprSound.word_sound, ExprComplete.condition_complete, ExprComplete.word_complete}
+use Rattle.query_laws.proofs.{ExprSound.{condition_sound, word_sound}, ExprComplete.{condition_complete, word_complete}}
 use Rattle.query_laws.proofs.FoldNames.{neither, both_none, Reads, reads}
 
 -- ---- the conditions around

@@ -1,21 +1,18 @@
 -- What a fault in a fold's body says.
-use Rattle.std.proofs.Common.{◌≡◌, ℕ, Bool, true, false, List, [], ◌∷◌, ◌++◌, map, Option, Some, None, Ok, Err, ◌⊎◌, refl, sym, ap}
-use Rattle.std.proofs.Common.{subst, ◌∙◌, inl, inr}
-use Rattle.std.specs.Prelude.{is_some}
+use Rattle.std.proofs.Common.{◌≡◌, ℕ, Bool, true, false, List, [], ◌∷◌, ◌++◌, map, Option, Some, None, Ok, Err, ◌⊎◌, refl, sym, ap, subst}
+use Rattle.std.{proofs.Common.{◌∙◌, inl, inr}, specs.Prelude.is_some}
 use Rattle.query_lang.specs.declared.fold.TypedExpr.TheVariants as typed
 use Rattle.query_lang.specs.declared.query.Stmt.TheOpen as stmt
 use Rattle.query_lang.specs.declared.query.Stmt.TheVariants as block
-use Rattle.query_laws.proofs.Terms.{WrongArity, QueryFault, Span, Name, Expr, Stmt, fold-roll-Stmt}
-use Rattle.query_laws.proofs.Terms.{ind-Stmt, roll-Stmt, map-Stmt, rolls-Assign, rolls-If, rolls-Emit, Body, Enclosing, Known, Checked}
-use Rattle.query_laws.proofs.Terms.{is_among, place_of, condition_of, word_of, target_at, target_of, inside, no_state, Adding, in_order}
-use Rattle.query_laws.proofs.Terms.{stmt_step, stmt_checked, StandsIn, HasEmit, FollowsEmit, Target, ReadsNone, in_first, in_second}
-use Rattle.query_laws.proofs.Terms.{Condition}
+use Rattle.query_laws.proofs.Terms.{WrongArity, QueryFault, Span, Name, Expr, Stmt, fold-roll-Stmt, ind-Stmt, roll-Stmt, map-Stmt}
+use Rattle.query_laws.proofs.Terms.{rolls-Assign, rolls-If, rolls-Emit, Body, Enclosing, Known, Checked, is_among, place_of, condition_of}
+use Rattle.query_laws.proofs.Terms.{word_of, target_at, target_of, inside, no_state, Adding, in_order, stmt_step, stmt_checked, StandsIn}
+use Rattle.query_laws.proofs.Terms.{HasEmit, FollowsEmit, Target, ReadsNone, in_first, in_second, Condition}
 use Rattle.query_laws.specs.Asked.{StmtAsks, of_target, of_value, of_condition, of_emit}
 use Rattle.query_laws.specs.Demands as parts
 use Rattle.query_laws.proofs.ExprFaults.{place_none, not_new, condition_told, word_told}
-use Rattle.query_laws.proofs.FaultSteps.{at_span, same_fault, no_fault, by_must_not, by_next, told, Broken}
-use Rattle.query_laws.proofs.{FoldNames.among_new, Steps.same_ok, Steps.found_first}
-use Rattle.query_laws.proofs.StateFaults.{has_state, Knows, knows_inside}
+use Rattle.query_laws.proofs.{FaultSteps.{at_span, same_fault, no_fault, by_must_not, by_next, told, Broken}, FoldNames.among_new}
+use Rattle.query_laws.proofs.{Steps.{same_ok, found_first}, StateFaults.{has_state, Knows, knows_inside}}
 
 -- ---- statements in longer blocks
 

@@ -1,10 +1,8 @@
 -- Which columns a `zip` and a `groupby` have: the rules and the checks agree.
-use Rattle.std.proofs.Common.{◌≡◌, ℕ, zero, suc, ◌+◌, ◌<◌, Bool, true, false, cond, List, [], ◌∷◌, length, Some, refl, sym, ap}
-use Rattle.std.proofs.Common.{subst, ◌∙◌, arith}
-use Rattle.std.specs.{Prelude.slice_get, List.cons_option}
+use Rattle.std.proofs.Common.{◌≡◌, ℕ, zero, suc, ◌+◌, ◌<◌, Bool, true, false, cond, List, [], ◌∷◌, length, Some, refl, sym, ap, subst, ◌∙◌}
+use Rattle.std.{proofs.Common.arith, specs.{Prelude.slice_get, List.cons_option}}
 use Rattle.query_laws.proofs.Terms.{StreamColumn, is_among, column_names, others_from, columns_at, StandsAt}
-use Rattle.query_laws.specs.StreamRules.{HasSlots, AreAt, AreOthers, of_none, of_named, of_other}
-use Rattle.query_laws.proofs.FoldNames.{new_among, among_new}
+use Rattle.query_laws.{proofs.FoldNames.{new_among, among_new}, specs.StreamRules.{HasSlots, AreAt, AreOthers, of_none, of_named, of_other}}
 
 -- ---- the columns at some slots
 

@@ -9,8 +9,7 @@ use Rattle.query_laws.proofs.Terms.{rolls-Named, rolls-Not, rolls-Binary, rolls-
 use Rattle.query_laws.proofs.Terms.{slot_at, is_condition_sort, is_operand, is_number_with, is_right_constant, sort_of, of_two, call_of}
 use Rattle.query_laws.proofs.Terms.{negation_checked, expr_step, expr_checked, condition_of, word_of, Kind, Word, Condition, operand_kind}
 use Rattle.query_laws.proofs.Terms.{IsNumberWith, IsRightOperand, HasKind, of_number, of_name, of_not, of_binary, of_call}
-use Rattle.query_laws.proofs.Steps.{must_holds, same_ok, then_next, stands_place}
-use Rattle.query_laws.proofs.ExprSound.{kind_of, kind_made}
+use Rattle.query_laws.proofs.{Steps.{must_holds, same_ok, then_next, stands_place}, ExprSound.{kind_of, kind_made}}
 
 -- ---- each form of an expression is checked by its step
 

@@ -3,20 +3,18 @@ use Rattle.std.proofs.Common.{◌≡◌, ℕ, ◌+◌, Bool, true, false, nat_eq
 use Rattle.std.proofs.Common.{refl, sym, ap, subst, ◌∙◌, arith}
 use Rattle.query_lang.specs.declared.query.Expr.TheOpen as expr
 use Rattle.query_lang.specs.declared.query.Expr.TheVariants as whole
-use Rattle.query_laws.proofs.Terms.{WrongKind, WrongArity, BadConstant, QueryFault, Span, Op, TypedExpr, Name}
-use Rattle.query_laws.proofs.Terms.{Expr, fold-roll-Expr, ind-Expr, roll-Expr, map-Expr, rolls-Named, rolls-Not, rolls-Binary, rolls-Call}
-use Rattle.query_laws.proofs.Terms.{Found, Known, Checked, collected, is_among, place_from, place_of, slot_at, slot_of, is_operand}
-use Rattle.query_laws.proofs.Terms.{is_right_constant, of_two, call_of, expr_step, expr_checked, condition_of, word_of, Kind, Word}
-use Rattle.query_laws.proofs.Terms.{Condition, other_kind, operand_kind, HasKind, IsNew}
-use Rattle.query_laws.specs.Asked.{ExprAsks, of_part, of_name, of_call, of_right, of_second}
+use Rattle.query_laws.proofs.Terms.{WrongKind, WrongArity, BadConstant, QueryFault, Span, Op, TypedExpr, Name, Expr, fold-roll-Expr}
+use Rattle.query_laws.proofs.Terms.{ind-Expr, roll-Expr, map-Expr, rolls-Named, rolls-Not, rolls-Binary, rolls-Call, Found, Known, Checked}
+use Rattle.query_laws.proofs.Terms.{collected, is_among, place_from, place_of, slot_at, slot_of, is_operand, is_right_constant, of_two}
+use Rattle.query_laws.proofs.Terms.{call_of, expr_step, expr_checked, condition_of, word_of, Kind, Word, Condition, other_kind}
+use Rattle.query_laws.{proofs.Terms.{operand_kind, HasKind, IsNew}, specs.Asked.{ExprAsks, of_part, of_name, of_call, of_right, of_second}}
 use Rattle.query_laws.specs.Demands.{leftmost, leftmost_step, IsOneOf, HasPart, Demand, AColumn, Typed, Two, Constant, Tells, first, later}
 use Rattle.query_laws.specs.Demands.{of_not, of_left, of_argument}
 use Rattle.query_laws.specs.Demands as parts
 use Rattle.query_laws.proofs.ExprComplete.{complete, operand, right, kind_condition, kind_word}
 use Rattle.query_laws.proofs.ExprSound.{kind_of, Each, collected_each, expr_sound}
 use Rattle.query_laws.proofs.FaultSteps.{at_span, same_fault, no_fault, not_both, by_must, by_next, told}
-use Rattle.query_laws.proofs.FoldNames.{new_among, among_new}
-use Rattle.query_laws.proofs.Steps.{must_ok, same_ok, found_first, nat_other}
+use Rattle.query_laws.proofs.{FoldNames.{new_among, among_new}, Steps.{must_ok, same_ok, found_first, nat_other}}
 
 -- ---- names
 

@@ -1,17 +1,16 @@
 -- What the check of an expression gives has a rule.
-use Rattle.std.proofs.Common.{◌≡◌, ℕ, Bool, true, false, not, cond, List, [], ◌∷◌, ◌++◌, map, Option, Some, None, Ok, Err}
-use Rattle.std.proofs.Common.{refl, sym, ap, subst, ◌∙◌, append_assoc, append-nil}
-use Rattle.std.proofs.lemmas.Bool.{ltb-true}
+use Rattle.std.proofs.Common.{◌≡◌, ℕ, Bool, true, false, not, cond, List, [], ◌∷◌, ◌++◌, map, Option, Some, None, Ok, Err, refl, sym, ap}
+use Rattle.std.proofs.{Common.{subst, ◌∙◌, append_assoc, append-nil}, lemmas.Bool.ltb-true}
 use Rattle.query_lang.specs.declared.fold.TypedExpr.TheVariants as typed
 use Rattle.query_lang.specs.declared.query.Expr.TheOpen as expr
 use Rattle.query_lang.specs.declared.query.Expr.TheVariants as whole
 use Rattle.query_lang.specs.declared.typing.Sort.TheVariants as sort
 use Rattle.query_laws.proofs.Terms.{Span, Op, Div, Rem, Shl, Shr, Decay, Eq, Ne, Lt, Le, Gt, Ge, Both, Either, TypedExpr, Name, Expr}
 use Rattle.query_laws.proofs.Terms.{fold-roll-Expr, ind-Expr, roll-Expr, map-Expr, rolls-Number, rolls-Named, rolls-Not, rolls-Binary}
-use Rattle.query_laws.proofs.Terms.{rolls-Call, Found, Sort, Checked, collected, is_among, place_of, slot_at, slot_of}
-use Rattle.query_laws.proofs.Terms.{is_condition_sort, is_operand, is_number_with, is_right_constant, sort_of, of_two, call_of, expr_step}
-use Rattle.query_laws.proofs.Terms.{expr_checked, condition_of, word_of, Kind, Word, Condition, StandsAt, operand_kind, result_kind}
-use Rattle.query_laws.proofs.Terms.{IsNumberWith, IsRightOperand, HasKind, of_number, of_name, of_not, of_binary, of_call}
+use Rattle.query_laws.proofs.Terms.{rolls-Call, Found, Sort, Checked, collected, is_among, place_of, slot_at, slot_of, is_condition_sort}
+use Rattle.query_laws.proofs.Terms.{is_operand, is_number_with, is_right_constant, sort_of, of_two, call_of, expr_step, expr_checked}
+use Rattle.query_laws.proofs.Terms.{condition_of, word_of, Kind, Word, Condition, StandsAt, operand_kind, result_kind, IsNumberWith}
+use Rattle.query_laws.proofs.Terms.{IsRightOperand, HasKind, of_number, of_name, of_not, of_binary, of_call}
 use Rattle.query_laws.proofs.Steps.{must_ok, same_ok, found_first, place_stands}
 
 abbrev pub kind_of : Sort → Kind

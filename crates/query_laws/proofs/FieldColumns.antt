@@ -1,11 +1,10 @@
 -- The columns of `pktstream` have distinct names.
 use Rattle.std.proofs.Common.{◌≡◌, ℕ, Bool, true, false, cond, ◌||◌, List, [], ◌∷◌, ◌++◌, map, Some, nat_eq, refl, sym, ap, ◌∙◌}
-use Rattle.std.{specs.Prelude.slice_get, specs.List.list_any, specs.Str.bytes_eq, proofs.lemmas.Option.same_Some}
-use Rattle.std.{proofs.lemmas.Slice.Eq.bytes_eq-Decides}
-use Rattle.marple_base.specs.{declared.field.Field.Field, Field.all_fields, Field.field_name}
+use Rattle.std.{proofs.lemmas.{Option.same_Some, Slice.Eq.bytes_eq-Decides}, specs.{Prelude.slice_get, List.list_any, Str.bytes_eq}}
+use Rattle.marple_base.specs.{declared.field.Field.Field, Field.{all_fields, field_name}}
 use Rattle.query_lang.proofs.NameFacts.{has_number}
-use Rattle.query_laws.proofs.Terms.{is_among, number_in, with_name, with_fields, typed_names, field_numbers}
-use Rattle.query_laws.proofs.{Steps.nat_same, Views.AreDistinct}
+use Rattle.query_laws.proofs.{Terms.{is_among, number_in, with_name, with_fields, typed_names, field_numbers}, Steps.nat_same}
+use Rattle.query_laws.proofs.Views.{AreDistinct}
 
 -- ---- each field's name is at its number
 

@@ -3,17 +3,15 @@ use Rattle.std.proofs.Common.{◌≡◌, ℕ, ◌≤◌, true, false, List, [], 
 use Rattle.query_lang.specs.declared.fold.TypedExpr.TheVariants as typed
 use Rattle.query_lang.specs.declared.query.Expr.TheVariants.{Named}
 use Rattle.query_lang.specs.declared.query.Key.TheVariants as key
-use Rattle.query_laws.proofs.Terms.{Add, Lt, FinalOp, FoldView, five_fields, IsFold, IsTable, Demand}
-use Rattle.query_laws.proofs.Terms.{Holds, Word, Condition, HasKind, of_number, of_name, of_binary}
-use Rattle.query_laws.specs.Asked.{FinalAsks}
+use Rattle.query_laws.proofs.Terms.{Add, Lt, FinalOp, FoldView, five_fields, IsFold, IsTable, Demand, Holds, Word, Condition, HasKind}
+use Rattle.query_laws.{proofs.Terms.{of_number, of_name, of_binary}, specs.Asked.FinalAsks}
 use Rattle.query_laws.specs.Asked as asks
-use Rattle.query_laws.proofs.{FaultSteps.no_fault, FoldNames.among_new, ItemsMeet.final_meets, Steps.same_ok, Steps.place_stands}
-use Rattle.query_laws.proofs.{TypingExamples.no_place, TypingExamples.right_of_0}
+use Rattle.query_laws.proofs.{FaultSteps.no_fault, FoldNames.among_new, ItemsMeet.final_meets, Steps.{same_ok, place_stands}}
+use Rattle.query_laws.proofs.TypingExamples.{no_place, right_of_0}
 use Rattle.query_laws.proofs.NameLaws.{fold_name_sound, fold_name_complete, table_sound, table_complete, apart_sound}
-use Rattle.query_laws.specs.TypingExamples.{here, called, first, is_above_0, new_column}
-use Rattle.query_laws.specs.FinalExamples.{group_table, final_table, without_emit, with_emit, tables, three_groupbys, MakesNoTable}
-use Rattle.query_laws.specs.FinalExamples.{MakesRows, FilteredTables, MappedTables, GroupedTables, JoinedTables}
-use Rattle.query_laws.specs.FinalExamples.{RankedTables, FinalExamples}
+use Rattle.query_laws.specs.{TypingExamples.{here, called, first, is_above_0, new_column}, FinalExamples.{group_table, final_table}}
+use Rattle.query_laws.specs.FinalExamples.{without_emit, with_emit, tables, three_groupbys, MakesNoTable, MakesRows, FilteredTables}
+use Rattle.query_laws.specs.FinalExamples.{MappedTables, GroupedTables, JoinedTables, RankedTables, FinalExamples}
 
 ten : IsTable tables 10 (group_table 0 1 3)
 ten = table_sound tables (called 10) refl

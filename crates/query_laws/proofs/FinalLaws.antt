@@ -1,20 +1,18 @@
 -- Finals: the rules and the checks agree.
-use Rattle.std.proofs.Common.{◌≡◌, ℕ, ◌≤◌, Bool, true, false, ◌&&◌, List, [], ◌∷◌, ◌++◌, length, Ok, nat_eq, nat_le, refl, sym, ap}
-use Rattle.std.proofs.Common.{subst, ◌∙◌, append-nil, arith}
-use Rattle.std.specs.Cmp.Lexicographic.{pointwise}
-use Rattle.std.proofs.lemmas.Bool.{ltb-true, leb-true}
+use Rattle.std.proofs.Common.{◌≡◌, ℕ, ◌≤◌, Bool, true, false, ◌&&◌, List, [], ◌∷◌, ◌++◌, length, Ok, nat_eq, nat_le, refl, sym, ap, subst}
+use Rattle.std.{proofs.{Common.{◌∙◌, append-nil, arith}, lemmas.Bool.{ltb-true, leb-true}}, specs.Cmp.Lexicographic.pointwise}
 use Rattle.query_lang.specs.declared.query.FinalOp.TheVariants as ops
 use Rattle.query_lang.specs.declared.typed.TypedFinalOp.TheVariants as typed
 use Rattle.query_laws.proofs.Terms.{Span, Name, Key, Column, Expr, FinalOp, Earlier, Given, TableView, FoldView, MadeFinal, NewColumns}
-use Rattle.query_laws.proofs.Terms.{Picked, fold_named, new_columns, no_new_columns, keys_checked, arguments_of}
-use Rattle.query_laws.proofs.Terms.{table_named, table_number, five_fields, final_filter, final_map, quiet_fold, final_group}
-use Rattle.query_laws.proofs.Terms.{final_join, final_top, made_final, HasTypedColumns, HasArguments}
-use Rattle.query_laws.specs.FinalRules.{OfFilter, OfMap, OfGroup, OfJoin, OfTop, HasFinal}
+use Rattle.query_laws.proofs.Terms.{Picked, fold_named, new_columns, no_new_columns, keys_checked, arguments_of, table_named, table_number}
+use Rattle.query_laws.proofs.Terms.{five_fields, final_filter, final_map, quiet_fold, final_group, final_join, final_top, made_final}
+use Rattle.query_laws.proofs.Terms.{HasTypedColumns, HasArguments}
 use Rattle.query_laws.proofs.Steps.{must_ok, must_not_ok, must_holds, must_not_holds, same_ok, found_first, then_next, nat_same, nat_is}
-use Rattle.query_laws.proofs.{ExprSound.slot_stands, ExprSound.condition_sound, ExprComplete.condition_complete, FoldNames.below}
-use Rattle.query_laws.proofs.{StreamLaws.picked_sound, StreamLaws.picked_complete}
-use Rattle.query_laws.proofs.NameLaws.{ok, table_sound, table_complete, fold_name_sound, fold_name_complete, columns_sound}
-use Rattle.query_laws.proofs.NameLaws.{columns_complete, slot_complete, apart_sound, apart_complete, arguments_sound, arguments_complete}
+use Rattle.query_laws.proofs.{ExprSound.{slot_stands, condition_sound}, ExprComplete.condition_complete, FoldNames.below}
+use Rattle.query_laws.proofs.{StreamLaws.{picked_sound, picked_complete}, NameLaws.{ok, table_sound, table_complete, fold_name_sound}}
+use Rattle.query_laws.proofs.NameLaws.{fold_name_complete, columns_sound, columns_complete, slot_complete, apart_sound, apart_complete}
+use Rattle.query_laws.proofs.NameLaws.{arguments_sound, arguments_complete}
+use Rattle.query_laws.specs.FinalRules.{OfFilter, OfMap, OfGroup, OfJoin, OfTop, HasFinal}
 
 both_true : (a : Bool) {b : Bool} → (a && b) ≡ true → (a ≡ true) × (b ≡ true)
 both_true true e = (refl, e)

@@ -1,22 +1,20 @@
 -- The examples of folds, from the rules.
 use Rattle.std.proofs.Common.{◌≡◌, ℕ, ◌≤◌, List, [], ◌∷◌, Option, refl, sym, ap, subst, ◌∙◌, arith}
 use Rattle.query_lang.specs.declared.fold.TypedExpr.TheVariants as typed
-use Rattle.query_lang.specs.declared.query.Expr.TheVariants.{Number}
-use Rattle.query_lang.proofs.TreeLemmas.{term_number, term_slot, term_not, term_binary}
-use Rattle.query_laws.proofs.Terms.{Op, TypedExpr, TypedStmt, Expr, FoldDef, Stmt, If, Emit, ReadsArguments}
-use Rattle.query_laws.proofs.Terms.{Term, term_of, fold_nodes, IsOneOf, StandsIn, Demand}
-use Rattle.query_laws.proofs.Terms.{Holds, Word, Condition, HasKind, of_number, of_binary, HasBlock, of_none, of_assign, of_if, of_emit}
-use Rattle.query_laws.proofs.Terms.{at_most_one, HasFold}
+use Rattle.query_lang.{specs.declared.query.Expr.TheVariants.Number, proofs.TreeLemmas.{term_number, term_slot, term_not, term_binary}}
+use Rattle.query_laws.proofs.Terms.{Op, TypedExpr, TypedStmt, Expr, FoldDef, Stmt, If, Emit, ReadsArguments, Term, term_of, fold_nodes}
+use Rattle.query_laws.proofs.Terms.{IsOneOf, StandsIn, Demand, Holds, Word, Condition, HasKind, of_number, of_binary, HasBlock, of_none}
+use Rattle.query_laws.proofs.Terms.{of_assign, of_if, of_emit, at_most_one, HasFold}
 use Rattle.query_laws.specs.Asked.{StmtAsks, FoldAsks, of_statement, of_emits}
 use Rattle.query_laws.specs.Asked as asks
 use Rattle.query_laws.specs.Demands as parts
 use Rattle.query_laws.proofs.{ExprComplete.condition_complete, FaultSteps.no_fault, FoldLaws.fold_sound, FoldNames.among_new}
 use Rattle.query_laws.proofs.{FoldsMeet.fold_meets, Steps.then_next}
-use Rattle.query_laws.specs.TypingExamples.{here, called, two_columns, second}
-use Rattle.query_laws.specs.FoldExamples.{a_fold, typed_fold, HasNoFold, one_more, typed_one_more, on_state, typed_on_state}
-use Rattle.query_laws.specs.FoldExamples.{on_argument, typed_on_argument, below_9, typed_below_9, FoldExamples}
 use Rattle.query_laws.proofs.FoldCounts.{Counts, count_counts, emit_counts, choice_counts, argument_counts, else_counts}
 use Rattle.query_laws.proofs.TypingExamples.{first_word, second_word, second_is, no_word, no_place, right_of_0}
+use Rattle.query_laws.specs.{TypingExamples.{here, called, two_columns, second}, FoldExamples.{a_fold, typed_fold, HasNoFold, one_more}}
+use Rattle.query_laws.specs.FoldExamples.{typed_one_more, on_state, typed_on_state, on_argument, typed_on_argument, below_9, typed_below_9}
+use Rattle.query_laws.specs.FoldExamples.{FoldExamples}
 
 -- ---- typed
 

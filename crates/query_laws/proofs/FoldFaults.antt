@@ -1,15 +1,12 @@
 -- What a fault in a fold says.
 use Rattle.std.proofs.Common.{◌≡◌, ℕ, false, ◌||◌, List, [], ◌∷◌, ◌++◌, length, map, Err, suc, refl, sym, ap, subst, ◌∙◌, append_assoc}
 use Rattle.std.{proofs.Common.arith, specs.Prelude.nat_lt}
-use Rattle.query_laws.proofs.Terms.{States, Args, QueryFault, FoldDef, Name, StateVar, Known, and_then}
-use Rattle.query_laws.proofs.Terms.{is_among, states_from, args_from, body_checked, fold_checked, MAX_ARGS, MAX_STATES, New, Fewer, OneEmit}
-use Rattle.query_laws.proofs.Terms.{IsNew, state_names_of, arg_names_of}
+use Rattle.query_laws.proofs.Terms.{States, Args, QueryFault, FoldDef, Name, StateVar, Known, and_then, is_among, states_from, args_from}
+use Rattle.query_laws.proofs.Terms.{body_checked, fold_checked, MAX_ARGS, MAX_STATES, New, Fewer, OneEmit, IsNew, state_names_of}
+use Rattle.query_laws.proofs.{Terms.arg_names_of, BodyFaults.{BlockTold, at_statement, second, follows, body_told}, ExprFaults.not_new}
+use Rattle.query_laws.proofs.{FoldLaws.rest_of, FaultSteps.{no_fault, by_must, by_must_not, by_next, told, Broken, broken_in}}
+use Rattle.query_laws.proofs.{FoldNames.{among_append, states_sound, args_sound}, NameFaults.{at_least, ids_last, ids_long}}
 use Rattle.query_laws.specs.Asked.{FoldAsks, of_state, of_states, of_arg, of_args, of_statement, of_emits, ids_of}
-use Rattle.query_laws.proofs.BodyFaults.{BlockTold, at_statement, second, follows, body_told}
-use Rattle.query_laws.proofs.{ExprFaults.not_new, FoldLaws.rest_of}
-use Rattle.query_laws.proofs.FaultSteps.{no_fault, by_must, by_must_not, by_next, told, Broken, broken_in}
-use Rattle.query_laws.proofs.FoldNames.{among_append, states_sound, args_sound}
-use Rattle.query_laws.proofs.NameFaults.{at_least, ids_last, ids_long}
 
 abbrev ids : List StateVar → List ℕ
 ids states = map (λ other. other.name.id) states

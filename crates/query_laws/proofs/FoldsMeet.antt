@@ -8,17 +8,15 @@ use Rattle.query_lang.specs.declared.query.Stmt.TheOpen as stmt
 use Rattle.query_lang.specs.declared.query.Stmt.TheVariants as block
 use Rattle.query_laws.proofs.Terms.{Span, TypedExpr, TypedFold, Expr, fold-roll-Expr, rolls-Call, FoldDef, Name, StateVar, Stmt}
 use Rattle.query_laws.proofs.Terms.{fold-roll-Stmt, ind-Stmt, map-Stmt, rolls-Assign, rolls-If, rolls-Emit, Body, Enclosing, Known}
-use Rattle.query_laws.proofs.Terms.{and_then, condition_of, word_of, target_of, first_of, state_step, state_in, inside, Adding}
-use Rattle.query_laws.proofs.Terms.{in_order, stmt_step, stmt_checked, HasPart, StandsInside, StandsIn, FollowsEmit}
-use Rattle.query_laws.proofs.Terms.{Demand, Holds, Kind, IsNew, AreNew, HasFold, state_names_of, arg_names_of}
-use Rattle.query_laws.specs.Asked.{StmtAsks, of_target, of_value, of_condition, of_emit, FoldAsks, of_state, of_states, of_arg, of_args}
-use Rattle.query_laws.specs.Asked.{of_statement, of_emits}
+use Rattle.query_laws.proofs.Terms.{and_then, condition_of, word_of, target_of, first_of, state_step, state_in, inside, Adding, in_order}
+use Rattle.query_laws.proofs.Terms.{stmt_step, stmt_checked, HasPart, StandsInside, StandsIn, FollowsEmit, Demand, Holds, Kind, IsNew}
+use Rattle.query_laws.{proofs.Terms.{AreNew, HasFold, state_names_of, arg_names_of}, specs.Asked.{StmtAsks, of_target, of_value}}
+use Rattle.query_laws.specs.Asked.{of_condition, of_emit, FoldAsks, of_state, of_states, of_arg, of_args, of_statement, of_emits}
 use Rattle.query_laws.specs.Demands as parts
-use Rattle.query_laws.proofs.Blocks.{stmt_is, target_stands, no_state_ok, block_complete}
-use Rattle.query_laws.proofs.{ExprSound.condition_sound, ExprSound.word_sound, FaultSteps.not_both, FoldLaws.nothing_around}
+use Rattle.query_laws.proofs.{Blocks.{stmt_is, target_stands, no_state_ok, block_complete}, ExprSound.{condition_sound, word_sound}}
+use Rattle.query_laws.proofs.{FaultSteps.not_both, FoldLaws.nothing_around}
 use Rattle.query_laws.proofs.FoldNames.{among_new, neither, in_named, in_not, in_binary, no_span}
-use Rattle.query_laws.proofs.Meets.{EachIs, one_is, expr_meets, new_at, names_new, few_before}
-use Rattle.query_laws.proofs.Steps.{must_not_ok, same_ok, found_first}
+use Rattle.query_laws.proofs.{Meets.{EachIs, one_is, expr_meets, new_at, names_new, few_before}, Steps.{must_not_ok, same_ok, found_first}}
 
 -- ---- conditions without state variables
 

@@ -1,14 +1,13 @@
 -- What holds of the meanings of a language's words, where the numbers among their tokens are words.
-use Rattle.std.proofs.Common.{◌≡◌, ℕ, List, [], ◌∷◌, ◌++◌, Option, Some, None, subst, inl, inr, ◌⊎◌}
-use Rattle.std.{specs.Prelude.All, proofs.lemmas.Option.same_Some}
+use Rattle.std.proofs.{Common.{◌≡◌, ℕ, List, [], ◌∷◌, ◌++◌, Option, Some, None, subst, inl, inr, ◌⊎◌}, lemmas.Option.same_Some}
+use Rattle.std.specs.Prelude.{All}
 use Rattle.query_lang.specs.declared.token.Mark.TheVariants as marks
 use Rattle.query_lang.specs.declared.token.TokenKind.TheVariants as kinds
 use Rattle.query_grammar.specs.Grammar.{After, Before, Between, Brackets, Listed, Parens, Separated, listed}
 use Rattle.query_grammar.specs.Language as language
 use Rattle.query_grammar.specs.Language.{AtMostOnce, Either, Language, Leaf, Meaning, Repeated, Role, Then}
 use Rattle.query_grammar.proofs.ItemWeights.{all_cons, all_none}
-use Rattle.query_laws.proofs.Terms.{Span, TokenKind, IsWord, number, token_number, sign}
-use Rattle.query_laws.proofs.Tokens.{IsWordKind, AreWordTokens}
+use Rattle.query_laws.proofs.{Terms.{Span, TokenKind, IsWord, number, token_number, sign}, Tokens.{IsWordKind, AreWordTokens}}
 
 abbrev pub HaveWords : List Leaf → Type 0
 HaveWords [] = Unit {0}

@@ -1,18 +1,16 @@
 -- The numbers in the items of a text's query are words.
-use Rattle.std.proofs.Common.{ℕ, List, Option, Some, None, sym, subst, arith}
-use Rattle.std.{specs.Prelude.All, proofs.lemmas.List.Elements.All-weaker}
+use Rattle.std.{proofs.{Common.{ℕ, List, Option, Some, None, sym, subst, arith}, lemmas.List.Elements.All-weaker}, specs.Prelude.All}
 use Rattle.query_lang.specs.declared.token.Mark.TheVariants as marks
 use Rattle.query_lang.specs.declared.token.Word.TheVariants as words
 use Rattle.query_types.specs.Numbers.{columns_number, stream_number, final_number, item_number}
 use Rattle.query_grammar.specs.Grammar.{initial_of, StateVariable, Parameters, Fold, Filter, ColumnOf, Mapping, Streaming, Stream}
 use Rattle.query_grammar.specs.Grammar.{Finishing, Final, Print, ItemOf}
 use Rattle.query_laws.proofs.Terms.{Span, Column, Expr, FinalOp, Item, StateVar, StreamOp, IsWord, Language, sign, keyword}
-use Rattle.query_laws.specs.ValidLaws.{StartsAsWords, NumbersAreWords}
-use Rattle.query_laws.proofs.Tokens.{AreWordTokens, cut_words}
-use Rattle.query_laws.proofs.Holds.{HaveWords, leaves_have, both_have, Holds, any_holds, first_is_word, number_holds, then_holds}
-use Rattle.query_laws.proofs.Holds.{first_holds, second_holds, meaning_holds, either_holds, repeats, if_some, once_holds, after_holds}
-use Rattle.query_laws.proofs.Holds.{between_holds, parens_hold, brackets_hold, separated_holds, listed_holds}
+use Rattle.query_laws.proofs.{Tokens.{AreWordTokens, cut_words}, Holds.{HaveWords, leaves_have, both_have, Holds, any_holds, first_is_word}}
+use Rattle.query_laws.proofs.Holds.{number_holds, then_holds, first_holds, second_holds, meaning_holds, either_holds, repeats, if_some}
+use Rattle.query_laws.proofs.Holds.{once_holds, after_holds, between_holds, parens_hold, brackets_hold, separated_holds, listed_holds}
 use Rattle.query_laws.proofs.Numbers.{is_word_expr, greatest_word, expr_holds, block_holds, stmt_holds}
+use Rattle.query_laws.specs.ValidLaws.{StartsAsWords, NumbersAreWords}
 
 -- ---- parts of items
 

@@ -1,19 +1,17 @@
 -- What a fault at the name of an item, at a new column, at a key and at a fold's arguments says.
 use Rattle.std.proofs.Common.{◌≡◌, ℕ, suc, ◌≤◌, true, false, ◌||◌, List, [], ◌∷◌, ◌++◌, length, map, Option, Some, None, Ok, Err, refl, sym}
-use Rattle.std.proofs.Common.{ap, subst, ◌∙◌, append_assoc, inl, inr, arith}
-use Rattle.std.specs.{Prelude.is_some, Prelude.nat_lt, List.list_any}
+use Rattle.std.{proofs.Common.{ap, subst, ◌∙◌, append_assoc, inl, inr, arith}, specs.{Prelude.{is_some, nat_lt}, List.list_any}}
 use Rattle.query_lang.specs.declared.typing.Meaning.TheVariants as meaning
-use Rattle.query_laws.proofs.Terms.{UnknownName, WrongKind, Keys, QueryFault, Span, Name, Column, FoldView}
-use Rattle.query_laws.proofs.Terms.{StreamView, TableView, Known, Meaning, NewColumns, Picked, Checked, and_then, must_not, collected}
-use Rattle.query_laws.proofs.Terms.{is_among, slot_of, word_of, meaning_of, as_stream, stream_named, as_fold, fold_named, new_columns}
-use Rattle.query_laws.proofs.Terms.{keys_from, arguments_of, table_at, as_table, table_named, quiet_fold, MAX_KEYS, IsFree, IsNew}
-use Rattle.query_laws.proofs.Terms.{new_names}
-use Rattle.query_laws.specs.Asked.{ColumnsAsk, of_name, of_value, KeysAsk, of_key, of_new, of_limit, ArgumentsAsk, of_argument, of_states}
-use Rattle.query_laws.specs.Asked.{ids_of}
-use Rattle.query_laws.specs.Demands.{AStream, ATable, AFold, AQuietFold, Sought, IsSought, Stands, AColumn, New, Fewer, Apart, Tells}
+use Rattle.query_laws.proofs.Terms.{UnknownName, WrongKind, Keys, QueryFault, Span, Name, Column, FoldView, StreamView, TableView, Known}
+use Rattle.query_laws.proofs.Terms.{Meaning, NewColumns, Picked, Checked, and_then, must_not, collected, is_among, slot_of, word_of}
+use Rattle.query_laws.proofs.Terms.{meaning_of, as_stream, stream_named, as_fold, fold_named, new_columns, keys_from, arguments_of}
+use Rattle.query_laws.proofs.Terms.{table_at, as_table, table_named, quiet_fold, MAX_KEYS, IsFree, IsNew, new_names}
 use Rattle.query_laws.proofs.ExprFaults.{not_new, slot_told, word_told}
 use Rattle.query_laws.proofs.FaultSteps.{at_span, same_fault, no_fault, not_both, by_must, by_must_not, by_next, told, Broken}
 use Rattle.query_laws.proofs.NameLaws.{meaning_complete, free_sound, free_complete, taken_is, slot_for, apart_complete}
+use Rattle.query_laws.specs.Asked.{ColumnsAsk, of_name, of_value, KeysAsk, of_key, of_new, of_limit, ArgumentsAsk, of_argument, of_states}
+use Rattle.query_laws.specs.Asked.{ids_of}
+use Rattle.query_laws.specs.Demands.{AStream, ATable, AFold, AQuietFold, Sought, IsSought, Stands, AColumn, New, Fewer, Apart, Tells}
 
 -- ---- names of items
 

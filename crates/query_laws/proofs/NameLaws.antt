@@ -1,16 +1,15 @@
 -- What names stand for, new columns, keys and arguments: the rules and the checks agree.
 use Rattle.std.proofs.Common.{◌≡◌, ℕ, ◌+◌, ◌≤◌, Bool, true, false, ◌||◌, cond, List, [], ◌∷◌, ◌++◌, length, map, Option, Some, None, Ok}
-use Rattle.std.proofs.Common.{Err, nat_eq, refl, sym, ap, subst, ◌∙◌, append_assoc, append-nil, inl, inr, arith}
-use Rattle.std.{specs.Prelude.is_some, specs.List.list_any, proofs.lemmas.Bool.ltb-true, proofs.lemmas.List.length-append}
+use Rattle.std.proofs.{Common.{Err, nat_eq, refl, sym, ap, subst, ◌∙◌, append_assoc, append-nil, inl, inr, arith}, lemmas.Bool.ltb-true}
+use Rattle.std.{proofs.lemmas.List.length-append, specs.{Prelude.is_some, List.list_any}}
 use Rattle.query_lang.specs.declared.typing.Meaning.TheVariants as meaning
 use Rattle.query_laws.proofs.Terms.{Span, TypedExpr, Name, Column, FoldView, StreamView, TableView, Known, Meaning, NewColumns, Picked}
 use Rattle.query_laws.proofs.Terms.{Checked, collected, is_among, slot_at, slot_of, word_of, meaning_of, as_stream, stream_named, as_fold}
 use Rattle.query_laws.proofs.Terms.{fold_named, new_columns, keys_from, arguments_of, table_at, as_table, table_named, MAX_KEYS, StandsAt}
 use Rattle.query_laws.proofs.Terms.{AreNew, NameStandsFor, IsFree, IsStream, IsFold, IsTable, HasTypedColumns, new_names, HasSlots}
-use Rattle.query_laws.proofs.Terms.{AreApart, HasArguments}
-use Rattle.query_laws.proofs.Steps.{must_ok, must_not_ok, must_holds, must_not_holds, same_ok, found_first, then_next, nat_same, nat_other}
-use Rattle.query_laws.proofs.Steps.{nat_is, nat_is_not, stands_place}
-use Rattle.query_laws.proofs.{ExprSound.slot_stands, ExprSound.word_sound, ExprComplete.word_complete}
+use Rattle.query_laws.proofs.{Terms.{AreApart, HasArguments}, Steps.{must_ok, must_not_ok, must_holds, must_not_holds, same_ok}}
+use Rattle.query_laws.proofs.Steps.{found_first, then_next, nat_same, nat_other, nat_is, nat_is_not, stands_place}
+use Rattle.query_laws.proofs.{ExprSound.{slot_stands, word_sound}, ExprComplete.word_complete}
 use Rattle.query_laws.proofs.FoldNames.{new_among, among_new, among_append, below}
 
 pub ok : {A : Type 0} {x y : A} → x ≡ y → (let r : Checked A = Ok x in r) ≡ Ok y

@@ -1,21 +1,18 @@
 -- What a query's fault says.
 use Rattle.std.proofs.Common.{◌≡◌, ℕ, suc, ◌+◌, true, false, List, [], ◌∷◌, ◌++◌, length, Ok, Err, refl, sym, ap, subst, ◌∙◌, inl, inr, ◌⊎◌}
-use Rattle.std.{proofs.Common.arith, specs.Prelude.is_some, specs.Prelude.nat_lt}
+use Rattle.std.{proofs.Common.arith, specs.Prelude.{is_some, nat_lt}}
 use Rattle.query_lang.specs.declared.fault.FaultKind.TheVariants as kinds
 use Rattle.query_lang.specs.declared.query.Item.TheVariants as item
 use Rattle.query_laws.proofs.Terms.{FaultKind, NameTaken, OverLimit, NothingPrinted, Bindings, QueryFault, Span, Item, Name, Query, Earlier}
-use Rattle.query_laws.proofs.Terms.{Given, Known, Checked, is_among, table_named, five_fields, made_final, meaning_of, begun}
-use Rattle.query_laws.proofs.Terms.{made_stream, item_checked, items_checked, checked, typed_names, given_of, MAX_BINDINGS}
-use Rattle.query_laws.proofs.Terms.{Entry, streams_in, finals_in, printed_in, known_in, earlier_of, ATable, Demand, Free, Stands}
-use Rattle.query_laws.proofs.Terms.{New, Fewer, Holds, Tells}
-use Rattle.query_laws.specs.Asked.{ItemAsks, of_fold_name, of_fold, of_stream_name, of_one_stream, of_stream, of_final_name, of_one_final}
-use Rattle.query_laws.specs.Asked.{of_final, of_print, of_once}
-use Rattle.query_laws.specs.FaultLaws.{Breaks, PrintsNothing, HasFault, IsOfTyping}
-use Rattle.query_laws.specs.QueryRules.{HasItem, HasItems, of_none, of_more}
-use Rattle.query_laws.proofs.{ExprFaults.not_new, FoldFaults.fold_faults, NameFaults.table_told, NameFaults.at_least}
-use Rattle.query_laws.proofs.{NameLaws.free_complete, StreamFaults.stream_op_told, StreamFaults.final_op_told, Unmet.unmet}
+use Rattle.query_laws.proofs.Terms.{Given, Known, Checked, is_among, table_named, five_fields, made_final, meaning_of, begun, made_stream}
+use Rattle.query_laws.proofs.Terms.{item_checked, items_checked, checked, typed_names, given_of, MAX_BINDINGS, Entry, streams_in, finals_in}
+use Rattle.query_laws.proofs.Terms.{printed_in, known_in, earlier_of, ATable, Demand, Free, Stands, New, Fewer, Holds, Tells}
+use Rattle.query_laws.proofs.{ExprFaults.not_new, FoldFaults.fold_faults, NameFaults.{table_told, at_least}, NameLaws.free_complete}
+use Rattle.query_laws.proofs.{StreamFaults.{stream_op_told, final_op_told}, Unmet.unmet}
 use Rattle.query_laws.proofs.FaultSteps.{at_span, no_fault, not_both, by_must, by_must_not, by_next, told, Broken, broken_in}
-use Rattle.query_laws.proofs.QueryLaws.{item_sound, item_complete, items_sound}
+use Rattle.query_laws.{proofs.QueryLaws.{item_sound, item_complete, items_sound}, specs.Asked.{ItemAsks, of_fold_name, of_fold}}
+use Rattle.query_laws.specs.Asked.{of_stream_name, of_one_stream, of_stream, of_final_name, of_one_final, of_final, of_print, of_once}
+use Rattle.query_laws.specs.{FaultLaws.{Breaks, PrintsNothing, HasFault, IsOfTyping}, QueryRules.{HasItem, HasItems, of_none, of_more}}
 
 -- ---- items
 

@@ -1,18 +1,15 @@
 -- Items and whole queries: the rules and the checks agree.
-use Rattle.std.proofs.Common.{◌≡◌, ℕ, List, [], ◌∷◌, length, Ok, Err, refl, sym, ap, ◌∙◌}
-use Rattle.std.proofs.lemmas.Bool.{ltb-true}
+use Rattle.std.proofs.{Common.{◌≡◌, ℕ, List, [], ◌∷◌, length, Ok, Err, refl, sym, ap, ◌∙◌}, lemmas.Bool.ltb-true}
 use Rattle.query_lang.specs.declared.query.Item.TheVariants as item
-use Rattle.query_laws.proofs.Terms.{QueryFault, Query, Item, Name, FoldDef, StreamDef, FinalDef, TypedQuery, Earlier, Given, Checked}
-use Rattle.query_laws.proofs.Terms.{begun, made_stream, stream_checked, five_fields, made_final, final_checked}
-use Rattle.query_laws.proofs.Terms.{fold_added, print_checked, item_checked, items_checked, typed_names, given_of, ended, checked}
-use Rattle.query_laws.proofs.Terms.{MAX_BINDINGS, Entry, AFold, AStream, AFinal, APrint, known_in, prints_in, printed_in, earlier_of}
-use Rattle.query_laws.specs.QueryRules.{IsBinding, HasItem, HasItems, of_none, of_more, IsTyped}
+use Rattle.query_laws.proofs.Terms.{QueryFault, Query, Item, Name, FoldDef, StreamDef, FinalDef, TypedQuery, Earlier, Given, Checked, begun}
+use Rattle.query_laws.proofs.Terms.{made_stream, stream_checked, five_fields, made_final, final_checked, fold_added, print_checked}
+use Rattle.query_laws.proofs.Terms.{item_checked, items_checked, typed_names, given_of, ended, checked, MAX_BINDINGS, Entry, AFold, AStream}
+use Rattle.query_laws.proofs.Terms.{AFinal, APrint, known_in, prints_in, printed_in, earlier_of}
 use Rattle.query_laws.proofs.Steps.{must_ok, must_not_ok, must_holds, must_not_holds, same_ok, found_first, then_next}
-use Rattle.query_laws.proofs.FoldNames.{new_among, among_new, below}
-use Rattle.query_laws.proofs.FoldLaws.{fold_sound, fold_complete}
+use Rattle.query_laws.proofs.{FoldNames.{new_among, among_new, below}, FoldLaws.{fold_sound, fold_complete}}
 use Rattle.query_laws.proofs.NameLaws.{ok, free_sound, free_complete, table_sound, table_complete}
-use Rattle.query_laws.proofs.StreamLaws.{made_stream_sound, made_stream_complete}
-use Rattle.query_laws.proofs.FinalLaws.{made_final_sound, made_final_complete}
+use Rattle.query_laws.proofs.{StreamLaws.{made_stream_sound, made_stream_complete}, FinalLaws.{made_final_sound, made_final_complete}}
+use Rattle.query_laws.specs.QueryRules.{IsBinding, HasItem, HasItems, of_none, of_more, IsTyped}
 
 binding_sound : {names : List (List ℕ)} {items : List Entry} {name : Name} {u : Unit {0}} → begun (earlier_of names items) name ≡ Ok u
     → IsBinding names items name

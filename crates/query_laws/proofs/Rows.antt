@@ -1,18 +1,17 @@
 -- The rows of all streams of a typed query.
 use Rattle.std.proofs.Common.{◌≡◌, ℕ, zero, suc, ◌+◌, ◌-◌, ◌<◌, List, [], ◌∷◌, ◌++◌, length, map, Option, Some, None, Ok, refl, sym, ap}
-use Rattle.std.proofs.Common.{subst, ◌∙◌, append_assoc, append-nil, arith}
-use Rattle.std.specs.Prelude.{All, Contains, fold, slice_get, slice_index_or, unwrap_or}
-use Rattle.std.proofs.lemmas.List.{length_push, length-map}
+use Rattle.std.proofs.{Common.{subst, ◌∙◌, append_assoc, append-nil, arith}, lemmas.List.{length_push, length-map}}
 use Rattle.std.proofs.lemmas.Option.{same_Some, slice_get_within, get_or_from_slice_get}
+use Rattle.std.specs.Prelude.{All, Contains, fold, slice_get, slice_index_or, unwrap_or}
 use Rattle.marple_base.specs.declared.field.TheConstants.{FIELDS}
 use Rattle.query_lang.specs.declared.typed.TypedOp.TheVariants as typed
 use Rattle.query_lang.specs.declared.typing.Origin.TheVariants as origin
 use Rattle.query_lang.specs.Streams.{Tuple, numbered, tuples_at, made_of, all_streams, stream}
 use Rattle.query_laws.proofs.Terms.{TypedFold, Query, TypedOp, TypedQuery, TypedStream, StreamColumn, column_names, field_numbers, checked}
-use Rattle.query_laws.{specs.Columns.columns_of, proofs.Typed.field_view, proofs.Typed.viewed, proofs.FieldColumns.fields_distinct}
-use Rattle.query_laws.proofs.Views.{View, AreDistinct, AreBelow, Makes, AreMade, others_below, columns_made}
-use Rattle.query_laws.proofs.Values.{Values, row_of, HaveValues, look, all_looked_up, AreEarlier, AllHave, have_at, OneMore, of_filter}
-use Rattle.query_laws.proofs.Values.{of_map, of_zip, of_group}
+use Rattle.query_laws.proofs.{Typed.{field_view, viewed}, FieldColumns.fields_distinct}
+use Rattle.query_laws.proofs.{Views.{View, AreDistinct, AreBelow, Makes, AreMade, others_below, columns_made}, Values.{Values, row_of}}
+use Rattle.query_laws.proofs.Values.{HaveValues, look, all_looked_up, AreEarlier, AllHave, have_at, OneMore, of_filter, of_map, of_zip}
+use Rattle.query_laws.{proofs.Values.of_group, specs.Columns.columns_of}
 
 -- ---- stream by stream
 

@@ -1,8 +1,8 @@
 -- No stream is refused exactly where no operation is deeper than 64.
 use Rattle.std.proofs.Common.{◌≡◌, ℕ, ◌≤◌, Bool, true, false, ◌||◌, cond, List, [], ◌∷◌, ◌++◌, Option, Some, None, refl, sym, ap, subst}
 use Rattle.std.proofs.Common.{◌∙◌, append_assoc, append-nil, arith}
-use Rattle.std.specs.Prelude.{All, drop, fold, flat_map, nat_lt}
 use Rattle.std.proofs.lemmas.List.Elements.{All-nil, All-cons, All-head, All-tail, All-append}
+use Rattle.std.specs.Prelude.{All, drop, fold, flat_map, nat_lt}
 use Rattle.stage_plan.specs.Depths.{StreamDepths, packet_depths, depths_made, all_depths, is_too_deep, first_too_deep, stage_fault}
 use Rattle.query_laws.proofs.Terms.{OverLimit, Stages, QueryFault, TypedFold, TypedQuery, TypedStream, MAX_STAGES}
 use Rattle.query_laws.specs.ByRules.{FitsStages}

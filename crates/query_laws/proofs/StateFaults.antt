@@ -1,6 +1,5 @@
 -- The first state variable of an expression, which a fault in a line of conditions tells.
-use Rattle.std.proofs.Common.{◌≡◌, ℕ, Bool, true, false, cond, List, [], ◌∷◌, map, Option, Some, None, refl, sym}
-use Rattle.std.proofs.Common.{subst, ◌∙◌}
+use Rattle.std.proofs.Common.{◌≡◌, ℕ, Bool, true, false, cond, List, [], ◌∷◌, map, Option, Some, None, refl, sym, subst, ◌∙◌}
 use Rattle.query_lang.specs.declared.query.Expr.TheOpen as expr
 use Rattle.query_lang.specs.declared.query.Expr.TheVariants as whole
 use Rattle.query_laws.proofs.Terms.{Span, TypedExpr, Name, Expr, fold-roll-Expr, ind-Expr, roll-Expr, map-Expr, rolls-Named, rolls-Not}

@@ -1,20 +1,17 @@
 -- What a fault in the operator of a stream or a final says.
 use Rattle.std.proofs.Common.{◌≡◌, ℕ, ◌≤◌, true, ◌&&◌, List, [], Ok, Err, refl, ap, subst, arith}
-use Rattle.std.specs.Prelude.{flat_map, nat_lt, nat_le}
-use Rattle.std.specs.List.{list_any}
+use Rattle.std.specs.{Prelude.{flat_map, nat_lt, nat_le}, List.list_any}
 use Rattle.query_lang.specs.declared.query.FinalOp.TheVariants as final
 use Rattle.query_lang.specs.declared.query.StreamOp.TheVariants as stream
-use Rattle.query_laws.proofs.Terms.{Groupbys, QueryFault, Column, Expr, FinalOp, Key, Name}
-use Rattle.query_laws.proofs.Terms.{StreamOp, Span, Earlier, FoldView, Given, Picked, is_among, slot_of, table_named}
-use Rattle.query_laws.proofs.Terms.{quiet_fold, five_fields, same_names, key_columns, other_columns, made_final, column_names, key_names}
-use Rattle.query_laws.proofs.Terms.{no_new_columns, new_columns, clash, stream_named, fold_named, keys_checked, arguments_of, made_stream}
-use Rattle.query_laws.proofs.Terms.{MAX_GROUPBYS, IsFold}
-use Rattle.query_laws.specs.Asked.{StreamAsks, FinalAsks, of_filtered, of_condition, of_mapped, of_columns, of_first, of_second, of_both}
-use Rattle.query_laws.specs.Asked.{of_limit, of_grouped, of_keys, of_fold, of_arguments}
+use Rattle.query_laws.proofs.Terms.{Groupbys, QueryFault, Column, Expr, FinalOp, Key, Name, StreamOp, Span, Earlier, FoldView, Given}
+use Rattle.query_laws.proofs.Terms.{Picked, is_among, slot_of, table_named, quiet_fold, five_fields, same_names, key_columns, other_columns}
+use Rattle.query_laws.proofs.Terms.{made_final, column_names, key_names, no_new_columns, new_columns, clash, stream_named, fold_named}
+use Rattle.query_laws.{proofs.Terms.{keys_checked, arguments_of, made_stream, MAX_GROUPBYS, IsFold}, specs.Asked.{StreamAsks, FinalAsks}}
+use Rattle.query_laws.specs.Asked.{of_filtered, of_condition, of_mapped, of_columns, of_first, of_second, of_both, of_limit, of_grouped}
+use Rattle.query_laws.specs.Asked.{of_keys, of_fold, of_arguments}
 use Rattle.query_laws.specs.Asked as asks
 use Rattle.query_laws.specs.Demands.{AStream, ATable, AFold, AQuietFold, Stands, AColumn, Kept, Fewer, Same, Apart, SameKeys}
-use Rattle.query_laws.proofs.{ExprFaults.slot_told, ExprFaults.condition_told, FoldNames.below, StreamLaws.all_same_complete}
-use Rattle.query_laws.proofs.{StreamLaws.picked_sound}
+use Rattle.query_laws.proofs.{ExprFaults.{slot_told, condition_told}, FoldNames.below, StreamLaws.{all_same_complete, picked_sound}}
 use Rattle.query_laws.proofs.FaultSteps.{no_fault, not_both, by_must, by_must_not, by_next, told, Broken, broken_in}
 use Rattle.query_laws.proofs.FinalLaws.{at_most, both_hold, same_complete}
 use Rattle.query_laws.proofs.NameFaults.{stream_told, fold_told, table_told, quiet_told, columns_told, at_least, keys_told, arguments_told}

@@ -1,22 +1,20 @@
 -- Streams: the rules and the checks agree.
 use Rattle.std.proofs.Common.{◌≡◌, ℕ, Bool, true, false, List, [], ◌∷◌, ◌++◌, length, map, Some, None, Ok, nat_eq, not, ◌&&◌, ◌||◌, refl}
-use Rattle.std.proofs.Common.{sym, ap, subst, ◌∙◌, append-nil, arith}
-use Rattle.std.{specs.Prelude.flat_map, proofs.lemmas.Bool.ltb-true, proofs.lemmas.List.length-map}
+use Rattle.std.{proofs.{Common.{sym, ap, subst, ◌∙◌, append-nil, arith}, lemmas.{Bool.ltb-true, List.length-map}}, specs.Prelude.flat_map}
 use Rattle.query_lang.specs.declared.query.StreamOp.TheVariants as ops
 use Rattle.query_lang.specs.declared.typed.PrintOf.TheVariants as place
 use Rattle.query_lang.specs.declared.typed.TypedOp.TheVariants as typed
 use Rattle.query_lang.specs.declared.typing.Origin.TheVariants as origin
 use Rattle.query_laws.proofs.Terms.{Name, Key, Column, Expr, StreamOp, Earlier, StreamView, FoldView, Known, MadeStream, NewColumns, Picked}
-use Rattle.query_laws.proofs.Terms.{Origin, StreamColumn, stream_named, fold_named, column_names, key_names}
-use Rattle.query_laws.proofs.Terms.{keys_checked, arguments_of, same_origin, clashes_with, clash, others_from, columns_at}
-use Rattle.query_laws.proofs.Terms.{filtered, mapped, zipped, next_stream, made_stream, MAX_GROUPBYS, HasTypedColumns, HasKeys}
-use Rattle.query_laws.proofs.Terms.{HasArguments, key_ids, IsSame, AreSame, OfFilter, OfMap, OfZip, OfGroup, HasStream}
-use Rattle.query_laws.proofs.Steps.{must_ok, must_not_ok, must_holds, must_not_holds, same_ok, found_first, then_next, nat_same, nat_other}
-use Rattle.query_laws.proofs.Steps.{nat_is}
-use Rattle.query_laws.proofs.ColumnLaws.{at_slots, keys_there, others_are, others_taken}
-use Rattle.query_laws.proofs.{ExprSound.condition_sound, ExprComplete.condition_complete, FoldNames.below}
-use Rattle.query_laws.proofs.NameLaws.{ok, stream_sound, stream_complete, fold_name_sound, fold_name_complete, columns_sound}
-use Rattle.query_laws.proofs.NameLaws.{columns_complete, keys_sound, keys_complete, arguments_sound, arguments_complete}
+use Rattle.query_laws.proofs.Terms.{Origin, StreamColumn, stream_named, fold_named, column_names, key_names, keys_checked, arguments_of}
+use Rattle.query_laws.proofs.Terms.{same_origin, clashes_with, clash, others_from, columns_at, filtered, mapped, zipped, next_stream}
+use Rattle.query_laws.proofs.Terms.{made_stream, MAX_GROUPBYS, HasTypedColumns, HasKeys, HasArguments, key_ids, IsSame, AreSame, OfFilter}
+use Rattle.query_laws.proofs.{Terms.{OfMap, OfZip, OfGroup, HasStream}, Steps.{must_ok, must_not_ok, must_holds, must_not_holds, same_ok}}
+use Rattle.query_laws.proofs.Steps.{found_first, then_next, nat_same, nat_other, nat_is}
+use Rattle.query_laws.proofs.{ColumnLaws.{at_slots, keys_there, others_are, others_taken}, ExprSound.condition_sound}
+use Rattle.query_laws.proofs.{ExprComplete.condition_complete, FoldNames.below, NameLaws.{ok, stream_sound, stream_complete}}
+use Rattle.query_laws.proofs.NameLaws.{fold_name_sound, fold_name_complete, columns_sound, columns_complete, keys_sound, keys_complete}
+use Rattle.query_laws.proofs.NameLaws.{arguments_sound, arguments_complete}
 
 filter_sound : (earlier : Earlier) {input : Name} {e : Expr} {made : MadeStream} → filtered earlier input e ≡ Ok made
     → OfFilter earlier.known input e made

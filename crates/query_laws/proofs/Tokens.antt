@@ -1,8 +1,7 @@
 -- The numbers among the tokens of a text are words.
 use Rattle.std.proofs.Common.{◌≡◌, ℕ, zero, suc, ◌+◌, ◌^◌, Bool, true, false, cond, List, [], ◌∷◌, length, take, drop, Option, Some, None}
-use Rattle.std.proofs.Common.{Ok, Err, refl, subst}
-use Rattle.std.specs.Prelude.{nat_eq, nat_lt, codes}
-use Rattle.std.{specs.List.prefix_len, specs.Str.bytes_eq, specs.Str.Parse.digits_value, proofs.lemmas.Bool.ltb-true}
+use Rattle.std.{proofs.{Common.{Ok, Err, refl, subst}, lemmas.Bool.ltb-true}, specs.{Prelude.{nat_eq, nat_lt, codes}, List.prefix_len}}
+use Rattle.std.specs.Str.{bytes_eq, Parse.digits_value}
 use Rattle.query_lang.specs.declared.token.{Mark.Mark, Piece.Piece, Token.Token, Word.Word}
 use Rattle.query_lang.specs.declared.token.Piece.TheVariants as pieces
 use Rattle.query_lang.specs.declared.token.TokenKind.TheVariants as kinds

@@ -1,8 +1,7 @@
 -- The streams of a typed query and the columns that the checks know of them.
 use Rattle.std.proofs.Common.{◌≡◌, ℕ, zero, suc, ◌+◌, ◌<◌, Bool, true, false, ◌||◌, cond, List, [], ◌∷◌, ◌++◌, length, map, Option, Some}
-use Rattle.std.proofs.Common.{None, Ok, nat_eq, refl, sym, ap, subst, ◌∙◌, arith}
-use Rattle.std.specs.Prelude.{flat_map, slice_get}
-use Rattle.std.proofs.lemmas.{List.length_push, List.length-map, List.Folds.list_any-append}
+use Rattle.std.proofs.{Common.{None, Ok, nat_eq, refl, sym, ap, subst, ◌∙◌, arith}, lemmas.List.{length_push, length-map}}
+use Rattle.std.{proofs.lemmas.List.Folds.list_any-append, specs.Prelude.{flat_map, slice_get}}
 use Rattle.query_lang.specs.declared.query.Item.TheVariants as item
 use Rattle.query_lang.specs.declared.query.StreamOp.TheVariants as ops
 use Rattle.query_lang.specs.declared.typed.PrintOf.TheVariants as place
@@ -13,11 +12,10 @@ use Rattle.query_laws.proofs.Terms.{Column, Expr, FinalDef, FoldDef, Item, Key, 
 use Rattle.query_laws.proofs.Terms.{FoldView, Given, Known, MadeStream, Meaning, NewColumns, Picked, StreamView, is_among, slot_of, word_of}
 use Rattle.query_laws.proofs.Terms.{condition_of, fold_checked, meaning_of, as_stream, stream_named, fold_named, column_names, others_from}
 use Rattle.query_laws.proofs.Terms.{columns_at, new_columns, no_new_columns, key_names, keys_from, keys_checked, arguments_of, filtered}
-use Rattle.query_laws.proofs.Terms.{mapped, next_stream, zipped, grouped, made_stream, with_stream, begun, stream_checked}
-use Rattle.query_laws.proofs.Terms.{table_named, made_final, final_checked, typed_names, field_numbers, given_of, start_of, fold_added}
-use Rattle.query_laws.proofs.Terms.{print_checked, item_checked, items_checked, ended, checked, StandsAt}
-use Rattle.query_laws.proofs.Steps.{must_ok, must_not_ok, same_ok, found_first, nat_other, nat_is_not}
-use Rattle.query_laws.proofs.ExprSound.{slot_stands}
+use Rattle.query_laws.proofs.Terms.{mapped, next_stream, zipped, grouped, made_stream, with_stream, begun, stream_checked, table_named}
+use Rattle.query_laws.proofs.Terms.{made_final, final_checked, typed_names, field_numbers, given_of, start_of, fold_added, print_checked}
+use Rattle.query_laws.proofs.Terms.{item_checked, items_checked, ended, checked, StandsAt}
+use Rattle.query_laws.proofs.{Steps.{must_ok, must_not_ok, same_ok, found_first, nat_other, nat_is_not}, ExprSound.slot_stands}
 use Rattle.query_laws.proofs.Views.{View, AreDistinct, AreBelow, mapped_columns, Makes, AreMade, made_long, made_last, get_front, get_after}
 
 -- ---- what names stand for

@@ -6,23 +6,22 @@ use Rattle.query_lang.specs.declared.query.Key.TheVariants as key
 use Rattle.query_lang.specs.declared.query.StreamOp.TheVariants.{Group}
 use Rattle.query_lang.specs.declared.typing.Origin.TheVariants as origin
 use Rattle.query_lang.specs.declared.typing.Sort.TheVariants as sort
-use Rattle.query_laws.proofs.Terms.{QueryFault, Op, Div, Rem, Add, Shl, Shr, Lt}
-use Rattle.query_laws.proofs.Terms.{Both, Either, Max, Decay, TypedExpr, Expr, StreamOp, Found, Sort, and_then}
-use Rattle.query_laws.proofs.Terms.{collected, is_among, place_of, of_two, call_of, negation_checked, expr_checked, IsStream, IsFold, Kind}
-use Rattle.query_laws.proofs.Terms.{Word, Condition, StandsAt, HasKind, of_number, of_name, of_not, of_binary, of_call, IsNew, HasStream}
-use Rattle.query_laws.{specs.Asked.StreamAsks, proofs.FaultSteps.no_fault, proofs.FoldNames.among_new, proofs.ItemsMeet.stream_meets}
+use Rattle.query_laws.proofs.Terms.{QueryFault, Op, Div, Rem, Add, Shl, Shr, Lt, Both, Either, Max, Decay, TypedExpr, Expr, StreamOp, Found}
+use Rattle.query_laws.proofs.Terms.{Sort, and_then, collected, is_among, place_of, of_two, call_of, negation_checked, expr_checked}
+use Rattle.query_laws.proofs.Terms.{IsStream, IsFold, Kind, Word, Condition, StandsAt, HasKind, of_number, of_name, of_not, of_binary}
+use Rattle.query_laws.proofs.{Terms.{of_call, IsNew, HasStream}, FaultSteps.no_fault, FoldNames.among_new, ItemsMeet.stream_meets}
+use Rattle.query_laws.specs.Asked.{StreamAsks}
 use Rattle.query_laws.specs.Asked as asks
 use Rattle.query_laws.specs.Demands.{HasPart, AStream, Demand, Stands, AColumn, New, Typed, Same, Apart, Holds}
 use Rattle.query_laws.specs.Demands as parts
 use Rattle.query_laws.specs.StreamRules as rules
 use Rattle.query_laws.proofs.ExprComplete.{complete, word_complete, number_is, named_is, not_is, binary_is, call_is}
 use Rattle.query_laws.proofs.NameLaws.{stream_sound, stream_complete, fold_name_sound, apart_sound}
-use Rattle.query_laws.proofs.Steps.{then_next, place_stands, stands_place}
-use Rattle.query_laws.specs.TypingExamples.{here, called, two_columns, first, second, is_less, typed_is_less, with_first, RefusesNumber}
-use Rattle.query_laws.specs.TypingExamples.{RefusesColumn, ExpressionExamples}
+use Rattle.query_laws.{proofs.Steps.{then_next, place_stands, stands_place}, specs.TypingExamples.{here, called, two_columns, first}}
+use Rattle.query_laws.specs.TypingExamples.{second, is_less, typed_is_less, with_first, RefusesNumber, RefusesColumn, ExpressionExamples}
 use Rattle.query_laws.specs.TypingExamples.{fields, zipped, a_field, by_key, mapped, unmapped, of_one_argument, of_no_argument}
-use Rattle.query_laws.specs.TypingExamples.{items_before, Makes, MakesNothing, is_above_0, new_column, keys_named, eight_keys}
-use Rattle.query_laws.specs.TypingExamples.{five_names, by_fields, FilterExamples, MapExamples, ZipExamples, GroupExamples, StreamExamples}
+use Rattle.query_laws.specs.TypingExamples.{items_before, Makes, MakesNothing, is_above_0, new_column, keys_named, eight_keys, five_names}
+use Rattle.query_laws.specs.TypingExamples.{by_fields, FilterExamples, MapExamples, ZipExamples, GroupExamples, StreamExamples}
 
 -- ---- expressions
 

@@ -1,14 +1,12 @@
 -- Where a text is accepted, its typed form is valid, and its folds start as words.
-use Rattle.std.proofs.Common.{◌≡◌, ℕ, List, ◌∷◌, Ok, sym, subst}
+use Rattle.std.proofs.{Common.{◌≡◌, ℕ, List, ◌∷◌, Ok, sym, subst}, lemmas.List.Elements.{All-nil, All-head, All-tail, All-push, All-map}}
 use Rattle.std.specs.Prelude.{All}
-use Rattle.std.proofs.lemmas.List.Elements.{All-nil, All-head, All-tail, All-push, All-map}
 use Rattle.query_lang.specs.declared.query.Item.TheVariants as item
 use Rattle.query_grammar.proofs.Numbered.{readable}
 use Rattle.query_types.proofs.ValidLaws.{query_valid}
-use Rattle.query_laws.proofs.Terms.{TypedFold, FoldDef, Item, Query, StateVar, TypedQuery, Given, checked, typed_names, IsWord}
-use Rattle.query_laws.proofs.Terms.{AreWords, IsQueryOf, Entry, folds_in, HasFold, accepted}
-use Rattle.query_laws.specs.QueryRules.{HasItem, HasItems, of_none, of_more}
-use Rattle.query_laws.proofs.{QueryLaws.query_complete, Accepted.accepted_sound, Items.numbers}
+use Rattle.query_laws.proofs.Terms.{TypedFold, FoldDef, Item, Query, StateVar, TypedQuery, Given, checked, typed_names, IsWord, AreWords}
+use Rattle.query_laws.proofs.{Terms.{IsQueryOf, Entry, folds_in, HasFold, accepted}, QueryLaws.query_complete, Accepted.accepted_sound}
+use Rattle.query_laws.{proofs.Items.numbers, specs.QueryRules.{HasItem, HasItems, of_none, of_more}}
 use Rattle.query_laws.specs.ValidLaws.{StartsAsWords, AcceptedAreValid, AcceptedStartAsWords}
 
 -- an accepted text has a query, whose check gives the typed form

@@ -1,14 +1,12 @@
 -- The rows of streams: the values of their columns, each by the packet, where the values come from, and the column's name.
 use Rattle.std.proofs.Common.{◌≡◌, ℕ, zero, suc, ◌<◌, Bool, true, false, cond, ◌||◌, eqb, List, [], ◌∷◌, ◌++◌, length, map, Option, Some}
-use Rattle.std.proofs.Common.{None, nat_eq, slice_index, refl, sym, ap, subst, ◌∙◌, arith}
-use Rattle.std.specs.Prelude.{filter, find, slice_get, option_map, if◌then◌else◌, ◌==◌}
-use Rattle.std.specs.List.{cons_option}
-use Rattle.std.proofs.lemmas.{Bool.eqb-true, List.map-append, List.length-map, Option.same_Some}
+use Rattle.std.proofs.{Common.{None, nat_eq, slice_index, refl, sym, ap, subst, ◌∙◌, arith}, lemmas.Bool.eqb-true}
+use Rattle.std.proofs.lemmas.{List.{map-append, length-map}, Option.same_Some}
+use Rattle.std.specs.{Prelude.{filter, find, slice_get, option_map, if◌then◌else◌, ◌==◌}, List.cons_option}
 use Rattle.query_lang.specs.declared.typed.TypedOp.TheVariants as typed
 use Rattle.query_lang.specs.declared.typing.Origin.TheVariants as origin
 use Rattle.query_lang.specs.Streams.{Tuple, values_at, expr_value, map_stream, zip_stream, group_stream, tuples_at, made_of}
-use Rattle.query_laws.proofs.Terms.{TypedExpr, TypedFold, Origin, StreamColumn, is_among, columns_at}
-use Rattle.query_laws.proofs.Steps.{nat_is, nat_is_not}
+use Rattle.query_laws.proofs.{Terms.{TypedExpr, TypedFold, Origin, StreamColumn, is_among, columns_at}, Steps.{nat_is, nat_is_not}}
 use Rattle.query_laws.proofs.Views.{View, AreDistinct, AreBelow, mapped_columns, OfMap, OfZip, OfGroup}
 
 -- the value of a column, by the number of a packet, where it comes from, and its name

@@ -1,8 +1,7 @@
 -- The columns of streams and where their values come from, as the operators make them.
 use Rattle.std.proofs.Common.{◌≡◌, ℕ, zero, suc, ◌+◌, ◌<◌, Bool, true, false, cond, List, [], ◌∷◌, ◌++◌, length, map, Some, refl, sym, ap}
-use Rattle.std.proofs.Common.{subst, ◌∙◌, append_assoc, append-nil, arith}
+use Rattle.std.proofs.{Common.{subst, ◌∙◌, append_assoc, append-nil, arith}, lemmas.{List.length_push, Option.same_Some}}
 use Rattle.std.specs.Prelude.{slice_get, option_map}
-use Rattle.std.proofs.lemmas.{List.length_push, Option.same_Some}
 use Rattle.query_lang.specs.declared.typed.TypedOp.TheVariants as typed
 use Rattle.query_lang.specs.declared.typing.Origin.TheVariants as origin
 use Rattle.query_laws.proofs.Terms.{TypedExpr, TypedOp, TypedStream, StreamColumn, is_among, column_names, others_from, columns_at, clash}

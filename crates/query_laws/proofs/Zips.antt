@@ -1,19 +1,14 @@
 -- What a zip's rows have under the names of both streams.
 use Rattle.std.proofs.Common.{◌≡◌, ℕ, zero, suc, ◌+◌, Bool, true, false, cond, not, ◌&&◌, ◌||◌, List, [], ◌∷◌, ◌++◌, length, Option, Some}
-use Rattle.std.proofs.Common.{None, nat_eq, slice_index, refl, sym, ap, subst, ◌∙◌, append_assoc, arith}
-use Rattle.std.specs.Prelude.{Contains, slice_get, option_map, if◌then◌else◌}
+use Rattle.std.proofs.{Common.{None, nat_eq, slice_index, refl, sym, ap, subst, ◌∙◌, append_assoc, arith}, lemmas.List.length_push}
+use Rattle.std.{proofs.lemmas.Option.same_Some, specs.Prelude.{Contains, slice_get, option_map, if◌then◌else◌}}
 use Rattle.std.specs.List.{list_any, cons_option}
-use Rattle.std.proofs.lemmas.{List.length_push, Option.same_Some}
 use Rattle.query_lang.specs.declared.typing.Origin.TheVariants as origin
 use Rattle.query_lang.specs.Streams.{Tuple, all_streams, stream}
 use Rattle.query_laws.proofs.Terms.{Zip, TypedQuery, Origin, StreamColumn, is_among, place_from, column_names, same_origin, clashes_with}
-use Rattle.query_laws.proofs.Terms.{clash, others_from, columns_at}
-use Rattle.query_laws.proofs.{Steps.nat_same, Steps.nat_is, Typed.field_view}
-use Rattle.query_laws.specs.Columns.{columns_of, operator_of, IsZip, value_under}
-use Rattle.query_laws.specs.TupleLaws.{ColumnsAgree, ColumnsAreKept}
-use Rattle.query_laws.proofs.Views.{View, ZipAt, zip_made}
-use Rattle.query_laws.proofs.Values.{Values, row_of, have_at}
-use Rattle.query_laws.proofs.Rows.{HasRows, names_are, row_in}
+use Rattle.query_laws.proofs.{Terms.{clash, others_from, columns_at}, Steps.{nat_same, nat_is}, Typed.field_view}
+use Rattle.query_laws.proofs.{Views.{View, ZipAt, zip_made}, Values.{Values, row_of, have_at}, Rows.{HasRows, names_are, row_in}}
+use Rattle.query_laws.specs.{Columns.{columns_of, operator_of, IsZip, value_under}, TupleLaws.{ColumnsAgree, ColumnsAreKept}}
 
 -- ---- columns by their names
 

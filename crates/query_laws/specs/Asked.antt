@@ -1,37 +1,22 @@
 -- What each part of a query asks, after the items before it.
 use Rattle.std.specs.Prelude.{◌≡◌, ℕ, ◌+◌, List, [], ◌∷◌, ◌++◌, length, map, flat_map}
 use Rattle.query_lang.specs.declared.fault.Limit.TheVariants as limits
-use Rattle.query_lang.specs.declared.fault.Span.{Span}
-use Rattle.query_lang.specs.declared.fold.Op.{Op}
-use Rattle.query_lang.specs.declared.query.Column.{Column}
-use Rattle.query_lang.specs.declared.query.Expr.{Expr}
+use Rattle.query_lang.specs.declared.{fault.Span.Span, fold.Op.Op, query.{Column.Column, Expr.Expr}}
 use Rattle.query_lang.specs.declared.query.Expr.TheVariants as expr
-use Rattle.query_lang.specs.declared.query.FinalDef.{FinalDef}
-use Rattle.query_lang.specs.declared.query.FinalOp.{FinalOp}
+use Rattle.query_lang.specs.declared.query.{FinalDef.FinalDef, FinalOp.FinalOp}
 use Rattle.query_lang.specs.declared.query.FinalOp.TheVariants as final
-use Rattle.query_lang.specs.declared.query.FoldDef.{FoldDef}
-use Rattle.query_lang.specs.declared.query.Item.{Item}
+use Rattle.query_lang.specs.declared.query.{FoldDef.FoldDef, Item.Item}
 use Rattle.query_lang.specs.declared.query.Item.TheVariants as item
-use Rattle.query_lang.specs.declared.query.Key.{Key}
-use Rattle.query_lang.specs.declared.query.Name.{Name}
-use Rattle.query_lang.specs.declared.query.StateVar.{StateVar}
-use Rattle.query_lang.specs.declared.query.Stmt.{Stmt}
+use Rattle.query_lang.specs.declared.query.{Key.Key, Name.Name, StateVar.StateVar, Stmt.Stmt}
 use Rattle.query_lang.specs.declared.query.Stmt.TheVariants as stmt
-use Rattle.query_lang.specs.declared.query.StreamDef.{StreamDef}
-use Rattle.query_lang.specs.declared.query.StreamOp.{StreamOp}
+use Rattle.query_lang.specs.declared.query.{StreamDef.StreamDef, StreamOp.StreamOp}
 use Rattle.query_lang.specs.declared.query.StreamOp.TheVariants as stream
-use Rattle.query_lang.specs.declared.typing.FoldView.{FoldView}
-use Rattle.query_lang.specs.declared.typing.Known.{Known}
-use Rattle.query_lang.specs.declared.typing.StreamView.{StreamView}
-use Rattle.query_lang.specs.declared.typing.TableView.{TableView}
-use Rattle.query_lang.specs.TypedFinals.{other_columns}
-use Rattle.query_lang.specs.TypedStreams.{column_names, key_names}
+use Rattle.query_lang.specs.declared.typing.{FoldView.FoldView, Known.Known, StreamView.StreamView, TableView.TableView}
+use Rattle.query_lang.specs.{TypedFinals.other_columns, TypedStreams.{column_names, key_names}}
 use Rattle.query_laws.specs.Context.{Entry, streams_in, finals_in, printed_in, groups_in, known_in, IsStream, IsFold, IsTable}
-use Rattle.query_laws.specs.Demands.{IsOneOf, HasPart, StandsIn, AStream, ATable, AFold, AQuietFold, Demand, Free, Stands, AColumn}
-use Rattle.query_laws.specs.Demands.{New, Target, Typed, Two, Constant, Kept, Fewer, Same, Apart, SameKeys, ReadsNone, OneEmit}
-use Rattle.query_laws.specs.ExprRules.{Kind, Word, Condition}
-use Rattle.query_laws.specs.FoldRules.{state_names_of, arg_names_of}
-use Rattle.query_laws.specs.StreamRules.{new_names, key_ids}
+use Rattle.query_laws.specs.Demands.{IsOneOf, HasPart, StandsIn, AStream, ATable, AFold, AQuietFold, Demand, Free, Stands, AColumn, New}
+use Rattle.query_laws.specs.Demands.{Target, Typed, Two, Constant, Kept, Fewer, Same, Apart, SameKeys, ReadsNone, OneEmit}
+use Rattle.query_laws.specs.{ExprRules.{Kind, Word, Condition}, FoldRules.{state_names_of, arg_names_of}, StreamRules.{new_names, key_ids}}
 
 abbrev pub ids_of : List Name → List ℕ
 ids_of names = map (λ name. name.id) names

@@ -1,15 +1,9 @@
 -- Which texts are accepted: by the grammar, the rules and the depths of operations.
 use Rattle.std.specs.Prelude.{◌≡◌, ◌↔◌, ℕ, ◌≤◌, List, All, Some, Ok, Err}
-use Rattle.query_lang.specs.declared.fault.FaultKind.TheVariants.{NothingPrinted}
-use Rattle.query_lang.specs.declared.fault.QueryFault.{QueryFault}
-use Rattle.query_lang.specs.declared.query.Query.{Query}
-use Rattle.query_lang.specs.declared.typed.TypedQuery.{TypedQuery}
-use Rattle.query_lang.specs.Typing.{checked}
-use Rattle.query_lang.specs.declared.fault.TheConstants.{MAX_STAGES}
+use Rattle.query_lang.specs.declared.{fault.{FaultKind.TheVariants.NothingPrinted, QueryFault.QueryFault}, query.Query.Query}
+use Rattle.query_lang.specs.{declared.{typed.TypedQuery.TypedQuery, fault.TheConstants.MAX_STAGES}, Typing.checked}
 use Rattle.query_grammar.specs.Texts.{IsQueryOf, IsFaultOf}
-use Rattle.query_laws.specs.Demands.{Tells}
-use Rattle.query_laws.specs.FaultLaws.{Breaks, PrintsNothing}
-use Rattle.query_laws.specs.QueryRules.{IsTyped}
+use Rattle.query_laws.specs.{Demands.Tells, FaultLaws.{Breaks, PrintsNothing}, QueryRules.IsTyped}
 use Rattle.stage_plan.specs.Depths.{query_depths, stage_fault}
 use Rattle.accepted_query.specs.Accepted.{accepted}
 

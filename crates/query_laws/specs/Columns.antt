@@ -1,9 +1,6 @@
 -- The columns of streams, and the values that rows have under their names.
 use Rattle.std.specs.Prelude.{◌≡◌, ℕ, zero, suc, List, [], Option, Some, None, option_map, unwrap_or, slice_get, slice_index}
-use Rattle.query_lang.specs.declared.typed.TypedOp.{TypedOp}
-use Rattle.query_lang.specs.declared.typed.TypedOp.TheVariants.{Zip}
-use Rattle.query_lang.specs.declared.typed.TypedQuery.{TypedQuery}
-use Rattle.query_lang.specs.Checks.{place_of}
+use Rattle.query_lang.specs.{declared.typed.{TypedOp.{TypedOp, TheVariants.Zip}, TypedQuery.TypedQuery}, Checks.place_of}
 use Rattle.query_lang.specs.Typing.{field_numbers}
 
 -- the names of a stream's columns, in their order; those of `pktstream`, which is number 0, are the fields

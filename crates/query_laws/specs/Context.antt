@@ -1,24 +1,12 @@
 -- The items before some place as typed, and what their names stand for.
-use Rattle.std.specs.Prelude.{◌≡◌, ◌⊎◌, ℕ, ◌+◌, List, [], ◌∷◌, ◌++◌, length, map, codes}
-use Rattle.std.specs.Prelude.{Some, None, is_some, if◌then◌else◌}
-use Rattle.query_lang.specs.declared.fold.TypedFold.{TypedFold}
-use Rattle.query_lang.specs.declared.query.Name.{Name}
-use Rattle.query_lang.specs.declared.typed.PrintOf.{PrintOf}
+use Rattle.std.specs.Prelude.{◌≡◌, ◌⊎◌, ℕ, ◌+◌, List, [], ◌∷◌, ◌++◌, length, map, codes, Some, None, is_some, if◌then◌else◌}
+use Rattle.query_lang.specs.declared.{fold.TypedFold.TypedFold, query.Name.Name, typed.PrintOf.PrintOf}
 use Rattle.query_lang.specs.declared.typed.PrintOf.TheVariants as place
-use Rattle.query_lang.specs.declared.typed.TypedStream.{TypedStream}
-use Rattle.query_lang.specs.declared.typed.TypedFinal.{TypedFinal}
-use Rattle.query_lang.specs.declared.typing.Earlier.{Earlier}
-use Rattle.query_lang.specs.declared.typing.FoldView.{FoldView}
-use Rattle.query_lang.specs.declared.typing.StreamView.{StreamView}
-use Rattle.query_lang.specs.declared.typing.TableView.{TableView}
-use Rattle.query_lang.specs.declared.typing.Known.{Known}
-use Rattle.query_lang.specs.declared.typing.Meaning.{Meaning}
+use Rattle.query_lang.specs.declared.{typed.{TypedStream.TypedStream, TypedFinal.TypedFinal}, typing.{Earlier.Earlier, FoldView.FoldView}}
+use Rattle.query_lang.specs.declared.typing.{StreamView.StreamView, TableView.TableView, Known.Known, Meaning.Meaning}
 use Rattle.query_lang.specs.declared.typing.Meaning.TheVariants as meaning
 use Rattle.query_lang.specs.declared.typing.Origin.TheVariants as origin
-use Rattle.query_lang.specs.declared.typing.MadeStream.{MadeStream}
-use Rattle.query_lang.specs.declared.typing.MadeFinal.{MadeFinal}
-use Rattle.query_lang.specs.TypedStreams.{column_names}
-use Rattle.query_lang.specs.Names.{number_in}
+use Rattle.query_lang.specs.{declared.typing.{MadeStream.MadeStream, MadeFinal.MadeFinal}, TypedStreams.column_names, Names.number_in}
 use Rattle.query_lang.specs.Typing.{field_numbers}
 
 -- an item as typed

@@ -4,26 +4,17 @@ use Rattle.query_lang.specs.declared.fault.FaultKind.{FaultKind}
 use Rattle.query_lang.specs.declared.fault.FaultKind.TheVariants as kinds
 use Rattle.query_lang.specs.declared.fault.Limit.{Limit}
 use Rattle.query_lang.specs.declared.fault.Limit.TheVariants as limits
-use Rattle.query_lang.specs.declared.fault.Span.{Span}
-use Rattle.query_lang.specs.declared.fold.Op.{Op}
-use Rattle.query_lang.specs.declared.fold.TypedExpr.{TypedExpr}
-use Rattle.query_lang.specs.declared.query.Expr.{Expr, fold-Expr}
+use Rattle.query_lang.specs.declared.{fault.Span.Span, fold.{Op.Op, TypedExpr.TypedExpr}, query.Expr.{Expr, fold-Expr}}
 use Rattle.query_lang.specs.declared.query.Expr.TheOpen as open_expr
 use Rattle.query_lang.specs.declared.query.Expr.TheVariants as expr
-use Rattle.query_lang.specs.declared.query.Name.{Name}
-use Rattle.query_lang.specs.declared.query.Stmt.{Stmt}
+use Rattle.query_lang.specs.declared.query.{Name.Name, Stmt.Stmt}
 use Rattle.query_lang.specs.declared.query.Stmt.TheVariants as stmt
-use Rattle.query_lang.specs.declared.typing.FoldView.{FoldView}
-use Rattle.query_lang.specs.declared.typing.Known.{Known}
-use Rattle.query_lang.specs.declared.typing.StreamColumn.{StreamColumn}
-use Rattle.query_lang.specs.declared.typing.StreamView.{StreamView}
-use Rattle.query_lang.specs.declared.typing.TableView.{TableView}
-use Rattle.query_lang.specs.TypedFinals.{key_columns}
-use Rattle.query_lang.specs.declared.fault.TheConstants.{MAX_ARGS, MAX_BINDINGS, MAX_GROUPBYS, MAX_KEYS, MAX_NESTING, MAX_NODES, MAX_STAGES}
-use Rattle.query_lang.specs.declared.fault.TheConstants.{MAX_STATEMENTS, MAX_STATES}
+use Rattle.query_lang.specs.declared.typing.{FoldView.FoldView, Known.Known, StreamColumn.StreamColumn, StreamView.StreamView}
+use Rattle.query_lang.specs.{declared.{typing.TableView.TableView, fault.TheConstants.{MAX_ARGS, MAX_BINDINGS}}, TypedFinals.key_columns}
+use Rattle.query_lang.specs.declared.fault.TheConstants.{MAX_GROUPBYS, MAX_KEYS, MAX_NESTING, MAX_NODES, MAX_STAGES, MAX_STATEMENTS}
+use Rattle.query_lang.specs.declared.fault.TheConstants.{MAX_STATES}
 use Rattle.query_laws.specs.Context.{IsFree, IsStream, IsFold, IsTable}
-use Rattle.query_laws.specs.ExprRules.{Kind, Condition, StandsAt, operand_kind, IsRightOperand, other_kind, HasKind}
-use Rattle.query_laws.specs.FoldRules.{IsNew}
+use Rattle.query_laws.specs.{ExprRules.{Kind, Condition, StandsAt, operand_kind, IsRightOperand, other_kind, HasKind}, FoldRules.IsNew}
 use Rattle.query_laws.specs.StreamRules.{AreApart, AreSame}
 
 -- ---- parts of expressions and of blocks

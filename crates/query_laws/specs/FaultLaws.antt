@@ -2,20 +2,10 @@
 use Rattle.std.specs.Prelude.{◌≡◌, ◌↔◌, ℕ, List, [], ◌∷◌, ◌++◌, Err}
 use Rattle.query_lang.specs.declared.fault.FaultKind.{FaultKind}
 use Rattle.query_lang.specs.declared.fault.FaultKind.TheVariants as kinds
-use Rattle.query_lang.specs.declared.fault.Limit.{Limit}
-use Rattle.query_lang.specs.declared.fault.QueryFault.{QueryFault}
-use Rattle.query_lang.specs.declared.fault.Span.{Span}
-use Rattle.query_lang.specs.declared.query.Item.{Item}
-use Rattle.query_lang.specs.declared.query.Query.{Query}
-use Rattle.query_lang.specs.declared.typing.Given.{Given}
-use Rattle.query_lang.specs.declared.typing.Known.{Known}
-use Rattle.query_lang.specs.TypedFinals.{five_fields}
-use Rattle.query_lang.specs.Typing.{checked, typed_names, given_of}
-use Rattle.query_laws.specs.Asked.{ItemAsks}
-use Rattle.query_laws.specs.Context.{Entry, prints_in, known_in}
-use Rattle.query_laws.specs.Demands.{Demand, Holds, IsUnknown, IsHiddenState, IsTaken, IsOtherKind, IsOtherArity, IsBadConstant}
-use Rattle.query_laws.specs.Demands.{IsOneTooMany}
-use Rattle.query_laws.specs.QueryRules.{HasItem, HasItems}
+use Rattle.query_lang.specs.declared.{fault.{Limit.Limit, QueryFault.QueryFault, Span.Span}, query.{Item.Item, Query.Query}}
+use Rattle.query_lang.specs.{declared.typing.{Given.Given, Known.Known}, TypedFinals.five_fields, Typing.{checked, typed_names, given_of}}
+use Rattle.query_laws.specs.{Asked.ItemAsks, Context.{Entry, prints_in, known_in}, Demands.{Demand, Holds, IsUnknown, IsHiddenState}}
+use Rattle.query_laws.specs.{Demands.{IsTaken, IsOtherKind, IsOtherArity, IsBadConstant, IsOneTooMany}, QueryRules.{HasItem, HasItems}}
 
 abbrev pub given_in : Query → Given
 given_in q = given_of (typed_names q.names) q.items

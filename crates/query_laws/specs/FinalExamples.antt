@@ -2,21 +2,15 @@
 use Rattle.std.specs.Prelude.{ℕ, ◌+◌, List, [], ◌∷◌, Some, true, false}
 use Rattle.query_lang.specs.declared.fold.Op.TheVariants.{Add, Lt}
 use Rattle.query_lang.specs.declared.fold.TypedExpr.TheVariants as typed
-use Rattle.query_lang.specs.declared.query.Expr.TheVariants.{Named, Binary}
-use Rattle.query_lang.specs.declared.query.FinalOp.{FinalOp}
+use Rattle.query_lang.specs.declared.query.{Expr.TheVariants.{Named, Binary}, FinalOp.FinalOp}
 use Rattle.query_lang.specs.declared.query.FinalOp.TheVariants.{Filter, Map, Group, Join, Top}
 use Rattle.query_lang.specs.declared.query.Key.TheVariants as key
 use Rattle.query_lang.specs.declared.typed.PrintOf.TheVariants as place
 use Rattle.query_lang.specs.declared.typed.TypedFinalOp.TheVariants as made_by
-use Rattle.query_lang.specs.declared.typing.FoldView.{FoldView}
-use Rattle.query_lang.specs.declared.typing.Given.{Given}
-use Rattle.query_lang.specs.declared.typing.Known.{Known}
-use Rattle.query_lang.specs.declared.typing.MadeFinal.{MadeFinal}
+use Rattle.query_lang.specs.declared.typing.{FoldView.FoldView, Given.Given, Known.Known, MadeFinal.MadeFinal}
 use Rattle.query_lang.specs.declared.typing.Meaning.TheVariants as meaning
-use Rattle.query_lang.specs.declared.typing.StreamView.{StreamView}
-use Rattle.query_lang.specs.declared.typing.TableView.{TableView}
-use Rattle.query_laws.specs.FinalRules.{HasFinal}
-use Rattle.query_laws.specs.TypingExamples.{here, called, first, a_field, mapped, is_above_0, new_column}
+use Rattle.query_lang.specs.declared.typing.{StreamView.StreamView, TableView.TableView}
+use Rattle.query_laws.specs.{FinalRules.HasFinal, TypingExamples.{here, called, first, a_field, mapped, is_above_0, new_column}}
 
 -- the table of the groupby with this number, by one key, whose fold has one variable
 abbrev pub group_table : ℕ → ℕ → ℕ → TableView

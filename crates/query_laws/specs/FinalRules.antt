@@ -1,21 +1,11 @@
 -- The rules of finals.
 use Rattle.std.specs.Prelude.{◌≡◌, ℕ, ◌≤◌, false, List, ◌++◌, length}
-use Rattle.query_lang.specs.declared.fold.TypedExpr.{TypedExpr}
-use Rattle.query_lang.specs.declared.query.Name.{Name}
-use Rattle.query_lang.specs.declared.query.Key.{Key}
-use Rattle.query_lang.specs.declared.query.Column.{Column}
-use Rattle.query_lang.specs.declared.query.Expr.{Expr}
-use Rattle.query_lang.specs.declared.query.FinalOp.{FinalOp}
+use Rattle.query_lang.specs.declared.{fold.TypedExpr.TypedExpr, query.{Name.Name, Key.Key, Column.Column, Expr.Expr, FinalOp.FinalOp}}
 use Rattle.query_lang.specs.declared.query.FinalOp.TheVariants as ops
 use Rattle.query_lang.specs.declared.typed.TypedFinalOp.TheVariants as made_by
-use Rattle.query_lang.specs.declared.typing.FoldView.{FoldView}
-use Rattle.query_lang.specs.declared.typing.TableView.{TableView}
-use Rattle.query_lang.specs.declared.typing.Given.{Given}
-use Rattle.query_lang.specs.declared.typing.Known.{Known}
-use Rattle.query_lang.specs.declared.typing.MadeFinal.{MadeFinal}
+use Rattle.query_lang.specs.declared.typing.{FoldView.FoldView, TableView.TableView, Given.Given, Known.Known, MadeFinal.MadeFinal}
 use Rattle.query_lang.specs.TypedFinals.{table_number, five_fields, key_columns, other_columns}
-use Rattle.query_laws.specs.ExprRules.{Condition, StandsAt, HasKind}
-use Rattle.query_laws.specs.Context.{IsFold, IsTable}
+use Rattle.query_laws.specs.{ExprRules.{Condition, StandsAt, HasKind}, Context.{IsFold, IsTable}}
 use Rattle.query_laws.specs.StreamRules.{HasTypedColumns, new_names, key_ids, HasKeys, HasArguments, AreApart}
 
 pub record OfFilter (groups : ℕ) (known : List Known) (input : Name) (e : Expr) (made : MadeFinal) : Type 0 where

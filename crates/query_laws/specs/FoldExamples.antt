@@ -1,18 +1,12 @@
 -- Small folds, typed and refused by the rules.
 use Rattle.std.specs.Prelude.{ℕ, List, [], ◌∷◌, ◌++◌, map, Option, Some, None}
-use Rattle.query_lang.specs.declared.fold.Op.TheVariants.{Add, Lt, Both}
-use Rattle.query_lang.specs.declared.fold.TypedExpr.{TypedExpr}
+use Rattle.query_lang.specs.declared.fold.{Op.TheVariants.{Add, Lt, Both}, TypedExpr.TypedExpr}
 use Rattle.query_lang.specs.declared.fold.TypedExpr.TheVariants as typed
-use Rattle.query_lang.specs.declared.fold.TypedFold.{TypedFold}
-use Rattle.query_lang.specs.declared.fold.TypedStmt.{TypedStmt}
+use Rattle.query_lang.specs.declared.fold.{TypedFold.TypedFold, TypedStmt.TypedStmt}
 use Rattle.query_lang.specs.declared.fold.TypedStmt.TheVariants as typed_stmt
-use Rattle.query_lang.specs.declared.query.Expr.{Expr}
-use Rattle.query_lang.specs.declared.query.Expr.TheVariants.{Number, Binary}
-use Rattle.query_lang.specs.declared.query.FoldDef.{FoldDef}
-use Rattle.query_lang.specs.declared.query.Stmt.{Stmt}
+use Rattle.query_lang.specs.declared.query.{Expr.{Expr, TheVariants.{Number, Binary}}, FoldDef.FoldDef, Stmt.Stmt}
 use Rattle.query_lang.specs.declared.query.Stmt.TheVariants.{Assign, If, Emit}
-use Rattle.query_laws.specs.FoldRules.{HasFold, fold_of}
-use Rattle.query_laws.specs.TypingExamples.{here, called, first, second, is_less, is_above_0}
+use Rattle.query_laws.specs.{FoldRules.{HasFold, fold_of}, TypingExamples.{here, called, first, second, is_less, is_above_0}}
 
 -- a fold with these state variables, which start with 0, these arguments and this body
 abbrev pub fold_over : List ℕ → List ℕ → List Stmt → FoldDef

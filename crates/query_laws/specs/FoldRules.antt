@@ -1,20 +1,12 @@
 -- The rules of folds and their statements.
 use Rattle.std.specs.Prelude.{◌≡◌, ℕ, ◌≤◌, List, [], ◌∷◌, ◌++◌, length, map, Option, Some, None}
-use Rattle.query_lang.specs.declared.fault.Span.{Span}
-use Rattle.query_lang.specs.declared.fold.Op.TheVariants.{Both}
-use Rattle.query_lang.specs.declared.fold.TypedExpr.{TypedExpr}
+use Rattle.query_lang.specs.declared.{fault.Span.Span, fold.{Op.TheVariants.Both, TypedExpr.TypedExpr}}
 use Rattle.query_lang.specs.declared.fold.TypedExpr.TheVariants as typed
 use Rattle.query_lang.specs.declared.fold.TypedStmt.{TypedStmt}
 use Rattle.query_lang.specs.declared.fold.TypedStmt.TheVariants as typed_stmt
-use Rattle.query_lang.specs.declared.fold.TypedFold.{TypedFold}
-use Rattle.query_lang.specs.declared.query.Name.{Name}
-use Rattle.query_lang.specs.declared.query.Expr.{Expr}
-use Rattle.query_lang.specs.declared.query.FoldDef.{FoldDef}
-use Rattle.query_lang.specs.declared.query.Stmt.{Stmt}
+use Rattle.query_lang.specs.declared.{fold.TypedFold.TypedFold, query.{Name.Name, Expr.Expr, FoldDef.FoldDef, Stmt.Stmt}}
 use Rattle.query_lang.specs.declared.query.Stmt.TheVariants as stmt
-use Rattle.query_lang.specs.Folds.{ReadsArguments}
-use Rattle.query_lang.specs.Terms.{term_of}
-use Rattle.query_lang.specs.TypedFolds.{fold_nodes, fold_statements}
+use Rattle.query_lang.specs.{Folds.ReadsArguments, Terms.term_of, TypedFolds.{fold_nodes, fold_statements}}
 use Rattle.query_lang.specs.declared.fault.TheConstants.{MAX_ARGS, MAX_STATES}
 use Rattle.query_laws.specs.ExprRules.{Word, Condition, StandsAt, HasKind}
 

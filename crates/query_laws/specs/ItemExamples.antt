@@ -2,26 +2,17 @@
 use Rattle.std.specs.Prelude.{◌≡◌, ℕ, zero, suc, ◌+◌, List, [], ◌∷◌, map, codes, None, Some}
 use Rattle.query_lang.specs.declared.fold.Op.TheVariants.{Lt}
 use Rattle.query_lang.specs.declared.fold.TypedExpr.TheVariants as typed
-use Rattle.query_lang.specs.declared.fold.TypedFold.{TypedFold}
-use Rattle.query_lang.specs.declared.query.Expr.{Expr}
-use Rattle.query_lang.specs.declared.query.Expr.TheVariants.{Number, Binary}
-use Rattle.query_lang.specs.declared.query.FinalDef.{FinalDef}
-use Rattle.query_lang.specs.declared.query.FoldDef.{FoldDef}
-use Rattle.query_lang.specs.declared.query.Item.{Item}
+use Rattle.query_lang.specs.declared.{fold.TypedFold.TypedFold, query.{Expr.{Expr, TheVariants.{Number, Binary}}, FinalDef.FinalDef}}
+use Rattle.query_lang.specs.declared.query.{FoldDef.FoldDef, Item.Item}
 use Rattle.query_lang.specs.declared.query.Item.TheVariants as item
-use Rattle.query_lang.specs.declared.query.StreamDef.{StreamDef}
-use Rattle.query_lang.specs.declared.query.StreamOp.TheVariants.{Filter}
+use Rattle.query_lang.specs.declared.query.{StreamDef.StreamDef, StreamOp.TheVariants.Filter}
 use Rattle.query_lang.specs.declared.typed.PrintOf.TheVariants as place
 use Rattle.query_lang.specs.declared.typed.TypedFinalOp.TheVariants as final_made_by
 use Rattle.query_lang.specs.declared.typed.TypedOp.TheVariants as made_by
-use Rattle.query_lang.specs.declared.typing.MadeFinal.{MadeFinal}
-use Rattle.query_lang.specs.declared.typing.MadeStream.{MadeStream}
+use Rattle.query_lang.specs.declared.typing.{MadeFinal.MadeFinal, MadeStream.MadeStream}
 use Rattle.query_lang.specs.declared.typing.Origin.TheVariants as origin
-use Rattle.query_lang.specs.declared.typing.StreamColumn.{StreamColumn}
-use Rattle.query_lang.specs.Typing.{field_numbers}
-use Rattle.query_laws.specs.Context.{Entry, AFold, AStream, AFinal, APrint}
-use Rattle.query_laws.specs.QueryRules.{HasItem}
-use Rattle.query_laws.specs.TypingExamples.{here, called, a_field}
+use Rattle.query_lang.specs.{declared.typing.StreamColumn.StreamColumn, Typing.field_numbers}
+use Rattle.query_laws.specs.{Context.{Entry, AFold, AStream, AFinal, APrint}, QueryRules.HasItem, TypingExamples.{here, called, a_field}}
 
 -- the query's names: `pktstream` is number 0
 abbrev pub names : List (List ℕ)

@@ -1,25 +1,13 @@
 -- The rules of items and of whole queries.
 use Rattle.std.specs.Prelude.{◌≡◌, ℕ, ◌+◌, ◌<◌, List, [], ◌∷◌, length}
-use Rattle.query_lang.specs.declared.query.Query.{Query}
-use Rattle.query_lang.specs.declared.query.Item.{Item}
+use Rattle.query_lang.specs.declared.query.{Query.Query, Item.Item}
 use Rattle.query_lang.specs.declared.query.Item.TheVariants as item
-use Rattle.query_lang.specs.declared.query.Name.{Name}
-use Rattle.query_lang.specs.declared.query.FoldDef.{FoldDef}
-use Rattle.query_lang.specs.declared.query.StreamDef.{StreamDef}
-use Rattle.query_lang.specs.declared.query.FinalDef.{FinalDef}
-use Rattle.query_lang.specs.declared.fold.TypedFold.{TypedFold}
-use Rattle.query_lang.specs.declared.typed.TypedQuery.{TypedQuery}
-use Rattle.query_lang.specs.declared.typing.Given.{Given}
-use Rattle.query_lang.specs.declared.typing.MadeStream.{MadeStream}
-use Rattle.query_lang.specs.declared.typing.MadeFinal.{MadeFinal}
-use Rattle.query_lang.specs.declared.typing.TableView.{TableView}
-use Rattle.query_lang.specs.TypedFinals.{five_fields}
-use Rattle.query_lang.specs.Typing.{typed_names, given_of}
+use Rattle.query_lang.specs.declared.{query.{Name.Name, FoldDef.FoldDef, StreamDef.StreamDef, FinalDef.FinalDef}, fold.TypedFold.TypedFold}
+use Rattle.query_lang.specs.declared.{typed.TypedQuery.TypedQuery, typing.{Given.Given, MadeStream.MadeStream, MadeFinal.MadeFinal}}
+use Rattle.query_lang.specs.{declared.typing.TableView.TableView, TypedFinals.five_fields, Typing.{typed_names, given_of}}
 use Rattle.query_lang.specs.declared.fault.TheConstants.{MAX_BINDINGS}
-use Rattle.query_laws.specs.FoldRules.{IsNew, HasFold}
-use Rattle.query_laws.specs.Context.{Entry, AFold, AStream, AFinal, APrint}
-use Rattle.query_laws.specs.Context.{folds_in, streams_in, finals_in, prints_in, printed_in, groups_in, known_in, IsFree, IsTable}
-use Rattle.query_laws.specs.StreamRules.{HasStream}
+use Rattle.query_laws.specs.{FoldRules.{IsNew, HasFold}, Context.{Entry, AFold, AStream, AFinal, APrint, folds_in, streams_in, finals_in}}
+use Rattle.query_laws.specs.{Context.{prints_in, printed_in, groups_in, known_in, IsFree, IsTable}, StreamRules.HasStream}
 use Rattle.query_laws.specs.FinalRules.{HasFinal}
 
 -- a new stream or final: its name is free, and there are at most MAX_BINDINGS of them

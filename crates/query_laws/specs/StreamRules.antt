@@ -1,26 +1,14 @@
 -- The rules of streams.
-use Rattle.std.specs.Prelude.{◌≡◌, ℕ, ◌+◌, ◌<◌, ◌≤◌, List, [], ◌∷◌, ◌++◌, length, map, flat_map}
-use Rattle.std.specs.Prelude.{slice_get, Some, None}
-use Rattle.query_lang.specs.declared.fold.TypedExpr.{TypedExpr}
-use Rattle.query_lang.specs.declared.query.Name.{Name}
-use Rattle.query_lang.specs.declared.query.Key.{Key}
-use Rattle.query_lang.specs.declared.query.Column.{Column}
-use Rattle.query_lang.specs.declared.query.Expr.{Expr}
-use Rattle.query_lang.specs.declared.query.StreamOp.{StreamOp}
+use Rattle.std.specs.Prelude.{◌≡◌, ℕ, ◌+◌, ◌<◌, ◌≤◌, List, [], ◌∷◌, ◌++◌, length, map, flat_map, slice_get, Some, None}
+use Rattle.query_lang.specs.declared.{fold.TypedExpr.TypedExpr, query.{Name.Name, Key.Key, Column.Column, Expr.Expr, StreamOp.StreamOp}}
 use Rattle.query_lang.specs.declared.query.StreamOp.TheVariants as ops
 use Rattle.query_lang.specs.declared.typed.PrintOf.TheVariants as place
 use Rattle.query_lang.specs.declared.typed.TypedOp.TheVariants as made_by
-use Rattle.query_lang.specs.declared.typing.FoldView.{FoldView}
-use Rattle.query_lang.specs.declared.typing.StreamView.{StreamView}
-use Rattle.query_lang.specs.declared.typing.Known.{Known}
-use Rattle.query_lang.specs.declared.typing.MadeStream.{MadeStream}
+use Rattle.query_lang.specs.declared.typing.{FoldView.FoldView, StreamView.StreamView, Known.Known, MadeStream.MadeStream}
 use Rattle.query_lang.specs.declared.typing.Origin.TheVariants as origin
-use Rattle.query_lang.specs.declared.typing.StreamColumn.{StreamColumn}
-use Rattle.query_lang.specs.TypedStreams.{column_names, key_names}
+use Rattle.query_lang.specs.{declared.typing.StreamColumn.StreamColumn, TypedStreams.{column_names, key_names}}
 use Rattle.query_lang.specs.declared.fault.TheConstants.{MAX_GROUPBYS, MAX_KEYS}
-use Rattle.query_laws.specs.ExprRules.{Word, Condition, StandsAt, HasKind}
-use Rattle.query_laws.specs.FoldRules.{IsNew, AreNew}
-use Rattle.query_laws.specs.Context.{IsStream, IsFold}
+use Rattle.query_laws.specs.{ExprRules.{Word, Condition, StandsAt, HasKind}, FoldRules.{IsNew, AreNew}, Context.{IsStream, IsFold}}
 
 -- the new columns of a `map`: their names are new beside those taken and among themselves, and their expressions over these
 -- columns are words

@@ -1,12 +1,8 @@
 -- What holds of the tuples of each stream of a query.
-use Rattle.std.specs.Prelude.{◌≡◌, ℕ, ◌≤◌, List, length, map, Some, All, Contains}
-use Rattle.std.specs.List.Sorted.{IsStrictlyIncreasing}
+use Rattle.std.specs.{Prelude.{◌≡◌, ℕ, ◌≤◌, List, length, map, Some, All, Contains}, List.Sorted.IsStrictlyIncreasing}
 use Rattle.marple_base.specs.declared.field.TheConstants.{FIELDS}
-use Rattle.query_lang.specs.declared.query.Query.{Query}
-use Rattle.query_lang.specs.declared.typed.TypedQuery.{TypedQuery}
-use Rattle.query_lang.specs.Streams.{Tuple, stream}
-use Rattle.query_laws.specs.QueryRules.{IsTyped}
-use Rattle.query_laws.specs.Columns.{columns_of, IsZip, value_under}
+use Rattle.query_lang.specs.{declared.{query.Query.Query, typed.TypedQuery.TypedQuery}, Streams.{Tuple, stream}}
+use Rattle.query_laws.specs.{QueryRules.IsTyped, Columns.{columns_of, IsZip, value_under}}
 
 -- the numbers of the packets that these are tuples of
 abbrev pub packet_numbers : List Tuple → List ℕ

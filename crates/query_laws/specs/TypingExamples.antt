@@ -1,30 +1,18 @@
 -- Small expressions and streams, typed and refused by the rules.
 use Rattle.std.specs.Prelude.{ℕ, List, [], ◌∷◌, map, ◌++◌, length, Some, None, false}
-use Rattle.query_lang.specs.declared.fault.Span.{Span}
-use Rattle.query_lang.specs.declared.fold.Op.{Op}
-use Rattle.query_lang.specs.declared.fold.Op.TheVariants.{Mul, Div, Rem, Add, Sub, Shl, Shr, And, Xor, Or, Eq, Ne, Lt, Le, Gt, Ge, Both}
-use Rattle.query_lang.specs.declared.fold.Op.TheVariants.{Either, Max, Min, Sadd, Decay}
-use Rattle.query_lang.specs.declared.fold.TypedExpr.{TypedExpr}
+use Rattle.query_lang.specs.declared.{fault.Span.Span, fold.Op.{Op, TheVariants.{Mul, Div, Rem, Add, Sub, Shl, Shr, And, Xor, Or, Eq, Ne}}}
+use Rattle.query_lang.specs.declared.fold.{Op.TheVariants.{Lt, Le, Gt, Ge, Both, Either, Max, Min, Sadd, Decay}, TypedExpr.TypedExpr}
 use Rattle.query_lang.specs.declared.fold.TypedExpr.TheVariants as typed
-use Rattle.query_lang.specs.declared.query.Column.{Column}
-use Rattle.query_lang.specs.declared.query.Expr.{Expr}
-use Rattle.query_lang.specs.declared.query.Expr.TheVariants.{Number, Named, Not, Binary, Call}
-use Rattle.query_lang.specs.declared.query.Key.{Key}
+use Rattle.query_lang.specs.declared.query.{Column.Column, Expr.{Expr, TheVariants.{Number, Named, Not, Binary, Call}}, Key.Key}
 use Rattle.query_lang.specs.declared.query.Key.TheVariants as key
-use Rattle.query_lang.specs.declared.query.Name.{Name}
-use Rattle.query_lang.specs.declared.query.StreamOp.{StreamOp}
-use Rattle.query_lang.specs.declared.query.StreamOp.TheVariants.{Filter, Map, Zip, Group}
+use Rattle.query_lang.specs.declared.query.{Name.Name, StreamOp.{StreamOp, TheVariants.{Filter, Map, Zip, Group}}}
 use Rattle.query_lang.specs.declared.typed.PrintOf.TheVariants as place
 use Rattle.query_lang.specs.declared.typed.TypedOp.TheVariants as made_by
-use Rattle.query_lang.specs.declared.typing.FoldView.{FoldView}
-use Rattle.query_lang.specs.declared.typing.Known.{Known}
-use Rattle.query_lang.specs.declared.typing.MadeStream.{MadeStream}
+use Rattle.query_lang.specs.declared.typing.{FoldView.FoldView, Known.Known, MadeStream.MadeStream}
 use Rattle.query_lang.specs.declared.typing.Meaning.TheVariants as meaning
 use Rattle.query_lang.specs.declared.typing.Origin.TheVariants as origin
-use Rattle.query_lang.specs.declared.typing.StreamColumn.{StreamColumn}
-use Rattle.query_lang.specs.declared.typing.StreamView.{StreamView}
-use Rattle.query_laws.specs.ExprRules.{Kind, Word, Condition, HasKind}
-use Rattle.query_laws.specs.StreamRules.{HasStream}
+use Rattle.query_lang.specs.declared.typing.{StreamColumn.StreamColumn, StreamView.StreamView}
+use Rattle.query_laws.specs.{ExprRules.{Kind, Word, Condition, HasKind}, StreamRules.HasStream}
 
 -- where it is doesn't matter here
 abbrev pub here : Span

@@ -1,29 +1,12 @@
 -- What the rules say and what the checks give is the same.
 use Rattle.std.specs.Prelude.{◌≡◌, ◌↔◌, ℕ, ◌+◌, List, length, Ok, Err}
-use Rattle.query_lang.specs.declared.fault.QueryFault.{QueryFault}
-use Rattle.query_lang.specs.declared.fold.TypedExpr.{TypedExpr}
-use Rattle.query_lang.specs.declared.fold.TypedFold.{TypedFold}
-use Rattle.query_lang.specs.declared.query.Expr.{Expr}
-use Rattle.query_lang.specs.declared.query.FinalOp.{FinalOp}
-use Rattle.query_lang.specs.declared.query.FoldDef.{FoldDef}
-use Rattle.query_lang.specs.declared.query.Name.{Name}
-use Rattle.query_lang.specs.declared.query.Query.{Query}
-use Rattle.query_lang.specs.declared.query.StreamOp.{StreamOp}
-use Rattle.query_lang.specs.declared.typed.TypedQuery.{TypedQuery}
-use Rattle.query_lang.specs.declared.typing.Given.{Given}
-use Rattle.query_lang.specs.declared.typing.MadeFinal.{MadeFinal}
-use Rattle.query_lang.specs.declared.typing.MadeStream.{MadeStream}
-use Rattle.query_lang.specs.TypedExprs.{condition_of, word_of}
-use Rattle.query_lang.specs.TypedFinals.{made_final}
-use Rattle.query_lang.specs.TypedFolds.{fold_checked}
-use Rattle.query_lang.specs.TypedStreams.{made_stream}
+use Rattle.query_lang.specs.declared.{fault.QueryFault.QueryFault, fold.{TypedExpr.TypedExpr, TypedFold.TypedFold}, query.Expr.Expr}
+use Rattle.query_lang.specs.declared.query.{FinalOp.FinalOp, FoldDef.FoldDef, Name.Name, Query.Query, StreamOp.StreamOp}
+use Rattle.query_lang.specs.declared.{typed.TypedQuery.TypedQuery, typing.{Given.Given, MadeFinal.MadeFinal, MadeStream.MadeStream}}
+use Rattle.query_lang.specs.{TypedExprs.{condition_of, word_of}, TypedFinals.made_final, TypedFolds.fold_checked, TypedStreams.made_stream}
 use Rattle.query_lang.specs.Typing.{checked}
-use Rattle.query_laws.specs.Context.{Entry, earlier_of, known_in, streams_in, groups_in}
-use Rattle.query_laws.specs.ExprRules.{Word, Condition, HasKind}
-use Rattle.query_laws.specs.FinalRules.{HasFinal}
-use Rattle.query_laws.specs.FoldRules.{HasFold}
-use Rattle.query_laws.specs.QueryRules.{IsTyped}
-use Rattle.query_laws.specs.StreamRules.{HasStream}
+use Rattle.query_laws.specs.{Context.{Entry, earlier_of, known_in, streams_in, groups_in}, ExprRules.{Word, Condition, HasKind}}
+use Rattle.query_laws.specs.{FinalRules.HasFinal, FoldRules.HasFold, QueryRules.IsTyped, StreamRules.HasStream}
 
 -- An expression is a word by the rules exactly where the check gives this tree for it, whatever states are hidden.
 abbrev pub WordsAgree : Type 0

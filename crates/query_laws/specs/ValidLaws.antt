@@ -2,10 +2,7 @@
 use Rattle.std.specs.Prelude.{◌≡◌, ℕ, List, map, All, Ok}
 use Rattle.query_lang.specs.declared.query.Item.{Item}
 use Rattle.query_lang.specs.declared.query.Item.TheVariants as item
-use Rattle.query_lang.specs.declared.query.Query.{Query}
-use Rattle.query_lang.specs.declared.typed.TypedQuery.{TypedQuery}
-use Rattle.query_lang.specs.Words.{IsWord, AreWords}
-use Rattle.query_lang.specs.TypedQueries.{IsValidQuery}
+use Rattle.query_lang.specs.{declared.{query.Query.Query, typed.TypedQuery.TypedQuery}, Words.{IsWord, AreWords}, TypedQueries.IsValidQuery}
 use Rattle.query_grammar.specs.Texts.{IsQueryOf}
 use Rattle.query_types.specs.Numbers.{greatest_of, item_number}
 use Rattle.accepted_query.specs.Accepted.{accepted}

@@ -1,9 +1,7 @@
 //! Laws that say which texts are accepted and why a text is refused, in the words of the grammar, the rules and the depths.
 
-ghost use Rattle.query_laws.specs.ByRules.{AcceptedByRules, AcceptedOnce, RefusedByRules};
-ghost use Rattle.query_laws.specs.FinalExamples.{FinalExamples};
-ghost use Rattle.query_laws.specs.FoldExamples.{FoldExamples};
-ghost use Rattle.query_laws.specs.ItemExamples.{ItemExamples};
+ghost use Rattle.query_laws.specs.{ByRules.{AcceptedByRules, AcceptedOnce, RefusedByRules}, FinalExamples.FinalExamples};
+ghost use Rattle.query_laws.specs.{FoldExamples.FoldExamples, ItemExamples.ItemExamples};
 ghost use Rattle.query_laws.specs.TypingExamples.{ExpressionExamples, StreamExamples};
 
 /// A text is accepted with a typed form exactly where a query derives from it, the rules give the query that form, and no

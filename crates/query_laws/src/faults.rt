@@ -1,7 +1,7 @@
 //! Laws of faults: where a query's fault is and what it says, in the words of the rules.
 
-ghost use Rattle.query_laws.specs.FaultLaws.{UnknownNames, StatesOnLine, NamesTaken, WrongKinds, WrongArities, BadConstants};
-ghost use Rattle.query_laws.specs.FaultLaws.{OverLimits, NothingsPrinted, OnlyTheseKinds, DemandsAreRules};
+ghost use Rattle.query_laws.specs.FaultLaws.{UnknownNames, StatesOnLine, NamesTaken, WrongKinds, WrongArities, BadConstants, OverLimits};
+ghost use Rattle.query_laws.specs.FaultLaws.{NothingsPrinted, OnlyTheseKinds, DemandsAreRules};
 
 /// What a fault of each kind says. Except *NothingPrinted*, it is in the first item that has no typed form after those
 /// before it, and says what is asked there and isn't so.

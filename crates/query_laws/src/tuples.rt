@@ -1,7 +1,7 @@
 //! Laws of the streams of a query, by its definition over all packets.
 
-ghost use Rattle.query_laws.specs.TupleLaws.{PacketsAreOfTheTrace, PacketsAscend, RowsFillTheirColumns};
-ghost use Rattle.query_laws.specs.TupleLaws.{ZippedColumnsAgree, ZipsKeepTheFirst, ZipsKeepTheSecond};
+ghost use Rattle.query_laws.specs.TupleLaws.{PacketsAreOfTheTrace, PacketsAscend, RowsFillTheirColumns, ZippedColumnsAgree};
+ghost use Rattle.query_laws.specs.TupleLaws.{ZipsKeepTheFirst, ZipsKeepTheSecond};
 
 /// A stream has at most one tuple for each packet, and its tuples are in the order of the packets.
 pub fn packets_ascend()

@@ -1,7 +1,7 @@
 //! Laws of the rules: what the checks give is exactly what the rules give.
 
-ghost use Rattle.query_laws.specs.TypingLaws.{ConditionsAgree, FaultsHaveNoForm, FinalsAgree, FoldsAgree};
-ghost use Rattle.query_laws.specs.TypingLaws.{HasOneTypedForm, QueriesAgree, StreamsAgree, WordsAgree};
+ghost use Rattle.query_laws.specs.TypingLaws.{ConditionsAgree, FaultsHaveNoForm, FinalsAgree, FoldsAgree, HasOneTypedForm, QueriesAgree};
+ghost use Rattle.query_laws.specs.TypingLaws.{StreamsAgree, WordsAgree};
 
 /// An expression is a word by the rules exactly where the check gives it a tree, the same one, whatever states are hidden.
 pub fn words_agree()

@@ -1,11 +1,9 @@
 -- One turn of the lexer's loop.
 use Rattle.std.proofs.Common.{◌≡◌, ℕ, zero, suc, ◌+◌, ◌-◌, Bool, true, false, cond, ◌<◌, ◌≤◌, List, [], ◌∷◌, ◌++◌, length, drop, take, Ok}
 use Rattle.std.proofs.Common.{Err, refl, sym, ap, ◌∙◌, arith, append_assoc, inl, inr, ◌⊎◌}
-use Rattle.std.proofs.lemmas.List.{length-append, length-drop, drop-drop, drop_all, take_all}
-use Rattle.query_lang.specs.declared.{token.Token.Token, token.TokenKind.TokenKind, fault.FaultKind.FaultKind}
-use Rattle.query_lang.specs.declared.{token.TokenKind.TheVariants.Name, token.TokenKind.TheVariants.End, token.Piece.Piece}
-use Rattle.std.specs.{List.list_any, Str.bytes_eq}
-use Rattle.query_lang.specs.Names.{number_in, with_name}
+use Rattle.std.{proofs.lemmas.List.{length-append, length-drop, drop-drop, drop_all, take_all}, specs.{List.list_any, Str.bytes_eq}}
+use Rattle.query_lang.specs.declared.{token.{Token.Token, TokenKind.{TokenKind, TheVariants.{Name, End}}}, fault.FaultKind.FaultKind}
+use Rattle.query_lang.specs.{declared.token.Piece.Piece, Names.{number_in, with_name}}
 use Rattle.query_lang.specs.Lexis.{Cut, with_front, token_at, fault_at, cut, cut_piece, piece}
 use Rattle.query_lang.specs.declared.token.Piece.TheVariants as pieces
 

@@ -1,8 +1,7 @@
 -- What the levels, the brackets and the expressions are made of.
 use Rattle.std.proofs.Common.{◌≡◌, ℕ, zero, suc, ◌-◌, ◌<◌, List, refl, ap, arith}
 use Rattle.query_lang.specs.declared.token.Token.{Token}
-use Rattle.query_grammar.specs.{declared.stop.Counts.Counts, Parser.Limited}
-use Rattle.query_grammar.specs.Reading.{parens, listed_by, expr_starts, expr_at}
+use Rattle.query_grammar.specs.{declared.stop.Counts.Counts, Parser.Limited, Reading.{parens, listed_by, expr_starts, expr_at}}
 use Rattle.query_parser.specs.Reads.{operands_of, level_of, bracket_at, arguments_at, primary_at}
 use Rattle.query_parser.specs.declared.operators.Level.TheVariants as levels
 

@@ -1,10 +1,10 @@
 -- One turn of a loop that reads the same thing repeatedly.
-use Rattle.std.proofs.Common.{◌≡◌, ℕ, zero, suc, ◌+◌, ◌-◌, ◌<◌, ◌≤◌, Bool, true, false, List, [], ◌∷◌, ◌++◌, refl, sym, ap, ◌∙◌}
-use Rattle.std.proofs.Common.{arith, append_assoc, inl, inr, ◌⊎◌}
+use Rattle.std.proofs.Common.{◌≡◌, ℕ, zero, suc, ◌+◌, ◌-◌, ◌<◌, ◌≤◌, Bool, true, false, List, [], ◌∷◌, ◌++◌, refl, sym, ap, ◌∙◌, arith}
+use Rattle.std.proofs.Common.{append_assoc, inl, inr, ◌⊎◌}
 use Rattle.query_lang.specs.declared.{token.Token.Token, fault.Span.Span, query.Expr.Expr}
 use Rattle.query_grammar.specs.{declared.stop.Counts.Counts, Grammar.negated}
 use Rattle.query_grammar.specs.Parser.{Outcome, Done, Stopped, Parser, and_then, next_is, turns}
-use Rattle.query_parser.specs.{declared.halt.Halt.Halt, declared.reader.Reader.Reader, Reads.Fails, Reads.StopsAt}
+use Rattle.query_parser.specs.{declared.{halt.Halt.Halt, reader.Reader.Reader}, Reads.{Fails, StopsAt}}
 use Rattle.query_lang.specs.declared.query.Expr.TheVariants as exprs
 use Rattle.query_parser.specs.declared.halt.Halt.TheVariants as halts
 

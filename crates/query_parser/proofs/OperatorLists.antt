@@ -1,11 +1,9 @@
 -- Operators of a list, by the kind of the token.
 use Rattle.std.proofs.Common.{◌≡◌, ◌-◌, ◌≤◌, Bool, true, false, List, [], ◌∷◌, Option, Some, length, take, drop, slice_index_or, refl, sym}
-use Rattle.std.proofs.Common.{◌∙◌, arith}
-use Rattle.std.{proofs.lemmas.List.take_rest, specs.Prelude.nat_eq}
+use Rattle.std.{proofs.{Common.{◌∙◌, arith}, lemmas.List.take_rest}, specs.Prelude.nat_eq}
 use Rattle.query_lang.specs.declared.{fold.Op.Op, token.Token.Token}
-use Rattle.query_grammar.specs.Kinds.{among, kind_number, kinds_of, operator}
-use Rattle.query_grammar.specs.{Grammar.Operators, declared.stop.Counts.Counts, Language.Node}
-use Rattle.query_grammar.specs.Parser.{Limited, Done, charge, next_is, taken, word}
+use Rattle.query_grammar.specs.{Kinds.{among, kind_number, kinds_of, operator}, Grammar.Operators, declared.stop.Counts.Counts}
+use Rattle.query_grammar.specs.{Language.Node, Parser.{Limited, Done, charge, next_is, taken, word}}
 use Rattle.query_parser.specs.Reads.{op_among, next_op, is_op, op_with}
 
 pub operator_is : (ops : Operators) (t : Token) → operator ops t ≡ op_with t.span (op_among ops t.kind)

@@ -1,10 +1,9 @@
 -- What parsing gives, as the grammar relates it to the text.
-use Rattle.std.proofs.Common.{ℕ, List, Ok, Err, Result}
-use Rattle.std.specs.Prelude.{IfOk}
-use Rattle.query_lang.specs.{declared.query.Query.Query, Answers.Answers, Limits.IsReadable, declared.error.QueryError.QueryError}
+use Rattle.std.{proofs.Common.{ℕ, List, Ok, Err, Result}, specs.Prelude.IfOk}
+use Rattle.query_lang.specs.{declared.{query.Query.Query, error.QueryError.QueryError}, Answers.Answers, Limits.IsReadable}
 use Rattle.query_lang.specs.declared.error.QueryError.TheVariants.{Refused, Memory}
-use Rattle.query_grammar.specs.Texts.{IsFaultOf, IsQueryOf, parsed_text}
-use Rattle.query_grammar.proofs.{Numbered.readable, TextFaults.fault_of_text, TextFaults.query_of_text}
+use Rattle.query_grammar.{specs.Texts.{IsFaultOf, IsQueryOf, parsed_text}, proofs.Numbered.readable}
+use Rattle.query_grammar.proofs.TextFaults.{fault_of_text, query_of_text}
 use Rattle.query_parser.specs.Given.{IfRefused}
 
 pub query_is : (text : List ℕ) (r : Result Query QueryError) → Answers r (parsed_text text) → IfOk r (λ q. IsQueryOf text q)

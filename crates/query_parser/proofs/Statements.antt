@@ -1,12 +1,11 @@
 -- What a statement is made of, and the branches of an `if`.
-use Rattle.std.proofs.Common.{◌≡◌, ℕ, zero, suc, ◌+◌, ◌-◌, ◌<◌, ◌≤◌, Bool, true, false, List, [], ◌∷◌, ◌++◌, Option, Some, None}
-use Rattle.std.proofs.Common.{refl, sym, ap, ◌∙◌, arith, append_assoc, inl, inr, ◌⊎◌}
-use Rattle.query_lang.specs.declared.{query.Expr.Expr, query.Stmt.Stmt, token.Token.Token}
+use Rattle.std.proofs.Common.{◌≡◌, ℕ, zero, suc, ◌+◌, ◌-◌, ◌<◌, ◌≤◌, Bool, true, false, List, [], ◌∷◌, ◌++◌, Option, Some, None, refl, sym}
+use Rattle.std.proofs.Common.{ap, ◌∙◌, arith, append_assoc, inl, inr, ◌⊎◌}
+use Rattle.query_lang.specs.declared.{query.{Expr.Expr, Stmt.Stmt}, token.Token.Token}
 use Rattle.query_grammar.specs.{declared.stop.Counts.Counts, Grammar.else_of}
 use Rattle.query_grammar.specs.Parser.{Limited, Outcome, Done, Stopped, Parser, and_then, next_is, next_turn, linked, chain_turns}
 use Rattle.query_grammar.specs.Reading.{statement, block, empty_parens, expr_at, stmt_at}
-use Rattle.query_parser.specs.declared.{halt.Halt.Halt, reader.Reader.Reader}
-use Rattle.query_parser.specs.Reads.{Fails, bracket_at, block_at, empty_at}
+use Rattle.query_parser.specs.{declared.{halt.Halt.Halt, reader.Reader.Reader}, Reads.{Fails, bracket_at, block_at, empty_at}}
 use Rattle.query_lang.specs.declared.query.Stmt.TheVariants as stmts
 use Rattle.query_parser.specs.declared.halt.Halt.TheVariants as halts
 

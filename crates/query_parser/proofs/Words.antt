@@ -1,7 +1,6 @@
 -- The digits that a word begins with.
 use Rattle.std.proofs.Common.{◌≡◌, ℕ, ◌<◌, ◌≤◌, Bool, true, false, List, [], ◌∷◌, get_or, take, refl, ap, ◌∙◌, arith}
-use Rattle.std.{specs.List.prefix_len, proofs.lemmas.List.get_or-take}
-use Rattle.std.proofs.lemmas.List.Sums.{prefix_len_passes}
+use Rattle.std.{proofs.lemmas.List.{get_or-take, Sums.prefix_len_passes}, specs.List.prefix_len}
 use Rattle.query_lang.specs.Lexis.{is_word_byte, is_digit}
 
 pub digits_within : (bs : List ℕ) → prefix_len is_digit bs ≤ prefix_len is_word_byte bs

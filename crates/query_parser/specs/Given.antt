@@ -1,14 +1,10 @@
 -- What the lexer gives, unless memory runs out.
 use Rattle.std.specs.Prelude.{◌≡◌, ◌≤◌, ℕ, List, Result, Ok, Err, length, nat_lt, if◌then◌else◌}
-use Rattle.query_lang.specs.declared.fault.QueryFault.{QueryFault}
-use Rattle.query_lang.specs.declared.fault.TheConstants.{MAX_QUERY}
-use Rattle.query_lang.specs.declared.token.Piece.{Piece}
+use Rattle.query_lang.specs.declared.{fault.{QueryFault.QueryFault, TheConstants.MAX_QUERY}, token.Piece.Piece}
 use Rattle.query_lang.specs.declared.token.Piece.TheVariants as pieces
-use Rattle.query_lang.specs.declared.fault.FaultKind.TheVariants.{QueryTooLong}
-use Rattle.query_lang.specs.Lexis.{Cut, fault_at}
-use Rattle.query_parser.specs.declared.lexer.Lexed.{Lexed}
-use Rattle.query_lang.specs.declared.error.QueryError.{QueryError}
+use Rattle.query_lang.specs.{declared.{fault.FaultKind.TheVariants.QueryTooLong, error.QueryError.QueryError}, Lexis.{Cut, fault_at}}
 use Rattle.query_lang.specs.declared.error.QueryError.TheVariants.{Refused, Memory}
+use Rattle.query_parser.specs.declared.lexer.Lexed.{Lexed}
 
 -- the tokens and the names, or the first fault
 abbrev pub GivesTokens : Result Lexed QueryError → Cut → Type 0

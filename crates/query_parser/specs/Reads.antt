@@ -1,20 +1,13 @@
 -- What the functions that read tokens give, unless memory runs out.
-use Rattle.std.specs.Prelude.{◌≡◌, ℕ, zero, suc, Bool, true, false, List, [], ◌∷◌, nat_eq, if◌then◌else◌, ◌⊎◌}
-use Rattle.std.specs.Prelude.{Option, Some, None, Result, Ok, Err}
-use Rattle.std.proofs.Common.{inl, inr}
-use Rattle.query_lang.specs.declared.fault.Span.{Span}
-use Rattle.query_lang.specs.declared.fold.Op.{Op}
-use Rattle.query_lang.specs.declared.query.Expr.{Expr}
-use Rattle.query_lang.specs.declared.query.Stmt.{Stmt}
+use Rattle.std.specs.Prelude.{◌≡◌, ℕ, zero, suc, Bool, true, false, List, [], ◌∷◌, nat_eq, if◌then◌else◌, ◌⊎◌, Option, Some, None, Result}
+use Rattle.std.{specs.Prelude.{Ok, Err}, proofs.Common.{inl, inr}}
+use Rattle.query_lang.specs.declared.{fault.Span.Span, fold.Op.Op, query.{Expr.Expr, Stmt.Stmt}}
 use Rattle.query_lang.specs.declared.token.Mark.TheVariants as marks
-use Rattle.query_lang.specs.declared.token.Token.{Token}
-use Rattle.query_lang.specs.declared.token.TokenKind.{TokenKind}
-use Rattle.query_grammar.specs.declared.stop.Counts.{Counts}
-use Rattle.query_grammar.specs.Kinds.{among, kind_number, kinds_of, operator, sign}
+use Rattle.query_lang.specs.declared.token.{Token.Token, TokenKind.TokenKind}
+use Rattle.query_grammar.specs.{declared.stop.Counts.Counts, Kinds.{among, kind_number, kinds_of, operator, sign}}
 use Rattle.query_grammar.specs.Language as roles
-use Rattle.query_grammar.specs.Language.{Node}
-use Rattle.query_grammar.specs.Grammar.{Operators, compared, comparing_ops, either_ops, both_ops, or_ops, xor_ops, and_ops, shift_ops}
-use Rattle.query_grammar.specs.Grammar.{sum_ops, product_ops}
+use Rattle.query_grammar.specs.{Language.Node, Grammar.{Operators, compared, comparing_ops, either_ops, both_ops, or_ops, xor_ops, and_ops}}
+use Rattle.query_grammar.specs.Grammar.{shift_ops, sum_ops, product_ops}
 use Rattle.query_grammar.specs.Parser.{Limited, Outcome, Done, Stopped, Parser, limit_of, word, followed_by, mapped, at_most_once}
 use Rattle.query_grammar.specs.Reading.{blocked, parens, listed_by, expr_starts, level, primary, unary, product, sum, shift, bit_and}
 use Rattle.query_grammar.specs.Reading.{bit_xor, bit_or, comparison, conjunction, expr_at, block, empty_parens, else_part, stmt_at}
@@ -24,8 +17,7 @@ use Rattle.query_parser.specs.declared.operators.Level.{Level}
 use Rattle.query_parser.specs.declared.operators.Level.TheVariants as levels
 use Rattle.query_parser.specs.declared.halt.Halt.{Halt}
 use Rattle.query_parser.specs.declared.halt.Halt.TheVariants as halts
-use Rattle.query_parser.specs.declared.reader.Reader.{Reader}
-use Rattle.query_parser.specs.declared.reader.Role.{Role}
+use Rattle.query_parser.specs.declared.reader.{Reader.Reader, Role.Role}
 use Rattle.query_parser.specs.declared.reader.Role.TheVariants as code
 
 abbrev pub role_of : Role → roles.Role

@@ -1,12 +1,9 @@
 //! Expressions. An argument of each function says how many brackets may still be opened.
 
 ghost use Rattle.std.specs.Prelude.{◌≡◌, ℕ, [], ◌∷◌, ◌^◌, ◌-◌, IfOk};
-ghost use Rattle.query_grammar.specs.Grammar.{negated as negated_by};
-ghost use Rattle.query_grammar.specs.Kinds.{among, is, sign};
-ghost use Rattle.query_grammar.specs.Language.{Node};
-ghost use Rattle.query_grammar.specs.Parser.{Limited, word, next_is, repeated};
-ghost use Rattle.query_grammar.specs.Reading.{atom as atom_of, atom_starts, expr_starts, unary as unary_of, expr_at, separated};
-ghost use Rattle.query_grammar.specs.Reading.{listed_by, call_of, after};
+ghost use Rattle.query_grammar.specs.{Grammar.{negated as negated_by}, Kinds.{among, is, sign}, Language.Node};
+ghost use Rattle.query_grammar.specs.{Parser.{Limited, word, next_is, repeated}, Reading.{atom as atom_of, atom_starts, expr_starts}};
+ghost use Rattle.query_grammar.specs.Reading.{unary as unary_of, expr_at, separated, listed_by, call_of, after};
 ghost use Rattle.query_lang.specs.declared.query.Expr.TheVariants as exprs;
 ghost use Rattle.query_lang.specs.declared.token.Mark.TheVariants as marks;
 ghost use Rattle.query_parser.specs.Reads.{Gives, Sees, operands_of, operation_of, level_of, comparison_of, bracket_at, arguments_at};

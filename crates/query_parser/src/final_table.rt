@@ -1,7 +1,6 @@
 //! Finals, which are made of tables.
 
-ghost use Rattle.query_grammar.specs.Parser.{Limited};
-ghost use Rattle.query_grammar.specs.Reading.{expr_at, best as best_of, finishing as finishing_of, final as final_of};
+ghost use Rattle.query_grammar.specs.{Parser.Limited, Reading.{expr_at, best as best_of, finishing as finishing_of, final as final_of}};
 ghost use Rattle.query_parser.specs.Reads.{Gives, Sees};
 
 use crate::halt::{Read, read};

@@ -1,10 +1,9 @@
 //! Definitions of folds.
 
 ghost use Rattle.std.specs.Prelude.{◌≡◌, [], ◌∷◌};
-ghost use Rattle.query_grammar.specs.Kinds.{sign};
-ghost use Rattle.query_grammar.specs.Parser.{Limited};
-ghost use Rattle.query_grammar.specs.Reading.{after, brackets, fold_def, listed_by, parameters as parameters_of, plain_name, separated};
-ghost use Rattle.query_grammar.specs.Reading.{state_variable as state_variable_of, stmt_at};
+ghost use Rattle.query_grammar.specs.{Kinds.sign, Parser.Limited, Reading.{after, brackets, fold_def, listed_by}};
+ghost use Rattle.query_grammar.specs.Reading.{parameters as parameters_of, plain_name, separated, state_variable as state_variable_of};
+ghost use Rattle.query_grammar.specs.Reading.{stmt_at};
 ghost use Rattle.query_lang.specs.declared.token.Mark.TheVariants as marks;
 ghost use Rattle.query_parser.specs.Reads.{Gives, Sees};
 

@@ -1,9 +1,8 @@
 //! Cuts a text into tokens.
 
-ghost use Rattle.std.specs.Prelude.{◌≡◌, ℕ, length, slice_index, ◌<◌, ◌≤◌, ◌+◌, true};
-ghost use Rattle.std.specs.List.{prefix_len};
-ghost use Rattle.query_lang.specs.Lexis.{is_word_byte, is_digit, is_not_line_feed, is_blank, one_mark, two_mark};
-ghost use Rattle.query_lang.specs.Lexis.{word_piece, mark_at, piece, token_at, fault_at, tokens_of};
+ghost use Rattle.std.specs.{Prelude.{◌≡◌, ℕ, length, slice_index, ◌<◌, ◌≤◌, ◌+◌, true}, List.prefix_len};
+ghost use Rattle.query_lang.specs.Lexis.{is_word_byte, is_digit, is_not_line_feed, is_blank, one_mark, two_mark, word_piece, mark_at};
+ghost use Rattle.query_lang.specs.Lexis.{piece, token_at, fault_at, tokens_of};
 ghost use Rattle.query_parser.specs.Given.{GivesTokens, IsWithin};
 
 use marple_base::Seq;

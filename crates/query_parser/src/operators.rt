@@ -2,8 +2,7 @@
 
 ghost use Rattle.std.specs.Prelude.{◌≡◌, [], ◌∷◌};
 ghost use Rattle.query_grammar.specs.Grammar.{Operators, comparing_ops, functions, product_ops};
-ghost use Rattle.query_grammar.specs.Kinds.{among, kinds_of, sign, operator as operator_of};
-ghost use Rattle.query_grammar.specs.Language.{Node};
+ghost use Rattle.query_grammar.specs.{Kinds.{among, kinds_of, sign, operator as operator_of}, Language.Node};
 ghost use Rattle.query_grammar.specs.Parser.{Limited, word, next_is};
 ghost use Rattle.query_parser.specs.Reads.{Sees, next_op, op_among, ops_of};
 

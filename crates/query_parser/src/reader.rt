@@ -1,8 +1,7 @@
 //! Reads one token after another.
 
 ghost use Rattle.query_grammar.specs.Kinds.{is, keyword as keyword_of, name as name_of, number as number_of, sign};
-ghost use Rattle.query_grammar.specs.Parser.{Limited, charge, word};
-ghost use Rattle.query_grammar.specs.Reading.{after, blocked, plain_name, token_of};
+ghost use Rattle.query_grammar.specs.{Parser.{Limited, charge, word}, Reading.{after, blocked, plain_name, token_of}};
 ghost use Rattle.query_lang.specs.declared.token.Mark.TheVariants as marks;
 ghost use Rattle.query_lang.specs.declared.token.TokenKind.TheVariants as kinds;
 ghost use Rattle.query_parser.specs.Reads.{Charges, Sees, role_of};

@@ -3,8 +3,7 @@
 ghost use Rattle.std.specs.Prelude.{◌≡◌, IfOk};
 ghost use Rattle.query_grammar.specs.Reading.{parsed};
 ghost use Rattle.query_grammar.specs.Texts.{answered, first_fault_of, IsFaultOf, IsQueryOf, kind_of as kind_by, parsed_text};
-ghost use Rattle.query_lang.specs.Answers.{Answers};
-ghost use Rattle.query_lang.specs.Limits.{IsReadable};
+ghost use Rattle.query_lang.specs.{Answers.Answers, Limits.IsReadable};
 ghost use Rattle.query_parser.specs.Given.{IfRefused, length_checked};
 
 use crate::halt::Halt;

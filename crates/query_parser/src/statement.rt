@@ -1,9 +1,7 @@
 //! Statements and blocks. An argument of each function says how many brackets may still be opened.
 
 ghost use Rattle.std.specs.Prelude.{◌≡◌, ℕ, [], ◌∷◌, IfOk};
-ghost use Rattle.query_grammar.specs.Kinds.{among};
-ghost use Rattle.query_grammar.specs.Grammar.{else_of as else_block};
-ghost use Rattle.query_grammar.specs.Parser.{Limited, next_is, repeated, chained};
+ghost use Rattle.query_grammar.specs.{Kinds.among, Grammar.{else_of as else_block}, Parser.{Limited, next_is, repeated, chained}};
 ghost use Rattle.query_grammar.specs.Reading.{expr_at, stmt_at, stmt_starts, assignment as assignment_of, emission as emission_of};
 ghost use Rattle.query_grammar.specs.Reading.{block as block_of, if_part as if_part_of, if_statement as if_statement_of};
 ghost use Rattle.query_lang.specs.declared.query.Stmt.TheVariants as stmts;

@@ -1,9 +1,7 @@
 //! Streams, and the operators that make them. A filter's expression is in one bracket, and a map's in two.
 
-ghost use Rattle.query_grammar.specs.Kinds.{sign, keyword as keyword_of};
-ghost use Rattle.query_grammar.specs.Parser.{Limited};
-ghost use Rattle.query_grammar.specs.Reading.{after, separated, expr_at, filter_of, column_of};
-ghost use Rattle.query_grammar.specs.Reading.{mapping as mapping_of, pairing as pairing_of, key_of, group as group_of};
+ghost use Rattle.query_grammar.specs.{Kinds.{sign, keyword as keyword_of}, Parser.Limited, Reading.{after, separated, expr_at, filter_of}};
+ghost use Rattle.query_grammar.specs.Reading.{column_of, mapping as mapping_of, pairing as pairing_of, key_of, group as group_of};
 ghost use Rattle.query_grammar.specs.Reading.{streaming as streaming_of, stream as stream_of};
 ghost use Rattle.query_lang.specs.declared.token.Mark.TheVariants as marks;
 ghost use Rattle.query_parser.specs.Reads.{Gives, Sees};

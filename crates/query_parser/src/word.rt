@@ -1,8 +1,7 @@
 //! What one token is: a mark, a reserved word, a name or a number.
 
 ghost use Rattle.std.specs.Prelude.{◌≡◌, [], ◌∷◌, nat_eq};
-ghost use Rattle.query_grammar.specs.Kinds.{among, kind_number, mark_number, word_number};
-ghost use Rattle.query_grammar.specs.Parser.{next_is};
+ghost use Rattle.query_grammar.specs.{Kinds.{among, kind_number, mark_number, word_number}, Parser.next_is};
 
 use query_lang::{Mark, Token, TokenKind, Word};
 

@@ -1,27 +1,17 @@
 -- What is shown of the tables at the end of packets, where bounds are asked for, is what the query prints.
 use Rattle.std.proofs.Common.{◌≡◌, ℕ, List, [], ◌∷◌, map, refl, sym, ap, ◌∙◌, subst}
-use Rattle.std.specs.List.{All}
-use Rattle.std.proofs.lemmas.List.Elements.{All-nil, All-cons, All-head, All-tail}
-use Rattle.query_lang.specs.declared.typed.Class.TheVariants.{Linear, Other}
-use Rattle.query_lang.specs.declared.typed.TypedQuery.{TypedQuery}
-use Rattle.query_lang.specs.TypedQueries.{IsValidQuery}
+use Rattle.std.{proofs.lemmas.List.Elements.{All-nil, All-cons, All-head, All-tail}, specs.List.All}
+use Rattle.query_lang.specs.{declared.typed.{Class.TheVariants.{Linear, Other}, TypedQuery.TypedQuery}, TypedQueries.IsValidQuery}
 use Rattle.epoch_entry.specs.declared.purpose.Entries.TheVariants.{Bounds}
-use Rattle.epoch_model.specs.Epochs.{Geometry}
-use Rattle.epoch_model.specs.Laws.{HasRoom}
-use Rattle.final_queries.specs.declared.table.Table.{Table}
-use Rattle.final_queries.specs.declared.table.TableKind.{TableKind}
-use Rattle.final_queries.specs.declared.table.TableKind.TheVariants.{Group, Final}
+use Rattle.epoch_model.specs.{Epochs.Geometry, Laws.HasRoom}
+use Rattle.final_queries.specs.declared.table.{Table.Table, TableKind.{TableKind, TheVariants.{Group, Final}}}
 use Rattle.final_queries.specs.Finals.{IsTable, table_shape}
-use Rattle.enclosure_folds.specs.KeyBounds.{TriplesGiveWholeTables}
-use Rattle.enclosure_folds.specs.Shown.{MayBeShown, MayBeShownBy, shown, shown_by}
+use Rattle.enclosure_folds.specs.{KeyBounds.TriplesGiveWholeTables, Shown.{MayBeShown, MayBeShownBy, shown, shown_by}}
 use Rattle.enclosed_query.specs.EnclosedTables.{EndsGiveEnclosedTables, enclose_text, enclosed_print, enclosed_tables, table_read}
 use Rattle.enclosed_query.specs.Reading.{EnclosedTablesAreRead, IsWhole}
-use Rattle.stage_plan.specs.Packets.{AreWhole}
-use Rattle.stage_plan.specs.Planned.{IsPlanOf}
-use Rattle.stage_plan.specs.Sound.{IsSoundPlan, PlanParts}
+use Rattle.stage_plan.specs.{Packets.AreWhole, Planned.IsPlanOf, Sound.{IsSoundPlan, PlanParts}}
 use Rattle.switch_core.specs.PlanLanes.{AreLanesOf, LaneView}
-use Rattle.query_run.specs.BoundsReports.{AreBoundsTables, bounds_print}
-use Rattle.query_run.specs.Reports.{Reports, end_tables}
+use Rattle.query_run.specs.{BoundsReports.{AreBoundsTables, bounds_print}, Reports.{Reports, end_tables}}
 
 -- the tables of bounds that are shown have the words that their names say
 one_whole : TriplesGiveWholeTables → (kind : TableKind) (t : Table) → MayBeShownBy kind t → IsWhole (shown_by kind t)

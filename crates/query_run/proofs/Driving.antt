@@ -1,20 +1,13 @@
 -- A run with the setting of a command line.
 use Rattle.std.proofs.Common.{◌≡◌, ℕ, List, Option, ap, sym, ◌∙◌, subst}
-use Rattle.command_line.specs.Command.{ways_number}
-use Rattle.command_line.specs.declared.setting.Setting.{Setting}
-use Rattle.command_line.specs.declared.setting.Ways.{Ways}
+use Rattle.command_line.specs.{Command.ways_number, declared.setting.{Setting.Setting, Ways.Ways}}
 use Rattle.epoch_entry.specs.declared.purpose.Entries.{Entries}
 use Rattle.epoch_model.specs.Epochs.{Geometry}
 use Rattle.final_queries.specs.declared.table.Table.{Table}
 use Rattle.stage_plan.specs.Sound.{PlanParts}
-use Rattle.trace_drive.specs.Answers.{BreaksOff}
-use Rattle.trace_drive.specs.Drives.{geometry_for}
-use Rattle.trace_drive.specs.declared.answer.RunError.{RunError}
-use Rattle.trace_drive.specs.declared.schedule.Schedule.{Schedule}
+use Rattle.trace_drive.specs.{Answers.BreaksOff, Drives.geometry_for, declared.{answer.RunError.RunError, schedule.Schedule.Schedule}}
 use Rattle.trace_reader.specs.declared.fault.TraceFault.{TraceFault}
-use Rattle.query_run.specs.Driven.{geometry_of}
-use Rattle.query_run.specs.Reports.{Prints}
-use Rattle.query_run.specs.Views.{views_text}
+use Rattle.query_run.specs.{Driven.geometry_of, Reports.Prints, Views.views_text}
 
 -- the caches of a schedule with the setting's ways are those of the setting
 pub geometry_is : (setting : Setting) (schedule : Schedule) (ways : Ways) → setting.ways ≡ ways

@@ -1,9 +1,7 @@
 -- A trace whose packets are kept as they are read.
-use Rattle.std.proofs.Common.{◌≡◌, List, [], ◌∷◌, ◌++◌, sym, ap, ◌∙◌, subst, append_assoc}
+use Rattle.std.proofs.{Common.{◌≡◌, List, [], ◌∷◌, ◌++◌, sym, ap, ◌∙◌, subst, append_assoc}, lemmas.List.Elements.{All-head, All-tail}}
 use Rattle.std.specs.List.{All}
-use Rattle.std.proofs.lemmas.List.Elements.{All-head, All-tail}
-use Rattle.marple_base.specs.declared.field.FieldSet.{FieldSet}
-use Rattle.marple_base.specs.declared.field.Packet.{Packet}
+use Rattle.marple_base.specs.declared.field.{FieldSet.FieldSet, Packet.Packet}
 use Rattle.trace_drive.specs.Kept.{Kept, kept_of}
 
 -- These packets are those that were kept and those that are left, of which nothing is lost when they are kept too.

@@ -1,9 +1,7 @@
 -- The packets of the generator have the words of all fields.
-use Rattle.std.proofs.Common.{◌≡◌, ℕ, List, [], ◌∷◌, length, refl, sym, subst}
-use Rattle.std.proofs.lemmas.List.{map-append}
+use Rattle.std.proofs.{Common.{◌≡◌, ℕ, List, [], ◌∷◌, length, refl, sym, subst}, lemmas.List.map-append}
 use Rattle.std.proofs.lemmas.List.Elements.{All-append, All-nil, All-cons}
-use Rattle.marple_base.specs.declared.field.Packet.{Packet}
-use Rattle.marple_base.specs.declared.field.TheConstants.{FIELDS}
+use Rattle.marple_base.specs.declared.field.{Packet.Packet, TheConstants.FIELDS}
 use Rattle.queue_sim.specs.Generator.{Arrival, arrivals, generated_packet, packets_from, simulated}
 use Rattle.stage_plan.specs.Packets.{AreWhole}
 use Rattle.trace_drive.specs.Drives.{words_of}

@@ -1,41 +1,23 @@
 -- The tables that the pipeline of a plan gives at the end of packets are those of the plan's text.
-use Rattle.std.proofs.Common.{◌≡◌, ℕ, suc, ◌+◌, ◌<◌, List, [], ◌∷◌, length, map, drop, Option, Some, refl, sym, ap, ap₂, ◌∙◌, subst}
-use Rattle.std.proofs.Common.{arith, length-append}
-use Rattle.std.specs.Prelude.{slice_get, option_map, unwrap_or, flat_map, slice_index_or}
-use Rattle.std.specs.List.{All}
-use Rattle.std.proofs.lemmas.List.{length-map}
-use Rattle.std.proofs.lemmas.List.Elements.{All-map}
-use Rattle.std.proofs.lemmas.Option.{slice_get-map}
+use Rattle.std.proofs.Common.{◌≡◌, ℕ, suc, ◌+◌, ◌<◌, List, [], ◌∷◌, length, map, drop, Option, Some, refl, sym, ap, ap₂, ◌∙◌, subst, arith}
+use Rattle.std.proofs.{Common.length-append, lemmas.{List.{length-map, Elements.All-map}, Option.slice_get-map}}
+use Rattle.std.specs.{Prelude.{slice_get, option_map, unwrap_or, flat_map, slice_index_or}, List.All}
 use Rattle.marple_base.specs.declared.field.TheConstants.{FIELDS}
-use Rattle.epoch_entry.specs.declared.purpose.Entries.TheVariants.{Folds}
-use Rattle.epoch_entry.specs.Foldings.{folding_of}
-use Rattle.epoch_model.specs.Driving.{Taken, TakenUsesAreInTrace, uses_taken}
-use Rattle.epoch_model.specs.Epochs.{Geometry}
-use Rattle.epoch_model.specs.Laws.{HasRoom, IsInTrace}
-use Rattle.epoch_model.specs.Machine.{end_of}
+use Rattle.epoch_entry.specs.{declared.purpose.Entries.TheVariants.Folds, Foldings.folding_of}
+use Rattle.epoch_model.specs.{Driving.{Taken, TakenUsesAreInTrace, uses_taken}, Epochs.Geometry, Laws.{HasRoom, IsInTrace}, Machine.end_of}
 use Rattle.final_queries.specs.FinalLaws.{AreAlike, AlikeFoldingsMakeOneTable}
 use Rattle.final_queries.specs.GroupTable.{ClosedGiveTheGroupTable, Heading, closed_table, group_table}
-use Rattle.plan_file.specs.declared.made.Folded.{Folded}
-use Rattle.plan_file.specs.declared.made.Made.{Made}
+use Rattle.plan_file.specs.declared.made.{Folded.Folded, Made.Made}
 use Rattle.plan_loader.specs.Meaning.{fold_in, heading_in, plan_output, plan_tables, table_in, uses_in, wiring_in}
 use Rattle.plan_loader.specs.Parts.{AreGroupsFrom, IsGroupFrom, IsPlanFrom, IsSoundFolded, IsSoundMade}
-use Rattle.plan_loader.proofs.Folds.{fold_in_is, foldings}
-use Rattle.plan_loader.proofs.SoundPlan.{all_at, shape_same}
+use Rattle.plan_loader.proofs.{Folds.{fold_in_is, foldings}, SoundPlan.{all_at, shape_same}}
 use Rattle.query_tables.specs.Tables.{table_text_at}
-use Rattle.stage_plan.specs.declared.group.GroupPlan.{GroupPlan}
-use Rattle.stage_plan.specs.declared.group.GroupWiring.{GroupWiring}
-use Rattle.stage_plan.specs.declared.op.Operand.TheVariants.{Number}
-use Rattle.stage_plan.specs.declared.op.PlanOp.{PlanOp}
-use Rattle.stage_plan.specs.Planned.{taken, wiring_at}
-use Rattle.stage_plan.specs.Registers.{registers_after, stages_of, taken_at}
-use Rattle.stage_plan.specs.Shape.{GroupShape}
+use Rattle.stage_plan.specs.declared.{group.{GroupPlan.GroupPlan, GroupWiring.GroupWiring}, op.{Operand.TheVariants.Number, PlanOp.PlanOp}}
+use Rattle.stage_plan.specs.{Planned.{taken, wiring_at}, Registers.{registers_after, stages_of, taken_at}, Shape.GroupShape}
 use Rattle.stage_plan.specs.Sound.{PlanParts}
-use Rattle.switch_core.specs.Pipelines.{heading_of, tables_of}
-use Rattle.switch_core.specs.PlanLanes.{AreLanesOf, LaneView, folding_at}
-use Rattle.switch_core.specs.Rows.{EachFrom}
+use Rattle.switch_core.specs.{Pipelines.{heading_of, tables_of}, PlanLanes.{AreLanesOf, LaneView, folding_at}, Rows.EachFrom}
 use Rattle.trace_drive.specs.Drives.{end_machines, ends_from, uses_by}
-use Rattle.query_run.specs.PlanReports.{EndsAreTheTexts, HasKeys, HaveNumbers, numbered_print}
-use Rattle.query_run.specs.Reports.{Reports}
+use Rattle.query_run.specs.{PlanReports.{EndsAreTheTexts, HasKeys, HaveNumbers, numbered_print}, Reports.Reports}
 use Rattle.query_run.proofs.QueryEnds.{IsFoldLane, first_at}
 
 -- a groupby's table has, but for its rows, what its group gives

@@ -1,43 +1,24 @@
 -- The machines of a plan at the end of a trace, groupby by groupby, and the tables that they give.
 use Rattle.std.proofs.Common.{◌≡◌, ℕ, zero, suc, ◌<◌, List, [], ◌∷◌, ◌++◌, Some, length, map, drop, get_or, refl, sym, ap, ◌∙◌, subst}
-use Rattle.std.proofs.Common.{arith}
-use Rattle.std.specs.List.{All, slice_get}
-use Rattle.std.proofs.Math.Seq.{drop-cons}
-use Rattle.std.proofs.lemmas.List.{length-drop, length-map}
-use Rattle.std.proofs.lemmas.Option.{slice_get-get_or}
-use Rattle.std.proofs.lemmas.List.Elements.{All-nil, All-cons}
-use Rattle.query_lang.specs.declared.fold.TypedFold.{TypedFold}
-use Rattle.query_lang.specs.declared.typed.TypedOp.{TypedOp}
+use Rattle.std.proofs.{Common.arith, Math.Seq.drop-cons, lemmas.{List.{length-drop, length-map}, Option.slice_get-get_or}}
+use Rattle.std.{proofs.lemmas.List.Elements.{All-nil, All-cons}, specs.List.{All, slice_get}}
+use Rattle.query_lang.specs.declared.{fold.TypedFold.TypedFold, typed.TypedOp.TypedOp}
 use Rattle.query_lang.specs.declared.typed.TypedOp.TheVariants as op
-use Rattle.query_lang.specs.declared.typed.TypedQuery.{TypedQuery}
-use Rattle.query_lang.specs.declared.typed.TypedStream.{TypedStream}
-use Rattle.query_lang.specs.Streams.{Taking, takings}
+use Rattle.query_lang.specs.{declared.typed.{TypedQuery.TypedQuery, TypedStream.TypedStream}, Streams.{Taking, takings}}
 use Rattle.query_lang.specs.TypedQueries.{IsValidQuery, AreValidStreams, IsValidOp}
 use Rattle.query_types.specs.Uses.{uses}
-use Rattle.epoch_model.specs.Driving.{TakenUsesAreInTrace}
-use Rattle.epoch_model.specs.Epochs.{Geometry}
-use Rattle.epoch_model.specs.Laws.{HasRoom, IsInTrace}
-use Rattle.epoch_model.specs.Machine.{end_of}
-use Rattle.epoch_entry.specs.declared.purpose.Entries.TheVariants.{Folds}
-use Rattle.epoch_entry.specs.Foldings.{folding_of}
+use Rattle.epoch_model.specs.{Driving.TakenUsesAreInTrace, Epochs.Geometry, Laws.{HasRoom, IsInTrace}, Machine.end_of}
+use Rattle.epoch_entry.specs.{declared.purpose.Entries.TheVariants.Folds, Foldings.folding_of}
+use Rattle.epoch_entry.specs.contracts.any.AnyEpochsEpochKind.TheImpl.{ghosts}
 use Rattle.final_queries.specs.FinalLaws.{AreAlike, AlikeFoldingsMakeOneTable}
 use Rattle.final_queries.specs.GroupTable.{ClosedGiveTheGroupTable, closed_table, group_table}
 use Rattle.plan_loader.proofs.SoundPlan.{all_at}
-use Rattle.stage_plan.specs.Packets.{AreWhole}
-use Rattle.stage_plan.specs.declared.group.GroupPlan.{GroupPlan}
-use Rattle.stage_plan.specs.Planned.{IsPlanOf, fold_at, taken, wiring_at}
-use Rattle.stage_plan.specs.Shape.{group_shape}
-use Rattle.stage_plan.specs.Sound.{PlanParts}
-use Rattle.switch_core.specs.Pipelines.{IsLaneOf, heading_of, tables_of}
-use Rattle.switch_core.specs.PlanLanes.{LaneView, AreLanesOf, folding_at}
-use Rattle.epoch_entry.specs.contracts.any.AnyEpochsEpochKind.TheImpl.{ghosts}
-use Rattle.switch_core.specs.Rows.{EachFrom}
-use Rattle.query_tables.specs.Tables.{group_tables, tables_from, query_table, table_if, query_text}
+use Rattle.stage_plan.specs.{Packets.AreWhole, declared.group.GroupPlan.GroupPlan, Planned.{IsPlanOf, fold_at, taken, wiring_at}}
+use Rattle.stage_plan.specs.{Shape.group_shape, Sound.PlanParts}
+use Rattle.switch_core.specs.{Pipelines.{IsLaneOf, heading_of, tables_of}, PlanLanes.{LaneView, AreLanesOf, folding_at}, Rows.EachFrom}
+use Rattle.query_tables.specs.{Tables.{group_tables, tables_from, query_table, table_if, query_text}, TableLaws.QueryTablesAreRead}
 use Rattle.trace_drive.specs.Drives.{uses_by, ends_from, end_machines}
-use Rattle.query_tables.specs.TableLaws.{QueryTablesAreRead}
-use Rattle.query_run.specs.QueryReports.{AreGroupTables, query_print}
-use Rattle.query_run.specs.Reports.{Reports}
-use Rattle.query_run.specs.Runs.{ends_of, query_ends, EndsAreTheQuerys}
+use Rattle.query_run.specs.{QueryReports.{AreGroupTables, query_print}, Reports.Reports, Runs.{ends_of, query_ends, EndsAreTheQuerys}}
 
 -- the item at a place is the first of those from there on
 pub first_at : {A : Type 0} (xs : List A) (i : ℕ) (x : A) (rest : List A) → drop i xs ≡ x ∷ rest → (slice_get xs i ≡ Some x)

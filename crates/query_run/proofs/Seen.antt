@@ -1,27 +1,15 @@
 -- The tables of a view are those of the packets so far.
 use Rattle.std.proofs.Common.{◌≡◌, ℕ, suc, ◌≤◌, List, [], ◌∷◌, length, map, take, refl, sym, ap, ap₂, ◌∙◌, arith}
-use Rattle.std.proofs.lemmas.List.{length-map, length-take-le, take-map}
-use Rattle.std.proofs.lemmas.List.Elements.{All-take}
+use Rattle.std.proofs.lemmas.List.{length-map, length-take-le, take-map, Elements.All-take}
 use Rattle.marple_base.specs.declared.field.TheConstants.{FIELDS}
 use Rattle.final_queries.specs.declared.table.Table.{Table}
 use Rattle.epoch_entry.specs.declared.purpose.Entries.{Entries}
-use Rattle.epoch_model.specs.Driving.{uses_taken}
-use Rattle.epoch_model.specs.Epochs.{Geometry}
-use Rattle.epoch_model.specs.Laws.{SameEpochs}
-use Rattle.epoch_model.specs.Machine.{Machine, after_packets, end_of}
-use Rattle.live_view.specs.Laws.{ViewsEndTheTrace}
-use Rattle.live_view.specs.Views.{all_closed, tables_seen}
-use Rattle.query_run.specs.Reports.{end_tables}
-use Rattle.query_run.specs.Views.{IsAsFarAs}
-use Rattle.stage_plan.specs.Packets.{AreWhole}
-use Rattle.stage_plan.specs.declared.group.GroupPlan.{GroupPlan}
-use Rattle.stage_plan.specs.Planned.{taken}
-use Rattle.stage_plan.specs.Sound.{PlanParts}
-use Rattle.switch_core.specs.Pipelines.{tables_of}
-use Rattle.switch_core.specs.PlanLanes.{AreLanesOf, PipelineStands, PipelineView, StandsFor, folding_at}
-use Rattle.trace_drive.specs.Drives.{ends_from, uses_by}
-use Rattle.trace_drive.specs.Follows.{AlikeFrom}
-use Rattle.trace_drive.proofs.Ending.{each_long, lanes_long}
+use Rattle.epoch_model.specs.{Driving.uses_taken, Epochs.Geometry, Laws.SameEpochs, Machine.{Machine, after_packets, end_of}}
+use Rattle.live_view.specs.{Laws.ViewsEndTheTrace, Views.{all_closed, tables_seen}}
+use Rattle.query_run.specs.{Reports.end_tables, Views.IsAsFarAs}
+use Rattle.stage_plan.specs.{Packets.AreWhole, declared.group.GroupPlan.GroupPlan, Planned.taken, Sound.PlanParts}
+use Rattle.switch_core.specs.{Pipelines.tables_of, PlanLanes.{AreLanesOf, PipelineStands, PipelineView, StandsFor, folding_at}}
+use Rattle.trace_drive.{specs.{Drives.{ends_from, uses_by}, Follows.AlikeFrom}, proofs.Ending.{each_long, lanes_long}}
 
 -- a machine that is as far as the first packets has in a view what it has at the end of a trace of these packets alone
 one_end : ViewsEndTheTrace → (plan : PlanParts) (g : Geometry) (packets : List (List ℕ)) (number i : ℕ) (m : Machine)

@@ -1,9 +1,7 @@
 -- The views of a run, in sequence.
 use Rattle.std.proofs.Common.{◌≡◌, ℕ, zero, suc, ◌+◌, ◌-◌, ◌<◌, ◌≤◌, ◌%◌, true, false, List, [], ◌++◌, length, refl, sym, ap, ◌∙◌, arith}
-use Rattle.std.proofs.Common.{append_assoc, append-nil, if◌then◌else◌}
-use Rattle.std.specs.Prelude.{Bool}
-use Rattle.std.proofs.Math.Nat.{add-mod_right, mod-add-mod, mod-eq_of_lt}
-use Rattle.std.proofs.lemmas.Bool.Decides.{nat_tests}
+use Rattle.std.proofs.{Common.{append_assoc, append-nil, if◌then◌else◌}, Math.Nat.{add-mod_right, mod-add-mod, mod-eq_of_lt}}
+use Rattle.std.{proofs.lemmas.Bool.Decides.nat_tests, specs.Prelude.Bool}
 use Rattle.query_run.specs.Views.{NoViewsWithoutNumber, is_view, view_text, views_text, views_up_to}
 
 -- the remainders after a multiple

@@ -1,22 +1,13 @@
 -- A run with views: how far it is, and how it breaks off.
 use Rattle.std.proofs.Common.{◌≡◌, ℕ, zero, suc, ◌+◌, ◌<◌, ◌≤◌, ◌%◌, List, [], ◌++◌, length, Option, None, Some, refl, sym, ap, ◌∙◌, subst}
-use Rattle.std.proofs.Common.{arith, append-nil}
-use Rattle.std.proofs.KnownBytes.{Appends-trans}
-use Rattle.std.proofs.Math.Nat.{mod-eq_of_lt}
-use Rattle.std.proofs.lemmas.List.{length-map}
+use Rattle.std.proofs.{Common.{arith, append-nil}, KnownBytes.Appends-trans, Math.Nat.mod-eq_of_lt, lemmas.List.length-map}
 use Rattle.std.specs.Io.KnownBytes.{Appends}
 use Rattle.marple_base.specs.declared.field.Packet.{Packet}
 use Rattle.stage_plan.specs.Packets.{AreWhole}
-use Rattle.trace_drive.specs.Answers.{BreaksOff, answer_for}
-use Rattle.trace_drive.specs.Drives.{geometry_for, words_of}
-use Rattle.trace_drive.specs.Replays.{IsUnderWay, replay_pipeline}
-use Rattle.trace_drive.specs.declared.answer.RunError.{RunError}
-use Rattle.trace_drive.specs.declared.replay.Replay.{Replay}
-use Rattle.trace_drive.specs.declared.schedule.Schedule.{Schedule}
+use Rattle.trace_drive.specs.{Answers.{BreaksOff, answer_for}, Drives.{geometry_for, words_of}, Replays.{IsUnderWay, replay_pipeline}}
+use Rattle.trace_drive.specs.declared.{answer.RunError.RunError, replay.Replay.Replay, schedule.Schedule.Schedule}
 use Rattle.trace_drive.proofs.Breaking.{none_some, part_breaks, reader_breaks}
-use Rattle.trace_reader.specs.Faults.{IfRefused}
-use Rattle.trace_reader.specs.declared.fault.TraceAnswer.{TraceAnswer}
-use Rattle.trace_reader.specs.declared.fault.TraceFault.{TraceFault}
+use Rattle.trace_reader.specs.{Faults.IfRefused, declared.fault.{TraceAnswer.TraceAnswer, TraceFault.TraceFault}}
 use Rattle.query_run.specs.Views.{IsAsFarAs, view_text, views_text, views_up_to}
 use Rattle.query_run.proofs.ViewTexts.{all_views, begins, next_view, no_views, parted, whole_text}
 

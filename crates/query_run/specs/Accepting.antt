@@ -1,7 +1,6 @@
 -- Where the packets of a run come from.
 use Rattle.std.specs.Prelude.{⊤}
-use Rattle.trace_drive.specs.declared.packets.Packets.{Packets}
-use Rattle.trace_drive.specs.declared.packets.Packets.TheVariants.{Trace, Kept}
+use Rattle.trace_drive.specs.declared.packets.Packets.{Packets, TheVariants.{Trace, Kept}}
 
 -- They were read before, and are taken from where they are kept.
 abbrev pub AreKept : Packets → Type 0

@@ -1,13 +1,9 @@
 -- What a query prints of the tables of its groupbys where bounds are asked for.
 use Rattle.std.specs.Prelude.{◌≡◌, ℕ, List, All, map}
-use Rattle.query_lang.specs.declared.typed.TypedQuery.{TypedQuery}
-use Rattle.query_lang.specs.Streams.{takings}
-use Rattle.query_lang.specs.TypedQueries.{IsValidQuery, group_shape}
-use Rattle.final_queries.specs.declared.table.Table.{Table}
-use Rattle.final_queries.specs.Finals.{IsTable, table_shape}
+use Rattle.query_lang.specs.{declared.typed.TypedQuery.TypedQuery, Streams.takings, TypedQueries.{IsValidQuery, group_shape}}
+use Rattle.final_queries.specs.{declared.table.Table.Table, Finals.{IsTable, table_shape}}
 use Rattle.enclosure_folds.specs.Shown.{MayBeShown, shown}
-use Rattle.enclosed_query.specs.EnclosedTables.{enclosed_print, table_read}
-use Rattle.enclosed_query.specs.Reading.{IsWhole}
+use Rattle.enclosed_query.specs.{EnclosedTables.{enclosed_print, table_read}, Reading.IsWhole}
 
 -- these tables of a valid query's groupbys may be shown, and its finals may read what is shown
 pub record AreBoundsTables (q : TypedQuery) (tables : List Table) : Type 0 where

@@ -1,15 +1,10 @@
 -- What a run with the setting of a command line leaves.
-use Rattle.std.specs.Prelude.{◌≡◌, ℕ, true}
-use Rattle.std.specs.List.{list_all}
+use Rattle.std.specs.{Prelude.{◌≡◌, ℕ, true}, List.list_all}
 use Rattle.stage_plan.specs.Packets.{AreWhole}
-use Rattle.command_line.specs.Command.{ways_number}
-use Rattle.command_line.specs.declared.setting.Setting.{Setting}
-use Rattle.command_line.specs.declared.setting.Ways.{Ways}
+use Rattle.command_line.specs.{Command.ways_number, declared.setting.{Setting.Setting, Ways.Ways}}
 use Rattle.command_line.specs.declared.setting.Ways.TheVariants.{One, Two, Four, Eight, Sixteen, ThirtyTwo}
-use Rattle.query_run.specs.declared.driven.Driven.{Driven}
-use Rattle.query_run.specs.declared.driven.Driven.TheVariants.{Ways1, Ways2, Ways4, Ways8, Ways16, Ways32}
-use Rattle.epoch_entry.specs.declared.purpose.Entries.{Entries}
-use Rattle.epoch_entry.specs.declared.purpose.Entries.TheVariants.{Folds}
+use Rattle.query_run.specs.declared.driven.Driven.{Driven, TheVariants.{Ways1, Ways2, Ways4, Ways8, Ways16, Ways32}}
+use Rattle.epoch_entry.specs.declared.purpose.Entries.{Entries, TheVariants.Folds}
 use Rattle.epoch_model.specs.Epochs.{Geometry}
 use Rattle.queue_sim.specs.Generator.{simulated}
 use Rattle.switch_core.specs.PlanLanes.{HavePlaces, PipelineView, lane_is_drained}

@@ -1,12 +1,10 @@
 -- What a plan that was read prints of the tables of its groups.
 use Rattle.std.specs.Prelude.{◌≡◌, ◌<◌, ◌≤◌, ℕ, List, All, flat_map, length}
 use Rattle.epoch_entry.specs.declared.purpose.Entries.TheVariants.{Folds}
-use Rattle.epoch_model.specs.Epochs.{Geometry}
-use Rattle.epoch_model.specs.Laws.{HasRoom}
+use Rattle.epoch_model.specs.{Epochs.Geometry, Laws.HasRoom}
 use Rattle.final_queries.specs.declared.table.Table.{Table}
 use Rattle.plan_file.specs.declared.made.Made.{Made}
-use Rattle.plan_loader.specs.Meaning.{plan_tables}
-use Rattle.plan_loader.specs.Parts.{IsPlanFrom, IsSoundMade}
+use Rattle.plan_loader.specs.{Meaning.plan_tables, Parts.{IsPlanFrom, IsSoundMade}}
 use Rattle.query_run.specs.Reports.{end_tables}
 use Rattle.query_tables.specs.Tables.{table_text_at}
 use Rattle.stage_plan.specs.Sound.{PlanParts}

@@ -1,10 +1,7 @@
 -- What a query prints of the tables of its groupbys.
 use Rattle.std.specs.Prelude.{◌≡◌, ℕ, List, All, map}
-use Rattle.query_lang.specs.declared.typed.TypedQuery.{TypedQuery}
-use Rattle.query_lang.specs.Streams.{takings}
-use Rattle.query_lang.specs.TypedQueries.{IsValidQuery, group_shape}
-use Rattle.final_queries.specs.declared.table.Table.{Table}
-use Rattle.final_queries.specs.Finals.{IsTable, table_shape, with_finals}
+use Rattle.query_lang.specs.{declared.typed.TypedQuery.TypedQuery, Streams.takings, TypedQueries.{IsValidQuery, group_shape}}
+use Rattle.final_queries.specs.{declared.table.Table.Table, Finals.{IsTable, table_shape, with_finals}}
 use Rattle.query_tables.specs.Tables.{printed}
 
 -- a valid query's finals may read these tables as those of its groupbys

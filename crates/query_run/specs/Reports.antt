@@ -1,13 +1,10 @@
 -- What a report prints of the tables of a plan's groupbys.
 use Rattle.std.specs.Prelude.{◌≡◌, ℕ, List, map}
 use Rattle.epoch_entry.specs.declared.purpose.Entries.{Entries}
-use Rattle.epoch_model.specs.Epochs.{Geometry}
-use Rattle.epoch_model.specs.Laws.{HasRoom}
+use Rattle.epoch_model.specs.{Epochs.Geometry, Laws.HasRoom}
 use Rattle.final_queries.specs.declared.table.Table.{Table}
-use Rattle.stage_plan.specs.Packets.{AreWhole}
-use Rattle.stage_plan.specs.Sound.{IsSoundPlan, PlanParts}
-use Rattle.switch_core.specs.Pipelines.{tables_of}
-use Rattle.switch_core.specs.PlanLanes.{AreLanesOf, LaneView, folding_at}
+use Rattle.stage_plan.specs.{Packets.AreWhole, Sound.{IsSoundPlan, PlanParts}}
+use Rattle.switch_core.specs.{Pipelines.tables_of, PlanLanes.{AreLanesOf, LaneView, folding_at}}
 use Rattle.trace_drive.specs.Drives.{end_machines}
 
 -- the tables that lanes of the plan give at the end of a trace whose packets have these words

@@ -1,18 +1,11 @@
 -- What a query makes of a trace.
 use Rattle.std.specs.Prelude.{◌≡◌, ℕ, suc, List, [], ◌∷◌, length, map}
-use Rattle.query_lang.specs.declared.typed.TypedQuery.{TypedQuery}
-use Rattle.query_lang.specs.Streams.{Taking, takings}
-use Rattle.query_lang.specs.TypedQueries.{IsValidQuery}
+use Rattle.query_lang.specs.{declared.typed.TypedQuery.TypedQuery, Streams.{Taking, takings}, TypedQueries.IsValidQuery}
 use Rattle.query_types.specs.Uses.{uses}
 use Rattle.epoch_entry.specs.declared.purpose.Entries.TheVariants.{Folds}
-use Rattle.epoch_model.specs.Epochs.{Geometry}
-use Rattle.epoch_model.specs.Machine.{Machine, end_of}
-use Rattle.epoch_model.specs.Laws.{HasRoom}
-use Rattle.stage_plan.specs.Packets.{AreWhole}
-use Rattle.stage_plan.specs.Planned.{IsPlanOf}
-use Rattle.stage_plan.specs.Sound.{PlanParts}
-use Rattle.switch_core.specs.Pipelines.{tables_of}
-use Rattle.switch_core.specs.PlanLanes.{LaneView, AreLanesOf, folding_at}
+use Rattle.epoch_model.specs.{Epochs.Geometry, Machine.{Machine, end_of}, Laws.HasRoom}
+use Rattle.stage_plan.specs.{Packets.AreWhole, Planned.IsPlanOf, Sound.PlanParts}
+use Rattle.switch_core.specs.{Pipelines.tables_of, PlanLanes.{LaneView, AreLanesOf, folding_at}}
 use Rattle.query_tables.specs.Tables.{group_tables}
 use Rattle.trace_drive.specs.Drives.{end_machines}
 

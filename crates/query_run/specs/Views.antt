@@ -1,14 +1,10 @@
 -- What a run with views writes.
-use Rattle.std.specs.Prelude.{◌≡◌, ◌==◌, ◌&&◌, ◌%◌, ◌≤◌, ℕ, zero, suc, Bool, nat_lt, List, [], ◌∷◌}
-use Rattle.std.specs.Prelude.{◌++◌, length, take, None, codes, decimal, if◌then◌else◌}
-use Rattle.epoch_model.specs.Epochs.{Geometry}
-use Rattle.epoch_model.specs.Laws.{HasRoom}
-use Rattle.epoch_model.specs.Machine.{after_packets}
+use Rattle.std.specs.Prelude.{◌≡◌, ◌==◌, ◌&&◌, ◌%◌, ◌≤◌, ℕ, zero, suc, Bool, nat_lt, List, [], ◌∷◌, ◌++◌, length, take, None, codes}
+use Rattle.std.specs.Prelude.{decimal, if◌then◌else◌}
+use Rattle.epoch_model.specs.{Epochs.Geometry, Laws.HasRoom, Machine.after_packets}
 use Rattle.stage_plan.specs.Packets.{AreWhole}
 use Rattle.switch_core.specs.PlanLanes.{PipelineView}
-use Rattle.trace_drive.specs.Drives.{coming, fault_of, uses_by}
-use Rattle.trace_drive.specs.Follows.{FollowsBy}
-use Rattle.trace_drive.specs.declared.packets.Packets.{Packets}
+use Rattle.trace_drive.specs.{Drives.{coming, fault_of, uses_by}, Follows.FollowsBy, declared.packets.Packets.Packets}
 use Rattle.trace_reader.specs.declared.fault.TheConstants.{MAX_RECORDS}
 
 -- the first line of the view after this number of packets

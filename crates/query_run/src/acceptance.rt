@@ -1,11 +1,9 @@
 //! A trace that is accepted before its packets are taken.
 
 ghost use Rattle.std.specs.Prelude.{◌≡◌, ◌*◌, ◌<◌, ◌≤◌, [], All, IfErr, IfOk, IfSome, None, OnOk, Some, length};
-ghost use Rattle.trace_drive.specs.Drives.{coming, fault_of};
-ghost use Rattle.trace_drive.specs.Kept.{kept_of, kept_words};
+ghost use Rattle.trace_drive.specs.{Drives.{coming, fault_of}, Kept.{kept_of, kept_words}};
 ghost use Rattle.query_run.specs.Accepting.{AreKept, AreUnread};
-ghost use Rattle.trace_reader.specs.Faults.{IfRefused};
-ghost use Rattle.trace_reader.specs.Traces.{packets, trace_fault};
+ghost use Rattle.trace_reader.specs.{Faults.IfRefused, Traces.{packets, trace_fault}};
 
 use marple_base::{FIELDS, FieldSet, Packet};
 use std::alloc::{AllocError, Global};

@@ -6,14 +6,11 @@ ghost use Rattle.epoch_entry.specs.declared.purpose.Entries.TheVariants.{Bounds}
 ghost use Rattle.epoch_model.specs.Epochs.{Geometry};
 ghost use Rattle.marple_base.specs.declared.field.FieldSet.{FieldSet};
 ghost use Rattle.enclosure_folds.specs.Check.{enclose_fault};
-ghost use Rattle.enclosed_query.specs.EnclosedTables.{enclose_text};
-ghost use Rattle.enclosed_query.specs.Holding.{ShownHolds};
-ghost use Rattle.stage_plan.specs.Planned.{IsPlanOf};
-ghost use Rattle.stage_plan.specs.Sound.{PlanParts};
+ghost use Rattle.enclosed_query.specs.{EnclosedTables.enclose_text, Holding.ShownHolds};
+ghost use Rattle.stage_plan.specs.{Planned.IsPlanOf, Sound.PlanParts};
 ghost use Rattle.trace_drive.specs.Drives.{words_of};
 ghost use Rattle.trace_reader.specs.Traces.{packets};
-ghost use Rattle.query_run.specs.BoundsReports.{AreBoundsTables, bounds_print};
-ghost use Rattle.query_run.specs.Reports.{Reports};
+ghost use Rattle.query_run.specs.{BoundsReports.{AreBoundsTables, bounds_print}, Reports.Reports};
 
 use crate::report::Report;
 use enclosed_query::{

@@ -1,9 +1,7 @@
 //! What the machines at the end of a trace are, and the tables that they give; and what is known of the packets
 //! that the generator makes.
 
-ghost use Rattle.query_run.specs.Driven.{MadePacketsAreWhole};
-ghost use Rattle.query_run.specs.PlanReports.{EndsAreTheTexts};
-ghost use Rattle.query_run.specs.Runs.{EndsAreTheQuerys};
+ghost use Rattle.query_run.specs.{Driven.MadePacketsAreWhole, PlanReports.EndsAreTheTexts, Runs.EndsAreTheQuerys};
 ghost use Rattle.query_run.specs.Views.{NoViewsWithoutNumber};
 
 use epoch_model::taken_uses_are_in_trace;

@@ -2,16 +2,12 @@
 
 ghost use Rattle.std.specs.Prelude.{◌≡◌, ◌++◌, ◌<◌, ◌≤◌, All, length, IsErrOf, OnErr, OnOk};
 ghost use Rattle.epoch_entry.specs.declared.purpose.Entries.TheVariants.{Folds};
-ghost use Rattle.marple_base.specs.Faults.{Rose};
-ghost use Rattle.marple_base.specs.Sink.{TakesFront};
+ghost use Rattle.marple_base.specs.{Faults.Rose, Sink.TakesFront, Pieces.TakesAllBut};
 ghost use Rattle.plan_file.specs.declared.made.Made.{Made};
-ghost use Rattle.plan_loader.specs.Meaning.{plan_output};
-ghost use Rattle.plan_loader.specs.Parts.{IsPlanFrom, IsSoundMade};
+ghost use Rattle.plan_loader.specs.{Meaning.plan_output, Parts.{IsPlanFrom, IsSoundMade}};
 ghost use Rattle.query_tables.specs.Tables.{table_text_at};
 ghost use Rattle.stage_plan.specs.Sound.{PlanParts};
-ghost use Rattle.query_run.specs.PlanReports.{HasKeys, HaveNumbers, numbered_print};
-ghost use Rattle.query_run.specs.Reports.{Reports};
-ghost use Rattle.marple_base.specs.Pieces.{TakesAllBut};
+ghost use Rattle.query_run.specs.{PlanReports.{HasKeys, HaveNumbers, numbered_print}, Reports.Reports};
 
 use crate::laws::ends_are_the_texts;
 use crate::report::Report;

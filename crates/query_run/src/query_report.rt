@@ -4,10 +4,8 @@ ghost use Rattle.std.specs.Prelude.{◌≡◌};
 ghost use Rattle.query_lang.specs.TypedQueries.{IsValidQuery};
 ghost use Rattle.epoch_entry.specs.declared.purpose.Entries.TheVariants.{Folds};
 ghost use Rattle.query_tables.specs.Tables.{query_text};
-ghost use Rattle.stage_plan.specs.Planned.{IsPlanOf};
-ghost use Rattle.stage_plan.specs.Sound.{PlanParts};
-ghost use Rattle.query_run.specs.QueryReports.{AreGroupTables, query_print};
-ghost use Rattle.query_run.specs.Reports.{Reports};
+ghost use Rattle.stage_plan.specs.{Planned.IsPlanOf, Sound.PlanParts};
+ghost use Rattle.query_run.specs.{QueryReports.{AreGroupTables, query_print}, Reports.Reports};
 
 use crate::laws::ends_are_the_querys;
 use crate::report::Report;

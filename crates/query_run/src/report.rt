@@ -3,9 +3,7 @@
 ghost use Rattle.std.specs.Prelude.{◌≡◌, ◌++◌, ◌≤◌, ℕ, List, IsErrOf, OnErr, OnOk};
 ghost use Rattle.epoch_entry.specs.declared.purpose.Entries.{Entries as AnyEntries};
 ghost use Rattle.final_queries.specs.declared.table.Table.{Table as AnyTable};
-ghost use Rattle.marple_base.specs.Faults.{Rose};
-ghost use Rattle.marple_base.specs.Sink.{TakesFront};
-ghost use Rattle.marple_base.specs.Pieces.{TakesAllBut};
+ghost use Rattle.marple_base.specs.{Faults.Rose, Sink.TakesFront, Pieces.TakesAllBut};
 
 use epoch_entry::Entries;
 use final_queries::Table;

@@ -1,17 +1,12 @@
 //! A report over packets.
 
-ghost use Rattle.std.specs.Prelude.{◌≡◌, ◌*◌, ◌<◌, ◌≤◌, ℕ, List, None, IfErr, IfOk, true};
-ghost use Rattle.std.specs.Io.KnownBytes.{Appends};
-ghost use Rattle.std.specs.List.{list_all};
+ghost use Rattle.std.specs.{Prelude.{◌≡◌, ◌*◌, ◌<◌, ◌≤◌, ℕ, List, None, IfErr, IfOk, true}, Io.KnownBytes.Appends, List.list_all};
 ghost use Rattle.epoch_model.specs.Epochs.{Geometry};
 ghost use Rattle.stage_plan.specs.Packets.{AreWhole};
 ghost use Rattle.switch_core.specs.Pipelines.{empty_machines, geometry_without_refresh};
 ghost use Rattle.switch_core.specs.PlanLanes.{HavePlaces, PipelineStands, PipelineView, lane_is_drained};
-ghost use Rattle.trace_drive.specs.Answers.{BreaksOff};
-ghost use Rattle.trace_drive.specs.Drives.{coming, end_machines, fault_of, geometry_for, words_of};
-ghost use Rattle.trace_drive.specs.Turns.{RunsInTurns};
-ghost use Rattle.query_run.specs.Reports.{MayPrint, Prints};
-ghost use Rattle.query_run.specs.Views.{CanBeViewed, views_text};
+ghost use Rattle.trace_drive.specs.{Answers.BreaksOff, Drives.{coming, end_machines, fault_of, geometry_for, words_of}, Turns.RunsInTurns};
+ghost use Rattle.query_run.specs.{Reports.{MayPrint, Prints}, Views.{CanBeViewed, views_text}};
 
 use crate::report::Report;
 use crate::showing::write_end;

@@ -1,17 +1,13 @@
 //! A report over the packets of a trace, or over generated packets.
 
-ghost use Rattle.std.specs.Prelude.{◌≡◌, ◌≤◌, ℕ, List, None, IfOk, IfErr};
-ghost use Rattle.std.specs.Io.KnownBytes.{Appends};
+ghost use Rattle.std.specs.{Prelude.{◌≡◌, ◌≤◌, ℕ, List, None, IfOk, IfErr}, Io.KnownBytes.Appends};
 ghost use Rattle.epoch_model.specs.Epochs.{Geometry};
 ghost use Rattle.stage_plan.specs.Packets.{AreWhole};
 ghost use Rattle.switch_core.specs.PlanLanes.{PipelineStands};
-ghost use Rattle.trace_drive.specs.Answers.{BreaksOff};
-ghost use Rattle.trace_drive.specs.Drives.{end_machines, words_of};
+ghost use Rattle.trace_drive.specs.{Answers.BreaksOff, Drives.{end_machines, words_of}};
 ghost use Rattle.trace_reader.specs.Traces.{trace_fault, packets};
 ghost use Rattle.command_line.specs.Command.{IsSetting};
-ghost use Rattle.query_run.specs.Driven.{IsLeftWith, geometry_of, pipeline_in};
-ghost use Rattle.query_run.specs.Reports.{MayPrint, Prints};
-ghost use Rattle.query_run.specs.Views.{views_text};
+ghost use Rattle.query_run.specs.{Driven.{IsLeftWith, geometry_of, pipeline_in}, Reports.{MayPrint, Prints}, Views.views_text};
 
 use crate::acceptance::opened_trace;
 use crate::driven::Driven;

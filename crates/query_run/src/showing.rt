@@ -1,16 +1,11 @@
 //! What a report writes of a pipeline, in the middle of a trace and at its end.
 
-ghost use Rattle.std.specs.Prelude.{◌≡◌, ◌++◌, ◌≤◌, ℕ, List, None, IfErr, IfOk, OnOk, true};
-ghost use Rattle.std.specs.Io.KnownBytes.{Appends};
-ghost use Rattle.std.specs.List.{list_all};
-ghost use Rattle.epoch_model.specs.Epochs.{Geometry};
-ghost use Rattle.epoch_model.specs.Laws.{HasRoom};
+ghost use Rattle.std.specs.{Prelude.{◌≡◌, ◌++◌, ◌≤◌, ℕ, List, None, IfErr, IfOk, OnOk, true}, Io.KnownBytes.Appends, List.list_all};
+ghost use Rattle.epoch_model.specs.{Epochs.Geometry, Laws.HasRoom};
 ghost use Rattle.stage_plan.specs.Packets.{AreWhole};
 ghost use Rattle.switch_core.specs.PlanLanes.{PipelineStands, lane_is_drained};
-ghost use Rattle.trace_drive.specs.Answers.{BreaksOff};
-ghost use Rattle.trace_drive.specs.Drives.{end_machines};
-ghost use Rattle.query_run.specs.Reports.{MayPrint, Prints};
-ghost use Rattle.query_run.specs.Views.{IsAsFarAs, view_line, view_text};
+ghost use Rattle.trace_drive.specs.{Answers.BreaksOff, Drives.end_machines};
+ghost use Rattle.query_run.specs.{Reports.{MayPrint, Prints}, Views.{IsAsFarAs, view_line, view_text}};
 
 use crate::report::Report;
 use final_queries::Table;

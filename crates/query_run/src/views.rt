@@ -1,17 +1,12 @@
 //! The views of a trace, written in turn.
 
-ghost use Rattle.std.specs.Prelude.{◌≡◌, ◌<◌, ◌≤◌, ℕ, List, IfErr, IfOk, length};
-ghost use Rattle.std.specs.Io.KnownBytes.{Appends};
+ghost use Rattle.std.specs.{Prelude.{◌≡◌, ◌<◌, ◌≤◌, ℕ, List, IfErr, IfOk, length}, Io.KnownBytes.Appends};
 ghost use Rattle.epoch_model.specs.Epochs.{Geometry};
 ghost use Rattle.stage_plan.specs.Packets.{AreWhole};
-ghost use Rattle.switch_core.specs.Pipelines.{empty_machines, geometry_without_refresh};
-ghost use Rattle.switch_core.specs.PlanLanes.{PipelineStands};
-ghost use Rattle.trace_drive.specs.Answers.{BreaksOff};
-ghost use Rattle.trace_drive.specs.Drives.{coming, fault_of, geometry_for, words_of};
-ghost use Rattle.trace_drive.specs.Follows.{Keeps};
+ghost use Rattle.switch_core.specs.{Pipelines.{empty_machines, geometry_without_refresh}, PlanLanes.PipelineStands};
+ghost use Rattle.trace_drive.specs.{Answers.BreaksOff, Drives.{coming, fault_of, geometry_for, words_of}, Follows.Keeps};
 ghost use Rattle.trace_drive.specs.Replays.{HasTaken, IsUnderWay, replay_fault, replay_pipeline};
-ghost use Rattle.query_run.specs.Reports.{MayPrint, Prints};
-ghost use Rattle.query_run.specs.Views.{CanBeViewed, views_text, views_up_to};
+ghost use Rattle.query_run.specs.{Reports.{MayPrint, Prints}, Views.{CanBeViewed, views_text, views_up_to}};
 
 use crate::report::Report;
 use crate::showing::write_view;

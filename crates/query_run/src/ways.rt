@@ -1,15 +1,12 @@
 //! A report over packets, with the ways that a setting gives.
 
-ghost use Rattle.std.specs.Prelude.{◌≡◌, ◌<◌, ◌≤◌, ℕ, List, None, IfOk, IfErr};
-ghost use Rattle.std.specs.Io.KnownBytes.{Appends};
+ghost use Rattle.std.specs.{Prelude.{◌≡◌, ◌<◌, ◌≤◌, ℕ, List, None, IfOk, IfErr}, Io.KnownBytes.Appends};
 ghost use Rattle.epoch_model.specs.Epochs.{Geometry};
 ghost use Rattle.stage_plan.specs.Packets.{AreWhole};
 ghost use Rattle.switch_core.specs.PlanLanes.{PipelineStands};
-ghost use Rattle.trace_drive.specs.Answers.{BreaksOff};
-ghost use Rattle.trace_drive.specs.Drives.{coming, end_machines, fault_of, words_of};
+ghost use Rattle.trace_drive.specs.{Answers.BreaksOff, Drives.{coming, end_machines, fault_of, words_of}};
 ghost use Rattle.command_line.specs.Command.{IsSetting};
-ghost use Rattle.query_run.specs.Driven.{IsLeftWith, geometry_of, pipeline_in};
-ghost use Rattle.query_run.specs.Reports.{MayPrint, Prints};
+ghost use Rattle.query_run.specs.{Driven.{IsLeftWith, geometry_of, pipeline_in}, Reports.{MayPrint, Prints}};
 ghost use Rattle.query_run.specs.Views.{CanBeViewed, views_text};
 
 use crate::driven::Driven;

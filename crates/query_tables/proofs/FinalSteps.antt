@@ -1,13 +1,8 @@
 -- The tables with one more final.
-use Rattle.std.proofs.Common.{refl, ◌≡◌, ℕ, ◌+◌, List, [], ◌∷◌, ◌++◌, length, map, ap, ◌∙◌, arith, length-append}
-use Rattle.std.specs.List.{All}
-use Rattle.std.proofs.lemmas.List.{map-append}
-use Rattle.std.proofs.lemmas.List.Elements.{All-push}
-use Rattle.query_lang.specs.declared.fold.TypedFold.{TypedFold}
-use Rattle.query_lang.specs.declared.typed.TypedFinal.{TypedFinal}
-use Rattle.query_lang.specs.TypedQueries.{AreValidFinals, final_shape}
-use Rattle.final_queries.specs.declared.table.Table.{Table}
-use Rattle.final_queries.specs.Finals.{IsTable, table_shape, final_table, with_finals}
+use Rattle.std.proofs.{Common.{refl, ◌≡◌, ℕ, ◌+◌, List, [], ◌∷◌, ◌++◌, length, map, ap, ◌∙◌, arith, length-append}, lemmas.List.map-append}
+use Rattle.std.{proofs.lemmas.List.Elements.All-push, specs.List.All}
+use Rattle.query_lang.specs.{declared.{fold.TypedFold.TypedFold, typed.TypedFinal.TypedFinal}, TypedQueries.{AreValidFinals, final_shape}}
+use Rattle.final_queries.specs.{declared.table.Table.Table, Finals.{IsTable, table_shape, final_table, with_finals}}
 
 -- these tables, and then those of the finals that are left, are the whole, this many
 pub record IsOnTheWay (names : List (List ℕ)) (folds : List TypedFold) (all : List Table) (many : ℕ) (known : List Table)

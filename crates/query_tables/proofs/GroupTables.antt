@@ -1,29 +1,17 @@
 -- The tables of groupbys, stream by stream.
 use Rattle.std.proofs.Common.{◌≡◌, ℕ, zero, suc, ◌+◌, List, [], ◌∷◌, ◌++◌, Option, Some, None, length, map, drop, refl, sym, ap, ◌∙◌, subst}
-use Rattle.std.proofs.Common.{length-append}
-use Rattle.std.specs.List.{All, filter_map, cons_option}
+use Rattle.std.proofs.{Common.length-append, lemmas.List.{length-map, Elements.{All-nil, All-cons, All-map}}}
+use Rattle.std.{proofs.lemmas.Option.{none-some, slice_get_within, get_or_from_slice_get}, specs.List.{All, filter_map, cons_option}}
 use Rattle.std.specs.Prelude.{slice_get, option_map, option_and_then}
-use Rattle.std.proofs.lemmas.List.{length-map}
-use Rattle.std.proofs.lemmas.List.Elements.{All-nil, All-cons, All-map}
-use Rattle.std.proofs.lemmas.Option.{none-some, slice_get_within, get_or_from_slice_get}
-use Rattle.query_lang.specs.declared.fold.TypedFold.{TypedFold}
-use Rattle.query_lang.specs.declared.typed.TypedOp.{TypedOp}
-use Rattle.query_lang.specs.declared.typed.TypedOp.TheVariants.{Filter, Map, Zip, Group}
-use Rattle.query_lang.specs.declared.typed.TypedQuery.{TypedQuery}
-use Rattle.query_lang.specs.declared.typed.TypedStream.{TypedStream}
-use Rattle.query_lang.specs.Folds.{IsValidFold, fold_args}
-use Rattle.query_lang.specs.Streams.{Taking, takings, taking_of, stream}
-use Rattle.query_lang.specs.TypedQueries.{IsValidOp, AreValidStreams, group_shape}
+use Rattle.query_lang.specs.declared.{fold.TypedFold.TypedFold, typed.TypedOp.{TypedOp, TheVariants.{Filter, Map, Zip, Group}}}
+use Rattle.query_lang.specs.{declared.typed.{TypedQuery.TypedQuery, TypedStream.TypedStream}, Folds.{IsValidFold, fold_args}}
+use Rattle.query_lang.specs.{Streams.{Taking, takings, taking_of, stream}, TypedQueries.{IsValidOp, AreValidStreams, group_shape}}
 use Rattle.epoch_model.specs.Epochs.{Geometry}
 use Rattle.query_types.specs.Uses.{use_of, taken_by, uses}
 use Rattle.epoch_entry.specs.Foldings.{folding_of}
-use Rattle.stage_plan.specs.Planned.{fold_at}
-use Rattle.stage_plan.specs.Shape.{GroupShape, text_at, shape_with, shape_made}
-use Rattle.final_queries.specs.Finals.{IsTable, table_shape}
-use Rattle.final_queries.specs.FinalLaws.{GroupTablesAreRead}
-use Rattle.final_queries.proofs.StateLengths.{states_length}
-use Rattle.query_tables.specs.Tables.{query_table, table_if, tables_from, group_tables}
-use Rattle.query_tables.specs.TableLaws.{QueryTablesAreRead}
+use Rattle.stage_plan.specs.{Planned.fold_at, Shape.{GroupShape, text_at, shape_with, shape_made}}
+use Rattle.final_queries.{specs.{Finals.{IsTable, table_shape}, FinalLaws.GroupTablesAreRead}, proofs.StateLengths.states_length}
+use Rattle.query_tables.specs.{Tables.{query_table, table_if, tables_from, group_tables}, TableLaws.QueryTablesAreRead}
 
 empty_drop : {A : Type 0} (i : ℕ) (x : A) (rest : List A) → drop i [] ≡ x ∷ rest → ⊥
 empty_drop zero x rest e = cc

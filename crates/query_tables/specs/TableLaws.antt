@@ -1,8 +1,6 @@
 -- The tables of a query's groupbys may be read by its finals.
 use Rattle.std.specs.Prelude.{◌≡◌, ℕ, List, map, All}
-use Rattle.query_lang.specs.declared.typed.TypedQuery.{TypedQuery}
-use Rattle.query_lang.specs.Streams.{takings}
-use Rattle.query_lang.specs.TypedQueries.{IsValidQuery, group_shape}
+use Rattle.query_lang.specs.{declared.typed.TypedQuery.TypedQuery, Streams.takings, TypedQueries.{IsValidQuery, group_shape}}
 use Rattle.epoch_model.specs.Epochs.{Geometry}
 use Rattle.final_queries.specs.Finals.{IsTable, table_shape}
 use Rattle.query_tables.specs.Tables.{group_tables}

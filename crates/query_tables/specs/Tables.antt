@@ -1,18 +1,11 @@
 -- The tables of a typed query over the packets of a trace, and what it prints.
-use Rattle.std.specs.Prelude.{ℕ, suc, List, [], ◌∷◌, ◌++◌, length, flat_map, slice_get, Option, Some, None, option_map}
-use Rattle.std.specs.Prelude.{unwrap_or}
-use Rattle.query_lang.specs.declared.fold.TypedFold.{TypedFold}
-use Rattle.query_lang.specs.declared.typed.TypedQuery.{TypedQuery}
-use Rattle.query_lang.specs.Streams.{takings}
-use Rattle.query_lang.specs.TypedFinals.{table_number}
+use Rattle.std.specs.Prelude.{ℕ, suc, List, [], ◌∷◌, ◌++◌, length, flat_map, slice_get, Option, Some, None, option_map, unwrap_or}
+use Rattle.query_lang.specs.{declared.{fold.TypedFold.TypedFold, typed.TypedQuery.TypedQuery}, Streams.takings, TypedFinals.table_number}
 use Rattle.query_types.specs.Uses.{uses}
 use Rattle.epoch_model.specs.Epochs.{Geometry}
 use Rattle.epoch_entry.specs.Foldings.{folding_of}
-use Rattle.stage_plan.specs.Planned.{fold_at}
-use Rattle.stage_plan.specs.Shape.{GroupShape, query_groups}
-use Rattle.final_queries.specs.declared.table.Table.{Table}
-use Rattle.final_queries.specs.Finals.{with_finals}
-use Rattle.final_queries.specs.GroupTable.{Heading, group_table}
+use Rattle.stage_plan.specs.{Planned.fold_at, Shape.{GroupShape, query_groups}}
+use Rattle.final_queries.specs.{declared.table.Table.Table, Finals.with_finals, GroupTable.{Heading, group_table}}
 use Rattle.table_printer.specs.TableText.{table_text}
 
 -- what a groupby's table says besides its rows

@@ -1,15 +1,11 @@
 //! The printed tables.
 
 ghost use Rattle.std.specs.Prelude.{◌≡◌, ◌+◌, ◌++◌, ◌≤◌, ◌<◌, All, List, [], length, map, flat_map, IfOk, IsErrOf, OnErr, OnOk};
-ghost use Rattle.marple_base.specs.Faults.{Rose};
-ghost use Rattle.marple_base.specs.Sink.{TakesFront};
-ghost use Rattle.query_lang.specs.TypedQueries.{IsValidQuery, AreValidFinals, final_shape, group_shape};
-ghost use Rattle.query_lang.specs.Folds.{IsValidFold};
-ghost use Rattle.query_lang.specs.Streams.{takings};
-ghost use Rattle.query_lang.specs.TypedFinals.{table_number};
+ghost use Rattle.marple_base.specs.{Faults.Rose, Sink.TakesFront, Pieces.TakesAllBut};
+ghost use Rattle.query_lang.specs.{TypedQueries.{IsValidQuery, AreValidFinals, final_shape, group_shape}, Folds.IsValidFold};
+ghost use Rattle.query_lang.specs.{Streams.takings, TypedFinals.table_number};
 ghost use Rattle.final_queries.specs.Finals.{IsTable, table_shape, with_finals};
 ghost use Rattle.query_tables.specs.Tables.{printed, table_text_at};
-ghost use Rattle.marple_base.specs.Pieces.{TakesAllBut};
 
 use final_queries::{Table, run_final};
 use marple_base::{Seq, Sink, Steps, TextBuffer, WriteError};

@@ -1,10 +1,9 @@
 -- Lists of names that are all different.
 use Rattle.std.proofs.Common.{◌≡◌, ℕ, zero, suc, ◌+◌, ◌<◌, ◌≤◌, Bool, true, false, ◌||◌, cond, List, [], ◌∷◌, ◌++◌, length, drop, Some}
-use Rattle.std.proofs.Common.{nat_eq, refl, sym, ap, subst, ◌∙◌, arith}
-use Rattle.std.specs.Prelude.{slice_get}
+use Rattle.std.proofs.{Common.{nat_eq, refl, sym, ap, subst, ◌∙◌, arith}, lemmas.{Bool.eqb-true, List.Folds.list_any-append}}
+use Rattle.std.proofs.lemmas.Map.Steps.{length-le_from_distinct_below}
+use Rattle.std.{proofs.lemmas.List.Elements.{All-nil, All-cons, All-push, All-append, All-head, All-tail}, specs.Prelude.slice_get}
 use Rattle.std.specs.List.{AllByRecursion, IsDistinct, list_any}
-use Rattle.std.proofs.lemmas.{Bool.eqb-true, List.Folds.list_any-append, Map.Steps.length-le_from_distinct_below}
-use Rattle.std.proofs.lemmas.List.Elements.{All-nil, All-cons, All-push, All-append, All-head, All-tail}
 use Rattle.query_lang.specs.{declared.typing.StreamColumn.StreamColumn, Checks.is_among, TypedQueries.AreNames}
 use Rattle.query_lang.specs.TypedStreams.{column_names, others_from, columns_at}
 use Rattle.query_types.specs.Fitting.{AreDifferent, AreApart}

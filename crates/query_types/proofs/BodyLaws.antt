@@ -1,11 +1,9 @@
 -- What the check of a fold's statements gives is valid.
 use Rattle.std.proofs.Common.{◌≡◌, ℕ, ◌+◌, ◌*◌, ◌<◌, ◌≤◌, Bool, true, false, List, [], ◌∷◌, ◌++◌, length, Option, Some, None, Ok, refl, sym}
-use Rattle.std.proofs.Common.{ap, ◌∙◌, inl, inr, arith}
-use Rattle.std.specs.Prelude.{IfSome}
-use Rattle.query_lang.specs.declared.{fault.Span.Span, fault.FaultKind.FaultKind, fold.Op.TheVariants.Both, fold.TypedExpr.TypedExpr}
-use Rattle.query_lang.specs.declared.{fold.TypedStmt.TypedStmt, query.Name.Name, query.Expr.Expr, typing.Body.Body}
-use Rattle.query_lang.specs.declared.{typing.Enclosing.Enclosing, fault.TheConstants.MAX_NODES, fault.TheConstants.MAX_STATEMENTS}
-use Rattle.query_lang.specs.Terms.{Literal, term_of}
+use Rattle.std.{proofs.Common.{ap, ◌∙◌, inl, inr, arith}, specs.Prelude.IfSome}
+use Rattle.query_lang.specs.declared.{fault.{Span.Span, FaultKind.FaultKind}, fold.{Op.TheVariants.Both, TypedExpr.TypedExpr}}
+use Rattle.query_lang.specs.declared.{fold.TypedStmt.TypedStmt, query.{Name.Name, Expr.Expr}, typing.{Body.Body, Enclosing.Enclosing}}
+use Rattle.query_lang.specs.{declared.fault.TheConstants.{MAX_NODES, MAX_STATEMENTS}, Terms.{Literal, term_of}}
 use Rattle.query_lang.specs.Blocks.{Block, End, Set, Fork, followed, stmt_block, block_of}
 use Rattle.query_lang.specs.Folds.{IsValidBlock, IsValidEmit, ReadsArguments, is_condition, term_nodes, block_nodes, block_count}
 use Rattle.query_lang.specs.Checks.{Checked, must_not, is_among}

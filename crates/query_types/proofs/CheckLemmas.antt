@@ -1,10 +1,8 @@
 -- Checks in sequence: an answer of the whole from the answers of its parts.
 use Rattle.std.proofs.Common.{◌≡◌, ℕ, ◌+◌, ◌<◌, List, [], ◌∷◌, ◌++◌, length, get_or, drop, map, Result, Ok, Err, refl, sym, ap, ◌∙◌}
-use Rattle.std.specs.{Prelude.IfOk, Prelude.OnOk, Result.IsErrAnd}
-use Rattle.std.proofs.lemmas.{List.drop_more, Result.err_from_is_err_and}
-use Rattle.query_lang.specs.declared.error.QueryError.TheVariants.{Refused, Memory}
-use Rattle.query_lang.specs.Checks.{Checked, and_then, collected}
-use Rattle.query_lang.specs.{declared.error.QueryError.QueryError, Answers.Answers}
+use Rattle.std.{proofs.lemmas.{List.drop_more, Result.err_from_is_err_and}, specs.{Prelude.{IfOk, OnOk}, Result.IsErrAnd}}
+use Rattle.query_lang.specs.{declared.error.QueryError.{TheVariants.{Refused, Memory}, QueryError}, Checks.{Checked, and_then, collected}}
+use Rattle.query_lang.specs.Answers.{Answers}
 use Rattle.query_types.specs.Answers.{Leaves}
 
 -- the next check of the same gives the same

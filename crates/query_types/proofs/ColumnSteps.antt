@@ -1,10 +1,8 @@
 -- The columns of a `map`, one after another.
 use Rattle.std.proofs.Common.{◌≡◌, ℕ, ◌+◌, ◌<◌, Bool, true, false, List, [], ◌∷◌, ◌++◌, length, get_or, drop, Ok, Err, refl, sym, ap, ◌∙◌}
-use Rattle.std.proofs.Common.{◌||◌}
-use Rattle.std.proofs.lemmas.List.{drop_more}
-use Rattle.query_lang.specs.{declared.fault.FaultKind.TheVariants.NameTaken, declared.fold.TypedExpr.TypedExpr}
-use Rattle.query_lang.specs.{declared.query.Column.Column, declared.typing.NewColumns.NewColumns, TypedExprs.word_of}
-use Rattle.query_lang.specs.{TypedStreams.new_columns}
+use Rattle.std.proofs.{Common.{◌||◌}, lemmas.List.drop_more}
+use Rattle.query_lang.specs.declared.{fault.FaultKind.TheVariants.NameTaken, fold.TypedExpr.TypedExpr, query.Column.Column}
+use Rattle.query_lang.specs.{declared.typing.NewColumns.NewColumns, TypedExprs.word_of, TypedStreams.new_columns}
 use Rattle.query_lang.specs.Checks.{Checked, and_then, must_not, is_among}
 use Rattle.query_types.specs.MadeStreams.{column_added}
 

@@ -1,11 +1,8 @@
 -- How many nodes an expression and a choice have, how many statements a choice has, and the greatest number of a list.
 use Rattle.std.proofs.Common.{◌≡◌, ℕ, ◌+◌, ◌<◌, ◌≤◌, List, length, get_or, drop, map, sum, sum_by, sym, ap, ◌∙◌, arith}
-use Rattle.std.specs.Prelude.{max}
-use Rattle.std.proofs.lemmas.List.{drop_more, drop_all}
-use Rattle.std.proofs.lemmas.List.Sums.{sum-map, get_or-le-sum_by, sum_by-drop_more}
+use Rattle.std.{proofs.lemmas.List.{drop_more, drop_all, Sums.{sum-map, get_or-le-sum_by, sum_by-drop_more}}, specs.Prelude.max}
 use Rattle.query_lang.specs.declared.{fault.Span.Span, fold.Op.Op, query.Stmt.TheVariants.rolls-If}
-use Rattle.query_lang.specs.declared.query.Expr.{Expr, Not, Binary, Call, fold-roll-Expr}
-use Rattle.query_lang.specs.declared.query.Expr.TheVariants.{rolls-Not, rolls-Binary, rolls-Call}
+use Rattle.query_lang.specs.declared.query.Expr.{Expr, Not, Binary, Call, fold-roll-Expr, TheVariants.{rolls-Not, rolls-Binary, rolls-Call}}
 use Rattle.query_lang.specs.declared.query.Stmt.{Stmt, If, fold-roll-Stmt}
 use Rattle.query_lang.specs.TypedFolds.{nodes_step, expr_nodes, stmt_nodes_step, stmt_nodes, count_step, stmt_count}
 use Rattle.query_types.specs.Numbers.{greatest_of}

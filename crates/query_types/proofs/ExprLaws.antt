@@ -2,17 +2,14 @@
 use Rattle.std.proofs.Common.{◌≡◌, ℕ, ◌+◌, ◌<◌, ◌≤◌, ◌^◌, Bool, true, false, not, cond, List, [], ◌∷◌, ◌++◌, length, map, sum, Option, Some}
 use Rattle.std.proofs.Common.{None, Ok, Err, nat_eq, nat_lt, refl, sym, ap, subst, ◌∙◌, append_assoc, append-nil, arith}
 use Rattle.std.proofs.lemmas.Bool.{ltb-true}
-use Rattle.query_lang.specs.declared.{fault.FaultKind.FaultKind, fault.Span.Span, fold.Op.Op, fold.TypedExpr.TypedExpr, query.Name.Name}
-use Rattle.query_lang.specs.declared.{typing.Found.Found, typing.Sort.Sort}
-use Rattle.query_lang.specs.declared.fold.Op.TheVariants.{Div, Rem, Shl, Shr, Decay, Both, Either}
+use Rattle.query_lang.specs.declared.{fault.{FaultKind.FaultKind, Span.Span}, fold.{Op.Op, TypedExpr.TypedExpr}, query.Name.Name}
+use Rattle.query_lang.specs.declared.{typing.{Found.Found, Sort.Sort}, fold.Op.TheVariants.{Div, Rem, Shl, Shr, Decay, Both, Either}}
 use Rattle.query_lang.specs.declared.query.Expr.{Expr, fold-roll-Expr, ind-Expr, roll-Expr, map-Expr}
-use Rattle.query_lang.specs.declared.typing.Sort.TheVariants.{Number, Word, Condition}
-use Rattle.query_lang.specs.Terms.{Term, Literal, term_of}
+use Rattle.query_lang.specs.{declared.typing.Sort.TheVariants.{Number, Word, Condition}, Terms.{Term, Literal, term_of}}
 use Rattle.query_lang.specs.Folds.{IsValidTerm, IsConstant, TakesOperands, is_condition, gives_condition, term_nodes}
-use Rattle.query_lang.specs.Checks.{Checked, and_then, must, collected, is_among, place_from, place_of}
-use Rattle.query_lang.specs.TypedExprs.{slot_at, slot_of, is_condition_sort, is_operand, is_number_with, is_right_constant, of_two, call_of}
-use Rattle.query_lang.specs.TypedExprs.{negation_checked, expr_step, expr_checked, condition_of, word_of}
-use Rattle.query_lang.specs.TypedFolds.{nodes_step, expr_nodes}
+use Rattle.query_lang.specs.{Checks.{Checked, and_then, must, collected, is_among, place_from, place_of}, TypedExprs.{slot_at, slot_of}}
+use Rattle.query_lang.specs.TypedExprs.{is_condition_sort, is_operand, is_number_with, is_right_constant, of_two, call_of, negation_checked}
+use Rattle.query_lang.specs.{TypedExprs.{expr_step, expr_checked, condition_of, word_of}, TypedFolds.{nodes_step, expr_nodes}}
 use Rattle.query_lang.proofs.TreeLemmas.{term_number, term_slot, term_not, term_binary}
 use Rattle.query_types.specs.Numbers.{greatest_of, number_step, greatest_number}
 use Rattle.query_lang.specs.declared.query.Expr.TheOpen as expr

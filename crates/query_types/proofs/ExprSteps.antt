@@ -2,8 +2,7 @@
 use Rattle.std.proofs.Common.{◌≡◌, ℕ, ◌<◌, List, [], map, sym, ap, ◌∙◌, arith}
 use Rattle.query_lang.specs.declared.{fault.Span.Span, fold.Op.Op, typing.Found.Found}
 use Rattle.query_lang.specs.declared.query.Expr.{Expr, Not, Binary, Call, fold-roll-Expr, roll-Expr, map-Expr}
-use Rattle.query_lang.specs.declared.query.Expr.TheVariants.{rolls-Not, rolls-Binary, rolls-Call}
-use Rattle.query_lang.specs.Checks.{Checked, and_then, collected}
+use Rattle.query_lang.specs.{declared.query.Expr.TheVariants.{rolls-Not, rolls-Binary, rolls-Call}, Checks.{Checked, and_then, collected}}
 use Rattle.query_lang.specs.TypedExprs.{of_two, call_of, negation_checked, expr_step, expr_checked}
 use Rattle.query_types.specs.Numbers.{greatest_of, number_step, greatest_number}
 use Rattle.query_lang.specs.declared.query.Expr.TheOpen as expr

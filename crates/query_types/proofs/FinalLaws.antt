@@ -1,17 +1,14 @@
 -- What a final's operator makes is valid after the tables before it, in the whole query.
 use Rattle.std.proofs.Common.{◌≡◌, ℕ, zero, suc, ◌+◌, ◌<◌, ◌≤◌, ◌^◌, true, false, List, [], ◌∷◌, ◌++◌, length, map, flat_map, drop, Option}
-use Rattle.std.proofs.Common.{Some, None, Ok, nat_eq, refl, sym, ap, ◌∙◌, append-nil, length-drop, arith}
-use Rattle.std.specs.Prelude.{is_some, slice_get, unwrap_or}
-use Rattle.std.{specs.Cmp.Lexicographic.pointwise, proofs.lemmas.Option.slice_get_within}
-use Rattle.std.proofs.lemmas.List.{length-append, length-map, length-take, map-append, Elements.All-append, Elements.All-tail}
-use Rattle.query_lang.specs.declared.{query.FinalOp.FinalOp, query.Name.Name, typed.PrintOf.PrintOf, typing.Earlier.Earlier}
-use Rattle.query_lang.specs.declared.{typing.MadeFinal.MadeFinal, typing.TableView.TableView, fault.TheConstants.MAX_NODES}
-use Rattle.query_lang.specs.Limits.{final_nodes, HasFinalKeys, IsNumberedFinal}
-use Rattle.query_lang.specs.{Streams.takings, TypedStreams.no_new_columns, TypedStreams.key_names}
+use Rattle.std.proofs.{Common.{Some, None, Ok, nat_eq, refl, sym, ap, ◌∙◌, append-nil, length-drop, arith}, lemmas.Option.slice_get_within}
+use Rattle.std.proofs.lemmas.List.{length-append, length-map, length-take, map-append, Elements.{All-append, All-tail}}
+use Rattle.std.specs.{Prelude.{is_some, slice_get, unwrap_or}, Cmp.Lexicographic.pointwise}
+use Rattle.query_lang.specs.declared.{query.{FinalOp.FinalOp, Name.Name}, typed.PrintOf.PrintOf, typing.Earlier.Earlier}
+use Rattle.query_lang.specs.declared.{typing.{MadeFinal.MadeFinal, TableView.TableView}, fault.TheConstants.MAX_NODES}
+use Rattle.query_lang.specs.{Limits.{final_nodes, HasFinalKeys, IsNumberedFinal}, Streams.takings, TypedStreams.{no_new_columns, key_names}}
 use Rattle.query_lang.specs.TypedFinals.{table_named, table_number, key_columns, other_columns}
 use Rattle.query_lang.specs.TypedQueries.{AreNames, IsValidFinalOp, IsQuiet, Shape, shapes, shape_at, group_shape, final_shape}
-use Rattle.query_types.specs.Numbers.{final_number}
-use Rattle.query_types.proofs.{ExprLaws.slot_bound, ExprLaws.condition_valid, MadeLaws.IsPart, MadeLaws.IsName}
+use Rattle.query_types.{specs.Numbers.final_number, proofs.{ExprLaws.{slot_bound, condition_valid}, MadeLaws.{IsPart, IsName}}}
 use Rattle.query_types.proofs.ViewLaws.{Whole, IsTable, IsBelow, AreKnown, table_shape, table_known, fold_known, quiet_known, get_front}
 use Rattle.query_types.proofs.StreamLaws.{condition_fits, new_valid, keys_valid, picked_some, arguments_valid, group_valid, group_is}
 use Rattle.query_types.proofs.StreamLaws.{none_new, none_picked}

@@ -1,17 +1,13 @@
 -- What the check of items keeps, with which each number fits its type.
 use Rattle.std.proofs.Common.{◌≡◌, ℕ, ◌+◌, ◌<◌, ◌≤◌, Bool, true, false, ◌||◌, cond, List, [], ◌∷◌, ◌++◌, length, map, Some, Ok, nat_eq}
-use Rattle.std.proofs.Common.{refl, arith}
+use Rattle.std.proofs.{Common.{refl, arith}, lemmas.List.{length-append, length-map, map-append, Elements.All-push}}
 use Rattle.std.specs.Prelude.{is_some}
-use Rattle.std.proofs.lemmas.List.{length-append, length-map, map-append, Elements.All-push}
-use Rattle.query_lang.specs.declared.{fold.TypedFold.TypedFold, query.FoldDef.FoldDef, query.Item.Item, query.Name.Name}
-use Rattle.query_lang.specs.declared.{typed.TypedFinal.TypedFinal, typed.TypedStream.TypedStream, typing.Earlier.Earlier}
-use Rattle.query_lang.specs.declared.{typing.FoldView.FoldView, typing.Given.Given, typing.Known.Known, typing.MadeFinal.MadeFinal}
-use Rattle.query_lang.specs.declared.{typing.MadeStream.MadeStream, typing.StreamView.StreamView, typing.TableView.TableView}
-use Rattle.query_lang.specs.declared.{fault.TheConstants.MAX_BINDINGS}
-use Rattle.query_lang.specs.{Limits.IsNumbered, Checks.is_among, TypedFinals.with_final, Typing.with_fold, Typing.item_checked}
-use Rattle.query_lang.specs.TypedStreams.{meaning_of, begun, column_names, next_stream, with_stream}
-use Rattle.query_types.specs.Fitting.{AreApart, FitsKnown, Fits}
-use Rattle.query_types.proofs.{ApartLaws.apart_within, ApartLaws.apart_push, ItemLaws.fold_named_well}
+use Rattle.query_lang.specs.declared.{fold.TypedFold.TypedFold, query.{FoldDef.FoldDef, Item.Item, Name.Name}, typed.TypedFinal.TypedFinal}
+use Rattle.query_lang.specs.declared.{typed.TypedStream.TypedStream, typing.{Earlier.Earlier, FoldView.FoldView, Given.Given, Known.Known}}
+use Rattle.query_lang.specs.declared.typing.{MadeFinal.MadeFinal, MadeStream.MadeStream, StreamView.StreamView, TableView.TableView}
+use Rattle.query_lang.specs.{declared.fault.TheConstants.MAX_BINDINGS, Limits.IsNumbered, Checks.is_among, TypedFinals.with_final}
+use Rattle.query_lang.specs.{Typing.{with_fold, item_checked}, TypedStreams.{meaning_of, begun, column_names, next_stream, with_stream}}
+use Rattle.query_types.{specs.Fitting.{AreApart, FitsKnown, Fits}, proofs.{ApartLaws.{apart_within, apart_push}, ItemLaws.fold_named_well}}
 use Rattle.query_types.proofs.MadeFits.{FitsMade, made_fits, final_fits, fold_states_apart}
 use Rattle.query_types.proofs.Makings.{FoldMade, folded, IsBegun, ItemMade, fold_item, stream_item, final_item, print_item, item_made}
 use Rattle.query_lang.specs.declared.typed.PrintOf.TheVariants as place

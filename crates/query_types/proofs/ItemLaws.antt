@@ -1,20 +1,17 @@
 -- What the check of items keeps: valid folds with their names, and the limits on streams, finals and groupbys.
 use Rattle.std.proofs.Common.{◌≡◌, ℕ, ◌+◌, ◌<◌, ◌≤◌, ◌^◌, Bool, true, false, cond, List, [], ◌∷◌, ◌++◌, length, map, Option, Some, None, Ok}
-use Rattle.std.proofs.Common.{refl, sym, ap, ◌∙◌, arith}
-use Rattle.std.{specs.Prelude.is_some, specs.List.All, proofs.lemmas.List.length-append}
-use Rattle.std.proofs.lemmas.List.Elements.{All-nil, All-push, All-head, All-tail, filter_map-append}
-use Rattle.query_lang.specs.declared.{fold.TypedFold.TypedFold, query.FoldDef.FoldDef, query.Item.Item, query.Name.Name}
-use Rattle.query_lang.specs.declared.{query.StateVar.StateVar, query.StreamOp.StreamOp, typed.TypedOp.TypedOp, typed.TypedFinal.TypedFinal}
-use Rattle.query_lang.specs.declared.{typed.TypedStream.TypedStream, typing.Earlier.Earlier, typing.Given.Given, typing.MadeFinal.MadeFinal}
-use Rattle.query_lang.specs.declared.{typing.MadeStream.MadeStream, fault.TheConstants.MAX_BINDINGS, fault.TheConstants.MAX_GROUPBYS}
-use Rattle.query_lang.specs.{Folds.IsValidFold, Limits.KeepsLimits, Limits.IsNumbered, TypedFolds.states_from, TypedFolds.args_from}
-use Rattle.query_lang.specs.{TypedFinals.with_final, TypedQueries.AreNames, TypedQueries.HasNames, Typing.with_fold, Typing.items_checked}
-use Rattle.query_lang.specs.Streams.{Taking, takings, taking_of}
+use Rattle.std.proofs.{Common.{refl, sym, ap, ◌∙◌, arith}, lemmas.List.length-append}
+use Rattle.std.{proofs.lemmas.List.Elements.{All-nil, All-push, All-head, All-tail, filter_map-append}, specs.{Prelude.is_some, List.All}}
+use Rattle.query_lang.specs.declared.{fold.TypedFold.TypedFold, query.{FoldDef.FoldDef, Item.Item, Name.Name, StateVar.StateVar}}
+use Rattle.query_lang.specs.declared.{query.StreamOp.StreamOp, typed.{TypedOp.TypedOp, TypedFinal.TypedFinal, TypedStream.TypedStream}}
+use Rattle.query_lang.specs.declared.typing.{Earlier.Earlier, Given.Given, MadeFinal.MadeFinal, MadeStream.MadeStream}
+use Rattle.query_lang.specs.{declared.fault.TheConstants.{MAX_BINDINGS, MAX_GROUPBYS}, Folds.IsValidFold, Limits.{KeepsLimits, IsNumbered}}
+use Rattle.query_lang.specs.{TypedFolds.{states_from, args_from}, TypedFinals.with_final, TypedQueries.{AreNames, HasNames}}
+use Rattle.query_lang.specs.{Typing.{with_fold, items_checked}, Streams.{Taking, takings, taking_of}}
 use Rattle.query_lang.specs.TypedStreams.{begun, column_names, with_stream}
-use Rattle.query_types.{specs.Numbers.greatest_of, specs.Numbers.item_number, proofs.BodyLaws.must_not_ok, proofs.StmtLaws.fold_valid}
-use Rattle.query_types.proofs.ExprLaws.{from_ok, found_first, must_ok}
-use Rattle.query_types.proofs.Makings.{StreamMade, filters, maps, zips, groups, FoldMade, folded, ItemMade, fold_item, stream_item}
-use Rattle.query_types.proofs.Makings.{final_item, print_item, item_made}
+use Rattle.query_types.{specs.Numbers.{greatest_of, item_number}, proofs.{BodyLaws.must_not_ok, StmtLaws.fold_valid}}
+use Rattle.query_types.proofs.{ExprLaws.{from_ok, found_first, must_ok}, Makings.{StreamMade, filters, maps, zips, groups, FoldMade}}
+use Rattle.query_types.proofs.Makings.{folded, ItemMade, fold_item, stream_item, final_item, print_item, item_made}
 use Rattle.query_lang.specs.declared.query.Item.TheVariants as item
 
 abbrev pub IsName : ℕ → ℕ → Type 0

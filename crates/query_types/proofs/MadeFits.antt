@@ -1,29 +1,22 @@
 -- The columns of what an item makes differ from one another.
 use Rattle.std.proofs.Common.{◌≡◌, ℕ, suc, ◌+◌, ◌<◌, Bool, true, false, ◌||◌, cond, List, [], ◌∷◌, ◌++◌, map, flat_map, Option, Some, None}
-use Rattle.std.proofs.Common.{Ok, nat_eq, refl, sym, ap, subst, ◌∙◌, append-nil, append_assoc, arith}
-use Rattle.std.specs.{Prelude.slice_get, Prelude.IfSome, List.All, List.list_any}
-use Rattle.std.proofs.lemmas.Bool.{eqb-true}
-use Rattle.std.proofs.lemmas.List.Elements.{All-head, All-tail, filter_map-append}
-use Rattle.query_lang.specs.declared.{fault.Span.Span, fault.FaultKind.TheVariants.NameTaken, fold.TypedFold.TypedFold, query.Column.Column}
-use Rattle.query_lang.specs.declared.{query.FinalOp.FinalOp, query.FoldDef.FoldDef, query.Name.Name, query.StateVar.StateVar}
-use Rattle.query_lang.specs.declared.{query.StreamOp.StreamOp, typing.Earlier.Earlier, typing.FoldView.FoldView, typing.MadeFinal.MadeFinal}
-use Rattle.query_lang.specs.declared.{typing.MadeStream.MadeStream, typing.NewColumns.NewColumns, typing.Picked.Picked}
-use Rattle.query_lang.specs.declared.{typing.StreamColumn.StreamColumn}
+use Rattle.std.proofs.{Common.{Ok, nat_eq, refl, sym, ap, subst, ◌∙◌, append-nil, append_assoc, arith}, lemmas.Bool.eqb-true}
+use Rattle.std.{proofs.lemmas.List.Elements.{All-head, All-tail, filter_map-append}, specs.Prelude.{slice_get, IfSome}}
+use Rattle.std.specs.List.{All, list_any}
+use Rattle.query_lang.specs.declared.{fault.{Span.Span, FaultKind.TheVariants.NameTaken}, fold.TypedFold.TypedFold, query.Column.Column}
+use Rattle.query_lang.specs.declared.query.{FinalOp.FinalOp, FoldDef.FoldDef, Name.Name, StateVar.StateVar, StreamOp.StreamOp}
+use Rattle.query_lang.specs.declared.typing.{Earlier.Earlier, FoldView.FoldView, MadeFinal.MadeFinal, MadeStream.MadeStream}
+use Rattle.query_lang.specs.declared.typing.{NewColumns.NewColumns, Picked.Picked, StreamColumn.StreamColumn}
 use Rattle.query_lang.specs.Limits.{AreNumbered, IsNumbered, IsNumberedStream, IsNumberedFinal}
-use Rattle.query_lang.specs.Checks.{collected, is_among, place_from, place_of}
-use Rattle.query_lang.specs.TypedExprs.{word_of, slot_at, slot_of}
-use Rattle.query_lang.specs.{TypedFolds.states_from, TypedFinals.other_columns, TypedQueries.AreNames}
-use Rattle.query_lang.specs.TypedStreams.{column_names, new_columns, no_new_columns, others_from, columns_at, key_names, keys_from}
-use Rattle.query_lang.specs.TypedStreams.{arguments_of}
-use Rattle.query_types.specs.Fitting.{AreApart, AreDifferent, FitsTable, FitsKnown}
-use Rattle.query_types.proofs.ApartLaws.{or_false, among_both, apart_append, apart_push, apart_none, apart_drop, different_push}
-use Rattle.query_types.proofs.ApartLaws.{others_taken}
-use Rattle.query_types.proofs.ExprLaws.{from_ok, same_ok, found_first, must_ok}
-use Rattle.query_types.proofs.{BodyLaws.must_not_ok, ViewLaws.quiet_known, StreamLaws.slot_name, MadeLaws.names_append}
-use Rattle.query_types.proofs.{MadeLaws.columns_made, ItemLaws.fold_named_well}
-use Rattle.query_types.proofs.NamedFits.{stream_fits, fold_fits, table_fits}
-use Rattle.query_types.proofs.Makings.{StreamMade, filters, maps, zips, groups, FoldMade, folded, FinalMade, final_filters, final_maps}
-use Rattle.query_types.proofs.Makings.{final_groups, final_joins, final_tops}
+use Rattle.query_lang.specs.{Checks.{collected, is_among, place_from, place_of}, TypedExprs.{word_of, slot_at, slot_of}}
+use Rattle.query_lang.specs.{TypedFolds.states_from, TypedFinals.other_columns, TypedQueries.AreNames, TypedStreams.column_names}
+use Rattle.query_lang.specs.TypedStreams.{new_columns, no_new_columns, others_from, columns_at, key_names, keys_from, arguments_of}
+use Rattle.query_types.{specs.Fitting.{AreApart, AreDifferent, FitsTable, FitsKnown}, proofs.ApartLaws.{or_false, among_both, apart_append}}
+use Rattle.query_types.proofs.ApartLaws.{apart_push, apart_none, apart_drop, different_push, others_taken}
+use Rattle.query_types.proofs.{ExprLaws.{from_ok, same_ok, found_first, must_ok}, BodyLaws.must_not_ok, ViewLaws.quiet_known}
+use Rattle.query_types.proofs.{StreamLaws.slot_name, MadeLaws.{names_append, columns_made}, ItemLaws.fold_named_well}
+use Rattle.query_types.proofs.{NamedFits.{stream_fits, fold_fits, table_fits}, Makings.{StreamMade, filters, maps, zips, groups, FoldMade}}
+use Rattle.query_types.proofs.Makings.{folded, FinalMade, final_filters, final_maps, final_groups, final_joins, final_tops}
 use Rattle.query_lang.specs.declared.query.Item.TheVariants as item
 
 -- ---- the columns of what is made

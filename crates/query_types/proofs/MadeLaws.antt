@@ -1,20 +1,17 @@
 -- What a stream's operator makes is valid after the streams before it, in the whole query.
 use Rattle.std.proofs.Common.{◌≡◌, ℕ, ◌<◌, ◌≤◌, ◌^◌, List, [], ◌∷◌, ◌++◌, length, map, flat_map, Option, Some, None, Ok, refl, sym, ap}
-use Rattle.std.proofs.Common.{subst, ◌∙◌, arith}
-use Rattle.std.proofs.lemmas.List.{length-append, length-map, map-append, Elements.All-append}
-use Rattle.query_lang.specs.declared.{query.Name.Name, query.StreamOp.StreamOp, fold.TypedFold.TypedFold, typed.TypedFinal.TypedFinal}
-use Rattle.query_lang.specs.declared.{typed.TypedOp.TypedOp, typed.TypedStream.TypedStream, typing.Earlier.Earlier}
-use Rattle.query_lang.specs.declared.{typing.MadeStream.MadeStream, typing.Origin.Origin, typing.StreamColumn.StreamColumn}
-use Rattle.query_lang.specs.declared.{typing.StreamView.StreamView, typing.TableView.TableView, fault.TheConstants.MAX_NODES}
-use Rattle.query_lang.specs.Limits.{stream_nodes, HasStreamKeys, IsNumberedStream}
+use Rattle.std.proofs.{Common.{subst, ◌∙◌, arith}, lemmas.List.{length-append, length-map, map-append, Elements.All-append}}
+use Rattle.query_lang.specs.declared.{query.{Name.Name, StreamOp.StreamOp}, fold.TypedFold.TypedFold, typed.TypedFinal.TypedFinal}
+use Rattle.query_lang.specs.declared.{typed.{TypedOp.TypedOp, TypedStream.TypedStream}, typing.{Earlier.Earlier, MadeStream.MadeStream}}
+use Rattle.query_lang.specs.declared.typing.{Origin.Origin, StreamColumn.StreamColumn, StreamView.StreamView, TableView.TableView}
+use Rattle.query_lang.specs.{declared.fault.TheConstants.MAX_NODES, Limits.{stream_nodes, HasStreamKeys, IsNumberedStream}}
 use Rattle.query_lang.specs.Streams.{Taking, taking_of}
 use Rattle.query_lang.specs.TypedStreams.{stream_named, column_names, no_new_columns, others_from, columns_at, key_names, next_stream}
 use Rattle.query_lang.specs.TypedQueries.{AreNames, AreSlots, IsValidOp, group_shape, stream_width}
 use Rattle.query_types.{specs.Numbers.stream_number, proofs.ExprLaws.condition_valid}
-use Rattle.query_types.proofs.ViewLaws.{Whole, IsStream, AreKnown, stream_known, fold_known, width_front}
-use Rattle.query_types.proofs.StreamLaws.{condition_fits, new_valid, keys_valid, picked_some, arguments_valid, group_valid, group_is}
-use Rattle.query_types.proofs.StreamLaws.{others_valid, picked_valid, none_new, none_picked}
-use Rattle.query_types.proofs.Makings.{StreamMade, filters, maps, zips, groups}
+use Rattle.query_types.proofs.{ViewLaws.{Whole, IsStream, AreKnown, stream_known, fold_known, width_front}, StreamLaws.condition_fits}
+use Rattle.query_types.proofs.StreamLaws.{new_valid, keys_valid, picked_some, arguments_valid, group_valid, group_is, others_valid}
+use Rattle.query_types.proofs.{StreamLaws.{picked_valid, none_new, none_picked}, Makings.{StreamMade, filters, maps, zips, groups}}
 use Rattle.query_lang.specs.declared.typed.PrintOf.TheVariants as place
 use Rattle.query_lang.specs.declared.typing.Origin.TheVariants as origins
 

@@ -1,23 +1,19 @@
 -- What the checks of an operator, of a fold and of an item find on the way, and what they make of it.
 use Rattle.std.proofs.Common.{◌≡◌, ℕ, ◌+◌, ◌<◌, ◌≤◌, Bool, true, false, ◌&&◌, List, [], ◌∷◌, ◌++◌, length, map, Some, None, Ok, nat_lt}
-use Rattle.std.proofs.Common.{nat_le, refl}
-use Rattle.std.specs.{Prelude.is_some, List.list_any}
-use Rattle.std.proofs.lemmas.Bool.{ltb-true, leb-true}
-use Rattle.query_lang.specs.declared.{fold.TypedExpr.TypedExpr, fold.TypedFold.TypedFold, fault.Span.Span, query.Column.Column}
-use Rattle.query_lang.specs.declared.{query.Expr.Expr, query.FinalDef.FinalDef, query.FinalOp.FinalOp, query.FoldDef.FoldDef}
-use Rattle.query_lang.specs.declared.{query.Item.Item, query.Key.Key, query.Name.Name, query.StreamDef.StreamDef, query.StreamOp.StreamOp}
-use Rattle.query_lang.specs.declared.{typing.Body.Body, typing.Earlier.Earlier, typing.FoldView.FoldView, typing.Given.Given}
-use Rattle.query_lang.specs.declared.{typing.MadeFinal.MadeFinal, typing.MadeStream.MadeStream, typing.NewColumns.NewColumns}
-use Rattle.query_lang.specs.declared.{typing.Picked.Picked, typing.StreamView.StreamView, typing.TableView.TableView}
-use Rattle.query_lang.specs.declared.{fault.TheConstants.MAX_BINDINGS, fault.TheConstants.MAX_GROUPBYS}
-use Rattle.query_lang.specs.{Checks.is_among, TypedExprs.slot_of, TypedExprs.condition_of, Typing.with_fold, Typing.item_checked}
+use Rattle.std.{proofs.{Common.{nat_le, refl}, lemmas.Bool.{ltb-true, leb-true}}, specs.{Prelude.is_some, List.list_any}}
+use Rattle.query_lang.specs.declared.{fold.{TypedExpr.TypedExpr, TypedFold.TypedFold}, fault.Span.Span, query.{Column.Column, Expr.Expr}}
+use Rattle.query_lang.specs.declared.query.{FinalDef.FinalDef, FinalOp.FinalOp, FoldDef.FoldDef, Item.Item, Key.Key, Name.Name}
+use Rattle.query_lang.specs.declared.{query.{StreamDef.StreamDef, StreamOp.StreamOp}, typing.{Body.Body, Earlier.Earlier}}
+use Rattle.query_lang.specs.declared.typing.{FoldView.FoldView, Given.Given, MadeFinal.MadeFinal, MadeStream.MadeStream}
+use Rattle.query_lang.specs.declared.typing.{NewColumns.NewColumns, Picked.Picked, StreamView.StreamView, TableView.TableView}
+use Rattle.query_lang.specs.{declared.fault.TheConstants.{MAX_BINDINGS, MAX_GROUPBYS}, Checks.is_among, TypedExprs.{slot_of, condition_of}}
+use Rattle.query_lang.specs.Typing.{with_fold, item_checked}
 use Rattle.query_lang.specs.TypedFolds.{states_from, args_from, body_checked, fold_nodes, fold_statements, fold_checked}
 use Rattle.query_lang.specs.TypedStreams.{meaning_of, begun, stream_named, fold_named, column_names, new_columns, no_new_columns, clash}
 use Rattle.query_lang.specs.TypedStreams.{others_from, columns_at, keys_checked, arguments_of, next_stream, made_stream, with_stream}
 use Rattle.query_lang.specs.TypedFinals.{table_named, table_number, five_fields, quiet_fold, same_names, key_columns, other_columns}
 use Rattle.query_lang.specs.TypedFinals.{made_final, with_final}
-use Rattle.query_types.proofs.ExprLaws.{from_ok, found_first, must_ok}
-use Rattle.query_types.proofs.BodyLaws.{must_not_ok}
+use Rattle.query_types.proofs.{ExprLaws.{from_ok, found_first, must_ok}, BodyLaws.must_not_ok}
 use Rattle.query_lang.specs.declared.query.FinalOp.TheVariants as final_ops
 use Rattle.query_lang.specs.declared.query.Item.TheVariants as item
 use Rattle.query_lang.specs.declared.query.StreamOp.TheVariants as ops

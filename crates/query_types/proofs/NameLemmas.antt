@@ -1,6 +1,6 @@
 -- How many names there are with one added.
 use Rattle.std.proofs.Common.{◌≡◌, ℕ, ◌+◌, ◌≤◌, Bool, true, false, cond, List, [], ◌∷◌, ◌++◌, length, ap, arith}
-use Rattle.std.{specs.Str.bytes_eq, specs.List.list_any, proofs.lemmas.List.length-append}
+use Rattle.std.{proofs.lemmas.List.length-append, specs.{Str.bytes_eq, List.list_any}}
 use Rattle.query_lang.specs.Names.{with_name}
 
 pub one_more : (names : List (List ℕ)) (text : List ℕ) → length (with_name names text) ≤ length names + 1

@@ -1,14 +1,11 @@
 -- What a name stands for, with which each number fits its type.
 use Rattle.std.proofs.Common.{◌≡◌, ℕ, Bool, true, false, cond, List, [], ◌∷◌, Option, Some, Ok, nat_eq, subst}
-use Rattle.std.specs.{Prelude.IfSome, List.All}
-use Rattle.std.proofs.lemmas.List.Elements.{All-head, All-tail}
-use Rattle.query_lang.specs.declared.{query.Name.Name, typing.Earlier.Earlier, typing.FoldView.FoldView, typing.Known.Known}
-use Rattle.query_lang.specs.declared.{typing.Meaning.Meaning, typing.StreamView.StreamView, typing.TableView.TableView}
-use Rattle.query_lang.specs.TypedStreams.{meaning_of, stream_named, fold_named, column_names}
-use Rattle.query_lang.specs.TypedFinals.{table_named}
+use Rattle.std.{proofs.lemmas.List.Elements.{All-head, All-tail}, specs.{Prelude.IfSome, List.All}}
+use Rattle.query_lang.specs.declared.{query.Name.Name, typing.{Earlier.Earlier, FoldView.FoldView, Known.Known, Meaning.Meaning}}
+use Rattle.query_lang.specs.declared.typing.{StreamView.StreamView, TableView.TableView}
+use Rattle.query_lang.specs.{TypedStreams.{meaning_of, stream_named, fold_named, column_names}, TypedFinals.table_named}
 use Rattle.query_types.specs.Fitting.{AreApart, IsEarly, IsNarrow, FitsTable, FitsStream, FitsMeaning, FitsKnown, Fits}
-use Rattle.query_types.proofs.ApartLaws.{apart_within}
-use Rattle.query_types.proofs.ViewLaws.{IsTableOf, stream_meaning, fold_meaning, table_meaning}
+use Rattle.query_types.proofs.{ApartLaws.apart_within, ViewLaws.{IsTableOf, stream_meaning, fold_meaning, table_meaning}}
 use Rattle.query_lang.specs.declared.typing.Meaning.TheVariants as meaning
 
 -- ---- what a name stands for

@@ -1,25 +1,19 @@
 -- What the check of a query gives is valid.
 use Rattle.std.proofs.Common.{◌≡◌, ℕ, ◌+◌, ◌<◌, ◌^◌, cond, List, [], ◌∷◌, ◌++◌, length, map, count_by, Some, Ok, refl, ap, ◌∙◌, arith}
-use Rattle.std.specs.{Prelude.is_some, Prelude.slice_get, List.All}
-use Rattle.std.proofs.lemmas.{Option.slice_get_within, List.length-append, List.length-map, List.Sums.sum_by-cons}
-use Rattle.std.proofs.lemmas.List.Elements.{All-push, All-head, All-tail}
-use Rattle.query_lang.specs.declared.{fold.TypedFold.TypedFold, query.Item.Item, query.Name.Name, query.StreamOp.StreamOp}
-use Rattle.query_lang.specs.declared.{typed.PrintOf.PrintOf, typed.TypedFinal.TypedFinal, typed.TypedStream.TypedStream}
-use Rattle.query_lang.specs.declared.{typing.Earlier.Earlier, typing.FoldView.FoldView, typing.Given.Given, typing.MadeFinal.MadeFinal}
-use Rattle.query_lang.specs.declared.{typing.MadeStream.MadeStream, typing.StreamView.StreamView, typing.TableView.TableView}
-use Rattle.query_lang.specs.Limits.{HasKeys, KeepsLimits, IsNumbered}
-use Rattle.query_lang.specs.{Streams.takings, TypedFinals.five_fields, TypedFinals.with_final}
-use Rattle.query_lang.specs.TypedStreams.{begun, column_names, next_stream, with_stream}
+use Rattle.std.proofs.lemmas.{Option.slice_get_within, List.{length-append, length-map, Sums.sum_by-cons}}
+use Rattle.std.{proofs.lemmas.List.Elements.{All-push, All-head, All-tail}, specs.{Prelude.{is_some, slice_get}, List.All}}
+use Rattle.query_lang.specs.declared.{fold.TypedFold.TypedFold, query.{Item.Item, Name.Name, StreamOp.StreamOp}, typed.PrintOf.PrintOf}
+use Rattle.query_lang.specs.declared.{typed.{TypedFinal.TypedFinal, TypedStream.TypedStream}, typing.{Earlier.Earlier, FoldView.FoldView}}
+use Rattle.query_lang.specs.declared.typing.{Given.Given, MadeFinal.MadeFinal, MadeStream.MadeStream, StreamView.StreamView}
+use Rattle.query_lang.specs.{declared.typing.TableView.TableView, Limits.{HasKeys, KeepsLimits, IsNumbered}, Streams.takings}
+use Rattle.query_lang.specs.{TypedFinals.{five_fields, with_final}, TypedStreams.{begun, column_names, next_stream, with_stream}}
 use Rattle.query_lang.specs.TypedQueries.{HasNames, shapes, group_shape, final_shape}
 use Rattle.query_lang.specs.Typing.{with_fold, items_checked, is_group, is_groupby}
-use Rattle.query_types.specs.Numbers.{greatest_of, item_number}
-use Rattle.query_types.proofs.ExprLaws.{from_ok, same_ok, found_first}
+use Rattle.query_types.{specs.Numbers.{greatest_of, item_number}, proofs.ExprLaws.{from_ok, same_ok, found_first}}
 use Rattle.query_types.proofs.ItemLaws.{Standing, item_stands, fold_named_well}
 use Rattle.query_types.proofs.ViewLaws.{Whole, IsTable, IsFold, IsStream, known_more, table_shape, table_known, get_next}
-use Rattle.query_types.proofs.MadeLaws.{IsPart, IsMade, made_valid}
-use Rattle.query_types.proofs.FinalLaws.{IsMadeFinal, final_valid}
-use Rattle.query_types.proofs.WholeLaws.{IsPrinted, Sound, streams_push, finals_push, get_map, past, item_part, items_part, made_table}
-use Rattle.query_types.proofs.WholeLaws.{next_width}
+use Rattle.query_types.proofs.{MadeLaws.{IsPart, IsMade, made_valid}, FinalLaws.{IsMadeFinal, final_valid}, WholeLaws.{IsPrinted, Sound}}
+use Rattle.query_types.proofs.WholeLaws.{streams_push, finals_push, get_map, past, item_part, items_part, made_table, next_width}
 use Rattle.query_types.proofs.Makings.{StreamMade, filters, maps, zips, groups, ItemMade, fold_item, stream_item, final_item, print_item}
 use Rattle.query_types.proofs.Makings.{item_made}
 use Rattle.query_lang.specs.declared.typed.PrintOf.TheVariants as place

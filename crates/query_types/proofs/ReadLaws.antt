@@ -1,13 +1,11 @@
 -- An expression with no state variable in it reads arguments alone.
 use Rattle.std.proofs.Common.{◌≡◌, ℕ, ◌+◌, ◌≤◌, Bool, true, false, ◌||◌, cond, List, [], ◌∷◌, ◌++◌, length, map, Option, Some, None, Ok}
 use Rattle.std.proofs.Common.{Err, nat_eq, refl, sym, ap, subst, ◌∙◌, append_assoc, append-nil, arith}
-use Rattle.query_lang.specs.declared.fault.FaultKind.TheVariants.{WrongKind, BadConstant}
-use Rattle.query_lang.specs.{declared.fault.Span.Span, declared.fold.Op.Op, declared.query.Name.Name, declared.typing.Found.Found}
-use Rattle.query_lang.specs.{Terms.term_of, Folds.ReadsArguments, declared.fold.TypedExpr.TypedExpr}
+use Rattle.query_lang.specs.declared.{fault.{FaultKind.TheVariants.{WrongKind, BadConstant}, Span.Span}, fold.Op.Op, query.Name.Name}
+use Rattle.query_lang.specs.{declared.{typing.Found.Found, fold.TypedExpr.TypedExpr}, Terms.term_of, Folds.ReadsArguments}
 use Rattle.query_lang.specs.declared.query.Expr.{Expr, fold-roll-Expr, ind-Expr, roll-Expr, map-Expr}
-use Rattle.query_lang.specs.Checks.{Checked, collected, is_among, place_from, place_of}
-use Rattle.query_lang.specs.TypedExprs.{is_operand, is_right_constant, is_condition_sort, slot_at, slot_of, of_two, call_of, expr_step}
-use Rattle.query_lang.specs.TypedExprs.{expr_checked, condition_of}
+use Rattle.query_lang.specs.{Checks.{Checked, collected, is_among, place_from, place_of}, TypedExprs.{is_operand, is_right_constant}}
+use Rattle.query_lang.specs.TypedExprs.{is_condition_sort, slot_at, slot_of, of_two, call_of, expr_step, expr_checked, condition_of}
 use Rattle.query_lang.specs.TypedFolds.{or_else, first_of, state_step, state_in}
 use Rattle.query_lang.proofs.TreeLemmas.{term_number, term_slot, term_not, term_binary}
 use Rattle.query_types.proofs.ExprLaws.{from_ok, must_ok, same_ok, found_first}

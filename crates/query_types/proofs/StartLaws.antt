@@ -1,17 +1,14 @@
 -- What a query begins with, and what a readable query gives.
 use Rattle.std.proofs.Common.{◌≡◌, ℕ, ◌+◌, ◌<◌, ◌≤◌, Bool, true, false, not, ◌||◌, cond, nat_eq, List, [], ◌∷◌, length, map, min, count_by}
-use Rattle.std.proofs.Common.{None, refl, sym, ap, ◌∙◌, codes, arith}
-use Rattle.std.specs.{List.All, List.list_any, Str.bytes_eq}
-use Rattle.std.proofs.lemmas.{Bool.eqb-true, Slice.Eq.bytes_eq-Decides}
-use Rattle.std.proofs.lemmas.List.Elements.{All-nil, All-cons, All-head, All-tail}
-use Rattle.marple_base.specs.{declared.field.Field.Field, Field.all_fields, Field.field_name}
-use Rattle.query_lang.specs.{declared.query.Item.Item, declared.query.Query.Query, declared.typing.Earlier.Earlier}
-use Rattle.query_lang.specs.{declared.typing.Given.Given, declared.typing.Known.Known, declared.typing.StreamColumn.StreamColumn}
-use Rattle.query_lang.specs.{Limits.IsReadable, Names.number_in, Names.with_name, Checks.is_among, declared.fault.TheConstants.MAX_GROUPBYS}
+use Rattle.std.proofs.{Common.{None, refl, sym, ap, ◌∙◌, codes, arith}, lemmas.{Bool.eqb-true, Slice.Eq.bytes_eq-Decides}}
+use Rattle.std.{proofs.lemmas.List.Elements.{All-nil, All-cons, All-head, All-tail}, specs.{List.{All, list_any}, Str.bytes_eq}}
+use Rattle.marple_base.specs.{declared.field.Field.Field, Field.{all_fields, field_name}}
+use Rattle.query_lang.specs.declared.{query.{Item.Item, Query.Query}, typing.{Earlier.Earlier, Given.Given, Known.Known}}
+use Rattle.query_lang.specs.{declared.typing.StreamColumn.StreamColumn, Limits.IsReadable, Names.{number_in, with_name}, Checks.is_among}
+use Rattle.query_lang.specs.declared.fault.TheConstants.{MAX_GROUPBYS}
 use Rattle.query_lang.specs.Typing.{field_numbers, given_of, is_groupby, start_of, typed_names, with_fields}
 use Rattle.query_types.specs.Fitting.{AreApart, AreDifferent, AreReady, Fits, FitsKnown}
-use Rattle.query_types.proofs.ApartLaws.{both_false, or_false, apart_none, apart_push}
-use Rattle.query_types.proofs.{MadeLaws.names_of_made, NameLemmas.one_more}
+use Rattle.query_types.proofs.{ApartLaws.{both_false, or_false, apart_none, apart_push}, MadeLaws.names_of_made, NameLemmas.one_more}
 use Rattle.query_types.proofs.ValidLaws.{IsAmong, among_fields, among_self, item_more, numbers_known}
 use Rattle.query_lang.specs.declared.typing.Meaning.TheVariants as meaning
 use Rattle.query_lang.specs.declared.typing.Origin.TheVariants as origin

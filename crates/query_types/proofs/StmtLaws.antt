@@ -1,20 +1,18 @@
 -- What the check of a fold gives is valid.
 use Rattle.std.proofs.Common.{◌≡◌, ℕ, ◌+◌, ◌<◌, ◌≤◌, ◌^◌, List, [], ◌∷◌, ◌++◌, length, map, sum, sum_by, None, Ok, refl, sym, ap, subst}
-use Rattle.std.proofs.Common.{◌∙◌, arith}
-use Rattle.std.proofs.lemmas.{Bool.ltb-true, List.length-append, List.length-map, List.Sums.sum-map, List.Sums.sum_by-cons}
-use Rattle.query_lang.specs.declared.{fold.TypedExpr.TypedExpr, fold.TypedFold.TypedFold, query.FoldDef.FoldDef, query.Name.Name}
-use Rattle.query_lang.specs.declared.{query.StateVar.StateVar, query.Expr.Expr, typing.Body.Body, typing.Enclosing.Enclosing}
-use Rattle.query_lang.specs.declared.query.Stmt.{Stmt, fold-roll-Stmt, ind-Stmt, roll-Stmt, map-Stmt}
-use Rattle.query_lang.specs.{Terms.term_of, Blocks.End, Folds.IsValidFold, Folds.ReadsArguments}
-use Rattle.query_lang.specs.TypedFolds.{states_from, args_from, state_in, inside, Adding, in_order, stmt_step, stmt_checked, expr_nodes}
-use Rattle.query_lang.specs.TypedFolds.{stmt_nodes_step, stmt_nodes, count_step, stmt_count, body_checked, fold_nodes, fold_statements}
-use Rattle.query_lang.proofs.TreeLemmas.{term_not}
-use Rattle.query_lang.specs.declared.fault.TheConstants.{MAX_ARGS, MAX_NODES, MAX_STATEMENTS, MAX_STATES}
+use Rattle.std.proofs.{Common.{◌∙◌, arith}, lemmas.{Bool.ltb-true, List.{length-append, length-map, Sums.{sum-map, sum_by-cons}}}}
+use Rattle.query_lang.specs.declared.{fold.{TypedExpr.TypedExpr, TypedFold.TypedFold}, query.{FoldDef.FoldDef, Name.Name}}
+use Rattle.query_lang.specs.declared.{query.{StateVar.StateVar, Expr.Expr}, typing.{Body.Body, Enclosing.Enclosing}}
+use Rattle.query_lang.specs.{declared.query.Stmt.{Stmt, fold-roll-Stmt, ind-Stmt, roll-Stmt, map-Stmt}, Terms.term_of, Blocks.End}
+use Rattle.query_lang.specs.{Folds.{IsValidFold, ReadsArguments}, TypedFolds.{states_from, args_from, state_in, inside, Adding, in_order}}
+use Rattle.query_lang.specs.TypedFolds.{stmt_step, stmt_checked, expr_nodes, stmt_nodes_step, stmt_nodes, count_step, stmt_count}
+use Rattle.query_lang.specs.TypedFolds.{body_checked, fold_nodes, fold_statements}
+use Rattle.query_lang.{specs.declared.fault.TheConstants.{MAX_ARGS, MAX_NODES, MAX_STATEMENTS, MAX_STATES}, proofs.TreeLemmas.term_not}
 use Rattle.query_types.specs.Numbers.{greatest_of, stmt_number_step, greatest_in}
 use Rattle.query_types.proofs.ExprLaws.{from_ok, same_ok, found_first, must_ok, IsConditionIn, IsWordIn, condition_valid, word_valid}
-use Rattle.query_types.proofs.{ReadLaws.condition_past, Makings.FoldMade, Makings.folded}
-use Rattle.query_types.proofs.BodyLaws.{wider, must_not_ok, IsBlockIn, IsBody, IsAround, target_bound, added, assign_block, if_block}
-use Rattle.query_types.proofs.BodyLaws.{inside_valid, not_in, emit_valid, no_state_ok}
+use Rattle.query_types.proofs.{ReadLaws.condition_past, Makings.{FoldMade, folded}, BodyLaws.{wider, must_not_ok, IsBlockIn, IsBody}}
+use Rattle.query_types.proofs.BodyLaws.{IsAround, target_bound, added, assign_block, if_block, inside_valid, not_in, emit_valid}
+use Rattle.query_types.proofs.BodyLaws.{no_state_ok}
 use Rattle.query_lang.specs.declared.fold.TypedExpr.TheVariants as typed
 use Rattle.query_lang.specs.declared.query.Stmt.TheOpen as stmt
 

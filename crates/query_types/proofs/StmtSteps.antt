@@ -1,13 +1,12 @@
 -- The statements of a block in sequence, and the two blocks of a choice.
 use Rattle.std.proofs.Common.{◌≡◌, ℕ, ◌+◌, ◌<◌, List, [], ◌∷◌, ◌++◌, length, get_or, drop, map, Ok, Err, refl, sym, ap, ◌∙◌, arith}
 use Rattle.std.proofs.lemmas.List.{drop_more}
-use Rattle.query_lang.specs.declared.{fault.Span.Span, fold.TypedExpr.TypedExpr, fold.TypedStmt.TypedStmt, query.Name.Name, query.Expr.Expr}
-use Rattle.query_lang.specs.declared.{typing.Body.Body, typing.Enclosing.Enclosing}
+use Rattle.query_lang.specs.declared.{fault.Span.Span, fold.{TypedExpr.TypedExpr, TypedStmt.TypedStmt}, query.{Name.Name, Expr.Expr}}
+use Rattle.query_lang.specs.declared.typing.{Body.Body, Enclosing.Enclosing}
 use Rattle.query_lang.specs.declared.query.Stmt.{Stmt, Assign, If, Emit, fold-roll-Stmt, roll-Stmt, map-Stmt}
-use Rattle.query_lang.specs.declared.query.Stmt.TheVariants.{rolls-Assign, rolls-If, rolls-Emit}
-use Rattle.query_lang.specs.{Checks.Checked, Checks.and_then, TypedExprs.condition_of}
-use Rattle.query_lang.specs.TypedFolds.{Adding, inside, emitted, in_order, new_block, stmt_step, stmt_checked}
-use Rattle.query_types.specs.{Bodies.choice_of, Bodies.assigned, declared.bodies.Choice.Choice}
+use Rattle.query_lang.specs.{declared.query.Stmt.TheVariants.{rolls-Assign, rolls-If, rolls-Emit}, Checks.{Checked, and_then}}
+use Rattle.query_lang.specs.{TypedExprs.condition_of, TypedFolds.{Adding, inside, emitted, in_order, new_block, stmt_step, stmt_checked}}
+use Rattle.query_types.specs.{Bodies.{choice_of, assigned}, declared.bodies.Choice.Choice}
 use Rattle.query_types.specs.Numbers.{greatest_of, greatest_number, stmt_number_step, greatest_in}
 use Rattle.query_lang.specs.declared.fold.TypedExpr.TheVariants as typed
 use Rattle.query_lang.specs.declared.fold.TypedStmt.TheVariants as typed_stmt

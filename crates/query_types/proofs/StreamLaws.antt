@@ -1,23 +1,19 @@
 -- What the operators of streams make is valid.
 use Rattle.std.proofs.Common.{◌≡◌, ℕ, zero, suc, ◌+◌, ◌<◌, ◌≤◌, ◌^◌, Bool, true, false, ◌||◌, cond, List, [], ◌∷◌, ◌++◌, length, map}
 use Rattle.std.proofs.Common.{flat_map, Option, Some, None, Ok, Err, nat_eq, sum_by, refl, sym, ap, subst, ◌∙◌, arith}
-use Rattle.std.specs.Prelude.{slice_get, option_map, unwrap_or}
-use Rattle.std.specs.List.{All}
-use Rattle.std.proofs.lemmas.{Bool.ltb-true, Bool.eqb-true, Option.slice_get_within, List.length-append, List.length-map}
-use Rattle.std.proofs.lemmas.{List.Sums.sum_by-cons, List.Sums.sum_by_push}
-use Rattle.std.proofs.lemmas.List.Elements.{All-nil, All-cons, All-push, All-head, All-tail}
-use Rattle.query_lang.specs.declared.{fault.Span.Span, fault.FaultKind.TheVariants.NameTaken, fold.TypedExpr.TypedExpr, query.Column.Column}
-use Rattle.query_lang.specs.declared.{query.Key.Key, query.Key.TheVariants.Named, query.Key.TheVariants.FiveTuple, query.Name.Name}
-use Rattle.query_lang.specs.declared.{typing.FoldView.FoldView, typing.NewColumns.NewColumns, typing.Picked.Picked}
-use Rattle.query_lang.specs.declared.{typing.StreamColumn.StreamColumn, fault.TheConstants.MAX_KEYS, fault.TheConstants.MAX_NODES}
-use Rattle.query_lang.specs.{Terms.term_of, Limits.columns_nodes, Limits.AreNumbered, TypedFolds.expr_nodes}
-use Rattle.query_lang.specs.Folds.{term_nodes, fold_args, fold_states}
-use Rattle.query_lang.specs.Checks.{Checked, collected, is_among, place_from, place_of}
-use Rattle.query_lang.specs.TypedExprs.{word_of, slot_at, slot_of}
+use Rattle.std.proofs.lemmas.{Bool.{ltb-true, eqb-true}, Option.slice_get_within, List.{length-append, length-map}}
+use Rattle.std.proofs.lemmas.List.{Sums.{sum_by-cons, sum_by_push}, Elements.{All-nil, All-cons, All-push, All-head, All-tail}}
+use Rattle.std.specs.{Prelude.{slice_get, option_map, unwrap_or}, List.All}
+use Rattle.query_lang.specs.declared.{fault.{Span.Span, FaultKind.TheVariants.NameTaken}, fold.TypedExpr.TypedExpr, query.Column.Column}
+use Rattle.query_lang.specs.declared.{query.{Key.{Key, TheVariants.{Named, FiveTuple}}, Name.Name}, typing.FoldView.FoldView}
+use Rattle.query_lang.specs.declared.typing.{NewColumns.NewColumns, Picked.Picked, StreamColumn.StreamColumn}
+use Rattle.query_lang.specs.{declared.fault.TheConstants.{MAX_KEYS, MAX_NODES}, Terms.term_of, Limits.{columns_nodes, AreNumbered}}
+use Rattle.query_lang.specs.{TypedFolds.expr_nodes, Folds.{term_nodes, fold_args, fold_states}}
+use Rattle.query_lang.specs.{Checks.{Checked, collected, is_among, place_from, place_of}, TypedExprs.{word_of, slot_at, slot_of}}
 use Rattle.query_lang.specs.TypedStreams.{column_names, new_columns, no_new_columns, others_from, columns_at, key_names, keys_from}
 use Rattle.query_lang.specs.TypedStreams.{keys_checked, arguments_of}
 use Rattle.query_lang.specs.TypedQueries.{AreNames, AreSlots, IsValidWord, IsValidCondition, IsValidGroup, Shape, group_shape}
-use Rattle.query_types.{specs.Numbers.columns_number, proofs.BodyLaws.must_not_ok, proofs.ViewLaws.Whole, proofs.ViewLaws.IsFold}
+use Rattle.query_types.{specs.Numbers.columns_number, proofs.{BodyLaws.must_not_ok, ViewLaws.{Whole, IsFold}}}
 use Rattle.query_types.proofs.ExprLaws.{from_ok, same_ok, found_first, must_ok, slot_bound, IsConditionIn, word_valid}
 
 abbrev pub IsSlot : ℕ → ℕ → Type 0

@@ -2,14 +2,12 @@
 use Rattle.std.proofs.Common.{◌≡◌, ℕ, List, [], ◌∷◌, Option, Some, None, refl, ap, ◌∙◌}
 use Rattle.std.specs.Prelude.{filter, filter_map, map, fold, ◌++◌, slice_get}
 use Rattle.epoch_model.specs.Epochs.{Use}
-use Rattle.query_lang.specs.{declared.fold.TypedExpr.TypedExpr, declared.fold.TypedFold.TypedFold, declared.typed.TypedOp.TypedOp}
-use Rattle.query_lang.specs.{declared.typed.TypedQuery.TypedQuery, declared.typed.TypedStream.TypedStream, Words.holds, Words.op_value}
-use Rattle.query_lang.specs.{Terms.Term, Folds.term_value}
+use Rattle.query_lang.specs.declared.{fold.{TypedExpr.TypedExpr, TypedFold.TypedFold}, typed.{TypedOp.TypedOp, TypedQuery.TypedQuery}}
+use Rattle.query_lang.specs.{declared.typed.TypedStream.TypedStream, Words.{holds, op_value}, Terms.Term, Folds.term_value}
 use Rattle.query_lang.specs.declared.typed.TypedOp.TheVariants.{Filter, Map, Zip, Group}
 use Rattle.query_lang.specs.Streams.{Tuple, Taking, numbered, values_at, holds_at, made_of, tuples_at, taking_of}
 use Rattle.query_lang.specs.StreamExamples.{three_packets, tuple, HasParts}
-use Rattle.query_types.specs.Uses.{use_of, taken_by, uses}
-use Rattle.query_types.specs.UseExamples.{use_at, FilteredUses, MappedUses, ZippedUses, FedUses}
+use Rattle.query_types.specs.{Uses.{use_of, taken_by, uses}, UseExamples.{use_at, FilteredUses, MappedUses, ZippedUses, FedUses}}
 
 abbrev taken : List (List Tuple) → Option Taking → List Use
 taken streams None = []

@@ -1,23 +1,19 @@
 -- The typed query of a readable query is valid.
 use Rattle.std.proofs.Common.{◌≡◌, ℕ, ◌+◌, ◌<◌, ◌≤◌, ◌^◌, Bool, true, false, ◌||◌, cond, List, [], ◌∷◌, ◌++◌, length, map, min, count_by}
-use Rattle.std.proofs.Common.{◌∙◌, nat_lt, Ok, Err, Result, IfOk, not, refl, sym, ap, subst, append-nil, arith}
-use Rattle.std.specs.{List.All, List.list_any, Str.bytes_eq}
-use Rattle.std.proofs.lemmas.{List.length-append, List.Folds.list_any-append, Slice.Eq.bytes_eq-Decides}
-use Rattle.std.proofs.lemmas.List.Elements.{All-nil, All-cons, All-map}
-use Rattle.marple_base.specs.{declared.field.Field.Field, Field.all_fields, Field.field_name}
-use Rattle.query_lang.specs.{declared.error.QueryError.QueryError, declared.fault.FaultKind.TheVariants.NothingPrinted}
-use Rattle.query_lang.specs.{declared.query.FinalOp.FinalOp, declared.query.Item.Item, declared.query.Query.Query}
-use Rattle.query_lang.specs.{declared.query.StreamOp.StreamOp, declared.typed.PrintOf.PrintOf, declared.typed.TypedQuery.TypedQuery}
-use Rattle.query_lang.specs.{declared.typing.StreamColumn.StreamColumn, Answers.Answers, Folds.IsValidFold, Names.number_in}
-use Rattle.query_lang.specs.{Names.with_name, Streams.takings, TypedStreams.column_names, declared.fault.TheConstants.MAX_GROUPBYS}
+use Rattle.std.proofs.{Common.{◌∙◌, nat_lt, Ok, Err, Result, IfOk, not, refl, sym, ap, subst, append-nil, arith}, lemmas.List.length-append}
+use Rattle.std.proofs.lemmas.{List.{Folds.list_any-append, Elements.{All-nil, All-cons, All-map}}, Slice.Eq.bytes_eq-Decides}
+use Rattle.std.specs.{List.{All, list_any}, Str.bytes_eq}
+use Rattle.marple_base.specs.{declared.field.Field.Field, Field.{all_fields, field_name}}
+use Rattle.query_lang.specs.declared.{error.QueryError.QueryError, fault.FaultKind.TheVariants.NothingPrinted, query.FinalOp.FinalOp}
+use Rattle.query_lang.specs.declared.{query.{Item.Item, Query.Query, StreamOp.StreamOp}, typed.{PrintOf.PrintOf, TypedQuery.TypedQuery}}
+use Rattle.query_lang.specs.{declared.typing.StreamColumn.StreamColumn, Answers.Answers, Folds.IsValidFold, Names.{number_in, with_name}}
+use Rattle.query_lang.specs.{Streams.takings, TypedStreams.column_names, declared.fault.TheConstants.MAX_GROUPBYS}
 use Rattle.query_lang.specs.Limits.{IsNumbered, IsNumberedStream, IsNumberedFinal, IsReadable}
 use Rattle.query_lang.specs.TypedQueries.{AreNames, HasNames, IsQueryTable, IsValidQuery}
 use Rattle.query_lang.specs.Typing.{items_checked, with_fields, typed_names, field_numbers, is_groupby, given_of, start_of, checked}
-use Rattle.query_types.specs.Numbers.{greatest_of, item_number}
-use Rattle.query_types.proofs.ExprLaws.{from_ok, same_ok, found_first, must_ok}
-use Rattle.query_types.proofs.{ItemLaws.Standing, ItemLaws.items_stand, ViewLaws.Whole, WholeLaws.IsPrinted, WholeLaws.Sound}
-use Rattle.query_types.proofs.{QueryLaws.items_sound, QueryLaws.items_count}
-use Rattle.query_types.proofs.MadeLaws.{IsPart, IsName, names_of_made}
+use Rattle.query_types.{specs.Numbers.{greatest_of, item_number}, proofs.ExprLaws.{from_ok, same_ok, found_first, must_ok}}
+use Rattle.query_types.proofs.{ItemLaws.{Standing, items_stand}, ViewLaws.Whole, WholeLaws.{IsPrinted, Sound}}
+use Rattle.query_types.proofs.{QueryLaws.{items_sound, items_count}, MadeLaws.{IsPart, IsName, names_of_made}}
 use Rattle.query_lang.specs.declared.query.FinalOp.TheVariants as final_ops
 use Rattle.query_lang.specs.declared.query.Item.TheVariants as item
 use Rattle.query_lang.specs.declared.query.StreamOp.TheVariants as ops

@@ -1,15 +1,13 @@
 -- What the names of a query stand for, where the whole query has these folds, streams and finals.
 use Rattle.std.proofs.Common.{◌≡◌, ℕ, zero, suc, ◌<◌, ◌≤◌, Bool, true, false, cond, List, [], ◌∷◌, ◌++◌, length, map, Option, Some, None}
-use Rattle.std.proofs.Common.{Ok, nat_eq, refl, subst, arith}
-use Rattle.std.specs.Prelude.{is_some, slice_get, IfSome}
-use Rattle.query_lang.specs.declared.{fold.TypedFold.TypedFold, query.Name.Name, typed.PrintOf.PrintOf, typed.TypedFinal.TypedFinal}
-use Rattle.query_lang.specs.declared.{typed.TypedStream.TypedStream, typing.FoldView.FoldView, typing.Known.Known, typing.Meaning.Meaning}
-use Rattle.query_lang.specs.declared.{typing.StreamView.StreamView, typing.TableView.TableView}
-use Rattle.query_lang.specs.Streams.{takings}
+use Rattle.std.{proofs.Common.{Ok, nat_eq, refl, subst, arith}, specs.Prelude.{is_some, slice_get, IfSome}}
+use Rattle.query_lang.specs.declared.{fold.TypedFold.TypedFold, query.Name.Name, typed.{PrintOf.PrintOf, TypedFinal.TypedFinal}}
+use Rattle.query_lang.specs.declared.{typed.TypedStream.TypedStream, typing.{FoldView.FoldView, Known.Known, Meaning.Meaning}}
+use Rattle.query_lang.specs.{declared.typing.{StreamView.StreamView, TableView.TableView}, Streams.takings}
 use Rattle.query_lang.specs.TypedStreams.{meaning_of, as_stream, stream_named, as_fold, fold_named, column_names}
 use Rattle.query_lang.specs.TypedFinals.{table_at, as_table, table_named, quiet_fold}
 use Rattle.query_lang.specs.TypedQueries.{AreNames, Shape, group_shape, final_shape, stream_width}
-use Rattle.query_types.proofs.{ExprLaws.same_ok, ExprLaws.found_first, BodyLaws.must_not_ok}
+use Rattle.query_types.proofs.{ExprLaws.{same_ok, found_first}, BodyLaws.must_not_ok}
 use Rattle.query_lang.specs.declared.typed.PrintOf.TheVariants as place
 use Rattle.query_lang.specs.declared.typing.Meaning.TheVariants as meaning
 

@@ -1,18 +1,14 @@
 -- What holds of the items before some place, in the whole query.
 use Rattle.std.proofs.Common.{sym, subst, ◌≡◌, ℕ, zero, suc, ◌+◌, ◌<◌, List, [], ◌∷◌, ◌++◌, length, map, Option, Some, None, Ok, refl, ap}
-use Rattle.std.proofs.Common.{◌∙◌, append-nil, append_assoc, add-one}
-use Rattle.std.specs.Prelude.{slice_get, unwrap_or, option_map, IfSome}
-use Rattle.std.{specs.List.All, proofs.lemmas.List.Elements.filter_map-append}
-use Rattle.query_lang.specs.declared.{fold.TypedFold.TypedFold, query.Item.Item, query.Name.Name, typed.PrintOf.PrintOf}
-use Rattle.query_lang.specs.declared.{typed.TypedFinal.TypedFinal, typed.TypedStream.TypedStream, typing.Earlier.Earlier}
-use Rattle.query_lang.specs.declared.{typing.Given.Given, typing.MadeFinal.MadeFinal, typing.MadeStream.MadeStream}
-use Rattle.query_lang.specs.declared.{typing.TableView.TableView}
-use Rattle.query_lang.specs.Streams.{Taking, takings, taking_of}
-use Rattle.query_lang.specs.TypedStreams.{begun, column_names, with_stream}
-use Rattle.query_lang.specs.{TypedFinals.with_final, Typing.with_fold, Typing.items_checked}
-use Rattle.query_lang.specs.TypedQueries.{Shape, shapes, group_shape, final_shape, stream_width, IsValidStream, AreValidStreams}
-use Rattle.query_lang.specs.TypedQueries.{IsValidFinal, AreValidFinals}
-use Rattle.query_types.proofs.{ExprLaws.same_ok, ExprLaws.found_first, ItemLaws.Standing, MadeLaws.IsPart, MadeLaws.IsMadeTable}
+use Rattle.std.proofs.{Common.{◌∙◌, append-nil, append_assoc, add-one}, lemmas.List.Elements.filter_map-append}
+use Rattle.std.specs.{Prelude.{slice_get, unwrap_or, option_map, IfSome}, List.All}
+use Rattle.query_lang.specs.declared.{fold.TypedFold.TypedFold, query.{Item.Item, Name.Name}, typed.PrintOf.PrintOf}
+use Rattle.query_lang.specs.declared.{typed.{TypedFinal.TypedFinal, TypedStream.TypedStream}, typing.{Earlier.Earlier, Given.Given}}
+use Rattle.query_lang.specs.declared.typing.{MadeFinal.MadeFinal, MadeStream.MadeStream, TableView.TableView}
+use Rattle.query_lang.specs.{Streams.{Taking, takings, taking_of}, TypedStreams.{begun, column_names, with_stream}, TypedFinals.with_final}
+use Rattle.query_lang.specs.{Typing.{with_fold, items_checked}, TypedQueries.{Shape, shapes, group_shape, final_shape, stream_width}}
+use Rattle.query_lang.specs.TypedQueries.{IsValidStream, AreValidStreams, IsValidFinal, AreValidFinals}
+use Rattle.query_types.proofs.{ExprLaws.{same_ok, found_first}, ItemLaws.Standing, MadeLaws.{IsPart, IsMadeTable}}
 use Rattle.query_types.proofs.ViewLaws.{Whole, IsTable, AreKnown, get_next}
 use Rattle.query_types.proofs.Makings.{ItemMade, fold_item, stream_item, final_item, print_item, item_made}
 use Rattle.query_lang.specs.declared.typed.PrintOf.TheVariants as place

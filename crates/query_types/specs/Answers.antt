@@ -1,9 +1,6 @@
 -- What a check that changes something in place answers, and one that allocates nothing, from what its definition gives.
-use Rattle.std.specs.Prelude.{◌≡◌, Result, Ok, Err}
-use Rattle.std.specs.Borrow.{Bor}
-use Rattle.query_lang.specs.declared.error.QueryError.{QueryError}
-use Rattle.query_lang.specs.declared.error.QueryError.TheVariants.{Refused, Memory}
-use Rattle.query_lang.specs.declared.fault.QueryFault.{QueryFault}
+use Rattle.std.specs.{Prelude.{◌≡◌, Result, Ok, Err}, Borrow.Bor}
+use Rattle.query_lang.specs.declared.{error.QueryError.{QueryError, TheVariants.{Refused, Memory}}, fault.QueryFault.QueryFault}
 use Rattle.query_lang.specs.Checks.{Checked}
 
 -- what a check leaves is what is expected, or memory ran out

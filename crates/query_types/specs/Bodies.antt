@@ -2,17 +2,10 @@
 use Rattle.std.specs.Prelude.{◌≡◌, ◌≤◌, ℕ, List, [], ◌∷◌, ◌++◌, length, map, Ok}
 use Rattle.query_lang.specs.declared.fold.TypedExpr.TheVariants as typed
 use Rattle.query_lang.specs.declared.fold.TypedStmt.TheVariants as typed_stmt
-use Rattle.query_lang.specs.declared.fold.TypedFold.{TypedFold}
-use Rattle.query_lang.specs.declared.query.FoldDef.{FoldDef}
-use Rattle.query_lang.specs.declared.query.Expr.{Expr}
-use Rattle.query_lang.specs.declared.query.Name.{Name}
-use Rattle.query_lang.specs.declared.typing.Body.{Body}
-use Rattle.query_lang.specs.declared.typing.Enclosing.{Enclosing}
-use Rattle.query_lang.specs.Checks.{Checked, and_then}
-use Rattle.query_lang.specs.TypedExprs.{condition_of, word_of}
+use Rattle.query_lang.specs.declared.{fold.TypedFold.TypedFold, query.{FoldDef.FoldDef, Expr.Expr, Name.Name}, typing.Body.Body}
+use Rattle.query_lang.specs.{declared.typing.Enclosing.Enclosing, Checks.{Checked, and_then}, TypedExprs.{condition_of, word_of}}
 use Rattle.query_lang.specs.TypedFolds.{target_of, inside, fold_nodes, fold_statements}
-use Rattle.query_types.specs.declared.bodies.Choice.{Choice}
-use Rattle.query_types.specs.declared.bodies.Scope.{Scope}
+use Rattle.query_types.specs.declared.bodies.{Choice.Choice, Scope.Scope}
 
 -- the columns are the state variables and then the arguments, and each has a slot
 pub record IsScope (scope : Scope) : Type 0 where

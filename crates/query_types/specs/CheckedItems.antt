@@ -1,9 +1,6 @@
 -- The check of items whose names are known.
 use Rattle.std.specs.Prelude.{ℕ, List}
-use Rattle.query_lang.specs.declared.fault.Span.{Span}
-use Rattle.query_lang.specs.declared.query.Item.{Item}
-use Rattle.query_lang.specs.declared.typed.TypedQuery.{TypedQuery}
-use Rattle.query_lang.specs.Checks.{Checked, and_then}
+use Rattle.query_lang.specs.{declared.{fault.Span.Span, query.Item.Item, typed.TypedQuery.TypedQuery}, Checks.{Checked, and_then}}
 use Rattle.query_lang.specs.Typing.{given_of, start_of, items_checked, ended}
 
 -- the typed query of these items, whose names are these and those of all fields

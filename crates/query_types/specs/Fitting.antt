@@ -1,19 +1,11 @@
 -- What holds of the items before some place, with which each number of a column, a stream, a table or a fold fits its type.
 use Rattle.std.specs.Prelude.{◌≡◌, ℕ, ◌+◌, ◌<◌, ◌≤◌, ◌^◌, false, List, [], ◌∷◌, length, map, All, IfSome}
-use Rattle.query_lang.specs.declared.query.Item.{Item}
-use Rattle.query_lang.specs.declared.typed.PrintOf.{PrintOf}
+use Rattle.query_lang.specs.declared.{query.Item.Item, typed.PrintOf.PrintOf}
 use Rattle.query_lang.specs.declared.typed.PrintOf.TheVariants as place
-use Rattle.query_lang.specs.declared.typing.Earlier.{Earlier}
-use Rattle.query_lang.specs.declared.typing.Known.{Known}
-use Rattle.query_lang.specs.declared.typing.Meaning.{Meaning}
+use Rattle.query_lang.specs.declared.typing.{Earlier.Earlier, Known.Known, Meaning.Meaning}
 use Rattle.query_lang.specs.declared.typing.Meaning.TheVariants as meaning
-use Rattle.query_lang.specs.declared.typing.StreamView.{StreamView}
-use Rattle.query_lang.specs.declared.typing.TableView.{TableView}
-use Rattle.query_lang.specs.Checks.{is_among}
-use Rattle.query_lang.specs.Limits.{KeepsLimits, IsNumbered}
-use Rattle.query_lang.specs.TypedStreams.{column_names}
-use Rattle.query_lang.specs.Typing.{start_of}
-use Rattle.query_lang.specs.TypedQueries.{AreNames}
+use Rattle.query_lang.specs.{declared.typing.{StreamView.StreamView, TableView.TableView}, Checks.is_among}
+use Rattle.query_lang.specs.{Limits.{KeepsLimits, IsNumbered}, TypedStreams.column_names, Typing.start_of, TypedQueries.AreNames}
 use Rattle.query_lang.specs.declared.fault.TheConstants.{MAX_BINDINGS}
 
 abbrev pub AreDifferent : List ℕ → Type 0

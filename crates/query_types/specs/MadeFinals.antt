@@ -1,12 +1,8 @@
 -- What the operators of finals make of inputs that were looked up, where the query has that many groupbys.
 use Rattle.std.specs.Prelude.{ℕ, List, ◌++◌, length}
 use Rattle.query_lang.specs.declared.typed.TypedFinalOp.TheVariants as typed
-use Rattle.query_lang.specs.declared.typing.FoldView.{FoldView}
-use Rattle.query_lang.specs.declared.typing.MadeFinal.{MadeFinal}
-use Rattle.query_lang.specs.declared.typing.NewColumns.{NewColumns}
-use Rattle.query_lang.specs.declared.typing.Picked.{Picked}
-use Rattle.query_lang.specs.declared.typing.TableView.{TableView}
-use Rattle.query_lang.specs.TypedFinals.{table_number, other_columns}
+use Rattle.query_lang.specs.declared.typing.{FoldView.FoldView, MadeFinal.MadeFinal, NewColumns.NewColumns, Picked.Picked}
+use Rattle.query_lang.specs.{declared.typing.TableView.TableView, TypedFinals.{table_number, other_columns}}
 
 -- a `map`
 abbrev pub with_values : ℕ → TableView → NewColumns → MadeFinal

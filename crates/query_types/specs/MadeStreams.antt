@@ -1,21 +1,13 @@
 -- What the operators of streams make of inputs that were looked up.
 use Rattle.std.specs.Prelude.{ℕ, List, [], ◌∷◌, ◌++◌, length, map, Some, None, Ok, nat_lt, ◌||◌}
-use Rattle.query_lang.specs.declared.fault.FaultKind.TheVariants.{NameTaken, OverLimit}
-use Rattle.query_lang.specs.declared.fault.Limit.TheVariants.{Keys}
-use Rattle.query_lang.specs.declared.fault.TheConstants.{MAX_KEYS}
-use Rattle.query_lang.specs.declared.query.Column.{Column}
-use Rattle.query_lang.specs.declared.query.Name.{Name}
+use Rattle.query_lang.specs.declared.fault.{FaultKind.TheVariants.{NameTaken, OverLimit}, Limit.TheVariants.Keys, TheConstants.MAX_KEYS}
+use Rattle.query_lang.specs.declared.query.{Column.Column, Name.Name}
 use Rattle.query_lang.specs.declared.typed.PrintOf.TheVariants as place
 use Rattle.query_lang.specs.declared.typed.TypedOp.TheVariants as typed
-use Rattle.query_lang.specs.declared.typing.FoldView.{FoldView}
-use Rattle.query_lang.specs.declared.typing.MadeStream.{MadeStream}
-use Rattle.query_lang.specs.declared.typing.NewColumns.{NewColumns}
+use Rattle.query_lang.specs.declared.typing.{FoldView.FoldView, MadeStream.MadeStream, NewColumns.NewColumns}
 use Rattle.query_lang.specs.declared.typing.Origin.TheVariants as origin
-use Rattle.query_lang.specs.declared.typing.Picked.{Picked}
-use Rattle.query_lang.specs.declared.typing.StreamView.{StreamView}
-use Rattle.query_lang.specs.Checks.{Checked, and_then, must, must_not, is_among}
-use Rattle.query_lang.specs.TypedExprs.{word_of}
-use Rattle.query_lang.specs.TypedStreams.{columns_at}
+use Rattle.query_lang.specs.{declared.typing.{Picked.Picked, StreamView.StreamView}, Checks.{Checked, and_then, must, must_not, is_among}}
+use Rattle.query_lang.specs.{TypedExprs.word_of, TypedStreams.columns_at}
 
 -- one more column of a `map`, whose name is new
 abbrev pub column_added : List ℕ → List ℕ → NewColumns → Column → Checked NewColumns

@@ -2,8 +2,7 @@
 use Rattle.std.specs.Prelude.{ℕ, List, [], ◌∷◌, map, max}
 use Rattle.query_lang.specs.declared.query.Expr.{Expr, fold-Expr}
 use Rattle.query_lang.specs.declared.query.Expr.TheOpen as expr
-use Rattle.query_lang.specs.declared.query.Column.{Column}
-use Rattle.query_lang.specs.declared.query.FinalOp.{FinalOp}
+use Rattle.query_lang.specs.declared.query.{Column.Column, FinalOp.FinalOp}
 use Rattle.query_lang.specs.declared.query.FinalOp.TheVariants as final
 use Rattle.query_lang.specs.declared.query.Item.{Item}
 use Rattle.query_lang.specs.declared.query.Item.TheVariants as item

@@ -1,14 +1,9 @@
 -- What groupbys take from three packets of two words, computed.
 use Rattle.std.specs.Prelude.{◌≡◌, ℕ, List, [], ◌∷◌, Some}
 use Rattle.epoch_model.specs.Epochs.{Use}
-use Rattle.query_lang.specs.declared.fold.Op.TheVariants.{Add, Lt}
-use Rattle.query_lang.specs.declared.fold.TypedExpr.{TypedExpr}
-use Rattle.query_lang.specs.declared.fold.TypedFold.{TypedFold}
-use Rattle.query_lang.specs.declared.typed.TypedOp.TheVariants.{Filter, Map, Zip, Group}
-use Rattle.query_lang.specs.declared.typed.TypedQuery.{TypedQuery}
-use Rattle.query_lang.specs.declared.typed.TypedStream.{TypedStream}
-use Rattle.query_lang.specs.Terms.{Literal, Read, Operation, term_of}
-use Rattle.query_lang.specs.StreamExamples.{three_packets, HasParts}
+use Rattle.query_lang.specs.declared.fold.{Op.TheVariants.{Add, Lt}, TypedExpr.TypedExpr, TypedFold.TypedFold}
+use Rattle.query_lang.specs.declared.typed.{TypedOp.TheVariants.{Filter, Map, Zip, Group}, TypedQuery.TypedQuery, TypedStream.TypedStream}
+use Rattle.query_lang.specs.{Terms.{Literal, Read, Operation, term_of}, StreamExamples.{three_packets, HasParts}}
 use Rattle.query_types.specs.Uses.{uses}
 
 abbrev pub use_at : ℕ → List ℕ → List ℕ → Use

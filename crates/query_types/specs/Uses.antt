@@ -1,8 +1,7 @@
 -- What the groupbys of a typed query take from the packets.
 use Rattle.std.specs.Prelude.{ℕ, List, [], map, slice_get, Option, Some, None}
 use Rattle.epoch_model.specs.Epochs.{Use}
-use Rattle.query_lang.specs.declared.typed.TypedQuery.{TypedQuery}
-use Rattle.query_lang.specs.Streams.{Tuple, Taking, stream, takings, values_at}
+use Rattle.query_lang.specs.{declared.typed.TypedQuery.TypedQuery, Streams.{Tuple, Taking, stream, takings, values_at}}
 
 -- one packet's use: its number, the key and the argument row
 abbrev pub use_of : Taking → Tuple → Use

@@ -1,12 +1,9 @@
 //! The statements of a fold.
 
 ghost use Rattle.std.specs.Prelude.{◌≡◌, ◌<◌, ◌≤◌, ◌^◌, ◌∷◌, ◌++◌, [], Ok, Some, IfOk, OnOk, length, map};
-ghost use Rattle.query_lang.specs.TypedExprs.{condition_of, word_of};
-ghost use Rattle.query_lang.specs.TypedFolds.{target_of, state_in, joined, inside, in_order, emit_condition, emitted, stmt_checked};
-ghost use Rattle.query_lang.specs.TypedFolds.{body_checked};
-ghost use Rattle.query_lang.specs.Answers.{Answers};
-ghost use Rattle.query_types.specs.Answers.{Leaves};
-ghost use Rattle.query_types.specs.Bodies.{IsScope, choice_of, assigned};
+ghost use Rattle.query_lang.specs.{TypedExprs.{condition_of, word_of}, TypedFolds.{target_of, state_in, joined, inside, in_order}};
+ghost use Rattle.query_lang.specs.{TypedFolds.{emit_condition, emitted, stmt_checked, body_checked}, Answers.Answers};
+ghost use Rattle.query_types.specs.{Answers.Leaves, Bodies.{IsScope, choice_of, assigned}};
 ghost use Rattle.query_types.specs.Numbers.{greatest_of, greatest_number, greatest_in};
 
 use crate::answer::{fault, refused};

@@ -1,15 +1,10 @@
 //! Columns: those that a `map` adds, those of a `zip`, keys, and the arguments of a fold.
 
-ghost use Rattle.std.specs.Prelude.{◌≡◌, ◌<◌, ◌≤◌, ◌^◌, ◌++◌, ◌||◌, [], Ok, IfOk, OnOk, length, map, flat_map, slice_get};
-ghost use Rattle.std.specs.List.{list_any};
-ghost use Rattle.query_lang.specs.Checks.{collected, is_among};
-ghost use Rattle.query_lang.specs.TypedExprs.{slot_of};
-ghost use Rattle.query_lang.specs.TypedStreams.{new_columns, no_new_columns, same_origin, clashes_with, clash, column_names, others_from};
-ghost use Rattle.query_lang.specs.TypedStreams.{columns_at, key_names, keys_from, keys_checked, arguments_of};
-ghost use Rattle.query_lang.specs.Answers.{Answers};
-ghost use Rattle.query_types.specs.Answers.{Leaves};
-ghost use Rattle.query_types.specs.Fitting.{IsNarrow};
-ghost use Rattle.query_types.specs.MadeStreams.{column_added, key_added};
+ghost use Rattle.std.specs.{Prelude.{◌≡◌, ◌<◌, ◌≤◌, ◌^◌, ◌++◌, ◌||◌, [], Ok, IfOk, OnOk, length, map, flat_map, slice_get}, List.list_any};
+ghost use Rattle.query_lang.specs.{Checks.{collected, is_among}, TypedExprs.slot_of, TypedStreams.{new_columns, no_new_columns}};
+ghost use Rattle.query_lang.specs.TypedStreams.{same_origin, clashes_with, clash, column_names, others_from, columns_at, key_names};
+ghost use Rattle.query_lang.specs.{TypedStreams.{keys_from, keys_checked, arguments_of}, Answers.Answers};
+ghost use Rattle.query_types.specs.{Answers.Leaves, Fitting.IsNarrow, MadeStreams.{column_added, key_added}};
 ghost use Rattle.query_types.specs.Numbers.{columns_number, greatest_number};
 
 use crate::answer::refused;

@@ -1,12 +1,10 @@
 //! Expressions over columns.
 
 ghost use Rattle.std.specs.Prelude.{◌≡◌, ◌<◌, ◌^◌, ◌∷◌, [], IfOk, IfSome, length, map};
-ghost use Rattle.query_lang.specs.Checks.{collected, is_among, place_of};
-ghost use Rattle.query_lang.specs.TypedExprs.{slot_of, is_condition_sort, is_operand, is_right_constant, sort_of, of_two, call_of};
-ghost use Rattle.query_lang.specs.TypedExprs.{negation_checked, expr_checked, condition_of, word_of};
-ghost use Rattle.query_lang.specs.Answers.{Answers};
-ghost use Rattle.query_types.specs.Fitting.{IsNarrow};
-ghost use Rattle.query_types.specs.Numbers.{greatest_of, greatest_number};
+ghost use Rattle.query_lang.specs.{Checks.{collected, is_among, place_of}, TypedExprs.{slot_of, is_condition_sort, is_operand}};
+ghost use Rattle.query_lang.specs.TypedExprs.{is_right_constant, sort_of, of_two, call_of, negation_checked, expr_checked, condition_of};
+ghost use Rattle.query_lang.specs.{TypedExprs.word_of, Answers.Answers};
+ghost use Rattle.query_types.specs.{Fitting.IsNarrow, Numbers.{greatest_of, greatest_number}};
 
 use crate::answer::{fault, refused};
 use marple_base::{Boxed, Seq};

@@ -2,12 +2,10 @@
 
 ghost use Rattle.std.specs.Prelude.{◌≡◌, ◌+◌, ◌<◌, ◌≤◌, ◌^◌, ◌++◌, [], Ok, IfOk, OnOk, length};
 ghost use Rattle.query_lang.specs.TypedExprs.{condition_of, slot_of};
-ghost use Rattle.query_lang.specs.TypedStreams.{new_columns, no_new_columns, keys_checked, arguments_of};
-ghost use Rattle.query_lang.specs.TypedFinals.{table_number, five_fields, final_filter, final_map, final_group, final_join, final_top};
-ghost use Rattle.query_lang.specs.TypedFinals.{made_final, with_final, final_checked};
-ghost use Rattle.query_lang.specs.Answers.{Answers};
-ghost use Rattle.query_types.specs.Answers.{Leaves};
-ghost use Rattle.query_types.specs.Fitting.{Fits, IsEarly, IsNarrow};
+ghost use Rattle.query_lang.specs.{TypedStreams.{new_columns, no_new_columns, keys_checked, arguments_of}, TypedFinals.table_number};
+ghost use Rattle.query_lang.specs.TypedFinals.{five_fields, final_filter, final_map, final_group, final_join, final_top, made_final};
+ghost use Rattle.query_lang.specs.{TypedFinals.{with_final, final_checked}, Answers.Answers};
+ghost use Rattle.query_types.specs.{Answers.Leaves, Fitting.{Fits, IsEarly, IsNarrow}};
 ghost use Rattle.query_types.specs.MadeFinals.{with_values, with_table_keys, with_others, with_kept};
 ghost use Rattle.query_types.specs.Numbers.{greatest_number, columns_number, final_number};
 

@@ -2,11 +2,8 @@
 
 ghost use Rattle.std.specs.Prelude.{◌≡◌, ◌+◌, ◌<◌, ◌^◌, ◌≤◌, [], Ok, IfOk, length, map, sum_by};
 ghost use Rattle.query_lang.specs.TypedFolds.{states_from, args_from, expr_nodes, stmt_nodes, stmt_count, body_checked, fold_nodes};
-ghost use Rattle.query_lang.specs.TypedFolds.{fold_statements, fold_checked};
-ghost use Rattle.query_lang.specs.Folds.{IsValidFold};
-ghost use Rattle.query_types.specs.Numbers.{greatest_of, greatest_in};
-ghost use Rattle.query_lang.specs.Answers.{Answers};
-ghost use Rattle.query_types.specs.Bodies.{with_parts};
+ghost use Rattle.query_lang.specs.{TypedFolds.{fold_statements, fold_checked}, Folds.IsValidFold, Answers.Answers};
+ghost use Rattle.query_types.specs.{Numbers.{greatest_of, greatest_in}, Bodies.with_parts};
 
 use crate::answer::refused;
 use crate::bodies::check_body;

@@ -1,10 +1,8 @@
 //! Groupbys over streams.
 
 ghost use Rattle.std.specs.Prelude.{◌≡◌, ◌≤◌, ◌++◌, Ok, IfOk, length};
-ghost use Rattle.query_lang.specs.TypedStreams.{column_names, keys_checked, arguments_of, grouped};
-ghost use Rattle.query_lang.specs.Answers.{Answers};
-ghost use Rattle.query_types.specs.Fitting.{Fits, IsNarrow};
-ghost use Rattle.query_types.specs.MadeStreams.{with_keys};
+ghost use Rattle.query_lang.specs.{TypedStreams.{column_names, keys_checked, arguments_of, grouped}, Answers.Answers};
+ghost use Rattle.query_types.specs.{Fitting.{Fits, IsNarrow}, MadeStreams.with_keys};
 
 use crate::columns::{check_arguments, check_keys, names_of, pick_columns};
 use crate::copies::{copy_words, names_of_both};

@@ -1,12 +1,9 @@
 //! The items of a query in order.
 
 ghost use Rattle.std.specs.Prelude.{◌≡◌, ◌<◌, ◌≤◌, ◌^◌, IfOk, OnOk, length, map, is_some, All};
-ghost use Rattle.query_lang.specs.Limits.{KeepsLimits, IsNumbered};
-ghost use Rattle.query_lang.specs.TypedFolds.{fold_nodes, fold_statements};
+ghost use Rattle.query_lang.specs.{Limits.{KeepsLimits, IsNumbered}, TypedFolds.{fold_nodes, fold_statements}};
 ghost use Rattle.query_lang.specs.Typing.{with_fold, fold_added, print_checked, item_checked, items_checked};
-ghost use Rattle.query_types.specs.Answers.{Leaves};
-ghost use Rattle.query_types.specs.Fitting.{Fits};
-ghost use Rattle.query_types.specs.Numbers.{greatest_of, greatest_in, item_number};
+ghost use Rattle.query_types.specs.{Answers.Leaves, Fitting.Fits, Numbers.{greatest_of, greatest_in, item_number}};
 
 use crate::answer::refused;
 use crate::copies::copy_words;

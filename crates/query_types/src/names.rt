@@ -2,8 +2,7 @@
 
 ghost use Rattle.std.specs.Prelude.{◌≡◌, ◌+◌, ◌<◌, ◌^◌, IfOk, OnOk, length, map};
 ghost use Rattle.marple_base.specs.Field.{field_name};
-ghost use Rattle.query_lang.specs.Names.{number_in};
-ghost use Rattle.query_lang.specs.Typing.{with_fields};
+ghost use Rattle.query_lang.specs.{Names.number_in, Typing.with_fields};
 
 use marple_base::{Field, Seq};
 use query_lang::Names;

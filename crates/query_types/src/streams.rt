@@ -1,14 +1,10 @@
 //! Streams.
 
-ghost use Rattle.std.specs.Prelude.{◌≡◌, ◌+◌, ◌<◌, ◌^◌, ◌++◌, Ok, None, IfOk, OnOk, length, map, is_some};
-ghost use Rattle.std.specs.Prelude.{if◌then◌else◌};
-ghost use Rattle.query_lang.specs.TypedExprs.{condition_of};
-ghost use Rattle.query_lang.specs.TypedStreams.{column_names, new_columns, no_new_columns, others_from};
+ghost use Rattle.std.specs.Prelude.{◌≡◌, ◌+◌, ◌<◌, ◌^◌, ◌++◌, Ok, None, IfOk, OnOk, length, map, is_some, if◌then◌else◌};
+ghost use Rattle.query_lang.specs.{TypedExprs.condition_of, TypedStreams.{column_names, new_columns, no_new_columns, others_from}};
 ghost use Rattle.query_lang.specs.TypedStreams.{filtered, next_stream, mapped, zipped, made_stream, with_stream, stream_checked};
 ghost use Rattle.query_lang.specs.Answers.{Answers};
-ghost use Rattle.query_types.specs.Answers.{Leaves};
-ghost use Rattle.query_types.specs.Fitting.{Fits, IsNarrow};
-ghost use Rattle.query_types.specs.MadeStreams.{with_columns, with_slots};
+ghost use Rattle.query_types.specs.{Answers.Leaves, Fitting.{Fits, IsNarrow}, MadeStreams.{with_columns, with_slots}};
 ghost use Rattle.query_types.specs.Numbers.{greatest_number, columns_number, stream_number};
 
 use crate::answer::refused;

@@ -1,9 +1,7 @@
 //! The numbers, keys and columns of tables.
 
-ghost use Rattle.std.specs.Prelude.{◌≡◌, ◌≤◌, drop, take, length};
-ghost use Rattle.std.specs.List.{list_any};
-ghost use Rattle.query_lang.specs.Checks.{is_among};
-ghost use Rattle.query_lang.specs.TypedFinals.{table_number, same_names, key_columns, other_columns};
+ghost use Rattle.std.specs.{Prelude.{◌≡◌, ◌≤◌, drop, take, length}, List.list_any};
+ghost use Rattle.query_lang.specs.{Checks.is_among, TypedFinals.{table_number, same_names, key_columns, other_columns}};
 ghost use Rattle.query_types.specs.Fitting.{IsEarly};
 
 use crate::exprs::has_name;

@@ -3,11 +3,8 @@
 ghost use Rattle.std.specs.Prelude.{◌≡◌, ◌<◌, ◌≤◌, ◌^◌, Ok, None, [], IfOk, All, length, map, count_by, min};
 ghost use Rattle.query_lang.specs.Limits.{IsReadable, KeepsLimits, IsNumbered};
 ghost use Rattle.query_lang.specs.Typing.{typed_names, field_numbers, is_groupby, given_of, start_of, items_checked, ended, checked};
-ghost use Rattle.query_lang.specs.TypedQueries.{IsValidQuery};
-ghost use Rattle.query_types.specs.Numbers.{greatest_of, item_number};
-ghost use Rattle.query_lang.specs.Answers.{Answers};
-ghost use Rattle.query_types.specs.CheckedItems.{checked_with};
-ghost use Rattle.query_types.specs.Fitting.{Fits, AreReady};
+ghost use Rattle.query_lang.specs.{TypedQueries.IsValidQuery, Answers.Answers};
+ghost use Rattle.query_types.specs.{Numbers.{greatest_of, item_number}, CheckedItems.checked_with, Fitting.{Fits, AreReady}};
 
 use crate::answer::fault;
 use crate::items::check_items;

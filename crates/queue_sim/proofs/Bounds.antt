@@ -1,6 +1,5 @@
 -- No number of the generator is large.
-use Rattle.std.proofs.Common.{ℕ, suc, zero, ◌+◌, ◌*◌, ◌%◌, ◌<◌, ◌≤◌, arith}
-use Rattle.std.specs.Prelude.{◌==◌, nat_lt}
+use Rattle.std.{proofs.Common.{ℕ, suc, zero, ◌+◌, ◌*◌, ◌%◌, ◌<◌, ◌≤◌, arith}, specs.Prelude.{◌==◌, nat_lt}}
 use Rattle.queue_sim.specs.Generator.{arrivals, drawn_after, draw, first_or_0, last_time, next_number, switch_of, still_there, touts_at}
 use Rattle.queue_sim.proofs.QueueFacts.{by_test}
 

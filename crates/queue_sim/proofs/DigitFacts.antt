@@ -1,21 +1,13 @@
 -- What a reader makes of decimal digits.
 use Rattle.std.proofs.Common.{◌≡◌, ℕ, ◌-◌, ◌^◌, ◌<◌, ◌≤◌, true, false, List, [], ◌∷◌, Some, refl, sym, ap, ◌∙◌, inl, inr, arith}
-use Rattle.std.specs.Prelude.{◌==◌, decimal}
-use Rattle.std.specs.Char.{is_ascii_digit}
-use Rattle.std.specs.List.{list_all, list_any}
+use Rattle.std.proofs.lemmas.{Bool.{ne_eqb, Decides.{eqb_tells, nat_tests}}, Fmt.{decimal_is_IsNumeral, length-decimal-le}}
+use Rattle.std.{proofs.lemmas.Str.Parse.digit_at, specs.{Prelude.{◌==◌, decimal}, Char.is_ascii_digit, List.{list_all, list_any}}}
 use Rattle.std.specs.Str.Parse.{AllDigits, digits_value}
-use Rattle.std.proofs.lemmas.Bool.{ne_eqb}
-use Rattle.std.proofs.lemmas.Bool.Decides.{eqb_tells, nat_tests}
-use Rattle.std.proofs.lemmas.Fmt.{decimal_is_IsNumeral, length-decimal-le}
-use Rattle.std.proofs.lemmas.Str.Parse.{digit_at}
-use Rattle.csv.specs.Quoting.{needs_byte}
-use Rattle.csv.specs.Writing.{default_writer}
+use Rattle.csv.specs.{Quoting.needs_byte, Writing.default_writer}
 use Rattle.trace_reader.specs.Numbers.{before_last_blanks, decimal_word, is_field_blank, without_blanks, without_last_blanks, word_of_text}
 use Rattle.trace_reader.proofs.NumberFacts.{number_some}
-use Rattle.marple_base.specs.declared.field.Field.{Field}
-use Rattle.marple_base.specs.declared.field.Field.TheVariants.{Tout}
-use Rattle.queue_sim.specs.TraceText.{word_text}
-use Rattle.queue_sim.proofs.QueueFacts.{by_test}
+use Rattle.marple_base.specs.declared.field.Field.{Field, TheVariants.Tout}
+use Rattle.queue_sim.{specs.TraceText.word_text, proofs.QueueFacts.by_test}
 
 -- a decimal digit
 abbrev IsDigit : ℕ → Type 0

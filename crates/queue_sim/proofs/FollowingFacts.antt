@@ -1,17 +1,11 @@
 -- How the generator goes on from packet to packet.
 use Rattle.std.proofs.Common.{◌≡◌, ℕ, suc, zero, ◌+◌, ◌*◌, ◌/◌, ◌<◌, ◌≤◌, List, [], ◌∷◌, ◌++◌, length, get_or, set, slice_get, replicate}
-use Rattle.std.proofs.Common.{Option, Some, None, refl, sym, ap, ◌∙◌, inl, inr, arith, add-one, max}
-use Rattle.std.specs.Prelude.{if◌then◌else◌, nat_lt}
-use Rattle.std.proofs.lemmas.Bool.Decides.{eqb_tells}
-use Rattle.std.proofs.lemmas.List.{get_or-set_other, get_or-set_same}
-use Rattle.std.proofs.lemmas.Option.{same_Some}
-use Rattle.queue_sim.specs.Draws.{IsDrawn}
-use Rattle.queue_sim.specs.Following.{AreEmpty, nth_packet}
+use Rattle.std.proofs.{Common.{Option, Some, None, refl, sym, ap, ◌∙◌, inl, inr, arith, add-one, max}, lemmas.Bool.Decides.eqb_tells}
+use Rattle.std.{proofs.lemmas.{List.{get_or-set_other, get_or-set_same}, Option.same_Some}, specs.Prelude.{if◌then◌else◌, nat_lt}}
+use Rattle.queue_sim.specs.{Draws.IsDrawn, Following.{AreEmpty, nth_packet}}
 use Rattle.queue_sim.specs.Generator as Generator
 use Rattle.queue_sim.specs.Generator.{Arrival, arrival_by, arrivals, drawn_after, first_or_0, last_time, next_number, simulated}
-use Rattle.queue_sim.specs.Generator.{still_there, switch_of, touts_at, with_some}
-use Rattle.queue_sim.specs.declared.draws.Drawn.{Drawn}
-use Rattle.queue_sim.specs.Queue.{Holds}
+use Rattle.queue_sim.specs.{Generator.{still_there, switch_of, touts_at, with_some}, declared.draws.Drawn.Drawn, Queue.Holds}
 use Rattle.queue_sim.specs.declared.queue.Queue.{Queue}
 
 pub empty_push : (queues : List Queue) (queue : Queue) → AreEmpty queues → Holds queue [] 0 → AreEmpty (queues ++ queue ∷ [])

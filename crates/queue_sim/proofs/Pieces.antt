@@ -1,14 +1,9 @@
 -- The text of the generator's packets, written in pieces.
 use Rattle.std.proofs.Common.{◌≡◌, ℕ, suc, zero, ◌+◌, ◌-◌, ◌≤◌, List, [], ◌++◌, subst, sym, ap, ◌∙◌, Option, arith, append_assoc}
 use Rattle.std.proofs.Common.{append-nil}
-use Rattle.marple_base.specs.Pieces.{TakesAllBut}
-use Rattle.marple_base.specs.Sink.{TakesFront}
-use Rattle.marple_base.proofs.Pieces.{front_taken, goes_on}
-use Rattle.queue_sim.specs.Following.{nth_packet}
-use Rattle.queue_sim.specs.Generator.{simulated}
-use Rattle.queue_sim.specs.TraceText.{line, packet_texts, trace_text}
-use Rattle.queue_sim.proofs.FollowingFacts.{simulated_more}
-use Rattle.queue_sim.proofs.TextFacts.{trace_push}
+use Rattle.marple_base.{specs.{Pieces.TakesAllBut, Sink.TakesFront}, proofs.Pieces.{front_taken, goes_on}}
+use Rattle.queue_sim.specs.{Following.nth_packet, Generator.simulated, TraceText.{line, packet_texts, trace_text}}
+use Rattle.queue_sim.proofs.{FollowingFacts.simulated_more, TextFacts.trace_push}
 
 -- one packet more
 pub text_more : (start capacity n : ℕ) → trace_text (simulated (n + 1) start capacity) ≡ trace_text (simulated n start capacity)

@@ -1,10 +1,7 @@
 -- Times at which the packets of a queue leave.
 use Rattle.std.proofs.Common.{◌≡◌, ℕ, suc, ◌<◌, ◌≤◌, Bool, true, false, List, [], ◌∷◌, ◌++◌, length, get_or, drop, refl, sym, ap, ◌∙◌}
-use Rattle.std.proofs.Common.{arith}
-use Rattle.std.specs.Prelude.{nat_lt}
-use Rattle.std.proofs.lemmas.Bool.Decides.{nat_tests}
-use Rattle.queue_sim.specs.Generator.{still_there}
-use Rattle.queue_sim.specs.Queue.{Climbs}
+use Rattle.std.{proofs.{Common.arith, lemmas.Bool.Decides.nat_tests}, specs.Prelude.nat_lt}
+use Rattle.queue_sim.specs.{Generator.still_there, Queue.Climbs}
 
 pub by_test : {P : Type 0} (t : Bool) → (t ≡ true → P) → (t ≡ false → P) → P
 by_test true so not_so = so refl

@@ -1,29 +1,18 @@
 -- The records of a written trace, and what a reader finds in them.
-use Rattle.std.proofs.Common.{◌≡◌, ℕ, ◌+◌, ◌<◌, ◌≤◌, ◌^◌, zero, suc, false, List, [], ◌∷◌, ◌++◌, length, map, slice_index, Ok, Option, Some, None, refl}
-use Rattle.std.proofs.Common.{sym, ap, ◌∙◌, lit<, arith}
-use Rattle.std.specs.Prelude.{⊤, flat_map, nat_lt}
+use Rattle.std.proofs.Common.{◌≡◌, ℕ, ◌+◌, ◌<◌, ◌≤◌, ◌^◌, zero, suc, false, List, [], ◌∷◌, ◌++◌, length, map, slice_index, Ok, Option, Some}
+use Rattle.std.{proofs.{Common.{None, refl, sym, ap, ◌∙◌, lit<, arith}, lemmas.Bool.Decides.nat_tests}, specs.Prelude.{⊤, flat_map, nat_lt}}
 use Rattle.std.specs.List.{list_any}
-use Rattle.std.proofs.lemmas.Bool.Decides.{nat_tests}
-use Rattle.csv.specs.Quoting.{needs_byte}
-use Rattle.csv.specs.Reading.{strip_bom}
-use Rattle.csv.specs.Records.{field_at}
-use Rattle.csv.specs.Writing.{default_writer, fields_text, is_blank, row_text}
+use Rattle.csv.specs.{Quoting.needs_byte, Reading.strip_bom, Records.field_at, Writing.{default_writer, fields_text, is_blank, row_text}}
 use Rattle.csv.proofs.RoundTrip.{rows_text}
-use Rattle.marple_base.specs.Field.{HasField, all_fields, field_name, number_of}
-use Rattle.marple_base.specs.declared.field.Field.{Field}
-use Rattle.marple_base.specs.declared.field.Field.TheVariants.{Switch, Qid, Uid, SrcIp, DstIp, SrcPort, DstPort, Proto, PktLen, PayloadLen}
-use Rattle.marple_base.specs.declared.field.Field.TheVariants.{TcpSeq, Tin, Tout, QSize}
-use Rattle.marple_base.specs.declared.field.FieldSet.{FieldSet}
-use Rattle.marple_base.specs.declared.field.Packet.{Packet}
-use Rattle.marple_base.specs.declared.field.TheConstants.{FIELDS}
+use Rattle.marple_base.specs.{Field.{HasField, all_fields, field_name, number_of}, declared.field.Field.{Field, TheVariants.{Switch, Qid}}}
+use Rattle.marple_base.specs.declared.field.Field.TheVariants.{Uid, SrcIp, DstIp, SrcPort, DstPort, Proto, PktLen, PayloadLen, TcpSeq, Tin}
+use Rattle.marple_base.specs.declared.field.{Field.TheVariants.{Tout, QSize}, FieldSet.FieldSet, Packet.Packet, TheConstants.FIELDS}
 use Rattle.trace_reader.specs.Reading.{records}
 use Rattle.trace_reader.specs.Traces.{Contents, Layout, columns_of_fields, contents, contents_from, each, packet_of, words_in_columns}
-use Rattle.trace_reader.specs.declared.fault.TheConstants.{MAX_RECORDS}
-use Rattle.trace_reader.proofs.TraceFacts.{contents_good}
+use Rattle.trace_reader.{specs.declared.fault.TheConstants.MAX_RECORDS, proofs.TraceFacts.contents_good}
 use Rattle.queue_sim.specs.ReadBack.{ArePackets, ArePacketWords, TextsReadBack}
 use Rattle.queue_sim.specs.TraceText.{continued, fields_line, header, line, packet_texts, trace_text, word_texts}
-use Rattle.queue_sim.proofs.DigitFacts.{word_plain, word_read}
-use Rattle.queue_sim.proofs.WrittenFacts.{AllMany, records-rows_text}
+use Rattle.queue_sim.proofs.{DigitFacts.{word_plain, word_read}, WrittenFacts.{AllMany, records-rows_text}}
 
 -- no field needs quotes
 abbrev ArePlain : List (List ℕ) → Type 0

@@ -1,12 +1,7 @@
 -- The line of a packet from its end to its beginning, and the text of packets.
 use Rattle.std.proofs.Common.{◌≡◌, ℕ, suc, zero, ◌+◌, ◌<◌, ◌≤◌, List, [], ◌∷◌, ◌++◌, length, get_or, drop, map, slice_index, refl, sym, ap}
-use Rattle.std.proofs.Common.{◌∙◌, append_assoc, append-nil, arith}
-use Rattle.std.specs.Prelude.{flat_map}
-use Rattle.std.proofs.lemmas.List.{drop_all}
-use Rattle.marple_base.specs.Field.{number_of}
-use Rattle.marple_base.specs.declared.field.Field.{Field}
-use Rattle.marple_base.specs.declared.field.Field.TheVariants.{Switch}
-use Rattle.marple_base.specs.declared.field.Packet.{Packet}
+use Rattle.std.{proofs.{Common.{◌∙◌, append_assoc, append-nil, arith}, lemmas.List.drop_all}, specs.Prelude.flat_map}
+use Rattle.marple_base.specs.{Field.number_of, declared.field.{Field.{Field, TheVariants.Switch}, Packet.Packet}}
 use Rattle.queue_sim.specs.TraceText.{continued, fields_line, header, line, packet_texts, trace_text, word_text, word_texts}
 
 length-texts : (text : Field → List ℕ) (fields : List Field) → length (map text fields) ≡ length fields

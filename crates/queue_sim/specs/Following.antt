@@ -1,11 +1,8 @@
 -- How the generator holds what its packets so far decide.
-use Rattle.std.specs.Prelude.{ℕ, suc, ◌≡◌, ◌*◌, ◌<◌, length, slice_get, List, [], ◌∷◌, ⊤, Some}
-use Rattle.std.specs.List.{slice_index_or}
+use Rattle.std.specs.{Prelude.{ℕ, suc, ◌≡◌, ◌*◌, ◌<◌, length, slice_get, List, [], ◌∷◌, ⊤, Some}, List.slice_index_or}
 use Rattle.marple_base.specs.declared.field.Packet.{Packet}
 use Rattle.queue_sim.specs.Generator.{arrival_by, arrivals, drawn_after, last_time, next_number, generated_packet, state_after, touts_at}
-use Rattle.queue_sim.specs.Queue.{Holds}
-use Rattle.queue_sim.specs.declared.generator.Generator.{Generator}
-use Rattle.queue_sim.specs.declared.queue.Queue.{Queue}
+use Rattle.queue_sim.specs.{Queue.Holds, declared.{generator.Generator.Generator, queue.Queue.Queue}}
 
 -- nothing has come to the queues
 abbrev pub AreEmpty : List Queue → Type 0

@@ -1,7 +1,6 @@
 -- A queue: when the packets leave that wait in it.
 use Rattle.std.specs.Prelude.{ℕ, ◌≡◌, ◌≤◌, ⊤, List, [], ◌∷◌}
-use Rattle.queue_sim.specs.Generator.{first_or_0, still_there}
-use Rattle.queue_sim.specs.declared.queue.Queue.{Queue}
+use Rattle.queue_sim.specs.{Generator.{first_or_0, still_there}, declared.queue.Queue.Queue}
 
 -- the first of some numbers, or the last bound where there is none
 abbrev pub next_of : List ℕ → ℕ → ℕ

@@ -1,12 +1,7 @@
 -- A trace that was written reads back.
 use Rattle.std.specs.Prelude.{ℕ, ◌≡◌, ◌<◌, ◌≤◌, ◌^◌, ⊤, List, [], ◌∷◌, length, None}
-use Rattle.marple_base.specs.Field.{HasField}
-use Rattle.marple_base.specs.declared.field.Field.{Field}
-use Rattle.marple_base.specs.declared.field.FieldSet.{FieldSet}
-use Rattle.marple_base.specs.declared.field.Packet.{Packet}
-use Rattle.marple_base.specs.declared.field.TheConstants.{FIELDS}
-use Rattle.trace_reader.specs.Traces.{packets, trace_fault}
-use Rattle.trace_reader.specs.declared.fault.TheConstants.{MAX_RECORDS, MAX_TRACE}
+use Rattle.marple_base.specs.{Field.HasField, declared.field.{Field.Field, FieldSet.FieldSet, Packet.Packet, TheConstants.FIELDS}}
+use Rattle.trace_reader.specs.{Traces.{packets, trace_fault}, declared.fault.TheConstants.{MAX_RECORDS, MAX_TRACE}}
 use Rattle.queue_sim.specs.TraceText.{trace_text}
 
 abbrev pub ArePacketWords : List ℕ → Type 0

@@ -1,10 +1,6 @@
 -- The text of a trace: a header with the names of all fields, and a line for each packet.
-use Rattle.std.specs.Prelude.{ℕ, ◌-◌, ◌^◌, ◌==◌, List, [], ◌∷◌, ◌++◌, codes, decimal, flat_map}
-use Rattle.std.specs.Prelude.{if◌then◌else◌, map, slice_index}
-use Rattle.marple_base.specs.Field.{all_fields, field_name, number_of}
-use Rattle.marple_base.specs.declared.field.Field.{Field}
-use Rattle.marple_base.specs.declared.field.Field.TheVariants.{Tout}
-use Rattle.marple_base.specs.declared.field.Packet.{Packet}
+use Rattle.std.specs.Prelude.{ℕ, ◌-◌, ◌^◌, ◌==◌, List, [], ◌∷◌, ◌++◌, codes, decimal, flat_map, if◌then◌else◌, map, slice_index}
+use Rattle.marple_base.specs.{Field.{all_fields, field_name, number_of}, declared.field.{Field.{Field, TheVariants.Tout}, Packet.Packet}}
 
 -- a word of a field: the time at which a dropped packet leaves is infinite
 abbrev pub word_text : Field → ℕ → List ℕ

@@ -1,8 +1,7 @@
 //! Pseudo-random numbers.
 
 ghost use Rattle.std.specs.Prelude.{◌≡◌, ℕ, ◌+◌, ◌/◌, ◌^◌, ◌<◌};
-ghost use Rattle.queue_sim.specs.Draws.{IsDrawn};
-ghost use Rattle.queue_sim.specs.Generator.{drawn_after, next_state, state_after};
+ghost use Rattle.queue_sim.specs.{Draws.IsDrawn, Generator.{drawn_after, next_state, state_after}};
 
 /// A linear congruential generator.
 #[derive(Drop)]

@@ -1,9 +1,7 @@
 //! The generator.
 
-ghost use Rattle.std.specs.Prelude.{◌≡◌, ◌≤◌, ◌<◌, ◌+◌, ◌^◌, IfOk, OnOk, length};
-ghost use Rattle.std.specs.List.{slice_index_or, slice_set};
-ghost use Rattle.queue_sim.specs.Generator.{generated_packet, simulated};
-ghost use Rattle.queue_sim.specs.Following.{AreEmpty, Follows, nth_packet};
+ghost use Rattle.std.specs.{Prelude.{◌≡◌, ◌≤◌, ◌<◌, ◌+◌, ◌^◌, IfOk, OnOk, length}, List.{slice_index_or, slice_set}};
+ghost use Rattle.queue_sim.specs.{Generator.{generated_packet, simulated}, Following.{AreEmpty, Follows, nth_packet}};
 
 use crate::draws::{Drawn, Draws};
 use crate::queue::{Place, Queue};

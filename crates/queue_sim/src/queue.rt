@@ -1,9 +1,7 @@
 //! The output queue of a switch.
 
-ghost use Rattle.std.specs.Prelude.{◌≡◌, ℕ, ◌+◌, ◌≤◌, ◌<◌, ◌^◌, [], IfOk, OnOk, List, None, Some, length, max};
-ghost use Rattle.std.specs.Prelude.{nat_lt, if◌then◌else◌};
-ghost use Rattle.queue_sim.specs.Generator.{still_there, with_some};
-ghost use Rattle.queue_sim.specs.Queue.{Climbs, Holds};
+ghost use Rattle.std.specs.Prelude.{◌≡◌, ℕ, ◌+◌, ◌≤◌, ◌<◌, ◌^◌, [], IfOk, OnOk, List, None, Some, length, max, nat_lt, if◌then◌else◌};
+ghost use Rattle.queue_sim.specs.{Generator.{still_there, with_some}, Queue.{Climbs, Holds}};
 
 use std::alloc::{AllocError, Global};
 use std::collections::VecDeque;

@@ -1,8 +1,7 @@
 //! The text of a trace.
 
 ghost use Rattle.std.specs.Prelude.{◌≡◌, ◌+◌, ◌≤◌, ◌<◌, ◌∷◌, ◌++◌, IfOk, drop, length};
-ghost use Rattle.queue_sim.specs.ReadBack.{TextsReadBack};
-ghost use Rattle.queue_sim.specs.TraceText.{fields_line, trace_text, word_text};
+ghost use Rattle.queue_sim.specs.{ReadBack.TextsReadBack, TraceText.{fields_line, trace_text, word_text}};
 
 use itoa::write_digits;
 use marple_base::{FIELDS, Field, Packet, Seq, Text};

@@ -1,12 +1,8 @@
 //! The trace of the generator, written in pieces while its packets are made.
 
-ghost use Rattle.std.specs.Prelude.{◌≡◌, ◌++◌, ◌<◌, ◌≤◌, ◌^◌, IsErrOf, OnErr, OnOk};
-ghost use Rattle.std.specs.Io.KnownBytes.{Appends};
-ghost use Rattle.marple_base.specs.Faults.{Rose};
-ghost use Rattle.marple_base.specs.Sink.{TakesFront};
-ghost use Rattle.queue_sim.specs.Generator.{simulated};
-ghost use Rattle.marple_base.specs.Pieces.{TakesAllBut};
-ghost use Rattle.queue_sim.specs.TraceText.{trace_text};
+ghost use Rattle.std.specs.{Prelude.{◌≡◌, ◌++◌, ◌<◌, ◌≤◌, ◌^◌, IsErrOf, OnErr, OnOk}, Io.KnownBytes.Appends};
+ghost use Rattle.marple_base.specs.{Faults.Rose, Sink.TakesFront, Pieces.TakesAllBut};
+ghost use Rattle.queue_sim.specs.{Generator.simulated, TraceText.trace_text};
 
 use crate::generator::Generator;
 use crate::text::{HEADER, LineBuffer};

@@ -1,22 +1,14 @@
 -- Fields that each groupby has as a key.
-use Rattle.std.proofs.Common.{◌≡◌, ℕ, suc, zero, ◌<◌, Bool, true, false, cond, not, List, [], ◌∷◌, length, Some, slice_get, refl}
-use Rattle.std.proofs.Common.{sym, ap, ◌∙◌, arith}
-use Rattle.std.specs.Prelude.{All, filter, is_some}
-use Rattle.std.specs.List.{list_all}
-use Rattle.std.proofs.lemmas.Bool.{and_parts}
-use Rattle.std.proofs.lemmas.List.Elements.{All-nil, All-cons, All-weaker}
+use Rattle.std.proofs.Common.{◌≡◌, ℕ, suc, zero, ◌<◌, Bool, true, false, cond, not, List, [], ◌∷◌, length, Some, slice_get, refl, sym, ap}
+use Rattle.std.proofs.{Common.{◌∙◌, arith}, lemmas.{Bool.and_parts, List.Elements.{All-nil, All-cons, All-weaker}}}
+use Rattle.std.specs.{Prelude.{All, filter, is_some}, List.list_all}
 use Rattle.marple_base.specs.declared.field.Field.{Field}
 use Rattle.net_laws.specs.Fields.{makes_field, names_field}
-use Rattle.query_lang.specs.Streams.{taking_of}
-use Rattle.query_lang.specs.declared.typed.TypedOp.{TypedOp}
-use Rattle.query_lang.specs.declared.typed.TypedOp.TheVariants.{Filter, Map, Zip, Group}
-use Rattle.query_lang.specs.declared.typed.TypedQuery.{TypedQuery}
-use Rattle.query_lang.specs.declared.typed.TypedStream.{TypedStream}
-use Rattle.part_laws.specs.AcceptedParts.{AcceptedFieldsKeepKeys}
-use Rattle.part_laws.specs.Parts.{HasFieldKey, groupbys}
+use Rattle.query_lang.specs.{Streams.taking_of, declared.typed.TypedOp.{TypedOp, TheVariants.{Filter, Map, Zip, Group}}}
+use Rattle.query_lang.specs.declared.typed.{TypedQuery.TypedQuery, TypedStream.TypedStream}
+use Rattle.part_laws.specs.{AcceptedParts.AcceptedFieldsKeepKeys, Parts.{HasFieldKey, groupbys}}
 use Rattle.epoch_model.specs.Keys.{bucket_of}
-use Rattle.split_fields.specs.SplitLaws.{ByHashKeepsKeys}
-use Rattle.split_fields.specs.Splits.{all_keyed, is_keyed, may_split}
+use Rattle.split_fields.specs.{SplitLaws.ByHashKeepsKeys, Splits.{all_keyed, is_keyed, may_split}}
 
 takes : (field : Field) (names : List (List ℕ)) (columns : List ℕ) (op : TypedOp) → is_some (taking_of op) ≡ true
     → is_keyed field names columns op ≡ true

@@ -1,9 +1,7 @@
 -- The parts of pieces.
-use Rattle.std.proofs.Common.{◌≡◌, ℕ, List, [], ◌∷◌, ◌++◌, refl, ap, ◌∙◌}
-use Rattle.std.specs.Prelude.{flat_map}
+use Rattle.std.{proofs.Common.{◌≡◌, ℕ, List, [], ◌∷◌, ◌++◌, refl, ap, ◌∙◌}, specs.Prelude.flat_map}
 use Rattle.marple_base.specs.declared.field.Packet.{Packet}
-use Rattle.part_texts.specs.Texts.{packets_of_part}
-use Rattle.part_texts.proofs.TextFacts.{packets_append}
+use Rattle.part_texts.{specs.Texts.packets_of_part, proofs.TextFacts.packets_append}
 use Rattle.split_fields.specs.SplitLaws.{SplitsAreOfPackets}
 
 pub splits_are_of_packets_lem : SplitsAreOfPackets

@@ -1,14 +1,10 @@
 -- Sets of fields, filled field by field.
-use Rattle.std.proofs.Common.{◌≡◌, ◌↔◌, ◌⊎◌, ℕ, suc, zero, ◌+◌, ◌<◌, ◌≤◌, Bool, true, false, get_or, refl, sym, ap, ◌∙◌, inl}
-use Rattle.std.proofs.Common.{inr, arith}
+use Rattle.std.proofs.Common.{◌≡◌, ◌↔◌, ◌⊎◌, ℕ, suc, zero, ◌+◌, ◌<◌, ◌≤◌, Bool, true, false, get_or, refl, sym, ap, ◌∙◌, inl, inr, arith}
 use Rattle.std.proofs.lemmas.Bool.{cases_eq}
-use Rattle.marple_base.specs.Field.{HasField, all_fields, has_field, no_fields, number_of}
+use Rattle.marple_base.specs.{Field.{HasField, all_fields, has_field, no_fields, number_of}, declared.field.Field.Field}
+use Rattle.marple_base.specs.declared.field.Field.TheVariants.{Switch, Qid, Uid, SrcIp, DstIp, SrcPort, DstPort, Proto, PktLen, PayloadLen}
+use Rattle.marple_base.specs.declared.field.{Field.TheVariants.{TcpSeq, Tin, Tout, QSize}, FieldSet.FieldSet, TheConstants.FIELDS}
 use Rattle.marple_base.proofs.Fields.{same_field}
-use Rattle.marple_base.specs.declared.field.Field.{Field}
-use Rattle.marple_base.specs.declared.field.Field.TheVariants.{Switch, Qid, Uid, SrcIp, DstIp, SrcPort, DstPort, Proto}
-use Rattle.marple_base.specs.declared.field.Field.TheVariants.{PktLen, PayloadLen, TcpSeq, Tin, Tout, QSize}
-use Rattle.marple_base.specs.declared.field.FieldSet.{FieldSet}
-use Rattle.marple_base.specs.declared.field.TheConstants.{FIELDS}
 
 none_there : (f : Field) → has_field no_fields f ≡ false
 none_there Switch = refl

@@ -1,8 +1,7 @@
 -- Laws of splitting.
 use Rattle.std.specs.Prelude.{◌≡◌, ◌<◌, ℕ, true, List, [], ◌∷◌, ◌++◌, length, All, flat_map, Ok}
 use Rattle.accepted_query.specs.Accepted.{accepted}
-use Rattle.marple_base.specs.declared.field.Field.{Field}
-use Rattle.marple_base.specs.declared.field.Packet.{Packet}
+use Rattle.marple_base.specs.declared.field.{Field.Field, Packet.Packet}
 use Rattle.part_laws.specs.Parts.{KeepsKeys, Partition, by_fields, groupbys}
 use Rattle.part_texts.specs.Texts.{packets_of_part, part_by_hash}
 use Rattle.query_lang.specs.declared.typed.TypedQuery.{TypedQuery}

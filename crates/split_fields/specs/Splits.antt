@@ -1,11 +1,8 @@
 -- The fields by which a trace may be split.
-use Rattle.std.specs.Prelude.{ℕ, Bool, true, ◌&&◌, not, List}
-use Rattle.std.specs.List.{list_all}
+use Rattle.std.specs.{Prelude.{ℕ, Bool, true, ◌&&◌, not, List}, List.list_all}
 use Rattle.marple_base.specs.declared.field.Field.{Field}
 use Rattle.net_laws.specs.Fields.{makes_field, names_field}
-use Rattle.query_lang.specs.declared.typed.TypedOp.{TypedOp}
-use Rattle.query_lang.specs.declared.typed.TypedOp.TheVariants.{Filter, Map, Zip, Group}
-use Rattle.query_lang.specs.declared.typed.TypedQuery.{TypedQuery}
+use Rattle.query_lang.specs.declared.typed.{TypedOp.{TypedOp, TheVariants.{Filter, Map, Zip, Group}}, TypedQuery.TypedQuery}
 use Rattle.query_lang.specs.declared.typed.TypedStream.{TypedStream}
 
 -- whether a stream is no groupby's, or that of a groupby with a key that has the field's name; the columns of a groupby's stream

@@ -1,8 +1,7 @@
 //! Which fields decide the part of a packet.
 
 ghost use Rattle.std.specs.Prelude.{◌≡◌};
-ghost use Rattle.marple_base.specs.Field.{has_field};
-ghost use Rattle.marple_base.specs.declared.field.Field.{Field as AnyField};
+ghost use Rattle.marple_base.specs.{Field.has_field, declared.field.Field.{Field as AnyField}};
 ghost use Rattle.split_fields.specs.Splits.{all_keyed, is_keyed, may_split};
 
 use marple_base::{FIELDS, Field, FieldSet};

@@ -1,29 +1,20 @@
 -- The tables of finals over the tables of parts, final by final.
 use Rattle.std.proofs.Common.{◌≡◌, ℕ, zero, suc, ◌<◌, List, [], ◌∷◌, ◌++◌, Option, Some, None, length, map, refl, sym, ap, ◌∙◌, subst}
-use Rattle.std.proofs.Common.{arith, length-append}
-use Rattle.std.specs.Prelude.{◌⊎◌, ⊤, All, slice_get, unwrap_or}
-use Rattle.std.proofs.Common.{inl, inr}
-use Rattle.std.proofs.lemmas.List.Elements.{All-head, All-tail}
-use Rattle.std.proofs.lemmas.Option.{same_Some, slice_get_within}
+use Rattle.std.proofs.{Common.{arith, length-append, inl, inr}, lemmas.List.Elements.{All-head, All-tail}}
+use Rattle.std.{proofs.lemmas.Option.{same_Some, slice_get_within}, specs.Prelude.{◌⊎◌, ⊤, All, slice_get, unwrap_or}}
 use mathlib.Core.Path.{fun_ext}
-use Rattle.epoch_model.specs.declared.tables.Row.{Row}
-use Rattle.epoch_model.specs.Keys.{Key}
+use Rattle.epoch_model.specs.{declared.tables.Row.Row, Keys.Key}
 use Rattle.final_queries.specs.Finals.{filtered_rows, final_rows, final_table, joined_rows, mapped_rows, top_rows, with_finals}
 use Rattle.final_queries.specs.declared.table.Table.{Table}
-use Rattle.query_lang.specs.declared.fold.TypedFold.{TypedFold}
-use Rattle.query_lang.specs.declared.typed.TypedFinal.{TypedFinal}
-use Rattle.query_lang.specs.declared.typed.TypedFinalOp.{TypedFinalOp}
+use Rattle.query_lang.specs.declared.{fold.TypedFold.TypedFold, typed.{TypedFinal.TypedFinal, TypedFinalOp.TypedFinalOp}}
 use Rattle.query_lang.specs.declared.typed.TypedFinalOp.TheVariants.{Filter, Map, Group, Join, Top}
 use Rattle.additive_laws.specs.TraceLaws.{AreApart}
-use Rattle.part_laws.specs.FinalParts.{AreOfParts, rows_of_all}
-use Rattle.part_laws.proofs.Composing.{filters_stay, maps_stay, joins_stay}
-use Rattle.part_laws.proofs.NoEpochs.{filters_bare, maps_bare, joins_bare, tops_bare}
+use Rattle.part_laws.specs.{FinalParts.{AreOfParts, rows_of_all}, PartLaws.but_for_epochs}
+use Rattle.part_laws.proofs.{Composing.{filters_stay, maps_stay, joins_stay}, NoEpochs.{filters_bare, maps_bare, joins_bare, tops_bare}}
 use Rattle.part_laws.proofs.TopRows.{tops_are_of_tops}
 use Rattle.split_laws.specs.Merging.{Merge, InOrder, TopAgain, NotMerged, final_merge, joined, merge_at, merges_with, rows_in, rows_of}
-use Rattle.split_laws.specs.Merging.{still_in_order, top_of}
-use Rattle.part_laws.specs.PartLaws.{but_for_epochs}
-use Rattle.split_laws.proofs.PlainRows.{IsPlain, IsRead, filtered_plain, mapped_plain, joined_plain, top_plain, made_bare, made_read}
-use Rattle.split_laws.proofs.PlainRows.{both_bare, both_read, read_of}
+use Rattle.split_laws.{specs.Merging.{still_in_order, top_of}, proofs.PlainRows.{IsPlain, IsRead, filtered_plain, mapped_plain}}
+use Rattle.split_laws.proofs.PlainRows.{joined_plain, top_plain, made_bare, made_read, both_bare, both_read, read_of}
 
 -- ---- one more at the end of a list
 

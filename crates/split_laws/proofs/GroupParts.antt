@@ -1,44 +1,28 @@
 -- The tables of the groupbys of a split text, over the whole and over its parts.
 use Rattle.std.proofs.Common.{Bool, cond, ◌≡◌, ℕ, ◌+◌, ◌<◌, false, true, List, [], ◌∷◌, Option, Some, None, length, map, filter, flat_map}
-use Rattle.std.proofs.Common.{Ok}
-use Rattle.std.proofs.Common.{refl, sym, ap, ◌∙◌, subst, arith}
-use Rattle.std.specs.Prelude.{All, slice_get, option_map}
-use Rattle.std.specs.List.{range_with_len}
-use Rattle.std.proofs.lemmas.List.{length-map}
-use Rattle.std.proofs.lemmas.List.Elements.{All-nil, All-cons, All-append}
-use Rattle.std.proofs.lemmas.Option.{same_Some, slice_get-map}
+use Rattle.std.proofs.{Common.{Ok, refl, sym, ap, ◌∙◌, subst, arith}, lemmas.List.{length-map, Elements.{All-nil, All-cons, All-append}}}
+use Rattle.std.{proofs.lemmas.Option.{same_Some, slice_get-map}, specs.{Prelude.{All, slice_get, option_map}, List.range_with_len}}
 use mathlib.Core.Path.{fun_ext}
 use Rattle.epoch_entry.specs.Foldings.{folding_of, per_epoch}
-use Rattle.epoch_model.specs.Epochs.{Geometry, Use, epochs, is_use_of}
-use Rattle.epoch_model.specs.Keys.{Key, bucket_of}
+use Rattle.epoch_model.specs.{Epochs.{Geometry, Use, epochs, is_use_of}, Keys.{Key, bucket_of}}
 use Rattle.epoch_model.specs.Tables.{Folding, exact_row, group_rows, key_rows, keys_used}
 use Rattle.accepted_query.specs.Accepted.{accepted}
 use Rattle.final_queries.specs.declared.table.Table.{Table}
 use Rattle.fold_class.specs.Kinds.{class_of}
-use Rattle.marple_base.specs.declared.field.Field.{Field}
-use Rattle.marple_base.specs.declared.field.Packet.{Packet}
-use Rattle.query_lang.specs.declared.fold.TypedFold.{TypedFold}
-use Rattle.query_lang.specs.declared.typed.Class.{Class}
-use Rattle.query_lang.specs.declared.typed.Class.TheVariants.{Linear, Other}
-use Rattle.query_lang.specs.declared.typed.TypedQuery.{TypedQuery}
+use Rattle.marple_base.specs.declared.field.{Field.Field, Packet.Packet}
+use Rattle.query_lang.specs.declared.{fold.TypedFold.TypedFold, typed.{Class.{Class, TheVariants.{Linear, Other}}, TypedQuery.TypedQuery}}
 use Rattle.query_lang.specs.TypedQueries.{IsValidQuery}
 use Rattle.query_tables.specs.Tables.{group_tables, query_table, tables_from}
 use Rattle.query_types.specs.Uses.{uses}
-use Rattle.stage_plan.specs.Packets.{AreWhole}
-use Rattle.stage_plan.specs.Planned.{fold_at}
-use Rattle.stage_plan.specs.Shape.{GroupShape, query_groups}
-use Rattle.part_laws.specs.AcceptedParts.{AcceptedTablesInOrder}
-use Rattle.part_laws.specs.FinalParts.{AreOfParts}
-use Rattle.part_laws.specs.PartLaws.{but_for_epochs}
+use Rattle.stage_plan.specs.{Packets.AreWhole, Planned.fold_at, Shape.{GroupShape, query_groups}}
+use Rattle.part_laws.specs.{AcceptedParts.AcceptedTablesInOrder, FinalParts.AreOfParts, PartLaws.but_for_epochs}
 use Rattle.part_laws.specs.Parts.{HasFieldKey, part_at, part_by}
 use Rattle.part_texts.specs.Texts.{packets_of_part, part_by_hash}
 use Rattle.net_laws.specs.Fields.{makes_field}
-use Rattle.split_laws.specs.Merging.{Merge, NotMerged, by_class, group_merge, has_keys}
-use Rattle.trace_drive.specs.Drives.{words_of}
-use Rattle.split_laws.proofs.FinalWalk.{InParts, IsMerged, Stands}
+use Rattle.split_laws.{specs.Merging.{Merge, NotMerged, by_class, group_merge, has_keys}, proofs.FinalWalk.{InParts, IsMerged, Stands}}
 use Rattle.split_laws.proofs.Groupbys.{IsGroupby, field_keys, groupby_at, part_named, same_part, table_at, tables_long}
-use Rattle.split_laws.proofs.PartNumbers.{are_apart, are_the_parts, words_at_part}
-use Rattle.split_laws.proofs.PlainRows.{IsRead}
+use Rattle.split_laws.proofs.{PartNumbers.{are_apart, are_the_parts, words_at_part}, PlainRows.IsRead}
+use Rattle.trace_drive.specs.Drives.{words_of}
 
 -- where each key has one row, finals read all rows
 rows_read : (f : Folding) (g : Geometry) (us : List Use) (keys : List Key) → f.row_per_epoch ≡ false

@@ -1,30 +1,18 @@
 -- The groupbys of a valid query, by their numbers.
 use Rattle.std.proofs.Common.{◌≡◌, ℕ, zero, suc, ◌+◌, ◌||◌, Bool, true, false, cond, not, List, [], ◌∷◌, ◌++◌, Option, Some, None, length}
-use Rattle.std.proofs.Common.{map}
-use Rattle.std.proofs.Common.{filter, refl, sym, ap, ◌∙◌, subst, arith}
+use Rattle.std.proofs.{Common.{map, filter, refl, sym, ap, ◌∙◌, subst, arith}, lemmas.Bool.and_parts}
+use Rattle.std.proofs.lemmas.{List.Elements.{All-nil, All-cons, All-head, All-tail}, Option.same_Some}
 use Rattle.std.specs.Prelude.{All, get_or, is_some, slice_get, slice_index, option_and_then, option_map}
-use Rattle.std.specs.List.{cons_option, filter_map, list_all, list_any}
-use Rattle.std.specs.Str.{bytes_eq}
-use Rattle.std.proofs.lemmas.Bool.{and_parts}
-use Rattle.std.proofs.lemmas.List.Elements.{All-nil, All-cons, All-head, All-tail}
-use Rattle.std.proofs.lemmas.Option.{same_Some}
+use Rattle.std.specs.{List.{cons_option, filter_map, list_all, list_any}, Str.bytes_eq}
 use mathlib.Core.Path.{fun_ext}
-use Rattle.epoch_model.specs.Epochs.{Geometry}
-use Rattle.epoch_model.specs.Keys.{Key}
-use Rattle.marple_base.specs.Field.{field_name}
-use Rattle.marple_base.specs.declared.field.Field.{Field}
+use Rattle.epoch_model.specs.{Epochs.Geometry, Keys.Key}
+use Rattle.marple_base.specs.{Field.field_name, declared.field.Field.Field}
 use Rattle.net_laws.specs.Fields.{is_named, makes_field, names_field}
-use Rattle.query_lang.specs.declared.fold.TypedFold.{TypedFold}
-use Rattle.query_lang.specs.declared.typed.TypedOp.{TypedOp}
-use Rattle.query_lang.specs.declared.typed.TypedOp.TheVariants.{Filter, Map, Zip, Group}
-use Rattle.query_lang.specs.declared.typed.TypedQuery.{TypedQuery}
-use Rattle.query_lang.specs.declared.typed.TypedStream.{TypedStream}
-use Rattle.query_lang.specs.Folds.{fold_args}
-use Rattle.query_lang.specs.Streams.{Taking, taking_of, takings}
-use Rattle.query_lang.specs.TypedQueries.{AreValidStreams, IsValidOp, IsValidQuery}
+use Rattle.query_lang.specs.declared.{fold.TypedFold.TypedFold, typed.TypedOp.{TypedOp, TheVariants.{Filter, Map, Zip, Group}}}
+use Rattle.query_lang.specs.{declared.typed.{TypedQuery.TypedQuery, TypedStream.TypedStream}, Folds.fold_args}
+use Rattle.query_lang.specs.{Streams.{Taking, taking_of, takings}, TypedQueries.{AreValidStreams, IsValidOp, IsValidQuery}}
 use Rattle.query_tables.specs.Tables.{query_table, table_if, tables_from}
-use Rattle.stage_plan.specs.Planned.{fold_at}
-use Rattle.stage_plan.specs.Shape.{GroupShape, query_groups, shape_made, shape_with, text_at}
+use Rattle.stage_plan.specs.{Planned.fold_at, Shape.{GroupShape, query_groups, shape_made, shape_with, text_at}}
 use Rattle.part_laws.specs.Parts.{HasFieldKey, first_named, groupbys, part_by}
 use Rattle.split_fields.specs.Splits.{all_keyed, is_keyed, may_split}
 use Rattle.split_laws.specs.Merging.{has_keys}

@@ -1,16 +1,10 @@
 -- The tables of a query have the same headings over all packets.
-use Rattle.std.proofs.Common.{◌≡◌, ℕ, suc, List, [], ◌∷◌, ◌++◌, Option, Some, None, map, refl, sym, ap, ◌∙◌}
-use Rattle.std.proofs.lemmas.List.{map-append}
-use Rattle.epoch_model.specs.Epochs.{Geometry}
-use Rattle.epoch_model.specs.declared.tables.Row.{Row}
-use Rattle.final_queries.specs.Finals.{final_table, with_finals}
-use Rattle.final_queries.specs.declared.table.Table.{Table}
-use Rattle.query_lang.specs.declared.fold.TypedFold.{TypedFold}
-use Rattle.query_lang.specs.declared.typed.TypedFinal.{TypedFinal}
-use Rattle.query_lang.specs.declared.typed.TypedQuery.{TypedQuery}
+use Rattle.std.proofs.{Common.{◌≡◌, ℕ, suc, List, [], ◌∷◌, ◌++◌, Option, Some, None, map, refl, sym, ap, ◌∙◌}, lemmas.List.map-append}
+use Rattle.epoch_model.specs.{Epochs.Geometry, declared.tables.Row.Row}
+use Rattle.final_queries.specs.{Finals.{final_table, with_finals}, declared.table.Table.Table}
+use Rattle.query_lang.specs.declared.{fold.TypedFold.TypedFold, typed.{TypedFinal.TypedFinal, TypedQuery.TypedQuery}}
 use Rattle.query_tables.specs.Tables.{group_tables, query_table, query_tables, table_if, tables_from}
-use Rattle.stage_plan.specs.Planned.{fold_at}
-use Rattle.stage_plan.specs.Shape.{GroupShape, query_groups}
+use Rattle.stage_plan.specs.{Planned.fold_at, Shape.{GroupShape, query_groups}}
 use Rattle.split_laws.specs.Merging.{with_rows}
 
 -- a table without its rows

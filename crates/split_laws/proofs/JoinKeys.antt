@@ -1,37 +1,24 @@
 -- Two tables that are joined in a typed query have the same keys.
-use Rattle.std.proofs.Common.{◌≡◌, ℕ, zero, suc, ◌+◌, ◌≤◌, true, List, [], ◌∷◌, ◌++◌, Option, Some, None, length, map}
-use Rattle.std.proofs.Common.{take, filter, refl, sym, ap, ◌∙◌, subst, inl, inr, arith, length-append}
+use Rattle.std.proofs.Common.{◌≡◌, ℕ, zero, suc, ◌+◌, ◌≤◌, true, List, [], ◌∷◌, ◌++◌, Option, Some, None, length, map, take, filter, refl}
+use Rattle.std.proofs.{Common.{sym, ap, ◌∙◌, subst, inl, inr, arith, length-append}, lemmas.List.map-append}
+use Rattle.std.proofs.lemmas.{List.Elements.{All-head, All-tail, filter-append}, Option.same_Some}
 use Rattle.std.specs.Prelude.{⊤, All, is_some, slice_get}
-use Rattle.std.proofs.lemmas.List.{map-append}
-use Rattle.std.proofs.lemmas.List.Elements.{All-head, All-tail, filter-append}
-use Rattle.std.proofs.lemmas.Option.{same_Some}
 use Rattle.query_lang.specs.declared.query.FinalOp.{FinalOp}
 use Rattle.query_lang.specs.declared.query.FinalOp.TheVariants as final
 use Rattle.query_lang.specs.declared.query.StreamOp.{StreamOp}
 use Rattle.query_lang.specs.declared.query.StreamOp.TheVariants as ops
 use Rattle.query_lang.specs.declared.typed.PrintOf.TheVariants as place
-use Rattle.query_lang.specs.declared.typed.TypedFinal.{TypedFinal}
-use Rattle.query_lang.specs.declared.typed.TypedFinalOp.{TypedFinalOp}
+use Rattle.query_lang.specs.declared.typed.{TypedFinal.TypedFinal, TypedFinalOp.TypedFinalOp}
 use Rattle.query_lang.specs.declared.typed.TypedFinalOp.TheVariants as typed
-use Rattle.query_lang.specs.declared.typed.TypedStream.{TypedStream}
-use Rattle.query_lang.specs.declared.typing.Given.{Given}
-use Rattle.query_lang.specs.declared.typing.Known.{Known}
-use Rattle.query_lang.specs.declared.typing.MadeFinal.{MadeFinal}
-use Rattle.query_lang.specs.declared.typing.MadeStream.{MadeStream}
-use Rattle.query_lang.specs.declared.typing.Meaning.{Meaning}
+use Rattle.query_lang.specs.declared.{typed.TypedStream.TypedStream, typing.{Given.Given, Known.Known, MadeFinal.MadeFinal}}
+use Rattle.query_lang.specs.declared.typing.{MadeStream.MadeStream, Meaning.Meaning}
 use Rattle.query_lang.specs.declared.typing.Meaning.TheVariants as meaning
-use Rattle.query_lang.specs.declared.typing.StreamColumn.{StreamColumn}
-use Rattle.query_lang.specs.declared.typing.TableView.{TableView}
-use Rattle.query_lang.specs.Streams.{taking_of}
-use Rattle.query_lang.specs.TypedFinals.{five_fields, key_columns, other_columns, table_number}
-use Rattle.query_lang.specs.TypedStreams.{column_names}
-use Rattle.query_laws.specs.Context.{IsTable, NameStandsFor}
-use Rattle.query_laws.specs.ExprRules.{StandsAt}
-use Rattle.query_laws.specs.FinalRules.{HasFinal}
+use Rattle.query_lang.specs.{declared.typing.{StreamColumn.StreamColumn, TableView.TableView}, Streams.taking_of}
+use Rattle.query_lang.specs.{TypedFinals.{five_fields, key_columns, other_columns, table_number}, TypedStreams.column_names}
+use Rattle.query_laws.specs.{Context.{IsTable, NameStandsFor}, ExprRules.StandsAt, FinalRules.HasFinal}
 use Rattle.query_laws.specs.StreamRules.{AreAt, HasSlots, HasStream, key_ids, new_names}
 use Rattle.stage_plan.specs.Shape.{text_at}
-use Rattle.split_laws.specs.Merging.{Merge, InOrder, merge_at}
-use Rattle.split_laws.proofs.FinalWalk.{JoinsMatch}
+use Rattle.split_laws.{specs.Merging.{Merge, InOrder, merge_at}, proofs.FinalWalk.JoinsMatch}
 
 -- ---- the columns of a groupby's stream are its keys
 

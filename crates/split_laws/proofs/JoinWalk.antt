@@ -1,29 +1,18 @@
 -- The items of a typed query, one after the other: the tables that its joins join have the same keys.
-use Rattle.std.proofs.Common.{◌≡◌, ℕ, ◌+◌, ◌≤◌, Bool, true, false, cond, List, [], ◌∷◌, ◌++◌, Some, length, map}
-use Rattle.std.proofs.Common.{refl, sym, ap, ◌∙◌, subst, arith, append-nil, append_assoc, length-append}
-use Rattle.std.specs.Prelude.{All, count_by, is_some, slice_get}
-use Rattle.std.proofs.lemmas.List.Elements.{All-nil, All-cons, All-push}
-use Rattle.std.proofs.lemmas.List.Sums.{sum_by-cons}
+use Rattle.std.proofs.Common.{◌≡◌, ℕ, ◌+◌, ◌≤◌, Bool, true, false, cond, List, [], ◌∷◌, ◌++◌, Some, length, map, refl, sym, ap, ◌∙◌, subst}
+use Rattle.std.proofs.{Common.{arith, append-nil, append_assoc, length-append}, lemmas.List.Elements.{All-nil, All-cons, All-push}}
+use Rattle.std.{proofs.lemmas.List.Sums.sum_by-cons, specs.Prelude.{All, count_by, is_some, slice_get}}
 use Rattle.query_lang.specs.declared.query.Item.{Item}
 use Rattle.query_lang.specs.declared.query.Item.TheVariants as item
 use Rattle.query_lang.specs.declared.query.StreamOp.{StreamOp}
 use Rattle.query_lang.specs.declared.query.StreamOp.TheVariants as ops
-use Rattle.query_lang.specs.declared.typed.TypedFinal.{TypedFinal}
-use Rattle.query_lang.specs.declared.typed.TypedStream.{TypedStream}
-use Rattle.query_lang.specs.declared.typing.Given.{Given}
-use Rattle.query_lang.specs.declared.typing.Known.{Known}
-use Rattle.query_lang.specs.declared.typing.MadeStream.{MadeStream}
-use Rattle.query_lang.specs.Streams.{taking_of}
-use Rattle.query_lang.specs.TypedFinals.{five_fields}
-use Rattle.query_lang.specs.TypedStreams.{column_names}
-use Rattle.query_lang.specs.Typing.{is_group, is_groupby}
-use Rattle.query_lang.specs.declared.fault.TheConstants.{MAX_GROUPBYS}
+use Rattle.query_lang.specs.declared.{typed.{TypedFinal.TypedFinal, TypedStream.TypedStream}, typing.{Given.Given, Known.Known}}
+use Rattle.query_lang.specs.{declared.typing.MadeStream.MadeStream, Streams.taking_of, TypedFinals.five_fields, TypedStreams.column_names}
+use Rattle.query_lang.specs.{Typing.{is_group, is_groupby}, declared.fault.TheConstants.MAX_GROUPBYS}
 use Rattle.query_laws.specs.Context.{Entry, AFold, AStream, AFinal, APrint, finals_in, groups_in, known_in, streams_in}
-use Rattle.query_laws.specs.QueryRules.{HasItem, HasItems, of_none, of_more}
-use Rattle.query_laws.specs.StreamRules.{HasStream}
+use Rattle.query_laws.specs.{QueryRules.{HasItem, HasItems, of_none, of_more}, StreamRules.HasStream}
 use Rattle.stage_plan.specs.Shape.{text_at}
-use Rattle.split_laws.specs.Merging.{Merge, InOrder, merge_at}
-use Rattle.split_laws.proofs.FinalWalk.{JoinsMatch}
+use Rattle.split_laws.{specs.Merging.{Merge, InOrder, merge_at}, proofs.FinalWalk.JoinsMatch}
 use Rattle.split_laws.proofs.JoinKeys.{IsMadeOf, OneNamed, group_keys, group_keys-append, made_final, made_stream, next_of}
 
 -- ---- items come after those before them

@@ -1,10 +1,7 @@
 -- Pieces that are cut after ends of lines.
 use Rattle.std.proofs.Common.{◌≡◌, ℕ, ◌+◌, List, [], ◌∷◌, ◌++◌, None, length, refl, sym, ap, ◌∙◌, subst, append_assoc, arith}
-use Rattle.std.proofs.lemmas.List.{take_all}
-use Rattle.std.proofs.lemmas.List.Elements.{All-head, All-tail}
-use Rattle.trace_pieces.proofs.ContentFacts.{after_after, after_none, piece_sent}
-use Rattle.trace_pieces.proofs.CutFacts.{cut_after}
-use Rattle.trace_pieces.specs.Machine.{EndsBetween}
+use Rattle.std.proofs.lemmas.List.{take_all, Elements.{All-head, All-tail}}
+use Rattle.trace_pieces.{proofs.{ContentFacts.{after_after, after_none, piece_sent}, CutFacts.cut_after}, specs.Machine.EndsBetween}
 use Rattle.trace_pieces.specs.Wholes.{all_contents, all_packets, first_fault}
 use Rattle.split_laws.specs.Lines.{AreLines, LinesMayBeCut, after_packets, joined_text, packets_of_pieces}
 

@@ -1,50 +1,29 @@
 -- Folds with a row for each epoch, over parts, and folds that only add, over pieces.
-use Rattle.std.proofs.Common.{◌≡◌, ℕ, ◌<◌, true, false, ◌==◌, List, [], ◌∷◌, ◌++◌, Some, length, map}
-use Rattle.std.proofs.Common.{flat_map, fold, refl, sym, ap, ◌∙◌, subst, arith}
-use Rattle.std.specs.Prelude.{All, slice_get}
-use Rattle.std.proofs.lemmas.List.{map-append}
-use Rattle.std.proofs.lemmas.Option.{get_or_from_slice_get, option_and_then_some, slice_get_within}
-use Rattle.additive_laws.proofs.Counts.{not_number, same_number}
-use Rattle.additive_laws.specs.Amounts.{plus, zeros}
-use Rattle.additive_laws.specs.Laws.{IsAdditiveFrom}
-use Rattle.additive_laws.specs.TraceLaws.{rows_used}
+use Rattle.std.proofs.Common.{◌≡◌, ℕ, ◌<◌, true, false, ◌==◌, List, [], ◌∷◌, ◌++◌, Some, length, map, flat_map, fold, refl, sym, ap, ◌∙◌}
+use Rattle.std.proofs.{Common.{subst, arith}, lemmas.List.map-append}
+use Rattle.std.{proofs.lemmas.Option.{get_or_from_slice_get, option_and_then_some, slice_get_within}, specs.Prelude.{All, slice_get}}
+use Rattle.additive_laws.{proofs.Counts.{not_number, same_number}, specs.{Amounts.{plus, zeros}, Laws.IsAdditiveFrom, TraceLaws.rows_used}}
 use Rattle.epoch_entry.specs.Foldings.{folding_of, per_epoch}
-use Rattle.epoch_model.proofs.Cuts.{epochs-pieces, epochs_cut_the_rows_lem}
-use Rattle.epoch_model.proofs.KeyLists.{by_test}
-use Rattle.epoch_model.proofs.TableRows.{joined-some, some}
-use Rattle.epoch_model.specs.Epochs.{Geometry, Use, epochs}
-use Rattle.epoch_model.specs.Keys.{ArgRow, Key, ascending, bucket_of}
+use Rattle.epoch_model.proofs.{Cuts.{epochs-pieces, epochs_cut_the_rows_lem}, KeyLists.by_test, TableRows.{joined-some, some}}
+use Rattle.epoch_model.specs.{Epochs.{Geometry, Use, epochs}, Keys.{ArgRow, Key, ascending, bucket_of}}
 use Rattle.epoch_model.specs.Tables.{group_rows, key_rows, keys_used}
-use Rattle.fold_class.proofs.LawLemmas.{additive_class}
-use Rattle.fold_class.specs.Kinds.{class_of}
+use Rattle.fold_class.{proofs.LawLemmas.additive_class, specs.Kinds.class_of}
 use Rattle.marple_base.specs.declared.field.Packet.{Packet}
-use Rattle.part_laws.proofs.InSequence.{pieces_join}
-use Rattle.part_laws.proofs.Keeping.{others_have_none}
+use Rattle.part_laws.proofs.{InSequence.pieces_join, Keeping.others_have_none}
 use mathlib.Core.Path.{fun_ext}
-use Rattle.part_laws.proofs.Tables.{valid_rows}
-use Rattle.part_laws.specs.PartLaws.{but_for_epochs, row_of_state, valid_row}
-use Rattle.part_laws.specs.Parts.{HasFieldKey, KeepsKeys, part_uses, whole_rows}
-use Rattle.part_laws.specs.Pieces.{in_sequence}
+use Rattle.part_laws.{proofs.Tables.valid_rows, specs.PartLaws.{but_for_epochs, row_of_state, valid_row}}
+use Rattle.part_laws.specs.{Parts.{HasFieldKey, KeepsKeys, part_uses, whole_rows}, Pieces.in_sequence, AcceptedParts.AcceptedFieldsKeepKeys}
 use Rattle.part_texts.specs.Texts.{part_by_hash}
-use Rattle.query_lang.specs.declared.fold.TypedFold.{TypedFold}
-use Rattle.query_lang.specs.declared.typed.TypedQuery.{TypedQuery}
-use Rattle.query_lang.specs.Folds.{IsValidFold, folded}
-use Rattle.query_lang.specs.Streams.{Taking, takings}
-use Rattle.query_lang.specs.Words.{AreWords}
+use Rattle.query_lang.specs.{declared.{fold.TypedFold.TypedFold, typed.TypedQuery.TypedQuery}, Folds.{IsValidFold, folded}}
+use Rattle.query_lang.specs.{Streams.{Taking, takings}, Words.AreWords}
 use Rattle.query_laws.specs.ValidLaws.{AcceptedAreValid, AcceptedStartAsWords}
 use Rattle.query_types.specs.Uses.{uses}
-use Rattle.part_laws.specs.AcceptedParts.{AcceptedFieldsKeepKeys}
-use Rattle.split_laws.proofs.Groupbys.{field_keys, groupby_at, split_keys, split_unmade}
-use Rattle.stage_plan.specs.Shape.{query_groups}
-use Rattle.std.specs.Prelude.{get_or}
-use Rattle.std.proofs.lemmas.Option.{slice_get-get_or}
-use Rattle.split_laws.proofs.PartNumbers.{words_at_part}
-use Rattle.split_laws.proofs.WholeFacts.{all_whole, part_read}
+use Rattle.split_laws.proofs.{Groupbys.{field_keys, groupby_at, split_keys, split_unmade}, PartNumbers.words_at_part}
+use Rattle.split_laws.{proofs.WholeFacts.{all_whole, part_read}, specs.WholeRuns.{EachFits, Split, SplitFieldsAreKeys, SumsAreOfPieces}}
+use Rattle.split_laws.specs.WholeRuns.{ValidRowsAreOfTheWhole, packets_for, uses_of_part, uses_of_whole}
+use Rattle.stage_plan.specs.{Shape.query_groups, Planned.fold_at}
+use Rattle.std.{specs.Prelude.get_or, proofs.lemmas.Option.slice_get-get_or}
 use Rattle.trace_drive.specs.Drives.{words_of}
-use Rattle.split_laws.specs.WholeRuns.{EachFits, Split, SplitFieldsAreKeys, SumsAreOfPieces, ValidRowsAreOfTheWhole, packets_for}
-use Rattle.split_laws.specs.WholeRuns.{uses_of_part}
-use Rattle.split_laws.specs.WholeRuns.{uses_of_whole}
-use Rattle.stage_plan.specs.Planned.{fold_at}
 
 -- ---- a groupby that has a fold
 

@@ -1,22 +1,11 @@
 -- The parts of a splitting are numbered from 0 on.
-use Rattle.std.proofs.Common.{◌≡◌, ◌≢◌, ℕ, zero, suc, ◌+◌, ◌<◌, ◌≤◌, ◌==◌, Bool, true, false, cond, ◌||◌, List, [], ◌∷◌, map}
-use Rattle.std.proofs.Common.{refl, ap, subst, ◌∙◌, arith}
-use Rattle.std.specs.Prelude.{All}
-use Rattle.std.specs.List.{range_with_len}
-use Rattle.std.proofs.lemmas.List.Elements.{All-nil, All-cons}
-use Rattle.epoch_model.proofs.KeyLists.{by_test}
-use Rattle.epoch_model.proofs.MachineSteps.{bucket_of-lt}
-use Rattle.epoch_model.specs.Keys.{Key}
-use Rattle.epoch_model.specs.Tables.{group_rows}
-use Rattle.epoch_model.specs.declared.tables.Row.{Row}
-use Rattle.marple_base.specs.declared.field.Field.{Field}
-use Rattle.marple_base.specs.declared.field.Packet.{Packet}
+use Rattle.std.proofs.Common.{◌≡◌, ◌≢◌, ℕ, zero, suc, ◌+◌, ◌<◌, ◌≤◌, ◌==◌, Bool, true, false, cond, ◌||◌, List, [], ◌∷◌, map, refl, ap}
+use Rattle.std.{proofs.{Common.{subst, ◌∙◌, arith}, lemmas.List.Elements.{All-nil, All-cons}}, specs.{Prelude.All, List.range_with_len}}
+use Rattle.epoch_model.{proofs.{KeyLists.by_test, MachineSteps.bucket_of-lt}, specs.{Keys.Key, Tables.group_rows, declared.tables.Row.Row}}
+use Rattle.marple_base.specs.declared.field.{Field.Field, Packet.Packet}
 use Rattle.query_types.specs.Uses.{uses}
-use Rattle.additive_laws.proofs.Counts.{not_number, same_number}
-use Rattle.additive_laws.specs.TraceLaws.{AreApart, has_number}
-use Rattle.part_laws.proofs.FinalRows.{same_members}
-use Rattle.part_laws.specs.FinalParts.{AreOfParts, ExactTablesInOrder, by_key}
-use Rattle.part_laws.specs.PartLaws.{but_for_epochs}
+use Rattle.additive_laws.{proofs.Counts.{not_number, same_number}, specs.TraceLaws.{AreApart, has_number}}
+use Rattle.part_laws.{proofs.FinalRows.same_members, specs.{FinalParts.{AreOfParts, ExactTablesInOrder, by_key}, PartLaws.but_for_epochs}}
 use Rattle.part_laws.specs.Parts.{AreTheParts, KeepsKeys, part_at}
 use Rattle.part_texts.specs.Texts.{packets_of_part, part_by_hash, field_words}
 use Rattle.split_fields.specs.SplitLaws.{ByHashKeepsKeys}

@@ -1,12 +1,10 @@
 -- The rows of finals, and what finals read of a table whose rows all are read.
 use Rattle.std.proofs.Common.{◌≡◌, ℕ, true, List, [], ◌∷◌, ◌++◌, Option, Some, None, map, filter, refl, sym, ap, ◌∙◌, subst}
-use Rattle.std.specs.Prelude.{All, find, option_map, unwrap_or}
-use Rattle.std.specs.List.{cons_option}
 use Rattle.std.proofs.lemmas.List.Elements.{All-nil, All-cons, All-head, All-tail, All-map}
+use Rattle.std.specs.{Prelude.{All, find, option_map, unwrap_or}, List.cons_option}
 use Rattle.epoch_model.specs.declared.tables.Row.{Row}
 use Rattle.final_queries.specs.Finals.{filtered_rows, is_of_key, is_read, joined_rows, mapped_row, mapped_rows, plain_row, rows_read}
-use Rattle.final_queries.specs.Finals.{top_rows}
-use Rattle.final_queries.specs.declared.table.Table.{Table}
+use Rattle.final_queries.specs.{Finals.top_rows, declared.table.Table.Table}
 use Rattle.query_lang.specs.declared.fold.TypedExpr.{TypedExpr}
 use Rattle.part_laws.specs.PartLaws.{but_for_epochs}
 use Rattle.split_laws.specs.Merging.{rows_in, rows_of}

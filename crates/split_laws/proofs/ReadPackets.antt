@@ -1,31 +1,18 @@
 -- The packets of a trace of any length read back from a text of the fields that are read.
-use Rattle.std.proofs.Common.{◌≡◌, ℕ, ◌+◌, ◌-◌, ◌*◌, ◌^◌, ◌<◌, Bool, true, false, cond, not, List, [], ◌∷◌, length, map, filter}
-use Rattle.std.proofs.Common.{Option, None, Some, Result, Ok, Err, refl, sym, ap, ap₂, ◌∙◌, arith, if◌then◌else◌}
-use Rattle.std.specs.Prelude.{◌==◌, All}
-use Rattle.std.specs.List.{slice_split, zip}
-use Rattle.std.specs.Option.{ok_or, option_and_then, option_map}
-use Rattle.std.specs.Str.{bytes_eq}
-use Rattle.std.specs.Prelude.{codes}
-use Rattle.std.proofs.lemmas.List.Elements.{All-nil, All-cons, All-head, All-tail, All-append}
+use Rattle.std.proofs.Common.{◌≡◌, ℕ, ◌+◌, ◌-◌, ◌*◌, ◌^◌, ◌<◌, Bool, true, false, cond, not, List, [], ◌∷◌, length, map, filter, Option}
+use Rattle.std.proofs.Common.{None, Some, Result, Ok, Err, refl, sym, ap, ap₂, ◌∙◌, arith, if◌then◌else◌}
+use Rattle.std.{proofs.lemmas.List.Elements.{All-nil, All-cons, All-head, All-tail, All-append}, specs.Prelude.{◌==◌, All, codes}}
+use Rattle.std.specs.{List.{slice_split, zip}, Option.{ok_or, option_and_then, option_map}, Str.bytes_eq}
 use Rattle.epoch_model.proofs.KeyLists.{by_test}
-use Rattle.marple_base.specs.Field.{all_fields, has_field}
-use Rattle.marple_base.specs.declared.field.Field.{Field}
+use Rattle.marple_base.specs.{Field.{all_fields, has_field}, declared.field.Field.Field}
 use Rattle.marple_base.specs.declared.field.Field.TheVariants as f
-use Rattle.marple_base.specs.declared.field.FieldSet.{FieldSet}
-use Rattle.marple_base.specs.declared.field.Packet.{Packet}
-use Rattle.marple_base.specs.declared.field.TheConstants.{FIELDS}
-use Rattle.trace_reader.specs.Numbers.{decimal_word, first_some, further_word, infinity_word, is_dot, octet_word, quad_of}
-use Rattle.trace_reader.specs.Numbers.{without_blanks, word_of_text}
-use Rattle.trace_reader.specs.Reading.{records}
-use Rattle.trace_reader.specs.Traces.{Contents, Layout, column_of_field, columns_of_fields, each, layout_of, layout_with, packet_with}
-use Rattle.trace_reader.specs.Traces.{rest_of, field_text_at}
-use Rattle.trace_reader.specs.Traces.{with_packet, word_at, words_in_columns}
-use Rattle.trace_reader.specs.declared.fault.TraceFault.{TraceFault}
-use Rattle.trace_reader.proofs.NumberFacts.{number_parts}
+use Rattle.marple_base.specs.declared.field.{FieldSet.FieldSet, Packet.Packet, TheConstants.FIELDS}
+use Rattle.trace_reader.specs.Numbers.{decimal_word, first_some, further_word, infinity_word, is_dot, octet_word, quad_of, without_blanks}
+use Rattle.trace_reader.specs.{Numbers.word_of_text, Reading.records, Traces.{Contents, Layout, column_of_field, columns_of_fields, each}}
+use Rattle.trace_reader.specs.Traces.{layout_of, layout_with, packet_with, rest_of, field_text_at, with_packet, word_at, words_in_columns}
+use Rattle.trace_reader.{specs.declared.fault.TraceFault.TraceFault, proofs.NumberFacts.number_parts}
 use Rattle.queue_sim.specs.ReadBack.{ArePackets, ArePacketWords}
-use Rattle.trace_drive.specs.Kept.{kept_of}
-use Rattle.trace_drive.proofs.EachPacket.{HoldsOfRead, first_ok, not_ok}
-use Rattle.trace_drive.proofs.KeptFacts.{kept_words_are}
+use Rattle.trace_drive.{specs.Kept.kept_of, proofs.{EachPacket.{HoldsOfRead, first_ok, not_ok}, KeptFacts.kept_words_are}}
 use Rattle.trace_drive.proofs.WholePackets.{is_long}
 use Rattle.trace_pieces.specs.Wholes.{all_contents, all_packets, contents_by, contents_of, record_packet}
 use Rattle.trace_split.specs.Traces.{packets_of_all}

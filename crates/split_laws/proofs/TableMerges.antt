@@ -1,34 +1,21 @@
 -- The merges of a query's tables, and the keys of the tables that its joins join.
-use Rattle.std.proofs.Common.{◌≡◌, Bool, true, false, cond, ℕ, zero, suc, ◌+◌, List, [], ◌∷◌, ◌++◌, Option, Some, Ok, length, map}
-use Rattle.std.proofs.Common.{refl, sym, ap, ◌∙◌, subst, inl, inr, arith, length-append}
-use Rattle.std.specs.Prelude.{All, slice_get, option_map, unwrap_or}
-use Rattle.std.proofs.lemmas.List.{length-map}
+use Rattle.std.proofs.Common.{◌≡◌, Bool, true, false, cond, ℕ, zero, suc, ◌+◌, List, [], ◌∷◌, ◌++◌, Option, Some, Ok, length, map, refl}
+use Rattle.std.proofs.{Common.{sym, ap, ◌∙◌, subst, inl, inr, arith, length-append}, lemmas.List.length-map}
 use Rattle.std.proofs.lemmas.Option.{same_Some, slice_get-map, slice_get_cases, slice_get_within}
+use Rattle.std.specs.Prelude.{All, slice_get, option_map, unwrap_or}
 use Rattle.accepted_query.specs.Accepted.{accepted}
 use Rattle.marple_base.specs.declared.field.Field.{Field}
-use Rattle.query_lang.specs.declared.query.Query.{Query}
-use Rattle.query_lang.specs.declared.typed.Class.{Class}
-use Rattle.query_lang.specs.declared.typed.Class.TheVariants.{Linear, Other}
-use Rattle.query_lang.specs.declared.typed.TypedFinal.{TypedFinal}
-use Rattle.query_lang.specs.declared.typed.TypedFinalOp.{TypedFinalOp}
-use Rattle.query_lang.specs.declared.typed.TypedFinalOp.TheVariants.{Filter, Map, Group, Join, Top}
-use Rattle.query_lang.specs.declared.typed.TypedQuery.{TypedQuery}
-use Rattle.query_lang.specs.declared.typed.TypedStream.{TypedStream}
-use Rattle.query_lang.specs.declared.typing.Given.{Given}
-use Rattle.query_lang.specs.TypedQueries.{IsValidQuery}
+use Rattle.query_lang.specs.declared.{query.Query.Query, typed.{Class.{Class, TheVariants.{Linear, Other}}, TypedFinal.TypedFinal}}
+use Rattle.query_lang.specs.declared.typed.{TypedFinalOp.{TypedFinalOp, TheVariants.{Filter, Map, Group, Join, Top}}, TypedQuery.TypedQuery}
+use Rattle.query_lang.specs.{declared.{typed.TypedStream.TypedStream, typing.Given.Given}, TypedQueries.IsValidQuery}
 use Rattle.query_lang.specs.Typing.{given_of, typed_names}
-use Rattle.query_laws.proofs.Accepted.{accepted_sound}
-use Rattle.query_laws.specs.Context.{finals_in, streams_in}
-use Rattle.query_laws.specs.QueryRules.{IsTyped}
+use Rattle.query_laws.{proofs.Accepted.accepted_sound, specs.{Context.{finals_in, streams_in}, QueryRules.IsTyped}}
 use Rattle.stage_plan.specs.Shape.{GroupShape, query_groups, text_at}
 use Rattle.part_laws.specs.Parts.{groupbys}
 use Rattle.split_laws.specs.Merging.{Merge, InOrder, TopAgain, NotMerged, by_class, final_merge, group_merge, has_keys, joined, merge_at}
-use Rattle.split_laws.specs.Merging.{merges}
-use Rattle.split_laws.specs.Merging.{merges_with, still_in_order, top_of}
-use Rattle.split_laws.proofs.FinalWalk.{JoinsMatch, here_push, merge_kept, merges_kept}
-use Rattle.split_laws.proofs.Groupbys.{groupby_at, shapes_long}
-use Rattle.split_laws.proofs.JoinKeys.{IsMadeOf, group_keys}
-use Rattle.split_laws.proofs.JoinWalk.{all_items, counts, none_yet}
+use Rattle.split_laws.specs.Merging.{merges, merges_with, still_in_order, top_of}
+use Rattle.split_laws.proofs.{FinalWalk.{JoinsMatch, here_push, merge_kept, merges_kept}, Groupbys.{groupby_at, shapes_long}}
+use Rattle.split_laws.proofs.{JoinKeys.{IsMadeOf, group_keys}, JoinWalk.{all_items, counts, none_yet}}
 
 -- ---- how a merge in order came about
 

@@ -1,43 +1,25 @@
 -- Runs over the texts of parts give what a run over the whole gives.
-use Rattle.std.proofs.Common.{◌≡◌, ◌≢◌, ℕ, zero, suc, ◌+◌, ◌<◌, true, ◌||◌, ◌==◌, List, ◌∷◌, Option, Some, None}
-use Rattle.std.proofs.Common.{length, map, refl, sym, ap, ◌∙◌, arith}
-use Rattle.std.specs.Prelude.{All, slice_get, option_and_then, option_map, unwrap_or}
-use Rattle.std.specs.List.{range_with_len}
-use Rattle.std.proofs.lemmas.List.Elements.{All-map}
-use Rattle.std.proofs.lemmas.Option.{same_Some, slice_get-map}
-use Rattle.epoch_model.proofs.KeyLists.{by_test}
-use Rattle.epoch_model.specs.Epochs.{Geometry}
-use Rattle.epoch_model.specs.Keys.{bucket_of}
-use Rattle.epoch_model.specs.declared.tables.Row.{Row}
-use Rattle.final_queries.specs.Finals.{top_rows}
-use Rattle.final_queries.specs.declared.table.Table.{Table}
-use Rattle.marple_base.specs.declared.field.Packet.{Packet}
-use Rattle.marple_base.specs.declared.field.TheConstants.{FIELDS}
+use Rattle.std.proofs.Common.{◌≡◌, ◌≢◌, ℕ, zero, suc, ◌+◌, ◌<◌, true, ◌||◌, ◌==◌, List, ◌∷◌, Option, Some, None, length, map, refl, sym, ap}
+use Rattle.std.proofs.{Common.{◌∙◌, arith}, lemmas.{List.Elements.All-map, Option.{same_Some, slice_get-map}}}
+use Rattle.std.specs.{Prelude.{All, slice_get, option_and_then, option_map, unwrap_or}, List.range_with_len}
+use Rattle.epoch_model.{proofs.KeyLists.by_test, specs.{Epochs.Geometry, Keys.bucket_of, declared.tables.Row.Row}}
+use Rattle.final_queries.specs.{Finals.top_rows, declared.table.Table.Table}
+use Rattle.marple_base.specs.declared.field.{Packet.Packet, TheConstants.FIELDS}
 use Rattle.query_lang.specs.TypedQueries.{IsValidQuery}
 use Rattle.query_laws.specs.ValidLaws.{AcceptedAreValid}
 use Rattle.query_tables.specs.Tables.{group_tables, query_tables}
-use Rattle.stage_plan.specs.Fields.{reads_of}
-use Rattle.stage_plan.specs.Packets.{AreWhole}
-use Rattle.stage_plan.specs.Shape.{query_groups}
+use Rattle.stage_plan.specs.{Fields.reads_of, Packets.AreWhole, Shape.query_groups}
 use Rattle.trace_reader.specs.Traces.{packets}
-use Rattle.additive_laws.proofs.Counts.{same_number}
-use Rattle.additive_laws.specs.TraceLaws.{has_number}
-use Rattle.part_laws.specs.AcceptedParts.{AcceptedTablesInOrder}
-use Rattle.part_laws.specs.FinalParts.{by_key, rows_of_all}
-use Rattle.part_laws.proofs.FinalRows.{same_members}
+use Rattle.additive_laws.{proofs.Counts.same_number, specs.TraceLaws.has_number}
+use Rattle.part_laws.{specs.{AcceptedParts.AcceptedTablesInOrder, FinalParts.{by_key, rows_of_all}}, proofs.FinalRows.same_members}
 use Rattle.part_texts.proofs.BackFacts.{field_texts_read_back_lem}
 use Rattle.split_laws.specs.Merging.{Merge, InOrder, TopAgain, NotMerged, group_merge, merge_at, merged, merged_rows, merges, rows_in}
-use Rattle.split_laws.specs.Merging.{table_but_for_epochs, with_rows}
+use Rattle.split_laws.specs.{Merging.{table_but_for_epochs, with_rows}, WholeRuns.{EachFits, FitsOneRun, PartsAreTheRun, Split}}
+use Rattle.split_laws.specs.WholeRuns.{packets_for, packets_in_part, tables_of_run, tables_of_whole, text_of_part}
+use Rattle.split_laws.proofs.{FinalWalk.{Stands, walk}, GroupParts.groups_stand, Groupbys.part_named}
+use Rattle.split_laws.proofs.{Headings.{headed_alike, heading, tables_headed}, PartNumbers.are_apart}
+use Rattle.split_laws.proofs.{ReadPackets.{ReadsBack, all_filtered, all_traces, are_packets, same_packets}, TableMerges.joins_match}
 use Rattle.trace_drive.specs.Drives.{words_of}
-use Rattle.split_laws.specs.WholeRuns.{EachFits, FitsOneRun, PartsAreTheRun, Split, packets_for, packets_in_part}
-use Rattle.split_laws.specs.WholeRuns.{tables_of_run, tables_of_whole, text_of_part}
-use Rattle.split_laws.proofs.FinalWalk.{Stands, walk}
-use Rattle.split_laws.proofs.GroupParts.{groups_stand}
-use Rattle.split_laws.proofs.Groupbys.{part_named}
-use Rattle.split_laws.proofs.Headings.{headed_alike, heading, tables_headed}
-use Rattle.split_laws.proofs.PartNumbers.{are_apart}
-use Rattle.split_laws.proofs.ReadPackets.{ReadsBack, all_filtered, all_traces, are_packets, same_packets}
-use Rattle.split_laws.proofs.TableMerges.{joins_match}
 
 -- the numbers of a range are below its end
 below : (a n k : ℕ) → has_number k (range_with_len a n) ≡ true → k < a + n

@@ -1,10 +1,7 @@
 -- Pieces of a trace that are cut after ends of lines.
 use Rattle.std.specs.Prelude.{◌≡◌, ◌<◌, ◌+◌, ◌==◌, ℕ, true, List, ◌++◌, All, None, flat_map, get_or, length, option_map}
-use Rattle.marple_base.specs.declared.field.FieldSet.{FieldSet}
-use Rattle.marple_base.specs.declared.field.Packet.{Packet}
-use Rattle.trace_pieces.specs.Faults.{after_records}
-use Rattle.trace_pieces.specs.Machine.{IsHead}
-use Rattle.trace_pieces.specs.Wholes.{all_contents, all_packets, first_fault}
+use Rattle.marple_base.specs.declared.field.{FieldSet.FieldSet, Packet.Packet}
+use Rattle.trace_pieces.specs.{Faults.after_records, Machine.IsHead, Wholes.{all_contents, all_packets, first_fault}}
 use Rattle.trace_reader.specs.Traces.{Contents}
 
 -- Lines without quotes, of which the last one has its end too.

@@ -1,24 +1,14 @@
 -- How the tables that runs over the parts of a trace give are merged.
 use Rattle.std.specs.Prelude.{if◌then◌else◌, ℕ, Bool, List, [], ◌∷◌, ◌++◌, map, fold, slice_get, Option, None, Some, option_and_then}
-use Rattle.std.specs.Prelude.{option_map, unwrap_or}
-use Rattle.std.specs.List.{list_all, list_any, range_with_len}
-use Rattle.std.specs.Str.{bytes_eq}
+use Rattle.std.specs.{Prelude.{option_map, unwrap_or}, List.{list_all, list_any, range_with_len}, Str.bytes_eq}
 use Rattle.epoch_model.specs.declared.tables.Row.{Row}
-use Rattle.final_queries.specs.Finals.{top_rows}
-use Rattle.final_queries.specs.declared.table.Table.{Table}
-use Rattle.final_queries.specs.declared.table.TableKind.{TableKind}
+use Rattle.final_queries.specs.{Finals.top_rows, declared.table.{Table.Table, TableKind.TableKind}}
 use Rattle.final_queries.specs.declared.table.TableKind.TheVariants as kind
-use Rattle.marple_base.specs.Field.{field_name}
-use Rattle.marple_base.specs.declared.field.Field.{Field}
-use Rattle.query_lang.specs.declared.typed.Class.{Class}
-use Rattle.query_lang.specs.declared.typed.Class.TheVariants.{Linear, Other}
-use Rattle.query_lang.specs.declared.typed.TypedFinal.{TypedFinal}
-use Rattle.query_lang.specs.declared.typed.TypedFinalOp.{TypedFinalOp}
-use Rattle.query_lang.specs.declared.typed.TypedFinalOp.TheVariants.{Filter, Map, Group, Join, Top}
-use Rattle.query_lang.specs.declared.typed.TypedQuery.{TypedQuery}
+use Rattle.marple_base.specs.{Field.field_name, declared.field.Field.Field}
+use Rattle.query_lang.specs.declared.typed.{Class.{Class, TheVariants.{Linear, Other}}, TypedFinal.TypedFinal, TypedFinalOp.TypedFinalOp}
+use Rattle.query_lang.specs.declared.typed.{TypedFinalOp.TheVariants.{Filter, Map, Group, Join, Top}, TypedQuery.TypedQuery}
 use Rattle.stage_plan.specs.Shape.{GroupShape, query_groups}
-use Rattle.part_laws.specs.FinalParts.{rows_of_all}
-use Rattle.part_laws.specs.PartLaws.{but_for_epochs}
+use Rattle.part_laws.specs.{FinalParts.rows_of_all, PartLaws.but_for_epochs}
 
 -- ---- which tables are merged, and how
 

@@ -1,18 +1,13 @@
 -- The tables of traces that are split for a query.
-use Rattle.std.specs.Prelude.{◌≡◌, ℕ, ◌<◌, true, false, List, length, map, All, Ok}
-use Rattle.std.specs.List.{range_with_len}
-use Rattle.epoch_model.specs.Epochs.{Geometry}
-use Rattle.epoch_model.specs.Tables.{Folding, group_rows}
+use Rattle.std.specs.{Prelude.{◌≡◌, ℕ, ◌<◌, true, false, List, length, map, All, Ok}, List.range_with_len}
+use Rattle.epoch_model.specs.{Epochs.Geometry, Tables.{Folding, group_rows}}
 use Rattle.accepted_query.specs.Accepted.{accepted}
-use Rattle.marple_base.specs.declared.field.Field.{Field}
-use Rattle.marple_base.specs.declared.field.Packet.{Packet}
+use Rattle.marple_base.specs.declared.field.{Field.Field, Packet.Packet}
 use Rattle.query_lang.specs.declared.typed.TypedQuery.{TypedQuery}
 use Rattle.query_types.specs.Uses.{uses}
 use Rattle.stage_plan.specs.Packets.{AreWhole}
 use Rattle.trace_drive.specs.Drives.{words_of}
-use Rattle.part_laws.specs.FinalParts.{AreOfParts}
-use Rattle.part_laws.specs.PartLaws.{but_for_epochs}
-use Rattle.part_laws.specs.Parts.{KeepsKeys, groupbys}
+use Rattle.part_laws.specs.{FinalParts.AreOfParts, PartLaws.but_for_epochs, Parts.{KeepsKeys, groupbys}}
 use Rattle.part_texts.specs.Texts.{packets_of_part, part_by_hash}
 use Rattle.split_fields.specs.Splits.{may_split}
 

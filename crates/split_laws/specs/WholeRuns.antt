@@ -2,34 +2,24 @@
 use Rattle.std.specs.Prelude.{◌≡◌, ◌≤◌, ◌<◌, ℕ, true, false, List, [], ◌∷◌, length, map, flat_map, fold, slice_get, All, Ok, Some}
 use Rattle.std.specs.Prelude.{option_map}
 use Rattle.accepted_query.specs.Accepted.{accepted}
-use Rattle.additive_laws.specs.Amounts.{plus, zeros}
-use Rattle.additive_laws.specs.TraceLaws.{rows_used}
+use Rattle.additive_laws.specs.{Amounts.{plus, zeros}, TraceLaws.rows_used}
 use Rattle.epoch_entry.specs.Foldings.{folding_of}
-use Rattle.epoch_model.specs.Epochs.{Geometry, Use, epochs}
-use Rattle.epoch_model.specs.Keys.{Key, ascending}
-use Rattle.epoch_model.specs.Tables.{group_rows, key_rows, keys_used}
+use Rattle.epoch_model.specs.{Epochs.{Geometry, Use, epochs}, Keys.{Key, ascending}, Tables.{group_rows, key_rows, keys_used}}
 use Rattle.final_queries.specs.declared.table.Table.{Table}
 use Rattle.fold_class.specs.Kinds.{class_of}
 use Rattle.fold_code.specs.Additive.{is_additive}
-use Rattle.marple_base.specs.declared.field.Field.{Field}
-use Rattle.marple_base.specs.declared.field.Packet.{Packet}
+use Rattle.marple_base.specs.declared.field.{Field.Field, Packet.Packet}
 use Rattle.part_laws.specs.PartLaws.{but_for_epochs, row_of_state, valid_row}
 use Rattle.part_texts.specs.Texts.{packets_of_part, part_by_hash, part_text}
-use Rattle.query_lang.specs.declared.fold.TypedFold.{TypedFold}
-use Rattle.query_lang.specs.declared.typed.Class.TheVariants.{Other}
-use Rattle.query_lang.specs.declared.typed.TypedQuery.{TypedQuery}
-use Rattle.query_lang.specs.Folds.{folded}
+use Rattle.query_lang.specs.{declared.{fold.TypedFold.TypedFold, typed.{Class.TheVariants.Other, TypedQuery.TypedQuery}}, Folds.folded}
 use Rattle.query_tables.specs.Tables.{query_tables}
 use Rattle.query_types.specs.Uses.{uses}
 use Rattle.split_fields.specs.Splits.{may_split}
 use Rattle.net_laws.specs.Fields.{makes_field}
 use Rattle.split_laws.specs.Merging.{has_keys, merge_at, merged, merges, table_but_for_epochs}
 use Rattle.trace_drive.specs.Drives.{words_of}
-use Rattle.stage_plan.specs.Fields.{reads_of}
-use Rattle.stage_plan.specs.Planned.{fold_at}
-use Rattle.stage_plan.specs.Shape.{GroupShape, query_groups}
-use Rattle.trace_reader.specs.Traces.{packets}
-use Rattle.trace_reader.specs.declared.fault.TheConstants.{MAX_RECORDS, MAX_TRACE}
+use Rattle.stage_plan.specs.{Fields.reads_of, Planned.fold_at, Shape.{GroupShape, query_groups}}
+use Rattle.trace_reader.specs.{Traces.packets, declared.fault.TheConstants.{MAX_RECORDS, MAX_TRACE}}
 use Rattle.trace_split.specs.Traces.{packets_of_all}
 
 -- The tables of which `run` prints some, over a trace with this text.

@@ -1,15 +1,10 @@
 -- A chain of operations, each an operand of the next.
 use Rattle.std.proofs.Common.{◌≡◌, ℕ, zero, suc, ◌+◌, ◌-◌, ◌<◌, ◌≤◌, true, false, List, [], ◌∷◌, ◌++◌, length, get_or, refl, sym, ap, ◌∙◌}
-use Rattle.std.proofs.Common.{inl, inr, arith}
-use Rattle.std.specs.Prelude.{slice_get}
-use Rattle.std.proofs.lemmas.Bool.{cases_eq, cases_lt}
-use Rattle.std.proofs.lemmas.Option.{slice_get_within, same_Some, slice_get_cases, slice_get-get_or}
+use Rattle.std.proofs.{Common.{inl, inr, arith}, lemmas.Bool.{cases_eq, cases_lt}}
+use Rattle.std.{proofs.lemmas.Option.{slice_get_within, same_Some, slice_get_cases, slice_get-get_or}, specs.Prelude.slice_get}
 use Rattle.marple_base.specs.declared.field.TheConstants.{FIELDS}
-use Rattle.stage_plan.specs.declared.op.Operand.TheVariants.{Register}
-use Rattle.stage_plan.specs.declared.op.PlanOp.{PlanOp}
-use Rattle.stage_plan.specs.Registers.{operand_stage, stages_of}
-use Rattle.stage_plan.specs.Sound.{AreSoundOps, IsPrevious, EndsAt, IsChain}
-use Rattle.stage_plan.proofs.Runs.{stage_of_register, stage_below}
+use Rattle.stage_plan.specs.{declared.op.{Operand.TheVariants.Register, PlanOp.PlanOp}, Registers.{operand_stage, stages_of}}
+use Rattle.stage_plan.{specs.Sound.{AreSoundOps, IsPrevious, EndsAt, IsChain}, proofs.Runs.{stage_of_register, stage_below}}
 use Rattle.stage_plan.proofs.PlanParts.{stages_within}
 
 -- the stage of the operation at a place

@@ -1,24 +1,13 @@
 -- What a valid query's operators name is there, and few operations are made for each.
 use Rattle.std.proofs.Common.{◌≡◌, ℕ, zero, suc, ◌+◌, ◌<◌, ◌≤◌, List, [], ◌∷◌, ◌++◌, length, get_or, Some, None, Option, sym, ap, subst}
-use Rattle.std.proofs.Common.{◌∙◌, inl, inr, arith}
+use Rattle.std.proofs.{Common.{◌∙◌, inl, inr, arith}, lemmas.{List.{length_push, Elements.All-get_or}, Option.slice_get_cases}}
 use Rattle.std.specs.Prelude.{All, IfSome, slice_get, option_and_then}
-use Rattle.std.proofs.lemmas.List.{length_push}
-use Rattle.std.proofs.lemmas.List.Elements.{All-get_or}
-use Rattle.std.proofs.lemmas.Option.{slice_get_cases}
-use Rattle.query_lang.specs.declared.fold.TypedExpr.{TypedExpr}
-use Rattle.query_lang.specs.declared.fold.TypedFold.{TypedFold}
-use Rattle.query_lang.specs.declared.typed.TypedOp.{TypedOp}
-use Rattle.query_lang.specs.declared.typed.TypedOp.TheVariants.{Filter, Map, Zip, Group}
-use Rattle.query_lang.specs.declared.typed.TypedQuery.{TypedQuery}
-use Rattle.query_lang.specs.declared.typed.TypedStream.{TypedStream}
-use Rattle.query_lang.specs.Folds.{IsValidEmit, IsValidFold, fold_args, fold_states}
-use Rattle.query_lang.specs.Terms.{term_of}
+use Rattle.query_lang.specs.declared.{fold.{TypedExpr.TypedExpr, TypedFold.TypedFold}, typed.TypedOp.TypedOp}
+use Rattle.query_lang.specs.declared.typed.{TypedOp.TheVariants.{Filter, Map, Zip, Group}, TypedQuery.TypedQuery, TypedStream.TypedStream}
+use Rattle.query_lang.specs.{Folds.{IsValidEmit, IsValidFold, fold_args, fold_states}, Terms.term_of}
 use Rattle.query_lang.specs.TypedQueries.{IsValidOp, IsValidStream, AreValidStreams, IsValidQuery}
-use Rattle.stage_plan.specs.declared.op.PlanOp.{PlanOp}
-use Rattle.stage_plan.specs.declared.wires.StreamWires.{StreamWires}
-use Rattle.stage_plan.specs.Counting.{HasInputs, HasFold, emit_most, op_most}
-use Rattle.stage_plan.specs.Grouping.{FitsGroup}
-use Rattle.stage_plan.specs.Making.{made_by, all_made}
+use Rattle.stage_plan.specs.{declared.{op.PlanOp.PlanOp, wires.StreamWires.StreamWires}, Counting.{HasInputs, HasFold, emit_most, op_most}}
+use Rattle.stage_plan.specs.{Grouping.FitsGroup, Making.{made_by, all_made}}
 
 -- a valid stream after this many others
 record IsAfter (names : ℕ) (folds : List TypedFold) (streams : ℕ) (one : TypedStream) : Type 0 where

@@ -1,30 +1,17 @@
 -- The stages of operations that are made are the depths of the query, and each reads what is before it.
 use Rattle.std.proofs.Common.{◌≡◌, ℕ, ◌+◌, max, List, [], ◌∷◌, ◌++◌, length, Some, None, Option, sym, ap, subst, ◌∙◌, inl, inr, arith}
-use Rattle.std.proofs.Common.{append_assoc, append-nil}
+use Rattle.std.proofs.{Common.{append_assoc, append-nil}, lemmas.{Bool.{cases_eq, cases_lt}, List.length_push}}
 use Rattle.std.specs.Prelude.{map, fold, flat_map, replicate}
-use Rattle.std.proofs.lemmas.Bool.{cases_eq, cases_lt}
-use Rattle.std.proofs.lemmas.List.{length_push}
-use Rattle.query_lang.specs.declared.fold.TypedExpr.{TypedExpr}
-use Rattle.query_lang.specs.declared.fold.TypedFold.{TypedFold}
-use Rattle.query_lang.specs.declared.typed.TypedOp.{TypedOp}
-use Rattle.query_lang.specs.declared.typed.TypedOp.TheVariants.{Filter, Map, Zip, Group}
-use Rattle.query_lang.specs.declared.typed.TypedQuery.{TypedQuery}
-use Rattle.query_lang.specs.declared.typed.TypedStream.{TypedStream}
-use Rattle.query_lang.specs.Streams.{values_at}
-use Rattle.query_lang.specs.Terms.{Term, Literal, Read, Negation, Operation, term_of}
-use Rattle.stage_plan.specs.declared.op.Operand.{Operand}
-use Rattle.stage_plan.specs.declared.op.Operand.TheVariants.{Number}
-use Rattle.stage_plan.specs.declared.op.Operation.TheVariants.{Not}
-use Rattle.stage_plan.specs.declared.op.PlanOp.{PlanOp}
-use Rattle.stage_plan.specs.declared.wires.StreamWires.{StreamWires}
-use Rattle.stage_plan.specs.Depths.{term_depth, term_depths, StreamDepths, packet_depths, depths_at, joined_depths, emit_depths}
-use Rattle.stage_plan.specs.Depths.{group_depths, depths_made, all_depths}
-use Rattle.stage_plan.specs.Making.{compiled, compiled_all, operand_at, wires_at, conditioned, emit_columns, made_emit, made_group, made_by}
-use Rattle.stage_plan.specs.Making.{all_made}
-use Rattle.stage_plan.proofs.StreamRows.{at_earlier, at_last, at_past}
-use Rattle.stage_plan.proofs.Extending.{Extends}
-use Rattle.stage_plan.proofs.Depths.{IsAt, is_more, number_at, AreAt, are_more, column_is, are_picked, are_append, are_numbers, AreMade}
-use Rattle.stage_plan.proofs.Depths.{Added, added_none, added_then, added_one, last_at}
+use Rattle.query_lang.specs.declared.{fold.{TypedExpr.TypedExpr, TypedFold.TypedFold}, typed.TypedOp.TypedOp}
+use Rattle.query_lang.specs.declared.typed.{TypedOp.TheVariants.{Filter, Map, Zip, Group}, TypedQuery.TypedQuery, TypedStream.TypedStream}
+use Rattle.query_lang.specs.{Streams.values_at, Terms.{Term, Literal, Read, Negation, Operation, term_of}}
+use Rattle.stage_plan.specs.declared.op.{Operand.{Operand, TheVariants.Number}, Operation.TheVariants.Not, PlanOp.PlanOp}
+use Rattle.stage_plan.specs.{declared.wires.StreamWires.StreamWires, Depths.{term_depth, term_depths, StreamDepths, packet_depths}}
+use Rattle.stage_plan.specs.{Depths.{depths_at, joined_depths, emit_depths, group_depths, depths_made, all_depths}, Making.compiled}
+use Rattle.stage_plan.specs.Making.{compiled_all, operand_at, wires_at, conditioned, emit_columns, made_emit, made_group, made_by, all_made}
+use Rattle.stage_plan.proofs.{StreamRows.{at_earlier, at_last, at_past}, Extending.Extends, Depths.{IsAt, is_more, number_at, AreAt}}
+use Rattle.stage_plan.proofs.Depths.{are_more, column_is, are_picked, are_append, are_numbers, AreMade, Added, added_none, added_then}
+use Rattle.stage_plan.proofs.Depths.{added_one, last_at}
 
 -- an expression
 pub record Compiles (ops : List PlanOp) (columns : List Operand) (depths : List ℕ) (e : Term) : Type 0 where

@@ -1,24 +1,14 @@
 -- The stage of an operand is its depth, and each operation reads what is before it.
 use Rattle.std.proofs.Common.{◌≡◌, ℕ, zero, suc, ◌+◌, ◌-◌, ◌<◌, max, min, true, List, [], ◌∷◌, ◌++◌, length, Some, refl, sym, ap, subst}
-use Rattle.std.proofs.Common.{◌∙◌, inl, inr, arith, append_assoc, append-nil}
+use Rattle.std.proofs.{Common.{◌∙◌, inl, inr, arith, append_assoc, append-nil}, lemmas.Bool.{cases_lt, Decides.nat_tests}}
+use Rattle.std.proofs.lemmas.{List.{length_push, map-append}, Option.{slice_get_within, slice_get_cases}}
 use Rattle.std.specs.Prelude.{map, replicate, nat_lt, slice_get, slice_index}
-use Rattle.std.proofs.lemmas.Bool.{cases_lt}
-use Rattle.std.proofs.lemmas.Bool.Decides.{nat_tests}
-use Rattle.std.proofs.lemmas.List.{length_push, map-append}
-use Rattle.std.proofs.lemmas.Option.{slice_get_within, slice_get_cases}
 use Rattle.marple_base.specs.declared.field.TheConstants.{FIELDS}
-use Rattle.query_lang.specs.Streams.{values_at}
-use Rattle.query_lang.specs.Terms.{Operation}
-use Rattle.query_lang.specs.declared.fault.TheConstants.{MAX_STAGES}
-use Rattle.stage_plan.specs.declared.op.Operand.{Operand}
-use Rattle.stage_plan.specs.declared.op.Operand.TheVariants.{Register, Number}
+use Rattle.query_lang.specs.{Streams.values_at, Terms.Operation, declared.fault.TheConstants.MAX_STAGES}
+use Rattle.stage_plan.specs.declared.op.Operand.{Operand, TheVariants.{Register, Number}}
 use Rattle.stage_plan.specs.declared.op.Operation as operation
-use Rattle.stage_plan.specs.declared.op.PlanOp.{PlanOp}
-use Rattle.stage_plan.specs.Registers.{operand_stage}
-use Rattle.stage_plan.specs.Making.{stage_after, op_on, operand_at}
-use Rattle.stage_plan.specs.Sound.{IsWithin}
-use Rattle.stage_plan.proofs.Lists.{push_cases, slice_get-last}
-use Rattle.stage_plan.proofs.Runs.{within_more, stage_of_register}
+use Rattle.stage_plan.specs.{declared.op.PlanOp.PlanOp, Registers.operand_stage, Making.{stage_after, op_on, operand_at}, Sound.IsWithin}
+use Rattle.stage_plan.proofs.{Lists.{push_cases, slice_get-last}, Runs.{within_more, stage_of_register}}
 use Rattle.stage_plan.proofs.Extending.{Extends, same_ops, and_more, one_more}
 
 -- an operand that is there keeps its stage while operations are added

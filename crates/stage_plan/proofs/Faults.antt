@@ -1,26 +1,14 @@
 -- A query is too deep exactly where an operation that is made for it is, and else the stages are its depths.
 use Rattle.std.proofs.Common.{◌≡◌, ℕ, zero, suc, ◌+◌, ◌<◌, ◌≤◌, min, Bool, true, false, cond, List, [], ◌∷◌, ◌++◌, length, Some, None, refl}
-use Rattle.std.proofs.Common.{sym, ap, subst, ◌∙◌, inl, inr, arith, lit<}
-use Rattle.std.specs.Prelude.{nat_lt, ◌||◌}
-use Rattle.std.specs.List.{list_any}
-use Rattle.std.proofs.lemmas.Bool.{cases_lt}
-use Rattle.std.proofs.lemmas.Bool.Decides.{nat_tests}
-use Rattle.std.proofs.lemmas.List.{length_push}
-use Rattle.std.proofs.lemmas.List.Folds.{list_any-append}
+use Rattle.std.proofs.{Common.{sym, ap, subst, ◌∙◌, inl, inr, arith, lit<}, lemmas.{Bool.{cases_lt, Decides.nat_tests}, List.length_push}}
+use Rattle.std.{proofs.lemmas.List.Folds.list_any-append, specs.{Prelude.{nat_lt, ◌||◌}, List.list_any}}
 use Rattle.marple_base.specs.declared.field.TheConstants.{FIELDS}
-use Rattle.query_lang.specs.declared.fault.FaultKind.TheVariants.{OverLimit}
-use Rattle.query_lang.specs.declared.fault.Limit.TheVariants.{Stages}
-use Rattle.query_lang.specs.declared.fault.QueryFault.{QueryFault}
-use Rattle.query_lang.specs.declared.fold.TypedFold.{TypedFold}
-use Rattle.query_lang.specs.declared.typed.TypedQuery.{TypedQuery}
-use Rattle.query_lang.specs.declared.typed.TypedStream.{TypedStream}
+use Rattle.query_lang.specs.declared.fault.{FaultKind.TheVariants.OverLimit, Limit.TheVariants.Stages, QueryFault.QueryFault}
+use Rattle.query_lang.specs.declared.{fold.TypedFold.TypedFold, typed.{TypedQuery.TypedQuery, TypedStream.TypedStream}}
 use Rattle.query_lang.specs.declared.fault.TheConstants.{MAX_STAGES}
-use Rattle.stage_plan.specs.declared.op.Operand.TheVariants.{Register}
-use Rattle.stage_plan.specs.declared.op.PlanOp.{PlanOp}
-use Rattle.stage_plan.specs.declared.wires.StreamWires.{StreamWires}
+use Rattle.stage_plan.specs.declared.{op.{Operand.TheVariants.Register, PlanOp.PlanOp}, wires.StreamWires.StreamWires}
 use Rattle.stage_plan.specs.Depths.{StreamDepths, packet_depths, depths_at, depths_made, query_depths, is_too_deep, first_too_deep}
-use Rattle.stage_plan.specs.Depths.{stage_fault}
-use Rattle.stage_plan.specs.Making.{wires_at, packet_wires, made_by, all_made, are_deep, made_fault}
+use Rattle.stage_plan.specs.{Depths.stage_fault, Making.{wires_at, packet_wires, made_by, all_made, are_deep, made_fault}}
 use Rattle.stage_plan.proofs.Depths.{IsAt, number_at, AreMade, capped, stages, Added}
 use Rattle.stage_plan.proofs.Deep.{WiresAt, Makes, AllAt, op_makes, depths_after, depths_are, all_more, AllMakes, all_make}
 

@@ -1,21 +1,12 @@
 -- No placement of sound operations has fewer stages than they have.
 use Rattle.std.proofs.Common.{◌≡◌, ℕ, zero, suc, ◌+◌, ◌-◌, ◌<◌, ◌≤◌, true, false, List, [], ◌∷◌, length, get_or, Some, Option, refl, sym}
-use Rattle.std.proofs.Common.{ap, subst, ◌∙◌, inl, inr, arith}
-use Rattle.std.specs.Prelude.{map, nat_lt, slice_get, slice_index, option_map, unwrap_or, if◌then◌else◌}
-use Rattle.std.proofs.lemmas.Bool.{cases_lt}
-use Rattle.std.proofs.lemmas.Bool.Decides.{nat_tests}
-use Rattle.std.proofs.lemmas.List.{get_or-map, length-map}
+use Rattle.std.proofs.{Common.{ap, subst, ◌∙◌, inl, inr, arith}, lemmas.{Bool.{cases_lt, Decides.nat_tests}, List.{get_or-map, length-map}}}
 use Rattle.std.proofs.lemmas.Option.{slice_get_within, same_Some, slice_get_cases}
+use Rattle.std.specs.Prelude.{map, nat_lt, slice_get, slice_index, option_map, unwrap_or, if◌then◌else◌}
 use Rattle.marple_base.specs.declared.field.TheConstants.{FIELDS}
-use Rattle.stage_plan.specs.declared.op.Operand.{Operand}
-use Rattle.stage_plan.specs.declared.op.Operand.TheVariants.{Register, Number}
-use Rattle.stage_plan.specs.declared.op.PlanOp.{PlanOp}
-use Rattle.stage_plan.specs.Placements.{IsPlacement}
-use Rattle.stage_plan.specs.Registers.{operand_stage, stages_of}
-use Rattle.stage_plan.specs.Shape.{greatest}
-use Rattle.stage_plan.specs.Sound.{IsWithin, IsSoundOp, AreSoundOps, Follows}
-use Rattle.stage_plan.proofs.Runs.{stage_of_register}
-use Rattle.stage_plan.proofs.PlanParts.{stages_within}
+use Rattle.stage_plan.specs.{declared.op.{Operand.{Operand, TheVariants.{Register, Number}}, PlanOp.PlanOp}, Placements.IsPlacement}
+use Rattle.stage_plan.specs.{Registers.{operand_stage, stages_of}, Shape.greatest, Sound.{IsWithin, IsSoundOp, AreSoundOps, Follows}}
+use Rattle.stage_plan.proofs.{Runs.stage_of_register, PlanParts.stages_within}
 
 pub highest : (ops : List PlanOp) → greatest (map (λ (one : PlanOp). one.stage) ops) ≡ stages_of ops
 highest [] = refl

@@ -1,22 +1,13 @@
 -- The groupby of a stream has the shape that the query gives it.
 use Rattle.std.proofs.Common.{◌≡◌, ℕ, zero, suc, ◌+◌, ◌<◌, ◌≤◌, Bool, true, false, List, [], ◌∷◌, ◌++◌, length, get_or, drop, Some, None}
 use Rattle.std.proofs.Common.{Option, refl, sym, ap, subst, ◌∙◌, inl, inr, arith, append_assoc, append-nil, length-drop}
-use Rattle.std.specs.Prelude.{map, filter_map, slice_get, option_map, option_to_list, if◌then◌else◌}
-use Rattle.std.specs.List.{cons_option}
-use Rattle.std.proofs.lemmas.List.{map-append, length-map, drop_more, drop_all, length_push}
-use Rattle.std.proofs.lemmas.Bool.{cases_eq}
-use Rattle.std.proofs.lemmas.Option.{same_Some}
-use Rattle.query_lang.specs.declared.fold.TypedFold.{TypedFold}
-use Rattle.query_lang.specs.declared.typed.TypedQuery.{TypedQuery}
-use Rattle.query_lang.specs.declared.typed.TypedStream.{TypedStream}
-use Rattle.query_lang.specs.Folds.{fold_args, fold_states}
-use Rattle.query_lang.specs.Streams.{Taking, taking_of, takings}
-use Rattle.query_lang.specs.declared.fault.TheConstants.{MAX_KEYS}
-use Rattle.fold_class.specs.Depth.{IsDepth, is_enough, least_from, depth_of}
-use Rattle.fold_class.specs.Program.{IsProgramOf}
+use Rattle.std.proofs.lemmas.{List.{map-append, length-map, drop_more, drop_all, length_push}, Bool.cases_eq, Option.same_Some}
+use Rattle.std.specs.{Prelude.{map, filter_map, slice_get, option_map, option_to_list, if◌then◌else◌}, List.cons_option}
+use Rattle.query_lang.specs.declared.{fold.TypedFold.TypedFold, typed.{TypedQuery.TypedQuery, TypedStream.TypedStream}}
+use Rattle.query_lang.specs.{Folds.{fold_args, fold_states}, Streams.{Taking, taking_of, takings}, declared.fault.TheConstants.MAX_KEYS}
+use Rattle.fold_class.specs.{Depth.{IsDepth, is_enough, least_from, depth_of}, Program.IsProgramOf}
 use Rattle.fold_class.proofs.DepthLemmas.{depth_found, covered_last}
-use Rattle.stage_plan.proofs.Lists.{push_cases, stands_at}
-use Rattle.stage_plan.specs.declared.group.GroupPlan.{GroupPlan}
+use Rattle.stage_plan.{proofs.Lists.{push_cases, stands_at}, specs.declared.group.GroupPlan.GroupPlan}
 use Rattle.stage_plan.specs.Shape.{GroupShape, text_at, shape_with, group_shape}
 use Rattle.stage_plan.specs.Grouping.{IsGroupShape, IsGroupFor, IsGroupOf, AreGroupsOf}
 

@@ -1,15 +1,9 @@
 -- Marking the fields that are named gives the set of them.
-use Rattle.std.proofs.Common.{◌≡◌, ℕ, List, [], ◌∷◌, ◌++◌, Some, None, refl, sym, ◌∙◌}
-use Rattle.std.specs.Prelude.{fold, flat_map, filter_map}
-use Rattle.std.proofs.lemmas.List.Sums.{fold-append}
-use Rattle.std.specs.List.{cons_option}
-use Rattle.marple_base.specs.declared.field.FieldSet.{FieldSet}
-use Rattle.marple_base.specs.Field.{no_fields, with_field, field_set}
-use Rattle.query_lang.specs.declared.fold.TypedExpr.{TypedExpr}
-use Rattle.query_lang.specs.declared.typed.TypedOp.{TypedOp}
-use Rattle.query_lang.specs.declared.typed.TypedOp.TheVariants.{Filter, Map, Zip, Group}
-use Rattle.query_lang.specs.declared.typed.TypedQuery.{TypedQuery}
-use Rattle.query_lang.specs.declared.typed.TypedStream.{TypedStream}
+use Rattle.std.proofs.{Common.{◌≡◌, ℕ, List, [], ◌∷◌, ◌++◌, Some, None, refl, sym, ◌∙◌}, lemmas.List.Sums.fold-append}
+use Rattle.std.specs.{Prelude.{fold, flat_map, filter_map}, List.cons_option}
+use Rattle.marple_base.specs.{declared.field.FieldSet.FieldSet, Field.{no_fields, with_field, field_set}}
+use Rattle.query_lang.specs.declared.{fold.TypedExpr.TypedExpr, typed.TypedOp.{TypedOp, TheVariants.{Filter, Map, Zip, Group}}}
+use Rattle.query_lang.specs.declared.typed.{TypedQuery.TypedQuery, TypedStream.TypedStream}
 use Rattle.query_lang.specs.Terms.{Term, Literal, Read, Negation, Operation, term_of}
 use Rattle.stage_plan.specs.Fields.{FieldSource, source_at, sources_at, term_slots, named_fields, all_sources, read_fields}
 use Rattle.stage_plan.specs.Marking.{marked, marked_slots, marked_term, marked_op}

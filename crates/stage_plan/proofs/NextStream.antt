@@ -1,11 +1,7 @@
 -- What is made of one stream more.
-use Rattle.std.proofs.Common.{◌≡◌, ℕ, ◌+◌, ◌<◌, false, List, [], ◌∷◌, ◌++◌, length, get_or, drop, sym, ap, ◌∙◌}
-use Rattle.std.proofs.lemmas.List.{drop_more}
-use Rattle.query_lang.specs.declared.fold.TypedFold.{TypedFold}
-use Rattle.query_lang.specs.declared.typed.TypedStream.{TypedStream}
-use Rattle.stage_plan.specs.declared.op.PlanOp.{PlanOp}
-use Rattle.stage_plan.specs.declared.wires.StreamWires.{StreamWires}
-use Rattle.stage_plan.specs.Making.{made_by, all_made, are_deep, made_fault}
+use Rattle.std.proofs.{Common.{◌≡◌, ℕ, ◌+◌, ◌<◌, false, List, [], ◌∷◌, ◌++◌, length, get_or, drop, sym, ap, ◌∙◌}, lemmas.List.drop_more}
+use Rattle.query_lang.specs.declared.{fold.TypedFold.TypedFold, typed.TypedStream.TypedStream}
+use Rattle.stage_plan.specs.{declared.{op.PlanOp.PlanOp, wires.StreamWires.StreamWires}, Making.{made_by, all_made, are_deep, made_fault}}
 
 -- the stream at a place is made of those before it
 pub record IsNext (folds : List TypedFold) (ops more : List PlanOp) (streams others : List StreamWires) (list : List TypedStream) (i : ℕ)

@@ -1,46 +1,27 @@
 -- The parts that are made for a query are its plan.
 use Rattle.std.proofs.Common.{◌≡◌, ℕ, zero, suc, ◌+◌, ◌<◌, ◌≤◌, max, Bool, true, false, cond, List, [], ◌∷◌, length, get_or, Some, None}
-use Rattle.std.proofs.Common.{Option, refl, sym, ap, subst, ◌∙◌, inl, inr, arith}
-use Rattle.std.specs.Prelude.{All, map, sum_by, count_by, ◌==◌, slice_get, slice_index, option_map, option_and_then, unwrap_or}
-use Rattle.std.specs.Prelude.{if◌then◌else◌}
-use Rattle.std.proofs.lemmas.Bool.Decides.{nat_tests}
-use Rattle.std.proofs.lemmas.List.{length-map}
-use Rattle.std.proofs.lemmas.List.Elements.{All-map}
-use Rattle.std.proofs.lemmas.List.Sums.{sum_by-cons}
-use Rattle.std.proofs.lemmas.Option.{slice_get_within, same_Some, slice_get_cases, slice_get-map}
+use Rattle.std.proofs.{Common.{Option, refl, sym, ap, subst, ◌∙◌, inl, inr, arith}, lemmas.{Bool.Decides.nat_tests, List.length-map}}
+use Rattle.std.proofs.lemmas.List.{Elements.All-map, Sums.sum_by-cons}
+use Rattle.std.{proofs.lemmas.Option.{slice_get_within, same_Some, slice_get_cases, slice_get-map}, specs.Prelude.{All, map, sum_by}}
+use Rattle.std.specs.Prelude.{count_by, ◌==◌, slice_get, slice_index, option_map, option_and_then, unwrap_or, if◌then◌else◌}
 use Rattle.epoch_model.specs.Driving.{Taken, uses_taken}
-use Rattle.fold_class.specs.Program.{IsProgramOf}
-use Rattle.fold_class.proofs.TableLemmas.{or_false_right}
-use Rattle.marple_base.specs.declared.field.FieldSet.{FieldSet}
-use Rattle.marple_base.specs.declared.field.TheConstants.{FIELDS}
-use Rattle.query_lang.specs.Words.{holds}
-use Rattle.query_lang.specs.declared.fold.TypedFold.{TypedFold}
-use Rattle.query_lang.specs.declared.typed.TypedQuery.{TypedQuery}
-use Rattle.query_lang.specs.Streams.{Taking, takings, values_at}
-use Rattle.query_lang.specs.TypedQueries.{IsValidQuery}
-use Rattle.query_lang.specs.declared.fault.TheConstants.{MAX_STAGES}
+use Rattle.fold_class.{specs.Program.IsProgramOf, proofs.TableLemmas.or_false_right}
+use Rattle.marple_base.specs.declared.field.{FieldSet.FieldSet, TheConstants.FIELDS}
+use Rattle.query_lang.specs.{Words.holds, declared.{fold.TypedFold.TypedFold, typed.TypedQuery.TypedQuery}}
+use Rattle.query_lang.specs.{Streams.{Taking, takings, values_at}, TypedQueries.IsValidQuery, declared.fault.TheConstants.MAX_STAGES}
 use Rattle.query_types.specs.Uses.{uses}
-use Rattle.stage_plan.specs.declared.group.GroupPlan.{GroupPlan}
-use Rattle.stage_plan.specs.declared.group.GroupWiring.{GroupWiring}
-use Rattle.stage_plan.specs.declared.op.Operand.{Operand}
-use Rattle.stage_plan.specs.declared.op.Operand.TheVariants.{Number}
-use Rattle.stage_plan.specs.declared.op.PlanOp.{PlanOp}
-use Rattle.stage_plan.specs.declared.wires.StreamWires.{StreamWires}
-use Rattle.stage_plan.specs.Registers.{operand_value, operand_stage, registers_after, stages_of, taken_at}
-use Rattle.stage_plan.specs.Depths.{query_depths}
-use Rattle.stage_plan.specs.Fields.{reads_of}
-use Rattle.stage_plan.specs.Grouping.{IsGroupFor, AreGroupsOf}
+use Rattle.stage_plan.specs.declared.{group.{GroupPlan.GroupPlan, GroupWiring.GroupWiring}, op.Operand.{Operand, TheVariants.Number}}
+use Rattle.stage_plan.specs.declared.{op.PlanOp.PlanOp, wires.StreamWires.StreamWires}
+use Rattle.stage_plan.specs.{Registers.{operand_value, operand_stage, registers_after, stages_of, taken_at}, Depths.query_depths}
+use Rattle.stage_plan.specs.{Fields.reads_of, Grouping.{IsGroupFor, AreGroupsOf}}
 use Rattle.stage_plan.specs.Making.{operand_at, wires_at, packet_wires, all_made, are_deep}
 use Rattle.stage_plan.specs.Ordering.{IsStaged, order_of, ArePlaced, moved, moved_op, op_numbered, wired, wiring_of}
 use Rattle.stage_plan.specs.Planned.{wiring_at, taken, shape_of, fold_at, IsPlanOf}
 use Rattle.stage_plan.specs.Shape.{PlanShape, GroupShape, greatest, up_to, sizes_of, group_shape, query_groups, query_shape}
 use Rattle.stage_plan.specs.Sound.{PlanParts, IsWithin, IsSoundOp, AreSoundOps, IsSoundGroup, IsSoundPlan}
-use Rattle.stage_plan.proofs.Depths.{IsMade, column_is, stages}
-use Rattle.stage_plan.proofs.Faults.{QueryMade}
-use Rattle.stage_plan.proofs.Runs.{within_more, stage_below, Filled, after_filled}
-use Rattle.stage_plan.proofs.Sorted.{Staged, whole_sum}
-use Rattle.stage_plan.proofs.Reordered.{Arranged, all, all_long, Stands, stands, Comes, comes, keeps, all_ascends, stands_before, unmoved}
-use Rattle.stage_plan.proofs.Reordered.{moved_value, unmoved_front, unmoved_long, unmoved_solved}
+use Rattle.stage_plan.proofs.{Depths.{IsMade, column_is, stages}, Faults.QueryMade, Runs.{within_more, stage_below, Filled, after_filled}}
+use Rattle.stage_plan.proofs.{Sorted.{Staged, whole_sum}, Reordered.{Arranged, all, all_long, Stands, stands, Comes, comes, keeps}}
+use Rattle.stage_plan.proofs.Reordered.{all_ascends, stands_before, unmoved, moved_value, unmoved_front, unmoved_long, unmoved_solved}
 use Rattle.stage_plan.proofs.StreamRows.{Row, row_at, all_rows, row_taken, uses_are}
 use Rattle.stage_plan.proofs.Values.{column_value, Solved, Matches, Matched, all_matched, packets_matched}
 

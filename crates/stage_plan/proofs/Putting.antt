@@ -1,29 +1,13 @@
 -- A plan is put together from parts that were made in turn.
-use Rattle.std.proofs.Common.{◌≡◌, ℕ, ◌<◌, ◌≤◌, List, [], ◌∷◌, length, None, sym, ap, subst, arith}
-use Rattle.std.specs.Prelude.{All, map}
+use Rattle.std.{proofs.Common.{◌≡◌, ℕ, ◌<◌, ◌≤◌, List, [], ◌∷◌, length, None, sym, ap, subst, arith}, specs.Prelude.{All, map}}
 use Rattle.marple_base.specs.declared.field.FieldSet.{FieldSet}
-use Rattle.query_lang.specs.declared.typed.TypedQuery.{TypedQuery}
-use Rattle.query_lang.specs.declared.typed.TypedStream.{TypedStream}
-use Rattle.query_lang.specs.Streams.{takings}
-use Rattle.query_lang.specs.TypedQueries.{IsValidQuery}
-use Rattle.stage_plan.specs.declared.group.GroupPlan.{GroupPlan}
-use Rattle.stage_plan.specs.declared.group.GroupWiring.{GroupWiring}
-use Rattle.stage_plan.specs.declared.op.PlanOp.{PlanOp}
-use Rattle.stage_plan.specs.declared.wires.StreamWires.{StreamWires}
-use Rattle.query_lang.specs.declared.error.QueryError.{QueryError}
-use Rattle.query_lang.specs.Answers.{IsTold}
-use Rattle.stage_plan.specs.Depths.{stage_fault}
-use Rattle.stage_plan.specs.Registers.{stages_of}
-use Rattle.stage_plan.specs.Fields.{reads_of}
-use Rattle.stage_plan.specs.Grouping.{AreGroupsOf}
-use Rattle.stage_plan.specs.Making.{packet_wires, all_made, made_fault}
-use Rattle.stage_plan.specs.Ordering.{order_of, ArePlaced, moved_op, op_numbered, wiring_of}
-use Rattle.stage_plan.specs.Planned.{IsPlanOf}
-use Rattle.stage_plan.specs.Shape.{group_shape, query_groups}
-use Rattle.stage_plan.specs.Sound.{PlanParts, IsSoundPlan}
-use Rattle.stage_plan.proofs.Faults.{QueryMade, query_made, query_fault}
-use Rattle.stage_plan.proofs.Runs.{stage_below}
-use Rattle.stage_plan.proofs.Sorted.{order_within, order_long}
+use Rattle.query_lang.specs.{declared.typed.{TypedQuery.TypedQuery, TypedStream.TypedStream}, Streams.takings, TypedQueries.IsValidQuery}
+use Rattle.query_lang.specs.{declared.error.QueryError.QueryError, Answers.IsTold}
+use Rattle.stage_plan.specs.declared.{group.{GroupPlan.GroupPlan, GroupWiring.GroupWiring}, op.PlanOp.PlanOp, wires.StreamWires.StreamWires}
+use Rattle.stage_plan.specs.{Depths.stage_fault, Registers.stages_of, Fields.reads_of, Grouping.AreGroupsOf}
+use Rattle.stage_plan.specs.{Making.{packet_wires, all_made, made_fault}, Ordering.{order_of, ArePlaced, moved_op, op_numbered, wiring_of}}
+use Rattle.stage_plan.specs.{Planned.IsPlanOf, Shape.{group_shape, query_groups}, Sound.{PlanParts, IsSoundPlan}}
+use Rattle.stage_plan.proofs.{Faults.{QueryMade, query_made, query_fault}, Runs.stage_below, Sorted.{order_within, order_long}}
 use Rattle.stage_plan.proofs.PlanParts.{is_plan, sound_plan}
 
 -- what was made of a query

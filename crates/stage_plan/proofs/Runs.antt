@@ -1,16 +1,12 @@
 -- Registers in which each operation's own holds its result: there is one way to fill them, and the stages fill them so.
 use Rattle.std.proofs.Common.{◌≡◌, ℕ, zero, suc, ◌+◌, ◌-◌, ◌<◌, ◌≤◌, ◌≢◌, true, false, eqb, ltb, List, [], ◌∷◌, ◌++◌, length, get_or, set}
-use Rattle.std.proofs.Common.{take, drop, Some, refl, sym, ap, ◌∙◌, inl, inr, arith, length-append, length-drop}
-use Rattle.std.specs.Prelude.{slice_get, if◌then◌else◌, ◌==◌, replicate}
-use Rattle.std.proofs.lemmas.List.{ext_get_or, get_or-set_same, get_or-set_other, get_or-take, get_or-drop, length-replicate, take_at}
+use Rattle.std.proofs.{Common.{take, drop, Some, refl, sym, ap, ◌∙◌, inl, inr, arith, length-append, length-drop}, lemmas.List.ext_get_or}
+use Rattle.std.proofs.lemmas.List.{get_or-set_same, get_or-set_other, get_or-take, get_or-drop, length-replicate, take_at}
 use Rattle.std.proofs.lemmas.List.{get_or-append_right, length-take-le}
-use Rattle.std.proofs.lemmas.Option.{slice_get_within, same_Some, slice_get_cases, slice_get-get_or}
-use Rattle.std.proofs.lemmas.Bool.{cases_eq, cases_lt}
-use Rattle.std.proofs.lemmas.Bool.Decides.{nat_tests}
+use Rattle.std.proofs.lemmas.{Option.{slice_get_within, same_Some, slice_get_cases, slice_get-get_or}, Bool.{cases_eq, cases_lt}}
+use Rattle.std.{proofs.lemmas.Bool.Decides.nat_tests, specs.Prelude.{slice_get, if◌then◌else◌, ◌==◌, replicate}}
 use Rattle.marple_base.specs.declared.field.TheConstants.{FIELDS}
-use Rattle.stage_plan.specs.declared.op.Operand.{Operand}
-use Rattle.stage_plan.specs.declared.op.Operand.TheVariants.{Register, Number}
-use Rattle.stage_plan.specs.declared.op.PlanOp.{PlanOp}
+use Rattle.stage_plan.specs.declared.op.{Operand.{Operand, TheVariants.{Register, Number}}, PlanOp.PlanOp}
 use Rattle.stage_plan.specs.Registers.{operand_value, result_of, stage_results, registers_after, stages_of, operand_stage}
 use Rattle.stage_plan.specs.Sound.{IsWithin, IsSoundOp, AreSoundOps}
 

@@ -1,21 +1,12 @@
 -- The streams of a query packet by packet: each has one row or none for a packet.
 use Rattle.std.proofs.Common.{◌≡◌, ℕ, zero, suc, ◌+◌, ◌<◌, ◌≤◌, Bool, true, false, cond, eqb, List, [], ◌∷◌, ◌++◌, length, get_or, Some}
-use Rattle.std.proofs.Common.{None, Option, refl, sym, ap, ◌∙◌, inl, inr, arith, append_assoc}
-use Rattle.std.specs.Prelude.{All, map, filter, find, fold, slice_get, option_map, unwrap_or, if◌then◌else◌, ◌==◌}
-use Rattle.std.specs.List.{cons_option}
-use Rattle.std.proofs.lemmas.Bool.{cases_eq, cases_lt}
-use Rattle.std.proofs.lemmas.Bool.Decides.{nat_tests}
-use Rattle.std.proofs.lemmas.Option.{slice_get_past}
-use Rattle.std.proofs.lemmas.List.{length_push}
+use Rattle.std.proofs.{Common.{None, Option, refl, sym, ap, ◌∙◌, inl, inr, arith, append_assoc}, lemmas.Bool.{cases_eq, cases_lt}}
+use Rattle.std.proofs.lemmas.{Bool.Decides.nat_tests, Option.slice_get_past, List.length_push}
+use Rattle.std.specs.{Prelude.{All, map, filter, find, fold, slice_get, option_map, unwrap_or, if◌then◌else◌, ◌==◌}, List.cons_option}
 use Rattle.marple_base.specs.declared.field.TheConstants.{FIELDS}
 use Rattle.epoch_model.specs.Driving.{Taken, uses_taken}
-use Rattle.query_lang.specs.Words.{holds}
-use Rattle.query_lang.specs.declared.fold.TypedExpr.{TypedExpr}
-use Rattle.query_lang.specs.declared.fold.TypedFold.{TypedFold}
-use Rattle.query_lang.specs.declared.typed.TypedOp.{TypedOp}
-use Rattle.query_lang.specs.declared.typed.TypedOp.TheVariants.{Filter, Map, Zip, Group}
-use Rattle.query_lang.specs.declared.typed.TypedQuery.{TypedQuery}
-use Rattle.query_lang.specs.declared.typed.TypedStream.{TypedStream}
+use Rattle.query_lang.specs.{Words.holds, declared.{fold.{TypedExpr.TypedExpr, TypedFold.TypedFold}, typed.TypedOp.TypedOp}}
+use Rattle.query_lang.specs.declared.typed.{TypedOp.TheVariants.{Filter, Map, Zip, Group}, TypedQuery.TypedQuery, TypedStream.TypedStream}
 use Rattle.query_lang.specs.Streams.{Tuple, numbered, values_at, expr_value, emits_at, filter_stream, map_stream, zip_stream, group_stream}
 use Rattle.query_lang.specs.Streams.{tuples_at, made_of, stream, Taking, takings}
 use Rattle.query_types.specs.Uses.{use_of, uses}

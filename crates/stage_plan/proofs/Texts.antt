@@ -1,15 +1,9 @@
 -- The lines of a plan's text in order.
 use Rattle.std.proofs.Common.{◌≡◌, ℕ, zero, suc, ◌+◌, List, [], ◌∷◌, ◌++◌, length, refl, sym, ap, ◌∙◌, arith, append_assoc, append-nil}
-use Rattle.std.specs.Prelude.{map, flat_map, count_by, cond, ◌==◌, codes}
-use Rattle.std.proofs.lemmas.List.{length_push, length-map, map-append}
-use Rattle.stage_plan.specs.declared.group.GroupPlan.{GroupPlan}
-use Rattle.stage_plan.specs.declared.op.PlanOp.{PlanOp}
-use Rattle.stage_plan.specs.Registers.{stages_of}
-use Rattle.stage_plan.specs.Planned.{shape_of, plan_bound}
-use Rattle.stage_plan.specs.Shape.{up_to, sizes_of, counted, line, stage_lines, group_line, group_shape, plan_text_of}
-use Rattle.stage_plan.specs.Sound.{PlanParts}
-use Rattle.stage_plan.proofs.Depths.{stages}
-use Rattle.stage_plan.proofs.PlanParts.{sum_map}
+use Rattle.std.{proofs.lemmas.List.{length_push, length-map, map-append}, specs.Prelude.{map, flat_map, count_by, cond, ◌==◌, codes}}
+use Rattle.stage_plan.specs.{declared.{group.GroupPlan.GroupPlan, op.PlanOp.PlanOp}, Registers.stages_of, Planned.{shape_of, plan_bound}}
+use Rattle.stage_plan.specs.{Shape.{up_to, sizes_of, counted, line, stage_lines, group_line, group_shape, plan_text_of}, Sound.PlanParts}
+use Rattle.stage_plan.proofs.{Depths.stages, PlanParts.sum_map}
 
 up_to_long : (n : ℕ) → length (up_to n) ≡ n
 up_to_long zero = refl

@@ -1,32 +1,19 @@
 -- Registers that hold each operation's result have the values of expressions and streams.
 use Rattle.std.proofs.Common.{◌≡◌, ℕ, zero, suc, ◌+◌, ◌<◌, ◌≤◌, Bool, true, false, List, [], ◌∷◌, ◌++◌, length, get_or, take, drop, Some}
 use Rattle.std.proofs.Common.{None, Option, refl, sym, ap, subst, ◌∙◌, inl, inr, arith, append_assoc, append-nil, drop-cons}
+use Rattle.std.proofs.lemmas.{Bool.{cases_eq, cases_lt}, List.{length_push, map-append}}
 use Rattle.std.specs.Prelude.{map, ◌&&◌, slice_get, slice_index, if◌then◌else◌}
-use Rattle.std.proofs.lemmas.Bool.{cases_eq, cases_lt}
-use Rattle.std.proofs.lemmas.List.{length_push, map-append}
 use Rattle.marple_base.specs.declared.field.TheConstants.{FIELDS}
-use Rattle.query_lang.specs.Words.{flag, holds, op_value}
-use Rattle.query_lang.specs.declared.fold.Op.TheVariants.{Both}
-use Rattle.query_lang.specs.declared.fold.TypedExpr.{TypedExpr}
-use Rattle.query_lang.specs.declared.fold.TypedFold.{TypedFold}
-use Rattle.query_lang.specs.declared.typed.TypedOp.{TypedOp}
-use Rattle.query_lang.specs.declared.typed.TypedOp.TheVariants.{Filter, Map, Zip, Group}
-use Rattle.query_lang.specs.declared.typed.TypedStream.{TypedStream}
-use Rattle.query_lang.specs.Folds.{term_value}
-use Rattle.query_lang.specs.Streams.{values_at, expr_value, holds_at}
+use Rattle.query_lang.specs.{Words.{flag, holds, op_value}, declared.fold.{Op.TheVariants.Both, TypedExpr.TypedExpr, TypedFold.TypedFold}}
+use Rattle.query_lang.specs.declared.typed.{TypedOp.{TypedOp, TheVariants.{Filter, Map, Zip, Group}}, TypedStream.TypedStream}
+use Rattle.query_lang.specs.{Folds.term_value, Streams.{values_at, expr_value, holds_at}}
 use Rattle.query_lang.specs.Terms.{Term, Literal, Read, Negation, Operation, term_of}
-use Rattle.stage_plan.specs.declared.op.Operand.{Operand}
-use Rattle.stage_plan.specs.declared.op.Operand.TheVariants.{Register, Number}
-use Rattle.stage_plan.specs.declared.op.Operation.TheVariants.{Not, Two}
-use Rattle.stage_plan.specs.declared.op.PlanOp.{PlanOp}
-use Rattle.stage_plan.specs.declared.wires.StreamWires.{StreamWires}
-use Rattle.stage_plan.specs.Registers.{operand_value, result_of}
-use Rattle.stage_plan.specs.Making.{compiled, compiled_all, op_on, operand_at, wires_at, packet_wires, made_join, conditioned, made_map}
-use Rattle.stage_plan.specs.Making.{made_zip, emit_columns, made_emit, made_group, made_by, all_made}
-use Rattle.stage_plan.proofs.Lists.{slice_get-last}
-use Rattle.stage_plan.proofs.StreamRows.{Row, row_at, filter_row, map_row, zip_row, emit_row, group_row, row_made, rows_from, at_earlier}
-use Rattle.stage_plan.proofs.StreamRows.{at_last, at_past}
-use Rattle.stage_plan.proofs.Extending.{Extends, one_more, compiled_extends, all_extend, all_made_extends}
+use Rattle.stage_plan.specs.declared.op.{Operand.{Operand, TheVariants.{Register, Number}}, Operation.TheVariants.{Not, Two}, PlanOp.PlanOp}
+use Rattle.stage_plan.specs.{declared.wires.StreamWires.StreamWires, Registers.{operand_value, result_of}, Making.{compiled, compiled_all}}
+use Rattle.stage_plan.specs.Making.{op_on, operand_at, wires_at, packet_wires, made_join, conditioned, made_map, made_zip, emit_columns}
+use Rattle.stage_plan.{specs.Making.{made_emit, made_group, made_by, all_made}, proofs.{Lists.slice_get-last, StreamRows.{Row, row_at}}}
+use Rattle.stage_plan.proofs.StreamRows.{filter_row, map_row, zip_row, emit_row, group_row, row_made, rows_from, at_earlier, at_last}
+use Rattle.stage_plan.proofs.{StreamRows.at_past, Extending.{Extends, one_more, compiled_extends, all_extend, all_made_extends}}
 
 -- each operation's register holds its result
 pub record Solved (ops : List PlanOp) (registers : List ℕ) : Type 0 where

@@ -1,13 +1,9 @@
 -- What holds of the wiring of a groupby in a plan.
 use Rattle.std.proofs.Common.{◌≡◌, ℕ, ◌+◌, ◌<◌, ◌≤◌, List, length, get_or, Some, arith, inl, inr, ap, subst, sym, ◌∙◌}
-use Rattle.std.specs.Prelude.{slice_get, All}
-use Rattle.std.proofs.lemmas.Option.{slice_get_cases, slice_get_within}
+use Rattle.std.{proofs.lemmas.Option.{slice_get_cases, slice_get_within}, specs.Prelude.{slice_get, All}}
 use Rattle.marple_base.specs.declared.field.TheConstants.{FIELDS}
-use Rattle.stage_plan.specs.declared.group.GroupPlan.{GroupPlan}
-use Rattle.stage_plan.specs.declared.group.GroupWiring.{GroupWiring}
-use Rattle.stage_plan.specs.Sound.{PlanParts, IsSoundPlan, IsSoundGroup, IsWithin}
-use Rattle.stage_plan.specs.declared.op.Operand.{Operand}
-use Rattle.stage_plan.proofs.Runs.{within_more}
+use Rattle.stage_plan.specs.declared.group.{GroupPlan.GroupPlan, GroupWiring.GroupWiring}
+use Rattle.stage_plan.{specs.{Sound.{PlanParts, IsSoundPlan, IsSoundGroup, IsWithin}, declared.op.Operand.Operand}, proofs.Runs.within_more}
 
 pub sound_wiring : (plan : PlanParts) (i : ℕ) (w : GroupWiring) → IsSoundPlan plan → i < length plan.groups
     → slice_get plan.wiring i ≡ Some w → (group : GroupPlan) × IsSoundGroup (FIELDS + length plan.ops) group w

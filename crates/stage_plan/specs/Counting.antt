@@ -1,11 +1,7 @@
 -- What an operator names is there, and how many operations are made for it at most.
 use Rattle.std.specs.Prelude.{ℕ, ◌+◌, ◌<◌, List, sum_by, slice_get, Option, Some, None, option_and_then}
-use Rattle.query_lang.specs.declared.fold.TypedExpr.{TypedExpr}
-use Rattle.query_lang.specs.declared.fold.TypedFold.{TypedFold}
-use Rattle.query_lang.specs.declared.typed.TypedOp.{TypedOp}
-use Rattle.query_lang.specs.declared.typed.TypedOp.TheVariants.{Filter, Map, Zip, Group}
-use Rattle.query_lang.specs.Folds.{term_nodes}
-use Rattle.query_lang.specs.Terms.{Term, term_of}
+use Rattle.query_lang.specs.declared.{fold.{TypedExpr.TypedExpr, TypedFold.TypedFold}, typed.TypedOp.TypedOp}
+use Rattle.query_lang.specs.{declared.typed.TypedOp.TheVariants.{Filter, Map, Zip, Group}, Folds.term_nodes, Terms.{Term, term_of}}
 
 -- an operator's inputs are among this many streams
 abbrev pub HasInputs : ℕ → TypedOp → Type 0

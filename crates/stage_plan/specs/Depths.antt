@@ -1,20 +1,11 @@
 -- The depths of what a typed query computes while packets pass, and where they pass the greatest number of stages.
-use Rattle.std.specs.Prelude.{ℕ, ◌+◌, max, nat_lt, Bool, if◌then◌else◌, List, [], ◌∷◌, ◌++◌, length, map, fold}
-use Rattle.std.specs.Prelude.{flat_map, drop, replicate}
-use Rattle.std.specs.Prelude.{slice_get, slice_index, Option, Some, None, unwrap_or}
-use Rattle.std.specs.List.{list_any}
+use Rattle.std.specs.Prelude.{ℕ, ◌+◌, max, nat_lt, Bool, if◌then◌else◌, List, [], ◌∷◌, ◌++◌, length, map, fold, flat_map, drop, replicate}
+use Rattle.std.specs.{Prelude.{slice_get, slice_index, Option, Some, None, unwrap_or}, List.list_any}
 use Rattle.marple_base.specs.declared.field.TheConstants.{FIELDS}
-use Rattle.query_lang.specs.declared.fault.FaultKind.TheVariants.{OverLimit}
-use Rattle.query_lang.specs.declared.fault.Limit.TheVariants.{Stages}
-use Rattle.query_lang.specs.declared.fault.QueryFault.{QueryFault}
-use Rattle.query_lang.specs.declared.fold.TypedExpr.{TypedExpr}
-use Rattle.query_lang.specs.declared.fold.TypedFold.{TypedFold}
-use Rattle.query_lang.specs.declared.typed.TypedOp.{TypedOp}
-use Rattle.query_lang.specs.declared.typed.TypedOp.TheVariants.{Filter, Map, Zip, Group}
-use Rattle.query_lang.specs.declared.typed.TypedQuery.{TypedQuery}
-use Rattle.query_lang.specs.declared.typed.TypedStream.{TypedStream}
-use Rattle.query_lang.specs.Terms.{Term, Literal, Read, Negation, Operation, term_of}
-use Rattle.query_lang.specs.Streams.{values_at}
+use Rattle.query_lang.specs.declared.fault.{FaultKind.TheVariants.OverLimit, Limit.TheVariants.Stages, QueryFault.QueryFault}
+use Rattle.query_lang.specs.declared.{fold.{TypedExpr.TypedExpr, TypedFold.TypedFold}, typed.TypedOp.TypedOp}
+use Rattle.query_lang.specs.declared.typed.{TypedOp.TheVariants.{Filter, Map, Zip, Group}, TypedQuery.TypedQuery, TypedStream.TypedStream}
+use Rattle.query_lang.specs.{Terms.{Term, Literal, Read, Negation, Operation, term_of}, Streams.values_at}
 use Rattle.query_lang.specs.declared.fault.TheConstants.{MAX_STAGES}
 
 -- the depth of an expression over columns of these depths: a number has 0, and each operator or function, with `!`, is one operation,

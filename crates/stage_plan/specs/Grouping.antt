@@ -1,17 +1,10 @@
 -- The groupbys of a plan against what the query says of them.
 use Rattle.std.specs.Prelude.{◌≡◌, ℕ, ◌<◌, ◌≤◌, List, length, option_map, slice_get, Option, Some, None}
 use Rattle.fold_class.specs.Program.{IsProgram, IsProgramOf}
-use Rattle.query_lang.specs.declared.fold.TypedFold.{TypedFold}
-use Rattle.query_lang.specs.declared.typed.TypedOp.{TypedOp}
-use Rattle.query_lang.specs.declared.typed.TypedOp.TheVariants.{Filter, Map, Zip, Group}
-use Rattle.query_lang.specs.declared.typed.TypedQuery.{TypedQuery}
-use Rattle.query_lang.specs.declared.typed.TypedStream.{TypedStream}
-use Rattle.query_lang.specs.Folds.{fold_args}
-use Rattle.query_lang.specs.Streams.{Taking}
-use Rattle.query_lang.specs.TypedQueries.{AreNames}
-use Rattle.query_lang.specs.declared.fault.TheConstants.{MAX_ARGS, MAX_KEYS, MAX_STATES}
-use Rattle.stage_plan.specs.declared.group.GroupPlan.{GroupPlan}
-use Rattle.stage_plan.specs.Shape.{group_shape, shape_with}
+use Rattle.query_lang.specs.declared.{fold.TypedFold.TypedFold, typed.TypedOp.{TypedOp, TheVariants.{Filter, Map, Zip, Group}}}
+use Rattle.query_lang.specs.{declared.typed.{TypedQuery.TypedQuery, TypedStream.TypedStream}, Folds.fold_args, Streams.Taking}
+use Rattle.query_lang.specs.{TypedQueries.AreNames, declared.fault.TheConstants.{MAX_ARGS, MAX_KEYS, MAX_STATES}}
+use Rattle.stage_plan.specs.{declared.group.GroupPlan.GroupPlan, Shape.{group_shape, shape_with}}
 
 -- a groupby of a fold with these numbers of keys and arguments: its name and those of its keys are there, there are 1 to 8 keys,
 -- and the fold takes as many arguments

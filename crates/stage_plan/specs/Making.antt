@@ -1,26 +1,14 @@
 -- The operations of a query in the order in which they are made: by binding, the operands before their node, and a presence last.
-use Rattle.std.specs.Prelude.{ℕ, suc, ◌+◌, max, min, nat_lt, Bool, if◌then◌else◌, List, [], ◌∷◌, ◌++◌}
-use Rattle.std.specs.Prelude.{length, map, slice_get}
-use Rattle.std.specs.Prelude.{Option, Some, None, unwrap_or}
-use Rattle.std.specs.List.{list_any}
+use Rattle.std.specs.Prelude.{ℕ, suc, ◌+◌, max, min, nat_lt, Bool, if◌then◌else◌, List, [], ◌∷◌, ◌++◌, length, map, slice_get, Option, Some}
+use Rattle.std.specs.{Prelude.{None, unwrap_or}, List.list_any}
 use Rattle.marple_base.specs.declared.field.TheConstants.{FIELDS}
-use Rattle.query_lang.specs.declared.fault.FaultKind.TheVariants.{OverLimit}
-use Rattle.query_lang.specs.declared.fault.Limit.TheVariants.{Stages}
-use Rattle.query_lang.specs.declared.fault.QueryFault.{QueryFault}
-use Rattle.query_lang.specs.declared.fold.Op.TheVariants.{Both}
-use Rattle.query_lang.specs.declared.fold.TypedExpr.{TypedExpr}
-use Rattle.query_lang.specs.declared.fold.TypedFold.{TypedFold}
-use Rattle.query_lang.specs.declared.typed.TypedOp.{TypedOp}
-use Rattle.query_lang.specs.declared.typed.TypedOp.TheVariants.{Filter, Map, Zip, Group}
-use Rattle.query_lang.specs.declared.typed.TypedStream.{TypedStream}
-use Rattle.query_lang.specs.Terms.{Term, Literal, Read, Negation, Operation, term_of}
-use Rattle.query_lang.specs.declared.fault.TheConstants.{MAX_STAGES}
-use Rattle.stage_plan.specs.declared.op.Operand.{Operand}
-use Rattle.stage_plan.specs.declared.op.Operand.TheVariants.{Register, Number}
+use Rattle.query_lang.specs.declared.fault.{FaultKind.TheVariants.OverLimit, Limit.TheVariants.Stages, QueryFault.QueryFault}
+use Rattle.query_lang.specs.declared.{fold.{Op.TheVariants.Both, TypedExpr.TypedExpr, TypedFold.TypedFold}, typed.TypedOp.TypedOp}
+use Rattle.query_lang.specs.declared.typed.{TypedOp.TheVariants.{Filter, Map, Zip, Group}, TypedStream.TypedStream}
+use Rattle.query_lang.specs.{Terms.{Term, Literal, Read, Negation, Operation, term_of}, declared.fault.TheConstants.MAX_STAGES}
+use Rattle.stage_plan.specs.declared.op.Operand.{Operand, TheVariants.{Register, Number}}
 use Rattle.stage_plan.specs.declared.op.Operation as operation
-use Rattle.stage_plan.specs.declared.op.Operation.TheVariants.{Not, Two}
-use Rattle.stage_plan.specs.declared.op.PlanOp.{PlanOp}
-use Rattle.stage_plan.specs.declared.wires.StreamWires.{StreamWires}
+use Rattle.stage_plan.specs.declared.{op.{Operation.TheVariants.{Not, Two}, PlanOp.PlanOp}, wires.StreamWires.StreamWires}
 use Rattle.stage_plan.specs.Registers.{operand_stage}
 
 -- the operations so far, and an operand

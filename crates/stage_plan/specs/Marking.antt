@@ -1,9 +1,7 @@
 -- The fields that are named, in turn.
 use Rattle.std.specs.Prelude.{ℕ, List, fold, Some, None}
-use Rattle.marple_base.specs.declared.field.FieldSet.{FieldSet}
-use Rattle.marple_base.specs.Field.{with_field}
-use Rattle.query_lang.specs.declared.typed.TypedOp.{TypedOp}
-use Rattle.query_lang.specs.declared.typed.TypedOp.TheVariants.{Filter, Map, Zip, Group}
+use Rattle.marple_base.specs.{declared.field.FieldSet.FieldSet, Field.with_field}
+use Rattle.query_lang.specs.declared.typed.TypedOp.{TypedOp, TheVariants.{Filter, Map, Zip, Group}}
 use Rattle.query_lang.specs.Terms.{Term, Literal, Read, Negation, Operation, term_of}
 use Rattle.stage_plan.specs.Fields.{FieldSource, source_at, sources_at}
 

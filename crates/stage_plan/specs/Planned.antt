@@ -1,21 +1,13 @@
 -- Which plan is a query's.
-use Rattle.std.specs.Prelude.{◌≡◌, ℕ, ◌+◌, ◌<◌, List, [], ◌∷◌, length, map, All, slice_get, Option, Some}
-use Rattle.std.specs.Prelude.{option_and_then, unwrap_or}
+use Rattle.std.specs.Prelude.{◌≡◌, ℕ, ◌+◌, ◌<◌, List, [], ◌∷◌, length, map, All, slice_get, Option, Some, option_and_then, unwrap_or}
 use Rattle.marple_base.specs.declared.field.TheConstants.{FIELDS}
 use Rattle.epoch_model.specs.Driving.{Taken, uses_taken}
 use Rattle.fold_class.specs.Program.{IsProgramOf}
-use Rattle.query_lang.specs.declared.fold.TypedFold.{TypedFold}
-use Rattle.query_lang.specs.declared.typed.TypedQuery.{TypedQuery}
-use Rattle.query_lang.specs.Streams.{takings}
+use Rattle.query_lang.specs.{declared.{fold.TypedFold.TypedFold, typed.TypedQuery.TypedQuery}, Streams.takings}
 use Rattle.query_types.specs.Uses.{uses}
-use Rattle.stage_plan.specs.declared.group.GroupPlan.{GroupPlan}
-use Rattle.stage_plan.specs.declared.group.GroupWiring.{GroupWiring}
-use Rattle.stage_plan.specs.declared.op.Operand.TheVariants.{Number}
-use Rattle.stage_plan.specs.Fields.{reads_of}
-use Rattle.stage_plan.specs.Making.{AllMade, packet_wires, all_made}
-use Rattle.stage_plan.specs.Ordering.{IsStaged}
-use Rattle.stage_plan.specs.Registers.{registers_after, stages_of, taken_at}
-use Rattle.stage_plan.specs.Shape.{PlanShape, parts_shape, query_shape, bound_of}
+use Rattle.stage_plan.specs.declared.{group.{GroupPlan.GroupPlan, GroupWiring.GroupWiring}, op.Operand.TheVariants.Number}
+use Rattle.stage_plan.specs.{Fields.reads_of, Making.{AllMade, packet_wires, all_made}, Ordering.IsStaged}
+use Rattle.stage_plan.specs.{Registers.{registers_after, stages_of, taken_at}, Shape.{PlanShape, parts_shape, query_shape, bound_of}}
 use Rattle.stage_plan.specs.Sound.{PlanParts}
 
 -- how many registers a plan needs: one for each field, and one for each operation

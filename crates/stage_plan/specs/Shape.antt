@@ -1,23 +1,11 @@
 -- The sizes of a plan: what its text says, and the bound on the steps of one packet.
-use Rattle.std.specs.Prelude.{ℕ, zero, suc, ◌+◌, ◌*◌, ◌==◌, max, List, [], ◌∷◌, ◌++◌, length, map, sum, count_by}
-use Rattle.std.specs.Prelude.{filter_map, flat_map}
+use Rattle.std.specs.Prelude.{ℕ, zero, suc, ◌+◌, ◌*◌, ◌==◌, max, List, [], ◌∷◌, ◌++◌, length, map, sum, count_by, filter_map, flat_map}
 use Rattle.std.specs.Prelude.{codes, decimal, slice_get, Option, None, option_map, unwrap_or}
 use Rattle.marple_base.specs.declared.field.TheConstants.{FIELDS}
-use Rattle.query_lang.specs.declared.fold.TypedFold.{TypedFold}
-use Rattle.query_lang.specs.declared.typed.Class.{Class}
-use Rattle.query_lang.specs.declared.typed.Class.TheVariants.{Linear, Other}
-use Rattle.query_lang.specs.declared.typed.TypedOp.{TypedOp}
-use Rattle.query_lang.specs.declared.typed.TypedOp.TheVariants.{Filter, Map, Zip, Group}
-use Rattle.query_lang.specs.declared.typed.TypedQuery.{TypedQuery}
-use Rattle.query_lang.specs.declared.typed.TypedStream.{TypedStream}
-use Rattle.fold_class.specs.declared.class.Algebra.{Algebra}
-use Rattle.fold_class.specs.declared.class.Algebra.TheVariants.{Sums, Maxima}
-use Rattle.fold_class.specs.Depth.{depth_of}
-use Rattle.fold_class.specs.Kinds.{class_of, algebra_of}
-use Rattle.stage_plan.specs.declared.op.PlanOp.{PlanOp}
-use Rattle.stage_plan.specs.declared.group.GroupPlan.{GroupPlan}
-use Rattle.stage_plan.specs.Depths.{query_depths}
-use Rattle.stage_plan.specs.Registers.{stages_of}
+use Rattle.query_lang.specs.declared.{fold.TypedFold.TypedFold, typed.{Class.{Class, TheVariants.{Linear, Other}}, TypedOp.TypedOp}}
+use Rattle.query_lang.specs.declared.typed.{TypedOp.TheVariants.{Filter, Map, Zip, Group}, TypedQuery.TypedQuery, TypedStream.TypedStream}
+use Rattle.fold_class.specs.{declared.class.Algebra.{Algebra, TheVariants.{Sums, Maxima}}, Depth.depth_of, Kinds.{class_of, algebra_of}}
+use Rattle.stage_plan.specs.{declared.{op.PlanOp.PlanOp, group.GroupPlan.GroupPlan}, Depths.query_depths, Registers.stages_of}
 
 -- a groupby: the texts of its name and of its table's columns, the class, algebra and depth of its fold, how many arguments the
 -- fold has, and its nodes and statements

@@ -1,16 +1,10 @@
 -- What holds of the parts of each plan.
-use Rattle.std.specs.Prelude.{◌≡◌, ℕ, suc, ◌+◌, ◌-◌, ◌<◌, ◌≤◌, max, List, length, All, slice_get, slice_index}
-use Rattle.std.specs.Prelude.{Option, Some, None, ◌⊎◌}
+use Rattle.std.specs.Prelude.{◌≡◌, ℕ, suc, ◌+◌, ◌-◌, ◌<◌, ◌≤◌, max, List, length, All, slice_get, slice_index, Option, Some, None, ◌⊎◌}
 use Rattle.fold_class.specs.Program.{IsProgram}
-use Rattle.marple_base.specs.declared.field.FieldSet.{FieldSet}
-use Rattle.marple_base.specs.declared.field.TheConstants.{FIELDS}
+use Rattle.marple_base.specs.declared.field.{FieldSet.FieldSet, TheConstants.FIELDS}
 use Rattle.query_lang.specs.declared.fault.TheConstants.{MAX_ARGS, MAX_GROUPBYS, MAX_KEYS, MAX_STAGES, MAX_STATES}
-use Rattle.stage_plan.specs.declared.op.Operand.{Operand}
-use Rattle.stage_plan.specs.declared.op.Operand.TheVariants.{Register, Number}
-use Rattle.stage_plan.specs.declared.op.PlanOp.{PlanOp}
-use Rattle.stage_plan.specs.declared.group.GroupPlan.{GroupPlan}
-use Rattle.stage_plan.specs.declared.group.GroupWiring.{GroupWiring}
-use Rattle.stage_plan.specs.Registers.{operand_stage, stages_of}
+use Rattle.stage_plan.specs.declared.{op.{Operand.{Operand, TheVariants.{Register, Number}}, PlanOp.PlanOp}, group.GroupPlan.GroupPlan}
+use Rattle.stage_plan.specs.{declared.group.GroupWiring.GroupWiring, Registers.{operand_stage, stages_of}}
 
 -- a plan, as contracts see it: the fields that it reads, its operations, which write the registers after those of the fields in order, its
 -- groupbys, and what each of them takes

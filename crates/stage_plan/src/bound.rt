@@ -1,8 +1,7 @@
 //! The bound on the steps of one packet.
 
 ghost use Rattle.std.specs.Prelude.{◌≡◌, ℕ, ◌+◌, ◌*◌, ◌^◌, ◌<◌, ◌≤◌, length, map, sum, slice_get, Some};
-ghost use Rattle.stage_plan.specs.declared.group.GroupPlan.{GroupPlan};
-ghost use Rattle.stage_plan.specs.Shape.{element_words, entry_words, group_bound, group_shape};
+ghost use Rattle.stage_plan.specs.{declared.group.GroupPlan.GroupPlan, Shape.{element_words, entry_words, group_bound, group_shape}};
 
 use crate::group::GroupPlan;
 use fold_class::Algebra;

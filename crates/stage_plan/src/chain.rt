@@ -1,8 +1,7 @@
 //! Operations that wait for one another, one in each stage.
 
 ghost use Rattle.std.specs.Prelude.{◌≡◌, ◌+◌, ◌<◌, [], length, IfOk, IfSome, OnOk, is_some, true};
-ghost use Rattle.stage_plan.specs.declared.op.Operand.TheVariants.{Register};
-ghost use Rattle.stage_plan.specs.Registers.{operand_stage};
+ghost use Rattle.stage_plan.specs.{declared.op.Operand.TheVariants.Register, Registers.operand_stage};
 ghost use Rattle.stage_plan.specs.Sound.{AreSoundOps, IsNamed, IsPrevious, EndsAt, IsChain};
 
 use crate::op::{FIRST_RESULT, Operand, PlanOp};

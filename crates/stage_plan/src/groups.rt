@@ -1,13 +1,9 @@
 //! The groupbys of a plan.
 
 ghost use Rattle.std.specs.Prelude.{◌≡◌, ℕ, ◌<◌, ◌++◌, map, length, option_map, option_to_list, All, IfOk, OnOk};
-ghost use Rattle.query_lang.specs.Folds.{IsValidFold};
-ghost use Rattle.query_lang.specs.Streams.{taking_of, takings};
-ghost use Rattle.query_lang.specs.TypedQueries.{AreNames, HasNames};
+ghost use Rattle.query_lang.specs.{Folds.IsValidFold, Streams.{taking_of, takings}, TypedQueries.{AreNames, HasNames}};
 ghost use Rattle.fold_class.specs.Program.{IsProgramOf};
-ghost use Rattle.stage_plan.specs.Counting.{HasInputs};
-ghost use Rattle.stage_plan.specs.Making.{operand_at};
-ghost use Rattle.stage_plan.specs.Ordering.{moved, wired, wiring_of};
+ghost use Rattle.stage_plan.specs.{Counting.HasInputs, Making.operand_at, Ordering.{moved, wired, wiring_of}};
 ghost use Rattle.stage_plan.specs.Shape.{text_at, shape_made, group_shape, query_groups};
 ghost use Rattle.stage_plan.specs.Grouping.{FitsFold, FitsGroup, IsGroupFor, IsGroupOf, AreGroupsOf, IsGroupShape};
 

@@ -1,10 +1,7 @@
 //! Laws about the stages of plans.
 
 ghost use Rattle.std.specs.Prelude.{◌≡◌, ℕ, ◌≤◌, List, map};
-ghost use Rattle.stage_plan.specs.Placements.{IsPlacement};
-ghost use Rattle.stage_plan.specs.Registers.{stages_of};
-ghost use Rattle.stage_plan.specs.Shape.{greatest};
-ghost use Rattle.stage_plan.specs.Sound.{PlanParts, IsSoundPlan};
+ghost use Rattle.stage_plan.specs.{Placements.IsPlacement, Registers.stages_of, Shape.greatest, Sound.{PlanParts, IsSoundPlan}};
 
 /// A plan's operations are in a placement, and no placement of them, each after those that it reads, has fewer stages.
 pub fn stages_are_fewest()

@@ -1,13 +1,10 @@
 //! The operations of a query in order.
 
 ghost use Rattle.std.specs.Prelude.{◌≡◌, ◌+◌, ◌<◌, ◌≤◌, max, min, suc, length, map, ◌++◌, Some, IfOk, OnOk};
-ghost use Rattle.query_lang.specs.Folds.{term_nodes};
-ghost use Rattle.query_lang.specs.Terms.{term_of};
-ghost use Rattle.stage_plan.specs.declared.op.Operand.TheVariants.{Number};
-ghost use Rattle.stage_plan.specs.Registers.{operand_stage};
-ghost use Rattle.stage_plan.specs.Making.{stage_after, with_op, operand_at, compiled, made_join, conditioned, made_filter, made_map};
-ghost use Rattle.stage_plan.specs.Making.{made_zip, emit_columns, made_group};
-ghost use Rattle.stage_plan.specs.Counting.{condition_most, values_most, emit_most};
+ghost use Rattle.query_lang.specs.{Folds.term_nodes, Terms.term_of};
+ghost use Rattle.stage_plan.specs.{declared.op.Operand.TheVariants.Number, Registers.operand_stage, Making.{stage_after, with_op}};
+ghost use Rattle.stage_plan.specs.Making.{operand_at, compiled, made_join, conditioned, made_filter, made_map, made_zip, emit_columns};
+ghost use Rattle.stage_plan.specs.{Making.made_group, Counting.{condition_most, values_most, emit_most}};
 
 use crate::op::{FIRST_RESULT, Operand, Operation, PlanOp};
 use crate::wires::StreamWires;

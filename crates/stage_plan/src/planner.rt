@@ -1,11 +1,8 @@
 //! The plan of a typed query.
 
 ghost use Rattle.std.specs.Prelude.{◌≡◌, ◌≤◌, ◌∷◌, [], None, length, IfOk, OnOk, IfErr};
-ghost use Rattle.query_lang.specs.Answers.{IsTold};
-ghost use Rattle.query_lang.specs.TypedQueries.{IsValidQuery};
-ghost use Rattle.stage_plan.specs.Depths.{stage_fault};
-ghost use Rattle.stage_plan.specs.Making.{packet_wires, all_made, made_fault};
-ghost use Rattle.stage_plan.specs.Planned.{IsPlanOf};
+ghost use Rattle.query_lang.specs.{Answers.IsTold, TypedQueries.IsValidQuery};
+ghost use Rattle.stage_plan.specs.{Depths.stage_fault, Making.{packet_wires, all_made, made_fault}, Planned.IsPlanOf};
 
 use crate::fields::read_fields;
 use crate::groups::{plan_groups, wire_groups};

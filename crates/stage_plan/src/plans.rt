@@ -1,10 +1,8 @@
 //! A plan, and what it does with a packet.
 
-ghost use Rattle.std.specs.Prelude.{◌≡◌, ℕ, ◌+◌, ◌*◌, ◌^◌, ◌<◌, ◌≤◌, ◌==◌, map, length, slice_get};
-ghost use Rattle.std.specs.Prelude.{count_by, Some, IfOk};
+ghost use Rattle.std.specs.Prelude.{◌≡◌, ℕ, ◌+◌, ◌*◌, ◌^◌, ◌<◌, ◌≤◌, ◌==◌, map, length, slice_get, count_by, Some, IfOk};
 ghost use Rattle.query_lang.specs.Words.{holds};
-ghost use Rattle.stage_plan.specs.Registers.{operand_value, stages_of};
-ghost use Rattle.stage_plan.specs.Planned.{registers_of, packet_registers, wiring_at, plan_bound};
+ghost use Rattle.stage_plan.specs.{Registers.{operand_value, stages_of}, Planned.{registers_of, packet_registers, wiring_at, plan_bound}};
 ghost use Rattle.stage_plan.specs.Sound.{PlanParts, IsSoundPlan, IsChain};
 
 use crate::bound::most_of_groups;

@@ -1,8 +1,7 @@
 //! The registers of a packet.
 
 ghost use Rattle.std.specs.Prelude.{◌≡◌, ℕ, ◌+◌, ◌<◌, ◌≤◌, length, take, slice_get, slice_index, Some, map, All};
-ghost use Rattle.stage_plan.specs.declared.op.PlanOp.{PlanOp};
-ghost use Rattle.stage_plan.specs.Registers.{operand_value, result_of, registers_after, stages_of};
+ghost use Rattle.stage_plan.specs.{declared.op.PlanOp.PlanOp, Registers.{operand_value, result_of, registers_after, stages_of}};
 ghost use Rattle.stage_plan.specs.Sound.{IsWithin, AreSoundOps};
 
 use crate::op::{Operand, Operation, PlanOp};

@@ -1,10 +1,7 @@
 //! The operations of all streams of a query.
 
-ghost use Rattle.std.specs.Prelude.{◌≡◌, ◌+◌, ◌<◌, ◌≤◌, ◌∷◌, [], None, Some, length, slice_get, nat_lt, IfOk};
-ghost use Rattle.std.specs.Prelude.{OnOk, IfErr};
-ghost use Rattle.std.specs.List.{list_any};
-ghost use Rattle.query_lang.specs.Answers.{IsTold};
-ghost use Rattle.query_lang.specs.TypedQueries.{IsValidQuery};
+ghost use Rattle.std.specs.{Prelude.{◌≡◌, ◌+◌, ◌<◌, ◌≤◌, ◌∷◌, [], None, Some, length, slice_get, nat_lt, IfOk, OnOk, IfErr}, List.list_any};
+ghost use Rattle.query_lang.specs.{Answers.IsTold, TypedQueries.IsValidQuery};
 ghost use Rattle.stage_plan.specs.Counting.{HasInputs, HasFold, op_most};
 ghost use Rattle.stage_plan.specs.Making.{packet_wires, wires_at, made_by, are_deep, all_made, made_fault};
 

@@ -1,8 +1,7 @@
 //! The text of a plan.
 
 ghost use Rattle.std.specs.Prelude.{◌≡◌, ◌∷◌, ◌++◌, [], ◌<◌, ◌≤◌, length, map, flat_map, codes, IfOk, OnOk};
-ghost use Rattle.stage_plan.specs.Planned.{shape_of};
-ghost use Rattle.stage_plan.specs.Registers.{stages_of};
+ghost use Rattle.stage_plan.specs.{Planned.shape_of, Registers.stages_of};
 ghost use Rattle.stage_plan.specs.Shape.{counted, line, class_word, stage_lines, sizes_of, group_line, group_shape, plan_text_of};
 
 use crate::group::GroupPlan;

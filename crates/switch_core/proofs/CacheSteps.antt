@@ -1,18 +1,13 @@
 -- A cache that represents a machine still represents it after one of its buckets changed at the front.
 use Rattle.std.proofs.Common.{◌≡◌, ℕ, zero, suc, ◌-◌, ◌<◌, true, false, List, [], ◌∷◌, ◌++◌, Some, None, length, take, get_or, set, All}
 use Rattle.std.proofs.Common.{refl, sym, ap, ◌∙◌, subst, ⊎_elim, arith, length-set, get_or-set_same, get_or-set_other}
-use Rattle.std.specs.Prelude.{slice_get, nat_lt}
-use Rattle.std.proofs.lemmas.Bool.{cases_eq, lt-ltb, le-ltb}
-use Rattle.std.proofs.lemmas.List.{set-get_or, length-map}
-use Rattle.epoch_model.specs.Keys.{Key, ArgRow, bucket_of}
-use Rattle.epoch_model.specs.Machine.{Epoch, Machine, open_in, set_open, evict, packet, is_open, rows_in_epochs, without, with_row}
-use Rattle.epoch_model.specs.Machine.{with_new, all_but_last}
-use Rattle.bucket_cache.specs.Buckets.{Pair, places_of, without_key}
-use Rattle.bucket_cache.specs.Caches.{Cache, list_at, entry_at, with_list, IsSoundCache}
+use Rattle.std.{proofs.lemmas.{Bool.{cases_eq, lt-ltb, le-ltb}, List.{set-get_or, length-map}}, specs.Prelude.{slice_get, nat_lt}}
+use Rattle.epoch_model.specs.{Keys.{Key, ArgRow, bucket_of}, Machine.{Epoch, Machine, open_in, set_open, evict, packet, is_open}}
+use Rattle.epoch_model.specs.Machine.{rows_in_epochs, without, with_row, with_new, all_but_last}
+use Rattle.bucket_cache.specs.{Buckets.{Pair, places_of, without_key}, Caches.{Cache, list_at, entry_at, with_list, IsSoundCache}}
 use Rattle.bucket_cache.specs.Touches.{Touches, with_pair_first, IsLeast, least_place}
 use Rattle.bucket_cache.specs.declared.bucket.Touch.TheVariants.{Hit, Free, Full}
-use Rattle.switch_core.specs.Places.{with_words}
-use Rattle.switch_core.specs.Lanes.{Standing, PairStands, PairsStand, CacheStands, geometry}
+use Rattle.switch_core.specs.{Places.with_words, Lanes.{Standing, PairStands, PairsStand, CacheStands, geometry}}
 use Rattle.switch_core.proofs.Standing.{by_test, pairs_long, pairs_map, pairs_take, has_open, pairs_without, place_stands}
 
 -- the front pair's entry is written, and all others are unchanged

@@ -1,22 +1,15 @@
 -- What events make of a front and the store that it is handed, one after another.
 use Rattle.std.proofs.Common.{◌≡◌, ℕ, ◌+◌, ◌-◌, ◌≤◌, List, [], ◌∷◌, ◌++◌, length, take, drop, refl, sym, ap, ◌∙◌, subst, append-nil}
-use Rattle.std.proofs.Common.{append_assoc, if◌then◌else◌}
-use Rattle.std.specs.Prelude.{nat_lt}
-use Rattle.epoch_model.specs.Epochs.{Geometry}
-use Rattle.epoch_model.specs.Keys.{Key, ArgRow}
-use Rattle.epoch_model.specs.Machine.{Epoch, Machine, Event, Packet, Evict, Merge, step}
+use Rattle.std.{proofs.Common.{append_assoc, if◌then◌else◌}, specs.Prelude.nat_lt}
+use Rattle.epoch_model.specs.{Epochs.Geometry, Keys.{Key, ArgRow}, Machine.{Epoch, Machine, Event, Packet, Evict, Merge, step}}
 use Rattle.epoch_model.specs.Tables.{Folding}
 use Rattle.epoch_entry.specs.Kinds.{Sizes}
 use Rattle.bucket_cache.specs.Caches.{list_at, with_list}
-use Rattle.backing_store.specs.Store.{Store}
-use Rattle.backing_store.specs.Merged.{StoreHolds}
-use Rattle.switch_core.specs.FrontParts.{FitsStore, FrontOf, LaneOf}
-use Rattle.switch_core.specs.FrontEvents.{Carries, CarriesAll, CarriesFirst, CarriesUpTo, FrontMakes, KeepsSizes, LeavesParts, MergesNext}
-use Rattle.switch_core.specs.FrontEvents.{merges_of, with_store}
-use Rattle.switch_core.specs.LaneEvents.{Makes, MakesAll, parts}
-use Rattle.switch_core.specs.Lanes.{Standing, FrontStands, geometry}
-use Rattle.switch_core.proofs.LaneSteps.{evict_merged_same, packet_merged_same}
-use Rattle.switch_core.proofs.MergeSteps.{merged_next}
+use Rattle.backing_store.specs.{Store.Store, Merged.StoreHolds}
+use Rattle.switch_core.specs.{FrontParts.{FitsStore, FrontOf, LaneOf}, FrontEvents.{Carries, CarriesAll, CarriesFirst, CarriesUpTo}}
+use Rattle.switch_core.specs.FrontEvents.{FrontMakes, KeepsSizes, LeavesParts, MergesNext, merges_of, with_store}
+use Rattle.switch_core.specs.{LaneEvents.{Makes, MakesAll, parts}, Lanes.{Standing, FrontStands, geometry}}
+use Rattle.switch_core.proofs.{LaneSteps.{evict_merged_same, packet_merged_same}, MergeSteps.merged_next}
 
 -- sizes
 

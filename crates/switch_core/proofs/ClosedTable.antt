@@ -1,14 +1,8 @@
 -- The table of a lane whose closed epochs are all merged.
-use Rattle.std.proofs.Common.{◌≡◌, ℕ, List, ◌++◌, length, take, ap, ◌∙◌}
-use Rattle.std.proofs.Math.Seq.{take-length}
-use Rattle.epoch_model.specs.declared.tables.Row.{Row}
-use Rattle.epoch_model.specs.Machine.{Epoch, Machine}
-use Rattle.epoch_model.specs.Tables.{Folding, closed_rows, closed_epochs}
-use Rattle.backing_store.specs.Store.{Store}
-use Rattle.backing_store.specs.Merged.{StoreHolds}
-use Rattle.final_queries.specs.declared.table.Table.{Table}
-use Rattle.final_queries.specs.declared.table.TableKind.TheVariants.{Group}
-use Rattle.final_queries.specs.GroupTable.{Heading, closed_table}
+use Rattle.std.proofs.{Common.{◌≡◌, ℕ, List, ◌++◌, length, take, ap, ◌∙◌}, Math.Seq.take-length}
+use Rattle.epoch_model.specs.{declared.tables.Row.Row, Machine.{Epoch, Machine}, Tables.{Folding, closed_rows, closed_epochs}}
+use Rattle.backing_store.specs.{Store.Store, Merged.StoreHolds}
+use Rattle.final_queries.specs.{declared.table.{Table.Table, TableKind.TheVariants.Group}, GroupTable.{Heading, closed_table}}
 
 -- with all closed epochs merged the store holds them
 pub all_held : (f : Folding) (store : Store) (m : Machine) → m.merged ≡ length m.closed → StoreHolds f store (take m.merged m.closed)

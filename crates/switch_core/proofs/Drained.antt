@@ -1,17 +1,10 @@
 -- A front with empty cache and pipe has no open epoch, and all closed ones are merged.
 use Rattle.std.proofs.Common.{◌≡◌, ℕ, zero, suc, ◌-◌, ◌<◌, true, List, [], ◌∷◌, length, take, get_or, refl, sym, ap, ◌∙◌, arith}
-use Rattle.std.specs.List.{sum_by}
-use Rattle.std.proofs.lemmas.List.{set-get_or}
-use Rattle.std.proofs.lemmas.List.Sums.{sum_by-cons}
-use Rattle.std.proofs.lemmas.Bool.Decides.{nat_tests}
-use Rattle.epoch_model.specs.Machine.{Epoch, Machine, open_in}
-use Rattle.epoch_model.specs.Timeline.{IsSwept}
-use Rattle.bucket_cache.specs.Buckets.{Pair}
-use Rattle.bucket_cache.specs.Caches.{Cache, list_at, with_list}
+use Rattle.std.{proofs.lemmas.{List.{set-get_or, Sums.sum_by-cons}, Bool.Decides.nat_tests}, specs.List.sum_by}
+use Rattle.epoch_model.specs.{Machine.{Epoch, Machine, open_in}, Timeline.IsSwept}
+use Rattle.bucket_cache.specs.{Buckets.Pair, Caches.{Cache, list_at, with_list}}
 use Rattle.evict_pipe.specs.Pipes.{Pipe}
-use Rattle.switch_core.specs.Lanes.{Standing, FrontStands}
-use Rattle.switch_core.specs.Closing.{held_in, is_drained}
-use Rattle.switch_core.proofs.Standing.{pairs_long}
+use Rattle.switch_core.{specs.{Lanes.{Standing, FrontStands}, Closing.{held_in, is_drained}}, proofs.Standing.pairs_long}
 use Rattle.switch_core.proofs.MergeSteps.{none_piped}
 
 none_held : (lists : List (List Pair)) (bucket : ℕ) → sum_by (λ pairs. length pairs) lists ≡ 0 → length (get_or lists bucket []) ≡ 0

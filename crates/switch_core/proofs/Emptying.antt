@@ -1,20 +1,13 @@
 -- The events of a sweep in order, as they are made and as they are still to come.
 use Rattle.std.proofs.Common.{◌≡◌, ℕ, zero, suc, ◌+◌, ◌-◌, ◌*◌, ◌<◌, ◌≤◌, true, false, Ok, Result, List, [], ◌∷◌, ◌++◌, length, map, take}
 use Rattle.std.proofs.Common.{drop, set, get_or, refl, sym, ap, ◌∙◌, arith, append_assoc, get_or-set_same, length-take-le}
-use Rattle.std.specs.Prelude.{nat_lt}
-use Rattle.epoch_model.specs.Machine.{Event, Evict, Merge}
-use Rattle.epoch_model.specs.Tables.{Folding}
-use Rattle.bucket_cache.specs.Buckets.{Pair}
-use Rattle.bucket_cache.specs.Caches.{Cache, list_at, with_list}
+use Rattle.std.specs.{Prelude.nat_lt, declared.alloc.AllocError.AllocError}
+use Rattle.epoch_model.specs.{Machine.{Event, Evict, Merge}, Tables.Folding}
+use Rattle.bucket_cache.specs.{Buckets.Pair, Caches.{Cache, list_at, with_list}}
 use Rattle.evict_pipe.specs.Pipes.{Pipe}
-use Rattle.switch_core.specs.FrontEvents.{Carries, CarriesAll, CarriesUpTo}
-use Rattle.switch_core.specs.FrontParts.{LaneOf}
-use Rattle.switch_core.specs.Lanes.{Standing}
-use Rattle.switch_core.specs.Upkeeps.{counts_of, left_waiting, room_events, sweep_events, sweep_from, tries}
-use Rattle.std.specs.declared.alloc.AllocError.{AllocError}
-use Rattle.switch_core.specs.declared.front.Merged.{Merged}
-use Rattle.switch_core.specs.declared.front.Merged.TheVariants.{Done, Empty}
-use Rattle.switch_core.proofs.Carrying.{carries_on, up_to_on}
+use Rattle.switch_core.specs.{FrontEvents.{Carries, CarriesAll, CarriesUpTo}, FrontParts.LaneOf, Lanes.Standing}
+use Rattle.switch_core.specs.{Upkeeps.{counts_of, left_waiting, room_events, sweep_events, sweep_from, tries}, declared.front.Merged.Merged}
+use Rattle.switch_core.{specs.declared.front.Merged.TheVariants.{Done, Empty}, proofs.Carrying.{carries_on, up_to_on}}
 
 abbrev count : List Pair → ℕ
 count pairs = length pairs

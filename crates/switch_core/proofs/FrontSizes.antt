@@ -2,12 +2,9 @@
 use Rattle.std.proofs.Common.{◌≡◌, ◌++◌, ℕ, List, length, take, drop, refl, ap, ◌∙◌, length-set}
 use Rattle.epoch_model.specs.Tables.{Folding}
 use Rattle.epoch_entry.specs.Kinds.{Sizes}
-use Rattle.bucket_cache.specs.Buckets.{Pair}
-use Rattle.bucket_cache.specs.Caches.{Cache, with_list}
+use Rattle.bucket_cache.specs.{Buckets.Pair, Caches.{Cache, with_list}}
 use Rattle.evict_pipe.specs.Pipes.{Pipe}
-use Rattle.switch_core.specs.FrontParts.{AreFrontParts, IsFront}
-use Rattle.switch_core.specs.Places.{with_words}
-use Rattle.switch_core.proofs.LaneFacts.{whole_written}
+use Rattle.switch_core.{specs.{FrontParts.{AreFrontParts, IsFront}, Places.with_words}, proofs.LaneFacts.whole_written}
 
 -- a cache with as many buckets, and words of keys and entries, as before
 pub record SameSizes (old new : Cache) : Type 0 where

@@ -1,9 +1,7 @@
 -- Lists of events that a lane makes.
 use Rattle.std.proofs.Common.{ℕ, [], ◌∷◌}
-use Rattle.epoch_model.specs.Machine.{step}
-use Rattle.epoch_model.specs.Tables.{Folding}
-use Rattle.switch_core.specs.Lanes.{Standing, geometry}
-use Rattle.switch_core.specs.LaneEvents.{EventsAreFollowed}
+use Rattle.epoch_model.specs.{Machine.step, Tables.Folding}
+use Rattle.switch_core.specs.{Lanes.{Standing, geometry}, LaneEvents.EventsAreFollowed}
 
 pub followed : (means : Standing) (f : Folding) (ways : ℕ) → EventsAreFollowed means f ways
 followed means f ways [] old new m s e = rw e s

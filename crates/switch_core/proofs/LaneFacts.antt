@@ -1,18 +1,12 @@
 -- What holds of each lane of a plan.
 use Rattle.std.proofs.Common.{◌≡◌, ℕ, zero, suc, ◌+◌, ◌<◌, ◌≤◌, ◌&&◌, ◌==◌, Bool, true, false, List, [], ◌∷◌, Some, Result, Ok, Err, OnOk}
-use Rattle.std.proofs.Common.{OnErr, length, take, set, ◌++◌, refl, sym, ap, ◌∙◌, arith}
-use Rattle.std.specs.List.{list_all}
-use Rattle.std.proofs.Math.Seq.{take-append_seam}
-use Rattle.std.specs.Prelude.{slice_get}
-use Rattle.std.proofs.lemmas.Bool.Decides.{nat_tests}
+use Rattle.std.proofs.{Common.{OnErr, length, take, set, ◌++◌, refl, sym, ap, ◌∙◌, arith}, Math.Seq.take-append_seam}
+use Rattle.std.{proofs.lemmas.Bool.Decides.nat_tests, specs.{List.list_all, Prelude.slice_get}}
 use Rattle.epoch_model.specs.Machine.{Event}
 use Rattle.query_lang.specs.declared.fault.TheConstants.{MAX_ARGS, MAX_KEYS}
-use Rattle.epoch_entry.specs.declared.purpose.Entries.{Entries}
-use Rattle.epoch_entry.specs.contracts.any.AnyEpochsEpochKind.TheImpl.{ghosts}
-use Rattle.stage_plan.specs.Planned.{wiring_at}
-use Rattle.stage_plan.specs.Sound.{PlanParts, IsSoundPlan}
-use Rattle.switch_core.specs.Pipelines.{IsLaneOf, event_at}
-use Rattle.switch_core.specs.PlanLanes.{LaneView, AreLanesOf, LaneMakes, LanesMake}
+use Rattle.epoch_entry.specs.{declared.purpose.Entries.Entries, contracts.any.AnyEpochsEpochKind.TheImpl.ghosts}
+use Rattle.stage_plan.specs.{Planned.wiring_at, Sound.{PlanParts, IsSoundPlan}}
+use Rattle.switch_core.specs.{Pipelines.{IsLaneOf, event_at}, PlanLanes.{LaneView, AreLanesOf, LaneMakes, LanesMake}}
 use Rattle.switch_core.proofs.SideBySide.{same_some, got_some, got_below, each_at, each_set, untouched_start}
 
 -- two tests that both pass

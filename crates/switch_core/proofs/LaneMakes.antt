@@ -1,14 +1,9 @@
 -- What a front's events make of a lane.
 use Rattle.std.proofs.Common.{ℕ, Result, Ok, Err, OnOk}
-use Rattle.epoch_model.specs.Keys.{Key, ArgRow}
-use Rattle.epoch_model.specs.Machine.{Packet, Evict, Merge, packet, evict}
-use Rattle.epoch_model.specs.Tables.{Folding}
+use Rattle.epoch_model.specs.{Keys.{Key, ArgRow}, Machine.{Packet, Evict, Merge, packet, evict}, Tables.Folding}
 use Rattle.backing_store.specs.Store.{Store}
-use Rattle.switch_core.specs.FrontParts.{FrontOf}
-use Rattle.switch_core.specs.FrontEvents.{FrontMakes, MergesNext}
-use Rattle.switch_core.specs.LaneEvents.{Makes, parts}
-use Rattle.switch_core.specs.Lanes.{Standing, geometry}
-use Rattle.switch_core.proofs.LaneSteps.{evict_merged_same, packet_merged_same, store_same}
+use Rattle.switch_core.specs.{FrontParts.FrontOf, FrontEvents.{FrontMakes, MergesNext}, LaneEvents.{Makes, parts}}
+use Rattle.switch_core.{specs.Lanes.{Standing, geometry}, proofs.LaneSteps.{evict_merged_same, packet_merged_same, store_same}}
 use Rattle.switch_core.proofs.MergeSteps.{kept_next}
 
 pub lane_packet : {K : Type 0} (means : Standing) (f : Folding) (ways : ℕ) (key : Key) (row : ArgRow) (old new : FrontOf K) (store : Store)

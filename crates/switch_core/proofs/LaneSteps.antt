@@ -1,17 +1,12 @@
 -- What a lane's events leave of its merged epochs, and what an empty lane represents.
 use Rattle.std.proofs.Common.{◌≡◌, ◌≤◌, ℕ, zero, suc, [], length, take, replicate, get_or, refl, sym, ap, ◌∙◌, subst, arith, length-append}
-use Rattle.std.specs.Prelude.{nat_lt}
-use Rattle.std.proofs.lemmas.List.{take-append-le, length-replicate}
-use Rattle.epoch_model.specs.Keys.{Key, ArgRow, bucket_of}
-use Rattle.epoch_model.specs.Epochs.{Geometry}
-use Rattle.epoch_model.specs.Machine.{Machine, open_in, evict, packet, is_open, empty_machine, last_alone}
-use Rattle.epoch_model.specs.Tables.{Folding}
+use Rattle.std.{proofs.lemmas.List.{take-append-le, length-replicate}, specs.Prelude.nat_lt}
+use Rattle.epoch_model.specs.{Keys.{Key, ArgRow, bucket_of}, Epochs.Geometry}
+use Rattle.epoch_model.specs.{Machine.{Machine, open_in, evict, packet, is_open, empty_machine, last_alone}, Tables.Folding}
 use Rattle.bucket_cache.specs.Caches.{Cache, empty_cache}
 use Rattle.evict_pipe.specs.Pipes.{Pipe}
-use Rattle.backing_store.specs.Store.{Store, epochs_of, states_at, number_of}
-use Rattle.backing_store.specs.Merged.{StoreHolds}
-use Rattle.switch_core.specs.Lanes.{Standing, PairStands, PairsStand, StoreStands, FrontStands, geometry}
-use Rattle.switch_core.proofs.Standing.{by_test}
+use Rattle.backing_store.specs.{Store.{Store, epochs_of, states_at, number_of}, Merged.StoreHolds}
+use Rattle.switch_core.{specs.Lanes.{Standing, PairStands, PairsStand, StoreStands, FrontStands, geometry}, proofs.Standing.by_test}
 
 -- the merged epochs are unchanged
 abbrev pub SameMerged : Machine → Machine → Type 0

@@ -1,20 +1,14 @@
 -- The tables of lanes in order.
 use Rattle.std.proofs.Common.{◌≡◌, ℕ, zero, suc, ◌+◌, ◌≤◌, true, List, [], ◌∷◌, ◌++◌, Some, length, map, take, refl, ap, ◌∙◌, arith}
-use Rattle.std.specs.List.{list_all}
-use Rattle.std.specs.Prelude.{slice_get}
-use Rattle.epoch_model.specs.Machine.{Machine}
-use Rattle.epoch_model.specs.Timeline.{IsSwept}
+use Rattle.std.specs.{List.list_all, Prelude.slice_get}
+use Rattle.epoch_model.specs.{Machine.Machine, Timeline.IsSwept}
 use Rattle.epoch_entry.specs.contracts.any.AnyEpochsEpochKind.TheImpl.{ghosts}
 use Rattle.backing_store.specs.Merged.{StoreHolds}
 use Rattle.final_queries.specs.GroupTable.{closed_table}
 use Rattle.stage_plan.specs.declared.group.GroupPlan.{GroupPlan}
-use Rattle.switch_core.specs.Rows.{EachFrom}
-use Rattle.switch_core.specs.Pipelines.{heading_of, stored_table, tables_of}
-use Rattle.switch_core.specs.PlanLanes.{LaneView, StandsFor, folding_at, lane_is_drained, stored_tables}
-use Rattle.switch_core.proofs.ClosedTable.{all_held}
-use Rattle.switch_core.proofs.Drained.{drained_is_done, drained_parts}
-use Rattle.switch_core.proofs.LaneFacts.{both_pass}
-use Rattle.switch_core.proofs.MergeSteps.{none_piped}
+use Rattle.switch_core.specs.{Rows.EachFrom, Pipelines.{heading_of, stored_table, tables_of}}
+use Rattle.switch_core.{specs.PlanLanes.{LaneView, StandsFor, folding_at, lane_is_drained, stored_tables}, proofs.ClosedTable.all_held}
+use Rattle.switch_core.proofs.{Drained.{drained_is_done, drained_parts}, LaneFacts.both_pass, MergeSteps.none_piped}
 
 -- where a lane is drained its store holds all epochs of its machine
 pub drained_holds : (lane : LaneView) (m : Machine) → lane_is_drained lane ≡ true → StandsFor lane m

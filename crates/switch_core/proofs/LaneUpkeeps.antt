@@ -1,19 +1,13 @@
 -- Upkeeps of lanes in order.
 use Rattle.std.proofs.Common.{◌≡◌, ℕ, zero, suc, ◌+◌, ◌<◌, ◌≤◌, ◌==◌, true, false, List, [], ◌∷◌, Some, inl, inr, length, set, refl, sym}
-use Rattle.std.proofs.Common.{ap, ◌∙◌, subst, arith}
+use Rattle.std.proofs.{Common.{ap, ◌∙◌, subst, arith}, lemmas.Bool.{cases_eq, lt-ltb, le-ltb, Decides.nat_tests}}
 use Rattle.std.specs.Prelude.{nat_lt, slice_get, if◌then◌else◌}
-use Rattle.std.proofs.lemmas.Bool.{cases_eq, lt-ltb, le-ltb}
-use Rattle.std.proofs.lemmas.Bool.Decides.{nat_tests}
 use Rattle.epoch_model.specs.Machine.{Event}
 use Rattle.epoch_entry.specs.contracts.any.AnyEpochsEpochKind.TheImpl.{ghosts}
 use Rattle.switch_core.specs.FrontEvents.{CarriesAll, CarriesFirst}
 use Rattle.switch_core.specs.PlanLanes.{AtLane, LaneMakes, LaneView, LanesBreakOff, upkeep_at, upkeeps_at, upkeeps_until}
-use Rattle.switch_core.specs.Upkeeps.{upkeep_events}
-use Rattle.switch_core.specs.declared.upkeep.Upkeep.{Upkeep}
-use Rattle.switch_core.proofs.Carrying.{makes_all, sizes_kept}
-use Rattle.switch_core.proofs.LaneFacts.{got_set}
-use Rattle.switch_core.proofs.SideBySide.{Done, Untouched, done_next, each_both, each_set, same_some}
-use Rattle.switch_core.proofs.Standing.{by_test}
+use Rattle.switch_core.{specs.{Upkeeps.upkeep_events, declared.upkeep.Upkeep.Upkeep}, proofs.Carrying.{makes_all, sizes_kept}}
+use Rattle.switch_core.proofs.{LaneFacts.got_set, SideBySide.{Done, Untouched, done_next, each_both, each_set, same_some}, Standing.by_test}
 
 -- what events make of a front and its store they make of the lane
 pub lane_carries : (ways : ℕ) (events : List Event) (a b : LaneView) → CarriesAll ghosts.stands ghosts.folding ways events a b

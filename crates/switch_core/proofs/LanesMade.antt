@@ -1,24 +1,15 @@
 -- The lanes that are made for a plan.
 use Rattle.std.proofs.Common.{◌≡◌, ℕ, zero, suc, ◌+◌, List, [], ◌∷◌, ◌++◌, Some, length, take, refl, sym, ap, ◌∙◌, arith}
-use Rattle.std.specs.Prelude.{slice_get}
-use Rattle.std.proofs.Math.Logic.{∥∥₁_elim}
-use Rattle.std.proofs.Props.{props}
+use Rattle.std.{proofs.{Math.Logic.{∥∥₁_elim}, Props.props}, specs.Prelude.slice_get}
 use Rattle.marple_base.specs.declared.field.TheConstants.{FIELDS}
 use Rattle.fold_class.specs.Program.{IsProgramOf}
 use Rattle.query_lang.specs.declared.fold.TypedFold.{TypedFold}
-use Rattle.epoch_model.specs.Epochs.{Geometry}
-use Rattle.epoch_model.specs.Machine.{empty_machine}
-use Rattle.epoch_entry.specs.declared.purpose.Entries.{Entries}
-use Rattle.epoch_entry.specs.Foldings.{per_epoch}
-use Rattle.epoch_entry.specs.Purposes.{EntriesSuitFolds, IsKindFor}
+use Rattle.epoch_model.specs.{Epochs.Geometry, Machine.empty_machine}
+use Rattle.epoch_entry.specs.{declared.purpose.Entries.Entries, Foldings.per_epoch, Purposes.{EntriesSuitFolds, IsKindFor}}
 use Rattle.epoch_entry.specs.contracts.any.AnyEpochsEpochKind.TheImpl.{ghosts}
-use Rattle.stage_plan.specs.declared.group.GroupPlan.{GroupPlan}
-use Rattle.stage_plan.specs.declared.group.GroupWiring.{GroupWiring}
-use Rattle.stage_plan.specs.Planned.{wiring_at}
+use Rattle.stage_plan.specs.{declared.group.{GroupPlan.GroupPlan, GroupWiring.GroupWiring}, Planned.wiring_at}
 use Rattle.stage_plan.specs.Sound.{PlanParts, IsSoundPlan, IsSoundGroup}
-use Rattle.switch_core.specs.Rows.{EachFrom}
-use Rattle.switch_core.specs.Pipelines.{IsLaneOf, empty_machines}
-use Rattle.switch_core.specs.PlanLanes.{LaneView}
+use Rattle.switch_core.specs.{Rows.EachFrom, Pipelines.{IsLaneOf, empty_machines}, PlanLanes.LaneView}
 use Rattle.switch_core.proofs.SideBySide.{got_some, got_below}
 
 pub each_push : {X Y : Type 0} (R : ℕ → X → Y → Type 0) (k : ℕ) (xs : List X) (ys : List Y) (x : X) (y : Y) → EachFrom R k xs ys

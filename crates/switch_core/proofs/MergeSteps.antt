@@ -1,18 +1,12 @@
 -- A front whose oldest record was merged represents the machine after the merge, and the store holds the merged epoch.
-use Rattle.std.proofs.Common.{◌≡◌, ℕ, zero, suc, ◌+◌, ◌<◌, ◌≤◌, List, [], ◌∷◌, ◌++◌, length, take, drop}
-use Rattle.std.proofs.Common.{get_or, refl, sym, ap, ◌∙◌, subst, arith, append-nil, length-drop}
+use Rattle.std.proofs.Common.{◌≡◌, ℕ, zero, suc, ◌+◌, ◌<◌, ◌≤◌, List, [], ◌∷◌, ◌++◌, length, take, drop, get_or, refl, sym, ap, ◌∙◌, subst}
+use Rattle.std.proofs.{Common.{arith, append-nil, length-drop}, lemmas.Bool.{lt-ltb, le-ltb, Decides.nat_tests}, Math.Seq.drop-length}
 use Rattle.std.specs.Prelude.{nat_lt}
-use Rattle.std.proofs.lemmas.Bool.{lt-ltb, le-ltb}
-use Rattle.std.proofs.lemmas.Bool.Decides.{nat_tests}
-use Rattle.std.proofs.Math.Seq.{drop-length}
-use Rattle.epoch_model.specs.Machine.{Epoch, Machine, merge}
-use Rattle.epoch_model.specs.Tables.{Folding}
+use Rattle.epoch_model.specs.{Machine.{Epoch, Machine, merge}, Tables.Folding}
 use Rattle.bucket_cache.specs.Caches.{Cache}
 use Rattle.evict_pipe.specs.Pipes.{Pipe}
-use Rattle.backing_store.specs.Store.{Store}
-use Rattle.backing_store.specs.Merged.{StoreHolds}
-use Rattle.switch_core.specs.Lanes.{Standing, RecordStands, RecordsStand, StoreStands, FrontStands}
-use Rattle.switch_core.specs.FrontEvents.{next_merged}
+use Rattle.backing_store.specs.{Store.Store, Merged.StoreHolds}
+use Rattle.switch_core.specs.{Lanes.{Standing, RecordStands, RecordsStand, StoreStands, FrontStands}, FrontEvents.next_merged}
 use Rattle.switch_core.proofs.Standing.{by_test}
 
 pub records_none : (stands : Standing) (kw : ℕ) (records : List (List ℕ)) (epochs : List Epoch) → RecordsStand stands kw records epochs

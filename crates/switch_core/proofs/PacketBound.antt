@@ -1,33 +1,16 @@
 -- What a packet costs at the lanes of a plan is within the plan's bound.
-use Rattle.std.proofs.Common.{◌≡◌, ℕ, suc, ◌+◌, ◌*◌, ◌≤◌, List, [], ◌∷◌, length, map, refl, sym, ap, ◌∙◌, arith}
-use Rattle.std.specs.Prelude.{sum, sum_by}
-use Rattle.std.proofs.Math.Nat.{mul-add}
-use Rattle.std.proofs.Math.Logic.{∥∥₁_elim}
-use Rattle.std.proofs.Props.{props}
-use Rattle.std.proofs.lemmas.List.Sums.{sum_by-cons}
+use Rattle.std.proofs.{Common.{◌≡◌, ℕ, suc, ◌+◌, ◌*◌, ◌≤◌, List, [], ◌∷◌, length, map, refl, sym, ap, ◌∙◌, arith}, Math.Nat.mul-add}
+use Rattle.std.{proofs.{Math.Logic.{∥∥₁_elim}, Props.props, lemmas.List.Sums.sum_by-cons}, specs.Prelude.{sum, sum_by}}
 use Rattle.marple_base.specs.declared.field.TheConstants.{FIELDS}
-use Rattle.query_lang.specs.declared.fold.TypedFold.{TypedFold}
-use Rattle.query_lang.specs.Folds.{IsValidFold, fold_states}
-use Rattle.fold_class.specs.declared.class.Algebra.{Algebra}
-use Rattle.fold_class.specs.declared.class.Algebra.TheVariants.{Sums, Maxima}
-use Rattle.fold_class.specs.Depth.{IsDepth, depth_of}
-use Rattle.fold_class.specs.Program.{IsProgramOf}
+use Rattle.query_lang.specs.{declared.fold.TypedFold.TypedFold, Folds.{IsValidFold, fold_states}}
+use Rattle.fold_class.specs.{declared.class.Algebra.{Algebra, TheVariants.{Sums, Maxima}}, Depth.{IsDepth, depth_of}, Program.IsProgramOf}
 use Rattle.fold_class.specs.Rows.{element_size}
-use Rattle.epoch_entry.specs.declared.purpose.Entries.{Entries}
-use Rattle.epoch_entry.specs.declared.purpose.Entries.TheVariants.{Folds, Bounds}
-use Rattle.epoch_entry.specs.Foldings.{entry_bound}
-use Rattle.epoch_entry.specs.Purposes.{EntriesSuitFolds, IsKindFor, runs_of}
-use Rattle.epoch_entry.specs.contracts.any.AnyEpochsEpochKind.TheImpl.{ghosts}
-use Rattle.stage_plan.specs.declared.group.GroupPlan.{GroupPlan}
-use Rattle.stage_plan.specs.declared.group.GroupWiring.{GroupWiring}
-use Rattle.stage_plan.specs.Planned.{plan_bound, wiring_at}
-use Rattle.stage_plan.specs.Shape.{element_words, group_bound, group_shape}
-use Rattle.stage_plan.specs.Sound.{IsSoundGroup, IsSoundPlan}
-use Rattle.switch_core.specs.Rows.{EachFrom}
-use Rattle.switch_core.specs.Pipelines.{IsLaneOf}
-use Rattle.switch_core.specs.PlanLanes.{AreLanesOf, LaneView, PipelineView, lane_cost, pipeline_cost}
-use Rattle.switch_core.proofs.SideBySide.{each_map}
-use Rattle.switch_core.proofs.LanesMade.{group_sound}
+use Rattle.epoch_entry.specs.{declared.purpose.Entries.{Entries, TheVariants.{Folds, Bounds}}, Foldings.entry_bound}
+use Rattle.epoch_entry.specs.{Purposes.{EntriesSuitFolds, IsKindFor, runs_of}, contracts.any.AnyEpochsEpochKind.TheImpl.ghosts}
+use Rattle.stage_plan.specs.{declared.group.{GroupPlan.GroupPlan, GroupWiring.GroupWiring}, Planned.{plan_bound, wiring_at}}
+use Rattle.stage_plan.specs.{Shape.{element_words, group_bound, group_shape}, Sound.{IsSoundGroup, IsSoundPlan}}
+use Rattle.switch_core.specs.{Rows.EachFrom, Pipelines.IsLaneOf, PlanLanes.{AreLanesOf, LaneView, PipelineView, lane_cost, pipeline_cost}}
+use Rattle.switch_core.proofs.{SideBySide.each_map, LanesMade.group_sound}
 
 -- a valid fold has one depth
 abbrev pub HasOneDepth : Type 0

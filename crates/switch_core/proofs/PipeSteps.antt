@@ -1,14 +1,9 @@
 -- A pipe that represents a machine still represents it after an epoch was closed.
-use Rattle.std.proofs.Common.{◌≡◌, ℕ, zero, suc, ◌-◌, ◌<◌, ◌≤◌, List, [], ◌∷◌, ◌++◌, Some, length, take, drop, All, sym, ap}
-use Rattle.std.proofs.Common.{◌∙◌, subst, arith}
+use Rattle.std.proofs.Common.{◌≡◌, ℕ, zero, suc, ◌-◌, ◌<◌, ◌≤◌, List, [], ◌∷◌, ◌++◌, Some, length, take, drop, All, sym, ap, ◌∙◌, subst}
+use Rattle.std.proofs.{Common.arith, lemmas.{Bool.lt-ltb, List.drop-append-le}, Math.Seq.{take-append_seam, drop-append_seam}}
 use Rattle.std.specs.Prelude.{slice_get}
-use Rattle.std.proofs.lemmas.Bool.{lt-ltb}
-use Rattle.std.proofs.lemmas.List.{drop-append-le}
-use Rattle.std.proofs.Math.Seq.{take-append_seam, drop-append_seam}
 use Rattle.epoch_model.specs.Machine.{Epoch, Machine, open_in, evict, last_alone}
-use Rattle.bucket_cache.specs.Buckets.{Pair, places_of}
-use Rattle.bucket_cache.specs.Caches.{Cache, list_at, entry_at, IsSoundCache}
-use Rattle.bucket_cache.specs.Touches.{IsLeast}
+use Rattle.bucket_cache.specs.{Buckets.{Pair, places_of}, Caches.{Cache, list_at, entry_at, IsSoundCache}, Touches.IsLeast}
 use Rattle.switch_core.specs.Lanes.{Standing, PairStands, CacheStands, RecordStands, RecordsStand, PipeStands}
 use Rattle.switch_core.proofs.Standing.{pairs_long, last_pair}
 

@@ -1,34 +1,19 @@
 -- Pipelines whose lanes made events.
-use Rattle.std.proofs.Common.{◌≡◌, ℕ, zero, suc, ◌+◌, ◌==◌, true, List, [], ◌∷◌, ◌++◌, Some, length, map, take, drop}
-use Rattle.std.proofs.Common.{refl, sym, ap, ◌∙◌, subst, arith}
-use Rattle.std.specs.List.{list_all}
-use Rattle.std.specs.Prelude.{slice_get}
-use Rattle.epoch_model.specs.Machine.{Machine, Event, run, empty_buckets}
-use Rattle.epoch_model.specs.Tables.{Folding}
-use Rattle.epoch_model.specs.Driving.{EventsKeepAlike, BucketsEmptyByEvictions}
-use Rattle.epoch_model.specs.Laws.{SameEpochs}
-use Rattle.epoch_entry.specs.declared.purpose.Entries.{Entries}
-use Rattle.epoch_entry.specs.Programs.{program_in}
-use Rattle.epoch_entry.specs.Purposes.{IsKindFor}
+use Rattle.std.proofs.Common.{◌≡◌, ℕ, zero, suc, ◌+◌, ◌==◌, true, List, [], ◌∷◌, ◌++◌, Some, length, map, take, drop, refl, sym, ap, ◌∙◌}
+use Rattle.std.{proofs.Common.{subst, arith}, specs.{List.list_all, Prelude.slice_get}}
+use Rattle.epoch_model.specs.{Machine.{Machine, Event, run, empty_buckets}, Tables.Folding}
+use Rattle.epoch_model.specs.{Driving.{EventsKeepAlike, BucketsEmptyByEvictions}, Laws.SameEpochs}
+use Rattle.epoch_entry.specs.{declared.purpose.Entries.Entries, Programs.program_in, Purposes.IsKindFor}
+use Rattle.epoch_entry.specs.contracts.any.AnyEpochsEpochKind.TheImpl.{ghosts}
 use Rattle.fold_class.specs.Program.{IsProgramOf}
 use Rattle.query_lang.specs.declared.fold.TypedFold.{TypedFold}
-use Rattle.epoch_entry.specs.contracts.any.AnyEpochsEpochKind.TheImpl.{ghosts}
-use Rattle.stage_plan.specs.declared.group.GroupPlan.{GroupPlan}
-use Rattle.stage_plan.specs.Planned.{wiring_at}
-use Rattle.stage_plan.specs.Sound.{PlanParts}
-use Rattle.switch_core.specs.Lanes.{Standing}
-use Rattle.switch_core.specs.LaneEvents.{Parts, PartsStand, MakesAll}
-use Rattle.switch_core.specs.Closing.{held_in}
-use Rattle.switch_core.specs.Rows.{Each, EachFrom}
-use Rattle.switch_core.specs.Pipelines.{IsLaneOf, after_events, geometry_without_refresh}
-use Rattle.switch_core.specs.PlanLanes.{LaneView, IsMadeFor, PipelineView, PipelineMakes, AreLanesOf, StandsFor}
-use Rattle.switch_core.specs.PlanLanes.{LaneMakes, LanesMake, AreKept, PipelineIsSwept, parts_of, upkeep_at, upkeeps_at}
-use Rattle.switch_core.specs.Upkeeps.{sweep_from}
+use Rattle.stage_plan.specs.{declared.group.GroupPlan.GroupPlan, Planned.wiring_at, Sound.PlanParts}
+use Rattle.switch_core.specs.{Lanes.Standing, LaneEvents.{Parts, PartsStand, MakesAll}, Closing.held_in, Rows.{Each, EachFrom}}
+use Rattle.switch_core.specs.{Pipelines.{IsLaneOf, after_events, geometry_without_refresh}, PlanLanes.{LaneView, IsMadeFor, PipelineView}}
+use Rattle.switch_core.specs.PlanLanes.{PipelineMakes, AreLanesOf, StandsFor, LaneMakes, LanesMake, AreKept, PipelineIsSwept, parts_of}
+use Rattle.switch_core.specs.{PlanLanes.{upkeep_at, upkeeps_at}, Upkeeps.sweep_from}
 use Rattle.switch_core.specs.declared.upkeep.Upkeep.TheVariants as due
-use Rattle.switch_core.proofs.Histories.{followed}
-use Rattle.switch_core.proofs.LaneFacts.{whole_written}
-use Rattle.switch_core.proofs.SweptMachines.{sweep_alike}
-use Rattle.switch_core.proofs.SideBySide.{each_at, same_some}
+use Rattle.switch_core.proofs.{Histories.followed, LaneFacts.whole_written, SweptMachines.sweep_alike, SideBySide.{each_at, same_some}}
 
 -- events keep a lane's sizes
 record SameSizes (old new : LaneView) : Type 0 where

@@ -1,10 +1,6 @@
 -- Lists that belong together, item by item.
 use Rattle.std.proofs.Common.{◌≡◌, ℕ, zero, suc, ◌+◌, ◌<◌, ◌≤◌, List, [], ◌∷◌, Some, length, take, set, get_or, refl, sym, ap, ◌∙◌, subst}
-use Rattle.std.proofs.Common.{arith}
-use Rattle.std.specs.List.{sum_by}
-use Rattle.std.specs.Prelude.{slice_get}
-use Rattle.std.proofs.lemmas.List.{take_all}
-use Rattle.std.proofs.lemmas.List.Sums.{sum_by-cons}
+use Rattle.std.{proofs.{Common.arith, lemmas.List.{take_all, Sums.sum_by-cons}}, specs.{List.sum_by, Prelude.slice_get}}
 use Rattle.switch_core.specs.Rows.{EachFrom}
 
 pub same_some : {X : Type 0} (x y : X) → Some x ≡ Some y → x ≡ y

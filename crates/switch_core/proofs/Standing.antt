@@ -1,11 +1,8 @@
 -- Pairs of a bucket that represent its open epochs.
 use Rattle.std.proofs.Common.{◌≡◌, ℕ, zero, suc, ◌-◌, ◌<◌, true, false, ◌||◌, List, [], ◌∷◌, Some, length, take, drop, refl, sym, ap, ◌∙◌}
-use Rattle.std.proofs.Common.{arith}
-use Rattle.std.specs.Prelude.{Bool, slice_get}
-use Rattle.epoch_model.specs.Keys.{Key, key_eq}
-use Rattle.epoch_model.specs.Machine.{Epoch, is_open, rows_in_epochs, without}
-use Rattle.bucket_cache.specs.Buckets.{Pair, has_key, place_of_key, without_key}
-use Rattle.bucket_cache.specs.Caches.{Cache, entry_at}
+use Rattle.std.{proofs.Common.arith, specs.Prelude.{Bool, slice_get}}
+use Rattle.epoch_model.specs.{Keys.{Key, key_eq}, Machine.{Epoch, is_open, rows_in_epochs, without}}
+use Rattle.bucket_cache.specs.{Buckets.{Pair, has_key, place_of_key, without_key}, Caches.{Cache, entry_at}}
 use Rattle.switch_core.specs.Lanes.{Standing, PairStands, PairsStand}
 
 pub by_test : {P : Type 0} (t : Bool) → (t ≡ true → P) → (t ≡ false → P) → P

@@ -1,11 +1,7 @@
 -- What the evictions and the merges of a sweep take.
 use Rattle.std.proofs.Common.{◌≡◌, ℕ, zero, suc, ◌+◌, ◌-◌, ◌*◌, ◌<◌, ◌≤◌, List, [], ◌∷◌, length, take, set, get_or, refl, ap, ◌∙◌, arith}
-use Rattle.std.proofs.Common.{length-take-le}
-use Rattle.std.specs.List.{sum_by}
-use Rattle.std.proofs.lemmas.List.Sums.{sum_by-cons}
-use Rattle.std.proofs.Math.Nat.{mul-le-mul_right}
-use Rattle.bucket_cache.specs.Buckets.{Pair}
-use Rattle.bucket_cache.specs.Caches.{Cache, list_at, with_list}
+use Rattle.std.{proofs.{Common.length-take-le, lemmas.List.Sums.sum_by-cons, Math.Nat.mul-le-mul_right}, specs.List.sum_by}
+use Rattle.bucket_cache.specs.{Buckets.Pair, Caches.{Cache, list_at, with_list}}
 use Rattle.switch_core.specs.Closing.{held_in}
 
 abbrev held : List (List Pair) → ℕ

@@ -1,20 +1,14 @@
 -- The events of a sweep lead a machine to one whose buckets were emptied.
 use Rattle.std.proofs.Common.{◌≡◌, ℕ, zero, suc, ◌+◌, ◌-◌, ◌<◌, true, false, List, [], ◌∷◌, ◌++◌, length, map, get_or, refl, sym, ap, ◌∙◌}
-use Rattle.std.proofs.Common.{arith, length-take-le}
-use Rattle.std.specs.Prelude.{nat_lt}
-use Rattle.std.proofs.lemmas.Bool.{lt-ltb, le-ltb}
-use Rattle.epoch_model.specs.Driving.{EventsKeepAlike, BucketsEmptyByEvictions}
-use Rattle.epoch_model.specs.Epochs.{Geometry}
-use Rattle.epoch_model.specs.Laws.{SameEpochs}
+use Rattle.std.{proofs.{Common.{arith, length-take-le}, lemmas.Bool.{lt-ltb, le-ltb}}, specs.Prelude.nat_lt}
+use Rattle.epoch_model.specs.{Driving.{EventsKeepAlike, BucketsEmptyByEvictions}, Epochs.Geometry, Laws.SameEpochs}
 use Rattle.epoch_model.specs.Machine.{Epoch, Machine, Event, Evict, Merge, empty_bucket, empty_buckets, evict, merge, open_in, run}
-use Rattle.epoch_model.proofs.MachineSteps.{evict_empty}
-use Rattle.epoch_model.proofs.PacketSteps.{evict-open_same, evict-open_other}
-use Rattle.bucket_cache.specs.Buckets.{Pair}
-use Rattle.bucket_cache.specs.Caches.{Cache}
+use Rattle.epoch_model.proofs.{MachineSteps.evict_empty, PacketSteps.{evict-open_same, evict-open_other}}
+use Rattle.bucket_cache.specs.{Buckets.Pair, Caches.Cache}
 use Rattle.switch_core.specs.Lanes.{CacheStands, Standing}
 use Rattle.switch_core.specs.Upkeeps.{counts_of, left_waiting, room_events, sweep_events, sweep_from, tries}
-use Rattle.evict_pipe.specs.Pipes.{Pipe}
 use Rattle.switch_core.proofs.Standing.{by_test, pairs_long}
+use Rattle.evict_pipe.specs.Pipes.{Pipe}
 
 pub alike_along : (m n o : Machine) → SameEpochs m n → SameEpochs n o → SameEpochs m o
 alike_along m n o a b = record { recent = a.recent ∙ b.recent; closed = a.closed ∙ b.closed }

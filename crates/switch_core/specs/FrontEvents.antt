@@ -1,13 +1,9 @@
 -- What the calls of a front make of it, and of the store that it is merged into.
 use Rattle.std.specs.Prelude.{◌≡◌, ℕ, ◌+◌, ◌-◌, List, [], ◌∷◌, ◌++◌, length, nat_lt, take, drop, if◌then◌else◌}
-use Rattle.epoch_model.specs.Machine.{Epoch, Machine, Event, Packet, Evict, Merge, step}
-use Rattle.epoch_model.specs.Tables.{Folding}
+use Rattle.epoch_model.specs.{Machine.{Epoch, Machine, Event, Packet, Evict, Merge, step}, Tables.Folding}
 use Rattle.bucket_cache.specs.Caches.{list_at, with_list}
-use Rattle.backing_store.specs.Store.{Store}
-use Rattle.backing_store.specs.Merged.{StoreHolds}
-use Rattle.switch_core.specs.FrontParts.{FrontOf, LaneOf}
-use Rattle.switch_core.specs.Lanes.{Standing, FrontStands, geometry}
-use Rattle.switch_core.specs.Rows.{AreFirst}
+use Rattle.backing_store.specs.{Store.Store, Merged.StoreHolds}
+use Rattle.switch_core.specs.{FrontParts.{FrontOf, LaneOf}, Lanes.{Standing, FrontStands, geometry}, Rows.AreFirst}
 
 -- The event leads a front from old parts to new ones: whatever machine it represented, it now represents that machine after the
 -- event. Its kind and its sizes stay.

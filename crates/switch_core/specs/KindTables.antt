@@ -1,10 +1,8 @@
 -- The tables of a kind of entries are those of its fold.
 use Rattle.std.specs.Prelude.{◌≡◌, ℕ, List}
 use Rattle.query_lang.specs.declared.fold.TypedFold.{TypedFold}
-use Rattle.epoch_model.specs.Machine.{Epoch}
-use Rattle.epoch_model.specs.Tables.{Folding}
-use Rattle.epoch_entry.specs.Kinds.{Sizes}
-use Rattle.epoch_entry.specs.Foldings.{IsKindOf, folding_of}
+use Rattle.epoch_model.specs.{Machine.Epoch, Tables.Folding}
+use Rattle.epoch_entry.specs.{Kinds.Sizes, Foldings.{IsKindOf, folding_of}}
 use Rattle.final_queries.specs.GroupTable.{Heading, closed_table}
 
 -- Where entries are of a fold's kind, the table of closed epochs by what the entries are folded to is the table by the fold.

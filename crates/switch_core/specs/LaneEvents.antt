@@ -1,7 +1,6 @@
 -- What the calls of a lane make of it, one by one and in lists.
 use Rattle.std.specs.Prelude.{◌≡◌, ℕ, List, [], ◌∷◌, length}
-use Rattle.epoch_model.specs.Machine.{Machine, Event, step, run}
-use Rattle.epoch_model.specs.Tables.{Folding}
+use Rattle.epoch_model.specs.{Machine.{Machine, Event, step, run}, Tables.Folding}
 use Rattle.bucket_cache.specs.Caches.{Cache}
 use Rattle.evict_pipe.specs.Pipes.{Pipe}
 use Rattle.backing_store.specs.Store.{Store}

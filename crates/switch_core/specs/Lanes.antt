@@ -1,14 +1,9 @@
 -- When a front, a store and a lane represent a machine.
 use Rattle.std.specs.Prelude.{◌≡◌, ◌≤◌, ℕ, List, [], ◌∷◌, length, take, drop}
-use Rattle.epoch_model.specs.Keys.{ArgRow}
-use Rattle.epoch_model.specs.Epochs.{Geometry}
-use Rattle.epoch_model.specs.Machine.{Epoch, Machine, open_in}
-use Rattle.epoch_model.specs.Tables.{Folding}
-use Rattle.bucket_cache.specs.Buckets.{Pair}
-use Rattle.bucket_cache.specs.Caches.{Cache, list_at, entry_at}
+use Rattle.epoch_model.specs.{Keys.ArgRow, Epochs.Geometry, Machine.{Epoch, Machine, open_in}, Tables.Folding}
+use Rattle.bucket_cache.specs.{Buckets.Pair, Caches.{Cache, list_at, entry_at}}
 use Rattle.evict_pipe.specs.Pipes.{Pipe}
-use Rattle.backing_store.specs.Store.{Store}
-use Rattle.backing_store.specs.Merged.{StoreHolds}
+use Rattle.backing_store.specs.{Store.Store, Merged.StoreHolds}
 
 -- which rows an entry's words represent, as its kind says
 abbrev pub Standing : Type 1

@@ -1,27 +1,14 @@
 -- Lanes side by side, one for each groupby of a plan.
 use Rattle.std.specs.Prelude.{◌≡◌, ℕ, suc, ◌==◌, Bool, List, [], ◌∷◌, ◌++◌, length, map, sum_by, if◌then◌else◌}
 use Rattle.fold_class.specs.Program.{IsProgramOf}
-use Rattle.query_lang.specs.declared.fold.TypedFold.{TypedFold}
-use Rattle.epoch_model.specs.Epochs.{Geometry}
-use Rattle.epoch_model.specs.Machine.{Machine, Event, run, empty_machine}
-use Rattle.epoch_model.specs.Tables.{Folding, epochs_shown}
+use Rattle.query_lang.specs.declared.{fold.TypedFold.TypedFold, fault.TheConstants.{MAX_ARGS, MAX_KEYS}}
+use Rattle.epoch_model.specs.{Epochs.Geometry, Machine.{Machine, Event, run, empty_machine}, Tables.{Folding, epochs_shown}}
 use Rattle.epoch_model.specs.Driving.{event_of}
-use Rattle.query_lang.specs.declared.fault.TheConstants.{MAX_ARGS, MAX_KEYS}
-use Rattle.epoch_entry.specs.declared.purpose.Entries.{Entries}
-use Rattle.epoch_entry.specs.Foldings.{per_epoch}
-use Rattle.epoch_entry.specs.Kinds.{Sizes}
-use Rattle.epoch_entry.specs.Purposes.{IsKindFor}
+use Rattle.epoch_entry.specs.{declared.purpose.Entries.Entries, Foldings.per_epoch, Kinds.Sizes, Purposes.IsKindFor}
 use Rattle.bucket_cache.specs.Caches.{Cache}
-use Rattle.backing_store.specs.Merged.{epochs_in, shown_row}
-use Rattle.backing_store.specs.SortedRows.{sorted_rows}
-use Rattle.backing_store.specs.Store.{Store}
-use Rattle.final_queries.specs.declared.table.Table.{Table}
-use Rattle.final_queries.specs.declared.table.TableKind.TheVariants.{Group}
-use Rattle.final_queries.specs.GroupTable.{Heading, closed_table}
-use Rattle.stage_plan.specs.declared.group.GroupPlan.{GroupPlan}
-use Rattle.stage_plan.specs.declared.group.GroupWiring.{GroupWiring}
-use Rattle.stage_plan.specs.Planned.{registers_of, taken}
-use Rattle.stage_plan.specs.Sound.{PlanParts}
+use Rattle.backing_store.specs.{Merged.{epochs_in, shown_row}, SortedRows.sorted_rows, Store.Store}
+use Rattle.final_queries.specs.{declared.table.{Table.Table, TableKind.TheVariants.Group}, GroupTable.{Heading, closed_table}}
+use Rattle.stage_plan.specs.{declared.group.{GroupPlan.GroupPlan, GroupWiring.GroupWiring}, Planned.{registers_of, taken}, Sound.PlanParts}
 
 -- what a lane has of its groupby: as many buckets as all lanes, the words of the groupby's keys and arguments, and the kind of its program
 -- for what the entries are for

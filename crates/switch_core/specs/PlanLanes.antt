@@ -1,30 +1,17 @@
 -- What contracts see of a pipeline.
-use Rattle.std.specs.Prelude.{◌≡◌, ℕ, ◌+◌, ◌*◌, ◌≤◌, Bool, List, [], ◌∷◌, length, map, nat_lt, slice_get}
-use Rattle.std.specs.Prelude.{sum_by, Option, Some, None, true, ◌==◌, if◌then◌else◌}
-use Rattle.std.specs.List.{All, list_all}
-use Rattle.epoch_model.specs.Machine.{Machine, Event, empty_buckets}
-use Rattle.epoch_model.specs.Laws.{SameEpochs}
-use Rattle.epoch_model.specs.Tables.{Folding}
-use Rattle.epoch_entry.specs.declared.any.AnyEpochs.{AnyEpochs}
-use Rattle.epoch_entry.specs.declared.purpose.Entries.{Entries}
-use Rattle.epoch_entry.specs.contracts.any.AnyEpochsEpochKind.TheImpl.{ghosts}
-use Rattle.epoch_entry.specs.Foldings.{merge_bound}
-use Rattle.epoch_entry.specs.Programs.{program_in}
+use Rattle.std.specs.Prelude.{◌≡◌, ℕ, ◌+◌, ◌*◌, ◌≤◌, Bool, List, [], ◌∷◌, length, map, nat_lt, slice_get, sum_by, Option, Some, None, true}
+use Rattle.std.specs.{Prelude.{◌==◌, if◌then◌else◌}, List.{All, list_all}}
+use Rattle.epoch_model.specs.{Machine.{Machine, Event, empty_buckets}, Laws.SameEpochs, Tables.Folding}
+use Rattle.epoch_entry.specs.{declared.{any.AnyEpochs.AnyEpochs, purpose.Entries.Entries}, contracts.any.AnyEpochsEpochKind.TheImpl.ghosts}
+use Rattle.epoch_entry.specs.{Foldings.merge_bound, Programs.program_in}
 use Rattle.fold_class.specs.Program.{IsProgramOf}
 use Rattle.query_lang.specs.declared.fold.TypedFold.{TypedFold}
-use Rattle.stage_plan.specs.declared.group.GroupPlan.{GroupPlan}
-use Rattle.stage_plan.specs.Planned.{registers_of, wiring_at}
-use Rattle.stage_plan.specs.Sound.{PlanParts}
-use Rattle.switch_core.specs.FrontParts.{LaneOf}
-use Rattle.switch_core.specs.Lanes.{LaneStands}
-use Rattle.switch_core.specs.LaneEvents.{Parts, parts, MakesAll}
-use Rattle.final_queries.specs.declared.table.Table.{Table}
+use Rattle.stage_plan.specs.{declared.group.GroupPlan.GroupPlan, Planned.{registers_of, wiring_at}, Sound.PlanParts}
+use Rattle.switch_core.specs.{FrontParts.LaneOf, Lanes.LaneStands, LaneEvents.{Parts, parts, MakesAll}}
 use Rattle.switch_core.specs.Pipelines.{IsLaneOf, HasRooms, after_events, geometry_without_refresh, heading_of, stored_table}
-use Rattle.switch_core.specs.Closing.{held_in, is_drained}
-use Rattle.switch_core.specs.Costs.{evict_cost, merge_cost, sweep_cost}
-use Rattle.switch_core.specs.Rows.{AreFirst, Each, EachFrom}
-use Rattle.switch_core.specs.Upkeeps.{IsKept, upkeep_cost, upkeep_events}
-use Rattle.switch_core.specs.declared.upkeep.Upkeep.{Upkeep}
+use Rattle.switch_core.specs.{Closing.{held_in, is_drained}, Costs.{evict_cost, merge_cost, sweep_cost}, Rows.{AreFirst, Each, EachFrom}}
+use Rattle.switch_core.specs.{Upkeeps.{IsKept, upkeep_cost, upkeep_events}, declared.upkeep.Upkeep.Upkeep}
+use Rattle.final_queries.specs.declared.table.Table.{Table}
 
 -- a lane of a pipeline
 abbrev pub LaneView : Type 0

@@ -1,13 +1,12 @@
 -- What keeps a front in order beside its packets: the events of each kind of upkeep, what they leave, and what they cost.
-use Rattle.std.specs.Prelude.{◌≡◌, ℕ, suc, ◌+◌, ◌-◌, ◌*◌, ◌<◌, Bool, true, false, List, [], ◌∷◌, ◌++◌, length, map, nat_lt}
-use Rattle.std.specs.Prelude.{replicate, drop, if◌then◌else◌}
+use Rattle.std.specs.Prelude.{◌≡◌, ℕ, suc, ◌+◌, ◌-◌, ◌*◌, ◌<◌, Bool, true, false, List, [], ◌∷◌, ◌++◌, length, map, nat_lt, replicate, drop}
+use Rattle.std.specs.Prelude.{if◌then◌else◌}
 use Rattle.epoch_model.specs.Machine.{Event, Evict, Merge}
 use Rattle.bucket_cache.specs.Caches.{Cache}
 use Rattle.evict_pipe.specs.Pipes.{Pipe}
 use Rattle.switch_core.specs.declared.upkeep.Upkeep.{Upkeep}
 use Rattle.switch_core.specs.declared.upkeep.Upkeep.TheVariants as due
-use Rattle.switch_core.specs.Closing.{held_in}
-use Rattle.switch_core.specs.Costs.{evict_cost, merge_cost, sweep_cost}
+use Rattle.switch_core.specs.{Closing.held_in, Costs.{evict_cost, merge_cost, sweep_cost}}
 
 -- one merge, where this many records fill a pipe of this many places
 abbrev pub room_events : ℕ → ℕ → List Event

@@ -1,17 +1,12 @@
 //! A front: the cache of open epochs and the pipe of closed ones, before the store that they are merged into.
 
-ghost use Rattle.std.specs.Prelude.{◌≡◌, ◌+◌, ◌-◌, ◌*◌, ◌<◌, ◌≤◌, ◌==◌, ◌↔◌, take, drop, not, true};
-ghost use Rattle.std.specs.Prelude.{false, length, nat_lt, if◌then◌else◌};
+ghost use Rattle.std.specs.Prelude.{◌≡◌, ◌+◌, ◌-◌, ◌*◌, ◌<◌, ◌≤◌, ◌==◌, ◌↔◌, take, drop, not, true, false, length, nat_lt, if◌then◌else◌};
 ghost use Rattle.std.specs.Prelude.{IfOk, OnOk, OnErr};
-ghost use Rattle.epoch_model.specs.Machine.{Machine, Packet, Evict, Merge, empty_machine};
-ghost use Rattle.epoch_model.specs.Timeline.{IsSwept};
+ghost use Rattle.epoch_model.specs.{Machine.{Machine, Packet, Evict, Merge, empty_machine}, Timeline.IsSwept};
 ghost use Rattle.bucket_cache.specs.Caches.{list_at, with_list};
-ghost use Rattle.switch_core.specs.Closing.{held_in, is_drained};
-ghost use Rattle.switch_core.specs.Costs.{evict_cost, merge_cost};
-ghost use Rattle.switch_core.specs.FrontParts.{IsFront, FitsStore};
+ghost use Rattle.switch_core.specs.{Closing.{held_in, is_drained}, Costs.{evict_cost, merge_cost}, FrontParts.{IsFront, FitsStore}};
+ghost use Rattle.switch_core.specs.{FrontEvents.{Carries, FrontMakes, MergesNext, with_store}, Lanes.{FrontStands, geometry}};
 ghost use Rattle.backing_store.specs.Store.{Store};
-ghost use Rattle.switch_core.specs.FrontEvents.{Carries, FrontMakes, MergesNext, with_store};
-ghost use Rattle.switch_core.specs.Lanes.{FrontStands, geometry};
 
 use crate::merging::merge_record;
 use crate::places::{begin_at, push_pair};

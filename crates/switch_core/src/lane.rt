@@ -1,17 +1,12 @@
 //! A lane: what is kept for one groupby.
 
-ghost use Rattle.std.specs.Prelude.{◌≡◌, ◌+◌, ◌-◌, ◌*◌, ◌<◌, ◌≤◌, ◌==◌, ◌↔◌, take, drop, not, true};
-ghost use Rattle.std.specs.Prelude.{false, length, nat_lt, if◌then◌else◌};
+ghost use Rattle.std.specs.Prelude.{◌≡◌, ◌+◌, ◌-◌, ◌*◌, ◌<◌, ◌≤◌, ◌==◌, ◌↔◌, take, drop, not, true, false, length, nat_lt, if◌then◌else◌};
 ghost use Rattle.std.specs.Prelude.{IfOk, OnOk, OnErr};
-ghost use Rattle.epoch_model.specs.Machine.{Machine, Packet, Evict, Merge, empty_machine};
-ghost use Rattle.epoch_model.specs.Timeline.{IsSwept};
+ghost use Rattle.epoch_model.specs.{Machine.{Machine, Packet, Evict, Merge, empty_machine}, Timeline.IsSwept};
 ghost use Rattle.bucket_cache.specs.Caches.{list_at, with_list};
-ghost use Rattle.switch_core.specs.Lanes.{LaneStands, geometry};
-ghost use Rattle.switch_core.specs.FrontParts.{IsFront, FitsStore};
-ghost use Rattle.switch_core.specs.LaneEvents.{EventsAreFollowed, Makes, parts};
-ghost use Rattle.switch_core.specs.Closing.{held_in, is_drained};
-ghost use Rattle.switch_core.specs.Costs.{evict_cost, merge_cost};
-ghost use Rattle.switch_core.specs.FrontEvents.{CarriesAll, CarriesFirst};
+ghost use Rattle.switch_core.specs.{Lanes.{LaneStands, geometry}, FrontParts.{IsFront, FitsStore}};
+ghost use Rattle.switch_core.specs.{LaneEvents.{EventsAreFollowed, Makes, parts}, Closing.{held_in, is_drained}};
+ghost use Rattle.switch_core.specs.{Costs.{evict_cost, merge_cost}, FrontEvents.{CarriesAll, CarriesFirst}};
 ghost use Rattle.switch_core.specs.Upkeeps.{IsKept, upkeep_cost, upkeep_events};
 ghost use Rattle.final_queries.specs.GroupTable.{closed_table};
 
@@ -50,8 +45,7 @@ impl<K: EpochKind, const WAYS: usize> Model for Lane<K, WAYS> {
 
 impl<const WAYS: usize> Lane<AnyEpochs, WAYS> {
     ghost use Rattle.epoch_model.specs.Driving.{event_of};
-    ghost use Rattle.stage_plan.specs.Planned.{registers_of, wiring_at};
-    ghost use Rattle.stage_plan.specs.Registers.{taken_at};
+    ghost use Rattle.stage_plan.specs.{Planned.{registers_of, wiring_at}, Registers.taken_at};
     ghost use Rattle.switch_core.specs.PlanLanes.{LaneMakes, lane_cost, lane_is_ready};
 
     /// The packet event of what a groupby takes of these registers, if it takes anything.

@@ -1,15 +1,11 @@
 //! Lanes side by side.
 
-ghost use Rattle.std.specs.Prelude.{◌≡◌, ◌+◌, ◌<◌, ◌≤◌, ◌==◌, ◌↔◌, ℕ, true, not, length};
-ghost use Rattle.std.specs.Prelude.{sum_by, if◌then◌else◌, OnOk, OnErr};
+ghost use Rattle.std.specs.Prelude.{◌≡◌, ◌+◌, ◌<◌, ◌≤◌, ◌==◌, ◌↔◌, ℕ, true, not, length, sum_by, if◌then◌else◌, OnOk, OnErr};
 ghost use Rattle.std.specs.List.{list_all};
 ghost use Rattle.epoch_model.specs.Machine.{Evict, Merge};
 ghost use Rattle.bucket_cache.specs.Caches.{list_at};
-ghost use Rattle.switch_core.specs.Closing.{is_drained};
-ghost use Rattle.switch_core.specs.Costs.{evict_cost};
-ghost use Rattle.switch_core.specs.Pipelines.{event_at};
-ghost use Rattle.switch_core.specs.PlanLanes.{AreKept, AtLane, LanesBreakOff, LanesMake};
-ghost use Rattle.switch_core.specs.PlanLanes.{lane_is_ready, lane_merge_cost, lane_upkeep_cost, upkeeps_at};
+ghost use Rattle.switch_core.specs.{Closing.is_drained, Costs.evict_cost, Pipelines.event_at, PlanLanes.{AreKept, AtLane, LanesBreakOff}};
+ghost use Rattle.switch_core.specs.PlanLanes.{LanesMake, lane_is_ready, lane_merge_cost, lane_upkeep_cost, upkeeps_at};
 
 use crate::fetching::read_stores;
 use crate::front::Merged;

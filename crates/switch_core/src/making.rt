@@ -4,10 +4,8 @@ ghost use Rattle.std.specs.Prelude.{◌≡◌, ◌*◌, ◌<◌, ◌≤◌, leng
 ghost use Rattle.fold_class.specs.Program.{IsProgram, IsProgramOf};
 ghost use Rattle.query_lang.specs.declared.fold.TypedFold.{TypedFold};
 ghost use Rattle.epoch_model.specs.Machine.{empty_machine};
-ghost use Rattle.epoch_entry.specs.Programs.{program_in};
-ghost use Rattle.epoch_entry.specs.Purposes.{IsKindFor};
-ghost use Rattle.switch_core.specs.Rows.{Each};
-ghost use Rattle.switch_core.specs.Pipelines.{empty_machines, geometry_without_refresh};
+ghost use Rattle.epoch_entry.specs.{Programs.program_in, Purposes.IsKindFor};
+ghost use Rattle.switch_core.specs.{Rows.Each, Pipelines.{empty_machines, geometry_without_refresh}};
 ghost use Rattle.switch_core.specs.PlanLanes.{AreLanesOf, HavePlaces, IsMadeFor, MergesWithin, StandsFor};
 
 use crate::lane::Lane;

@@ -1,23 +1,18 @@
 //! The lanes of a plan.
 
-ghost use Rattle.std.specs.Prelude.{◌≡◌, ◌+◌, ◌*◌, ◌<◌, ◌≤◌, ◌==◌, ◌↔◌, not, true, List, length, map};
-ghost use Rattle.std.specs.Prelude.{slice_get, sum_by, if◌then◌else◌, IfOk, OnOk, OnErr, Some};
-ghost use Rattle.std.specs.List.{list_all};
-ghost use Rattle.epoch_model.specs.Machine.{Machine, Evict, Merge};
-ghost use Rattle.epoch_model.specs.Timeline.{IsSwept};
-ghost use Rattle.switch_core.specs.Rows.{Each};
+ghost use Rattle.std.specs.Prelude.{◌≡◌, ◌+◌, ◌*◌, ◌<◌, ◌≤◌, ◌==◌, ◌↔◌, not, true, List, length, map, slice_get, sum_by, if◌then◌else◌};
+ghost use Rattle.std.specs.{Prelude.{IfOk, OnOk, OnErr, Some}, List.list_all};
+ghost use Rattle.epoch_model.specs.{Machine.{Machine, Evict, Merge}, Timeline.IsSwept};
+ghost use Rattle.switch_core.specs.{Rows.Each, Closing.held_in, Costs.evict_cost};
+ghost use Rattle.switch_core.specs.Pipelines.{empty_machines, event_at, geometry_without_refresh, packet_events, tables_of};
+ghost use Rattle.switch_core.specs.PlanLanes.{AreKept, AreLanesOf, AtLane, HavePlaces, IsMadeFor, PipelineIsSwept, PipelineMakes};
+ghost use Rattle.switch_core.specs.PlanLanes.{PipelineStands, UpkeepBreaksOff, folding_at, lane_is_drained, lane_is_ready, lane_merge_cost};
+ghost use Rattle.switch_core.specs.PlanLanes.{lane_sweep_cost, lane_upkeep_cost, pipeline_cost, stored_tables, upkeeps_at};
 ghost use Rattle.bucket_cache.specs.Caches.{list_at};
 ghost use Rattle.fold_class.specs.Program.{IsProgramOf};
 ghost use Rattle.query_lang.specs.declared.fold.TypedFold.{TypedFold};
 ghost use Rattle.epoch_entry.specs.Purposes.{IsKindFor, runs_of};
-ghost use Rattle.stage_plan.specs.declared.group.GroupPlan.{GroupPlan};
-ghost use Rattle.stage_plan.specs.Planned.{plan_bound};
-ghost use Rattle.switch_core.specs.Closing.{held_in};
-ghost use Rattle.switch_core.specs.Costs.{evict_cost};
-ghost use Rattle.switch_core.specs.Pipelines.{empty_machines, event_at, geometry_without_refresh, packet_events, tables_of};
-ghost use Rattle.switch_core.specs.PlanLanes.{AreKept, AreLanesOf, AtLane, HavePlaces, IsMadeFor, PipelineIsSwept, PipelineMakes};
-ghost use Rattle.switch_core.specs.PlanLanes.{PipelineStands, UpkeepBreaksOff, folding_at, lane_is_drained, lane_is_ready};
-ghost use Rattle.switch_core.specs.PlanLanes.{lane_merge_cost, lane_sweep_cost, lane_upkeep_cost, pipeline_cost, stored_tables, upkeeps_at};
+ghost use Rattle.stage_plan.specs.{declared.group.GroupPlan.GroupPlan, Planned.plan_bound};
 
 use crate::fetching::read_caches;
 use crate::front::Merged;

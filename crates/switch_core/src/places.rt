@@ -1,8 +1,7 @@
 //! What is done at a place of a cache, besides taking one row more into its entry.
 
 ghost use Rattle.std.specs.Prelude.{◌≡◌, ℕ, ◌+◌, ◌<◌, ◌≤◌, [], ◌∷◌, ◌++◌, Some, length, slice_get};
-ghost use Rattle.bucket_cache.specs.Buckets.{Pair};
-ghost use Rattle.bucket_cache.specs.Caches.{entry_at, list_at};
+ghost use Rattle.bucket_cache.specs.{Buckets.Pair, Caches.{entry_at, list_at}};
 ghost use Rattle.evict_pipe.specs.Pipes.{with_records};
 ghost use Rattle.switch_core.specs.Places.{with_words};
 

@@ -1,14 +1,11 @@
 //! The tables of the epochs that stores hold.
 
-ghost use Rattle.std.specs.Prelude.{◌≡◌, ◌≤◌, ℕ, List, true, length, map, IfOk};
-ghost use Rattle.std.specs.List.{list_all};
-ghost use Rattle.epoch_model.specs.Machine.{Epoch, Machine};
-ghost use Rattle.epoch_model.specs.Tables.{Folding};
+ghost use Rattle.std.specs.{Prelude.{◌≡◌, ◌≤◌, ℕ, List, true, length, map, IfOk}, List.list_all};
+ghost use Rattle.epoch_model.specs.{Machine.{Epoch, Machine}, Tables.Folding};
 ghost use Rattle.epoch_entry.specs.declared.purpose.Entries.{Entries};
 ghost use Rattle.backing_store.specs.Merged.{StoreHolds};
 ghost use Rattle.final_queries.specs.GroupTable.{closed_table};
-ghost use Rattle.switch_core.specs.Rows.{Each};
-ghost use Rattle.switch_core.specs.Pipelines.{heading_of, stored_table, tables_of};
+ghost use Rattle.switch_core.specs.{Rows.Each, Pipelines.{heading_of, stored_table, tables_of}};
 ghost use Rattle.switch_core.specs.PlanLanes.{AreLanesOf, StandsFor, folding_at, lane_is_drained, stored_tables};
 
 use crate::closing::columns;

@@ -3,10 +3,8 @@
 ghost use Rattle.std.specs.Prelude.{◌≡◌, ◌≢◌, ◌+◌, ◌*◌, ◌<◌, ◌≤◌, ℕ, suc, [], ◌∷◌, OnOk, OnErr, drop, length, replicate};
 ghost use Rattle.epoch_model.specs.Machine.{Merge};
 ghost use Rattle.bucket_cache.specs.Caches.{list_at};
-ghost use Rattle.switch_core.specs.Closing.{held_in};
-ghost use Rattle.switch_core.specs.Costs.{evict_cost, merge_cost, sweep_cost};
-ghost use Rattle.switch_core.specs.FrontEvents.{CarriesAll, CarriesFirst, CarriesUpTo, KeepsSizes, with_store};
-ghost use Rattle.switch_core.specs.FrontParts.{FitsStore};
+ghost use Rattle.switch_core.specs.{Closing.held_in, Costs.{evict_cost, merge_cost, sweep_cost}};
+ghost use Rattle.switch_core.specs.{FrontEvents.{CarriesAll, CarriesFirst, CarriesUpTo, KeepsSizes, with_store}, FrontParts.FitsStore};
 ghost use Rattle.switch_core.specs.Upkeeps.{IsKept, left_waiting, room_events, sweep_from, upkeep_cost, upkeep_events};
 
 use crate::front::{Front, Merged};

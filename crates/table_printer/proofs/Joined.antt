@@ -1,10 +1,7 @@
 -- How a line goes on, part by part.
 use Rattle.std.proofs.Common.{◌≡◌, ℕ, length, ◌==◌, sym, ap, ◌∙◌, List, [], ◌∷◌, ◌++◌, Bool, true, false, refl, append_assoc, append-nil}
-use Rattle.std.proofs.Common.{inl, inr, arith}
-use Rattle.std.proofs.lemmas.Bool.Decides.{eqb_tells}
-use Rattle.std.proofs.lemmas.List.Concat.{flat_map-append}
-use Rattle.table_printer.specs.TableText.{cells_continued, cells_joined}
-use Rattle.table_printer.specs.Parts.{parts_from}
+use Rattle.std.proofs.{Common.{inl, inr, arith}, lemmas.{Bool.Decides.eqb_tells, List.Concat.flat_map-append}}
+use Rattle.table_printer.specs.{TableText.{cells_continued, cells_joined}, Parts.parts_from}
 
 no_parts : (begins : Bool) → parts_from begins [] ≡ []
 no_parts true = refl

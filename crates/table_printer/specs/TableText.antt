@@ -1,14 +1,9 @@
 -- The text of a table: a line that says what it is, a heading, and a line for each row. Lines end with LF, numbers are
 -- decimal, and the parts of a heading and of a row are separated by commas.
 use Rattle.std.specs.Prelude.{ℕ, List, [], ◌∷◌, ◌++◌, length, map, flat_map, take, drop, codes, decimal}
-use Rattle.query_lang.specs.declared.typed.Class.{Class}
-use Rattle.query_lang.specs.declared.typed.Class.TheVariants.{Linear, Other}
-use Rattle.epoch_model.specs.declared.tables.Mark.{Mark}
-use Rattle.epoch_model.specs.declared.tables.Mark.TheVariants.{Exact, Valid, Invalid, Plain}
-use Rattle.epoch_model.specs.declared.tables.Row.{Row}
-use Rattle.final_queries.specs.declared.table.Table.{Table}
-use Rattle.final_queries.specs.declared.table.TableKind.{TableKind}
-use Rattle.final_queries.specs.declared.table.TableKind.TheVariants.{Group, Final}
+use Rattle.query_lang.specs.declared.typed.Class.{Class, TheVariants.{Linear, Other}}
+use Rattle.epoch_model.specs.declared.tables.{Mark.{Mark, TheVariants.{Exact, Valid, Invalid, Plain}}, Row.Row}
+use Rattle.final_queries.specs.declared.table.{Table.Table, TableKind.{TableKind, TheVariants.{Group, Final}}}
 
 -- parts after another one, each with a comma before it
 abbrev pub cells_continued : List (List ℕ) → List ℕ

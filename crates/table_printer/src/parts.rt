@@ -1,7 +1,6 @@
 //! Lines of parts that are separated by commas.
 ghost use Rattle.std.specs.Prelude.{◌≡◌, ◌++◌, ◌∷◌, [], Bool, true, OnOk, decimal, if◌then◌else◌};
-ghost use Rattle.table_printer.specs.TableText.{numbers};
-ghost use Rattle.table_printer.specs.Parts.{parts_from};
+ghost use Rattle.table_printer.specs.{TableText.numbers, Parts.parts_from};
 
 use itoa::Buffer;
 use marple_base::{Text, TextBuffer};

@@ -1,12 +1,9 @@
 //! Titles, headings and rows.
 ghost use Rattle.std.specs.Prelude.{◌≡◌, ◌≤◌, ◌++◌, ◌∷◌, [], length, map, codes, decimal, IsErrOf, OnErr, OnOk};
-ghost use Rattle.marple_base.specs.Faults.{Rose};
-ghost use Rattle.marple_base.specs.Sink.{TakesFront};
+ghost use Rattle.marple_base.specs.{Faults.Rose, Sink.TakesFront, Pieces.TakesAllBut};
 ghost use Rattle.table_rows.specs.LentRows.{row_of};
 ghost use Rattle.table_printer.specs.TableText.{cells_joined, mark_text, epoch_text, numbers, table_line, group_parts, final_parts};
-ghost use Rattle.table_printer.specs.TableText.{row_parts, heading, kind_text, title, table_text};
-ghost use Rattle.table_printer.specs.Parts.{parts_from};
-ghost use Rattle.marple_base.specs.Pieces.{TakesAllBut};
+ghost use Rattle.table_printer.specs.{TableText.{row_parts, heading, kind_text, title, table_text}, Parts.parts_from};
 
 use crate::backwards::{MOST_COLUMNS, ROOM, line_before};
 use crate::parts::{push_names, push_number, push_part, push_word, push_words};

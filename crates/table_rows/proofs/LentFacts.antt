@@ -1,8 +1,6 @@
 -- The row at a place, and the rows after it.
-use Rattle.std.proofs.Common.{◌≡◌, ℕ, ◌+◌, ◌∙◌, List, ◌∷◌, Some, drop, ap, subst, slice_get}
-use Rattle.std.specs.List.{All}
-use Rattle.std.proofs.lemmas.List.{drop_more}
-use Rattle.std.proofs.lemmas.Option.{slice_get_within, get_or_from_slice_get}
+use Rattle.std.proofs.{Common.{◌≡◌, ℕ, ◌+◌, ◌∙◌, List, ◌∷◌, Some, drop, ap, subst, slice_get}, lemmas.List.drop_more}
+use Rattle.std.{proofs.lemmas.Option.{slice_get_within, get_or_from_slice_get}, specs.List.All}
 use Rattle.epoch_model.specs.declared.tables.Row.{Row}
 
 -- the rows from a place on

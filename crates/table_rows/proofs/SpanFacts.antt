@@ -1,13 +1,10 @@
 -- The rows of spans, where words are appended.
-use Rattle.std.proofs.Common.{◌≡◌, ℕ, slice_get, Some, ◌+◌, ◌<◌, ◌≤◌, get_or, List, [], ◌∷◌, ◌++◌, length, take, drop, refl, sym, ap}
-use Rattle.std.proofs.Common.{ap₂, ◌∙◌, arith, length-append, length-drop, drop-drop, append_assoc, append-nil, ◌-◌}
-use Rattle.std.proofs.lemmas.List.{take-append-le, drop-append-le, take_at, drop_at}
-use Rattle.std.proofs.lemmas.List.{length-map, map-append}
-use Rattle.std.proofs.lemmas.Option.{same_Some, slice_get-map, slice_get_read}
-use Rattle.std.proofs.lemmas.List.Elements.{All-head, All-push, All-tail, All-weaker}
+use Rattle.std.proofs.Common.{◌≡◌, ℕ, slice_get, Some, ◌+◌, ◌<◌, ◌≤◌, get_or, List, [], ◌∷◌, ◌++◌, length, take, drop, refl, sym, ap, ap₂}
+use Rattle.std.proofs.Common.{◌∙◌, arith, length-append, length-drop, drop-drop, append_assoc, append-nil, ◌-◌}
+use Rattle.std.proofs.lemmas.List.{take-append-le, drop-append-le, take_at, drop_at, length-map, map-append}
+use Rattle.std.proofs.lemmas.{Option.{same_Some, slice_get-map, slice_get_read}, List.Elements.{All-head, All-push, All-tail, All-weaker}}
 use Rattle.epoch_model.specs.declared.tables.Row.{Row}
-use Rattle.table_rows.specs.declared.span.Span.{Span}
-use Rattle.table_rows.specs.Spans.{key_in, values_in, row_in, rows_in, EndsWithin, AllWithin}
+use Rattle.table_rows.specs.{declared.span.Span.Span, Spans.{key_in, values_in, row_in, rows_in, EndsWithin, AllWithin}}
 
 -- the row of a span with these words
 abbrev pub row_with : Span → List ℕ → List ℕ → Row

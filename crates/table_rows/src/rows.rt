@@ -1,7 +1,7 @@
 //! The rows of a table.
 
-ghost use Rattle.std.specs.Prelude.{◌≡◌, ◌+◌, ◌<◌, ◌≤◌, ◌↔◌, ◌++◌, ◌∷◌, [], length, option_map, slice_get, slice_set, Some};
-ghost use Rattle.std.specs.Prelude.{IsTrue, OnOk, OnErr, vec_capacity, vec_len};
+ghost use Rattle.std.specs.Prelude.{◌≡◌, ◌+◌, ◌<◌, ◌≤◌, ◌↔◌, ◌++◌, ◌∷◌, [], length, option_map, slice_get, slice_set, Some, IsTrue, OnOk};
+ghost use Rattle.std.specs.Prelude.{OnErr, vec_capacity, vec_len};
 ghost use Rattle.epoch_model.specs.declared.tables.Row.{Row};
 ghost use Rattle.table_rows.specs.LentRows.{row_of};
 

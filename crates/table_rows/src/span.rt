@@ -1,8 +1,7 @@
 //! Where a row's words are, how many, and what is kept beside them.
 
 ghost use Rattle.std.specs.Prelude.{◌≡◌};
-ghost use Rattle.table_rows.specs.LentRows.{row_of};
-ghost use Rattle.table_rows.specs.Spans.{row_in, EndsWithin};
+ghost use Rattle.table_rows.specs.{LentRows.row_of, Spans.{row_in, EndsWithin}};
 
 use crate::lent::RowRef;
 use epoch_model::Mark;

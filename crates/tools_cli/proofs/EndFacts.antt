@@ -1,21 +1,14 @@
 -- How the second program ends.
 use Rattle.std.proofs.Common.{◌≡◌, ◌≢◌, ◌↔◌, ℕ, List, [], Option, None, Some, Result, Ok, Err, OnErr, OnOk, refl, subst}
 use Rattle.std.specs.Prelude.{IfErr}
-use Rattle.marple_base.specs.Faults.{Rose}
-use Rattle.marple_base.specs.declared.inputs.Which.TheVariants.{Query, Trace}
-use Rattle.query_lang.specs.declared.fault.QueryFault.{QueryFault}
-use Rattle.query_lang.specs.declared.typed.TypedQuery.{TypedQuery}
+use Rattle.marple_base.specs.{Faults.Rose, declared.inputs.Which.TheVariants.{Query, Trace}}
+use Rattle.query_lang.specs.declared.{fault.QueryFault.QueryFault, typed.TypedQuery.TypedQuery}
 use Rattle.trace_pieces.specs.declared.fault.WholeFault.{WholeFault}
-use Rattle.trace_split.specs.Holding.{Taken}
-use Rattle.trace_split.specs.Traces.{OneRose}
+use Rattle.trace_split.specs.{Holding.Taken, Traces.OneRose}
 use Rattle.tools_cli.specs.Call.{IsAfterQuery, IsOfFacts, WhereFacts, WhereSplit}
-use Rattle.tools_cli.specs.Ends.{IsAcceptedWith, IsFirstFault, IsRefusedFor, IsSplit, SplitEnds, split_by}
-use Rattle.tools_cli.specs.FactsEnds.{FactsEnd}
-use Rattle.tools_cli.specs.Statuses.{status_of}
-use Rattle.tools_cli.specs.declared.command.SplitSetting.{SplitSetting}
-use Rattle.tools_cli.specs.declared.command.ToolCommand.{ToolCommand}
-use Rattle.tools_cli.specs.declared.command.ToolCommand.TheVariants.{Facts, Split}
-use Rattle.tools_cli.specs.declared.status.ToolStatus.{ToolStatus}
+use Rattle.tools_cli.specs.{Ends.{IsAcceptedWith, IsFirstFault, IsRefusedFor, IsSplit, SplitEnds, split_by}, FactsEnds.FactsEnd}
+use Rattle.tools_cli.specs.{Statuses.status_of, declared.command.{SplitSetting.SplitSetting, ToolCommand.ToolCommand}}
+use Rattle.tools_cli.specs.declared.{command.ToolCommand.TheVariants.{Facts, Split}, status.ToolStatus.ToolStatus}
 use Rattle.tools_cli.specs.declared.status.ToolStatus.TheVariants as tools
 
 -- ---- the command that is asked for

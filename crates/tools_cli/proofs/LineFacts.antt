@@ -1,18 +1,12 @@
 -- What was read of a query, to one byte more than the limit, has the facts of the query.
 use Rattle.std.proofs.Common.{inl, inr, ◌≡◌, ℕ, ◌+◌, ◌<◌, true, nat_lt, List, length, take, Option, None, Some, IfSome, ap, sym, ◌∙◌, subst}
-use Rattle.std.proofs.Common.{arith}
-use Rattle.std.proofs.Common.{Ok, Err, refl}
-use Rattle.std.proofs.lemmas.Bool.Decides.{leb_tells, nat_tests}
-use Rattle.std.specs.Io.KnownBytes.{Appends}
+use Rattle.std.{proofs.{Common.{arith, Ok, Err, refl}, lemmas.Bool.Decides.{leb_tells, nat_tests}}, specs.Io.KnownBytes.Appends}
 use Rattle.accepted_query.specs.Accepted.{accepted}
 use Rattle.command_answers.proofs.Limits.{take_long, take_whole}
-use Rattle.query_facts.specs.Expected.{expected_of}
-use Rattle.query_facts.specs.Facts.{AreOfText}
+use Rattle.query_facts.specs.{Expected.expected_of, Facts.AreOfText}
 use Rattle.query_facts.specs.declared.answer.Facts as answers
 use Rattle.query_facts.specs.declared.answer.Facts.TheVariants.{Accepted, Refused}
-use Rattle.query_lang.specs.Lexis.{fault_at}
-use Rattle.query_lang.specs.declared.fault.FaultKind.TheVariants.{QueryTooLong}
-use Rattle.query_lang.specs.declared.fault.QueryFault.{QueryFault}
+use Rattle.query_lang.specs.{Lexis.fault_at, declared.fault.{FaultKind.TheVariants.QueryTooLong, QueryFault.QueryFault}}
 use Rattle.query_lang.specs.declared.fault.TheConstants.{MAX_QUERY}
 use Rattle.tools_cli.specs.FactsEnds.{GivesFacts, IsFactsLine}
 

@@ -1,12 +1,8 @@
 -- Traces of which a range is given.
 use Rattle.std.proofs.Common.{◌≡◌, ℕ, All, List, [], ◌∷◌, Option, None, Some, get_or, map, refl, sym, ap, subst, ◌∙◌}
 use Rattle.std.proofs.lemmas.List.Elements.{All-map}
-use Rattle.marple_base.specs.Inputs.{Input, IsClosed}
-use Rattle.marple_base.specs.declared.inputs.Which.{Which}
-use Rattle.marple_base.specs.declared.inputs.Which.TheVariants.{Trace}
-use Rattle.trace_ranges.specs.Ranges.{range_input, ranged, window_for, windowed, within}
-use Rattle.trace_ranges.specs.declared.ranged.Range.{Range}
-use Rattle.trace_ranges.specs.declared.ranged.Ranged.{Ranged}
+use Rattle.marple_base.specs.{Inputs.{Input, IsClosed}, declared.inputs.Which.{Which, TheVariants.Trace}}
+use Rattle.trace_ranges.specs.{Ranges.{range_input, ranged, window_for, windowed, within}, declared.ranged.{Range.Range, Ranged.Ranged}}
 use Rattle.trace_ranges.specs.declared.window.Window.{Window}
 use Rattle.trace_split.specs.Traces.{AreLeft, NoneFell, OneRose, faults_of}
 

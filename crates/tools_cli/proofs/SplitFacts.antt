@@ -1,32 +1,21 @@
 -- Traces that are split for a query.
 use Rattle.std.proofs.Common.{◌≡◌, ◌≢◌, ℕ, Bool, cond, List, [], ◌∷◌, Option, None, Some, Result, Ok, Err, refl, sym, ap, subst, ◌∙◌}
-use Rattle.std.specs.Prelude.{IfErr, IfSome, IsErrAnd, filter}
-use Rattle.std.specs.Result.{IsErrOf}
-use Rattle.std.specs.Io.KnownBytes.{Appends}
+use Rattle.std.specs.{Prelude.{IfErr, IfSome, IsErrAnd, filter}, Result.IsErrOf, Io.KnownBytes.Appends}
 use Rattle.accepted_query.specs.Accepted.{accepted, query_fault}
-use Rattle.command_answers.specs.Phases.{QueryEnds}
-use Rattle.command_answers.specs.declared.status.Status.{Status}
+use Rattle.command_answers.specs.{Phases.QueryEnds, declared.status.Status.Status}
 use Rattle.command_answers.specs.declared.status.Status.TheVariants as marple
-use Rattle.marple_base.specs.Faults.{Rose}
-use Rattle.marple_base.specs.Field.{all_fields, has_field}
-use Rattle.marple_base.specs.Inputs.{Input}
-use Rattle.marple_base.specs.Sink.{TakesFront}
-use Rattle.marple_base.specs.declared.field.Field.{Field}
-use Rattle.marple_base.specs.declared.field.FieldSet.{FieldSet}
-use Rattle.marple_base.specs.declared.inputs.Which.TheVariants.{Query, Trace}
+use Rattle.marple_base.specs.{Faults.Rose, Field.{all_fields, has_field}, Inputs.Input, Sink.TakesFront, declared.field.Field.Field}
+use Rattle.marple_base.specs.declared.{field.FieldSet.FieldSet, inputs.Which.TheVariants.{Query, Trace}}
 use Rattle.part_texts.specs.Texts.{fields_in, part_by_hash, part_text}
 use Rattle.query_lang.specs.declared.typed.TypedQuery.{TypedQuery}
 use Rattle.split_fields.specs.Splits.{may_split}
 use Rattle.stage_plan.specs.Fields.{reads_of}
 use Rattle.trace_pieces.specs.Faults.{trace_fault_of}
-use Rattle.trace_split.specs.Faults.{IfSplitRefused}
-use Rattle.trace_split.specs.Holding.{TakeFronts, TakeTexts, Taken}
-use Rattle.trace_split.specs.Traces.{OneRose, fault_of_all, packets_of_all}
+use Rattle.trace_split.specs.{Faults.IfSplitRefused, Holding.{TakeFronts, TakeTexts, Taken}, Traces.{OneRose, fault_of_all, packets_of_all}}
 use Rattle.trace_split.specs.declared.fault.SplitError.{SplitError}
 use Rattle.trace_split.specs.declared.fault.SplitError.TheVariants as error
 use Rattle.tools_cli.specs.Ends.{IsAcceptedWith, IsBeforeTraces, IsSplit, SplitEnds, TakeFrontsOf, split_by, texts_for}
-use Rattle.tools_cli.specs.Statuses.{IsOfQuery, status_of_query, status_of_traces}
-use Rattle.tools_cli.specs.declared.command.SplitSetting.{SplitSetting}
+use Rattle.tools_cli.specs.{Statuses.{IsOfQuery, status_of_query, status_of_traces}, declared.command.SplitSetting.SplitSetting}
 use Rattle.tools_cli.specs.declared.status.ToolStatus.{ToolStatus}
 
 -- ---- the query

@@ -1,6 +1,5 @@
 -- Options, word by word.
-use Rattle.std.proofs.Common.{◌≡◌, ℕ, false, true, List, [], ◌∷◌, map, Some, refl, ap, ◌∙◌}
-use Rattle.std.specs.Option.{option_and_then}
+use Rattle.std.{proofs.Common.{◌≡◌, ℕ, false, true, List, [], ◌∷◌, map, Some, refl, ap, ◌∙◌}, specs.Option.option_and_then}
 use Rattle.tools_cli.specs.Options.{is_dashed, is_option, is_range, options_from, with_option, with_range}
 use Rattle.tools_cli.specs.declared.options.SplitOptions.{SplitOptions}
 

@@ -1,11 +1,8 @@
 -- What a call of the second program is about.
 use Rattle.std.specs.Prelude.{◌≡◌, List, Option, Some, String, map, string_bytes, ⊤}
 use Rattle.marple_base.specs.declared.inputs.Which.TheVariants.{Query, Trace}
-use Rattle.tools_cli.specs.Command.{asked}
-use Rattle.tools_cli.specs.declared.command.SplitSetting.{SplitSetting}
-use Rattle.tools_cli.specs.declared.command.ToolCommand.{ToolCommand}
-use Rattle.tools_cli.specs.declared.command.ToolCommand.TheVariants.{Facts, Split}
-use Rattle.tools_cli.specs.declared.status.ToolStatus.{ToolStatus}
+use Rattle.tools_cli.specs.{Command.asked, declared.command.{SplitSetting.SplitSetting, ToolCommand.ToolCommand}}
+use Rattle.tools_cli.specs.declared.{command.ToolCommand.TheVariants.{Facts, Split}, status.ToolStatus.ToolStatus}
 use Rattle.tools_cli.specs.declared.status.ToolStatus.TheVariants as tools
 
 -- the command that the words of a command line ask for

@@ -1,12 +1,8 @@
 -- What the words of a command line ask the second program for.
 use Rattle.std.specs.Prelude.{ℕ, ◌≤◌, Bool, true, false, not, is_some, List, [], ◌∷◌, Option, None, Some, bytes_eq, codes, if◌then◌else◌}
-use Rattle.std.specs.Prelude.{unwrap_or, ⊤}
-use Rattle.std.specs.Option.{option_and_then, option_map}
-use Rattle.tools_cli.specs.declared.command.SplitSetting.{SplitSetting}
-use Rattle.tools_cli.specs.declared.command.ToolCommand.{ToolCommand}
-use Rattle.tools_cli.specs.declared.command.ToolCommand.TheVariants.{Facts, Split}
-use Rattle.tools_cli.specs.declared.options.SplitOptions.{SplitOptions}
-use Rattle.tools_cli.specs.Options.{no_options, operands, options_from}
+use Rattle.std.specs.{Prelude.{unwrap_or, ⊤}, Option.{option_and_then, option_map}}
+use Rattle.tools_cli.specs.declared.command.{SplitSetting.SplitSetting, ToolCommand.{ToolCommand, TheVariants.{Facts, Split}}}
+use Rattle.tools_cli.specs.{declared.options.SplitOptions.SplitOptions, Options.{no_options, operands, options_from}}
 
 -- the setting of options that name the parts and their folder; the salt is 1 where they name none
 abbrev pub setting_of : SplitOptions → Option SplitSetting

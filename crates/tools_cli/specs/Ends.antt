@@ -1,25 +1,16 @@
 -- How a splitting ends.
 use Rattle.std.specs.Prelude.{◌≡◌, ◌≢◌, ℕ, List, [], Option, Some, None, Ok, filter, ⊤}
 use Rattle.accepted_query.specs.Accepted.{accepted, query_fault}
-use Rattle.marple_base.specs.Faults.{Rose}
-use Rattle.marple_base.specs.Field.{all_fields}
-use Rattle.marple_base.specs.Inputs.{Input}
-use Rattle.marple_base.specs.declared.field.Field.{Field}
-use Rattle.marple_base.specs.declared.inputs.Which.{Which}
+use Rattle.marple_base.specs.{Faults.Rose, Field.all_fields, Inputs.Input, declared.{field.Field.Field, inputs.Which.Which}}
 use Rattle.marple_base.specs.declared.inputs.Which.TheVariants.{Query, Trace}
 use Rattle.part_texts.specs.Texts.{part_by_hash, part_text}
-use Rattle.query_lang.specs.declared.fault.QueryFault.{QueryFault}
-use Rattle.query_lang.specs.declared.typed.TypedQuery.{TypedQuery}
+use Rattle.query_lang.specs.declared.{fault.QueryFault.QueryFault, typed.TypedQuery.TypedQuery}
 use Rattle.split_fields.specs.Splits.{may_split}
 use Rattle.stage_plan.specs.Fields.{reads_of}
-use Rattle.trace_pieces.specs.Faults.{trace_fault_of}
-use Rattle.trace_pieces.specs.declared.fault.WholeFault.{WholeFault}
-use Rattle.trace_split.specs.Holding.{TakeFronts, TakeTexts, Taken}
-use Rattle.trace_ranges.specs.Ranges.{range_input}
-use Rattle.trace_ranges.specs.declared.ranged.Ranged.{Ranged}
-use Rattle.trace_split.specs.Traces.{AreLeft, OneRose, fault_of_all, packets_of_all}
-use Rattle.tools_cli.specs.declared.command.SplitSetting.{SplitSetting}
-use Rattle.tools_cli.specs.declared.status.ToolStatus.{ToolStatus}
+use Rattle.trace_pieces.specs.{Faults.trace_fault_of, declared.fault.WholeFault.WholeFault}
+use Rattle.trace_split.specs.{Holding.{TakeFronts, TakeTexts, Taken}, Traces.{AreLeft, OneRose, fault_of_all, packets_of_all}}
+use Rattle.trace_ranges.specs.{Ranges.range_input, declared.ranged.Ranged.Ranged}
+use Rattle.tools_cli.specs.declared.{command.SplitSetting.SplitSetting, status.ToolStatus.ToolStatus}
 use Rattle.tools_cli.specs.declared.status.ToolStatus.TheVariants as tools
 
 -- the fields that decide the part of a packet: all that may

@@ -1,11 +1,8 @@
 -- How the facts of a query are written.
-use Rattle.std.specs.Prelude.{◌≡◌, ℕ, List, [], ◌∷◌, ◌++◌, Option, Some, ⊤}
-use Rattle.std.specs.Io.KnownBytes.{Appends}
+use Rattle.std.specs.{Prelude.{◌≡◌, ℕ, List, [], ◌∷◌, ◌++◌, Option, Some, ⊤}, Io.KnownBytes.Appends}
 use Rattle.facts_text.specs.Json.{IsJson}
-use Rattle.marple_base.specs.Faults.{Rose}
-use Rattle.marple_base.specs.declared.inputs.Which.TheVariants.{Query}
-use Rattle.query_facts.specs.Facts.{AreOfText}
-use Rattle.query_facts.specs.declared.answer.Facts.{Facts}
+use Rattle.marple_base.specs.{Faults.Rose, declared.inputs.Which.TheVariants.Query}
+use Rattle.query_facts.specs.{Facts.AreOfText, declared.answer.Facts.Facts}
 use Rattle.tools_cli.specs.declared.status.ToolStatus.{ToolStatus}
 use Rattle.tools_cli.specs.declared.status.ToolStatus.TheVariants as tools
 

@@ -1,10 +1,7 @@
 -- What the files of traces and parts mean: nothing is said about their bytes.
 use Rattle.std.specs.Prelude.{ℕ, ◌-◌, ◌^◌, false, None}
-use Rattle.marple_base.specs.Inputs.{Input}
-use Rattle.marple_base.specs.declared.inputs.Which.{Which}
-use Rattle.marple_base.specs.declared.inputs.Which.TheVariants.{Query, Trace}
-use Rattle.tools_cli.specs.declared.files.FileParts.{FileParts}
-use Rattle.tools_cli.specs.declared.files.TraceFile.{TraceFile}
+use Rattle.marple_base.specs.{Inputs.Input, declared.inputs.Which.{Which, TheVariants.{Query, Trace}}}
+use Rattle.tools_cli.specs.declared.files.{FileParts.FileParts, TraceFile.TraceFile}
 
 -- the file is the trace's; a query can't be opened
 abbrev pub trace_input : TraceFile → Which → Input

@@ -1,8 +1,6 @@
 -- The options of a splitting. They may stand anywhere among its operands, and each is named at most once.
 use Rattle.std.specs.Prelude.{ℕ, ◌≤◌, Bool, true, false, ◌&&◌, ◌||◌, not, List, [], ◌∷◌, Option, None, Some, IfSome, bytes_eq, codes}
-use Rattle.std.specs.Prelude.{if◌then◌else◌, is_none, nat_eq}
-use Rattle.std.specs.List.{starts_with}
-use Rattle.std.specs.Option.{option_and_then, option_map}
+use Rattle.std.specs.{Prelude.{if◌then◌else◌, is_none, nat_eq}, List.starts_with, Option.{option_and_then, option_map}}
 use Rattle.command_line.specs.Number.{number_within}
 use Rattle.tools_cli.specs.declared.options.SplitOptions.{SplitOptions}
 use Rattle.trace_ranges.specs.declared.ranged.Range.{Range}

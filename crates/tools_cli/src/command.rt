@@ -1,8 +1,7 @@
 //! What the words of a command line ask for.
 
 ghost use Rattle.std.specs.Prelude.{◌≡◌, IfSome, drop, map, string_bytes};
-ghost use Rattle.tools_cli.specs.Command.{IsToolCommand, IsSplitSetting, asked, asked_facts, asked_split, setting_of};
-ghost use Rattle.tools_cli.specs.Options.{AreWithin};
+ghost use Rattle.tools_cli.specs.{Command.{IsToolCommand, IsSplitSetting, asked, asked_facts, asked_split, setting_of}, Options.AreWithin};
 
 use crate::options::{SplitOptions, has_traces, options_of};
 use trace_ranges::Range;

@@ -1,10 +1,7 @@
 //! The line that a status writes to standard error, as `marple` does.
 
-ghost use Rattle.std.specs.Prelude.{◌≡◌, OnOk};
-ghost use Rattle.std.specs.List.{flat_map};
-ghost use Rattle.std.specs.Io.KnownBytes.{Appends};
-ghost use Rattle.marple_base.specs.Faults.{HasCause};
-ghost use Rattle.marple_base.specs.Sink.{TakesFront};
+ghost use Rattle.std.specs.{Prelude.{◌≡◌, OnOk}, List.flat_map, Io.KnownBytes.Appends};
+ghost use Rattle.marple_base.specs.{Faults.HasCause, Sink.TakesFront};
 ghost use Rattle.tools_cli.specs.Complaint.{tool_complaint};
 ghost use Rattle.command_answers.specs.Piece.{piece_text};
 

@@ -1,10 +1,7 @@
 //! The trusted edge: files of traces, and the files of parts in a folder. No contract can say what they hold.
 
-ghost use Rattle.std.specs.Prelude.{◌≡◌, ◌<◌, ◌≤◌, All, IfOk, length};
-ghost use Rattle.std.specs.Io.{ReadsAtMost};
-ghost use Rattle.marple_base.specs.Faults.{HasCause};
-ghost use Rattle.marple_base.specs.Inputs.{IsClosed, fresh_untold};
-ghost use Rattle.marple_base.specs.declared.inputs.Which.TheVariants.{Trace};
+ghost use Rattle.std.specs.{Prelude.{◌≡◌, ◌<◌, ◌≤◌, All, IfOk, length}, Io.ReadsAtMost};
+ghost use Rattle.marple_base.specs.{Faults.HasCause, Inputs.{IsClosed, fresh_untold}, declared.inputs.Which.TheVariants.Trace};
 ghost use Rattle.tools_cli.specs.Files.{trace_input};
 
 use marple_base::{Failed, Inputs, Which};

@@ -1,9 +1,8 @@
 //! The options of a splitting, which may stand anywhere among its operands.
 
 ghost use Rattle.std.specs.Prelude.{◌≡◌, ◌<◌, ◌∷◌, [], IfNone, IfOk, IfSome, length, map, string_bytes};
-ghost use Rattle.tools_cli.specs.Command.{has_traces};
-ghost use Rattle.tools_cli.specs.Options.{AreWithin, is_dashed, is_option, is_range, no_options, operands, options_from, with_option};
-ghost use Rattle.tools_cli.specs.Options.{with_range};
+ghost use Rattle.tools_cli.specs.{Command.has_traces, Options.{AreWithin, is_dashed, is_option, is_range, no_options, operands}};
+ghost use Rattle.tools_cli.specs.Options.{options_from, with_option, with_range};
 
 use crate::number::large_number;
 use command_line::number_within;

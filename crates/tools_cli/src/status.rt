@@ -1,8 +1,7 @@
 //! How a command of the second program ends.
 
 ghost use Rattle.std.specs.Prelude.{◌≡◌};
-ghost use Rattle.tools_cli.specs.Complaint.{tool_number};
-ghost use Rattle.tools_cli.specs.declared.status.ToolStatus.TheVariants.{Memory};
+ghost use Rattle.tools_cli.specs.{Complaint.tool_number, declared.status.ToolStatus.TheVariants.Memory};
 ghost use Rattle.tools_cli.specs.Statuses.{IsOfQuery, status_of, status_of_query, status_of_traces};
 
 use command_answers::Status;

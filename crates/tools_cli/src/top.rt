@@ -1,17 +1,12 @@
 //! The second program as one call.
 
-ghost use Rattle.std.specs.Prelude.{◌≡◌, ◌≢◌, ◌≤◌, ◌↔◌, All, [], None, Some};
-ghost use Rattle.std.specs.Io.KnownBytes.{Appends};
-ghost use Rattle.marple_base.specs.Faults.{Rose};
-ghost use Rattle.marple_base.specs.Inputs.{IsClosed};
-ghost use Rattle.marple_base.specs.Sink.{TakesFront};
+ghost use Rattle.std.specs.{Prelude.{◌≡◌, ◌≢◌, ◌≤◌, ◌↔◌, All, [], None, Some}, Io.KnownBytes.Appends};
+ghost use Rattle.marple_base.specs.{Faults.Rose, Inputs.IsClosed, Sink.TakesFront};
 ghost use Rattle.trace_ranges.specs.Ranges.{within};
 ghost use Rattle.trace_split.specs.Traces.{NoneFell, OneRose, faults_of};
-ghost use Rattle.tools_cli.specs.Call.{IsAfterQuery, IsOfFacts, WhereFacts, WhereSplit, asked_by};
-ghost use Rattle.tools_cli.specs.Complaint.{tool_complaint};
-ghost use Rattle.tools_cli.specs.Ends.{AreTexts, IsAcceptedWith, IsBeforeTraces, IsFirstFault, IsRefusedFor};
-ghost use Rattle.tools_cli.specs.Ends.{IsSplit, SplitEnds, TakeFrontsOf, split_by};
-ghost use Rattle.tools_cli.specs.FactsEnds.{FactsEnd, GivesFacts};
+ghost use Rattle.tools_cli.specs.{Call.{IsAfterQuery, IsOfFacts, WhereFacts, WhereSplit, asked_by}, Complaint.tool_complaint};
+ghost use Rattle.tools_cli.specs.Ends.{AreTexts, IsAcceptedWith, IsBeforeTraces, IsFirstFault, IsRefusedFor, IsSplit, SplitEnds};
+ghost use Rattle.tools_cli.specs.{Ends.{TakeFrontsOf, split_by}, FactsEnds.{FactsEnd, GivesFacts}};
 
 use crate::command::{ToolCommand, command_of};
 use crate::complaint::complain_of;

@@ -1,9 +1,7 @@
 //! Tests of the second program's call.
 
 ghost use Rattle.std.specs.Prelude.{◌≡◌, ◌<◌, All};
-ghost use Rattle.marple_base.specs.Inputs.{IsClosed};
-ghost use Rattle.marple_base.specs.MemoryInputs.{memory_input};
-ghost use Rattle.marple_base.specs.declared.inputs.Which.TheVariants.{Query, Trace};
+ghost use Rattle.marple_base.specs.{Inputs.IsClosed, MemoryInputs.memory_input, declared.inputs.Which.TheVariants.{Query, Trace}};
 
 use crate::memory::{MemoryParts, ranged_traces_of};
 use marple_base::{Field, MemoryInputs, MemorySink, Seq, Steps, Text};

@@ -1,9 +1,7 @@
 //! Traces and parts in memory.
 
 ghost use Rattle.std.specs.Prelude.{◌<◌, All, IfOk};
-ghost use Rattle.marple_base.specs.Inputs.{IsClosed};
-ghost use Rattle.marple_base.specs.MemoryInputs.{memory_input};
-ghost use Rattle.marple_base.specs.declared.inputs.Which.TheVariants.{Trace};
+ghost use Rattle.marple_base.specs.{Inputs.IsClosed, MemoryInputs.memory_input, declared.inputs.Which.TheVariants.Trace};
 
 use marple_base::{FailAt, Failed, MemoryInputs, Seq, Text, Which};
 use std::alloc::{AllocError, Global};

@@ -1,9 +1,7 @@
 //! Tests of splitting, over traces and parts in memory.
 
 ghost use Rattle.std.specs.Prelude.{◌≡◌, ◌<◌, ◌≤◌, All};
-ghost use Rattle.marple_base.specs.Inputs.{IsClosed};
-ghost use Rattle.marple_base.specs.MemoryInputs.{memory_input};
-ghost use Rattle.marple_base.specs.declared.inputs.Which.TheVariants.{Trace};
+ghost use Rattle.marple_base.specs.{Inputs.IsClosed, MemoryInputs.memory_input, declared.inputs.Which.TheVariants.Trace};
 
 use crate::memory::{MemoryParts, traces_of};
 use marple_base::{Field, FieldSet, MemoryInputs, Steps};

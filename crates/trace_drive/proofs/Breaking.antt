@@ -1,22 +1,14 @@
 -- How a run breaks off, at whatever step.
 use Rattle.std.proofs.Common.{◌≡◌, ℕ, ◌≤◌, List, [], ◌++◌, Option, None, Some, length, refl, sym, subst, arith, inl, inr, length-append}
-use Rattle.std.proofs.Common.{Result, Ok, Err, IfErr, OnOk}
-use Rattle.std.specs.Result.{IsErrAnd}
-use Rattle.std.proofs.Math.Seq.{take-append_seam}
-use Rattle.std.proofs.KnownBytes.{Appends-nil}
+use Rattle.std.{proofs.{Common.{Result, Ok, Err, IfErr, OnOk}, Math.Seq.take-append_seam, KnownBytes.Appends-nil}, specs.Result.IsErrAnd}
 use Rattle.std.specs.Io.KnownBytes.{Appends}
-use Rattle.marple_base.specs.Faults.{Rose}
-use Rattle.marple_base.specs.Sink.{TakesFront}
-use Rattle.marple_base.specs.declared.write_error.WriteError.{WriteError}
+use Rattle.marple_base.specs.{Faults.Rose, Sink.TakesFront, declared.write_error.WriteError.WriteError}
 use Rattle.marple_base.specs.declared.write_error.WriteError.TheVariants as writes
-use Rattle.trace_reader.specs.Faults.{IfRefused}
-use Rattle.trace_reader.specs.declared.fault.TraceAnswer.{TraceAnswer}
+use Rattle.trace_reader.specs.{Faults.IfRefused, declared.fault.TraceAnswer.TraceAnswer}
 use Rattle.trace_reader.specs.declared.fault.TraceAnswer.TheVariants as answers
 use Rattle.trace_reader.specs.declared.fault.TraceFault.{TraceFault}
-use Rattle.trace_drive.specs.Answers.{BreaksOff, answer_for, answer_of, text_unless}
-use Rattle.trace_drive.specs.declared.answer.RunError.{RunError}
-use Rattle.trace_drive.specs.declared.answer.RunError.TheVariants.{Refused, Memory, Failed}
-use Rattle.trace_drive.proofs.Pieces.{TakesFront-more}
+use Rattle.trace_drive.specs.{Answers.{BreaksOff, answer_for, answer_of, text_unless}, declared.answer.RunError.RunError}
+use Rattle.trace_drive.{specs.declared.answer.RunError.TheVariants.{Refused, Memory, Failed}, proofs.Pieces.TakesFront-more}
 
 -- a fact about the answer in a result
 pub err_is : {A E : Type 0} (P : E → Type 0) (result : Result A E) (answer : E) → IsErrAnd result (λ found. found ≡ answer) → P answer

@@ -1,7 +1,6 @@
 -- The remainder of the next number.
 use Rattle.std.proofs.Common.{◌≡◌, ℕ, suc, ◌+◌, ◌<◌, ◌≤◌, ◌%◌, true, false, ap, ◌∙◌, arith}
-use Rattle.std.proofs.Math.Nat.{suc-mod, mod-eq_of_lt, mod_self, mod-lt}
-use Rattle.std.proofs.lemmas.Bool.Decides.{nat_tests}
+use Rattle.std.proofs.{Math.Nat.{suc-mod, mod-eq_of_lt, mod_self, mod-lt}, lemmas.Bool.Decides.nat_tests}
 use Rattle.epoch_model.specs.Epochs.{is_refresh}
 
 next_within : (every since number : ℕ) → since ≡ number % every → since + 1 < every → suc number % every ≡ since + 1

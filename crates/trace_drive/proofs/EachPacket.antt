@@ -1,17 +1,11 @@
 -- What holds of each packet that is read from a trace.
 use Rattle.std.proofs.Common.{◌≡◌, ℕ, suc, ◌+◌, List, [], ◌∷◌, length, Option, Result, Ok, Err, refl, sym, ap, ◌∙◌, arith}
-use Rattle.std.specs.List.{All, zip}
-use Rattle.std.proofs.lemmas.List.Elements.{All-nil, All-cons}
-use Rattle.std.specs.Prelude.{◌==◌, not, nat_lt}
+use Rattle.std.{proofs.lemmas.List.Elements.{All-nil, All-cons}, specs.{List.{All, zip}, Prelude.{◌==◌, not, nat_lt}}}
 use Rattle.epoch_model.proofs.KeyLists.{by_test}
-use Rattle.marple_base.specs.declared.field.Field.{Field}
-use Rattle.marple_base.specs.declared.field.FieldSet.{FieldSet}
-use Rattle.marple_base.specs.declared.field.Packet.{Packet}
-use Rattle.trace_reader.specs.Reading.{records}
-use Rattle.trace_reader.specs.Traces.{Layout, Contents, each, with_first, columns_of_fields, words_in_columns, packet_with, packet_of}
-use Rattle.trace_reader.specs.Traces.{with_packet}
-use Rattle.trace_reader.specs.Traces.{contents_from, layout_with, layout_of, opening, rest_of, contents_with, contents, packets}
-use Rattle.trace_reader.specs.declared.fault.TheConstants.{MAX_RECORDS, MAX_TRACE}
+use Rattle.marple_base.specs.declared.field.{Field.Field, FieldSet.FieldSet, Packet.Packet}
+use Rattle.trace_reader.specs.{Reading.records, Traces.{Layout, Contents, each, with_first, columns_of_fields, words_in_columns}}
+use Rattle.trace_reader.specs.Traces.{packet_with, packet_of, with_packet, contents_from, layout_with, layout_of, opening, rest_of}
+use Rattle.trace_reader.specs.{Traces.{contents_with, contents, packets}, declared.fault.TheConstants.{MAX_RECORDS, MAX_TRACE}}
 use Rattle.trace_reader.specs.declared.fault.TraceFault.{TraceFault}
 
 same_ok : {A E : Type 0} (x y : A) → (let r : Result A E = Ok x in r) ≡ Ok y → x ≡ y

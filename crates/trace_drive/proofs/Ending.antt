@@ -1,28 +1,17 @@
 -- Pipelines whose lanes are swept and whose pipes are empty.
 use Rattle.std.proofs.Common.{◌≡◌, ℕ, suc, ◌-◌, ◌==◌, ◌&&◌, true, List, [], ◌∷◌, length, drop, get_or, refl, ap, ◌∙◌, subst, arith}
-use Rattle.std.proofs.lemmas.List.{length-drop}
+use Rattle.std.proofs.lemmas.List.{length-drop, Elements.{All-cons, All-head, All-nil, All-tail}, Sums.sum_by-cons}
 use Rattle.std.specs.List.{list_all, sum_by}
-use Rattle.std.proofs.lemmas.List.Elements.{All-cons, All-head, All-nil, All-tail}
-use Rattle.std.proofs.lemmas.List.Sums.{sum_by-cons}
-use Rattle.bucket_cache.specs.Buckets.{Pair}
-use Rattle.bucket_cache.specs.Caches.{list_at}
-use Rattle.epoch_entry.specs.declared.purpose.Entries.{Entries}
-use Rattle.epoch_entry.specs.contracts.any.AnyEpochsEpochKind.TheImpl.{ghosts}
-use Rattle.epoch_model.specs.Driving.{SweepsReachTheEnd}
-use Rattle.epoch_model.specs.Epochs.{Geometry}
-use Rattle.epoch_model.specs.Machine.{Epoch, Machine, after_packets, empty_buckets, end_of, open_in}
-use Rattle.epoch_model.specs.Timeline.{IsSwept}
-use Rattle.stage_plan.specs.Planned.{wiring_at}
-use Rattle.stage_plan.specs.Sound.{PlanParts}
-use Rattle.stage_plan.specs.declared.group.GroupPlan.{GroupPlan}
-use Rattle.switch_core.specs.Closing.{held_in, is_drained}
-use Rattle.switch_core.specs.Lanes.{PairStands, PairsStand, RecordsStand, Standing}
-use Rattle.switch_core.specs.Pipelines.{IsLaneOf}
+use Rattle.bucket_cache.specs.{Buckets.Pair, Caches.list_at}
+use Rattle.epoch_entry.specs.{declared.purpose.Entries.Entries, contracts.any.AnyEpochsEpochKind.TheImpl.ghosts}
+use Rattle.epoch_model.specs.{Driving.SweepsReachTheEnd, Epochs.Geometry}
+use Rattle.epoch_model.specs.{Machine.{Epoch, Machine, after_packets, empty_buckets, end_of, open_in}, Timeline.IsSwept}
+use Rattle.stage_plan.specs.{Planned.wiring_at, Sound.PlanParts, declared.group.GroupPlan.GroupPlan}
+use Rattle.switch_core.specs.{Closing.{held_in, is_drained}, Lanes.{PairStands, PairsStand, RecordsStand, Standing}, Pipelines.IsLaneOf}
 use Rattle.switch_core.specs.PlanLanes.{AreKept, AreLanesOf, HavePlaces, LaneView, PipelineView, PipelineStands, StandsFor, pipe_places}
 use Rattle.switch_core.specs.Rows.{EachFrom}
 use Rattle.switch_core.specs.declared.upkeep.Upkeep.TheVariants as due
-use Rattle.trace_drive.specs.Drives.{end_machines, ends_from, uses_by}
-use Rattle.trace_drive.specs.Follows.{AlikeFrom, FollowsBy, Keeps}
+use Rattle.trace_drive.specs.{Drives.{end_machines, ends_from, uses_by}, Follows.{AlikeFrom, FollowsBy, Keeps}}
 use Rattle.trace_drive.proofs.Following.{follows_as}
 
 records_long : (means : Standing) (key_words : ℕ) (records : List (List ℕ)) (epochs : List Epoch)

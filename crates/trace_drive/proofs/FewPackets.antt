@@ -4,10 +4,8 @@ use Rattle.std.proofs.lemmas.Bool.Decides.{nat_tests}
 use Rattle.epoch_model.proofs.KeyLists.{by_test}
 use Rattle.marple_base.specs.declared.field.Packet.{Packet}
 use Rattle.trace_reader.specs.Reading.{records}
-use Rattle.trace_reader.specs.Traces.{Layout, contents_from, contents_with, contents, opening, packet_of, rest_of}
-use Rattle.trace_reader.specs.Traces.{with_packet}
-use Rattle.trace_reader.specs.declared.fault.TheConstants.{MAX_RECORDS}
-use Rattle.trace_reader.specs.declared.fault.TraceFault.{TraceFault}
+use Rattle.trace_reader.specs.Traces.{Layout, contents_from, contents_with, contents, opening, packet_of, rest_of, with_packet}
+use Rattle.trace_reader.specs.declared.fault.{TheConstants.MAX_RECORDS, TraceFault.TraceFault}
 use Rattle.trace_drive.specs.ReadPackets.{ReadPacketsAreFew}
 
 -- a record beyond the limit gives no packet

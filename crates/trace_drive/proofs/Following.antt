@@ -1,19 +1,12 @@
 -- Pipelines, and the machines that their lanes are as far as.
 use Rattle.std.proofs.Common.{◌≡◌, ℕ, zero, suc, ◌<◌, Bool, true, false, List, [], ◌∷◌, Option, Some, None, Result, Ok, Err, OnOk, length}
-use Rattle.std.proofs.Common.{nat_lt, replicate, refl, sym, ap, ◌∙◌, subst}
-use Rattle.std.proofs.Common.{if◌then◌else◌}
+use Rattle.std.proofs.{Common.{nat_lt, replicate, refl, sym, ap, ◌∙◌, subst, if◌then◌else◌}, lemmas.{Bool.lt-ltb, List.length-map}}
 use Rattle.std.specs.List.{slice_get, list_all}
-use Rattle.std.proofs.lemmas.Bool.{lt-ltb}
-use Rattle.std.proofs.lemmas.List.{length-map}
-use Rattle.epoch_model.specs.Driving.{EventsKeepAlike, Taken, after_packet, event_of}
-use Rattle.epoch_model.specs.Epochs.{Geometry, is_refresh}
-use Rattle.epoch_model.specs.Laws.{SameEpochs}
+use Rattle.epoch_model.specs.{Driving.{EventsKeepAlike, Taken, after_packet, event_of}, Epochs.{Geometry, is_refresh}, Laws.SameEpochs}
 use Rattle.epoch_model.specs.Machine.{Machine, Event, Packet, Evict, Merge, merge, run, empty_buckets, empty_machine}
-use Rattle.stage_plan.specs.Planned.{taken}
-use Rattle.stage_plan.specs.declared.group.GroupPlan.{GroupPlan}
-use Rattle.switch_core.specs.Pipelines.{after_events, empty_machines, geometry_without_refresh, packet_events}
-use Rattle.switch_core.specs.PlanLanes.{LaneView, PipelineView, PipelineMakes, PipelineIsSwept, PipelineStands, lane_is_ready, upkeep_at}
-use Rattle.switch_core.specs.PlanLanes.{upkeeps_at}
+use Rattle.stage_plan.specs.{Planned.taken, declared.group.GroupPlan.GroupPlan}
+use Rattle.switch_core.specs.{Pipelines.{after_events, empty_machines, geometry_without_refresh, packet_events}, PlanLanes.LaneView}
+use Rattle.switch_core.specs.PlanLanes.{PipelineView, PipelineMakes, PipelineIsSwept, PipelineStands, lane_is_ready, upkeep_at, upkeeps_at}
 use Rattle.switch_core.specs.declared.upkeep.Upkeep.{Upkeep}
 use Rattle.switch_core.specs.declared.upkeep.Upkeep.TheVariants as due
 use Rattle.switch_core.specs.Rows.{EachFrom}

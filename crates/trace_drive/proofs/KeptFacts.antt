@@ -1,16 +1,11 @@
 -- Packets of which only some fields are kept.
 use Rattle.std.proofs.Common.{◌≡◌, ℕ, zero, suc, ◌+◌, ◌*◌, ◌<◌, ◌≤◌, Bool, true, false, List, [], ◌∷◌, ◌++◌, Some, length, map, drop}
 use Rattle.std.proofs.Common.{get_or, set, refl, sym, ap, ap₂, ◌∙◌, subst, arith, append_assoc, length-append, if◌then◌else◌}
-use Rattle.std.specs.Prelude.{replicate}
-use Rattle.std.specs.List.{slice_get, zip}
 use Rattle.std.proofs.lemmas.List.{drop-append-le, drop-drop, drop_more, get_or_at, length-drop, nil_from_length, set_at}
-use Rattle.marple_base.specs.Field.{all_fields, has_field, number_of}
-use Rattle.marple_base.specs.declared.field.Field.{Field}
-use Rattle.marple_base.specs.declared.field.FieldSet.{FieldSet}
-use Rattle.marple_base.specs.declared.field.Packet.{Packet}
+use Rattle.std.specs.{Prelude.replicate, List.{slice_get, zip}}
+use Rattle.marple_base.specs.{Field.{all_fields, has_field, number_of}, declared.field.{Field.Field, FieldSet.FieldSet, Packet.Packet}}
 use Rattle.marple_base.specs.declared.field.TheConstants.{FIELDS}
-use Rattle.trace_drive.specs.Kept.{fields_among, fields_kept, kept_of, packet_in, word_in, written}
-use Rattle.trace_drive.specs.KeptView.{packets_in}
+use Rattle.trace_drive.specs.{Kept.{fields_among, fields_kept, kept_of, packet_in, word_in, written}, KeptView.packets_in}
 
 -- the fields have the numbers from n on
 abbrev AreFrom : ℕ → List Field → Type 0

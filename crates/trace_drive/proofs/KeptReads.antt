@@ -1,17 +1,10 @@
 -- Where the fields are kept that are read, nothing of a packet is lost that is read from a trace.
 use Rattle.std.proofs.Common.{◌≡◌, ℕ, Bool, true, false, List, [], ◌∷◌, map, Option, None, Result, Ok, refl, ap, ap₂, ◌∙◌, if◌then◌else◌}
 use Rattle.std.specs.List.{zip}
-use Rattle.marple_base.specs.Field.{all_fields, has_field}
-use Rattle.marple_base.specs.declared.field.Field.{Field}
-use Rattle.marple_base.specs.declared.field.FieldSet.{FieldSet}
-use Rattle.marple_base.specs.declared.field.Packet.{Packet}
-use Rattle.trace_reader.specs.Traces.{column_of_field, each, word_at}
-use Rattle.trace_reader.specs.declared.fault.TraceFault.{TraceFault}
-use Rattle.trace_drive.specs.Kept.{kept_of}
-use Rattle.trace_drive.specs.ReadPackets.{ReadPacketsAreKept}
-use Rattle.trace_drive.proofs.EachPacket.{HoldsOfRead, each_packet, first_ok}
-use Rattle.trace_drive.proofs.KeptFacts.{kept_words_are}
-use Rattle.trace_drive.proofs.WholePackets.{is_long}
+use Rattle.marple_base.specs.{Field.{all_fields, has_field}, declared.field.{Field.Field, FieldSet.FieldSet, Packet.Packet}}
+use Rattle.trace_reader.specs.{Traces.{column_of_field, each, word_at}, declared.fault.TraceFault.TraceFault}
+use Rattle.trace_drive.{specs.{Kept.kept_of, ReadPackets.ReadPacketsAreKept}, proofs.EachPacket.{HoldsOfRead, each_packet, first_ok}}
+use Rattle.trace_drive.proofs.{KeptFacts.kept_words_are, WholePackets.is_long}
 
 -- a word, where its field is read
 abbrev word_if : FieldSet → Field → ℕ → ℕ

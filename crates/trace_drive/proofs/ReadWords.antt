@@ -1,25 +1,15 @@
 -- The packets of a trace are of words.
 use Rattle.std.proofs.Common.{◌≡◌, ℕ, ◌+◌, ◌-◌, ◌*◌, ◌^◌, ◌<◌, Bool, true, false, ◌&&◌, nat_le, nat_lt, if◌then◌else◌, List, [], ◌∷◌}
-use Rattle.std.proofs.Common.{length, Option, Some, None, Result, Ok, Err, IfOk, refl, subst, arith}
-use Rattle.std.specs.Prelude.{IfSome, codes, option_and_then, option_map}
-use Rattle.std.specs.Char.{is_ascii_digit}
-use Rattle.std.specs.List.{All, list_all, slice_split, zip}
-use Rattle.std.specs.Option.{ok_or}
-use Rattle.std.specs.Str.{bytes_eq}
-use Rattle.std.specs.Str.Parse.{digits_value}
-use Rattle.std.proofs.lemmas.Bool.Decides.{nat_tests}
-use Rattle.std.proofs.lemmas.List.Elements.{All-nil, All-cons, All-map}
-use Rattle.marple_base.specs.Field.{all_fields}
-use Rattle.marple_base.specs.declared.field.Field.{Field}
+use Rattle.std.proofs.{Common.{length, Option, Some, None, Result, Ok, Err, IfOk, refl, subst, arith}, lemmas.Bool.Decides.nat_tests}
+use Rattle.std.{proofs.lemmas.List.Elements.{All-nil, All-cons, All-map}, specs.Prelude.{IfSome, codes, option_and_then, option_map}}
+use Rattle.std.specs.{Char.is_ascii_digit, List.{All, list_all, slice_split, zip}, Option.ok_or, Str.{bytes_eq, Parse.digits_value}}
+use Rattle.marple_base.specs.{Field.all_fields, declared.field.Field.Field}
 use Rattle.marple_base.specs.declared.field.Field.TheVariants as field
-use Rattle.marple_base.specs.declared.field.Packet.{Packet}
+use Rattle.marple_base.specs.declared.field.{Packet.Packet, FieldSet.FieldSet}
 use Rattle.query_lang.specs.Words.{AreWords, IsWord}
-use Rattle.trace_drive.proofs.EachPacket.{HoldsOfRead, each_packet}
-use Rattle.marple_base.specs.declared.field.FieldSet.{FieldSet}
-use Rattle.trace_drive.specs.ReadPackets.{ReadPacketsAreOfWords}
+use Rattle.trace_drive.{proofs.EachPacket.{HoldsOfRead, each_packet}, specs.ReadPackets.ReadPacketsAreOfWords}
 use Rattle.trace_reader.specs.Numbers.{decimal_word, first_some, further_word, infinity_word, is_dot, number_below, octet_word, quad_of}
-use Rattle.trace_reader.specs.Numbers.{without_blanks, word_of_text}
-use Rattle.trace_reader.specs.Traces.{each, packets, field_text_at, with_first, word_at}
+use Rattle.trace_reader.specs.{Numbers.{without_blanks, word_of_text}, Traces.{each, packets, field_text_at, with_first, word_at}}
 
 -- numbers
 

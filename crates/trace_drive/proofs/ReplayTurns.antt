@@ -1,15 +1,11 @@
 -- The turns of a trace's packets, one after another.
 use Rattle.std.proofs.Common.{◌≡◌, ◌≤◌, ℕ, zero, suc, ◌+◌, List, [], ◌∷◌, ◌++◌, length, take, drop, refl, sym, ap, ◌∙◌, subst, arith}
-use Rattle.std.proofs.Math.Seq.{take-length}
-use Rattle.std.proofs.lemmas.List.{drop-drop, length-drop, length-map, length-take-le, map-append}
+use Rattle.std.proofs.{Math.Seq.take-length, lemmas.List.{drop-drop, length-drop, length-map, length-take-le, map-append}}
 use Rattle.epoch_model.specs.Epochs.{is_refresh}
 use Rattle.marple_base.specs.declared.field.Packet.{Packet}
 use Rattle.switch_core.specs.PlanLanes.{PipelineView}
-use Rattle.trace_drive.specs.Drives.{coming, words_of}
-use Rattle.trace_drive.specs.Replays.{Advances, IsUnderWay, MakesAllTurns, MakesTheirTurns, TakesTheRest}
-use Rattle.trace_drive.specs.Turns.{MakesTurn, MakesTurns}
-use Rattle.trace_drive.specs.declared.packets.Packets.{Packets}
-use Rattle.trace_drive.specs.declared.replay.Replay.{Replay}
+use Rattle.trace_drive.specs.{Drives.{coming, words_of}, Replays.{Advances, IsUnderWay, MakesAllTurns, MakesTheirTurns, TakesTheRest}}
+use Rattle.trace_drive.specs.{Turns.{MakesTurn, MakesTurns}, declared.{packets.Packets.Packets, replay.Replay.Replay}}
 use Rattle.trace_drive.specs.declared.schedule.Schedule.{Schedule}
 
 turns_on : (ways refresh lag n k : ℕ) (xs ys : List (List ℕ)) (a b c : PipelineView) → k ≡ n + length xs

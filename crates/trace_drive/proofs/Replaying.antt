@@ -1,24 +1,16 @@
 -- A trace on its way, packet by packet and at its end.
 use Rattle.std.proofs.Common.{◌≡◌, ℕ, suc, ◌+◌, ◌<◌, List, [], ◌∷◌, length, drop, refl, sym, ap, ◌∙◌, subst, arith, length-drop, true}
-use Rattle.std.specs.List.{list_all}
-use Rattle.std.proofs.lemmas.List.{length-map}
+use Rattle.std.{proofs.lemmas.List.length-map, specs.List.list_all}
 use Rattle.epoch_model.specs.Driving.{EventsKeepAlike, PacketsFollowTheTrace, SweepsReachTheEnd, TakenUsesAreInTrace, after_packet}
-use Rattle.epoch_model.specs.Driving.{event_of}
-use Rattle.epoch_model.specs.Machine.{Machine, after_packets, empty_buckets, empty_machine}
+use Rattle.epoch_model.specs.{Driving.event_of, Machine.{Machine, after_packets, empty_buckets, empty_machine}}
 use Rattle.marple_base.specs.declared.field.Packet.{Packet}
 use Rattle.stage_plan.specs.Planned.{taken}
 use Rattle.switch_core.specs.Pipelines.{empty_machines, geometry_without_refresh}
 use Rattle.switch_core.specs.PlanLanes.{AreKept, AreLanesOf, PipelineView, PipelineStands, lane_is_drained}
 use Rattle.switch_core.specs.declared.upkeep.Upkeep.TheVariants as due
-use Rattle.trace_drive.specs.Clocks.{HasCounted}
-use Rattle.trace_drive.specs.Drives.{coming, end_machines, geometry_for, uses_by, words_of}
-use Rattle.trace_drive.specs.Follows.{FollowsBy, Keeps}
-use Rattle.trace_drive.specs.Replays.{Advances, IsUnderWay}
-use Rattle.trace_drive.specs.declared.packets.Packets.{Packets}
-use Rattle.trace_drive.specs.declared.replay.Replay.{Replay}
-use Rattle.trace_drive.specs.declared.schedule.Schedule.{Schedule}
-use Rattle.trace_drive.proofs.Ending.{whole_trace}
-use Rattle.trace_drive.proofs.Following.{follows_as, start_follows}
+use Rattle.trace_drive.specs.{Clocks.HasCounted, Drives.{coming, end_machines, geometry_for, uses_by, words_of}, Follows.{FollowsBy, Keeps}}
+use Rattle.trace_drive.specs.{Replays.{Advances, IsUnderWay}, declared.{packets.Packets.Packets, replay.Replay.Replay}}
+use Rattle.trace_drive.{specs.declared.schedule.Schedule.Schedule, proofs.{Ending.whole_trace, Following.{follows_as, start_follows}}}
 use Rattle.trace_drive.proofs.Taking.{after_turn, all_taken, more_left, next_left}
 
 pub keeps_itself : (p : PipelineView) → Keeps p p

@@ -1,15 +1,10 @@
 -- The packets of a trace, taken one by one.
 use Rattle.std.proofs.Common.{◌≡◌, ℕ, suc, ◌<◌, ◌≤◌, List, [], ◌∷◌, None, Some, length, map, drop, get_or, sym, ap, ◌∙◌, arith, length-drop}
-use Rattle.std.specs.List.{slice_get}
-use Rattle.std.proofs.lemmas.List.{get_or-map, length-map}
-use Rattle.std.proofs.lemmas.Option.{get_or_from_slice_get}
-use Rattle.std.proofs.Math.Seq.{drop-cons}
+use Rattle.std.{proofs.{lemmas.{List.{get_or-map, length-map}, Option.get_or_from_slice_get}, Math.Seq.drop-cons}, specs.List.slice_get}
 use Rattle.marple_base.specs.declared.field.Packet.{Packet}
-use Rattle.epoch_model.specs.Driving.{PacketsFollowTheTrace, TakenUsesAreInTrace, after_packet, event_of}
-use Rattle.epoch_model.specs.Epochs.{Geometry}
+use Rattle.epoch_model.specs.{Driving.{PacketsFollowTheTrace, TakenUsesAreInTrace, after_packet, event_of}, Epochs.Geometry}
 use Rattle.epoch_model.specs.Machine.{after_packets, packets_of}
-use Rattle.stage_plan.specs.Planned.{taken}
-use Rattle.stage_plan.specs.Sound.{PlanParts}
+use Rattle.stage_plan.specs.{Planned.taken, Sound.PlanParts}
 use Rattle.trace_drive.specs.Drives.{uses_by, words_of}
 
 pub made_next : (made : List Packet) (at : ℕ) (p : Packet) → at < length made → slice_get made at ≡ Some p → drop at made ≡ p

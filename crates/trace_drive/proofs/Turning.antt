@@ -1,17 +1,12 @@
 -- The events of a packet's turn, one list of them after another.
 use Rattle.std.proofs.Common.{◌≡◌, ℕ, suc, true, false, List, [], ◌∷◌, ◌++◌, length, map, zero, refl, sym, ap, ◌∙◌, subst, arith}
-use Rattle.std.proofs.Common.{append-nil, append_assoc}
-use Rattle.std.proofs.lemmas.List.{length-map}
-use Rattle.epoch_model.specs.Driving.{EventsKeepAlike, event_of}
-use Rattle.epoch_model.specs.Epochs.{Geometry}
-use Rattle.epoch_model.specs.Machine.{Machine, Event, empty_buckets, run, step}
-use Rattle.stage_plan.specs.Planned.{taken}
-use Rattle.stage_plan.specs.Sound.{PlanParts}
+use Rattle.std.proofs.{Common.{append-nil, append_assoc}, lemmas.List.length-map}
+use Rattle.epoch_model.specs.{Driving.{EventsKeepAlike, event_of}, Epochs.Geometry, Machine.{Machine, Event, empty_buckets, run, step}}
+use Rattle.stage_plan.specs.{Planned.taken, Sound.PlanParts}
 use Rattle.switch_core.specs.Pipelines.{after_events, geometry_without_refresh, packet_events}
 use Rattle.switch_core.specs.PlanLanes.{LaneView, PipelineMakes, PipelineStands, PipelineView, upkeeps_at}
 use Rattle.switch_core.specs.declared.upkeep.Upkeep.TheVariants as due
-use Rattle.trace_drive.specs.Follows.{FollowsBy, Keeps}
-use Rattle.trace_drive.specs.Turns.{turn_at}
+use Rattle.trace_drive.specs.{Follows.{FollowsBy, Keeps}, Turns.turn_at}
 use Rattle.trace_drive.proofs.Following.{keeps_along, makes_keeps, packet_follows, upkeep_follows}
 
 run_on : (g : Geometry) (xs ys : List Event) (m : Machine) → run g (xs ++ ys) m ≡ run g ys (run g xs m)

@@ -1,11 +1,6 @@
 -- The packets of a trace have the words of all fields.
-use Rattle.std.proofs.Common.{◌≡◌, ℕ, List, length, sym, ◌∙◌}
-use Rattle.std.specs.List.{zip}
-use Rattle.std.proofs.lemmas.List.Elements.{All-map}
-use Rattle.marple_base.specs.Field.{all_fields}
-use Rattle.marple_base.specs.declared.field.FieldSet.{FieldSet}
-use Rattle.marple_base.specs.declared.field.Packet.{Packet}
-use Rattle.marple_base.specs.declared.field.TheConstants.{FIELDS}
+use Rattle.std.{proofs.{Common.{◌≡◌, ℕ, List, length, sym, ◌∙◌}, lemmas.List.Elements.All-map}, specs.List.zip}
+use Rattle.marple_base.specs.{Field.all_fields, declared.field.{FieldSet.FieldSet, Packet.Packet, TheConstants.FIELDS}}
 use Rattle.stage_plan.specs.Packets.{AreWhole}
 use Rattle.trace_drive.specs.Drives as drives
 use Rattle.trace_drive.proofs.EachPacket.{HoldsOfRead, each_long, each_packet, zip_long}

@@ -1,9 +1,7 @@
 -- What the answer of a run says where the run breaks off.
 use Rattle.std.specs.Prelude.{◌≡◌, ℕ, List, [], Option, Some, None}
-use Rattle.marple_base.specs.Faults.{Rose}
-use Rattle.marple_base.specs.Sink.{TakesFront}
-use Rattle.trace_drive.specs.declared.answer.RunError.{RunError}
-use Rattle.trace_drive.specs.declared.answer.RunError.TheVariants.{Refused, Memory, Failed}
+use Rattle.marple_base.specs.{Faults.Rose, Sink.TakesFront}
+use Rattle.trace_drive.specs.declared.answer.RunError.{RunError, TheVariants.{Refused, Memory, Failed}}
 use Rattle.trace_reader.specs.declared.fault.TraceAnswer.{TraceAnswer}
 use Rattle.trace_reader.specs.declared.fault.TraceAnswer.TheVariants as answers
 use Rattle.trace_reader.specs.declared.fault.TraceFault.{TraceFault}

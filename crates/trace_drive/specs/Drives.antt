@@ -1,15 +1,9 @@
 -- The machines at the end of a trace, and which packets it has.
 use Rattle.std.specs.Prelude.{ℕ, suc, List, [], ◌∷◌, length, map, drop, Option, None}
-use Rattle.epoch_model.specs.Driving.{uses_taken}
-use Rattle.epoch_model.specs.Epochs.{Use, Geometry}
-use Rattle.epoch_model.specs.Machine.{Machine, end_of}
+use Rattle.epoch_model.specs.{Driving.uses_taken, Epochs.{Use, Geometry}, Machine.{Machine, end_of}}
 use Rattle.marple_base.specs.declared.field.Packet.{Packet}
-use Rattle.stage_plan.specs.declared.group.GroupPlan.{GroupPlan}
-use Rattle.stage_plan.specs.Planned.{taken}
-use Rattle.stage_plan.specs.Sound.{PlanParts}
-use Rattle.trace_drive.specs.declared.packets.Packets.{Packets}
-use Rattle.trace_drive.specs.declared.packets.Packets.TheVariants.{Trace, Made, Kept}
-use Rattle.trace_drive.specs.declared.schedule.Schedule.{Schedule}
+use Rattle.stage_plan.specs.{declared.group.GroupPlan.GroupPlan, Planned.taken, Sound.PlanParts}
+use Rattle.trace_drive.specs.declared.{packets.Packets.{Packets, TheVariants.{Trace, Made, Kept}}, schedule.Schedule.Schedule}
 use Rattle.trace_reader.specs.declared.fault.TraceFault.{TraceFault}
 
 -- the packets still to come

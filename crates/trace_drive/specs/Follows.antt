@@ -1,7 +1,6 @@
 -- When the lanes of a pipeline are as far as the machines of a trace.
 use Rattle.std.specs.Prelude.{◌≡◌, ℕ, suc, List, [], ◌∷◌, length}
-use Rattle.epoch_model.specs.Laws.{SameEpochs}
-use Rattle.epoch_model.specs.Machine.{Machine}
+use Rattle.epoch_model.specs.{Laws.SameEpochs, Machine.Machine}
 use Rattle.switch_core.specs.PlanLanes.{PipelineStands, PipelineView, pipe_places}
 
 -- the machines have the epochs of those with the numbers from this one on

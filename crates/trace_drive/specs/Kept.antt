@@ -1,9 +1,6 @@
 -- Packets of which only some fields are kept.
 use Rattle.std.specs.Prelude.{◌*◌, ℕ, List, [], ◌∷◌, filter, get_or, length, map, replicate, set, if◌then◌else◌}
-use Rattle.marple_base.specs.Field.{all_fields, has_field, number_of}
-use Rattle.marple_base.specs.declared.field.Field.{Field}
-use Rattle.marple_base.specs.declared.field.FieldSet.{FieldSet}
-use Rattle.marple_base.specs.declared.field.Packet.{Packet}
+use Rattle.marple_base.specs.{Field.{all_fields, has_field, number_of}, declared.field.{Field.Field, FieldSet.FieldSet, Packet.Packet}}
 use Rattle.marple_base.specs.declared.field.TheConstants.{FIELDS}
 
 -- the fields that are kept, and the packets, which have 0 in all others

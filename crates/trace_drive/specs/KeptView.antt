@@ -1,9 +1,7 @@
 -- How the fields of `KeptPackets` show its packets.
 use Rattle.std.specs.Prelude.{◌≡◌, ◌*◌, ℕ, zero, suc, List, [], ◌∷◌, drop, length}
-use Rattle.trace_drive.specs.Kept.{Kept, fields_kept, packet_in}
-use Rattle.trace_drive.specs.declared.kept.KeptPackets.TheInside.{Inside}
-use Rattle.marple_base.specs.declared.field.Field.{Field}
-use Rattle.marple_base.specs.declared.field.Packet.{Packet}
+use Rattle.trace_drive.specs.{Kept.{Kept, fields_kept, packet_in}, declared.kept.KeptPackets.TheInside.Inside}
+use Rattle.marple_base.specs.declared.field.{Field.Field, Packet.Packet}
 
 -- this many packets, each of as many words as there are fields
 unfoldable pub packets_in : List Field → ℕ → List ℕ → List Packet

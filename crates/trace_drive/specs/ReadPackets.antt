@@ -3,10 +3,8 @@ use Rattle.std.specs.Prelude.{◌≡◌, ◌≤◌, ℕ, List, length, All}
 use Rattle.query_lang.specs.Words.{AreWords}
 use Rattle.marple_base.specs.declared.field.FieldSet.{FieldSet}
 use Rattle.stage_plan.specs.Packets.{AreWhole}
-use Rattle.trace_reader.specs.Traces.{packets}
-use Rattle.trace_reader.specs.declared.fault.TheConstants.{MAX_RECORDS}
-use Rattle.trace_drive.specs.Drives.{words_of}
-use Rattle.trace_drive.specs.Kept.{kept_of}
+use Rattle.trace_reader.specs.{Traces.packets, declared.fault.TheConstants.MAX_RECORDS}
+use Rattle.trace_drive.specs.{Drives.words_of, Kept.kept_of}
 
 -- Each field of each packet that is read from a trace is a word.
 abbrev pub ReadPacketsAreOfWords : Type 0

@@ -3,12 +3,8 @@ use Rattle.std.specs.Prelude.{◌≡◌, ◌+◌, ◌<◌, ◌≤◌, ℕ, suc, 
 use Rattle.epoch_model.specs.Machine.{after_packets}
 use Rattle.marple_base.specs.declared.field.Packet.{Packet}
 use Rattle.switch_core.specs.PlanLanes.{PipelineView, PipelineStands}
-use Rattle.trace_drive.specs.Clocks.{HasCounted}
-use Rattle.trace_drive.specs.Drives.{coming, end_machines, fault_of, geometry_for, uses_by, words_of}
-use Rattle.trace_drive.specs.Follows.{FollowsBy}
-use Rattle.trace_drive.specs.Turns.{Drains, MakesTurns}
-use Rattle.trace_drive.specs.declared.replay.Replay.{Replay}
-use Rattle.trace_drive.specs.declared.schedule.Schedule.{Schedule}
+use Rattle.trace_drive.specs.{Clocks.HasCounted, Drives.{coming, end_machines, fault_of, geometry_for, uses_by, words_of}}
+use Rattle.trace_drive.specs.{Follows.FollowsBy, Turns.{Drains, MakesTurns}, declared.{replay.Replay.Replay, schedule.Schedule.Schedule}}
 use Rattle.trace_reader.specs.declared.fault.TraceFault.{TraceFault}
 
 -- the pipeline, as it is after the packets that were taken

@@ -1,9 +1,7 @@
 -- Which events the lanes of a pipeline make for a packet.
 use Rattle.std.specs.Prelude.{◌≡◌, ℕ, suc, Bool, true, false, List, [], ◌∷◌, ◌++◌, if◌then◌else◌}
-use Rattle.epoch_model.specs.Epochs.{is_refresh}
-use Rattle.epoch_model.specs.Machine.{Event}
-use Rattle.switch_core.specs.Pipelines.{packet_events}
-use Rattle.switch_core.specs.PlanLanes.{PipelineMakes, PipelineView, upkeeps_at}
+use Rattle.epoch_model.specs.{Epochs.is_refresh, Machine.Event}
+use Rattle.switch_core.specs.{Pipelines.packet_events, PlanLanes.{PipelineMakes, PipelineView, upkeeps_at}}
 use Rattle.switch_core.specs.declared.upkeep.Upkeep.TheVariants as due
 
 -- a merge of the lane with this number, where the lag is over

@@ -1,15 +1,12 @@
 //! A trace on its way through a pipeline.
 
-ghost use Rattle.std.specs.Prelude.{◌≡◌, ◌≤◌, ℕ, None, Some, IfErr, IfOk, OnOk, false, true};
-ghost use Rattle.std.specs.List.{list_all};
+ghost use Rattle.std.specs.{Prelude.{◌≡◌, ◌≤◌, ℕ, None, Some, IfErr, IfOk, OnOk, false, true}, List.list_all};
 ghost use Rattle.epoch_model.specs.Machine.{Machine, empty_buckets};
 ghost use Rattle.switch_core.specs.Pipelines.{empty_machines, geometry_without_refresh};
 ghost use Rattle.switch_core.specs.PlanLanes.{AreKept, HavePlaces, PipelineStands, lane_is_drained};
-ghost use Rattle.trace_drive.specs.Drives.{coming, end_machines, fault_of, geometry_for, words_of};
-ghost use Rattle.trace_drive.specs.Follows.{FollowsBy, Keeps};
-ghost use Rattle.trace_drive.specs.Replays.{Advances, EndsInTurns, IsOnItsWay, IsUnderWay, MakesAllTurns, MakesTheirTurns};
-ghost use Rattle.trace_drive.specs.Replays.{ReachesTheEnd, TakesTheRest, replay_fault, replay_pipeline};
-ghost use Rattle.trace_drive.specs.Turns.{Drains, RunsInTurns};
+ghost use Rattle.trace_drive.specs.{Drives.{coming, end_machines, fault_of, geometry_for, words_of}, Follows.{FollowsBy, Keeps}};
+ghost use Rattle.trace_drive.specs.Replays.{Advances, EndsInTurns, IsOnItsWay, IsUnderWay, MakesAllTurns, MakesTheirTurns, ReachesTheEnd};
+ghost use Rattle.trace_drive.specs.{Replays.{TakesTheRest, replay_fault, replay_pipeline}, Turns.{Drains, RunsInTurns}};
 ghost use Rattle.trace_reader.specs.Faults.{IfRefused};
 
 use crate::clock::Clock;

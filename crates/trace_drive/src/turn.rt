@@ -1,15 +1,10 @@
 //! What happens for one packet.
 
-ghost use Rattle.std.specs.Prelude.{◌≡◌, ◌≤◌, ℕ, suc, OnOk, true};
-ghost use Rattle.std.specs.List.{list_all};
-ghost use Rattle.epoch_model.specs.Driving.{after_packet, event_of};
-ghost use Rattle.epoch_model.specs.Epochs.{is_refresh};
-ghost use Rattle.epoch_model.specs.Machine.{Machine, empty_buckets};
+ghost use Rattle.std.specs.{Prelude.{◌≡◌, ◌≤◌, ℕ, suc, OnOk, true}, List.list_all};
+ghost use Rattle.epoch_model.specs.{Driving.{after_packet, event_of}, Epochs.is_refresh, Machine.{Machine, empty_buckets}};
 ghost use Rattle.stage_plan.specs.Planned.{taken};
 ghost use Rattle.switch_core.specs.PlanLanes.{PipelineMakes, PipelineView, lane_is_ready, upkeeps_at};
-ghost use Rattle.trace_drive.specs.Clocks.{HasCounted};
-ghost use Rattle.trace_drive.specs.Follows.{FollowsBy, Keeps};
-ghost use Rattle.trace_drive.specs.Turns.{MakesTurn, lag_at};
+ghost use Rattle.trace_drive.specs.{Clocks.HasCounted, Follows.{FollowsBy, Keeps}, Turns.{MakesTurn, lag_at}};
 
 use crate::clock::Clock;
 use epoch_model::events_keep_alike;

@@ -1,22 +1,13 @@
 -- What a trace contains, in terms of what its pieces contain.
 use Rattle.std.proofs.Common.{◌≡◌, ◌≢◌, ℕ, suc, ◌+◌, Bool, true, false, cond, not, List, [], ◌∷◌, ◌++◌, length, Option, None, Some, Result}
-use Rattle.std.proofs.Common.{Ok, Err, refl, sym, ap, ◌∙◌, append_assoc, length-append, arith}
-use Rattle.std.specs.Prelude.{◌==◌, nat_lt, option_map}
-use Rattle.marple_base.specs.declared.field.Field.{Field}
-use Rattle.marple_base.specs.declared.field.FieldSet.{FieldSet}
-use Rattle.marple_base.specs.declared.field.Packet.{Packet}
-use Rattle.trace_reader.specs.Reading.{records}
-use Rattle.trace_reader.specs.Traces.{Contents, Layout, columns_of_fields, contents, contents_from, contents_with, layout_of, layout_with}
-use Rattle.trace_reader.specs.Traces.{opening, packet_of, packet_with, rest_of, with_packet}
-use Rattle.trace_reader.specs.Traces.{words_in_columns}
-use Rattle.trace_reader.specs.declared.fault.TheConstants.{MAX_RECORDS, MAX_TRACE}
-use Rattle.trace_reader.specs.declared.fault.TraceFault.{TraceFault}
+use Rattle.std.{proofs.Common.{Ok, Err, refl, sym, ap, ◌∙◌, append_assoc, length-append, arith}, specs.Prelude.{◌==◌, nat_lt, option_map}}
+use Rattle.marple_base.specs.declared.field.{Field.Field, FieldSet.FieldSet, Packet.Packet}
+use Rattle.trace_reader.specs.{Reading.records, Traces.{Contents, Layout, columns_of_fields, contents, contents_from, contents_with}}
+use Rattle.trace_reader.specs.Traces.{layout_of, layout_with, opening, packet_of, packet_with, rest_of, with_packet, words_in_columns}
+use Rattle.trace_reader.specs.declared.fault.{TheConstants.{MAX_RECORDS, MAX_TRACE}, TraceFault.TraceFault}
 use Rattle.trace_reader.specs.declared.fault.TraceFault.TheVariants as fault
-use Rattle.trace_pieces.specs.Faults.{after_records}
-use Rattle.trace_pieces.specs.Laws.{RunsReadTheWhole}
-use Rattle.trace_pieces.specs.Machine.{EndsBetween, IsHead, rows}
-use Rattle.trace_pieces.specs.Wholes.{all_contents, contents_by, contents_of, record_packet}
-use Rattle.trace_pieces.proofs.RowFacts.{rows_cut}
+use Rattle.trace_pieces.specs.{Faults.after_records, Laws.RunsReadTheWhole, Machine.{EndsBetween, IsHead, rows}}
+use Rattle.trace_pieces.{specs.Wholes.{all_contents, contents_by, contents_of, record_packet}, proofs.RowFacts.rows_cut}
 
 -- ---- one run
 

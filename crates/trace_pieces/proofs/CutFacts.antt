@@ -1,14 +1,10 @@
 -- Where a text can be cut.
-use Rattle.std.proofs.Common.{◌≡◌, ℕ, suc, zero, ◌+◌, ◌<◌, Bool, true, false, cond, List, [], ◌∷◌, ◌++◌, length, get_or, take, Option}
-use Rattle.std.proofs.Common.{None, Some, refl, ap, inl, inr, ◌∙◌, arith}
+use Rattle.std.proofs.Common.{◌≡◌, ℕ, suc, zero, ◌+◌, ◌<◌, Bool, true, false, cond, List, [], ◌∷◌, ◌++◌, length, get_or, take, Option, None}
+use Rattle.std.proofs.{Common.{Some, refl, ap, inl, inr, ◌∙◌, arith}, lemmas.{Bool.Decides.eqb_tells, List.take_more}}
 use Rattle.std.specs.Prelude.{◌==◌, is_some}
-use Rattle.std.proofs.lemmas.Bool.Decides.{eqb_tells}
-use Rattle.std.proofs.lemmas.List.{take_more}
 use Rattle.memchr.specs.Find.{IsFirstByte, IsLastByte, is_byte}
-use Rattle.csv.specs.Machine.{after_end, ends_at_end, ends_with, in_field, start_field}
-use Rattle.csv.specs.Reading.{default_config}
-use Rattle.csv.specs.declared.parser.Action.{Action}
-use Rattle.csv.specs.declared.parser.State.{State}
+use Rattle.csv.specs.{Machine.{after_end, ends_at_end, ends_with, in_field, start_field}, Reading.default_config}
+use Rattle.csv.specs.declared.parser.{Action.Action, State.State}
 use Rattle.csv.specs.declared.parser.State.TheVariants as st
 use Rattle.csv.specs.declared.parser.Terminator.TheVariants as term
 use Rattle.trace_pieces.specs.Machine.{IsCut, next_state, state_over}

@@ -1,22 +1,17 @@
 -- Where the first record of a text ends.
 use Rattle.std.proofs.Common.{◌≡◌, ◌↔◌, ℕ, suc, zero, ◌+◌, ◌<◌, ◌≤◌, Bool, true, false, cond, List, [], ◌∷◌, ◌++◌, length, get_or, take}
-use Rattle.std.proofs.Common.{drop, refl, sym, ap, subst, ◌∙◌, inl, inr, append_assoc, arith}
-use Rattle.std.specs.Prelude.{◌||◌, ◌&&◌, ◌==◌}
-use Rattle.std.proofs.lemmas.Bool.Decides.{eqb_tells}
-use Rattle.std.proofs.lemmas.List.{take_more}
-use Rattle.csv.specs.Machine.{after_end, ends_at_end, field_after, fields_after, is_end}
-use Rattle.csv.specs.Reading.{is_bom, strip_bom}
+use Rattle.std.proofs.{Common.{drop, refl, sym, ap, subst, ◌∙◌, inl, inr, append_assoc, arith}, lemmas.Bool.Decides.eqb_tells}
+use Rattle.std.{proofs.lemmas.List.take_more, specs.Prelude.{◌||◌, ◌&&◌, ◌==◌}}
+use Rattle.csv.specs.{Machine.{after_end, ends_at_end, field_after, fields_after, is_end}, Reading.{is_bom, strip_bom}}
 use Rattle.csv.specs.declared.parser.Action.{Action}
 use Rattle.csv.specs.declared.parser.Action.TheVariants as act
 use Rattle.csv.specs.declared.parser.State.{State}
 use Rattle.csv.specs.declared.parser.State.TheVariants as st
 use Rattle.csv.specs.declared.parser.Terminator.TheVariants as term
 use Rattle.csv.specs.Reading.{default_config}
-use Rattle.trace_reader.proofs.MarkFacts.{first_plain}
-use Rattle.trace_reader.proofs.ReadingFacts.{settles}
+use Rattle.trace_reader.proofs.{MarkFacts.first_plain, ReadingFacts.settles}
 use Rattle.trace_reader.proofs.RowFacts.{cr_same, does, ending, from_between, going, rows_are, rows_from}
-use Rattle.trace_pieces.specs.Machine.{IsHead, mark_len, rows}
-use Rattle.trace_pieces.proofs.RowFacts.{IsPlain, IsTidy, leads, tidy_start, tidy_step}
+use Rattle.trace_pieces.{specs.Machine.{IsHead, mark_len, rows}, proofs.RowFacts.{IsPlain, IsTidy, leads, tidy_start, tidy_step}}
 
 -- ---- which bytes end a record
 

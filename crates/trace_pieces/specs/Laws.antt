@@ -3,8 +3,7 @@ use Rattle.std.specs.Prelude.{◌≡◌, ◌≢◌, ◌++◌, ℕ, List, Some}
 use Rattle.marple_base.specs.declared.field.FieldSet.{FieldSet}
 use Rattle.trace_reader.specs.Traces.{contents, trace_fault}
 use Rattle.trace_reader.specs.declared.fault.TraceFault.TheVariants as fault
-use Rattle.trace_pieces.specs.Machine.{EndsBetween, rows}
-use Rattle.trace_pieces.specs.Wholes.{all_contents}
+use Rattle.trace_pieces.specs.{Machine.{EndsBetween, rows}, Wholes.all_contents}
 
 -- Where a trace is within the two limits of one run, one run reads all of it: the same packets and the same first fault.
 abbrev pub RunsReadTheWhole : Type 0

@@ -1,8 +1,7 @@
 -- Where a text of CSV is between two records.
 use Rattle.std.specs.Prelude.{◌≡◌, ℕ, ◌≤◌, false, List, [], ◌∷◌, ◌++◌, if◌then◌else◌, length, take}
 use Rattle.csv.specs.Machine as csv
-use Rattle.csv.specs.Reading.{default_config, is_bom}
-use Rattle.csv.specs.declared.parser.State.{State}
+use Rattle.csv.specs.{Reading.{default_config, is_bom}, declared.parser.State.State}
 use Rattle.csv.specs.declared.parser.State.TheVariants as st
 use Rattle.trace_reader.specs.Reading.{records, records_after}
 use Rattle.trace_pieces.specs.declared.scan.Place.{Place}

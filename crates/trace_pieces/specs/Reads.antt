@@ -1,6 +1,5 @@
 -- What reading did.
-use Rattle.std.specs.Prelude.{◌≡◌, ℕ, ◌≤◌, Bool, true, false, List, ◌++◌, length, Option}
-use Rattle.std.specs.Io.KnownBytes.{Consumes, IsAtEnd}
+use Rattle.std.specs.{Prelude.{◌≡◌, ℕ, ◌≤◌, Bool, true, false, List, ◌++◌, length, Option}, Io.KnownBytes.{Consumes, IsAtEnd}}
 
 -- the bytes go on with those that the input no longer has
 pub record Goes (left_before left_after : Option (List ℕ)) (before after : List ℕ) : Type 0 where

@@ -1,9 +1,7 @@
 -- What a trace of any length contains: as in one run, without the two limits of one run.
 use Rattle.std.specs.Prelude.{ℕ, ◌+◌, ◌==◌, not, if◌then◌else◌, List, [], ◌∷◌, length, Option, None, Some, Result, Ok, Err}
-use Rattle.marple_base.specs.declared.field.FieldSet.{FieldSet}
-use Rattle.marple_base.specs.declared.field.Packet.{Packet}
-use Rattle.trace_reader.specs.Reading.{records}
-use Rattle.trace_reader.specs.Traces.{Contents, Layout, layout_of, packet_with, rest_of, with_packet, words_in_columns}
+use Rattle.marple_base.specs.declared.field.{FieldSet.FieldSet, Packet.Packet}
+use Rattle.trace_reader.specs.{Reading.records, Traces.{Contents, Layout, layout_of, packet_with, rest_of, with_packet, words_in_columns}}
 use Rattle.trace_reader.specs.declared.fault.TraceFault.{TraceFault}
 use Rattle.trace_reader.specs.declared.fault.TraceFault.TheVariants as fault
 

@@ -1,8 +1,7 @@
 //! The bytes of a trace, piece by piece.
 
 ghost use Rattle.std.specs.Prelude.{◌≡◌, ◌≤◌, IfOk, IsErrOf};
-ghost use Rattle.marple_base.specs.Faults.{Rose};
-ghost use Rattle.marple_base.specs.Inputs.{IsOpen};
+ghost use Rattle.marple_base.specs.{Faults.Rose, Inputs.IsOpen};
 ghost use Rattle.trace_pieces.specs.Reads.{Fills};
 
 use marple_base::{Inputs, ReadAnswer, Which};

@@ -1,17 +1,12 @@
 -- What a range keeps ends between two records, or the next range keeps nothing.
-use Rattle.std.proofs.Common.{◌≡◌, ◌⊎◌, ℕ, ◌-◌, ◌≤◌, Bool, true, false, cond, not, List, [], ◌∷◌, refl, sym}
-use Rattle.std.proofs.Common.{ap, ◌∙◌, subst, inl, inr, arith}
-use Rattle.csv.specs.Machine.{ends_at_end}
-use Rattle.csv.specs.declared.parser.State.{State}
+use Rattle.std.proofs.Common.{◌≡◌, ◌⊎◌, ℕ, ◌-◌, ◌≤◌, Bool, true, false, cond, not, List, [], ◌∷◌, refl, sym, ap, ◌∙◌, subst, inl, inr}
+use Rattle.std.proofs.Common.{arith}
+use Rattle.csv.specs.{Machine.ends_at_end, declared.parser.State.State}
 use Rattle.csv.specs.declared.parser.State.TheVariants as st
 use Rattle.trace_reader.proofs.RowFacts.{cr_same}
-use Rattle.trace_pieces.specs.Machine.{next_state, state_of, state_over}
-use Rattle.trace_pieces.specs.declared.scan.Place.{Place}
-use Rattle.trace_ranges.specs.Ranges.{begins, kept}
-use Rattle.trace_ranges.specs.Spots.{is_between, place_after}
-use Rattle.trace_ranges.proofs.PlaceFacts.{state_after}
-use Rattle.trace_ranges.proofs.RangeFacts.{AreApart, apart_after}
-use Rattle.trace_ranges.proofs.WindowFacts.{begun, past_kept}
+use Rattle.trace_pieces.specs.{Machine.{next_state, state_of, state_over}, declared.scan.Place.Place}
+use Rattle.trace_ranges.{specs.{Ranges.{begins, kept}, Spots.{is_between, place_after}}, proofs.PlaceFacts.state_after}
+use Rattle.trace_ranges.proofs.{RangeFacts.{AreApart, apart_after}, WindowFacts.{begun, past_kept}}
 
 -- the same state, or both between two records
 abbrev AreLike : State → State → Type 0

@@ -1,26 +1,17 @@
 -- Where the header of a trace ends.
 use Rattle.std.proofs.Common.{◌≡◌, ◌⊎◌, ℕ, ◌-◌, ◌==◌, ◌&&◌, Bool, true, false, cond, not, List, [], ◌∷◌, ◌++◌, length, refl, sym, ap, ◌∙◌}
-use Rattle.std.proofs.Common.{subst, inl, inr, append_assoc, append-nil, arith}
-use Rattle.std.proofs.lemmas.Bool.Decides.{eqb_tells}
-use Rattle.csv.specs.Machine.{ends_at_end, fields_after, is_end}
-use Rattle.csv.specs.Reading.{strip_bom}
-use Rattle.csv.specs.declared.parser.State.{State}
+use Rattle.std.proofs.{Common.{subst, inl, inr, append_assoc, append-nil, arith}, lemmas.Bool.Decides.eqb_tells}
+use Rattle.csv.specs.{Machine.{ends_at_end, fields_after, is_end}, Reading.strip_bom, declared.parser.State.State}
 use Rattle.csv.specs.declared.parser.State.TheVariants as st
-use Rattle.trace_reader.proofs.MarkFacts.{first_plain}
-use Rattle.trace_reader.proofs.RowFacts.{does, ending, from_between, rows_are, rows_from}
-use Rattle.trace_reader.specs.Reading.{records}
+use Rattle.trace_reader.{proofs.{MarkFacts.first_plain, RowFacts.{does, ending, from_between, rows_are, rows_from}}, specs.Reading.records}
 use Rattle.trace_reader.specs.Traces.{rest_of}
 use Rattle.trace_pieces.proofs.HeadFacts.{Inside, inside_more, inside_start, none_between, none_inside, some_end}
-use Rattle.trace_pieces.specs.Machine.{IsHead, rows, state_of}
-use Rattle.trace_pieces.specs.declared.scan.Place.{Place}
+use Rattle.trace_pieces.specs.{Machine.{IsHead, rows, state_of}, declared.scan.Place.Place}
 use Rattle.trace_pieces.specs.declared.scan.Place.TheVariants as place
-use Rattle.trace_ranges.specs.Ranges.{begins, kept}
-use Rattle.trace_ranges.specs.Spots.{in_header, is_between, is_cut, place_after, spot_after}
+use Rattle.trace_ranges.specs.{Ranges.{begins, kept}, Spots.{in_header, is_between, is_cut, place_after, spot_after}}
 use Rattle.trace_ranges.specs.declared.spot.Spot.{Spot}
 use Rattle.trace_ranges.specs.declared.spot.Spot.TheVariants as spot
-use Rattle.trace_ranges.specs.declared.window.Window.{Window}
-use Rattle.trace_ranges.proofs.PlaceFacts.{state_after}
-use Rattle.trace_ranges.proofs.WindowFacts.{begun, kept_cons, kept_none}
+use Rattle.trace_ranges.{specs.declared.window.Window.Window, proofs.{PlaceFacts.state_after, WindowFacts.{begun, kept_cons, kept_none}}}
 
 -- A text that begins so is, without a byte order mark, this one, and goes on.
 abbrev Strips : List ℕ → List ℕ → Type 0

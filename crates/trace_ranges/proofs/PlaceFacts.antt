@@ -1,19 +1,13 @@
 -- The places of a reader of CSV.
-use Rattle.std.proofs.Common.{◌≡◌, ◌↔◌, ℕ, zero, suc, ◌+◌, ◌<◌, ◌==◌, Bool, true, false, cond, not, List, []}
-use Rattle.std.proofs.Common.{◌∷◌, ◌++◌, length, get_or, take}
-use Rattle.std.proofs.Common.{drop, refl, sym, ap, ◌∙◌, inl, inr, arith, Some}
-use Rattle.std.proofs.lemmas.Bool.Decides.{eqb_tells}
+use Rattle.std.proofs.Common.{◌≡◌, ◌↔◌, ℕ, zero, suc, ◌+◌, ◌<◌, ◌==◌, Bool, true, false, cond, not, List, [], ◌∷◌, ◌++◌, length, get_or}
+use Rattle.std.proofs.{Common.{take, drop, refl, sym, ap, ◌∙◌, inl, inr, arith, Some}, lemmas.Bool.Decides.eqb_tells}
 use Rattle.std.proofs.lemmas.List.{take-append-drop, take_more}
 use Rattle.memchr.specs.Find.{IsLastByte, is_byte}
-use Rattle.csv.specs.Machine.{after_end, ends_at_end, ends_with, in_field, start_field, start_record}
-use Rattle.csv.specs.Reading.{default_config}
-use Rattle.csv.specs.declared.parser.Action.{Action}
-use Rattle.csv.specs.declared.parser.State.{State}
+use Rattle.csv.specs.{Machine.{after_end, ends_at_end, ends_with, in_field, start_field, start_record}, Reading.default_config}
+use Rattle.csv.specs.declared.parser.{Action.Action, State.State}
 use Rattle.csv.specs.declared.parser.State.TheVariants as st
 use Rattle.csv.specs.declared.parser.Terminator.TheVariants as term
-use Rattle.trace_pieces.proofs.CutFacts.{HasNoQuote}
-use Rattle.trace_pieces.specs.Machine.{next_state, state_of}
-use Rattle.trace_pieces.specs.declared.scan.Place.{Place}
+use Rattle.trace_pieces.{proofs.CutFacts.HasNoQuote, specs.{Machine.{next_state, state_of}, declared.scan.Place.Place}}
 use Rattle.trace_pieces.specs.declared.scan.Place.TheVariants as place
 use Rattle.trace_ranges.specs.Spots.{is_between, is_quoted, place_after, place_of, place_over}
 

@@ -1,12 +1,9 @@
 -- Ranges that are next to one another.
 use Rattle.std.proofs.Common.{◌≡◌, ℕ, zero, suc, ◌+◌, ◌-◌, ◌≤◌, ◌==◌, Bool, true, false, cond, ◌&&◌, ◌||◌, List, [], ◌∷◌, ◌++◌, length}
-use Rattle.std.proofs.Common.{refl, sym, ap, ◌∙◌, inl, inr, arith}
+use Rattle.std.proofs.{Common.{refl, sym, ap, ◌∙◌, inl, inr, arith}, lemmas.Bool.{true≢false, Decides.{eqb_tells, nat_tests}}}
 use Rattle.std.specs.Prelude.{nat_lt}
-use Rattle.std.proofs.lemmas.Bool.{true≢false}
-use Rattle.std.proofs.lemmas.Bool.Decides.{eqb_tells, nat_tests}
 use Rattle.trace_pieces.specs.declared.scan.Place.{Place}
-use Rattle.trace_ranges.specs.Ranges.{begins, kept}
-use Rattle.trace_ranges.specs.Spots.{is_between, place_after}
+use Rattle.trace_ranges.specs.{Ranges.{begins, kept}, Spots.{is_between, place_after}}
 use Rattle.trace_ranges.proofs.WindowFacts.{begins_now, begun, kept_none, past_kept}
 
 -- the second range keeps only bytes after those of the first one

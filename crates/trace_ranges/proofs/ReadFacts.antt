@@ -1,9 +1,7 @@
 -- What is read of what is kept.
-use Rattle.std.proofs.Common.{◌≡◌, ℕ, true, List, [], ◌++◌, Option, Some, None, sym, ap, ◌∙◌, subst}
-use Rattle.std.specs.Prelude.{option_map}
+use Rattle.std.{proofs.Common.{◌≡◌, ℕ, true, List, [], ◌++◌, Option, Some, None, sym, ap, ◌∙◌, subst}, specs.Prelude.option_map}
 use Rattle.std.specs.Io.KnownBytes.{Consumes, IsAtEnd, Keeps}
-use Rattle.trace_ranges.specs.Ranges.{is_past, kept, window_over}
-use Rattle.trace_ranges.specs.declared.window.Window.{Window}
+use Rattle.trace_ranges.specs.{Ranges.{is_past, kept, window_over}, declared.window.Window.Window}
 use Rattle.trace_ranges.proofs.WindowFacts.{kept_append, kept_none, past_gives}
 
 -- the known bytes that are kept

@@ -1,22 +1,15 @@
 -- Ranges next to one another have the packets of the range that they are together.
-use Rattle.std.proofs.Common.{◌≡◌, ◌⊎◌, ℕ, ◌+◌, ◌-◌, ◌≤◌, List, [], ◌∷◌, ◌++◌, length, Option, None, Some, Result, Ok, Err, refl, sym}
-use Rattle.std.proofs.Common.{ap, ◌∙◌, subst, inl, inr, append-nil, length-append, arith}
-use Rattle.marple_base.specs.declared.field.FieldSet.{FieldSet}
-use Rattle.marple_base.specs.declared.field.Packet.{Packet}
+use Rattle.std.proofs.Common.{◌≡◌, ◌⊎◌, ℕ, ◌+◌, ◌-◌, ◌≤◌, List, [], ◌∷◌, ◌++◌, length, Option, None, Some, Result, Ok, Err, refl, sym, ap}
+use Rattle.std.proofs.Common.{◌∙◌, subst, inl, inr, append-nil, length-append, arith}
+use Rattle.marple_base.specs.declared.field.{FieldSet.FieldSet, Packet.Packet}
 use Rattle.csv.specs.declared.parser.State.TheVariants as st
-use Rattle.trace_reader.specs.Reading.{records}
-use Rattle.trace_reader.specs.Traces.{Contents, Layout, layout_of, rest_of}
-use Rattle.trace_reader.specs.declared.fault.TraceFault.{TraceFault}
-use Rattle.trace_pieces.proofs.ContentFacts.{after, after_none, piece_refused, piece_sent}
-use Rattle.trace_pieces.specs.Machine.{EndsBetween, IsHead}
+use Rattle.trace_reader.specs.{Reading.records, Traces.{Contents, Layout, layout_of, rest_of}, declared.fault.TraceFault.TraceFault}
+use Rattle.trace_pieces.{proofs.ContentFacts.{after, after_none, piece_refused, piece_sent}, specs.Machine.{EndsBetween, IsHead}}
 use Rattle.trace_pieces.specs.Wholes.{all_contents, all_packets, contents_by, contents_of, first_fault}
-use Rattle.trace_ranges.specs.Laws.{AreBounds, NoneIsFaulty, RangesAreTheTrace, packets_of_ranges}
-use Rattle.trace_ranges.specs.Ranges.{begins, kept, range_text}
+use Rattle.trace_ranges.specs.{Laws.{AreBounds, NoneIsFaulty, RangesAreTheTrace, packets_of_ranges}, Ranges.{begins, kept, range_text}}
 use Rattle.trace_ranges.specs.declared.spot.Spot.TheVariants as spot
-use Rattle.trace_ranges.proofs.EndFacts.{ends_or_none, first_reader}
-use Rattle.trace_ranges.proofs.HeaderFacts.{HasHeader, HasNoRecords, header_of}
-use Rattle.trace_ranges.proofs.RangeFacts.{begins_apart, ranges_have_all, ranges_join}
-use Rattle.trace_ranges.proofs.WindowFacts.{begun}
+use Rattle.trace_ranges.proofs.{EndFacts.{ends_or_none, first_reader}, HeaderFacts.{HasHeader, HasNoRecords, header_of}}
+use Rattle.trace_ranges.proofs.{RangeFacts.{begins_apart, ranges_have_all, ranges_join}, WindowFacts.begun}
 
 -- ---- a header, and nothing after it
 

@@ -1,11 +1,7 @@
 -- What is kept of bytes after bytes.
-use Rattle.std.proofs.Common.{◌≡◌, ℕ, zero, suc, ◌+◌, ◌-◌, ◌<◌, ◌==◌, Bool, true, false, ◌&&◌, not, List, []}
-use Rattle.std.proofs.Common.{◌∷◌, ◌++◌, length, get_or, set, take}
-use Rattle.std.proofs.Common.{refl, sym, ap, ◌∙◌, inl, inr, arith}
-use Rattle.std.specs.Prelude.{if◌then◌else◌}
-use Rattle.std.proofs.lemmas.Bool.{true≢false}
-use Rattle.std.proofs.lemmas.Bool.Decides.{eqb_tells, nat_tests}
-use Rattle.std.proofs.lemmas.List.{append-nil, take_more, take_more_set}
+use Rattle.std.proofs.Common.{◌≡◌, ℕ, zero, suc, ◌+◌, ◌-◌, ◌<◌, ◌==◌, Bool, true, false, ◌&&◌, not, List, [], ◌∷◌, ◌++◌, length, get_or}
+use Rattle.std.proofs.{Common.{set, take, refl, sym, ap, ◌∙◌, inl, inr, arith}, lemmas.Bool.{true≢false, Decides.{eqb_tells, nat_tests}}}
+use Rattle.std.{proofs.lemmas.List.{append-nil, take_more, take_more_set}, specs.Prelude.if◌then◌else◌}
 use Rattle.trace_pieces.specs.declared.scan.Place.{Place}
 use Rattle.trace_ranges.specs.Spots.{is_between, is_cut, place_after, place_over, spot_after}
 use Rattle.trace_ranges.specs.Ranges.{begins, if_kept, is_past, kept, window_after, window_over}

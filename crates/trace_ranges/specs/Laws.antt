@@ -1,7 +1,6 @@
 -- The law of ranges.
 use Rattle.std.specs.Prelude.{◌≡◌, ◌≤◌, ℕ, List, [], ◌∷◌, ◌++◌, None, length, ⊤}
-use Rattle.marple_base.specs.declared.field.FieldSet.{FieldSet}
-use Rattle.marple_base.specs.declared.field.Packet.{Packet}
+use Rattle.marple_base.specs.declared.field.{FieldSet.FieldSet, Packet.Packet}
 use Rattle.trace_pieces.specs.Wholes.{all_contents, all_packets, first_fault}
 use Rattle.trace_ranges.specs.Ranges.{range_text}
 

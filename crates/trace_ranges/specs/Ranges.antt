@@ -1,13 +1,8 @@
 -- The header of a trace, and its records that begin in a range of its bytes.
-use Rattle.std.specs.Prelude.{ℕ, ◌-◌, ◌==◌, ◌&&◌, Bool, true, false, nat_lt, not, List, [], ◌∷◌, fold, if◌then◌else◌}
-use Rattle.std.specs.Prelude.{Option, None, Some}
+use Rattle.std.specs.Prelude.{ℕ, ◌-◌, ◌==◌, ◌&&◌, Bool, true, false, nat_lt, not, List, [], ◌∷◌, fold, if◌then◌else◌, Option, None, Some}
 use Rattle.std.specs.Option.{option_map}
-use Rattle.marple_base.specs.Inputs.{Input}
-use Rattle.marple_base.specs.declared.inputs.Which.{Which}
-use Rattle.marple_base.specs.declared.inputs.Which.TheVariants.{Query, Trace}
-use Rattle.trace_ranges.specs.Spots.{is_cut, spot_after}
-use Rattle.trace_ranges.specs.declared.ranged.Range.{Range}
-use Rattle.trace_ranges.specs.declared.ranged.Ranged.{Ranged}
+use Rattle.marple_base.specs.{Inputs.Input, declared.inputs.Which.{Which, TheVariants.{Query, Trace}}}
+use Rattle.trace_ranges.specs.{Spots.{is_cut, spot_after}, declared.ranged.{Range.Range, Ranged.Ranged}}
 use Rattle.trace_ranges.specs.declared.spot.Spot.TheVariants as spot
 use Rattle.trace_ranges.specs.declared.window.Window.{Window}
 

@@ -1,10 +1,8 @@
 -- Where a trace is between two records that come after its header.
 use Rattle.std.specs.Prelude.{ℕ, ◌==◌, ◌&&◌, Bool, true, false, not, List, fold, if◌then◌else◌}
-use Rattle.csv.specs.Machine.{ends_at_end}
-use Rattle.csv.specs.declared.parser.State.{State}
+use Rattle.csv.specs.{Machine.ends_at_end, declared.parser.State.State}
 use Rattle.csv.specs.declared.parser.State.TheVariants as st
-use Rattle.trace_pieces.specs.Machine.{next_state, state_of}
-use Rattle.trace_pieces.specs.declared.scan.Place.{Place}
+use Rattle.trace_pieces.specs.{Machine.{next_state, state_of}, declared.scan.Place.Place}
 use Rattle.trace_pieces.specs.declared.scan.Place.TheVariants as place
 use Rattle.trace_ranges.specs.declared.spot.Spot.{Spot}
 use Rattle.trace_ranges.specs.declared.spot.Spot.TheVariants as spot

@@ -1,11 +1,7 @@
 //! Inputs of which a range of the trace is given.
 
-ghost use Rattle.std.specs.Prelude.{◌≡◌, ◌<◌, All, length, map};
-ghost use Rattle.std.specs.Io.{ReadsAtMost};
-ghost use Rattle.std.specs.Io.KnownBytes.{ReadConsumes};
-ghost use Rattle.marple_base.specs.Faults.{HasCause};
-ghost use Rattle.marple_base.specs.Inputs.{IsOpen, other};
-ghost use Rattle.marple_base.specs.declared.inputs.Which.TheVariants.{Query, Trace};
+ghost use Rattle.std.specs.{Prelude.{◌≡◌, ◌<◌, All, length, map}, Io.{ReadsAtMost, KnownBytes.ReadConsumes}};
+ghost use Rattle.marple_base.specs.{Faults.HasCause, Inputs.{IsOpen, other}, declared.inputs.Which.TheVariants.{Query, Trace}};
 ghost use Rattle.trace_ranges.specs.Ranges.{kept_input, ranged, windowed, window_for};
 
 use crate::window::Window;

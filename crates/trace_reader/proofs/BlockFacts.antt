@@ -1,15 +1,9 @@
 -- Digits that are read eight or four at once.
 use Rattle.std.proofs.Common.{◌≡◌, ℕ, zero, suc, ◌+◌, ◌-◌, ◌*◌, ◌/◌, ◌%◌, ◌^◌, ◌<◌, ◌≤◌, true, List, length, get_or, refl, sym, ap, ◌∙◌}
-use Rattle.std.proofs.Common.{arith}
-use Rattle.std.specs.Prelude.{bit_and, bit_or, min, max}
-use Rattle.std.specs.Char.{is_ascii_digit}
-use Rattle.std.specs.Int.{bit_at}
-use Rattle.std.proofs.Math.Nat.{div-div-eq-div-mul, mul_assoc, pow-succ'}
-use Rattle.std.proofs.lemmas.Bool.Decides.{nat_tests}
-use Rattle.std.proofs.lemmas.Nat.{and_block, and_mask, pow-add}
-use Rattle.std.proofs.lemmas.Nat.Bits.{bit_at_and, bit_at_or, bit_at-zero}
-use Rattle.trace_reader.specs.Blocks.{IsFront}
-use Rattle.trace_reader.proofs.NumberFacts.{digits_value_digit, list_all_digit}
+use Rattle.std.proofs.{Common.arith, Math.Nat.{div-div-eq-div-mul, mul_assoc, pow-succ'}, lemmas.Bool.Decides.nat_tests}
+use Rattle.std.proofs.lemmas.Nat.{and_block, and_mask, pow-add, Bits.{bit_at_and, bit_at_or, bit_at-zero}}
+use Rattle.std.specs.{Prelude.{bit_and, bit_or, min, max}, Char.is_ascii_digit, Int.bit_at}
+use Rattle.trace_reader.{specs.Blocks.IsFront, proofs.NumberFacts.{digits_value_digit, list_all_digit}}
 
 -- no byte is read
 pub front_none : (text : List ℕ) → IsFront text 0 0

@@ -1,14 +1,9 @@
 -- The byte order mark at the start of a text, and the places between two records.
 use Rattle.std.proofs.Common.{◌≡◌, ℕ, ◌+◌, ◌-◌, ◌<◌, ◌≤◌, true, false, List, [], ◌∷◌, length, get_or, drop, refl, sym, ap, subst, ◌∙◌, inl}
-use Rattle.std.proofs.Common.{inr, arith}
-use Rattle.std.specs.Prelude.{◌==◌}
-use Rattle.std.proofs.lemmas.Bool.Decides.{eqb_tells}
-use Rattle.std.proofs.lemmas.List.{drop_more}
+use Rattle.std.{proofs.{Common.{inr, arith}, lemmas.{Bool.Decides.eqb_tells, List.drop_more}}, specs.Prelude.{◌==◌}}
 use Rattle.csv.specs.Reading.{is_bom, strip_bom}
 use Rattle.csv.specs.declared.parser.State.TheVariants as st
-use Rattle.trace_reader.specs.Plain.{ends_line}
-use Rattle.trace_reader.specs.Reading.{records, records_after}
-use Rattle.trace_reader.proofs.PlainFacts.{skip_line_end}
+use Rattle.trace_reader.{specs.{Plain.ends_line, Reading.{records, records_after}}, proofs.PlainFacts.skip_line_end}
 
 pub mark_goes : (text : List ℕ) → 3 ≤ length text → is_bom (get_or text 0 0) (get_or text 1 0) (get_or text 2 0) ≡ true
     → drop 3 text ≡ strip_bom text

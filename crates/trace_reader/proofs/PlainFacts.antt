@@ -1,21 +1,16 @@
 -- Fields and records that stand in a text.
 use Rattle.std.proofs.Common.{◌≡◌, ℕ, suc, zero, ◌+◌, ◌-◌, ◌<◌, ◌≤◌, Bool, true, false, cond, List, [], ◌∷◌, ◌++◌, length, get_or, take}
 use Rattle.std.proofs.Common.{drop, Option, Some, None, refl, sym, ap, inl, inr, ◌∙◌, append_assoc, arith, length-drop}
-use Rattle.std.specs.Prelude.{◌||◌, ◌==◌, nat_le, All, IfSome}
 use Rattle.std.proofs.lemmas.Bool.Decides.{eqb_tells, leb_tells, nat_tests}
 use Rattle.std.proofs.lemmas.List.{append-nil, drop-drop, drop_more, get_or-drop, map-append}
-use Rattle.csv.specs.Machine.{after_end}
-use Rattle.csv.specs.Records.{field_at}
-use Rattle.csv.specs.declared.parser.Action.{Action}
+use Rattle.std.specs.Prelude.{◌||◌, ◌==◌, nat_le, All, IfSome}
+use Rattle.csv.specs.{Machine.after_end, Records.field_at, declared.parser.Action.Action}
 use Rattle.csv.specs.declared.parser.Action.TheVariants as act
 use Rattle.csv.specs.declared.parser.State.{State}
 use Rattle.csv.specs.declared.parser.State.TheVariants as st
 use Rattle.csv.specs.declared.parser.Terminator.TheVariants as term
-use Rattle.trace_reader.specs.Plain.{IsEnd, IsField, IsInside, IsRecord, ends_field, ends_line, fields_at, part_of}
-use Rattle.trace_reader.specs.Reading.{records_after}
-use Rattle.trace_reader.specs.Traces.{field_text_at}
-use Rattle.trace_reader.specs.declared.plain.Span.{Span}
-use Rattle.trace_reader.proofs.ReadingFacts.{after_end_between}
+use Rattle.trace_reader.specs.{Plain.{IsEnd, IsField, IsInside, IsRecord, ends_field, ends_line, fields_at, part_of}, Reading.records_after}
+use Rattle.trace_reader.{specs.{Traces.field_text_at, declared.plain.Span.Span}, proofs.ReadingFacts.after_end_between}
 use Rattle.trace_reader.proofs.RowFacts.{does, from_between, rows_are, rows_from, same_step}
 
 -- ---- what a byte does

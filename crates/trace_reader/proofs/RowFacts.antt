@@ -1,10 +1,8 @@
 -- The records of a text, byte by byte.
 use Rattle.std.proofs.Common.{◌≡◌, ℕ, suc, zero, ◌≤◌, Bool, true, false, cond, List, [], ◌∷◌, ◌++◌, length, Some, None, refl, ap, ◌∙◌}
-use Rattle.std.proofs.Common.{add-one, arith}
-use Rattle.std.specs.Prelude.{◌||◌, ◌==◌}
+use Rattle.std.{proofs.Common.{add-one, arith}, specs.Prelude.{◌||◌, ◌==◌}}
 use Rattle.csv.specs.Machine.{ends_at_end, field_after, fields_after, is_end, next_record, start_field, step}
-use Rattle.csv.specs.Reading.{default_config, records_from, records_next}
-use Rattle.csv.specs.declared.parser.Action.{Action}
+use Rattle.csv.specs.{Reading.{default_config, records_from, records_next}, declared.parser.Action.Action}
 use Rattle.csv.specs.declared.parser.Action.TheVariants as act
 use Rattle.csv.specs.declared.parser.State.{State}
 use Rattle.csv.specs.declared.parser.State.TheVariants as st

@@ -1,9 +1,7 @@
 -- Bytes that surely go on in a field, eight at once.
 use Rattle.std.proofs.Common.{◌≡◌, ℕ, suc, zero, ◌+◌, ◌-◌, ◌*◌, ◌/◌, ◌%◌, ◌^◌, ◌<◌, ◌≤◌, List, get_or, sym, ap, ◌∙◌, inl, inr, arith}
-use Rattle.std.specs.Prelude.{bit_and, min}
-use Rattle.std.specs.Int.{bit_at, bit_not, trailing_zeros, w64}
-use Rattle.std.proofs.lemmas.Bool.Decides.{leb_tells}
-use Rattle.std.proofs.lemmas.Nat.Bits.{bit_at_and, bit_at_not, bit_at-lt, bit_at-trailing_zeros, bit_at-zero}
+use Rattle.std.proofs.lemmas.{Bool.Decides.leb_tells, Nat.Bits.{bit_at_and, bit_at_not, bit_at-lt, bit_at-trailing_zeros, bit_at-zero}}
+use Rattle.std.specs.{Prelude.{bit_and, min}, Int.{bit_at, bit_not, trailing_zeros, w64}}
 use Rattle.trace_reader.proofs.BlockFacts.{byte_before, byte_more, bytes_word, mask_bit}
 
 -- a bit of the mask that isn't marked is set in the word, or clear in the difference

@@ -1,17 +1,11 @@
 -- What one call of `next` takes off what is still to come.
 use Rattle.std.proofs.Common.{◌≡◌, ℕ, ◌+◌, ◌<◌, ◌≤◌, Bool, true, false, cond, length, List, [], ◌∷◌, Option, Some, None, Ok, Err, refl, sym}
-use Rattle.std.proofs.Common.{ap, ◌∙◌, arith}
-use Rattle.std.specs.Prelude.{nat_lt}
-use Rattle.std.proofs.lemmas.Bool.Decides.{nat_tests}
-use Rattle.marple_base.specs.declared.field.Packet.{Packet}
-use Rattle.marple_base.specs.declared.field.FieldSet.{FieldSet}
-use Rattle.trace_reader.specs.Reading.{records}
-use Rattle.trace_reader.specs.Traces.{Contents, Layout, columns_of_fields, contents, contents_from, contents_with, layout_of, layout_with}
-use Rattle.trace_reader.specs.Traces.{opening, packet_of, rest_of, trace_fault}
-use Rattle.trace_reader.specs.TraceView.{upcoming_by}
+use Rattle.std.{proofs.{Common.{ap, ◌∙◌, arith}, lemmas.Bool.Decides.nat_tests}, specs.Prelude.nat_lt}
+use Rattle.marple_base.specs.declared.field.{Packet.Packet, FieldSet.FieldSet}
+use Rattle.trace_reader.specs.{Reading.records, Traces.{Contents, Layout, columns_of_fields, contents, contents_from, contents_with}}
+use Rattle.trace_reader.specs.{Traces.{layout_of, layout_with, opening, packet_of, rest_of, trace_fault}, TraceView.upcoming_by}
 use Rattle.trace_reader.specs.Upcoming.{Gives, IsAtEnd, IsAtFault, Upcoming, upcoming_of}
-use Rattle.trace_reader.specs.declared.fault.TheConstants.{MAX_RECORDS, MAX_TRACE}
-use Rattle.trace_reader.specs.declared.fault.TraceFault.{TraceFault}
+use Rattle.trace_reader.specs.declared.fault.{TheConstants.{MAX_RECORDS, MAX_TRACE}, TraceFault.TraceFault}
 use Rattle.trace_reader.specs.declared.fault.TraceFault.TheVariants as fault
 use Rattle.trace_reader.specs.declared.trace.Progress.{Progress}
 use Rattle.trace_reader.specs.declared.trace.Progress.TheVariants as progress

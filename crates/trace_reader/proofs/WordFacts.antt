@@ -1,14 +1,9 @@
 -- The words of a record, written at the fields that are read.
 use Rattle.std.proofs.Common.{◌≡◌, ℕ, ◌+◌, ◌<◌, ◌≤◌, List, [], ◌∷◌, ◌++◌, length, get_or, drop, set, Option, Some, None, Result, Ok, Err}
-use Rattle.std.proofs.Common.{refl, sym, ap, subst, ◌∙◌, append_assoc, arith, length-append}
-use Rattle.std.specs.Prelude.{replicate}
-use Rattle.std.specs.List.{zip}
-use Rattle.std.proofs.lemmas.List.{drop_all, drop_more}
-use Rattle.marple_base.specs.Field.{all_fields, number_of}
-use Rattle.marple_base.specs.declared.field.Field.{Field}
-use Rattle.marple_base.specs.declared.field.TheConstants.{FIELDS}
-use Rattle.trace_reader.specs.Columns.{read_columns, read_of, with_column}
-use Rattle.trace_reader.specs.Traces.{each, with_first, word_at, words_in_columns}
+use Rattle.std.proofs.{Common.{refl, sym, ap, subst, ◌∙◌, append_assoc, arith, length-append}, lemmas.List.{drop_all, drop_more}}
+use Rattle.std.specs.{Prelude.replicate, List.zip}
+use Rattle.marple_base.specs.{Field.{all_fields, number_of}, declared.field.{Field.Field, TheConstants.FIELDS}}
+use Rattle.trace_reader.specs.{Columns.{read_columns, read_of, with_column}, Traces.{each, with_first, word_at, words_in_columns}}
 use Rattle.trace_reader.proofs.EachFacts.{onto, onto_value}
 
 abbrev pub then_fill : (List ℕ → Result (List ℕ) Field) → ℕ → List ℕ → Result ℕ Field → Result (List ℕ) Field

@@ -1,8 +1,5 @@
 -- The first digits of a text.
-use Rattle.std.specs.Prelude.{◌≡◌, ℕ, true, List, take}
-use Rattle.std.specs.Char.{is_ascii_digit}
-use Rattle.std.specs.List.{list_all}
-use Rattle.std.specs.Str.Parse.{digits_value}
+use Rattle.std.specs.{Prelude.{◌≡◌, ℕ, true, List, take}, Char.is_ascii_digit, List.list_all, Str.Parse.digits_value}
 
 -- the first bytes of a text, this many, are digits, and they are this number
 pub record IsFront (text : List ℕ) (count number : ℕ) : Type 0 where

@@ -1,8 +1,6 @@
 -- The fields that are read of a trace, with their columns.
-use Rattle.std.specs.Prelude.{ℕ, ◌<◌, List, [], ◌∷◌, Option, Some, None, IfSome}
-use Rattle.std.specs.List.{All, zip}
-use Rattle.marple_base.specs.Field.{all_fields}
-use Rattle.marple_base.specs.declared.field.Field.{Field}
+use Rattle.std.specs.{Prelude.{ℕ, ◌<◌, List, [], ◌∷◌, Option, Some, None, IfSome}, List.{All, zip}}
+use Rattle.marple_base.specs.{Field.all_fields, declared.field.Field.Field}
 
 -- a field before those that are read, if it has a column
 abbrev pub with_column : Field → Option ℕ → List (Field × ℕ) → List (Field × ℕ)

@@ -1,11 +1,9 @@
 -- Records that no quote begins a field of, where they stand in a text.
-use Rattle.std.specs.Prelude.{◌≡◌, ℕ, ◌-◌, ◌<◌, ◌≤◌, ◌==◌, ◌&&◌, ◌||◌, ◌⊎◌, Bool, true, false, nat_le, if◌then◌else◌}
-use Rattle.std.specs.Prelude.{List, [], ◌∷◌, length, get_or, take, drop, map}
-use Rattle.std.specs.List.{All}
+use Rattle.std.specs.Prelude.{◌≡◌, ℕ, ◌-◌, ◌<◌, ◌≤◌, ◌==◌, ◌&&◌, ◌||◌, ◌⊎◌, Bool, true, false, nat_le, if◌then◌else◌, List, [], ◌∷◌, length}
+use Rattle.std.specs.{Prelude.{get_or, take, drop, map}, List.All}
 use Rattle.csv.specs.Reading.{strip_bom}
 use Rattle.csv.specs.declared.parser.State.TheVariants as st
-use Rattle.trace_reader.specs.Reading.{records_after}
-use Rattle.trace_reader.specs.declared.plain.Span.{Span}
+use Rattle.trace_reader.specs.{Reading.records_after, declared.plain.Span.Span}
 
 abbrev pub ends_line : ℕ → Bool
 ends_line byte = (byte == 13) || (byte == 10)

@@ -1,10 +1,8 @@
 -- What contracts see of the records of a text that are being read.
-use Rattle.std.specs.Prelude.{ℕ, ◌≤◌, ⊤, List, [], length, drop}
-use Rattle.std.specs.List.{All}
+use Rattle.std.specs.{Prelude.{ℕ, ◌≤◌, ⊤, List, [], length, drop}, List.All}
 use Rattle.csv.specs.Records.{fields_of}
 use Rattle.csv.specs.declared.parser.State.TheVariants as st
-use Rattle.trace_reader.specs.Plain.{IsBetween, IsInside, fields_at}
-use Rattle.trace_reader.specs.Reading.{IsBetweenRecords, records_after, records_left}
+use Rattle.trace_reader.specs.{Plain.{IsBetween, IsInside, fields_at}, Reading.{IsBetweenRecords, records_after, records_left}}
 use Rattle.trace_reader.specs.declared.records.Place.{Place}
 use Rattle.trace_reader.specs.declared.records.Place.TheVariants as place
 use Rattle.trace_reader.specs.declared.records.Records.TheInside.{Inside}

@@ -1,9 +1,6 @@
 -- How the fields of a `Trace` show what is still to come.
 use Rattle.std.specs.Prelude.{◌+◌, ◌≤◌, ⊤, [], Some, None}
-use Rattle.trace_reader.specs.Columns.{AreWithin}
-use Rattle.trace_reader.specs.Faults.{IsLate}
-use Rattle.trace_reader.specs.Traces.{Contents, contents_from}
-use Rattle.trace_reader.specs.Upcoming.{Upcoming}
+use Rattle.trace_reader.specs.{Columns.AreWithin, Faults.IsLate, Traces.{Contents, contents_from}, Upcoming.Upcoming}
 use Rattle.trace_reader.specs.declared.fault.TheConstants.{MAX_RECORDS}
 use Rattle.trace_reader.specs.declared.fault.TraceAnswer.TheVariants as answer
 use Rattle.trace_reader.specs.declared.trace.Progress.{Progress}

@@ -1,18 +1,10 @@
 -- The packets of a trace, and its first fault.
-use Rattle.std.specs.Prelude.{ℕ, ◌+◌, ◌==◌, not, nat_lt, if◌then◌else◌, List, [], ◌∷◌, length, Option, Some, None}
-use Rattle.std.specs.Prelude.{Result, Ok, Err, unwrap_or}
-use Rattle.std.specs.List.{zip}
-use Rattle.std.specs.Option.{ok_or}
-use Rattle.std.specs.Str.{bytes_eq}
+use Rattle.std.specs.Prelude.{ℕ, ◌+◌, ◌==◌, not, nat_lt, if◌then◌else◌, List, [], ◌∷◌, length, Option, Some, None, Result, Ok, Err}
+use Rattle.std.specs.{Prelude.unwrap_or, List.zip, Option.ok_or, Str.bytes_eq}
 use Rattle.csv.specs.Records.{field_at}
-use Rattle.marple_base.specs.Field.{all_fields, field_name, has_field}
-use Rattle.marple_base.specs.declared.field.Field.{Field}
-use Rattle.marple_base.specs.declared.field.FieldSet.{FieldSet}
-use Rattle.marple_base.specs.declared.field.Packet.{Packet}
-use Rattle.trace_reader.specs.Numbers.{without_blanks, word_of_text}
-use Rattle.trace_reader.specs.Reading.{records}
-use Rattle.trace_reader.specs.declared.fault.TheConstants.{MAX_RECORDS, MAX_TRACE}
-use Rattle.trace_reader.specs.declared.fault.TraceFault.{TraceFault}
+use Rattle.marple_base.specs.{Field.{all_fields, field_name, has_field}, declared.field.{Field.Field, FieldSet.FieldSet, Packet.Packet}}
+use Rattle.trace_reader.specs.{Numbers.{without_blanks, word_of_text}, Reading.records}
+use Rattle.trace_reader.specs.declared.fault.{TheConstants.{MAX_RECORDS, MAX_TRACE}, TraceFault.TraceFault}
 use Rattle.trace_reader.specs.declared.fault.TraceFault.TheVariants as fault
 
 abbrev pub with_first : {A E : Type 0} → Result A E → Result (List A) E → Result (List A) E

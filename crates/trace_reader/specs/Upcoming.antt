@@ -1,10 +1,7 @@
 -- What contracts see of a trace that is being read.
 use Rattle.std.specs.Prelude.{ℕ, ◌≡◌, List, [], ◌∷◌, Option, None, Some}
-use Rattle.marple_base.specs.declared.field.FieldSet.{FieldSet}
-use Rattle.marple_base.specs.declared.field.Packet.{Packet}
-use Rattle.trace_reader.specs.Traces.{packets, trace_fault}
-use Rattle.trace_reader.specs.declared.fault.TraceAnswer.{TraceAnswer}
-use Rattle.trace_reader.specs.declared.fault.TraceFault.{TraceFault}
+use Rattle.marple_base.specs.declared.field.{FieldSet.FieldSet, Packet.Packet}
+use Rattle.trace_reader.specs.{Traces.{packets, trace_fault}, declared.fault.{TraceAnswer.TraceAnswer, TraceFault.TraceFault}}
 
 -- the packets still to come, the fault after them, and the answer that stopped the trace
 pub record Upcoming : Type 0 where

@@ -1,7 +1,6 @@
 //! Numbers in the fields of a trace.
 
-ghost use Rattle.std.specs.Prelude.{◌≡◌, ◌+◌, ◌*◌, ◌^◌, ◌==◌, ◌<◌, ◌≤◌, ◌∷◌, [], drop, length};
-ghost use Rattle.std.specs.Prelude.{take, IfNone, IfSome, MatchOption, Some};
+ghost use Rattle.std.specs.Prelude.{◌≡◌, ◌+◌, ◌*◌, ◌^◌, ◌==◌, ◌<◌, ◌≤◌, ◌∷◌, [], drop, length, take, IfNone, IfSome, MatchOption, Some};
 ghost use Rattle.std.specs.List.{slice_split};
 ghost use Rattle.trace_reader.specs.Blocks.{IsFront};
 ghost use Rattle.trace_reader.specs.Numbers as Numbers;

@@ -4,8 +4,7 @@ ghost use Rattle.std.specs.Prelude.{◌≡◌, ℕ, ◌+◌, ◌<◌, ◌≤◌,
 ghost use Rattle.csv.specs.Reading.{is_bom, strip_bom};
 ghost use Rattle.csv.specs.declared.parser.State.TheVariants as st;
 ghost use Rattle.trace_reader.specs.Plain as Plain;
-ghost use Rattle.trace_reader.specs.Plain.{IsEnd, IsField, IsInside, IsRecord, fields_at, part_of};
-ghost use Rattle.trace_reader.specs.Reading.{records_after};
+ghost use Rattle.trace_reader.specs.{Plain.{IsEnd, IsField, IsInside, IsRecord, fields_at, part_of}, Reading.records_after};
 ghost use Rattle.trace_reader.specs.Traces.{field_text_at};
 
 use std::alloc::AllocError;

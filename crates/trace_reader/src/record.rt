@@ -1,8 +1,7 @@
 //! One record of a trace.
 
 ghost use Rattle.std.specs.Prelude.{◌≡◌, ◌<◌, Err, IfErr, IfOk, IfSome, Ok, OnOk, Some, length};
-ghost use Rattle.trace_reader.specs.Columns.{AreWithin};
-ghost use Rattle.trace_reader.specs.Faults.{IsEarly, IsLate};
+ghost use Rattle.trace_reader.specs.{Columns.AreWithin, Faults.{IsEarly, IsLate}};
 ghost use Rattle.marple_base.specs.Field.{field_name};
 ghost use Rattle.trace_reader.specs.Traces as Traces;
 ghost use Rattle.trace_reader.specs.Traces.{column_of_field, columns_named, columns_of_fields, packet_of, word_at, words_in_columns};

@@ -3,8 +3,7 @@
 ghost use Rattle.std.specs.Prelude.{◌≡◌, ◌<◌, ◌≤◌, ◌∷◌, [], IfErr, IfOk, drop, false, length, true};
 ghost use Rattle.csv.specs.Records.{fields_of};
 ghost use Rattle.csv.specs.declared.parser.State.TheVariants as st;
-ghost use Rattle.trace_reader.specs.Plain.{IsBetween};
-ghost use Rattle.trace_reader.specs.Reading.{IsBetweenRecords, IsSetUp, records, records_after, records_left};
+ghost use Rattle.trace_reader.specs.{Plain.IsBetween, Reading.{IsBetweenRecords, IsSetUp, records, records_after, records_left}};
 ghost use Rattle.trace_reader.specs.Traces.{field_text_at};
 
 use crate::plain::{Span, after_mark, ends_line, field_text, plain_record};

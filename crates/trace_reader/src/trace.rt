@@ -1,8 +1,7 @@
 //! A trace, packet by packet.
 
 ghost use Rattle.std.specs.Prelude.{◌≡◌, Err, IfErr, IfOk, IfSome, None, Ok, Some, false, is_ok, true};
-ghost use Rattle.trace_reader.specs.Traces.{opening, packets, trace_fault};
-ghost use Rattle.trace_reader.specs.Faults.{IfRefused, IsEarly, IsLate};
+ghost use Rattle.trace_reader.specs.{Traces.{opening, packets, trace_fault}, Faults.{IfRefused, IsEarly, IsLate}};
 ghost use Rattle.trace_reader.specs.Upcoming.{Gives, IsAtEnd, IsAtFault, upcoming_of};
 
 use crate::columns::Columns;

@@ -1,13 +1,8 @@
 -- How the texts of parts begin, and what an answer says.
 use Rattle.std.proofs.Common.{◌≡◌, ℕ, List, [], map, sym, subst, ◌∙◌, append-nil, Result, Ok, Err, OnOk, OnErr}
-use Rattle.marple_base.specs.Field.{field_name}
-use Rattle.marple_base.specs.declared.field.Field.{Field}
+use Rattle.marple_base.{specs.{Field.field_name, declared.field.Field.Field, Pieces.TakesAllBut}, proofs.Pieces.all_waits}
 use Rattle.queue_sim.specs.TraceText.{line}
-use Rattle.marple_base.specs.Pieces.{TakesAllBut}
-use Rattle.marple_base.proofs.Pieces.{all_waits}
-use Rattle.trace_split.specs.Holding.{Holds, Taken}
-use Rattle.trace_split.proofs.HoldFacts.{texts_by}
-use Rattle.trace_split.proofs.ListFacts.{AllHave}
+use Rattle.trace_split.{specs.Holding.{Holds, Taken}, proofs.{HoldFacts.texts_by, ListFacts.AllHave}}
 
 -- the texts of no packet: the header waits
 pub holds_none : (taken : Taken) (waiting : List (List ℕ)) (fields : List Field) (partition : List ℕ → ℕ) (header : List ℕ)

@@ -1,13 +1,8 @@
 -- One trace after the other: which stay as they were, and the counts of their faults.
 use Rattle.std.proofs.Common.{◌≡◌, ℕ, zero, suc, ◌+◌, ◌<◌, ◌≤◌, List, [], ◌∷◌, drop, get_or, length, map, set, refl, sym, ap, subst, ◌∙◌}
-use Rattle.std.proofs.Common.{add-one, arith}
-use Rattle.std.proofs.lemmas.List.{drop-set-lt, get_or-drop, get_or-map, get_or-set_same, length-map, map-set}
-use Rattle.marple_base.specs.Faults.{Rose}
-use Rattle.marple_base.specs.Inputs.{Input}
-use Rattle.marple_base.specs.declared.inputs.Which.{Which}
-use Rattle.marple_base.specs.declared.inputs.Which.TheVariants.{Trace}
-use Rattle.trace_split.specs.Traces.{NoneFell, OneRose, faults_of}
-use Rattle.trace_split.proofs.RestFacts.{rose_from}
+use Rattle.std.proofs.{Common.{add-one, arith}, lemmas.List.{drop-set-lt, get_or-drop, get_or-map, get_or-set_same, length-map, map-set}}
+use Rattle.marple_base.specs.{Faults.Rose, Inputs.Input, declared.inputs.Which.{Which, TheVariants.Trace}}
+use Rattle.trace_split.{specs.Traces.{NoneFell, OneRose, faults_of}, proofs.RestFacts.rose_from}
 
 -- a count that is set to no less
 grows : (now : List ℕ) (i v n : ℕ) → get_or now i 0 ≤ v → get_or now n 0 ≤ get_or (set now i v) n 0

@@ -1,23 +1,13 @@
 -- A piece that was cut out of the bytes that are held.
 use Rattle.std.proofs.Common.{◌≡◌, ℕ, ◌+◌, ◌-◌, ◌≤◌, List, [], ◌++◌, length, take, drop, Option, None, Some, sym, ap, subst, ◌∙◌, arith}
-use Rattle.std.proofs.Common.{append_assoc}
-use Rattle.std.proofs.lemmas.List.{take-append-le, take_all}
-use Rattle.std.specs.Prelude.{option_map}
-use Rattle.marple_base.proofs.Bytes.{range_from}
-use Rattle.marple_base.specs.declared.field.FieldSet.{FieldSet}
-use Rattle.marple_base.specs.declared.field.Packet.{Packet}
-use Rattle.trace_reader.specs.Traces.{Contents}
-use Rattle.trace_reader.specs.declared.fault.TraceFault.{TraceFault}
-use Rattle.trace_pieces.specs.Faults.{after_records}
-use Rattle.trace_pieces.specs.Machine.{EndsBetween, IsCut, IsHead}
-use Rattle.trace_pieces.specs.Wholes.{all_contents, all_packets, first_fault}
-use Rattle.trace_split.specs.Holding.{TakeFronts, Taken}
-use Rattle.trace_split.specs.PartTexts.{HoldsPackets, SameSetting, is_setting, parts_of, texts_of}
+use Rattle.std.{proofs.{Common.append_assoc, lemmas.List.{take-append-le, take_all}}, specs.Prelude.option_map}
+use Rattle.marple_base.{proofs.Bytes.range_from, specs.declared.field.{FieldSet.FieldSet, Packet.Packet}}
+use Rattle.trace_reader.specs.{Traces.Contents, declared.fault.TraceFault.TraceFault}
+use Rattle.trace_pieces.specs.{Faults.after_records, Machine.{EndsBetween, IsCut, IsHead}, Wholes.{all_contents, all_packets, first_fault}}
+use Rattle.trace_split.specs.{Holding.{TakeFronts, Taken}, PartTexts.{HoldsPackets, SameSetting, is_setting, parts_of, texts_of}}
 use Rattle.trace_split.specs.declared.texts.PartTexts.{PartTexts}
-use Rattle.trace_split.proofs.ReachFacts.{IsPiece, Reached, packets_in_cut, piece_of, reached_cut, refused_in_cut}
-use Rattle.trace_split.proofs.RestFacts.{cut_fronts}
-use Rattle.trace_split.proofs.SendFacts.{Adds}
-use Rattle.trace_split.proofs.SettingFacts.{fronts_of}
+use Rattle.trace_split.proofs.{ReachFacts.{IsPiece, Reached, packets_in_cut, piece_of, reached_cut, refused_in_cut}, RestFacts.cut_fronts}
+use Rattle.trace_split.proofs.{SendFacts.Adds, SettingFacts.fronts_of}
 
 module _ (all : Contents) (reads : FieldSet) (left : Option (List ℕ)) (s : List ℕ) (given head cut : ℕ) (start texts : PartTexts)
     (old mid : Taken)

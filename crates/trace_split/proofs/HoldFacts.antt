@@ -1,20 +1,12 @@
 -- What the sinks of parts have taken, as packets are added.
 use Rattle.std.proofs.Common.{◌≡◌, ◌≢◌, ℕ, ◌+◌, ◌<◌, ◌≤◌, List, [], ◌∷◌, ◌++◌, length, get_or, set, slice_get, Option, Some, refl, sym, ap}
-use Rattle.std.proofs.Common.{subst, ◌∙◌, inl, inr, append-nil, arith}
-use Rattle.std.specs.Io.KnownBytes.{Appends}
-use Rattle.std.proofs.lemmas.Bool.{cases_lt}
-use Rattle.std.proofs.lemmas.Bool.Decides.{eqb_tells}
-use Rattle.std.proofs.lemmas.Option.{slice_get-get_or}
-use Rattle.marple_base.specs.Sink.{TakesFront}
-use Rattle.marple_base.specs.declared.field.Field.{Field}
-use Rattle.marple_base.specs.declared.field.Packet.{Packet}
-use Rattle.marple_base.specs.Pieces.{TakesAllBut}
+use Rattle.std.proofs.{Common.{subst, ◌∙◌, inl, inr, append-nil, arith}, lemmas.Bool.{cases_lt, Decides.eqb_tells}}
+use Rattle.std.{proofs.lemmas.Option.slice_get-get_or, specs.Io.KnownBytes.Appends}
+use Rattle.marple_base.specs.{Sink.TakesFront, declared.field.{Field.Field, Packet.Packet}, Pieces.TakesAllBut}
 use Rattle.marple_base.proofs.Pieces.{front_is_taken, front_taken, goes_on, more_waits, none_taken, none_waits, rest_taken, then}
-use Rattle.trace_split.specs.Holding.{Holds, TakeFronts, TakeTexts, Taken}
+use Rattle.trace_split.{specs.Holding.{Holds, TakeFronts, TakeTexts, Taken}, proofs.ListFacts.{set_here, set_there}}
 use Rattle.queue_sim.specs.TraceText.{fields_line}
-use Rattle.part_texts.specs.Texts.{lines_of, packets_of_part}
-use Rattle.part_texts.proofs.TextFacts.{body_of, one_here, one_there, text_append}
-use Rattle.trace_split.proofs.ListFacts.{set_here, set_there}
+use Rattle.part_texts.{specs.Texts.{lines_of, packets_of_part}, proofs.TextFacts.{body_of, one_here, one_there, text_append}}
 
 -- the text of each part
 abbrev pub texts_by : List Field → (List ℕ → ℕ) → List Packet → ℕ → List ℕ

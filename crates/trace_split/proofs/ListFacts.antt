@@ -1,15 +1,9 @@
 -- Lists that are filled item by item.
 use Rattle.std.proofs.Common.{◌≡◌, ℕ, suc, zero, ◌+◌, ◌<◌, Bool, true, false, cond, List, [], ◌∷◌, ◌++◌, length, get_or, set, slice_get}
-use Rattle.std.proofs.Common.{take, slice_index, Some, refl, sym, ap, ◌∙◌, append-nil, arith}
-use Rattle.std.specs.Prelude.{filter}
-use Rattle.std.proofs.lemmas.List.{take_more}
-use Rattle.std.proofs.lemmas.Option.{same_Some}
-use Rattle.std.proofs.Math.Seq.{take-suc-set}
-use Rattle.marple_base.specs.Field.{all_fields, has_field, number_of}
-use Rattle.marple_base.specs.declared.field.Field.{Field}
-use Rattle.marple_base.specs.declared.field.Field.TheVariants.{Switch}
-use Rattle.marple_base.specs.declared.field.FieldSet.{FieldSet}
-use Rattle.marple_base.specs.declared.field.TheConstants.{FIELDS}
+use Rattle.std.proofs.{Common.{take, slice_index, Some, refl, sym, ap, ◌∙◌, append-nil, arith}, lemmas.{List.take_more, Option.same_Some}}
+use Rattle.std.{proofs.Math.Seq.take-suc-set, specs.Prelude.filter}
+use Rattle.marple_base.specs.{Field.{all_fields, has_field, number_of}, declared.field.Field.{Field, TheVariants.Switch}}
+use Rattle.marple_base.specs.declared.field.{FieldSet.FieldSet, TheConstants.FIELDS}
 use Rattle.part_texts.specs.Texts.{one_at_least, field_words}
 
 -- ---- fields

@@ -1,18 +1,10 @@
 -- How far a trace is split.
 use Rattle.std.proofs.Common.{◌≡◌, ℕ, ◌+◌, ◌≤◌, List, [], ◌++◌, length, take, drop, Option, None, Some, refl, sym, ap, subst, ◌∙◌}
-use Rattle.std.proofs.Common.{append_assoc, append-nil, length-append, arith}
-use Rattle.std.specs.Prelude.{option_map}
-use Rattle.std.specs.Io.KnownBytes.{Consumes, IsAtEnd}
-use Rattle.std.proofs.Math.Seq.{take-add}
-use Rattle.std.proofs.lemmas.List.{take-append-drop, take-append-le}
-use Rattle.marple_base.specs.declared.field.FieldSet.{FieldSet}
-use Rattle.marple_base.specs.declared.field.Packet.{Packet}
-use Rattle.trace_reader.specs.Traces.{Contents}
-use Rattle.trace_reader.specs.declared.fault.TraceFault.{TraceFault}
-use Rattle.trace_pieces.specs.Faults.{after_records}
-use Rattle.trace_pieces.specs.Machine.{EndsBetween, IsHead}
-use Rattle.trace_pieces.specs.Reads.{Goes}
-use Rattle.trace_pieces.specs.Wholes.{all_contents}
+use Rattle.std.proofs.{Common.{append_assoc, append-nil, length-append, arith}, Math.Seq.take-add}
+use Rattle.std.{proofs.lemmas.List.{take-append-drop, take-append-le}, specs.{Prelude.option_map, Io.KnownBytes.{Consumes, IsAtEnd}}}
+use Rattle.marple_base.specs.declared.field.{FieldSet.FieldSet, Packet.Packet}
+use Rattle.trace_reader.specs.{Traces.Contents, declared.fault.TraceFault.TraceFault}
+use Rattle.trace_pieces.specs.{Faults.after_records, Machine.{EndsBetween, IsHead}, Reads.Goes, Wholes.all_contents}
 use Rattle.trace_pieces.proofs.ContentFacts.{after, after_after, after_none, piece_refused, piece_sent}
 
 -- The contents of the trace are these packets that were sent and, after them, those of the bytes that are held and of the bytes

@@ -1,37 +1,24 @@
 -- What the parts have taken, however far a trace is split.
 use Rattle.std.proofs.Common.{◌≡◌, ℕ, ◌≤◌, List, [], ◌++◌, length, Option, None, Some, refl, sym, ap, subst, ◌∙◌, append-nil, inl, inr}
-use Rattle.std.proofs.Common.{arith, append_assoc, Result, Ok, Err}
-use Rattle.std.specs.Prelude.{IfErr, IsErrAnd, option_map}
-use Rattle.std.specs.Result.{IsErrOf}
+use Rattle.std.{proofs.Common.{arith, append_assoc, Result, Ok, Err}, specs.{Prelude.{IfErr, IsErrAnd, option_map}, Result.IsErrOf}}
 use Rattle.std.specs.Io.KnownBytes.{Consumes, IsAtEnd}
-use Rattle.marple_base.specs.Faults.{Rose}
-use Rattle.marple_base.specs.declared.field.FieldSet.{FieldSet}
-use Rattle.marple_base.specs.declared.field.Packet.{Packet}
-use Rattle.marple_base.specs.declared.reading.ReadAnswer.{ReadAnswer}
+use Rattle.marple_base.specs.{Faults.Rose, declared.{field.{FieldSet.FieldSet, Packet.Packet}, reading.ReadAnswer.ReadAnswer}}
 use Rattle.marple_base.specs.declared.reading.ReadAnswer.TheVariants as read
 use Rattle.marple_base.specs.declared.write_error.WriteError.{WriteError}
 use Rattle.marple_base.specs.declared.write_error.WriteError.TheVariants as write
 use Rattle.trace_reader.specs.Faults as reader
-use Rattle.trace_reader.specs.Traces.{Contents}
-use Rattle.trace_reader.specs.declared.fault.TraceAnswer.{TraceAnswer}
+use Rattle.trace_reader.specs.{Traces.Contents, declared.fault.TraceAnswer.TraceAnswer}
 use Rattle.trace_reader.specs.declared.fault.TraceAnswer.TheVariants as answers
 use Rattle.trace_reader.specs.declared.fault.TraceFault.{TraceFault}
-use Rattle.trace_pieces.specs.Faults.{after_records}
-use Rattle.trace_pieces.specs.Machine.{EndsBetween, IsHead}
-use Rattle.trace_pieces.specs.Reads.{Goes}
-use Rattle.trace_pieces.specs.Wholes.{all_contents, all_packets}
+use Rattle.trace_pieces.specs.{Faults.after_records, Machine.{EndsBetween, IsHead}, Reads.Goes, Wholes.{all_contents, all_packets}}
 use Rattle.trace_pieces.specs.declared.fault.WholeFault.{WholeFault}
-use Rattle.trace_split.specs.Faults.{IfSplitRefused, error_at, error_for}
-use Rattle.trace_split.specs.Holding.{TakeFronts, Taken}
+use Rattle.trace_split.specs.{Faults.{IfSplitRefused, error_at, error_for}, Holding.{TakeFronts, Taken}}
 use Rattle.trace_split.specs.PartTexts.{HoldsPackets, SameSetting, is_setting, parts_of, texts_of}
-use Rattle.trace_split.specs.Pieces.{IfPieceRefused, error_of, write_error_of}
-use Rattle.trace_split.specs.declared.fault.SplitError.{SplitError}
+use Rattle.trace_split.specs.{Pieces.{IfPieceRefused, error_of, write_error_of}, declared.fault.SplitError.SplitError}
 use Rattle.trace_split.specs.declared.fault.SplitError.TheVariants as error
 use Rattle.trace_split.specs.declared.piece.PieceError.TheVariants as piece
-use Rattle.trace_split.specs.declared.texts.PartTexts.{PartTexts}
-use Rattle.trace_split.proofs.ReachFacts.{Reached, packets_in_cut, reached_end, read_on}
-use Rattle.trace_split.proofs.SendFacts.{Adds}
-use Rattle.trace_split.proofs.SettingFacts.{fronts_grow, fronts_of}
+use Rattle.trace_split.{specs.declared.texts.PartTexts.PartTexts, proofs.ReachFacts.{Reached, packets_in_cut, reached_end, read_on}}
+use Rattle.trace_split.proofs.{SendFacts.Adds, SettingFacts.{fronts_grow, fronts_of}}
 
 -- what was taken so far is a front of the text of all packets
 pub reached_fronts : (all : Contents) (reads : FieldSet) (left : Option (List ℕ)) (bytes : List ℕ) (given : ℕ) (start new : PartTexts)

@@ -1,17 +1,12 @@
 -- A piece is within the limits of one run, or its packets begin those that it contains.
 use Rattle.std.proofs.Common.{◌≡◌, ℕ, ◌+◌, Bool, true, false, cond, List, [], ◌∷◌, ◌++◌, length, None, Some, Result, Ok, Err, refl, sym, ap}
-use Rattle.std.proofs.Common.{◌∙◌}
-use Rattle.std.specs.Prelude.{nat_lt, option_map}
-use Rattle.marple_base.specs.declared.field.FieldSet.{FieldSet}
-use Rattle.marple_base.specs.declared.field.Packet.{Packet}
-use Rattle.trace_reader.specs.Reading.{records}
-use Rattle.trace_reader.specs.Traces.{Contents, Layout, contents, contents_from, contents_with, layout_of}
-use Rattle.trace_reader.specs.Traces.{opening, packet_of, rest_of, trace_fault, with_packet}
-use Rattle.trace_reader.specs.declared.fault.TheConstants.{MAX_RECORDS, MAX_TRACE}
+use Rattle.std.{proofs.Common.{◌∙◌}, specs.Prelude.{nat_lt, option_map}}
+use Rattle.marple_base.specs.declared.field.{FieldSet.FieldSet, Packet.Packet}
+use Rattle.trace_reader.specs.{Reading.records, Traces.{Contents, Layout, contents, contents_from, contents_with, layout_of, opening}}
+use Rattle.trace_reader.specs.{Traces.{packet_of, rest_of, trace_fault, with_packet}, declared.fault.TheConstants.{MAX_RECORDS, MAX_TRACE}}
 use Rattle.trace_reader.specs.declared.fault.TraceFault.{TraceFault}
 use Rattle.trace_reader.specs.declared.fault.TraceFault.TheVariants as fault
-use Rattle.trace_pieces.specs.Faults.{after_records, trace_fault_of}
-use Rattle.trace_pieces.specs.Wholes.{all_contents, contents_by, contents_of, record_packet}
+use Rattle.trace_pieces.specs.{Faults.{after_records, trace_fault_of}, Wholes.{all_contents, contents_by, contents_of, record_packet}}
 use Rattle.trace_pieces.specs.declared.fault.WholeFault.{WholeFault}
 use Rattle.trace_pieces.specs.declared.fault.WholeFault.TheVariants as whole
 use Rattle.trace_pieces.proofs.ContentFacts.{runs_read_the_whole_lem}

@@ -1,14 +1,10 @@
 -- The packets of a piece, one by one.
 use Rattle.std.proofs.Common.{◌≡◌, ℕ, ◌+◌, List, [], ◌∷◌, ◌++◌, length, refl, sym, ap, subst, ◌∙◌, append_assoc, append-nil, length-append}
 use Rattle.std.proofs.Common.{arith}
-use Rattle.marple_base.specs.declared.field.FieldSet.{FieldSet}
-use Rattle.marple_base.specs.declared.field.Packet.{Packet}
-use Rattle.trace_reader.specs.Traces.{packets, trace_fault}
-use Rattle.trace_reader.specs.Upcoming.{Gives, Upcoming, upcoming_of}
-use Rattle.trace_split.specs.Holding.{TakeFronts, Taken}
-use Rattle.trace_split.specs.PartTexts.{HoldsPackets, SameSetting, is_setting, parts_of, texts_of}
-use Rattle.trace_split.specs.declared.texts.PartTexts.{PartTexts}
-use Rattle.trace_split.proofs.SettingFacts.{fronts_grow, fronts_of}
+use Rattle.marple_base.specs.declared.field.{FieldSet.FieldSet, Packet.Packet}
+use Rattle.trace_reader.specs.{Traces.{packets, trace_fault}, Upcoming.{Gives, Upcoming, upcoming_of}}
+use Rattle.trace_split.specs.{Holding.{TakeFronts, Taken}, PartTexts.{HoldsPackets, SameSetting, is_setting, parts_of, texts_of}}
+use Rattle.trace_split.{specs.declared.texts.PartTexts.PartTexts, proofs.SettingFacts.{fronts_grow, fronts_of}}
 
 -- the packets that a trace has given so far, and P of them
 pub record SoFar (text : List ℕ) (reads : FieldSet) (trace : Upcoming) (count : ℕ) (P : List Packet → Type 0) : Type 0 where

@@ -1,20 +1,13 @@
 -- The columns and the parts stay while packets are added.
-use Rattle.std.proofs.Common.{◌≡◌, ℕ, ◌<◌, List, ◌++◌, refl, sym, ap, subst, ◌∙◌, append_assoc}
-use Rattle.marple_base.specs.declared.field.Field.{Field}
-use Rattle.marple_base.specs.declared.field.FieldSet.{FieldSet}
-use Rattle.marple_base.specs.declared.field.Packet.{Packet}
-use Rattle.marple_base.specs.Sink.{TakesFront}
+use Rattle.std.{proofs.Common.{◌≡◌, ℕ, ◌<◌, List, ◌++◌, refl, sym, ap, subst, ◌∙◌, append_assoc}, specs.Io.KnownBytes.Appends}
+use Rattle.marple_base.specs.{declared.field.{Field.Field, FieldSet.FieldSet, Packet.Packet}, Sink.TakesFront}
 use Rattle.part_texts.specs.Texts.{fields_in, part_by_hash, part_text, written_fields}
-use Rattle.std.specs.Io.KnownBytes.{Appends}
 use Rattle.trace_reader.specs.Traces.{packets}
 use Rattle.trace_pieces.specs.Wholes.{all_packets}
-use Rattle.trace_split.specs.Hashes.{by_hash}
-use Rattle.trace_split.specs.Holding.{TakeFronts, TakeTexts, Taken}
+use Rattle.trace_split.specs.{Hashes.by_hash, Holding.{TakeFronts, TakeTexts, Taken}}
 use Rattle.trace_split.specs.PartTexts.{HoldsPackets, IsOf, SameSetting, is_setting, partition_of, parts_of, texts_of}
-use Rattle.trace_split.specs.declared.splitting.Splitting.{Splitting}
-use Rattle.trace_split.specs.declared.texts.PartTexts.{PartTexts}
-use Rattle.trace_split.proofs.HoldFacts.{fronts_go_on, fronts_held, texts_by}
-use Rattle.trace_split.proofs.RunFacts.{run_begins}
+use Rattle.trace_split.specs.declared.{splitting.Splitting.Splitting, texts.PartTexts.PartTexts}
+use Rattle.trace_split.proofs.{HoldFacts.{fronts_go_on, fronts_held, texts_by}, RunFacts.run_begins}
 
 pub same_refl : (texts : PartTexts) → SameSetting texts texts
 same_refl texts = record { columns = refl; by = refl; salt = refl; parts = refl; buffers = refl }

@@ -1,16 +1,9 @@
 -- Traces, one after the other.
-use Rattle.std.proofs.Common.{◌≡◌, ℕ, ◌+◌, ◌<◌, ◌≤◌, List, [], ◌∷◌, ◌++◌, length, get_or, take, drop, map, Option, None, Some, refl}
-use Rattle.std.proofs.Common.{sym, ap, ◌∙◌, add-one, append-nil, arith}
-use Rattle.std.specs.Option.{option_or}
+use Rattle.std.proofs.Common.{◌≡◌, ℕ, ◌+◌, ◌<◌, ◌≤◌, List, [], ◌∷◌, ◌++◌, length, get_or, take, drop, map, Option, None, Some, refl, sym}
+use Rattle.std.{proofs.Common.{ap, ◌∙◌, add-one, append-nil, arith}, specs.Option.option_or}
 use Rattle.std.proofs.Math.ListN as lists
-use Rattle.std.proofs.Math.Seq.{take-suc}
-use Rattle.std.proofs.lemmas.Grind.{flat_map-append}
-use Rattle.std.proofs.lemmas.List.{get_or-map, length-map, take-append-drop, take_all}
-use Rattle.marple_base.specs.Inputs.{Input}
-use Rattle.marple_base.specs.declared.field.FieldSet.{FieldSet}
-use Rattle.marple_base.specs.declared.field.Packet.{Packet}
-use Rattle.marple_base.specs.declared.inputs.Which.{Which}
-use Rattle.marple_base.specs.declared.inputs.Which.TheVariants.{Trace}
+use Rattle.std.proofs.{Math.Seq.take-suc, lemmas.{Grind.flat_map-append, List.{get_or-map, length-map, take-append-drop, take_all}}}
+use Rattle.marple_base.specs.{Inputs.Input, declared.{field.{FieldSet.FieldSet, Packet.Packet}, inputs.Which.{Which, TheVariants.Trace}}}
 use Rattle.trace_reader.specs.declared.fault.TraceFault.{TraceFault}
 use Rattle.trace_pieces.specs.Wholes.{all_packets, first_fault}
 use Rattle.trace_split.specs.Traces.{AreLeft, fault_of_all, packets_of_all}

@@ -1,8 +1,6 @@
 -- What the sinks of all parts have taken of the parts' texts, of which the last bytes wait.
-use Rattle.std.specs.Prelude.{◌≡◌, ℕ, ◌<◌, List, Option, Some, slice_get}
-use Rattle.std.specs.Io.KnownBytes.{Appends}
-use Rattle.marple_base.specs.Sink.{TakesFront}
-use Rattle.marple_base.specs.Pieces.{TakesAllBut}
+use Rattle.std.specs.{Prelude.{◌≡◌, ℕ, ◌<◌, List, Option, Some, slice_get}, Io.KnownBytes.Appends}
+use Rattle.marple_base.specs.{Sink.TakesFront, Pieces.TakesAllBut}
 
 -- the bytes that the sink of each part has taken, where they are known
 abbrev pub Taken : Type 0

@@ -1,12 +1,8 @@
 -- What `PartTexts` holds of the packets that were sent.
 use Rattle.std.specs.Prelude.{◌≡◌, ℕ, ◌<◌, ◌≤◌, List, length}
-use Rattle.marple_base.specs.declared.field.FieldSet.{FieldSet}
-use Rattle.marple_base.specs.declared.field.Packet.{Packet}
-use Rattle.marple_base.specs.declared.field.TheConstants.{FIELDS}
-use Rattle.trace_split.specs.Holding.{Holds, Taken}
+use Rattle.marple_base.specs.declared.field.{FieldSet.FieldSet, Packet.Packet, TheConstants.FIELDS}
+use Rattle.trace_split.specs.{Holding.{Holds, Taken}, declared.{splitting.Splitting.Splitting, texts.PartTexts.PartTexts}}
 use Rattle.part_texts.specs.Texts.{fields_in, lines_of, packets_of_part, part_by_hash, written_fields}
-use Rattle.trace_split.specs.declared.splitting.Splitting.{Splitting}
-use Rattle.trace_split.specs.declared.texts.PartTexts.{PartTexts}
 
 abbrev pub parts_of : PartTexts → ℕ
 parts_of texts = texts.parts

@@ -1,7 +1,6 @@
 -- How the packets of a piece end.
 use Rattle.std.specs.Prelude.{⊤}
-use Rattle.trace_reader.specs.declared.fault.TraceFault.{TraceFault}
-use Rattle.trace_reader.specs.declared.fault.TraceAnswer.{TraceAnswer}
+use Rattle.trace_reader.specs.declared.fault.{TraceFault.TraceFault, TraceAnswer.TraceAnswer}
 use Rattle.trace_reader.specs.declared.fault.TraceAnswer.TheVariants as answers
 use Rattle.marple_base.specs.declared.write_error.WriteError.{WriteError}
 use Rattle.marple_base.specs.declared.write_error.WriteError.TheVariants as writes

@@ -1,11 +1,6 @@
 -- Traces, one after the other.
-use Rattle.std.specs.Prelude.{◌≡◌, ◌≤◌, ℕ, List, [], ◌∷◌, Option, None, Some, flat_map, get_or, map}
-use Rattle.std.specs.Option.{option_or}
-use Rattle.marple_base.specs.Faults.{Rose}
-use Rattle.marple_base.specs.Inputs.{Input}
-use Rattle.marple_base.specs.declared.field.FieldSet.{FieldSet}
-use Rattle.marple_base.specs.declared.field.Packet.{Packet}
-use Rattle.marple_base.specs.declared.inputs.Which.{Which}
+use Rattle.std.specs.{Prelude.{◌≡◌, ◌≤◌, ℕ, List, [], ◌∷◌, Option, None, Some, flat_map, get_or, map}, Option.option_or}
+use Rattle.marple_base.specs.{Faults.Rose, Inputs.Input, declared.{field.{FieldSet.FieldSet, Packet.Packet}, inputs.Which.Which}}
 use Rattle.marple_base.specs.declared.inputs.Which.TheVariants.{Trace}
 use Rattle.trace_reader.specs.declared.fault.TraceFault.{TraceFault}
 use Rattle.trace_pieces.specs.Wholes.{all_packets, first_fault}

@@ -2,9 +2,7 @@
 
 ghost use Rattle.std.specs.Prelude.{◌≡◌, ◌≢◌, ◌++◌, ◌<◌, ◌≤◌, ℕ, Option, List, IfOk, IsErrOf, OnErr, OnOk, length};
 ghost use Rattle.std.specs.Io.KnownBytes.{Appends, WriteAppends};
-ghost use Rattle.marple_base.specs.Faults.{HasCause, Rose};
-ghost use Rattle.marple_base.specs.Sink.{TakesFront};
-ghost use Rattle.marple_base.specs.Pieces.{TakesAllBut};
+ghost use Rattle.marple_base.specs.{Faults.{HasCause, Rose}, Sink.TakesFront, Pieces.TakesAllBut};
 
 use crate::waiting::{PIECE, Waiting};
 use marple_base::{Failed, WriteError};

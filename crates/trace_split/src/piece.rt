@@ -1,11 +1,9 @@
 //! The packets of a piece of a trace, each to its part.
 
 ghost use Rattle.std.specs.Prelude.{◌≡◌, ◌++◌, ◌≤◌, List, IfErr, IfOk, IsErrOf, OnErr, OnOk, None, Some, length};
-ghost use Rattle.marple_base.specs.Faults.{Rose};
-ghost use Rattle.marple_base.specs.declared.field.Packet.{Packet as AnyPacket};
+ghost use Rattle.marple_base.specs.{Faults.Rose, declared.field.Packet.{Packet as AnyPacket}};
 ghost use Rattle.trace_reader.specs.Traces.{packets, trace_fault};
-ghost use Rattle.trace_split.specs.Holding.{TakeFronts, Taken};
-ghost use Rattle.trace_split.specs.PartTexts.{HoldsPackets, SameSetting, is_setting, parts_of, texts_of};
+ghost use Rattle.trace_split.specs.{Holding.{TakeFronts, Taken}, PartTexts.{HoldsPackets, SameSetting, is_setting, parts_of, texts_of}};
 ghost use Rattle.trace_split.specs.Pieces.{IfPieceRefused, error_of as error_of_answer, write_error_of};
 
 use crate::parts::Parts;

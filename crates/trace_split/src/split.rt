@@ -1,17 +1,10 @@
 //! A trace, sent to its parts piece by piece.
 
-ghost use Rattle.std.specs.Prelude.{◌≡◌, ◌≤◌, ◌+◌, ◌++◌, [], List, ℕ, IfErr, IfOk, IfSome, IsErrOf, None, OnErr, OnOk, Ok, Some};
-ghost use Rattle.std.specs.Prelude.{drop, length, option_map, take};
-ghost use Rattle.std.specs.Io.KnownBytes.{Consumes, IsAtEnd};
-ghost use Rattle.marple_base.specs.Faults.{Rose};
-ghost use Rattle.marple_base.specs.Inputs.{IsOpen};
-ghost use Rattle.marple_base.specs.declared.field.Packet.{Packet as AnyPacket};
-ghost use Rattle.trace_pieces.specs.Faults.{after_records, trace_fault_of};
-ghost use Rattle.trace_pieces.specs.Machine.{IsHead};
-ghost use Rattle.trace_pieces.specs.Reads.{Goes};
-ghost use Rattle.trace_pieces.specs.Wholes.{all_packets, first_fault};
-ghost use Rattle.trace_split.specs.Faults.{IfSplitRefused};
-ghost use Rattle.trace_split.specs.Holding.{TakeFronts, Taken};
+ghost use Rattle.std.specs.Prelude.{◌≡◌, ◌≤◌, ◌+◌, ◌++◌, [], List, ℕ, IfErr, IfOk, IfSome, IsErrOf, None, OnErr, OnOk, Ok, Some, drop};
+ghost use Rattle.std.specs.{Prelude.{length, option_map, take}, Io.KnownBytes.{Consumes, IsAtEnd}};
+ghost use Rattle.marple_base.specs.{Faults.Rose, Inputs.IsOpen, declared.field.Packet.{Packet as AnyPacket}};
+ghost use Rattle.trace_pieces.specs.{Faults.{after_records, trace_fault_of}, Machine.IsHead, Reads.Goes, Wholes.{all_packets, first_fault}};
+ghost use Rattle.trace_split.specs.{Faults.IfSplitRefused, Holding.{TakeFronts, Taken}};
 ghost use Rattle.trace_split.specs.PartTexts.{HoldsPackets, SameSetting, is_setting, parts_of, texts_of};
 
 use crate::fault::SplitError;

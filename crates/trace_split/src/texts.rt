@@ -1,8 +1,7 @@
 //! The texts of all parts, of which the last bytes wait.
 
 ghost use Rattle.std.specs.Prelude.{◌≡◌, ◌++◌, ◌∷◌, [], ◌≤◌, ◌<◌, ℕ, List, IfOk, IsErrOf, OnErr, OnOk, length};
-ghost use Rattle.marple_base.specs.Faults.{Rose};
-ghost use Rattle.marple_base.specs.declared.field.Packet.{Packet as AnyPacket};
+ghost use Rattle.marple_base.specs.{Faults.Rose, declared.field.Packet.{Packet as AnyPacket}};
 ghost use Rattle.trace_split.specs.Holding.{Holds, TakeFronts, TakeTexts, Taken};
 ghost use Rattle.trace_split.specs.PartTexts.{HoldsPackets, IsOf, SameSetting, is_setting, texts_of, parts_of};
 

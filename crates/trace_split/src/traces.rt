@@ -1,15 +1,10 @@
 //! Traces, one after the other, split into parts.
 
 ghost use Rattle.std.specs.Prelude.{◌≡◌, ◌<◌, ◌≤◌, ◌++◌, [], All, List, ℕ, IfErr, IsErrOf, None, OnErr, OnOk, Some};
-ghost use Rattle.marple_base.specs.Faults.{Rose};
-ghost use Rattle.marple_base.specs.Inputs.{IsClosed};
-ghost use Rattle.marple_base.specs.declared.field.Packet.{Packet as AnyPacket};
+ghost use Rattle.marple_base.specs.{Faults.Rose, Inputs.IsClosed, declared.field.Packet.{Packet as AnyPacket}};
 ghost use Rattle.part_texts.specs.Texts.{part_text};
-ghost use Rattle.trace_pieces.specs.Faults.{trace_fault_of};
-ghost use Rattle.trace_pieces.specs.Wholes.{all_packets, first_fault};
-ghost use Rattle.trace_split.specs.Faults.{IfSplitRefused};
-ghost use Rattle.trace_split.specs.Hashes.{by_hash};
-ghost use Rattle.trace_split.specs.Holding.{TakeFronts, TakeTexts, Taken};
+ghost use Rattle.trace_pieces.specs.{Faults.trace_fault_of, Wholes.{all_packets, first_fault}};
+ghost use Rattle.trace_split.specs.{Faults.IfSplitRefused, Hashes.by_hash, Holding.{TakeFronts, TakeTexts, Taken}};
 ghost use Rattle.trace_split.specs.PartTexts.{HoldsPackets, SameSetting, is_setting, parts_of, texts_of};
 ghost use Rattle.trace_split.specs.Traces.{AreLeft, NoneFell, OneRose, fault_of_all, faults_of, packets_of_all};
 

@@ -1,8 +1,5 @@
 use Rattle.std.proofs.Common.{◌≤◌, ◌*◌, ◌+◌, ℕ, arith}
-use Rattle.bucket_cache.specs.declared.bucket.Touch.{Touch}
-use Rattle.bucket_cache.specs.declared.bucket.Touch.TheVariants.{Hit, Free, Full}
-use Rattle.bucket_cache.specs.Touches.{touch_cost}
-use Rattle.bucket_cache.specs.Bounds.{UsesAreBounded}
+use Rattle.bucket_cache.specs.{declared.bucket.Touch.{Touch, TheVariants.{Hit, Free, Full}}, Touches.touch_cost, Bounds.UsesAreBounded}
 use Rattle.bucket_cache.proofs.FlatRows.{row_fits}
 use Rattle.bucket_cache.proofs.uses_are_bounded.Goals as goal
 

@@ -1,6 +1,5 @@
 use Rattle.std.proofs.Common.{refl}
-use Rattle.epoch_model.specs.Keys.{key_eq, key_cmp, bucket_of}
-use Rattle.epoch_model.specs.{Epochs.epochs, Machine.after_packets, Machine.end_of, Examples.AreWorkedExamples}
+use Rattle.epoch_model.specs.{Keys.{key_eq, key_cmp, bucket_of}, Epochs.epochs, Machine.{after_packets, end_of}, Examples.AreWorkedExamples}
 use Rattle.epoch_model.proofs.worked_examples.Goals as goal
 
 computed : AreWorkedExamples

@@ -1,7 +1,6 @@
 -- One key more keeps all keys, and is found by its fingerprint.
 use Rattle.std.proofs.Common.{◌≡◌, ◌++◌, ◌∷◌, ◌≤◌, [], length, ap, ◌∙◌, arith}
-use Rattle.backing_store.specs.Prints.{fingerprint, prints_of}
-use Rattle.backing_store.proofs.SearchFacts.{as_many, keys_more, one_more}
+use Rattle.backing_store.{specs.Prints.{fingerprint, prints_of}, proofs.SearchFacts.{as_many, keys_more, one_more}}
 use Rattle.backing_store.proofs.chains.add_key.Goals as goal
 
 pub returns-clause-keys : goal.returns-clause-keys

@@ -1,7 +1,6 @@
 -- Where there is no home's key yet, no key is in a chain.
 use Rattle.std.proofs.Common.{refl}
-use Rattle.backing_store.specs.Prints.{before_of, prints_of}
-use Rattle.backing_store.proofs.ChainFacts.{none_chained}
+use Rattle.backing_store.{specs.Prints.{before_of, prints_of}, proofs.ChainFacts.none_chained}
 use Rattle.backing_store.proofs.chains.chain_all.Goals as goal
 
 pub loop-number-init : goal.loop-number-init

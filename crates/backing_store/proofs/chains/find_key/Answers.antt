@@ -1,9 +1,7 @@
 -- A search follows the chain of the key's home.
 use Rattle.std.proofs.Common.{◌≡◌, ◌-◌, ◌≤◌, suc, get_or, length, sym, ◌∙◌, arith}
 use Rattle.epoch_model.proofs.KeyLists.{key_eq-not, key_eq-true}
-use Rattle.backing_store.specs.Prints.{row_at}
-use Rattle.backing_store.proofs.KeyFacts.{row_within}
-use Rattle.backing_store.proofs.SearchFacts.{IsFollowed, begun, gone_on, printed}
+use Rattle.backing_store.{specs.Prints.row_at, proofs.{KeyFacts.row_within, SearchFacts.{IsFollowed, begun, gone_on, printed}}}
 use Rattle.backing_store.proofs.LinkFacts.{no_link}
 use Rattle.backing_store.proofs.chains.find_key.Goals as goal
 use Rattle.backing_store.proofs.chains.find_key.Goals.{Else-is_at}

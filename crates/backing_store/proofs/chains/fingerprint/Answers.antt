@@ -1,7 +1,6 @@
 use Rattle.std.proofs.Common.{◌≡◌, ◌≢◌, [], ◌∷◌, get_or, length, refl, ◌∙◌, arith}
 use Rattle.epoch_model.specs.Keys.{Key}
-use Rattle.backing_store.specs.Prints.{fingerprint}
-use Rattle.backing_store.specs.SipHash.{sip_hash}
+use Rattle.backing_store.specs.{Prints.fingerprint, SipHash.sip_hash}
 use Rattle.backing_store.proofs.chains.fingerprint.Goals as goal
 
 one_word : (key : Key) → length key ≡ 1 → get_or key 0 0 ≡ fingerprint key

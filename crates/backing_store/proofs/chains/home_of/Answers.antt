@@ -1,6 +1,5 @@
 -- A home is one of the homes.
-use Rattle.std.proofs.Common.{arith}
-use Rattle.std.proofs.lemmas.Nat.{and_le_r}
+use Rattle.std.proofs.{Common.arith, lemmas.Nat.and_le_r}
 use Rattle.backing_store.proofs.chains.home_of.Goals as goal
 
 pub returns-clause-within : goal.returns-clause-within

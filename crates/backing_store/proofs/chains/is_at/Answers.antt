@@ -1,8 +1,6 @@
 -- Keys that differ in their fingerprints differ.
-use Rattle.std.proofs.Common.{sym, ap, ◌∙◌}
-use Rattle.std.proofs.lemmas.Bool.{ne_eqb}
-use Rattle.epoch_model.specs.Keys.{key_eq}
-use Rattle.epoch_model.proofs.KeyLists.{by_test, key_eq-true}
+use Rattle.std.proofs.{Common.{sym, ap, ◌∙◌}, lemmas.Bool.ne_eqb}
+use Rattle.epoch_model.{specs.Keys.key_eq, proofs.KeyLists.{by_test, key_eq-true}}
 use Rattle.backing_store.specs.Prints.{fingerprint, row_at}
 use Rattle.backing_store.proofs.chains.is_at.Goals as goal
 

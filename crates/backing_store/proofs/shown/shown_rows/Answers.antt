@@ -1,9 +1,7 @@
 use Rattle.std.proofs.Common.{◌≡◌, suc, ◌+◌, List, [], ◌∷◌, set, take, sym, ap, ◌∙◌, subst, arith, Some, slice_get}
-use Rattle.std.specs.List.{sum_by}
-use Rattle.std.proofs.lemmas.List.Sums.{sum_by-append, sum_by-cons}
+use Rattle.std.{proofs.lemmas.List.Sums.{sum_by-append, sum_by-cons}, specs.List.sum_by}
 use Rattle.epoch_model.specs.declared.tables.Row.{Row}
-use Rattle.backing_store.specs.Merged.{epochs_in, shown_row}
-use Rattle.backing_store.proofs.Showing.{here_stored, one_shown, row_at, shown_to, take_next}
+use Rattle.backing_store.{specs.Merged.{epochs_in, shown_row}, proofs.Showing.{here_stored, one_shown, row_at, shown_to, take_next}}
 use Rattle.backing_store.proofs.shown.shown_rows.Goals as goal
 
 pub loop-at-preserved : goal.loop-at-preserved

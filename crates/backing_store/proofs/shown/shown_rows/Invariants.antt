@@ -1,8 +1,6 @@
-use Rattle.std.proofs.Common.{◌≡◌, take}
-use Rattle.std.specs.Prelude.{sum_by}
+use Rattle.std.{proofs.Common.{◌≡◌, take}, specs.Prelude.sum_by}
 use Rattle.epoch_model.specs.Tables.{epochs_shown}
-use Rattle.backing_store.specs.Merged.{epochs_in, shown_row}
-use Rattle.backing_store.proofs.Showing.{shown_to}
+use Rattle.backing_store.{specs.Merged.{epochs_in, shown_row}, proofs.Showing.shown_to}
 use Rattle.backing_store.proofs.shown.shown_rows.Given as goal
 
 -- the rows so far are shown, and the others are still those of the store

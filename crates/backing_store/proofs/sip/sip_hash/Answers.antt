@@ -1,6 +1,4 @@
-use Rattle.std.proofs.Common.{◌∙◌, ap, fold, get_or, refl, sym}
-use Rattle.std.proofs.lemmas.List.{take_all}
-use Rattle.std.proofs.lemmas.List.Sums.{fold_more}
+use Rattle.std.proofs.{Common.{◌∙◌, ap, fold, get_or, refl, sym}, lemmas.List.{take_all, Sums.fold_more}}
 use Rattle.backing_store.specs.SipHash.{start, with_word}
 use Rattle.backing_store.proofs.sip.sip_hash.Goals as goal
 

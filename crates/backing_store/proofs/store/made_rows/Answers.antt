@@ -1,17 +1,9 @@
-use Rattle.std.proofs.Common.{◌≡◌, ◌+◌, ℕ, ◌∙◌, [], ap, arith, get_or, inl, inr, length, map, refl, sym, take}
-use Rattle.std.specs.List.{zip}
-use Rattle.std.proofs.lemmas.List.{take_all}
-use Rattle.std.proofs.lemmas.Option.{get_or_from_slice_get, slice_get_read}
-use Rattle.backing_store.specs.Places.{rows_there}
-use Rattle.backing_store.specs.SortedRows.{numbered}
-use Rattle.backing_store.specs.Store.{epochs_of, number_of, states_at, StoredRow}
-use Rattle.backing_store.specs.Stored.{stored}
-use Rattle.backing_store.specs.declared.order.Place.{Place}
-use Rattle.backing_store.proofs.PlaceFacts.{ascends_there, counted_pushed, distinct_keys, epoch_small, epoch_there, key_pushed}
-use Rattle.backing_store.proofs.PlaceFacts.{last_is, number_at}
-use Rattle.backing_store.proofs.PlaceFacts.{place_number, row_pushed}
-use Rattle.backing_store.proofs.SortedFacts.{made_push, of_within, row_is}
-use Rattle.backing_store.proofs.ZipFacts.{zip-stored}
+use Rattle.std.proofs.{Common.{◌≡◌, ◌+◌, ℕ, ◌∙◌, [], ap, arith, get_or, inl, inr, length, map, refl, sym, take}, lemmas.List.take_all}
+use Rattle.std.{proofs.lemmas.Option.{get_or_from_slice_get, slice_get_read}, specs.List.zip}
+use Rattle.backing_store.specs.{Places.rows_there, SortedRows.numbered, Store.{epochs_of, number_of, states_at, StoredRow}, Stored.stored}
+use Rattle.backing_store.{specs.declared.order.Place.Place, proofs.PlaceFacts.{ascends_there, counted_pushed, distinct_keys, epoch_small}}
+use Rattle.backing_store.proofs.PlaceFacts.{epoch_there, key_pushed, last_is, number_at, place_number, row_pushed}
+use Rattle.backing_store.proofs.{SortedFacts.{made_push, of_within, row_is}, ZipFacts.zip-stored}
 use Rattle.backing_store.proofs.store.made_rows.Goals as goal
 use Rattle.backing_store.proofs.store.made_rows.Goals.{then-of-last, else-of-last}
 

@@ -1,11 +1,6 @@
-use Rattle.std.proofs.Common.{◌≡◌, ◌-◌, ◌<◌, get_or, length, map, take}
-use Rattle.std.specs.List.{zip}
-use Rattle.backing_store.specs.Places.{key_there, rows_there}
-use Rattle.backing_store.specs.SortedRows.{IsMade}
-use Rattle.backing_store.specs.Store.{states_at}
-use Rattle.backing_store.specs.Stored.{stored}
-use Rattle.backing_store.specs.declared.order.Place.{Place}
-use Rattle.backing_store.proofs.PlaceFacts.{place_number}
+use Rattle.std.{proofs.Common.{◌≡◌, ◌-◌, ◌<◌, get_or, length, map, take}, specs.List.zip}
+use Rattle.backing_store.specs.{Places.{key_there, rows_there}, SortedRows.IsMade, Store.states_at, Stored.stored}
+use Rattle.backing_store.{specs.declared.order.Place.Place, proofs.PlaceFacts.place_number}
 use Rattle.backing_store.proofs.store.made_rows.Given as goal
 
 abbrev pub invariant-loop-place : goal.invariant-loop-place

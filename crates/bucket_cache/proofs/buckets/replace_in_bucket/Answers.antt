@@ -1,6 +1,5 @@
 use Rattle.std.proofs.Common.{arith, ◌-◌, length, take}
-use Rattle.bucket_cache.specs.Touches.{with_pair_first}
-use Rattle.bucket_cache.proofs.LentBuckets.{bounded, full-bucket, full-list, full-buckets, full-lists}
+use Rattle.bucket_cache.{specs.Touches.with_pair_first, proofs.LentBuckets.{bounded, full-bucket, full-list, full-buckets, full-lists}}
 use Rattle.bucket_cache.proofs.buckets.replace_in_bucket.Goals as goal
 
 pub overflow_mul-first : goal.overflow_mul-first

@@ -1,7 +1,5 @@
 use Rattle.std.proofs.Common.{◌≡◌, length, take, set, refl, subst, le_refl}
-use Rattle.bucket_cache.specs.Slices.{rows_of}
-use Rattle.bucket_cache.specs.Buckets.{pairs_at}
-use Rattle.bucket_cache.proofs.BucketLists.{least-pair, replaced-bucket, replaced-pairs}
+use Rattle.bucket_cache.{specs.{Slices.rows_of, Buckets.pairs_at}, proofs.BucketLists.{least-pair, replaced-bucket, replaced-pairs}}
 use Rattle.bucket_cache.proofs.ways.replace_way.Goals as goal
 
 pub returns-clause-bucket : goal.returns-clause-bucket

@@ -1,8 +1,6 @@
 use Rattle.std.proofs.Common.{◌≡◌, ◌∙◌, length, take, set, ap, refl, subst, arith}
-use Rattle.bucket_cache.specs.Slices.{rows_of}
-use Rattle.bucket_cache.specs.Buckets.{pairs_at}
-use Rattle.bucket_cache.proofs.BucketLists.{hit-has, hit-place, hit-pairs, hit-bucket, none-in-front, free-pairs, free-bucket, least-pair}
-use Rattle.bucket_cache.proofs.BucketLists.{few-pairs, other-first}
+use Rattle.bucket_cache.{specs.{Slices.rows_of, Buckets.pairs_at}, proofs.BucketLists.{hit-has, hit-place, hit-pairs, hit-bucket}}
+use Rattle.bucket_cache.proofs.BucketLists.{none-in-front, free-pairs, free-bucket, least-pair, few-pairs, other-first}
 use Rattle.bucket_cache.proofs.ways.touch_ways.Goals as goal
 
 pub find_key-requires-clause-other : goal.find_key-requires-clause-other

@@ -1,6 +1,5 @@
 use Rattle.std.proofs.Common.{arith, ap, ◌∙◌}
-use Rattle.coeff_algebra.specs.Maps.{stored_at, stored_entry, table_of, map_compose}
-use Rattle.coeff_algebra.proofs.PlaceLemmas.{rows_step}
+use Rattle.coeff_algebra.{specs.Maps.{stored_at, stored_entry, table_of, map_compose}, proofs.PlaceLemmas.rows_step}
 use Rattle.coeff_algebra.proofs.map.compose_into.Goals as goal
 
 pub loop-row-preserved : goal.loop-row-preserved

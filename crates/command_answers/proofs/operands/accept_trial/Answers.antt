@@ -1,13 +1,8 @@
 -- The trial's query isn't refused.
-use Rattle.std.proofs.Common.{◌≡◌, ℕ, List, Some, ap, ◌∙◌, subst}
-use Rattle.std.specs.Prelude.{Ok}
-use Rattle.query_lang.specs.declared.error.QueryError.{QueryError}
-use Rattle.query_lang.specs.declared.error.QueryError.TheVariants.{Refused}
-use Rattle.query_lang.specs.declared.fault.QueryFault.{QueryFault}
-use Rattle.query_lang.specs.declared.typed.TypedQuery.{TypedQuery}
-use Rattle.query_lang.specs.Answers.{IsTold}
-use Rattle.accepted_query.specs.Accepted.{accepted, query_fault, fault_in}
-use Rattle.accepted_query.specs.TrialQuery.{trial_query}
+use Rattle.std.{proofs.Common.{◌≡◌, ℕ, List, Some, ap, ◌∙◌, subst}, specs.Prelude.Ok}
+use Rattle.query_lang.specs.declared.{error.QueryError.{QueryError, TheVariants.Refused}, fault.QueryFault.QueryFault}
+use Rattle.query_lang.specs.{declared.typed.TypedQuery.TypedQuery, Answers.IsTold}
+use Rattle.accepted_query.specs.{Accepted.{accepted, query_fault, fault_in}, TrialQuery.trial_query}
 use Rattle.command_answers.proofs.operands.accept_trial.Goals as goal
 
 never : (text : List ℕ) (error : QueryError) (fault : QueryFault) → text ≡ trial_query → (q : TypedQuery) × (accepted trial_query ≡ Ok q)

@@ -1,6 +1,5 @@
 use Rattle.std.proofs.Common.{[]}
-use Rattle.command_answers.specs.Piece.{piece_text}
-use Rattle.command_answers.specs.declared.pieces.Piece.TheVariants.{Text}
+use Rattle.command_answers.specs.{Piece.piece_text, declared.pieces.Piece.TheVariants.Text}
 use Rattle.trace_drive.proofs.Pieces.{TakesFront-piece}
 use Rattle.command_answers.proofs.pieces.write_pieces.Goals as goal
 

@@ -1,5 +1,4 @@
-use Rattle.std.proofs.Common.{◌≡◌, ◌<◌, ◌^◌, true, take}
-use Rattle.std.specs.List.{list_all}
+use Rattle.std.{proofs.Common.{◌≡◌, ◌<◌, ◌^◌, true, take}, specs.List.list_all}
 use Rattle.command_line.specs.Number.{is_decimal_digit, decimal_value}
 use Rattle.command_line.proofs.number.number_read.Given as goal
 

@@ -1,5 +1,4 @@
-use Rattle.std.proofs.Common.{◌≡◌, Result, Ok, Err, IfOk, map, sym, ap, ◌∙◌, subst}
-use Rattle.std.specs.List.{All}
+use Rattle.std.{proofs.Common.{◌≡◌, Result, Ok, Err, IfOk, map, sym, ap, ◌∙◌, subst}, specs.List.All}
 use Rattle.final_queries.specs.Finals.{IsTable, table_shape}
 use Rattle.stage_plan.specs.Sound.{IsSoundPlan}
 use Rattle.net_wide.specs.NetTables.{caches_of, net_tables}

@@ -1,11 +1,8 @@
 use Rattle.std.proofs.Common.{Err, None, ◌++◌, ap, refl, subst}
-use Rattle.marple_base.specs.Sink.{TakesFront}
+use Rattle.marple_base.{specs.{Sink.TakesFront, Pieces.TakesAllBut}, proofs.Pieces.{front_taken, rest_taken}}
 use Rattle.final_queries.specs.Finals.{with_finals}
 use Rattle.query_tables.specs.Tables.{printed}
-use Rattle.marple_base.specs.Pieces.{TakesAllBut}
-use Rattle.marple_base.proofs.Pieces.{front_taken, rest_taken}
-use Rattle.trace_drive.specs.Answers.{BreaksOff, answer_of}
-use Rattle.trace_drive.specs.declared.answer.RunError.TheVariants.{Failed}
+use Rattle.trace_drive.specs.{Answers.{BreaksOff, answer_of}, declared.answer.RunError.TheVariants.Failed}
 use Rattle.trace_drive.proofs.Breaking.{err_is, rose_since, unwritten}
 use Rattle.driven_net.proofs.ending.write_text.Goals as goal
 

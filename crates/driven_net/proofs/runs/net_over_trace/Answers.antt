@@ -1,15 +1,10 @@
-use Rattle.std.proofs.Common.{◌≡◌, IfErr, OnOk, Some, Err, None, [], refl, sym, ap, ◌∙◌, subst}
+use Rattle.std.proofs.{Common.{◌≡◌, IfErr, OnOk, Some, Err, None, [], refl, sym, ap, ◌∙◌, subst}, KnownBytes.Appends-nil}
 use Rattle.std.specs.Io.KnownBytes.{Appends}
-use Rattle.std.proofs.KnownBytes.{Appends-nil}
 use Rattle.command_line.specs.Command.{ways_number}
-use Rattle.trace_drive.specs.Answers.{BreaksOff, answer_for}
-use Rattle.trace_drive.specs.Drives.{words_of}
-use Rattle.trace_drive.proofs.Breaking.{err_is, reader_breaks}
-use Rattle.trace_reader.specs.Traces.{opening}
-use Rattle.trace_reader.specs.Upcoming.{upcoming_of}
+use Rattle.trace_drive.{specs.{Answers.{BreaksOff, answer_for}, Drives.words_of}, proofs.Breaking.{err_is, reader_breaks}}
+use Rattle.trace_reader.specs.{Traces.opening, Upcoming.upcoming_of}
 use Rattle.net_wide.specs.NetTables.{net_text}
-use Rattle.driven_net.specs.NetTraces.{first_fault, net_packets, net_reads, net_trace_fault}
-use Rattle.driven_net.proofs.Opening.{opening_fault, refused_as}
+use Rattle.driven_net.{specs.NetTraces.{first_fault, net_packets, net_reads, net_trace_fault}, proofs.Opening.{opening_fault, refused_as}}
 use Rattle.driven_net.proofs.runs.net_over_trace.Goals as goal
 
 pub returns-in_err-trace-clause-breaks_off : goal.returns-in_err-trace-clause-breaks_off

@@ -1,7 +1,5 @@
-use Rattle.std.proofs.Common.{[], ◌∷◌, sym, ap, ◌∙◌}
-use Rattle.std.proofs.lemmas.List.Sums.{fold-append}
-use Rattle.marple_base.specs.declared.field.Field.TheVariants.{Switch}
-use Rattle.marple_base.specs.Field.{no_fields, with_field}
+use Rattle.std.proofs.{Common.{[], ◌∷◌, sym, ap, ◌∙◌}, lemmas.List.Sums.fold-append}
+use Rattle.marple_base.specs.{declared.field.Field.TheVariants.Switch, Field.{no_fields, with_field}}
 use Rattle.stage_plan.specs.Fields.{read_fields}
 use Rattle.driven_net.proofs.runs.net_reads.Goals as goal
 

@@ -1,10 +1,7 @@
-use Rattle.std.proofs.Common.{◌≡◌, ◌<◌, suc, Some, length, get_or, sym, ap, ◌∙◌, subst}
-use Rattle.std.specs.Prelude.{slice_get}
-use Rattle.switch_core.proofs.SideBySide.{same_some}
-use Rattle.switch_core.proofs.SideBySide.{got_here}
+use Rattle.std.{proofs.Common.{◌≡◌, ◌<◌, suc, Some, length, get_or, sym, ap, ◌∙◌, subst}, specs.Prelude.slice_get}
+use Rattle.switch_core.proofs.SideBySide.{same_some, got_here}
 use Rattle.epoch_model.specs.Epochs.{is_refresh}
-use Rattle.trace_drive.specs.Clocks.{HasCounted}
-use Rattle.trace_drive.specs.declared.clock.Clock.{Clock}
+use Rattle.trace_drive.specs.{Clocks.HasCounted, declared.clock.Clock.Clock}
 use Rattle.driven_net.proofs.Counting.{clock_counts, still_clocks}
 use Rattle.driven_net.proofs.taking.is_due.Goals as goal
 

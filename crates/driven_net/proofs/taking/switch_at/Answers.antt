@@ -1,9 +1,7 @@
 use Rattle.std.proofs.Common.{◌≡◌, ◌≢◌, ◌+◌, ◌≤◌, [], ◌∷◌, length, refl, sym, ap, ◌∙◌, subst, arith, length-append}
 use Rattle.std.proofs.lemmas.Bool.Decides.{nat_tests}
 use Rattle.net_wide.specs.Numbering.{place_among}
-use Rattle.driven_net.specs.Follows.{NetFollows}
-use Rattle.driven_net.proofs.Known.{number_is, known_same, known_more}
-use Rattle.driven_net.proofs.Following.{follows_more}
+use Rattle.driven_net.{specs.Follows.NetFollows, proofs.{Known.{number_is, known_same, known_more}, Following.follows_more}}
 use Rattle.driven_net.proofs.taking.switch_at.Goals as goal
 use Rattle.driven_net.proofs.taking.switch_at.Goals.{Then-at-before, Else-at-before}
 

@@ -1,15 +1,9 @@
 use Rattle.std.proofs.Common.{◌≡◌, ◌+◌, ◌++◌, suc, Ok, [], ◌∷◌, length, replicate, refl, sym, ap, ◌∙◌, subst, arith, append_assoc}
-use Rattle.std.proofs.Common.{length-append}
-use Rattle.std.proofs.Math.Facts.{Fits-below}
-use Rattle.std.proofs.lemmas.List.{length-map}
+use Rattle.std.proofs.{Common.length-append, Math.Facts.Fits-below, lemmas.List.length-map}
 use Rattle.trace_drive.specs.Drives.{words_of}
-use Rattle.net_wide.specs.NetTables.{switch_in}
-use Rattle.net_wide.specs.Numbering.{with_switch}
-use Rattle.driven_net.specs.Follows.{NetFollows}
-use Rattle.driven_net.specs.Lags.{HaveCounted}
-use Rattle.driven_net.specs.NetTraces.{fault_at, first_fault}
-use Rattle.driven_net.proofs.Counting.{lag_clocks, none_counted}
-use Rattle.driven_net.proofs.Following.{follows_start, known_next, turns_next}
+use Rattle.net_wide.specs.{NetTables.switch_in, Numbering.with_switch}
+use Rattle.driven_net.specs.{Follows.NetFollows, Lags.HaveCounted, NetTraces.{fault_at, first_fault}}
+use Rattle.driven_net.proofs.{Counting.{lag_clocks, none_counted}, Following.{follows_start, known_next, turns_next}}
 use Rattle.driven_net.proofs.taking.take_all.Goals as goal
 
 pub packets-init : goal.packets-init

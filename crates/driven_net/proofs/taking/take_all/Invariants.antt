@@ -1,10 +1,7 @@
 use Rattle.std.proofs.Common.{◌≡◌, ◌≤◌, ℕ, suc, List, [], ◌++◌, length}
 use Rattle.network.specs.Networks.{KeepsNetwork}
 use Rattle.trace_drive.specs.Drives.{words_of}
-use Rattle.driven_net.specs.Follows.{NetFollows}
-use Rattle.driven_net.specs.Lags.{AreLagClocks, HaveCounted}
-use Rattle.driven_net.specs.NetTraces.{first_fault}
-use Rattle.driven_net.specs.Turns.{MakesTurns, known_after}
+use Rattle.driven_net.specs.{Follows.NetFollows, Lags.{AreLagClocks, HaveCounted}, NetTraces.first_fault, Turns.{MakesTurns, known_after}}
 use Rattle.driven_net.proofs.taking.take_all.Given as goal
 
 -- the network follows the packets so far, and the fault of the others is that of all

@@ -2,15 +2,10 @@ use Rattle.std.proofs.Common.{◌≡◌, ◌<◌, suc, [], Some, length, sym, ap
 use Rattle.epoch_model.specs.Epochs.{is_refresh}
 use Rattle.switch_core.proofs.SideBySide.{got_some}
 use Rattle.trace_drive.specs.Clocks.{HasCounted}
-use Rattle.net_wide.specs.NetTables.{packets_at, switch_in}
-use Rattle.net_wide.specs.Numbering.{place_among, switch_number, with_switch}
-use Rattle.network.specs.Running.{NetworkRuns, turn_events}
-use Rattle.network.proofs.Runs.{runs_kept}
-use Rattle.driven_net.specs.Lags.{HaveCounted, taken_by}
-use Rattle.driven_net.specs.Turns.{Meets, known_after}
-use Rattle.driven_net.proofs.Counting.{counted_on}
-use Rattle.driven_net.proofs.Known.{number_is, number_stays, switch_is}
-use Rattle.driven_net.proofs.Following.{follows_turn, own_packets}
+use Rattle.net_wide.specs.{NetTables.{packets_at, switch_in}, Numbering.{place_among, switch_number, with_switch}}
+use Rattle.network.{specs.Running.{NetworkRuns, turn_events}, proofs.Runs.runs_kept}
+use Rattle.driven_net.{specs.{Lags.{HaveCounted, taken_by}, Turns.{Meets, known_after}}, proofs.Counting.counted_on}
+use Rattle.driven_net.proofs.{Known.{number_is, number_stays, switch_is}, Following.{follows_turn, own_packets}}
 use Rattle.driven_net.proofs.taking.take_one.Goals as goal
 
 pub turn-requires : goal.turn-requires

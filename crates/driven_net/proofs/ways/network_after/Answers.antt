@@ -1,8 +1,5 @@
-use Rattle.std.proofs.Common.{◌≡◌, [], Result, Ok, Err, ◌∙◌, subst}
-use Rattle.std.specs.Prelude.{IfOk}
-use Rattle.network.specs.Groups.{AllHavePlaces}
-use Rattle.network.specs.Networks.{IsNetwork, KeepsNetwork, NetworkView}
-use Rattle.network.specs.Running.{NetworkStands}
+use Rattle.std.{proofs.Common.{◌≡◌, [], Result, Ok, Err, ◌∙◌, subst}, specs.Prelude.IfOk}
+use Rattle.network.specs.{Groups.AllHavePlaces, Networks.{IsNetwork, KeepsNetwork, NetworkView}, Running.NetworkStands}
 use Rattle.trace_drive.specs.Drives.{words_of}
 use Rattle.driven_net.specs.Turns.{MakesTurns}
 use Rattle.driven_net.proofs.ways.network_after.Goals as goal

@@ -1,17 +1,12 @@
-use Rattle.std.proofs.Common.{◌≡◌, ℕ, List, OnOk, IfErr, None, [], refl, sym, ap, ◌∙◌, subst}
+use Rattle.std.proofs.{Common.{◌≡◌, ℕ, List, OnOk, IfErr, None, [], refl, sym, ap, ◌∙◌, subst}, KnownBytes.Appends-nil}
 use Rattle.std.specs.Io.KnownBytes.{Appends}
-use Rattle.std.proofs.KnownBytes.{Appends-nil}
 use Rattle.query_lang.specs.declared.typed.TypedQuery.{TypedQuery}
-use Rattle.final_queries.specs.declared.table.Table.{Table}
-use Rattle.final_queries.specs.Finals.{with_finals}
+use Rattle.final_queries.specs.{declared.table.Table.Table, Finals.with_finals}
 use Rattle.query_tables.specs.Tables.{printed}
-use Rattle.trace_drive.specs.Answers.{BreaksOff, answer_for}
-use Rattle.trace_drive.specs.Drives.{words_of}
-use Rattle.trace_drive.specs.declared.answer.RunError.TheVariants.{Memory}
+use Rattle.trace_drive.specs.{Answers.{BreaksOff, answer_for}, Drives.words_of, declared.answer.RunError.TheVariants.Memory}
 use Rattle.trace_drive.proofs.Breaking.{err_is, out_of_memory, reader_breaks, then_ok}
 use Rattle.net_wide.specs.NetTables.{caches_of, net_tables, net_text}
-use Rattle.driven_net.specs.NetTraces.{first_fault}
-use Rattle.driven_net.proofs.Ends.{text_is}
+use Rattle.driven_net.{specs.NetTraces.first_fault, proofs.Ends.text_is}
 use Rattle.driven_net.proofs.ways.run_with.Goals as goal
 
 -- what is printed of the tables of a network with these buckets

@@ -1,6 +1,5 @@
 use Rattle.std.proofs.Common.{◌≡◌, map}
-use Rattle.enclosed_query.specs.EnclosedTables.{table_read}
-use Rattle.enclosed_query.specs.Parts.{bounds_shown}
+use Rattle.enclosed_query.specs.{EnclosedTables.table_read, Parts.bounds_shown}
 use Rattle.enclosed_query.proofs.printing.parts_of.Given as goal
 
 -- the parts of what was taken so far

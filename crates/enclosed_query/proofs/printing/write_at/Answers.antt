@@ -1,9 +1,7 @@
 use Rattle.std.proofs.Common.{◌≡◌, None, Some, ◌++◌, ◌∙◌, OnErr, OnOk, ap, arith, option_and_then, subst, sym}
 use Rattle.std.proofs.lemmas.Option.{slice_get_past}
-use Rattle.marple_base.specs.Sink.{TakesFront}
-use Rattle.marple_base.specs.Pieces.{TakesAllBut}
-use Rattle.enclosed_query.specs.Parts.{bounds_at}
-use Rattle.enclosed_query.proofs.TextParts.{table_text_at}
+use Rattle.marple_base.specs.{Sink.TakesFront, Pieces.TakesAllBut}
+use Rattle.enclosed_query.{specs.Parts.bounds_at, proofs.TextParts.table_text_at}
 use Rattle.enclosed_query.proofs.printing.write_at.Goals as goal
 use Rattle.enclosed_query.proofs.printing.write_at.Goals.{then-number-len+in_default, else-number-len}
 

@@ -1,11 +1,6 @@
-use Rattle.std.proofs.Common.{◌++◌, OnErr, OnOk, sym, subst}
-use Rattle.std.specs.List.{All}
-use Rattle.marple_base.specs.Sink.{TakesFront}
-use Rattle.enclosed_query.specs.EnclosedTables.{enclosed_print}
-use Rattle.enclosed_query.specs.Parts.{IsWholeIfThere}
-use Rattle.marple_base.specs.Pieces.{TakesAllBut}
-use Rattle.marple_base.proofs.Pieces.{none_taken, on_err}
-use Rattle.enclosed_query.proofs.TextParts.{texts_are, whole_parts}
+use Rattle.std.{proofs.Common.{◌++◌, OnErr, OnOk, sym, subst}, specs.List.All}
+use Rattle.marple_base.{specs.{Sink.TakesFront, Pieces.TakesAllBut}, proofs.Pieces.{none_taken, on_err}}
+use Rattle.enclosed_query.{specs.{EnclosedTables.enclosed_print, Parts.IsWholeIfThere}, proofs.TextParts.{texts_are, whole_parts}}
 use Rattle.enclosed_query.proofs.printing.write_enclosed.Goals as goal
 
 pub returns-in_err-bounds-clause-err : goal.returns-in_err-bounds-clause-err

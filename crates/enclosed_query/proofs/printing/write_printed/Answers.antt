@@ -1,13 +1,10 @@
 use Rattle.std.proofs.Common.{◌≡◌, ◌<◌, ℕ, List, ◌+◌, ◌++◌, ◌∙◌, Option, ap, arith, append-nil, drop, get_or, length, subst, sym}
-use Rattle.std.proofs.lemmas.List.{drop_all, drop_more}
-use Rattle.std.specs.List.{flat_map}
+use Rattle.std.{proofs.lemmas.List.{drop_all, drop_more}, specs.List.flat_map}
 use Rattle.enclosure_folds.specs.declared.table.BoundsTable.{BoundsTable}
 use Rattle.final_queries.specs.declared.table.Table.{Table}
-use Rattle.query_lang.specs.TypedFinals.{table_number}
-use Rattle.query_lang.specs.declared.typed.PrintOf.{PrintOf}
+use Rattle.query_lang.specs.{TypedFinals.table_number, declared.typed.PrintOf.PrintOf}
 use Rattle.enclosed_query.specs.Parts.{text_at}
-use Rattle.marple_base.specs.Pieces.{TakesAllBut}
-use Rattle.marple_base.proofs.Pieces.{all_waits, on_err, part_broke, part_more}
+use Rattle.marple_base.{specs.Pieces.TakesAllBut, proofs.Pieces.{all_waits, on_err, part_broke, part_more}}
 use Rattle.enclosed_query.proofs.printing.write_printed.Goals as goal
 
 -- the text of the next print, and then those after it

@@ -1,5 +1,4 @@
-use Rattle.std.proofs.Common.{◌≤◌, ◌++◌, drop}
-use Rattle.std.specs.List.{flat_map}
+use Rattle.std.{proofs.Common.{◌≤◌, ◌++◌, drop}, specs.List.flat_map}
 use Rattle.query_lang.specs.TypedFinals.{table_number}
 use Rattle.enclosed_query.specs.Parts.{text_at}
 use Rattle.marple_base.specs.Pieces.{TakesAllBut}

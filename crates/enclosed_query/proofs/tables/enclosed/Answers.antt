@@ -1,6 +1,4 @@
-use Rattle.std.proofs.Common.{sym, ap, ◌∙◌, subst, map}
-use Rattle.std.specs.List.{All}
-use Rattle.std.specs.Prelude.{slice_get}
+use Rattle.std.{proofs.Common.{sym, ap, ◌∙◌, subst, map}, specs.{List.All, Prelude.slice_get}}
 use Rattle.stage_plan.specs.Sound.{IsSoundPlan}
 use Rattle.switch_core.specs.PlanLanes.{AreLanesOf}
 use Rattle.trace_drive.specs.Drives.{end_machines}

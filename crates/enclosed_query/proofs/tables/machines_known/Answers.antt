@@ -1,8 +1,7 @@
 use Rattle.std.proofs.Common.{◌∙◌, subst, arith}
 use Rattle.stage_plan.specs.Sound.{IsSoundPlan}
 use Rattle.switch_core.specs.PlanLanes.{AreLanesOf}
-use Rattle.enclosed_query.specs.AfterEvents.{machines_after}
-use Rattle.enclosed_query.proofs.AfterFacts.{holds_from}
+use Rattle.enclosed_query.{specs.AfterEvents.machines_after, proofs.AfterFacts.holds_from}
 use Rattle.enclosed_query.proofs.tables.machines_known.Goals as goal
 
 pub returns : goal.returns

@@ -1,7 +1,5 @@
-use Rattle.std.proofs.Common.{sym, subst}
-use Rattle.std.specs.List.{All}
-use Rattle.enclosed_query.specs.Reading.{IsWhole}
-use Rattle.enclosed_query.proofs.ReadTables.{all_whole}
+use Rattle.std.{proofs.Common.{sym, subst}, specs.List.All}
+use Rattle.enclosed_query.{specs.Reading.IsWhole, proofs.ReadTables.all_whole}
 use Rattle.enclosed_query.proofs.tables.shown_of.Goals as goal
 
 pub returns-clause-whole : goal.returns-clause-whole

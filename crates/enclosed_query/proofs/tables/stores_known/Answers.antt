@@ -1,6 +1,4 @@
-use Rattle.std.proofs.Common.{◌≡◌, sym, ap, ◌∙◌, subst, arith}
-use Rattle.std.specs.Prelude.{slice_get}
-use Rattle.std.proofs.lemmas.Bool.{ltb-true, ltb-false}
+use Rattle.std.{proofs.{Common.{◌≡◌, sym, ap, ◌∙◌, subst, arith}, lemmas.Bool.{ltb-true, ltb-false}}, specs.Prelude.slice_get}
 use Rattle.epoch_model.proofs.KeyLists.{by_test}
 use Rattle.backing_store.specs.Store.{IsStore}
 use Rattle.switch_core.proofs.SideBySide.{got_below, same_some}

@@ -1,5 +1,4 @@
-use Rattle.std.proofs.Common.{◌≡◌, ℕ, ◌<◌, Some}
-use Rattle.std.specs.Prelude.{slice_get}
+use Rattle.std.{proofs.Common.{◌≡◌, ℕ, ◌<◌, Some}, specs.Prelude.slice_get}
 use Rattle.switch_core.specs.PlanLanes.{LaneView}
 use Rattle.enclosed_query.specs.AfterEvents.{HasStoredRows}
 use Rattle.enclosed_query.proofs.tables.stores_known.Given as goal

@@ -1,6 +1,5 @@
 use Rattle.std.proofs.Common.{◌≡◌, ◌+◌, ◌++◌, ◌∷◌, [], ◌∙◌, true, false, sym, ap, drop, append_assoc, rules}
-use Rattle.table_rows.specs.LentRows.{row_of}
-use Rattle.table_rows.proofs.LentFacts.{rows_from}
+use Rattle.table_rows.{specs.LentRows.row_of, proofs.LentFacts.rows_from}
 use Rattle.enclosure_folds.specs.KeyBounds.{bounds_in, goes_on, row_bounds}
 use Rattle.enclosure_folds.proofs.bounds.all_bounds.Goals.{then-not-goes_on+in_ok-row_bounds+in_ok-push, else-not-goes_on}
 use Rattle.enclosure_folds.proofs.bounds.all_bounds.Goals as goal

@@ -1,7 +1,6 @@
 use Rattle.std.proofs.Common.{◌+◌, ap, sym, ◌∙◌, drop}
 use Rattle.query_lang.specs.Streams.{takings}
-use Rattle.enclosure_folds.specs.Check.{first_fault, or_else}
-use Rattle.enclosure_folds.proofs.CheckFacts.{is_groupby, other_groups, other_fault, not_some}
+use Rattle.enclosure_folds.{specs.Check.{first_fault, or_else}, proofs.CheckFacts.{is_groupby, other_groups, other_fault, not_some}}
 use Rattle.enclosure_folds.proofs.check.enclose_check.Goals as goal
 use Rattle.enclosure_folds.proofs.check.enclose_check.Goals.{in-Some+else-is_some, in_default}
 

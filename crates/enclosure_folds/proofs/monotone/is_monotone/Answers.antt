@@ -1,8 +1,6 @@
-use Rattle.std.proofs.Common.{false, replicate, arith, ◌∙◌}
-use Rattle.std.proofs.lemmas.List.{get_or-replicate}
+use Rattle.std.proofs.{Common.{false, replicate, arith, ◌∙◌}, lemmas.List.get_or-replicate}
 use Rattle.query_lang.specs.declared.fault.TheConstants.{MAX_STATES}
-use Rattle.fold_class.specs.Walk.{flag_in}
-use Rattle.fold_class.proofs.LinearLemmas.{same_fixed}
+use Rattle.fold_class.{specs.Walk.flag_in, proofs.LinearLemmas.same_fixed}
 use Rattle.enclosure_folds.specs.Kinds.{role, none_fixed}
 use Rattle.enclosure_folds.proofs.monotone.is_monotone.Goals as goal
 

@@ -1,8 +1,6 @@
 use Rattle.std.proofs.Common.{◌≡◌, ℕ, ◌<◌, ◌==◌, false, List, length, [], ◌∷◌, ap, sym, ◌∙◌, ◌++◌, append_assoc, codes, inl, inr, arith}
-use Rattle.std.specs.List.{flat_map}
-use Rattle.std.proofs.lemmas.Bool.Decides.{eqb_tells}
-use Rattle.table_printer.specs.TableText.{cells_joined, cells_continued}
-use Rattle.table_printer.proofs.Joined.{joined_three}
+use Rattle.std.{proofs.lemmas.Bool.Decides.eqb_tells, specs.List.flat_map}
+use Rattle.table_printer.{specs.TableText.{cells_joined, cells_continued}, proofs.Joined.joined_three}
 use Rattle.enclosure_folds.specs.BoundsTables.{bound_names}
 use Rattle.enclosure_folds.proofs.printer.push_columns.Goals as goal
 

@@ -1,5 +1,4 @@
-use Rattle.std.proofs.Common.{◌≡◌, ◌++◌, drop}
-use Rattle.std.specs.List.{flat_map}
+use Rattle.std.{proofs.Common.{◌≡◌, ◌++◌, drop}, specs.List.flat_map}
 use Rattle.table_printer.specs.TableText.{cells_continued}
 use Rattle.enclosure_folds.specs.BoundsTables.{bound_names}
 use Rattle.enclosure_folds.proofs.printer.push_states.Given as goal

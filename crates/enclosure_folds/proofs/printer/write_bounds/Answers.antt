@@ -1,6 +1,5 @@
 use Rattle.std.proofs.Common.{List, ℕ, ◌∷◌, ◌+◌, ◌++◌, ◌∙◌, ap, append-nil, append_assoc, arith, drop, sym}
-use Rattle.std.proofs.lemmas.List.{drop_all, drop_more}
-use Rattle.std.specs.List.{flat_map}
+use Rattle.std.{proofs.lemmas.List.{drop_all, drop_more}, specs.List.flat_map}
 use Rattle.table_printer.specs.TableText.{table_line}
 use Rattle.marple_base.proofs.Pieces.{all_waits, front_is_taken, none_taken, on_err, part_broke, part_more}
 use Rattle.enclosure_folds.specs.BoundsTables.{bounds_heading, bounds_parts, bounds_text, bounds_title}

@@ -1,5 +1,4 @@
-use Rattle.std.proofs.Common.{◌≤◌, ◌++◌, drop}
-use Rattle.std.specs.List.{flat_map}
+use Rattle.std.{proofs.Common.{◌≤◌, ◌++◌, drop}, specs.List.flat_map}
 use Rattle.table_printer.specs.TableText.{table_line}
 use Rattle.marple_base.specs.Pieces.{TakesAllBut}
 use Rattle.enclosure_folds.specs.BoundsTables.{bounds_parts, bounds_text}

@@ -1,5 +1,4 @@
-use Rattle.std.proofs.Common.{◌≡◌, ℕ, arith, ◌+◌, ◌<◌, length, slice_index, ap, ◌∙◌}
-use Rattle.std.proofs.Math.Nat.{le_refl}
+use Rattle.std.proofs.{Common.{◌≡◌, ℕ, arith, ◌+◌, ◌<◌, length, slice_index, ap, ◌∙◌}, Math.Nat.le_refl}
 use Rattle.coeff_algebra.proofs.PlaceLemmas.{entry_inside}
 use Rattle.epoch_entry.proofs.WritingPlaces.{next_written, others_stay}
 use Rattle.epoch_entry.proofs.column.column_to_state.Goals as goal

@@ -1,5 +1,4 @@
-use Rattle.std.proofs.Common.{◌≡◌, ◌≢◌, ℕ, ◌+◌, ◌*◌, ◌<◌, arith, ap, ◌∙◌, length, below_more}
-use Rattle.std.proofs.Math.Nat.{le_refl}
+use Rattle.std.proofs.{Common.{◌≡◌, ◌≢◌, ℕ, ◌+◌, ◌*◌, ◌<◌, arith, ap, ◌∙◌, length, below_more}, Math.Nat.le_refl}
 use Rattle.coeff_algebra.proofs.PlaceLemmas.{entry_inside}
 use Rattle.fold_class.proofs.RowLemmas.{same_column, same_row}
 use Rattle.epoch_entry.proofs.column.state_to_column.Goals as goal

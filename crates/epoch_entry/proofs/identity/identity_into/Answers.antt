@@ -1,5 +1,4 @@
-use Rattle.std.proofs.Common.{◌≡◌, ℕ, ◌+◌, ◌*◌, arith, ap, ◌∙◌, sym}
-use Rattle.std.proofs.Math.Nat.{mul_assoc}
+use Rattle.std.proofs.{Common.{◌≡◌, ℕ, ◌+◌, ◌*◌, arith, ap, ◌∙◌, sym}, Math.Nat.mul_assoc}
 use Rattle.coeff_algebra.proofs.PlaceLemmas.{rows_step}
 use Rattle.epoch_entry.specs.Identity.{unit_at}
 use Rattle.epoch_entry.proofs.identity.identity_into.Goals as goal

@@ -1,8 +1,6 @@
-use Rattle.std.proofs.Common.{◌≡◌, ◌≢◌, ℕ, ◌+◌, ◌*◌, ◌≤◌, ◌==◌, if◌then◌else◌, ap, ◌∙◌, arith, below_more}
-use Rattle.std.proofs.lemmas.Bool.Decides.{nat_tests}
+use Rattle.std.proofs.{Common.{◌≡◌, ◌≢◌, ℕ, ◌+◌, ◌*◌, ◌≤◌, ◌==◌, if◌then◌else◌, ap, ◌∙◌, arith, below_more}, lemmas.Bool.Decides.nat_tests}
 use Rattle.coeff_algebra.proofs.PlaceLemmas.{entry_inside, columns_apart, before_apart, columns_steps}
-use Rattle.epoch_entry.specs.Identity.{unit_at}
-use Rattle.epoch_entry.proofs.identity.identity_row.Goals.{then-column-row, else-column-row}
+use Rattle.epoch_entry.{specs.Identity.unit_at, proofs.identity.identity_row.Goals.{then-column-row, else-column-row}}
 use Rattle.epoch_entry.proofs.identity.identity_row.Goals as goal
 
 here_of : {X : Type 0} (x y : X) (i j : ℕ) → j ≡ i → x ≡ (if j == i then x else y)

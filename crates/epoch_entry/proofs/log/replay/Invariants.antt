@@ -1,5 +1,4 @@
-use Rattle.std.proofs.Common.{◌≡◌, ◌+◌, ◌*◌, ◌≤◌}
-use Rattle.std.specs.Prelude.{fold}
+use Rattle.std.{proofs.Common.{◌≡◌, ◌+◌, ◌*◌, ◌≤◌}, specs.Prelude.fold}
 use Rattle.fold_code.specs.Meaning.{code_step, code_steps}
 use Rattle.epoch_entry.specs.Entries.{logged_rows}
 use Rattle.epoch_entry.proofs.log.replay.Given as goal

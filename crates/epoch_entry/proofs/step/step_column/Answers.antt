@@ -1,8 +1,6 @@
 use Rattle.std.proofs.Common.{length, ap, ◌∙◌, sym}
 use Rattle.fold_class.specs.Step.{words_at}
-use Rattle.epoch_entry.proofs.Insides.{inside_of}
-use Rattle.epoch_entry.proofs.StepWords.{column_moved}
-use Rattle.epoch_entry.proofs.StepSums.{five_rise, run_cost}
+use Rattle.epoch_entry.proofs.{Insides.inside_of, StepWords.column_moved, StepSums.{five_rise, run_cost}}
 use Rattle.epoch_entry.proofs.step.step_column.Goals as goal
 
 pub scatter-requires-clause-inside : goal.scatter-requires-clause-inside

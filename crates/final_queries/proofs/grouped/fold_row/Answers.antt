@@ -1,6 +1,4 @@
-use Rattle.std.proofs.Common.{◌≡◌, ◌∙◌, sym, ap, length, append-nil}
-use Rattle.std.proofs.lemmas.List.{length-map}
-use Rattle.std.proofs.lemmas.Result.{on_ok_weaker}
+use Rattle.std.proofs.{Common.{◌≡◌, ◌∙◌, sym, ap, length, append-nil}, lemmas.{List.length-map, Result.on_ok_weaker}}
 use Rattle.query_lang.specs.Streams.{values_at}
 use Rattle.table_rows.specs.LentRows.{row_of}
 use Rattle.final_queries.specs.Finals.{columns_of}

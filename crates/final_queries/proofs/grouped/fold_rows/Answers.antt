@@ -2,9 +2,7 @@ use Rattle.std.proofs.Common.{◌∙◌, sym, ap, subst, length, arith, length-t
 use Rattle.backing_store.specs.Merged.{StoreHolds}
 use Rattle.query_lang.specs.TypedQueries.{AreSlots}
 use Rattle.table_rows.specs.LentRows.{row_of}
-use Rattle.final_queries.specs.Grouped.{whole_folding}
-use Rattle.final_queries.proofs.GroupSteps.{epochs_more}
-use Rattle.final_queries.proofs.ReadRows.{width_at}
+use Rattle.final_queries.{specs.Grouped.whole_folding, proofs.{GroupSteps.epochs_more, ReadRows.width_at}}
 use Rattle.final_queries.proofs.grouped.fold_rows.Goals as goal
 
 pub fold_row-requires : goal.fold_row-requires

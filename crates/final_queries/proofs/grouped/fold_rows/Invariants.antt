@@ -1,10 +1,8 @@
 use Rattle.std.proofs.Common.{◌≡◌, ◌≤◌, length, take}
 use Rattle.fold_code.specs.Meaning.{IsCodeOf, code_scratch}
 use Rattle.backing_store.specs.Merged.{StoreHolds}
-use Rattle.query_lang.specs.declared.fold.TypedFold.{TypedFold}
-use Rattle.query_lang.specs.Folds.{initial_state}
-use Rattle.final_queries.specs.Grouped.{whole_folding, row_epochs}
-use Rattle.final_queries.specs.Joining.{reads}
+use Rattle.query_lang.specs.{declared.fold.TypedFold.TypedFold, Folds.initial_state}
+use Rattle.final_queries.specs.{Grouped.{whole_folding, row_epochs}, Joining.reads}
 use Rattle.final_queries.proofs.grouped.fold_rows.Given as goal
 
 -- the store holds the rows so far

@@ -1,7 +1,5 @@
 use Rattle.std.proofs.Common.{sym, ap, ◌∙◌, map}
-use Rattle.final_queries.specs.Grouped.{plain_of}
-use Rattle.final_queries.specs.Joining.{reads}
-use Rattle.final_queries.proofs.GroupSteps.{rows_grouped}
+use Rattle.final_queries.{specs.{Grouped.plain_of, Joining.reads}, proofs.GroupSteps.rows_grouped}
 use Rattle.final_queries.proofs.grouped.grouped.Goals as goal
 
 pub returns-clause-rows : goal.returns-clause-rows

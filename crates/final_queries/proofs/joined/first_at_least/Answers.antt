@@ -1,12 +1,8 @@
-use Rattle.std.proofs.Common.{◌≡◌, ◌∙◌, ◌+◌, ◌-◌, ℕ, true, false, sym, ap, subst, take, drop, rules, arith}
+use Rattle.std.proofs.{Common.{◌≡◌, ◌∙◌, ◌+◌, ◌-◌, ℕ, true, false, sym, ap, subst, take, drop, rules, arith}, lemmas.List.drop-drop}
 use Rattle.std.specs.Ordering.{is_lt}
-use Rattle.std.proofs.lemmas.List.{drop-drop}
 use Rattle.epoch_model.specs.Keys.{key_cmp}
-use Rattle.table_rows.specs.LentRows.{row_of}
-use Rattle.table_rows.proofs.LentFacts.{rows_from}
-use Rattle.final_queries.specs.Finals.{is_read}
-use Rattle.final_queries.specs.Joining.{AreSmaller, StartsAtLeast}
-use Rattle.final_queries.proofs.JoinSteps.{smaller_more}
+use Rattle.table_rows.{specs.LentRows.row_of, proofs.LentFacts.rows_from}
+use Rattle.final_queries.{specs.{Finals.is_read, Joining.{AreSmaller, StartsAtLeast}}, proofs.JoinSteps.smaller_more}
 use Rattle.final_queries.proofs.joined.first_at_least.Goals.{else-is_read-via-then-is_read+else-not-is_smaller_key}
 use Rattle.final_queries.proofs.joined.first_at_least.Goals.{else-is_read-via-else-is_read}
 use Rattle.final_queries.proofs.joined.first_at_least.Goals as goal

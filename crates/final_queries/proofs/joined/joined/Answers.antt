@@ -1,8 +1,6 @@
-use Rattle.std.proofs.Common.{◌≡◌, ◌∙◌, ◌+◌, ◌-◌, ◌++◌, ℕ, sym, ap, take, drop, arith}
-use Rattle.std.proofs.lemmas.List.{take-append-drop, drop-drop}
+use Rattle.std.proofs.{Common.{◌≡◌, ◌∙◌, ◌+◌, ◌-◌, ◌++◌, ℕ, sym, ap, take, drop, arith}, lemmas.List.{take-append-drop, drop-drop}}
 use Rattle.table_rows.specs.LentRows.{row_of}
-use Rattle.final_queries.proofs.JoinSteps.{joined_turn}
-use Rattle.final_queries.proofs.ReadRows.{read_first, left_out}
+use Rattle.final_queries.proofs.{JoinSteps.joined_turn, ReadRows.{read_first, left_out}}
 use Rattle.final_queries.proofs.joined.joined.Goals.{then-is_read+in_ok-push_joined, else-is_read}
 use Rattle.final_queries.proofs.joined.joined.Goals as goal
 

@@ -1,7 +1,6 @@
 use Rattle.std.proofs.Common.{◌≡◌, ◌≤◌, ◌++◌, drop, map, length}
 use Rattle.epoch_model.specs.Keys.{IsAscending}
-use Rattle.final_queries.specs.Finals.{joined_rows}
-use Rattle.final_queries.specs.Joining.{reads}
+use Rattle.final_queries.specs.{Finals.joined_rows, Joining.reads}
 use Rattle.final_queries.proofs.joined.joined.Given as goal
 
 -- the rows so far, and then what the rest of both gives, make the whole

@@ -1,7 +1,6 @@
 use Rattle.std.proofs.Common.{◌≡◌, ◌∙◌, ◌++◌, true, false, sym, ap, refl, append-nil, rules}
 use Rattle.epoch_model.specs.Keys.{key_eq}
-use Rattle.table_rows.specs.LentRows.{row_of}
-use Rattle.table_rows.proofs.LentFacts.{rows_from}
+use Rattle.table_rows.{specs.LentRows.row_of, proofs.LentFacts.rows_from}
 use Rattle.final_queries.specs.Joining.{joined_first}
 use Rattle.final_queries.proofs.joined.push_joined.Goals as goal
 

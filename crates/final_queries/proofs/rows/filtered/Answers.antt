@@ -1,11 +1,8 @@
 use Rattle.std.proofs.Common.{◌≡◌, ◌∙◌, ℕ, List, true, false, sym, ap, refl, rules, le_trans}
 use Rattle.epoch_model.specs.declared.tables.Row.{Row}
-use Rattle.query_lang.specs.Streams.{expr_value}
-use Rattle.query_lang.specs.Words.{holds}
+use Rattle.query_lang.specs.{Streams.expr_value, Words.holds}
 use Rattle.table_rows.specs.LentRows.{row_of}
-use Rattle.final_queries.specs.Finals.{columns_of, filtered_rows}
-use Rattle.final_queries.specs.Joining.{reads}
-use Rattle.final_queries.proofs.ReadRows.{made_on, passed_on}
+use Rattle.final_queries.{specs.{Finals.{columns_of, filtered_rows}, Joining.reads}, proofs.ReadRows.{made_on, passed_on}}
 use Rattle.final_queries.proofs.rows.filtered.Goals.{then-is_read+then-value_of-ne0+in_ok-push_plain, else-is_read}
 use Rattle.final_queries.proofs.rows.filtered.Goals.{else-is_read-via-then-is_read+else-value_of-ne0, else-is_read-via-else-is_read}
 use Rattle.final_queries.proofs.rows.filtered.Goals as goal

@@ -1,12 +1,8 @@
-use Rattle.std.proofs.Common.{◌∙◌, ℕ, List, sym, subst, refl, le_trans}
-use Rattle.std.specs.List.{All}
-use Rattle.query_lang.specs.Folds.{IsValidTerm}
-use Rattle.query_lang.specs.Terms.{term_of}
+use Rattle.std.{proofs.Common.{◌∙◌, ℕ, List, sym, subst, refl, le_trans}, specs.List.All}
+use Rattle.query_lang.specs.{Folds.IsValidTerm, Terms.term_of}
 use Rattle.epoch_model.specs.declared.tables.Row.{Row}
 use Rattle.table_rows.specs.LentRows.{row_of}
-use Rattle.final_queries.specs.Finals.{mapped_rows}
-use Rattle.final_queries.specs.Joining.{reads}
-use Rattle.final_queries.proofs.ReadRows.{made_on, passed_on, width_at}
+use Rattle.final_queries.{specs.{Finals.mapped_rows, Joining.reads}, proofs.ReadRows.{made_on, passed_on, width_at}}
 use Rattle.final_queries.proofs.rows.mapped.Goals.{then-is_read+in_ok-push_mapped, else-is_read}
 use Rattle.final_queries.proofs.rows.mapped.Goals as goal
 

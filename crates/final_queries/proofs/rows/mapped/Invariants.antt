@@ -1,6 +1,5 @@
 use Rattle.std.proofs.Common.{◌≡◌, ◌≤◌, ◌++◌, drop}
-use Rattle.final_queries.specs.Finals.{mapped_rows}
-use Rattle.final_queries.specs.Joining.{reads}
+use Rattle.final_queries.specs.{Finals.mapped_rows, Joining.reads}
 use Rattle.final_queries.proofs.rows.mapped.Given as goal
 
 -- the rows so far, and then those that are left, make the whole

@@ -1,8 +1,6 @@
 use Rattle.std.proofs.Common.{◌≡◌, ◌+◌, ◌∙◌, ◌∷◌, sym, ap, arith, drop, length}
 use Rattle.table_rows.specs.LentRows.{row_of}
-use Rattle.final_queries.specs.Joining.{reads}
-use Rattle.final_queries.proofs.ReadRows.{read_first, left_out}
-use Rattle.final_queries.proofs.rows.read_count.Goals.{then-is_read, else-is_read}
+use Rattle.final_queries.{specs.Joining.reads, proofs.{ReadRows.{read_first, left_out}, rows.read_count.Goals.{then-is_read, else-is_read}}}
 use Rattle.final_queries.proofs.rows.read_count.Goals as goal
 
 pub loop-at-preserved : goal.loop-at-preserved

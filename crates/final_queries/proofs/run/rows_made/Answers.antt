@@ -1,6 +1,5 @@
 use Rattle.std.proofs.Common.{◌<◌, subst}
-use Rattle.query_lang.specs.Folds.{IsValidTerm}
-use Rattle.query_lang.specs.Terms.{term_of}
+use Rattle.query_lang.specs.{Folds.IsValidTerm, Terms.term_of}
 use Rattle.final_queries.proofs.TablesRead.{operator_valid, table_within, lent_at, table_at, rows_at, words_valid, slots_valid, fold_valid}
 use Rattle.final_queries.proofs.TablesRead.{fold_args_of}
 use Rattle.final_queries.proofs.run.rows_made.Goals as goal

@@ -1,6 +1,5 @@
 use Rattle.std.proofs.Common.{◌≡◌, rules, sym, subst}
-use Rattle.final_queries.specs.declared.table.Table.{Table}
-use Rattle.final_queries.specs.Finals.{IsTable}
+use Rattle.final_queries.specs.{declared.table.Table.Table, Finals.IsTable}
 use Rattle.final_queries.proofs.run.run_final.Goals as goal
 
 same_table : (made table : Table) → made ≡ table → IsTable table → IsTable made

@@ -1,7 +1,6 @@
 use Rattle.std.proofs.Common.{◌<◌, subst, ◌∙◌, ◌∷◌, [], ◌++◌, sym, ap, refl, add-one, arith}
 use Rattle.table_rows.specs.LentRows.{row_of}
-use Rattle.final_queries.specs.Ranks.{ranks_from}
-use Rattle.final_queries.proofs.ReadRows.{made_on, passed_on, width_at}
+use Rattle.final_queries.{specs.Ranks.ranks_from, proofs.ReadRows.{made_on, passed_on, width_at}}
 use Rattle.final_queries.proofs.top.ranks_of.Goals.{then-is_read+in_ok-push, else-is_read}
 use Rattle.final_queries.proofs.top.ranks_of.Goals as goal
 

@@ -1,11 +1,7 @@
-use Rattle.std.proofs.Common.{◌<◌, subst, ◌≤◌, ◌∙◌, ◌++◌, sym, ap, length, append-nil, refl, add-one, arith}
-use Rattle.std.specs.List.{count_by}
-use Rattle.std.specs.Prelude.{nat_lt}
-use Rattle.std.proofs.lemmas.List.{drop_all}
+use Rattle.std.proofs.{Common.{◌<◌, subst, ◌≤◌, ◌∙◌, ◌++◌, sym, ap, length, append-nil, refl, add-one, arith}, lemmas.List.drop_all}
+use Rattle.std.specs.{List.count_by, Prelude.nat_lt}
 use Rattle.table_rows.specs.LentRows.{row_of}
-use Rattle.final_queries.specs.Ranks.{is_before, is_within}
-use Rattle.final_queries.specs.TopRows.{kept_from}
-use Rattle.final_queries.proofs.ReadRows.{made_on, passed_on, width_at}
+use Rattle.final_queries.{specs.{Ranks.{is_before, is_within}, TopRows.kept_from}, proofs.ReadRows.{made_on, passed_on, width_at}}
 use Rattle.final_queries.proofs.TopSteps.{kept_top}
 use Rattle.final_queries.proofs.top.top.Goals.{then-is_read+then-is_kept+in_ok-push_plain, then-is_read+else-is_kept, else-is_read}
 use Rattle.final_queries.proofs.top.top.Goals as goal

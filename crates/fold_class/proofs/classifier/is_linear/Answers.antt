@@ -1,8 +1,5 @@
 use Rattle.std.proofs.Common.{◌∙◌}
-use Rattle.fold_class.specs.Depth.{is_history}
-use Rattle.fold_class.specs.Kinds.{role}
-use Rattle.fold_class.specs.Walk.{flag_in}
-use Rattle.fold_class.proofs.LinearLemmas.{same_fixed}
+use Rattle.fold_class.{specs.{Depth.is_history, Kinds.role, Walk.flag_in}, proofs.LinearLemmas.same_fixed}
 use Rattle.fold_class.proofs.classifier.is_linear.Goals as goal
 
 pub returns : goal.returns

@@ -1,7 +1,5 @@
 use Rattle.std.proofs.Common.{sym, subst}
-use Rattle.fold_class.specs.Rows.{Rows}
-use Rattle.fold_class.specs.Program.{IsRowsOf}
-use Rattle.fold_class.proofs.ProgramLemmas.{sound_rows, rows_are}
+use Rattle.fold_class.{specs.{Rows.Rows, Program.IsRowsOf}, proofs.ProgramLemmas.{sound_rows, rows_are}}
 use Rattle.fold_class.proofs.classifier.rows_of.Goals as goal
 
 pub new-requires : goal.new-requires

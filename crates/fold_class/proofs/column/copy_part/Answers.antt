@@ -1,7 +1,6 @@
 use Rattle.std.proofs.Common.{◌*◌, ap, ◌∙◌, refl, length}
 use Rattle.coeff_algebra.proofs.PlaceLemmas.{same_words, other_words}
-use Rattle.fold_class.specs.Stored.{part_of}
-use Rattle.fold_class.proofs.StoredLemmas.{three_words}
+use Rattle.fold_class.{specs.Stored.part_of, proofs.StoredLemmas.three_words}
 use Rattle.fold_class.proofs.column.copy_part.Goals as goal
 
 pub returns-clause-here : goal.returns-clause-here

@@ -1,6 +1,5 @@
 use Rattle.std.proofs.Common.{ap, sym, ◌∙◌, arith, length, set, get_or-set_same}
-use Rattle.fold_class.specs.declared.part.Part.TheVariants.{Share}
-use Rattle.fold_class.proofs.StoredLemmas.{share_stored}
+use Rattle.fold_class.{specs.declared.part.Part.TheVariants.Share, proofs.StoredLemmas.share_stored}
 use Rattle.fold_class.proofs.column.put_part.Goals as goal
 
 pub returns-in-Share-clause-part : goal.returns-in-Share-clause-part

@@ -1,9 +1,6 @@
 use Rattle.std.proofs.Common.{◌≡◌, ◌+◌, [], length, drop, map}
 use Rattle.fold_code.specs.Machine.{AllFit, run_code, steps_of}
-use Rattle.fold_class.specs.declared.part.Part.TheVariants.{Fixed}
-use Rattle.fold_class.specs.Parts.{parts, column_shares}
-use Rattle.fold_class.specs.Step.{list_of}
-use Rattle.fold_class.specs.Stored.{part_at}
+use Rattle.fold_class.specs.{declared.part.Part.TheVariants.Fixed, Parts.{parts, column_shares}, Step.list_of, Stored.part_at}
 use Rattle.fold_class.proofs.column.run_column.Given as goal
 
 abbrev pub invariant-loop-number : goal.invariant-loop-number

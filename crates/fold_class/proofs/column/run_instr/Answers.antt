@@ -1,8 +1,6 @@
 use Rattle.std.proofs.Common.{◌≢◌, ◌+◌, arith, ap, ◌∙◌}
 use Rattle.fold_code.specs.Machine.{vars_after}
-use Rattle.fold_class.specs.Step.{list_of}
-use Rattle.fold_class.specs.Stored.{part_at}
-use Rattle.fold_class.proofs.StoredLemmas.{list_same, list_more}
+use Rattle.fold_class.{specs.{Step.list_of, Stored.part_at}, proofs.StoredLemmas.{list_same, list_more}}
 use Rattle.fold_class.proofs.column.run_instr.Goals as goal
 
 pub returns-clause-vars : goal.returns-clause-vars

@@ -1,6 +1,5 @@
 use Rattle.std.proofs.Common.{◌≡◌, not, ◌||◌}
-use Rattle.fold_class.specs.Tables.{all_below}
-use Rattle.fold_class.specs.Walk.{flag_in}
+use Rattle.fold_class.specs.{Tables.all_below, Walk.flag_in}
 use Rattle.fold_class.proofs.depth.covers.Given as goal
 
 abbrev pub invariant-loop-v : goal.invariant-loop-v

@@ -1,7 +1,6 @@
 use Rattle.std.proofs.Common.{◌≡◌, arith, sym, ◌∙◌, below_more, subst}
 use Rattle.query_lang.specs.Folds.{fold_states}
-use Rattle.fold_class.specs.Depth.{IsDepth}
-use Rattle.fold_class.proofs.DepthLemmas.{round_step, covered_by, covered_last, depth_found}
+use Rattle.fold_class.{specs.Depth.IsDepth, proofs.DepthLemmas.{round_step, covered_by, covered_last, depth_found}}
 use Rattle.fold_class.proofs.depth.depth_of.Goals as goal
 
 pub returns-then-covers : goal.returns-then-covers

@@ -1,8 +1,6 @@
 use Rattle.std.proofs.Common.{◌≡◌, ℕ, ◌<◌, false}
 use Rattle.query_lang.specs.Folds.{fold_states}
-use Rattle.fold_class.specs.Depth.{is_within}
-use Rattle.fold_class.specs.Walk.{flag_in}
-use Rattle.fold_class.proofs.DepthLemmas.{is_covered}
+use Rattle.fold_class.{specs.{Depth.is_within, Walk.flag_in}, proofs.DepthLemmas.is_covered}
 use Rattle.fold_class.proofs.depth.depth_of.Given as goal
 
 abbrev pub invariant-loop-depth : goal.invariant-loop-depth

@@ -1,7 +1,6 @@
 use Rattle.std.proofs.Common.{◌≡◌, ℕ, ◌<◌}
 use Rattle.query_lang.specs.Folds.{fold_states}
-use Rattle.fold_class.specs.Depth.{is_within}
-use Rattle.fold_class.specs.Walk.{flag_in}
+use Rattle.fold_class.specs.{Depth.is_within, Walk.flag_in}
 use Rattle.fold_class.proofs.depth.history_of.Given as goal
 
 abbrev pub invariant-loop-round : goal.invariant-loop-round

@@ -1,8 +1,6 @@
 use Rattle.std.proofs.Common.{◌≡◌, ℕ, ◌<◌, not, ◌||◌}
 use Rattle.query_lang.specs.Folds.{fold_states}
-use Rattle.fold_class.specs.Tables.{all_below}
-use Rattle.fold_class.specs.Depth.{fold_reads}
-use Rattle.fold_class.specs.Walk.{flag_in}
+use Rattle.fold_class.specs.{Tables.all_below, Depth.fold_reads, Walk.flag_in}
 use Rattle.fold_class.proofs.depth.next_round.Given as goal
 
 abbrev pub invariant-loop-u : goal.invariant-loop-u

@@ -1,10 +1,6 @@
 use Rattle.std.proofs.Common.{ap, ◌∙◌, sym, subst, refl, arith, ◌∷◌, [], set}
-use Rattle.query_lang.specs.Blocks.{block_of}
-use Rattle.query_lang.specs.Folds.{fold_states, fold_args}
-use Rattle.query_lang.specs.declared.fault.TheConstants.{MAX_STATES}
-use Rattle.fold_class.specs.declared.class.Kind.TheVariants.{Pure, Other}
-use Rattle.fold_class.specs.Kinds.{kinds_after}
-use Rattle.fold_class.specs.Walk.{kinds_in, outside, AssignsBelow}
+use Rattle.query_lang.specs.{Blocks.block_of, Folds.{fold_states, fold_args}, declared.fault.TheConstants.MAX_STATES}
+use Rattle.fold_class.specs.{declared.class.Kind.TheVariants.{Pure, Other}, Kinds.kinds_after, Walk.{kinds_in, outside, AssignsBelow}}
 use Rattle.fold_class.proofs.ReadLemmas.{valid_below, column_shows, start_is}
 use Rattle.fold_class.proofs.depth.readers_of.Goals as goal
 

@@ -1,7 +1,5 @@
 use Rattle.std.proofs.Common.{ℕ, if◌then◌else◌, arith, rules, length-set, ◌∙◌}
-use Rattle.fold_class.specs.declared.class.Kind.TheVariants.{Pure, Affine}
-use Rattle.fold_class.specs.Walk.{flag_in}
-use Rattle.fold_class.proofs.LinearLemmas.{kind_step}
+use Rattle.fold_class.{specs.{declared.class.Kind.TheVariants.{Pure, Affine}, Walk.flag_in}, proofs.LinearLemmas.kind_step}
 use Rattle.fold_class.proofs.kept.first_kinds.Goals as goal
 
 pub loop-v-preserved : goal.loop-v-preserved

@@ -1,7 +1,6 @@
 use Rattle.std.proofs.Common.{◌≡◌, ℕ, nat_lt, if◌then◌else◌, length}
 use Rattle.query_lang.specs.declared.fault.TheConstants.{MAX_STATES}
-use Rattle.fold_class.specs.declared.class.Kind.TheVariants.{Pure, Affine}
-use Rattle.fold_class.specs.Walk.{kinds_in, flag_in}
+use Rattle.fold_class.specs.{declared.class.Kind.TheVariants.{Pure, Affine}, Walk.{kinds_in, flag_in}}
 use Rattle.fold_class.proofs.kept.first_kinds.Given as goal
 
 abbrev pub invariant-loop-v : goal.invariant-loop-v

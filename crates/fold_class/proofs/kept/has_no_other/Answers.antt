@@ -1,10 +1,6 @@
 use Rattle.std.proofs.Common.{subst, sym}
-use Rattle.query_lang.specs.Blocks.{block_of}
-use Rattle.query_lang.specs.Folds.{fold_states, fold_args}
-use Rattle.query_lang.specs.declared.fault.TheConstants.{MAX_STATES}
-use Rattle.fold_class.specs.Walk.{AssignsBelow, flag_in}
-use Rattle.fold_class.proofs.ReadLemmas.{valid_below}
-use Rattle.fold_class.proofs.LinearLemmas.{kept_from}
+use Rattle.query_lang.specs.{Blocks.block_of, Folds.{fold_states, fold_args}, declared.fault.TheConstants.MAX_STATES}
+use Rattle.fold_class.{specs.Walk.{AssignsBelow, flag_in}, proofs.{ReadLemmas.valid_below, LinearLemmas.kept_from}}
 use Rattle.fold_class.proofs.kept.has_no_other.Goals as goal
 
 pub walk_block-requires-clause-below : goal.walk_block-requires-clause-below

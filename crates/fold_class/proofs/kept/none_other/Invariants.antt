@@ -1,7 +1,5 @@
 use Rattle.std.proofs.Common.{◌≡◌}
-use Rattle.fold_class.specs.Tables.{all_below}
-use Rattle.fold_class.specs.Kinds.{is_no_other}
-use Rattle.fold_class.specs.Walk.{kinds_in}
+use Rattle.fold_class.specs.{Tables.all_below, Kinds.is_no_other, Walk.kinds_in}
 use Rattle.fold_class.proofs.kept.none_other.Given as goal
 
 abbrev pub invariant-loop-v : goal.invariant-loop-v

@@ -1,7 +1,5 @@
 use Rattle.std.proofs.Common.{◌≡◌, ◌≤◌, not, length}
-use Rattle.fold_class.specs.Depth.{is_history}
-use Rattle.fold_class.specs.Step.{places, list_of}
-use Rattle.fold_class.specs.Program.{origin_of}
+use Rattle.fold_class.specs.{Depth.is_history, Step.{places, list_of}, Program.origin_of}
 use Rattle.fold_class.proofs.layout.places_of.Given as goal
 
 abbrev pub invariant-loop-v : goal.invariant-loop-v

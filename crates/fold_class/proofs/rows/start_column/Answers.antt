@@ -1,7 +1,5 @@
 use Rattle.std.proofs.Common.{arith}
-use Rattle.fold_class.specs.Rows.{first_part}
-use Rattle.fold_class.specs.Stored.{part_at}
-use Rattle.fold_class.proofs.RowLemmas.{start_more}
+use Rattle.fold_class.{specs.{Rows.first_part, Stored.part_at}, proofs.RowLemmas.start_more}
 use Rattle.fold_class.proofs.rows.start_column.Goals as goal
 
 pub loop-v-preserved : goal.loop-v-preserved

@@ -1,7 +1,5 @@
 use Rattle.std.proofs.Common.{◌≡◌, ◌+◌, ◌++◌, map, drop}
-use Rattle.fold_class.specs.Step.{list_of}
-use Rattle.fold_class.specs.Stored.{part_at}
-use Rattle.fold_class.specs.Rows.{first_part}
+use Rattle.fold_class.specs.{Step.list_of, Stored.part_at, Rows.first_part}
 use Rattle.fold_class.proofs.rows.start_column.Given as goal
 
 abbrev pub invariant-loop-v : goal.invariant-loop-v

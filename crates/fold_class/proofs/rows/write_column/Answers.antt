@@ -1,7 +1,5 @@
 use Rattle.std.proofs.Common.{◌≡◌, ◌≢◌, ◌+◌, ◌*◌, arith, ap, ◌∙◌, length, below_more}
-use Rattle.fold_class.specs.Parts.{column_shares}
-use Rattle.fold_class.specs.Step.{share_of}
-use Rattle.fold_class.proofs.RowLemmas.{same_column, same_row}
+use Rattle.fold_class.{specs.{Parts.column_shares, Step.share_of}, proofs.RowLemmas.{same_column, same_row}}
 use Rattle.fold_class.proofs.rows.write_column.Goals as goal
 
 pub loop-row-preserved : goal.loop-row-preserved

@@ -1,8 +1,6 @@
 use Rattle.std.proofs.Common.{◌≡◌, ◌≢◌, ℕ, ◌+◌, ◌*◌, ◌<◌, ◌≤◌, length, slice_index}
 use Rattle.coeff_algebra.specs.Maps.{stored_entry}
-use Rattle.fold_class.specs.Parts.{column_shares}
-use Rattle.fold_class.specs.Step.{share_of}
-use Rattle.fold_class.specs.Stored.{part_at}
+use Rattle.fold_class.specs.{Parts.column_shares, Step.share_of, Stored.part_at}
 use Rattle.fold_class.proofs.rows.write_column.Given as goal
 
 abbrev pub invariant-loop-row : goal.invariant-loop-row

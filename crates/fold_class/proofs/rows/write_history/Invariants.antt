@@ -1,6 +1,5 @@
 use Rattle.std.proofs.Common.{◌≡◌, ℕ, ◌+◌, ◌<◌, slice_index}
-use Rattle.fold_class.specs.Stored.{part_at}
-use Rattle.fold_class.specs.Rows.{fixed_word}
+use Rattle.fold_class.specs.{Stored.part_at, Rows.fixed_word}
 use Rattle.fold_class.proofs.rows.write_history.Given as goal
 
 abbrev pub invariant-loop-i : goal.invariant-loop-i

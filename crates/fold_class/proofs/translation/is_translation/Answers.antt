@@ -1,7 +1,6 @@
 use Rattle.std.proofs.Common.{true, ap, ◌∙◌}
 use Rattle.query_lang.specs.Folds.{fold_states, fold_block}
-use Rattle.fold_class.specs.Translations.{is_moving}
-use Rattle.fold_class.proofs.PlacedLemmas.{listed}
+use Rattle.fold_class.{specs.Translations.is_moving, proofs.PlacedLemmas.listed}
 use Rattle.fold_class.proofs.translation.is_translation.Goals as goal
 
 pub returns : goal.returns

@@ -1,7 +1,6 @@
 use Rattle.std.proofs.Common.{◌≡◌, drop, length}
 use Rattle.query_lang.specs.Blocks.{block_of}
-use Rattle.fold_class.specs.Kinds.{marked}
-use Rattle.fold_class.specs.Walk.{kinds_in, AssignsBelow}
+use Rattle.fold_class.specs.{Kinds.marked, Walk.{kinds_in, AssignsBelow}}
 use Rattle.fold_class.proofs.walk.+mark_stmt.Given as goal
 
 abbrev pub invariant-then_block : goal.invariant-then_block

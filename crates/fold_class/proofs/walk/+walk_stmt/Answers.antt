@@ -1,8 +1,6 @@
 use Rattle.std.proofs.Common.{ap, ◌∙◌}
 use Rattle.query_lang.specs.Blocks.{block_of}
-use Rattle.fold_class.specs.Kinds.{kinds_after}
-use Rattle.fold_class.specs.Walk.{kinds_in}
-use Rattle.fold_class.proofs.WalkLemmas.{kinds_end, branches_from}
+use Rattle.fold_class.{specs.{Kinds.kinds_after, Walk.kinds_in}, proofs.WalkLemmas.{kinds_end, branches_from}}
 use Rattle.fold_class.proofs.walk.+walk_stmt.Goals as goal
 
 pub returns-after-else_block : goal.returns-after-else_block

@@ -1,6 +1,5 @@
 use Rattle.std.proofs.Common.{◌≡◌, ℕ, nat_lt, if◌then◌else◌}
-use Rattle.fold_class.specs.Kinds.{greater}
-use Rattle.fold_class.specs.Walk.{kinds_in}
+use Rattle.fold_class.specs.{Kinds.greater, Walk.kinds_in}
 use Rattle.fold_class.proofs.walk.join.Given as goal
 
 abbrev pub invariant-loop-v : goal.invariant-loop-v

@@ -1,8 +1,6 @@
 use Rattle.std.proofs.Common.{◌≡◌, drop}
-use Rattle.query_lang.specs.Blocks.{block_of}
-use Rattle.query_lang.specs.declared.fault.TheConstants.{MAX_STATES}
-use Rattle.fold_class.specs.Kinds.{kinds_after}
-use Rattle.fold_class.specs.Walk.{kinds_in, AssignsBelow}
+use Rattle.query_lang.specs.{Blocks.block_of, declared.fault.TheConstants.MAX_STATES}
+use Rattle.fold_class.specs.{Kinds.kinds_after, Walk.{kinds_in, AssignsBelow}}
 use Rattle.fold_class.proofs.walk.walk_block.Given as goal
 
 abbrev pub invariant-loop-s : goal.invariant-loop-s

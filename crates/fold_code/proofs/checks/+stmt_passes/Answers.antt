@@ -1,7 +1,6 @@
 use Rattle.std.proofs.Common.{true, false, sym, ◌∙◌}
 use Rattle.query_lang.specs.Blocks.{block_of}
-use Rattle.fold_code.specs.Checks.{is_in, all_pass}
-use Rattle.fold_code.proofs.CheckLemmas.{pass_rest, pass_stop, pass_end, pass_if}
+use Rattle.fold_code.{specs.Checks.{is_in, all_pass}, proofs.CheckLemmas.{pass_rest, pass_stop, pass_end, pass_if}}
 use Rattle.fold_code.proofs.checks.+stmt_passes.Goals as goal
 
 pub then_block-preserved : goal.then_block-preserved

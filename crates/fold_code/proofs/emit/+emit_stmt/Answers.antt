@@ -1,8 +1,6 @@
 use Rattle.std.proofs.Common.{rules, ap, arith, ◌∙◌}
-use Rattle.query_lang.specs.declared.fold.TypedStmt.TheViews.{the_lemmas}
-use Rattle.query_lang.specs.Blocks.{block_of}
-use Rattle.fold_code.specs.Code.{block_size}
-use Rattle.fold_code.proofs.CodeLemmas.{size_if, emitted_if, size_rest, code_rest, code_end, size_end}
+use Rattle.query_lang.specs.{declared.fold.TypedStmt.TheViews.the_lemmas, Blocks.block_of}
+use Rattle.fold_code.{specs.Code.block_size, proofs.CodeLemmas.{size_if, emitted_if, size_rest, code_rest, code_end, size_end}}
 use Rattle.fold_code.proofs.emit.+emit_stmt.Goals as goal
 
 pub emit_stmt-requires : goal.emit_stmt-requires

@@ -1,9 +1,7 @@
 use Rattle.std.proofs.Common.{◌≡◌, ◌+◌, ◌++◌, ℕ, length, replicate, arith, take, drop, sym, ap, ◌∙◌, subst, take-append-drop, lit<}
-use Rattle.std.proofs.Math.Nat.{le_refl}
-use Rattle.std.proofs.lemmas.List.{length-replicate}
+use Rattle.std.proofs.{Math.Nat.le_refl, lemmas.List.length-replicate}
 use Rattle.backing_store.specs.Merged.{StoreHolds}
-use Rattle.switch_core.specs.Lanes.{CacheStands, LaneStands, RecordsStand}
-use Rattle.switch_core.proofs.LaneFacts.{whole_written}
+use Rattle.switch_core.{specs.Lanes.{CacheStands, LaneStands, RecordsStand}, proofs.LaneFacts.whole_written}
 use Rattle.live_view.specs.Views.{all_epochs}
 use Rattle.epoch_model.proofs.Endings.{no_value}
 use Rattle.live_view.proofs.lane.full_store.Goals as goal

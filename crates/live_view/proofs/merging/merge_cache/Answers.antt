@@ -1,5 +1,4 @@
-use Rattle.std.proofs.Common.{◌≡◌, ◌<◌, ◌++◌, length, take, flat_map, reverse, ◌∙◌, subst, arith}
-use Rattle.std.proofs.lemmas.List.{take_all}
+use Rattle.std.proofs.{Common.{◌≡◌, ◌<◌, ◌++◌, length, take, flat_map, reverse, ◌∙◌, subst, arith}, lemmas.List.take_all}
 use Rattle.epoch_model.specs.Machine.{open_in}
 use Rattle.backing_store.specs.Merged.{StoreHolds}
 use Rattle.live_view.proofs.Standing.{bucket_after}

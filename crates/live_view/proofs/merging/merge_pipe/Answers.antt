@@ -1,5 +1,4 @@
-use Rattle.std.proofs.Common.{◌≡◌, ◌<◌, ◌-◌, [], ◌++◌, length, take, drop, get_or, sym, ap₂, ◌∙◌, subst, arith}
-use Rattle.std.proofs.lemmas.List.{take_all}
+use Rattle.std.proofs.{Common.{◌≡◌, ◌<◌, ◌-◌, [], ◌++◌, length, take, drop, get_or, sym, ap₂, ◌∙◌, subst, arith}, lemmas.List.take_all}
 use Rattle.backing_store.specs.Merged.{StoreHolds}
 use Rattle.live_view.proofs.Standing.{records_long, record_next, one_after}
 use Rattle.live_view.proofs.merging.merge_pipe.Goals as goal

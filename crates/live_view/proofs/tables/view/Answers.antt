@@ -1,9 +1,7 @@
-use Rattle.std.proofs.Common.{◌≡◌, [], ◌∷◌, ◌++◌, Some, length, map, take, sym, ap, ◌∙◌, subst, arith, lit<}
-use Rattle.std.specs.Prelude.{slice_get}
+use Rattle.std.{proofs.Common.{◌≡◌, [], ◌∷◌, ◌++◌, Some, length, map, take, sym, ap, ◌∙◌, subst, arith, lit<}, specs.Prelude.slice_get}
 use Rattle.stage_plan.specs.Sound.{IsSoundPlan}
 use Rattle.switch_core.specs.PlanLanes.{StandsFor, folding_at}
-use Rattle.live_view.specs.Views.{tables_seen}
-use Rattle.live_view.proofs.Lanes.{each_long, each_at, lane_fits, seen_next, seen_whole}
+use Rattle.live_view.{specs.Views.tables_seen, proofs.Lanes.{each_long, each_at, lane_fits, seen_next, seen_whole}}
 use Rattle.live_view.proofs.tables.view.Goals as goal
 
 pub group-requires : goal.group-requires

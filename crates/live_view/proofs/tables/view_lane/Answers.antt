@@ -1,5 +1,4 @@
-use Rattle.std.proofs.Common.{sym, ap, ◌∙◌}
-use Rattle.std.proofs.lemmas.Result.{IfOk-weaker}
+use Rattle.std.proofs.{Common.{sym, ap, ◌∙◌}, lemmas.Result.IfOk-weaker}
 use Rattle.live_view.specs.Views.{all_epochs}
 use Rattle.epoch_model.proofs.Endings.{no_value}
 use Rattle.live_view.proofs.tables.view_lane.Goals as goal

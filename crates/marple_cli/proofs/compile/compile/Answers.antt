@@ -1,11 +1,9 @@
 -- a compilation ends as its phases do: the query is read and has a plan's text, which is made, and then it is written
 use Rattle.command_line.specs.declared.command.Command.TheVariants.{Compile}
 use Rattle.std.proofs.Common.{◌∙◌, refl, Some}
-use Rattle.command_answers.specs.OwnChecks.{fault_with}
-use Rattle.command_answers.specs.declared.status.Status.TheVariants.{OutputFault}
+use Rattle.command_answers.specs.{OwnChecks.fault_with, declared.status.Status.TheVariants.OutputFault}
 use Rattle.plan_writer.specs.PlanText.{final_fault}
-use Rattle.marple_cli.proofs.Ending.{all_written, handed_on, query_fits, query_ended, memory_ended, writing_ended}
-use Rattle.marple_cli.proofs.Texts.{compiled_is}
+use Rattle.marple_cli.proofs.{Ending.{all_written, handed_on, query_fits, query_ended, memory_ended, writing_ended}, Texts.compiled_is}
 use Rattle.marple_cli.proofs.Taken.{query_lost}
 use Rattle.marple_cli.proofs.compile.compile.Goals as goal
 

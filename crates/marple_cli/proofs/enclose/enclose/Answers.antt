@@ -3,9 +3,7 @@ use Rattle.command_line.specs.declared.command.Command.TheVariants.{Enclose}
 use Rattle.std.proofs.Common.{refl, Some}
 use Rattle.enclosed_query.specs.EnclosedTables.{enclose_text}
 use Rattle.command_answers.specs.OwnChecks.{bounds_fault, fault_with}
-use Rattle.marple_cli.proofs.Ending.{handed_on, query_ended}
-use Rattle.marple_cli.proofs.Taken.{both_lost, query_lost}
-use Rattle.marple_cli.proofs.Texts.{enclose_over}
+use Rattle.marple_cli.proofs.{Ending.{handed_on, query_ended}, Taken.{both_lost, query_lost}, Texts.enclose_over}
 use Rattle.marple_cli.proofs.Traced.{ends_by, written_by}
 use Rattle.marple_cli.proofs.enclose.enclose.Goals as goal
 

@@ -1,18 +1,15 @@
 -- a run ends as its phases do: the query is read and accepted, and then its report is made over the trace
-use Rattle.marple_base.specs.declared.inputs.Which.TheVariants.{Query}
+use Rattle.marple_base.specs.{declared.inputs.Which.TheVariants.Query, Inputs.Input}
 use Rattle.command_line.specs.declared.command.Command.TheVariants.{Run}
 use Rattle.std.proofs.Common.{◌≡◌, IfSome, refl, subst, Some}
-use Rattle.marple_base.specs.Inputs.{Input}
 use Rattle.accepted_query.specs.Accepted.{query_fault}
 use Rattle.query_run.specs.Driven.{geometry_of, pipeline_in}
 use Rattle.query_tables.specs.Tables.{query_text}
 use Rattle.switch_core.specs.PlanLanes.{PipelineStands}
 use Rattle.trace_drive.specs.Drives.{end_machines, words_of}
 use Rattle.trace_reader.specs.Traces.{contents}
-use Rattle.marple_cli.proofs.Ending.{driven_kept, handed_on, run_leaves, query_ended, operand_not_ok}
-use Rattle.marple_cli.proofs.Taken.{both_lost, query_lost}
-use Rattle.marple_cli.proofs.Texts.{run_over}
-use Rattle.marple_cli.proofs.Traced.{ends_by, written_by, is_not_ok}
+use Rattle.marple_cli.proofs.{Ending.{driven_kept, handed_on, run_leaves, query_ended, operand_not_ok}, Taken.{both_lost, query_lost}}
+use Rattle.marple_cli.proofs.{Texts.run_over, Traced.{ends_by, written_by, is_not_ok}}
 use Rattle.marple_cli.proofs.run.run.Goals as goal
 
 pub report_over-requires-clause-may_print : goal.report_over-requires-clause-may_print

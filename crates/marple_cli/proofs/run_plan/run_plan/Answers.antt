@@ -1,8 +1,7 @@
 -- a run of a plan ends as its phases do: the plan's text is read, and then its report is made over the trace
-use Rattle.marple_base.specs.declared.inputs.Which.TheVariants.{Query}
+use Rattle.marple_base.specs.{declared.inputs.Which.TheVariants.Query, Inputs.Input}
 use Rattle.command_line.specs.declared.command.Command.TheVariants.{RunPlan}
 use Rattle.std.proofs.Common.{IfSome, refl, subst, Some}
-use Rattle.marple_base.specs.Inputs.{Input}
 use Rattle.switch_core.specs.PlanLanes.{PipelineStands}
 use Rattle.trace_drive.specs.Drives.{end_machines, words_of}
 use Rattle.trace_reader.specs.Traces.{contents}
@@ -10,10 +9,8 @@ use Rattle.query_run.specs.Driven.{geometry_of, pipeline_in}
 use Rattle.plan_file.specs.Texts.{IsRefused}
 use Rattle.query_lang.specs.declared.error.QueryError.TheVariants.{Refused}
 use Rattle.plan_loader.specs.Meaning.{plan_output}
-use Rattle.marple_cli.proofs.Ending.{driven_kept, handed_on, operand_ended, operand_not_ok}
-use Rattle.marple_cli.proofs.Plans.{plan_leaves, plan_over, refuses_plan}
-use Rattle.marple_cli.proofs.Taken.{both_lost, query_lost}
-use Rattle.marple_cli.proofs.Traced.{ends_by, written_by, is_not_ok}
+use Rattle.marple_cli.proofs.{Ending.{driven_kept, handed_on, operand_ended, operand_not_ok}, Plans.{plan_leaves, plan_over, refuses_plan}}
+use Rattle.marple_cli.proofs.{Taken.{both_lost, query_lost}, Traced.{ends_by, written_by, is_not_ok}}
 use Rattle.marple_cli.proofs.run_plan.run_plan.Goals as goal
 
 pub report_over-requires-clause-may_print : goal.report_over-requires-clause-may_print

@@ -1,11 +1,9 @@
 -- stages end as their phases do: the query is read, its plan's text is made, and then it is written
-use Rattle.command_line.specs.declared.command.Command.TheVariants.{Plan}
+use Rattle.command_line.specs.{declared.command.Command.TheVariants.Plan, Command.ways_number}
 use Rattle.std.proofs.Common.{◌∙◌, ap, refl, Some}
-use Rattle.command_line.specs.Command.{ways_number}
 use Rattle.accepted_query.specs.Accepted.{query_fault}
 use Rattle.command_answers.specs.declared.status.Status.TheVariants.{OutputFault}
-use Rattle.stage_plan.specs.Planned.{shape_of}
-use Rattle.stage_plan.specs.Shape.{plan_text_of}
+use Rattle.stage_plan.specs.{Planned.shape_of, Shape.plan_text_of}
 use Rattle.marple_cli.proofs.Ending.{all_written, handed_on, query_told, stages_are_text, query_ended, memory_ended, writing_ended}
 use Rattle.marple_cli.proofs.Taken.{query_lost}
 use Rattle.marple_cli.proofs.staging.write_stages.Goals as goal

@@ -3,9 +3,7 @@ use Rattle.command_line.specs.declared.command.Command.TheVariants.{Net}
 use Rattle.std.proofs.Common.{refl, Some}
 use Rattle.net_wide.specs.Combining.{net_fault}
 use Rattle.command_answers.specs.OwnChecks.{fault_with}
-use Rattle.marple_cli.proofs.Ending.{handed_on, query_ended}
-use Rattle.marple_cli.proofs.Taken.{both_lost, query_lost}
-use Rattle.marple_cli.proofs.Texts.{net_over}
+use Rattle.marple_cli.proofs.{Ending.{handed_on, query_ended}, Taken.{both_lost, query_lost}, Texts.net_over}
 use Rattle.marple_cli.proofs.Traced.{broken_off, not_read, whole_written}
 use Rattle.marple_cli.proofs.switches.run_network.Goals as goal
 

@@ -1,7 +1,6 @@
 -- each clause is what the table of statuses says of the answer
-use Rattle.marple_cli.specs.Call.{asked_by}
-use Rattle.marple_cli.proofs.Clauses.{fault_of_trace, input_fault, no_operand, not_reached, output_fault, query_refused, refuses_query}
-use Rattle.marple_cli.proofs.Clauses.{trace_refused, usage}
+use Rattle.marple_cli.{specs.Call.asked_by, proofs.Clauses.{fault_of_trace, input_fault, no_operand, not_reached, output_fault}}
+use Rattle.marple_cli.proofs.Clauses.{query_refused, refuses_query, trace_refused, usage}
 use Rattle.marple_cli.proofs.top.marple.Goals as goal
 
 pub returns-clause-usage : goal.returns-clause-usage

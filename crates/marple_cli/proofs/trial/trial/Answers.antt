@@ -1,27 +1,17 @@
 -- a trial ends as its phases do: its query is accepted, packets are made, and then its tables are written
-use Rattle.command_line.specs.declared.command.Command.TheVariants.{Trial}
-use Rattle.std.proofs.Common.{◌≡◌, List, None, Ok, refl, sym, ap, ◌∙◌, subst, Err}
-use Rattle.std.specs.Io.KnownBytes.{Appends}
+use Rattle.command_line.specs.declared.{command.{Command.TheVariants.Trial, Generation.Generation}, setting.Setting.Setting}
+use Rattle.std.{proofs.Common.{◌≡◌, List, None, Ok, refl, sym, ap, ◌∙◌, subst, Err}, specs.Io.KnownBytes.Appends}
 use Rattle.marple_base.specs.declared.field.Packet.{Packet}
 use Rattle.query_lang.specs.declared.typed.TypedQuery.{TypedQuery}
 use Rattle.stage_plan.specs.Packets.{AreWhole}
-use Rattle.accepted_query.specs.Accepted.{accepted}
-use Rattle.accepted_query.specs.TrialQuery.{trial_query}
-use Rattle.command_line.specs.declared.setting.Setting.{Setting}
-use Rattle.command_line.specs.declared.command.Generation.{Generation}
-use Rattle.query_run.specs.Driven.{geometry_of, pipeline_in}
-use Rattle.query_run.proofs.MadePackets.{simulated_whole}
+use Rattle.accepted_query.specs.{Accepted.accepted, TrialQuery.trial_query}
+use Rattle.query_run.{specs.Driven.{geometry_of, pipeline_in}, proofs.MadePackets.simulated_whole}
 use Rattle.query_tables.specs.Tables.{query_text}
 use Rattle.switch_core.specs.PlanLanes.{PipelineStands}
-use Rattle.trace_drive.specs.Answers.{BreaksOff}
-use Rattle.trace_drive.specs.Drives.{end_machines, words_of}
-use Rattle.marple_cli.specs.Driven.{StandsForEnd}
-use Rattle.command_answers.specs.Phases.{status_for}
-use Rattle.marple_cli.specs.Output.{made_packets, tables_text}
-use Rattle.command_answers.specs.declared.status.Status.TheVariants.{Memory}
-use Rattle.marple_cli.proofs.Ending.{all_written, answer_not_ok, driven_kept, handed_on, query_stands, memory_ended, writing_ended}
-use Rattle.marple_cli.proofs.Ending.{trial_is_text, trial_text}
-use Rattle.command_answers.proofs.Limits.{made_ends}
+use Rattle.trace_drive.specs.{Answers.BreaksOff, Drives.{end_machines, words_of}}
+use Rattle.marple_cli.{specs.{Driven.StandsForEnd, Output.{made_packets, tables_text}}, proofs.Ending.{all_written, answer_not_ok}}
+use Rattle.marple_cli.proofs.Ending.{driven_kept, handed_on, query_stands, memory_ended, writing_ended, trial_is_text, trial_text}
+use Rattle.command_answers.{specs.{Phases.status_for, declared.status.Status.TheVariants.Memory}, proofs.Limits.made_ends}
 use Rattle.marple_cli.proofs.trial.trial.Goals as goal
 
 -- the tables of the trial's query over the packets that were made are its text

@@ -1,5 +1,4 @@
-use Rattle.marple_laws.proofs.Words.{subst, AreLanesOf}
-use Rattle.marple_laws.proofs.LeftTables.{of_query, of_plan}
+use Rattle.marple_laws.proofs.{Words.{subst, AreLanesOf}, LeftTables.{of_query, of_plan}}
 use Rattle.marple_laws.proofs.left.closed_tables.Goals as goal
 
 pub returns-clause-query : goal.returns-clause-query

@@ -1,6 +1,5 @@
 use Rattle.marple_base.specs.declared.field.Field.TheVariants.{Switch}
-use Rattle.query_laws.proofs.QueryLaws.{query_sound}
-use Rattle.query_laws.proofs.Valid.{parts}
+use Rattle.query_laws.proofs.{QueryLaws.query_sound, Valid.parts}
 use Rattle.net_laws.proofs.switch_order.accepted_tell_switches.Goals as goal
 
 pub returns : goal.returns

@@ -1,7 +1,5 @@
 use Rattle.std.proofs.Common.{Some, sym, ap, ◌∙◌}
-use Rattle.switch_core.specs.Closing.{is_drained}
-use Rattle.switch_core.proofs.LaneFacts.{all_next}
-use Rattle.switch_core.proofs.SideBySide.{got_here}
+use Rattle.switch_core.{specs.Closing.is_drained, proofs.{LaneFacts.all_next, SideBySide.got_here}}
 use Rattle.network.proofs.group.all_drained.Goals as goal
 
 pub loop-front-preserved : goal.loop-front-preserved

@@ -1,9 +1,7 @@
-use Rattle.std.proofs.Common.{◌≡◌, ◌<◌, ◌+◌, length, Some, get_or, set, sym, ap, ◌∙◌, subst, arith, lit<}
+use Rattle.std.proofs.{Common.{◌≡◌, ◌<◌, ◌+◌, length, Some, get_or, set, sym, ap, ◌∙◌, subst, arith, lit<}, Math.Facts.Fits-below}
 use Rattle.std.specs.Prelude.{slice_get}
-use Rattle.std.proofs.Math.Facts.{Fits-below}
 use Rattle.query_lang.specs.declared.fault.TheConstants.{MAX_KEYS}
-use Rattle.stage_plan.specs.Planned.{wiring_at}
-use Rattle.stage_plan.specs.Sound.{IsSoundGroup}
+use Rattle.stage_plan.specs.{Planned.wiring_at, Sound.IsSoundGroup}
 use Rattle.switch_core.proofs.SideBySide.{same_some, each_long, done_start, untouched_start, done_next, untouched_next, untouched_was}
 use Rattle.switch_core.proofs.SideBySide.{done_end, got_here}
 use Rattle.network.specs.Groups.{GroupGrows, GroupView, IsGroup, with_first}

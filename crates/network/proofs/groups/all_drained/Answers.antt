@@ -1,10 +1,6 @@
-use Rattle.std.proofs.Common.{◌≡◌, true, Some, length, take, sym, ap, ◌∙◌, arith}
-use Rattle.std.specs.List.{list_all}
-use Rattle.std.proofs.Math.Seq.{take-length}
-use Rattle.switch_core.proofs.LaneFacts.{all_at, all_fails, all_next}
-use Rattle.switch_core.proofs.SideBySide.{got_here}
-use Rattle.network.specs.Groups.{group_is_drained}
-use Rattle.network.proofs.MakeSteps.{all_merged}
+use Rattle.std.{proofs.{Common.{◌≡◌, true, Some, length, take, sym, ap, ◌∙◌, arith}, Math.Seq.take-length}, specs.List.list_all}
+use Rattle.switch_core.proofs.{LaneFacts.{all_at, all_fails, all_next}, SideBySide.got_here}
+use Rattle.network.{specs.Groups.group_is_drained, proofs.MakeSteps.all_merged}
 use Rattle.network.proofs.groups.all_drained.Goals as goal
 
 pub returns-then-not-drained-clause-value : goal.returns-then-not-drained-clause-value

@@ -1,5 +1,4 @@
-use Rattle.std.proofs.Common.{◌≡◌, true, take}
-use Rattle.std.specs.List.{list_all}
+use Rattle.std.{proofs.Common.{◌≡◌, true, take}, specs.List.list_all}
 use Rattle.network.specs.Groups.{group_is_drained}
 use Rattle.network.proofs.groups.all_drained.Given as goal
 

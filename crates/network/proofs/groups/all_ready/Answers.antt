@@ -1,8 +1,6 @@
 use Rattle.std.proofs.Common.{Some, sym, ap, ◌∙◌, lit<}
-use Rattle.switch_core.proofs.LaneFacts.{all_fails, all_next}
-use Rattle.switch_core.proofs.SideBySide.{got_here}
-use Rattle.network.specs.Events.{is_ready_at}
-use Rattle.network.proofs.MakeSteps.{switch_within}
+use Rattle.switch_core.proofs.{LaneFacts.{all_fails, all_next}, SideBySide.got_here}
+use Rattle.network.{specs.Events.is_ready_at, proofs.MakeSteps.switch_within}
 use Rattle.network.proofs.groups.all_ready.Goals as goal
 
 pub ready-requires : goal.ready-requires

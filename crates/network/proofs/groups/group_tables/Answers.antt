@@ -1,9 +1,7 @@
-use Rattle.std.proofs.Common.{◌++◌, [], ◌∷◌, Some, length, take, sym, ap, ◌∙◌, arith}
-use Rattle.std.proofs.Math.Facts.{Fits-below}
+use Rattle.std.proofs.{Common.{◌++◌, [], ◌∷◌, Some, length, take, sym, ap, ◌∙◌, arith}, Math.Facts.Fits-below}
 use Rattle.query_lang.specs.declared.fault.TheConstants.{MAX_KEYS}
 use Rattle.switch_core.proofs.SideBySide.{same_some, each_long, each_at, got_here}
-use Rattle.network.specs.Groups.{shared_tables}
-use Rattle.network.proofs.GroupSteps.{part_of, tables_next, tables_whole}
+use Rattle.network.{specs.Groups.shared_tables, proofs.GroupSteps.{part_of, tables_next, tables_whole}}
 use Rattle.network.proofs.groups.group_tables.Goals as goal
 
 pub overflow_cast-i : goal.overflow_cast-i

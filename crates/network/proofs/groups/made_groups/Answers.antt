@@ -1,10 +1,7 @@
-use Rattle.std.proofs.Common.{ℕ, ◌+◌, ◌++◌, [], ◌∷◌, take, sym, subst, lit<}
+use Rattle.std.proofs.{Common.{ℕ, ◌+◌, ◌++◌, [], ◌∷◌, take, sym, subst, lit<}, lemmas.List.Elements.{All-append, All-cons, All-nil}}
 use Rattle.std.specs.List.{All}
-use Rattle.std.proofs.lemmas.List.Elements.{All-append, All-cons, All-nil}
-use Rattle.stage_plan.specs.declared.group.GroupPlan.{GroupPlan}
-use Rattle.stage_plan.specs.Planned.{wiring_at}
-use Rattle.switch_core.specs.Rows.{EachFrom}
-use Rattle.switch_core.proofs.LanesMade.{each_push, take_next, group_sound}
+use Rattle.stage_plan.specs.{declared.group.GroupPlan.GroupPlan, Planned.wiring_at}
+use Rattle.switch_core.{specs.Rows.EachFrom, proofs.LanesMade.{each_push, take_next, group_sound}}
 use Rattle.network.specs.Groups.{GroupStands, GroupView, IsGroup}
 use Rattle.network.proofs.groups.made_groups.Goals as goal
 

@@ -1,5 +1,4 @@
-use Rattle.std.proofs.Common.{ℕ, [], take}
-use Rattle.std.specs.List.{All}
+use Rattle.std.{proofs.Common.{ℕ, [], take}, specs.List.All}
 use Rattle.stage_plan.specs.Planned.{wiring_at}
 use Rattle.switch_core.specs.Rows.{EachFrom}
 use Rattle.network.specs.Groups.{GroupStands, IsGroup}

@@ -1,19 +1,12 @@
-use Rattle.std.proofs.Common.{◌≡◌, ◌<◌, ◌+◌, ℕ, length, Some, take, get_or, refl, sym, ◌∙◌, subst, arith, lit<}
+use Rattle.std.proofs.{Common.{◌≡◌, ◌<◌, ◌+◌, ℕ, length, Some, take, get_or, refl, sym, ◌∙◌, subst, arith, lit<}, Math.Facts.Fits-below}
 use Rattle.std.specs.Prelude.{sum_by, slice_get}
-use Rattle.std.proofs.Math.Facts.{Fits-below}
 use Rattle.epoch_model.specs.Driving.{event_of}
 use Rattle.query_lang.specs.declared.fault.TheConstants.{MAX_KEYS}
-use Rattle.stage_plan.specs.Planned.{wiring_at}
-use Rattle.stage_plan.specs.Registers.{taken_at}
-use Rattle.switch_core.proofs.LaneFacts.{all_at}
-use Rattle.switch_core.proofs.SweepCosts.{sum_within}
-use Rattle.switch_core.proofs.SideBySide.{same_some, each_long, done_start, untouched_start, done_next, untouched_next, untouched_was}
-use Rattle.switch_core.proofs.SideBySide.{done_end, sum_next, got_here}
-use Rattle.network.specs.Groups.{GroupView}
-use Rattle.network.specs.Events.{GroupMakesAll, is_ready_at}
-use Rattle.network.specs.Costs.{group_cost}
-use Rattle.network.proofs.CostSteps.{group_within, within_next}
-use Rattle.network.proofs.GroupSteps.{part_of}
+use Rattle.stage_plan.specs.{Planned.wiring_at, Registers.taken_at}
+use Rattle.switch_core.proofs.{LaneFacts.all_at, SweepCosts.sum_within, SideBySide.{same_some, each_long, done_start, untouched_start}}
+use Rattle.switch_core.proofs.SideBySide.{done_next, untouched_next, untouched_was, done_end, sum_next, got_here}
+use Rattle.network.specs.{Groups.GroupView, Events.{GroupMakesAll, is_ready_at}, Costs.group_cost}
+use Rattle.network.proofs.{CostSteps.{group_within, within_next}, GroupSteps.part_of}
 use Rattle.network.proofs.groups.packet_groups.Goals as goal
 use Rattle.network.proofs.groups.packet_groups.Goals.{In-loop-i}
 

@@ -1,12 +1,8 @@
-use Rattle.std.proofs.Common.{◌≡◌, ◌≤◌, ◌+◌, length, take}
-use Rattle.std.specs.Prelude.{sum_by}
+use Rattle.std.{proofs.Common.{◌≡◌, ◌≤◌, ◌+◌, length, take}, specs.Prelude.sum_by}
 use Rattle.epoch_model.specs.Driving.{event_of}
-use Rattle.stage_plan.specs.Planned.{wiring_at}
-use Rattle.stage_plan.specs.Registers.{taken_at}
+use Rattle.stage_plan.specs.{Planned.wiring_at, Registers.taken_at}
 use Rattle.switch_core.proofs.SideBySide.{Done, Untouched}
-use Rattle.network.specs.Groups.{GroupView}
-use Rattle.network.specs.Events.{GroupMakesAll}
-use Rattle.network.specs.Costs.{group_cost}
+use Rattle.network.specs.{Groups.GroupView, Events.GroupMakesAll, Costs.group_cost}
 use Rattle.network.proofs.groups.packet_groups.Given as goal
 
 -- the groupbys so far had their events

@@ -1,9 +1,7 @@
 use Rattle.std.proofs.Common.{◌≡◌, ℕ, ◌+◌, ◌*◌, ◌≤◌, true, false, [], Option, Some, map, refl, sym, ap, ◌∙◌, subst, arith}
-use Rattle.epoch_model.specs.Driving.{Taken, event_of}
-use Rattle.epoch_model.specs.Keys.{Key, ArgRow}
+use Rattle.epoch_model.specs.{Driving.{Taken, event_of}, Keys.{Key, ArgRow}}
 use Rattle.epoch_entry.specs.contracts.any.AnyEpochsEpochKind.TheImpl.{ghosts}
-use Rattle.stage_plan.specs.Planned.{wiring_at}
-use Rattle.stage_plan.specs.Registers.{operand_value, taken_at}
+use Rattle.stage_plan.specs.{Planned.wiring_at, Registers.{operand_value, taken_at}}
 use Rattle.switch_core.specs.FrontEvents.{with_store}
 use Rattle.network.specs.Events.{LaneCarries}
 use Rattle.network.proofs.taking.take_use.Goals as goal

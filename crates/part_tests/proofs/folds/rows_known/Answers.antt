@@ -1,6 +1,4 @@
-use Rattle.std.proofs.Common.{sym, ap, ◌∙◌}
-use Rattle.std.proofs.Math.Logic.{∥∥₁_elim}
-use Rattle.std.proofs.Props.{props}
+use Rattle.std.proofs.{Common.{sym, ap, ◌∙◌}, Math.Logic.{∥∥₁_elim}, Props.props}
 use Rattle.fold_class.specs.Rows.{element_size}
 use Rattle.part_tests.proofs.folds.rows_known.Goals as goal
 

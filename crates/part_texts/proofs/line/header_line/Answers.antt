@@ -1,6 +1,5 @@
 use Rattle.std.proofs.Common.{◌+◌, ◌++◌, ◌∙◌, ap, drop, get_or, map}
-use Rattle.marple_base.specs.Field.{field_name}
-use Rattle.marple_base.specs.declared.field.Field.TheVariants.{Switch}
+use Rattle.marple_base.specs.{Field.field_name, declared.field.Field.TheVariants.Switch}
 use Rattle.queue_sim.specs.TraceText.{continued}
 use Rattle.part_texts.proofs.LineFacts.{names_more}
 use Rattle.part_texts.proofs.line.header_line.Goals as goal

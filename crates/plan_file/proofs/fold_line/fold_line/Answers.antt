@@ -1,7 +1,6 @@
 use Rattle.std.proofs.Common.{◌≡◌, refl, sym, subst, ◌∙◌}
 use Rattle.query_lang.specs.Folds.{fold_states}
-use Rattle.plan_file.specs.FoldLines.{IsFoldWords}
-use Rattle.plan_file.proofs.SameFold.{class_same, depth_same, depth_once, words_once}
+use Rattle.plan_file.{specs.FoldLines.IsFoldWords, proofs.SameFold.{class_same, depth_same, depth_once, words_once}}
 use Rattle.plan_file.proofs.fold_line.fold_line.Goals as goal
 
 pub returns-in-None : goal.returns-in-None

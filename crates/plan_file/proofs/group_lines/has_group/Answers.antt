@@ -1,7 +1,5 @@
-use Rattle.std.proofs.Common.{◌≡◌, ◌<◌, true, false, length, arith, below_more}
-use Rattle.std.specs.Str.{bytes_eq}
-use Rattle.plan_file.specs.Groups.{names_of}
-use Rattle.plan_file.proofs.NameFacts.{found_at, other_at, not_among, count_names, named_at}
+use Rattle.std.{proofs.Common.{◌≡◌, ◌<◌, true, false, length, arith, below_more}, specs.Str.bytes_eq}
+use Rattle.plan_file.{specs.Groups.names_of, proofs.NameFacts.{found_at, other_at, not_among, count_names, named_at}}
 use Rattle.plan_file.proofs.group_lines.has_group.Goals as goal
 
 pub returns-then-is_text-clause-yes : goal.returns-then-is_text-clause-yes

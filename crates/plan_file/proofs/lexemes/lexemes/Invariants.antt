@@ -1,7 +1,5 @@
-use Rattle.std.proofs.Common.{◌≡◌, ◌+◌, ◌++◌, length}
-use Rattle.std.specs.Prelude.{map, if◌then◌else◌}
-use Rattle.plan_file.specs.Lexis.{tokens_left}
-use Rattle.plan_file.specs.Lexemes.{lexeme_of}
+use Rattle.std.{proofs.Common.{◌≡◌, ◌+◌, ◌++◌, length}, specs.Prelude.{map, if◌then◌else◌}}
+use Rattle.plan_file.specs.{Lexis.tokens_left, Lexemes.lexeme_of}
 use Rattle.plan_file.proofs.lexemes.lexemes.Given as goal
 
 abbrev pub invariant-tokens : goal.invariant-tokens

@@ -1,5 +1,4 @@
-use Rattle.std.proofs.Common.{◌≡◌, take, true}
-use Rattle.std.specs.List.{list_all}
+use Rattle.std.{proofs.Common.{◌≡◌, take, true}, specs.List.list_all}
 use Rattle.query_lang.specs.Lexis.{is_digit}
 use Rattle.plan_file.proofs.lexis.all_digits.Given as goal
 

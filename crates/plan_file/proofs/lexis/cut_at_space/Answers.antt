@@ -1,7 +1,5 @@
-use Rattle.std.proofs.Common.{◌+◌, ◌-◌, drop, length, arith, rules}
-use Rattle.std.proofs.lemmas.List.{take_all, length-drop}
-use Rattle.plan_file.specs.Lexis.{is_space}
-use Rattle.plan_file.proofs.LexisFacts.{split_first, split_none}
+use Rattle.std.proofs.{Common.{◌+◌, ◌-◌, drop, length, arith, rules}, lemmas.List.{take_all, length-drop}}
+use Rattle.plan_file.{specs.Lexis.is_space, proofs.LexisFacts.{split_first, split_none}}
 use Rattle.plan_file.proofs.lexis.cut_at_space.Goals as goal
 
 pub returns-then-byte-eq32-clause-parts : goal.returns-then-byte-eq32-clause-parts

@@ -1,6 +1,5 @@
 -- Each byte of a text of digits is a digit.
-use Rattle.std.proofs.Common.{◌≡◌, true}
-use Rattle.std.specs.List.{list_all}
+use Rattle.std.{proofs.Common.{◌≡◌, true}, specs.List.list_all}
 use Rattle.query_lang.specs.Lexis.{is_digit}
 use Rattle.plan_file.proofs.LexisFacts.{one_of_all}
 use Rattle.plan_file.proofs.lexis.number.Goals as goal

@@ -1,5 +1,4 @@
-use Rattle.std.proofs.Common.{◌≡◌, take, true}
-use Rattle.std.specs.List.{list_all}
+use Rattle.std.{proofs.Common.{◌≡◌, take, true}, specs.List.list_all}
 use Rattle.query_lang.specs.Lexis.{is_word_byte}
 use Rattle.plan_file.proofs.named.all_words.Given as goal
 

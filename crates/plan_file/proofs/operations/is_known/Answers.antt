@@ -1,5 +1,4 @@
-use Rattle.std.proofs.Common.{◌≤◌, ◌+◌, length, arith}
-use Rattle.std.proofs.lemmas.Bool.Decides.{nat_tests}
+use Rattle.std.proofs.{Common.{◌≤◌, ◌+◌, length, arith}, lemmas.Bool.Decides.nat_tests}
 use Rattle.marple_base.specs.declared.field.TheConstants.{FIELDS}
 use Rattle.plan_file.proofs.OperandFacts.{not_known}
 use Rattle.plan_file.proofs.operations.is_known.Goals as goal

@@ -1,7 +1,5 @@
-use Rattle.std.proofs.Common.{rules}
-use Rattle.std.specs.List.{slice_split}
-use Rattle.plan_file.specs.Lexis.{is_space}
-use Rattle.plan_file.proofs.OpFacts.{no_line, no_other_word, six_tokens}
+use Rattle.std.{proofs.Common.rules, specs.List.slice_split}
+use Rattle.plan_file.{specs.Lexis.is_space, proofs.OpFacts.{no_line, no_other_word, six_tokens}}
 use Rattle.plan_file.proofs.operations.op_line.Goals as goal
 
 pub returns-then-not-is_text : goal.returns-then-not-is_text

@@ -1,6 +1,4 @@
-use Rattle.plan_file.specs.Lexis.{number, function_named}
-use Rattle.plan_file.specs.Operations.{operand}
-use Rattle.plan_file.proofs.OpFacts.{two_no_left}
+use Rattle.plan_file.{specs.{Lexis.{number, function_named}, Operations.operand}, proofs.OpFacts.two_no_left}
 use Rattle.plan_file.proofs.operations.two_op.Goals as goal
 
 pub returns-in_err-left : goal.returns-in_err-left

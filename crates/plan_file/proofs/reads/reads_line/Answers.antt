@@ -1,5 +1,4 @@
-use Rattle.std.proofs.Common.{◌≡◌, ◌∙◌, ap, sym, subst, true, false}
-use Rattle.std.specs.Str.{bytes_eq}
+use Rattle.std.{proofs.Common.{◌≡◌, ◌∙◌, ap, sym, subst, true, false}, specs.Str.bytes_eq}
 use Rattle.plan_file.specs.Lexis.{tokens_left}
 use Rattle.plan_file.proofs.ReadsFacts.{IsPassed, step_with, step_other, step_end, left_over, passed_all, text_same, text_other}
 use Rattle.plan_file.proofs.reads.reads_line.Goals as goal

@@ -1,5 +1,4 @@
-use Rattle.plan_file.specs.Lexis.{tokens_left}
-use Rattle.plan_file.proofs.ReadsFacts.{IsPassed}
+use Rattle.plan_file.{specs.Lexis.tokens_left, proofs.ReadsFacts.IsPassed}
 use Rattle.plan_file.proofs.reads.reads_line.Given as goal
 
 abbrev pub invariant-loop-i : goal.invariant-loop-i

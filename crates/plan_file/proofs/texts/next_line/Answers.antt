@@ -1,5 +1,4 @@
-use Rattle.std.proofs.Common.{◌-◌, drop, length, arith}
-use Rattle.std.proofs.lemmas.List.{take_all, length-drop}
+use Rattle.std.proofs.{Common.{◌-◌, drop, length, arith}, lemmas.List.{take_all, length-drop}}
 use Rattle.plan_file.proofs.TextFacts.{after_lines, next_start}
 use Rattle.plan_file.proofs.texts.next_line.Goals as goal
 

@@ -1,6 +1,5 @@
 use Rattle.std.proofs.Common.{◌+◌}
-use Rattle.plan_file.proofs.ReadFacts.{reached_more}
-use Rattle.plan_file.proofs.WithinFacts.{line_within}
+use Rattle.plan_file.proofs.{ReadFacts.reached_more, WithinFacts.line_within}
 use Rattle.plan_file.proofs.texts.read_lines.Goals as goal
 
 pub lines-preserved : goal.lines-preserved

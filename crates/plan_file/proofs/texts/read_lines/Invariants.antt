@@ -1,7 +1,5 @@
 use Rattle.std.proofs.Common.{ℕ, ◌≤◌, ◌-◌, length}
-use Rattle.plan_file.specs.declared.texts.TheConstants.{MAX_PLAN}
-use Rattle.plan_file.specs.Lines.{IsWithin}
-use Rattle.plan_file.proofs.ReadFacts.{IsReached}
+use Rattle.plan_file.{specs.{declared.texts.TheConstants.MAX_PLAN, Lines.IsWithin}, proofs.ReadFacts.IsReached}
 use Rattle.plan_file.proofs.texts.read_lines.Given as goal
 
 abbrev pub invariant-lines : goal.invariant-lines

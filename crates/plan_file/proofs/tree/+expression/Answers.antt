@@ -1,9 +1,6 @@
-use Rattle.std.proofs.Common.{◌≡◌, ◌++◌, ◌-◌, List, length, take, drop, ◌∙◌, arith}
-use Rattle.std.proofs.lemmas.List.{take_all, length-drop}
+use Rattle.std.proofs.{Common.{◌≡◌, ◌++◌, ◌-◌, List, length, take, drop, ◌∙◌, arith}, lemmas.List.{take_all, length-drop}}
 use Rattle.query_lang.proofs.TreeLemmas.{term_not, term_binary}
-use Rattle.plan_file.specs.declared.lexemes.Lexeme.{Lexeme}
-use Rattle.plan_file.specs.declared.lexemes.Lexeme.TheVariants.{Set}
-use Rattle.plan_file.specs.Bodies.{written}
+use Rattle.plan_file.specs.{declared.lexemes.Lexeme.{Lexeme, TheVariants.Set}, Bodies.written}
 use Rattle.plan_file.proofs.TreeFacts.{no_words, not_case, function_case}
 use Rattle.plan_file.proofs.tree.+expression.Goals as goal
 

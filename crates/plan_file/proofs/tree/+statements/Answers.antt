@@ -1,9 +1,7 @@
 use Rattle.std.proofs.Common.{◌≡◌, ◌<◌, ◌-◌, true, false, ◌∷◌, ◌++◌, length, sym, ap, subst, ◌∙◌, arith}
-use Rattle.query_lang.specs.Blocks.{End, Fork, block_of, stmt_block}
-use Rattle.query_lang.proofs.TreeLemmas.{block_if}
+use Rattle.query_lang.{specs.Blocks.{End, Fork, block_of, stmt_block}, proofs.TreeLemmas.block_if}
 use Rattle.plan_file.specs.declared.lexemes.Lexeme.TheVariants as word
-use Rattle.plan_file.specs.Bodies.{written, written_block}
-use Rattle.plan_file.specs.Trees.{begins_statement}
+use Rattle.plan_file.specs.{Bodies.{written, written_block}, Trees.begins_statement}
 use Rattle.plan_file.proofs.TreeFacts.{tail_same, choice_front, IsLeft, left_last, left_ahead, left_more}
 use Rattle.plan_file.proofs.tree.+statements.Goals as goal
 

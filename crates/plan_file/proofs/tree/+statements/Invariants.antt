@@ -1,10 +1,6 @@
 use Rattle.std.proofs.Common.{◌≡◌, ◌≤◌, ◌+◌, ◌*◌, ◌-◌, ◌++◌, List, length}
-use Rattle.query_lang.specs.Blocks.{Block}
-use Rattle.query_lang.specs.Folds.{IsValidBlock}
-use Rattle.plan_file.specs.declared.lexemes.Lexeme.{Lexeme}
-use Rattle.plan_file.specs.Bodies.{written_block}
-use Rattle.plan_file.specs.Trees.{Closes}
-use Rattle.plan_file.proofs.TreeFacts.{IsLeft}
+use Rattle.query_lang.specs.{Blocks.Block, Folds.IsValidBlock}
+use Rattle.plan_file.{specs.{declared.lexemes.Lexeme.Lexeme, Bodies.written_block, Trees.Closes}, proofs.TreeFacts.IsLeft}
 use Rattle.plan_file.proofs.tree.+statements.Given as goal
 
 abbrev pub decreases-braced : goal.decreases-braced

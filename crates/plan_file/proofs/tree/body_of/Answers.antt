@@ -1,6 +1,5 @@
 use Rattle.std.proofs.Common.{[], sym, ◌∙◌, append-nil}
-use Rattle.plan_file.specs.Bodies.{written_block}
-use Rattle.plan_file.proofs.TreeFacts.{small_body, body_small, same_args}
+use Rattle.plan_file.{specs.Bodies.written_block, proofs.TreeFacts.{small_body, body_small, same_args}}
 use Rattle.plan_file.proofs.tree.body_of.Goals as goal
 
 pub returns-then-not-are_small : goal.returns-then-not-are_small

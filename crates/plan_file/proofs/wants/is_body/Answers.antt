@@ -1,16 +1,11 @@
 use Rattle.std.proofs.Common.{◌≡◌, ℕ, ◌+◌, ◌<◌, ◌≤◌, Bool, true, false, List, [], ◌∷◌, ◌++◌, length, drop, get_or, refl, sym, ap, ◌∙◌}
-use Rattle.std.proofs.Common.{subst, arith, add-one, drop-cons}
+use Rattle.std.proofs.{Common.{subst, arith, add-one, drop-cons}, lemmas.{Bool.Decides.nat_tests, List.{drop_all, nil_from_length}}}
 use Rattle.std.specs.Prelude.{MatchBool, ◌==◌, vec_len}
-use Rattle.std.proofs.lemmas.Bool.Decides.{nat_tests}
-use Rattle.std.proofs.lemmas.List.{drop_all, nil_from_length}
 use Rattle.query_lang.specs.Blocks as blocks
 use Rattle.query_lang.specs.declared.fault.TheConstants.{MAX_NESTING}
 use Rattle.plan_file.specs.declared.lexemes.Lexeme.{Lexeme}
 use Rattle.plan_file.specs.declared.lexemes.Lexeme.TheVariants as word
-use Rattle.plan_file.specs.declared.wants.Want.{Want}
-use Rattle.plan_file.specs.declared.wants.Want.TheVariants.{Block}
-use Rattle.plan_file.specs.Bodies.{IsBody}
-use Rattle.plan_file.specs.Wants.{Steps, Sticks}
+use Rattle.plan_file.specs.{declared.wants.Want.{Want, TheVariants.Block}, Bodies.IsBody, Wants.{Steps, Sticks}}
 use Rattle.plan_file.proofs.Wanted.{StackReads, body_read, read_body, step_goes, step_back, step_sticks, ends_read, ends_empty}
 use Rattle.plan_file.proofs.wants.is_body.Goals as goal
 use Rattle.plan_file.proofs.wants.is_body.Goals.{then-closed, else-closed}

@@ -1,8 +1,6 @@
 use Rattle.std.proofs.Common.{[], ◌∷◌, ◌++◌, drop}
 use Rattle.query_lang.specs.declared.fault.TheConstants.{MAX_NESTING}
-use Rattle.plan_file.specs.declared.lexemes.Lexeme.TheVariants.{Close}
-use Rattle.plan_file.specs.declared.wants.Want.TheVariants.{Block}
-use Rattle.plan_file.proofs.Wanted.{StackReads}
+use Rattle.plan_file.{specs.declared.{lexemes.Lexeme.TheVariants.Close, wants.Want.TheVariants.Block}, proofs.Wanted.StackReads}
 use Rattle.plan_file.proofs.wants.is_body.Given as goal
 
 abbrev pub invariant-loop-word : goal.invariant-loop-word

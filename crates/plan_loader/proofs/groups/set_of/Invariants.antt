@@ -1,5 +1,4 @@
-use Rattle.std.proofs.Common.{◌≡◌, drop}
-use Rattle.std.specs.Prelude.{fold}
+use Rattle.std.{proofs.Common.{◌≡◌, drop}, specs.Prelude.fold}
 use Rattle.marple_base.specs.Field.{with_field, field_set}
 use Rattle.plan_loader.proofs.groups.set_of.Given as goal
 

@@ -1,8 +1,5 @@
-use Rattle.std.proofs.Common.{ap, sym, ◌∙◌, subst, map, ◌++◌, ◌∷◌, []}
-use Rattle.std.proofs.lemmas.List.{map-append}
-use Rattle.plan_loader.specs.Meaning.{wiring_in}
-use Rattle.plan_loader.specs.Parts.{AreGroupsFrom, IsGroupFrom}
-use Rattle.plan_loader.proofs.SoundPlan.{zip_push}
+use Rattle.std.proofs.{Common.{ap, sym, ◌∙◌, subst, map, ◌++◌, ◌∷◌, []}, lemmas.List.map-append}
+use Rattle.plan_loader.{specs.{Meaning.wiring_in, Parts.{AreGroupsFrom, IsGroupFrom}}, proofs.SoundPlan.zip_push}
 use Rattle.plan_loader.proofs.groups.wired_groups.Goals as goal
 
 pub loop-one-preserved : goal.loop-one-preserved

@@ -1,6 +1,5 @@
 use Rattle.std.proofs.Common.{◌≡◌, map}
-use Rattle.plan_loader.specs.Meaning.{wiring_in}
-use Rattle.plan_loader.specs.Parts.{AreGroupsFrom}
+use Rattle.plan_loader.specs.{Meaning.wiring_in, Parts.AreGroupsFrom}
 use Rattle.plan_loader.proofs.groups.wired_groups.Given as goal
 
 -- what is made of the groups so far

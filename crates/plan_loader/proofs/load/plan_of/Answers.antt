@@ -1,10 +1,7 @@
 use Rattle.std.proofs.Common.{◌≡◌, ◌∙◌, List, All, map, sym, ap, subst}
-use Rattle.stage_plan.specs.declared.group.GroupPlan.{GroupPlan}
-use Rattle.stage_plan.specs.declared.group.GroupWiring.{GroupWiring}
+use Rattle.stage_plan.specs.declared.group.{GroupPlan.GroupPlan, GroupWiring.GroupWiring}
 use Rattle.plan_file.specs.declared.made.Made.{Made}
-use Rattle.plan_loader.specs.Meaning.{reads_in, wiring_in}
-use Rattle.plan_loader.specs.Parts.{AreGroupsFrom, IsPlanFrom, IsWhole}
-use Rattle.plan_loader.specs.declared.load.Parts.{Parts}
+use Rattle.plan_loader.specs.{Meaning.{reads_in, wiring_in}, Parts.{AreGroupsFrom, IsPlanFrom, IsWhole}, declared.load.Parts.Parts}
 use Rattle.plan_loader.proofs.SoundPlan.{all_whole, shape_is, sound_plan}
 use Rattle.plan_loader.proofs.load.plan_of.Goals as goal
 

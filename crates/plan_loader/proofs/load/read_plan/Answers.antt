@@ -1,11 +1,7 @@
-use Rattle.std.proofs.Common.{ap, ◌∙◌}
-use Rattle.std.proofs.lemmas.Result.{err_from_is_err_and}
+use Rattle.std.proofs.{Common.{ap, ◌∙◌}, lemmas.Result.err_from_is_err_and}
 use Rattle.stage_plan.specs.Shape.{bound_of}
-use Rattle.plan_file.proofs.AnswerFacts.{nowhere, only_answer}
-use Rattle.plan_file.proofs.LineLaws.{makes_one}
-use Rattle.plan_file.proofs.TextLaws.{says_one}
-use Rattle.plan_loader.specs.Meaning.{text_shape}
-use Rattle.plan_loader.proofs.SoundMade.{says_sound}
+use Rattle.plan_file.proofs.{AnswerFacts.{nowhere, only_answer}, LineLaws.makes_one, TextLaws.says_one}
+use Rattle.plan_loader.{specs.Meaning.text_shape, proofs.SoundMade.says_sound}
 use Rattle.plan_loader.proofs.load.read_plan.Goals as goal
 
 pub plan_of-requires : goal.plan_of-requires

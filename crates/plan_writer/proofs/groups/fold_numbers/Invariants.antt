@@ -1,5 +1,4 @@
-use Rattle.std.proofs.Common.{◌≡◌, ◌++◌, drop}
-use Rattle.std.specs.Prelude.{map}
+use Rattle.std.{proofs.Common.{◌≡◌, ◌++◌, drop}, specs.Prelude.map}
 use Rattle.query_lang.specs.Streams.{takings}
 use Rattle.plan_writer.proofs.groups.fold_numbers.Given as goal
 

@@ -1,5 +1,4 @@
-use Rattle.std.proofs.Common.{◌≡◌, ◌∷◌, [], ◌++◌, take}
-use Rattle.std.specs.Prelude.{flat_map, codes}
+use Rattle.std.{proofs.Common.{◌≡◌, ◌∷◌, [], ◌++◌, take}, specs.Prelude.{flat_map, codes}}
 use Rattle.plan_writer.specs.Words.{line, operand_word}
 use Rattle.plan_writer.proofs.groups.push_args.Given as goal
 

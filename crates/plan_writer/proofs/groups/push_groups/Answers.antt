@@ -1,5 +1,4 @@
-use Rattle.plan_writer.specs.PlanText.{group_text}
-use Rattle.plan_writer.proofs.Plans.{groups_more}
+use Rattle.plan_writer.{specs.PlanText.group_text, proofs.Plans.groups_more}
 use Rattle.plan_writer.proofs.groups.push_groups.Goals as goal
 
 pub loop-i-preserved : goal.loop-i-preserved

@@ -1,6 +1,4 @@
-use Rattle.std.proofs.Common.{◌≡◌, ◌++◌}
-use Rattle.std.specs.Prelude.{flat_map}
-use Rattle.std.specs.List.{range_with_len}
+use Rattle.std.{proofs.Common.{◌≡◌, ◌++◌}, specs.{Prelude.flat_map, List.range_with_len}}
 use Rattle.plan_writer.specs.PlanText.{group_text}
 use Rattle.plan_writer.proofs.groups.push_groups.Given as goal
 

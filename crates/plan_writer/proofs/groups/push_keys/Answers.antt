@@ -1,7 +1,5 @@
-use Rattle.std.proofs.Common.{arith}
-use Rattle.std.specs.Prelude.{codes}
-use Rattle.plan_writer.specs.Words.{operand_word}
-use Rattle.plan_writer.proofs.NamedLines.{named_end}
+use Rattle.std.{proofs.Common.arith, specs.Prelude.codes}
+use Rattle.plan_writer.{specs.Words.operand_word, proofs.NamedLines.named_end}
 use Rattle.plan_writer.proofs.groups.push_keys.Goals as goal
 
 pub returns : goal.returns

@@ -1,7 +1,5 @@
-use Rattle.std.proofs.Common.{◌≡◌, ◌++◌, drop}
-use Rattle.std.specs.Prelude.{map, codes}
-use Rattle.plan_writer.specs.Words.{operand_word}
-use Rattle.plan_writer.specs.PlanText.{named_lines}
+use Rattle.std.{proofs.Common.{◌≡◌, ◌++◌, drop}, specs.Prelude.{map, codes}}
+use Rattle.plan_writer.specs.{Words.operand_word, PlanText.named_lines}
 use Rattle.plan_writer.proofs.groups.push_keys.Given as goal
 
 abbrev pub invariant-loop-at : goal.invariant-loop-at

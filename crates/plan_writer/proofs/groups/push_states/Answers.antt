@@ -1,5 +1,4 @@
-use Rattle.std.proofs.Common.{arith}
-use Rattle.std.specs.Prelude.{codes, decimal}
+use Rattle.std.{proofs.Common.arith, specs.Prelude.{codes, decimal}}
 use Rattle.plan_writer.proofs.NamedLines.{named_end}
 use Rattle.plan_writer.proofs.groups.push_states.Goals as goal
 

@@ -1,5 +1,4 @@
-use Rattle.std.proofs.Common.{◌≡◌, ◌++◌, drop}
-use Rattle.std.specs.Prelude.{map, codes, decimal}
+use Rattle.std.{proofs.Common.{◌≡◌, ◌++◌, drop}, specs.Prelude.{map, codes, decimal}}
 use Rattle.plan_writer.specs.PlanText.{named_lines}
 use Rattle.plan_writer.proofs.groups.push_states.Given as goal
 

@@ -1,5 +1,4 @@
-use Rattle.std.proofs.Common.{◌≡◌, ◌++◌, take}
-use Rattle.std.specs.Prelude.{map, filter}
+use Rattle.std.{proofs.Common.{◌≡◌, ◌++◌, take}, specs.Prelude.{map, filter}}
 use Rattle.marple_base.specs.Field.{field_name, has_field}
 use Rattle.plan_writer.specs.Words.{spaced}
 use Rattle.plan_writer.proofs.lines.push_fields.Given as goal

@@ -1,5 +1,4 @@
-use Rattle.plan_writer.specs.PlanText.{op_line}
-use Rattle.plan_writer.proofs.Plans.{items_more}
+use Rattle.plan_writer.{specs.PlanText.op_line, proofs.Plans.items_more}
 use Rattle.plan_writer.proofs.operations.push_ops.Goals as goal
 
 pub loop-number-preserved : goal.loop-number-preserved

@@ -1,5 +1,4 @@
-use Rattle.std.proofs.Common.{◌≡◌, ◌++◌, take}
-use Rattle.std.specs.Prelude.{flat_map}
+use Rattle.std.{proofs.Common.{◌≡◌, ◌++◌, take}, specs.Prelude.flat_map}
 use Rattle.plan_writer.specs.PlanText.{op_line}
 use Rattle.plan_writer.proofs.operations.push_ops.Given as goal
 

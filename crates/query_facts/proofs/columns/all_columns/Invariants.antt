@@ -1,5 +1,4 @@
-use Rattle.std.proofs.Common.{◌≡◌, ◌++◌, ◌∷◌, [], ◌≤◌, ◌+◌, drop, length}
-use Rattle.std.specs.Prelude.{fold}
+use Rattle.std.{proofs.Common.{◌≡◌, ◌++◌, ◌∷◌, [], ◌≤◌, ◌+◌, drop, length}, specs.Prelude.fold}
 use Rattle.query_facts.specs.Columns.{packet_origins, with_origins}
 use Rattle.query_facts.proofs.columns.all_columns.Given as goal
 

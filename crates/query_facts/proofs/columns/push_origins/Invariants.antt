@@ -1,5 +1,4 @@
-use Rattle.std.proofs.Common.{◌≡◌, ◌++◌, take}
-use Rattle.std.specs.Prelude.{map}
+use Rattle.std.{proofs.Common.{◌≡◌, ◌++◌, take}, specs.Prelude.map}
 use Rattle.query_facts.specs.Columns.{origin_at}
 use Rattle.query_facts.proofs.columns.push_origins.Given as goal
 

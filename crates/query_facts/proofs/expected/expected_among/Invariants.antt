@@ -1,5 +1,4 @@
-use Rattle.std.proofs.Common.{◌≡◌, ◌++◌, drop}
-use Rattle.std.specs.Prelude.{filter}
+use Rattle.std.{proofs.Common.{◌≡◌, ◌++◌, drop}, specs.Prelude.filter}
 use Rattle.query_facts.specs.Expected.{goes_on}
 use Rattle.query_facts.proofs.expected.expected_among.Given as goal
 

@@ -1,5 +1,4 @@
-use Rattle.std.proofs.Common.{◌≡◌, drop}
-use Rattle.std.specs.Str.Parse.{digits_value, digits_value_after}
+use Rattle.std.{proofs.Common.{◌≡◌, drop}, specs.Str.Parse.{digits_value, digits_value_after}}
 use Rattle.query_lang.proofs.lexis.number_of.Given as goal
 
 abbrev pub invariant-loop-d : goal.invariant-loop-d

@@ -1,11 +1,7 @@
 -- The place is the first with the text, so it is the text's number.
-use Rattle.std.proofs.Common.{◌≡◌, [], inl, inr, get_or, length, arith, sym, ap, ◌∙◌}
-use Rattle.std.specs.Str.{bytes_eq}
-use Rattle.std.proofs.lemmas.Bool.{cases_eq}
-use Rattle.std.proofs.lemmas.List.{length-map}
-use Rattle.std.proofs.lemmas.List.Sums.{position_or_len_is}
-use Rattle.query_lang.specs.Names.{texts_of}
-use Rattle.query_lang.proofs.NameFacts.{printed_at, text_at}
+use Rattle.std.proofs.{Common.{◌≡◌, [], inl, inr, get_or, length, arith, sym, ap, ◌∙◌}, lemmas.{Bool.cases_eq, List.length-map}}
+use Rattle.std.{proofs.lemmas.List.Sums.position_or_len_is, specs.Str.bytes_eq}
+use Rattle.query_lang.{specs.Names.texts_of, proofs.NameFacts.{printed_at, text_at}}
 use Rattle.query_lang.proofs.names.place_of.Goals as goal
 use Rattle.query_lang.proofs.names.place_of.Goals.{After-as_slice}
 

@@ -1,5 +1,4 @@
-use Rattle.std.proofs.Common.{◌≡◌, ◌<◌, ℕ, [], false, get_or}
-use Rattle.std.specs.Str.{bytes_eq}
+use Rattle.std.{proofs.Common.{◌≡◌, ◌<◌, ℕ, [], false, get_or}, specs.Str.bytes_eq}
 use Rattle.query_lang.specs.Names.{texts_of}
 use Rattle.query_lang.proofs.names.place_of.Given as goal
 

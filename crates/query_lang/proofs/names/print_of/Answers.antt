@@ -1,8 +1,6 @@
 -- One byte more is taken into the word.
-use Rattle.std.proofs.Common.{refl, ap, sym, ◌∙◌, ◌*◌, ◌%◌, ◌^◌, get_or}
-use Rattle.std.specs.Int.RustNames.{bit_xor}
-use Rattle.query_lang.specs.Names.{print_of}
-use Rattle.query_lang.proofs.NameFacts.{print_more}
+use Rattle.std.{proofs.Common.{refl, ap, sym, ◌∙◌, ◌*◌, ◌%◌, ◌^◌, get_or}, specs.Int.RustNames.bit_xor}
+use Rattle.query_lang.{specs.Names.print_of, proofs.NameFacts.print_more}
 use Rattle.query_lang.proofs.names.print_of.Goals as goal
 
 pub loop-byte-init : goal.loop-byte-init

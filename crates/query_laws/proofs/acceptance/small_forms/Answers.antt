@@ -1,5 +1,5 @@
 use Rattle.query_laws.proofs.{FinalExamples.final_examples, FoldExamples.fold_examples, ItemExamples.item_examples}
-use Rattle.query_laws.proofs.{TypingExamples.expression_examples, TypingExamples.stream_examples}
+use Rattle.query_laws.proofs.TypingExamples.{expression_examples, stream_examples}
 use Rattle.query_laws.proofs.acceptance.small_forms.Goals as goal
 
 pub returns-clause-expressions : goal.returns-clause-expressions

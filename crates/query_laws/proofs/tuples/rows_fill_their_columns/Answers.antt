@@ -1,4 +1,4 @@
-use Rattle.query_laws.proofs.{QueryLaws.query_complete, Rows.has_rows, Rows.rows_fill}
+use Rattle.query_laws.proofs.{QueryLaws.query_complete, Rows.{has_rows, rows_fill}}
 use Rattle.query_laws.proofs.tuples.rows_fill_their_columns.Goals as goal
 
 pub returns : goal.returns

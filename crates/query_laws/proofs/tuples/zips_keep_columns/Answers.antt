@@ -1,4 +1,4 @@
-use Rattle.query_laws.proofs.{QueryLaws.query_complete, Rows.has_rows, Zips.first_kept, Zips.second_kept}
+use Rattle.query_laws.proofs.{QueryLaws.query_complete, Rows.has_rows, Zips.{first_kept, second_kept}}
 use Rattle.query_laws.proofs.tuples.zips_keep_columns.Goals as goal
 
 pub returns-clause-first : goal.returns-clause-first

@@ -1,4 +1,4 @@
-use Rattle.query_laws.proofs.{Terms.earlier_of, FinalLaws.made_final_sound, FinalLaws.made_final_complete}
+use Rattle.query_laws.proofs.{Terms.earlier_of, FinalLaws.{made_final_sound, made_final_complete}}
 use Rattle.query_laws.proofs.typing.finals_agree.Goals as goal
 
 pub returns : goal.returns

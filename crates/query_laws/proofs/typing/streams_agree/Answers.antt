@@ -1,4 +1,4 @@
-use Rattle.query_laws.proofs.{Terms.earlier_of, StreamLaws.made_stream_sound, StreamLaws.made_stream_complete}
+use Rattle.query_laws.proofs.{Terms.earlier_of, StreamLaws.{made_stream_sound, made_stream_complete}}
 use Rattle.query_laws.proofs.typing.streams_agree.Goals as goal
 
 pub returns : goal.returns

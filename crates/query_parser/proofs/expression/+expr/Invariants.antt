@@ -1,13 +1,10 @@
 use Rattle.std.proofs.Common.{◌≡◌, ℕ, ◌+◌, ◌*◌, ◌-◌, [], ◌∷◌, length}
 use Rattle.query_lang.specs.declared.token.Mark.TheVariants as marks
-use Rattle.query_grammar.specs.Grammar.{grouped}
-use Rattle.query_grammar.specs.Kinds.{among, kinds_of, sign}
-use Rattle.query_grammar.specs.Parser.{Limited, turns}
+use Rattle.query_grammar.specs.{Grammar.grouped, Kinds.{among, kinds_of, sign}, Parser.{Limited, turns}}
 use Rattle.query_grammar.specs.Reading.{after, separated, expr_at}
 use Rattle.query_parser.specs.declared.operators.Level.{Level}
 use Rattle.query_parser.specs.declared.operators.Level.TheVariants as levels
-use Rattle.query_parser.specs.Reads.{ops_of, operation_of, level_of, primary_at}
-use Rattle.query_parser.proofs.Loops.{finished, later}
+use Rattle.query_parser.{specs.Reads.{ops_of, operation_of, level_of, primary_at}, proofs.Loops.{finished, later}}
 use Rattle.query_parser.proofs.expression.+expr.Given as goal
 
 -- a level calls those that bind closer

@@ -1,6 +1,5 @@
 use Rattle.std.proofs.Common.{sym, ◌∙◌, inl, inr}
-use Rattle.query_parser.proofs.Loops.{more_list, ends_list}
-use Rattle.query_parser.proofs.expression.bangs.Goals.{else-bangs-test, then-bangs-test+then-not-at_mark}
+use Rattle.query_parser.proofs.{Loops.{more_list, ends_list}, expression.bangs.Goals.{else-bangs-test, then-bangs-test+then-not-at_mark}}
 use Rattle.query_parser.proofs.expression.bangs.Goals as goal
 
 pub bangs-preserved : goal.bangs-preserved

@@ -1,8 +1,6 @@
 use Rattle.std.proofs.Common.{◌≡◌, ◌-◌, [], ◌∷◌, length}
 use Rattle.query_lang.specs.declared.token.Mark.TheVariants as marks
-use Rattle.query_grammar.specs.Kinds.{among, is, sign}
-use Rattle.query_grammar.specs.Language.{Node}
-use Rattle.query_grammar.specs.Parser.{Limited, turns, repeated, word}
+use Rattle.query_grammar.specs.{Kinds.{among, is, sign}, Language.Node, Parser.{Limited, turns, repeated, word}}
 use Rattle.query_parser.proofs.Loops.{finished, later}
 use Rattle.query_parser.proofs.expression.bangs.Given as goal
 

@@ -1,6 +1,5 @@
 use Rattle.std.proofs.Common.{sym, ◌∙◌, inl, inr}
-use Rattle.query_parser.proofs.Loops.{more_list, ends_list}
-use Rattle.query_parser.proofs.fold.names.Goals.{else-names-test, then-names-test+then-not-at_mark}
+use Rattle.query_parser.proofs.{Loops.{more_list, ends_list}, fold.names.Goals.{else-names-test, then-names-test+then-not-at_mark}}
 use Rattle.query_parser.proofs.fold.names.Goals as goal
 
 pub names-preserved : goal.names-preserved

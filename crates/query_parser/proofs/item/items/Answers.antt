@@ -1,6 +1,5 @@
 use Rattle.std.proofs.Common.{sym, ◌∙◌, inl, inr}
-use Rattle.query_parser.proofs.Loops.{fails, more_list, ends_list}
-use Rattle.query_parser.proofs.item.items.Goals.{else-items-test, then-items-test+then-not-at_item}
+use Rattle.query_parser.proofs.{Loops.{fails, more_list, ends_list}, item.items.Goals.{else-items-test, then-items-test+then-not-at_item}}
 use Rattle.query_parser.proofs.item.items.Goals as goal
 
 pub items-preserved : goal.items-preserved

@@ -1,7 +1,5 @@
 use Rattle.std.proofs.Common.{◌≡◌, ◌-◌, length}
-use Rattle.query_grammar.specs.Kinds.{among}
-use Rattle.query_grammar.specs.Parser.{Limited, turns, repeated}
-use Rattle.query_grammar.specs.Reading.{item, item_starts, expr_at, stmt_at}
+use Rattle.query_grammar.specs.{Kinds.among, Parser.{Limited, turns, repeated}, Reading.{item, item_starts, expr_at, stmt_at}}
 use Rattle.query_parser.proofs.Loops.{finished, later}
 use Rattle.query_parser.proofs.item.items.Given as goal
 

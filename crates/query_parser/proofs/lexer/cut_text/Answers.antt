@@ -1,8 +1,7 @@
-use Rattle.std.proofs.Common.{ℕ, ◌-◌, length, drop, take, arith, ap, ◌∙◌, inl, inr}
-use Rattle.std.proofs.lemmas.List.{length-take, length-drop}
+use Rattle.std.proofs.{Common.{ℕ, ◌-◌, length, drop, take, arith, ap, ◌∙◌, inl, inr}, lemmas.List.{length-take, length-drop}}
 use Rattle.query_lang.specs.Lexis.{piece}
-use Rattle.query_parser.proofs.Cuts.{blank, token, numbered, fault, ends, rest_all, one_more}
-use Rattle.query_parser.proofs.lexer.cut_text.Goals.{in-Blank, in-Name+in_ok-id-in-Name+in_ok-push-in-Name, in-Token+in_ok-push-in-Token}
+use Rattle.query_parser.proofs.{Cuts.{blank, token, numbered, fault, ends, rest_all, one_more}, lexer.cut_text.Goals.in-Blank}
+use Rattle.query_parser.proofs.lexer.cut_text.Goals.{in-Name+in_ok-id-in-Name+in_ok-push-in-Name, in-Token+in_ok-push-in-Token}
 use Rattle.query_parser.proofs.lexer.cut_text.Goals.{else-loop-test, then-loop-test+then-at-text}
 use Rattle.query_parser.proofs.lexer.cut_text.Goals as goal
 

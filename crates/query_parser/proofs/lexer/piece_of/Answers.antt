@@ -1,6 +1,4 @@
-use Rattle.std.proofs.Common.{arith}
-use Rattle.std.proofs.lemmas.List.{length-take}
-use Rattle.std.proofs.lemmas.List.Sums.{prefix_len-le-length}
+use Rattle.std.proofs.{Common.arith, lemmas.List.{length-take, Sums.prefix_len-le-length}}
 use Rattle.query_lang.specs.Lexis.{is_word_byte}
 use Rattle.query_parser.proofs.Words.{digits_of_word, digits_within}
 use Rattle.query_parser.proofs.lexer.piece_of.Goals as goal

@@ -1,6 +1,5 @@
 use Rattle.std.proofs.Common.{sym, ◌∙◌, inl, inr}
-use Rattle.query_parser.proofs.Loops.{ends_list, more_list}
-use Rattle.query_parser.proofs.Statements.{more_chain, last_chain, fails_chain, ends_chain}
+use Rattle.query_parser.proofs.{Loops.{ends_list, more_list}, Statements.{more_chain, last_chain, fails_chain, ends_chain}}
 use Rattle.query_parser.proofs.statement.+stmt.Goals.{else_parts-else-parts-test, else_parts-then-parts-test+then-not-at_word}
 use Rattle.query_parser.proofs.statement.+stmt.Goals.{statements-else-statements-test}
 use Rattle.query_parser.proofs.statement.+stmt.Goals.{statements-then-statements-test+then-not-at_statement}

@@ -1,10 +1,6 @@
 use Rattle.std.proofs.Common.{◌≡◌, ◌+◌, ◌*◌, ◌-◌, [], ◌∷◌, length}
-use Rattle.query_grammar.specs.Kinds.{among}
-use Rattle.query_grammar.specs.Parser.{Limited, turns, repeated, chain_turns, chained}
-use Rattle.query_grammar.specs.Reading.{stmt_at, stmt_starts}
-use Rattle.query_parser.specs.Reads.{else_part_at}
-use Rattle.query_parser.proofs.Loops.{finished, later}
-use Rattle.query_parser.proofs.Statements.{chained_on}
+use Rattle.query_grammar.specs.{Kinds.among, Parser.{Limited, turns, repeated, chain_turns, chained}, Reading.{stmt_at, stmt_starts}}
+use Rattle.query_parser.{specs.Reads.else_part_at, proofs.{Loops.{finished, later}, Statements.chained_on}}
 use Rattle.query_parser.proofs.statement.+stmt.Given as goal
 
 abbrev pub decreases-block : goal.decreases-block

@@ -1,6 +1,5 @@
 use Rattle.std.proofs.Common.{List, Some, refl, ap, sym, ◌∙◌}
-use Rattle.query_lang.specs.declared.query.Expr.{Expr}
-use Rattle.query_lang.specs.declared.query.Stmt.{Stmt}
+use Rattle.query_lang.specs.declared.query.{Expr.Expr, Stmt.Stmt}
 use Rattle.query_grammar.specs.Grammar.{else_of}
 use Rattle.query_parser.proofs.Statements.{else_none, else_more}
 use Rattle.query_parser.proofs.statement.else_of.Goals as goal

@@ -1,8 +1,6 @@
 use Rattle.std.proofs.Common.{◌≡◌, ◌-◌, [], ◌∷◌, length}
 use Rattle.query_lang.specs.declared.token.Mark.TheVariants as marks
-use Rattle.query_grammar.specs.Kinds.{among, sign}
-use Rattle.query_grammar.specs.Parser.{Limited, turns}
-use Rattle.query_grammar.specs.Reading.{column_of, expr_at, after, separated}
+use Rattle.query_grammar.specs.{Kinds.{among, sign}, Parser.{Limited, turns}, Reading.{column_of, expr_at, after, separated}}
 use Rattle.query_parser.proofs.Loops.{finished, later}
 use Rattle.query_parser.proofs.stream.columns.Given as goal
 

@@ -1,8 +1,7 @@
 use Rattle.std.proofs.Common.{◌≡◌, [], ◌++◌, OnErr, OnOk, ap, option_map, subst, sym, unwrap_or}
-use Rattle.marple_base.specs.Sink.{TakesFront}
+use Rattle.marple_base.specs.{Sink.TakesFront, Pieces.TakesAllBut}
 use Rattle.query_tables.specs.Tables.{table_text_at}
 use Rattle.table_printer.specs.TableText.{table_text}
-use Rattle.marple_base.specs.Pieces.{TakesAllBut}
 use Rattle.query_run.proofs.plan_report.write_at.Goals as goal
 
 pub returns-clause-ok : goal.returns-clause-ok

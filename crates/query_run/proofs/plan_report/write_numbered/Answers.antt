@@ -1,10 +1,8 @@
 use Rattle.std.proofs.Common.{◌≡◌, ◌<◌, ℕ, List, ◌+◌, ◌++◌, ◌∙◌, ap, arith, append-nil, drop, get_or, length, subst, sym}
-use Rattle.std.proofs.lemmas.List.{drop_all, drop_more}
-use Rattle.std.specs.List.{flat_map}
+use Rattle.std.{proofs.lemmas.List.{drop_all, drop_more}, specs.List.flat_map}
 use Rattle.final_queries.specs.declared.table.Table.{Table}
 use Rattle.query_tables.specs.Tables.{table_text_at}
-use Rattle.marple_base.specs.Pieces.{TakesAllBut}
-use Rattle.marple_base.proofs.Pieces.{all_waits, on_err, part_broke, part_more}
+use Rattle.marple_base.{specs.Pieces.TakesAllBut, proofs.Pieces.{all_waits, on_err, part_broke, part_more}}
 use Rattle.query_run.proofs.plan_report.write_numbered.Goals as goal
 
 -- the text of the next number, and then those after it

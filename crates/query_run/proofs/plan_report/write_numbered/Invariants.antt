@@ -1,5 +1,4 @@
-use Rattle.std.proofs.Common.{◌≤◌, ◌++◌, drop}
-use Rattle.std.specs.List.{flat_map}
+use Rattle.std.{proofs.Common.{◌≤◌, ◌++◌, drop}, specs.List.flat_map}
 use Rattle.query_tables.specs.Tables.{table_text_at}
 use Rattle.marple_base.specs.Pieces.{TakesAllBut}
 use Rattle.query_run.proofs.plan_report.write_numbered.Given as goal

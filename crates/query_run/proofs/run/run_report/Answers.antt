@@ -2,14 +2,10 @@
 use Rattle.std.proofs.Common.{◌≡◌, Some, lit<, sym, ◌∙◌, subst}
 use Rattle.stage_plan.specs.Sound.{PlanParts}
 use Rattle.switch_core.specs.PlanLanes.{PipelineStands}
-use Rattle.trace_drive.specs.Drives.{coming, end_machines, fault_of, geometry_for, words_of}
-use Rattle.trace_drive.proofs.Breaking.{err_is, out_of_memory}
-use Rattle.trace_drive.proofs.Ending.{places_kept}
-use Rattle.trace_drive.proofs.ReplayTurns.{turns_to_the_end}
+use Rattle.trace_drive.{specs.Drives.{coming, end_machines, fault_of, geometry_for, words_of}, proofs.Breaking.{err_is, out_of_memory}}
+use Rattle.trace_drive.proofs.{Ending.places_kept, ReplayTurns.turns_to_the_end}
 use Rattle.trace_reader.specs.Faults.{IfRefused}
-use Rattle.query_run.specs.Reports.{MayPrint, Prints}
-use Rattle.query_run.specs.Views.{views_text}
-use Rattle.query_run.proofs.Viewing.{all_written, end_broke, rest_broke}
+use Rattle.query_run.{specs.{Reports.{MayPrint, Prints}, Views.views_text}, proofs.Viewing.{all_written, end_broke, rest_broke}}
 use Rattle.query_run.proofs.run.run_report.Goals as goal
 
 pub returns-in_err-fresh-clause-breaks_off : goal.returns-in_err-fresh-clause-breaks_off

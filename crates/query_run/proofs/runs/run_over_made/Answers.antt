@@ -1,11 +1,7 @@
 -- without views a run writes its tables alone
-use Rattle.std.proofs.Common.{None, subst}
-use Rattle.std.specs.Io.KnownBytes.{Appends}
-use Rattle.trace_drive.specs.Answers.{BreaksOff}
-use Rattle.trace_drive.specs.Drives.{words_of}
-use Rattle.trace_drive.proofs.Breaking.{err_is}
-use Rattle.query_run.specs.Driven.{geometry_of}
-use Rattle.query_run.proofs.ViewTexts.{tables_alone}
+use Rattle.std.{proofs.Common.{None, subst}, specs.Io.KnownBytes.Appends}
+use Rattle.trace_drive.{specs.{Answers.BreaksOff, Drives.words_of}, proofs.Breaking.err_is}
+use Rattle.query_run.{specs.Driven.geometry_of, proofs.ViewTexts.tables_alone}
 use Rattle.query_run.proofs.runs.run_over_made.Goals as goal
 
 pub returns-in_err-left-clause-breaks_off : goal.returns-in_err-left-clause-breaks_off

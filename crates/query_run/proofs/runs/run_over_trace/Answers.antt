@@ -1,12 +1,8 @@
 -- a trace that is refused or unread breaks off the run before anything is written
-use Rattle.std.proofs.Common.{◌≡◌, Some, [], refl, subst}
-use Rattle.std.proofs.KnownBytes.{Appends-nil}
-use Rattle.trace_drive.proofs.Breaking.{err_is, reader_breaks}
-use Rattle.trace_reader.specs.Faults.{IfRefused}
-use Rattle.trace_reader.specs.Traces.{packets, trace_fault}
-use Rattle.trace_drive.specs.Drives.{words_of}
-use Rattle.query_run.specs.Driven.{geometry_of}
-use Rattle.query_run.specs.Views.{views_text}
+use Rattle.std.proofs.{Common.{◌≡◌, Some, [], refl, subst}, KnownBytes.Appends-nil}
+use Rattle.trace_drive.{proofs.Breaking.{err_is, reader_breaks}, specs.Drives.words_of}
+use Rattle.trace_reader.specs.{Faults.IfRefused, Traces.{packets, trace_fault}}
+use Rattle.query_run.specs.{Driven.geometry_of, Views.views_text}
 use Rattle.query_run.proofs.runs.run_over_trace.Goals as goal
 
 pub returns-in_err-packets-clause-breaks_off : goal.returns-in_err-packets-clause-breaks_off

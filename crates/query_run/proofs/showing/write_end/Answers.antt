@@ -1,11 +1,8 @@
 -- what is printed at the end of packets is the report of the tables that the pipeline gives
-use Rattle.std.proofs.Common.{None, ◌++◌, sym, ap, ◌∙◌, subst}
-use Rattle.std.specs.Io.KnownBytes.{Appends}
+use Rattle.std.{proofs.Common.{None, ◌++◌, sym, ap, ◌∙◌, subst}, specs.Io.KnownBytes.Appends}
 use Rattle.stage_plan.specs.Sound.{IsSoundPlan}
 use Rattle.switch_core.specs.PlanLanes.{AreLanesOf}
-use Rattle.trace_drive.specs.Answers.{BreaksOff}
-use Rattle.trace_drive.specs.Drives.{end_machines}
-use Rattle.trace_drive.proofs.Breaking.{err_is, nothing_taken, then_err, then_ok}
+use Rattle.trace_drive.{specs.{Answers.BreaksOff, Drives.end_machines}, proofs.Breaking.{err_is, nothing_taken, then_err, then_ok}}
 use Rattle.query_run.proofs.showing.write_end.Goals as goal
 
 pub write_report-requires : goal.write_report-requires

@@ -1,8 +1,7 @@
 -- a report is written whole, or it breaks off where its tables or the rest of its text do
 use Rattle.std.proofs.Common.{Err, ap, refl}
 use Rattle.marple_base.proofs.Pieces.{front_taken, rest_taken}
-use Rattle.trace_drive.specs.declared.answer.RunError.TheVariants.{Failed}
-use Rattle.trace_drive.proofs.Breaking.{err_is, rose_since, unwritten}
+use Rattle.trace_drive.{specs.declared.answer.RunError.TheVariants.Failed, proofs.Breaking.{err_is, rose_since, unwritten}}
 use Rattle.query_run.proofs.showing.write_report.Goals as goal
 
 pub returns-in_err-print-clause-breaks_off : goal.returns-in_err-print-clause-breaks_off

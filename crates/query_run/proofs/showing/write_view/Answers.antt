@@ -1,10 +1,8 @@
 -- what is printed of the packets so far is the report of the tables that a view gives
-use Rattle.std.proofs.Common.{None, ◌++◌, sym, ap, ap₂, ◌∙◌, subst, take}
-use Rattle.std.specs.Io.KnownBytes.{Appends}
+use Rattle.std.{proofs.Common.{None, ◌++◌, sym, ap, ap₂, ◌∙◌, subst, take}, specs.Io.KnownBytes.Appends}
 use Rattle.stage_plan.specs.Sound.{IsSoundPlan}
 use Rattle.switch_core.specs.PlanLanes.{AreLanesOf}
-use Rattle.trace_drive.specs.Answers.{BreaksOff}
-use Rattle.trace_drive.proofs.Breaking.{err_is, nothing_taken, then_err, then_ok}
+use Rattle.trace_drive.{specs.Answers.BreaksOff, proofs.Breaking.{err_is, nothing_taken, then_err, then_ok}}
 use Rattle.query_run.proofs.Seen.{seen_tables, seen_whole}
 use Rattle.query_run.proofs.showing.write_view.Goals as goal
 

@@ -1,20 +1,11 @@
 -- after each number of packets that is a multiple of `every`, one view more is written
-use Rattle.std.proofs.Common.{◌≡◌, ◌+◌, ◌<◌, ◌≤◌, ◌-◌, Some, Ok, length, refl, sym, ap, ◌∙◌, subst, arith, lit<}
-use Rattle.std.proofs.KnownBytes.{Appends-nil}
-use Rattle.std.proofs.Math.Seq.{take-length}
-use Rattle.std.specs.Io.KnownBytes.{Appends}
+use Rattle.std.proofs.{Common.{◌≡◌, ◌+◌, ◌<◌, ◌≤◌, ◌-◌, Some, Ok, length, refl, sym, ap, ◌∙◌, subst, arith, lit<}, KnownBytes.Appends-nil}
+use Rattle.std.{proofs.Math.Seq.take-length, specs.Io.KnownBytes.Appends}
 use Rattle.switch_core.specs.PlanLanes.{PipelineView}
-use Rattle.trace_drive.specs.Drives.{coming, geometry_for, words_of}
-use Rattle.trace_drive.specs.Follows.{Keeps}
-use Rattle.trace_drive.specs.Replays.{replay_pipeline}
-use Rattle.trace_drive.proofs.Breaking.{err_is}
-use Rattle.trace_drive.specs.Turns.{MakesTurns}
-use Rattle.trace_drive.proofs.Following.{keeps_along}
-use Rattle.trace_drive.proofs.ReplayTurns.{turns_further, turns_to_the_end}
+use Rattle.trace_drive.specs.{Drives.{coming, geometry_for, words_of}, Follows.Keeps, Replays.replay_pipeline, Turns.MakesTurns}
+use Rattle.trace_drive.proofs.{Breaking.err_is, Following.keeps_along, ReplayTurns.{turns_further, turns_to_the_end}}
 use Rattle.trace_reader.specs.Faults.{IfRefused}
-use Rattle.query_run.specs.Reports.{MayPrint, Prints}
-use Rattle.query_run.specs.Views.{IsAsFarAs}
-use Rattle.query_run.proofs.ViewTexts.{next_multiple}
+use Rattle.query_run.{specs.{Reports.{MayPrint, Prints}, Views.IsAsFarAs}, proofs.ViewTexts.next_multiple}
 use Rattle.query_run.proofs.Viewing.{all_shown, as_far, first_multiple, none_asked, none_yet, one_written, reader_broke, view_broke}
 use Rattle.query_run.proofs.views.write_views.Goals as goal
 

@@ -1,12 +1,8 @@
-use Rattle.std.proofs.Common.{◌≡◌, ◌≤◌, ◌-◌, ◌%◌, ℕ, List, length, take}
-use Rattle.std.specs.Io.KnownBytes.{Appends}
-use Rattle.trace_drive.specs.Drives.{coming, fault_of, geometry_for, words_of}
-use Rattle.trace_drive.specs.Follows.{Keeps}
-use Rattle.trace_drive.specs.Replays.{IsUnderWay, replay_fault, replay_pipeline}
-use Rattle.trace_drive.specs.Turns.{MakesTurns}
+use Rattle.std.{proofs.Common.{◌≡◌, ◌≤◌, ◌-◌, ◌%◌, ℕ, List, length, take}, specs.Io.KnownBytes.Appends}
+use Rattle.trace_drive.specs.{Drives.{coming, fault_of, geometry_for, words_of}, Follows.Keeps}
+use Rattle.trace_drive.specs.{Replays.{IsUnderWay, replay_fault, replay_pipeline}, Turns.MakesTurns}
 use Rattle.epoch_model.specs.Epochs.{Geometry}
-use Rattle.query_run.specs.Reports.{Prints}
-use Rattle.query_run.specs.Views.{views_up_to}
+use Rattle.query_run.specs.{Reports.Prints, Views.views_up_to}
 use Rattle.query_run.proofs.views.write_views.Given as goal
 
 -- the views up to this number, which is a multiple of `every`, were written, and as many packets were taken

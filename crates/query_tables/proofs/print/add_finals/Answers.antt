@@ -1,5 +1,4 @@
-use Rattle.std.proofs.Common.{◌≡◌, ◌∷◌, ◌+◌, ap, sym, ◌∙◌, subst, drop, length, arith}
-use Rattle.std.proofs.lemmas.List.{drop_more}
+use Rattle.std.proofs.{Common.{◌≡◌, ◌∷◌, ◌+◌, ap, sym, ◌∙◌, subst, drop, length, arith}, lemmas.List.drop_more}
 use Rattle.final_queries.specs.Finals.{with_finals}
 use Rattle.query_tables.proofs.FinalSteps.{one_more}
 use Rattle.query_tables.proofs.print.add_finals.Goals as goal

@@ -1,9 +1,7 @@
 use Rattle.std.proofs.Common.{refl, ◌≡◌, ◌<◌, ℕ, List, ◌+◌, ◌++◌, arith, append-nil, drop, get_or, length}
-use Rattle.std.proofs.lemmas.List.{drop_all, drop_more}
-use Rattle.std.specs.List.{flat_map}
+use Rattle.std.{proofs.lemmas.List.{drop_all, drop_more}, specs.List.flat_map}
 use Rattle.final_queries.specs.declared.table.Table.{Table}
-use Rattle.query_lang.specs.TypedFinals.{table_number}
-use Rattle.query_lang.specs.declared.typed.PrintOf.{PrintOf}
+use Rattle.query_lang.specs.{TypedFinals.table_number, declared.typed.PrintOf.PrintOf}
 use Rattle.query_tables.specs.Tables.{table_text_at}
 use Rattle.marple_base.proofs.Pieces.{all_waits, on_err, part_broke, part_more}
 use Rattle.query_tables.proofs.print.write_printed.Goals as goal

@@ -1,13 +1,7 @@
-use Rattle.std.proofs.Common.{refl, ◌≡◌, ℕ, List, ap, length, map, ◌∙◌, sym}
-use Rattle.std.proofs.lemmas.List.{length-map}
-use Rattle.std.specs.List.{flat_map}
-use Rattle.query_lang.specs.declared.typed.PrintOf.{PrintOf}
-use Rattle.query_lang.specs.declared.typed.TypedQuery.{TypedQuery}
-use Rattle.query_lang.specs.Streams.{takings}
-use Rattle.query_lang.specs.TypedFinals.{table_number}
+use Rattle.std.{proofs.{Common.{refl, ◌≡◌, ℕ, List, ap, length, map, ◌∙◌, sym}, lemmas.List.length-map}, specs.List.flat_map}
+use Rattle.query_lang.specs.{declared.typed.{PrintOf.PrintOf, TypedQuery.TypedQuery}, Streams.takings, TypedFinals.table_number}
 use Rattle.query_lang.specs.TypedQueries.{group_shape}
-use Rattle.final_queries.specs.declared.table.Table.{Table}
-use Rattle.final_queries.specs.Finals.{table_shape, with_finals}
+use Rattle.final_queries.specs.{declared.table.Table.Table, Finals.{table_shape, with_finals}}
 use Rattle.query_tables.specs.Tables.{printed, table_text_at}
 use Rattle.marple_base.proofs.Pieces.{none_taken, on_err}
 use Rattle.query_tables.proofs.print.write_tables.Goals as goal

@@ -1,11 +1,8 @@
-use Rattle.std.proofs.Common.{refl, sym, ◌∙◌, arith}
-use Rattle.std.{proofs.lemmas.List.at_drop_all, specs.Prelude.map}
+use Rattle.std.{proofs.{Common.{refl, sym, ◌∙◌, arith}, lemmas.List.at_drop_all}, specs.Prelude.map}
 use Rattle.query_lang.specs.TypedFolds.{in_order, stmt_checked, stmt_count}
-use Rattle.query_types.specs.Numbers.{greatest_in}
-use Rattle.query_types.proofs.CheckLemmas.{left_stops, left_stops_after, more, left_is, on_ok, on_ok_so}
-use Rattle.query_types.proofs.CountSteps.{item_within, count_if, greatest_more, greatest_ends}
-use Rattle.query_types.proofs.StmtSteps.{block_turn, assign_is, emit_is, choice_is, first_is, second_is, closed_is, assign_number}
-use Rattle.query_types.proofs.StmtSteps.{choice_number}
+use Rattle.query_types.{specs.Numbers.greatest_in, proofs.CheckLemmas.{left_stops, left_stops_after, more, left_is, on_ok, on_ok_so}}
+use Rattle.query_types.proofs.{CountSteps.{item_within, count_if, greatest_more, greatest_ends}, StmtSteps.{block_turn, assign_is, emit_is}}
+use Rattle.query_types.proofs.StmtSteps.{choice_is, first_is, second_is, closed_is, assign_number, choice_number}
 use Rattle.query_types.proofs.bodies.+statements.Goals as goal
 
 pub check_all-check_stmt-requires : goal.check_all-check_stmt-requires

@@ -1,6 +1,5 @@
 use Rattle.std.proofs.Common.{◌≡◌, [], map, drop}
-use Rattle.query_lang.specs.Checks.{collected}
-use Rattle.query_lang.specs.TypedExprs.{slot_of}
+use Rattle.query_lang.specs.{Checks.collected, TypedExprs.slot_of}
 use Rattle.query_types.proofs.columns.argument_slots.Given as goal
 
 abbrev pub invariant-loop-id : goal.invariant-loop-id

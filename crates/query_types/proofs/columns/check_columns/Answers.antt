@@ -1,9 +1,6 @@
-use Rattle.std.proofs.Common.{sym, ◌∙◌, arith}
-use Rattle.std.proofs.lemmas.List.{at_drop_all}
+use Rattle.std.proofs.{Common.{sym, ◌∙◌, arith}, lemmas.List.at_drop_all}
 use Rattle.query_lang.specs.TypedStreams.{new_columns}
-use Rattle.query_types.specs.Numbers.{greatest_number}
-use Rattle.query_types.proofs.CheckLemmas.{stops_after, more}
-use Rattle.query_types.proofs.ColumnSteps.{column_turn}
+use Rattle.query_types.{specs.Numbers.greatest_number, proofs.{CheckLemmas.{stops_after, more}, ColumnSteps.column_turn}}
 use Rattle.query_types.proofs.CountSteps.{greatest_more, greatest_ends}
 use Rattle.query_types.proofs.columns.check_columns.Goals as goal
 

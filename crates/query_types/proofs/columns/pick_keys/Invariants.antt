@@ -1,6 +1,5 @@
 use Rattle.std.proofs.Common.{◌≡◌, ◌≤◌, [], drop, length}
-use Rattle.query_lang.specs.TypedStreams.{keys_from}
-use Rattle.query_lang.specs.declared.fault.TheConstants.{MAX_KEYS}
+use Rattle.query_lang.specs.{TypedStreams.keys_from, declared.fault.TheConstants.MAX_KEYS}
 use Rattle.query_types.proofs.columns.pick_keys.Given as goal
 
 abbrev pub invariant-loop-key : goal.invariant-loop-key

@@ -1,9 +1,6 @@
-use Rattle.std.proofs.Common.{◌+◌, refl, sym, ap, ◌∙◌, arith}
-use Rattle.std.proofs.lemmas.List.{at_drop_all}
-use Rattle.std.specs.Prelude.{map, drop}
+use Rattle.std.{proofs.{Common.{◌+◌, refl, sym, ap, ◌∙◌, arith}, lemmas.List.at_drop_all}, specs.Prelude.{map, drop}}
 use Rattle.query_lang.specs.{Checks.collected, TypedExprs.expr_checked, TypedFolds.expr_nodes}
-use Rattle.query_types.specs.Numbers.{greatest_number}
-use Rattle.query_types.proofs.CheckLemmas.{stops, goes_on, more, if_ok, collected_turn}
+use Rattle.query_types.{specs.Numbers.greatest_number, proofs.CheckLemmas.{stops, goes_on, more, if_ok, collected_turn}}
 use Rattle.query_types.proofs.CountSteps.{item_within, nodes_not, nodes_binary, nodes_call, greatest_more, greatest_ends}
 use Rattle.query_types.proofs.ExprSteps.{not_is, binary_is, call_is, not_number, binary_number, call_number}
 use Rattle.query_types.proofs.exprs.+expression.Goals as goal

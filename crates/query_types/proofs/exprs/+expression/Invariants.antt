@@ -1,7 +1,5 @@
 use Rattle.std.proofs.Common.{◌≡◌, ◌<◌, ◌^◌, ◌+◌, ◌*◌, [], map, drop, sum_by}
-use Rattle.query_lang.specs.Checks.{collected}
-use Rattle.query_lang.specs.TypedExprs.{expr_checked}
-use Rattle.query_lang.specs.TypedFolds.{expr_nodes}
+use Rattle.query_lang.specs.{Checks.collected, TypedExprs.expr_checked, TypedFolds.expr_nodes}
 use Rattle.query_types.specs.Numbers.{greatest_of, greatest_number}
 use Rattle.query_types.proofs.exprs.+expression.Given as goal
 

@@ -1,5 +1,4 @@
-use Rattle.std.proofs.Common.{refl, sum_by, arith}
-use Rattle.std.proofs.lemmas.List.{at_drop_all}
+use Rattle.std.proofs.{Common.{refl, sum_by, arith}, lemmas.List.at_drop_all}
 use Rattle.query_lang.specs.TypedFolds.{stmt_count}
 use Rattle.query_types.proofs.CountSteps.{item_within, item_first, count_if}
 use Rattle.query_types.proofs.folds.+counts.Goals as goal

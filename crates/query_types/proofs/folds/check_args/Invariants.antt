@@ -1,6 +1,5 @@
 use Rattle.std.proofs.Common.{◌≡◌, ◌≤◌, [], drop, length}
-use Rattle.query_lang.specs.TypedFolds.{args_from}
-use Rattle.query_lang.specs.declared.fault.TheConstants.{MAX_ARGS}
+use Rattle.query_lang.specs.{TypedFolds.args_from, declared.fault.TheConstants.MAX_ARGS}
 use Rattle.query_types.proofs.folds.check_args.Given as goal
 
 abbrev pub invariant-loop-arg : goal.invariant-loop-arg

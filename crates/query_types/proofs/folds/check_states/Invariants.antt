@@ -1,6 +1,5 @@
 use Rattle.std.proofs.Common.{◌≡◌, ◌≤◌, [], drop, length}
-use Rattle.query_lang.specs.TypedFolds.{states_from}
-use Rattle.query_lang.specs.declared.fault.TheConstants.{MAX_STATES}
+use Rattle.query_lang.specs.{TypedFolds.states_from, declared.fault.TheConstants.MAX_STATES}
 use Rattle.query_types.proofs.folds.check_states.Given as goal
 
 abbrev pub invariant-loop-state : goal.invariant-loop-state

@@ -1,7 +1,6 @@
 use Rattle.std.proofs.Common.{◌≡◌, ◌<◌, ◌^◌, map, drop}
 use Rattle.query_lang.specs.Typing.{items_checked}
-use Rattle.query_types.specs.Fitting.{Fits}
-use Rattle.query_types.specs.Numbers.{greatest_of, item_number}
+use Rattle.query_types.specs.{Fitting.Fits, Numbers.{greatest_of, item_number}}
 use Rattle.query_types.proofs.items.check_items.Given as goal
 
 abbrev pub invariant-loop-item : goal.invariant-loop-item

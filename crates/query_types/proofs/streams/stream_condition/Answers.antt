@@ -1,7 +1,6 @@
 -- The names are those of the stream's columns.
 use Rattle.std.proofs.Common.{◌≡◌, ap, ◌∙◌}
-use Rattle.query_lang.specs.TypedExprs.{condition_of}
-use Rattle.query_lang.specs.TypedStreams.{column_names}
+use Rattle.query_lang.specs.{TypedExprs.condition_of, TypedStreams.column_names}
 use Rattle.query_types.proofs.CheckLemmas.{same_checked}
 use Rattle.query_types.proofs.streams.stream_condition.Goals as goal
 

@@ -1,5 +1,4 @@
-use Rattle.std.proofs.Common.{◌≡◌, drop}
-use Rattle.std.specs.List.{list_any}
+use Rattle.std.{proofs.Common.{◌≡◌, drop}, specs.List.list_any}
 use Rattle.query_lang.specs.Checks.{is_among}
 use Rattle.query_types.proofs.tables.has_common.Given as goal
 

@@ -1,8 +1,6 @@
 -- The typed query is that of the query with the names of all fields, and it is valid.
 use Rattle.query_lang.specs.Typing.{typed_names}
-use Rattle.query_types.specs.CheckedItems.{checked_with}
-use Rattle.query_types.proofs.CheckLemmas.{same_checked}
-use Rattle.query_types.proofs.StartLaws.{all_ready}
+use Rattle.query_types.{specs.CheckedItems.checked_with, proofs.{CheckLemmas.same_checked, StartLaws.all_ready}}
 use Rattle.query_types.proofs.ValidLaws.{answer_valid, answer_named}
 use Rattle.query_types.proofs.typing.check.Goals as goal
 

@@ -1,6 +1,5 @@
 use Rattle.std.proofs.Common.{◌≡◌, ◌≤◌, ◌+◌, min, count_by, drop}
-use Rattle.query_lang.specs.Typing.{is_groupby}
-use Rattle.query_lang.specs.declared.fault.TheConstants.{MAX_GROUPBYS}
+use Rattle.query_lang.specs.{Typing.is_groupby, declared.fault.TheConstants.MAX_GROUPBYS}
 use Rattle.query_types.proofs.typing.count_groups.Given as goal
 
 abbrev pub invariant-loop-item : goal.invariant-loop-item

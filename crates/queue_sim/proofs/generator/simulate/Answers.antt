@@ -1,6 +1,5 @@
 use Rattle.std.proofs.Common.{◌≡◌, ◌+◌, ◌∙◌, ap, refl, sym}
-use Rattle.queue_sim.specs.Following.{nth_packet}
-use Rattle.queue_sim.proofs.FollowingFacts.{simulated_more, simulated_none}
+use Rattle.queue_sim.{specs.Following.nth_packet, proofs.FollowingFacts.{simulated_more, simulated_none}}
 use Rattle.queue_sim.proofs.generator.simulate.Goals as goal
 
 pub loop-packet-init : goal.loop-packet-init

@@ -1,6 +1,5 @@
 use Rattle.std.proofs.Common.{◌≡◌}
-use Rattle.queue_sim.specs.Following.{Follows}
-use Rattle.queue_sim.specs.Generator.{simulated}
+use Rattle.queue_sim.specs.{Following.Follows, Generator.simulated}
 use Rattle.queue_sim.proofs.generator.simulate.Given as goal
 
 abbrev pub invariant-loop-packet : goal.invariant-loop-packet

@@ -1,6 +1,5 @@
 use Rattle.std.proofs.Common.{◌≡◌, ℕ, ◌≤◌, ◌+◌, length}
-use Rattle.queue_sim.specs.Generator.{still_there}
-use Rattle.queue_sim.specs.Queue.{Climbs}
+use Rattle.queue_sim.specs.{Generator.still_there, Queue.Climbs}
 use Rattle.queue_sim.proofs.queue.drop_left.Given as goal
 
 abbrev pub invariant-loop-turn : goal.invariant-loop-turn

@@ -1,5 +1,4 @@
-use Rattle.std.proofs.Common.{arith, rules}
-use Rattle.std.proofs.lemmas.Fmt.{length-decimal-le}
+use Rattle.std.proofs.{Common.{arith, rules}, lemmas.Fmt.length-decimal-le}
 use Rattle.queue_sim.proofs.text.put_word.Goals as goal
 
 pub write_digits-requires : goal.write_digits-requires

@@ -1,8 +1,6 @@
-use Rattle.std.proofs.Common.{◌++◌, [], ◌∙◌, ap, get_or, length, sym, refl, take, ◌<◌, arith}
-use Rattle.std.proofs.lemmas.List.{take_all, take_more}
-use Rattle.queue_sim.specs.TraceText.{line, packet_texts, trace_text}
+use Rattle.std.proofs.{Common.{◌++◌, [], ◌∙◌, ap, get_or, length, sym, refl, take, ◌<◌, arith}, lemmas.List.{take_all, take_more}}
+use Rattle.queue_sim.{specs.TraceText.{line, packet_texts, trace_text}, proofs.TextFacts.trace_push}
 use Rattle.marple_base.specs.declared.field.Packet.{Packet}
-use Rattle.queue_sim.proofs.TextFacts.{trace_push}
 use Rattle.queue_sim.proofs.text.trace_text.Goals as goal
 
 pub loop-packet-init : goal.loop-packet-init

@@ -1,11 +1,7 @@
 use Rattle.std.proofs.Common.{◌≡◌, ◌+◌, ◌++◌, ◌∙◌, ap, sym, refl, subst, arith}
-use Rattle.queue_sim.specs.Following.{nth_packet}
-use Rattle.queue_sim.specs.Generator.{simulated}
-use Rattle.marple_base.specs.Pieces.{TakesAllBut}
-use Rattle.queue_sim.specs.TraceText.{header, line, packet_texts, trace_text}
-use Rattle.queue_sim.proofs.FollowingFacts.{simulated_none}
-use Rattle.marple_base.proofs.Pieces.{all_waits, more_waits, none_taken, on_err, rest_taken, then}
-use Rattle.queue_sim.proofs.Pieces.{broken_off, text_more}
+use Rattle.queue_sim.specs.{Following.nth_packet, Generator.simulated, TraceText.{header, line, packet_texts, trace_text}}
+use Rattle.queue_sim.proofs.{FollowingFacts.simulated_none, Pieces.{broken_off, text_more}}
+use Rattle.marple_base.{specs.Pieces.TakesAllBut, proofs.Pieces.{all_waits, more_waits, none_taken, on_err, rest_taken, then}}
 use Rattle.queue_sim.proofs.writing.write_trace.Goals as goal
 
 pub loop-packet-init : goal.loop-packet-init

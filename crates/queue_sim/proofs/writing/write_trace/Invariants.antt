@@ -1,8 +1,6 @@
 use Rattle.std.proofs.Common.{◌≡◌, ◌≤◌}
-use Rattle.queue_sim.specs.Following.{Follows}
-use Rattle.queue_sim.specs.Generator.{simulated}
+use Rattle.queue_sim.specs.{Following.Follows, Generator.simulated, TraceText.trace_text}
 use Rattle.marple_base.specs.Pieces.{TakesAllBut}
-use Rattle.queue_sim.specs.TraceText.{trace_text}
 use Rattle.queue_sim.proofs.writing.write_trace.Given as goal
 
 -- the text of the packets so far is written, but for what waits

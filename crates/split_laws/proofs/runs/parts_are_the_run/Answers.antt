@@ -1,5 +1,4 @@
-use Rattle.split_laws.proofs.OtherFacts.{split_fields_are_keys, sums_of_pieces, valid_rows_of_parts}
-use Rattle.split_laws.proofs.WholeFacts.{whole_runs}
+use Rattle.split_laws.proofs.{OtherFacts.{split_fields_are_keys, sums_of_pieces, valid_rows_of_parts}, WholeFacts.whole_runs}
 use Rattle.split_laws.proofs.runs.parts_are_the_run.Goals as goal
 
 pub returns-clause-tables : goal.returns-clause-tables

@@ -1,5 +1,4 @@
-use Rattle.std.proofs.Common.{◌≡◌, ◌≤◌, ◌*◌, ◌^◌, take}
-use Rattle.std.specs.Prelude.{map, sum}
+use Rattle.std.{proofs.Common.{◌≡◌, ◌≤◌, ◌*◌, ◌^◌, take}, specs.Prelude.{map, sum}}
 use Rattle.stage_plan.specs.Shape.{group_bound, group_shape}
 use Rattle.stage_plan.proofs.bound.most_of_groups.Given as goal
 

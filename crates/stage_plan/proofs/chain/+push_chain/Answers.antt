@@ -1,6 +1,5 @@
 use Rattle.std.proofs.Common.{◌++◌, ◌∷◌, [], ◌∙◌, ap, subst, sym, List, ℕ}
-use Rattle.stage_plan.specs.Sound.{EndsAt}
-use Rattle.stage_plan.proofs.Chains.{chain_first}
+use Rattle.stage_plan.{specs.Sound.EndsAt, proofs.Chains.chain_first}
 use Rattle.stage_plan.proofs.chain.+push_chain.Goals as goal
 
 pub returns : goal.returns

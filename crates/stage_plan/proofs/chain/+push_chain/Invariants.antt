@@ -1,5 +1,4 @@
-use Rattle.stage_plan.specs.Registers.{operand_stage}
-use Rattle.stage_plan.specs.declared.op.Operand.TheVariants.{Register}
+use Rattle.stage_plan.specs.{Registers.operand_stage, declared.op.Operand.TheVariants.Register}
 use Rattle.std.proofs.Common.{◌+◌}
 use Rattle.marple_base.specs.declared.field.TheConstants.{FIELDS}
 use Rattle.stage_plan.proofs.chain.+push_chain.Given as goal

@@ -1,5 +1,4 @@
-use Rattle.std.proofs.Common.{arith}
-use Rattle.std.proofs.lemmas.Bool.Decides.{nat_tests}
+use Rattle.std.proofs.{Common.arith, lemmas.Bool.Decides.nat_tests}
 use Rattle.stage_plan.proofs.Chains.{chain_is}
 use Rattle.stage_plan.proofs.chain.longest_chain.Goals as goal
 

@@ -1,5 +1,4 @@
-use Rattle.std.proofs.Common.{◌≡◌, ◌++◌, ◌∷◌, [], drop}
-use Rattle.std.specs.Prelude.{fold}
+use Rattle.std.{proofs.Common.{◌≡◌, ◌++◌, ◌∷◌, [], drop}, specs.Prelude.fold}
 use Rattle.stage_plan.specs.Fields.{packet_sources, sources_made}
 use Rattle.stage_plan.proofs.fields.make_all_columns.Given as goal
 

@@ -1,5 +1,4 @@
-use Rattle.std.proofs.Common.{◌≡◌, drop}
-use Rattle.std.specs.Prelude.{fold}
+use Rattle.std.{proofs.Common.{◌≡◌, drop}, specs.Prelude.fold}
 use Rattle.marple_base.specs.Field.{no_fields}
 use Rattle.stage_plan.specs.Marking.{marked_op}
 use Rattle.stage_plan.proofs.fields.mark_all.Given as goal

@@ -1,5 +1,4 @@
-use Rattle.std.proofs.Common.{◌≡◌, drop}
-use Rattle.std.specs.Prelude.{fold}
+use Rattle.std.{proofs.Common.{◌≡◌, drop}, specs.Prelude.fold}
 use Rattle.query_lang.specs.Terms.{term_of}
 use Rattle.stage_plan.specs.Marking.{marked_term}
 use Rattle.stage_plan.proofs.fields.mark_exprs.Given as goal

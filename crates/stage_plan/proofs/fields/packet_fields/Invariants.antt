@@ -1,5 +1,4 @@
-use Rattle.std.proofs.Common.{◌≡◌, take, Some}
-use Rattle.std.specs.Prelude.{map}
+use Rattle.std.{proofs.Common.{◌≡◌, take, Some}, specs.Prelude.map}
 use Rattle.stage_plan.proofs.fields.packet_fields.Given as goal
 
 abbrev pub invariant-loop-f : goal.invariant-loop-f

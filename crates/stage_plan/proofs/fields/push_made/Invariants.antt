@@ -1,5 +1,4 @@
-use Rattle.std.proofs.Common.{◌≡◌, ◌++◌, take, None}
-use Rattle.std.specs.Prelude.{map}
+use Rattle.std.{proofs.Common.{◌≡◌, ◌++◌, take, None}, specs.Prelude.map}
 use Rattle.stage_plan.proofs.fields.push_made.Given as goal
 
 abbrev pub invariant-loop-value : goal.invariant-loop-value

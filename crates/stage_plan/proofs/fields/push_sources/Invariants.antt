@@ -1,5 +1,4 @@
-use Rattle.std.proofs.Common.{◌≡◌, ◌++◌, take}
-use Rattle.std.specs.Prelude.{map}
+use Rattle.std.{proofs.Common.{◌≡◌, ◌++◌, take}, specs.Prelude.map}
 use Rattle.stage_plan.specs.Fields.{source_at}
 use Rattle.stage_plan.proofs.fields.push_sources.Given as goal
 

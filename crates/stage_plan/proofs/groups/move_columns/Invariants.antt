@@ -1,7 +1,5 @@
-use Rattle.std.proofs.Common.{◌≡◌, take}
-use Rattle.std.specs.Prelude.{map}
-use Rattle.stage_plan.specs.Making.{operand_at}
-use Rattle.stage_plan.specs.Ordering.{moved}
+use Rattle.std.{proofs.Common.{◌≡◌, take}, specs.Prelude.map}
+use Rattle.stage_plan.specs.{Making.operand_at, Ordering.moved}
 use Rattle.stage_plan.proofs.groups.move_columns.Given as goal
 
 abbrev pub invariant-loop-slot : goal.invariant-loop-slot

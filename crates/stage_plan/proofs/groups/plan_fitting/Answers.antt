@@ -1,5 +1,4 @@
-use Rattle.std.proofs.Common.{◌∙◌, sym, ap}
-use Rattle.std.specs.Prelude.{slice_get}
+use Rattle.std.{proofs.Common.{◌∙◌, sym, ap}, specs.Prelude.slice_get}
 use Rattle.stage_plan.proofs.Groupings.{args_are, fitting_shape, fitting_sound}
 use Rattle.stage_plan.proofs.groups.plan_fitting.Goals as goal
 

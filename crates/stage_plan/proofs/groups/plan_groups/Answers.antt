@@ -1,8 +1,6 @@
-use Rattle.std.proofs.Common.{◌∙◌, ◌++◌, ◌+◌, ap, subst, sym, drop}
-use Rattle.std.specs.Prelude.{map, filter_map}
+use Rattle.std.{proofs.Common.{◌∙◌, ◌++◌, ◌+◌, ap, subst, sym, drop}, specs.Prelude.{map, filter_map}}
 use Rattle.query_lang.specs.Streams.{takings}
-use Rattle.stage_plan.specs.Shape.{shape_made, group_shape}
-use Rattle.stage_plan.proofs.Groupings.{Grouped, shapes_more, grouped_more, all_grouped}
+use Rattle.stage_plan.{specs.Shape.{shape_made, group_shape}, proofs.Groupings.{Grouped, shapes_more, grouped_more, all_grouped}}
 use Rattle.stage_plan.proofs.groups.plan_groups.Goals as goal
 
 pub loop-one-preserved : goal.loop-one-preserved

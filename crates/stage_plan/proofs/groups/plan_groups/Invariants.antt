@@ -1,8 +1,6 @@
-use Rattle.std.proofs.Common.{◌≡◌, ◌++◌, drop}
-use Rattle.std.specs.Prelude.{map, filter_map}
+use Rattle.std.{proofs.Common.{◌≡◌, ◌++◌, drop}, specs.Prelude.{map, filter_map}}
 use Rattle.query_lang.specs.Streams.{takings}
-use Rattle.stage_plan.specs.Shape.{group_shape, shape_made, query_groups}
-use Rattle.stage_plan.proofs.Groupings.{Grouped}
+use Rattle.stage_plan.{specs.Shape.{group_shape, shape_made, query_groups}, proofs.Groupings.Grouped}
 use Rattle.stage_plan.proofs.groups.plan_groups.Given as goal
 
 abbrev pub invariant-loop-one : goal.invariant-loop-one

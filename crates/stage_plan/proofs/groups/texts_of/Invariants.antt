@@ -1,5 +1,4 @@
-use Rattle.std.proofs.Common.{◌≡◌, take}
-use Rattle.std.specs.Prelude.{map}
+use Rattle.std.{proofs.Common.{◌≡◌, take}, specs.Prelude.map}
 use Rattle.stage_plan.specs.Shape.{text_at}
 use Rattle.stage_plan.proofs.groups.texts_of.Given as goal
 

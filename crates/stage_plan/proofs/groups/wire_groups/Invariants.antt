@@ -1,5 +1,4 @@
-use Rattle.std.proofs.Common.{◌≡◌, ◌++◌, drop}
-use Rattle.std.specs.Prelude.{map}
+use Rattle.std.{proofs.Common.{◌≡◌, ◌++◌, drop}, specs.Prelude.map}
 use Rattle.query_lang.specs.Streams.{takings}
 use Rattle.stage_plan.specs.Ordering.{wiring_of}
 use Rattle.stage_plan.proofs.groups.wire_groups.Given as goal

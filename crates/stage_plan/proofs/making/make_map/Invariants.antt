@@ -1,8 +1,6 @@
-use Rattle.std.proofs.Common.{◌≡◌, ◌+◌, ◌≤◌, drop, length}
-use Rattle.std.specs.Prelude.{map}
+use Rattle.std.{proofs.Common.{◌≡◌, ◌+◌, ◌≤◌, drop, length}, specs.Prelude.map}
 use Rattle.query_lang.specs.Terms.{term_of}
-use Rattle.stage_plan.specs.Counting.{values_most}
-use Rattle.stage_plan.specs.Making.{compiled_all}
+use Rattle.stage_plan.specs.{Counting.values_most, Making.compiled_all}
 use Rattle.stage_plan.proofs.making.make_map.Given as goal
 
 abbrev pub invariant-loop-e : goal.invariant-loop-e

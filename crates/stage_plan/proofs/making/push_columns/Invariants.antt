@@ -1,5 +1,4 @@
-use Rattle.std.proofs.Common.{◌≡◌, ◌++◌, take}
-use Rattle.std.specs.Prelude.{map}
+use Rattle.std.{proofs.Common.{◌≡◌, ◌++◌, take}, specs.Prelude.map}
 use Rattle.stage_plan.specs.Making.{operand_at}
 use Rattle.stage_plan.proofs.making.push_columns.Given as goal
 

@@ -1,7 +1,5 @@
-use Rattle.std.proofs.Common.{◌∙◌, sym}
-use Rattle.std.proofs.lemmas.Result.{err_from_is_err_and}
-use Rattle.stage_plan.proofs.Faults.{query_fault}
-use Rattle.stage_plan.proofs.Putting.{refusal}
+use Rattle.std.proofs.{Common.{◌∙◌, sym}, lemmas.Result.err_from_is_err_and}
+use Rattle.stage_plan.proofs.{Faults.query_fault, Putting.refusal}
 use Rattle.stage_plan.proofs.planner.plan.Goals as goal
 
 pub returns-in_err-made-clause-refused : goal.returns-in_err-made-clause-refused

@@ -1,6 +1,5 @@
 use Rattle.std.proofs.Common.{ap, length}
-use Rattle.stage_plan.specs.Making.{packet_wires}
-use Rattle.stage_plan.proofs.Counts.{all_inputs, all_fit}
+use Rattle.stage_plan.{specs.Making.packet_wires, proofs.Counts.{all_inputs, all_fit}}
 use Rattle.stage_plan.proofs.Putting.{IsPut, numbers_within, few_numbers, order_from, put_from}
 use Rattle.stage_plan.proofs.planner.put_plan.Goals as goal
 

@@ -1,5 +1,4 @@
-use Rattle.std.proofs.Common.{◌≡◌, ◌≤◌, take}
-use Rattle.std.specs.Prelude.{count_by, ◌==◌}
+use Rattle.std.{proofs.Common.{◌≡◌, ◌≤◌, take}, specs.Prelude.{count_by, ◌==◌}}
 use Rattle.stage_plan.proofs.plans.in_stage.Given as goal
 
 abbrev pub invariant-loop-one : goal.invariant-loop-one

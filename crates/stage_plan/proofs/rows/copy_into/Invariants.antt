@@ -1,5 +1,4 @@
-use Rattle.std.proofs.Common.{◌≡◌, take}
-use Rattle.std.specs.Prelude.{map}
+use Rattle.std.{proofs.Common.{◌≡◌, take}, specs.Prelude.map}
 use Rattle.stage_plan.specs.Registers.{operand_value}
 use Rattle.stage_plan.proofs.rows.copy_into.Given as goal
 

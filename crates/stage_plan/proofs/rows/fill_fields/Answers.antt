@@ -1,5 +1,4 @@
-use Rattle.std.proofs.Common.{arith, ◌∙◌, ap, take, drop, ◌++◌}
-use Rattle.std.proofs.lemmas.List.{take-append-le, take_all}
+use Rattle.std.proofs.{Common.{arith, ◌∙◌, ap, take, drop, ◌++◌}, lemmas.List.{take-append-le, take_all}}
 use Rattle.marple_base.specs.declared.field.TheConstants.{FIELDS}
 use Rattle.stage_plan.proofs.rows.fill_fields.Goals as goal
 

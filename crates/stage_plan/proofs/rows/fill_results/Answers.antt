@@ -1,7 +1,5 @@
-use Rattle.std.proofs.Common.{arith, ◌∙◌}
-use Rattle.std.proofs.lemmas.List.{take-set-le}
+use Rattle.std.proofs.{Common.{arith, ◌∙◌}, lemmas.{List.take-set-le, Option.slice_get_within}}
 use Rattle.stage_plan.proofs.Runs.{reads_left, reads_right, results_more}
-use Rattle.std.proofs.lemmas.Option.{slice_get_within}
 use Rattle.marple_base.specs.declared.field.TheConstants.{FIELDS}
 use Rattle.stage_plan.proofs.rows.fill_results.Goals as goal
 

@@ -1,8 +1,6 @@
-use Rattle.std.proofs.Common.{◌≡◌, ℕ, ◌+◌, ◌<◌, take, Some, get_or}
-use Rattle.std.specs.Prelude.{slice_get}
+use Rattle.std.{proofs.Common.{◌≡◌, ℕ, ◌+◌, ◌<◌, take, Some, get_or}, specs.Prelude.slice_get}
 use Rattle.marple_base.specs.declared.field.TheConstants.{FIELDS}
-use Rattle.stage_plan.specs.declared.op.PlanOp.{PlanOp}
-use Rattle.stage_plan.specs.Registers.{result_of}
+use Rattle.stage_plan.specs.{declared.op.PlanOp.PlanOp, Registers.result_of}
 use Rattle.stage_plan.proofs.rows.fill_results.Given as goal
 
 abbrev pub invariant-loop-at : goal.invariant-loop-at

@@ -1,8 +1,5 @@
-use Rattle.std.proofs.Common.{◌≡◌, ◌+◌, ◌≤◌, false, length, sym, ap, ◌∙◌, arith}
-use Rattle.std.proofs.lemmas.List.{length_push}
-use Rattle.stage_plan.specs.Counting.{op_most}
-use Rattle.stage_plan.proofs.Counts.{Stands, stands, op_fits, fold_fits, inputs_at}
-use Rattle.stage_plan.specs.Making.{are_deep}
+use Rattle.std.proofs.{Common.{◌≡◌, ◌+◌, ◌≤◌, false, length, sym, ap, ◌∙◌, arith}, lemmas.List.length_push}
+use Rattle.stage_plan.{specs.{Counting.op_most, Making.are_deep}, proofs.Counts.{Stands, stands, op_fits, fold_fits, inputs_at}}
 use Rattle.stage_plan.proofs.NextStream.{IsNext, is_next, next_made, next_fault}
 use Rattle.stage_plan.proofs.streams.make_streams.Goals as goal
 

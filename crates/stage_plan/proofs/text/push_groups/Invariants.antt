@@ -1,5 +1,4 @@
-use Rattle.std.proofs.Common.{◌≡◌, ◌++◌, take}
-use Rattle.std.specs.Prelude.{map, flat_map}
+use Rattle.std.{proofs.Common.{◌≡◌, ◌++◌, take}, specs.Prelude.{map, flat_map}}
 use Rattle.stage_plan.specs.Shape.{group_line, group_shape}
 use Rattle.stage_plan.proofs.text.push_groups.Given as goal
 

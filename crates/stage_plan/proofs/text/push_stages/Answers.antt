@@ -1,8 +1,5 @@
-use Rattle.std.proofs.Common.{◌++◌, ◌+◌, ◌∙◌, ap, append_assoc}
-use Rattle.std.specs.Prelude.{codes}
-use Rattle.stage_plan.specs.Shape.{counted, line, stage_lines, sizes_of}
-use Rattle.stage_plan.proofs.Depths.{stages}
-use Rattle.stage_plan.proofs.Texts.{stage_more}
+use Rattle.std.{proofs.Common.{◌++◌, ◌+◌, ◌∙◌, ap, append_assoc}, specs.Prelude.codes}
+use Rattle.stage_plan.{specs.Shape.{counted, line, stage_lines, sizes_of}, proofs.{Depths.stages, Texts.stage_more}}
 use Rattle.stage_plan.proofs.text.push_stages.Goals as goal
 
 pub loop-before-preserved : goal.loop-before-preserved

@@ -1,5 +1,4 @@
-use Rattle.std.proofs.Common.{◌≡◌, ◌++◌}
-use Rattle.std.specs.Prelude.{map}
+use Rattle.std.{proofs.Common.{◌≡◌, ◌++◌}, specs.Prelude.map}
 use Rattle.stage_plan.specs.Shape.{stage_lines, sizes_of}
 use Rattle.stage_plan.proofs.text.push_stages.Given as goal
 

@@ -1,7 +1,5 @@
 use Rattle.std.proofs.Common.{◌<◌, Some, length, sym, ap, ◌∙◌}
-use Rattle.switch_core.specs.Closing.{is_drained}
-use Rattle.switch_core.proofs.SideBySide.{got_here}
-use Rattle.switch_core.proofs.LaneFacts.{all_next, all_fails}
+use Rattle.switch_core.{specs.Closing.is_drained, proofs.{SideBySide.got_here, LaneFacts.{all_next, all_fails}}}
 use Rattle.switch_core.proofs.lanes.all_drained.Goals as goal
 
 pub returns-then-not-drained : goal.returns-then-not-drained

@@ -1,7 +1,5 @@
 use Rattle.std.proofs.Common.{◌<◌, Some, length, sym, ap, ◌∙◌}
-use Rattle.switch_core.specs.PlanLanes.{lane_is_ready}
-use Rattle.switch_core.proofs.SideBySide.{got_here}
-use Rattle.switch_core.proofs.LaneFacts.{all_next, all_fails}
+use Rattle.switch_core.{specs.PlanLanes.lane_is_ready, proofs.{SideBySide.got_here, LaneFacts.{all_next, all_fails}}}
 use Rattle.switch_core.proofs.lanes.all_ready.Goals as goal
 
 pub returns-then-not-ready : goal.returns-then-not-ready

@@ -1,5 +1,4 @@
-use Rattle.std.proofs.Common.{◌≡◌, true, take}
-use Rattle.std.specs.List.{list_all}
+use Rattle.std.{proofs.Common.{◌≡◌, true, take}, specs.List.list_all}
 use Rattle.switch_core.specs.PlanLanes.{lane_is_ready}
 use Rattle.switch_core.proofs.lanes.all_ready.Given as goal
 

@@ -1,9 +1,6 @@
-use Rattle.std.proofs.Common.{rules, length, get_or, refl, sym, ◌∙◌, lit<}
-use Rattle.std.proofs.lemmas.Bool.{ltb-true}
+use Rattle.std.proofs.{Common.{rules, length, get_or, refl, sym, ◌∙◌, lit<}, lemmas.Bool.ltb-true}
 use Rattle.epoch_model.specs.Machine.{Evict}
-use Rattle.switch_core.specs.PlanLanes.{parts_of}
-use Rattle.switch_core.proofs.SideBySide.{got_here, same_some}
-use Rattle.switch_core.proofs.LaneFacts.{make_one}
+use Rattle.switch_core.{specs.PlanLanes.parts_of, proofs.{SideBySide.{got_here, same_some}, LaneFacts.make_one}}
 use Rattle.switch_core.proofs.lanes.evict_at.Goals as goal
 
 pub evict-requires : goal.evict-requires

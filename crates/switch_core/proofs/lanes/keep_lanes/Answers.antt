@@ -1,12 +1,9 @@
 -- Each lane makes the events of its upkeep, in order.
 use Rattle.std.proofs.Common.{rules, ◌<◌, ◌+◌, length, set, get_or, arith}
-use Rattle.switch_core.specs.PlanLanes.{LaneMakes, LanesBreakOff, LanesMake, lane_upkeep_cost, upkeeps_at}
-use Rattle.switch_core.specs.Upkeeps.{IsKept}
-use Rattle.switch_core.proofs.LaneFacts.{err_holds, on_err, on_ok}
-use Rattle.switch_core.proofs.LaneUpkeeps.{breaks_off_at, made_at, others_stay}
-use Rattle.switch_core.proofs.SideBySide.{got_below, got_here, done_start, untouched_start, untouched_next}
-use Rattle.switch_core.proofs.SideBySide.{untouched_was, done_end, sum_next}
-use Rattle.switch_core.proofs.SweepCosts.{sum_within}
+use Rattle.switch_core.specs.{PlanLanes.{LaneMakes, LanesBreakOff, LanesMake, lane_upkeep_cost, upkeeps_at}, Upkeeps.IsKept}
+use Rattle.switch_core.proofs.{LaneFacts.{err_holds, on_err, on_ok}, LaneUpkeeps.{breaks_off_at, made_at, others_stay}}
+use Rattle.switch_core.proofs.SideBySide.{got_below, got_here, done_start, untouched_start, untouched_next, untouched_was, done_end}
+use Rattle.switch_core.proofs.{SideBySide.sum_next, SweepCosts.sum_within}
 use Rattle.switch_core.proofs.lanes.keep_lanes.Goals as goal
 
 pub loop-i-init : goal.loop-i-init

@@ -1,7 +1,5 @@
-use Rattle.std.proofs.Common.{◌≤◌, ◌<◌, ◌+◌, ℕ, take}
-use Rattle.std.specs.Prelude.{sum_by}
-use Rattle.switch_core.specs.PlanLanes.{AtLane, LaneMakes, lane_upkeep_cost, upkeeps_at}
-use Rattle.switch_core.specs.Upkeeps.{IsKept}
+use Rattle.std.{proofs.Common.{◌≤◌, ◌<◌, ◌+◌, ℕ, take}, specs.Prelude.sum_by}
+use Rattle.switch_core.specs.{PlanLanes.{AtLane, LaneMakes, lane_upkeep_cost, upkeeps_at}, Upkeeps.IsKept}
 use Rattle.switch_core.proofs.SideBySide.{Done, Untouched}
 use Rattle.switch_core.proofs.lanes.keep_lanes.Given as goal
 

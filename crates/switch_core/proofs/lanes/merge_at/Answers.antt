@@ -1,12 +1,8 @@
-use Rattle.std.proofs.Common.{rules, ◌≡◌, ◌<◌, true, length, set, get_or, refl, sym, ap, ◌∙◌}
-use Rattle.std.proofs.lemmas.Bool.{lt-ltb}
+use Rattle.std.proofs.{Common.{rules, ◌≡◌, ◌<◌, true, length, set, get_or, refl, sym, ap, ◌∙◌}, lemmas.Bool.lt-ltb}
 use Rattle.epoch_model.specs.Machine.{Merge}
 use Rattle.epoch_entry.specs.contracts.any.AnyEpochsEpochKind.TheImpl.{ghosts}
-use Rattle.switch_core.specs.LaneEvents.{Makes}
-use Rattle.switch_core.specs.Pipelines.{event_at}
-use Rattle.switch_core.specs.PlanLanes.{LanesMake, AtLane, lane_is_ready, parts_of}
-use Rattle.switch_core.proofs.SideBySide.{got_here, same_some}
-use Rattle.switch_core.proofs.LaneFacts.{got_set, set_same, on_ok, on_err, make_one}
+use Rattle.switch_core.specs.{LaneEvents.Makes, Pipelines.event_at, PlanLanes.{LanesMake, AtLane, lane_is_ready, parts_of}}
+use Rattle.switch_core.proofs.{SideBySide.{got_here, same_some}, LaneFacts.{got_set, set_same, on_ok, on_err, make_one}}
 use Rattle.switch_core.proofs.lanes.merge_at.Goals as goal
 
 pub returns : goal.returns

@@ -1,6 +1,4 @@
-use Rattle.std.proofs.Common.{arith, lit<}
-use Rattle.std.proofs.Math.Logic.{∥∥₁_elim}
-use Rattle.std.proofs.Props.{props}
+use Rattle.std.proofs.{Common.{arith, lit<}, Math.Logic.{∥∥₁_elim}, Props.props}
 use Rattle.epoch_entry.specs.contracts.any.AnyEpochsEpochKind.TheImpl.{ghosts}
 use Rattle.switch_core.proofs.making.made_lane.Goals as goal
 

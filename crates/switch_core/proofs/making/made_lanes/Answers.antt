@@ -1,15 +1,10 @@
-use Rattle.std.proofs.Common.{◌≡◌, ◌++◌, [], ◌∷◌, take, sym, ap, ◌∙◌, subst, arith, lit<, ℕ}
-use Rattle.std.proofs.lemmas.List.{length-take-le, take_all}
+use Rattle.std.proofs.{Common.{◌≡◌, ◌++◌, [], ◌∷◌, take, sym, ap, ◌∙◌, subst, arith, lit<, ℕ}, lemmas.List.{length-take-le, take_all}}
 use Rattle.std.proofs.lemmas.List.Elements.{All-append, All-cons, All-nil}
-use Rattle.epoch_model.specs.Machine.{empty_machine}
-use Rattle.epoch_model.proofs.Endings.{no_value}
+use Rattle.epoch_model.{specs.Machine.empty_machine, proofs.Endings.no_value}
 use Rattle.epoch_entry.specs.contracts.any.AnyEpochsEpochKind.TheImpl.{ghosts}
-use Rattle.stage_plan.specs.declared.group.GroupPlan.{GroupPlan}
-use Rattle.stage_plan.specs.Planned.{wiring_at}
-use Rattle.switch_core.specs.Rows.{Each, EachFrom}
-use Rattle.switch_core.specs.Pipelines.{IsLaneOf, empty_machines, geometry_without_refresh}
-use Rattle.switch_core.specs.PlanLanes.{HavePlaces, LaneView, IsMadeFor, StandsFor}
-use Rattle.switch_core.proofs.SideBySide.{got_below, each_long}
+use Rattle.stage_plan.specs.{declared.group.GroupPlan.GroupPlan, Planned.wiring_at}
+use Rattle.switch_core.specs.{Rows.{Each, EachFrom}, Pipelines.{IsLaneOf, empty_machines, geometry_without_refresh}}
+use Rattle.switch_core.{specs.PlanLanes.{HavePlaces, LaneView, IsMadeFor, StandsFor}, proofs.SideBySide.{got_below, each_long}}
 use Rattle.switch_core.proofs.LanesMade.{each_push, take_next, empties_push, group_sound, lane_made}
 use Rattle.switch_core.proofs.making.made_lanes.Goals as goal
 

@@ -1,8 +1,7 @@
 use Rattle.std.proofs.Common.{take}
 use Rattle.epoch_entry.specs.contracts.any.AnyEpochsEpochKind.TheImpl.{ghosts}
 use Rattle.stage_plan.specs.Planned.{wiring_at}
-use Rattle.switch_core.specs.Rows.{Each, EachFrom}
-use Rattle.switch_core.specs.Pipelines.{IsLaneOf, empty_machines, geometry_without_refresh}
+use Rattle.switch_core.specs.{Rows.{Each, EachFrom}, Pipelines.{IsLaneOf, empty_machines, geometry_without_refresh}}
 use Rattle.switch_core.specs.PlanLanes.{HavePlaces, IsMadeFor, StandsFor}
 use Rattle.switch_core.proofs.making.made_lanes.Given as goal
 

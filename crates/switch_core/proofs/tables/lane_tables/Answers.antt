@@ -1,16 +1,13 @@
 -- Each table is that of the epochs of its lane's machine, since all of them are merged.
-use Rattle.std.proofs.Common.{◌≡◌, ◌++◌, [], ◌∷◌, Some, map, take, sym, ap, ◌∙◌, subst, arith}
-use Rattle.std.proofs.Math.Facts.{Fits-below}
+use Rattle.std.proofs.{Common.{◌≡◌, ◌++◌, [], ◌∷◌, Some, map, take, sym, ap, ◌∙◌, subst, arith}, Math.Facts.Fits-below}
 use Rattle.std.specs.Prelude.{slice_get}
 use Rattle.query_lang.specs.declared.fault.TheConstants.{MAX_KEYS}
 use Rattle.epoch_entry.specs.contracts.any.AnyEpochsEpochKind.TheImpl.{ghosts}
 use Rattle.backing_store.specs.Merged.{StoreHolds}
 use Rattle.switch_core.specs.Pipelines.{heading_of, stored_table, tables_of}
 use Rattle.switch_core.specs.PlanLanes.{StandsFor, folding_at, lane_is_drained, stored_tables}
-use Rattle.switch_core.proofs.SideBySide.{got_here, each_long, each_at}
-use Rattle.switch_core.proofs.LaneFacts.{all_at}
-use Rattle.switch_core.proofs.LaneTables.{drained_holds, stored_next, stored_whole, tables_next, tables_whole}
-use Rattle.switch_core.proofs.LanesMade.{group_sound}
+use Rattle.switch_core.proofs.{SideBySide.{got_here, each_long, each_at}, LaneFacts.all_at}
+use Rattle.switch_core.proofs.{LaneTables.{drained_holds, stored_next, stored_whole, tables_next, tables_whole}, LanesMade.group_sound}
 use Rattle.switch_core.proofs.tables.lane_tables.Goals as goal
 
 pub overflow_cast-i : goal.overflow_cast-i

@@ -1,8 +1,6 @@
 use Rattle.std.proofs.Common.{◌≡◌, List, map, take}
 use Rattle.epoch_model.specs.Machine.{Machine}
-use Rattle.switch_core.specs.Rows.{Each}
-use Rattle.switch_core.specs.Pipelines.{tables_of}
-use Rattle.switch_core.specs.PlanLanes.{StandsFor, folding_at, stored_tables}
+use Rattle.switch_core.specs.{Rows.Each, Pipelines.tables_of, PlanLanes.{StandsFor, folding_at, stored_tables}}
 use Rattle.switch_core.proofs.tables.lane_tables.Given as goal
 
 -- the tables of the lanes so far

@@ -1,15 +1,10 @@
 -- Evictions in order, each with room made for its record, up to the one that finds the bucket empty.
-use Rattle.std.proofs.Common.{rules, ◌≡◌, ◌+◌, ◌-◌, ◌*◌, ◌<◌, ◌≤◌, true, if◌then◌else◌, suc, [], length, take, refl, sym, ap, ◌∙◌}
-use Rattle.std.proofs.Common.{subst, arith, get_or-set_other}
-use Rattle.std.proofs.lemmas.Bool.Decides.{nat_tests}
+use Rattle.std.proofs.Common.{rules, ◌≡◌, ◌+◌, ◌-◌, ◌*◌, ◌<◌, ◌≤◌, true, if◌then◌else◌, suc, [], length, take, refl, sym, ap, ◌∙◌, subst}
+use Rattle.std.proofs.{Common.{arith, get_or-set_other}, lemmas.Bool.Decides.nat_tests}
 use Rattle.bucket_cache.specs.Caches.{list_at, with_list}
-use Rattle.switch_core.specs.Closing.{held_in}
-use Rattle.switch_core.specs.Costs.{evict_cost, merge_cost}
-use Rattle.switch_core.specs.FrontEvents.{with_store}
-use Rattle.switch_core.specs.Upkeeps.{left_waiting, sweep_from}
+use Rattle.switch_core.specs.{Closing.held_in, Costs.{evict_cost, merge_cost}, FrontEvents.with_store, Upkeeps.{left_waiting, sweep_from}}
 use Rattle.switch_core.proofs.Carrying.{fits_kept, keeps_on, keeps_start, up_to_first, up_to_start}
-use Rattle.switch_core.proofs.Emptying.{evicted_shorter, next_empty, next_found, one_try}
-use Rattle.switch_core.proofs.LaneFacts.{err_holds}
+use Rattle.switch_core.proofs.{Emptying.{evicted_shorter, next_empty, next_found, one_try}, LaneFacts.err_holds}
 use Rattle.switch_core.proofs.SweepCosts.{evicted_within, held_fewer, merged_within}
 use Rattle.switch_core.proofs.upkeep.empty_bucket.Goals as goal
 

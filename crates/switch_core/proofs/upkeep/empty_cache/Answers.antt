@@ -1,16 +1,9 @@
 -- The buckets are emptied in order, so that their events come one after another.
-use Rattle.std.proofs.Common.{rules, ◌≡◌, ◌+◌, ◌*◌, ◌<◌, ◌≤◌, ⊎_elim, suc, length, ap, ◌∙◌, arith}
-use Rattle.std.proofs.lemmas.Bool.{cases_eq}
+use Rattle.std.proofs.{Common.{rules, ◌≡◌, ◌+◌, ◌*◌, ◌<◌, ◌≤◌, ⊎_elim, suc, length, ap, ◌∙◌, arith}, lemmas.Bool.cases_eq}
 use Rattle.bucket_cache.specs.Caches.{list_at}
-use Rattle.switch_core.specs.Closing.{held_in}
-use Rattle.switch_core.specs.Costs.{evict_cost, merge_cost}
-use Rattle.switch_core.specs.FrontEvents.{with_store}
-use Rattle.switch_core.specs.Upkeeps.{sweep_from}
+use Rattle.switch_core.specs.{Closing.held_in, Costs.{evict_cost, merge_cost}, FrontEvents.with_store, Upkeeps.sweep_from}
 use Rattle.switch_core.proofs.Carrying.{fits_kept, keeps_on, keeps_start, up_to_along, up_to_first_on, up_to_start, up_to_whole}
-use Rattle.switch_core.proofs.Drained.{empty_held}
-use Rattle.switch_core.proofs.Emptying.{next_none}
-use Rattle.switch_core.proofs.LaneFacts.{err_holds}
-use Rattle.switch_core.proofs.SweepCosts.{bucket_within, buckets_within}
+use Rattle.switch_core.proofs.{Drained.empty_held, Emptying.next_none, LaneFacts.err_holds, SweepCosts.{bucket_within, buckets_within}}
 use Rattle.switch_core.proofs.upkeep.empty_cache.Goals as goal
 
 pub loop-bucket-init : goal.loop-bucket-init

@@ -1,8 +1,6 @@
 use Rattle.std.proofs.Common.{◌≡◌, ◌+◌, ◌*◌, ◌≤◌, ◌<◌, ℕ, length}
 use Rattle.bucket_cache.specs.Caches.{list_at}
-use Rattle.switch_core.specs.Closing.{held_in}
-use Rattle.switch_core.specs.Costs.{evict_cost, merge_cost}
-use Rattle.switch_core.specs.FrontEvents.{CarriesUpTo, KeepsSizes, with_store}
+use Rattle.switch_core.specs.{Closing.held_in, Costs.{evict_cost, merge_cost}, FrontEvents.{CarriesUpTo, KeepsSizes, with_store}}
 use Rattle.switch_core.specs.Upkeeps.{sweep_from}
 use Rattle.switch_core.proofs.upkeep.empty_cache.Given as goal
 

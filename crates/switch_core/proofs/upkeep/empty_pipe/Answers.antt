@@ -1,12 +1,9 @@
 -- Merges one after another, up to the one that finds the pipe empty.
 use Rattle.std.proofs.Common.{rules, ◌≡◌, Ok, suc, [], ◌∷◌, length, replicate, refl, sym, ap, ◌∙◌, subst, arith, length-drop}
 use Rattle.epoch_model.specs.Machine.{Merge}
-use Rattle.switch_core.specs.Costs.{merge_cost}
-use Rattle.switch_core.specs.FrontEvents.{CarriesUpTo, with_store}
-use Rattle.switch_core.proofs.Carrying.{fits_kept, keeps_on, keeps_same, keeps_start, same_store, up_to_first, up_to_on, up_to_start}
-use Rattle.switch_core.proofs.Carrying.{up_to_whole}
-use Rattle.switch_core.proofs.Emptying.{merges_more, merges_within, not_empty}
-use Rattle.switch_core.proofs.LaneFacts.{err_holds}
+use Rattle.switch_core.{specs.{Costs.merge_cost, FrontEvents.{CarriesUpTo, with_store}}, proofs.Carrying.{fits_kept, keeps_on, keeps_same}}
+use Rattle.switch_core.proofs.Carrying.{keeps_start, same_store, up_to_first, up_to_on, up_to_start, up_to_whole}
+use Rattle.switch_core.proofs.{Emptying.{merges_more, merges_within, not_empty}, LaneFacts.err_holds}
 use Rattle.switch_core.proofs.upkeep.empty_pipe.Goals as goal
 
 pub records-init : goal.records-init

@@ -1,7 +1,6 @@
 use Rattle.std.proofs.Common.{◌+◌, ◌*◌, ◌≤◌, suc, length, replicate}
 use Rattle.epoch_model.specs.Machine.{Merge}
-use Rattle.switch_core.specs.Costs.{merge_cost}
-use Rattle.switch_core.specs.FrontEvents.{CarriesUpTo, KeepsSizes, with_store}
+use Rattle.switch_core.specs.{Costs.merge_cost, FrontEvents.{CarriesUpTo, KeepsSizes, with_store}}
 use Rattle.switch_core.proofs.upkeep.empty_pipe.Given as goal
 
 -- merges led here

@@ -1,8 +1,6 @@
 -- A full pipe merges once, and any other is left as it is.
-use Rattle.std.proofs.Common.{rules, ◌≡◌, true, false, length, refl, sym, ap, ◌∙◌, subst, length-drop}
-use Rattle.std.specs.Prelude.{nat_lt}
-use Rattle.switch_core.specs.FrontEvents.{CarriesAll, with_store}
-use Rattle.switch_core.proofs.Carrying.{keeps_start}
+use Rattle.std.{proofs.Common.{rules, ◌≡◌, true, false, length, refl, sym, ap, ◌∙◌, subst, length-drop}, specs.Prelude.nat_lt}
+use Rattle.switch_core.{specs.FrontEvents.{CarriesAll, with_store}, proofs.Carrying.keeps_start}
 use Rattle.switch_core.proofs.Emptying.{left_fewer, left_same, room_none, room_one}
 use Rattle.switch_core.proofs.upkeep.make_ready.Goals as goal
 

@@ -1,7 +1,6 @@
 -- One merge, as the front makes it.
 use Rattle.std.proofs.Common.{refl}
-use Rattle.switch_core.specs.FrontEvents.{with_store}
-use Rattle.switch_core.proofs.Carrying.{keeps_same}
+use Rattle.switch_core.{specs.FrontEvents.with_store, proofs.Carrying.keeps_same}
 use Rattle.switch_core.proofs.upkeep.merge_once.Goals as goal
 
 pub returns-clause-carries : goal.returns-clause-carries

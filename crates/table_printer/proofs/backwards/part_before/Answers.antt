@@ -1,6 +1,5 @@
-use Rattle.std.proofs.Common.{◌≡◌, ◌+◌, ◌-◌, ◌<◌, ◌≤◌, ◌∙◌, ◌++◌, ◌∷◌, List, ℕ, ap, append-nil, arith, drop, length, sym, take}
-use Rattle.std.proofs.Common.{drop-drop, length-append, length-drop}
-use Rattle.std.proofs.lemmas.List.{drop-set, drop_at, length-take-le}
+use Rattle.std.proofs.Common.{◌≡◌, ◌+◌, ◌-◌, ◌<◌, ◌≤◌, ◌∙◌, ◌++◌, ◌∷◌, List, ℕ, ap, append-nil, arith, drop, length, sym, take, drop-drop}
+use Rattle.std.proofs.{Common.{length-append, length-drop}, lemmas.List.{drop-set, drop_at, length-take-le}}
 use Rattle.table_printer.proofs.backwards.part_before.Goals as goal
 
 pub returns-clause-written : goal.returns-clause-written

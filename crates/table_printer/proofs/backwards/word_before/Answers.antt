@@ -1,6 +1,5 @@
 use Rattle.std.proofs.Common.{◌≡◌, ◌+◌, ◌-◌, ◌<◌, ◌≤◌, ◌∙◌, ◌++◌, ◌∷◌, ap, append-nil, arith, decimal, drop, length, rules, sym}
-use Rattle.std.proofs.lemmas.Fmt.{length-decimal-le}
-use Rattle.std.proofs.lemmas.List.{drop-set}
+use Rattle.std.proofs.lemmas.{Fmt.length-decimal-le, List.drop-set}
 use Rattle.table_printer.proofs.backwards.word_before.Goals as goal
 
 pub write_digits-at-requires : goal.write_digits-at-requires

@@ -1,7 +1,5 @@
-use Rattle.std.proofs.Common.{ap, ◌∙◌, ◌++◌, ◌∷◌, []}
-use Rattle.std.proofs.lemmas.List.{drop_more, drop_all}
-use Rattle.table_printer.specs.Parts.{parts_from}
-use Rattle.table_printer.proofs.Joined.{written, all_written}
+use Rattle.std.proofs.{Common.{ap, ◌∙◌, ◌++◌, ◌∷◌, []}, lemmas.List.{drop_more, drop_all}}
+use Rattle.table_printer.{specs.Parts.parts_from, proofs.Joined.{written, all_written}}
 use Rattle.table_printer.proofs.parts.push_names.Goals as goal
 
 pub names-preserved : goal.names-preserved

@@ -1,7 +1,5 @@
-use Rattle.std.proofs.Common.{ap}
-use Rattle.std.proofs.lemmas.List.{drop_more, drop_all}
-use Rattle.table_printer.specs.TableText.{numbers}
-use Rattle.table_printer.proofs.Joined.{written, all_written}
+use Rattle.std.proofs.{Common.ap, lemmas.List.{drop_more, drop_all}}
+use Rattle.table_printer.{specs.TableText.numbers, proofs.Joined.{written, all_written}}
 use Rattle.table_printer.proofs.parts.push_words.Goals as goal
 
 pub words-preserved : goal.words-preserved

@@ -1,6 +1,5 @@
 use Rattle.std.proofs.Common.{◌≡◌, ◌++◌, drop}
-use Rattle.table_printer.specs.TableText.{numbers}
-use Rattle.table_printer.specs.Parts.{parts_from}
+use Rattle.table_printer.specs.{TableText.numbers, Parts.parts_from}
 use Rattle.table_printer.proofs.parts.push_words.Given as goal
 
 -- what is written, and then what is left, make the whole

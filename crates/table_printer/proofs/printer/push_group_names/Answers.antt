@@ -1,7 +1,5 @@
 use Rattle.std.proofs.Common.{List, ℕ, [], ◌∷◌, ap, sym, ◌∙◌, ◌++◌, append_assoc, codes}
-use Rattle.table_printer.specs.TableText.{cells_joined, cells_continued}
-use Rattle.table_printer.specs.Parts.{parts_from}
-use Rattle.table_printer.proofs.Joined.{joined_three}
+use Rattle.table_printer.{specs.{TableText.{cells_joined, cells_continued}, Parts.parts_from}, proofs.Joined.joined_three}
 use Rattle.table_printer.proofs.printer.push_group_names.Goals as goal
 
 abbrev own : List (List ℕ)

@@ -1,11 +1,9 @@
 use Rattle.std.proofs.Common.{length, ◌≡◌, ◌+◌, ◌≤◌, ◌++◌, ◌∙◌, ap, subst, arith, append_assoc, append-nil, flat_map}
 use Rattle.std.proofs.lemmas.List.{drop_all}
 use Rattle.epoch_model.specs.declared.tables.Row.{Row}
-use Rattle.table_rows.specs.LentRows.{row_of}
-use Rattle.table_rows.proofs.LentFacts.{rows_from}
+use Rattle.table_rows.{specs.LentRows.row_of, proofs.LentFacts.rows_from}
 use Rattle.table_printer.specs.TableText.{heading, table_line, row_parts, table_text, title}
-use Rattle.marple_base.specs.Pieces.{TakesAllBut}
-use Rattle.marple_base.proofs.Pieces.{all_waits, front_is_taken, none_taken, on_err, part_broke, part_more}
+use Rattle.marple_base.{specs.Pieces.TakesAllBut, proofs.Pieces.{all_waits, front_is_taken, none_taken, on_err, part_broke, part_more}}
 use Rattle.table_printer.proofs.printer.write_table.Goals as goal
 
 pub returns-in_err-push_head-clause-err : goal.returns-in_err-push_head-clause-err

@@ -1,5 +1,4 @@
-use Rattle.std.proofs.Common.{◌≡◌, ◌+◌, ◌++◌, take}
-use Rattle.std.specs.Prelude.{vec_capacity, vec_len}
+use Rattle.std.{proofs.Common.{◌≡◌, ◌+◌, ◌++◌, take}, specs.Prelude.{vec_capacity, vec_len}}
 use Rattle.table_rows.proofs.rows.push_few.Given as goal
 
 -- the words so far were added

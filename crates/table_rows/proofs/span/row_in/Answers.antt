@@ -1,5 +1,4 @@
-use Rattle.std.proofs.Common.{◌≡◌, ◌∙◌, ◌+◌, ◌-◌, ap, ap₂, take, drop, arith}
-use Rattle.std.proofs.lemmas.List.{take-take, drop-take, drop-drop}
+use Rattle.std.proofs.{Common.{◌≡◌, ◌∙◌, ◌+◌, ◌-◌, ap, ap₂, take, drop, arith}, lemmas.List.{take-take, drop-take, drop-drop}}
 use Rattle.table_rows.proofs.SpanFacts.{row_with}
 use Rattle.table_rows.proofs.span.row_in.Goals as goal
 

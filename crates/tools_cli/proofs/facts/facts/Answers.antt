@@ -1,7 +1,6 @@
 use Rattle.std.proofs.Common.{◌≡◌, ℕ, List, subst, sym}
 use Rattle.marple_base.specs.declared.inputs.Which.TheVariants.{Query}
-use Rattle.tools_cli.specs.FactsEnds.{IsFactsLine}
-use Rattle.tools_cli.proofs.LineFacts.{gives_facts}
+use Rattle.tools_cli.{specs.FactsEnds.IsFactsLine, proofs.LineFacts.gives_facts}
 use Rattle.tools_cli.proofs.facts.facts.Goals as goal
 
 pub returns-in-Ok-clause-ok : goal.returns-in-Ok-clause-ok

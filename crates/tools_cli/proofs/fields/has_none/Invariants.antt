@@ -1,5 +1,4 @@
-use Rattle.std.proofs.Common.{◌≡◌, [], take}
-use Rattle.std.specs.Prelude.{filter}
+use Rattle.std.{proofs.Common.{◌≡◌, [], take}, specs.Prelude.filter}
 use Rattle.marple_base.specs.Field.{all_fields, has_field}
 use Rattle.tools_cli.proofs.fields.has_none.Given as goal
 

@@ -1,6 +1,5 @@
 use Rattle.std.proofs.Common.{All}
-use Rattle.marple_base.specs.Inputs.{IsClosed}
-use Rattle.marple_base.specs.declared.inputs.Which.TheVariants.{Trace}
+use Rattle.marple_base.specs.{Inputs.IsClosed, declared.inputs.Which.TheVariants.Trace}
 use Rattle.tools_cli.specs.Files.{trace_input}
 use Rattle.tools_cli.proofs.files.trace_files.Given as goal
 

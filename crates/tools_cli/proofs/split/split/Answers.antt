@@ -1,15 +1,11 @@
 use Rattle.std.proofs.Common.{◌≡◌, ◌≢◌, ◌∙◌, [], refl, subst, sym}
-use Rattle.marple_base.specs.declared.inputs.Which.TheVariants.{Query}
-use Rattle.marple_base.proofs.Pieces.{none_taken, on_err}
+use Rattle.marple_base.{specs.declared.inputs.Which.TheVariants.Query, proofs.Pieces.{none_taken, on_err}}
 use Rattle.part_texts.specs.Texts.{fields_in}
 use Rattle.trace_ranges.specs.Ranges.{within}
-use Rattle.trace_split.specs.Traces.{faults_of}
-use Rattle.tools_cli.specs.Ends.{AreTexts, IsSplit, SplitEnds, split_by, texts_for}
-use Rattle.tools_cli.specs.Statuses.{status_of_traces}
+use Rattle.trace_split.{specs.Traces.faults_of, proofs.RestFacts.refused_so}
+use Rattle.tools_cli.specs.{Ends.{AreTexts, IsSplit, SplitEnds, split_by, texts_for}, Statuses.status_of_traces}
 use Rattle.tools_cli.proofs.SplitFacts.{fields_are, if_err_is, is_accepted, is_reached, is_split, of_query, query_ends, take_fronts}
-use Rattle.tools_cli.proofs.SplitFacts.{is_err_of, traces_end}
-use Rattle.tools_cli.proofs.RangeFacts.{closed_of, left_of, none_fell, one_rose}
-use Rattle.trace_split.proofs.RestFacts.{refused_so}
+use Rattle.tools_cli.proofs.{SplitFacts.{is_err_of, traces_end}, RangeFacts.{closed_of, left_of, none_fell, one_rose}}
 use Rattle.tools_cli.proofs.split.split.Goals as goal
 
 -- ---- the query wasn't read, or is refused

@@ -2,14 +2,11 @@ use Rattle.std.proofs.Common.{◌≡◌, ◌≢◌, ◌↔◌, None, refl, rules
 use Rattle.marple_base.specs.declared.inputs.Which.TheVariants.{Query}
 use Rattle.trace_ranges.specs.Ranges.{within}
 use Rattle.trace_split.specs.Traces.{faults_of}
-use Rattle.tools_cli.specs.Call.{WhereFacts, WhereSplit, asked_by}
-use Rattle.tools_cli.specs.Ends.{AreTexts, IsAcceptedWith, IsSplit, SplitEnds, TakeFrontsOf}
-use Rattle.tools_cli.specs.FactsEnds.{FactsEnd, GivesFacts}
-use Rattle.tools_cli.specs.declared.command.SplitSetting.{SplitSetting}
-use Rattle.tools_cli.specs.declared.status.ToolStatus.{ToolStatus}
+use Rattle.tools_cli.specs.{Call.{WhereFacts, WhereSplit, asked_by}, Ends.{AreTexts, IsAcceptedWith, IsSplit, SplitEnds, TakeFrontsOf}}
+use Rattle.tools_cli.specs.{FactsEnds.{FactsEnd, GivesFacts}, declared.{command.SplitSetting.SplitSetting, status.ToolStatus.ToolStatus}}
 use Rattle.tools_cli.specs.declared.status.ToolStatus.TheVariants as tools
-use Rattle.tools_cli.proofs.EndFacts.{ended, fronts_of, ok_of, where_facts_no_split, where_none, where_none_facts, where_split}
-use Rattle.tools_cli.proofs.EndFacts.{not_usage, where_split_no_facts}
+use Rattle.tools_cli.proofs.EndFacts.{ended, fronts_of, ok_of, where_facts_no_split, where_none, where_none_facts, where_split, not_usage}
+use Rattle.tools_cli.proofs.EndFacts.{where_split_no_facts}
 use Rattle.tools_cli.proofs.top.answer.Goals as goal
 
 -- ---- a splitting

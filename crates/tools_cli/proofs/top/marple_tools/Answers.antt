@@ -1,10 +1,8 @@
 use Rattle.marple_base.specs.declared.inputs.Which.TheVariants.{Query}
 use Rattle.trace_ranges.specs.Ranges.{within}
 use Rattle.trace_split.specs.Traces.{faults_of}
-use Rattle.tools_cli.specs.Call.{asked_by}
-use Rattle.tools_cli.specs.Ends.{AreTexts}
-use Rattle.tools_cli.proofs.EndFacts.{after_query, at_field_needed, at_out_fault, at_parts_fault, at_query_fault, at_query_refused}
-use Rattle.tools_cli.proofs.EndFacts.{at_trace_fault, at_trace_refused, of_facts}
+use Rattle.tools_cli.{specs.{Call.asked_by, Ends.AreTexts}, proofs.EndFacts.{after_query, at_field_needed, at_out_fault, at_parts_fault}}
+use Rattle.tools_cli.proofs.EndFacts.{at_query_fault, at_query_refused, at_trace_fault, at_trace_refused, of_facts}
 use Rattle.tools_cli.proofs.top.marple_tools.Goals as goal
 
 pub returns-clause-query_fault : goal.returns-clause-query_fault

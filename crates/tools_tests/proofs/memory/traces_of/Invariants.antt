@@ -1,7 +1,5 @@
 use Rattle.std.proofs.Common.{All}
-use Rattle.marple_base.specs.Inputs.{IsClosed}
-use Rattle.marple_base.specs.MemoryInputs.{memory_input}
-use Rattle.marple_base.specs.declared.inputs.Which.TheVariants.{Trace}
+use Rattle.marple_base.specs.{Inputs.IsClosed, MemoryInputs.memory_input, declared.inputs.Which.TheVariants.Trace}
 use Rattle.tools_tests.proofs.memory.traces_of.Given as goal
 
 -- no trace is open yet

@@ -1,9 +1,7 @@
-use Rattle.std.proofs.Common.{◌+◌, ◌++◌, [], ◌∷◌, drop, get_or, sym, ap, ◌∙◌, append_assoc}
-use Rattle.std.proofs.lemmas.List.{append-nil, drop_all}
+use Rattle.std.proofs.{Common.{◌+◌, ◌++◌, [], ◌∷◌, drop, get_or, sym, ap, ◌∙◌, append_assoc}, lemmas.List.{append-nil, drop_all}}
 use Rattle.marple_base.specs.Field.{all_fields}
 use Rattle.marple_base.specs.declared.field.Field.TheVariants as f
-use Rattle.trace_drive.specs.Kept.{fields_among}
-use Rattle.trace_drive.proofs.KeptFacts.{among_none, among_one, among_other}
+use Rattle.trace_drive.{specs.Kept.fields_among, proofs.KeptFacts.{among_none, among_one, among_other}}
 use Rattle.trace_drive.proofs.kept.fields_of.Goals as goal
 use Rattle.trace_drive.proofs.kept.fields_of.Goals.{then-has+in_ok-push, else-has}
 

@@ -1,7 +1,5 @@
 use Rattle.std.proofs.Common.{rules, ◌≡◌, ◌+◌, ◌++◌, [], ◌∷◌, ◌∙◌, ap, ap₂, append_assoc, get_or, map, sym, take}
-use Rattle.std.specs.Prelude.{vec_capacity, vec_len}
-use Rattle.std.proofs.lemmas.List.{map-append, take_more}
-use Rattle.std.proofs.lemmas.Option.{get_or_from_slice_get}
+use Rattle.std.{proofs.lemmas.{List.{map-append, take_more}, Option.get_or_from_slice_get}, specs.Prelude.{vec_capacity, vec_len}}
 use Rattle.marple_base.specs.Field.{number_of}
 use Rattle.marple_base.specs.declared.field.Field.TheVariants as f
 use Rattle.trace_drive.specs.Kept.{word_in}

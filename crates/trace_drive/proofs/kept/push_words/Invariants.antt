@@ -1,5 +1,4 @@
-use Rattle.std.proofs.Common.{◌≡◌, ◌+◌, ◌++◌, map, take}
-use Rattle.std.specs.Prelude.{vec_capacity, vec_len}
+use Rattle.std.{proofs.Common.{◌≡◌, ◌+◌, ◌++◌, map, take}, specs.Prelude.{vec_capacity, vec_len}}
 use Rattle.trace_drive.specs.Kept.{word_in}
 use Rattle.trace_drive.proofs.kept.push_words.Given as goal
 

@@ -1,5 +1,4 @@
-use Rattle.std.proofs.Common.{◌≡◌, drop, length}
-use Rattle.std.specs.Prelude.{replicate}
+use Rattle.std.{proofs.Common.{◌≡◌, drop, length}, specs.Prelude.replicate}
 use Rattle.marple_base.specs.declared.field.TheConstants.{FIELDS}
 use Rattle.trace_drive.specs.Kept.{written}
 use Rattle.trace_drive.proofs.kept.row_into.Given as goal

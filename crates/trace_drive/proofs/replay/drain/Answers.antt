@@ -3,8 +3,7 @@ use Rattle.std.proofs.Common.{ℕ}
 use Rattle.epoch_model.specs.Machine.{Machine, empty_buckets}
 use Rattle.switch_core.specs.PlanLanes.{PipelineMakes, upkeeps_at}
 use Rattle.switch_core.specs.declared.upkeep.Upkeep.TheVariants as due
-use Rattle.trace_drive.specs.Follows.{FollowsBy, Keeps}
-use Rattle.trace_drive.specs.Turns.{Drains}
+use Rattle.trace_drive.specs.{Follows.{FollowsBy, Keeps}, Turns.Drains}
 use Rattle.trace_drive.proofs.Following.{keeps_along, makes_keeps, on_ok, sweep_follows, upkeep_follows}
 use Rattle.trace_drive.proofs.replay.drain.Goals as goal
 

@@ -1,13 +1,10 @@
 -- A sweep, and a merge of each lane where the lag is over.
-use Rattle.std.proofs.Common.{◌≡◌, ℕ, true, false, sym, subst}
-use Rattle.std.specs.List.{list_all}
+use Rattle.std.{proofs.Common.{◌≡◌, ℕ, true, false, sym, subst}, specs.List.list_all}
 use Rattle.epoch_model.specs.Machine.{Machine, empty_buckets}
 use Rattle.switch_core.specs.PlanLanes.{AreKept, PipelineMakes, PipelineView, lane_is_ready, upkeeps_at}
 use Rattle.switch_core.specs.declared.upkeep.Upkeep.TheVariants as due
-use Rattle.trace_drive.specs.Follows.{FollowsBy, Keeps}
-use Rattle.trace_drive.specs.Turns.{lag_at}
-use Rattle.trace_drive.proofs.Following.{all_ready, keeps_along, makes_keeps, on_ok, sweep_follows, upkeep_follows}
-use Rattle.trace_drive.proofs.Turning.{makes_none}
+use Rattle.trace_drive.specs.{Follows.{FollowsBy, Keeps}, Turns.lag_at}
+use Rattle.trace_drive.proofs.{Following.{all_ready, keeps_along, makes_keeps, on_ok, sweep_follows, upkeep_follows}, Turning.makes_none}
 use Rattle.trace_drive.proofs.turn.sweep_after.Goals as goal
 
 pub returns-then-not-lag_over-clause-follows : goal.returns-then-not-lag_over-clause-follows

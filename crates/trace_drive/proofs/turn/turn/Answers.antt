@@ -1,13 +1,9 @@
 -- Room in full pipes, the packet, and then what is due by the clocks.
-use Rattle.std.proofs.Common.{◌≡◌, ℕ, Ok, suc, true, false, lit<, sym, ◌∙◌, subst}
-use Rattle.std.specs.List.{list_all}
-use Rattle.epoch_model.specs.Epochs.{is_refresh}
-use Rattle.epoch_model.specs.Machine.{Machine, empty_buckets}
+use Rattle.std.{proofs.Common.{◌≡◌, ℕ, Ok, suc, true, false, lit<, sym, ◌∙◌, subst}, specs.List.list_all}
+use Rattle.epoch_model.specs.{Epochs.is_refresh, Machine.{Machine, empty_buckets}}
 use Rattle.switch_core.specs.PlanLanes.{AreKept, PipelineMakes, PipelineView, lane_is_ready, upkeeps_at}
 use Rattle.switch_core.specs.declared.upkeep.Upkeep.TheVariants as due
-use Rattle.trace_drive.specs.Clocks.{HasCounted}
-use Rattle.trace_drive.specs.Follows.{FollowsBy, Keeps}
-use Rattle.trace_drive.specs.Turns.{MakesTurn, lag_at, turn_at}
+use Rattle.trace_drive.specs.{Clocks.HasCounted, Follows.{FollowsBy, Keeps}, Turns.{MakesTurn, lag_at, turn_at}}
 use Rattle.trace_drive.proofs.Following.{all_ready, keeps_along, makes_keeps, on_ok, turn_leads, upkeep_follows}
 use Rattle.trace_drive.proofs.Turning.{lag_turn, packed_by, past, swept_after}
 use Rattle.trace_drive.proofs.turn.turn.Goals as goal

@@ -1,8 +1,7 @@
 use Rattle.std.proofs.Common.{◌∙◌, ap, arith, get_or, sym}
 use Rattle.csv.specs.Machine.{ends_at_end}
 use Rattle.csv.specs.declared.parser.State.TheVariants as st
-use Rattle.trace_pieces.specs.Machine.{next_state}
-use Rattle.trace_pieces.proofs.CutFacts.{over_more}
+use Rattle.trace_pieces.{specs.Machine.next_state, proofs.CutFacts.over_more}
 use Rattle.trace_pieces.proofs.cuts.cut_by_bytes.Goals as goal
 use Rattle.trace_pieces.proofs.cuts.cut_by_bytes.Goals.{then-is_between, else-is_between}
 

@@ -1,5 +1,4 @@
-use Rattle.std.proofs.Common.{◌≡◌, ℕ, List, ◌+◌, ◌-◌, ◌∙◌, false, true, ap, arith, drop, get_or, length, rules}
-use Rattle.std.proofs.Common.{subst, sym, take}
+use Rattle.std.proofs.Common.{◌≡◌, ℕ, List, ◌+◌, ◌-◌, ◌∙◌, false, true, ap, arith, drop, get_or, length, rules, subst, sym, take}
 use Rattle.std.proofs.lemmas.List.{take_more}
 use Rattle.csv.specs.Machine.{ends_at_end, is_end}
 use Rattle.marple_base.proofs.Bytes.{range_from}

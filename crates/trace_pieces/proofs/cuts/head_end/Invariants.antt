@@ -1,6 +1,5 @@
 use Rattle.std.proofs.Common.{take}
-use Rattle.trace_pieces.specs.Machine.{state_of}
-use Rattle.trace_pieces.proofs.HeadFacts.{Inside}
+use Rattle.trace_pieces.{specs.Machine.state_of, proofs.HeadFacts.Inside}
 use Rattle.trace_pieces.proofs.cuts.head_end.Given as goal
 
 -- no record has ended yet

@@ -1,5 +1,4 @@
-use Rattle.std.proofs.Common.{◌≡◌, false, rules}
-use Rattle.std.specs.Prelude.{is_some}
+use Rattle.std.{proofs.Common.{◌≡◌, false, rules}, specs.Prelude.is_some}
 use Rattle.trace_pieces.proofs.CutFacts.{cut_found, no_quote}
 use Rattle.trace_pieces.proofs.cuts.last_cut.Goals as goal
 

@@ -1,6 +1,5 @@
 use Rattle.std.proofs.Common.{◌≡◌, ◌≤◌, ◌-◌, vec_len}
-use Rattle.marple_base.specs.Inputs.{IsOpen}
-use Rattle.marple_base.specs.declared.inputs.Which.TheVariants.{Query, Trace}
+use Rattle.marple_base.specs.{Inputs.IsOpen, declared.inputs.Which.TheVariants.{Query, Trace}}
 use Rattle.trace_pieces.specs.Reads.{Goes}
 use Rattle.trace_pieces.proofs.read.fill.Given as goal
 

@@ -3,8 +3,7 @@ use Rattle.marple_base.proofs.Bytes.{range_from}
 use Rattle.memchr.specs.Find.{IsLastByte, is_byte}
 use Rattle.trace_pieces.proofs.CutFacts.{no_quote}
 use Rattle.trace_pieces.specs.declared.scan.Place.TheVariants as place
-use Rattle.trace_ranges.specs.Spots.{place_over}
-use Rattle.trace_ranges.proofs.PlaceFacts.{over_feed, unquoted_place}
+use Rattle.trace_ranges.{specs.Spots.place_over, proofs.PlaceFacts.{over_feed, unquoted_place}}
 use Rattle.trace_ranges.proofs.places.place_over.Goals as goal
 
 pub returns-in-Some : goal.returns-in-Some

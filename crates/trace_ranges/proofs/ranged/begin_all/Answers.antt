@@ -1,5 +1,4 @@
-use Rattle.std.proofs.Common.{ap, set, sym, ◌∙◌}
-use Rattle.std.proofs.lemmas.List.Edits.{map_over_more}
+use Rattle.std.proofs.{Common.{ap, set, sym, ◌∙◌}, lemmas.List.Edits.map_over_more}
 use Rattle.trace_ranges.specs.Ranges.{windowed}
 use Rattle.trace_ranges.proofs.ranged.begin_all.Goals as goal
 

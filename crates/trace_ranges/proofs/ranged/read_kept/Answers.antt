@@ -1,9 +1,6 @@
-use Rattle.std.proofs.Common.{◌≡◌, ◌<◌, ◌++◌, [], false, arith, ap, drop, length, rules, sym, take, ◌∙◌}
-use Rattle.std.proofs.lemmas.List.{take-append-le}
+use Rattle.std.proofs.{Common.{◌≡◌, ◌<◌, ◌++◌, [], false, arith, ap, drop, length, rules, sym, take, ◌∙◌}, lemmas.List.take-append-le}
 use Rattle.marple_base.specs.declared.inputs.Which.TheVariants.{Trace}
-use Rattle.trace_ranges.specs.Ranges.{is_past, kept, window_over}
-use Rattle.trace_ranges.specs.declared.window.Window.{Window}
-use Rattle.trace_ranges.proofs.WindowFacts.{nearer}
+use Rattle.trace_ranges.{specs.{Ranges.{is_past, kept, window_over}, declared.window.Window.Window}, proofs.WindowFacts.nearer}
 use Rattle.trace_ranges.proofs.ReadFacts.{end_kept, given_kept, keeps_keeps, keeps_none, kept_keeps, known_kept, none_kept, nothing_read}
 use Rattle.trace_ranges.proofs.ReadFacts.{past_end}
 use Rattle.trace_ranges.proofs.ranged.read_kept.Goals as goal

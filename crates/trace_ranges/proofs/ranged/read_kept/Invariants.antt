@@ -1,7 +1,5 @@
-use Rattle.std.proofs.Common.{◌≡◌, ◌≤◌, length}
-use Rattle.std.specs.Io.KnownBytes.{Keeps}
-use Rattle.marple_base.specs.Inputs.{IsOpen}
-use Rattle.marple_base.specs.declared.inputs.Which.TheVariants.{Query, Trace}
+use Rattle.std.{proofs.Common.{◌≡◌, ◌≤◌, length}, specs.Io.KnownBytes.Keeps}
+use Rattle.marple_base.specs.{Inputs.IsOpen, declared.inputs.Which.TheVariants.{Query, Trace}}
 use Rattle.trace_ranges.specs.Ranges.{kept_input}
 use Rattle.trace_ranges.proofs.ranged.read_kept.Given as goal
 

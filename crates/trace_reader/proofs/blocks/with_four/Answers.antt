@@ -1,7 +1,5 @@
-use Rattle.std.proofs.Common.{◌+◌, ◌%◌, ◌^◌, take, refl, arith}
-use Rattle.std.proofs.lemmas.List.{length-take-le}
-use Rattle.trace_reader.proofs.BlockFacts.{four_read}
-use Rattle.trace_reader.proofs.NumberFacts.{digits_below}
+use Rattle.std.proofs.{Common.{◌+◌, ◌%◌, ◌^◌, take, refl, arith}, lemmas.List.length-take-le}
+use Rattle.trace_reader.proofs.{BlockFacts.four_read, NumberFacts.digits_below}
 use Rattle.trace_reader.proofs.blocks.with_four.Goals as goal
 
 pub overflow_mul-result : goal.overflow_mul-result

@@ -1,7 +1,5 @@
 use Rattle.std.proofs.Common.{◌≡◌, ◌^◌, ◌≤◌, get_or, length, take, true, arith, rules, ◌∙◌, ap, sym, Some}
-use Rattle.std.specs.Char.{is_ascii_digit}
-use Rattle.std.proofs.lemmas.List.{length-take-le, take_all}
-use Rattle.std.proofs.lemmas.Bool.Decides.{nat_tests}
+use Rattle.std.{proofs.lemmas.{List.{length-take-le, take_all}, Bool.Decides.nat_tests}, specs.Char.is_ascii_digit}
 use Rattle.trace_reader.proofs.NumberFacts.{digits_below, digits_value_digit, list_all_digit, number_some}
 use Rattle.trace_reader.proofs.number.rest_of_digits.Goals as goal
 

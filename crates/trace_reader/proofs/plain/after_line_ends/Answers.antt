@@ -1,8 +1,6 @@
 use Rattle.std.proofs.Common.{◌≡◌, ◌∙◌, ap, arith, drop, get_or, length, rules, sym, true}
 use Rattle.csv.specs.declared.parser.State.TheVariants as st
-use Rattle.trace_reader.specs.Plain.{ends_line}
-use Rattle.trace_reader.specs.Reading.{records_after}
-use Rattle.trace_reader.proofs.PlainFacts.{skip_line_end}
+use Rattle.trace_reader.{specs.{Plain.ends_line, Reading.records_after}, proofs.PlainFacts.skip_line_end}
 use Rattle.trace_reader.proofs.plain.after_line_ends.Goals as goal
 
 pub loop-at-preserved : goal.loop-at-preserved

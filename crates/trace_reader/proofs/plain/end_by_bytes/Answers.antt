@@ -1,6 +1,5 @@
 use Rattle.std.proofs.Common.{◌≡◌, arith, false, get_or, rules}
-use Rattle.trace_reader.specs.Plain.{ends_field}
-use Rattle.trace_reader.proofs.PlainFacts.{goes_on_more}
+use Rattle.trace_reader.{specs.Plain.ends_field, proofs.PlainFacts.goes_on_more}
 use Rattle.trace_reader.proofs.plain.end_by_bytes.Goals as goal
 
 pub loop-at-init : goal.loop-at-init

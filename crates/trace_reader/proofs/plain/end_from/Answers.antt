@@ -1,6 +1,5 @@
 use Rattle.std.proofs.Common.{◌≡◌, ◌+◌, arith, false, get_or, rules}
-use Rattle.trace_reader.specs.Plain.{ends_field}
-use Rattle.trace_reader.proofs.PlainFacts.{above_goes, end_later, goes_on_more, joined}
+use Rattle.trace_reader.{specs.Plain.ends_field, proofs.PlainFacts.{above_goes, end_later, goes_on_more, joined}}
 use Rattle.trace_reader.proofs.plain.end_from.Goals as goal
 
 pub words-init : goal.words-init

@@ -1,6 +1,4 @@
-use Rattle.std.specs.Prelude.{◌==◌}
-use Rattle.std.proofs.Common.{◌≡◌, arith, false, get_or}
-use Rattle.std.proofs.lemmas.Bool.Decides.{nat_tests}
+use Rattle.std.{specs.Prelude.{◌==◌}, proofs.{Common.{◌≡◌, arith, false, get_or}, lemmas.Bool.Decides.nat_tests}}
 use Rattle.trace_reader.proofs.PlainFacts.{field_ends}
 use Rattle.trace_reader.proofs.plain.field_end.Goals as goal
 

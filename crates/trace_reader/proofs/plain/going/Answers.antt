@@ -1,8 +1,5 @@
-use Rattle.std.proofs.Common.{◌+◌, ◌%◌, ◌^◌, refl, arith}
-use Rattle.std.specs.Prelude.{bit_and}
-use Rattle.std.specs.Int.{bit_not, w64}
+use Rattle.std.{proofs.{Common.{◌+◌, ◌%◌, ◌^◌, refl, arith}, lemmas.Nat.trailing_le}, specs.{Prelude.bit_and, Int.{bit_not, w64}}}
 use Rattle.std.specs.Int.Bits.{and_lt}
-use Rattle.std.proofs.lemmas.Nat.{trailing_le}
 use Rattle.trace_reader.proofs.StopFacts.{going_on}
 use Rattle.trace_reader.proofs.plain.going.Goals as goal
 

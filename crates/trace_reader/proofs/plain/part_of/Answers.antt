@@ -1,7 +1,5 @@
 -- a span within a text is one of which the text has all
-use Rattle.std.proofs.Common.{◌≡◌, length, true, arith}
-use Rattle.std.specs.Prelude.{nat_le}
-use Rattle.std.proofs.lemmas.Bool.Decides.{nat_tests}
+use Rattle.std.{proofs.{Common.{◌≡◌, length, true, arith}, lemmas.Bool.Decides.nat_tests}, specs.Prelude.nat_le}
 use Rattle.trace_reader.proofs.plain.part_of.Goals as goal
 
 pub returns : goal.returns

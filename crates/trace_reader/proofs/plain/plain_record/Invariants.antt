@@ -1,9 +1,6 @@
-use Rattle.std.proofs.Common.{◌≡◌, ◌-◌, ◌<◌, ◌≤◌, [], drop, length}
-use Rattle.std.specs.List.{All}
+use Rattle.std.{proofs.Common.{◌≡◌, ◌-◌, ◌<◌, ◌≤◌, [], drop, length}, specs.List.All}
 use Rattle.csv.specs.declared.parser.State.TheVariants as st
-use Rattle.trace_reader.specs.Plain.{IsInside, fields_at}
-use Rattle.trace_reader.specs.Reading.{records_after}
-use Rattle.trace_reader.proofs.RowFacts.{rows_from}
+use Rattle.trace_reader.{specs.{Plain.{IsInside, fields_at}, Reading.records_after}, proofs.RowFacts.rows_from}
 use Rattle.trace_reader.proofs.plain.plain_record.Given as goal
 
 -- the fields so far are those of a record that goes on with a field

@@ -1,11 +1,8 @@
-use Rattle.std.proofs.Common.{arith, length, rules}
-use Rattle.std.proofs.Math.ListN.{length-set}
-use Rattle.std.proofs.lemmas.List.{drop_all}
+use Rattle.std.proofs.{Common.{arith, length, rules}, Math.ListN.length-set, lemmas.List.drop_all}
 use Rattle.marple_base.specs.Field.{all_fields}
 use Rattle.marple_base.specs.declared.field.Field.TheVariants as f
 use Rattle.marple_base.specs.declared.field.TheConstants.{FIELDS}
-use Rattle.trace_reader.specs.Traces.{column_of_field, each}
-use Rattle.trace_reader.proofs.ColumnFacts.{none_within, within_set}
+use Rattle.trace_reader.{specs.Traces.{column_of_field, each}, proofs.ColumnFacts.{none_within, within_set}}
 use Rattle.trace_reader.proofs.EachFacts.{all_written, each_more, error_met, value_written}
 use Rattle.trace_reader.proofs.record.columns.Goals as goal
 

@@ -1,9 +1,6 @@
 use Rattle.std.proofs.Common.{◌≡◌, length, take, drop}
-use Rattle.marple_base.specs.Field.{all_fields}
-use Rattle.marple_base.specs.declared.field.TheConstants.{FIELDS}
-use Rattle.trace_reader.specs.Columns.{AreWithin}
-use Rattle.trace_reader.specs.Traces.{column_of_field, columns_of_fields, each}
-use Rattle.trace_reader.proofs.EachFacts.{onto}
+use Rattle.marple_base.specs.{Field.all_fields, declared.field.TheConstants.FIELDS}
+use Rattle.trace_reader.{specs.{Columns.AreWithin, Traces.{column_of_field, columns_of_fields, each}}, proofs.EachFacts.onto}
 use Rattle.trace_reader.proofs.record.columns.Given as goal
 
 abbrev pub invariant-loop-i : goal.invariant-loop-i

@@ -1,9 +1,6 @@
-use Rattle.std.proofs.Common.{◌≡◌, ◌∙◌, ◌++◌, ap, rules, true, false}
-use Rattle.std.specs.Option.{option_to_list, is_some}
-use Rattle.std.specs.Str.{bytes_eq}
+use Rattle.std.{proofs.Common.{◌≡◌, ◌∙◌, ◌++◌, ap, rules, true, false}, specs.{Option.{option_to_list, is_some}, Str.bytes_eq}}
 use Rattle.marple_base.specs.Field.{field_name}
-use Rattle.trace_reader.specs.Numbers.{without_blanks}
-use Rattle.trace_reader.specs.Traces.{field_text_at}
+use Rattle.trace_reader.specs.{Numbers.without_blanks, Traces.field_text_at}
 use Rattle.trace_reader.proofs.ColumnFacts.{found_first, found_twice, named_here, named_later}
 use Rattle.trace_reader.proofs.record.only_column.Goals as goal
 use Rattle.trace_reader.proofs.record.only_column.Goals.{then-eq+else-is_some, else-eq}

@@ -1,5 +1,4 @@
-use Rattle.std.proofs.Common.{◌≡◌, ◌<◌, ◌++◌, IfSome, drop, length}
-use Rattle.std.specs.Option.{option_to_list}
+use Rattle.std.{proofs.Common.{◌≡◌, ◌<◌, ◌++◌, IfSome, drop, length}, specs.Option.option_to_list}
 use Rattle.marple_base.specs.Field.{field_name}
 use Rattle.trace_reader.specs.Traces.{columns_named}
 use Rattle.trace_reader.proofs.record.only_column.Given as goal

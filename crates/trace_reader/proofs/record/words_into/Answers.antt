@@ -1,8 +1,6 @@
-use Rattle.std.proofs.Common.{length, rules}
-use Rattle.std.proofs.Math.ListN.{length-set}
+use Rattle.std.proofs.{Common.{length, rules}, Math.ListN.length-set}
 use Rattle.marple_base.specs.declared.field.Field.TheVariants as f
-use Rattle.trace_reader.specs.Columns.{read_columns}
-use Rattle.trace_reader.proofs.ColumnFacts.{all_within}
+use Rattle.trace_reader.{specs.Columns.read_columns, proofs.ColumnFacts.all_within}
 use Rattle.trace_reader.proofs.WordFacts.{field_met, word_written, words_are, words_filled}
 use Rattle.trace_reader.proofs.record.words_into.Goals as goal
 

@@ -1,8 +1,6 @@
 use Rattle.std.proofs.Common.{◌≡◌, length, drop}
 use Rattle.marple_base.specs.declared.field.TheConstants.{FIELDS}
-use Rattle.trace_reader.specs.Columns.{read_columns}
-use Rattle.trace_reader.specs.Traces.{words_in_columns}
-use Rattle.trace_reader.proofs.WordFacts.{fill}
+use Rattle.trace_reader.{specs.{Columns.read_columns, Traces.words_in_columns}, proofs.WordFacts.fill}
 use Rattle.trace_reader.proofs.record.words_into.Given as goal
 
 abbrev pub invariant-loop-field : goal.invariant-loop-field

@@ -1,8 +1,5 @@
-use Rattle.std.proofs.Common.{◌≡◌, ◌-◌, ◌∙◌, ap, arith, get_or, rules, true}
-use Rattle.std.proofs.lemmas.List.{take_rest}
-use Rattle.trace_reader.specs.Plain.{ends_line}
-use Rattle.trace_reader.specs.Reading.{records}
-use Rattle.trace_reader.proofs.MarkFacts.{after_line}
+use Rattle.std.proofs.{Common.{◌≡◌, ◌-◌, ◌∙◌, ap, arith, get_or, rules, true}, lemmas.List.take_rest}
+use Rattle.trace_reader.{specs.{Plain.ends_line, Reading.records}, proofs.MarkFacts.after_line}
 use Rattle.trace_reader.proofs.records.reader_at.Goals as goal
 
 pub returns-then-ends_line-clause-all : goal.returns-then-ends_line-clause-all

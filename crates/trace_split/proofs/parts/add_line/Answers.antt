@@ -1,6 +1,5 @@
 use Rattle.std.proofs.Common.{◌++◌, subst, sym}
-use Rattle.marple_base.specs.Pieces.{TakesAllBut}
-use Rattle.marple_base.proofs.Pieces.{front_is_taken, more_waits, on_err}
+use Rattle.marple_base.{specs.Pieces.TakesAllBut, proofs.Pieces.{front_is_taken, more_waits, on_err}}
 use Rattle.trace_split.proofs.parts.add_line.Goals as goal
 
 pub returns-clause-ok : goal.returns-clause-ok

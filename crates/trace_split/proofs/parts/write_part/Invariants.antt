@@ -1,5 +1,4 @@
-use Rattle.std.proofs.Common.{◌≡◌, ◌≢◌, ℕ, ◌≤◌, ◌-◌, length, take}
-use Rattle.std.specs.Io.KnownBytes.{Appends}
+use Rattle.std.{proofs.Common.{◌≡◌, ◌≢◌, ℕ, ◌≤◌, ◌-◌, length, take}, specs.Io.KnownBytes.Appends}
 use Rattle.trace_split.proofs.parts.write_part.Given as goal
 
 -- the first bytes were taken, and the count of faults has not fallen

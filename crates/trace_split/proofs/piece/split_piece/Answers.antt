@@ -1,9 +1,6 @@
 use Rattle.std.proofs.Common.{◌≡◌, ◌++◌, ◌∷◌, ◌∙◌, [], Err, Ok, Some, ap, append-nil, append_assoc, arith, length, subst, sym}
-use Rattle.trace_reader.specs.Traces.{packets, trace_fault}
-use Rattle.trace_reader.specs.Upcoming.{IsAtFault}
-use Rattle.trace_reader.specs.declared.fault.TraceFault.{TraceFault}
-use Rattle.trace_split.specs.PartTexts.{HoldsPackets}
-use Rattle.trace_split.specs.Pieces.{IfPieceRefused}
+use Rattle.trace_reader.specs.{Traces.{packets, trace_fault}, Upcoming.IsAtFault, declared.fault.TraceFault.TraceFault}
+use Rattle.trace_split.specs.{PartTexts.HoldsPackets, Pieces.IfPieceRefused}
 use Rattle.trace_split.proofs.RestFacts.{no_output_fault, piece_refusal, rose_from, unwritten_is_no_refusal, written_failed}
 use Rattle.trace_split.proofs.SendFacts.{Adds, so_far_all, so_far_broke, so_far_fronts, so_far_more, so_far_none}
 use Rattle.trace_split.proofs.SettingFacts.{fronts_of, same_refl, same_trans, setting_same}

@@ -1,6 +1,5 @@
 use Rattle.std.proofs.Common.{◌≤◌}
-use Rattle.trace_split.specs.PartTexts.{SameSetting, is_setting}
-use Rattle.trace_split.proofs.SendFacts.{Adds, SoFar}
+use Rattle.trace_split.{specs.PartTexts.{SameSetting, is_setting}, proofs.SendFacts.{Adds, SoFar}}
 use Rattle.trace_split.proofs.piece.split_piece.Given as goal
 
 -- the packets that were given are in their parts

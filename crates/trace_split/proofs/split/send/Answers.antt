@@ -1,9 +1,7 @@
 use Rattle.std.proofs.Common.{◌+◌, ◌++◌, ◌∙◌, [], ap, append-nil, length, subst, sym}
 use Rattle.trace_reader.specs.Traces.{Contents, packets}
-use Rattle.trace_split.specs.Holding.{TakeFronts}
-use Rattle.trace_split.specs.PartTexts.{HoldsPackets, parts_of, texts_of}
-use Rattle.trace_split.proofs.RunFacts.{refused_piece, whole_piece}
-use Rattle.trace_split.proofs.SettingFacts.{fronts_of, fronts_of_run, setting_same}
+use Rattle.trace_split.specs.{Holding.TakeFronts, PartTexts.{HoldsPackets, parts_of, texts_of}}
+use Rattle.trace_split.proofs.{RunFacts.{refused_piece, whole_piece}, SettingFacts.{fronts_of, fronts_of_run, setting_same}}
 use Rattle.trace_split.proofs.split.send.Goals as goal
 
 pub returns-in-Some-clause-whole : goal.returns-in-Some-clause-whole

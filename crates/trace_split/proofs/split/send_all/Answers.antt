@@ -1,17 +1,9 @@
-use Rattle.std.proofs.Common.{◌≡◌, ◌++◌, ◌∙◌, ℕ, List, [], None, Ok, Some, ap, subst, sym}
-use Rattle.marple_base.specs.declared.inputs.Which.TheVariants.{Trace}
-use Rattle.std.specs.Prelude.{option_map}
-use Rattle.marple_base.specs.declared.field.Packet.{Packet}
+use Rattle.std.{proofs.Common.{◌≡◌, ◌++◌, ◌∙◌, ℕ, List, [], None, Ok, Some, ap, subst, sym}, specs.Prelude.option_map}
+use Rattle.marple_base.{specs.declared.{inputs.Which.TheVariants.Trace, field.Packet.Packet}, proofs.Pieces.{on_err as if_err}}
 use Rattle.trace_reader.specs.Traces.{Contents}
-use Rattle.trace_pieces.specs.Faults.{after_records, trace_fault_of}
-use Rattle.trace_pieces.specs.Reads.{Goes}
-use Rattle.trace_pieces.specs.Wholes.{all_contents, all_packets, first_fault}
-use Rattle.trace_pieces.proofs.ContentFacts.{after_none}
-use Rattle.trace_pieces.specs.declared.fault.WholeFault.{WholeFault}
-use Rattle.trace_split.specs.Holding.{TakeFronts, Taken}
-use Rattle.trace_split.specs.PartTexts.{HoldsPackets, parts_of, texts_of}
-use Rattle.marple_base.proofs.Pieces.{on_err as if_err}
-use Rattle.trace_split.proofs.AddFacts.{on_err, on_ok}
+use Rattle.trace_pieces.specs.{Faults.{after_records, trace_fault_of}, Reads.Goes, Wholes.{all_contents, all_packets, first_fault}}
+use Rattle.trace_pieces.{specs.declared.fault.WholeFault.WholeFault, proofs.ContentFacts.after_none}
+use Rattle.trace_split.{specs.{Holding.{TakeFronts, Taken}, PartTexts.{HoldsPackets, parts_of, texts_of}}, proofs.AddFacts.{on_err, on_ok}}
 use Rattle.trace_split.proofs.RestFacts.{err_refused, goes_all, goes_end, none_refuses, refused_by, refused_so}
 use Rattle.trace_split.proofs.SettingFacts.{fronts_of, same_refl}
 use Rattle.trace_split.proofs.split.send_all.Goals as goal

@@ -1,21 +1,12 @@
 use Rattle.std.proofs.Common.{◌≡◌, ◌+◌, ◌≤◌, ◌++◌, ◌∙◌, ℕ, List, None, Some, ap, arith, drop, length, length-append, refl, subst, sym, take}
-use Rattle.std.specs.Prelude.{option_map}
-use Rattle.std.specs.Io.KnownBytes.{IsAtEnd}
-use Rattle.std.proofs.lemmas.List.{length-take-le}
-use Rattle.marple_base.specs.declared.inputs.Which.TheVariants.{Trace}
-use Rattle.trace_pieces.specs.Faults.{after_records, trace_fault_of}
-use Rattle.trace_pieces.specs.Machine.{IsHead}
-use Rattle.trace_pieces.specs.Wholes.{all_contents, all_packets, first_fault}
+use Rattle.std.{proofs.lemmas.List.length-take-le, specs.{Prelude.option_map, Io.KnownBytes.IsAtEnd}}
+use Rattle.marple_base.{specs.declared.inputs.Which.TheVariants.Trace, proofs.Pieces.on_err}
+use Rattle.trace_pieces.specs.{Faults.{after_records, trace_fault_of}, Machine.IsHead, Wholes.{all_contents, all_packets, first_fault}}
 use Rattle.trace_pieces.specs.declared.fault.WholeFault.{WholeFault}
-use Rattle.marple_base.proofs.Pieces.{on_err}
-use Rattle.trace_split.specs.Faults.{error_at}
-use Rattle.trace_split.specs.Holding.{TakeFronts}
-use Rattle.trace_split.specs.PartTexts.{HoldsPackets, parts_of, texts_of}
+use Rattle.trace_split.specs.{Faults.error_at, Holding.TakeFronts, PartTexts.{HoldsPackets, parts_of, texts_of}}
 use Rattle.trace_split.proofs.CutFacts.{cut_broke, cut_ended, cut_reached, cut_refused, take_front}
-use Rattle.trace_split.proofs.ReachFacts.{Reached, head_kept, reached_none, reached_read}
-use Rattle.trace_split.proofs.RestFacts.{adds_none, end_after, end_refused, end_whole, reached_fronts, refused_by, refused_so}
-use Rattle.trace_split.proofs.RestFacts.{unread_refuses}
-use Rattle.trace_split.proofs.SendFacts.{Adds}
+use Rattle.trace_split.proofs.{ReachFacts.{Reached, head_kept, reached_none, reached_read}, RestFacts.{adds_none, end_after, end_refused}}
+use Rattle.trace_split.proofs.{RestFacts.{end_whole, reached_fronts, refused_by, refused_so, unread_refuses}, SendFacts.Adds}
 use Rattle.trace_split.proofs.SettingFacts.{fronts_same, same_refl, same_trans, setting_same}
 use Rattle.trace_split.proofs.split.send_rest.Goals as goal
 

@@ -1,11 +1,7 @@
 use Rattle.std.proofs.Common.{◌≡◌, ◌≤◌, ◌++◌, List, ℕ, Some, length, take}
-use Rattle.marple_base.specs.Inputs.{IsOpen}
-use Rattle.marple_base.specs.declared.inputs.Which.TheVariants.{Query, Trace}
-use Rattle.trace_pieces.specs.Machine.{IsHead}
-use Rattle.trace_pieces.specs.Wholes.{all_contents}
-use Rattle.trace_split.specs.PartTexts.{SameSetting, is_setting}
-use Rattle.trace_split.proofs.ReachFacts.{Reached}
-use Rattle.trace_split.proofs.SendFacts.{Adds}
+use Rattle.marple_base.specs.{Inputs.IsOpen, declared.inputs.Which.TheVariants.{Query, Trace}}
+use Rattle.trace_pieces.specs.{Machine.IsHead, Wholes.all_contents}
+use Rattle.trace_split.{specs.PartTexts.{SameSetting, is_setting}, proofs.{ReachFacts.Reached, SendFacts.Adds}}
 use Rattle.trace_split.proofs.split.send_rest.Given as goal
 
 -- the packets of the bytes that are gone are in their parts

@@ -1,7 +1,5 @@
 use Rattle.std.proofs.Common.{◌∷◌, ◌∙◌, ◌<◌, [], ap, arith, get_or, length, length-append, sym}
-use Rattle.marple_base.specs.Field.{all_fields}
-use Rattle.marple_base.specs.declared.field.Field.TheVariants.{Switch}
-use Rattle.marple_base.specs.declared.field.TheConstants.{FIELDS}
+use Rattle.marple_base.specs.{Field.all_fields, declared.field.{Field.TheVariants.Switch, TheConstants.FIELDS}}
 use Rattle.trace_split.proofs.ListFacts.{field_with, field_without}
 use Rattle.trace_split.proofs.splitting.fields_in.Goals as goal
 use Rattle.trace_split.proofs.splitting.fields_in.Goals.{then-has+in_ok-push, else-has}

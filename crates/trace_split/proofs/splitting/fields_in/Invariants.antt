@@ -1,5 +1,4 @@
-use Rattle.std.proofs.Common.{◌≡◌, ◌≤◌, length, take}
-use Rattle.std.specs.Prelude.{filter}
+use Rattle.std.{proofs.Common.{◌≡◌, ◌≤◌, length, take}, specs.Prelude.filter}
 use Rattle.marple_base.specs.Field.{all_fields, has_field}
 use Rattle.trace_split.proofs.splitting.fields_in.Given as goal
 

@@ -1,5 +1,4 @@
-use Rattle.std.proofs.Common.{◌∙◌, ap, arith, slice_index}
-use Rattle.std.proofs.Math.ListN.{length-set}
+use Rattle.std.proofs.{Common.{◌∙◌, ap, arith, slice_index}, Math.ListN.length-set}
 use Rattle.trace_split.proofs.ListFacts.{key_more}
 use Rattle.trace_split.proofs.splitting.part_of.Goals as goal
 

@@ -1,14 +1,8 @@
 use Rattle.std.proofs.Common.{◌≡◌, ◌∙◌, ◌++◌, ℕ, List, None, Some}
-use Rattle.marple_base.specs.declared.field.Packet.{Packet}
-use Rattle.marple_base.specs.declared.inputs.Which.TheVariants.{Trace}
-use Rattle.trace_pieces.specs.Faults.{trace_fault_of}
-use Rattle.trace_pieces.specs.Wholes.{all_packets, first_fault}
-use Rattle.trace_pieces.specs.declared.fault.WholeFault.{WholeFault}
-use Rattle.trace_split.specs.Holding.{TakeFronts, Taken}
-use Rattle.trace_split.specs.PartTexts.{HoldsPackets, parts_of, texts_of}
-use Rattle.trace_split.proofs.AddFacts.{on_err, on_ok}
-use Rattle.trace_split.proofs.RestFacts.{err_refused}
-use Rattle.trace_split.proofs.SettingFacts.{fronts_of, same_refl}
+use Rattle.marple_base.specs.declared.{field.Packet.Packet, inputs.Which.TheVariants.Trace}
+use Rattle.trace_pieces.specs.{Faults.trace_fault_of, Wholes.{all_packets, first_fault}, declared.fault.WholeFault.WholeFault}
+use Rattle.trace_split.{specs.{Holding.{TakeFronts, Taken}, PartTexts.{HoldsPackets, parts_of, texts_of}}, proofs.AddFacts.{on_err, on_ok}}
+use Rattle.trace_split.proofs.{RestFacts.err_refused, SettingFacts.{fronts_of, same_refl}}
 use Rattle.trace_split.proofs.traces.send_trace.Goals as goal
 
 -- ---- it wasn't opened

@@ -1,18 +1,10 @@
 use Rattle.std.proofs.Common.{◌≡◌, ◌<◌, ◌+◌, ◌++◌, ◌∙◌, ℕ, List, [], None, Some, ap, arith, drop, get_or, length, refl, subst, sym, take}
-use Rattle.std.proofs.lemmas.List.{length-set}
-use Rattle.std.proofs.lemmas.List.Elements.{All-get_or}
-use Rattle.marple_base.specs.Inputs.{IsClosed}
-use Rattle.marple_base.specs.declared.inputs.Which.TheVariants.{Trace}
-use Rattle.trace_pieces.specs.Faults.{trace_fault_of}
-use Rattle.trace_pieces.specs.Wholes.{all_packets, first_fault}
-use Rattle.trace_pieces.specs.declared.fault.WholeFault.{WholeFault}
-use Rattle.marple_base.proofs.Pieces.{on_err}
-use Rattle.trace_split.specs.Holding.{TakeFronts}
-use Rattle.trace_split.specs.PartTexts.{HoldsPackets, parts_of, texts_of}
-use Rattle.trace_split.specs.Traces.{AreLeft, fault_of_all, packets_of_all}
-use Rattle.trace_split.proofs.CountFacts.{at_same, none_fell, one_rose, rest_same}
-use Rattle.trace_split.proofs.RestFacts.{err_is, refused_by, refused_so}
-use Rattle.trace_split.proofs.SettingFacts.{fronts_grow, same_refl, same_trans, setting_same}
+use Rattle.std.proofs.lemmas.List.{length-set, Elements.All-get_or}
+use Rattle.marple_base.{specs.{Inputs.IsClosed, declared.inputs.Which.TheVariants.Trace}, proofs.Pieces.on_err}
+use Rattle.trace_pieces.specs.{Faults.trace_fault_of, Wholes.{all_packets, first_fault}, declared.fault.WholeFault.WholeFault}
+use Rattle.trace_split.specs.{Holding.TakeFronts, PartTexts.{HoldsPackets, parts_of, texts_of}}
+use Rattle.trace_split.{specs.Traces.{AreLeft, fault_of_all, packets_of_all}, proofs.CountFacts.{at_same, none_fell, one_rose, rest_same}}
+use Rattle.trace_split.proofs.{RestFacts.{err_is, refused_by, refused_so}, SettingFacts.{fronts_grow, same_refl, same_trans, setting_same}}
 use Rattle.trace_split.proofs.TraceFacts.{all_taken, as_many, fault_at, none_more, one_left, packets_more, packets_on}
 use Rattle.trace_split.proofs.traces.send_traces.Goals as goal
 

@@ -1,6 +1,5 @@
 use Rattle.std.proofs.Common.{◌≡◌, ◌≤◌, List, ℕ, [], None, drop, length, take}
-use Rattle.trace_split.specs.Holding.{Taken}
-use Rattle.trace_split.specs.PartTexts.{HoldsPackets, SameSetting, is_setting}
+use Rattle.trace_split.specs.{Holding.Taken, PartTexts.{HoldsPackets, SameSetting, is_setting}}
 use Rattle.trace_split.specs.Traces.{AreLeft, NoneFell, fault_of_all, faults_of, packets_of_all}
 use Rattle.trace_split.proofs.traces.send_traces.Given as goal
 

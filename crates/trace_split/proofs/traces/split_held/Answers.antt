@@ -1,13 +1,9 @@
 use Rattle.std.proofs.Common.{◌≡◌, ℕ, List, Some}
 use Rattle.part_texts.specs.Texts.{part_text}
 use Rattle.marple_base.proofs.Pieces.{none_taken, on_err}
-use Rattle.trace_pieces.specs.Faults.{trace_fault_of}
-use Rattle.trace_pieces.specs.declared.fault.WholeFault.{WholeFault}
-use Rattle.trace_split.specs.Faults.{error_for}
-use Rattle.trace_split.specs.Hashes.{by_hash}
-use Rattle.trace_split.specs.Traces.{AreLeft, fault_of_all, packets_of_all}
-use Rattle.trace_split.proofs.RestFacts.{refused_by, unwritten_refuses}
-use Rattle.trace_split.proofs.SettingFacts.{fronts_taken, same_refl, setting_same, texts_taken}
+use Rattle.trace_pieces.specs.{Faults.trace_fault_of, declared.fault.WholeFault.WholeFault}
+use Rattle.trace_split.specs.{Faults.error_for, Hashes.by_hash, Traces.{AreLeft, fault_of_all, packets_of_all}}
+use Rattle.trace_split.proofs.{RestFacts.{refused_by, unwritten_refuses}, SettingFacts.{fronts_taken, same_refl, setting_same, texts_taken}}
 use Rattle.trace_split.proofs.traces.split_held.Goals as goal
 
 -- ---- nothing was written

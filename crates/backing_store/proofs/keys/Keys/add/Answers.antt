@@ -1,7 +1,5 @@
-use Rattle.std.proofs.Common.{◌≡◌, length, sym, ap, ◌∙◌}
-use Rattle.std.proofs.lemmas.Result.{on_ok_weaker}
-use Rattle.backing_store.specs.KeyList.{KeyList}
-use Rattle.backing_store.proofs.KeyFacts.{rows_more}
+use Rattle.std.proofs.{Common.{◌≡◌, length, sym, ap, ◌∙◌}, lemmas.Result.on_ok_weaker}
+use Rattle.backing_store.{specs.KeyList.KeyList, proofs.KeyFacts.rows_more}
 use Rattle.backing_store.proofs.keys.Keys.add.Goals as goal
 
 pub returns-clause-ok : goal.returns-clause-ok

@@ -1,9 +1,7 @@
 use Rattle.std.proofs.Common.{ℕ, List, ◌∙◌, Some, length, ap}
 use Rattle.bucket_cache.specs.Slices.{rows_of}
 use Rattle.epoch_model.specs.Keys.{Key}
-use Rattle.backing_store.specs.Searches.{Finds, FindsKey}
-use Rattle.backing_store.specs.declared.chains.Search.{Search}
-use Rattle.backing_store.specs.declared.chains.Search.TheVariants.{Found, Free}
+use Rattle.backing_store.specs.{Searches.{Finds, FindsKey}, declared.chains.Search.{Search, TheVariants.{Found, Free}}}
 use Rattle.backing_store.proofs.KeyFacts.{got_row, not_got}
 use Rattle.backing_store.proofs.keys.Keys.find.Goals as goal
 

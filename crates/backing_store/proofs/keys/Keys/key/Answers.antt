@@ -1,7 +1,6 @@
 use Rattle.std.proofs.Common.{◌+◌, ◌*◌, ◌<◌, ◌≤◌, ◌∙◌, Some, length, sym, ap, subst, arith}
 use Rattle.bucket_cache.proofs.FlatRows.{length-rows_of}
-use Rattle.backing_store.specs.Prints.{row_at}
-use Rattle.backing_store.proofs.KeyFacts.{got_row, row_within}
+use Rattle.backing_store.{specs.Prints.row_at, proofs.KeyFacts.{got_row, row_within}}
 use Rattle.backing_store.proofs.keys.Keys.key.Goals as goal
 use Rattle.backing_store.proofs.keys.Keys.key.Goals.{After-self}
 

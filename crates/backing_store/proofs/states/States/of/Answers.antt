@@ -1,5 +1,4 @@
-use Rattle.std.proofs.Common.{length, refl, arith}
-use Rattle.std.proofs.lemmas.Option.{slice_get_read}
+use Rattle.std.proofs.{Common.{length, refl, arith}, lemmas.Option.slice_get_read}
 use Rattle.backing_store.proofs.StateFacts.{key_got, state_within}
 use Rattle.backing_store.proofs.states.States.of.Goals as goal
 

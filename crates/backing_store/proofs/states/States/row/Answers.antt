@@ -1,7 +1,5 @@
 use Rattle.std.proofs.Common.{◌+◌, ◌*◌, ◌≤◌, ◌∙◌, Some, length, sym, ap, subst}
-use Rattle.backing_store.specs.Prints.{row_at}
-use Rattle.backing_store.proofs.KeyFacts.{row_within}
-use Rattle.backing_store.proofs.StateFacts.{state_got, state_within}
+use Rattle.backing_store.{specs.Prints.row_at, proofs.{KeyFacts.row_within, StateFacts.{state_got, state_within}}}
 use Rattle.backing_store.proofs.states.States.row.Goals as goal
 
 pub row-requires : goal.row-requires

@@ -1,8 +1,6 @@
 use Rattle.std.proofs.Common.{◌≡◌, ◌+◌, ◌-◌, ◌*◌, ◌<◌, ◌≤◌, ◌∙◌, Some, length, take, drop, refl, sym, ap, arith}
 use Rattle.bucket_cache.proofs.LentEntries.{written_from}
-use Rattle.backing_store.specs.States.{states_in}
-use Rattle.backing_store.proofs.KeyFacts.{row_within}
-use Rattle.backing_store.proofs.StateFacts.{state_got, state_within}
+use Rattle.backing_store.{specs.States.states_in, proofs.{KeyFacts.row_within, StateFacts.{state_got, state_within}}}
 use Rattle.backing_store.proofs.LentFacts.{rows_written}
 use Rattle.backing_store.proofs.states.States.row_mut.Goals as goal
 use Rattle.backing_store.proofs.states.States.row_mut.Goals.{After-self}

@@ -1,7 +1,5 @@
-use Rattle.std.proofs.Common.{refl, sym, arith}
-use Rattle.std.specs.List.{zip}
-use Rattle.backing_store.proofs.RowMaking.{found_within, found_first, found_value}
-use Rattle.backing_store.proofs.StoreKept.{no_epochs}
+use Rattle.std.{proofs.Common.{refl, sym, arith}, specs.List.zip}
+use Rattle.backing_store.proofs.{RowMaking.{found_within, found_first, found_value}, StoreKept.no_epochs}
 use Rattle.backing_store.proofs.ZipFacts.{epochs_at, epochs_none, none_of_absent}
 use Rattle.backing_store.proofs.store.BackingStore.epochs.Goals as goal
 

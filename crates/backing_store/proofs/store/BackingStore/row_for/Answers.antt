@@ -1,9 +1,8 @@
 -- At each exit the store is whole: what a key's row and its count change is said by parts in `RowMaking`.
 use Rattle.std.proofs.Common.{◌≡◌, ◌+◌, ◌∙◌, ◌++◌, ◌∷◌, [], refl, sym, ap, arith, length-set, length-append}
-use Rattle.backing_store.specs.declared.store.Merged.{Merged}
-use Rattle.backing_store.proofs.StateFacts.{pushed-front}
-use Rattle.backing_store.proofs.RowMaking.{IsAsked, found_within, again_whole, again_counted, again_place, row_whole}
-use Rattle.backing_store.proofs.RowMaking.{row_counted, row_place, first_whole, first_counted, first_place}
+use Rattle.backing_store.{specs.declared.store.Merged.Merged, proofs.{StateFacts.pushed-front, RowMaking.{IsAsked, found_within}}}
+use Rattle.backing_store.proofs.RowMaking.{again_whole, again_counted, again_place, row_whole, row_counted, row_place, first_whole}
+use Rattle.backing_store.proofs.RowMaking.{first_counted, first_place}
 use Rattle.backing_store.proofs.store.BackingStore.row_for.Goals as goal
 use Rattle.backing_store.proofs.store.BackingStore.row_for.Goals.{After-self, After-push_reserved}
 

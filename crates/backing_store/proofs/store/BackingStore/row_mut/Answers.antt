@@ -1,8 +1,5 @@
-use Rattle.std.proofs.Common.{◌≡◌, refl, length, option_map, slice_get, Some}
-use Rattle.std.specs.List.{zip}
-use Rattle.backing_store.proofs.StateFacts.{row_keys-written}
-use Rattle.backing_store.proofs.StoreKept.{store_written, words_length}
-use Rattle.backing_store.specs.StoreView.{store_with}
+use Rattle.std.{proofs.Common.{◌≡◌, refl, length, option_map, slice_get, Some}, specs.List.zip}
+use Rattle.backing_store.{proofs.{StateFacts.row_keys-written, StoreKept.{store_written, words_length}}, specs.StoreView.store_with}
 use Rattle.backing_store.proofs.store.BackingStore.row_mut.Goals as goal
 
 pub invariant_of-self-lent : goal.invariant_of-self-lent

@@ -1,9 +1,5 @@
-use Rattle.std.proofs.Common.{◌∙◌, subst}
-use Rattle.std.specs.List.{zip}
-use Rattle.std.proofs.lemmas.Result.{IfOk-weaker}
-use Rattle.backing_store.specs.Store.{AreRowsOf}
-use Rattle.backing_store.proofs.PlaceFacts.{widths_of}
-use Rattle.backing_store.proofs.SortedFacts.{rows_sorted}
+use Rattle.std.{proofs.{Common.{◌∙◌, subst}, lemmas.Result.IfOk-weaker}, specs.List.zip}
+use Rattle.backing_store.{specs.Store.AreRowsOf, proofs.{PlaceFacts.widths_of, SortedFacts.rows_sorted}}
 use Rattle.backing_store.proofs.ZipFacts.{length-zip, length-stored}
 use Rattle.backing_store.proofs.store.BackingStore.sorted.Goals as goal
 

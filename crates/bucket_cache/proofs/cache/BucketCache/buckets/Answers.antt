@@ -1,6 +1,5 @@
 use Rattle.std.proofs.Common.{ap, length, arith}
-use Rattle.bucket_cache.proofs.FlatBuckets.{length-lists_in}
-use Rattle.bucket_cache.proofs.FlatCaches.{view-sound}
+use Rattle.bucket_cache.proofs.{FlatBuckets.length-lists_in, FlatCaches.view-sound}
 use Rattle.bucket_cache.proofs.cache.BucketCache.buckets.Goals as goal
 
 pub returns-clause-sound : goal.returns-clause-sound

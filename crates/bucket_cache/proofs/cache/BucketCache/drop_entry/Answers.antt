@@ -1,9 +1,6 @@
 use Rattle.std.proofs.Common.{◌≡◌, ◌-◌, ◌<◌, length, get_or, set, sym, subst, arith, length-set, refl}
-use Rattle.bucket_cache.specs.Caches.{list_at}
-use Rattle.bucket_cache.specs.FlatBuckets.{IsFlatCache}
-use Rattle.bucket_cache.proofs.FlatBuckets.{all-used}
-use Rattle.bucket_cache.proofs.FlatCaches.{in-flat, read-used, view-sound, flat-kept}
-use Rattle.bucket_cache.proofs.FlatReads.{fewer-buckets, fewer-lists}
+use Rattle.bucket_cache.{specs.{Caches.list_at, FlatBuckets.IsFlatCache}, proofs.FlatBuckets.all-used}
+use Rattle.bucket_cache.proofs.{FlatCaches.{in-flat, read-used, view-sound, flat-kept}, FlatReads.{fewer-buckets, fewer-lists}}
 use Rattle.bucket_cache.proofs.cache.BucketCache.drop_entry.Goals as goal
 use Rattle.bucket_cache.proofs.cache.BucketCache.drop_entry.Goals.{After-index_mut}
 

@@ -1,6 +1,5 @@
 use Rattle.std.proofs.Common.{◌≡◌, ◌<◌, ◌∙◌, [], get_or, length, refl, sym, ap, subst}
-use Rattle.bucket_cache.specs.Caches.{Cache}
-use Rattle.bucket_cache.specs.LendingCaches.{with_entry_at}
+use Rattle.bucket_cache.specs.{Caches.Cache, LendingCaches.with_entry_at}
 use Rattle.bucket_cache.proofs.LentEntries.{entries-wide, entry_replaced, length-with_entry}
 use Rattle.bucket_cache.proofs.cache.BucketCache.entry_mut.Goals as goal
 

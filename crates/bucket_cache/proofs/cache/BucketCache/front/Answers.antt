@@ -1,9 +1,6 @@
 use Rattle.std.proofs.Common.{◌≡◌, Some, length, sym, ◌∙◌, ap, ap₂, lit<}
-use Rattle.epoch_model.specs.Keys.{key_eq}
-use Rattle.bucket_cache.specs.Buckets.{Pair}
-use Rattle.bucket_cache.specs.Caches.{list_at}
-use Rattle.epoch_model.proofs.KeyLists.{key_eq-true}
-use Rattle.bucket_cache.proofs.PairLists.{first-pair, first-within, other-key}
+use Rattle.epoch_model.{specs.Keys.key_eq, proofs.KeyLists.key_eq-true}
+use Rattle.bucket_cache.{specs.{Buckets.Pair, Caches.list_at}, proofs.PairLists.{first-pair, first-within, other-key}}
 use Rattle.bucket_cache.proofs.cache.BucketCache.front.Goals as goal
 
 pub key-requires : goal.key-requires

@@ -1,7 +1,5 @@
-use Rattle.std.proofs.Common.{◌≡◌, length, get_or, ap, arith}
-use Rattle.std.proofs.lemmas.List.{take_all}
-use Rattle.bucket_cache.proofs.FlatBuckets.{length-lists_in}
-use Rattle.bucket_cache.proofs.FlatReads.{flat-more}
+use Rattle.std.proofs.{Common.{◌≡◌, length, get_or, ap, arith}, lemmas.List.take_all}
+use Rattle.bucket_cache.proofs.{FlatBuckets.length-lists_in, FlatReads.flat-more}
 use Rattle.bucket_cache.proofs.cache.BucketCache.held.Goals as goal
 use Rattle.bucket_cache.proofs.cache.BucketCache.held.Goals.{After-loop-used}
 

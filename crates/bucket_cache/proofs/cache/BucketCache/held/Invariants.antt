@@ -1,5 +1,4 @@
-use Rattle.std.proofs.Common.{◌≡◌, ◌*◌, ◌≤◌, length, take}
-use Rattle.std.specs.Prelude.{sum_by}
+use Rattle.std.{proofs.Common.{◌≡◌, ◌*◌, ◌≤◌, length, take}, specs.Prelude.sum_by}
 use Rattle.bucket_cache.proofs.cache.BucketCache.held.Given as goal
 
 abbrev pub invariant-loop-used : goal.invariant-loop-used

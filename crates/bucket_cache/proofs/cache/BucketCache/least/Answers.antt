@@ -1,8 +1,5 @@
-use Rattle.std.proofs.Common.{◌-◌, sym, ap, ◌∙◌, arith}
-use Rattle.std.specs.Prelude.{slice_get}
-use Rattle.bucket_cache.specs.Buckets.{places_of}
-use Rattle.bucket_cache.specs.Caches.{list_at}
-use Rattle.bucket_cache.proofs.FlatCaches.{in-flat, read-used, view-sound}
+use Rattle.std.{proofs.Common.{◌-◌, sym, ap, ◌∙◌, arith}, specs.Prelude.slice_get}
+use Rattle.bucket_cache.{specs.{Buckets.places_of, Caches.list_at}, proofs.FlatCaches.{in-flat, read-used, view-sound}}
 use Rattle.bucket_cache.proofs.FlatReads.{flat-least, flat-no-least}
 use Rattle.bucket_cache.proofs.cache.BucketCache.least.Goals as goal
 

@@ -1,7 +1,6 @@
 use Rattle.std.proofs.Common.{◌≡◌, ◌<◌, ◌*◌, ◌≤◌, length, get_or, replicate, ap, ap₂, sym, ◌∙◌, subst, arith}
 use Rattle.std.proofs.lemmas.List.{length-replicate, get_or-replicate}
-use Rattle.bucket_cache.specs.FlatBuckets.{AreBuckets, lists_in}
-use Rattle.bucket_cache.proofs.FlatReads.{no-lists, new-buckets}
+use Rattle.bucket_cache.{specs.FlatBuckets.{AreBuckets, lists_in}, proofs.FlatReads.{no-lists, new-buckets}}
 use Rattle.bucket_cache.proofs.cache.BucketCache.new.Goals as goal
 
 pub invariant_of-result : goal.invariant_of-result

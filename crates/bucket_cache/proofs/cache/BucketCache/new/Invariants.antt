@@ -1,5 +1,4 @@
-use Rattle.std.proofs.Common.{◌≡◌, ◌<◌, ℕ, length, get_or}
-use Rattle.std.specs.Prelude.{◌%◌}
+use Rattle.std.{proofs.Common.{◌≡◌, ◌<◌, ℕ, length, get_or}, specs.Prelude.{◌%◌}}
 use Rattle.bucket_cache.proofs.cache.BucketCache.new.Given as goal
 
 abbrev pub invariant-loop-place : goal.invariant-loop-place

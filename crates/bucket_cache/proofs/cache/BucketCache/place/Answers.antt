@@ -1,7 +1,6 @@
 -- Where the bucket has the pair, its number stands in the flat order, and the place is that of the way there.
 use Rattle.std.proofs.Common.{◌≡◌, ◌+◌, ◌*◌, ◌<◌, length, get_or, sym, subst, arith}
-use Rattle.bucket_cache.proofs.FlatCaches.{in-flat, read-used}
-use Rattle.bucket_cache.proofs.FlatReads.{Stands, stands, flat-place, flat-no-place}
+use Rattle.bucket_cache.proofs.{FlatCaches.{in-flat, read-used}, FlatReads.{Stands, stands, flat-place, flat-no-place}}
 use Rattle.bucket_cache.proofs.cache.BucketCache.place.Goals as goal
 use Rattle.bucket_cache.proofs.cache.BucketCache.place.Goals.{Then-i-index, After-way_at}
 

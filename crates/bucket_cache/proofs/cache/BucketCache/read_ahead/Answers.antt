@@ -1,6 +1,5 @@
 use Rattle.std.proofs.Common.{length, lit<}
-use Rattle.bucket_cache.specs.Caches.{list_at}
-use Rattle.bucket_cache.proofs.PairLists.{first-within}
+use Rattle.bucket_cache.{specs.Caches.list_at, proofs.PairLists.first-within}
 use Rattle.bucket_cache.proofs.cache.BucketCache.read_ahead.Goals as goal
 
 pub key-requires : goal.key-requires

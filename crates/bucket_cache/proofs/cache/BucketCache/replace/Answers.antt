@@ -1,6 +1,5 @@
 use Rattle.std.proofs.Common.{sym, ap, ◌∙◌, subst₂, refl}
-use Rattle.bucket_cache.specs.FlatBuckets.{AreBuckets, IsFlatCache}
-use Rattle.bucket_cache.proofs.FlatCaches.{in-flat, view-sound, flat-kept, held, now-holds}
+use Rattle.bucket_cache.{specs.FlatBuckets.{AreBuckets, IsFlatCache}, proofs.FlatCaches.{in-flat, view-sound, flat-kept, held, now-holds}}
 use Rattle.bucket_cache.proofs.cache.BucketCache.replace.Goals as goal
 use Rattle.bucket_cache.proofs.cache.BucketCache.replace.Goals.{After-replace_in_bucket}
 

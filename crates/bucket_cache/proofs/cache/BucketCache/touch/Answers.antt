@@ -1,7 +1,5 @@
 use Rattle.std.proofs.Common.{◌≤◌, ◌<◌, ◌+◌, ◌*◌, ℕ, zero, suc, arith}
-use Rattle.bucket_cache.specs.Caches.{list_at}
-use Rattle.bucket_cache.proofs.BucketLists.{some-get}
-use Rattle.bucket_cache.proofs.PairLists.{first-stays}
+use Rattle.bucket_cache.{specs.Caches.list_at, proofs.{BucketLists.some-get, PairLists.first-stays}}
 use Rattle.bucket_cache.proofs.cache.BucketCache.touch.Goals as goal
 
 pub returns-in-Ok-clause-touched : goal.returns-in-Ok-clause-touched

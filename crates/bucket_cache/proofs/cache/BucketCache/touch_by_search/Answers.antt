@@ -1,6 +1,5 @@
 use Rattle.std.proofs.Common.{sym, ap, ◌∙◌, subst, subst₂, refl}
-use Rattle.bucket_cache.specs.FlatBuckets.{AreBuckets, IsFlatCache}
-use Rattle.bucket_cache.proofs.FlatCaches.{in-flat, view-sound, flat-kept, held, now-holds}
+use Rattle.bucket_cache.{specs.FlatBuckets.{AreBuckets, IsFlatCache}, proofs.FlatCaches.{in-flat, view-sound, flat-kept, held, now-holds}}
 use Rattle.bucket_cache.proofs.cache.BucketCache.touch_by_search.Goals as goal
 use Rattle.bucket_cache.proofs.cache.BucketCache.touch_by_search.Goals.{After-touch_bucket}
 

@@ -1,6 +1,4 @@
-use Rattle.std.proofs.Common.{◌∙◌, ◌*◌, ap, length, arith}
-use Rattle.std.proofs.Math.Nat.{mul-le-mul_left}
-use Rattle.std.proofs.lemmas.List.{length-replicate}
+use Rattle.std.proofs.{Common.{◌∙◌, ◌*◌, ap, length, arith}, Math.Nat.mul-le-mul_left, lemmas.List.length-replicate}
 use Rattle.bucket_cache.proofs.LentEntries.{zero-entries}
 use Rattle.bucket_cache.proofs.entries.Entries.new.Goals as goal
 

@@ -1,5 +1,4 @@
-use Rattle.epoch_entry.proofs.TripleLemmas.{bounds_kind, bounds_merged}
-use Rattle.epoch_entry.proofs.ShapeLemmas.{program_shaped}
+use Rattle.epoch_entry.proofs.{TripleLemmas.{bounds_kind, bounds_merged}, ShapeLemmas.program_shaped}
 use Rattle.epoch_entry.proofs.bounds.BoundsEpochs.of.Goals as goal
 
 pub invariant_of-result-clause-shape : goal.invariant_of-result-clause-shape

@@ -1,5 +1,4 @@
-use Rattle.epoch_entry.proofs.KindFacts.{other_kind, other_merged}
-use Rattle.epoch_entry.proofs.ShapeLemmas.{program_shaped}
+use Rattle.epoch_entry.proofs.{KindFacts.{other_kind, other_merged}, ShapeLemmas.program_shaped}
 use Rattle.epoch_entry.proofs.other.OtherEpochs.of.Goals as goal
 
 pub invariant_of-result-clause-shape : goal.invariant_of-result-clause-shape

@@ -1,7 +1,4 @@
-use Rattle.std.proofs.Common.{refl, sym, ap, ◌∙◌}
-use Rattle.std.specs.Prelude.{fold}
-use Rattle.std.proofs.Math.Logic.{∥∥₁_elim}
-use Rattle.std.proofs.Props.{props}
+use Rattle.std.{proofs.{Common.{refl, sym, ap, ◌∙◌}, Math.Logic.{∥∥₁_elim}, Props.props}, specs.Prelude.fold}
 use Rattle.fold_code.specs.Meaning.{code_step}
 use Rattle.epoch_entry.proofs.FoldLemmas.{code_folds}
 use Rattle.epoch_entry.proofs.other.OtherEpochsEpochKind.merge.Goals as goal

@@ -1,6 +1,5 @@
 use Rattle.std.proofs.Common.{◌≡◌, ◌-◌, ◌<◌, length, subst, sym, ap, ◌∙◌, arith}
-use Rattle.evict_pipe.specs.Rings.{place_after, records_in}
-use Rattle.evict_pipe.proofs.RingFacts.{dropped, length-records}
+use Rattle.evict_pipe.{specs.Rings.{place_after, records_in}, proofs.RingFacts.{dropped, length-records}}
 use Rattle.evict_pipe.proofs.pipe.EvictPipe.drop_front.Goals as goal
 use Rattle.evict_pipe.proofs.pipe.EvictPipe.drop_front.Goals.{then-next-self, else-next-self}
 

@@ -1,6 +1,5 @@
 use Rattle.std.proofs.Common.{◌≤◌, length, subst, sym, ap, ◌∙◌}
-use Rattle.evict_pipe.specs.Pipes.{IsSoundPipe}
-use Rattle.evict_pipe.proofs.RingFacts.{length-records, record-words}
+use Rattle.evict_pipe.{specs.Pipes.IsSoundPipe, proofs.RingFacts.{length-records, record-words}}
 use Rattle.evict_pipe.proofs.pipe.EvictPipe.len.Goals as goal
 
 pub returns-clause-number : goal.returns-clause-number

@@ -1,6 +1,5 @@
 use Rattle.std.proofs.Common.{◌≡◌, ◌+◌, ◌<◌, ◌++◌, length, subst, sym, ap, ◌∙◌, arith, length-append}
-use Rattle.evict_pipe.specs.Rings.{place_after, records_in, IsRing}
-use Rattle.evict_pipe.proofs.RingFacts.{after-low, length-records, pushed, written}
+use Rattle.evict_pipe.{specs.Rings.{place_after, records_in, IsRing}, proofs.RingFacts.{after-low, length-records, pushed, written}}
 use Rattle.evict_pipe.proofs.pipe.EvictPipe.push.Goals as goal
 
 pub start_of-start-requires-clause-range : goal.start_of-start-requires-clause-range

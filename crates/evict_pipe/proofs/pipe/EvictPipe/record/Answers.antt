@@ -1,6 +1,5 @@
 use Rattle.std.proofs.Common.{◌≡◌, ◌+◌, ◌-◌, ◌*◌, ◌<◌, [], length, take, drop, get_or, subst, sym, ap, ◌∙◌, arith}
-use Rattle.evict_pipe.specs.Rings.{place_after}
-use Rattle.evict_pipe.proofs.RingFacts.{after-low, length-records, nth-record, place_fits}
+use Rattle.evict_pipe.{specs.Rings.place_after, proofs.RingFacts.{after-low, length-records, nth-record, place_fits}}
 use Rattle.evict_pipe.proofs.pipe.EvictPipe.record.Goals as goal
 
 pub start_of-start-requires-clause-range : goal.start_of-start-requires-clause-range

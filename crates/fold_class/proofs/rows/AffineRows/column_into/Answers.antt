@@ -1,7 +1,5 @@
 use Rattle.std.proofs.Common.{ℕ, ◌<◌, All, length, subst, sym, ap, ◌∙◌}
-use Rattle.fold_class.specs.Stored.{part_at}
-use Rattle.fold_class.specs.Rows.{AreSoundRows}
-use Rattle.fold_class.proofs.RowLemmas.{entries_from}
+use Rattle.fold_class.{specs.{Stored.part_at, Rows.AreSoundRows}, proofs.RowLemmas.entries_from}
 use Rattle.fold_class.proofs.rows.AffineRows.column_into.Goals as goal
 
 pub returns-clause-entries : goal.returns-clause-entries

@@ -1,8 +1,6 @@
 use Rattle.std.proofs.Common.{◌≡◌, ◌≢◌, ℕ, ◌<◌, All, length, subst, sym, ap, ◌∙◌, arith, below_more}
 use Rattle.coeff_algebra.specs.Maps.{stored_entry}
-use Rattle.fold_class.specs.Step.{list_of}
-use Rattle.fold_class.specs.Stored.{part_at}
-use Rattle.fold_class.specs.Rows.{entry_of, rows_dimension, column_after, AreSoundRows}
+use Rattle.fold_class.specs.{Step.list_of, Stored.part_at, Rows.{entry_of, rows_dimension, column_after, AreSoundRows}}
 use Rattle.fold_class.proofs.RowLemmas.{kept_from, last_column}
 use Rattle.fold_class.proofs.rows.AffineRows.map_into.Goals as goal
 

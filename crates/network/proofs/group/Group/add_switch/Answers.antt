@@ -1,13 +1,8 @@
-use Rattle.std.proofs.Common.{length, refl, sym, subst, arith, lit<}
-use Rattle.std.proofs.Math.Logic.{∥∥₁_elim}
-use Rattle.std.proofs.Props.{props}
+use Rattle.std.proofs.{Common.{length, refl, sym, subst, arith, lit<}, Math.Logic.{∥∥₁_elim}, Props.props}
 use Rattle.fold_class.specs.Program.{IsProgram, IsProgramOf}
-use Rattle.epoch_entry.specs.declared.purpose.Entries.TheVariants.{Folds}
-use Rattle.epoch_entry.specs.contracts.any.AnyEpochsEpochKind.TheImpl.{ghosts}
-use Rattle.network.specs.Shared.{FrontsStand}
-use Rattle.network.specs.Groups.{GroupGrows, GroupView, IsGroup}
-use Rattle.network.proofs.GroupSteps.{AddsFront, grown_group, have_push, others_push}
-use Rattle.network.proofs.Sharing.{one_more_stands}
+use Rattle.epoch_entry.specs.{declared.purpose.Entries.TheVariants.Folds, contracts.any.AnyEpochsEpochKind.TheImpl.ghosts}
+use Rattle.network.specs.{Shared.FrontsStand, Groups.{GroupGrows, GroupView, IsGroup}}
+use Rattle.network.proofs.{GroupSteps.{AddsFront, grown_group, have_push, others_push}, Sharing.one_more_stands}
 use Rattle.network.proofs.group.Group.add_switch.Goals as goal
 
 pub of-kind-requires : goal.of-kind-requires

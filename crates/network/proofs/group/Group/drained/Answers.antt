@@ -1,7 +1,5 @@
-use Rattle.std.proofs.Common.{sym, ap, ◌∙◌}
-use Rattle.std.specs.List.{list_all}
-use Rattle.network.specs.Groups.{group_is_drained}
-use Rattle.network.proofs.MakeSteps.{all_merged}
+use Rattle.std.{proofs.Common.{sym, ap, ◌∙◌}, specs.List.list_all}
+use Rattle.network.{specs.Groups.group_is_drained, proofs.MakeSteps.all_merged}
 use Rattle.network.proofs.group.Group.drained.Goals as goal
 
 pub returns-clause-done : goal.returns-clause-done

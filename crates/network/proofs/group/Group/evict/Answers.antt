@@ -1,12 +1,8 @@
 use Rattle.std.proofs.Common.{rules, ◌≡◌, ◌+◌, ◌==◌, ◌<◌, if◌then◌else◌, not, length, sym, ap, ◌∙◌, subst}
 use Rattle.epoch_model.specs.Machine.{Evict}
 use Rattle.bucket_cache.specs.Caches.{list_at}
-use Rattle.switch_core.specs.Costs.{evict_cost}
-use Rattle.switch_core.specs.FrontEvents.{with_store}
-use Rattle.network.specs.Shared.{AtSwitch}
-use Rattle.network.specs.Groups.{GroupView}
-use Rattle.network.specs.Events.{GroupMakes, with_lane}
-use Rattle.network.proofs.MakeSteps.{evict_makes}
+use Rattle.switch_core.specs.{Costs.evict_cost, FrontEvents.with_store}
+use Rattle.network.{specs.{Shared.AtSwitch, Groups.GroupView, Events.{GroupMakes, with_lane}}, proofs.MakeSteps.evict_makes}
 use Rattle.network.proofs.OneFront.{IsFront, group_of, front_found, front_is, front_room}
 use Rattle.network.proofs.group.Group.evict.Goals as goal
 use Rattle.network.proofs.group.Group.evict.Goals.{After-index_mut-front}

@@ -1,12 +1,7 @@
 -- An upkeep of a switch's front, with the groupby's store.
 use Rattle.std.proofs.Common.{rules, ◌+◌, ◌≤◌, subst}
-use Rattle.switch_core.specs.FrontEvents.{with_store}
-use Rattle.switch_core.specs.Upkeeps.{upkeep_events}
-use Rattle.switch_core.proofs.LaneFacts.{on_err, on_ok}
-use Rattle.switch_core.proofs.LaneMakes.{on_both}
-use Rattle.network.specs.Costs.{group_upkeep_cost}
-use Rattle.network.specs.Events.{GroupBreaksOff, GroupMakesAll, with_lane}
-use Rattle.network.proofs.CostSteps.{upkeep_within}
+use Rattle.switch_core.{specs.{FrontEvents.with_store, Upkeeps.upkeep_events}, proofs.{LaneFacts.{on_err, on_ok}, LaneMakes.on_both}}
+use Rattle.network.{specs.{Costs.group_upkeep_cost, Events.{GroupBreaksOff, GroupMakesAll, with_lane}}, proofs.CostSteps.upkeep_within}
 use Rattle.network.proofs.MakeSteps.{all_made, first_made, left_by, left_here}
 use Rattle.network.proofs.OneFront.{IsFront, group_of, front_found, front_shares, front_was, front_now}
 use Rattle.network.proofs.group.Group.keep_up.Goals as goal

@@ -1,12 +1,9 @@
 use Rattle.std.proofs.Common.{rules, ◌+◌, ◌≤◌, length, sym, ap, ◌∙◌, subst}
 use Rattle.epoch_model.specs.Machine.{Merge}
-use Rattle.switch_core.specs.FrontEvents.{with_store}
-use Rattle.switch_core.specs.PlanLanes.{lane_merge_cost}
+use Rattle.switch_core.specs.{FrontEvents.with_store, PlanLanes.lane_merge_cost}
 use Rattle.switch_core.specs.declared.upkeep.Upkeep.TheVariants as due
 use Rattle.switch_core.proofs.LaneFacts.{on_err, on_ok}
-use Rattle.network.specs.Costs.{group_merge_cost, lane_in}
-use Rattle.network.specs.Events.{GroupMakes, with_lane}
-use Rattle.network.proofs.CostSteps.{upkeep_within}
+use Rattle.network.{specs.{Costs.{group_merge_cost, lane_in}, Events.{GroupMakes, with_lane}}, proofs.CostSteps.upkeep_within}
 use Rattle.network.proofs.MakeSteps.{one_makes, ready_at}
 use Rattle.network.proofs.OneFront.{IsFront, group_of, front_found, front_shares, front_is, front_now, front_kept}
 use Rattle.network.proofs.group.Group.merge.Goals as goal

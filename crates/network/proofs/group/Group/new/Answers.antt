@@ -1,7 +1,4 @@
-use Rattle.std.proofs.Common.{length, sym, ap, ◌∙◌, subst}
-use Rattle.std.specs.Prelude.{slice_get}
-use Rattle.std.proofs.Math.Logic.{∥∥₁_elim}
-use Rattle.std.proofs.Props.{props}
+use Rattle.std.{proofs.{Common.{length, sym, ap, ◌∙◌, subst}, Math.Logic.{∥∥₁_elim}, Props.props}, specs.Prelude.slice_get}
 use Rattle.fold_class.specs.Program.{IsProgram, IsProgramOf}
 use Rattle.epoch_entry.specs.Foldings.{per_epoch}
 use Rattle.network.proofs.GroupSteps.{none_there}

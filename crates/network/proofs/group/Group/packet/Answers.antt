@@ -1,13 +1,8 @@
 use Rattle.std.proofs.Common.{◌≡◌, ◌+◌, ◌≤◌, length, sym, ◌∙◌, subst, lit<}
 use Rattle.epoch_model.specs.Driving.{event_of}
-use Rattle.stage_plan.specs.Planned.{wiring_at}
-use Rattle.stage_plan.specs.Registers.{taken_at}
-use Rattle.switch_core.specs.FrontEvents.{with_store}
-use Rattle.switch_core.specs.PlanLanes.{lane_cost}
-use Rattle.network.specs.Groups.{GroupView}
-use Rattle.network.specs.Costs.{lane_in}
-use Rattle.network.specs.Events.{GroupMakesAll, with_lane}
-use Rattle.network.proofs.MakeSteps.{all_made}
+use Rattle.stage_plan.specs.{Planned.wiring_at, Registers.taken_at}
+use Rattle.switch_core.specs.{FrontEvents.with_store, PlanLanes.lane_cost}
+use Rattle.network.{specs.{Groups.GroupView, Costs.lane_in, Events.{GroupMakesAll, with_lane}}, proofs.MakeSteps.all_made}
 use Rattle.network.proofs.OneFront.{IsFront, group_of, front_found, front_shares, front_is, front_room}
 use Rattle.network.proofs.group.Group.packet.Goals as goal
 use Rattle.network.proofs.group.Group.packet.Goals.{After-index_mut-front}

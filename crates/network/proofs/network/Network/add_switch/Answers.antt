@@ -1,11 +1,7 @@
 use Rattle.std.proofs.Common.{◌≡◌, ◌+◌, ◌<◌, ◌++◌, lit<, length, take, drop, sym, ap, ◌∙◌, subst, refl}
-use Rattle.switch_core.specs.Rows.{Each}
-use Rattle.switch_core.proofs.LaneFacts.{whole_written}
-use Rattle.network.specs.Groups.{AreGroups, GroupGrows}
-use Rattle.network.specs.Networks.{NetworkGrows, NetworkView}
-use Rattle.network.proofs.MakeSteps.{if_err}
-use Rattle.network.proofs.NetworkSteps.{grown_network, net_of, ran_whole, same_network, with_groups}
-use Rattle.network.proofs.OneLane.{view_of}
+use Rattle.switch_core.{specs.Rows.Each, proofs.LaneFacts.whole_written}
+use Rattle.network.{specs.{Groups.{AreGroups, GroupGrows}, Networks.{NetworkGrows, NetworkView}}, proofs.MakeSteps.if_err}
+use Rattle.network.proofs.{NetworkSteps.{grown_network, net_of, ran_whole, same_network, with_groups}, OneLane.view_of}
 use Rattle.network.proofs.Representing.{grown_stands}
 use Rattle.network.proofs.network.Network.add_switch.Goals as goal
 use Rattle.network.proofs.network.Network.add_switch.Goals.{In_ok-add_switch, In_err-add_switch}

@@ -1,11 +1,8 @@
-use Rattle.std.proofs.Common.{◌≡◌, List, Result, Ok, Err, sym, subst, lit<}
-use Rattle.std.specs.Prelude.{IfOk}
+use Rattle.std.{proofs.Common.{◌≡◌, List, Result, Ok, Err, sym, subst, lit<}, specs.Prelude.IfOk}
 use Rattle.epoch_model.specs.Machine.{Epoch}
 use Rattle.stage_plan.specs.declared.group.GroupPlan.{GroupPlan}
-use Rattle.network.specs.Groups.{AreGroups, GroupView, StoresHold, shared_tables}
-use Rattle.network.specs.Networks.{IsNetwork, NetworkView}
-use Rattle.network.proofs.Ends.{tables_closed, tables_defined}
-use Rattle.network.proofs.Exact.{additive_rows, own_rows_are}
+use Rattle.network.specs.{Groups.{AreGroups, GroupView, StoresHold, shared_tables}, Networks.{IsNetwork, NetworkView}}
+use Rattle.network.proofs.{Ends.{tables_closed, tables_defined}, Exact.{additive_rows, own_rows_are}}
 use Rattle.network.proofs.network.Network.close.Goals as goal
 
 pub group_tables-requires : goal.group_tables-requires

@@ -1,15 +1,11 @@
-use Rattle.std.proofs.Common.{◌≡◌, ◌≢◌, ◌<◌, ◌==◌, ℕ, List, refl, sym, ◌∙◌, subst, arith, lit<}
-use Rattle.std.proofs.lemmas.Bool.Decides.{nat_tests}
+use Rattle.std.proofs.{Common.{◌≡◌, ◌≢◌, ◌<◌, ◌==◌, ℕ, List, refl, sym, ◌∙◌, subst, arith, lit<}, lemmas.Bool.Decides.nat_tests}
 use Rattle.epoch_model.proofs.KeyLists.{by_test}
 use Rattle.switch_core.specs.declared.upkeep.Upkeep.TheVariants as due
-use Rattle.network.specs.Networks.{NetworkView}
-use Rattle.network.specs.Running.{MergingBreaksOff, NetworkEvent, NetworkRuns, RunBreaksOff, RunsWithMerges, all_evictions, front_at}
-use Rattle.network.specs.Running.{joined_below, upkeep_calls, without_merges}
-use Rattle.network.proofs.Calls.{IsEmptied, all_emptied, calls_same, emptied}
-use Rattle.network.proofs.EventLists.{rest_is_merges}
-use Rattle.network.proofs.MakeSteps.{if_err}
-use Rattle.network.proofs.Runs.{kept_long, merging_after, merging_breaks, merging_breaks_end, merging_first, merging_is, merging_kept}
-use Rattle.network.proofs.Runs.{merging_next, merging_none, merging_run, runs_kept}
+use Rattle.network.specs.{Networks.NetworkView, Running.{MergingBreaksOff, NetworkEvent, NetworkRuns, RunBreaksOff, RunsWithMerges}}
+use Rattle.network.specs.Running.{all_evictions, front_at, joined_below, upkeep_calls, without_merges}
+use Rattle.network.proofs.{Calls.{IsEmptied, all_emptied, calls_same, emptied}, EventLists.rest_is_merges, MakeSteps.if_err, Runs.kept_long}
+use Rattle.network.proofs.Runs.{merging_after, merging_breaks, merging_breaks_end, merging_first, merging_is, merging_kept, merging_next}
+use Rattle.network.proofs.Runs.{merging_none, merging_run, runs_kept}
 use Rattle.network.proofs.network.Network.drain.Goals as goal
 
 -- the evictions of each switch

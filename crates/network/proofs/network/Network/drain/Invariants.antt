@@ -1,7 +1,6 @@
 use Rattle.std.proofs.Common.{◌≡◌, ◌<◌, ◌≤◌, ℕ, length}
 use Rattle.switch_core.specs.declared.upkeep.Upkeep.TheVariants as due
-use Rattle.network.specs.Running.{RunsWithMerges, front_at, joined_below, upkeep_calls, without_merges}
-use Rattle.network.proofs.Calls.{IsEmptied}
+use Rattle.network.{specs.Running.{RunsWithMerges, front_at, joined_below, upkeep_calls, without_merges}, proofs.Calls.IsEmptied}
 use Rattle.network.proofs.network.Network.drain.Given as goal
 
 -- the switches below this one are drained, and the others are unchanged

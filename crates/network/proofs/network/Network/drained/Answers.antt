@@ -1,8 +1,5 @@
-use Rattle.std.proofs.Common.{ℕ, List, ap, ◌∙◌, subst}
-use Rattle.std.specs.List.{list_all}
-use Rattle.network.specs.Events.{AreAllMerged, AtGroup}
-use Rattle.network.specs.Groups.{GroupView, group_is_drained}
-use Rattle.network.specs.Networks.{NetworkView}
+use Rattle.std.{proofs.Common.{ℕ, List, ap, ◌∙◌, subst}, specs.List.list_all}
+use Rattle.network.specs.{Events.{AreAllMerged, AtGroup}, Groups.{GroupView, group_is_drained}, Networks.NetworkView}
 use Rattle.network.proofs.network.Network.drained.Goals as goal
 
 pub returns-clause-value : goal.returns-clause-value

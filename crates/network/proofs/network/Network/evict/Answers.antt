@@ -1,9 +1,6 @@
 use Rattle.std.proofs.Common.{◌≡◌, ◌<◌, true, set, sym, subst, lit<}
 use Rattle.epoch_model.specs.Machine.{Evict}
-use Rattle.network.specs.Events.{AtGroup, StoresStay, is_ready_at}
-use Rattle.network.specs.Networks.{NetworkView}
-use Rattle.network.specs.Running.{Evicts}
-use Rattle.network.proofs.MakeSteps.{stores_one}
+use Rattle.network.{specs.{Events.{AtGroup, StoresStay, is_ready_at}, Networks.NetworkView, Running.Evicts}, proofs.MakeSteps.stores_one}
 use Rattle.network.proofs.OneLane.{IsLane, view_of, lane_found, lane_switch, lane_front, groups_made, network_made, others_made, event_made}
 use Rattle.network.proofs.network.Network.evict.Goals as goal
 use Rattle.network.proofs.network.Network.evict.Goals.{After-index_mut-group}

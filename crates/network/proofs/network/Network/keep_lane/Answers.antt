@@ -1,15 +1,10 @@
 -- An upkeep of a switch's front at one groupby.
-use Rattle.std.proofs.Common.{◌+◌, ◌≤◌, [], ◌∷◌, subst, subst₂, lit<}
-use Rattle.std.specs.Prelude.{slice_get}
+use Rattle.std.{proofs.Common.{◌+◌, ◌≤◌, [], ◌∷◌, subst, subst₂, lit<}, specs.Prelude.slice_get}
 use Rattle.switch_core.proofs.LaneFacts.{either_way, on_err, on_ok}
-use Rattle.network.specs.Costs.{front_upkeep_cost}
-use Rattle.network.specs.Events.{GroupBreaksOff, GroupMakesAll, IsLeft, upkeep_in}
-use Rattle.network.specs.Networks.{IsNetwork}
+use Rattle.network.specs.{Costs.front_upkeep_cost, Events.{GroupBreaksOff, GroupMakesAll, IsLeft, upkeep_in}, Networks.IsNetwork}
 use Rattle.network.specs.Running.{FrontsStay, NetworkRuns, RunBreaksOff, lane_calls}
-use Rattle.network.proofs.Calls.{lane_stays, upkeep_breaks, upkeep_runs}
-use Rattle.network.proofs.MakeSteps.{others_stay}
-use Rattle.network.proofs.OneLane.{IsLane, view_of, after, lane_found, lane_switch, lane_shares, front_was, front_now}
-use Rattle.network.proofs.Runs.{runs_is}
+use Rattle.network.proofs.{Calls.{lane_stays, upkeep_breaks, upkeep_runs}, MakeSteps.others_stay}
+use Rattle.network.proofs.{OneLane.{IsLane, view_of, after, lane_found, lane_switch, lane_shares, front_was, front_now}, Runs.runs_is}
 use Rattle.network.proofs.network.Network.keep_lane.Goals as goal
 use Rattle.network.proofs.network.Network.keep_lane.Goals.{After-index_mut-group}
 

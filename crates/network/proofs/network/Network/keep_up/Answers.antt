@@ -1,17 +1,11 @@
 -- An upkeep of all fronts of a switch.
 use Rattle.std.proofs.Common.{◌≡◌, ◌≢◌, ◌+◌, ◌≤◌, ◌<◌, ◌==◌, length, take, refl, sym, ◌∙◌, subst, arith, lit<}
-use Rattle.std.specs.Prelude.{sum_by}
-use Rattle.std.proofs.lemmas.Bool.Decides.{nat_tests}
+use Rattle.std.{proofs.lemmas.Bool.Decides.nat_tests, specs.Prelude.sum_by}
 use Rattle.epoch_model.proofs.KeyLists.{by_test}
-use Rattle.switch_core.proofs.SideBySide.{got_some, sum_next}
-use Rattle.switch_core.proofs.SweepCosts.{sum_within}
-use Rattle.network.specs.Costs.{front_upkeep_cost, group_upkeep_cost}
-use Rattle.network.specs.Events.{IsLeft, upkeep_in}
-use Rattle.network.specs.Running.{NetworkRuns, RunBreaksOff, calls_of, front_at, joined_below, lane_calls}
-use Rattle.network.proofs.Calls.{front_here}
-use Rattle.network.proofs.CostSteps.{within_next}
-use Rattle.network.proofs.MakeSteps.{if_err}
-use Rattle.network.proofs.Runs.{kept_long, run_breaks, runs_kept, runs_next}
+use Rattle.switch_core.proofs.{SideBySide.{got_some, sum_next}, SweepCosts.sum_within}
+use Rattle.network.specs.{Costs.{front_upkeep_cost, group_upkeep_cost}, Events.{IsLeft, upkeep_in}}
+use Rattle.network.{specs.Running.{NetworkRuns, RunBreaksOff, calls_of, front_at, joined_below, lane_calls}, proofs.Calls.front_here}
+use Rattle.network.proofs.{CostSteps.within_next, MakeSteps.if_err, Runs.{kept_long, run_breaks, runs_kept, runs_next}}
 use Rattle.network.proofs.network.Network.keep_up.Goals as goal
 
 pub loop-lane-init : goal.loop-lane-init

@@ -1,8 +1,5 @@
-use Rattle.std.proofs.Common.{◌≡◌, ◌+◌, ◌≤◌, ◌<◌, ℕ, take}
-use Rattle.std.specs.Prelude.{sum_by}
-use Rattle.network.specs.Costs.{group_upkeep_cost}
-use Rattle.network.specs.Events.{IsLeft}
-use Rattle.network.specs.Running.{NetworkRuns, front_at, joined_below, lane_calls}
+use Rattle.std.{proofs.Common.{◌≡◌, ◌+◌, ◌≤◌, ◌<◌, ℕ, take}, specs.Prelude.sum_by}
+use Rattle.network.specs.{Costs.group_upkeep_cost, Events.IsLeft, Running.{NetworkRuns, front_at, joined_below, lane_calls}}
 use Rattle.network.proofs.network.Network.keep_up.Given as goal
 
 -- the lanes so far had their upkeep, and the others' fronts of this switch are unchanged

@@ -1,6 +1,5 @@
 use Rattle.std.proofs.Common.{ap, ◌∙◌, lit<}
-use Rattle.network.specs.Events.{is_ready_at}
-use Rattle.network.proofs.OneLane.{IsLane, view_of, lane_found, lane_switch, lane_is}
+use Rattle.network.{specs.Events.is_ready_at, proofs.OneLane.{IsLane, view_of, lane_found, lane_switch, lane_is}}
 use Rattle.network.proofs.network.Network.lane_ready.Goals as goal
 use Rattle.network.proofs.network.Network.lane_ready.Goals.{After-index-group}
 

@@ -1,11 +1,7 @@
 use Rattle.std.proofs.Common.{◌≡◌, ◌+◌, ◌≤◌, sym, ap, ◌∙◌, subst, lit<}
 use Rattle.epoch_model.specs.Machine.{Merge}
-use Rattle.switch_core.proofs.LaneFacts.{either_way, on_err, on_ok}
-use Rattle.switch_core.proofs.SideBySide.{same_some}
-use Rattle.network.specs.Costs.{group_merge_cost}
-use Rattle.network.specs.Events.{GroupMakes, OthersStay, is_ready_at}
-use Rattle.network.specs.Networks.{IsNetwork}
-use Rattle.network.specs.Running.{Merges}
+use Rattle.switch_core.proofs.{LaneFacts.{either_way, on_err, on_ok}, SideBySide.same_some}
+use Rattle.network.specs.{Costs.group_merge_cost, Events.{GroupMakes, OthersStay, is_ready_at}, Networks.IsNetwork, Running.Merges}
 use Rattle.network.proofs.OneLane.{IsLane, view_of, after, lane_found, lane_switch, lane_shares, lane_is, lane_front, lane_now, lane_kept}
 use Rattle.network.proofs.OneLane.{kept_network, kept_others, groups_made, network_made, others_made, event_made}
 use Rattle.network.proofs.network.Network.merge.Goals as goal

@@ -1,7 +1,5 @@
 use Rattle.std.proofs.Common.{length, rules, arith}
-use Rattle.network.proofs.GroupSteps.{have_start}
-use Rattle.network.specs.Networks.{NetworkView}
-use Rattle.network.proofs.Representing.{fresh_stands}
+use Rattle.network.{proofs.{GroupSteps.have_start, Representing.fresh_stands}, specs.Networks.NetworkView}
 use Rattle.network.proofs.network.Network.new.Goals as goal
 
 pub invariant_of-result : goal.invariant_of-result

@@ -1,19 +1,10 @@
-use Rattle.std.proofs.Common.{◌≡◌, ◌+◌, ◌≤◌, ◌++◌, ℕ, List, length, take, drop, refl, ap, ◌∙◌, subst, arith}
-use Rattle.std.specs.Prelude.{sum_by}
+use Rattle.std.{proofs.Common.{◌≡◌, ◌+◌, ◌≤◌, ◌++◌, ℕ, List, length, take, drop, refl, ap, ◌∙◌, subst, arith}, specs.Prelude.sum_by}
 use Rattle.epoch_model.specs.Driving.{event_of}
-use Rattle.stage_plan.specs.Planned.{plan_bound, registers_of, wiring_at}
-use Rattle.stage_plan.specs.Registers.{taken_at}
-use Rattle.stage_plan.specs.Sound.{IsSoundPlan}
-use Rattle.switch_core.specs.Pipelines.{packet_events}
-use Rattle.switch_core.proofs.LaneFacts.{whole_written}
-use Rattle.network.specs.Events.{GroupsMake, StoresStay}
-use Rattle.network.specs.Costs.{group_cost}
-use Rattle.network.specs.Networks.{IsNetwork, NetworkView, network_cost}
-use Rattle.network.specs.Running.{NetworkMakes, Takes}
-use Rattle.network.proofs.CostSteps.{groups_within}
-use Rattle.network.proofs.MakeSteps.{others_stay}
-use Rattle.network.proofs.NetworkSteps.{made_network, ran_whole, with_groups}
-use Rattle.network.proofs.OneLane.{view_of}
+use Rattle.stage_plan.specs.{Planned.{plan_bound, registers_of, wiring_at}, Registers.taken_at, Sound.IsSoundPlan}
+use Rattle.switch_core.{specs.Pipelines.packet_events, proofs.LaneFacts.whole_written}
+use Rattle.network.specs.{Events.{GroupsMake, StoresStay}, Costs.group_cost, Networks.{IsNetwork, NetworkView, network_cost}}
+use Rattle.network.{specs.Running.{NetworkMakes, Takes}, proofs.{CostSteps.groups_within, MakeSteps.others_stay}}
+use Rattle.network.proofs.{NetworkSteps.{made_network, ran_whole, with_groups}, OneLane.view_of}
 use Rattle.network.proofs.network.Network.packet.Goals as goal
 use Rattle.network.proofs.network.Network.packet.Goals.{After-packet_groups}
 

@@ -1,8 +1,5 @@
-use Rattle.std.proofs.Common.{◌<◌, sym, ap, ◌∙◌, subst, lit<}
-use Rattle.std.specs.List.{list_all}
-use Rattle.network.specs.Events.{is_ready_at}
-use Rattle.network.specs.Groups.{AreGroups}
-use Rattle.network.specs.Networks.{NetworkView}
+use Rattle.std.{proofs.Common.{◌<◌, sym, ap, ◌∙◌, subst, lit<}, specs.List.list_all}
+use Rattle.network.specs.{Events.is_ready_at, Groups.AreGroups, Networks.NetworkView}
 use Rattle.network.proofs.network.Network.ready.Goals as goal
 
 pub all_ready-requires : goal.all_ready-requires

@@ -1,16 +1,11 @@
 use Rattle.std.proofs.Common.{◌≡◌, ℕ, ◌+◌, ◌*◌, ◌≤◌, ◌<◌, Bool, true, false, List, [], ◌∷◌, ◌++◌, sym, ap, ◌∙◌, subst, arith, append_assoc}
-use Rattle.std.proofs.Common.{lit<}
-use Rattle.std.specs.Prelude.{if◌then◌else◌}
+use Rattle.std.{proofs.Common.lit<, specs.Prelude.if◌then◌else◌}
 use Rattle.switch_core.specs.declared.upkeep.Upkeep.TheVariants as due
-use Rattle.switch_core.proofs.LaneFacts.{on_err, on_ok}
-use Rattle.switch_core.proofs.LaneMakes.{on_both}
+use Rattle.switch_core.proofs.{LaneFacts.{on_err, on_ok}, LaneMakes.on_both}
 use Rattle.network.specs.Networks.{NetworkView, network_cost, upkeeps_cost}
 use Rattle.network.specs.Running.{NetworkEvent, NetworkMakes, NetworkRuns, RunBreaksOff, Takes, turn_events, upkeep_calls}
-use Rattle.network.proofs.Calls.{lag_same, ready_left}
-use Rattle.network.proofs.CostSteps.{room_cost}
-use Rattle.network.proofs.MakeSteps.{if_err}
-use Rattle.network.proofs.Runs.{kept_long, merges_cost_kept, packet_cost_kept, run_breaks_in, run_breaks_on, runs_is, runs_kept, runs_on}
-use Rattle.network.proofs.Runs.{runs_one}
+use Rattle.network.proofs.{Calls.{lag_same, ready_left}, CostSteps.room_cost, MakeSteps.if_err, Runs.{kept_long, merges_cost_kept}}
+use Rattle.network.proofs.Runs.{packet_cost_kept, run_breaks_in, run_breaks_on, runs_is, runs_kept, runs_on, runs_one}
 use Rattle.network.proofs.network.Network.turn.Goals as goal
 use Rattle.network.proofs.network.Network.turn.Goals.{After-packet}
 

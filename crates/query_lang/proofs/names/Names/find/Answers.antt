@@ -1,7 +1,6 @@
 -- A number is at most how many names there are.
 use Rattle.std.proofs.Common.{length, ap, ◌∙◌, arith}
-use Rattle.query_lang.specs.Names.{number_in, texts_of}
-use Rattle.query_lang.proofs.NameFacts.{number_most}
+use Rattle.query_lang.{specs.Names.{number_in, texts_of}, proofs.NameFacts.number_most}
 use Rattle.query_lang.proofs.names.Names.find.Goals as goal
 
 pub overflow_cast-result : goal.overflow_cast-result

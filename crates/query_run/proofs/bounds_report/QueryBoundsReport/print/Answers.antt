@@ -1,8 +1,6 @@
 use Rattle.std.proofs.Common.{◌++◌, OnErr, OnOk, subst}
-use Rattle.marple_base.specs.Sink.{TakesFront}
+use Rattle.marple_base.{specs.{Sink.TakesFront, Pieces.TakesAllBut}, proofs.Pieces.{none_taken, on_err}}
 use Rattle.enclosed_query.specs.EnclosedTables.{enclosed_print}
-use Rattle.marple_base.specs.Pieces.{TakesAllBut}
-use Rattle.marple_base.proofs.Pieces.{none_taken, on_err}
 use Rattle.query_run.specs.BoundsReports.{bounds_print}
 use Rattle.query_run.proofs.bounds_report.QueryBoundsReport.print.Goals as goal
 

@@ -1,6 +1,5 @@
 use Rattle.std.proofs.Common.{refl}
-use Rattle.queue_sim.specs.Generator.{arrivals, state_after}
-use Rattle.queue_sim.proofs.FollowingFacts.{empty_at, no_number}
+use Rattle.queue_sim.{specs.Generator.{arrivals, state_after}, proofs.FollowingFacts.{empty_at, no_number}}
 use Rattle.queue_sim.proofs.generator.Generator.new.Goals as goal
 
 pub returns-clause-follows : goal.returns-clause-follows

@@ -1,5 +1,4 @@
-use Rattle.std.proofs.Common.{◌≡◌, ◌+◌, ◌*◌, ◌%◌, ◌∷◌, ◌∙◌, ap, add-one, refl, sym, arith}
-use Rattle.std.proofs.Math.ListN.{length-set}
+use Rattle.std.proofs.{Common.{◌≡◌, ◌+◌, ◌*◌, ◌%◌, ◌∷◌, ◌∙◌, ap, add-one, refl, sym, arith}, Math.ListN.length-set}
 use Rattle.std.proofs.lemmas.Option.{slice_get_read}
 use Rattle.queue_sim.specs.Generator.{Arrival, arrivals, drawn_after, generated_packet, state_after, touts_at}
 use Rattle.queue_sim.proofs.Bounds.{number_small, time_small, tout_small}

@@ -1,9 +1,7 @@
 use Rattle.std.proofs.Common.{◌≡◌, ◌+◌, ◌-◌, ◌∷◌, ◌++◌, ◌∙◌, ap, rules, get_or, length, slice_index, sym, take, drop, arith}
 use Rattle.std.proofs.lemmas.List.{drop_all}
-use Rattle.marple_base.specs.declared.field.Field.TheVariants.{Switch}
-use Rattle.marple_base.proofs.Bytes.{range_from}
-use Rattle.queue_sim.specs.TraceText.{word_text}
-use Rattle.queue_sim.proofs.TextFacts.{none_left, one_before, text_from, whole_line, word_at}
+use Rattle.marple_base.{specs.declared.field.Field.TheVariants.Switch, proofs.Bytes.range_from}
+use Rattle.queue_sim.{specs.TraceText.word_text, proofs.TextFacts.{none_left, one_before, text_from, whole_line, word_at}}
 use Rattle.queue_sim.proofs.text.LineBuffer.format.Goals as goal
 
 pub loop-i-init : goal.loop-i-init

@@ -1,6 +1,5 @@
 use Rattle.std.proofs.Common.{arith}
-use Rattle.stage_plan.proofs.Runs.{within_more}
-use Rattle.stage_plan.proofs.Wirings.{seen_wiring}
+use Rattle.stage_plan.proofs.{Runs.within_more, Wirings.seen_wiring}
 use Rattle.stage_plan.proofs.plans.Plan.present.Goals as goal
 
 pub operand_in-requires : goal.operand_in-requires

@@ -1,6 +1,5 @@
 use Rattle.std.proofs.Common.{◌≡◌, true, sym}
-use Rattle.switch_core.specs.Closing.{is_drained}
-use Rattle.switch_core.proofs.Drained.{drained_is_done}
+use Rattle.switch_core.{specs.Closing.is_drained, proofs.Drained.drained_is_done}
 use Rattle.switch_core.proofs.front.Front.drained.Goals as goal
 
 pub returns-then-held-eq0-clause-done : goal.returns-then-held-eq0-clause-done

@@ -1,20 +1,12 @@
 -- An eviction pushes the record of the least recently used pair and drops the pair, or finds no pair.
-use Rattle.std.proofs.Common.{◌≡◌, ℕ, ◌+◌, ◌-◌, ◌<◌, false, length, refl, sym, ap, ◌∙◌, lit<, length-append, arith}
-use Rattle.std.proofs.Common.{true, true≢false, le_refl, le_trans}
+use Rattle.std.proofs.Common.{◌≡◌, ℕ, ◌+◌, ◌-◌, ◌<◌, false, length, refl, sym, ap, ◌∙◌, lit<, length-append, arith, true, true≢false}
+use Rattle.std.{proofs.{Common.{le_refl, le_trans}, lemmas.Bool.{lt-ltb, Decides.nat_tests}}, specs.Prelude.{not, ◌==◌}}
 use Rattle.bucket_cache.specs.Caches.{list_at}
-use Rattle.std.specs.Prelude.{not, ◌==◌}
-use Rattle.std.proofs.lemmas.Bool.{lt-ltb}
-use Rattle.std.proofs.lemmas.Bool.Decides.{nat_tests}
 use Rattle.epoch_model.specs.Machine.{Evict}
-use Rattle.switch_core.specs.FrontParts.{front_of}
-use Rattle.switch_core.specs.FrontEvents.{FrontMakes}
+use Rattle.switch_core.specs.{FrontParts.front_of, FrontEvents.FrontMakes}
 use Rattle.switch_core.proofs.CacheSteps.{least_pair, least_within, some_least, none_least, drop_stands, evict_none}
-use Rattle.switch_core.proofs.PipeSteps.{pipe_evicted}
-use Rattle.switch_core.proofs.LaneSteps.{evict_merged_same}
-use Rattle.switch_core.proofs.Drained.{nothing_taken}
-use Rattle.switch_core.proofs.Carrying.{carries_evict}
-use Rattle.switch_core.proofs.FrontSizes.{list_sizes}
-use Rattle.switch_core.proofs.StepSums.{after_sum}
+use Rattle.switch_core.proofs.{PipeSteps.pipe_evicted, LaneSteps.evict_merged_same, Drained.nothing_taken, Carrying.carries_evict}
+use Rattle.switch_core.proofs.{FrontSizes.list_sizes, StepSums.after_sum}
 use Rattle.switch_core.proofs.front.Front.evict.Goals as goal
 
 pub push_pair-requires : goal.push_pair-requires

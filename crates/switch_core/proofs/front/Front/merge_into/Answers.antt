@@ -1,7 +1,6 @@
 -- An empty pipe merges nothing, and another one its oldest record.
 use Rattle.std.proofs.Common.{◌≡◌, ◌++◌, ◌<◌, length, refl, ap, ◌∙◌, arith, append-nil}
-use Rattle.switch_core.proofs.MergeSteps.{none_dropped, none_piped, merge_none, none_next}
-use Rattle.switch_core.proofs.Carrying.{carries_merge}
+use Rattle.switch_core.proofs.{MergeSteps.{none_dropped, none_piped, merge_none, none_next}, Carrying.carries_merge}
 use Rattle.switch_core.proofs.front.Front.merge_into.Goals as goal
 
 pub returns-then-len-eq0-clause-makes : goal.returns-then-len-eq0-clause-makes

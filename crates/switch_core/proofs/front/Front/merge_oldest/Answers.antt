@@ -1,12 +1,7 @@
 use Rattle.std.proofs.Common.{rules, ◌≡◌, ℕ, ◌+◌, ◌<◌, ◌≤◌, length, refl, sym, ap, ◌∙◌, subst, arith}
-use Rattle.epoch_model.specs.Machine.{Merge}
-use Rattle.switch_core.specs.Costs.{merge_cost}
-use Rattle.switch_core.specs.FrontParts.{FitsStore, front_of}
-use Rattle.switch_core.specs.FrontEvents.{FrontMakes, MergesNext}
-use Rattle.switch_core.specs.Lanes.{RecordStands}
-use Rattle.epoch_model.proofs.Endings.{no_end}
-use Rattle.switch_core.proofs.MergeSteps.{front_merged, next_held}
-use Rattle.switch_core.proofs.FrontSizes.{SameSizes, front_kept, parts_kept}
+use Rattle.epoch_model.{specs.Machine.Merge, proofs.Endings.no_end}
+use Rattle.switch_core.specs.{Costs.merge_cost, FrontParts.{FitsStore, front_of}, FrontEvents.{FrontMakes, MergesNext}, Lanes.RecordStands}
+use Rattle.switch_core.proofs.{MergeSteps.{front_merged, next_held}, FrontSizes.{SameSizes, front_kept, parts_kept}}
 use Rattle.switch_core.proofs.front.Front.merge_oldest.Goals as goal
 
 pub returns : goal.returns

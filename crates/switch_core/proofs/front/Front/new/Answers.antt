@@ -1,8 +1,6 @@
-use Rattle.std.proofs.Common.{◌<◌, ◌≤◌, ◌+◌, [], length, drop, ap, refl, sym, subst, ◌∙◌, lit<, arith}
+use Rattle.std.proofs.{Common.{◌<◌, ◌≤◌, ◌+◌, [], length, drop, ap, refl, sym, subst, ◌∙◌, lit<, arith}, lemmas.List.length-replicate}
 use Rattle.query_lang.specs.declared.fault.TheConstants.{MAX_KEYS}
-use Rattle.std.proofs.lemmas.List.{length-replicate}
-use Rattle.switch_core.proofs.LaneFacts.{whole_written}
-use Rattle.switch_core.proofs.LaneSteps.{front_empty}
+use Rattle.switch_core.proofs.{LaneFacts.whole_written, LaneSteps.front_empty}
 use Rattle.epoch_model.proofs.Endings.{no_value}
 use Rattle.switch_core.proofs.front.Front.new.Goals as goal
 

@@ -2,23 +2,14 @@
 -- of the front.
 use Rattle.std.proofs.Common.{List, ◌<◌, ◌∷◌, [], ◌++◌, length, arith, get_or-set_same, refl, ap, sym, ◌∙◌, subst, lit<, le_trans}
 use Rattle.std.specs.Prelude.{slice_index_or}
-use Rattle.epoch_model.specs.Keys.{ArgRow}
-use Rattle.epoch_model.specs.Machine.{Packet}
-use Rattle.bucket_cache.specs.Caches.{entry_at, list_at}
-use Rattle.bucket_cache.specs.LendingCaches.{with_entry_at}
-use Rattle.bucket_cache.specs.Touches.{IsLeast}
+use Rattle.epoch_model.specs.{Keys.ArgRow, Machine.Packet}
+use Rattle.bucket_cache.specs.{Caches.{entry_at, list_at}, LendingCaches.with_entry_at, Touches.IsLeast}
 use Rattle.bucket_cache.specs.declared.bucket.Touch.TheVariants.{Hit, Free}
-use Rattle.switch_core.specs.FrontParts.{front_of}
-use Rattle.switch_core.specs.FrontEvents.{FrontMakes}
-use Rattle.switch_core.specs.Lanes.{CacheStands, PipeStands, geometry}
-use Rattle.switch_core.specs.Places.{with_words}
+use Rattle.switch_core.specs.{FrontParts.front_of, FrontEvents.FrontMakes, Lanes.{CacheStands, PipeStands, geometry}, Places.with_words}
 use Rattle.switch_core.proofs.CacheSteps.{hit_machine, free_machine, full_machine, hit_stands, free_stands, full_stands, front_within}
-use Rattle.switch_core.proofs.CacheSteps.{least_within, list_set, as_it_was}
-use Rattle.switch_core.proofs.Carrying.{carries_packet}
-use Rattle.switch_core.proofs.StepSums.{after_sum}
+use Rattle.switch_core.proofs.{CacheSteps.{least_within, list_set, as_it_was}, Carrying.carries_packet, StepSums.after_sum}
 use Rattle.switch_core.proofs.FrontSizes.{SameSizes, front_kept, list_sizes, parts_kept, sizes_on, words_sizes}
-use Rattle.switch_core.proofs.LaneSteps.{packet_merged_same}
-use Rattle.switch_core.proofs.PipeSteps.{pipe_evicted}
+use Rattle.switch_core.proofs.{LaneSteps.packet_merged_same, PipeSteps.pipe_evicted}
 use Rattle.switch_core.proofs.front.Front.packet.Goals as goal
 
 pub entry_mut-entry-requires : goal.entry_mut-entry-requires

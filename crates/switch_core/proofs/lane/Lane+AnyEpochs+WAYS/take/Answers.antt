@@ -1,12 +1,8 @@
 -- A packet that the groupby takes is the packet event of its key and its arguments at the front.
 use Rattle.std.proofs.Common.{◌≡◌, ◌∷◌, [], refl, sym, ap₂, ◌∙◌, subst}
-use Rattle.epoch_model.specs.Driving.{event_of}
-use Rattle.epoch_model.specs.Machine.{Packet}
-use Rattle.stage_plan.specs.Planned.{wiring_at}
-use Rattle.stage_plan.specs.Registers.{taken_at}
-use Rattle.switch_core.specs.LaneEvents.{parts}
-use Rattle.switch_core.specs.PlanLanes.{LaneMakes, LaneView}
-use Rattle.switch_core.proofs.LaneMakes.{lane_packet}
+use Rattle.epoch_model.specs.{Driving.event_of, Machine.Packet}
+use Rattle.stage_plan.specs.{Planned.wiring_at, Registers.taken_at}
+use Rattle.switch_core.{specs.{LaneEvents.parts, PlanLanes.{LaneMakes, LaneView}}, proofs.LaneMakes.lane_packet}
 use Rattle.switch_core.proofs.lane.Lane+AnyEpochs+WAYS.take.Goals as goal
 
 pub returns-clause-makes : goal.returns-clause-makes

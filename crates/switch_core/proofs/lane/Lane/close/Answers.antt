@@ -1,10 +1,7 @@
 -- Where all closed epochs are merged, the rows that the store holds are those of the table.
 use Rattle.std.proofs.Common.{◌≡◌, true, length, sym, ap, ◌∙◌, subst}
 use Rattle.final_queries.specs.GroupTable.{Heading, closed_table}
-use Rattle.switch_core.specs.Closing.{is_drained}
-use Rattle.switch_core.specs.Lanes.{LaneStands}
-use Rattle.switch_core.proofs.MergeSteps.{none_piped}
-use Rattle.switch_core.proofs.Drained.{drained_parts}
+use Rattle.switch_core.{specs.{Closing.is_drained, Lanes.LaneStands}, proofs.{MergeSteps.none_piped, Drained.drained_parts}}
 use Rattle.switch_core.proofs.ClosedTable.{table_is, all_held}
 use Rattle.switch_core.proofs.lane.Lane.close.Goals as goal
 

@@ -1,7 +1,6 @@
 -- An upkeep of a lane's front, with the lane's store.
 use Rattle.std.proofs.Common.{rules, ◌≤◌, ◌+◌, OnErr, OnOk, subst}
-use Rattle.switch_core.specs.FrontEvents.{CarriesAll, CarriesFirst, with_store}
-use Rattle.switch_core.specs.Upkeeps.{upkeep_cost, upkeep_events}
+use Rattle.switch_core.specs.{FrontEvents.{CarriesAll, CarriesFirst, with_store}, Upkeeps.{upkeep_cost, upkeep_events}}
 use Rattle.switch_core.proofs.Carrying.{fits_kept}
 use Rattle.switch_core.proofs.lane.Lane.keep_up.Goals as goal
 

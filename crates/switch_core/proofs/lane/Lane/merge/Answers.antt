@@ -1,7 +1,5 @@
 use Rattle.epoch_model.specs.Machine.{Merge}
-use Rattle.switch_core.specs.FrontEvents.{FrontMakes, MergesNext}
-use Rattle.switch_core.specs.LaneEvents.{Makes, parts}
-use Rattle.switch_core.proofs.LaneMakes.{lane_merge, on_both}
+use Rattle.switch_core.{specs.{FrontEvents.{FrontMakes, MergesNext}, LaneEvents.{Makes, parts}}, proofs.LaneMakes.{lane_merge, on_both}}
 use Rattle.switch_core.proofs.lane.Lane.merge.Goals as goal
 
 pub returns-clause-stands : goal.returns-clause-stands

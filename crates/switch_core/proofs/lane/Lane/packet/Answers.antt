@@ -1,7 +1,6 @@
 use Rattle.std.proofs.Common.{subst}
 use Rattle.epoch_model.specs.Machine.{Packet}
-use Rattle.switch_core.specs.LaneEvents.{Makes, parts}
-use Rattle.switch_core.proofs.LaneMakes.{lane_packet}
+use Rattle.switch_core.{specs.LaneEvents.{Makes, parts}, proofs.LaneMakes.lane_packet}
 use Rattle.switch_core.proofs.lane.Lane.packet.Goals as goal
 
 pub returns-clause-stands : goal.returns-clause-stands

@@ -1,7 +1,5 @@
-use Rattle.std.proofs.Common.{◌≡◌, true, sym, ap, ◌∙◌, subst}
-use Rattle.std.specs.List.{list_all}
-use Rattle.switch_core.specs.PlanLanes.{lane_is_drained}
-use Rattle.switch_core.proofs.LaneTables.{all_done}
+use Rattle.std.{proofs.Common.{◌≡◌, true, sym, ap, ◌∙◌, subst}, specs.List.list_all}
+use Rattle.switch_core.{specs.PlanLanes.lane_is_drained, proofs.LaneTables.all_done}
 use Rattle.switch_core.proofs.pipeline.Pipeline.drained.Goals as goal
 
 pub returns-clause-done : goal.returns-clause-done

@@ -1,5 +1,4 @@
-use Rattle.std.proofs.Common.{◌≡◌, Some, length, ap, ◌∙◌, subst, arith, lit<}
-use Rattle.std.specs.Prelude.{slice_get}
+use Rattle.std.{proofs.Common.{◌≡◌, Some, length, ap, ◌∙◌, subst, arith, lit<}, specs.Prelude.slice_get}
 use Rattle.switch_core.proofs.PipelineSteps.{given_back, lanes_many}
 use Rattle.switch_core.proofs.pipeline.Pipeline.evict.Goals as goal
 

@@ -1,9 +1,7 @@
 -- The lanes make the events of their upkeeps, and stay those of the plan.
 use Rattle.std.proofs.Common.{rules, length, drop, refl, ◌∙◌}
-use Rattle.switch_core.specs.PlanLanes.{LanesBreakOff, LanesMake, upkeeps_at}
-use Rattle.switch_core.proofs.FrontSizes.{room_kept}
-use Rattle.switch_core.proofs.LaneFacts.{whole_written, either_way, on_ok, on_err}
-use Rattle.switch_core.proofs.PipelineSteps.{given_back}
+use Rattle.switch_core.{specs.PlanLanes.{LanesBreakOff, LanesMake, upkeeps_at}, proofs.FrontSizes.room_kept}
+use Rattle.switch_core.proofs.{LaneFacts.{whole_written, either_way, on_ok, on_err}, PipelineSteps.given_back}
 use Rattle.switch_core.proofs.pipeline.Pipeline.keep_up.Goals as goal
 
 pub invariant_of-self : goal.invariant_of-self

@@ -1,10 +1,6 @@
-use Rattle.std.proofs.Common.{rules, ◌≡◌, ◌∙◌, Some, length, sym, ap, subst, arith}
-use Rattle.std.specs.Prelude.{slice_get}
-use Rattle.epoch_entry.specs.Purposes.{IsKindFor}
-use Rattle.epoch_entry.specs.contracts.any.AnyEpochsEpochKind.TheImpl.{ghosts}
-use Rattle.switch_core.specs.PlanLanes.{LaneView, PipelineView}
-use Rattle.switch_core.proofs.PipelineSteps.{kind_at, made_at}
-use Rattle.switch_core.proofs.SideBySide.{got_here}
+use Rattle.std.{proofs.Common.{rules, ◌≡◌, ◌∙◌, Some, length, sym, ap, subst, arith}, specs.Prelude.slice_get}
+use Rattle.epoch_entry.specs.{Purposes.IsKindFor, contracts.any.AnyEpochsEpochKind.TheImpl.ghosts}
+use Rattle.switch_core.{specs.PlanLanes.{LaneView, PipelineView}, proofs.{PipelineSteps.{kind_at, made_at}, SideBySide.got_here}}
 use Rattle.switch_core.proofs.pipeline.Pipeline.lane.Goals as goal
 
 pub returns : goal.returns

@@ -1,6 +1,5 @@
 use Rattle.std.proofs.Common.{[], ◌∙◌}
-use Rattle.switch_core.proofs.LaneFacts.{either_way, on_ok}
-use Rattle.switch_core.proofs.PipelineSteps.{given_back, none_made}
+use Rattle.switch_core.proofs.{LaneFacts.{either_way, on_ok}, PipelineSteps.{given_back, none_made}}
 use Rattle.switch_core.proofs.pipeline.Pipeline.merge.Goals as goal
 
 pub invariant_of-self : goal.invariant_of-self

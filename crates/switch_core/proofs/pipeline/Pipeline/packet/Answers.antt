@@ -1,20 +1,13 @@
 -- Each lane makes the packet event of what its groupby takes of the registers.
 use Rattle.std.proofs.Common.{rules, ◌≡◌, ℕ, ◌<◌, length, drop, get_or, refl, sym, ap, ◌∙◌, subst, true, arith, lit<}
-use Rattle.std.proofs.Math.Facts.{Fits-below}
-use Rattle.std.specs.List.{list_all}
+use Rattle.std.{proofs.Math.Facts.Fits-below, specs.List.list_all}
 use Rattle.epoch_model.specs.Driving.{event_of}
 use Rattle.query_lang.specs.declared.fault.TheConstants.{MAX_ARGS, MAX_KEYS}
-use Rattle.stage_plan.specs.Planned.{wiring_at}
-use Rattle.stage_plan.specs.Registers.{taken_at}
-use Rattle.stage_plan.specs.Sound.{PlanParts}
-use Rattle.switch_core.specs.Pipelines.{packet_events}
-use Rattle.switch_core.specs.PlanLanes.{AreLanesOf, LaneMakes, LaneView, PipelineView, lane_cost, lane_is_ready}
-use Rattle.switch_core.proofs.FrontSizes.{room_kept}
-use Rattle.switch_core.proofs.LaneFacts.{all_at, lane_fits, whole_written}
-use Rattle.switch_core.proofs.PacketBound.{packet_within}
-use Rattle.switch_core.proofs.PipelineSteps.{given_back}
-use Rattle.switch_core.proofs.SideBySide.{got_here, same_some, each_long, done_start, untouched_start, done_next, untouched_next}
-use Rattle.switch_core.proofs.SideBySide.{untouched_was, done_end, sum_next, sum_whole}
+use Rattle.stage_plan.specs.{Planned.wiring_at, Registers.taken_at, Sound.PlanParts}
+use Rattle.switch_core.specs.{Pipelines.packet_events, PlanLanes.{AreLanesOf, LaneMakes, LaneView, PipelineView, lane_cost, lane_is_ready}}
+use Rattle.switch_core.proofs.{FrontSizes.room_kept, LaneFacts.{all_at, lane_fits, whole_written}, PacketBound.packet_within}
+use Rattle.switch_core.proofs.{PipelineSteps.given_back, SideBySide.{got_here, same_some, each_long, done_start, untouched_start}}
+use Rattle.switch_core.proofs.SideBySide.{done_next, untouched_next, untouched_was, done_end, sum_next, sum_whole}
 use Rattle.switch_core.proofs.pipeline.Pipeline.packet.Goals as goal
 
 pub registers_of-registers-requires-clause-row : goal.registers_of-registers-requires-clause-row

@@ -1,10 +1,7 @@
-use Rattle.std.proofs.Common.{◌≡◌, ◌≤◌, ◌+◌, length, take}
-use Rattle.std.specs.Prelude.{sum_by}
+use Rattle.std.{proofs.Common.{◌≡◌, ◌≤◌, ◌+◌, length, take}, specs.Prelude.sum_by}
 use Rattle.epoch_model.specs.Driving.{event_of}
-use Rattle.stage_plan.specs.Planned.{wiring_at}
-use Rattle.stage_plan.specs.Registers.{taken_at}
-use Rattle.switch_core.specs.PlanLanes.{LaneMakes, lane_cost}
-use Rattle.switch_core.proofs.SideBySide.{Done, Untouched}
+use Rattle.stage_plan.specs.{Planned.wiring_at, Registers.taken_at}
+use Rattle.switch_core.{specs.PlanLanes.{LaneMakes, lane_cost}, proofs.SideBySide.{Done, Untouched}}
 use Rattle.switch_core.proofs.pipeline.Pipeline.packet.Given as goal
 
 -- the lanes so far made their events

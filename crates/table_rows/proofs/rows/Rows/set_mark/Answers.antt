@@ -1,6 +1,5 @@
 use Rattle.std.proofs.lemmas.List.{map-set}
-use Rattle.table_rows.specs.Spans.{row_in}
-use Rattle.table_rows.proofs.SpanFacts.{row_there}
+use Rattle.table_rows.{specs.Spans.row_in, proofs.SpanFacts.row_there}
 use Rattle.table_rows.proofs.rows.Rows.set_mark.Goals as goal
 
 pub returns : goal.returns

@@ -1,7 +1,5 @@
-use Rattle.std.proofs.Common.{◌≡◌, ◌≤◌, ◌+◌, ◌*◌, Some, drop, length, sym, ap, ap₂, ◌∙◌, subst, arith}
-use Rattle.std.specs.List.{slice_get}
-use Rattle.trace_drive.specs.Kept.{packet_in}
-use Rattle.trace_drive.proofs.KeptFacts.{packet_at, packets_long, place_within}
+use Rattle.std.{proofs.Common.{◌≡◌, ◌≤◌, ◌+◌, ◌*◌, Some, drop, length, sym, ap, ap₂, ◌∙◌, subst, arith}, specs.List.slice_get}
+use Rattle.trace_drive.{specs.Kept.packet_in, proofs.KeptFacts.{packet_at, packets_long, place_within}}
 use Rattle.trace_drive.proofs.kept.KeptPackets.packet_into.Goals as goal
 
 pub words_from-words-requires : goal.words_from-words-requires

@@ -1,7 +1,5 @@
 use Rattle.std.proofs.Common.{◌+◌, ◌++◌, [], ◌∷◌, length, map, ap, ◌∙◌, arith}
-use Rattle.trace_drive.specs.Kept.{Kept, kept_of, word_in}
-use Rattle.trace_drive.specs.KeptView.{packets_in}
-use Rattle.trace_drive.proofs.KeptFacts.{kept_more, packets_long}
+use Rattle.trace_drive.{specs.{Kept.{Kept, kept_of, word_in}, KeptView.packets_in}, proofs.KeptFacts.{kept_more, packets_long}}
 use Rattle.trace_drive.proofs.kept.KeptPackets.push.Goals as goal
 
 pub overflow_add-self : goal.overflow_add-self

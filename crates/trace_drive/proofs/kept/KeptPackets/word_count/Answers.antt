@@ -1,6 +1,5 @@
 use Rattle.std.proofs.Common.{◌*◌, length, sym, ap, ap₂, ◌∙◌}
-use Rattle.trace_drive.specs.Kept.{kept_words}
-use Rattle.trace_drive.proofs.KeptFacts.{packets_long}
+use Rattle.trace_drive.{specs.Kept.kept_words, proofs.KeptFacts.packets_long}
 use Rattle.trace_drive.proofs.kept.KeptPackets.word_count.Goals as goal
 
 pub returns : goal.returns

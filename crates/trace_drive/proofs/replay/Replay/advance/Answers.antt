@@ -1,9 +1,7 @@
 -- The packets are taken one by one, each with its turn.
 use Rattle.std.proofs.Common.{◌+◌, ◌≡◌, Ok, ap, ◌∙◌, arith, refl, subst, lit<}
-use Rattle.trace_drive.specs.Replays.{Advances, MakesTheirTurns}
-use Rattle.trace_drive.proofs.Following.{keeps_along}
-use Rattle.trace_drive.proofs.Replaying.{keeps_itself, none_taken, taken_next}
-use Rattle.trace_drive.proofs.ReplayTurns.{no_turns, turns_next, turns_of_all}
+use Rattle.trace_drive.{specs.Replays.{Advances, MakesTheirTurns}, proofs.Following.keeps_along}
+use Rattle.trace_drive.proofs.{Replaying.{keeps_itself, none_taken, taken_next}, ReplayTurns.{no_turns, turns_next, turns_of_all}}
 use Rattle.trace_drive.proofs.replay.Replay.advance.Goals as goal
 
 pub packets-init : goal.packets-init

@@ -1,6 +1,5 @@
 use Rattle.std.proofs.Common.{◌≡◌, ◌≤◌}
-use Rattle.trace_drive.specs.Follows.{Keeps}
-use Rattle.trace_drive.specs.Replays.{Advances, MakesTheirTurns, replay_fault, replay_pipeline}
+use Rattle.trace_drive.specs.{Follows.Keeps, Replays.{Advances, MakesTheirTurns, replay_fault, replay_pipeline}}
 use Rattle.trace_drive.proofs.replay.Replay.advance.Given as goal
 
 -- this many packets were taken

@@ -1,6 +1,5 @@
 use Rattle.std.proofs.Common.{◌+◌, Ok, ap, ◌∙◌, arith, refl, lit<}
-use Rattle.trace_drive.proofs.Ending.{places_kept}
-use Rattle.trace_drive.proofs.Following.{keeps_along}
+use Rattle.trace_drive.proofs.{Ending.places_kept, Following.keeps_along}
 use Rattle.trace_drive.proofs.Replaying.{at_the_end, keeps_itself, less_left, none_taken, taken_next}
 use Rattle.trace_drive.proofs.ReplayTurns.{no_turns, turns_next, turns_of_all}
 use Rattle.trace_drive.proofs.replay.Replay.finish.Goals as goal

@@ -1,7 +1,5 @@
 use Rattle.std.proofs.Common.{◌≡◌, ◌≤◌, ℕ, length}
-use Rattle.trace_drive.specs.Drives.{coming}
-use Rattle.trace_drive.specs.Follows.{Keeps}
-use Rattle.trace_drive.specs.Replays.{Advances, MakesTheirTurns, replay_fault, replay_pipeline}
+use Rattle.trace_drive.specs.{Drives.coming, Follows.Keeps, Replays.{Advances, MakesTheirTurns, replay_fault, replay_pipeline}}
 use Rattle.trace_drive.proofs.replay.Replay.finish.Given as goal
 
 -- some packets were taken, each with its turn

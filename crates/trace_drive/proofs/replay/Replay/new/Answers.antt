@@ -1,6 +1,5 @@
 use Rattle.std.proofs.Common.{refl, arith}
-use Rattle.trace_drive.specs.Drives.{coming}
-use Rattle.trace_drive.proofs.Replaying.{start_way}
+use Rattle.trace_drive.{specs.Drives.coming, proofs.Replaying.start_way}
 use Rattle.trace_drive.proofs.replay.Replay.new.Goals as goal
 
 pub returns-clause-under_way : goal.returns-clause-under_way

@@ -1,5 +1,4 @@
-use Rattle.std.proofs.Common.{ap, arith, drop, sym, length, ◌∙◌}
-use Rattle.std.proofs.lemmas.List.{take-append-le, take_all}
+use Rattle.std.proofs.{Common.{ap, arith, drop, sym, length, ◌∙◌}, lemmas.List.{take-append-le, take_all}}
 use Rattle.trace_ranges.proofs.WindowFacts.{before_keeps, inside_keeps}
 use Rattle.trace_ranges.proofs.window.Window.keep.Goals as goal
 

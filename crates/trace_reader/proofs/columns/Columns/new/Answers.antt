@@ -1,9 +1,7 @@
-use Rattle.std.proofs.Common.{rules, sym, ◌∙◌, ap, ◌++◌}
-use Rattle.std.proofs.lemmas.List.{append-nil, drop_all}
+use Rattle.std.proofs.{Common.{rules, sym, ◌∙◌, ap, ◌++◌}, lemmas.List.{append-nil, drop_all}}
 use Rattle.marple_base.specs.Field.{all_fields}
 use Rattle.marple_base.specs.declared.field.Field.TheVariants as f
-use Rattle.trace_reader.specs.Columns.{read_columns}
-use Rattle.trace_reader.proofs.WordFacts.{found_more, not_some, read_none, read_one}
+use Rattle.trace_reader.{specs.Columns.read_columns, proofs.WordFacts.{found_more, not_some, read_none, read_one}}
 use Rattle.trace_reader.proofs.columns.Columns.new.Goals as goal
 use Rattle.trace_reader.proofs.columns.Columns.new.Goals.{in-Some+in_ok-push, in_default}
 

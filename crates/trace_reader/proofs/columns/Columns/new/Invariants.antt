@@ -1,5 +1,4 @@
-use Rattle.std.proofs.Common.{◌≡◌, ◌++◌, drop}
-use Rattle.std.specs.List.{zip}
+use Rattle.std.{proofs.Common.{◌≡◌, ◌++◌, drop}, specs.List.zip}
 use Rattle.marple_base.specs.Field.{all_fields}
 use Rattle.trace_reader.specs.Columns.{read_columns, read_of}
 use Rattle.trace_reader.proofs.columns.Columns.new.Given as goal

@@ -1,6 +1,5 @@
 use Rattle.std.proofs.Common.{◌+◌, refl}
-use Rattle.trace_reader.specs.Traces.{Layout}
-use Rattle.trace_reader.specs.TraceView.{IsSoundAt}
+use Rattle.trace_reader.specs.{Traces.Layout, TraceView.IsSoundAt}
 use Rattle.trace_reader.specs.declared.trace.Progress.TheVariants as progress
 use Rattle.trace_reader.proofs.TraceFacts.{ended, packet_within, refused, taken}
 use Rattle.trace_reader.proofs.trace.Trace.next_into.Goals as goal

@@ -1,14 +1,10 @@
 use Rattle.std.proofs.Common.{◌≡◌, ◌++◌, ◌∷◌, ◌∙◌, [], List, Some, ap, arith, length, refl, set, slice_get, subst}
 use Rattle.std.proofs.lemmas.Option.{slice_get_read}
-use Rattle.marple_base.specs.declared.field.Packet.{Packet}
+use Rattle.marple_base.specs.{declared.field.Packet.Packet, Pieces.TakesAllBut, Sink.TakesFront}
 use Rattle.queue_sim.specs.TraceText.{fields_line}
 use Rattle.part_texts.specs.Texts.{part_by_hash}
-use Rattle.marple_base.specs.Pieces.{TakesAllBut}
-use Rattle.marple_base.specs.Sink.{TakesFront}
-use Rattle.trace_split.specs.Holding.{Holds, TakeFronts, Taken}
-use Rattle.trace_split.specs.PartTexts.{HoldsPackets, partition_of, texts_of}
-use Rattle.trace_split.proofs.AddFacts.{on_err, on_ok}
-use Rattle.trace_split.proofs.HoldFacts.{fronts_more, holds_add}
+use Rattle.trace_split.specs.{Holding.{Holds, TakeFronts, Taken}, PartTexts.{HoldsPackets, partition_of, texts_of}}
+use Rattle.trace_split.proofs.{AddFacts.{on_err, on_ok}, HoldFacts.{fronts_more, holds_add}}
 use Rattle.trace_split.proofs.texts.PartTexts.add.Goals as goal
 
 pub returns-clause-ok : goal.returns-clause-ok

@@ -1,10 +1,6 @@
-use Rattle.std.proofs.Common.{◌≡◌, ◌∙◌, [], arith, get_or, subst}
-use Rattle.std.specs.Io.KnownBytes.{Appends}
-use Rattle.std.proofs.lemmas.List.{get_or_read}
-use Rattle.marple_base.specs.Sink.{TakesFront}
-use Rattle.marple_base.proofs.Pieces.{on_err}
-use Rattle.trace_split.specs.PartTexts.{texts_of}
-use Rattle.trace_split.proofs.HoldFacts.{ended_all, ended_front, ended_more, ended_none}
+use Rattle.std.{proofs.{Common.{◌≡◌, ◌∙◌, [], arith, get_or, subst}, lemmas.List.get_or_read}, specs.Io.KnownBytes.Appends}
+use Rattle.marple_base.{specs.Sink.TakesFront, proofs.Pieces.on_err}
+use Rattle.trace_split.{specs.PartTexts.texts_of, proofs.HoldFacts.{ended_all, ended_front, ended_more, ended_none}}
 use Rattle.trace_split.proofs.texts.PartTexts.finish.Goals as goal
 
 pub loop-part-init : goal.loop-part-init

@@ -2,8 +2,7 @@ use Rattle.std.proofs.Common.{◌≡◌, ◌+◌, ◌∷◌, ◌∙◌, [], ap, 
 use Rattle.marple_base.specs.Field.{field_name}
 use Rattle.part_texts.specs.Texts.{part_by_hash}
 use Rattle.queue_sim.specs.TraceText.{line}
-use Rattle.trace_split.proofs.AddFacts.{holds_none}
-use Rattle.trace_split.proofs.ListFacts.{AllHave, all_none, all_push}
+use Rattle.trace_split.proofs.{AddFacts.holds_none, ListFacts.{AllHave, all_none, all_push}}
 use Rattle.trace_split.proofs.texts.PartTexts.new.Goals as goal
 
 pub loop-part-init : goal.loop-part-init
