@@ -17,7 +17,6 @@ pub struct Keys {
     ends: Vec<usize>,
 }
 
-// One step at each exit of an owner, where a derived drop would be one for each part.
 impl Drop for Keys {
     fn drop(self) {
         let Keys {

@@ -15,7 +15,6 @@ pub struct States {
     words: Vec<u64>,
 }
 
-// One step at each exit of an owner, where a derived drop would be one for each part.
 impl Drop for States {
     fn drop(self) {
         let States {

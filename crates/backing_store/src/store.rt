@@ -35,7 +35,6 @@ pub struct BackingStore {
     states: States,
 }
 
-// One step at each exit of an owner, where a derived drop would be one for each part.
 impl Drop for BackingStore {
     fn drop(self) {
         let BackingStore {

@@ -30,7 +30,6 @@ pub struct BucketCache<const WAYS: usize> {
     entries: Entries,
 }
 
-// One step at each exit of an owner, where a derived drop would be one for each part.
 impl<const WAYS: usize> Drop for BucketCache<WAYS> {
     fn drop(self) {
         let BucketCache {

@@ -14,7 +14,6 @@ pub struct Entries {
     words: Vec<u64>,
 }
 
-// One step at each exit of an owner, where a derived drop would be one for each part.
 impl Drop for Entries {
     fn drop(self) {
         let Entries {

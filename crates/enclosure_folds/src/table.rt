@@ -22,7 +22,6 @@ pub struct BoundsTable {
     pub rows: Seq<BoundsRow>,
 }
 
-// One step at each exit of an owner, where a derived drop would be one for each part.
 impl Drop for BoundsTable {
     fn drop(self) {
         let BoundsTable {
@@ -45,7 +44,6 @@ pub struct BoundsRow {
     pub high: Seq<u64>,
 }
 
-// One step at each exit of an owner, where a derived drop would be one for each part.
 impl Drop for BoundsRow {
     fn drop(self) {
         let BoundsRow {

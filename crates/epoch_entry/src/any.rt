@@ -22,7 +22,6 @@ pub enum AnyEpochs {
     Bounds(BoundsEpochs),
 }
 
-// One step at each exit of an owner, where a derived drop would be one for each part.
 impl Drop for AnyEpochs {
     fn drop(self) {
         match self {

@@ -26,7 +26,6 @@ pub struct Row {
     pub values: Seq<u64>,
 }
 
-// One step at each exit of an owner, where a derived drop would be one for each part.
 impl Drop for Row {
     fn drop(self) {
         let Row {

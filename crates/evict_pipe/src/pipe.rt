@@ -22,7 +22,6 @@ pub struct EvictPipe {
     words: Vec<u64>,
 }
 
-// One step at each exit of an owner, where a derived drop would be one for each part.
 impl Drop for EvictPipe {
     fn drop(self) {
         let EvictPipe {

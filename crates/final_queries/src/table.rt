@@ -12,7 +12,6 @@ pub struct Table {
     pub rows: Rows,
 }
 
-// One step at each exit of an owner, where a derived drop would be one for each part.
 impl Drop for Table {
     fn drop(self) {
         let Table {

@@ -21,7 +21,6 @@ pub struct Layout {
     pub statements: u32,
 }
 
-// One step at each exit of an owner, where a derived drop would be one for each part.
 impl Drop for Layout {
     fn drop(self) {
         let Layout {

@@ -23,7 +23,6 @@ pub struct FoldProgram {
     pub layout: Layout,
 }
 
-// One step at each exit of an owner, where a derived drop would be one for each part.
 impl Drop for FoldProgram {
     fn drop(self) {
         let FoldProgram {

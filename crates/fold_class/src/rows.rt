@@ -27,7 +27,6 @@ pub struct AffineRows {
     history: Seq<u8>,
 }
 
-// One step at each exit of an owner, where a derived drop would be one for each part.
 impl Drop for AffineRows {
     fn drop(self) {
         let AffineRows {

@@ -46,7 +46,6 @@ pub struct Group<const WAYS: usize> {
     store: BackingStore,
 }
 
-// One step at each exit of an owner, where a derived drop would be one for each part.
 impl<const WAYS: usize> Drop for Group<WAYS> {
     fn drop(self) {
         let Group {

@@ -48,7 +48,6 @@ pub struct Network<const WAYS: usize> {
     args: Vec<u64>,
 }
 
-// One step at each exit of an owner, where a derived drop would be one for each part.
 impl<const WAYS: usize> Drop for Network<WAYS> {
     fn drop(self) {
         let Network {

@@ -48,7 +48,6 @@ fn place_of(texts: &[Vec<u8>], prints: &[u64], text: &[u8], print: u64) -> usize
     texts.len()
 }
 
-// One step at each exit of an owner, where a derived drop would be one for each part.
 impl Drop for Names {
     fn drop(self) {
         let Names {

@@ -28,7 +28,6 @@ pub enum Item {
     Print(Name),
 }
 
-// One step at each exit of an owner, where a derived drop would be one for each part.
 impl Drop for Item {
     fn drop(self) {
         match self {
@@ -48,7 +47,6 @@ pub struct FoldDef {
     pub body: Seq<Stmt>,
 }
 
-// One step at each exit of an owner, where a derived drop would be one for each part.
 impl Drop for FoldDef {
     fn drop(self) {
         let FoldDef {
@@ -100,7 +98,6 @@ pub enum StreamOp {
     Group(Name, Seq<Key>, Name),
 }
 
-// One step at each exit of an owner, where a derived drop would be one for each part.
 impl Drop for StreamOp {
     fn drop(self) {
         match self {
@@ -128,7 +125,6 @@ pub enum FinalOp {
     Top(Name, Name, u64, Span),
 }
 
-// One step at each exit of an owner, where a derived drop would be one for each part.
 impl Drop for FinalOp {
     fn drop(self) {
         match self {

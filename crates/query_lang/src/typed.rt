@@ -22,7 +22,6 @@ pub struct TypedQuery {
     pub prints: Seq<PrintOf>,
 }
 
-// One step at each exit of an owner, where a derived drop would be one for each part.
 impl Drop for TypedQuery {
     fn drop(self) {
         let TypedQuery {
@@ -42,7 +41,6 @@ pub struct TypedStream {
     pub op: TypedOp,
 }
 
-// One step at each exit of an owner, where a derived drop would be one for each part.
 impl Drop for TypedStream {
     fn drop(self) {
         let TypedStream {
@@ -63,7 +61,6 @@ pub enum TypedOp {
     Group(u16, Seq<u16>, u16, Seq<u16>),
 }
 
-// One step at each exit of an owner, where a derived drop would be one for each part.
 impl Drop for TypedOp {
     fn drop(self) {
         match self {
@@ -83,7 +80,6 @@ pub struct TypedFinal {
     pub op: TypedFinalOp,
 }
 
-// One step at each exit of an owner, where a derived drop would be one for each part.
 impl Drop for TypedFinal {
     fn drop(self) {
         let TypedFinal {
@@ -105,7 +101,6 @@ pub enum TypedFinalOp {
     Top(u16, u16, u64),
 }
 
-// One step at each exit of an owner, where a derived drop would be one for each part.
 impl Drop for TypedFinalOp {
     fn drop(self) {
         match self {

@@ -71,7 +71,6 @@ pub struct FoldView {
     pub emits: bool,
 }
 
-// One step at each exit of an owner, where a derived drop would be one for each part.
 impl Drop for FoldView {
     fn drop(self) {
         let FoldView {
@@ -90,7 +89,6 @@ pub struct TableView {
     pub keys: u8,
 }
 
-// One step at each exit of an owner, where a derived drop would be one for each part.
 impl Drop for TableView {
     fn drop(self) {
         let TableView {
@@ -110,7 +108,6 @@ pub struct StreamView {
     pub table: Option<TableView>,
 }
 
-// One step at each exit of an owner, where a derived drop would be one for each part.
 impl Drop for StreamView {
     fn drop(self) {
         let StreamView {

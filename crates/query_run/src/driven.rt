@@ -12,7 +12,6 @@ pub enum Driven {
     Ways32(Pipeline<32>),
 }
 
-// One step at each exit of an owner, where a derived drop would be one for each part.
 impl Drop for Driven {
     fn drop(self) {
         match self {

@@ -19,7 +19,6 @@ pub(crate) struct Generator {
     queues: Vec<Queue>,
 }
 
-// One step at each exit of an owner, where a derived drop would be one for each part.
 impl Drop for Generator {
     fn drop(self) {
         let Generator {

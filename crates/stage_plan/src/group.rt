@@ -11,7 +11,6 @@ pub struct GroupWiring {
     pub args: Seq<Operand>,
 }
 
-// One step at each exit of an owner, where a derived drop would be one for each part.
 impl Drop for GroupWiring {
     fn drop(self) {
         let GroupWiring {
@@ -30,7 +29,6 @@ pub struct GroupPlan {
     pub program: FoldProgram,
 }
 
-// One step at each exit of an owner, where a derived drop would be one for each part.
 impl Drop for GroupPlan {
     fn drop(self) {
         let GroupPlan {

@@ -24,7 +24,6 @@ pub struct Plan {
     chain: Seq<u32>,
 }
 
-// One step at each exit of an owner, where a derived drop would be one for each part.
 impl Drop for Plan {
     fn drop(self) {
         let Plan {

@@ -46,7 +46,6 @@ pub struct Pipeline<const WAYS: usize> {
     args: Vec<u64>,
 }
 
-// One step at each exit of an owner, where a derived drop would be one for each part.
 impl<const WAYS: usize> Drop for Pipeline<WAYS> {
     fn drop(self) {
         let Pipeline {

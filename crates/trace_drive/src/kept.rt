@@ -20,7 +20,6 @@ pub struct KeptPackets {
     count: usize,
 }
 
-// One step at each exit of an owner, where a derived drop would be one for each part.
 impl Drop for KeptPackets {
     fn drop(self) {
         let KeptPackets {

@@ -16,7 +16,6 @@ pub enum Packets<'a> {
     Trace(Trace<'a>),
 }
 
-// One step at each exit of an owner, where a derived drop would be one for each part.
 impl Drop for Packets<'_> {
     fn drop(self) {
         match self {

@@ -33,7 +33,6 @@ pub struct Records<'a> {
     row: ByteRecord,
 }
 
-// One step at each exit of an owner, where a derived drop would be one for each part.
 impl Drop for Records<'_> {
     fn drop(self) {
         let Records {

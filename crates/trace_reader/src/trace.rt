@@ -30,7 +30,6 @@ pub struct Trace<'a> {
     progress: Progress,
 }
 
-// One step at each exit of an owner, where a derived drop would be one for each part.
 impl Drop for Trace<'_> {
     fn drop(self) {
         let Trace {
