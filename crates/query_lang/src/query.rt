@@ -31,10 +31,7 @@ pub enum Item {
 impl Drop for Item {
     fn drop(self) {
         match self {
-            Item::Fold(_) => {}
-            Item::Stream(_) => {}
-            Item::Final(_) => {}
-            Item::Print(_) => {}
+            Item::Fold(_) | Item::Stream(_) | Item::Final(_) | Item::Print(_) => {}
         }
     }
 }
@@ -101,10 +98,10 @@ pub enum StreamOp {
 impl Drop for StreamOp {
     fn drop(self) {
         match self {
-            StreamOp::Filter(_, _) => {}
-            StreamOp::Map(_, _) => {}
-            StreamOp::Zip(_, _) => {}
-            StreamOp::Group(_, _, _) => {}
+            StreamOp::Filter(_, _)
+            | StreamOp::Map(_, _)
+            | StreamOp::Zip(_, _)
+            | StreamOp::Group(_, _, _) => {}
         }
     }
 }
@@ -128,11 +125,11 @@ pub enum FinalOp {
 impl Drop for FinalOp {
     fn drop(self) {
         match self {
-            FinalOp::Filter(_, _) => {}
-            FinalOp::Map(_, _) => {}
-            FinalOp::Group(_, _, _) => {}
-            FinalOp::Join(_, _) => {}
-            FinalOp::Top(_, _, _, _) => {}
+            FinalOp::Filter(_, _)
+            | FinalOp::Map(_, _)
+            | FinalOp::Group(_, _, _)
+            | FinalOp::Join(_, _)
+            | FinalOp::Top(_, _, _, _) => {}
         }
     }
 }

@@ -64,10 +64,10 @@ pub enum TypedOp {
 impl Drop for TypedOp {
     fn drop(self) {
         match self {
-            TypedOp::Filter(_, _) => {}
-            TypedOp::Map(_, _) => {}
-            TypedOp::Zip(_, _, _) => {}
-            TypedOp::Group(_, _, _, _) => {}
+            TypedOp::Filter(_, _)
+            | TypedOp::Map(_, _)
+            | TypedOp::Zip(_, _, _)
+            | TypedOp::Group(_, _, _, _) => {}
         }
     }
 }
@@ -104,11 +104,11 @@ pub enum TypedFinalOp {
 impl Drop for TypedFinalOp {
     fn drop(self) {
         match self {
-            TypedFinalOp::Filter(_, _) => {}
-            TypedFinalOp::Map(_, _) => {}
-            TypedFinalOp::Group(_, _, _, _) => {}
-            TypedFinalOp::Join(_, _) => {}
-            TypedFinalOp::Top(_, _, _) => {}
+            TypedFinalOp::Filter(_, _)
+            | TypedFinalOp::Map(_, _)
+            | TypedFinalOp::Group(_, _, _, _)
+            | TypedFinalOp::Join(_, _)
+            | TypedFinalOp::Top(_, _, _) => {}
         }
     }
 }

@@ -64,6 +64,7 @@ pub struct NewColumns {
 }
 
 /// A fold that a name denotes. Folds are numbered from 0.
+#[derive(Drop)]
 pub struct FoldView {
     pub number: u16,
     pub states: Seq<u32>,
@@ -71,52 +72,22 @@ pub struct FoldView {
     pub emits: bool,
 }
 
-impl Drop for FoldView {
-    fn drop(self) {
-        let FoldView {
-            number: _,
-            states: _,
-            args: _,
-            emits: _,
-        } = self;
-    }
-}
-
 /// A table that a name denotes: its columns are the keys, and then the rest.
+#[derive(Drop)]
 pub struct TableView {
     pub place: PrintOf,
     pub columns: Seq<u32>,
     pub keys: u8,
 }
 
-impl Drop for TableView {
-    fn drop(self) {
-        let TableView {
-            place: _,
-            columns: _,
-            keys: _,
-        } = self;
-    }
-}
-
 /// A stream that a name denotes, with the state variables that may not be read while packets pass, and the table where
 /// the stream is a groupby's.
+#[derive(Drop)]
 pub struct StreamView {
     pub number: u16,
     pub columns: Seq<StreamColumn>,
     pub hidden: Seq<u32>,
     pub table: Option<TableView>,
-}
-
-impl Drop for StreamView {
-    fn drop(self) {
-        let StreamView {
-            number: _,
-            columns: _,
-            hidden: _,
-            table: _,
-        } = self;
-    }
 }
 
 /// What a name denotes.

@@ -1,7 +1,0 @@
-use Rattle.std.{proofs.Common.{◌≡◌, drop}, specs.List.list_any}
-use Rattle.query_lang.specs.Checks.{is_among}
-use Rattle.query_types.proofs.tables.has_common.Given as goal
-
-abbrev pub invariant-loop-name : goal.invariant-loop-name
-invariant-loop-name l = list_any (λ name. is_among name l.columns) (drop l.name-index l.others) ≡ list_any (λ name. is_among name l.columns)
-    l.others
