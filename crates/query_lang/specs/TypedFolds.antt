@@ -152,19 +152,22 @@ fold_nodes d = sum_by stmt_nodes d.body
 abbrev pub fold_statements : FoldDef → ℕ
 fold_statements d = sum_by stmt_count d.body
 
+-- the fold with these state variables, arguments and statements
+abbrev pub fold_with : FoldDef → List ℕ → List ℕ → Body → TypedFold
+fold_with d states args body = record {
+  name = d.name;
+  state_names = states;
+  initial = map (λ state. state.initial) d.states;
+  arg_names = args;
+  body = body.statements;
+  emit = body.emit;
+  nodes = fold_nodes d;
+  statements = fold_statements d;
+}
+
 -- a fold: its state variables, its arguments, and then its body
 abbrev pub fold_checked : FoldDef → Checked TypedFold
 fold_checked d =
     and_then (states_from [] d.states) (λ states.
     and_then (args_from states [] d.args) (λ args.
-    and_then (body_checked states args d.body) (λ body.
-    Ok (record {
-      name = d.name;
-      state_names = states;
-      initial = map (λ state. state.initial) d.states;
-      arg_names = args;
-      body = body.statements;
-      emit = body.emit;
-      nodes = fold_nodes d;
-      statements = fold_statements d;
-    }))))
+    and_then (body_checked states args d.body) (λ body. Ok (fold_with d states args body))))
