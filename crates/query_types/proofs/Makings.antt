@@ -8,7 +8,7 @@ use Rattle.query_lang.specs.declared.typing.{FoldView.FoldView, Given.Given, Mad
 use Rattle.query_lang.specs.declared.typing.{NewColumns.NewColumns, Picked.Picked, StreamView.StreamView, TableView.TableView}
 use Rattle.query_lang.specs.{declared.fault.TheConstants.{MAX_BINDINGS, MAX_GROUPBYS}, Checks.is_among, TypedExprs.{slot_of, condition_of}}
 use Rattle.query_lang.specs.Typing.{with_fold, item_checked}
-use Rattle.query_lang.specs.TypedFolds.{states_from, args_from, body_checked, fold_nodes, fold_statements, fold_checked}
+use Rattle.query_lang.specs.TypedFolds.{states_from, args_from, body_checked, fold_with, fold_checked}
 use Rattle.query_lang.specs.TypedStreams.{meaning_of, begun, stream_named, fold_named, column_names, new_columns, no_new_columns, clash}
 use Rattle.query_lang.specs.TypedStreams.{others_from, columns_at, keys_checked, arguments_of, next_stream, made_stream, with_stream}
 use Rattle.query_lang.specs.TypedFinals.{table_named, table_number, five_fields, quiet_fold, same_names, key_columns, other_columns}
@@ -159,16 +159,7 @@ final_made given e (final_ops.Top input column kept span) made h =
 pub data FoldMade (d : FoldDef) : TypedFold → Type 0 where
   folded : (states args : List ℕ) (body : Body) → states_from [] d.states ≡ Ok states → args_from states [] d.args ≡ Ok args
       → body_checked states args d.body ≡ Ok body
-      → FoldMade d (record {
-        name = d.name;
-        state_names = states;
-        initial = map (λ state. state.initial) d.states;
-        arg_names = args;
-        body = body.statements;
-        emit = body.emit;
-        nodes = fold_nodes d;
-        statements = fold_statements d;
-      })
+      → FoldMade d (fold_with d states args body)
 
 pub fold_made : (d : FoldDef) (f : TypedFold) → fold_checked d ≡ Ok f → FoldMade d f
 fold_made d f h =

@@ -1,10 +1,10 @@
 -- The parts of a fold's statements: its names, an assignment, and what opens a choice.
-use Rattle.std.specs.Prelude.{◌≡◌, ◌≤◌, ℕ, List, [], ◌∷◌, ◌++◌, length, map, Ok}
+use Rattle.std.specs.Prelude.{◌≡◌, ◌≤◌, ℕ, List, [], ◌∷◌, ◌++◌, length, Ok}
 use Rattle.query_lang.specs.declared.fold.TypedExpr.TheVariants as typed
 use Rattle.query_lang.specs.declared.fold.TypedStmt.TheVariants as typed_stmt
-use Rattle.query_lang.specs.declared.{fold.TypedFold.TypedFold, query.{FoldDef.FoldDef, Expr.Expr, Name.Name}, typing.Body.Body}
+use Rattle.query_lang.specs.declared.{query.{Expr.Expr, Name.Name}, typing.Body.Body}
 use Rattle.query_lang.specs.{declared.typing.Enclosing.Enclosing, Checks.{Checked, and_then}, TypedExprs.{condition_of, word_of}}
-use Rattle.query_lang.specs.TypedFolds.{target_of, inside, fold_nodes, fold_statements}
+use Rattle.query_lang.specs.TypedFolds.{target_of, inside}
 use Rattle.query_types.specs.declared.bodies.{Choice.Choice, Scope.Scope}
 
 -- the columns are the state variables and then the arguments, and each has a slot
@@ -25,16 +25,3 @@ abbrev pub choice_of : List ℕ → List ℕ → Enclosing → Expr → Checked 
 choice_of states args outer c =
     and_then (condition_of (states ++ args) [] c) (λ condition.
     Ok (record { condition = condition; holding = inside states outer c condition; failing = inside states outer c (typed.Not condition) }))
-
--- the fold with these variables, arguments and statements
-abbrev pub with_parts : FoldDef → List ℕ → List ℕ → Body → TypedFold
-with_parts d states args body = record {
-  name = d.name;
-  state_names = states;
-  initial = map (λ state. state.initial) d.states;
-  arg_names = args;
-  body = body.statements;
-  emit = body.emit;
-  nodes = fold_nodes d;
-  statements = fold_statements d;
-}

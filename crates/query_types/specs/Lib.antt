@@ -2,7 +2,6 @@ pub mod Answers
 pub mod Bodies
 pub mod CheckedItems
 pub mod Fitting
-pub mod MadeFinals
 pub mod MadeStreams
 pub mod Numbers
 pub mod UseExamples

@@ -7,7 +7,7 @@ ghost use Rattle.query_types.specs.{Answers.Leaves, Bodies.{IsScope, choice_of, 
 ghost use Rattle.query_types.specs.Numbers.{greatest_of, greatest_number, greatest_in};
 
 use crate::answer::{fault, refused};
-use crate::copies::{copy_expr, names_of_both};
+use crate::copies::{both_lists, copy_expr};
 use crate::exprs::{check_condition, check_word, find_place, has_name, typed_binary};
 use marple_base::{Boxed, Seq};
 use query_lang::typing::{Body, Enclosing};
@@ -33,13 +33,8 @@ fn find_target(scope: Scope<'_>, name: Name) -> Result<u16, QueryFault>
 {
     match find_place(scope.states, name.id) {
         Some(at) => Ok(at as u16),
-        None => {
-            if has_name(scope.args, name.id) {
-                Err(fault(FaultKind::WrongKind, name.span))
-            } else {
-                Err(fault(FaultKind::UnknownName, name.span))
-            }
-        }
+        None if has_name(scope.args, name.id) => Err(fault(FaultKind::WrongKind, name.span)),
+        None => Err(fault(FaultKind::UnknownName, name.span)),
     }
 }
 
@@ -49,21 +44,11 @@ fn find_state(states: &[u32], e: &Expr) -> Option<Span>
 {
     match e {
         Expr::Number(_, _) => None,
-        Expr::Named(name) => {
-            if has_name(states, name.id) {
-                Some(name.span)
-            } else {
-                None
-            }
-        }
+        Expr::Named(name) => has_name(states, name.id).then_some(name.span),
         Expr::Not(_, inner) => find_state(states, inner.get()),
         Expr::Binary(_, _, left, right) => {
             let first = find_state(states, left.get());
-            let second = find_state(states, right.get());
-            match first {
-                Some(at) => Some(at),
-                None => second,
-            }
+            first.or(find_state(states, right.get()))
         }
         Expr::Call(_, _, arguments) => {
             'arguments: for argument in arguments.as_slice() {
@@ -98,15 +83,16 @@ fn fold_condition(alloc: Global, scope: Scope<'_>, e: &Expr) -> Result<TypedExpr
 fn join_conditions(
     alloc: Global,
     outer: &Option<TypedExpr>,
-    condition: TypedExpr,
+    condition: &TypedExpr,
 ) -> Result<TypedExpr, AllocError>
-    ensures { IfOk result (λ whole. whole ≡ joined outer.now condition) }
+    ensures { IfOk result (λ whole. whole ≡ joined outer.now condition.now) }
 {
     match outer {
-        None => Ok(condition),
+        None => copy_expr(alloc, condition),
         Some(around) => {
             let first = copy_expr(alloc, around)?;
-            typed_binary(alloc, Op::Both, first, condition)
+            let second = copy_expr(alloc, condition)?;
+            typed_binary(alloc, Op::Both, first, second)
         }
     }
 }
@@ -117,48 +103,23 @@ fn enclose(
     states: &[u32],
     outer: &Enclosing,
     written: &Expr,
-    condition: TypedExpr,
-) -> Result<Enclosing, AllocError>
-    ensures { IfOk result (λ inner. inner ≡ inside states.now outer.now written.now condition) }
-{
-    let whole = join_conditions(alloc, &outer.condition, condition)?;
-    let state = match outer.state {
-        Some(at) => Some(at),
-        None => find_state(states, written),
-    };
-    Ok(Enclosing {
-        condition: Some(whole),
-        state,
-    })
-}
-
-// What encloses the statements of the first block of a choice.
-fn enclose_first(
-    alloc: Global,
-    states: &[u32],
-    outer: &Enclosing,
-    written: &Expr,
     condition: &TypedExpr,
 ) -> Result<Enclosing, AllocError>
     ensures { IfOk result (λ inner. inner ≡ inside states.now outer.now written.now condition.now) }
 {
-    let copy = copy_expr(alloc, condition)?;
-    enclose(alloc, states, outer, written, copy)
+    let whole = join_conditions(alloc, &outer.condition, condition)?;
+    Ok(Enclosing {
+        condition: Some(whole),
+        state: outer.state.or(find_state(states, written)),
+    })
 }
 
-// What encloses the statements of its second block, where the condition doesn't hold.
-fn enclose_second(
-    alloc: Global,
-    states: &[u32],
-    outer: &Enclosing,
-    written: &Expr,
-    condition: &TypedExpr,
-) -> Result<Enclosing, AllocError>
-    ensures { IfOk result (λ inner. inner ≡ inside states.now outer.now written.now (TypedExpr.Not condition.now)) }
+// The condition that holds where this one doesn't.
+fn opposite(alloc: Global, condition: &TypedExpr) -> Result<TypedExpr, AllocError>
+    ensures { IfOk result (λ e. e ≡ TypedExpr.Not condition.now) }
 {
     let copy = copy_expr(alloc, condition)?;
-    let opposite = TypedExpr::Not(Boxed::new(alloc, copy)?);
-    enclose(alloc, states, outer, written, opposite)
+    Ok(TypedExpr::Not(Boxed::new(alloc, copy)?))
 }
 
 // The condition of an `emit` from those that enclose it.
@@ -191,8 +152,9 @@ fn open_choice(
     ensures numbers { IfOk result (λ _. greatest_number written.now < 2 ^ 64) }
 {
     let condition = fold_condition(alloc, scope, written)?;
-    let holding = enclose_first(alloc, scope.states, outer, written, &condition)?;
-    let failing = enclose_second(alloc, scope.states, outer, written, &condition)?;
+    let holding = enclose(alloc, scope.states, outer, written, &condition)?;
+    let opposite = opposite(alloc, &condition)?;
+    let failing = enclose(alloc, scope.states, outer, written, &opposite)?;
     let choice = Choice {
         condition,
         holding,
@@ -350,7 +312,7 @@ pub fn check_body(
     ensures given { Answers result (body_checked states.now args.now body.now) }
     ensures numbers { IfOk result (λ _. greatest_of (map greatest_in body.now) < 2 ^ 64) }
 {
-    let columns = names_of_both(alloc, states, args)?;
+    let columns = both_lists(alloc, states, args)?;
     let scope = Scope {
         states,
         args,

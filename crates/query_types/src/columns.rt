@@ -1,6 +1,6 @@
 //! Columns: those that a `map` adds, those of a `zip`, keys, and the arguments of a fold.
 
-ghost use Rattle.std.specs.{Prelude.{◌≡◌, ◌<◌, ◌≤◌, ◌^◌, ◌++◌, ◌||◌, [], Ok, IfOk, OnOk, length, map, flat_map, slice_get}, List.list_any};
+ghost use Rattle.std.specs.Prelude.{◌≡◌, ◌<◌, ◌≤◌, ◌^◌, ◌++◌, ◌||◌, [], Ok, IfOk, OnOk, length, map, flat_map, slice_get};
 ghost use Rattle.query_lang.specs.{Checks.{collected, is_among}, TypedExprs.slot_of, TypedStreams.{new_columns, no_new_columns}};
 ghost use Rattle.query_lang.specs.TypedStreams.{same_origin, clashes_with, clash, column_names, others_from, columns_at, key_names};
 ghost use Rattle.query_lang.specs.{TypedStreams.{keys_from, keys_checked, arguments_of}, Answers.Answers};
@@ -8,7 +8,7 @@ ghost use Rattle.query_types.specs.{Answers.Leaves, Fitting.IsNarrow, MadeStream
 ghost use Rattle.query_types.specs.Numbers.{columns_number, greatest_number};
 
 use crate::answer::refused;
-use crate::exprs::{check_word, find_slot, has_name};
+use crate::exprs::{check_word, find_slot, has_common, has_name};
 use marple_base::Seq;
 use query_lang::typing::{FoldView, NewColumns, Origin, Picked, StreamColumn};
 use query_lang::{Column, FaultKind, Key, Limit, MAX_KEYS, Name, QueryError, Span};
@@ -68,52 +68,47 @@ fn add_column(
 pub fn names_of(alloc: Global, columns: &[StreamColumn]) -> Result<Seq<u32>, AllocError>
     ensures { IfOk result (λ names. names ≡ column_names columns.now) }
 {
-    let mut names = Seq::new(alloc);
-    for column in columns {
-        names.push(column.name)?;
+    let names = columns.iter().map(|column| column.name).collect(alloc)?;
+    Ok(Seq::from_vec(names))
+}
+
+/// Columns of these names and of one origin, after others.
+pub fn add_columns(
+    columns: &mut Seq<StreamColumn>,
+    origin: Origin,
+    names: &[u32],
+) -> Result<(), AllocError>
+    ensures { OnOk result (columns.new ≡ columns.old ++ map (λ name. record { name = name; origin = origin }) names.now) }
+{
+    for name in names {
+        columns.push(StreamColumn {
+            name: *name,
+            origin,
+        })?;
     }
-    Ok(names)
+    Ok(())
 }
 
 // Have two columns of one name the same values?
 fn is_same_origin(left: Origin, right: Origin) -> bool
     ensures { result ≡ same_origin left right }
 {
-    match left {
-        Origin::Field => match right {
-            Origin::Field => true,
-            Origin::Map(_) => false,
-        },
-        Origin::Map(a) => match right {
-            Origin::Field => false,
-            Origin::Map(b) => a == b,
-        },
-    }
+    left == right
 }
 
 // Has the left another column of this name?
 fn column_clashes(left: &[StreamColumn], column: StreamColumn) -> bool
     ensures { result ≡ clashes_with left.now column }
 {
-    for other in left {
-        let is_same = is_same_origin(other.origin, column.origin);
-        if other.name == column.name && !is_same {
-            return true;
-        }
-    }
-    false
+    left.iter().any(|other| other.name == column.name
+        && !is_same_origin(other.origin, column.origin))
 }
 
 /// Have both sides of a `zip` a column of one name that isn't the same column?
 pub fn columns_clash(left: &[StreamColumn], right: &[StreamColumn]) -> bool
     ensures { result ≡ clash left.now right.now }
 {
-    for column in right {
-        if column_clashes(left, *column) {
-            return true;
-        }
-    }
-    false
+    right.iter().any(|column| column_clashes(left, *column))
 }
 
 /// The slots of the columns that aren't among these names.
@@ -138,12 +133,7 @@ pub fn other_slots(
 fn column_at(columns: &[StreamColumn], slot: u16) -> Option<StreamColumn>
     ensures { result ≡ slice_get columns.now slot }
 {
-    let at = usize::from(slot);
-    if at < columns.len() {
-        Some(columns[at])
-    } else {
-        None
-    }
+    columns.get(usize::from(slot)).copied()
 }
 
 /// The columns at these slots.
@@ -262,18 +252,6 @@ fn argument_slots(
     Ok(slots)
 }
 
-// Has a state variable the name of a key?
-fn has_key_state(f: &FoldView, keys: &[u32]) -> bool
-    ensures { result ≡ list_any (λ state. is_among state keys.now) f.now.states }
-{
-    for state in f.states.as_slice() {
-        if has_name(keys, *state) {
-            return true;
-        }
-    }
-    false
-}
-
 /// The columns that are a fold's arguments, where no state variable has the name of a key. The faults are at the fold's name.
 pub fn check_arguments(
     alloc: Global,
@@ -287,7 +265,7 @@ pub fn check_arguments(
     ensures { Answers result (arguments_of columns.now hidden.now keys.now f.now span) }
 {
     let slots = argument_slots(alloc, columns, hidden, f, span)?;
-    if has_key_state(f, keys) {
+    if has_common(f.states.as_slice(), keys) {
         return Err(refused(FaultKind::NameTaken, span));
     }
     Ok(slots)

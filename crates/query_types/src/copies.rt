@@ -1,4 +1,4 @@
-//! Copies of expressions and of lists of names.
+//! Copies of expressions and of lists.
 
 ghost use Rattle.std.specs.Prelude.{◌≡◌, ◌++◌, IfOk};
 
@@ -26,18 +26,18 @@ pub fn copy_expr(alloc: Global, e: &TypedExpr) -> Result<TypedExpr, AllocError>
     }
 }
 
-/// A copy of a list of names.
-pub fn copy_words(alloc: Global, words: &[u32]) -> Result<Seq<u32>, AllocError>
-    ensures { IfOk result (λ copy. copy ≡ words.now) }
+/// A copy of a list.
+pub fn copy_list<T: Copy>(alloc: Global, items: &[T]) -> Result<Seq<T>, AllocError>
+    ensures { IfOk result (λ copy. copy ≡ items.now) }
 {
-    Ok(Seq::from_vec(Vec::from_slice(alloc, words)?))
+    Ok(Seq::from_vec(Vec::from_slice(alloc, items)?))
 }
 
-/// One list of names after another.
-pub fn names_of_both(alloc: Global, first: &[u32], second: &[u32]) -> Result<Seq<u32>, AllocError>
-    ensures { IfOk result (λ names. names ≡ first.now ++ second.now) }
+/// One list after another.
+pub fn both_lists<T: Copy>(alloc: Global, first: &[T], second: &[T]) -> Result<Seq<T>, AllocError>
+    ensures { IfOk result (λ both. both ≡ first.now ++ second.now) }
 {
-    let mut names = Vec::from_slice(alloc, first)?;
-    names.extend_from_slice(second)?;
-    Ok(Seq::from_vec(names))
+    let mut both = Vec::from_slice(alloc, first)?;
+    both.extend_from_slice(second)?;
+    Ok(Seq::from_vec(both))
 }

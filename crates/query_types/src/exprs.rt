@@ -1,6 +1,6 @@
 //! Expressions over columns.
 
-ghost use Rattle.std.specs.Prelude.{◌≡◌, ◌<◌, ◌^◌, ◌∷◌, [], IfOk, IfSome, length, map};
+ghost use Rattle.std.specs.{Prelude.{◌≡◌, ◌<◌, ◌^◌, ◌∷◌, [], IfOk, IfSome, length, map}, List.list_any};
 ghost use Rattle.query_lang.specs.{Checks.{collected, is_among, place_of}, TypedExprs.{slot_of, is_condition_sort, is_operand}};
 ghost use Rattle.query_lang.specs.TypedExprs.{is_right_constant, sort_of, of_two, call_of, negation_checked, expr_checked, condition_of};
 ghost use Rattle.query_lang.specs.{TypedExprs.word_of, Answers.Answers};
@@ -17,6 +17,13 @@ pub fn has_name(names: &[u32], id: u32) -> bool
     ensures { result ≡ is_among id names.now }
 {
     names.contains(&id)
+}
+
+/// Is one of the names among the others?
+pub fn has_common(names: &[u32], others: &[u32]) -> bool
+    ensures { result ≡ list_any (λ name. is_among name others.now) names.now }
+{
+    names.iter().any(|name| has_name(others, *name))
 }
 
 /// The name's place among these.
@@ -39,23 +46,15 @@ pub fn find_slot(columns: &[u32], hidden: &[u32], name: Name) -> Result<u16, Que
 {
     match find_place(columns, name.id) {
         Some(at) => Ok(at as u16),
-        None => {
-            if has_name(hidden, name.id) {
-                Err(fault(FaultKind::StateOnLine, name.span))
-            } else {
-                Err(fault(FaultKind::UnknownName, name.span))
-            }
-        }
+        None if has_name(hidden, name.id) => Err(fault(FaultKind::StateOnLine, name.span)),
+        None => Err(fault(FaultKind::UnknownName, name.span)),
     }
 }
 
 fn is_condition(sort: Sort) -> bool
     ensures { result ≡ is_condition_sort sort }
 {
-    match sort {
-        Sort::Condition => true,
-        Sort::Number(_) | Sort::Word => false,
-    }
+    matches!(sort, Sort::Condition)
 }
 
 // Is this allowed beside the operator?
@@ -73,14 +72,8 @@ fn fits_right(op: Op, sort: Sort) -> bool
     ensures { result ≡ is_right_constant op sort }
 {
     match op {
-        Op::Div | Op::Rem => match sort {
-            Sort::Number(n) => 0 < n,
-            Sort::Word | Sort::Condition => false,
-        },
-        Op::Shl | Op::Shr | Op::Decay => match sort {
-            Sort::Number(n) => n < 64,
-            Sort::Word | Sort::Condition => false,
-        },
+        Op::Div | Op::Rem => matches!(sort, Sort::Number(n) if 0 < n),
+        Op::Shl | Op::Shr | Op::Decay => matches!(sort, Sort::Number(n) if n < 64),
         _ => true,
     }
 }

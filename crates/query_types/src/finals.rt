@@ -1,17 +1,14 @@
 //! Finals.
 
-ghost use Rattle.std.specs.Prelude.{◌≡◌, ◌+◌, ◌<◌, ◌≤◌, ◌^◌, ◌++◌, [], Ok, IfOk, OnOk, length};
-ghost use Rattle.query_lang.specs.TypedExprs.{condition_of, slot_of};
-ghost use Rattle.query_lang.specs.{TypedStreams.{new_columns, no_new_columns, keys_checked, arguments_of}, TypedFinals.table_number};
+ghost use Rattle.std.specs.Prelude.{◌≡◌, ◌+◌, ◌<◌, ◌≤◌, ◌^◌, ◌++◌, Ok, IfOk, OnOk, length};
 ghost use Rattle.query_lang.specs.TypedFinals.{five_fields, final_filter, final_map, final_group, final_join, final_top, made_final};
 ghost use Rattle.query_lang.specs.{TypedFinals.{with_final, final_checked}, Answers.Answers};
-ghost use Rattle.query_types.specs.{Answers.Leaves, Fitting.{Fits, IsEarly, IsNarrow}};
-ghost use Rattle.query_types.specs.MadeFinals.{with_values, with_table_keys, with_others, with_kept};
+ghost use Rattle.query_types.specs.{Answers.Leaves, Fitting.Fits};
 ghost use Rattle.query_types.specs.Numbers.{greatest_number, columns_number, final_number};
 
 use crate::answer::refused;
 use crate::columns::{check_arguments, check_columns, check_keys};
-use crate::copies::{copy_words, names_of_both};
+use crate::copies::{both_lists, copy_list};
 use crate::exprs::{check_condition, find_slot};
 use crate::groupbys::key_count;
 use crate::tables::{number_of_table, others_clash, others_of, same_keys};
@@ -22,29 +19,38 @@ use query_lang::typing::{
 };
 use query_lang::{
     Column, Expr, FaultKind, FinalDef, FinalOp, Key, MAX_BINDINGS, MAX_GROUPBYS, MAX_KEYS, Name,
-    PrintOf, QueryError, QueryFault, Span, TypedExpr, TypedFinal, TypedFinalOp,
+    PrintOf, QueryError, Span, TypedFinal, TypedFinalOp,
 };
 use std::alloc::{AllocError, Global};
 
-// A filter: it keeps the columns of its input.
-fn made_filter(
+// A final with the columns of its input.
+fn with_same_columns(
     alloc: Global,
-    groups: u16,
     source: &TableView,
-    condition: TypedExpr,
+    op: TypedFinalOp,
 ) -> Result<MadeFinal, QueryError>
-    requires groups { groups ≤ MAX_GROUPBYS }
-    requires early { IsEarly source.now.place }
-    ensures { Answers result (Ok (record {
-      op = TypedFinalOp.Filter (table_number groups source.now.place) condition;
-      columns = source.now.columns;
-      keys = source.now.keys;
-    })) }
+    ensures { Answers result (Ok (record { op = op; columns = source.now.columns; keys = source.now.keys })) }
 {
-    let number = number_of_table(groups, source.place);
-    let columns = copy_words(alloc, source.columns.as_slice())?;
+    let columns = copy_list(alloc, source.columns.as_slice())?;
     Ok(MadeFinal {
-        op: TypedFinalOp::Filter(number, condition),
+        op,
+        columns,
+        keys: source.keys,
+    })
+}
+
+// A final with the columns of its input, and then others.
+fn with_more_columns(
+    alloc: Global,
+    source: &TableView,
+    more: &[u32],
+    op: TypedFinalOp,
+) -> Result<MadeFinal, QueryError>
+    ensures { Answers result (Ok (record { op = op; columns = source.now.columns ++ more.now; keys = source.now.keys })) }
+{
+    let columns = both_lists(alloc, source.columns.as_slice(), more)?;
+    Ok(MadeFinal {
+        op,
         columns,
         keys: source.keys,
     })
@@ -63,50 +69,9 @@ fn check_filter(
     ensures numbers { IfOk result (λ _. greatest_number e.now < 2 ^ 64) }
 {
     let source = find_table(earlier, input)?;
-    let condition = table_condition(alloc, source, e)?;
-    made_filter(alloc, groups, source, condition)
-}
-
-// The condition of a filter over a table.
-fn table_condition(alloc: Global, source: &TableView, e: &Expr) -> Result<TypedExpr, QueryError>
-    requires { IsNarrow source.now.columns }
-    ensures given { Answers result (condition_of source.now.columns [] e.now) }
-    ensures numbers { IfOk result (λ _. greatest_number e.now < 2 ^ 64) }
-{
-    check_condition(alloc, source.columns.as_slice(), &[], e)
-}
-
-// The new columns of a map over a table.
-fn table_columns(
-    alloc: Global,
-    source: &TableView,
-    columns: &[Column],
-) -> Result<NewColumns, QueryError>
-    requires { IsNarrow source.now.columns }
-    ensures given { Answers result (new_columns source.now.columns [] no_new_columns columns.now) }
-    ensures numbers { IfOk result (λ _. columns_number columns.now < 2 ^ 64) }
-{
-    check_columns(alloc, source.columns.as_slice(), &[], columns)
-}
-
-// A map: it adds its columns after those of its input.
-fn made_map(
-    alloc: Global,
-    groups: u16,
-    source: &TableView,
-    new: NewColumns,
-) -> Result<MadeFinal, QueryError>
-    requires groups { groups ≤ MAX_GROUPBYS }
-    requires early { IsEarly source.now.place }
-    ensures { Answers result (Ok (with_values groups source.now new)) }
-{
     let number = number_of_table(groups, source.place);
-    let columns = names_of_both(alloc, source.columns.as_slice(), new.names.as_slice())?;
-    Ok(MadeFinal {
-        op: TypedFinalOp::Map(number, new.values),
-        columns,
-        keys: source.keys,
-    })
+    let condition = check_condition(alloc, source.columns.as_slice(), &[], e)?;
+    with_same_columns(alloc, source, TypedFinalOp::Filter(number, condition))
 }
 
 fn check_map(
@@ -122,8 +87,15 @@ fn check_map(
     ensures numbers { IfOk result (λ _. columns_number columns.now < 2 ^ 64) }
 {
     let source = find_table(earlier, input)?;
-    let new = table_columns(alloc, source, columns)?;
-    made_map(alloc, groups, source, new)
+    let number = number_of_table(groups, source.place);
+    let NewColumns { names, values } = check_columns(
+        alloc,
+        source.columns.as_slice(),
+        &[],
+        columns,
+    )?;
+    let op = TypedFinalOp::Map(number, values);
+    with_more_columns(alloc, source, names.as_slice(), op)
 }
 
 /// `5tuple` stands for the five fields from the fourth on.
@@ -139,59 +111,23 @@ pub fn five_of(fields: &Seq<u32>) -> &[u32]
     if rest.len() <= 5 { rest } else { &rest[..5] }
 }
 
-// The keys of a groupby over a table.
-fn table_keys(
-    alloc: Global,
-    given: &Given,
-    source: &TableView,
-    keys: &[Key],
-) -> Result<Picked, QueryError>
-    requires { IsNarrow source.now.columns }
-    ensures given { Answers result (keys_checked (five_fields given.now.fields) source.now.columns [] keys.now) }
-    ensures most { IfOk result (λ picked. length picked.names ≤ MAX_KEYS) }
-{
-    let five = five_of(&given.fields);
-    check_keys(alloc, five, source.columns.as_slice(), &[], keys)
-}
-
-// The arguments of a groupby's fold over a table.
-fn table_arguments(
-    alloc: Global,
-    source: &TableView,
-    picked: &Picked,
-    f: &FoldView,
-    name: Name,
-) -> Result<Seq<u16>, QueryError>
-    requires { IsNarrow source.now.columns }
-    ensures { Answers result (arguments_of source.now.columns [] picked.now.names f.now name.span) }
-{
-    check_arguments(
-        alloc,
-        source.columns.as_slice(),
-        &[],
-        picked.names.as_slice(),
-        f,
-        name.span,
-    )
-}
-
 // A groupby: its keys, and then the variables of its fold.
 fn made_group(
     alloc: Global,
-    groups: u16,
-    source: &TableView,
+    number: u16,
     picked: Picked,
     f: &FoldView,
     arguments: Seq<u16>,
 ) -> Result<MadeFinal, QueryError>
-    requires groups { groups ≤ MAX_GROUPBYS }
-    requires early { IsEarly source.now.place }
-    requires keys { length picked.names ≤ MAX_KEYS }
-    ensures { Answers result (Ok (with_table_keys groups source.now picked f.now arguments)) }
+    requires { length picked.names ≤ MAX_KEYS }
+    ensures { Answers result (Ok (record {
+      op = TypedFinalOp.Group number picked.slots f.now.number arguments;
+      columns = picked.names ++ f.now.states;
+      keys = length picked.names;
+    })) }
 {
-    let number = number_of_table(groups, source.place);
     let keys = key_count(&picked);
-    let columns = names_of_both(alloc, picked.names.as_slice(), f.states.as_slice())?;
+    let columns = both_lists(alloc, picked.names.as_slice(), f.states.as_slice())?;
     Ok(MadeFinal {
         op: TypedFinalOp::Group(number, picked.slots, f.number, arguments),
         columns,
@@ -212,32 +148,13 @@ fn check_group(
     ensures { Answers result (final_group given.now earlier.now input keys.now fold_name) }
 {
     let source = find_table(earlier, input)?;
-    let picked = table_keys(alloc, given, source, keys)?;
+    let number = number_of_table(given.groups, source.place);
+    let columns = source.columns.as_slice();
+    let picked = check_keys(alloc, five_of(&given.fields), columns, &[], keys)?;
     let f = find_quiet_fold(earlier, fold_name)?;
-    let arguments = table_arguments(alloc, source, &picked, f, fold_name)?;
-    made_group(alloc, given.groups, source, picked, f, arguments)
-}
-
-// A join: the columns of the left, and then those of the right that aren't keys.
-fn made_join(
-    alloc: Global,
-    groups: u16,
-    left: &TableView,
-    right: &TableView,
-) -> Result<MadeFinal, QueryError>
-    requires groups { groups ≤ MAX_GROUPBYS }
-    requires left { IsEarly left.now.place }
-    requires right { IsEarly right.now.place }
-    ensures { Answers result (Ok (with_others groups left.now right.now)) }
-{
-    let first = number_of_table(groups, left.place);
-    let second = number_of_table(groups, right.place);
-    let columns = names_of_both(alloc, left.columns.as_slice(), others_of(right))?;
-    Ok(MadeFinal {
-        op: TypedFinalOp::Join(first, second),
-        columns,
-        keys: left.keys,
-    })
+    let names = picked.names.as_slice();
+    let arguments = check_arguments(alloc, columns, &[], names, f, fold_name.span)?;
+    made_group(alloc, number, picked, f, arguments)
 }
 
 fn check_join(
@@ -259,36 +176,10 @@ fn check_join(
     if others_clash(left, right) {
         return Err(refused(FaultKind::NameTaken, second.span));
     }
-    made_join(alloc, groups, left, right)
-}
-
-// The slot of a table's column.
-fn table_slot(source: &TableView, column: Name) -> Result<u16, QueryFault>
-    requires { IsNarrow source.now.columns }
-    ensures { result ≡ slot_of source.now.columns [] column }
-{
-    find_slot(source.columns.as_slice(), &[], column)
-}
-
-// The greatest rows by a column: it keeps the columns of its input.
-fn made_top(
-    alloc: Global,
-    groups: u16,
-    source: &TableView,
-    slot: u16,
-    kept: u64,
-) -> Result<MadeFinal, QueryError>
-    requires groups { groups ≤ MAX_GROUPBYS }
-    requires early { IsEarly source.now.place }
-    ensures { Answers result (Ok (with_kept groups source.now slot kept)) }
-{
-    let number = number_of_table(groups, source.place);
-    let columns = copy_words(alloc, source.columns.as_slice())?;
-    Ok(MadeFinal {
-        op: TypedFinalOp::Top(number, slot, kept),
-        columns,
-        keys: source.keys,
-    })
+    let first = number_of_table(groups, left.place);
+    let second = number_of_table(groups, right.place);
+    let op = TypedFinalOp::Join(first, second);
+    with_more_columns(alloc, left, others_of(right), op)
 }
 
 fn check_top(
@@ -305,11 +196,12 @@ fn check_top(
     ensures { Answers result (final_top groups earlier.now input column kept span) }
 {
     let source = find_table(earlier, input)?;
-    let slot = table_slot(source, column)?;
+    let slot = find_slot(source.columns.as_slice(), &[], column)?;
     if !(0 < kept && kept <= 65536) {
         return Err(refused(FaultKind::BadConstant, span));
     }
-    made_top(alloc, groups, source, slot, kept)
+    let number = number_of_table(groups, source.place);
+    with_same_columns(alloc, source, TypedFinalOp::Top(number, slot, kept))
 }
 
 // What the final's operator makes.
@@ -351,7 +243,7 @@ fn add_final(
     ensures { OnOk result (earlier.new ≡ with_final earlier.old name made) }
 {
     let number = earlier.finals.len() as u16;
-    let columns = copy_words(alloc, made.columns.as_slice())?;
+    let columns = copy_list(alloc, made.columns.as_slice())?;
     earlier.known.push(Known {
         name: name.id,
         meaning: Meaning::Final(TableView {

@@ -1,9 +1,9 @@
 //! Folds.
 
 ghost use Rattle.std.specs.Prelude.{◌≡◌, ◌+◌, ◌<◌, ◌^◌, ◌≤◌, [], Ok, IfOk, length, map, sum_by};
-ghost use Rattle.query_lang.specs.TypedFolds.{states_from, args_from, expr_nodes, stmt_nodes, stmt_count, body_checked, fold_nodes};
+ghost use Rattle.query_lang.specs.TypedFolds.{states_from, args_from, expr_nodes, stmt_nodes, stmt_count, fold_nodes, fold_with};
 ghost use Rattle.query_lang.specs.{TypedFolds.{fold_statements, fold_checked}, Folds.IsValidFold, Answers.Answers};
-ghost use Rattle.query_types.specs.{Numbers.{greatest_of, greatest_in}, Bodies.with_parts};
+ghost use Rattle.query_types.specs.Numbers.{greatest_of, greatest_in};
 
 use crate::answer::refused;
 use crate::bodies::check_body;
@@ -42,9 +42,7 @@ fn check_args(alloc: Global, states: &[u32], args: &[Name]) -> Result<Seq<u32>, 
 {
     let mut found = Seq::new(alloc);
     for arg in args {
-        let is_state = has_name(states, arg.id);
-        let is_arg = has_name(found.as_slice(), arg.id);
-        if is_state || is_arg {
+        if has_name(states, arg.id) || has_name(found.as_slice(), arg.id) {
             return Err(refused(FaultKind::NameTaken, arg.span));
         }
         if found.len() >= MAX_ARGS {
@@ -55,25 +53,13 @@ fn check_args(alloc: Global, states: &[u32], args: &[Name]) -> Result<Seq<u32>, 
     Ok(found)
 }
 
-// The numbers that the state variables start with.
-fn initial_numbers(alloc: Global, states: &[StateVar]) -> Result<Seq<u64>, AllocError>
-    ensures { IfOk result (λ numbers. numbers ≡ map (λ state. state.initial) states.now) }
-{
-    let mut numbers = Seq::new(alloc);
-    for state in states {
-        numbers.push(state.initial)?;
-    }
-    Ok(numbers)
-}
-
 /// How many nodes an expression has.
 pub fn count_nodes(e: &Expr) -> u32
     requires { expr_nodes e.now < 2 ^ 32 }
     ensures { result ≡ expr_nodes e.now }
 {
     match e {
-        Expr::Number(_, _) => 1,
-        Expr::Named(_) => 1,
+        Expr::Number(_, _) | Expr::Named(_) => 1,
         Expr::Not(_, inner) => 1 + count_nodes(inner.get()),
         Expr::Binary(_, _, left, right) => 1 + count_nodes(left.get()) + count_nodes(right.get()),
         Expr::Call(_, _, arguments) => {
@@ -86,83 +72,55 @@ pub fn count_nodes(e: &Expr) -> u32
     }
 }
 
-// How many nodes the expressions of a statement have, with the statements inside.
-#[cycle(nodes)]
-fn count_stmt_nodes(s: &Stmt) -> u32
-    requires { stmt_nodes s.now < 2 ^ 32 }
-    ensures { result ≡ stmt_nodes s.now }
+// How many nodes and statements a statement or a block has, with the statements inside.
+#[derive(Clone, Copy)]
+struct Counts {
+    nodes: u32,
+    statements: u32,
+}
+
+#[cycle(counts)]
+fn count_statement(s: &Stmt) -> Counts
+    requires nodes { stmt_nodes s.now < 2 ^ 32 }
+    requires statements { stmt_count s.now < 2 ^ 32 }
+    ensures nodes { result.nodes ≡ stmt_nodes s.now }
+    ensures statements { result.statements ≡ stmt_count s.now }
 {
     match s {
-        Stmt::Assign(_, e) => count_nodes(e),
+        Stmt::Assign(_, e) => Counts {
+            nodes: count_nodes(e),
+            statements: 1,
+        },
         Stmt::If(c, a, b) => {
-            count_nodes(c) + count_block_nodes(a.as_slice()) + count_block_nodes(b.as_slice())
+            let first = count_block(a.as_slice());
+            let second = count_block(b.as_slice());
+            Counts {
+                nodes: count_nodes(c) + first.nodes + second.nodes,
+                statements: 1 + first.statements + second.statements,
+            }
         }
-        Stmt::Emit(_) => 0,
+        Stmt::Emit(_) => Counts {
+            nodes: 0,
+            statements: 1,
+        },
     }
 }
 
-// How many nodes a block has.
-#[cycle(nodes)]
-fn count_block_nodes(body: &[Stmt]) -> u32
-    requires { sum_by stmt_nodes body.now < 2 ^ 32 }
-    ensures { result ≡ sum_by stmt_nodes body.now }
-{
-    let mut all = 0;
-    for one in body {
-        all += count_stmt_nodes(one);
-    }
-    all
-}
-
-// How many statements a statement has, itself and those inside.
 #[cycle(counts)]
-fn count_statements(s: &Stmt) -> u32
-    requires { stmt_count s.now < 2 ^ 32 }
-    ensures { result ≡ stmt_count s.now }
+fn count_block(body: &[Stmt]) -> Counts
+    requires nodes { sum_by stmt_nodes body.now < 2 ^ 32 }
+    requires statements { sum_by stmt_count body.now < 2 ^ 32 }
+    ensures nodes { result.nodes ≡ sum_by stmt_nodes body.now }
+    ensures statements { result.statements ≡ sum_by stmt_count body.now }
 {
-    match s {
-        Stmt::Assign(_, _) => 1,
-        Stmt::If(_, a, b) => {
-            1 + count_block_statements(a.as_slice()) + count_block_statements(b.as_slice())
-        }
-        Stmt::Emit(_) => 1,
-    }
-}
-
-// How many statements a block has.
-#[cycle(counts)]
-fn count_block_statements(body: &[Stmt]) -> u32
-    requires { sum_by stmt_count body.now < 2 ^ 32 }
-    ensures { result ≡ sum_by stmt_count body.now }
-{
-    let mut all = 0;
+    let mut nodes = 0;
+    let mut statements = 0;
     for one in body {
-        all += count_statements(one);
+        let counts = count_statement(one);
+        nodes += counts.nodes;
+        statements += counts.statements;
     }
-    all
-}
-
-// The fold's arguments, beside its state variables.
-fn fold_args(alloc: Global, states: &Seq<u32>, d: &FoldDef) -> Result<Seq<u32>, QueryError>
-    ensures given { Answers result (args_from states.now [] d.now.args) }
-    ensures most { IfOk result (λ found. length found ≤ MAX_ARGS) }
-{
-    check_args(alloc, states.as_slice(), d.args.as_slice())
-}
-
-// The fold's statements over its state variables and arguments.
-fn fold_body(
-    alloc: Global,
-    states: &Seq<u32>,
-    args: &Seq<u32>,
-    d: &FoldDef,
-) -> Result<Body, QueryError>
-    requires states { length states.now ≤ MAX_STATES }
-    requires args { length args.now ≤ MAX_ARGS }
-    ensures given { Answers result (body_checked states.now args.now d.now.body) }
-    ensures numbers { IfOk result (λ _. greatest_of (map greatest_in d.now.body) < 2 ^ 64) }
-{
-    check_body(alloc, states.as_slice(), args.as_slice(), d.body.as_slice())
+    Counts { nodes, statements }
 }
 
 // The fold of its parts.
@@ -175,11 +133,11 @@ fn fold_of(
 ) -> Result<TypedFold, QueryError>
     requires nodes { fold_nodes d.now ≤ MAX_NODES }
     requires statements { fold_statements d.now ≤ MAX_STATEMENTS }
-    ensures { Answers result (Ok (with_parts d.now state_names arg_names found)) }
+    ensures { Answers result (Ok (fold_with d.now state_names arg_names found)) }
 {
-    let initial = initial_numbers(alloc, d.states.as_slice())?;
-    let nodes = count_block_nodes(d.body.as_slice());
-    let statements = count_block_statements(d.body.as_slice());
+    let states = d.states.as_slice();
+    let initial = states.iter().map(|state| state.initial).collect(alloc)?;
+    let Counts { nodes, statements } = count_block(d.body.as_slice());
     let Body {
         statements: body,
         emit,
@@ -187,7 +145,7 @@ fn fold_of(
     Ok(TypedFold {
         name: d.name,
         state_names,
-        initial,
+        initial: Seq::from_vec(initial),
         arg_names,
         body,
         emit,
@@ -204,8 +162,8 @@ fn check_parts(alloc: Global, d: &FoldDef) -> Result<TypedFold, QueryError>
     ensures numbers { IfOk result (λ _. greatest_of (map greatest_in d.now.body) < 2 ^ 64) }
 {
     let states = check_states(alloc, d.states.as_slice())?;
-    let args = fold_args(alloc, &states, d)?;
-    let body = fold_body(alloc, &states, &args, d)?;
+    let args = check_args(alloc, states.as_slice(), d.args.as_slice())?;
+    let body = check_body(alloc, states.as_slice(), args.as_slice(), d.body.as_slice())?;
     fold_of(alloc, d, states, args, body)
 }
 

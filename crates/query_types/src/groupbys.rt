@@ -5,7 +5,7 @@ ghost use Rattle.query_lang.specs.{TypedStreams.{column_names, keys_checked, arg
 ghost use Rattle.query_types.specs.{Fitting.{Fits, IsNarrow}, MadeStreams.with_keys};
 
 use crate::columns::{check_arguments, check_keys, names_of, pick_columns};
-use crate::copies::{copy_words, names_of_both};
+use crate::copies::{both_lists, copy_list};
 use crate::views::{find_fold, find_stream};
 use marple_base::Seq;
 use query_lang::typing::{Earlier, FoldView, MadeStream, Picked, StreamView, TableView};
@@ -78,7 +78,7 @@ fn made_table(
     }) }
 {
     let keys = key_count(picked);
-    let columns = names_of_both(alloc, picked.names.as_slice(), f.states.as_slice())?;
+    let columns = both_lists(alloc, picked.names.as_slice(), f.states.as_slice())?;
     Ok(TableView {
         place: PrintOf::Group(number),
         columns,
@@ -100,7 +100,7 @@ fn made_group(
 {
     let table = made_table(alloc, number, &picked, f)?;
     let columns = pick_columns(alloc, source.columns.as_slice(), picked.slots.as_slice())?;
-    let hidden = copy_words(alloc, f.states.as_slice())?;
+    let hidden = copy_list(alloc, f.states.as_slice())?;
     Ok(MadeStream {
         op: TypedOp::Group(source.number, picked.slots, f.number, arguments),
         columns,

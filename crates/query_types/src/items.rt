@@ -1,12 +1,12 @@
 //! The items of a query in order.
 
 ghost use Rattle.std.specs.Prelude.{◌≡◌, ◌<◌, ◌≤◌, ◌^◌, IfOk, OnOk, length, map, is_some, All};
-ghost use Rattle.query_lang.specs.{Limits.{KeepsLimits, IsNumbered}, TypedFolds.{fold_nodes, fold_statements}};
+ghost use Rattle.query_lang.specs.{Answers.Answers, Limits.{KeepsLimits, IsNumbered}, TypedFolds.{fold_nodes, fold_statements}};
 ghost use Rattle.query_lang.specs.Typing.{with_fold, fold_added, print_checked, item_checked, items_checked};
 ghost use Rattle.query_types.specs.{Answers.Leaves, Fitting.Fits, Numbers.{greatest_of, greatest_in, item_number}};
 
 use crate::answer::refused;
-use crate::copies::copy_words;
+use crate::copies::copy_list;
 use crate::exprs::has_name;
 use crate::finals::{check_final, five_of};
 use crate::folds::check_fold;
@@ -27,8 +27,8 @@ fn view_of(alloc: Global, number: u16, f: &TypedFold) -> Result<FoldView, AllocE
       emits = is_some f.now.emit;
     }) }
 {
-    let states = copy_words(alloc, f.state_names.as_slice())?;
-    let args = copy_words(alloc, f.arg_names.as_slice())?;
+    let states = copy_list(alloc, f.state_names.as_slice())?;
+    let args = copy_list(alloc, f.arg_names.as_slice())?;
     Ok(FoldView {
         number,
         states,
@@ -96,50 +96,29 @@ fn check_item(
 {
     match item {
         Item::Fold(d) => check_fold_item(alloc, earlier, d),
-        Item::Stream(d) => {
-            let five = five_of(&given.fields);
-            check_stream(alloc, five, earlier, d)
-        }
+        Item::Stream(d) => check_stream(alloc, five_of(&given.fields), earlier, d),
         Item::Final(d) => check_final(alloc, given, earlier, d),
         Item::Print(name) => check_print(earlier, *name),
     }
-}
-
-// One item after those before it, with which each number still fits.
-fn check_next(
-    alloc: Global,
-    given: &Given,
-    earlier: &mut Earlier,
-    item: &Item,
-) -> Result<(), QueryError>
-    requires limits { KeepsLimits item.now }
-    requires names { IsNumbered 65536 item.now }
-    requires groups { given.now.groups ≤ MAX_GROUPBYS }
-    requires fits { Fits earlier.old }
-    ensures given { Leaves result earlier.new (item_checked given.now earlier.old item.now) }
-    ensures fits { OnOk result (Fits earlier.new) }
-    ensures numbers { OnOk result (item_number item.now < 2 ^ 64) }
-{
-    check_item(alloc, given, earlier, item)?;
-    Ok(())
 }
 
 /// The items in order, each after those before it.
 pub fn check_items(
     alloc: Global,
     given: &Given,
-    earlier: &mut Earlier,
+    start: Earlier,
     items: &[Item],
-) -> Result<(), QueryError>
+) -> Result<Earlier, QueryError>
     requires limits { All KeepsLimits items.now }
     requires names { All (IsNumbered 65536) items.now }
     requires groups { given.now.groups ≤ MAX_GROUPBYS }
-    requires fits { Fits earlier.old }
-    ensures given { Leaves result earlier.new (items_checked given.now earlier.old items.now) }
-    ensures numbers { OnOk result (greatest_of (map item_number items.now) < 2 ^ 64) }
+    requires fits { Fits start }
+    ensures given { Answers result (items_checked given.now start items.now) }
+    ensures numbers { IfOk result (λ _. greatest_of (map item_number items.now) < 2 ^ 64) }
 {
+    let mut earlier = start;
     for item in items {
-        check_next(alloc, given, earlier, item)?;
+        check_item(alloc, given, &mut earlier, item)?;
     }
-    Ok(())
+    Ok(earlier)
 }

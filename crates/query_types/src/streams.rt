@@ -1,6 +1,6 @@
 //! Streams.
 
-ghost use Rattle.std.specs.Prelude.{◌≡◌, ◌+◌, ◌<◌, ◌^◌, ◌++◌, Ok, None, IfOk, OnOk, length, map, is_some, if◌then◌else◌};
+ghost use Rattle.std.specs.Prelude.{◌≡◌, ◌+◌, ◌<◌, ◌^◌, Ok, None, IfOk, OnOk, length};
 ghost use Rattle.query_lang.specs.{TypedExprs.condition_of, TypedStreams.{column_names, new_columns, no_new_columns, others_from}};
 ghost use Rattle.query_lang.specs.TypedStreams.{filtered, next_stream, mapped, zipped, made_stream, with_stream, stream_checked};
 ghost use Rattle.query_lang.specs.Answers.{Answers};
@@ -8,39 +8,20 @@ ghost use Rattle.query_types.specs.{Answers.Leaves, Fitting.{Fits, IsNarrow}, Ma
 ghost use Rattle.query_types.specs.Numbers.{greatest_number, columns_number, stream_number};
 
 use crate::answer::refused;
-use crate::columns::{check_columns, columns_clash, names_of, other_slots, pick_columns};
-use crate::copies::{copy_words, names_of_both};
+use crate::columns::{
+    add_columns, check_columns, columns_clash, names_of, other_slots, pick_columns,
+};
+use crate::copies::{both_lists, copy_list};
 use crate::exprs::check_condition;
 use crate::groupbys::check_group;
 use crate::views::{check_binding, find_stream};
 use marple_base::Seq;
-use query_lang::typing::{
-    Earlier, Known, MadeStream, Meaning, NewColumns, Origin, StreamColumn, StreamView, TableView,
-};
+use query_lang::typing::{Earlier, Known, MadeStream, Meaning, NewColumns, Origin, StreamView};
 use query_lang::{
     Column, Expr, FaultKind, Limit, MAX_BINDINGS, MAX_GROUPBYS, Name, QueryError, StreamDef,
     StreamOp, TypedExpr, TypedOp, TypedStream,
 };
 use std::alloc::{AllocError, Global};
-
-fn copy_columns(alloc: Global, columns: &[StreamColumn]) -> Result<Seq<StreamColumn>, AllocError>
-    ensures { IfOk result (λ copy. copy ≡ columns.now) }
-{
-    Ok(Seq::from_vec(Vec::from_slice(alloc, columns)?))
-}
-
-// The columns of one side and then those of the other.
-fn columns_of_both(
-    alloc: Global,
-    first: &[StreamColumn],
-    second: &[StreamColumn],
-) -> Result<Seq<StreamColumn>, AllocError>
-    ensures { IfOk result (λ columns. columns ≡ first.now ++ second.now) }
-{
-    let mut columns = Vec::from_slice(alloc, first)?;
-    columns.extend_from_slice(second)?;
-    Ok(Seq::from_vec(columns))
-}
 
 // The condition of a filter over a stream.
 fn stream_condition(alloc: Global, source: &StreamView, e: &Expr) -> Result<TypedExpr, QueryError>
@@ -65,8 +46,8 @@ fn made_filter(
       table = None;
     })) }
 {
-    let columns = copy_columns(alloc, source.columns.as_slice())?;
-    let hidden = copy_words(alloc, source.hidden.as_slice())?;
+    let columns = copy_list(alloc, source.columns.as_slice())?;
+    let hidden = copy_list(alloc, source.hidden.as_slice())?;
     Ok(MadeStream {
         op: TypedOp::Filter(source.number, condition),
         columns,
@@ -104,23 +85,6 @@ fn stream_columns(
     check_columns(alloc, names.as_slice(), source.hidden.as_slice(), columns)
 }
 
-// Columns that the map of the stream with this number makes, after others.
-fn add_map_columns(
-    columns: &mut Seq<StreamColumn>,
-    number: u16,
-    names: &[u32],
-) -> Result<(), AllocError>
-    ensures { OnOk result (columns.new ≡ columns.old ++ map (λ name. record { name = name; origin = Origin.Map number }) names.now) }
-{
-    for name in names {
-        columns.push(StreamColumn {
-            name: *name,
-            origin: Origin::Map(number),
-        })?;
-    }
-    Ok(())
-}
-
 // A map: it adds its columns after those of its input.
 fn made_map(
     alloc: Global,
@@ -130,9 +94,9 @@ fn made_map(
 ) -> Result<MadeStream, QueryError>
     ensures { Answers result (Ok (with_columns source.now number new)) }
 {
-    let mut columns = copy_columns(alloc, source.columns.as_slice())?;
-    add_map_columns(&mut columns, number, new.names.as_slice())?;
-    let hidden = copy_words(alloc, source.hidden.as_slice())?;
+    let mut columns = copy_list(alloc, source.columns.as_slice())?;
+    add_columns(&mut columns, Origin::Map(number), new.names.as_slice())?;
+    let hidden = copy_list(alloc, source.hidden.as_slice())?;
     Ok(MadeStream {
         op: TypedOp::Map(source.number, new.values),
         columns,
@@ -146,8 +110,7 @@ fn next_number(earlier: &Earlier) -> u16
     requires { length earlier.now.streams + length earlier.now.finals < MAX_BINDINGS }
     ensures { result ≡ next_stream earlier.now }
 {
-    let count = earlier.streams.len();
-    (count + 1) as u16
+    (earlier.streams.len() + 1) as u16
 }
 
 fn check_map(
@@ -190,8 +153,8 @@ fn made_zip(
     ensures { Answers result (Ok (with_slots left.now right.now slots)) }
 {
     let taken = pick_columns(alloc, right.columns.as_slice(), slots.as_slice())?;
-    let columns = columns_of_both(alloc, left.columns.as_slice(), taken.as_slice())?;
-    let hidden = names_of_both(alloc, left.hidden.as_slice(), right.hidden.as_slice())?;
+    let columns = both_lists(alloc, left.columns.as_slice(), taken.as_slice())?;
+    let hidden = both_lists(alloc, left.hidden.as_slice(), right.hidden.as_slice())?;
     Ok(MadeStream {
         op: TypedOp::Zip(left.number, right.number, slots),
         columns,
@@ -244,14 +207,6 @@ fn check_operator(
     }
 }
 
-// The number of groupbys after a stream, where it has this table.
-fn groups_with(groups: u16, table: &Option<TableView>) -> u16
-    requires { groups < MAX_BINDINGS }
-    ensures { result ≡ groups + (if is_some table.now then 1 else 0) }
-{
-    if table.is_some() { groups + 1 } else { groups }
-}
-
 // One more stream.
 #[tactic(auto, using(crate::proofs::FitLaws::groups_within))]
 fn add_stream(
@@ -265,7 +220,7 @@ fn add_stream(
     ensures { OnOk result (earlier.new ≡ with_stream earlier.old name made) }
 {
     let number = next_number(earlier);
-    let groups = groups_with(earlier.groups, &made.table);
+    let groups = earlier.groups + u16::from(made.table.is_some());
     let names = names_of(alloc, made.columns.as_slice())?;
     earlier.known.push(Known {
         name: name.id,

@@ -4,7 +4,7 @@ ghost use Rattle.std.specs.{Prelude.{◌≡◌, ◌≤◌, drop, take, length}, 
 ghost use Rattle.query_lang.specs.{Checks.is_among, TypedFinals.{table_number, same_names, key_columns, other_columns}};
 ghost use Rattle.query_types.specs.Fitting.{IsEarly};
 
-use crate::exprs::has_name;
+use crate::exprs::has_common;
 use query_lang::typing::TableView;
 use query_lang::{MAX_GROUPBYS, PrintOf};
 
@@ -42,27 +42,12 @@ pub fn others_of(table: &TableView) -> &[u32]
 pub fn same_keys(left: &TableView, right: &TableView) -> bool
     ensures { result ≡ same_names (key_columns left.now) (key_columns right.now) }
 {
-    let first = keys_of(left);
-    let second = keys_of(right);
-    first == second
-}
-
-// Is some name among these?
-fn has_common(others: &[u32], columns: &[u32]) -> bool
-    ensures { result ≡ list_any (λ name. is_among name columns.now) others.now }
-{
-    for name in others {
-        if has_name(columns, *name) {
-            return true;
-        }
-    }
-    false
+    keys_of(left) == keys_of(right)
 }
 
 /// Has the left a column of the right that isn't a key there?
 pub fn others_clash(left: &TableView, right: &TableView) -> bool
     ensures { result ≡ list_any (λ name. is_among name left.now.columns) (other_columns right.now) }
 {
-    let others = others_of(right);
-    has_common(others, left.columns.as_slice())
+    has_common(others_of(right), left.columns.as_slice())
 }

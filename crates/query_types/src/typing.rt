@@ -1,16 +1,17 @@
 //! Whole queries.
 
-ghost use Rattle.std.specs.Prelude.{◌≡◌, ◌<◌, ◌≤◌, ◌^◌, Ok, None, [], IfOk, All, length, map, count_by, min};
-ghost use Rattle.query_lang.specs.Limits.{IsReadable, KeepsLimits, IsNumbered};
+ghost use Rattle.std.specs.Prelude.{◌≡◌, ◌<◌, ◌^◌, Ok, None, [], IfOk, length, map, count_by, min};
+ghost use Rattle.query_lang.specs.Limits.{IsReadable};
 ghost use Rattle.query_lang.specs.Typing.{typed_names, field_numbers, is_groupby, given_of, start_of, items_checked, ended, checked};
 ghost use Rattle.query_lang.specs.{TypedQueries.IsValidQuery, Answers.Answers};
-ghost use Rattle.query_types.specs.{Numbers.{greatest_of, item_number}, CheckedItems.checked_with, Fitting.{Fits, AreReady}};
+ghost use Rattle.query_types.specs.{Numbers.{greatest_of, item_number}, CheckedItems.checked_with, Fitting.AreReady};
 
 use crate::answer::fault;
+use crate::columns::add_columns;
 use crate::items::check_items;
 use crate::names::{add_fields, number_fields};
 use marple_base::{Field, Seq};
-use query_lang::typing::{Earlier, Given, Known, Meaning, Origin, StreamColumn, StreamView};
+use query_lang::typing::{Earlier, Given, Known, Meaning, Origin, StreamView};
 use query_lang::{
     FaultKind, Item, MAX_GROUPBYS, Names, Query, QueryError, QueryFault, Span, StreamOp, TypedQuery,
 };
@@ -21,8 +22,8 @@ fn is_group_item(item: &Item) -> bool
     ensures { result ≡ is_groupby item.now }
 {
     match item {
-        Item::Stream(d) => matches!(&d.op, StreamOp::Group(_, _, _)),
-        Item::Fold(_) | Item::Final(_) | Item::Print(_) => false,
+        Item::Stream(d) => matches!(d.op, StreamOp::Group(_, _, _)),
+        _ => false,
     }
 }
 
@@ -30,45 +31,18 @@ fn is_group_item(item: &Item) -> bool
 fn count_groups(items: &[Item]) -> u16
     ensures { result ≡ min (count_by is_groupby items.now) MAX_GROUPBYS }
 {
-    let mut count = 0;
-    for item in items {
-        if is_group_item(item) && count < MAX_GROUPBYS {
-            count += 1;
-        }
-    }
-    count
-}
-
-// The numbers of the fields' names.
-fn numbers_of_fields(alloc: Global, names: &Names) -> Result<Seq<u32>, AllocError>
-    requires { length names.now < 2 ^ 32 }
-    ensures { IfOk result (λ numbers. numbers ≡ field_numbers names.now) }
-{
-    number_fields(alloc, names, &Field::ALL)
+    let count = items.iter().filter(|item| is_group_item(item)).count();
+    count.min(usize::from(MAX_GROUPBYS)) as u16
 }
 
 // What is known of the whole query from the start.
-fn given_from(alloc: Global, names: &Names, items: &Seq<Item>) -> Result<Given, AllocError>
+fn given_from(alloc: Global, names: &Names, items: &[Item]) -> Result<Given, AllocError>
     requires { length names.now < 2 ^ 32 }
     ensures { IfOk result (λ given. given ≡ given_of names.now items.now) }
 {
-    let fields = numbers_of_fields(alloc, names)?;
-    let groups = count_groups(items.as_slice());
+    let fields = number_fields(alloc, names, &Field::ALL)?;
+    let groups = count_groups(items);
     Ok(Given { fields, groups })
-}
-
-// The columns of the packets' stream.
-fn packet_columns(alloc: Global, fields: &[u32]) -> Result<Seq<StreamColumn>, AllocError>
-    ensures { IfOk result (λ columns. columns ≡ map (λ id. record { name = id; origin = Origin.Field }) fields.now) }
-{
-    let mut columns = Seq::new(alloc);
-    for id in fields {
-        columns.push(StreamColumn {
-            name: *id,
-            origin: Origin::Field,
-        })?;
-    }
-    Ok(columns)
 }
 
 // The stream of all packets.
@@ -80,7 +54,8 @@ fn packet_stream(alloc: Global, given: &Given) -> Result<StreamView, AllocError>
       table = None;
     }) }
 {
-    let columns = packet_columns(alloc, given.fields.as_slice())?;
+    let mut columns = Seq::new(alloc);
+    add_columns(&mut columns, Origin::Field, given.fields.as_slice())?;
     Ok(StreamView {
         number: 0,
         columns,
@@ -129,52 +104,23 @@ fn end_with(names: Names, end: Span, earlier: Earlier) -> Result<TypedQuery, Que
     })
 }
 
-// The items after what a query begins with.
-fn check_from(
-    alloc: Global,
-    given: &Given,
-    start: Earlier,
-    items: &Seq<Item>,
-) -> Result<Earlier, QueryError>
-    requires limits { All KeepsLimits items.now }
-    requires names { All (IsNumbered 65536) items.now }
-    requires groups { given.now.groups ≤ MAX_GROUPBYS }
-    requires fits { Fits start }
-    ensures given { Answers result (items_checked given.now start items.now) }
-    ensures numbers { IfOk result (λ _. greatest_of (map item_number items.now) < 2 ^ 64) }
-{
-    let mut earlier = start;
-    check_items(alloc, given, &mut earlier, items.as_slice())?;
-    Ok(earlier)
-}
-
 // What all items of a query give, where its names are these and those of all fields.
 #[tactic(auto, using(crate::proofs::StartLaws::given_few, crate::proofs::StartLaws::start_is))]
-fn check_all(alloc: Global, names: &Names, items: &Seq<Item>) -> Result<Earlier, QueryError>
+fn check_all(alloc: Global, names: &Names, items: &[Item]) -> Result<Earlier, QueryError>
     requires { AreReady names.now items.now }
     ensures given { Answers result (items_checked (given_of names.now items.now) (start_of names.now) items.now) }
     ensures numbers { IfOk result (λ _. greatest_of (map item_number items.now) < 2 ^ 64) }
 {
     let given = given_from(alloc, names, items)?;
     let start = start_from(alloc, names, &given)?;
-    check_from(alloc, &given, start, items)
-}
-
-// The names of a query and of all fields.
-fn names_with_fields(names: Names) -> Result<Names, AllocError>
-    requires { length names ≤ 32768 }
-    ensures { IfOk result (λ all. all ≡ typed_names names) }
-{
-    let mut all = names;
-    add_fields(&mut all, &Field::ALL)?;
-    Ok(all)
+    check_items(alloc, &given, start, items)
 }
 
 // The typed query of these items, whose names are these and those of all fields.
 fn check_with(
     alloc: Global,
     names: Names,
-    items: &Seq<Item>,
+    items: &[Item],
     end: Span,
 ) -> Result<TypedQuery, QueryError>
     requires { AreReady names items.now }
@@ -196,6 +142,6 @@ pub fn check(alloc: Global, q: Query) -> Result<TypedQuery, QueryError>
     ensures names { IfOk result (λ typed. typed.names ≡ typed_names q.names) }
 {
     let Query { names, items, end } = q;
-    let all = names_with_fields(names)?;
-    check_with(alloc, all, &items, end)
+    let all = add_fields(names, &Field::ALL)?;
+    check_with(alloc, all, items.as_slice(), end)
 }

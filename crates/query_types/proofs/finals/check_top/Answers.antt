@@ -2,9 +2,10 @@
 use Rattle.query_types.proofs.NamedFits.{table_narrow, table_early}
 use Rattle.query_types.proofs.finals.check_top.Goals as goal
 
-pub table_slot-requires : goal.table_slot-requires
-table_slot-requires c = table_narrow c.args.earlier.now c.args.input c.in_ok-source.source.now c.requires.fits c.in_ok-source.ensures
+pub find_slot-requires : goal.find_slot-requires
+find_slot-requires c = rw c.as_slice.ensures
+    (table_narrow c.args.earlier.now c.args.input c.in_ok-source.source.now c.requires.fits c.in_ok-source.ensures)
 
-pub made_top-requires-clause-early : goal.made_top-requires-clause-early
-made_top-requires-clause-early c =
+pub number_of_table-number-requires-clause-place : goal.number_of_table-number-requires-clause-place
+number_of_table-number-requires-clause-place c =
     table_early c.args.earlier.now c.args.input c.in_ok-source.source.now c.requires.fits c.in_ok-source.ensures

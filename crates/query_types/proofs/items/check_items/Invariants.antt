@@ -5,7 +5,7 @@ use Rattle.query_types.proofs.items.check_items.Given as goal
 
 abbrev pub invariant-loop-item : goal.invariant-loop-item
 invariant-loop-item l = record {
-  checked : items_checked l.given l.earlier (drop l.item-index l.items) ≡ items_checked l.given l.initial.earlier l.items;
+  checked : items_checked l.given l.earlier (drop l.item-index l.items) ≡ items_checked l.given l.fn.start l.items;
   numbers : greatest_of (map item_number (drop l.item-index l.items)) < 2 ^ 64 → greatest_of (map item_number l.items) < 2 ^ 64;
   fits : Fits l.earlier;
 }

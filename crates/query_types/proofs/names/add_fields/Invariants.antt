@@ -4,6 +4,6 @@ use Rattle.query_types.proofs.names.add_fields.Given as goal
 
 abbrev pub invariant-loop-field : goal.invariant-loop-field
 invariant-loop-field l = record {
-  named : with_fields l.names (drop l.field-index l.fields) ≡ with_fields l.initial.names l.fields;
-  room : length l.names ≤ length l.initial.names + l.field-index;
+  named : with_fields l.all (drop l.field-index l.fields) ≡ with_fields l.fn.names l.fields;
+  room : length l.all ≤ length l.fn.names + l.field-index;
 }
