@@ -8,6 +8,7 @@ mod halt;
 mod item;
 mod lexer;
 mod operators;
+mod parts;
 mod reader;
 mod reading;
 mod statement;

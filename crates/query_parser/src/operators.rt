@@ -1,7 +1,7 @@
 //! Operators, by how close they bind, and the functions.
 
-ghost use Rattle.std.specs.Prelude.{◌≡◌, [], ◌∷◌};
-ghost use Rattle.query_grammar.specs.Grammar.{Operators, comparing_ops, functions, product_ops};
+ghost use Rattle.std.specs.Prelude.{◌≡◌, map};
+ghost use Rattle.query_grammar.specs.Grammar.{Operators, functions};
 ghost use Rattle.query_grammar.specs.{Kinds.{among, kinds_of, sign, operator as operator_of}, Language.Node};
 ghost use Rattle.query_grammar.specs.Parser.{Limited, word, next_is};
 ghost use Rattle.query_parser.specs.Reads.{Sees, next_op, op_among, ops_of};
@@ -27,59 +27,31 @@ pub enum Level {
     Either,
 }
 
-/// The multiplying operator that the token is.
-fn product_op(kind: TokenKind) -> Option<Op>
-    ensures { result ≡ op_among product_ops kind }
+/// The operators of a level, by their marks.
+fn signs(level: Level) -> &'static [(Mark, Op)]
+    ensures { map (λ one. (sign one.0, one.1)) result.now ≡ ops_of level }
 {
-    if is_mark(kind, Mark::Times) {
-        Some(Op::Mul)
-    } else if is_mark(kind, Mark::Slash) {
-        Some(Op::Div)
-    } else if is_mark(kind, Mark::Percent) {
-        Some(Op::Rem)
-    } else {
-        None
-    }
-}
-
-/// The first operator, where the token is the first mark, or else the second one, where it is the second.
-fn one_of_two(kind: TokenKind, first: (Mark, Op), second: (Mark, Op)) -> Option<Op>
-    ensures { result ≡ op_among ((sign first.0, first.1) ∷ (sign second.0, second.1) ∷ []) kind }
-{
-    if is_mark(kind, first.0) {
-        Some(first.1)
-    } else if is_mark(kind, second.0) {
-        Some(second.1)
-    } else {
-        None
-    }
-}
-
-/// The operator, where the token is its mark.
-fn only(kind: TokenKind, mark: Mark, op: Op) -> Option<Op>
-    ensures { result ≡ op_among ((sign mark, op) ∷ []) kind }
-{
-    if is_mark(kind, mark) { Some(op) } else { None }
-}
-
-/// The comparison that the token is.
-fn comparison_op(kind: TokenKind) -> Option<Op>
-    ensures { result ≡ op_among comparing_ops kind }
-{
-    if is_mark(kind, Mark::Equal) {
-        Some(Op::Eq)
-    } else if is_mark(kind, Mark::NotEqual) {
-        Some(Op::Ne)
-    } else if is_mark(kind, Mark::Less) {
-        Some(Op::Lt)
-    } else if is_mark(kind, Mark::LessOrEqual) {
-        Some(Op::Le)
-    } else if is_mark(kind, Mark::Greater) {
-        Some(Op::Gt)
-    } else if is_mark(kind, Mark::GreaterOrEqual) {
-        Some(Op::Ge)
-    } else {
-        None
+    match level {
+        Level::Product => &[
+            (Mark::Times, Op::Mul),
+            (Mark::Slash, Op::Div),
+            (Mark::Percent, Op::Rem),
+        ],
+        Level::Sum => &[(Mark::Plus, Op::Add), (Mark::Minus, Op::Sub)],
+        Level::Shift => &[(Mark::ShiftLeft, Op::Shl), (Mark::ShiftRight, Op::Shr)],
+        Level::And => &[(Mark::And, Op::And)],
+        Level::Xor => &[(Mark::Xor, Op::Xor)],
+        Level::Or => &[(Mark::Or, Op::Or)],
+        Level::Comparison => &[
+            (Mark::Equal, Op::Eq),
+            (Mark::NotEqual, Op::Ne),
+            (Mark::Less, Op::Lt),
+            (Mark::LessOrEqual, Op::Le),
+            (Mark::Greater, Op::Gt),
+            (Mark::GreaterOrEqual, Op::Ge),
+        ],
+        Level::Both => &[(Mark::Both, Op::Both)],
+        Level::Either => &[(Mark::Either, Op::Either)],
     }
 }
 
@@ -87,21 +59,12 @@ fn comparison_op(kind: TokenKind) -> Option<Op>
 fn level_op(level: Level, kind: TokenKind) -> Option<Op>
     ensures { result ≡ op_among (ops_of level) kind }
 {
-    match level {
-        Level::Product => product_op(kind),
-        Level::Sum => one_of_two(kind, (Mark::Plus, Op::Add), (Mark::Minus, Op::Sub)),
-        Level::Shift => one_of_two(
-            kind,
-            (Mark::ShiftLeft, Op::Shl),
-            (Mark::ShiftRight, Op::Shr),
-        ),
-        Level::And => only(kind, Mark::And, Op::And),
-        Level::Xor => only(kind, Mark::Xor, Op::Xor),
-        Level::Or => only(kind, Mark::Or, Op::Or),
-        Level::Comparison => comparison_op(kind),
-        Level::Both => only(kind, Mark::Both, Op::Both),
-        Level::Either => only(kind, Mark::Either, Op::Either),
+    for one in signs(level) {
+        if is_mark(kind, one.0) {
+            return Some(one.1);
+        }
     }
+    None
 }
 
 /// The function that the token is.

@@ -1,15 +1,15 @@
 //! Streams, and the operators that make them. A filter's expression is in one bracket, and a map's in two.
 
-ghost use Rattle.query_grammar.specs.{Kinds.{sign, keyword as keyword_of}, Parser.Limited, Reading.{after, separated, expr_at, filter_of}};
+ghost use Rattle.query_grammar.specs.{Kinds.{keyword as keyword_of}, Parser.Limited, Reading.{expr_at, filter_of}};
 ghost use Rattle.query_grammar.specs.Reading.{column_of, mapping as mapping_of, pairing as pairing_of, key_of, group as group_of};
 ghost use Rattle.query_grammar.specs.Reading.{streaming as streaming_of, stream as stream_of};
-ghost use Rattle.query_lang.specs.declared.token.Mark.TheVariants as marks;
 ghost use Rattle.query_parser.specs.Reads.{Gives, Sees};
 
 use crate::expression::expression;
 use crate::halt::{Read, read};
+use crate::parts::{Part, separated};
 use crate::reader::{Reader, Role};
-use crate::word::{at_mark, at_name, at_word};
+use crate::word::{at_name, at_word};
 use marple_base::Seq;
 use query_lang::{Column, Expr, Item, Key, MAX_NESTING, Mark, Name, StreamDef, StreamOp, Word};
 
@@ -32,39 +32,16 @@ pub fn filter(reader: &mut Reader<'_>) -> Read<(Name, Expr)>
     Ok((input, condition))
 }
 
-/// A new column: its name, and its value after `=`.
-fn column(reader: &mut Reader<'_>) -> Read<Column>
-    ensures { Gives result reader.old reader.new (column_of Limited (expr_at Limited 62)) }
-{
-    let name = read!(reader.name(Role::Plain));
-    read!(reader.mark(Mark::Assign));
-    let value = read!(expression(reader, WITHIN_COLUMNS));
-    Ok(Column { name, value })
-}
+impl Part for Column {
+    ghost parser = { column_of Limited (expr_at Limited 62) };
 
-/// A comma, and a column after it.
-fn comma_column(reader: &mut Reader<'_>) -> Read<Column>
-    ensures { Gives result reader.old reader.new (after Limited (sign marks.Comma) (column_of Limited (expr_at Limited 62))) }
-{
-    read!(reader.mark(Mark::Comma));
-    column(reader)
-}
-
-/// Columns with commas between them.
-fn columns(reader: &mut Reader<'_>) -> Read<Seq<Column>>
-    ensures { Gives result reader.old reader.new (separated Limited (column_of Limited (expr_at Limited 62))) }
-{
-    let mut found = Seq::new(reader.alloc);
-    let first = read!(column(reader));
-    found.push(first)?;
-    'columns: for _ in 0..reader.rest.len() {
-        if !at_mark(Mark::Comma, reader.rest) {
-            break;
-        }
-        let next = read!(comma_column(reader));
-        found.push(next)?;
+    /// A new column: its name, and its value after `=`.
+    fn read(reader: &mut Reader<'_>) -> Read<Column> {
+        let name = read!(reader.name(Role::Plain));
+        read!(reader.mark(Mark::Assign));
+        let value = read!(expression(reader, WITHIN_COLUMNS));
+        Ok(Column { name, value })
     }
-    Ok(found)
 }
 
 /// `map`, and in parentheses a name, and columns in square brackets after a comma.
@@ -76,7 +53,7 @@ pub fn mapping(reader: &mut Reader<'_>) -> Read<(Name, Seq<Column>)>
     let input = read!(reader.name(Role::Plain));
     read!(reader.mark(Mark::Comma));
     read!(reader.mark(Mark::OpenBracket));
-    let found = read!(columns(reader));
+    let found = read!(separated(reader));
     read!(reader.mark(Mark::CloseBracket));
     read!(reader.mark(Mark::CloseParen));
     Ok((input, found))
@@ -94,41 +71,18 @@ pub fn pairing(reader: &mut Reader<'_>, word: Word) -> Read<(Name, Name)>
     Ok((left, right))
 }
 
-/// A key: a name, or `5tuple`.
-fn key(reader: &mut Reader<'_>) -> Read<Key>
-    ensures { Sees result reader.old reader.new (key_of Limited) }
-{
-    if at_name(reader.rest) {
-        let name = read!(reader.name(Role::Plain));
-        return Ok(Key::Named(name));
-    }
-    let span = read!(reader.five_tuple());
-    Ok(Key::FiveTuple(span))
-}
+impl Part for Key {
+    ghost parser = { key_of Limited };
 
-/// A comma, and a key after it.
-fn comma_key(reader: &mut Reader<'_>) -> Read<Key>
-    ensures { Sees result reader.old reader.new (after Limited (sign marks.Comma) (key_of Limited)) }
-{
-    read!(reader.mark(Mark::Comma));
-    key(reader)
-}
-
-/// Keys with commas between them.
-fn keys(reader: &mut Reader<'_>) -> Read<Seq<Key>>
-    ensures { Gives result reader.old reader.new (separated Limited (key_of Limited)) }
-{
-    let mut found = Seq::new(reader.alloc);
-    let first = read!(key(reader));
-    found.push(first)?;
-    'keys: for _ in 0..reader.rest.len() {
-        if !at_mark(Mark::Comma, reader.rest) {
-            break;
+    /// A key: a name, or `5tuple`.
+    fn read(reader: &mut Reader<'_>) -> Read<Key> {
+        if at_name(reader.rest) {
+            let name = read!(reader.name(Role::Plain));
+            return Ok(Key::Named(name));
         }
-        let next = read!(comma_key(reader));
-        found.push(next)?;
+        let span = read!(reader.five_tuple());
+        Ok(Key::FiveTuple(span))
     }
-    Ok(found)
 }
 
 /// `groupby`, and in parentheses its input, its keys in square brackets and its fold.
@@ -140,7 +94,7 @@ pub fn group(reader: &mut Reader<'_>) -> Read<(Name, (Seq<Key>, Name))>
     let input = read!(reader.name(Role::Plain));
     read!(reader.mark(Mark::Comma));
     read!(reader.mark(Mark::OpenBracket));
-    let found = read!(keys(reader));
+    let found = read!(separated(reader));
     read!(reader.mark(Mark::CloseBracket));
     let fold = read!(reader.comma_name());
     read!(reader.mark(Mark::CloseParen));

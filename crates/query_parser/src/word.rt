@@ -37,38 +37,26 @@ pub fn is_number(kind: TokenKind) -> bool
 pub fn at_mark(wanted: Mark, rest: &[Token]) -> bool
     ensures { result ≡ next_is (among (mark_number wanted ∷ [])) rest.now }
 {
-    match rest {
-        [first, ..] => is_mark(first.kind, wanted),
-        [] => false,
-    }
+    matches!(rest, [first, ..] if is_mark(first.kind, wanted))
 }
 
 /// Whether this word comes next.
 pub fn at_word(wanted: Word, rest: &[Token]) -> bool
     ensures { result ≡ next_is (among (word_number wanted ∷ [])) rest.now }
 {
-    match rest {
-        [first, ..] => is_word(first.kind, wanted),
-        [] => false,
-    }
+    matches!(rest, [first, ..] if is_word(first.kind, wanted))
 }
 
 /// Whether a name comes next.
 pub fn at_name(rest: &[Token]) -> bool
     ensures { result ≡ next_is (among (0 ∷ [])) rest.now }
 {
-    match rest {
-        [first, ..] => is_name(first.kind),
-        [] => false,
-    }
+    matches!(rest, [first, ..] if is_name(first.kind))
 }
 
 /// Whether a number comes next.
 pub fn at_number(rest: &[Token]) -> bool
     ensures { result ≡ next_is (among (1 ∷ [])) rest.now }
 {
-    match rest {
-        [first, ..] => is_number(first.kind),
-        [] => false,
-    }
+    matches!(rest, [first, ..] if is_number(first.kind))
 }
