@@ -111,30 +111,6 @@ pub fn compose_into<C: Coeff, L: Ledger>(
     copy_words(scratch, earlier, steps);
 }
 
-// The sum of the products of a row of the map with the state's words.
-fn dot_words<C: Coeff, L: Ledger>(
-    n: usize,
-    map: &[u64],
-    row: usize,
-    state: &[u64],
-    steps: &mut Steps<L>,
-) -> C
-    requires map { length map.now ≡ n * (n + 1) * C.WORDS }
-    requires state { length state.now ≡ n }
-    requires row { row < n }
-    ensures value { result ≡ sum_below C.elements n
-        (λ j. C.elements.mul (table_of C.from_words C.WORDS n map.now row j) (C.elements.embed (slice_index state.now j))) }
-    ensures steps { steps.new ≡ steps.old + n }
-{
-    let mut sum = C::zero();
-    for j in 0..n {
-        let left: C = load_at(map, row * (n + 1) + j);
-        sum = sum.add(left.mul(C::embed(state[j])));
-        steps.tick();
-    }
-    sum
-}
-
 // What a row of the map gives at the state's words, as a word.
 fn row_word<C: Coeff, L: Ledger>(
     n: usize,
@@ -150,7 +126,12 @@ fn row_word<C: Coeff, L: Ledger>(
         (map_apply C.elements n (table_of C.from_words C.WORDS n map.now) (λ j. C.elements.embed (slice_index state.now j)) row) }
     ensures steps { steps.new ≡ steps.old + n }
 {
-    let products: C = dot_words(n, map, row, state, steps);
+    let mut products = C::zero();
+    for j in 0..n {
+        let left: C = load_at(map, row * (n + 1) + j);
+        products = products.add(left.mul(C::embed(state[j])));
+        steps.tick();
+    }
     let constant: C = load_at(map, row * (n + 1) + n);
     products.add(constant).to_word()
 }
@@ -174,8 +155,5 @@ pub fn apply_into<C: Coeff, L: Ledger>(
     'rows: for row in 0..n {
         scratch[row] = row_word::<C, L>(n, map, row, state, steps);
     }
-    'back: for row in 0..n {
-        state[row] = scratch[row];
-        steps.tick();
-    }
+    copy_words(&scratch[..n], state, steps);
 }

@@ -8,9 +8,3 @@ invariant-rows g l = let c = g.C.Coeff in record {
       (map_apply c.elements l.n (table_of c.from_words c.WORDS l.n l.map) (λ j. c.elements.embed (slice_index l.state j)) i);
   steps : l.steps ≡ l.initial.steps + l.row * l.n;
 }
-
-abbrev pub invariant-back : goal.invariant-back
-invariant-back g l = record {
-  values : (i : ℕ) → i < l.row → slice_index l.state i ≡ slice_index l.scratch i;
-  steps : l.steps ≡ l.initial.steps + l.row;
-}
