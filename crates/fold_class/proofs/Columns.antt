@@ -45,26 +45,9 @@ module _ {C : Type 0} (k : Elements C) (n : ℕ) (algebra : Algebra) (c : ℕ) w
   operation_column Outside f (Fixed u) (Share e) = refl
   operation_column Outside f (Share d) (Fixed t) = refl
   operation_column Outside f (Share d) (Share e) = refl
-  operation_column Sum f (Fixed u) Lost = refl
-  operation_column Difference f (Fixed u) Lost = refl
-  operation_column Product f (Fixed u) Lost = refl
-  operation_column Outside f (Fixed u) Lost = refl
-  operation_column Sum f (Share d) Lost = refl
-  operation_column Difference f (Share d) Lost = refl
-  operation_column Product f (Share d) Lost = refl
-  operation_column Outside f (Share d) Lost = refl
-  operation_column Sum f Lost (Fixed t) = refl
-  operation_column Sum f Lost (Share e) = refl
-  operation_column Sum f Lost Lost = refl
-  operation_column Difference f Lost (Fixed t) = refl
-  operation_column Difference f Lost (Share e) = refl
-  operation_column Difference f Lost Lost = refl
-  operation_column Product f Lost (Fixed t) = refl
-  operation_column Product f Lost (Share e) = refl
-  operation_column Product f Lost Lost = refl
-  operation_column Outside f Lost (Fixed t) = refl
-  operation_column Outside f Lost (Share e) = refl
-  operation_column Outside f Lost Lost = refl
+  operation_column r f (Fixed u) Lost = refl
+  operation_column r f (Share d) Lost = refl
+  operation_column r f Lost q = refl
 
   negation_column : (p : Part (ℕ → C)) → col (part_negation p) ≡ part_negation (col p)
   negation_column (Fixed w) = refl

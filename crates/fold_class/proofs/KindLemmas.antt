@@ -36,19 +36,33 @@ module _ {A : Type 0} (sh : Shares A) (algebra : Algebra) where
   share_right Affine Kind.Other d e h = tt
   share_right Kind.Other l d e h = tt
 
-  lost_left : (k l : Kind) → Allows {A = A} k Lost → Allows {A = A} (greater k l) Lost
-  lost_left Pure l h = absurd h
-  lost_left Affine l h = absurd h
-  lost_left Kind.Other l h = tt
+  lost_left : (r : Role) (k l : Kind) → Allows {A = A} k Lost → Allows {A = A} (role_kind r k l) Lost
+  lost_left r Pure l h = absurd h
+  lost_left r Affine l h = absurd h
+  lost_left Sum Kind.Other l h = tt
+  lost_left Difference Kind.Other l h = tt
+  lost_left Product Kind.Other l h = tt
+  lost_left Outside Kind.Other l h = tt
 
-  lost_right : (k l : Kind) → Allows {A = A} l Lost → Allows {A = A} (greater k l) Lost
-  lost_right Pure Pure h = absurd h
-  lost_right Pure Affine h = absurd h
-  lost_right Pure Kind.Other h = tt
-  lost_right Affine Pure h = absurd h
-  lost_right Affine Affine h = absurd h
-  lost_right Affine Kind.Other h = tt
-  lost_right Kind.Other l h = tt
+  -- with an operand that is Other, the result is Other
+  to_other : (r : Role) (k : Kind) → role_kind r k Kind.Other ≡ Kind.Other
+  to_other Sum Pure = refl
+  to_other Sum Affine = refl
+  to_other Sum Kind.Other = refl
+  to_other Difference Pure = refl
+  to_other Difference Affine = refl
+  to_other Difference Kind.Other = refl
+  to_other Product Pure = refl
+  to_other Product Affine = refl
+  to_other Product Kind.Other = refl
+  to_other Outside Pure = refl
+  to_other Outside Affine = refl
+  to_other Outside Kind.Other = refl
+
+  lost_right : (r : Role) (k l : Kind) → Allows {A = A} l Lost → Allows {A = A} (role_kind r k l) Lost
+  lost_right r k Pure h = absurd h
+  lost_right r k Affine h = absurd h
+  lost_right r k Kind.Other h = subst (λ m. Allows {A = A} m Lost) (sym (to_other r k)) tt
 
   product_right : (k l : Kind) (d e : A) → Allows l (Share d) → Allows (product_kind k l) (Share e)
   product_right k Pure d e h = absurd h
@@ -73,18 +87,6 @@ module _ {A : Type 0} (sh : Shares A) (algebra : Algebra) where
   product_both Affine Kind.Other d e h i = tt
   product_both Kind.Other l d e h i = tt
 
-  product_lost_left : (k l : Kind) → Allows {A = A} k Lost → Allows {A = A} (product_kind k l) Lost
-  product_lost_left Pure l h = absurd h
-  product_lost_left Affine l h = absurd h
-  product_lost_left Kind.Other l h = tt
-
-  product_lost_right : (k l : Kind) → Allows {A = A} l Lost → Allows {A = A} (product_kind k l) Lost
-  product_lost_right k Pure h = absurd h
-  product_lost_right k Affine h = absurd h
-  product_lost_right Pure Kind.Other h = tt
-  product_lost_right Affine Kind.Other h = tt
-  product_lost_right Kind.Other Kind.Other h = tt
-
   outside_left : (k l : Kind) (d : A) → Allows k (Share d) → Allows {A = A} (outside_kind k l) Lost
   outside_left Pure l d h = absurd h
   outside_left Affine l d h = tt
@@ -97,45 +99,24 @@ module _ {A : Type 0} (sh : Shares A) (algebra : Algebra) where
   outside_right Affine l d h = tt
   outside_right Kind.Other l d h = tt
 
-  outside_lost_left : (k l : Kind) → Allows {A = A} k Lost → Allows {A = A} (outside_kind k l) Lost
-  outside_lost_left Pure l h = absurd h
-  outside_lost_left Affine l h = tt
-  outside_lost_left Kind.Other l h = tt
-
-  outside_lost_right : (k l : Kind) → Allows {A = A} l Lost → Allows {A = A} (outside_kind k l) Lost
-  outside_lost_right k Pure h = absurd h
-  outside_lost_right k Affine h = absurd h
-  outside_lost_right Pure Kind.Other h = tt
-  outside_lost_right Affine Kind.Other h = tt
-  outside_lost_right Kind.Other Kind.Other h = tt
-
   operation_allowed : (r : Role) (f : ℕ → ℕ → ℕ) (k l : Kind) (p q : Part A) → Allows k p → Allows l q
       → Allows (role_kind r k l) (part_operation sh r f p q)
   operation_allowed r f k l (Fixed u) (Fixed t) h i = fixed_allowed (role_kind r k l) (f u t)
   operation_allowed Sum f k l (Fixed u) (Share e) h i = share_right k l e (sh.sum (sh.lift u) e) i
   operation_allowed Sum f k l (Share d) (Fixed t) h i = share_left k l d (sh.sum d (sh.lift t)) h
   operation_allowed Sum f k l (Share d) (Share e) h i = share_left k l d (sh.sum d e) h
-  operation_allowed Sum f k l (Fixed u) Lost h i = lost_right k l i
-  operation_allowed Sum f k l (Share d) Lost h i = lost_right k l i
-  operation_allowed Sum f k l Lost q h i = lost_left k l h
   operation_allowed Difference f k l (Fixed u) (Share e) h i = share_right k l e (sh.sum (sh.lift u) (sh.scale minus_one e)) i
   operation_allowed Difference f k l (Share d) (Fixed t) h i = share_left k l d (sh.sum d (sh.scale minus_one (sh.lift t))) h
   operation_allowed Difference f k l (Share d) (Share e) h i = share_left k l d (sh.sum d (sh.scale minus_one e)) h
-  operation_allowed Difference f k l (Fixed u) Lost h i = lost_right k l i
-  operation_allowed Difference f k l (Share d) Lost h i = lost_right k l i
-  operation_allowed Difference f k l Lost q h i = lost_left k l h
   operation_allowed Product f k l (Fixed u) (Share e) h i = product_right k l e (sh.scale u e) i
   operation_allowed Product f k l (Share d) (Fixed t) h i = product_left k l d (sh.scale t d) h
   operation_allowed Product f k l (Share d) (Share e) h i = product_both k l d e h i
-  operation_allowed Product f k l (Fixed u) Lost h i = product_lost_right k l i
-  operation_allowed Product f k l (Share d) Lost h i = product_lost_right k l i
-  operation_allowed Product f k l Lost q h i = product_lost_left k l h
   operation_allowed Outside f k l (Fixed u) (Share e) h i = outside_right k l e i
   operation_allowed Outside f k l (Share d) (Fixed t) h i = outside_left k l d h
   operation_allowed Outside f k l (Share d) (Share e) h i = outside_left k l d h
-  operation_allowed Outside f k l (Fixed u) Lost h i = outside_lost_right k l i
-  operation_allowed Outside f k l (Share d) Lost h i = outside_lost_right k l i
-  operation_allowed Outside f k l Lost q h i = outside_lost_left k l h
+  operation_allowed r f k l (Fixed u) Lost h i = lost_right r k l i
+  operation_allowed r f k l (Share d) Lost h i = lost_right r k l i
+  operation_allowed r f k l Lost q h i = lost_left r k l h
 
   negation_allowed : (k : Kind) (p : Part A) → Allows k p → Allows (outside_kind Pure k) (part_negation p)
   negation_allowed k (Fixed w) h = fixed_allowed (outside_kind Pure k) (flag (not (holds w)))
@@ -149,12 +130,12 @@ module _ {A : Type 0} (sh : Shares A) (algebra : Algebra) where
   greater_allows_left : (k l : Kind) (p : Part A) → Allows k p → Allows (greater k l) p
   greater_allows_left k l (Fixed w) h = fixed_allowed (greater k l) w
   greater_allows_left k l (Share e) h = share_left k l e e h
-  greater_allows_left k l Lost h = lost_left k l h
+  greater_allows_left k l Lost h = lost_left Sum k l h
 
   greater_allows_right : (k l : Kind) (p : Part A) → Allows l p → Allows (greater k l) p
   greater_allows_right k l (Fixed w) h = fixed_allowed (greater k l) w
   greater_allows_right k l (Share e) h = share_right k l e e h
-  greater_allows_right k l Lost h = lost_right k l h
+  greater_allows_right k l Lost h = lost_right Sum k l h
 
   abbrev pub AllAllowed : (ℕ → Kind) → List (Part A) → Type 0
   AllAllowed kinds ps = (s : ℕ) → Allows (kinds s) (at pdom ps s)

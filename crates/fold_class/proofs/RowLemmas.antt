@@ -3,9 +3,9 @@ use Rattle.std.proofs.Common.{◌≡◌, ◌≢◌, ℕ, ◌+◌, ◌*◌, ◌<�
 use Rattle.std.proofs.{Common.{slice_index, All, refl, sym, ap, ◌∙◌, subst, arith, append_assoc}, lemmas.Bool.Decides.nat_tests}
 use Rattle.std.proofs.lemmas.List.{drop_more}
 use Rattle.coeff_algebra.{proofs.PlaceLemmas.one_less, specs.{Elements.Elements, Maps.stored_entry}}
-use Rattle.fold_code.specs.Machine.{at}
+use Rattle.fold_code.specs.{declared.instr.Instr.Instr, Machine.{at, run_code}}
 use Rattle.fold_class.specs.{Parts.{Part, Fixed, parts, column_shares}, Step.{list_of, share_of}}
-use Rattle.fold_class.{specs.Rows.{Rows, rows_dimension, column_after, entry_of, fixed_word}, proofs.StepLemmas.list_of_at}
+use Rattle.fold_class.{specs.Rows.{Origin, Rows, rows_dimension, first_part, column_after, entry_of, fixed_word}, proofs.StepLemmas.list_of_at}
 use Rattle.fold_class.proofs.StoredLemmas.{list_more}
 
 -- one more variable has its part
@@ -88,3 +88,20 @@ last_column k words size rows history args before after n e old kept own i c hi 
     place false t =
         let same : n ≡ c = grind (arith, nat_tests) in
         subst (λ j. stored_entry size (rows_dimension rows) after i j ≡ words (entry_of k rows history args i j)) same (own i hi)
+
+-- the parts at the end of a column, by what its start and the run of the code leave
+pub column_ran : {C : Type 0} (k : Elements C) (raw rows : Rows) (column states dimension : ℕ) (history args : List ℕ)
+    (origins : List Origin) (instrs : List Instr) (start end : ℕ → Part C) → raw ≡ rows → states ≡ length raw.origins
+    → origins ≡ raw.origins → instrs ≡ raw.code.instrs → dimension ≡ length raw.linear
+    → list_of (length origins) start ≡ map (first_part k column history) origins
+    → list_of states end ≡ run_code (parts (column_shares k dimension column) raw.algebra) instrs (map (λ w. Fixed w) args)
+    (list_of states start) [] → list_of (length rows.origins) end ≡ column_after k rows column history args
+column_ran k raw rows column states dimension history args origins instrs start end e es eo ei ed started ran =
+    let fixed = map (λ w. Fixed w) args in
+    let vars : list_of states start ≡ map (first_part k column history) raw.origins =
+    ap (λ n. list_of n start) (es ∙ sym (ap (λ l. length l) eo)) ∙ started ∙ ap (map (first_part k column history)) eo in
+    subst (λ (r : Rows). list_of (length r.origins) end ≡ column_after k r column history args) e
+    (ap (λ n. list_of n end) (sym es) ∙ ran
+    ∙ ap (λ d. run_code (parts (column_shares k d column) raw.algebra) instrs fixed (list_of states start) []) ed
+    ∙ ap (λ is. run_code (parts (column_shares k (rows_dimension raw) column) raw.algebra) is fixed (list_of states start) []) ei
+    ∙ ap (λ vs. run_code (parts (column_shares k (rows_dimension raw) column) raw.algebra) raw.code.instrs fixed vs []) vars)

@@ -5,7 +5,7 @@ use Rattle.fold_code.specs.Machine.{Domain}
 use Rattle.coeff_algebra.specs.{Elements.{Elements, IsWordOf}, Maps.{map_apply, HasWord}}
 pub use Rattle.fold_class.specs.declared.part.Part.{Part}
 pub use Rattle.fold_class.specs.declared.part.Part.TheVariants.{Fixed, Share, Lost}
-use Rattle.fold_class.specs.{declared.class.Algebra.Algebra, Kinds.{Role, Sum, Difference, Product, role}}
+use Rattle.fold_class.specs.{declared.class.Algebra.Algebra, Kinds.{Role, Sum, Difference, Product, Outside, role}}
 
 -- how shares are made, added and multiplied by a word
 pub record Shares (A : Type 0) : Type 0 where
@@ -17,18 +17,20 @@ pub record Shares (A : Type 0) : Type 0 where
 abbrev pub minus_one : ℕ
 minus_one = 2 ^ 64 - 1
 
+-- an operator of this role on two shares, which has this part as their product
+abbrev pub share_operation : {A : Type 0} → (A → A → A) → (ℕ → A → A) → Role → A → A → Part A → Part A
+share_operation sum scale Sum d e product = Share (sum d e)
+share_operation sum scale Difference d e product = Share (sum d (scale minus_one e))
+share_operation sum scale Product d e product = product
+share_operation sum scale Outside d e product = Lost
+
 -- an operator of this role, which makes `f` of two words
 abbrev pub part_operation : {A : Type 0} → Shares A → Role → (ℕ → ℕ → ℕ) → Part A → Part A → Part A
 part_operation sh r f (Fixed x) (Fixed y) = Fixed (f x y)
-part_operation sh Sum f (Fixed x) (Share e) = Share (sh.sum (sh.lift x) e)
-part_operation sh Sum f (Share d) (Fixed y) = Share (sh.sum d (sh.lift y))
-part_operation sh Sum f (Share d) (Share e) = Share (sh.sum d e)
-part_operation sh Difference f (Fixed x) (Share e) = Share (sh.sum (sh.lift x) (sh.scale minus_one e))
-part_operation sh Difference f (Share d) (Fixed y) = Share (sh.sum d (sh.scale minus_one (sh.lift y)))
-part_operation sh Difference f (Share d) (Share e) = Share (sh.sum d (sh.scale minus_one e))
-part_operation sh Product f (Fixed x) (Share e) = Share (sh.scale x e)
-part_operation sh Product f (Share d) (Fixed y) = Share (sh.scale y d)
-part_operation sh _ f a b = Lost
+part_operation sh r f (Fixed x) (Share e) = share_operation sh.sum sh.scale r (sh.lift x) e (Share (sh.scale x e))
+part_operation sh r f (Share d) (Fixed y) = share_operation sh.sum sh.scale r d (sh.lift y) (Share (sh.scale y d))
+part_operation sh r f (Share d) (Share e) = share_operation sh.sum sh.scale r d e Lost
+part_operation sh r f _ _ = Lost
 
 abbrev pub part_negation : {A : Type 0} → Part A → Part A
 part_negation (Fixed x) = Fixed (flag (not (holds x)))

@@ -17,6 +17,10 @@ pub record Rows : Type 0 where
   pub linear : List ℕ
   pub history : List ℕ
 
+abbrev pub rows_from : Code → Algebra → List Origin → List ℕ → List ℕ → Rows
+rows_from code algebra origins linear history =
+    record { code = code; algebra = algebra; origins = origins; linear = linear; history = history }
+
 -- the words of an element
 abbrev pub element_size : Algebra → ℕ
 element_size Sums = 1

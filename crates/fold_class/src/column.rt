@@ -3,7 +3,7 @@
 ghost use Rattle.std.specs.Prelude.{◌≡◌, ◌≢◌, ℕ, ◌+◌, ◌*◌, ◌<◌, ◌≤◌, [], ◌∷◌, ◌++◌, map, length};
 ghost use Rattle.query_lang.specs.Words.{op_value};
 ghost use Rattle.fold_code.specs.Machine.{Fits, AllFit, instr_value, vars_after, run_code, instr_steps, steps_of};
-ghost use Rattle.fold_class.specs.{Kinds.role, Parts.{parts, part_operation, part_negation, part_mask, part_choice, column_shares}};
+ghost use Rattle.fold_class.specs.{Kinds.role, Parts.{parts, part_operation, share_operation, part_negation, part_mask, part_choice, column_shares}};
 ghost use Rattle.fold_class.specs.{Step.list_of, Stored.{part_of, part_at, IfKeeps}};
 
 use crate::class::{Algebra, Role};
@@ -104,7 +104,19 @@ pub(crate) fn lift<C: Coeff>(word: u64, column: usize, dimension: usize) -> C
     }
 }
 
-// The result of an operator on two parts that are not both fixed.
+// The result of an operator with this role on two shares, which has this part as their product.
+fn combine_shares<C: Coeff>(role: Role, left: C, right: C, product: Part<C>) -> Part<C>
+    ensures { result ≡ share_operation C.elements.add (λ w e. C.elements.mul (C.elements.embed w) e) role left right product }
+{
+    match role {
+        Role::Sum => Part::Share(left.add(right)),
+        Role::Difference => Part::Share(left.add(C::embed(u64::MAX).mul(right))),
+        Role::Product => product,
+        Role::Outside => Part::Lost,
+    }
+}
+
+// The result of an operator on two parts.
 fn combine<C: Coeff>(
     algebra: Algebra,
     op: Op,
@@ -115,34 +127,22 @@ fn combine<C: Coeff>(
 ) -> Part<C>
     ensures { result ≡ part_operation (column_shares C.elements dimension column) (role algebra op) (op_value op) left right }
 {
+    let role = algebra.role_of(op);
     match left {
         Part::Fixed(x) => match right {
             Part::Fixed(y) => Part::Fixed(op.value(x, y)),
-            Part::Share(e) => match algebra.role_of(op) {
-                Role::Sum => Part::Share(lift::<C>(x, column, dimension).add(e)),
-                Role::Difference => Part::Share(lift::<C>(x, column, dimension).add(C::embed(
-                    u64::MAX,
-                ).mul(e))),
-                Role::Product => Part::Share(C::embed(x).mul(e)),
-                Role::Outside => Part::Lost,
-            },
+            Part::Share(e) => {
+                let product = Part::Share(C::embed(x).mul(e));
+                combine_shares(role, lift(x, column, dimension), e, product)
+            }
             Part::Lost => Part::Lost,
         },
         Part::Share(d) => match right {
-            Part::Fixed(y) => match algebra.role_of(op) {
-                Role::Sum => Part::Share(d.add(lift::<C>(y, column, dimension))),
-                Role::Difference => Part::Share(d.add(C::embed(u64::MAX).mul(lift::<C>(
-                    y, column, dimension,
-                )))),
-                Role::Product => Part::Share(C::embed(y).mul(d)),
-                Role::Outside => Part::Lost,
-            },
-            Part::Share(e) => match algebra.role_of(op) {
-                Role::Sum => Part::Share(d.add(e)),
-                Role::Difference => Part::Share(d.add(C::embed(u64::MAX).mul(e))),
-                Role::Product => Part::Lost,
-                Role::Outside => Part::Lost,
-            },
+            Part::Fixed(y) => {
+                let product = Part::Share(C::embed(y).mul(d));
+                combine_shares(role, d, lift(y, column, dimension), product)
+            }
+            Part::Share(e) => combine_shares(role, d, e, Part::Lost),
             Part::Lost => Part::Lost,
         },
         Part::Lost => Part::Lost,
@@ -155,8 +155,7 @@ fn negate<C: Coeff>(part: Part<C>) -> Part<C>
 {
     match part {
         Part::Fixed(x) => Part::Fixed(u64::from(x == 0)),
-        Part::Share(_e) => Part::Lost,
-        Part::Lost => Part::Lost,
+        _ => Part::Lost,
     }
 }
 
@@ -170,20 +169,12 @@ fn block_mask<C: Coeff>(wanted: bool, mask: Part<C>, condition: Part<C>) -> Part
                 Part::Fixed(0)
             } else {
                 match condition {
-                    Part::Fixed(x) => {
-                        if wanted {
-                            Part::Fixed(u64::from(x != 0))
-                        } else {
-                            Part::Fixed(u64::from(x == 0))
-                        }
-                    }
-                    Part::Share(_e) => Part::Lost,
-                    Part::Lost => Part::Lost,
+                    Part::Fixed(x) => Part::Fixed(u64::from((x != 0) == wanted)),
+                    _ => Part::Lost,
                 }
             }
         }
-        Part::Share(_e) => Part::Lost,
-        Part::Lost => Part::Lost,
+        _ => Part::Lost,
     }
 }
 
@@ -208,8 +199,7 @@ fn copy_choice<C: Coeff>(words: &mut [u64], mask: usize, new: usize, old: usize,
                 copy_part::<C>(words, new, place);
             }
         }
-        Part::Share(_e) => store_part::<C>(words, place, Part::Lost),
-        Part::Lost => store_part::<C>(words, place, Part::Lost),
+        _ => store_part::<C>(words, place, Part::Lost),
     }
 }
 

@@ -5,7 +5,7 @@ ghost use Rattle.coeff_algebra.specs.Maps.{stored_entry};
 ghost use Rattle.fold_code.specs.Machine.{at, steps_of};
 ghost use Rattle.fold_class.specs.{Parts.{parts, column_shares}, Step.{list_of, share_of}, Stored.part_at, Rows.{Rows, rows_dimension}};
 ghost use Rattle.fold_class.specs.Rows.{rows_words, rows_scratch, steps_with, rows_steps, first_part, column_after, entry_of, fixed_word};
-ghost use Rattle.fold_class.specs.Rows.{Leaves, LeavesRows, IsWithin, AreSoundRows};
+ghost use Rattle.fold_class.specs.Rows.{Leaves, LeavesRows, IsWithin, AreSoundRows, rows_from};
 
 use crate::class::Algebra;
 use crate::column::{lift, load_part, run_column, store_part};
@@ -42,15 +42,9 @@ impl Drop for AffineRows {
 impl Model for AffineRows {
     ghost Value = { Rows };
 
-    ghost view = { λ r. record { code = r.code; algebra = r.algebra; origins = r.origins; linear = r.linear; history = r.history } };
+    ghost view = { λ r. rows_from r.code r.algebra r.origins r.linear r.history };
 
-    ghost invariant = { λ r. AreSoundRows (record {
-      code = r.code;
-      algebra = r.algebra;
-      origins = r.origins;
-      linear = r.linear;
-      history = r.history;
-    }) };
+    ghost invariant = { λ r. AreSoundRows (rows_from r.code r.algebra r.origins r.linear r.history) };
 }
 
 // The part of a variable as a column begins.
@@ -61,11 +55,8 @@ fn first<C: Coeff>(origin: Origin, column: usize, history: &[u64]) -> Part<C>
     match origin {
         Origin::Remembered(i) => Part::Fixed(history[i as usize]),
         Origin::Carried(i) => {
-            if column == i as usize {
-                Part::Share(C::one())
-            } else {
-                Part::Share(C::zero())
-            }
+            let is_own = column == i as usize;
+            Part::Share(if is_own { C::one() } else { C::zero() })
         }
     }
 }
@@ -108,17 +99,7 @@ fn word<C: Coeff>(part: Part<C>) -> u64
 {
     match part {
         Part::Fixed(word) => word,
-        Part::Share(_element) => 0,
-        Part::Lost => 0,
-    }
-}
-
-// Counts a step for each word that is written.
-fn tick_words<L: Ledger>(words: usize, steps: &mut Steps<L>)
-    ensures { steps.new ≡ steps.old + words }
-{
-    for _word in 0..words {
-        steps.tick();
+        _ => 0,
     }
 }
 
@@ -151,7 +132,7 @@ fn write_column<C: Coeff, L: Ledger>(
             row * (dimension + 1) + column,
             share(part, column, dimension),
         );
-        tick_words(C::WORDS, steps);
+        steps.tick_many(C::WORDS as u64);
     }
 }
 
@@ -185,8 +166,8 @@ impl AffineRows {
         linear: Seq<u8>,
         history: Seq<u8>,
     ) -> AffineRows
-        requires { AreSoundRows (record { code = code; algebra = algebra; origins = origins; linear = linear; history = history }) }
-        ensures { result ≡ record { code = code; algebra = algebra; origins = origins; linear = linear; history = history } }
+        requires { AreSoundRows (rows_from code algebra origins linear history) }
+        ensures { result ≡ rows_from code algebra origins linear history }
     {
         AffineRows {
             code,
@@ -195,35 +176,6 @@ impl AffineRows {
             linear,
             history,
         }
-    }
-
-    // The parts of the variables at the end of one column.
-    fn parts_into<C: Coeff, L: Ledger>(
-        &self,
-        column: usize,
-        history: &[u64],
-        args: &[u64],
-        scratch: &mut [u64],
-        steps: &mut Steps<L>,
-    )
-        requires history { length history.now ≡ length self.now.history }
-        requires arguments { length args.now ≡ self.now.code.args }
-        requires room { length scratch.old ≡ rows_scratch self.now }
-        ensures vars { list_of (length self.now.origins) (part_at C.from_words C.WORDS scratch.new)
-            ≡ column_after C.elements self.now column history.now args.now }
-        ensures steps { steps.new ≡ steps.old + (length self.now.origins + steps_of self.now.code.instrs) }
-    {
-        start_column::<C, L>(self.origins.as_slice(), column, history, scratch, steps);
-        run_column::<C, L>(
-            self.code.instrs(),
-            self.origins.len(),
-            self.algebra,
-            args,
-            scratch,
-            column,
-            self.linear.len(),
-            steps,
-        );
     }
 
     // One column of the map.
@@ -252,8 +204,19 @@ impl AffineRows {
             + (length self.now.origins + steps_of self.now.code.instrs + rows_dimension self.now * C.WORDS) }
     {
         let states = self.origins.len();
-        self.parts_into::<C, L>(column, history, args, scratch, steps);
-        write_column::<C, L>(self.linear.as_slice(), states, column, scratch, map, steps);
+        let linear = self.linear.as_slice();
+        start_column::<C, L>(self.origins.as_slice(), column, history, scratch, steps);
+        run_column::<C, L>(
+            self.code.instrs(),
+            states,
+            self.algebra,
+            args,
+            scratch,
+            column,
+            linear.len(),
+            steps,
+        );
+        write_column::<C, L>(linear, states, column, scratch, map, steps);
     }
 
     // All columns, and then the history, which the last one ends with.

@@ -14,14 +14,8 @@ fn can_move_left(algebra: Algebra, op: Op) -> bool
     ensures { result ≡ moves_left algebra op }
 {
     match algebra {
-        Algebra::Sums => match op {
-            Op::Add | Op::Sub => true,
-            _ => false,
-        },
-        Algebra::Maxima => match op {
-            Op::Max => true,
-            _ => false,
-        },
+        Algebra::Sums => matches!(op, Op::Add | Op::Sub),
+        Algebra::Maxima => matches!(op, Op::Max),
     }
 }
 
@@ -30,14 +24,8 @@ fn can_move_right(algebra: Algebra, op: Op) -> bool
     ensures { result ≡ moves_right algebra op }
 {
     match algebra {
-        Algebra::Sums => match op {
-            Op::Add => true,
-            _ => false,
-        },
-        Algebra::Maxima => match op {
-            Op::Max => true,
-            _ => false,
-        },
+        Algebra::Sums => matches!(op, Op::Add),
+        Algebra::Maxima => matches!(op, Op::Max),
     }
 }
 

@@ -16,9 +16,8 @@ fn greater_of(left: Kind, right: Kind) -> Kind
     match left {
         Kind::Pure => right,
         Kind::Affine => match right {
-            Kind::Pure => Kind::Affine,
-            Kind::Affine => Kind::Affine,
             Kind::Other => Kind::Other,
+            _ => Kind::Affine,
         },
         Kind::Other => Kind::Other,
     }
@@ -29,25 +28,21 @@ fn combined(role: Role, left: Kind, right: Kind) -> Kind
     ensures { result ≡ role_kind role left right }
 {
     match role {
-        Role::Sum => greater_of(left, right),
-        Role::Difference => greater_of(left, right),
+        Role::Sum | Role::Difference => greater_of(left, right),
         Role::Product => match left {
             Kind::Pure => right,
             Kind::Affine => match right {
                 Kind::Pure => Kind::Affine,
-                Kind::Affine => Kind::Other,
-                Kind::Other => Kind::Other,
+                _ => Kind::Other,
             },
             Kind::Other => Kind::Other,
         },
         Role::Outside => match left {
             Kind::Pure => match right {
                 Kind::Pure => Kind::Pure,
-                Kind::Affine => Kind::Other,
-                Kind::Other => Kind::Other,
+                _ => Kind::Other,
             },
-            Kind::Affine => Kind::Other,
-            Kind::Other => Kind::Other,
+            _ => Kind::Other,
         },
     }
 }

@@ -15,5 +15,5 @@ loop-row-preserved g c =
       others = λ i k hi hk off. let ne : i * (n + 1) + k ≢ r * (n + 1) + col =
           λ e. off (same_column n i k r col hk c.requires.column e) in c.store_at.ensures.others (i * (n + 1) + k) ne
           ∙ c.loop-row.invariant.others i k hi hk off;
-      steps = omega (arith, c.loop-row.invariant.steps, c.tick_words.ensures, c.WORDS.ensures);
+      steps = omega (arith, c.loop-row.invariant.steps, c.tick_many.ensures, c.WORDS.ensures);
     }
