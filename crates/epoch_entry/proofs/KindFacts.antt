@@ -1,14 +1,14 @@
 -- The sizes and the bounds of the kinds.
-use Rattle.std.proofs.Common.{◌≡◌, ℕ, ◌+◌, ◌*◌, ◌<◌, ◌≤◌, length, sym, ap, ◌∙◌, subst, refl, arith}
+use Rattle.std.proofs.Common.{◌≡◌, ℕ, ◌+◌, ◌*◌, ◌<◌, ◌≤◌, List, length, sym, ap, ◌∙◌, subst, refl, arith}
 use Rattle.std.{proofs.Math.{Nat.{add-mul, mul-le-mul_left, mul-le-mul_right, ℕ_set}, Logic.{∥∥₁_elim}}, specs.Prelude.fold}
 use Rattle.query_lang.specs.declared.{fold.TypedFold.TypedFold, typed.Class.{Class, TheVariants.Linear}}
 use Rattle.query_lang.specs.Folds.{fold_states, fold_args, initial_state, IsValidFold}
 use Rattle.query_lang.specs.declared.fault.TheConstants.{MAX_ARGS, MAX_KEYS, MAX_STATES}
-use Rattle.coeff_algebra.specs.{WrappingModel.wrapping_from_words, MaxPlusModel.max_plus_from_words}
+use Rattle.coeff_algebra.specs.{Elements.Elements, WrappingModel.wrapping_from_words, MaxPlusModel.max_plus_from_words}
 use Rattle.fold_code.specs.Meaning.{code_step, code_steps}
 use Rattle.fold_class.specs.declared.{class.Algebra.{Algebra, TheVariants.{Sums, Maxima}}, program.FoldProgram.FoldProgram}
 use Rattle.fold_class.specs.{Algebras.{sums, maxima}, Depth.{is_history, depth_of}, Kinds.algebra_of, Rows.{element_size, rows_steps}}
-use Rattle.fold_class.{specs.Program.{IsProgram, IsProgramOf, WritesAlgebra}, proofs.AlgebraLaws.{sums_are, maxima_are}}
+use Rattle.fold_class.{specs.{Parts.IsAlgebraOf, Program.{IsProgram, IsProgramOf, WritesAlgebra, WritesElements}}, proofs.AlgebraLaws.{sums_are, maxima_are}}
 use Rattle.fold_class.proofs.{DepthLemmas.history_rounds, LawLemmas.{depth_is, depth_found_is, maxima_depth}, PlaceLemmas.both_sorts}
 use Rattle.epoch_entry.specs.{Foldings.{per_epoch, entry_bound, IsKindOf, merge_bound}, Entries.{other_sizes, other_folding, other_open}}
 use Rattle.epoch_entry.specs.Entries.{other_absorb, linear_rank, history_words, linear_sizes, linear_folding, linear_open, linear_absorb}
@@ -107,30 +107,21 @@ linear_merged f p h =
     )
 
 -- the rows of a linear program write elements of its algebra
-writes_algebra : (f : TypedFold) (p : FoldProgram) (a : Algebra) → IsProgramOf f p → p.class ≡ Linear → p.algebra ≡ a
-    → WritesAlgebra a f p.rows
-writes_algebra f p a h linear e = subst (λ b. WritesAlgebra b f p.rows) (sym h.algebra ∙ e) (h.rows.writes (sym h.class ∙ linear))
-
-sized_by : (p : FoldProgram) (a : Algebra) → IsProgram p → p.algebra ≡ a → element_size p.rows.algebra ≡ element_size a
-sized_by p a sound e = ∥∥₁_elim sound (ℕ_set _ _) (λ (f, h). ap element_size (h.rows.algebra ∙ sym h.algebra ∙ e))
+writes_by : {C : Type 0} (k : Elements C) (from_words : List ℕ → C) (p : FoldProgram) (a : Algebra) → IsAlgebraOf a k
+    → k.to_word k.zero ≡ 0 → ((f : TypedFold) → WritesAlgebra a f p.rows → WritesElements k from_words (element_size a) f p.rows)
+    → IsProgram p → p.class ≡ Linear → p.algebra ≡ a → WritesInto k from_words (element_size a) p
+writes_by k from_words p a is zero_word same sound linear e = record {
+  algebra = rw e is;
+  zero_word = zero_word;
+  sized = ∥∥₁_elim sound (ℕ_set _ _) (λ (f, h). ap element_size (h.rows.algebra ∙ sym h.algebra ∙ e));
+  writes = λ f h. same f (subst (λ b. WritesAlgebra b f p.rows) (sym h.algebra ∙ e) (h.rows.writes (sym h.class ∙ linear)));
+}
 
 pub writes_sums : (p : FoldProgram) → IsProgram p → p.class ≡ Linear → p.algebra ≡ Sums → WritesInto sums wrapping_from_words 1 p
-writes_sums p sound linear e = record {
-  algebra = rw e sums_are;
-  zero_word = refl;
-  sized =
-      sized_by p _ sound e;
-  writes = λ f h. writes_algebra f p _ h linear e;
-}
+writes_sums p sound linear e = writes_by sums wrapping_from_words p Sums sums_are refl (λ f w. w) sound linear e
 
 pub writes_maxima : (p : FoldProgram) → IsProgram p → p.class ≡ Linear → p.algebra ≡ Maxima → WritesInto maxima max_plus_from_words 2 p
-writes_maxima p sound linear e = record {
-  algebra = rw e maxima_are;
-  zero_word = refl;
-  sized =
-      sized_by p _ sound e;
-  writes = λ f h. writes_algebra f p _ h linear e;
-}
+writes_maxima p sound linear e = writes_by maxima max_plus_from_words p Maxima maxima_are refl (λ f w. w) sound linear e
 
 -- an entry with its key has few words
 words_fit : (a : Algebra) (n k args key : ℕ) → n ≤ MAX_STATES → k ≤ n → args ≤ MAX_ARGS → (a ≡ Maxima → k < n) → key ≤ MAX_KEYS → key

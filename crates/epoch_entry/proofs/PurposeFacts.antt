@@ -1,5 +1,5 @@
 -- The kinds of entries for each purpose.
-use Rattle.std.proofs.{Common.{◌≡◌, ℕ, ◌+◌, ◌*◌, ◌≤◌, sym, ap, ◌∙◌, subst, refl, arith}, Math.Nat.add-mul}
+use Rattle.std.proofs.{Common.{◌≡◌, ℕ, ◌+◌, ◌*◌, ◌≤◌, sym, ap, ◌∙◌, subst, refl, arith}, Math.Nat.{add-mul, mul-le-mul_right}}
 use Rattle.query_lang.specs.declared.{fold.TypedFold.TypedFold, typed.Class.{Class, TheVariants.{Linear, Other}}}
 use Rattle.query_lang.specs.{Folds.{fold_states, IsValidFold}, declared.fault.TheConstants.MAX_KEYS}
 use Rattle.epoch_model.specs.Tables.{Folding}
@@ -9,22 +9,13 @@ use Rattle.epoch_entry.specs.{Foldings.{IsKindOf, entry_bound, absorb_bound, per
 use Rattle.epoch_entry.{specs.Purposes.{IsBoundingKind, IsKindFor, SuitsFold, runs_of}, proofs.KindFacts.entry_fits}
 
 module _ (f : TypedFold) (sizes : Sizes) (folding : Folding) (opening absorbing : ℕ) where
-  own_suits : IsKindOf f sizes folding opening absorbing → SuitsFold 1 f sizes folding opening absorbing
-  own_suits h = record {
+  own_suits : (runs : ℕ) → 1 ≤ runs → IsKindOf f sizes folding opening absorbing → SuitsFold runs f sizes folding opening absorbing
+  own_suits runs some h = record {
     args = h.args;
     row_per_epoch = h.row_per_epoch;
-    entry = omega (arith, h.entry);
-    «open» = omega (arith, h.«open»);
-    absorb = omega (arith, h.absorb);
-  }
-
-  own_suits_more : IsKindOf f sizes folding opening absorbing → SuitsFold 3 f sizes folding opening absorbing
-  own_suits_more h = record {
-    args = h.args;
-    row_per_epoch = h.row_per_epoch;
-    entry = omega (arith, h.entry);
-    «open» = omega (arith, h.«open»);
-    absorb = omega (arith, h.absorb);
+    entry = omega (arith, h.entry, mul-le-mul_right (entry_bound f) some);
+    «open» = omega (arith, h.«open», mul-le-mul_right (entry_bound f) some);
+    absorb = omega (arith, h.absorb, mul-le-mul_right (absorb_bound f) some);
   }
 
   -- a state is no larger than an entry, and a run of the code takes no more steps than absorbing
@@ -45,12 +36,12 @@ module _ (f : TypedFold) (sizes : Sizes) (folding : Folding) (opening absorbing 
 
   bounding_suits : (c : Class) → c ≡ class_of f → IsBoundingKind c f sizes folding opening absorbing
       → SuitsFold 3 f sizes folding opening absorbing
-  bounding_suits Linear e h = own_suits_more h
+  bounding_suits Linear e h = own_suits 3 (omega arith) h
   bounding_suits Other e h = bounds_suit e h
 
   pub kind_suits : (entries : Entries) → IsKindFor entries f sizes folding opening absorbing
       → SuitsFold (runs_of entries) f sizes folding opening absorbing
-  kind_suits Folds h = own_suits h
+  kind_suits Folds h = own_suits 1 (omega arith) h
   kind_suits Bounds h = bounding_suits _ refl h
 
   own_fits : (key : ℕ) → IsValidFold f → key ≤ MAX_KEYS → IsKindOf f sizes folding opening absorbing → key + sizes.entry ≤ 274

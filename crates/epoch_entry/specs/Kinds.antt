@@ -1,6 +1,6 @@
 -- What the meanings of a kind of entry are made of.
 use Rattle.std.specs.Prelude.{◌≡◌, ℕ, true, List}
-use Rattle.epoch_model.specs.Tables.{Folding}
+use Rattle.epoch_model.specs.{Keys.ArgRow, Tables.Folding}
 
 -- numbers of words
 pub record Sizes : Type 0 where
@@ -12,3 +12,12 @@ pub record Sizes : Type 0 where
 -- An entry is merged into any state; where each epoch has a separate row, only into the initial one.
 abbrev pub MayTake : Folding → List ℕ → Type 0
 MayTake f state = f.row_per_epoch ≡ true → state ≡ f.initial
+
+-- what a kind of entries is: its sizes, what its entries are folded to, which rows they represent, and its bounds on steps
+pub record Meaning : Type 1 where
+  pub sizes : Sizes
+  pub folding : Folding
+  pub stands : List ℕ → List ArgRow → Type 0
+  pub open_bound : ℕ
+  pub absorb_bound : ℕ
+  pub merge_bound : ℕ

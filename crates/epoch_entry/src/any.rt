@@ -22,14 +22,21 @@ pub enum AnyEpochs {
     Bounds(BoundsEpochs),
 }
 
+// The same for entries of each kind.
+macro_rules! of_its_kind {
+    ($entries:ident, $kind:pat => $does:expr) => {
+        match $entries {
+            AnyEpochs::Linear($kind) => $does,
+            AnyEpochs::Maxima($kind) => $does,
+            AnyEpochs::Other($kind) => $does,
+            AnyEpochs::Bounds($kind) => $does,
+        }
+    };
+}
+
 impl Drop for AnyEpochs {
     fn drop(self) {
-        match self {
-            AnyEpochs::Linear(_) => {}
-            AnyEpochs::Maxima(_) => {}
-            AnyEpochs::Other(_) => {}
-            AnyEpochs::Bounds(_) => {}
-        }
+        of_its_kind!(self, _ => {})
     }
 }
 
@@ -76,111 +83,46 @@ impl AnyEpochs {
 }
 
 impl EpochKind for AnyEpochs {
-    ghost use Rattle.epoch_entry.specs.declared.any.AnyEpochs.TheVariants.{Linear, Maxima, Other, Bounds};
+    ghost use Rattle.epoch_entry.specs.Programs.{meaning_in};
 
-    ghost sizes = { elim [
-      | Linear k ↦ ⟦<LinearEpochs<Wrapping64> as EpochKind>⟧.sizes k
-      | Maxima k ↦ ⟦<LinearEpochs<MaxPlus64> as EpochKind>⟧.sizes k
-      | Other k ↦ ⟦<OtherEpochs as EpochKind>⟧.sizes k
-      | Bounds k ↦ ⟦<BoundsEpochs as EpochKind>⟧.sizes k
-    ] };
+    ghost sizes = { λ a. (meaning_in a).sizes };
 
-    ghost folding = { elim [
-      | Linear k ↦ ⟦<LinearEpochs<Wrapping64> as EpochKind>⟧.folding k
-      | Maxima k ↦ ⟦<LinearEpochs<MaxPlus64> as EpochKind>⟧.folding k
-      | Other k ↦ ⟦<OtherEpochs as EpochKind>⟧.folding k
-      | Bounds k ↦ ⟦<BoundsEpochs as EpochKind>⟧.folding k
-    ] };
+    ghost folding = { λ a. (meaning_in a).folding };
 
-    ghost stands = { elim [
-      | Linear k ↦ ⟦<LinearEpochs<Wrapping64> as EpochKind>⟧.stands k
-      | Maxima k ↦ ⟦<LinearEpochs<MaxPlus64> as EpochKind>⟧.stands k
-      | Other k ↦ ⟦<OtherEpochs as EpochKind>⟧.stands k
-      | Bounds k ↦ ⟦<BoundsEpochs as EpochKind>⟧.stands k
-    ] };
+    ghost stands = { λ a. (meaning_in a).stands };
 
-    ghost open_bound = { elim [
-      | Linear k ↦ ⟦<LinearEpochs<Wrapping64> as EpochKind>⟧.open_bound k
-      | Maxima k ↦ ⟦<LinearEpochs<MaxPlus64> as EpochKind>⟧.open_bound k
-      | Other k ↦ ⟦<OtherEpochs as EpochKind>⟧.open_bound k
-      | Bounds k ↦ ⟦<BoundsEpochs as EpochKind>⟧.open_bound k
-    ] };
+    ghost open_bound = { λ a. (meaning_in a).open_bound };
 
-    ghost absorb_bound = { elim [
-      | Linear k ↦ ⟦<LinearEpochs<Wrapping64> as EpochKind>⟧.absorb_bound k
-      | Maxima k ↦ ⟦<LinearEpochs<MaxPlus64> as EpochKind>⟧.absorb_bound k
-      | Other k ↦ ⟦<OtherEpochs as EpochKind>⟧.absorb_bound k
-      | Bounds k ↦ ⟦<BoundsEpochs as EpochKind>⟧.absorb_bound k
-    ] };
+    ghost absorb_bound = { λ a. (meaning_in a).absorb_bound };
 
-    ghost merge_bound = { elim [
-      | Linear k ↦ ⟦<LinearEpochs<Wrapping64> as EpochKind>⟧.merge_bound k
-      | Maxima k ↦ ⟦<LinearEpochs<MaxPlus64> as EpochKind>⟧.merge_bound k
-      | Other k ↦ ⟦<OtherEpochs as EpochKind>⟧.merge_bound k
-      | Bounds k ↦ ⟦<BoundsEpochs as EpochKind>⟧.merge_bound k
-    ] };
+    ghost merge_bound = { λ a. (meaning_in a).merge_bound };
 
     fn args_words(&self) -> usize {
-        match self {
-            AnyEpochs::Linear(kind) => kind.args_words(),
-            AnyEpochs::Maxima(kind) => kind.args_words(),
-            AnyEpochs::Other(kind) => kind.args_words(),
-            AnyEpochs::Bounds(kind) => kind.args_words(),
-        }
+        of_its_kind!(self, kind => kind.args_words())
     }
 
     fn entry_words(&self) -> usize {
-        match self {
-            AnyEpochs::Linear(kind) => kind.entry_words(),
-            AnyEpochs::Maxima(kind) => kind.entry_words(),
-            AnyEpochs::Other(kind) => kind.entry_words(),
-            AnyEpochs::Bounds(kind) => kind.entry_words(),
-        }
+        of_its_kind!(self, kind => kind.entry_words())
     }
 
     fn state_words(&self) -> usize {
-        match self {
-            AnyEpochs::Linear(kind) => kind.state_words(),
-            AnyEpochs::Maxima(kind) => kind.state_words(),
-            AnyEpochs::Other(kind) => kind.state_words(),
-            AnyEpochs::Bounds(kind) => kind.state_words(),
-        }
+        of_its_kind!(self, kind => kind.state_words())
     }
 
     fn scratch_words(&self) -> usize {
-        match self {
-            AnyEpochs::Linear(kind) => kind.scratch_words(),
-            AnyEpochs::Maxima(kind) => kind.scratch_words(),
-            AnyEpochs::Other(kind) => kind.scratch_words(),
-            AnyEpochs::Bounds(kind) => kind.scratch_words(),
-        }
+        of_its_kind!(self, kind => kind.scratch_words())
     }
 
     fn row_per_epoch(&self) -> bool {
-        match self {
-            AnyEpochs::Linear(kind) => kind.row_per_epoch(),
-            AnyEpochs::Maxima(kind) => kind.row_per_epoch(),
-            AnyEpochs::Other(kind) => kind.row_per_epoch(),
-            AnyEpochs::Bounds(kind) => kind.row_per_epoch(),
-        }
+        of_its_kind!(self, kind => kind.row_per_epoch())
     }
 
     fn initial(&self, state: &mut [u64]) {
-        match self {
-            AnyEpochs::Linear(kind) => kind.initial(state),
-            AnyEpochs::Maxima(kind) => kind.initial(state),
-            AnyEpochs::Other(kind) => kind.initial(state),
-            AnyEpochs::Bounds(kind) => kind.initial(state),
-        }
+        of_its_kind!(self, kind => kind.initial(state))
     }
 
     fn open<L: Ledger>(&self, entry: &mut [u64], steps: &mut Steps<L>) {
-        match self {
-            AnyEpochs::Linear(kind) => kind.open(entry, steps),
-            AnyEpochs::Maxima(kind) => kind.open(entry, steps),
-            AnyEpochs::Other(kind) => kind.open(entry, steps),
-            AnyEpochs::Bounds(kind) => kind.open(entry, steps),
-        }
+        of_its_kind!(self, kind => kind.open(entry, steps))
     }
 
     #[inline(always)]
@@ -191,12 +133,7 @@ impl EpochKind for AnyEpochs {
         scratch: &mut [u64],
         steps: &mut Steps<L>,
     ) {
-        match self {
-            AnyEpochs::Linear(kind) => kind.absorb(entry, args, scratch, steps),
-            AnyEpochs::Maxima(kind) => kind.absorb(entry, args, scratch, steps),
-            AnyEpochs::Other(kind) => kind.absorb(entry, args, scratch, steps),
-            AnyEpochs::Bounds(kind) => kind.absorb(entry, args, scratch, steps),
-        }
+        of_its_kind!(self, kind => kind.absorb(entry, args, scratch, steps))
     }
 
     fn merge<L: Ledger>(
@@ -206,11 +143,6 @@ impl EpochKind for AnyEpochs {
         scratch: &mut [u64],
         steps: &mut Steps<L>,
     ) {
-        match self {
-            AnyEpochs::Linear(kind) => kind.merge(entry, state, scratch, steps),
-            AnyEpochs::Maxima(kind) => kind.merge(entry, state, scratch, steps),
-            AnyEpochs::Other(kind) => kind.merge(entry, state, scratch, steps),
-            AnyEpochs::Bounds(kind) => kind.merge(entry, state, scratch, steps),
-        }
+        of_its_kind!(self, kind => kind.merge(entry, state, scratch, steps))
     }
 }

@@ -4,7 +4,6 @@ ghost use Rattle.std.specs.Prelude.{◌≡◌, ◌≢◌, ℕ, ◌+◌, ◌*◌,
 ghost use Rattle.coeff_algebra.specs.Maps.{stored_entry, table_of};
 ghost use Rattle.epoch_entry.specs.Shape.{IsAscending};
 
-use crate::words::tick_words;
 use coeff_algebra::{Coeff, load_at, store_at};
 use marple_base::Steps;
 use query_lang::MAX_STATES;
@@ -55,6 +54,6 @@ pub(crate) fn state_to_column<C: Coeff, L: Ledger>(
     for (row, v) in linear.iter().enumerate() {
         let element: C = C::embed(state[*v as usize]);
         store_at(map, row * (dimension + 1) + dimension, element);
-        tick_words(C::WORDS, steps);
+        steps.tick_many(C::WORDS as u64);
     }
 }

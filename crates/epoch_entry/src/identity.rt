@@ -4,7 +4,6 @@ ghost use Rattle.std.specs.Prelude.{◌≡◌, ◌≢◌, ℕ, ◌+◌, ◌*◌,
 ghost use Rattle.coeff_algebra.specs.Maps.{stored_entry, table_of, stored_at};
 ghost use Rattle.epoch_entry.specs.Identity.{unit_at};
 
-use crate::words::tick_words;
 use coeff_algebra::{Coeff, store_at};
 use marple_base::Steps;
 use query_lang::MAX_STATES;
@@ -22,7 +21,7 @@ fn identity_row<C: Coeff, L: Ledger>(n: usize, row: usize, map: &mut [u64], step
     for column in 0..n + 1 {
         let element: C = if column == row { C::one() } else { C::zero() };
         store_at(map, row * (n + 1) + column, element);
-        tick_words(C::WORDS, steps);
+        steps.tick_many(C::WORDS as u64);
     }
 }
 

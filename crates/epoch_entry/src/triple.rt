@@ -1,38 +1,14 @@
 // Three states of a fold in sequence.
 
-ghost use Rattle.std.specs.Prelude.{◌≡◌, ◌+◌, ◌*◌, length, replicate};
+ghost use Rattle.std.specs.Prelude.{◌≡◌, ◌+◌, ◌*◌, length};
 ghost use Rattle.fold_code.specs.Meaning.{code_step, code_steps, code_scratch};
 ghost use Rattle.epoch_entry.specs.Triples.{step_beside, start_beside};
 
 use fold_code::FoldCode;
-use marple_base::{Steps, copy_words};
+use marple_base::Steps;
 use std::sync::ledger::Ledger;
 
-// The same word everywhere.
-fn repeat_word<L: Ledger>(word: u64, to: &mut [u64], steps: &mut Steps<L>)
-    ensures words { to.new ≡ replicate (length to.old) word }
-    ensures steps { steps.new ≡ steps.old + length to.old }
-{
-    for at in 0..to.len() {
-        to[at] = word;
-        steps.tick();
-    }
-}
-
 // A state, as many zeros, and as many greatest words.
-pub(crate) fn start_three<L: Ledger>(initial: &[u64], triple: &mut [u64], steps: &mut Steps<L>)
-    requires { length triple.old ≡ length initial.now * 3 }
-    ensures words { triple.new ≡ start_beside (length initial.now) initial.now }
-    ensures steps { steps.new ≡ steps.old + length initial.now * 3 }
-{
-    let (first, rest) = triple.split_at_mut(initial.len());
-    let (low, high) = rest.split_at_mut(initial.len());
-    copy_words(initial, first, steps);
-    repeat_word(0, low, steps);
-    repeat_word(u64::MAX, high, steps);
-}
-
-// The same, with no count of steps.
 pub(crate) fn write_three(initial: &[u64], triple: &mut [u64])
     requires { length triple.old ≡ length initial.now * 3 }
     ensures { triple.new ≡ start_beside (length initial.now) initial.now }
@@ -42,6 +18,16 @@ pub(crate) fn write_three(initial: &[u64], triple: &mut [u64])
     first.copy_from_slice(initial);
     low.fill(0);
     high.fill(u64::MAX);
+}
+
+// The same, with a step for each word.
+pub(crate) fn start_three<L: Ledger>(initial: &[u64], triple: &mut [u64], steps: &mut Steps<L>)
+    requires { length triple.old ≡ length initial.now * 3 }
+    ensures words { triple.new ≡ start_beside (length initial.now) initial.now }
+    ensures steps { steps.new ≡ steps.old + length initial.now * 3 }
+{
+    write_three(initial, triple);
+    steps.tick_many(triple.len() as u64);
 }
 
 // One run of the code on each of three states. Not inlined, since other kinds of entries need few of its registers.

@@ -8,13 +8,6 @@ ghost use Rattle.epoch_entry.specs.Shape.{IsAscending};
 use marple_base::Steps;
 use std::sync::ledger::Ledger;
 
-// A step for each word of an element.
-pub(crate) fn tick_words<L: Ledger>(words: usize, steps: &mut Steps<L>)
-    ensures { steps.new ≡ steps.old + words }
-{
-    steps.tick_many(words as u64);
-}
-
 // The words of a state at some places, in this order.
 pub(crate) fn gather<L: Ledger>(state: &[u64], places: &[u8], to: &mut [u64], steps: &mut Steps<L>)
     requires inside { All (λ v. v < length state.now) places.now }

@@ -29,5 +29,5 @@ loop-row-preserved g c =
           (λ i h. c.store_at.ensures.others (i * (n + 1) + n) (rows_apart n r i h) ∙ c.loop-row.invariant.written i h)
           (c.store_at.ensures.here ∙ ap m.words c.embed-element.ensures);
       others = λ i k hi hk. c.store_at.ensures.others (i * (n + 1) + k) (columns_apart n r i k hk) ∙ c.loop-row.invariant.others i k hi hk;
-      steps = one_more _ _ _ _ _ _ c.loop-row.invariant.steps c.tick_words.ensures c.WORDS.ensures;
+      steps = one_more _ _ _ _ _ _ c.loop-row.invariant.steps c.tick_many.ensures c.WORDS.ensures;
     }

@@ -34,5 +34,5 @@ loop-column-preserved g c =
           (c.store_at.ensures.here ∙ ap m.words unit);
       before = λ p h. c.store_at.ensures.others p (before_apart p start column h) ∙ c.loop-column.invariant.before p h;
       steps = columns_steps _ _ _ _ _ c.loop-column.invariant.steps
-          (c.tick_words.ensures ∙ ap (λ w. c.loop-column.steps + w) c.WORDS.ensures);
+          (c.tick_many.ensures ∙ ap (λ w. c.loop-column.steps + w) c.WORDS.ensures);
     }
