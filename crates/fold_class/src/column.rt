@@ -285,39 +285,6 @@ fn store_variable<C: Coeff, L: Ledger>(
     steps.tick();
 }
 
-// Runs one instruction: its value at its place, and the variable that it writes.
-fn run_instr<C: Coeff, L: Ledger>(
-    instr: Instr,
-    number: usize,
-    states: usize,
-    algebra: Algebra,
-    args: &[u64],
-    scratch: &mut [u64],
-    column: usize,
-    dimension: usize,
-    steps: &mut Steps<L>,
-)
-    requires fits { Fits states (length args.now) number instr }
-    requires variable { IfKeeps instr states }
-    requires room { (states + number) * 3 + 3 ≤ length scratch.old }
-    ensures vars { list_of states (part_at C.from_words C.WORDS scratch.new)
-        ≡ vars_after instr (instr_value (parts (column_shares C.elements dimension column) algebra) instr
-        (list_of states (part_at C.from_words C.WORDS scratch.old)) (map (λ w. Part.Fixed w) args.now)
-        (list_of number (λ i. part_at C.from_words C.WORDS scratch.old (states + i))))
-        (list_of states (part_at C.from_words C.WORDS scratch.old)) }
-    ensures values { list_of (number + 1) (λ i. part_at C.from_words C.WORDS scratch.new (states + i))
-        ≡ list_of number (λ i. part_at C.from_words C.WORDS scratch.old (states + i))
-        ++ instr_value (parts (column_shares C.elements dimension column) algebra) instr
-        (list_of states (part_at C.from_words C.WORDS scratch.old)) (map (λ w. Part.Fixed w) args.now)
-        (list_of number (λ i. part_at C.from_words C.WORDS scratch.old (states + i))) ∷ [] }
-    ensures steps { steps.new ≡ steps.old + instr_steps instr }
-{
-    write_value::<C>(
-        instr, number, states, algebra, args, scratch, column, dimension,
-    );
-    store_variable::<C, L>(instr, number, states, scratch, steps);
-}
-
 // Runs the instructions over the parts of a column. `scratch` begins with the variables' parts.
 pub(crate) fn run_column<C: Coeff, L: Ledger>(
     instrs: &[Instr],
@@ -337,8 +304,9 @@ pub(crate) fn run_column<C: Coeff, L: Ledger>(
     ensures steps { steps.new ≡ steps.old + steps_of instrs.now }
 {
     for (number, instr) in instrs.iter().enumerate() {
-        run_instr::<C, L>(
-            *instr, number, states, algebra, args, scratch, column, dimension, steps,
+        write_value::<C>(
+            *instr, number, states, algebra, args, scratch, column, dimension,
         );
+        store_variable::<C, L>(*instr, number, states, scratch, steps);
     }
 }
