@@ -1,4 +1,4 @@
-use Rattle.std.{proofs.Common.{◌++◌, OnErr, OnOk, sym, subst}, specs.List.All}
+use Rattle.std.{proofs.Common.{◌++◌, OnErr, OnOk, rules, sym, subst}, specs.List.All}
 use Rattle.marple_base.{specs.{Sink.TakesFront, Pieces.TakesAllBut}, proofs.Pieces.{none_taken, on_err}}
 use Rattle.enclosed_query.{specs.{EnclosedTables.enclosed_print, Parts.IsWholeIfThere}, proofs.TextParts.{texts_are, whole_parts}}
 use Rattle.enclosed_query.proofs.printing.write_enclosed.Goals as goal
@@ -16,18 +16,19 @@ returns-in_err-tables-clause-err g c =
 pub write_printed-requires-clause-bounds : goal.write_printed-requires-clause-bounds
 write_printed-requires-clause-bounds g c = subst (All IsWholeIfThere) (sym c.in_ok-bounds.ensures.bounds) (whole_parts _ c.requires.whole)
 
-pub returns-clause-ok : goal.returns-clause-ok
-returns-clause-ok g c =
+pub returns : goal.returns
+returns g c =
     let same = texts_are c.args.q.now _ _ _ _
     c.in_ok-tables.tables _ c.len-count.ensures c.requires.shapes
     c.in_ok-bounds.ensures.bounds c.in_ok-bounds.ensures.tables c.in_ok-tables.ensures.tables c.as_slice.ensures in
-    subst (λ text. OnOk c.write_printed.result (TakesAllBut (g.O.Sink.taken c.args.out.now) (g.O.Sink.taken c.write_printed.new.out)
-    c.write_printed.new.text (c.args.text.now ++ text))) same c.write_printed.ensures.ok
-
-pub returns-clause-err : goal.returns-clause-err
-returns-clause-err g c =
-    let same = texts_are c.args.q.now _ _ _ _
-    c.in_ok-tables.tables _ c.len-count.ensures c.requires.shapes
-    c.in_ok-bounds.ensures.bounds c.in_ok-bounds.ensures.tables c.in_ok-tables.ensures.tables c.as_slice.ensures in
-    subst (λ text. OnErr c.write_printed.result (TakesFront (g.O.Sink.taken c.args.out.now) (g.O.Sink.taken c.write_printed.new.out)
-    (c.args.text.now ++ text))) same c.write_printed.ensures.err
+    let old = g.O.Sink.taken c.args.out.now in
+    let new = g.O.Sink.taken c.write_printed.new.out in
+    let before = c.args.text.now in
+    record {
+      ok = subst (λ text. OnOk c.write_printed.result (TakesAllBut old new c.write_printed.new.text (before ++ text))) same
+          c.write_printed.ensures.ok;
+      err = subst (λ text. OnErr c.write_printed.result (TakesFront old new (before ++ text))) same c.write_printed.ensures.err;
+      failed = c.write_printed.ensures.failed;
+      out_later = c.write_printed.ensures.out_later;
+      steps = search rules;
+    }
