@@ -141,14 +141,6 @@ fn push_columns(text: &mut TextBuffer, keys: &[Text], states: &[Text]) -> Result
     Ok(())
 }
 
-fn push_heading(text: &mut TextBuffer, t: &BoundsTable) -> Result<(), AllocError>
-    requires { 0 < length t.now.key_names }
-    ensures { OnOk result (text.new ≡ text.old ++ table_line (bounds_heading t.now)) }
-{
-    push_columns(text, t.key_names.as_slice(), t.state_names.as_slice())?;
-    text.push(b'\n')
-}
-
 fn mark_word(row: &BoundsRow) -> &'static [u8]
     ensures { result.now ≡ mark_text (row_is_exact row.now) }
 {
@@ -173,7 +165,8 @@ fn push_head(text: &mut TextBuffer, t: &BoundsTable) -> Result<(), AllocError>
     ensures { OnOk result (text.new ≡ text.old ++ bounds_title t.now ++ table_line (bounds_heading t.now)) }
 {
     push_title(text, t)?;
-    push_heading(text, t)
+    push_columns(text, t.key_names.as_slice(), t.state_names.as_slice())?;
+    text.push(b'\n')
 }
 
 /// Writes the text of a table of bounds after the bytes that wait in the buffer: a line that says what it is, a heading, and a

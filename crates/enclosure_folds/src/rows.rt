@@ -41,24 +41,17 @@ fn row_copies(alloc: Global, rows: &[BoundsRow]) -> Result<Rows, AllocError>
     Ok(copies)
 }
 
-// Names, followed by others.
-fn all_names(alloc: Global, first: &[Text], others: &[Text]) -> Result<Seq<Text>, AllocError>
-    ensures { IfOk result (λ names. names ≡ first.now ++ others.now) }
-{
-    let mut names = names_copy(alloc, first)?;
-    push_copies(alloc, &mut names, others)?;
-    Ok(names)
-}
-
 /// The table that finals read instead of a table of bounds: the rows whose bounds are equal, in order, with these as
 /// values and with mark Exact. The other rows are left out.
 pub fn exact_rows(alloc: Global, t: &BoundsTable) -> Result<Table, AllocError>
     requires { IsBoundsTable t.now }
     ensures { IfOk result (λ table. table ≡ exact_table t.now) }
 {
+    let mut columns = names_copy(alloc, t.key_names.as_slice())?;
+    push_copies(alloc, &mut columns, t.state_names.as_slice())?;
     Ok(Table {
         name: Text::from_slice(alloc, t.name.as_slice())?,
-        columns: all_names(alloc, t.key_names.as_slice(), t.state_names.as_slice())?,
+        columns,
         keys: t.key_names.len() as u8,
         kind: TableKind::Group(Class::Other, t.depth, t.epochs),
         rows: row_copies(alloc, t.rows.as_slice())?,
