@@ -4,7 +4,7 @@ use Rattle.std.proofs.{Common.{◌∙◌, inl, inr, arith, append_assoc, append-
 use Rattle.std.proofs.lemmas.{List.{length_push, map-append}, Option.{slice_get_within, slice_get_cases}}
 use Rattle.std.specs.Prelude.{map, replicate, nat_lt, slice_get, slice_index}
 use Rattle.marple_base.specs.declared.field.TheConstants.{FIELDS}
-use Rattle.query_lang.specs.{Streams.values_at, Terms.Operation, declared.fault.TheConstants.MAX_STAGES}
+use Rattle.query_lang.specs.{Streams.values_at, declared.fault.TheConstants.MAX_STAGES}
 use Rattle.stage_plan.specs.declared.op.Operand.{Operand, TheVariants.{Register, Number}}
 use Rattle.stage_plan.specs.declared.op.Operation as operation
 use Rattle.stage_plan.specs.{declared.op.PlanOp.PlanOp, Registers.operand_stage, Making.{stage_after, op_on, operand_at}, Sound.IsWithin}

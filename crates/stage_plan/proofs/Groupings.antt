@@ -1,10 +1,12 @@
 -- The groupby of a stream has the shape that the query gives it.
 use Rattle.std.proofs.Common.{◌≡◌, ℕ, zero, suc, ◌+◌, ◌<◌, ◌≤◌, Bool, true, false, List, [], ◌∷◌, ◌++◌, length, get_or, drop, Some, None}
 use Rattle.std.proofs.Common.{Option, refl, sym, ap, subst, ◌∙◌, inl, inr, arith, append_assoc, append-nil, length-drop}
-use Rattle.std.proofs.lemmas.{List.{map-append, length-map, drop_more, drop_all, length_push}, Bool.cases_eq, Option.same_Some}
-use Rattle.std.specs.{Prelude.{map, filter_map, slice_get, option_map, option_to_list, if◌then◌else◌}, List.cons_option}
+use Rattle.std.proofs.lemmas.{List.{map-append, length-map, drop_more, drop_all, length_push}, Bool.cases_eq}
+use Rattle.std.proofs.lemmas.Option.{same_Some, slice_get_within, get_or_from_slice_get}
+use Rattle.std.specs.{Prelude.{All, map, filter_map, slice_get, option_map, option_to_list, if◌then◌else◌}, List.cons_option}
 use Rattle.query_lang.specs.declared.{fold.TypedFold.TypedFold, typed.{TypedQuery.TypedQuery, TypedStream.TypedStream}}
-use Rattle.query_lang.specs.{Folds.{fold_args, fold_states}, Streams.{Taking, taking_of, takings}, declared.fault.TheConstants.MAX_KEYS}
+use Rattle.query_lang.specs.{Folds.{IsValidFold, fold_args, fold_states}, Streams.{Taking, taking_of, takings}}
+use Rattle.query_lang.specs.declared.fault.TheConstants.{MAX_KEYS}
 use Rattle.fold_class.specs.{Depth.{IsDepth, is_enough, least_from, depth_of}, Program.IsProgramOf}
 use Rattle.fold_class.proofs.DepthLemmas.{depth_found, covered_last}
 use Rattle.stage_plan.{proofs.Lists.{push_cases, stands_at}, specs.declared.group.GroupPlan.GroupPlan}
@@ -50,6 +52,11 @@ shape_is names one args f group is name keys states count =
 pub args_are : (folds : List TypedFold) (number args : ℕ) (f : TypedFold) → slice_get folds number ≡ Some f
     → option_map fold_args (slice_get folds number) ≡ Some args → length f.arg_names ≡ args
 args_are _ _ args f found all = same_Some (fold_args f) args (sym (ap (option_map fold_args) found) ∙ all)
+
+pub valid_fold : (folds : List TypedFold) (number : ℕ) (f : TypedFold) → All IsValidFold folds → slice_get folds number ≡ Some f
+    → IsValidFold f
+valid_fold folds number f all found = subst IsValidFold (get_or_from_slice_get folds number f f found)
+    (all number f (slice_get_within folds number f found))
 
 pub fitting_shape : (q : TypedQuery) (one : TypedStream) (number args : ℕ) (f : TypedFold) (group : GroupPlan)
     → slice_get q.folds number ≡ Some f → IsProgramOf f group.program →

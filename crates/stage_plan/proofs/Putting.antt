@@ -1,22 +1,14 @@
 -- A plan is put together from parts that were made in turn.
-use Rattle.std.{proofs.Common.{◌≡◌, ℕ, ◌<◌, ◌≤◌, List, [], ◌∷◌, length, None, sym, ap, subst, arith}, specs.Prelude.{All, map}}
+use Rattle.std.{proofs.Common.{◌≡◌, ℕ, ◌<◌, ◌≤◌, List, [], ◌∷◌, length, sym, ap, subst, arith}, specs.Prelude.{All, map}}
 use Rattle.marple_base.specs.declared.field.FieldSet.{FieldSet}
-use Rattle.query_lang.specs.{declared.typed.{TypedQuery.TypedQuery, TypedStream.TypedStream}, Streams.takings, TypedQueries.IsValidQuery}
+use Rattle.query_lang.specs.{declared.typed.{TypedQuery.TypedQuery, TypedStream.TypedStream}, Streams.takings}
 use Rattle.query_lang.specs.{declared.error.QueryError.QueryError, Answers.IsTold}
 use Rattle.stage_plan.specs.declared.{group.{GroupPlan.GroupPlan, GroupWiring.GroupWiring}, op.PlanOp.PlanOp, wires.StreamWires.StreamWires}
 use Rattle.stage_plan.specs.{Depths.stage_fault, Registers.stages_of, Fields.reads_of, Grouping.AreGroupsOf}
-use Rattle.stage_plan.specs.{Making.{packet_wires, all_made, made_fault}, Ordering.{order_of, ArePlaced, moved_op, op_numbered, wiring_of}}
-use Rattle.stage_plan.specs.{Planned.IsPlanOf, Shape.{group_shape, query_groups}, Sound.{PlanParts, IsSoundPlan}}
+use Rattle.stage_plan.specs.{Making.{packet_wires, made_fault}, Ordering.{order_of, ArePlaced, moved_op, op_numbered, wiring_of}}
+use Rattle.stage_plan.specs.{Planned.{IsPlanOf, MadeOf}, Shape.{group_shape, query_groups}, Sound.{PlanParts, IsSoundPlan}}
 use Rattle.stage_plan.proofs.{Faults.{QueryMade, query_made, query_fault}, Runs.stage_below, Sorted.{order_within, order_long}}
 use Rattle.stage_plan.proofs.PlanParts.{is_plan, sound_plan}
-
--- what was made of a query
-pub record MadeOf (q : TypedQuery) (ops : List PlanOp) (streams : List StreamWires) : Type 0 where
-  pub valid : IsValidQuery q
-  pub ops_are : ops ≡ (all_made q.folds [] (packet_wires ∷ []) q.streams).ops
-  pub streams_are : streams ≡ (all_made q.folds [] (packet_wires ∷ []) q.streams).streams
-  pub fits : made_fault q.folds [] (packet_wires ∷ []) q.streams ≡ None
-  pub few : length ops ≤ 32768
 
 made_query : (q : TypedQuery) (ops : List PlanOp) (streams : List StreamWires) → MadeOf q ops streams → QueryMade q ops streams
 made_query q ops streams m = query_made q _ _ m.ops_are m.streams_are m.fits

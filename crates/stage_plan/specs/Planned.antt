@@ -1,14 +1,25 @@
 -- Which plan is a query's.
-use Rattle.std.specs.Prelude.{◌≡◌, ℕ, ◌+◌, ◌<◌, List, [], ◌∷◌, length, map, All, slice_get, Option, Some, option_and_then, unwrap_or}
+use Rattle.std.specs.Prelude.{◌≡◌, ℕ, ◌+◌, ◌<◌, ◌≤◌, List, [], ◌∷◌, length, map, All, slice_get, Option, Some, None}
+use Rattle.std.specs.Prelude.{option_and_then, unwrap_or}
 use Rattle.marple_base.specs.declared.field.TheConstants.{FIELDS}
 use Rattle.epoch_model.specs.Driving.{Taken, uses_taken}
 use Rattle.fold_class.specs.Program.{IsProgramOf}
 use Rattle.query_lang.specs.{declared.{fold.TypedFold.TypedFold, typed.TypedQuery.TypedQuery}, Streams.takings}
+use Rattle.query_lang.specs.TypedQueries.{IsValidQuery}
 use Rattle.query_types.specs.Uses.{uses}
-use Rattle.stage_plan.specs.declared.{group.{GroupPlan.GroupPlan, GroupWiring.GroupWiring}, op.Operand.TheVariants.Number}
-use Rattle.stage_plan.specs.{Fields.reads_of, Making.{AllMade, packet_wires, all_made}, Ordering.IsStaged}
+use Rattle.stage_plan.specs.declared.{group.{GroupPlan.GroupPlan, GroupWiring.GroupWiring}, op.{Operand.TheVariants.Number, PlanOp.PlanOp}}
+use Rattle.stage_plan.specs.declared.wires.StreamWires.{StreamWires}
+use Rattle.stage_plan.specs.{Fields.reads_of, Making.{AllMade, packet_wires, all_made, made_fault}, Ordering.IsStaged}
 use Rattle.stage_plan.specs.{Registers.{registers_after, stages_of, taken_at}, Shape.{PlanShape, parts_shape, query_shape, bound_of}}
 use Rattle.stage_plan.specs.Sound.{PlanParts}
+
+-- what was made of a query
+pub record MadeOf (q : TypedQuery) (ops : List PlanOp) (streams : List StreamWires) : Type 0 where
+  pub valid : IsValidQuery q
+  pub ops_are : ops ≡ (all_made q.folds [] (packet_wires ∷ []) q.streams).ops
+  pub streams_are : streams ≡ (all_made q.folds [] (packet_wires ∷ []) q.streams).streams
+  pub fits : made_fault q.folds [] (packet_wires ∷ []) q.streams ≡ None
+  pub few : length ops ≤ 32768
 
 -- how many registers a plan needs: one for each field, and one for each operation
 abbrev pub registers_of : PlanParts → ℕ

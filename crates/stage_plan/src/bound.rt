@@ -80,7 +80,6 @@ fn most_of_group(group: &GroupPlan, ways: u32) -> u64
     )
 }
 
-// The most steps of one packet at all groupbys.
 pub(crate) fn most_of_groups(groups: &[GroupPlan], ways: u32) -> u64
     requires few { length groups.now ≤ MAX_GROUPBYS }
     requires keys { (i : ℕ) (group : GroupPlan) → slice_get groups.now i ≡ Some group → length group.key_names ≤ MAX_KEYS }

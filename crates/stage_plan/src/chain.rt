@@ -14,21 +14,15 @@ fn number_in(ops: &[PlanOp], operand: Operand, stage: u32) -> Option<u32>
     ensures found { 0 < stage → operand_stage ops.now operand ≡ stage → is_some result ≡ true }
 {
     match operand {
-        Operand::Number(_) => None,
-        Operand::Register(r) => {
-            if r < FIRST_RESULT {
-                return None;
-            }
-            match ops.get(r as usize - FIELDS) {
-                Some(one) => {
-                    if one.stage == stage {
-                        return Some(r - FIRST_RESULT);
-                    }
-                    None
-                }
-                None => None,
+        Operand::Register(r) if r >= FIRST_RESULT => {
+            let one = ops.get(r as usize - FIELDS)?;
+            if one.stage == stage {
+                Some(r - FIRST_RESULT)
+            } else {
+                None
             }
         }
+        _ => None,
     }
 }
 

@@ -6,6 +6,7 @@ ghost use Rattle.query_lang.specs.Terms.{term_of};
 ghost use Rattle.stage_plan.specs.Fields.{source_at, sources_at, packet_sources, sources_made, all_sources, reads_of};
 ghost use Rattle.stage_plan.specs.Marking.{marked, marked_slots, marked_term, marked_op};
 
+use crate::wires::copy;
 use marple_base::{Field, FieldSet, Seq};
 use query_lang::{TypedExpr, TypedOp, TypedQuery, TypedStream};
 use std::alloc::{AllocError, Global};
@@ -21,17 +22,12 @@ fn packet_fields(alloc: Global) -> Result<Seq<Option<Field>>, AllocError>
     Ok(columns)
 }
 
-// Where the column in a slot comes from.
 fn source_of(columns: &[Option<Field>], slot: u16) -> Option<Field>
     ensures { result ≡ source_at columns.now slot }
 {
-    match columns.get(slot as usize) {
-        Some(source) => *source,
-        None => None,
-    }
+    *columns.get(slot as usize)?
 }
 
-// The columns of the stream with a number.
 fn columns_of(streams: &[Seq<Option<Field>>], number: u16) -> &[Option<Field>]
     ensures { result.now ≡ sources_at streams.now number }
 {
@@ -41,7 +37,6 @@ fn columns_of(streams: &[Seq<Option<Field>>], number: u16) -> &[Option<Field>]
     }
 }
 
-// The columns in these slots, after those that are there.
 fn push_sources(
     into: &mut Seq<Option<Field>>,
     columns: &[Option<Field>],
@@ -55,13 +50,6 @@ fn push_sources(
     Ok(())
 }
 
-// The same columns.
-fn copy(alloc: Global, columns: &[Option<Field>]) -> Result<Seq<Option<Field>>, AllocError>
-    ensures { IfOk result (λ copy. copy ≡ columns.now) }
-{
-    Ok(Seq::from_vec(columns.to_vec(alloc)?))
-}
-
 // As many columns more that are no fields.
 fn push_made(into: &mut Seq<Option<Field>>, values: &[TypedExpr]) -> Result<(), AllocError>
     ensures { OnOk result (into.new ≡ into.old ++ map (λ _. None) values.now) }
@@ -72,7 +60,6 @@ fn push_made(into: &mut Seq<Option<Field>>, values: &[TypedExpr]) -> Result<(), 
     Ok(())
 }
 
-// Where the columns of a new stream come from.
 fn make_columns(
     alloc: Global,
     streams: &[Seq<Option<Field>>],
@@ -100,7 +87,6 @@ fn make_columns(
     }
 }
 
-// Where the columns of all streams come from.
 fn make_all_columns(alloc: Global, q: &TypedQuery) -> Result<Seq<Seq<Option<Field>>>, AllocError>
     ensures { IfOk result (λ streams. streams ≡ all_sources q.now) }
 {
@@ -123,7 +109,6 @@ fn mark(fields: FieldSet, source: Option<Field>) -> FieldSet
     }
 }
 
-// The fields with those of the columns in these slots.
 fn mark_slots(fields: FieldSet, columns: &[Option<Field>], slots: &[u16]) -> FieldSet
     ensures { result ≡ marked_slots columns.now fields slots.now }
 {
@@ -149,7 +134,6 @@ fn mark_expr(fields: FieldSet, columns: &[Option<Field>], e: &TypedExpr) -> Fiel
     }
 }
 
-// The fields with those that expressions name.
 fn mark_exprs(fields: FieldSet, columns: &[Option<Field>], values: &[TypedExpr]) -> FieldSet
     ensures { result ≡ fold (λ all e. marked_term columns.now all (term_of e)) fields values.now }
 {
@@ -160,7 +144,6 @@ fn mark_exprs(fields: FieldSet, columns: &[Option<Field>], values: &[TypedExpr])
     all
 }
 
-// The fields with those that an operator names.
 fn mark_op(fields: FieldSet, streams: &[Seq<Option<Field>>], op: &TypedOp) -> FieldSet
     ensures { result ≡ marked_op streams.now fields op.now }
 {
@@ -180,7 +163,6 @@ fn mark_op(fields: FieldSet, streams: &[Seq<Option<Field>>], op: &TypedOp) -> Fi
     }
 }
 
-// The fields that all streams name.
 fn mark_all(columns: &[Seq<Option<Field>>], streams: &[TypedStream]) -> FieldSet
     ensures { result ≡ fold (λ all one. marked_op columns.now all one.op) no_fields streams.now }
 {

@@ -2,8 +2,7 @@
 
 ghost use Rattle.std.specs.Prelude.{◌≡◌, ℕ, ◌<◌, ◌++◌, map, length, option_map, option_to_list, All, IfOk, OnOk};
 ghost use Rattle.query_lang.specs.{Folds.IsValidFold, Streams.{taking_of, takings}, TypedQueries.{AreNames, HasNames}};
-ghost use Rattle.fold_class.specs.Program.{IsProgramOf};
-ghost use Rattle.stage_plan.specs.{Counting.HasInputs, Making.operand_at, Ordering.{moved, wired, wiring_of}};
+ghost use Rattle.stage_plan.specs.{Counting.HasInputs, Making.operand_at, Ordering.{moved, wiring_of}};
 ghost use Rattle.stage_plan.specs.Shape.{text_at, shape_made, group_shape, query_groups};
 ghost use Rattle.stage_plan.specs.Grouping.{FitsFold, FitsGroup, IsGroupFor, IsGroupOf, AreGroupsOf, IsGroupShape};
 
@@ -16,10 +15,9 @@ use crate::wires::StreamWires;
 use fold_class::classify;
 use fold_code::compile;
 use marple_base::{Seq, Text};
-use query_lang::{Names, TypedFold, TypedOp, TypedQuery, TypedStream};
+use query_lang::{Names, TypedOp, TypedQuery, TypedStream};
 use std::alloc::{AllocError, Global};
 
-// The columns in these slots, where the operations have new registers.
 fn move_columns(
     alloc: Global,
     registers: &[u32],
@@ -35,25 +33,6 @@ fn move_columns(
     Ok(all)
 }
 
-// What a groupby takes of a stream.
-fn wire_group(
-    alloc: Global,
-    registers: &[u32],
-    input: &StreamWires,
-    keys: &[u16],
-    args: &[u16],
-) -> Result<GroupWiring, AllocError>
-    ensures { IfOk result (λ w. w ≡ wired registers.now input.now keys.now args.now) }
-{
-    let columns = input.columns.as_slice();
-    Ok(GroupWiring {
-        present: move_operand(registers, input.present),
-        keys: move_columns(alloc, registers, columns, keys)?,
-        args: move_columns(alloc, registers, columns, args)?,
-    })
-}
-
-// One more item, where there is one.
 fn push_some<T: Drop>(all: &mut Seq<T>, item: Option<T>) -> Result<(), AllocError>
     ensures { OnOk result (all.new ≡ all.old ++ option_to_list item) }
 {
@@ -76,8 +55,12 @@ fn wiring_for(
     match op {
         TypedOp::Group(input, keys, _, args) => {
             let source = stream_at(wires, *input);
-            let wiring = wire_group(alloc, registers, source, keys.as_slice(), args.as_slice())?;
-            Ok(Some(wiring))
+            let columns = source.columns.as_slice();
+            Ok(Some(GroupWiring {
+                present: move_operand(registers, source.present),
+                keys: move_columns(alloc, registers, columns, keys.as_slice())?,
+                args: move_columns(alloc, registers, columns, args.as_slice())?,
+            }))
         }
         _ => Ok(None),
     }
@@ -100,7 +83,6 @@ pub(crate) fn wire_groups(
     Ok(all)
 }
 
-// The text of a name.
 fn text_of(alloc: Global, names: &Names, id: u32) -> Result<Text, AllocError>
     requires { id < length names.now }
     ensures { IfOk result (λ text. text ≡ text_at names.now id) }
@@ -108,7 +90,6 @@ fn text_of(alloc: Global, names: &Names, id: u32) -> Result<Text, AllocError>
     Text::from_slice(alloc, names.text(id))
 }
 
-// The texts of names.
 fn texts_of(alloc: Global, names: &Names, ids: &[u32]) -> Result<Seq<Text>, AllocError>
     requires { AreNames (length names.now) ids.now }
     ensures { IfOk result (λ texts. texts ≡ map (text_at names.now) ids.now) }
@@ -118,34 +99,6 @@ fn texts_of(alloc: Global, names: &Names, ids: &[u32]) -> Result<Seq<Text>, Allo
         texts.push(text_of(alloc, names, *id)?)?;
     }
     Ok(texts)
-}
-
-// A groupby with the program of its fold.
-fn plan_group(
-    alloc: Global,
-    names: &Names,
-    one: &TypedStream,
-    f: &TypedFold,
-) -> Result<GroupPlan, AllocError>
-    requires fold { IsValidFold f.now }
-    requires name { one.now.name.id < length names.now }
-    requires key_names { AreNames (length names.now) one.now.columns }
-    requires state_names { AreNames (length names.now) f.now.state_names }
-    ensures program { IfOk result (λ group. IsProgramOf f.now group.program) }
-    ensures name { IfOk result (λ group. group.name ≡ text_at names.now one.now.name.id) }
-    ensures key_names { IfOk result (λ group. group.key_names ≡ map (text_at names.now) one.now.columns) }
-    ensures state_names { IfOk result (λ group. group.state_names ≡ map (text_at names.now) f.now.state_names) }
-{
-    let name = text_of(alloc, names, one.name.id)?;
-    let key_names = texts_of(alloc, names, one.columns.as_slice())?;
-    let state_names = texts_of(alloc, names, f.state_names.as_slice())?;
-    let program = classify(alloc, f, compile(alloc, f)?)?;
-    Ok(GroupPlan {
-        name,
-        key_names,
-        state_names,
-        program,
-    })
 }
 
 // A groupby with its fold.
@@ -164,8 +117,12 @@ fn plan_fitting(
     ensures sound { IfOk result (λ group. IsGroupFor q.now.folds number keys args group) }
 {
     let f = fold_of(q.folds.as_slice(), number);
-    let group = plan_group(alloc, &q.names, one, f)?;
-    Ok(group)
+    Ok(GroupPlan {
+        name: text_of(alloc, &q.names, one.name.id)?,
+        key_names: texts_of(alloc, &q.names, one.columns.as_slice())?,
+        state_names: texts_of(alloc, &q.names, f.state_names.as_slice())?,
+        program: classify(alloc, f, compile(alloc, f)?)?,
+    })
 }
 
 // The groupby of a stream, where it is one.
@@ -182,8 +139,7 @@ fn group_of(
 {
     match &one.op {
         TypedOp::Group(_, keys, number, args) => {
-            let group = plan_fitting(alloc, q, one, *number, keys.len(), args.len())?;
-            Ok(Some(group))
+            Ok(Some(plan_fitting(alloc, q, one, *number, keys.len(), args.len())?))
         }
         _ => Ok(None),
     }

@@ -22,4 +22,4 @@ pub use laws::stages_are_fewest;
 pub use op::{FIRST_RESULT, Operand, Operation, PlanOp};
 pub use planner::plan;
 pub use plans::Plan;
-pub use text::plan_text;
+pub use text::{class_name, plan_text};

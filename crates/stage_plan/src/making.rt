@@ -7,26 +7,20 @@ ghost use Rattle.stage_plan.specs.Making.{operand_at, compiled, made_join, condi
 ghost use Rattle.stage_plan.specs.{Making.made_group, Counting.{condition_most, values_most, emit_most}};
 
 use crate::op::{FIRST_RESULT, Operand, Operation, PlanOp};
-use crate::wires::StreamWires;
+use crate::wires::{StreamWires, copy};
 use marple_base::{FIELDS, Seq};
 use query_lang::{MAX_STAGES, Op, TypedExpr, TypedFold};
 use std::alloc::{AllocError, Global};
 
-// The stage of an operand.
 fn stage_of(ops: &[PlanOp], operand: Operand) -> u32
     ensures { result ≡ operand_stage ops.now operand }
 {
     match operand {
-        Operand::Number(_) => 0,
-        Operand::Register(r) => {
-            if r < FIRST_RESULT {
-                return 0;
-            }
-            match ops.get(r as usize - FIELDS) {
-                Some(one) => one.stage,
-                None => 0,
-            }
-        }
+        Operand::Register(r) if r >= FIRST_RESULT => match ops.get(r as usize - FIELDS) {
+            Some(one) => one.stage,
+            None => 0,
+        },
+        _ => 0,
     }
 }
 
@@ -67,7 +61,6 @@ fn make_op(
     Ok(Operand::Register(FIRST_RESULT + at as u32))
 }
 
-// The column in a slot.
 pub(crate) fn column_at(columns: &[Operand], slot: u16) -> Operand
     ensures { result ≡ operand_at columns.now slot }
 {
@@ -99,14 +92,6 @@ fn compile(ops: &mut Seq<PlanOp>, columns: &[Operand], e: &TypedExpr) -> Result<
     }
 }
 
-// The same operands.
-fn copy(alloc: Global, operands: &[Operand]) -> Result<Seq<Operand>, AllocError>
-    ensures { IfOk result (λ copy. copy ≡ operands.now) }
-{
-    Ok(Seq::from_vec(operands.to_vec(alloc)?))
-}
-
-// The columns in these slots, after those that are there.
 fn push_columns(
     into: &mut Seq<Operand>,
     columns: &[Operand],
@@ -118,19 +103,6 @@ fn push_columns(
         into.push(column_at(columns, *slot))?;
     }
     Ok(())
-}
-
-// The columns in these slots.
-pub(crate) fn pick(
-    alloc: Global,
-    columns: &[Operand],
-    slots: &[u16],
-) -> Result<Seq<Operand>, AllocError>
-    ensures { IfOk result (λ picked. picked ≡ map (operand_at columns.now) slots.now) }
-{
-    let mut picked = Seq::new(alloc);
-    push_columns(&mut picked, columns, slots)?;
-    Ok(picked)
 }
 
 // A presence, joined with another condition.
@@ -166,7 +138,6 @@ pub(crate) fn make_condition(
     join(ops, present, value, columns)
 }
 
-// A stream with the tuples where a condition holds.
 pub(crate) fn make_filter(
     alloc: Global,
     ops: &mut Seq<PlanOp>,
@@ -188,7 +159,6 @@ pub(crate) fn make_filter(
     )
 }
 
-// A stream with more columns.
 pub(crate) fn make_map(
     alloc: Global,
     ops: &mut Seq<PlanOp>,
@@ -211,7 +181,6 @@ pub(crate) fn make_map(
     })
 }
 
-// A stream with the tuples of packets that both have.
 pub(crate) fn make_zip(
     alloc: Global,
     ops: &mut Seq<PlanOp>,
@@ -260,7 +229,8 @@ pub(crate) fn make_group(
     ensures wires { IfOk result (λ wires. wires ≡ (made_group (Some f.now) input.now keys.now args.now ops.old).wires) }
     ensures few { OnOk result (length ops.new ≤ length ops.old + emit_most f.now.emit) }
 {
-    let columns = pick(alloc, input.columns.as_slice(), keys)?;
+    let mut columns = Seq::new(alloc);
+    push_columns(&mut columns, input.columns.as_slice(), keys)?;
     match &f.emit {
         None => Ok(StreamWires {
             present: Operand::Number(0),

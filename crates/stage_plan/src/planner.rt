@@ -1,8 +1,8 @@
 //! The plan of a typed query.
 
-ghost use Rattle.std.specs.Prelude.{◌≡◌, ◌≤◌, ◌∷◌, [], None, length, IfOk, OnOk, IfErr};
+ghost use Rattle.std.specs.Prelude.{◌≡◌, None, IfOk, OnOk, IfErr};
 ghost use Rattle.query_lang.specs.{Answers.IsTold, TypedQueries.IsValidQuery};
-ghost use Rattle.stage_plan.specs.{Depths.stage_fault, Making.{packet_wires, all_made, made_fault}, Planned.IsPlanOf};
+ghost use Rattle.stage_plan.specs.{Depths.stage_fault, Planned.{IsPlanOf, MadeOf}};
 
 use crate::fields::read_fields;
 use crate::groups::{plan_groups, wire_groups};
@@ -12,13 +12,9 @@ use crate::streams::{MadeStreams, make_streams};
 use query_lang::{QueryError, TypedQuery};
 use std::alloc::{AllocError, Global};
 
-// The plan of the operations that were made for a query: they are put in the order of their stages, and the groupbys are wired to them.
+// The operations that were made for a query are put in the order of their stages, and the groupbys are wired to them.
 fn put_plan(alloc: Global, q: &TypedQuery, made: &MadeStreams) -> Result<Plan, AllocError>
-    requires valid { IsValidQuery q.now }
-    requires ops { made.now.ops ≡ (all_made q.now.folds [] (packet_wires ∷ []) q.now.streams).ops }
-    requires streams { made.now.streams ≡ (all_made q.now.folds [] (packet_wires ∷ []) q.now.streams).streams }
-    requires fits { made_fault q.now.folds [] (packet_wires ∷ []) q.now.streams ≡ None }
-    requires few { length made.now.ops ≤ 32768 }
+    requires { MadeOf q.now made.now.ops made.now.streams }
     ensures { IfOk result (λ plan. IsPlanOf q.now plan) }
 {
     let ops = made.ops.as_slice();
@@ -45,6 +41,5 @@ pub fn plan(alloc: Global, q: &TypedQuery) -> Result<Plan, QueryError>
     ensures refused { IfErr result (IsTold (stage_fault q.now)) }
 {
     let made = make_streams(alloc, q)?;
-    let plan = put_plan(alloc, q, &made)?;
-    Ok(plan)
+    Ok(put_plan(alloc, q, &made)?)
 }

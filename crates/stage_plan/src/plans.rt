@@ -129,7 +129,6 @@ impl Plan {
         *self.ops.get(number as usize)
     }
 
-    // All operations.
     pub(crate) fn ops(&self) -> &[PlanOp]
         ensures ops { result.now ≡ self.now.ops }
         ensures few { length result.now ≤ 32768 }
@@ -137,7 +136,6 @@ impl Plan {
         self.ops.as_slice()
     }
 
-    // All groupbys.
     pub(crate) fn all_groups(&self) -> &[GroupPlan]
         ensures { result.now ≡ self.now.groups }
     {
@@ -249,7 +247,6 @@ pub(crate) fn greatest_stage(ops: &[PlanOp]) -> u32
     stages
 }
 
-// The number of operations in a stage.
 pub(crate) fn in_stage(ops: &[PlanOp], stage: u32) -> u32
     requires { length ops.now ≤ 32768 }
     ensures { result ≡ count_by (λ one. one.stage == stage) ops.now }

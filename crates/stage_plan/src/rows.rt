@@ -8,7 +8,6 @@ use crate::op::{Operand, Operation, PlanOp};
 use marple_base::{FIELDS, Steps};
 use std::sync::ledger::Ledger;
 
-// The word of an operand.
 pub(crate) fn operand_in(operand: Operand, registers: &[u64]) -> u64
     requires { IsWithin (length registers.now) operand }
     ensures { result ≡ operand_value registers.now operand }
@@ -19,7 +18,6 @@ pub(crate) fn operand_in(operand: Operand, registers: &[u64]) -> u64
     }
 }
 
-// What an operation gives.
 fn result_in(one: &PlanOp, registers: &[u64]) -> u64
     requires left { IsWithin (length registers.now) one.now.left }
     requires right { IsWithin (length registers.now) one.now.right }
@@ -33,7 +31,6 @@ fn result_in(one: &PlanOp, registers: &[u64]) -> u64
     }
 }
 
-// The packet's words in the first registers.
 fn fill_fields<L: Ledger>(words: &[u64], registers: &mut [u64], steps: &mut Steps<L>)
     requires words { length words.now ≡ FIELDS }
     requires room { FIELDS ≤ length registers.old }
@@ -76,7 +73,6 @@ pub(crate) fn fill<L: Ledger>(
     fill_results(ops, registers, steps);
 }
 
-// The words of operands in order.
 pub(crate) fn copy_into<L: Ledger>(
     operands: &[Operand],
     registers: &[u64],

@@ -1,14 +1,14 @@
 //! The operations of all streams of a query.
 
-ghost use Rattle.std.specs.{Prelude.{◌≡◌, ◌+◌, ◌<◌, ◌≤◌, ◌∷◌, [], None, Some, length, slice_get, nat_lt, IfOk, OnOk, IfErr}, List.list_any};
+ghost use Rattle.std.specs.{Prelude.{◌≡◌, ◌+◌, ◌<◌, ◌≤◌, ◌∷◌, [], Some, length, slice_get, nat_lt, IfOk, OnOk, IfErr}, List.list_any};
 ghost use Rattle.query_lang.specs.{Answers.IsTold, TypedQueries.IsValidQuery};
 ghost use Rattle.stage_plan.specs.Counting.{HasInputs, HasFold, op_most};
-ghost use Rattle.stage_plan.specs.Making.{packet_wires, wires_at, made_by, are_deep, all_made, made_fault};
+ghost use Rattle.stage_plan.specs.{Making.{packet_wires, wires_at, made_by, are_deep, made_fault}, Planned.MadeOf};
 
 use crate::making::{make_filter, make_group, make_map, make_zip};
 use crate::op::{Operand, PlanOp};
 use crate::wires::StreamWires;
-use marple_base::Seq;
+use marple_base::{Field, Seq};
 use query_lang::{
     FaultKind, Limit, MAX_STAGES, QueryError, QueryFault, TypedFold, TypedOp, TypedQuery,
 };
@@ -21,33 +21,19 @@ pub(crate) struct MadeStreams {
     pub(crate) streams: Seq<StreamWires>,
 }
 
-// The stream of all packets.
 fn packets(alloc: Global) -> Result<StreamWires, AllocError>
     ensures { IfOk result (λ wires. wires ≡ packet_wires) }
 {
-    let columns = [
-        Operand::Register(0),
-        Operand::Register(1),
-        Operand::Register(2),
-        Operand::Register(3),
-        Operand::Register(4),
-        Operand::Register(5),
-        Operand::Register(6),
-        Operand::Register(7),
-        Operand::Register(8),
-        Operand::Register(9),
-        Operand::Register(10),
-        Operand::Register(11),
-        Operand::Register(12),
-        Operand::Register(13),
-    ];
+    let mut columns = Seq::new(alloc);
+    for f in Field::ALL {
+        columns.push(Operand::Register(f.number() as u32))?;
+    }
     Ok(StreamWires {
         present: Operand::Number(1),
-        columns: Seq::from_vec(columns.to_vec(alloc)?),
+        columns,
     })
 }
 
-// The stream with a number.
 pub(crate) fn stream_at(streams: &[StreamWires], number: u16) -> &StreamWires
     requires { number < length streams.now }
     ensures { result.now ≡ wires_at streams.now number }
@@ -55,7 +41,6 @@ pub(crate) fn stream_at(streams: &[StreamWires], number: u16) -> &StreamWires
     &streams[number as usize]
 }
 
-// The fold with a number.
 pub(crate) fn fold_of(folds: &[TypedFold], number: u16) -> &TypedFold
     requires { number < length folds.now }
     ensures { slice_get folds.now number ≡ Some result.now }
@@ -98,7 +83,6 @@ fn make_stream(
     }
 }
 
-// Whether some operation is too deep.
 fn has_deep(ops: &[PlanOp]) -> bool
     ensures { result ≡ are_deep ops.now }
 {
@@ -108,11 +92,8 @@ fn has_deep(ops: &[PlanOp]) -> bool
 // The operations of all streams, or the first stream that is too deep.
 pub(crate) fn make_streams(alloc: Global, q: &TypedQuery) -> Result<MadeStreams, QueryError>
     requires { IsValidQuery q.now }
-    ensures ops { IfOk result (λ made. made.ops ≡ (all_made q.now.folds [] (packet_wires ∷ []) q.now.streams).ops) }
-    ensures streams { IfOk result (λ made. made.streams ≡ (all_made q.now.folds [] (packet_wires ∷ []) q.now.streams).streams) }
-    ensures fits { OnOk result (made_fault q.now.folds [] (packet_wires ∷ []) q.now.streams ≡ None) }
+    ensures made { IfOk result (λ made. MadeOf q.now made.ops made.streams) }
     ensures refused { IfErr result (IsTold (made_fault q.now.folds [] (packet_wires ∷ []) q.now.streams)) }
-    ensures few { IfOk result (λ made. length made.ops ≤ 32768) }
 {
     let mut ops = Seq::new(alloc);
     let mut streams = Seq::new(alloc);

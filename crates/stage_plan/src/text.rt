@@ -17,30 +17,23 @@ fn push_counted(alloc: Global, text: &mut Text, word: &[u8], n: u64) -> Result<(
 {
     text.push_slice(word)?;
     text.push(b' ')?;
-    let digits = decimal(alloc, n)?;
-    text.push_slice(digits.as_slice())?;
-    Ok(())
+    text.push_slice(decimal(alloc, n)?.as_slice())
 }
 
-// A line of a word and a number.
 fn push_line(alloc: Global, text: &mut Text, word: &[u8], n: u64) -> Result<(), AllocError>
     ensures { OnOk result (text.new ≡ text.old ++ line (counted word.now n)) }
 {
     push_counted(alloc, text, word, n)?;
-    text.push(b'\n')?;
-    Ok(())
+    text.push(b'\n')
 }
 
-// The line of a stage.
 fn push_stage(alloc: Global, text: &mut Text, stage: u32, size: u32) -> Result<(), AllocError>
     ensures { OnOk result (text.new ≡ text.old ++ line (counted (counted (codes "stage") stage) size)) }
 {
     push_counted(alloc, text, b"stage", u64::from(stage))?;
-    push_line(alloc, text, b"", u64::from(size))?;
-    Ok(())
+    push_line(alloc, text, b"", u64::from(size))
 }
 
-// The lines of this many stages.
 fn push_stages(
     alloc: Global,
     text: &mut Text,
@@ -56,8 +49,8 @@ fn push_stages(
     Ok(())
 }
 
-// The word of a class.
-fn word_of(class: Class) -> &'static [u8]
+/// The word of a class.
+pub fn class_name(class: Class) -> &'static [u8]
     ensures { result.now ≡ class_word class }
 {
     match class {
@@ -66,7 +59,6 @@ fn word_of(class: Class) -> &'static [u8]
     }
 }
 
-// The line of a groupby.
 fn push_group(alloc: Global, text: &mut Text, group: &GroupPlan) -> Result<(), AllocError>
     ensures { OnOk result (text.new ≡ text.old ++ group_line (group_shape group.now)) }
 {
@@ -77,16 +69,14 @@ fn push_group(alloc: Global, text: &mut Text, group: &GroupPlan) -> Result<(), A
     push_counted(
         alloc,
         text,
-        word_of(program.class),
+        class_name(program.class),
         u64::from(program.depth),
     )?;
     push_counted(alloc, text, b" keys", group.key_names.len() as u64)?;
     push_counted(alloc, text, b" args", u64::from(program.layout.args))?;
-    push_line(alloc, text, b" states", group.state_names.len() as u64)?;
-    Ok(())
+    push_line(alloc, text, b" states", group.state_names.len() as u64)
 }
 
-// The lines of groupbys.
 fn push_groups(alloc: Global, text: &mut Text, groups: &[GroupPlan]) -> Result<(), AllocError>
     ensures { OnOk result (text.new ≡ text.old ++ flat_map group_line (map group_shape groups.now)) }
 {

@@ -8,4 +8,4 @@ returns-in_err-made-clause-refused c =
     rw (p.1, p.2) (refusal c.args.q.now c.in_err-made.field-0.0 c.in_err-made.ensures.refused)
 
 pub returns-clause-fits : goal.returns-clause-fits
-returns-clause-fits c = sym (query_fault c.args.q.now) ∙ c.in_ok-made.ensures.fits
+returns-clause-fits c = sym (query_fault c.args.q.now) ∙ c.in_ok-made.ensures.made.fits

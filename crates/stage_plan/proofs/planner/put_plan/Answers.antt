@@ -8,16 +8,12 @@ registers_in-requires-clause-numbers c = numbers_within c.args.made.now.ops _ _ 
     c.as_slice-ops.ensures c.greatest_stage.ensures c.in_ok-order.ensures c.as_slice.ensures) (ap length c.as_slice-ops.ensures)
 
 pub registers_in-requires-clause-few : goal.registers_in-requires-clause-few
-registers_in-requires-clause-few c = few_numbers _ _ _ _ (record {
-  valid = c.requires.valid;
-  ops_are = c.requires.ops;
-  streams_are = c.requires.streams;
-  fits = c.requires.fits;
-  few = c.requires.few;
-}) (order_from _ _ _ _ _ c.as_slice-ops.ensures c.greatest_stage.ensures c.in_ok-order.ensures c.as_slice.ensures)
+registers_in-requires-clause-few c = few_numbers _ _ _ _ c.requires
+    (order_from _ _ _ _ _ c.as_slice-ops.ensures c.greatest_stage.ensures c.in_ok-order.ensures c.as_slice.ensures)
 
 pub wire_groups-requires : goal.wire_groups-requires
-wire_groups-requires c = all_inputs _ _ _ packet_wires _ c.requires.valid c.requires.streams c.as_slice-5.ensures c.as_slice-4.ensures
+wire_groups-requires c =
+    all_inputs _ _ _ packet_wires _ c.requires.valid c.requires.streams_are c.as_slice-5.ensures c.as_slice-4.ensures
 
 pub plan_groups-requires : goal.plan_groups-requires
 plan_groups-requires c = record {
@@ -27,26 +23,16 @@ plan_groups-requires c = record {
 }
 
 pub of_parts-requires : goal.of_parts-requires
-of_parts-requires c = (put_from _ _ _ _ _ _ _ _ _ _ _ _ _ _ _ c.in_ok-groups.groups _ (record {
-  valid = c.requires.valid;
-  ops_are = c.requires.ops;
-  streams_are = c.requires.streams;
-  fits = c.requires.fits;
-  few = c.requires.few;
-}) c.as_slice-ops.ensures c.greatest_stage.ensures c.in_ok-order.ensures c.as_slice.ensures c.in_ok-registers.ensures.placed
+of_parts-requires c = (put_from _ _ _ _ _ _ _ _ _ _ _ _ _ _ _ c.in_ok-groups.groups _ c.requires
+    c.as_slice-ops.ensures c.greatest_stage.ensures c.in_ok-order.ensures c.as_slice.ensures c.in_ok-registers.ensures.placed
     c.in_ok-registers.ensures.long c.as_slice-2.ensures c.as_slice-3.ensures c.in_ok-sorted.ensures
     c.as_slice-4.ensures c.as_slice-5.ensures c.as_slice-6.ensures c.in_ok-wiring.ensures
     c.in_ok-groups.ensures.shapes c.in_ok-groups.ensures.sound c.in_ok-groups.ensures.all c.in_ok-reads.ensures).is_sound
 
 pub returns : goal.returns
 returns c =
-    let p : IsPut c.args.q.now _ = put_from _ _ _ _ _ _ _ _ _ _ _ _ _ _ _ c.in_ok-groups.groups _ (record {
-      valid = c.requires.valid;
-      ops_are = c.requires.ops;
-      streams_are = c.requires.streams;
-      fits = c.requires.fits;
-      few = c.requires.few;
-    }) c.as_slice-ops.ensures c.greatest_stage.ensures c.in_ok-order.ensures c.as_slice.ensures c.in_ok-registers.ensures.placed
+    let p : IsPut c.args.q.now _ = put_from _ _ _ _ _ _ _ _ _ _ _ _ _ _ _ c.in_ok-groups.groups _ c.requires
+    c.as_slice-ops.ensures c.greatest_stage.ensures c.in_ok-order.ensures c.as_slice.ensures c.in_ok-registers.ensures.placed
     c.in_ok-registers.ensures.long c.as_slice-2.ensures c.as_slice-3.ensures c.in_ok-sorted.ensures
     c.as_slice-4.ensures c.as_slice-5.ensures c.as_slice-6.ensures c.in_ok-wiring.ensures
     c.in_ok-groups.ensures.shapes c.in_ok-groups.ensures.sound c.in_ok-groups.ensures.all c.in_ok-reads.ensures
