@@ -5,6 +5,10 @@ use Rattle.query_lang.specs.{Lexis.{below_limit, is_digit, is_word_byte, reserve
 use Rattle.query_lang.specs.declared.fold.Op.TheVariants as ops
 use Rattle.std.specs.Str.{bytes_eq}
 
+-- one byte is another
+abbrev pub is_byte : ℕ → ℕ → Bool
+is_byte byte one = one == byte
+
 abbrev pub is_line_feed : ℕ → Bool
 is_line_feed byte = byte == 10
 

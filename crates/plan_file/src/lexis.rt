@@ -4,20 +4,21 @@ ghost use Rattle.std.specs.Prelude.{◌≡◌, ◌+◌, ◌<◌, ◌≤◌, if�
 ghost use Rattle.std.specs.List.{list_all, slice_split};
 ghost use Rattle.query_lang.specs.Lexis.{is_digit};
 ghost use Rattle.plan_file.specs.Lexis as Lexis;
-ghost use Rattle.plan_file.specs.Lexis.{is_line_feed, is_space, number_after, tokens, tokens_left};
+ghost use Rattle.plan_file.specs.Lexis.{is_byte, is_space, number_after, tokens, tokens_left};
 
 use query_lang::Op;
 use query_lang::lexis::{is_decimal_digit, is_text, number_of};
 
-/// The bytes before the first LF, and those after it.
-pub(crate) fn cut_at_line_feed(text: &[u8]) -> Option<(&[u8], &[u8])>
+/// The bytes before the first one that is this byte, and those after it.
+pub(crate) fn cut_at(byte: u8, text: &[u8]) -> Option<(&[u8], &[u8])>
     ensures place { IfSome result (λ parts. (length parts.0.now < length text.now)
         × (parts.1.now ≡ drop (length parts.0.now + 1) text.now)) }
-    ensures parts { MatchOption result (slice_split is_line_feed text.now ≡ text.now ∷ [])
-        (λ parts. slice_split is_line_feed text.now ≡ parts.0.now ∷ slice_split is_line_feed parts.1.now) }
+    ensures size { IfSome result (λ parts. length parts.1.now < length text.now) }
+    ensures parts { MatchOption result (slice_split (is_byte byte) text.now ≡ text.now ∷ [])
+        (λ parts. slice_split (is_byte byte) text.now ≡ parts.0.now ∷ slice_split (is_byte byte) parts.1.now) }
 {
-    for (i, byte) in text.iter().enumerate() {
-        if *byte == b'\n' {
+    for (i, one) in text.iter().enumerate() {
+        if *one == byte {
             return Some((&text[..i], &text[i + 1..]));
         }
     }
@@ -30,12 +31,7 @@ pub(crate) fn cut_at_space(line: &[u8]) -> Option<(&[u8], &[u8])>
     ensures parts { MatchOption result (slice_split is_space line.now ≡ line.now ∷ [])
         (λ parts. slice_split is_space line.now ≡ parts.0.now ∷ slice_split is_space parts.1.now) }
 {
-    for (i, byte) in line.iter().enumerate() {
-        if *byte == b' ' {
-            return Some((&line[..i], &line[i + 1..]));
-        }
-    }
-    None
+    cut_at(b' ', line)
 }
 
 /// The first token of a line, what follows it, and whether a space separates them.
@@ -52,12 +48,7 @@ pub(crate) fn first_token(line: &[u8]) -> (&[u8], &[u8], bool)
 fn all_digits(text: &[u8]) -> bool
     ensures { result ≡ list_all is_digit text.now }
 {
-    for byte in text {
-        if !is_decimal_digit(*byte) {
-            return false;
-        }
-    }
-    true
+    text.iter().all(|byte| is_decimal_digit(*byte))
 }
 
 /// A decimal number below 2^64 without leading zeros.

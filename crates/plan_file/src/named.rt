@@ -15,12 +15,7 @@ use stage_plan::{Operand, PlanOp};
 fn all_words(text: &[u8]) -> bool
     ensures { result ≡ list_all is_word_byte text.now }
 {
-    for byte in text {
-        if !is_in_word(*byte) {
-            return false;
-        }
-    }
-    true
+    text.iter().all(|byte| is_in_word(*byte))
 }
 
 /// A name: letters, digits and underscores, with no digit first, and no reserved word.
@@ -48,7 +43,6 @@ pub(crate) fn after_word<'a>(word: &[u8], line: &'a [u8]) -> Option<&'a [u8]>
     }
 }
 
-// The two tokens of a line that has two.
 pub(crate) fn two_tokens(line: &[u8]) -> Option<(&[u8], &[u8])>
     ensures { MatchOption result ((a b : List ℕ) → tokens line.now ≡ a ∷ b ∷ []
         → ⊥) (λ r. tokens line.now ≡ r.0.now ∷ r.1.now ∷ []) }
@@ -60,7 +54,6 @@ pub(crate) fn two_tokens(line: &[u8]) -> Option<(&[u8], &[u8])>
     }
 }
 
-// The token of a line that has one.
 fn one_token(line: &[u8]) -> Option<&[u8]>
     ensures { MatchOption result ((a : List ℕ) → tokens line.now ≡ a ∷ [] → ⊥) (λ r. tokens line.now ≡ r.now ∷ []) }
 {
@@ -74,9 +67,7 @@ fn one_token(line: &[u8]) -> Option<&[u8]>
 pub(crate) fn one_number(word: &[u8], line: &[u8]) -> Option<u64>
     ensures { Finds result (IsOneNumber word.now line.now) }
 {
-    let rest = after_word(word, line)?;
-    let token = one_token(rest)?;
-    number(token)
+    number(one_token(after_word(word, line)?)?)
 }
 
 /// The operand of a line that has this word and an operand.
@@ -89,9 +80,7 @@ pub(crate) fn one_operand(
     requires few { length ops.now ≤ 32768 }
     ensures { Finds result (IsOneOperand fields.now ops.now word.now line.now) }
 {
-    let rest = after_word(word, line)?;
-    let token = one_token(rest)?;
-    operand(fields, ops, token)
+    operand(fields, ops, one_token(after_word(word, line)?)?)
 }
 
 /// The name and the operand of a line that has this word, a name and an operand.
@@ -106,13 +95,11 @@ pub(crate) fn named_operand<'a>(
         → IsNamedOperand fields.now ops.now word.now line.now name v
         → ⊥) (λ r. IsNamedOperand fields.now ops.now word.now line.now r.0.now r.1) }
 {
-    let rest = after_word(word, line)?;
-    let (name, token) = two_tokens(rest)?;
+    let (name, token) = two_tokens(after_word(word, line)?)?;
     if !is_name(name) {
         return None;
     }
-    let value = operand(fields, ops, token)?;
-    Some((name, value))
+    Some((name, operand(fields, ops, token)?))
 }
 
 /// The name and the number of a line that has this word, a name and a number.
@@ -120,13 +107,11 @@ pub(crate) fn named_number<'a>(word: &[u8], line: &'a [u8]) -> Option<(&'a [u8],
     ensures { MatchOption result ((name : List ℕ) → (n : ℕ) → IsNamedNumber word.now line.now name n
         → ⊥) (λ r. IsNamedNumber word.now line.now r.0.now r.1) }
 {
-    let rest = after_word(word, line)?;
-    let (name, token) = two_tokens(rest)?;
+    let (name, token) = two_tokens(after_word(word, line)?)?;
     if !is_name(name) {
         return None;
     }
-    let value = number(token)?;
-    Some((name, value))
+    Some((name, number(token)?))
 }
 
 /// Whether a line is the first line of a plan.

@@ -3,7 +3,7 @@
 ghost use Rattle.std.specs.Prelude.{◌≡◌, ◌≤◌, ◌<◌, ◌+◌, ℕ, length, slice_get, IfSome, MatchOption, MatchResult, Some};
 ghost use Rattle.plan_file.specs.{Lexis.lines, Lines.{nothing as nothing_made}, Texts.{IsAfterLines, IsLineStart, Says, IsRefused}};
 
-use crate::lexis::cut_at_line_feed;
+use crate::lexis::cut_at;
 use crate::lines::{nothing, one_more};
 use crate::made::Made;
 use query_lang::{FaultKind, QueryError, QueryFault, Span};
@@ -20,14 +20,10 @@ fn next_line(text: &[u8], at: usize) -> Option<(&[u8], usize)>
         × IsLineStart text.now (i + 1) r.1) }
     ensures later { IfSome result (λ r. (at < r.1) × (r.1 ≤ length text.now)) }
 {
-    let rest = &text[at..];
-    match cut_at_line_feed(rest) {
-        None => None,
-        Some((line, _)) => Some((line, at + line.len() + 1)),
-    }
+    let (line, _) = cut_at(b'\n', &text[at..])?;
+    Some((line, at + line.len() + 1))
 }
 
-// A refusal at a byte.
 fn refused(at: usize) -> QueryError
     requires { at ≤ MAX_PLAN }
     ensures { result ≡ QueryError.Refused (record { kind = FaultKind.BadPlan; span = record { start = at; end = at } }) }
@@ -49,8 +45,7 @@ fn read_lines(alloc: Global, text: &[u8], made: &mut Made) -> Result<(), QueryEr
     }
     let mut at = 0;
     'lines: while let Some((line, next)) = next_line(text, at) {
-        let is_valid = one_more(alloc, made, line)?;
-        if !is_valid {
+        if !one_more(alloc, made, line)? {
             return Err(refused(at));
         }
         at = next;
