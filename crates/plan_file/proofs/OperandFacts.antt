@@ -38,7 +38,7 @@ pub not_among : (fields : List Field) (n : ℕ) → ((k : ℕ) → k < length fi
 not_among fields n none found =
     none found.0 (omega (arith, size_of_map fields, found.1)) (same_default (map number_of fields) found.0 0 n found.1 ∙ found.2)
 
-number_below : (f : Field) → number_of f < FIELDS
+pub number_below : (f : Field) → number_of f < FIELDS
 number_below Switch = omega arith
 number_below Qid = omega arith
 number_below Uid = omega arith

@@ -1,11 +1,13 @@
 -- The fields of a line `reads`, taken in their order.
-use Rattle.std.proofs.Common.{◌≡◌, ℕ, ◌+◌, ◌<◌, ◌≤◌, Bool, true, false, List, [], ◌∷◌, ◌++◌, map, refl, sym, ap, ◌∙◌, arith, append_assoc}
-use Rattle.std.proofs.{Common.{length, subst}, lemmas.{List.Splits.length-slice_split, Bool.Decides.nat_tests}}
+use Rattle.std.proofs.Common.{◌≡◌, ℕ, zero, suc, ◌+◌, ◌<◌, ◌≤◌, Bool, true, false, List, [], ◌∷◌, ◌++◌, map, refl, sym, ap, ◌∙◌}
+use Rattle.std.proofs.Common.{get_or, length, subst}
+use Rattle.std.proofs.{Common.{arith, rules, append_assoc}, lemmas.{List.Splits.length-slice_split, Bool.Decides.nat_tests}}
 use Rattle.std.specs.{Prelude.{codes, nat_eq, if◌then◌else◌}, Str.bytes_eq}
 use Rattle.marple_base.specs.declared.field.Field.{Field, TheVariants.{Switch, Qid, Uid, SrcIp, DstIp, SrcPort, DstPort, Proto, PktLen}}
-use Rattle.marple_base.specs.{declared.field.Field.TheVariants.{PayloadLen, TcpSeq, Tin, Tout, QSize}, Field.{number_of, field_name}}
+use Rattle.marple_base.specs.declared.field.Field.TheVariants.{PayloadLen, TcpSeq, Tin, Tout, QSize}
+use Rattle.marple_base.specs.Field.{all_fields, number_of, field_name}
 use Rattle.marple_base.specs.declared.field.TheConstants.{FIELDS}
-use Rattle.plan_file.specs.{Lexis.{is_space, tokens}, Operations.{AreFrom, IsReadsLine}}
+use Rattle.plan_file.{specs.{Lexis.{is_space, tokens}, Operations.{AreFrom, IsReadsLine}}, proofs.OperandFacts.number_below}
 
 -- a field by its number, and by its name
 abbrev numbered : ℕ → Field
@@ -60,6 +62,20 @@ same_number f g e = sym (numbered_is f) ∙ ap numbered e ∙ numbered_is g
 
 pub same_name : (f g : Field) → field_name f ≡ field_name g → f ≡ g
 same_name f g e = sym (named_is f) ∙ ap named e ∙ named_is g
+
+-- fields whose numbers count up from this one
+abbrev AreCounted : ℕ → List Field → Type 0
+AreCounted n [] = Unit {0}
+AreCounted n (f ∷ rest) = (number_of f ≡ n) × AreCounted (n + 1) rest
+
+counted_at : (fields : List Field) (n i : ℕ) → AreCounted n fields → i < length fields → number_of (get_or fields i Switch) ≡ n + i
+counted_at [] n i h lt = absurd (omega (arith, lt))
+counted_at (f ∷ rest) n zero h lt = omega (arith, h.0)
+counted_at (f ∷ rest) n (suc i) h lt = omega (arith, counted_at rest (n + 1) i h.1 (omega (arith, lt)))
+
+-- the fields stand in the order of their numbers
+pub number_at : (i : ℕ) → i < FIELDS → number_of (get_or all_fields i Switch) ≡ i
+number_at i lt = omega (arith, counted_at all_fields 0 i (search rules) lt)
 
 -- fields in their order, from one number on and below another
 abbrev pub AreIn : ℕ → ℕ → List Field → Type 0
@@ -161,22 +177,6 @@ passed_all line found i p = record {
   words = p.words ∙ ap (λ rest. codes "reads" ∷ rest) (nil_end (map field_name found));
   order = in_from found 0 i p.order;
 }
-
-number_below : (f : Field) → number_of f < FIELDS
-number_below Switch = omega arith
-number_below Qid = omega arith
-number_below Uid = omega arith
-number_below SrcIp = omega arith
-number_below DstIp = omega arith
-number_below SrcPort = omega arith
-number_below DstPort = omega arith
-number_below Proto = omega arith
-number_below PktLen = omega arith
-number_below PayloadLen = omega arith
-number_below TcpSeq = omega arith
-number_below Tin = omega arith
-number_below Tout = omega arith
-number_below QSize = omega arith
 
 past_all : (more : List Field) (i : ℕ) (t : List ℕ) (ts : List (List ℕ)) → FIELDS ≤ i → AreFrom i more → map field_name more ≡ t ∷ ts → ⊥
 past_all [] i t ts past order words = cc

@@ -14,22 +14,7 @@ fn field_at(n: usize) -> Field
     requires { n < FIELDS }
     ensures { number_of result ≡ n }
 {
-    match n {
-        0 => Field::Switch,
-        1 => Field::Qid,
-        2 => Field::Uid,
-        3 => Field::SrcIp,
-        4 => Field::DstIp,
-        5 => Field::SrcPort,
-        6 => Field::DstPort,
-        7 => Field::Proto,
-        8 => Field::PktLen,
-        9 => Field::PayloadLen,
-        10 => Field::TcpSeq,
-        11 => Field::Tin,
-        12 => Field::Tout,
-        _ => Field::QSize,
-    }
+    Field::ALL[n]
 }
 
 /// The fields of a line `reads`, where the line is valid.
