@@ -57,15 +57,11 @@ fn fold_words(line: &[u8]) -> Option<FoldWords>
     let (class, rest) = cut_at_space(rest)?;
     let (depth, rest) = cut_at_space(rest)?;
     let (nodes, statements) = two_tokens(rest)?;
-    let class = class_named(class)?;
-    let depth = number(depth)?;
-    let nodes = number(nodes)?;
-    let statements = number(statements)?;
     Some(FoldWords {
-        class,
-        depth,
-        nodes,
-        statements,
+        class: class_named(class)?,
+        depth: number(depth)?,
+        nodes: number(nodes)?,
+        statements: number(statements)?,
     })
 }
 
@@ -94,12 +90,6 @@ fn numbers(alloc: Global, from: u32, count: usize) -> Result<Seq<u32>, AllocErro
     Ok(all)
 }
 
-fn words_copied(alloc: Global, words: &[u64]) -> Result<Seq<u64>, AllocError>
-    ensures { IfOk result (λ copy. copy ≡ words.now) }
-{
-    Ok(Seq::from_vec(Vec::from_slice(alloc, words)?))
-}
-
 /// The fold of a group whose body has at most the given nodes and statements, which are at most `MAX_NODES` and `MAX_STATEMENTS`.
 pub fn fold_of(
     alloc: Global,
@@ -115,37 +105,35 @@ pub fn fold_of(
         × (f.nodes ≡ nodes) × (f.statements ≡ statements)
         × ((other : TypedFold) → IsFoldOf group.now other → fold_block other ≡ fold_block f))) }
 {
-    let words = match &group.body {
-        Some(words) => words.as_slice(),
-        None => return Ok(None),
+    let Some(words) = &group.body else {
+        return Ok(None);
     };
     let states = group.initial.len();
     let args = group.args.len();
-    match body_of(alloc, states as u64, args as u64, words, nodes, statements)? {
-        Some(body) => Ok(Some(TypedFold {
-            name: Name {
-                id: 0,
-                span: Span { start: 0, end: 0 },
-            },
-            state_names: numbers(alloc, 0, states)?,
-            initial: words_copied(alloc, group.initial.as_slice())?,
-            arg_names: numbers(alloc, states as u32, args)?,
-            body,
-            emit: None,
-            nodes,
-            statements,
-        })),
-        None => Ok(None),
-    }
+    let words = words.as_slice();
+    let Some(body) = body_of(alloc, states as u64, args as u64, words, nodes, statements)? else {
+        return Ok(None);
+    };
+    Ok(Some(TypedFold {
+        name: Name {
+            id: 0,
+            span: Span { start: 0, end: 0 },
+        },
+        state_names: numbers(alloc, 0, states)?,
+        initial: Seq::from_vec(Vec::from_slice(alloc, group.initial.as_slice())?),
+        arg_names: numbers(alloc, states as u32, args)?,
+        body,
+        emit: None,
+        nodes,
+        statements,
+    }))
 }
 
-// The class and the depth of a fold.
 fn class_and_depth(alloc: Global, fold: &TypedFold) -> Result<(Class, u32), AllocError>
     requires { IsValidFold fold.now }
     ensures { IfOk result (λ found. (found.0 ≡ class_of fold.now) × IsDepth fold.now found.1) }
 {
-    let code = compile(alloc, fold)?;
-    let program = classify(alloc, fold, code)?;
+    let program = classify(alloc, fold, compile(alloc, fold)?)?;
     Ok((program.class, u32::from(program.depth)))
 }
 
@@ -159,18 +147,16 @@ pub(crate) fn fold_line(
     ensures { IfOk result (λ found. MatchOption found ((folded : Folded) → IsFoldLine group.now line.now folded
         → ⊥) (λ said. IsFoldLine group.now line.now (folded_as group.now said))) }
 {
-    let words = match fold_words(line) {
-        Some(words) => words,
-        None => return Ok(None),
+    let Some(words) = fold_words(line) else {
+        return Ok(None);
     };
     if words.nodes > MAX_NODES as u64 || words.statements > MAX_STATEMENTS as u64 {
         return Ok(None);
     }
     let nodes = words.nodes as u32;
     let statements = words.statements as u32;
-    let fold = match fold_of(alloc, group, nodes, statements)? {
-        Some(fold) => fold,
-        None => return Ok(None),
+    let Some(fold) = fold_of(alloc, group, nodes, statements)? else {
+        return Ok(None);
     };
     let (class, depth) = class_and_depth(alloc, &fold)?;
     if !is_said(words, class, depth) {

@@ -17,7 +17,6 @@ use query_lang::{MAX_ARGS, MAX_GROUPBYS, MAX_KEYS, MAX_STATES};
 use stage_plan::{Operand, PlanOp};
 use std::alloc::{AllocError, Global};
 
-// Whether a name is among names.
 fn has_name(names: &[Text], name: &[u8]) -> bool
     ensures yes { result ≡ true → Contains names.now name.now }
     ensures no { result ≡ false → Contains names.now name.now → ⊥ }
@@ -30,7 +29,6 @@ fn has_name(names: &[Text], name: &[u8]) -> bool
     false
 }
 
-// Whether a group has a name.
 fn has_group(groups: &[Folded], name: &[u8]) -> bool
     ensures yes { result ≡ true → Contains (names_of groups.now) name.now }
     ensures no { result ≡ false → Contains (names_of groups.now) name.now → ⊥ }
@@ -81,14 +79,10 @@ pub(crate) fn group_line(
     if groups.len() >= MAX_GROUPBYS as usize {
         return Ok(None);
     }
-    let (name, present) = match named_operand(fields, ops, b"group", line) {
-        Some(found) => found,
-        None => return Ok(None),
-    };
-    if is_text(name, b"pktstream") {
+    let Some((name, present)) = named_operand(fields, ops, b"group", line) else {
         return Ok(None);
-    }
-    if has_group(groups, name) {
+    };
+    if is_text(name, b"pktstream") || has_group(groups, name) {
         return Ok(None);
     }
     Ok(Some(group_with(alloc, name, present)?))
@@ -112,9 +106,8 @@ fn key_line(
     {
         return Ok(false);
     }
-    let (name, value) = match named_operand(fields, ops, b"key", line) {
-        Some(found) => found,
-        None => return Ok(false),
+    let Some((name, value)) = named_operand(fields, ops, b"key", line) else {
+        return Ok(false);
     };
     if !is_new_in(group, name) {
         return Ok(false);
@@ -124,7 +117,6 @@ fn key_line(
     Ok(true)
 }
 
-// The same of a line `arg`.
 fn arg_line(
     fields: &[Field],
     ops: &[PlanOp],
@@ -141,24 +133,21 @@ fn arg_line(
     {
         return Ok(false);
     }
-    let value = match one_operand(fields, ops, b"arg", line) {
-        Some(found) => found,
-        None => return Ok(false),
+    let Some(value) = one_operand(fields, ops, b"arg", line) else {
+        return Ok(false);
     };
     group.args.push(value)?;
     Ok(true)
 }
 
-// The same of a line `state`.
 fn state_line(alloc: Global, group: &mut Group, line: &[u8]) -> Result<bool, AllocError>
     ensures { IfOk result (λ valid. Makes valid group.new (IsStateLine group.old line.now)) }
 {
     if group.keys.is_empty() || group.body.is_some() || group.initial.len() >= MAX_STATES {
         return Ok(false);
     }
-    let (name, value) = match named_number(b"state", line) {
-        Some(found) => found,
-        None => return Ok(false),
+    let Some((name, value)) = named_number(b"state", line) else {
+        return Ok(false);
     };
     if !is_new_in(group, name) {
         return Ok(false);
@@ -190,7 +179,6 @@ fn body_words(
     }
 }
 
-// The same of a line `body`.
 fn body_line(alloc: Global, group: &mut Group, line: &[u8]) -> Result<bool, AllocError>
     requires states { length group.old.initial ≤ MAX_STATES }
     requires args { length group.old.args ≤ MAX_ARGS }

@@ -45,7 +45,6 @@ fn lexeme_among(token: &[u8]) -> Lexeme
     }
 }
 
-// What a token is.
 #[tactic(auto, unfolding(crate::specs::Lexemes::lexeme_of))]
 fn lexeme_of(token: &[u8]) -> Lexeme
     ensures { result ≡ Lexemes.lexeme_of token.now }

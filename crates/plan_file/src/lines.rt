@@ -15,7 +15,6 @@ use crate::reads::reads_line;
 use marple_base::Seq;
 use query_lang::MAX_GROUPBYS;
 use std::alloc::{AllocError, Global};
-use std::mem;
 
 /// What no line made.
 pub(crate) fn nothing(alloc: Global) -> Made
@@ -106,15 +105,14 @@ fn part(alloc: Global, word: LineWord, made: &mut Made, line: &[u8]) -> Result<b
     requires { IsWithin made.old }
     ensures { IfOk result (λ valid. Makes valid made.new (IsPart word made.old line.now)) }
 {
-    let fields = match &made.reads {
-        Some(fields) => fields.as_slice(),
-        None => return Ok(false),
+    let Some(fields) = &made.reads else {
+        return Ok(false);
+    };
+    let Some(group) = &mut made.current else {
+        return Ok(false);
     };
     let ops = made.ops.as_slice();
-    match &mut made.current {
-        Some(group) => in_group(alloc, word, fields, ops, group, line),
-        None => Ok(false),
-    }
+    in_group(alloc, word, fields.as_slice(), ops, group, line)
 }
 
 fn fold(alloc: Global, made: &mut Made, line: &[u8]) -> Result<bool, AllocError>
@@ -129,7 +127,7 @@ fn fold(alloc: Global, made: &mut Made, line: &[u8]) -> Result<bool, AllocError>
         Some(said) => said,
         None => return Ok(false),
     };
-    match mem::replace(&mut made.current, None) {
+    match made.current.take() {
         Some(group) => {
             made.groups.push(Folded {
                 group,
@@ -144,7 +142,6 @@ fn fold(alloc: Global, made: &mut Made, line: &[u8]) -> Result<bool, AllocError>
     }
 }
 
-// Whether a number is among numbers.
 fn has_print(prints: &[u16], n: u64) -> bool
     ensures yes { result ≡ true → Contains prints.now n }
     ensures no { result ≡ false → Contains prints.now n → ⊥ }
@@ -164,9 +161,8 @@ fn print(made: &mut Made, line: &[u8]) -> Result<bool, AllocError>
     if made.current.is_some() {
         return Ok(false);
     }
-    let number = match one_number(b"print", line) {
-        Some(number) => number,
-        None => return Ok(false),
+    let Some(number) = one_number(b"print", line) else {
+        return Ok(false);
     };
     if number >= made.groups.len() as u64 || has_print(made.prints.as_slice(), number) {
         return Ok(false);

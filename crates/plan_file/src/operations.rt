@@ -14,7 +14,6 @@ use query_lang::lexis::is_text;
 use query_lang::{MAX_STAGES, Op};
 use stage_plan::{FIRST_RESULT, Operand, Operation, PlanOp};
 
-// Whether a field has this number.
 fn has_number(fields: &[Field], n: u64) -> bool
     ensures yes { result ≡ true → Contains (map number_of fields.now) n }
     ensures no { result ≡ false → Contains (map number_of fields.now) n → ⊥ }
@@ -27,7 +26,6 @@ fn has_number(fields: &[Field], n: u64) -> bool
     false
 }
 
-// Whether a register is known after these fields and operations.
 fn is_known(fields: &[Field], ops: &[PlanOp], n: u64) -> bool
     requires few { length ops.now ≤ 32768 }
     ensures yes { result ≡ true → IsKnownRegister fields.now ops.now n }
@@ -54,26 +52,19 @@ pub(crate) fn operand(fields: &[Field], ops: &[PlanOp], token: &[u8]) -> Option<
                 None
             }
         }
-        None => match past(b'#', token) {
-            Some(n) => Some(Operand::Number(n)),
-            None => None,
-        },
+        None => Some(Operand::Number(past(b'#', token)?)),
     }
 }
 
-// The stage of an operand.
 fn stage_of(ops: &[PlanOp], operand: Operand) -> u32
     ensures { result ≡ Operations.stage_of ops.now operand }
 {
     match operand {
-        Operand::Register(r) => {
-            if r < FIRST_RESULT || r as usize - FIELDS >= ops.len() {
-                0
-            } else {
-                ops[r as usize - FIELDS].stage
-            }
-        }
-        Operand::Number(_) => 0,
+        Operand::Register(r) if r >= FIRST_RESULT => match ops.get(r as usize - FIELDS) {
+            Some(one) => one.stage,
+            None => 0,
+        },
+        _ => 0,
     }
 }
 
@@ -88,7 +79,6 @@ fn last_stage(ops: &[PlanOp]) -> u32
     }
 }
 
-// Whether an operator takes this right operand.
 fn takes(op: Op, right: Operand) -> bool
     ensures { result ≡ takes_right op right }
 {

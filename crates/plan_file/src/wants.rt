@@ -25,7 +25,6 @@ pub(crate) enum Want {
     Block(u32),
 }
 
-// The operands of a function.
 fn push_operands(wants: &mut Vec<Want>, op: Op) -> Result<bool, AllocError>
     ensures { IfOk result (λ fits. GoesOn (Some (Wants.operands op)) wants.old.items fits wants.new.items) }
 {

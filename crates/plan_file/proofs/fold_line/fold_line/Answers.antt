@@ -3,8 +3,8 @@ use Rattle.query_lang.specs.Folds.{fold_states}
 use Rattle.plan_file.{specs.FoldLines.IsFoldWords, proofs.SameFold.{class_same, depth_same, depth_once, words_once}}
 use Rattle.plan_file.proofs.fold_line.fold_line.Goals as goal
 
-pub returns-in-None : goal.returns-in-None
-returns-in-None c after is = c.in-None.ensures after.class after.depth after.nodes after.statements is.valid
+pub returns-in_default : goal.returns-in_default
+returns-in_default c after is = c.in_default.ensures after.class after.depth after.nodes after.statements is.valid
 
 pub returns-then-not-is_said : goal.returns-then-not-is_said
 returns-then-not-is_said c after is =
