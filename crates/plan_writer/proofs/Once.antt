@@ -1,5 +1,5 @@
 -- Each operation occurs once in the order of stages, and so the registers of operations are those of their places.
-use Rattle.std.proofs.Common.{◌≡◌, ℕ, zero, suc, ◌+◌, ◌-◌, ◌<◌, ◌≤◌, ◌==◌, Bool, true, false, cond, eqb, List, [], ◌∷◌, ◌++◌, length}
+use Rattle.std.proofs.Common.{◌≡◌, ℕ, zero, suc, ◌+◌, ◌-◌, ◌<◌, ◌≤◌, ◌==◌, Bool, true, false, cond, eqb, List, [], ◌∷◌, length}
 use Rattle.std.proofs.{Common.{get_or, Some, None, refl, sym, ap, subst, ◌∙◌, inl, inr, ◌⊎◌, arith}, lemmas.Bool.Decides.nat_tests}
 use Rattle.std.proofs.lemmas.{Grind.same_number_lists, List.Sums.position_or_len_is}
 use Rattle.std.proofs.lemmas.List.FromFn.{get_or-map-range_with_len, length-map-range_with_len}
@@ -7,7 +7,7 @@ use Rattle.std.{proofs.lemmas.Option.{slice_get_within, same_Some, slice_get-get
 use Rattle.std.specs.List.{position_or_len}
 use Rattle.marple_base.specs.declared.field.TheConstants.{FIELDS}
 use Rattle.stage_plan.specs.{declared.op.PlanOp.PlanOp, Ordering.{numbers_at, order_of, IsPlaced, ArePlaced}}
-use Rattle.stage_plan.proofs.Sorted.{ordered, Has, order_has, Staged}
+use Rattle.stage_plan.proofs.Sorted.{append_cases, ordered, Has, order_has, Staged}
 use Rattle.plan_writer.specs.Ordered.{register_in, registers_in}
 
 no_item : {A : Type 0} {B : Type 0} (x : A) → None ≡ Some x → B
@@ -15,17 +15,6 @@ no_item x e = absurd (no e)
   where
     no : None ≡ Some x → ⊥
     no f = cc
-
--- an element of two lists joined
-append_cases : {A : Type 0} (xs ys : List A) (k : ℕ) (x : A) → slice_get (xs ++ ys) k ≡ Some x
-    → (slice_get xs k ≡ Some x) ⊎ ((length xs ≤ k) × (slice_get ys (k - length xs) ≡ Some x))
-append_cases [] ys k x e = let z : k ≡ k - 0 = omega arith in inr (omega arith, ap (slice_get ys) (sym z) ∙ e)
-append_cases (y ∷ xs) ys zero x e = inl e
-append_cases (y ∷ xs) ys (suc k) x e = elim (append_cases xs ys k x e) [
-  | inl left ↦ inl left
-  | inr right ↦ (let z : suc k - suc (length xs) ≡ k - length xs = omega arith in let le =
-      right.0 in inr (omega arith, ap (slice_get ys) z ∙ right.1))
-]
 
 -- a number of a stage, where the first operation has number n
 record Numbered (ops : List PlanOp) (stage n c : ℕ) : Type 0 where

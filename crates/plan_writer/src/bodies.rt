@@ -21,27 +21,24 @@ fn push_slot(text: &mut Text, states: u16, s: u16) -> Result<(), AllocError>
     }
 }
 
-// An expression.
 fn push_expr(text: &mut Text, states: u16, e: &TypedExpr) -> Result<(), AllocError>
     ensures { OnOk result (text.new ≡ text.old ++ spaced (term_words states (term_of e.now))) }
 {
     match e {
-        TypedExpr::Number(n) => push_marked(text, b'#', *n)?,
-        TypedExpr::Slot(s) => push_slot(text, states, *s)?,
+        TypedExpr::Number(n) => push_marked(text, b'#', *n),
+        TypedExpr::Slot(s) => push_slot(text, states, *s),
         TypedExpr::Not(inner) => {
             push_word(text, b"not")?;
-            push_expr(text, states, inner.get())?;
+            push_expr(text, states, inner.get())
         }
         TypedExpr::Binary(op, left, right) => {
             push_word(text, function_name(*op))?;
             push_expr(text, states, left.get())?;
-            push_expr(text, states, right.get())?;
+            push_expr(text, states, right.get())
         }
     }
-    Ok(())
 }
 
-// A statement.
 fn push_stmt(text: &mut Text, states: u16, s: &TypedStmt) -> Result<(), AllocError>
     ensures { OnOk result (text.new ≡ text.old ++ spaced (block_words states (stmt_block s.now))) }
 {

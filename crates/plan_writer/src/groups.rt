@@ -10,41 +10,36 @@ use crate::bodies::push_body;
 use crate::words::{push_number, push_operand, push_word};
 use marple_base::{Seq, Text};
 use query_lang::{Class, MAX_STATES, TypedFold, TypedOp, TypedQuery, TypedStream};
-use stage_plan::{GroupPlan, GroupWiring, Operand, Plan};
+use stage_plan::{GroupPlan, GroupWiring, Operand, Plan, class_name};
 use std::alloc::{AllocError, Global};
 
-// The line of a key.
-fn push_key(text: &mut Text, name: &[u8], value: Operand) -> Result<(), AllocError>
-    ensures { OnOk result (text.new ≡ text.old ++ line (codes "key") (name.now ∷ operand_word value ∷ [])) }
+// A line of a word, a name and an operand.
+fn push_named(text: &mut Text, word: &[u8], name: &[u8], value: Operand) -> Result<(), AllocError>
+    ensures { OnOk result (text.new ≡ text.old ++ line word.now (name.now ∷ operand_word value ∷ [])) }
 {
-    text.push_slice(b"key")?;
+    text.push_slice(word)?;
     push_word(text, name)?;
     push_operand(text, value)?;
-    text.push(b'\n')?;
-    Ok(())
+    text.push(b'\n')
 }
 
-// The lines of keys.
 fn push_keys(text: &mut Text, names: &[Text], values: &[Operand]) -> Result<(), AllocError>
     ensures { OnOk result (text.new ≡ text.old ++ named_lines (codes "key") names.now (map operand_word values.now)) }
 {
     for at in 0..names.len().min(values.len()) {
-        push_key(text, names[at].as_slice(), values[at])?;
+        push_named(text, b"key", names[at].as_slice(), values[at])?;
     }
     Ok(())
 }
 
-// The line of an argument of a fold.
 fn push_arg(text: &mut Text, value: Operand) -> Result<(), AllocError>
     ensures { OnOk result (text.new ≡ text.old ++ line (codes "arg") (operand_word value ∷ [])) }
 {
     text.push_slice(b"arg")?;
     push_operand(text, value)?;
-    text.push(b'\n')?;
-    Ok(())
+    text.push(b'\n')
 }
 
-// The lines of the arguments of a fold.
 fn push_args(text: &mut Text, values: &[Operand]) -> Result<(), AllocError>
     ensures { OnOk result (text.new ≡ text.old ++ flat_map (λ a. line (codes "arg") (operand_word a ∷ [])) values.now) }
 {
@@ -54,18 +49,15 @@ fn push_args(text: &mut Text, values: &[Operand]) -> Result<(), AllocError>
     Ok(())
 }
 
-// The line of a state variable.
 fn push_state(text: &mut Text, name: &[u8], initial: u64) -> Result<(), AllocError>
     ensures { OnOk result (text.new ≡ text.old ++ line (codes "state") (name.now ∷ decimal initial ∷ [])) }
 {
     text.push_slice(b"state")?;
     push_word(text, name)?;
     push_number(text, initial)?;
-    text.push(b'\n')?;
-    Ok(())
+    text.push(b'\n')
 }
 
-// The lines of state variables.
 fn push_states(text: &mut Text, names: &[Text], initial: &[u64]) -> Result<(), AllocError>
     ensures { OnOk result (text.new ≡ text.old ++ named_lines (codes "state") names.now (map decimal initial.now)) }
 {
@@ -75,28 +67,15 @@ fn push_states(text: &mut Text, names: &[Text], initial: &[u64]) -> Result<(), A
     Ok(())
 }
 
-// The line of a fold's statements.
 fn push_statements(text: &mut Text, f: &TypedFold) -> Result<(), AllocError>
     requires { length f.now.state_names < 65536 }
     ensures { OnOk result (text.new ≡ text.old ++ line (codes "body") (block_words (length f.now.state_names) (fold_block f.now))) }
 {
     text.push_slice(b"body")?;
     push_body(text, f.state_names.len() as u16, f.body.as_slice())?;
-    text.push(b'\n')?;
-    Ok(())
+    text.push(b'\n')
 }
 
-// The word of a class.
-fn class_name(class: Class) -> &'static [u8]
-    ensures { result.now ≡ class_word class }
-{
-    match class {
-        Class::Linear => b"linear",
-        Class::Other => b"other",
-    }
-}
-
-// The line with a fold's class and three numbers.
 fn push_bounds(
     text: &mut Text,
     class: Class,
@@ -112,22 +91,9 @@ fn push_bounds(
     push_number(text, u64::from(depth))?;
     push_number(text, u64::from(nodes))?;
     push_number(text, u64::from(statements))?;
-    text.push(b'\n')?;
-    Ok(())
+    text.push(b'\n')
 }
 
-// The line of a groupby's name.
-fn push_name(text: &mut Text, name: &[u8], present: Operand) -> Result<(), AllocError>
-    ensures { OnOk result (text.new ≡ text.old ++ line (codes "group") (name.now ∷ operand_word present ∷ [])) }
-{
-    text.push_slice(b"group")?;
-    push_word(text, name)?;
-    push_operand(text, present)?;
-    text.push(b'\n')?;
-    Ok(())
-}
-
-// The lines of a groupby.
 fn push_group(
     text: &mut Text,
     group: &GroupPlan,
@@ -137,7 +103,7 @@ fn push_group(
     requires { length f.now.state_names < 65536 }
     ensures { OnOk result (text.new ≡ text.old ++ group_lines (group_shape group.now) wiring.now f.now) }
 {
-    push_name(text, group.name.as_slice(), wiring.present)?;
+    push_named(text, b"group", group.name.as_slice(), wiring.present)?;
     push_keys(text, group.key_names.as_slice(), wiring.keys.as_slice())?;
     push_args(text, wiring.args.as_slice())?;
     push_states(text, group.state_names.as_slice(), f.initial.as_slice())?;
@@ -149,8 +115,7 @@ fn push_group(
         program.depth,
         program.layout.nodes,
         program.layout.statements,
-    )?;
-    Ok(())
+    )
 }
 
 // The number of an operator's fold, where it is a groupby.
@@ -174,7 +139,6 @@ fn fold_numbers(alloc: Global, streams: &[TypedStream]) -> Result<Seq<u16>, Allo
     Ok(all)
 }
 
-// The fold of the groupby with a number.
 fn fold_of<'a>(q: &'a TypedQuery, numbers: &[u16], i: u32) -> &'a TypedFold
     requires valid { IsValidQuery q.now }
     requires numbers { numbers.now ≡ map (λ t. t.fold_number) (takings q.now.streams) }
@@ -185,7 +149,6 @@ fn fold_of<'a>(q: &'a TypedQuery, numbers: &[u16], i: u32) -> &'a TypedFold
     q.folds.get(usize::from(numbers[i as usize]))
 }
 
-// The lines of the groupby with a number.
 fn push_group_at(
     text: &mut Text,
     q: &TypedQuery,
@@ -199,8 +162,7 @@ fn push_group_at(
     requires groupby { i < length p.now.groups }
     ensures { OnOk result (text.new ≡ text.old ++ group_text q.now i) }
 {
-    let f = fold_of(q, numbers, i);
-    push_group(text, p.group(i), p.wiring(i), f)?;
+    push_group(text, p.group(i), p.wiring(i), fold_of(q, numbers, i))?;
     Ok(())
 }
 

@@ -9,14 +9,14 @@ use marple_base::{Field, FieldSet, Text};
 use query_lang::PrintOf;
 use std::alloc::AllocError;
 
-// The name of a field, if it is in a set.
 fn push_field(text: &mut Text, reads: FieldSet, f: Field) -> Result<(), AllocError>
     ensures { OnOk result (text.new ≡ text.old ++ spaced (map field_name (filter (has_field reads) (f ∷ [])))) }
 {
     if reads.has(f) {
-        return push_word(text, f.name());
+        push_word(text, f.name())
+    } else {
+        Ok(())
     }
-    Ok(())
 }
 
 // The names of those fields that are in a set.
@@ -39,7 +39,6 @@ pub(crate) fn push_head(text: &mut Text, reads: FieldSet) -> Result<(), AllocErr
     Ok(())
 }
 
-// The line of a printed table.
 fn push_print(text: &mut Text, print: PrintOf) -> Result<(), AllocError>
     ensures { OnOk result (text.new ≡ text.old ++ print_line print) }
 {

@@ -39,33 +39,29 @@ pub(crate) fn function_name(op: Op) -> &'static [u8]
     }
 }
 
-// What an operation does, and with which operands.
 fn push_operation(text: &mut Text, one: &PlanOp) -> Result<(), AllocError>
     ensures { OnOk result (text.new ≡ text.old ++ spaced (operation_words one.now.op one.now.left one.now.right)) }
 {
     match one.op {
         Operation::Not => {
             push_word(text, b"not")?;
-            push_operand(text, one.left)?;
+            push_operand(text, one.left)
         }
         Operation::Two(op) => {
             push_word(text, function_name(op))?;
             push_operand(text, one.left)?;
-            push_operand(text, one.right)?;
+            push_operand(text, one.right)
         }
     }
-    Ok(())
 }
 
-// The line of an operation.
 fn push_op(text: &mut Text, one: &PlanOp) -> Result<(), AllocError>
     ensures { OnOk result (text.new ≡ text.old ++ op_line one.now) }
 {
     text.push_slice(b"op")?;
     push_number(text, u64::from(one.stage))?;
     push_operation(text, one)?;
-    text.push(b'\n')?;
-    Ok(())
+    text.push(b'\n')
 }
 
 /// The lines of a plan's operations.

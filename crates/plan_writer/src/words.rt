@@ -8,7 +8,6 @@ use marple_base::Text;
 use stage_plan::Operand;
 use std::alloc::AllocError;
 
-// A word.
 pub(crate) fn push_word(text: &mut Text, word: &[u8]) -> Result<(), AllocError>
     ensures { OnOk result (text.new ≡ text.old ++ spaced (word.now ∷ [])) }
 {
@@ -16,7 +15,6 @@ pub(crate) fn push_word(text: &mut Text, word: &[u8]) -> Result<(), AllocError>
     text.push_slice(word)
 }
 
-// A number.
 pub(crate) fn push_number(text: &mut Text, n: u64) -> Result<(), AllocError>
     ensures { OnOk result (text.new ≡ text.old ++ spaced (decimal n ∷ [])) }
 {
@@ -34,7 +32,6 @@ pub(crate) fn push_marked(text: &mut Text, mark: u8, n: u64) -> Result<(), Alloc
     text.push_slice(buffer.format(n).as_bytes())
 }
 
-// An operand.
 pub(crate) fn push_operand(text: &mut Text, operand: Operand) -> Result<(), AllocError>
     ensures { OnOk result (text.new ≡ text.old ++ spaced (operand_word operand ∷ [])) }
 {
