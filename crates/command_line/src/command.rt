@@ -62,10 +62,7 @@ fn plan_of(words: &[String]) -> Option<Command>
 {
     match words {
         [_query] => Some(Command::Plan(Ways::Eight)),
-        [_query, name, value] => {
-            if name.as_str() != "--ways" {
-                return None;
-            }
+        [_query, name, value] if name.as_str() == "--ways" => {
             Some(Command::Plan(ways_of(value.as_bytes())?))
         }
         _ => None,

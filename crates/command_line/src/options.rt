@@ -27,7 +27,6 @@ const NO_OPTIONS: Options = Options {
     every: None,
 };
 
-// Whether a word names the option whose value this is, which isn't set yet.
 fn is_new<T>(option: &str, name: &String, value: &Option<T>) -> bool
     ensures { result ≡ is_new option.now (string_bytes name.now) value.now }
 {
@@ -91,10 +90,11 @@ impl Options {
         let buckets = self.buckets.unwrap_or(64);
         let ways = self.ways.unwrap_or(Ways::Eight);
         let pipe = self.pipe.unwrap_or(64);
-        if self.refresh.is_some() || self.every.is_some() {
-            return None;
-        }
-        if u64::from(buckets) * u64::from(ways.number()) > 1024 || pipe > 1024 {
+        if self.refresh.is_some()
+            || self.every.is_some()
+            || u64::from(buckets) * u64::from(ways.number()) > 1024
+            || pipe > 1024
+        {
             return None;
         }
         Some(NetSetting {

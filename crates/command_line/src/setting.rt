@@ -1,7 +1,7 @@
 //! What the options of a run give.
 
 ghost use Rattle.std.specs.Prelude.{◌≡◌};
-ghost use Rattle.command_line.specs.Command.{ways_number, ways_of, ways_with};
+ghost use Rattle.command_line.specs.Command.{ways_number, ways_of};
 
 use crate::number::number_within;
 
@@ -58,29 +58,17 @@ pub struct NetSetting {
     pub lag: u32,
 }
 
-fn ways_with(n: u32) -> Option<Ways>
-    ensures { result ≡ ways_with n }
-{
-    if n == 1 {
-        Some(Ways::One)
-    } else if n == 2 {
-        Some(Ways::Two)
-    } else if n == 4 {
-        Some(Ways::Four)
-    } else if n == 8 {
-        Some(Ways::Eight)
-    } else if n == 16 {
-        Some(Ways::Sixteen)
-    } else if n == 32 {
-        Some(Ways::ThirtyTwo)
-    } else {
-        None
-    }
-}
-
 /// The ways that a word gives.
 pub fn ways_of(word: &[u8]) -> Option<Ways>
     ensures { result ≡ ways_of word.now }
 {
-    ways_with(number_within(1, 32, word)?)
+    match number_within(1, 32, word)? {
+        1 => Some(Ways::One),
+        2 => Some(Ways::Two),
+        4 => Some(Ways::Four),
+        8 => Some(Ways::Eight),
+        16 => Some(Ways::Sixteen),
+        32 => Some(Ways::ThirtyTwo),
+        _ => None,
+    }
 }
