@@ -1,5 +1,5 @@
 -- What the lines of a valid text make is sound.
-use Rattle.std.proofs.Common.{◌≡◌, ℕ, ◌+◌, ◌<◌, ◌≤◌, List, [], ◌∷◌, ◌++◌, length, Option, Some, None, refl, sym, subst, arith}
+use Rattle.std.proofs.Common.{◌≡◌, ℕ, ◌+◌, ◌<◌, ◌≤◌, Bool, true, List, [], ◌∷◌, ◌++◌, length, Option, Some, None, refl, sym, subst, arith}
 use Rattle.std.{proofs.lemmas.List.{length_push, Elements.{All-nil, All-push, All-weaker}}, specs.Prelude.{IfSome, All}}
 use Rattle.marple_base.specs.declared.field.{Field.Field, TheConstants.FIELDS}
 use Rattle.query_lang.specs.declared.fault.TheConstants.{MAX_ARGS, MAX_GROUPBYS, MAX_KEYS, MAX_STATES}
@@ -152,23 +152,22 @@ folded_sound registers g line after p b =
       bounds = p.bounds;
     }
 
-first_more : (b : Made) (line : List ℕ) (a : Made) → IsFirst b line a → IsSoundSoFar b → IsSoundSoFar a
-first_more b line a p s = subst IsSoundSoFar (sym p.made) (record {
+-- neither the operations nor the groups are others
+made_with : (b : Made) (begun : Bool) (reads : Option (List Field)) (prints : List ℕ) → IsSoundSoFar b
+    → All (λ number. number < length b.groups) prints → IsSoundSoFar (record b { begun = begun; reads = reads; prints = prints })
+made_with b begun reads prints s there = record {
   ops = s.ops;
   most_groups = s.most_groups;
   groups = s.groups;
   current = s.current;
-  prints = s.prints;
-})
+  prints = there;
+}
+
+first_more : (b : Made) (line : List ℕ) (a : Made) → IsFirst b line a → IsSoundSoFar b → IsSoundSoFar a
+first_more b line a p s = subst IsSoundSoFar (sym p.made) (made_with b true b.reads b.prints s s.prints)
 
 reads_more : (b : Made) (line : List ℕ) (a : Made) → IsReads b line a → IsSoundSoFar b → IsSoundSoFar a
-reads_more b line a p s = subst IsSoundSoFar (sym p.made) (record {
-  ops = s.ops;
-  most_groups = s.most_groups;
-  groups = s.groups;
-  current = s.current;
-  prints = s.prints;
-})
+reads_more b line a p s = subst IsSoundSoFar (sym p.made) (made_with b b.begun (Some p.fields) b.prints s s.prints)
 
 op_more : (b : Made) (line : List ℕ) (a : Made) → IsOp b line a → IsSoundSoFar b → IsSoundSoFar a
 op_more b line a p s =
@@ -234,13 +233,8 @@ fold_more b line a p s =
     })
 
 print_more : (b : Made) (line : List ℕ) (a : Made) → IsPrint b line a → IsSoundSoFar b → IsSoundSoFar a
-print_more b line a p s = subst IsSoundSoFar (sym p.made) (record {
-  ops = s.ops;
-  most_groups = s.most_groups;
-  groups = s.groups;
-  current = s.current;
-  prints = All-push (λ number. number < length b.groups) b.prints p.group s.prints p.there;
-})
+print_more b line a p s = subst IsSoundSoFar (sym p.made) (made_with b b.begun b.reads (b.prints ++ p.group ∷ []) s
+    (All-push (λ number. number < length b.groups) b.prints p.group s.prints p.there))
 
 of_more : (word : LineWord) (b : Made) (line : List ℕ) (a : Made) → IsLineOf word b line a → IsSoundSoFar b → IsSoundSoFar a
 of_more words.Plan b line a p s = first_more b line a p s

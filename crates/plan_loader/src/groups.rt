@@ -13,7 +13,6 @@ use plan_file::{Folded, Group, fold_of};
 use stage_plan::{GroupPlan, GroupWiring};
 use std::alloc::{AllocError, Global};
 
-// The set of these fields.
 fn set_of(fields: &[Field]) -> FieldSet
     ensures { result ≡ field_set fields.now }
 {
@@ -34,16 +33,12 @@ pub(crate) fn set_read(reads: &Option<Seq<Field>>) -> FieldSet
     }
 }
 
-// The program of a group's fold.
 fn program_of(alloc: Global, one: &Folded) -> Result<FoldProgram, AllocError>
     requires { IsWhole one.now }
     ensures { IfOk result (λ program. (fold : AnyFold) × IsFoldIn one.now fold × IsProgramOf fold program) }
 {
     match fold_of(alloc, &one.group, one.nodes, one.statements)? {
-        Some(fold) => {
-            let code = compile(alloc, &fold)?;
-            classify(alloc, &fold, code)
-        }
+        Some(fold) => { classify(alloc, &fold, compile(alloc, &fold)?) }
         None => unreachable!(),
     }
 }

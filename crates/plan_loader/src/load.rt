@@ -32,7 +32,6 @@ fn parts_of(made: Made) -> Parts
     }
 }
 
-// The plan of what the lines of a text make.
 fn plan_of(alloc: Global, made: Made) -> Result<LoadedPlan, AllocError>
     requires { IsSoundMade made }
     ensures { IfOk result (IsLoadedFrom made) }
