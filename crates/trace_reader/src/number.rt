@@ -16,7 +16,6 @@ fn is_blank(byte: u8) -> bool
     byte == b' ' || byte == b'\t'
 }
 
-// The place of the first byte that is no blank.
 fn first_kept(text: &[u8]) -> usize
     ensures value { drop result text.now ≡ without_first_blanks text.now }
     ensures bound { result ≤ length text.now }

@@ -16,7 +16,6 @@ pub struct Span {
     pub end: usize,
 }
 
-// The part of a text at a span.
 #[inline(always)]
 fn part_of(text: &[u8], span: Span) -> &[u8]
     requires { IsInside text.now span }
@@ -49,7 +48,6 @@ fn ends_field(byte: u8) -> bool
     byte == b',' || ends_line(byte)
 }
 
-// Are these the bytes of a byte order mark?
 fn is_mark(first: u8, second: u8, third: u8) -> bool
     ensures { result ≡ is_bom first second third }
 {

@@ -27,10 +27,10 @@ fn only_column(header: &Records<'_>, field: Field) -> Result<Option<usize>, Trac
             found = Some(i);
         }
     }
-    match found {
-        Some(column) => Ok(Some(column)),
-        None => Err(TraceFault::FieldMissing(field)),
+    if found.is_none() {
+        return Err(TraceFault::FieldMissing(field));
     }
+    Ok(found)
 }
 
 // The column of a field in a header, none where it isn't read.
@@ -62,7 +62,6 @@ pub fn columns(header: &Records<'_>, reads: FieldSet) -> Result<[Option<usize>; 
     Ok(columns)
 }
 
-// The word of a field in a record.
 #[inline(always)]
 fn word_of_field(row: &Records<'_>, field: Field, column: usize) -> Result<u64, Field>
     requires { column < length row.now.fields }

@@ -103,10 +103,10 @@ impl<'a> Trace<'a> {
         ensures again { IfSome self.old.stopped (λ answer. result ≡ Err answer) }
     {
         let mut packet = Packet { words: [0; FIELDS] };
-        match self.next_into(&mut packet) {
-            Ok(true) => Ok(Some(packet)),
-            Ok(false) => Ok(None),
-            Err(answer) => Err(answer),
+        if self.next_into(&mut packet)? {
+            Ok(Some(packet))
+        } else {
+            Ok(None)
         }
     }
 

@@ -1,27 +1,27 @@
-use Rattle.std.proofs.{Common.{◌+◌, ◌%◌, ◌^◌, take, refl, arith}, lemmas.List.length-take-le}
-use Rattle.trace_reader.proofs.{BlockFacts.four_read, NumberFacts.digits_below}
+use Rattle.std.proofs.{Common.{ℕ, ◌+◌, ◌%◌, ◌^◌, ◌<◌, ◌≤◌, List, length, take, refl, arith}, lemmas.List.length-take-le}
+use Rattle.trace_reader.{specs.Blocks.IsFront, proofs.{BlockFacts.four_read, NumberFacts.digits_below}}
 use Rattle.trace_reader.proofs.blocks.with_four.Goals as goal
 
+-- at most 15 digits
+front_below : (text : List ℕ) (read number : ℕ) → IsFront text read number → read ≤ length text → read ≤ 15 → number < 10 ^ 15
+front_below text read number front room few = omega (
+  arith,
+  digits_below (take read text) 15 front.digits (omega (arith, length-take-le read text room, few)),
+  front.value,
+)
+
 pub overflow_mul-result : goal.overflow_mul-result
-overflow_mul-result c =
-    let text = c.args.text.now in
-    let size = length-take-le c.args.read text (omega (arith, c.requires.room)) in
-    omega (
-      arith,
-      digits_below (take c.args.read text) 15 c.requires.front.digits (omega (arith, size, c.requires.few)),
-      c.requires.front.value,
-    )
+overflow_mul-result c = omega (
+  arith,
+  front_below c.args.text.now c.args.read c.args.number c.requires.front (omega (arith, c.requires.room)) c.requires.few,
+)
 
 pub overflow_add-result : goal.overflow_add-result
-overflow_add-result c =
-    let text = c.args.text.now in
-    let size = length-take-le c.args.read text (omega (arith, c.requires.room)) in
-    omega (
-      arith,
-      digits_below (take c.args.read text) 15 c.requires.front.digits (omega (arith, size, c.requires.few)),
-      c.requires.front.value,
-      c.from.ensures,
-    )
+overflow_add-result c = omega (
+  arith,
+  front_below c.args.text.now c.args.read c.args.number c.requires.front (omega (arith, c.requires.room)) c.requires.few,
+  c.from.ensures,
+)
 
 pub returns : goal.returns
 returns c =
