@@ -17,6 +17,7 @@ pub mod SideBySide
 pub mod LaneFacts
 pub mod LaneUpkeeps
 pub mod PipelineSteps
+pub mod OneLane
 pub mod LanesMade
 pub mod PacketBound
 pub mod LaneTables

@@ -132,7 +132,7 @@ pub record LanesAfter (ways : ℕ) (events : ℕ → List Event) (entries : Entr
   pub makes : PipelineMakes ways events (record { plan = plan; entries = entries; buckets = buckets; lanes = old })
       (record { plan = plan; entries = entries; buckets = buckets; lanes = new })
 
-lanes_after : (ways : ℕ) (events : ℕ → List Event) (entries : Entries) (plan : PlanParts) (buckets : ℕ) (old new : List LaneView)
+pub lanes_after : (ways : ℕ) (events : ℕ → List Event) (entries : Entries) (plan : PlanParts) (buckets : ℕ) (old new : List LaneView)
     → LanesMake ways events old new → AreLanesOf entries plan buckets old → Each IsMadeFor old plan.groups
     → LanesAfter ways events entries plan buckets old new
 lanes_after ways events entries plan buckets old new e are made =

@@ -17,7 +17,7 @@ ghost use Rattle.stage_plan.specs.{declared.group.GroupPlan.GroupPlan, Planned.p
 use crate::fetching::read_caches;
 use crate::front::Merged;
 use crate::lane::Lane;
-use crate::lanes::{all_drained, all_ready, evict_at, keep_lanes, merge_at};
+use crate::lanes::{all_drained, all_ready, keep_lanes};
 use crate::making::made_lanes;
 use crate::registers::{fill_registers, registers_of};
 use crate::tables::lane_tables;
@@ -179,7 +179,8 @@ impl<const WAYS: usize> Pipeline<WAYS> {
         ensures cost { AtLane (λ at. steps.new ≡ steps.old
             + (if result then evict_cost at.cache.key_words at.cache.entry_words else 0)) self.old.lanes lane }
     {
-        evict_at(&mut self.lanes, lane as usize, bucket, steps)
+        let lane = &mut self.lanes[lane as usize];
+        lane.evict(bucket, steps)
     }
 
     /// Merges the oldest record of a lane's pipe into its store. Empty exactly where the pipe is empty.
@@ -196,7 +197,8 @@ impl<const WAYS: usize> Pipeline<WAYS> {
         ensures steps { steps.old ≤ steps.new }
         ensures cost { AtLane (λ at. steps.new ≤ steps.old + lane_merge_cost at) self.old.lanes lane }
     {
-        merge_at(&mut self.lanes, lane as usize, steps)
+        let lane = &mut self.lanes[lane as usize];
+        lane.merge(steps)
     }
 
     /// Does what is due at each lane, lane by lane. When out of memory, the lanes before one did it, that one made only the

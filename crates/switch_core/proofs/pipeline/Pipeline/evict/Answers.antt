@@ -1,35 +1,38 @@
-use Rattle.std.{proofs.Common.{◌≡◌, Some, length, ap, ◌∙◌, subst, arith, lit<}, specs.Prelude.slice_get}
-use Rattle.switch_core.proofs.PipelineSteps.{given_back, lanes_many}
+-- The lane makes the eviction, and the others stay.
+use Rattle.std.proofs.{Common.{◌≡◌, true, length, sym, subst, lit<}, lemmas.Bool.ltb-true}
+use Rattle.epoch_model.specs.Machine.{Evict}
+use Rattle.switch_core.specs.PlanLanes.{AtLane, PipelineView, lane_is_ready}
+use Rattle.switch_core.proofs.OneLane.{IsLane, event_made, lane_buckets, lane_found, lane_is, view_of}
 use Rattle.switch_core.proofs.pipeline.Pipeline.evict.Goals as goal
+use Rattle.switch_core.proofs.pipeline.Pipeline.evict.Goals.{After-index_mut-lane}
 
-pub evict_at-requires : goal.evict_at-requires
-evict_at-requires g c =
-    let p = c.self.inside in
-    let same : length p.lanes.items ≡ length c.args.self.now.lanes = ap (λ v. length v.lanes) c.self.view_is in
-    let here = ap length c.deref_mut.ensures.value in
-    let lane = c.requires.lane in
-    let seen : c.deref_mut.result.now ≡ c.args.self.now.lanes = c.deref_mut.ensures.value ∙ ap (λ v. v.lanes) c.self.view_is in
-    let buckets : p.buckets ≡ c.args.self.now.buckets = ap (λ v. v.buckets) c.self.view_is in (
-      lit< tt,
-      (
-        omega arith,
-        (
-          (λ x e. c.requires.ready x (subst (λ vs. slice_get vs c.args.lane ≡ Some x) seen e)),
-          (λ x e. let many = lanes_many p.entries p.plan p.buckets 0 p.lanes.items p.plan.groups c.self.invariant.lanes c.args.lane x
-              (subst (λ ls. slice_get (ls) c.args.lane ≡ Some x) c.deref_mut.ensures.value e) in
-              let range = c.requires.range in omega arith),
-        ),
-      ),
-    )
+lane : (g : _) (c : After-index_mut-lane g) → IsLane (view_of c.self.inside) c.args.self.now c.args.lane c.index_mut-lane.result.now
+lane g c = lane_found c.self.invariant.lanes c.self.invariant.made c.self.view_is c.requires.lane c.index_mut-lane.ensures.value
+
+pub evict-requires : goal.evict-requires
+evict-requires g c =
+    let l = lane g (goal.at.evict-requires g c).After-index_mut-lane in
+    let one = c.index_mut-lane.result.now in
+    let ready = subst (λ (v : PipelineView). AtLane (λ x. lane_is_ready x ≡ true) v.lanes c.args.lane) (sym c.self.view_is)
+    c.requires.ready in
+    (lit< tt, (ltb-true (length one.pipe.records) one.pipe.places (ready one l.here), rw (lane_buckets l) c.requires.range))
 
 pub invariant_of-self : goal.invariant_of-self
 invariant_of-self g c =
-    let after = given_back _ _ _ c.self.inside.plan _ _ _ _ _ c.deref_mut.ensures.value (c.evict_at.auto.lanes ∙ c.deref_mut.ensures.len)
-    c.evict_at.ensures.makes c.self.invariant.lanes c.self.invariant.made in
-    record { lanes = after.kept.lanes; made = after.kept.made; rooms = c.self.invariant.rooms; few_ways = c.self.invariant.few_ways }
+    let l = lane g (goal.at.invariant_of-self g c).After-index_mut-lane in
+    let kept = (event_made l g.row.WAYS (Evict c.args.bucket) c.evict.new.self c.evict.ensures.kind c.evict.ensures.stands).kept in
+    record { lanes = kept.lanes; made = kept.made; rooms = c.self.invariant.rooms; few_ways = c.self.invariant.few_ways }
 
 pub returns-clause-makes : goal.returns-clause-makes
 returns-clause-makes g c =
-    let after = given_back _ _ _ c.self.inside.plan _ _ _ _ _ c.deref_mut.ensures.value (c.evict_at.auto.lanes ∙ c.deref_mut.ensures.len)
-    c.evict_at.ensures.makes c.self.invariant.lanes c.self.invariant.made in
-    rw (← c.self.view_is) after.makes
+    let l = lane g (goal.at.returns-clause-makes g c).After-index_mut-lane in
+    rw (← c.self.view_is)
+    (event_made l g.row.WAYS (Evict c.args.bucket) c.evict.new.self c.evict.ensures.kind c.evict.ensures.stands).makes
+
+pub returns-clause-some : goal.returns-clause-some
+returns-clause-some g c x e =
+    rw (lane_is (lane g (goal.at.returns-clause-some g c).After-index_mut-lane) e) at c.evict.ensures.some
+
+pub returns-clause-cost : goal.returns-clause-cost
+returns-clause-cost g c x e =
+    rw (lane_is (lane g (goal.at.returns-clause-cost g c).After-index_mut-lane) e) at c.evict.ensures.cost
