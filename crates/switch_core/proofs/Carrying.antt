@@ -9,7 +9,8 @@ use Rattle.backing_store.specs.{Store.Store, Merged.StoreHolds}
 use Rattle.switch_core.specs.{FrontParts.{FitsStore, FrontOf, LaneOf}, FrontEvents.{Carries, CarriesAll, CarriesFirst, CarriesUpTo}}
 use Rattle.switch_core.specs.FrontEvents.{FrontMakes, KeepsSizes, LeavesParts, MergesNext, merges_of, with_store}
 use Rattle.switch_core.specs.{LaneEvents.{Makes, MakesAll, parts}, Lanes.{Standing, FrontStands, geometry}}
-use Rattle.switch_core.proofs.{LaneSteps.{evict_merged_same, packet_merged_same}, MergeSteps.merged_next}
+use Rattle.switch_core.proofs.LaneSteps.{evict_merged_same, packet_merged_same}
+use Rattle.switch_core.proofs.MergeSteps.{merge_none, merged_next, none_dropped, none_next, none_piped}
 
 -- sizes
 
@@ -113,6 +114,17 @@ carries_merge sizes means folding ways old new before after made next fits fit c
     (fit.key ∙ (made.key_words ∙ sym fits.key))
     (fit.state ∙ (ap (λ k. (sizes k).state) made.kind ∙ sym fits.state))
 
+-- With no record in the pipe a merge changes nothing.
+pub carries_none : {K : Type 0} (means : K → Standing) (folding : K → Folding) (ways : ℕ) (a : LaneOf K)
+    → length a.pipe.records ≡ 0 → Carries means folding ways Merge a a
+carries_none means folding ways a none = record {
+  stands = λ m s. rw (merge_none m (none_piped (means a.kind) a.cache a.pipe m s none)) s;
+  held = λ m epochs s h.
+      rw (ap (λ es. epochs ++ es) (none_next m (none_piped (means a.kind) a.cache a.pipe m s none)) ∙ append-nil epochs) h;
+  leaves = record { cache = refl; records = none_dropped _ none; none = λ h. refl };
+  sizes = keeps_start a;
+}
+
 -- events in order
 module _ {K : Type 0} (means : K → Standing) (folding : K → Folding) (ways : ℕ) where
   pub carries_on : (xs ys : List Event) (a b c : LaneOf K) → CarriesAll means folding ways xs a b → CarriesAll means folding ways ys b c
@@ -158,7 +170,7 @@ module _ {K : Type 0} (means : K → Standing) (folding : K → Folding) (ways :
 
   -- events of a front and its store are those of a lane
 
-  makes_one : (event : Event) (a b : LaneOf K) → Carries means folding ways event a b
+  pub makes_one : (event : Event) (a b : LaneOf K) → Carries means folding ways event a b
       → Makes (means a.kind) (folding a.kind) ways event (parts a.cache a.pipe a.store) (parts b.cache b.pipe b.store)
   makes_one event a b c = record {
     stands = λ m s.

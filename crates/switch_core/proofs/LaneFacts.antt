@@ -50,6 +50,11 @@ pub on_ok : {X E : Type 0} (P Q : Type 0) (r : Result X E) → (P → Q) → OnO
 on_ok P Q (Ok x) h o = h o
 on_ok P Q (Err e) h o = o
 
+-- what two facts of a success give
+pub on_both : {X E : Type 0} (P Q R : Type 0) (r : Result X E) → (P → Q → R) → OnOk r P → OnOk r Q → OnOk r R
+on_both P Q R (Ok x) h p q = h p q
+on_both P Q R (Err e) h p q = p
+
 pub on_err : {X E : Type 0} (P Q : Type 0) (r : Result X E) → (P → Q) → OnErr r P → OnErr r Q
 on_err P Q (Ok x) h o = o
 on_err P Q (Err e) h o = h o

@@ -6,7 +6,7 @@ use Rattle.epoch_model.specs.{Machine.{Machine, open_in, evict, packet, is_open,
 use Rattle.bucket_cache.specs.Caches.{Cache, empty_cache}
 use Rattle.evict_pipe.specs.Pipes.{Pipe}
 use Rattle.backing_store.specs.{Store.{Store, epochs_of, states_at, number_of}, Merged.StoreHolds}
-use Rattle.switch_core.{specs.Lanes.{Standing, PairStands, PairsStand, StoreStands, FrontStands, geometry}, proofs.Standing.by_test}
+use Rattle.switch_core.{specs.Lanes.{Standing, PairStands, PairsStand, FrontStands, geometry}, proofs.Standing.by_test}
 
 -- the merged epochs are unchanged
 abbrev pub SameMerged : Machine → Machine → Type 0
@@ -27,9 +27,6 @@ packet_merged_same g m key row few =
     (λ t. by_test (nat_lt (length (open_in m bucket)) g.ways)
     (λ l. rw (t, l) (refl, few))
     (λ l. rw (t, l) (evict_merged_same m bucket few)))
-
-pub store_same : (f : Folding) (store : Store) (m n : Machine) → SameMerged m n → StoreStands f store m → StoreStands f store n
-store_same f store m n e s = rw e.0 s
 
 -- empty parts represent the machine without epochs
 

@@ -5,7 +5,6 @@ pub mod CacheSteps
 pub mod PipeSteps
 pub mod LaneSteps
 pub mod MergeSteps
-pub mod LaneMakes
 pub mod ClosedTable
 pub mod Drained
 pub mod Histories

@@ -6,7 +6,7 @@ use Rattle.epoch_model.specs.{Machine.{Epoch, Machine, merge}, Tables.Folding}
 use Rattle.bucket_cache.specs.Caches.{Cache}
 use Rattle.evict_pipe.specs.Pipes.{Pipe}
 use Rattle.backing_store.specs.{Store.Store, Merged.StoreHolds}
-use Rattle.switch_core.specs.{Lanes.{Standing, RecordStands, RecordsStand, StoreStands, FrontStands}, FrontEvents.next_merged}
+use Rattle.switch_core.specs.{Lanes.{Standing, RecordStands, RecordsStand, FrontStands}, FrontEvents.next_merged}
 use Rattle.switch_core.proofs.Standing.{by_test}
 
 pub records_none : (stands : Standing) (kw : ℕ) (records : List (List ℕ)) (epochs : List Epoch) → RecordsStand stands kw records epochs
@@ -98,8 +98,3 @@ merged_next m few = by_test (nat_lt m.merged (length m.closed))
     next zero xs = refl
     next (suc n) [] = refl
     next (suc n) (x ∷ xs) = ap (λ ys. x ∷ ys) (next n xs)
-
--- a lane's store holds the merged epochs after a merge
-pub kept_next : (f : Folding) (store : Store) (m : Machine) → m.merged ≤ length m.closed
-    → StoreHolds f store (take m.merged m.closed ++ next_merged m) → StoreStands f store (merge m)
-kept_next f store m few held = rw (merged_next m few) held

@@ -2,7 +2,7 @@
 use Rattle.std.proofs.Common.{◌≡◌, ℕ, zero, suc, ◌+◌, ◌-◌, ◌<◌, true, false, List, [], ◌∷◌, ◌++◌, length, map, get_or, refl, sym, ap, ◌∙◌}
 use Rattle.std.{proofs.{Common.{arith, length-take-le}, lemmas.Bool.{lt-ltb, le-ltb}}, specs.Prelude.nat_lt}
 use Rattle.epoch_model.specs.{Driving.{EventsKeepAlike, BucketsEmptyByEvictions}, Epochs.Geometry, Laws.SameEpochs}
-use Rattle.epoch_model.specs.Machine.{Epoch, Machine, Event, Evict, Merge, empty_bucket, empty_buckets, evict, merge, open_in, run}
+use Rattle.epoch_model.specs.Machine.{Epoch, Machine, Event, Evict, Merge, empty_bucket, empty_buckets, evict, open_in, run}
 use Rattle.epoch_model.proofs.{MachineSteps.evict_empty, PacketSteps.{evict-open_same, evict-open_other}}
 use Rattle.bucket_cache.specs.{Buckets.Pair, Caches.Cache}
 use Rattle.switch_core.specs.Lanes.{CacheStands, Standing}

@@ -4,8 +4,8 @@ ghost use Rattle.std.specs.Prelude.{◌≡◌, ◌+◌, ◌-◌, ◌*◌, ◌<�
 ghost use Rattle.std.specs.Prelude.{IfOk, OnOk, OnErr};
 ghost use Rattle.epoch_model.specs.{Machine.{Machine, Packet, Evict, Merge, empty_machine}, Timeline.IsSwept};
 ghost use Rattle.bucket_cache.specs.Caches.{list_at, with_list};
-ghost use Rattle.switch_core.specs.{Closing.{held_in, is_drained}, Costs.{evict_cost, merge_cost}, FrontParts.{IsFront, FitsStore}};
-ghost use Rattle.switch_core.specs.{FrontEvents.{Carries, FrontMakes, MergesNext, with_store}, Lanes.{FrontStands, geometry}};
+ghost use Rattle.switch_core.specs.{Closing.{held_in, is_drained}, Costs.{evict_cost, merge_cost}, FrontEvents.{Carries, with_store}};
+ghost use Rattle.switch_core.specs.{FrontParts.{IsFront, FitsStore}, Lanes.{FrontStands, geometry}};
 ghost use Rattle.backing_store.specs.Store.{Store};
 
 use crate::merging::merge_record;
@@ -109,7 +109,6 @@ impl<K: EpochKind, const WAYS: usize> Front<K, WAYS> {
         requires ready { length self.old.pipe.records < self.old.pipe.places }
         requires key { length key.now ≡ self.old.cache.key_words }
         requires args { length args.now ≡ (K.sizes self.old.kind).args }
-        ensures makes { FrontMakes (K.stands self.old.kind) WAYS (Packet key.now args.now) self.old self.new }
         ensures carries { (store : Store) → Carries K.stands K.folding WAYS (Packet key.now args.now)
             (with_store self.old store) (with_store self.new store) }
         ensures steps { steps.old ≤ steps.new }
@@ -141,7 +140,6 @@ impl<K: EpochKind, const WAYS: usize> Front<K, WAYS> {
     pub fn evict<L: Ledger>(&mut self, bucket: u32, steps: &mut Steps<L>) -> bool
         requires ready { length self.old.pipe.records < self.old.pipe.places }
         requires range { bucket < length self.old.cache.lists }
-        ensures makes { FrontMakes (K.stands self.old.kind) WAYS (Evict bucket) self.old self.new }
         ensures carries { (store : Store) → Carries K.stands K.folding WAYS (Evict bucket)
             (with_store self.old store) (with_store self.new store) }
         ensures some { result ≡ not (length (list_at self.old.cache bucket) == 0) }
@@ -149,7 +147,6 @@ impl<K: EpochKind, const WAYS: usize> Front<K, WAYS> {
             self.new.cache ≡ with_list self.old.cache bucket (take (length list - 1) list) }
         ensures records { length self.new.pipe.records ≡ length self.old.pipe.records + (if result then 1 else 0) }
         ensures same { result ≡ false → self.new ≡ self.old }
-        ensures steps { steps.old ≤ steps.new }
         ensures cost { let cache = self.old.cache in
             steps.new ≡ steps.old + (if result then evict_cost cache.key_words cache.entry_words else 0) }
     {
@@ -172,10 +169,8 @@ impl<K: EpochKind, const WAYS: usize> Front<K, WAYS> {
         steps: &mut Steps<L>,
     ) -> Result<Merged, AllocError>
         requires { FitsStore (K.sizes self.old.kind) self.old.cache store.old }
-        ensures makes { OnOk result (FrontMakes (K.stands self.old.kind) WAYS Merge self.old self.new) }
         ensures carries { OnOk result (Carries K.stands K.folding WAYS Merge
             (with_store self.old store.old) (with_store self.new store.new)) }
-        ensures held { OnOk result (MergesNext (K.stands self.old.kind) (K.folding self.old.kind) self.old store.old store.new) }
         ensures fits { FitsStore (K.sizes self.new.kind) self.new.cache store.new }
         ensures empty { (result ≡ Ok Merged.Empty) ↔ (length self.old.pipe.records ≡ 0) }
         ensures same { result ≡ Ok Merged.Empty → (self.new ≡ self.old) × (store.new ≡ store.old) }
@@ -204,8 +199,8 @@ impl<K: EpochKind, const WAYS: usize> Front<K, WAYS> {
     ) -> Result<(), AllocError>
         requires fits { FitsStore (K.sizes self.old.kind) self.old.cache store.old }
         requires some { 0 < length self.old.pipe.records }
-        ensures makes { OnOk result (FrontMakes (K.stands self.old.kind) WAYS Merge self.old self.new) }
-        ensures held { OnOk result (MergesNext (K.stands self.old.kind) (K.folding self.old.kind) self.old store.old store.new) }
+        ensures carries { OnOk result (Carries K.stands K.folding WAYS Merge
+            (with_store self.old store.old) (with_store self.new store.new)) }
         ensures fits { FitsStore (K.sizes self.new.kind) self.new.cache store.new }
         ensures err { OnErr result ((self.new ≡ self.old) × (store.new ≡ store.old)) }
         ensures records { OnOk result (self.new.pipe.records ≡ drop 1 self.old.pipe.records) }

@@ -2,7 +2,7 @@
 
 ghost use Rattle.std.specs.Prelude.{◌≡◌, ◌+◌, ◌≤◌, List, [], ◌∷◌, ◌++◌, length, OnOk, OnErr};
 ghost use Rattle.epoch_model.specs.{Keys.ArgRow, Machine.Epoch};
-ghost use Rattle.backing_store.specs.{Store.Store, Merged.StoreHolds};
+ghost use Rattle.backing_store.specs.Merged.{StoreHolds};
 ghost use Rattle.switch_core.specs.Lanes.{RecordStands};
 
 use backing_store::{BackingStore, merged_epochs_are_held};

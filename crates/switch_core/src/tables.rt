@@ -18,7 +18,6 @@ use query_lang::MAX_KEYS;
 use stage_plan::{GroupPlan, Plan};
 use std::alloc::{AllocError, Global};
 
-// The same texts, in separate memory.
 fn copied_texts(alloc: Global, texts: &[Text]) -> Result<Seq<Text>, AllocError>
     ensures { IfOk result (λ copy. copy ≡ texts.now) }
 {

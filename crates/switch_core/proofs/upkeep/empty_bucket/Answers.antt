@@ -9,21 +9,16 @@ use Rattle.switch_core.proofs.SweepCosts.{evicted_within, held_fewer, merged_wit
 use Rattle.switch_core.proofs.upkeep.empty_bucket.Goals as goal
 
 pub epochs-init : goal.epochs-init
-epochs-init g c =
-    let first = c.args.front.now in
-    let here = with_store first c.args.store.now in
-    record {
-      carries = up_to_start _ _ g.row.WAYS (sweep_from c.args.bucket first.cache first.pipe) here;
-      others = λ other apart. refl;
-      sizes = keeps_start _;
-      later = omega arith;
-      cost = omega arith;
-    }
+epochs-init g c = record {
+  carries = up_to_start _ _ g.row.WAYS _ (with_store c.args.front.now c.args.store.now);
+  others = λ other apart. refl;
+  sizes = keeps_start _;
+  later = omega arith;
+  cost = omega arith;
+}
 
 pub make_ready-requires : goal.make_ready-requires
 make_ready-requires g c =
-    let first = with_store c.args.front.now c.args.store.now in
-    let was = with_store c.epochs.front c.epochs.store in
     (search rules, fits_kept g.K.EpochKind.sizes _ _ c.epochs.invariant.sizes c.requires.fits)
 
 pub evict-requires : goal.evict-requires
@@ -145,7 +140,7 @@ epochs-preserved g c =
           (take (length (list_at was.cache bucket) - 1) (list_at was.cache bucket)) [] apart
           ∙ before.others other apart);
       sizes = keeps_on first was new before.sizes (keeps_on was ready new made.sizes evicted.sizes);
-      later = let a = made.steps in let b = c.evict.ensures.steps in let i = before.later in omega arith;
+      later = let a = made.steps in let b = c.evict.ensures.cost in let i = before.later in omega arith;
       cost =
           let key : ready.cache.key_words ≡ first.cache.key_words = made.sizes.key_words ∙ before.sizes.key_words in
           let entry : ready.cache.entry_words ≡ first.cache.entry_words = made.sizes.entry_words ∙ before.sizes.entry_words in

@@ -7,16 +7,13 @@ use Rattle.switch_core.proofs.{Drained.empty_held, Emptying.next_none, LaneFacts
 use Rattle.switch_core.proofs.upkeep.empty_cache.Goals as goal
 
 pub loop-bucket-init : goal.loop-bucket-init
-loop-bucket-init g c =
-    let first = c.args.front.now in
-    let here = with_store first c.args.store.now in
-    record {
-      carries = up_to_start _ _ g.row.WAYS (sweep_from 0 first.cache first.pipe) here;
-      empty = λ other below. absurd (omega arith);
-      sizes = keeps_start _;
-      later = omega arith;
-      cost = omega arith;
-    }
+loop-bucket-init g c = record {
+  carries = up_to_start _ _ g.row.WAYS _ (with_store c.args.front.now c.args.store.now);
+  empty = λ other below. absurd (omega arith);
+  sizes = keeps_start _;
+  later = omega arith;
+  cost = omega arith;
+}
 
 pub empty_bucket-requires : goal.empty_bucket-requires
 empty_bucket-requires g c =

@@ -1,27 +1,35 @@
 -- Merges one after another, up to the one that finds the pipe empty.
-use Rattle.std.proofs.Common.{rules, ◌≡◌, Ok, suc, [], ◌∷◌, length, replicate, refl, sym, ap, ◌∙◌, subst, arith, length-drop}
+use Rattle.std.proofs.Common.{rules, ◌≡◌, ◌+◌, ◌*◌, ◌≤◌, Ok, suc, [], ◌∷◌, length, replicate, refl, sym, ap, ◌∙◌, subst, arith, length-drop}
 use Rattle.epoch_model.specs.Machine.{Merge}
 use Rattle.switch_core.{specs.{Costs.merge_cost, FrontEvents.{CarriesUpTo, with_store}}, proofs.Carrying.{fits_kept, keeps_on, keeps_same}}
 use Rattle.switch_core.proofs.Carrying.{keeps_start, same_store, up_to_first, up_to_on, up_to_start, up_to_whole}
 use Rattle.switch_core.proofs.{Emptying.{merges_more, merges_within, not_empty}, LaneFacts.err_holds}
 use Rattle.switch_core.proofs.upkeep.empty_pipe.Goals as goal
+use Rattle.switch_core.proofs.upkeep.empty_pipe.Goals.{After-merge_into}
 
 pub records-init : goal.records-init
-records-init g c =
-    let first = c.args.front.now in
-    let here = with_store first c.args.store.now in
-    record {
-      carries = up_to_start _ _ g.row.WAYS (replicate (suc (length first.pipe.records)) Merge) here;
-      sizes = keeps_start _;
-      later = omega arith;
-      cost = omega arith;
-    }
+records-init g c = record {
+  carries = up_to_start _ _ g.row.WAYS _ (with_store c.args.front.now c.args.store.now);
+  sizes = keeps_start _;
+  later = omega arith;
+  cost = omega arith;
+}
 
 pub merge_into-requires : goal.merge_into-requires
 merge_into-requires g c =
-    let first = with_store c.args.front.now c.args.store.now in
-    let was = with_store c.records.front c.records.store in
     (search rules, fits_kept g.K.EpochKind.sizes _ _ c.records.invariant.sizes c.requires)
+
+-- the steps of a merge, and of all merges up to the last one
+merged : (g : _) (c : After-merge_into g) → (let first = c.args.front.now in c.merge_into.new.steps
+    ≤ c.records.steps + merge_cost first.cache.key_words first.cache.entry_words (g.K.EpochKind.merge_bound first.kind))
+merged g c =
+    let kept = c.records.invariant.sizes in
+    omega (arith, c.merge_into.ensures.cost, kept.key_words, kept.entry_words, ap g.K.EpochKind.merge_bound kept.kind)
+
+spent : (g : _) (c : After-merge_into g) → (let first = c.args.front.now in c.merge_into.new.steps ≤ c.args.steps.now
+    + suc (length first.pipe.records) * merge_cost first.cache.key_words first.cache.entry_words (g.K.EpochKind.merge_bound first.kind))
+spent g c = merges_within c.args.steps.now c.records.steps c.merge_into.new.steps (length c.args.front.now.pipe.records)
+    (length c.records.front.pipe.records) _ (merged g c) c.records.invariant.cost
 
 pub records-preserved : goal.records-preserved
 records-preserved g c =
@@ -47,14 +55,7 @@ records-preserved g c =
       cost = merges_more c.args.steps.now c.records.steps c.merge_into.new.steps (length first.pipe.records) (length was.pipe.records)
           (length new.pipe.records)
           (merge_cost first.cache.key_words first.cache.entry_words (g.K.EpochKind.merge_bound first.kind)) fewer
-          (omega (
-            arith,
-            c.merge_into.ensures.cost,
-            before.sizes.key_words,
-            before.sizes.entry_words,
-            ap g.K.EpochKind.merge_bound
-                before.sizes.kind,
-          )) before.cost;
+          (merged g (goal.at.records-preserved g c).After-merge_into) before.cost;
     }
 
 pub records-smaller : goal.records-smaller
@@ -89,18 +90,7 @@ returns g c =
       sizes = keeps_on (with_store c.args.front.now c.args.store.now) (with_store c.records.front c.records.store)
           (with_store c.merge_into.new.self c.merge_into.new.store) c.records.invariant.sizes c.in_ok-merge_into.ensures.carries.sizes;
       steps = search rules;
-      cost =
-          let first = c.args.front.now in
-          let before = c.records.invariant in
-          merges_within c.args.steps.now c.records.steps c.merge_into.new.steps (length first.pipe.records)
-          (length c.records.front.pipe.records) (merge_cost first.cache.key_words first.cache.entry_words
-          (g.K.EpochKind.merge_bound first.kind)) (omega (
-            arith,
-            c.merge_into.ensures.cost,
-            before.sizes.key_words,
-            before.sizes.entry_words,
-            ap g.K.EpochKind.merge_bound before.sizes.kind,
-          )) before.cost;
+      cost = spent g (goal.at.returns g c).After-merge_into;
     }
 
 pub returns-in_err-merge_into : goal.returns-in_err-merge_into
@@ -124,16 +114,5 @@ returns-in_err-merge_into g c =
           _ c.records.invariant.sizes
           (keeps_same _ c.merge_into.new.self _ c.merge_into.new.store c.in_err-merge_into.ensures.err);
       steps = search rules;
-      cost =
-          let first = c.args.front.now in
-          let before = c.records.invariant in
-          merges_within c.args.steps.now c.records.steps c.merge_into.new.steps (length first.pipe.records)
-          (length c.records.front.pipe.records) (merge_cost first.cache.key_words first.cache.entry_words
-          (g.K.EpochKind.merge_bound first.kind)) (omega (
-            arith,
-            c.merge_into.ensures.cost,
-            before.sizes.key_words,
-            before.sizes.entry_words,
-            ap g.K.EpochKind.merge_bound before.sizes.kind,
-          )) before.cost;
+      cost = spent g (goal.at.returns-in_err-merge_into g c).After-merge_into;
     }

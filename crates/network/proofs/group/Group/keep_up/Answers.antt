@@ -1,9 +1,9 @@
 -- An upkeep of a switch's front, with the groupby's store.
 use Rattle.std.proofs.Common.{rules, ◌+◌, ◌≤◌, subst}
-use Rattle.switch_core.{specs.{FrontEvents.with_store, Upkeeps.upkeep_events}, proofs.{LaneFacts.{on_err, on_ok}, LaneMakes.on_both}}
-use Rattle.network.{specs.{Costs.group_upkeep_cost, Events.{GroupBreaksOff, GroupMakesAll, with_lane}}, proofs.CostSteps.upkeep_within}
-use Rattle.network.proofs.MakeSteps.{all_made, first_made, left_by, left_here}
-use Rattle.network.proofs.OneFront.{IsFront, group_of, front_found, front_shares, front_was, front_now}
+use Rattle.switch_core.{specs.FrontEvents.with_store, proofs.LaneFacts.{on_both, on_err, on_ok}}
+use Rattle.network.{specs.Costs.group_upkeep_cost, proofs.CostSteps.upkeep_within}
+use Rattle.network.proofs.MakeSteps.{left_by, left_here}
+use Rattle.network.proofs.OneFront.{IsFront, group_of, front_found, front_shares, front_was, front_now, group_breaks_off, group_makes}
 use Rattle.network.proofs.group.Group.keep_up.Goals as goal
 use Rattle.network.proofs.group.Group.keep_up.Goals.{After-index_mut-front}
 
@@ -19,32 +19,16 @@ keep_up-requires g c =
 pub returns-clause-makes : goal.returns-clause-makes
 returns-clause-makes g c =
     let f = front g (goal.at.returns-clause-makes g c).After-index_mut-front in
-    let at = c.args.at in
-    let view = group_of c.self.inside in
-    let front = c.index_mut-front.result.now in
-    let events = upkeep_events c.args.upkeep front.cache front.pipe in
-    let lane = with_store c.keep_up.new.front c.keep_up.new.store in
-    on_ok _
-    _
-    c.keep_up.result
-    (λ made. rw (front_was f) (subst (λ v. GroupMakesAll g.row.WAYS at events v (with_lane at lane view)) f.same
-    (all_made g.row.WAYS at events view front lane f.here (front_shares f c.requires.shares.0 c.requires.shares.1).alike made)))
+    on_ok _ _ c.keep_up.result
+    (λ made. rw (front_was f) (group_makes f g.row.WAYS _ (with_store c.keep_up.new.front c.keep_up.new.store) c.requires.shares made))
     c.keep_up.ensures.carries
 
 pub returns-clause-breaks_off : goal.returns-clause-breaks_off
 returns-clause-breaks_off g c =
     let f = front g (goal.at.returns-clause-breaks_off g c).After-index_mut-front in
-    let at = c.args.at in
-    let view = group_of c.self.inside in
-    let front = c.index_mut-front.result.now in
-    let events = upkeep_events c.args.upkeep front.cache front.pipe in
-    let lane = with_store c.keep_up.new.front c.keep_up.new.store in
-    on_err _
-    _
-    c.keep_up.result
-    (λ broke. rw (front_was f) (subst (λ v. GroupBreaksOff g.row.WAYS at events v (with_lane at lane view)) f.same
-    (first_made g.row.WAYS at events view front lane f.here (front_shares f c.requires.shares.0 c.requires.shares.1).alike broke)))
-    c.keep_up.ensures.breaks_off
+    on_err _ _ c.keep_up.result
+    (λ broke. rw (front_was f) (group_breaks_off f g.row.WAYS _ (with_store c.keep_up.new.front c.keep_up.new.store) c.requires.shares
+    broke)) c.keep_up.ensures.breaks_off
 
 pub returns-clause-left : goal.returns-clause-left
 returns-clause-left g c =

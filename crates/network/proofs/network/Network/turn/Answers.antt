@@ -1,7 +1,7 @@
 use Rattle.std.proofs.Common.{◌≡◌, ℕ, ◌+◌, ◌*◌, ◌≤◌, ◌<◌, Bool, true, false, List, [], ◌∷◌, ◌++◌, sym, ap, ◌∙◌, subst, arith, append_assoc}
 use Rattle.std.{proofs.Common.lit<, specs.Prelude.if◌then◌else◌}
 use Rattle.switch_core.specs.declared.upkeep.Upkeep.TheVariants as due
-use Rattle.switch_core.proofs.{LaneFacts.{on_err, on_ok}, LaneMakes.on_both}
+use Rattle.switch_core.proofs.LaneFacts.{on_both, on_err, on_ok}
 use Rattle.network.specs.Networks.{NetworkView, network_cost, upkeeps_cost}
 use Rattle.network.specs.Running.{NetworkEvent, NetworkMakes, NetworkRuns, RunBreaksOff, Takes, turn_events, upkeep_calls}
 use Rattle.network.proofs.{Calls.{lag_same, ready_left}, CostSteps.room_cost, MakeSteps.if_err, Runs.{kept_long, merges_cost_kept}}
@@ -74,26 +74,16 @@ whole_turn g c over = turn_is c.args.at c.args.packet.now.words c.args.lag_over 
 pub returns-clause-runs : goal.returns-clause-runs
 returns-clause-runs g c =
     let x = (goal.at.returns-clause-runs g c).After-packet in
-    let old = c.args.self.now in
-    let after = c.packet.new.self in
-    let new = c.keep_up-2.new.self in
-    let merges = upkeep_calls c.args.at due.Lag after in
-    on_ok _
-    _ c.keep_up-2.result
-    (λ ran. subst (λ es. NetworkRuns g.row.WAYS es old new) (whole_turn g x c.if-not-lag_over.false)
-    (runs_on g.row.WAYS _ merges old after new (first g x) ran)) c.keep_up-2.ensures.runs
+    on_ok _ _ c.keep_up-2.result
+    (λ ran. subst (λ es. NetworkRuns g.row.WAYS es c.args.self.now c.keep_up-2.new.self) (whole_turn g x c.if-not-lag_over.false)
+    (runs_on g.row.WAYS _ _ _ c.packet.new.self _ (first g x) ran)) c.keep_up-2.ensures.runs
 
 pub returns-clause-breaks_off : goal.returns-clause-breaks_off
 returns-clause-breaks_off g c =
     let x = (goal.at.returns-clause-breaks_off g c).After-packet in
-    let old = c.args.self.now in
-    let after = c.packet.new.self in
-    let new = c.keep_up-2.new.self in
-    let merges = upkeep_calls c.args.at due.Lag after in
-    on_err _
-    _ c.keep_up-2.result
-    (λ ran. subst (λ es. RunBreaksOff g.row.WAYS es old new) (whole_turn g x c.if-not-lag_over.false)
-    (run_breaks_on g.row.WAYS _ merges old after new (first g x) ran)) c.keep_up-2.ensures.breaks_off
+    on_err _ _ c.keep_up-2.result
+    (λ ran. subst (λ es. RunBreaksOff g.row.WAYS es c.args.self.now c.keep_up-2.new.self) (whole_turn g x c.if-not-lag_over.false)
+    (run_breaks_on g.row.WAYS _ _ _ c.packet.new.self _ (first g x) ran)) c.keep_up-2.ensures.breaks_off
 
 pub returns-in_err-keep_up-clause-breaks_off : goal.returns-in_err-keep_up-clause-breaks_off
 returns-in_err-keep_up-clause-breaks_off g c =

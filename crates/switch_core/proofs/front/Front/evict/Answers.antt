@@ -1,12 +1,12 @@
 -- An eviction pushes the record of the least recently used pair and drops the pair, or finds no pair.
-use Rattle.std.proofs.Common.{◌≡◌, ℕ, ◌+◌, ◌-◌, ◌<◌, false, length, refl, sym, ap, ◌∙◌, lit<, length-append, arith, true, true≢false}
-use Rattle.std.{proofs.{Common.{le_refl, le_trans}, lemmas.Bool.{lt-ltb, Decides.nat_tests}}, specs.Prelude.{not, ◌==◌}}
+use Rattle.std.proofs.Common.{◌≡◌, ℕ, ◌+◌, ◌-◌, ◌<◌, length, refl, sym, ap, ◌∙◌, lit<, length-append, arith, true, true≢false}
+use Rattle.std.{proofs.lemmas.Bool.{lt-ltb, Decides.nat_tests}, specs.Prelude.{not, ◌==◌}}
 use Rattle.bucket_cache.specs.Caches.{list_at}
 use Rattle.epoch_model.specs.Machine.{Evict}
 use Rattle.switch_core.specs.{FrontParts.front_of, FrontEvents.FrontMakes}
 use Rattle.switch_core.proofs.CacheSteps.{least_pair, least_within, some_least, none_least, drop_stands, evict_none}
 use Rattle.switch_core.proofs.{PipeSteps.pipe_evicted, LaneSteps.evict_merged_same, Drained.nothing_taken, Carrying.carries_evict}
-use Rattle.switch_core.proofs.{FrontSizes.list_sizes, StepSums.after_sum}
+use Rattle.switch_core.proofs.FrontSizes.{list_sizes}
 use Rattle.switch_core.proofs.front.Front.evict.Goals as goal
 
 pub push_pair-requires : goal.push_pair-requires
@@ -63,14 +63,12 @@ returns-in-Some g c =
     let records : length pipe.records ≡ length old.pipe.records + 1 =
     ap length (c.push_pair.ensures.pushed bucket (length list - 1) least.0 least.1 least.2) ∙ length-append old.pipe.records _ in
     record {
-      makes = rw (← c.self.view_is) made;
       carries = λ store. rw (← c.self.view_is) (carries_evict _ _ _ _ _ _ made pairs (rw (lt-ltb 0 _ some) records)
           (λ none. absurd (omega (arith, some, none))) store);
       some = rw (← c.self.view_is) (some_are _ some);
       cache = rw (← c.self.view_is) pairs;
       records = rw (← c.self.view_is) records;
       same = λ none. absurd (true≢false none);
-      steps = le_trans (after_sum _ _ _ c.push_pair.ensures.cost) (after_sum _ _ _ c.drop_entry.ensures.cost);
       cost =
           let words = c.self.invariant.front.record_words in
           let pushed = c.push_pair.ensures.cost in
@@ -95,12 +93,10 @@ returns-in-None g c =
       places = refl;
     } in
     record {
-      makes = rw (← c.self.view_is) made;
       carries = λ store. rw (← c.self.view_is) (carries_evict _ _ _ _ _ _ made taken (rw none (omega arith)) (λ h. refl) store);
       some = rw (← c.self.view_is, none);
       cache = rw (← c.self.view_is) taken;
       records = omega arith;
       same = λ none. refl;
-      steps = le_refl c.args.steps.now;
       cost = omega arith;
     }

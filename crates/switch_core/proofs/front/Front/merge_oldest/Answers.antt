@@ -1,71 +1,77 @@
+-- The oldest record's epoch goes on in the store, and the record is gone from the pipe.
 use Rattle.std.proofs.Common.{rules, ◌≡◌, ℕ, ◌+◌, ◌<◌, ◌≤◌, length, refl, sym, ap, ◌∙◌, subst, arith}
 use Rattle.epoch_model.{specs.Machine.Merge, proofs.Endings.no_end}
-use Rattle.switch_core.specs.{Costs.merge_cost, FrontParts.{FitsStore, front_of}, FrontEvents.{FrontMakes, MergesNext}, Lanes.RecordStands}
-use Rattle.switch_core.proofs.{MergeSteps.{front_merged, next_held}, FrontSizes.{SameSizes, front_kept, parts_kept}}
+use Rattle.switch_core.specs.{Costs.merge_cost, FrontParts.{FitsStore, front_of}, FrontEvents.{Carries, FrontMakes, MergesNext, with_store}}
+use Rattle.switch_core.specs.Lanes.{RecordStands}
+use Rattle.switch_core.proofs.{Carrying.carries_merge, MergeSteps.{front_merged, next_held}, FrontSizes.{SameSizes, front_kept, parts_kept}}
 use Rattle.switch_core.proofs.front.Front.merge_oldest.Goals as goal
+use Rattle.switch_core.proofs.front.Front.merge_oldest.Goals.{After-merge_record}
+
+-- the store still fits the front's own parts
+still_fits : (g : _) (c : After-merge_record g)
+    → FitsStore (g.K.EpochKind.sizes c.self.inside.kind) c.self.inside.cache c.merge_record.new.store
+still_fits g c =
+    let fits : FitsStore (g.K.EpochKind.sizes c.self.inside.kind) c.self.inside.cache c.args.store.now =
+    subst (λ x. FitsStore (g.K.EpochKind.sizes x.kind) x.cache c.args.store.now) (sym c.self.view_is) c.requires.fits in
+    record { key = c.merge_record.ensures.key_words ∙ fits.key; state = c.merge_record.ensures.state_words ∙ fits.state }
+
+spent : (g : _) (c : After-merge_record g) → (let front = c.args.self.now in c.merge_record.new.steps
+    ≤ c.args.steps.now + merge_cost front.cache.key_words front.cache.entry_words (g.K.EpochKind.merge_bound front.kind))
+spent g c =
+    let merged = c.merge_record.ensures.cost in
+    subst (λ x. c.merge_record.new.steps ≤ c.args.steps.now + merge_cost x.cache.key_words x.cache.entry_words
+    (g.K.EpochKind.merge_bound x.kind)) c.self.view_is (omega arith)
 
 pub returns : goal.returns
 returns g c =
     let old = c.self.inside in
     let some : 0 < length old.pipe.records = subst (λ x. 0 < length x.pipe.records) (sym c.self.view_is) c.requires.some in
+    let pipe = c.drop_front.new.self in
+    let store = c.args.store.now in
+    let after = c.merge_record.new.store in
+    let new = front_of old.kind old.cache pipe in
+    let fits : FitsStore (g.K.EpochKind.sizes old.kind) old.cache store =
+    subst (λ x. FitsStore (g.K.EpochKind.sizes x.kind) x.cache store) (sym c.self.view_is) c.requires.fits in
+    let fit = still_fits g (goal.at.returns g c).After-merge_record in
+    let stands = g.K.EpochKind.stands old.kind in
+    let made : FrontMakes stands g.row.WAYS Merge (front_of old.kind old.cache old.pipe) new = record {
+      stands = λ m s. front_merged stands old.cache old.pipe pipe m some (ap (λ p. p.records) c.drop_front.ensures) s;
+      kind = refl;
+      buckets = refl;
+      key_words = refl;
+      entry_words = refl;
+      places = ap (λ p. p.places) c.drop_front.ensures;
+    } in
+    let next : MergesNext stands (g.K.EpochKind.folding old.kind) (front_of old.kind old.cache old.pipe) store after =
+    λ m epochs s held. next_held stands _ old.cache old.pipe store after m epochs some
+    (λ epoch stood kept. c.in_ok-merge_record.ensures.ok epoch epochs
+    (subst (λ n. RecordStands stands n c.front.result.now epoch) (sym fits.key)
+    (subst (λ ws. RecordStands stands old.cache.key_words ws epoch) (sym c.front.ensures.words) stood)) kept) s held in
     record {
-      makes =
-          let new = front_of old.kind old.cache c.drop_front.new.self in
-          subst (λ x. FrontMakes (g.K.EpochKind.stands x.kind) g.row.WAYS Merge x new) c.self.view_is record {
-            stands = λ m s. front_merged (g.K.EpochKind.stands old.kind) old.cache old.pipe c.drop_front.new.self m some
-                (ap (λ p. p.records) c.drop_front.ensures) s;
-            kind = refl;
-            buckets = refl;
-            key_words = refl;
-            entry_words = refl;
-            places =
-                ap (λ p. p.places) c.drop_front.ensures;
-          };
-      held =
-          let stands = g.K.EpochKind.stands old.kind in
-          let f = g.K.EpochKind.folding old.kind in
-          let key : c.args.store.now.key_words ≡ old.cache.key_words =
-          subst (λ x. c.args.store.now.key_words ≡ x.cache.key_words) (sym c.self.view_is) c.requires.fits.key in
-          subst (λ x. MergesNext (g.K.EpochKind.stands x.kind) (g.K.EpochKind.folding x.kind) x c.args.store.now c.merge_record.new.store)
-          c.self.view_is (λ m epochs s held. next_held stands f old.cache old.pipe c.args.store.now c.merge_record.new.store m epochs
-          some (λ epoch stood kept. c.in_ok-merge_record.ensures.ok epoch epochs
-          (subst (λ n. RecordStands stands n c.front.result.now epoch) (sym key)
-          (subst (λ ws. RecordStands stands old.cache.key_words ws epoch) (sym c.front.ensures.words) stood)) kept) s held);
-      fits = subst (λ x. FitsStore (g.K.EpochKind.sizes x.kind) x.cache c.merge_record.new.store) (sym c.self.view_is) record {
-        key = c.merge_record.ensures.key_words ∙ c.requires.fits.key;
-        state = c.merge_record.ensures.state_words
-            ∙ c.requires.fits.state;
-      };
+      carries = subst (λ x. Carries g.K.EpochKind.stands g.K.EpochKind.folding g.row.WAYS Merge (with_store x store) (with_store new after))
+          c.self.view_is (carries_merge g.K.EpochKind.sizes _ _ _
+          (front_of old.kind old.cache old.pipe) new store after made next fits fit refl
+          (ap (λ p. p.records) c.drop_front.ensures) (λ none. absurd (omega arith)));
+      fits = fit;
       err = search rules;
       records = search rules;
       kind = ap (λ x. x.kind) c.self.view_is;
       cache = ap (λ x. x.cache) c.self.view_is;
       steps = c.merge_record.ensures.steps;
-      cost =
-          let merged = c.merge_record.ensures.cost in
-          subst (λ x. c.merge_record.new.steps ≤ c.args.steps.now + merge_cost x.cache.key_words x.cache.entry_words
-          (g.K.EpochKind.merge_bound x.kind)) c.self.view_is (omega arith);
+      cost = spent g (goal.at.returns g c).After-merge_record;
     }
 
 pub returns-in_err-merge_record : goal.returns-in_err-merge_record
 returns-in_err-merge_record g c =
     record {
-      makes = no_end c.from_residual.result _ c.from_residual.ensures.0;
-      held = no_end c.from_residual.result _ c.from_residual.ensures.0;
-      fits = subst (λ x. FitsStore (g.K.EpochKind.sizes x.kind) x.cache c.merge_record.new.store) (sym c.self.view_is) record {
-        key = c.merge_record.ensures.key_words ∙ c.requires.fits.key;
-        state = c.merge_record.ensures.state_words
-            ∙ c.requires.fits.state;
-      };
+      carries = no_end c.from_residual.result _ c.from_residual.ensures.0;
+      fits = still_fits g (goal.at.returns-in_err-merge_record g c).After-merge_record;
       err = search rules;
       records = no_end c.from_residual.result _ c.from_residual.ensures.0;
       kind = ap (λ x. x.kind) c.self.view_is;
       cache = ap (λ x. x.cache) c.self.view_is;
       steps = c.merge_record.ensures.steps;
-      cost =
-          let merged = c.merge_record.ensures.cost in
-          subst (λ x. c.merge_record.new.steps ≤ c.args.steps.now + merge_cost x.cache.key_words x.cache.entry_words
-          (g.K.EpochKind.merge_bound x.kind)) c.self.view_is (omega arith);
+      cost = spent g (goal.at.returns-in_err-merge_record g c).After-merge_record;
     }
 
 pub merge_record-requires-clause-state : goal.merge_record-requires-clause-state

@@ -130,7 +130,6 @@ returns-in-Hit g c =
       places = refl;
     } in
     record {
-      makes = rw (← c.self.view_is) made;
       carries = λ store. rw (← c.self.view_is) (carries_packet _ _ _ _ _ _ _ made store);
       steps = le_trans (after_sum _ _ _ c.bucket_of-bucket.ensures.cost) (le_trans c.in-Hit.ensures.steps c.absorb.ensures.steps);
       cost =
@@ -174,7 +173,6 @@ returns-in-Free g c =
       places = refl;
     } in
     record {
-      makes = rw (← c.self.view_is) made;
       carries = λ store. rw (← c.self.view_is) (carries_packet _ _ _ _ _ _ _ made store);
       steps = le_trans (after_sum _ _ _ c.bucket_of-bucket.ensures.cost) (le_trans c.in-Free.ensures.steps c.begin_at.ensures.steps);
       cost =
@@ -229,7 +227,6 @@ returns-in-Full g c =
       places = ap (λ p. p.places) c.push_pair.ensures.rest;
     } in
     record {
-      makes = rw (← c.self.view_is) made;
       carries = λ store. rw (← c.self.view_is) (carries_packet _ _ _ _ _ _ _ made store);
       steps = le_trans (le_trans (after_sum _ _ _ c.bucket_of-bucket.ensures.cost) t.steps)
           (le_trans (le_trans (after_sum _ _ _ c.push_pair.ensures.cost) (after_sum _ _ _ r.cost)) begun.steps);

@@ -1,8 +1,9 @@
 -- A packet that the groupby takes is the packet event of its key and its arguments at the front.
 use Rattle.std.proofs.Common.{◌≡◌, ◌∷◌, [], refl, sym, ap₂, ◌∙◌, subst}
 use Rattle.epoch_model.specs.{Driving.event_of, Machine.Packet}
+use Rattle.epoch_entry.specs.contracts.any.AnyEpochsEpochKind.TheImpl.{ghosts}
 use Rattle.stage_plan.specs.{Planned.wiring_at, Registers.taken_at}
-use Rattle.switch_core.{specs.{LaneEvents.parts, PlanLanes.{LaneMakes, LaneView}}, proofs.LaneMakes.lane_packet}
+use Rattle.switch_core.{specs.{FrontEvents.with_store, LaneEvents.parts, PlanLanes.{LaneMakes, LaneView}}, proofs.Carrying.{fits_kept, makes_one}}
 use Rattle.switch_core.proofs.lane.Lane+AnyEpochs+WAYS.take.Goals as goal
 
 pub returns-clause-makes : goal.returns-clause-makes
@@ -13,18 +14,20 @@ returns-clause-makes g c =
     let row = c.args_into.new.args in
     let was = c.self.inside in
     let front = c.packet.new.self in
-    let old : LaneView = record { kind = was.front.kind; cache = was.front.cache; pipe = was.front.pipe; store = was.store } in
-    let new : LaneView = record { kind = front.kind; cache = front.cache; pipe = front.pipe; store = was.store } in
+    let old : LaneView = with_store was.front was.store in
+    let new : LaneView = with_store front was.store in
+    let carried = c.packet.ensures.carries was.store in
     let held = sym c.present.ensures ∙ c.if-not-present.false in
     let is : event_of (taken_at w rs) ≡ Packet key row ∷ [] =
     rw held (ap₂ (λ k r. Packet k r ∷ []) (sym c.key_into.ensures.key) (sym c.args_into.ensures.args)) in
     let made : LaneMakes g.row.WAYS (Packet key row ∷ []) old new = record {
-      kind = c.packet.ensures.makes.kind;
-      made = (
-        parts front.cache front.pipe was.store,
-        lane_packet _ _ _ _ _ _ _ was.store
-            c.packet.ensures.makes,
-        refl,
-      );
+      kind = carried.sizes.kind;
+      made = (parts front.cache front.pipe was.store, makes_one _ _ _ _ old new carried, refl);
     } in
     rw c.self.view_is at (subst (λ events. LaneMakes g.row.WAYS events old new) (sym is) made)
+
+pub invariant_of-self : goal.invariant_of-self
+invariant_of-self g c =
+    let old = c.self.inside in
+    fits_kept ghosts.sizes (with_store old.front old.store) (with_store c.packet.new.self old.store)
+    (c.packet.ensures.carries old.store).sizes c.self.invariant

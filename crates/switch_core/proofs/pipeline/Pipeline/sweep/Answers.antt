@@ -1,7 +1,7 @@
 -- What a sweep's events make of the machines: their buckets are emptied.
 use Rattle.switch_core.specs.PlanLanes.{AreKept, PipelineIsSwept, PipelineMakes, upkeeps_at}
 use Rattle.switch_core.specs.declared.upkeep.Upkeep.TheVariants as due
-use Rattle.switch_core.proofs.{LaneMakes.on_both, PipelineSteps.pipeline_is_swept}
+use Rattle.switch_core.proofs.{LaneFacts.on_both, PipelineSteps.pipeline_is_swept}
 use Rattle.switch_core.proofs.pipeline.Pipeline.sweep.Goals as goal
 
 pub returns-clause-swept : goal.returns-clause-swept
