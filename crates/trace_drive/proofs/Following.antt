@@ -158,6 +158,19 @@ sweep_follows alike old new after swept f =
     let s = swept.stands f.machines f.stands in
     record { machines = s.0; stands = s.1; alike = swept_alike alike old.buckets after 0 0 f.machines s.0 s.2 f.alike }
 
+-- merges after a sweep change no epoch
+pub sweep_then : EventsKeepAlike → (ways : ℕ) (upkeep : Upkeep) (old swept new : PipelineView) → IsMerging upkeep
+    → PipelineIsSwept old swept → PipelineMakes ways (upkeeps_at upkeep swept.lanes) swept new → (after : ℕ → Machine) → FollowsBy after old
+    → FollowsBy (λ i. empty_buckets old.buckets (after i)) new
+sweep_then alike ways upkeep old swept new is led made after f =
+    upkeep_follows alike ways upkeep swept new (λ i. empty_buckets old.buckets (after i)) is made
+    (sweep_follows alike old swept after led f)
+
+pub both_keep : (ways : ℕ) (first later : ℕ → List Event) (old mid new : PipelineView) → PipelineMakes ways first old mid
+    → PipelineMakes ways later mid new → Keeps old new
+both_keep ways first later old mid new a b =
+    keeps_along old mid new (makes_keeps ways first old mid a) (makes_keeps ways later mid new b)
+
 -- a packet doesn't depend on the refresh of a geometry
 run_as : (g h : Geometry) (taking : Option Taken) (m : Machine) → g.buckets ≡ h.buckets → g.ways ≡ h.ways
     → run g (event_of taking) m ≡ run h (event_of taking) m

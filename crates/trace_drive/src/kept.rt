@@ -43,7 +43,6 @@ impl Model for KeptPackets {
     ghost invariant = { IsSound };
 }
 
-// The fields of a set.
 fn fields_of(alloc: Global, set: FieldSet) -> Result<Vec<Field>, AllocError>
     ensures { IfOk result (λ fields. fields.items ≡ fields_kept set) }
 {
@@ -56,7 +55,6 @@ fn fields_of(alloc: Global, set: FieldSet) -> Result<Vec<Field>, AllocError>
     Ok(fields)
 }
 
-// Adds the words of these fields. There is room for them.
 #[inline(always)]
 fn push_words(words: &mut Vec<u64>, fields: &[Field], packet: &Packet)
     requires { vec_len words.old + length fields.now ≤ vec_capacity words.old }
@@ -88,7 +86,6 @@ fn words_from(words: &[u64], width: usize, at: usize) -> &[u64]
     &words[at * width..]
 }
 
-// The packet in which these fields have the row's words.
 #[inline]
 fn row_into(row: &[u64], fields: &[Field], packet: &mut Packet)
     requires { length fields.now ≤ length row.now }

@@ -32,7 +32,6 @@ pub struct Replay<'a, const WAYS: usize> {
     lags: Clock,
 }
 
-// A sweep, and the merges of all that waits.
 fn drain<const WAYS: usize, L: Ledger>(
     pipeline: &mut Pipeline<WAYS>,
     steps: &mut Steps<L>,
