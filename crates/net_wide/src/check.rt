@@ -7,7 +7,6 @@ ghost use Rattle.net_wide.specs.Combining.{is_switch, names_switch, columns_made
 use marple_base::Field;
 use query_lang::{FaultKind, Names, QueryFault, TypedFold, TypedOp, TypedQuery, TypedStream};
 
-// Whether the name with this number is `switch`.
 fn is_switch(names: &Names, id: u32) -> bool
     ensures { result ≡ is_switch names.now id }
 {
@@ -17,7 +16,6 @@ fn is_switch(names: &Names, id: u32) -> bool
     Field::Switch.name() == names.text(id)
 }
 
-// Whether one of these columns is named `switch`.
 fn names_switch(names: &Names, columns: &[u32]) -> bool
     ensures { result ≡ names_switch names.now columns.now }
 {
@@ -43,7 +41,6 @@ fn maps_switch(names: &Names, one: &TypedStream) -> bool
     }
 }
 
-// Whether a `map` of these streams makes a column named `switch`.
 fn makes_switch(names: &Names, streams: &[TypedStream]) -> bool
     ensures { result ≡ makes_switch names.now streams.now }
 {
