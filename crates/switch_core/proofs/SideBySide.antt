@@ -112,6 +112,11 @@ untouched_was i old new x u l e =
     let was = got_some old i l in
     was.1 ∙ ap Some (same_some _ x (sym (untouched_at i _ _ _ u was.1) ∙ e))
 
+-- the item of a turn is the one that was there
+pub was_there : {X : Type 0} (i : ℕ) (old new : List X) (d : X) → Untouched i old new → i < length old → length new ≡ length old
+    → slice_get old i ≡ Some (get_or new i d)
+was_there i old new d u below long = untouched_was i old new _ u below (got_here new i d (omega arith))
+
 pub done_end : {X : Type 0} (R : ℕ → X → X → Type 0) (i : ℕ) (old new : List X) → Done R i old new → length old ≤ i → EachFrom R 0 old new
 done_end R i old new d l = each_map _ R 0 _ _
     (λ j n a b q f g r. r (let w = got_below _ j a f in omega arith)) d

@@ -1,6 +1,5 @@
-use Rattle.std.proofs.Common.{◌<◌, length, get_or, sym, ap, ◌∙◌, arith}
-use Rattle.switch_core.proofs.SideBySide.{same_some, done_start, untouched_start, done_next, untouched_next, untouched_was, done_end}
-use Rattle.switch_core.proofs.SideBySide.{got_here}
+use Rattle.std.proofs.Common.{get_or, sym, ap, ◌∙◌, arith}
+use Rattle.switch_core.proofs.SideBySide.{same_some, done_start, untouched_start, done_next, untouched_next, was_there, done_end}
 use Rattle.network.specs.Groups.{with_first}
 use Rattle.network.proofs.groups.keep_switches.Goals as goal
 
@@ -17,9 +16,7 @@ loop-i-preserved g c =
     let groups = c.loop-i.groups in
     let group = get_or groups i c.index-groups-i.result in
     let new = c.keep_switches.new.self in
-    let kept = c.loop-i.auto.groups in
-    let below : i < length groups = let b = c.loop-i-test.true in omega arith in
-    let was = untouched_was i first groups _ c.loop-i.invariant.same (omega arith) (got_here groups i c.index-groups-i.result below) in
+    let was = was_there i first groups c.index-groups-i.result c.loop-i.invariant.same c.loop-i-test.true c.loop-i.auto.groups in
     record {
       kept = done_next _ i first groups new c.loop-i.invariant.kept
           (λ x e. c.keep_switches.ensures ∙ ap (with_first c.args.switches) (same_some group x (sym was ∙ e)));

@@ -1,14 +1,13 @@
-use Rattle.std.proofs.{Common.{◌≡◌, ◌<◌, ◌+◌, ℕ, length, Some, take, get_or, refl, sym, ◌∙◌, subst, arith, lit<}, Math.Facts.Fits-below}
-use Rattle.std.specs.Prelude.{sum_by, slice_get}
+use Rattle.std.proofs.{Common.{◌≡◌, ◌<◌, ◌+◌, ℕ, length, take, get_or, refl, sym, ◌∙◌, subst, arith, lit<}, Math.Facts.Fits-below}
+use Rattle.std.specs.Prelude.{sum_by}
 use Rattle.epoch_model.specs.Driving.{event_of}
 use Rattle.query_lang.specs.declared.fault.TheConstants.{MAX_KEYS}
 use Rattle.stage_plan.specs.{Planned.wiring_at, Registers.taken_at}
 use Rattle.switch_core.proofs.{LaneFacts.all_at, SweepCosts.sum_within, SideBySide.{same_some, each_long, done_start, untouched_start}}
-use Rattle.switch_core.proofs.SideBySide.{done_next, untouched_next, untouched_was, done_end, sum_next, got_here}
+use Rattle.switch_core.proofs.SideBySide.{done_next, untouched_next, was_there, done_end, sum_next}
 use Rattle.network.specs.{Groups.GroupView, Events.{GroupMakesAll, is_ready_at}, Costs.group_cost}
 use Rattle.network.proofs.{CostSteps.{group_within, within_next}, GroupSteps.part_of}
 use Rattle.network.proofs.groups.packet_groups.Goals as goal
-use Rattle.network.proofs.groups.packet_groups.Goals.{In-loop-i}
 
 pub loop-i-init : goal.loop-i-init
 loop-i-init g c = record {
@@ -21,16 +20,6 @@ loop-i-init g c = record {
   key = refl;
   args = refl;
 }
-
--- the groupby of this turn is the one that was there
-there : (g : _) (c : In-loop-i g) (d : GroupView)
-    → slice_get c.args.groups.now c.loop-i.i ≡ Some (get_or c.loop-i.groups c.loop-i.i d)
-there g c d =
-    let groups = c.loop-i.groups in
-    let kept = c.loop-i.auto.groups in
-    let below : c.loop-i.i < length groups = let b = c.loop-i-test.true in omega arith in
-    untouched_was c.loop-i.i c.args.groups.now groups _ c.loop-i.invariant.same (omega arith)
-    (got_here groups c.loop-i.i d below)
 
 pub overflow_cast-i : goal.overflow_cast-i
 overflow_cast-i g c =
@@ -46,7 +35,7 @@ packet-requires g c =
     let i = c.loop-i.i in
     let first = c.args.groups.now in
     let group = get_or c.loop-i.groups i c.index-groups-i.result in
-    let was = there g (goal.at.packet-requires g c).In-loop-i c.index-groups-i.result in
+    let was = was_there i first c.loop-i.groups c.index-groups-i.result c.loop-i.invariant.same c.loop-i-test.true c.loop-i.auto.groups in
     let own = part_of c.args.plan.now c.requires.groups.0 i first group c.invariant.ensures c.requires.groups.2 was in
     let at : c.args.at < length group.fronts = let a = c.requires.groups.1 in let b = own.is.count in omega arith in
     let ready = all_at (is_ready_at c.args.at) first i group c.requires.ready was in
@@ -65,7 +54,7 @@ loop-i-preserved g c =
     let groups = c.loop-i.groups in
     let group = get_or groups i c.index-groups-i.result in
     let new = c.packet.new.self in
-    let was = there g (goal.at.loop-i-preserved g c).In-loop-i c.index-groups-i.result in
+    let was = was_there i first c.loop-i.groups c.index-groups-i.result c.loop-i.invariant.same c.loop-i-test.true c.loop-i.auto.groups in
     let made : ℕ → GroupView → GroupView → Type 0 = λ n. GroupMakesAll g.row.WAYS c.args.at
     (event_of (taken_at (wiring_at c.args.plan.now n) c.args.registers.now)) in
     let own = part_of c.args.plan.now c.requires.groups.0 i first group c.invariant.ensures c.requires.groups.2 was in

@@ -1,24 +1,20 @@
+-- The groupby makes the merge, and the others stay.
 use Rattle.std.proofs.Common.{◌≡◌, ◌+◌, ◌≤◌, sym, ap, ◌∙◌, subst, lit<}
 use Rattle.epoch_model.specs.Machine.{Merge}
 use Rattle.switch_core.proofs.{LaneFacts.{either_way, on_err, on_ok}, SideBySide.same_some}
 use Rattle.network.specs.{Costs.group_merge_cost, Events.{GroupMakes, OthersStay, is_ready_at}, Networks.IsNetwork, Running.Merges}
-use Rattle.network.proofs.OneLane.{IsLane, view_of, after, lane_found, lane_switch, lane_shares, lane_is, lane_front, lane_now, lane_kept}
+use Rattle.network.proofs.OneLane.{after, lane_found, lane_switch, lane_shares, lane_is, lane_front, lane_now, lane_kept}
 use Rattle.network.proofs.OneLane.{kept_network, kept_others, groups_made, network_made, others_made, event_made}
 use Rattle.network.proofs.network.Network.merge.Goals as goal
-use Rattle.network.proofs.network.Network.merge.Goals.{After-index_mut-group}
-
-lane : (g : _) (c : After-index_mut-group g)
-    → IsLane g.row.WAYS (view_of c.self.inside) c.args.self.now c.args.lane c.index_mut-group.result.now
-lane g c = lane_found c.self.invariant.0 c.self.view_is c.requires.lane c.index_mut-group.ensures.value
 
 pub merge-requires : goal.merge-requires
 merge-requires g c =
-    let l = lane g (goal.at.merge-requires g c).After-index_mut-group in
+    let l = lane_found c.self.invariant.0 c.self.view_is c.requires.lane c.index_mut-group.ensures.value in
     (lit< tt, (lane_switch l c.requires.switch, lane_shares l))
 
 pub invariant_of-self : goal.invariant_of-self
 invariant_of-self g c =
-    let l = lane g (goal.at.invariant_of-self g c).After-index_mut-group in
+    let l = lane_found c.self.invariant.0 c.self.view_is c.requires.lane c.index_mut-group.ensures.value in
     let new = c.merge.new.self in (
       either_way (GroupMakes g.row.WAYS c.args.at Merge c.index_mut-group.result.now new) (new ≡ c.index_mut-group.result.now)
           (IsNetwork g.row.WAYS (after l new)) c.merge.result c.merge.ensures.makes c.merge.ensures.err
@@ -28,7 +24,7 @@ invariant_of-self g c =
 
 pub returns-clause-makes : goal.returns-clause-makes
 returns-clause-makes g c =
-    let l = lane g (goal.at.returns-clause-makes g c).After-index_mut-group in
+    let l = lane_found c.self.invariant.0 c.self.view_is c.requires.lane c.index_mut-group.ensures.value in
     let new = c.merge.new.self in
     on_ok _
     _ c.merge.result
@@ -36,7 +32,7 @@ returns-clause-makes g c =
 
 pub returns-clause-others : goal.returns-clause-others
 returns-clause-others g c =
-    let l = lane g (goal.at.returns-clause-others g c).After-index_mut-group in
+    let l = lane_found c.self.invariant.0 c.self.view_is c.requires.lane c.index_mut-group.ensures.value in
     let new = c.merge.new.self in
     either_way (GroupMakes g.row.WAYS c.args.at Merge c.index_mut-group.result.now new) (new ≡ c.index_mut-group.result.now)
     (OthersStay c.args.at c.args.self.now.groups (after l new).groups) c.merge.result c.merge.ensures.makes c.merge.ensures.err
@@ -44,29 +40,32 @@ returns-clause-others g c =
 
 pub returns-clause-ready : goal.returns-clause-ready
 returns-clause-ready g c =
-    let l = lane g (goal.at.returns-clause-ready g c).After-index_mut-group in
+    let l = lane_found c.self.invariant.0 c.self.view_is c.requires.lane c.index_mut-group.ensures.value in
     let new = c.merge.new.self in
     on_ok _ _
     c.merge.result (λ ready x e. ap (is_ready_at c.args.at) (same_some x new (sym e ∙ lane_now l new)) ∙ ready) c.merge.ensures.ready
 
 pub returns-clause-empty : goal.returns-clause-empty
 returns-clause-empty g c x e front f =
-    c.merge.ensures.empty front (lane_front (lane g (goal.at.returns-clause-empty g c).After-index_mut-group) c.args.at e f)
+    let l = lane_found c.self.invariant.0 c.self.view_is c.requires.lane c.index_mut-group.ensures.value in
+    c.merge.ensures.empty front (lane_front l c.args.at e f)
 
 pub returns-clause-same : goal.returns-clause-same
 returns-clause-same g c is =
-    lane_kept (lane g (goal.at.returns-clause-same g c).After-index_mut-group) c.merge.new.self (c.merge.ensures.same is)
+    let l = lane_found c.self.invariant.0 c.self.view_is c.requires.lane c.index_mut-group.ensures.value in
+    lane_kept l c.merge.new.self (c.merge.ensures.same is)
 
 pub returns-clause-err : goal.returns-clause-err
 returns-clause-err g c =
-    let l = lane g (goal.at.returns-clause-err g c).After-index_mut-group in
+    let l = lane_found c.self.invariant.0 c.self.view_is c.requires.lane c.index_mut-group.ensures.value in
     on_err _ _ c.merge.result
     (lane_kept l c.merge.new.self) c.merge.ensures.err
 
 pub returns-clause-cost : goal.returns-clause-cost
 returns-clause-cost g c x e front f =
-    c.merge.ensures.cost front (lane_front (lane g (goal.at.returns-clause-cost g c).After-index_mut-group) c.args.at e f)
+    let l = lane_found c.self.invariant.0 c.self.view_is c.requires.lane c.index_mut-group.ensures.value in
+    c.merge.ensures.cost front (lane_front l c.args.at e f)
 
 pub returns-clause-most : goal.returns-clause-most
 returns-clause-most g c x e = subst (λ v. c.merge.new.steps ≤ c.args.steps.now + group_merge_cost c.args.at v)
-    (lane_is (lane g (goal.at.returns-clause-most g c).After-index_mut-group) e) c.merge.ensures.most
+    (lane_is (lane_found c.self.invariant.0 c.self.view_is c.requires.lane c.index_mut-group.ensures.value) e) c.merge.ensures.most

@@ -1,13 +1,13 @@
 -- Each lane makes the packet event of what its groupby takes of the registers.
-use Rattle.std.proofs.Common.{rules, ◌≡◌, ℕ, ◌<◌, length, drop, get_or, refl, sym, ap, ◌∙◌, subst, true, arith, lit<}
+use Rattle.std.proofs.Common.{rules, ◌≡◌, ℕ, length, drop, get_or, refl, sym, ap, ◌∙◌, subst, true, arith, lit<}
 use Rattle.std.{proofs.Math.Facts.Fits-below, specs.List.list_all}
 use Rattle.epoch_model.specs.Driving.{event_of}
 use Rattle.query_lang.specs.declared.fault.TheConstants.{MAX_ARGS, MAX_KEYS}
 use Rattle.stage_plan.specs.{Planned.wiring_at, Registers.taken_at, Sound.PlanParts}
 use Rattle.switch_core.specs.{Pipelines.packet_events, PlanLanes.{AreLanesOf, LaneMakes, LaneView, PipelineView, lane_cost, lane_is_ready}}
 use Rattle.switch_core.proofs.{FrontSizes.room_kept, LaneFacts.{all_at, lane_fits, whole_written}, PacketBound.packet_within}
-use Rattle.switch_core.proofs.{PipelineSteps.given_back, SideBySide.{got_here, same_some, each_long, done_start, untouched_start}}
-use Rattle.switch_core.proofs.SideBySide.{done_next, untouched_next, untouched_was, done_end, sum_next, sum_whole}
+use Rattle.switch_core.proofs.{PipelineSteps.given_back, SideBySide.{same_some, each_long, done_start, untouched_start}}
+use Rattle.switch_core.proofs.SideBySide.{done_next, untouched_next, was_there, done_end, sum_next, sum_whole}
 use Rattle.switch_core.proofs.pipeline.Pipeline.packet.Goals as goal
 
 pub registers_of-registers-requires-clause-row : goal.registers_of-registers-requires-clause-row
@@ -54,10 +54,7 @@ take-requires g c =
     let value = c.deref_mut-lanes.ensures.value in
     let i = c.loop-i.i in
     let lane = get_or c.loop-i.lanes i c.index-lanes-i.result in
-    let kept = c.loop-i.auto.lanes in
-    let below : i < length c.loop-i.lanes = let b = c.loop-i-test.true in omega arith in
-    let was = untouched_was i first c.loop-i.lanes lane c.loop-i.invariant.same (omega arith)
-    (got_here c.loop-i.lanes i c.index-lanes-i.result below) in
+    let was = was_there i first c.loop-i.lanes c.index-lanes-i.result c.loop-i.invariant.same c.loop-i-test.true c.loop-i.auto.lanes in
     let are : AreLanesOf p.entries p.plan p.buckets first = subst (λ x. AreLanesOf p.entries p.plan p.buckets x) (sym value)
     c.self.invariant.lanes in
     let fits = lane_fits p.entries p.plan p.buckets i first lane c.invariant.ensures are was in
@@ -80,10 +77,7 @@ loop-i-preserved g c =
     let first = c.deref_mut-lanes.result.now in
     let i = c.loop-i.i in
     let lane = get_or c.loop-i.lanes i c.index-lanes-i.result in
-    let kept = c.loop-i.auto.lanes in
-    let below : i < length c.loop-i.lanes = let b = c.loop-i-test.true in omega arith in
-    let was = untouched_was i first c.loop-i.lanes lane c.loop-i.invariant.same (omega arith)
-    (got_here c.loop-i.lanes i c.index-lanes-i.result below) in
+    let was = was_there i first c.loop-i.lanes c.index-lanes-i.result c.loop-i.invariant.same c.loop-i-test.true c.loop-i.auto.lanes in
     let made : ℕ → LaneView → LaneView → Type 0 = λ n. LaneMakes g.row.WAYS (event_of (taken_at (wiring_at plan n) registers)) in
     let taken : made i lane c.take.new.self =
     subst (λ (x : PlanParts). LaneMakes g.row.WAYS (event_of (taken_at (wiring_at x i) registers)) lane c.take.new.self) same
