@@ -4,7 +4,8 @@ use Rattle.marple_base.specs.{declared.field.{Field.TheVariants.Switch, FieldSet
 use Rattle.query_lang.specs.declared.typed.TypedQuery.{TypedQuery}
 use Rattle.stage_plan.specs.Fields.{read_fields}
 use Rattle.trace_drive.specs.Drives.{words_of}
-use Rattle.trace_reader.specs.{Traces.{Contents, contents}, declared.fault.TraceFault.{TraceFault, TheVariants.TooManySwitches}}
+use Rattle.trace_reader.specs.{Traces.{Contents, contents}, Upcoming.Upcoming}
+use Rattle.trace_reader.specs.declared.fault.TraceFault.{TraceFault, TheVariants.TooManySwitches}
 use Rattle.net_wide.specs.{NetTables.switch_in, Numbering.{switch_number, with_switch}}
 
 -- the fields that the query reads, and always the switch
@@ -22,6 +23,10 @@ abbrev pub first_fault : List ℕ → ℕ → List (List ℕ) → Option TraceFa
 first_fault known number [] past = past
 first_fault known number (words ∷ packets) past =
     fault_at number (switch_number known (switch_in words)) (first_fault (with_switch known (switch_in words)) (suc number) packets past)
+
+-- that of the packets that are still to come of a trace, where no packet came before them
+abbrev pub fault_ahead : Upcoming → Option TraceFault
+fault_ahead trace = first_fault [] 1 (words_of trace.packets) trace.fault
 
 -- the first fault of what a trace contains: a 65th switch among the packets before the trace's own fault comes before that
 abbrev pub net_fault_in : Contents → Option TraceFault

@@ -1,13 +1,12 @@
 //! The packets of a trace, each at its switch.
 
-ghost use Rattle.std.specs.Prelude.{◌≡◌, ◌+◌, ◌<◌, ◌≤◌, ℕ, suc, List, [], ◌∷◌, ◌++◌, All, None, Some, true, length, slice_get, IfErr, IfOk};
-ghost use Rattle.std.specs.Prelude.{OnOk};
+ghost use Rattle.std.specs.Prelude.{◌≡◌, ◌+◌, ◌<◌, ◌≤◌, ℕ, suc, List, [], ◌∷◌, ◌++◌, None, Some, length, slice_get, IfErr, IfOk, OnOk};
 ghost use Rattle.network.specs.{Networks.{IsNetwork, KeepsNetwork}, Running.NetworkStands};
 ghost use Rattle.net_wide.specs.{NetTables.switch_in, Numbering.{switch_number, with_switch}};
 ghost use Rattle.epoch_model.specs.Epochs.{is_refresh};
 ghost use Rattle.trace_drive.specs.{Clocks.HasCounted, Drives.words_of};
 ghost use Rattle.trace_reader.specs.{Faults.IfRefused, declared.fault.TraceFault.TheVariants.{TooManySwitches as SwitchFault}};
-ghost use Rattle.driven_net.specs.{Follows.NetFollows, Lags.{AreLagClocks, CountsAt, HaveCounted}, NetTraces.first_fault};
+ghost use Rattle.driven_net.specs.{Follows.NetFollows, Lags.{AreLagClocks, CountsAt, HaveCounted}, NetTraces.fault_ahead};
 ghost use Rattle.driven_net.specs.Turns.{MakesTurn, MakesTurns, Meets, known_after};
 
 use marple_base::{FIELDS, Field, Packet, Seq, Steps};
@@ -69,7 +68,6 @@ fn is_due(clocks: &mut [Clock], at: usize) -> bool
     clock.is_due()
 }
 
-// A packet at its switch.
 fn take_one<const WAYS: usize, L: Ledger>(
     network: &mut Network<WAYS>,
     known: &mut Seq<u64>,
@@ -116,13 +114,12 @@ pub(crate) fn take_all<const WAYS: usize, L: Ledger>(
     requires switches { network.switches ≡ 0 }
     requires fresh { NetworkStands WAYS network [] }
     requires few { length trace.packets ≤ MAX_RECORDS }
-    ensures accepted { IfOk result (λ found. first_fault [] 1 (words_of trace.entry.packets) trace.entry.fault ≡ None) }
+    ensures accepted { IfOk result (λ found. fault_ahead trace.entry ≡ None) }
     ensures follows { IfOk result (λ found. (known : List ℕ) × NetFollows WAYS known (words_of trace.entry.packets) found) }
     ensures turns { IfOk result (MakesTurns WAYS lag [] (words_of trace.entry.packets) network.entry) }
     ensures keeps { IfOk result (KeepsNetwork network.entry) }
     ensures known { IfOk result (IsNetwork WAYS) }
-    ensures refused { IfErr result (λ answer. IfRefused answer (λ fault.
-        first_fault [] 1 (words_of trace.entry.packets) trace.entry.fault ≡ Some fault)) }
+    ensures refused { IfErr result (λ answer. IfRefused answer (λ fault. fault_ahead trace.entry ≡ Some fault)) }
     ensures steps { steps.old ≤ steps.new }
 {
     let mut trace = trace;

@@ -141,7 +141,7 @@ module _ (law : AlikeFoldingsMakeOneTable) (make : MergedMakeTheTable) (ways : �
   pieces = pieces_closed number ways net events
 
   room : HasRoom (caches_of net.buckets ways)
-  room = (is.some_buckets, is.some_ways)
+  room = (is.sizes.some_buckets, is.sizes.some_ways)
 
   abbrev merged : ℕ → List SwitchEpoch
   merged i = merged_after ways net.buckets [] (all_given net.plan i events)

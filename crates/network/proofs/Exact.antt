@@ -189,7 +189,7 @@ module _ (law : AlikeFoldingsMakeOneTable) (ways : ℕ) (net : NetworkView) (n :
   epochs = merged_after ways net.buckets [] given
 
   room : HasRoom g
-  room = (is.some_buckets, is.some_ways)
+  room = (is.sizes.some_buckets, is.sizes.some_ways)
 
   -- the groupby with this number
   found : (group : GroupView) × (slice_get net.groups n ≡ Some group) × IsGroup net.switches d.part (wiring_at net.plan n) group

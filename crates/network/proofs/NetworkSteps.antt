@@ -31,11 +31,7 @@ kept_network _ old news kept is = record {
   groups = still_groups old.switches old.plan old.groups news kept is.groups;
   wide = have_kept (λ x. length x.cache.lists) old.buckets old.groups news (λ a b k. k.buckets) kept is.wide;
   pipes = have_kept (λ x. x.pipe.places) old.pipe_records old.groups news (λ a b k. k.places) kept is.pipes;
-  some_ways = is.some_ways;
-  some_buckets = is.some_buckets;
-  places = is.places;
-  some_records = is.some_records;
-  most_records = is.most_records;
+  sizes = is.sizes;
 }
 
 -- so is one that made events of a switch
@@ -67,11 +63,7 @@ grown_network ways old news few are grown is = record {
       is.wide;
   pipes = have_grown (λ x. x.pipe.places) old.pipe_records ways old.buckets old.pipe_records old.groups news (λ a b g. g.pipes) grown
       is.pipes;
-  some_ways = is.some_ways;
-  some_buckets = is.some_buckets;
-  places = is.places;
-  some_records = is.some_records;
-  most_records = is.most_records;
+  sizes = is.sizes;
 }
 
 -- groupbys that were written over the whole of a list

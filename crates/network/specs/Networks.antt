@@ -1,7 +1,7 @@
 -- A plan over several switches, as contracts see it.
-use Rattle.std.specs.Prelude.{◌≡◌, ℕ, ◌+◌, ◌*◌, ◌<◌, ◌≤◌, List, sum_by}
+use Rattle.std.specs.Prelude.{◌≡◌, ℕ, ◌+◌, ◌*◌, ◌≤◌, List, sum_by}
 use Rattle.stage_plan.specs.{Planned.registers_of, Sound.PlanParts}
-use Rattle.switch_core.specs.{Rows.Each, declared.upkeep.Upkeep.Upkeep}
+use Rattle.switch_core.specs.{FrontParts.AreSizes, Rows.Each, declared.upkeep.Upkeep.Upkeep}
 use Rattle.switch_core.specs.declared.upkeep.Upkeep.TheVariants as due
 use Rattle.network.specs.{Groups.{GroupGrows, GroupView, AreGroups, AllHavePlaces, AllWide}, Costs.{group_cost, group_upkeep_cost}}
 
@@ -20,11 +20,7 @@ pub record IsNetwork (ways : ℕ) (net : NetworkView) : Type 0 where
   pub groups : AreGroups net.plan net.switches net.groups
   pub wide : AllWide net.buckets net.groups
   pub pipes : AllHavePlaces net.pipe_records net.groups
-  pub some_ways : 0 < ways
-  pub some_buckets : 0 < net.buckets
-  pub places : net.buckets * ways ≤ 65536
-  pub some_records : 0 < net.pipe_records
-  pub most_records : net.pipe_records ≤ 65536
+  pub sizes : AreSizes ways net.buckets net.pipe_records
 
 -- the plan, the number of buckets and the number of records of a pipe are unchanged
 pub record KeepsNetwork (old new : NetworkView) : Type 0 where

@@ -1,6 +1,6 @@
 //! The fronts of all switches at one groupby, and the store that they share.
 
-ghost use Rattle.std.specs.Prelude.{◌≡◌, ◌+◌, ◌*◌, ◌==◌, ◌<◌, ◌≤◌, ◌↔◌, ℕ, List, [], Ok, true, not, length, slice_get, if◌then◌else◌, IfOk};
+ghost use Rattle.std.specs.Prelude.{◌≡◌, ◌+◌, ◌==◌, ◌<◌, ◌≤◌, ◌↔◌, ℕ, List, [], Ok, true, not, length, slice_get, if◌then◌else◌, IfOk};
 ghost use Rattle.std.specs.{Prelude.{OnOk, OnErr}, List.list_all};
 ghost use Rattle.bucket_cache.specs.Caches.{list_at};
 ghost use Rattle.epoch_model.specs.{Driving.event_of, Machine.{Epoch, Evict, Merge}};
@@ -9,7 +9,8 @@ ghost use Rattle.backing_store.specs.Merged.{StoreHolds};
 ghost use Rattle.final_queries.specs.GroupTable.{closed_table};
 ghost use Rattle.stage_plan.specs.{declared.group.GroupWiring.GroupWiring, Planned.{registers_of, wiring_at}, Registers.taken_at};
 ghost use Rattle.stage_plan.specs.Sound.{IsSoundGroup};
-ghost use Rattle.switch_core.specs.{Closing.is_drained, Costs.evict_cost, Pipelines.heading_of, PlanLanes.{lane_cost, lane_merge_cost}};
+ghost use Rattle.switch_core.specs.{Closing.is_drained, Costs.evict_cost, FrontParts.AreSizes, Pipelines.heading_of};
+ghost use Rattle.switch_core.specs.PlanLanes.{lane_cost, lane_merge_cost};
 ghost use Rattle.network.specs.Shared.{AtSwitch};
 ghost use Rattle.network.specs.Groups.{GroupGrows, GroupShares, GroupStands, IsGroup, folding_in, group_is_drained, with_first};
 ghost use Rattle.network.specs.Events.{AreAllMerged, GroupBreaksOff, GroupMakes, GroupMakesAll, IsLeft, is_ready_at, upkeep_in};
@@ -27,7 +28,6 @@ use std::marker::Model;
 use std::sync::ledger::Ledger;
 use switch_core::{Front, Merged, Upkeep, held_table, keep_up};
 
-// Whether all caches and pipes are empty.
 fn all_drained<const WAYS: usize>(fronts: &[Front<AnyEpochs, WAYS>]) -> bool
     ensures { result ≡ list_all (λ front. is_drained front.cache front.pipe) fronts.now }
 {
@@ -89,10 +89,7 @@ impl<const WAYS: usize> Group<WAYS> {
         buckets: u32,
         pipe_records: u32,
     ) -> Result<(), AllocError>
-        requires ways { 0 < WAYS }
-        requires buckets { 0 < buckets }
-        requires places { buckets * WAYS ≤ 65536 }
-        requires pipe { (0 < pipe_records) × (pipe_records ≤ 65536) }
+        requires sizes { AreSizes WAYS buckets pipe_records }
         requires program { IsProgram part.now.program }
         requires keys { (0 < length part.now.key_names) × (length part.now.key_names ≤ MAX_KEYS) }
         ensures is { OnOk result ((switches registers : ℕ) (wiring : GroupWiring) → IsSoundGroup registers part.now wiring

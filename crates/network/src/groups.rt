@@ -1,9 +1,9 @@
 //! The groupbys of a plan, side by side.
 
-ghost use Rattle.std.specs.{Prelude.{◌≡◌, ◌+◌, ◌*◌, ◌<◌, ◌≤◌, ℕ, List, [], true, length, All, sum_by, IfOk, OnOk, OnErr}, List.list_all};
+ghost use Rattle.std.specs.{Prelude.{◌≡◌, ◌+◌, ◌<◌, ◌≤◌, ℕ, List, [], true, length, All, sum_by, IfOk, OnOk, OnErr}, List.list_all};
 ghost use Rattle.epoch_model.specs.{Driving.event_of, Machine.Epoch};
 ghost use Rattle.stage_plan.specs.{Planned.{registers_of, wiring_at}, Registers.taken_at, Sound.PlanParts};
-ghost use Rattle.switch_core.specs.Rows.{Each};
+ghost use Rattle.switch_core.specs.{FrontParts.AreSizes, Rows.Each};
 ghost use Rattle.network.specs.Groups.{AreGroups, GroupGrows, GroupStands, StoresHold, group_is_drained, shared_tables, with_first};
 ghost use Rattle.network.specs.{Events.{AreAllMerged, AtGroup, GroupsMake, StoresStay, is_ready_at}, Costs.group_cost};
 
@@ -32,33 +32,6 @@ pub fn made_groups<const WAYS: usize>(
     Ok(groups)
 }
 
-// Makes caches and pipes of the next switch, at each groupby up to the first that runs out of memory.
-fn add_fronts<const WAYS: usize>(
-    alloc: Global,
-    plan: &Plan,
-    groups: &mut [Group<WAYS>],
-    buckets: u32,
-    pipe_records: u32,
-) -> Result<(), AllocError>
-    requires ways { 0 < WAYS }
-    requires buckets { 0 < buckets }
-    requires places { buckets * WAYS ≤ 65536 }
-    requires pipe { (0 < pipe_records) × (pipe_records ≤ 65536) }
-    requires groups { (switches : ℕ) × AreGroups plan.now switches groups.old }
-    ensures are { OnOk result ((switches : ℕ) → AreGroups plan.now switches groups.old
-        → AreGroups plan.now (switches + 1) groups.new) }
-    ensures grow { OnOk result (Each (GroupGrows WAYS buckets pipe_records) groups.old groups.new) }
-    ensures others { Each (λ old new. with_first (length old.fronts) new ≡ old) groups.old groups.new }
-{
-    plan.invariant();
-    for i in 0..groups.len() {
-        let group = &mut groups[i];
-        group.add_switch(alloc, plan.group(i as u32), buckets, pipe_records)?;
-    }
-    Ok(())
-}
-
-// Keeps the caches and pipes of the first `switches` switches at each groupby.
 fn keep_switches<const WAYS: usize>(groups: &mut [Group<WAYS>], switches: usize)
     ensures { Each (λ old new. new ≡ with_first switches old) groups.old groups.new }
 {
@@ -77,23 +50,25 @@ pub fn add_switch<const WAYS: usize>(
     buckets: u32,
     pipe_records: u32,
 ) -> Result<(), AllocError>
-    requires ways { 0 < WAYS }
-    requires buckets { 0 < buckets }
-    requires places { buckets * WAYS ≤ 65536 }
-    requires pipe { (0 < pipe_records) × (pipe_records ≤ 65536) }
+    requires sizes { AreSizes WAYS buckets pipe_records }
     requires groups { AreGroups plan.now switches groups.old }
     ensures are { OnOk result ((switches : ℕ) → AreGroups plan.now switches groups.old
         → AreGroups plan.now (switches + 1) groups.new) }
     ensures grow { OnOk result (Each (GroupGrows WAYS buckets pipe_records) groups.old groups.new) }
     ensures err { OnErr result (groups.new ≡ groups.old) }
 {
-    match add_fronts(alloc, plan, groups, buckets, pipe_records) {
-        Ok(()) => Ok(()),
-        Err(AllocError) => {
-            keep_switches(groups, switches);
-            Err(AllocError)
+    plan.invariant();
+    for i in 0..groups.len() {
+        let group = &mut groups[i];
+        match group.add_switch(alloc, plan.group(i as u32), buckets, pipe_records) {
+            Ok(()) => {}
+            Err(AllocError) => {
+                keep_switches(groups, switches);
+                return Err(AllocError);
+            }
         }
     }
+    Ok(())
 }
 
 /// Whether the pipe of a switch has room for a record at every groupby.

@@ -1,6 +1,6 @@
 //! A plan over several switches: a call for each event of a switch, and their tables.
 
-ghost use Rattle.std.specs.Prelude.{◌≡◌, ◌+◌, ◌*◌, ◌==◌, ◌<◌, ◌≤◌, ◌↔◌, ℕ, List, [], Ok, true, not, length, filter, map, slice_get};
+ghost use Rattle.std.specs.Prelude.{◌≡◌, ◌+◌, ◌==◌, ◌<◌, ◌≤◌, ◌↔◌, ℕ, List, [], Ok, true, not, length, filter, map, slice_get};
 ghost use Rattle.std.specs.{Prelude.{slice_index, if◌then◌else◌, IfOk, OnOk, OnErr, Some}, List.list_all};
 ghost use Rattle.bucket_cache.specs.Caches.{list_at};
 ghost use Rattle.epoch_model.specs.{Keys.{Key, ascending, has}, Laws.rows_given, Machine.{Epoch, lists_of}, TableLaws.keys_given};
@@ -9,7 +9,7 @@ ghost use Rattle.epoch_entry.specs.Foldings.{folding_of};
 ghost use Rattle.final_queries.specs.Finals.{is_of_key};
 ghost use Rattle.additive_laws.specs.{Laws.IsAdditiveFrom, Network.{all_epochs, all_events, machine_at}};
 ghost use Rattle.stage_plan.specs.{Packets.AreWhole, Planned.plan_bound};
-ghost use Rattle.switch_core.specs.{Costs.evict_cost, PlanLanes.lane_merge_cost};
+ghost use Rattle.switch_core.specs.{Costs.evict_cost, FrontParts.AreSizes, PlanLanes.lane_merge_cost};
 ghost use Rattle.query_lang.specs.{Folds.initial_state, declared.{fold.TypedFold.TypedFold, typed.TypedQuery.TypedQuery}};
 ghost use Rattle.net_wide.specs.NetTables.{caches_of, net_tables, tables_of_pieces};
 ghost use Rattle.network.specs.Ends.{AreTakenAt, CombineOver, EvictsLast, IsDrainedWith, IsSwitchPlace, packets_taken, pieces_closed};
@@ -96,10 +96,7 @@ impl<const WAYS: usize> Network<WAYS> {
         buckets: u32,
         pipe_records: u32,
     ) -> Result<Network<WAYS>, AllocError>
-        requires ways { 0 < WAYS }
-        requires buckets { 0 < buckets }
-        requires places { buckets * WAYS ≤ 65536 }
-        requires pipe { (0 < pipe_records) × (pipe_records ≤ 65536) }
+        requires { AreSizes WAYS buckets pipe_records }
         ensures switches { IfOk result (λ net. net.switches ≡ 0) }
         ensures plan { IfOk result (λ net. net.plan ≡ plan) }
         ensures buckets { IfOk result (λ net. net.buckets ≡ buckets) }
@@ -267,7 +264,6 @@ impl<const WAYS: usize> Network<WAYS> {
         group.merge(at as usize, steps)
     }
 
-    // Does what is due at a switch's front of one groupby.
     #[inline(always)]
     fn keep_lane<L: Ledger>(
         &mut self,

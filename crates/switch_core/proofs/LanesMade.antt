@@ -5,11 +5,11 @@ use Rattle.marple_base.specs.declared.field.TheConstants.{FIELDS}
 use Rattle.fold_class.specs.Program.{IsProgramOf}
 use Rattle.query_lang.specs.declared.fold.TypedFold.{TypedFold}
 use Rattle.epoch_model.specs.{Epochs.Geometry, Machine.empty_machine}
-use Rattle.epoch_entry.specs.{declared.purpose.Entries.Entries, Foldings.per_epoch, Purposes.{EntriesSuitFolds, IsKindFor}}
+use Rattle.epoch_entry.specs.{declared.purpose.Entries.Entries, Foldings.per_epoch, Purposes.EntriesSuitFolds}
 use Rattle.epoch_entry.specs.contracts.any.AnyEpochsEpochKind.TheImpl.{ghosts}
 use Rattle.stage_plan.specs.{declared.group.{GroupPlan.GroupPlan, GroupWiring.GroupWiring}, Planned.wiring_at}
 use Rattle.stage_plan.specs.Sound.{PlanParts, IsSoundPlan, IsSoundGroup}
-use Rattle.switch_core.specs.{Rows.EachFrom, Pipelines.{IsLaneOf, empty_machines}, PlanLanes.LaneView}
+use Rattle.switch_core.specs.{Rows.EachFrom, Pipelines.{IsLaneOf, empty_machines}, PlanLanes.{HasKindFor, LaneView}}
 use Rattle.switch_core.proofs.SideBySide.{got_some, got_below}
 
 pub each_push : {X Y : Type 0} (R : ℕ → X → Y → Type 0) (k : ℕ) (xs : List X) (ys : List Y) (x : X) (y : Y) → EachFrom R k xs ys
@@ -43,8 +43,7 @@ group_sound plan i group sound at =
 pub lane_made : EntriesSuitFolds → (entries : Entries) (plan : PlanParts) (buckets i : ℕ) (lane : LaneView) (group : GroupPlan)
     → IsSoundPlan plan → slice_get plan.groups i ≡ Some group
     → length lane.cache.lists ≡ buckets → lane.cache.key_words ≡ length group.key_names
-    → ((f : TypedFold) → IsProgramOf f group.program → IsKindFor entries f (ghosts.sizes lane.kind) (ghosts.folding lane.kind)
-    (ghosts.open_bound lane.kind) (ghosts.absorb_bound lane.kind))
+    → HasKindFor entries lane group
     → IsLaneOf entries buckets lane.cache (ghosts.sizes lane.kind) (ghosts.folding lane.kind) (ghosts.open_bound lane.kind)
     (ghosts.absorb_bound lane.kind) group (wiring_at plan i)
 lane_made suit entries plan buckets i lane group sound at many keys kind =

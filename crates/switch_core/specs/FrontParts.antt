@@ -1,5 +1,5 @@
 -- What contracts see of a front and of a lane, and how their parts fit together.
-use Rattle.std.specs.Prelude.{◌≡◌, ℕ, ◌+◌, ◌<◌, ◌≤◌, List, length}
+use Rattle.std.specs.Prelude.{◌≡◌, ℕ, ◌+◌, ◌*◌, ◌<◌, ◌≤◌, List, length}
 use Rattle.epoch_model.specs.Tables.{Folding}
 use Rattle.query_lang.specs.declared.fault.TheConstants.{MAX_KEYS}
 use Rattle.epoch_entry.specs.Kinds.{Sizes}
@@ -22,6 +22,14 @@ pub record LaneOf (K : Type 0) : Type 0 where
   pub cache : Cache
   pub pipe : Pipe
   pub store : Store
+
+-- the sizes that caches and pipes may have: ways, buckets, and records
+pub record AreSizes (ways buckets records : ℕ) : Type 0 where
+  pub some_ways : 0 < ways
+  pub some_buckets : 0 < buckets
+  pub places : buckets * ways ≤ 65536
+  pub some_records : 0 < records
+  pub most_records : records ≤ 65536
 
 -- the words of a front's entries and records are as many as the kind says
 pub record IsFront (ways : ℕ) (sizes : Sizes) (cache : Cache) (pipe : Pipe) : Type 0 where

@@ -3,7 +3,7 @@ use Rattle.std.specs.Prelude.{◌≡◌, ℕ, ◌+◌, ◌*◌, ◌≤◌, Bool,
 use Rattle.std.specs.{Prelude.{◌==◌, if◌then◌else◌}, List.{All, list_all}}
 use Rattle.epoch_model.specs.{Machine.{Machine, Event, empty_buckets}, Laws.SameEpochs, Tables.Folding}
 use Rattle.epoch_entry.specs.{declared.{any.AnyEpochs.AnyEpochs, purpose.Entries.Entries}, contracts.any.AnyEpochsEpochKind.TheImpl.ghosts}
-use Rattle.epoch_entry.specs.{Foldings.merge_bound, Programs.program_in}
+use Rattle.epoch_entry.specs.{Foldings.merge_bound, Programs.program_in, Purposes.IsKindFor}
 use Rattle.fold_class.specs.Program.{IsProgramOf}
 use Rattle.query_lang.specs.declared.fold.TypedFold.{TypedFold}
 use Rattle.stage_plan.specs.{declared.group.GroupPlan.GroupPlan, Planned.{registers_of, wiring_at}, Sound.PlanParts}
@@ -66,6 +66,11 @@ abbrev pub AreLanesOf : Entries → PlanParts → ℕ → List LaneView → Type
 AreLanesOf entries plan buckets lanes =
     EachFrom (λ n lane group. IsLaneOf entries buckets lane.cache (ghosts.sizes lane.kind) (ghosts.folding lane.kind)
     (ghosts.open_bound lane.kind) (ghosts.absorb_bound lane.kind) group (wiring_at plan n)) 0 lanes plan.groups
+
+-- a lane's entries are of the kind of its groupby's fold for what they are for
+abbrev pub HasKindFor : Entries → LaneView → GroupPlan → Type 0
+HasKindFor entries lane group = (f : TypedFold) → IsProgramOf f group.program → IsKindFor entries f (ghosts.sizes lane.kind)
+    (ghosts.folding lane.kind) (ghosts.open_bound lane.kind) (ghosts.absorb_bound lane.kind)
 
 -- merging an entry of a lane takes at most the steps that its groupby's fold allows
 abbrev pub MergesWithin : LaneView → GroupPlan → Type 0

@@ -5,7 +5,7 @@ ghost use Rattle.std.specs.Prelude.{IfOk, OnOk, OnErr};
 ghost use Rattle.epoch_model.specs.{Machine.{Machine, Packet, Evict, Merge, empty_machine}, Timeline.IsSwept};
 ghost use Rattle.bucket_cache.specs.Caches.{list_at, with_list};
 ghost use Rattle.switch_core.specs.{Closing.{held_in, is_drained}, Costs.{evict_cost, merge_cost}, FrontEvents.{Carries, with_store}};
-ghost use Rattle.switch_core.specs.{FrontParts.{IsFront, FitsStore}, Lanes.{FrontStands, geometry}};
+ghost use Rattle.switch_core.specs.{FrontParts.{AreSizes, IsFront, FitsStore}, Lanes.{FrontStands, geometry}};
 ghost use Rattle.backing_store.specs.Store.{Store};
 
 use crate::merging::merge_record;
@@ -60,12 +60,9 @@ impl<K: EpochKind, const WAYS: usize> Front<K, WAYS> {
         key_words: usize,
         pipe_records: u32,
     ) -> Result<Front<K, WAYS>, AllocError>
-        requires ways { 0 < WAYS }
-        requires buckets { 0 < buckets }
-        requires places { buckets * WAYS ≤ 65536 }
+        requires sizes { AreSizes WAYS buckets pipe_records }
         requires key { (0 < key_words) × (key_words ≤ MAX_KEYS) }
         requires entry { key_words + (K.sizes kind).entry ≤ 512 }
-        requires pipe { (0 < pipe_records) × (pipe_records ≤ 65536) }
         ensures stands { IfOk result (λ front.
             FrontStands (K.stands front.kind) front.cache front.pipe (empty_machine (geometry WAYS front.cache))) }
         ensures kind { IfOk result (λ front. front.kind ≡ kind) }

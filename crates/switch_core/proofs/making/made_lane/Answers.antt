@@ -8,6 +8,7 @@ for_entries-kind-requires g c = rw c.in_ok-copy.ensures c.requires.program
 pub new-requires : goal.new-requires
 new-requires g c =
     let keys = c.requires.keys in
+    let sizes = c.requires.sizes in
     let long = c.len.ensures in
     let small = ∥∥₁_elim c.requires.program (hlevel props) (λ h.
     let kind = c.for_entries-kind.ensures.kind h.0 (rw c.in_ok-copy.ensures h.1) in
@@ -18,12 +19,15 @@ new-requires g c =
     omega arith) in (
       lit< tt,
       (
-        c.requires.ways,
+        sizes.some_ways,
         (
-          c.requires.buckets,
+          sizes.some_buckets,
           (
-            c.requires.places,
-            ((let k = keys.0 in omega arith, let k = keys.1 in omega arith), (small, c.requires.pipe)),
+            sizes.places,
+            (
+              (let k = keys.0 in omega arith, let k = keys.1 in omega arith),
+              (small, (sizes.some_records, sizes.most_records)),
+            ),
           ),
         ),
       ),

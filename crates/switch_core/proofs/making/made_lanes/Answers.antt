@@ -10,16 +10,8 @@ use Rattle.switch_core.proofs.making.made_lanes.Goals as goal
 
 pub made_lane-requires : goal.made_lane-requires
 made_lane-requires g c =
-    let own = group_sound c.args.plan.now c.loop-i.i c.group.result.now c.invariant.ensures c.group.ensures in (
-      lit< tt,
-      (
-        c.requires.ways,
-        (
-          c.requires.buckets,
-          (c.requires.places, (c.requires.pipe, (own.2.program, (own.2.some_keys, own.2.most_keys)))),
-        ),
-      ),
-    )
+    let own = group_sound c.args.plan.now c.loop-i.i c.group.result.now c.invariant.ensures c.group.ensures in
+    (lit< tt, (c.requires, (own.2.program, (own.2.some_keys, own.2.most_keys))))
 
 pub loop-i-preserved : goal.loop-i-preserved
 loop-i-preserved g c =
@@ -48,7 +40,7 @@ loop-i-preserved g c =
           (λ n q. let is : i ≡ n = omega arith in subst (λ k. R k lane group) is own)));
       made = rw pushed (subst (λ gs. Each IsMadeFor (lanes ++ lane ∷ []) gs) (sym more)
           (each_push (λ n. IsMadeFor) 0 lanes (take i plan.groups) lane group c.loop-i.invariant.made
-          (λ n q. record { program = made.program; merges = made.merges })));
+          (λ n q. made.made)));
       pipe_places = rw pushed (All-append has_places lanes (lane ∷ []) c.loop-i.invariant.pipe_places
           (All-cons has_places lane [] made.pipe_places (All-nil has_places)));
       stands = rw pushed (subst (λ ms. Each StandsFor (lanes ++ lane ∷ []) ms) (sym empties)

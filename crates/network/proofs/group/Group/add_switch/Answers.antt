@@ -18,19 +18,8 @@ new-requires g c =
     let few = c.entries_are_small.ensures Folds h.0 (ghosts.sizes kind) (ghosts.folding kind) (ghosts.open_bound kind)
     (ghosts.absorb_bound kind) c.len-keys.result h.1.valid of_kind
     (let l = c.len-keys.ensures in let k = c.requires.keys.1 in omega arith) in
-    omega arith) in (
-      lit< tt,
-      (
-        c.requires.ways,
-        (
-          c.requires.buckets,
-          (
-            c.requires.places,
-            ((let k = keys.0 in omega arith, let k = keys.1 in omega arith), (small, c.requires.pipe)),
-          ),
-        ),
-      ),
-    )
+    omega arith) in
+    (lit< tt, (c.requires.sizes, ((let k = keys.0 in omega arith, let k = keys.1 in omega arith), small)))
 
 pub returns-clause-is : goal.returns-clause-is
 returns-clause-is g c switches registers wiring sound is =

@@ -9,23 +9,8 @@ use Rattle.network.proofs.network.Network.add_switch.Goals.{In_ok-add_switch, In
 pub add_switch-requires : goal.add_switch-requires
 add_switch-requires g c =
     let p = c.self.inside in
-    let is = c.self.invariant.0 in (
-      lit< tt,
-      (
-        is.some_ways,
-        (
-          is.some_buckets,
-          (
-            is.places,
-            (
-              (is.some_records, is.most_records),
-              subst (AreGroups p.plan p.switches)
-                  (sym c.deref_mut.ensures.value) is.groups,
-            ),
-          ),
-        ),
-      ),
-    )
+    let is = c.self.invariant.0 in
+    (lit< tt, (is.sizes, subst (AreGroups p.plan p.switches) (sym c.deref_mut.ensures.value) is.groups))
 
 -- out of memory, the groupbys come back as they were
 same : (g : _) (c : In_err-add_switch g) → (let groups = c.self.inside.groups in let new = c.add_switch.new.groups in

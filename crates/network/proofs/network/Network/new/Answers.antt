@@ -9,11 +9,7 @@ invariant_of-result g c = (
     groups = c.in_ok-groups.ensures.are;
     wide = have_start (λ x. length x.cache.lists) c.args.buckets c.args.plan c.in_ok-groups.groups.items c.in_ok-groups.ensures.are;
     pipes = have_start (λ x. x.pipe.places) c.args.pipe_records c.args.plan c.in_ok-groups.groups.items c.in_ok-groups.ensures.are;
-    some_ways = c.requires.ways;
-    some_buckets = c.requires.buckets;
-    places = c.requires.places;
-    some_records = c.requires.pipe.0;
-    most_records = c.requires.pipe.1;
+    sizes = c.requires;
   },
   search rules,
 )

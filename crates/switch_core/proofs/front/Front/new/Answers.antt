@@ -36,10 +36,11 @@ returns-in_err-initial g c =
 pub new-requires : goal.new-requires
 new-requires g c =
     let entry : c.entry_words-entry_words.result ≤ 512 = omega (arith, c.entry_words-entry_words.ensures, c.requires.entry) in
-    (lit< tt, (c.requires.ways, (c.requires.buckets, (c.requires.places, (c.requires.key, entry)))))
+    let sizes = c.requires.sizes in
+    (lit< tt, (sizes.some_ways, (sizes.some_buckets, (sizes.places, (c.requires.key, entry)))))
 
 pub new-requires-2-clause-places : goal.new-requires-2-clause-places
-new-requires-2-clause-places g c = c.requires.pipe
+new-requires-2-clause-places g c = (c.requires.sizes.some_records, c.requires.sizes.most_records)
 
 pub new-requires-2-clause-words : goal.new-requires-2-clause-words
 new-requires-2-clause-words g c = (
@@ -59,9 +60,10 @@ invariant_of-result g c =
     let whole = whole_written state (drop (length state) c.in_ok-initial.initial.items) c.in_ok-initial.initial.len words in
     record {
       front = record {
-        some_ways = c.requires.ways;
-        some_buckets = subst (λ k. 0 < length k.lists) (sym cache) (subst (λ n. 0 < n) (sym (length-replicate c.args.buckets [])) c.requires.buckets);
-        some_places = subst (λ p. 0 < p.places) (sym pipe) c.requires.pipe.0;
+        some_ways = c.requires.sizes.some_ways;
+        some_buckets = subst (λ k. 0 < length k.lists) (sym cache)
+            (subst (λ n. 0 < n) (sym (length-replicate c.args.buckets [])) c.requires.sizes.some_buckets);
+        some_places = subst (λ p. 0 < p.places) (sym pipe) c.requires.sizes.some_records;
         entry = ap (λ k. k.entry_words) cache ∙ c.entry_words-entry_words.ensures;
         record_words = ap (λ p. p.record_words) pipe ∙ sym (ap (λ k. k.key_words + k.entry_words) cache);
         few_key_words = subst (λ k. k.key_words ≤ MAX_KEYS) (sym cache) c.requires.key.1;

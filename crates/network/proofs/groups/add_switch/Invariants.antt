@@ -1,7 +1,7 @@
 use Rattle.std.proofs.Common.{◌≡◌, length}
 use Rattle.switch_core.proofs.SideBySide.{Done, Untouched}
 use Rattle.network.{specs.Groups.{GroupGrows, GroupView, with_first}, proofs.GroupSteps.Grown}
-use Rattle.network.proofs.groups.add_fronts.Given as goal
+use Rattle.network.proofs.groups.add_switch.Given as goal
 
 -- the groupbys so far have a front more
 abbrev pub invariant-loop-i : goal.invariant-loop-i
