@@ -1,29 +1,20 @@
 //! A query over the packets of several switches.
 
 ghost use Rattle.std.specs.{Prelude.{◌≡◌, ◌≤◌, None, IfErr, OnOk}, Io.KnownBytes.Appends};
-ghost use Rattle.query_lang.specs.{declared.typed.TypedQuery.TypedQuery, TypedQueries.IsValidQuery};
+ghost use Rattle.query_lang.specs.TypedQueries.{IsValidQuery};
 ghost use Rattle.stage_plan.specs.Planned.{IsPlanOf};
 ghost use Rattle.trace_drive.specs.{Answers.BreaksOff, Drives.words_of};
 ghost use Rattle.net_wide.specs.{Combining.net_fault, NetTables.net_text, NetLaws.TellsSwitches};
 ghost use Rattle.command_line.specs.Command.{IsNetSetting, ways_number};
-ghost use Rattle.driven_net.specs.NetTraces.{net_packets, net_reads, net_trace_fault};
+ghost use Rattle.driven_net.specs.NetTraces.{net_packets, net_trace_fault};
 
-use crate::ways::run_with_its_ways;
+use crate::ways::run_with;
 use accepted_query::AcceptedQuery;
-use command_line::NetSetting;
-use marple_base::{Field, FieldSet, Sink, Steps};
-use stage_plan::Plan;
+use command_line::{NetSetting, Ways};
+use marple_base::{Sink, Steps};
 use std::alloc::Global;
 use std::sync::ledger::Ledger;
-use trace_drive::{RunError, read_packets_are_few, read_packets_are_whole};
-use trace_reader::open_trace;
-
-// The fields that a plan reads, and the switch.
-fn net_reads(plan: &Plan) -> FieldSet
-    ensures { (q : TypedQuery) → IsPlanOf q plan.now → result ≡ net_reads q }
-{
-    plan.reads().with(Field::Switch)
-}
+use trace_drive::RunError;
 
 /// Runs a query over the packets of a trace's bytes, where each value of `switch` has separate caches and pipes and all
 /// of them share one store for each groupby, and writes what the query prints at the end. A trace with a fault in what
@@ -50,8 +41,12 @@ pub fn net_over_trace<O: Sink, L: Ledger>(
     ensures out_later { O.faults out.old ≤ O.faults out.new }
     ensures steps { steps.old ≤ steps.new }
 {
-    read_packets_are_whole();
-    read_packets_are_few();
-    let trace = open_trace(alloc, bytes, net_reads(&query.plan))?;
-    run_with_its_ways(alloc, setting, query, trace, out, steps)
+    match setting.ways {
+        Ways::One => run_with::<1, O, L>(alloc, setting, query, bytes, out, steps),
+        Ways::Two => run_with::<2, O, L>(alloc, setting, query, bytes, out, steps),
+        Ways::Four => run_with::<4, O, L>(alloc, setting, query, bytes, out, steps),
+        Ways::Eight => run_with::<8, O, L>(alloc, setting, query, bytes, out, steps),
+        Ways::Sixteen => run_with::<16, O, L>(alloc, setting, query, bytes, out, steps),
+        Ways::ThirtyTwo => run_with::<32, O, L>(alloc, setting, query, bytes, out, steps),
+    }
 }

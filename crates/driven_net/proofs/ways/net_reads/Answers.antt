@@ -1,7 +1,7 @@
 use Rattle.std.proofs.{Common.{[], ◌∷◌, sym, ap, ◌∙◌}, lemmas.List.Sums.fold-append}
 use Rattle.marple_base.specs.{declared.field.Field.TheVariants.Switch, Field.{no_fields, with_field}}
 use Rattle.stage_plan.specs.Fields.{read_fields}
-use Rattle.driven_net.proofs.runs.net_reads.Goals as goal
+use Rattle.driven_net.proofs.ways.net_reads.Goals as goal
 
 pub returns : goal.returns
 returns c q p =
