@@ -13,6 +13,7 @@ use std::sync::ledger::Ledger;
 /// many words were compared to see it.
 /// `used` has a number for each bucket, `order` its `ways`, and `words` the words of their keys.
 #[inline(always)]
+#[tactic(auto, using(crate::proofs::LentBuckets::bounded))]
 pub fn touch_bucket<L: Ledger>(
     bucket: usize,
     ways: usize,
@@ -52,6 +53,7 @@ pub fn touch_bucket<L: Ledger>(
 
 /// Gives the least recently used place of a full bucket to the key.
 /// `used` has a number for each bucket, `order` its `ways`, and `words` the words of their keys.
+#[tactic(auto, using(crate::proofs::LentBuckets::bounded))]
 pub fn replace_in_bucket<L: Ledger>(
     bucket: usize,
     ways: usize,

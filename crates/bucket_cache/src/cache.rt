@@ -147,7 +147,6 @@ impl<const WAYS: usize> BucketCache<WAYS> {
         }
     }
 
-    // What holds of every cache.
     fn invariant(&self)
         ensures { IsSoundCache WAYS self.now }
     {

@@ -1,21 +1,7 @@
-use Rattle.std.proofs.Common.{arith, ◌-◌, length, take}
-use Rattle.bucket_cache.{specs.Touches.with_pair_first, proofs.LentBuckets.{bounded, full-bucket, full-list, full-buckets, full-lists}}
+-- What the replacement in one bucket changes, seen over all buckets.
+use Rattle.std.proofs.Common.{◌-◌, length, take}
+use Rattle.bucket_cache.{specs.Touches.with_pair_first, proofs.LentBuckets.{full-bucket, full-list, full-buckets, full-lists}}
 use Rattle.bucket_cache.proofs.buckets.replace_in_bucket.Goals as goal
-
-pub overflow_mul-first : goal.overflow_mul-first
-overflow_mul-first g c = let w = bounded c.args.bucket c.requires.buckets c.requires.range in record { fits = omega arith }
-
-pub overflow_mul-width : goal.overflow_mul-width
-overflow_mul-width g c = let w = bounded c.args.bucket c.requires.buckets c.requires.range in record { fits = omega arith }
-
-pub overflow_mul-start : goal.overflow_mul-start
-overflow_mul-start g c = let w = bounded c.args.bucket c.requires.buckets c.requires.range in record { fits = omega arith }
-
-pub overflow_add-first : goal.overflow_add-first
-overflow_add-first g c = let w = bounded c.args.bucket c.requires.buckets c.requires.range in record { fits = omega arith }
-
-pub overflow_add-start : goal.overflow_add-start
-overflow_add-start g c = let w = bounded c.args.bucket c.requires.buckets c.requires.range in record { fits = omega arith }
 
 pub replace_way-requires-clause-bucket : goal.replace_way-requires-clause-bucket
 replace_way-requires-clause-bucket g c = full-bucket c.args.bucket c.requires.buckets c.requires.range c.requires.full

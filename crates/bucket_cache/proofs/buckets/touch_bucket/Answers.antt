@@ -1,21 +1,6 @@
-use Rattle.std.proofs.Common.{arith}
-use Rattle.bucket_cache.proofs.LentBuckets.{bounded, lent-bucket, lent-list, lent-touched, lent-buckets, lent-rest}
+-- What the search through one bucket changes, seen over all buckets.
+use Rattle.bucket_cache.proofs.LentBuckets.{lent-bucket, lent-list, lent-touched, lent-buckets, lent-rest}
 use Rattle.bucket_cache.proofs.buckets.touch_bucket.Goals as goal
-
-pub overflow_mul-first : goal.overflow_mul-first
-overflow_mul-first g c = let w = bounded c.args.bucket c.requires.buckets c.requires.range in record { fits = omega arith }
-
-pub overflow_mul-width : goal.overflow_mul-width
-overflow_mul-width g c = let w = bounded c.args.bucket c.requires.buckets c.requires.range in record { fits = omega arith }
-
-pub overflow_mul-start : goal.overflow_mul-start
-overflow_mul-start g c = let w = bounded c.args.bucket c.requires.buckets c.requires.range in record { fits = omega arith }
-
-pub overflow_add-first : goal.overflow_add-first
-overflow_add-first g c = let w = bounded c.args.bucket c.requires.buckets c.requires.range in record { fits = omega arith }
-
-pub overflow_add-start : goal.overflow_add-start
-overflow_add-start g c = let w = bounded c.args.bucket c.requires.buckets c.requires.range in record { fits = omega arith }
 
 pub touch_ways-requires-clause-bucket : goal.touch_ways-requires-clause-bucket
 touch_ways-requires-clause-bucket g c = lent-bucket c.args.bucket c.requires.buckets c.requires.range

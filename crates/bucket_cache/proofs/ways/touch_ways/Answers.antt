@@ -1,7 +1,9 @@
-use Rattle.std.proofs.Common.{◌≡◌, ◌∙◌, length, take, set, ap, refl, subst, arith}
-use Rattle.bucket_cache.{specs.{Slices.rows_of, Buckets.pairs_at}, proofs.BucketLists.{hit-has, hit-place, hit-pairs, hit-bucket}}
+-- A hit goes to the front; a key that no way has takes a free way, and where there is none the last way is the least recent.
+use Rattle.std.proofs.Common.{◌≡◌, ◌∙◌, false, length, take, get_or, set, ap, refl, subst, arith}
+use Rattle.bucket_cache.{specs.{Slices.rows_of, Buckets.{has_key, pairs_at}}, proofs.BucketLists.{hit-has, hit-place, hit-pairs, hit-bucket}}
 use Rattle.bucket_cache.proofs.BucketLists.{none-in-front, free-pairs, free-bucket, least-pair, few-pairs, other-first}
 use Rattle.bucket_cache.proofs.ways.touch_ways.Goals as goal
+use Rattle.bucket_cache.proofs.ways.touch_ways.Goals.{After-put-way, In-None}
 
 pub find_key-requires-clause-other : goal.find_key-requires-clause-other
 find_key-requires-clause-other g c some = other-first c.args.first c.args.used.now c.args.order.now
@@ -9,10 +11,8 @@ find_key-requires-clause-other g c some = other-first c.args.first c.args.used.n
     c.requires.other
 
 pub returns-in-Some-clause-bucket : goal.returns-in-Some-clause-bucket
-returns-in-Some-clause-bucket g c =
-    let key = c.args.key.now in
-    let keys = rows_of (length key) (length c.args.order.now) c.args.words.now in
-    rw c.move_to_front.ensures.moved (hit-bucket c.requires.bucket c.in-Some.at key c.in-Some.ensures.found c.in-Some.ensures.same)
+returns-in-Some-clause-bucket g c = rw c.move_to_front.ensures.moved
+    (hit-bucket c.requires.bucket c.in-Some.at c.args.key.now c.in-Some.ensures.found c.in-Some.ensures.same)
 
 pub returns-in-Some-clause-touched : goal.returns-in-Some-clause-touched
 returns-in-Some-clause-touched g c =
@@ -28,47 +28,49 @@ returns-in-Some-clause-touched g c =
           ∙ hit-pairs c.requires.bucket at key found same,
     )
 
+-- no way in use has the key
+absent : (g : _) (c : In-None g) → (let order = c.args.order.now in has_key c.args.key.now (pairs_at c.args.first
+    (rows_of (length c.args.key.now) (length order) c.args.words.now) (take c.args.used.now order)) ≡ false)
+absent g c = none-in-front c.args.first c.args.used.now c.args.order.now _ c.args.key.now c.requires.bucket.within c.in-None.ensures.none
+
+-- the way that was free has the key
+written : (g : _) (c : After-put-way g) → (let key = c.args.key.now in let order = c.args.order.now in
+    rows_of (length key) (length order) c.put-way.new.words
+    ≡ set (rows_of (length key) (length order) c.args.words.now) (get_or order c.args.used.now 0) key)
+written g c =
+    let keys = rows_of (length c.args.key.now) (length c.args.order.now) in
+    subst (λ way. keys c.put-way.new.words ≡ set (keys c.args.words.now) way c.args.key.now) c.put-way.ensures.way c.put-way.ensures.keys
+
 pub returns-then-used-order-clause-bucket : goal.returns-then-used-order-clause-bucket
 returns-then-used-order-clause-bucket g c =
-    let key = c.args.key.now in
-    let order = c.args.order.now in
-    let used = c.args.used.now in
-    let keys = rows_of (length key) (length order) c.args.words.now in
-    let keys' = rows_of (length key) (length order) c.put-way.new.words in
-    let way = c.put-way.ensures.way in
-    rw c.put-way.ensures.moved (free-bucket c.requires.bucket c.if-used-order.true key
-    (subst (λ w. keys' ≡ set keys w key) way c.put-way.ensures.keys)
-    (none-in-front c.args.first used order keys key c.requires.bucket.within c.in-None.ensures.none) refl)
+    let at = goal.at.returns-then-used-order-clause-bucket g c in
+    rw c.put-way.ensures.moved
+    (free-bucket c.requires.bucket c.if-used-order.true c.args.key.now (written g at.After-put-way) (absent g at.In-None) refl)
 
 pub returns-then-used-order-clause-touched : goal.returns-then-used-order-clause-touched
 returns-then-used-order-clause-touched g c =
-    let key = c.args.key.now in
-    let order = c.args.order.now in
-    let used = c.args.used.now in
-    let keys = rows_of (length key) (length order) c.args.words.now in
-    let keys' = rows_of (length key) (length order) c.put-way.new.words in
-    let way = c.put-way.ensures.way in
-    let few = few-pairs c.args.first used order keys c.requires.bucket.within in
+    let at = goal.at.returns-then-used-order-clause-touched g c in
+    let keys = rows_of (length c.args.key.now) (length c.args.order.now) c.args.words.now in
+    let few = few-pairs c.args.first c.args.used.now c.args.order.now keys c.requires.bucket.within in
     let room = c.if-used-order.true in (
-      none-in-front c.args.first used order keys key c.requires.bucket.within c.in-None.ensures.none,
+      absent g at.In-None,
       rw few room,
       rw (
         c.put-way.ensures.moved,
-        free-pairs c.requires.bucket room key (subst (λ w. keys' ≡ set keys w key) way c.put-way.ensures.keys),
-        way,
+        free-pairs c.requires.bucket room c.args.key.now (written g at.After-put-way),
+        c.put-way.ensures.way,
       ),
     )
 
 pub returns-else-used-order-clause-touched : goal.returns-else-used-order-clause-touched
 returns-else-used-order-clause-touched g c =
-    let key = c.args.key.now in
     let order = c.args.order.now in
     let used = c.args.used.now in
-    let keys = rows_of (length key) (length order) c.args.words.now in
+    let keys = rows_of (length c.args.key.now) (length order) c.args.words.now in
     let few = few-pairs c.args.first used order keys c.requires.bucket.within in
     let full : used ≡ length order = let h = c.requires.bucket.within in let f = c.if-used-order.false in omega arith in
     rw c.way_at-way-else-used-order.ensures (
-      none-in-front c.args.first used order keys key c.requires.bucket.within c.in-None.ensures.none,
+      absent g (goal.at.returns-else-used-order-clause-touched g c).In-None,
       few ∙ full,
       least-pair c.args.first used order keys (let s = c.requires.bucket.some in omega arith) c.requires.bucket.within,
       refl,
