@@ -6,7 +6,7 @@
 
 ghost use Rattle.std.specs.Prelude.{◌<◌, ◌≤◌};
 
-use crate::lanes::OneBucket;
+use crate::one_bucket::OneBucket;
 use epoch_entry::Entries;
 use std::alloc::Global;
 use std::test::Fail;

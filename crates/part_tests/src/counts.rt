@@ -5,7 +5,8 @@
 //! that is read out of the registers, for each word of the key that is hashed, for each word that is compared with a key of
 //! the bucket, up to the first that differs, and for each way of the bucket that is moved, from the front to that of the
 //! key. A new key is written, and its entry is opened; where the bucket is full, the key and the entry that go are written
-//! into the pipe before. Then the row is absorbed.
+//! into the pipe before. Then the row is absorbed. The sums have these parts in this order, with the key and the entry that
+//! go before the ways.
 //!
 //! One run of a fold's body takes a step for the mask of the whole body, for each node of an expression, and for each of the
 //! two masks of an `if`, and two for an assignment: the choice of its value, and the variable.
@@ -25,7 +26,8 @@
 ghost use Rattle.std.specs.Prelude.{◌≡◌, ◌<◌, ◌≤◌};
 
 use crate::direct::QUERY;
-use crate::lanes::{OneBucket, packet_of};
+use crate::one_bucket::Event::{self, Evict, Merge, Packet, Sweep};
+use crate::one_bucket::OneBucket;
 use epoch_entry::Entries;
 use marple_base::Steps;
 use std::alloc::{AllocError, Global};
@@ -33,15 +35,6 @@ use std::marker::Brand;
 use std::process::Abort;
 use std::sync::ledger::{Blank, Ledger};
 use std::test::Fail;
-
-/// An event of a pipeline: a packet has this source and this length.
-#[derive(Clone, Copy)]
-enum Event {
-    Packet(u64, u64),
-    Evict,
-    Merge,
-    Sweep,
-}
 
 /// A query with one groupby, what its entries are for, and events in sequence, each with the steps that it takes. The
 /// pipe has room for one record.
@@ -63,32 +56,29 @@ const FILTERED: Case = Case {
     events: &[
         // a new key: 16 registers + 1 word of the key + 1 of it hashed + 1 way + 1 word of the key written + 3 of the entry
         // + 8 for the row
-        (Event::Packet(1, 100), 16 + 1 + 1 + 1 + 1 + 3 + 8),
+        (Packet(1, 100), 16 + 1 + 1 + 1 + 1 + 3 + 8),
         // a key that is there: 16 registers + 1 word of the key + 1 hashed + 1 compared + 1 way + 8 for the row
-        (Event::Packet(1, 100), 16 + 1 + 1 + 1 + 1 + 8),
+        (Packet(1, 100), 16 + 1 + 1 + 1 + 1 + 8),
         // one that evicts: 16 registers + 1 word of the key + 1 hashed + 1 compared + 1 word of the other key and 3 of its
         // entry into the pipe + 1 way + 1 word of the key written + 3 of the entry + 8 for the row
-        (
-            Event::Packet(2, 100),
-            16 + 1 + 1 + 1 + (1 + 3) + 1 + 1 + 3 + 8,
-        ),
+        (Packet(2, 100), 16 + 1 + 1 + 1 + (1 + 3) + 1 + 1 + 3 + 8),
         // 1 variable read + 1 product + 1 copied + 1 written
-        (Event::Merge, 1 + 1 + 1 + 1),
+        (Merge, 1 + 1 + 1 + 1),
         // a packet that the filter drops: 16 registers
-        (Event::Packet(3, 1000), 16),
+        (Packet(3, 1000), 16),
         // 1 word of the key and 3 of the entry into the pipe + 1 for the bucket that has a key less
-        (Event::Evict, (1 + 3) + 1),
+        (Evict, (1 + 3) + 1),
         // the pipe is full, and no epoch is open: a merge
-        (Event::Sweep, 4),
+        (Sweep, 4),
         // nothing is left
-        (Event::Evict, 0),
-        (Event::Merge, 0),
-        (Event::Sweep, 0),
+        (Evict, 0),
+        (Merge, 0),
+        (Sweep, 0),
         // the same new key, and the same eviction by a packet
-        (Event::Packet(1, 100), 31),
-        (Event::Packet(2, 100), 36),
+        (Packet(1, 100), 31),
+        (Packet(2, 100), 36),
         // the pipe is full before the eviction and after it: a merge + an eviction + a merge
-        (Event::Sweep, 4 + 5 + 4),
+        (Sweep, 4 + 5 + 4),
     ],
 };
 
@@ -99,31 +89,22 @@ const TWO_WAYS: Case = Case {
     query: b"def count([c],[]) { c = c + 1; } r = groupby(pktstream, [srcip, pkt_len], count); print r;",
     entries: Entries::Folds,
     events: &[
-        // a new key: 2 words of the key + 2 hashed + 1 way + 2 words of the key written + 3 of the entry
-        // + 8 for the row
-        (Event::Packet(1, 100), 2 + 2 + 1 + 2 + 3 + 8),
-        // a key that differs in its second word: 2 words of the key + 2 hashed + 2 compared + 2 ways
-        // + 2 words of the key written + 3 of the entry + 8 for the row
-        (Event::Packet(1, 200), 2 + 2 + 2 + 2 + 2 + 3 + 8),
-        // the key that is found second: 2 words of the key + 2 hashed + 2 compared with the other key
-        // + 2 with the same + 2 ways + 8 for the row
-        (Event::Packet(1, 100), 2 + 2 + (2 + 2) + 2 + 8),
-        // it is found first: 2 words of the key + 2 hashed + 2 compared + 1 way + 8 for the row
-        (Event::Packet(1, 100), 2 + 2 + 2 + 1 + 8),
-        // a key that differs from both in its first word: 2 words of the key + 2 hashed + 1 compared + 1
-        // + 2 words of the last key and 3 of its entry into the pipe + 2 ways + 2 words of the key written + 3 of the entry
-        // + 8 for the row
-        (
-            Event::Packet(2, 100),
-            2 + 2 + (1 + 1) + (2 + 3) + 2 + 2 + 3 + 8,
-        ),
-        // a full pipe and two open epochs: three merges, each of 1 variable read + 1 product + 1 copied + 1 written, and two
-        // evictions, each of 2 words of the key and 3 of the entry into the pipe + 1 for the bucket
-        (Event::Sweep, 3 * 4 + 2 * ((2 + 3) + 1)),
+        // a new key
+        (Packet(1, 100), 2 + 2 + 1 + 2 + 3 + 8),
+        // a key that differs in its second word
+        (Packet(1, 200), 2 + 2 + 2 + 2 + 2 + 3 + 8),
+        // the key that is found second, after 2 words that are compared with the other key
+        (Packet(1, 100), 2 + 2 + (2 + 2) + 2 + 8),
+        // it is found first
+        (Packet(1, 100), 2 + 2 + 2 + 1 + 8),
+        // a key that differs from both in its first word, and evicts the last one
+        (Packet(2, 100), 2 + 2 + (1 + 1) + (2 + 3) + 2 + 2 + 3 + 8),
+        // a full pipe and two open epochs: three merges and two evictions
+        (Sweep, 3 * 4 + 2 * ((2 + 3) + 1)),
         // a new key, and then an eviction and a merge by themselves
-        (Event::Packet(1, 100), 2 + 2 + 1 + 2 + 3 + 8),
-        (Event::Evict, (2 + 3) + 1),
-        (Event::Merge, 4),
+        (Packet(1, 100), 2 + 2 + 1 + 2 + 3 + 8),
+        (Evict, (2 + 3) + 1),
+        (Merge, 4),
     ],
 };
 
@@ -134,29 +115,23 @@ const COMPOSED: Case = Case {
     query: QUERY,
     entries: Entries::Folds,
     events: &[
-        // a new key: 1 word of the key + 1 argument + 1 hashed + 1 way + 1 word of the key written
-        // + 1 + 1 + 6 of the entry; the row is logged: 2 for the history + 21 + 1 argument + 1 for the number
+        // a new key, whose row is logged: 2 for the history + 21 + 1 argument + 1 for the number
         (
-            Event::Packet(1, 4),
+            Packet(1, 4),
             1 + 1 + 1 + 1 + 1 + (1 + 1 + 6) + (2 + 21 + 1 + 1),
         ),
-        // the log is full: 1 word of the key + 1 argument + 1 hashed + 1 compared + 1 way; 3 columns of
-        // 3 parts, 21 and 2 words + 1 of the history + 6 elements with 2 products each + 6 words of the map
+        // the log is full: 3 columns of 3 parts, 21 and 2 words + 1 of the history + 6 elements with 2 products each
+        // + 6 words of the map
         (
-            Event::Packet(1, 4),
+            Packet(1, 4),
             1 + 1 + 1 + 1 + 1 + 3 * (3 + 21 + 2) + 1 + 6 * 2 + 6,
         ),
-        // it evicts: 1 word of the key + 1 argument + 1 hashed + 1 compared + 1 word of the other key and 9
-        // of its entry into the pipe + 1 way + 1 word of the key written + 8 of the entry + 25 for the row, which is logged
-        (
-            Event::Packet(2, 4),
-            1 + 1 + 1 + 1 + (1 + 9) + 1 + 1 + 8 + 25,
-        ),
+        // it evicts, and its row is logged
+        (Packet(2, 4), 1 + 1 + 1 + 1 + (1 + 9) + 1 + 1 + 8 + 25),
         // 21 for the logged row + 2 variables read + 4 products
         // + 2 copied + 2 written + 1 of the history
-        (Event::Merge, 21 + 2 + 4 + 2 + 2 + 1),
-        // 1 word of the key and 9 of the entry into the pipe + 1 for the bucket
-        (Event::Evict, (1 + 9) + 1),
+        (Merge, 21 + 2 + 4 + 2 + 2 + 1),
+        (Evict, (1 + 9) + 1),
     ],
 };
 
@@ -167,30 +142,23 @@ const MOVED: Case = Case {
     query: b"def gaps([s, a, b],[tin, tout]) { s = s + tout - a; a = b; b = tin; } r = groupby(pktstream, [srcip], gaps); print r;",
     entries: Entries::Folds,
     events: &[
-        // a new key: 1 word of the key + 2 arguments + 1 hashed + 1 way + 1 word of the key written
-        // + 1 + 2 + 2 of the entry; the row is logged: 2 * 2 for the history + 14 + 2 arguments + 1 for the number
+        // a new key, whose row is logged: 2 * 2 for the history + 14 + 2 arguments + 1 for the number
         (
-            Event::Packet(1, 4),
+            Packet(1, 4),
             1 + 2 + 1 + 1 + 1 + (1 + 2 + 2) + (4 + 14 + 2 + 1),
         ),
-        // the second row is logged too: 1 word of the key + 2 arguments + 1 hashed + 1 compared + 1 way + 21
-        (Event::Packet(1, 4), 1 + 2 + 1 + 1 + 1 + 21),
-        // the log is full: 1 word of the key + 2 arguments + 1 hashed + 1 compared + 1 way + 4 for the
-        // history + 1 element read + 14 + 1 written
-        (Event::Packet(1, 4), 1 + 2 + 1 + 1 + 1 + (4 + 1 + 14 + 1)),
-        // it evicts: 1 word of the key + 2 arguments + 1 hashed + 1 compared + 1 word of the other key and 9
-        // of its entry into the pipe + 1 way + 1 word of the key written + 5 of the entry + 21 for the row
-        (
-            Event::Packet(2, 4),
-            1 + 2 + 1 + 1 + (1 + 9) + 1 + 1 + 5 + 21,
-        ),
+        // the second row is logged too
+        (Packet(1, 4), 1 + 2 + 1 + 1 + 1 + 21),
+        // the log is full: 4 for the history + 1 element read + 14 + 1 written
+        (Packet(1, 4), 1 + 2 + 1 + 1 + 1 + (4 + 1 + 14 + 1)),
+        // it evicts, and its row is logged
+        (Packet(2, 4), 1 + 2 + 1 + 1 + (1 + 9) + 1 + 1 + 5 + 21),
         // a full log: 2 * 14 for the logged rows + 1 variable read
         // + 1 product + 1 copied + 1 written + 2 of the history
-        (Event::Merge, 2 * 14 + 1 + 1 + 1 + 1 + 2),
-        // 1 word of the key and 9 of the entry into the pipe + 1 for the bucket
-        (Event::Evict, (1 + 9) + 1),
+        (Merge, 2 * 14 + 1 + 1 + 1 + 1 + 2),
+        (Evict, (1 + 9) + 1),
         // a log of one row: 14 for the row
-        (Event::Merge, 14),
+        (Merge, 14),
     ],
 };
 
@@ -201,18 +169,15 @@ const COMPOSED_MAXIMA: Case = Case {
     query: b"def peak([p],[qsize]) { p = max(sadd(p, 3), qsize); } r = groupby(pktstream, [srcip], peak); print r;",
     entries: Entries::Folds,
     events: &[
-        // a new key: 1 word of the key + 1 argument + 1 hashed + 1 way + 1 word of the key written + 5 of the
-        // entry; 2 columns of 1 part, 8 and 2 words + 2 elements with 1 product each + 4 words of the map
+        // a new key: of the row 2 columns of 1 part, 8 and 2 words + 2 elements with 1 product each + 4 words of the map
         (
-            Event::Packet(1, 4),
+            Packet(1, 4),
             1 + 1 + 1 + 1 + 1 + 5 + 2 * (1 + 8 + 2) + 2 + 4,
         ),
-        // it is there: 1 word of the key + 1 argument + 1 hashed + 1 compared + 1 way + 28 for the row
-        (Event::Packet(1, 4), 1 + 1 + 1 + 1 + 1 + 28),
-        // 1 word of the key and 5 of the entry into the pipe + 1 for the bucket
-        (Event::Evict, (1 + 5) + 1),
-        // 1 variable read + 1 product + 1 copied + 1 written
-        (Event::Merge, 1 + 1 + 1 + 1),
+        // it is there
+        (Packet(1, 4), 1 + 1 + 1 + 1 + 1 + 28),
+        (Evict, (1 + 5) + 1),
+        (Merge, 1 + 1 + 1 + 1),
     ],
 };
 
@@ -222,36 +187,29 @@ const MOVED_MAXIMA: Case = Case {
     query: b"def deepest([m],[qsize]) { m = max(m, qsize); } r = groupby(pktstream, [srcip], deepest); print r;",
     entries: Entries::Folds,
     events: &[
-        // a new key: 1 word of the key + 1 argument + 1 hashed + 1 way + 1 word of the key written + 5 of the
-        // entry; 1 word of the state from the map + 6 + 2 words of an element
-        (Event::Packet(1, 4), 1 + 1 + 1 + 1 + 1 + 5 + (1 + 6 + 2)),
-        // it is there: 1 word of the key + 1 argument + 1 hashed + 1 compared + 1 way + 9 for the row
-        (Event::Packet(1, 4), 1 + 1 + 1 + 1 + 1 + 9),
-        // 1 word of the key and 5 of the entry into the pipe + 1 for the bucket
-        (Event::Evict, (1 + 5) + 1),
-        // 1 variable read + 1 product + 1 copied + 1 written
-        (Event::Merge, 1 + 1 + 1 + 1),
+        // a new key: of the row 1 word of the state from the map + 6 + 2 words of an element
+        (Packet(1, 4), 1 + 1 + 1 + 1 + 1 + 5 + (1 + 6 + 2)),
+        // it is there
+        (Packet(1, 4), 1 + 1 + 1 + 1 + 1 + 9),
+        (Evict, (1 + 5) + 1),
+        (Merge, 1 + 1 + 1 + 1),
     ],
 };
 
 const AVERAGE: &[u8] =
     b"def avg([e],[qsize]) { e = decay(e, 3) + qsize; } r = groupby(pktstream, [srcip], avg); print r;";
 
-/// A fold that isn't linear. The body takes 1 + (5 + 2) steps, and the entry is the state of one word.
+/// A fold that isn't linear. The body takes 1 + (5 + 2) steps, and the entry is the state of one word, which a merge takes.
 const OTHER: Case = Case {
     name: "other",
     query: AVERAGE,
     entries: Entries::Folds,
     events: &[
-        // a new key: 1 word of the key + 1 argument + 1 hashed + 1 way + 1 word of the key written + 1 of the
-        // entry + 8 for the row
-        (Event::Packet(1, 4), 1 + 1 + 1 + 1 + 1 + 1 + 8),
-        // it is there: 1 word of the key + 1 argument + 1 hashed + 1 compared + 1 way + 8 for the row
-        (Event::Packet(1, 4), 1 + 1 + 1 + 1 + 1 + 8),
-        // 1 word of the key and 1 of the entry into the pipe + 1 for the bucket
-        (Event::Evict, (1 + 1) + 1),
-        // 1 of the state
-        (Event::Merge, 1),
+        // a new key, and the same again
+        (Packet(1, 4), 1 + 1 + 1 + 1 + 1 + 1 + 8),
+        (Packet(1, 4), 1 + 1 + 1 + 1 + 1 + 8),
+        (Evict, (1 + 1) + 1),
+        (Merge, 1),
     ],
 };
 
@@ -261,43 +219,13 @@ const BOUNDS: Case = Case {
     query: AVERAGE,
     entries: Entries::Bounds,
     events: &[
-        // a new key: 1 word of the key + 1 argument + 1 hashed + 1 way + 1 word of the key written + 3 of the
-        // entry + 3 * 8 for the row
-        (Event::Packet(1, 4), 1 + 1 + 1 + 1 + 1 + 3 + 3 * 8),
-        // it is there: 1 word of the key + 1 argument + 1 hashed + 1 compared + 1 way + 3 * 8 for the row
-        (Event::Packet(1, 4), 1 + 1 + 1 + 1 + 1 + 3 * 8),
-        // 1 word of the key and 3 of the entry into the pipe + 1 for the bucket
-        (Event::Evict, (1 + 3) + 1),
-        // 3 of the states
-        (Event::Merge, 3),
+        // a new key, and the same again
+        (Packet(1, 4), 1 + 1 + 1 + 1 + 1 + 3 + 3 * 8),
+        (Packet(1, 4), 1 + 1 + 1 + 1 + 1 + 3 * 8),
+        (Evict, (1 + 3) + 1),
+        (Merge, 3),
     ],
 };
-
-// Makes an event of the only lane: how many steps it takes.
-fn steps_of<const WAYS: usize, L: Ledger>(
-    rt: &impl Abort,
-    one: &mut OneBucket<WAYS>,
-    event: Event,
-    steps: &mut Steps<L>,
-) -> Result<u64, AllocError> {
-    let before = steps.shown();
-    assert_eq!(rt; one.pipeline.lanes(), 1);
-    match event {
-        Event::Packet(source, length) => {
-            assert!(rt; one.pipeline.ready());
-            one.pipeline.packet(&packet_of(source, length), steps);
-        }
-        Event::Evict => {
-            assert!(rt; one.pipeline.lane_ready(0));
-            let _has_ended = one.pipeline.evict(0, 0, steps);
-        }
-        Event::Merge => {
-            let _merged = one.pipeline.merge(0, steps)?;
-        }
-        Event::Sweep => one.pipeline.sweep(steps)?,
-    }
-    Ok(steps.shown().saturating_sub(before))
-}
 
 // Makes the events of a case, each of which takes exactly its steps.
 fn make_all<const WAYS: usize, L: Ledger>(
@@ -308,7 +236,9 @@ fn make_all<const WAYS: usize, L: Ledger>(
 ) -> Result<(), AllocError> {
     let name = case.name;
     for (i, (event, counted)) in case.events.iter().enumerate() {
-        let taken = steps_of(rt, one, *event, steps)?;
+        let before = steps.shown();
+        let _has_ended = one.make(rt, *event, steps)?;
+        let taken = steps.shown().saturating_sub(before);
         assert_eq!(rt; taken, *counted, "{name}, event {i}");
     }
     Ok(())

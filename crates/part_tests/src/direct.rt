@@ -1,6 +1,7 @@
 //! What the definition says of two keys in a bucket, under a fold that keeps the last length, how often it changed and a
 //! hash of all lengths.
 
+use crate::one_bucket::Event;
 use std::alloc::{AllocError, Global};
 
 /// The fold's query: it has a history, a sum and a product.
@@ -12,20 +13,6 @@ pub const QUERY: &[u8] = b"def all([last, changes, hash],[pkt_len]) {\n\
     r = groupby(pktstream, [srcip], all);\n\
     print r;\n";
 
-#[derive(Clone, Copy)]
-pub enum Key {
-    First,
-    Second,
-}
-
-/// An event of a lane.
-#[derive(Clone, Copy)]
-pub enum Event {
-    Packet(Key),
-    Evict,
-    Merge,
-}
-
 /// A key: whether it has an open epoch, how many epochs it had, and the fold over all its packets.
 #[derive(Drop)]
 struct OneKey {
@@ -36,21 +23,12 @@ struct OneKey {
     hash: u64,
 }
 
-/// Both keys, and which of them was used last.
+/// The sources 1 and 2, and which of them was used last.
 #[derive(Drop)]
 pub struct TwoKeys {
     first: OneKey,
     second: OneKey,
-    latest: Key,
-}
-
-impl Key {
-    pub fn word(self) -> u64 {
-        match self {
-            Key::First => 1,
-            Key::Second => 2,
-        }
-    }
+    latest: u64,
 }
 
 impl OneKey {
@@ -76,21 +54,22 @@ impl TwoKeys {
         TwoKeys {
             first: OneKey::UNUSED,
             second: OneKey::UNUSED,
-            latest: Key::First,
+            latest: 1,
         }
     }
 
     // The key that was used last, and the other one.
     fn by_use(&mut self) -> (&mut OneKey, &mut OneKey) {
-        match self.latest {
-            Key::First => (&mut self.first, &mut self.second),
-            Key::Second => (&mut self.second, &mut self.first),
+        if self.latest == 1 {
+            (&mut self.first, &mut self.second)
+        } else {
+            (&mut self.second, &mut self.first)
         }
     }
 
     // A packet. A key that has no open epoch begins one, and in a bucket of one way that ends the other key's.
-    fn packet(&mut self, key: Key, length: u64, ways: usize) {
-        self.latest = key;
+    fn packet(&mut self, source: u64, length: u64, ways: usize) {
+        self.latest = source;
         let (used, other) = self.by_use();
         if !used.is_open {
             used.is_open = true;
@@ -111,15 +90,15 @@ impl TwoKeys {
         was_open
     }
 
-    /// An event in a bucket of `ways` ways, whose packet has this length. True where it is an eviction that ended an epoch.
-    pub fn make(&mut self, event: Event, length: u64, ways: usize) -> bool {
+    /// An event in a bucket of `ways` ways. True where it is an eviction that ended an epoch.
+    pub fn make(&mut self, event: Event, ways: usize) -> bool {
         match event {
-            Event::Packet(key) => {
-                self.packet(key, length, ways);
+            Event::Packet(source, length) => {
+                self.packet(source, length, ways);
                 false
             }
             Event::Evict => self.evict(),
-            Event::Merge => false,
+            Event::Merge | Event::Sweep => false,
         }
     }
 
@@ -131,9 +110,9 @@ impl TwoKeys {
     /// A row for each key that was used: the key, how many epochs it had, and its state.
     pub fn rows(&self, alloc: Global) -> Result<Vec<u64>, AllocError> {
         let mut rows = Vec::new(alloc);
-        for (key, one) in [(Key::First, &self.first), (Key::Second, &self.second)] {
+        for (source, one) in [(1, &self.first), (2, &self.second)] {
             if one.epochs != 0 {
-                rows.extend_from_slice(&[key.word(), one.epochs, one.last, one.changes, one.hash])?;
+                rows.extend_from_slice(&[source, one.epochs, one.last, one.changes, one.hash])?;
             }
         }
         Ok(rows)

@@ -1,11 +1,10 @@
 //! What is shown of a pipeline for bounds after packets, evictions and merges in no order of a trace, compared with bounds that
 //! were worked out by hand.
 
-ghost use Rattle.std.specs.Prelude.{◌≡◌, ◌<◌, IfOk};
+ghost use Rattle.std.specs.Prelude.{◌≡◌, ◌<◌};
 ghost use Rattle.epoch_entry.specs.declared.purpose.Entries.TheVariants.{Bounds};
 
-use crate::lanes::packet_of;
-use accepted_query::accept;
+use crate::one_bucket::{Event, OneBucket};
 use enclosed_query::enclosed;
 use enclosure_folds::{BoundsTable, Enclosed};
 use epoch_entry::Entries;
@@ -15,19 +14,10 @@ use std::marker::Brand;
 use std::process::Abort;
 use std::sync::ledger::{Blank, Ledger};
 use std::test::Fail;
-use switch_core::Pipeline;
 
 /// A moving average of lengths that is at most 100. A greater state stays at least as great.
 const QUERY: &[u8] = b"def avg([e],[pkt_len]) { e = min(sadd(decay(e, 3), pkt_len), 100); } \
 r = groupby(pktstream, [srcip], avg); print r;";
-
-/// An event of the only lane: a packet has this source and this length.
-#[derive(Clone, Copy)]
-enum Event {
-    Packet(u64, u64),
-    Evict,
-    Merge,
-}
 
 /// Events of one bucket of one way. Source 1 has three epochs, of lengths 10, 40 and 8. Source 2 has two, of 20 and 200, and the
 /// first of them waits in the pipe while two others come after it. Source 3 has one, of 5.
@@ -60,86 +50,6 @@ const EVENTS: [Event; 15] = [
 /// last packet leads every state to 100. Source 3 has one epoch, so both are its state.
 const ROWS: [(u64, u64, u64, u64); 3] = [(1, 3, 8, 100), (2, 2, 100, 100), (3, 1, 5, 5)];
 
-// A pipeline for the query with one bucket of one way, and pipes for four records.
-fn made_pipeline(alloc: Global) -> Result<Pipeline<1>, Fail>
-    ensures buckets { IfOk result (λ made. made.buckets ≡ 1) }
-    ensures entries { IfOk result (λ made. made.entries ≡ Bounds) }
-{
-    let accepted = accept(alloc, QUERY)?;
-    let made = Pipeline::<1>::new(alloc, accepted.plan, Entries::Bounds, 1, 4)?;
-    Ok(made)
-}
-
-// Takes a packet.
-fn take_packet<L: Ledger>(
-    rt: &impl Abort,
-    pipeline: &mut Pipeline<1>,
-    source: u64,
-    length: u64,
-    steps: &mut Steps<L>,
-)
-    requires buckets { pipeline.old.buckets ≡ 1 }
-    requires entries { pipeline.old.entries ≡ Bounds }
-    ensures buckets { pipeline.new.buckets ≡ 1 }
-    ensures entries { pipeline.new.entries ≡ Bounds }
-{
-    assert!(rt; pipeline.ready());
-    pipeline.packet(&packet_of(source, length), steps);
-}
-
-// Evicts the epoch that was used longest ago.
-fn evict_one<L: Ledger>(rt: &impl Abort, pipeline: &mut Pipeline<1>, steps: &mut Steps<L>)
-    requires buckets { pipeline.old.buckets ≡ 1 }
-    requires entries { pipeline.old.entries ≡ Bounds }
-    ensures buckets { pipeline.new.buckets ≡ 1 }
-    ensures entries { pipeline.new.entries ≡ Bounds }
-{
-    assert_eq!(rt; pipeline.lanes(), 1);
-    assert!(rt; pipeline.lane_ready(0));
-    let _has_ended = pipeline.evict(0, 0, steps);
-}
-
-// Merges the oldest record.
-fn merge_one<L: Ledger>(
-    rt: &impl Abort,
-    pipeline: &mut Pipeline<1>,
-    steps: &mut Steps<L>,
-) -> Result<(), AllocError>
-    requires buckets { pipeline.old.buckets ≡ 1 }
-    requires entries { pipeline.old.entries ≡ Bounds }
-    ensures buckets { pipeline.new.buckets ≡ 1 }
-    ensures entries { pipeline.new.entries ≡ Bounds }
-{
-    assert_eq!(rt; pipeline.lanes(), 1);
-    let _merged = pipeline.merge(0, steps)?;
-    Ok(())
-}
-
-// Makes an event.
-fn make<L: Ledger>(
-    rt: &impl Abort,
-    pipeline: &mut Pipeline<1>,
-    event: Event,
-    steps: &mut Steps<L>,
-) -> Result<(), AllocError>
-    requires buckets { pipeline.old.buckets ≡ 1 }
-    requires entries { pipeline.old.entries ≡ Bounds }
-    ensures buckets { pipeline.new.buckets ≡ 1 }
-    ensures entries { pipeline.new.entries ≡ Bounds }
-{
-    match event {
-        Event::Packet(source, length) => {
-            take_packet(rt, pipeline, source, length, steps);
-            Ok(())
-        }
-        Event::Evict => {
-            evict_one(rt, pipeline, steps);
-            Ok(())
-        }
-        Event::Merge => merge_one(rt, pipeline, steps),
-    }
-}
-
 // The table has the rows that were worked out.
 fn compare_rows(rt: &impl Abort, table: &BoundsTable) {
     assert_eq!(rt; table.epochs, 6);
@@ -167,32 +77,29 @@ fn compare_shown(rt: &impl Abort, shown: &Seq<Enclosed>) {
 fn make_all<L: Ledger>(
     rt: &impl Abort,
     alloc: Global,
-    pipeline: &mut Pipeline<1>,
+    one: &mut OneBucket<1>,
     steps: &mut Steps<L>,
 ) -> Result<(), AllocError>
-    requires buckets { pipeline.old.buckets ≡ 1 }
-    requires entries { pipeline.old.entries ≡ Bounds }
+    requires { one.old.pipeline.entries ≡ Bounds }
 {
     for event in EVENTS {
-        make(rt, pipeline, event, steps)?;
+        let _has_ended = one.make(rt, event, steps)?;
     }
-    assert!(rt; pipeline.drained());
-    let shown = enclosed(alloc, pipeline)?;
+    assert!(rt; one.pipeline.drained());
+    let shown = enclosed(alloc, &one.pipeline)?;
     compare_shown(rt, &shown);
     Ok(())
 }
 
-// The same of a new pipeline.
+// The same of a new pipeline, with pipes for four records.
 fn compare<L: Ledger>(rt: &impl Abort, alloc: Global, blank: Blank) -> Result<(), Fail>
     requires name { blank.name ≡ L.name }
     requires parts { blank.parts ≡ L.parts }
     requires whole { 0 < blank.parts }
 {
     let mut steps = Steps::<L>::new(blank);
-    let mut pipeline = made_pipeline(alloc)?;
-    let made = make_all(rt, alloc, &mut pipeline, &mut steps);
-    drop(pipeline);
-    Ok(made?)
+    let mut one = OneBucket::<1>::new(alloc, QUERY, Entries::Bounds, 4)?;
+    Ok(make_all(rt, alloc, &mut one, &mut steps)?)
 }
 
 #[test]

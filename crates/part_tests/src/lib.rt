@@ -27,6 +27,8 @@ mod kinds;
 #[cfg(test)]
 mod lanes;
 #[cfg(test)]
+mod one_bucket;
+#[cfg(test)]
 mod one_lane;
 #[cfg(test)]
 mod pipes;

@@ -4,8 +4,8 @@ ghost use Rattle.std.specs.Prelude.{◌≡◌, ◌<◌, IfOk};
 ghost use Rattle.fold_class.specs.Program.{IsProgram};
 
 use crate::fold_programs::{HASH, program_of};
+use crate::one_bucket::exact_rows;
 use epoch_entry::{AnyEpochs, EpochKind};
-use epoch_model::Mark;
 use final_queries::{Table, TableKind};
 use fold_class::FoldProgram;
 use marple_base::{Seq, Steps, Text};
@@ -17,35 +17,8 @@ use std::sync::ledger::{Blank, Ledger};
 use std::test::Fail;
 use switch_core::{Lane, Merged};
 
-/// What a groupby takes of a packet.
-#[derive(Clone, Copy)]
-struct Taken {
-    key: u64,
-    length: u64,
-}
-
-/// Two keys in turn, so that in a bucket of one way each packet but the first evicts the other key.
-const TURNS: [Taken; 4] = [
-    Taken { key: 1, length: 1 },
-    Taken { key: 2, length: 9 },
-    Taken { key: 1, length: 2 },
-    Taken { key: 2, length: 0 },
-];
-
-// The packet event of a lane whose keys have one word.
-fn take_packet<K: EpochKind, const WAYS: usize, L: Ledger>(
-    rt: &impl Abort,
-    lane: &mut Lane<K, WAYS>,
-    taken: Taken,
-    steps: &mut Steps<L>,
-)
-    requires { lane.old.cache.key_words ≡ 1 }
-    ensures { lane.new.cache.key_words ≡ 1 }
-{
-    assert!(rt; lane.ready());
-    assert_eq!(rt; lane.kind().args_words(), 1);
-    lane.packet(&[taken.key], &[taken.length], steps);
-}
+/// Two keys in turn with lengths, so that in a bucket of one way each packet but the first evicts the other key.
+const TURNS: [(u64, u64); 4] = [(1, 1), (2, 9), (1, 2), (2, 0)];
 
 // The packets, and an eviction of the one epoch that is open after them.
 fn take_turns<K: EpochKind, const WAYS: usize, L: Ledger>(
@@ -56,8 +29,10 @@ fn take_turns<K: EpochKind, const WAYS: usize, L: Ledger>(
     requires { lane.old.cache.key_words ≡ 1 }
     ensures { lane.new.cache.key_words ≡ 1 }
 {
-    for taken in TURNS {
-        take_packet(rt, lane, taken, steps);
+    for (key, length) in TURNS {
+        assert!(rt; lane.ready());
+        assert_eq!(rt; lane.kind().args_words(), 1);
+        lane.packet(&[key], &[length], steps);
     }
     assert_eq!(rt; lane.piped(), 3);
     assert_eq!(rt; lane.held(), 1);
@@ -100,20 +75,6 @@ fn close<K: EpochKind, const WAYS: usize>(
     lane.close(name, keys, states, Class::Linear, 0)
 }
 
-// The rows of a table of four epochs, which are all exact: each with its key, its number of epochs and its state.
-fn rows_of(rt: &impl Abort, alloc: Global, table: &Table) -> Result<Vec<u64>, AllocError> {
-    assert_eq!(rt; table.kind, TableKind::Group(Class::Linear, 0, 4));
-    let mut rows = Vec::new(alloc);
-    for at in 0..table.rows.len() {
-        let row = table.rows.get(at);
-        assert_eq!(rt; row.mark, Mark::Exact);
-        rows.extend_from_slice(row.key)?;
-        rows.push(row.epochs)?;
-        rows.extend_from_slice(row.values)?;
-    }
-    Ok(rows)
-}
-
 // A lane for the entries of a fold's program, with keys of one word, one bucket, and a pipe for four records.
 fn made_lane(
     rt: &impl Abort,
@@ -140,20 +101,8 @@ fn rows_after_turns<K: EpochKind, const WAYS: usize, L: Ledger>(
     take_turns(rt, lane, steps);
     merge_all(rt, lane, steps)?;
     let table = close(rt, alloc, lane)?;
-    rows_of(rt, alloc, &table)
-}
-
-// The same of a lane that is dropped after that. The lane is owned here alone, where no error is handed on.
-fn rows_of_lane<K: EpochKind, const WAYS: usize, L: Ledger>(
-    rt: &impl Abort,
-    alloc: Global,
-    lane: Lane<K, WAYS>,
-    steps: &mut Steps<L>,
-) -> Result<Vec<u64>, AllocError>
-    requires { lane.cache.key_words ≡ 1 }
-{
-    let mut lane = lane;
-    rows_after_turns(rt, alloc, &mut lane, steps)
+    assert_eq!(rt; table.kind, TableKind::Group(Class::Linear, 0, 4));
+    exact_rows(rt, alloc, &table)
 }
 
 // The same of a new lane for a fold that hashes the lengths.
@@ -167,8 +116,8 @@ fn rows_of_new_lane<L: Ledger>(
     requires whole { 0 < blank.parts }
 {
     let mut steps = Steps::<L>::new(blank);
-    let lane = made_lane(rt, alloc, program_of(alloc, HASH)?)?;
-    Ok(rows_of_lane(rt, alloc, lane, &mut steps)?)
+    let mut lane = made_lane(rt, alloc, program_of(alloc, HASH)?)?;
+    Ok(rows_after_turns(rt, alloc, &mut lane, &mut steps)?)
 }
 
 #[test]
