@@ -1,38 +1,20 @@
 //! Runs of the code of folds, compared with what their statements say on paper.
 
 ghost use Rattle.std.specs.Prelude.{◌≡◌, ◌<◌};
-ghost use Rattle.query_lang.specs.TypedQueries.{IsValidQuery};
 
-use crate::fold_programs::{AVERAGE, OUT_OF_SEQUENCE, TWO_STEPS, query_of, typed_of};
+use crate::fold_programs::{AVERAGE, IDLE, OUT_OF_SEQUENCE, TWO_STEPS, first_fold, query_of};
 use fold_code::{FoldCode, compile};
 use marple_base::Steps;
-use query_lang::TypedQuery;
 use std::alloc::Global;
 use std::marker::Brand;
 use std::process::Abort;
 use std::sync::ledger::{Blank, Ledger};
 use std::test::Fail;
 
-// The code of a query's first fold.
-fn first_code(alloc: Global, typed: &TypedQuery) -> Result<FoldCode, Fail>
-    requires { IsValidQuery typed.now }
-{
-    if typed.folds.len() == 0 {
-        return Err(Fail::new("there is no fold"));
-    }
-    Ok(compile(alloc, typed.folds.get(0))?)
-}
-
-// The code of the first fold of a query's text.
-fn code_in(alloc: Global, text: &[u8]) -> Result<FoldCode, Fail> {
-    let typed = typed_of(alloc, text)?;
-    first_code(alloc, &typed)
-}
-
 /// The code of the fold with this text.
 fn code_of(alloc: Global, fold: &[u8]) -> Result<FoldCode, Fail> {
-    let text = query_of(alloc, fold)?;
-    code_in(alloc, text.as_slice())
+    let query = query_of(alloc, fold, IDLE)?;
+    Ok(compile(alloc, first_fold(&query)?)?)
 }
 
 /// The state after a run, and the steps that it takes.
@@ -62,32 +44,34 @@ fn run<L: Ledger>(
     Ok((state, steps.shown()))
 }
 
+/// A fold, its state, arguments, the state after them, and the steps.
+const RUNS: [(&[u8], &[u64], &[u64], &[u64], u64); 6] = [
+    // 1 for the mask + 3 nodes and 2 masks of the `if` + two assignments of 3 nodes and 2
+    (
+        OUT_OF_SEQUENCE,
+        &[15, 7],
+        &[15, 5],
+        &[20, 7],
+        1 + (3 + 2) + (3 + 2) + (3 + 2),
+    ),
+    (OUT_OF_SEQUENCE, &[15, 7], &[16, 5], &[21, 8], 16),
+    (OUT_OF_SEQUENCE, &[15, 1], &[15, 5], &[20, 1], 16),
+    // 1 for the mask + an assignment of 5 nodes and 2: 8 - 8 / 8 + 8
+    (AVERAGE, &[8], &[8], &[15], 1 + (5 + 2)),
+    // 1 for the mask + an assignment of 5 nodes and 2 of one node
+    (
+        TWO_STEPS,
+        &[10, 3, 4],
+        &[9],
+        &[16, 4, 9],
+        1 + (5 + 2) + (1 + 2) + (1 + 2),
+    ),
+    (TWO_STEPS, &[0, 1, 2], &[0], &[u64::MAX, 2, 0], 14),
+];
+
 #[test]
 fn codes_run_as_their_statements_say(rt: HostRuntime) -> Result<(), Fail> {
-    // (the fold, its state, arguments, the state after them, the steps)
-    for (fold, before, args, after, taken) in [
-        // 1 for the mask + 3 nodes and 2 masks of the `if` + two assignments of 3 nodes and 2
-        (
-            OUT_OF_SEQUENCE,
-            [15, 7].as_slice(),
-            [15, 5].as_slice(),
-            [20, 7].as_slice(),
-            1 + (3 + 2) + (3 + 2) + (3 + 2),
-        ),
-        (OUT_OF_SEQUENCE, &[15, 7], &[16, 5], &[21, 8], 16),
-        (OUT_OF_SEQUENCE, &[15, 1], &[15, 5], &[20, 1], 16),
-        // 1 for the mask + an assignment of 5 nodes and 2: 8 - 8 / 8 + 8
-        (AVERAGE, &[8], &[8], &[15], 1 + (5 + 2)),
-        // 1 for the mask + an assignment of 5 nodes and 2 of one node
-        (
-            TWO_STEPS,
-            &[10, 3, 4],
-            &[9],
-            &[16, 4, 9],
-            1 + (5 + 2) + (1 + 2) + (1 + 2),
-        ),
-        (TWO_STEPS, &[0, 1, 2], &[0], &[u64::MAX, 2, 0], 14),
-    ] {
+    for (fold, before, args, after, taken) in RUNS {
         let code = code_of(rt.alloc(), fold)?;
         let (state, steps) = run::<Brand>(&rt, rt.alloc(), &code, before, args, Blank::new(1))?;
         assert_eq!(rt; state.as_slice(), after);

@@ -3,13 +3,13 @@ ghost use Rattle.query_lang.specs.TypedQueries.{IsValidQuery};
 
 use crate::fold_programs::{
     ACCUMULATE, AVERAGE, DEEPEST, HASH, OUT_OF_SEQUENCE, TWO_STEPS, first_program, program_of,
+    query_of,
 };
-use accepted_query::{AcceptedQuery, accept};
+use accepted_query::AcceptedQuery;
 use epoch_entry::{AnyEpochs, EpochKind};
 use fold_class::{Algebra, FoldProgram};
-use marple_base::Text;
 use stage_plan::Plan;
-use std::alloc::{AllocError, Global};
+use std::alloc::Global;
 use std::test::Fail;
 
 #[test]
@@ -58,13 +58,13 @@ fn other_steps(plan: &Plan, program: &FoldProgram) -> u64 {
 
 /// Of a query with one groupby: its fold's algebra and depth, what its packet's bound on steps has beside those others, and
 /// the words of an entry with its key.
-fn measured(alloc: Global, accepted: &AcceptedQuery) -> Result<(Algebra, u8, u64, usize), Fail>
-    requires { IsValidQuery accepted.now.typed }
+fn measured(alloc: Global, query: &AcceptedQuery) -> Result<(Algebra, u8, u64, usize), Fail>
+    requires { IsValidQuery query.now.typed }
 {
-    let program = first_program(alloc, &accepted.typed)?;
+    let program = first_program(alloc, query)?;
     let (algebra, depth) = (program.algebra, program.depth);
-    let others = other_steps(&accepted.plan, &program);
-    let entries = accepted.plan.bound(1).saturating_sub(others);
+    let others = other_steps(&query.plan, &program);
+    let entries = query.plan.bound(1).saturating_sub(others);
     let kind = AnyEpochs::of(program);
     Ok((
         algebra,
@@ -74,19 +74,6 @@ fn measured(alloc: Global, accepted: &AcceptedQuery) -> Result<(Algebra, u8, u64
     ))
 }
 
-// The query of the group over the fold with this text.
-fn text_of(alloc: Global, fold: &[u8]) -> Result<Text, AllocError> {
-    let mut text = Text::from_slice(alloc, fold)?;
-    text.push_slice(DEEP_GROUP)?;
-    Ok(text)
-}
-
-// The same of a query's text.
-fn measured_in(alloc: Global, text: &[u8]) -> Result<(Algebra, u8, u64, usize), Fail> {
-    let accepted = accept(alloc, text)?;
-    measured(alloc, &accepted)
-}
-
 #[test]
 fn greatest_entries(rt: HostRuntime) -> Result<(), Fail> {
     let alloc = rt.alloc();
@@ -94,11 +81,8 @@ fn greatest_entries(rt: HostRuntime) -> Result<(), Fail> {
         (DEEP, Algebra::Sums, 8, 8 + 1 + 128 + 8, 218),
         (DEEP_MAXIMUM, Algebra::Maxima, 7, 8 + 1 + 112 + 7 + 4, 274),
     ] {
-        let text = text_of(alloc, fold)?;
-        assert_eq!(rt;
-            measured_in(alloc, text.as_slice())?,
-            (algebra, depth, 6 * most, words)
-        );
+        let query = query_of(alloc, fold, DEEP_GROUP)?;
+        assert_eq!(rt; measured(alloc, &query)?, (algebra, depth, 6 * most, words));
     }
     Ok(())
 }

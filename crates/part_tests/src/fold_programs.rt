@@ -1,14 +1,14 @@
 //! The texts of some folds, and the programs of such texts.
 ghost use Rattle.std.specs.Prelude.{IfOk};
 ghost use Rattle.fold_class.specs.Program.{IsProgram};
-ghost use Rattle.query_lang.specs.TypedQueries.{IsValidQuery};
+ghost use Rattle.query_lang.specs.{Folds.IsValidFold, TypedQueries.IsValidQuery};
 
-use accepted_query::accept;
+use accepted_query::{AcceptedQuery, accept};
 use fold_class::{FoldProgram, classify};
 use fold_code::compile;
 use marple_base::Text;
-use query_lang::TypedQuery;
-use std::alloc::{AllocError, Global};
+use query_lang::TypedFold;
+use std::alloc::Global;
 use std::test::Fail;
 
 pub(crate) const OUT_OF_SEQUENCE: &[u8] =
@@ -34,46 +34,44 @@ pub(crate) const FULL: &[u8] = b"def full([x = 5],[]) { x = sadd(x, infinity); }
 
 pub(crate) const DOUBLE: &[u8] = b"def top1([x],[]) { x = x * 9223372036854775808 + 1; }";
 
-/// A query whose first fold has this text.
-pub(crate) fn query_of(alloc: Global, fold: &[u8]) -> Result<Text, AllocError> {
+/// What follows a fold that the query's only groupby doesn't take.
+pub(crate) const IDLE: &[u8] =
+    b" def idle([],[]) { } r = groupby(pktstream, [srcip], idle); print r;";
+
+/// The query of a fold with this text, and of what follows it.
+pub(crate) fn query_of(alloc: Global, fold: &[u8], rest: &[u8]) -> Result<AcceptedQuery, Fail>
+    ensures { IfOk result (λ query. IsValidQuery query.typed) }
+{
     let mut text = Text::from_slice(alloc, fold)?;
-    text.push_slice(b" def idle([],[]) { } r = groupby(pktstream, [srcip], idle); print r;")?;
-    Ok(text)
+    text.push_slice(rest)?;
+    Ok(accept(alloc, text.as_slice())?)
+}
+
+/// A query's first fold.
+pub(crate) fn first_fold(query: &AcceptedQuery) -> Result<&TypedFold, Fail>
+    requires { IsValidQuery query.now.typed }
+    ensures { IfOk result (λ fold. IsValidFold fold.now) }
+{
+    if query.typed.folds.len() == 0 {
+        return Err(Fail::new("there is no fold"));
+    }
+    Ok(query.typed.folds.get(0))
 }
 
 /// The program of a query's first fold.
-pub(crate) fn first_program(alloc: Global, typed: &TypedQuery) -> Result<FoldProgram, Fail>
-    requires { IsValidQuery typed.now }
+pub(crate) fn first_program(alloc: Global, query: &AcceptedQuery) -> Result<FoldProgram, Fail>
+    requires { IsValidQuery query.now.typed }
     ensures { IfOk result IsProgram }
 {
-    if typed.folds.len() == 0 {
-        return Err(Fail::new("there is no fold"));
-    }
-    let fold = typed.folds.get(0);
+    let fold = first_fold(query)?;
     let code = compile(alloc, fold)?;
     Ok(classify(alloc, fold, code)?)
-}
-
-/// The query of a text.
-pub(crate) fn typed_of(alloc: Global, text: &[u8]) -> Result<TypedQuery, Fail>
-    ensures { IfOk result IsValidQuery }
-{
-    let accepted = accept(alloc, text)?;
-    Ok(accepted.typed)
-}
-
-// The program of the first fold of a query's text.
-fn program_in(alloc: Global, text: &[u8]) -> Result<FoldProgram, Fail>
-    ensures { IfOk result IsProgram }
-{
-    let typed = typed_of(alloc, text)?;
-    first_program(alloc, &typed)
 }
 
 /// The program of the fold with this text.
 pub(crate) fn program_of(alloc: Global, fold: &[u8]) -> Result<FoldProgram, Fail>
     ensures { IfOk result IsProgram }
 {
-    let text = query_of(alloc, fold)?;
-    program_in(alloc, text.as_slice())
+    let query = query_of(alloc, fold, IDLE)?;
+    first_program(alloc, &query)
 }

@@ -72,29 +72,25 @@ fn map_of_step<L: Ledger>(
     Ok((map, history))
 }
 
+/// A fold, its history, arguments, the map of the step, and the history after it.
+const STEPS: [(&[u8], &[u64], &[u64], &[u64], &[u64]); 12] = [
+    (ACCUMULATE, &[], &[2], &[1, 0, 2, 1, 1, 0], &[]),
+    (OUT_OF_SEQUENCE, &[15], &[15, 5], &[1, 0], &[20]),
+    (OUT_OF_SEQUENCE, &[15], &[16, 5], &[1, 1], &[21]),
+    (TWO_STEPS, &[1, 2], &[3], &[1, 2], &[2, 3]),
+    (TWO_STEPS, &[5, 2], &[3], &[1, u64::MAX - 1], &[2, 3]),
+    (MIX, &[], &[1], &[1, 0, 0, 1, 1, 0], &[]),
+    (MIX, &[], &[2], &[1, 1, 0, 0, 1, 0], &[]),
+    (HASH, &[], &[9], &[31, 9], &[]),
+    (DOUBLE, &[], &[], &[9223372036854775808, 1], &[]),
+    (DEEPEST, &[], &[5], &[1, 0, 1, 5], &[]),
+    (PEAK, &[], &[5], &[1, 3, 1, 5], &[]),
+    (FULL, &[], &[], &[1, u64::MAX, 0, 0], &[]),
+];
+
 #[test]
 fn maps_of_steps(rt: HostRuntime) -> Result<(), Fail> {
-    // (the fold, its history, arguments, the map of the step, the history after it)
-    for (fold, before, args, map, after) in [
-        (
-            ACCUMULATE,
-            [].as_slice(),
-            [2].as_slice(),
-            [1, 0, 2, 1, 1, 0].as_slice(),
-            [].as_slice(),
-        ),
-        (OUT_OF_SEQUENCE, &[15], &[15, 5], &[1, 0], &[20]),
-        (OUT_OF_SEQUENCE, &[15], &[16, 5], &[1, 1], &[21]),
-        (TWO_STEPS, &[1, 2], &[3], &[1, 2], &[2, 3]),
-        (TWO_STEPS, &[5, 2], &[3], &[1, u64::MAX - 1], &[2, 3]),
-        (MIX, &[], &[1], &[1, 0, 0, 1, 1, 0], &[]),
-        (MIX, &[], &[2], &[1, 1, 0, 0, 1, 0], &[]),
-        (HASH, &[], &[9], &[31, 9], &[]),
-        (DOUBLE, &[], &[], &[9223372036854775808, 1], &[]),
-        (DEEPEST, &[], &[5], &[1, 0, 1, 5], &[]),
-        (PEAK, &[], &[5], &[1, 3, 1, 5], &[]),
-        (FULL, &[], &[], &[1, u64::MAX, 0, 0], &[]),
-    ] {
+    for (fold, before, args, map, after) in STEPS {
         let program = program_of(rt.alloc(), fold)?;
         assert_eq!(rt; program.class, Class::Linear);
         let (made, history) = map_of_step::<Brand>(
@@ -147,41 +143,43 @@ fn product<C: Coeff, L: Ledger>(
     Ok((map, after))
 }
 
+/// The later map, the earlier one, a state, the product, and the state after it.
+const SUMS: [(&[u64], &[u64], &[u64], &[u64], &[u64]); 5] = [
+    (
+        &[1, 0, 2, 1, 1, 0],
+        &[1, 0, 1, 1, 1, 0],
+        &[0, 0],
+        &[1, 0, 3, 2, 1, 1],
+        &[3, 1],
+    ),
+    // the first adds to the second variable, and then the second to the first; and the other way round
+    (
+        &[1, 1, 0, 0, 1, 0],
+        &[1, 0, 0, 1, 1, 0],
+        &[1, 1],
+        &[2, 1, 0, 1, 1, 0],
+        &[3, 2],
+    ),
+    (
+        &[1, 0, 0, 1, 1, 0],
+        &[1, 1, 0, 0, 1, 0],
+        &[1, 1],
+        &[1, 1, 0, 1, 2, 0],
+        &[2, 3],
+    ),
+    (&[31, 2], &[31, 1], &[0], &[961, 33], &[33]),
+    (
+        &[1 << 63, 1],
+        &[1 << 63, 1],
+        &[5],
+        &[0, (1 << 63) + 1],
+        &[(1 << 63) + 1],
+    ),
+];
+
 #[test]
 fn products_of_sums(rt: HostRuntime) -> Result<(), Fail> {
-    // (the later map, the earlier one, a state, the product, the state after it)
-    for (later, earlier, state, map, after) in [
-        (
-            [1, 0, 2, 1, 1, 0].as_slice(),
-            [1, 0, 1, 1, 1, 0].as_slice(),
-            [0, 0].as_slice(),
-            [1, 0, 3, 2, 1, 1].as_slice(),
-            [3, 1].as_slice(),
-        ),
-        // the first adds to the second variable, and then the second to the first; and the other way round
-        (
-            &[1, 1, 0, 0, 1, 0],
-            &[1, 0, 0, 1, 1, 0],
-            &[1, 1],
-            &[2, 1, 0, 1, 1, 0],
-            &[3, 2],
-        ),
-        (
-            &[1, 0, 0, 1, 1, 0],
-            &[1, 1, 0, 0, 1, 0],
-            &[1, 1],
-            &[1, 1, 0, 1, 2, 0],
-            &[2, 3],
-        ),
-        (&[31, 2], &[31, 1], &[0], &[961, 33], &[33]),
-        (
-            &[1 << 63, 1],
-            &[1 << 63, 1],
-            &[5],
-            &[0, (1 << 63) + 1],
-            &[(1 << 63) + 1],
-        ),
-    ] {
+    for (later, earlier, state, map, after) in SUMS {
         let words = state.len().saturating_mul(state.len().saturating_add(1));
         assert!(rt; state.len() <= 8);
         assert_eq!(rt; later.len(), words);
