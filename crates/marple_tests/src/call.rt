@@ -7,6 +7,7 @@ use marple_base::{FailAt, Inputs, MemoryInputs, MemorySink, Seq, Steps, Text, Wh
 use marple_cli::{Driven, Status, marple};
 use std::alloc::{AllocError, Global};
 use std::marker::Brand;
+use std::process::Abort;
 use std::sync::ledger::{Blank, Ledger};
 
 /// The bytes that a sink has place for.
@@ -180,4 +181,23 @@ pub fn called(alloc: Global, line: &str, outside: &Outside<'_>) -> Result<Told, 
     let told = called_after(alloc, line, outside, &mut driven);
     drop(driven);
     told
+}
+
+/// Calls the program with the words of a line, which ends with this status, this text and this complaint.
+pub fn compare_call(
+    rt: &impl Abort,
+    alloc: Global,
+    line: &str,
+    outside: &Outside<'_>,
+    status: Status,
+    text: &[u8],
+    complaint: &[u8],
+) -> Result<(), AllocError>
+    requires { 0 < outside.now.most }
+{
+    let told = called(alloc, line, outside)?;
+    assert_eq!(rt; told.status, status);
+    assert_eq!(rt; told.text.as_slice(), text);
+    assert_eq!(rt; told.complaint.as_slice(), complaint);
+    Ok(())
 }

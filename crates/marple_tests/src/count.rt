@@ -2,9 +2,9 @@
 
 ghost use Rattle.std.specs.Prelude.{◌≡◌, ◌<◌};
 
-use crate::call::called;
+use crate::call::{Outside, called};
 use crate::sources::{COUNT, QUERY, RUN, SOURCES};
-use accepted_query::{AcceptedQuery, accept};
+use accepted_query::accept;
 use epoch_entry::Entries;
 use marple_base::{FIELDS, Field, Packet, Steps};
 use marple_cli::Status;
@@ -33,9 +33,7 @@ fn made_pipeline(rt: &impl Abort, alloc: Global) -> Result<Pipeline<1>, AllocErr
     let Ok(accepted) = accept(alloc, QUERY) else {
         panic!(rt; "the query isn't accepted");
     };
-    let AcceptedQuery { typed, plan } = accepted;
-    drop(typed);
-    Pipeline::new(alloc, plan, Entries::Folds, 2, 64)
+    Pipeline::new(alloc, accepted.plan, Entries::Folds, 2, 64)
 }
 
 // Each packet, and a merge after it, as a run makes them.
@@ -68,26 +66,15 @@ fn make_end<L: Ledger>(
     Ok(())
 }
 
-// Makes the events of the run.
+// Makes the events of the run, of a new pipeline.
 fn make_events<L: Ledger>(
-    rt: &impl Abort,
-    pipeline: &mut Pipeline<1>,
-    steps: &mut Steps<L>,
-) -> Result<(), AllocError> {
-    make_packets(rt, pipeline, steps)?;
-    make_end(rt, pipeline, steps)
-}
-
-// The same of a new pipeline.
-fn make_events_anew<L: Ledger>(
     rt: &impl Abort,
     alloc: Global,
     steps: &mut Steps<L>,
 ) -> Result<(), AllocError> {
     let mut pipeline = made_pipeline(rt, alloc)?;
-    let made = make_events(rt, &mut pipeline, steps);
-    drop(pipeline);
-    made
+    make_packets(rt, &mut pipeline, steps)?;
+    make_end(rt, &mut pipeline, steps)
 }
 
 // The steps of the events of the run.
@@ -101,17 +88,17 @@ fn steps_of_the_events<L: Ledger>(
     requires whole { 0 < blank.parts }
 {
     let mut steps = Steps::<L>::new(blank);
-    make_events_anew(rt, alloc, &mut steps)?;
+    make_events(rt, alloc, &mut steps)?;
     Ok(steps.shown())
 }
 
-// The steps that the run counts.
-fn steps_of_the_run(rt: &impl Abort, alloc: Global) -> Result<u64, AllocError> {
-    let told = called(alloc, RUN, &COUNT)?;
-    let (status, steps) = (told.status, told.steps);
-    drop(told);
-    assert_eq!(rt; status, Status::Ok);
-    Ok(steps)
+/// The steps that a run counts.
+pub fn steps_of(rt: &impl Abort, alloc: Global, outside: &Outside<'_>) -> Result<u64, AllocError>
+    requires { 0 < outside.now.most }
+{
+    let told = called(alloc, RUN, outside)?;
+    assert_eq!(rt; told.status, Status::Ok);
+    Ok(told.steps)
 }
 
 #[test]
@@ -119,6 +106,6 @@ fn a_run_counts_the_steps_of_its_events(rt: HostRuntime) -> Result<(), Fail> {
     let alloc = rt.alloc();
     let steps = steps_of_the_events::<Brand>(&rt, alloc, Blank::new(1))?;
     assert_eq!(rt; steps, STEPS);
-    assert_eq!(rt; steps_of_the_run(&rt, alloc)?, steps);
+    assert_eq!(rt; steps_of(&rt, alloc, &COUNT)?, steps);
     Ok(())
 }

@@ -2,7 +2,7 @@
 
 ghost use Rattle.std.specs.Prelude.{◌<◌};
 
-use crate::call::{Outside, called};
+use crate::call::{Outside, called, compare_call};
 use crate::calls::SOUND;
 use crate::sources::{COUNT, RUN, TABLE};
 use marple_base::{FailAt, Which};
@@ -17,42 +17,6 @@ const TRACE_READ: [FailAt; 1] = [FailAt {
     call: 2,
 }];
 
-// Calls the count, which ends with this status, this text and this complaint.
-fn compare_call(
-    rt: &impl Abort,
-    alloc: Global,
-    outside: &Outside<'_>,
-    status: Status,
-    text: &[u8],
-    complaint: &[u8],
-) -> Result<(), AllocError>
-    requires { 0 < outside.now.most }
-{
-    let told = called(alloc, RUN, outside)?;
-    assert_eq!(rt; told.status, status);
-    assert_eq!(rt; told.text.as_slice(), text);
-    assert_eq!(rt; told.complaint.as_slice(), complaint);
-    drop(told);
-    Ok(())
-}
-
-#[test]
-fn an_output_with_place_for_ten_bytes_takes_ten(rt: HostRuntime) -> Result<(), Fail> {
-    let outside = Outside {
-        places: 10,
-        ..COUNT
-    };
-    let complaint = b"marple: cannot write\n";
-    Ok(compare_call(
-        &rt,
-        rt.alloc(),
-        &outside,
-        Status::OutputFault,
-        b"table r li",
-        complaint,
-    )?)
-}
-
 /// The count over packets from 1, 2 and 1, written in pieces of ten bytes.
 const IN_TENS: Outside<'static> = Outside {
     trace: b"srcip\n1\n2\n1\n",
@@ -61,54 +25,65 @@ const IN_TENS: Outside<'static> = Outside {
 };
 
 #[test]
-fn a_second_write_that_fails_leaves_ten_bytes(rt: HostRuntime) -> Result<(), Fail> {
-    let alloc = rt.alloc();
-    let outside = Outside {
-        failing_writes: &[2],
-        ..IN_TENS
-    };
-    let complaint = b"marple: cannot write\n";
-    compare_call(
-        &rt,
-        alloc,
-        &outside,
-        Status::OutputFault,
-        b"table r li",
-        complaint,
-    )?;
-    let outside = Outside {
-        failing: &TRACE_READ,
-        ..IN_TENS
-    };
-    let status = Status::InputFault(Which::Trace);
-    let complaint = b"marple: cannot read the trace\n";
-    Ok(compare_call(&rt, alloc, &outside, status, b"", complaint)?)
-}
-
-// Calls the count, whose trace fails at its first read, with these writes of the complaint failing.
-fn compare_complaint(
-    rt: &impl Abort,
-    alloc: Global,
-    failing_complaints: &[u64],
-    complaint: &[u8],
-) -> Result<(), AllocError> {
-    let outside = Outside {
-        failing: &TRACE_READ,
-        failing_complaints,
-        ..COUNT
-    };
-    let status = Status::InputFault(Which::Trace);
-    compare_call(rt, alloc, &outside, status, b"", complaint)
-}
-
-#[test]
-fn a_trace_that_fails_writes_a_complaint_where_that_can_be_written(
-    rt: HostRuntime,
-) -> Result<(), Fail> {
-    let alloc = rt.alloc();
-    compare_call(&rt, alloc, &COUNT, Status::Ok, TABLE, b"")?;
-    compare_complaint(&rt, alloc, &[], b"marple: cannot read the trace\n")?;
-    compare_complaint(&rt, alloc, &[1], b"")?;
+fn calls_end_with_their_texts_and_complaints(rt: HostRuntime) -> Result<(), Fail> {
+    let unwritten = b"marple: cannot write\n".as_slice();
+    let unread = b"marple: cannot read the trace\n".as_slice();
+    let trace_fault = Status::InputFault(Which::Trace);
+    for (outside, status, text, complaint) in [
+        (COUNT, Status::Ok, TABLE, b"".as_slice()),
+        // an output with place for ten bytes takes ten
+        (
+            Outside {
+                places: 10,
+                ..COUNT
+            },
+            Status::OutputFault,
+            b"table r li".as_slice(),
+            unwritten,
+        ),
+        // a second write that fails leaves ten bytes
+        (
+            Outside {
+                failing_writes: &[2],
+                ..IN_TENS
+            },
+            Status::OutputFault,
+            b"table r li".as_slice(),
+            unwritten,
+        ),
+        // a trace that fails writes a complaint where that can be written
+        (
+            Outside {
+                failing: &TRACE_READ,
+                ..IN_TENS
+            },
+            trace_fault,
+            b"".as_slice(),
+            unread,
+        ),
+        (
+            Outside {
+                failing: &TRACE_READ,
+                ..COUNT
+            },
+            trace_fault,
+            b"".as_slice(),
+            unread,
+        ),
+        (
+            Outside {
+                failing: &TRACE_READ,
+                failing_complaints: &[1],
+                ..COUNT
+            },
+            trace_fault,
+            b"".as_slice(),
+            b"".as_slice(),
+        ),
+    ] {
+        assert!(rt; outside.most > 0);
+        compare_call(&rt, rt.alloc(), RUN, &outside, status, text, complaint)?;
+    }
     Ok(())
 }
 
@@ -138,7 +113,6 @@ fn compare_unopened(
     let told = called(alloc, RUN, &outside)?;
     assert_eq!(rt; told.status, Status::InputFault(Which::Query));
     assert!(rt; told.trace_fails, "at {call}");
-    drop(told);
     Ok(())
 }
 

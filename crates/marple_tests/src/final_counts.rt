@@ -6,10 +6,10 @@
 //! more for each value that is copied before, and a `groupby` the steps of its fold's body. A `top` takes two for the rank of
 //! each row, and four for its two comparisons.
 
-use crate::call::{Outside, called};
-use crate::sources::{COUNT, RUN};
+use crate::call::Outside;
+use crate::count::steps_of;
+use crate::sources::COUNT;
 use marple_base::Text;
-use marple_cli::Status;
 use std::alloc::{AllocError, Global};
 use std::process::Abort;
 use std::test::Fail;
@@ -20,63 +20,48 @@ const GROUPS: &[u8] =
     b"def count([c], []) { c = c + 1; } def total([s], [srcip]) { s = s + srcip; } \
 def sum([n], [c]) { n = n + c; } r = groupby(pktstream, [srcip], count); t = groupby(pktstream, [srcip], total); ";
 
-/// A final that is printed, and the steps that it takes.
-struct Final {
-    text: &'static [u8],
-    steps: u64,
-}
-
-const FINALS: [Final; 5] = [
+/// Finals that are printed, and the steps that they take.
+const FINALS: [(&[u8], u64); 5] = [
     // 1 operation for each row, and two rows of 1 word of the key and 1 value
-    Final {
-        text: b"final f = filter(r, c > 1); print f;",
-        steps: 3 * 1 + 2 * (1 + 1),
-    },
+    (b"final f = filter(r, c > 1); print f;", 3 * 1 + 2 * (1 + 1)),
     // of each row 1 value copied, 1 operation and 1 new value, and then 1 word of the key and 2 values
-    Final {
-        text: b"final f = map(r, [d = c + 1]); print f;",
-        steps: 3 * (1 + 1 + 1 + (1 + 2)),
-    },
+    (
+        b"final f = map(r, [d = c + 1]); print f;",
+        3 * (1 + 1 + 1 + (1 + 2)),
+    ),
     // of each row 1 word of the key, 1 argument, and a run of the body: 1 mask + 3 nodes + 2 for the assignment
-    Final {
-        text: b"final f = groupby(r, [srcip], sum); print f;",
-        steps: 3 * (1 + 1 + (1 + 3 + 2)),
-    },
+    (
+        b"final f = groupby(r, [srcip], sum); print f;",
+        3 * (1 + 1 + (1 + 3 + 2)),
+    ),
     // of each row 2 words of its rank and 4 compared, and one row of 1 word of the key and 1 value
-    Final {
-        text: b"final f = top(r, c, 1); print f;",
-        steps: 3 * (2 + 4) + (1 + 1),
-    },
+    (b"final f = top(r, c, 1); print f;", 3 * (2 + 4) + (1 + 1)),
     // the first row compares 1 word with 1 row and the others with 2 rows each; of each row 1 word of the key compared with
     // that of the row that was found, 2 values copied, and then 1 word of the key and 2 values
-    Final {
-        text: b"final f = join(r, t); print f;",
-        steps: (1 + 2 + 2) + 3 * (1 + 2 + (1 + 2)),
-    },
+    (
+        b"final f = join(r, t); print f;",
+        (1 + 2 + 2) + 3 * (1 + 2 + (1 + 2)),
+    ),
 ];
 
 // The steps of a run of the query that ends in this text after the groupbys.
-fn steps_of(rt: &impl Abort, alloc: Global, ending: &[u8]) -> Result<u64, AllocError> {
+fn steps_with(rt: &impl Abort, alloc: Global, ending: &[u8]) -> Result<u64, AllocError> {
     let mut query = Text::from_slice(alloc, GROUPS)?;
     query.push_slice(ending)?;
     let outside = Outside {
         query: query.as_slice(),
         ..COUNT
     };
-    let told = called(alloc, RUN, &outside)?;
-    let (status, steps) = (told.status, told.steps);
-    drop(told);
-    assert_eq!(rt; status, Status::Ok);
-    Ok(steps)
+    steps_of(rt, alloc, &outside)
 }
 
 #[test]
 fn finals_take_their_steps(rt: HostRuntime) -> Result<(), Fail> {
     let alloc = rt.alloc();
-    let without = steps_of(&rt, alloc, b"print r;")?;
-    for one in &FINALS {
-        let steps = steps_of(&rt, alloc, one.text)?;
-        assert_eq!(rt; steps.saturating_sub(without), one.steps);
+    let without = steps_with(&rt, alloc, b"print r;")?;
+    for (text, counted) in FINALS {
+        let steps = steps_with(&rt, alloc, text)?;
+        assert_eq!(rt; steps.saturating_sub(without), counted);
     }
     Ok(())
 }

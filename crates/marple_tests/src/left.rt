@@ -34,7 +34,6 @@ fn compare_pipeline(rt: &impl Abort, pipeline: &Pipeline<1>) -> Result<(), Alloc
     let tables = pipeline.close()?;
     assert_eq!(rt; tables.len(), 1);
     compare_rows(rt, tables.get(0));
-    drop(tables);
     Ok(())
 }
 
@@ -49,39 +48,32 @@ fn has_pipeline(rt: &impl Abort, driven: &Option<Driven>) -> Result<bool, AllocE
     }
 }
 
-// A run, which prints the table and leaves its pipeline.
-fn make_run(rt: &impl Abort, alloc: Global, driven: &mut Option<Driven>) -> Result<(), AllocError> {
-    let told = called_after(alloc, RUN, &COUNT, driven)?;
-    assert_eq!(rt; told.status, Status::Ok);
-    assert_eq!(rt; told.text.as_slice(), TABLE);
-    drop(told);
-    assert!(rt; has_pipeline(rt, driven)?);
-    Ok(())
-}
-
-// A call whose command line is bad.
-fn make_bad_call(
+// A call, which ends with this status and this text.
+fn make_call(
     rt: &impl Abort,
     alloc: Global,
+    line: &str,
+    status: Status,
+    text: &[u8],
     driven: &mut Option<Driven>,
 ) -> Result<(), AllocError> {
-    let told = called_after(alloc, BAD_RUN, &COUNT, driven)?;
-    assert_eq!(rt; told.status, Status::Usage);
-    assert!(rt; told.text.is_empty());
-    drop(told);
+    let told = called_after(alloc, line, &COUNT, driven)?;
+    assert_eq!(rt; told.status, status);
+    assert_eq!(rt; told.text.as_slice(), text);
     Ok(())
 }
 
-// A bad call before a run, and one after it: each leaves what was there.
+// A bad call before a run, which leaves its pipeline, and one after it: each leaves what was there.
 fn make_calls(
     rt: &impl Abort,
     alloc: Global,
     driven: &mut Option<Driven>,
 ) -> Result<(), AllocError> {
-    make_bad_call(rt, alloc, driven)?;
+    make_call(rt, alloc, BAD_RUN, Status::Usage, b"", driven)?;
     assert!(rt; driven.is_none());
-    make_run(rt, alloc, driven)?;
-    make_bad_call(rt, alloc, driven)?;
+    make_call(rt, alloc, RUN, Status::Ok, TABLE, driven)?;
+    assert!(rt; has_pipeline(rt, driven)?);
+    make_call(rt, alloc, BAD_RUN, Status::Usage, b"", driven)?;
     assert!(rt; has_pipeline(rt, driven)?);
     Ok(())
 }
