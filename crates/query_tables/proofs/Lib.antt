@@ -1,2 +1,3 @@
 mod GroupTables
 mod FinalSteps
+pub mod PrintedTables

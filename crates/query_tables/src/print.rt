@@ -1,8 +1,8 @@
 //! The printed tables.
 
-ghost use Rattle.std.specs.Prelude.{◌≡◌, ◌+◌, ◌++◌, ◌≤◌, ◌<◌, All, List, [], length, map, flat_map, IfOk, IsErrOf, OnErr, OnOk};
+ghost use Rattle.std.specs.Prelude.{◌≡◌, ◌+◌, ◌++◌, ◌≤◌, ◌<◌, All, length, map, flat_map, IfOk, IsErrOf, OnErr, OnOk};
 ghost use Rattle.marple_base.specs.{Faults.Rose, Sink.TakesFront, Pieces.TakesAllBut};
-ghost use Rattle.query_lang.specs.{TypedQueries.{IsValidQuery, AreValidFinals, final_shape, group_shape}, Folds.IsValidFold};
+ghost use Rattle.query_lang.specs.TypedQueries.{IsValidQuery, group_shape};
 ghost use Rattle.query_lang.specs.{Streams.takings, TypedFinals.table_number};
 ghost use Rattle.final_queries.specs.Finals.{IsTable, table_shape, with_finals};
 ghost use Rattle.query_tables.specs.Tables.{printed, table_text_at};
@@ -48,23 +48,6 @@ pub fn table_number(groups: usize, one: PrintOf) -> usize
     }
 }
 
-// Writes the text of the table with this number.
-fn write_table_at<O: Sink>(
-    tables: &Seq<Table>,
-    number: usize,
-    text: &mut TextBuffer,
-    out: &mut O,
-) -> Result<(), WriteError>
-    requires number { number < length tables.now }
-    requires tables { All IsTable tables.now }
-    ensures ok { OnOk result (TakesAllBut (O.taken out.old) (O.taken out.new) text.new (text.old ++ table_text_at tables.now number)) }
-    ensures err { OnErr result (TakesFront (O.taken out.old) (O.taken out.new) (text.old ++ table_text_at tables.now number)) }
-    ensures failed { IsErrOf result WriteError.Failed → Rose (O.faults out.old) (O.faults out.new) }
-    ensures out_later { O.faults out.old ≤ O.faults out.new }
-{
-    write_table(text, tables.get(number), out)
-}
-
 // Writes the texts of the printed tables, in the order of the prints.
 fn write_printed<O: Sink>(
     prints: &[PrintOf],
@@ -84,7 +67,7 @@ fn write_printed<O: Sink>(
     ensures out_later { O.faults out.old ≤ O.faults out.new }
 {
     for one in prints {
-        write_table_at(tables, table_number(groups, *one), text, out)?;
+        write_table(text, tables.get(table_number(groups, *one)), out)?;
     }
     Ok(())
 }
