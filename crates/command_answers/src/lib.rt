@@ -7,7 +7,7 @@ mod operands;
 pub mod pieces;
 mod status;
 
-pub use checked::{query_for_bounds, query_for_net, query_for_plan};
+pub use checked::{Check, query_for};
 pub use complaint::complain;
 pub use operands::{accept_trial, read_plan_text, read_query, read_trace};
 pub use status::Status;

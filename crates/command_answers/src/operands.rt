@@ -15,6 +15,17 @@ use query_lang::{MAX_QUERY, QueryError};
 use std::alloc::{AllocError, Global};
 use trace_reader::MAX_TRACE;
 
+// The bytes of an input, to its end or to one byte more than the limit. Where they can't be read, the function ends in that.
+macro_rules! read {
+    ($alloc:ident, $inputs:ident, $which:ident, $limit:expr) => {
+        match read_input($alloc, $inputs, Which::$which, $limit + 1) {
+            Ok(text) => text,
+            Err(ReadAnswer::Failed) => return Err(Status::InputFault(Which::$which)),
+            Err(ReadAnswer::Memory) => return Err(Status::Memory),
+        }
+    };
+}
+
 /// Reads the query, to its end or to one byte more than the limit, and accepts or refuses it.
 pub fn read_query<I: Inputs>(alloc: Global, inputs: &mut I) -> Result<AcceptedQuery, Status>
     requires { IsClosed (I.input inputs.old Which.Query) }
@@ -27,11 +38,7 @@ pub fn read_query<I: Inputs>(alloc: Global, inputs: &mut I) -> Result<AcceptedQu
     ensures later { (I.input inputs.old Which.Query).faults ≤ (I.input inputs.new Which.Query).faults }
     ensures trace_kept { I.input inputs.new Which.Trace ≡ I.input inputs.old Which.Trace }
 {
-    let text = match read_input(alloc, inputs, Which::Query, MAX_QUERY + 1) {
-        Ok(text) => text,
-        Err(ReadAnswer::Failed) => return Err(Status::InputFault(Which::Query)),
-        Err(ReadAnswer::Memory) => return Err(Status::Memory),
-    };
+    let text = read!(alloc, inputs, Query, MAX_QUERY);
     let query = accept(alloc, text.as_slice())?;
     Ok(query)
 }
@@ -59,11 +66,7 @@ pub fn read_plan_text<I: Inputs>(alloc: Global, inputs: &mut I) -> Result<Loaded
     ensures later { (I.input inputs.old Which.Query).faults ≤ (I.input inputs.new Which.Query).faults }
     ensures trace_kept { I.input inputs.new Which.Trace ≡ I.input inputs.old Which.Trace }
 {
-    let text = match read_input(alloc, inputs, Which::Query, MAX_PLAN + 1) {
-        Ok(text) => text,
-        Err(ReadAnswer::Failed) => return Err(Status::InputFault(Which::Query)),
-        Err(ReadAnswer::Memory) => return Err(Status::Memory),
-    };
+    let text = read!(alloc, inputs, Query, MAX_PLAN);
     let loaded = read_plan(alloc, text.as_slice())?;
     Ok(loaded)
 }
@@ -77,9 +80,6 @@ pub fn read_trace<I: Inputs>(alloc: Global, inputs: &mut I) -> Result<Text, Stat
     ensures later { (I.input inputs.old Which.Trace).faults ≤ (I.input inputs.new Which.Trace).faults }
     ensures query_kept { I.input inputs.new Which.Query ≡ I.input inputs.old Which.Query }
 {
-    match read_input(alloc, inputs, Which::Trace, MAX_TRACE + 1) {
-        Ok(text) => Ok(text),
-        Err(ReadAnswer::Failed) => Err(Status::InputFault(Which::Trace)),
-        Err(ReadAnswer::Memory) => Err(Status::Memory),
-    }
+    let text = read!(alloc, inputs, Trace, MAX_TRACE);
+    Ok(text)
 }

@@ -30,7 +30,7 @@ asked_query command before P told other query is has left read =
 
 module _ {O : Type 0} (taken : O → Option (List ℕ)) (faults : O → ℕ) (before after : Which → Input) (old new : O) where
   -- this holds of each answer to what is asked for
-  abbrev OfAnswers : (Option Command → Status → Type 0) → Type 0
+  abbrev pub OfAnswers : (Option Command → Status → Type 0) → Type 0
   OfAnswers P = (asked : Option Command) (status : Status) → Answers taken faults before after old new asked status → P asked status
 
   -- what is known of the status, where it is this one

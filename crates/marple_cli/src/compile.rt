@@ -3,7 +3,7 @@ ghost use Rattle.std.specs.Prelude.{◌≡◌, ◌≤◌, Some};
 ghost use Rattle.marple_base.specs.Inputs.{IsClosed};
 ghost use Rattle.marple_cli.specs.{Call.LosesWhatIsRead, Ends.{Ends, status_of}};
 
-use command_answers::{Status, query_for_plan};
+use command_answers::{Check, Status, query_for};
 use command_line::Command;
 use marple_base::{Inputs, Sink, Which, write_all};
 use plan_writer::plan_file_text;
@@ -18,7 +18,7 @@ pub fn compile<I: Inputs, O: Sink>(alloc: Global, inputs: &mut I, out: &mut O) -
     ensures query_later { (I.input inputs.old Which.Query).faults ≤ (I.input inputs.new Which.Query).faults }
     ensures out_later { O.faults out.old ≤ O.faults out.new }
 {
-    let query = query_for_plan(alloc, inputs)?;
+    let query = query_for(alloc, inputs, Check::PlanText)?;
     let made = plan_file_text(alloc, &query.typed, &query.plan);
     drop(query);
     let text = made?;

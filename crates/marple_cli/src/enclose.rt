@@ -6,7 +6,7 @@ ghost use Rattle.marple_cli.specs.{Call.LosesWhatIsRead, Ends.{Ends, status_of}}
 
 use crate::reporting::report_over;
 use accepted_query::AcceptedQuery;
-use command_answers::{Status, query_for_bounds};
+use command_answers::{Check, Status, query_for};
 use command_line::{Command, Setting};
 use marple_base::{Inputs, Sink, Steps, Which};
 use query_run::QueryBounds;
@@ -32,7 +32,7 @@ pub fn enclose<I: Inputs, O: Sink, L: Ledger>(
     ensures out_later { O.faults out.old ≤ O.faults out.new }
     ensures steps { steps.old ≤ steps.new }
 {
-    let query = query_for_bounds(alloc, inputs)?;
+    let query = query_for(alloc, inputs, Check::Bounds)?;
     let AcceptedQuery { typed, plan } = query;
     let report = QueryBounds::of(typed);
     let left = report_over(alloc, setting, 0, report, plan, inputs, out, steps)?;

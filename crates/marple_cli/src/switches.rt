@@ -4,7 +4,7 @@ ghost use Rattle.marple_base.specs.Inputs.{IsClosed};
 ghost use Rattle.command_line.specs.Command.{IsNetSetting};
 ghost use Rattle.marple_cli.specs.{Call.LosesWhatIsRead, Ends.{Ends, status_of}};
 
-use command_answers::{Status, query_for_net, read_trace};
+use command_answers::{Check, Status, query_for, read_trace};
 use command_line::{Command, NetSetting};
 use driven_net::net_over_trace;
 use marple_base::{Inputs, Sink, Steps, Which};
@@ -30,7 +30,7 @@ pub fn run_network<I: Inputs, O: Sink, L: Ledger>(
     ensures out_later { O.faults out.old ≤ O.faults out.new }
     ensures steps { steps.old ≤ steps.new }
 {
-    let query = query_for_net(alloc, inputs)?;
+    let query = query_for(alloc, inputs, Check::Switches)?;
     let bytes = match read_trace(alloc, inputs) {
         Ok(bytes) => bytes,
         Err(status) => {

@@ -5,55 +5,56 @@ use Rattle.command_answers.specs.{OwnChecks.fault_with, declared.status.Status.T
 use Rattle.plan_writer.specs.PlanText.{final_fault}
 use Rattle.marple_cli.proofs.{Ending.{all_written, handed_on, query_fits, query_ended, memory_ended, writing_ended}, Texts.compiled_is}
 use Rattle.marple_cli.proofs.Taken.{query_lost}
+use Rattle.marple_cli.specs.Call.{LosesWhatIsRead}
 use Rattle.marple_cli.proofs.compile.compile.Goals as goal
+use Rattle.marple_cli.proofs.compile.compile.Goals.{After-query_for}
 
 pub returns-in_err-query-clause-ends : goal.returns-in_err-query-clause-ends
 returns-in_err-query-clause-ends g c =
-    handed_on g.O.Sink.taken g.O.Sink.faults Compile (g.I.Inputs.input c.args.inputs.now) (g.I.Inputs.input c.query_for_plan.new.inputs)
+    handed_on g.O.Sink.taken g.O.Sink.faults Compile (g.I.Inputs.input c.args.inputs.now) (g.I.Inputs.input c.query_for.new.inputs)
     c.args.out.now c.args.out.now _ _ c.from_residual.ensures.1
     (query_ended _ _ _ _ _ (fault_with final_fault) (λ query. refl) _ refl c.in_err-query.ensures.trace_kept _ c.in_err-query.ensures.err)
 
 pub returns-in_err-text-clause-ends : goal.returns-in_err-text-clause-ends
 returns-in_err-text-clause-ends g c =
-    handed_on g.O.Sink.taken g.O.Sink.faults Compile (g.I.Inputs.input c.args.inputs.now) (g.I.Inputs.input c.query_for_plan.new.inputs)
+    handed_on g.O.Sink.taken g.O.Sink.faults Compile (g.I.Inputs.input c.args.inputs.now) (g.I.Inputs.input c.query_for.new.inputs)
     c.args.out.now c.args.out.now _ _ c.from_residual-in_err-text.ensures.1 (memory_ended _ _ _ _ _ _ c.in_ok-query.ensures.trace_kept)
 
 pub returns-in_err-write_all-clause-ends : goal.returns-in_err-write_all-clause-ends
 returns-in_err-write_all-clause-ends g c =
     let done = c.in_ok-query.ensures in
     let found = c.in_ok-query.query.typed in
-    handed_on g.O.Sink.taken g.O.Sink.faults Compile (g.I.Inputs.input c.args.inputs.now) (g.I.Inputs.input c.query_for_plan.new.inputs)
+    handed_on g.O.Sink.taken g.O.Sink.faults Compile (g.I.Inputs.input c.args.inputs.now) (g.I.Inputs.input c.query_for.new.inputs)
     c.args.out.now c.write_all.new.out _ _ c.from_residual-in_err-write_all.ensures.1
     (writing_ended _ _ _ _ _ _ _ (query_fits Compile final_fault (g.I.Inputs.input c.args.inputs.now) found (λ query. refl) done.ok
-    done.no_final) c.as_slice.result.now (compiled_is (g.I.Inputs.input c.args.inputs.now) found done.ok c.as_slice.result.now done.no_final
+    done.fits) c.as_slice.result.now (compiled_is (g.I.Inputs.input c.args.inputs.now) found done.ok c.as_slice.result.now done.fits
     (c.as_slice.ensures ∙ c.in_ok-text.ensures)) OutputFault (c.in_err-write_all.ensures.cause.failed, c.in_err-write_all.ensures.front))
 
 pub returns-clause-ends : goal.returns-clause-ends
 returns-clause-ends g c =
     let done = c.in_ok-query.ensures in
     let found = c.in_ok-query.query.typed in
-    all_written g.O.Sink.taken g.O.Sink.faults Compile (g.I.Inputs.input c.args.inputs.now) (g.I.Inputs.input c.query_for_plan.new.inputs)
+    all_written g.O.Sink.taken g.O.Sink.faults Compile (g.I.Inputs.input c.args.inputs.now) (g.I.Inputs.input c.query_for.new.inputs)
     c.args.out.now c.write_all.new.out
-    (query_fits Compile final_fault (g.I.Inputs.input c.args.inputs.now) found (λ query. refl) done.ok done.no_final) c.as_slice.result.now
-    (compiled_is (g.I.Inputs.input c.args.inputs.now) found done.ok c.as_slice.result.now done.no_final
+    (query_fits Compile final_fault (g.I.Inputs.input c.args.inputs.now) found (λ query. refl) done.ok done.fits) c.as_slice.result.now
+    (compiled_is (g.I.Inputs.input c.args.inputs.now) found done.ok c.as_slice.result.now done.fits
     (c.as_slice.ensures ∙ c.in_ok-text.ensures)) c.in_ok-write_all.ensures.ok
 
+-- the query alone is read, whatever comes after it
+query_only : (g : _) (c : After-query_for g)
+    → LosesWhatIsRead (Some Compile) (g.I.Inputs.input c.args.inputs.now) (g.I.Inputs.input c.query_for.new.inputs)
+query_only g c =
+    query_lost (Some Compile) (g.I.Inputs.input c.args.inputs.now) (g.I.Inputs.input c.query_for.new.inputs) c.query_for.ensures.lost
+    c.query_for.ensures.trace_kept
+
 pub returns-in_err-query-clause-lost : goal.returns-in_err-query-clause-lost
-returns-in_err-query-clause-lost g c =
-    query_lost (Some Compile) (g.I.Inputs.input c.args.inputs.now) (g.I.Inputs.input c.query_for_plan.new.inputs)
-    c.query_for_plan.ensures.lost c.query_for_plan.ensures.trace_kept
+returns-in_err-query-clause-lost g c = query_only g (goal.at.returns-in_err-query-clause-lost g c).After-query_for
 
 pub returns-in_err-text-clause-lost : goal.returns-in_err-text-clause-lost
-returns-in_err-text-clause-lost g c =
-    query_lost (Some Compile) (g.I.Inputs.input c.args.inputs.now) (g.I.Inputs.input c.query_for_plan.new.inputs)
-    c.query_for_plan.ensures.lost c.query_for_plan.ensures.trace_kept
+returns-in_err-text-clause-lost g c = query_only g (goal.at.returns-in_err-text-clause-lost g c).After-query_for
 
 pub returns-in_err-write_all-clause-lost : goal.returns-in_err-write_all-clause-lost
-returns-in_err-write_all-clause-lost g c =
-    query_lost (Some Compile) (g.I.Inputs.input c.args.inputs.now) (g.I.Inputs.input c.query_for_plan.new.inputs)
-    c.query_for_plan.ensures.lost c.query_for_plan.ensures.trace_kept
+returns-in_err-write_all-clause-lost g c = query_only g (goal.at.returns-in_err-write_all-clause-lost g c).After-query_for
 
 pub returns-clause-lost : goal.returns-clause-lost
-returns-clause-lost g c =
-    query_lost (Some Compile) (g.I.Inputs.input c.args.inputs.now) (g.I.Inputs.input c.query_for_plan.new.inputs)
-    c.query_for_plan.ensures.lost c.query_for_plan.ensures.trace_kept
+returns-clause-lost g c = query_only g (goal.at.returns-clause-lost g c).After-query_for

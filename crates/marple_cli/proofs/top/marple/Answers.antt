@@ -1,67 +1,64 @@
 -- each clause is what the table of statuses says of the answer
-use Rattle.marple_cli.{specs.Call.asked_by, proofs.Clauses.{fault_of_trace, input_fault, no_operand, not_reached, output_fault}}
+use Rattle.std.proofs.Common.{Option}
+use Rattle.command_line.specs.declared.command.Command.{Command}
+use Rattle.command_answers.specs.declared.status.Status.{Status}
+use Rattle.marple_cli.{specs.Call.asked_by, proofs.Clauses.{OfAnswers, fault_of_trace, input_fault, no_operand, not_reached, output_fault}}
 use Rattle.marple_cli.proofs.Clauses.{query_refused, refuses_query, trace_refused, usage}
 use Rattle.marple_cli.proofs.top.marple.Goals as goal
+use Rattle.marple_cli.proofs.top.marple.Goals.{After-answer-status}
+
+-- what holds of each answer to what is asked for holds of this one
+said : (g : _) (c : After-answer-status g) (P : Option Command → Status → Type 0)
+    → OfAnswers g.O.Sink.taken g.O.Sink.faults (g.I.Inputs.input c.args.inputs.now) (g.I.Inputs.input c.answer-status.new.inputs)
+    c.args.out.now c.answer-status.new.out P → P (asked_by c.args.words.now) c.answer-status.result
+said g c P of_all = of_all (asked_by c.args.words.now) c.answer-status.result c.answer-status.ensures.answers
 
 pub returns-clause-usage : goal.returns-clause-usage
-returns-clause-usage g c =
-    usage g.O.Sink.taken g.O.Sink.faults (g.I.Inputs.input c.args.inputs.now) (g.I.Inputs.input c.answer-status.new.inputs)
-    c.args.out.now c.answer-status.new.out (asked_by c.args.words.now) c.answer-status.result c.answer-status.ensures.answers
+returns-clause-usage g c = said g (goal.at.returns-clause-usage g c).After-answer-status _ (usage g.O.Sink.taken g.O.Sink.faults _ _ _ _)
 
 pub returns-clause-input_fault : goal.returns-clause-input_fault
 returns-clause-input_fault g c =
-    input_fault g.O.Sink.taken g.O.Sink.faults (g.I.Inputs.input c.args.inputs.now) (g.I.Inputs.input c.answer-status.new.inputs)
-    c.args.out.now c.answer-status.new.out (asked_by c.args.words.now) c.answer-status.result c.answer-status.ensures.answers
+    said g (goal.at.returns-clause-input_fault g c).After-answer-status _ (input_fault g.O.Sink.taken g.O.Sink.faults _ _ _ _)
 
 pub returns-clause-trace_fault : goal.returns-clause-trace_fault
 returns-clause-trace_fault g c =
-    fault_of_trace g.O.Sink.taken g.O.Sink.faults (g.I.Inputs.input c.args.inputs.now) (g.I.Inputs.input c.answer-status.new.inputs)
-    c.args.out.now c.answer-status.new.out (asked_by c.args.words.now) c.answer-status.result c.answer-status.ensures.answers
+    said g (goal.at.returns-clause-trace_fault g c).After-answer-status _ (fault_of_trace g.O.Sink.taken g.O.Sink.faults _ _ _ _)
 
 pub returns-clause-output_fault : goal.returns-clause-output_fault
 returns-clause-output_fault g c =
-    output_fault g.O.Sink.taken g.O.Sink.faults (g.I.Inputs.input c.args.inputs.now) (g.I.Inputs.input c.answer-status.new.inputs)
-    c.args.out.now c.answer-status.new.out (asked_by c.args.words.now) c.answer-status.result c.answer-status.ensures.answers
+    said g (goal.at.returns-clause-output_fault g c).After-answer-status _ (output_fault g.O.Sink.taken g.O.Sink.faults _ _ _ _)
 
 pub returns-clause-query_refused : goal.returns-clause-query_refused
 returns-clause-query_refused g c =
-    query_refused g.O.Sink.taken g.O.Sink.faults (g.I.Inputs.input c.args.inputs.now) (g.I.Inputs.input c.answer-status.new.inputs)
-    c.args.out.now c.answer-status.new.out (asked_by c.args.words.now) c.answer-status.result c.answer-status.ensures.answers
+    said g (goal.at.returns-clause-query_refused g c).After-answer-status _ (query_refused g.O.Sink.taken g.O.Sink.faults _ _ _ _)
 
 pub returns-clause-trace_refused : goal.returns-clause-trace_refused
 returns-clause-trace_refused g c =
-    trace_refused g.O.Sink.taken g.O.Sink.faults (g.I.Inputs.input c.args.inputs.now) (g.I.Inputs.input c.answer-status.new.inputs)
-    c.args.out.now c.answer-status.new.out (asked_by c.args.words.now) c.answer-status.result c.answer-status.ensures.answers
+    said g (goal.at.returns-clause-trace_refused g c).After-answer-status _ (trace_refused g.O.Sink.taken g.O.Sink.faults _ _ _ _)
 
 pub returns-clause-no_operand : goal.returns-clause-no_operand
 returns-clause-no_operand g c =
-    no_operand g.O.Sink.taken g.O.Sink.faults (g.I.Inputs.input c.args.inputs.now) (g.I.Inputs.input c.answer-status.new.inputs)
-    c.args.out.now c.answer-status.new.out (asked_by c.args.words.now) c.answer-status.result c.answer-status.ensures.answers
+    said g (goal.at.returns-clause-no_operand g c).After-answer-status _ (no_operand g.O.Sink.taken g.O.Sink.faults _ _ _ _)
 
 pub returns-clause-untouched : goal.returns-clause-untouched
 returns-clause-untouched g c =
-    (not_reached g.O.Sink.taken g.O.Sink.faults (g.I.Inputs.input c.args.inputs.now) (g.I.Inputs.input c.answer-status.new.inputs)
-    c.args.out.now c.answer-status.new.out (asked_by c.args.words.now) c.answer-status.result c.answer-status.ensures.answers).0
+    (said g (goal.at.returns-clause-untouched g c).After-answer-status _ (not_reached g.O.Sink.taken g.O.Sink.faults _ _ _ _)).0
 
 pub returns-clause-not_reached : goal.returns-clause-not_reached
 returns-clause-not_reached g c =
-    (not_reached g.O.Sink.taken g.O.Sink.faults (g.I.Inputs.input c.args.inputs.now) (g.I.Inputs.input c.answer-status.new.inputs)
-    c.args.out.now c.answer-status.new.out (asked_by c.args.words.now) c.answer-status.result c.answer-status.ensures.answers).1
+    (said g (goal.at.returns-clause-not_reached g c).After-answer-status _ (not_reached g.O.Sink.taken g.O.Sink.faults _ _ _ _)).1
 
 pub returns-clause-refuses_query : goal.returns-clause-refuses_query
 returns-clause-refuses_query g c fault command query is has left read some =
-    (refuses_query g.O.Sink.taken g.O.Sink.faults (g.I.Inputs.input c.args.inputs.now) (g.I.Inputs.input c.answer-status.new.inputs)
-    c.args.out.now c.answer-status.new.out (asked_by c.args.words.now) c.answer-status.result c.answer-status.ensures.answers
+    (said g (goal.at.returns-clause-refuses_query g c).After-answer-status _ (refuses_query g.O.Sink.taken g.O.Sink.faults _ _ _ _)
     fault command query is has left read some).0
 
 pub returns-clause-memory_query : goal.returns-clause-memory_query
 returns-clause-memory_query g c fault memory command query is has left read some =
-    (refuses_query g.O.Sink.taken g.O.Sink.faults (g.I.Inputs.input c.args.inputs.now) (g.I.Inputs.input c.answer-status.new.inputs)
-    c.args.out.now c.answer-status.new.out (asked_by c.args.words.now) c.answer-status.result c.answer-status.ensures.answers
+    (said g (goal.at.returns-clause-memory_query g c).After-answer-status _ (refuses_query g.O.Sink.taken g.O.Sink.faults _ _ _ _)
     fault command query is has left read some).1
 
 pub returns-clause-query_first : goal.returns-clause-query_first
 returns-clause-query_first g c fault command query is has left read some =
-    (refuses_query g.O.Sink.taken g.O.Sink.faults (g.I.Inputs.input c.args.inputs.now) (g.I.Inputs.input c.answer-status.new.inputs)
-    c.args.out.now c.answer-status.new.out (asked_by c.args.words.now) c.answer-status.result c.answer-status.ensures.answers
+    (said g (goal.at.returns-clause-query_first g c).After-answer-status _ (refuses_query g.O.Sink.taken g.O.Sink.faults _ _ _ _)
     fault command query is has left read some).2
