@@ -3,7 +3,7 @@ use Rattle.marple_laws.proofs.Words.{◌≡◌, ℕ, zero, suc, ◌+◌, ◌-◌
 use Rattle.marple_laws.proofs.Words.{None, Option, refl, sym, ap, subst, ◌∙◌, inl, inr, arith, option_map, unwrap_or, if◌then◌else◌}
 use Rattle.marple_laws.proofs.Words.{range_with_len, length-take-le, length-map, slice_get_within, slice_get_cases, slice_get-map}
 use Rattle.marple_laws.proofs.Words.{get_or_from_slice_get, same_Some, FIELDS, TypedFold, TypedOp, TypedQuery, TypedStream, IsValidFold}
-use Rattle.marple_laws.proofs.Words.{fold_states, Taking, takings, IsValidQuery, least_from, IsProgramOf, GroupPlan, Operand, Register}
+use Rattle.marple_laws.proofs.Words.{fold_states, Taking, takings, IsValidQuery, IsProgramOf, GroupPlan, Operand, Register}
 use Rattle.marple_laws.proofs.Words.{Number, PlanOp, FieldSource, reads_of, all_sources, sources_at, named_input, named_slots, moved}
 use Rattle.marple_laws.proofs.Words.{moved_op, op_numbered, wiring_of, IsPlanOf, fold_at, query_made, operand_stage, stages_of, GroupShape}
 use Rattle.marple_laws.proofs.Words.{group_shape, query_groups, PlanParts, IsWithin, IsSoundOp, AreSoundOps, IsSoundGroup, IsSoundPlan}
@@ -15,7 +15,7 @@ use Rattle.stage_plan.{specs.Making.{operand_at, wires_at}, proofs.Groupings.dep
 use Rattle.marple_laws.proofs.{Fields.{operand_known, operand_fits, operand_readable, operands_readable}, Groups.HasGroup, Listed.in_set}
 use Rattle.marple_laws.proofs.Known.{AreFrom, AreRead, AllGood, IsWritable, column_good, read_left, read_right, writable_at}
 use Rattle.marple_laws.proofs.KnownStreams.{AreFit, AreNamed, AllAreGood, named_from, query_good}
-use Rattle.marple_laws.proofs.{Moved.{AreAfterFields, moved_good, moved_writable}, OpLines.IsOpOk}
+use Rattle.marple_laws.proofs.{GroupSizes.depth_below, Moved.{AreAfterFields, moved_good, moved_writable}, OpLines.IsOpOk}
 
 -- a prefix of a list
 
@@ -54,14 +54,6 @@ last_before ops (suc j) one sound e =
           omega (arith, last, sound.ordered j (suc j) found.0 one (omega arith) found.2 e)
       | inr past ↦ (let p = past.0 in absurd (omega (arith, within)))
     ]
-
-depth_below : (f : TypedFold) (tries d : ℕ) → least_from f tries d ≤ tries + d
-depth_below f zero d = omega arith
-depth_below f (suc tries) d = by _ (depth_below f _ _)
-  where
-    by : (b : Bool) → least_from f tries (suc d) ≤ tries + suc d → (if b then d else least_from f tries (suc d)) ≤ suc tries + d
-    by true h = omega arith
-    by false h = omega arith
 
 module _ (q : TypedQuery) (p : PlanParts) (valid : IsValidQuery q) (text : HasPlanText q) (plan : IsPlanOf q p) (sound : IsSoundPlan p)
   where

@@ -69,25 +69,17 @@ slot_read states s small = by _
     by true = state_lexeme s small
     by false = argument_digits _ _ (decimal_is_IsNumeral (s - states) less).0.1 (number_decimal _ less)
 
-set_lexeme : lexeme_of (codes "set") ≡ word.Set
-unfolding lexeme_of
-set_lexeme = refl
+-- the lexemes of the words that are the same in all bodies
+record FixedLexemes : Type 0 where
+  set : lexeme_of (codes "set") ≡ word.Set
+  if_word : lexeme_of (codes "if") ≡ word.If
+  opening : lexeme_of (codes "{") ≡ word.Open
+  closing : lexeme_of (codes "}") ≡ word.Close
+  not : lexeme_of (codes "not") ≡ word.Not
 
-if_lexeme : lexeme_of (codes "if") ≡ word.If
+fixed : FixedLexemes
 unfolding lexeme_of
-if_lexeme = refl
-
-open_lexeme : lexeme_of (codes "{") ≡ word.Open
-unfolding lexeme_of
-open_lexeme = refl
-
-close_lexeme : lexeme_of (codes "}") ≡ word.Close
-unfolding lexeme_of
-close_lexeme = refl
-
-not_lexeme : lexeme_of (codes "not") ≡ word.Not
-unfolding lexeme_of
-not_lexeme = refl
+fixed = record { set = refl; if_word = refl; opening = refl; closing = refl; not = refl }
 
 -- this many slots have numbers that fit a word
 abbrev pub AreFew : ℕ → Type 0
@@ -97,7 +89,7 @@ pub term_read : (states slots : ℕ) (e : Term) → AreFew slots → IsValidTerm
 term_read states slots (Literal n) few v = ap (λ w. w ∷ []) (number_lexeme n v)
 term_read states slots (Read s) few v = ap (λ w. w ∷ []) (slot_read states s (omega (arith, few, v)))
 term_read states slots (Negation e) few v =
-    ap (λ w. w ∷ map lexeme_of (term_words states e)) not_lexeme ∙ ap (λ l. word.Not ∷ l) (term_read states slots e few v.0)
+    ap (λ w. w ∷ map lexeme_of (term_words states e)) fixed.not ∙ ap (λ l. word.Not ∷ l) (term_read states slots e few v.0)
 term_read states slots (Operation op a b) few v =
     ap (λ w. w ∷ map lexeme_of (term_words states a ++ term_words states b)) (function_lexeme op)
     ∙ ap (λ l. word.Function op ∷ l) (map-append lexeme_of (term_words states a) (term_words states b)
@@ -109,7 +101,7 @@ pub block_read : (states args : ℕ) (body : Block) → AreFew (states + args) �
 block_read states args End few v = refl
 block_read states args (Set s e next) few v =
     let small : s < 2 ^ 64 = omega (arith, v.0, few) in
-    ap (λ w. w ∷ lexeme_of (state_word s) ∷ map lexeme_of (term_words states e ++ block_words states next)) set_lexeme
+    ap (λ w. w ∷ lexeme_of (state_word s) ∷ map lexeme_of (term_words states e ++ block_words states next)) fixed.set
     ∙ ap (λ w. word.Set ∷ w ∷ map lexeme_of (term_words states e ++ block_words states next)) (state_lexeme s small)
     ∙ ap (λ l. word.Set ∷ word.State s ∷ l) (map-append lexeme_of (term_words states e) (block_words states next)
     ∙ ap (λ l. l ++ map lexeme_of (block_words states next)) (term_read states (states + args) e few v.1)
@@ -120,10 +112,10 @@ block_read states args (Fork c a b next) few v =
     let z = block_words states b in
     let n = block_words states next in
     pieces (codes "if") (codes "{") (codes "}") x y z n
-    ∙ (λ k. if_lexeme k ∷ (term_read states (states + args) c few v.0 k
-    ++ (open_lexeme k ∷ (block_read states args a few v.2 k
-    ++ (close_lexeme k ∷ open_lexeme k ∷ (block_read states args b few v.3 k
-    ++ (close_lexeme k ∷ block_read states args next few v.4 k)))))))
+    ∙ (λ k. fixed.if_word k ∷ (term_read states (states + args) c few v.0 k
+    ++ (fixed.opening k ∷ (block_read states args a few v.2 k
+    ++ (fixed.closing k ∷ fixed.opening k ∷ (block_read states args b few v.3 k
+    ++ (fixed.closing k ∷ block_read states args next few v.4 k)))))))
   where
     pieces : (i o e : List ℕ) (x y z n : List (List ℕ)) → map lexeme_of (i ∷ (x ++ (o ∷ (y ++ (e ∷ o ∷ (z ++ (e ∷ n))))))) ≡ lexeme_of i
         ∷ (map lexeme_of x ++ (lexeme_of o ∷ (map lexeme_of y ++ (lexeme_of e ∷ lexeme_of o

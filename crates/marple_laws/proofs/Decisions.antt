@@ -29,6 +29,11 @@ pub by_both : {A B : Type 0} → (A → B) → (B → A) → Decided A → Decid
 by_both to back (inl a) = inl (to a)
 by_both to back (inr a) = inr (λ b. a (back b))
 
+-- what needs something that is decided is decided by what it says of that
+pub from_found : {A B : Type 0} → (B → A) → ((a : A) → Decided B) → Decided A → Decided B
+from_found need by (inl a) = by a
+from_found need by (inr none) = inr (λ b. none (need b))
+
 pub less : (m n : ℕ) → Decided (m < n)
 less m n = elim (cases_lt m n) [ inl lt ↦ inl lt | inr le ↦ inr (λ lt. omega arith) ]
 
@@ -94,13 +99,20 @@ pub three_tokens : (ts : List (List ℕ)) → Decided ((a : List ℕ) × (b : Li
 three_tokens (a ∷ b ∷ c ∷ []) = inl (a, b, c, refl)
 three_tokens _ = inr (λ p. (let e = p.3 in cc))
 
--- the value of an option
-pub value_of : {A : Type 0} (o : Option A) → ((a : A) × (o ≡ Some a)) ⊎ (o ≡ None)
-value_of None = inr refl
-value_of (Some a) = inl (a, refl)
+-- the tokens of a line are the same, however they are found
+pub two_same : {ts : List (List ℕ)} {a b x y : List ℕ} → ts ≡ a ∷ b ∷ [] → ts ≡ x ∷ y ∷ [] → (a ≡ x) × (b ≡ y)
+two_same e f = ((cc), (cc))
+
+pub three_same : {ts : List (List ℕ)} {a b c x y z : List ℕ} → ts ≡ a ∷ b ∷ c ∷ [] → ts ≡ x ∷ y ∷ z ∷ [] → (a ≡ x) × (b ≡ y) × (c ≡ z)
+three_same e f = ((cc), (cc), (cc))
 
 pub none_some : {A : Type 0} (o : Option A) (a : A) → o ≡ None → o ≡ Some a → ⊥
 none_some o a e f = cc
 
 pub some_same : {A : Type 0} (o : Option A) (a b : A) → o ≡ Some a → o ≡ Some b → a ≡ b
 some_same o a b e f = cc
+
+-- what needs the value of an option is decided by what it says of the value
+pub from_value : {A B : Type 0} (o : Option A) → (B → (a : A) × (o ≡ Some a)) → ((a : A) → o ≡ Some a → Decided B) → Decided B
+from_value None need by = inr (λ b. none_some None (need b).0 refl (need b).1)
+from_value (Some a) need by = by a refl

@@ -1,41 +1,30 @@
 -- The lines of a group, decided.
-use Rattle.marple_laws.proofs.Words.{◌≡◌, ℕ, ◌≤◌, List, [], ◌∷◌, ◌++◌, length, map, Some, None, refl, sym, ap, ◌∙◌, subst, inl, inr, codes}
+use Rattle.marple_laws.proofs.Words.{◌≡◌, ℕ, ◌≤◌, List, [], ◌∷◌, ◌++◌, length, map, Some, refl, sym, ap, ◌∙◌, subst, inl, inr, codes}
 use Rattle.marple_laws.proofs.Words.{unwrap_or, length-replicate, Field, Block, TypedFold, Class, Linear, block_count, block_nodes}
 use Rattle.marple_laws.proofs.Words.{fold_block, MAX_ARGS, MAX_GROUPBYS, MAX_KEYS, MAX_NODES, MAX_STATEMENTS, MAX_STATES, IsDepth, depth_of}
 use Rattle.marple_laws.proofs.Words.{class_of, depth_found_is, Operand, PlanOp, class_word, Lexeme, LineWord, Folded, Group, IsBody}
 use Rattle.marple_laws.proofs.Words.{IsBodyLine, AreBounds, IsFoldLine, IsFoldOf, IsFoldWords, lexeme_of, number, tokens, IsNamedNumber}
 use Rattle.marple_laws.proofs.Words.{IsNamedOperand, IsOneOperand, words_once, fold_in, block_written, bodies, stmts_same}
-use Rattle.std.specs.Prelude.{◌⊎◌, Contains}
+use Rattle.std.specs.Prelude.{Contains}
 use Rattle.plan_file.specs.declared.line_word.LineWord.TheVariants as words
 use Rattle.plan_file.specs.Groups.{IsArgLine, IsGroupBody, IsGroupLine, IsInGroup, IsKeyLine, IsNewIn, IsStateLine, group_with, names_of}
 use Rattle.plan_loader.proofs.Folds.{blocks, classes, depths}
-use Rattle.marple_laws.proofs.{BodyDecisions.is_body, Decisions.{Decided, both, by_both, contains, is_empty, is_none, less, most, neither}}
-use Rattle.marple_laws.proofs.Decisions.{none_some, same_number, same_text, some_same, value_of}
+use Rattle.marple_laws.proofs.{BodyDecisions.is_body, Decisions.{Decided, both, by_both, contains, from_found, from_value, is_empty}}
+use Rattle.marple_laws.proofs.Decisions.{is_none, less, most, neither, same_number, same_text, some_same, three_same}
 use Rattle.marple_laws.proofs.PartDecisions.{named_number, named_operand, one_operand}
-
-operand_name : (fs gs : List Field) (o : List PlanOp) (w line n m : List ℕ) (u v : Operand) → IsNamedOperand fs o w line n u
-    → IsNamedOperand gs o w line m v → n ≡ m
-operand_name fs gs o w line n m u v p q =
-    let words : w ∷ n ∷ p.token ∷ [] ≡ w ∷ m ∷ q.token ∷ [] = sym p.words ∙ q.words in
-    cc
-
-number_name : (w line n m : List ℕ) (u v : ℕ) → IsNamedNumber w line n u → IsNamedNumber w line m v → n ≡ m
-number_name w line n m u v p q =
-    let words : w ∷ n ∷ p.token ∷ [] ≡ w ∷ m ∷ q.token ∷ [] = sym p.words ∙ q.words in
-    cc
 
 pub group_line : (fs : List Field) (ops : List PlanOp) (groups : List Folded) (line : List ℕ)
     → Decided ((after : Group) × IsGroupLine fs ops groups line after)
-group_line fs ops groups line = by (named_operand _ _ (codes "group") _)
+group_line fs ops groups line =
+    from_found (λ p. (p.0.name, p.0.present, p.1.valid)) (λ f. of_name f.0 f.1 f.2) (named_operand _ _ (codes "group") _)
   where
-    by : Decided ((name : List ℕ) × (v : Operand) × IsNamedOperand fs ops (codes "group") line name v)
+    of_name : (n : List ℕ) (v : Operand) → IsNamedOperand fs ops (codes "group") line n v
         → Decided ((after : Group) × IsGroupLine fs ops groups line after)
-    by (inr none) = inr (λ p. none (p.0.name, p.0.present, p.1.valid))
-    by (inl (n, v, valid)) =
+    of_name n v valid =
         by_both
         (λ q. (group_with n v, record { room = q.0; valid = valid; no_stream = q.1.0; new = q.1.1; made = refl }))
         (λ p.
-        let same : p.0.name ≡ n = operand_name _ _ _ (codes "group") _ _ n _ v p.1.valid valid in
+        let same : p.0.name ≡ n = (three_same p.1.valid.words valid.words).1 in
         (p.1.room, (λ e. p.1.no_stream (same ∙ e), λ there. p.1.new (subst (Contains (names_of groups)) (sym same) there))))
         (both (less (length groups) MAX_GROUPBYS) (both (neither (same_text n (codes "pktstream")))
         (neither (contains same_text (names_of groups) n))))
@@ -47,12 +36,12 @@ new_in group name =
 
 key_line : (fs : List Field) (ops : List PlanOp) (before : Group) (line : List ℕ)
     → Decided ((after : Group) × IsKeyLine fs ops before line after)
-key_line fs ops before line = by (named_operand _ _ (codes "key") _)
+key_line fs ops before line =
+    from_found (λ p. (p.1.name, p.1.value, p.1.valid)) (λ f. of_name f.0 f.1 f.2) (named_operand _ _ (codes "key") _)
   where
-    by : Decided ((name : List ℕ) × (v : Operand) × IsNamedOperand fs ops (codes "key") line name v)
+    of_name : (n : List ℕ) (v : Operand) → IsNamedOperand fs ops (codes "key") line n v
         → Decided ((after : Group) × IsKeyLine fs ops before line after)
-    by (inr none) = inr (λ p. none (p.1.name, p.1.value, p.1.valid))
-    by (inl (n, v, valid)) =
+    of_name n v valid =
         by_both
         (λ q. (
           record before { key_names = before.key_names ++ n ∷ []; keys = before.keys ++ v ∷ [] },
@@ -69,49 +58,40 @@ key_line fs ops before line = by (named_operand _ _ (codes "key") _)
           },
         ))
         (λ p.
-        let same : p.1.name ≡ n = operand_name _ _ _ (codes "key") _ _ n _ v p.1.valid valid in
+        let same = (three_same p.1.valid.words valid.words).1 in
         ((p.1.args, p.1.states), (p.1.body, (p.1.room, subst (IsNewIn before) same p.1.new))))
         (both (both (is_empty before.args) (is_empty before.state_names))
         (both (is_none _) (both (less (length before.keys) MAX_KEYS) (new_in _ n))))
 
 arg_line : (fs : List Field) (ops : List PlanOp) (before : Group) (line : List ℕ)
     → Decided ((after : Group) × IsArgLine fs ops before line after)
-arg_line fs ops before line = by (one_operand _ _ (codes "arg") _)
+arg_line fs ops before line =
+    from_found (λ p. (p.1.value, p.1.valid)) (λ f. of_value f.0 f.1) (one_operand _ _ (codes "arg") _)
   where
-    by : Decided ((v : Operand) × IsOneOperand fs ops (codes "arg") line v) → Decided ((after : Group) × IsArgLine fs ops before line after)
-    by (inr none) = inr (λ p. none (p.1.value, p.1.valid))
-    by (inl (v, valid)) =
+    of_value : (v : Operand) → IsOneOperand fs ops (codes "arg") line v → Decided ((after : Group) × IsArgLine fs ops before line after)
+    of_value v valid =
         by_both
         (λ q. (
           record before { args = before.args ++ v ∷ [] },
-          record {
-            keys = q.0.0;
-            states = q.0.1;
-            body = q.1.0;
-            room = q.1.1;
-            value = v;
-            valid = valid;
-            made = refl;
-          },
+          record { keys = q.0.0; states = q.0.1; body = q.1.0; room = q.1.1; value = v; valid = valid; made = refl },
         ))
         (λ p. ((p.1.keys, p.1.states), (p.1.body, p.1.room)))
         (both (both (less 0 (length before.keys)) (is_empty before.state_names))
         (both (is_none _) (less (length before.args) MAX_ARGS)))
 
 state_line : (before : Group) (line : List ℕ) → Decided ((after : Group) × IsStateLine before line after)
-state_line before line = by (named_number (codes "state") _)
+state_line before line =
+    from_found (λ p. (p.1.name, p.1.value, p.1.valid)) (λ f. of_name f.0 f.1 f.2) (named_number (codes "state") _)
   where
-    by : Decided ((name : List ℕ) × (v : ℕ) × IsNamedNumber (codes "state") line name v)
-        → Decided ((after : Group) × IsStateLine before line after)
-    by (inr none) = inr (λ p. none (p.1.name, p.1.value, p.1.valid))
-    by (inl (n, v, valid)) =
+    of_name : (n : List ℕ) (v : ℕ) → IsNamedNumber (codes "state") line n v → Decided ((after : Group) × IsStateLine before line after)
+    of_name n v valid =
         by_both
         (λ q. (
           record before { state_names = before.state_names ++ n ∷ []; initial = before.initial ++ v ∷ [] },
           record { keys = q.0.0; body = q.0.1; room = q.1.0; name = n; value = v; valid = valid; new = q.1.1; made = refl },
         ))
         (λ p.
-        let same : p.1.name ≡ n = number_name (codes "state") _ _ n _ v p.1.valid valid in
+        let same = (three_same p.1.valid.words valid.words).1 in
         ((p.1.keys, p.1.body), (p.1.room, subst (IsNewIn before) same p.1.new)))
         (both (both (less 0 (length before.keys)) (is_none _)) (both (less (length before.initial) MAX_STATES) (new_in _ n)))
 
@@ -170,22 +150,12 @@ abbrev FoldWords : List ℕ → Type 0
 FoldWords line = (class : Class) × (depth : ℕ) × (nodes : ℕ) × (statements : ℕ) × IsFoldWords line class depth nodes statements
 
 number_of : (token : List ℕ) → Decided ((n : ℕ) × (number token ≡ Some n))
-number_of token = by (value_of (number token))
-  where
-    by : ((n : ℕ) × (number token ≡ Some n)) ⊎ (number token ≡ None) → Decided ((n : ℕ) × (number token ≡ Some n))
-    by (inl found) = inl found
-    by (inr none) = inr (λ p. none_some (number token) p.0 none p.1)
+number_of token = from_value (number token) (λ p. p) (λ n is. inl (n, is))
 
 fold_words : (line : List ℕ) → Decided (FoldWords line)
 fold_words line = by (tokens line) refl
   where
     by : (ts : List (List ℕ)) → tokens line ≡ ts → Decided (FoldWords line)
-    by [] e = inr (λ p. (let w = p.4.words in cc))
-    by (a ∷ []) e = inr (λ p. (let w = p.4.words in cc))
-    by (a ∷ c ∷ []) e = inr (λ p. (let w = p.4.words in cc))
-    by (a ∷ c ∷ d ∷ []) e = inr (λ p. (let w = p.4.words in cc))
-    by (a ∷ c ∷ d ∷ n ∷ []) e = inr (λ p. (let w = p.4.words in cc))
-    by (a ∷ c ∷ d ∷ n ∷ s ∷ x ∷ ts) e = inr (λ p. (let w = p.4.words in cc))
     by (a ∷ c ∷ d ∷ n ∷ s ∷ []) e =
         by_both
         (λ q. (
@@ -218,6 +188,7 @@ fold_words line = by (tokens line) refl
           ),
         ))
         (both (both (same_text a (codes "fold")) (class_named c)) (both (number_of d) (both (number_of n) (number_of s))))
+    by _ e = inr (λ p. (let w = p.4.words in cc))
 
 bounds : (f : TypedFold) (nodes statements : ℕ) → Decided (AreBounds f nodes statements)
 bounds f nodes statements =
@@ -287,21 +258,15 @@ ended before line class depth nodes statements valid ws b has is =
     (both (same_class class (class_of f)) (both (same_number depth (depth_of f)) (bounds f nodes statements)))
 
 pub fold_line : (before : Group) (line : List ℕ) → Decided ((after : Folded) × IsFoldLine before line after)
-fold_line before line = by (fold_words _) (value_of before.body)
+fold_line before line =
+    from_found (λ p. (p.0.class, p.0.depth, p.0.nodes, p.0.statements, p.1.valid)) (λ said.
+    from_value before.body (λ p. (p.1.is_fold.words, p.1.is_fold.has_body)) (λ ws has.
+    from_found (λ p. (fold_block p.1.fold, body_of ws has p.0 p.1))
+    (λ found. ended before line said.0 said.1 said.2 said.3 said.4 ws found.0 has found.1)
+    (is_body (length before.initial) (length before.args) ws))) (fold_words line)
   where
-    with_body : FoldWords line → (ws : List Lexeme) → before.body ≡ Some ws
-        → Decided ((b : Block) × IsBody (length before.initial) (length before.args) ws b)
-        → Decided ((after : Folded) × IsFoldLine before line after)
-    with_body (class, depth, nodes, statements, valid) ws has (inl (b, is)) =
-        ended before line class depth nodes statements valid ws b has is
-    with_body said ws has (inr none) = inr (λ p. none (
-      fold_block p.1.fold,
-      subst (λ w. IsBody (length before.initial) (length before.args) w (fold_block p.1.fold))
-          (some_same before.body p.1.is_fold.words ws p.1.is_fold.has_body has) p.1.is_fold.body,
-    ))
-
-    by : Decided (FoldWords line) → ((ws : List Lexeme) × (before.body ≡ Some ws)) ⊎ (before.body ≡ None)
-        → Decided ((after : Folded) × IsFoldLine before line after)
-    by (inr none) body = inr (λ p. none (p.0.class, p.0.depth, p.0.nodes, p.0.statements, p.1.valid))
-    by (inl said) (inr none) = inr (λ p. none_some before.body p.1.is_fold.words none p.1.is_fold.has_body)
-    by (inl said) (inl (ws, has)) = with_body said _ has (is_body (length before.initial) (length before.args) _)
+    body_of : (ws : List Lexeme) → before.body ≡ Some ws → (after : Folded) (p : IsFoldLine before line after)
+        → IsBody (length before.initial) (length before.args) ws (fold_block p.fold)
+    body_of ws has after p =
+        subst (λ w. IsBody (length before.initial) (length before.args) w (fold_block p.fold))
+        (some_same before.body p.is_fold.words ws p.is_fold.has_body has) p.is_fold.body

@@ -134,7 +134,7 @@ group_size shape wiring f l =
 
 -- ---- what is small
 
-depth_below : (f : TypedFold) (tries d : ℕ) → least_from f tries d ≤ tries + d
+pub depth_below : (f : TypedFold) (tries d : ℕ) → least_from f tries d ≤ tries + d
 depth_below f zero d = omega arith
 depth_below f (suc tries) d = by _ (depth_below f _ _)
   where

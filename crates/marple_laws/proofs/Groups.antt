@@ -44,17 +44,15 @@ class_token : (class : Class) → is_token (class_word class) ≡ true
 class_token Linear = refl
 class_token Class.Other = refl
 
-group_lead : word_named (codes "group") ≡ lead.Group
-unfolding word_named
-group_lead = refl
+-- the words that a groupby's lines begin with
+record Leads : Type 0 where
+  group : word_named (codes "group") ≡ lead.Group
+  body : word_named (codes "body") ≡ lead.Body
+  fold : word_named (codes "fold") ≡ lead.Fold
 
-body_lead : word_named (codes "body") ≡ lead.Body
+leads : Leads
 unfolding word_named
-body_lead = refl
-
-fold_lead : word_named (codes "fold") ≡ lead.Fold
-unfolding word_named
-fold_lead = refl
+leads = record { group = refl; body = refl; fold = refl }
 
 module _ (fields : List Field) (ops : List PlanOp) (groups : List Folded) (shape : GroupShape) (wiring : GroupWiring) (f : TypedFold)
     (ok : IsGroupOk fields ops shape wiring f) (room : length groups < MAX_GROUPBYS) (new : Contains (names_of groups) shape.name → ⊥) where
@@ -67,7 +65,7 @@ module _ (fields : List Field) (ops : List PlanOp) (groups : List Folded) (shape
   name_written =
       line_written lead.Group (codes "group") (shape.name ∷ operand_word wiring.present ∷ []) (outside fields ops groups)
       (so_far [] [] [] [] [] None) refl
-      (token_name shape.name ok.named, (token_operand wiring.present ok.present.fits, tt)) group_lead
+      (token_name shape.name ok.named, (token_operand wiring.present ok.present.fits, tt)) leads.group
       (λ cut. record {
         fields = fields;
         reads = refl;
@@ -114,7 +112,7 @@ module _ (fields : List Field) (ops : List PlanOp) (groups : List Folded) (shape
       _
       _
       refl
-      (tokens_block _ _ _ few ok.valid.statements) body_lead
+      (tokens_block _ _ _ few ok.valid.statements) leads.body
       (λ cut. record {
         fields = fields;
         reads = refl;
@@ -150,7 +148,7 @@ module _ (fields : List Field) (ops : List PlanOp) (groups : List Folded) (shape
   bounds_written =
       line_written _ _ _
       _
-      _ refl (class_token _, (token_decimal _ ok.shallow, (token_decimal _ nodes, (token_decimal _ statements, tt)))) fold_lead
+      _ refl (class_token _, (token_decimal _ ok.shallow, (token_decimal _ nodes, (token_decimal _ statements, tt)))) leads.fold
       (λ cut. record {
         group = group_so_far fields ops groups shape.name wiring.present shape.key_names wiring.keys wiring.args shape.state_names f.initial
             (Some (written_block (fold_states f) (fold_block f)));

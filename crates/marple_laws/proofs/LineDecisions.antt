@@ -1,12 +1,13 @@
 -- Whether a line is valid after the lines before it is decided.
-use Rattle.marple_laws.proofs.Words.{◌≡◌, ℕ, ◌<◌, true, List, [], ◌∷◌, ◌++◌, length, Some, None, refl, sym, ap, ◌∙◌, subst, inl, inr, codes}
-use Rattle.marple_laws.proofs.Words.{Field, LineWord, Group, Made, IsFoldLine, number, tokens, IsFirst, IsFold, IsGroup, IsLineOf, IsOp}
+use Rattle.marple_laws.proofs.Words.{ℕ, ◌<◌, true, List, [], ◌∷◌, ◌++◌, length, Some, None, refl, sym, ap, ◌∙◌, subst, inr, codes}
+use Rattle.marple_laws.proofs.Words.{LineWord, Group, Made, IsFoldLine, number, tokens, IsFirst, IsFold, IsGroup, IsLineOf, IsOp}
 use Rattle.marple_laws.proofs.Words.{IsPart, IsPrint, IsReads, IsValidAfter, IsOneNumber, IsOpLine}
-use Rattle.std.specs.Prelude.{◌⊎◌, Contains}
+use Rattle.std.specs.Prelude.{Contains}
 use Rattle.plan_file.specs.declared.line_word.LineWord.TheVariants as words
 use Rattle.plan_file.specs.Groups.{IsGroupLine, IsInGroup}
-use Rattle.marple_laws.proofs.Decisions.{Decided, both, by_both, contains, is_empty, is_false, is_none, is_true, less, neither, none_some}
-use Rattle.marple_laws.proofs.{Decisions.{same_number, same_texts, some_same, value_of}, GroupDecisions.{fold_line, group_line, in_group}}
+use Rattle.marple_laws.proofs.Decisions.{Decided, both, by_both, contains, from_found, from_value, is_empty, is_false, is_none, is_true}
+use Rattle.marple_laws.proofs.Decisions.{less, neither, same_number, same_texts, some_same, two_same}
+use Rattle.marple_laws.proofs.GroupDecisions.{fold_line, group_line, in_group}
 use Rattle.marple_laws.proofs.PartDecisions.{one_number, op_line, reads_line}
 
 first : (before : Made) (line : List ℕ) → Decided ((after : Made) × IsFirst before line after)
@@ -18,130 +19,74 @@ reads : (before : Made) (line : List ℕ) → Decided ((after : Made) × IsReads
 reads before line =
     by_both (λ q. (
       record before { reads = Some q.1.1.0 },
-      record {
-        begun = q.0;
-        second = q.1.0;
-        fields = q.1.1.0;
-        valid = q.1.1.1;
-        made = refl;
-      },
+      record { begun = q.0; second = q.1.0; fields = q.1.1.0; valid = q.1.1.1; made = refl },
     ))
     (λ p. (p.1.begun, (p.1.second, (p.1.fields, p.1.valid))))
     (both (is_true before.begun) (both (is_none before.reads) (reads_line line)))
 
 op : (before : Made) (line : List ℕ) → Decided ((after : Made) × IsOp before line after)
-op before line = by (value_of before.reads)
-  where
-    by : ((fs : List Field) × (before.reads ≡ Some fs)) ⊎ (before.reads ≡ None) → Decided ((after : Made) × IsOp before line after)
-    by (inr none) = inr (λ p. none_some before.reads p.1.fields none p.1.reads)
-    by (inl (fs, is)) =
-        by_both
-        (λ q. (
-          record before { ops = before.ops ++ q.1.1.0 ∷ [] },
-          record { fields = fs; reads = is; groups = q.0; current = q.1.0; op = q.1.1.0; valid = q.1.1.1; made = refl },
-        ))
-        (λ p. (
-          p.1.groups,
-          (
-            p.1.current,
-            (p.1.op, subst (λ f. IsOpLine f before.ops line p.1.op) (some_same before.reads p.1.fields fs p.1.reads is) p.1.valid),
-          ),
-        ))
-        (both (is_empty before.groups) (both (is_none before.current) (op_line fs before.ops line)))
+op before line = from_value before.reads (λ p. (p.1.fields, p.1.reads)) (λ fs is.
+    by_both
+    (λ q. (
+      record before { ops = before.ops ++ q.1.1.0 ∷ [] },
+      record { fields = fs; reads = is; groups = q.0; current = q.1.0; op = q.1.1.0; valid = q.1.1.1; made = refl },
+    ))
+    (λ p.
+    let valid = subst (λ f. IsOpLine f before.ops line p.1.op) (some_same before.reads p.1.fields fs p.1.reads is) p.1.valid in
+    (p.1.groups, (p.1.current, (p.1.op, valid))))
+    (both (is_empty before.groups) (both (is_none before.current) (op_line fs before.ops line))))
 
 group : (before : Made) (line : List ℕ) → Decided ((after : Made) × IsGroup before line after)
-group before line = by (value_of before.reads)
-  where
-    by : ((fs : List Field) × (before.reads ≡ Some fs)) ⊎ (before.reads ≡ None) → Decided ((after : Made) × IsGroup before line after)
-    by (inr none) = inr (λ p. none_some before.reads p.1.fields none p.1.reads)
-    by (inl (fs, is)) =
-        by_both
-        (λ q. (
-          record before { current = Some q.1.1.0 },
-          record {
-            fields = fs;
-            reads = is;
-            current = q.0;
-            prints = q.1.0;
-            group = q.1.1.0;
-            valid = q.1.1.1;
-            made = refl;
-          },
-        ))
-        (λ p. (
-          p.1.current,
-          (
-            p.1.prints,
-            (
-              p.1.group,
-              subst (λ f. IsGroupLine f before.ops before.groups line p.1.group)
-                  (some_same before.reads p.1.fields fs p.1.reads is) p.1.valid,
-            ),
-          ),
-        ))
-        (both (is_none before.current) (both (is_empty before.prints) (group_line fs before.ops before.groups line)))
+group before line = from_value before.reads (λ p. (p.1.fields, p.1.reads)) (λ fs is.
+    by_both
+    (λ q. (
+      record before { current = Some q.1.1.0 },
+      record { fields = fs; reads = is; current = q.0; prints = q.1.0; group = q.1.1.0; valid = q.1.1.1; made = refl },
+    ))
+    (λ p.
+    let same = some_same before.reads p.1.fields fs p.1.reads is in
+    (p.1.current, (p.1.prints, (p.1.group, subst (λ f. IsGroupLine f before.ops before.groups line p.1.group) same p.1.valid))))
+    (both (is_none before.current) (both (is_empty before.prints) (group_line fs before.ops before.groups line))))
 
 part : (word : LineWord) (before : Made) (line : List ℕ) → Decided ((after : Made) × IsPart word before line after)
-part word before line = by (value_of before.reads) (value_of before.current)
-  where
-    by : ((fs : List Field) × (before.reads ≡ Some fs)) ⊎ (before.reads ≡ None)
-        → ((g : Group) × (before.current ≡ Some g)) ⊎ (before.current ≡ None) → Decided ((after : Made) × IsPart word before line after)
-    by (inr none) current = inr (λ p. none_some before.reads p.1.fields none p.1.reads)
-    by (inl read) (inr none) = inr (λ p. none_some before.current p.1.group none p.1.current)
-    by (inl (fs, is)) (inl (g, has)) =
-        by_both
-        (λ q. (
-          record before { current = Some q.0 },
-          record {
-            fields = fs;
-            reads = is;
-            group = g;
-            current = has;
-            next = q.0;
-            valid = q.1;
-            made = refl;
-          },
-        ))
-        (λ p. (
-          p.1.next,
-          subst (λ f. IsInGroup word f before.ops g line p.1.next) (some_same _ _ fs p.1.reads is)
-              (subst (λ x. IsInGroup word p.1.fields before.ops x line p.1.next) (some_same _ _ g p.1.current has) p.1.valid),
-        ))
-        (in_group _ _ _ g _)
+part word before line =
+    from_value before.reads (λ p. (p.1.fields, p.1.reads)) (λ fs is.
+    from_value before.current (λ p. (p.1.group, p.1.current)) (λ g has.
+    by_both
+    (λ q. (
+      record before { current = Some q.0 },
+      record { fields = fs; reads = is; group = g; current = has; next = q.0; valid = q.1; made = refl },
+    ))
+    (λ p. (
+      p.1.next,
+      subst (λ f. IsInGroup word f before.ops g line p.1.next) (some_same _ _ fs p.1.reads is)
+          (subst (λ x. IsInGroup word p.1.fields before.ops x line p.1.next) (some_same _ _ g p.1.current has) p.1.valid),
+    ))
+    (in_group _ _ _ g _)))
 
 fold : (before : Made) (line : List ℕ) → Decided ((after : Made) × IsFold before line after)
-fold before line = by (value_of before.current)
-  where
-    by : ((g : Group) × (before.current ≡ Some g)) ⊎ (before.current ≡ None) → Decided ((after : Made) × IsFold before line after)
-    by (inr none) = inr (λ p. none_some before.current p.1.group none p.1.current)
-    by (inl (g, has)) =
-        by_both
-        (λ q. (
-          record before { groups = before.groups ++ q.0 ∷ []; current = None },
-          record { group = g; current = has; folded = q.0; valid = q.1; made = refl },
-        ))
-        (λ p. (p.1.folded, subst (λ x. IsFoldLine x line p.1.folded) (some_same _ _ g p.1.current has) p.1.valid))
-        (fold_line g _)
+fold before line = from_value before.current (λ p. (p.1.group, p.1.current)) (λ g has.
+    by_both
+    (λ q. (
+      record before { groups = before.groups ++ q.0 ∷ []; current = None },
+      record { group = g; current = has; folded = q.0; valid = q.1; made = refl },
+    ))
+    (λ p. (p.1.folded, subst (λ x. IsFoldLine x line p.1.folded) (some_same _ _ g p.1.current has) p.1.valid))
+    (fold_line g _))
 
 print : (before : Made) (line : List ℕ) → Decided ((after : Made) × IsPrint before line after)
-print before line = by (one_number (codes "print") _)
+print before line = from_found (λ p. (p.1.group, p.1.valid)) (λ f. of_number f.0 f.1) (one_number (codes "print") _)
   where
-    number_same : (n m : ℕ) → IsOneNumber (codes "print") line n → IsOneNumber (codes "print") line m → n ≡ m
-    number_same n m p q =
-        let words : codes "print" ∷ p.token ∷ [] ≡ codes "print" ∷ q.token ∷ [] = sym p.words ∙ q.words in
-        let same : p.token ≡ q.token = cc in
-        some_same (number q.token) n m (ap number (sym same) ∙ p.reads) q.reads
-
-    by : Decided ((n : ℕ) × IsOneNumber (codes "print") line n) → Decided ((after : Made) × IsPrint before line after)
-    by (inr none) = inr (λ p. none (p.1.group, p.1.valid))
-    by (inl (n, valid)) =
+    of_number : (n : ℕ) → IsOneNumber (codes "print") line n → Decided ((after : Made) × IsPrint before line after)
+    of_number n valid =
         by_both
         (λ q. (
           record before { prints = before.prints ++ n ∷ [] },
           record { current = q.0; group = n; valid = valid; there = q.1.0; new = q.1.1; made = refl },
         ))
         (λ p.
-        let same = number_same _ n p.1.valid valid in (
+        let token = (two_same p.1.valid.words valid.words).1 in
+        let same = some_same (number valid.token) _ n (ap number (sym token) ∙ p.1.valid.reads) valid.reads in (
           p.1.current,
           (subst (λ i. i < length before.groups) same p.1.there, λ there. p.1.new (subst (Contains before.prints) (sym same) there)),
         ))

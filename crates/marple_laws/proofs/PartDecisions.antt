@@ -1,13 +1,13 @@
 -- The parts of lines, decided.
-use Rattle.marple_laws.proofs.Words.{◌≡◌, ℕ, ◌+◌, ◌≤◌, List, [], ◌∷◌, length, map, Some, None, refl, sym, ap, ap₂, ◌∙◌, subst, inl, inr}
+use Rattle.marple_laws.proofs.Words.{◌≡◌, ℕ, ◌+◌, ◌≤◌, List, [], ◌∷◌, length, map, refl, sym, ap, ap₂, ◌∙◌, subst, inl, inr}
 use Rattle.marple_laws.proofs.Words.{codes, Field, all_fields, field_name, number_of, FIELDS, Operand, Register, Number, PlanOp, is_name}
 use Rattle.marple_laws.proofs.Words.{number, tokens, IsNamedNumber, IsNamedOperand, IsOneNumber, IsOneOperand, AreFrom, IsAllowed, IsKnown}
 use Rattle.marple_laws.proofs.Words.{IsOpLine, IsReadsLine, IsStaged, op_words, operand}
 use Rattle.std.specs.Prelude.{◌⊎◌}
 use Rattle.marple_base.specs.declared.field.Field.TheVariants as fields
 use Rattle.plan_file.proofs.ReadsFacts.{same_name}
-use Rattle.marple_laws.proofs.Decisions.{Decided, both, by_both, contains, either, is_true, less, most, none_some, same_number, same_text}
-use Rattle.marple_laws.proofs.Decisions.{some_same, three_tokens, two_tokens, value_of}
+use Rattle.marple_laws.proofs.Decisions.{Decided, both, by_both, contains, either, from_found, from_value, is_true, less, most, same_number}
+use Rattle.marple_laws.proofs.Decisions.{same_text, some_same, three_same, three_tokens, two_same, two_tokens}
 
 -- the line `reads`
 
@@ -113,106 +113,57 @@ allowed fs ops op =
     (both (both (known _ ops op.left) (known _ ops op.right)) (staged _ _))
 
 pub op_line : (fs : List Field) (ops : List PlanOp) (line : List ℕ) → Decided ((op : PlanOp) × IsOpLine fs ops line op)
-op_line fs ops line = by (value_of (op_words (tokens line)))
-  where
-    by : ((op : PlanOp) × (op_words (tokens line) ≡ Some op)) ⊎ (op_words (tokens line) ≡ None)
-        → Decided ((op : PlanOp) × IsOpLine fs ops line op)
-    by (inl (op, e)) =
-        by_both (λ a. (op, record { words = e; allowed = a }))
-        (λ p. subst (IsAllowed fs ops) (some_same (op_words (tokens line)) _ op p.1.words e) p.1.allowed) (allowed _ _ op)
-    by (inr none) = inr (λ p. none_some (op_words (tokens line)) p.0 none p.1.words)
+op_line fs ops line = from_value (op_words (tokens line)) (λ p. (p.0, p.1.words)) (λ op e.
+    by_both (λ a. (op, record { words = e; allowed = a }))
+    (λ p. subst (IsAllowed fs ops) (some_same (op_words (tokens line)) _ op p.1.words e) p.1.allowed) (allowed _ _ op))
 
 -- lines of a word, a name and an operand or a number
 
 pub named_operand : (fs : List Field) (ops : List PlanOp) (word line : List ℕ)
     → Decided ((name : List ℕ) × (v : Operand) × IsNamedOperand fs ops word line name v)
-named_operand fs ops word line = by (three_tokens (tokens line))
+named_operand fs ops word line =
+    from_found (λ p. (word, p.0, p.2.token, p.2.words)) (λ f. of_tokens f.0 f.1 f.2 f.3) (three_tokens (tokens line))
   where
-    with_value : (a n t : List ℕ) → tokens line ≡ a ∷ n ∷ t ∷ [] → ((v : Operand) × (operand t ≡ Some v)) ⊎ (operand t ≡ None)
+    of_tokens : (a n t : List ℕ) → tokens line ≡ a ∷ n ∷ t ∷ []
         → Decided ((name : List ℕ) × (v : Operand) × IsNamedOperand fs ops word line name v)
-    with_value a n t e (inr none) = inr (λ p.
-        let words : a ∷ n ∷ t ∷ [] ≡ word ∷ p.0 ∷ p.2.token ∷ [] = sym e ∙ p.2.words in
-        let same : t ≡ p.2.token = cc in
-        none_some (operand t) p.1 none (ap operand same ∙ p.2.reads))
-    with_value a n t e (inl (v, r)) =
+    of_tokens a n t e = from_value (operand t) (λ p. (p.1, ap operand (three_same e p.2.words).2 ∙ p.2.reads)) (λ v r.
         by_both
         (λ q. (n, v, record { token = t; words = e ∙ ap (λ w. w ∷ n ∷ t ∷ []) q.0; named = q.1.0; reads = r; known = q.1.1 }))
         (λ p.
-        let words : a ∷ n ∷ t ∷ [] ≡ word ∷ p.0 ∷ p.2.token ∷ [] = sym e ∙ p.2.words in
-        let first : a ≡ word = cc in
-        let name : n ≡ p.0 = cc in
-        let same : t ≡ p.2.token = cc in (
-          first,
-          (ap is_name name ∙ p.2.named, subst (IsKnown fs ops) (some_same (operand t) _ v (ap operand same ∙ p.2.reads) r) p.2.known),
-        ))
-        (both (same_text a _) (both (is_true (is_name n)) (known _ ops v)))
-
-    by : Decided ((a : List ℕ) × (n : List ℕ) × (t : List ℕ) × (tokens line ≡ a ∷ n ∷ t ∷ []))
-        → Decided ((name : List ℕ) × (v : Operand) × IsNamedOperand fs ops word line name v)
-    by (inr none) = inr (λ p. none (word, p.0, p.2.token, p.2.words))
-    by (inl (a, n, t, e)) = with_value a n t e (value_of (operand t))
+        let same = three_same e p.2.words in
+        let value = some_same (operand t) _ v (ap operand same.2 ∙ p.2.reads) r in
+        (same.0, (ap is_name same.1 ∙ p.2.named, subst (IsKnown fs ops) value p.2.known)))
+        (both (same_text a _) (both (is_true (is_name n)) (known _ ops v))))
 
 pub one_operand : (fs : List Field) (ops : List PlanOp) (word line : List ℕ) → Decided ((v : Operand) × IsOneOperand fs ops word line v)
-one_operand fs ops word line = by (two_tokens (tokens line))
+one_operand fs ops word line =
+    from_found (λ p. (word, p.1.token, p.1.words)) (λ f. of_tokens f.0 f.1 f.2) (two_tokens (tokens line))
   where
-    with_value : (a t : List ℕ) → tokens line ≡ a ∷ t ∷ [] → ((v : Operand) × (operand t ≡ Some v)) ⊎ (operand t ≡ None)
-        → Decided ((v : Operand) × IsOneOperand fs ops word line v)
-    with_value a t e (inr none) = inr (λ p.
-        let words : a ∷ t ∷ [] ≡ word ∷ p.1.token ∷ [] = sym e ∙ p.1.words in
-        let same : t ≡ p.1.token = cc in
-        none_some (operand t) p.0 none (ap operand same ∙ p.1.reads))
-    with_value a t e (inl (v, r)) =
+    of_tokens : (a t : List ℕ) → tokens line ≡ a ∷ t ∷ [] → Decided ((v : Operand) × IsOneOperand fs ops word line v)
+    of_tokens a t e = from_value (operand t) (λ p. (p.0, ap operand (two_same e p.1.words).1 ∙ p.1.reads)) (λ v r.
         by_both
         (λ q. (v, record { token = t; words = e ∙ ap (λ w. w ∷ t ∷ []) q.0; reads = r; known = q.1 }))
         (λ p.
-        let words : a ∷ t ∷ [] ≡ word ∷ p.1.token ∷ [] = sym e ∙ p.1.words in
-        let first : a ≡ word = cc in
-        let same : t ≡ p.1.token = cc in
-        (first, subst (IsKnown fs ops) (some_same (operand t) _ v (ap operand same ∙ p.1.reads) r) p.1.known))
-        (both (same_text a _) (known _ ops v))
-
-    by : Decided ((a : List ℕ) × (t : List ℕ) × (tokens line ≡ a ∷ t ∷ [])) → Decided ((v : Operand) × IsOneOperand fs ops word line v)
-    by (inr none) = inr (λ p. none (word, p.1.token, p.1.words))
-    by (inl (a, t, e)) = with_value a t e (value_of (operand t))
+        let same = two_same e p.1.words in
+        (same.0, subst (IsKnown fs ops) (some_same (operand t) _ v (ap operand same.1 ∙ p.1.reads) r) p.1.known))
+        (both (same_text a _) (known _ ops v)))
 
 pub named_number : (word line : List ℕ) → Decided ((name : List ℕ) × (v : ℕ) × IsNamedNumber word line name v)
-named_number word line = by (three_tokens (tokens line))
+named_number word line =
+    from_found (λ p. (word, p.0, p.2.token, p.2.words)) (λ f. of_tokens f.0 f.1 f.2 f.3) (three_tokens (tokens line))
   where
-    with_value : (a n t : List ℕ) → tokens line ≡ a ∷ n ∷ t ∷ [] → ((v : ℕ) × (number t ≡ Some v)) ⊎ (number t ≡ None)
-        → Decided ((name : List ℕ) × (v : ℕ) × IsNamedNumber word line name v)
-    with_value a n t e (inr none) = inr (λ p.
-        let words : a ∷ n ∷ t ∷ [] ≡ word ∷ p.0 ∷ p.2.token ∷ [] = sym e ∙ p.2.words in
-        let same : t ≡ p.2.token = cc in
-        none_some (number t) p.1 none (ap number same ∙ p.2.reads))
-    with_value a n t e (inl (v, r)) =
+    of_tokens : (a n t : List ℕ) → tokens line ≡ a ∷ n ∷ t ∷ [] → Decided ((name : List ℕ) × (v : ℕ) × IsNamedNumber word line name v)
+    of_tokens a n t e = from_value (number t) (λ p. (p.1, ap number (three_same e p.2.words).2 ∙ p.2.reads)) (λ v r.
         by_both
         (λ q. (n, v, record { token = t; words = e ∙ ap (λ w. w ∷ n ∷ t ∷ []) q.0; named = q.1; reads = r }))
-        (λ p.
-        let words : a ∷ n ∷ t ∷ [] ≡ word ∷ p.0 ∷ p.2.token ∷ [] = sym e ∙ p.2.words in
-        let first : a ≡ word = cc in
-        let name : n ≡ p.0 = cc in
-        (first, ap is_name name ∙ p.2.named))
-        (both (same_text a _) (is_true (is_name n)))
-
-    by : Decided ((a : List ℕ) × (n : List ℕ) × (t : List ℕ) × (tokens line ≡ a ∷ n ∷ t ∷ []))
-        → Decided ((name : List ℕ) × (v : ℕ) × IsNamedNumber word line name v)
-    by (inr none) = inr (λ p. none (word, p.0, p.2.token, p.2.words))
-    by (inl (a, n, t, e)) = with_value a n t e (value_of (number t))
+        (λ p. (let same = three_same e p.2.words in (same.0, ap is_name same.1 ∙ p.2.named)))
+        (both (same_text a _) (is_true (is_name n))))
 
 pub one_number : (word line : List ℕ) → Decided ((v : ℕ) × IsOneNumber word line v)
-one_number word line = by (two_tokens (tokens line))
+one_number word line = from_found (λ p. (word, p.1.token, p.1.words)) (λ f. of_tokens f.0 f.1 f.2) (two_tokens (tokens line))
   where
-    with_value : (a t : List ℕ) → tokens line ≡ a ∷ t ∷ [] → ((v : ℕ) × (number t ≡ Some v)) ⊎ (number t ≡ None)
-        → Decided ((v : ℕ) × IsOneNumber word line v)
-    with_value a t e (inr none) = inr (λ p.
-        let words : a ∷ t ∷ [] ≡ word ∷ p.1.token ∷ [] = sym e ∙ p.1.words in
-        let same : t ≡ p.1.token = cc in
-        none_some (number t) p.0 none (ap number same ∙ p.1.reads))
-    with_value a t e (inl (v, r)) =
+    of_tokens : (a t : List ℕ) → tokens line ≡ a ∷ t ∷ [] → Decided ((v : ℕ) × IsOneNumber word line v)
+    of_tokens a t e = from_value (number t) (λ p. (p.0, ap number (two_same e p.1.words).1 ∙ p.1.reads)) (λ v r.
         by_both (λ q. (v, record { token = t; words = e ∙ ap (λ w. w ∷ t ∷ []) q; reads = r }))
-        (λ p. (let words : a ∷ t ∷ [] ≡ word ∷ p.1.token ∷ [] = sym e ∙ p.1.words in cc))
-        (same_text a _)
-
-    by : Decided ((a : List ℕ) × (t : List ℕ) × (tokens line ≡ a ∷ t ∷ [])) → Decided ((v : ℕ) × IsOneNumber word line v)
-    by (inr none) = inr (λ p. none (word, p.1.token, p.1.words))
-    by (inl (a, t, e)) = with_value a t e (value_of (number t))
+        (λ p. (two_same e p.1.words).0)
+        (same_text a _))

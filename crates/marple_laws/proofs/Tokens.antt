@@ -37,19 +37,17 @@ abbrev pub AreTokens : List (List ℕ) → Type 0
 AreTokens [] = Unit {0}
 AreTokens (word ∷ words) = (is_token word ≡ true) × AreTokens words
 
+-- what no plain byte is, no byte of a token is
+none_in : (test : ℕ → Bool) → ((b : ℕ) → is_plain b ≡ true → not (test b) ≡ true) → (word : List ℕ) → is_token word ≡ true
+    → has_none test word ≡ true
+none_in test plain [] e = refl
+none_in test plain (b ∷ word) e = (let p = both_true _ _ e in both_are _ _ (plain b p.0) (none_in test plain word p.1))
+
 pub no_space : (word : List ℕ) → is_token word ≡ true → has_none is_space word ≡ true
-no_space [] e = refl
-no_space (b ∷ word) e =
-    let p = both_true _ _ e in
-    let q = both_true _ _ p.0 in
-    both_are _ _ q.0 (no_space word p.1)
+no_space = none_in is_space (λ b plain. (both_true _ _ plain).0)
 
 pub no_line_feed : (word : List ℕ) → is_token word ≡ true → has_none is_line_feed word ≡ true
-no_line_feed [] e = refl
-no_line_feed (b ∷ word) e =
-    let p = both_true _ _ e in
-    let q = both_true _ _ p.0 in
-    both_are _ _ q.1 (no_line_feed word p.1)
+no_line_feed = none_in is_line_feed (λ b plain. (both_true _ _ plain).1)
 
 -- the tokens of words with a space between each two
 pub tokens_of : (first : List ℕ) (words : List (List ℕ)) → is_token first ≡ true → AreTokens words → tokens (first ++ spaced words) ≡ first

@@ -1,6 +1,6 @@
 //! Calls of `marple` over inputs and a sink that never fail.
 
-ghost use Rattle.std.specs.Prelude.{◌≡◌, ◌⊎◌, Some};
+ghost use Rattle.std.specs.Prelude.{◌≡◌, ◌⊎◌};
 ghost use Rattle.marple_base.specs.{Inputs.IsClosed, Sound.sound_input};
 ghost use Rattle.marple_cli.specs.{Call.{WhereTold, asked_by}, Output.IsAccepted};
 
