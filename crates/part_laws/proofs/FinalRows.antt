@@ -24,12 +24,13 @@ filtered_each condition [] = refl
 filtered_each condition (row ∷ rows) = by_test (holds (expr_value condition (columns_of row)))
     (λ e. rw e (ap (λ xs. plain_row row.key row.values ∷ xs) (filtered_each condition rows))) (λ e. rw e (filtered_each condition rows))
 
-filtered_keeps : (condition : TypedExpr) → KeepsKey (one_filtered condition)
-filtered_keeps condition row k = go _
-  where
-    one : List Row
-    one = plain_row row.key row.values ∷ []
+-- a row as finals show it, without its mark and its epochs
+abbrev pub bare : Row → Row
+bare row = plain_row row.key row.values
 
+pub picked_keeps : (test : Row → Bool) → KeepsKey (λ row. cond (test row) (bare row ∷ []) [])
+picked_keeps test row k = go _
+  where
     none : (b : Bool) → let empty : List Row = [] in empty ≡ cond b empty empty
     none true = refl
     none false = refl
@@ -42,7 +43,7 @@ filtered_keeps condition row k = go _
 pub filters_of_parts : FiltersAreOfParts
 filters_of_parts condition rows parts =
     filtered_each _ _
-    ∙ (of_parts _ (filtered_keeps _) rows _
+    ∙ (of_parts _ (picked_keeps (λ row. holds (expr_value condition (columns_of row)))) rows _
     ∙ ap by_key (same_each _ _ parts
     (λ n. sym (filtered_each condition (rows n)))))
 

@@ -2,9 +2,9 @@
 use Rattle.part_laws.proofs.Words.{◌≡◌, ℕ, ◌+◌, ◌<◌, Bool, true, false, cond, ◌||◌, ◌&&◌, ◌==◌, List, [], ◌∷◌, map, filter, flat_map, ◌⊎◌}
 use Rattle.part_laws.proofs.Words.{inl, inr, refl, sym, ap, ◌∙◌, arith, sum_by, count_by, Less, true≢false, false≢true, nat_tests}
 use Rattle.part_laws.proofs.Words.{nat_list_cmp_total, filter_agree, sum_by-cons, Row, Key, key_eq, key_cmp, has, ascending, IsAscending}
-use Rattle.part_laws.proofs.Words.{by_test, key_eq-true, key_eq-refl, ascending-ascends, has-ascending, plain_row, is_of_key, column_at}
-use Rattle.part_laws.proofs.{Words.{goes_before, top_rows}, Sums.{zeros_sum, sum_joined}, Tables.map_joined}
-use Rattle.part_laws.proofs.{Ordered.{keys_of, key_cmp-itself, absent_above, KeepsKey, made_by_key}, Tops.{rank_in, top_of, tops_of_tops}}
+use Rattle.part_laws.proofs.Words.{by_test, key_eq-true, key_eq-refl, ascending-ascends, has-ascending, is_of_key, column_at}
+use Rattle.part_laws.proofs.{FinalRows.{bare, picked_keeps}, Words.{goes_before, top_rows}, Sums.{zeros_sum, sum_joined}, Tables.map_joined}
+use Rattle.part_laws.proofs.{Ordered.{keys_of, key_cmp-itself, absent_above, made_by_key}, Tops.{rank_in, top_of, tops_of_tops}}
 use Rattle.part_laws.specs.FinalParts.{by_key, TopsAreOfTops}
 use Rattle.std.{proofs.Common.nat_lt, specs.{declared.cmp.Ordering.Ordering, Ordering.is_lt}}
 
@@ -112,24 +112,9 @@ count_in_order p rows =
 
 -- ---- top rows
 
-abbrev bare : Row → Row
-bare row = plain_row row.key row.values
-
 picked_each : (t : Row → Bool) (rows : List Row) → map bare (filter t rows) ≡ flat_map (λ row. cond (t row) (bare row ∷ []) []) rows
 picked_each t [] = refl
 picked_each t (row ∷ rows) = by_test (t row) (λ e. rw e (ap (λ xs. bare row ∷ xs) (picked_each t rows))) (λ e. rw e (picked_each t rows))
-
-picked_keeps : (t : Row → Bool) → KeepsKey (λ row. cond (t row) (bare row ∷ []) [])
-picked_keeps t row k = go _
-  where
-    none : (b : Bool) → let empty : List Row = [] in empty ≡ cond b empty empty
-    none true = refl
-    none false = refl
-
-    go : (b : Bool) → filter (is_of_key k) (cond b (plain_row row.key row.values ∷ []) []) ≡ cond (key_eq row.key k)
-        (cond b (plain_row row.key row.values ∷ []) []) []
-    go true = refl
-    go false = none _
 
 module _ (column kept : ℕ) where
   abbrev before : Row → Row → Bool
