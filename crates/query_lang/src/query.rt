@@ -37,22 +37,12 @@ impl Drop for Item {
 }
 
 /// `def name([states], [args]) { body }`.
+#[derive(Drop)]
 pub struct FoldDef {
     pub name: Name,
     pub states: Seq<StateVar>,
     pub args: Seq<Name>,
     pub body: Seq<Stmt>,
-}
-
-impl Drop for FoldDef {
-    fn drop(self) {
-        let FoldDef {
-            name: _,
-            states: _,
-            args: _,
-            body: _,
-        } = self;
-    }
 }
 
 /// A state variable, and the number that it starts with.

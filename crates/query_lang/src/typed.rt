@@ -35,20 +35,11 @@ impl Drop for TypedQuery {
 }
 
 /// A stream. Streams are numbered from 0, and number 0 is `pktstream`, which has no entry.
+#[derive(Drop)]
 pub struct TypedStream {
     pub name: Name,
     pub columns: Seq<u32>,
     pub op: TypedOp,
-}
-
-impl Drop for TypedStream {
-    fn drop(self) {
-        let TypedStream {
-            name: _,
-            columns: _,
-            op: _,
-        } = self;
-    }
 }
 
 /// What makes a stream, of streams by number and columns by slot.
@@ -73,22 +64,12 @@ impl Drop for TypedOp {
 }
 
 /// A table made of tables. Tables are numbered with the groupbys first, and then the finals.
+#[derive(Drop)]
 pub struct TypedFinal {
     pub name: Name,
     pub columns: Seq<u32>,
     pub keys: u8,
     pub op: TypedFinalOp,
-}
-
-impl Drop for TypedFinal {
-    fn drop(self) {
-        let TypedFinal {
-            name: _,
-            columns: _,
-            keys: _,
-            op: _,
-        } = self;
-    }
 }
 
 /// What makes the table: tables by number, columns by slot, a group's fold and its arguments.
