@@ -1,5 +1,5 @@
 -- The typing of expressions, statements and folds whose parts are typed.
-use Rattle.std.{proofs.Common.{◌≡◌, ℕ, false, List, [], ◌∷◌, ◌++◌, refl, sym, ap, ◌∙◌}, specs.Prelude.{Ok, map, not, is_some}}
+use Rattle.std.{proofs.Common.{◌≡◌, ℕ, false, List, [], ◌∷◌, ◌++◌, refl, sym, ap, ◌∙◌}, specs.Prelude.{Ok, not, is_some}}
 use Rattle.query_lang.specs.declared.{fault.{FaultKind.TheVariants.{NameTaken, WrongKind}, Span.Span}, fold.Op.{Op, TheVariants.Add}}
 use Rattle.query_lang.specs.declared.{fold.{TypedExpr.TypedExpr, TypedFold.TypedFold}, query.{FoldDef.FoldDef, Item.Item, Name.Name}}
 use Rattle.query_lang.specs.declared.query.{Expr.{Expr, fold-roll-Expr}, Stmt.{Stmt, fold-roll-Stmt, TheVariants.{rolls-Assign, rolls-If}}}
@@ -16,7 +16,7 @@ use Rattle.query_lang.specs.declared.typing.Sort.TheVariants as sort
 use Rattle.query_lang.specs.Checks.{Checked, and_then, must, must_not, collected}
 use Rattle.query_lang.specs.TypedExprs.{is_condition_sort, slot_of, of_two, call_of, expr_step, expr_checked, condition_of, word_of}
 use Rattle.query_lang.specs.TypedFolds.{Adding, states_from, args_from, target_of, inside, in_order, new_block, stmt_step, stmt_checked}
-use Rattle.query_lang.specs.{TypedFolds.{body_checked, fold_nodes, fold_statements, fold_checked}, TypedStreams.meaning_of}
+use Rattle.query_lang.specs.{TypedFolds.{body_checked, fold_checked, fold_with}, TypedStreams.meaning_of}
 use Rattle.query_lang.specs.Typing.{with_fold, items_checked}
 
 -- ---- expressions
@@ -111,24 +111,12 @@ names_is columns op span x y left right two = binary_is columns op span (whole.N
 
 -- ---- folds
 
-abbrev pub typed_as : FoldDef → List ℕ → List ℕ → Body → TypedFold
-typed_as d states args body = record {
-  name = d.name;
-  state_names = states;
-  initial = map (λ state. state.initial) d.states;
-  arg_names = args;
-  body = body.statements;
-  emit = body.emit;
-  nodes = fold_nodes d;
-  statements = fold_statements d;
-}
-
 pub fold_is : (d : FoldDef) {states args : List ℕ} {body : Body} → states_from [] d.states ≡ Ok states
-    → args_from states [] d.args ≡ Ok args → body_checked states args d.body ≡ Ok body → fold_checked d ≡ Ok (typed_as d states args body)
+    → args_from states [] d.args ≡ Ok args → body_checked states args d.body ≡ Ok body → fold_checked d ≡ Ok (fold_with d states args body)
 fold_is d {states} {args} s a b =
-    ap (λ r. and_then r (λ x. and_then (args_from x [] d.args) (λ y. and_then (body_checked x y d.body) (λ z. Ok (typed_as d x y z))))) s
-    ∙ ap (λ r. and_then r (λ y. and_then (body_checked states y d.body) (λ z. Ok (typed_as d states y z)))) a
-    ∙ ap (λ r. and_then r (λ z. Ok (typed_as d states args z))) b
+    ap (λ r. and_then r (λ x. and_then (args_from x [] d.args) (λ y. and_then (body_checked x y d.body) (λ z. Ok (fold_with d x y z))))) s
+    ∙ ap (λ r. and_then r (λ y. and_then (body_checked states y d.body) (λ z. Ok (fold_with d states y z)))) a
+    ∙ ap (λ r. and_then r (λ z. Ok (fold_with d states args z))) b
 
 -- a fold whose name is free, before other items
 pub fold_next : (given : Given) (earlier : Earlier) (d : FoldDef) (f : TypedFold) (rest : List Item)

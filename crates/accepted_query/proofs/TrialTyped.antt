@@ -8,9 +8,9 @@ use Rattle.query_lang.specs.declared.query.Expr.TheVariants as whole
 use Rattle.query_lang.specs.declared.query.Stmt.TheVariants as statement
 use Rattle.query_lang.specs.declared.typing.Sort.TheVariants as sort
 use Rattle.query_lang.specs.{Checks.and_then, TypedExprs.{condition_of, word_of}}
-use Rattle.query_lang.specs.TypedFolds.{inside, in_order, stmt_checked, body_checked, fold_checked}
+use Rattle.query_lang.specs.TypedFolds.{inside, in_order, stmt_checked, body_checked, fold_checked, fold_with}
 use Rattle.accepted_query.proofs.TrialSteps.{number_is, named_is, binary_is, call_is, word_is, condition_is, names_is, assign_is}
-use Rattle.accepted_query.proofs.TrialSteps.{increment_is, if_is, typed_as, fold_is}
+use Rattle.accepted_query.proofs.TrialSteps.{increment_is, if_is, fold_is}
 use Rattle.accepted_query.proofs.TrialParts.{at, named, count_fold, lost_fold, oos_fold, deepest_fold}
 
 -- no conditions around a statement, and no statements before it
@@ -42,7 +42,7 @@ abbrev condition_found : TypedExpr → Span → Found
 condition_found tree span = record { tree = tree; sort = sort.Condition; at = span }
 
 abbrev pub count_typed : TypedFold
-count_typed = typed_as count_fold (1 ∷ []) [] (after (increment 0 ∷ []))
+count_typed = fold_with count_fold (1 ∷ []) [] (after (increment 0 ∷ []))
 
 pub count_is : fold_checked count_fold ≡ Ok count_typed
 count_is =
@@ -55,7 +55,7 @@ abbrev lost_body : Body
 lost_body = after (typed_stmt.If (typed.Binary Eq (typed.Slot 1) (typed.Number (2 ^ 64 - 1))) (increment 0 ∷ []) [] ∷ [])
 
 abbrev pub lost_typed : TypedFold
-lost_typed = typed_as lost_fold (3 ∷ []) (4 ∷ []) lost_body
+lost_typed = fold_with lost_fold (3 ∷ []) (4 ∷ []) lost_body
 
 pub lost_is : fold_checked lost_fold ≡ Ok lost_typed
 lost_is =
@@ -81,7 +81,7 @@ abbrev oos_body : Body
 oos_body = after (typed_stmt.If oos_condition (increment 1 ∷ []) [] ∷ typed_stmt.Assign 0 oos_sum ∷ [])
 
 abbrev pub oos_typed : TypedFold
-oos_typed = typed_as oos_fold (6 ∷ 7 ∷ []) (8 ∷ 9 ∷ []) oos_body
+oos_typed = fold_with oos_fold (6 ∷ 7 ∷ []) (8 ∷ 9 ∷ []) oos_body
 
 pub oos_is : fold_checked oos_fold ≡ Ok oos_typed
 oos_is =
@@ -111,7 +111,7 @@ abbrev deepest_body : Body
 deepest_body = after (typed_stmt.Assign 0 greater ∷ [])
 
 abbrev pub deepest_typed : TypedFold
-deepest_typed = typed_as deepest_fold (11 ∷ []) (12 ∷ []) deepest_body
+deepest_typed = fold_with deepest_fold (11 ∷ []) (12 ∷ []) deepest_body
 
 pub deepest_is : fold_checked deepest_fold ≡ Ok deepest_typed
 deepest_is =

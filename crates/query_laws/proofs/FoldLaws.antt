@@ -1,6 +1,6 @@
 -- Folds: the rule and the check agree.
-use Rattle.std.proofs.Common.{◌≡◌, ℕ, List, [], map, None, Ok, refl, sym, ap, subst, ◌∙◌, arith, append-nil}
-use Rattle.query_laws.proofs.Terms.{TypedFold, FoldDef, Checked, and_then, body_checked, fold_checked, fold_nodes, fold_statements, AreNew}
+use Rattle.std.proofs.Common.{◌≡◌, ℕ, List, [], None, Ok, refl, sym, ap, subst, ◌∙◌, arith, append-nil}
+use Rattle.query_laws.proofs.Terms.{TypedFold, FoldDef, Checked, and_then, body_checked, fold_checked, fold_with, AreNew}
 use Rattle.query_laws.proofs.{Terms.{HasBlock, HasFold, at_most_one, state_names_of, arg_names_of}, Steps.{same_ok, found_first, then_next}}
 use Rattle.query_laws.proofs.FoldNames.{states_sound, states_complete, args_sound, args_complete}
 use Rattle.query_laws.proofs.Blocks.{Fits, block_sound, block_complete}
@@ -10,16 +10,7 @@ nothing_around = record { condition = refl; past = λ h. tt; none = λ h. refl }
 
 -- what is left of the check once the names are found
 abbrev pub rest_of : FoldDef → List ℕ → List ℕ → Checked TypedFold
-rest_of d states args = and_then (body_checked states args d.body) (λ body. Ok (record {
-  name = d.name;
-  state_names = states;
-  initial = map (λ state. state.initial) d.states;
-  arg_names = args;
-  body = body.statements;
-  emit = body.emit;
-  nodes = fold_nodes d;
-  statements = fold_statements d;
-}))
+rest_of d states args = and_then (body_checked states args d.body) (λ body. Ok (fold_with d states args body))
 
 pub fold_sound : {d : FoldDef} {f : TypedFold} → fold_checked d ≡ Ok f → HasFold d f
 fold_sound {d} {f} e =

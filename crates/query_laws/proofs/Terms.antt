@@ -15,7 +15,8 @@ pub use Rattle.query_lang.specs.TypedFinals.{key_columns, other_columns, final_j
 pub use Rattle.query_lang.specs.TypedFinals.{final_checked, same_names}
 pub use Rattle.query_lang.specs.TypedFolds.{target_at, target_of, state_in, joined, inside, emit_condition, no_state, Adding, in_order}
 pub use Rattle.query_lang.specs.TypedFolds.{stmt_step, stmt_checked, expr_nodes, nodes_step, stmt_nodes, stmt_nodes_step, stmt_count}
-pub use Rattle.query_lang.specs.TypedFolds.{count_step, fold_nodes, fold_statements, states_from, args_from, body_checked, fold_checked}
+pub use Rattle.query_lang.specs.TypedFolds.{count_step, fold_nodes, fold_statements, states_from, args_from, body_checked, fold_with}
+pub use Rattle.query_lang.specs.TypedFolds.{fold_checked}
 pub use Rattle.query_lang.specs.TypedFolds.{or_else, state_step, first_of}
 pub use Rattle.query_lang.specs.TypedStreams.{column_names, others_from, columns_at, fold_named, new_columns, no_new_columns, keys_checked}
 pub use Rattle.query_lang.specs.TypedStreams.{arguments_of, key_names, meaning_of, as_stream, stream_named, as_fold, keys_from, begun}
