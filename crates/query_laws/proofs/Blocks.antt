@@ -83,6 +83,18 @@ pub record IsBlock (states args : List ℕ) (around : List TypedExpr) (ss : List
   pub emits : at_most_one found.emit ++ es ≡ at_most_one made.emit
   pub rule : HasBlock states args around ss ts es
 
+-- a statement, and then the rest of its block
+then_block : {states args : List ℕ} {around : List TypedExpr} {s : Stmt} {ss : List Stmt} {found between made : Body}
+    → Added states args around s found between → IsBlock states args around ss between made
+    → IsBlock states args around (s ∷ ss) found made
+then_block {found = found} one rest = record {
+  ts = one.ts ++ rest.ts;
+  es = one.es ++ rest.es;
+  statements = rest.statements ∙ ap (λ z. z ++ rest.ts) one.statements ∙ append_assoc found.statements one.ts rest.ts;
+  emits = sym (append_assoc (at_most_one found.emit) one.es rest.es) ∙ ap (λ z. z ++ rest.es) one.emits ∙ rest.emits;
+  rule = one.rule _ rest.ts rest.es rest.rule;
+}
+
 abbrev IsSound : List ℕ → List ℕ → Stmt → Type 0
 IsSound states args s = (around : List TypedExpr) (outer : Enclosing) (found made : Body) → Fits states around outer
     → stmt_checked states args s outer found ≡ Ok made → Added states args around s found made
@@ -113,15 +125,7 @@ block_of_sound [] {around} {found} {made} f e =
     }
 block_of_sound {states} {args} (s ∷ ss) {around} {outer} {found} {made} f e =
     let first = found_first (stmt_checked states args s.0 outer found) _ made e in
-    let one = s.1 around outer found first.0 f first.1 in
-    let rest = block_of_sound ss f first.2 in
-    record {
-      ts = one.ts ++ rest.ts;
-      es = one.es ++ rest.es;
-      statements = rest.statements ∙ ap (λ z. z ++ rest.ts) one.statements ∙ append_assoc found.statements one.ts rest.ts;
-      emits = sym (append_assoc (at_most_one found.emit) one.es rest.es) ∙ ap (λ z. z ++ rest.es) one.emits ∙ rest.emits;
-      rule = one.rule _ rest.ts rest.es rest.rule;
-    }
+    then_block (s.1 around outer found first.0 f first.1) (block_of_sound ss f first.2)
 
 moved : {states args : List ℕ} {around : List TypedExpr} {s r : Stmt} {found made : Body} → r ≡ s → Added states args around s found made
     → Added states args around r found made
@@ -180,15 +184,7 @@ pub block_sound : {states args : List ℕ} (ss : List Stmt) {around : List Typed
 block_sound [] f e = block_of_sound [] f e
 block_sound {states} {args} (s ∷ ss) {around} {outer} {found} {made} f e =
     let first = found_first (stmt_checked states args s outer found) _ made e in
-    let one = stmt_sound s around outer found first.0 f first.1 in
-    let rest = block_sound ss f first.2 in
-    record {
-      ts = one.ts ++ rest.ts;
-      es = one.es ++ rest.es;
-      statements = rest.statements ∙ ap (λ z. z ++ rest.ts) one.statements ∙ append_assoc found.statements one.ts rest.ts;
-      emits = sym (append_assoc (at_most_one found.emit) one.es rest.es) ∙ ap (λ z. z ++ rest.es) one.emits ∙ rest.emits;
-      rule = one.rule _ rest.ts rest.es rest.rule;
-    }
+    then_block (stmt_sound s around outer found first.0 f first.1) (block_sound ss f first.2)
 
 -- ---- from the rules to the check
 

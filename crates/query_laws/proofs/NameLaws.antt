@@ -11,6 +11,7 @@ use Rattle.query_laws.proofs.{Terms.{AreApart, HasArguments}, Steps.{must_ok, mu
 use Rattle.query_laws.proofs.Steps.{found_first, then_next, nat_same, nat_other, nat_is, nat_is_not, stands_place}
 use Rattle.query_laws.proofs.{ExprSound.{slot_stands, word_sound}, ExprComplete.word_complete}
 use Rattle.query_laws.proofs.FoldNames.{new_among, among_new, among_append, below}
+use Rattle.query_types.proofs.ViewLaws.{stream_meaning, fold_meaning}
 
 pub ok : {A : Type 0} {x y : A} → x ≡ y → (let r : Checked A = Ok x in r) ≡ Ok y
 ok {A} e = ap (λ z. let r : Checked A = Ok z in r) e
@@ -50,25 +51,13 @@ free_complete (one ∷ rest) id h = ap (λ b. is_some (cond b (Some one.meaning)
     ∙ free_complete rest id h.1
 
 pub stream_sound : (known : List Known) (name : Name) {s : StreamView} → stream_named known name ≡ Ok s → IsStream known name.id s
-stream_sound known name {s} e = go (meaning_of known name.id) refl e
-  where
-    go : (o : Option Meaning) → meaning_of known name.id ≡ o → as_stream o name.span ≡ Ok s → IsStream known name.id s
-    go None _ e = cc e
-    go (Some (meaning.Stream x)) is e = meaning_sound _ _ (is ∙ ap (λ z. Some (meaning.Stream z)) (same_ok x s e))
-    go (Some (meaning.Fold f)) _ e = cc e
-    go (Some (meaning.Final t)) _ e = cc e
+stream_sound known name e = meaning_sound _ _ (stream_meaning known name _ e)
 
 pub stream_complete : (known : List Known) (name : Name) {s : StreamView} → IsStream known name.id s → stream_named known name ≡ Ok s
 stream_complete _ name h = ap (λ o. as_stream o name.span) (meaning_complete _ _ h)
 
 pub fold_name_sound : (known : List Known) (name : Name) {f : FoldView} → fold_named known name ≡ Ok f → IsFold known name.id f
-fold_name_sound known name {f} e = go (meaning_of known name.id) refl e
-  where
-    go : (o : Option Meaning) → meaning_of known name.id ≡ o → as_fold o name.span ≡ Ok f → IsFold known name.id f
-    go None _ e = cc e
-    go (Some (meaning.Fold x)) is e = meaning_sound _ _ (is ∙ ap (λ z. Some (meaning.Fold z)) (same_ok x f e))
-    go (Some (meaning.Stream s)) _ e = cc e
-    go (Some (meaning.Final t)) _ e = cc e
+fold_name_sound known name e = meaning_sound _ _ (fold_meaning known name _ e)
 
 pub fold_name_complete : (known : List Known) (name : Name) {f : FoldView} → IsFold known name.id f → fold_named known name ≡ Ok f
 fold_name_complete _ name h = ap (λ o. as_fold o name.span) (meaning_complete _ _ h)
