@@ -1,15 +1,14 @@
 -- The examples, from their definitions.
-use Rattle.std.proofs.Common.{◌≡◌, ℕ, ◌-◌, ◌^◌, Bool, true, false, nat_lt, if◌then◌else◌, List, [], ◌∷◌, replicate, ap, ◌∙◌}
+use Rattle.std.proofs.Common.{◌≡◌, ℕ, ◌-◌, ◌^◌, Bool, nat_lt, if◌then◌else◌, List, [], ◌∷◌, replicate, ap, ◌∙◌}
 use Rattle.query_lang.specs.{declared.fold.TypedFold.TypedFold, Words.op_value, Blocks.Block, Folds.{after, fold_block, folded}}
 use Rattle.fold_class.specs.{declared.class.Kind.TheVariants.{Pure, Affine}, Tables.all_below, Kinds.{kinds_after, is_no_other}}
-use Rattle.enclosure_folds.specs.{Kinds.{role, is_monotone}, MonotoneExamples.{HasBody, IsFound, AreBounds, decayed_sum, clamped}}
-use Rattle.enclosure_folds.specs.MonotoneExamples.{wrapping_sum, shifted_left, choice_by_argument, choice_by_state, overwritten}
+use Rattle.enclosure_folds.specs.{Kinds.{role, is_monotone}, MonotoneExamples.{HasBody, AreBounds, decayed_sum, clamped}}
 use Rattle.epoch_entry.specs.Bounds.{least_state, greatest_state}
 
-abbrev walk : ℕ → Block → Bool
+abbrev pub walk : ℕ → Block → Bool
 walk n b = all_below n (λ v. is_no_other (kinds_after role b (λ s. if nat_lt s n then Affine else Pure) v))
 
-found : (n : ℕ) (b : Block) (f : TypedFold) → HasBody f n b → is_monotone f ≡ walk n b
+pub found : (n : ℕ) (b : Block) (f : TypedFold) → HasBody f n b → is_monotone f ≡ walk n b
 found n b f h = ap (λ z. walk z (fold_block f)) h.0 ∙ ap (walk n) h.1
 
 abbrev one_row : ℕ → ℕ → Block → List ℕ → List ℕ
@@ -21,27 +20,6 @@ from_least n b f row h = ap (λ z. one_row z 0 (fold_block f) row) h.0 ∙ ap (�
 from_greatest : (n : ℕ) (b : Block) (f : TypedFold) (row : List ℕ) → HasBody f n b
     → folded f (greatest_state f) (row ∷ []) ≡ one_row n (2 ^ 64 - 1) b row
 from_greatest n b f row h = ap (λ z. one_row z (2 ^ 64 - 1) (fold_block f) row) h.0 ∙ ap (λ z. one_row n (2 ^ 64 - 1) z row) h.1
-
-pub decayed_sum_found : IsFound 1 decayed_sum true
-decayed_sum_found f h = found 1 _ f h
-
-pub clamped_found : IsFound 1 clamped true
-clamped_found f h = found 1 _ f h
-
-pub wrapping_sum_found : IsFound 1 wrapping_sum false
-wrapping_sum_found f h = found 1 _ f h
-
-pub shifted_left_found : IsFound 1 shifted_left false
-shifted_left_found f h = found 1 _ f h
-
-pub choice_by_argument_found : IsFound 1 choice_by_argument true
-choice_by_argument_found f h = found 1 _ f h
-
-pub choice_by_state_found : IsFound 2 choice_by_state false
-choice_by_state_found f h = found 2 _ f h
-
-pub overwritten_found : IsFound 1 overwritten true
-overwritten_found f h = found 1 _ f h
 
 pub decayed_sum_bounds : AreBounds decayed_sum (8 ∷ []) (8 ∷ []) (9223372036854775816 ∷ [])
 unfolding op_value

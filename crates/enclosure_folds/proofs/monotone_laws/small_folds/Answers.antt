@@ -1,17 +1,16 @@
-use Rattle.enclosure_folds.proofs.MonotoneExampleFacts.{decayed_sum_found, clamped_found, wrapping_sum_found, shifted_left_found}
-use Rattle.enclosure_folds.proofs.MonotoneExampleFacts.{choice_by_argument_found, choice_by_state_found, overwritten_found}
-use Rattle.enclosure_folds.proofs.MonotoneExampleFacts.{decayed_sum_bounds, clamped_bounds}
+use Rattle.enclosure_folds.specs.MonotoneExamples as fold
+use Rattle.enclosure_folds.proofs.MonotoneExampleFacts.{found, decayed_sum_bounds, clamped_bounds}
 use Rattle.enclosure_folds.proofs.monotone_laws.small_folds.Goals as goal
 
 pub returns : goal.returns
 returns c = record {
-  decayed_sum = decayed_sum_found;
-  clamped = clamped_found;
-  wrapping_sum = wrapping_sum_found;
-  shifted_left = shifted_left_found;
-  choice_by_argument = choice_by_argument_found;
-  choice_by_state = choice_by_state_found;
-  overwritten = overwritten_found;
+  decayed_sum = found 1 fold.decayed_sum;
+  clamped = found 1 fold.clamped;
+  wrapping_sum = found 1 fold.wrapping_sum;
+  shifted_left = found 1 fold.shifted_left;
+  choice_by_argument = found 1 fold.choice_by_argument;
+  choice_by_state = found 2 fold.choice_by_state;
+  overwritten = found 1 fold.overwritten;
   within = decayed_sum_bounds;
   exact = clamped_bounds;
 }
