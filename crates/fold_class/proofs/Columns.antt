@@ -6,7 +6,7 @@ use Rattle.query_lang.specs.{Blocks.{Block, End, Set, Fork}, Folds.{fold_states,
 use Rattle.fold_code.specs.{Machine.{Domain, at}, Tree.{term_in, after_in}}
 use Rattle.coeff_algebra.specs.Elements.{Elements}
 use Rattle.fold_class.specs.{declared.class.Algebra.Algebra, Kinds.{Role, Sum, Difference, Product, Outside, role}, Depth.is_history}
-use Rattle.fold_class.specs.Parts.{Part, Fixed, Share, Lost, parts, part_operation, part_negation, part_test, part_mask, part_choice}
+use Rattle.fold_class.specs.Parts.{Part, Fixed, Share, Lost, parts, part_operation, share_operation, part_negation, part_test, part_mask, part_choice}
 use Rattle.fold_class.specs.Parts.{row_shares, column_shares}
 use Rattle.fold_class.specs.Step.{list_of, rank, dimension, first_row, step_rows, first_column, step_column}
 
@@ -30,21 +30,19 @@ module _ {C : Type 0} (k : Elements C) (n : ℕ) (algebra : Algebra) (c : ℕ) w
   abbrev col : Part (ℕ → C) → Part C
   col = column_of c
 
+  shares_column : (r : Role) (d e : ℕ → C) (product : Part (ℕ → C)) → col (share_operation (row_shares k n).sum (row_shares k n).scale r d e product)
+      ≡ share_operation (column_shares k n c).sum (column_shares k n c).scale r (d c) (e c) (col product)
+  shares_column Sum d e product = refl
+  shares_column Difference d e product = refl
+  shares_column Product d e product = refl
+  shares_column Outside d e product = refl
+
   operation_column : (r : Role) (f : ℕ → ℕ → ℕ) (p q : Part (ℕ → C)) → col (part_operation (row_shares k n) r f p q) ≡ part_operation
       (column_shares k n c) r f (col p) (col q)
   operation_column r f (Fixed u) (Fixed t) = refl
-  operation_column Sum f (Fixed u) (Share e) = refl
-  operation_column Sum f (Share d) (Fixed t) = refl
-  operation_column Sum f (Share d) (Share e) = refl
-  operation_column Difference f (Fixed u) (Share e) = refl
-  operation_column Difference f (Share d) (Fixed t) = refl
-  operation_column Difference f (Share d) (Share e) = refl
-  operation_column Product f (Fixed u) (Share e) = refl
-  operation_column Product f (Share d) (Fixed t) = refl
-  operation_column Product f (Share d) (Share e) = refl
-  operation_column Outside f (Fixed u) (Share e) = refl
-  operation_column Outside f (Share d) (Fixed t) = refl
-  operation_column Outside f (Share d) (Share e) = refl
+  operation_column r f (Fixed u) (Share e) = shares_column r _ _ _
+  operation_column r f (Share d) (Fixed t) = shares_column r _ _ _
+  operation_column r f (Share d) (Share e) = shares_column r _ _ _
   operation_column r f (Fixed u) Lost = refl
   operation_column r f (Share d) Lost = refl
   operation_column r f Lost q = refl
