@@ -1,10 +1,10 @@
 //! The statements of a body as a tree. It is built only for bodies within the bounds of a fold, so it isn't deep.
 
-ghost use Rattle.std.specs.Prelude.{◌≡◌, ◌≤◌, ◌↔◌, IsTrue, true, false, ◌+◌, ◌-◌, ◌<◌, ◌++◌, ◌∷◌, [], List, length, count_by, IfOk, IfSome};
-ghost use Rattle.std.specs.Prelude.{MatchOption};
+ghost use Rattle.std.specs.Prelude.{◌≡◌, ◌≤◌, ◌↔◌, IsTrue, true, false, ◌+◌, ◌-◌, ◌<◌, ◌++◌, ◌∷◌, [], List, length, count_by, IfOk};
+ghost use Rattle.std.specs.Prelude.{MatchOption, MatchResult};
 ghost use Rattle.query_lang.specs.{Blocks.{Block, End, Fork, Set, block_of, stmt_block}, Terms.{Term, term_of}};
 ghost use Rattle.query_lang.specs.Folds.{IsValidTerm, IsValidBlock, block_nodes, block_count};
-ghost use Rattle.plan_file.specs.{declared.lexemes.Lexeme.Lexeme, Bodies.{written, written_block, IsBody}};
+ghost use Rattle.plan_file.specs.{declared.{lexemes.Lexeme.Lexeme, tree.Stop.TheVariants.Memory}, Bodies.{written, written_block, IsBody}};
 ghost use Rattle.plan_file.specs.Trees as Trees;
 ghost use Rattle.plan_file.specs.Trees.{AreSmall, Closes, IsStatement, is_leaf, first_of};
 
@@ -12,6 +12,31 @@ use crate::lexemes::Lexeme;
 use marple_base::{Boxed, Seq};
 use query_lang::{MAX_ARGS, MAX_STATES, TypedExpr, TypedStmt};
 use std::alloc::{AllocError, Global};
+
+/// The memory that statements take, the number of state variables, and that of slots: them and the arguments.
+#[derive(Clone, Copy)]
+struct Reader {
+    alloc: Global,
+    states: u64,
+    slots: u64,
+    ghost states_first: { states ≤ slots },
+    ghost few: { slots ≤ 24 },
+}
+
+/// Why nothing is read: the tokens write something else, or memory ran out.
+#[derive(Clone, Copy)]
+enum Stop {
+    Other,
+    Memory,
+}
+
+impl From<AllocError> for Stop {
+    ghost from_gives = { λ _ stop. stop ≡ Memory };
+
+    fn from(_: AllocError) -> Stop {
+        Stop::Memory
+    }
+}
 
 fn is_node(word: Lexeme) -> bool
     ensures { result ≡ Trees.is_node word }
@@ -67,22 +92,20 @@ fn are_small(words: &[Lexeme], nodes: u32, statements: u32) -> bool
 }
 
 // A number or a slot.
-fn leaf(states: u64, slots: u64, word: Lexeme) -> Option<TypedExpr>
-    requires states { states ≤ slots }
-    requires slots { slots ≤ 24 }
-    ensures { (e : Term) → IsValidTerm slots e → is_leaf e ≡ true → word ≡ first_of states e
+fn leaf(reader: Reader, word: Lexeme) -> Option<TypedExpr>
+    ensures { (e : Term) → IsValidTerm reader.slots e → is_leaf e ≡ true → word ≡ first_of reader.states e
         → MatchOption result ⊥ (λ leaf. term_of leaf ≡ e) }
 {
     match word {
         Lexeme::Number(n) => Some(TypedExpr::Number(n)),
-        Lexeme::State(s) => if s < states {
+        Lexeme::State(s) => if s < reader.states {
             Some(TypedExpr::Slot(s as u16))
         } else {
             None
         },
         Lexeme::Argument(a) => {
-            if a < slots - states {
-                Some(TypedExpr::Slot((states + a) as u16))
+            if a < reader.slots - reader.states {
+                Some(TypedExpr::Slot((reader.states + a) as u16))
             } else {
                 None
             }
@@ -92,163 +115,108 @@ fn leaf(states: u64, slots: u64, word: Lexeme) -> Option<TypedExpr>
 }
 
 // The expression that tokens begin with, and the tokens after it.
-fn expression<'a>(
-    alloc: Global,
-    states: u64,
-    slots: u64,
-    words: &'a [Lexeme],
-) -> Result<Option<(TypedExpr, &'a [Lexeme])>, AllocError>
-    requires states { states ≤ slots }
-    requires slots { slots ≤ 24 }
-    ensures found { IfOk result (λ found. (e : Term) → (rest : List Lexeme) → IsValidTerm slots e
-        → words.now ≡ written states e ++ rest → MatchOption found ⊥ (λ r. (term_of r.0 ≡ e) × (r.1.now ≡ rest))) }
-    ensures shorter { IfOk result (λ found. IfSome found (λ r. length r.1.now < length words.now)) }
+fn expression<'a>(reader: Reader, words: &'a [Lexeme]) -> Result<(TypedExpr, &'a [Lexeme]), Stop>
+    ensures found { (e : Term) → (rest : List Lexeme) → IsValidTerm reader.slots e → words.now ≡ written reader.states e ++ rest
+        → MatchResult result (λ r. (term_of r.0 ≡ e) × (r.1.now ≡ rest)) (λ stop. stop ≡ Memory) }
+    ensures shorter { IfOk result (λ r. length r.1.now < length words.now) }
 {
     let (first, rest) = match words {
-        [] => return Ok(None),
+        [] => return Err(Stop::Other),
         [first, rest @ ..] => (*first, rest),
     };
     match first {
-        Lexeme::Not => match expression(alloc, states, slots, rest)? {
-            Some((inner, past)) => Ok(Some((TypedExpr::Not(Boxed::new(alloc, inner)?), past))),
-            None => Ok(None),
-        },
-        Lexeme::Function(op) => {
-            let (left, middle) = match expression(alloc, states, slots, rest)? {
-                Some(found) => found,
-                None => return Ok(None),
-            };
-            match expression(alloc, states, slots, middle)? {
-                Some((right, past)) => Ok(Some((
-                    TypedExpr::Binary(op, Boxed::new(alloc, left)?, Boxed::new(alloc, right)?),
-                    past,
-                ))),
-                None => Ok(None),
-            }
+        Lexeme::Not => {
+            let (inner, past) = expression(reader, rest)?;
+            Ok((TypedExpr::Not(Boxed::new(reader.alloc, inner)?), past))
         }
-        _ => match leaf(states, slots, first) {
-            Some(leaf) => Ok(Some((leaf, rest))),
-            None => Ok(None),
+        Lexeme::Function(op) => {
+            let (left, middle) = expression(reader, rest)?;
+            let (right, past) = expression(reader, middle)?;
+            let left = Boxed::new(reader.alloc, left)?;
+            Ok((
+                TypedExpr::Binary(op, left, Boxed::new(reader.alloc, right)?),
+                past,
+            ))
+        }
+        _ => match leaf(reader, first) {
+            Some(leaf) => Ok((leaf, rest)),
+            None => Err(Stop::Other),
         },
     }
 }
 
 // An assignment after its `set` and the number of its state variable, and the tokens after the assignment.
 fn assignment<'a>(
-    alloc: Global,
-    states: u64,
-    slots: u64,
+    reader: Reader,
     variable: u64,
     words: &'a [Lexeme],
-) -> Result<Option<(TypedStmt, &'a [Lexeme])>, AllocError>
-    requires states { states ≤ slots }
-    requires slots { slots ≤ 24 }
-    ensures found { IfOk result (λ found. (e : Term) → (rest : List Lexeme) → variable < states → IsValidTerm slots e
-        → words.now ≡ written states e ++ rest
-        → MatchOption found ⊥ (λ r. (stmt_block r.0 ≡ Set variable e End) × (r.1.now ≡ rest))) }
-    ensures shorter { IfOk result (λ found. IfSome found (λ r. length r.1.now < length words.now)) }
+) -> Result<(TypedStmt, &'a [Lexeme]), Stop>
+    ensures found { (e : Term) → (rest : List Lexeme) → variable < reader.states → IsValidTerm reader.slots e
+        → words.now ≡ written reader.states e ++ rest
+        → MatchResult result (λ r. (stmt_block r.0 ≡ Set variable e End) × (r.1.now ≡ rest)) (λ stop. stop ≡ Memory) }
+    ensures shorter { IfOk result (λ r. length r.1.now < length words.now) }
 {
-    if variable >= states {
-        return Ok(None);
+    if variable >= reader.states {
+        return Err(Stop::Other);
     }
-    match expression(alloc, states, slots, words)? {
-        Some((value, past)) => Ok(Some((TypedStmt::Assign(variable as u16, value), past))),
-        None => Ok(None),
-    }
+    let (value, past) = expression(reader, words)?;
+    Ok((TypedStmt::Assign(variable as u16, value), past))
 }
 
 // The tokens after the first one, where that is a brace of this kind.
-fn after_brace(words: &[Lexeme], opens: bool) -> Option<&[Lexeme]>
-    ensures { MatchOption result ((rest : List Lexeme) → words.now ≡ Trees.brace opens ∷ rest
-        → ⊥) (λ rest. words.now ≡ Trees.brace opens ∷ rest.now) }
+fn after_brace(words: &[Lexeme], opens: bool) -> Result<&[Lexeme], Stop>
+    ensures { MatchResult result (λ rest. words.now ≡ Trees.brace opens ∷ rest.now)
+        (λ _. (rest : List Lexeme) → words.now ≡ Trees.brace opens ∷ rest → ⊥) }
 {
     match words {
-        [Lexeme::Open, rest @ ..] => if opens { Some(rest) } else { None },
-        [Lexeme::Close, rest @ ..] => if opens { None } else { Some(rest) },
-        _ => None,
+        [Lexeme::Open, rest @ ..] if opens => Ok(rest),
+        [Lexeme::Close, rest @ ..] if !opens => Ok(rest),
+        _ => Err(Stop::Other),
     }
 }
 
 // The statements in braces that tokens begin with, and the tokens after the closing brace.
 #[cycle(statements)]
-fn braced<'a>(
-    alloc: Global,
-    states: u64,
-    slots: u64,
-    words: &'a [Lexeme],
-) -> Result<Option<(Seq<TypedStmt>, &'a [Lexeme])>, AllocError>
-    requires states { states ≤ slots }
-    requires slots { slots ≤ 24 }
-    ensures found { IfOk result (λ found. (b : Block) → (rest : List Lexeme) → IsValidBlock states (slots - states) b
-        → words.now ≡ Trees.brace true ∷ (written_block states b ++ Trees.brace false ∷ rest)
-        → MatchOption found ⊥ (λ r. (block_of r.0 ≡ b) × (r.1.now ≡ rest))) }
-    ensures shorter { IfOk result (λ found. IfSome found (λ r. length r.1.now < length words.now)) }
+fn braced<'a>(reader: Reader, words: &'a [Lexeme]) -> Result<(Seq<TypedStmt>, &'a [Lexeme]), Stop>
+    ensures found { (b : Block) → (rest : List Lexeme) → IsValidBlock reader.states (reader.slots - reader.states) b
+        → words.now ≡ Trees.brace true ∷ (written_block reader.states b ++ Trees.brace false ∷ rest)
+        → MatchResult result (λ r. (block_of r.0 ≡ b) × (r.1.now ≡ rest)) (λ stop. stop ≡ Memory) }
+    ensures shorter { IfOk result (λ r. length r.1.now < length words.now) }
 {
-    let inside = match after_brace(words, true) {
-        Some(inside) => inside,
-        None => return Ok(None),
-    };
-    let (body, left) = match statements(alloc, states, slots, inside)? {
-        Some(found) => found,
-        None => return Ok(None),
-    };
-    match after_brace(left, false) {
-        Some(rest) => Ok(Some((body, rest))),
-        None => Ok(None),
-    }
+    let inside = after_brace(words, true)?;
+    let (body, left) = statements(reader, inside)?;
+    let rest = after_brace(left, false)?;
+    Ok((body, rest))
 }
 
 // A choice after its `if`, and the tokens after the choice.
 #[cycle(statements)]
-fn choice<'a>(
-    alloc: Global,
-    states: u64,
-    slots: u64,
-    words: &'a [Lexeme],
-) -> Result<Option<(TypedStmt, &'a [Lexeme])>, AllocError>
-    requires states { states ≤ slots }
-    requires slots { slots ≤ 24 }
-    ensures found { IfOk result (λ found. (c : Term) → (a b : Block) → (rest : List Lexeme) → IsValidTerm slots c
-        → IsValidBlock states (slots - states) a → IsValidBlock states (slots - states) b
-        → words.now ≡ Trees.written_choice states c a b ++ rest
-        → MatchOption found ⊥ (λ r. (stmt_block r.0 ≡ Fork c a b End) × (r.1.now ≡ rest))) }
-    ensures shorter { IfOk result (λ found. IfSome found (λ r. length r.1.now < length words.now)) }
+fn choice<'a>(reader: Reader, words: &'a [Lexeme]) -> Result<(TypedStmt, &'a [Lexeme]), Stop>
+    ensures found { (c : Term) → (a b : Block) → (rest : List Lexeme) → IsValidTerm reader.slots c
+        → IsValidBlock reader.states (reader.slots - reader.states) a
+        → IsValidBlock reader.states (reader.slots - reader.states) b
+        → words.now ≡ Trees.written_choice reader.states c a b ++ rest
+        → MatchResult result (λ r. (stmt_block r.0 ≡ Fork c a b End) × (r.1.now ≡ rest)) (λ stop. stop ≡ Memory) }
+    ensures shorter { IfOk result (λ r. length r.1.now < length words.now) }
 {
-    let (condition, rest) = match expression(alloc, states, slots, words)? {
-        Some(found) => found,
-        None => return Ok(None),
-    };
-    let (then_block, rest) = match braced(alloc, states, slots, rest)? {
-        Some(found) => found,
-        None => return Ok(None),
-    };
-    match braced(alloc, states, slots, rest)? {
-        Some((else_block, rest)) => {
-            Ok(Some((TypedStmt::If(condition, then_block, else_block), rest)))
-        }
-        None => Ok(None),
-    }
+    let (condition, rest) = expression(reader, words)?;
+    let (then_block, rest) = braced(reader, rest)?;
+    let (else_block, rest) = braced(reader, rest)?;
+    Ok((TypedStmt::If(condition, then_block, else_block), rest))
 }
 
 // The statement that tokens begin with, and the tokens after it.
 #[cycle(statements)]
-fn statement<'a>(
-    alloc: Global,
-    states: u64,
-    slots: u64,
-    words: &'a [Lexeme],
-) -> Result<Option<(TypedStmt, &'a [Lexeme])>, AllocError>
-    requires states { states ≤ slots }
-    requires slots { slots ≤ 24 }
-    ensures found { IfOk result (λ found. (one : Block) → (rest : List Lexeme) → IsStatement one
-        → IsValidBlock states (slots - states) one → words.now ≡ written_block states one ++ rest
-        → MatchOption found ⊥ (λ r. (stmt_block r.0 ≡ one) × (r.1.now ≡ rest))) }
-    ensures shorter { IfOk result (λ found. IfSome found (λ r. length r.1.now < length words.now)) }
+fn statement<'a>(reader: Reader, words: &'a [Lexeme]) -> Result<(TypedStmt, &'a [Lexeme]), Stop>
+    ensures found { (one : Block) → (rest : List Lexeme) → IsStatement one
+        → IsValidBlock reader.states (reader.slots - reader.states) one → words.now ≡ written_block reader.states one ++ rest
+        → MatchResult result (λ r. (stmt_block r.0 ≡ one) × (r.1.now ≡ rest)) (λ stop. stop ≡ Memory) }
+    ensures shorter { IfOk result (λ r. length r.1.now < length words.now) }
 {
     match words {
-        [Lexeme::Set, Lexeme::State(v), rest @ ..] => assignment(alloc, states, slots, *v, rest),
-        [Lexeme::If, rest @ ..] => choice(alloc, states, slots, rest),
-        _ => Ok(None),
+        [Lexeme::Set, Lexeme::State(v), rest @ ..] => assignment(reader, *v, rest),
+        [Lexeme::If, rest @ ..] => choice(reader, rest),
+        _ => Err(Stop::Other),
     }
 }
 
@@ -262,30 +230,22 @@ fn begins_statement(words: &[Lexeme]) -> bool
 // The statements that tokens begin with, and the tokens after them.
 #[cycle(statements)]
 fn statements<'a>(
-    alloc: Global,
-    states: u64,
-    slots: u64,
+    reader: Reader,
     words: &'a [Lexeme],
-) -> Result<Option<(Seq<TypedStmt>, &'a [Lexeme])>, AllocError>
-    requires states { states ≤ slots }
-    requires slots { slots ≤ 24 }
-    ensures found { IfOk result (λ found. (b : Block) → (rest : List Lexeme) → Closes rest
-        → IsValidBlock states (slots - states) b → words.now ≡ written_block states b ++ rest
-        → MatchOption found ⊥ (λ r. (block_of r.0 ≡ b) × (r.1.now ≡ rest))) }
-    ensures shorter { IfOk result (λ found. IfSome found (λ r. length r.1.now ≤ length words.now)) }
+) -> Result<(Seq<TypedStmt>, &'a [Lexeme]), Stop>
+    ensures found { (b : Block) → (rest : List Lexeme) → Closes rest → IsValidBlock reader.states (reader.slots - reader.states) b
+        → words.now ≡ written_block reader.states b ++ rest
+        → MatchResult result (λ r. (block_of r.0 ≡ b) × (r.1.now ≡ rest)) (λ stop. stop ≡ Memory) }
+    ensures shorter { IfOk result (λ r. length r.1.now ≤ length words.now) }
 {
-    let mut found = Seq::new(alloc);
+    let mut found = Seq::new(reader.alloc);
     let mut left = words;
     'statements: while begins_statement(left) {
-        match statement(alloc, states, slots, left)? {
-            Some((one, past)) => {
-                found.push(one)?;
-                left = past;
-            }
-            None => return Ok(None),
-        }
+        let (one, past) = statement(reader, left)?;
+        found.push(one)?;
+        left = past;
     }
-    Ok(Some((found, left)))
+    Ok((found, left))
 }
 
 /// The statements of a body, where they have at most the given nodes and statements.
@@ -306,8 +266,14 @@ pub(crate) fn body_of(
     if !are_small(words, nodes, most) {
         return Ok(None);
     }
-    match statements(alloc, states, states + args, words)? {
-        Some((body, _)) => Ok(Some(body)),
-        None => Ok(None),
+    let reader = Reader {
+        alloc,
+        states,
+        slots: states + args,
+    };
+    match statements(reader, words) {
+        Ok((body, _)) => Ok(Some(body)),
+        Err(Stop::Other) => Ok(None),
+        Err(Stop::Memory) => Err(AllocError),
     }
 }

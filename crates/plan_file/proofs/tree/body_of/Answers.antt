@@ -7,14 +7,16 @@ returns-then-not-are_small c b is n s =
     let small = c.are_small.ensures.1 (body_small c.args.states c.args.words.now b c.args.nodes c.args.most is.statements n s) in
     cc (c.if-not-are_small.true, small)
 
-pub returns-in-Some : goal.returns-in-Some
-returns-in-Some c b is =
-    let h = rw c.in-Some.is at (c.in_ok-body.ensures.found b [] tt (same_args c.args.states c.args.args b is.typed)
-    (is.statements ∙ sym (append-nil (written_block c.args.states b)))) in
+pub returns-in-Ok : goal.returns-in-Ok
+returns-in-Ok c b is =
+    let h = c.in-Ok.ensures.found b [] tt (same_args c.args.states c.args.args b is.typed)
+    (is.statements ∙ sym (append-nil (written_block c.args.states b))) in
     let small = small_body c.args.states c.args.words.now b c.args.nodes c.args.most is.statements
     (c.are_small.ensures.0 c.if-not-are_small.false) in
     (h.0, small.0, small.1)
 
-pub returns-in-None : goal.returns-in-None
-returns-in-None c b is n s = absurd (rw c.in-None.is at (c.in_ok-body.ensures.found b [] tt (same_args c.args.states c.args.args b is.typed)
-    (is.statements ∙ sym (append-nil (written_block c.args.states b)))))
+pub returns-in-Err-Other : goal.returns-in-Err-Other
+returns-in-Err-Other c b is n s =
+    let h = c.in-Err-Other.ensures.found b [] tt (same_args c.args.states c.args.args b is.typed)
+    (is.statements ∙ sym (append-nil (written_block c.args.states b))) in
+    cc
