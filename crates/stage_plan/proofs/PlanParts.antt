@@ -247,14 +247,8 @@ module _ (q : TypedQuery) (valid : IsValidQuery q) (ops : List PlanOp) (streams 
         subst Q streams_are (subst P ops_are staged_here)
 
     pub is_plan : IsPlanOf q parts
-    is_plan = record {
-      groups = count;
-      takes = takes_are;
-      programs = programs_are;
-      reads = reads_are;
-      staged = staged_parts;
-      shape = same_shape;
-    }
+    is_plan =
+        record { groups = count; takes = takes_are; programs = programs_are; reads = reads_are; staged = staged_parts; shape = same_shape }
 
     sound_group : (i : ℕ) (group : GroupPlan) (wiring : GroupWiring) → slice_get groups i ≡ Some group
         → slice_get parts.wiring i ≡ Some wiring → IsSoundGroup (FIELDS + length sorted) group wiring
