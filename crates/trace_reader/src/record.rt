@@ -54,10 +54,7 @@ pub fn columns(header: &Records<'_>, reads: FieldSet) -> Result<[Option<usize>; 
 {
     let mut columns = [None; FIELDS];
     for i in 0..FIELDS {
-        match column(header, reads, Field::ALL[i]) {
-            Ok(found) => columns[i] = found,
-            Err(fault) => return Err(fault),
-        }
+        columns[i] = column(header, reads, Field::ALL[i])?;
     }
     Ok(columns)
 }
