@@ -18,8 +18,9 @@ decreases-statements l = 2 * length l.words.now + 1
 abbrev pub invariant-statements-statements : goal.invariant-statements-statements
 invariant-statements-statements l = record {
   size : length l.left ≤ length l.words;
-  goes : (b : Block) (rest : List Lexeme) → Closes rest → IsValidBlock l.reader.states (l.reader.slots - l.reader.states) b → l.words ≡ written_block l.reader.states b
-      ++ rest → IsLeft l.reader.states (l.reader.slots - l.reader.states) l.found l.left b rest;
+  goes : (b : Block) (rest : List Lexeme) → Closes rest → IsValidBlock l.reader.states (l.reader.slots - l.reader.states) b
+      → l.words ≡ written_block l.reader.states b ++ rest
+      → IsLeft l.reader.states (l.reader.slots - l.reader.states) l.found l.left b rest;
 }
 
 abbrev pub decreases-statements-statements : goal.decreases-statements-statements
