@@ -8,20 +8,11 @@ use std::alloc::{AllocError, Global};
 use std::marker::Model;
 
 /// A fixed number of words at each place, stored one entry after another.
+#[derive(Drop)]
 pub struct Entries {
     width: usize,
     places: usize,
     words: Vec<u64>,
-}
-
-impl Drop for Entries {
-    fn drop(self) {
-        let Entries {
-            width: _,
-            places: _,
-            words: _,
-        } = self;
-    }
 }
 
 impl Model for Entries {
