@@ -10,7 +10,7 @@ use Rattle.fold_class.proofs.LawLemmas.{additive_class}
 use Rattle.epoch_model.specs.{declared.tables.Row.Row, Keys.{AreAbove, ArgRow, IsAscending, Key, ascending, has, key_cmp, key_eq}}
 use Rattle.epoch_model.specs.{Driving.{Taken, event_of}, Epochs.Geometry, Laws.{HasRoom, rows_given}}
 use Rattle.epoch_model.specs.{Machine.{Epoch, Event, Evict, Merge, lists_of}, TableLaws.keys_given}
-use Rattle.epoch_model.specs.Tables.{Folding, closed_key_rows, closed_keys, closed_rows, epoch_rows, exact_row, folded}
+use Rattle.epoch_model.specs.Tables.{Folding, closed_key_rows, closed_keys, closed_rows, epoch_rows, exact_row}
 use Rattle.epoch_model.proofs.{KeyLists.{by_test, key_eq-true}, KeyOrder.{ascending-ascends, has-ascending}}
 use Rattle.epoch_model.proofs.TableRows.{given-some, joined-some, same_keys}
 use Rattle.epoch_entry.specs.Foldings.{folding_of}

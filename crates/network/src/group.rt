@@ -40,20 +40,11 @@ fn all_drained<const WAYS: usize>(fronts: &[Front<AnyEpochs, WAYS>]) -> bool
 }
 
 /// What is kept for one groupby of all switches: a cache and a pipe for each switch, and one store.
+#[derive(Drop)]
 pub struct Group<const WAYS: usize> {
     kind: AnyEpochs,
     fronts: Vec<Front<AnyEpochs, WAYS>>,
     store: BackingStore,
-}
-
-impl<const WAYS: usize> Drop for Group<WAYS> {
-    fn drop(self) {
-        let Group {
-            kind: _,
-            fronts: _,
-            store: _,
-        } = self;
-    }
 }
 
 impl<const WAYS: usize> Model for Group<WAYS> {

@@ -1,5 +1,5 @@
 -- Each groupby gets a front more; out of memory, those that have one lose it again.
-use Rattle.std.proofs.{Common.{◌≡◌, ◌<◌, ◌+◌, length, get_or, set, sym, ap, ◌∙◌, subst, arith, lit<}, Math.Facts.Fits-below}
+use Rattle.std.proofs.{Common.{◌≡◌, ◌+◌, length, get_or, set, sym, ap, ◌∙◌, subst, arith, lit<}, Math.Facts.Fits-below}
 use Rattle.query_lang.specs.declared.fault.TheConstants.{MAX_KEYS}
 use Rattle.stage_plan.specs.{Planned.wiring_at, Sound.IsSoundGroup}
 use Rattle.switch_core.proofs.SideBySide.{same_some, each_long, done_start, untouched_start, done_next, untouched_next, was_there}

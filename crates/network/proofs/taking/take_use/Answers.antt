@@ -1,4 +1,4 @@
-use Rattle.std.proofs.Common.{◌≡◌, ℕ, ◌+◌, ◌*◌, ◌≤◌, true, false, [], Option, Some, map, refl, sym, ap, ◌∙◌, subst, arith}
+use Rattle.std.proofs.Common.{◌≡◌, ℕ, ◌+◌, ◌*◌, ◌≤◌, [], Option, Some, map, refl, sym, ap, ◌∙◌, subst, arith}
 use Rattle.epoch_model.specs.{Driving.{Taken, event_of}, Keys.{Key, ArgRow}}
 use Rattle.epoch_entry.specs.contracts.any.AnyEpochsEpochKind.TheImpl.{ghosts}
 use Rattle.stage_plan.specs.{Planned.wiring_at, Registers.{operand_value, taken_at}}

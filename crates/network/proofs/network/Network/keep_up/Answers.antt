@@ -96,19 +96,14 @@ returns-clause-cost g c = omega (
 
 pub returns-in_err-keep_lane-clause-breaks_off : goal.returns-in_err-keep_lane-clause-breaks_off
 returns-in_err-keep_lane-clause-breaks_off g c =
-    let ways = g.row.WAYS in
-    let at = c.args.at in
-    let upkeep = c.args.upkeep in
     let lane = c.loop-lane.lane in
     let old = c.args.self.now in
-    let cur = c.loop-lane.self in
-    let new = c.keep_lane.new.self in
-    let was = c.loop-lane.invariant in
-    let less = c.loop-lane-test.true in
     let end = c.lanes-lane-end.ensures in
-    let same = was.still lane at (λ e. let l = e.0 in omega arith) in
-    if_err _ c.from_residual.result (run_breaks ways (lane_calls at upkeep old) lane (length old.groups) old cur new (omega arith) was.runs
-    (subst (λ o. RunBreaksOff ways (calls_of at lane (upkeep_in upkeep o)) cur new) same c.in_err-keep_lane.ensures.breaks_off))
+    let less = c.loop-lane-test.true in
+    if_err _ c.from_residual.result (run_breaks g.row.WAYS (lane_calls c.args.at c.args.upkeep old) lane (length old.groups) old
+    c.loop-lane.self c.keep_lane.new.self (omega arith) c.loop-lane.invariant.runs
+    (subst (λ o. RunBreaksOff g.row.WAYS (calls_of c.args.at lane (upkeep_in c.args.upkeep o)) c.loop-lane.self c.keep_lane.new.self)
+    (c.loop-lane.invariant.still lane c.args.at (λ e. let l = e.0 in omega arith)) c.in_err-keep_lane.ensures.breaks_off))
 
 pub returns-in_err-keep_lane-clause-cost : goal.returns-in_err-keep_lane-clause-cost
 returns-in_err-keep_lane-clause-cost g c =
