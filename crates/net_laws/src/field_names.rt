@@ -1,13 +1,12 @@
 //! Columns that have a field's name.
 
-ghost use Rattle.std.specs.Prelude.{◌≡◌, slice_get};
+ghost use Rattle.std.specs.Prelude.{◌≡◌};
 ghost use Rattle.net_laws.specs.Fields.{is_named, makes_field, names_field};
 ghost use Rattle.net_wide.specs.Combining.{columns_made};
 
 use marple_base::Field;
 use query_lang::{Names, TypedOp, TypedStream};
 
-// Whether the name with this number is the field's.
 fn is_named(field: Field, names: &Names, id: u32) -> bool
     ensures { result ≡ is_named field names.now id }
 {
