@@ -1,10 +1,12 @@
 -- what is printed of the packets so far is the report of the tables that a view gives
-use Rattle.std.{proofs.Common.{None, ◌++◌, sym, ap, ap₂, ◌∙◌, subst, take}, specs.Io.KnownBytes.Appends}
+use Rattle.std.{proofs.Common.{◌≡◌, ℕ, List, None, ◌++◌, sym, ap, ap₂, ◌∙◌, subst, take}, specs.Io.KnownBytes.Appends}
+use Rattle.epoch_model.specs.Epochs.{Geometry}
 use Rattle.stage_plan.specs.Sound.{IsSoundPlan}
 use Rattle.switch_core.specs.PlanLanes.{AreLanesOf}
 use Rattle.trace_drive.{specs.Answers.BreaksOff, proofs.Breaking.{err_is, nothing_taken, then_err, then_ok}}
-use Rattle.query_run.proofs.Seen.{seen_tables, seen_whole}
+use Rattle.query_run.{specs.{Reports.Prints, Views.{IsAsFarAs, view_text}}, proofs.Seen.{seen_tables, seen_whole}}
 use Rattle.query_run.proofs.showing.write_view.Goals as goal
+use Rattle.query_run.proofs.showing.write_view.Goals.{After-write_report}
 
 pub write_report-requires : goal.write_report-requires
 write_report-requires g c =
@@ -26,29 +28,26 @@ pub returns-in_err-line-clause-breaks_off : goal.returns-in_err-line-clause-brea
 returns-in_err-line-clause-breaks_off g c =
     err_is _ _ _ c.from_residual-in_err-line.ensures.1 (λ text of packets prints far. nothing_taken _ _)
 
-pub returns-clause-written : goal.returns-clause-written
-returns-clause-written g c =
+-- what is written is the text of the view
+written_is : (g : _) (c : After-write_report g) (text : Geometry → List (List ℕ) → List ℕ) (of : Geometry) (packets : List (List ℕ))
+    → Prints (g.R.Report.entries c.args.report.now) c.args.pipeline.now.plan (g.R.Report.printed c.args.report.now) text
+    → IsAsFarAs of packets c.args.number c.args.pipeline.now
+    → c.in_ok-line.line ++ g.R.Report.printed c.args.report.now c.in_ok-tables.tables ≡ view_text (text of) packets c.args.number
+written_is g c text of packets prints far =
     let p = c.args.pipeline.now in
-    let report = c.args.report.now in
-    let number = c.args.number in
     let planned = subst IsSoundPlan c.plan.ensures c.invariant-2.ensures in
     let lanes = subst (λ e. AreLanesOf e p.plan p.buckets p.lanes) c.requires.entries c.invariant.ensures in
-    then_ok c.write_report.result _ _ (λ written text of packets prints far. subst (Appends _ _)
-    (ap₂ (λ line tables. line ++ tables) c.in_ok-line.ensures
-    (ap (g.R.Report.printed report) (seen_tables c.views_end_the_trace.ensures _ _ _ _ p _ lanes c.in_ok-tables.ensures.tables far)
-    ∙ prints.at_ends p.buckets p.lanes of (take number packets) planned lanes far.room (seen_whole _ _ _ p far))) written)
+    ap₂ (λ line tables. line ++ tables) c.in_ok-line.ensures
+    (ap (g.R.Report.printed c.args.report.now) (seen_tables c.views_end_the_trace.ensures _ _ _ _ p _ lanes c.in_ok-tables.ensures.tables
+    far) ∙ prints.at_ends p.buckets p.lanes of (take c.args.number packets) planned lanes far.room (seen_whole _ _ _ p far))
+
+pub returns-clause-written : goal.returns-clause-written
+returns-clause-written g c = then_ok c.write_report.result _ _ (λ written text of packets prints far. subst (Appends _ _)
+    (written_is g (goal.at.returns-clause-written g c).After-write_report text of packets prints far) written)
     c.write_report.ensures.written
 
 pub returns-clause-breaks_off : goal.returns-clause-breaks_off
-returns-clause-breaks_off g c =
-    let p = c.args.pipeline.now in
-    let report = c.args.report.now in
-    let number = c.args.number in
-    let planned = subst IsSoundPlan c.plan.ensures c.invariant-2.ensures in
-    let lanes = subst (λ e. AreLanesOf e p.plan p.buckets p.lanes) c.requires.entries c.invariant.ensures in
-    then_err c.write_report.result _ _ (λ answer broke text of packets prints far. subst
+returns-clause-breaks_off g c = then_err c.write_report.result _ _ (λ answer broke text of packets prints far. subst
     (λ written. BreaksOff g.O.Sink.taken g.O.Sink.faults written None c.args.out.now c.write_report.new.out answer)
-    (ap₂ (λ line tables. line ++ tables) c.in_ok-line.ensures
-    (ap (g.R.Report.printed report) (seen_tables c.views_end_the_trace.ensures _ _ _ _ p _ lanes c.in_ok-tables.ensures.tables far)
-    ∙ prints.at_ends p.buckets p.lanes of (take number packets) planned lanes far.room (seen_whole _ _ _ p far))) broke)
+    (written_is g (goal.at.returns-clause-breaks_off g c).After-write_report text of packets prints far) broke)
     c.write_report.ensures.breaks_off

@@ -8,6 +8,17 @@ use Rattle.trace_reader.specs.Faults.{IfRefused}
 use Rattle.query_run.{specs.{Reports.{MayPrint, Prints}, Views.IsAsFarAs}, proofs.ViewTexts.next_multiple}
 use Rattle.query_run.proofs.Viewing.{all_shown, as_far, first_multiple, none_asked, none_yet, one_written, reader_broke, view_broke}
 use Rattle.query_run.proofs.views.write_views.Goals as goal
+use Rattle.query_run.proofs.views.write_views.Goals.{After-pipeline}
+
+-- the pipeline that is viewed has taken the packets up to the next multiple
+seen : (g : _) (c : After-pipeline g) → IsAsFarAs (geometry_for g.row.WAYS c.args.schedule) (words_of (coming c.args.packets))
+    (c.views.number + c.args.every) c.pipeline.result.now
+seen g c =
+    let all = coming c.args.packets in
+    let way = c.in_ok-advance.ensures.all (ap Ok c.if-branch.true) c.args.schedule all c.views.number c.views.invariant.way in
+    subst (λ (p : PipelineView). IsAsFarAs (geometry_for g.row.WAYS c.args.schedule) (words_of all) (c.views.number + c.args.every) p)
+    (sym c.pipeline.ensures) (as_far c.args.schedule all (c.views.number + c.args.every) c.advance.new.self c.requires.room.0
+    c.requires.room.1 c.requires.whole way)
 
 pub returns-then-every-eq0-clause-written : goal.returns-then-every-eq0-clause-written
 returns-then-every-eq0-clause-written g c text prints =
@@ -48,22 +59,23 @@ returns-in_err-advance-clause-breaks_off g c =
 
 pub write_view-requires : goal.write_view-requires
 write_view-requires g c =
-    let all = coming c.args.packets in
     let was = c.views.invariant in
     let done = c.in_ok-advance.ensures in
-    let way = done.all (ap Ok c.if-branch.true) c.args.schedule all c.views.number was.way in
     let plan = ap (λ (p : PipelineView). p.plan) c.pipeline.ensures ∙ (done.keeps.plan ∙ was.keeps.plan) in
     let entries = ap (λ (p : PipelineView). p.entries) c.pipeline.ensures
-    ∙ (done.keeps.entries ∙ (was.keeps.entries ∙ c.requires.entries)) in
-    let far = as_far c.args.schedule all (c.views.number + c.args.every) c.advance.new.self c.requires.room.0 c.requires.room.1
-    c.requires.whole way in
-    let seen = subst (λ (p : PipelineView). IsAsFarAs (geometry_for g.row.WAYS c.args.schedule) (words_of all)
-    (c.views.number + c.args.every) p) (sym c.pipeline.ensures) far in (
+    ∙ (done.keeps.entries ∙ (was.keeps.entries ∙ c.requires.entries)) in (
       lit< tt,
       (
         subst (λ plan. MayPrint (g.R.Report.entries c.args.report.now) plan (g.R.Report.may_print c.args.report.now)) (sym plan)
             c.requires.may_print,
-        (entries, (geometry_for g.row.WAYS c.args.schedule, words_of all, seen)),
+        (
+          entries,
+          (
+            geometry_for g.row.WAYS c.args.schedule,
+            words_of (coming c.args.packets),
+            seen g (goal.at.write_view-requires g c).After-pipeline,
+          ),
+        ),
       ),
     )
 
@@ -84,13 +96,9 @@ views-preserved g c =
     let some : 0 < c.args.every = omega arith in
     let was = c.views.invariant in
     let done = c.in_ok-advance.ensures in
-    let way = done.all (ap Ok c.if-branch.true) c.args.schedule all c.views.number was.way in
-    let far = as_far c.args.schedule all (c.views.number + c.args.every) c.advance.new.self c.requires.room.0 c.requires.room.1
-    c.requires.whole way in
-    let seen = subst (λ (p : PipelineView). IsAsFarAs of (words_of all) (c.views.number + c.args.every) p) (sym c.pipeline.ensures) far in
     let plan = ap (λ (p : PipelineView). p.plan) c.pipeline.ensures ∙ (done.keeps.plan ∙ was.keeps.plan) in
     record {
-      way = way;
+      way = done.all (ap Ok c.if-branch.true) c.args.schedule all c.views.number was.way;
       turns = turns_further _ _ _ c.views.number _ all _ _ _ was.way.within was.turns
           (done.turns (ap Ok c.if-branch.true) c.args.schedule all c.views.number was.way);
       multiple = next_multiple c.args.every c.views.number was.multiple;
@@ -99,7 +107,7 @@ views-preserved g c =
       written = λ text prints. one_written (text of) _ all _ _ _ _ was.multiple some (was.written text prints)
           (c.in_ok-write_view.ensures.written text of (words_of all) (subst
           (λ plan. Prints (g.R.Report.entries c.args.report.now) plan (g.R.Report.printed c.args.report.now) text) (sym plan) prints)
-          seen);
+          (seen g (goal.at.views-preserved g c).After-pipeline));
       out_later = let a = was.out_later in let b = c.write_view.ensures.out_later in omega arith;
       later = let a = was.later in let b = c.advance.ensures.steps in let d = c.write_view.ensures.steps in omega arith;
     }
@@ -112,16 +120,13 @@ returns-in_err-write_view-clause-breaks_off g c =
     let was = c.views.invariant in
     let done = c.in_ok-advance.ensures in
     let way = done.all (ap Ok c.if-branch.true) c.args.schedule all c.views.number was.way in
-    let far = as_far c.args.schedule all (c.views.number + c.args.every) c.advance.new.self c.requires.room.0 c.requires.room.1
-    c.requires.whole way in
-    let seen = subst (λ (p : PipelineView). IsAsFarAs of (words_of all) (c.views.number + c.args.every) p) (sym c.pipeline.ensures) far in
     let plan = ap (λ (p : PipelineView). p.plan) c.pipeline.ensures ∙ (done.keeps.plan ∙ was.keeps.plan) in
     err_is _ _ _ c.from_residual-in_err-write_view.ensures.1 (λ text prints.
     view_broke (text of) _ all g.O.Sink.taken g.O.Sink.faults _ _ _ _ _ (c.requires.viewed some).sound was.multiple some way.within
     (was.written text prints)
     was.out_later _ (c.in_err-write_view.ensures.breaks_off text of (words_of all)
     (subst (λ plan. Prints (g.R.Report.entries c.args.report.now) plan (g.R.Report.printed c.args.report.now) text) (sym plan) prints)
-    seen))
+    (seen g (goal.at.returns-in_err-write_view-clause-breaks_off g c).After-pipeline)))
 
 pub returns-clause-written : goal.returns-clause-written
 returns-clause-written g c text prints =
