@@ -5,7 +5,6 @@ ghost use Rattle.epoch_entry.specs.declared.purpose.Entries.TheVariants.{Folds};
 ghost use Rattle.marple_base.specs.{Faults.Rose, Sink.TakesFront, Pieces.TakesAllBut};
 ghost use Rattle.plan_file.specs.declared.made.Made.{Made};
 ghost use Rattle.plan_loader.specs.{Meaning.plan_output, Parts.{IsPlanFrom, IsSoundMade}};
-ghost use Rattle.query_tables.specs.Tables.{table_text_at};
 ghost use Rattle.stage_plan.specs.Sound.{PlanParts};
 ghost use Rattle.query_run.specs.{PlanReports.{HasKeys, HaveNumbers, numbered_print}, Reports.Reports};
 
@@ -17,23 +16,6 @@ use marple_base::{Seq, Sink, Steps, TextBuffer, WriteError};
 use std::alloc::Global;
 use std::sync::ledger::Ledger;
 use table_printer::write_table;
-
-// Writes the text of the table with this number.
-fn write_at<O: Sink>(
-    tables: &Seq<Table>,
-    number: usize,
-    text: &mut TextBuffer,
-    out: &mut O,
-) -> Result<(), WriteError>
-    requires number { number < length tables.now }
-    requires tables { All HasKeys tables.now }
-    ensures ok { OnOk result (TakesAllBut (O.taken out.old) (O.taken out.new) text.new (text.old ++ table_text_at tables.now number)) }
-    ensures err { OnErr result (TakesFront (O.taken out.old) (O.taken out.new) (text.old ++ table_text_at tables.now number)) }
-    ensures failed { IsErrOf result WriteError.Failed → Rose (O.faults out.old) (O.faults out.new) }
-    ensures out_later { O.faults out.old ≤ O.faults out.new }
-{
-    write_table(text, tables.get(number), out)
-}
 
 // Writes the texts of the tables with these numbers, in order.
 fn write_numbered<O: Sink>(
@@ -51,7 +33,7 @@ fn write_numbered<O: Sink>(
     ensures out_later { O.faults out.old ≤ O.faults out.new }
 {
     for number in prints {
-        write_at(tables, usize::from(*number), text, out)?;
+        write_table(text, tables.get(usize::from(*number)), out)?;
     }
     Ok(())
 }

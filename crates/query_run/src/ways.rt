@@ -31,17 +31,6 @@ fn schedule_of(setting: Setting) -> Schedule
     }
 }
 
-// What a run with these ways leaves, in the variant for them, or the answer that it broke off with. It is what `?` does, without the
-// two calls that `?` stands for, each of which is more to prove for each number of ways.
-macro_rules! left_in {
-    ($variant:ident, $run:expr) => {
-        match $run {
-            Ok(pipeline) => Ok(Driven::$variant(pipeline)),
-            Err(answer) => Err(answer),
-        }
-    };
-}
-
 /// Makes the setting's ways, a value, into the number of ways of a pipeline, which is part of its type; and runs the report.
 pub(crate) fn run_with_its_ways<R: Report, O: Sink, L: Ledger>(
     alloc: Global,
@@ -73,30 +62,22 @@ pub(crate) fn run_with_its_ways<R: Report, O: Sink, L: Ledger>(
     ensures steps { steps.old ≤ steps.new }
 {
     let schedule = schedule_of(setting);
+    // What a run with these ways leaves, in the variant for them, or the answer that it broke off with. It is what `?` does,
+    // without the two calls that `?` stands for, each of which is more to prove for each number of ways.
+    macro_rules! left_in {
+        ($variant:ident) => {
+            match run_report(alloc, report, plan, schedule, every, packets, out, steps) {
+                Ok(pipeline) => Ok(Driven::$variant(pipeline)),
+                Err(answer) => Err(answer),
+            }
+        };
+    }
     match setting.ways {
-        Ways::One => left_in!(
-            Ways1,
-            run_report(alloc, report, plan, schedule, every, packets, out, steps)
-        ),
-        Ways::Two => left_in!(
-            Ways2,
-            run_report(alloc, report, plan, schedule, every, packets, out, steps)
-        ),
-        Ways::Four => left_in!(
-            Ways4,
-            run_report(alloc, report, plan, schedule, every, packets, out, steps)
-        ),
-        Ways::Eight => left_in!(
-            Ways8,
-            run_report(alloc, report, plan, schedule, every, packets, out, steps)
-        ),
-        Ways::Sixteen => left_in!(
-            Ways16,
-            run_report(alloc, report, plan, schedule, every, packets, out, steps)
-        ),
-        Ways::ThirtyTwo => left_in!(
-            Ways32,
-            run_report(alloc, report, plan, schedule, every, packets, out, steps)
-        ),
+        Ways::One => left_in!(Ways1),
+        Ways::Two => left_in!(Ways2),
+        Ways::Four => left_in!(Ways4),
+        Ways::Eight => left_in!(Ways8),
+        Ways::Sixteen => left_in!(Ways16),
+        Ways::ThirtyTwo => left_in!(Ways32),
     }
 }
