@@ -1,6 +1,6 @@
 // A table grouped by columns, with the fold over the rows of each key.
 
-ghost use Rattle.std.specs.Prelude.{◌≡◌, ◌+◌, ◌≤◌, ◌++◌, ◌∷◌, [], List, All, Some, length, map, IfOk, OnOk};
+ghost use Rattle.std.specs.Prelude.{◌≡◌, ◌≤◌, ◌++◌, ◌∷◌, [], List, All, Some, length, map, IfOk, OnOk};
 ghost use Rattle.epoch_model.specs.Machine.{Epoch};
 ghost use Rattle.fold_code.specs.Meaning.{IsCodeOf, code_scratch};
 ghost use Rattle.table_rows.specs.LentRows.{row_of};

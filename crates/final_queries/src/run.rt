@@ -16,7 +16,6 @@ use std::alloc::{AllocError, Global};
 use std::sync::ledger::Ledger;
 use table_rows::Rows;
 
-// The rows of a final.
 fn rows_made<L: Ledger>(
     alloc: Global,
     one: &TypedFinal,

@@ -1,6 +1,6 @@
 // The rows of a table that are greatest in one column.
 
-ghost use Rattle.std.specs.Prelude.{◌≡◌, ◌-◌, ◌^◌, ◌<◌, ◌≤◌, All, Some, length, map, nat_lt, count_by, slice_get, IfOk};
+ghost use Rattle.std.specs.Prelude.{◌≡◌, ◌-◌, ◌<◌, ◌≤◌, All, Some, length, map, nat_lt, count_by, IfOk};
 ghost use Rattle.epoch_model.specs.Keys.{IsAscending};
 ghost use Rattle.table_rows.specs.LentRows.{row_of};
 ghost use Rattle.final_queries.specs.{Finals.{columns_of, top_rows}, Joining.reads, Ranks.{rank_of, ranks_from, is_before, is_within}};
