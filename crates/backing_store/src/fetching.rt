@@ -21,30 +21,31 @@ fn sum_of_ends(words: &[u64]) -> u64 {
     words[0].wrapping_add(words[count - 1])
 }
 
-// A sum of the numbers of the keys of the rows at these places, and of the words at the ends of their states.
-fn sum_of_states(states: &States, places: &[Place]) -> u64 {
+// A sum of the words at the ends of the states of the rows at these places, and of how often their keys were merged.
+fn sum_of_states(merged: &[Merged], states: &States, places: &[Place]) -> u64 {
     let mut sum = 0u64;
     for place in places {
-        if place.at < states.len() {
+        let at = place.at as usize;
+        let of = place.of as usize;
+        if at < states.len() && of < merged.len() {
             sum = sum
-                .wrapping_add(states.of(place.at) as u64)
-                .wrapping_add(sum_of_ends(states.row(place.at)));
+                .wrapping_add(sum_of_ends(states.row(at)))
+                .wrapping_add(merged[of].epochs);
         }
     }
     sum
 }
 
-// A sum of the words at the ends of the keys of the rows at these places, and of how often the keys were merged.
-fn sum_of_keys(keys: &Keys, merged: &[Merged], states: &States, places: &[Place]) -> u64 {
+// A sum of the words at the ends of the keys of the rows at these places. A place has the only word of a key.
+fn sum_of_keys(keys: &Keys, places: &[Place]) -> u64 {
     let mut sum = 0u64;
+    if keys.width() == 1 {
+        return sum;
+    }
     for place in places {
-        if place.at < states.len() {
-            let of = states.of(place.at);
-            if of < keys.len() && of < merged.len() {
-                sum = sum
-                    .wrapping_add(sum_of_ends(keys.key(of)))
-                    .wrapping_add(merged[of].epochs);
-            }
+        let of = place.of as usize;
+        if of < keys.len() {
+            sum = sum.wrapping_add(sum_of_ends(keys.key(of)));
         }
     }
     sum
@@ -52,7 +53,7 @@ fn sum_of_keys(keys: &Keys, merged: &[Merged], states: &States, places: &[Place]
 
 /// Reads words of each of the next rows, once for so many of them, before they are added to those that are made one by one. To
 /// add a row takes so long that the words of the next one would be asked for only when its own have come; reads that follow one
-/// another wait together, first those of states, which say where the keys are, and then those of keys. The sum of what was
+/// another wait together, first those of states, and then those of keys. The sum of what was
 /// read has to decide something, or nothing would be read: whether a little more memory is taken.
 pub fn fetch_next(
     made: &mut Rows,
@@ -72,7 +73,7 @@ pub fn fetch_next(
     }
     let rest = &places[next..];
     let few = &rest[..rest.len().min(ROWS_AT_ONCE)];
-    let sum = sum_of_states(states, few).wrapping_add(sum_of_keys(keys, merged, states, few));
+    let sum = sum_of_states(merged, states, few).wrapping_add(sum_of_keys(keys, few));
     let more = if sum == 0 { 1 } else { 0 };
     made.reserve(0, more)
 }

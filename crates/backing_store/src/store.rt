@@ -1,10 +1,10 @@
 //! The store: keys with their numbers of epochs, and rows of state.
 
-ghost use Rattle.std.specs.Prelude.{◌≡◌, ◌<◌, ◌↔◌, ℕ, Some, option_map, slice_get, ◌++◌, ◌∷◌, [], IfOk, OnErr, OnOk, length, map};
+ghost use Rattle.std.specs.Prelude.{◌≡◌, ◌<◌, ◌↔◌, ℕ, Some, option_map, slice_get, ◌++◌, ◌∷◌, [], IfOk, OnErr, OnOk, length, map, slice_index_or};
 ghost use Rattle.std.specs.List.{zip};
 ghost use Rattle.backing_store.specs.SortedRows.{IsMade, sorted_rows};
 ghost use Rattle.backing_store.specs.{Store.{AreOnce, AreRowsOf, IsLastRowOf, IsStore, counted, epochs_of, number_of}, Stored.stored};
-ghost use Rattle.backing_store.specs.{Places.AreByKey, RowOrder.Ascends};
+ghost use Rattle.backing_store.specs.{Places.{AreByKey, AreOfWidth}, RowOrder.{Ascends, first_word}};
 
 use crate::chains::Search;
 use crate::fetching::fetch_next;
@@ -46,6 +46,21 @@ impl Drop for BackingStore {
     }
 }
 
+// The key with a number, of which this is the first word. Where it has no other, it isn't read.
+#[inline(always)]
+fn key_at<'a>(keys: &'a Keys, of: usize, first: &'a [u64]) -> &'a [u64]
+    requires of { of < length keys.now.keys }
+    requires first { first.now ≡ first_word (slice_index_or keys.now.keys of []) ∷ [] }
+    requires widths { AreOfWidth keys.now.width keys.now.keys }
+    ensures { slice_get keys.now.keys of ≡ Some result.now }
+{
+    if keys.width() == 1 {
+        first
+    } else {
+        keys.key(of)
+    }
+}
+
 // The rows at these places, each with its number among its key's rows, which stand one after another.
 fn made_rows(
     alloc: Global,
@@ -57,6 +72,7 @@ fn made_rows(
     requires many { length merged.now.items ≡ length keys.now.keys }
     requires once { AreOnce (map stored (zip keys.now.keys merged.now.items)) }
     requires rows { AreRowsOf (length keys.now.keys) states.now.width states.now.rows }
+    requires widths { AreOfWidth keys.now.width keys.now.keys }
     requires places { AreByKey keys.now.keys states.now.rows places.now }
     ensures { IfOk result (λ made. IsMade (map stored (zip keys.now.keys merged.now.items)) made states.now.rows × Ascends made) }
 {
@@ -68,16 +84,16 @@ fn made_rows(
     let mut epoch = 0u64;
     for place in places {
         fetch_next(&mut made, keys, merged.as_slice(), states, places)?;
-        let of = states.of(place.at);
+        let of = place.of as usize;
         epoch = if of == last { epoch + 1 } else { 1 };
         last = of;
         let kept = merged[of];
         made.push(
-            keys.key(of),
+            key_at(keys, of, &[place.word]),
             Mark::Plain,
             epoch,
             kept.epochs,
-            states.row(place.at),
+            states.row(place.at as usize),
         )?;
     }
     Ok(made)

@@ -68,6 +68,7 @@ impl Rows {
     }
 
     /// Adds a row at the end. On an error the rows are unchanged.
+    #[inline(always)]
     pub fn push(
         &mut self,
         key: &[u64],

@@ -20,6 +20,11 @@ made_rows-requires-clause-rows c =
     subst (λ n. AreRowsOf n a.states.width a.states.rows) (length-stored (zip a.keys.keys a.merged.items)
     ∙ length-zip a.keys.keys a.merged.items c.self.invariant.many) c.self.invariant.whole.0.rows
 
+pub made_rows-requires-clause-widths : goal.made_rows-requires-clause-widths
+made_rows-requires-clause-widths c =
+    let a = c.self.inside in
+    widths_of a.keys.keys a.merged.items a.keys.width c.self.invariant.many c.self.invariant.whole.0.keys
+
 pub returns : goal.returns
 returns c =
     let kept = rw c.self.view_is at c.self.invariant.whole.0 in
