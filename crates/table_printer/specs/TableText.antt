@@ -62,6 +62,10 @@ kind_text Final rows = codes "final " ++ decimal rows
 abbrev pub title : Table → List ℕ
 title table = codes "table " ++ table.name ++ (32 ∷ kind_text table.kind (length table.rows)) ++ 10 ∷ []
 
+-- the lines of rows
+abbrev pub lines_of : TableKind → List Row → List ℕ
+lines_of kind rows = flat_map (λ row. table_line (row_parts kind row)) rows
+
 -- the text of a table
 abbrev pub table_text : Table → List ℕ
 table_text table =

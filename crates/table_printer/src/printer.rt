@@ -1,14 +1,14 @@
 //! Titles, headings and rows.
-ghost use Rattle.std.specs.Prelude.{◌≡◌, ◌≤◌, ◌++◌, ◌∷◌, [], length, map, codes, decimal, IsErrOf, OnErr, OnOk};
+ghost use Rattle.std.specs.Prelude.{◌≡◌, ◌+◌, ◌-◌, ◌≤◌, ◌++◌, ◌∷◌, [], drop, length, map, take, codes, decimal, IsErrOf, OnErr, OnOk};
 ghost use Rattle.marple_base.specs.{Faults.Rose, Sink.TakesFront, Pieces.TakesAllBut};
 ghost use Rattle.table_rows.specs.LentRows.{row_of};
 ghost use Rattle.table_printer.specs.TableText.{cells_joined, mark_text, epoch_text, numbers, table_line, group_parts, final_parts};
-ghost use Rattle.table_printer.specs.{TableText.{row_parts, heading, kind_text, title, table_text}, Parts.parts_from};
+ghost use Rattle.table_printer.specs.{TableText.{row_parts, heading, lines_of, kind_text, title, table_text}, Parts.parts_from};
 
-use crate::backwards::{MOST_COLUMNS, ROOM, line_before};
+use crate::backwards::{ROOM, ROWS_AT_ONCE, lines_before};
 use crate::parts::{push_names, push_number, push_part, push_word, push_words};
 use crate::words::{class_word, mark_word};
-use final_queries::{Mark, RowRef, Table, TableKind};
+use final_queries::{Mark, RowRef, Rows, Table, TableKind};
 use marple_base::{Sink, Text, TextBuffer, WriteError};
 use std::alloc::AllocError;
 
@@ -106,22 +106,41 @@ fn push_row(text: &mut TextBuffer, kind: TableKind, row: &RowRef) -> Result<(), 
     text.push(b'\n')
 }
 
-// Writes a row, and all of it at once where it is sure to fit into the room.
-fn push_line(
+// Writes rows one by one, from a place up to another one.
+fn push_rows(
     text: &mut TextBuffer,
     kind: TableKind,
-    row: &RowRef,
+    rows: &Rows,
+    from: usize,
+    until: usize,
+) -> Result<(), AllocError>
+    requires { (from ≤ until) × (until ≤ length rows.now) }
+    ensures { OnOk result (text.new ≡ text.old ++ lines_of kind (take (until - from) (drop from rows.now))) }
+{
+    'rows: for at in from..until {
+        push_row(text, kind, &rows.get(at))?;
+    }
+    Ok(())
+}
+
+// Writes rows from a place up to another one, all of them at once where they are sure to fit into the room.
+fn push_lines(
+    text: &mut TextBuffer,
+    kind: TableKind,
+    rows: &Rows,
+    from: usize,
+    until: usize,
     room: &mut [u8],
 ) -> Result<(), AllocError>
-    requires { length room.old ≡ 1024 }
-    ensures text { OnOk result (text.new ≡ text.old ++ table_line (row_parts kind (row_of row.now))) }
-    ensures room { length room.new ≡ 1024 }
+    requires room { length room.old ≡ 16384 }
+    requires rows { (from ≤ until) × (until ≤ length rows.now) × (until ≤ from + 16) }
+    ensures text { OnOk result (text.new ≡ text.old ++ lines_of kind (take (until - from) (drop from rows.now))) }
+    ensures room { length room.new ≡ 16384 }
 {
-    if row.columns.len() > MOST_COLUMNS {
-        return push_row(text, kind, row);
+    match lines_before(room, kind, rows, until, until - from) {
+        Some(start) => text.push_slice(&room[start..]),
+        None => push_rows(text, kind, rows, from, until),
     }
-    let start = line_before(room, kind, row);
-    text.push_slice(&room[start..])
 }
 
 // Writes the two lines before the rows.
@@ -132,20 +151,6 @@ fn push_head(text: &mut TextBuffer, table: &Table) -> Result<(), AllocError>
 {
     push_title(text, table)?;
     push_heading(text, table)
-}
-
-// The number of rows for whose text memory is taken at once.
-const ROWS_AT_ONCE: usize = 16;
-
-// Takes memory for the text of the next rows, once for so many of them: at most 21 bytes for a column with its comma, of which a
-// groupby's table has three more than its rows have words.
-fn take_room(text: &mut TextBuffer, columns: usize, at: usize) -> Result<(), AllocError>
-    ensures { text.new ≡ text.old }
-{
-    if at % ROWS_AT_ONCE != 0 {
-        return Ok(());
-    }
-    text.reserve(columns.saturating_add(3).saturating_mul(21 * ROWS_AT_ONCE))
 }
 
 /// Writes the text of a table after the bytes that wait in the buffer: a line that says what it is, a heading, and a line for
@@ -163,10 +168,12 @@ pub fn write_table<O: Sink>(
 {
     push_head(text, table)?;
     let mut room = [0u8; ROOM];
-    'rows: for at in 0..table.rows.len() {
-        take_room(text, table.columns.len(), at)?;
-        push_line(text, table.kind, &table.rows.get(at), &mut room)?;
+    let mut at = 0;
+    'rows: while at < table.rows.len() {
+        let until = at + (table.rows.len() - at).min(ROWS_AT_ONCE);
+        push_lines(text, table.kind, &table.rows, at, until, &mut room)?;
         text.write_when_full(out)?;
+        at = until;
     }
     Ok(())
 }

@@ -1,5 +1,5 @@
-use Rattle.std.proofs.Common.{◌≤◌, ◌++◌, drop, flat_map}
-use Rattle.table_printer.specs.TableText.{table_text, row_parts, table_line}
+use Rattle.std.proofs.Common.{◌-◌, ◌≤◌, ◌++◌, drop, length}
+use Rattle.table_printer.specs.TableText.{lines_of, table_text}
 use Rattle.marple_base.specs.Pieces.{TakesAllBut}
 use Rattle.table_printer.proofs.printer.write_table.Given as goal
 
@@ -7,6 +7,10 @@ use Rattle.table_printer.proofs.printer.write_table.Given as goal
 abbrev pub invariant-rows : goal.invariant-rows
 invariant-rows g l = record {
   written : TakesAllBut (g.O.Sink.taken l.fn.out) (g.O.Sink.taken l.out)
-      (l.text ++ flat_map (λ row. table_line (row_parts l.table.kind row)) (drop l.at l.table.rows)) (l.fn.text ++ table_text l.table);
+      (l.text ++ lines_of l.table.kind (drop l.at l.table.rows)) (l.fn.text ++ table_text l.table);
+  low : l.at ≤ length l.table.rows;
   out_later : g.O.Sink.faults l.fn.out ≤ g.O.Sink.faults l.out;
 }
+
+abbrev pub decreases-rows : goal.decreases-rows
+decreases-rows g l = length l.table.rows - l.at
