@@ -1,4 +1,5 @@
-use Rattle.std.proofs.Common.{◌≡◌, ◌+◌, ◌<◌, ℕ, ◌∙◌, List, [], ◌∷◌, ap, arith, get_or, inl, inr, length, map, option_map, refl, slice_get, Some, sym, take}
+use Rattle.std.proofs.Common.{◌≡◌, ◌+◌, ◌<◌, ℕ, ◌∙◌, List, [], ◌∷◌, ap, arith, get_or, inl, inr, length, map, refl, slice_get, sym, take}
+use Rattle.std.proofs.Common.{option_map, Some}
 use Rattle.std.{proofs.lemmas.{List.take_all, Option.{get_or_from_slice_get, slice_get-get_or, slice_get_read}}, specs.List.zip}
 use Rattle.epoch_model.specs.Keys.{Key}
 use Rattle.backing_store.specs.{Places.{AreByKey, rows_there}, RowOrder.first_word, SortedRows.numbered, Stored.stored}
@@ -74,7 +75,8 @@ loop-place-preserved c =
     ])
     ∙ ap (λ n. length (states_at (rows_there rows (take i places)) n) + 1) number in
     let row : StoredRow = record { key = p.of; words = c.row.result.now } in
-    let of : option_map (λ (r : StoredRow). r.key) (slice_get rows p.at) ≡ Some p.of = ap (option_map (λ (r : StoredRow). r.key)) (slice_get-get_or rows p.at _ is.within) ∙ ap Some number in
+    let of : option_map (λ (r : StoredRow). r.key) (slice_get rows p.at) ≡ Some p.of =
+    ap (option_map (λ (r : StoredRow). r.key)) (slice_get-get_or rows p.at _ is.within) ∙ ap Some number in
     let more = row_pushed rows places i d row within (row_is rows p.at p.of c.row.result.now of c.row.ensures) in
     let there = zip-stored keys merged p.of c.key_at.result.now kept c.key_at.ensures
     (slice_get_read merged (length merged) p.of kept refl (omega (arith, low, c.requires.many)) c.index-kept.ensures) in
@@ -83,7 +85,8 @@ loop-place-preserved c =
     (rows_there rows (take i places)) row c.requires.once there c.loop-place.invariant.made in
     record {
       made = rw (c.in_ok-push.ensures.ok, c.fetch_next.ensures, more, counted) made;
-      keys = rw (c.in_ok-push.ensures.ok, c.fetch_next.ensures) (key_pushed keys rows places i d c.loop-place.made _ within (sym key) c.loop-place.invariant.keys);
+      keys = rw (c.in_ok-push.ensures.ok, c.fetch_next.ensures)
+          (key_pushed keys rows places i d c.loop-place.made _ within (sym key) c.loop-place.invariant.keys);
       before = λ e begun. sym number ∙ ap (place_number rows) (last_is places i d e within);
       begins = λ none. absurd (omega (arith, none));
       counted = λ begun. rw more (counted_pushed (rows_there rows (take i places)) row c.if-of-last.epoch counted);
