@@ -9,9 +9,9 @@ packets_in fields zero words = []
 packets_in fields (suc count) words = packet_in fields words ∷ packets_in fields count (drop (length fields) words)
 
 abbrev pub kept_in : Inside → Kept
-kept_in kept = record { fields = kept.of; packets = packets_in kept.fields.items kept.count kept.words.items }
+kept_in kept = record { fields = kept.of; packets = packets_in kept.fields.items kept.count kept.words }
 
 -- the fields are those of the set, and each packet has a word for each of them
 pub record IsSound (kept : Inside) : Type 0 where
   pub fields : kept.fields.items ≡ fields_kept kept.of
-  pub words : length kept.words.items ≡ kept.count * length kept.fields.items
+  pub words : length kept.words ≡ kept.count * length kept.fields.items

@@ -1,9 +1,9 @@
 //! Packets of which only some fields are kept.
 
 ghost use Rattle.std.specs.Prelude.{◌≡◌, [], ◌∷◌, ◌++◌, ◌+◌, ◌*◌, ◌<◌, ◌≤◌, IfOk, OnErr, OnOk, Some, drop, length, map, slice_get};
-ghost use Rattle.std.specs.Prelude.{vec_capacity, vec_len};
 ghost use Rattle.trace_drive.specs.Kept.{fields_kept, kept_of, kept_words, packet_in, word_in};
 
+use crate::word_list::WordList;
 use marple_base::{FIELDS, Field, FieldSet, Packet};
 use std::alloc::{AllocError, Global};
 use std::marker::Model;
@@ -16,7 +16,7 @@ pub struct KeptPackets {
     /// The fields that are kept, in their order.
     fields: Vec<Field>,
     /// As many words for each packet as there are such fields.
-    words: Vec<u64>,
+    words: WordList,
     count: usize,
 }
 
@@ -55,45 +55,33 @@ fn fields_of(alloc: Global, set: FieldSet) -> Result<Vec<Field>, AllocError>
     Ok(fields)
 }
 
-#[inline(always)]
-fn push_words(words: &mut Vec<u64>, fields: &[Field], packet: &Packet)
-    requires { vec_len words.old + length fields.now ≤ vec_capacity words.old }
-    ensures { words.new.items ≡ words.old.items ++ map (word_in packet.now) fields.now }
-{
-    for field in fields {
-        words.push_reserved(packet.get(*field));
-    }
-}
-
 // Adds the words of these fields. When out of memory, the words are unchanged.
 #[inline(always)]
-fn push_row(words: &mut Vec<u64>, fields: &[Field], packet: &Packet) -> Result<(), AllocError>
-    ensures ok { OnOk result (words.new.items ≡ words.old.items ++ map (word_in packet.now) fields.now) }
-    ensures err { OnErr result (words.new.items ≡ words.old.items) }
+fn push_row(words: &mut WordList, fields: &[Field], packet: &Packet) -> Result<(), AllocError>
+    ensures ok { OnOk result (words.new ≡ words.old ++ map (word_in packet.now) fields.now) }
+    ensures err { OnErr result (words.new ≡ words.old) }
 {
-    words.reserve(fields.len())?;
-    push_words(words, fields, packet);
+    let before = words.len();
+    for field in fields {
+        if let Err(error) = words.push(packet.get(*field)) {
+            words.truncate(before);
+            return Err(error);
+        }
+    }
     Ok(())
 }
 
-// The words from a packet's place on, where each has so many.
+// The packet in which these fields have the words from a place on.
 #[inline]
-fn words_from(words: &[u64], width: usize, at: usize) -> &[u64]
-    requires { at * width + width ≤ length words.now }
-    ensures words { result.now ≡ drop (at * width) words.now }
-    ensures enough { width ≤ length result.now }
+fn row_into(words: &WordList, start: usize, fields: &[Field], packet: &mut Packet)
+    requires { start + length fields.now ≤ length words.now }
+    ensures { packet.new ≡ packet_in fields.now (drop start words.now) }
 {
-    &words[at * width..]
-}
-
-#[inline]
-fn row_into(row: &[u64], fields: &[Field], packet: &mut Packet)
-    requires { length fields.now ≤ length row.now }
-    ensures { packet.new ≡ packet_in fields.now row.now }
-{
+    // A place fits, since the number of words does.
+    let _words = words.len();
     packet.words = [0; FIELDS];
     for (place, field) in fields.iter().enumerate() {
-        packet.words[field.number()] = row[place];
+        packet.words[field.number()] = words.get(start + place);
     }
 }
 
@@ -106,7 +94,7 @@ impl KeptPackets {
         Ok(KeptPackets {
             of,
             fields,
-            words: Vec::new(alloc),
+            words: WordList::new(alloc),
             count: 0,
         })
     }
@@ -142,7 +130,9 @@ impl KeptPackets {
         requires { at < length self.now.packets }
         ensures { slice_get self.now.packets at ≡ Some packet.new }
     {
-        let words = words_from(&self.words, self.fields.len(), at);
-        row_into(words, &self.fields, packet);
+        // A place fits, since the number of words does.
+        let _words = self.words.len();
+        let start = at * self.fields.len();
+        row_into(&self.words, start, &self.fields, packet);
     }
 }

@@ -11,6 +11,7 @@ mod packets;
 mod replay;
 mod schedule;
 mod turn;
+mod word_list;
 
 pub use answer::RunError;
 pub use clock::Clock;

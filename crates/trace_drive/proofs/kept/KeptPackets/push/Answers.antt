@@ -5,7 +5,7 @@ use Rattle.trace_drive.proofs.kept.KeptPackets.push.Goals as goal
 pub overflow_add-self : goal.overflow_add-self
 overflow_add-self c =
     let kept = c.self.inside in
-    let long = packets_long kept.fields.items kept.count kept.words.items in
+    let long = packets_long kept.fields.items kept.count kept.words in
     let same = ap (λ k. length k.packets) c.self.view_is in
     omega arith
 
@@ -14,7 +14,7 @@ returns-clause-ok c =
     let kept = c.self.inside in
     let packet = c.args.packet.now in
     let fields = kept.fields.items in
-    let words = kept.words.items in
+    let words = kept.words in
     let row = c.in_ok-push_row.ensures.ok ∙ ap (λ fs. words ++ map (word_in packet) fs) c.deref.ensures.value in
     let more = kept_more kept.of fields kept.count words packet c.self.invariant.fields c.self.invariant.words in
     ap (λ packets. let k : Kept = record { fields = kept.of; packets = packets } in k) (ap (packets_in fields (kept.count + 1)) row ∙ more)

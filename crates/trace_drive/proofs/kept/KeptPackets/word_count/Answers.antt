@@ -6,7 +6,6 @@ pub returns : goal.returns
 returns c =
     let kept = c.self.inside in
     c.len.ensures
-    ∙ (kept.words.ok.0
     ∙ (c.self.invariant.words
-    ∙ (ap₂ (λ n fields. n * length fields) (sym (packets_long kept.fields.items kept.count kept.words.items)) c.self.invariant.fields
-    ∙ ap kept_words c.self.view_is)))
+    ∙ (ap₂ (λ n fields. n * length fields) (sym (packets_long kept.fields.items kept.count kept.words)) c.self.invariant.fields
+    ∙ ap kept_words c.self.view_is))
