@@ -43,5 +43,10 @@ stream_narrow e name x v is = apart_within (column_names x.columns) (stream_fits
 pub table_narrow : (e : Earlier) (name : Name) (x : TableView) → Fits e → table_named e.known name ≡ Ok x → IsNarrow x.columns
 table_narrow e name x v is = apart_within x.columns (table_fits e.known name x v.known is).columns
 
+-- the same of columns that are those of the table
+pub slots_of_table : (columns : List ℕ) (e : Earlier) (name : Name) (x : TableView) → columns ≡ x.columns → Fits e
+    → table_named e.known name ≡ Ok x → IsNarrow columns
+slots_of_table columns e name x same v is = rw same (table_narrow e name x v is)
+
 pub table_early : (e : Earlier) (name : Name) (x : TableView) → Fits e → table_named e.known name ≡ Ok x → IsEarly x.place
 table_early e name x v is = (table_fits e.known name x v.known is).place

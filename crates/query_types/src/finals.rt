@@ -74,6 +74,7 @@ fn check_filter(
     with_same_columns(alloc, source, TypedFinalOp::Filter(number, condition))
 }
 
+#[tactic(auto, using(crate::proofs::NamedFits::slots_of_table, crate::proofs::NamedFits::table_early))]
 fn check_map(
     alloc: Global,
     groups: u16,
@@ -157,6 +158,7 @@ fn check_group(
     made_group(alloc, number, picked, f, arguments)
 }
 
+#[tactic(auto, using(crate::proofs::NamedFits::table_early))]
 fn check_join(
     alloc: Global,
     groups: u16,
@@ -182,6 +184,7 @@ fn check_join(
     with_more_columns(alloc, left, others_of(right), op)
 }
 
+#[tactic(auto, using(crate::proofs::NamedFits::slots_of_table, crate::proofs::NamedFits::table_early))]
 fn check_top(
     alloc: Global,
     groups: u16,
