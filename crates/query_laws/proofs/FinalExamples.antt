@@ -144,10 +144,5 @@ ranked_tables = record {
 }
 
 pub final_examples : FinalExamples
-final_examples = record {
-  filters = filtered_tables;
-  maps = mapped_tables;
-  groupbys = grouped_tables;
-  joins = joined_tables;
-  tops = ranked_tables;
-}
+final_examples =
+    record { filters = filtered_tables; maps = mapped_tables; groupbys = grouped_tables; joins = joined_tables; tops = ranked_tables }
