@@ -1,3 +1,4 @@
+-- The words of one key are at most those of all ways, so no touch, nor one with a replacement, costs more than the bound.
 use Rattle.std.proofs.Common.{◌≤◌, ◌*◌, ◌+◌, ℕ, arith}
 use Rattle.bucket_cache.specs.{declared.bucket.Touch.{Touch, TheVariants.{Hit, Free, Full}}, Touches.touch_cost, Bounds.UsesAreBounded}
 use Rattle.bucket_cache.proofs.FlatRows.{row_fits}

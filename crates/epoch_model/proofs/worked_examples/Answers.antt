@@ -1,3 +1,4 @@
+-- The worked examples hold by computing their epochs and tables.
 use Rattle.std.proofs.Common.{refl}
 use Rattle.epoch_model.specs.{Keys.{key_eq, key_cmp, bucket_of}, Epochs.epochs, Machine.{after_packets, end_of}, Examples.AreWorkedExamples}
 use Rattle.epoch_model.proofs.worked_examples.Goals as goal

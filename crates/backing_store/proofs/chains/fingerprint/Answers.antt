@@ -1,3 +1,4 @@
+-- A key of one word is its own fingerprint, and every other key has the hash of its words.
 use Rattle.std.proofs.Common.{◌≡◌, ◌≢◌, [], ◌∷◌, get_or, length, refl, ◌∙◌, arith}
 use Rattle.epoch_model.specs.Keys.{Key}
 use Rattle.backing_store.specs.{Prints.fingerprint, SipHash.sip_hash}

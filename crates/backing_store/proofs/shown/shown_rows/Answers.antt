@@ -1,3 +1,4 @@
+-- Each step shows one more row of the store and adds the epochs that it shows.
 use Rattle.std.proofs.Common.{◌≡◌, suc, ◌+◌, List, [], ◌∷◌, set, take, sym, ap, ◌∙◌, subst, arith, Some, slice_get}
 use Rattle.std.{proofs.lemmas.List.Sums.{sum_by-append, sum_by-cons}, specs.List.sum_by}
 use Rattle.epoch_model.specs.declared.tables.Row.{Row}

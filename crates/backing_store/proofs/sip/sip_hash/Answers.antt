@@ -1,3 +1,4 @@
+-- The state after each word is that of the fold over the words so far, and the last rounds make the hash of it.
 use Rattle.std.proofs.{Common.{◌∙◌, ap, fold, get_or, refl, sym}, lemmas.List.{take_all, Sums.fold_more}}
 use Rattle.backing_store.specs.SipHash.{start, with_word}
 use Rattle.backing_store.proofs.sip.sip_hash.Goals as goal

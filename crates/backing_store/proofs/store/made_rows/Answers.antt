@@ -1,3 +1,4 @@
+-- A row's number is one more than the last one's where the key is the same, and 1 where a new key begins.
 use Rattle.std.proofs.Common.{◌≡◌, ◌+◌, ◌<◌, ℕ, ◌∙◌, List, [], ◌∷◌, ap, arith, get_or, inl, inr, length, map, refl, slice_get, sym, take}
 use Rattle.std.proofs.Common.{option_map, Some}
 use Rattle.std.{proofs.lemmas.{List.take_all, Option.{get_or_from_slice_get, slice_get-get_or, slice_get_read}}, specs.List.zip}

@@ -1,3 +1,4 @@
+-- The place of the way gets the key's words, those of the other ways stay, and the way comes first.
 use Rattle.std.proofs.Common.{◌≡◌, ◌+◌, ◌-◌, ◌*◌, ◌<◌, length, subst, sym, arith}
 use Rattle.bucket_cache.proofs.FlatRows.{row_fits, set-rows_of}
 use Rattle.bucket_cache.proofs.ways.put.Goals as goal

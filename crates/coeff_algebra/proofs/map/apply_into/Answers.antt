@@ -1,3 +1,4 @@
+-- Each row of the scratch gets one word of the map applied to the state, and the words before it stay.
 use Rattle.std.proofs.Common.{◌≢◌, ◌<◌, length, arith, ◌∙◌, get_or-set_other, get_or-set_same, below_more}
 use Rattle.coeff_algebra.proofs.PlaceLemmas.{row_room}
 use Rattle.coeff_algebra.proofs.map.apply_into.Goals as goal

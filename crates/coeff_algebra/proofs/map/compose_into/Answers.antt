@@ -1,3 +1,4 @@
+-- Each row composed leaves the rows before it, and the words of all rows load as the composed map.
 use Rattle.std.proofs.Common.{arith, ap, ◌∙◌}
 use Rattle.coeff_algebra.{specs.Maps.{stored_at, stored_entry, table_of, map_compose}, proofs.PlaceLemmas.rows_step}
 use Rattle.coeff_algebra.proofs.map.compose_into.Goals as goal

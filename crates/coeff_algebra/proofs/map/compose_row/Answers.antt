@@ -1,3 +1,4 @@
+-- An entry of a composed row is the sum of products, and the last one has the later map's constant added.
 use Rattle.std.proofs.Common.{◌≡◌, ◌≢◌, ℕ, ◌+◌, ◌*◌, ◌≤◌, ◌==◌, if◌then◌else◌, ap, sym, subst, ◌∙◌, arith, below_more, le_refl}
 use Rattle.std.proofs.lemmas.Bool.Decides.{nat_tests}
 use Rattle.coeff_algebra.specs.Maps.{map_compose, sum_below, table_of}

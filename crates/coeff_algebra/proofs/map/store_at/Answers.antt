@@ -1,3 +1,4 @@
+-- The words stored at a place are the element's, and those of every other place stay, since places don't overlap.
 use Rattle.std.proofs.Common.{ap, ◌∙◌, length}
 use Rattle.coeff_algebra.proofs.PlaceLemmas.{same_words, other_words}
 use Rattle.coeff_algebra.proofs.map.store_at.Goals as goal

@@ -1,3 +1,4 @@
+-- Whether writing the tables or the last bytes fails, the sink has some first bytes of what the query prints.
 use Rattle.std.proofs.Common.{Err, None, ◌++◌, ap, refl, subst}
 use Rattle.marple_base.{specs.{Sink.TakesFront, Pieces.TakesAllBut}, proofs.Pieces.{front_taken, rest_taken}}
 use Rattle.final_queries.specs.Finals.{with_finals}

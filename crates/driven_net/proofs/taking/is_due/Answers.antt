@@ -1,3 +1,4 @@
+-- The clock at the packet's switch counts the packet, and the others stay, so all stay clocks of the lag.
 use Rattle.std.{proofs.Common.{◌≡◌, ◌<◌, suc, Some, length, get_or, sym, ap, ◌∙◌, subst}, specs.Prelude.slice_get}
 use Rattle.switch_core.proofs.SideBySide.{same_some, got_here}
 use Rattle.epoch_model.specs.Epochs.{is_refresh}

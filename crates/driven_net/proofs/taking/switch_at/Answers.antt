@@ -1,3 +1,4 @@
+-- A switch whose number is how many are known is new and is added, and any other is one of those known.
 use Rattle.std.proofs.Common.{◌≡◌, ◌≢◌, ◌+◌, ◌≤◌, [], ◌∷◌, length, refl, sym, ap, ◌∙◌, subst, arith, length-append}
 use Rattle.std.proofs.lemmas.Bool.Decides.{nat_tests}
 use Rattle.net_wide.specs.Numbering.{place_among}

@@ -1,3 +1,4 @@
+-- The network follows one more packet at each step, until the trace has no more or its first fault is met.
 use Rattle.std.proofs.Common.{◌≡◌, ◌+◌, ◌++◌, suc, Ok, [], ◌∷◌, length, replicate, refl, sym, ap, ◌∙◌, subst, arith, append_assoc}
 use Rattle.std.proofs.{Common.length-append, Math.Facts.Fits-below, lemmas.List.length-map}
 use Rattle.trace_drive.specs.Drives.{words_of}

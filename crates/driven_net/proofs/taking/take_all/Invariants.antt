@@ -1,3 +1,4 @@
+-- The network follows the packets that were taken, and the first fault of the trace is that of what is left.
 use Rattle.std.proofs.Common.{◌≡◌, ◌≤◌, ℕ, suc, List, [], ◌++◌, length}
 use Rattle.network.specs.Networks.{KeepsNetwork}
 use Rattle.trace_drive.specs.Drives.{words_of}

@@ -1,3 +1,4 @@
+-- The turn at the packet's switch makes the network follow the packets with this one after them.
 use Rattle.std.proofs.Common.{◌≡◌, ◌<◌, suc, [], Some, length, sym, ap, ◌∙◌, subst, lit<}
 use Rattle.epoch_model.specs.Epochs.{is_refresh}
 use Rattle.switch_core.proofs.SideBySide.{got_some}

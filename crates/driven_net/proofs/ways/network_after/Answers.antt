@@ -1,3 +1,4 @@
+-- A fresh network takes the turns of all packets, and keeps its plan, its buckets and the places of its pipes.
 use Rattle.std.{proofs.Common.{◌≡◌, [], Result, Ok, Err, ◌∙◌, subst}, specs.Prelude.IfOk}
 use Rattle.network.specs.{Groups.AllHavePlaces, Networks.{IsNetwork, KeepsNetwork, NetworkView}, Running.NetworkStands}
 use Rattle.trace_drive.specs.Drives.{words_of}

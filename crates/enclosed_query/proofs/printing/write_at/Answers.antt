@@ -1,3 +1,4 @@
+-- A number that has a table of bounds gives the text of that, and any other that of its own table.
 use Rattle.std.proofs.Common.{◌≡◌, None, Some, ◌++◌, ◌∙◌, OnErr, OnOk, ap, arith, option_and_then, subst, sym}
 use Rattle.std.proofs.lemmas.Option.{slice_get_past}
 use Rattle.marple_base.specs.{Sink.TakesFront, Pieces.TakesAllBut}

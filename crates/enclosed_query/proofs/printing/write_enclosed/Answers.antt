@@ -1,3 +1,4 @@
+-- The texts of the parts that bounds and tables fall into are those that the query prints of what is enclosed.
 use Rattle.std.{proofs.Common.{◌++◌, OnErr, OnOk, rules, sym, subst}, specs.List.All}
 use Rattle.marple_base.{specs.{Sink.TakesFront, Pieces.TakesAllBut}, proofs.Pieces.{none_taken, on_err}}
 use Rattle.enclosed_query.{specs.{EnclosedTables.enclosed_print, Parts.IsWholeIfThere}, proofs.TextParts.{texts_are, whole_parts}}

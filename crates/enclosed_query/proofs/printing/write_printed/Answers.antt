@@ -1,3 +1,4 @@
+-- Each print that is written takes its table's text from the front of what is left to write.
 use Rattle.std.proofs.Common.{◌≡◌, ◌<◌, ℕ, List, ◌+◌, ◌++◌, ◌∙◌, Option, ap, arith, append-nil, drop, get_or, length, subst, sym}
 use Rattle.std.{proofs.lemmas.List.{drop_all, drop_more}, specs.List.flat_map}
 use Rattle.enclosure_folds.specs.declared.table.BoundsTable.{BoundsTable}

@@ -1,3 +1,4 @@
+-- The tables of the closed pipeline are those to show, and hold over all rows that its machines took.
 use Rattle.std.{proofs.Common.{sym, ap, ◌∙◌, subst, map}, specs.{List.All, Prelude.slice_get}}
 use Rattle.stage_plan.specs.Sound.{IsSoundPlan}
 use Rattle.switch_core.specs.PlanLanes.{AreLanesOf}

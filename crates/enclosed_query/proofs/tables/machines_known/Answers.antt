@@ -1,3 +1,4 @@
+-- Tables shown of a drained pipeline for bounds hold over the rows of any events, since all epochs are merged.
 use Rattle.std.proofs.Common.{◌∙◌, subst, arith}
 use Rattle.stage_plan.specs.Sound.{IsSoundPlan}
 use Rattle.switch_core.specs.PlanLanes.{AreLanesOf}

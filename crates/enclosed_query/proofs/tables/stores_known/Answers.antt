@@ -1,3 +1,4 @@
+-- Each lane so far has a whole store, whose words per key and per state are those of the lane.
 use Rattle.std.{proofs.{Common.{◌≡◌, sym, ap, ◌∙◌, subst, arith}, lemmas.Bool.{ltb-true, ltb-false}}, specs.Prelude.slice_get}
 use Rattle.epoch_model.proofs.KeyLists.{by_test}
 use Rattle.backing_store.specs.Store.{IsStore}

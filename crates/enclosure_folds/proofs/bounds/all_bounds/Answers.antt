@@ -1,3 +1,4 @@
+-- A row whose key does not go on is the last of its run, and gives the run's row of bounds.
 use Rattle.std.proofs.Common.{◌≡◌, ◌+◌, ◌++◌, ◌∷◌, [], ◌∙◌, true, false, sym, ap, drop, append_assoc, rules}
 use Rattle.table_rows.{specs.LentRows.row_of, proofs.LentFacts.rows_from}
 use Rattle.enclosure_folds.specs.KeyBounds.{bounds_in, goes_on, row_bounds}

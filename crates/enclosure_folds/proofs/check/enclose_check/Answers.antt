@@ -1,3 +1,4 @@
+-- No groupby so far has a fold without bounds, and the class in the plan tells it of the next.
 use Rattle.std.proofs.Common.{◌+◌, ap, sym, ◌∙◌, drop}
 use Rattle.query_lang.specs.Streams.{takings}
 use Rattle.enclosure_folds.{specs.Check.{first_fault, or_else}, proofs.CheckFacts.{is_groupby, other_groups, other_fault, not_some}}

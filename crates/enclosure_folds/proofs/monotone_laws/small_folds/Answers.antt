@@ -1,3 +1,4 @@
+-- Computed from the definitions, the small folds are monotone or not as said, and have the bounds that are said.
 use Rattle.enclosure_folds.specs.MonotoneExamples as fold
 use Rattle.enclosure_folds.proofs.MonotoneExampleFacts.{found, decayed_sum_bounds, clamped_bounds}
 use Rattle.enclosure_folds.proofs.monotone_laws.small_folds.Goals as goal

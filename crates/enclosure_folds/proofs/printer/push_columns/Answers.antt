@@ -1,3 +1,4 @@
+-- The names of the keys, the table's own and those of the bounds of states follow one another, joined as cells.
 use Rattle.std.proofs.Common.{◌≡◌, ℕ, ◌<◌, ◌==◌, false, List, length, [], ◌∷◌, ap, sym, ◌∙◌, ◌++◌, append_assoc, codes, inl, inr, arith}
 use Rattle.std.{proofs.lemmas.Bool.Decides.eqb_tells, specs.List.flat_map}
 use Rattle.table_printer.{specs.TableText.{cells_joined, cells_continued}, proofs.Joined.joined_three}

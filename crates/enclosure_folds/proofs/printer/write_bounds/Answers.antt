@@ -1,3 +1,4 @@
+-- What waits, and the lines of the rows left, make the text of the table, of which the sink has some first bytes.
 use Rattle.std.proofs.Common.{◌≡◌, List, ℕ, ◌∷◌, ◌+◌, ◌++◌, ◌<◌, ◌∙◌, Option, ap, append-nil, append_assoc, arith, drop, get_or, length, sym}
 use Rattle.std.{proofs.lemmas.List.{drop_all, drop_more}, specs.List.flat_map}
 use Rattle.table_printer.specs.TableText.{table_line}

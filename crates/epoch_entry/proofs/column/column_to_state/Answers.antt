@@ -1,3 +1,4 @@
+-- Each variable so far has the word of its row's last element, and places that ascend don't overwrite each other.
 use Rattle.std.proofs.{Common.{◌≡◌, ℕ, arith, ◌+◌, ◌<◌, length, slice_index, ap, ◌∙◌}, Math.Nat.le_refl}
 use Rattle.coeff_algebra.proofs.PlaceLemmas.{entry_inside}
 use Rattle.epoch_entry.proofs.WritingPlaces.{next_written, others_stay}

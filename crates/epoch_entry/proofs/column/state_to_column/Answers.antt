@@ -1,3 +1,4 @@
+-- The last column has the elements of the linear variables so far, and no place of another column is written.
 use Rattle.std.proofs.{Common.{◌≡◌, ◌≢◌, ℕ, ◌+◌, ◌*◌, ◌<◌, arith, ap, ◌∙◌, length, below_more}, Math.Nat.le_refl}
 use Rattle.coeff_algebra.proofs.PlaceLemmas.{entry_inside}
 use Rattle.fold_class.proofs.RowLemmas.{same_column, same_row}

@@ -1,3 +1,4 @@
+-- Each row of the identity leaves those before it, and after the last the map has a unit in each row.
 use Rattle.std.proofs.{Common.{◌≡◌, ℕ, ◌+◌, ◌*◌, arith, ap, ◌∙◌, sym}, Math.Nat.mul_assoc}
 use Rattle.coeff_algebra.proofs.PlaceLemmas.{rows_step}
 use Rattle.epoch_entry.specs.Identity.{unit_at}

@@ -1,3 +1,4 @@
+-- The element in the column with the row's number is one and every other is zero, which is the unit of the row.
 use Rattle.std.proofs.{Common.{◌≡◌, ◌≢◌, ℕ, ◌+◌, ◌*◌, ◌≤◌, ◌==◌, if◌then◌else◌, ap, ◌∙◌, arith, below_more}, lemmas.Bool.Decides.nat_tests}
 use Rattle.coeff_algebra.proofs.PlaceLemmas.{entry_inside, columns_apart, before_apart, columns_steps}
 use Rattle.epoch_entry.{specs.Identity.unit_at, proofs.identity.identity_row.Goals.{then-column-row, else-column-row}}

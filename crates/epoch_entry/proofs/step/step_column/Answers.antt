@@ -1,3 +1,4 @@
+-- Code that runs on the history and the last column leaves what the row's step makes of both.
 use Rattle.std.proofs.Common.{length, ap, ◌∙◌, sym}
 use Rattle.fold_class.specs.Step.{words_at}
 use Rattle.epoch_entry.proofs.{Insides.inside_of, StepWords.column_moved, StepSums.{five_rise, run_cost}}

@@ -1,3 +1,4 @@
+-- The history after the code is that of the step, whatever the linear variables were.
 use Rattle.std.proofs.Common.{ap, ◌∙◌}
 use Rattle.fold_class.specs.Step.{words_at}
 use Rattle.epoch_entry.proofs.StepWords.{history_written}

@@ -1,3 +1,4 @@
+-- The places so far have their words, since ascending places differ, and the other words of the state stay.
 use Rattle.std.proofs.Common.{◌<◌, length, slice_index, arith, refl}
 use Rattle.epoch_entry.proofs.WritingPlaces.{next_written, others_stay}
 use Rattle.epoch_entry.proofs.words.scatter.Goals as goal

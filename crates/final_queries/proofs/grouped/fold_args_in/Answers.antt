@@ -1,3 +1,4 @@
+-- The code run on a key's row, made with the initial state where it is new, holds one more epoch of that one row.
 use Rattle.std.proofs.Common.{◌≡◌, ◌∷◌, [], false, refl, sym, ap, ◌∙◌, length}
 use Rattle.backing_store.specs.Store.{counted}
 use Rattle.query_lang.specs.Folds.{initial_state}

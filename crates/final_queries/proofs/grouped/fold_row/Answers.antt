@@ -1,3 +1,4 @@
+-- A row that isn't read folds nothing, and one that is read is folded at its key by its arguments.
 use Rattle.std.proofs.{Common.{◌≡◌, ◌∙◌, sym, ap, length, append-nil}, lemmas.{List.length-map, Result.on_ok_weaker}}
 use Rattle.query_lang.specs.Streams.{values_at}
 use Rattle.table_rows.specs.LentRows.{row_of}

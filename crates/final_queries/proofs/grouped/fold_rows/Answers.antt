@@ -1,3 +1,4 @@
+-- Each row that is folded makes the store hold the epochs of one row more.
 use Rattle.std.proofs.Common.{◌∙◌, sym, ap, subst, length, arith, length-take, length-append, length-drop}
 use Rattle.backing_store.specs.Merged.{StoreHolds}
 use Rattle.query_lang.specs.TypedQueries.{AreSlots}

@@ -1,3 +1,4 @@
+-- The store holds the rows before this one that are read, each as an epoch of its key.
 use Rattle.std.proofs.Common.{◌≡◌, ◌≤◌, length, take}
 use Rattle.fold_code.specs.Meaning.{IsCodeOf, code_scratch}
 use Rattle.backing_store.specs.Merged.{StoreHolds}

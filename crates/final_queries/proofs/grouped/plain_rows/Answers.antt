@@ -1,3 +1,4 @@
+-- The rows before this one are those of a final, and the others are those of the store.
 use Rattle.std.proofs.Common.{◌≡◌, suc, ◌+◌, ◌∙◌, List, Some, set, sym, ap, subst, arith, slice_get}
 use Rattle.epoch_model.specs.declared.tables.Row.{Row}
 use Rattle.backing_store.proofs.Showing.{here_stored, one_shown, row_at, shown_to}

@@ -1,3 +1,4 @@
+-- The rows that were passed aren't read or have smaller keys, and the next one is read with a key that is no smaller.
 use Rattle.std.proofs.{Common.{◌≡◌, ◌∙◌, ◌+◌, ◌-◌, ℕ, true, false, sym, ap, subst, take, drop, rules, arith}, lemmas.List.drop-drop}
 use Rattle.std.specs.Ordering.{is_lt}
 use Rattle.epoch_model.specs.Keys.{key_cmp}

@@ -1,3 +1,4 @@
+-- The right rows that were passed have keys below the left one's, so no later left row is joined with them either.
 use Rattle.std.proofs.{Common.{◌≡◌, ◌∙◌, ◌+◌, ◌-◌, ◌++◌, ℕ, sym, ap, take, drop, arith}, lemmas.List.{take-append-drop, drop-drop}}
 use Rattle.table_rows.specs.LentRows.{row_of}
 use Rattle.final_queries.proofs.{JoinSteps.joined_turn, ReadRows.{read_first, left_out}}

@@ -1,3 +1,4 @@
+-- The first right row whose key isn't smaller is joined with the left one if its key is the same, and else none is.
 use Rattle.std.proofs.Common.{◌≡◌, ◌∙◌, ◌++◌, true, false, sym, ap, refl, append-nil, rules}
 use Rattle.epoch_model.specs.Keys.{key_eq}
 use Rattle.table_rows.{specs.LentRows.row_of, proofs.LentFacts.rows_from}

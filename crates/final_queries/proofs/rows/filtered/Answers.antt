@@ -1,3 +1,4 @@
+-- A row that is read and whose condition holds is added, and any other changes nothing of the rows filtered.
 use Rattle.std.proofs.Common.{◌≡◌, ◌∙◌, ℕ, List, true, false, sym, ap, refl, rules, le_trans}
 use Rattle.epoch_model.specs.declared.tables.Row.{Row}
 use Rattle.query_lang.specs.{Streams.expr_value, Words.holds}

@@ -1,3 +1,4 @@
+-- A row that is read is added with its new values, and any other changes nothing of the rows mapped.
 use Rattle.std.{proofs.Common.{◌∙◌, ℕ, List, sym, subst, refl, le_trans}, specs.List.All}
 use Rattle.query_lang.specs.{Folds.IsValidTerm, Terms.term_of}
 use Rattle.epoch_model.specs.declared.tables.Row.{Row}

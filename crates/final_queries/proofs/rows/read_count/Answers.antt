@@ -1,3 +1,4 @@
+-- The count so far and the rows left that are read are all that are read.
 use Rattle.std.proofs.Common.{◌≡◌, ◌+◌, ◌∙◌, ◌∷◌, sym, ap, arith, drop, length}
 use Rattle.table_rows.specs.LentRows.{row_of}
 use Rattle.final_queries.{specs.Joining.reads, proofs.{ReadRows.{read_first, left_out}, rows.read_count.Goals.{then-is_read, else-is_read}}}

@@ -1,3 +1,4 @@
+-- A valid final reads tables that are there, and each operator makes its own rows of them.
 use Rattle.std.proofs.Common.{◌<◌, subst}
 use Rattle.query_lang.specs.{Folds.IsValidTerm, Terms.term_of}
 use Rattle.final_queries.proofs.TablesRead.{operator_valid, table_within, lent_at, table_at, rows_at, words_valid, slots_valid, fold_valid}

@@ -1,3 +1,4 @@
+-- The ranks so far are those of the rows read, each with its place among all rows.
 use Rattle.std.proofs.Common.{◌<◌, subst, ◌∙◌, ◌∷◌, [], ◌++◌, sym, ap, refl, add-one, arith}
 use Rattle.table_rows.specs.LentRows.{row_of}
 use Rattle.final_queries.{specs.Ranks.ranks_from, proofs.ReadRows.{made_on, passed_on, width_at}}

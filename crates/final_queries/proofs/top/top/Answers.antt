@@ -1,3 +1,4 @@
+-- A row is kept exactly where fewer than the kept number of ranks go before its own.
 use Rattle.std.proofs.{Common.{◌<◌, subst, ◌≤◌, ◌∙◌, ◌++◌, sym, ap, length, append-nil, refl, add-one, arith}, lemmas.List.drop_all}
 use Rattle.std.specs.{List.count_by, Prelude.nat_lt}
 use Rattle.table_rows.specs.LentRows.{row_of}

@@ -1,3 +1,4 @@
+-- The code of a fold, its algebra and the places of its variables are sound rows, and those of the fold.
 use Rattle.std.proofs.Common.{sym, subst}
 use Rattle.fold_class.{specs.{Rows.rows_from, Program.IsRowsOf}, proofs.ProgramLemmas.{sound_rows, rows_are}}
 use Rattle.fold_class.proofs.classifier.rows_of.Goals as goal

@@ -1,3 +1,4 @@
+-- The three words at a place are a part, so the copied part is where it was put, and those elsewhere stay.
 use Rattle.std.proofs.Common.{◌*◌, ap, ◌∙◌, refl, length}
 use Rattle.coeff_algebra.proofs.PlaceLemmas.{same_words, other_words}
 use Rattle.fold_class.{specs.Stored.part_of, proofs.StoredLemmas.three_words}

@@ -1,3 +1,4 @@
+-- The instructions left, run from the parts of variables and values so far, leave what all of them leave.
 use Rattle.std.proofs.Common.{◌≡◌, ◌+◌, [], length, drop, map}
 use Rattle.fold_code.specs.Machine.{AllFit, run_code, steps_of}
 use Rattle.fold_class.specs.{declared.part.Part.TheVariants.Fixed, Parts.{parts, column_shares}, Step.list_of, Stored.part_at}

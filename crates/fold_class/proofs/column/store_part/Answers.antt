@@ -1,3 +1,4 @@
+-- A part that is put at a place is read there, and the parts at other places stay, since three words hold each.
 use Rattle.std.proofs.Common.{ap, ◌∙◌, refl}
 use Rattle.coeff_algebra.proofs.PlaceLemmas.{same_words, other_words}
 use Rattle.fold_class.specs.Stored.{part_of}

@@ -1,3 +1,4 @@
+-- No lower depth covers the variables outside the history, and the number of variables always does.
 use Rattle.std.proofs.Common.{◌≡◌, arith, sym, ◌∙◌, below_more, subst}
 use Rattle.query_lang.specs.Folds.{fold_states}
 use Rattle.fold_class.{specs.Depth.IsDepth, proofs.DepthLemmas.{round_step, covered_by, covered_last, depth_found}}

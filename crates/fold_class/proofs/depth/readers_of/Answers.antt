@@ -1,3 +1,4 @@
+-- With Other for only one variable at first, those that are Other after the body are those that read it.
 use Rattle.std.proofs.Common.{ap, ◌∙◌, sym, subst, refl, arith, ◌∷◌, [], set}
 use Rattle.query_lang.specs.{Blocks.block_of, Folds.{fold_states, fold_args}, declared.fault.TheConstants.MAX_STATES}
 use Rattle.fold_class.specs.{declared.class.Kind.TheVariants.{Pure, Other}, Kinds.kinds_after, Walk.{kinds_in, outside, AssignsBelow}}

@@ -1,3 +1,4 @@
+-- A fold has no Other where the kinds after its body, from those it starts with, have none.
 use Rattle.std.proofs.Common.{subst, sym}
 use Rattle.query_lang.specs.{Blocks.block_of, Folds.{fold_states, fold_args}, declared.fault.TheConstants.MAX_STATES}
 use Rattle.fold_class.{specs.Walk.{AssignsBelow, flag_in}, proofs.{ReadLemmas.valid_below, LinearLemmas.kept_from}}

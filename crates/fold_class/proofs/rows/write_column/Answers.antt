@@ -1,3 +1,4 @@
+-- The element of each row stands in its column, and since places differ by row and column, no other is written.
 use Rattle.std.proofs.Common.{◌≡◌, ◌≢◌, ◌+◌, ◌*◌, arith, ap, ◌∙◌, length, below_more}
 use Rattle.fold_class.{specs.{Parts.column_shares, Step.share_of}, proofs.RowLemmas.{same_column, same_row}}
 use Rattle.fold_class.proofs.rows.write_column.Goals as goal

@@ -1,3 +1,4 @@
+-- Marking the statements left of a branch leaves the kinds that marking the whole branch does.
 use Rattle.std.proofs.Common.{◌≡◌, drop, length}
 use Rattle.query_lang.specs.Blocks.{block_of}
 use Rattle.fold_class.specs.{Kinds.marked, Walk.{kinds_in, AssignsBelow}}

@@ -1,3 +1,4 @@
+-- Where the condition is pure, the kinds are those after either branch, joined variable by variable.
 use Rattle.std.proofs.Common.{ap, ◌∙◌}
 use Rattle.query_lang.specs.Blocks.{block_of}
 use Rattle.fold_class.{specs.{Kinds.kinds_after, Walk.kinds_in}, proofs.WalkLemmas.{kinds_end, branches_from}}

@@ -1,3 +1,4 @@
+-- The kinds after the statements left of a branch are those after the whole branch from its first kinds.
 use Rattle.std.proofs.Common.{◌≡◌, drop}
 use Rattle.query_lang.specs.{Blocks.block_of, declared.fault.TheConstants.MAX_STATES}
 use Rattle.fold_class.specs.{Kinds.kinds_after, Walk.{kinds_in, AssignsBelow}}

@@ -1,3 +1,4 @@
+-- Assignments of both branches pass under the condition, and the first that doesn't is the statement's answer.
 use Rattle.std.proofs.Common.{true, false, sym, ◌∙◌}
 use Rattle.query_lang.specs.Blocks.{block_of}
 use Rattle.fold_code.{specs.Checks.{is_in, all_pass}, proofs.CheckLemmas.{pass_rest, pass_stop, pass_end, pass_if}}

@@ -1,3 +1,4 @@
+-- A choice makes a mask for each branch, and the instructions of the branches under them are those of the statement.
 use Rattle.std.proofs.Common.{rules, ap, arith, ◌∙◌}
 use Rattle.query_lang.specs.{declared.fold.TypedStmt.TheViews.the_lemmas, Blocks.block_of}
 use Rattle.fold_code.{specs.Code.block_size, proofs.CodeLemmas.{size_if, emitted_if, size_rest, code_rest, code_end, size_end}}

@@ -1,3 +1,4 @@
+-- Each statement adds its own instructions, and the code so far with that of those left is the block's.
 use Rattle.std.proofs.Common.{arith, ◌∙◌}
 use Rattle.fold_code.proofs.CodeLemmas.{size_rest, code_rest}
 use Rattle.fold_code.proofs.emit.emit_block.Goals as goal

@@ -1,3 +1,4 @@
+-- A copy of the lane's store, with what its pipe has and then what its cache has, holds all epochs.
 use Rattle.std.proofs.Common.{◌≡◌, ◌+◌, ◌++◌, ℕ, length, replicate, arith, take, drop, sym, ap, ◌∙◌, subst, take-append-drop, lit<}
 use Rattle.std.proofs.{Math.Nat.le_refl, lemmas.List.length-replicate}
 use Rattle.backing_store.specs.Merged.{StoreHolds}

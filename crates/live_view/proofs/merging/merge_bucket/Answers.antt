@@ -1,3 +1,4 @@
+-- Merges go from a bucket's last way to its first, so its open epochs are held in reverse, and empty ways add none.
 use Rattle.std.proofs.Common.{◌≡◌, ◌+◌, ◌-◌, ◌∷◌, ◌++◌, length, drop, reverse, refl, sym, ap, ◌∙◌, subst, arith, lit<, append-nil}
 use Rattle.std.proofs.lemmas.List.{drop_all}
 use Rattle.bucket_cache.specs.Caches.{list_at, entry_at}

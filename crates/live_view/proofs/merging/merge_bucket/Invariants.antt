@@ -1,3 +1,4 @@
+-- The store holds the bucket's open epochs from this way on, in reverse, after those that it held at first.
 use Rattle.std.proofs.Common.{◌≡◌, ◌≤◌, List, ◌++◌, drop, reverse}
 use Rattle.epoch_model.specs.Machine.{Epoch}
 use Rattle.bucket_cache.specs.Caches.{list_at}

@@ -1,3 +1,4 @@
+-- Each bucket adds its open epochs after those of the buckets below it, until all of the machine's are held.
 use Rattle.std.proofs.{Common.{◌≡◌, ◌<◌, ◌++◌, length, take, flat_map, reverse, ◌∙◌, subst, arith}, lemmas.List.take_all}
 use Rattle.epoch_model.specs.Machine.{open_in}
 use Rattle.backing_store.specs.Merged.{StoreHolds}

@@ -1,3 +1,4 @@
+-- The store holds the open epochs of all buckets below this one, after those that it held at first.
 use Rattle.std.proofs.Common.{◌≡◌, ◌≤◌, List, ◌++◌, take, flat_map, reverse}
 use Rattle.epoch_model.specs.Machine.{Epoch, Machine}
 use Rattle.backing_store.specs.Merged.{StoreHolds}

@@ -1,3 +1,4 @@
+-- A record's words are those of a key and an entry, and merged they hold the next epoch that waits.
 use Rattle.std.proofs.{Common.{◌≡◌, ◌<◌, ◌-◌, [], ◌++◌, length, take, drop, get_or, sym, ap₂, ◌∙◌, subst, arith}, lemmas.List.take_all}
 use Rattle.backing_store.specs.Merged.{StoreHolds}
 use Rattle.live_view.proofs.Standing.{records_long, record_next, one_after}

@@ -1,3 +1,4 @@
+-- The store holds the epochs of the pipe's records before this one, after those that it held at first.
 use Rattle.std.proofs.Common.{◌≡◌, ◌≤◌, List, ◌++◌, take}
 use Rattle.epoch_model.specs.Machine.{Epoch}
 use Rattle.backing_store.specs.Merged.{StoreHolds}

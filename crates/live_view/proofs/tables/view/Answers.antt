@@ -1,3 +1,4 @@
+-- Each lane has a group of the plan and entries that fit, and its table is the one seen of its machine.
 use Rattle.std.{proofs.Common.{◌≡◌, [], ◌∷◌, ◌++◌, Some, length, map, take, sym, ap, ◌∙◌, subst, arith, lit<}, specs.Prelude.slice_get}
 use Rattle.stage_plan.specs.Sound.{IsSoundPlan}
 use Rattle.switch_core.specs.PlanLanes.{StandsFor, folding_at}

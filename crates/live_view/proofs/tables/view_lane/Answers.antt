@@ -1,3 +1,4 @@
+-- A store that holds all epochs of a lane gives the table that they close to.
 use Rattle.std.proofs.{Common.{sym, ap, ◌∙◌}, lemmas.Result.IfOk-weaker}
 use Rattle.live_view.specs.Views.{all_epochs}
 use Rattle.epoch_model.proofs.Endings.{no_value}

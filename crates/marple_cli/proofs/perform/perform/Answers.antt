@@ -1,3 +1,4 @@
+-- Each command ends as the function that performs it does, and one that takes no input loses nothing of either.
 use Rattle.std.proofs.Common.{refl, Some}
 use Rattle.marple_cli.proofs.Taken.{none_lost}
 use Rattle.marple_cli.proofs.perform.perform.Goals as goal

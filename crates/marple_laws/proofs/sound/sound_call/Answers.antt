@@ -1,3 +1,4 @@
+-- Sound inputs and a sound sink never rise in faults, so no call ends with a fault of theirs.
 use Rattle.marple_laws.proofs.NoFaults.{never_rose, no_input_fault}
 use Rattle.marple_laws.proofs.sound.sound_call.Goals as goal
 

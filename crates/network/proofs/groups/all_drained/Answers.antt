@@ -1,3 +1,4 @@
+-- The first groupby that isn't drained tells the answer, and where there is none, all epochs are merged.
 use Rattle.std.{proofs.{Common.{◌≡◌, Some, length, take, sym, ap, ◌∙◌, arith}, Math.Seq.take-length}, specs.List.list_all}
 use Rattle.switch_core.proofs.{LaneFacts.{all_at, all_fails, all_next}, SideBySide.got_here}
 use Rattle.network.{specs.Groups.group_is_drained, proofs.MakeSteps.all_merged}

@@ -1,3 +1,4 @@
+-- The first groupby whose pipe at the switch has no room tells the answer, and where there is none, all are ready.
 use Rattle.std.proofs.Common.{Some, sym, ap, ◌∙◌, lit<}
 use Rattle.switch_core.proofs.{LaneFacts.{all_fails, all_next}, SideBySide.got_here}
 use Rattle.network.{specs.Events.is_ready_at, proofs.MakeSteps.switch_within}

@@ -1,3 +1,4 @@
+-- Each turn adds the table of one more groupby, with the heading that the plan has for it.
 use Rattle.std.proofs.{Common.{◌++◌, [], ◌∷◌, Some, length, take, sym, ap, ◌∙◌, arith}, Math.Facts.Fits-below}
 use Rattle.query_lang.specs.declared.fault.TheConstants.{MAX_KEYS}
 use Rattle.switch_core.proofs.SideBySide.{same_some, each_long, each_at, got_here}

@@ -1,3 +1,4 @@
+-- The groupbys so far have only the first switches, and those after them are untouched.
 use Rattle.std.proofs.Common.{get_or, sym, ap, ◌∙◌, arith}
 use Rattle.switch_core.proofs.SideBySide.{same_some, done_start, untouched_start, done_next, untouched_next, was_there, done_end}
 use Rattle.network.specs.Groups.{with_first}

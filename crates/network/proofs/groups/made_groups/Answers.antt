@@ -1,3 +1,4 @@
+-- The groupbys so far are those of the first parts of the plan, without a switch and without an event.
 use Rattle.std.proofs.{Common.{ℕ, ◌+◌, ◌++◌, [], ◌∷◌, take, sym, subst, lit<}, lemmas.List.Elements.{All-append, All-cons, All-nil}}
 use Rattle.std.specs.List.{All}
 use Rattle.stage_plan.specs.{declared.group.GroupPlan.GroupPlan, Planned.wiring_at}

@@ -1,3 +1,4 @@
+-- A turn makes its own groupby's event and leaves the others, so after the last each has made its own.
 use Rattle.std.proofs.{Common.{◌≡◌, ◌<◌, ◌+◌, ℕ, length, take, get_or, refl, sym, ◌∙◌, subst, arith, lit<}, Math.Facts.Fits-below}
 use Rattle.std.specs.Prelude.{sum_by}
 use Rattle.epoch_model.specs.Driving.{event_of}

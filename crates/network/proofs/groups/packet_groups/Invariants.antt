@@ -1,3 +1,4 @@
+-- The groupbys so far had their events, the others are untouched, and no store changed.
 use Rattle.std.{proofs.Common.{◌≡◌, ◌≤◌, ◌+◌, length, take}, specs.Prelude.sum_by}
 use Rattle.epoch_model.specs.Driving.{event_of}
 use Rattle.stage_plan.specs.{Planned.wiring_at, Registers.taken_at}

@@ -1,3 +1,4 @@
+-- What is present in the registers is taken with its key and its arguments as one event, and else there is none.
 use Rattle.std.proofs.Common.{◌≡◌, ℕ, ◌+◌, ◌*◌, ◌≤◌, [], Option, Some, map, refl, sym, ap, ◌∙◌, subst, arith}
 use Rattle.epoch_model.specs.{Driving.{Taken, event_of}, Keys.{Key, ArgRow}}
 use Rattle.epoch_entry.specs.contracts.any.AnyEpochsEpochKind.TheImpl.{ghosts}

@@ -1,3 +1,4 @@
+-- A program is that of one fold, so its rows and its layout have the same variables, arguments and size of elements.
 use Rattle.std.proofs.{Common.{sym, ap, ◌∙◌}, Math.Logic.{∥∥₁_elim}, Props.props}
 use Rattle.fold_class.specs.Rows.{element_size}
 use Rattle.part_tests.proofs.folds.rows_known.Goals as goal

@@ -1,3 +1,4 @@
+-- The names so far, and the others each after a comma, are the line of all names.
 use Rattle.std.proofs.Common.{◌+◌, ◌++◌, ◌∙◌, ap, drop, get_or, map}
 use Rattle.marple_base.specs.{Field.field_name, declared.field.Field.TheVariants.Switch}
 use Rattle.queue_sim.specs.TraceText.{continued}

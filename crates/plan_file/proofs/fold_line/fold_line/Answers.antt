@@ -1,3 +1,4 @@
+-- A line `fold` is that of the fold that its group makes where it says the class and the depth of that fold.
 use Rattle.std.proofs.Common.{◌≡◌, refl, sym, subst, ◌∙◌}
 use Rattle.query_lang.specs.Folds.{fold_states}
 use Rattle.plan_file.{specs.FoldLines.IsFoldWords, proofs.SameFold.{class_same, depth_same, depth_once, words_once}}

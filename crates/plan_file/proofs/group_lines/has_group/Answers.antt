@@ -1,3 +1,4 @@
+-- No name before this group is the one asked for, and a name found is among those of the groups.
 use Rattle.std.{proofs.Common.{◌≡◌, ◌<◌, true, false, length, arith, below_more}, specs.Str.bytes_eq}
 use Rattle.plan_file.{specs.Groups.names_of, proofs.NameFacts.{found_at, other_at, not_among, count_names, named_at}}
 use Rattle.plan_file.proofs.group_lines.has_group.Goals as goal

@@ -1,3 +1,4 @@
+-- A line `key` is valid only where its name is new in the group, which then has one key more.
 use Rattle.std.proofs.Common.{◌++◌, ◌∷◌, [], ◌∙◌, ap, arith, rules}
 use Rattle.plan_file.proofs.GroupFacts.{key_added, no_items, no_key_line}
 use Rattle.plan_file.proofs.group_lines.key_line.Goals as goal

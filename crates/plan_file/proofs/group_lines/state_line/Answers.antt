@@ -1,3 +1,4 @@
+-- A line `state` is valid only where its name is new in the group, which then has one state variable more.
 use Rattle.std.proofs.Common.{◌++◌, ◌∷◌, [], ◌∙◌, ap, arith, rules}
 use Rattle.plan_file.proofs.GroupFacts.{no_state_line, some_items, state_added}
 use Rattle.plan_file.proofs.group_lines.state_line.Goals as goal

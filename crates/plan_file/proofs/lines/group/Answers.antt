@@ -1,3 +1,4 @@
+-- A line `group` is valid only between groups, after the fields and before any print, where it has a group to open.
 use Rattle.std.proofs.Common.{◌≡◌, refl, subst, rules}
 use Rattle.plan_file.specs.Groups.{IsGroupLine}
 use Rattle.plan_file.proofs.lines.group.Goals as goal

@@ -1,3 +1,4 @@
+-- A line `op` has the four tokens of `not` or the five of any other function, and none has six.
 use Rattle.std.{proofs.Common.rules, specs.List.slice_split}
 use Rattle.plan_file.{specs.Lexis.is_space, proofs.OpFacts.{no_line, no_other_word, six_tokens}}
 use Rattle.plan_file.proofs.operations.op_line.Goals as goal

@@ -1,3 +1,4 @@
+-- The tokens passed are the names of the fields found, in the order of all fields, and a line with tokens left isn't valid.
 use Rattle.std.{proofs.Common.{◌≡◌, ◌∙◌, ap, sym, subst, true, false}, specs.Str.bytes_eq}
 use Rattle.plan_file.specs.Lexis.{tokens_left}
 use Rattle.plan_file.proofs.ReadsFacts.{IsPassed, step_with, step_other, step_end, left_over, passed_all, text_same, text_other}

@@ -1,3 +1,4 @@
+-- The bytes up to the next line feed are the next line, and without a line feed no line is left.
 use Rattle.std.proofs.{Common.{◌-◌, drop, length, arith}, lemmas.List.{take_all, length-drop}}
 use Rattle.plan_file.proofs.TextFacts.{after_lines, next_start}
 use Rattle.plan_file.proofs.texts.next_line.Goals as goal

@@ -1,3 +1,4 @@
+-- The lines so far are valid one after another, and the first that isn't is where the text is refused.
 use Rattle.std.proofs.Common.{◌+◌}
 use Rattle.plan_file.proofs.{ReadFacts.reached_more, WithinFacts.line_within}
 use Rattle.plan_file.proofs.texts.read_lines.Goals as goal

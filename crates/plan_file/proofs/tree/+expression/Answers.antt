@@ -1,3 +1,4 @@
+-- By its first token the tokens are those of a `not`, a function or a leaf, whose operands are read one after another.
 use Rattle.std.proofs.{Common.{◌≡◌, ◌++◌, ◌-◌, List, length, take, drop, ◌∙◌, arith}, lemmas.List.{take_all, length-drop}}
 use Rattle.std.proofs.lemmas.Result.{err_from_is_err_and}
 use Rattle.query_lang.proofs.TreeLemmas.{term_not, term_binary}

@@ -1,3 +1,4 @@
+-- Tokens written of valid statements give those statements back, a choice by its condition and its two braced blocks.
 use Rattle.std.proofs.Common.{◌≡◌, ◌-◌, true, false, ◌++◌, sym, ap, subst, ◌∙◌, arith}
 use Rattle.std.proofs.lemmas.Result.{err_from_is_err_and}
 use Rattle.query_lang.{specs.Blocks.{End, Fork, block_of}, proofs.TreeLemmas.block_if}

@@ -1,3 +1,4 @@
+-- The statements found and the tokens left are those of every block that is written there.
 use Rattle.std.proofs.Common.{◌≡◌, ◌≤◌, ◌+◌, ◌*◌, ◌-◌, ◌++◌, List, length}
 use Rattle.query_lang.specs.{Blocks.Block, Folds.IsValidBlock}
 use Rattle.plan_file.{specs.{declared.lexemes.Lexeme.Lexeme, Bodies.written_block, Trees.Closes}, proofs.TreeFacts.IsLeft}

@@ -1,3 +1,4 @@
+-- A body is read only where its tokens are few, and what is read has no more nodes and statements than allowed.
 use Rattle.std.proofs.Common.{[], sym, ◌∙◌, append-nil}
 use Rattle.plan_file.{specs.Bodies.written_block, proofs.TreeFacts.{small_body, body_small, same_args}}
 use Rattle.plan_file.proofs.tree.body_of.Goals as goal

@@ -1,3 +1,4 @@
+-- The wants after each token read what is left just as the first want reads all, so none is left where a body ends.
 use Rattle.std.proofs.Common.{◌≡◌, ℕ, ◌+◌, ◌<◌, ◌≤◌, Bool, true, false, List, [], ◌∷◌, ◌++◌, length, drop, get_or, refl, sym, ap, ◌∙◌}
 use Rattle.std.proofs.{Common.{subst, arith, add-one, drop-cons}, lemmas.{Bool.Decides.nat_tests, List.{drop_all, nil_from_length}}}
 use Rattle.std.specs.Prelude.{MatchBool, ◌==◌, vec_len}

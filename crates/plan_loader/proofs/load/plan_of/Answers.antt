@@ -1,3 +1,4 @@
+-- The parts that the lines made are those of a sound plan, with each group wired as its lines say.
 use Rattle.std.proofs.Common.{◌≡◌, ◌∙◌, List, All, map, sym, ap, subst}
 use Rattle.stage_plan.specs.declared.group.{GroupPlan.GroupPlan, GroupWiring.GroupWiring}
 use Rattle.plan_file.specs.declared.made.Made.{Made}

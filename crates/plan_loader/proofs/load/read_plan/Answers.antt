@@ -1,3 +1,4 @@
+-- A valid text is refused nowhere and says one plan, and any other is refused at its only bad place.
 use Rattle.std.proofs.{Common.{ap, ◌∙◌}, lemmas.Result.err_from_is_err_and}
 use Rattle.stage_plan.specs.Shape.{bound_of}
 use Rattle.plan_file.proofs.{AnswerFacts.{nowhere, only_answer}, LineLaws.makes_one, TextLaws.says_one}

@@ -1,3 +1,4 @@
+-- An assignment is its three parts and a choice its condition and two braced blocks, statement by statement.
 use Rattle.std.proofs.Common.{◌∙◌}
 use Rattle.plan_writer.proofs.Pieces.{stmts_more, stmts_end, choice_written, assignment_written}
 use Rattle.plan_writer.proofs.bodies.+push_stmt.Goals as goal

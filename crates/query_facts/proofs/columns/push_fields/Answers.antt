@@ -1,3 +1,4 @@
+-- Each field adds one column more whose origin is a field.
 use Rattle.std.proofs.Common.{◌≡◌, ◌∙◌, ℕ, zero, suc, ◌+◌, ◌<◌, List, [], ◌∷◌, ◌++◌, length, map, take, refl, ap, sym, add-one}
 use Rattle.std.proofs.Common.{append_assoc, arith}
 use Rattle.marple_base.specs.declared.field.Field.{Field}

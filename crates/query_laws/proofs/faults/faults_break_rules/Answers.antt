@@ -1,3 +1,4 @@
+-- A fault of any kind but that nothing is printed is at some item, and that one is at the end.
 use Rattle.query_laws.proofs.QueryFaults.{at_some_item, at_end, only_these}
 use Rattle.query_laws.proofs.faults.faults_break_rules.Goals as goal
 

@@ -1,3 +1,4 @@
+-- Each further operator or comma reads one more part, and where none comes, what is read so far is the whole.
 use Rattle.std.proofs.Common.{List, refl, sym, ◌∙◌, inl, inr}
 use Rattle.query_lang.specs.declared.{fault.Span.Span, fold.Op.Op, query.Expr.Expr}
 use Rattle.query_grammar.specs.Grammar.{grouped}

@@ -1,3 +1,4 @@
+-- What is read of a level or a list and what is left make the whole, and reading goes to a closer level or a bracket less.
 use Rattle.std.proofs.Common.{◌≡◌, ℕ, ◌+◌, ◌*◌, ◌-◌, [], ◌∷◌, length}
 use Rattle.query_lang.specs.declared.token.Mark.TheVariants as marks
 use Rattle.query_grammar.specs.{Grammar.grouped, Kinds.{among, kinds_of, sign}, Parser.{Limited, turns}}

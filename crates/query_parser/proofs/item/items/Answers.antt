@@ -1,3 +1,4 @@
+-- Where an item begins, one more is read, and its fault is that of all items.
 use Rattle.std.proofs.Common.{sym, ◌∙◌, inl, inr}
 use Rattle.query_parser.proofs.{Loops.{fails, more_list, ends_list}, item.items.Goals.{else-items-test, then-items-test+then-not-at_item}}
 use Rattle.query_parser.proofs.item.items.Goals as goal

@@ -1,3 +1,4 @@
+-- What is cut so far and the text left give the tokens, and the first piece that is a fault is the answer.
 use Rattle.std.proofs.{Common.{ℕ, ◌-◌, length, drop, take, arith, ap, ◌∙◌, inl, inr}, lemmas.List.{length-take, length-drop}}
 use Rattle.query_lang.specs.Lexis.{piece}
 use Rattle.query_parser.proofs.{Cuts.{blank, token, numbered, fault, ends, rest_all, one_more}, lexer.cut_text.Goals.in-Blank}

@@ -1,3 +1,4 @@
+-- The digits of a word are among its bytes, and the word is within the text that begins with it.
 use Rattle.std.proofs.{Common.arith, lemmas.List.{length-take, Sums.prefix_len-le-length}}
 use Rattle.query_lang.specs.Lexis.{is_word_byte}
 use Rattle.query_parser.proofs.Words.{digits_of_word, digits_within}

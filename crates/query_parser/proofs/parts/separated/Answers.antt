@@ -1,3 +1,4 @@
+-- Each comma leads to one part more, and a list without another comma ends.
 use Rattle.std.proofs.Common.{sym, ◌∙◌, inl, inr}
 use Rattle.query_parser.proofs.Loops.{fails, more_list, ends_list}
 use Rattle.query_parser.proofs.parts.separated.Goals.{else-parts-test, then-parts-test+then-not-at_mark}

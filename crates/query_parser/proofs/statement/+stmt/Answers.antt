@@ -1,3 +1,4 @@
+-- Another branch goes on with the chain and a last block ends it, and statements follow while one begins.
 use Rattle.std.proofs.Common.{sym, ◌∙◌, inl, inr}
 use Rattle.query_parser.proofs.{Loops.{ends_list, more_list}, Statements.{more_chain, last_chain, fails_chain, ends_chain}}
 use Rattle.query_parser.proofs.statement.+stmt.Goals.{else_parts-else-parts-test, else_parts-then-parts-test+then-not-at_word}

@@ -1,3 +1,4 @@
+-- What is read of a block or a chain and what is left make the whole, and a block within has a bracket less.
 use Rattle.std.proofs.Common.{◌≡◌, ◌+◌, ◌*◌, ◌-◌, [], ◌∷◌, length}
 use Rattle.query_grammar.specs.{Kinds.among, Parser.{Limited, turns, repeated, chain_turns, chained}, Reading.{stmt_at, stmt_starts}}
 use Rattle.query_parser.{specs.Reads.else_part_at, proofs.{Loops.{finished, later}, Statements.chained_on}}

@@ -1,3 +1,4 @@
+-- Each branch taken off the end becomes an `if` before what else there is, which leaves the whole block the same.
 use Rattle.std.proofs.Common.{List, Some, refl, ap, sym, ◌∙◌}
 use Rattle.query_lang.specs.declared.query.{Expr.Expr, Stmt.Stmt}
 use Rattle.query_grammar.specs.Grammar.{else_of}

@@ -1,3 +1,4 @@
+-- The packets read so far are kept, no more words than allowed, and the trace's fault is still ahead.
 use Rattle.std.proofs.Common.{◌≡◌, ◌≤◌, length}
 use Rattle.trace_drive.specs.Kept.{kept_words}
 use Rattle.query_run.proofs.Keeping.{IsKeptSoFar}

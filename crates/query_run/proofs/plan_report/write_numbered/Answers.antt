@@ -1,3 +1,4 @@
+-- The sink and the buffer have the texts of the numbers so far, and those of the numbers left are still to write.
 use Rattle.std.proofs.Common.{refl, ◌≡◌, ◌<◌, ℕ, List, ◌+◌, ◌++◌, Some, arith, append-nil, drop, get_or, length, slice_get}
 use Rattle.std.{proofs.lemmas.List.{drop_all, drop_more}, specs.List.flat_map}
 use Rattle.final_queries.specs.declared.table.Table.{Table}

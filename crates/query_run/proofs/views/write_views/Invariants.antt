@@ -1,3 +1,4 @@
+-- The views up to this packet are written, and the replay is under way after as many packets.
 use Rattle.std.{proofs.Common.{◌≡◌, ◌≤◌, ◌-◌, ◌%◌, ℕ, List, length, take}, specs.Io.KnownBytes.Appends}
 use Rattle.trace_drive.specs.{Drives.{coming, fault_of, geometry_for, words_of}, Follows.Keeps}
 use Rattle.trace_drive.specs.{Replays.{IsUnderWay, replay_fault, replay_pipeline}, Turns.MakesTurns}

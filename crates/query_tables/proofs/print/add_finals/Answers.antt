@@ -1,3 +1,4 @@
+-- The table of each final is made of the tables before it, so those so far go on to the tables of the whole query.
 use Rattle.std.proofs.{Common.{◌≡◌, ◌∷◌, ◌+◌, ap, sym, ◌∙◌, subst, drop, length, arith}, lemmas.List.drop_more}
 use Rattle.final_queries.specs.Finals.{with_finals}
 use Rattle.query_tables.proofs.FinalSteps.{one_more}

@@ -1,3 +1,4 @@
+-- Each print takes its table's text off the front of the texts left, and a failure leaves some first bytes.
 use Rattle.std.proofs.Common.{◌++◌, arith, append-nil}
 use Rattle.std.{proofs.lemmas.List.{drop_all}, specs.List.flat_map}
 use Rattle.query_lang.specs.TypedFinals.{table_number}

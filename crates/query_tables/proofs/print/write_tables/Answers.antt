@@ -1,3 +1,4 @@
+-- With as many groupbys as the query takes, the numbered tables are those that it prints.
 use Rattle.std.{proofs.{Common.{refl, ◌≡◌, ℕ, List, ap, length, map, ◌∙◌, sym}, lemmas.List.length-map}, specs.List.flat_map}
 use Rattle.query_lang.specs.{declared.typed.{PrintOf.PrintOf, TypedQuery.TypedQuery}, Streams.takings, TypedFinals.table_number}
 use Rattle.query_lang.specs.TypedQueries.{group_shape}

@@ -1,3 +1,4 @@
+-- The statements of a block are checked in turn, those of a choice under its condition, and the first fault stops.
 use Rattle.std.{proofs.{Common.{refl, sym, ◌∙◌, arith}, lemmas.List.at_drop_all}, specs.Prelude.map}
 use Rattle.query_lang.specs.TypedFolds.{in_order, stmt_checked, stmt_count}
 use Rattle.query_types.{specs.Numbers.greatest_in, proofs.CheckLemmas.{left_stops, left_stops_after, more, left_is, on_ok, on_ok_so}}

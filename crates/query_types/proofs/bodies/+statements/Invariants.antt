@@ -1,3 +1,4 @@
+-- The statements left, checked after those found, leave what the whole block leaves.
 use Rattle.std.proofs.Common.{◌≡◌, ◌<◌, ◌^◌, ◌+◌, ◌*◌, map, drop, sum_by}
 use Rattle.query_lang.specs.TypedFolds.{in_order, stmt_checked, stmt_count}
 use Rattle.query_types.specs.Numbers.{greatest_of, greatest_in}

@@ -1,3 +1,4 @@
+-- Each new column is checked beside those made before it, and a fault in one is that of all.
 use Rattle.std.proofs.{Common.{sym, ◌∙◌, arith}, lemmas.List.at_drop_all}
 use Rattle.query_lang.specs.TypedStreams.{new_columns}
 use Rattle.query_types.{specs.Numbers.greatest_number, proofs.{CheckLemmas.{stops_after, more}, ColumnSteps.column_turn}}

@@ -1,3 +1,4 @@
+-- An expression's operands are checked from left to right before its node, and the first fault is its own.
 use Rattle.std.{proofs.{Common.{◌+◌, refl, sym, ap, ◌∙◌, arith}, lemmas.List.at_drop_all}, specs.Prelude.{map, drop}}
 use Rattle.query_lang.specs.{Checks.collected, TypedExprs.expr_checked, TypedFolds.expr_nodes}
 use Rattle.query_types.{specs.Numbers.greatest_number, proofs.CheckLemmas.{stops, goes_on, more, if_ok, collected_turn}}

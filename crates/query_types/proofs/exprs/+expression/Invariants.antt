@@ -1,3 +1,4 @@
+-- The operands found and the arguments left are those of the whole call.
 use Rattle.std.proofs.Common.{◌≡◌, ◌<◌, ◌^◌, ◌+◌, ◌*◌, [], map, drop, sum_by}
 use Rattle.query_lang.specs.{Checks.collected, TypedExprs.expr_checked, TypedFolds.expr_nodes}
 use Rattle.query_types.specs.Numbers.{greatest_of, greatest_number}

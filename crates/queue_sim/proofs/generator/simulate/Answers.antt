@@ -1,3 +1,4 @@
+-- Each turn sends the next packet of the generator, which are those simulated so far.
 use Rattle.std.proofs.Common.{◌≡◌, ◌+◌, ◌∙◌, ap, refl, sym}
 use Rattle.queue_sim.{specs.Following.nth_packet, proofs.FollowingFacts.{simulated_more, simulated_none}}
 use Rattle.queue_sim.proofs.generator.simulate.Goals as goal

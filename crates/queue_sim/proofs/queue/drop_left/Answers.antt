@@ -1,3 +1,4 @@
+-- Departures climb, so those up to now are at the front and, taken off, change no count at a later time.
 use Rattle.std.proofs.Common.{◌≡◌, ◌<◌, ◌∙◌, ◌∷◌, ap, length, drop, arith}
 use Rattle.queue_sim.proofs.QueueFacts.{all_by_first, climbs_rest, front_is, still_rest}
 use Rattle.queue_sim.proofs.queue.drop_left.Goals as goal

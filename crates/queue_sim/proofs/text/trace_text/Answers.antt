@@ -1,3 +1,4 @@
+-- Each packet adds its line, so the text so far is that of the packets so far.
 use Rattle.std.proofs.{Common.{◌++◌, [], ◌∙◌, ap, get_or, length, sym, refl, take, ◌<◌, arith}, lemmas.List.{take_all, take_more}}
 use Rattle.queue_sim.{specs.TraceText.{line, packet_texts, trace_text}, proofs.TextFacts.trace_push}
 use Rattle.marple_base.specs.declared.field.Packet.{Packet}

@@ -1,3 +1,4 @@
+-- Where writing breaks off, what the sink took is the front of the text so far, which begins that of all packets.
 use Rattle.std.proofs.Common.{◌≡◌, ◌+◌, ◌++◌, ◌∙◌, ap, sym, refl, subst, arith}
 use Rattle.queue_sim.specs.{Following.nth_packet, Generator.simulated, TraceText.{header, line, packet_texts, trace_text}}
 use Rattle.queue_sim.proofs.{FollowingFacts.simulated_none, Pieces.{broken_off, text_more}}

@@ -1,3 +1,4 @@
+-- All of the text of the packets so far is written but for what waits, and the generator follows these packets.
 use Rattle.std.proofs.Common.{◌≡◌, ◌≤◌}
 use Rattle.queue_sim.specs.{Following.Follows, Generator.simulated, TraceText.trace_text}
 use Rattle.marple_base.specs.Pieces.{TakesAllBut}

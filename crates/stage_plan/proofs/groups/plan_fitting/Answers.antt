@@ -1,3 +1,4 @@
+-- The number of a groupby's fold finds it, and with its program and names the group is sound and has its shape.
 use Rattle.std.{proofs.Common.{◌∙◌, sym, ap}, specs.Prelude.slice_get}
 use Rattle.stage_plan.proofs.Groupings.{args_are, fitting_shape, fitting_sound, valid_fold}
 use Rattle.stage_plan.proofs.groups.plan_fitting.Goals as goal

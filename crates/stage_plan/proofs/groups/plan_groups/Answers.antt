@@ -1,3 +1,4 @@
+-- Each stream that is a groupby adds its group, so the groups are those of the query in order.
 use Rattle.std.{proofs.Common.{◌∙◌, ◌++◌, ◌+◌, ap, subst, sym, drop}, specs.Prelude.{map, filter_map}}
 use Rattle.query_lang.specs.Streams.{takings}
 use Rattle.stage_plan.{specs.Shape.{shape_made, group_shape}, proofs.Groupings.{Grouped, shapes_more, grouped_more, all_grouped}}

@@ -1,3 +1,4 @@
+-- Operations in the order of their stages, with registers by that order and groups wired to them, are the plan.
 use Rattle.std.proofs.Common.{ap, length}
 use Rattle.stage_plan.{specs.Making.packet_wires, proofs.Counts.{all_inputs, all_fit}}
 use Rattle.stage_plan.proofs.Putting.{IsPut, numbers_within, few_numbers, order_from, put_from}

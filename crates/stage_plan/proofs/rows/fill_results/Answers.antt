@@ -1,3 +1,4 @@
+-- Each operation reads only registers that are filled, so later results change none of those before.
 use Rattle.std.proofs.{Common.{arith, ◌∙◌}, lemmas.{List.take-set-le, Option.slice_get_within}}
 use Rattle.stage_plan.proofs.Runs.{reads_left, reads_right, results_more}
 use Rattle.marple_base.specs.declared.field.TheConstants.{FIELDS}

@@ -1,3 +1,4 @@
+-- Each stream adds the operations that it makes of those before it, until one is too deep.
 use Rattle.std.proofs.{Common.{◌≡◌, ◌+◌, ◌≤◌, false, length, sym, ap, ◌∙◌, arith}, lemmas.List.length_push}
 use Rattle.stage_plan.{specs.{Counting.op_most, Making.are_deep}, proofs.Counts.{Stands, stands, op_fits, fold_fits, inputs_at}}
 use Rattle.stage_plan.proofs.NextStream.{IsNext, is_next, next_made, next_fault}

@@ -1,3 +1,4 @@
+-- The first lane with an epoch in its cache or its pipe tells the answer, and where there is none, all are drained.
 use Rattle.std.proofs.Common.{◌<◌, Some, length, sym, ap, ◌∙◌}
 use Rattle.switch_core.{specs.Closing.is_drained, proofs.{SideBySide.got_here, LaneFacts.{all_next, all_fails}}}
 use Rattle.switch_core.proofs.lanes.all_drained.Goals as goal

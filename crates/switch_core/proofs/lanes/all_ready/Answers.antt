@@ -1,3 +1,4 @@
+-- The first lane whose pipe is full tells the answer, and where there is none, every pipe has room.
 use Rattle.std.proofs.Common.{◌<◌, Some, length, sym, ap, ◌∙◌}
 use Rattle.switch_core.{specs.PlanLanes.lane_is_ready, proofs.{SideBySide.got_here, LaneFacts.{all_next, all_fails}}}
 use Rattle.switch_core.proofs.lanes.all_ready.Goals as goal

@@ -1,3 +1,4 @@
+-- The entries of the groupby's own program are small enough beside its keys for the lane's records.
 use Rattle.std.proofs.{Common.{arith, lit<}, Math.Logic.{∥∥₁_elim}, Props.props}
 use Rattle.epoch_entry.specs.contracts.any.AnyEpochsEpochKind.TheImpl.{ghosts}
 use Rattle.switch_core.proofs.making.made_lane.Goals as goal

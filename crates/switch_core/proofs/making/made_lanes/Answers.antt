@@ -1,3 +1,4 @@
+-- Each turn adds the lane of one more groupby, which stands for an empty machine.
 use Rattle.std.proofs.{Common.{◌≡◌, ◌++◌, [], ◌∷◌, take, sym, ap, ◌∙◌, subst, arith, lit<, ℕ}, lemmas.List.{length-take-le, take_all}}
 use Rattle.std.proofs.lemmas.List.Elements.{All-append, All-cons, All-nil}
 use Rattle.epoch_model.{specs.Machine.empty_machine, proofs.Endings.no_value}

@@ -1,3 +1,4 @@
+-- The lanes of the groupbys so far are made for them, with pipes of that many places, and stand for empty machines.
 use Rattle.std.proofs.Common.{take}
 use Rattle.epoch_entry.specs.contracts.any.AnyEpochsEpochKind.TheImpl.{ghosts}
 use Rattle.stage_plan.specs.Planned.{wiring_at}

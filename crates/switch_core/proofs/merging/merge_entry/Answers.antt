@@ -1,3 +1,4 @@
+-- An entry that is merged into the row of its key's next epoch makes the store hold one epoch more.
 use Rattle.std.proofs.Common.{refl, ap, ◌∙◌}
 use Rattle.backing_store.specs.Store.{counted}
 use Rattle.switch_core.proofs.merging.merge_entry.Goals as goal

@@ -1,3 +1,4 @@
+-- Evictions of this bucket and merges for their room led here, and all other buckets are as they were.
 use Rattle.std.proofs.Common.{◌≡◌, ◌≢◌, ◌+◌, ◌*◌, ◌≤◌, ℕ, length}
 use Rattle.bucket_cache.specs.Caches.{list_at}
 use Rattle.switch_core.specs.{Closing.held_in, Costs.{evict_cost, merge_cost}, FrontEvents.{CarriesUpTo, KeepsSizes, with_store}}

@@ -1,3 +1,4 @@
+-- The sweep has gone over the buckets below this one, which are empty, within the cost of their epochs.
 use Rattle.std.proofs.Common.{◌≡◌, ◌+◌, ◌*◌, ◌≤◌, ◌<◌, ℕ, length}
 use Rattle.bucket_cache.specs.Caches.{list_at}
 use Rattle.switch_core.specs.{Closing.held_in, Costs.{evict_cost, merge_cost}, FrontEvents.{CarriesUpTo, KeepsSizes, with_store}}

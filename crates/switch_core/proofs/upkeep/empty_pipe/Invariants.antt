@@ -1,3 +1,4 @@
+-- The merges so far are the first of those that empty the pipe, and one more than it has records are still to come.
 use Rattle.std.proofs.Common.{◌+◌, ◌*◌, ◌≤◌, suc, length, replicate}
 use Rattle.epoch_model.specs.Machine.{Merge}
 use Rattle.switch_core.specs.{Costs.merge_cost, FrontEvents.{CarriesUpTo, KeepsSizes, with_store}}

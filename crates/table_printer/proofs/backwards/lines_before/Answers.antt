@@ -1,3 +1,4 @@
+-- Each line stands right before those of the rows after it, and there is room for the lines that are still to come.
 use Rattle.std.proofs.Common.{◌≡◌, ◌+◌, ◌-◌, ◌++◌, ◌∙◌, ap, arith, length, length-append, refl, sym}
 use Rattle.std.proofs.lemmas.List.{drop_all}
 use Rattle.table_rows.specs.LentRows.{row_of}

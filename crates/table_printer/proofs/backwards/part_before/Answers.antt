@@ -1,3 +1,4 @@
+-- The part copied to end at the place, with a comma set before it, goes on with the text that was there.
 use Rattle.std.proofs.Common.{◌≡◌, ◌+◌, ◌-◌, ◌<◌, ◌≤◌, ◌∙◌, ◌++◌, ◌∷◌, List, ℕ, ap, append-nil, arith, drop, length, sym, take, drop-drop}
 use Rattle.std.proofs.{Common.{length-append, length-drop}, lemmas.List.{drop-set, drop_at, length-take-le}}
 use Rattle.table_printer.proofs.backwards.part_before.Goals as goal

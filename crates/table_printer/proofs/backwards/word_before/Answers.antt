@@ -1,3 +1,4 @@
+-- A number has at most 20 digits, so it fits with its comma before the place and goes on with the text there.
 use Rattle.std.proofs.Common.{◌≡◌, ◌+◌, ◌-◌, ◌<◌, ◌≤◌, ◌∙◌, ◌++◌, ◌∷◌, ap, append-nil, arith, decimal, drop, length, rules, sym}
 use Rattle.std.proofs.lemmas.{Fmt.length-decimal-le, List.drop-set}
 use Rattle.table_printer.proofs.backwards.word_before.Goals as goal

@@ -1,3 +1,4 @@
+-- The keys, the table's own names and the others follow one another, joined as the cells of a heading.
 use Rattle.std.proofs.Common.{List, ℕ, [], ◌∷◌, ap, sym, ◌∙◌, ◌++◌, append_assoc, codes}
 use Rattle.table_printer.{specs.{TableText.{cells_joined, cells_continued}, Parts.parts_from}, proofs.Joined.joined_three}
 use Rattle.table_printer.proofs.printer.push_group_names.Goals as goal

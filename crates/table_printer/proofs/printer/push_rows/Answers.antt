@@ -1,3 +1,4 @@
+-- The text has the lines of the rows so far, and each row adds its own.
 use Rattle.std.proofs.Common.{◌≡◌, ◌+◌, ◌-◌, ◌++◌, ◌∙◌, ap, append-nil, append_assoc, arith, drop, sym, take}
 use Rattle.table_rows.specs.LentRows.{row_of}
 use Rattle.table_printer.{specs.TableText.{lines_of, row_parts, table_line}, proofs.LineFacts.first_line}

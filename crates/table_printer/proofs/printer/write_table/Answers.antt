@@ -1,3 +1,4 @@
+-- The title, the heading and the lines of the rows so far are written or wait, and those of the rows left come after.
 use Rattle.std.proofs.Common.{length, ◌≡◌, ◌+◌, ◌≤◌, ◌++◌, ◌∙◌, ap, subst, arith, append_assoc, append-nil}
 use Rattle.std.proofs.lemmas.List.{drop_all}
 use Rattle.table_printer.{specs.TableText.{heading, lines_of, table_line, table_text, title}, proofs.LineFacts.lines_split}

@@ -1,3 +1,4 @@
+-- The words of a span are its key's and then its values', cut where the key ends.
 use Rattle.std.proofs.{Common.{◌≡◌, ◌∙◌, ◌+◌, ◌-◌, ap, ap₂, take, drop, arith}, lemmas.List.{take-take, drop-take, drop-drop}}
 use Rattle.table_rows.proofs.SpanFacts.{row_with}
 use Rattle.table_rows.proofs.span.row_in.Goals as goal

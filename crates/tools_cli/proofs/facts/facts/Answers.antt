@@ -1,3 +1,4 @@
+-- The line written is that of the facts of the text that was read of the query.
 use Rattle.std.proofs.Common.{◌≡◌, ℕ, List, subst, sym}
 use Rattle.marple_base.specs.declared.inputs.Which.TheVariants.{Query}
 use Rattle.tools_cli.{specs.FactsEnds.IsFactsLine, proofs.LineFacts.gives_facts}

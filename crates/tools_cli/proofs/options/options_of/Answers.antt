@@ -1,3 +1,4 @@
+-- A range takes three words, another option two and an operand one, and the words left give the same options.
 use Rattle.std.proofs.Common.{◌∙◌, string_bytes, sym}
 use Rattle.tools_cli.proofs.WordFacts.{past_operand, past_option, past_range}
 use Rattle.tools_cli.proofs.options.options_of.Goals as goal

@@ -1,3 +1,4 @@
+-- Traces and parts are untouched without a query and a field to split by, and else the end is that of splitting them.
 use Rattle.std.proofs.Common.{◌≡◌, ◌≢◌, ◌∙◌, [], refl, subst, sym}
 use Rattle.marple_base.{specs.declared.inputs.Which.TheVariants.Query, proofs.Pieces.{none_taken, on_err}}
 use Rattle.part_texts.specs.Texts.{fields_in}

@@ -1,3 +1,4 @@
+-- The status is that of the command that the words ask for, a splitting or facts, with what each is said to do.
 use Rattle.std.proofs.Common.{◌≡◌, ◌≢◌, ◌↔◌, None, refl, rules, subst, sym}
 use Rattle.marple_base.specs.declared.inputs.Which.TheVariants.{Query}
 use Rattle.trace_ranges.specs.Ranges.{within}

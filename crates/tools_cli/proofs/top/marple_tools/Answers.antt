@@ -1,3 +1,4 @@
+-- Each fault and refusal of the status follows from how the splitting, or else the facts, came to an end.
 use Rattle.marple_base.specs.declared.inputs.Which.TheVariants.{Query}
 use Rattle.trace_ranges.specs.Ranges.{within}
 use Rattle.trace_split.specs.Traces.{faults_of}

@@ -1,3 +1,4 @@
+-- Of the fields so far those in the set were added, in the order of all fields.
 use Rattle.std.proofs.{Common.{◌+◌, ◌++◌, [], ◌∷◌, drop, get_or, sym, ap, ◌∙◌, append_assoc}, lemmas.List.{append-nil, drop_all}}
 use Rattle.marple_base.specs.Field.{all_fields}
 use Rattle.marple_base.specs.declared.field.Field.TheVariants as f

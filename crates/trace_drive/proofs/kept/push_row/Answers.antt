@@ -1,3 +1,4 @@
+-- The words of the fields so far stand after those from before, and one that finds no memory takes them back.
 use Rattle.std.proofs.Common.{◌++◌, [], ◌∷◌, ◌∙◌, ap, ap₂, append_assoc, get_or, map, sym, take}
 use Rattle.std.proofs.lemmas.{List.{map-append, take_more}, Option.get_or_from_slice_get}
 use Rattle.marple_base.specs.Field.{number_of}

@@ -1,3 +1,4 @@
+-- Each byte that leads to a place between two records moves the cut after it, so the cut stays between two.
 use Rattle.std.proofs.Common.{◌∙◌, ap, arith, get_or, sym}
 use Rattle.csv.specs.Machine.{ends_at_end}
 use Rattle.csv.specs.declared.parser.State.TheVariants as st

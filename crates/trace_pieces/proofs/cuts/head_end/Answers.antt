@@ -1,3 +1,4 @@
+-- The first byte that leads out of a record to between two ends the head, and no record ends before it.
 use Rattle.std.proofs.Common.{◌≡◌, ℕ, List, ◌+◌, ◌-◌, ◌∙◌, false, true, ap, arith, drop, get_or, length, rules, subst, sym, take}
 use Rattle.std.proofs.lemmas.List.{take_more}
 use Rattle.csv.specs.Machine.{ends_at_end, is_end}

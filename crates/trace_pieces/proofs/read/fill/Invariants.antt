@@ -1,3 +1,4 @@
+-- The bytes go on with what the input lost since the start, and the query's input is untouched.
 use Rattle.std.proofs.Common.{◌≡◌, ◌≤◌, ◌-◌, vec_len}
 use Rattle.marple_base.specs.{Inputs.IsOpen, declared.inputs.Which.TheVariants.{Query, Trace}}
 use Rattle.trace_pieces.specs.Reads.{Goes}

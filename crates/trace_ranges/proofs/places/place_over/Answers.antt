@@ -1,3 +1,4 @@
+-- After the last line feed of bytes without a quote, from a place outside quotes, the place is between records.
 use Rattle.std.proofs.Common.{◌+◌, ap, arith, subst, sym, ◌∙◌}
 use Rattle.marple_base.proofs.Bytes.{range_from}
 use Rattle.memchr.specs.Find.{IsLastByte, is_byte}

@@ -1,3 +1,4 @@
+-- Bytes read are kept as the window says, and where none is given, nothing of them was to be kept.
 use Rattle.std.proofs.{Common.{◌≡◌, ◌<◌, ◌++◌, [], false, arith, ap, drop, length, rules, sym, take, ◌∙◌}, lemmas.List.take-append-le}
 use Rattle.marple_base.specs.declared.inputs.Which.TheVariants.{Trace}
 use Rattle.trace_ranges.{specs.{Ranges.{is_past, kept, window_over}, declared.window.Window.Window}, proofs.WindowFacts.nearer}

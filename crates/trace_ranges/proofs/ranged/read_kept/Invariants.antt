@@ -1,3 +1,4 @@
+-- What is kept of the rest of the trace is what was kept of it at the start, for nothing was given so far.
 use Rattle.std.{proofs.Common.{◌≡◌, ◌≤◌, length}, specs.Io.KnownBytes.Keeps}
 use Rattle.marple_base.specs.{Inputs.IsOpen, declared.inputs.Which.TheVariants.{Query, Trace}}
 use Rattle.trace_ranges.specs.Ranges.{kept_input}

@@ -1,3 +1,4 @@
+-- Four bytes that pass the test are digits, so the number before them and their value make the number of all.
 use Rattle.std.proofs.{Common.{ℕ, ◌+◌, ◌%◌, ◌^◌, ◌<◌, ◌≤◌, List, length, take, refl, arith}, lemmas.List.length-take-le}
 use Rattle.trace_reader.{specs.Blocks.IsFront, proofs.{BlockFacts.four_read, NumberFacts.digits_below}}
 use Rattle.trace_reader.proofs.blocks.with_four.Goals as goal

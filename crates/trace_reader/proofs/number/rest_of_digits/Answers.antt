@@ -1,3 +1,4 @@
+-- The number so far is that of the digits read, which are few enough for one digit more.
 use Rattle.std.proofs.Common.{◌≡◌, ◌^◌, ◌≤◌, get_or, length, take, true, arith, rules, ◌∙◌, ap, sym, Some}
 use Rattle.std.{proofs.lemmas.{List.{length-take-le, take_all}, Bool.Decides.nat_tests}, specs.Char.is_ascii_digit}
 use Rattle.trace_reader.proofs.NumberFacts.{digits_below, digits_value_digit, list_all_digit, number_some}

@@ -1,3 +1,4 @@
+-- A line end between two records is no part of a record, so past it the same records are left.
 use Rattle.std.proofs.Common.{◌≡◌, ◌∙◌, ap, arith, drop, get_or, length, rules, sym, true}
 use Rattle.csv.specs.declared.parser.State.TheVariants as st
 use Rattle.trace_reader.{specs.{Plain.ends_line, Reading.records_after}, proofs.PlainFacts.skip_line_end}

@@ -1,3 +1,4 @@
+-- A text of fewer than three bytes has no mark, and three that are one are what is cut off.
 use Rattle.std.proofs.Common.{◌≡◌, false, get_or, rules, true}
 use Rattle.csv.specs.Reading.{is_bom}
 use Rattle.trace_reader.proofs.MarkFacts.{mark_goes, no_mark, short_stays}

@@ -1,3 +1,4 @@
+-- No byte before this one ends a field, and the first that does is where it ends.
 use Rattle.std.proofs.Common.{◌≡◌, arith, false, get_or, rules}
 use Rattle.trace_reader.{specs.Plain.ends_field, proofs.PlainFacts.goes_on_more}
 use Rattle.trace_reader.proofs.plain.end_by_bytes.Goals as goal

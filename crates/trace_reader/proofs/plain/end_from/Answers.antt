@@ -1,3 +1,4 @@
+-- The bytes passed eight at a time end no field, and the rest is searched byte by byte.
 use Rattle.std.proofs.Common.{◌≡◌, ◌+◌, arith, false, get_or, rules}
 use Rattle.trace_reader.{specs.Plain.ends_field, proofs.PlainFacts.{above_goes, end_later, goes_on_more, joined}}
 use Rattle.trace_reader.proofs.plain.end_from.Goals as goal

@@ -1,3 +1,4 @@
+-- A field that ends with a comma goes on with the record, and one that ends otherwise ends it.
 use Rattle.std.{specs.Prelude.{◌==◌}, proofs.{Common.{◌≡◌, ◌+◌, ◌<◌, arith, false, get_or, length, true}, lemmas.Bool.Decides.nat_tests}}
 use Rattle.trace_reader.proofs.PlainFacts.{field_more, inside_more, none_inside, none_yet, record_ends, short_field}
 use Rattle.trace_reader.proofs.plain.plain_record.Goals as goal

@@ -1,3 +1,4 @@
+-- The spans so far are fields of the record, which goes on with the field at this place.
 use Rattle.std.{proofs.Common.{◌≡◌, ◌-◌, ◌<◌, ◌≤◌, [], drop, length}, specs.List.All}
 use Rattle.csv.specs.declared.parser.State.TheVariants as st
 use Rattle.trace_reader.{specs.{Plain.{IsInside, fields_at}, Reading.records_after}, proofs.RowFacts.rows_from}

@@ -1,3 +1,4 @@
+-- The fields so far have their columns, and the first fault in finding one is that of the header.
 use Rattle.std.proofs.{Common.{arith, length, rules}, Math.ListN.length-set, lemmas.{List.drop_all, Result.err_from_is_err_and}}
 use Rattle.marple_base.specs.Field.{all_fields}
 use Rattle.marple_base.specs.declared.field.Field.TheVariants as f

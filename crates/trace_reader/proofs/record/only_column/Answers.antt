@@ -1,3 +1,4 @@
+-- What was found is the only column so far with the field's name, and another is a fault.
 use Rattle.std.{proofs.Common.{◌≡◌, ◌∙◌, ◌++◌, ap, rules, true, false}, specs.{Option.{option_to_list, is_some}, Str.bytes_eq}}
 use Rattle.marple_base.specs.Field.{field_name}
 use Rattle.trace_reader.specs.{Numbers.without_blanks, Traces.field_text_at}

@@ -1,3 +1,4 @@
+-- The words of the columns read so far are in their fields, and the first that is none names its field.
 use Rattle.std.proofs.{Common.{length, rules}, Math.ListN.length-set}
 use Rattle.marple_base.specs.declared.field.Field.TheVariants as f
 use Rattle.trace_reader.{specs.Columns.read_columns, proofs.ColumnFacts.all_within}

@@ -1,3 +1,4 @@
+-- A trace is refused at its opening for its length, for no header or for its columns, in this order.
 use Rattle.std.proofs.Common.{◌∙◌, sym}
 use Rattle.trace_reader.proofs.TraceFacts.{fault_early, opening_bad, opening_empty, opening_good, opening_long, upcoming_good}
 use Rattle.trace_reader.proofs.trace.open_trace.Goals as goal

@@ -1,3 +1,4 @@
+-- Bytes that wait with room made beside them wait with the line after them, and the other parts stay.
 use Rattle.std.proofs.Common.{◌++◌, subst, sym}
 use Rattle.marple_base.{specs.Pieces.TakesAllBut, proofs.Pieces.{front_is_taken, more_waits, on_err}}
 use Rattle.trace_split.proofs.parts.add_line.Goals as goal

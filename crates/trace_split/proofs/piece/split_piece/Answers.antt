@@ -1,3 +1,4 @@
+-- Each packet of the piece is added to its part, and its end or its fault is that of the piece.
 use Rattle.std.proofs.Common.{◌≡◌, ◌++◌, ◌∷◌, ◌∙◌, [], Err, Ok, Some, ap, append-nil, append_assoc, arith, length, subst, sym}
 use Rattle.trace_reader.specs.{Traces.{packets, trace_fault}, Upcoming.IsAtFault, declared.fault.TraceFault.TraceFault}
 use Rattle.trace_split.specs.{PartTexts.HoldsPackets, Pieces.IfPieceRefused}

@@ -1,3 +1,4 @@
+-- The packets given so far of the piece are in their parts, with the setting of the texts as at first.
 use Rattle.std.proofs.Common.{◌≤◌}
 use Rattle.trace_split.{specs.PartTexts.{SameSetting, is_setting}, proofs.SendFacts.{Adds, SoFar}}
 use Rattle.trace_split.proofs.piece.split_piece.Given as goal

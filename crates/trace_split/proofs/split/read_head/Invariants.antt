@@ -1,3 +1,4 @@
+-- The bytes read in search of the header go on with what the input lost, and at least three are aimed for.
 use Rattle.std.proofs.Common.{◌≡◌, ◌≤◌}
 use Rattle.marple_base.specs.{Inputs.IsOpen, declared.inputs.Which.TheVariants.{Query, Trace}}
 use Rattle.trace_pieces.specs.Reads.{Goes}

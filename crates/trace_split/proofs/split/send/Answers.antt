@@ -1,3 +1,4 @@
+-- A piece without a fault holds all its packets, and a fault in it is one after the packets given before.
 use Rattle.std.proofs.Common.{◌+◌, ◌++◌, ◌∙◌, [], ap, append-nil, length, subst, sym}
 use Rattle.trace_reader.specs.Traces.{Contents, packets}
 use Rattle.trace_split.specs.{Holding.TakeFronts, PartTexts.{HoldsPackets, parts_of, texts_of}}

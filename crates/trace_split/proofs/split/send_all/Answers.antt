@@ -1,3 +1,4 @@
+-- With all of the trace read, one piece is sent, and else the rest after its header, of the same bytes.
 use Rattle.std.{proofs.Common.{◌≡◌, ◌++◌, ◌∙◌, ℕ, List, [], None, Ok, Some, ap, subst, sym}, specs.Prelude.option_map}
 use Rattle.marple_base.{specs.declared.{inputs.Which.TheVariants.Trace, field.Packet.Packet}, proofs.Pieces.{on_err as if_err}}
 use Rattle.trace_reader.specs.Traces.{Contents}

@@ -1,3 +1,4 @@
+-- A piece is cut between records and sent under the header, so its packets and those of the rest are the trace's.
 use Rattle.std.proofs.Common.{◌≡◌, ◌+◌, ◌≤◌, ◌++◌, ◌∙◌, ℕ, List, None, Some, ap, arith, drop, length, length-append, refl, subst, sym, take}
 use Rattle.std.{proofs.lemmas.List.length-take-le, specs.{Prelude.option_map, Io.KnownBytes.IsAtEnd}}
 use Rattle.marple_base.{specs.declared.inputs.Which.TheVariants.Trace, proofs.Pieces.on_err}

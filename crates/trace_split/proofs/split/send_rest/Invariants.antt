@@ -1,3 +1,4 @@
+-- The packets of the bytes that are gone are in their parts, and what is held begins with the header.
 use Rattle.std.proofs.Common.{◌≡◌, ◌≤◌, ◌++◌, List, ℕ, Some, length, take}
 use Rattle.marple_base.specs.{Inputs.IsOpen, declared.inputs.Which.TheVariants.{Query, Trace}}
 use Rattle.trace_pieces.specs.{Machine.IsHead, Wholes.all_contents}

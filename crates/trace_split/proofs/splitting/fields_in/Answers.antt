@@ -1,3 +1,4 @@
+-- The list has the fields of the set among those so far, no more than there are fields.
 use Rattle.std.proofs.Common.{◌∷◌, ◌∙◌, ◌<◌, [], ap, arith, get_or, length, length-append, sym}
 use Rattle.marple_base.specs.{Field.all_fields, declared.field.{Field.TheVariants.Switch, TheConstants.FIELDS}}
 use Rattle.trace_split.proofs.ListFacts.{field_with, field_without}

@@ -1,3 +1,4 @@
+-- The key so far is the salt and the words of the fields so far, and its bucket is the part.
 use Rattle.std.proofs.{Common.{◌∙◌, ap, arith, slice_index}, Math.ListN.length-set}
 use Rattle.trace_split.proofs.ListFacts.{key_more}
 use Rattle.trace_split.proofs.splitting.part_of.Goals as goal

@@ -1,3 +1,4 @@
+-- A trace that is opened has the bytes that it had, and one that isn't leaves the texts as they were.
 use Rattle.std.proofs.Common.{◌≡◌, ◌∙◌, ◌++◌, ℕ, List, None, Some}
 use Rattle.marple_base.specs.declared.{field.Packet.Packet, inputs.Which.TheVariants.Trace}
 use Rattle.trace_pieces.specs.{Faults.trace_fault_of, Wholes.{all_packets, first_fault}, declared.fault.WholeFault.WholeFault}

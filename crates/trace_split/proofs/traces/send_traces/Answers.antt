@@ -1,3 +1,4 @@
+-- Each trace sent adds its packets to those of the traces before it, and the first fault is that of all.
 use Rattle.std.proofs.Common.{◌≡◌, ◌<◌, ◌+◌, ◌++◌, ◌∙◌, ℕ, List, [], None, Some, ap, arith, drop, get_or, length, refl, subst, sym, take}
 use Rattle.std.proofs.lemmas.List.{length-set, Elements.All-get_or}
 use Rattle.marple_base.{specs.{Inputs.IsClosed, declared.inputs.Which.TheVariants.Trace}, proofs.Pieces.on_err}

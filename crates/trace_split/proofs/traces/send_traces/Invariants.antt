@@ -1,3 +1,4 @@
+-- The packets of the traces before this one are in their parts without a fault, and the other traces are untouched.
 use Rattle.std.proofs.Common.{◌≡◌, ◌≤◌, List, ℕ, [], None, drop, length, take}
 use Rattle.trace_split.specs.{Holding.Taken, PartTexts.{HoldsPackets, SameSetting, is_setting}}
 use Rattle.trace_split.specs.Traces.{AreLeft, NoneFell, fault_of_all, faults_of, packets_of_all}

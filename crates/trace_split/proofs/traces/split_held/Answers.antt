@@ -1,3 +1,4 @@
+-- The parts take fronts of their texts whichever call fails, and whole ones where all traces are sent.
 use Rattle.std.proofs.Common.{◌≡◌, ℕ, List, Some}
 use Rattle.part_texts.specs.Texts.{part_text}
 use Rattle.marple_base.proofs.Pieces.{none_taken, on_err}

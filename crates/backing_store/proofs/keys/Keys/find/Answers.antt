@@ -1,3 +1,4 @@
+-- What a search finds among the flat words is found among the keys cut from them.
 use Rattle.std.proofs.Common.{ℕ, List, ◌∙◌, Some, length, ap}
 use Rattle.bucket_cache.specs.Slices.{rows_of}
 use Rattle.epoch_model.specs.Keys.{Key}

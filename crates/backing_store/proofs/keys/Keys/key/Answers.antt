@@ -1,3 +1,4 @@
+-- The row of the flat words at a place is the key there.
 use Rattle.std.proofs.Common.{◌+◌, ◌*◌, ◌<◌, ◌≤◌, ◌∙◌, Some, length, sym, ap, subst, arith}
 use Rattle.bucket_cache.proofs.FlatRows.{length-rows_of}
 use Rattle.backing_store.{specs.Prints.row_at, proofs.KeyFacts.{got_row, row_within}}

@@ -1,3 +1,4 @@
+-- The number kept at a place is that of the key of the row there.
 use Rattle.std.proofs.{Common.{length, refl, arith}, lemmas.Option.slice_get_read}
 use Rattle.backing_store.proofs.StateFacts.{key_got, state_within}
 use Rattle.backing_store.proofs.states.States.of.Goals as goal

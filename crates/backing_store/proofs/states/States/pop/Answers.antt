@@ -1,3 +1,4 @@
+-- Without the last row's words and its key's number, what stays is all rows but the last.
 use Rattle.std.proofs.Common.{◌≡◌, ◌-◌, ◌≤◌, length, ap, arith}
 use Rattle.backing_store.proofs.StateFacts.{length-states_in, states_front}
 use Rattle.backing_store.proofs.states.States.pop.Goals as goal

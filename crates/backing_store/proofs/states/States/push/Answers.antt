@@ -1,3 +1,4 @@
+-- One more number of a key and the words of one more row make the rows with that row at the end.
 use Rattle.std.proofs.Common.{◌∙◌, sym, ap}
 use Rattle.backing_store.proofs.StateFacts.{states_more}
 use Rattle.backing_store.proofs.states.States.push.Goals as goal

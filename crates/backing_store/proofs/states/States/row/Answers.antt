@@ -1,3 +1,4 @@
+-- The words kept at a row's place are the row's, and the place is within them.
 use Rattle.std.proofs.Common.{◌+◌, ◌*◌, ◌≤◌, ◌∙◌, Some, length, sym, ap, subst}
 use Rattle.backing_store.{specs.Prints.row_at, proofs.{KeyFacts.row_within, StateFacts.{state_got, state_within}}}
 use Rattle.backing_store.proofs.states.States.row.Goals as goal

@@ -1,3 +1,4 @@
+-- What is written to the lent words of a row is that row's new words, and no other row changes.
 use Rattle.std.proofs.Common.{◌≡◌, ◌+◌, ◌-◌, ◌*◌, ◌<◌, ◌≤◌, ◌∙◌, Some, length, take, drop, refl, sym, ap, arith}
 use Rattle.bucket_cache.proofs.LentEntries.{written_from}
 use Rattle.backing_store.{specs.States.states_in, proofs.{KeyFacts.row_within, StateFacts.{state_got, state_within}}}

@@ -1,3 +1,4 @@
+-- A key that was found has the epochs kept at its place, and no kept key has 0 of them.
 use Rattle.std.{proofs.Common.{refl, sym, arith}, specs.List.zip}
 use Rattle.backing_store.proofs.{RowMaking.{found_within, found_first, found_value}, StoreKept.no_epochs}
 use Rattle.backing_store.proofs.ZipFacts.{epochs_at, epochs_none, none_of_absent}

@@ -1,3 +1,4 @@
+-- The store stays whole whatever is written to the lent words of a row, which are as many as those of a state.
 use Rattle.std.{proofs.Common.{◌≡◌, refl, length, option_map, slice_get, Some}, specs.List.zip}
 use Rattle.backing_store.{proofs.{StateFacts.row_keys-written, StoreKept.{store_written, words_length}}, specs.StoreView.store_with}
 use Rattle.backing_store.proofs.store.BackingStore.row_mut.Goals as goal

@@ -1,3 +1,4 @@
+-- Rows made at places that are sorted by key are the sorted rows of the store.
 use Rattle.std.{proofs.{Common.{◌∙◌, subst}, lemmas.Result.IfOk-weaker}, specs.List.zip}
 use Rattle.backing_store.{specs.Store.AreRowsOf, proofs.{PlaceFacts.widths_of, SortedFacts.rows_sorted}}
 use Rattle.backing_store.proofs.ZipFacts.{length-zip, length-stored}

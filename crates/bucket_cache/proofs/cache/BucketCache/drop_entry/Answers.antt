@@ -1,3 +1,4 @@
+-- With one way fewer in use, a bucket lacks its least recently used pair, and the cache stays sound.
 use Rattle.std.proofs.Common.{◌≡◌, ◌-◌, ◌<◌, length, get_or, set, sym, subst, arith, length-set, refl}
 use Rattle.bucket_cache.{specs.{Caches.list_at, FlatBuckets.IsFlatCache}, proofs.FlatBuckets.all-used}
 use Rattle.bucket_cache.proofs.{FlatCaches.{in-flat, read-used, view-sound, flat-kept}, FlatReads.{fewer-buckets, fewer-lists}}

@@ -1,3 +1,4 @@
+-- The cache stays a cache whatever is written to a lent entry, and only the entry at the place changes.
 use Rattle.std.proofs.Common.{◌≡◌, ◌<◌, ◌∙◌, [], get_or, length, refl, sym, ap, subst}
 use Rattle.bucket_cache.specs.{Caches.Cache, LendingCaches.with_entry_at}
 use Rattle.bucket_cache.proofs.LentEntries.{entries-wide, entry_replaced, length-with_entry}

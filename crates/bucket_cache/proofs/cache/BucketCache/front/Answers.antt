@@ -1,3 +1,4 @@
+-- A key that is the same as that of the first pair is at the front, and one that differs isn't the first.
 use Rattle.std.proofs.Common.{◌≡◌, Some, length, sym, ◌∙◌, ap, ap₂, lit<}
 use Rattle.epoch_model.{specs.Keys.key_eq, proofs.KeyLists.key_eq-true}
 use Rattle.bucket_cache.{specs.{Buckets.Pair, Caches.list_at}, proofs.PairLists.{first-pair, first-within, other-key}}

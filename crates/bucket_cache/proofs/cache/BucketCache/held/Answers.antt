@@ -1,3 +1,4 @@
+-- The ways in use of the buckets so far sum to their pairs, and no bucket has more than its ways.
 use Rattle.std.proofs.{Common.{◌≡◌, length, get_or, ap, arith}, lemmas.List.take_all}
 use Rattle.bucket_cache.proofs.{FlatBuckets.length-lists_in, FlatReads.flat-more}
 use Rattle.bucket_cache.proofs.cache.BucketCache.held.Goals as goal

@@ -1,3 +1,4 @@
+-- The words at a pair's place are that pair's key, in whichever bucket it stands.
 use Rattle.std.proofs.Common.{◌≡◌, ◌*◌, ◌<◌, length, take, drop, sym, ap, ◌∙◌, subst}
 use Rattle.bucket_cache.proofs.FlatReads.{key-fits, key-long, flat-key}
 use Rattle.bucket_cache.proofs.cache.BucketCache.key.Goals as goal

@@ -1,3 +1,4 @@
+-- The last way in use is the least recently used place, and a bucket with none in use has no such place.
 use Rattle.std.{proofs.Common.{◌-◌, sym, ap, ◌∙◌, arith}, specs.Prelude.slice_get}
 use Rattle.bucket_cache.{specs.{Buckets.places_of, Caches.list_at}, proofs.FlatCaches.{in-flat, read-used, view-sound}}
 use Rattle.bucket_cache.proofs.FlatReads.{flat-least, flat-no-least}

@@ -1,3 +1,4 @@
+-- Ways in their own order with none in use are the buckets of an empty cache.
 use Rattle.std.proofs.Common.{◌≡◌, ◌<◌, ◌*◌, ◌≤◌, length, get_or, replicate, ap, ap₂, sym, ◌∙◌, subst, arith}
 use Rattle.std.proofs.lemmas.List.{length-replicate, get_or-replicate}
 use Rattle.bucket_cache.{specs.FlatBuckets.{AreBuckets, lists_in}, proofs.FlatReads.{no-lists, new-buckets}}

@@ -1,3 +1,4 @@
+-- The place at the front of a bucket is one of the cache's, so its key and its entry can be read.
 use Rattle.std.proofs.Common.{length, lit<}
 use Rattle.bucket_cache.{specs.Caches.list_at, proofs.PairLists.first-within}
 use Rattle.bucket_cache.proofs.cache.BucketCache.read_ahead.Goals as goal

@@ -1,3 +1,4 @@
+-- A key at the front stays there, and the comparison of its words costs no more than a touch may.
 use Rattle.std.proofs.Common.{◌≤◌, ◌<◌, ◌+◌, ◌*◌, ℕ, zero, suc, arith}
 use Rattle.bucket_cache.{specs.Caches.list_at, proofs.{BucketLists.some-get, PairLists.first-stays}}
 use Rattle.bucket_cache.proofs.cache.BucketCache.touch.Goals as goal

@@ -1,3 +1,4 @@
+-- The parts that come back from a search through the bucket are those of a cache, which is sound.
 use Rattle.std.proofs.Common.{sym, ap, ◌∙◌, subst, subst₂, refl}
 use Rattle.bucket_cache.{specs.FlatBuckets.{AreBuckets, IsFlatCache}, proofs.FlatCaches.{in-flat, view-sound, flat-kept, held, now-holds}}
 use Rattle.bucket_cache.proofs.cache.BucketCache.touch_by_search.Goals as goal

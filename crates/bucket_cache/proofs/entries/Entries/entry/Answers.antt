@@ -1,3 +1,4 @@
+-- The words from a place's start on, as many as an entry has, are the entry there.
 use Rattle.std.proofs.Common.{◌*◌, ◌∙◌, [], take, drop, sym, ap, arith}
 use Rattle.bucket_cache.proofs.FlatRows.{get-rows_of, place_within, row_fits}
 use Rattle.bucket_cache.proofs.entries.Entries.entry.Goals as goal

@@ -1,3 +1,4 @@
+-- Flat zeros are entries of zeros at all places, and their number doesn't overflow.
 use Rattle.std.proofs.{Common.{◌∙◌, ◌*◌, ap, length, arith}, Math.Nat.mul-le-mul_left, lemmas.List.length-replicate}
 use Rattle.bucket_cache.proofs.LentEntries.{zero-entries}
 use Rattle.bucket_cache.proofs.entries.Entries.new.Goals as goal

@@ -1,3 +1,4 @@
+-- A linear fold has its own entries for either purpose, and another for bounds has those of its bounds.
 use Rattle.epoch_entry.proofs.PurposeFacts.{for_bounds}
 use Rattle.epoch_entry.proofs.any.AnyEpochs.for_entries.Goals as goal
 

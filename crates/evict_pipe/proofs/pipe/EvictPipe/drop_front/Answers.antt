@@ -1,3 +1,4 @@
+-- The place after the oldest one, back at the first after the last, is where the other records begin.
 use Rattle.std.proofs.Common.{◌≡◌, ◌-◌, ◌<◌, length, subst, sym, ap, ◌∙◌, arith}
 use Rattle.evict_pipe.{specs.Rings.{place_after, records_in}, proofs.RingFacts.{dropped, length-records}}
 use Rattle.evict_pipe.proofs.pipe.EvictPipe.drop_front.Goals as goal

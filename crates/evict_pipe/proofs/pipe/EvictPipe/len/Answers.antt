@@ -1,3 +1,4 @@
+-- As many records are cut from the ring as its length says, all of their width, and no more than its places.
 use Rattle.std.proofs.Common.{◌≤◌, length, subst, sym, ap, ◌∙◌}
 use Rattle.evict_pipe.{specs.Pipes.IsSoundPipe, proofs.RingFacts.{length-records, record-words}}
 use Rattle.evict_pipe.proofs.pipe.EvictPipe.len.Goals as goal

@@ -1,3 +1,4 @@
+-- A record's words are those from its place in the ring on, and lie within the flat words.
 use Rattle.std.proofs.Common.{◌≡◌, ◌+◌, ◌-◌, ◌*◌, ◌<◌, [], length, take, drop, get_or, subst, sym, ap, ◌∙◌, arith}
 use Rattle.evict_pipe.{specs.Rings.place_after, proofs.RingFacts.{after-low, length-records, nth-record, place_fits}}
 use Rattle.evict_pipe.proofs.pipe.EvictPipe.record.Goals as goal

@@ -1,3 +1,4 @@
+-- The entries of a column are the linear variables' shares of the parts that the run leaves.
 use Rattle.std.proofs.Common.{ℕ, ◌<◌, All, length, subst, sym, ap, ◌∙◌}
 use Rattle.fold_class.{specs.{Stored.part_at, Rows.AreSoundRows}, proofs.RowLemmas.{column_ran, entries_from}}
 use Rattle.fold_class.proofs.rows.AffineRows.column_into.Goals as goal

@@ -1,3 +1,4 @@
+-- The columns so far have their entries, and the last one leaves the history of the step as well.
 use Rattle.std.proofs.Common.{◌≡◌, ◌≢◌, ℕ, ◌<◌, All, length, subst, sym, ap, ◌∙◌, arith, below_more}
 use Rattle.coeff_algebra.specs.Maps.{stored_entry}
 use Rattle.fold_class.specs.{Step.list_of, Stored.part_at, Rows.{entry_of, rows_dimension, column_after, AreSoundRows}}

@@ -1,3 +1,4 @@
+-- The next switch's cache and pipe have the kind of the groupby's own fold, so the group fits one switch more.
 use Rattle.std.proofs.{Common.{length, refl, sym, subst, arith, lit<}, Math.Logic.{∥∥₁_elim}, Props.props}
 use Rattle.fold_class.specs.Program.{IsProgram, IsProgramOf}
 use Rattle.epoch_entry.specs.{declared.purpose.Entries.TheVariants.Folds, contracts.any.AnyEpochsEpochKind.TheImpl.ghosts}

@@ -1,3 +1,4 @@
+-- What closes at a switch's front is what closes in its lane, and neither the store nor other fronts change.
 use Rattle.std.proofs.Common.{rules, ◌≡◌, ◌+◌, ◌==◌, ◌<◌, if◌then◌else◌, not, length, sym, ap, ◌∙◌, subst}
 use Rattle.epoch_model.specs.Machine.{Evict}
 use Rattle.bucket_cache.specs.Caches.{list_at}

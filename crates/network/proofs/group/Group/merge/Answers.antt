@@ -1,3 +1,4 @@
+-- A merge of a front into the shared store is one of its lane, after which its pipe has room.
 use Rattle.std.proofs.Common.{rules, ◌+◌, ◌≤◌, length, sym, ap, ◌∙◌, subst}
 use Rattle.epoch_model.specs.Machine.{Merge}
 use Rattle.switch_core.specs.{FrontEvents.with_store, PlanLanes.lane_merge_cost}

@@ -1,3 +1,4 @@
+-- A groupby without a switch has an empty store of its widths, and no front of which anything has to hold.
 use Rattle.std.{proofs.{Common.{length, sym, ap, ◌∙◌, subst}, Math.Logic.{∥∥₁_elim}, Props.props}, specs.Prelude.slice_get}
 use Rattle.fold_class.specs.Program.{IsProgram, IsProgramOf}
 use Rattle.epoch_entry.specs.Foldings.{per_epoch}

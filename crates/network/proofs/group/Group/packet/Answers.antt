@@ -1,3 +1,4 @@
+-- The use that a front takes is the packet event of its lane, and the store stays as it was.
 use Rattle.std.proofs.Common.{◌≡◌, ◌+◌, ◌≤◌, length, sym, ◌∙◌, subst, lit<}
 use Rattle.epoch_model.specs.Driving.{event_of}
 use Rattle.stage_plan.specs.{Planned.wiring_at, Registers.taken_at}

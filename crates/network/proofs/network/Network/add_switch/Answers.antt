@@ -1,3 +1,4 @@
+-- Out of memory the groupbys come back as they were, and else the network has one switch more and the same events.
 use Rattle.std.proofs.Common.{◌≡◌, ◌+◌, ◌<◌, ◌++◌, lit<, length, take, drop, sym, ap, ◌∙◌, subst, refl}
 use Rattle.switch_core.{specs.Rows.Each, proofs.LaneFacts.whole_written}
 use Rattle.network.{specs.{Groups.{AreGroups, GroupGrows}, Networks.{NetworkGrows, NetworkView}}, proofs.MakeSteps.if_err}

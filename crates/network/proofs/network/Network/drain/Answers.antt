@@ -1,3 +1,4 @@
+-- Each switch makes its sweep and then its merges, so all evictions run in order and every groupby is drained.
 use Rattle.std.proofs.{Common.{◌≡◌, ◌≢◌, ◌<◌, ◌==◌, ℕ, List, refl, sym, ◌∙◌, subst, arith, lit<}, lemmas.Bool.Decides.nat_tests}
 use Rattle.epoch_model.proofs.KeyLists.{by_test}
 use Rattle.switch_core.specs.declared.upkeep.Upkeep.TheVariants as due

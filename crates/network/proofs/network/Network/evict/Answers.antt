@@ -1,3 +1,4 @@
+-- A lane's eviction is one event of the network, made at one switch of one groupby, and the others stay.
 use Rattle.std.proofs.Common.{◌≡◌, ◌<◌, true, set, sym, subst, lit<}
 use Rattle.epoch_model.specs.Machine.{Evict}
 use Rattle.network.{specs.{Events.{AtGroup, StoresStay, is_ready_at}, Networks.NetworkView, Running.Evicts}, proofs.MakeSteps.stores_one}

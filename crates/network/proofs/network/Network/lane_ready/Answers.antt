@@ -1,3 +1,4 @@
+-- The groupby at a lane has as many fronts as the network has switches, so the front at a switch is there.
 use Rattle.std.proofs.Common.{ap, ◌∙◌, lit<}
 use Rattle.network.{specs.Events.is_ready_at, proofs.OneLane.{IsLane, view_of, lane_found, lane_switch, lane_is}}
 use Rattle.network.proofs.network.Network.lane_ready.Goals as goal

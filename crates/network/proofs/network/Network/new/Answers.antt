@@ -1,3 +1,4 @@
+-- A network without a switch has groupbys that stand without an event, and no front whose size has to fit.
 use Rattle.std.proofs.Common.{length, rules, arith}
 use Rattle.network.{proofs.{GroupSteps.have_start, Representing.fresh_stands}, specs.Networks.NetworkView}
 use Rattle.network.proofs.network.Network.new.Goals as goal

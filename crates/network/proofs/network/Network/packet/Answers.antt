@@ -1,3 +1,4 @@
+-- The row of registers is the packet's, so the groupbys that come back made the events of that packet.
 use Rattle.std.{proofs.Common.{◌≡◌, ◌+◌, ◌≤◌, ◌++◌, ℕ, List, length, take, drop, refl, ap, ◌∙◌, subst, arith}, specs.Prelude.sum_by}
 use Rattle.epoch_model.specs.Driving.{event_of}
 use Rattle.stage_plan.specs.{Planned.{plan_bound, registers_of, wiring_at}, Registers.taken_at, Sound.IsSoundPlan}

@@ -1,3 +1,4 @@
+-- A turn is made of merges for room, then the packet, and then the lag's merges, or breaks off in one of these.
 use Rattle.std.proofs.Common.{◌≡◌, ℕ, ◌+◌, ◌*◌, ◌≤◌, ◌<◌, Bool, true, List, [], ◌∷◌, ◌++◌, sym, ap, ◌∙◌, subst, arith, append_assoc}
 use Rattle.std.{proofs.Common.lit<, specs.Prelude.if◌then◌else◌}
 use Rattle.switch_core.specs.declared.upkeep.Upkeep.TheVariants as due

@@ -1,3 +1,4 @@
+-- What is shown of the tables is what the bounds print of them, and without memory for it nothing is written.
 use Rattle.std.proofs.Common.{◌++◌, OnErr, OnOk, subst}
 use Rattle.marple_base.{specs.{Sink.TakesFront, Pieces.TakesAllBut}, proofs.Pieces.{none_taken, on_err}}
 use Rattle.enclosed_query.specs.EnclosedTables.{enclosed_print}

@@ -1,3 +1,4 @@
+-- Times and numbers stay small, so the next packet is the one after those that the generator follows.
 use Rattle.std.proofs.{Common.{◌≡◌, ◌+◌, ◌*◌, ◌%◌, ◌∷◌, ◌∙◌, ap, add-one, refl, sym, arith}, Math.ListN.length-set}
 use Rattle.std.proofs.lemmas.Option.{slice_get_read}
 use Rattle.queue_sim.specs.Generator.{Arrival, arrivals, drawn_after, generated_packet, state_after, touts_at}

@@ -1,3 +1,4 @@
+-- A packet's departure comes after all that wait, so the queue holds the departures still ahead at any later time.
 use Rattle.std.proofs.Common.{◌+◌, ◌∙◌, refl, arith}
 use Rattle.queue_sim.proofs.QueueFacts.{climbs_push, still_more}
 use Rattle.queue_sim.proofs.queue.Queue.arrive.Goals as goal

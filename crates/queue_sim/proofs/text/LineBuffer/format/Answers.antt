@@ -1,3 +1,4 @@
+-- Written from the end, the words of the fields from this one on, with a comma between each two, end the line.
 use Rattle.std.proofs.Common.{◌≡◌, ◌+◌, ◌-◌, ◌∷◌, ◌++◌, ◌∙◌, ap, rules, get_or, length, slice_index, sym, take, drop, arith}
 use Rattle.std.proofs.lemmas.List.{drop_all}
 use Rattle.marple_base.{specs.declared.field.Field.TheVariants.Switch, proofs.Bytes.range_from}

@@ -1,3 +1,4 @@
+-- An empty cache and an empty pipe stand for the empty machine, and lacking memory there is no front.
 use Rattle.std.proofs.{Common.{◌<◌, ◌≤◌, ◌+◌, [], length, drop, ap, refl, sym, subst, ◌∙◌, lit<, arith}, lemmas.List.length-replicate}
 use Rattle.query_lang.specs.declared.fault.TheConstants.{MAX_KEYS}
 use Rattle.switch_core.proofs.{LaneFacts.whole_written, LaneSteps.front_empty}

@@ -1,3 +1,4 @@
+-- A lane of the pipeline was made for its groupby in the plan, so its entries are of the kind of that one's fold.
 use Rattle.std.{proofs.Common.{rules, ◌≡◌, ◌∙◌, Some, length, sym, ap, subst, arith}, specs.Prelude.slice_get}
 use Rattle.epoch_entry.specs.{Purposes.IsKindFor, contracts.any.AnyEpochsEpochKind.TheImpl.ghosts}
 use Rattle.switch_core.{specs.PlanLanes.{LaneView, PipelineView}, proofs.{PipelineSteps.{kind_at, made_at}, SideBySide.got_here}}

@@ -1,3 +1,4 @@
+-- The lanes before this one made the packet's events within their cost, and the others are untouched.
 use Rattle.std.{proofs.Common.{◌≡◌, ◌≤◌, ◌+◌, length, take}, specs.Prelude.sum_by}
 use Rattle.epoch_model.specs.Driving.{event_of}
 use Rattle.stage_plan.specs.{Planned.wiring_at, Registers.taken_at}

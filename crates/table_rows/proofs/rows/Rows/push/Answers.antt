@@ -1,3 +1,4 @@
+-- The words of a key and of values at the end of all words, with a span over them, are one row more.
 use Rattle.std.proofs.Common.{◌≡◌, length, arith, refl}
 use Rattle.table_rows.proofs.SpanFacts.{rows_pushed, within_pushed}
 use Rattle.table_rows.proofs.rows.Rows.push.Goals as goal

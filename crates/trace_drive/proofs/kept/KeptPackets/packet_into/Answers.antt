@@ -1,3 +1,4 @@
+-- The words from a packet's place on, as many as there are kept fields, are that packet with 0 in the others.
 use Rattle.std.{proofs.Common.{◌≡◌, ◌≤◌, ◌+◌, ◌*◌, Some, drop, length, sym, ap, ap₂, ◌∙◌, subst, arith}, specs.List.slice_get}
 use Rattle.trace_drive.{specs.Kept.packet_in, proofs.KeptFacts.{packet_at, packets_long, place_within}}
 use Rattle.trace_drive.proofs.kept.KeptPackets.packet_into.Goals as goal

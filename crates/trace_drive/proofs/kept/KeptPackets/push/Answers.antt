@@ -1,3 +1,4 @@
+-- A packet's words of the kept fields, after all others, make one more packet, and their number stays small.
 use Rattle.std.proofs.Common.{◌+◌, ◌++◌, [], ◌∷◌, length, map, ap, ◌∙◌, arith}
 use Rattle.trace_drive.{specs.{Kept.{Kept, kept_of, word_in}, KeptView.packets_in}, proofs.KeptFacts.{kept_more, packets_long}}
 use Rattle.trace_drive.proofs.kept.KeptPackets.push.Goals as goal

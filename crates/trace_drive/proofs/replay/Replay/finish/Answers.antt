@@ -1,3 +1,4 @@
+-- The packets taken and then the sweep and the merges at the end reach the machines of the whole trace.
 use Rattle.std.proofs.Common.{◌+◌, Ok, ap, ◌∙◌, arith, refl, lit<}
 use Rattle.trace_drive.proofs.{Ending.places_kept, Following.keeps_along}
 use Rattle.trace_drive.proofs.Replaying.{at_the_end, keeps_itself, less_left, none_taken, taken_next}

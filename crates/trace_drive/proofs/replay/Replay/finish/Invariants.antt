@@ -1,3 +1,4 @@
+-- Some packets were taken, each with its turn, and the fault ahead and what the pipeline keeps are the same.
 use Rattle.std.proofs.Common.{◌≡◌, ◌≤◌, ℕ, length}
 use Rattle.trace_drive.specs.{Drives.coming, Follows.Keeps, Replays.{Advances, MakesTheirTurns, replay_fault, replay_pipeline}}
 use Rattle.trace_drive.proofs.replay.Replay.finish.Given as goal

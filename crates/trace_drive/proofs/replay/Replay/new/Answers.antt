@@ -1,3 +1,4 @@
+-- A fresh pipeline stands for the machines after no packet, with both clocks at none counted.
 use Rattle.std.proofs.Common.{refl, arith}
 use Rattle.trace_drive.{specs.Drives.coming, proofs.Replaying.start_way}
 use Rattle.trace_drive.proofs.replay.Replay.new.Goals as goal

@@ -1,3 +1,4 @@
+-- Bytes all inside the range are kept as they are, and of bytes all before it none is.
 use Rattle.std.proofs.{Common.{ap, arith, drop, sym, length, ◌∙◌}, lemmas.List.{take-append-le, take_all}}
 use Rattle.trace_ranges.proofs.WindowFacts.{before_keeps, inside_keeps}
 use Rattle.trace_ranges.proofs.window.Window.keep.Goals as goal

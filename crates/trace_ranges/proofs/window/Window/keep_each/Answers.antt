@@ -1,3 +1,4 @@
+-- The window after the bytes so far is over them, and the buffer starts with those of them that it keeps.
 use Rattle.std.proofs.Common.{arith, refl, rules, sym}
 use Rattle.trace_ranges.proofs.WindowFacts.{byte_dropped, byte_kept, kept_none, window_more}
 use Rattle.trace_ranges.proofs.window.Window.keep_each.Goals as goal

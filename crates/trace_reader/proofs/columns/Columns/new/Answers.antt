@@ -1,3 +1,4 @@
+-- The fields so far that have a column were added with it, so what is read are the columns of these fields.
 use Rattle.std.proofs.{Common.{rules, sym, ◌∙◌, ap, ◌++◌}, lemmas.List.{append-nil, drop_all}}
 use Rattle.marple_base.specs.Field.{all_fields}
 use Rattle.marple_base.specs.declared.field.Field.TheVariants as f

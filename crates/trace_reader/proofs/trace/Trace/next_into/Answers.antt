@@ -1,3 +1,4 @@
+-- A record that is read is the next packet or the trace's fault, and an answer that stops it stays.
 use Rattle.std.proofs.Common.{◌+◌, refl}
 use Rattle.trace_reader.specs.{Traces.Layout, TraceView.IsSoundAt}
 use Rattle.trace_reader.specs.declared.trace.Progress.TheVariants as progress

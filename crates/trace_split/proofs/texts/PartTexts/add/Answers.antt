@@ -1,3 +1,4 @@
+-- The line of a packet added to what waits at its own part makes the texts hold one packet more.
 use Rattle.std.proofs.Common.{◌≡◌, ◌++◌, ◌∷◌, ◌∙◌, [], List, Some, ap, arith, length, refl, set, slice_get, subst}
 use Rattle.std.proofs.lemmas.Option.{slice_get_read}
 use Rattle.marple_base.specs.{declared.field.Packet.Packet, Pieces.TakesAllBut, Sink.TakesFront}

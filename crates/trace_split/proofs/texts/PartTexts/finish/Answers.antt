@@ -1,3 +1,4 @@
+-- The texts of the parts before this one have ended, and a part that fails has a front of its own.
 use Rattle.std.{proofs.{Common.{◌≡◌, ◌∙◌, [], arith, get_or, subst}, lemmas.List.get_or_read}, specs.Io.KnownBytes.Appends}
 use Rattle.marple_base.{specs.Sink.TakesFront, proofs.Pieces.on_err}
 use Rattle.trace_split.{specs.PartTexts.texts_of, proofs.HoldFacts.{ended_all, ended_front, ended_more, ended_none}}

@@ -1,3 +1,4 @@
+-- With a header waiting at each part, the texts hold no packet.
 use Rattle.std.proofs.Common.{◌≡◌, ◌+◌, ◌∷◌, ◌∙◌, [], ap, arith, length, length-append, map, refl, subst, sym}
 use Rattle.marple_base.specs.Field.{field_name}
 use Rattle.part_texts.specs.Texts.{part_by_hash}
