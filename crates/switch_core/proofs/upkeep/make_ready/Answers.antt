@@ -28,18 +28,18 @@ returns g c =
     let full : nat_lt (length front.pipe.records) front.pipe.places ≡ false = sym c.ready.ensures ∙ c.if-ready.false in
     record {
       carries =
-          let new = with_store c.merge_once.new.front c.merge_once.new.store in
+          let new = with_store c.make_room.new.front c.make_room.new.store in
           subst (λ events. CarriesAll g.K.EpochKind.stands g.K.EpochKind.folding g.row.WAYS events (with_store front c.args.store.now) new)
-          (sym (room_one front.pipe.places (length front.pipe.records) full)) c.in_ok-merge_once.ensures.carries;
+          (sym (room_one front.pipe.places (length front.pipe.records) full)) c.in_ok-make_room.ensures.carries;
       err = search rules;
       ready = search rules;
-      waiting = ap length c.in_ok-merge_once.ensures.records ∙ (length-drop 1 front.pipe.records
+      waiting = ap length c.in_ok-make_room.ensures.records ∙ (length-drop 1 front.pipe.records
           ∙ sym (left_fewer front.pipe.places (length front.pipe.records) full));
       cache = search rules;
-      sizes = c.merge_once.ensures.sizes;
+      sizes = c.make_room.ensures.sizes;
       steps = search rules;
       cost = search rules;
     }
 
-pub returns-in_err-merge_once-clause-sizes : goal.returns-in_err-merge_once-clause-sizes
-returns-in_err-merge_once-clause-sizes g c = c.merge_once.ensures.sizes
+pub returns-in_err-make_room-clause-sizes : goal.returns-in_err-make_room-clause-sizes
+returns-in_err-make_room-clause-sizes g c = c.make_room.ensures.sizes
