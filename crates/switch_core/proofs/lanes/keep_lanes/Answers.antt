@@ -1,5 +1,6 @@
 -- Each lane makes the events of its upkeep, in order.
-use Rattle.std.proofs.Common.{rules, ◌<◌, ◌+◌, length, set, get_or, arith}
+use Rattle.std.proofs.Common.{◌<◌, ◌+◌, length, set, get_or, arith, le_trans}
+use Rattle.epoch_model.proofs.Endings.{no_end}
 use Rattle.switch_core.specs.{PlanLanes.{LaneMakes, LanesBreakOff, LanesMake, lane_upkeep_cost, upkeeps_at}, Upkeeps.IsKept}
 use Rattle.switch_core.proofs.{LaneFacts.{err_holds, on_err, on_ok}, LaneUpkeeps.{breaks_off_at, made_at, others_stay}}
 use Rattle.switch_core.proofs.SideBySide.{got_below, got_here, done_start, untouched_start, untouched_next, untouched_was, done_end}
@@ -46,14 +47,14 @@ returns-in_err-keep_up g c =
     let was = untouched_was i first c.loop-i.lanes lane c.loop-i.invariant.same (omega arith)
     (got_here c.loop-i.lanes i c.index-lanes-i.result below) in
     record {
-      makes = search rules;
+      makes = no_end c.from_residual.result _ c.from_residual.ensures.0;
       breaks_off =
           let new = c.keep_up-in-loop-i.new.self in
           err_holds c.from_residual.result (LanesBreakOff g.row.WAYS c.args.upkeep first (set c.loop-i.lanes i new))
           (breaks_off_at g.row.WAYS c.args.upkeep i first c.loop-i.lanes lane new c.loop-i.invariant.makes c.loop-i.invariant.same was
           c.in_err-keep_up.ensures.breaks_off);
-      left = search rules;
-      steps = search rules;
+      left = no_end c.from_residual.result _ c.from_residual.ensures.0;
+      steps = le_trans c.loop-i.invariant.later c.keep_up-in-loop-i.ensures.steps;
       cost =
           let s = sum_next (lane_upkeep_cost c.args.upkeep) first i lane was in
           let a = c.keep_up-in-loop-i.ensures.cost in
@@ -69,9 +70,9 @@ returns g c =
           let kept = c.loop-i.auto.lanes in
           done_end (λ n. LaneMakes g.row.WAYS (upkeeps_at c.args.upkeep c.args.lanes.now n)) c.loop-i.i c.args.lanes.now c.loop-i.lanes
           c.loop-i.invariant.makes (omega arith);
-      breaks_off = search rules;
+      breaks_off = tt;
       left = λ n lane e. let below = got_below c.loop-i.lanes n lane e in c.loop-i.invariant.left n (omega arith) lane e;
-      steps = search rules;
+      steps = c.loop-i.invariant.later;
       cost = omega (arith, sum_within (lane_upkeep_cost c.args.upkeep) c.loop-i.i c.args.lanes.now, c.loop-i.invariant.cost);
     }
 

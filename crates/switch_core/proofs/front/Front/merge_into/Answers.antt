@@ -1,11 +1,53 @@
--- An empty pipe merges nothing.
-use Rattle.std.proofs.Common.{◌≡◌, length, ap, arith}
-use Rattle.switch_core.{specs.FrontEvents.with_store, proofs.Carrying.carries_none}
+-- An empty pipe merges nothing, and a merge of its oldest record leaves room.
+use Rattle.std.proofs.Common.{◌≡◌, ◌-◌, ◌<◌, ◌≤◌, ℕ, length, length-drop, ap, arith, refl, sym, ◌∙◌, subst}
+use Rattle.switch_core.specs.FrontEvents.{with_store}
+use Rattle.switch_core.proofs.{Carrying.carries_none, MergeSteps.none_dropped}
 use Rattle.switch_core.proofs.front.Front.merge_into.Goals as goal
 
-pub returns-then-len-eq0-clause-carries : goal.returns-then-len-eq0-clause-carries
-returns-then-len-eq0-clause-carries g c =
+pub returns-then-len-eq0 : goal.returns-then-len-eq0
+returns-then-len-eq0 g c =
     let old = c.args.self.now in
-    let none : length old.pipe.records ≡ 0 = grind
-    (arith, c.len.ensures.number, c.if-len-eq0.true, ap (λ x. length x.pipe.records) c.self.view_is) in
-    carries_none _ _ _ (with_store old c.args.store.now) none
+    let empty : length c.self.inside.pipe.records ≡ 0 = sym c.len.ensures.number ∙ c.if-len-eq0.true in
+    let none : length old.pipe.records ≡ 0 = subst (λ x. length x.pipe.records ≡ 0) c.self.view_is empty in
+    record {
+      carries = carries_none _ _ _ (with_store old c.args.store.now) none;
+      fits = c.requires;
+      empty = (λ e. none, λ e. refl);
+      same = λ e. (refl, refl);
+      err = tt;
+      records = none_dropped _ none;
+      ready = subst (λ x. length x.pipe.records < x.pipe.places) c.self.view_is
+          (subst (λ n. n < c.self.inside.pipe.places) (sym empty) c.self.invariant.front.some_places);
+      kind = refl;
+      cache = refl;
+      steps = omega arith;
+      cost = omega arith;
+    }
+
+-- one of some records is gone
+room_left : (before after many places : ℕ) → before ≤ many → 0 < before → after ≡ before - 1 → places ≡ many → after < places
+room_left before after many places few some less same = omega arith
+
+pub returns : goal.returns
+returns g c =
+    let old = c.args.self.now in
+    let made = c.merge_oldest.ensures in
+    let done = c.in_ok-merge_oldest.ensures in
+    let many = c.len.ensures.number in
+    let some : 0 < length c.self.inside.pipe.records = omega (arith, many, c.if-len-eq0.false) in
+    let some_old : 0 < length old.pipe.records = subst (λ x. 0 < length x.pipe.records) c.self.view_is some in
+    let few : length old.pipe.records ≤ old.pipe.places =
+    subst (λ x. length x.pipe.records ≤ x.pipe.places) c.self.view_is c.len.ensures.sound.few in
+    record {
+      carries = done.carries;
+      fits = made.fits;
+      empty = (λ e. absurd cc, λ n. absurd (omega (arith, n, some_old)));
+      same = λ e. absurd cc;
+      err = tt;
+      records = done.records;
+      ready = room_left _ _ _ _ few some_old (ap length done.records ∙ length-drop 1 old.pipe.records) done.carries.sizes.places;
+      kind = made.kind;
+      cache = made.cache;
+      steps = made.steps;
+      cost = made.cost;
+    }

@@ -21,10 +21,11 @@ returns g c =
     let made = c.merge_into.ensures in
     let is = c.self.view_is in
     let means = g.K.EpochKind.stands in
-    let folding = g.K.EpochKind.folding in record {
+    let folding = g.K.EpochKind.folding in
+    let carry = makes_one means folding g.row.WAYS Merge (with_store old.front old.store) (with_store new store) in record {
       stands = subst (λ x. OnOk result (Makes (means x.kind) (folding x.kind) g.row.WAYS Merge (parts x.cache x.pipe x.store)
           (parts new.cache new.pipe store))) is
-          (on_ok _ _ result (makes_one means folding g.row.WAYS Merge (with_store old.front old.store) (with_store new store)) made.carries);
+          (on_ok _ _ result carry made.carries);
       empty = subst (λ x. (result ≡ Ok Empty) ↔ (length x.pipe.records ≡ 0)) is made.empty;
       same = λ e. let s = made.same e in (ap (λ x. x.pipe) s.0 ∙ ap (λ x. x.pipe) is, s.1 ∙ ap (λ x. x.store) is);
       err = on_err _ _ result (λ s. (ap (λ x. x.pipe) s.0 ∙ ap (λ x. x.pipe) is, s.1 ∙ ap (λ x. x.store) is)) made.err;
