@@ -4,7 +4,7 @@ use Rattle.epoch_model.proofs.Endings.{no_end}
 use Rattle.switch_core.specs.{PlanLanes.{LaneMakes, LanesBreakOff, LanesMake, lane_upkeep_cost, upkeeps_at}, Upkeeps.IsKept}
 use Rattle.switch_core.proofs.{LaneFacts.{err_holds, on_err, on_ok}, LaneUpkeeps.{breaks_off_at, made_at, others_stay}}
 use Rattle.switch_core.proofs.SideBySide.{got_below, got_here, done_start, untouched_start, untouched_next, untouched_was, done_end}
-use Rattle.switch_core.proofs.{SideBySide.sum_next, SweepCosts.sum_within}
+use Rattle.switch_core.proofs.{SideBySide.sum_next, StepSums.{one_more, within_all}, SweepCosts.sum_within}
 use Rattle.switch_core.proofs.lanes.keep_lanes.Goals as goal
 
 pub loop-i-init : goal.loop-i-init
@@ -31,9 +31,9 @@ loop-i-preserved g c =
       same = untouched_next i first c.loop-i.lanes new c.loop-i.invariant.same;
       left = others_stay (λ x. IsKept c.args.upkeep x.cache x.pipe) c.loop-i.lanes i new below c.loop-i.invariant.left
           c.in_ok-keep_up.ensures.left;
-      later = let a = c.keep_up-in-loop-i.ensures.steps in let b = c.loop-i.invariant.later in omega arith;
-      cost = let s = sum_next (lane_upkeep_cost c.args.upkeep) first i lane was in let a = c.keep_up-in-loop-i.ensures.cost in let b =
-          c.loop-i.invariant.cost in omega arith;
+      later = le_trans c.loop-i.invariant.later c.keep_up-in-loop-i.ensures.steps;
+      cost = one_more _ _ _ _ _ _ c.loop-i.invariant.cost c.keep_up-in-loop-i.ensures.cost
+          (sum_next (lane_upkeep_cost c.args.upkeep) first i lane was);
     }
 
 pub returns-in_err-keep_up : goal.returns-in_err-keep_up
@@ -56,11 +56,10 @@ returns-in_err-keep_up g c =
       left = no_end c.from_residual.result _ c.from_residual.ensures.0;
       steps = le_trans c.loop-i.invariant.later c.keep_up-in-loop-i.ensures.steps;
       cost =
-          let s = sum_next (lane_upkeep_cost c.args.upkeep) first i lane was in
-          let a = c.keep_up-in-loop-i.ensures.cost in
-          let b = c.loop-i.invariant.cost in
-          let all = sum_within (lane_upkeep_cost c.args.upkeep) (i + 1) first in
-          omega arith;
+          let cost = lane_upkeep_cost c.args.upkeep in
+          within_all _ _ _ _
+          (one_more _ _ _ _ _ _ c.loop-i.invariant.cost c.keep_up-in-loop-i.ensures.cost (sum_next cost first i lane was))
+          (sum_within cost (i + 1) first);
     }
 
 pub returns : goal.returns
@@ -73,7 +72,7 @@ returns g c =
       breaks_off = tt;
       left = λ n lane e. let below = got_below c.loop-i.lanes n lane e in c.loop-i.invariant.left n (omega arith) lane e;
       steps = c.loop-i.invariant.later;
-      cost = omega (arith, sum_within (lane_upkeep_cost c.args.upkeep) c.loop-i.i c.args.lanes.now, c.loop-i.invariant.cost);
+      cost = within_all _ _ _ _ c.loop-i.invariant.cost (sum_within (lane_upkeep_cost c.args.upkeep) c.loop-i.i c.args.lanes.now);
     }
 
 pub returns-then-lanes-eq1-clause-makes : goal.returns-then-lanes-eq1-clause-makes

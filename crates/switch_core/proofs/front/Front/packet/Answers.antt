@@ -1,7 +1,7 @@
 -- A packet finds its key's entry, begins one in a free place, or takes the place of the least recently used one: each is the packet event
 -- of the front.
-use Rattle.std.proofs.Common.{List, ◌<◌, ◌∷◌, [], ◌++◌, length, arith, get_or-set_same, refl, ap, sym, ◌∙◌, subst, lit<, le_trans}
-use Rattle.std.specs.Prelude.{slice_index_or}
+use Rattle.std.proofs.Common.{List, ℕ, ◌≡◌, ◌+◌, ◌<◌, ◌≤◌, ◌∷◌, [], ◌++◌, length, arith, get_or-set_same}
+use Rattle.std.{proofs.Common.{refl, ap, sym, ◌∙◌, subst, lit<, le_trans}, specs.Prelude.slice_index_or}
 use Rattle.epoch_model.specs.{Keys.ArgRow, Machine.Packet}
 use Rattle.bucket_cache.specs.{Caches.{entry_at, list_at}, LendingCaches.with_entry_at, Touches.IsLeast}
 use Rattle.bucket_cache.specs.declared.bucket.Touch.TheVariants.{Hit, Free}
@@ -88,6 +88,25 @@ touch-requires g c = (
   ),
 )
 
+-- what a packet takes, by what its bucket has for it
+hit_spent : (first found touched last key key_words touch most words opening absorbing : ℕ) → found ≡ first + key → key ≡ key_words
+    → touched ≤ found + touch → touch ≤ most → last ≤ touched + absorbing
+    → last ≤ first + (key_words + most + words + opening + absorbing)
+hit_spent first found touched last key key_words touch most words opening absorbing f k t m l = omega arith
+
+free_spent : (first found touched last key key_words touch most words opening absorbing : ℕ) → found ≡ first + key → key ≡ key_words
+    → touched ≤ found + touch → touch ≤ most → last ≤ touched + (opening + absorbing)
+    → last ≤ first + (key_words + most + words + opening + absorbing)
+free_spent first found touched last key key_words touch most words opening absorbing f k t m l = omega arith
+
+full_spent : (first found touched pushed replaced last key key_words touch replace most record_words entry_words entry : ℕ)
+    (opening absorbing : ℕ) → found ≡ first + key → key ≡ key_words → touched ≤ found + touch → touch + replace ≤ most
+    → pushed ≡ touched + record_words
+    → record_words ≡ key_words + entry_words → entry_words ≡ entry → replaced ≡ pushed + replace → last ≤ replaced + (opening + absorbing)
+    → last ≤ first + (key_words + most + (key_words + entry) + opening + absorbing)
+full_spent first found touched pushed replaced last key key_words touch replace most record_words entry_words entry opening absorbing
+    f k t m p w e r l = omega arith
+
 pub returns-in-Hit : goal.returns-in-Hit
 returns-in-Hit g c =
     let old = c.self.inside in
@@ -135,7 +154,8 @@ returns-in-Hit g c =
       cost =
           let long = rw (← c.self.view_is) at c.requires.key in
           let bounded = (c.uses_are_bounded.ensures g.row.WAYS old.cache.key_words c.self.invariant.front.some_ways).touch (Hit place) in
-          rw (← c.self.view_is) (omega (arith, long, bounded, c.bucket_of-bucket.ensures.cost, t.cost, c.absorb.ensures.cost));
+          rw (← c.self.view_is)
+          (hit_spent _ _ _ _ _ _ _ _ _ _ _ c.bucket_of-bucket.ensures.cost long t.cost bounded c.absorb.ensures.cost);
     }
 
 pub returns-in-Free : goal.returns-in-Free
@@ -178,7 +198,8 @@ returns-in-Free g c =
       cost =
           let long = rw (← c.self.view_is) at c.requires.key in
           let bounded = (c.uses_are_bounded.ensures g.row.WAYS old.cache.key_words c.self.invariant.front.some_ways).touch (Free place) in
-          rw (← c.self.view_is) (omega (arith, long, bounded, c.bucket_of-bucket.ensures.cost, t.cost, c.begin_at.ensures.cost));
+          rw (← c.self.view_is)
+          (free_spent _ _ _ _ _ _ _ _ _ _ _ c.bucket_of-bucket.ensures.cost long t.cost bounded c.begin_at.ensures.cost);
     }
 
 pub returns-in-Full : goal.returns-in-Full
@@ -236,8 +257,8 @@ returns-in-Full g c =
           let bounded = bounds.touch_and_replace c.in-Full.place in
           let replaced = rw taken.key_words at r.cost in
           let whole = c.self.invariant.front.record_words in
-          let found = c.bucket_of-bucket.ensures.cost in
-          rw (← c.self.view_is) (omega (arith, t.cost, c.push_pair.ensures.cost, begun.cost, c.self.invariant.front.entry));
+          rw (← c.self.view_is) (full_spent _ _ _ _ _ _ _ _ _ _ _ _ _ _ _ _ c.bucket_of-bucket.ensures.cost long t.cost bounded
+          c.push_pair.ensures.cost whole c.self.invariant.front.entry replaced begun.cost);
     }
 
 pub invariant_of-self : goal.invariant_of-self

@@ -1,10 +1,36 @@
 -- A packet that the groupby takes is the packet event of its key and its arguments at the front.
-use Rattle.std.proofs.Common.{◌≡◌, ◌∷◌, [], refl, sym, ap₂, ◌∙◌, subst}
+use Rattle.std.proofs.Common.{◌≡◌, ◌+◌, ◌≤◌, ◌∷◌, [], ℕ, length, arith, le_trans, refl, sym, ap₂, ◌∙◌, subst}
 use Rattle.epoch_model.specs.{Driving.event_of, Machine.Packet}
 use Rattle.epoch_entry.specs.contracts.any.AnyEpochsEpochKind.TheImpl.{ghosts}
 use Rattle.stage_plan.specs.{Planned.wiring_at, Registers.taken_at}
-use Rattle.switch_core.{specs.{FrontEvents.with_store, LaneEvents.parts, PlanLanes.{LaneMakes, LaneView}}, proofs.Carrying.{fits_kept, makes_one}}
+use Rattle.switch_core.specs.{FrontEvents.with_store, LaneEvents.parts, PlanLanes.{LaneMakes, LaneView, lane_cost}}
+use Rattle.switch_core.proofs.{Carrying.{fits_kept, makes_one}, StepSums.after_sum}
 use Rattle.switch_core.proofs.lane.Lane+AnyEpochs+WAYS.take.Goals as goal
+
+pub returns-then-not-present : goal.returns-then-not-present
+returns-then-not-present g c = record {
+  makes = rw (sym c.present.ensures ∙ c.if-not-present.true) (record { kind = refl; made = refl });
+  steps = omega arith;
+  cost = omega arith;
+}
+
+-- the words of the key and of the arguments are copied before
+spent : (first keyed copied last keys args key_words words most : ℕ) → keyed ≡ first + keys → copied ≡ keyed + args → last ≤ copied + most
+    → key_words ≡ keys → words ≡ args → last ≤ first + ((key_words + words) + most)
+spent first keyed copied last keys args key_words words most k a p key row = omega arith
+
+pub returns-clause-steps : goal.returns-clause-steps
+returns-clause-steps g c =
+    le_trans (after_sum _ _ _ c.key_into.ensures.steps) (le_trans (after_sum _ _ _ c.args_into.ensures.steps) c.packet.ensures.steps)
+
+pub returns-clause-cost : goal.returns-clause-cost
+returns-clause-cost g c =
+    let back = sym c.self.view_is in
+    let w = wiring_at c.args.plan.now c.args.group in
+    let keys = subst (λ (x : LaneView). x.cache.key_words ≡ length w.keys) back c.requires.key in
+    let args = subst (λ (x : LaneView). (ghosts.sizes x.kind).args ≡ length w.args) back c.requires.args in
+    subst (λ (x : LaneView). c.packet.new.steps ≤ c.args.steps.now + lane_cost g.row.WAYS x) c.self.view_is
+    (spent _ _ _ _ _ _ _ _ _ c.key_into.ensures.steps c.args_into.ensures.steps c.packet.ensures.cost keys args)
 
 pub returns-clause-makes : goal.returns-clause-makes
 returns-clause-makes g c =

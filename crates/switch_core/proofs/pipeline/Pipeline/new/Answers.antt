@@ -19,25 +19,49 @@ pub returns-in_err-lanes : goal.returns-in_err-lanes
 returns-in_err-lanes g c =
     let r = c.from_residual.result in
     let e = c.from_residual.ensures.0 in
-    record { stands = no_value r _ e; plan = no_value r _ e; entries = no_value r _ e; buckets = no_value r _ e; pipe_places = no_value r _ e }
+    record {
+      stands = no_value r _ e;
+      plan = no_value r _ e;
+      entries = no_value r _ e;
+      buckets = no_value r _ e;
+      pipe_places = no_value r _ e;
+    }
 
 pub returns-in_err-registers : goal.returns-in_err-registers
 returns-in_err-registers g c =
     let r = c.from_residual-in_err-registers.result in
     let e = c.from_residual-in_err-registers.ensures.0 in
-    record { stands = no_value r _ e; plan = no_value r _ e; entries = no_value r _ e; buckets = no_value r _ e; pipe_places = no_value r _ e }
+    record {
+      stands = no_value r _ e;
+      plan = no_value r _ e;
+      entries = no_value r _ e;
+      buckets = no_value r _ e;
+      pipe_places = no_value r _ e;
+    }
 
 pub returns-in_err-key : goal.returns-in_err-key
 returns-in_err-key g c =
     let r = c.from_residual-in_err-key.result in
     let e = c.from_residual-in_err-key.ensures.0 in
-    record { stands = no_value r _ e; plan = no_value r _ e; entries = no_value r _ e; buckets = no_value r _ e; pipe_places = no_value r _ e }
+    record {
+      stands = no_value r _ e;
+      plan = no_value r _ e;
+      entries = no_value r _ e;
+      buckets = no_value r _ e;
+      pipe_places = no_value r _ e;
+    }
 
 pub returns-in_err-args : goal.returns-in_err-args
 returns-in_err-args g c =
     let r = c.from_residual-in_err-args.result in
     let e = c.from_residual-in_err-args.ensures.0 in
-    record { stands = no_value r _ e; plan = no_value r _ e; entries = no_value r _ e; buckets = no_value r _ e; pipe_places = no_value r _ e }
+    record {
+      stands = no_value r _ e;
+      plan = no_value r _ e;
+      entries = no_value r _ e;
+      buckets = no_value r _ e;
+      pipe_places = no_value r _ e;
+    }
 
 pub returns : goal.returns
 returns g c =

@@ -1,12 +1,12 @@
 -- Each lane makes the packet event of what its groupby takes of the registers.
-use Rattle.std.proofs.Common.{rules, ◌≡◌, ℕ, length, drop, get_or, refl, sym, ap, ◌∙◌, subst, true, arith, lit<}
+use Rattle.std.proofs.Common.{◌≡◌, ◌+◌, ◌≤◌, ℕ, le_trans, length, drop, get_or, refl, sym, ap, ◌∙◌, subst, true, arith, lit<}
 use Rattle.std.{proofs.Math.Facts.Fits-below, specs.List.list_all}
 use Rattle.epoch_model.specs.Driving.{event_of}
 use Rattle.query_lang.specs.declared.fault.TheConstants.{MAX_ARGS, MAX_KEYS}
 use Rattle.stage_plan.specs.{Planned.wiring_at, Registers.taken_at, Sound.PlanParts}
 use Rattle.switch_core.specs.{Pipelines.packet_events, PlanLanes.{AreLanesOf, LaneMakes, LaneView, PipelineView, lane_cost, lane_is_ready}}
 use Rattle.switch_core.proofs.{FrontSizes.room_kept, LaneFacts.{all_at, lane_fits, whole_written}, PacketBound.packet_within}
-use Rattle.switch_core.proofs.{PipelineSteps.given_back, SideBySide.{same_some, each_long, done_start, untouched_start}}
+use Rattle.switch_core.proofs.{PipelineSteps.given_back, SideBySide.{same_some, each_long, done_start, untouched_start}, StepSums.one_more}
 use Rattle.switch_core.proofs.SideBySide.{done_next, untouched_next, was_there, done_end, sum_next, sum_whole}
 use Rattle.switch_core.proofs.pipeline.Pipeline.packet.Goals as goal
 
@@ -65,9 +65,9 @@ take-requires g c =
     c.loop-i.invariant.key ∙ (c.read_caches.auto.key ∙ (ap length c.deref_mut-key.ensures.value ∙ c.self.invariant.rooms.for_key)) in
     let args16 : length c.loop-i.args ≡ MAX_ARGS =
     c.loop-i.invariant.args ∙ (c.read_caches.auto.room ∙ (ap length c.deref_mut-args.ensures.value ∙ c.self.invariant.rooms.for_args)) in
-    let few_keys = fits.few_keys in
-    let few_args = fits.few_args in
-    (lit< tt, (fits.group, (c.registers_of-registers.ensures.length, (ready, (fits.keys, (fits.args, (omega arith, omega arith)))))))
+    let keys = subst (λ n. length (wiring_at p.plan i).keys ≤ n) (sym key8) fits.few_keys in
+    let args = subst (λ n. length (wiring_at p.plan i).args ≤ n) (sym args16) fits.few_args in
+    (lit< tt, (fits.group, (c.registers_of-registers.ensures.length, (ready, (fits.keys, (fits.args, (keys, args)))))))
 
 pub loop-i-preserved : goal.loop-i-preserved
 loop-i-preserved g c =
@@ -86,12 +86,17 @@ loop-i-preserved g c =
       makes = done_next made i first c.loop-i.lanes c.take.new.self c.loop-i.invariant.makes
           (λ x e. subst (λ v. made i v c.take.new.self) (same_some lane x (sym was ∙ e)) taken);
       same = untouched_next i first c.loop-i.lanes c.take.new.self c.loop-i.invariant.same;
-      steps = let a = c.take.ensures.steps in let b = c.loop-i.invariant.steps in omega arith;
-      cost = let s = sum_next (lane_cost g.row.WAYS) first i lane was in let a = c.take.ensures.cost in let b =
-          c.loop-i.invariant.cost in omega arith;
+      steps = le_trans c.loop-i.invariant.steps c.take.ensures.steps;
+      cost = one_more _ _ _ _ _ _ c.loop-i.invariant.cost c.take.ensures.cost (sum_next (lane_cost g.row.WAYS) first i lane was);
       key = c.take.auto.key ∙ c.loop-i.invariant.key;
       args = c.take.auto.args ∙ c.loop-i.invariant.args;
     }
+
+after_row : (first filled last row lanes : ℕ) → filled ≤ first + row → last ≤ filled + lanes → last ≤ first + (row + lanes)
+after_row first filled last row lanes f l = omega arith
+
+within_more : (first cost most : ℕ) → cost ≤ most → first + cost ≤ first + most
+within_more first cost most few = omega arith
 
 pub returns : goal.returns
 returns g c =
@@ -108,13 +113,13 @@ returns g c =
           rw (← c.self.view_is) (given_back g.row.WAYS (packet_events p.plan c.args.p.now.words) _ p.plan _ _ _ _ _
           c.deref_mut-lanes.ensures.value (c.loop-i.auto.lanes ∙ c.deref_mut-lanes.ensures.len)
           (rw (← same, c.registers_of-registers.ensures.row) at made) c.self.invariant.lanes c.self.invariant.made).makes;
-      steps = search rules;
-      cost = rw (← c.self.view_is) (omega arith);
+      steps = le_trans c.fill_registers.ensures.steps c.loop-i.invariant.steps;
+      cost = rw (← c.self.view_is) (after_row _ _ _ _ _ row lanes);
       bound =
           let before : PipelineView = record { plan = p.plan; entries = p.entries; buckets = p.buckets; lanes = p.lanes.items } in
           let within = packet_within c.depth_is_found.ensures c.entries_suit_folds.ensures g.row.WAYS before c.invariant.ensures
           c.self.invariant.lanes in
-          rw (← c.self.view_is) (omega arith);
+          rw (← c.self.view_is) (le_trans (after_row _ _ _ _ _ row lanes) (within_more _ _ _ within));
     }
 
 pub invariant_of-self : goal.invariant_of-self
