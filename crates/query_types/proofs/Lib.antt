@@ -10,6 +10,7 @@ pub mod NamedFits
 pub mod Makings
 pub mod MadeFits
 pub mod FitLaws
+pub mod FoldSteps
 pub mod ItemLaws
 pub mod MadeLaws
 pub mod NameLemmas
