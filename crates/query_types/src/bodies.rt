@@ -132,6 +132,20 @@ fn emit_under(alloc: Global, outer: &Option<TypedExpr>) -> Result<TypedExpr, All
     }
 }
 
+// What encloses the statements where one more condition doesn't hold.
+fn enclose_opposite(
+    alloc: Global,
+    states: &[u32],
+    outer: &Enclosing,
+    written: &Expr,
+    condition: &TypedExpr,
+) -> Result<Enclosing, AllocError>
+    ensures { IfOk result (λ inner. inner ≡ inside states.now outer.now written.now (TypedExpr.Not condition.now)) }
+{
+    let opposite = opposite(alloc, condition)?;
+    enclose(alloc, states, outer, written, &opposite)
+}
+
 /// A choice between two blocks: its condition, and what encloses the statements of each block.
 #[derive(Drop)]
 pub struct Choice {
@@ -153,8 +167,7 @@ fn open_choice(
 {
     let condition = fold_condition(alloc, scope, written)?;
     let holding = enclose(alloc, scope.states, outer, written, &condition)?;
-    let opposite = opposite(alloc, &condition)?;
-    let failing = enclose(alloc, scope.states, outer, written, &opposite)?;
+    let failing = enclose_opposite(alloc, scope.states, outer, written, &condition)?;
     let choice = Choice {
         condition,
         holding,
