@@ -1,5 +1,5 @@
 -- State variables and arguments, one after another: the answer where a name is taken or there is no room, and the turn that adds one.
-use Rattle.std.proofs.Common.{◌≡◌, ℕ, ◌+◌, ◌<◌, ◌≤◌, Bool, true, false, ◌||◌, List, [], ◌∷◌, ◌++◌, length, nat_lt, Err}
+use Rattle.std.proofs.Common.{◌≡◌, ℕ, ◌<◌, ◌≤◌, Bool, true, false, ◌||◌, List, [], ◌∷◌, ◌++◌, length, nat_lt, Err}
 use Rattle.std.proofs.{Common.{sym, ap, ◌∙◌, arith}, lemmas.{Bool.Decides.nat_tests, List.length-append}}
 use Rattle.query_lang.specs.declared.fault.{FaultKind.TheVariants.{NameTaken, OverLimit}, Limit.{Limit, TheVariants.{Args, States}}}
 use Rattle.query_lang.specs.declared.fault.{Span.Span, TheConstants.{MAX_ARGS, MAX_STATES}}
