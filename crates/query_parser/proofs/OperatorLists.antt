@@ -1,6 +1,6 @@
 -- Operators of a list, by the kind of the token.
-use Rattle.std.proofs.Common.{◌≡◌, ◌-◌, ◌≤◌, Bool, true, false, List, [], ◌∷◌, Option, Some, length, take, drop, slice_index_or, refl, sym}
-use Rattle.std.{proofs.{Common.{◌∙◌, arith}, lemmas.List.take_rest}, specs.Prelude.nat_eq}
+use Rattle.std.proofs.Common.{◌≡◌, ◌-◌, ◌≤◌, Bool, true, false, List, [], ◌∷◌, Option, Some, None, length, take, drop, slice_index_or}
+use Rattle.std.{proofs.{Common.{refl, sym, ap, ◌∙◌, arith}, lemmas.List.take_rest}, specs.{Option.is_some, Prelude.nat_eq}}
 use Rattle.query_lang.specs.declared.{fold.Op.Op, token.Token.Token}
 use Rattle.query_grammar.specs.{Kinds.{among, kind_number, kinds_of, operator}, Grammar.Operators, declared.stop.Counts.Counts}
 use Rattle.query_grammar.specs.{Language.Node, Parser.{Limited, Done, charge, next_is, taken, word}}
@@ -38,6 +38,12 @@ kind_is_op (o ∷ others) t = go (nat_eq (kind_number t.kind) (kind_number o.0))
     go true e h = rw e refl
     go false e h = rw e h
 
-pub next_is_op : (ops : Operators) (ts : List Token) → next_is (among (kinds_of ops)) ts ≡ is_op (next_op ops ts)
+next_is_op : (ops : Operators) (ts : List Token) → next_is (among (kinds_of ops)) ts ≡ is_op (next_op ops ts)
 next_is_op ops [] = refl
 next_is_op ops (t ∷ ts) = kind_is_op ops t
+
+-- whether one comes next
+pub comes_next : (ops : Operators) (ts : List Token) (found : Option Op) → found ≡ next_op ops ts
+    → is_some found ≡ next_is (among (kinds_of ops)) ts
+comes_next ops ts None e = sym (next_is_op ops ts ∙ ap is_op (sym e))
+comes_next ops ts (Some op) e = sym (next_is_op ops ts ∙ ap is_op (sym e))

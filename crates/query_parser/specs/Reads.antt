@@ -1,7 +1,7 @@
 -- What the functions that read tokens give, unless memory runs out.
 use Rattle.std.specs.Prelude.{◌≡◌, ℕ, zero, suc, Bool, true, false, List, [], ◌∷◌, nat_eq, if◌then◌else◌, ◌⊎◌, Option, Some, None, Result}
 use Rattle.std.{specs.Prelude.{Ok, Err}, proofs.Common.{inl, inr}}
-use Rattle.query_lang.specs.declared.{fault.Span.Span, fold.Op.Op, query.{Expr.Expr, Stmt.Stmt}}
+use Rattle.query_lang.specs.declared.{fault.Span.Span, fold.Op.Op, query.{Expr.Expr, Name.Name, Stmt.Stmt}}
 use Rattle.query_lang.specs.declared.token.Mark.TheVariants as marks
 use Rattle.query_lang.specs.declared.token.{Token.Token, TokenKind.TokenKind}
 use Rattle.query_grammar.specs.{declared.stop.Counts.Counts, Kinds.{among, kind_number, kinds_of, operator, sign}}
@@ -9,8 +9,9 @@ use Rattle.query_grammar.specs.Language as roles
 use Rattle.query_grammar.specs.{Language.Node, Grammar.{Operators, compared, comparing_ops, either_ops, both_ops, or_ops, xor_ops, and_ops}}
 use Rattle.query_grammar.specs.Grammar.{shift_ops, sum_ops, product_ops}
 use Rattle.query_grammar.specs.Parser.{Limited, Outcome, Done, Stopped, Parser, limit_of, word, followed_by, mapped, at_most_once}
-use Rattle.query_grammar.specs.Reading.{blocked, parens, listed_by, expr_starts, level, primary, unary, product, sum, shift, bit_and}
-use Rattle.query_grammar.specs.Reading.{bit_xor, bit_or, comparison, conjunction, expr_at, block, empty_parens, else_part, stmt_at}
+use Rattle.query_grammar.specs.Reading.{after, before, plain_name, blocked, parens, listed_by, expr_starts, level, primary, unary, product}
+use Rattle.query_grammar.specs.Reading.{sum, shift, bit_and, bit_xor, bit_or, comparison, conjunction, expr_at, block, empty_parens}
+use Rattle.query_grammar.specs.Reading.{else_part, stmt_at}
 use Rattle.query_parser.specs.declared.statement.ElsePart.{ElsePart}
 use Rattle.query_parser.specs.declared.statement.ElsePart.TheVariants as parts
 use Rattle.query_parser.specs.declared.operators.Level.{Level}
@@ -50,6 +51,10 @@ Sees (Err e) from to p = StopsAt e to (p from.counts from.rest.now)
 abbrev pub Charges : Result Counts Halt → Option Counts → roles.Role → Type 0
 Charges (Ok c) o role = o ≡ Some c
 Charges (Err e) o role = (o ≡ None) × (e ≡ halts.At (limit_of role))
+
+-- a word, an open parenthesis, a name and a comma
+abbrev pub input_of : TokenKind → Parser Name
+input_of w = after Limited w (after Limited (sign marks.OpenParen) (before Limited (plain_name Limited) (sign marks.Comma)))
 
 -- ---- operators
 

@@ -113,8 +113,7 @@ pub fn bracketed(reader: &mut Reader<'_>, brackets: u32) -> Read<Expr>
     }
     read!(reader.mark(Mark::OpenParen));
     let inner = read!(expression(reader, brackets - 1));
-    read!(reader.mark(Mark::CloseParen));
-    Ok(inner)
+    reader.closed(inner, Mark::CloseParen)
 }
 
 /// A comma, and an expression after it.
@@ -166,8 +165,7 @@ fn arguments(reader: &mut Reader<'_>, brackets: u32) -> Read<Seq<Expr>>
     }
     read!(reader.mark(Mark::OpenParen));
     let found = read!(listed(reader, brackets - 1));
-    read!(reader.mark(Mark::CloseParen));
-    Ok(found)
+    reader.closed(found, Mark::CloseParen)
 }
 
 /// A function, and its arguments.

@@ -13,14 +13,11 @@ use query_lang::{FinalDef, FinalOp, Item, Mark, Name, Span, Word};
 fn best(reader: &mut Reader<'_>) -> Read<(Name, (Name, (u64, Span)))>
     ensures { Sees result reader.old reader.new (best_of Limited) }
 {
-    read!(reader.keyword(Role::Plain, Word::Top));
-    read!(reader.mark(Mark::OpenParen));
-    let input = read!(reader.name(Role::Plain));
-    let column = read!(reader.comma_name());
+    let input = read!(reader.input(Word::Top));
+    let column = read!(reader.name(Role::Plain));
     read!(reader.mark(Mark::Comma));
     let count = read!(reader.number(Role::Plain));
-    read!(reader.mark(Mark::CloseParen));
-    Ok((input, (column, count)))
+    reader.closed((input, (column, count)), Mark::CloseParen)
 }
 
 /// What makes a final.
@@ -55,6 +52,5 @@ pub fn final_table(reader: &mut Reader<'_>) -> Read<Item>
     let name = read!(reader.name(Role::Plain));
     read!(reader.mark(Mark::Assign));
     let op = read!(finishing(reader));
-    read!(reader.mark(Mark::Semicolon));
-    Ok(Item::Final(FinalDef { name, op }))
+    reader.closed(Item::Final(FinalDef { name, op }), Mark::Semicolon)
 }

@@ -45,8 +45,7 @@ fn parameters(reader: &mut Reader<'_>) -> Read<(Seq<StateVar>, Seq<Name>)>
     let states = read!(listed(reader));
     read!(reader.mark(Mark::Comma));
     let args = read!(listed(reader));
-    read!(reader.mark(Mark::CloseParen));
-    Ok((states, args))
+    reader.closed((states, args), Mark::CloseParen)
 }
 
 /// A fold's definition.

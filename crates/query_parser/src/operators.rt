@@ -105,7 +105,6 @@ fn next_function(rest: &[Token]) -> Option<Op>
 }
 
 /// Whether an operator of this level comes next.
-#[tactic(auto, using(crate::proofs::OperatorLists::next_is_op))]
 pub fn at_operator(level: Level, rest: &[Token]) -> bool
     ensures { result ≡ next_is (among (kinds_of (ops_of level))) rest.now }
 {
@@ -113,7 +112,6 @@ pub fn at_operator(level: Level, rest: &[Token]) -> bool
 }
 
 /// Whether a function comes next.
-#[tactic(auto, using(crate::proofs::OperatorLists::next_is_op))]
 pub fn at_function(rest: &[Token]) -> bool
     ensures { result ≡ next_is (among (kinds_of functions)) rest.now }
 {

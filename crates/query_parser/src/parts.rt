@@ -46,16 +46,24 @@ pub fn separated<P: Part>(reader: &mut Reader<'_>) -> Read<Seq<P>>
     Ok(found)
 }
 
+/// Parts with commas between them, in square brackets.
+pub fn bracketed<P: Part>(reader: &mut Reader<'_>) -> Read<Seq<P>>
+    ensures { Gives result reader.old reader.new (brackets Limited (separated_by Limited P.parser)) }
+{
+    read!(reader.mark(Mark::OpenBracket));
+    let found = read!(separated(reader));
+    reader.closed(found, Mark::CloseBracket)
+}
+
 /// Parts that begin with a name, if there are any, in square brackets.
 pub fn listed<P: Part>(reader: &mut Reader<'_>) -> Read<Seq<P>>
     ensures { Gives result reader.old reader.new (brackets Limited (listed_by Limited (0 ∷ []) P.parser)) }
 {
     read!(reader.mark(Mark::OpenBracket));
     if !at_name(reader.rest) {
-        read!(reader.mark(Mark::CloseBracket));
-        return Ok(Seq::new(reader.alloc));
+        let none = Seq::new(reader.alloc);
+        return reader.closed(none, Mark::CloseBracket);
     }
     let found = read!(separated(reader));
-    read!(reader.mark(Mark::CloseBracket));
-    Ok(found)
+    reader.closed(found, Mark::CloseBracket)
 }

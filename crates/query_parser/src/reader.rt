@@ -1,10 +1,10 @@
 //! Reads one token after another.
 
 ghost use Rattle.query_grammar.specs.Kinds.{is, keyword as keyword_of, name as name_of, number as number_of, sign};
-ghost use Rattle.query_grammar.specs.{Parser.{Limited, charge, word}, Reading.{after, blocked, plain_name, token_of}};
+ghost use Rattle.query_grammar.specs.{Parser.{Limited, charge, mapped, word}, Reading.{after, blocked, plain_name, token_of}};
 ghost use Rattle.query_lang.specs.declared.token.Mark.TheVariants as marks;
 ghost use Rattle.query_lang.specs.declared.token.TokenKind.TheVariants as kinds;
-ghost use Rattle.query_parser.specs.Reads.{Charges, Sees, role_of};
+ghost use Rattle.query_parser.specs.Reads.{Charges, Sees, input_of, role_of};
 
 use crate::halt::{Halt, Read, read};
 use crate::word::{is_mark, is_word};
@@ -76,6 +76,14 @@ impl Reader<'_> {
         self.sign(Role::Plain, wanted)
     }
 
+    /// What was read, with this mark after it.
+    pub fn closed<T: Drop>(&mut self, found: T, wanted: Mark) -> Read<T>
+        ensures { Sees result self.old self.new (mapped (λ span. found) (token_of Limited (sign wanted))) }
+    {
+        read!(self.mark(wanted));
+        Ok(found)
+    }
+
     /// This word.
     pub fn keyword(&mut self, role: Role, wanted: Word) -> Read<Span>
         ensures { Sees result self.old self.new (word Limited (role_of role) (is (keyword_of wanted))) }
@@ -119,6 +127,17 @@ impl Reader<'_> {
     {
         read!(self.mark(Mark::Comma));
         self.name(Role::Plain)
+    }
+
+    /// This word, and a name after an open parenthesis, with the comma after it.
+    pub fn input(&mut self, wanted: Word) -> Read<Name>
+        ensures { Sees result self.old self.new (input_of (keyword_of wanted)) }
+    {
+        read!(self.keyword(Role::Plain, wanted));
+        read!(self.mark(Mark::OpenParen));
+        let name = read!(self.name(Role::Plain));
+        read!(self.mark(Mark::Comma));
+        Ok(name)
     }
 
     /// A number, and where it is.

@@ -32,8 +32,7 @@ fn assignment(reader: &mut Reader<'_>, brackets: u32) -> Read<Stmt>
     let name = read!(reader.name(Role::Statement));
     read!(reader.mark(Mark::Assign));
     let value = read!(expression(reader, brackets));
-    read!(reader.mark(Mark::Semicolon));
-    Ok(Stmt::Assign(name, value))
+    reader.closed(Stmt::Assign(name, value), Mark::Semicolon)
 }
 
 /// The empty brackets after `emit`, and the semicolon.
@@ -194,8 +193,7 @@ pub fn block_within(reader: &mut Reader<'_>, brackets: u32) -> Read<Seq<Stmt>>
 {
     read!(reader.mark(Mark::OpenBrace));
     let found = read!(statements(reader, brackets));
-    read!(reader.mark(Mark::CloseBrace));
-    Ok(found)
+    reader.closed(found, Mark::CloseBrace)
 }
 
 /// A block in its braces.

@@ -7,7 +7,7 @@ ghost use Rattle.query_parser.specs.Reads.{Gives, Sees};
 
 use crate::expression::expression;
 use crate::halt::{Read, read};
-use crate::parts::{Part, separated};
+use crate::parts::{Part, bracketed};
 use crate::reader::{Reader, Role};
 use crate::word::{at_name, at_word};
 use marple_base::Seq;
@@ -23,13 +23,9 @@ const WITHIN_COLUMNS: u32 = MAX_NESTING - 2;
 pub fn filter(reader: &mut Reader<'_>) -> Read<(Name, Expr)>
     ensures { Gives result reader.old reader.new (filter_of Limited (expr_at Limited 63)) }
 {
-    read!(reader.keyword(Role::Plain, Word::Filter));
-    read!(reader.mark(Mark::OpenParen));
-    let input = read!(reader.name(Role::Plain));
-    read!(reader.mark(Mark::Comma));
+    let input = read!(reader.input(Word::Filter));
     let condition = read!(expression(reader, WITHIN_FILTER));
-    read!(reader.mark(Mark::CloseParen));
-    Ok((input, condition))
+    reader.closed((input, condition), Mark::CloseParen)
 }
 
 impl Part for Column {
@@ -48,27 +44,18 @@ impl Part for Column {
 pub fn mapping(reader: &mut Reader<'_>) -> Read<(Name, Seq<Column>)>
     ensures { Gives result reader.old reader.new (mapping_of Limited (expr_at Limited 62)) }
 {
-    read!(reader.keyword(Role::Plain, Word::Map));
-    read!(reader.mark(Mark::OpenParen));
-    let input = read!(reader.name(Role::Plain));
-    read!(reader.mark(Mark::Comma));
-    read!(reader.mark(Mark::OpenBracket));
-    let found = read!(separated(reader));
-    read!(reader.mark(Mark::CloseBracket));
-    read!(reader.mark(Mark::CloseParen));
-    Ok((input, found))
+    let input = read!(reader.input(Word::Map));
+    let found = read!(bracketed(reader));
+    reader.closed((input, found), Mark::CloseParen)
 }
 
 /// This word, and two names in parentheses.
 pub fn pairing(reader: &mut Reader<'_>, word: Word) -> Read<(Name, Name)>
     ensures { Sees result reader.old reader.new (pairing_of Limited (keyword_of word)) }
 {
-    read!(reader.keyword(Role::Plain, word));
-    read!(reader.mark(Mark::OpenParen));
-    let left = read!(reader.name(Role::Plain));
-    let right = read!(reader.comma_name());
-    read!(reader.mark(Mark::CloseParen));
-    Ok((left, right))
+    let left = read!(reader.input(word));
+    let right = read!(reader.name(Role::Plain));
+    reader.closed((left, right), Mark::CloseParen)
 }
 
 impl Part for Key {
@@ -89,16 +76,10 @@ impl Part for Key {
 pub fn group(reader: &mut Reader<'_>) -> Read<(Name, (Seq<Key>, Name))>
     ensures { Gives result reader.old reader.new (group_of Limited) }
 {
-    read!(reader.keyword(Role::Plain, Word::Groupby));
-    read!(reader.mark(Mark::OpenParen));
-    let input = read!(reader.name(Role::Plain));
-    read!(reader.mark(Mark::Comma));
-    read!(reader.mark(Mark::OpenBracket));
-    let found = read!(separated(reader));
-    read!(reader.mark(Mark::CloseBracket));
+    let input = read!(reader.input(Word::Groupby));
+    let found = read!(bracketed(reader));
     let fold = read!(reader.comma_name());
-    read!(reader.mark(Mark::CloseParen));
-    Ok((input, (found, fold)))
+    reader.closed((input, (found, fold)), Mark::CloseParen)
 }
 
 /// What makes a stream.
@@ -128,6 +109,5 @@ pub fn stream(reader: &mut Reader<'_>) -> Read<Item>
     let name = read!(reader.name(Role::Opening));
     read!(reader.mark(Mark::Assign));
     let op = read!(streaming(reader));
-    read!(reader.mark(Mark::Semicolon));
-    Ok(Item::Stream(StreamDef { name, op }))
+    reader.closed(Item::Stream(StreamDef { name, op }), Mark::Semicolon)
 }
