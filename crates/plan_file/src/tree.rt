@@ -63,31 +63,28 @@ fn is_if(word: Lexeme) -> bool
     matches!(word, Lexeme::If)
 }
 
-fn nodes_in(words: &[Lexeme]) -> usize
-    ensures { result ≡ count_by Trees.is_node words.now }
+// How many tokens begin an assignment, how many a choice, and how many are nodes of expressions.
+fn counted(words: &[Lexeme]) -> (usize, usize, usize)
+    ensures sets { result.0 ≡ count_by Trees.is_set words.now }
+    ensures ifs { result.1 ≡ count_by Trees.is_if words.now }
+    ensures nodes { result.2 ≡ count_by Trees.is_node words.now }
 {
-    words.iter().filter(|word| is_node(**word)).count()
-}
-
-fn sets_in(words: &[Lexeme]) -> usize
-    ensures { result ≡ count_by Trees.is_set words.now }
-{
-    words.iter().filter(|word| is_set(**word)).count()
-}
-
-fn ifs_in(words: &[Lexeme]) -> usize
-    ensures { result ≡ count_by Trees.is_if words.now }
-{
-    words.iter().filter(|word| is_if(**word)).count()
+    let mut sets: usize = 0;
+    let mut ifs: usize = 0;
+    let mut nodes: usize = 0;
+    for word in words {
+        sets += usize::from(is_set(*word));
+        ifs += usize::from(is_if(*word));
+        nodes += usize::from(is_node(*word));
+    }
+    (sets, ifs, nodes)
 }
 
 // Whether the statements that tokens write have at most the given nodes and statements.
 fn are_small(words: &[Lexeme], nodes: u32, statements: u32) -> bool
     ensures { IsTrue result ↔ AreSmall words.now nodes statements }
 {
-    let sets = sets_in(words);
-    let ifs = ifs_in(words);
-    let all = nodes_in(words);
+    let (sets, ifs, all) = counted(words);
     sets <= statements as usize && ifs <= statements as usize - sets && all <= nodes as usize + sets
 }
 
