@@ -7,7 +7,7 @@ use crate::Failed;
 use std::alloc::AllocError;
 
 /// Why a text isn't written whole: a write failed, or memory ran out while the text was made.
-#[derive(Clone, Copy, PartialEq, Eq)]
+#[derive(Clone, Copy)]
 pub enum WriteError {
     Failed,
     Memory,
