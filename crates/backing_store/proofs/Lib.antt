@@ -11,6 +11,7 @@ pub mod StableSorts
 pub mod SameRows
 pub mod SortedFacts
 pub mod PlaceFacts
+pub mod OrderedFacts
 pub mod DigitFacts
 pub mod LentFacts
 pub mod LawFacts

@@ -15,5 +15,6 @@ pub mod Digits
 pub mod LendingStates
 pub mod LendingRows
 pub mod StoreLaws
+pub mod Ordered
 pub mod Merged
 pub mod HeldRows

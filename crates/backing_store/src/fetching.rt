@@ -51,20 +51,20 @@ fn sum_of_keys(keys: &Keys, places: &[Place]) -> u64 {
     sum
 }
 
-/// Reads words of each of the next rows, once for so many of them, before they are added to those that are made one by one. To
-/// add a row takes so long that the words of the next one would be asked for only when its own have come; reads that follow one
-/// another wait together, first those of states, and then those of keys. The sum of what was
-/// read has to decide something, or nothing would be read: whether a little more memory is taken.
+/// Reads words of the row at a place of these and of the rows after it, once for so many of them, before rows are made of them
+/// one by one. To add a row takes so long that the words of the next one would be asked for only when its own have come; reads
+/// that follow one another wait together, first those of states, and then those of keys. The sum of what was read has to decide
+/// something, or nothing would be read: whether a little more memory is taken.
 pub fn fetch_next(
     made: &mut Rows,
     keys: &Keys,
     merged: &[Merged],
     states: &States,
     places: &[Place],
+    next: usize,
 ) -> Result<(), AllocError>
     ensures { made.new ≡ made.old }
 {
-    let next = made.len();
     if next % ROWS_AT_ONCE != 0 {
         return Ok(());
     }

@@ -1,10 +1,11 @@
 //! The store: keys with their numbers of epochs, and rows of state.
 
-ghost use Rattle.std.specs.Prelude.{◌≡◌, ◌<◌, ◌↔◌, ℕ, Some, option_map, slice_get, ◌++◌, ◌∷◌, [], IfOk, OnErr, OnOk, length, map, slice_index_or};
+ghost use Rattle.std.specs.Prelude.{◌≡◌, ◌<◌, ◌↔◌, ℕ, Some, option_map, slice_get, ◌++◌, ◌∷◌, [], All, IfOk, OnErr, OnOk, length, map, slice_index_or};
 ghost use Rattle.std.specs.List.{zip};
 ghost use Rattle.backing_store.specs.SortedRows.{IsMade, sorted_rows};
 ghost use Rattle.backing_store.specs.{Store.{AreOnce, AreRowsOf, IsLastRowOf, IsStore, counted, epochs_of, number_of}, Stored.stored};
-ghost use Rattle.backing_store.specs.{Places.{AreByKey, AreOfWidth}, RowOrder.{Ascends, first_word}};
+ghost use Rattle.backing_store.specs.{Ordered.{HasOneRowEach, IsPlaceOf, row_placed}, Places.{AreByKey, AreOfWidth}};
+ghost use Rattle.backing_store.specs.RowOrder.{Ascends, first_word};
 
 use crate::chains::Search;
 use crate::fetching::fetch_next;
@@ -14,6 +15,7 @@ use crate::states::States;
 use epoch_model::Mark;
 use std::alloc::{AllocError, Global};
 use std::marker::Model;
+use std::slice::from_ref;
 use table_rows::Rows;
 
 // An index of so many keys doesn't lie near.
@@ -44,6 +46,14 @@ impl Drop for BackingStore {
             states: _,
         } = self;
     }
+}
+
+/// A row of a store, lent: its key, how many epochs of the key were counted, and the words of its state.
+#[derive(Clone, Copy)]
+pub struct HeldRow<'a> {
+    pub key: &'a [u64],
+    pub epochs: u64,
+    pub state: &'a [u64],
 }
 
 // The key with a number, of which this is the first word. Where it has no other, it isn't read.
@@ -83,7 +93,8 @@ fn made_rows(
     let mut last = keys.len();
     let mut epoch = 0u64;
     for place in places {
-        fetch_next(&mut made, keys, merged.as_slice(), states, places)?;
+        let next = made.len();
+        fetch_next(&mut made, keys, merged.as_slice(), states, places, next)?;
         let of = place.of as usize;
         epoch = if of == last { epoch + 1 } else { 1 };
         last = of;
@@ -217,6 +228,49 @@ impl BackingStore {
     {
         let places = sorted_places(self.alloc, &self.keys, &self.states)?;
         made_rows(self.alloc, &self.keys, &self.merged, &self.states, &places)
+    }
+
+    /// The places of all rows, by ascending key.
+    pub fn order(&self) -> Result<Vec<Place>, AllocError>
+        ensures within { IfOk result (λ places. All (IsPlaceOf self.now) places.items) }
+        ensures rows { HasOneRowEach self.now → IfOk result (λ places. map (row_placed self.now) places.items ≡ sorted_rows self.now) }
+    {
+        sorted_places(self.alloc, &self.keys, &self.states)
+    }
+
+    /// The row at a place.
+    #[inline(always)]
+    pub fn row_at<'a>(&'a self, place: &'a Place) -> HeldRow<'a>
+        requires { IsPlaceOf self.now place.now }
+        ensures key { result.key.now ≡ (row_placed self.now place.now).key }
+        ensures epochs { result.epochs ≡ (row_placed self.now place.now).epochs }
+        ensures state { result.state.now ≡ (row_placed self.now place.now).values }
+    {
+        let of = place.of as usize;
+        HeldRow {
+            key: key_at(&self.keys, of, from_ref(&place.word)),
+            epochs: self.merged[of].epochs,
+            state: self.states.row(place.at as usize),
+        }
+    }
+
+    /// Has the words of the row at a place of these, and of some after it, read before they are needed one by one. It changes nothing.
+    pub fn read_rows_ahead(
+        &self,
+        made: &mut Rows,
+        places: &[Place],
+        next: usize,
+    ) -> Result<(), AllocError>
+        ensures { made.new ≡ made.old }
+    {
+        fetch_next(
+            made,
+            &self.keys,
+            self.merged.as_slice(),
+            &self.states,
+            places,
+            next,
+        )
     }
 
     /// A copy of the store, in separate memory.

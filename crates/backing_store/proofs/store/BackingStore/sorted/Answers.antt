@@ -1,30 +1,19 @@
 -- Rows made at places that are sorted by key are the sorted rows of the store.
-use Rattle.std.{proofs.{Common.{◌∙◌, subst}, lemmas.Result.IfOk-weaker}, specs.List.zip}
-use Rattle.backing_store.{specs.Store.AreRowsOf, proofs.{PlaceFacts.widths_of, SortedFacts.rows_sorted}}
-use Rattle.backing_store.proofs.ZipFacts.{length-zip, length-stored}
+use Rattle.std.proofs.lemmas.Result.{IfOk-weaker}
+use Rattle.backing_store.proofs.{OrderedFacts.{rows_are_kept, widths_are_kept}, SortedFacts.rows_sorted}
 use Rattle.backing_store.proofs.store.BackingStore.sorted.Goals as goal
 
 pub sorted_places-requires-clause-rows : goal.sorted_places-requires-clause-rows
-sorted_places-requires-clause-rows c =
-    let a = c.self.inside in
-    subst (λ n. AreRowsOf n a.states.width a.states.rows) (length-stored (zip a.keys.keys a.merged.items)
-    ∙ length-zip a.keys.keys a.merged.items c.self.invariant.many) c.self.invariant.whole.0.rows
+sorted_places-requires-clause-rows c = rows_are_kept c.self.invariant
 
 pub sorted_places-requires-clause-widths : goal.sorted_places-requires-clause-widths
-sorted_places-requires-clause-widths c =
-    let a = c.self.inside in
-    widths_of a.keys.keys a.merged.items a.keys.width c.self.invariant.many c.self.invariant.whole.0.keys
+sorted_places-requires-clause-widths c = widths_are_kept c.self.invariant
 
 pub made_rows-requires-clause-rows : goal.made_rows-requires-clause-rows
-made_rows-requires-clause-rows c =
-    let a = c.self.inside in
-    subst (λ n. AreRowsOf n a.states.width a.states.rows) (length-stored (zip a.keys.keys a.merged.items)
-    ∙ length-zip a.keys.keys a.merged.items c.self.invariant.many) c.self.invariant.whole.0.rows
+made_rows-requires-clause-rows c = rows_are_kept c.self.invariant
 
 pub made_rows-requires-clause-widths : goal.made_rows-requires-clause-widths
-made_rows-requires-clause-widths c =
-    let a = c.self.inside in
-    widths_of a.keys.keys a.merged.items a.keys.width c.self.invariant.many c.self.invariant.whole.0.keys
+made_rows-requires-clause-widths c = widths_are_kept c.self.invariant
 
 pub returns : goal.returns
 returns c =
