@@ -3,4 +3,11 @@ mod Emptied
 mod Prefixes
 mod Seen
 mod Standing
+mod WaitingFacts
+mod SortedEntries
 mod Lanes
+mod RowFacts
+mod NextRow
+mod Walking
+mod HeldOnce
+mod WholeWalk

@@ -6,7 +6,9 @@ mod keeping;
 mod lane;
 mod laws;
 mod merging;
+mod rows;
 mod tables;
+mod waiting;
 
 pub use laws::{row_lists_are_seen, views_end_the_trace};
 pub use tables::{view, view_lane};

@@ -8,13 +8,15 @@ ghost use Rattle.live_view.specs.Views.{all_epochs, tables_seen};
 
 use crate::keeping::keep_released;
 use crate::lane::full_store;
+use crate::rows::seen_rows;
+use crate::waiting::waiting_entries;
 use epoch_entry::{EpochKind, entries_are_small};
 use final_queries::Table;
 use marple_base::{Seq, Steps};
 use stage_plan::GroupPlan;
 use std::alloc::{AllocError, Global};
 use std::sync::ledger::Ledger;
-use switch_core::{Lane, Pipeline, held_table};
+use switch_core::{Lane, Pipeline, held_table, shown_table};
 
 /// The table that a lane would give for its groupby if the trace ended here: of its closed epochs, and of each open one as
 /// one more epoch. The lane is unchanged.
@@ -32,9 +34,13 @@ pub fn view_lane<K: EpochKind, const WAYS: usize, L: Ledger>(
     ensures steps { steps.old ≤ steps.new }
 {
     lane.invariant();
-    let store = full_store(alloc, lane, group.key_names.len(), steps)?;
-    let row_per_epoch = lane.kind().row_per_epoch();
-    held_table(alloc, group, &store, row_per_epoch)
+    let waiting = waiting_entries(alloc, lane, group.key_names.len())?;
+    if lane.kind().row_per_epoch() {
+        let store = full_store(alloc, lane, &waiting, steps)?;
+        return held_table(alloc, group, &store, true);
+    }
+    let shown = seen_rows(alloc, lane.kind(), lane.store(), &waiting, steps)?;
+    shown_table(alloc, group, shown)
 }
 
 /// One table for each groupby, in order: those that the pipeline would give if the trace ended here. It may be anywhere in

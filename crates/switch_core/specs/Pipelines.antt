@@ -3,6 +3,7 @@ use Rattle.std.specs.Prelude.{◌≡◌, ℕ, suc, ◌==◌, Bool, List, [], ◌
 use Rattle.fold_class.specs.Program.{IsProgramOf}
 use Rattle.query_lang.specs.declared.{fold.TypedFold.TypedFold, fault.TheConstants.{MAX_ARGS, MAX_KEYS}}
 use Rattle.epoch_model.specs.{Epochs.Geometry, Machine.{Machine, Event, run, empty_machine}, Tables.{Folding, epochs_shown}}
+use Rattle.epoch_model.specs.declared.tables.Row.{Row}
 use Rattle.epoch_model.specs.Driving.{event_of}
 use Rattle.epoch_entry.specs.{declared.purpose.Entries.Entries, Foldings.per_epoch, Kinds.Sizes, Purposes.IsKindFor}
 use Rattle.bucket_cache.specs.Caches.{Cache}
@@ -64,12 +65,17 @@ tables_of (group ∷ groups) (f ∷ foldings) (m ∷ machines) = closed_table (h
     ∷ tables_of groups foldings machines
 tables_of _ _ _ = []
 
--- the table of a store's rows, whatever they are folded from: a row for each of them, by ascending key
-abbrev pub stored_table : Heading → Bool → Store → Table
-stored_table heading row_per_epoch store = record {
+-- the table of these rows, which are for so many epochs
+abbrev pub shown_table : Heading → List Row → ℕ → Table
+shown_table heading rows epochs = record {
   name = heading.name;
   columns = heading.key_names ++ heading.state_names;
   keys = length heading.key_names;
-  kind = Group heading.class heading.depth (epochs_shown (sum_by (epochs_in row_per_epoch) (sorted_rows store)));
-  rows = map (shown_row row_per_epoch) (sorted_rows store);
+  kind = Group heading.class heading.depth epochs;
+  rows = rows;
 }
+
+-- the table of a store's rows, whatever they are folded from: a row for each of them, by ascending key
+abbrev pub stored_table : Heading → Bool → Store → Table
+stored_table heading row_per_epoch store = shown_table heading (map (shown_row row_per_epoch) (sorted_rows store))
+    (epochs_shown (sum_by (epochs_in row_per_epoch) (sorted_rows store)))

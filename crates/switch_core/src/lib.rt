@@ -21,5 +21,5 @@ pub use lane::Lane;
 pub use laws::tables_are_of_folds;
 pub use merging::merge_entry;
 pub use pipeline::Pipeline;
-pub use tables::held_table;
+pub use tables::{held_table, shown_table};
 pub use upkeep::{Upkeep, keep_up};

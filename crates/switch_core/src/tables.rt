@@ -5,12 +5,12 @@ ghost use Rattle.epoch_model.specs.{Machine.{Epoch, Machine}, Tables.Folding};
 ghost use Rattle.epoch_entry.specs.declared.purpose.Entries.{Entries};
 ghost use Rattle.backing_store.specs.Merged.{StoreHolds};
 ghost use Rattle.final_queries.specs.GroupTable.{closed_table};
-ghost use Rattle.switch_core.specs.{Rows.Each, Pipelines.{heading_of, stored_table, tables_of}};
+ghost use Rattle.switch_core.specs.{Rows.Each, Pipelines.{heading_of, shown_table, stored_table, tables_of}};
 ghost use Rattle.switch_core.specs.PlanLanes.{AreLanesOf, StandsFor, folding_at, lane_is_drained, stored_tables};
 
 use crate::closing::columns;
 use crate::lane::Lane;
-use backing_store::{BackingStore, rows_held};
+use backing_store::{BackingStore, ShownRows, rows_held};
 use epoch_entry::{AnyEpochs, EpochKind};
 use final_queries::{Table, TableKind};
 use marple_base::{Seq, Text};
@@ -40,12 +40,19 @@ pub fn held_table(
     ensures held { IfOk result (λ table. (f : Folding) (epochs : List Epoch)
         → f.row_per_epoch ≡ row_per_epoch → StoreHolds f store.now epochs → table ≡ closed_table (heading_of group.now) f epochs) }
 {
+    shown_table(alloc, group, rows_held(store, row_per_epoch)?)
+}
+
+/// The table of these rows, under the names of a groupby.
+pub fn shown_table(alloc: Global, group: &GroupPlan, shown: ShownRows) -> Result<Table, AllocError>
+    requires { length group.now.key_names ≤ MAX_KEYS }
+    ensures { IfOk result (λ table. table ≡ shown_table (heading_of group.now) shown.rows shown.epochs) }
+{
     let name = Text::from_slice(alloc, group.name.as_slice())?;
     let key_names = copied_texts(alloc, group.key_names.as_slice())?;
     let state_names = copied_texts(alloc, group.state_names.as_slice())?;
     let keys = group.key_names.len() as u8;
     let (class, depth) = (group.program.class, group.program.depth);
-    let shown = rows_held(store, row_per_epoch)?;
     Ok(Table {
         name,
         columns: columns(key_names, state_names)?,

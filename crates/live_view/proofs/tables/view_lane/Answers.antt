@@ -1,21 +1,27 @@
--- A store that holds all epochs of a lane gives the table that they close to.
-use Rattle.std.proofs.{Common.{sym, ap, ◌∙◌}, lemmas.Result.IfOk-weaker}
-use Rattle.live_view.specs.Views.{all_epochs}
-use Rattle.epoch_model.proofs.Endings.{no_value}
+-- A store that holds all epochs of a lane gives the table that they close to, and so do the rows that are seen of them.
+use Rattle.std.proofs.{Common.{◌≡◌, ◌++◌, take, sym, ap, ap₂, ◌∙◌, subst}, lemmas.Result.IfOk-weaker}
+use Rattle.epoch_model.specs.Tables.{closed_epochs, closed_rows}
+use Rattle.backing_store.specs.Merged.{StoreHolds}
+use Rattle.switch_core.specs.Pipelines.{heading_of, shown_table}
+use Rattle.live_view.{specs.{Views.all_epochs, Waiting.{EntriesStand, unmerged}}, proofs.SortedEntries.all_there}
 use Rattle.live_view.proofs.tables.view_lane.Goals as goal
-
-pub returns-in_err-store-clause-table : goal.returns-in_err-store-clause-table
-returns-in_err-store-clause-table g c = no_value c.from_residual.result _ c.from_residual.ensures.0
-
-pub returns-in_err-store-clause-steps : goal.returns-in_err-store-clause-steps
-returns-in_err-store-clause-steps g c = c.full_store.ensures.steps
 
 pub returns-clause-table : goal.returns-clause-table
 returns-clause-table g c =
-    let f = g.K.EpochKind.folding c.args.lane.now.kind in
-    let separate = sym (c.row_per_epoch-row_per_epoch.ensures ∙ ap (λ k. (g.K.EpochKind.folding k).row_per_epoch) c.kind.ensures) in
-    IfOk-weaker c.held_table.result _ _ (λ table made m s. made f (all_epochs m) separate (c.in_ok-store.ensures.holds m s))
-    c.held_table.ensures.held
-
-pub returns-clause-steps : goal.returns-clause-steps
-returns-clause-steps g c = c.full_store.ensures.steps
+    let lane = c.args.lane.now in
+    let waiting = c.in_ok-waiting.waiting in
+    let shown = c.in_ok-shown.shown in
+    let kind = c.kind-2.result.now in
+    let f = g.K.EpochKind.folding kind in
+    IfOk-weaker c.shown_table.result _ _ (λ table made m s.
+    let first = take m.merged m.closed in
+    let kept : StoreHolds f c.store.result.now first = subst (λ x. StoreHolds f x first) (sym c.store.ensures)
+    (subst (λ k. StoreHolds (g.K.EpochKind.folding k) lane.store first) (sym c.kind-2.ensures) s.kept) in
+    let stand : EntriesStand (g.K.EpochKind.stands kind) waiting (unmerged m) =
+    subst (λ k. EntriesStand (g.K.EpochKind.stands k) waiting (unmerged m)) (sym c.kind-2.ensures)
+    (c.in_ok-waiting.ensures.held m s.front) in
+    let seen = c.in_ok-shown.ensures.table first (unmerged m) kept stand in
+    let rows : shown.rows ≡ closed_rows (g.K.EpochKind.folding lane.kind) (all_epochs m) = seen.0 ∙ (ap (closed_rows f) (all_there m)
+    ∙ ap (λ k. closed_rows (g.K.EpochKind.folding k) (all_epochs m)) c.kind-2.ensures) in
+    let epochs : shown.epochs ≡ closed_epochs (all_epochs m) = seen.1 ∙ ap closed_epochs (all_there m) in
+    made ∙ ap₂ (shown_table (heading_of c.args.group.now)) rows epochs) c.shown_table.ensures
