@@ -1,5 +1,5 @@
 -- A store that holds all epochs of a lane gives the table that they close to, and so do the rows that are seen of them.
-use Rattle.std.proofs.{Common.{◌≡◌, ◌++◌, take, sym, ap, ap₂, ◌∙◌, subst}, lemmas.Result.IfOk-weaker}
+use Rattle.std.proofs.{Common.{◌≡◌, take, sym, ap, ap₂, ◌∙◌, subst}, lemmas.Result.IfOk-weaker}
 use Rattle.epoch_model.specs.Tables.{closed_epochs, closed_rows}
 use Rattle.backing_store.specs.Merged.{StoreHolds}
 use Rattle.switch_core.specs.Pipelines.{heading_of, shown_table}
