@@ -1,16 +1,18 @@
 -- The rows of a store in which all epochs of a key have one.
-use Rattle.std.proofs.Common.{◌≡◌, ◌≤◌, ◌<◌, ◌+◌, ℕ, zero, suc, Bool, true, false, List, [], ◌∷◌, ◌++◌, length, drop, map, get_or, refl, sym, ap, ◌∙◌, arith}
-use Rattle.std.proofs.lemmas.{Bool.true≢false, List.length-map}
+use Rattle.std.proofs.Common.{◌≡◌, ◌≤◌, ◌<◌, ◌+◌, ℕ, zero, suc, true, false, List, [], ◌∷◌, ◌++◌, length, drop, map, get_or, refl, sym, ap}
+use Rattle.std.proofs.{Common.{◌∙◌, arith}, lemmas.{Bool.true≢false, List.length-map}}
 use Rattle.std.specs.Prelude.{◌||◌, flat_map}
 use Rattle.epoch_model.specs.{declared.tables.{Mark.TheVariants.Plain, Row.Row}, Keys.{ArgRow, Key, ascending, has, key_eq}}
 use Rattle.epoch_model.specs.{Machine.{Epoch, lists_of}, Tables.{Folding, epochs_shown, folded}}
-use Rattle.epoch_model.proofs.{KeyLists.{by_test, key_eq-refl, key_eq-sym_false, key_eq-true}, KeyOrder.has-ascending}
-use Rattle.backing_store.specs.{Merged.{StoreHolds, stored}, Ordered.{HasOneRowEach, row_placed}, SortedRows.{numbered, sorted_rows, stored_rows}}
+use Rattle.epoch_model.proofs.{KeyLists.{by_test, key_eq-refl, key_eq-sym_false}, KeyOrder.has-ascending}
+use Rattle.backing_store.specs.{Merged.{StoreHolds, stored}, Ordered.{HasOneRowEach, row_placed}, SortedRows.{sorted_rows, stored_rows}}
+use Rattle.backing_store.specs.{Places.row_at, Store.{AreKeysOf, AreRowsOf, IsStore, Store, StoredKey, StoredRow, epochs_of}}
+use Rattle.backing_store.specs.{StoreLaws.keys_of, declared.order.Place.Place}
 use Rattle.live_view.proofs.NextRow.{has_rest}
-use Rattle.backing_store.specs.{Places.row_at, Store.{AreKeysOf, AreRowsOf, IsStore, Store, StoredKey, StoredRow, epochs_of, states_of}, StoreLaws.keys_of, declared.order.Place.Place}
 
 -- a key that is there has epochs, and one that isn't has none
-pub some_epochs : (words : ℕ) (keys : List StoredKey) (key : Key) → AreKeysOf words keys → has key (keys_of keys) ≡ true → 0 < epochs_of keys key
+pub some_epochs : (words : ℕ) (keys : List StoredKey) (key : Key) → AreKeysOf words keys → has key (keys_of keys) ≡ true
+    → 0 < epochs_of keys key
 some_epochs words [] key are there = absurd (true≢false (sym there))
 some_epochs words (s ∷ keys) key are there = by_test (key_eq key s.key)
     (λ same. rw same are.0.positive)
@@ -58,7 +60,8 @@ rows_singly G F (key ∷ keys) each =
     ap (λ rows. rows ++ flat_map G keys) (each key (ap (λ t. t || has key keys) (key_eq-refl key)))
     ∙ ap (λ rows. F key ∷ rows) (rows_singly G F keys (λ other there. each other (has_rest key other keys there)))
 
-pub once_each : (f : Folding) (store : Store) (closed : List Epoch) → f.row_per_epoch ≡ false → StoreHolds f store closed → HasOneRowEach store
+pub once_each : (f : Folding) (store : Store) (closed : List Epoch) → f.row_per_epoch ≡ false → StoreHolds f store closed
+    → HasOneRowEach store
 once_each f store closed per_key holds key = rw (holds.rows key) (few (lists_of key closed))
   where
     few : (lists : List (List ArgRow)) → length (stored f lists) ≤ 1

@@ -1,11 +1,11 @@
 -- The row of the next key among those that are left.
-use Rattle.std.proofs.Common.{◌≡◌, ◌≤◌, ◌<◌, ◌+◌, ℕ, zero, suc, Bool, true, false, List, [], ◌∷◌, ◌++◌, length, drop, refl, sym, ap, ◌∙◌, arith}
-use Rattle.std.proofs.{Common.{Some, append_assoc, length-append, fold, map}, lemmas.{Option.same_Some, List.Sums.{fold-append, sum_by-append, sum_by-cons}}}
-use Rattle.std.{proofs.lemmas.Grind.flat_map-append, specs.Prelude.{◌||◌, slice_get, option_map, flat_map, sum_by}}
-use Rattle.std.specs.declared.cmp.Ordering.{TheVariants.Less}
+use Rattle.std.proofs.Common.{◌≡◌, ◌<◌, ◌+◌, ℕ, zero, suc, Bool, true, false, List, [], ◌∷◌, ◌++◌, length, drop, refl, sym, ap, ◌∙◌, arith}
+use Rattle.std.proofs.{Common.{Some, append_assoc, length-append, fold}, lemmas.Option.same_Some}
+use Rattle.std.proofs.lemmas.{List.Sums.{fold-append, sum_by-append, sum_by-cons}, Grind.flat_map-append}
+use Rattle.std.specs.{Prelude.{◌||◌, slice_get, option_map, flat_map}, declared.cmp.Ordering.TheVariants.Less}
 use Rattle.epoch_model.specs.{declared.tables.{Mark.TheVariants.Exact, Row.Row}, Machine.{Epoch, lists_of}}
-use Rattle.epoch_model.specs.{Keys.{AreAbove, ArgRow, Key, ascending, has, key_cmp, key_eq}}
-use Rattle.epoch_model.specs.Tables.{Folding, closed_key_rows, closed_rows, epochs_shown, folded}
+use Rattle.epoch_model.specs.Keys.{AreAbove, ArgRow, Key, ascending, has, key_cmp, key_eq}
+use Rattle.epoch_model.specs.Tables.{Folding, closed_key_rows, epochs_shown, folded}
 use Rattle.epoch_model.proofs.{EpochLists.lists_of-append, KeyLists.{by_test, key_eq-refl, key_eq-true}}
 use Rattle.epoch_model.proofs.KeyOrder.{ascending-ascends, has-ascending, same_ascending}
 use Rattle.backing_store.specs.{SortedRows.{numbered, stored_rows}, Store.{Store, epochs_of, states_of}}
@@ -59,7 +59,8 @@ seen_more f epochs left rest key row rows counted now seen first one more =
     record {
       table = append_assoc rows (row ∷ []) (flat_map G (ascending rest)) ∙ ap (λ rs. rows ++ rs) own ∙ seen.table;
       count = more ∙ ap (λ n. epochs_shown (n + row.epochs)) seen.count
-          ∙ (let a = sum_by-append (λ (r : Row). r.epochs) rows (row ∷ []) in let b = sum_by-cons (λ (r : Row). r.epochs) row [] in omega arith);
+          ∙ (let a = sum_by-append (λ (r : Row). r.epochs) rows (row ∷ []) in
+          let b = sum_by-cons (λ (r : Row). r.epochs) row [] in omega arith);
     }
 
 -- the only row of a key: of its closed epochs and those after them
@@ -86,9 +87,11 @@ got_first [] (suc n) x rest is = cc is
 got_first (first ∷ xs) zero x rest is = let same : first ≡ x = cc is in ap Some same
 got_first (first ∷ xs) (suc n) x rest is = got_first xs n x rest is
 
-pub key_first : (store : Store) (key found : Key) (keys : List Key) (rows : List Row) (from : ℕ) → AreLeft store (key ∷ keys) (drop from rows)
+pub key_first : (store : Store) (key found : Key) (keys : List Key) (rows : List Row) (from : ℕ)
+    → AreLeft store (key ∷ keys) (drop from rows)
     → option_map (λ (row : Row). row.key) (slice_get rows from) ≡ Some found → found ≡ key
-key_first store key found keys rows from left is = at (states_of store key) (left.some key (ap (λ t. t || has key keys) (key_eq-refl key))) refl
+key_first store key found keys rows from left is =
+    at (states_of store key) (left.some key (ap (λ t. t || has key keys) (key_eq-refl key))) refl
   where
     at : (states : List (List ℕ)) → 0 < length states → states_of store key ≡ states → found ≡ key
     at [] some same = absurd (omega (arith, some))

@@ -1,6 +1,6 @@
 -- The rows of one key among those of a store by ascending key, and what their entries represent.
-use Rattle.std.proofs.Common.{◌≡◌, ◌≤◌, ◌<◌, ◌+◌, ◌-◌, ℕ, zero, suc, true, false, Some, None, List, [], ◌∷◌, ◌++◌, length, take, drop}
-use Rattle.std.proofs.{Common.{refl, sym, ap, ◌∙◌, subst, arith, append-nil}, lemmas.{Bool.true≢false, Option.same_Some}}
+use Rattle.std.proofs.Common.{◌≡◌, ◌≤◌, ◌<◌, ◌+◌, ◌-◌, ℕ, zero, suc, true, false, Some, None, List, [], ◌∷◌, ◌++◌, length, take, drop, refl}
+use Rattle.std.proofs.{Common.{sym, ap, ◌∙◌, subst, arith, append-nil}, lemmas.{Bool.true≢false, Option.same_Some}}
 use Rattle.std.proofs.lemmas.{Cmp.{nat_list_cmp_total, tied_itself}, List.{drop_all, take_all, Concat.flat_map-append, Sums.fold-append}}
 use Rattle.std.specs.Prelude.{slice_get, flat_map, fold, not, nat_eq, option_map, Bool, Option}
 use Rattle.std.specs.{declared.cmp.Ordering.TheVariants.{Less, Equal, Greater}, Ordering.nat_cmp}
@@ -254,7 +254,8 @@ pub between : {a b : ℕ} → a ≤ b → (a ≡ b → ⊥) → a < b
 between {a = a} {b = b} few other = below a b (λ past. other (omega (arith, few, past)))
 
 -- a place with a row of the key is passed
-pub there_within : (rows : List Row) (n : ℕ) (key : Key) → option_map (λ (row : Row). row.key) (slice_get rows n) ≡ Some key → n < length rows
+pub there_within : (rows : List Row) (n : ℕ) (key : Key) → option_map (λ (row : Row). row.key) (slice_get rows n) ≡ Some key
+    → n < length rows
 there_within [] n key is = cc is
 there_within (row ∷ rows) zero key is = omega arith
 there_within (row ∷ rows) (suc n) key is = omega (arith, there_within rows n key is)

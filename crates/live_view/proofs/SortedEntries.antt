@@ -1,15 +1,15 @@
 -- The rows of a store of entries, by ascending key: each stands for an epoch, and these epochs have the same row lists of each key.
 use Rattle.std.proofs.Common.{◌≡◌, ℕ, suc, ◌==◌, true, false, List, [], ◌∷◌, ◌++◌, length, map, refl, sym, ap, ap₂, ◌∙◌, subst, arith}
-use Rattle.std.proofs.lemmas.{Bool.false≢true, Cmp.{nat_list_cmp_total, tied_itself}, List.Elements.{All-append, All-cons, All-head}}
-use Rattle.std.proofs.lemmas.List.Elements.{All-nil, All-tail}
-use Rattle.std.{proofs.Common.{append-nil, append_assoc, drop, take, take-append-drop}, specs.{List.flat_map, Ordering.{is_gt, is_lt}, Prelude.{All, ◌||◌}}}
-use Rattle.std.specs.declared.cmp.Ordering.TheVariants.{Less}
+use Rattle.std.proofs.{Common.{append-nil, append_assoc, drop, take, take-append-drop}, lemmas.Bool.false≢true}
+use Rattle.std.proofs.lemmas.{Cmp.{nat_list_cmp_total, tied_itself}, List.Elements.{All-append, All-cons, All-head, All-nil, All-tail}}
+use Rattle.std.specs.{List.flat_map, Ordering.{is_gt, is_lt}, Prelude.{All, ◌||◌}, declared.cmp.Ordering.TheVariants.Less}
 use Rattle.epoch_model.specs.{declared.tables.Row.Row, Keys.{AreAbove, ArgRow, IsAscending, Key, ascending, has, key_cmp, key_eq, with_key}}
 use Rattle.epoch_model.specs.{Machine.{Epoch, Machine, lists_of}, Tables.{Folding, epochs_shown}}
 use Rattle.epoch_model.proofs.{EpochLists.lists_of-append, KeyLists.{absent_head, key_eq-refl, key_eq-sym_false, key_eq-true}}
 use Rattle.epoch_model.proofs.KeyOrder.{ascending-ascends, has-ascending}
 use Rattle.backing_store.specs.{Merged.{StoreHolds, stored}, SortedRows.{numbered, sorted_rows, stored_rows}, StoreLaws.keys_of}
-use Rattle.backing_store.specs.Store.{AreKeysOf, AreRowsOf, IsStore, Store, StoredKey, StoredRow, epochs_of, number_of, states_at, states_of}
+use Rattle.backing_store.specs.Store.{AreKeysOf, AreRowsOf, IsStore, Store, StoredKey, StoredRow, epochs_of, number_of, states_at}
+use Rattle.backing_store.specs.Store.{states_of}
 use Rattle.switch_core.specs.Lanes.{Standing}
 use Rattle.live_view.specs.{Merging.IsEntryOf, Views.{all_epochs, open_epochs}, Waiting.{EachStands, EntriesStand, RowsStand, unmerged}}
 use Rattle.live_view.proofs.Lists.{by_test}
@@ -50,7 +50,8 @@ keys_stand : (stands : Standing) (store : Store) (epochs : List Epoch) (keys : L
     → RowsStand stands (flat_map (stored_rows store) keys) (by_key epochs keys)
 keys_stand stands store epochs [] held = tt
 keys_stand stands store epochs (key ∷ keys) held =
-    both_stand stands (stored_rows store key) (flat_map (stored_rows store) keys) (epochs_with key (lists_of key epochs)) (by_key epochs keys)
+    both_stand stands (stored_rows store key) (flat_map (stored_rows store) keys)
+    (epochs_with key (lists_of key epochs)) (by_key epochs keys)
     (key_stands stands key (epochs_of store.keys key) 1 (states_of store key) (lists_of key epochs) (held.rows key))
     (keys_stand stands store epochs keys held)
 
@@ -117,7 +118,8 @@ same_lists stands store epochs key held =
     ∙ sym (no_lists (lists_of key epochs) (sym (not_counted key store.keys t) ∙ held.count key)))
 
 -- Epochs that have the same row lists of each key are held alike, after others.
-pub held_alike : (f : Folding) (store : Store) (closed epochs others : List Epoch) → ((key : Key) → lists_of key epochs ≡ lists_of key others)
+pub held_alike : (f : Folding) (store : Store) (closed epochs others : List Epoch)
+    → ((key : Key) → lists_of key epochs ≡ lists_of key others)
     → StoreHolds f store (closed ++ epochs) → StoreHolds f store (closed ++ others)
 held_alike f store closed epochs others same held = record {
   count = λ key. held.count key ∙ ap (λ lists. epochs_shown (length lists)) (alike key);
@@ -137,7 +139,8 @@ all_there m = sym (append_assoc (take m.merged m.closed) (drop m.merged m.closed
 
 all_keys : (words : ℕ) (keys : List StoredKey) → AreKeysOf words keys → All (λ key. length key ≡ words) (keys_of keys)
 all_keys words [] are = All-nil (λ (key : Key). length key ≡ words)
-all_keys words (first ∷ keys) are = All-cons (λ (key : Key). length key ≡ words) first.key (keys_of keys) are.0.size (all_keys words keys are.1)
+all_keys words (first ∷ keys) are =
+    All-cons (λ (key : Key). length key ≡ words) first.key (keys_of keys) are.0.size (all_keys words keys are.1)
 
 all_with : (P : Key → Type 0) (key : Key) (keys : List Key) → P key → All P keys → All P (with_key key keys)
 all_with P key [] p all = All-cons P key [] p all

@@ -1,11 +1,13 @@
 -- A store of entries after one entry more, and the rows that stand for epochs one after another.
-use Rattle.std.proofs.Common.{◌≡◌, ℕ, zero, suc, ◌+◌, ◌<◌, true, false, List, [], ◌∷◌, ◌++◌, Some, length, take, refl, sym, ap, ◌∙◌, subst, arith}
-use Rattle.std.{proofs.Common.length-append, specs.Prelude.slice_get}
+use Rattle.std.proofs.Common.{◌≡◌, ℕ, zero, suc, ◌+◌, true, List, [], ◌∷◌, ◌++◌, Some, length, take, refl, sym, ap, ◌∙◌, subst, arith}
+use Rattle.std.proofs.Common.{length-append}
+use Rattle.std.specs.Prelude.{slice_get}
 use Rattle.epoch_model.specs.{declared.tables.Row.Row, Keys.{ArgRow, Key, key_eq}, Machine.{Epoch, lists_of}, Tables.epochs_shown}
 use Rattle.epoch_model.proofs.EpochLists.{lists_of-append}
 use Rattle.backing_store.specs.{Store.{IsStore, Store, counted, one_more, states_of}, StoreLaws.{EpochsAreCounted, RowsAreAdded}}
 use Rattle.switch_core.specs.Lanes.{Standing}
-use Rattle.live_view.{specs.Waiting.{EachStands, EntriesStand, RowsStand}, proofs.Lists.by_test}
+use Rattle.live_view.specs.Waiting.{EachStands, EntriesStand, RowsStand}
+use Rattle.live_view.proofs.Lists.{by_test}
 
 each_more : (stands : Standing) (entries : List (List ℕ)) (lists : List (List ArgRow)) (entry : List ℕ) (rows : List ArgRow)
     → EachStands stands entries lists → stands entry rows → EachStands stands (entries ++ entry ∷ []) (lists ++ rows ∷ [])

@@ -1,15 +1,16 @@
 -- The steps of a walk through the keys of a store and those of the entries after it.
-use Rattle.std.proofs.Common.{◌≡◌, ◌≤◌, ◌<◌, ◌+◌, ℕ, zero, suc, Bool, true, false, List, [], ◌∷◌, ◌++◌, length, drop, refl, sym, ap, ◌∙◌, arith}
-use Rattle.std.proofs.{Common.{fold, subst}, lemmas.{Bool.true≢false, Cmp.{nat_list_cmp_total, tied_itself}}}
-use Rattle.std.specs.{Prelude.{◌||◌, flat_map}, Ordering.{is_lt, ordering_reverse}, declared.cmp.Ordering.{Ordering, TheVariants.{Less, Equal, Greater}}}
+use Rattle.std.proofs.Common.{◌≡◌, ◌<◌, ◌+◌, ℕ, Bool, true, false, List, [], ◌∷◌, ◌++◌, length, refl, sym, ap, ◌∙◌, arith, subst}
+use Rattle.std.proofs.lemmas.{Bool.true≢false, Cmp.{nat_list_cmp_total, tied_itself}}
+use Rattle.std.specs.{Prelude.{◌||◌, flat_map}, Ordering.{is_lt, ordering_reverse}}
+use Rattle.std.specs.declared.cmp.Ordering.TheVariants.{Less, Equal, Greater}
 use Rattle.epoch_model.specs.{declared.tables.Row.Row, Machine.{Epoch, lists_of}}
 use Rattle.epoch_model.specs.Keys.{AreAbove, IsAscending, Key, ascending, has, key_cmp, key_eq}
-use Rattle.epoch_model.specs.Tables.{Folding, closed_key_rows, epochs_shown, folded}
+use Rattle.epoch_model.specs.Tables.{Folding, closed_key_rows, epochs_shown}
 use Rattle.epoch_model.proofs.KeyLists.{by_test, key_eq-refl, key_eq-true}
 use Rattle.epoch_model.proofs.KeyOrder.{ascending-ascends, equal_keys, has-ascending, same_ascending}
 use Rattle.backing_store.specs.{SortedRows.{numbered, stored_rows}, Store.{Store, epochs_of, states_of}}
 use Rattle.live_view.specs.Seen.{AreLeft, AreSeen, IsWalk, first_compared}
-use Rattle.live_view.proofs.NextRow.{above_both, all_above, has_rest, least_first, only_row, seen_more}
+use Rattle.live_view.proofs.NextRow.{above_both, all_above, has_rest, least_first, seen_more}
 
 less_than : (a b c : Key) → key_cmp a b ≡ Less → key_cmp b c ≡ Less → key_cmp a c ≡ Less
 unfolding key_cmp
@@ -63,7 +64,8 @@ moved key other mains keys = has-append other mains (key ∷ keys) ∙ swap (has
     swap false b c = refl
 
 once : (key other : Key) (mains keys : List Key) → has other ((key ∷ mains) ++ key ∷ keys) ≡ has other (key ∷ mains ++ keys)
-once key other mains keys = ap (λ t. key_eq key other || t) (moved key other mains keys) ∙ idem (key_eq key other) (has other (mains ++ keys))
+once key other mains keys = ap (λ t. key_eq key other || t) (moved key other mains keys)
+    ∙ idem (key_eq key other) (has other (mains ++ keys))
   where
     idem : (a b : Bool) → (a || (a || b)) ≡ (a || b)
     idem true b = refl
@@ -190,4 +192,5 @@ no_left entries (key ∷ keys) are = at (states_of entries key) (are.some key (a
     at : (states : List (List ℕ)) → 0 < length states → states_of entries key ≡ states → key ∷ keys ≡ []
     at [] some same = absurd (omega (arith, some))
     at (state ∷ states) some same =
-        let none = are.are ∙ ap (λ ss. numbered key (epochs_of entries.keys key) 1 ss ++ flat_map (stored_rows entries) keys) same in cc none
+        let none = are.are ∙ ap (λ ss. numbered key (epochs_of entries.keys key) 1 ss ++ flat_map (stored_rows entries) keys) same in
+        cc none

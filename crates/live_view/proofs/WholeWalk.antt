@@ -1,5 +1,5 @@
 -- A walk begins with all keys left and nothing seen, and where no key is left the table is whole.
-use Rattle.std.proofs.Common.{◌≡◌, ◌≤◌, ◌<◌, ◌+◌, ℕ, Bool, true, false, List, [], ◌∷◌, ◌++◌, length, map, refl, sym, ap, ap₂, ◌∙◌, arith, append-nil}
+use Rattle.std.proofs.Common.{◌≡◌, ◌<◌, ◌+◌, ℕ, true, false, List, [], ◌∷◌, ◌++◌, length, map, refl, sym, ap, ap₂, ◌∙◌, arith, append-nil}
 use Rattle.std.proofs.lemmas.{Bool.true≢false, List.{map-append, Sums.{sum_by-append, sum_by-cons}}}
 use Rattle.std.specs.Prelude.{◌||◌, flat_map, sum_by}
 use Rattle.epoch_model.specs.{declared.tables.Row.Row, Keys.{Key, ascending, has, key_eq}, Machine.{Epoch, lists_of}}
@@ -8,7 +8,7 @@ use Rattle.epoch_model.proofs.{EpochLists.lists_of-absent, KeyLists.by_test, Key
 use Rattle.backing_store.specs.{Merged.StoreHolds, SortedRows.sorted_rows, StoreLaws.keys_of}
 use Rattle.backing_store.specs.Store.{AreKeysOf, IsStore, Store, StoredKey, epochs_of, states_of}
 use Rattle.switch_core.specs.Lanes.{Standing}
-use Rattle.live_view.specs.{Seen.{AreLeft, AreSeen, IsWalk}, Waiting.EntriesStand}
+use Rattle.live_view.specs.{Seen.{AreSeen, IsWalk}, Waiting.EntriesStand}
 use Rattle.live_view.proofs.{HeldOnce.{absent_lists, no_epochs, no_lists, some_epochs, some_lists}, NextRow.each_long, Walking.has-append}
 
 abbrev keys_in : List Epoch → List Key

@@ -1,7 +1,6 @@
 -- What merging works with.
 use Rattle.std.specs.Prelude.{◌≡◌, ℕ, List, length}
-use Rattle.epoch_model.specs.declared.tables.Row.{Row}
-use Rattle.epoch_model.specs.Tables.{Folding}
+use Rattle.epoch_model.specs.{declared.tables.Row.Row, Tables.Folding}
 use Rattle.epoch_entry.specs.Kinds.{Sizes}
 use Rattle.backing_store.specs.Store.{Store}
 

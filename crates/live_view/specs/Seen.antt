@@ -1,5 +1,6 @@
 -- The rows of a view, as they are made key by key.
-use Rattle.std.specs.{Prelude.{◌≡◌, ◌<◌, ℕ, true, false, List, [], ◌∷◌, ◌++◌, flat_map, length, sum_by}, declared.cmp.Ordering.{Ordering, TheVariants.Greater}}
+use Rattle.std.specs.{Prelude.{◌≡◌, ◌<◌, ℕ, true, false, List, [], ◌∷◌, ◌++◌, flat_map, length, sum_by}, declared.cmp.Ordering.Ordering}
+use Rattle.std.specs.declared.cmp.Ordering.TheVariants.{Greater}
 use Rattle.epoch_model.specs.{declared.tables.Row.Row, Keys.{IsAscending, Key, ascending, has, key_cmp}, Machine.{Epoch, lists_of}}
 use Rattle.epoch_model.specs.Tables.{Folding, closed_key_rows, closed_rows, epochs_shown}
 use Rattle.backing_store.specs.{SortedRows.stored_rows, Store.{Store, states_of}}
@@ -15,10 +16,10 @@ pub record AreSeen (f : Folding) (epochs : List Epoch) (left : List Key) (rows :
   pub table : rows ++ flat_map (closed_key_rows f epochs) (ascending left) ≡ closed_rows f epochs
   pub count : counted ≡ epochs_shown (sum_by (λ row. row.epochs) rows)
 
--- A walk through the keys that are left of a store, and those that are left of the entries after it: the rows so far are seen, and a key that
--- is left on one side alone has epochs on that side alone.
-pub record IsWalk (f : Folding) (closed unmerged : List Epoch) (entries : Store) (mains keys : List Key) (rest rows : List Row) (counted : ℕ)
-    : Type 0 where
+-- A walk through the keys that are left of a store, and those that are left of the entries after it: the rows so far are seen, and a
+-- key that is left on one side alone has epochs on that side alone.
+pub record IsWalk (f : Folding) (closed unmerged : List Epoch) (entries : Store) (mains keys : List Key) (rest rows : List Row)
+    (counted : ℕ) : Type 0 where
   pub left : AreLeft entries keys rest
   pub up : IsAscending mains
   pub new : (key : Key) → has key keys ≡ true → has key mains ≡ false → lists_of key closed ≡ []

@@ -1,9 +1,11 @@
 //! The rows of a view, where each key has one: those of a store by ascending key, with the entries of each key merged.
 
-ghost use Rattle.std.specs.Prelude.{◌≡◌, ◌+◌, ◌<◌, ◌≤◌, false, List, [], ◌∷◌, ◌++◌, All, drop, flat_map, fold, length, map, option_map, slice_get, Some, IfOk, OnOk};
-ghost use Rattle.epoch_model.specs.{declared.tables.Mark.TheVariants.Exact, Keys.{AreAbove, ArgRow, Key, ascending}, Machine.{Epoch, lists_of}};
-ghost use Rattle.epoch_model.specs.Tables.{closed_epochs, closed_rows, epochs_shown, folded};
-ghost use Rattle.backing_store.specs.{Merged.StoreHolds, Ordered.{IsPlaceOf, row_placed}, SortedRows.sorted_rows, Store.{Store, states_of}, StoreLaws.keys_of};
+ghost use Rattle.std.specs.Prelude.{◌≡◌, ◌+◌, ◌<◌, ◌≤◌, false, List, [], ◌∷◌, ◌++◌, All, drop, flat_map, fold, length, map, option_map};
+ghost use Rattle.std.specs.Prelude.{slice_get, Some, IfOk, OnOk};
+ghost use Rattle.epoch_model.specs.{declared.tables.Mark.TheVariants.Exact, Keys.{AreAbove, ArgRow, Key, ascending}};
+ghost use Rattle.epoch_model.specs.{Machine.{Epoch, lists_of}, Tables.{closed_epochs, closed_rows, epochs_shown, folded}};
+ghost use Rattle.backing_store.specs.{Merged.StoreHolds, Ordered.{IsPlaceOf, row_placed}, SortedRows.sorted_rows};
+ghost use Rattle.backing_store.specs.{Store.{Store, states_of}, StoreLaws.keys_of};
 ghost use Rattle.live_view.specs.{Seen.{AreLeft, AreSeen, IsWalk, first_compared}, Waiting.{EachStands, EntriesStand}};
 
 use backing_store::{BackingStore, Place, ShownRows};
@@ -154,7 +156,8 @@ fn push_all<K: EpochKind, L: Ledger>(
     ensures seen { OnOk result ((closed unmerged : List Epoch) (waiting : Store) (keys : List Key)
         → StoreHolds (K.folding kind.now) store.now closed → map (row_placed store.now) places.now ≡ sorted_rows store.now
         → EntriesStand (K.stands kind.now) waiting unmerged
-        → IsWalk (K.folding kind.now) closed unmerged waiting (ascending (keys_of store.now.keys)) keys entries.now shown.old.rows shown.old.epochs
+        → IsWalk (K.folding kind.now) closed unmerged waiting (ascending (keys_of store.now.keys)) keys entries.now
+        shown.old.rows shown.old.epochs
         → AreSeen (K.folding kind.now) (closed ++ unmerged) [] shown.new.rows shown.new.epochs) }
     ensures steps { steps.old ≤ steps.new }
 {

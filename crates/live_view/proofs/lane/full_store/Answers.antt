@@ -1,5 +1,6 @@
 -- A copy of the lane's store, with the rows of the waiting entries merged, holds all epochs.
-use Rattle.std.{proofs.Common.{◌≡◌, ◌++◌, take, sym, ap, ◌∙◌, subst}, specs.Prelude.All}
+use Rattle.std.proofs.Common.{◌≡◌, ◌++◌, take, sym, ap, ◌∙◌, subst}
+use Rattle.std.specs.Prelude.{All}
 use Rattle.backing_store.specs.{Merged.StoreHolds, SortedRows.sorted_rows}
 use Rattle.switch_core.specs.Lanes.{LaneStands}
 use Rattle.live_view.specs.{Merging.IsEntryOf, Views.all_epochs, Waiting.{EntriesStand, RowsStand, unmerged}}
@@ -28,7 +29,8 @@ returns-clause-holds g c m s held =
     let all : StoreHolds f store (first ++ unmerged m) =
     held_alike f store first order (unmerged m) (λ key. same_lists stands waiting (unmerged m) key stand)
     (c.in_ok-merge_entries.ensures.held order first rows kept) in
-    subst (λ k. StoreHolds (g.K.EpochKind.folding k) store (all_epochs m)) c.kind-kind.ensures (subst (StoreHolds f store) (all_there m) all)
+    subst (λ k. StoreHolds (g.K.EpochKind.folding k) store (all_epochs m)) c.kind-kind.ensures
+    (subst (StoreHolds f store) (all_there m) all)
 
 pub merge_entries-requires-clause-rows : goal.merge_entries-requires-clause-rows
 merge_entries-requires-clause-rows g c =

@@ -1,8 +1,8 @@
 -- The first of the entries that are left is of the first of the keys.
-use Rattle.std.proofs.Common.{◌∙◌, subst, arith}
-use Rattle.std.proofs.lemmas.List.{drop_all}
+use Rattle.std.proofs.{Common.{◌∙◌, subst, arith}, lemmas.List.drop_all}
 use Rattle.epoch_model.specs.Keys.{key_cmp}
-use Rattle.live_view.{specs.Seen.AreLeft, proofs.RowFacts.{first_there, none_is}}
+use Rattle.live_view.specs.Seen.{AreLeft}
+use Rattle.live_view.proofs.RowFacts.{first_there, none_is}
 use Rattle.live_view.proofs.rows.compare.Goals as goal
 
 pub returns-then-at-len-clause-order : goal.returns-then-at-len-clause-order

@@ -1,9 +1,10 @@
 -- The rows of the key are those from the place on to the first of another key.
-use Rattle.std.proofs.Common.{◌≡◌, ◌+◌, ◌-◌, length, sym, ◌∙◌, arith}
-use Rattle.std.proofs.lemmas.Bool.{true≢false}
+use Rattle.std.proofs.{Common.{◌≡◌, ◌+◌, ◌-◌, length, sym, ◌∙◌, arith}, lemmas.Bool.true≢false}
 use Rattle.backing_store.specs.Store.{states_of}
-use Rattle.table_rows.{specs.LentRows.row_of, proofs.LentFacts.holds_at}
-use Rattle.live_view.proofs.RowFacts.{goes_on, there_within, row_passed, list_merged, ends_apart, ends_past, left_after, all_merged, tells_same, tells_apart}
+use Rattle.table_rows.specs.LentRows.{row_of}
+use Rattle.table_rows.proofs.LentFacts.{holds_at}
+use Rattle.live_view.proofs.RowFacts.{goes_on, there_within, row_passed, list_merged, ends_apart, ends_past, left_after, all_merged}
+use Rattle.live_view.proofs.RowFacts.{tells_same, tells_apart}
 use Rattle.live_view.proofs.rows.merge_key.Goals as goal
 
 pub returns-then-ne-clause-left : goal.returns-then-ne-clause-left

@@ -3,7 +3,8 @@ use Rattle.std.proofs.Common.{◌≡◌, ◌≤◌, ◌-◌, List, ◌∷◌, le
 use Rattle.std.specs.Prelude.{flat_map, fold}
 use Rattle.epoch_model.specs.Keys.{ArgRow, Key}
 use Rattle.backing_store.specs.Store.{Store, states_of}
-use Rattle.live_view.{specs.{Seen.AreLeft, Waiting.EachStands}, proofs.RowFacts.AreOfKey}
+use Rattle.live_view.specs.{Seen.AreLeft, Waiting.EachStands}
+use Rattle.live_view.proofs.RowFacts.{AreOfKey}
 use Rattle.live_view.proofs.rows.merge_key.Given as goal
 
 abbrev pub invariant-loop-next : goal.invariant-loop-next

@@ -1,10 +1,10 @@
 -- Each turn adds the row of the least key that is left: of the store alone, of the entries alone, or of both.
-use Rattle.std.proofs.Common.{◌≡◌, ◌+◌, ◌<◌, ◌≤◌, ◌++◌, [], ◌∷◌, ◌∙◌, ap, ap₂, arith, drop, get_or, length, refl, subst, sym, take}
+use Rattle.std.proofs.Common.{◌≡◌, ◌+◌, ◌<◌, ◌≤◌, ◌++◌, [], ◌∷◌, ◌∙◌, ap, ap₂, arith, drop, length, refl, subst, sym}
 use Rattle.std.proofs.lemmas.List.{drop_all, length-drop}
 use Rattle.std.specs.declared.cmp.Ordering.TheVariants.{Less, Equal, Greater}
 use Rattle.epoch_model.specs.Keys.{ascending}
 use Rattle.backing_store.specs.StoreLaws.{keys_of}
-use Rattle.live_view.specs.Seen.{AreLeft, AreSeen, IsWalk, first_compared}
+use Rattle.live_view.specs.Seen.{AreLeft, AreSeen, IsWalk}
 use Rattle.live_view.proofs.{HeldOnce.{as_many, place_held, row_words}, NextRow.only_row, RowFacts.{below, between}}
 use Rattle.live_view.proofs.Walking.{both_turn, first_alone, first_less, new_turn, no_left, old_turn}
 use Rattle.live_view.proofs.rows.push_all.Goals as goal
@@ -65,14 +65,16 @@ loop-at-preserved-in-Less g c =
       walk = λ closed unmerged waiting keys holds same stand first.
           let here = c.loop-at.invariant.walk closed unmerged waiting keys holds same stand first in
           let is = place_held f store closed c.requires.per_key c.invariant.ensures holds c.args.places.now c.loop-at.at _ held.key.now
-          held.epochs held.state.now same (between c.loop-at.invariant.at c.if-at-places-2.false) c.row_at-held.ensures.key c.row_at-held.ensures.epochs c.row_at-held.ensures.state in
+          held.epochs held.state.now same (between c.loop-at.invariant.at c.if-at-places-2.false) c.row_at-held.ensures.key
+          c.row_at-held.ensures.epochs c.row_at-held.ensures.state in
           let order = sym (c.compare.ensures.order waiting here.0 here.1.left) ∙ c.in-Less.is in
           let walk = subst (λ ms. IsWalk f closed unmerged waiting ms here.0 (drop c.loop-at.next c.args.entries.now) c.loop-at.shown.rows
           c.loop-at.shown.epochs) is.next here.1 in
-          rw is.next (new_turn walk (first_less held.key.now (drop (c.loop-at.at + 1) (ascending (keys_of store.keys))) here.0 walk.up order)
+          let later = drop (c.loop-at.at + 1) (ascending (keys_of store.keys)) in
+          rw is.next (new_turn walk (first_less held.key.now later here.0 walk.up order)
           (λ key keys left absent above seen.
           c.in_ok-next-in-Less.ensures.seen closed unmerged waiting key
-          (held.key.now ∷ drop (c.loop-at.at + 1) (ascending (keys_of store.keys))) keys stand left (rw absent refl) (rw absent c.requires.initial.0) above
+          (held.key.now ∷ later) keys stand left (rw absent refl) (rw absent c.requires.initial.0) above
           (rw (c.read_rows_ahead.ensures) seen)));
       words = c.in_ok-next-in-Less.ensures.words ∙ c.loop-at.invariant.words;
       scratch = c.in_ok-next-in-Less.ensures.scratch ∙ c.loop-at.invariant.scratch;
@@ -90,12 +92,14 @@ loop-at-preserved-in-Equal g c =
       walk = λ closed unmerged waiting keys holds same stand first.
           let here = c.loop-at.invariant.walk closed unmerged waiting keys holds same stand first in
           let is = place_held f store closed c.requires.per_key c.invariant.ensures holds c.args.places.now c.loop-at.at _ held.key.now
-          held.epochs held.state.now same (between c.loop-at.invariant.at c.if-at-places-2.false) c.row_at-held.ensures.key c.row_at-held.ensures.epochs c.row_at-held.ensures.state in
+          held.epochs held.state.now same (between c.loop-at.invariant.at c.if-at-places-2.false) c.row_at-held.ensures.key
+          c.row_at-held.ensures.epochs c.row_at-held.ensures.state in
           let order = sym (c.compare.ensures.order waiting here.0 here.1.left) ∙ c.in-Equal.is in
           let walk = subst (λ ms. IsWalk f closed unmerged waiting ms here.0 (drop c.loop-at.next c.args.entries.now) c.loop-at.shown.rows
           c.loop-at.shown.epochs) is.next here.1 in
           both_turn walk order (λ keys left above seen.
-          c.in_ok-next-in-Equal.ensures.seen closed unmerged waiting held.key.now (drop (c.loop-at.at + 1) (ascending (keys_of store.keys))) keys stand left is.many is.state above
+          c.in_ok-next-in-Equal.ensures.seen closed unmerged waiting held.key.now
+          (drop (c.loop-at.at + 1) (ascending (keys_of store.keys))) keys stand left is.many is.state above
           (rw (c.read_rows_ahead.ensures) seen));
       words = c.in_ok-next-in-Equal.ensures.words ∙ c.loop-at.invariant.words;
       scratch = c.in_ok-next-in-Equal.ensures.scratch ∙ c.loop-at.invariant.scratch;
@@ -113,12 +117,14 @@ loop-at-preserved g c =
       walk = λ closed unmerged waiting keys holds same stand first.
           let here = c.loop-at.invariant.walk closed unmerged waiting keys holds same stand first in
           let is = place_held f store closed c.requires.per_key c.invariant.ensures holds c.args.places.now c.loop-at.at _ held.key.now
-          held.epochs held.state.now same (between c.loop-at.invariant.at c.if-at-places-2.false) c.row_at-held.ensures.key c.row_at-held.ensures.epochs c.row_at-held.ensures.state in
+          held.epochs held.state.now same (between c.loop-at.invariant.at c.if-at-places-2.false) c.row_at-held.ensures.key
+          c.row_at-held.ensures.epochs c.row_at-held.ensures.state in
           let order = sym (c.compare.ensures.order waiting here.0 here.1.left) ∙ c.in-Greater.is in
           let walk = subst (λ ms. IsWalk f closed unmerged waiting ms here.0 (drop c.loop-at.next c.args.entries.now) c.loop-at.shown.rows
           c.loop-at.shown.epochs) is.next here.1 in
           rw (c.in_ok-push_row-in-Greater.ensures.rows, c.read_rows_ahead.ensures) (old_turn walk order
-          (λ absent. only_row f closed unmerged held.key.now held.epochs held.state.now c.requires.per_key (omega (arith, is.many, ap length absent))
+          (λ absent. only_row f closed unmerged held.key.now held.epochs held.state.now c.requires.per_key
+          (omega (arith, is.many, ap length absent))
           (rw absent is.state)) c.in_ok-push_row-in-Greater.ensures.epochs);
       words = c.loop-at.invariant.words;
       scratch = c.loop-at.invariant.scratch;
@@ -138,4 +144,5 @@ returns-clause-seen g c closed unmerged waiting keys holds same stand first =
       past,
     )) in
     let left = no_left waiting here.0 (subst (AreLeft waiting here.0) (drop_all c.loop-at.next c.args.entries.now all) here.1.left) in
-    subst (λ ks. AreSeen f (closed ++ unmerged) ks c.loop-at.shown.rows c.loop-at.shown.epochs) (ap₂ (λ xs ys. xs ++ ys) none left) here.1.seen
+    subst (λ ks. AreSeen f (closed ++ unmerged) ks c.loop-at.shown.rows c.loop-at.shown.epochs)
+    (ap₂ (λ xs ys. xs ++ ys) none left) here.1.seen

@@ -1,5 +1,5 @@
 -- The row of the least key that is left is pushed: its entries, one for each of its list of rows, are merged into its state before.
-use Rattle.std.proofs.Common.{◌≡◌, ◌+◌, ◌++◌, ◌∷◌, [], ◌∙◌, ap, arith, drop, flat_map, fold, length, refl, subst, sym}
+use Rattle.std.proofs.Common.{◌≡◌, ◌+◌, ◌++◌, ◌∷◌, ◌∙◌, ap, arith, drop, flat_map, fold, length, refl, subst, sym}
 use Rattle.epoch_model.specs.{Machine.lists_of, Tables.{epochs_shown, folded}}
 use Rattle.backing_store.specs.Store.{states_of}
 use Rattle.live_view.specs.{Seen.AreLeft, Waiting.EachStands}

@@ -1,5 +1,5 @@
 -- A walk through all keys of the store and of the entries gives the whole table.
-use Rattle.std.proofs.Common.{◌≡◌, ◌++◌, ◌∙◌, ap, map}
+use Rattle.std.proofs.Common.{◌++◌, ◌∙◌, ap, map}
 use Rattle.epoch_model.specs.Keys.{ascending}
 use Rattle.backing_store.specs.{Ordered.row_placed, StoreLaws.keys_of}
 use Rattle.live_view.proofs.{HeldOnce.once_each, SortedEntries.are_entries, WholeWalk.{walk_begins, walk_ends}}

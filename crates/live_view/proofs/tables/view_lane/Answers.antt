@@ -3,7 +3,8 @@ use Rattle.std.proofs.{Common.{◌≡◌, take, sym, ap, ap₂, ◌∙◌, subst
 use Rattle.epoch_model.specs.Tables.{closed_epochs, closed_rows}
 use Rattle.backing_store.specs.Merged.{StoreHolds}
 use Rattle.switch_core.specs.Pipelines.{heading_of, shown_table}
-use Rattle.live_view.{specs.{Views.all_epochs, Waiting.{EntriesStand, unmerged}}, proofs.SortedEntries.all_there}
+use Rattle.live_view.specs.{Views.all_epochs, Waiting.{EntriesStand, unmerged}}
+use Rattle.live_view.proofs.SortedEntries.{all_there}
 use Rattle.live_view.proofs.tables.view_lane.Goals as goal
 
 pub returns-clause-table : goal.returns-clause-table

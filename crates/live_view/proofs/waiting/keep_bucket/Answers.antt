@@ -77,4 +77,5 @@ pub returns-clause-held : goal.returns-clause-held
 returns-clause-held g c opened epochs stand holds =
     let stands = g.K.EpochKind.stands c.args.kind.now in
     let end : c.loop-i.i ≡ 0 = omega arith in
-    subst (λ n. EntriesStand stands c.loop-i.store (epochs ++ reverse (drop n opened))) end (c.loop-i.invariant.held opened epochs stand holds)
+    subst (λ n. EntriesStand stands c.loop-i.store (epochs ++ reverse (drop n opened))) end
+    (c.loop-i.invariant.held opened epochs stand holds)

@@ -27,5 +27,6 @@ returns-clause-held g c m epochs stand holds =
     let bucket = c.loop-bucket.bucket in
     let all : length m.recent ≡ bucket = let a = c.loop-bucket-test.false in let b = c.loop-bucket.auto.bucket-end in let n =
     c.buckets-bucket-end.ensures.number in let s = stand.buckets in omega arith in
-    subst (λ rs. EntriesStand stands c.loop-bucket.store (epochs ++ flat_map (λ es. reverse es) rs)) (take_all bucket m.recent (omega arith))
+    subst (λ rs. EntriesStand stands c.loop-bucket.store (epochs ++ flat_map (λ es. reverse es) rs))
+    (take_all bucket m.recent (omega arith))
     (c.loop-bucket.invariant.held m epochs stand holds)

@@ -1,5 +1,6 @@
 use Rattle.std.proofs.Common.{[], ◌∷◌, ◌++◌, sym, subst}
-use Rattle.live_view.{specs.Waiting.EntriesStand, proofs.WaitingFacts.one_entry_more}
+use Rattle.live_view.specs.Waiting.{EntriesStand}
+use Rattle.live_view.proofs.WaitingFacts.{one_entry_more}
 use Rattle.live_view.proofs.waiting.keep_entry.Goals as goal
 
 pub returns-clause-held : goal.returns-clause-held
