@@ -230,10 +230,9 @@ pub(crate) fn seen_rows<K: EpochKind, L: Ledger>(
         rows: Rows::new(alloc),
         epochs: 0,
     };
-    shown.rows.reserve(
-        places.len().saturating_add(entries.len()),
-        places.len().saturating_mul(2),
-    )?;
+    let most = places.len().saturating_add(entries.len());
+    let words = kind.state_words().saturating_add(1);
+    shown.rows.reserve(most, most.saturating_mul(words))?;
     push_all(
         kind,
         &mut shown,
