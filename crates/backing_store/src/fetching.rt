@@ -51,10 +51,28 @@ fn sum_of_keys(keys: &Keys, places: &[Place]) -> u64 {
     sum
 }
 
+// Reads words of the rows at the first of these places, so many of them.
+#[inline(never)]
+fn fetch_few(
+    made: &mut Rows,
+    keys: &Keys,
+    merged: &[Merged],
+    states: &States,
+    places: &[Place],
+) -> Result<(), AllocError>
+    ensures { made.new ≡ made.old }
+{
+    let few = &places[..places.len().min(ROWS_AT_ONCE)];
+    let sum = sum_of_states(merged, states, few).wrapping_add(sum_of_keys(keys, few));
+    let more = if sum == 0 { 1 } else { 0 };
+    made.reserve(0, more)
+}
+
 /// Reads words of the row at a place of these and of the rows after it, once for so many of them, before rows are made of them
 /// one by one. To add a row takes so long that the words of the next one would be asked for only when its own have come; reads
 /// that follow one another wait together, first those of states, and then those of keys. The sum of what was read has to decide
 /// something, or nothing would be read: whether a little more memory is taken.
+#[inline(always)]
 pub fn fetch_next(
     made: &mut Rows,
     keys: &Keys,
@@ -71,9 +89,5 @@ pub fn fetch_next(
     if next >= places.len() {
         return Ok(());
     }
-    let rest = &places[next..];
-    let few = &rest[..rest.len().min(ROWS_AT_ONCE)];
-    let sum = sum_of_states(merged, states, few).wrapping_add(sum_of_keys(keys, few));
-    let more = if sum == 0 { 1 } else { 0 };
-    made.reserve(0, more)
+    fetch_few(made, keys, merged, states, &places[next..])
 }

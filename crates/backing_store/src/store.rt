@@ -255,6 +255,7 @@ impl BackingStore {
     }
 
     /// Has the words of the row at a place of these, and of some after it, read before they are needed one by one. It changes nothing.
+    #[inline(always)]
     pub fn read_rows_ahead(
         &self,
         made: &mut Rows,

@@ -1,6 +1,6 @@
 -- The rows of one key among those of a store by ascending key, and what their entries represent.
 use Rattle.std.proofs.Common.{◌≡◌, ◌≤◌, ◌<◌, ◌+◌, ◌-◌, ℕ, zero, suc, true, false, Some, None, List, [], ◌∷◌, ◌++◌, length, take, drop, refl}
-use Rattle.std.proofs.{Common.{sym, ap, ◌∙◌, subst, arith, append-nil}, lemmas.{Bool.true≢false, Option.same_Some}}
+use Rattle.std.proofs.{Common.{sym, ap, ◌∙◌, subst, arith, append-nil}, lemmas.{Bool.{le-ltb, ne_eqb, true≢false}, Option.same_Some}}
 use Rattle.std.proofs.lemmas.{Cmp.{nat_list_cmp_total, tied_itself}, List.{drop_all, take_all, Concat.flat_map-append, Sums.fold-append}}
 use Rattle.std.specs.Prelude.{slice_get, flat_map, fold, not, nat_eq, option_map, Bool, Option}
 use Rattle.std.specs.{declared.cmp.Ordering.TheVariants.{Less, Equal, Greater}, Ordering.nat_cmp}
@@ -9,7 +9,7 @@ use Rattle.epoch_model.specs.{declared.tables.Row.Row, Keys.{AreAbove, ArgRow, K
 use Rattle.epoch_model.proofs.KeyLists.{by_test, key_eq-refl, key_eq-true}
 use Rattle.backing_store.specs.{SortedRows.{numbered, stored_rows}, Store.{Store, epochs_of, states_of}}
 use Rattle.switch_core.specs.Lanes.{Standing}
-use Rattle.live_view.specs.{Seen.{AreLeft, first_compared}, Waiting.EachStands}
+use Rattle.live_view.specs.{Seen.{AreLeft, BeginsAt, first_compared}, Waiting.EachStands}
 
 -- the element at a place is the first of those from there on
 drop_there : {A : Type 0} (xs : List A) (n : ℕ) (x : A) → slice_get xs n ≡ Some x → drop n xs ≡ x ∷ drop (suc n) xs
@@ -243,6 +243,24 @@ first_there store keys entries at first key got left = of (slice_get entries at)
     of (Some row) is got =
         ap (λ k. key_cmp k key) (sym (same_Some _ _ got))
         ∙ first_is store keys row (drop (suc at) entries) key (subst (AreLeft store keys) (drop_there entries at row is) left)
+
+-- the keys that are left begin with the one that is there
+pub begins_there : (store : Store) (keys : List Key) (entries : List Row) (at least : ℕ) (first : Key)
+    → option_map (λ row. row.key) (slice_get entries at) ≡ Some first → slice_get first 0 ≡ Some least
+    → AreLeft store keys (drop at entries) → BeginsAt keys least
+unfolding key_cmp
+begins_there store keys entries at least [] got begins left word rest less = absurd (cc begins)
+begins_there store keys entries at least (first ∷ others) got begins left word rest less =
+    let same : first ≡ least = same_Some _ _ begins in
+    sym (first_there store keys entries at (first ∷ others) (word ∷ rest) got left)
+    ∙ rw (le-ltb first word (omega (arith, same, less)), ne_eqb first word (λ e. omega (arith, same, less, e))) refl
+
+-- a key with a smaller first word comes before them
+pub comes_before : (keys : List Key) (least word : ℕ) (key : Key) → BeginsAt keys least → slice_get key 0 ≡ Some word → word < least
+    → Greater ≡ first_compared keys key
+comes_before keys least word [] begins is less = absurd (cc is)
+comes_before keys least word (first ∷ rest) begins is less =
+    let same : first ≡ word = same_Some _ _ is in sym (begins first rest (omega (arith, same, less)))
 
 pub below : (a b : ℕ) → (b ≤ a → ⊥) → a < b
 below zero zero past = absurd (past (omega arith))

@@ -30,3 +30,7 @@ pub record IsWalk (f : Folding) (closed unmerged : List Epoch) (entries : Store)
 abbrev pub first_compared : List Key → Key → Ordering
 first_compared [] key = Greater
 first_compared (first ∷ keys) key = key_cmp first key
+
+-- these keys begin with the one whose first word this is: a key whose first word is smaller comes before them
+abbrev pub BeginsAt : List Key → ℕ → Type 0
+BeginsAt keys least = (word : ℕ) (rest : Key) → word < least → first_compared keys (word ∷ rest) ≡ Greater

@@ -6,7 +6,7 @@ ghost use Rattle.epoch_model.specs.{declared.tables.Mark.TheVariants.Exact, Keys
 ghost use Rattle.epoch_model.specs.{Machine.{Epoch, lists_of}, Tables.{closed_epochs, closed_rows, epochs_shown, folded}};
 ghost use Rattle.backing_store.specs.{Merged.StoreHolds, Ordered.{IsPlaceOf, row_placed}, SortedRows.sorted_rows};
 ghost use Rattle.backing_store.specs.{Store.{Store, states_of}, StoreLaws.keys_of};
-ghost use Rattle.live_view.specs.{Seen.{AreLeft, AreSeen, IsWalk, first_compared}, Waiting.{EachStands, EntriesStand}};
+ghost use Rattle.live_view.specs.{Seen.{AreLeft, AreSeen, BeginsAt, IsWalk, first_compared}, Waiting.{EachStands, EntriesStand}};
 
 use backing_store::{BackingStore, Place, ShownRows};
 use epoch_entry::EpochKind;
@@ -37,6 +37,29 @@ fn push_row(
     shown.rows.push(key, Mark::Exact, 0, epochs, state)?;
     shown.epochs = shown.epochs.saturating_add(epochs);
     Ok(())
+}
+
+// The entry that comes next: its place, and the first word of its key. That is 0 where the key has none, and the greatest word where no
+// entry is left.
+#[derive(Clone, Copy)]
+struct Next {
+    at: usize,
+    word: u64,
+}
+
+// The entry at a place as the next one.
+fn next_at(entries: &Rows, at: usize) -> Next
+    ensures at { result.at ≡ at }
+    ensures least { (store : Store) (keys : List Key) → AreLeft store keys (drop at entries.now) → BeginsAt keys result.word }
+{
+    if at >= entries.len() {
+        return Next { at, word: u64::MAX };
+    }
+    let word = match entries.key(at).first() {
+        Some(word) => *word,
+        None => 0,
+    };
+    Next { at, word }
 }
 
 // Merges the entries of a key, from a place on, into a state, and returns the place after them.
@@ -78,7 +101,7 @@ fn merge_key<K: EpochKind, L: Ledger>(
 }
 
 // Adds the row of the key whose entries begin at a place, with these merged into the key's state before, which is that of so many
-// epochs, and returns the place after them.
+// epochs, and returns the entry after them.
 fn push_merged<K: EpochKind, L: Ledger>(
     kind: &K,
     shown: &mut ShownRows,
@@ -89,14 +112,16 @@ fn push_merged<K: EpochKind, L: Ledger>(
     state: &mut [u64],
     scratch: &mut [u64],
     steps: &mut Steps<L>,
-) -> Result<usize, AllocError>
+) -> Result<Next, AllocError>
     requires per_key { (K.folding kind.now).row_per_epoch ≡ false }
     requires from { from < length entries.now }
     requires entries { All (λ row. length row.values ≡ (K.sizes kind.now).entry) entries.now }
     requires before { length before.now ≡ (K.sizes kind.now).state }
     requires state { length state.old ≡ (K.sizes kind.now).state }
     requires scratch { length scratch.old ≡ (K.sizes kind.now).scratch }
-    ensures within { IfOk result (λ next. (from < next) × (next ≤ length entries.now)) }
+    ensures within { IfOk result (λ next. (from < next.at) × (next.at ≤ length entries.now)) }
+    ensures least { IfOk result (λ next. (store : Store) (keys : List Key) → AreLeft store keys (drop next.at entries.now)
+        → BeginsAt keys next.word) }
     ensures seen { IfOk result (λ next. (closed unmerged : List Epoch) (store : Store) (key : Key) (mains keys : List Key)
         → EntriesStand (K.stands kind.now) store unmerged → AreLeft store (key ∷ keys) (drop from entries.now)
         → epochs ≡ epochs_shown (length (lists_of key closed))
@@ -104,7 +129,7 @@ fn push_merged<K: EpochKind, L: Ledger>(
         → AreAbove key mains
         → AreSeen (K.folding kind.now) (closed ++ unmerged) (key ∷ mains ++ keys) shown.old.rows shown.old.epochs
         → AreSeen (K.folding kind.now) (closed ++ unmerged) (mains ++ keys) shown.new.rows shown.new.epochs
-        × AreLeft store keys (drop next entries.now)) }
+        × AreLeft store keys (drop next.at entries.now)) }
     ensures words { length state.new ≡ length state.old }
     ensures scratch { length scratch.new ≡ length scratch.old }
     ensures steps { steps.old ≤ steps.new }
@@ -118,19 +143,21 @@ fn push_merged<K: EpochKind, L: Ledger>(
         epochs.saturating_add((next - from) as u64),
         state,
     )?;
-    Ok(next)
+    Ok(next_at(entries, next))
 }
 
-// How the key of the entry at a place compares with a key: it is greater where there is no such entry.
+// How the key of the next entry compares with a key: it is greater where no entry is left. Mostly its first word decides.
 #[inline(always)]
-fn compare(entries: &Rows, at: usize, key: &[u64]) -> Ordering
-    ensures order { (store : Store) (keys : List Key) → AreLeft store keys (drop at entries.now) → result ≡ first_compared keys key.now }
-    ensures past { length entries.now ≤ at → result ≡ Ordering.Greater }
+fn compare(entries: &Rows, next: Next, key: &[u64]) -> Ordering
+    requires least { (store : Store) (keys : List Key) → AreLeft store keys (drop next.at entries.now) → BeginsAt keys next.word }
+    ensures order { (store : Store) (keys : List Key)
+        → AreLeft store keys (drop next.at entries.now) → result ≡ first_compared keys key.now }
+    ensures past { length entries.now ≤ next.at → result ≡ Ordering.Greater }
 {
-    if at < entries.len() {
-        entries.key(at).cmp(key)
-    } else {
-        Ordering::Greater
+    match key.first() {
+        Some(word) if *word < next.word => Ordering::Greater,
+        _ if next.at < entries.len() => entries.key(next.at).cmp(key),
+        _ => Ordering::Greater,
     }
 }
 
@@ -163,12 +190,12 @@ fn push_all<K: EpochKind, L: Ledger>(
 {
     store.invariant();
     let mut at = 0;
-    let mut next = 0;
-    while at < places.len() || next < entries.len() {
+    let mut next = next_at(entries, 0);
+    while at < places.len() || next.at < entries.len() {
         store.read_rows_ahead(&mut shown.rows, places, at)?;
         if at == places.len() {
             next = push_merged(
-                kind, shown, entries, next, 0, initial, state, scratch, steps,
+                kind, shown, entries, next.at, 0, initial, state, scratch, steps,
             )?;
             continue;
         }
@@ -176,7 +203,7 @@ fn push_all<K: EpochKind, L: Ledger>(
         match compare(entries, next, held.key) {
             Ordering::Less => {
                 next = push_merged(
-                    kind, shown, entries, next, 0, initial, state, scratch, steps,
+                    kind, shown, entries, next.at, 0, initial, state, scratch, steps,
                 )?;
             }
             Ordering::Equal => {
@@ -184,7 +211,7 @@ fn push_all<K: EpochKind, L: Ledger>(
                     kind,
                     shown,
                     entries,
-                    next,
+                    next.at,
                     held.epochs,
                     held.state,
                     state,

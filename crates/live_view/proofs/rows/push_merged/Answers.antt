@@ -22,7 +22,7 @@ returns-clause-seen g c closed unmerged store key mains keys stand left counted 
     let values : c.merge_key-next.new.state ≡ fold f.step (folded f (flat_map (λ rows. rows) (lists_of key closed)))
     (flat_map (λ rows. rows) lists) =
     merged ∙ ap (λ s. fold f.step s (flat_map (λ rows. rows) lists)) (c.copy_from_slice.ensures.after ∙ before) in
-    rw (c.in_ok-push_row.ensures.rows, is) (
+    rw (c.in_ok-push_row.ensures.rows, is, c.next_at.ensures.at) (
       seen_more f (closed ++ unmerged) (key ∷ mains ++ keys) (mains ++ keys) key _ c.args.shown.now.rows c.args.shown.now.epochs
           c.push_row.new.shown.epochs seen
           (least_first key (key ∷ mains ++ keys) (mains ++ keys) (λ other. refl) (above_both key mains keys above left.up.0))
