@@ -5,7 +5,7 @@ from __future__ import annotations
 import csv
 import heapq
 from pathlib import Path
-from typing import Dict, List, NamedTuple
+from typing import Dict, List, NamedTuple, Set
 
 from building.crates import Crate
 
@@ -13,8 +13,6 @@ from building.crates import Crate
 SECONDS_FOR_A_CRATE = 15.0
 SECONDS_FOR_A_KILOBYTE = 1.2
 MEGABYTES = 2500
-# What of a proof its jobs don't share: reading the crate and those below, and putting together what they proved.
-NOT_SHARED = 0.2
 # The table counts as much as this many seconds that were measured on this machine.
 TRUST_IN_TABLE = 60.0
 
@@ -56,52 +54,31 @@ def pace(table: float, measured: float) -> float:
     return (measured + TRUST_IN_TABLE) / (table + TRUST_IN_TABLE)
 
 
-def clock_seconds(seconds: float, jobs: int) -> float:
-    """Returns about how long a proof of this many seconds of processor time takes with this many jobs."""
-    return seconds * (NOT_SHARED + (1 - NOT_SHARED) / jobs)
-
-
 def still_to_go(whole: float, elapsed: float) -> float:
     """Returns what is left of a proof that should take so long. One that takes longer has a tenth of its time still to go."""
     return max(whole - elapsed, elapsed / 10)
 
 
-def jobs_of(chain: float, work: float, places: int, ready: int, idle: int) -> int:
-    """Returns the jobs for the crate that is begun next, the first of those that are ready, where this many places are idle.
-
-    A crate has its chain's part of all places, as long as the chain is compared with all work that isn't begun,
-    this crate's included: with one job a long chain would be at work alone in the end. And it has no fewer than its share of the
-    places that nothing else can use now.
-    """
-    return max(min(round(places * chain / work), idle), idle // ready, 1)
-
-
 def seconds_to_go(
-    order: List[Crate], costs: Dict[str, Cost], left: Dict[str, float], running: Dict[str, int], places: int
+    order: List[Crate], costs: Dict[str, Cost], left: Dict[str, float], running: Set[str], places: int
 ) -> float:
     """Returns when the last crate is done if those that are running go on and the others follow as ./build begins them.
 
-    left has what each crate that isn't done still takes on this machine: seconds of clock where it is running, of processor time
-    where it isn't begun. running has the jobs of those that run.
+    left has the seconds that each crate that isn't done still takes on this machine.
     """
     chain_of = chains(order, {it.name: Cost(left.get(it.name, 0.0), 0) for it in order})
     crates = {it.name: it for it in order}
     done = {it for it in crates if it not in left}
-    ends = [(left[it], it, jobs) for it, jobs in running.items()]
+    ends = [(left[it], it) for it in running]
     heapq.heapify(ends)
     waiting = [it for it in left if it not in running]
     now = 0.0
     while waiting or ends:
         ready = sorted((it for it in waiting if done.issuperset(crates[it].crates)), key=lambda it: -chain_of[it])
-        idle = places - sum(jobs for _, _, jobs in ends)
-        while ready and idle > 0:
-            first = ready[0]
-            jobs = jobs_of(chain_of[first], sum(left[it] for it in waiting), places, len(ready), idle)
-            heapq.heappush(ends, (now + clock_seconds(left[first], jobs), first, jobs))
-            ready.remove(first)
-            waiting.remove(first)
-            idle -= jobs
-        now, ended, _ = heapq.heappop(ends)
+        for it in ready[: places - len(ends)]:
+            heapq.heappush(ends, (now + left[it], it))
+            waiting.remove(it)
+        now, ended = heapq.heappop(ends)
         done.add(ended)
     return now
 

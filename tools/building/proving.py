@@ -12,7 +12,7 @@ from dataclasses import dataclass
 from typing import IO, Dict, List, Set
 
 from building.crates import Crate, digest, digests, with_those_below
-from building.estimate import Cost, chains, clock_seconds, jobs_of, pace, seconds_to_go, still_to_go, time_to_go
+from building.estimate import Cost, chains, pace, seconds_to_go, still_to_go, time_to_go
 from building.machine import Machine
 from building.progress import Progress
 from building.proved import is_proved, write_record
@@ -20,8 +20,6 @@ from building.toolchain import KEPT, Toolchain, below
 
 LIBC = ctypes.CDLL(None)
 PARENT_DEATH_SIGNAL = 1
-# What each further job of a proof takes of memory.
-MEGABYTES_FOR_A_JOB = 1200
 # A proof that is asked to end has this many seconds, and is then killed.
 SECONDS_TO_END = 5.0
 
@@ -36,7 +34,6 @@ class Proof:
 
     crate: Crate
     process: "subprocess.Popen[bytes]"
-    jobs: int
     began: float
 
 
@@ -90,17 +87,13 @@ class Proving:
 
     def begin_ready(self) -> None:
         ready = self.ready()
-        idle = self.machine.processors - sum(it.jobs for it in self.running)
-        while ready and idle > 0:
-            crate = ready[0]
-            room = self.machine.megabytes - sum(self.megabytes(it.crate, it.jobs) for it in self.running)
-            is_held_up = self.megabytes(crate, 1) > room or crate.name in self.alone
+        while ready and len(self.running) < self.machine.processors:
+            crate = ready.pop(0)
+            room = self.machine.megabytes - sum(self.costs[it.crate.name].megabytes for it in self.running)
+            is_held_up = self.costs[crate.name].megabytes > room or crate.name in self.alone
             if self.running and (is_held_up or self.running[0].crate.name in self.alone):
                 return
-            jobs = self.jobs(crate, len(ready), idle, room)
-            self.begin(crate, jobs)
-            ready.remove(crate)
-            idle -= jobs
+            self.begin(crate)
 
     def ready(self) -> List[Crate]:
         """Returns the crates that could be begun, the longest chain first."""
@@ -111,28 +104,15 @@ class Proving:
         begun = self.done | {it.crate.name for it in self.running}
         return [it for it in self.order if it.name not in begun]
 
-    def jobs(self, crate: Crate, ready: int, idle: int, room: int) -> int:
-        """Returns the jobs of the crate that is begun next, as far as memory goes."""
-        if crate.name in self.alone:
-            return 1
-        work = sum(self.costs[it.name].seconds for it in self.waiting())
-        cost = self.costs[crate.name]
-        wanted = jobs_of(self.chains[crate.name], work, self.machine.processors, ready, idle)
-        by_memory = 1 + max(room - cost.megabytes, 0) // MEGABYTES_FOR_A_JOB
-        return min(wanted, by_memory)
-
-    def megabytes(self, crate: Crate, jobs: int) -> int:
-        return self.costs[crate.name].megabytes + MEGABYTES_FOR_A_JOB * (jobs - 1)
-
-    def begin(self, crate: Crate, jobs: int) -> None:
+    def begin(self, crate: Crate) -> None:
         out = crate.folder / "out"
         shutil.rmtree(crate.folder / KEPT, ignore_errors=True)
         (crate.folder / KEPT).mkdir(parents=True)
-        words = self.toolchain.proof(crate, below(crate, self.order), jobs)
+        words = self.toolchain.proof(crate, below(crate, self.order))
         with open(out / "build.log", "wb") as log:
             process = self.command(words, crate, log)
-        self.running.append(Proof(crate, process, jobs, time.monotonic()))
-        self.progress.line(f"{self.so_far()}: begun {crate.name}" + f" with {jobs} jobs" * (jobs > 1))
+        self.running.append(Proof(crate, process, time.monotonic()))
+        self.progress.line(f"{self.so_far()}: begun {crate.name}")
 
     def command(self, words: List[str], crate: Crate, log: IO[bytes]) -> "subprocess.Popen[bytes]":
         # a separate session: what a terminal sends reaches this build alone, which then ends all that it began
@@ -169,7 +149,7 @@ class Proving:
             raise Failed(f"the sources of {crate.name} changed while it was proved: call ./build again")
         self.keep(crate)
         self.done.add(crate.name)
-        self.table_seconds += clock_seconds(self.costs[crate.name].seconds, proof.jobs)
+        self.table_seconds += self.costs[crate.name].seconds
         self.measured_seconds += seconds
         taken = f"{seconds:.0f} s, {processor:.0f} s of processor time, {megabytes} MB"
         self.progress.line(f"{self.so_far()}: proved {crate.name} in {taken}")
@@ -207,7 +187,7 @@ class Proving:
 
     def seconds_to_go(self) -> float:
         elapsed = {it: time.monotonic() - it.began for it in self.running}
-        whole = {it: clock_seconds(self.costs[it.crate.name].seconds, it.jobs) for it in self.running}
+        whole = {it: self.costs[it.crate.name].seconds for it in self.running}
         # what takes longer than the table says counts before it is done
         late = [it for it in self.running if elapsed[it] > whole[it]]
         speed = pace(
@@ -216,7 +196,7 @@ class Proving:
         left = {it.name: speed * self.costs[it.name].seconds for it in self.waiting()}
         for it in self.running:
             left[it.crate.name] = still_to_go(speed * whole[it], elapsed[it])
-        running = {it.crate.name: it.jobs for it in self.running}
+        running = {it.crate.name for it in self.running}
         return seconds_to_go(self.order, self.costs, left, running, self.machine.processors)
 
     def log_end(self, crate: Crate, lines: int = 15) -> str:

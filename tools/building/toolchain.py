@@ -55,8 +55,11 @@ class Toolchain:
                 "`rt all check`, and then `rt run` in crates/marple, prove and build the program too"
             )
 
-    def proof(self, crate: Crate, below: List[Crate], jobs: int) -> List[str]:
-        """Returns the command that proves the crate and, only then, writes its library or its object file."""
+    def proof(self, crate: Crate, below: List[Crate]) -> List[str]:
+        """Returns the command that proves the crate and, only then, writes its library or its object file.
+
+        It has one job: each further one takes an eighth of the processor time more, and other crates have the places.
+        """
         words = [f"{self.folder}/bin/rattle", "build", "--crate-name", crate.name, crate.root]
         for name in ("std", *crate.libraries):
             words += ["--extern", f"{name}={self.folder}/rlibs/{name}.rlib"]
@@ -68,17 +71,17 @@ class Toolchain:
             words += ["-L", f"dependency={it.folder}/{KEPT}"]
         words += ["--antt-project", f"{self.folder}/rattle/logic/antt-project.json"]
         # with no label: the crate is refused if it calls C itself
-        words += ["--logic-built", f"{self.folder}/logic_built", "--links", f"{crate.name}=", "--jobs", str(jobs)]
+        words += ["--logic-built", f"{self.folder}/logic_built", "--links", f"{crate.name}=", "--jobs", "1"]
         if crate.is_program:
             words += ["--toolchain", f"{self.folder}/toolchain", "--backend", "llvm", "-o", f"out/{crate.name}.o"]
         else:
             words += ["--statements", "-o", f"{KEPT}/{crate.name}.rlib"]
         return words
 
-    def check(self, crate: Crate, below: List[Crate], jobs: int = 1) -> List[str]:
+    def check(self, crate: Crate, below: List[Crate]) -> List[str]:
         """Returns the command that checks the crate and writes no library. It keeps what it proved in the folder INCREMENTAL, and
         takes from there what is still up to date."""
-        words = self.proof(crate, below, jobs)
+        words = self.proof(crate, below)
         end = words.index("--toolchain" if crate.is_program else "--statements")
         return [words[0], "check", *words[2:end], "--incremental", INCREMENTAL]
 
