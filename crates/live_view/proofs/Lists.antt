@@ -1,6 +1,6 @@
 -- Lists that are filtered, and lists from their end back.
 use Rattle.std.proofs.Common.{◌≡◌, ◌≤◌, ℕ, zero, suc, Bool, true, false, List, [], ◌∷◌, ◌++◌, length, take, drop, get_or, filter, flat_map}
-use Rattle.std.proofs.{Common.{reverse, refl, sym, ap, ◌∙◌, arith, append-nil, length-drop, take-append-drop}, lemmas.List.reverse-append}
+use Rattle.std.proofs.{Common.{reverse, refl, sym, ap, ◌∙◌, arith, append-nil, length-drop, take-append-drop}, lemmas.List.{reverse-append, take-append-le, take_all}}
 use Rattle.std.proofs.lemmas.List.Elements.{filter-append}
 
 -- two cases, by a test
@@ -61,3 +61,7 @@ last_first n xs e =
     alone [] e = refl
     alone (y ∷ []) e = refl
     alone (y ∷ z ∷ ys) e = absurd (omega arith)
+
+-- what is written over the whole of a list is all of it
+pub all_written : (n : ℕ) (xs rest : List ℕ) → n ≡ length xs → take n (xs ++ rest) ≡ xs
+all_written n xs rest same = take-append-le n xs rest (omega (arith, same)) ∙ take_all n xs (omega (arith, same))

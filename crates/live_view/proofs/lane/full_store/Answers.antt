@@ -4,6 +4,7 @@ use Rattle.std.specs.Prelude.{All}
 use Rattle.backing_store.specs.{Merged.StoreHolds, SortedRows.sorted_rows}
 use Rattle.switch_core.specs.Lanes.{LaneStands}
 use Rattle.live_view.specs.{Merging.IsEntryOf, Views.all_epochs, Waiting.{EntriesStand, RowsStand, unmerged}}
+use Rattle.live_view.proofs.Lists.{all_written}
 use Rattle.live_view.proofs.SortedEntries.{all_there, are_entries, held_alike, same_lists, sorted, sorted_stand}
 use Rattle.live_view.proofs.lane.full_store.Goals as goal
 
@@ -43,3 +44,15 @@ merge_entries-requires-clause-rows g c =
     subst (All (IsEntryOf store.key_words entry)) (sym c.in_ok-entries.ensures)
     (subst (λ n. All (IsEntryOf store.key_words n) (sorted_rows waiting)) entry_words
     (subst (λ n. All (IsEntryOf n waiting.state_words) (sorted_rows waiting)) key_words (are_entries waiting c.invariant-2.ensures)))
+
+pub initial-requires : goal.initial-requires
+initial-requires g c = c.deref_mut.ensures.len ∙ c.in_ok-initial.ensures.len ∙ c.state_words.ensures
+
+pub merge_entries-requires-clause-fits : goal.merge_entries-requires-clause-fits
+merge_entries-requires-clause-fits g c = record {
+  state_words = ap (λ store. store.state_words) (c.in_ok-store.ensures ∙ c.store.ensures) ∙ c.invariant.ensures.store.state
+      ∙ sym (ap (λ kind. (g.K.EpochKind.sizes kind).state) c.kind-kind.ensures);
+  initial_state = c.deref.ensures.value ∙ all_written _ _ _ (sym (c.initial.auto.state ∙ c.deref_mut.ensures.len)) ∙ c.initial.ensures;
+  initial_words = c.deref.ensures.len ∙ c.in_ok-initial.ensures.len ∙ c.state_words.ensures;
+  scratch_words = c.deref_mut-2.ensures.len ∙ c.in_ok-scratch.ensures.len ∙ c.scratch_words.ensures;
+}

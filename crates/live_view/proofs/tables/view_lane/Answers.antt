@@ -1,5 +1,5 @@
 -- A store that holds all epochs of a lane gives the table that they close to, and so do the rows that are seen of them.
-use Rattle.std.proofs.{Common.{◌≡◌, take, sym, ap, ap₂, ◌∙◌, subst}, lemmas.Result.IfOk-weaker}
+use Rattle.std.proofs.{Common.{◌≡◌, take, sym, ap, ap₂, arith, ◌∙◌, subst}, lemmas.Result.IfOk-weaker}
 use Rattle.epoch_model.specs.Tables.{closed_epochs, closed_rows}
 use Rattle.backing_store.specs.Merged.{StoreHolds}
 use Rattle.switch_core.specs.Pipelines.{heading_of, shown_table}
@@ -26,3 +26,21 @@ returns-clause-table g c =
     ∙ ap (λ k. closed_rows (g.K.EpochKind.folding k) (all_epochs m)) c.kind-2.ensures) in
     let epochs : shown.epochs ≡ closed_epochs (all_epochs m) = seen.1 ∙ ap closed_epochs (all_there m) in
     made ∙ ap₂ (shown_table (heading_of c.args.group.now)) rows epochs) c.shown_table.ensures
+
+pub held_table-requires : goal.held_table-requires
+held_table-requires g c = omega (arith, c.requires.keys, c.invariant.ensures.front.few_key_words)
+
+pub seen_rows-requires-clause-entry : goal.seen_rows-requires-clause-entry
+seen_rows-requires-clause-entry g c = c.in_ok-waiting.ensures.state_words ∙ sym (ap (λ kind. (g.K.EpochKind.sizes kind).entry) c.kind-2.ensures)
+
+pub seen_rows-requires-clause-per_key : goal.seen_rows-requires-clause-per_key
+seen_rows-requires-clause-per_key g c =
+    ap (λ kind. (g.K.EpochKind.folding kind).row_per_epoch) (c.kind-2.ensures ∙ sym c.kind.ensures) ∙ sym c.row_per_epoch.ensures
+    ∙ c.if-row_per_epoch.false
+
+pub seen_rows-requires-clause-state : goal.seen_rows-requires-clause-state
+seen_rows-requires-clause-state g c = ap (λ store. store.state_words) c.store.ensures ∙ c.invariant.ensures.store.state
+    ∙ sym (ap (λ kind. (g.K.EpochKind.sizes kind).state) c.kind-2.ensures)
+
+pub shown_table-requires : goal.shown_table-requires
+shown_table-requires g c = omega (arith, c.requires.keys, c.invariant.ensures.front.few_key_words)

@@ -1,5 +1,5 @@
 -- A new store has no entries, the pipe's are those of the closed epochs that wait, and the cache's those of the open ones.
-use Rattle.std.proofs.Common.{◌≡◌, [], drop, refl, sym, ap, ◌∙◌, subst}
+use Rattle.std.proofs.Common.{◌≡◌, ◌+◌, [], drop, refl, sym, ap, ap₂, arith, ◌∙◌, subst}
 use Rattle.switch_core.specs.Lanes.{CacheStands, FrontStands, RecordsStand}
 use Rattle.live_view.specs.Waiting.{EntriesStand, unmerged}
 use Rattle.live_view.proofs.waiting.waiting_entries.Goals as goal
@@ -22,3 +22,37 @@ returns-clause-held g c m front =
     let kept : EntriesStand stands c.keep_pipe.new.store waiting = c.in_ok-keep_pipe.ensures.held waiting [] piped none in
     subst (λ k. EntriesStand (g.K.EpochKind.stands k) c.keep_cache.new.store (unmerged m)) c.kind-kind.ensures
     (c.in_ok-keep_cache.ensures.held m waiting cached kept)
+
+pub keep_pipe-requires-clause-entry : goal.keep_pipe-requires-clause-entry
+keep_pipe-requires-clause-entry g c = ap (λ store. store.state_words) c.new-store.ensures ∙ c.entry_words-2.ensures
+
+pub keep_pipe-requires-clause-records : goal.keep_pipe-requires-clause-records
+keep_pipe-requires-clause-records g c = ap (λ pipe. pipe.record_words) c.pipe.ensures ∙ c.invariant.ensures.front.record_words
+    ∙ ap₂ (λ keys entries. keys + entries) (sym (ap (λ store. store.key_words) c.new-store.ensures ∙ c.requires.key_words))
+    (c.invariant.ensures.front.entry ∙ sym (ap (λ kind. (g.K.EpochKind.sizes kind).entry) c.kind-kind.ensures))
+
+pub keep_pipe-requires-clause-room : goal.keep_pipe-requires-clause-room
+keep_pipe-requires-clause-room g c = c.deref_mut.ensures.len ∙ c.in_ok-room.ensures.len ∙ sym (ap (λ pipe. pipe.record_words) c.pipe.ensures
+    ∙ c.invariant.ensures.front.record_words ∙ ap₂ (λ keys entries. keys + entries) (sym c.requires.key_words)
+    (c.invariant.ensures.front.entry ∙ sym (c.entry_words.ensures ∙ ap (λ kind. (g.K.EpochKind.sizes kind).entry) c.kind-kind.ensures)))
+
+pub keep_cache-requires : goal.keep_cache-requires
+keep_cache-requires g c = (
+  omega arith,
+  (
+    ap (λ cache. cache.key_words) c.cache.ensures ∙ sym (c.in_ok-keep_pipe.ensures.key_words
+        ∙ ap (λ store. store.key_words) c.new-store.ensures ∙ c.requires.key_words),
+    ap (λ cache. cache.entry_words) c.cache.ensures ∙ c.invariant.ensures.front.entry ∙ sym (c.in_ok-keep_pipe.ensures.state_words
+        ∙ ap (λ store. store.state_words) c.new-store.ensures ∙ c.entry_words-2.ensures
+        ∙ ap (λ kind. (g.K.EpochKind.sizes kind).entry) c.kind-kind.ensures),
+  ),
+)
+
+pub returns-clause-key_words : goal.returns-clause-key_words
+returns-clause-key_words g c = c.in_ok-keep_cache.ensures.key_words ∙ c.in_ok-keep_pipe.ensures.key_words
+    ∙ ap (λ store. store.key_words) c.new-store.ensures
+
+pub returns-clause-state_words : goal.returns-clause-state_words
+returns-clause-state_words g c = c.in_ok-keep_cache.ensures.state_words ∙ c.in_ok-keep_pipe.ensures.state_words
+    ∙ ap (λ store. store.state_words) c.new-store.ensures ∙ c.entry_words-2.ensures
+    ∙ ap (λ kind. (g.K.EpochKind.sizes kind).entry) c.kind-kind.ensures
