@@ -21,7 +21,7 @@ pub struct Link {
 }
 
 /// What a search for a key found.
-#[derive(Clone, Copy, Debug)]
+#[derive(Clone, Copy)]
 pub enum Search {
     /// The key, at this place.
     Found(usize),

@@ -1,7 +1,7 @@
 //! What a touch of a bucket finds.
 
 /// What a touch found.
-#[derive(Clone, Copy, Debug)]
+#[derive(Clone, Copy)]
 pub enum Touch {
     /// The key was there, at this place.
     Hit(usize),

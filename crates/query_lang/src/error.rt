@@ -7,7 +7,7 @@ use crate::fault::QueryFault;
 use std::alloc::AllocError;
 
 /// Why a text isn't accepted, at each step from its bytes to the plan.
-#[derive(Clone, Copy, Debug, PartialEq, Eq)]
+#[derive(Clone, Copy, Debug)]
 pub enum QueryError {
     /// The first fault.
     Refused(QueryFault),

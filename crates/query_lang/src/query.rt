@@ -46,7 +46,7 @@ pub struct FoldDef {
 }
 
 /// A state variable, and the number that it starts with.
-#[derive(Clone, Copy, PartialEq, Eq)]
+#[derive(Clone, Copy)]
 pub struct StateVar {
     pub name: Name,
     pub initial: u64,
@@ -132,7 +132,7 @@ pub struct Column {
 }
 
 /// A key of a groupby; `5tuple` means five.
-#[derive(Clone, Copy, PartialEq, Eq)]
+#[derive(Clone, Copy)]
 pub enum Key {
     Named(Name),
     FiveTuple(Span),

@@ -75,14 +75,14 @@ pub enum TokenKind {
 }
 
 /// A token, and where it is.
-#[derive(Clone, Copy, PartialEq, Eq)]
+#[derive(Clone, Copy)]
 pub struct Token {
     pub kind: TokenKind,
     pub span: Span,
 }
 
 /// What comes first in some bytes, and how many of them it takes.
-#[derive(Clone, Copy, PartialEq, Eq)]
+#[derive(Clone, Copy)]
 pub enum Piece {
     /// A blank or a comment.
     Blank(usize),

@@ -95,7 +95,7 @@ impl Drop for TypedFinalOp {
 }
 
 /// A printed table: a groupby or a final, each counted from 0.
-#[derive(Clone, Copy, PartialEq, Eq)]
+#[derive(Clone, Copy)]
 pub enum PrintOf {
     Group(u16),
     Final(u16),

@@ -6,7 +6,7 @@ use crate::typed::{PrintOf, TypedFinal, TypedFinalOp, TypedOp, TypedStream};
 use marple_base::Seq;
 
 /// What an expression gives: a number written in the text, another word, or a condition.
-#[derive(Clone, Copy, PartialEq, Eq)]
+#[derive(Clone, Copy)]
 pub enum Sort {
     Number(u64),
     Word,
@@ -43,7 +43,7 @@ pub enum Origin {
 }
 
 /// A column of a stream: its name, and where it comes from.
-#[derive(Clone, Copy, PartialEq, Eq)]
+#[derive(Clone, Copy)]
 pub struct StreamColumn {
     pub name: u32,
     pub origin: Origin,

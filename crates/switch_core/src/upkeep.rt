@@ -15,7 +15,7 @@ use std::alloc::AllocError;
 use std::sync::ledger::Ledger;
 
 /// What is due at a front beside its packets.
-#[derive(Clone, Copy, Debug, PartialEq, Eq)]
+#[derive(Clone, Copy)]
 pub enum Upkeep {
     /// Room for a record: one merge where the pipe is full.
     Room,

@@ -5,7 +5,7 @@ ghost use Rattle.epoch_model.specs.Epochs.{is_refresh};
 ghost use Rattle.trace_drive.specs.Clocks.{HasCounted};
 
 /// Is due at each multiple of a number of packets, and never where that is 0.
-#[derive(Clone, Copy, Debug, PartialEq, Eq)]
+#[derive(Clone, Copy)]
 pub struct Clock {
     every: u32,
     since: u32,

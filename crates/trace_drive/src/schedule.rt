@@ -1,7 +1,7 @@
 //! When the parts of a pipeline do what no packet asks for.
 
 /// When records are merged and caches emptied, and how large caches and pipes are.
-#[derive(Clone, Copy, Debug, PartialEq, Eq)]
+#[derive(Clone, Copy)]
 pub struct Schedule {
     /// The number of buckets of each cache.
     pub buckets: u32,
