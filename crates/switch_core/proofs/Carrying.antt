@@ -153,6 +153,11 @@ module _ {K : Type 0} (means : K → Standing) (folding : K → Folding) (ways :
       → CarriesFirst means folding ways all a b
   up_to_first all coming a b u = (u.0, (coming, u.1), u.2)
 
+  -- a call that left a front and its store as they were
+  pub up_to_first_as : (all coming : List Event) (a b c : LaneOf K) → CarriesUpTo means folding ways all coming a b → c ≡ b
+      → CarriesFirst means folding ways all a c
+  up_to_first_as all coming a b c u same = rw same (up_to_first all coming a b u)
+
   pub up_to_first_on : (all coming : List Event) (a b c : LaneOf K) → CarriesUpTo means folding ways all coming a b
       → CarriesFirst means folding ways coming b c → CarriesFirst means folding ways all a c
   up_to_first_on all coming a b c u f = (

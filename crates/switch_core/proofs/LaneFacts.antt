@@ -63,6 +63,14 @@ pub err_holds : {X E : Type 0} (r : Result X E) (P : Type 0) → P → OnErr r P
 err_holds (Ok x) P h = tt
 err_holds (Err e) P h = h
 
+-- an item that isn't written stays
+pub got_other : {X : Type 0} (xs : List X) (i n : ℕ) (x : X) → (n ≡ i → ⊥) → slice_get (set xs i x) n ≡ slice_get xs n
+got_other [] i n x apart = refl
+got_other (y ∷ xs) zero zero x apart = absurd (apart refl)
+got_other (y ∷ xs) zero (suc n) x apart = refl
+got_other (y ∷ xs) (suc i) zero x apart = refl
+got_other (y ∷ xs) (suc i) (suc n) x apart = got_other xs i n x (λ e. apart (ap suc e))
+
 pub got_set : {X : Type 0} (xs : List X) (i : ℕ) (x : X) → i < length xs → slice_get (set xs i x) i ≡ Some x
 got_set [] i x h = absurd (omega arith)
 got_set (y ∷ xs) zero x h = refl

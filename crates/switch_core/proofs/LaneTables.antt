@@ -1,6 +1,6 @@
 -- The tables of lanes in order.
 use Rattle.std.proofs.Common.{◌≡◌, ℕ, zero, suc, ◌+◌, ◌≤◌, true, List, [], ◌∷◌, ◌++◌, Some, length, map, take, refl, ap, ◌∙◌, arith}
-use Rattle.std.specs.{List.list_all, Prelude.slice_get}
+use Rattle.std.{proofs.lemmas.List.take_all, specs.{List.list_all, Prelude.slice_get}}
 use Rattle.epoch_model.specs.{Machine.Machine, Timeline.IsSwept}
 use Rattle.epoch_entry.specs.contracts.any.AnyEpochsEpochKind.TheImpl.{ghosts}
 use Rattle.backing_store.specs.Merged.{StoreHolds}
@@ -39,17 +39,16 @@ tables_next groups lanes ms i group lane m a b e =
     ap (λ n. take n (tables_of groups (map folding_at lanes) ms)) (let q : i + 1 ≡ suc i = omega arith in q)
     ∙ tables_next_at groups _ _ i _ _ m a b e
 
+tables_few : (groups : List GroupPlan) (lanes : List LaneView) (ms : List Machine)
+    → length (tables_of groups (map folding_at lanes) ms) ≤ length lanes
+tables_few [] lanes ms = omega arith
+tables_few (g ∷ groups) [] ms = omega arith
+tables_few (g ∷ groups) (l ∷ lanes) [] = omega arith
+tables_few (g ∷ groups) (l ∷ lanes) (m ∷ ms) = let more = tables_few groups lanes ms in omega arith
+
 pub tables_whole : (groups : List GroupPlan) (lanes : List LaneView) (ms : List Machine) (i : ℕ) → length lanes ≤ i
     → take i (tables_of groups (map folding_at lanes) ms) ≡ tables_of groups (map folding_at lanes) ms
-tables_whole [] lanes ms zero h = refl
-tables_whole [] lanes ms (suc i) h = refl
-tables_whole (g ∷ groups) [] ms zero h = refl
-tables_whole (g ∷ groups) [] ms (suc i) h = refl
-tables_whole (g ∷ groups) (l ∷ lanes) [] zero h = refl
-tables_whole (g ∷ groups) (l ∷ lanes) [] (suc i) h = refl
-tables_whole (g ∷ groups) (l ∷ lanes) (m ∷ ms) zero h = absurd (omega arith)
-tables_whole (g ∷ groups) (l ∷ lanes) (m ∷ ms) (suc i) h = ap (λ ts. closed_table (heading_of g) (folding_at l) m.closed ∷ ts)
-    (tables_whole groups lanes ms i (omega arith))
+tables_whole groups lanes ms i h = take_all i _ (let few = tables_few groups lanes ms in omega arith)
 
 -- the same of the tables of what the stores hold
 

@@ -1,5 +1,5 @@
 -- Upkeeps of lanes in order.
-use Rattle.std.proofs.Common.{◌≡◌, ℕ, zero, suc, ◌+◌, ◌<◌, ◌≤◌, ◌==◌, true, false, List, [], ◌∷◌, Some, inl, inr, length, set, refl, sym}
+use Rattle.std.proofs.Common.{◌≡◌, ℕ, ◌+◌, ◌<◌, ◌≤◌, ◌==◌, true, false, List, [], Some, inl, inr, length, set, refl, sym}
 use Rattle.std.proofs.{Common.{ap, ◌∙◌, subst, arith}, lemmas.Bool.{cases_eq, lt-ltb, le-ltb, Decides.nat_tests}}
 use Rattle.std.specs.Prelude.{nat_lt, slice_get, if◌then◌else◌}
 use Rattle.epoch_model.specs.Machine.{Event}
@@ -7,7 +7,8 @@ use Rattle.epoch_entry.specs.contracts.any.AnyEpochsEpochKind.TheImpl.{ghosts}
 use Rattle.switch_core.specs.FrontEvents.{CarriesAll, CarriesFirst}
 use Rattle.switch_core.specs.PlanLanes.{AtLane, LaneMakes, LaneView, LanesBreakOff, upkeep_at, upkeeps_at, upkeeps_until}
 use Rattle.switch_core.{specs.{Upkeeps.upkeep_events, declared.upkeep.Upkeep.Upkeep}, proofs.Carrying.{makes_all, sizes_kept}}
-use Rattle.switch_core.proofs.{LaneFacts.got_set, SideBySide.{Done, Untouched, done_next, each_both, each_set, same_some}, Standing.by_test}
+use Rattle.switch_core.proofs.SideBySide.{Done, Untouched, done_here, each_both, each_set, same_some}
+use Rattle.switch_core.proofs.{LaneFacts.{got_other, got_set}, Standing.by_test}
 
 -- what events make of a front and its store they make of the lane
 pub lane_carries : (ways : ℕ) (events : List Event) (a b : LaneView) → CarriesAll ghosts.stands ghosts.folding ways events a b
@@ -16,14 +17,6 @@ lane_carries ways events a b made = record {
   kind = (sizes_kept _ _ _ events a b made).kind;
   made = makes_all _ _ _ events a b made;
 }
-
--- an item that isn't written stays
-got_other : {X : Type 0} (xs : List X) (i n : ℕ) (x : X) → (n ≡ i → ⊥) → slice_get (set xs i x) n ≡ slice_get xs n
-got_other [] i n x apart = refl
-got_other (y ∷ xs) zero zero x apart = absurd (apart refl)
-got_other (y ∷ xs) zero (suc n) x apart = refl
-got_other (y ∷ xs) (suc i) zero x apart = refl
-got_other (y ∷ xs) (suc i) (suc n) x apart = got_other xs i n x (λ e. apart (ap suc e))
 
 -- what holds of the lanes below a number holds of one more
 pub others_stay : (P : LaneView → Type 0) (lanes : List LaneView) (i : ℕ) (new : LaneView) → i < length lanes
@@ -42,8 +35,7 @@ pub made_at : (ways : ℕ) (upkeep : Upkeep) (i : ℕ) (old now : List LaneView)
 made_at ways upkeep i old now lane new done was carries =
     let made : LaneMakes ways (upkeeps_at upkeep old i) lane new =
     rw (ap (upkeep_at upkeep) (sym was)) at (lane_carries ways _ lane new carries) in
-    done_next _ i _ _ _ done
-    (λ x e. rw (same_some lane x (sym was ∙ e)) at made)
+    done_here _ i _ _ lane new done was made
 
 -- the events of the lanes up to one that broke off
 

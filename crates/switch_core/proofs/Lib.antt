@@ -4,6 +4,7 @@ pub mod FrontSizes
 pub mod CacheSteps
 pub mod PipeSteps
 pub mod LaneSteps
+pub mod PacketSteps
 pub mod MergeSteps
 pub mod ClosedTable
 pub mod Drained
@@ -13,6 +14,7 @@ pub mod Emptying
 pub mod SweptMachines
 pub mod SweepCosts
 pub mod SideBySide
+pub mod GroupFolds
 pub mod LaneFacts
 pub mod LaneUpkeeps
 pub mod PipelineSteps

@@ -1,11 +1,11 @@
 -- A pipe that represents a machine still represents it after an epoch was closed.
-use Rattle.std.proofs.Common.{◌≡◌, ℕ, zero, suc, ◌-◌, ◌<◌, ◌≤◌, List, [], ◌∷◌, ◌++◌, Some, length, take, drop, All, sym, ap, ◌∙◌, subst}
+use Rattle.std.proofs.Common.{◌≡◌, ℕ, zero, suc, ◌-◌, ◌<◌, ◌≤◌, List, [], ◌∷◌, ◌++◌, Some, length, take, drop, sym, ap, ◌∙◌, subst}
 use Rattle.std.proofs.{Common.arith, lemmas.{Bool.lt-ltb, List.drop-append-le}, Math.Seq.{take-append_seam, drop-append_seam}}
 use Rattle.std.specs.Prelude.{slice_get}
 use Rattle.epoch_model.specs.Machine.{Epoch, Machine, open_in, evict, last_alone}
 use Rattle.bucket_cache.specs.{Buckets.{Pair, places_of}, Caches.{Cache, list_at, entry_at, IsSoundCache}, Touches.IsLeast}
 use Rattle.switch_core.specs.Lanes.{Standing, PairStands, CacheStands, RecordStands, RecordsStand, PipeStands}
-use Rattle.switch_core.proofs.Standing.{pairs_long, last_pair}
+use Rattle.switch_core.proofs.{SideBySide.all_got, Standing.{pairs_long, last_pair}}
 
 records_more : (stands : Standing) (kw : ℕ) (records : List (List ℕ)) (epochs : List Epoch) (words : List ℕ) (epoch : Epoch)
     → RecordsStand stands kw records epochs → RecordStands stands kw words epoch
@@ -59,14 +59,6 @@ pipe_evicted stands ways cache bucket place records more sound some least pushed
     (λ rs. RecordsStand stands cache.key_words rs (drop m.merged m.closed ++ epoch ∷ [])) (sym added)
     (records_more stands cache.key_words records (drop m.merged m.closed) (pair.key ++ entry_at cache place) epoch p stood)))
   where
-    same_pair : (x y : Pair) → Some x ≡ Some y → x ≡ y
-    same_pair x y e = cc
-
-    all_got : (P : Pair → Type 0) (pairs : List Pair) (i : ℕ) (pair : Pair) → All P pairs → slice_get pairs i ≡ Some pair → P pair
-    all_got P [] i pair a e = cc
-    all_got P (q ∷ pairs) zero pair a e = subst P (same_pair q pair e) (a 0 q (omega arith))
-    all_got P (q ∷ pairs) (suc i) pair a e = all_got P pairs i pair (λ k d h. a (suc k) d (omega arith)) e
-
     same : (x y : ℕ) → Some x ≡ Some y → x ≡ y
     same x y e = cc
 

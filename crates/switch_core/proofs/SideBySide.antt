@@ -1,6 +1,6 @@
 -- Lists that belong together, item by item.
 use Rattle.std.proofs.Common.{◌≡◌, ℕ, zero, suc, ◌+◌, ◌<◌, ◌≤◌, List, [], ◌∷◌, Some, length, take, set, get_or, refl, sym, ap, ◌∙◌, subst}
-use Rattle.std.{proofs.{Common.arith, lemmas.List.{take_all, Sums.sum_by-cons}}, specs.{List.sum_by, Prelude.slice_get}}
+use Rattle.std.{proofs.{Common.arith, lemmas.List.{take_all, Sums.sum_by-cons}}, specs.{List.{All, sum_by}, Prelude.slice_get}}
 use Rattle.switch_core.specs.Rows.{EachFrom}
 
 pub same_some : {X : Type 0} (x y : X) → Some x ≡ Some y → x ≡ y
@@ -20,6 +20,12 @@ pub got_below : {X : Type 0} (xs : List X) (i : ℕ) (x : X) → slice_get xs i 
 got_below [] i x h = cc
 got_below (y ∷ xs) zero x h = omega arith
 got_below (y ∷ xs) (suc i) x h = let r = got_below xs i x h in omega arith
+
+-- what holds of all items holds of the one at a place
+pub all_got : {X : Type 0} (P : X → Type 0) (xs : List X) (i : ℕ) (x : X) → All P xs → slice_get xs i ≡ Some x → P x
+all_got P xs i x all here =
+    let within = got_below xs i x here in
+    subst P (same_some _ x (sym (got_here xs i x within) ∙ here)) (all i x within)
 
 pub each_long : {X Y : Type 0} (R : ℕ → X → Y → Type 0) (k : ℕ) (xs : List X) (ys : List Y) → EachFrom R k xs ys → length xs ≡ length ys
 each_long R k [] [] e = refl
@@ -94,6 +100,12 @@ pub done_next : {X : Type 0} (R : ℕ → X → X → Type 0) (i : ℕ) (old new
 done_next R i old new item d h = each_set _ _ 0 i _ _ _
     (λ j n a b q apart r less. r (let w : n ≡ i → ⊥ = λ z. apart (omega arith) in omega arith))
     (λ n x q f less. let is : i ≡ n = omega arith in rw is at (h x f)) d
+
+-- the same, where what was there is known
+pub done_here : {X : Type 0} (R : ℕ → X → X → Type 0) (i : ℕ) (old new : List X) (was item : X) → Done R i old new
+    → slice_get old i ≡ Some was → R i was item → Done R (i + 1) old (set new i item)
+done_here R i old new was item d here made = done_next R i old new item d
+    (λ x e. subst (λ y. R i y item) (same_some was x (sym here ∙ e)) made)
 
 pub untouched_next : {X : Type 0} (i : ℕ) (old new : List X) (item : X) → Untouched i old new → Untouched (i + 1) old (set new i item)
 untouched_next i old new item u = each_set _ _ 0 i _ _ _

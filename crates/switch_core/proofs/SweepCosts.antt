@@ -2,7 +2,7 @@
 use Rattle.std.proofs.Common.{◌≡◌, ℕ, zero, suc, ◌+◌, ◌-◌, ◌*◌, ◌<◌, ◌≤◌, List, [], ◌∷◌, length, take, set, get_or, refl, ap, ◌∙◌, arith}
 use Rattle.std.{proofs.{Common.length-take-le, lemmas.List.Sums.sum_by-cons, Math.Nat.mul-le-mul_right}, specs.List.sum_by}
 use Rattle.bucket_cache.specs.{Buckets.Pair, Caches.{Cache, list_at, with_list}}
-use Rattle.switch_core.specs.Closing.{held_in}
+use Rattle.switch_core.specs.{Closing.held_in, Costs.merge_cost, FrontEvents.KeepsSizes, FrontParts.LaneOf}
 
 abbrev held : List (List Pair) → ℕ
 held lists = sum_by length lists
@@ -32,6 +32,12 @@ one_fewer (pairs ∷ lists) (suc bucket) within some =
 pub held_fewer : (old new : Cache) (bucket : ℕ) → bucket < length old.lists → 0 < length (list_at old bucket)
     → new ≡ with_list old bucket (take (length (list_at old bucket) - 1) (list_at old bucket)) → suc (held_in new) ≡ held_in old
 held_fewer old new bucket within some is = ap (λ x. suc (held_in x)) is ∙ one_fewer old.lists bucket within some
+
+-- a merge takes as much as it did at first
+pub merge_as_first : {K : Type 0} (bound : K → ℕ) (first was : LaneOf K) (start after : ℕ) → KeepsSizes first was
+    → after ≤ start + merge_cost was.cache.key_words was.cache.entry_words (bound was.kind)
+    → after ≤ start + merge_cost first.cache.key_words first.cache.entry_words (bound first.kind)
+merge_as_first bound first was start after kept cost = rw (kept.key_words, kept.entry_words, kept.kind) at cost
 
 -- one merge at most and an eviction
 pub evicted_within : (start was ready new held fewer whole evicting merging : ℕ) → suc fewer ≡ held → ready ≤ was + merging → new ≡ ready

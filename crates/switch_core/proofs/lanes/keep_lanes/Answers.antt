@@ -78,23 +78,17 @@ returns g c =
 pub returns-then-lanes-eq1-clause-makes : goal.returns-then-lanes-eq1-clause-makes
 returns-then-lanes-eq1-clause-makes g c =
     let first = c.args.lanes.now in
-    let new = c.keep_up.new.self in
-    let one = c.if-lanes-eq1.true in
-    let lane = get_or first 0 c.index-lanes-0.result in
-    on_ok _ (LanesMake g.row.WAYS (upkeeps_at c.args.upkeep first) first (set first 0 new)) c.keep_up.result
-    (λ carries. done_end (λ n. LaneMakes g.row.WAYS (upkeeps_at c.args.upkeep first n)) 1 first (set first 0 new)
-    (made_at g.row.WAYS c.args.upkeep 0 first first lane new
-    (done_start (λ n. LaneMakes g.row.WAYS (upkeeps_at c.args.upkeep first n)) 0 first)
-    (got_here first 0 c.index-lanes-0.result (omega arith)) carries)
-    (omega arith)) c.keep_up.ensures.carries
+    let here = got_here first 0 c.index-lanes-0.result (omega (arith, c.if-lanes-eq1.true)) in
+    on_ok _ (LanesMake g.row.WAYS (upkeeps_at c.args.upkeep first) first (set first 0 c.keep_up.new.self)) c.keep_up.result
+    (λ carries. done_end (λ n. LaneMakes g.row.WAYS (upkeeps_at c.args.upkeep first n)) 1 first _
+    (made_at g.row.WAYS c.args.upkeep 0 first first _ c.keep_up.new.self
+    (done_start (λ n. LaneMakes g.row.WAYS (upkeeps_at c.args.upkeep first n)) 0 first) here carries)
+    (omega (arith, c.if-lanes-eq1.true))) c.keep_up.ensures.carries
 
 pub returns-then-lanes-eq1-clause-breaks_off : goal.returns-then-lanes-eq1-clause-breaks_off
 returns-then-lanes-eq1-clause-breaks_off g c =
     let first = c.args.lanes.now in
-    let new = c.keep_up.new.self in
-    let one = c.if-lanes-eq1.true in
-    let lane = get_or first 0 c.index-lanes-0.result in
-    on_err _ (LanesBreakOff g.row.WAYS c.args.upkeep first (set first 0 new)) c.keep_up.result
-    (breaks_off_at g.row.WAYS c.args.upkeep 0 first first lane new
+    on_err _ (LanesBreakOff g.row.WAYS c.args.upkeep first (set first 0 c.keep_up.new.self)) c.keep_up.result
+    (breaks_off_at g.row.WAYS c.args.upkeep 0 first first _ c.keep_up.new.self
     (done_start (λ n. LaneMakes g.row.WAYS (upkeeps_at c.args.upkeep first n)) 0 first) (untouched_start 0 0 first)
-    (got_here first 0 c.index-lanes-0.result (omega arith))) c.keep_up.ensures.breaks_off
+    (got_here first 0 c.index-lanes-0.result (omega (arith, c.if-lanes-eq1.true)))) c.keep_up.ensures.breaks_off

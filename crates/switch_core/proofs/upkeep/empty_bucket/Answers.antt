@@ -1,11 +1,12 @@
 -- Evictions in order, each with room made for its record, up to the one that finds the bucket empty.
-use Rattle.std.proofs.Common.{rules, ◌≡◌, ◌+◌, ◌-◌, ◌*◌, ◌<◌, ◌≤◌, true, if◌then◌else◌, suc, [], length, take, refl, sym, ap, ◌∙◌, subst}
-use Rattle.std.proofs.{Common.{arith, get_or-set_other}, lemmas.Bool.Decides.nat_tests}
+use Rattle.std.proofs.Common.{rules, ◌≡◌, ◌+◌, ◌-◌, ◌<◌, true, if◌then◌else◌, suc, [], length, take, refl, sym, ap, ◌∙◌, subst}
+use Rattle.epoch_model.proofs.Endings.{no_end}
+use Rattle.std.proofs.{Common.{arith, get_or-set_other, le_trans}, lemmas.Bool.Decides.nat_tests}
 use Rattle.bucket_cache.specs.Caches.{list_at, with_list}
 use Rattle.switch_core.specs.{Closing.held_in, Costs.{evict_cost, merge_cost}, FrontEvents.with_store, Upkeeps.{left_waiting, sweep_from}}
-use Rattle.switch_core.proofs.Carrying.{fits_kept, keeps_on, keeps_start, up_to_first, up_to_start}
+use Rattle.switch_core.proofs.Carrying.{fits_kept, keeps_on, keeps_start, same_store, up_to_first_as, up_to_start}
 use Rattle.switch_core.proofs.{Emptying.{evicted_shorter, next_empty, next_found, one_try}, LaneFacts.err_holds}
-use Rattle.switch_core.proofs.SweepCosts.{evicted_within, held_fewer, merged_within}
+use Rattle.switch_core.proofs.{StepSums.after_sum, SweepCosts.{evicted_within, held_fewer, merge_as_first, merged_within}}
 use Rattle.switch_core.proofs.upkeep.empty_bucket.Goals as goal
 
 pub epochs-init : goal.epochs-init
@@ -30,34 +31,18 @@ evict-requires g c =
 pub returns-in_err-make_ready : goal.returns-in_err-make_ready
 returns-in_err-make_ready g c =
     record {
-      carries = search rules;
-      breaks_off =
-          let first = with_store c.args.front.now c.args.store.now in
-          let was = with_store c.epochs.front c.epochs.store in
-          let new = with_store c.make_ready.new.front c.make_ready.new.store in
-          let all = sweep_from c.args.bucket first.cache first.pipe in
-          let same = ap (λ front. with_store front c.epochs.store) (sym c.in_err-make_ready.ensures.err.0)
-          ∙ ap (with_store c.make_ready.new.front) (sym c.in_err-make_ready.ensures.err.1) in
-          let means = g.K.EpochKind.stands in
-          let folding = g.K.EpochKind.folding in
-          err_holds _ _
-          (rw same at (up_to_first means folding g.row.WAYS all (sweep_from c.args.bucket was.cache was.pipe) first was
-          c.epochs.invariant.carries));
-      empty = search rules;
+      carries = no_end _ _ c.from_residual.ensures.0;
+      breaks_off = err_holds _ _ (up_to_first_as _ _ g.row.WAYS _ _ _ _ _ c.epochs.invariant.carries
+          (same_store c.epochs.front c.make_ready.new.front _ _ c.in_err-make_ready.ensures.err));
+      empty = no_end _ _ c.from_residual.ensures.0;
       others = λ other apart. ap (λ x. list_at x other) c.make_ready.ensures.cache ∙ c.epochs.invariant.others other apart;
       sizes = keeps_on _ _
           _ c.epochs.invariant.sizes c.make_ready.ensures.sizes;
-      steps = search rules;
-      cost =
-          let first = c.args.front.now in
-          let evicting = evict_cost first.cache.key_words first.cache.entry_words in
-          let merging = merge_cost first.cache.key_words first.cache.entry_words (g.K.EpochKind.merge_bound first.kind) in
-          let sizes = c.epochs.invariant.sizes in
-          let merged : c.make_ready.new.steps ≤ c.epochs.steps + merging =
-          omega (arith, c.make_ready.ensures.cost, sizes.key_words, sizes.entry_words, ap g.K.EpochKind.merge_bound sizes.kind) in
-          merged_within c.args.steps.now c.epochs.steps c.make_ready.new.steps (held_in c.epochs.front.cache)
-          _ (held_in first.cache * (evicting + merging)) (evicting + merging) merging
-          (ap held_in c.make_ready.ensures.cache) merged c.epochs.invariant.cost;
+      steps = le_trans c.epochs.invariant.later c.make_ready.ensures.steps;
+      cost = merged_within c.args.steps.now c.epochs.steps c.make_ready.new.steps (held_in c.epochs.front.cache) _ _ _ _
+          (ap held_in c.make_ready.ensures.cache)
+          (merge_as_first g.K.EpochKind.merge_bound (with_store c.args.front.now c.args.store.now) _ _ _ c.epochs.invariant.sizes
+          c.make_ready.ensures.cost) c.epochs.invariant.cost;
     }
 
 pub returns-then-not-evict : goal.returns-then-not-evict
@@ -84,7 +69,7 @@ returns-then-not-evict g c =
           c.epochs.invariant.carries c.in_ok-make_ready.ensures.carries (c.evict.ensures.carries c.make_ready.new.store)
           (next_empty bucket was.cache was.pipe new.pipe within none_was places records) in
           rw (← same) at here;
-      breaks_off = search rules;
+      breaks_off = tt;
       empty =
           let ready = c.make_ready.new.front in
           ap (λ x. length (list_at x.cache bucket)) (c.evict.ensures.same c.if-not-evict.true) ∙ none;
@@ -92,19 +77,12 @@ returns-then-not-evict g c =
           ∙ (ap (λ x. list_at x other) c.make_ready.ensures.cache ∙ c.epochs.invariant.others other apart);
       sizes = keeps_on _ _ _ c.epochs.invariant.sizes (keeps_on _ _ _ c.make_ready.ensures.sizes
           (c.evict.ensures.carries c.make_ready.new.store).sizes);
-      steps = search rules;
+      steps = le_trans (le_trans c.epochs.invariant.later c.make_ready.ensures.steps) (after_sum _ _ _ c.evict.ensures.cost);
       cost =
-          let first = c.args.front.now in
-          let ready = c.make_ready.new.front in
-          let evicting = evict_cost first.cache.key_words first.cache.entry_words in
-          let merging = merge_cost first.cache.key_words first.cache.entry_words (g.K.EpochKind.merge_bound first.kind) in
-          let sizes = c.epochs.invariant.sizes in
-          let merged : c.make_ready.new.steps ≤ c.epochs.steps + merging =
-          omega (arith, c.make_ready.ensures.cost, sizes.key_words, sizes.entry_words, ap g.K.EpochKind.merge_bound sizes.kind) in
           let failed = c.if-not-evict.true in
           let none : c.evict.new.steps ≡ c.make_ready.new.steps + 0 = rw failed at c.evict.ensures.cost in
-          merged_within c.args.steps.now c.epochs.steps c.evict.new.steps (held_in c.epochs.front.cache) _
-          (held_in first.cache * (evicting + merging)) (evicting + merging) merging
+          let merged = merge_as_first g.K.EpochKind.merge_bound first _ _ _ c.epochs.invariant.sizes c.make_ready.ensures.cost in
+          merged_within c.args.steps.now c.epochs.steps c.evict.new.steps (held_in c.epochs.front.cache) _ _ _ _
           (ap (λ x. held_in x.cache) (c.evict.ensures.same failed) ∙ ap held_in c.make_ready.ensures.cache)
           (omega (arith, merged, none)) c.epochs.invariant.cost;
     }
@@ -144,8 +122,7 @@ epochs-preserved g c =
       cost =
           let key : ready.cache.key_words ≡ first.cache.key_words = made.sizes.key_words ∙ before.sizes.key_words in
           let entry : ready.cache.entry_words ≡ first.cache.entry_words = made.sizes.entry_words ∙ before.sizes.entry_words in
-          let merged_once : c.make_ready.new.steps ≤ c.epochs.steps + merging =
-          omega (arith, made.cost, before.sizes.key_words, before.sizes.entry_words, ap g.K.EpochKind.merge_bound before.sizes.kind) in
+          let merged_once = merge_as_first g.K.EpochKind.merge_bound first was _ _ before.sizes made.cost in
           let evicting : c.evict.new.steps ≡ c.make_ready.new.steps + evict_cost ready.cache.key_words ready.cache.entry_words =
           subst (λ b. c.evict.new.steps ≡ c.make_ready.new.steps +
           (if b then evict_cost ready.cache.key_words ready.cache.entry_words else 0)) done c.evict.ensures.cost in

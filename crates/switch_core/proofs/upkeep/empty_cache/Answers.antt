@@ -1,5 +1,6 @@
 -- The buckets are emptied in order, so that their events come one after another.
-use Rattle.std.proofs.{Common.{rules, ◌≡◌, ◌+◌, ◌*◌, ◌<◌, ◌≤◌, ⊎_elim, suc, length, ap, ◌∙◌, arith}, lemmas.Bool.cases_eq}
+use Rattle.std.proofs.{Common.{rules, ◌≡◌, ◌+◌, ◌*◌, ◌<◌, ◌≤◌, ⊎_elim, suc, length, ap, ◌∙◌, arith, le_trans}, lemmas.Bool.cases_eq}
+use Rattle.epoch_model.proofs.Endings.{no_end}
 use Rattle.bucket_cache.specs.Caches.{list_at}
 use Rattle.switch_core.specs.{Closing.held_in, Costs.{evict_cost, merge_cost}, FrontEvents.with_store, Upkeeps.sweep_from}
 use Rattle.switch_core.proofs.Carrying.{fits_kept, keeps_on, keeps_start, up_to_along, up_to_first_on, up_to_start, up_to_whole}
@@ -64,21 +65,13 @@ loop-bucket-preserved g c =
 pub returns-in_err-empty_bucket : goal.returns-in_err-empty_bucket
 returns-in_err-empty_bucket g c =
     record {
-      carries = search rules;
-      breaks_off =
-          let first = with_store c.args.front.now c.args.store.now in
-          let was = with_store c.loop-bucket.front c.loop-bucket.store in
-          let new = with_store c.empty_bucket.new.front c.empty_bucket.new.store in
-          let all = sweep_from 0 first.cache first.pipe in
-          let means = g.K.EpochKind.stands in
-          let folding = g.K.EpochKind.folding in
-          err_holds _ _
-          (up_to_first_on _ _ _ _ _ first was new
+      carries = no_end _ _ c.from_residual.ensures.0;
+      breaks_off = err_holds _ _ (up_to_first_on _ _ g.row.WAYS _ _ _ (with_store c.loop-bucket.front c.loop-bucket.store) _
           c.loop-bucket.invariant.carries c.in_err-empty_bucket.ensures.breaks_off);
-      held = search rules;
+      held = no_end _ _ c.from_residual.ensures.0;
       sizes = keeps_on _ _
           _ c.loop-bucket.invariant.sizes c.empty_bucket.ensures.sizes;
-      steps = search rules;
+      steps = le_trans c.loop-bucket.invariant.later c.empty_bucket.ensures.steps;
       cost =
           let first = c.args.front.now in
           let was = c.loop-bucket.front in
@@ -124,13 +117,13 @@ returns g c =
             c.loop-bucket.invariant.sizes.buckets,
           ) in
           up_to_whole _ _ _ all first new (rw (next_none bucket new.cache new.pipe past) at c.loop-bucket.invariant.carries);
-      breaks_off = search rules;
+      breaks_off = tt;
       held =
           let past : length c.loop-bucket.front.cache.lists ≤ c.loop-bucket.bucket =
           omega (arith, c.loop-bucket-test.false, c.loop-bucket.auto.bucket-end, many, c.loop-bucket.invariant.sizes.buckets) in
           empty_held _ (λ b l. c.loop-bucket.invariant.empty b (omega arith));
-      sizes = search rules;
-      steps = search rules;
+      sizes = c.loop-bucket.invariant.sizes;
+      steps = c.loop-bucket.invariant.later;
       cost =
           let first = c.args.front.now in
           let now = c.loop-bucket.front.cache in

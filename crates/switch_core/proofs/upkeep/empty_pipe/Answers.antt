@@ -1,9 +1,9 @@
 -- Merges one after another, up to the one that finds the pipe empty.
-use Rattle.std.proofs.Common.{rules, ◌≡◌, ◌+◌, ◌*◌, ◌≤◌, Ok, suc, [], ◌∷◌, length, replicate, refl, sym, ap, ◌∙◌, subst, arith, length-drop}
-use Rattle.epoch_model.specs.Machine.{Merge}
+use Rattle.std.proofs.Common.{rules, ◌≡◌, ◌+◌, ◌*◌, ◌≤◌, Ok, suc, [], ◌∷◌, length, replicate, refl, ap, ◌∙◌, subst, arith, le_trans, length-drop}
+use Rattle.epoch_model.{specs.Machine.Merge, proofs.Endings.no_end}
 use Rattle.switch_core.{specs.{Costs.merge_cost, FrontEvents.{CarriesUpTo, with_store}}, proofs.Carrying.{fits_kept, keeps_on, keeps_same}}
-use Rattle.switch_core.proofs.Carrying.{keeps_start, same_store, up_to_first, up_to_on, up_to_start, up_to_whole}
-use Rattle.switch_core.proofs.{Emptying.{merges_more, merges_within, not_empty}, LaneFacts.err_holds}
+use Rattle.switch_core.proofs.Carrying.{keeps_start, same_store, up_to_first_as, up_to_on, up_to_start, up_to_whole}
+use Rattle.switch_core.proofs.{Emptying.{merges_more, merges_within, not_empty}, LaneFacts.err_holds, SweepCosts.merge_as_first}
 use Rattle.switch_core.proofs.upkeep.empty_pipe.Goals as goal
 use Rattle.switch_core.proofs.upkeep.empty_pipe.Goals.{After-merge_into}
 
@@ -22,9 +22,8 @@ merge_into-requires g c =
 -- the steps of a merge, and of all merges up to the last one
 merged : (g : _) (c : After-merge_into g) → (let first = c.args.front.now in c.merge_into.new.steps
     ≤ c.records.steps + merge_cost first.cache.key_words first.cache.entry_words (g.K.EpochKind.merge_bound first.kind))
-merged g c =
-    let kept = c.records.invariant.sizes in
-    omega (arith, c.merge_into.ensures.cost, kept.key_words, kept.entry_words, ap g.K.EpochKind.merge_bound kept.kind)
+merged g c = merge_as_first g.K.EpochKind.merge_bound (with_store c.args.front.now c.args.store.now) _ _ _ c.records.invariant.sizes
+    c.merge_into.ensures.cost
 
 spent : (g : _) (c : After-merge_into g) → (let first = c.args.front.now in c.merge_into.new.steps ≤ c.args.steps.now
     + suc (length first.pipe.records) * merge_cost first.cache.key_words first.cache.entry_words (g.K.EpochKind.merge_bound first.kind))
@@ -81,7 +80,7 @@ returns g c =
           up_to_whole means folding g.row.WAYS all first new (up_to_on means folding g.row.WAYS all (Merge ∷ []) [] first was new
           (subst (λ n. CarriesUpTo means folding g.row.WAYS all (replicate (suc n) Merge) first was) none c.records.invariant.carries)
           (new, c.in_ok-merge_into.ensures.carries, refl));
-      breaks_off = search rules;
+      breaks_off = tt;
       empty =
           let was = c.records.front in
           let none : length was.pipe.records ≡ 0 = c.merge_into.ensures.empty.0 (c.in_ok-merge_into.was ∙ ap Ok c.in_default.is) in
@@ -89,30 +88,19 @@ returns g c =
           omega arith;
       sizes = keeps_on (with_store c.args.front.now c.args.store.now) (with_store c.records.front c.records.store)
           (with_store c.merge_into.new.self c.merge_into.new.store) c.records.invariant.sizes c.in_ok-merge_into.ensures.carries.sizes;
-      steps = search rules;
+      steps = le_trans c.records.invariant.later c.merge_into.ensures.steps;
       cost = spent g (goal.at.returns g c).After-merge_into;
     }
 
 pub returns-in_err-merge_into : goal.returns-in_err-merge_into
 returns-in_err-merge_into g c =
+    let err = c.in_err-merge_into.ensures.err in
     record {
-      carries = search rules;
-      breaks_off =
-          let first = with_store c.args.front.now c.args.store.now in
-          let was = with_store c.records.front c.records.store in
-          let new = with_store c.merge_into.new.self c.merge_into.new.store in
-          let all = replicate (suc (length first.pipe.records)) Merge in
-          let means = g.K.EpochKind.stands in
-          let folding = g.K.EpochKind.folding in
-          let same = sym (same_store _ c.merge_into.new.self _ _
-          c.in_err-merge_into.ensures.err) in
-          err_holds _ _
-          (rw same at (up_to_first means folding g.row.WAYS all (replicate (suc (length was.pipe.records)) Merge) first was
-          c.records.invariant.carries));
-      empty = search rules;
-      sizes = keeps_on _ _
-          _ c.records.invariant.sizes
-          (keeps_same _ c.merge_into.new.self _ c.merge_into.new.store c.in_err-merge_into.ensures.err);
-      steps = search rules;
+      carries = no_end _ _ c.from_residual.ensures.0;
+      breaks_off = err_holds _ _ (up_to_first_as _ _ g.row.WAYS _ _ _ _ _ c.records.invariant.carries
+          (same_store c.records.front c.merge_into.new.self _ _ err));
+      empty = no_end _ _ c.from_residual.ensures.0;
+      sizes = keeps_on _ _ _ c.records.invariant.sizes (keeps_same _ c.merge_into.new.self _ c.merge_into.new.store err);
+      steps = le_trans c.records.invariant.later c.merge_into.ensures.steps;
       cost = spent g (goal.at.returns-in_err-merge_into g c).After-merge_into;
     }

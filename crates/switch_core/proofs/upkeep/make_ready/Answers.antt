@@ -13,10 +13,10 @@ returns-then-ready g c =
           let here = with_store front c.args.store.now in
           subst (λ events. CarriesAll g.K.EpochKind.stands g.K.EpochKind.folding g.row.WAYS events here here)
           (sym (room_none front.pipe.places (length front.pipe.records) room)) refl;
-      err = search rules;
+      err = tt;
       ready = search rules;
       waiting = sym (left_same front.pipe.places (length front.pipe.records) room);
-      cache = search rules;
+      cache = refl;
       sizes = keeps_start (with_store c.args.front.now c.args.store.now);
       steps = search rules;
       cost = search rules;
@@ -31,14 +31,14 @@ returns g c =
           let new = with_store c.make_room.new.front c.make_room.new.store in
           subst (λ events. CarriesAll g.K.EpochKind.stands g.K.EpochKind.folding g.row.WAYS events (with_store front c.args.store.now) new)
           (sym (room_one front.pipe.places (length front.pipe.records) full)) c.in_ok-make_room.ensures.carries;
-      err = search rules;
-      ready = search rules;
+      err = tt;
+      ready = c.in_ok-make_room.ensures.ready;
       waiting = ap length c.in_ok-make_room.ensures.records ∙ (length-drop 1 front.pipe.records
           ∙ sym (left_fewer front.pipe.places (length front.pipe.records) full));
-      cache = search rules;
+      cache = c.make_room.ensures.cache;
       sizes = c.make_room.ensures.sizes;
-      steps = search rules;
-      cost = search rules;
+      steps = c.make_room.ensures.steps;
+      cost = c.make_room.ensures.cost;
     }
 
 pub returns-in_err-make_room-clause-sizes : goal.returns-in_err-make_room-clause-sizes

@@ -3,10 +3,9 @@ use Rattle.std.proofs.Common.{◌≡◌, ℕ, ◌+◌, ◌-◌, ◌<◌, length,
 use Rattle.std.{proofs.lemmas.Bool.{lt-ltb, Decides.nat_tests}, specs.Prelude.{not, ◌==◌}}
 use Rattle.bucket_cache.specs.Caches.{list_at}
 use Rattle.epoch_model.specs.Machine.{Evict}
-use Rattle.switch_core.specs.{FrontParts.front_of, FrontEvents.FrontMakes}
 use Rattle.switch_core.proofs.CacheSteps.{least_pair, least_within, some_least, none_least, drop_stands, evict_none}
 use Rattle.switch_core.proofs.{PipeSteps.pipe_evicted, LaneSteps.evict_merged_same, Drained.nothing_taken, Carrying.carries_evict}
-use Rattle.switch_core.proofs.FrontSizes.{list_sizes}
+use Rattle.switch_core.proofs.FrontSizes.{front_makes, list_sizes, sizes_same}
 use Rattle.switch_core.proofs.front.Front.evict.Goals as goal
 
 pub push_pair-requires : goal.push_pair-requires
@@ -46,20 +45,13 @@ returns-in-Some g c =
     let least = least_pair list c.in-Some.place c.in-Some.ensures.place in
     let range : bucket < length old.cache.lists = rw (← c.self.view_is) at c.requires.range in
     let sizes = list_sizes _ _ bucket _ pairs in
-    let made : FrontMakes stands g.row.WAYS (Evict bucket) (front_of old.kind old.cache old.pipe)
-    (front_of old.kind c.drop_entry.new.self pipe) = record {
-      stands = λ m s. record {
-        cached = drop_stands _ _ _ bucket range some pairs m s.cached;
-        piped = rw sizes.key_words (pipe_evicted _ _ _ bucket _ _ _
-            c.in-Some.ensures.sound some (sym c.in-Some.ensures.place) c.push_pair.ensures.pushed m s.cached s.few s.piped);
-        few = (evict_merged_same m bucket s.few).1;
-      };
-      kind = refl;
-      buckets = sizes.buckets;
-      key_words = sizes.key_words;
-      entry_words = sizes.entry_words;
-      places = ap (λ p. p.places) c.push_pair.ensures.rest;
-    } in
+    let made = front_makes stands g.row.WAYS (Evict bucket) old.kind old.cache c.drop_entry.new.self old.pipe pipe sizes
+    (ap (λ p. p.places) c.push_pair.ensures.rest) (λ m s. record {
+      cached = drop_stands _ _ _ bucket range some pairs m s.cached;
+      piped = rw sizes.key_words (pipe_evicted _ _ _ bucket _ _ _
+          c.in-Some.ensures.sound some (sym c.in-Some.ensures.place) c.push_pair.ensures.pushed m s.cached s.few s.piped);
+      few = (evict_merged_same m bucket s.few).1;
+    }) in
     let records : length pipe.records ≡ length old.pipe.records + 1 =
     ap length (c.push_pair.ensures.pushed bucket (length list - 1) least.0 least.1 least.2) ∙ length-append old.pipe.records _ in
     record {
@@ -83,15 +75,8 @@ returns-in-None g c =
     let stands = g.K.EpochKind.stands old.kind in
     let none = none_least _ c.in-None.ensures.place in
     let taken = nothing_taken _ bucket none in
-    let made : FrontMakes stands g.row.WAYS (Evict bucket) (front_of old.kind old.cache old.pipe) (front_of old.kind old.cache old.pipe) =
-    record {
-      stands = λ m s. rw (evict_none stands old.cache bucket none m s.cached) s;
-      kind = refl;
-      buckets = refl;
-      key_words = refl;
-      entry_words = refl;
-      places = refl;
-    } in
+    let made = front_makes stands g.row.WAYS (Evict bucket) old.kind old.cache old.cache old.pipe old.pipe (sizes_same old.cache) refl
+    (λ m s. rw (evict_none stands old.cache bucket none m s.cached) s) in
     record {
       carries = λ store. rw (← c.self.view_is) (carries_evict _ _ _ _ _ _ made taken (rw none (omega arith)) (λ h. refl) store);
       some = rw (← c.self.view_is, none);

@@ -1,9 +1,10 @@
 -- The oldest record's epoch goes on in the store, and the record is gone from the pipe.
 use Rattle.std.proofs.Common.{rules, ◌≡◌, ℕ, ◌+◌, ◌<◌, ◌≤◌, length, refl, sym, ap, ◌∙◌, subst, arith}
 use Rattle.epoch_model.{specs.Machine.Merge, proofs.Endings.no_end}
-use Rattle.switch_core.specs.{Costs.merge_cost, FrontParts.{FitsStore, front_of}, FrontEvents.{Carries, FrontMakes, MergesNext, with_store}}
+use Rattle.switch_core.specs.{Costs.merge_cost, FrontParts.{FitsStore, front_of}, FrontEvents.{Carries, MergesNext, with_store}}
 use Rattle.switch_core.specs.Lanes.{RecordStands}
-use Rattle.switch_core.proofs.{Carrying.carries_merge, MergeSteps.{front_merged, next_held}, FrontSizes.{SameSizes, front_kept, parts_kept}}
+use Rattle.switch_core.proofs.{Carrying.carries_merge, FrontSizes.{front_makes, parts_kept, sizes_same}}
+use Rattle.switch_core.proofs.MergeSteps.{front_merged, next_held}
 use Rattle.switch_core.proofs.front.Front.merge_oldest.Goals as goal
 use Rattle.switch_core.proofs.front.Front.merge_oldest.Goals.{After-merge_record}
 
@@ -34,14 +35,9 @@ returns g c =
     subst (λ x. FitsStore (g.K.EpochKind.sizes x.kind) x.cache store) (sym c.self.view_is) c.requires.fits in
     let fit = still_fits g (goal.at.returns g c).After-merge_record in
     let stands = g.K.EpochKind.stands old.kind in
-    let made : FrontMakes stands g.row.WAYS Merge (front_of old.kind old.cache old.pipe) new = record {
-      stands = λ m s. front_merged stands old.cache old.pipe pipe m some (ap (λ p. p.records) c.drop_front.ensures) s;
-      kind = refl;
-      buckets = refl;
-      key_words = refl;
-      entry_words = refl;
-      places = ap (λ p. p.places) c.drop_front.ensures;
-    } in
+    let made = front_makes stands g.row.WAYS Merge old.kind old.cache old.cache old.pipe pipe (sizes_same old.cache)
+    (ap (λ p. p.places) c.drop_front.ensures)
+    (λ m s. front_merged stands old.cache old.pipe pipe m some (ap (λ p. p.records) c.drop_front.ensures) s) in
     let next : MergesNext stands (g.K.EpochKind.folding old.kind) (front_of old.kind old.cache old.pipe) store after =
     λ m epochs s held. next_held stands _ old.cache old.pipe store after m epochs some
     (λ epoch stood kept. c.in_ok-merge_record.ensures.ok epoch epochs
@@ -104,15 +100,12 @@ merge_record-requires-clause-words g c =
 pub invariant_of-self : goal.invariant_of-self
 invariant_of-self g c =
     let old = c.self.inside in
-    parts_kept _ _ _ old.cache old.cache old.pipe old.pipe _ _ _ c.merge_record.new.scratch _ c.self.invariant.front
+    parts_kept _ _ _ old.cache old.cache old.pipe old.pipe _ _ _ c.merge_record.new.scratch _ (sizes_same old.cache) refl refl
     c.deref_mut.ensures.value c.deref_mut.ensures.len c.merge_record.auto.scratch c.self.invariant
 
 pub invariant_of-self-2 : goal.invariant_of-self-2
 invariant_of-self-2 g c =
     let old = c.self.inside in
-    let pipe = c.drop_front.new.self in
-    let same : SameSizes old.cache old.cache = record { buckets = refl; key_words = refl; entry_words = refl } in
-    let front = front_kept g.row.WAYS (g.K.EpochKind.sizes old.kind) old.cache old.cache old.pipe pipe same
-    (ap (λ p. p.places) c.drop_front.ensures) (ap (λ p. p.record_words) c.drop_front.ensures) c.self.invariant.front in
-    parts_kept _ _ _ old.cache old.cache old.pipe pipe _ _ _ c.merge_record.new.scratch _ front
+    parts_kept _ _ _ old.cache old.cache old.pipe c.drop_front.new.self _ _ _ c.merge_record.new.scratch _ (sizes_same old.cache)
+    (ap (λ p. p.places) c.drop_front.ensures) (ap (λ p. p.record_words) c.drop_front.ensures)
     c.deref_mut.ensures.value c.deref_mut.ensures.len c.merge_record.auto.scratch c.self.invariant

@@ -1,15 +1,15 @@
 -- A packet finds its key's entry, begins one in a free place, or takes the place of the least recently used one: each is the packet event
 -- of the front.
-use Rattle.std.proofs.Common.{List, ℕ, ◌≡◌, ◌+◌, ◌<◌, ◌≤◌, ◌∷◌, [], ◌++◌, length, arith, get_or-set_same}
-use Rattle.std.{proofs.Common.{refl, ap, sym, ◌∙◌, subst, lit<, le_trans}, specs.Prelude.slice_index_or}
-use Rattle.epoch_model.specs.{Keys.ArgRow, Machine.Packet}
-use Rattle.bucket_cache.specs.{Caches.{entry_at, list_at}, LendingCaches.with_entry_at, Touches.IsLeast}
+use Rattle.std.proofs.Common.{◌≡◌, ℕ, ◌+◌, ◌<◌, ◌≤◌, [], length, arith, get_or-set_same, refl, ap, sym, ◌∙◌, subst, lit<, le_trans}
+use Rattle.std.specs.Prelude.{slice_index_or}
+use Rattle.epoch_model.specs.Machine.{Packet}
+use Rattle.bucket_cache.specs.{Caches.list_at, LendingCaches.with_entry_at, Touches.IsLeast}
 use Rattle.bucket_cache.specs.declared.bucket.Touch.TheVariants.{Hit, Free}
-use Rattle.switch_core.specs.{FrontParts.front_of, FrontEvents.FrontMakes, Lanes.{CacheStands, PipeStands, geometry}, Places.with_words}
-use Rattle.switch_core.proofs.CacheSteps.{hit_machine, free_machine, full_machine, hit_stands, free_stands, full_stands, front_within}
-use Rattle.switch_core.proofs.{CacheSteps.{least_within, list_set, as_it_was}, Carrying.carries_packet, StepSums.after_sum}
-use Rattle.switch_core.proofs.FrontSizes.{SameSizes, front_kept, list_sizes, parts_kept, sizes_on, words_sizes}
-use Rattle.switch_core.proofs.{LaneSteps.packet_merged_same, PipeSteps.pipe_evicted}
+use Rattle.switch_core.specs.{Lanes.{CacheStands, PipeStands, geometry}, Places.with_words}
+use Rattle.switch_core.proofs.CacheSteps.{as_it_was, front_within, full_machine, full_stands, least_within, list_set}
+use Rattle.switch_core.proofs.FrontSizes.{SameSizes, front_makes, list_sizes, parts_kept, sizes_on, words_sizes}
+use Rattle.switch_core.proofs.{Carrying.carries_packet, LaneSteps.packet_merged_same, PacketSteps.{free_makes, hit_makes}}
+use Rattle.switch_core.proofs.{PipeSteps.pipe_evicted, StepSums.after_sum}
 use Rattle.switch_core.proofs.front.Front.packet.Goals as goal
 
 pub entry_mut-entry-requires : goal.entry_mut-entry-requires
@@ -110,47 +110,22 @@ full_spent first found touched pushed replaced last key key_words touch replace 
 pub returns-in-Hit : goal.returns-in-Hit
 returns-in-Hit g c =
     let old = c.self.inside in
-    let stands = g.K.EpochKind.stands old.kind in
-    let key = c.args.key.now in
-    let args = c.args.args.now in
     let t = c.in-Hit.ensures in
     let place = c.in-Hit.place in
-    let bucket = c.bucket_of-bucket.result in
     let touched = c.touch.new.self in
-    let own = rw c.buckets.ensures.number at c.bucket_of-bucket.ensures.bucket in
-    let range = rw c.buckets.ensures.number at c.bucket_of-bucket.ensures.below in
-    let here = front_within _ _ _ _ _ _ t.sound t.touched.2 in
     let words = c.absorb.new.entry in
-    let cache = with_entry_at touched place words in
     let whole = c.entry_mut-entry.ensures.whole words (c.absorb.auto.entry ∙ c.entry_mut-entry.ensures.length) in
     let written = ap (λ es. slice_index_or es place []) whole
-    ∙ get_or-set_same touched.entries place words [] here in
+    ∙ get_or-set_same touched.entries place words [] (front_within _ _ _ _ _ _ t.sound t.touched.2) in
     let rest = ap (λ es. record touched { entries = es }) whole
     ∙ ap (with_words touched _) (sym written) in
-    let absorbed : (rows : List ArgRow) → stands (entry_at touched place) rows → stands (entry_at cache place) (rows ++ args ∷ []) =
-    λ rows st. rw written (c.absorb.ensures.absorbed rows (rw c.entry_mut-entry.ensures.value st)) in
-    let sizes = list_sizes _ _ bucket _ t.rest in
-    let made : FrontMakes stands g.row.WAYS (Packet key args) (front_of old.kind old.cache old.pipe) (front_of old.kind cache old.pipe) =
-    record {
-      stands = λ m s. record {
-        cached = hit_stands _ _ _ _ _ _ _ _ args own range
-            (rw (ap (λ x. x.entries) t.rest) at here) t.touched t.rest t.sound rest absorbed m s.cached;
-        piped = rw (
-          sizes.key_words,
-          hit_machine _ _ _ _ _ _ _ _ own t.touched m
-              s.cached,
-        ) s.piped;
-        few = (packet_merged_same (geometry g.row.WAYS old.cache) m key args s.few).1;
-      };
-      kind = refl;
-      buckets = sizes.buckets;
-      key_words = sizes.key_words;
-      entry_words = sizes.entry_words;
-      places = refl;
-    } in
+    let made = hit_makes (g.K.EpochKind.stands old.kind) g.row.WAYS old.kind old.cache touched (with_entry_at touched place words) old.pipe
+    c.bucket_of-bucket.result place c.args.key.now c.args.args.now _ c.buckets.ensures.number c.bucket_of-bucket.ensures.bucket
+    c.bucket_of-bucket.ensures.below t.rest t.sound rest t.touched
+    (λ rows st. rw written (c.absorb.ensures.absorbed rows (rw c.entry_mut-entry.ensures.value st))) in
     record {
       carries = λ store. rw (← c.self.view_is) (carries_packet _ _ _ _ _ _ _ made store);
-      steps = le_trans (after_sum _ _ _ c.bucket_of-bucket.ensures.cost) (le_trans c.in-Hit.ensures.steps c.absorb.ensures.steps);
+      steps = le_trans (after_sum _ _ _ c.bucket_of-bucket.ensures.cost) (le_trans t.steps c.absorb.ensures.steps);
       cost =
           let long = rw (← c.self.view_is) at c.requires.key in
           let bounded = (c.uses_are_bounded.ensures g.row.WAYS old.cache.key_words c.self.invariant.front.some_ways).touch (Hit place) in
@@ -161,45 +136,19 @@ returns-in-Hit g c =
 pub returns-in-Free : goal.returns-in-Free
 returns-in-Free g c =
     let old = c.self.inside in
-    let stands = g.K.EpochKind.stands old.kind in
-    let key = c.args.key.now in
-    let args = c.args.args.now in
     let t = c.in-Free.ensures in
     let place = c.in-Free.place in
-    let bucket = c.bucket_of-bucket.result in
-    let touched = c.touch.new.self in
-    let own = rw c.buckets.ensures.number at c.bucket_of-bucket.ensures.bucket in
-    let range = rw c.buckets.ensures.number at c.bucket_of-bucket.ensures.below in
-    let here = front_within _ _ _ _ _ _ t.sound t.touched.2 in
-    let cache = c.begin_at.new.cache in
-    let rest = c.begin_at.ensures.rest in
-    let sizes = sizes_on _ _ _ (list_sizes _ _ bucket _ t.rest) (words_sizes _ _ place _ rest) in
-    let made : FrontMakes stands g.row.WAYS (Packet key args) (front_of old.kind old.cache old.pipe) (front_of old.kind cache old.pipe) =
-    record {
-      stands = λ m s. record {
-        cached = free_stands _ _ _ _ _ _ _ _ args own range
-            (rw (ap (λ x. x.entries) t.rest) at here) t.touched t.rest t.sound rest c.begin_at.ensures.begun m s.cached;
-        piped = rw (
-          sizes.key_words,
-          free_machine _ _ _ _ _ _ _ _ own t.touched m
-              s.cached,
-        ) s.piped;
-        few = (packet_merged_same (geometry g.row.WAYS old.cache) m key args s.few).1;
-      };
-      kind = refl;
-      buckets = sizes.buckets;
-      key_words = sizes.key_words;
-      entry_words = sizes.entry_words;
-      places = refl;
-    } in
+    let begun = c.begin_at.ensures in
+    let made = free_makes (g.K.EpochKind.stands old.kind) g.row.WAYS old.kind old.cache c.touch.new.self c.begin_at.new.cache old.pipe
+    c.bucket_of-bucket.result place c.args.key.now c.args.args.now _ c.buckets.ensures.number c.bucket_of-bucket.ensures.bucket
+    c.bucket_of-bucket.ensures.below t.rest t.sound begun.rest t.touched begun.begun in
     record {
       carries = λ store. rw (← c.self.view_is) (carries_packet _ _ _ _ _ _ _ made store);
-      steps = le_trans (after_sum _ _ _ c.bucket_of-bucket.ensures.cost) (le_trans c.in-Free.ensures.steps c.begin_at.ensures.steps);
+      steps = le_trans (after_sum _ _ _ c.bucket_of-bucket.ensures.cost) (le_trans t.steps begun.steps);
       cost =
           let long = rw (← c.self.view_is) at c.requires.key in
           let bounded = (c.uses_are_bounded.ensures g.row.WAYS old.cache.key_words c.self.invariant.front.some_ways).touch (Free place) in
-          rw (← c.self.view_is)
-          (free_spent _ _ _ _ _ _ _ _ _ _ _ c.bucket_of-bucket.ensures.cost long t.cost bounded c.begin_at.ensures.cost);
+          rw (← c.self.view_is) (free_spent _ _ _ _ _ _ _ _ _ _ _ c.bucket_of-bucket.ensures.cost long t.cost bounded begun.cost);
     }
 
 pub returns-in-Full : goal.returns-in-Full
@@ -226,27 +175,20 @@ returns-in-Full g c =
     let taken = list_sizes _ _ bucket _ t.rest in
     let sizes = sizes_on _ _ _ taken (sizes_on _ _ _ (list_sizes _ _ bucket _ r.pairs)
     (words_sizes _ _ c.replace-freed.result _ begun.rest)) in
-    let made : FrontMakes stands g.row.WAYS (Packet key args) (front_of old.kind old.cache old.pipe)
-    (front_of old.kind cache c.push_pair.new.pipe) = record {
-      stands = λ m s.
-          let evicted = pipe_evicted stands g.row.WAYS touched bucket c.in-Full.place old.pipe.records records t.sound some least
-          c.push_pair.ensures.pushed m (subst (λ x. CacheStands stands x m) (sym untouched) s.cached) s.few
-          (subst (λ k. PipeStands stands k old.pipe.records m) (sym taken.key_words) s.piped) in
-          let steps = full_machine stands g.row.WAYS old.cache (list_at touched bucket) bucket c.in-Full.place key args own t.touched m
-          s.cached in
-          record {
-            cached = full_stands _ _ _ _ _ _ _ _ _ _ args c.self.invariant.front.some_ways own range
-                (rw (ap (λ x. x.entries) r.pairs ∙ ap (λ x. x.entries) untouched) at here)
-                t.touched t.rest r.pairs r.sound begun.rest begun.begun m s.cached;
-            piped = rw (sizes.key_words, ← taken.key_words, steps) evicted;
-            few = (packet_merged_same (geometry g.row.WAYS old.cache) m key args s.few).1;
-          };
-      kind = refl;
-      buckets = sizes.buckets;
-      key_words = sizes.key_words;
-      entry_words = sizes.entry_words;
-      places = ap (λ p. p.places) c.push_pair.ensures.rest;
-    } in
+    let made = front_makes stands g.row.WAYS (Packet key args) old.kind old.cache cache old.pipe c.push_pair.new.pipe sizes
+    (ap (λ p. p.places) c.push_pair.ensures.rest) (λ m s.
+    let evicted = pipe_evicted stands g.row.WAYS touched bucket c.in-Full.place old.pipe.records records t.sound some least
+    c.push_pair.ensures.pushed m (subst (λ x. CacheStands stands x m) (sym untouched) s.cached) s.few
+    (subst (λ k. PipeStands stands k old.pipe.records m) (sym taken.key_words) s.piped) in
+    let steps = full_machine stands g.row.WAYS old.cache (list_at touched bucket) bucket c.in-Full.place key args own t.touched m
+    s.cached in
+    record {
+      cached = full_stands _ _ _ _ _ _ _ _ _ _ args c.self.invariant.front.some_ways own range
+          (rw (ap (λ x. x.entries) r.pairs ∙ ap (λ x. x.entries) untouched) at here)
+          t.touched t.rest r.pairs r.sound begun.rest begun.begun m s.cached;
+      piped = rw (sizes.key_words, ← taken.key_words, steps) evicted;
+      few = (packet_merged_same (geometry g.row.WAYS old.cache) m key args s.few).1;
+    }) in
     record {
       carries = λ store. rw (← c.self.view_is) (carries_packet _ _ _ _ _ _ _ made store);
       steps = le_trans (le_trans (after_sum _ _ _ c.bucket_of-bucket.ensures.cost) t.steps)
@@ -263,43 +205,25 @@ returns-in-Full g c =
 
 pub invariant_of-self : goal.invariant_of-self
 invariant_of-self g c =
-    let old = c.self.inside in
-    let place = c.in-Hit.place in
-    let touched = c.touch.new.self in
-    let cache = with_entry_at touched place c.absorb.new.entry in
-    let sizes = list_sizes _ _ c.bucket_of-bucket.result _ c.in-Hit.ensures.rest in
-    let same : SameSizes old.cache cache = record {
-      buckets = sizes.buckets;
-      key_words = sizes.key_words;
-      entry_words = sizes.entry_words;
-    } in
-    let front = front_kept g.row.WAYS (g.K.EpochKind.sizes old.kind) old.cache cache old.pipe old.pipe same refl refl
-    c.self.invariant.front in
-    parts_kept _ _ _ _ _ _ _ _ _ _ _ _ front c.deref_mut-scratch.ensures.value
+    let kept = list_sizes _ _ c.bucket_of-bucket.result _ c.in-Hit.ensures.rest in
+    let sizes : SameSizes c.self.inside.cache (with_entry_at c.touch.new.self c.in-Hit.place c.absorb.new.entry) =
+    record { buckets = kept.buckets; key_words = kept.key_words; entry_words = kept.entry_words } in
+    parts_kept _ _ _ _ _ _ _ _ _ _ _ _ sizes refl refl c.deref_mut-scratch.ensures.value
     c.deref_mut-scratch.ensures.len c.absorb.auto.scratch c.self.invariant
 
 pub invariant_of-self-in-Free : goal.invariant_of-self-in-Free
 invariant_of-self-in-Free g c =
-    let old = c.self.inside in
-    let cache = c.begin_at.new.cache in
     let sizes = sizes_on _ _ _ (list_sizes _ _ c.bucket_of-bucket.result _ c.in-Free.ensures.rest)
     (words_sizes _ _ c.in-Free.place _ c.begin_at.ensures.rest) in
-    let front = front_kept g.row.WAYS (g.K.EpochKind.sizes old.kind) old.cache cache old.pipe old.pipe sizes refl refl
-    c.self.invariant.front in
-    parts_kept _ _ _ _ _ _ _ _ _ _ _ _ front c.deref_mut-scratch.ensures.value
+    parts_kept _ _ _ _ _ _ _ _ _ _ _ _ sizes refl refl c.deref_mut-scratch.ensures.value
     c.deref_mut-scratch.ensures.len c.begin_at.auto.scratch c.self.invariant
 
 pub invariant_of-self-in-Full : goal.invariant_of-self-in-Full
 invariant_of-self-in-Full g c =
-    let old = c.self.inside in
     let bucket = c.bucket_of-bucket.result in
-    let cache = c.begin_at-in-Full.new.cache in
-    let pipe = c.push_pair.new.pipe in
-    let replaced = c.replace-freed.new.self in
     let sizes = sizes_on _ _ _ (list_sizes _ _ bucket _ c.in-Full.ensures.rest)
     (sizes_on _ _ _ (list_sizes _ _ bucket _ c.replace-freed.ensures.pairs)
     (words_sizes _ _ c.replace-freed.result _ c.begin_at-in-Full.ensures.rest)) in
-    let front = front_kept g.row.WAYS (g.K.EpochKind.sizes old.kind) old.cache cache old.pipe pipe sizes
-    (ap (λ p. p.places) c.push_pair.ensures.rest) (ap (λ p. p.record_words) c.push_pair.ensures.rest) c.self.invariant.front in
-    parts_kept _ _ _ _ _ _ _ _ _ _ _ _ front c.deref_mut-scratch.ensures.value
+    parts_kept _ _ _ _ _ _ _ _ _ _ _ _ sizes (ap (λ p. p.places) c.push_pair.ensures.rest)
+    (ap (λ p. p.record_words) c.push_pair.ensures.rest) c.deref_mut-scratch.ensures.value
     c.deref_mut-scratch.ensures.len c.begin_at-in-Full.auto.scratch c.self.invariant

@@ -1,5 +1,5 @@
 -- What an eviction makes of a front, it makes of its lane.
-use Rattle.std.{proofs.Common.{◌≡◌, ◌+◌, ◌-◌, ◌<◌, length, take, ap, sym, ◌∙◌, subst, rules}, specs.Prelude.{◌==◌, not, if◌then◌else◌}}
+use Rattle.std.{proofs.Common.{◌+◌, ◌-◌, ◌<◌, length, take, ap, sym, ◌∙◌, subst, rules}, specs.Prelude.{◌==◌, not, if◌then◌else◌}}
 use Rattle.epoch_model.specs.Machine.{Evict}
 use Rattle.bucket_cache.specs.Caches.{list_at, with_list}
 use Rattle.switch_core.specs.{Costs.evict_cost, FrontEvents.with_store, LaneEvents.{Makes, parts}}

@@ -1,5 +1,5 @@
 -- The lanes make the events of their upkeeps, and stay those of the plan.
-use Rattle.std.proofs.Common.{rules, length, drop, refl, ◌∙◌}
+use Rattle.std.proofs.Common.{length, drop, refl, ◌∙◌}
 use Rattle.switch_core.{specs.PlanLanes.{LanesBreakOff, LanesMake, upkeeps_at}, proofs.FrontSizes.room_kept}
 use Rattle.switch_core.proofs.{LaneFacts.{whole_written, either_way, on_ok, on_err}, PipelineSteps.given_back}
 use Rattle.switch_core.proofs.pipeline.Pipeline.keep_up.Goals as goal
@@ -41,6 +41,6 @@ returns g c =
           (b.0, b.1, b.2, (given_back _ _ _ c.self.inside.plan _ _ items items new refl len b.3 was.lanes was.made).makes))
           c.keep_lanes.ensures.breaks_off;
       left = rw (whole_written new (drop (length new) items) c.self.inside.lanes.len len) c.keep_lanes.ensures.left;
-      steps = search rules;
+      steps = c.keep_lanes.ensures.steps;
       cost = rw (← c.self.view_is) (rw value at c.keep_lanes.ensures.cost);
     }

@@ -6,8 +6,8 @@ use Rattle.query_lang.specs.declared.fault.TheConstants.{MAX_ARGS, MAX_KEYS}
 use Rattle.stage_plan.specs.{Planned.wiring_at, Registers.taken_at, Sound.PlanParts}
 use Rattle.switch_core.specs.{Pipelines.packet_events, PlanLanes.{AreLanesOf, LaneMakes, LaneView, PipelineView, lane_cost, lane_is_ready}}
 use Rattle.switch_core.proofs.{FrontSizes.room_kept, LaneFacts.{all_at, lane_fits, whole_written}, PacketBound.packet_within}
-use Rattle.switch_core.proofs.{PipelineSteps.given_back, SideBySide.{same_some, each_long, done_start, untouched_start}, StepSums.one_more}
-use Rattle.switch_core.proofs.SideBySide.{done_next, untouched_next, was_there, done_end, sum_next, sum_whole}
+use Rattle.switch_core.proofs.{PipelineSteps.given_back, SideBySide.{each_long, done_start, untouched_start}, StepSums.one_more}
+use Rattle.switch_core.proofs.SideBySide.{done_here, untouched_next, was_there, done_end, sum_next, sum_whole}
 use Rattle.switch_core.proofs.pipeline.Pipeline.packet.Goals as goal
 
 pub registers_of-registers-requires-clause-row : goal.registers_of-registers-requires-clause-row
@@ -83,8 +83,7 @@ loop-i-preserved g c =
     subst (λ (x : PlanParts). LaneMakes g.row.WAYS (event_of (taken_at (wiring_at x i) registers)) lane c.take.new.self) same
     c.take.ensures.makes in
     record {
-      makes = done_next made i first c.loop-i.lanes c.take.new.self c.loop-i.invariant.makes
-          (λ x e. subst (λ v. made i v c.take.new.self) (same_some lane x (sym was ∙ e)) taken);
+      makes = done_here made i first c.loop-i.lanes lane c.take.new.self c.loop-i.invariant.makes was taken;
       same = untouched_next i first c.loop-i.lanes c.take.new.self c.loop-i.invariant.same;
       steps = le_trans c.loop-i.invariant.steps c.take.ensures.steps;
       cost = one_more _ _ _ _ _ _ c.loop-i.invariant.cost c.take.ensures.cost (sum_next (lane_cost g.row.WAYS) first i lane was);
