@@ -8,13 +8,13 @@ use Rattle.switch_core.specs.{Closing.{held_in, is_drained}, FrontParts.FrontOf,
 use Rattle.switch_core.specs.Upkeeps.{IsKept, Try, counts_of, left_waiting, room_events, sweep_events, tries}
 use Rattle.switch_core.specs.declared.upkeep.Upkeep.{Upkeep}
 use Rattle.switch_core.specs.declared.upkeep.Upkeep.TheVariants as due
-use Rattle.switch_core.proofs.{LaneFacts.{got_set, set_same}, SideBySide.{got_below, got_some}}
+use Rattle.switch_core.proofs.{LaneFacts.{got_other, got_set, set_same}, SideBySide.{got_below, got_some}}
 use Rattle.network.specs.Groups.{GroupKept, GroupView, group_is_drained}
 use Rattle.network.specs.Events.{GroupBreaksOff, GroupMakesAll, IsLeft, StaysBut, is_ready_at, upkeep_in}
 use Rattle.network.specs.{Networks.{IsNetwork, NetworkView}, Running.{Evicts, FrontsStay, Merges, NetworkRuns, RunBreaksOff, calls_of}}
 use Rattle.network.{specs.Running.{front_at, front_of, lane_calls, upkeep_calls}, proofs.{GroupSteps.group_at, CostSteps.kept_at}}
 use Rattle.network.proofs.{MakeSteps.{make_one, ready_at, switch_within}, NetworkSteps.with_groups}
-use Rattle.network.proofs.{Runs.{NetworkKept, below_same, kept_long}, SharedSteps.{all_pass, got_other, set_set}}
+use Rattle.network.proofs.{Runs.{NetworkKept, below_same, kept_long}, SharedSteps.{all_pass, set_set}}
 
 -- ---- no upkeep takes a packet
 
@@ -104,25 +104,6 @@ module _ (ways at lane : ℕ) where
 pub front_here : (at lane : ℕ) (net : NetworkView) (group : GroupView) → slice_get net.groups lane ≡ Some group
     → front_at net lane at ≡ slice_get group.fronts at
 front_here at _ _ _ here = rw here
-
--- the calls of an upkeep at a groupby
-module _ (ways at lane : ℕ) (upkeep : Upkeep) (net : NetworkView) (group new : GroupView) (here : slice_get net.groups lane ≡ Some group)
-  where
-    pub upkeep_runs : GroupMakesAll ways at (upkeep_in upkeep (slice_get group.fronts at)) group new
-        → NetworkRuns ways (lane_calls at upkeep net lane) net (with_groups net (set net.groups lane new))
-    upkeep_runs made =
-        subst (λ o. NetworkRuns ways (calls_of at lane (upkeep_in upkeep o)) net (with_groups net (set net.groups lane new)))
-        (sym (front_here at lane net group here))
-        (lane_runs ways at lane (upkeep_in upkeep (slice_get group.fronts at)) net group new
-        (upkeep_packets upkeep (slice_get group.fronts at)) here made)
-
-    pub upkeep_breaks : GroupBreaksOff ways at (upkeep_in upkeep (slice_get group.fronts at)) group new
-        → RunBreaksOff ways (lane_calls at upkeep net lane) net (with_groups net (set net.groups lane new))
-    upkeep_breaks broke =
-        subst (λ o. RunBreaksOff ways (calls_of at lane (upkeep_in upkeep o)) net (with_groups net (set net.groups lane new)))
-        (sym (front_here at lane net group here))
-        (lane_breaks ways at lane (upkeep_in upkeep (slice_get group.fronts at)) net group new
-        (upkeep_packets upkeep (slice_get group.fronts at)) here broke)
 
 -- one groupby is another one, whose fronts of other switches are the same
 pub lane_stays : (at lane : ℕ) (net : NetworkView) (group new : GroupView) → slice_get net.groups lane ≡ Some group → StaysBut at group new

@@ -1,23 +1,19 @@
 -- The tables of a network that is drained.
-use Rattle.std.proofs.Common.{◌≡◌, ℕ, suc, ◌+◌, ◌<◌, ◌==◌, true, List, [], ◌∷◌, ◌++◌, Option, Some, None, length, map, drop, refl, sym, ap}
-use Rattle.std.{proofs.{Common.{◌∙◌, subst, arith, append-nil}, lemmas.List.Elements.{All-nil, All-cons}}, specs.Prelude.slice_get}
-use Rattle.std.specs.List.{All, list_all}
-use Rattle.query_lang.specs.declared.{fold.TypedFold.TypedFold, typed.TypedOp.TypedOp}
-use Rattle.query_lang.specs.declared.typed.TypedOp.TheVariants as op
-use Rattle.query_lang.specs.{declared.typed.{TypedQuery.TypedQuery, TypedStream.TypedStream}, Streams.{Taking, takings}}
-use Rattle.query_lang.specs.TypedQueries.{IsValidQuery, AreValidStreams, IsValidOp}
+use Rattle.std.proofs.Common.{◌≡◌, ℕ, suc, ◌+◌, ◌<◌, ◌==◌, true, List, [], ◌∷◌, ◌++◌, Option, Some, None, map, drop, refl, sym, ap}
+use Rattle.std.{proofs.Common.{◌∙◌, subst, arith, append-nil}, specs.{List.list_all, Prelude.slice_get}}
+use Rattle.query_lang.specs.declared.{fold.TypedFold.TypedFold, typed.TypedQuery.TypedQuery}
 use Rattle.epoch_model.specs.{Keys.{ArgRow, Key}, Machine.{Epoch, Event, Evict, Merge}, Laws.HasRoom, Timeline.NoPacket}
 use Rattle.epoch_model.{specs.Driving.{Taken, event_of}, proofs.KeyLists.by_test}
 use Rattle.epoch_entry.specs.Foldings.{folding_of}
 use Rattle.backing_store.specs.Merged.{StoreHolds}
 use Rattle.final_queries.specs.{declared.table.Table.Table, GroupTable.closed_table, FinalLaws.{AreAlike, AlikeFoldingsMakeOneTable}}
 use Rattle.stage_plan.specs.{declared.group.GroupPlan.GroupPlan, Planned.{fold_at, taken, wiring_at}, Shape.group_shape, Sound.PlanParts}
-use Rattle.switch_core.{specs.{Pipelines.{event_at, heading_of}, Rows.EachFrom}, proofs.LaneFacts.all_at}
+use Rattle.switch_core.{specs.{Pipelines.{event_at, heading_of}, Rows.EachFrom}, proofs.{GroupFolds.fold_there, LaneFacts.all_at}}
 use Rattle.switch_core.proofs.SideBySide.{each_long, got_below, got_some}
 use Rattle.additive_laws.specs.Network.{SwitchEvent, SwitchEpoch, all_epochs, all_events, AllMerged}
 use Rattle.additive_laws.specs.Traces.{HasPackets, IsRun, from_switch, given, packets_among, without_switch_merges}
 use Rattle.net_wide.specs.NetTables.{caches_of, net_pieces, net_table, net_table_if, net_tables, net_tables_from, tables_of_pieces}
-use Rattle.net_wide.{specs.NetEnds.{MergedMakeTheTable, PiecesAreTheEpochs, net_steps}, proofs.SameTexts.at_place}
+use Rattle.net_wide.specs.NetEnds.{MergedMakeTheTable, PiecesAreTheEpochs, net_steps}
 use Rattle.net_wide.proofs.{PieceTables.pieces_same, Places.first_at}
 use Rattle.network.specs.Ends.{AreAtTheirSwitches, CombineOver, EvictsLast, NoEviction, packets_taken, pieces_closed}
 use Rattle.network.specs.Groups.{GroupView, IsGroup, StoresHold, folding_in, group_is_drained, shared_tables}
@@ -95,32 +91,6 @@ is_run plan n number events last at =
           );
       ending = rest_given plan n last.rest last.after;
     }
-
--- each groupby of a valid query has a fold
-
-abbrev HasFold : List TypedFold → Taking → Type 0
-HasFold folds t = t.fold_number < length folds
-
-folds_there : (names : ℕ) (folds : List TypedFold) (before streams : List TypedStream) → AreValidStreams names folds before streams
-    → All (HasFold folds) (takings streams)
-folds_there _ folds _ [] _ = All-nil (HasFold folds)
-folds_there names folds before (one ∷ streams) valid = by_op one.op valid.0.operator
-    (folds_there names folds (before ++ one ∷ []) streams valid.1)
-  where
-    by_op : (o : TypedOp) → IsValidOp folds before (length one.columns) o → All (HasFold folds) (takings streams)
-        → All (HasFold folds) (takings (record one { op = o } ∷ streams))
-    by_op (op.Filter _ _) v rest = rest
-    by_op (op.Map _ _) v rest = rest
-    by_op (op.Zip _ _ _) v rest = rest
-    by_op (op.Group input keys f args) v rest = All-cons (HasFold folds)
-        (record { input = input; keys = keys; fold_number = f; args = args }) (takings streams) v.1.is_fold rest
-
-fold_there : (q : TypedQuery) (i : ℕ) → IsValidQuery q → i < length (takings q.streams) → (f : TypedFold) × (fold_at q i ≡ Some f)
-fold_there q i valid within =
-    let t = got_some (takings q.streams) i within in
-    let has = at_place (HasFold q.folds) (takings q.streams) i t.0 (folds_there (length q.names) q.folds [] q.streams valid.streams) t.1 in
-    let f = got_some q.folds t.0.fold_number has in
-    (f.0, rw t.1 f.1)
 
 -- ---- the tables from one groupby on, of the epochs that the stores hold
 

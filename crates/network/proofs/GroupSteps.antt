@@ -1,7 +1,7 @@
 -- Groupbys side by side.
 use Rattle.std.proofs.Common.{◌≡◌, ℕ, zero, suc, ◌+◌, ◌<◌, ◌≤◌, nat_lt, List, [], ◌∷◌, ◌++◌, inl, inr, Some, length, take, refl, sym, ap}
 use Rattle.std.proofs.{Common.{◌∙◌, subst, arith, length-append}, Math.{Logic.{∥∥₁_elim}, Seq.{take-append_seam, take-length}}, Props.props}
-use Rattle.std.{proofs.lemmas.Bool.Decides.nat_tests, specs.Prelude.slice_get}
+use Rattle.std.{proofs.lemmas.{Bool.Decides.nat_tests, List.take_all}, specs.Prelude.slice_get}
 use Rattle.epoch_model.{proofs.KeyLists.by_test, specs.Machine.Epoch}
 use Rattle.fold_class.specs.Program.{IsProgram, IsProgramOf}
 use Rattle.query_lang.specs.declared.{fold.TypedFold.TypedFold, fault.TheConstants.{MAX_ARGS, MAX_KEYS}}
@@ -111,16 +111,16 @@ tables_next parts groups epochs i part group es a b e =
     ap (λ n. take n (shared_tables parts groups epochs)) (let q : i + 1 ≡ suc i = omega arith in q)
     ∙ tables_next_at parts groups epochs i _ _ es a b e
 
+tables_few : (parts : List GroupPlan) (groups : List GroupView) (epochs : List (List Epoch))
+    → length (shared_tables parts groups epochs) ≤ length groups
+tables_few [] _ _ = omega arith
+tables_few (_ ∷ _) [] _ = omega arith
+tables_few (_ ∷ _) (_ ∷ _) [] = omega arith
+tables_few (_ ∷ parts) (_ ∷ groups) (_ ∷ epochs) = let more = tables_few parts groups epochs in omega arith
+
 pub tables_whole : (parts : List GroupPlan) (groups : List GroupView) (epochs : List (List Epoch)) (i : ℕ) → length groups ≤ i
     → take i (shared_tables parts groups epochs) ≡ shared_tables parts groups epochs
-tables_whole [] _ _ zero h = refl
-tables_whole [] _ _ (suc i) h = refl
-tables_whole (p ∷ _) [] _ zero h = refl
-tables_whole (p ∷ _) [] _ (suc i) h = refl
-tables_whole (p ∷ _) (g ∷ _) [] zero h = refl
-tables_whole (p ∷ _) (g ∷ _) [] (suc i) h = refl
-tables_whole (p ∷ parts) (g ∷ groups) (n ∷ epochs) zero h = absurd (omega arith)
-tables_whole (p ∷ parts) (g ∷ groups) (n ∷ epochs) (suc i) h = rw (tables_whole parts groups epochs i (omega arith))
+tables_whole parts groups epochs i h = take_all i _ (let few = tables_few parts groups epochs in omega arith)
 
 -- a groupby has a front more
 abbrev pub Grown : PlanParts → ℕ → GroupView → GroupView → Type 0

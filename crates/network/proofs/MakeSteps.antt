@@ -1,21 +1,23 @@
 -- What an event of one switch makes of a groupby, and of all groupbys side by side.
-use Rattle.std.proofs.Common.{◌≡◌, ℕ, zero, suc, ◌<◌, ◌==◌, true, false, List, [], ◌∷◌, length, replicate, get_or, set, Option, Some}
+use Rattle.std.proofs.Common.{◌≡◌, ℕ, zero, suc, ◌<◌, ◌==◌, true, false, List, [], ◌∷◌, ◌++◌, length, replicate, get_or, set, Option, Some}
 use Rattle.std.proofs.{Common.{Result, Ok, Err, OnOk, OnErr, refl, sym, ap, subst, ◌∙◌, arith, append-nil}, lemmas.Bool.lt-ltb}
 use Rattle.std.{proofs.lemmas.Bool.Decides.nat_tests, specs.Prelude.slice_get}
 use Rattle.epoch_model.specs.Machine.{Event, Evict, Merge}
-use Rattle.backing_store.specs.Store.{Store}
+use Rattle.additive_laws.specs.Network.{SwitchEpoch, SwitchEvent, all_epochs}
+use Rattle.backing_store.specs.{Merged.StoreHolds, Store.Store}
 use Rattle.epoch_entry.specs.{declared.any.AnyEpochs.AnyEpochs, contracts.any.AnyEpochsEpochKind.TheImpl.ghosts}
 use Rattle.final_queries.specs.FinalLaws.{AreAlike}
 use Rattle.stage_plan.specs.{Planned.wiring_at, Sound.PlanParts}
 use Rattle.switch_core.specs.{FrontEvents.{Carries, CarriesFirst, with_store}, FrontParts.{FrontOf, front_of}, Pipelines.event_at}
 use Rattle.switch_core.specs.{PlanLanes.LaneView, Rows.{Each, EachFrom}, Upkeeps.{IsKept, upkeep_events}, declared.upkeep.Upkeep.Upkeep}
 use Rattle.switch_core.specs.declared.upkeep.Upkeep.TheVariants as due
-use Rattle.switch_core.proofs.LaneFacts.{got_set, set_same}
+use Rattle.switch_core.proofs.LaneFacts.{got_other, got_set, set_same}
 use Rattle.switch_core.proofs.SideBySide.{each_map, each_set, got_below, got_here, same_some, untouched_start}
-use Rattle.network.specs.{Shared.{AllShare, FrontKept}, Groups.{AreGroups, GroupKept, GroupView, folding_in, group_is_drained}}
+use Rattle.network.specs.Groups.{AreGroups, GroupKept, GroupStands, GroupView, folding_in, group_is_drained}
+use Rattle.network.specs.Shared.{AllShare, FrontKept, merged_by}
 use Rattle.network.specs.Events.{AreAllMerged, GroupBreaksOff, GroupMakes, GroupMakesAll, GroupsMake, IsLeft, LaneCarries, LeavesCache}
 use Rattle.network.{specs.Events.{OthersStay, StaysBut, StoresStay, has_room, is_ready_at, with_lane}, proofs.GroupSteps.group_at}
-use Rattle.network.proofs.SharedSteps.{each_on, fronts_same, got_other, kept_on, one_kept, set_set, store_on}
+use Rattle.network.proofs.SharedSteps.{each_on, fronts_same, kept_on, one_kept, set_set, store_on}
 use Rattle.network.proofs.Sharing.{all_done, fronts_next, held_next}
 
 -- events of a groupby, and of all groupbys, keep kinds and sizes
@@ -89,11 +91,12 @@ none_changes at k (x ∷ groups) = (λ other apart. refl, none_changes at (suc k
 -- what events of a front with the groupby's store make of the groupby
 
 module _ (ways at : ℕ) where
-  pub one_makes : (event : Event) (group : GroupView) (was : FrontOf AnyEpochs) (now : LaneView) → slice_get group.fronts at ≡ Some was
-      → AreAlike (ghosts.folding was.kind) (folding_in group)
+  makes_with : (event : Event) (group : GroupView) (was : FrontOf AnyEpochs) (now : LaneView) → slice_get group.fronts at ≡ Some was
       → Carries ghosts.stands ghosts.folding ways event (with_store was group.store) now
+      → ((buckets : ℕ) (events : List SwitchEvent) (merged : List SwitchEpoch) → GroupStands ways buckets group events merged
+      → StoreHolds (folding_in group) now.store (all_epochs (merged ++ merged_by ways buckets at event events)))
       → GroupMakes ways at event group (with_lane at now group)
-  one_makes event group was now here alike made = record {
+  makes_with event group was now here made held = record {
     was = was;
     here = here;
     now = now;
@@ -102,27 +105,24 @@ module _ (ways at : ℕ) where
     stands = λ buckets events merged s. record {
       fronts = fronts_next ghosts.stands ghosts.folding ways buckets at event group.fronts was group.store now here made events merged
           s.fronts;
-      store = held_next ghosts.stands ghosts.folding ways buckets at event group.fronts was group.store now here made events merged
-          s.fronts (folding_in group) alike s.store;
+      store = held buckets events merged s;
     };
   }
+
+  pub one_makes : (event : Event) (group : GroupView) (was : FrontOf AnyEpochs) (now : LaneView) → slice_get group.fronts at ≡ Some was
+      → AreAlike (ghosts.folding was.kind) (folding_in group)
+      → Carries ghosts.stands ghosts.folding ways event (with_store was group.store) now
+      → GroupMakes ways at event group (with_lane at now group)
+  one_makes event group was now here alike made = makes_with event group was now here made (λ buckets events merged s.
+      held_next ghosts.stands ghosts.folding ways buckets at event group.fronts was group.store now here made events merged
+      s.fronts (folding_in group) alike s.store)
 
   -- an eviction changes no store
   pub evict_makes : (bucket : ℕ) (group : GroupView) (was : FrontOf AnyEpochs) (now : LaneView) → slice_get group.fronts at ≡ Some was
       → Carries ghosts.stands ghosts.folding ways (Evict bucket) (with_store was group.store) now
       → GroupMakes ways at (Evict bucket) group (with_lane at now group)
-  evict_makes bucket group was now here made = record {
-    was = was;
-    here = here;
-    now = now;
-    carries = made;
-    made = refl;
-    stands = λ buckets events merged s. record {
-      fronts = fronts_next ghosts.stands ghosts.folding ways buckets at (Evict bucket) group.fronts was group.store now here made events
-          merged s.fronts;
-      store = rw (append-nil merged, made.leaves.store) s.store;
-    };
-  }
+  evict_makes bucket group was now here made = makes_with (Evict bucket) group was now here made
+      (λ buckets events merged s. rw (append-nil merged, made.leaves.store) s.store)
 
   pub all_made : (events : List Event) (group : GroupView) (was : FrontOf AnyEpochs) (new : LaneView)
       → slice_get group.fronts at ≡ Some was → AreAlike (ghosts.folding was.kind) (folding_in group)

@@ -1,13 +1,15 @@
 -- A groupby of a network that is another one now, and the network with it.
-use Rattle.std.{proofs.Common.{◌≡◌, ℕ, ◌<◌, Some, length, get_or, set, refl, sym, ap, ◌∙◌}, specs.Prelude.slice_get}
+use Rattle.std.{proofs.Common.{◌≡◌, ℕ, ◌<◌, List, Some, length, get_or, set, refl, sym, ap, subst₂, ◌∙◌}, specs.Prelude.slice_get}
 use Rattle.epoch_model.specs.Machine.{Event}
 use Rattle.epoch_entry.specs.{declared.any.AnyEpochs.AnyEpochs, contracts.any.AnyEpochsEpochKind.TheImpl.ghosts}
 use Rattle.stage_plan.specs.Planned.{wiring_at}
 use Rattle.switch_core.{specs.{FrontParts.FrontOf, Pipelines.event_at}, proofs.LaneFacts.{got_set, set_same}}
 use Rattle.switch_core.proofs.SideBySide.{got_below, same_some}
-use Rattle.network.specs.{Events.{GroupMakes, GroupsMake, OthersStay}, Groups.{GroupView, folding_in}, Networks.{IsNetwork, NetworkView}}
-use Rattle.network.specs.{Running.{NetworkEvent, NetworkMakes, front_at, gives, switch_of}, Shared.AllShare}
-use Rattle.network.{specs.declared.network.Network.TheInside.Inside, proofs.Calls.front_here}
+use Rattle.switch_core.specs.declared.upkeep.Upkeep.{Upkeep}
+use Rattle.network.specs.Events.{GroupBreaksOff, GroupMakes, GroupMakesAll, GroupsMake, OthersStay, upkeep_in}
+use Rattle.network.specs.{Groups.{GroupView, folding_in}, Networks.{IsNetwork, NetworkView}, Shared.AllShare}
+use Rattle.network.specs.Running.{NetworkEvent, NetworkMakes, NetworkRuns, RunBreaksOff, calls_of, front_at, gives, lane_calls, switch_of}
+use Rattle.network.{specs.declared.network.Network.TheInside.Inside, proofs.Calls.{front_here, lane_breaks, lane_runs, upkeep_packets}}
 use Rattle.network.proofs.MakeSteps.{make_one, none_changes, others_stay, shares_at, switch_within}
 use Rattle.network.proofs.NetworkSteps.{group_there, made_network, net_of, same_network, with_groups}
 
@@ -76,6 +78,22 @@ module _ {ways : ℕ} {view net : NetworkView} {lane : ℕ} {group : GroupView} 
       keeps =
           record { plan = refl; buckets = refl; pipe_records = refl };
     })
+
+    -- it made the events of an upkeep, or broke off in them
+    module _ (at : ℕ) (upkeep : Upkeep) where
+      calls_here : (R : List NetworkEvent → NetworkView → Type 0)
+          → R (calls_of at lane (upkeep_in upkeep (slice_get group.fronts at))) view → R (lane_calls at upkeep net lane) net
+      calls_here R made = subst₂ (λ o net. R (calls_of at lane (upkeep_in upkeep o)) net) (front_was at) l.same made
+
+      pub upkeep_runs : GroupMakesAll ways at (upkeep_in upkeep (slice_get group.fronts at)) group new
+          → NetworkRuns ways (lane_calls at upkeep net lane) net after
+      upkeep_runs made = calls_here (λ es net. NetworkRuns ways es net after)
+          (lane_runs ways at lane _ view group new (upkeep_packets upkeep (slice_get group.fronts at)) l.here made)
+
+      pub upkeep_breaks : GroupBreaksOff ways at (upkeep_in upkeep (slice_get group.fronts at)) group new
+          → RunBreaksOff ways (lane_calls at upkeep net lane) net after
+      upkeep_breaks broke = calls_here (λ es net. RunBreaksOff ways es net after)
+          (lane_breaks ways at lane _ view group new (upkeep_packets upkeep (slice_get group.fronts at)) l.here broke)
 
     -- it made an event of a switch
     module _ (at : ℕ) (event : Event) (made : GroupMakes ways at event group new) where

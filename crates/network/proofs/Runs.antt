@@ -110,16 +110,20 @@ pub runs_next : (ways : ℕ) (lists : ℕ → List NetworkEvent) (i : ℕ) (a b 
     → NetworkRuns ways (joined_below (i + 1) lists) a c
 runs_next ways lists i a b c one two = rw (below_next lists i) (runs_on ways (joined_below i lists) (lists i) a b c one two)
 
-pub run_breaks_on : (ways : ℕ) (xs ys : List NetworkEvent) (a b c : NetworkView) → NetworkRuns ways xs a b → RunBreaksOff ways ys b c
-    → RunBreaksOff ways (xs ++ ys) a c
-run_breaks_on ways xs ys a b c one two = (xs ++ two.0, first_on xs two.0 ys two.1, runs_on ways xs two.0 a b c one two.2)
+-- a run that breaks off, after one that did all of its events
+module _ (Ran : List NetworkEvent → NetworkView → NetworkView → Type 0)
+    (on : (xs ys : List NetworkEvent) (a b c : NetworkView) → Ran xs a b → Ran ys b c → Ran (xs ++ ys) a c) where
+  abbrev BreaksOff : List NetworkEvent → NetworkView → NetworkView → Type 0
+  BreaksOff events old new = (first : List NetworkEvent) × AreFirst first events × Ran first old new
 
-pub run_breaks : (ways : ℕ) (lists : ℕ → List NetworkEvent) (i n : ℕ) (a b c : NetworkView) → i < n
-    → NetworkRuns ways (joined_below i lists) a b → RunBreaksOff ways (lists i) b c
-    → RunBreaksOff ways (joined_below n lists) a c
-run_breaks ways lists i n a b c within ran broke =
-    let on = run_breaks_on ways (joined_below i lists) (lists i) a b c ran broke in
-    (on.0, first_in on.0 (joined_below (suc i) lists) (joined_below n lists) on.1 (first_below lists (suc i) n (omega arith)), on.2)
+  pub breaks_on : (xs ys : List NetworkEvent) (a b c : NetworkView) → Ran xs a b → BreaksOff ys b c → BreaksOff (xs ++ ys) a c
+  breaks_on xs ys a b c one two = (xs ++ two.0, first_on xs two.0 ys two.1, on xs two.0 a b c one two.2)
+
+  pub breaks_below : (lists : ℕ → List NetworkEvent) (i n : ℕ) (a b c : NetworkView) → i < n → Ran (joined_below i lists) a b
+      → BreaksOff (lists i) b c → BreaksOff (joined_below n lists) a c
+  breaks_below lists i n a b c within ran broke =
+      let on = breaks_on (joined_below i lists) (lists i) a b c ran broke in
+      (on.0, first_in on.0 (joined_below (suc i) lists) (joined_below n lists) on.1 (first_below lists (suc i) n (omega arith)), on.2)
 
 pub run_breaks_in : (ways : ℕ) (xs ys : List NetworkEvent) (a b : NetworkView) → RunBreaksOff ways xs a b → RunBreaksOff ways (xs ++ ys) a b
 run_breaks_in _ xs ys a b ran = (ran.0, first_in ran.0 xs (xs ++ ys) ran.1 (first_of xs ys), ran.2)
@@ -160,21 +164,10 @@ pub merging_next : (ways : ℕ) (lists : ℕ → List NetworkEvent) (i : ℕ) (a
     → RunsWithMerges ways (joined_below (i + 1) lists) a c
 merging_next ways lists i a b c one two = rw (below_next lists i) (merging_on ways (joined_below i lists) (lists i) a b c one two)
 
-pub merging_breaks_on : (ways : ℕ) (xs ys : List NetworkEvent) (a b c : NetworkView) → RunsWithMerges ways xs a b
-    → MergingBreaksOff ways ys b c → MergingBreaksOff ways (xs ++ ys) a c
-merging_breaks_on ways xs ys a b c one two = (xs ++ two.0, first_on xs two.0 ys two.1, merging_on ways xs two.0 a b c one two.2)
-
-pub merging_breaks : (ways : ℕ) (lists : ℕ → List NetworkEvent) (i n : ℕ) (a b c : NetworkView) → i < n
-    → RunsWithMerges ways (joined_below i lists) a b → MergingBreaksOff ways (lists i) b c
-    → MergingBreaksOff ways (joined_below n lists) a c
-merging_breaks ways lists i n a b c within one two =
-    let on = merging_breaks_on ways (joined_below i lists) (lists i) a b c one two in
-    (on.0, first_in on.0 (joined_below (suc i) lists) (joined_below n lists) on.1 (first_below lists (suc i) n (omega arith)), on.2)
-
 -- all of the events happened, and then some merges
 pub merging_breaks_end : (ways : ℕ) (xs : List NetworkEvent) (a b c : NetworkView) → RunsWithMerges ways xs a b
     → MergingBreaksOff ways [] b c → MergingBreaksOff ways xs a c
-merging_breaks_end ways xs a b c one two = rw (← append-nil xs) (merging_breaks_on ways xs [] a b c one two)
+merging_breaks_end ways xs a b c one two = rw (← append-nil xs) (breaks_on (RunsWithMerges ways) (merging_on ways) xs [] a b c one two)
 
 pub merging_is : (ways : ℕ) (events : List NetworkEvent) (a b : NetworkView) → RunsWithMerges ways events a b → IsNetwork ways a
     → IsNetwork ways b

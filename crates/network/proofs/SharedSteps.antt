@@ -1,5 +1,5 @@
 -- Fronts side by side, and the store that they share.
-use Rattle.std.proofs.Common.{◌≡◌, ◌≢◌, ℕ, zero, suc, ◌+◌, Bool, true, false, List, [], ◌∷◌, map, set, Some, refl, sym, ◌∙◌, arith}
+use Rattle.std.proofs.Common.{◌≡◌, ℕ, zero, suc, ◌+◌, Bool, true, false, List, [], ◌∷◌, map, set, Some, refl, sym, ◌∙◌, arith}
 use Rattle.std.specs.{Prelude.{slice_get, flat_map}, List.list_all}
 use Rattle.epoch_model.{specs.{Keys.ArgRow, Machine.Epoch, Tables.{Folding, folded}}, proofs.KeyLists.by_test}
 use Rattle.epoch_entry.specs.Kinds.{Sizes}
@@ -69,13 +69,6 @@ one_kept k zero (x ∷ fronts) was now here kept = let same : was ≡ x = cc in
 one_kept k (suc i) (x ∷ fronts) was now here kept = (kept_start x, one_kept (suc k) i fronts was now here kept)
 
 -- places in lists
-
-pub got_other : {X : Type 0} (xs : List X) (i s : ℕ) (x : X) → s ≢ i → slice_get (set xs i x) s ≡ slice_get xs s
-got_other [] i s x d = refl
-got_other (y ∷ _) zero zero x d = absurd (d refl)
-got_other (y ∷ _) zero (suc s) x d = refl
-got_other (y ∷ _) (suc i) zero x d = refl
-got_other (y ∷ xs) (suc i) (suc s) x d = got_other xs i s x (λ e. d (rw e))
 
 -- the last of two items that are written at one place stays
 pub set_set : {X : Type 0} (xs : List X) (i : ℕ) (x y : X) → set (set xs i x) i y ≡ set xs i y

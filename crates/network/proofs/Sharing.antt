@@ -8,10 +8,10 @@ use Rattle.backing_store.specs.{Store.Store, Merged.StoreHolds}
 use Rattle.final_queries.specs.FinalLaws.{AreAlike}
 use Rattle.switch_core.specs.{Closing.is_drained, FrontEvents.{Carries, merges_of, with_store}, FrontParts.{FrontOf, LaneOf, front_of}}
 use Rattle.switch_core.{specs.Lanes.{Standing, FrontStands, geometry}, proofs.{Carrying.merged_after, Drained.drained_is_done}}
-use Rattle.switch_core.proofs.{LaneFacts.{got_set, all_at}, SideBySide.{same_some, got_below}}
+use Rattle.switch_core.proofs.{LaneFacts.{all_at, got_other, got_set}, SideBySide.{same_some, got_below}}
 use Rattle.additive_laws.specs.Network.{SwitchEvent, SwitchEpoch, all_events, events_at, all_epochs, epochs_at, machine_at, AllMerged}
 use Rattle.net_wide.specs.NetTables.{caches_of}
-use Rattle.network.{specs.Shared.{FrontsStand, epochs_from, with_event}, proofs.SharedSteps.{alike_back, got_other, holds_alike}}
+use Rattle.network.{specs.Shared.{FrontsStand, epochs_from, with_event}, proofs.SharedSteps.{alike_back, holds_alike}}
 
 -- events and epochs, some after the others
 

@@ -1,10 +1,10 @@
 -- Each groupby gets a front more; out of memory, those that have one lose it again.
-use Rattle.std.proofs.{Common.{◌≡◌, ◌+◌, length, get_or, set, sym, ap, ◌∙◌, subst, arith, lit<}, Math.Facts.Fits-below}
+use Rattle.std.proofs.{Common.{◌+◌, length, get_or, set, sym, ap, ◌∙◌, subst, arith, lit<}, Math.Facts.Fits-below}
 use Rattle.query_lang.specs.declared.fault.TheConstants.{MAX_KEYS}
 use Rattle.stage_plan.specs.{Planned.wiring_at, Sound.IsSoundGroup}
-use Rattle.switch_core.proofs.SideBySide.{same_some, each_long, done_start, untouched_start, done_next, untouched_next, was_there}
+use Rattle.switch_core.proofs.SideBySide.{same_some, each_long, done_start, untouched_start, done_here, untouched_next, was_there}
 use Rattle.switch_core.proofs.SideBySide.{done_end}
-use Rattle.network.specs.Groups.{GroupGrows, GroupView, IsGroup, with_first}
+use Rattle.network.specs.Groups.{IsGroup, with_first}
 use Rattle.network.proofs.GroupSteps.{Grown, all_first, all_grown, kept_back, others_so_far, part_of}
 use Rattle.network.proofs.groups.add_switch.Goals as goal
 
@@ -63,14 +63,9 @@ loop-i-preserved g c =
     (subst (λ p. IsSoundGroup own.registers p (wiring_at plan i)) (one ∙ sym other) own.sound)
     (subst (λ p. IsGroup switches p (wiring_at plan i) group) (sym other) is)) in
     record {
-      are = done_next _ i first groups new c.loop-i.invariant.are
-          (λ x e. subst (λ v. Grown plan i v new) (same_some group x (sym was ∙ e)) grown);
-      grow = done_next _ i first groups new c.loop-i.invariant.grow
-          (λ x e. subst (λ v. GroupGrows g.row.WAYS c.args.buckets c.args.pipe_records v new) (same_some group x (sym was ∙ e))
-          c.in-Ok.ensures.grows);
-      others = done_next _ i first groups new c.loop-i.invariant.others
-          (λ x e. subst (λ (v : GroupView). with_first (length v.fronts) new ≡ v) (same_some group x (sym was ∙ e))
-          c.in-Ok.ensures.grows.others);
+      are = done_here _ i first groups group new c.loop-i.invariant.are was grown;
+      grow = done_here _ i first groups group new c.loop-i.invariant.grow was c.in-Ok.ensures.grows;
+      others = done_here _ i first groups group new c.loop-i.invariant.others was c.in-Ok.ensures.grows.others;
       same = untouched_next i first groups new c.loop-i.invariant.same;
     }
 
@@ -100,8 +95,7 @@ returns-in-Err-clause-err g c =
     let same = ap (with_first (length group.fronts)) c.in-Err.ensures.err
     ∙ all_first group in
     let others = others_so_far (i + 1) 0 first (set groups i new)
-    (done_next _ i first groups new c.loop-i.invariant.others
-    (λ x e. subst (λ (v : GroupView). with_first (length v.fronts) new ≡ v) (same_some group x (sym was ∙ e)) same))
+    (done_here _ i first groups group new c.loop-i.invariant.others was same)
     (untouched_next i first groups new c.loop-i.invariant.same) in
     kept_back c.args.plan.now c.args.switches 0 first _ c.keep_switches.new.groups c.args.plan.now.groups c.requires.groups others
     c.keep_switches.ensures

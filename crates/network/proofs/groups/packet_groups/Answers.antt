@@ -1,11 +1,11 @@
 -- A turn makes its own groupby's event and leaves the others, so after the last each has made its own.
-use Rattle.std.proofs.{Common.{◌≡◌, ◌<◌, ◌+◌, ℕ, length, take, get_or, refl, sym, ◌∙◌, subst, arith, lit<}, Math.Facts.Fits-below}
+use Rattle.std.proofs.{Common.{◌<◌, ◌+◌, ℕ, length, take, get_or, refl, ◌∙◌, arith, lit<}, Math.Facts.Fits-below}
 use Rattle.std.specs.Prelude.{sum_by}
 use Rattle.epoch_model.specs.Driving.{event_of}
 use Rattle.query_lang.specs.declared.fault.TheConstants.{MAX_KEYS}
 use Rattle.stage_plan.specs.{Planned.wiring_at, Registers.taken_at}
-use Rattle.switch_core.proofs.{LaneFacts.all_at, SweepCosts.sum_within, SideBySide.{same_some, each_long, done_start, untouched_start}}
-use Rattle.switch_core.proofs.SideBySide.{done_next, untouched_next, was_there, done_end, sum_next}
+use Rattle.switch_core.proofs.{LaneFacts.all_at, SweepCosts.sum_within, SideBySide.{each_long, done_start, untouched_start}}
+use Rattle.switch_core.proofs.SideBySide.{done_here, untouched_next, was_there, done_end, sum_next}
 use Rattle.network.specs.{Groups.GroupView, Events.{GroupMakesAll, is_ready_at}, Costs.group_cost}
 use Rattle.network.proofs.{CostSteps.{group_within, within_next}, GroupSteps.part_of}
 use Rattle.network.proofs.groups.packet_groups.Goals as goal
@@ -61,10 +61,8 @@ loop-i-preserved g c =
     let own = part_of c.args.plan.now c.requires.groups.0 i first group c.invariant.ensures c.requires.groups.2 was in
     let at : c.args.at < length group.fronts = let a = c.requires.groups.1 in let b = own.is.count in omega arith in
     record {
-      makes = done_next _ i first groups new c.loop-i.invariant.makes
-          (λ x e. subst (λ v. made i v new) (same_some group x (sym was ∙ e)) c.packet.ensures.makes);
-      stores = done_next _ i first groups new c.loop-i.invariant.stores
-          (λ x e. subst (λ (v : GroupView). new.store ≡ v.store) (same_some group x (sym was ∙ e)) c.packet.ensures.store);
+      makes = done_here made i first groups group new c.loop-i.invariant.makes was c.packet.ensures.makes;
+      stores = done_here _ i first groups group new c.loop-i.invariant.stores was c.packet.ensures.store;
       same = untouched_next i first groups new c.loop-i.invariant.same;
       later = let a = c.packet.ensures.steps in let b = c.loop-i.invariant.later in omega arith;
       cost =

@@ -1,5 +1,6 @@
 -- Merges one after another, up to the one that finds the pipe empty.
-use Rattle.std.proofs.Common.{rules, ◌≡◌, ◌+◌, ◌*◌, ◌≤◌, Ok, suc, [], ◌∷◌, length, replicate, refl, ap, ◌∙◌, subst, arith, le_trans, length-drop}
+use Rattle.std.proofs.Common.{rules, ◌≡◌, ◌+◌, ◌*◌, ◌≤◌, Ok, suc, [], ◌∷◌, length, replicate, refl, ap, ◌∙◌, subst}
+use Rattle.std.proofs.Common.{arith, le_trans, length-drop}
 use Rattle.epoch_model.{specs.Machine.Merge, proofs.Endings.no_end}
 use Rattle.switch_core.{specs.{Costs.merge_cost, FrontEvents.{CarriesUpTo, with_store}}, proofs.Carrying.{fits_kept, keeps_on, keeps_same}}
 use Rattle.switch_core.proofs.Carrying.{keeps_start, same_store, up_to_first_as, up_to_on, up_to_start, up_to_whole}

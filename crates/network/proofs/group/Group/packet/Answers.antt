@@ -4,17 +4,12 @@ use Rattle.epoch_model.specs.Driving.{event_of}
 use Rattle.stage_plan.specs.{Planned.wiring_at, Registers.taken_at}
 use Rattle.switch_core.specs.{FrontEvents.with_store, PlanLanes.lane_cost}
 use Rattle.network.{specs.{Groups.GroupView, Costs.lane_in, Events.{GroupMakesAll, with_lane}}, proofs.MakeSteps.all_made}
-use Rattle.network.proofs.OneFront.{IsFront, group_of, front_found, front_shares, front_is, front_room}
+use Rattle.network.proofs.OneFront.{group_of, front_found, front_shares, front_is, front_room}
 use Rattle.network.proofs.group.Group.packet.Goals as goal
-use Rattle.network.proofs.group.Group.packet.Goals.{After-index_mut-front}
-
-front : (g : _) (c : After-index_mut-front g)
-    → IsFront (group_of c.self.inside) c.args.self.now c.args.at c.index_mut-front.result.now
-front g c = front_found c.self.view_is c.requires.switch c.index_mut-front.ensures.value
 
 pub take_use-requires : goal.take_use-requires
 take_use-requires g c =
-    let f = front g (goal.at.take_use-requires g c).After-index_mut-front in
+    let f = front_found c.self.view_is c.requires.switch c.index_mut-front.ensures.value in
     let wiring = wiring_at c.args.plan.now c.args.group in
     let share = front_shares f (length wiring.args) c.requires.shares in
     let keys = subst (λ (v : GroupView). v.store.key_words ≡ length wiring.keys) (sym c.self.view_is) c.requires.keys in (
@@ -30,7 +25,7 @@ take_use-requires g c =
 
 pub returns-clause-makes : goal.returns-clause-makes
 returns-clause-makes g c =
-    let f = front g (goal.at.returns-clause-makes g c).After-index_mut-front in
+    let f = front_found c.self.view_is c.requires.switch c.index_mut-front.ensures.value in
     let view = group_of c.self.inside in
     let wiring = wiring_at c.args.plan.now c.args.group in
     let events = event_of (taken_at wiring c.args.registers.now) in
@@ -41,4 +36,5 @@ returns-clause-makes g c =
 
 pub returns-clause-cost : goal.returns-clause-cost
 returns-clause-cost g c x e = subst (λ y. c.take_use.new.steps ≤ c.args.steps.now + lane_cost g.row.WAYS (lane_in c.args.self.now y))
-    (front_is (front g (goal.at.returns-clause-cost g c).After-index_mut-front) e) (c.take_use.ensures.cost c.args.self.now.store)
+    (front_is (front_found c.self.view_is c.requires.switch c.index_mut-front.ensures.value) e)
+    (c.take_use.ensures.cost c.args.self.now.store)

@@ -5,8 +5,8 @@ use Rattle.switch_core.specs.declared.upkeep.Upkeep.TheVariants as due
 use Rattle.network.specs.{Networks.NetworkView, Running.{MergingBreaksOff, NetworkEvent, NetworkRuns, RunBreaksOff, RunsWithMerges}}
 use Rattle.network.specs.Running.{all_evictions, front_at, joined_below, upkeep_calls, without_merges}
 use Rattle.network.proofs.{Calls.{IsEmptied, all_emptied, calls_same, emptied}, EventLists.rest_is_merges, MakeSteps.if_err, Runs.kept_long}
-use Rattle.network.proofs.Runs.{merging_after, merging_breaks, merging_breaks_end, merging_first, merging_is, merging_kept, merging_next}
-use Rattle.network.proofs.Runs.{merging_none, merging_run, runs_kept}
+use Rattle.network.proofs.Runs.{breaks_below, merging_after, merging_breaks_end, merging_first, merging_is, merging_kept, merging_next}
+use Rattle.network.proofs.Runs.{merging_none, merging_on, merging_run, runs_kept}
 use Rattle.network.proofs.network.Network.drain.Goals as goal
 
 -- the evictions of each switch
@@ -31,14 +31,14 @@ module _ (ways at : ℕ) (old cur mid new : NetworkView) (was : RunsWithMerges w
   sweep_breaks : at < old.switches → RunBreaksOff ways (upkeep_calls at due.Sweep cur) cur mid
       → MergingBreaksOff ways (all_evictions old) old mid
   sweep_breaks within broke =
-      merging_breaks ways (sweeps old) at old.switches old cur mid within was
+      breaks_below (RunsWithMerges ways) (merging_on ways) (sweeps old) at old.switches old cur mid within was
       (subst (λ es. MergingBreaksOff ways (without_merges es) cur mid) calls
       (merging_first ways (upkeep_calls at due.Sweep cur) cur mid broke))
 
   rest_breaks : at < old.switches → NetworkRuns ways (upkeep_calls at due.Sweep cur) cur mid
       → RunBreaksOff ways (upkeep_calls at due.Rest mid) mid new → MergingBreaksOff ways (all_evictions old) old new
   rest_breaks within sweep broke =
-      merging_breaks ways (sweeps old) at old.switches old cur new within was
+      breaks_below (RunsWithMerges ways) (merging_on ways) (sweeps old) at old.switches old cur new within was
       (merging_breaks_end ways (sweeps old at) cur mid new (swept sweep)
       (subst (λ es. MergingBreaksOff ways es mid new) (rest_is_merges at mid)
       (merging_first ways (upkeep_calls at due.Rest mid) mid new broke)))
@@ -107,10 +107,7 @@ loop-at-preserved g c =
 pub returns-clause-runs : goal.returns-clause-runs
 returns-clause-runs g c =
     let old = c.args.self.now in
-    let a = c.loop-at-test.false in
-    let b = c.loop-at.auto.at-end in
-    let d = c.switches-at-end.ensures in
-    let end : c.loop-at.at ≡ old.switches = omega arith in
+    let end : c.loop-at.at ≡ old.switches = omega (arith, c.loop-at-test.false, c.loop-at.auto.at-end, c.switches-at-end.ensures) in
     subst (λ k. RunsWithMerges g.row.WAYS (joined_below k (sweeps old)) old c.loop-at.self) end c.loop-at.invariant.runs
 
 pub returns-clause-drained : goal.returns-clause-drained

@@ -2,17 +2,12 @@
 use Rattle.std.proofs.Common.{◌≡◌, ◌<◌, true, set, sym, subst, lit<}
 use Rattle.epoch_model.specs.Machine.{Evict}
 use Rattle.network.{specs.{Events.{AtGroup, StoresStay, is_ready_at}, Networks.NetworkView, Running.Evicts}, proofs.MakeSteps.stores_one}
-use Rattle.network.proofs.OneLane.{IsLane, view_of, lane_found, lane_switch, lane_front, groups_made, network_made, others_made, event_made}
+use Rattle.network.proofs.OneLane.{lane_found, lane_switch, lane_front, groups_made, network_made, others_made, event_made}
 use Rattle.network.proofs.network.Network.evict.Goals as goal
-use Rattle.network.proofs.network.Network.evict.Goals.{After-index_mut-group}
-
-lane : (g : _) (c : After-index_mut-group g)
-    → IsLane g.row.WAYS (view_of c.self.inside) c.args.self.now c.args.lane c.index_mut-group.result.now
-lane g c = lane_found c.self.invariant.0 c.self.view_is c.requires.lane c.index_mut-group.ensures.value
 
 pub evict-requires : goal.evict-requires
 evict-requires g c =
-    let l = lane g (goal.at.evict-requires g c).After-index_mut-group in
+    let l = lane_found c.self.invariant.0 c.self.view_is c.requires.lane c.index_mut-group.ensures.value in
     let back = sym c.self.view_is in
     let ready = subst (λ (v : NetworkView). AtGroup (λ group. is_ready_at c.args.at group ≡ true) v.groups c.args.lane) back
     c.requires.ready in
@@ -27,31 +22,33 @@ evict-requires g c =
 
 pub invariant_of-self : goal.invariant_of-self
 invariant_of-self g c =
-    let l = lane g (goal.at.invariant_of-self g c).After-index_mut-group in
+    let l = lane_found c.self.invariant.0 c.self.view_is c.requires.lane c.index_mut-group.ensures.value in
     (network_made l c.evict.new.self c.args.at (Evict c.args.bucket) c.evict.ensures.makes, c.self.invariant.1)
 
 pub returns-clause-makes : goal.returns-clause-makes
 returns-clause-makes g c =
-    let l = lane g (goal.at.returns-clause-makes g c).After-index_mut-group in
+    let l = lane_found c.self.invariant.0 c.self.view_is c.requires.lane c.index_mut-group.ensures.value in
     event_made l c.evict.new.self (Evicts c.args.at c.args.lane c.args.bucket)
     (groups_made l c.evict.new.self c.args.at (Evict c.args.bucket) c.evict.ensures.makes)
 
 pub returns-clause-others : goal.returns-clause-others
 returns-clause-others g c =
-    let l = lane g (goal.at.returns-clause-others g c).After-index_mut-group in
+    let l = lane_found c.self.invariant.0 c.self.view_is c.requires.lane c.index_mut-group.ensures.value in
     others_made l c.evict.new.self c.args.at (Evict c.args.bucket) c.evict.ensures.makes
 
 pub returns-clause-stores : goal.returns-clause-stores
 returns-clause-stores g c =
-    let l = lane g (goal.at.returns-clause-stores g c).After-index_mut-group in
+    let l = lane_found c.self.invariant.0 c.self.view_is c.requires.lane c.index_mut-group.ensures.value in
     let groups = c.self.inside.groups.items in
     subst (λ (v : NetworkView). StoresStay v.groups (set groups c.args.lane c.evict.new.self)) c.self.view_is
     (stores_one c.args.lane groups _ c.evict.new.self l.here c.evict.ensures.store)
 
 pub returns-clause-some : goal.returns-clause-some
 returns-clause-some g c x e front f =
-    c.evict.ensures.some front (lane_front (lane g (goal.at.returns-clause-some g c).After-index_mut-group) c.args.at e f)
+    let l = lane_found c.self.invariant.0 c.self.view_is c.requires.lane c.index_mut-group.ensures.value in
+    c.evict.ensures.some front (lane_front l c.args.at e f)
 
 pub returns-clause-cost : goal.returns-clause-cost
 returns-clause-cost g c x e front f =
-    c.evict.ensures.cost front (lane_front (lane g (goal.at.returns-clause-cost g c).After-index_mut-group) c.args.at e f)
+    let l = lane_found c.self.invariant.0 c.self.view_is c.requires.lane c.index_mut-group.ensures.value in
+    c.evict.ensures.cost front (lane_front l c.args.at e f)

@@ -5,7 +5,7 @@ use Rattle.epoch_model.proofs.KeyLists.{by_test}
 use Rattle.switch_core.proofs.{SideBySide.{got_some, sum_next}, SweepCosts.sum_within}
 use Rattle.network.specs.{Costs.{front_upkeep_cost, group_upkeep_cost}, Events.{IsLeft, upkeep_in}}
 use Rattle.network.{specs.Running.{NetworkRuns, RunBreaksOff, calls_of, front_at, joined_below, lane_calls}, proofs.Calls.front_here}
-use Rattle.network.proofs.{CostSteps.within_next, MakeSteps.if_err, Runs.{kept_long, run_breaks, runs_kept, runs_next}}
+use Rattle.network.proofs.{CostSteps.within_next, MakeSteps.if_err, Runs.{breaks_below, kept_long, runs_kept, runs_next, runs_on}}
 use Rattle.network.proofs.network.Network.keep_up.Goals as goal
 
 pub loop-lane-init : goal.loop-lane-init
@@ -71,10 +71,8 @@ loop-lane-preserved g c =
 pub returns-clause-runs : goal.returns-clause-runs
 returns-clause-runs g c =
     let old = c.args.self.now in
-    let a = c.loop-lane-test.false in
-    let b = c.loop-lane.auto.lane-end in
-    let d = c.lanes-lane-end.ensures in
-    let end : c.loop-lane.lane ≡ length old.groups = omega arith in
+    let end : c.loop-lane.lane ≡ length old.groups =
+    omega (arith, c.loop-lane-test.false, c.loop-lane.auto.lane-end, c.lanes-lane-end.ensures) in
     subst (λ k. NetworkRuns g.row.WAYS (joined_below k (lane_calls c.args.at c.args.upkeep old)) old c.loop-lane.self) end
     c.loop-lane.invariant.runs
 
@@ -100,8 +98,9 @@ returns-in_err-keep_lane-clause-breaks_off g c =
     let old = c.args.self.now in
     let end = c.lanes-lane-end.ensures in
     let less = c.loop-lane-test.true in
-    if_err _ c.from_residual.result (run_breaks g.row.WAYS (lane_calls c.args.at c.args.upkeep old) lane (length old.groups) old
-    c.loop-lane.self c.keep_lane.new.self (omega arith) c.loop-lane.invariant.runs
+    if_err _ c.from_residual.result (breaks_below (NetworkRuns g.row.WAYS) (runs_on g.row.WAYS)
+    (lane_calls c.args.at c.args.upkeep old) lane (length old.groups) old c.loop-lane.self c.keep_lane.new.self (omega arith)
+    c.loop-lane.invariant.runs
     (subst (λ o. RunBreaksOff g.row.WAYS (calls_of c.args.at lane (upkeep_in c.args.upkeep o)) c.loop-lane.self c.keep_lane.new.self)
     (c.loop-lane.invariant.still lane c.args.at (λ e. let l = e.0 in omega arith)) c.in_err-keep_lane.ensures.breaks_off))
 

@@ -6,7 +6,7 @@ use Rattle.switch_core.proofs.LaneFacts.{on_both, on_err, on_ok}
 use Rattle.network.specs.Networks.{NetworkView, network_cost, upkeeps_cost}
 use Rattle.network.specs.Running.{NetworkEvent, NetworkMakes, NetworkRuns, RunBreaksOff, Takes, turn_events, upkeep_calls}
 use Rattle.network.proofs.{Calls.{lag_same, ready_left}, CostSteps.room_cost, MakeSteps.if_err, Runs.{kept_long, merges_cost_kept}}
-use Rattle.network.proofs.Runs.{packet_cost_kept, run_breaks_in, run_breaks_on, runs_is, runs_kept, runs_on, runs_one}
+use Rattle.network.proofs.Runs.{packet_cost_kept, breaks_on, run_breaks_in, runs_is, runs_kept, runs_on, runs_one}
 use Rattle.network.proofs.network.Network.turn.Goals as goal
 use Rattle.network.proofs.network.Network.turn.Goals.{After-packet}
 
@@ -84,7 +84,7 @@ returns-clause-breaks_off g c =
     let x = (goal.at.returns-clause-breaks_off g c).After-packet in
     on_err _ _ c.keep_up-2.result
     (λ ran. subst (λ es. RunBreaksOff g.row.WAYS es c.args.self.now c.keep_up-2.new.self) (whole_turn g x c.if-not-lag_over.false)
-    (run_breaks_on g.row.WAYS _ _ _ c.packet.new.self _ (first g x) ran)) c.keep_up-2.ensures.breaks_off
+    (breaks_on (NetworkRuns g.row.WAYS) (runs_on g.row.WAYS) _ _ _ c.packet.new.self _ (first g x) ran)) c.keep_up-2.ensures.breaks_off
 
 pub returns-in_err-keep_up-clause-breaks_off : goal.returns-in_err-keep_up-clause-breaks_off
 returns-in_err-keep_up-clause-breaks_off g c =
