@@ -4,7 +4,8 @@ use Rattle.query_lang.specs.declared.{fault.Span.Span, token.Token.Token}
 use Rattle.query_grammar.specs.Language.{Language, Plain, Leaf, tokens_of, Word, Then, AtMostOnce, Either, Meaning}
 use Rattle.query_grammar.specs.declared.stop.{Counts.Counts, Stop.TheVariants.{Unexpected, Nesting}}
 use Rattle.query_grammar.specs.Parser.{Limits, Limited, Outcome, Done, Stopped, Parser, and_then, next_is, at_most_once, either}
-use Rattle.query_grammar.proofs.Parses.{Apart, Keeps, Widens, meets_as, SameNext, Meets, Reads, Begins, Parses, next_of, same_next}
+use Rattle.query_grammar.proofs.Parses.{Apart, Keeps, Widens, halts_here, meets_as, meets_by, SameNext, Meets, Reads, Begins, Parses}
+use Rattle.query_grammar.proofs.Parses.{next_of, same_next}
 use Rattle.query_grammar.proofs.Parses.{starts_of, next_starts, next_clear, fewer, wider, is_some_of, reads, passes, nothing, something}
 
 -- ---- one or the other
@@ -79,30 +80,10 @@ module _ {A : Type 0} (m : Limits) (L : Language A) (p : Parser A) (test : Token
           → next_is test (tokens_of w ++ x) ≡ next_is test ts
       same w rest x e s = same_next test ts (tokens_of w ++ x) (next_of w rest x ts e s)
 
-      there : next_is test ts ≡ true → (o : Outcome A) → Meets m L p c ts o
-          → Meets m (AtMostOnce L) (at_most_once test p) c ts (and_then o (λ a c' rest. Done (Some a) c' rest))
-      there e (Done a d rest) h = record {
-        front = h.front;
-        split = h.split;
-        means = h.means;
-        pays = h.pays;
-        again = λ x s. once_true (tokens_of h.front ++ x) c (same h.front rest x h.split s ∙ e) ∙ rw (h.again x s) refl;
-      }
-      there e (Stopped k rest) h = record {
-        front = h.front;
-        split = h.split;
-        counts = h.counts;
-        pays = h.pays;
-        more = h.more;
-        value = Some h.value;
-        begins = h.begins;
-        cause = h.cause;
-        again = λ x s. once_true (tokens_of h.front ++ x) c (same h.front rest x h.split s ∙ e) ∙ rw (h.again x s) refl;
-      }
-
       go : (b : Bool) → next_is test ts ≡ b → Meets m (AtMostOnce L) (at_most_once test p) c ts
           (cond b (and_then (p c ts) (λ a c' rest. Done (Some a) c' rest)) (Done None c ts))
-      go true e = there e (p c ts) (pm c ts)
+      go true e = meets_by m (AtMostOnce L) p (at_most_once test p) Some (λ w v h. h)
+          (λ w rest x k s. once_true (tokens_of w ++ x) c (same w rest x k s ∙ e)) (p c ts) (pm c ts)
       go false e = record { front = []; split = refl; means = refl; pays = refl; again = λ x s. once_false x c (same_next test ts x s ∙ e) }
 
   once_reads : (c : Counts) (w : List Leaf) (a : A) (rest : List Token) → next_is test (tokens_of w ++ rest) ≡ true → Reads m p c w a rest
@@ -145,54 +126,22 @@ module _ {A B : Type 0} (L : Language A) (takes : Token → Option Span) (f : Sp
     complete = λ c u v rest h clear. rw (h.1.2 ∙ ap (λ (x : List Leaf). x ++ h.1.1) h.1.3.1) (complete c u v rest h);
     begins = λ u v h. rw (h.1.2 ∙ ap (λ (x : List Leaf). x ++ h.1.1) h.1.3.1) (something (record { role = Plain; token = h.1.3.0 }) h.1.1
         (ap is_some_of h.1.3.2));
-    sample = (
-      record { role = Plain; token = t0 } ∷ w,
-      f (s0, a),
-      (
-        (s0, a),
-        (record { role = Plain; token = t0 } ∷ [], w, refl, (t0, refl, h0), la),
-        refl,
-      ),
-    );
+    sample = (record { role = Plain; token = t0 } ∷ w, f (s0, a), sampled);
   }
     where
+      sampled : Meaning f (Then (Word Plain takes) L) (record { role = Plain; token = t0 } ∷ w) (f (s0, a))
+      sampled = ((s0, a), (record { role = Plain; token = t0 } ∷ [], w, refl, (t0, refl, h0), la), refl)
+
       stop : (c : Counts) (t : Token) (ts : List Token) (o : Option Span) → takes t ≡ o
           → Meets Limited (Meaning f (Then (Word Plain takes) L)) p c (t ∷ ts) (stopped_by o (t ∷ ts))
-      stop c t ts None e = record {
-        front = [];
-        split = refl;
-        counts = c;
-        pays = refl;
-        more = record { role = Plain; token = t0 } ∷ w;
-        value = f (s0, a);
-        begins = ((s0, a), (record { role = Plain; token = t0 } ∷ [], w, refl, (t0, refl, h0), la), refl);
-        cause = tt;
-        again = λ x s. rw s.1 (cons c t s.0 ∙ rw e refl);
-      }
-      stop c t ts (Some u) e = record {
-        front = [];
-        split = refl;
-        counts = c;
-        pays = refl;
-        more = record { role = Plain; token = t } ∷ w;
-        value = f (u, a);
-        begins = ((u, a), (record { role = Plain; token = t } ∷ [], w, refl, (t, refl, e), la), refl);
-        cause = (record { role = Plain; token = t }, w, ts, refl, refl, refl);
-        again = λ x s. rw s.1 (cons c t s.0 ∙ rw e refl);
-      }
+      stop c t ts None e = halts_here Unexpected (record { role = Plain; token = t0 } ∷ w) (f (s0, a)) sampled tt
+          (λ x s. rw s.1 (cons c t s.0 ∙ rw e refl))
+      stop c t ts (Some u) e = halts_here Nesting (record { role = Plain; token = t } ∷ w) (f (u, a))
+          ((u, a), (record { role = Plain; token = t } ∷ [], w, refl, (t, refl, e), la), refl)
+          (record { role = Plain; token = t }, w, ts, refl, refl, refl) (λ x s. rw s.1 (cons c t s.0 ∙ rw e refl))
 
       meets : (c : Counts) (ts : List Token) → Meets Limited (Meaning f (Then (Word Plain takes) L)) p c ts (p c ts)
-      meets c [] = rw (nil c) (record {
-        front = [];
-        split = refl;
-        counts = c;
-        pays = refl;
-        more = record { role = Plain; token = t0 } ∷ w;
-        value = f (s0, a);
-        begins = ((s0, a), (record { role = Plain; token = t0 } ∷ [], w, refl, (t0, refl, h0), la), refl);
-        cause = tt;
-        again = λ x s. rw s (nil c);
-      })
+      meets c [] = rw (nil c) (halts_here Unexpected (record { role = Plain; token = t0 } ∷ w) (f (s0, a)) sampled tt (λ x s. rw s (nil c)))
       meets c (t ∷ ts) = rw (cons c t ts) (stop c t ts (takes t) refl)
 
       complete : (c : Counts) (u : List Leaf) (v : B) (rest : List Token) → (h : Meaning f (Then (Word Plain takes) L) u v)

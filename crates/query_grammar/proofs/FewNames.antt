@@ -1,7 +1,8 @@
 -- A text has so few names that a byte fits between any two of them.
-use Rattle.std.proofs.Common.{◌≡◌, ℕ, suc, ◌+◌, ◌*◌, ◌≤◌, Bool, true, false, cond, List, [], ◌∷◌, ◌++◌, length, take, drop, refl, ap, ◌∙◌}
-use Rattle.std.{proofs.{Common.arith, lemmas.List.{length-append, length-drop}}, specs.{List.{list_any, prefix_len}, Str.bytes_eq}}
-use Rattle.query_lang.specs.{declared.{fault.TheConstants.MAX_QUERY, token.Token.Token}, Lexis.is_word_byte, Names.with_name}
+use Rattle.std.proofs.Common.{◌≡◌, ℕ, suc, ◌+◌, ◌*◌, ◌≤◌, Bool, true, false, cond, List, [], ◌∷◌, length, take, drop, refl, ap, ◌∙◌}
+use Rattle.std.{proofs.{Common.arith, lemmas.List.length-drop}, specs.List.prefix_len}
+use Rattle.query_lang.specs.{declared.{fault.TheConstants.MAX_QUERY, token.Token.Token}, Lexis.is_word_byte}
+use Rattle.query_lang.proofs.NameFacts.{with_bounds}
 use Rattle.query_grammar.proofs.CutTexts.{IsCut, ends, skips, named, other, word_begins}
 
 begins_once : (bytes : List ℕ) → word_begins bytes ≤ 1
@@ -23,13 +24,6 @@ past_word (b ∷ bytes) = go (is_word_byte b) refl (past_word bytes)
         omega arith in ap (λ n. word_begins (drop n (b ∷ bytes))) same ∙ h
     go false e h = ap (λ w. cond w 1 0) e
 
-one_more : (known : List (List ℕ)) (w : List ℕ) → length (with_name known w) ≤ length known + 1
-one_more known w = go (list_any (bytes_eq w) known)
-  where
-    go : (b : Bool) → length (cond b known (known ++ w ∷ [])) ≤ length known + 1
-    go true = omega arith
-    go false = omega (arith, length-append known (w ∷ []))
-
 -- these bytes add few names to the known ones
 cut_few : {known names : List (List ℕ)} {bytes : List ℕ} {tokens : List Token} → IsCut known bytes tokens names
     → 2 * length names ≤ 2 * length known + length bytes + word_begins bytes
@@ -37,7 +31,7 @@ cut_few (ends at) = omega arith
 cut_few {bytes = bytes} (skips n some within c) = omega (arith, cut_few c, length-drop n bytes, begins_once (drop n bytes))
 cut_few {known} {bytes = bytes} (named n at some within begins same c) =
     let ends : word_begins (drop n bytes) ≡ 0 = ap (λ k. word_begins (drop k bytes)) same ∙ past_word bytes in
-    omega (arith, cut_few c, ends, begins, length-drop n bytes, one_more known (take n bytes))
+    omega (arith, cut_few c, ends, begins, length-drop n bytes, (with_bounds known (take n bytes)).1)
 cut_few {bytes = bytes} (other kind n at some within is c) = omega (arith, cut_few c, length-drop n bytes, begins_once (drop n bytes))
 
 -- a text of 65,536 bytes has at most 32,768 names

@@ -1,8 +1,8 @@
 -- The names of a query that is read from a text have numbers below the count of its names, and its groupbys have keys.
-use Rattle.std.proofs.Common.{◌≡◌, ℕ, ◌+◌, ◌<◌, ◌≤◌, Bool, true, false, cond, List, [], ◌∷◌, ◌++◌, length, take, Option, Some, None, ap}
-use Rattle.std.proofs.{Common.{subst, arith, inl, inr, ◌⊎◌}, lemmas.{List.length-append, Option.{slice_get_within, same_Some}}}
-use Rattle.std.specs.{Prelude.All, List.list_any, Str.bytes_eq}
-use Rattle.query_lang.{proofs.NameFacts.has_number, specs.{Lexis.{cut, token_at}, Names.{number_in, with_name}}}
+use Rattle.std.proofs.Common.{◌≡◌, ℕ, ◌+◌, ◌<◌, ◌≤◌, List, [], ◌∷◌, ◌++◌, length, take, Option, Some, None, ap}
+use Rattle.std.proofs.{Common.{subst, arith, inl, inr, ◌⊎◌}, lemmas.Option.{slice_get_within, same_Some}}
+use Rattle.std.specs.Prelude.{All}
+use Rattle.query_lang.{proofs.NameFacts.{has_number, with_bounds}, specs.{Lexis.{cut, token_at}, Names.{number_in, with_name}}}
 use Rattle.query_lang.specs.declared.{query.{Column.Column, Expr.Expr, Name.Name, Query.Query, StateVar.StateVar}, token.Token.Token}
 use Rattle.query_lang.specs.{declared.token.{TokenKind.TokenKind, Word.Word}, Limits.{AreNumbered, HasFinalKeys, HasKeys, HasStreamKeys}}
 use Rattle.query_lang.specs.Limits.{IsNumbered, IsNumberedFinal, IsNumberedStream, IsReadable}
@@ -25,13 +25,6 @@ abbrev pub TokensBelow : ℕ → List Token → Type 0
 TokensBelow most [] = Unit {0}
 TokensBelow most (t ∷ ts) = IsBelow most t × TokensBelow most ts
 
-no_fewer : (known : List (List ℕ)) (w : List ℕ) → length known ≤ length (with_name known w)
-no_fewer known w = go (list_any (bytes_eq w) known)
-  where
-    go : (b : Bool) → length known ≤ length (cond b known (known ++ w ∷ []))
-    go true = omega arith
-    go false = omega (arith, length-append known (w ∷ []))
-
 number_within : (known : List (List ℕ)) (w : List ℕ) → number_in known w < length (with_name known w)
 number_within known w = slice_get_within (with_name known w) (number_in known w) w (has_number known w)
 
@@ -45,7 +38,7 @@ cut_numbers (skips n some within c) = cut_numbers c
 cut_numbers {known} {bytes = bytes} (named n at some within begins same c) =
     let (more, below) = cut_numbers c in
     let w = take n bytes in (
-      omega (arith, more, no_fewer known w),
+      omega (arith, more, (with_bounds known w).0),
       (name_below (number_in known w) at (at + n) _ (omega (arith, more, number_within known w)), below),
     )
 cut_numbers (other kind n at some within is c) =

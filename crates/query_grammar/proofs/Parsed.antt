@@ -6,7 +6,7 @@ use Rattle.query_grammar.specs.{declared.stop.{Counts.Counts, Stop.Stop}, Kinds.
 use Rattle.query_grammar.specs.declared.stop.Stop.TheVariants.{Unexpected, Nodes, Statements, Nesting}
 use Rattle.query_grammar.specs.Language.{Role, Plain, Node, Statement, Leaf, tokens_of}
 use Rattle.query_grammar.specs.Parser.{no_counts, Limited, charge, Outcome, Done, Stopped}
-use Rattle.query_grammar.specs.Fault.{IsShallow, BeginsQuery, IsGrammatical, HasEnd, Says}
+use Rattle.query_grammar.specs.Fault.{IsShallow, BeginsQuery, IsGrammatical, StandsAt, HasEnd, Says}
 use Rattle.query_grammar.proofs.{Parses.{IsLimit, StopsFirst, stops_limit, pays}, Lines.{EndFree, free_front}, GrammarLines.items_free}
 use Rattle.query_grammar.proofs.{Nests.{shallow_is, StopLevel, LevelMeets}, Splits.{Place, inside, at_end, beyond, place, head_is, tail_is}}
 use Rattle.query_grammar.proofs.Runs.{IsMet, IsHalted, Value, depth, run, met, leveled, stop_facts, stop_shallow, Run, whole, halts, run_of}
@@ -72,11 +72,14 @@ over_statements : (c : Counts) (l : Leaf) → l.role ≡ Statement → charge Li
 over_statements c l r e = reached c.statements MAX_STATEMENTS _ (ap (λ (x : Role). charge Limited x c) (sym r) ∙ e)
 
 module _ (ts : List Token) where
+  shallow_front : (k : Stop) (t : Token) (more : List Token) → StopLevel MAX_NESTING ts k (t ∷ more) → (front : List Token) → ts ≡ front
+      ++ t ∷ more → IsShallow front
+  shallow_front k t more n front e = shallow_is front (stop_shallow front (t ∷ more) k (rw (← e) n))
+
   -- the leaf at which a parser stops because of a limit
-  grammatical : (k k' : Stop) (t : Token) (more : List Token) → (h : IsHalted ts k
-      (t ∷ more)) → (g : StopsFirst Limited k' h.counts h.more (t ∷ more))
-      → IsShallow (tokens_of h.front) → IsGrammatical (tokens_of h.front) t g.0 h.counts
-  grammatical k k' t more h g shallow = record {
+  grammatical : (k : Stop) (t : Token) (more : List Token) → StopLevel MAX_NESTING ts k (t ∷ more) → (h : IsHalted ts k (t ∷ more))
+      → (g : StopsFirst Limited k h.counts h.more (t ∷ more)) → IsGrammatical (tokens_of h.front) t g.0 h.counts
+  grammatical k t more n h g = record {
     leaves = h.front;
     tokens = refl;
     begins = (
@@ -86,13 +89,14 @@ module _ (ts : List Token) where
       rw (← (ap (λ (x : List Leaf). h.front ++ x) g.3 ∙ sym (append_assoc h.front (g.0 ∷ []) g.1))) h.begins,
     );
     within = sym (pays_is Limited no_counts h.front) ∙ h.pays;
-    shallow = shallow;
+    shallow = shallow_front k t more n (tokens_of h.front) h.split;
     token = sym (head_is t g.0.token more g.2 g.4);
   }
 
-  shallow_front : (k : Stop) (t : Token) (more : List Token) → StopLevel MAX_NESTING ts k (t ∷ more) → (front : List Token) → ts ≡ front
-      ++ t ∷ more → IsShallow front
-  shallow_front k t more n front e = shallow_is front (stop_shallow front (t ∷ more) k (rw (← e) n))
+  at_leaf : (k : Stop) (t : Token) (more : List Token) → StopLevel MAX_NESTING ts k (t ∷ more) → (h : IsHalted ts k (t ∷ more))
+      → (g : StopsFirst Limited k h.counts h.more (t ∷ more))
+      → (IsGrammatical (tokens_of h.front) t g.0 h.counts → StandsAt k (tokens_of h.front) t) → Says ts (Stopped k (t ∷ more))
+  at_leaf k t more n h g at = (tokens_of h.front, h.split, at (grammatical k t more n h g))
 
   stands : (k : Stop) (t : Token) (more : List Token) → StopLevel MAX_NESTING ts k (t ∷ more)
       → IsHalted ts k (t ∷ more) → Says ts (Stopped k (t ∷ more))
@@ -112,41 +116,13 @@ module _ (ts : List Token) where
       no_query (tokens_of h.front) t (λ x. h.again (t ∷ x) (x, refl)),
     ),
   )
-  stands Nodes t more n h = (
-    tokens_of h.front,
-    h.split,
-    (
-      h.counts,
-      h.cause.0,
-      grammatical Nodes Nodes t more h h.cause (shallow_front Nodes t more n (tokens_of h.front) h.split),
-      h.cause.5.0,
-      over_nodes h.counts h.cause.0 h.cause.5.0 h.cause.5.1,
-    ),
-  )
-  stands Statements t more n h = (
-    tokens_of h.front,
-    h.split,
-    (
-      h.counts,
-      h.cause.0,
-      grammatical Statements Statements t more h h.cause (shallow_front Statements t more n (tokens_of h.front) h.split),
-      h.cause.5.0,
-      over_statements h.counts h.cause.0 h.cause.5.0 h.cause.5.1,
-    ),
-  )
+  stands Nodes t more n h = at_leaf Nodes t more n h h.cause
+      (λ g. (h.counts, h.cause.0, g, h.cause.5.0, over_nodes h.counts h.cause.0 h.cause.5.0 h.cause.5.1))
+  stands Statements t more n h = at_leaf Statements t more n h h.cause
+      (λ g. (h.counts, h.cause.0, g, h.cause.5.0, over_statements h.counts h.cause.0 h.cause.5.0 h.cause.5.1))
   stands Nesting t more n h =
-      let f = stop_facts (tokens_of h.front) t more Nesting (rw (← h.split) n) in (
-        tokens_of h.front,
-        h.split,
-        (
-          h.counts,
-          h.cause.0,
-          grammatical Nesting Nesting t more h h.cause (shallow_front Nesting t more n (tokens_of h.front) h.split),
-          h.cause.5,
-          f.0,
-          f.1,
-        ),
-      )
+      let f = stop_facts (tokens_of h.front) t more Nesting (rw (← h.split) n) in
+      at_leaf Nesting t more n h h.cause (λ g. (h.counts, h.cause.0, g, h.cause.5, f.0, f.1))
 
 -- ---- the end
 

@@ -1,11 +1,11 @@
 -- What it means that a parser meets a language, and that the parser of one token does.
-use Rattle.std.proofs.Common.{◌≡◌, Bool, true, false, List, [], ◌∷◌, ◌++◌, Option, Some, None, refl, ap, ◌∙◌, append_assoc}
-use Rattle.std.{proofs.lemmas.List.map-append, specs.Option.option_and_then}
+use Rattle.std.proofs.Common.{◌≡◌, Bool, true, false, List, [], ◌∷◌, ◌++◌, Option, Some, None, refl, sym, ap, subst, ◌∙◌}
+use Rattle.std.{proofs.{Common.append_assoc, lemmas.List.map-append}, specs.Option.option_and_then}
 use Rattle.query_lang.specs.declared.token.Token.{Token}
 use Rattle.query_grammar.specs.Language.{Language, Role, Plain, Node, Statement, Opening, Leaf, tokens_of, Word}
 use Rattle.query_grammar.specs.declared.stop.{Counts.Counts, Stop.{Stop, TheVariants.{Unexpected, Nodes, Statements, Nesting}}}
 use Rattle.query_grammar.specs.Parser.{Limits, Limited, Unlimited, charge, limit_of, Outcome, Done, Stopped, Parser, paid, taken, word}
-use Rattle.query_grammar.specs.Parser.{next_is}
+use Rattle.query_grammar.specs.Parser.{and_then, mapped, next_is}
 
 -- what the kinds of tokens that tests take have to do with one another
 abbrev pub Apart : (Token → Bool) → (Token → Bool) → Type 0
@@ -182,6 +182,21 @@ stops_cause m Nodes c l others ts h = (l, others, ts, refl, refl, h)
 stops_cause m Statements c l others ts h = (l, others, ts, refl, refl, h)
 stops_cause m Nesting c l others ts h = (l, others, ts, refl, refl, h)
 
+-- where a parser stops before it has read anything
+pub halts_here : {A : Type 0} {m : Limits} {L : Language A} {p : Parser A} {c : Counts} {ts : List Token} (k : Stop) (more : List Leaf)
+    (value : A) → L more value → Cause m k c more ts → ((x : List Token) → SameNext ts x → p c x ≡ Stopped k x) → Halted m L p c ts k ts
+halts_here {c = c} k more value begins cause again = record {
+  front = [];
+  split = refl;
+  counts = c;
+  pays = refl;
+  more = more;
+  value = value;
+  begins = begins;
+  cause = cause;
+  again = again;
+}
+
 -- ---- one token
 
 abbrev pub is_some_of : {A : Type 0} → Option A → Bool
@@ -191,17 +206,8 @@ is_some_of (Some a) = true
 module _ {A : Type 0} (m : Limits) (role : Role) (takes : Token → Option A) where
   word_charged : (c : Counts) (t : Token) (ts : List Token) (a : A) → takes t ≡ Some a → (o : Option Counts) → charge m role c ≡ o
       → Meets m (Word role takes) (word m role takes) c (t ∷ ts) (paid role o a t ts)
-  word_charged c t ts a h None e = record {
-    front = [];
-    split = refl;
-    counts = c;
-    pays = refl;
-    more = record { role = role; token = t } ∷ [];
-    value = a;
-    begins = (t, refl, h);
-    cause = stops_cause m (limit_of role) c (record { role = role; token = t }) [] ts (charge_stops m role c t e);
-    again = λ x s. rw (s.1, h, e) refl;
-  }
+  word_charged c t ts a h None e = halts_here (limit_of role) (record { role = role; token = t } ∷ []) a (t, refl, h)
+      (stops_cause m (limit_of role) c (record { role = role; token = t }) [] ts (charge_stops m role c t e)) (λ x s. rw (s.1, h, e) refl)
   word_charged c t ts a h (Some d) e = record {
     front = record { role = role; token = t } ∷ [];
     split = refl;
@@ -212,31 +218,11 @@ module _ {A : Type 0} (m : Limits) (role : Role) (takes : Token → Option A) wh
 
   word_meets : (t0 : Token) (a0 : A) → takes t0 ≡ Some a0 → (c : Counts) (ts : List Token)
       → Meets m (Word role takes) (word m role takes) c ts (word m role takes c ts)
-  word_meets t0 a0 h0 c [] = record {
-    front = [];
-    split = refl;
-    counts = c;
-    pays = refl;
-    more = record { role = role; token = t0 } ∷ [];
-    value = a0;
-    begins = (t0, refl, h0);
-    cause = tt;
-    again = λ x s. rw s refl;
-  }
+  word_meets t0 a0 h0 c [] = halts_here Unexpected (record { role = role; token = t0 } ∷ []) a0 (t0, refl, h0) tt (λ x s. rw s refl)
   word_meets t0 a0 h0 c (t ∷ ts) = go (takes t) refl
     where
       go : (o : Option A) → takes t ≡ o → Meets m (Word role takes) (word m role takes) c (t ∷ ts) (taken m role c o t ts)
-      go None h = record {
-        front = [];
-        split = refl;
-        counts = c;
-        pays = refl;
-        more = record { role = role; token = t0 } ∷ [];
-        value = a0;
-        begins = (t0, refl, h0);
-        cause = tt;
-        again = λ x s. rw (s.1, h) refl;
-      }
+      go None h = halts_here Unexpected (record { role = role; token = t0 } ∷ []) a0 (t0, refl, h0) tt (λ x s. rw (s.1, h) refl)
       go (Some a) h = word_charged c t ts a h (charge m role c) refl
 
   word_complete : (c : Counts) (w : List Leaf) (v : A) (rest : List Token) → Word role takes w v → Reads m (word m role takes) c w v rest
@@ -258,28 +244,41 @@ module _ {A : Type 0} (m : Limits) (role : Role) (takes : Token → Option A) wh
 
 -- ---- another parser
 
--- where another parser gives the same, in a language that has these words with these meanings
-pub meets_as : {A : Type 0} {L M : Language A} (m : Limits) (p q : Parser A) {c : Counts} {ts : List Token}
-    → ((w : List Leaf) (v : A) → L w v → M w v) → ((w : List Leaf) (rest x : List Token) → ts ≡ tokens_of w ++ rest → SameNext rest x
-    → q c (tokens_of w ++ x) ≡ p c (tokens_of w ++ x)) → (o : Outcome A) → Meets m L p c ts o → Meets m M q c ts o
-meets_as m p q to same (Done v d rest) h = record {
+-- where another parser gives the same with other values, in a language that has these words with meanings of these values
+pub meets_by : {A B : Type 0} {L : Language A} (m : Limits) (M : Language B) (p : Parser A) (q : Parser B) (f : A → B) {c : Counts}
+    {ts : List Token} → ((w : List Leaf) (v : A) → L w v → M w (f v))
+    → ((w : List Leaf) (rest x : List Token) → ts ≡ tokens_of w ++ rest → SameNext rest x
+    → q c (tokens_of w ++ x) ≡ mapped f p c (tokens_of w ++ x))
+    → (o : Outcome A) → Meets m L p c ts o → Meets m M q c ts (and_then o (λ v d rest. Done (f v) d rest))
+meets_by m M p q f to same (Done v d rest) h = record {
   front = h.front;
   split = h.split;
   means = to h.front v h.means;
   pays = h.pays;
-  again = λ x s. same h.front rest x h.split s ∙ h.again x s;
+  again = λ x s. same h.front rest x h.split s ∙ rw (h.again x s) refl;
 }
-meets_as m p q to same (Stopped k rest) h = record {
+meets_by m M p q f to same (Stopped k rest) h = record {
   front = h.front;
   split = h.split;
   counts = h.counts;
   pays = h.pays;
   more = h.more;
-  value = h.value;
+  value = f h.value;
   begins = to (h.front ++ h.more) h.value h.begins;
   cause = h.cause;
-  again = λ x s. same h.front rest x h.split s ∙ h.again x s;
+  again = λ x s. same h.front rest x h.split s ∙ rw (h.again x s) refl;
 }
+
+-- and with the same values
+pub meets_as : {A : Type 0} {L M : Language A} (m : Limits) (p q : Parser A) {c : Counts} {ts : List Token}
+    → ((w : List Leaf) (v : A) → L w v → M w v) → ((w : List Leaf) (rest x : List Token) → ts ≡ tokens_of w ++ rest → SameNext rest x
+    → q c (tokens_of w ++ x) ≡ p c (tokens_of w ++ x)) → (o : Outcome A) → Meets m L p c ts o → Meets m M q c ts o
+meets_as {A} {M = M} m p q {c} {ts} to same o h = subst (λ x. Meets m M q c ts x) (whole o)
+    (meets_by m M p q (λ v. v) to (λ w rest x e s. same w rest x e s ∙ sym (whole (p c (tokens_of w ++ x)))) o h)
+  where
+    whole : (o : Outcome A) → and_then o (λ v d rest. Done v d rest) ≡ o
+    whole (Done v d rest) = refl
+    whole (Stopped k rest) = refl
 
 -- ---- more kinds
 

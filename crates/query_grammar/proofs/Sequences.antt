@@ -2,7 +2,8 @@
 use Rattle.std.proofs.Common.{◌≡◌, Bool, true, false, List, ◌∷◌, ◌++◌, refl, sym, ap, ◌∙◌, append_assoc}
 use Rattle.query_lang.specs.declared.token.Token.{Token}
 use Rattle.query_grammar.specs.{Language.{Language, Leaf, tokens_of, Then, Meaning}, declared.stop.{Counts.Counts, Stop.Stop}}
-use Rattle.query_grammar.{specs.Parser.{Limits, Outcome, Done, Stopped, Parser, and_then, followed_by, mapped}, proofs.Parses.Apart}
+use Rattle.query_grammar.specs.Parser.{Limits, Outcome, Done, Stopped, Parser, and_then, followed_by, mapped}
+use Rattle.query_grammar.proofs.Parses.{Apart, meets_by}
 use Rattle.query_grammar.proofs.Parses.{Keeps, Widens, pays_both, tokens-append, Found, Halted, Meets, Reads, Begins, Parses, next_of}
 use Rattle.query_grammar.proofs.Parses.{starts_of, next_clear, fewer, wider, cause_more, reads, passes, nothing, something}
 
@@ -98,28 +99,7 @@ module _ {A B : Type 0} (m : Limits) (L : Language A) (M : Language B) (p : Pars
 module _ {A B : Type 0} (m : Limits) (f : A → B) (L : Language A) (p : Parser A) where
   mapped_meets : ((c : Counts) (ts : List Token) → Meets m L p c ts (p c ts)) → (c : Counts) (ts : List Token)
       → Meets m (Meaning f L) (mapped f p) c ts (mapped f p c ts)
-  mapped_meets pm c ts = go (p c ts) (pm c ts)
-    where
-      go : (o : Outcome A) → Meets m L p c ts o → Meets m (Meaning f L) (mapped f p) c ts (and_then o (λ a c' rest. Done (f a) c' rest))
-      go (Done a d rest) h = record {
-        front = h.front;
-        split = h.split;
-        means = (a, h.means, refl);
-        pays = h.pays;
-        again =
-            λ x s. rw (h.again x s) refl;
-      }
-      go (Stopped k rest) h = record {
-        front = h.front;
-        split = h.split;
-        counts = h.counts;
-        pays = h.pays;
-        more = h.more;
-        value = f h.value;
-        begins = (h.value, h.begins, refl);
-        cause = h.cause;
-        again = λ x s. rw (h.again x s) refl;
-      }
+  mapped_meets pm c ts = meets_by m (Meaning f L) p (mapped f p) f (λ w v h. (v, h, refl)) (λ w rest x e s. refl) (p c ts) (pm c ts)
 
   mapped_reads : (c : Counts) (w : List Leaf) (a : A) (rest : List Token) → Reads m p c w a rest → Reads m (mapped f p) c w (f a) rest
   mapped_reads c w a rest (reads d pay e) = reads d pay (rw e refl)

@@ -1,7 +1,7 @@
 -- Where a text is among names, and one name more.
 use Rattle.std.proofs.Common.{◌≡◌, ℕ, suc, ◌+◌, ◌<◌, ◌≤◌, inl, inr, Bool, true, false, cond, not, ◌||◌, List, [], ◌∷◌, ◌++◌, length, map}
 use Rattle.std.proofs.Common.{get_or, take, ◌*◌, ◌%◌, ◌^◌, slice_get, Some, refl, sym, ap, ◌∙◌, arith, add-one, add_comm, Vec, Global, zero}
-use Rattle.std.proofs.{lemmas.{Bool.{cases_lt, true≢false}, List.{get_or-map, map-append}}, Math.Seq.take-suc}
+use Rattle.std.proofs.{lemmas.{Bool.{cases_lt, true≢false}, List.{get_or-map, length-append, map-append}}, Math.Seq.take-suc}
 use Rattle.std.proofs.lemmas.{List.Sums.{fold-append, prefix_len-le-length}, Map.Keys.any_passes_from_place}
 use Rattle.std.{proofs.lemmas.{Option.{same_Some, slice_get_within}, Slice.Eq.bytes_eq-Decides}, specs.List.list_any}
 use Rattle.std.specs.{Int.RustNames.bit_xor, Str.bytes_eq}
@@ -40,6 +40,16 @@ has_number names text = go (list_any (bytes_eq text) names) refl
     go : (b : Bool) → list_any (bytes_eq text) names ≡ b → slice_get (cond b names (names ++ text ∷ [])) (number_in names text) ≡ Some text
     go true e = found_number names text e
     go false e = ap (slice_get (names ++ text ∷ [])) (new_number names text e) ∙ last_of names text
+
+-- one name more at most
+pub with_bounds : (names : List (List ℕ)) (text : List ℕ) → (length names ≤ length (with_name names text))
+    × (length (with_name names text) ≤ length names + 1)
+with_bounds names text = go (list_any (bytes_eq text) names)
+  where
+    go : (b : Bool) → (length names ≤ length (cond b names (names ++ text ∷ [])))
+        × (length (cond b names (names ++ text ∷ [])) ≤ length names + 1)
+    go true = (omega arith, omega arith)
+    go false = let more = length-append names (text ∷ []) in (omega (arith, more), omega (arith, more))
 
 -- whether a text is among the names, by its number
 pub is_there : (names : List (List ℕ)) (text : List ℕ) → number_in names text < length names → list_any (bytes_eq text) names ≡ true

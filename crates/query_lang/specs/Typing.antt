@@ -5,7 +5,8 @@ use Rattle.query_lang.specs.declared.{fault.{FaultKind.TheVariants.{NameTaken, N
 use Rattle.query_lang.specs.declared.query.Item.TheVariants as item
 use Rattle.query_lang.specs.declared.query.{Name.Name, FoldDef.FoldDef, StreamOp.StreamOp}
 use Rattle.query_lang.specs.declared.query.StreamOp.TheVariants as ops
-use Rattle.query_lang.specs.declared.{fold.TypedFold.TypedFold, typed.TypedQuery.TypedQuery, typing.{Earlier.Earlier, Given.Given}}
+use Rattle.query_lang.specs.declared.{fold.TypedFold.TypedFold, typed.TypedQuery.TypedQuery}
+use Rattle.query_lang.specs.declared.typing.{Earlier.Earlier, Given.Given, Known.Known}
 use Rattle.query_lang.specs.declared.typing.Meaning.TheVariants as meaning
 use Rattle.query_lang.specs.declared.typing.Origin.TheVariants as origin
 use Rattle.query_lang.specs.{Names.{number_in, with_name}, Checks.{Checked, and_then, must, must_not, is_among}, TypedFolds.fold_checked}
@@ -69,18 +70,22 @@ is_groupby _ = false
 abbrev pub given_of : List (List ℕ) → List Item → Given
 given_of names items = record { fields = field_numbers names; groups = min (count_by is_groupby items) MAX_GROUPBYS }
 
--- The stream of all packets, whose columns are the fields, is there from the start.
+-- the stream of all packets, whose columns are the fields
+abbrev pub packet_stream : List (List ℕ) → Known
+packet_stream names = record {
+  name = number_in names (codes "pktstream");
+  meaning = meaning.Stream (record {
+    number = 0;
+    columns = map (λ id. record { name = id; origin = origin.Field }) (field_numbers names);
+    hidden = [];
+    table = None;
+  });
+}
+
+-- It is there from the start.
 abbrev pub start_of : List (List ℕ) → Earlier
 start_of names = record {
-  known = record {
-    name = number_in names (codes "pktstream");
-    meaning = meaning.Stream (record {
-      number = 0;
-      columns = map (λ id. record { name = id; origin = origin.Field }) (field_numbers names);
-      hidden = [];
-      table = None;
-    });
-  } ∷ [];
+  known = packet_stream names ∷ [];
   groups = 0;
   folds = [];
   streams = [];
