@@ -1,6 +1,7 @@
 -- Lists of names that are all different.
 use Rattle.std.proofs.Common.{◌≡◌, ℕ, zero, suc, ◌+◌, ◌<◌, ◌≤◌, Bool, true, false, ◌||◌, cond, List, [], ◌∷◌, ◌++◌, length, drop, Some}
-use Rattle.std.proofs.{Common.{nat_eq, refl, sym, ap, subst, ◌∙◌, arith}, lemmas.{Bool.eqb-true, List.Folds.list_any-append}}
+use Rattle.std.proofs.Common.{nat_eq, refl, sym, ap, subst, ◌∙◌, arith}
+use Rattle.std.proofs.lemmas.{Bool.{eqb-true, or_from, or_parts}, List.Folds.list_any-append}
 use Rattle.std.proofs.lemmas.Map.Steps.{length-le_from_distinct_below}
 use Rattle.std.{proofs.lemmas.List.Elements.{All-nil, All-cons, All-push, All-append, All-head, All-tail}, specs.Prelude.slice_get}
 use Rattle.std.specs.List.{AllByRecursion, IsDistinct, list_any}
@@ -10,13 +11,6 @@ use Rattle.query_types.specs.Fitting.{AreDifferent, AreApart}
 
 abbrev pub IsFew : ℕ → Type 0
 IsFew id = id < 65536
-
-pub or_false : (a b : Bool) → (a || b) ≡ false → (a ≡ false) × (b ≡ false)
-or_false true b h = cc h
-or_false false b h = (refl, h)
-
-pub both_false : (a b : Bool) → a ≡ false → b ≡ false → (a || b) ≡ false
-both_false a b h k = ap (λ t. t || b) h ∙ k
 
 swapped : (a b : ℕ) → nat_eq a b ≡ false → nat_eq b a ≡ false
 swapped a b h = go (nat_eq b a) refl
@@ -35,7 +29,7 @@ swapped a b h = go (nat_eq b a) refl
 
 all_others : (x : ℕ) (xs : List ℕ) → is_among x xs ≡ false → AllByRecursion (λ y. nat_eq x y ≡ false) xs
 all_others x [] h = tt
-all_others x (y ∷ ys) h = let one = or_false (nat_eq y x) (is_among x ys) h in (swapped y x one.0, all_others x ys one.1)
+all_others x (y ∷ ys) h = let one = or_parts (nat_eq y x) (is_among x ys) h in (swapped y x one.0, all_others x ys one.1)
 
 distinct : (xs : List ℕ) → AreDifferent xs → IsDistinct nat_eq xs
 unfolding IsDistinct
@@ -59,17 +53,17 @@ apart_within ids h = length-le_from_distinct_below ids 65536 (distinct ids h.onc
 -- ---- one list after another
 
 pub among_both : (x : ℕ) (xs ys : List ℕ) → is_among x xs ≡ false → is_among x ys ≡ false → is_among x (xs ++ ys) ≡ false
-among_both x xs ys h k = list_any-append (λ name. nat_eq name x) xs ys ∙ both_false (is_among x xs) (is_among x ys) h k
+among_both x xs ys h k = list_any-append (λ name. nat_eq name x) xs ys ∙ or_from (is_among x xs) (is_among x ys) h k
 
 without_first : (x : ℕ) (xs ys : List ℕ) → list_any (λ y. is_among y (x ∷ xs)) ys ≡ false → (is_among x ys ≡ false)
     × (list_any (λ y. is_among y xs) ys ≡ false)
 without_first x xs [] h = (refl, refl)
 without_first x xs (y ∷ ys) h =
-    let both = or_false (is_among y (x ∷ xs)) (list_any (λ y. is_among y (x ∷ xs)) ys) h in
-    let one = or_false (nat_eq x y) (is_among y xs) both.0 in
+    let both = or_parts (is_among y (x ∷ xs)) (list_any (λ y. is_among y (x ∷ xs)) ys) h in
+    let one = or_parts (nat_eq x y) (is_among y xs) both.0 in
     let more = without_first x xs ys both.1 in (
-      both_false (nat_eq y x) (is_among x ys) (swapped x y one.0) more.0,
-      both_false (is_among y xs) (list_any (λ y. is_among y xs) ys) one.1
+      or_from (nat_eq y x) (is_among x ys) (swapped x y one.0) more.0,
+      or_from (is_among y xs) (list_any (λ y. is_among y xs) ys) one.1
           more.1,
     )
 
@@ -83,7 +77,7 @@ pub apart_append : (xs ys : List ℕ) → AreApart xs → AreApart ys → list_a
 apart_append xs ys h k apart = record { below = All-append IsFew xs ys h.below k.below; once = different_append xs ys h.once k.once apart }
 
 pub different_push : (xs : List ℕ) (y : ℕ) → AreDifferent xs → is_among y xs ≡ false → AreDifferent (xs ++ y ∷ [])
-different_push xs y h new = different_append xs (y ∷ []) h (refl, tt) (both_false (is_among y xs) false new refl)
+different_push xs y h new = different_append xs (y ∷ []) h (refl, tt) (or_from (is_among y xs) false new refl)
 
 pub apart_push : (xs : List ℕ) (y : ℕ) → AreApart xs → y < 65536 → is_among y xs ≡ false → AreApart (xs ++ y ∷ [])
 apart_push xs y h below new = record { below = All-push IsFew xs y h.below below; once = different_push xs y h.once new }
@@ -110,17 +104,17 @@ others_not ids (x ∷ xs) = go (is_among x ids) refl (others_not ids xs)
     go : (t : Bool) → is_among x ids ≡ t → list_any (λ y. is_among y ids) (others ids xs) ≡ false
         → list_any (λ y. is_among y ids) (cond t (others ids xs) (x ∷ others ids xs)) ≡ false
     go true e h = h
-    go false e h = both_false (is_among x ids) (list_any (λ y. is_among y ids) (others ids xs)) e h
+    go false e h = or_from (is_among x ids) (list_any (λ y. is_among y ids) (others ids xs)) e h
 
 others_without : (ids : List ℕ) (z : ℕ) (xs : List ℕ) → is_among z xs ≡ false → is_among z (others ids xs) ≡ false
 others_without ids z [] h = refl
-others_without ids z (x ∷ xs) h = let one = or_false (nat_eq x z) (is_among z xs) h in go (is_among x ids) one.0
+others_without ids z (x ∷ xs) h = let one = or_parts (nat_eq x z) (is_among z xs) h in go (is_among x ids) one.0
     (others_without ids z xs one.1)
   where
     go : (t : Bool) → nat_eq x z ≡ false → is_among z (others ids xs) ≡ false
         → is_among z (cond t (others ids xs) (x ∷ others ids xs)) ≡ false
     go true e h = h
-    go false e h = both_false (nat_eq x z) (is_among z (others ids xs)) e h
+    go false e h = or_from (nat_eq x z) (is_among z (others ids xs)) e h
 
 others_apart : (ids xs : List ℕ) → AreApart xs → AreApart (others ids xs)
 others_apart ids [] h = h

@@ -6,10 +6,10 @@ use Rattle.query_lang.specs.declared.{fold.TypedStmt.TypedStmt, query.{Name.Name
 use Rattle.query_lang.specs.{declared.fault.TheConstants.{MAX_NODES, MAX_STATEMENTS}, Terms.{Literal, term_of}}
 use Rattle.query_lang.specs.Blocks.{Block, End, Set, Fork, followed, stmt_block, block_of}
 use Rattle.query_lang.specs.Folds.{IsValidBlock, IsValidEmit, ReadsArguments, is_condition, term_nodes, block_nodes, block_count}
-use Rattle.query_lang.specs.Checks.{Checked, must_not, is_among}
+use Rattle.query_lang.specs.Checks.{Checked, must_not, is_among, place_of}
 use Rattle.query_lang.specs.TypedFolds.{target_at, target_of, or_else, state_in, joined, inside, emit_condition, no_state}
 use Rattle.query_lang.proofs.TreeLemmas.{term_number, term_not, term_binary, block_assign, block_if}
-use Rattle.query_types.proofs.ExprLaws.{within_names, IsConditionIn, IsWordIn}
+use Rattle.query_types.proofs.ExprLaws.{place_within, found_place, IsConditionIn, IsWordIn}
 use Rattle.query_lang.specs.declared.fold.TypedExpr.TheVariants as typed
 use Rattle.query_lang.specs.declared.fold.TypedStmt.TheVariants as typed_stmt
 
@@ -81,13 +81,12 @@ pub record IsAround (states args most_nodes depth : ℕ) (outer : Enclosing) : T
   pub condition : IfSome outer.condition (λ e. IsConditionIn (states + args) (most_nodes + 2 * depth) e)
   pub reads : outer.state ≡ None → IfSome outer.condition (λ e. ReadsArguments states (term_of e))
 
+pub target_place : (states args : List ℕ) (name : Name) {v : ℕ} → target_of states args name ≡ Ok v → place_of states name.id ≡ Some v
+target_place states args name e = found_place (λ o b. target_at o b name.span) (λ slot b. refl) refl refl (place_of states name.id)
+    (is_among name.id args) e
+
 pub target_bound : (states args : List ℕ) (name : Name) (v : ℕ) → target_of states args name ≡ Ok v → v < length states
-target_bound states args name v e =
-    within_names states name.id v (λ o. target_at o (is_among name.id args) name.span) (λ slot. refl) (none (is_among name.id args)) e
-  where
-    none : (b : Bool) (w : ℕ) → target_at None b name.span ≡ Ok w → w < length states
-    none true w h = cc h
-    none false w h = cc h
+target_bound states args name v e = place_within states name.id v (target_place states args name e)
 
 pub added : (states args p c m j : ℕ) (found : Body) (one : TypedStmt) → IsBody states args p c found
     → IsBlockIn states args m j (stmt_block one) → IsBlockIn states args (p + m) (c + j) (block_of (found.statements ++ one ∷ []))

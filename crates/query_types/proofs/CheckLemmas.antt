@@ -65,6 +65,10 @@ pub if_ok : {A E P : Type 0} (answer : Result A E) → P → IfOk answer (λ _. 
 if_ok (Ok x) h = h
 if_ok (Err e) h = tt
 
+pub if_ok_so : {A E P Q : Type 0} (answer : Result A E) → (P → Q) → IfOk answer (λ _. P) → IfOk answer (λ _. Q)
+if_ok_so (Ok x) f h = f h
+if_ok_so (Err e) f h = tt
+
 pub on_ok : {E P : Type 0} (answer : Result (Unit {0}) E) → P → OnOk answer P
 on_ok (Ok done) h = h
 on_ok (Err e) h = tt

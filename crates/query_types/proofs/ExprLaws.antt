@@ -2,7 +2,8 @@
 use Rattle.std.proofs.Common.{◌≡◌, ℕ, ◌+◌, ◌<◌, ◌≤◌, ◌^◌, Bool, true, false, not, cond, List, [], ◌∷◌, ◌++◌, length, map, sum, Option, Some}
 use Rattle.std.proofs.Common.{None, Ok, Err, nat_eq, nat_lt, refl, sym, ap, subst, ◌∙◌, append_assoc, append-nil, arith}
 use Rattle.std.proofs.lemmas.Bool.{ltb-true}
-use Rattle.query_lang.specs.declared.{fault.{FaultKind.FaultKind, Span.Span}, fold.{Op.Op, TypedExpr.TypedExpr}, query.Name.Name}
+use Rattle.query_lang.specs.declared.{fault.{FaultKind.FaultKind, QueryFault.QueryFault, Span.Span}, fold.{Op.Op, TypedExpr.TypedExpr}}
+use Rattle.query_lang.specs.declared.query.Name.{Name}
 use Rattle.query_lang.specs.declared.{typing.{Found.Found, Sort.Sort}, fold.Op.TheVariants.{Div, Rem, Shl, Shr, Decay, Both, Either}}
 use Rattle.query_lang.specs.declared.query.Expr.{Expr, fold-roll-Expr, ind-Expr, roll-Expr, map-Expr}
 use Rattle.query_lang.specs.{declared.typing.Sort.TheVariants.{Number, Word, Condition}, Terms.{Term, Literal, term_of}}
@@ -53,25 +54,22 @@ place_bound (name ∷ rest) at id v e = go (nat_eq name id) (λ k. place_bound r
     go true more e = let same : at ≡ v = cc in omega arith
     go false more e = omega (arith, more e)
 
--- the place of a name that is among these is below how many there are
-pub within_names : (names : List ℕ) (id v : ℕ) (at : Option ℕ → Checked ℕ) → ((slot : ℕ) → at (Some slot) ≡ Ok slot)
-    → ((w : ℕ) → at None ≡ Ok w → w < length names) → at (place_of names id) ≡ Ok v → v < length names
-within_names names id v at some none e = go (place_of names id) refl e
-  where
-    go : (o : Option ℕ) → place_of names id ≡ o → at o ≡ Ok v → v < length names
-    go (Some slot) is e =
-        let same = same_ok _ _ (sym (some slot) ∙ e) in
-        let h = place_bound names 0 id slot is in
-        omega (arith, h, same)
-    go None is e = none v e
+pub place_within : (names : List ℕ) (id v : ℕ) → place_of names id ≡ Some v → v < length names
+place_within names id v e = let h = place_bound names 0 id v e in omega (arith, h)
+
+-- where a check of a name's place finds one, it is that place
+pub found_place : {v : ℕ} {f g : QueryFault} (at : Option ℕ → Bool → Checked ℕ) → ((slot : ℕ) (b : Bool) → at (Some slot) b ≡ Ok slot)
+    → at None true ≡ Err f → at None false ≡ Err g → (o : Option ℕ) (b : Bool) → at o b ≡ Ok v → o ≡ Some v
+found_place at some _ _ (Some slot) b e = ap Some (same_ok _ _ (sym (some slot b) ∙ e))
+found_place at _ f _ None true e = cc (sym f ∙ e)
+found_place at _ _ g None false e = cc (sym g ∙ e)
+
+pub slot_place : (columns hidden : List ℕ) (name : Name) {v : ℕ} → slot_of columns hidden name ≡ Ok v → place_of columns name.id ≡ Some v
+slot_place columns hidden name e = found_place (λ o b. slot_at o b name.span) (λ slot b. refl) refl refl (place_of columns name.id)
+    (is_among name.id hidden) e
 
 pub slot_bound : (columns hidden : List ℕ) (name : Name) (v : ℕ) → slot_of columns hidden name ≡ Ok v → v < length columns
-slot_bound columns hidden name v e =
-    within_names columns name.id v (λ o. slot_at o (is_among name.id hidden) name.span) (λ slot. refl) (none (is_among name.id hidden)) e
-  where
-    none : (b : Bool) (w : ℕ) → slot_at None b name.span ≡ Ok w → w < length columns
-    none true w h = cc h
-    none false w h = cc h
+slot_bound columns hidden name v e = place_within columns name.id v (slot_place columns hidden name e)
 
 not_true : (b : Bool) → not b ≡ true → b ≡ false
 not_true true e = cc e

@@ -1,6 +1,6 @@
 -- The columns of what an item makes differ from one another.
-use Rattle.std.proofs.Common.{◌≡◌, ℕ, suc, ◌+◌, ◌<◌, Bool, true, false, ◌||◌, cond, List, [], ◌∷◌, ◌++◌, map, flat_map, Option, Some, None}
-use Rattle.std.proofs.{Common.{Ok, nat_eq, refl, sym, ap, subst, ◌∙◌, append-nil, append_assoc, arith}, lemmas.Bool.eqb-true}
+use Rattle.std.proofs.Common.{◌≡◌, ℕ, suc, ◌+◌, ◌<◌, Bool, true, false, ◌||◌, cond, List, [], ◌∷◌, ◌++◌, map, flat_map, Some}
+use Rattle.std.proofs.{Common.{Ok, nat_eq, refl, sym, ap, subst, ◌∙◌, append-nil, append_assoc, arith}, lemmas.Bool.{eqb-true, or_parts}}
 use Rattle.std.{proofs.lemmas.List.Elements.{All-head, All-tail, filter_map-append}, specs.Prelude.{slice_get, IfSome}}
 use Rattle.std.specs.List.{All, list_any}
 use Rattle.query_lang.specs.declared.{fault.{Span.Span, FaultKind.TheVariants.NameTaken}, fold.TypedFold.TypedFold, query.Column.Column}
@@ -8,12 +8,12 @@ use Rattle.query_lang.specs.declared.query.{FinalOp.FinalOp, FoldDef.FoldDef, Na
 use Rattle.query_lang.specs.declared.typing.{Earlier.Earlier, FoldView.FoldView, MadeFinal.MadeFinal, MadeStream.MadeStream}
 use Rattle.query_lang.specs.declared.typing.{NewColumns.NewColumns, Picked.Picked, StreamColumn.StreamColumn}
 use Rattle.query_lang.specs.Limits.{AreNumbered, IsNumbered, IsNumberedStream, IsNumberedFinal}
-use Rattle.query_lang.specs.{Checks.{collected, is_among, place_from, place_of}, TypedExprs.{word_of, slot_at, slot_of}}
+use Rattle.query_lang.specs.{Checks.{collected, is_among, place_from}, TypedExprs.{word_of, slot_of}}
 use Rattle.query_lang.specs.{TypedFolds.states_from, TypedFinals.other_columns, TypedQueries.AreNames, TypedStreams.column_names}
 use Rattle.query_lang.specs.TypedStreams.{new_columns, no_new_columns, others_from, columns_at, key_names, keys_from, arguments_of}
-use Rattle.query_types.{specs.Fitting.{AreApart, AreDifferent, FitsTable, FitsKnown}, proofs.ApartLaws.{or_false, among_both, apart_append}}
+use Rattle.query_types.{specs.Fitting.{AreApart, AreDifferent, FitsTable, FitsKnown}, proofs.ApartLaws.{among_both, apart_append}}
 use Rattle.query_types.proofs.ApartLaws.{apart_push, apart_none, apart_drop, different_push, others_taken}
-use Rattle.query_types.proofs.{ExprLaws.{from_ok, same_ok, found_first, must_ok}, BodyLaws.must_not_ok, ViewLaws.quiet_known}
+use Rattle.query_types.proofs.{ExprLaws.{from_ok, found_first, must_ok, slot_place}, BodyLaws.must_not_ok, ViewLaws.quiet_known}
 use Rattle.query_types.proofs.{StreamLaws.slot_name, MadeLaws.{names_append, columns_made}, ItemLaws.fold_named_well}
 use Rattle.query_types.proofs.{NamedFits.{stream_fits, fold_fits, table_fits}, Makings.{StreamMade, filters, maps, zips, groups, FoldMade}}
 use Rattle.query_types.proofs.Makings.{folded, FinalMade, final_filters, final_maps, final_groups, final_joins, final_tops}
@@ -30,8 +30,8 @@ new_apart columns hidden made result (column ∷ rest) v numbered e =
     let id = column.name.id in
     let free = must_not_ok _ _ _ _ _ e in
     let value = found_first (word_of columns hidden column.value) _ _ free.1 in
-    let first = or_false (is_among id columns) (is_among id hidden || is_among id made.names) free.0 in
-    let second = or_false (is_among id hidden) (is_among id made.names) first.1 in
+    let first = or_parts (is_among id columns) (is_among id hidden || is_among id made.names) free.0 in
+    let second = or_parts (is_among id hidden) (is_among id made.names) first.1 in
     let more : AreApart ((columns ++ made.names) ++ id ∷ []) = apart_push (columns ++ made.names) id v (All-head N column rest numbered)
     (among_both id columns made.names first.0 second.1) in
     new_apart columns hidden (record { names = made.names ++ id ∷ []; values = made.values ++ value.0 ∷ [] }) result rest
@@ -73,17 +73,10 @@ named_from (column ∷ rest) at id v e = go (nat_eq column.name id) refl (λ k. 
 
 named_at : (columns : List StreamColumn) (hidden : List ℕ) (name : Name) (v : ℕ) → slot_of (column_names columns) hidden name ≡ Ok v
     → IsNamed columns v name.id
-named_at columns hidden name v e = go (place_of (column_names columns) name.id) refl (is_among name.id hidden) e
-  where
-    go : (o : Option ℕ) → place_of (column_names columns) name.id ≡ o → (b : Bool) → slot_at o b name.span ≡ Ok v
-        → IsNamed columns v name.id
-    go (Some slot) is b e =
-        let same : slot ≡ v = same_ok _ _ e in
-        let found = named_from columns 0 name.id slot is in
-        let N : ℕ → Type 0 = λ k. IsNamed columns k name.id in
-        subst N (let k : found.0 ≡ v = omega (arith, same, found.1) in k) found.2
-    go None is true e = cc e
-    go None is false e = cc e
+named_at columns hidden name v e =
+    let found = named_from columns 0 name.id v (slot_place (column_names columns) hidden name e) in
+    let N : ℕ → Type 0 = λ k. IsNamed columns k name.id in
+    subst N (let k : found.0 ≡ v = omega (arith, found.1) in k) found.2
 
 keys_named : (columns : List StreamColumn) (hidden : List ℕ) (found picked : Picked) (keys : List Name)
     → column_names (columns_at columns found.slots) ≡ found.names → keys_from (column_names columns) hidden found keys ≡ Ok picked

@@ -4,11 +4,11 @@ use Rattle.std.proofs.Common.{Err, nat_eq, refl, sym, ap, subst, ◌∙◌, appe
 use Rattle.query_lang.specs.declared.{fault.{FaultKind.TheVariants.{WrongKind, BadConstant}, Span.Span}, fold.Op.Op, query.Name.Name}
 use Rattle.query_lang.specs.{declared.{typing.Found.Found, fold.TypedExpr.TypedExpr}, Terms.term_of, Folds.ReadsArguments}
 use Rattle.query_lang.specs.declared.query.Expr.{Expr, fold-roll-Expr, ind-Expr, roll-Expr, map-Expr}
-use Rattle.query_lang.specs.{Checks.{Checked, collected, is_among, place_from, place_of}, TypedExprs.{is_operand, is_right_constant}}
-use Rattle.query_lang.specs.TypedExprs.{is_condition_sort, slot_at, slot_of, of_two, call_of, expr_step, expr_checked, condition_of}
+use Rattle.query_lang.specs.{Checks.{Checked, collected, is_among, place_from}, TypedExprs.{is_operand, is_right_constant}}
+use Rattle.query_lang.specs.TypedExprs.{is_condition_sort, slot_of, of_two, call_of, expr_step, expr_checked, condition_of}
 use Rattle.query_lang.specs.TypedFolds.{or_else, first_of, state_step, state_in}
 use Rattle.query_lang.proofs.TreeLemmas.{term_number, term_slot, term_not, term_binary}
-use Rattle.query_types.proofs.ExprLaws.{from_ok, must_ok, same_ok, found_first}
+use Rattle.query_types.proofs.ExprLaws.{from_ok, must_ok, same_ok, found_first, slot_place}
 use Rattle.query_lang.specs.declared.query.Expr.TheOpen as expr
 
 place_past : (states args : List ℕ) (at id v : ℕ) → is_among id states ≡ false → place_from at (states ++ args) id ≡ Some v → at
@@ -30,16 +30,13 @@ place_past (state ∷ states) args at id v n e = go (nat_eq state id) (λ h k. p
 
 slot_past : (states args : List ℕ) (name : Name) (v : ℕ) → cond (is_among name.id states) (Some name.span) None ≡ None
     → slot_of (states ++ args) [] name ≡ Ok v → length states ≤ v
-slot_past states args name v n e = go (is_among name.id states) refl n (place_of (states ++ args) name.id) refl e
+slot_past states args name v n e =
+    let h = place_past states args 0 name.id v (none (is_among name.id states) n) (slot_place (states ++ args) [] name e) in
+    omega (arith, h)
   where
-    go : (b : Bool) → is_among name.id states ≡ b → cond b (Some name.span) None ≡ None → (o : Option ℕ)
-        → place_of (states ++ args) name.id ≡ o → slot_at o false name.span ≡ Ok v → length states ≤ v
-    go true b n o is e = cc n
-    go false b n (Some slot) is e =
-        let same : slot ≡ v = cc in
-        let h = place_past states args 0 name.id slot b is in
-        omega (arith, h)
-    go false b n None is e = cc e
+    none : (b : Bool) → cond b (Some name.span) None ≡ None → b ≡ false
+    none true n = cc n
+    none false n = refl
 
 neither : (a b : Option Span) → or_else a b ≡ None → (a ≡ None) × (b ≡ None)
 neither None b e = (refl, e)

@@ -1,6 +1,7 @@
 -- What a query begins with, and what a readable query gives.
 use Rattle.std.proofs.Common.{◌≡◌, ℕ, ◌+◌, ◌<◌, ◌≤◌, Bool, true, false, not, ◌||◌, cond, nat_eq, List, [], ◌∷◌, length, map, min, count_by}
-use Rattle.std.proofs.{Common.{None, refl, sym, ap, ◌∙◌, codes, arith}, lemmas.{Bool.eqb-true, Slice.Eq.bytes_eq-Decides}}
+use Rattle.std.proofs.Common.{None, refl, sym, ap, ◌∙◌, codes, arith}
+use Rattle.std.proofs.lemmas.{Bool.{eqb-true, or_from, or_parts}, Slice.Eq.bytes_eq-Decides}
 use Rattle.std.{proofs.lemmas.List.Elements.{All-nil, All-cons, All-head, All-tail}, specs.{List.{All, list_any}, Str.bytes_eq}}
 use Rattle.marple_base.specs.{declared.field.Field.Field, Field.{all_fields, field_name}}
 use Rattle.query_lang.specs.declared.{query.{Item.Item, Query.Query}, typing.{Earlier.Earlier, Given.Given, Known.Known}}
@@ -8,7 +9,8 @@ use Rattle.query_lang.specs.{declared.typing.StreamColumn.StreamColumn, Limits.I
 use Rattle.query_lang.specs.declared.fault.TheConstants.{MAX_GROUPBYS}
 use Rattle.query_lang.specs.Typing.{field_numbers, given_of, is_groupby, start_of, typed_names, with_fields}
 use Rattle.query_types.specs.Fitting.{AreApart, AreDifferent, AreReady, Fits, FitsKnown}
-use Rattle.query_types.proofs.{ApartLaws.{both_false, or_false, apart_none, apart_push}, MadeLaws.names_of_made, NameLemmas.one_more}
+use Rattle.query_lang.proofs.NameFacts.{with_bounds}
+use Rattle.query_types.proofs.{ApartLaws.{apart_none, apart_push}, MadeLaws.names_of_made}
 use Rattle.query_types.proofs.ValidLaws.{IsAmong, among_fields, among_self, item_more, numbers_known}
 use Rattle.query_lang.specs.declared.typing.Meaning.TheVariants as meaning
 use Rattle.query_lang.specs.declared.typing.Origin.TheVariants as origin
@@ -52,8 +54,8 @@ other_numbers : (names : List (List ℕ)) (f : Field) (rest : List Field) → Al
     → is_among (number_of names f) (map (number_of names) rest) ≡ false
 other_numbers names f [] h e = refl
 other_numbers names f (g ∷ rest) h e =
-    let one = or_false (bytes_eq (field_name g) (field_name f)) (has_text f rest) e in
-    both_false (nat_eq (number_of names g) (number_of names f)) (is_among (number_of names f) (map (number_of names) rest))
+    let one = or_parts (bytes_eq (field_name g) (field_name f)) (has_text f rest) e in
+    or_from (nat_eq (number_of names g) (number_of names f)) (is_among (number_of names f) (map (number_of names) rest))
     (other_number names (field_name g) (field_name f) (All-head (IsThere names) g rest h) one.0)
     (other_numbers names f rest (All-tail (IsThere names) g rest h) one.1)
 
@@ -80,7 +82,7 @@ texts_differ = (refl, (refl, (refl, (refl, (refl, (refl, (refl, (refl, (refl, (r
 
 fields_more : (fields : List Field) (names : List (List ℕ)) → length (with_fields names fields) ≤ length names + length fields
 fields_more [] names = omega arith
-fields_more (f ∷ rest) names = omega (arith, one_more names (field_name f), fields_more rest (with_name names (field_name f)))
+fields_more (f ∷ rest) names = omega (arith, (with_bounds names (field_name f)).1, fields_more rest (with_name names (field_name f)))
 
 number_most : (text : List ℕ) (names : List (List ℕ)) → number_in names text ≤ length names
 number_most text [] = omega arith

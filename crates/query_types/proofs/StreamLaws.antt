@@ -9,12 +9,12 @@ use Rattle.query_lang.specs.declared.{query.{Key.{Key, TheVariants.{Named, FiveT
 use Rattle.query_lang.specs.declared.typing.{NewColumns.NewColumns, Picked.Picked, StreamColumn.StreamColumn}
 use Rattle.query_lang.specs.{declared.fault.TheConstants.{MAX_KEYS, MAX_NODES}, Terms.term_of, Limits.{columns_nodes, AreNumbered}}
 use Rattle.query_lang.specs.{TypedFolds.expr_nodes, Folds.{term_nodes, fold_args, fold_states}}
-use Rattle.query_lang.specs.{Checks.{Checked, collected, is_among, place_from, place_of}, TypedExprs.{word_of, slot_at, slot_of}}
+use Rattle.query_lang.specs.{Checks.{Checked, collected, is_among, place_from}, TypedExprs.{word_of, slot_of}}
 use Rattle.query_lang.specs.TypedStreams.{column_names, new_columns, no_new_columns, others_from, columns_at, key_names, keys_from}
 use Rattle.query_lang.specs.TypedStreams.{keys_checked, arguments_of}
 use Rattle.query_lang.specs.TypedQueries.{AreNames, AreSlots, IsValidWord, IsValidCondition, IsValidGroup, Shape, group_shape}
 use Rattle.query_types.{specs.Numbers.columns_number, proofs.{BodyLaws.must_not_ok, ViewLaws.{Whole, IsFold}}}
-use Rattle.query_types.proofs.ExprLaws.{from_ok, same_ok, found_first, must_ok, slot_bound, IsConditionIn, word_valid}
+use Rattle.query_types.proofs.ExprLaws.{from_ok, same_ok, found_first, must_ok, slot_place, slot_bound, IsConditionIn, word_valid}
 
 abbrev pub IsSlot : ℕ → ℕ → Type 0
 IsSlot slots slot = slot < slots
@@ -78,12 +78,7 @@ place_name names columns (x ∷ rest) at id v all e = go (nat_eq x id) refl
 
 pub slot_name : (names : ℕ) (columns hidden : List ℕ) (name : Name) (v : ℕ) → AreNames names columns → slot_of columns hidden name ≡ Ok v
     → name.id < names
-slot_name names columns hidden name v all e = go (place_of columns name.id) refl (is_among name.id hidden) e
-  where
-    go : (o : Option ℕ) → place_of columns name.id ≡ o → (b : Bool) → slot_at o b name.span ≡ Ok v → name.id < names
-    go (Some slot) is b e = place_name names 0 columns 0 name.id slot all is
-    go None is true e = cc e
-    go None is false e = cc e
+slot_name names columns hidden name v all e = place_name names 0 columns 0 name.id v all (slot_place columns hidden name e)
 
 -- the keys of a groupby
 pub record ArePicked (names slots : ℕ) (picked : Picked) : Type 0 where

@@ -1,12 +1,13 @@
 -- The typed query of a readable query is valid.
 use Rattle.std.proofs.Common.{◌≡◌, ℕ, ◌+◌, ◌<◌, ◌≤◌, ◌^◌, Bool, true, false, ◌||◌, cond, List, [], ◌∷◌, ◌++◌, length, map, min, count_by}
-use Rattle.std.proofs.{Common.{◌∙◌, nat_lt, Ok, Err, Result, IfOk, not, refl, sym, ap, subst, append-nil, arith}, lemmas.List.length-append}
+use Rattle.std.proofs.Common.{◌∙◌, nat_lt, Ok, Err, Result, IfOk, not, refl, sym, ap, subst, append-nil, arith}
 use Rattle.std.proofs.lemmas.{List.{Folds.list_any-append, Elements.{All-nil, All-cons, All-map}}, Slice.Eq.bytes_eq-Decides}
 use Rattle.std.specs.{List.{All, list_any}, Str.bytes_eq}
 use Rattle.marple_base.specs.{declared.field.Field.Field, Field.{all_fields, field_name}}
 use Rattle.query_lang.specs.declared.{error.QueryError.QueryError, fault.FaultKind.TheVariants.NothingPrinted, query.FinalOp.FinalOp}
 use Rattle.query_lang.specs.declared.{query.{Item.Item, Query.Query, StreamOp.StreamOp}, typed.{PrintOf.PrintOf, TypedQuery.TypedQuery}}
 use Rattle.query_lang.specs.{declared.typing.StreamColumn.StreamColumn, Answers.Answers, Folds.IsValidFold, Names.{number_in, with_name}}
+use Rattle.query_lang.proofs.NameFacts.{with_bounds}
 use Rattle.query_lang.specs.{Streams.takings, TypedStreams.column_names, declared.fault.TheConstants.MAX_GROUPBYS}
 use Rattle.query_lang.specs.Limits.{IsNumbered, IsNumberedStream, IsNumberedFinal, IsReadable}
 use Rattle.query_lang.specs.TypedQueries.{AreNames, HasNames, IsQueryTable, IsValidQuery}
@@ -74,16 +75,9 @@ pub numbers_known : (names : List (List ℕ)) → AreNames (length (typed_names 
 numbers_known names = All-map (IsName (length (typed_names names))) (λ f. number_in (typed_names names) (field_name f)) all_fields
     (fields_known all_fields names)
 
-with_grows : (names : List (List ℕ)) (text : List ℕ) → length names ≤ length (with_name names text)
-with_grows names text = go (list_any (bytes_eq text) names)
-  where
-    go : (b : Bool) → length names ≤ length (cond b names (names ++ text ∷ []))
-    go true = omega arith
-    go false = omega (arith, length-append names (text ∷ []))
-
 fields_grow : (fields : List Field) (names : List (List ℕ)) → length names ≤ length (with_fields names fields)
 fields_grow [] names = omega arith
-fields_grow (f ∷ rest) names = omega (arith, with_grows names (field_name f), fields_grow rest (with_name names (field_name f)))
+fields_grow (f ∷ rest) names = omega (arith, (with_bounds names (field_name f)).0, fields_grow rest (with_name names (field_name f)))
 
 stream_more : (n m : ℕ) (op : StreamOp) → n ≤ m → IsNumberedStream n op → IsNumberedStream m op
 stream_more n m (ops.Filter input e) h v = tt

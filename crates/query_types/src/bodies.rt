@@ -3,6 +3,7 @@
 ghost use Rattle.std.specs.Prelude.{◌≡◌, ◌<◌, ◌≤◌, ◌^◌, ◌∷◌, ◌++◌, [], Ok, Some, IfOk, OnOk, length, map};
 ghost use Rattle.query_lang.specs.{TypedExprs.{condition_of, word_of}, TypedFolds.{target_of, state_in, joined, inside, in_order}};
 ghost use Rattle.query_lang.specs.{TypedFolds.{emit_condition, emitted, stmt_checked, body_checked}, Answers.Answers};
+ghost use Rattle.query_lang.specs.declared.query.Stmt.{If};
 ghost use Rattle.query_types.specs.{Answers.Leaves, Bodies.{IsScope, choice_of, assigned}};
 ghost use Rattle.query_types.specs.Numbers.{greatest_of, greatest_number, greatest_in};
 
@@ -263,15 +264,34 @@ fn check_stmt(
     match s {
         Stmt::Assign(name, e) => add_assignment(alloc, scope, found, *name, e),
         Stmt::If(c, a, b) => {
-            let choice = open_choice(alloc, scope, outer, c)?;
-            let before = take_statements(alloc, found);
-            check_all(alloc, scope, &choice.get().holding, found, a.as_slice())?;
-            let then_block = take_statements(alloc, found);
-            check_all(alloc, scope, &choice.get().failing, found, b.as_slice())?;
-            close_choice(found, choice, before, then_block)
+            check_choice(alloc, scope, outer, found, c, a.as_slice(), b.as_slice())
         }
         Stmt::Emit(span) => add_emit(alloc, *span, outer, found),
     }
+}
+
+// A choice: its condition, the statements where it holds, and then those where it doesn't.
+#[cycle(statements)]
+fn check_choice(
+    alloc: Global,
+    scope: Scope<'_>,
+    outer: &Enclosing,
+    found: &mut Body,
+    condition: &Expr,
+    holding: &[Stmt],
+    failing: &[Stmt],
+) -> Result<(), QueryError>
+    requires { IsScope scope }
+    ensures given { Leaves result found.new (stmt_checked scope.entry.states.now scope.entry.args.now
+        (If condition.now holding.now failing.now) outer.now found.old) }
+    ensures numbers { OnOk result (greatest_in (If condition.now holding.now failing.now) < 2 ^ 64) }
+{
+    let choice = open_choice(alloc, scope, outer, condition)?;
+    let before = take_statements(alloc, found);
+    check_all(alloc, scope, &choice.get().holding, found, holding)?;
+    let then_block = take_statements(alloc, found);
+    check_all(alloc, scope, &choice.get().failing, found, failing)?;
+    close_choice(found, choice, before, then_block)
 }
 
 // The statements of a block after those before them.

@@ -68,8 +68,11 @@ fn add_column(
 pub fn names_of(alloc: Global, columns: &[StreamColumn]) -> Result<Seq<u32>, AllocError>
     ensures { IfOk result (λ names. names ≡ column_names columns.now) }
 {
-    let names = columns.iter().map(|column| column.name).collect(alloc)?;
-    Ok(Seq::from_vec(names))
+    let mut names = Seq::new(alloc);
+    for column in columns {
+        names.push(column.name)?;
+    }
+    Ok(names)
 }
 
 /// Columns of these names and of one origin, after others.

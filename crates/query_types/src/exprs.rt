@@ -1,7 +1,7 @@
 //! Expressions over columns.
 
 ghost use Rattle.std.specs.{Prelude.{◌≡◌, ◌<◌, ◌^◌, ◌∷◌, [], IfOk, IfSome, length, map}, List.list_any};
-ghost use Rattle.query_lang.specs.{Checks.{collected, is_among, place_of}, TypedExprs.{slot_of, is_condition_sort, is_operand}};
+ghost use Rattle.query_lang.specs.{Checks.{and_then, collected, is_among, place_of}, TypedExprs.{slot_of, is_condition_sort, is_operand}};
 ghost use Rattle.query_lang.specs.TypedExprs.{is_right_constant, sort_of, of_two, call_of, negation_checked, expr_checked, condition_of};
 ghost use Rattle.query_lang.specs.{TypedExprs.word_of, Answers.Answers};
 ghost use Rattle.query_types.specs.{Fitting.IsNarrow, Numbers.{greatest_of, greatest_number}};
@@ -183,16 +183,34 @@ pub fn check_expr(
             negate(alloc, *span, of)
         }
         Expr::Binary(op, _, left, right) => {
-            let first = check_expr(alloc, columns, hidden, left.get())?;
-            let second = check_expr(alloc, columns, hidden, right.get())?;
-            let at = first.at;
-            join(alloc, *op, at, first, second)
+            check_operation(alloc, columns, hidden, *op, left.get(), right.get())
         }
         Expr::Call(op, span, arguments) => {
             let operands = check_operands(alloc, columns, hidden, arguments.as_slice())?;
             call(alloc, *op, *span, operands)
         }
     }
+}
+
+// An operator between two expressions, of which the left one is checked first.
+#[cycle(expression)]
+fn check_operation(
+    alloc: Global,
+    columns: &[u32],
+    hidden: &[u32],
+    op: Op,
+    left: &Expr,
+    right: &Expr,
+) -> Result<Found, QueryError>
+    requires { IsNarrow columns.now }
+    ensures given { Answers result (and_then (expr_checked columns.now hidden.now left.now) (λ x.
+        and_then (expr_checked columns.now hidden.now right.now) (λ y. of_two op x.at x y))) }
+    ensures numbers { IfOk result (λ _. (greatest_number left.now < 2 ^ 64) × (greatest_number right.now < 2 ^ 64)) }
+{
+    let first = check_expr(alloc, columns, hidden, left)?;
+    let second = check_expr(alloc, columns, hidden, right)?;
+    let at = first.at;
+    join(alloc, op, at, first, second)
 }
 
 // The operands of a function, in order.

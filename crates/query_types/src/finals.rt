@@ -12,10 +12,10 @@ use crate::copies::{both_lists, copy_list};
 use crate::exprs::{check_condition, find_slot};
 use crate::groupbys::key_count;
 use crate::tables::{number_of_table, others_clash, others_of, same_keys};
-use crate::views::{check_binding, find_quiet_fold, find_table};
+use crate::views::{check_binding, find_quiet_fold, find_table, learn};
 use marple_base::Seq;
 use query_lang::typing::{
-    Earlier, FoldView, Given, Known, MadeFinal, Meaning, NewColumns, Picked, TableView,
+    Earlier, FoldView, Given, MadeFinal, Meaning, NewColumns, Picked, TableView,
 };
 use query_lang::{
     Column, Expr, FaultKind, FinalDef, FinalOp, Key, MAX_BINDINGS, MAX_GROUPBYS, MAX_KEYS, Name,
@@ -247,14 +247,12 @@ fn add_final(
 {
     let number = earlier.finals.len() as u16;
     let columns = copy_list(alloc, made.columns.as_slice())?;
-    earlier.known.push(Known {
-        name: name.id,
-        meaning: Meaning::Final(TableView {
-            place: PrintOf::Final(number),
-            columns,
-            keys: made.keys,
-        }),
-    })?;
+    let view = TableView {
+        place: PrintOf::Final(number),
+        columns,
+        keys: made.keys,
+    };
+    learn(earlier, name, Meaning::Final(view))?;
     earlier.finals.push(TypedFinal {
         name,
         columns: made.columns,

@@ -123,6 +123,17 @@ fn count_block(body: &[Stmt]) -> Counts
     Counts { nodes, statements }
 }
 
+// The values that state variables begin with.
+fn initial_values(alloc: Global, states: &[StateVar]) -> Result<Seq<u64>, AllocError>
+    ensures { IfOk result (λ values. values ≡ map (λ state. state.initial) states.now) }
+{
+    let mut values = Seq::new(alloc);
+    for state in states {
+        values.push(state.initial)?;
+    }
+    Ok(values)
+}
+
 // The fold of its parts.
 fn fold_of(
     alloc: Global,
@@ -135,8 +146,7 @@ fn fold_of(
     requires statements { fold_statements d.now ≤ MAX_STATEMENTS }
     ensures { Answers result (Ok (fold_with d.now state_names arg_names found)) }
 {
-    let states = d.states.as_slice();
-    let initial = states.iter().map(|state| state.initial).collect(alloc)?;
+    let initial = initial_values(alloc, d.states.as_slice())?;
     let Counts { nodes, statements } = count_block(d.body.as_slice());
     let Body {
         statements: body,
@@ -145,7 +155,7 @@ fn fold_of(
     Ok(TypedFold {
         name: d.name,
         state_names,
-        initial: Seq::from_vec(initial),
+        initial,
         arg_names,
         body,
         emit,

@@ -11,8 +11,8 @@ use crate::exprs::has_name;
 use crate::finals::{check_final, five_of};
 use crate::folds::check_fold;
 use crate::streams::check_stream;
-use crate::views::{find_table, is_taken};
-use query_lang::typing::{Earlier, FoldView, Given, Known, Meaning};
+use crate::views::{find_table, is_taken, learn};
+use query_lang::typing::{Earlier, FoldView, Given, Meaning};
 use query_lang::{
     FaultKind, FoldDef, Item, MAX_GROUPBYS, MAX_NODES, MAX_STATEMENTS, Name, QueryError, TypedFold,
 };
@@ -44,10 +44,7 @@ fn add_fold(alloc: Global, earlier: &mut Earlier, f: TypedFold) -> Result<(), Al
 {
     let number = earlier.folds.len() as u16;
     let view = view_of(alloc, number, &f)?;
-    earlier.known.push(Known {
-        name: f.name.id,
-        meaning: Meaning::Fold(view),
-    })?;
+    learn(earlier, f.name, Meaning::Fold(view))?;
     earlier.folds.push(f)?;
     Ok(())
 }

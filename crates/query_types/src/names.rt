@@ -26,9 +26,9 @@ pub fn number_fields(alloc: Global, names: &Names, fields: &[Field]) -> Result<S
     requires { length names.now < 2 ^ 32 }
     ensures { IfOk result (λ numbers. numbers ≡ map (λ f. number_in names.now (field_name f)) fields.now) }
 {
-    let numbers = fields
-        .iter()
-        .map(|field| names.find(field.name()))
-        .collect(alloc)?;
-    Ok(Seq::from_vec(numbers))
+    let mut numbers = Seq::new(alloc);
+    for field in fields {
+        numbers.push(names.find(field.name()))?;
+    }
+    Ok(numbers)
 }

@@ -14,9 +14,9 @@ use crate::columns::{
 use crate::copies::{both_lists, copy_list};
 use crate::exprs::check_condition;
 use crate::groupbys::check_group;
-use crate::views::{check_binding, find_stream};
+use crate::views::{check_binding, find_stream, learn};
 use marple_base::Seq;
-use query_lang::typing::{Earlier, Known, MadeStream, Meaning, NewColumns, Origin, StreamView};
+use query_lang::typing::{Earlier, MadeStream, Meaning, NewColumns, Origin, StreamView};
 use query_lang::{
     Column, Expr, FaultKind, Limit, MAX_BINDINGS, MAX_GROUPBYS, Name, QueryError, StreamDef,
     StreamOp, TypedExpr, TypedOp, TypedStream,
@@ -222,15 +222,13 @@ fn add_stream(
     let number = next_number(earlier);
     let groups = earlier.groups + u16::from(made.table.is_some());
     let names = names_of(alloc, made.columns.as_slice())?;
-    earlier.known.push(Known {
-        name: name.id,
-        meaning: Meaning::Stream(StreamView {
-            number,
-            columns: made.columns,
-            hidden: made.hidden,
-            table: made.table,
-        }),
-    })?;
+    let view = StreamView {
+        number,
+        columns: made.columns,
+        hidden: made.hidden,
+        table: made.table,
+    };
+    learn(earlier, name, Meaning::Stream(view))?;
     earlier.streams.push(TypedStream {
         name,
         columns: names,

@@ -31,7 +31,10 @@ fn is_group_item(item: &Item) -> bool
 fn count_groups(items: &[Item]) -> u16
     ensures { result ≡ min (count_by is_groupby items.now) MAX_GROUPBYS }
 {
-    let count = items.iter().filter(|item| is_group_item(item)).count();
+    let mut count: usize = 0;
+    for item in items {
+        count += usize::from(is_group_item(item));
+    }
     count.min(usize::from(MAX_GROUPBYS)) as u16
 }
 

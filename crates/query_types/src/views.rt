@@ -1,6 +1,6 @@
 //! What the names of a query stand for.
 
-ghost use Rattle.std.specs.Prelude.{◌≡◌, ◌<◌, ◌+◌, IfOk, length, option_map, is_some};
+ghost use Rattle.std.specs.Prelude.{◌≡◌, ◌<◌, ◌+◌, ◌∷◌, ◌++◌, [], IfOk, OnOk, length, option_map, is_some};
 ghost use Rattle.query_lang.specs.TypedStreams.{meaning_of, begun, stream_named, fold_named};
 ghost use Rattle.query_lang.specs.TypedFinals.{table_at, table_named, quiet_fold};
 ghost use Rattle.query_types.specs.Answers.{Finds};
@@ -8,6 +8,7 @@ ghost use Rattle.query_types.specs.Answers.{Finds};
 use crate::answer::fault;
 use query_lang::typing::{Earlier, FoldView, Known, Meaning, StreamView, TableView};
 use query_lang::{FaultKind, Limit, MAX_BINDINGS, Name, QueryFault};
+use std::alloc::AllocError;
 
 // What a name stands for.
 fn find_meaning(known: &[Known], id: u32) -> Option<&Meaning>
@@ -42,6 +43,17 @@ pub fn check_binding(earlier: &Earlier, name: Name) -> Result<(), QueryFault>
         return Err(fault(FaultKind::OverLimit(Limit::Bindings), name.span));
     }
     Ok(())
+}
+
+/// From here on the name stands for this.
+pub fn learn(earlier: &mut Earlier, name: Name, meaning: Meaning) -> Result<(), AllocError>
+    ensures { OnOk result (earlier.new ≡
+        record earlier.old { known = earlier.old.known ++ record { name = name.id; meaning = meaning } ∷ [] }) }
+{
+    earlier.known.push(Known {
+        name: name.id,
+        meaning,
+    })
 }
 
 /// The stream that a name has to stand for.

@@ -38,28 +38,54 @@ pub check_all-returns-clause-numbers : goal.check_all-returns-clause-numbers
 check_all-returns-clause-numbers t c =
     greatest_ends greatest_in c.args.body.now c.loop-one.one-index c.loop-one-test.false (omega arith) c.loop-one.invariant.numbers
 
-pub check_stmt-returns-in_err-choice-in-If-clause-given : goal.check_stmt-returns-in_err-choice-in-If-clause-given
-check_stmt-returns-in_err-choice-in-If-clause-given t c =
-    left_stops _ _ (choice_is _ _ _ _ _ _ c.in-If.is) _ _ _ c.from_residual.ensures.1 c.in_err-choice-in-If.ensures.given
+pub check_stmt-check_choice-requires : goal.check_stmt-check_choice-requires
+check_stmt-check_choice-requires t c = (
+  omega (arith, count_if c.in-If.is c.as_slice.ensures c.as_slice-in-If.ensures, c.decreases),
+  c.requires,
+)
 
-pub check_stmt-check_all-requires : goal.check_stmt-check_all-requires
-check_stmt-check_all-requires t c = (omega (arith, count_if c.in-If.is c.as_slice.ensures refl, c.decreases), c.requires)
+pub check_stmt-returns-in-If-clause-given : goal.check_stmt-returns-in-If-clause-given
+check_stmt-returns-in-If-clause-given t c =
+    rw c.in-If.is (rw (c.as_slice.ensures, c.as_slice-in-If.ensures) at c.check_choice.ensures.given)
 
-pub check_stmt-returns-in_err-check_all-in-If-clause-given : goal.check_stmt-returns-in_err-check_all-in-If-clause-given
-check_stmt-returns-in_err-check_all-in-If-clause-given t c =
-    left_stops_after _ _ (first_is _ _ _ _ _ _ c.in-If.is
-    c.in_ok-choice-in-If.ensures.given c.get.ensures c.as_slice.ensures c.take_statements-before.ensures.block) _ _ _ _
-    c.from_residual-in_err-check_all-in-If.ensures.1 c.in_err-check_all-in-If.ensures.given
+pub check_stmt-returns-in-If-clause-numbers : goal.check_stmt-returns-in-If-clause-numbers
+check_stmt-returns-in-If-clause-numbers t c =
+    rw c.in-If.is (rw (c.as_slice.ensures, c.as_slice-in-If.ensures) at c.check_choice.ensures.numbers)
 
-pub check_stmt-check_all-requires-in-If : goal.check_stmt-check_all-requires-in-If
-check_stmt-check_all-requires-in-If t c = (omega (arith, count_if c.in-If.is refl c.as_slice-in-If.ensures, c.decreases), c.requires)
+pub check_choice-returns-in_err-choice-clause-given : goal.check_choice-returns-in_err-choice-clause-given
+check_choice-returns-in_err-choice-clause-given t c =
+    left_stops _ _ (choice_is _ _ _ _ c.args.holding.now c.args.failing.now refl) _ _ _ c.from_residual.ensures.1
+    c.in_err-choice.ensures.given
 
-pub check_stmt-returns-in_err-check_all-in-If-2-clause-given : goal.check_stmt-returns-in_err-check_all-in-If-2-clause-given
-check_stmt-returns-in_err-check_all-in-If-2-clause-given t c =
-    left_stops_after _ _ (second_is _ _ _ _ _ _ c.in-If.is
-    c.in_ok-choice-in-If.ensures.given c.get.ensures c.as_slice.ensures c.take_statements-before.ensures.block
-    c.in_ok-check_all-in-If.ensures.given c.get-in-If.ensures c.as_slice-in-If.ensures c.take_statements-then_block.ensures.block) _ _ _ _
-    c.from_residual-in_err-check_all-in-If-2.ensures.1 c.in_err-check_all-in-If-2.ensures.given
+pub check_choice-check_all-requires : goal.check_choice-check_all-requires
+check_choice-check_all-requires t c = (omega (arith, c.decreases), c.requires)
+
+pub check_choice-returns-in_err-check_all-clause-given : goal.check_choice-returns-in_err-check_all-clause-given
+check_choice-returns-in_err-check_all-clause-given t c =
+    left_stops_after _ _ (first_is _ _ _ _ c.args.holding.now c.args.failing.now refl c.in_ok-choice.ensures.given c.get.ensures refl
+    c.take_statements-before.ensures.block) _ _ _ _ c.from_residual-in_err-check_all.ensures.1 c.in_err-check_all.ensures.given
+
+pub check_choice-check_all-requires-2 : goal.check_choice-check_all-requires-2
+check_choice-check_all-requires-2 t c = (omega (arith, c.decreases), c.requires)
+
+pub check_choice-returns-in_err-check_all-2-clause-given : goal.check_choice-returns-in_err-check_all-2-clause-given
+check_choice-returns-in_err-check_all-2-clause-given t c =
+    left_stops_after _ _ (second_is _ _ _ _ c.args.holding.now c.args.failing.now refl c.in_ok-choice.ensures.given c.get.ensures refl
+    c.take_statements-before.ensures.block c.in_ok-check_all.ensures.given c.get-2.ensures refl
+    c.take_statements-then_block.ensures.block) _ _ _ _ c.from_residual-in_err-check_all-2.ensures.1 c.in_err-check_all-2.ensures.given
+
+pub check_choice-returns-clause-given : goal.check_choice-returns-clause-given
+check_choice-returns-clause-given t c =
+    left_is _ _ (closed_is _ _ _ _ c.args.holding.now c.args.failing.now refl c.in_ok-choice.choice c.check_all.new.found
+    (second_is _ _ _ _ c.args.holding.now c.args.failing.now refl c.in_ok-choice.ensures.given c.get.ensures refl
+    c.take_statements-before.ensures.block c.in_ok-check_all.ensures.given c.get-2.ensures refl
+    c.take_statements-then_block.ensures.block) c.in_ok-check_all-2.ensures.given
+    c.take_statements-before.ensures.statements c.take_statements-then_block.ensures.statements) c.close_choice.ensures
+
+pub check_choice-returns-clause-numbers : goal.check_choice-returns-clause-numbers
+check_choice-returns-clause-numbers t c =
+    on_ok _ (choice_number {c = c.args.condition.now} {a = c.args.holding.now} {b = c.args.failing.now} refl refl refl
+    c.in_ok-choice.ensures.numbers c.in_ok-check_all.ensures.numbers c.in_ok-check_all-2.ensures.numbers)
 
 pub check_stmt-returns-in-Assign-clause-given : goal.check_stmt-returns-in-Assign-clause-given
 check_stmt-returns-in-Assign-clause-given t c =
@@ -67,19 +93,6 @@ check_stmt-returns-in-Assign-clause-given t c =
 
 pub check_stmt-returns-in-Assign-clause-numbers : goal.check_stmt-returns-in-Assign-clause-numbers
 check_stmt-returns-in-Assign-clause-numbers t c = on_ok_so _ (assign_number c.in-Assign.is) c.add_assignment.ensures.numbers
-
-pub check_stmt-returns-in_ok-check_all-in-If-2-clause-given : goal.check_stmt-returns-in_ok-check_all-in-If-2-clause-given
-check_stmt-returns-in_ok-check_all-in-If-2-clause-given t c =
-    left_is _ _ (closed_is _ _ _ _ _ _ c.in-If.is c.in_ok-choice-in-If.choice c.check_all.new.found (second_is _ _ _ _ _ _ c.in-If.is
-    c.in_ok-choice-in-If.ensures.given c.get.ensures c.as_slice.ensures c.take_statements-before.ensures.block
-    c.in_ok-check_all-in-If.ensures.given c.get-in-If.ensures c.as_slice-in-If.ensures c.take_statements-then_block.ensures.block)
-    c.in_ok-check_all-in-If-2.ensures.given c.take_statements-before.ensures.statements c.take_statements-then_block.ensures.statements)
-    c.close_choice.ensures
-
-pub check_stmt-returns-in_ok-check_all-in-If-2-clause-numbers : goal.check_stmt-returns-in_ok-check_all-in-If-2-clause-numbers
-check_stmt-returns-in_ok-check_all-in-If-2-clause-numbers t c =
-    on_ok _ (choice_number c.in-If.is c.as_slice.ensures c.as_slice-in-If.ensures c.in_ok-choice-in-If.ensures.numbers
-    c.in_ok-check_all-in-If.ensures.numbers c.in_ok-check_all-in-If-2.ensures.numbers)
 
 pub check_stmt-returns-in-Emit-clause-given : goal.check_stmt-returns-in-Emit-clause-given
 check_stmt-returns-in-Emit-clause-given t c = left_is _ _ (emit_is _ _ _ _ c.in-Emit.is) c.add_emit.ensures

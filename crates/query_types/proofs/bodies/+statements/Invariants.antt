@@ -5,10 +5,13 @@ use Rattle.query_types.specs.Numbers.{greatest_of, greatest_in}
 use Rattle.query_types.proofs.bodies.+statements.Given as goal
 
 abbrev pub decreases-check_stmt : goal.decreases-check_stmt
-decreases-check_stmt l = 2 * stmt_count l.s.now
+decreases-check_stmt l = 3 * stmt_count l.s.now
+
+abbrev pub decreases-check_choice : goal.decreases-check_choice
+decreases-check_choice l = 3 * (sum_by stmt_count l.holding.now + sum_by stmt_count l.failing.now) + 2
 
 abbrev pub decreases-check_all : goal.decreases-check_all
-decreases-check_all l = 2 * sum_by stmt_count l.body.now + 1
+decreases-check_all l = 3 * sum_by stmt_count l.body.now + 1
 
 abbrev pub invariant-check_all-loop-one : goal.invariant-check_all-loop-one
 invariant-check_all-loop-one l = record {

@@ -1,7 +1,7 @@
 -- An expression's operands are checked from left to right before its node, and the first fault is its own.
-use Rattle.std.{proofs.{Common.{◌+◌, refl, sym, ap, ◌∙◌, arith}, lemmas.List.at_drop_all}, specs.Prelude.{map, drop}}
+use Rattle.std.{proofs.{Common.{◌+◌, ◌<◌, ◌^◌, refl, sym, ap, ◌∙◌, arith}, lemmas.List.at_drop_all}, specs.Prelude.{map, drop}}
 use Rattle.query_lang.specs.{Checks.collected, TypedExprs.expr_checked, TypedFolds.expr_nodes}
-use Rattle.query_types.{specs.Numbers.greatest_number, proofs.CheckLemmas.{stops, goes_on, more, if_ok, collected_turn}}
+use Rattle.query_types.{specs.Numbers.greatest_number, proofs.CheckLemmas.{stops, goes_on, more, if_ok, if_ok_so, collected_turn}}
 use Rattle.query_types.proofs.CountSteps.{item_within, nodes_not, nodes_binary, nodes_call, greatest_more, greatest_ends}
 use Rattle.query_types.proofs.ExprSteps.{not_is, binary_is, call_is, not_number, binary_number, call_number}
 use Rattle.query_types.proofs.exprs.+expression.Goals as goal
@@ -9,15 +9,9 @@ use Rattle.query_types.proofs.exprs.+expression.Goals as goal
 pub check_expr-check_expr-requires : goal.check_expr-check_expr-requires
 check_expr-check_expr-requires t c = (omega (arith, nodes_not c.in-Not.is c.get.ensures, c.decreases), c.requires)
 
-pub check_expr-check_expr-requires-in-Binary : goal.check_expr-check_expr-requires-in-Binary
-check_expr-check_expr-requires-in-Binary t c = (
-  omega (arith, nodes_binary c.in-Binary.is c.get-in-Binary.ensures refl, c.decreases),
-  c.requires,
-)
-
-pub check_expr-check_expr-requires-in-Binary-2 : goal.check_expr-check_expr-requires-in-Binary-2
-check_expr-check_expr-requires-in-Binary-2 t c = (
-  omega (arith, nodes_binary c.in-Binary.is refl c.get-in-Binary-2.ensures, c.decreases),
+pub check_expr-check_operation-requires : goal.check_expr-check_operation-requires
+check_expr-check_operation-requires t c = (
+  omega (arith, nodes_binary c.in-Binary.is c.get-in-Binary.ensures c.get-in-Binary-2.ensures, c.decreases),
   c.requires,
 )
 
@@ -27,16 +21,6 @@ check_expr-check_operands-requires t c = (omega (arith, nodes_call c.in-Call.is 
 pub check_expr-returns-in_err-of-in-Not-clause-given : goal.check_expr-returns-in_err-of-in-Not-clause-given
 check_expr-returns-in_err-of-in-Not-clause-given t c =
     stops _ _ (not_is _ _ c.in-Not.is c.get.ensures) _ _ c.from_residual-in_err-of-in-Not.ensures.1 c.in_err-of-in-Not.ensures.given
-
-pub check_expr-returns-in_err-first-in-Binary-clause-given : goal.check_expr-returns-in_err-first-in-Binary-clause-given
-check_expr-returns-in_err-first-in-Binary-clause-given t c =
-    stops _ _ (binary_is _ _ c.in-Binary.is c.get-in-Binary.ensures refl) _ _
-    c.from_residual-in_err-first-in-Binary.ensures.1 c.in_err-first-in-Binary.ensures.given
-
-pub check_expr-returns-in_err-second-in-Binary-clause-given : goal.check_expr-returns-in_err-second-in-Binary-clause-given
-check_expr-returns-in_err-second-in-Binary-clause-given t c =
-    goes_on _ _ (binary_is _ _ c.in-Binary.is c.get-in-Binary.ensures c.get-in-Binary-2.ensures) _ c.in_ok-first-in-Binary.ensures.given
-    (stops _ _ refl _ _ c.from_residual-in_err-second-in-Binary.ensures.1 c.in_err-second-in-Binary.ensures.given)
 
 pub check_expr-returns-in_err-operands-in-Call-clause-given : goal.check_expr-returns-in_err-operands-in-Call-clause-given
 check_expr-returns-in_err-operands-in-Call-clause-given t c =
@@ -50,15 +34,36 @@ check_expr-returns-in_ok-of-in-Not-clause-given t c =
 pub check_expr-returns-in_ok-of-in-Not-clause-numbers : goal.check_expr-returns-in_ok-of-in-Not-clause-numbers
 check_expr-returns-in_ok-of-in-Not-clause-numbers t c = if_ok _ (not_number c.in-Not.is c.get.ensures c.in_ok-of-in-Not.ensures.numbers)
 
-pub check_expr-returns-in_ok-second-in-Binary-clause-given : goal.check_expr-returns-in_ok-second-in-Binary-clause-given
-check_expr-returns-in_ok-second-in-Binary-clause-given t c =
-    goes_on _ _ (binary_is _ _ c.in-Binary.is c.get-in-Binary.ensures c.get-in-Binary-2.ensures) _ c.in_ok-first-in-Binary.ensures.given
-    (goes_on _ _ refl _ c.in_ok-second-in-Binary.ensures.given c.join.ensures)
+pub check_expr-returns-in-Binary-clause-given : goal.check_expr-returns-in-Binary-clause-given
+check_expr-returns-in-Binary-clause-given t c =
+    rw (binary_is _ _ c.in-Binary.is c.get-in-Binary.ensures c.get-in-Binary-2.ensures) c.check_operation.ensures.given
 
-pub check_expr-returns-in_ok-second-in-Binary-clause-numbers : goal.check_expr-returns-in_ok-second-in-Binary-clause-numbers
-check_expr-returns-in_ok-second-in-Binary-clause-numbers t c =
-    if_ok _ (binary_number c.in-Binary.is c.get-in-Binary.ensures c.get-in-Binary-2.ensures c.in_ok-first-in-Binary.ensures.numbers
-    c.in_ok-second-in-Binary.ensures.numbers)
+pub check_expr-returns-in-Binary-clause-numbers : goal.check_expr-returns-in-Binary-clause-numbers
+check_expr-returns-in-Binary-clause-numbers t c =
+    if_ok_so _ (λ n. binary_number c.in-Binary.is c.get-in-Binary.ensures c.get-in-Binary-2.ensures n.0 n.1) c.check_operation.ensures.numbers
+
+pub check_operation-check_expr-requires : goal.check_operation-check_expr-requires
+check_operation-check_expr-requires t c = (omega (arith, c.decreases), c.requires)
+
+pub check_operation-check_expr-requires-2 : goal.check_operation-check_expr-requires-2
+check_operation-check_expr-requires-2 t c = (omega (arith, c.decreases), c.requires)
+
+pub check_operation-returns-in_err-first-clause-given : goal.check_operation-returns-in_err-first-clause-given
+check_operation-returns-in_err-first-clause-given t c = stops _ _ refl _ _ c.from_residual.ensures.1 c.in_err-first.ensures.given
+
+pub check_operation-returns-in_err-second-clause-given : goal.check_operation-returns-in_err-second-clause-given
+check_operation-returns-in_err-second-clause-given t c = goes_on _ _ refl _ c.in_ok-first.ensures.given
+    (stops _ _ refl _ _ c.from_residual-in_err-second.ensures.1 c.in_err-second.ensures.given)
+
+pub check_operation-returns-clause-given : goal.check_operation-returns-clause-given
+check_operation-returns-clause-given t c =
+    goes_on _ _ refl _ c.in_ok-first.ensures.given (goes_on _ _ refl _ c.in_ok-second.ensures.given c.join.ensures)
+
+pub check_operation-returns-clause-numbers : goal.check_operation-returns-clause-numbers
+check_operation-returns-clause-numbers t c =
+    let both : (greatest_number c.args.left.now < 2 ^ 64) × (greatest_number c.args.right.now < 2 ^ 64) =
+    (c.in_ok-first.ensures.numbers, c.in_ok-second.ensures.numbers) in
+    if_ok _ both
 
 pub check_expr-returns-in_ok-operands-in-Call-clause-given : goal.check_expr-returns-in_ok-operands-in-Call-clause-given
 check_expr-returns-in_ok-operands-in-Call-clause-given t c =

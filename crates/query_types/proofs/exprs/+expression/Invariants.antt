@@ -7,6 +7,9 @@ use Rattle.query_types.proofs.exprs.+expression.Given as goal
 abbrev pub decreases-check_expr : goal.decreases-check_expr
 decreases-check_expr l = 2 * expr_nodes l.e.now
 
+abbrev pub decreases-check_operation : goal.decreases-check_operation
+decreases-check_operation l = 2 * (expr_nodes l.left.now + expr_nodes l.right.now) + 1
+
 abbrev pub decreases-check_operands : goal.decreases-check_operands
 decreases-check_operands l = 2 * sum_by expr_nodes l.arguments.now + 1
 

@@ -1,7 +1,7 @@
 -- Each argument is looked for among the state variables and the arguments before it, and the rest follow where it's new.
-use Rattle.std.proofs.{Common.{sym, ap, ◌∙◌}, lemmas.List.{drop_more, at_drop_all}}
+use Rattle.std.proofs.{Common.{sym, ap, ◌∙◌}, lemmas.{Bool.or_from, List.{drop_more, at_drop_all}}}
 use Rattle.query_lang.specs.{Checks.is_among, TypedFolds.args_from}
-use Rattle.query_types.proofs.{ApartLaws.both_false, FoldSteps.{arg_taken, arg_full, arg_added, within_most, either_first, either_second}}
+use Rattle.query_types.proofs.FoldSteps.{arg_taken, arg_full, arg_added, within_most, either_first, either_second}
 use Rattle.query_types.proofs.folds.check_args.Goals.{then-has_name-via-then-has_name, then-has_name-via-else-has_name+then-has_name-2}
 use Rattle.query_types.proofs.folds.check_args.Goals as goal
 
@@ -19,7 +19,7 @@ pub returns-then-len-ge-MAX_ARGS-clause-given : goal.returns-then-len-ge-MAX_ARG
 returns-then-len-ge-MAX_ARGS-clause-given c =
     arg_full c.args.states.now c.loop-arg.found (drop_more c.args.args.now c.loop-arg.arg-index _ c.loop-arg-test.true)
     c.loop-arg.invariant.given _ c.refused-then-len-ge-MAX_ARGS.ensures
-    (both_false _ _ (sym c.has_name.ensures ∙ c.if-has_name.false)
+    (or_from _ _ (sym c.has_name.ensures ∙ c.if-has_name.false)
     (sym (c.has_name-else-has_name.ensures ∙ ap (is_among _) c.as_slice.ensures) ∙ c.if-has_name-2.false))
     _ c.len.ensures c.if-len-ge-MAX_ARGS.true
 
@@ -27,7 +27,7 @@ pub loop-arg-preserved : goal.loop-arg-preserved
 loop-arg-preserved c = record {
   given = arg_added c.args.states.now c.loop-arg.found (drop_more c.args.args.now c.loop-arg.arg-index _ c.loop-arg-test.true)
       c.loop-arg.invariant.given _ c.in_ok-push.ensures.ok
-      (both_false _ _ (sym c.has_name.ensures ∙ c.if-has_name.false)
+      (or_from _ _ (sym c.has_name.ensures ∙ c.if-has_name.false)
       (sym (c.has_name-else-has_name.ensures ∙ ap (is_among _) c.as_slice.ensures) ∙ c.if-has_name-2.false))
       _ c.len.ensures c.if-len-ge-MAX_ARGS.false;
   most = within_most c.loop-arg.found _ _ _ _ c.in_ok-push.ensures.ok c.len.ensures c.if-len-ge-MAX_ARGS.false;
