@@ -5,12 +5,12 @@ use Rattle.query_lang.specs.declared.fold.TypedExpr.TheVariants as typed
 use Rattle.query_lang.specs.declared.query.Expr.TheOpen as expr
 use Rattle.query_lang.specs.declared.query.Expr.TheVariants as whole
 use Rattle.query_lang.specs.declared.typing.Sort.TheVariants as sort
-use Rattle.query_laws.proofs.Terms.{Span, Op, Div, Rem, Shl, Shr, Decay, Eq, Ne, Lt, Le, Gt, Ge, Both, Either, TypedExpr, Name, Expr}
+use Rattle.query_laws.proofs.Terms.{Span, Op, Div, Rem, Shl, Shr, Decay, Both, Either, TypedExpr, Name, Expr}
 use Rattle.query_laws.proofs.Terms.{fold-roll-Expr, ind-Expr, roll-Expr, map-Expr, rolls-Number, rolls-Named, rolls-Not, rolls-Binary}
 use Rattle.query_laws.proofs.Terms.{rolls-Call, Found, Sort, Checked, collected, is_among, place_of, slot_at, slot_of, is_condition_sort}
 use Rattle.query_laws.proofs.Terms.{is_operand, is_number_with, is_right_constant, sort_of, of_two, call_of, expr_step, expr_checked}
 use Rattle.query_laws.proofs.Terms.{condition_of, word_of, Kind, Word, Condition, StandsAt, operand_kind, result_kind, IsNumberWith}
-use Rattle.query_laws.proofs.Terms.{IsRightOperand, HasKind, of_number, of_name, of_not, of_binary, of_call}
+use Rattle.query_laws.proofs.Terms.{gives_condition, IsRightOperand, HasKind, of_number, of_name, of_not, of_binary, of_call}
 use Rattle.query_laws.proofs.Steps.{must_ok, same_ok, found_first, place_stands}
 
 abbrev pub kind_of : Sort → Kind
@@ -54,15 +54,11 @@ operand Either s e = condition_kind s e
 operand _ s e = word_kind s e
 
 pub kind_made : (op : Op) → kind_of (sort_of op) ≡ result_kind op
-kind_made Eq = refl
-kind_made Ne = refl
-kind_made Lt = refl
-kind_made Le = refl
-kind_made Gt = refl
-kind_made Ge = refl
-kind_made Both = refl
-kind_made Either = refl
-kind_made _ = refl
+kind_made op = go (gives_condition op)
+  where
+    go : (b : Bool) → kind_of (cond b sort.Condition sort.Word) ≡ cond b Condition Word
+    go true = refl
+    go false = refl
 
 no_number : (b : Bool) (e : Expr) → IsNumberOf (cond b sort.Condition sort.Word) e
 no_number true e = tt

@@ -1,7 +1,8 @@
 -- The names of a fold, and which expressions read a state variable.
 use Rattle.std.proofs.Common.{◌≡◌, ℕ, zero, suc, ◌+◌, ◌<◌, ◌≤◌, Bool, true, false, ◌||◌, cond, List, [], ◌∷◌, ◌++◌, length, map, Option}
 use Rattle.std.proofs.Common.{Some, None, Ok, nat_eq, nat_lt, refl, sym, ap, subst, ◌∙◌, append_assoc, append-nil, arith}
-use Rattle.std.proofs.lemmas.{Bool.ltb-true, List.length-append}
+use Rattle.std.proofs.lemmas.{Bool.{ltb-true, or_parts}, List.length-append}
+use Rattle.query_lang.specs.declared.fold.TypedExpr.TheVariants as typed
 use Rattle.query_lang.specs.declared.query.Expr.TheOpen as expr
 use Rattle.query_lang.specs.declared.query.Expr.TheVariants as whole
 use Rattle.query_lang.proofs.TreeLemmas.{term_number, term_slot, term_not, term_binary}
@@ -19,12 +20,7 @@ new_among id (_ ∷ rest) h = ap (λ b. b || is_among id rest) (nat_is_not h.0) 
 
 pub among_new : (id : ℕ) (names : List ℕ) → is_among id names ≡ false → IsNew id names
 among_new _ [] e = tt
-among_new id (name ∷ rest) e = go (nat_eq name id) refl (λ k. among_new id rest k) e
-  where
-    go : (b : Bool) → nat_eq name id ≡ b → (is_among id rest ≡ false → IsNew id rest) → (b || is_among id rest) ≡ false
-        → IsNew id (name ∷ rest)
-    go true _ _ e = cc e
-    go false is more e = (nat_other is, more e)
+among_new id (name ∷ rest) e = let parts = or_parts (nat_eq name id) _ e in (nat_other parts.0, among_new id rest parts.1)
 
 pub among_append : (id : ℕ) (xs ys : List ℕ) → is_among id (xs ++ ys) ≡ (is_among id xs || is_among id ys)
 among_append _ [] _ = refl
@@ -125,10 +121,14 @@ pub in_binary : (states : List ℕ) (op : Op) (span : Span) (a b : Expr)
 in_binary states op span a b = ap (state_in states) (sym (rolls-Binary op span a b))
     ∙ fold-roll-Expr (Option Span) (state_step states) (expr.Binary op span a b)
 
-in_call : (states : List ℕ) (op : Op) (span : Span) (a b : Expr) → state_in states (whole.Call op span (a ∷ b ∷ [])) ≡ or_else
-    (state_in states a) (or_else (state_in states b) None)
+in_call : (states : List ℕ) (op : Op) (span : Span) (a b : Expr)
+    → state_in states (whole.Call op span (a ∷ b ∷ [])) ≡ or_else (state_in states a) (state_in states b)
 in_call states op span a b = ap (state_in states) (sym (rolls-Call op span (a ∷ b ∷ [])))
-    ∙ fold-roll-Expr (Option Span) (state_step states) (expr.Call op span (a ∷ b ∷ []))
+    ∙ fold-roll-Expr (Option Span) (state_step states) (expr.Call op span (a ∷ b ∷ [])) ∙ ap (or_else (state_in states a)) (last _)
+  where
+    last : (o : Option Span) → or_else o None ≡ o
+    last None = refl
+    last (Some span) = refl
 
 -- no state variable is in the expression exactly where its typed form reads none
 pub record Reads (states : List ℕ) (e : Expr) (t : TypedExpr) : Type 0 where
@@ -141,6 +141,13 @@ turned n e h = subst (λ z. ReadsArguments n z) e h
 pub no_span : (b : Bool) (span : Span) → cond b (Some span) None ≡ None → b ≡ false
 no_span true _ e = cc e
 no_span false _ e = refl
+
+reads_both : {states : List ℕ} {op : Op} {e a b : Expr} {s t : TypedExpr} → state_in states e ≡ or_else (state_in states a)
+    (state_in states b) → Reads states a s → Reads states b t → Reads states e (typed.Binary op s t)
+reads_both {op = op} {s = s} {t} is m n = record {
+  past = λ k. let p = neither _ (sym is ∙ k) in turned _ (sym (term_binary op s t)) (m.past p.0, n.past p.1);
+  none = λ k. let p = turned _ (term_binary op s t) k in is ∙ both_none (m.none p.0) (n.none p.1);
+}
 
 pub reads : {states : List ℕ} (args : List ℕ) {k : Kind} {e : Expr} {t : TypedExpr} → HasKind (states ++ args) k e t → Reads states e t
 reads {states} _ (of_number {n} _) = record { past = λ h. turned _ (sym (term_number n)) tt; none = λ h. in_number _ n _ }
@@ -156,25 +163,5 @@ reads {states} _ (of_not _ {e} {t} h) =
       past = λ k. turned _ (sym (term_not t)) (m.past (sym (in_not _ _ e) ∙ k));
       none = λ k. in_not _ _ e ∙ m.none (turned _ (term_not t) k);
     }
-reads {states} _ (of_binary {op} _ {a} {b} {s} {t} h i c) =
-    let m = reads _ h in
-    let n = reads _ i in
-    record {
-      past = λ k.
-          let p = neither _ (sym (in_binary _ _ _ a b) ∙ k) in
-          turned _ (sym (term_binary op s t)) (m.past p.0, n.past p.1);
-      none = λ k.
-          let p = turned _ (term_binary op s t) k in
-          in_binary _ _ _ a b ∙ both_none (m.none p.0) (n.none p.1);
-    }
-reads {states} _ (of_call {op} _ {a} {b} {s} {t} h i c) =
-    let m = reads _ h in
-    let n = reads _ i in
-    record {
-      past = λ k.
-          let p = neither _ (sym (in_call _ _ _ a b) ∙ k) in
-          turned _ (sym (term_binary op s t)) (m.past p.0, n.past (neither _ p.1).0);
-      none = λ k.
-          let p = turned _ (term_binary op s t) k in
-          in_call _ _ _ a b ∙ both_none (m.none p.0) (both_none (n.none p.1) refl);
-    }
+reads _ (of_binary _ {a} {b} h i c) = reads_both (in_binary _ _ _ a b) (reads _ h) (reads _ i)
+reads _ (of_call _ {a} {b} h i c) = reads_both (in_call _ _ _ a b) (reads _ h) (reads _ i)

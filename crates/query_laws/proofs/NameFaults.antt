@@ -5,7 +5,7 @@ use Rattle.query_lang.specs.declared.typing.Meaning.TheVariants as meaning
 use Rattle.query_laws.proofs.Terms.{UnknownName, WrongKind, Keys, QueryFault, Span, Name, Column, FoldView, StreamView, TableView, Known}
 use Rattle.query_laws.proofs.Terms.{Meaning, NewColumns, Picked, Checked, and_then, must_not, collected, is_among, slot_of, word_of}
 use Rattle.query_laws.proofs.Terms.{meaning_of, as_stream, stream_named, as_fold, fold_named, new_columns, keys_from, arguments_of}
-use Rattle.query_laws.proofs.Terms.{table_at, as_table, table_named, quiet_fold, MAX_KEYS, IsFree, IsNew, new_names}
+use Rattle.query_laws.proofs.Terms.{table_at, as_table, table_named, quiet_fold, MAX_KEYS, NameStandsFor, IsFree, IsNew, new_names}
 use Rattle.query_laws.proofs.ExprFaults.{not_new, slot_told, word_told}
 use Rattle.query_laws.proofs.FaultSteps.{at_span, same_fault, no_fault, not_both, by_must, by_must_not, by_next, told, Broken}
 use Rattle.query_laws.proofs.NameLaws.{meaning_complete, free_sound, free_complete, taken_is, slot_for, apart_complete}
@@ -32,13 +32,10 @@ other_told _ _ x _ m is none e = told _ _ e (refl, not_free _ _ is, none)
 pub one_meaning : (known : List Known) (id : ℕ) {m n : Meaning} → meaning_of known id ≡ Some m → meaning_of known id ≡ Some n → m ≡ n
 one_meaning _ _ {m} {n} p q = let both : (let o : Option Meaning = Some m in o) ≡ Some n = sym p ∙ q in cc both
 
-no_stream : (known : List Known) (id : ℕ) {m : Meaning} → meaning_of known id ≡ Some m → ((s : StreamView) → m ≡ meaning.Stream s → ⊥)
-    → IsSought known AStream id → ⊥
-no_stream known id is none h = none h.0 (one_meaning known id is (meaning_complete known id h.1))
-
-no_fold : (known : List Known) (id : ℕ) {m : Meaning} → meaning_of known id ≡ Some m → ((f : FoldView) → m ≡ meaning.Fold f → ⊥)
-    → IsSought known AFold id → ⊥
-no_fold known id is none h = none h.0 (one_meaning known id is (meaning_complete known id h.1))
+-- a name that has another meaning than this form
+no_form : {X : Type 0} (form : X → Meaning) (known : List Known) (id : ℕ) {m : Meaning} → meaning_of known id ≡ Some m
+    → ((x : X) → m ≡ form x → ⊥) → (x : X) × NameStandsFor known id (form x) → ⊥
+no_form _ known id is none h = none h.0 (one_meaning known id is (meaning_complete known id h.1))
 
 pub stream_told : (known : List Known) (x : Name) {fault : QueryFault} → stream_named known x ≡ Err fault → StandsTold known AStream x fault
 stream_told known x {fault} e = go (meaning_of known x.id) refl e
@@ -46,8 +43,8 @@ stream_told known x {fault} e = go (meaning_of known x.id) refl e
     go : (o : Option Meaning) → meaning_of known x.id ≡ o → as_stream o x.span ≡ Err fault → StandsTold known AStream x fault
     go None is e = unknown_told _ _ x _ is (same_fault e)
     go (Some (meaning.Stream s)) _ e = no_fault e
-    go (Some (meaning.Fold f)) is e = other_told _ _ x _ _ is (no_stream _ _ is (λ s k. cc k)) (same_fault e)
-    go (Some (meaning.Final t)) is e = other_told _ _ x _ _ is (no_stream _ _ is (λ s k. cc k)) (same_fault e)
+    go (Some (meaning.Fold f)) is e = other_told _ _ x _ _ is (no_form meaning.Stream _ _ is (λ s k. cc k)) (same_fault e)
+    go (Some (meaning.Final t)) is e = other_told _ _ x _ _ is (no_form meaning.Stream _ _ is (λ s k. cc k)) (same_fault e)
 
 pub fold_told : (known : List Known) (x : Name) {fault : QueryFault} → fold_named known x ≡ Err fault → StandsTold known AFold x fault
 fold_told known x {fault} e = go (meaning_of known x.id) refl e
@@ -55,8 +52,8 @@ fold_told known x {fault} e = go (meaning_of known x.id) refl e
     go : (o : Option Meaning) → meaning_of known x.id ≡ o → as_fold o x.span ≡ Err fault → StandsTold known AFold x fault
     go None is e = unknown_told _ _ x _ is (same_fault e)
     go (Some (meaning.Fold f)) _ e = no_fault e
-    go (Some (meaning.Stream s)) is e = other_told _ _ x _ _ is (no_fold _ _ is (λ f k. cc k)) (same_fault e)
-    go (Some (meaning.Final t)) is e = other_told _ _ x _ _ is (no_fold _ _ is (λ f k. cc k)) (same_fault e)
+    go (Some (meaning.Stream s)) is e = other_told _ _ x _ _ is (no_form meaning.Fold _ _ is (λ f k. cc k)) (same_fault e)
+    go (Some (meaning.Final t)) is e = other_told _ _ x _ _ is (no_form meaning.Fold _ _ is (λ f k. cc k)) (same_fault e)
 
 no_table : (known : List Known) (id : ℕ) (m : Meaning) → meaning_of known id ≡ Some m → ((t : TableView) → m ≡ meaning.Final t → ⊥)
     → ((s : StreamView) (t : TableView) → m ≡ meaning.Stream s → s.table ≡ Some t → ⊥) → IsSought known ATable id → ⊥
@@ -87,7 +84,7 @@ pub quiet_told : (known : List Known) (x : Name) {fault : QueryFault} → quiet_
 quiet_told known x {fault} e = go (meaning_of known x.id) refl e
   where
     none : (m : Meaning) → meaning_of known x.id ≡ Some m → ((f : FoldView) → m ≡ meaning.Fold f → ⊥) → IsSought known AQuietFold x.id → ⊥
-    none m is fold h = no_fold known x.id is fold (h.0, h.1)
+    none m is fold h = no_form meaning.Fold known x.id is fold (h.0, h.1)
 
     loud : (f : FoldView) → meaning_of known x.id ≡ Some (meaning.Fold f) → f.emits ≡ true → IsSought known AQuietFold x.id → ⊥
     loud f is emits h =

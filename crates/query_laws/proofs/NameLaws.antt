@@ -1,6 +1,7 @@
 -- What names stand for, new columns, keys and arguments: the rules and the checks agree.
 use Rattle.std.proofs.Common.{◌≡◌, ℕ, ◌+◌, ◌≤◌, Bool, true, false, ◌||◌, cond, List, [], ◌∷◌, ◌++◌, length, map, Option, Some, None, Ok}
-use Rattle.std.proofs.{Common.{Err, nat_eq, refl, sym, ap, subst, ◌∙◌, append_assoc, append-nil, inl, inr, arith}, lemmas.Bool.ltb-true}
+use Rattle.std.proofs.Common.{Err, nat_eq, refl, sym, ap, subst, ◌∙◌, append_assoc, append-nil, inl, inr, arith}
+use Rattle.std.proofs.lemmas.Bool.{ltb-true, or_parts}
 use Rattle.std.{proofs.lemmas.List.length-append, specs.{Prelude.is_some, List.list_any}}
 use Rattle.query_lang.specs.declared.typing.Meaning.TheVariants as meaning
 use Rattle.query_laws.proofs.Terms.{Span, TypedExpr, Name, Column, FoldView, StreamView, TableView, Known, Meaning, NewColumns, Picked}
@@ -221,12 +222,8 @@ slots_complete columns hidden span (id ∷ ids) (s ∷ slots) before h = ap (λ 
 
 pub apart_sound : (ids others : List ℕ) → list_any (λ id. is_among id others) ids ≡ false → AreApart ids others
 apart_sound [] _ e = tt
-apart_sound (id ∷ ids) others e = go (is_among id others) refl (λ k. apart_sound ids others k) e
-  where
-    go : (b : Bool) → is_among id others ≡ b → (list_any (λ id. is_among id others) ids ≡ false → AreApart ids others)
-        → (b || list_any (λ id. is_among id others) ids) ≡ false → AreApart (id ∷ ids) others
-    go true _ _ e = cc e
-    go false is more e = (among_new id others is, more e)
+apart_sound (id ∷ ids) others e =
+    let parts = or_parts (is_among id others) _ e in (among_new id others parts.0, apart_sound ids others parts.1)
 
 pub apart_complete : (ids others : List ℕ) → AreApart ids others → list_any (λ id. is_among id others) ids ≡ false
 apart_complete [] _ h = refl

@@ -1,7 +1,7 @@
 -- No stream is refused exactly where no operation is deeper than 64.
 use Rattle.std.proofs.Common.{◌≡◌, ℕ, ◌≤◌, Bool, true, false, ◌||◌, cond, List, [], ◌∷◌, ◌++◌, Option, Some, None, refl, sym, ap, subst}
 use Rattle.std.proofs.Common.{◌∙◌, append_assoc, append-nil, arith}
-use Rattle.std.proofs.lemmas.List.Elements.{All-nil, All-cons, All-head, All-tail, All-append}
+use Rattle.std.proofs.lemmas.{Bool.or_parts, List.Elements.{All-nil, All-cons, All-head, All-tail, All-append}}
 use Rattle.std.specs.Prelude.{All, drop, fold, flat_map, nat_lt}
 use Rattle.stage_plan.specs.Depths.{StreamDepths, packet_depths, depths_made, all_depths, is_too_deep, first_too_deep, stage_fault}
 use Rattle.query_laws.proofs.Terms.{OverLimit, Stages, QueryFault, TypedFold, TypedQuery, TypedStream, MAX_STAGES}
@@ -36,12 +36,8 @@ is_fit h = grind arith
 
 shallow_fits : (depths : List ℕ) → is_too_deep depths ≡ false → All Fits depths
 shallow_fits [] e = All-nil Fits
-shallow_fits (depth ∷ depths) e = go (nat_lt MAX_STAGES depth) refl (λ k. shallow_fits depths k) e
-  where
-    go : (b : Bool) → nat_lt MAX_STAGES depth ≡ b → (is_too_deep depths ≡ false → All Fits depths) → (b || is_too_deep depths) ≡ false
-        → All Fits (depth ∷ depths)
-    go true _ _ e = cc e
-    go false is more e = All-cons Fits depth depths (not_deep is) (more e)
+shallow_fits (depth ∷ depths) e =
+    let parts = or_parts (nat_lt MAX_STAGES depth) _ e in All-cons Fits depth depths (not_deep parts.0) (shallow_fits depths parts.1)
 
 fits_shallow : (depths : List ℕ) → All Fits depths → is_too_deep depths ≡ false
 fits_shallow [] h = refl

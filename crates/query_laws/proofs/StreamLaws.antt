@@ -1,6 +1,7 @@
 -- Streams: the rules and the checks agree.
 use Rattle.std.proofs.Common.{◌≡◌, ℕ, Bool, true, false, List, [], ◌∷◌, ◌++◌, length, map, Some, None, Ok, nat_eq, not, ◌&&◌, ◌||◌, refl}
-use Rattle.std.{proofs.{Common.{sym, ap, subst, ◌∙◌, append-nil, arith}, lemmas.{Bool.ltb-true, List.length-map}}, specs.Prelude.flat_map}
+use Rattle.std.proofs.{Common.{sym, ap, subst, ◌∙◌, append-nil, arith}, lemmas.{Bool.{ltb-true, or_parts}, List.length-map}}
+use Rattle.std.specs.Prelude.{flat_map}
 use Rattle.query_lang.specs.declared.query.StreamOp.TheVariants as ops
 use Rattle.query_lang.specs.declared.typed.PrintOf.TheVariants as place
 use Rattle.query_lang.specs.declared.typed.TypedOp.TheVariants as typed
@@ -105,12 +106,8 @@ same_complete (_ ∷ rest) column h = ap (λ b. b || clashes_with rest column) (
 
 all_same_sound : (left right : List StreamColumn) → clash left right ≡ false → AreSame left right
 all_same_sound _ [] e = tt
-all_same_sound left (column ∷ rest) e = go (clashes_with left column) refl (λ k. all_same_sound left rest k) e
-  where
-    go : (b : Bool) → clashes_with left column ≡ b → (clash left rest ≡ false → AreSame left rest) → (b || clash left rest) ≡ false
-        → AreSame left (column ∷ rest)
-    go true _ _ e = cc e
-    go false is more e = (same_sound left column is, more e)
+all_same_sound left (column ∷ rest) e =
+    let parts = or_parts (clashes_with left column) _ e in (same_sound left column parts.0, all_same_sound left rest parts.1)
 
 pub all_same_complete : (left right : List StreamColumn) → AreSame left right → clash left right ≡ false
 all_same_complete _ [] h = refl

@@ -1,6 +1,6 @@
 -- The streams of a typed query and the columns that the checks know of them.
 use Rattle.std.proofs.Common.{◌≡◌, ℕ, zero, suc, ◌+◌, ◌<◌, Bool, true, false, ◌||◌, cond, List, [], ◌∷◌, ◌++◌, length, map, Option, Some}
-use Rattle.std.proofs.{Common.{None, Ok, nat_eq, refl, sym, ap, subst, ◌∙◌, arith}, lemmas.List.{length_push, length-map}}
+use Rattle.std.proofs.{Common.{None, Ok, nat_eq, refl, sym, ap, subst, ◌∙◌, arith}, lemmas.{Bool.or_parts, List.{length_push, length-map}}}
 use Rattle.std.{proofs.lemmas.List.Folds.list_any-append, specs.Prelude.{flat_map, slice_get}}
 use Rattle.query_lang.specs.declared.query.Item.TheVariants as item
 use Rattle.query_lang.specs.declared.query.StreamOp.TheVariants as ops
@@ -83,12 +83,9 @@ not_last id x names h k =
 
 distinct_last : (names : List ℕ) (id : ℕ) → AreDistinct names → is_among id names ≡ false → AreDistinct (names ++ id ∷ [])
 distinct_last [] _ h k = (refl, tt)
-distinct_last (n ∷ names) id h k = go (nat_eq n id) refl (λ e. distinct_last names id h.1 e) k
-  where
-    go : (b : Bool) → nat_eq n id ≡ b → (is_among id names ≡ false → AreDistinct (names ++ id ∷ [])) → (b || is_among id names) ≡ false
-        → AreDistinct ((n ∷ names) ++ id ∷ [])
-    go true _ _ e = cc e
-    go false is more e = (not_last n id names h.0 (nat_is_not (λ same. nat_other is (sym same))), more e)
+distinct_last (n ∷ names) id h k =
+    let parts = or_parts (nat_eq n id) _ k in
+    (not_last n id names h.0 (nat_is_not (λ same. nat_other parts.0 (sym same))), distinct_last names id h.1 parts.1)
 
 -- the names of new columns are distinct, and there is a name for each value
 new_distinct : (columns hidden : List ℕ) (new : List Column) (made : NewColumns) {all : NewColumns} → AreDistinct made.names

@@ -8,18 +8,19 @@ use Rattle.query_lang.specs.declared.typing.Origin.TheVariants as origin
 use Rattle.query_lang.specs.declared.typing.Sort.TheVariants as sort
 use Rattle.query_laws.proofs.Terms.{QueryFault, Op, Div, Rem, Add, Shl, Shr, Lt, Both, Either, Max, Decay, TypedExpr, Expr, StreamOp, Found}
 use Rattle.query_laws.proofs.Terms.{Sort, and_then, collected, is_among, place_of, of_two, call_of, negation_checked, expr_checked}
-use Rattle.query_laws.proofs.Terms.{IsStream, IsFold, Kind, Word, Condition, StandsAt, HasKind, of_number, of_name, of_not, of_binary}
+use Rattle.query_laws.proofs.Terms.{StreamView, FoldView, stream_named, fold_named, IsStream, IsFold, Kind, Word, Condition, StandsAt}
+use Rattle.query_laws.proofs.Terms.{HasKind, of_number, of_name, of_not, of_binary}
 use Rattle.query_laws.proofs.{Terms.{of_call, IsNew, HasStream}, FaultSteps.no_fault, FoldNames.among_new, ItemsMeet.stream_meets}
 use Rattle.query_laws.specs.Asked.{StreamAsks}
 use Rattle.query_laws.specs.Asked as asks
-use Rattle.query_laws.specs.Demands.{HasPart, AStream, Demand, Stands, AColumn, New, Typed, Same, Apart, Holds}
+use Rattle.query_laws.specs.Demands.{HasPart, Demand, Holds}
 use Rattle.query_laws.specs.Demands as parts
 use Rattle.query_laws.specs.StreamRules as rules
 use Rattle.query_laws.proofs.ExprComplete.{complete, word_complete, number_is, named_is, not_is, binary_is, call_is}
 use Rattle.query_laws.proofs.NameLaws.{stream_sound, stream_complete, fold_name_sound, apart_sound}
 use Rattle.query_laws.{proofs.Steps.{then_next, place_stands, stands_place}, specs.TypingExamples.{here, called, two_columns, first}}
 use Rattle.query_laws.specs.TypingExamples.{second, is_less, typed_is_less, with_first, RefusesNumber, RefusesColumn, ExpressionExamples}
-use Rattle.query_laws.specs.TypingExamples.{fields, zipped, a_field, by_key, mapped, unmapped, of_one_argument, of_no_argument}
+use Rattle.query_laws.specs.TypingExamples.{fields, zipped, a_field, by_key, mapped, unmapped, of_one_argument}
 use Rattle.query_laws.specs.TypingExamples.{items_before, Makes, MakesNothing, is_above_0, new_column, keys_named, eight_keys, five_names}
 use Rattle.query_laws.specs.TypingExamples.{by_fields, FilterExamples, MapExamples, ZipExamples, GroupExamples, StreamExamples}
 
@@ -127,26 +128,11 @@ no_place _ _ none h = let same : (let o : Option ℕ = None in o) ≡ Some h.0 =
 pub right_of_0 : {id : ℕ} → HasPart Condition (is_above_0 id) Word (Named (called id))
 right_of_0 = parts.of_right _ _ _ parts.whole
 
-ten : IsStream items_before 10 by_key
-ten = stream_sound items_before (called 10) refl
+stream_is : (id : ℕ) {stream : StreamView} → stream_named items_before (called id) ≡ Ok stream → IsStream items_before id stream
+stream_is id is = stream_sound items_before (called id) is
 
-eleven : IsStream items_before 11 mapped
-eleven = stream_sound items_before (called 11) refl
-
-twelve : IsStream items_before 12 unmapped
-twelve = stream_sound items_before (called 12) refl
-
-thirteen : IsFold items_before 13 of_one_argument
-thirteen = fold_name_sound items_before (called 13) refl
-
-fourteen : IsFold items_before 14 of_no_argument
-fourteen = fold_name_sound items_before (called 14) refl
-
-fifteen : IsStream items_before 15 fields
-fifteen = stream_sound items_before (called 15) refl
-
-sixteen : IsStream items_before 16 zipped
-sixteen = stream_sound items_before (called 16) refl
+fold_is : (id : ℕ) {f : FoldView} → fold_named items_before (called id) ≡ Ok f → IsFold items_before id f
+fold_is id is = fold_name_sound items_before (called id) is
 
 abbrev field_names : List ℕ
 field_names = 2 ∷ 21 ∷ 22 ∷ 23 ∷ 24 ∷ 25 ∷ 26 ∷ 27 ∷ 28 ∷ 29 ∷ []
@@ -166,16 +152,16 @@ filter_examples = record {
   filter_on_the_key = record {
     source = by_key;
     condition = typed.Binary Lt (typed.Number 0) (typed.Slot 0);
-    stream = ten;
+    stream = stream_is 10 refl;
     typed = of_binary here (of_number here) (of_name (called 1) refl) tt;
     is = refl;
   };
-  filter_on_a_state = unmet (asks.of_condition by_key ten (asks.of_name (called 3) right_of_0)) (no_place (1 ∷ []) 3 refl);
+  filter_on_a_state = unmet (asks.of_condition by_key (stream_is 10 refl) (asks.of_name (called 3) right_of_0)) (no_place (1 ∷ []) 3 refl);
   filter_of_a_fold = unmet asks.of_filtered (λ h. no_fault (sym (stream_complete items_before (called 13) h.1)));
   filter_on_a_column_with_a_states_name = record {
     source = zipped;
     condition = typed.Binary Lt (typed.Number 0) (typed.Slot 1);
-    stream = sixteen;
+    stream = stream_is 16 refl;
     typed = of_binary here (of_number here) (of_name (called 3) (place_stands (1 ∷ 3 ∷ []) 3 1 refl)) tt;
     is = refl;
   };
@@ -186,17 +172,20 @@ map_examples = record {
   map_of_a_sum = record {
     source = unmapped;
     values = typed.Binary Add (typed.Slot 0) (typed.Slot 1) ∷ [];
-    stream = twelve;
+    stream = stream_is 12 refl;
     typed = (among_new 5 two_columns refl, of_binary here first_word second_word tt, tt);
     is = refl;
   };
-  map_to_a_column = unmet (asks.of_columns unmapped twelve (asks.of_name [] (new_column 2 first) [] refl)) (λ new. new.1.0 refl);
-  map_to_a_state = unmet (asks.of_columns by_key ten (asks.of_name [] (new_column 3 first) [] refl)) (λ new. new.1.0 refl);
-  map_to_one_name = unmet (asks.of_columns unmapped twelve (asks.of_name (new_column 5 first ∷ []) (new_column 5 second) [] refl))
+  map_to_a_column = unmet (asks.of_columns unmapped (stream_is 12 refl) (asks.of_name [] (new_column 2 first) [] refl))
+      (λ new. new.1.0 refl);
+  map_to_a_state = unmet (asks.of_columns by_key (stream_is 10 refl) (asks.of_name [] (new_column 3 first) [] refl))
+      (λ new. new.1.0 refl);
+  map_to_one_name = unmet (asks.of_columns unmapped (stream_is 12 refl)
+      (asks.of_name (new_column 5 first ∷ []) (new_column 5 second) [] refl))
       (λ new. new.1.1.0 refl);
-  map_of_a_condition = unmet (asks.of_columns unmapped twelve (asks.of_value [] (new_column 5 is_less) [] refl (asks.of_part parts.whole)))
-      no_word;
-  map_of_a_new_column = unmet (asks.of_columns unmapped twelve
+  map_of_a_condition = unmet (asks.of_columns unmapped (stream_is 12 refl)
+      (asks.of_value [] (new_column 5 is_less) [] refl (asks.of_part parts.whole))) no_word;
+  map_of_a_new_column = unmet (asks.of_columns unmapped (stream_is 12 refl)
       (asks.of_value (new_column 5 first ∷ []) (new_column 6 (Named (called 5))) [] refl (asks.of_name (called 5) parts.whole)))
       (no_place two_columns 5 refl);
 }
@@ -208,14 +197,14 @@ zip_examples = record {
     right = mapped;
     slots = 1 ∷ [];
     others = record { name = 2; origin = origin.Map 2 } ∷ [];
-    one = ten;
-    other = eleven;
+    one = stream_is 10 refl;
+    other = stream_is 11 refl;
     same = ((λ e. refl, tt), ((λ e. absurd (omega (arith, e)), tt), tt));
     new = rules.of_named (λ new. new.0 refl) (rules.of_other ((λ e. absurd (omega (arith, e))), tt) (rules.of_none 2));
     taken = (refl, tt);
     is = refl;
   };
-  zip_of_a_mapped_column = unmet (asks.of_both (called 11) (called 12) mapped unmapped eleven twelve)
+  zip_of_a_mapped_column = unmet (asks.of_both (called 11) (called 12) mapped unmapped (stream_is 11 refl) (stream_is 12 refl))
       (λ same. let e = same.1.0.1.0 refl in cc e);
 }
 
@@ -227,7 +216,7 @@ eight_fields = record {
   columns = a_field 21 ∷ a_field 22 ∷ a_field 23 ∷ a_field 24 ∷ a_field 25 ∷ a_field 26 ∷ a_field 27 ∷ a_field 28 ∷ [];
   f = of_one_argument;
   arguments = 0 ∷ [];
-  stream = fifteen;
+  stream = stream_is 15 refl;
   picked = record {
     places = (
       field 21 refl,
@@ -255,7 +244,7 @@ eight_fields = record {
     few = omega arith;
   };
   there = (refl, (refl, (refl, (refl, (refl, (refl, (refl, (refl, tt))))))));
-  fold = thirteen;
+  fold = fold_is 13 refl;
   taken = record { places = (field 2 refl, tt); apart = apart_sound (3 ∷ []) (21 ∷ 22 ∷ 23 ∷ 24 ∷ 25 ∷ 26 ∷ 27 ∷ 28 ∷ []) refl };
   is = refl;
 }
@@ -269,7 +258,7 @@ five_tuple = record {
   columns = a_field 21 ∷ a_field 22 ∷ a_field 23 ∷ a_field 24 ∷ a_field 25 ∷ [];
   f = of_one_argument;
   arguments = 0 ∷ [];
-  stream = fifteen;
+  stream = stream_is 15 refl;
   picked = record {
     places = (field 21 refl, (field 22 refl, (field 23 refl, (field 24 refl, (field 25 refl, tt)))));
     distinct = (
@@ -279,7 +268,7 @@ five_tuple = record {
     few = omega arith;
   };
   there = (refl, (refl, (refl, (refl, (refl, tt)))));
-  fold = thirteen;
+  fold = fold_is 13 refl;
   taken = record { places = (field 2 refl, tt); apart = apart_sound (3 ∷ []) (21 ∷ 22 ∷ 23 ∷ 24 ∷ 25 ∷ []) refl };
   is = refl;
 }
@@ -293,18 +282,21 @@ group_examples = record {
     columns = a_field 1 ∷ [];
     f = of_one_argument;
     arguments = 1 ∷ [];
-    stream = twelve;
+    stream = stream_is 12 refl;
     picked = record { places = (refl, tt); distinct = (tt, tt); few = omega arith };
     there = (refl, tt);
-    fold = thirteen;
+    fold = fold_is 13 refl;
     taken = record { places = (place_stands two_columns 2 1 refl, tt); apart = apart_sound (3 ∷ []) (1 ∷ []) refl };
     is = refl;
   };
   key_twice = λ made h. h.picked.distinct.1.0.0 refl;
-  key_without_a_column = unmet (asks.of_keys unmapped twelve (asks.of_key [] (called 5) [] refl)) (no_place two_columns 5 refl);
-  key_is_a_state = unmet (asks.of_keys by_key ten (asks.of_key [] (called 3) [] refl)) (no_place (1 ∷ []) 3 refl);
-  argument_without_a_column = unmet (asks.of_arguments by_key ten thirteen (asks.of_argument [] 2 [] refl)) (no_place (1 ∷ []) 2 refl);
-  variable_with_a_keys_name = unmet (asks.of_arguments unmapped twelve fourteen asks.of_states) (λ apart. apart.0.0 refl);
+  key_without_a_column = unmet (asks.of_keys unmapped (stream_is 12 refl) (asks.of_key [] (called 5) [] refl))
+      (no_place two_columns 5 refl);
+  key_is_a_state = unmet (asks.of_keys by_key (stream_is 10 refl) (asks.of_key [] (called 3) [] refl)) (no_place (1 ∷ []) 3 refl);
+  argument_without_a_column = unmet (asks.of_arguments by_key (stream_is 10 refl) (fold_is 13 refl) (asks.of_argument [] 2 [] refl))
+      (no_place (1 ∷ []) 2 refl);
+  variable_with_a_keys_name = unmet (asks.of_arguments unmapped (stream_is 12 refl) (fold_is 14 refl) asks.of_states)
+      (λ apart. apart.0.0 refl);
   eight_fields = eight_fields;
   nine_fields = λ made h. absurd (omega (arith, h.picked.few));
   five_tuple = five_tuple;

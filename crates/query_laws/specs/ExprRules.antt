@@ -1,7 +1,7 @@
 -- The rules of expressions.
-use Rattle.std.specs.Prelude.{◌≡◌, ℕ, zero, suc, ◌<◌, List, [], ◌∷◌}
-use Rattle.query_lang.specs.declared.{fault.Span.Span, fold.Op.Op}
-use Rattle.query_lang.specs.declared.fold.Op.TheVariants.{Div, Rem, Shl, Shr, Decay, Eq, Ne, Lt, Le, Gt, Ge, Both, Either}
+use Rattle.std.specs.Prelude.{◌≡◌, ℕ, zero, suc, ◌<◌, List, [], ◌∷◌, if◌then◌else◌}
+use Rattle.query_lang.specs.{declared.{fault.Span.Span, fold.Op.Op}, Folds.gives_condition}
+use Rattle.query_lang.specs.declared.fold.Op.TheVariants.{Div, Rem, Shl, Shr, Decay, Both, Either}
 use Rattle.query_lang.specs.declared.fold.TypedExpr.{TypedExpr}
 use Rattle.query_lang.specs.declared.fold.TypedExpr.TheVariants as typed
 use Rattle.query_lang.specs.declared.query.{Name.Name, Expr.Expr}
@@ -31,15 +31,7 @@ operand_kind _ = Word
 
 -- what an operator gives
 abbrev pub result_kind : Op → Kind
-result_kind Eq = Condition
-result_kind Ne = Condition
-result_kind Lt = Condition
-result_kind Le = Condition
-result_kind Gt = Condition
-result_kind Ge = Condition
-result_kind Both = Condition
-result_kind Either = Condition
-result_kind _ = Word
+result_kind op = if gives_condition op then Condition else Word
 
 -- a number in the text, and of which this holds
 abbrev pub IsNumberWith : (ℕ → Type 0) → Expr → Type 0
