@@ -32,6 +32,16 @@ items =
     ∙ fold_next given (with_fold (with_fold (with_fold start count_typed) lost_typed) oos_typed) deepest_fold deepest_typed trial_rest refl
     deepest_is
 
+-- what is left of its acceptance, after the folds
+abbrev pub after_folds : Checked TypedQuery
+after_folds = and_then (and_then (items_checked given folds trial_rest) (ended (typed_names trial_names) (at 540 540))) staged
+
+pub trial_is : accepted trial_query ≡ after_folds
+unfolding accepted
+trial_is =
+    ap (λ r. and_then r (λ q. and_then (checked q) staged)) read
+    ∙ ap (λ r. and_then (and_then r (ended (typed_names trial_names) (at 540 540))) staged) items
+
 -- whether no fault is found
 abbrev is_fine : Checked TypedQuery → Bool
 is_fine (Ok q) = true
@@ -41,15 +51,8 @@ found : (r : Checked TypedQuery) → is_fine r ≡ true → (q : TypedQuery) × 
 found (Ok q) fine = (q, refl)
 found (Err fault) fine = cc
 
-rest : is_fine (and_then (and_then (items_checked given folds trial_rest) (ended (typed_names trial_names) (at 540 540))) staged) ≡ true
-rest = refl
-
-fine : is_fine (accepted trial_query) ≡ true
-unfolding accepted
-fine =
-    ap (λ r. is_fine (and_then r (λ q. and_then (checked q) staged))) read
-    ∙ ap (λ r. is_fine (and_then (and_then r (ended (typed_names trial_names) (at 540 540))) staged)) items
-    ∙ rest
+fine : is_fine after_folds ≡ true
+fine = refl
 
 pub trial_accepted : (q : TypedQuery) × (accepted trial_query ≡ Ok q)
-trial_accepted = found (accepted trial_query) fine
+trial_accepted = found (accepted trial_query) (ap is_fine trial_is ∙ fine)
