@@ -61,15 +61,15 @@ count_one p x xs = sum_by-cons _ x xs
 -- u is t, but for more at one key
 module _ (k : Key) (more : ℕ) (t u : Key → ℕ) (here : (key : Key) → key_eq k key ≡ true → u key ≡ more + t key)
     (elsewhere : (key : Key) → key_eq k key ≡ false → u key ≡ t key) where
+  turned : (key : Key) → key_eq key k ≡ false → key_eq k key ≡ false
+  turned key e = by_test _ (λ s. absurd (true≢false (sym (key_eq-refl _) ∙ (ap (λ x. key_eq key x) (sym (key_eq-true k _ s)) ∙ e))))
+      (λ s. s)
+
   untouched : (keys : List Key) → has k keys ≡ false → sum_by u keys ≡ sum_by t keys
   untouched [] none = refl
   untouched (key ∷ keys) none = by_test _ (λ e. absurd (true≢false (rw e at none))) (λ e. let rest = untouched keys (rw e at none) in
-      let same = elsewhere key (turned e) in
+      let same = elsewhere key (turned key e) in
       omega (arith, sum_by-cons u key keys, sum_by-cons t key keys))
-    where
-      turned : key_eq key k ≡ false → key_eq k key ≡ false
-      turned e = by_test _ (λ s. absurd (true≢false (sym (key_eq-refl _) ∙ (ap (λ x. key_eq key x) (sym (key_eq-true k _ s)) ∙ e))))
-          (λ s. s)
 
   touched : (keys : List Key) → IsAscending keys → has k keys ≡ true → sum_by u keys ≡ more + sum_by t keys
   touched [] s some = absurd (false≢true some)
@@ -79,12 +79,8 @@ module _ (k : Key) (more : ℕ) (t u : Key → ℕ) (here : (key : Key) → key_
       let one = here key (ap (λ x. key_eq x key) (sym same) ∙ key_eq-refl key) in
       omega (arith, rest, one, sum_by-cons u key keys, sum_by-cons t key keys))
       (λ e. let rest = touched keys s.1 (rw e at some) in
-      let one = elsewhere key (turned e) in
+      let one = elsewhere key (turned key e) in
       omega (arith, sum_by-cons u key keys, sum_by-cons t key keys))
-    where
-      turned : key_eq key k ≡ false → key_eq k key ≡ false
-      turned e = by_test _ (λ s. absurd (true≢false (sym (key_eq-refl _) ∙ (ap (λ x. key_eq key x) (sym (key_eq-true k _ s)) ∙ e))))
-          (λ s. s)
 
 or_true : (b : Bool) → (b || true) ≡ true
 or_true true = refl
