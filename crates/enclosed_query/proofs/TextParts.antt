@@ -1,8 +1,9 @@
 -- The texts of tables in two parts are those of what is shown.
 use Rattle.std.proofs.Common.{◌≡◌, ℕ, zero, suc, List, [], ◌∷◌, ◌++◌, Option, None, Some, length, map, drop, refl, sym, ap, ap₂, ◌∙◌}
-use Rattle.std.proofs.{Common.{append-nil, append_assoc}, Math.Seq.drop-append_seam, lemmas.List.length-map}
+use Rattle.std.proofs.{Common.{OnErr, OnOk, Result, subst, append-nil, append_assoc}, Math.Seq.drop-append_seam, lemmas.List.length-map}
 use Rattle.std.proofs.lemmas.{List.Elements.{All-nil, All-cons, All-head, All-tail}, Option.slice_get-map}
 use Rattle.std.specs.{Prelude.{option_map, unwrap_or}, List.{All, flat_map, slice_get}}
+use Rattle.marple_base.specs.{Sink.TakesFront, Pieces.TakesAllBut}
 use Rattle.query_lang.specs.declared.{fold.TypedFold.TypedFold, typed.{TypedFinal.TypedFinal, PrintOf.PrintOf, TypedQuery.TypedQuery}}
 use Rattle.query_lang.specs.{Streams.takings, TypedFinals.table_number, TypedQueries.group_shape}
 use Rattle.final_queries.specs.{declared.table.Table.Table, Finals.{final_table, table_shape, with_finals}}
@@ -15,6 +16,13 @@ use Rattle.enclosed_query.specs.{Parts.{IsWholeIfThere, bounds_at, bounds_shown,
 pub table_text_at : (bounds : List (Option BoundsTable)) (tables : List Table) (n : ℕ) (t : Table) → slice_get tables n ≡ Some t
     → bounds_at bounds n ≡ None → text_at bounds tables n ≡ table_text t
 table_text_at bounds tables n t is none = ap₂ (λ b t. unwrap_or (option_map (text_shown b) t) []) none is
+
+-- what was done with a text was done with one that is the same
+pub of_same : {A E : Type 0} (result : Result A E) (old new : Option (List ℕ)) (waiting before text other : List ℕ) → text ≡ other
+    → OnOk result (TakesAllBut old new waiting (before ++ text)) × OnErr result (TakesFront old new (before ++ text))
+    → OnOk result (TakesAllBut old new waiting (before ++ other)) × OnErr result (TakesFront old new (before ++ other))
+of_same result old new waiting before text other same done =
+    subst (λ t. OnOk result (TakesAllBut old new waiting (before ++ t)) × OnErr result (TakesFront old new (before ++ t))) same done
 
 -- the text of the table with this number, by what is shown of groupbys and other tables after these
 

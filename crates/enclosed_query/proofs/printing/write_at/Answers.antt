@@ -1,8 +1,7 @@
 -- A number that has a table of bounds gives the text of that, and any other that of its own table.
-use Rattle.std.proofs.Common.{◌≡◌, None, Some, ◌++◌, ◌∙◌, OnErr, OnOk, ap, arith, option_and_then, subst, sym}
+use Rattle.std.proofs.Common.{◌≡◌, None, Some, ◌∙◌, ap, arith, option_and_then, sym}
 use Rattle.std.proofs.lemmas.Option.{slice_get_past}
-use Rattle.marple_base.specs.{Sink.TakesFront, Pieces.TakesAllBut}
-use Rattle.enclosed_query.{specs.Parts.bounds_at, proofs.TextParts.table_text_at}
+use Rattle.enclosed_query.{specs.Parts.bounds_at, proofs.TextParts.{of_same, table_text_at}}
 use Rattle.enclosed_query.proofs.printing.write_at.Goals as goal
 use Rattle.enclosed_query.proofs.printing.write_at.Goals.{then-number-len+in_default, else-number-len}
 
@@ -16,13 +15,11 @@ returns g c =
           (omega (arith, w.if-number-len.false, c.len.ensures)))
     ] in
     let same = sym (table_text_at bounds _ _ _ c.get-2.ensures none) in
-    let old = g.O.Sink.taken c.args.out.now in
-    let new = g.O.Sink.taken c.write_table.new.out in
-    let before = c.args.text.now in
+    let done = of_same c.write_table.result (g.O.Sink.taken c.args.out.now) (g.O.Sink.taken c.write_table.new.out)
+    c.write_table.new.text c.args.text.now _ _ same (c.write_table.ensures.ok, c.write_table.ensures.err) in
     record {
-      ok = subst (λ text. OnOk c.write_table.result (TakesAllBut old new c.write_table.new.text (before ++ text))) same
-          c.write_table.ensures.ok;
-      err = subst (λ text. OnErr c.write_table.result (TakesFront old new (before ++ text))) same c.write_table.ensures.err;
+      ok = done.0;
+      err = done.1;
       failed = c.write_table.ensures.failed;
       out_later = c.write_table.ensures.out_later;
     }
