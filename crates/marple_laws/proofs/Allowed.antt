@@ -3,12 +3,12 @@ use Rattle.marple_laws.proofs.Words.{◌≡◌, ℕ, zero, suc, ◌+◌, ◌-◌
 use Rattle.marple_laws.proofs.Words.{None, Option, refl, sym, ap, subst, ◌∙◌, inl, inr, arith, option_map, unwrap_or, if◌then◌else◌}
 use Rattle.marple_laws.proofs.Words.{range_with_len, length-take-le, length-map, slice_get_within, slice_get_cases, slice_get-map}
 use Rattle.marple_laws.proofs.Words.{get_or_from_slice_get, same_Some, FIELDS, TypedFold, TypedOp, TypedQuery, TypedStream, IsValidFold}
-use Rattle.marple_laws.proofs.Words.{fold_states, Taking, takings, IsValidQuery, IsProgramOf, GroupPlan, Operand, Register}
-use Rattle.marple_laws.proofs.Words.{Number, PlanOp, FieldSource, reads_of, all_sources, sources_at, named_input, named_slots, moved}
-use Rattle.marple_laws.proofs.Words.{moved_op, op_numbered, wiring_of, IsPlanOf, fold_at, query_made, operand_stage, stages_of, GroupShape}
-use Rattle.marple_laws.proofs.Words.{group_shape, query_groups, PlanParts, IsWithin, IsSoundOp, AreSoundOps, IsSoundGroup, IsSoundPlan}
-use Rattle.marple_laws.proofs.Words.{ordered, op_at, stage_at, stage_of, last_stage, query_order, register_in, query_registers, query_ops}
-use Rattle.marple_laws.proofs.Words.{query_wiring, fields_of, ops_are, wiring_is, fold_found, IsNamedWell, HasPlanText}
+use Rattle.marple_laws.proofs.Words.{fold_states, Taking, takings, IsValidQuery, IsProgramOf, GroupPlan, Operand, Register, Number, PlanOp}
+use Rattle.marple_laws.proofs.Words.{FieldSource, reads_of, all_sources, sources_at, named_input, named_slots, moved, moved_op, op_numbered}
+use Rattle.marple_laws.proofs.Words.{wiring_of, IsPlanOf, fold_at, query_made, operand_stage, stages_of, GroupShape, group_shape}
+use Rattle.marple_laws.proofs.Words.{query_groups, PlanParts, IsWithin, IsSoundOp, AreSoundOps, IsSoundGroup, IsSoundPlan, ordered, op_at}
+use Rattle.marple_laws.proofs.Words.{stage_at, stage_of, last_stage, query_order, register_in, query_registers, query_ops, query_wiring}
+use Rattle.marple_laws.proofs.Words.{fields_of, ops_are, wiring_is, IsNamedWell, HasPlanText}
 use Rattle.std.specs.Prelude.{map, slice_get, nat_lt}
 use Rattle.query_lang.specs.declared.typed.TypedOp.TheVariants as op
 use Rattle.stage_plan.{specs.Making.{operand_at, wires_at}, proofs.Groupings.depth_is}
@@ -16,6 +16,7 @@ use Rattle.marple_laws.proofs.{Fields.{operand_known, operand_fits, operand_read
 use Rattle.marple_laws.proofs.Known.{AreFrom, AreRead, AllGood, IsWritable, column_good, read_left, read_right, writable_at}
 use Rattle.marple_laws.proofs.KnownStreams.{AreFit, AreNamed, AllAreGood, named_from, query_good}
 use Rattle.marple_laws.proofs.{GroupSizes.depth_below, Moved.{AreAfterFields, moved_good, moved_writable}, OpLines.IsOpOk}
+use Rattle.marple_laws.proofs.TakenFolds.{taken_fold}
 
 -- a prefix of a list
 
@@ -255,18 +256,6 @@ module _ (q : TypedQuery) (p : PlanParts) (valid : IsValidQuery q) (text : HasPl
         go (Some group) h =
             let same : group_shape group ≡ shape = same_Some (group_shape group) shape (sym (at ∙ ap (option_map group_shape) h) ∙ e) in
             let inside : i < length (takings q.streams) = (let l = slice_get_within p.groups i group h in omega (arith, l, plan.groups)) in
-            elim ((slice_get_cases (takings q.streams) i).1) [
-              | inl found ↦
-                  let t : Taking = found.0 in
-                  let number = fold_found q (map (λ t. t.fold_number) (takings q.streams)) i t.fold_number valid refl
-                  (slice_get-map (λ (t : Taking). t.fold_number) (takings q.streams) i
-                  ∙ ap (option_map (λ (t : Taking). t.fold_number)) found.2) in
-                  elim ((slice_get_cases q.folds t.fold_number).1) [
-                    | inl fold ↦
-                        subst (λ s. HasGroup (fields_of (reads_of q)) (query_ops q) s (query_wiring q) (fold_at q) i) same
-                        (has_group i group t fold.0 h found.2 (number.fold fold.0 fold.2) fold.2
-                        (subst IsNamedWell (sym same) (text.groups i shape e)))
-                    | inr past ↦ absurd (omega (arith, past.0, number.within))
-                  ]
-              | inr past ↦ absurd (omega (arith, past.0, inside))
-            ]
+            let one = taken_fold q valid i inside in
+            subst (λ s. HasGroup (fields_of (reads_of q)) (query_ops q) s (query_wiring q) (fold_at q) i) same
+            (has_group i group one.taking one.fold h one.taken one.at one.found (subst IsNamedWell (sym same) (text.groups i shape e)))

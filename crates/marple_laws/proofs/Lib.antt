@@ -32,6 +32,7 @@ pub mod Groups
 pub mod Fields
 pub mod Allowed
 pub mod Says
+pub mod TakenFolds
 pub mod Runs
 pub mod FieldSets
 pub mod Loads

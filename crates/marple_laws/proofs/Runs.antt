@@ -8,13 +8,13 @@ use Rattle.marple_laws.proofs.Words.{heading_of_shape, query_table, table_if, ta
 use Rattle.marple_laws.proofs.Words.{GroupPlan, GroupWiring, Number, wiring_of, IsPlanOf, fold_at, query_made, wiring_at, registers_after}
 use Rattle.marple_laws.proofs.Words.{stages_of, taken_at, GroupShape, query_groups, PlanParts, IsSoundGroup, IsSoundPlan, Folded, IsBody}
 use Rattle.marple_laws.proofs.Words.{written_block, IsFoldOf, class_same, fold_in, table_in, uses_in, plan_tables, plan_output}
-use Rattle.marple_laws.proofs.Words.{query_registers, query_wiring, first_final, final_fault, ops_are, wiring_is, fold_found, folded_with}
-use Rattle.marple_laws.proofs.Words.{folded_of, group_made, printed_group, made_of}
+use Rattle.marple_laws.proofs.Words.{query_registers, query_wiring, first_final, final_fault, ops_are, wiring_is, folded_with, folded_of}
+use Rattle.marple_laws.proofs.Words.{group_made, printed_group, made_of}
 use Rattle.std.specs.Prelude.{map, slice_get}
 use Rattle.query_lang.specs.declared.typed.PrintOf.TheVariants as printed
 use Rattle.query_lang.specs.TypedFinals.{table_number}
 use Rattle.plan_loader.proofs.Folds.{fold_in_is, foldings}
-use Rattle.marple_laws.proofs.Bodies.{few_braces}
+use Rattle.marple_laws.proofs.{Bodies.few_braces, TakenFolds.taken_fold}
 
 no_finals_from : (finals : List TypedFinal) → first_final finals ≡ None → finals ≡ []
 no_finals_from [] e = refl
@@ -91,18 +91,9 @@ module _ (q : TypedQuery) (p : PlanParts) (valid : IsValidQuery q) (plan : IsPla
 
   parts_at : (i : ℕ) (shape : GroupShape) → slice_get (query_groups q) i ≡ Some shape → HasParts q i
   parts_at i shape e = elim ((slice_get_cases p.groups i).1) [
-    | inl group ↦ elim ((slice_get_cases (takings q.streams) i).1) [
-      | inl found ↦
-          let t : Taking = found.0 in
-          let number = fold_found q (map (λ t. t.fold_number) (takings q.streams)) i t.fold_number valid refl
-          (slice_get-map (λ (t : Taking). t.fold_number) (takings q.streams) i
-          ∙ ap (option_map (λ (t : Taking). t.fold_number)) found.2) in
-          elim ((slice_get_cases q.folds t.fold_number).1) [
-            | inl fold ↦ parts_of i group.0 t fold.0 group.2 found.2 (number.fold fold.0 fold.2)
-            | inr past ↦ absurd (omega (arith, past.0, number.within))
-          ]
-      | inr past ↦ absurd (omega (arith, past.0, group.1, plan.groups))
-    ]
+    | inl group ↦
+        let one = taken_fold q valid i (omega (arith, group.1, plan.groups)) in
+        parts_of i group.0 one.taking one.fold group.2 one.taken one.at
     | inr past ↦ absurd (let l = slice_get_within (query_groups q) i shape e in omega (arith, past.0, l, shapes_long))
   ]
 
