@@ -38,10 +38,14 @@ HasFold folds v = (f : TypedFold) × (slice_get folds v.number ≡ Some f) × (v
 abbrev pub stream_ids : List TypedStream → List ℕ
 stream_ids streams = map (λ one. one.name.id) streams
 
+-- no two names are one table's, and what is printed has a name
+pub record HasNames (known : List Known) (groups finals : ℕ) (prints : List PrintOf) (printed : List ℕ) : Type 0 where
+  pub places : (a b : ℕ) (p : PrintOf) → place_at known a ≡ Some p → place_at known b ≡ Some p → a ≡ b
+  pub bounds : (a : ℕ) (p : PrintOf) → place_at known a ≡ Some p → IsBelow groups finals p
+  pub prints_known : (p : PrintOf) → IsIn p prints → (id : ℕ) × IsIn id printed × (place_at known id ≡ Some p)
+
 pub record Good (packets : ℕ) (e : Earlier) : Type 0 where
-  pub places : (a b : ℕ) (p : PrintOf) → place_at e.known a ≡ Some p → place_at e.known b ≡ Some p → a ≡ b
-  pub bounds : (a : ℕ) (p : PrintOf) → place_at e.known a ≡ Some p → IsBelow e.groups (length e.finals) p
-  pub prints_known : (p : PrintOf) → IsIn p e.prints → (id : ℕ) × IsIn id e.printed × (place_at e.known id ≡ Some p)
+  pub names : HasNames e.known e.groups (length e.finals) e.prints e.printed
   pub prints : AreNew [] e.prints
   pub streams_known : (id : ℕ) → IsIn id (packets ∷ stream_ids e.streams) → is_some (meaning_of e.known id) ≡ true
   pub streams : AreNew (packets ∷ []) (stream_ids e.streams)
@@ -78,7 +82,7 @@ meaning_kept (k ∷ known) entry id m e = by _ e (meaning_kept known entry id m)
     by true e rest = e
     by false e rest = rest e
 
-some_kept : (known : List Known) (entry : Known) (id : ℕ) → is_some (meaning_of known id) ≡ true
+pub some_kept : (known : List Known) (entry : Known) (id : ℕ) → is_some (meaning_of known id) ≡ true
     → is_some (meaning_of (known ++ entry ∷ []) id) ≡ true
 some_kept [] entry id e = cc
 some_kept (k ∷ known) entry id e = by _ e (some_kept known entry id)
@@ -124,29 +128,26 @@ below_more g h f k (place.Group n) a b l = omega arith
 below_more g h f k (place.Final n) a b l = omega arith
 
 -- the names and tables with one more name, which has no table or a new one
-pub record Grown (packets : ℕ) (e : Earlier) (entry : Known) (groups finals : ℕ) : Type 0 where
-  pub places : (a b : ℕ) (p : PrintOf) → place_at (e.known ++ entry ∷ []) a ≡ Some p → place_at (e.known ++ entry ∷ []) b ≡ Some p → a ≡ b
-  pub bounds : (a : ℕ) (p : PrintOf) → place_at (e.known ++ entry ∷ []) a ≡ Some p → IsBelow groups finals p
-  pub prints_known : (p : PrintOf) → IsIn p e.prints → (id : ℕ) × IsIn id e.printed × (place_at (e.known ++ entry ∷ []) id ≡ Some p)
-  pub streams_known : (id : ℕ) → IsIn id (packets ∷ stream_ids e.streams) → is_some (meaning_of (e.known ++ entry ∷ []) id) ≡ true
-
 pub grown : (packets : ℕ) (e : Earlier) (entry : Known) (groups finals : ℕ) → Good packets e → e.groups ≤ groups → length e.finals ≤ finals
     → ((p : PrintOf) → place_in (Some entry.meaning) ≡ Some p → IsBelow e.groups (length e.finals) p → ⊥)
-    → ((p : PrintOf) → place_in (Some entry.meaning) ≡ Some p → IsBelow groups finals p) → Grown packets e entry groups finals
+    → ((p : PrintOf) → place_in (Some entry.meaning) ≡ Some p → IsBelow groups finals p)
+    → HasNames (e.known ++ entry ∷ []) groups finals e.prints e.printed
 grown packets e entry groups finals good more_groups more_finals fresh below = record {
   places = λ a b p ea eb. elim (place_cases e.known entry a p ea) [
     | inl oa ↦ elim (place_cases e.known entry b p eb) [
-      | inl ob ↦ good.places a b p oa ob
-      | inr nb ↦ absurd (fresh p nb.1 (good.bounds a p oa))
+      | inl ob ↦ good.names.places a b p oa ob
+      | inr nb ↦ absurd (fresh p nb.1 (good.names.bounds a p oa))
     ]
-    | inr na ↦ elim (place_cases e.known entry b p eb) [ inl ob ↦ absurd (fresh p na.1 (good.bounds b p ob)) | inr nb ↦ na.0 ∙ sym nb.0 ]
+    | inr na ↦ elim (place_cases e.known entry b p eb) [
+      | inl ob ↦ absurd (fresh p na.1 (good.names.bounds b p ob))
+      | inr nb ↦ na.0 ∙ sym nb.0
+    ]
   ];
   bounds = λ a p ea. elim (place_cases e.known entry a p ea) [
-    | inl oa ↦ below_more e.groups groups (length e.finals) finals p more_groups more_finals (good.bounds a p oa)
+    | inl oa ↦ below_more e.groups groups (length e.finals) finals p more_groups more_finals (good.names.bounds a p oa)
     | inr na ↦ below p na.1
   ];
-  prints_known = λ p i. (let k = good.prints_known p i in (k.0, k.1, place_kept e.known entry k.0 p k.2));
-  streams_known = λ id i. some_kept e.known entry id (good.streams_known id i);
+  prints_known = λ p i. (let k = good.names.prints_known p i in (k.0, k.1, place_kept e.known entry k.0 p k.2));
 }
 
 left_at : {A : Type 0} (xs ys : List A) (i : ℕ) (x : A) → slice_get xs i ≡ Some x → slice_get (xs ++ ys) i ≡ Some x
@@ -178,13 +179,10 @@ fold_good packets e after d good ok =
           name = f.name.id;
           meaning = meaning.Fold (record { number = length e.folds; states = f.state_names; args = f.arg_names; emits = is_some f.emit });
         } in
-        let g = grown packets e entry e.groups (length e.finals) good (omega arith) (omega arith) (λ p h. cc) (λ p h. cc) in
         record {
-          places = g.places;
-          bounds = g.bounds;
-          prints_known = g.prints_known;
+          names = grown packets e entry e.groups (length e.finals) good (omega arith) (omega arith) (λ p h. cc) (λ p h. cc);
           prints = good.prints;
-          streams_known = g.streams_known;
+          streams_known = λ id i. some_kept e.known entry id (good.streams_known id i);
           streams = good.streams;
           folds_known = λ id v h. elim (meaning_cases e.known entry id (meaning.Fold v) h) [
             | inl old ↦ (let k = good.folds_known id v old in (k.0, left_at e.folds (f ∷ []) v.number k.0 k.1, k.2))
@@ -294,14 +292,12 @@ with_stream_good : (packets : ℕ) (e : Earlier) (name : Name) (made : MadeStrea
     → is_some (meaning_of e.known name.id) ≡ false → IsMade e made → Good packets (with_stream e name made)
 with_stream_good packets e name made good free is =
     let entry = entry_of e name made in
-    let g = grown packets e entry (groups_with e made) (length e.finals) good (omega arith) (omega arith) (fresh_table e made is)
-    (table_below e made is) in
     record {
-      places = g.places;
-      bounds = g.bounds;
-      prints_known = g.prints_known;
+      names = grown packets e entry (groups_with e made) (length e.finals) good (omega arith) (omega arith) (fresh_table e made is)
+          (table_below e made is);
       prints = good.prints;
-      streams_known = λ id i. known id (subst (λ l. IsIn id (packets ∷ l)) ids i) g.streams_known;
+      streams_known = λ id i. known id (subst (λ l. IsIn id (packets ∷ l)) ids i)
+          (λ old h. some_kept e.known entry old (good.streams_known old h));
       streams = subst (AreNew (packets ∷ [])) (sym ids) (new_push (packets ∷ []) (stream_ids e.streams) name.id good.streams
           (λ i. (let k = good.streams_known name.id i in cc)));
       folds_known = λ id v h. elim (meaning_cases e.known entry id (meaning.Fold v) h) [

@@ -14,7 +14,8 @@ use Rattle.query_lang.specs.declared.typing.Origin.TheVariants as origin
 use Rattle.query_lang.specs.TypedFinals.{as_table, table_at, table_named, five_fields, made_final, with_final, final_checked}
 use Rattle.query_lang.specs.TypedStreams.{meaning_of, begun}
 use Rattle.marple_laws.proofs.Items.{must_ok, must_not_ok, found_first, same_ok, IsIn, in_at, in_push, not_in, new_push}
-use Rattle.marple_laws.proofs.{Places.{place_in, place_at, IsBelow, Good, fold_good, stream_good, grown, meaning_cases}, Differ.NamesDiffer}
+use Rattle.marple_laws.proofs.Places.{place_in, place_at, IsBelow, Good, fold_good, stream_good, grown, meaning_cases, some_kept}
+use Rattle.marple_laws.proofs.Differ.{NamesDiffer}
 
 -- one more final
 with_final_good : (packets : ℕ) (e : Earlier) (name : Name) (made : MadeFinal) → Good packets e → Good packets (with_final e name made)
@@ -23,13 +24,10 @@ with_final_good packets e name made good =
       name = name.id;
       meaning = meaning.Final (record { place = place.Final (length e.finals); columns = made.columns; keys = made.keys });
     } in
-    let g = grown packets e entry e.groups (length (with_final e name made).finals) good (omega arith) (omega (arith, more)) fresh below in
     record {
-      places = g.places;
-      bounds = g.bounds;
-      prints_known = g.prints_known;
+      names = grown packets e entry e.groups (length (with_final e name made).finals) good (omega arith) (omega (arith, more)) fresh below;
       prints = good.prints;
-      streams_known = g.streams_known;
+      streams_known = λ id i. some_kept e.known entry id (good.streams_known id i);
       streams = good.streams;
       folds_known = λ id v h. elim (meaning_cases e.known entry id (meaning.Fold v) h) [
         | inl old ↦ good.folds_known id v old
@@ -95,14 +93,16 @@ print_good packets e after name good ok =
     let at = place_of_table e.known name t.0 t.1 in
     subst (Good packets) (same_ok (record e { prints = e.prints ++ t.0.place ∷ []; printed = e.printed ++ name.id ∷ [] }) after free.1)
     (record {
-      places = good.places;
-      bounds = good.bounds;
-      prints_known = λ p i. elim (in_push e.prints t.0.place p i) [
-        | inl old ↦ (let k = good.prints_known p old in (k.0, in_left k.0 e.printed (name.id ∷ []) k.1, k.2))
-        | inr same ↦ (name.id, in_last e.printed name.id, at ∙ ap Some (sym same))
-      ];
-      prints = new_push [] e.prints t.0.place good.prints (λ i. (let k = good.prints_known t.0.place i in
-          let same : k.0 ≡ name.id = good.places k.0 name.id t.0.place k.2 at in not_in e.printed name.id free.0
+      names = record {
+        places = good.names.places;
+        bounds = good.names.bounds;
+        prints_known = λ p i. elim (in_push e.prints t.0.place p i) [
+          | inl old ↦ (let k = good.names.prints_known p old in (k.0, in_left k.0 e.printed (name.id ∷ []) k.1, k.2))
+          | inr same ↦ (name.id, in_last e.printed name.id, at ∙ ap Some (sym same))
+        ];
+      };
+      prints = new_push [] e.prints t.0.place good.prints (λ i. (let k = good.names.prints_known t.0.place i in
+          let same : k.0 ≡ name.id = good.names.places k.0 name.id t.0.place k.2 at in not_in e.printed name.id free.0
           (subst (λ n. IsIn n e.printed) same k.1)));
       streams_known = good.streams_known;
       streams = good.streams;
@@ -128,9 +128,11 @@ items_good packets given (one ∷ items) e after good ok =
 -- at the start there are only the packets
 start_good : (names : List (List ℕ)) → Good (number_in names (codes "pktstream")) (start_of names)
 start_good names = record {
-  places = λ a b p ea eb. absurd (no a p ea);
-  bounds = λ a p ea. absurd (no a p ea);
-  prints_known = λ p i. absurd i;
+  names = record {
+    places = λ a b p ea eb. absurd (no a p ea);
+    bounds = λ a p ea. absurd (no a p ea);
+    prints_known = λ p i. absurd i;
+  };
   prints = tt;
   streams_known = λ id i. known _ i;
   streams = tt;
