@@ -2,10 +2,13 @@
 use Rattle.marple_laws.proofs.Words.{◌≡◌, ℕ, ◌+◌, ◌<◌, ◌≤◌, true, List, [], ◌∷◌, ◌++◌, length, Some, None, Option, refl, subst, arith}
 use Rattle.marple_laws.proofs.Words.{append_assoc, append-nil, Contains, flat_map, codes, decimal, length_push, Field, MAX_ARGS, MAX_STATES}
 use Rattle.marple_laws.proofs.Words.{Lexeme, Folded, Group, Made, Operand, PlanOp, word_named, IsKnown, named_lines, line, operand_word}
+use Rattle.marple_laws.proofs.Words.{LineWord, IsLineOf, IsPart, spaced, tokens}
 use Rattle.marple_laws.proofs.Words.{AreNames, AreNew, AreNoKeys, AllWords}
 use Rattle.std.specs.Prelude.{map}
 use Rattle.plan_file.specs.declared.line_word.LineWord.TheVariants as lead
 use Rattle.marple_laws.proofs.{Numbers.{number_decimal, token_decimal}, OpLines.{Fits, operand_read, token_operand}, Names.token_name}
+use Rattle.plan_file.specs.Groups.{IsInGroup}
+use Rattle.marple_laws.proofs.Tokens.{is_token, AreTokens}
 use Rattle.marple_laws.proofs.Written.{IsWritten, nothing_written, written_then, line_written}
 
 -- an operand whose register is known, with a number that fits a word
@@ -27,6 +30,23 @@ within fields ops groups g = record { begun = true; reads = Some fields; ops = o
 -- and before or after them
 abbrev pub outside : List Field → List PlanOp → List Folded → Made
 outside fields ops groups = record { begun = true; reads = Some fields; ops = ops; groups = groups; current = None; prints = [] }
+
+-- a line of a group that is valid in it
+pub part_written : (fields : List Field) (ops : List PlanOp) (groups : List Folded) (word : LineWord) (first : List ℕ)
+    (words : List (List ℕ)) (g next : Group) → ((b : Made) (text : List ℕ) (a : Made) → IsPart word b text a → IsLineOf word b text a)
+    → is_token first ≡ true → AreTokens words → word_named first ≡ word
+    → (tokens (first ++ spaced words) ≡ first ∷ words → IsInGroup word fields ops g (first ++ spaced words) next)
+    → IsWritten (line first words) (within fields ops groups g) (within fields ops groups next)
+part_written fields ops groups word first words g next part t are named valid =
+    line_written word first words (within fields ops groups g) (within fields ops groups next) t are named (λ cut. part _ _ _ (record {
+      fields = fields;
+      reads = refl;
+      group = g;
+      current = refl;
+      next = next;
+      valid = valid cut;
+      made = refl;
+    }))
 
 module _ (fields : List Field) (ops : List PlanOp) (groups : List Folded) (name : List ℕ) (present : Operand) where
   -- a group with these keys, arguments and state variables
@@ -59,25 +79,18 @@ module _ (fields : List Field) (ops : List PlanOp) (groups : List Folded) (name 
   keys_written bn b (n ∷ names) (v ∷ values) long few named new ok =
       written_then (line (codes "key") (n ∷ operand_word v ∷ [])) (named_lines (codes "key") names (map operand_word values))
       (with_keys bn b) (with_keys (bn ++ n ∷ []) (b ++ v ∷ [])) (with_keys (bn ++ n ∷ names) (b ++ v ∷ values))
-      (line_written lead.Key (codes "key") (n ∷ operand_word v ∷ []) (with_keys bn b) (with_keys (bn ++ n ∷ []) (b ++ v ∷ [])) refl
+      (part_written fields ops groups lead.Key (codes "key") (n ∷ operand_word v ∷ []) (group_so_far bn b [] [] [] None)
+      (group_so_far (bn ++ n ∷ []) (b ++ v ∷ []) [] [] [] None) (λ before text after p. p) refl
       (token_name n named.0, (token_operand v ok.0.fits, tt)) key_word
       (λ cut. record {
-        fields = fields;
-        reads = refl;
-        group = group_so_far bn b [] [] [] None;
-        current = refl;
-        next = group_so_far (bn ++ n ∷ []) (b ++ v ∷ []) [] [] [] None;
-        valid = record {
-          args = refl;
-          states = refl;
-          body = refl;
-          room = omega (arith, few);
-          name = n;
-          value = v;
-          valid = record { token = operand_word v; words = cut; named = named.0; reads = operand_read v ok.0.fits; known = ok.0.known };
-          new = record { no_key = new.0; no_state = none_in n };
-          made = refl;
-        };
+        args = refl;
+        states = refl;
+        body = refl;
+        room = omega (arith, few);
+        name = n;
+        value = v;
+        valid = record { token = operand_word v; words = cut; named = named.0; reads = operand_read v ok.0.fits; known = ok.0.known };
+        new = record { no_key = new.0; no_state = none_in n };
         made = refl;
       }))
       (subst (λ m. IsWritten (named_lines (codes "key") names (map operand_word values)) (with_keys (bn ++ n ∷ []) (b ++ v ∷ [])) m)
@@ -101,23 +114,15 @@ module _ (fields : List Field) (ops : List PlanOp) (groups : List Folded) (name 
     args_written b (v ∷ values) few ok =
         written_then (line (codes "arg") (operand_word v ∷ [])) (flat_map (λ a. line (codes "arg") (operand_word a ∷ [])) values)
         (with_args b) (with_args (b ++ v ∷ [])) (with_args (b ++ v ∷ values))
-        (line_written lead.Arg (codes "arg") (operand_word v ∷ []) (with_args b) (with_args (b ++ v ∷ [])) refl
-        (token_operand v ok.0.fits, tt) arg_word
+        (part_written fields ops groups lead.Arg (codes "arg") (operand_word v ∷ []) (group_so_far key_names keys b [] [] None)
+        (group_so_far key_names keys (b ++ v ∷ []) [] [] None) (λ before text after p. p) refl (token_operand v ok.0.fits, tt) arg_word
         (λ cut. record {
-          fields = fields;
-          reads = refl;
-          group = group_so_far key_names keys b [] [] None;
-          current = refl;
-          next = group_so_far key_names keys (b ++ v ∷ []) [] [] None;
-          valid = record {
-            keys = some;
-            states = refl;
-            body = refl;
-            room = omega (arith, few);
-            value = v;
-            valid = record { token = operand_word v; words = cut; reads = operand_read v ok.0.fits; known = ok.0.known };
-            made = refl;
-          };
+          keys = some;
+          states = refl;
+          body = refl;
+          room = omega (arith, few);
+          value = v;
+          valid = record { token = operand_word v; words = cut; reads = operand_read v ok.0.fits; known = ok.0.known };
           made = refl;
         }))
         (subst (λ m. IsWritten (flat_map (λ a. line (codes "arg") (operand_word a ∷ [])) values) (with_args (b ++ v ∷ [])) m)
@@ -141,24 +146,17 @@ module _ (fields : List Field) (ops : List PlanOp) (groups : List Folded) (name 
       states_written bn b (n ∷ names) (v ∷ values) long few named new apart ok =
           written_then (line (codes "state") (n ∷ decimal v ∷ [])) (named_lines (codes "state") names (map decimal values))
           (with_states bn b) (with_states (bn ++ n ∷ []) (b ++ v ∷ [])) (with_states (bn ++ n ∷ names) (b ++ v ∷ values))
-          (line_written lead.State (codes "state") (n ∷ decimal v ∷ []) (with_states bn b) (with_states (bn ++ n ∷ []) (b ++ v ∷ [])) refl
+          (part_written fields ops groups lead.State (codes "state") (n ∷ decimal v ∷ []) (group_so_far key_names keys args bn b None)
+          (group_so_far key_names keys args (bn ++ n ∷ []) (b ++ v ∷ []) None) (λ before text after p. p) refl
           (token_name n named.0, (token_decimal v ok.0, tt)) state_lead
           (λ cut. record {
-            fields = fields;
-            reads = refl;
-            group = group_so_far key_names keys args bn b None;
-            current = refl;
-            next = group_so_far key_names keys args (bn ++ n ∷ []) (b ++ v ∷ []) None;
-            valid = record {
-              keys = some;
-              body = refl;
-              room = omega (arith, few);
-              name = n;
-              value = v;
-              valid = record { token = decimal v; words = cut; named = named.0; reads = number_decimal v ok.0 };
-              new = record { no_key = apart.0; no_state = new.0 };
-              made = refl;
-            };
+            keys = some;
+            body = refl;
+            room = omega (arith, few);
+            name = n;
+            value = v;
+            valid = record { token = decimal v; words = cut; named = named.0; reads = number_decimal v ok.0 };
+            new = record { no_key = apart.0; no_state = new.0 };
             made = refl;
           }))
           (subst (λ m. IsWritten (named_lines (codes "state") names (map decimal values)) (with_states (bn ++ n ∷ []) (b ++ v ∷ [])) m)

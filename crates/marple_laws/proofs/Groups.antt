@@ -10,7 +10,7 @@ use Rattle.std.specs.Prelude.{map, slice_get}
 use Rattle.plan_file.specs.declared.line_word.LineWord.TheVariants as lead
 use Rattle.plan_file.specs.Groups.{names_of}
 use Rattle.marple_laws.proofs.{Bodies.{tokens_block, block_read, few_braces}, GroupLines.{IsReadable, AreReadable, within, outside}}
-use Rattle.marple_laws.proofs.{GroupLines.{group_so_far, keys_written, args_written, states_written}, Names.token_name}
+use Rattle.marple_laws.proofs.{GroupLines.{group_so_far, keys_written, args_written, part_written, states_written}, Names.token_name}
 use Rattle.marple_laws.proofs.{Numbers.{number_decimal, token_decimal}, OpLines.{operand_read, token_operand}, Tokens.is_token}
 use Rattle.marple_laws.proofs.Written.{IsWritten, nothing_written, written_then, line_written}
 
@@ -108,31 +108,17 @@ module _ (fields : List Field) (ops : List PlanOp) (groups : List Folded) (shape
       (so_far shape.key_names wiring.keys wiring.args shape.state_names f.initial None)
       (so_far shape.key_names wiring.keys wiring.args shape.state_names f.initial (Some (written_block (fold_states f) (fold_block f))))
   body_written =
-      line_written _ _ _
-      _
-      _
-      refl
-      (tokens_block _ _ _ few ok.valid.statements) leads.body
+      part_written fields ops groups _ _ _ _ _ (λ before text after p. p) refl (tokens_block _ _ _ few ok.valid.statements) leads.body
       (λ cut. record {
-        fields = fields;
-        reads = refl;
-        group = group_so_far fields ops groups shape.name wiring.present shape.key_names wiring.keys wiring.args shape.state_names f.initial
-            None;
-        current = refl;
-        next = group_so_far fields ops groups shape.name wiring.present shape.key_names wiring.keys wiring.args shape.state_names f.initial
-            (Some (written_block (fold_states f) (fold_block f)));
+        keys = ok.some_keys;
+        once = refl;
+        words = written_block (fold_states f) (fold_block f);
         valid = record {
-          keys = ok.some_keys;
-          once = refl;
-          words = written_block (fold_states f) (fold_block f);
-          valid = record {
-            rest = block_words (fold_states f) (fold_block f);
-            begins = cut;
-            are = sym (block_read _ _ _ few ok.valid.statements);
-            body = fold_block f;
-            is_body = is_body;
-          };
-          made = refl;
+          rest = block_words (fold_states f) (fold_block f);
+          begins = cut;
+          are = sym (block_read _ _ _ few ok.valid.statements);
+          body = fold_block f;
+          is_body = is_body;
         };
         made = refl;
       })
