@@ -16,18 +16,16 @@ use Rattle.marple_laws.proofs.PartDecisions.{named_number, named_operand, one_op
 pub group_line : (fs : List Field) (ops : List PlanOp) (groups : List Folded) (line : List ℕ)
     → Decided ((after : Group) × IsGroupLine fs ops groups line after)
 group_line fs ops groups line =
-    from_found (λ p. (p.0.name, p.0.present, p.1.valid)) (λ f. of_name f.0 f.1 f.2) (named_operand _ _ (codes "group") _)
-  where
-    of_name : (n : List ℕ) (v : Operand) → IsNamedOperand fs ops (codes "group") line n v
-        → Decided ((after : Group) × IsGroupLine fs ops groups line after)
-    of_name n v valid =
-        by_both
-        (λ q. (group_with n v, record { room = q.0; valid = valid; no_stream = q.1.0; new = q.1.1; made = refl }))
-        (λ p.
-        let same : p.0.name ≡ n = (three_same p.1.valid.words valid.words).1 in
-        (p.1.room, (λ e. p.1.no_stream (same ∙ e), λ there. p.1.new (subst (Contains (names_of groups)) (sym same) there))))
-        (both (less (length groups) MAX_GROUPBYS) (both (neither (same_text n (codes "pktstream")))
-        (neither (contains same_text (names_of groups) n))))
+    from_found (λ p. (p.0.name, p.0.present, p.1.valid))
+    (λ (n, v, valid).
+    by_both
+    (λ q. (group_with n v, record { room = q.0; valid = valid; no_stream = q.1.0; new = q.1.1; made = refl }))
+    (λ p.
+    let same : p.0.name ≡ n = (three_same p.1.valid.words valid.words).1 in
+    (p.1.room, (λ e. p.1.no_stream (same ∙ e), λ there. p.1.new (subst (Contains (names_of groups)) (sym same) there))))
+    (both (less (length groups) MAX_GROUPBYS) (both (neither (same_text n (codes "pktstream")))
+    (neither (contains same_text (names_of groups) n)))))
+    (named_operand _ _ (codes "group") _)
 
 new_in : (group : Group) (name : List ℕ) → Decided (IsNewIn group name)
 new_in group name =

@@ -131,23 +131,7 @@ others two.Rem a b value t p q = absurd (p t.1)
 others two.Shl a b value t p q = absurd (q t.1)
 others two.Shr a b value t p q = absurd (q t.1)
 others two.Decay a b value t p q = absurd (q t.1)
-others two.Mul a b value t p q = refl
-others two.Add a b value t p q = refl
-others two.Sub a b value t p q = refl
-others two.And a b value t p q = refl
-others two.Xor a b value t p q = refl
-others two.Or a b value t p q = refl
-others two.Eq a b value t p q = refl
-others two.Ne a b value t p q = refl
-others two.Lt a b value t p q = refl
-others two.Le a b value t p q = refl
-others two.Gt a b value t p q = refl
-others two.Ge a b value t p q = refl
-others two.Both a b value t p q = refl
-others two.Either a b value t p q = refl
-others two.Max a b value t p q = refl
-others two.Min a b value t p q = refl
-others two.Sadd a b value t p q = refl
+others _ a b value t p q = refl
 
 -- the right operand of an operator is compiled to a number where it has to be one
 right_is : (op : Op) (columns : List Operand) (a b : Term) (ops : List PlanOp) → TakesOperands op a b
@@ -160,23 +144,7 @@ right_is op columns a (Literal n) ops t = by _ t
     by two.Shl t = let h = t.1 in grind arith
     by two.Shr t = let h = t.1 in grind arith
     by two.Decay t = let h = t.1 in grind arith
-    by two.Mul t = refl
-    by two.Add t = refl
-    by two.Sub t = refl
-    by two.And t = refl
-    by two.Xor t = refl
-    by two.Or t = refl
-    by two.Eq t = refl
-    by two.Ne t = refl
-    by two.Lt t = refl
-    by two.Le t = refl
-    by two.Gt t = refl
-    by two.Ge t = refl
-    by two.Both t = refl
-    by two.Either t = refl
-    by two.Max t = refl
-    by two.Min t = refl
-    by two.Sadd t = refl
+    by _ t = refl
 right_is op columns a (Read s) ops t = others op a (Read s) (operand_at columns s) t (λ h. h) (λ h. h)
 right_is op columns a b ops t = others op a b (compiled columns b ops).value t (λ h. h) (λ h. h)
 

@@ -37,23 +37,7 @@ moved_right registers (Two f) (Register r) e = by f e
     by two.Shl e = cc
     by two.Shr e = cc
     by two.Decay e = cc
-    by two.Mul e = refl
-    by two.Add e = refl
-    by two.Sub e = refl
-    by two.And e = refl
-    by two.Xor e = refl
-    by two.Or e = refl
-    by two.Eq e = refl
-    by two.Ne e = refl
-    by two.Lt e = refl
-    by two.Le e = refl
-    by two.Gt e = refl
-    by two.Ge e = refl
-    by two.Both e = refl
-    by two.Either e = refl
-    by two.Max e = refl
-    by two.Min e = refl
-    by two.Sadd e = refl
+    by _ e = refl
 
 moved_single : (registers : List ℕ) (op : operation.Operation) (right : Operand) → IsSingle op right → IsSingle op (moved registers right)
 moved_single registers Not right e = ap (moved registers) e
