@@ -1,14 +1,14 @@
 -- The stage of an operand is its depth, and each operation reads what is before it.
-use Rattle.std.proofs.Common.{◌≡◌, ℕ, zero, suc, ◌+◌, ◌-◌, ◌<◌, max, min, true, List, [], ◌∷◌, ◌++◌, length, Some, refl, sym, ap, subst}
-use Rattle.std.proofs.{Common.{◌∙◌, inl, inr, arith, append_assoc, append-nil}, lemmas.Bool.{cases_lt, Decides.nat_tests}}
-use Rattle.std.proofs.lemmas.{List.{length_push, map-append}, Option.{slice_get_within, slice_get_cases}}
+use Rattle.std.proofs.Common.{◌≡◌, ℕ, zero, suc, ◌+◌, ◌<◌, max, min, true, List, [], ◌∷◌, ◌++◌, length, Some, refl, sym, ap, subst}
+use Rattle.std.proofs.{Common.{◌∙◌, inl, inr, arith, append_assoc, append-nil}, lemmas.Bool.Decides.nat_tests}
+use Rattle.std.proofs.lemmas.{List.{length_push, map-append}, Option.slice_get_within}
 use Rattle.std.specs.Prelude.{map, replicate, nat_lt, slice_get, slice_index}
 use Rattle.marple_base.specs.declared.field.TheConstants.{FIELDS}
 use Rattle.query_lang.specs.{Streams.values_at, declared.fault.TheConstants.MAX_STAGES}
 use Rattle.stage_plan.specs.declared.op.Operand.{Operand, TheVariants.{Register, Number}}
 use Rattle.stage_plan.specs.declared.op.Operation as operation
 use Rattle.stage_plan.specs.{declared.op.PlanOp.PlanOp, Registers.operand_stage, Making.{stage_after, op_on, operand_at}, Sound.IsWithin}
-use Rattle.stage_plan.proofs.{Lists.{push_cases, slice_get-last}, Runs.{within_more, stage_of_register}}
+use Rattle.stage_plan.proofs.{Lists.{push_cases, slice_get-last}, Runs.{register_cases, result_stage, stage_of_register, within_more}}
 use Rattle.stage_plan.proofs.Extending.{Extends, same_ops, and_more, one_more}
 
 -- an operand that is there keeps its stage while operations are added
@@ -16,18 +16,11 @@ pub same_stage : (ops more : List PlanOp) (o : Operand) → Extends ops more →
     → operand_stage more o ≡ operand_stage ops o
 same_stage ops more (Number n) e w = refl
 same_stage ops more (Register r) e w =
-    elim (cases_lt r FIELDS) [
+    elim (register_cases ops r w) [
       | inl field ↦
           let early : nat_lt r FIELDS ≡ true = grind (arith, nat_tests) in
           simp early
-      | inr later ↦
-          let j : ℕ = r - FIELDS in
-          let at : r ≡ FIELDS + j = omega arith in
-          let lt : j < length ops = omega arith in
-          elim ((slice_get_cases ops j).1) [
-            | inl found ↦ cc (stage_of_register more j found.0 (e.keeps j found.0 found.2), stage_of_register ops j found.0 found.2)
-            | inr past ↦ absurd (omega arith)
-          ]
+      | inr of ↦ cc (stage_of_register more of.number of.one (e.keeps of.number of.one of.found), result_stage of)
     ]
 
 -- an operand that is there, whose stage is this depth, and one more than the most for all above

@@ -1,15 +1,15 @@
 -- A query is too deep exactly where an operation that is made for it is, and else the stages are its depths.
 use Rattle.std.proofs.Common.{◌≡◌, ℕ, zero, suc, ◌+◌, ◌<◌, ◌≤◌, min, Bool, true, false, cond, List, [], ◌∷◌, ◌++◌, length, Some, None, refl}
-use Rattle.std.proofs.{Common.{sym, ap, subst, ◌∙◌, inl, inr, arith, lit<}, lemmas.{Bool.{cases_lt, Decides.nat_tests}, List.length_push}}
-use Rattle.std.{proofs.lemmas.List.Folds.list_any-append, specs.{Prelude.{nat_lt, ◌||◌}, List.list_any}}
+use Rattle.std.proofs.{Common.{sym, ap, subst, ◌∙◌, inl, inr, arith}, lemmas.{Bool.{cases_lt, Decides.nat_tests}, List.length_push}}
+use Rattle.std.{proofs.lemmas.List.Folds.list_any-append, specs.{Prelude.{nat_lt, replicate, ◌||◌}, List.list_any}}
 use Rattle.marple_base.specs.declared.field.TheConstants.{FIELDS}
 use Rattle.query_lang.specs.declared.fault.{FaultKind.TheVariants.OverLimit, Limit.TheVariants.Stages, QueryFault.QueryFault}
 use Rattle.query_lang.specs.declared.{fold.TypedFold.TypedFold, typed.{TypedQuery.TypedQuery, TypedStream.TypedStream}}
 use Rattle.query_lang.specs.declared.fault.TheConstants.{MAX_STAGES}
-use Rattle.stage_plan.specs.declared.{op.{Operand.TheVariants.Register, PlanOp.PlanOp}, wires.StreamWires.StreamWires}
+use Rattle.stage_plan.specs.declared.{op.{Operand.{Operand, TheVariants.Register}, PlanOp.PlanOp}, wires.StreamWires.StreamWires}
 use Rattle.stage_plan.specs.Depths.{StreamDepths, packet_depths, depths_at, depths_made, query_depths, is_too_deep, first_too_deep}
 use Rattle.stage_plan.specs.{Depths.stage_fault, Making.{wires_at, packet_wires, made_by, all_made, are_deep, made_fault}}
-use Rattle.stage_plan.proofs.Depths.{IsAt, number_at, AreMade, capped, stages, Added}
+use Rattle.stage_plan.proofs.Depths.{AreAt, IsAt, number_at, AreMade, capped, stages, Added}
 use Rattle.stage_plan.proofs.Deep.{WiresAt, Makes, AllAt, op_makes, depths_after, depths_are, all_more, AllMakes, all_make}
 
 -- where an operation is too deep, some depth is
@@ -90,48 +90,18 @@ field_at k lt =
       stage = rw early;
     }
 
+-- the registers of fields, which are all there before any operation
+abbrev fields_from : ℕ → ℕ → List Operand
+fields_from zero k = []
+fields_from (suc n) k = Register k ∷ fields_from n (suc k)
+
+fields_at : (n k : ℕ) → k + n ≤ FIELDS → AreAt [] (fields_from n k) (replicate n 0)
+fields_at zero k few = tt
+fields_at (suc n) k few = (field_at k (omega arith), fields_at n (suc k) (omega arith))
+
 -- the packets' operands
 pub packets_at : (j : ℕ) → WiresAt [] (wires_at (packet_wires ∷ []) j) (depths_at (packet_depths ∷ []) j)
-packets_at zero = record {
-  present = number_at [] 1;
-  columns = (
-    field_at 0 (lit< tt),
-    (
-      field_at 1 (lit< tt),
-      (
-        field_at 2 (lit< tt),
-        (
-          field_at 3 (lit< tt),
-          (
-            field_at 4 (lit< tt),
-            (
-              field_at 5 (lit< tt),
-              (
-                field_at 6 (lit< tt),
-                (
-                  field_at 7 (lit< tt),
-                  (
-                    field_at 8 (lit< tt),
-                    (
-                      field_at 9 (lit< tt),
-                      (
-                        field_at 10 (lit< tt),
-                        (
-                          field_at 11 (lit< tt),
-                          (field_at 12 (lit< tt), (field_at 13 (lit< tt), tt)),
-                        ),
-                      ),
-                    ),
-                  ),
-                ),
-              ),
-            ),
-          ),
-        ),
-      ),
-    ),
-  );
-}
+packets_at zero = record { present = number_at [] 1; columns = fields_at FIELDS 0 (omega arith) }
 packets_at (suc j) = record { present = number_at [] 0; columns = tt }
 
 pub made_none : AreMade []

@@ -1,7 +1,7 @@
 -- Registers in which each operation's own holds its result: there is one way to fill them, and the stages fill them so.
 use Rattle.std.proofs.Common.{◌≡◌, ℕ, zero, suc, ◌+◌, ◌-◌, ◌<◌, ◌≤◌, ◌≢◌, true, false, eqb, ltb, List, [], ◌∷◌, ◌++◌, length, get_or, set}
-use Rattle.std.proofs.{Common.{take, drop, Some, refl, sym, ap, ◌∙◌, inl, inr, arith, length-append, length-drop}, lemmas.List.ext_get_or}
-use Rattle.std.proofs.lemmas.List.{get_or-set_same, get_or-set_other, get_or-take, get_or-drop, length-replicate, take_at}
+use Rattle.std.proofs.Common.{◌⊎◌, take, drop, Some, refl, sym, ap, ◌∙◌, inl, inr, arith, length-append, length-drop}
+use Rattle.std.proofs.lemmas.List.{ext_get_or, get_or-set_same, get_or-set_other, get_or-take, get_or-drop, length-replicate, take_at}
 use Rattle.std.proofs.lemmas.List.{get_or-append_right, length-take-le}
 use Rattle.std.proofs.lemmas.{Option.{slice_get_within, same_Some, slice_get_cases, slice_get-get_or}, Bool.{cases_eq, cases_lt}}
 use Rattle.std.{proofs.lemmas.Bool.Decides.nat_tests, specs.Prelude.{slice_get, if◌then◌else◌, ◌==◌, replicate}}
@@ -141,26 +141,41 @@ stage_of_register ops j _ found =
     let back : FIELDS + j - FIELDS ≡ j = omega arith in
     rw (late, back, found)
 
+-- a register that an operation writes
+pub record IsResult (ops : List PlanOp) (r : ℕ) : Type 0 where
+  pub number : ℕ
+  pub one : PlanOp
+  pub is : r ≡ FIELDS + number
+  pub found : slice_get ops number ≡ Some one
+
+pub result_stage : {ops : List PlanOp} {r : ℕ} (result : IsResult ops r) → operand_stage ops (Register r) ≡ result.one.stage
+result_stage {ops} result =
+    ap (λ n. operand_stage ops (Register n)) result.is ∙ stage_of_register ops result.number _ result.found
+
+-- a register that is there is a field's or an operation's
+pub register_cases : (ops : List PlanOp) (r : ℕ) → r < FIELDS + length ops → (r < FIELDS) ⊎ IsResult ops r
+register_cases ops r within = elim (cases_lt r FIELDS) [
+  | inl field ↦ inl field
+  | inr later ↦
+      let lt : r - FIELDS < length ops = omega arith in
+      elim ((slice_get_cases ops (r - FIELDS)).1) [
+        | inl found ↦ inr (record { number = r - FIELDS; one = found.0; is = omega arith; found = found.2 })
+        | inr past ↦ absurd (omega arith)
+      ]
+]
+
 -- a stage keeps what earlier stages wrote, and the fields
 pub kept_operand : (ops : List PlanOp) (r : List ℕ) (stage : ℕ) (long : length r ≡ FIELDS + length ops) (o : Operand) →
     IsWithin (FIELDS + length ops) o → operand_stage ops o < stage → operand_value (next ops r stage long) o ≡ operand_value r o
 kept_operand ops r stage long (Number v) within below = refl
 kept_operand ops r stage long (Register k) within below =
-    elim (cases_lt k FIELDS) [
+    elim (register_cases ops k within) [
       | inl field ↦ sym (get_or-take _ (next ops r stage long) k 0 field) ∙ ap (λ l. get_or l k 0) (front_stage ops r stage long)
           ∙ get_or-take _ r k 0 field
-      | inr later ↦
-          let j : ℕ = k - FIELDS in
-          let at : k ≡ FIELDS + j = omega arith in
-          let lt : j < length ops = omega arith in
-          elim ((slice_get_cases ops j).1) [
-            | inl found ↦
-                let other : PlanOp = found.0 in
-                let same = ap (λ n. operand_stage ops (Register n)) at ∙ stage_of_register ops j _ found.2 in
-                let earlier : eqb other.stage stage ≡ false = grind (arith, nat_tests) in
-                cc (at_stage ops r stage long j other found.2)
-            | inr past ↦ absurd (omega arith)
-          ]
+      | inr result ↦
+          let same = result_stage result in
+          let earlier : eqb result.one.stage stage ≡ false = grind (arith, nat_tests) in
+          cc (at_stage ops r stage long result.number result.one result.found)
     ]
 
 pub kept_result : (ops : List PlanOp) (r : List ℕ) (stage : ℕ) (long : length r ≡ FIELDS + length ops) (i : ℕ) (one : PlanOp) →

@@ -62,7 +62,7 @@ abbrev pub tuples : (List ℕ → Row) → ℕ → List (List ℕ) → List Tupl
 tuples f n [] = []
 tuples f n (words ∷ packets) = tuple_of n (f words) ++ tuples f (suc n) packets
 
-same_tuples : (f g : List ℕ → Row) → ((words : List ℕ) → f words ≡ g words) → (n : ℕ) (packets : List (List ℕ))
+pub same_tuples : (f g : List ℕ → Row) → ((words : List ℕ) → f words ≡ g words) → (n : ℕ) (packets : List (List ℕ))
     → tuples f n packets ≡ tuples g n packets
 same_tuples f g _ n [] = refl
 same_tuples f g same n (words ∷ packets) = cc (same words, same_tuples f g same (suc n) packets)
@@ -71,51 +71,53 @@ numbered_are : (n : ℕ) (packets : List (List ℕ)) → numbered n packets ≡ 
 numbered_are n [] = refl
 numbered_are n (words ∷ packets) = cc (numbered_are (suc n) packets)
 
+-- what is made of each row alone is made of the tuples of packets that have these rows
+rows_are : (stream : List Tuple → List Tuple) (row : Row → Row) → stream [] ≡ []
+    → ((n : ℕ) (o : Row) (rest : List Tuple) → stream (tuple_of n o ++ rest) ≡ tuple_of n (row o) ++ stream rest)
+    → (f : List ℕ → Row) (n : ℕ) (packets : List (List ℕ)) → stream (tuples f n packets) ≡ tuples (λ words. row (f words)) n packets
+rows_are _ _ none _ f n [] = none
+rows_are stream row none more f n (words ∷ packets) =
+    more n (f words) (tuples f (suc n) packets)
+    ∙ ap (λ rest. tuple_of n (row (f words)) ++ rest) (rows_are stream row none more f (suc n) packets)
+
 filter_are : (condition : TypedExpr) (f : List ℕ → Row) (n : ℕ) (packets : List (List ℕ)) →
     filter_stream condition (tuples f n packets) ≡ tuples (λ words. filter_row condition (f words)) n packets
-filter_are _ f n [] = refl
-filter_are condition f n (words ∷ packets) = go _ (filter_are condition f (suc n) packets)
+filter_are condition = rows_are (filter_stream condition) (filter_row condition) refl go
   where
-    go : (o : Row) → filter_stream condition (tuples f (suc n) packets) ≡ tuples (λ words. filter_row condition (f words)) (suc n) packets →
-        filter_stream condition (tuple_of n o ++ tuples f (suc n) packets) ≡ tuple_of n (filter_row condition o)
-        ++ tuples (λ words. filter_row condition (f words)) (suc n) packets
-    go None rest = rest
-    go (Some row) rest = pick (holds (expr_value condition row))
+    go : (n : ℕ) (o : Row) (rest : List Tuple) → filter_stream condition (tuple_of n o ++ rest) ≡ tuple_of n (filter_row condition o)
+        ++ filter_stream condition rest
+    go n None rest = refl
+    go n (Some row) rest = pick (holds (expr_value condition row))
       where
-        pick : (b : Bool) → cond b (record { packet = n; row = row } ∷ filter_stream condition (tuples f (suc n) packets))
-            (filter_stream condition (tuples f (suc n) packets))
-            ≡ tuple_of n (cond b (Some row) None) ++ tuples (λ words. filter_row condition (f words)) (suc n) packets
-        pick true = rw rest
-        pick false = rest
+        pick : (b : Bool) → cond b (record { packet = n; row = row } ∷ filter_stream condition rest) (filter_stream condition rest)
+            ≡ tuple_of n (cond b (Some row) None) ++ filter_stream condition rest
+        pick true = refl
+        pick false = refl
 
 map_are : (values : List TypedExpr) (f : List ℕ → Row) (n : ℕ) (packets : List (List ℕ)) →
     map_stream values (tuples f n packets) ≡ tuples (λ words. map_row values (f words)) n packets
-map_are _ f n [] = refl
-map_are values f n (words ∷ packets) = go _ (map_are values f (suc n) packets)
+map_are values = rows_are (map_stream values) (map_row values) refl go
   where
-    go : (o : Row) → map_stream values (tuples f (suc n) packets) ≡ tuples (λ words. map_row values (f words)) (suc n) packets →
-        map_stream values (tuple_of n o ++ tuples f (suc n) packets) ≡ tuple_of n (map_row values o)
-        ++ tuples (λ words. map_row values (f words)) (suc n) packets
-    go None rest = rest
-    go (Some row) rest = rw rest
+    go : (n : ℕ) (o : Row) (rest : List Tuple) → map_stream values (tuple_of n o ++ rest) ≡ tuple_of n (map_row values o)
+        ++ map_stream values rest
+    go n None rest = refl
+    go n (Some row) rest = refl
 
 emit_are : (f : TypedFold) (keys args : List ℕ) (g : List ℕ → Row) (n : ℕ) (packets : List (List ℕ)) →
     group_stream (Some f) keys args (tuples g n packets) ≡ tuples (λ words. emit_row f keys args (g words)) n packets
-emit_are f _ _ g n [] = refl
-emit_are f keys args g n (words ∷ packets) = go _ (emit_are f keys args g (suc n) packets)
+emit_are f keys args = rows_are (group_stream (Some f) keys args) (emit_row f keys args) refl go
   where
-    go : (o : Row) → group_stream (Some f) keys args (tuples g (suc n) packets) ≡ tuples (λ words. emit_row f keys args (g words)) (suc n)
-        packets → group_stream (Some f) keys args (tuple_of n o ++ tuples g (suc n) packets) ≡ tuple_of n (emit_row f keys args o)
-        ++ tuples (λ words. emit_row f keys args (g words)) (suc n) packets
-    go None rest = rest
-    go (Some row) rest = pick (emits_at f (values_at row args))
+    go : (n : ℕ) (o : Row) (rest : List Tuple) → group_stream (Some f) keys args (tuple_of n o ++ rest) ≡ tuple_of n
+        (emit_row f keys args o) ++ group_stream (Some f) keys args rest
+    go n None rest = refl
+    go n (Some row) rest = pick (emits_at f (values_at row args))
       where
         pick : (b : Bool) → map (λ t. record { packet = t.packet; row = values_at t.row keys })
-            (cond b (record { packet = n; row = row } ∷ filter (λ t. emits_at f (values_at t.row args)) (tuples g (suc n) packets))
-            (filter (λ t. emits_at f (values_at t.row args)) (tuples g (suc n) packets)))
-            ≡ tuple_of n (cond b (Some (values_at row keys)) None) ++ tuples (λ words. emit_row f keys args (g words)) (suc n) packets
-        pick true = rw rest
-        pick false = rest
+            (cond b (record { packet = n; row = row } ∷ filter (λ t. emits_at f (values_at t.row args)) rest)
+            (filter (λ t. emits_at f (values_at t.row args)) rest))
+            ≡ tuple_of n (cond b (Some (values_at row keys)) None) ++ group_stream (Some f) keys args rest
+        pick true = refl
+        pick false = refl
 
 none_are : (n : ℕ) (packets : List (List ℕ)) → [] ≡ tuples (λ words. None) n packets
 none_are n [] = refl
