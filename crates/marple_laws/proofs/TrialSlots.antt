@@ -4,18 +4,12 @@ use Rattle.marple_laws.proofs.Words.{None, refl, sym, ap, ap₂, subst, ◌∙�
 use Rattle.marple_laws.proofs.Words.{false≢true, nat_tests, All-head, All-tail, Geometry, by_test, folding_of, with_finals, group_table}
 use Rattle.marple_laws.proofs.Words.{all_fields, has_field, number_of, Field, Switch, Qid, Uid, SrcIp, DstIp, SrcPort, DstPort, Proto}
 use Rattle.marple_laws.proofs.Words.{PktLen, PayloadLen, TcpSeq, Tin, Tout, QSize, FieldSet, FIELDS, TypedFold, TypedQuery, TypedStream}
-use Rattle.marple_laws.proofs.Words.{Earlier, Given, Checked, and_then, Taking, stream, takings, values_at, given_of, start_of, typed_names}
-use Rattle.marple_laws.proofs.Words.{items_checked, ended, with_fold, checked, parsed_text, group_tables, heading_of_shape, printed}
-use Rattle.marple_laws.proofs.Words.{query_text, table_if, tables_from, taken_by, use_of, uses, read_fields, reads_of, AreWhole, GroupShape}
-use Rattle.marple_laws.proofs.Words.{query_groups, accepted, staged, trial_query, zeroed}
+use Rattle.marple_laws.proofs.Words.{Checked, Taking, stream, takings, values_at, group_tables, heading_of_shape, printed, query_text}
+use Rattle.marple_laws.proofs.Words.{table_if, tables_from, taken_by, use_of, uses, read_fields, reads_of, AreWhole, GroupShape}
+use Rattle.marple_laws.proofs.Words.{query_groups, accepted, trial_query, zeroed}
 use Rattle.std.specs.Prelude.{Ok, Err, slice_get}
-use Rattle.query_lang.specs.declared.query.Item.TheVariants as item
-use Rattle.query_lang.specs.Lexis.{reserved, cut}
-use Rattle.query_grammar.specs.Reading.{expr_at, stmt_at}
-use Rattle.stage_plan.proofs.StreamRows.{Row, all_rows, row_at, row_made, rows_from, stream_rows, tuple_of, tuples}
-use Rattle.accepted_query.proofs.TrialSteps.{fold_next}
-use Rattle.accepted_query.proofs.TrialParts.{at, count_fold, lost_fold, oos_fold, deepest_fold, trial_names, trial_rest, trial_read}
-use Rattle.accepted_query.proofs.TrialTyped.{count_typed, count_is, lost_typed, lost_is, oos_typed, oos_is, deepest_typed, deepest_is}
+use Rattle.stage_plan.proofs.StreamRows.{Row, all_rows, row_at, row_made, rows_from, same_tuples, stream_rows, tuples}
+use Rattle.accepted_query.proofs.TrialAccepted.{after_folds, trial_is}
 use Rattle.marple_laws.proofs.Listed.{IsIn, in_set}
 
 -- ---- a query whose groupbys take from the packets, out of fields that it reads
@@ -35,42 +29,11 @@ abbrev plain_in : Checked TypedQuery → Bool
 plain_in (Ok q) = is_plain q
 plain_in (Err fault) = true
 
-read : parsed_text trial_query ≡ Ok trial_read
-unfolding trial_query reserved cut expr_at stmt_at
-read = refl
-
-abbrev given : Given
-given = given_of (typed_names trial_names) trial_read.items
-
-abbrev start : Earlier
-start = start_of (typed_names trial_names)
-
-abbrev folds : Earlier
-folds = with_fold (with_fold (with_fold (with_fold start count_typed) lost_typed) oos_typed) deepest_typed
-
-items : items_checked given start trial_read.items ≡ items_checked given folds trial_rest
-items =
-    fold_next given start count_fold _ (item.Fold lost_fold ∷ item.Fold oos_fold ∷ item.Fold deepest_fold ∷ trial_rest) refl
-    count_is
-    ∙ fold_next given (with_fold start count_typed) lost_fold _ (item.Fold oos_fold ∷ item.Fold deepest_fold ∷ trial_rest) refl
-    lost_is
-    ∙ fold_next given (with_fold (with_fold start count_typed) lost_typed) oos_fold _ (item.Fold deepest_fold ∷ trial_rest) refl
-    oos_is
-    ∙ fold_next given (with_fold (with_fold (with_fold start count_typed) lost_typed) oos_typed) deepest_fold _ trial_rest refl
-    deepest_is
-
-rest : plain_in (and_then (and_then (items_checked given folds trial_rest) (ended (typed_names trial_names) (at 540 540))) staged) ≡ true
-rest = refl
-
-plain : plain_in (accepted trial_query) ≡ true
-unfolding accepted
-plain =
-    ap (λ r. plain_in (and_then r (λ q. and_then (checked q) staged))) read
-    ∙ ap (λ r. plain_in (and_then (and_then r (ended (typed_names trial_names) (at 540 540))) staged)) items
-    ∙ rest
+plain : plain_in after_folds ≡ true
+plain = refl
 
 pub trial_is_plain : (q : TypedQuery) → accepted trial_query ≡ Ok q → is_plain q ≡ true
-trial_is_plain q e = ap plain_in (sym e) ∙ plain
+trial_is_plain q e = ap plain_in (sym e ∙ trial_is) ∙ plain
 
 -- ---- the words of fields that are read stay
 
@@ -126,13 +89,6 @@ module _ (q : TypedQuery) where
   first_kept : (list : List TypedStream) (first : Row) (rows : List Row) → row_at (rows_from q.folds (first ∷ rows) list) 0 ≡ first
   first_kept [] first rows = refl
   first_kept (one ∷ list) first rows = first_kept list first (rows ++ row_made q.folds (first ∷ rows) one.op ∷ [])
-
-  same_tuples : (f g : List ℕ → Row) → ((words : List ℕ) → f words ≡ g words) → (n : ℕ) (packets : List (List ℕ))
-      → tuples f n packets ≡ tuples g n packets
-  same_tuples f g same n [] = refl
-  same_tuples f g same n (words ∷ packets) =
-      ap (λ o. tuple_of n o ++ tuples f (suc n) packets) (same words) ∙ ap (λ l. tuple_of n (g words) ++ l)
-      (same_tuples f g same (suc n) packets)
 
   packets_stream : (packets : List (List ℕ)) → stream q 0 packets ≡ tuples (λ words. Some words) 1 packets
   packets_stream packets =
