@@ -3,15 +3,15 @@ use Rattle.marple_laws.proofs.Words.{◌≡◌, ℕ, ◌+◌, ◌-◌, ◌^◌, 
 use Rattle.marple_laws.proofs.Words.{◌∙◌, arith, decimal, codes, if◌then◌else◌, decimal_is_IsNumeral, map-append, digit_from_value}
 use Rattle.marple_laws.proofs.Words.{AllDigits, Op, Block, End, Set, Fork, Term, Literal, Read, Negation, Operation, IsValidTerm}
 use Rattle.marple_laws.proofs.Words.{IsValidBlock, block_count, MAX_STATEMENTS, number, function_named, lexeme_among, lexeme_of}
-use Rattle.marple_laws.proofs.Words.{slot_lexeme, written, written_block, open_braces, IsBody, function_word, number_word, state_word}
-use Rattle.marple_laws.proofs.Words.{slot_word, term_words, block_words}
+use Rattle.marple_laws.proofs.Words.{other_named, comparison_named, slot_lexeme, written, written_block, open_braces, IsBody, function_word}
+use Rattle.marple_laws.proofs.Words.{number_word, state_word, slot_word, term_words, block_words}
 use Rattle.std.specs.Prelude.{map, nat_lt}
 use Rattle.query_lang.specs.declared.fold.Op.TheVariants as ops
 use Rattle.plan_file.specs.declared.lexemes.Lexeme.TheVariants as word
 use Rattle.marple_laws.proofs.{Tokens.{is_token, AreTokens}, Numbers.{number_decimal, token_marked}}
 
 pub function_read : (op : Op) → function_named (function_word op) ≡ Some op
-unfolding function_named
+unfolding function_named comparison_named other_named
 function_read ops.Mul = refl
 function_read _ = refl
 
@@ -20,12 +20,12 @@ token_function ops.Mul = refl
 token_function _ = refl
 
 function_lexeme : (op : Op) → lexeme_of (function_word op) ≡ word.Function op
-unfolding lexeme_of function_named
+unfolding lexeme_of function_named comparison_named other_named
 function_lexeme ops.Mul = refl
 function_lexeme _ = refl
 
 number_lexeme : (n : ℕ) → n < 2 ^ 64 → lexeme_of (number_word n) ≡ word.Number n
-unfolding lexeme_of function_named
+unfolding lexeme_of function_named comparison_named other_named
 number_lexeme n small = ap (λ o. lexeme_among None o None None) (number_decimal n small)
 
 -- a digit is none of the letters that follow `s` or `a` in another word
@@ -33,7 +33,7 @@ other_byte : (c d : ℕ) → c ≤ 57 → 57 < d → eqb c d ≡ false
 other_byte c d low high = grind arith
 
 state_digits : (ds : List ℕ) (v : ℕ) → AllDigits 10 ds → number ds ≡ Some v → lexeme_of (115 ∷ ds) ≡ word.State v
-unfolding lexeme_of function_named
+unfolding lexeme_of function_named comparison_named other_named
 state_digits [] v d e = cc
 state_digits (c ∷ ds) v d e =
     let k = digit_from_value c d.0 in
@@ -47,7 +47,7 @@ state_digits (c ∷ ds) v d e =
     (ap (λ o. lexeme_among None None o None) e)
 
 argument_digits : (ds : List ℕ) (v : ℕ) → AllDigits 10 ds → number ds ≡ Some v → lexeme_of (97 ∷ ds) ≡ word.Argument v
-unfolding lexeme_of function_named
+unfolding lexeme_of function_named comparison_named other_named
 argument_digits [] v d e = cc
 argument_digits (c ∷ ds) v d e =
     let k = digit_from_value c d.0 in

@@ -37,7 +37,7 @@ pub use Rattle.stage_plan.specs.declared.op.Operation.TheVariants.{Not, Two}
 pub use Rattle.plan_file.specs.declared.made.Folded.{Folded}
 pub use Rattle.plan_file.specs.Lexis.{all_but_last, bytes_after_lines, is_first_digit, is_line_feed, is_name, is_space, last_of, lines}
 pub use Rattle.plan_file.specs.Lexis.{number, pieces, start_of_line, tokens}
-unfoldable pub use Rattle.plan_file.specs.Lexis.{function_named}
+unfoldable pub use Rattle.plan_file.specs.Lexis.{other_named, comparison_named, function_named}
 pub use Rattle.query_lang.specs.Folds.{IsConstant, IsValidBlock, IsValidEmit, IsValidFold, IsValidTerm, TakesOperands, block_count}
 pub use Rattle.query_lang.specs.Folds.{block_nodes, body, fold_args, fold_block, fold_states, is_condition, term_nodes}
 pub use Rattle.std.proofs.lemmas.Option.{get_or_from_slice_get, same_Some, slice_get-map, slice_get_cases, slice_get_within}

@@ -83,29 +83,26 @@ is_name [] = false
 is_name (first ∷ rest) =
     list_all is_word_byte (first ∷ rest) && (not (is_digit first) && is_none (reserved (first ∷ rest)))
 
--- the functions of two operands by their names
+-- the function whose name the token is, and the other one where it is none of these names
+abbrev pub named_among : List (List ℕ × Op) → Option Op → List ℕ → Option Op
+named_among [] other token = other
+named_among ((name, op) ∷ rest) other token = if bytes_eq token name then Some op else named_among rest other token
+
+-- functions of two operands by their names: those that are neither of arithmetic nor comparisons
+unfoldable pub other_named : List ℕ → Option Op
+other_named token =
+    named_among ((codes "both", ops.Both) ∷ (codes "either", ops.Either) ∷ (codes "max", ops.Max) ∷ (codes "min", ops.Min)
+    ∷ (codes "sadd", ops.Sadd) ∷ (codes "decay", ops.Decay) ∷ []) None token
+
+-- those that compare, and the ones before
+unfoldable pub comparison_named : List ℕ → Option Op
+comparison_named token =
+    named_among ((codes "eq", ops.Eq) ∷ (codes "ne", ops.Ne) ∷ (codes "lt", ops.Lt) ∷ (codes "le", ops.Le) ∷ (codes "gt", ops.Gt)
+    ∷ (codes "ge", ops.Ge) ∷ []) (other_named token) token
+
+-- all functions of two operands
 unfoldable pub function_named : List ℕ → Option Op
 function_named token =
-    if bytes_eq token (codes "mul") then Some ops.Mul else
-    if bytes_eq token (codes "div") then Some ops.Div else
-    if bytes_eq token (codes "rem") then Some ops.Rem else
-    if bytes_eq token (codes "add") then Some ops.Add else
-    if bytes_eq token (codes "sub") then Some ops.Sub else
-    if bytes_eq token (codes "shl") then Some ops.Shl else
-    if bytes_eq token (codes "shr") then Some ops.Shr else
-    if bytes_eq token (codes "and") then Some ops.And else
-    if bytes_eq token (codes "xor") then Some ops.Xor else
-    if bytes_eq token (codes "or") then Some ops.Or else
-    if bytes_eq token (codes "eq") then Some ops.Eq else
-    if bytes_eq token (codes "ne") then Some ops.Ne else
-    if bytes_eq token (codes "lt") then Some ops.Lt else
-    if bytes_eq token (codes "le") then Some ops.Le else
-    if bytes_eq token (codes "gt") then Some ops.Gt else
-    if bytes_eq token (codes "ge") then Some ops.Ge else
-    if bytes_eq token (codes "both") then Some ops.Both else
-    if bytes_eq token (codes "either") then Some ops.Either else
-    if bytes_eq token (codes "max") then Some ops.Max else
-    if bytes_eq token (codes "min") then Some ops.Min else
-    if bytes_eq token (codes "sadd") then Some ops.Sadd else
-    if bytes_eq token (codes "decay") then Some ops.Decay else
-    None
+    named_among ((codes "mul", ops.Mul) ∷ (codes "div", ops.Div) ∷ (codes "rem", ops.Rem) ∷ (codes "add", ops.Add)
+    ∷ (codes "sub", ops.Sub) ∷ (codes "shl", ops.Shl) ∷ (codes "shr", ops.Shr) ∷ (codes "and", ops.And)
+    ∷ (codes "xor", ops.Xor) ∷ (codes "or", ops.Or) ∷ []) (comparison_named token) token

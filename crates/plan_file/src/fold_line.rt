@@ -1,11 +1,11 @@
 //! A line `fold` as it is read.
 
-ghost use Rattle.std.specs.Prelude.{◌≡◌, ◌≤◌, ℕ, true, false, length, MatchOption, IfOk};
+ghost use Rattle.std.specs.Prelude.{◌≡◌, ◌≤◌, ◌∷◌, [], List, ℕ, true, false, codes, length, MatchOption, IfOk};
 ghost use Rattle.query_lang.specs.{declared.{fold.TypedFold.TypedFold, typed.Class.Class}, Folds.{IsValidFold, fold_block}};
 ghost use Rattle.fold_class.specs.{Kinds.class_of, Depth.IsDepth};
 ghost use Rattle.stage_plan.specs.Shape.{class_word};
 ghost use Rattle.plan_file.specs.{Finding.Finds, declared.made.Folded.Folded, FoldLines.{IsFoldOf, IsFoldWords, AreBounds, IsFoldLine}};
-ghost use Rattle.plan_file.specs.{FoldSaid.folded_as, Lines.IsGroupWithin};
+ghost use Rattle.plan_file.specs.{FoldSaid.folded_as, Lexis.tokens, Lines.IsGroupWithin};
 
 use crate::lexis::{cut_at_space, number};
 use crate::made::Group;
@@ -48,15 +48,24 @@ fn class_named(token: &[u8]) -> Option<Class>
     }
 }
 
-// What a line with the word `fold`, a class and three numbers says.
-fn fold_words(line: &[u8]) -> Option<FoldWords>
-    ensures { MatchOption result ((class : Class) → (depth nodes statements : ℕ)
-        → IsFoldWords line.now class depth nodes statements → ⊥) (λ w. IsFoldWords line.now w.class w.depth w.nodes w.statements) }
+// The four tokens of a line after the word `fold`.
+fn fold_tokens(line: &[u8]) -> Option<(&[u8], &[u8], &[u8], &[u8])>
+    ensures { MatchOption result ((a b c d : List ℕ) → tokens line.now ≡ codes "fold" ∷ a ∷ b ∷ c ∷ d ∷ [] → ⊥)
+        (λ r. tokens line.now ≡ codes "fold" ∷ r.0.now ∷ r.1.now ∷ r.2.now ∷ r.3.now ∷ []) }
 {
     let rest = after_word(b"fold", line)?;
     let (class, rest) = cut_at_space(rest)?;
     let (depth, rest) = cut_at_space(rest)?;
     let (nodes, statements) = two_tokens(rest)?;
+    Some((class, depth, nodes, statements))
+}
+
+// What a line with the word `fold`, a class and three numbers says.
+fn fold_words(line: &[u8]) -> Option<FoldWords>
+    ensures { MatchOption result ((class : Class) → (depth nodes statements : ℕ)
+        → IsFoldWords line.now class depth nodes statements → ⊥) (λ w. IsFoldWords line.now w.class w.depth w.nodes w.statements) }
+{
+    let (class, depth, nodes, statements) = fold_tokens(line)?;
     Some(FoldWords {
         class: class_named(class)?,
         depth: number(depth)?,

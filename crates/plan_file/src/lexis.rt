@@ -77,6 +77,50 @@ pub(crate) fn past(byte: u8, token: &[u8]) -> Option<u64>
     }
 }
 
+// The function with this name, where it is neither of arithmetic nor a comparison.
+#[tactic(auto, unfolding(crate::specs::Lexis::other_named))]
+fn other_named(token: &[u8]) -> Option<Op>
+    ensures { result ≡ Lexis.other_named token.now }
+{
+    if is_text(token, b"both") {
+        Some(Op::Both)
+    } else if is_text(token, b"either") {
+        Some(Op::Either)
+    } else if is_text(token, b"max") {
+        Some(Op::Max)
+    } else if is_text(token, b"min") {
+        Some(Op::Min)
+    } else if is_text(token, b"sadd") {
+        Some(Op::Sadd)
+    } else if is_text(token, b"decay") {
+        Some(Op::Decay)
+    } else {
+        None
+    }
+}
+
+// The function with this name, where it is not of arithmetic.
+#[tactic(auto, unfolding(crate::specs::Lexis::comparison_named))]
+fn comparison_named(token: &[u8]) -> Option<Op>
+    ensures { result ≡ Lexis.comparison_named token.now }
+{
+    if is_text(token, b"eq") {
+        Some(Op::Eq)
+    } else if is_text(token, b"ne") {
+        Some(Op::Ne)
+    } else if is_text(token, b"lt") {
+        Some(Op::Lt)
+    } else if is_text(token, b"le") {
+        Some(Op::Le)
+    } else if is_text(token, b"gt") {
+        Some(Op::Gt)
+    } else if is_text(token, b"ge") {
+        Some(Op::Ge)
+    } else {
+        other_named(token)
+    }
+}
+
 /// The function of two operands with this name.
 #[tactic(auto, unfolding(crate::specs::Lexis::function_named))]
 pub(crate) fn function_named(token: &[u8]) -> Option<Op>
@@ -102,31 +146,7 @@ pub(crate) fn function_named(token: &[u8]) -> Option<Op>
         Some(Op::Xor)
     } else if is_text(token, b"or") {
         Some(Op::Or)
-    } else if is_text(token, b"eq") {
-        Some(Op::Eq)
-    } else if is_text(token, b"ne") {
-        Some(Op::Ne)
-    } else if is_text(token, b"lt") {
-        Some(Op::Lt)
-    } else if is_text(token, b"le") {
-        Some(Op::Le)
-    } else if is_text(token, b"gt") {
-        Some(Op::Gt)
-    } else if is_text(token, b"ge") {
-        Some(Op::Ge)
-    } else if is_text(token, b"both") {
-        Some(Op::Both)
-    } else if is_text(token, b"either") {
-        Some(Op::Either)
-    } else if is_text(token, b"max") {
-        Some(Op::Max)
-    } else if is_text(token, b"min") {
-        Some(Op::Min)
-    } else if is_text(token, b"sadd") {
-        Some(Op::Sadd)
-    } else if is_text(token, b"decay") {
-        Some(Op::Decay)
     } else {
-        None
+        comparison_named(token)
     }
 }
