@@ -11,6 +11,7 @@ pub mod TextFacts
 pub mod TextLaws
 pub mod TreeFacts
 pub mod ReadFacts
+pub mod KeptFacts
 pub mod WithinFacts
 pub mod SameFold
 pub mod LineLaws

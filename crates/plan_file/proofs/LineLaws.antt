@@ -97,13 +97,7 @@ in_group_once words.Body f g o x l a b p q =
     let rest : p.valid.rest ≡ q.valid.rest = cc in
     let same : p.words ≡ q.words = p.valid.are ∙ ap (map lexeme_of) rest ∙ sym q.valid.are in
     p.made ∙ rw same (sym q.made)
-in_group_once words.Plan f g o x l a b p q = absurd p
-in_group_once words.Reads f g o x l a b p q = absurd p
-in_group_once words.Op f g o x l a b p q = absurd p
-in_group_once words.Group f g o x l a b p q = absurd p
-in_group_once words.Fold f g o x l a b p q = absurd p
-in_group_once words.Print f g o x l a b p q = absurd p
-in_group_once words.Other f g o x l a b p q = absurd p
+in_group_once _ f g o x l a b p q = absurd p
 
 part_once : (word : LineWord) (x : Made) (l : List ℕ) (a b : Made) → IsPart word x l a → IsPart word x l b → a ≡ b
 part_once word x l a b p q =

@@ -1,9 +1,7 @@
 -- Which registers are known.
 use Rattle.std.proofs.Common.{◌≡◌, ℕ, zero, suc, ◌+◌, ◌<◌, ◌≤◌, Bool, true, false, List, [], ◌∷◌, length, get_or, map, Some, refl, sym, ap}
 use Rattle.std.{proofs.{Common.{◌∙◌, arith, inl, inr, Contains, subst}, lemmas.Bool.Decides.nat_tests}, specs.Prelude.nat_lt}
-use Rattle.marple_base.specs.declared.field.Field.{Field, TheVariants.{Switch, Qid, Uid, SrcIp, DstIp, SrcPort, DstPort, Proto, PktLen}}
-use Rattle.marple_base.specs.{declared.field.Field.TheVariants.{PayloadLen, TcpSeq, Tin, Tout, QSize}, Field.number_of}
-use Rattle.marple_base.specs.declared.field.TheConstants.{FIELDS}
+use Rattle.marple_base.specs.{declared.field.{Field.{Field, TheVariants.Switch}, TheConstants.FIELDS}, Field.number_of}
 use Rattle.stage_plan.specs.declared.op.{Operand.{Operand, TheVariants.{Register, Number}}, PlanOp.PlanOp}
 use Rattle.plan_file.specs.Operations.{operand, register, IsKnown, IsKnownRegister}
 
@@ -40,19 +38,7 @@ not_among fields n none found =
 
 pub number_below : (f : Field) → number_of f < FIELDS
 number_below Switch = omega arith
-number_below Qid = omega arith
-number_below Uid = omega arith
-number_below SrcIp = omega arith
-number_below DstIp = omega arith
-number_below SrcPort = omega arith
-number_below DstPort = omega arith
-number_below Proto = omega arith
-number_below PktLen = omega arith
-number_below PayloadLen = omega arith
-number_below TcpSeq = omega arith
-number_below Tin = omega arith
-number_below Tout = omega arith
-number_below QSize = omega arith
+number_below _ = omega arith
 
 each_below : (fields : List Field) (k d : ℕ) → k < length (map number_of fields) → get_or (map number_of fields) k d < FIELDS
 each_below [] k d h = elim h [ ]

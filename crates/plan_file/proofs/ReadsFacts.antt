@@ -18,19 +18,7 @@ numbered n = if nat_eq n 0 then Switch else if nat_eq n 1 then Qid else if nat_e
 
 numbered_is : (f : Field) → numbered (number_of f) ≡ f
 numbered_is Switch = refl
-numbered_is Qid = refl
-numbered_is Uid = refl
-numbered_is SrcIp = refl
-numbered_is DstIp = refl
-numbered_is SrcPort = refl
-numbered_is DstPort = refl
-numbered_is Proto = refl
-numbered_is PktLen = refl
-numbered_is PayloadLen = refl
-numbered_is TcpSeq = refl
-numbered_is Tin = refl
-numbered_is Tout = refl
-numbered_is QSize = refl
+numbered_is _ = refl
 
 abbrev named : List ℕ → Field
 named text = if bytes_eq text (codes "switch") then Switch else if bytes_eq text (codes "qid") then Qid else
@@ -43,19 +31,7 @@ named text = if bytes_eq text (codes "switch") then Switch else if bytes_eq text
 
 named_is : (f : Field) → named (field_name f) ≡ f
 named_is Switch = refl
-named_is Qid = refl
-named_is Uid = refl
-named_is SrcIp = refl
-named_is DstIp = refl
-named_is SrcPort = refl
-named_is DstPort = refl
-named_is Proto = refl
-named_is PktLen = refl
-named_is PayloadLen = refl
-named_is TcpSeq = refl
-named_is Tin = refl
-named_is Tout = refl
-named_is QSize = refl
+named_is _ = refl
 
 same_number : (f g : Field) → number_of f ≡ number_of g → f ≡ g
 same_number f g e = sym (numbered_is f) ∙ ap numbered e ∙ numbered_is g

@@ -97,15 +97,7 @@ IsLeft states args found left b rest =
 no_begin : (rest : List Lexeme) → Closes rest → begins_statement rest ≡ true → ⊥
 no_begin [] c e = cc
 no_begin (word.Close ∷ rest) c e = cc
-no_begin (word.Set ∷ rest) c e = absurd c
-no_begin (word.If ∷ rest) c e = absurd c
-no_begin (word.Open ∷ rest) c e = absurd c
-no_begin (word.Not ∷ rest) c e = absurd c
-no_begin (word.Function op ∷ rest) c e = absurd c
-no_begin (word.Number n ∷ rest) c e = absurd c
-no_begin (word.State n ∷ rest) c e = absurd c
-no_begin (word.Argument n ∷ rest) c e = absurd c
-no_begin (word.Other ∷ rest) c e = absurd c
+no_begin _ c e = absurd c
 
 -- no statement begins: the block has ended
 pub left_last : (states args : ℕ) (found : List TypedStmt) (left : List Lexeme) (b : Block) (rest : List Lexeme)

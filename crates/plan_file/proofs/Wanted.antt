@@ -44,15 +44,7 @@ module _ (states args : ℕ) where
       let b = and_both (nat_lt n (2 ^ 64)) (test n) t.0 in
       let small : n < 2 ^ 64 = (let e : nat_lt n (2 ^ 64) ≡ true = b.0 in grind (arith, nat_tests)) in
       (n, ap (λ l. word.Number n ∷ l) (nothing_read states args wants front t.1 p), small, b.1)
-  number_from test word.Set wants front h p = cc
-  number_from test word.If wants front h p = cc
-  number_from test word.Open wants front h p = cc
-  number_from test word.Close wants front h p = cc
-  number_from test word.Not wants front h p = cc
-  number_from test (word.Function op) wants front h p = cc
-  number_from test (word.State n) wants front h p = cc
-  number_from test (word.Argument n) wants front h p = cc
-  number_from test word.Other wants front h p = cc
+  number_from test _ wants front h p = cc
 
   target_goes : (w : Lexeme) (v : ℕ) (front : List Lexeme) (wants : List Want) → after_target states w ≡ Some wants → w
       ∷ front ≡ word.State v ∷ [] → AllRead states args (reverse wants) front
@@ -73,28 +65,12 @@ module _ (states args : ℕ) where
       let t = where_some (nat_lt v states) [] wants h in
       let small : v < states = (let e : nat_lt v states ≡ true = t.0 in grind (arith, nat_tests)) in
       (v, ap (λ l. word.State v ∷ l) (nothing_read states args wants front t.1 p), small)
-  target_back word.Set wants front h p = cc
-  target_back word.If wants front h p = cc
-  target_back word.Open wants front h p = cc
-  target_back word.Close wants front h p = cc
-  target_back word.Not wants front h p = cc
-  target_back (word.Function op) wants front h p = cc
-  target_back (word.Number n) wants front h p = cc
-  target_back (word.Argument n) wants front h p = cc
-  target_back word.Other wants front h p = cc
+  target_back _ wants front h p = cc
 
   open_back : (w : Lexeme) (wants : List Want) (front : List Lexeme) → after_open w ≡ Some wants → AllRead states args (reverse wants) front
       → Reads states args Open (w ∷ front)
   open_back word.Open wants front h p = let same : wants ≡ [] = cc in ap (λ l. word.Open ∷ l) (nothing_read states args wants front same p)
-  open_back word.Set wants front h p = cc
-  open_back word.If wants front h p = cc
-  open_back word.Close wants front h p = cc
-  open_back word.Not wants front h p = cc
-  open_back (word.Function op) wants front h p = cc
-  open_back (word.Number n) wants front h p = cc
-  open_back (word.State n) wants front h p = cc
-  open_back (word.Argument n) wants front h p = cc
-  open_back word.Other wants front h p = cc
+  open_back _ wants front h p = cc
 
   -- one token of what is expected: what is then expected reads the tokens after it
   term_first : (e : Term) (w : Lexeme) (front : List Lexeme) → w ∷ front ≡ written states e → (w ≡ first_of states args e)

@@ -177,10 +177,4 @@ module _ (states args : ℕ) where
       let same : wants ≡ Block room ∷ Word ∷ Target ∷ [] = cc in
       set_back room front (wanted_back states args (Block room ∷ Word ∷ Target ∷ []) wants front same p)
   block_back room word.If wants front h p = if_back room wants front h p
-  block_back room word.Open wants front h p = cc
-  block_back room word.Not wants front h p = cc
-  block_back room (word.Function op) wants front h p = cc
-  block_back room (word.Number n) wants front h p = cc
-  block_back room (word.State n) wants front h p = cc
-  block_back room (word.Argument n) wants front h p = cc
-  block_back room word.Other wants front h p = cc
+  block_back room _ wants front h p = cc

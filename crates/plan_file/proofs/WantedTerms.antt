@@ -242,12 +242,7 @@ module _ (states args : ℕ) where
       let t = where_some (not (gives_condition op)) (operands op) wants h in
       let q = operands_back op front (wanted_back (operands op) wants front t.1 p) in
       (Operation op q.0 q.1, ap (λ l. word.Function op ∷ l) q.2, (q.3, q.4, q.5), not_true (gives_condition op) t.0)
-  word_back word.Set wants front h p = cc
-  word_back word.If wants front h p = cc
-  word_back word.Open wants front h p = cc
-  word_back word.Close wants front h p = cc
-  word_back word.Not wants front h p = cc
-  word_back word.Other wants front h p = cc
+  word_back _ wants front h p = cc
 
   -- an expression whose value is a condition
   pub condition_goes : (e : Term) (wants : List Want) → after_condition (first_of e) ≡ Some wants → IsValidTerm slots e
@@ -277,11 +272,4 @@ module _ (states args : ℕ) where
       let t = where_some (gives_condition op) (operands op) wants h in
       let q = operands_back op front (wanted_back (operands op) wants front t.1 p) in
       (Operation op q.0 q.1, ap (λ l. word.Function op ∷ l) q.2, (q.3, q.4, q.5), t.0)
-  condition_back (word.Number n) wants front h p = cc
-  condition_back (word.State n) wants front h p = cc
-  condition_back (word.Argument n) wants front h p = cc
-  condition_back word.Set wants front h p = cc
-  condition_back word.If wants front h p = cc
-  condition_back word.Open wants front h p = cc
-  condition_back word.Close wants front h p = cc
-  condition_back word.Other wants front h p = cc
+  condition_back _ wants front h p = cc

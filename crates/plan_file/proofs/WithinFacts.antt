@@ -7,8 +7,8 @@ use Rattle.plan_file.specs.declared.{lexemes.Lexeme.Lexeme, line_word.LineWord.L
 use Rattle.plan_file.specs.declared.line_word.LineWord.TheVariants as words
 use Rattle.plan_file.specs.{declared.made.{Group.Group, Made.Made}, Bodies.IsBody}
 use Rattle.plan_file.specs.Groups.{IsInGroup, IsKeyLine, IsArgLine, IsStateLine, IsGroupBody, group_with}
-use Rattle.plan_file.specs.Lines.{IsLine, IsLineOf, IsFirst, IsReads, IsOp, IsGroup, IsPart, IsFold, IsPrint, IsWithin, IsGroupWithin}
-use Rattle.plan_file.specs.LineWords.{line_word}
+use Rattle.plan_file.specs.Lines.{IsLine, IsFirst, IsReads, IsOp, IsGroup, IsPart, IsFold, IsPrint, IsWithin, IsGroupWithin}
+use Rattle.plan_file.proofs.KeptFacts.{Keeps, line_keeps}
 
 abbrev HasBody : Group → Type 0
 HasBody g = IfSome g.body (λ tokens. (body : Block) × IsBody (length g.initial) (length g.args) tokens body)
@@ -53,21 +53,15 @@ group_within words.Key fields ops g line n p w = key_within fields ops g line n 
 group_within words.Arg fields ops g line n p w = arg_within fields ops g line n p w
 group_within words.State fields ops g line n p w = state_within g line n p w
 group_within words.Body fields ops g line n p w = body_within g line n p w
-group_within words.Plan fields ops g line n p w = absurd p
-group_within words.Reads fields ops g line n p w = absurd p
-group_within words.Op fields ops g line n p w = absurd p
-group_within words.Group fields ops g line n p w = absurd p
-group_within words.Fold fields ops g line n p w = absurd p
-group_within words.Print fields ops g line n p w = absurd p
-group_within words.Other fields ops g line n p w = absurd p
+group_within _ fields ops g line n p w = absurd p
 
-first_within : (b : Made) (line : List ℕ) (a : Made) → IsFirst b line a → IsWithin b → IsWithin a
+first_within : Keeps IsWithin IsFirst
 first_within b line a p w = subst IsWithin (sym p.made) (record { ops = w.ops; groups = w.groups; room = w.room; current = w.current })
 
-reads_within : (b : Made) (line : List ℕ) (a : Made) → IsReads b line a → IsWithin b → IsWithin a
+reads_within : Keeps IsWithin IsReads
 reads_within b line a p w = subst IsWithin (sym p.made) (record { ops = w.ops; groups = w.groups; room = w.room; current = w.current })
 
-op_within : (b : Made) (line : List ℕ) (a : Made) → IsOp b line a → IsWithin b → IsWithin a
+op_within : Keeps IsWithin IsOp
 op_within b line a p w =
     let room : length b.ops < 32768 = p.valid.allowed.staged.room in
     subst IsWithin (sym p.made) (record {
@@ -77,7 +71,7 @@ op_within b line a p w =
       current = w.current;
     })
 
-begun_within : (b : Made) (line : List ℕ) (a : Made) → IsGroup b line a → IsWithin b → IsWithin a
+begun_within : Keeps IsWithin IsGroup
 begun_within b line a p w =
     let new : IsGroupWithin (group_with p.group.name p.group.present) = record { states = omega arith; args = omega arith; body = tt } in
     subst IsWithin (sym p.made) (record {
@@ -87,7 +81,7 @@ begun_within b line a p w =
       current = subst IsGroupWithin (sym p.valid.made) new;
     })
 
-part_within : (word : LineWord) (b : Made) (line : List ℕ) (a : Made) → IsPart word b line a → IsWithin b → IsWithin a
+part_within : (word : LineWord) → Keeps IsWithin (IsPart word)
 part_within word b line a p w =
     let room = subst (λ o. IfSome o (λ group. length b.groups < MAX_GROUPBYS)) p.current w.room in
     let old = subst (λ o. IfSome o IsGroupWithin) p.current w.current in
@@ -98,7 +92,7 @@ part_within word b line a p w =
       current = group_within word p.fields b.ops p.group line p.next p.valid old;
     })
 
-fold_within : (b : Made) (line : List ℕ) (a : Made) → IsFold b line a → IsWithin b → IsWithin a
+fold_within : Keeps IsWithin IsFold
 fold_within b line a p w =
     let room : length b.groups < MAX_GROUPBYS = subst (λ o. IfSome o (λ group. length b.groups < MAX_GROUPBYS)) p.current w.room in
     subst IsWithin (sym p.made) (record {
@@ -108,22 +102,10 @@ fold_within b line a p w =
       current = tt;
     })
 
-print_within : (b : Made) (line : List ℕ) (a : Made) → IsPrint b line a → IsWithin b → IsWithin a
+print_within : Keeps IsWithin IsPrint
 print_within b line a p w = subst IsWithin (sym p.made) (record { ops = w.ops; groups = w.groups; room = w.room; current = w.current })
 
-of_within : (word : LineWord) (b : Made) (line : List ℕ) (a : Made) → IsLineOf word b line a → IsWithin b → IsWithin a
-of_within words.Plan b line a p w = first_within b line a p w
-of_within words.Reads b line a p w = reads_within b line a p w
-of_within words.Op b line a p w = op_within b line a p w
-of_within words.Group b line a p w = begun_within b line a p w
-of_within words.Key b line a p w = part_within words.Key b line a p w
-of_within words.Arg b line a p w = part_within words.Arg b line a p w
-of_within words.State b line a p w = part_within words.State b line a p w
-of_within words.Body b line a p w = part_within words.Body b line a p w
-of_within words.Fold b line a p w = fold_within b line a p w
-of_within words.Print b line a p w = print_within b line a p w
-of_within words.Other b line a p w = absurd p
-
 -- what one more line makes is within the limits too
-pub line_within : (b : Made) (line : List ℕ) (a : Made) → IsLine b line a → IsWithin b → IsWithin a
-line_within b line a p w = of_within (line_word line) b line a p w
+pub line_within : Keeps IsWithin IsLine
+line_within =
+    line_keeps IsWithin first_within reads_within op_within begun_within part_within fold_within print_within
