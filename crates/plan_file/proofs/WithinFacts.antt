@@ -5,7 +5,7 @@ use Rattle.query_lang.specs.{Blocks.Block, declared.fault.TheConstants.{MAX_ARGS
 use Rattle.stage_plan.specs.declared.op.PlanOp.{PlanOp}
 use Rattle.plan_file.specs.declared.{lexemes.Lexeme.Lexeme, line_word.LineWord.LineWord}
 use Rattle.plan_file.specs.declared.line_word.LineWord.TheVariants as words
-use Rattle.plan_file.specs.{declared.made.{Group.Group, Made.Made}, Bodies.IsBody}
+use Rattle.plan_file.specs.{declared.made.Group.Group, Bodies.IsBody}
 use Rattle.plan_file.specs.Groups.{IsInGroup, IsKeyLine, IsArgLine, IsStateLine, IsGroupBody, group_with}
 use Rattle.plan_file.specs.Lines.{IsLine, IsFirst, IsReads, IsOp, IsGroup, IsPart, IsFold, IsPrint, IsWithin, IsGroupWithin}
 use Rattle.plan_file.proofs.KeptFacts.{Keeps, line_keeps}

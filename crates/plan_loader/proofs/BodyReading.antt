@@ -45,15 +45,7 @@ closed : (n states : ℕ) (rest : List Lexeme) → Closes rest → read_block n 
 closed zero states rest c = refl
 closed (suc n) states [] c = refl
 closed (suc n) states (word.Close ∷ rest) c = refl
-closed (suc n) states (word.Set ∷ rest) c = absurd c
-closed (suc n) states (word.If ∷ rest) c = absurd c
-closed (suc n) states (word.Open ∷ rest) c = absurd c
-closed (suc n) states (word.Not ∷ rest) c = absurd c
-closed (suc n) states (word.Function op ∷ rest) c = absurd c
-closed (suc n) states (word.Number v ∷ rest) c = absurd c
-closed (suc n) states (word.State v ∷ rest) c = absurd c
-closed (suc n) states (word.Argument v ∷ rest) c = absurd c
-closed (suc n) states (word.Other ∷ rest) c = absurd c
+closed (suc n) states _ c = absurd c
 
 -- the parts of a choice, in sequence
 module _ (n states : ℕ) where

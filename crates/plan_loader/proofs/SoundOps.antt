@@ -5,29 +5,12 @@ use Rattle.std.proofs.lemmas.List.Elements.{All-contains, All-map, All-nil, All-
 use Rattle.std.proofs.lemmas.Option.{slice_get_within, slice_get_cases, same_Some}
 use Rattle.std.specs.Prelude.{slice_get, nat_lt, if◌then◌else◌, option_map, unwrap_or, Contains, All}
 use Rattle.marple_base.specs.declared.field.Field.{Field}
-use Rattle.marple_base.specs.declared.field.Field.TheVariants as fields
 use Rattle.marple_base.specs.{Field.number_of, declared.field.TheConstants.FIELDS}
 use Rattle.query_lang.specs.declared.fault.TheConstants.{MAX_STAGES}
 use Rattle.stage_plan.specs.{declared.op.{Operand.{Operand, TheVariants.{Register, Number}}, PlanOp.PlanOp}, Registers.operand_stage}
 use Rattle.stage_plan.{specs.Sound.{AreSoundOps, IsSoundOp, IsWithin}, proofs.{Depths.same_stage, Lists.push_cases, Runs.within_more}}
 use Rattle.stage_plan.proofs.Extending.{one_more}
-use Rattle.plan_file.specs.Operations.{IsKnown, IsAllowed, last_stage, stage_at, stage_of}
-
-number_below : (f : Field) → number_of f < FIELDS
-number_below fields.Switch = omega arith
-number_below fields.Qid = omega arith
-number_below fields.Uid = omega arith
-number_below fields.SrcIp = omega arith
-number_below fields.DstIp = omega arith
-number_below fields.SrcPort = omega arith
-number_below fields.DstPort = omega arith
-number_below fields.Proto = omega arith
-number_below fields.PktLen = omega arith
-number_below fields.PayloadLen = omega arith
-number_below fields.TcpSeq = omega arith
-number_below fields.Tin = omega arith
-number_below fields.Tout = omega arith
-number_below fields.QSize = omega arith
+use Rattle.plan_file.{specs.Operations.{IsKnown, IsAllowed, last_stage, stage_at, stage_of}, proofs.OperandFacts.number_below}
 
 all_below : (fs : List Field) → All (λ f. number_of f < FIELDS) fs
 all_below [] = All-nil (λ f. number_of f < FIELDS)
