@@ -4,3 +4,4 @@ pub mod SoundMade
 pub mod Folds
 pub mod SoundPlan
 pub mod OneFault
+pub mod SameUses

@@ -7,7 +7,7 @@ use Rattle.epoch_model.specs.{Driving.{Taken, uses_taken}, Epochs.{Geometry, Use
 use Rattle.epoch_entry.specs.Foldings.{folding_of}
 use Rattle.fold_class.specs.Kinds.{algebra_of}
 use Rattle.final_queries.specs.{declared.table.Table.Table, GroupTable.{Heading, group_table}}
-use Rattle.query_tables.specs.Tables.{table_text_at}
+use Rattle.query_tables.specs.Tables.{heading_of_shape, table_text_at}
 use Rattle.stage_plan.specs.{declared.group.GroupWiring.GroupWiring, Registers.{registers_after, stages_of, taken_at}}
 use Rattle.stage_plan.specs.Shape.{GroupShape, PlanShape, bound_of, sizes_of}
 use Rattle.plan_file.specs.declared.made.{Folded.Folded, Group.Group, Made.Made}
@@ -47,28 +47,6 @@ taken_in made one words = taken_at (wiring_in one) (registers_after made.ops wor
 abbrev pub uses_in : Made → Folded → List (List ℕ) → List Use
 uses_in made one packets = uses_taken 1 (map (taken_in made one) packets)
 
--- what the table of a group has beside its rows
-abbrev pub heading_in : Folded → Heading
-heading_in one = record {
-  name = one.group.name;
-  key_names = one.group.key_names;
-  state_names = one.group.state_names;
-  class = one.class;
-  depth = one.depth;
-}
-
--- the table of a group over packets
-abbrev pub table_in : Made → Geometry → List (List ℕ) → Folded → Table
-table_in made g packets one = group_table (heading_in one) (folding_of (fold_in one)) g (uses_in made one packets)
-
--- The tables of a plan's groups over packets, each with a word for each field.
-unfoldable pub plan_tables : Made → Geometry → List (List ℕ) → List Table
-plan_tables made g packets = map (table_in made g packets) made.groups
-
--- What a plan prints over packets: the texts of the tables that its `print` lines name, in their order.
-unfoldable pub plan_output : Made → Geometry → List (List ℕ) → List ℕ
-plan_output made g packets = flat_map (table_text_at (plan_tables made g packets)) made.prints
-
 -- a group with the sizes that its lines give
 abbrev pub shape_in : Folded → GroupShape
 shape_in one = record {
@@ -82,6 +60,22 @@ shape_in one = record {
   nodes = one.nodes;
   statements = one.statements;
 }
+
+-- what the table of a group has beside its rows
+abbrev pub heading_in : Folded → Heading
+heading_in one = heading_of_shape (shape_in one)
+
+-- the table of a group over packets
+abbrev pub table_in : Made → Geometry → List (List ℕ) → Folded → Table
+table_in made g packets one = group_table (heading_in one) (folding_of (fold_in one)) g (uses_in made one packets)
+
+-- The tables of a plan's groups over packets, each with a word for each field.
+unfoldable pub plan_tables : Made → Geometry → List (List ℕ) → List Table
+plan_tables made g packets = map (table_in made g packets) made.groups
+
+-- What a plan prints over packets: the texts of the tables that its `print` lines name, in their order.
+unfoldable pub plan_output : Made → Geometry → List (List ℕ) → List ℕ
+plan_output made g packets = flat_map (table_text_at (plan_tables made g packets)) made.prints
 
 -- the sizes that a text gives
 abbrev pub text_shape : Made → PlanShape
