@@ -3,8 +3,8 @@ use Rattle.marple_laws.proofs.Words.{◌≡◌, ℕ, suc, ◌+◌, ◌^◌, ◌<
 use Rattle.marple_laws.proofs.Words.{◌∙◌, inl, inr, arith, Contains, All, codes, cases_lt, All-head, All-tail, Field, Switch, Qid, Uid}
 use Rattle.marple_laws.proofs.Words.{SrcIp, DstIp, SrcPort, DstPort, Proto, PktLen, PayloadLen, TcpSeq, Tin, Tout, QSize, FieldSet}
 use Rattle.marple_laws.proofs.Words.{number_of, field_name, all_fields, has_field, FIELDS, Operand, Register, Number, PlanOp, IsWithin}
-use Rattle.marple_laws.proofs.Words.{Made, word_named, nothing, AreFrom, IsKnown, fields_of, reads_line, line}
-use Rattle.std.specs.Prelude.{map, filter}
+use Rattle.marple_laws.proofs.Words.{and_parts, nat_tests, Made, word_named, nothing, AreFrom, IsKnown, fields_of, reads_line, line}
+use Rattle.std.specs.Prelude.{map, filter, nat_le, ◌&&◌}
 use Rattle.plan_file.specs.declared.line_word.LineWord.TheVariants as lead
 use Rattle.marple_laws.proofs.{GroupLines.{IsReadable, AreReadable}, Listed.IsIn, Known.{IsGood, AllGood}, OpLines.{Fits, with_ops}}
 use Rattle.marple_laws.proofs.{Tokens.{is_token, AreTokens}, Written.{IsWritten, line_written}}
@@ -66,26 +66,19 @@ from_filter test (f ∷ fields) least h = by (test f) (from_filter test fields (
     by true rest = (h.0, rest)
     by false rest = from_less (filter test fields) least (number_of f + 1) (omega (arith, h.0)) rest
 
+abbrev are_ordered : ℕ → List Field → Bool
+are_ordered least [] = true
+are_ordered least (f ∷ fields) = nat_le least (number_of f) && are_ordered (number_of f + 1) fields
+
+ordered : (least : ℕ) (fields : List Field) → are_ordered least fields ≡ true → AreFrom least fields
+ordered least [] e = tt
+ordered least (f ∷ fields) e =
+    let both = and_parts (nat_le least (number_of f)) (are_ordered (number_of f + 1) fields) e in
+    let first : nat_le least (number_of f) ≡ true = both.0 in
+    (grind (arith, nat_tests), ordered (number_of f + 1) fields both.1)
+
 all_ordered : AreFrom 0 all_fields
-all_ordered = (
-  omega arith,
-  (
-    omega arith,
-    (
-      omega arith,
-      (
-        omega arith,
-        (
-          omega arith,
-          (
-            omega arith,
-            (omega arith, (omega arith, (omega arith, (omega arith, (omega arith, (omega arith, (omega arith, (omega arith, tt)))))))),
-          ),
-        ),
-      ),
-    ),
-  ),
-)
+all_ordered = ordered 0 all_fields refl
 
 token_field : (f : Field) → is_token (field_name f) ≡ true
 token_field Switch = refl

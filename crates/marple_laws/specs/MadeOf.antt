@@ -4,15 +4,13 @@ use Rattle.query_lang.specs.declared.{fold.TypedFold.TypedFold, typed.PrintOf.Pr
 use Rattle.query_lang.specs.declared.typed.PrintOf.TheVariants as printed
 use Rattle.query_lang.specs.{declared.typed.TypedQuery.TypedQuery, Folds.fold_block, Streams.takings}
 use Rattle.stage_plan.specs.{declared.group.GroupWiring.GroupWiring, Fields.reads_of, Planned.fold_at, Shape.{GroupShape, query_groups}}
-use Rattle.plan_file.specs.{declared.made.{Folded.Folded, Made.Made}, Bodies.written_block}
+use Rattle.plan_file.specs.{Groups.group_with, declared.made.{Folded.Folded, Made.Made}, Bodies.written_block}
 use Rattle.plan_writer.specs.{Ordered.{query_ops, query_wiring}, PlanText.fields_of}
 
 -- a groupby as its lines make it
 abbrev pub folded_with : GroupShape → GroupWiring → TypedFold → Folded
 folded_with shape wiring f = record {
-  group = record {
-    name = shape.name;
-    present = wiring.present;
+  group = record (group_with shape.name wiring.present) {
     key_names = shape.key_names;
     keys = wiring.keys;
     args = wiring.args;
