@@ -89,30 +89,44 @@ fn has_deep(ops: &[PlanOp]) -> bool
     ops.iter().any(|one| MAX_STAGES < one.stage)
 }
 
+// Adds what each stream makes to the packets, which alone are made before, or finds the first stream that is too deep.
+fn make_each(alloc: Global, q: &TypedQuery, made: &mut MadeStreams) -> Result<(), QueryError>
+    requires valid { IsValidQuery q.now }
+    requires none { made.old.ops ≡ [] }
+    requires packets { made.old.streams ≡ packet_wires ∷ [] }
+    ensures made { OnOk result (MadeOf q.now made.new.ops made.new.streams) }
+    ensures refused { IfErr result (IsTold (made_fault q.now.folds [] (packet_wires ∷ []) q.now.streams)) }
+{
+    for one in q.streams.as_slice() {
+        let wires = make_stream(
+            alloc,
+            &mut made.ops,
+            q.folds.as_slice(),
+            made.streams.as_slice(),
+            &one.op,
+        )?;
+        if has_deep(made.ops.as_slice()) {
+            return Err(QueryError::Refused(QueryFault {
+                kind: FaultKind::OverLimit(Limit::Stages),
+                span: one.name.span,
+            }));
+        }
+        made.streams.push(wires)?;
+    }
+    Ok(())
+}
+
 // The operations of all streams, or the first stream that is too deep.
 pub(crate) fn make_streams(alloc: Global, q: &TypedQuery) -> Result<MadeStreams, QueryError>
     requires { IsValidQuery q.now }
     ensures made { IfOk result (λ made. MadeOf q.now made.ops made.streams) }
     ensures refused { IfErr result (IsTold (made_fault q.now.folds [] (packet_wires ∷ []) q.now.streams)) }
 {
-    let mut ops = Seq::new(alloc);
-    let mut streams = Seq::new(alloc);
-    streams.push(packets(alloc)?)?;
-    for one in q.streams.as_slice() {
-        let wires = make_stream(
-            alloc,
-            &mut ops,
-            q.folds.as_slice(),
-            streams.as_slice(),
-            &one.op,
-        )?;
-        if has_deep(ops.as_slice()) {
-            return Err(QueryError::Refused(QueryFault {
-                kind: FaultKind::OverLimit(Limit::Stages),
-                span: one.name.span,
-            }));
-        }
-        streams.push(wires)?;
-    }
-    Ok(MadeStreams { ops, streams })
+    let mut made = MadeStreams {
+        ops: Seq::new(alloc),
+        streams: Seq::new(alloc),
+    };
+    made.streams.push(packets(alloc)?)?;
+    make_each(alloc, q, &mut made)?;
+    Ok(made)
 }
