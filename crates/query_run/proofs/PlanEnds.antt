@@ -1,19 +1,18 @@
 -- The tables that the pipeline of a plan gives at the end of packets are those of the plan's text.
-use Rattle.std.proofs.Common.{◌≡◌, ℕ, suc, ◌+◌, ◌<◌, List, [], ◌∷◌, length, map, drop, Option, Some, refl, sym, ap, ap₂, ◌∙◌, subst, arith}
-use Rattle.std.proofs.{Common.length-append, lemmas.{List.{length-map, Elements.All-map}, Option.slice_get-map}}
-use Rattle.std.specs.{Prelude.{slice_get, option_map, unwrap_or, flat_map, slice_index_or}, List.All}
+use Rattle.std.proofs.Common.{◌≡◌, ℕ, suc, ◌+◌, ◌<◌, List, [], ◌∷◌, length, map, drop, Some, refl, sym, ap, ap₂, ◌∙◌, subst, arith}
+use Rattle.std.proofs.{Common.length-append, lemmas.List.{length-map, Elements.All-map}}
+use Rattle.std.specs.{Prelude.{slice_get, flat_map, slice_index_or}, List.All}
 use Rattle.marple_base.specs.declared.field.TheConstants.{FIELDS}
 use Rattle.epoch_entry.specs.{declared.purpose.Entries.TheVariants.Folds, Foldings.folding_of}
-use Rattle.epoch_model.specs.{Driving.{Taken, TakenUsesAreInTrace, uses_taken}, Epochs.Geometry, Laws.{HasRoom, IsInTrace}, Machine.end_of}
+use Rattle.epoch_model.specs.{Driving.TakenUsesAreInTrace, Epochs.Geometry, Laws.{HasRoom, IsInTrace}, Machine.end_of}
 use Rattle.final_queries.specs.FinalLaws.{AreAlike, AlikeFoldingsMakeOneTable}
-use Rattle.final_queries.specs.GroupTable.{ClosedGiveTheGroupTable, Heading, closed_table, group_table}
+use Rattle.final_queries.specs.GroupTable.{ClosedGiveTheGroupTable, closed_table, group_table}
 use Rattle.plan_file.specs.declared.made.{Folded.Folded, Made.Made}
-use Rattle.plan_loader.specs.Meaning.{fold_in, heading_in, plan_output, plan_tables, table_in, uses_in, wiring_in}
+use Rattle.plan_loader.specs.Meaning.{fold_in, heading_in, plan_output, plan_tables, table_in, uses_in}
 use Rattle.plan_loader.specs.Parts.{AreGroupsFrom, IsGroupFrom, IsPlanFrom, IsSoundFolded, IsSoundMade}
-use Rattle.plan_loader.proofs.{Folds.{fold_in_is, foldings}, SoundPlan.{all_at, shape_same}}
-use Rattle.query_tables.specs.Tables.{table_text_at}
-use Rattle.stage_plan.specs.declared.{group.{GroupPlan.GroupPlan, GroupWiring.GroupWiring}, op.{Operand.TheVariants.Number, PlanOp.PlanOp}}
-use Rattle.stage_plan.specs.{Planned.{taken, wiring_at}, Registers.{registers_after, stages_of, taken_at}, Shape.GroupShape}
+use Rattle.plan_loader.proofs.{Folds.{fold_in_is, foldings}, SameUses.uses_same, SoundPlan.{all_at, shape_same}}
+use Rattle.query_tables.specs.Tables.{heading_of_shape, table_text_at}
+use Rattle.stage_plan.specs.{declared.group.GroupPlan.GroupPlan, Planned.taken}
 use Rattle.stage_plan.specs.Sound.{PlanParts}
 use Rattle.switch_core.specs.{Pipelines.{heading_of, tables_of}, PlanLanes.{AreLanesOf, LaneView, folding_at}, Rows.EachFrom}
 use Rattle.trace_drive.specs.Drives.{end_machines, ends_from, uses_by}
@@ -23,35 +22,13 @@ use Rattle.query_run.proofs.QueryEnds.{IsFoldLane, first_at}
 -- a groupby's table has, but for its rows, what its group gives
 heading_same : (registers : ℕ) (one : Folded) (group : GroupPlan) → IsSoundFolded registers one → IsGroupFrom one group
     → heading_of group ≡ heading_in one
-heading_same registers one group s from =
-    let of : GroupShape → Heading = λ shape. record {
-      name = shape.name;
-      key_names = shape.key_names;
-      state_names =
-          shape.state_names;
-      class = shape.class;
-      depth = shape.depth;
-    } in
-    ap of (shape_same registers one group s from)
+heading_same registers one group s from = ap heading_of_shape (shape_same registers one group s from)
 
 module _ (law : AlikeFoldingsMakeOneTable) (closed : ClosedGiveTheGroupTable) (order : TakenUsesAreInTrace) (made : Made) (plan : PlanParts)
     (buckets : ℕ) (g : Geometry) (packets : List (List ℕ)) (sound : IsSoundMade made) (from : IsPlanFrom made plan) (room : HasRoom g) where
   in_trace : (i : ℕ) → IsInTrace (length packets) (uses_by plan i packets)
   in_trace i = subst (λ n. IsInTrace n (uses_by plan i packets)) (length-map packets (taken plan i))
       (order.order (map (taken plan i) packets))
-
-  wiring_same : (i : ℕ) (one : Folded) → slice_get made.groups i ≡ Some one → wiring_at plan i ≡ wiring_in one
-  wiring_same i one at =
-      let none : GroupWiring = record { present = Number 0; keys = []; args = [] } in
-      ap (λ ws. unwrap_or (slice_get ws i) none) from.wiring
-      ∙ ap (λ w. unwrap_or w none) (slice_get-map wiring_in made.groups i ∙ ap (option_map wiring_in) at)
-
-  uses_same : (i : ℕ) (one : Folded) → slice_get made.groups i ≡ Some one → uses_by plan i packets ≡ uses_in made one packets
-  uses_same i one at =
-      let take : GroupWiring → List PlanOp → List ℕ → Option Taken = λ w ops words. taken_at w
-      (registers_after ops words (stages_of ops)) in
-      ap (λ w. uses_taken 1 (map (take w plan.ops) packets)) (wiring_same i one at)
-      ∙ ap (λ ops. uses_taken 1 (map (take (wiring_in one) ops) packets)) from.ops
 
   one_table : (i : ℕ) (one : Folded) (group : GroupPlan) (lane : LaneView) → slice_get made.groups i ≡ Some one → IsGroupFrom one group
       → IsFoldLane plan buckets i lane group
@@ -65,7 +42,7 @@ module _ (law : AlikeFoldingsMakeOneTable) (closed : ClosedGiveTheGroupTable) (o
       let registers = FIELDS + length made.ops in
       law.by_closed (heading_of group) (folding_at lane) (folding_of is.fold) (end_of g (uses_by plan i packets) (length packets)).closed
       alike ∙ closed (heading_of group) (folding_of is.fold) g (uses_by plan i packets) (length packets) room (in_trace i)
-      ∙ ap (group_table (heading_of group) (folding_of is.fold) g) (uses_same i one at)
+      ∙ ap (group_table (heading_of group) (folding_of is.fold) g) (uses_same made plan from i one at packets)
       ∙ ap (λ f. group_table (heading_of group) f g (uses_in made one packets))
       (foldings one.group is.fold (fold_in one) fold (fold_in_is one is.fold fold))
       ∙ ap (λ h. group_table h (folding_of (fold_in one)) g (uses_in made one packets))
