@@ -97,11 +97,7 @@ module _ {O : Type 0} (taken : O → Option (List ℕ)) (faults : O → ℕ) (co
       kept,
       refl,
     )
-    by_operand statuses.Ok ended = absurd ended
-    by_operand statuses.Usage ended = absurd ended
-    by_operand (statuses.InputFault Trace) ended = absurd ended
-    by_operand (statuses.TraceRefused fault) ended = absurd ended
-    by_operand statuses.OutputFault ended = absurd ended
+    by_operand _ ended = absurd ended
 
     pub operand_ended : (status : Status) → OperandEnds Refuses (before Query) (after Query) status
         → Ended taken faults command before after out out status
@@ -137,11 +133,7 @@ module _ {O : Type 0} (taken : O → Option (List ℕ)) (faults : O → ℕ) (co
         λ query trace holds. let is = is_text query trace holds in record
             { accepted = is.0; front = subst (TakesFront (taken old) (taken new)) is.1 ended.1 },
       )
-      by_writing statuses.Ok ended = absurd ended
-      by_writing statuses.Usage ended = absurd ended
-      by_writing (statuses.InputFault which) ended = absurd ended
-      by_writing (statuses.QueryRefused fault) ended = absurd ended
-      by_writing (statuses.TraceRefused fault) ended = absurd ended
+      by_writing _ ended = absurd ended
 
       pub writing_ended : (status : Status) → WriteEnds taken faults text old new status
           → Ended taken faults command before after old new status
@@ -202,10 +194,7 @@ module _ {O : Type 0} (taken : O → Option (List ℕ)) (faults : O → ℕ) (co
               front = subst (TakesFront (taken old) (taken new)) (sym (same query trace holds).1) cut.1;
             },
       )
-      by_trace statuses.Ok ended = absurd ended
-      by_trace statuses.Usage ended = absurd ended
-      by_trace (statuses.InputFault Query) ended = absurd ended
-      by_trace (statuses.QueryRefused found) ended = absurd ended
+      by_trace _ ended = absurd ended
 
 -- the pipeline of a query's plan, which represents the machines of the plan at the end, represents those of the query
 pub query_stands : (setting : Setting) (found : TypedQuery) (plan : PlanParts) → IsPlanOf found plan → (p : PipelineView) → p.plan ≡ plan
@@ -257,12 +246,7 @@ trial_is_text generation setting before query trace holds = (record { by_query =
 module _ (command : Command) (before : Which → Input) (old new : Option Driven) (kept : new ≡ old) where
   kept_by : (status : Status) → (status ≡ statuses.Ok → ⊥) → DrivenAfter (Some command) before old new status
   kept_by statuses.Ok other = absurd (other refl)
-  kept_by statuses.Memory other = kept
-  kept_by statuses.Usage other = kept
-  kept_by (statuses.InputFault which) other = kept
-  kept_by (statuses.QueryRefused fault) other = kept
-  kept_by (statuses.TraceRefused fault) other = kept
-  kept_by statuses.OutputFault other = kept
+  kept_by _ other = kept
 
   pub driven_kept : (result : Result (Unit {0}) Status) (status : Status) → IsErrAnd result (λ found. found ≡ status)
       → (status ≡ statuses.Ok → ⊥) → DrivenAfter (Some command) before old new (status_of result)

@@ -1,13 +1,10 @@
 -- a compilation ends as its phases do: the query is read and has a plan's text, which is made, and then it is written
 use Rattle.command_line.specs.declared.command.Command.TheVariants.{Compile}
-use Rattle.std.proofs.Common.{◌∙◌, refl, Some}
+use Rattle.std.proofs.Common.{◌∙◌, refl}
 use Rattle.command_answers.specs.{OwnChecks.fault_with, declared.status.Status.TheVariants.OutputFault}
 use Rattle.plan_writer.specs.PlanText.{final_fault}
 use Rattle.marple_cli.proofs.{Ending.{all_written, handed_on, query_fits, query_ended, memory_ended, writing_ended}, Texts.compiled_is}
-use Rattle.marple_cli.proofs.Taken.{query_lost}
-use Rattle.marple_cli.specs.Call.{LosesWhatIsRead}
 use Rattle.marple_cli.proofs.compile.compile.Goals as goal
-use Rattle.marple_cli.proofs.compile.compile.Goals.{After-query_for}
 
 pub returns-in_err-query-clause-ends : goal.returns-in_err-query-clause-ends
 returns-in_err-query-clause-ends g c =
@@ -39,22 +36,3 @@ returns-clause-ends g c =
     (query_fits Compile final_fault (g.I.Inputs.input c.args.inputs.now) found (λ query. refl) done.ok done.fits) c.as_slice.result.now
     (compiled_is (g.I.Inputs.input c.args.inputs.now) found done.ok c.as_slice.result.now done.fits
     (c.as_slice.ensures ∙ c.in_ok-text.ensures)) c.in_ok-write_all.ensures.ok
-
--- the query alone is read, whatever comes after it
-query_only : (g : _) (c : After-query_for g)
-    → LosesWhatIsRead (Some Compile) (g.I.Inputs.input c.args.inputs.now) (g.I.Inputs.input c.query_for.new.inputs)
-query_only g c =
-    query_lost (Some Compile) (g.I.Inputs.input c.args.inputs.now) (g.I.Inputs.input c.query_for.new.inputs) c.query_for.ensures.lost
-    c.query_for.ensures.trace_kept
-
-pub returns-in_err-query-clause-lost : goal.returns-in_err-query-clause-lost
-returns-in_err-query-clause-lost g c = query_only g (goal.at.returns-in_err-query-clause-lost g c).After-query_for
-
-pub returns-in_err-text-clause-lost : goal.returns-in_err-text-clause-lost
-returns-in_err-text-clause-lost g c = query_only g (goal.at.returns-in_err-text-clause-lost g c).After-query_for
-
-pub returns-in_err-write_all-clause-lost : goal.returns-in_err-write_all-clause-lost
-returns-in_err-write_all-clause-lost g c = query_only g (goal.at.returns-in_err-write_all-clause-lost g c).After-query_for
-
-pub returns-clause-lost : goal.returns-clause-lost
-returns-clause-lost g c = query_only g (goal.at.returns-clause-lost g c).After-query_for

@@ -1,6 +1,7 @@
 -- Each command ends as the function that performs it does, and one that takes no input loses nothing of either.
 use Rattle.std.proofs.Common.{refl, Some}
-use Rattle.marple_cli.proofs.Taken.{none_lost}
+use Rattle.command_line.specs.declared.command.Command.TheVariants.{Compile, Plan}
+use Rattle.marple_cli.proofs.Taken.{none_lost, query_lost}
 use Rattle.marple_cli.proofs.perform.perform.Goals as goal
 
 pub returns-in-Gen-clause-ends : goal.returns-in-Gen-clause-ends
@@ -30,7 +31,8 @@ pub returns-in-Run-clause-lost : goal.returns-in-Run-clause-lost
 returns-in-Run-clause-lost g c = rw c.in-Run.is c.run.ensures.lost
 
 pub returns-in-Plan-clause-lost : goal.returns-in-Plan-clause-lost
-returns-in-Plan-clause-lost g c = rw c.in-Plan.is c.write_stages.ensures.lost
+returns-in-Plan-clause-lost g c = rw c.in-Plan.is (query_lost (Some (Plan c.in-Plan.ways)) (g.I.Inputs.input c.args.inputs.now)
+    (g.I.Inputs.input c.write_stages.new.inputs) c.write_stages.ensures.lost c.write_stages.ensures.trace_kept)
 
 pub returns-in-Net-clause-lost : goal.returns-in-Net-clause-lost
 returns-in-Net-clause-lost g c = rw c.in-Net.is c.run_network.ensures.lost
@@ -39,7 +41,8 @@ pub returns-in-Enclose-clause-lost : goal.returns-in-Enclose-clause-lost
 returns-in-Enclose-clause-lost g c = rw c.in-Enclose.is c.enclose.ensures.lost
 
 pub returns-in-Compile-clause-lost : goal.returns-in-Compile-clause-lost
-returns-in-Compile-clause-lost g c = rw c.in-Compile.is c.compile.ensures.lost
+returns-in-Compile-clause-lost g c = rw c.in-Compile.is (query_lost (Some Compile) (g.I.Inputs.input c.args.inputs.now)
+    (g.I.Inputs.input c.compile.new.inputs) c.compile.ensures.lost c.compile.ensures.trace_kept)
 
 pub returns-in-RunPlan-clause-lost : goal.returns-in-RunPlan-clause-lost
 returns-in-RunPlan-clause-lost g c = rw c.in-RunPlan.is c.run_plan.ensures.lost

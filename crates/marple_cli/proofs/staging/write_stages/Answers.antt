@@ -1,14 +1,11 @@
 -- stages end as their phases do: the query is read, its plan's text is made, and then it is written
 use Rattle.command_line.specs.{declared.command.Command.TheVariants.Plan, Command.ways_number}
-use Rattle.std.proofs.Common.{◌∙◌, ap, refl, Some}
+use Rattle.std.proofs.Common.{◌∙◌, ap, refl}
 use Rattle.accepted_query.specs.Accepted.{query_fault}
 use Rattle.command_answers.specs.declared.status.Status.TheVariants.{OutputFault}
 use Rattle.stage_plan.specs.{Planned.shape_of, Shape.plan_text_of}
 use Rattle.marple_cli.proofs.Ending.{all_written, handed_on, query_told, stages_are_text, query_ended, memory_ended, writing_ended}
-use Rattle.marple_cli.proofs.Taken.{query_lost}
-use Rattle.marple_cli.specs.Call.{LosesWhatIsRead}
 use Rattle.marple_cli.proofs.staging.write_stages.Goals as goal
-use Rattle.marple_cli.proofs.staging.write_stages.Goals.{After-read_query}
 
 pub returns-in_err-query-clause-ends : goal.returns-in_err-query-clause-ends
 returns-in_err-query-clause-ends g c =
@@ -44,22 +41,3 @@ returns-clause-ends g c =
     (g.I.Inputs.input c.read_query.new.inputs) c.args.out.now c.write_all.new.out
     (query_told (Plan c.args.ways) (g.I.Inputs.input c.args.inputs.now) found (λ query. refl) done.ok) c.as_slice.result.now
     (stages_are_text c.args.ways (g.I.Inputs.input c.args.inputs.now) found c.as_slice.result.now done.ok text) c.in_ok-write_all.ensures.ok
-
--- the query alone is read, whatever comes after it
-query_only : (g : _) (c : After-read_query g)
-    → LosesWhatIsRead (Some (Plan c.args.ways)) (g.I.Inputs.input c.args.inputs.now) (g.I.Inputs.input c.read_query.new.inputs)
-query_only g c =
-    query_lost (Some (Plan c.args.ways)) (g.I.Inputs.input c.args.inputs.now) (g.I.Inputs.input c.read_query.new.inputs)
-    c.read_query.ensures.lost c.read_query.ensures.trace_kept
-
-pub returns-in_err-query-clause-lost : goal.returns-in_err-query-clause-lost
-returns-in_err-query-clause-lost g c = query_only g (goal.at.returns-in_err-query-clause-lost g c).After-read_query
-
-pub returns-in_err-text-clause-lost : goal.returns-in_err-text-clause-lost
-returns-in_err-text-clause-lost g c = query_only g (goal.at.returns-in_err-text-clause-lost g c).After-read_query
-
-pub returns-in_err-write_all-clause-lost : goal.returns-in_err-write_all-clause-lost
-returns-in_err-write_all-clause-lost g c = query_only g (goal.at.returns-in_err-write_all-clause-lost g c).After-read_query
-
-pub returns-clause-lost : goal.returns-clause-lost
-returns-clause-lost g c = query_only g (goal.at.returns-clause-lost g c).After-read_query
