@@ -14,6 +14,11 @@ pub and_true_right : (a b : Bool) → (a && b) ≡ true → b ≡ true
 and_true_right true b e = e
 and_true_right false b e = cc
 
+-- what passes at a fork: both blocks, and what follows
+pub and_three : (a b c : Bool) → ((a && b) && c) ≡ true → (a ≡ true) × ((b ≡ true) × (c ≡ true))
+and_three a b c e =
+    let front = and_true_left (a && b) c e in (and_true_left a b front, (and_true_right a b front, and_true_right (a && b) c e))
+
 pub length-after : (b : Block) (args state : List ℕ) → length (after b args state) ≡ length state
 length-after End args state = refl
 length-after (Set v e rest) args state = length-after rest args (set state v (term_value e (state ++ args)))
@@ -57,14 +62,10 @@ module _ (states : ℕ) (known : ℕ → Bool) where
     idle End _ _ h = refl
     idle (Set v e _) _ _ h = cc
     idle (Fork c a b rest) args state h =
-        let front = and_true_left _ _ h in
-        let ia = idle a _ _ (and_true_left _ _ front) in
-        let ib = idle b _ _ (and_true_right _ _ front) in
+        let parts = and_three _ _ _ h in
         cc (
-          either (holds (term_value c (state ++ args))) ia ib,
-          idle rest args state
-              (and_true_right (all_pass states known passes false a && all_pass states known passes false b)
-              (all_pass states known passes false rest) h),
+          either (holds (term_value c (state ++ args))) (idle a _ _ parts.0) (idle b _ _ parts.1.0),
+          idle rest args state parts.1.1,
         )
       where
         either : (h : Bool) → after a args state ≡ state → after b args state ≡ state

@@ -1,99 +1,47 @@
 -- A choice makes a mask for each branch, and the instructions of the branches under them are those of the statement.
-use Rattle.std.proofs.Common.{rules, ap, arith, ◌∙◌}
-use Rattle.query_lang.specs.{declared.fold.TypedStmt.TheViews.the_lemmas, Blocks.block_of}
-use Rattle.fold_code.{specs.Code.block_size, proofs.CodeLemmas.{size_if, emitted_if, size_rest, code_rest, code_end, size_end}}
+use Rattle.std.proofs.Common.{refl, rules, arith, vec_len}
+use Rattle.query_lang.specs.declared.fold.TypedStmt.TheViews.{the_lemmas}
+use Rattle.fold_code.proofs.CodeLemmas.{emits_all, emits_more, emits_room, emitted_if, size_choice}
 use Rattle.fold_code.proofs.emit.+emit_stmt.Goals as goal
 
 pub emit_stmt-requires : goal.emit_stmt-requires
-emit_stmt-requires t c = (
-  search (rules, the_lemmas),
-  omega (
-    arith,
-    c.requires.room,
-    size_if c.args.s.now c.in-If.c c.in-If.a c.in-If.b c.in-If.is,
-    ap (λ l. block_size (block_of l)) c.as_slice-inner-items.ensures,
-    size_rest c.as_slice-inner-items.result.now c.then_block.inner-index c.inner-item.result c.then_block-test.true c.inner-item.is,
-    c.then_block.invariant.length,
-    c.in_ok-condition-in-If.ensures.length,
-    c.in_ok-then_mask-in-If.ensures.length,
-    c.in_ok-else_mask-in-If.ensures.length,
-  ),
-)
+emit_stmt-requires t c =
+    let size = size_choice (vec_len c.args.code.now) c.in-If.is c.as_slice-inner-items.ensures refl c.in_ok-condition-in-If.ensures.length
+    c.in_ok-then_mask-in-If.ensures.length c.in_ok-else_mask-in-If.ensures.length in
+    (search (rules, the_lemmas), emits_room c.then_block.invariant c.then_block-test.true c.inner-item.is (omega (arith, size, c.requires.room)))
 
 pub then_block-preserved : goal.then_block-preserved
-then_block-preserved t c = record {
-  items = code_rest _ _ c.as_slice-inner-items.result.now c.then_block.inner-index c.inner-item.result _ _ _ _ c.then_block-test.true
-      c.inner-item.is c.in_ok-emit_stmt-in-If.ensures.items c.in_ok-emit_stmt-in-If.ensures.length ∙ c.then_block.invariant.items;
-  length = omega (
-    arith,
-    c.then_block.invariant.length,
-    c.in_ok-emit_stmt-in-If.ensures.length,
-    size_rest c.as_slice-inner-items.result.now c.then_block.inner-index c.inner-item.result c.then_block-test.true c.inner-item.is,
-  );
-}
+then_block-preserved t c = emits_more c.then_block.invariant c.then_block-test.true c.inner-item.is c.in_ok-emit_stmt-in-If.ensures.items
+    c.in_ok-emit_stmt-in-If.ensures.length
 
 pub emit_stmt-requires-in-else_block : goal.emit_stmt-requires-in-else_block
-emit_stmt-requires-in-else_block t c = (
-  search (rules, the_lemmas),
-  omega (
-    arith,
-    c.requires.room,
-    size_if c.args.s.now c.in-If.c c.in-If.a c.in-If.b c.in-If.is,
-    ap (λ l. block_size (block_of l)) c.as_slice-inner-items.ensures,
-    ap (λ l. block_size (block_of l)) c.as_slice-inner-items-in-If.ensures,
-    size_end c.as_slice-inner-items.result.now c.then_block.inner-index c.then_block-test.false,
-    size_rest c.as_slice-inner-items-in-If.result.now c.else_block.inner-index c.inner-item-in-else_block.result c.else_block-test.true
-        c.inner-item-in-else_block.is,
-    c.then_block.invariant.length,
-    c.else_block.invariant.length,
-    c.in_ok-condition-in-If.ensures.length,
-    c.in_ok-then_mask-in-If.ensures.length,
-    c.in_ok-else_mask-in-If.ensures.length,
-  ),
-)
+emit_stmt-requires-in-else_block t c =
+    let size = size_choice (vec_len c.args.code.now) c.in-If.is c.as_slice-inner-items.ensures c.as_slice-inner-items-in-If.ensures
+    c.in_ok-condition-in-If.ensures.length c.in_ok-then_mask-in-If.ensures.length c.in_ok-else_mask-in-If.ensures.length in
+    let first = (emits_all c.then_block.invariant c.then_block-test.false).1 in (
+      search (rules, the_lemmas),
+      emits_room c.else_block.invariant c.else_block-test.true c.inner-item-in-else_block.is (omega (arith, size, first, c.requires.room)),
+    )
 
 pub else_block-preserved : goal.else_block-preserved
-else_block-preserved t c = record {
-  items = code_rest _ _ c.as_slice-inner-items-in-If.result.now c.else_block.inner-index c.inner-item-in-else_block.result _ _ _ _
-      c.else_block-test.true c.inner-item-in-else_block.is c.in_ok-emit_stmt-in-If-2.ensures.items c.in_ok-emit_stmt-in-If-2.ensures.length
-      ∙ c.else_block.invariant.items;
-  length = omega (
-    arith,
-    c.else_block.invariant.length,
-    c.in_ok-emit_stmt-in-If-2.ensures.length,
-    size_rest c.as_slice-inner-items-in-If.result.now c.else_block.inner-index c.inner-item-in-else_block.result c.else_block-test.true
-        c.inner-item-in-else_block.is,
-  );
-}
+else_block-preserved t c = emits_more c.else_block.invariant c.else_block-test.true c.inner-item-in-else_block.is
+    c.in_ok-emit_stmt-in-If-2.ensures.items c.in_ok-emit_stmt-in-If-2.ensures.length
 
-pub returns-after-else_block-clause-items : goal.returns-after-else_block-clause-items
-returns-after-else_block-clause-items t c =
-    emitted_if _ _ _ c.args.s.now c.in-If.c c.in-If.a c.in-If.b c.as_slice-inner-items.result.now c.as_slice-inner-items-in-If.result.now _
-    _ _ _ _ _ _ _ _ _ _ c.in-If.is c.as_slice-inner-items.ensures c.as_slice-inner-items-in-If.ensures
-    c.in_ok-condition-in-If.ensures.items c.in_ok-then_mask-in-If.ensures.items c.in_ok-else_mask-in-If.ensures.items
-    (code_end _ _ _ c.as_slice-inner-items.result.now c.then_block.inner-index _ _ c.then_block-test.false c.then_block.invariant.items)
-    (code_end _ _ _ c.as_slice-inner-items-in-If.result.now c.else_block.inner-index _ _ c.else_block-test.false
-    c.else_block.invariant.items) c.in_ok-condition-in-If.ensures.place
-    (omega (arith, c.in_ok-then_mask-in-If.ensures.place, c.in_ok-condition-in-If.ensures.length))
-    (omega (arith, c.in_ok-then_mask-in-If.ensures.place, c.in_ok-else_mask-in-If.ensures.place, c.in_ok-then_mask-in-If.ensures.length))
-    (omega (arith, c.in_ok-then_mask-in-If.ensures.place, c.in_ok-then_mask-in-If.ensures.length, c.in_ok-else_mask-in-If.ensures.length))
-    (omega (
-      arith,
-      c.then_block.invariant.length,
-      size_end c.as_slice-inner-items.result.now c.then_block.inner-index c.then_block-test.false,
-    ))
-
-pub returns-after-else_block-clause-length : goal.returns-after-else_block-clause-length
-returns-after-else_block-clause-length t c = omega (
-  arith,
-  size_if c.args.s.now c.in-If.c c.in-If.a c.in-If.b c.in-If.is,
-  ap (λ l. block_size (block_of l)) c.as_slice-inner-items.ensures,
-  ap (λ l. block_size (block_of l)) c.as_slice-inner-items-in-If.ensures,
-  size_end c.as_slice-inner-items.result.now c.then_block.inner-index c.then_block-test.false,
-  size_end c.as_slice-inner-items-in-If.result.now c.else_block.inner-index c.else_block-test.false,
-  c.then_block.invariant.length,
-  c.else_block.invariant.length,
-  c.in_ok-condition-in-If.ensures.length,
-  c.in_ok-then_mask-in-If.ensures.length,
-  c.in_ok-else_mask-in-If.ensures.length,
-)
+pub returns-after-else_block : goal.returns-after-else_block
+returns-after-else_block t c =
+    let first = emits_all c.then_block.invariant c.then_block-test.false in
+    let second = emits_all c.else_block.invariant c.else_block-test.false in
+    let size = size_choice (vec_len c.args.code.now) c.in-If.is c.as_slice-inner-items.ensures c.as_slice-inner-items-in-If.ensures
+    c.in_ok-condition-in-If.ensures.length c.in_ok-then_mask-in-If.ensures.length c.in_ok-else_mask-in-If.ensures.length in
+    let then_place = c.in_ok-then_mask-in-If.ensures.place in
+    let else_place = c.in_ok-else_mask-in-If.ensures.place in
+    let condition = c.in_ok-condition-in-If.ensures in
+    record {
+      items = emitted_if _ _ _ c.args.s.now c.in-If.c c.in-If.a c.in-If.b c.as_slice-inner-items.result.now
+          c.as_slice-inner-items-in-If.result.now _ _ _ _ _ _ _ _ _ _ _ c.in-If.is c.as_slice-inner-items.ensures
+          c.as_slice-inner-items-in-If.ensures condition.items c.in_ok-then_mask-in-If.ensures.items c.in_ok-else_mask-in-If.ensures.items
+          first.0 second.0 condition.place (omega (arith, then_place, condition.length))
+          (omega (arith, then_place, else_place, c.in_ok-then_mask-in-If.ensures.length))
+          (omega (arith, then_place, c.in_ok-then_mask-in-If.ensures.length, c.in_ok-else_mask-in-If.ensures.length)) first.1;
+      length = omega (arith, size, first.1, second.1);
+    }
