@@ -1,6 +1,6 @@
 -- The rows that are read, from a place on, one by one.
-use Rattle.std.proofs.Common.{length, sym, ◌≡◌, ℕ, ◌+◌, true, false, List, ◌∷◌, ◌++◌, ◌∙◌, Some, drop, ap, slice_get, refl, append_assoc}
-use Rattle.std.specs.List.{All}
+use Rattle.std.proofs.Common.{length, sym, ◌≡◌, ◌<◌, ℕ, ◌+◌, true, false, List, ◌∷◌, ◌++◌, ◌∙◌, Some, drop, ap, slice_get, refl}
+use Rattle.std.{proofs.Common.{append_assoc, arith}, specs.List.All}
 use Rattle.epoch_model.specs.declared.tables.Row.{Row}
 use Rattle.table_rows.proofs.LentFacts.{holds_at, rows_from}
 use Rattle.final_queries.specs.{Finals.{is_read, columns_of}, Joining.reads}
@@ -20,6 +20,12 @@ pub width_at : (rows : List Row) (at width : ℕ) (row : Row) (columns : List �
     → slice_get rows at ≡ Some row → columns ≡ columns_of row → width ≡ length columns
 width_at rows at width row columns all here joined =
     sym (ap length joined ∙ holds_at (λ row. length (columns_of row) ≡ width) rows at row all here)
+
+-- so a column within the width is one of that row's
+pub column_within : (rows : List Row) (at width column : ℕ) (row : Row) (columns : List ℕ)
+    → All (λ row. length (columns_of row) ≡ width) rows → slice_get rows at ≡ Some row → columns ≡ columns_of row → column < width
+    → column < length columns
+column_within rows at width column row columns all here joined within = omega (arith, width_at rows at width row columns all here joined)
 
 -- Of what is made of rows, row by row, more is made of the row at a place.
 pub made_on : {X : Type 0} (of : ℕ → List Row → List X) (whole made after more : List X) (rows : List Row) (at : ℕ) (row : Row)

@@ -16,22 +16,19 @@ pub loop-at-preserved : goal.loop-at-preserved
 loop-at-preserved g c =
     let of : ℕ → List Row → List Row = λ _ rows. mapped_rows c.args.values.now (reads rows) in
     let row = row_of c.get-row.result in
-    let rows = c.args.rows.now in
-    let at = c.loop-at.at in
-    let so_far = c.loop-at.invariant.rows in
-    let steps = c.loop-at.invariant.steps in
+    let was = c.loop-at.invariant in
     elim c.if-is_read.branch [
       | then-is_read+in_ok-push_mapped w ↦
           let read = sym c.is_read.ensures ∙ w.if-is_read.true in
           rw (w.made-is, w.steps-is) record {
-            rows = made_on of _ c.loop-at.made _ _ rows at row c.get-row.ensures w.in_ok-push_mapped.ensures.row
-                (λ rest. rw read refl) so_far;
-            steps = le_trans steps w.push_mapped.ensures.steps;
+            rows = made_on of _ _ _ _ _ c.loop-at.at row c.get-row.ensures w.in_ok-push_mapped.ensures.row
+                (λ rest. rw read refl) was.rows;
+            steps = le_trans was.steps w.push_mapped.ensures.steps;
           }
       | else-is_read w ↦
           let unread = sym c.is_read.ensures ∙ w.if-is_read.false in
           rw (w.made-is, w.steps-is) record {
-            rows = passed_on of _ c.loop-at.made rows at row c.get-row.ensures (λ rest. rw unread refl) so_far;
-            steps = steps;
+            rows = passed_on of _ _ _ c.loop-at.at row c.get-row.ensures (λ rest. rw unread refl) was.rows;
+            steps = was.steps;
           }
     ]

@@ -1,8 +1,8 @@
 -- A row is kept exactly where fewer than the kept number of ranks go before its own.
-use Rattle.std.proofs.{Common.{◌<◌, subst, ◌≤◌, ◌∙◌, ◌++◌, sym, ap, length, append-nil, refl, add-one, arith}, lemmas.List.drop_all}
+use Rattle.std.proofs.{Common.{◌≤◌, ◌∙◌, ◌++◌, sym, ap, length, append-nil, refl, add-one, arith}, lemmas.List.drop_all}
 use Rattle.std.specs.{List.count_by, Prelude.nat_lt}
 use Rattle.table_rows.specs.LentRows.{row_of}
-use Rattle.final_queries.{specs.{Ranks.{is_before, is_within}, TopRows.kept_from}, proofs.ReadRows.{made_on, passed_on, width_at}}
+use Rattle.final_queries.{specs.{Ranks.{is_before, is_within}, TopRows.kept_from}, proofs.ReadRows.{column_within, made_on, passed_on}}
 use Rattle.final_queries.proofs.TopSteps.{kept_top}
 use Rattle.final_queries.proofs.top.top.Goals.{then-is_read+then-is_kept+in_ok-push_plain, then-is_read+else-is_kept, else-is_read}
 use Rattle.final_queries.proofs.top.top.Goals as goal
@@ -20,39 +20,34 @@ returns-clause-rows g c =
     ∙ ap (λ rs. nat_lt (count_by (λ o. is_before o rank) rs) c.args.kept) ranks) c.requires.order
 
 pub rank_of-requires : goal.rank_of-requires
-rank_of-requires g c =
-    let wide = width_at _ _ _ _ _ c.requires.rows c.get-row.ensures c.get-row.result.joined in
-    subst (λ width. c.args.column < width) wide c.requires.column
+rank_of-requires g c = column_within _ _ _ _ _ _ c.requires.rows c.get-row.ensures c.get-row.result.joined c.requires.column
 
 pub loop-place-preserved : goal.loop-place-preserved
 loop-place-preserved g c =
     let last = c.last_kept-last.result in
     let of = kept_from last c.args.column in
     let row = row_of c.get-row.result in
-    let rows = c.args.rows.now in
-    let at = c.loop-place.place in
-    let so_far = c.loop-place.invariant.rows in
-    let steps = c.loop-place.invariant.steps in
+    let was = c.loop-place.invariant in
     elim c.if-is_read.branch [
       | then-is_read+then-is_kept+in_ok-push_plain w ↦
           let read = sym c.is_read.ensures ∙ w.if-is_read.true in
           let within = ap (is_within last) (sym w.rank_of.ensures) ∙ (sym w.is_kept.ensures ∙ w.if-is_kept.true) in
           rw (w.made-is, w.steps-is) record {
-            rows = made_on of _ c.loop-place.made _ _ rows at row c.get-row.ensures w.in_ok-push_plain.ensures.row
-                (λ rest. rw (read, within, add-one) refl) so_far;
-            steps = let t = w.tick_many.ensures in let b = w.push_plain.ensures.steps in omega arith;
+            rows = made_on of _ _ _ _ _ c.loop-place.place row c.get-row.ensures w.in_ok-push_plain.ensures.row
+                (λ rest. rw (read, within, add-one) refl) was.rows;
+            steps = omega (arith, was.steps, w.tick_many.ensures, w.push_plain.ensures.steps);
           }
       | then-is_read+else-is_kept w ↦
           let read = sym c.is_read.ensures ∙ w.if-is_read.true in
           let later = ap (is_within last) (sym w.rank_of.ensures) ∙ (sym w.is_kept.ensures ∙ w.if-is_kept.false) in
           rw (w.made-is, w.steps-is) record {
-            rows = passed_on of _ c.loop-place.made rows at row c.get-row.ensures (λ rest. rw (read, later, add-one) refl) so_far;
-            steps = let t = w.tick_many.ensures in omega arith;
+            rows = passed_on of _ _ _ c.loop-place.place row c.get-row.ensures (λ rest. rw (read, later, add-one) refl) was.rows;
+            steps = omega (arith, was.steps, w.tick_many.ensures);
           }
       | else-is_read w ↦
           let unread = sym c.is_read.ensures ∙ w.if-is_read.false in
           rw (w.made-is, w.steps-is) record {
-            rows = passed_on of _ c.loop-place.made rows at row c.get-row.ensures (λ rest. rw (unread, add-one) refl) so_far;
-            steps = steps;
+            rows = passed_on of _ _ _ c.loop-place.place row c.get-row.ensures (λ rest. rw (unread, add-one) refl) was.rows;
+            steps = was.steps;
           }
     ]
