@@ -5,7 +5,8 @@ use Rattle.std.proofs.lemmas.List.{drop-append-le, drop-drop, drop_more, get_or_
 use Rattle.std.specs.{Prelude.replicate, List.{slice_get, zip}}
 use Rattle.marple_base.specs.{Field.{all_fields, has_field, number_of}, declared.field.{Field.Field, FieldSet.FieldSet, Packet.Packet}}
 use Rattle.marple_base.specs.declared.field.TheConstants.{FIELDS}
-use Rattle.trace_drive.specs.{Kept.{fields_among, fields_kept, kept_of, packet_in, word_in, written}, KeptView.packets_in}
+use Rattle.trace_drive.specs.{Kept.{Kept, fields_among, fields_kept, kept_of, packet_in, word_in, written}, KeptView.{IsSound, kept_in}}
+use Rattle.trace_drive.specs.{KeptView.packets_in, declared.kept.KeptPackets.TheInside.Inside}
 
 -- the fields have the numbers from n on
 abbrev AreFrom : ℕ → List Field → Type 0
@@ -135,6 +136,13 @@ place_within (suc at) (suc count) width within = omega (
   place_within at count width
       (omega arith),
 )
+
+pub packet_there : (kept : Inside) (view : Kept) (at width : ℕ) → kept_in kept ≡ view → at < length view.packets → IsSound kept
+    → length kept.fields.items ≡ width → at * width + width ≤ length kept.words
+packet_there kept view at width is within sound wide =
+    let count = packets_long kept.fields.items kept.count kept.words in
+    let same = ap (λ k. length k.packets) is in
+    omega (arith, place_within at kept.count width (omega arith), sound.words ∙ ap (λ n. kept.count * n) wide)
 
 -- a packet more, with 0 in the fields that aren't kept
 pub kept_more : (set : FieldSet) (fields : List Field) (count : ℕ) (words : List ℕ) (packet : Packet) → fields ≡ fields_kept set

@@ -64,20 +64,10 @@ infinity_small : (text : List ℕ) → IfSome (infinity_word text) IsWord
 infinity_small text = if_there (bytes_eq text (codes "inf")) (2 ^ 64 - 1) (2 ^ 64) (λ e. omega arith)
 
 further_small : (of : Field) (text : List ℕ) → IfSome (further_word of text) IsWord
-further_small field.Switch text = tt
-further_small field.Qid text = tt
-further_small field.Uid text = tt
 further_small field.SrcIp text = quad_small (slice_split is_dot text)
 further_small field.DstIp text = quad_small (slice_split is_dot text)
-further_small field.SrcPort text = tt
-further_small field.DstPort text = tt
-further_small field.Proto text = tt
-further_small field.PktLen text = tt
-further_small field.PayloadLen text = tt
-further_small field.TcpSeq text = tt
-further_small field.Tin text = tt
 further_small field.Tout text = infinity_small text
-further_small field.QSize text = tt
+further_small _ text = tt
 
 field_small : (of : Field) (text : List ℕ) → IfSome (word_of_text of text) IsWord
 field_small of text = first_there (decimal_word text) (further_word of text) (below_limit 20 (2 ^ 64) text) (further_small of text)

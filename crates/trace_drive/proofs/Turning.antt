@@ -19,16 +19,9 @@ after_both g xs ys k [] = refl
 after_both g xs ys k (m ∷ ms) = ap (λ n. n ∷ after_events g (λ n. xs n ++ ys n) (suc k) ms) (run_on g (xs k) (ys k) m) ∙ ap
     (λ ns. run g (ys k) (run g (xs k) m) ∷ ns) (after_both g xs ys (suc k) ms)
 
-no_first : (xs ys : List Event) → xs ++ ys ≡ [] → xs ≡ []
-no_first [] ys e = refl
-no_first (x ∷ xs) ys e = absurd (never e)
-  where
-    never : x ∷ (xs ++ ys) ≡ [] → ⊥
-    never e = cc
-
-no_second : (xs ys : List Event) → xs ++ ys ≡ [] → ys ≡ []
-no_second [] ys e = e
-no_second (x ∷ xs) ys e = absurd (never e)
+both_empty : (xs ys : List Event) → xs ++ ys ≡ [] → (xs ≡ []) × (ys ≡ [])
+both_empty [] ys e = (refl, e)
+both_empty (x ∷ xs) ys e = absurd (never e)
   where
     never : x ∷ (xs ++ ys) ≡ [] → ⊥
     never e = cc
@@ -43,7 +36,7 @@ makes_on ways xs ys a b c first next = record {
       subst (λ n. PipelineStands c (after_events (geometry_without_refresh ways n) ys 0 (after_events g xs 0 ms))) first.buckets
       (next.stands (after_events g xs 0 ms) (first.stands ms s)) in
       subst (PipelineStands c) (sym (after_both g xs ys 0 ms)) later;
-  others = λ n none. next.others n (no_second (xs n) (ys n) none) ∙ first.others n (no_first (xs n) (ys n) none);
+  others = λ n none. let empty = both_empty (xs n) (ys n) none in next.others n empty.1 ∙ first.others n empty.0;
   kinds = next.kinds ∙ first.kinds;
   plan = next.plan ∙ first.plan;
   entries = next.entries ∙ first.entries;

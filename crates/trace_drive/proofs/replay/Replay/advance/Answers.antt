@@ -1,5 +1,5 @@
 -- The packets are taken one by one, each with its turn.
-use Rattle.std.proofs.Common.{◌+◌, ◌≡◌, Ok, ap, ◌∙◌, arith, refl, subst, lit<}
+use Rattle.std.proofs.Common.{◌+◌, Ok, ap, ◌∙◌, arith, refl, subst, le_antisymm, lit<}
 use Rattle.trace_drive.{specs.Replays.{Advances, MakesTheirTurns}, proofs.Following.keeps_along}
 use Rattle.trace_drive.proofs.{Replaying.{keeps_itself, none_taken, taken_next}, ReplayTurns.{no_turns, turns_next, turns_of_all}}
 use Rattle.trace_drive.proofs.replay.Replay.advance.Goals as goal
@@ -47,14 +47,10 @@ returns-then-not-branch-clause-all_turns g c is =
 
 pub returns-clause-all : goal.returns-clause-all
 returns-clause-all g c is =
-    let end = c.packets-test.false in
-    let within = c.packets.auto._taken-end in
-    let all : c.packets._taken ≡ c.args.most = omega arith in
+    let all = le_antisymm c.packets.auto._taken-end c.packets-test.false in
     subst (λ n. Advances n c.args.self.now c.packets.self) all c.packets.invariant.taken
 
 pub returns-clause-turns : goal.returns-clause-turns
 returns-clause-turns g c is =
-    let end = c.packets-test.false in
-    let within = c.packets.auto._taken-end in
-    let all : c.packets._taken ≡ c.args.most = omega arith in
+    let all = le_antisymm c.packets.auto._taken-end c.packets-test.false in
     subst (λ n. MakesTheirTurns n c.args.self.now c.packets.self) all c.packets.invariant.turns
