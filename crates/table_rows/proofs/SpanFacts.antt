@@ -1,7 +1,7 @@
 -- The rows of spans, where words are appended.
 use Rattle.std.proofs.Common.{◌≡◌, ℕ, slice_get, Some, ◌+◌, ◌<◌, ◌≤◌, get_or, List, [], ◌∷◌, ◌++◌, length, take, drop, refl, sym, ap, ap₂}
-use Rattle.std.proofs.Common.{◌∙◌, arith, length-append, length-drop, drop-drop, append_assoc, append-nil, ◌-◌}
-use Rattle.std.proofs.lemmas.List.{take-append-le, drop-append-le, take_at, drop_at, length-map, map-append}
+use Rattle.std.proofs.Common.{◌∙◌, arith, set, length-append, length-drop, drop-drop, append_assoc, append-nil, ◌-◌}
+use Rattle.std.proofs.lemmas.List.{take-append-le, drop-append-le, take_at, drop_at, length-map, map-append, map-set}
 use Rattle.std.proofs.lemmas.{Option.{same_Some, slice_get-map, slice_get_read}, List.Elements.{All-head, All-push, All-tail, All-weaker}}
 use Rattle.epoch_model.specs.declared.tables.Row.{Row}
 use Rattle.table_rows.specs.{declared.span.Span.Span, Spans.{key_in, values_in, row_in, rows_in, EndsWithin, AllWithin}}
@@ -69,9 +69,16 @@ within_pushed words key values spans span within start size count =
     (omega (arith, start, size, count, length-append words (key ++ values), length-append key values)))
 
 -- the row that stands at a place is that of the span there
-pub row_there : (words : List ℕ) (spans : List Span) (rows : List Row) (at : ℕ) (span : Span) (row : Row) → rows_in words spans ≡ rows
+row_there : (words : List ℕ) (spans : List Span) (rows : List Row) (at : ℕ) (span : Span) (row : Row) → rows_in words spans ≡ rows
     → at < length rows → span ≡ get_or spans at span → slice_get rows at ≡ Some row → row ≡ row_in words span
 row_there words spans rows at span row shown within stands here =
     let inside : at < length spans = omega (arith, within, ap length shown, length-map spans (row_in words)) in
     let first = slice_get_read spans (length spans) at span refl inside stands in
     same_Some _ _ (sym here ∙ rw (← shown, slice_get-map, first) refl)
+
+-- a span that is changed changes its row
+pub row_changed : (words : List ℕ) (spans : List Span) (rows : List Row) (at : ℕ) (span changed : Span) (row : Row) (change : Row → Row)
+    → rows_in words spans ≡ rows → at < length rows → span ≡ get_or spans at span → slice_get rows at ≡ Some row
+    → row_in words changed ≡ change (row_in words span) → rows_in words (set spans at changed) ≡ set rows at (change row)
+row_changed words spans rows at span changed row change shown within stands here is =
+    rw (row_there words spans rows at span row shown within stands here, ← shown, ← is) (map-set (row_in words) spans at changed)

@@ -1,10 +1,7 @@
-use Rattle.std.proofs.lemmas.List.{map-set}
-use Rattle.table_rows.{specs.Spans.row_in, proofs.SpanFacts.row_there}
+use Rattle.std.proofs.Common.{refl}
+use Rattle.table_rows.proofs.SpanFacts.{row_changed}
 use Rattle.table_rows.proofs.rows.Rows.set_mark.Goals as goal
 
 pub returns : goal.returns
-returns c row here =
-    let a = c.self.inside in
-    let is = row_there a.words.items a.spans.items _ c.args.at c.index-span.result.now row c.self.view_is c.requires c.index-span.ensures
-    here in
-    rw (is, ← c.self.view_is) (map-set (row_in a.words.items) a.spans.items c.args.at _)
+returns c row here = row_changed _ _ _ _ _ _ row (λ r. record r { mark = c.args.mark; epoch = c.args.epoch })
+    c.self.view_is c.requires c.index-span.ensures here refl
