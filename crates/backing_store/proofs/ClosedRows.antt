@@ -10,7 +10,7 @@ use Rattle.epoch_model.proofs.KeyLists.{by_test, key_eq-true, key_eq-refl, key_e
 use Rattle.epoch_model.proofs.KeyOrder.{ascending-ascends, has-ascending, same_ascending}
 use Rattle.backing_store.specs.{Store.{Store, StoredKey, IsStore, AreKeysOf, epochs_of, states_of}, StoreLaws.keys_of}
 use Rattle.backing_store.specs.{SortedRows.{numbered, stored_rows, sorted_rows}, Merged.{StoreHolds, stored, shown_row, epochs_in}}
-use Rattle.backing_store.specs.HeldRows.{HeldRowsAreTheTables}
+use Rattle.backing_store.{specs.HeldRows.HeldRowsAreTheTables, proofs.StoreFacts.or_true}
 
 -- the keys of the store and of the closed epochs are the same
 
@@ -93,10 +93,6 @@ flat_map_alike F G [] h = refl
 flat_map_alike F G (k ∷ keys) h =
     ap (λ rs. rs ++ flat_map F keys) (h k (ap (λ t. t || has k keys) (key_eq-refl k)))
     ∙ ap (λ rs. G k ++ rs) (flat_map_alike F G keys (λ x t. h x (ap (λ u. key_eq k x || u) t ∙ or_true (key_eq k x))))
-  where
-    or_true : (t : Bool) → (t || true) ≡ true
-    or_true true = refl
-    or_true false = refl
 
 map_flat_map : (F : Row → Row) (G : Key → List Row) (keys : List Key) → map F (flat_map G keys) ≡ flat_map (λ k. map F (G k)) keys
 map_flat_map F G [] = refl
@@ -124,10 +120,6 @@ sums_shown F G (k ∷ keys) h =
     ∙ (shown_added (F k) (G k) (sum_by F keys) (sum_by G keys) (h k (ap (λ t. t || has k keys) (key_eq-refl k)))
     (sums_shown F G keys (λ x t. h x (ap (λ u. key_eq k x || u) t ∙ or_true (key_eq k x))))
     ∙ sym (ap epochs_shown (sum_by-cons G k keys)))
-  where
-    or_true : (t : Bool) → (t || true) ≡ true
-    or_true true = refl
-    or_true false = refl
 
 sum_flat_map : (F : Row → ℕ) (G : Key → List Row) (keys : List Key) → sum_by F (flat_map G keys) ≡ sum_by (λ k. sum_by F (G k)) keys
 sum_flat_map F G [] = refl

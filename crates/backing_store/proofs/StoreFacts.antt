@@ -186,7 +186,7 @@ pub counted_row : (key initial : List ℕ) (es : List Entry) (rows : List Stored
 counted_row key initial es rows kw sw at was now first here more =
     rw (with_epoch_at key es at was now first here more, number_at key es at first) refl
 
-or_true : (b : Bool) → (b || true) ≡ true
+pub or_true : (b : Bool) → (b || true) ≡ true
 or_true true = refl
 or_true false = refl
 
