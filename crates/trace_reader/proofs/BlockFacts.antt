@@ -1,13 +1,21 @@
 -- Digits that are read eight or four at once.
 use Rattle.std.proofs.Common.{◌≡◌, ℕ, zero, suc, ◌+◌, ◌-◌, ◌*◌, ◌/◌, ◌%◌, ◌^◌, ◌<◌, ◌≤◌, true, List, length, get_or, refl, sym, ap, ◌∙◌}
-use Rattle.std.proofs.{Common.arith, Math.Nat.{div-div-eq-div-mul, mul_assoc, pow-succ'}, lemmas.Bool.Decides.nat_tests}
-use Rattle.std.proofs.lemmas.Nat.{and_block, and_mask, pow-add, Bits.{bit_at_and, bit_at_or, bit_at-zero}}
+use Rattle.std.proofs.{Common.{arith, take}, Math.Nat.{div-div-eq-div-mul, mul_assoc, pow-succ'}, lemmas.Bool.Decides.nat_tests}
+use Rattle.std.proofs.lemmas.{List.length-take-le, Nat.{and_block, and_mask, pow-add, Bits.{bit_at_and, bit_at_or, bit_at-zero}}}
 use Rattle.std.specs.{Prelude.{bit_and, bit_or, min, max}, Char.is_ascii_digit, Int.bit_at}
-use Rattle.trace_reader.{specs.Blocks.IsFront, proofs.NumberFacts.{digits_value_digit, list_all_digit}}
+use Rattle.trace_reader.{specs.Blocks.IsFront, proofs.NumberFacts.{digits_below, digits_value_digit, list_all_digit}}
 
 -- no byte is read
 pub front_none : (text : List ℕ) → IsFront text 0 0
 front_none _ = record { digits = refl; value = refl }
+
+-- the number of a front of few digits is small
+pub front_below : (text : List ℕ) (read k number : ℕ) → IsFront text read number → read ≤ length text → read ≤ k → number < 10 ^ k
+front_below text read k number front room few = omega (
+  arith,
+  digits_below (take read text) k front.digits (omega (arith, length-take-le read text room)),
+  front.value,
+)
 
 -- the byte of a digit
 abbrev pub IsDigit : ℕ → Type 0

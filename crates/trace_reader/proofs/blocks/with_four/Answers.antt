@@ -1,26 +1,18 @@
 -- Four bytes that pass the test are digits, so the number before them and their value make the number of all.
-use Rattle.std.proofs.{Common.{ℕ, ◌+◌, ◌%◌, ◌^◌, ◌<◌, ◌≤◌, List, length, take, refl, arith}, lemmas.List.length-take-le}
-use Rattle.trace_reader.{specs.Blocks.IsFront, proofs.{BlockFacts.four_read, NumberFacts.digits_below}}
+use Rattle.std.proofs.Common.{◌+◌, ◌%◌, ◌^◌, refl, arith}
+use Rattle.trace_reader.proofs.BlockFacts.{four_read, front_below}
 use Rattle.trace_reader.proofs.blocks.with_four.Goals as goal
-
--- at most 15 digits
-front_below : (text : List ℕ) (read number : ℕ) → IsFront text read number → read ≤ length text → read ≤ 15 → number < 10 ^ 15
-front_below text read number front room few = omega (
-  arith,
-  digits_below (take read text) 15 front.digits (omega (arith, length-take-le read text room, few)),
-  front.value,
-)
 
 pub overflow_mul-result : goal.overflow_mul-result
 overflow_mul-result c = omega (
   arith,
-  front_below c.args.text.now c.args.read c.args.number c.requires.front (omega (arith, c.requires.room)) c.requires.few,
+  front_below c.args.text.now c.args.read 15 c.args.number c.requires.front (omega (arith, c.requires.room)) c.requires.few,
 )
 
 pub overflow_add-result : goal.overflow_add-result
 overflow_add-result c = omega (
   arith,
-  front_below c.args.text.now c.args.read c.args.number c.requires.front (omega (arith, c.requires.room)) c.requires.few,
+  front_below c.args.text.now c.args.read 15 c.args.number c.requires.front (omega (arith, c.requires.room)) c.requires.few,
   c.from.ensures,
 )
 

@@ -1,26 +1,20 @@
 -- The number so far is that of the digits read, which are few enough for one digit more.
-use Rattle.std.proofs.Common.{◌≡◌, ◌^◌, ◌≤◌, get_or, length, take, true, arith, rules, ◌∙◌, ap, sym, Some}
-use Rattle.std.{proofs.lemmas.{List.{length-take-le, take_all}, Bool.Decides.nat_tests}, specs.Char.is_ascii_digit}
-use Rattle.trace_reader.proofs.NumberFacts.{digits_below, digits_value_digit, list_all_digit, number_some}
+use Rattle.std.proofs.Common.{◌≡◌, ◌^◌, ◌≤◌, get_or, true, arith, rules, ◌∙◌, ap, sym, Some}
+use Rattle.std.{proofs.lemmas.{List.take_all, Bool.Decides.nat_tests}, specs.Char.is_ascii_digit}
+use Rattle.trace_reader.proofs.{BlockFacts.front_below, NumberFacts.{digits_below, digits_value_digit, list_all_digit, number_some}}
 use Rattle.trace_reader.proofs.number.rest_of_digits.Goals as goal
 
 pub overflow_mul-number : goal.overflow_mul-number
 overflow_mul-number c =
-    let text = c.args.text.now in
-    let i = c.loop-i.i in
-    let size = length-take-le i text (omega (arith, c.loop-i-test.true)) in
-    let few : length (take i text) ≤ 18 = omega (arith, size, c.loop-i-test.true, c.requires.few) in
-    omega (arith, digits_below (take i text) 18 c.loop-i.invariant.digits few, c.loop-i.invariant.value)
+    omega (arith, front_below c.args.text.now c.loop-i.i 18 c.loop-i.number c.loop-i.invariant (omega arith) (omega arith))
 
 pub overflow_add-number : goal.overflow_add-number
 overflow_add-number c =
     let text = c.args.text.now in
     let i = c.loop-i.i in
-    let size = length-take-le i text (omega (arith, c.loop-i-test.true)) in
-    let few : length (take i text) ≤ 18 = omega (arith, size, c.loop-i-test.true, c.requires.few) in
     let digit : is_ascii_digit (get_or text i 0) ≡ true = search rules in
     let small : get_or text i 0 ≤ 57 = grind (arith, nat_tests) in
-    omega (arith, digits_below (take i text) 18 c.loop-i.invariant.digits few, c.loop-i.invariant.value, c.from.ensures, small)
+    omega (arith, front_below text i 18 c.loop-i.number c.loop-i.invariant (omega arith) (omega arith), c.from.ensures, small)
 
 pub loop-i-preserved : goal.loop-i-preserved
 loop-i-preserved c =
