@@ -8,7 +8,7 @@ use Rattle.query_lang.specs.{Words.{holds, op_value, IsWord, AreWords}, Terms.{T
 use Rattle.query_lang.specs.Blocks.{Block, End, Set, Fork}
 use Rattle.query_lang.specs.Folds.{term_value, after, body, fold_states, fold_args, fold_block, IsValidBlock}
 use Rattle.fold_code.specs.Additive.{no_variable, names_no_state, adds_or_subtracts, is_variable, is_increment, is_additive_block}
-use Rattle.fold_code.proofs.BlockLemmas.{and_true_left, and_true_right, length-after, known_value, idle}
+use Rattle.fold_code.proofs.BlockLemmas.{and_three, and_true_left, and_true_right, length-after, known_value, idle}
 use Rattle.additive_laws.specs.{Amounts.{zeros, amount, plus}, Laws.IsAdditiveFrom}
 
 pub length-plus : (xs ys : List ℕ) → length (plus xs ys) ≡ length xs
@@ -88,16 +88,11 @@ module _ (states : ℕ) where
       (length-set zs v (term_value e (zs ++ args)) ∙ ez)
   block_adds nargs (Fork c a b rest) args xs zs valid h ex ez =
       let inner = names_no_state states c in
-      let front = and_true_left (is_additive_block states inner a && is_additive_block states inner b) (is_additive_block states true rest)
-      h in
-      let more = and_true_right (is_additive_block states inner a && is_additive_block states inner b) (is_additive_block states true rest)
-      h in
-      let ha = and_true_left (is_additive_block states inner a) (is_additive_block states inner b) front in
-      let hb = and_true_right (is_additive_block states inner a) (is_additive_block states inner b) front in
+      let parts = and_three _ _ _ h in
       let next = if holds (term_value c (zs ++ args)) then after a args zs else after b args zs in
-      ap (after rest args) (branch inner refl ha hb (λ g. block_adds nargs a args xs zs valid.2 g ex ez)
+      ap (after rest args) (branch inner refl parts.0 parts.1.0 (λ g. block_adds nargs a args xs zs valid.2 g ex ez)
       (λ g. block_adds nargs b args xs zs valid.3 g ex ez))
-      ∙ block_adds nargs rest args xs next valid.4 more ex (size (holds (term_value c (zs ++ args))))
+      ∙ block_adds nargs rest args xs next valid.4 parts.1.1 ex (size (holds (term_value c (zs ++ args))))
     where
       size : (t : Bool) → length (if t then after a args zs else after b args zs) ≡ states
       size true = length-after a args zs ∙ ez

@@ -7,7 +7,7 @@ use Rattle.query_lang.specs.Folds.{fold_states, fold_block, IsValidBlock, IsVali
 use Rattle.fold_class.specs.{declared.class.{Algebra.TheVariants.Sums, Kind.{Kind, TheVariants.{Pure, Affine}}}, Tables.{update, all_below}}
 use Rattle.fold_class.specs.Depth.{assigns, expr_reads, reads_after, fold_reads, is_within, is_history}
 use Rattle.fold_class.specs.Kinds.{greater, expr_kind, role, role_kind, marked, chosen_kinds, kinds_after, is_no_other, is_linear_by}
-use Rattle.fold_class.proofs.TableLemmas.{and_true_left, and_true_right, or_true_left, implied, below_at}
+use Rattle.fold_class.proofs.TableLemmas.{and_three, and_true_left, and_true_right, or_true_left, implied, below_at}
 use Rattle.fold_class.proofs.HistoryKinds.{role_pure, marked_kept, chosen_kept, kinds_kept}
 use Rattle.fold_code.proofs.BlockLemmas.{argument_is}
 use Rattle.fold_code.specs.Additive.{names_no_state, adds_or_subtracts, is_variable, is_increment, is_additive_block, is_additive}
@@ -37,13 +37,8 @@ module _ (states : ℕ) where
   none_assigned End h s = refl
   none_assigned (Set v e _) h s = cc
   none_assigned (Fork c a b rest) h s =
-      let inner = and_true_left (is_additive_block states false a && is_additive_block states false b) (is_additive_block states false rest)
-      h in
-      or_both_false _ _ (or_both_false _ _ (none_assigned a (and_true_left (is_additive_block states false a)
-      (is_additive_block states false b) inner) _) (none_assigned b
-      (and_true_right (is_additive_block states false a) (is_additive_block states false b) inner) _))
-      (none_assigned rest (and_true_right (is_additive_block states false a && is_additive_block states false b)
-      (is_additive_block states false rest) h) _)
+      let parts = and_three _ _ _ h in
+      or_both_false _ _ (or_both_false _ _ (none_assigned a parts.0 _) (none_assigned b parts.1.0 _)) (none_assigned rest parts.1.1 _)
 
   -- a valid block assigns to no argument
   args_kept : (nargs : ℕ) (b : Block) → IsValidBlock states nargs b → (s : ℕ) → states ≤ s → assigns b s ≡ false
@@ -113,18 +108,13 @@ module _ (states : ℕ) where
       at_each false s x y = y
   additive_good nargs (Fork c a b rest) free kinds valid p g h =
       let inner = free && names_no_state states c in
-      let front = and_true_left (is_additive_block states inner a && is_additive_block states inner b) (is_additive_block states free rest)
-      h in
-      let more = and_true_right (is_additive_block states inner a && is_additive_block states inner b) (is_additive_block states free rest)
-      h in
-      let ha = and_true_left (is_additive_block states inner a) (is_additive_block states inner b) front in
-      let hb = and_true_right (is_additive_block states inner a) (is_additive_block states inner b) front in
-      let ga = additive_good nargs a inner kinds valid.2 p g ha in
-      let gb = additive_good nargs b inner kinds valid.3 p g hb in
+      let parts = and_three _ _ _ h in
+      let ga = additive_good nargs a inner kinds valid.2 p g parts.0 in
+      let gb = additive_good nargs b inner kinds valid.3 p g parts.1.0 in
       additive_good nargs rest free (chosen_kinds (expr_kind (role Sums) c kinds) (kinds_after (role Sums) a kinds)
       (kinds_after (role Sums) b kinds) (marked b (marked a kinds))) valid.4
       (λ s ge. kept s (args_kept nargs a valid.2 s ge) (args_kept nargs b valid.3 s ge) ∙ p s ge)
-      (λ s. at_each (names_no_state states c) refl ga gb ha hb s) more
+      (λ s. at_each (names_no_state states c) refl ga gb parts.0 parts.1.0 s) parts.1.1
     where
       kept : (s : ℕ) → assigns a s ≡ false → assigns b s ≡ false → chosen_kinds (expr_kind (role Sums) c kinds)
           (kinds_after (role Sums) a kinds) (kinds_after (role Sums) b kinds) (marked b (marked a kinds)) s ≡ kinds s

@@ -64,21 +64,13 @@ module _ {A : Type 0} (sh : Shares A) (algebra : Algebra) where
   lost_right r k Affine h = absurd h
   lost_right r k Kind.Other h = subst (λ m. Allows {A = A} m Lost) (sym (to_other r k)) tt
 
-  product_right : (k l : Kind) (d e : A) → Allows l (Share d) → Allows (product_kind k l) (Share e)
-  product_right k Pure d e h = absurd h
-  product_right Pure Affine d e h = tt
-  product_right Pure Kind.Other d e h = tt
-  product_right Affine Affine d e h = tt
-  product_right Affine Kind.Other d e h = tt
-  product_right Kind.Other Affine d e h = tt
-  product_right Kind.Other Kind.Other d e h = tt
-
-  product_left : (k l : Kind) (d e : A) → Allows k (Share d) → Allows (product_kind k l) (Share e)
-  product_left Pure l d e h = absurd h
-  product_left Affine Pure d e h = tt
-  product_left Affine Affine d e h = tt
-  product_left Affine Kind.Other d e h = tt
-  product_left Kind.Other l d e h = tt
+  -- a product is allowed to be a share where a sum is
+  product_share : (k l : Kind) (e : A) → Allows (greater k l) (Share e) → Allows (product_kind k l) (Share e)
+  product_share Pure l e h = h
+  product_share Affine Pure e h = tt
+  product_share Affine Affine e h = tt
+  product_share Affine Kind.Other e h = tt
+  product_share Kind.Other l e h = tt
 
   product_both : (k l : Kind) (d e : A) → Allows k (Share d) → Allows l (Share e) → Allows {A = A} (product_kind k l) Lost
   product_both Pure l d e h i = absurd h
@@ -108,8 +100,8 @@ module _ {A : Type 0} (sh : Shares A) (algebra : Algebra) where
   operation_allowed Difference f k l (Fixed u) (Share e) h i = share_right k l e (sh.sum (sh.lift u) (sh.scale minus_one e)) i
   operation_allowed Difference f k l (Share d) (Fixed t) h i = share_left k l d (sh.sum d (sh.scale minus_one (sh.lift t))) h
   operation_allowed Difference f k l (Share d) (Share e) h i = share_left k l d (sh.sum d (sh.scale minus_one e)) h
-  operation_allowed Product f k l (Fixed u) (Share e) h i = product_right k l e (sh.scale u e) i
-  operation_allowed Product f k l (Share d) (Fixed t) h i = product_left k l d (sh.scale t d) h
+  operation_allowed Product f k l (Fixed u) (Share e) h i = product_share k l (sh.scale u e) (share_right k l e (sh.scale u e) i)
+  operation_allowed Product f k l (Share d) (Fixed t) h i = product_share k l (sh.scale t d) (share_left k l d (sh.scale t d) h)
   operation_allowed Product f k l (Share d) (Share e) h i = product_both k l d e h i
   operation_allowed Outside f k l (Fixed u) (Share e) h i = outside_right k l e i
   operation_allowed Outside f k l (Share d) (Fixed t) h i = outside_left k l d h

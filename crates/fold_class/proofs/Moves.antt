@@ -4,7 +4,7 @@ use Rattle.std.proofs.{Common.{sym, ap, ◌∙◌, subst, arith, length-set}, le
 use Rattle.query_lang.specs.{declared.fold.Op.Op, Words.{holds, op_value}, Terms.{Term, Literal, Read, Negation, Operation}}
 use Rattle.query_lang.specs.{Blocks.{Block, End, Set, Fork}, Folds.{term_value, after, IsValidBlock}}
 use Rattle.fold_class.specs.{declared.class.Algebra.Algebra, Translations.{moves_left, moves_right, is_move, keeps_moves, is_moving}}
-use Rattle.fold_class.proofs.TableLemmas.{and_true_left, and_true_right, set_index}
+use Rattle.fold_class.proofs.TableLemmas.{and_three, and_true_left, and_true_right, set_index}
 use Rattle.fold_code.{proofs.BlockLemmas.{length-after, known_value, idle}, specs.Checks.names_known}
 
 and_false : (b : Bool) → (b && false) ≡ false
@@ -108,18 +108,13 @@ module _ (algebra : Algebra) (states : ℕ) (known : ℕ → Bool) where
         related_at g s lt k false t = rw t (r.related s lt k)
     block_keeps nargs (Fork c a b rest) free args xs ys valid hx hy h r =
         let inner = free && names_known states known c in
-        let front = and_true_left (is_moving algebra states known inner a && is_moving algebra states known inner b)
-        (is_moving algebra states known free rest) h in
-        let ha = and_true_left (is_moving algebra states known inner a) (is_moving algebra states known inner b) front in
-        let hb = and_true_right (is_moving algebra states known inner a) (is_moving algebra states known inner b) front in
+        let parts = and_three _ _ _ h in
         let hc = holds (term_value c (xs ++ args)) in
         let kc = holds (term_value c (ys ++ args)) in
         block_keeps nargs rest free args (if hc then after a args xs else after b args xs) (if kc then after a args ys else after b args ys)
-        valid.4 (size xs hx hc) (size ys hy kc)
-        (and_true_right (is_moving algebra states known inner a && is_moving algebra states known inner b)
-        (is_moving algebra states known free rest) h)
-        (branches (names_known states known c) refl ha hb (block_keeps nargs a inner args xs ys valid.2 hx hy ha r)
-        (block_keeps nargs b inner args xs ys valid.3 hx hy hb r))
+        valid.4 (size xs hx hc) (size ys hy kc) parts.1.1
+        (branches (names_known states known c) refl parts.0 parts.1.0 (block_keeps nargs a inner args xs ys valid.2 hx hy parts.0 r)
+        (block_keeps nargs b inner args xs ys valid.3 hx hy parts.1.0 r))
       where
         size : (zs : List ℕ) → length zs ≡ states → (k : Bool) → length (if k then after a args zs else after b args zs) ≡ states
         size zs hz true = simp (length-after, hz)
