@@ -1,5 +1,5 @@
 -- The rows of a store that holds all closed epochs are those of their table.
-use Rattle.std.proofs.Common.{◌≡◌, ℕ, zero, suc, ◌+◌, ◌<◌, ◌==◌, ◌||◌, Bool, true, false, List, [], ◌∷◌, ◌++◌, length, map, refl, sym, ap}
+use Rattle.std.proofs.Common.{◌≡◌, ℕ, zero, suc, ◌+◌, ◌<◌, ◌==◌, ◌||◌, Bool, true, List, [], ◌∷◌, ◌++◌, length, map, refl, sym, ap}
 use Rattle.std.proofs.{Common.{◌∙◌, subst, arith}, lemmas.List.{map-append, length-map, Sums.{sum_by-append, sum_by-cons}}}
 use Rattle.std.{proofs.lemmas.Bool.{true≢false, lt-ltb, Decides.nat_tests}, specs.List.{flat_map, sum_by}}
 use Rattle.std.specs.Prelude.{nat_lt, if◌then◌else◌}
