@@ -1,6 +1,6 @@
 -- A run with the setting of a command line.
 use Rattle.std.proofs.Common.{◌≡◌, ℕ, List, Option, ap, sym, ◌∙◌, subst}
-use Rattle.command_line.specs.{Command.ways_number, declared.setting.{Setting.Setting, Ways.Ways}}
+use Rattle.command_line.specs.{Command.ways_number, declared.setting.Setting.Setting}
 use Rattle.epoch_entry.specs.declared.purpose.Entries.{Entries}
 use Rattle.epoch_model.specs.Epochs.{Geometry}
 use Rattle.final_queries.specs.declared.table.Table.{Table}
@@ -10,12 +10,11 @@ use Rattle.trace_reader.specs.declared.fault.TraceFault.{TraceFault}
 use Rattle.query_run.specs.{Driven.geometry_of, Reports.Prints, Views.views_text}
 
 -- the caches of a schedule with the setting's ways are those of the setting
-pub geometry_is : (setting : Setting) (schedule : Schedule) (ways : Ways) → setting.ways ≡ ways
+pub geometry_is : (setting : Setting) (schedule : Schedule) (ways : ℕ) → ways_number setting.ways ≡ ways
     → schedule ≡ record { buckets = setting.buckets; pipe = setting.pipe; lag = setting.lag; refresh = setting.refresh }
-    → geometry_for (ways_number ways) schedule ≡ geometry_of setting
+    → geometry_for ways schedule ≡ geometry_of setting
 geometry_is setting schedule ways is same =
-    ap (geometry_for (ways_number ways)) same
-    ∙ ap (λ (ways : Ways). record { buckets = setting.buckets; ways = ways_number ways; refresh = setting.refresh }) (sym is)
+    ap (geometry_for ways) same ∙ ap (λ (n : ℕ). record { buckets = setting.buckets; ways = n; refresh = setting.refresh }) (sym is)
 
 module _ {O : Type 0} (taken : O → Option (List ℕ)) (faults : O → ℕ) (entries : Entries) (plan : PlanParts) (printed : List Table → List ℕ)
     (every : ℕ) (packets : List (List ℕ)) (fault : Option TraceFault) (old new : O) where

@@ -1,13 +1,13 @@
 -- The tables of a view are those of the packets so far.
-use Rattle.std.proofs.Common.{◌≡◌, ℕ, suc, ◌≤◌, List, [], ◌∷◌, length, map, take, refl, sym, ap, ap₂, ◌∙◌, arith}
+use Rattle.std.proofs.Common.{◌≡◌, ℕ, suc, ◌≤◌, List, [], ◌∷◌, length, map, take, refl, sym, ap, ap₂, ◌∙◌, subst, arith}
 use Rattle.std.proofs.lemmas.List.{length-map, length-take-le, take-map, Elements.All-take}
 use Rattle.marple_base.specs.declared.field.TheConstants.{FIELDS}
 use Rattle.final_queries.specs.declared.table.Table.{Table}
 use Rattle.epoch_entry.specs.declared.purpose.Entries.{Entries}
-use Rattle.epoch_model.specs.{Driving.uses_taken, Epochs.Geometry, Laws.SameEpochs, Machine.{Machine, after_packets, end_of}}
+use Rattle.epoch_model.specs.{Driving.uses_taken, Epochs.Geometry, Laws.{HasRoom, SameEpochs}, Machine.{Machine, after_packets, end_of}}
 use Rattle.live_view.specs.{Laws.ViewsEndTheTrace, Views.{all_closed, tables_seen}}
-use Rattle.query_run.specs.{Reports.end_tables, Views.IsAsFarAs}
-use Rattle.stage_plan.specs.{Packets.AreWhole, declared.group.GroupPlan.GroupPlan, Planned.taken, Sound.PlanParts}
+use Rattle.query_run.specs.{Reports.{AtEnds, end_tables}, Views.IsAsFarAs}
+use Rattle.stage_plan.specs.{Packets.AreWhole, declared.group.GroupPlan.GroupPlan, Planned.taken, Sound.{IsSoundPlan, PlanParts}}
 use Rattle.switch_core.specs.{Pipelines.tables_of, PlanLanes.{AreLanesOf, PipelineStands, PipelineView, StandsFor, folding_at}}
 use Rattle.trace_drive.{specs.{Drives.{ends_from, uses_by}, Follows.AlikeFrom}, proofs.Ending.{each_long, lanes_long}}
 
@@ -47,3 +47,10 @@ seen_tables law entries g packets number p tables lanes shown far =
 pub seen_whole : (g : Geometry) (packets : List (List ℕ)) (number : ℕ) (p : PipelineView) → IsAsFarAs g packets number p
     → AreWhole (take number packets)
 seen_whole g packets number p far = All-take (λ (words : List ℕ). length words ≡ FIELDS) number packets far.whole
+
+-- what is said of lanes of a sound plan at the end of packets, of a pipeline's lanes
+pub at_an_end : (P : Geometry → List (List ℕ) → List Table → Type 0) (entries found : Entries) (plan : PlanParts) (p : PipelineView)
+    (g : Geometry) (packets : List (List ℕ)) → IsSoundPlan plan → plan ≡ p.plan → AreLanesOf found p.plan p.buckets p.lanes
+    → found ≡ entries → AtEnds entries p.plan P → HasRoom g → AreWhole packets → P g packets (end_tables p.plan p.lanes g packets)
+at_an_end P entries found plan p g packets sound same lanes is at = at p.buckets p.lanes g packets (subst IsSoundPlan same sound)
+    (subst (λ e. AreLanesOf e p.plan p.buckets p.lanes) is lanes)

@@ -1,16 +1,18 @@
 //! A report over packets.
 
-ghost use Rattle.std.specs.{Prelude.{◌≡◌, ◌*◌, ◌<◌, ◌≤◌, ℕ, List, None, IfErr, IfOk, true}, Io.KnownBytes.Appends, List.list_all};
+ghost use Rattle.std.specs.{Prelude.{◌≡◌, ◌<◌, ◌≤◌, ℕ, List, None, IfErr, IfOk, true}, Io.KnownBytes.Appends, List.list_all};
+ghost use Rattle.command_line.specs.Command.{IsSetting, ways_number};
 ghost use Rattle.epoch_model.specs.Epochs.{Geometry};
 ghost use Rattle.stage_plan.specs.Packets.{AreWhole};
 ghost use Rattle.switch_core.specs.Pipelines.{empty_machines, geometry_without_refresh};
 ghost use Rattle.switch_core.specs.PlanLanes.{HavePlaces, PipelineStands, PipelineView, lane_is_drained};
-ghost use Rattle.trace_drive.specs.{Answers.BreaksOff, Drives.{coming, end_machines, fault_of, geometry_for, words_of}, Turns.RunsInTurns};
-ghost use Rattle.query_run.specs.{Reports.{MayPrint, Prints}, Views.{CanBeViewed, views_text}};
+ghost use Rattle.trace_drive.specs.{Answers.BreaksOff, Drives.{coming, end_machines, fault_of, words_of}, Turns.RunsInTurns};
+ghost use Rattle.query_run.specs.{Driven.geometry_of, Reports.{MayPrint, Prints}, Views.{CanBeViewed, views_text}};
 
 use crate::report::Report;
 use crate::showing::write_end;
 use crate::views::write_views;
+use command_line::Setting;
 use marple_base::{Sink, Steps};
 use stage_plan::Plan;
 use std::alloc::Global;
@@ -18,54 +20,59 @@ use std::sync::ledger::Ledger;
 use switch_core::Pipeline;
 use trace_drive::{Packets, RunError, Schedule};
 
-/// Runs a plan over packets, and writes its report: a view after each packet whose number is a multiple of `every`, none where
-/// that is 0, and at the end the report of all packets. The pipeline represents the machines of the plan's groupbys at the
-/// end. Nothing but the views is written before the end.
+// The schedule of a pipeline with this setting: its sizes, and when it does what no packet asks for.
+fn schedule_of(setting: Setting) -> Schedule
+    ensures { result ≡ record { buckets = setting.buckets; pipe = setting.pipe; lag = setting.lag; refresh = setting.refresh } }
+{
+    Schedule {
+        buckets: setting.buckets,
+        pipe: setting.pipe,
+        lag: setting.lag,
+        refresh: setting.refresh,
+    }
+}
+
+/// Runs a plan over packets, with caches of `WAYS` ways, and writes its report: a view after each packet whose number is a
+/// multiple of `every`, none where that is 0, and at the end the report of all packets. The pipeline represents the machines
+/// of the plan's groupbys at the end. Nothing but the views is written before the end.
 pub(crate) fn run_report<const WAYS: usize, R: Report, O: Sink, L: Ledger>(
     alloc: Global,
+    setting: Setting,
+    every: u32,
     report: &R,
     plan: Plan,
-    schedule: Schedule,
-    every: u32,
     packets: Packets<'_>,
     out: &mut O,
     steps: &mut Steps<L>,
 ) -> Result<Pipeline<WAYS>, RunError>
-    requires ways { 0 < WAYS }
-    requires buckets { 0 < schedule.buckets }
-    requires places { schedule.buckets * WAYS ≤ 65536 }
-    requires pipe { (0 < schedule.pipe) × (schedule.pipe ≤ 65536) }
+    requires setting { IsSetting setting }
+    requires ways { (0 < WAYS) × (ways_number setting.ways ≡ WAYS) }
     requires may_print { MayPrint (R.entries report.now) plan (R.may_print report.now) }
     requires whole { AreWhole (words_of (coming packets)) }
     requires viewed { 0 < every → CanBeViewed packets }
     ensures accepted { IfOk result (λ pipeline. fault_of packets.entry ≡ None) }
     ensures written { IfOk result (λ pipeline. (text : Geometry → List (List ℕ) → List ℕ)
         → Prints (R.entries report.now) plan (R.printed report.now) text → Appends (O.taken out.old) (O.taken out.new)
-        (views_text (text (geometry_for WAYS schedule)) every (words_of (coming packets.entry)))) }
+        (views_text (text (geometry_of setting)) every (words_of (coming packets.entry)))) }
     ensures plan { IfOk result (λ pipeline. pipeline.plan ≡ plan) }
     ensures entries { IfOk result (λ pipeline. pipeline.entries ≡ R.entries report.now) }
     ensures machines { IfOk result
-        (λ pipeline. PipelineStands pipeline (end_machines plan (geometry_for WAYS schedule) (words_of (coming packets.entry)))) }
+        (λ pipeline. PipelineStands pipeline (end_machines plan (geometry_of setting) (words_of (coming packets.entry)))) }
     ensures turns { IfOk result (λ pipeline. (fresh : PipelineView)
-        × PipelineStands fresh (empty_machines (geometry_without_refresh WAYS schedule.buckets) plan.groups)
-        × RunsInTurns WAYS schedule.refresh schedule.lag (words_of (coming packets.entry)) fresh pipeline) }
+        × PipelineStands fresh (empty_machines (geometry_without_refresh WAYS setting.buckets) plan.groups)
+        × RunsInTurns WAYS setting.refresh setting.lag (words_of (coming packets.entry)) fresh pipeline) }
     ensures drained { IfOk result (λ pipeline. list_all lane_is_drained pipeline.lanes ≡ true) }
-    ensures buckets { IfOk result (λ pipeline. pipeline.buckets ≡ schedule.buckets) }
-    ensures pipe_places { IfOk result (λ pipeline. HavePlaces schedule.pipe pipeline.lanes) }
+    ensures buckets { IfOk result (λ pipeline. pipeline.buckets ≡ setting.buckets) }
+    ensures pipe_places { IfOk result (λ pipeline. HavePlaces setting.pipe pipeline.lanes) }
     ensures breaks_off { IfErr result (λ answer. (text : Geometry → List (List ℕ) → List ℕ)
         → Prints (R.entries report.now) plan (R.printed report.now) text → BreaksOff O.taken O.faults
-        (views_text (text (geometry_for WAYS schedule)) every (words_of (coming packets.entry)))
+        (views_text (text (geometry_of setting)) every (words_of (coming packets.entry)))
         (fault_of packets.entry) out.old out.new answer) }
     ensures out_later { O.faults out.old ≤ O.faults out.new }
     ensures steps { steps.old ≤ steps.new }
 {
-    let fresh = Pipeline::new(
-        alloc,
-        plan,
-        report.entries(),
-        schedule.buckets,
-        schedule.pipe,
-    )?;
+    let schedule = schedule_of(setting);
+    let fresh = Pipeline::new(alloc, plan, report.entries(), setting.buckets, setting.pipe)?;
     let replay = write_views(alloc, report, fresh, schedule, every, packets, out, steps)?;
     let pipeline = replay.finish(steps)?;
     write_end(alloc, report, &pipeline, out, steps)?;

@@ -17,19 +17,7 @@ use marple_base::{Sink, Steps};
 use stage_plan::Plan;
 use std::alloc::Global;
 use std::sync::ledger::Ledger;
-use trace_drive::{Packets, RunError, Schedule};
-
-// The schedule of a pipeline with this setting: its sizes, and when it does what no packet asks for.
-fn schedule_of(setting: Setting) -> Schedule
-    ensures { result ≡ record { buckets = setting.buckets; pipe = setting.pipe; lag = setting.lag; refresh = setting.refresh } }
-{
-    Schedule {
-        buckets: setting.buckets,
-        pipe: setting.pipe,
-        lag: setting.lag,
-        refresh: setting.refresh,
-    }
-}
+use trace_drive::{Packets, RunError};
 
 /// Makes the setting's ways, a value, into the number of ways of a pipeline, which is part of its type; and runs the report.
 pub(crate) fn run_with_its_ways<R: Report, O: Sink, L: Ledger>(
@@ -61,12 +49,11 @@ pub(crate) fn run_with_its_ways<R: Report, O: Sink, L: Ledger>(
     ensures out_later { O.faults out.old ≤ O.faults out.new }
     ensures steps { steps.old ≤ steps.new }
 {
-    let schedule = schedule_of(setting);
     // What a run with these ways leaves, in the variant for them, or the answer that it broke off with. It is what `?` does,
     // without the two calls that `?` stands for, each of which is more to prove for each number of ways.
     macro_rules! left_in {
         ($variant:ident) => {
-            match run_report(alloc, report, plan, schedule, every, packets, out, steps) {
+            match run_report(alloc, setting, every, report, plan, packets, out, steps) {
                 Ok(pipeline) => Ok(Driven::$variant(pipeline)),
                 Err(answer) => Err(answer),
             }

@@ -1,10 +1,8 @@
 -- what is printed of the packets so far is the report of the tables that a view gives
 use Rattle.std.{proofs.Common.{◌≡◌, ℕ, List, None, ◌++◌, sym, ap, ap₂, ◌∙◌, subst, take}, specs.Io.KnownBytes.Appends}
 use Rattle.epoch_model.specs.Epochs.{Geometry}
-use Rattle.stage_plan.specs.Sound.{IsSoundPlan}
-use Rattle.switch_core.specs.PlanLanes.{AreLanesOf}
 use Rattle.trace_drive.{specs.Answers.BreaksOff, proofs.Breaking.{err_is, nothing_taken, then_err, then_ok}}
-use Rattle.query_run.{specs.{Reports.Prints, Views.{IsAsFarAs, view_text}}, proofs.Seen.{seen_tables, seen_whole}}
+use Rattle.query_run.{specs.{Reports.Prints, Views.{IsAsFarAs, view_text}}, proofs.Seen.{at_an_end, seen_tables, seen_whole}}
 use Rattle.query_run.proofs.showing.write_view.Goals as goal
 use Rattle.query_run.proofs.showing.write_view.Goals.{After-write_report}
 
@@ -12,12 +10,12 @@ pub write_report-requires : goal.write_report-requires
 write_report-requires g c =
     let p = c.args.pipeline.now in
     let r = c.requires.seen in
-    let planned = subst IsSoundPlan c.plan.ensures c.invariant-2.ensures in
-    let lanes = subst (λ e. AreLanesOf e p.plan p.buckets p.lanes) c.requires.entries c.invariant.ensures in
+    let May = g.R.Report.may_print c.args.report.now in
     record {
-      may_print = subst (g.R.Report.may_print c.args.report.now)
-          (sym (seen_tables c.views_end_the_trace.ensures _ _ _ _ p _ lanes c.in_ok-tables.ensures.tables r.2))
-          (c.requires.may_print p.buckets p.lanes r.0 (take c.args.number r.1) planned lanes r.2.room (seen_whole _ _ _ p r.2));
+      may_print = subst May
+          (sym (seen_tables c.views_end_the_trace.ensures _ _ _ _ p _ c.invariant.ensures c.in_ok-tables.ensures.tables r.2))
+          (at_an_end (λ g packets tables. May tables) _ _ _ p r.0 (take c.args.number r.1) c.invariant-2.ensures c.plan.ensures
+          c.invariant.ensures c.requires.entries c.requires.may_print r.2.room (seen_whole _ _ _ p r.2));
     }
 
 pub returns-in_err-tables-clause-breaks_off : goal.returns-in_err-tables-clause-breaks_off
@@ -35,11 +33,11 @@ written_is : (g : _) (c : After-write_report g) (text : Geometry → List (List 
     → c.in_ok-line.line ++ g.R.Report.printed c.args.report.now c.in_ok-tables.tables ≡ view_text (text of) packets c.args.number
 written_is g c text of packets prints far =
     let p = c.args.pipeline.now in
-    let planned = subst IsSoundPlan c.plan.ensures c.invariant-2.ensures in
-    let lanes = subst (λ e. AreLanesOf e p.plan p.buckets p.lanes) c.requires.entries c.invariant.ensures in
+    let printed = g.R.Report.printed c.args.report.now in
     ap₂ (λ line tables. line ++ tables) c.in_ok-line.ensures
-    (ap (g.R.Report.printed c.args.report.now) (seen_tables c.views_end_the_trace.ensures _ _ _ _ p _ lanes c.in_ok-tables.ensures.tables
-    far) ∙ prints.at_ends p.buckets p.lanes of (take c.args.number packets) planned lanes far.room (seen_whole _ _ _ p far))
+    (ap printed (seen_tables c.views_end_the_trace.ensures _ _ _ _ p _ c.invariant.ensures c.in_ok-tables.ensures.tables far)
+    ∙ at_an_end (λ g packets tables. printed tables ≡ text g packets) _ _ _ p of (take c.args.number packets) c.invariant-2.ensures
+    c.plan.ensures c.invariant.ensures c.requires.entries prints.at_ends far.room (seen_whole _ _ _ p far))
 
 pub returns-clause-written : goal.returns-clause-written
 returns-clause-written g c = then_ok c.write_report.result _ _ (λ written text of packets prints far. subst (Appends _ _)
