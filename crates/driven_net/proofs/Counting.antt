@@ -2,9 +2,9 @@
 use Rattle.std.proofs.Common.{◌≡◌, ◌≢◌, ℕ, zero, suc, ◌==◌, Bool, true, false, List, [], ◌∷◌, ◌++◌, replicate, set, Some, refl, sym, ap}
 use Rattle.std.{proofs.{Common.{◌∙◌, subst, arith}, lemmas.{Bool.Decides.nat_tests, List.length-set}}, specs.Prelude.slice_get}
 use Rattle.epoch_model.proofs.KeyLists.{by_test}
-use Rattle.switch_core.proofs.{LaneFacts.got_set, SideBySide.{got_below, same_some}}
+use Rattle.switch_core.proofs.{LaneFacts.{got_other, got_set}, SideBySide.{got_below, same_some}}
 use Rattle.trace_drive.specs.{Clocks.HasCounted, declared.clock.Clock.Clock}
-use Rattle.network.{proofs.SharedSteps.got_other, specs.{Networks.NetworkView, Running.{NetworkEvent, Takes, turn_events}}}
+use Rattle.network.specs.{Networks.NetworkView, Running.{NetworkEvent, Takes, turn_events}}
 use Rattle.driven_net.{specs.Lags.{AreLagClocks, CountsAt, HaveCounted, taken_by}, proofs.Following.{by_on, turn_by}}
 
 -- one clock counts
