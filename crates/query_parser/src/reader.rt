@@ -46,6 +46,19 @@ pub fn charged(role: Role, counts: Counts) -> Read<Counts>
     }
 }
 
+// The span of the next token, which has this form and counts as nothing.
+macro_rules! take {
+    ($reader:expr, $form:pat) => {
+        match $reader.rest {
+            [Token { kind: $form, span }, later @ ..] => {
+                $reader.rest = later;
+                Ok(*span)
+            }
+            _ => Err(Halt::At(Stop::Unexpected)),
+        }
+    };
+}
+
 /// Where reading stands: what the item has counted so far, and the tokens that are left. At a fault it stands there.
 #[derive(Drop)]
 pub struct Reader<'a> {
@@ -164,38 +177,14 @@ impl Reader<'_> {
     pub fn five_tuple(&mut self) -> Read<Span>
         ensures { Sees result self.old self.new (token_of Limited kinds.FiveTuple) }
     {
-        match self.rest {
-            [
-                Token {
-                    kind: TokenKind::FiveTuple,
-                    span,
-                },
-                later @ ..,
-            ] => {
-                self.rest = later;
-                Ok(*span)
-            }
-            _ => Err(Halt::At(Stop::Unexpected)),
-        }
+        take!(self, TokenKind::FiveTuple)
     }
 
     /// The end of the text.
     pub fn end(&mut self) -> Read<Span>
         ensures { Sees result self.old self.new (token_of Limited kinds.End) }
     {
-        match self.rest {
-            [
-                Token {
-                    kind: TokenKind::End,
-                    span,
-                },
-                later @ ..,
-            ] => {
-                self.rest = later;
-                Ok(*span)
-            }
-            _ => Err(Halt::At(Stop::Unexpected)),
-        }
+        take!(self, TokenKind::End)
     }
 
     /// The fault at this bracket, where no more may be opened.
