@@ -71,6 +71,10 @@ numbered_are : (n : ℕ) (packets : List (List ℕ)) → numbered n packets ≡ 
 numbered_are n [] = refl
 numbered_are n (words ∷ packets) = cc (numbered_are (suc n) packets)
 
+both_ways : (P : Bool → Type 0) → P true → P false → (b : Bool) → P b
+both_ways P holds fails true = holds
+both_ways P holds fails false = fails
+
 -- what is made of each row alone is made of the tuples of packets that have these rows
 rows_are : (stream : List Tuple → List Tuple) (row : Row → Row) → stream [] ≡ []
     → ((n : ℕ) (o : Row) (rest : List Tuple) → stream (tuple_of n o ++ rest) ≡ tuple_of n (row o) ++ stream rest)
@@ -87,12 +91,9 @@ filter_are condition = rows_are (filter_stream condition) (filter_row condition)
     go : (n : ℕ) (o : Row) (rest : List Tuple) → filter_stream condition (tuple_of n o ++ rest) ≡ tuple_of n (filter_row condition o)
         ++ filter_stream condition rest
     go n None rest = refl
-    go n (Some row) rest = pick (holds (expr_value condition row))
-      where
-        pick : (b : Bool) → cond b (record { packet = n; row = row } ∷ filter_stream condition rest) (filter_stream condition rest)
-            ≡ tuple_of n (cond b (Some row) None) ++ filter_stream condition rest
-        pick true = refl
-        pick false = refl
+    go n (Some row) rest = both_ways (λ b. cond b (record { packet = n; row = row } ∷ filter_stream condition rest)
+        (filter_stream condition rest) ≡ tuple_of n (cond b (Some row) None) ++ filter_stream condition rest) refl refl
+        (holds (expr_value condition row))
 
 map_are : (values : List TypedExpr) (f : List ℕ → Row) (n : ℕ) (packets : List (List ℕ)) →
     map_stream values (tuples f n packets) ≡ tuples (λ words. map_row values (f words)) n packets
@@ -110,14 +111,11 @@ emit_are f keys args = rows_are (group_stream (Some f) keys args) (emit_row f ke
     go : (n : ℕ) (o : Row) (rest : List Tuple) → group_stream (Some f) keys args (tuple_of n o ++ rest) ≡ tuple_of n
         (emit_row f keys args o) ++ group_stream (Some f) keys args rest
     go n None rest = refl
-    go n (Some row) rest = pick (emits_at f (values_at row args))
-      where
-        pick : (b : Bool) → map (λ t. record { packet = t.packet; row = values_at t.row keys })
-            (cond b (record { packet = n; row = row } ∷ filter (λ t. emits_at f (values_at t.row args)) rest)
-            (filter (λ t. emits_at f (values_at t.row args)) rest))
-            ≡ tuple_of n (cond b (Some (values_at row keys)) None) ++ group_stream (Some f) keys args rest
-        pick true = refl
-        pick false = refl
+    go n (Some row) rest = both_ways (λ b. map (λ t. record { packet = t.packet; row = values_at t.row keys })
+        (cond b (record { packet = n; row = row } ∷ filter (λ t. emits_at f (values_at t.row args)) rest)
+        (filter (λ t. emits_at f (values_at t.row args)) rest))
+        ≡ tuple_of n (cond b (Some (values_at row keys)) None) ++ group_stream (Some f) keys args rest) refl refl
+        (emits_at f (values_at row args))
 
 none_are : (n : ℕ) (packets : List (List ℕ)) → [] ≡ tuples (λ words. None) n packets
 none_are n [] = refl
