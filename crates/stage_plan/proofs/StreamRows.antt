@@ -75,10 +75,13 @@ both_ways : (P : Bool → Type 0) → P true → P false → (b : Bool) → P b
 both_ways P holds fails true = holds
 both_ways P holds fails false = fails
 
--- what is made of each row alone is made of the tuples of packets that have these rows
-rows_are : (stream : List Tuple → List Tuple) (row : Row → Row) → stream [] ≡ []
-    → ((n : ℕ) (o : Row) (rest : List Tuple) → stream (tuple_of n o ++ rest) ≡ tuple_of n (row o) ++ stream rest)
-    → (f : List ℕ → Row) (n : ℕ) (packets : List (List ℕ)) → stream (tuples f n packets) ≡ tuples (λ words. row (f words)) n packets
+-- a stream makes of each tuple what is made of its row
+abbrev IsOfRows : (List Tuple → List Tuple) → (Row → Row) → Type 0
+IsOfRows stream row = (n : ℕ) (o : Row) (rest : List Tuple) → stream (tuple_of n o ++ rest) ≡ tuple_of n (row o) ++ stream rest
+
+-- so it makes that of the tuples of packets
+rows_are : (stream : List Tuple → List Tuple) (row : Row → Row) → stream [] ≡ [] → IsOfRows stream row → (f : List ℕ → Row) (n : ℕ)
+    (packets : List (List ℕ)) → stream (tuples f n packets) ≡ tuples (λ words. row (f words)) n packets
 rows_are _ _ none _ f n [] = none
 rows_are stream row none more f n (words ∷ packets) =
     more n (f words) (tuples f (suc n) packets)
@@ -88,8 +91,7 @@ filter_are : (condition : TypedExpr) (f : List ℕ → Row) (n : ℕ) (packets :
     filter_stream condition (tuples f n packets) ≡ tuples (λ words. filter_row condition (f words)) n packets
 filter_are condition = rows_are (filter_stream condition) (filter_row condition) refl go
   where
-    go : (n : ℕ) (o : Row) (rest : List Tuple) → filter_stream condition (tuple_of n o ++ rest) ≡ tuple_of n (filter_row condition o)
-        ++ filter_stream condition rest
+    go : IsOfRows (filter_stream condition) (filter_row condition)
     go n None rest = refl
     go n (Some row) rest = both_ways (λ b. cond b (record { packet = n; row = row } ∷ filter_stream condition rest)
         (filter_stream condition rest) ≡ tuple_of n (cond b (Some row) None) ++ filter_stream condition rest) refl refl
@@ -99,8 +101,7 @@ map_are : (values : List TypedExpr) (f : List ℕ → Row) (n : ℕ) (packets : 
     map_stream values (tuples f n packets) ≡ tuples (λ words. map_row values (f words)) n packets
 map_are values = rows_are (map_stream values) (map_row values) refl go
   where
-    go : (n : ℕ) (o : Row) (rest : List Tuple) → map_stream values (tuple_of n o ++ rest) ≡ tuple_of n (map_row values o)
-        ++ map_stream values rest
+    go : IsOfRows (map_stream values) (map_row values)
     go n None rest = refl
     go n (Some row) rest = refl
 
@@ -108,8 +109,7 @@ emit_are : (f : TypedFold) (keys args : List ℕ) (g : List ℕ → Row) (n : �
     group_stream (Some f) keys args (tuples g n packets) ≡ tuples (λ words. emit_row f keys args (g words)) n packets
 emit_are f keys args = rows_are (group_stream (Some f) keys args) (emit_row f keys args) refl go
   where
-    go : (n : ℕ) (o : Row) (rest : List Tuple) → group_stream (Some f) keys args (tuple_of n o ++ rest) ≡ tuple_of n
-        (emit_row f keys args o) ++ group_stream (Some f) keys args rest
+    go : IsOfRows (group_stream (Some f) keys args) (emit_row f keys args)
     go n None rest = refl
     go n (Some row) rest = both_ways (λ b. map (λ t. record { packet = t.packet; row = values_at t.row keys })
         (cond b (record { packet = n; row = row } ∷ filter (λ t. emits_at f (values_at t.row args)) rest)
