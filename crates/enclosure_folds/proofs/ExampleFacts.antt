@@ -1,9 +1,8 @@
--- The examples, from their definitions.
-use Rattle.std.{proofs.Common.{◌≡◌, ℕ, ◌-◌, ◌^◌, Bool, true, false, List, [], ◌∷◌, map, replicate, refl, ap, ◌∙◌}, specs.Prelude.fold}
-use Rattle.query_lang.specs.{declared.fold.TypedFold.TypedFold, Words.op_value, Blocks.Block, Folds.{after, fold_block, initial_state}}
+-- The bounds of the key of an example, from their definition.
+use Rattle.std.{proofs.Common.{◌≡◌, ℕ, ◌-◌, ◌^◌, Bool, List, [], ◌∷◌, map, replicate, ap, ◌∙◌}, specs.Prelude.fold}
+use Rattle.query_lang.specs.{declared.fold.TypedFold.TypedFold, Blocks.Block, Folds.{after, fold_block, initial_state}}
 use Rattle.epoch_model.specs.Keys.{ArgRow}
-use Rattle.enclosure_folds.specs.{MonotoneExamples.{HasBody, decayed_sum, clamped}, Bounds.{low_bound, high_bound, is_exact}}
-use Rattle.enclosure_folds.specs.Examples.{AreKeyBounds, one_epoch, two_epochs}
+use Rattle.enclosure_folds.specs.{MonotoneExamples.HasBody, Bounds.{low_bound, high_bound, is_exact}, Examples.AreKeyBounds}
 use Rattle.epoch_entry.specs.{Triples.beside, Bounds.bounds_after}
 
 abbrev triple_by : ℕ → Block → List ℕ → List ArgRow → List ℕ
@@ -17,27 +16,11 @@ triples_are b f lists h e =
     ∙ ap (λ z. map (triple_by 1 z (initial_state f)) lists) h.1
     ∙ ap (λ z. map (triple_by 1 b z) lists) e
 
-key_bounds : (b : Block) (lists : List (List ArgRow)) (low high : ℕ) (mark : Bool) → low_bound 1 (map (triple_by 1 b (0 ∷ [])) lists) ≡ low
-    ∷ [] → high_bound 1 (map (triple_by 1 b (0 ∷ [])) lists) ≡ high ∷ [] →
-    is_exact (low ∷ []) (high ∷ []) ≡ mark → AreKeyBounds b lists low high mark
+pub key_bounds : (b : Block) (lists : List (List ArgRow)) (low high : ℕ) (mark : Bool)
+    → low_bound 1 (map (triple_by 1 b (0 ∷ [])) lists) ≡ low ∷ [] → high_bound 1 (map (triple_by 1 b (0 ∷ [])) lists) ≡ high ∷ []
+    → is_exact (low ∷ []) (high ∷ []) ≡ mark → AreKeyBounds b lists low high mark
 key_bounds b lists low high mark el eh em f h e =
     let t = triples_are b f lists h e in
     let l = ap (low_bound 1) t ∙ el in
     let u = ap (high_bound 1) t ∙ eh in
     (l, u, ap (λ z. is_exact z (high_bound 1 (map (bounds_after f) lists))) l ∙ ap (is_exact (low ∷ [])) u ∙ em)
-
-pub decayed_twice : AreKeyBounds decayed_sum (two_epochs 8 8) 8 9223372036854775816 false
-unfolding op_value
-decayed_twice = key_bounds _ (two_epochs 8 8) 8 9223372036854775816 _ refl refl refl
-
-pub decayed_once : AreKeyBounds decayed_sum (one_epoch 0) 0 0 true
-unfolding op_value
-decayed_once = key_bounds _ (one_epoch 0) 0 0 _ refl refl refl
-
-pub clamped_twice : AreKeyBounds clamped (two_epochs 12 20) 10 10 true
-unfolding op_value
-clamped_twice = key_bounds _ (two_epochs 12 20) 10 10 _ refl refl refl
-
-pub clamped_once : AreKeyBounds clamped (one_epoch 3) 3 3 true
-unfolding op_value
-clamped_once = key_bounds clamped (one_epoch 3) 3 3 true refl refl refl

@@ -55,11 +55,6 @@ product_order _ x y u e p = cc
 
 pub no_difference : (op : Op) → role op ≡ Difference → ⊥
 no_difference Max e = cc
-no_difference Min e = cc
-no_difference Sadd e = cc
-no_difference Decay e = cc
-no_difference Shr e = cc
-no_difference Div e = cc
 no_difference _ e = cc
 
 -- the right operand of a product is a number
