@@ -8,7 +8,8 @@ pub returns-in_ok-push_both-clause-made : goal.returns-in_ok-push_both-clause-ma
 returns-in_ok-push_both-clause-made g c =
     let next = rows_from c.args.right.now c.args.at (row_of c.get-other.result) c.get-other.ensures in
     let same = sym c.is_same_key.ensures ∙ c.if-is_same_key.true in
-    c.in_ok-push_both.ensures.row ∙ ap (λ rows. c.args.made.now ++ rows) (sym (ap (joined_first (row_of c.args.left.now)) next ∙ rw same refl))
+    c.in_ok-push_both.ensures.row
+    ∙ ap (λ rows. c.args.made.now ++ rows) (sym (ap (joined_first (row_of c.args.left.now)) next ∙ rw same refl))
 
 pub returns-else-is_same_key-clause-made : goal.returns-else-is_same_key-clause-made
 returns-else-is_same_key-clause-made g c =

@@ -7,8 +7,10 @@ use Rattle.fold_code.proofs.emit.+emit_stmt.Goals as goal
 pub emit_stmt-requires : goal.emit_stmt-requires
 emit_stmt-requires t c =
     let size = size_choice (vec_len c.args.code.now) c.in-If.is c.as_slice-inner-items.ensures refl c.in_ok-condition-in-If.ensures.length
-    c.in_ok-then_mask-in-If.ensures.length c.in_ok-else_mask-in-If.ensures.length in
-    (search (rules, the_lemmas), emits_room c.then_block.invariant c.then_block-test.true c.inner-item.is (omega (arith, size, c.requires.room)))
+    c.in_ok-then_mask-in-If.ensures.length c.in_ok-else_mask-in-If.ensures.length in (
+      search (rules, the_lemmas),
+      emits_room c.then_block.invariant c.then_block-test.true c.inner-item.is (omega (arith, size, c.requires.room)),
+    )
 
 pub then_block-preserved : goal.then_block-preserved
 then_block-preserved t c = emits_more c.then_block.invariant c.then_block-test.true c.inner-item.is c.in_ok-emit_stmt-in-If.ensures.items

@@ -18,7 +18,8 @@ pub packet-requires : goal.packet-requires
 packet-requires g c = (lit< tt, all_ready c.keep_up.new.self.lanes c.in_ok-keep_up.ensures.left)
 
 -- the turn ends in a pipeline that follows the machines after the packet's number, where it swept as the clock said
-led : {X E : Type 0} (g : _) (c : After-packet g) (sweeps : Bool) (new : PipelineView) (r : Result X E) → c.is_due-refresh_now.result ≡ sweeps
+led : {X E : Type 0} (g : _) (c : After-packet g) (sweeps : Bool) (new : PipelineView) (r : Result X E)
+    → c.is_due-refresh_now.result ≡ sweeps
     → (let past' = past g.row.WAYS c.args.packet.now.words c.args.pipeline.now in
     OnOk r ((after : ℕ → Machine) → FollowsBy after c.args.pipeline.now
     → FollowsBy (λ i. if sweeps then empty_buckets c.args.pipeline.now.buckets (past' after i) else past' after i) new))
@@ -49,7 +50,8 @@ returns-then-refresh_now-clause-follows g c =
     let x = (goal.at.returns-then-refresh_now-clause-follows g c).After-packet in
     let new = c.sweep_after.new.pipeline in
     led g x true new c.sweep_after.result c.if-refresh_now.true (on_ok _ _ c.sweep_after.result
-    (swept_after g.row.WAYS c.args.packet.now.words c.args.pipeline.now c.packet.new.self new (past_packet g x)) c.sweep_after.ensures.follows)
+    (swept_after g.row.WAYS c.args.packet.now.words c.args.pipeline.now c.packet.new.self new (past_packet g x))
+    c.sweep_after.ensures.follows)
 
 pub returns-then-lag_over-clause-follows : goal.returns-then-lag_over-clause-follows
 returns-then-lag_over-clause-follows g c =
