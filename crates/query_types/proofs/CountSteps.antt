@@ -17,6 +17,15 @@ module _ {X : Type 0} (f : X → ℕ) (xs : List X) (i : ℕ) where
   pub item_first : {x : X} → i < length xs → x ≡ get_or xs i x → sum_by f (drop i xs) ≡ f x + sum_by f (drop (i + 1) xs)
   item_first {x} h is = omega (arith, ap f is, sum_by-drop_more f xs i x h)
 
+  -- the items that are left, with one of them counted
+  pub item_counted : {x : X} (n : ℕ) {m all : ℕ} → i < length xs → x ≡ get_or xs i x → n + sum_by f (drop i xs) ≡ all → m ≡ f x
+      → (n + m) + sum_by f (drop (i + 1) xs) ≡ all
+  item_counted n h is so e = omega (arith, item_first h is, so, e)
+
+  pub item_fits : {x : X} (n : ℕ) {m all most : ℕ} → i < length xs → x ≡ get_or xs i x → n + sum_by f (drop i xs) ≡ all → m ≡ f x → all < most
+      → n + m < most
+  item_fits n h is so e lt = omega (arith, item_first h is, so, e, lt)
+
   -- the greatest of those before, this one and those after
   pub greatest_more : {x : X} {most all : ℕ} → i < length xs → x ≡ get_or xs i x → f x < most
       → (greatest_of (map f (drop i xs)) < most → all < most) → greatest_of (map f (drop (i + 1) xs)) < most → all < most

@@ -1,7 +1,7 @@
 -- A statement counts for no more than its block, a block for no more than its choice, and what is left of a block is counted after it.
-use Rattle.std.{proofs.{Common.{◌≡◌, ◌+◌, refl, arith}, lemmas.List.at_drop_all}, specs.Prelude.{drop, sum_by}}
+use Rattle.std.{proofs.{Common.{refl, arith}, lemmas.List.at_drop_all}, specs.Prelude.sum_by}
 use Rattle.query_lang.specs.TypedFolds.{stmt_nodes, stmt_count}
-use Rattle.query_types.proofs.CountSteps.{item_within, item_first, nodes_if, count_if}
+use Rattle.query_types.proofs.CountSteps.{item_within, item_counted, item_fits, nodes_if, count_if}
 use Rattle.query_types.proofs.folds.+counts.Goals as goal
 
 pub count_block-count_statement-counts-requires : goal.count_block-count_statement-counts-requires
@@ -14,16 +14,10 @@ count_block-count_statement-counts-requires t c =
 
 pub count_block-loop-one-preserved : goal.count_block-loop-one-preserved
 count_block-loop-one-preserved t c = record {
-  nodes = omega (
-    arith,
-    item_first stmt_nodes c.args.body.now c.loop-one.one-index c.loop-one-test.true c.one-item.is,
-    c.count_statement-counts.ensures.nodes,
-  );
-  statements = omega (
-    arith,
-    item_first stmt_count c.args.body.now c.loop-one.one-index c.loop-one-test.true c.one-item.is,
-    c.count_statement-counts.ensures.statements,
-  );
+  nodes = item_counted stmt_nodes c.args.body.now c.loop-one.one-index _ c.loop-one-test.true c.one-item.is c.loop-one.invariant.nodes
+      c.count_statement-counts.ensures.nodes;
+  statements = item_counted stmt_count c.args.body.now c.loop-one.one-index _ c.loop-one-test.true c.one-item.is
+      c.loop-one.invariant.statements c.count_statement-counts.ensures.statements;
 }
 
 pub count_block-returns : goal.count_block-returns
@@ -60,15 +54,13 @@ count_statement-returns-in-If t c = record {
 pub count_block-overflow_add-nodes : goal.count_block-overflow_add-nodes
 count_block-overflow_add-nodes t c = omega (
   arith,
-  item_first stmt_nodes c.args.body.now c.loop-one.one-index c.loop-one-test.true c.one-item.is,
-  c.count_statement-counts.ensures.nodes,
-  c.requires.nodes,
+  item_fits stmt_nodes c.args.body.now c.loop-one.one-index _ c.loop-one-test.true c.one-item.is c.loop-one.invariant.nodes
+      c.count_statement-counts.ensures.nodes c.requires.nodes,
 )
 
 pub count_block-overflow_add-statements : goal.count_block-overflow_add-statements
 count_block-overflow_add-statements t c = omega (
   arith,
-  item_first stmt_count c.args.body.now c.loop-one.one-index c.loop-one-test.true c.one-item.is,
-  c.count_statement-counts.ensures.statements,
-  c.requires.statements,
+  item_fits stmt_count c.args.body.now c.loop-one.one-index _ c.loop-one-test.true c.one-item.is c.loop-one.invariant.statements
+      c.count_statement-counts.ensures.statements c.requires.statements,
 )
