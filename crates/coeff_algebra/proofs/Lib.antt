@@ -1,2 +1,3 @@
 pub mod PlaceLemmas
+mod SumLemmas
 pub mod MapLemmas

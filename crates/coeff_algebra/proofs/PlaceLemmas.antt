@@ -66,6 +66,9 @@ more_words m w h = grind arith
 pub row_room : (n w row : ℕ) → 1 ≤ w → row < n → row < n * (n + 1) * w
 row_room n w row hw h = omega (arith, more_words (n * (n + 1)) w hw, more_words n (n + 1) (omega arith))
 
+pub state_room : (n w : ℕ) → 1 ≤ w → n ≤ n * (n + 1) * w
+state_room n w hw = omega (arith, more_words (n * (n + 1)) w hw, more_words n (n + 1) (omega arith))
+
 -- places of one row are apart, and so are those before it
 pub columns_apart : (start j column : ℕ) → j < column → start + j ≢ start + column
 columns_apart start j column h = omega arith

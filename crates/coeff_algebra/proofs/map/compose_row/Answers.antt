@@ -54,3 +54,26 @@ loop-column-preserved g c =
       steps = columns_steps c.args.steps.now c.loop-column.steps c.dot-products.new.steps column n c.loop-column.invariant.steps
           c.dot-products.ensures.steps;
     }
+
+pub dot-products-requires-clause-later : goal.dot-products-requires-clause-later
+dot-products-requires-clause-later g c = c.requires.later
+
+pub dot-products-requires-clause-earlier : goal.dot-products-requires-clause-earlier
+dot-products-requires-clause-earlier g c = c.requires.earlier
+
+pub dot-products-requires-clause-row : goal.dot-products-requires-clause-row
+dot-products-requires-clause-row g c = c.requires.row
+
+pub dot-products-requires-clause-column : goal.dot-products-requires-clause-column
+dot-products-requires-clause-column g c = omega (arith, c.loop-column-test.true)
+
+pub returns-clause-entries : goal.returns-clause-entries
+returns-clause-entries g c j h = c.loop-column.invariant.entries j (omega (arith, h, c.loop-column-test.false))
+
+pub returns-clause-before : goal.returns-clause-before
+returns-clause-before g c = c.loop-column.invariant.before
+
+pub returns-clause-steps : goal.returns-clause-steps
+returns-clause-steps g c =
+    let at_end : c.loop-column.column ≡ c.args.n + 1 = omega (arith, c.loop-column.auto.column-end, c.loop-column-test.false) in
+    subst (λ k. c.loop-column.steps ≡ c.args.steps.now + k * c.args.n) at_end c.loop-column.invariant.steps
