@@ -38,8 +38,11 @@ row-lies : (width b count : ℕ) (xs : List ℕ) → b < count → length xs ≡
 row-lies width b count xs h e = let f = row_fits b count width h in omega arith
 
 module _ {ways kw : ℕ} {used order words : List ℕ} (b : ℕ) (are : AreBuckets ways kw used order words) (h : b < length used) where
-  long : length (lent_row ways b order) ≡ ways
+  pub long : length (lent_row ways b order) ≡ ways
   long = rw (lent-is ways b order, order-long b are h)
+
+  pub lent-flat : length (lent_row (ways * kw) b words) ≡ length (lent_row ways b order) * kw
+  lent-flat = ap length (lent-is (ways * kw) b words) ∙ (words-long b are h ∙ ap (λ n. n * kw) (sym long))
 
   -- the bounds of the rows lie within the parts, which are small
   pub bounded : IsBounded ways kw b order words
