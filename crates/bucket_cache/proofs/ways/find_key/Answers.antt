@@ -1,5 +1,5 @@
 -- The ways so far have other keys, so the first that has the same is where the key is, and else no way has it.
-use Rattle.std.proofs.{Common.{◌≡◌, ◌+◌, ◌<◌, ℕ, [], length, get_or, false, ap, sym, ◌∙◌, arith, ⊎_elim, subst, refl}, lemmas.Bool.cases_eq}
+use Rattle.std.proofs.{Common.{◌≡◌, ◌+◌, ◌*◌, ◌<◌, ◌≤◌, ℕ, [], length, get_or, false, ap, sym, ◌∙◌, arith, ⊎_elim, subst, refl}, lemmas.Bool.cases_eq}
 use Rattle.epoch_model.specs.Keys.{key_eq}
 use Rattle.bucket_cache.{specs.Slices.rows_of, proofs.FlatRows.{row_fits, row_width, get-rows_of}}
 use Rattle.bucket_cache.proofs.ways.find_key.Goals as goal
@@ -58,3 +58,24 @@ loop-i-preserved g c =
   where
     below : (at i : ℕ) → at < i + 1 → (at ≡ i → ⊥) → at < i
     below at i h d = grind arith
+
+pub bounds-order-i : goal.bounds-order-i
+bounds-order-i g c = omega (arith, c.loop-i-test.true, c.requires.within)
+
+pub returns-then-same-clause-found : goal.returns-then-same-clause-found
+returns-then-same-clause-found g c = c.loop-i-test.true
+
+pub returns-then-same-clause-steps : goal.returns-then-same-clause-steps
+returns-then-same-clause-steps g c = omega (arith, c.tick_many.ensures, c.loop-i.invariant.steps)
+
+pub returns-clause-none : goal.returns-clause-none
+returns-clause-none g c at h = c.loop-i.invariant.none at (omega (arith, h, c.loop-i-test.false))
+
+pub returns-clause-steps : goal.returns-clause-steps
+returns-clause-steps g c = omega (arith, c.tick_many-2.ensures, c.loop-i.invariant.steps)
+
+pub returns-clause-cost : goal.returns-clause-cost
+returns-clause-cost g c =
+    let at_end : c.loop-i.i ≡ c.args.used = omega (arith, c.loop-i.auto.i-end, c.loop-i-test.false) in
+    let compared = subst (λ n. c.loop-i.compared ≤ n * length c.args.key.now) at_end c.loop-i.invariant.compared in
+    omega (arith, compared, c.tick_many-2.ensures, c.loop-i.invariant.steps)

@@ -25,3 +25,15 @@ returns-clause-keys g c =
       set-rows_of kw (length c.args.order.now) words c.way_at-way.result c.args.key.now below
           c.requires.flat (let e : kw ≡ kw = omega arith in e),
     )
+
+pub way_at-way-requires-clause-within : goal.way_at-way-requires-clause-within
+way_at-way-requires-clause-within g c = c.requires.within
+
+pub way_at-way-requires-clause-below : goal.way_at-way-requires-clause-below
+way_at-way-requires-clause-below g c = c.requires.ways c.args.at 0 c.requires.within
+
+pub returns-clause-way : goal.returns-clause-way
+returns-clause-way g c = c.way_at-way.ensures
+
+pub returns-clause-moved : goal.returns-clause-moved
+returns-clause-moved g c = c.move_to_front.ensures.moved

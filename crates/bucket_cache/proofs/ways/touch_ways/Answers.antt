@@ -1,5 +1,5 @@
 -- A hit goes to the front; a key that no way has takes a free way, and where there is none the last way is the least recent.
-use Rattle.std.proofs.Common.{◌≡◌, ◌∙◌, false, length, take, get_or, set, ap, refl, subst, arith}
+use Rattle.std.proofs.Common.{◌≡◌, ◌-◌, ◌∙◌, false, length, take, get_or, set, ap, refl, subst, arith}
 use Rattle.bucket_cache.{specs.{Slices.rows_of, Buckets.{has_key, pairs_at}}, proofs.BucketLists.{hit-has, hit-place, hit-pairs, hit-bucket}}
 use Rattle.bucket_cache.proofs.BucketLists.{none-in-front, free-pairs, free-bucket, least-pair, few-pairs, other-first}
 use Rattle.bucket_cache.proofs.ways.touch_ways.Goals as goal
@@ -75,3 +75,60 @@ returns-else-used-order-clause-touched g c =
       least-pair c.args.first used order keys (let s = c.requires.bucket.some in omega arith) c.requires.bucket.within,
       refl,
     )
+
+-- the ways of a bucket are small numbers, and those in use lie within it
+pub find_key-requires-clause-within : goal.find_key-requires-clause-within
+find_key-requires-clause-within g c = c.requires.bucket.within
+
+pub find_key-requires-clause-ways : goal.find_key-requires-clause-ways
+find_key-requires-clause-ways g c = c.requires.bucket.ways
+
+pub find_key-requires-clause-flat : goal.find_key-requires-clause-flat
+find_key-requires-clause-flat g c = c.requires.flat
+
+pub find_key-requires-clause-compared : goal.find_key-requires-clause-compared
+find_key-requires-clause-compared g c = c.requires.compared
+
+pub way_at-way-requires-clause-within : goal.way_at-way-requires-clause-within
+way_at-way-requires-clause-within g c = omega (arith, c.in-Some.ensures.found, c.requires.bucket.within)
+
+pub way_at-way-requires-clause-below : goal.way_at-way-requires-clause-below
+way_at-way-requires-clause-below g c =
+    c.requires.bucket.ways c.in-Some.at 0 (omega (arith, c.in-Some.ensures.found, c.requires.bucket.within))
+
+pub overflow_add-result : goal.overflow_add-result
+overflow_add-result g c =
+    let below = c.requires.bucket.ways c.in-Some.at 0 (omega (arith, c.in-Some.ensures.found, c.requires.bucket.within)) in
+    omega (arith, below, c.way_at-way.ensures, c.requires.bucket.places)
+
+pub put-way-requires-clause-within : goal.put-way-requires-clause-within
+put-way-requires-clause-within g c = c.if-used-order.true
+
+pub put-way-requires-clause-ways : goal.put-way-requires-clause-ways
+put-way-requires-clause-ways g c = c.requires.bucket.ways
+
+pub put-way-requires-clause-flat : goal.put-way-requires-clause-flat
+put-way-requires-clause-flat g c = c.requires.flat
+
+pub overflow_add-used : goal.overflow_add-used
+overflow_add-used g c = omega (arith, c.if-used-order.true, c.requires.bucket.places)
+
+pub overflow_add-result-then-used-order : goal.overflow_add-result-then-used-order
+overflow_add-result-then-used-order g c =
+    let below = c.requires.bucket.ways c.args.used.now 0 c.if-used-order.true in
+    omega (arith, below, c.put-way.ensures.way, c.requires.bucket.places)
+
+pub overflow_sub-used : goal.overflow_sub-used
+overflow_sub-used g c = omega (arith, c.if-used-order.false, c.requires.bucket.some)
+
+pub way_at-way-requires-else-used-order-clause-within : goal.way_at-way-requires-else-used-order-clause-within
+way_at-way-requires-else-used-order-clause-within g c = omega (arith, c.requires.bucket.within, c.requires.bucket.some)
+
+pub way_at-way-requires-else-used-order-clause-below : goal.way_at-way-requires-else-used-order-clause-below
+way_at-way-requires-else-used-order-clause-below g c =
+    c.requires.bucket.ways (c.args.used.now - 1) 0 (omega (arith, c.requires.bucket.within, c.requires.bucket.some))
+
+pub overflow_add-result-else-used-order : goal.overflow_add-result-else-used-order
+overflow_add-result-else-used-order g c =
+    let below = c.requires.bucket.ways (c.args.used.now - 1) 0 (omega (arith, c.requires.bucket.within, c.requires.bucket.some)) in
+    omega (arith, below, c.way_at-way-else-used-order.ensures, c.requires.bucket.places)
