@@ -142,3 +142,41 @@ pub returns-clause-pipe_places : goal.returns-clause-pipe_places
 returns-clause-pipe_places g c =
     c.in_ok-pipeline.ensures.pipe_places c.args.setting.pipe
     (places_kept _ _ _ c.in_ok-replay.ensures.keeps.places c.in_ok-fresh.ensures.pipe_places)
+
+pub returns-in_err-replay-clause-out_later : goal.returns-in_err-replay-clause-out_later
+returns-in_err-replay-clause-out_later g c = c.write_views.ensures.out_later
+
+pub returns-in_err-replay-clause-steps : goal.returns-in_err-replay-clause-steps
+returns-in_err-replay-clause-steps g c = c.write_views.ensures.steps
+
+pub returns-in_err-pipeline-clause-out_later : goal.returns-in_err-pipeline-clause-out_later
+returns-in_err-pipeline-clause-out_later g c = c.write_views.ensures.out_later
+
+pub returns-in_err-pipeline-clause-steps : goal.returns-in_err-pipeline-clause-steps
+returns-in_err-pipeline-clause-steps g c = omega (arith, c.write_views.ensures.steps, c.finish.ensures.steps)
+
+pub returns-in_err-write_end-clause-out_later : goal.returns-in_err-write_end-clause-out_later
+returns-in_err-write_end-clause-out_later g c = omega (arith, c.write_views.ensures.out_later, c.write_end.ensures.out_later)
+
+pub returns-in_err-write_end-clause-steps : goal.returns-in_err-write_end-clause-steps
+returns-in_err-write_end-clause-steps g c = omega (arith, c.write_views.ensures.steps, c.finish.ensures.steps, c.write_end.ensures.steps)
+
+pub returns-clause-out_later : goal.returns-clause-out_later
+returns-clause-out_later g c = omega (arith, c.write_views.ensures.out_later, c.write_end.ensures.out_later)
+
+pub returns-clause-steps : goal.returns-clause-steps
+returns-clause-steps g c = omega (arith, c.write_views.ensures.steps, c.finish.ensures.steps, c.write_end.ensures.steps)
+
+pub returns-clause-accepted : goal.returns-clause-accepted
+returns-clause-accepted g c = sym c.in_ok-replay.ensures.fault ∙ c.in_ok-pipeline.ensures.accepted
+
+pub returns-clause-plan : goal.returns-clause-plan
+returns-clause-plan g c = c.in_ok-pipeline.ensures.keeps.plan ∙ (c.in_ok-replay.ensures.keeps.plan ∙ c.in_ok-fresh.ensures.plan)
+
+pub returns-clause-entries : goal.returns-clause-entries
+returns-clause-entries g c =
+    c.in_ok-pipeline.ensures.keeps.entries
+    ∙ (c.in_ok-replay.ensures.keeps.entries ∙ (c.in_ok-fresh.ensures.entries ∙ c.entries.ensures))
+
+pub returns-clause-drained : goal.returns-clause-drained
+returns-clause-drained g c = c.in_ok-pipeline.ensures.drained
