@@ -1,13 +1,13 @@
 //! The trace of the generator, written in pieces while its packets are made.
 
-ghost use Rattle.std.specs.{Prelude.{◌≡◌, ◌++◌, ◌<◌, ◌≤◌, ◌^◌, IsErrOf, OnErr, OnOk}, Io.KnownBytes.Appends};
+ghost use Rattle.std.specs.{Prelude.{◌≡◌, ◌++◌, ◌<◌, ◌≤◌, ◌^◌, IfOk, IsErrOf, OnErr, OnOk}, Io.KnownBytes.Appends};
 ghost use Rattle.marple_base.specs.{Faults.Rose, Sink.TakesFront, Pieces.TakesAllBut};
-ghost use Rattle.queue_sim.specs.{Generator.simulated, TraceText.trace_text};
+ghost use Rattle.queue_sim.specs.{Generator.simulated, TraceText.{header, line, trace_text}};
 
 use crate::generator::Generator;
 use crate::text::{HEADER, LineBuffer};
 use marple_base::{Field, Sink, WriteError, write_all};
-use std::alloc::Global;
+use std::alloc::{AllocError, Global};
 
 // The most bytes that wait before they are written.
 const PIECE: usize = 65_536;
@@ -28,6 +28,15 @@ fn add_line<O: Sink>(waiting: &mut Vec<u8>, line: &[u8], out: &mut O) -> Result<
     Ok(())
 }
 
+// The header, which waits before the first packet, with room for a piece.
+fn header_waiting(alloc: Global) -> Result<Vec<u8>, AllocError>
+    ensures { IfOk result (λ waiting. waiting.items ≡ line header) }
+{
+    let mut waiting = Vec::with_capacity(alloc, PIECE)?;
+    waiting.extend_from_slice(HEADER)?;
+    Ok(waiting)
+}
+
 /// Writes the text of the first packets of the generator. A packet that finds `capacity` packets in its queue is dropped.
 /// Neither the packets nor their text are held: lines wait until 64 KiB of them are written at once. After an `Err` the sink
 /// has some first bytes of the text.
@@ -46,8 +55,7 @@ pub fn write_trace<O: Sink>(
     ensures out_later { O.faults out.old ≤ O.faults out.new }
 {
     let mut generator = Generator::new(alloc, start, capacity)?;
-    let mut waiting = Vec::with_capacity(alloc, PIECE)?;
-    waiting.extend_from_slice(HEADER)?;
+    let mut waiting = header_waiting(alloc)?;
     let mut line = LineBuffer::new();
     for _packet in 0..packets {
         let packet = generator.next()?;

@@ -8,10 +8,9 @@ use Rattle.queue_sim.proofs.writing.write_trace.Goals as goal
 pub loop-packet-init : goal.loop-packet-init
 loop-packet-init g c =
     let bytes = g.O.Sink.taken c.args.out.now in
-    let waiting = c.extend_from_slice.new.self.items in
+    let waiting = c.in_ok-waiting.waiting.items in
     let is : waiting ≡ trace_text (simulated 0 c.args.start c.args.capacity) =
-    c.in_ok-extend_from_slice.ensures.items ∙ ap (λ first. first ++ line header) c.in_ok-waiting.ensures.items
-    ∙ sym (ap trace_text (simulated_none c.args.start c.args.capacity)) in
+    c.in_ok-waiting.ensures ∙ sym (ap trace_text (simulated_none c.args.start c.args.capacity)) in
     record {
       follows = c.in_ok-generator.ensures.follows;
       number = c.in_ok-generator.ensures.first.0;
