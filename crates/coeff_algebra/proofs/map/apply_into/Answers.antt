@@ -1,5 +1,5 @@
 -- Each row of the scratch gets one word of the map applied to the state, and the words before it stay.
-use Rattle.std.proofs.Common.{◌≡◌, ◌≢◌, ◌<◌, ◌≤◌, length, arith, ap, sym, ◌∙◌, get_or-set_other, get_or-set_same, get_or, below_more}
+use Rattle.std.proofs.Common.{◌≢◌, ◌<◌, ◌≤◌, length, arith, ap, sym, ◌∙◌, get_or-set_other, get_or-set_same, get_or, below_more}
 use Rattle.std.proofs.lemmas.List.{length-take-le, get_or-take}
 use Rattle.coeff_algebra.proofs.PlaceLemmas.{row_room, state_room}
 use Rattle.coeff_algebra.proofs.map.apply_into.Goals as goal

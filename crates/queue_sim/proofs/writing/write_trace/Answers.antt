@@ -1,6 +1,6 @@
 -- Where writing breaks off, what the sink took is the front of the text so far, which begins that of all packets.
-use Rattle.std.proofs.Common.{◌≡◌, ◌+◌, ◌++◌, ◌∙◌, ap, sym, refl, subst, arith}
-use Rattle.queue_sim.specs.{Following.nth_packet, Generator.simulated, TraceText.{header, line, packet_texts, trace_text}}
+use Rattle.std.proofs.Common.{◌≡◌, ◌+◌, ◌∙◌, ap, sym, refl, subst, arith}
+use Rattle.queue_sim.specs.{Following.nth_packet, Generator.simulated, TraceText.{line, packet_texts, trace_text}}
 use Rattle.queue_sim.proofs.{FollowingFacts.simulated_none, Pieces.{broken_off, text_more}}
 use Rattle.marple_base.{specs.Pieces.TakesAllBut, proofs.Pieces.{all_waits, more_waits, none_taken, on_err, rest_taken, then}}
 use Rattle.queue_sim.proofs.writing.write_trace.Goals as goal
