@@ -85,31 +85,27 @@ module _ {after : Block → (ℕ → Kind) → ℕ → Kind} {n i : ℕ} {xs : L
 -- ---- both blocks of a choice
 
 module _ {s : TypedStmt} {c : TypedExpr} {a b p q : List TypedStmt} (is : s ≡ If c a b) (ep : p ≡ a) (eq : q ≡ b) where
+  block : stmt_block s ≡ Fork (term_of c) (block_of a) (block_of b) End
+  block = ap stmt_block is ∙ block_if c a b
+
   pub below_if : (n : ℕ) → AssignsBelow n (stmt_block s) → AssignsBelow n (block_of p) × AssignsBelow n (block_of q)
   below_if n h =
-      let both = subst (AssignsBelow n) (ap stmt_block is ∙ block_if c a b) h in (
+      let both = subst (AssignsBelow n) block h in (
         subst (λ z. AssignsBelow n (block_of z)) (sym ep) both.0,
         subst (λ z. AssignsBelow n (block_of z)) (sym eq) both.1,
       )
 
   pub marked_if : (t : ℕ → Kind) {u r : ℕ → Kind} → u ≡ marked (block_of p) t → r ≡ marked (block_of q) u → r ≡ marked (stmt_block s) t
   marked_if t {u} eu er = er ∙ ap (λ z. marked (block_of z) u) eq ∙ ap (marked (block_of b)) (eu ∙ ap (λ z. marked (block_of z) t) ep)
-      ∙ ap (λ z. marked z t) (sym (ap stmt_block is ∙ block_if c a b))
+      ∙ ap (λ z. marked z t) (sym block)
 
-module _ (roles : Op → Role) where
-  pub kinds_if : (s : TypedStmt) (c : TypedExpr) (a b : List TypedStmt) (t : ℕ → Kind) → s ≡ If c a b →
-      kinds_after roles (stmt_block s) t ≡ chosen_kinds (expr_kind roles (term_of c) t) (kinds_after roles (block_of a) t)
-      (kinds_after roles (block_of b) t) (marked (block_of b) (marked (block_of a) t))
-  kinds_if s c a b t is = simp (is, block_if)
-
-  -- both blocks of a choice, where its condition is Pure
-  pub branches_from : (s : TypedStmt) (c : TypedExpr) (a b p q : List TypedStmt) (t ta tb r : ℕ → Kind) → s ≡ If c a b → p ≡ a → q ≡ b
-      → Pure ≡ expr_kind roles (term_of c) t →
-      ta ≡ kinds_after roles (block_of p) t → tb ≡ kinds_after roles (block_of q) t → r ≡ (λ (v : ℕ). greater (ta v) (tb v))
+  -- where its condition is Pure
+  pub joined_if : (roles : Op → Role) (t : ℕ → Kind) {ta tb r : ℕ → Kind} → Pure ≡ expr_kind roles (term_of c) t
+      → ta ≡ kinds_after roles (block_of p) t → tb ≡ kinds_after roles (block_of q) t → r ≡ (λ (v : ℕ). greater (ta v) (tb v))
       → r ≡ kinds_after roles (stmt_block s) t
-  branches_from s c a b p q t ta tb r is ep eq ek ea eb er =
-      let A = kinds_after roles (block_of a) t in
-      let B = kinds_after roles (block_of b) t in
-      er ∙ ap {B = ℕ → Kind} (λ (z : ℕ → Kind) (v : ℕ). greater (z v) (tb v)) (ea ∙ ap (λ z. kinds_after roles (block_of z) t) ep)
-      ∙ ap {B = ℕ → Kind} (λ (z : ℕ → Kind) (v : ℕ). greater (A v) (z v)) (eb ∙ ap (λ z. kinds_after roles (block_of z) t) eq)
-      ∙ ap (λ z. chosen_kinds z A B (marked (block_of b) (marked (block_of a) t))) ek ∙ sym (kinds_if _ _ _ _ _ is)
+  joined_if roles t {ta} {tb} ek ea eb er =
+      let from : List TypedStmt → ℕ → Kind = λ z. kinds_after roles (block_of z) t in
+      er ∙ ap {B = ℕ → Kind} (λ (z : ℕ → Kind) (v : ℕ). greater (z v) (tb v)) (ea ∙ ap from ep)
+      ∙ ap {B = ℕ → Kind} (λ (z : ℕ → Kind) (v : ℕ). greater (from a v) (z v)) (eb ∙ ap from eq)
+      ∙ ap (λ z. chosen_kinds z (from a) (from b) (marked (block_of b) (marked (block_of a) t))) ek
+      ∙ ap (λ z. kinds_after roles z t) (sym block)

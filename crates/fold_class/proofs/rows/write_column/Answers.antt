@@ -18,3 +18,6 @@ loop-row-preserved g c =
           ∙ c.loop-row.invariant.others i k hi hk off;
       steps = omega (arith, c.loop-row.invariant.steps, c.tick_many.ensures, c.WORDS.ensures);
     }
+
+pub load_part-part-requires : goal.load_part-part-requires
+load_part-part-requires g c = omega (arith, c.requires.places c.loop-row.row 0 c.loop-row-test.true, c.requires.room)

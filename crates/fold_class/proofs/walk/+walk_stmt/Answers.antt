@@ -3,7 +3,7 @@ use Rattle.std.proofs.Common.{ap, ◌∙◌, refl, rules}
 use Rattle.query_lang.specs.Blocks.{block_of, stmt_block}
 use Rattle.query_lang.specs.declared.{fold.TypedStmt.TheViews.the_lemmas, fault.TheConstants.MAX_STATES}
 use Rattle.fold_class.specs.{Kinds.kinds_after, Walk.kinds_in}
-use Rattle.fold_class.proofs.WalkLemmas.{walks_kinds, next_below, goes_on, ends, below_if, below_assign, below_sized, branches_from}
+use Rattle.fold_class.proofs.WalkLemmas.{walks_kinds, next_below, goes_on, ends, below_if, below_assign, below_sized, joined_if}
 use Rattle.fold_class.proofs.walk.+walk_stmt.Goals as goal
 
 pub then_block-init : goal.then_block-init
@@ -41,12 +41,9 @@ else_block-preserved g t c = goes_on c.else_block.invariant (walks_kinds (g.O.Op
 pub returns-after-else_block : goal.returns-after-else_block
 returns-after-else_block g t c =
     let roles = g.O.Operators.roles c.args.operators.now in
-    let p = c.as_slice-inner-items.result.now in
     let q = c.as_slice-inner-items-in-Pure.result.now in
-    branches_from roles c.args.s.now c.in-If.c c.in-If.a c.in-If.b p q (kinds_in c.args.kinds.now) (kinds_in c.then_block.kinds)
-    (kinds_in c.else_block.others) (kinds_in c.join.new.kinds)
-    c.in-If.is c.as_slice-inner-items.ensures c.as_slice-inner-items-in-Pure.ensures c.in-Pure.ensures
-    (ends c.then_block.invariant (walks_kinds roles) c.then_block-test.false)
+    joined_if c.in-If.is c.as_slice-inner-items.ensures c.as_slice-inner-items-in-Pure.ensures roles (kinds_in c.args.kinds.now)
+    c.in-Pure.ensures (ends c.then_block.invariant (walks_kinds roles) c.then_block-test.false)
     (ends c.else_block.invariant (walks_kinds roles) c.else_block-test.false
     ∙ ap (λ z. kinds_after roles (block_of q) (kinds_in z)) c.copied-others.ensures) c.join.ensures
 
