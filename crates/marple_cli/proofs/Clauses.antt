@@ -5,7 +5,8 @@ use Rattle.query_lang.specs.declared.fault.QueryFault.{QueryFault}
 use Rattle.trace_reader.specs.declared.fault.TraceFault.{TraceFault}
 use Rattle.trace_drive.proofs.Breaking.{none_some}
 use Rattle.command_line.specs.declared.command.Command.{Command}
-use Rattle.marple_cli.specs.{Call.{Holds, IsBeforeOutput, IsBeforeTrace, Takes, WhereQueryTold, WhereTold}, Ends.{Answers, Ends, QueryTold}}
+use Rattle.marple_cli.specs.Call.{Holds, IsBeforeOutput, IsBeforeTrace, Takes, ToldOf, WhereQueryTold, WhereTold}
+use Rattle.marple_cli.specs.Ends.{Answers, Ends, QueryTold}
 use Rattle.marple_cli.specs.Output.{IsRead, Source, refusal, takes, trace_refusal}
 use Rattle.command_answers.specs.declared.status.Status.{Status}
 use Rattle.command_answers.specs.declared.status.Status.TheVariants as statuses
@@ -28,6 +29,12 @@ asked_query command before P told other query is has left read =
     subst (λ one. P one query) (same command other is) (told query (subst (λ one. takes one Query ≡ true) other_is has) left
     (subst (λ one. IsRead one query) other_is read))
 
+-- and of the command and its operands
+asked_told : (command : Command) (before : Which → Input) (P : Command → Source → List ℕ → Type 0) → ToldOf command before (P command)
+    → WhereTold (Some command) before P
+asked_told command before P told other query trace is holds =
+    subst (λ one. Holds one before query trace → P one query trace) (same command other is) (told query trace) holds
+
 module _ {O : Type 0} (taken : O → Option (List ℕ)) (faults : O → ℕ) (before after : Which → Input) (old new : O) where
   -- this holds of each answer to what is asked for
   abbrev pub OfAnswers : (Option Command → Status → Type 0) → Type 0
@@ -37,6 +44,13 @@ module _ {O : Type 0} (taken : O → Option (List ℕ)) (faults : O → ℕ) (be
   known : (command : Command) (status found : Status) → Answers taken faults before after old new (Some command) status → status ≡ found
       → Ends taken faults command before after old new found
   known command status found a is = subst (Ends taken faults command before after old new) is a.0
+
+  -- where the status says this of the command and its operands
+  pub told : (P : Command → Source → List ℕ → Type 0) (found : Status) → (found ≡ statuses.Usage → ⊥)
+      → ((command : Command) → Ends taken faults command before after old new found → ToldOf command before (P command))
+      → OfAnswers (λ asked status. status ≡ found → WhereTold asked before P)
+  told P found other ends None status a is = absurd (other_than status found other a.0 is)
+  told P found other ends (Some command) status a is = asked_told command before P (ends command (known command status found a is))
 
   pub input_fault : OfAnswers (λ asked status. (which : Which) → status ≡ statuses.InputFault which
       → Takes asked which × Rose (before which).faults (after which).faults)

@@ -1,8 +1,12 @@
--- How much is read of the operands.
-use Rattle.std.{proofs.Common.{◌≡◌, ℕ, List, [], Option, None, Some, refl, sym, subst, arith}, specs.Io.KnownBytes.Consumes}
+-- How much is read of the operands, and what a command leaves unchanged.
+use Rattle.std.{proofs.Common.{◌≡◌, ℕ, true, false, List, [], Option, None, Some, refl, sym, ◌∙◌, subst, arith}, specs.Io.KnownBytes.Consumes}
+use Rattle.std.proofs.lemmas.Bool.{true≢false}
 use Rattle.marple_base.specs.{Inputs.{Input, LosesUpTo}, declared.inputs.Which.{Which, TheVariants.{Query, Trace}}}
 use Rattle.command_line.specs.declared.command.Command.{Command}
-use Rattle.marple_cli.specs.Call.{LosesWhatIsRead, most_read}
+use Rattle.command_answers.specs.declared.status.Status.{Status}
+use Rattle.command_answers.specs.declared.status.Status.TheVariants as statuses
+use Rattle.query_run.specs.declared.driven.Driven.{Driven}
+use Rattle.marple_cli.specs.{Call.{LosesWhatIsRead, most_read}, Driven.{DrivenAfter, Leaves}, Output.takes}
 
 consumes_none : (left : Option (List ℕ)) → Consumes left left []
 consumes_none None = tt
@@ -26,3 +30,20 @@ module _ (asked : Option Command) (before after : Which → Input) where
   both_lost middle lost kept trace_lost query_kept Query = subst (LosesUpTo (most_read asked Query) (before Query)) (sym query_kept) lost
   both_lost middle lost kept trace_lost query_kept Trace = subst (λ one. LosesUpTo (most_read asked Trace) one (after Trace)) kept
       trace_lost
+
+module _ (command : Command) (before after : Which → Input) where
+  pub query_taken : takes command Query ≡ true → after Trace ≡ before Trace → (which : Which) → takes command which ≡ false
+      → after which ≡ before which
+  query_taken taken kept Query untaken = absurd (true≢false (sym taken ∙ untaken))
+  query_taken taken kept Trace untaken = kept
+
+-- a command that leaves the working parts as they are does so in each status
+pub undriven : (command : Command) (before : Which → Input) (driven : Option Driven) (status : Status) → Leaves command before driven driven
+    → DrivenAfter (Some command) before driven driven status
+undriven command before driven statuses.Ok left = left
+undriven command before driven statuses.Memory left = refl
+undriven command before driven statuses.Usage left = refl
+undriven command before driven (statuses.InputFault which) left = refl
+undriven command before driven (statuses.QueryRefused fault) left = refl
+undriven command before driven (statuses.TraceRefused fault) left = refl
+undriven command before driven statuses.OutputFault left = refl

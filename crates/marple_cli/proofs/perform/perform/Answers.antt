@@ -1,48 +1,101 @@
 -- Each command ends as the function that performs it does, and one that takes no input loses nothing of either.
-use Rattle.std.proofs.Common.{refl, Some}
-use Rattle.command_line.specs.declared.command.Command.TheVariants.{Compile, Plan}
-use Rattle.marple_cli.proofs.Taken.{none_lost, query_lost}
+use Rattle.std.proofs.{Common.{refl, le_refl, Some}, lemmas.Bool.true≢false}
+use Rattle.command_line.specs.declared.command.Command.TheVariants.{Compile, Enclose, Gen, Net, Plan}
+use Rattle.marple_cli.proofs.Taken.{none_lost, query_lost, query_taken, undriven}
 use Rattle.marple_cli.proofs.perform.perform.Goals as goal
 
-pub returns-in-Gen-clause-ends : goal.returns-in-Gen-clause-ends
-returns-in-Gen-clause-ends g c = rw c.in-Gen.is (c.generate.ensures.ends (g.I.Inputs.input c.args.inputs.now))
+pub returns-in-Run : goal.returns-in-Run
+returns-in-Run g c = record {
+  ends = rw c.in-Run.is c.run.ensures.ends;
+  kept = rw c.in-Run.is (λ which untaken. absurd (true≢false untaken));
+  driven = rw c.in-Run.is c.run.ensures.driven;
+  lost = rw c.in-Run.is c.run.ensures.lost;
+  query_later = c.run.ensures.query_later;
+  trace_later = c.run.ensures.trace_later;
+  out_later = c.run.ensures.out_later;
+  steps = c.run.ensures.steps;
+}
 
-pub returns-in-Trial-clause-ends : goal.returns-in-Trial-clause-ends
-returns-in-Trial-clause-ends g c = rw c.in-Trial.is (c.trial.ensures.ends (g.I.Inputs.input c.args.inputs.now))
+pub returns-in-Plan : goal.returns-in-Plan
+returns-in-Plan g c = record {
+  ends = rw c.in-Plan.is c.write_stages.ensures.ends;
+  kept = rw c.in-Plan.is (query_taken (Plan c.in-Plan.ways) _ _ refl c.write_stages.ensures.trace_kept);
+  driven = rw c.in-Plan.is (undriven (Plan c.in-Plan.ways) (g.I.Inputs.input c.args.inputs.now) _ _ refl);
+  lost = rw c.in-Plan.is (query_lost (Some (Plan c.in-Plan.ways)) (g.I.Inputs.input c.args.inputs.now) (g.I.Inputs.input c.write_stages.new.inputs) c.write_stages.ensures.lost c.write_stages.ensures.trace_kept);
+  query_later = c.write_stages.ensures.query_later;
+  trace_later = rw c.write_stages.ensures.trace_kept (le_refl _);
+  out_later = c.write_stages.ensures.out_later;
+  steps = le_refl _;
+}
 
-pub returns-in-Trial-clause-driven : goal.returns-in-Trial-clause-driven
-returns-in-Trial-clause-driven g c = rw c.in-Trial.is (c.trial.ensures.driven (g.I.Inputs.input c.args.inputs.now))
+pub returns-in-Gen : goal.returns-in-Gen
+returns-in-Gen g c = record {
+  ends = rw c.in-Gen.is (c.generate.ensures.ends (g.I.Inputs.input c.args.inputs.now));
+  kept = λ which no. refl;
+  driven = rw c.in-Gen.is (undriven (Gen c.in-Gen.generation) (g.I.Inputs.input c.args.inputs.now) _ _ refl);
+  lost = none_lost (Some c.args.command) (g.I.Inputs.input c.args.inputs.now) (g.I.Inputs.input c.args.inputs.now) (λ which. refl);
+  query_later = le_refl _;
+  trace_later = le_refl _;
+  out_later = c.generate.ensures.out_later;
+  steps = le_refl _;
+}
 
-pub returns-in-Plan-clause-ends : goal.returns-in-Plan-clause-ends
-returns-in-Plan-clause-ends g c = rw c.in-Plan.is c.write_stages.ensures.ends
+pub returns-in-Trial : goal.returns-in-Trial
+returns-in-Trial g c = record {
+  ends = rw c.in-Trial.is (c.trial.ensures.ends (g.I.Inputs.input c.args.inputs.now));
+  kept = λ which no. refl;
+  driven = rw c.in-Trial.is (c.trial.ensures.driven (g.I.Inputs.input c.args.inputs.now));
+  lost = none_lost (Some c.args.command) (g.I.Inputs.input c.args.inputs.now) (g.I.Inputs.input c.args.inputs.now) (λ which. refl);
+  query_later = le_refl _;
+  trace_later = le_refl _;
+  out_later = c.trial.ensures.out_later;
+  steps = c.trial.ensures.steps;
+}
 
-pub returns-in-Compile-clause-ends : goal.returns-in-Compile-clause-ends
-returns-in-Compile-clause-ends g c = rw c.in-Compile.is c.compile.ensures.ends
+pub returns-in-Net : goal.returns-in-Net
+returns-in-Net g c = record {
+  ends = rw c.in-Net.is c.run_network.ensures.ends;
+  kept = rw c.in-Net.is (λ which untaken. absurd (true≢false untaken));
+  driven = rw c.in-Net.is (undriven (Net c.in-Net.setting) (g.I.Inputs.input c.args.inputs.now) _ _ refl);
+  lost = rw c.in-Net.is c.run_network.ensures.lost;
+  query_later = c.run_network.ensures.query_later;
+  trace_later = c.run_network.ensures.trace_later;
+  out_later = c.run_network.ensures.out_later;
+  steps = c.run_network.ensures.steps;
+}
 
-pub returns-in-Gen-clause-lost : goal.returns-in-Gen-clause-lost
-returns-in-Gen-clause-lost g c = none_lost (Some c.args.command) (g.I.Inputs.input c.args.inputs.now) (g.I.Inputs.input c.args.inputs.now)
-    (λ which. refl)
+pub returns-in-Enclose : goal.returns-in-Enclose
+returns-in-Enclose g c = record {
+  ends = rw c.in-Enclose.is c.enclose.ensures.ends;
+  kept = rw c.in-Enclose.is (λ which untaken. absurd (true≢false untaken));
+  driven = rw c.in-Enclose.is (undriven (Enclose c.in-Enclose.setting) (g.I.Inputs.input c.args.inputs.now) _ _ refl);
+  lost = rw c.in-Enclose.is c.enclose.ensures.lost;
+  query_later = c.enclose.ensures.query_later;
+  trace_later = c.enclose.ensures.trace_later;
+  out_later = c.enclose.ensures.out_later;
+  steps = c.enclose.ensures.steps;
+}
 
-pub returns-in-Trial-clause-lost : goal.returns-in-Trial-clause-lost
-returns-in-Trial-clause-lost g c = none_lost (Some c.args.command) (g.I.Inputs.input c.args.inputs.now) (g.I.Inputs.input c.args.inputs.now)
-    (λ which. refl)
+pub returns-in-Compile : goal.returns-in-Compile
+returns-in-Compile g c = record {
+  ends = rw c.in-Compile.is c.compile.ensures.ends;
+  kept = rw c.in-Compile.is (query_taken Compile _ _ refl c.compile.ensures.trace_kept);
+  driven = rw c.in-Compile.is (undriven Compile (g.I.Inputs.input c.args.inputs.now) _ _ refl);
+  lost = rw c.in-Compile.is (query_lost (Some Compile) (g.I.Inputs.input c.args.inputs.now) (g.I.Inputs.input c.compile.new.inputs) c.compile.ensures.lost c.compile.ensures.trace_kept);
+  query_later = c.compile.ensures.query_later;
+  trace_later = rw c.compile.ensures.trace_kept (le_refl _);
+  out_later = c.compile.ensures.out_later;
+  steps = le_refl _;
+}
 
-pub returns-in-Run-clause-lost : goal.returns-in-Run-clause-lost
-returns-in-Run-clause-lost g c = rw c.in-Run.is c.run.ensures.lost
-
-pub returns-in-Plan-clause-lost : goal.returns-in-Plan-clause-lost
-returns-in-Plan-clause-lost g c = rw c.in-Plan.is (query_lost (Some (Plan c.in-Plan.ways)) (g.I.Inputs.input c.args.inputs.now)
-    (g.I.Inputs.input c.write_stages.new.inputs) c.write_stages.ensures.lost c.write_stages.ensures.trace_kept)
-
-pub returns-in-Net-clause-lost : goal.returns-in-Net-clause-lost
-returns-in-Net-clause-lost g c = rw c.in-Net.is c.run_network.ensures.lost
-
-pub returns-in-Enclose-clause-lost : goal.returns-in-Enclose-clause-lost
-returns-in-Enclose-clause-lost g c = rw c.in-Enclose.is c.enclose.ensures.lost
-
-pub returns-in-Compile-clause-lost : goal.returns-in-Compile-clause-lost
-returns-in-Compile-clause-lost g c = rw c.in-Compile.is (query_lost (Some Compile) (g.I.Inputs.input c.args.inputs.now)
-    (g.I.Inputs.input c.compile.new.inputs) c.compile.ensures.lost c.compile.ensures.trace_kept)
-
-pub returns-in-RunPlan-clause-lost : goal.returns-in-RunPlan-clause-lost
-returns-in-RunPlan-clause-lost g c = rw c.in-RunPlan.is c.run_plan.ensures.lost
+pub returns-in-RunPlan : goal.returns-in-RunPlan
+returns-in-RunPlan g c = record {
+  ends = rw c.in-RunPlan.is c.run_plan.ensures.ends;
+  kept = rw c.in-RunPlan.is (λ which untaken. absurd (true≢false untaken));
+  driven = rw c.in-RunPlan.is c.run_plan.ensures.driven;
+  lost = rw c.in-RunPlan.is c.run_plan.ensures.lost;
+  query_later = c.run_plan.ensures.query_later;
+  trace_later = c.run_plan.ensures.trace_later;
+  out_later = c.run_plan.ensures.out_later;
+  steps = c.run_plan.ensures.steps;
+}

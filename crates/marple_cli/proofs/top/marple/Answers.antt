@@ -2,7 +2,8 @@
 use Rattle.std.proofs.Common.{Option}
 use Rattle.command_line.specs.declared.command.Command.{Command}
 use Rattle.command_answers.specs.declared.status.Status.{Status}
-use Rattle.marple_cli.{specs.Call.asked_by, proofs.Clauses.{OfAnswers, fault_of_trace, input_fault, no_operand, not_reached, output_fault}}
+use Rattle.command_answers.specs.declared.status.Status.TheVariants as statuses
+use Rattle.marple_cli.{specs.Call.asked_by, proofs.Clauses.{OfAnswers, fault_of_trace, input_fault, no_operand, not_reached, output_fault, told}}
 use Rattle.marple_cli.proofs.Clauses.{query_refused, refuses_query, trace_refused, usage}
 use Rattle.marple_cli.proofs.top.marple.Goals as goal
 use Rattle.marple_cli.proofs.top.marple.Goals.{After-answer-status}
@@ -62,3 +63,36 @@ pub returns-clause-query_first : goal.returns-clause-query_first
 returns-clause-query_first g c fault command query is has left read some =
     (said g (goal.at.returns-clause-query_first g c).After-answer-status _ (refuses_query g.O.Sink.taken g.O.Sink.faults _ _ _ _)
     fault command query is has left read some).2
+
+pub returns-clause-ok : goal.returns-clause-ok
+returns-clause-ok g c = said g (goal.at.returns-clause-ok g c).After-answer-status _
+    (told g.O.Sink.taken g.O.Sink.faults _ _ _ _ _ statuses.Ok (λ e. cc) (λ command e. e.1))
+
+pub returns-clause-output_front : goal.returns-clause-output_front
+returns-clause-output_front g c = said g (goal.at.returns-clause-output_front g c).After-answer-status _
+    (told g.O.Sink.taken g.O.Sink.faults _ _ _ _ _ statuses.OutputFault (λ e. cc) (λ command e. e.2))
+
+pub returns-clause-memory_front : goal.returns-clause-memory_front
+returns-clause-memory_front g c = said g (goal.at.returns-clause-memory_front g c).After-answer-status _
+    (told g.O.Sink.taken g.O.Sink.faults _ _ _ _ _ statuses.Memory (λ e. cc) (λ command e. e.0))
+
+pub returns-clause-lost : goal.returns-clause-lost
+returns-clause-lost g c = c.answer-status.ensures.lost
+
+pub returns-clause-query_later : goal.returns-clause-query_later
+returns-clause-query_later g c = c.answer-status.ensures.query_later
+
+pub returns-clause-trace_later : goal.returns-clause-trace_later
+returns-clause-trace_later g c = c.answer-status.ensures.trace_later
+
+pub returns-clause-out_later : goal.returns-clause-out_later
+returns-clause-out_later g c = c.answer-status.ensures.out_later
+
+pub returns-clause-driven : goal.returns-clause-driven
+returns-clause-driven g c = c.answer-status.ensures.driven
+
+pub returns-clause-steps : goal.returns-clause-steps
+returns-clause-steps g c = c.answer-status.ensures.steps
+
+pub returns-clause-complaint_front : goal.returns-clause-complaint_front
+returns-clause-complaint_front g c = c.complain.ensures.front
