@@ -5,7 +5,7 @@ ghost use Rattle.epoch_model.specs.Keys.{key_eq};
 ghost use Rattle.table_rows.specs.LentRows.{row_of};
 ghost use Rattle.final_queries.specs.Finals.{HasColumns};
 ghost use Rattle.enclosure_folds.specs.BoundsTables.{IsBoundsTable};
-ghost use Rattle.enclosure_folds.specs.KeyBounds.{HasTriples, goes_on, row_bounds, bounds_in, depth_in, epochs_in, table_bounds};
+ghost use Rattle.enclosure_folds.specs.KeyBounds.{HasTriples, goes_on, row_bounds, bounds_in, depth_in, epochs_in, high_in, low_in, table_bounds};
 
 use crate::copies::{names_copy, words_copy};
 use crate::laws::triples_give_whole_tables;
@@ -29,32 +29,31 @@ fn goes_on(key: &[u64], rows: &Rows, next: usize) -> bool
     next < rows.len() && is_same_key(key, rows.get(next).key)
 }
 
+// Where a row of a key's last epoch has its bounds: both in its first state where it is of the only epoch.
+fn span_of<'a>(states: usize, mark: Mark, values: &'a [u64]) -> (&'a [u64], &'a [u64])
+    requires { length values.now ≡ 3 * states }
+    ensures low { result.0.now ≡ low_in states mark values.now }
+    ensures high { result.1.now ≡ high_in states mark values.now }
+{
+    let (alone, rest) = values.split_at(states);
+    if mark == Mark::Valid {
+        (alone, alone)
+    } else {
+        rest.split_at(states)
+    }
+}
+
 // The bounds that the last row of a key gives.
 fn row_bounds(alloc: Global, states: usize, row: &RowRef) -> Result<BoundsRow, AllocError>
     requires { length row.now.values.now ≡ 3 * states }
     ensures { IfOk result (λ bounds. bounds ≡ row_bounds states (row_of row.now)) }
 {
-    let key = words_copy(alloc, row.key)?;
-    let epochs = row.epochs;
-    let (alone, rest) = row.values.split_at(states);
-    if row.mark == Mark::Valid {
-        let low = words_copy(alloc, alone)?;
-        let high = words_copy(alloc, alone)?;
-        return Ok(BoundsRow {
-            key,
-            epochs,
-            low,
-            high,
-        });
-    }
-    let (least, greatest) = rest.split_at(states);
-    let low = words_copy(alloc, least)?;
-    let high = words_copy(alloc, greatest)?;
+    let (least, greatest) = span_of(states, row.mark, row.values);
     Ok(BoundsRow {
-        key,
-        epochs,
-        low,
-        high,
+        key: words_copy(alloc, row.key)?,
+        epochs: row.epochs,
+        low: words_copy(alloc, least)?,
+        high: words_copy(alloc, greatest)?,
     })
 }
 

@@ -113,8 +113,8 @@ fn fold_rows<L: Ledger>(
         → StoreHolds (whole_folding f) store (row_epochs keys.now args.now (reads rows.now))) }
     ensures steps { steps.old ≤ steps.new }
 {
-    let mut store = BackingStore::new(alloc, keys.len(), start.len());
     let mut scratch = vec![in alloc; 0; code.scratch_words()]?;
+    let mut store = BackingStore::new(alloc, keys.len(), start.len());
     let mut key = Vec::new(alloc);
     let mut taken = Vec::new(alloc);
     for at in 0..rows.len() {

@@ -127,9 +127,9 @@ pub fn mapped<L: Ledger>(
 {
     let count = read_count(rows);
     let made_width = width.saturating_add(values.len());
-    let mut all = Vec::new(alloc);
     let mut made = Rows::new(alloc);
     made.reserve(count, count.saturating_mul(made_width))?;
+    let mut all = Vec::new(alloc);
     for at in 0..rows.len() {
         let row = rows.get(at);
         if is_read(row.mark) {

@@ -117,11 +117,12 @@ fn plan_fitting(
     ensures sound { IfOk result (λ group. IsGroupFor q.now.folds number keys args group) }
 {
     let f = fold_of(q.folds.as_slice(), number);
+    let program = classify(alloc, f, compile(alloc, f)?)?;
     Ok(GroupPlan {
         name: text_of(alloc, &q.names, one.name.id)?,
         key_names: texts_of(alloc, &q.names, one.columns.as_slice())?,
         state_names: texts_of(alloc, &q.names, f.state_names.as_slice())?,
-        program: classify(alloc, f, compile(alloc, f)?)?,
+        program,
     })
 }
 

@@ -17,6 +17,7 @@ fn put_plan(alloc: Global, q: &TypedQuery, made: &MadeStreams) -> Result<Plan, A
     requires { MadeOf q.now made.now.ops made.now.streams }
     ensures { IfOk result (λ plan. IsPlanOf q.now plan) }
 {
+    let reads = read_fields(alloc, q)?;
     let ops = made.ops.as_slice();
     let order = order_by_stage(alloc, ops, greatest_stage(ops))?;
     let registers = registers_in(alloc, order.as_slice(), ops.len())?;
@@ -28,7 +29,6 @@ fn put_plan(alloc: Global, q: &TypedQuery, made: &MadeStreams) -> Result<Plan, A
         registers.as_slice(),
     )?;
     let groups = plan_groups(alloc, q)?;
-    let reads = read_fields(alloc, q)?;
     let plan = Plan::of_parts(alloc, reads, sorted, groups, wiring)?;
     Ok(plan)
 }
