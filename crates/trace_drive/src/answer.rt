@@ -9,7 +9,7 @@ use std::alloc::AllocError;
 use trace_reader::{TraceAnswer, TraceFault};
 
 /// Why a run over packets breaks off: the trace has a fault, memory ran out, or a write failed.
-#[derive(Clone, Copy, Debug, PartialEq, Eq)]
+#[derive(Clone, Copy)]
 pub enum RunError {
     Refused(TraceFault),
     Memory,
