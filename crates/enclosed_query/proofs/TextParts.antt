@@ -1,7 +1,8 @@
 -- The texts of tables in two parts are those of what is shown.
 use Rattle.std.proofs.Common.{◌≡◌, ℕ, zero, suc, List, [], ◌∷◌, ◌++◌, Option, None, Some, length, map, drop, refl, sym, ap, ap₂, ◌∙◌}
-use Rattle.std.proofs.{Common.{OnErr, OnOk, Result, subst, append-nil, append_assoc}, Math.Seq.drop-append_seam, lemmas.List.length-map}
-use Rattle.std.proofs.lemmas.{List.Elements.{All-nil, All-cons, All-head, All-tail}, Option.slice_get-map}
+use Rattle.std.proofs.Common.{◌<◌, OnErr, OnOk, Result, subst, append-nil, append_assoc, arith, option_and_then}
+use Rattle.std.proofs.{Math.Seq.drop-append_seam, lemmas.List.length-map}
+use Rattle.std.proofs.lemmas.{List.Elements.{All-nil, All-cons, All-head, All-tail}, Option.{slice_get-get_or, slice_get-map}}
 use Rattle.std.specs.{Prelude.{option_map, unwrap_or}, List.{All, flat_map, slice_get}}
 use Rattle.marple_base.specs.{Sink.TakesFront, Pieces.TakesAllBut}
 use Rattle.query_lang.specs.declared.{fold.TypedFold.TypedFold, typed.{TypedFinal.TypedFinal, PrintOf.PrintOf, TypedQuery.TypedQuery}}
@@ -9,6 +10,7 @@ use Rattle.query_lang.specs.{Streams.takings, TypedFinals.table_number, TypedQue
 use Rattle.final_queries.specs.{declared.table.Table.Table, Finals.{final_table, table_shape, with_finals}}
 use Rattle.table_printer.specs.TableText.{table_text}
 use Rattle.enclosure_folds.specs.declared.table.{BoundsTable.BoundsTable, Enclosed.{Enclosed, TheVariants.{Linear, Bounds}}}
+use Rattle.enclosure_folds.specs.BoundsTables.{bounds_text}
 use Rattle.enclosed_query.specs.EnclosedTables.{all_texts, enclosed_print, shown_text, table_read}
 use Rattle.enclosed_query.specs.{Parts.{IsWholeIfThere, bounds_at, bounds_shown, text_at, text_shown}, Reading.IsWhole}
 
@@ -16,6 +18,13 @@ use Rattle.enclosed_query.specs.{Parts.{IsWholeIfThere, bounds_at, bounds_shown,
 pub table_text_at : (bounds : List (Option BoundsTable)) (tables : List Table) (n : ℕ) (t : Table) → slice_get tables n ≡ Some t
     → bounds_at bounds n ≡ None → text_at bounds tables n ≡ table_text t
 table_text_at bounds tables n t is none = ap₂ (λ b t. unwrap_or (option_map (text_shown b) t) []) none is
+
+-- and one that has some
+pub bounds_text_at : (bounds : List (Option BoundsTable)) (tables : List Table) (n : ℕ) (t : BoundsTable) → n < length tables
+    → slice_get bounds n ≡ Some (Some t) → text_at bounds tables n ≡ bounds_text t
+bounds_text_at bounds [] n t inside is = absurd (omega arith)
+bounds_text_at bounds (one ∷ tables) n t inside is = ap₂ (λ b o. unwrap_or (option_map (text_shown b) o) [])
+    (ap (option_and_then (λ one. one)) is) (slice_get-get_or (one ∷ tables) n one inside)
 
 -- what was done with a text was done with one that is the same
 pub of_same : {A E : Type 0} (result : Result A E) (old new : Option (List ℕ)) (waiting before text other : List ℕ) → text ≡ other

@@ -1,5 +1,6 @@
 -- How much is read of the operands, and what a command leaves unchanged.
-use Rattle.std.{proofs.Common.{◌≡◌, ℕ, true, false, List, [], Option, None, Some, refl, sym, ◌∙◌, subst, arith}, specs.Io.KnownBytes.Consumes}
+use Rattle.std.proofs.Common.{◌≡◌, ℕ, true, false, List, [], Option, None, Some, refl, sym, ◌∙◌, subst, arith}
+use Rattle.std.specs.Io.KnownBytes.{Consumes}
 use Rattle.std.proofs.lemmas.Bool.{true≢false}
 use Rattle.marple_base.specs.{Inputs.{Input, LosesUpTo}, declared.inputs.Which.{Which, TheVariants.{Query, Trace}}}
 use Rattle.command_line.specs.declared.command.Command.{Command}

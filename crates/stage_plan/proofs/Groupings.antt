@@ -53,8 +53,8 @@ pub args_are : (folds : List TypedFold) (number args : ℕ) (f : TypedFold) → 
     → option_map fold_args (slice_get folds number) ≡ Some args → length f.arg_names ≡ args
 args_are _ _ args f found all = same_Some (fold_args f) args (sym (ap (option_map fold_args) found) ∙ all)
 
-pub of_found : (P : TypedFold → Type 0) (folds : List TypedFold) (number : ℕ) (f : TypedFold) → All P folds → slice_get folds number ≡ Some f
-    → P f
+pub of_found : (P : TypedFold → Type 0) (folds : List TypedFold) (number : ℕ) (f : TypedFold) → All P folds
+    → slice_get folds number ≡ Some f → P f
 of_found P folds number f all found = subst P (get_or_from_slice_get folds number f f found)
     (all number f (slice_get_within folds number f found))
 

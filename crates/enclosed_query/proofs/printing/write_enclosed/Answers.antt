@@ -29,3 +29,11 @@ returns g c =
       out_later = c.write_printed.ensures.out_later;
       steps = search rules;
     }
+
+pub add_finals-requires : goal.add_finals-requires
+add_finals-requires g c =
+    let made = c.in_ok-bounds.ensures.tables in
+    record { valid = c.requires.valid; shapes = rw made c.requires.shapes; tables = rw made c.requires.tables }
+
+pub write_printed-requires-clause-tables : goal.write_printed-requires-clause-tables
+write_printed-requires-clause-tables g c = c.in_ok-tables.ensures.read

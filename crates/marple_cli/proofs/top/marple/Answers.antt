@@ -3,8 +3,8 @@ use Rattle.std.proofs.Common.{Option}
 use Rattle.command_line.specs.declared.command.Command.{Command}
 use Rattle.command_answers.specs.declared.status.Status.{Status}
 use Rattle.command_answers.specs.declared.status.Status.TheVariants as statuses
-use Rattle.marple_cli.{specs.Call.asked_by, proofs.Clauses.{OfAnswers, fault_of_trace, input_fault, no_operand, not_reached, output_fault, told}}
-use Rattle.marple_cli.proofs.Clauses.{query_refused, refuses_query, trace_refused, usage}
+use Rattle.marple_cli.{specs.Call.asked_by, proofs.Clauses.{OfAnswers, fault_of_trace, input_fault, no_operand, not_reached, output_fault}}
+use Rattle.marple_cli.proofs.Clauses.{told, query_refused, refuses_query, trace_refused, usage}
 use Rattle.marple_cli.proofs.top.marple.Goals as goal
 use Rattle.marple_cli.proofs.top.marple.Goals.{After-answer-status}
 

@@ -9,8 +9,8 @@ classify-requires-clause-valid c = of_found IsValidFold c.args.q.now.folds c.arg
     (ap (λ l. slice_get l c.args.number) (sym c.as_slice.ensures) ∙ c.fold_of-f.ensures)
 
 pub texts_of-requires-2 : goal.texts_of-requires-2
-texts_of-requires-2 c = rw c.as_slice-3.ensures (of_found (HasNames _) c.args.q.now.folds c.args.number c.fold_of-f.result.now c.requires.names
-    (ap (λ l. slice_get l c.args.number) (sym c.as_slice.ensures) ∙ c.fold_of-f.ensures)).states
+texts_of-requires-2 c = rw c.as_slice-3.ensures (of_found (HasNames _) c.args.q.now.folds c.args.number c.fold_of-f.result.now
+    c.requires.names (ap (λ l. slice_get l c.args.number) (sym c.as_slice.ensures) ∙ c.fold_of-f.ensures)).states
 
 pub returns-clause-shape : goal.returns-clause-shape
 returns-clause-shape c =

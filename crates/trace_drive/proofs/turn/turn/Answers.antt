@@ -1,5 +1,6 @@
 -- Room in full pipes, the packet, and then what is due by the clocks.
 use Rattle.std.proofs.Common.{◌≡◌, ℕ, Bool, Result, Ok, OnOk, suc, true, false, if◌then◌else◌, lit<, refl, sym, ◌∙◌, subst}
+use Rattle.std.proofs.lemmas.Bool.{true≢false}
 use Rattle.epoch_model.specs.{Driving.{after_packet, event_of}, Epochs.is_refresh, Machine.{Machine, empty_buckets}}
 use Rattle.stage_plan.specs.Planned.{taken}
 use Rattle.switch_core.specs.PlanLanes.{AreKept, PipelineView, upkeeps_at}
@@ -109,3 +110,12 @@ returns-then-lag_over-clause-merged g c =
     let new = c.keep_up-then-lag_over.new.self in
     on_ok (AreKept due.Lag new.lanes) _ c.keep_up-then-lag_over.result (λ kept number counted over. all_ready new.lanes kept)
     c.keep_up-then-lag_over.ensures.left
+
+pub returns-then-refresh_now-clause-merged : goal.returns-then-refresh_now-clause-merged
+returns-then-refresh_now-clause-merged g c =
+    on_ok _ _ c.sweep_after.result (λ merged number counted due. merged (c.is_due-lag_over.ensures.is_due number counted ∙ due))
+    c.sweep_after.ensures.merged
+
+pub returns-clause-merged : goal.returns-clause-merged
+returns-clause-merged g c number counted due =
+    absurd (true≢false (sym due ∙ sym (c.is_due-lag_over.ensures.is_due number counted) ∙ c.if-lag_over.false))

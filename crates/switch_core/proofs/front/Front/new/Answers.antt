@@ -82,3 +82,6 @@ returns-clause-places g c = ap (λ p. p.places) c.in_ok-pipe.ensures
 
 pub returns-clause-key : goal.returns-clause-key
 returns-clause-key g c = ap (λ k. k.key_words) c.in_ok-cache.ensures
+
+pub returns-clause-buckets : goal.returns-clause-buckets
+returns-clause-buckets g c = ap (λ k. length k.lists) c.in_ok-cache.ensures ∙ length-replicate _ _

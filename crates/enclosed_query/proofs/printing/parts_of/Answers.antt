@@ -1,0 +1,5 @@
+use Rattle.std.proofs.{Common.arith, lemmas.Grind.common_steps}
+use Rattle.enclosed_query.proofs.printing.parts_of.Goals as goal
+
+pub loop-one-preserved : goal.loop-one-preserved
+loop-one-preserved c = grind (arith, common_steps)
