@@ -1,14 +1,15 @@
 //! Tests of the second program's call.
 
-ghost use Rattle.std.specs.Prelude.{◌≡◌, ◌<◌, All};
+ghost use Rattle.std.specs.Prelude.{◌≡◌, ◌<◌, All, IfOk};
 ghost use Rattle.marple_base.specs.{Inputs.IsClosed, MemoryInputs.memory_input, declared.inputs.Which.TheVariants.{Query, Trace}};
 
+use crate::compare::{compare, compare_texts};
 use crate::memory::{MemoryParts, ranged_traces_of};
 use marple_base::{Field, MemoryInputs, MemorySink, Seq, Steps, Text};
 use std::alloc::{AllocError, Global};
 use std::marker::Brand;
+use std::process::Abort;
 use std::sync::ledger::{Blank, Ledger};
-use std::test::Fail;
 use tools_cli::{ToolStatus, marple_tools};
 use trace_pieces::WholeFault;
 use trace_ranges::Ranged;
@@ -16,13 +17,31 @@ use trace_ranges::Ranged;
 pub(crate) const COUNT: &[u8] =
     b"def count([c],[]) { c = c + 1; }\nr = groupby(pktstream, [srcip], count);\nprint r;\n";
 
-/// How a call ended, what it wrote, its complaint, and the texts of the parts.
+/// What is seen of a call: how it ended, what it wrote, and its complaint.
+#[derive(Clone, Copy, Debug, PartialEq)]
+pub(crate) struct Seen<'a> {
+    pub(crate) status: ToolStatus,
+    pub(crate) written: &'a [u8],
+    pub(crate) complaint: &'a [u8],
+}
+
+/// How a call ended, standard output and standard error, and the texts of the parts.
 #[derive(Drop)]
 pub(crate) struct Told {
     pub(crate) status: ToolStatus,
-    pub(crate) written: Text,
-    pub(crate) complaint: Text,
+    out: MemorySink,
+    err: MemorySink,
     pub(crate) texts: Vec<Vec<u8>>,
+}
+
+impl Told {
+    pub(crate) fn seen(&self) -> Seen<'_> {
+        Seen {
+            status: self.status,
+            written: self.out.taken(),
+            complaint: self.err.taken(),
+        }
+    }
 }
 
 fn words_of(alloc: Global, line: &str) -> Result<Vec<String>, AllocError> {
@@ -53,6 +72,14 @@ fn call_under<L: Ledger>(
     marple_tools(alloc, words, inputs, traces, parts, out, err, &mut steps)
 }
 
+// The inputs of a query alone.
+fn query_of(alloc: Global, query: &[u8]) -> Result<MemoryInputs, AllocError>
+    ensures { IfOk result (λ inputs. IsClosed (memory_input inputs Query)) }
+{
+    let query = Text::from_slice(alloc, query)?;
+    Ok(MemoryInputs::new(query, Text::new(alloc), Seq::new(alloc)))
+}
+
 /// Calls the program with the words of a line, a query, traces, and sinks for two parts.
 pub(crate) fn called(
     alloc: Global,
@@ -71,16 +98,12 @@ pub(crate) fn called_failing(
     texts: &[&[u8]],
     failing: Seq<u64>,
 ) -> Result<Told, AllocError> {
-    let words = words_of(alloc, line)?;
-    let mut inputs = MemoryInputs::new(
-        Text::from_slice(alloc, query)?,
-        Text::new(alloc),
-        Seq::new(alloc),
-    );
-    let mut traces = ranged_traces_of(alloc, texts)?;
-    let mut parts = MemoryParts::new(alloc, 2, 1000, 0)?;
     let mut out = MemorySink::new(alloc, 100, 10_000, failing)?;
     let mut err = MemorySink::new(alloc, 1000, 1000, Seq::new(alloc))?;
+    let words = words_of(alloc, line)?;
+    let mut inputs = query_of(alloc, query)?;
+    let mut traces = ranged_traces_of(alloc, texts)?;
+    let mut parts = MemoryParts::new(alloc, 2, 1000, 0)?;
     let status = call_under::<Brand>(
         alloc,
         words.as_slice(),
@@ -92,150 +115,160 @@ pub(crate) fn called_failing(
         Blank::new(1),
     );
     drop(traces);
-    let written = Text::from_slice(alloc, out.taken())?;
-    let complaint = Text::from_slice(alloc, err.taken())?;
     Ok(Told {
         status,
-        written,
-        complaint,
+        out,
+        err,
         texts: parts.texts,
     })
 }
+
+/// Calls the program as `called` does, of which this is seen: the texts of the parts.
+pub(crate) fn parts_of(
+    rt: &impl Abort,
+    alloc: Global,
+    line: &str,
+    query: &[u8],
+    traces: &[&[u8]],
+    wanted: &Seen<'_>,
+) -> Result<Vec<Vec<u8>>, AllocError> {
+    let told = called(alloc, line, query, traces)?;
+    compare(rt, told.seen(), *wanted, line);
+    Ok(told.texts)
+}
+
+/// What is seen of a call that splits.
+pub(crate) const SPLIT: &Seen<'static> = &Seen {
+    status: ToolStatus::Ok,
+    written: b"",
+    complaint: b"",
+};
 
 const LINE: &str = "split q a b --parts 2 --into out";
 
 // All packets of a key are in one part, also where a quote is open at the end of the first trace.
 #[test]
-fn splits_two_traces(rt: HostRuntime) -> Result<(), Fail> {
-    let told = called(
-        rt.alloc(),
-        LINE,
-        COUNT,
-        &[b"srcip,note\n5,x\n5,\"", b"srcip,note\n5,y\n5,z\n"],
-    )?;
-    assert_eq!(rt; told.status, ToolStatus::Ok);
-    assert_eq!(rt; told.complaint.as_slice(), b"".as_slice());
-    assert_eq!(rt; told.texts.len(), 2);
-    let (with, without) = if told.texts[0].len() > told.texts[1].len() {
-        (0, 1)
+fn splits_two_traces(rt: HostRuntime) -> Result<(), AllocError> {
+    let traces: [&[u8]; 2] = [b"srcip,note\n5,x\n5,\"", b"srcip,note\n5,y\n5,z\n"];
+    let texts = parts_of(&rt, rt.alloc(), LINE, COUNT, &traces, SPLIT)?;
+    let (with, without): (&[u8], &[u8]) = (b"srcip\n5\n5\n5\n5\n", b"srcip\n");
+    let is_first = texts.first().is_some_and(|text| text.len() > without.len());
+    let wanted = if is_first {
+        [with, without]
     } else {
-        (1, 0)
+        [without, with]
     };
-    assert_eq!(rt;
-        told.texts[with].as_slice(),
-        b"srcip\n5\n5\n5\n5\n".as_slice()
-    );
-    assert_eq!(rt; told.texts[without].as_slice(), b"srcip\n".as_slice());
+    compare_texts(&rt, &texts, &wanted, LINE);
     Ok(())
 }
 
-// Command lines that ask for nothing.
+/// Command lines that ask for nothing.
+const BAD_LINES: &[&str] = &[
+    "",
+    "facts",
+    "facts q more",
+    "fact q",
+    "Facts q",
+    "split",
+    "split q",
+    "split q --parts 2 --into out",
+    "split q a --parts 2",
+    "split --parts 2 --into out a",
+    "split q a --parts 2 --into out --parts 2",
+    "split q a --into out --into out --parts 2",
+    "split --salt 1 q a --parts 2 --into out --salt 2",
+    "split q a --parts 2 --into out --slat 1",
+    "split q --a --parts 2 --into out",
+    "split q a --parts 0 --into out",
+    "split q a --parts 65537 --into out",
+    "split q a --parts 2 --into out --salt",
+    "split q a --parts 2 --into out --salt 4294967296",
+    "split q a --parts 2 --into out --salt -1",
+    "split q a --parts 2 --into out --range",
+    "split q a --parts 2 --into out --range 0",
+    "split q a --parts 2 --into out --range 0 x",
+    "split q a --parts 2 --into out --range 0 18446744073709551616",
+    "split q a --parts 2 --into out --range 18446744073709551616 0",
+    "split q a --parts 2 --into out --range 9 3",
+    "split q a --parts 2 --into out --range 18446744073709551615 0",
+    "split q a --range 0 5 --parts 2 --into out --range 5 9",
+    "split q a b --parts 2 --into out --range 0 5",
+];
+
+/// What is seen of a call by one of them.
+const USAGE: &Seen<'static> = &Seen {
+    status: ToolStatus::Usage,
+    written: b"",
+    complaint: b"marple: bad command line\n",
+};
+
 #[test]
-fn refuses_words(rt: HostRuntime) -> Result<(), Fail> {
-    for line in [
-        "",
-        "facts",
-        "facts q more",
-        "fact q",
-        "Facts q",
-        "split",
-        "split q",
-        "split q --parts 2 --into out",
-        "split q a --parts 2",
-        "split --parts 2 --into out a",
-        "split q a --parts 2 --into out --parts 2",
-        "split q a --into out --into out --parts 2",
-        "split --salt 1 q a --parts 2 --into out --salt 2",
-        "split q a --parts 2 --into out --slat 1",
-        "split q --a --parts 2 --into out",
-        "split q a --parts 0 --into out",
-        "split q a --parts 65537 --into out",
-        "split q a --parts 2 --into out --salt",
-        "split q a --parts 2 --into out --salt 4294967296",
-        "split q a --parts 2 --into out --salt -1",
-        "split q a --parts 2 --into out --range",
-        "split q a --parts 2 --into out --range 0",
-        "split q a --parts 2 --into out --range 0 x",
-        "split q a --parts 2 --into out --range 0 18446744073709551616",
-        "split q a --parts 2 --into out --range 18446744073709551616 0",
-        "split q a --parts 2 --into out --range 9 3",
-        "split q a --parts 2 --into out --range 18446744073709551615 0",
-        "split q a --range 0 5 --parts 2 --into out --range 5 9",
-        "split q a b --parts 2 --into out --range 0 5",
-    ] {
-        let told = called(rt.alloc(), line, COUNT, &[b"srcip\n1\n"])?;
-        assert_eq!(rt; told.status, ToolStatus::Usage, "{line}");
-        assert_eq!(rt;
-            told.complaint.as_slice(),
-            b"marple: bad command line\n".as_slice()
-        );
-        assert_eq!(rt; told.texts.len(), 2);
-        assert_eq!(rt; told.texts[0].len(), 0);
+fn refuses_words(rt: HostRuntime) -> Result<(), AllocError> {
+    for line in BAD_LINES {
+        let texts = parts_of(&rt, rt.alloc(), line, COUNT, &[b"srcip\n1\n"], USAGE)?;
+        compare_texts(&rt, &texts, &[b"", b""], line);
     }
     Ok(())
 }
 
-// Options anywhere.
+/// Command lines with options anywhere.
+const LINES: &[&str] = &[
+    "split q a --parts 2 --into out --salt 0",
+    "split q a --parts 2 --into out --salt 4294967295",
+    "split q a b c --parts 3 --into out",
+    "split q a --into out --parts 2",
+    "split q a --parts 2 --into out --salt 1 more",
+    "split --salt 1 q --parts 2 a --into --parts b",
+    "split --range 0 5 q --parts 2 a --into out",
+    "split q a --parts 2 --into out --range 0 0",
+    "split q a --parts 2 --into out --range 18446744073709551615 18446744073709551615",
+];
+
 #[test]
-fn takes_options(rt: HostRuntime) -> Result<(), Fail> {
-    for line in [
-        "split q a --parts 2 --into out --salt 0",
-        "split q a --parts 2 --into out --salt 4294967295",
-        "split q a b c --parts 3 --into out",
-        "split q a --into out --parts 2",
-        "split q a --parts 2 --into out --salt 1 more",
-        "split --salt 1 q --parts 2 a --into --parts b",
-        "split --range 0 5 q --parts 2 a --into out",
-        "split q a --parts 2 --into out --range 0 0",
-        "split q a --parts 2 --into out --range 18446744073709551615 18446744073709551615",
-    ] {
+fn takes_options(rt: HostRuntime) -> Result<(), AllocError> {
+    for line in LINES {
         let told = called(rt.alloc(), line, COUNT, &[])?;
-        let is_usage = told.status == ToolStatus::Usage;
-        assert!(rt; !is_usage, "{line}");
+        assert!(rt; told.status != ToolStatus::Usage, "{line}");
     }
     Ok(())
 }
 
 // The first fault of the traces, as `marple` complains of it.
 #[test]
-fn refuses_traces(rt: HostRuntime) -> Result<(), Fail> {
-    let told = called(
-        rt.alloc(),
-        LINE,
-        COUNT,
-        &[b"srcip\n1\n2\n", b"srcip\n2001:db8::1\n"],
-    )?;
-    assert_eq!(rt;
-        told.status,
-        ToolStatus::TraceRefused(WholeFault::BadNumber(1, Field::SrcIp))
-    );
-    assert_eq!(rt;
-        told.complaint.as_slice(),
-        b"marple: trace: BadNumber(1,srcip)\n".as_slice()
-    );
+fn refuses_traces(rt: HostRuntime) -> Result<(), AllocError> {
+    let wanted = Seen {
+        status: ToolStatus::TraceRefused(WholeFault::BadNumber(1, Field::SrcIp)),
+        written: b"",
+        complaint: b"marple: trace: BadNumber(1,srcip)\n",
+    };
+    let traces: [&[u8]; 2] = [b"srcip\n1\n2\n", b"srcip\n2001:db8::1\n"];
+    let _texts = parts_of(&rt, rt.alloc(), LINE, COUNT, &traces, &wanted)?;
     Ok(())
 }
 
-// Queries that aren't accepted, and those by no field of which a trace may be split.
+// A query that isn't accepted.
 #[test]
-fn refuses_queries(rt: HostRuntime) -> Result<(), Fail> {
+fn refuses_a_query(rt: HostRuntime) -> Result<(), AllocError> {
     let told = called(rt.alloc(), LINE, b"print x;\n", &[b"srcip\n1\n"])?;
-    assert_eq!(rt;
-        told.complaint.as_slice(),
-        b"marple: query: UnknownName at 6\n".as_slice()
-    );
-    assert_eq!(rt; told.status.number(), 4);
-    let told = called(
-        rt.alloc(),
-        LINE,
-        b"def count([c],[]) { c = c + 1; }\na = groupby(pktstream, [srcip], count);\nb = groupby(pktstream, [dstip], count);\nprint a;\nprint b;\n",
-        &[b"srcip,dstip\n1,2\n"],
-    )?;
-    assert_eq!(rt; told.status, ToolStatus::FieldNeeded);
-    assert_eq!(rt;
-        told.complaint.as_slice(),
-        b"marple: query: FieldNeeded\n".as_slice()
-    );
-    assert_eq!(rt; told.status.number(), 4);
+    let unknown: &[u8] = b"marple: query: UnknownName at 6\n";
+    compare(&rt, told.seen().complaint, unknown, LINE);
+    compare(&rt, told.status.number(), 4, LINE);
+    Ok(())
+}
+
+/// A query by no field of which a trace may be split.
+const TWO_KEYS: &[u8] =
+    b"def count([c],[]) { c = c + 1; }\na = groupby(pktstream, [srcip], count);\nb = groupby(pktstream, [dstip], count);\nprint a;\nprint b;\n";
+
+#[test]
+fn needs_a_field(rt: HostRuntime) -> Result<(), AllocError> {
+    let wanted = Seen {
+        status: ToolStatus::FieldNeeded,
+        written: b"",
+        complaint: b"marple: query: FieldNeeded\n",
+    };
+    let traces: [&[u8]; 1] = [b"srcip,dstip\n1,2\n"];
+    let _texts = parts_of(&rt, rt.alloc(), LINE, TWO_KEYS, &traces, &wanted)?;
+    compare(&rt, wanted.status.number(), 4, LINE);
     Ok(())
 }
