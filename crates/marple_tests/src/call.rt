@@ -3,6 +3,7 @@
 ghost use Rattle.std.specs.Prelude.{◌≡◌, ◌<◌, IfOk};
 ghost use Rattle.marple_base.specs.{Inputs.IsClosed, MemoryInputs.memory_input, declared.inputs.Which.TheVariants.{Query, Trace}};
 
+use crate::compare::compare;
 use marple_base::{FailAt, Inputs, MemoryInputs, MemorySink, Seq, Steps, Text, Which};
 use marple_cli::{Driven, Status, marple};
 use std::alloc::{AllocError, Global};
@@ -13,8 +14,8 @@ use std::sync::ledger::{Blank, Ledger};
 /// The bytes that a sink has place for.
 pub const PLACES: usize = 1_000_000;
 
-/// What a call is made over: the bytes of its inputs, the most bytes of a write, the bytes that the output has place for, and
-/// which calls fail.
+/// What a call is made over: the bytes of its inputs, the most bytes of a write, which are at least one, the bytes that the
+/// output has place for, and which calls fail.
 #[derive(Clone, Copy)]
 pub struct Outside<'a> {
     pub query: &'a [u8],
@@ -26,15 +27,33 @@ pub struct Outside<'a> {
     pub failing_complaints: &'a [u64],
 }
 
-/// How a call ended, what its sinks took, and the steps that it counted.
+/// What is seen of a call: how it ended, and what its sinks took.
+#[derive(Clone, Copy, Debug, PartialEq)]
+pub struct Seen<'a> {
+    pub status: Status,
+    pub text: &'a [u8],
+    pub complaint: &'a [u8],
+}
+
+/// How a call ended, its sinks, and the steps that it counted.
 #[derive(Drop)]
 pub struct Told {
     pub status: Status,
-    pub text: Text,
-    pub complaint: Text,
+    out: MemorySink,
+    err: MemorySink,
     pub steps: u64,
     /// Whether the query couldn't be read, and then opening the trace after the call fails too.
     pub trace_fails: bool,
+}
+
+impl Told {
+    pub fn seen(&self) -> Seen<'_> {
+        Seen {
+            status: self.status,
+            text: self.out.taken(),
+            complaint: self.err.taken(),
+        }
+    }
 }
 
 /// How a call ended, and the steps that it counted.
@@ -80,17 +99,24 @@ fn inputs_of(alloc: Global, outside: &Outside<'_>) -> Result<MemoryInputs, Alloc
     Ok(MemoryInputs::new(query, trace, failing))
 }
 
+fn sink_of(
+    alloc: Global,
+    most: usize,
+    places: usize,
+    failing: &[u64],
+) -> Result<MemorySink, AllocError> {
+    let failing = copied(alloc, failing)?;
+    MemorySink::new(alloc, most.max(1), places, failing)
+}
+
 fn parts_of(alloc: Global, line: &str, outside: &Outside<'_>) -> Result<Parts, AllocError>
-    requires most { 0 < outside.now.most }
     ensures query { IfOk result (λ parts. IsClosed (memory_input parts.inputs Query)) }
     ensures trace { IfOk result (λ parts. IsClosed (memory_input parts.inputs Trace)) }
 {
     let words = words_of(alloc, line)?;
     let inputs = inputs_of(alloc, outside)?;
-    let writes = copied(alloc, outside.failing_writes)?;
-    let out = MemorySink::new(alloc, outside.most, outside.places, writes)?;
-    let complaints = copied(alloc, outside.failing_complaints)?;
-    let err = MemorySink::new(alloc, outside.most, PLACES, complaints)?;
+    let out = sink_of(alloc, outside.most, outside.places, outside.failing_writes)?;
+    let err = sink_of(alloc, outside.most, PLACES, outside.failing_complaints)?;
     Ok(Parts {
         words,
         inputs,
@@ -139,65 +165,42 @@ fn fails_to_open(inputs: &mut MemoryInputs, status: Status) -> bool
     }
 }
 
-fn told_of(
-    alloc: Global,
-    parts: &Parts,
-    ended: Ended,
-    trace_fails: bool,
-) -> Result<Told, AllocError> {
-    let text = Text::from_slice(alloc, parts.out.taken())?;
-    let complaint = Text::from_slice(alloc, parts.err.taken())?;
-    Ok(Told {
-        status: ended.status,
-        text,
-        complaint,
-        steps: ended.steps,
-        trace_fails,
-    })
-}
-
 /// Calls the program with the words of a line, where `driven` is what earlier calls left.
 pub fn called_after(
     alloc: Global,
     line: &str,
     outside: &Outside<'_>,
     driven: &mut Option<Driven>,
-) -> Result<Told, AllocError>
-    requires { 0 < outside.now.most }
-{
+) -> Result<Told, AllocError> {
     let mut parts = parts_of(alloc, line, outside)?;
     let ended = run::<Brand>(alloc, &mut parts, driven, Blank::new(1));
     let trace_fails = fails_to_open(&mut parts.inputs, ended.status);
-    let told = told_of(alloc, &parts, ended, trace_fails);
-    drop(parts);
-    told
+    Ok(Told {
+        status: ended.status,
+        out: parts.out,
+        err: parts.err,
+        steps: ended.steps,
+        trace_fails,
+    })
 }
 
 /// Calls the program with the words of a line.
-pub fn called(alloc: Global, line: &str, outside: &Outside<'_>) -> Result<Told, AllocError>
-    requires { 0 < outside.now.most }
-{
+pub fn called(alloc: Global, line: &str, outside: &Outside<'_>) -> Result<Told, AllocError> {
     let mut driven = None;
     let told = called_after(alloc, line, outside, &mut driven);
     drop(driven);
     told
 }
 
-/// Calls the program with the words of a line, which ends with this status, this text and this complaint.
+/// Calls the program with the words of a line, of which this is seen.
 pub fn compare_call(
     rt: &impl Abort,
     alloc: Global,
     line: &str,
     outside: &Outside<'_>,
-    status: Status,
-    text: &[u8],
-    complaint: &[u8],
-) -> Result<(), AllocError>
-    requires { 0 < outside.now.most }
-{
+    wanted: &Seen<'_>,
+) -> Result<(), AllocError> {
     let told = called(alloc, line, outside)?;
-    assert_eq!(rt; told.status, status);
-    assert_eq!(rt; told.text.as_slice(), text);
-    assert_eq!(rt; told.complaint.as_slice(), complaint);
+    compare(rt, told.seen(), *wanted, line);
     Ok(())
 }

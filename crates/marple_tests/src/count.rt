@@ -1,8 +1,9 @@
 //! The steps that a run counts.
 
-ghost use Rattle.std.specs.Prelude.{◌≡◌, ◌<◌};
+ghost use Rattle.std.specs.Prelude.{◌≡◌, ◌<◌, length};
 
 use crate::call::{Outside, called};
+use crate::compare::compare;
 use crate::sources::{COUNT, QUERY, RUN, SOURCES};
 use accepted_query::accept;
 use epoch_entry::Entries;
@@ -12,7 +13,6 @@ use std::alloc::{AllocError, Global};
 use std::marker::Brand;
 use std::process::Abort;
 use std::sync::ledger::{Blank, Ledger};
-use std::test::Fail;
 use switch_core::{Merged, Pipeline};
 
 /// The steps of the run. Four packets are of a new key: 1 word of the key + 1 hashed + 1 way + 1 word of the key written + 3
@@ -36,6 +36,23 @@ fn made_pipeline(rt: &impl Abort, alloc: Global) -> Result<Pipeline<1>, AllocErr
     Pipeline::new(alloc, accepted.plan, Entries::Folds, 2, 64)
 }
 
+/// Ends the test unless the pipeline has one lane.
+pub fn compare_lanes(rt: &impl Abort, pipeline: &Pipeline<1>)
+    ensures { length pipeline.now.lanes ≡ 1 }
+{
+    assert_eq!(rt; pipeline.lanes(), 1);
+}
+
+// Merges a record of the only lane.
+fn merge<L: Ledger>(
+    rt: &impl Abort,
+    pipeline: &mut Pipeline<1>,
+    steps: &mut Steps<L>,
+) -> Result<Merged, AllocError> {
+    compare_lanes(rt, pipeline);
+    pipeline.merge(0, steps)
+}
+
 // Each packet, and a merge after it, as a run makes them.
 fn make_packets<L: Ledger>(
     rt: &impl Abort,
@@ -45,8 +62,7 @@ fn make_packets<L: Ledger>(
     for source in &SOURCES {
         assert!(rt; pipeline.ready());
         pipeline.packet(&packet_of(*source), steps);
-        assert_eq!(rt; pipeline.lanes(), 1);
-        let _merged = pipeline.merge(0, steps)?;
+        let _merged = merge(rt, pipeline, steps)?;
     }
     Ok(())
 }
@@ -59,8 +75,7 @@ fn make_end<L: Ledger>(
 ) -> Result<(), AllocError> {
     pipeline.sweep(steps)?;
     for wanted in &[Merged::Done, Merged::Done, Merged::Empty] {
-        assert_eq!(rt; pipeline.lanes(), 1);
-        assert_eq!(rt; pipeline.merge(0, steps)?, *wanted);
+        compare(rt, merge(rt, pipeline, steps)?, *wanted, "a merge");
     }
     assert!(rt; pipeline.drained());
     Ok(())
@@ -93,19 +108,22 @@ fn steps_of_the_events<L: Ledger>(
 }
 
 /// The steps that a run counts.
-pub fn steps_of(rt: &impl Abort, alloc: Global, outside: &Outside<'_>) -> Result<u64, AllocError>
-    requires { 0 < outside.now.most }
-{
+pub fn steps_of(rt: &impl Abort, alloc: Global, outside: &Outside<'_>) -> Result<u64, AllocError> {
     let told = called(alloc, RUN, outside)?;
-    assert_eq!(rt; told.status, Status::Ok);
+    compare(rt, told.status, Status::Ok, RUN);
     Ok(told.steps)
 }
 
 #[test]
-fn a_run_counts_the_steps_of_its_events(rt: HostRuntime) -> Result<(), Fail> {
+fn a_run_counts_the_steps_of_its_events(rt: HostRuntime) -> Result<(), AllocError> {
     let alloc = rt.alloc();
     let steps = steps_of_the_events::<Brand>(&rt, alloc, Blank::new(1))?;
-    assert_eq!(rt; steps, STEPS);
-    assert_eq!(rt; steps_of(&rt, alloc, &COUNT)?, steps);
+    compare(&rt, steps, STEPS, "the steps of the events");
+    compare(
+        &rt,
+        steps_of(&rt, alloc, &COUNT)?,
+        steps,
+        "the steps of the run",
+    );
     Ok(())
 }

@@ -1,15 +1,13 @@
 //! Calls on a count whose inputs or outputs fail.
 
-ghost use Rattle.std.specs.Prelude.{◌<◌};
-
-use crate::call::{Outside, called, compare_call};
+use crate::call::{Outside, Seen, called, compare_call};
 use crate::calls::SOUND;
-use crate::sources::{COUNT, RUN, TABLE};
+use crate::compare::compare;
+use crate::sources::{COUNT, RUN, WHOLE};
 use marple_base::{FailAt, Which};
 use marple_cli::Status;
 use std::alloc::{AllocError, Global};
 use std::process::Abort;
-use std::test::Fail;
 
 /// The trace's first read.
 const TRACE_READ: [FailAt; 1] = [FailAt {
@@ -24,65 +22,71 @@ const IN_TENS: Outside<'static> = Outside {
     ..COUNT
 };
 
+/// What is seen of a call that cannot write after ten bytes.
+const TEN_BYTES: Seen<'static> = Seen {
+    status: Status::OutputFault,
+    text: b"table r li",
+    complaint: b"marple: cannot write\n",
+};
+
+/// What is seen of a call that cannot read the trace.
+const NO_TRACE: Seen<'static> = Seen {
+    status: Status::InputFault(Which::Trace),
+    text: b"",
+    complaint: b"marple: cannot read the trace\n",
+};
+
+/// Calls on the count, and what is seen of each.
+const CALLS: &[(Outside<'static>, Seen<'static>)] = &[
+    (COUNT, WHOLE),
+    // an output with place for ten bytes takes ten
+    (
+        Outside {
+            places: 10,
+            ..COUNT
+        },
+        TEN_BYTES,
+    ),
+    // a second write that fails leaves ten bytes
+    (
+        Outside {
+            failing_writes: &[2],
+            ..IN_TENS
+        },
+        TEN_BYTES,
+    ),
+    // a trace that fails writes a complaint where that can be written
+    (
+        Outside {
+            failing: &TRACE_READ,
+            ..IN_TENS
+        },
+        NO_TRACE,
+    ),
+    (
+        Outside {
+            failing: &TRACE_READ,
+            ..COUNT
+        },
+        NO_TRACE,
+    ),
+    (
+        Outside {
+            failing: &TRACE_READ,
+            failing_complaints: &[1],
+            ..COUNT
+        },
+        Seen {
+            complaint: b"",
+            ..NO_TRACE
+        },
+    ),
+];
+
 #[test]
-fn calls_end_with_their_texts_and_complaints(rt: HostRuntime) -> Result<(), Fail> {
-    let unwritten = b"marple: cannot write\n".as_slice();
-    let unread = b"marple: cannot read the trace\n".as_slice();
-    let trace_fault = Status::InputFault(Which::Trace);
-    for (outside, status, text, complaint) in [
-        (COUNT, Status::Ok, TABLE, b"".as_slice()),
-        // an output with place for ten bytes takes ten
-        (
-            Outside {
-                places: 10,
-                ..COUNT
-            },
-            Status::OutputFault,
-            b"table r li".as_slice(),
-            unwritten,
-        ),
-        // a second write that fails leaves ten bytes
-        (
-            Outside {
-                failing_writes: &[2],
-                ..IN_TENS
-            },
-            Status::OutputFault,
-            b"table r li".as_slice(),
-            unwritten,
-        ),
-        // a trace that fails writes a complaint where that can be written
-        (
-            Outside {
-                failing: &TRACE_READ,
-                ..IN_TENS
-            },
-            trace_fault,
-            b"".as_slice(),
-            unread,
-        ),
-        (
-            Outside {
-                failing: &TRACE_READ,
-                ..COUNT
-            },
-            trace_fault,
-            b"".as_slice(),
-            unread,
-        ),
-        (
-            Outside {
-                failing: &TRACE_READ,
-                failing_complaints: &[1],
-                ..COUNT
-            },
-            trace_fault,
-            b"".as_slice(),
-            b"".as_slice(),
-        ),
-    ] {
-        assert!(rt; outside.most > 0);
-        compare_call(&rt, rt.alloc(), RUN, &outside, status, text, complaint)?;
+fn calls_end_with_their_texts_and_complaints(rt: HostRuntime) -> Result<(), AllocError> {
+    for (outside, seen) in CALLS {
+        compare_call(&rt, rt.alloc(), RUN, outside, seen)?;
     }
     Ok(())
 }
@@ -91,11 +95,9 @@ fn calls_end_with_their_texts_and_complaints(rt: HostRuntime) -> Result<(), Fail
 fn compare_unopened(
     rt: &impl Abort,
     alloc: Global,
-    sound: Outside<'_>,
+    sound: &Outside<'_>,
     call: u64,
-) -> Result<(), AllocError>
-    requires { 0 < sound.most }
-{
+) -> Result<(), AllocError> {
     let failing = [
         FailAt {
             which: Which::Query,
@@ -108,19 +110,22 @@ fn compare_unopened(
     ];
     let outside = Outside {
         failing: &failing,
-        ..sound
+        ..*sound
     };
     let told = called(alloc, RUN, &outside)?;
-    assert_eq!(rt; told.status, Status::InputFault(Which::Query));
+    let refused = Status::InputFault(Which::Query);
+    compare(rt, told.status, refused, "a query that cannot be read");
     assert!(rt; told.trace_fails, "at {call}");
     Ok(())
 }
 
 #[test]
-fn the_trace_is_not_opened_where_the_query_cannot_be_read(rt: HostRuntime) -> Result<(), Fail> {
+fn the_trace_is_not_opened_where_the_query_cannot_be_read(
+    rt: HostRuntime,
+) -> Result<(), AllocError> {
     // opening the query, a read of all its bytes, and a read of none
     for call in 1..4u64 {
-        compare_unopened(&rt, rt.alloc(), COUNT, call)?;
+        compare_unopened(&rt, rt.alloc(), &COUNT, call)?;
         compare_unopened(&rt, rt.alloc(), SOUND, call)?;
     }
     Ok(())

@@ -1,65 +1,66 @@
 //! The pipeline that a run leaves.
 
-use crate::call::called_after;
-use crate::sources::{COUNT, ROWS, RUN, TABLE};
-use epoch_model::Mark;
+use crate::call::{Seen, called_after};
+use crate::compare::compare;
+use crate::count::compare_lanes;
+use crate::sources::{COUNT, ROWS, RUN, WHOLE};
 use final_queries::Table;
 use marple_cli::{Driven, Status};
 use std::alloc::{AllocError, Global};
 use std::process::Abort;
-use std::test::Fail;
 use switch_core::Pipeline;
 
 /// A run whose caches have a number of ways that no cache may have.
 const BAD_RUN: &str = "run query trace --ways 3";
 
-// The table has the rows that were printed.
-fn compare_rows(rt: &impl Abort, table: &Table) {
-    assert_eq!(rt; table.rows.len(), 3);
-    for (at, [key, epochs, count]) in ROWS.iter().enumerate() {
-        assert!(rt; at < table.rows.len());
+/// What is seen of it.
+const REFUSED: &Seen<'static> = &Seen {
+    status: Status::Usage,
+    text: b"",
+    complaint: b"marple: bad command line\n",
+};
+
+// There is one table, with the rows that were printed.
+fn compare_tables(rt: &impl Abort, tables: &[Table]) {
+    let [table] = tables else {
+        panic!(rt; "{} tables", tables.len());
+    };
+    assert_eq!(rt; table.rows.len(), ROWS.len());
+    for at in 0..ROWS.len() {
         let row = table.rows.get(at);
-        assert_eq!(rt; row.key, [*key].as_slice());
-        assert_eq!(rt; row.mark, Mark::Exact);
-        assert_eq!(rt; row.epochs, *epochs);
-        assert_eq!(rt; row.values, [*count].as_slice());
+        let found = (row.key, row.mark, row.epochs, row.values);
+        compare(rt, found, ROWS[at], "a row");
     }
 }
 
 // The pipeline has one lane, in which no epoch is open or waits, and the table that was printed.
 fn compare_pipeline(rt: &impl Abort, pipeline: &Pipeline<1>) -> Result<(), AllocError> {
-    assert_eq!(rt; pipeline.lanes(), 1);
-    assert_eq!(rt; pipeline.held(0), 0);
+    compare_lanes(rt, pipeline);
+    compare(rt, pipeline.held(0), 0, "the entries of the cache");
     assert!(rt; pipeline.drained());
     let tables = pipeline.close()?;
-    assert_eq!(rt; tables.len(), 1);
-    compare_rows(rt, tables.get(0));
+    compare_tables(rt, tables.as_slice());
     Ok(())
 }
 
-// Whether a pipeline of one way is there. It is the one that the run leaves.
-fn has_pipeline(rt: &impl Abort, driven: &Option<Driven>) -> Result<bool, AllocError> {
+// The pipeline that the run leaves is there, of one way.
+fn compare_left(rt: &impl Abort, driven: &Option<Driven>) -> Result<(), AllocError> {
     match driven {
-        Some(Driven::Ways1(pipeline)) => {
-            compare_pipeline(rt, pipeline)?;
-            Ok(true)
-        }
-        _ => Ok(false),
+        Some(Driven::Ways1(pipeline)) => compare_pipeline(rt, pipeline),
+        _ => panic!(rt; "no pipeline of one way is left"),
     }
 }
 
-// A call, which ends with this status and this text.
+// A call, of which this is seen.
 fn make_call(
     rt: &impl Abort,
     alloc: Global,
     line: &str,
-    status: Status,
-    text: &[u8],
+    wanted: &Seen<'_>,
     driven: &mut Option<Driven>,
 ) -> Result<(), AllocError> {
     let told = called_after(alloc, line, &COUNT, driven)?;
-    assert_eq!(rt; told.status, status);
-    assert_eq!(rt; told.text.as_slice(), text);
+    compare(rt, told.seen(), *wanted, line);
     Ok(())
 }
 
@@ -69,13 +70,12 @@ fn make_calls(
     alloc: Global,
     driven: &mut Option<Driven>,
 ) -> Result<(), AllocError> {
-    make_call(rt, alloc, BAD_RUN, Status::Usage, b"", driven)?;
+    make_call(rt, alloc, BAD_RUN, REFUSED, driven)?;
     assert!(rt; driven.is_none());
-    make_call(rt, alloc, RUN, Status::Ok, TABLE, driven)?;
-    assert!(rt; has_pipeline(rt, driven)?);
-    make_call(rt, alloc, BAD_RUN, Status::Usage, b"", driven)?;
-    assert!(rt; has_pipeline(rt, driven)?);
-    Ok(())
+    make_call(rt, alloc, RUN, &WHOLE, driven)?;
+    compare_left(rt, driven)?;
+    make_call(rt, alloc, BAD_RUN, REFUSED, driven)?;
+    compare_left(rt, driven)
 }
 
 // The same, where nothing is there before.
@@ -87,6 +87,6 @@ fn start_calls(rt: &impl Abort, alloc: Global) -> Result<(), AllocError> {
 }
 
 #[test]
-fn only_a_run_that_ends_well_leaves_a_pipeline(rt: HostRuntime) -> Result<(), Fail> {
-    Ok(start_calls(&rt, rt.alloc())?)
+fn only_a_run_that_ends_well_leaves_a_pipeline(rt: HostRuntime) -> Result<(), AllocError> {
+    start_calls(&rt, rt.alloc())
 }

@@ -6,6 +6,8 @@ mod call;
 #[cfg(test)]
 mod calls;
 #[cfg(test)]
+mod compare;
+#[cfg(test)]
 mod count;
 #[cfg(test)]
 mod count_calls;

@@ -1,6 +1,8 @@
 //! A count of packets by source over five packets, and what is printed of it.
 
-use crate::call::{Outside, PLACES};
+use crate::call::{Outside, PLACES, Seen};
+use epoch_model::Mark;
+use marple_cli::Status;
 
 pub const QUERY: &[u8] =
     b"def count([c], []) { c = c + 1; } r = groupby(pktstream, [srcip], count); print r;";
@@ -26,5 +28,16 @@ pub const RUN: &str = "run query trace --buckets 2 --ways 1";
 pub const TABLE: &[u8] =
     b"table r linear 0 4\nsrcip,mark,epoch,epochs,c\n1,exact,*,1,2\n2,exact,*,2,2\n3,exact,*,1,1\n";
 
-/// Its rows: the key, the number of epochs and the count of each.
-pub const ROWS: [[u64; 3]; 3] = [[1, 1, 2], [2, 2, 2], [3, 1, 1]];
+/// What is seen of the run.
+pub const WHOLE: Seen<'static> = Seen {
+    status: Status::Ok,
+    text: TABLE,
+    complaint: b"",
+};
+
+/// Its rows: the key, the mark, the number of epochs and the count of each.
+pub const ROWS: &[(&[u64], Mark, u64, &[u64])] = &[
+    (&[1], Mark::Exact, 1, &[2]),
+    (&[2], Mark::Exact, 2, &[2]),
+    (&[3], Mark::Exact, 1, &[1]),
+];
