@@ -2,12 +2,14 @@
 //! after the other fails.
 ghost use Rattle.std.specs.Prelude.{◌≡◌, ◌<◌};
 
+use crate::compare::{holds, same};
 use marple_base::{
     Boxed, FailAt, Failed, Field, FieldSet, Inputs, MemoryInputs, MemorySink, Packet, ReadAnswer,
     Seq, SoundInputs, SoundSink, Steps, Text, Which, decimal, read_input, write_all,
 };
 use std::alloc::{AllocError, Global};
 use std::marker::Brand;
+use std::process::Abort;
 use std::sync::ledger::{Blank, Ledger};
 use std::test::Fail;
 
@@ -55,71 +57,91 @@ fn count_to<L: Ledger>(n: u32, blank: Blank) -> u64
     steps.shown()
 }
 
+/// A call that fails, the most bytes that are read, and those that are.
+struct Read(&'static str, u64, usize, &'static [u8]);
+
+const READS: [Read; 4] = [
+    Read("no call fails", 4, 9, b"abc"),
+    Read("all bytes are wanted, and no end", 3, 3, b"abc"),
+    Read("two bytes are wanted", 3, 2, b"ab"),
+    Read("no byte is wanted", 2, 0, b""),
+];
+
+// These bytes were read.
+fn compare_read(rt: &impl Abort, name: &str, answer: &Result<Text, ReadAnswer>, bytes: &[u8]) {
+    match answer {
+        Ok(text) => same(rt, name, text.as_slice(), bytes),
+        Err(_) => holds(rt, name, false),
+    }
+}
+
 #[test]
 fn inputs(rt: HostRuntime) -> Result<(), Fail> {
     let alloc = rt.alloc();
     // opening is call 1, the bytes come in call 2, and call 3 finds the end
     for call in 1..4 {
         let answer = read_failing_at(alloc, call, 9)?;
-        assert!(rt; matches!(answer, Err(ReadAnswer::Failed)), "at {call}");
+        let is_failure = matches!(answer, Err(ReadAnswer::Failed));
+        same(
+            &rt,
+            "a call whose failure is seen",
+            (call, is_failure),
+            (call, true),
+        );
     }
-    for (call, limit, bytes) in [
-        (4, 9, b"abc".as_slice()),
-        (3, 3, b"abc".as_slice()),
-        (3, 2, b"ab".as_slice()),
-        (2, 0, b"".as_slice()),
-    ] {
-        match read_failing_at(alloc, call, limit)? {
-            Ok(text) => assert_eq!(rt; text.as_slice(), bytes, "up to {limit}"),
-            Err(_) => assert!(rt; false, "up to {limit}"),
-        }
+    for &Read(name, call, limit, bytes) in &READS {
+        compare_read(&rt, name, &read_failing_at(alloc, call, limit)?, bytes);
     }
     let mut sound = SoundInputs::new(b"query", b"trace");
-    match read_input(alloc, &mut sound, Which::Query, 9) {
-        Ok(text) => assert_eq!(rt; text.as_slice(), b"query".as_slice()),
-        Err(_) => assert!(rt; false),
-    }
+    let answer = read_input(alloc, &mut sound, Which::Query, 9);
+    compare_read(&rt, "sound inputs", &answer, b"query");
     Ok(())
 }
+
+/// The failing write, the most bytes of a write, the places, and the bytes taken.
+struct Write(u64, usize, usize, &'static [u8]);
+
+const WRITES: [Write; 7] = [
+    Write(9, 1, 3, b"abc"),
+    Write(1, 1, 3, b""),
+    Write(2, 1, 3, b"a"),
+    Write(3, 1, 3, b"ab"),
+    Write(9, 2, 2, b"ab"),
+    Write(9, 5, 0, b""),
+    Write(2, 5, 3, b"abc"),
+];
 
 #[test]
 fn sinks(rt: HostRuntime) -> Result<(), Fail> {
     let alloc = rt.alloc();
-    // (the failing write, the most bytes of a write, the places, the bytes taken)
-    for (call, most, places, taken) in [
-        (9, 1, 3, b"abc".as_slice()),
-        (1, 1, 3, b"".as_slice()),
-        (2, 1, 3, b"a".as_slice()),
-        (3, 1, 3, b"ab".as_slice()),
-        (9, 2, 2, b"ab".as_slice()),
-        (9, 5, 0, b"".as_slice()),
-        (2, 5, 3, b"abc".as_slice()),
-    ] {
+    for &Write(call, most, places, taken) in &WRITES {
         let (is_whole, text) = written_failing_at(alloc, call, most, places)?;
-        assert_eq!(rt; text.as_slice(), taken);
-        assert_eq!(rt; is_whole, taken.len() == 3);
+        same(&rt, "the bytes taken", text.as_slice(), taken);
+        same(&rt, "whether they are all", is_whole, taken.len() == 3);
     }
-    assert!(rt; write_all(&mut SoundSink::new(), b"abc").is_ok());
+    let is_whole = write_all(&mut SoundSink::new(), b"abc").is_ok();
+    holds(&rt, "a sound sink takes all", is_whole);
     Ok(())
 }
 
-#[test]
-fn values(rt: HostRuntime) -> Result<(), Fail> {
-    let alloc = rt.alloc();
-    assert_eq!(rt;
-        decimal(alloc, u64::MAX)?.as_slice(),
-        b"18446744073709551615".as_slice()
+fn compare_texts(rt: &impl Abort, alloc: Global) -> Result<(), AllocError> {
+    let greatest = decimal(alloc, u64::MAX)?;
+    same(
+        rt,
+        "the greatest word",
+        greatest.as_slice(),
+        b"18446744073709551615",
     );
-    assert_eq!(rt; decimal(alloc, 0)?.as_slice(), b"0".as_slice());
-    assert_eq!(rt; count_to::<Brand>(5, Blank::new(1)), 5);
-    assert_eq!(rt; *Boxed::new(alloc, 7)?.get(), 7);
-
+    same(rt, "the least word", decimal(alloc, 0)?.as_slice(), b"0");
     let mut text = Text::new(alloc);
     text.push(b'a')?;
     text.push_slice(b"bc")?;
-    assert_eq!(rt; *text.get(2), b'c');
-    assert_eq!(rt; text.len(), 3);
+    same(rt, "the last byte", *text.get(2), b'c');
+    same(rt, "the length of a text", text.len(), 3);
+    Ok(())
+}
 
+fn compare_fields(rt: &impl Abort, alloc: Global) -> Result<(), AllocError> {
     let fields = FieldSet::EMPTY.with(Field::Switch).with(Field::QSize);
     let mut names = Seq::new(alloc);
     for field in Field::ALL {
@@ -127,11 +149,24 @@ fn values(rt: HostRuntime) -> Result<(), Fail> {
             names.push(field.name())?;
         }
     }
-    assert_eq!(rt; names.len(), 2);
-    assert_eq!(rt; names.as_slice()[1], b"qsize".as_slice());
+    same(rt, "the number of fields", names.len(), 2);
+    same(rt, "the second field", names.as_slice()[1], b"qsize");
     let packet = Packet {
         words: [0, 1, 2, 3, 4, 5, 6, 7, 8, 9, 10, 11, 12, 13],
     };
-    assert_eq!(rt; packet.get(Field::Tout), 12);
+    same(rt, "a field of a packet", packet.get(Field::Tout), 12);
     Ok(())
+}
+
+#[test]
+fn values(rt: HostRuntime) -> Result<(), Fail> {
+    same(&rt, "a count", count_to::<Brand>(5, Blank::new(1)), 5);
+    same(
+        &rt,
+        "a value in a box",
+        *Boxed::new(rt.alloc(), 7)?.get(),
+        7,
+    );
+    compare_texts(&rt, rt.alloc())?;
+    Ok(compare_fields(&rt, rt.alloc())?)
 }

@@ -6,6 +6,7 @@
 
 ghost use Rattle.std.specs.Prelude.{◌<◌, ◌≤◌};
 
+use crate::compare::same;
 use crate::one_bucket::OneBucket;
 use epoch_entry::Entries;
 use std::alloc::Global;
@@ -36,8 +37,18 @@ fn bound_of<const WAYS: usize>(alloc: Global, query: &[u8]) -> Result<u64, Fail>
 #[test]
 fn bounds_of_packets(rt: HostRuntime) -> Result<(), Fail> {
     // 14 registers + 2 * 2 for a way + 2 * 8 + 2 + 6 * 6 + 2
-    assert_eq!(rt; bound_of::<1>(rt.alloc(), COUNT)?, 74);
+    same(
+        &rt,
+        "packets by source",
+        bound_of::<1>(rt.alloc(), COUNT)?,
+        74,
+    );
     // 14 + 5 registers + 8 * 2 * 2 for the ways + 2 * 8 + 2 + 6 * 6 + 2
-    assert_eq!(rt; bound_of::<8>(rt.alloc(), COUNT_OF_LATE)?, 107);
+    same(
+        &rt,
+        "late packets",
+        bound_of::<8>(rt.alloc(), COUNT_OF_LATE)?,
+        107,
+    );
     Ok(())
 }

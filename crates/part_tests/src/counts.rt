@@ -25,6 +25,7 @@
 
 ghost use Rattle.std.specs.Prelude.{◌≡◌, ◌<◌, ◌≤◌};
 
+use crate::compare::same;
 use crate::direct::QUERY;
 use crate::one_bucket::Event::{self, Evict, Merge, Packet, Sweep};
 use crate::one_bucket::OneBucket;
@@ -36,6 +37,9 @@ use std::process::Abort;
 use std::sync::ledger::{Blank, Ledger};
 use std::test::Fail;
 
+/// An event, and the steps that it takes.
+struct Counted(Event, u64);
+
 /// A query with one groupby, what its entries are for, and events in sequence, each with the steps that it takes. The
 /// pipe has room for one record.
 #[derive(Clone, Copy)]
@@ -43,7 +47,7 @@ struct Case {
     name: &'static str,
     query: &'static [u8],
     entries: Entries,
-    events: &'static [(Event, u64)],
+    events: &'static [Counted],
 }
 
 /// A translation without a history, after a filter of two operations: the comparison, and whether there is a packet and it
@@ -56,29 +60,29 @@ const FILTERED: Case = Case {
     events: &[
         // a new key: 16 registers + 1 word of the key + 1 of it hashed + 1 way + 1 word of the key written + 3 of the entry
         // + 8 for the row
-        (Packet(1, 100), 16 + 1 + 1 + 1 + 1 + 3 + 8),
+        Counted(Packet(1, 100), 16 + 1 + 1 + 1 + 1 + 3 + 8),
         // a key that is there: 16 registers + 1 word of the key + 1 hashed + 1 compared + 1 way + 8 for the row
-        (Packet(1, 100), 16 + 1 + 1 + 1 + 1 + 8),
+        Counted(Packet(1, 100), 16 + 1 + 1 + 1 + 1 + 8),
         // one that evicts: 16 registers + 1 word of the key + 1 hashed + 1 compared + 1 word of the other key and 3 of its
         // entry into the pipe + 1 way + 1 word of the key written + 3 of the entry + 8 for the row
-        (Packet(2, 100), 16 + 1 + 1 + 1 + (1 + 3) + 1 + 1 + 3 + 8),
+        Counted(Packet(2, 100), 16 + 1 + 1 + 1 + (1 + 3) + 1 + 1 + 3 + 8),
         // 1 variable read + 1 product + 1 copied + 1 written
-        (Merge, 1 + 1 + 1 + 1),
+        Counted(Merge, 1 + 1 + 1 + 1),
         // a packet that the filter drops: 16 registers
-        (Packet(3, 1000), 16),
+        Counted(Packet(3, 1000), 16),
         // 1 word of the key and 3 of the entry into the pipe + 1 for the bucket that has a key less
-        (Evict, (1 + 3) + 1),
+        Counted(Evict, (1 + 3) + 1),
         // the pipe is full, and no epoch is open: a merge
-        (Sweep, 4),
+        Counted(Sweep, 4),
         // nothing is left
-        (Evict, 0),
-        (Merge, 0),
-        (Sweep, 0),
+        Counted(Evict, 0),
+        Counted(Merge, 0),
+        Counted(Sweep, 0),
         // the same new key, and the same eviction by a packet
-        (Packet(1, 100), 31),
-        (Packet(2, 100), 36),
+        Counted(Packet(1, 100), 31),
+        Counted(Packet(2, 100), 36),
         // the pipe is full before the eviction and after it: a merge + an eviction + a merge
-        (Sweep, 4 + 5 + 4),
+        Counted(Sweep, 4 + 5 + 4),
     ],
 };
 
@@ -90,21 +94,21 @@ const TWO_WAYS: Case = Case {
     entries: Entries::Folds,
     events: &[
         // a new key
-        (Packet(1, 100), 2 + 2 + 1 + 2 + 3 + 8),
+        Counted(Packet(1, 100), 2 + 2 + 1 + 2 + 3 + 8),
         // a key that differs in its second word
-        (Packet(1, 200), 2 + 2 + 2 + 2 + 2 + 3 + 8),
+        Counted(Packet(1, 200), 2 + 2 + 2 + 2 + 2 + 3 + 8),
         // the key that is found second, after 2 words that are compared with the other key
-        (Packet(1, 100), 2 + 2 + (2 + 2) + 2 + 8),
+        Counted(Packet(1, 100), 2 + 2 + (2 + 2) + 2 + 8),
         // it is found first
-        (Packet(1, 100), 2 + 2 + 2 + 1 + 8),
+        Counted(Packet(1, 100), 2 + 2 + 2 + 1 + 8),
         // a key that differs from both in its first word, and evicts the last one
-        (Packet(2, 100), 2 + 2 + (1 + 1) + (2 + 3) + 2 + 2 + 3 + 8),
+        Counted(Packet(2, 100), 2 + 2 + (1 + 1) + (2 + 3) + 2 + 2 + 3 + 8),
         // a full pipe and two open epochs: three merges and two evictions
-        (Sweep, 3 * 4 + 2 * ((2 + 3) + 1)),
+        Counted(Sweep, 3 * 4 + 2 * ((2 + 3) + 1)),
         // a new key, and then an eviction and a merge by themselves
-        (Packet(1, 100), 2 + 2 + 1 + 2 + 3 + 8),
-        (Evict, (2 + 3) + 1),
-        (Merge, 4),
+        Counted(Packet(1, 100), 2 + 2 + 1 + 2 + 3 + 8),
+        Counted(Evict, (2 + 3) + 1),
+        Counted(Merge, 4),
     ],
 };
 
@@ -116,22 +120,22 @@ const COMPOSED: Case = Case {
     entries: Entries::Folds,
     events: &[
         // a new key, whose row is logged: 2 for the history + 21 + 1 argument + 1 for the number
-        (
+        Counted(
             Packet(1, 4),
             1 + 1 + 1 + 1 + 1 + (1 + 1 + 6) + (2 + 21 + 1 + 1),
         ),
         // the log is full: 3 columns of 3 parts, 21 and 2 words + 1 of the history + 6 elements with 2 products each
         // + 6 words of the map
-        (
+        Counted(
             Packet(1, 4),
             1 + 1 + 1 + 1 + 1 + 3 * (3 + 21 + 2) + 1 + 6 * 2 + 6,
         ),
         // it evicts, and its row is logged
-        (Packet(2, 4), 1 + 1 + 1 + 1 + (1 + 9) + 1 + 1 + 8 + 25),
+        Counted(Packet(2, 4), 1 + 1 + 1 + 1 + (1 + 9) + 1 + 1 + 8 + 25),
         // 21 for the logged row + 2 variables read + 4 products
         // + 2 copied + 2 written + 1 of the history
-        (Merge, 21 + 2 + 4 + 2 + 2 + 1),
-        (Evict, (1 + 9) + 1),
+        Counted(Merge, 21 + 2 + 4 + 2 + 2 + 1),
+        Counted(Evict, (1 + 9) + 1),
     ],
 };
 
@@ -143,22 +147,22 @@ const MOVED: Case = Case {
     entries: Entries::Folds,
     events: &[
         // a new key, whose row is logged: 2 * 2 for the history + 14 + 2 arguments + 1 for the number
-        (
+        Counted(
             Packet(1, 4),
             1 + 2 + 1 + 1 + 1 + (1 + 2 + 2) + (4 + 14 + 2 + 1),
         ),
         // the second row is logged too
-        (Packet(1, 4), 1 + 2 + 1 + 1 + 1 + 21),
+        Counted(Packet(1, 4), 1 + 2 + 1 + 1 + 1 + 21),
         // the log is full: 4 for the history + 1 element read + 14 + 1 written
-        (Packet(1, 4), 1 + 2 + 1 + 1 + 1 + (4 + 1 + 14 + 1)),
+        Counted(Packet(1, 4), 1 + 2 + 1 + 1 + 1 + (4 + 1 + 14 + 1)),
         // it evicts, and its row is logged
-        (Packet(2, 4), 1 + 2 + 1 + 1 + (1 + 9) + 1 + 1 + 5 + 21),
+        Counted(Packet(2, 4), 1 + 2 + 1 + 1 + (1 + 9) + 1 + 1 + 5 + 21),
         // a full log: 2 * 14 for the logged rows + 1 variable read
         // + 1 product + 1 copied + 1 written + 2 of the history
-        (Merge, 2 * 14 + 1 + 1 + 1 + 1 + 2),
-        (Evict, (1 + 9) + 1),
+        Counted(Merge, 2 * 14 + 1 + 1 + 1 + 1 + 2),
+        Counted(Evict, (1 + 9) + 1),
         // a log of one row: 14 for the row
-        (Merge, 14),
+        Counted(Merge, 14),
     ],
 };
 
@@ -170,14 +174,14 @@ const COMPOSED_MAXIMA: Case = Case {
     entries: Entries::Folds,
     events: &[
         // a new key: of the row 2 columns of 1 part, 8 and 2 words + 2 elements with 1 product each + 4 words of the map
-        (
+        Counted(
             Packet(1, 4),
             1 + 1 + 1 + 1 + 1 + 5 + 2 * (1 + 8 + 2) + 2 + 4,
         ),
         // it is there
-        (Packet(1, 4), 1 + 1 + 1 + 1 + 1 + 28),
-        (Evict, (1 + 5) + 1),
-        (Merge, 1 + 1 + 1 + 1),
+        Counted(Packet(1, 4), 1 + 1 + 1 + 1 + 1 + 28),
+        Counted(Evict, (1 + 5) + 1),
+        Counted(Merge, 1 + 1 + 1 + 1),
     ],
 };
 
@@ -188,11 +192,11 @@ const MOVED_MAXIMA: Case = Case {
     entries: Entries::Folds,
     events: &[
         // a new key: of the row 1 word of the state from the map + 6 + 2 words of an element
-        (Packet(1, 4), 1 + 1 + 1 + 1 + 1 + 5 + (1 + 6 + 2)),
+        Counted(Packet(1, 4), 1 + 1 + 1 + 1 + 1 + 5 + (1 + 6 + 2)),
         // it is there
-        (Packet(1, 4), 1 + 1 + 1 + 1 + 1 + 9),
-        (Evict, (1 + 5) + 1),
-        (Merge, 1 + 1 + 1 + 1),
+        Counted(Packet(1, 4), 1 + 1 + 1 + 1 + 1 + 9),
+        Counted(Evict, (1 + 5) + 1),
+        Counted(Merge, 1 + 1 + 1 + 1),
     ],
 };
 
@@ -206,10 +210,10 @@ const OTHER: Case = Case {
     entries: Entries::Folds,
     events: &[
         // a new key, and the same again
-        (Packet(1, 4), 1 + 1 + 1 + 1 + 1 + 1 + 8),
-        (Packet(1, 4), 1 + 1 + 1 + 1 + 1 + 8),
-        (Evict, (1 + 1) + 1),
-        (Merge, 1),
+        Counted(Packet(1, 4), 1 + 1 + 1 + 1 + 1 + 1 + 8),
+        Counted(Packet(1, 4), 1 + 1 + 1 + 1 + 1 + 8),
+        Counted(Evict, (1 + 1) + 1),
+        Counted(Merge, 1),
     ],
 };
 
@@ -220,12 +224,23 @@ const BOUNDS: Case = Case {
     entries: Entries::Bounds,
     events: &[
         // a new key, and the same again
-        (Packet(1, 4), 1 + 1 + 1 + 1 + 1 + 3 + 3 * 8),
-        (Packet(1, 4), 1 + 1 + 1 + 1 + 1 + 3 * 8),
-        (Evict, (1 + 3) + 1),
-        (Merge, 3),
+        Counted(Packet(1, 4), 1 + 1 + 1 + 1 + 1 + 3 + 3 * 8),
+        Counted(Packet(1, 4), 1 + 1 + 1 + 1 + 1 + 3 * 8),
+        Counted(Evict, (1 + 3) + 1),
+        Counted(Merge, 3),
     ],
 };
+
+/// The cases whose bucket has one way.
+const OF_ONE_WAY: [Case; 7] = [
+    FILTERED,
+    COMPOSED,
+    MOVED,
+    COMPOSED_MAXIMA,
+    MOVED_MAXIMA,
+    OTHER,
+    BOUNDS,
+];
 
 // Makes the events of a case, each of which takes exactly its steps.
 fn make_all<const WAYS: usize, L: Ledger>(
@@ -234,12 +249,11 @@ fn make_all<const WAYS: usize, L: Ledger>(
     case: &Case,
     steps: &mut Steps<L>,
 ) -> Result<(), AllocError> {
-    let name = case.name;
-    for (i, (event, counted)) in case.events.iter().enumerate() {
+    for (i, counted) in case.events.iter().enumerate() {
         let before = steps.shown();
-        let _has_ended = one.make(rt, *event, steps)?;
+        let _has_ended = one.make(rt, counted.0, steps)?;
         let taken = steps.shown().saturating_sub(before);
-        assert_eq!(rt; taken, *counted, "{name}, event {i}");
+        same(rt, case.name, (i, taken), (i, counted.1));
     }
     Ok(())
 }
@@ -266,16 +280,8 @@ fn compare_cases<L: Ledger>(rt: &impl Abort, alloc: Global, blank: Blank) -> Res
 {
     let mut steps = Steps::<L>::new(blank);
     compare::<2, L>(rt, alloc, &TWO_WAYS, &mut steps)?;
-    for case in [
-        FILTERED,
-        COMPOSED,
-        MOVED,
-        COMPOSED_MAXIMA,
-        MOVED_MAXIMA,
-        OTHER,
-        BOUNDS,
-    ] {
-        compare::<1, L>(rt, alloc, &case, &mut steps)?;
+    for case in &OF_ONE_WAY {
+        compare::<1, L>(rt, alloc, case, &mut steps)?;
     }
     Ok(())
 }

@@ -4,6 +4,7 @@
 ghost use Rattle.std.specs.Prelude.{◌≡◌, ◌<◌};
 ghost use Rattle.epoch_entry.specs.declared.purpose.Entries.TheVariants.{Bounds};
 
+use crate::compare::{holds, same};
 use crate::one_bucket::{Event, OneBucket};
 use enclosed_query::enclosed;
 use enclosure_folds::{BoundsTable, Enclosed};
@@ -48,25 +49,26 @@ const EVENTS: [Event; 15] = [
 /// Each source with its number of epochs and its bounds. Those of source 1 are the last epoch's from the least state, 0, and from
 /// the greatest, of which any is taken to 100: the fold over all its packets is 10, then 9 + 40, then 43 + 8. Source 2's
 /// last packet leads every state to 100. Source 3 has one epoch, so both are its state.
-const ROWS: [(u64, u64, u64, u64); 3] = [(1, 3, 8, 100), (2, 2, 100, 100), (3, 1, 5, 5)];
+struct Row(u64, u64, u64, u64);
+
+const ROWS: &[Row] = &[Row(1, 3, 8, 100), Row(2, 2, 100, 100), Row(3, 1, 5, 5)];
 
 // The table has the rows that were worked out.
 fn compare_rows(rt: &impl Abort, table: &BoundsTable) {
-    assert_eq!(rt; table.epochs, 6);
-    assert_eq!(rt; table.rows.len(), 3);
-    for (at, (source, epochs, low, high)) in ROWS.iter().enumerate() {
-        assert!(rt; at < table.rows.len());
+    same(rt, "the epochs of all sources", table.epochs, 6);
+    same(rt, "the rows", table.rows.len(), ROWS.len());
+    for (at, &Row(source, epochs, low, high)) in ROWS.iter().enumerate() {
         let row = table.rows.get(at);
-        assert_eq!(rt; row.key.as_slice(), [*source].as_slice());
-        assert_eq!(rt; row.epochs, *epochs);
-        assert_eq!(rt; row.low.as_slice(), [*low].as_slice());
-        assert_eq!(rt; row.high.as_slice(), [*high].as_slice());
+        same(rt, "a source", row.key.as_slice(), &[source]);
+        same(rt, "its epochs", row.epochs, epochs);
+        same(rt, "its lower bound", row.low.as_slice(), &[low]);
+        same(rt, "its upper bound", row.high.as_slice(), &[high]);
     }
 }
 
 // There is one table, of bounds.
 fn compare_shown(rt: &impl Abort, shown: &Seq<Enclosed>) {
-    assert_eq!(rt; shown.len(), 1);
+    same(rt, "the tables", shown.len(), 1);
     match shown.get(0) {
         Enclosed::Bounds(table) => compare_rows(rt, table),
         Enclosed::Linear(_) => panic!(rt; "the fold isn't linear"),
@@ -82,10 +84,10 @@ fn make_all<L: Ledger>(
 ) -> Result<(), AllocError>
     requires { one.old.pipeline.entries ≡ Bounds }
 {
-    for event in EVENTS {
-        let _has_ended = one.make(rt, event, steps)?;
+    for event in &EVENTS {
+        let _has_ended = one.make(rt, *event, steps)?;
     }
-    assert!(rt; one.pipeline.drained());
+    holds(rt, "all is merged", one.pipeline.drained());
     let shown = enclosed(alloc, &one.pipeline)?;
     compare_shown(rt, &shown);
     Ok(())

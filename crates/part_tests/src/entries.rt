@@ -1,6 +1,7 @@
 //! How many words the entries of folds have, and the most that an entry with its key can have.
 ghost use Rattle.query_lang.specs.TypedQueries.{IsValidQuery};
 
+use crate::compare::same;
 use crate::fold_programs::{
     ACCUMULATE, AVERAGE, DEEPEST, HASH, OUT_OF_SEQUENCE, TWO_STEPS, first_program, program_of,
     query_of,
@@ -12,20 +13,30 @@ use stage_plan::Plan;
 use std::alloc::Global;
 use std::test::Fail;
 
+/// A fold, how many words its entry has, and whether there is a row for each epoch.
+struct Words(&'static [u8], usize, bool);
+
+/// A linear fold's entry has a count of logged rows, the log, the history and a map, and another's has its state.
+const WORDS: [Words; 6] = [
+    Words(OUT_OF_SEQUENCE, 6, false),
+    Words(TWO_STEPS, 7, false),
+    Words(ACCUMULATE, 7, false),
+    Words(HASH, 3, false),
+    Words(DEEPEST, 5, false),
+    Words(AVERAGE, 1, true),
+];
+
 #[test]
 fn words_of_entries(rt: HostRuntime) -> Result<(), Fail> {
-    // a linear fold's entry has a count of logged rows, the log, the history and a map, and another's has its state
-    for (fold, words, has_row_per_epoch) in [
-        (OUT_OF_SEQUENCE, 6, false),
-        (TWO_STEPS, 7, false),
-        (ACCUMULATE, 7, false),
-        (HASH, 3, false),
-        (DEEPEST, 5, false),
-        (AVERAGE, 1, true),
-    ] {
+    for &Words(fold, words, has_row_per_epoch) in &WORDS {
         let kind = AnyEpochs::of(program_of(rt.alloc(), fold)?);
-        assert_eq!(rt; kind.entry_words(), words);
-        assert_eq!(rt; kind.row_per_epoch(), has_row_per_epoch);
+        same(&rt, "the words of an entry", kind.entry_words(), words);
+        same(
+            &rt,
+            "a row for each epoch",
+            kind.row_per_epoch(),
+            has_row_per_epoch,
+        );
     }
     Ok(())
 }
@@ -82,7 +93,8 @@ fn greatest_entries(rt: HostRuntime) -> Result<(), Fail> {
         (DEEP_MAXIMUM, Algebra::Maxima, 7, 8 + 1 + 112 + 7 + 4, 274),
     ] {
         let query = query_of(alloc, fold, DEEP_GROUP)?;
-        assert_eq!(rt; measured(alloc, &query)?, (algebra, depth, 6 * most, words));
+        let expected = (algebra, depth, 6 * most, words);
+        same(&rt, "what was measured", measured(alloc, &query)?, expected);
     }
     Ok(())
 }

@@ -4,6 +4,7 @@
 ghost use Rattle.std.specs.Prelude.{◌≡◌, ◌<◌, length};
 ghost use Rattle.fold_class.specs.Program.{IsProgram};
 
+use crate::compare::same;
 use crate::fold_programs::{AVERAGE, DEEPEST, HASH, OUT_OF_SEQUENCE, PEAK, TWO_STEPS, program_of};
 use epoch_entry::{AnyEpochs, Entries, EpochKind};
 use marple_base::Steps;
@@ -108,7 +109,7 @@ fn compare_rows<K: EpochKind, L: Ledger>(
     for row in rows {
         let before = steps.shown();
         kind.absorb(entry, args, scratch, steps);
-        assert_eq!(rt; steps.shown().saturating_sub(before), *row);
+        same(rt, "a row", steps.shown().saturating_sub(before), *row);
     }
 }
 
@@ -126,12 +127,22 @@ fn compare<K: EpochKind, L: Ledger>(
     let args = vec![in alloc; 0; kind.args_words()]?;
     let before = steps.shown();
     kind.open(&mut entry, steps);
-    assert_eq!(rt; steps.shown().saturating_sub(before), case.open);
+    same(
+        rt,
+        "opening",
+        steps.shown().saturating_sub(before),
+        case.open,
+    );
     compare_rows(rt, kind, &mut entry, &args, &mut scratch, case.rows, steps);
     kind.initial(&mut state);
     let before = steps.shown();
     kind.merge(&entry, &mut state, &mut scratch, steps);
-    assert_eq!(rt; steps.shown().saturating_sub(before), case.merge);
+    same(
+        rt,
+        "the merge",
+        steps.shown().saturating_sub(before),
+        case.merge,
+    );
     Ok(())
 }
 

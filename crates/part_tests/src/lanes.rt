@@ -1,6 +1,7 @@
 //! A lane under every order of seven events, beside what the definition says of its keys.
 ghost use Rattle.std.specs.Prelude.{◌≡◌, ◌<◌, ◌≤◌};
 
+use crate::compare::{holds, same};
 use crate::direct::{QUERY, TwoKeys};
 use crate::one_bucket::{Event, OneBucket, exact_rows};
 use epoch_entry::Entries;
@@ -48,9 +49,9 @@ fn rows_of<const WAYS: usize>(
     alloc: Global,
     one: &OneBucket<WAYS>,
 ) -> Result<Vec<u64>, AllocError> {
-    assert!(rt; one.pipeline.drained());
+    holds(rt, "all is merged", one.pipeline.drained());
     let tables = one.pipeline.close()?;
-    assert_eq!(rt; tables.len(), 1);
+    same(rt, "the tables", tables.len(), 1);
     exact_rows(rt, alloc, tables.get(0))
 }
 
@@ -65,13 +66,18 @@ fn make_all<const WAYS: usize, L: Ledger>(
     let mut keys = TwoKeys::new();
     for event in events {
         let has_ended = one.make(rt, *event, steps)?;
-        assert_eq!(rt; has_ended, keys.make(*event, WAYS));
-        assert_eq!(rt; one.pipeline.lanes(), 1);
-        assert_eq!(rt; one.pipeline.held(0), keys.held());
+        same(
+            rt,
+            "whether an epoch ended",
+            has_ended,
+            keys.make(*event, WAYS),
+        );
+        same(rt, "the lanes", one.pipeline.lanes(), 1);
+        same(rt, "the open epochs", one.pipeline.held(0), keys.held());
     }
     let rows = rows_of(rt, alloc, one)?;
     let direct = keys.rows(alloc)?;
-    assert_eq!(rt; rows.as_slice(), direct.as_slice());
+    same(rt, "the rows", rows.as_slice(), direct.as_slice());
     Ok(())
 }
 
@@ -112,6 +118,6 @@ fn compare_lists<L: Ledger>(rt: &impl Abort, alloc: Global, blank: Blank) -> Res
 fn every_interleaving_gives_the_folds_of_all_packets(rt: HostRuntime) -> Result<(), Fail> {
     let lists = compare_lists::<Brand>(&rt, rt.alloc(), Blank::new(1))?;
     // the places of the packets among seven, their keys, and what each other event is
-    assert_eq!(rt; lists, 21 * 32 * 4);
+    same(&rt, "the lists", lists, 21 * 32 * 4);
     Ok(())
 }

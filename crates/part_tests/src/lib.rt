@@ -9,6 +9,8 @@ mod bounds;
 #[cfg(test)]
 mod codes;
 #[cfg(test)]
+mod compare;
+#[cfg(test)]
 mod counts;
 #[cfg(test)]
 mod direct;

@@ -2,6 +2,7 @@
 
 ghost use Rattle.std.specs.Prelude.{◌≡◌, ◌<◌, ◌≤◌, IfOk};
 
+use crate::compare::{holds, same};
 use accepted_query::accept;
 use epoch_entry::Entries;
 use epoch_model::Mark;
@@ -65,17 +66,17 @@ impl<const WAYS: usize> OneBucket<WAYS> {
     ) -> Result<bool, AllocError>
         ensures { self.new.pipeline.entries ≡ self.old.pipeline.entries }
     {
-        assert_eq!(rt; self.pipeline.lanes(), 1);
+        same(rt, "the lanes", self.pipeline.lanes(), 1);
         match event {
             Event::Packet(source, length) => {
-                assert!(rt; self.pipeline.ready());
+                holds(rt, "all lanes are ready", self.pipeline.ready());
                 let before = steps.shown();
                 self.pipeline.packet(&packet_of(source, length), steps);
-                assert!(rt; before < steps.shown());
+                holds(rt, "a packet takes steps", before < steps.shown());
                 Ok(false)
             }
             Event::Evict => {
-                assert!(rt; self.pipeline.lane_ready(0));
+                holds(rt, "the lane is ready", self.pipeline.lane_ready(0));
                 Ok(self.pipeline.evict(0, 0, steps))
             }
             Event::Merge => {
@@ -95,7 +96,7 @@ pub fn exact_rows(rt: &impl Abort, alloc: Global, table: &Table) -> Result<Vec<u
     let mut rows = Vec::new(alloc);
     for at in 0..table.rows.len() {
         let row = table.rows.get(at);
-        assert_eq!(rt; row.mark, Mark::Exact);
+        same(rt, "the mark of a row", row.mark, Mark::Exact);
         rows.extend_from_slice(row.key)?;
         rows.push(row.epochs)?;
         rows.extend_from_slice(row.values)?;

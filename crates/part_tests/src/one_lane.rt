@@ -1,8 +1,9 @@
 //! One lane, driven by its own calls, compared with a table that was worked out by hand.
 
-ghost use Rattle.std.specs.Prelude.{◌≡◌, ◌<◌, IfOk};
+ghost use Rattle.std.specs.Prelude.{◌≡◌, ◌<◌, IfOk, length};
 ghost use Rattle.fold_class.specs.Program.{IsProgram};
 
+use crate::compare::{holds, same};
 use crate::fold_programs::{HASH, program_of};
 use crate::one_bucket::exact_rows;
 use epoch_entry::{AnyEpochs, EpochKind};
@@ -18,7 +19,9 @@ use std::test::Fail;
 use switch_core::{Lane, Merged};
 
 /// Two keys in turn with lengths, so that in a bucket of one way each packet but the first evicts the other key.
-const TURNS: [(u64, u64); 4] = [(1, 1), (2, 9), (1, 2), (2, 0)];
+struct Turn(u64, u64);
+
+const TURNS: [Turn; 4] = [Turn(1, 1), Turn(2, 9), Turn(1, 2), Turn(2, 0)];
 
 // The packets, and an eviction of the one epoch that is open after them.
 fn take_turns<K: EpochKind, const WAYS: usize, L: Ledger>(
@@ -29,16 +32,16 @@ fn take_turns<K: EpochKind, const WAYS: usize, L: Ledger>(
     requires { lane.old.cache.key_words ≡ 1 }
     ensures { lane.new.cache.key_words ≡ 1 }
 {
-    for (key, length) in TURNS {
-        assert!(rt; lane.ready());
-        assert_eq!(rt; lane.kind().args_words(), 1);
+    for &Turn(key, length) in &TURNS {
+        holds(rt, "ready for a packet", lane.ready());
+        same(rt, "the arguments", lane.kind().args_words(), 1);
         lane.packet(&[key], &[length], steps);
     }
-    assert_eq!(rt; lane.piped(), 3);
-    assert_eq!(rt; lane.held(), 1);
-    assert!(rt; lane.ready());
+    same(rt, "the records in the pipe", lane.piped(), 3);
+    same(rt, "the open epochs", lane.held(), 1);
+    holds(rt, "ready for an eviction", lane.ready());
     lane.invariant();
-    assert!(rt; lane.evict(0, steps));
+    holds(rt, "an eviction", lane.evict(0, steps));
 }
 
 // Merges four records, after which the pipe is empty.
@@ -51,10 +54,29 @@ fn merge_all<K: EpochKind, const WAYS: usize, L: Ledger>(
     ensures { lane.new.cache.key_words ≡ 1 }
 {
     for record in 0..4 {
-        assert_eq!(rt; lane.merge(steps)?, Merged::Done, "record {record}");
+        same(
+            rt,
+            "a record and its merge",
+            (record, lane.merge(steps)?),
+            (record, Merged::Done),
+        );
     }
-    assert_eq!(rt; lane.merge(steps)?, Merged::Empty);
+    same(
+        rt,
+        "a merge of an empty pipe",
+        lane.merge(steps)?,
+        Merged::Empty,
+    );
     Ok(())
+}
+
+// A sequence of one name.
+fn one_name(alloc: Global, name: &[u8]) -> Result<Seq<Text>, AllocError>
+    ensures { IfOk result (λ names. length names ≡ 1) }
+{
+    let mut names = Seq::new(alloc);
+    names.push(Text::from_slice(alloc, name)?)?;
+    Ok(names)
 }
 
 // The table of a lane's closed epochs, which has a row for each key.
@@ -65,13 +87,11 @@ fn close<K: EpochKind, const WAYS: usize>(
 ) -> Result<Table, AllocError>
     requires { lane.now.cache.key_words ≡ 1 }
 {
-    assert!(rt; lane.drained());
-    assert!(rt; !lane.kind().row_per_epoch());
+    holds(rt, "all is merged", lane.drained());
+    holds(rt, "a row for each key", !lane.kind().row_per_epoch());
     let name = Text::from_slice(alloc, b"r")?;
-    let mut keys = Seq::new(alloc);
-    keys.push(Text::from_slice(alloc, b"srcip")?)?;
-    let mut states = Seq::new(alloc);
-    states.push(Text::from_slice(alloc, b"h")?)?;
+    let keys = one_name(alloc, b"srcip")?;
+    let states = one_name(alloc, b"h")?;
     lane.close(name, keys, states, Class::Linear, 0)
 }
 
@@ -85,7 +105,7 @@ fn made_lane(
     ensures { IfOk result (λ lane. lane.cache.key_words ≡ 1) }
 {
     let kind = AnyEpochs::of(program);
-    assert!(rt; kind.entry_words() < 512);
+    holds(rt, "a small entry", kind.entry_words() < 512);
     Lane::new(alloc, kind, 1, 1, 4)
 }
 
@@ -101,7 +121,12 @@ fn rows_after_turns<K: EpochKind, const WAYS: usize, L: Ledger>(
     take_turns(rt, lane, steps);
     merge_all(rt, lane, steps)?;
     let table = close(rt, alloc, lane)?;
-    assert_eq!(rt; table.kind, TableKind::Group(Class::Linear, 0, 4));
+    same(
+        rt,
+        "the kind",
+        table.kind,
+        TableKind::Group(Class::Linear, 0, 4),
+    );
     exact_rows(rt, alloc, &table)
 }
 
@@ -124,9 +149,11 @@ fn rows_of_new_lane<L: Ledger>(
 fn a_lane_merges_the_epochs_of_two_keys(rt: HostRuntime) -> Result<(), Fail> {
     let rows = rows_of_new_lane::<Brand>(&rt, rt.alloc(), Blank::new(1))?;
     // key 1 with lengths 1 and 2, and key 2 with 9 and 0, each in two epochs; merged the other way round, key 1 has 63
-    assert_eq!(rt;
+    same(
+        &rt,
+        "the rows",
         rows.as_slice(),
-        [1, 2, 1 * 31 + 2, 2, 2, 9 * 31 + 0].as_slice()
+        &[1, 2, 1 * 31 + 2, 2, 2, 9 * 31 + 0],
     );
     Ok(())
 }

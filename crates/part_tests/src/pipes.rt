@@ -2,6 +2,7 @@
 
 ghost use Rattle.std.specs.Prelude.{◌≡◌, ◌<◌, length};
 
+use crate::compare::{holds, same};
 use evict_pipe::EvictPipe;
 use marple_base::Steps;
 use std::alloc::Global;
@@ -15,7 +16,7 @@ fn push<L: Ledger>(rt: &impl Abort, pipe: &mut EvictPipe, key: u64, steps: &mut 
     requires { pipe.old.record_words ≡ 2 }
     ensures { pipe.new.record_words ≡ 2 }
 {
-    assert!(rt; pipe.has_room());
+    holds(rt, "there is room", pipe.has_room());
     pipe.push(&[key], &[key], steps);
 }
 
@@ -26,10 +27,15 @@ fn take<L: Ledger>(rt: &impl Abort, pipe: &mut EvictPipe, key: u64, steps: &mut 
 {
     let before = steps.shown();
     let mut record = [0; 2];
-    assert!(rt; pipe.front_into(&mut record, steps));
-    assert_eq!(rt; record, [key; 2]);
-    assert_eq!(rt; steps.shown().saturating_sub(before), 2);
-    assert_eq!(rt; pipe.front(), record.as_slice());
+    holds(rt, "there is a record", pipe.front_into(&mut record, steps));
+    same(rt, "the copy", record, [key; 2]);
+    same(
+        rt,
+        "the steps of a copy",
+        steps.shown().saturating_sub(before),
+        2,
+    );
+    same(rt, "the oldest record", pipe.front(), &[key; 2]);
     pipe.drop_front();
 }
 
@@ -39,9 +45,13 @@ fn find_none<L: Ledger>(rt: &impl Abort, pipe: &EvictPipe, steps: &mut Steps<L>)
 {
     let before = steps.shown();
     let mut record = [7; 2];
-    assert!(rt; !pipe.front_into(&mut record, steps));
-    assert_eq!(rt; record, [7; 2]);
-    assert_eq!(rt; steps.shown(), before);
+    holds(
+        rt,
+        "there is no record",
+        !pipe.front_into(&mut record, steps),
+    );
+    same(rt, "no copy", record, [7; 2]);
+    same(rt, "no steps", steps.shown(), before);
 }
 
 // Records in turn in a pipe of two places.
@@ -55,7 +65,7 @@ fn in_turn<L: Ledger>(rt: &impl Abort, alloc: Global, blank: Blank) -> Result<()
     find_none(rt, &pipe, &mut steps);
     push(rt, &mut pipe, 1, &mut steps);
     push(rt, &mut pipe, 2, &mut steps);
-    assert!(rt; !pipe.has_room());
+    holds(rt, "there is no room", !pipe.has_room());
     take(rt, &mut pipe, 1, &mut steps);
     push(rt, &mut pipe, 3, &mut steps);
     take(rt, &mut pipe, 2, &mut steps);
