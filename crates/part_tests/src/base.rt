@@ -29,22 +29,6 @@ fn read_failing_at(
     Ok(read_input(alloc, &mut inputs, Which::Trace, limit))
 }
 
-/// What a sink took of three bytes, and whether that was all, where its write with this number fails.
-fn written_failing_at(
-    alloc: Global,
-    call: u64,
-    most: usize,
-    places: usize,
-) -> Result<(bool, Text), AllocError>
-    requires { 0 < most }
-{
-    let mut failing = Seq::new(alloc);
-    failing.push(call)?;
-    let mut sink = MemorySink::new(alloc, most, places, failing)?;
-    let is_whole = write_all(&mut sink, b"abc").is_ok();
-    Ok((is_whole, Text::from_slice(alloc, sink.taken())?))
-}
-
 fn count_to<L: Ledger>(n: u32, blank: Blank) -> u64
     requires name { blank.name ≡ L.name }
     requires parts { blank.parts ≡ L.parts }
@@ -111,28 +95,40 @@ const WRITES: [Write; 7] = [
     Write(2, 5, 3, b"abc"),
 ];
 
+// A sink takes its bytes of three, and says whether those are all.
+fn compare_write(rt: &impl Abort, alloc: Global, write: &Write) -> Result<(), AllocError> {
+    let &Write(call, most, places, taken) = write;
+    holds(rt, "a write takes some bytes", 0 < most);
+    let mut failing = Seq::new(alloc);
+    failing.push(call)?;
+    let mut sink = MemorySink::new(alloc, most, places, failing)?;
+    let is_whole = write_all(&mut sink, b"abc").is_ok();
+    same(rt, "the bytes taken", sink.taken(), taken);
+    same(rt, "whether they are all", is_whole, taken.len() == 3);
+    Ok(())
+}
+
 #[test]
 fn sinks(rt: HostRuntime) -> Result<(), Fail> {
-    let alloc = rt.alloc();
-    for &Write(call, most, places, taken) in &WRITES {
-        let (is_whole, text) = written_failing_at(alloc, call, most, places)?;
-        same(&rt, "the bytes taken", text.as_slice(), taken);
-        same(&rt, "whether they are all", is_whole, taken.len() == 3);
+    for write in &WRITES {
+        compare_write(&rt, rt.alloc(), write)?;
     }
     let is_whole = write_all(&mut SoundSink::new(), b"abc").is_ok();
     holds(&rt, "a sound sink takes all", is_whole);
     Ok(())
 }
 
-fn compare_texts(rt: &impl Abort, alloc: Global) -> Result<(), AllocError> {
-    let greatest = decimal(alloc, u64::MAX)?;
-    same(
-        rt,
-        "the greatest word",
-        greatest.as_slice(),
-        b"18446744073709551615",
-    );
-    same(rt, "the least word", decimal(alloc, 0)?.as_slice(), b"0");
+fn compare_decimal(
+    rt: &impl Abort,
+    alloc: Global,
+    number: u64,
+    digits: &[u8],
+) -> Result<(), AllocError> {
+    same(rt, "a decimal", decimal(alloc, number)?.as_slice(), digits);
+    Ok(())
+}
+
+fn compare_text(rt: &impl Abort, alloc: Global) -> Result<(), AllocError> {
     let mut text = Text::new(alloc);
     text.push(b'a')?;
     text.push_slice(b"bc")?;
@@ -167,6 +163,8 @@ fn values(rt: HostRuntime) -> Result<(), Fail> {
         *Boxed::new(rt.alloc(), 7)?.get(),
         7,
     );
-    compare_texts(&rt, rt.alloc())?;
+    compare_decimal(&rt, rt.alloc(), u64::MAX, b"18446744073709551615")?;
+    compare_decimal(&rt, rt.alloc(), 0, b"0")?;
+    compare_text(&rt, rt.alloc())?;
     Ok(compare_fields(&rt, rt.alloc())?)
 }

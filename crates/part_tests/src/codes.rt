@@ -2,7 +2,7 @@
 
 ghost use Rattle.std.specs.Prelude.{◌≡◌, ◌<◌};
 
-use crate::compare::{holds, same};
+use crate::compare::{ROOM, fitting, same};
 use crate::fold_programs::{AVERAGE, IDLE, OUT_OF_SEQUENCE, TWO_STEPS, first_fold, query_of};
 use fold_code::{FoldCode, compile};
 use marple_base::Steps;
@@ -36,14 +36,9 @@ fn compare_run<L: Ledger>(rt: &impl Abort, code: &FoldCode, run: &Run, blank: Bl
     let &Run(_fold, before, args, after, taken) = run;
     same(rt, "the words before", before.len(), code.states());
     same(rt, "the arguments", args.len(), code.args());
-    holds(
-        rt,
-        "little room",
-        before.len() <= 4 && code.scratch_words() <= 64,
-    );
-    let (mut state, mut scratch) = ([7; 4], [7; 64]);
-    let state = &mut state[..before.len()];
-    let scratch = &mut scratch[..code.scratch_words()];
+    let (mut state, mut scratch) = ([7; ROOM], [7; ROOM]);
+    let state = &mut state[..fitting(rt, before.len())];
+    let scratch = &mut scratch[..fitting(rt, code.scratch_words())];
     state.copy_from_slice(before);
     let mut steps = Steps::<L>::new(blank);
     code.exec(state, args, scratch, &mut steps);

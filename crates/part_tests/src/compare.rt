@@ -1,6 +1,6 @@
-//! What tests compare, each under a name that a failure shows.
+//! What tests compare, each under a name that a failure shows, and the room that they have for words.
 
-ghost use Rattle.std.specs.Prelude.{◌≡◌, true};
+ghost use Rattle.std.specs.Prelude.{◌≡◌, ◌≤◌, true};
 
 use std::fmt::Debug;
 use std::process::Abort;
@@ -17,4 +17,16 @@ pub fn holds(rt: &impl Abort, name: &str, is_so: bool)
     ensures { is_so ≡ true }
 {
     assert!(rt; is_so, "{name}");
+}
+
+/// The room for words of a test's arrays.
+pub const ROOM: usize = 256;
+
+/// A number of words for which there is room.
+pub fn fitting(rt: &impl Abort, words: usize) -> usize
+    ensures number { result ≡ words }
+    ensures room { result ≤ 256 }
+{
+    assert!(rt; words <= ROOM, "no room for {words} words");
+    words
 }

@@ -31,7 +31,7 @@ use crate::one_bucket::Event::{self, Evict, Merge, Packet, Sweep};
 use crate::one_bucket::OneBucket;
 use epoch_entry::Entries;
 use marple_base::Steps;
-use std::alloc::{AllocError, Global};
+use std::alloc::Global;
 use std::marker::Brand;
 use std::process::Abort;
 use std::sync::ledger::{Blank, Ledger};
@@ -248,7 +248,7 @@ fn make_all<const WAYS: usize, L: Ledger>(
     one: &mut OneBucket<WAYS>,
     case: &Case,
     steps: &mut Steps<L>,
-) -> Result<(), AllocError> {
+) -> Result<(), Fail> {
     for (i, counted) in case.events.iter().enumerate() {
         let before = steps.shown();
         let _has_ended = one.make(rt, counted.0, steps)?;
@@ -269,7 +269,7 @@ fn compare<const WAYS: usize, L: Ledger>(
     requires few_ways { WAYS ≤ 65536 }
 {
     let mut one = OneBucket::<WAYS>::new(alloc, case.query, case.entries, 1)?;
-    Ok(make_all(rt, &mut one, case, steps)?)
+    make_all(rt, &mut one, case, steps)
 }
 
 // The same of each case.

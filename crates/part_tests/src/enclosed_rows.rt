@@ -10,7 +10,7 @@ use enclosed_query::enclosed;
 use enclosure_folds::{BoundsTable, Enclosed};
 use epoch_entry::Entries;
 use marple_base::{Seq, Steps};
-use std::alloc::{AllocError, Global};
+use std::alloc::Global;
 use std::marker::Brand;
 use std::process::Abort;
 use std::sync::ledger::{Blank, Ledger};
@@ -81,7 +81,7 @@ fn make_all<L: Ledger>(
     alloc: Global,
     one: &mut OneBucket<1>,
     steps: &mut Steps<L>,
-) -> Result<(), AllocError>
+) -> Result<(), Fail>
     requires { one.old.pipeline.entries ≡ Bounds }
 {
     for event in &EVENTS {
@@ -101,7 +101,7 @@ fn compare<L: Ledger>(rt: &impl Abort, alloc: Global, blank: Blank) -> Result<()
 {
     let mut steps = Steps::<L>::new(blank);
     let mut one = OneBucket::<1>::new(alloc, QUERY, Entries::Bounds, 4)?;
-    Ok(make_all(rt, alloc, &mut one, &mut steps)?)
+    make_all(rt, alloc, &mut one, &mut steps)
 }
 
 #[test]

@@ -85,13 +85,18 @@ fn measured(alloc: Global, query: &AcceptedQuery) -> Result<(Algebra, u8, u64, u
     ))
 }
 
+/// A fold, its algebra and depth, the words of an entry with its key, and the most of those.
+struct Greatest(&'static [u8], Algebra, u8, usize, u64);
+
+const GREATEST: [Greatest; 2] = [
+    Greatest(DEEP, Algebra::Sums, 8, 8 + 1 + 128 + 8, 218),
+    Greatest(DEEP_MAXIMUM, Algebra::Maxima, 7, 8 + 1 + 112 + 7 + 4, 274),
+];
+
 #[test]
 fn greatest_entries(rt: HostRuntime) -> Result<(), Fail> {
     let alloc = rt.alloc();
-    for (fold, algebra, depth, words, most) in [
-        (DEEP, Algebra::Sums, 8, 8 + 1 + 128 + 8, 218),
-        (DEEP_MAXIMUM, Algebra::Maxima, 7, 8 + 1 + 112 + 7 + 4, 274),
-    ] {
+    for &Greatest(fold, algebra, depth, words, most) in &GREATEST {
         let query = query_of(alloc, fold, DEEP_GROUP)?;
         let expected = (algebra, depth, 6 * most, words);
         same(&rt, "what was measured", measured(alloc, &query)?, expected);

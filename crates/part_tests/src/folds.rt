@@ -2,7 +2,7 @@
 ghost use Rattle.std.specs.Prelude.{◌≡◌, ◌+◌, ◌*◌, ◌<◌, ◌≤◌, length};
 ghost use Rattle.fold_class.specs.{Program.IsProgram, Rows.element_size};
 
-use crate::compare::{holds, same};
+use crate::compare::{ROOM, fitting, holds, same};
 use crate::fold_programs::{
     ACCUMULATE, DEEPEST, DOUBLE, FULL, HASH, MIX, OUT_OF_SEQUENCE, PEAK, TWO_STEPS, program_of,
 };
@@ -61,13 +61,12 @@ fn compare_step<L: Ledger>(rt: &impl Abort, program: &FoldProgram, step: &Step, 
     same(rt, "the words before", before.len(), layout.history.len());
     same(rt, "the arguments", args.len(), usize::from(layout.args));
     let dimension = layout.linear.len();
-    holds(rt, "few variables", dimension <= 2 && before.len() <= 2);
+    holds(rt, "few variables", dimension <= 2);
     let words = dimension * (dimension + 1) * element_words(program.algebra);
-    holds(rt, "little room", words <= 6 && rows.scratch_words() <= 64);
-    let (mut history, mut map, mut scratch) = ([7; 2], [7; 6], [7; 64]);
-    let history = &mut history[..before.len()];
-    let map = &mut map[..words];
-    let scratch = &mut scratch[..rows.scratch_words()];
+    let (mut history, mut map, mut scratch) = ([7; ROOM], [7; ROOM], [7; ROOM]);
+    let history = &mut history[..fitting(rt, before.len())];
+    let map = &mut map[..fitting(rt, words)];
+    let scratch = &mut scratch[..fitting(rt, rows.scratch_words())];
     history.copy_from_slice(before);
     let mut steps = Steps::<L>::new(blank);
     rows.exec(history, args, map, scratch, &mut steps);
@@ -121,11 +120,10 @@ fn compare_product<C: Coeff, L: Ledger>(rt: &impl Abort, product: &Product, blan
     let words = dimension * (dimension + 1) * C::WORDS;
     same(rt, "the words of the later map", later.len(), words);
     same(rt, "the words of the earlier map", earlier.len(), words);
-    holds(rt, "small maps", words <= 6);
-    let (mut map, mut state, mut scratch) = ([7; 6], [7; 2], [7; 6]);
-    let map = &mut map[..words];
-    let state = &mut state[..dimension];
-    let scratch = &mut scratch[..words];
+    let (mut map, mut state, mut scratch) = ([7; ROOM], [7; ROOM], [7; ROOM]);
+    let map = &mut map[..fitting(rt, words)];
+    let state = &mut state[..fitting(rt, dimension)];
+    let scratch = &mut scratch[..fitting(rt, words)];
     map.copy_from_slice(earlier);
     state.copy_from_slice(before);
     let mut steps = Steps::<L>::new(blank);

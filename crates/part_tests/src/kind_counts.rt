@@ -4,11 +4,11 @@
 ghost use Rattle.std.specs.Prelude.{◌≡◌, ◌<◌, length};
 ghost use Rattle.fold_class.specs.Program.{IsProgram};
 
-use crate::compare::same;
+use crate::compare::{ROOM, fitting, same};
 use crate::fold_programs::{AVERAGE, DEEPEST, HASH, OUT_OF_SEQUENCE, PEAK, TWO_STEPS, program_of};
 use epoch_entry::{AnyEpochs, Entries, EpochKind};
 use marple_base::Steps;
-use std::alloc::{AllocError, Global};
+use std::alloc::Global;
 use std::marker::Brand;
 use std::process::Abort;
 use std::sync::ledger::{Blank, Ledger};
@@ -114,36 +114,30 @@ fn compare_rows<K: EpochKind, L: Ledger>(
 }
 
 // Opens an entry, absorbs rows of zeros and merges it into the initial state: each call takes its steps.
-fn compare<K: EpochKind, L: Ledger>(
-    rt: &impl Abort,
-    alloc: Global,
-    kind: &K,
-    case: &Case,
-    steps: &mut Steps<L>,
-) -> Result<(), AllocError> {
-    let mut entry = vec![in alloc; 0; kind.entry_words()]?;
-    let mut scratch = vec![in alloc; 0; kind.scratch_words()]?;
-    let mut state = vec![in alloc; 0; kind.state_words()]?;
-    let args = vec![in alloc; 0; kind.args_words()]?;
+fn compare<K: EpochKind, L: Ledger>(rt: &impl Abort, kind: &K, case: &Case, steps: &mut Steps<L>) {
+    let (mut entry, mut scratch, mut state) = ([0; ROOM], [0; ROOM], [0; ROOM]);
+    let entry = &mut entry[..fitting(rt, kind.entry_words())];
+    let scratch = &mut scratch[..fitting(rt, kind.scratch_words())];
+    let state = &mut state[..fitting(rt, kind.state_words())];
+    let args = &[0; ROOM][..fitting(rt, kind.args_words())];
     let before = steps.shown();
-    kind.open(&mut entry, steps);
+    kind.open(entry, steps);
     same(
         rt,
         "opening",
         steps.shown().saturating_sub(before),
         case.open,
     );
-    compare_rows(rt, kind, &mut entry, &args, &mut scratch, case.rows, steps);
-    kind.initial(&mut state);
+    compare_rows(rt, kind, entry, args, scratch, case.rows, steps);
+    kind.initial(state);
     let before = steps.shown();
-    kind.merge(&entry, &mut state, &mut scratch, steps);
+    kind.merge(entry, state, scratch, steps);
     same(
         rt,
         "the merge",
         steps.shown().saturating_sub(before),
         case.merge,
     );
-    Ok(())
 }
 
 // The same of the entries of a fold's program.
@@ -155,7 +149,8 @@ fn compare_case<L: Ledger>(
 ) -> Result<(), Fail> {
     let program = program_of(alloc, case.fold)?;
     let kind = AnyEpochs::for_entries(case.entries, program);
-    Ok(compare(rt, alloc, &kind, case, steps)?)
+    compare(rt, &kind, case, steps);
+    Ok(())
 }
 
 // The same of each case.

@@ -62,7 +62,7 @@ fn make_all<const WAYS: usize, L: Ledger>(
     one: &mut OneBucket<WAYS>,
     events: &[Event; 15],
     steps: &mut Steps<L>,
-) -> Result<(), AllocError> {
+) -> Result<(), Fail> {
     let mut keys = TwoKeys::new();
     for event in events {
         let has_ended = one.make(rt, *event, steps)?;
@@ -92,7 +92,7 @@ fn compare<const WAYS: usize, L: Ledger>(
     requires few_ways { WAYS ≤ 65536 }
 {
     let mut one = OneBucket::<WAYS>::new(alloc, QUERY, Entries::Folds, 6)?;
-    Ok(make_all(rt, alloc, &mut one, events, steps)?)
+    make_all(rt, alloc, &mut one, events, steps)
 }
 
 // Compares after each list of seven events with five packets, for one way and for two; how many lists there are.

@@ -97,9 +97,9 @@ pub fn exact_rows(rt: &impl Abort, alloc: Global, table: &Table) -> Result<Vec<u
     for at in 0..table.rows.len() {
         let row = table.rows.get(at);
         same(rt, "the mark of a row", row.mark, Mark::Exact);
-        rows.extend_from_slice(row.key)?;
-        rows.push(row.epochs)?;
-        rows.extend_from_slice(row.values)?;
+        for words in [row.key, &[row.epochs], row.values] {
+            rows.extend_from_slice(words)?;
+        }
     }
     Ok(rows)
 }

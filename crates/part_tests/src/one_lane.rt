@@ -44,7 +44,16 @@ fn take_turns<K: EpochKind, const WAYS: usize, L: Ledger>(
     holds(rt, "an eviction", lane.evict(0, steps));
 }
 
-// Merges four records, after which the pipe is empty.
+/// The merges of four records, after which the pipe is empty.
+const MERGES: &[Merged] = &[
+    Merged::Done,
+    Merged::Done,
+    Merged::Done,
+    Merged::Done,
+    Merged::Empty,
+];
+
+// Merges all records.
 fn merge_all<K: EpochKind, const WAYS: usize, L: Ledger>(
     rt: &impl Abort,
     lane: &mut Lane<K, WAYS>,
@@ -53,20 +62,14 @@ fn merge_all<K: EpochKind, const WAYS: usize, L: Ledger>(
     requires { lane.old.cache.key_words ≡ 1 }
     ensures { lane.new.cache.key_words ≡ 1 }
 {
-    for record in 0..4 {
+    for (record, merged) in MERGES.iter().enumerate() {
         same(
             rt,
             "a record and its merge",
             (record, lane.merge(steps)?),
-            (record, Merged::Done),
+            (record, *merged),
         );
     }
-    same(
-        rt,
-        "a merge of an empty pipe",
-        lane.merge(steps)?,
-        Merged::Empty,
-    );
     Ok(())
 }
 
@@ -115,7 +118,7 @@ fn rows_after_turns<K: EpochKind, const WAYS: usize, L: Ledger>(
     alloc: Global,
     lane: &mut Lane<K, WAYS>,
     steps: &mut Steps<L>,
-) -> Result<Vec<u64>, AllocError>
+) -> Result<Vec<u64>, Fail>
     requires { lane.old.cache.key_words ≡ 1 }
 {
     take_turns(rt, lane, steps);
@@ -127,7 +130,7 @@ fn rows_after_turns<K: EpochKind, const WAYS: usize, L: Ledger>(
         table.kind,
         TableKind::Group(Class::Linear, 0, 4),
     );
-    exact_rows(rt, alloc, &table)
+    Ok(exact_rows(rt, alloc, &table)?)
 }
 
 // The same of a new lane for a fold that hashes the lengths.
@@ -140,9 +143,9 @@ fn rows_of_new_lane<L: Ledger>(
     requires parts { blank.parts ≡ L.parts }
     requires whole { 0 < blank.parts }
 {
-    let mut steps = Steps::<L>::new(blank);
     let mut lane = made_lane(rt, alloc, program_of(alloc, HASH)?)?;
-    Ok(rows_after_turns(rt, alloc, &mut lane, &mut steps)?)
+    let mut steps = Steps::<L>::new(blank);
+    rows_after_turns(rt, alloc, &mut lane, &mut steps)
 }
 
 #[test]

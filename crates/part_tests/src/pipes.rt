@@ -60,8 +60,8 @@ fn in_turn<L: Ledger>(rt: &impl Abort, alloc: Global, blank: Blank) -> Result<()
     requires parts { blank.parts ≡ L.parts }
     requires whole { 0 < blank.parts }
 {
-    let mut steps = Steps::<L>::new(blank);
     let mut pipe = EvictPipe::new(alloc, 2, 2)?;
+    let mut steps = Steps::<L>::new(blank);
     find_none(rt, &pipe, &mut steps);
     push(rt, &mut pipe, 1, &mut steps);
     push(rt, &mut pipe, 2, &mut steps);
