@@ -41,7 +41,7 @@ fn count_to<L: Ledger>(n: u32, blank: Blank) -> u64
     steps.shown()
 }
 
-/// A call that fails, the most bytes that are read, and those that are.
+/// What is tried, the call that fails, the most bytes that are read, and those that are.
 struct Read(&'static str, u64, usize, &'static [u8]);
 
 const READS: [Read; 4] = [

@@ -46,11 +46,12 @@ const EVENTS: [Event; 15] = [
     Event::Merge,
 ];
 
+/// A source, its number of epochs and its bounds.
+struct Row(u64, u64, u64, u64);
+
 /// Each source with its number of epochs and its bounds. Those of source 1 are the last epoch's from the least state, 0, and from
 /// the greatest, of which any is taken to 100: the fold over all its packets is 10, then 9 + 40, then 43 + 8. Source 2's
 /// last packet leads every state to 100. Source 3 has one epoch, so both are its state.
-struct Row(u64, u64, u64, u64);
-
 const ROWS: &[Row] = &[Row(1, 3, 8, 100), Row(2, 2, 100, 100), Row(3, 1, 5, 5)];
 
 // The table has the rows that were worked out.

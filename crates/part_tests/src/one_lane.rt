@@ -18,9 +18,10 @@ use std::sync::ledger::{Blank, Ledger};
 use std::test::Fail;
 use switch_core::{Lane, Merged};
 
-/// Two keys in turn with lengths, so that in a bucket of one way each packet but the first evicts the other key.
+/// A packet's key and its length.
 struct Turn(u64, u64);
 
+/// Two keys in turn with lengths, so that in a bucket of one way each packet but the first evicts the other key.
 const TURNS: [Turn; 4] = [Turn(1, 1), Turn(2, 9), Turn(1, 2), Turn(2, 0)];
 
 // The packets, and an eviction of the one epoch that is open after them.
