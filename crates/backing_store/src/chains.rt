@@ -60,7 +60,7 @@ fn end_of(ends: &[usize], print: u64) -> usize
     }
 }
 
-// Is the key at a place, where the link is?
+// Is the key at a place, where the link is? The words there aren't read where they have one word each, which is the fingerprint.
 #[inline(always)]
 fn is_at(width: usize, words: &[u64], at: usize, link: Link, key: &[u64], print: u64) -> bool
     requires row { at * width + width ≤ length words.now }
@@ -68,7 +68,13 @@ fn is_at(width: usize, words: &[u64], at: usize, link: Link, key: &[u64], print:
     requires print { print ≡ fingerprint key.now }
     ensures { result ≡ key_eq (row_at width words.now at) key.now }
 {
-    link.print == print && is_same(row(words, width, at), key)
+    if link.print != print {
+        return false;
+    }
+    if width == 1 && key.len() == 1 {
+        return true;
+    }
+    is_same(row(words, width, at), key)
 }
 
 /// Searches a key, from the last key with its home to the first.
