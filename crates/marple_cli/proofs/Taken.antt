@@ -16,6 +16,11 @@ consumes_none (Some bytes) = refl
 loses_none : (most : ℕ) (before after : Input) → after ≡ before → LosesUpTo most before after
 loses_none most before after same = subst (LosesUpTo most before) (sym same) ([], consumes_none before.left, omega arith)
 
+-- what holds of both operands holds of each
+pub of_each : (P : Which → Type 0) → P Query → P Trace → (which : Which) → P which
+of_each P query trace Query = query
+of_each P query trace Trace = trace
+
 module _ (asked : Option Command) (before after : Which → Input) where
   pub none_lost : ((which : Which) → after which ≡ before which) → LosesWhatIsRead asked before after
   none_lost same which = loses_none (most_read asked which) (before which) (after which) (same which)

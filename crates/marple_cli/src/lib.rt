@@ -2,12 +2,9 @@
 #![tactic(auto)]
 
 mod compile;
-mod enclose;
 mod generate;
 mod perform;
 mod reporting;
-mod run;
-mod run_plan;
 mod staging;
 mod switches;
 mod top;

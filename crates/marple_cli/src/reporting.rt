@@ -7,7 +7,7 @@ ghost use Rattle.trace_drive.specs.Drives.{end_machines, words_of};
 ghost use Rattle.trace_reader.specs.Traces.{trace_fault, packets};
 ghost use Rattle.command_answers.specs.Phases.{TraceEnds};
 ghost use Rattle.command_line.specs.Command.{IsSetting};
-ghost use Rattle.query_run.specs.{Driven.{IsLeftWith, geometry_of, pipeline_in}, Reports.{MayPrint, Prints}, Views.views_text};
+ghost use Rattle.query_run.specs.{Driven.{IsLeftWith, geometry_of, pipeline_in}, Reports.{MayPrint, Prints, entries_for}, Views.views_text};
 
 use command_answers::{Status, read_trace};
 use command_line::Setting;
@@ -21,11 +21,11 @@ use trace_reader::MAX_TRACE;
 /// Reads the trace, runs the plan over its packets, and writes the report: a view after each packet whose number is a
 /// multiple of `every`, none where that is 0, and the report of all packets at the end. What is left is the pipeline after
 /// the last packet.
-pub fn report_over<I: Inputs, R: Report + Drop, O: Sink, L: Ledger>(
+pub fn report_over<I: Inputs, O: Sink, L: Ledger>(
     alloc: Global,
     setting: Setting,
     every: u32,
-    report: R,
+    report: Report,
     plan: Plan,
     inputs: &mut I,
     out: &mut O,
@@ -33,19 +33,19 @@ pub fn report_over<I: Inputs, R: Report + Drop, O: Sink, L: Ledger>(
 ) -> Result<Driven, Status>
     requires setting { IsSetting setting }
     requires closed { IsClosed (I.input inputs.old Which.Trace) }
-    requires may_print { MayPrint (R.entries report) plan (R.may_print report) }
+    requires may_print { MayPrint report plan }
     ensures accepted { IfOk result (λ driven. IfSome (I.input inputs.old Which.Trace).left
         (λ trace. trace_fault trace plan.reads ≡ None)) }
     ensures written { IfOk result (λ driven. (text : Geometry → List (List ℕ) → List ℕ)
-        → Prints (R.entries report) plan (R.printed report) text → IfSome (I.input inputs.old Which.Trace).left (λ trace.
+        → Prints report plan text → IfSome (I.input inputs.old Which.Trace).left (λ trace.
         Appends (O.taken out.old) (O.taken out.new)
         (views_text (text (geometry_of setting)) every (words_of (packets trace plan.reads))))) }
     ensures plan { IfOk result (λ driven. (pipeline_in driven).plan ≡ plan) }
-    ensures left { IfOk result (IsLeftWith (R.entries report) setting) }
+    ensures left { IfOk result (IsLeftWith (entries_for report) setting) }
     ensures stands { IfOk result (λ driven. IfSome (I.input inputs.old Which.Trace).left (λ trace.
         PipelineStands (pipeline_in driven) (end_machines plan (geometry_of setting) (words_of (packets trace plan.reads))))) }
     ensures err { IfErr result (λ status. (text : Geometry → List (List ℕ) → List ℕ)
-        → Prints (R.entries report) plan (R.printed report) text → TraceEnds O.taken O.faults
+        → Prints report plan text → TraceEnds O.taken O.faults
         (λ trace. trace_fault trace plan.reads)
         (λ trace. views_text (text (geometry_of setting)) every (words_of (packets trace plan.reads)))
         (I.input inputs.old Which.Trace) (I.input inputs.new Which.Trace) out.old out.new status) }

@@ -23,8 +23,7 @@ fn answer<I: Inputs, O: Sink, L: Ledger>(
     driven: &mut Option<Driven>,
     steps: &mut Steps<L>,
 ) -> Status
-    requires query_closed { IsClosed (I.input inputs.old Which.Query) }
-    requires trace_closed { IsClosed (I.input inputs.old Which.Trace) }
+    requires closed { (which : _) → IsClosed (I.input inputs.old which) }
     ensures answers { Answers O.taken O.faults (I.input inputs.old) (I.input inputs.new) out.old out.new
         (asked_by words.now) result }
     ensures lost { LosesWhatIsRead (asked_by words.now) (I.input inputs.old) (I.input inputs.new) }

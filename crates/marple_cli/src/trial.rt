@@ -9,7 +9,7 @@ use accepted_query::AcceptedQuery;
 use command_answers::{Status, accept_trial};
 use command_line::{Command, Generation, Setting};
 use marple_base::{Sink, Steps};
-use query_run::{Driven, QueryTables, run_over_made};
+use query_run::{Driven, Report, run_over_made};
 use queue_sim::simulate;
 use std::alloc::{AllocError, Global};
 use std::sync::ledger::Ledger;
@@ -41,7 +41,7 @@ pub fn trial<O: Sink, L: Ledger>(
         }
     };
     let AcceptedQuery { typed, plan } = query;
-    let report = QueryTables::of(typed);
+    let report = Report::of_query(typed);
     let ran = run_over_made(alloc, setting, &report, plan, made, out, steps);
     drop(report);
     let left = ran?;

@@ -11,7 +11,8 @@ use Rattle.enclosed_query.specs.EnclosedTables.{EndsGiveEnclosedTables, enclose_
 use Rattle.enclosed_query.specs.Reading.{EnclosedTablesAreRead, IsWhole}
 use Rattle.stage_plan.specs.{Packets.AreWhole, Planned.IsPlanOf, Sound.{IsSoundPlan, PlanParts}}
 use Rattle.switch_core.specs.PlanLanes.{AreLanesOf, LaneView}
-use Rattle.query_run.specs.{BoundsReports.{AreBoundsTables, bounds_print}, Reports.{Reports, end_tables}}
+use Rattle.query_run.specs.{BoundsReports.AreBoundsTables, EndTables.end_tables, Reports.Reports}
+use Rattle.query_run.specs.declared.report.Report.TheVariants as reports
 
 -- the tables of bounds that are shown have the words that their names say
 one_whole : TriplesGiveWholeTables → (kind : TableKind) (t : Table) → MayBeShownBy kind t → IsWhole (shown_by kind t)
@@ -47,7 +48,7 @@ module _ (ends : EndsGiveEnclosedTables) (read : EnclosedTablesAreRead) (triples
   unfolding enclose_text
   text_is g packets = refl
 
-  pub bounds_reports : Reports Bounds plan (AreBoundsTables q) (bounds_print q) (enclose_text q)
+  pub bounds_reports : Reports (reports.Bounds q) plan (enclose_text q)
   bounds_reports = record {
     may_print = are_bounds_tables;
     prints = record {

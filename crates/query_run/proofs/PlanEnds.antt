@@ -17,6 +17,7 @@ use Rattle.stage_plan.specs.Sound.{PlanParts}
 use Rattle.switch_core.specs.{Pipelines.{heading_of, tables_of}, PlanLanes.{AreLanesOf, LaneView, folding_at}, Rows.EachFrom}
 use Rattle.trace_drive.specs.Drives.{end_machines, ends_from, uses_by}
 use Rattle.query_run.specs.{PlanReports.{EndsAreTheTexts, HasKeys, HaveNumbers, numbered_print}, Reports.Reports}
+use Rattle.query_run.specs.declared.report.Report.TheVariants.{Plan}
 use Rattle.query_run.proofs.QueryEnds.{IsFoldLane, first_at}
 
 -- a groupby's table has, but for its rows, what its group gives
@@ -97,7 +98,7 @@ module _ (law : EndsAreTheTexts) (made : Made) (plan : PlanParts) (prints : List
   unfolding plan_output
   output_is g packets = ap (flat_map (table_text_at (plan_tables made g packets))) same
 
-  pub plan_reports : Reports Folds plan (HaveNumbers prints) (numbered_print prints) (plan_output made)
+  pub plan_reports : Reports (Plan prints) plan (plan_output made)
   plan_reports = record {
     may_print = λ buckets lanes g packets planned each room whole. subst (HaveNumbers prints)
         (sym (law made plan buckets lanes g packets sound from each room)) (have_numbers g packets);

@@ -19,6 +19,7 @@ use Rattle.switch_core.specs.{Pipelines.{IsLaneOf, heading_of, tables_of}, PlanL
 use Rattle.query_tables.specs.{Tables.{group_tables, tables_from, query_table, table_if, query_text}, TableLaws.QueryTablesAreRead}
 use Rattle.trace_drive.specs.Drives.{uses_by, ends_from, end_machines}
 use Rattle.query_run.specs.{QueryReports.{AreGroupTables, query_print}, Reports.Reports, Runs.{ends_of, query_ends, EndsAreTheQuerys}}
+use Rattle.query_run.specs.declared.report.Report.TheVariants.{Query}
 
 -- the item at a place is the first of those from there on
 pub first_at : {A : Type 0} (xs : List A) (i : ℕ) (x : A) (rest : List A) → drop i xs ≡ x ∷ rest → (slice_get xs i ≡ Some x)
@@ -152,7 +153,7 @@ module _ (ends : EndsAreTheQuerys) (read : QueryTablesAreRead) (q : TypedQuery) 
   unfolding query_text
   text_is g packets = refl
 
-  pub query_reports : Reports Folds plan (AreGroupTables q) (query_print q) (query_text q)
+  pub query_reports : Reports (Query q) plan (query_text q)
   query_reports = record {
     may_print = λ buckets lanes g packets planned each room whole. subst (AreGroupTables q)
         (sym (ends.tables q plan buckets lanes g packets valid p each room whole)) (are_group_tables g packets);

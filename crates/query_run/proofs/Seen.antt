@@ -6,7 +6,7 @@ use Rattle.final_queries.specs.declared.table.Table.{Table}
 use Rattle.epoch_entry.specs.declared.purpose.Entries.{Entries}
 use Rattle.epoch_model.specs.{Driving.uses_taken, Epochs.Geometry, Laws.{HasRoom, SameEpochs}, Machine.{Machine, after_packets, end_of}}
 use Rattle.live_view.specs.{Laws.ViewsEndTheTrace, Views.{all_closed, tables_seen}}
-use Rattle.query_run.specs.{Reports.{AtEnds, end_tables}, Views.IsAsFarAs}
+use Rattle.query_run.specs.{EndTables.{AtEnds, end_tables}, Views.IsAsFarAs}
 use Rattle.stage_plan.specs.{Packets.AreWhole, declared.group.GroupPlan.GroupPlan, Planned.taken, Sound.{IsSoundPlan, PlanParts}}
 use Rattle.switch_core.specs.{Pipelines.tables_of, PlanLanes.{AreLanesOf, PipelineStands, PipelineView, StandsFor, folding_at}}
 use Rattle.trace_drive.{specs.{Drives.{ends_from, uses_by}, Follows.AlikeFrom}, proofs.Ending.{each_long, lanes_long}}

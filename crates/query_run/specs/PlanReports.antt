@@ -5,7 +5,7 @@ use Rattle.epoch_model.specs.{Epochs.Geometry, Laws.HasRoom}
 use Rattle.final_queries.specs.declared.table.Table.{Table}
 use Rattle.plan_file.specs.declared.made.Made.{Made}
 use Rattle.plan_loader.specs.{Meaning.plan_tables, Parts.{IsPlanFrom, IsSoundMade}}
-use Rattle.query_run.specs.Reports.{end_tables}
+use Rattle.query_run.specs.EndTables.{end_tables}
 use Rattle.query_tables.specs.Tables.{table_text_at}
 use Rattle.stage_plan.specs.Sound.{PlanParts}
 use Rattle.switch_core.specs.PlanLanes.{AreLanesOf, LaneView}

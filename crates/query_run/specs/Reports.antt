@@ -1,32 +1,40 @@
 -- What a report prints of the tables of a plan's groupbys.
-use Rattle.std.specs.Prelude.{◌≡◌, ℕ, List, map}
+use Rattle.std.specs.Prelude.{◌≡◌, ℕ, List}
 use Rattle.epoch_entry.specs.declared.purpose.Entries.{Entries}
-use Rattle.epoch_model.specs.{Epochs.Geometry, Laws.HasRoom}
+use Rattle.epoch_entry.specs.declared.purpose.Entries.TheVariants as entries
+use Rattle.epoch_model.specs.Epochs.{Geometry}
 use Rattle.final_queries.specs.declared.table.Table.{Table}
-use Rattle.stage_plan.specs.{Packets.AreWhole, Sound.{IsSoundPlan, PlanParts}}
-use Rattle.switch_core.specs.{Pipelines.tables_of, PlanLanes.{AreLanesOf, LaneView, folding_at}}
-use Rattle.trace_drive.specs.Drives.{end_machines}
+use Rattle.stage_plan.specs.Sound.{PlanParts}
+use Rattle.query_run.specs.{BoundsReports.{AreBoundsTables, bounds_print}, EndTables.AtEnds, PlanReports.{HaveNumbers, numbered_print}}
+use Rattle.query_run.specs.{QueryReports.{AreGroupTables, query_print}, declared.report.Report.{Report, TheVariants.{Query, Bounds, Plan}}}
 
--- the tables that lanes of the plan give at the end of a trace whose packets have these words
-abbrev pub end_tables : PlanParts → List LaneView → Geometry → List (List ℕ) → List Table
-end_tables plan lanes g packets = tables_of plan.groups (map folding_at lanes) (end_machines plan g packets)
+-- what the entries of the pipeline are for
+abbrev pub entries_for : Report → Entries
+entries_for (Query typed) = entries.Folds
+entries_for (Bounds typed) = entries.Bounds
+entries_for (Plan prints) = entries.Folds
 
--- P holds of any packets, each with a word for each field, and the tables that lanes of the plan, with entries for this, give at their end.
-abbrev pub AtEnds : Entries → PlanParts → (Geometry → List (List ℕ) → List Table → Type 0) → Type 0
-AtEnds entries plan P = (buckets : ℕ) (lanes : List LaneView) (g : Geometry) (packets : List (List ℕ)) → IsSoundPlan plan
-    → AreLanesOf entries plan buckets lanes → HasRoom g → AreWhole packets → P g packets (end_tables plan lanes g packets)
+-- The report can print these tables of the groupbys.
+abbrev pub CanPrint : Report → List Table → Type 0
+CanPrint (Query typed) tables = AreGroupTables typed tables
+CanPrint (Bounds typed) tables = AreBoundsTables typed tables
+CanPrint (Plan prints) tables = HaveNumbers prints tables
 
--- All tables at an end are such that they can be printed.
-abbrev pub MayPrint : Entries → PlanParts → (List Table → Type 0) → Type 0
-MayPrint entries plan May = AtEnds entries plan (λ g packets tables. May tables)
+-- what the report prints of these tables
+abbrev pub printed_by : Report → List Table → List ℕ
+printed_by (Query typed) tables = query_print typed tables
+printed_by (Bounds typed) tables = bounds_print typed tables
+printed_by (Plan prints) tables = numbered_print prints tables
 
--- What is printed of the tables at an end is this text over the packets.
-pub record Prints (entries : Entries) (plan : PlanParts) (printed : List Table → List ℕ)
-    (text : Geometry → List (List ℕ) → List ℕ) : Type 0 where
-  pub at_ends : AtEnds entries plan (λ g packets tables. printed tables ≡ text g packets)
+-- All of the plan's tables at an end are such that the report can print them.
+abbrev pub MayPrint : Report → PlanParts → Type 0
+MayPrint report plan = AtEnds (entries_for report) plan (λ g packets tables. CanPrint report tables)
 
--- Of the plan's tables at an end all can be printed, and what is printed is this text over the packets.
-pub record Reports (entries : Entries) (plan : PlanParts) (May : List Table → Type 0) (printed : List Table → List ℕ) (text : Geometry
-    → List (List ℕ) → List ℕ) : Type 0 where
-  pub may_print : MayPrint entries plan May
-  pub prints : Prints entries plan printed text
+-- What the report prints of the plan's tables at an end is this text over the packets.
+pub record Prints (report : Report) (plan : PlanParts) (text : Geometry → List (List ℕ) → List ℕ) : Type 0 where
+  pub at_ends : AtEnds (entries_for report) plan (λ g packets tables. printed_by report tables ≡ text g packets)
+
+-- Of the plan's tables at an end the report can print all, and what it prints is this text over the packets.
+pub record Reports (report : Report) (plan : PlanParts) (text : Geometry → List (List ℕ) → List ℕ) : Type 0 where
+  pub may_print : MayPrint report plan
+  pub prints : Prints report plan text

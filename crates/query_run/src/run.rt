@@ -7,7 +7,7 @@ ghost use Rattle.stage_plan.specs.Packets.{AreWhole};
 ghost use Rattle.switch_core.specs.Pipelines.{empty_machines, geometry_without_refresh};
 ghost use Rattle.switch_core.specs.PlanLanes.{HavePlaces, PipelineStands, PipelineView, lane_is_drained};
 ghost use Rattle.trace_drive.specs.{Answers.BreaksOff, Drives.{coming, end_machines, fault_of, words_of}, Turns.RunsInTurns};
-ghost use Rattle.query_run.specs.{Driven.geometry_of, Reports.{MayPrint, Prints}, Views.{CanBeViewed, views_text}};
+ghost use Rattle.query_run.specs.{Driven.geometry_of, Reports.{MayPrint, Prints, entries_for}, Views.{CanBeViewed, views_text}};
 
 use crate::report::Report;
 use crate::showing::write_end;
@@ -35,11 +35,11 @@ fn schedule_of(setting: Setting) -> Schedule
 /// Runs a plan over packets, with caches of `WAYS` ways, and writes its report: a view after each packet whose number is a
 /// multiple of `every`, none where that is 0, and at the end the report of all packets. The pipeline represents the machines
 /// of the plan's groupbys at the end. Nothing but the views is written before the end.
-pub(crate) fn run_report<const WAYS: usize, R: Report, O: Sink, L: Ledger>(
+pub(crate) fn run_report<const WAYS: usize, O: Sink, L: Ledger>(
     alloc: Global,
     setting: Setting,
     every: u32,
-    report: &R,
+    report: &Report,
     plan: Plan,
     packets: Packets<'_>,
     out: &mut O,
@@ -47,15 +47,15 @@ pub(crate) fn run_report<const WAYS: usize, R: Report, O: Sink, L: Ledger>(
 ) -> Result<Pipeline<WAYS>, RunError>
     requires setting { IsSetting setting }
     requires ways { (0 < WAYS) × (ways_number setting.ways ≡ WAYS) }
-    requires may_print { MayPrint (R.entries report.now) plan (R.may_print report.now) }
+    requires may_print { MayPrint report.now plan }
     requires whole { AreWhole (words_of (coming packets)) }
     requires viewed { 0 < every → CanBeViewed packets }
     ensures accepted { IfOk result (λ pipeline. fault_of packets.entry ≡ None) }
     ensures written { IfOk result (λ pipeline. (text : Geometry → List (List ℕ) → List ℕ)
-        → Prints (R.entries report.now) plan (R.printed report.now) text → Appends (O.taken out.old) (O.taken out.new)
+        → Prints report.now plan text → Appends (O.taken out.old) (O.taken out.new)
         (views_text (text (geometry_of setting)) every (words_of (coming packets.entry)))) }
     ensures plan { IfOk result (λ pipeline. pipeline.plan ≡ plan) }
-    ensures entries { IfOk result (λ pipeline. pipeline.entries ≡ R.entries report.now) }
+    ensures entries { IfOk result (λ pipeline. pipeline.entries ≡ entries_for report.now) }
     ensures machines { IfOk result
         (λ pipeline. PipelineStands pipeline (end_machines plan (geometry_of setting) (words_of (coming packets.entry)))) }
     ensures turns { IfOk result (λ pipeline. (fresh : PipelineView)
@@ -65,7 +65,7 @@ pub(crate) fn run_report<const WAYS: usize, R: Report, O: Sink, L: Ledger>(
     ensures buckets { IfOk result (λ pipeline. pipeline.buckets ≡ setting.buckets) }
     ensures pipe_places { IfOk result (λ pipeline. HavePlaces setting.pipe pipeline.lanes) }
     ensures breaks_off { IfErr result (λ answer. (text : Geometry → List (List ℕ) → List ℕ)
-        → Prints (R.entries report.now) plan (R.printed report.now) text → BreaksOff O.taken O.faults
+        → Prints report.now plan text → BreaksOff O.taken O.faults
         (views_text (text (geometry_of setting)) every (words_of (coming packets.entry)))
         (fault_of packets.entry) out.old out.new answer) }
     ensures out_later { O.faults out.old ≤ O.faults out.new }

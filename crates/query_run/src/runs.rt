@@ -7,7 +7,7 @@ ghost use Rattle.switch_core.specs.PlanLanes.{PipelineStands};
 ghost use Rattle.trace_drive.specs.{Answers.BreaksOff, Drives.{end_machines, words_of}};
 ghost use Rattle.trace_reader.specs.Traces.{trace_fault, packets};
 ghost use Rattle.command_line.specs.Command.{IsSetting};
-ghost use Rattle.query_run.specs.{Driven.{IsLeftWith, geometry_of, pipeline_in}, Reports.{MayPrint, Prints}, Views.views_text};
+ghost use Rattle.query_run.specs.{Driven.{IsLeftWith, geometry_of, pipeline_in}, Reports.{MayPrint, Prints, entries_for}, Views.views_text};
 
 use crate::acceptance::opened_trace;
 use crate::driven::Driven;
@@ -24,28 +24,28 @@ use trace_drive::{Packets, RunError, read_packets_are_few, read_packets_are_whol
 /// after each packet whose number is a multiple of `every`, none where that is 0, and at the end the report of all packets. A
 /// trace that has a fault is refused before anything is written. The pipeline that is left represents the machines of the
 /// plan's groupbys after the last packet.
-pub fn run_over_trace<R: Report, O: Sink, L: Ledger>(
+pub fn run_over_trace<O: Sink, L: Ledger>(
     alloc: Global,
     setting: Setting,
     every: u32,
-    report: &R,
+    report: &Report,
     plan: Plan,
     bytes: &[u8],
     out: &mut O,
     steps: &mut Steps<L>,
 ) -> Result<Driven, RunError>
     requires setting { IsSetting setting }
-    requires may_print { MayPrint (R.entries report.now) plan (R.may_print report.now) }
+    requires may_print { MayPrint report.now plan }
     ensures accepted { IfOk result (λ driven. trace_fault bytes.now plan.reads ≡ None) }
     ensures written { IfOk result (λ driven. (text : Geometry → List (List ℕ) → List ℕ)
-        → Prints (R.entries report.now) plan (R.printed report.now) text → Appends (O.taken out.old) (O.taken out.new)
+        → Prints report.now plan text → Appends (O.taken out.old) (O.taken out.new)
         (views_text (text (geometry_of setting)) every (words_of (packets bytes.now plan.reads)))) }
     ensures plan { IfOk result (λ driven. (pipeline_in driven).plan ≡ plan) }
-    ensures left { IfOk result (IsLeftWith (R.entries report.now) setting) }
+    ensures left { IfOk result (IsLeftWith (entries_for report.now) setting) }
     ensures stands { IfOk result (λ driven. PipelineStands (pipeline_in driven)
         (end_machines plan (geometry_of setting) (words_of (packets bytes.now plan.reads)))) }
     ensures breaks_off { IfErr result (λ answer. (text : Geometry → List (List ℕ) → List ℕ)
-        → Prints (R.entries report.now) plan (R.printed report.now) text → BreaksOff O.taken O.faults
+        → Prints report.now plan text → BreaksOff O.taken O.faults
         (views_text (text (geometry_of setting)) every (words_of (packets bytes.now plan.reads)))
         (trace_fault bytes.now plan.reads) out.old out.new answer) }
     ensures out_later { O.faults out.old ≤ O.faults out.new }
@@ -58,27 +58,27 @@ pub fn run_over_trace<R: Report, O: Sink, L: Ledger>(
 }
 
 /// Runs a plan over generated packets, and writes the report of all of them.
-pub fn run_over_made<R: Report, O: Sink, L: Ledger>(
+pub fn run_over_made<O: Sink, L: Ledger>(
     alloc: Global,
     setting: Setting,
-    report: &R,
+    report: &Report,
     plan: Plan,
     made: Seq<Packet>,
     out: &mut O,
     steps: &mut Steps<L>,
 ) -> Result<Driven, RunError>
     requires setting { IsSetting setting }
-    requires may_print { MayPrint (R.entries report.now) plan (R.may_print report.now) }
+    requires may_print { MayPrint report.now plan }
     requires whole { AreWhole (words_of made) }
     ensures written { IfOk result (λ driven. (text : Geometry → List (List ℕ) → List ℕ)
-        → Prints (R.entries report.now) plan (R.printed report.now) text
+        → Prints report.now plan text
         → Appends (O.taken out.old) (O.taken out.new) (text (geometry_of setting) (words_of made))) }
     ensures plan { IfOk result (λ driven. (pipeline_in driven).plan ≡ plan) }
-    ensures left { IfOk result (IsLeftWith (R.entries report.now) setting) }
+    ensures left { IfOk result (IsLeftWith (entries_for report.now) setting) }
     ensures stands { IfOk result (λ driven. PipelineStands (pipeline_in driven)
         (end_machines plan (geometry_of setting) (words_of made))) }
     ensures breaks_off { IfErr result (λ answer. (text : Geometry → List (List ℕ) → List ℕ)
-        → Prints (R.entries report.now) plan (R.printed report.now) text
+        → Prints report.now plan text
         → BreaksOff O.taken O.faults (text (geometry_of setting) (words_of made)) None out.old out.new answer) }
     ensures out_later { O.faults out.old ≤ O.faults out.new }
     ensures steps { steps.old ≤ steps.new }

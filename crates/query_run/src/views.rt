@@ -6,7 +6,7 @@ ghost use Rattle.stage_plan.specs.Packets.{AreWhole};
 ghost use Rattle.switch_core.specs.{Pipelines.{empty_machines, geometry_without_refresh}, PlanLanes.PipelineStands};
 ghost use Rattle.trace_drive.specs.{Answers.BreaksOff, Drives.{coming, fault_of, geometry_for, words_of}, Follows.Keeps};
 ghost use Rattle.trace_drive.specs.Replays.{HasTaken, IsUnderWay, replay_fault, replay_pipeline};
-ghost use Rattle.query_run.specs.{Reports.{MayPrint, Prints}, Views.{CanBeViewed, views_text, views_up_to}};
+ghost use Rattle.query_run.specs.{Reports.{MayPrint, Prints, entries_for}, Views.{CanBeViewed, views_text, views_up_to}};
 
 use crate::report::Report;
 use crate::showing::write_view;
@@ -18,9 +18,9 @@ use trace_drive::{Packets, Replay, RunError, Schedule};
 
 /// Writes a view after each packet whose number is a multiple of `every`, and none where that is 0. The packets are taken as
 /// far as the last view needs. The memory of a view is freed before the next one.
-pub(crate) fn write_views<'a, const WAYS: usize, R: Report, O: Sink, L: Ledger>(
+pub(crate) fn write_views<'a, const WAYS: usize, O: Sink, L: Ledger>(
     alloc: Global,
-    report: &R,
+    report: &Report,
     pipeline: Pipeline<WAYS>,
     schedule: Schedule,
     every: u32,
@@ -31,12 +31,12 @@ pub(crate) fn write_views<'a, const WAYS: usize, R: Report, O: Sink, L: Ledger>(
     requires fresh { PipelineStands pipeline (empty_machines (geometry_without_refresh WAYS pipeline.buckets) pipeline.plan.groups) }
     requires buckets { pipeline.buckets ≡ schedule.buckets }
     requires room { (0 < WAYS) × (0 < schedule.buckets) }
-    requires may_print { MayPrint (R.entries report.now) pipeline.plan (R.may_print report.now) }
-    requires entries { pipeline.entries ≡ R.entries report.now }
+    requires may_print { MayPrint report.now pipeline.plan }
+    requires entries { pipeline.entries ≡ entries_for report.now }
     requires whole { AreWhole (words_of (coming packets)) }
     requires viewed { 0 < every → CanBeViewed packets }
     ensures written { IfOk result (λ replay. (text : Geometry → List (List ℕ) → List ℕ)
-        → Prints (R.entries report.now) pipeline.entry.plan (R.printed report.now) text
+        → Prints report.now pipeline.entry.plan text
         → Appends (O.taken out.old) (O.taken out.new) (views_up_to (text (geometry_for WAYS schedule)) every
         (words_of (coming packets.entry)) (length (coming packets.entry)))) }
     ensures under_way { IfOk result (λ replay. (count : ℕ) × IsUnderWay schedule (coming packets.entry) count replay) }
@@ -45,7 +45,7 @@ pub(crate) fn write_views<'a, const WAYS: usize, R: Report, O: Sink, L: Ledger>(
     ensures keeps { IfOk result (λ replay. Keeps pipeline.entry (replay_pipeline replay)) }
     ensures untouched { every ≡ 0 → out.new ≡ out.old }
     ensures breaks_off { IfErr result (λ answer. (text : Geometry → List (List ℕ) → List ℕ)
-        → Prints (R.entries report.now) pipeline.entry.plan (R.printed report.now) text → BreaksOff O.taken O.faults
+        → Prints report.now pipeline.entry.plan text → BreaksOff O.taken O.faults
         (views_text (text (geometry_for WAYS schedule)) every (words_of (coming packets.entry)))
         (fault_of packets.entry) out.old out.new answer) }
     ensures out_later { O.faults out.old ≤ O.faults out.new }

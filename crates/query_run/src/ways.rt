@@ -6,7 +6,7 @@ ghost use Rattle.stage_plan.specs.Packets.{AreWhole};
 ghost use Rattle.switch_core.specs.PlanLanes.{PipelineStands};
 ghost use Rattle.trace_drive.specs.{Answers.BreaksOff, Drives.{coming, end_machines, fault_of, words_of}};
 ghost use Rattle.command_line.specs.Command.{IsSetting};
-ghost use Rattle.query_run.specs.{Driven.{IsLeftWith, geometry_of, pipeline_in}, Reports.{MayPrint, Prints}};
+ghost use Rattle.query_run.specs.{Driven.{IsLeftWith, geometry_of, pipeline_in}, Reports.{MayPrint, Prints, entries_for}};
 ghost use Rattle.query_run.specs.Views.{CanBeViewed, views_text};
 
 use crate::driven::Driven;
@@ -20,30 +20,30 @@ use std::sync::ledger::Ledger;
 use trace_drive::{Packets, RunError};
 
 /// Makes the setting's ways, a value, into the number of ways of a pipeline, which is part of its type; and runs the report.
-pub(crate) fn run_with_its_ways<R: Report, O: Sink, L: Ledger>(
+pub(crate) fn run_with_its_ways<O: Sink, L: Ledger>(
     alloc: Global,
     setting: Setting,
     every: u32,
-    report: &R,
+    report: &Report,
     plan: Plan,
     packets: Packets<'_>,
     out: &mut O,
     steps: &mut Steps<L>,
 ) -> Result<Driven, RunError>
     requires setting { IsSetting setting }
-    requires may_print { MayPrint (R.entries report.now) plan (R.may_print report.now) }
+    requires may_print { MayPrint report.now plan }
     requires whole { AreWhole (words_of (coming packets)) }
     requires viewed { 0 < every → CanBeViewed packets }
     ensures accepted { IfOk result (λ driven. fault_of packets.entry ≡ None) }
     ensures written { IfOk result (λ driven. (text : Geometry → List (List ℕ) → List ℕ)
-        → Prints (R.entries report.now) plan (R.printed report.now) text → Appends (O.taken out.old) (O.taken out.new)
+        → Prints report.now plan text → Appends (O.taken out.old) (O.taken out.new)
         (views_text (text (geometry_of setting)) every (words_of (coming packets.entry)))) }
     ensures plan { IfOk result (λ driven. (pipeline_in driven).plan ≡ plan) }
-    ensures left { IfOk result (IsLeftWith (R.entries report.now) setting) }
+    ensures left { IfOk result (IsLeftWith (entries_for report.now) setting) }
     ensures stands { IfOk result (λ driven. PipelineStands (pipeline_in driven)
         (end_machines plan (geometry_of setting) (words_of (coming packets.entry)))) }
     ensures breaks_off { IfErr result (λ answer. (text : Geometry → List (List ℕ) → List ℕ)
-        → Prints (R.entries report.now) plan (R.printed report.now) text → BreaksOff O.taken O.faults
+        → Prints report.now plan text → BreaksOff O.taken O.faults
         (views_text (text (geometry_of setting)) every (words_of (coming packets.entry)))
         (fault_of packets.entry) out.old out.new answer) }
     ensures out_later { O.faults out.old ≤ O.faults out.new }

@@ -1,12 +1,18 @@
 -- each clause is what the table of statuses says of the answer
 use Rattle.std.proofs.Common.{Option}
+use Rattle.marple_base.specs.Inputs.{IsClosed}
 use Rattle.command_line.specs.declared.command.Command.{Command}
 use Rattle.command_answers.specs.declared.status.Status.{Status}
 use Rattle.command_answers.specs.declared.status.Status.TheVariants as statuses
 use Rattle.marple_cli.{specs.Call.asked_by, proofs.Clauses.{OfAnswers, fault_of_trace, input_fault, no_operand, not_reached, output_fault}}
-use Rattle.marple_cli.proofs.Clauses.{told, query_refused, refuses_query, trace_refused, usage}
+use Rattle.marple_cli.proofs.{Clauses.{told, query_refused, refuses_query, trace_refused, usage}, Taken.of_each}
 use Rattle.marple_cli.proofs.top.marple.Goals as goal
 use Rattle.marple_cli.proofs.top.marple.Goals.{After-answer-status}
+
+pub answer-status-requires : goal.answer-status-requires
+answer-status-requires g c = record {
+  closed = of_each (λ which. IsClosed (g.I.Inputs.input c.args.inputs.now which)) c.requires.query_closed c.requires.trace_closed;
+}
 
 -- what holds of each answer to what is asked for holds of this one
 said : (g : _) (c : After-answer-status g) (P : Option Command → Status → Type 0)

@@ -22,7 +22,7 @@ text_is generation setting made q same is =
     ∙ sym (ap (λ one. tables_text setting one (λ q. made_packets generation)) is)
 
 pub run_over_made-ran-requires-clause-may_print : goal.run_over_made-ran-requires-clause-may_print
-run_over_made-ran-requires-clause-may_print g c = (c.of-report.ensures.reports _ c.in_ok-query.ensures.plan).may_print
+run_over_made-ran-requires-clause-may_print g c = (c.of_query-report.ensures.reports _ c.in_ok-query.ensures.plan).may_print
 
 pub run_over_made-ran-requires-clause-whole : goal.run_over_made-ran-requires-clause-whole
 run_over_made-ran-requires-clause-whole g c = subst (λ made. AreWhole (words_of made)) (sym c.in-Ok.ensures) (simulated_whole _ _ _)
@@ -56,7 +56,7 @@ returns-in_err-left-clause-ends g c inputs =
     (subst (λ text. BreaksOff g.O.Sink.taken g.O.Sink.faults text None c.args.out.now c.run_over_made-ran.new.out answer)
     (text_is c.args.generation c.args.setting c.in-Ok.made c.in_ok-query.query.typed c.in-Ok.ensures c.in_ok-query.ensures.ok)
     (c.in_err-left.ensures.breaks_off (query_text c.in_ok-query.query.typed)
-    (c.of-report.ensures.reports _ c.in_ok-query.ensures.plan).prints))))
+    (c.of_query-report.ensures.reports _ c.in_ok-query.ensures.plan).prints))))
 
 pub returns-in_err-left-clause-driven : goal.returns-in_err-left-clause-driven
 returns-in_err-left-clause-driven g c inputs =
@@ -70,7 +70,8 @@ returns-clause-ends g c inputs =
     c.run_over_made-ran.new.out (λ query takes left read. refl) text (trial_is_text c.args.generation c.args.setting inputs)
     (subst (Appends (g.O.Sink.taken c.args.out.now) (g.O.Sink.taken c.run_over_made-ran.new.out))
     (text_is c.args.generation c.args.setting c.in-Ok.made c.in_ok-query.query.typed c.in-Ok.ensures c.in_ok-query.ensures.ok)
-    (c.in_ok-left.ensures.written (query_text c.in_ok-query.query.typed) (c.of-report.ensures.reports _ c.in_ok-query.ensures.plan).prints))
+    (c.in_ok-left.ensures.written (query_text c.in_ok-query.query.typed)
+    (c.of_query-report.ensures.reports _ c.in_ok-query.ensures.plan).prints))
 
 pub returns-clause-driven : goal.returns-clause-driven
 returns-clause-driven g c inputs =
@@ -78,7 +79,7 @@ returns-clause-driven g c inputs =
     let q = c.in_ok-query.query.typed in
     let plan = c.in_ok-query.query.plan in
     let made = made_packets c.args.generation in (
-      c.in_ok-left.ensures.left,
+      rw c.of_query-report.ensures.is at c.in_ok-left.ensures.left,
       subst (λ one. StandsForEnd c.args.setting one (λ q. made) p) (sym c.in_ok-query.ensures.ok)
           (query_stands c.args.setting q plan c.in_ok-query.ensures.plan p c.in_ok-left.ensures.plan (words_of made)
           (simulated_whole c.args.generation.packets c.args.generation.start 16)

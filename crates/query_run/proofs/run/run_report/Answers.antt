@@ -35,22 +35,22 @@ returns-in_err-fresh-clause-breaks_off g c = err_is _ _ _ c.from_residual.ensure
 
 pub returns-in_err-replay-clause-breaks_off : goal.returns-in_err-replay-clause-breaks_off
 returns-in_err-replay-clause-breaks_off g c =
-    err_is _ _ _ c.from_residual-in_err-replay.ensures.1 (broken_as g.O.Sink.taken g.O.Sink.faults _ _ _
+    err_is _ _ _ c.from_residual-in_err-replay.ensures.1 (broken_as g.O.Sink.taken g.O.Sink.faults _ _
     c.args.every (words_of (coming c.args.packets)) _ _ _ _ _ _
     (same g (goal.at.returns-in_err-replay-clause-breaks_off g c).After-schedule_of-schedule)
-    (λ text prints. c.in_err-replay.ensures.breaks_off text (subst (λ plan. Prints (g.R.Report.entries c.args.report.now) plan
-    (g.R.Report.printed c.args.report.now) text) (sym c.in_ok-fresh.ensures.plan) prints)))
+    (λ text prints. c.in_err-replay.ensures.breaks_off text
+    (subst (λ plan. Prints c.args.report.now plan text) (sym c.in_ok-fresh.ensures.plan) prints)))
 
 pub returns-in_err-pipeline-clause-breaks_off : goal.returns-in_err-pipeline-clause-breaks_off
 returns-in_err-pipeline-clause-breaks_off g c =
     let answer = c.in_err-pipeline.field-0.0 in
     let was = c.in_ok-replay.ensures in
-    err_is _ _ _ c.from_residual-in_err-pipeline.ensures.1 (broken_as g.O.Sink.taken g.O.Sink.faults _ _ _
+    err_is _ _ _ c.from_residual-in_err-pipeline.ensures.1 (broken_as g.O.Sink.taken g.O.Sink.faults _ _
     c.args.every (words_of (coming c.args.packets)) _ _ _ _ _ _
     (same g (goal.at.returns-in_err-pipeline-clause-breaks_off g c).After-schedule_of-schedule)
     (λ text prints. rest_broke (text (geometry_for g.row.WAYS c.schedule_of-schedule.result)) _ (coming c.args.packets) g.O.Sink.taken
     g.O.Sink.faults _ _ _ was.untouched (λ some. (c.requires.viewed some).sound)
-    (was.written text (subst (λ plan. Prints (g.R.Report.entries c.args.report.now) plan (g.R.Report.printed c.args.report.now) text)
+    (was.written text (subst (λ plan. Prints c.args.report.now plan text)
     (sym c.in_ok-fresh.ensures.plan) prints)) answer
     (subst (λ fault. IfRefused answer (λ found. fault ≡ Some found)) was.fault c.in_err-pipeline.ensures.refused)))
 
@@ -64,7 +64,7 @@ write_end-requires g c =
     let entries = done.keeps.entries ∙ (keeps.entries ∙ (c.in_ok-fresh.ensures.entries ∙ c.entries.ensures)) in (
       lit< tt,
       (
-        subst (λ plan. MayPrint (g.R.Report.entries c.args.report.now) plan (g.R.Report.may_print c.args.report.now)) (sym plan)
+        subst (MayPrint c.args.report.now) (sym plan)
             c.requires.may_print,
         (
           entries,
@@ -91,9 +91,9 @@ returns-in_err-write_end-clause-breaks_off g c =
     let stands = done.machines c.schedule_of-schedule.result all was.under_way.0 was.under_way.1 in
     let plan = done.keeps.plan ∙ (was.keeps.plan ∙ c.in_ok-fresh.ensures.plan) in
     let x = (goal.at.returns-in_err-write_end-clause-breaks_off g c).After-schedule_of-schedule in
-    err_is _ _ _ c.from_residual-in_err-write_end.ensures.1 (broken_as g.O.Sink.taken g.O.Sink.faults _ _ _
+    err_is _ _ _ c.from_residual-in_err-write_end.ensures.1 (broken_as g.O.Sink.taken g.O.Sink.faults _ _
     c.args.every (words_of (coming c.args.packets)) _ _ _ _ _ _ (same g x) (λ text prints.
-    let Printed = λ (plan : PlanParts). Prints (g.R.Report.entries c.args.report.now) plan (g.R.Report.printed c.args.report.now) text in
+    let Printed = λ (plan : PlanParts). Prints c.args.report.now plan text in
     end_broke (text of) c.args.every all g.O.Sink.taken g.O.Sink.faults _ _ _ _ (sym was.fault ∙ done.accepted)
     (was.written text (subst Printed (sym c.in_ok-fresh.ensures.plan) prints)) was.out_later _
     (c.in_err-write_end.ensures.breaks_off text of (words_of all) (subst Printed (sym plan) prints) (room g x) c.requires.whole stands)))
@@ -105,7 +105,7 @@ returns-clause-written g c text prints =
     let way = c.in_ok-replay.ensures.under_way in
     let stands = c.in_ok-pipeline.ensures.machines c.schedule_of-schedule.result all way.0 way.1 in
     let plan = c.in_ok-pipeline.ensures.keeps.plan ∙ (c.in_ok-replay.ensures.keeps.plan ∙ c.in_ok-fresh.ensures.plan) in
-    let Printed = λ (plan : PlanParts). Prints (g.R.Report.entries c.args.report.now) plan (g.R.Report.printed c.args.report.now) text in
+    let Printed = λ (plan : PlanParts). Prints c.args.report.now plan text in
     let x = (goal.at.returns-clause-written g c).After-schedule_of-schedule in
     subst (λ of. Appends (g.O.Sink.taken c.args.out.now) (g.O.Sink.taken c.write_end.new.out) (views_text (text of) c.args.every
     (words_of all))) (same g x) (all_written (text of) c.args.every all _ _ _ (c.in_ok-replay.ensures.written text

@@ -4,16 +4,16 @@ use Rattle.epoch_model.specs.{Epochs.Geometry, Laws.HasRoom}
 use Rattle.stage_plan.specs.Packets.{AreWhole}
 use Rattle.switch_core.specs.PlanLanes.{PipelineStands}
 use Rattle.trace_drive.{specs.{Answers.BreaksOff, Drives.end_machines}, proofs.Breaking.{err_is, nothing_taken, then_err, then_ok}}
-use Rattle.query_run.{specs.Reports.Prints, proofs.Seen.at_an_end}
+use Rattle.query_run.{specs.Reports.{CanPrint, Prints, printed_by}, proofs.Seen.at_an_end}
 use Rattle.query_run.proofs.showing.write_end.Goals as goal
 use Rattle.query_run.proofs.showing.write_end.Goals.{After-write_report}
 
 pub write_report-requires : goal.write_report-requires
 write_report-requires g c =
     let e = c.requires.ends in
-    let May = g.R.Report.may_print c.args.report.now in
+    let May = CanPrint c.args.report.now in
     record {
-      may_print = subst May (sym (c.in_ok-tables.ensures.closed (end_machines c.args.pipeline.now.plan e.0 e.1) e.4))
+      can_print = subst May (sym (c.in_ok-tables.ensures.closed (end_machines c.args.pipeline.now.plan e.0 e.1) e.4))
           (at_an_end (λ g packets tables. May tables) _ _ _ c.args.pipeline.now e.0 e.1 c.invariant-2.ensures c.plan.ensures
           c.invariant.ensures c.requires.entries c.requires.may_print e.2 e.3);
     }
@@ -24,11 +24,11 @@ returns-in_err-tables-clause-breaks_off g c =
 
 -- what is written is the text of the packets
 written_is : (g : _) (c : After-write_report g) (text : Geometry → List (List ℕ) → List ℕ) (of : Geometry) (packets : List (List ℕ))
-    → Prints (g.R.Report.entries c.args.report.now) c.args.pipeline.now.plan (g.R.Report.printed c.args.report.now) text
+    → Prints c.args.report.now c.args.pipeline.now.plan text
     → HasRoom of → AreWhole packets → PipelineStands c.args.pipeline.now (end_machines c.args.pipeline.now.plan of packets)
-    → c.new.result ++ g.R.Report.printed c.args.report.now c.in_ok-tables.tables ≡ text of packets
+    → c.new.result ++ printed_by c.args.report.now c.in_ok-tables.tables ≡ text of packets
 written_is g c text of packets prints room whole stands =
-    let printed = g.R.Report.printed c.args.report.now in
+    let printed = printed_by c.args.report.now in
     ap (λ first. first ++ printed c.in_ok-tables.tables) c.new.ensures
     ∙ (ap printed (c.in_ok-tables.ensures.closed (end_machines c.args.pipeline.now.plan of packets) stands)
     ∙ at_an_end (λ g packets tables. printed tables ≡ text g packets) _ _ _ c.args.pipeline.now of packets c.invariant-2.ensures

@@ -66,7 +66,7 @@ write_view-requires g c =
     ∙ (done.keeps.entries ∙ (was.keeps.entries ∙ c.requires.entries)) in (
       lit< tt,
       (
-        subst (λ plan. MayPrint (g.R.Report.entries c.args.report.now) plan (g.R.Report.may_print c.args.report.now)) (sym plan)
+        subst (MayPrint c.args.report.now) (sym plan)
             c.requires.may_print,
         (
           entries,
@@ -106,7 +106,7 @@ views-preserved g c =
       keeps = keeps_along _ _ _ was.keeps done.keeps;
       written = λ text prints. one_written (text of) _ all _ _ _ _ was.multiple some (was.written text prints)
           (c.in_ok-write_view.ensures.written text of (words_of all) (subst
-          (λ plan. Prints (g.R.Report.entries c.args.report.now) plan (g.R.Report.printed c.args.report.now) text) (sym plan) prints)
+          (λ plan. Prints c.args.report.now plan text) (sym plan) prints)
           (seen g (goal.at.views-preserved g c).After-pipeline));
       out_later = let a = was.out_later in let b = c.write_view.ensures.out_later in omega arith;
       later = let a = was.later in let b = c.advance.ensures.steps in let d = c.write_view.ensures.steps in omega arith;
@@ -125,7 +125,7 @@ returns-in_err-write_view-clause-breaks_off g c =
     view_broke (text of) _ all g.O.Sink.taken g.O.Sink.faults _ _ _ _ _ (c.requires.viewed some).sound was.multiple some way.within
     (was.written text prints)
     was.out_later _ (c.in_err-write_view.ensures.breaks_off text of (words_of all)
-    (subst (λ plan. Prints (g.R.Report.entries c.args.report.now) plan (g.R.Report.printed c.args.report.now) text) (sym plan) prints)
+    (subst (λ plan. Prints c.args.report.now plan text) (sym plan) prints)
     (seen g (goal.at.returns-in_err-write_view-clause-breaks_off g c).After-pipeline)))
 
 pub returns-clause-written : goal.returns-clause-written

@@ -15,8 +15,7 @@ invariant-views g l = record {
   multiple : l.number % l.every ≡ 0;
   fault : replay_fault l.replay ≡ fault_of l.fn.packets;
   keeps : Keeps l.fn.pipeline (replay_pipeline l.replay);
-  written : (text : Geometry → List (List ℕ) → List ℕ) → Prints (g.R.Report.entries l.report) l.fn.pipeline.plan
-      (g.R.Report.printed l.report) text
+  written : (text : Geometry → List (List ℕ) → List ℕ) → Prints l.report l.fn.pipeline.plan text
       → Appends (g.O.Sink.taken l.fn.out) (g.O.Sink.taken l.out) (views_up_to (text (geometry_for g.row.WAYS l.fn.schedule)) l.every
       (words_of (coming l.fn.packets)) l.number);
   out_later : g.O.Sink.faults l.fn.out ≤ g.O.Sink.faults l.out;

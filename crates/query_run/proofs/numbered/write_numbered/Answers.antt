@@ -5,7 +5,7 @@ use Rattle.final_queries.specs.declared.table.Table.{Table}
 use Rattle.query_tables.specs.Tables.{table_text_at}
 use Rattle.table_printer.specs.TableText.{table_text}
 use Rattle.marple_base.proofs.Pieces.{all_waits, on_err, part_broke, part_more}
-use Rattle.query_run.proofs.plan_report.write_numbered.Goals as goal
+use Rattle.query_run.proofs.numbered.write_numbered.Goals as goal
 
 -- the text of the next number's table, and then those after it
 next : (tables : List Table) (prints : List ℕ) (i number : ℕ) (t : Table) → i < length prints → number ≡ get_or prints i 0

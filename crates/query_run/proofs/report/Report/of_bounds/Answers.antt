@@ -1,7 +1,7 @@
 use Rattle.trace_drive.specs.Drives.{words_of}
 use Rattle.trace_reader.specs.Traces.{packets}
 use Rattle.query_run.proofs.BoundsEnds.{bounds_reports}
-use Rattle.query_run.proofs.bounds_report.QueryBounds.of.Goals as goal
+use Rattle.query_run.proofs.report.Report.of_bounds.Goals as goal
 
 pub returns-clause-reports : goal.returns-clause-reports
 returns-clause-reports c plan of_query =

@@ -1,7 +1,7 @@
 use Rattle.std.{proofs.Common.{◌≤◌, ◌++◌, drop}, specs.List.flat_map}
 use Rattle.query_tables.specs.Tables.{table_text_at}
 use Rattle.marple_base.specs.Pieces.{TakesAllBut}
-use Rattle.query_run.proofs.plan_report.write_numbered.Given as goal
+use Rattle.query_run.proofs.numbered.write_numbered.Given as goal
 
 -- what waits, and then the texts of the prints that are left, is all that isn't written
 abbrev pub invariant-loop-number : goal.invariant-loop-number
