@@ -1,24 +1,60 @@
 //! The outside in memory, counters and values: each call once with ample memory, and inputs and sinks of which one call
 //! after the other fails.
-ghost use Rattle.std.specs.Prelude.{◌≡◌, ◌<◌};
-
 use crate::compare::{holds, same};
+use crate::counter::{Counting, counted};
 use marple_base::{
     Boxed, FailAt, Failed, Field, FieldSet, Inputs, MemoryInputs, MemorySink, Packet, ReadAnswer,
     Seq, SoundInputs, SoundSink, Steps, Text, Which, decimal, read_input, write_all,
 };
 use std::alloc::{AllocError, Global};
-use std::marker::Brand;
 use std::process::Abort;
-use std::sync::ledger::{Blank, Ledger};
+use std::sync::ledger::Ledger;
 use std::test::Fail;
 
-/// What reading up to `limit` bytes of a trace of three gives, where its call with this number fails.
-fn read_failing_at(
-    alloc: Global,
-    call: u64,
-    limit: usize,
-) -> Result<Result<Text, ReadAnswer>, AllocError> {
+/// A new counter shows how often it ticked.
+pub fn compare_ticks<L: Ledger>(rt: &impl Abort, steps: &mut Steps<L>) {
+    for _ in 0..5 {
+        steps.tick();
+    }
+    same(rt, "a count", steps.shown(), 5);
+}
+
+#[test]
+fn ticks(rt: HostRuntime) -> Result<(), Fail> {
+    counted(&rt, rt.alloc(), Counting::Ticks)
+}
+
+/// What is tried on a trace of three bytes, the call that fails, the most bytes that are read, and those that are, if that
+/// call isn't made.
+struct Read(&'static str, u64, usize, Option<&'static [u8]>);
+
+const READS: [Read; 7] = [
+    // opening is call 1, the bytes come in call 2, and call 3 finds the end
+    Read("opening fails", 1, 9, None),
+    Read("the bytes fail", 2, 9, None),
+    Read("the end fails", 3, 9, None),
+    Read("no call fails", 4, 9, Some(b"abc")),
+    Read("all bytes are wanted, and no end", 3, 3, Some(b"abc")),
+    Read("two bytes are wanted", 3, 2, Some(b"ab")),
+    Read("no byte is wanted", 2, 0, Some(b"")),
+];
+
+// These bytes were read, or a call failed.
+fn compare_answer(
+    rt: &impl Abort,
+    name: &str,
+    answer: &Result<Text, ReadAnswer>,
+    bytes: Option<&[u8]>,
+) {
+    match (answer, bytes) {
+        (Ok(text), Some(bytes)) => same(rt, name, text.as_slice(), bytes),
+        (Err(ReadAnswer::Failed), None) => {}
+        _ => holds(rt, name, false),
+    }
+}
+
+fn compare_read(rt: &impl Abort, alloc: Global, read: &Read) -> Result<(), AllocError> {
+    let &Read(name, call, limit, bytes) = read;
     let mut failing = Seq::new(alloc);
     failing.push(FailAt {
         which: Which::Trace,
@@ -26,59 +62,19 @@ fn read_failing_at(
     })?;
     let trace = Text::from_slice(alloc, b"abc")?;
     let mut inputs = MemoryInputs::new(Text::new(alloc), trace, failing);
-    Ok(read_input(alloc, &mut inputs, Which::Trace, limit))
-}
-
-fn count_to<L: Ledger>(n: u32, blank: Blank) -> u64
-    requires name { blank.name ≡ L.name }
-    requires parts { blank.parts ≡ L.parts }
-    requires whole { 0 < blank.parts }
-{
-    let mut steps = Steps::<L>::new(blank);
-    for _ in 0..n {
-        steps.tick();
-    }
-    steps.shown()
-}
-
-/// What is tried, the call that fails, the most bytes that are read, and those that are.
-struct Read(&'static str, u64, usize, &'static [u8]);
-
-const READS: [Read; 4] = [
-    Read("no call fails", 4, 9, b"abc"),
-    Read("all bytes are wanted, and no end", 3, 3, b"abc"),
-    Read("two bytes are wanted", 3, 2, b"ab"),
-    Read("no byte is wanted", 2, 0, b""),
-];
-
-// These bytes were read.
-fn compare_read(rt: &impl Abort, name: &str, answer: &Result<Text, ReadAnswer>, bytes: &[u8]) {
-    match answer {
-        Ok(text) => same(rt, name, text.as_slice(), bytes),
-        Err(_) => holds(rt, name, false),
-    }
+    let answer = read_input(alloc, &mut inputs, Which::Trace, limit);
+    compare_answer(rt, name, &answer, bytes);
+    Ok(())
 }
 
 #[test]
 fn inputs(rt: HostRuntime) -> Result<(), Fail> {
-    let alloc = rt.alloc();
-    // opening is call 1, the bytes come in call 2, and call 3 finds the end
-    for call in 1..4 {
-        let answer = read_failing_at(alloc, call, 9)?;
-        let is_failure = matches!(answer, Err(ReadAnswer::Failed));
-        same(
-            &rt,
-            "a call whose failure is seen",
-            (call, is_failure),
-            (call, true),
-        );
-    }
-    for &Read(name, call, limit, bytes) in &READS {
-        compare_read(&rt, name, &read_failing_at(alloc, call, limit)?, bytes);
+    for read in &READS {
+        compare_read(&rt, rt.alloc(), read)?;
     }
     let mut sound = SoundInputs::new(b"query", b"trace");
-    let answer = read_input(alloc, &mut sound, Which::Query, 9);
-    compare_read(&rt, "sound inputs", &answer, b"query");
+    let answer = read_input(rt.alloc(), &mut sound, Which::Query, 9);
+    compare_answer(&rt, "sound inputs", &answer, Some(b"query"));
     Ok(())
 }
 
@@ -140,23 +136,25 @@ fn compare_text(rt: &impl Abort, alloc: Global) -> Result<(), AllocError> {
 fn compare_fields(rt: &impl Abort, alloc: Global) -> Result<(), AllocError> {
     let fields = FieldSet::EMPTY.with(Field::Switch).with(Field::QSize);
     let mut names = Seq::new(alloc);
-    for field in Field::ALL {
-        if fields.has(field) {
+    for field in &Field::ALL {
+        if fields.has(*field) {
             names.push(field.name())?;
         }
     }
     same(rt, "the number of fields", names.len(), 2);
     same(rt, "the second field", names.as_slice()[1], b"qsize");
+    Ok(())
+}
+
+fn compare_packet(rt: &impl Abort) {
     let packet = Packet {
         words: [0, 1, 2, 3, 4, 5, 6, 7, 8, 9, 10, 11, 12, 13],
     };
     same(rt, "a field of a packet", packet.get(Field::Tout), 12);
-    Ok(())
 }
 
 #[test]
 fn values(rt: HostRuntime) -> Result<(), Fail> {
-    same(&rt, "a count", count_to::<Brand>(5, Blank::new(1)), 5);
     same(
         &rt,
         "a value in a box",
@@ -165,6 +163,7 @@ fn values(rt: HostRuntime) -> Result<(), Fail> {
     );
     compare_decimal(&rt, rt.alloc(), u64::MAX, b"18446744073709551615")?;
     compare_decimal(&rt, rt.alloc(), 0, b"0")?;
+    compare_packet(&rt);
     compare_text(&rt, rt.alloc())?;
     Ok(compare_fields(&rt, rt.alloc())?)
 }

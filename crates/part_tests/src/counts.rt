@@ -23,30 +23,28 @@
 //! variable is read, has a product with each of them, is copied and is written, and the history is written. What the store
 //! does to find the key isn't counted.
 
-ghost use Rattle.std.specs.Prelude.{◌≡◌, ◌<◌, ◌≤◌};
+ghost use Rattle.std.specs.Prelude.{◌<◌, ◌≤◌};
 
 use crate::compare::same;
+use crate::counter::{Counting, counted};
 use crate::direct::QUERY;
 use crate::one_bucket::Event::{self, Evict, Merge, Packet, Sweep};
 use crate::one_bucket::OneBucket;
 use epoch_entry::Entries;
 use marple_base::Steps;
 use std::alloc::Global;
-use std::marker::Brand;
 use std::process::Abort;
-use std::sync::ledger::{Blank, Ledger};
+use std::sync::ledger::Ledger;
 use std::test::Fail;
 
 /// An event, and the steps that it takes.
 struct Counted(Event, u64);
 
-/// A query with one groupby, what its entries are for, and events in sequence, each with the steps that it takes. The
-/// pipe has room for one record.
+/// A query with one groupby, and events in sequence, each with the steps that it takes. The pipe has room for one record.
 #[derive(Clone, Copy)]
 struct Case {
     name: &'static str,
     query: &'static [u8],
-    entries: Entries,
     events: &'static [Counted],
 }
 
@@ -56,7 +54,6 @@ struct Case {
 const FILTERED: Case = Case {
     name: "filtered",
     query: b"def count([c],[]) { c = c + 1; } f = filter(pktstream, pkt_len < 1000); r = groupby(f, [srcip], count); print r;",
-    entries: Entries::Folds,
     events: &[
         // a new key: 16 registers + 1 word of the key + 1 of it hashed + 1 way + 1 word of the key written + 3 of the entry
         // + 8 for the row
@@ -91,7 +88,6 @@ const FILTERED: Case = Case {
 const TWO_WAYS: Case = Case {
     name: "two ways",
     query: b"def count([c],[]) { c = c + 1; } r = groupby(pktstream, [srcip, pkt_len], count); print r;",
-    entries: Entries::Folds,
     events: &[
         // a new key
         Counted(Packet(1, 100), 2 + 2 + 1 + 2 + 3 + 8),
@@ -117,7 +113,6 @@ const TWO_WAYS: Case = Case {
 const COMPOSED: Case = Case {
     name: "composed",
     query: QUERY,
-    entries: Entries::Folds,
     events: &[
         // a new key, whose row is logged: 2 for the history + 21 + 1 argument + 1 for the number
         Counted(
@@ -144,7 +139,6 @@ const COMPOSED: Case = Case {
 const MOVED: Case = Case {
     name: "moved",
     query: b"def gaps([s, a, b],[tin, tout]) { s = s + tout - a; a = b; b = tin; } r = groupby(pktstream, [srcip], gaps); print r;",
-    entries: Entries::Folds,
     events: &[
         // a new key, whose row is logged: 2 * 2 for the history + 14 + 2 arguments + 1 for the number
         Counted(
@@ -166,12 +160,37 @@ const MOVED: Case = Case {
     ],
 };
 
+/// A fold that isn't linear. The body takes 1 + (5 + 2) steps, and the entry is the state of one word, which a merge takes.
+const OTHER: Case = Case {
+    name: "other",
+    query: b"def avg([e],[qsize]) { e = decay(e, 3) + qsize; } r = groupby(pktstream, [srcip], avg); print r;",
+    events: &[
+        // a new key, with a run of the body for its row, and the same again
+        Counted(Packet(1, 4), 1 + 1 + 1 + 1 + 1 + 1 + 1 + (5 + 2)),
+        Counted(Packet(1, 4), 1 + 1 + 1 + 1 + 1 + 8),
+        Counted(Evict, (1 + 1) + 1),
+        Counted(Merge, 1),
+    ],
+};
+
+/// The bounds of the same fold: three states side by side.
+const BOUNDS: Case = Case {
+    name: "bounds",
+    events: &[
+        // a new key, and the same again
+        Counted(Packet(1, 4), 1 + 1 + 1 + 1 + 1 + 3 + 3 * 8),
+        Counted(Packet(1, 4), 1 + 1 + 1 + 1 + 1 + 3 * 8),
+        Counted(Evict, (1 + 3) + 1),
+        Counted(Merge, 3),
+    ],
+    ..OTHER
+};
+
 /// Maxima, whose elements have two words, of a variable that isn't only moved. The body takes 1 + (5 + 2) steps. The entry
 /// has 1 + 2 * 2 words.
 const COMPOSED_MAXIMA: Case = Case {
     name: "composed maxima",
     query: b"def peak([p],[qsize]) { p = max(sadd(p, 3), qsize); } r = groupby(pktstream, [srcip], peak); print r;",
-    entries: Entries::Folds,
     events: &[
         // a new key: of the row 2 columns of 1 part, 8 and 2 words + 2 elements with 1 product each + 4 words of the map
         Counted(
@@ -189,7 +208,6 @@ const COMPOSED_MAXIMA: Case = Case {
 const MOVED_MAXIMA: Case = Case {
     name: "moved maxima",
     query: b"def deepest([m],[qsize]) { m = max(m, qsize); } r = groupby(pktstream, [srcip], deepest); print r;",
-    entries: Entries::Folds,
     events: &[
         // a new key: of the row 1 word of the state from the map + 6 + 2 words of an element
         Counted(Packet(1, 4), 1 + 1 + 1 + 1 + 1 + 5 + (1 + 6 + 2)),
@@ -200,46 +218,14 @@ const MOVED_MAXIMA: Case = Case {
     ],
 };
 
-const AVERAGE: &[u8] =
-    b"def avg([e],[qsize]) { e = decay(e, 3) + qsize; } r = groupby(pktstream, [srcip], avg); print r;";
-
-/// A fold that isn't linear. The body takes 1 + (5 + 2) steps, and the entry is the state of one word, which a merge takes.
-const OTHER: Case = Case {
-    name: "other",
-    query: AVERAGE,
-    entries: Entries::Folds,
-    events: &[
-        // a new key, and the same again
-        Counted(Packet(1, 4), 1 + 1 + 1 + 1 + 1 + 1 + 8),
-        Counted(Packet(1, 4), 1 + 1 + 1 + 1 + 1 + 8),
-        Counted(Evict, (1 + 1) + 1),
-        Counted(Merge, 1),
-    ],
-};
-
-/// The bounds of the same fold: three states side by side.
-const BOUNDS: Case = Case {
-    name: "bounds",
-    query: AVERAGE,
-    entries: Entries::Bounds,
-    events: &[
-        // a new key, and the same again
-        Counted(Packet(1, 4), 1 + 1 + 1 + 1 + 1 + 3 + 3 * 8),
-        Counted(Packet(1, 4), 1 + 1 + 1 + 1 + 1 + 3 * 8),
-        Counted(Evict, (1 + 3) + 1),
-        Counted(Merge, 3),
-    ],
-};
-
-/// The cases whose bucket has one way.
-const OF_ONE_WAY: [Case; 7] = [
+/// The cases of entries for folds whose bucket has one way.
+const OF_ONE_WAY: [Case; 6] = [
     FILTERED,
     COMPOSED,
     MOVED,
+    OTHER,
     COMPOSED_MAXIMA,
     MOVED_MAXIMA,
-    OTHER,
-    BOUNDS,
 ];
 
 // Makes the events of a case, each of which takes exactly its steps.
@@ -258,35 +244,36 @@ fn make_all<const WAYS: usize, L: Ledger>(
     Ok(())
 }
 
-// The same of a new pipeline.
+// The same of a new pipeline, with entries for this.
 fn compare<const WAYS: usize, L: Ledger>(
     rt: &impl Abort,
     alloc: Global,
     case: &Case,
+    entries: Entries,
     steps: &mut Steps<L>,
 ) -> Result<(), Fail>
     requires some_ways { 0 < WAYS }
     requires few_ways { WAYS ≤ 65536 }
 {
-    let mut one = OneBucket::<WAYS>::new(alloc, case.query, case.entries, 1)?;
+    let mut one = OneBucket::<WAYS>::new(alloc, case.query, entries, 1)?;
     make_all(rt, &mut one, case, steps)
 }
 
-// The same of each case.
-fn compare_cases<L: Ledger>(rt: &impl Abort, alloc: Global, blank: Blank) -> Result<(), Fail>
-    requires name { blank.name ≡ L.name }
-    requires parts { blank.parts ≡ L.parts }
-    requires whole { 0 < blank.parts }
-{
-    let mut steps = Steps::<L>::new(blank);
-    compare::<2, L>(rt, alloc, &TWO_WAYS, &mut steps)?;
+/// The same of each case.
+pub fn compare_cases<L: Ledger>(
+    rt: &impl Abort,
+    alloc: Global,
+    steps: &mut Steps<L>,
+) -> Result<(), Fail> {
+    compare::<2, L>(rt, alloc, &TWO_WAYS, Entries::Folds, steps)?;
+    compare::<1, L>(rt, alloc, &BOUNDS, Entries::Bounds, steps)?;
     for case in &OF_ONE_WAY {
-        compare::<1, L>(rt, alloc, case, &mut steps)?;
+        compare::<1, L>(rt, alloc, case, Entries::Folds, steps)?;
     }
     Ok(())
 }
 
 #[test]
 fn events_take_their_steps(rt: HostRuntime) -> Result<(), Fail> {
-    compare_cases::<Brand>(&rt, rt.alloc(), Blank::new(1))
+    counted(&rt, rt.alloc(), Counting::Events)
 }

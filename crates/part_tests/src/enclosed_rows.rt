@@ -1,19 +1,19 @@
 //! What is shown of a pipeline for bounds after packets, evictions and merges in no order of a trace, compared with bounds that
 //! were worked out by hand.
 
-ghost use Rattle.std.specs.Prelude.{◌≡◌, ◌<◌};
+ghost use Rattle.std.specs.Prelude.{◌≡◌};
 ghost use Rattle.epoch_entry.specs.declared.purpose.Entries.TheVariants.{Bounds};
 
 use crate::compare::{holds, same};
+use crate::counter::{Counting, counted};
 use crate::one_bucket::{Event, OneBucket};
 use enclosed_query::enclosed;
 use enclosure_folds::{BoundsTable, Enclosed};
 use epoch_entry::Entries;
 use marple_base::{Seq, Steps};
 use std::alloc::Global;
-use std::marker::Brand;
 use std::process::Abort;
-use std::sync::ledger::{Blank, Ledger};
+use std::sync::ledger::Ledger;
 use std::test::Fail;
 
 /// A moving average of lengths that is at most 100. A greater state stays at least as great.
@@ -94,18 +94,17 @@ fn make_all<L: Ledger>(
     Ok(())
 }
 
-// The same of a new pipeline, with pipes for four records.
-fn compare<L: Ledger>(rt: &impl Abort, alloc: Global, blank: Blank) -> Result<(), Fail>
-    requires name { blank.name ≡ L.name }
-    requires parts { blank.parts ≡ L.parts }
-    requires whole { 0 < blank.parts }
-{
-    let mut steps = Steps::<L>::new(blank);
+/// The same of a new pipeline, with pipes for four records.
+pub fn compare<L: Ledger>(
+    rt: &impl Abort,
+    alloc: Global,
+    steps: &mut Steps<L>,
+) -> Result<(), Fail> {
     let mut one = OneBucket::<1>::new(alloc, QUERY, Entries::Bounds, 4)?;
-    make_all(rt, alloc, &mut one, &mut steps)
+    make_all(rt, alloc, &mut one, steps)
 }
 
 #[test]
 fn bounds_hold_after_any_events(rt: HostRuntime) -> Result<(), Fail> {
-    compare::<Brand>(&rt, rt.alloc(), Blank::new(1))
+    counted(&rt, rt.alloc(), Counting::Bounds)
 }

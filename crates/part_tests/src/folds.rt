@@ -1,18 +1,23 @@
-//! Folds from their text: the maps of one step, and products of maps.
-ghost use Rattle.std.specs.Prelude.{◌≡◌, ◌+◌, ◌*◌, ◌<◌, ◌≤◌, length};
+//! Steps of folds from their text, compared with what their statements say on paper: runs of their code, the maps of
+//! linear ones, and products of maps.
+ghost use Rattle.std.specs.Prelude.{◌≡◌, ◌+◌, ◌*◌, ◌≤◌, length};
 ghost use Rattle.fold_class.specs.{Program.IsProgram, Rows.element_size};
 
 use crate::compare::{ROOM, fitting, holds, same};
+use crate::counter::{Counting, counted};
 use crate::fold_programs::{
-    ACCUMULATE, DEEPEST, DOUBLE, FULL, HASH, MIX, OUT_OF_SEQUENCE, PEAK, TWO_STEPS, program_of,
+    ACCUMULATE, AVERAGE, DEEPEST, DOUBLE, FULL, HASH, MIX, OUT_OF_SEQUENCE, PEAK, TWO_STEPS,
+    program_of,
 };
-use coeff_algebra::{Coeff, MaxPlus64, Wrapping64, apply_into, compose_into};
+use crate::folds::Gives::{Map, State};
+use coeff_algebra::{Coeff, apply_into, compose_into};
 use fold_class::{Algebra, FoldProgram};
+use fold_code::FoldCode;
 use marple_base::Steps;
 use query_lang::Class;
-use std::marker::Brand;
+use std::alloc::Global;
 use std::process::Abort;
-use std::sync::ledger::{Blank, Ledger};
+use std::sync::ledger::Ledger;
 use std::test::Fail;
 
 /// The rows of a program are over the variables and arguments of its layout.
@@ -37,23 +42,41 @@ fn element_words(algebra: Algebra) -> usize
     }
 }
 
-/// A fold, its history, arguments, the map of the step, and the history after it.
-struct Step(
-    &'static [u8],
-    &'static [u64],
-    &'static [u64],
-    &'static [u64],
-    &'static [u64],
-);
+// A run of the code gives its state, in its steps.
+fn compare_run<L: Ledger>(
+    rt: &impl Abort,
+    code: &FoldCode,
+    before: &[u64],
+    args: &[u64],
+    after: &[u64],
+    taken: u64,
+    steps: &mut Steps<L>,
+) {
+    same(rt, "the words before", before.len(), code.states());
+    same(rt, "the arguments", args.len(), code.args());
+    let (mut state, mut scratch) = ([7; ROOM], [7; ROOM]);
+    let state = &mut state[..fitting(rt, before.len())];
+    let scratch = &mut scratch[..fitting(rt, code.scratch_words())];
+    state.copy_from_slice(before);
+    let earlier = steps.shown();
+    code.exec(state, args, scratch, steps);
+    same(rt, "the state", &*state, after);
+    let now = steps.shown();
+    same(rt, "the steps", now.saturating_sub(earlier), taken);
+}
 
 // The step of a linear fold has its map, and leaves its history.
-fn compare_step<L: Ledger>(rt: &impl Abort, program: &FoldProgram, step: &Step, blank: Blank)
-    requires program { IsProgram program.now }
-    requires name { blank.name ≡ L.name }
-    requires parts { blank.parts ≡ L.parts }
-    requires whole { 0 < blank.parts }
+fn compare_map<L: Ledger>(
+    rt: &impl Abort,
+    program: &FoldProgram,
+    before: &[u64],
+    args: &[u64],
+    expected: &[u64],
+    after: &[u64],
+    steps: &mut Steps<L>,
+)
+    requires { IsProgram program.now }
 {
-    let &Step(_fold, before, args, expected, after) = step;
     rows_known(program);
     let rows = &program.rows;
     let layout = &program.layout;
@@ -68,38 +91,103 @@ fn compare_step<L: Ledger>(rt: &impl Abort, program: &FoldProgram, step: &Step, 
     let map = &mut map[..fitting(rt, words)];
     let scratch = &mut scratch[..fitting(rt, rows.scratch_words())];
     history.copy_from_slice(before);
-    let mut steps = Steps::<L>::new(blank);
-    rows.exec(history, args, map, scratch, &mut steps);
+    rows.exec(history, args, map, scratch, steps);
     same(rt, "the map", &*map, expected);
     same(rt, "the history", &*history, after);
 }
 
-const STEPS: [Step; 12] = [
-    Step(ACCUMULATE, &[], &[2], &[1, 0, 2, 1, 1, 0], &[]),
-    Step(OUT_OF_SEQUENCE, &[15], &[15, 5], &[1, 0], &[20]),
-    Step(OUT_OF_SEQUENCE, &[15], &[16, 5], &[1, 1], &[21]),
-    Step(TWO_STEPS, &[1, 2], &[3], &[1, 2], &[2, 3]),
-    Step(TWO_STEPS, &[5, 2], &[3], &[1, u64::MAX - 1], &[2, 3]),
-    Step(MIX, &[], &[1], &[1, 0, 0, 1, 1, 0], &[]),
-    Step(MIX, &[], &[2], &[1, 1, 0, 0, 1, 0], &[]),
-    Step(HASH, &[], &[9], &[31, 9], &[]),
-    Step(DOUBLE, &[], &[], &[9223372036854775808, 1], &[]),
-    Step(DEEPEST, &[], &[5], &[1, 0, 1, 5], &[]),
-    Step(PEAK, &[], &[5], &[1, 3, 1, 5], &[]),
-    Step(FULL, &[], &[], &[1, u64::MAX, 0, 0], &[]),
-];
+/// What a step gives: of the fold's code the state and its steps, or of a linear fold's rows the map and the history.
+enum Gives {
+    State(&'static [u64], u64),
+    Map(&'static [u64], &'static [u64]),
+}
 
-#[test]
-fn maps_of_steps(rt: HostRuntime) -> Result<(), Fail> {
-    for step in &STEPS {
-        let program = program_of(rt.alloc(), step.0)?;
-        compare_step::<Brand>(&rt, &program, step, Blank::new(1));
+/// A fold, its state or the history of it, arguments, and what a step with these gives.
+pub struct Step(&'static [u8], &'static [u64], &'static [u64], Gives);
+
+// A step gives what it should.
+fn compare_step<L: Ledger>(
+    rt: &impl Abort,
+    program: &FoldProgram,
+    step: &Step,
+    steps: &mut Steps<L>,
+)
+    requires { IsProgram program.now }
+{
+    let Step(_fold, before, args, gives) = step;
+    match gives {
+        State(after, taken) => {
+            compare_run(rt, &program.code, before, args, after, *taken, steps);
+        }
+        Map(map, after) => compare_map(rt, program, before, args, map, after, steps),
+    }
+}
+
+/// Compares what each step of a table gives.
+pub fn compare_steps<L: Ledger>(
+    rt: &impl Abort,
+    alloc: Global,
+    table: &[Step],
+    steps: &mut Steps<L>,
+) -> Result<(), Fail> {
+    for step in table {
+        let program = program_of(alloc, step.0)?;
+        compare_step(rt, &program, step, steps);
     }
     Ok(())
 }
 
+/// Runs of the code of folds.
+pub const RUNS: &[Step] = &[
+    // 1 for the mask + 3 nodes and 2 masks of the `if` + two assignments of 3 nodes and 2
+    Step(
+        OUT_OF_SEQUENCE,
+        &[15, 7],
+        &[15, 5],
+        State(&[20, 7], 1 + (3 + 2) + (3 + 2) + (3 + 2)),
+    ),
+    Step(OUT_OF_SEQUENCE, &[15, 7], &[16, 5], State(&[21, 8], 16)),
+    Step(OUT_OF_SEQUENCE, &[15, 1], &[15, 5], State(&[20, 1], 16)),
+    // 1 for the mask + an assignment of 5 nodes and 2: 8 - 8 / 8 + 8
+    Step(AVERAGE, &[8], &[8], State(&[15], 1 + (5 + 2))),
+    // 1 for the mask + an assignment of 5 nodes and 2 of one node
+    Step(
+        TWO_STEPS,
+        &[10, 3, 4],
+        &[9],
+        State(&[16, 4, 9], 1 + (5 + 2) + (1 + 2) + (1 + 2)),
+    ),
+    Step(TWO_STEPS, &[0, 1, 2], &[0], State(&[u64::MAX, 2, 0], 14)),
+];
+
+#[test]
+fn codes_run_as_their_statements_say(rt: HostRuntime) -> Result<(), Fail> {
+    counted(&rt, rt.alloc(), Counting::Runs)
+}
+
+/// The maps of linear folds.
+pub const MAPS: &[Step] = &[
+    Step(ACCUMULATE, &[], &[2], Map(&[1, 0, 2, 1, 1, 0], &[])),
+    Step(OUT_OF_SEQUENCE, &[15], &[15, 5], Map(&[1, 0], &[20])),
+    Step(OUT_OF_SEQUENCE, &[15], &[16, 5], Map(&[1, 1], &[21])),
+    Step(TWO_STEPS, &[1, 2], &[3], Map(&[1, 2], &[2, 3])),
+    Step(TWO_STEPS, &[5, 2], &[3], Map(&[1, u64::MAX - 1], &[2, 3])),
+    Step(MIX, &[], &[1], Map(&[1, 0, 0, 1, 1, 0], &[])),
+    Step(MIX, &[], &[2], Map(&[1, 1, 0, 0, 1, 0], &[])),
+    Step(HASH, &[], &[9], Map(&[31, 9], &[])),
+    Step(DOUBLE, &[], &[], Map(&[9223372036854775808, 1], &[])),
+    Step(DEEPEST, &[], &[5], Map(&[1, 0, 1, 5], &[])),
+    Step(PEAK, &[], &[5], Map(&[1, 3, 1, 5], &[])),
+    Step(FULL, &[], &[], Map(&[1, u64::MAX, 0, 0], &[])),
+];
+
+#[test]
+fn maps_of_steps(rt: HostRuntime) -> Result<(), Fail> {
+    counted(&rt, rt.alloc(), Counting::Maps)
+}
+
 /// A later map, an earlier one, a state, the product, and the state after it.
-struct Product(
+pub struct Product(
     &'static [u64],
     &'static [u64],
     &'static [u64],
@@ -108,11 +196,8 @@ struct Product(
 );
 
 // The maps have their product, which takes the state to the one after it.
-fn compare_product<C: Coeff, L: Ledger>(rt: &impl Abort, product: &Product, blank: Blank)
+fn compare_product<C: Coeff, L: Ledger>(rt: &impl Abort, product: &Product, steps: &mut Steps<L>)
     requires words { C.WORDS ≤ 2 }
-    requires name { blank.name ≡ L.name }
-    requires parts { blank.parts ≡ L.parts }
-    requires whole { 0 < blank.parts }
 {
     let &Product(later, earlier, before, expected, after) = product;
     let dimension = before.len();
@@ -126,71 +211,64 @@ fn compare_product<C: Coeff, L: Ledger>(rt: &impl Abort, product: &Product, blan
     let scratch = &mut scratch[..fitting(rt, words)];
     map.copy_from_slice(earlier);
     state.copy_from_slice(before);
-    let mut steps = Steps::<L>::new(blank);
-    compose_into::<C, L>(dimension, later, map, scratch, &mut steps);
-    apply_into::<C, L>(dimension, map, state, scratch, &mut steps);
+    compose_into::<C, L>(dimension, later, map, scratch, steps);
+    apply_into::<C, L>(dimension, map, state, scratch, steps);
     same(rt, "the product", &*map, expected);
     same(rt, "the state", &*state, after);
 }
 
-const SUMS: [Product; 5] = [
-    Product(
-        &[1, 0, 2, 1, 1, 0],
-        &[1, 0, 1, 1, 1, 0],
-        &[0, 0],
-        &[1, 0, 3, 2, 1, 1],
-        &[3, 1],
-    ),
-    // the first adds to the second variable, and then the second to the first; and the other way round
-    Product(
-        &[1, 1, 0, 0, 1, 0],
-        &[1, 0, 0, 1, 1, 0],
-        &[1, 1],
-        &[2, 1, 0, 1, 1, 0],
-        &[3, 2],
-    ),
-    Product(
-        &[1, 0, 0, 1, 1, 0],
-        &[1, 1, 0, 0, 1, 0],
-        &[1, 1],
-        &[1, 1, 0, 1, 2, 0],
-        &[2, 3],
-    ),
+/// Compares each product of a table.
+pub fn compare_products<C: Coeff, L: Ledger>(
+    rt: &impl Abort,
+    table: &[Product],
+    steps: &mut Steps<L>,
+)
+    requires { C.WORDS ≤ 2 }
+{
+    for product in table {
+        compare_product::<C, L>(rt, product, steps);
+    }
+}
+
+/// Maps that add the second variable to the first, and the first to the second.
+const TO_FIRST: &[u64] = &[1, 1, 0, 0, 1, 0];
+
+const TO_SECOND: &[u64] = &[1, 0, 0, 1, 1, 0];
+
+/// Maps that add the first variable to the second, and then 1 or 2 to the first.
+const BY_ONE: &[u64] = &[1, 0, 1, 1, 1, 0];
+
+const BY_TWO: &[u64] = &[1, 0, 2, 1, 1, 0];
+
+const HALF: u64 = 1 << 63;
+
+/// Products of maps of sums.
+pub const SUMS: &[Product] = &[
+    Product(BY_TWO, BY_ONE, &[0, 0], &[1, 0, 3, 2, 1, 1], &[3, 1]),
+    Product(TO_FIRST, TO_SECOND, &[1, 1], &[2, 1, 0, 1, 1, 0], &[3, 2]),
+    Product(TO_SECOND, TO_FIRST, &[1, 1], &[1, 1, 0, 1, 2, 0], &[2, 3]),
     Product(&[31, 2], &[31, 1], &[0], &[961, 33], &[33]),
-    Product(
-        &[1 << 63, 1],
-        &[1 << 63, 1],
-        &[5],
-        &[0, (1 << 63) + 1],
-        &[(1 << 63) + 1],
-    ),
+    Product(&[HALF, 1], &[HALF, 1], &[5], &[0, HALF + 1], &[HALF + 1]),
 ];
 
-/// An element is absent, `0, 0`, or a word after a 1.
-const MAXIMA: [Product; 5] = [
+#[test]
+fn products_of_sums(rt: HostRuntime) -> Result<(), Fail> {
+    counted(&rt, rt.alloc(), Counting::Sums)
+}
+
+/// A map that has the greatest word of any state.
+const FILL: &[u64] = &[1, u64::MAX, 0, 0];
+
+/// Products of maps of maxima. An element is absent, `0, 0`, or a word after a 1.
+pub const MAXIMA: &[Product] = &[
     Product(&[1, 3, 1, 4], &[1, 3, 1, 10], &[0], &[1, 6, 1, 13], &[13]),
     Product(&[1, 3, 1, 4], &[1, 3, 1, 10], &[9], &[1, 6, 1, 13], &[15]),
     Product(&[1, 3, 0, 0], &[0, 0, 1, 5], &[9], &[0, 0, 1, 8], &[8]),
     Product(&[0, 0, 1, 5], &[1, 3, 1, 10], &[9], &[0, 0, 1, 5], &[5]),
-    Product(
-        &[1, u64::MAX, 0, 0],
-        &[1, 3, 0, 0],
-        &[1],
-        &[1, u64::MAX, 0, 0],
-        &[u64::MAX],
-    ),
+    Product(FILL, &[1, 3, 0, 0], &[1], FILL, &[u64::MAX]),
 ];
 
 #[test]
-fn products_of_sums(rt: HostRuntime) {
-    for product in &SUMS {
-        compare_product::<Wrapping64, Brand>(&rt, product, Blank::new(1));
-    }
-}
-
-#[test]
-fn products_of_maxima(rt: HostRuntime) {
-    for product in &MAXIMA {
-        compare_product::<MaxPlus64, Brand>(&rt, product, Blank::new(1));
-    }
+fn products_of_maxima(rt: HostRuntime) -> Result<(), Fail> {
+    counted(&rt, rt.alloc(), Counting::Maxima)
 }

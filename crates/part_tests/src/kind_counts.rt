@@ -1,17 +1,16 @@
 //! How many steps the calls of each kind of entry take by themselves, compared with sums that were worked out from the rules
 //! of counting, which `counts.rt` gives.
 
-ghost use Rattle.std.specs.Prelude.{◌≡◌, ◌<◌, length};
-ghost use Rattle.fold_class.specs.Program.{IsProgram};
+ghost use Rattle.std.specs.Prelude.{◌≡◌, length};
 
 use crate::compare::{ROOM, fitting, same};
+use crate::counter::{Counting, counted};
 use crate::fold_programs::{AVERAGE, DEEPEST, HASH, OUT_OF_SEQUENCE, PEAK, TWO_STEPS, program_of};
 use epoch_entry::{AnyEpochs, Entries, EpochKind};
 use marple_base::Steps;
 use std::alloc::Global;
-use std::marker::Brand;
 use std::process::Abort;
-use std::sync::ledger::{Blank, Ledger};
+use std::sync::ledger::Ledger;
 use std::test::Fail;
 
 /// A fold, what its entries are for, and the steps of opening one, of each row that it then absorbs in sequence, and of
@@ -140,33 +139,20 @@ fn compare<K: EpochKind, L: Ledger>(rt: &impl Abort, kind: &K, case: &Case, step
     );
 }
 
-// The same of the entries of a fold's program.
-fn compare_case<L: Ledger>(
+/// The same of the entries of each case.
+pub fn compare_cases<L: Ledger>(
     rt: &impl Abort,
     alloc: Global,
-    case: &Case,
     steps: &mut Steps<L>,
 ) -> Result<(), Fail> {
-    let program = program_of(alloc, case.fold)?;
-    let kind = AnyEpochs::for_entries(case.entries, program);
-    compare(rt, &kind, case, steps);
-    Ok(())
-}
-
-// The same of each case.
-fn compare_cases<L: Ledger>(rt: &impl Abort, alloc: Global, blank: Blank) -> Result<(), Fail>
-    requires name { blank.name ≡ L.name }
-    requires parts { blank.parts ≡ L.parts }
-    requires whole { 0 < blank.parts }
-{
-    let mut steps = Steps::<L>::new(blank);
     for case in &CASES {
-        compare_case(rt, alloc, case, &mut steps)?;
+        let kind = AnyEpochs::for_entries(case.entries, program_of(alloc, case.fold)?);
+        compare(rt, &kind, case, steps);
     }
     Ok(())
 }
 
 #[test]
 fn calls_of_entries_take_their_steps(rt: HostRuntime) -> Result<(), Fail> {
-    compare_cases::<Brand>(&rt, rt.alloc(), Blank::new(1))
+    counted(&rt, rt.alloc(), Counting::Entries)
 }

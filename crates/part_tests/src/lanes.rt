@@ -1,15 +1,15 @@
 //! A lane under every order of seven events, beside what the definition says of its keys.
-ghost use Rattle.std.specs.Prelude.{◌≡◌, ◌<◌, ◌≤◌};
+ghost use Rattle.std.specs.Prelude.{◌<◌, ◌≤◌};
 
 use crate::compare::{holds, same};
+use crate::counter::{Counting, counted};
 use crate::direct::{QUERY, TwoKeys};
 use crate::one_bucket::{Event, OneBucket, exact_rows};
 use epoch_entry::Entries;
 use marple_base::Steps;
 use std::alloc::{AllocError, Global};
-use std::marker::Brand;
 use std::process::Abort;
-use std::sync::ledger::{Blank, Ledger};
+use std::sync::ledger::Ledger;
 use std::test::Fail;
 
 /// The lengths of the packets among the seven events.
@@ -95,29 +95,27 @@ fn compare<const WAYS: usize, L: Ledger>(
     make_all(rt, alloc, &mut one, events, steps)
 }
 
-// Compares after each list of seven events with five packets, for one way and for two; how many lists there are.
-fn compare_lists<L: Ledger>(rt: &impl Abort, alloc: Global, blank: Blank) -> Result<u32, Fail>
-    requires name { blank.name ≡ L.name }
-    requires parts { blank.parts ≡ L.parts }
-    requires whole { 0 < blank.parts }
-{
-    let mut steps = Steps::<L>::new(blank);
+/// Compares after each list of seven events with five packets, for one way and for two.
+pub fn compare_lists<L: Ledger>(
+    rt: &impl Abort,
+    alloc: Global,
+    steps: &mut Steps<L>,
+) -> Result<(), Fail> {
     let mut lists = 0u32;
     for number in 0..16_384 {
         let (events, packets) = listed(number);
         if packets == 5 {
-            compare::<1, L>(rt, alloc, &events, &mut steps)?;
-            compare::<2, L>(rt, alloc, &events, &mut steps)?;
+            compare::<1, L>(rt, alloc, &events, steps)?;
+            compare::<2, L>(rt, alloc, &events, steps)?;
             lists = lists.saturating_add(1);
         }
     }
-    Ok(lists)
+    // the places of the packets among seven, their keys, and what each other event is
+    same(rt, "the lists", lists, 21 * 32 * 4);
+    Ok(())
 }
 
 #[test]
 fn every_interleaving_gives_the_folds_of_all_packets(rt: HostRuntime) -> Result<(), Fail> {
-    let lists = compare_lists::<Brand>(&rt, rt.alloc(), Blank::new(1))?;
-    // the places of the packets among seven, their keys, and what each other event is
-    same(&rt, "the lists", lists, 21 * 32 * 4);
-    Ok(())
+    counted(&rt, rt.alloc(), Counting::Lists)
 }

@@ -7,9 +7,9 @@ mod base;
 #[cfg(test)]
 mod bounds;
 #[cfg(test)]
-mod codes;
-#[cfg(test)]
 mod compare;
+#[cfg(test)]
+mod counter;
 #[cfg(test)]
 mod counts;
 #[cfg(test)]

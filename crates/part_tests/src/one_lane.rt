@@ -1,9 +1,10 @@
 //! One lane, driven by its own calls, compared with a table that was worked out by hand.
 
-ghost use Rattle.std.specs.Prelude.{◌≡◌, ◌<◌, IfOk, length};
+ghost use Rattle.std.specs.Prelude.{◌≡◌, IfOk, length};
 ghost use Rattle.fold_class.specs.Program.{IsProgram};
 
 use crate::compare::{holds, same};
+use crate::counter::{Counting, counted};
 use crate::fold_programs::{HASH, program_of};
 use crate::one_bucket::exact_rows;
 use epoch_entry::{AnyEpochs, EpochKind};
@@ -12,9 +13,8 @@ use fold_class::FoldProgram;
 use marple_base::{Seq, Steps, Text};
 use query_lang::Class;
 use std::alloc::{AllocError, Global};
-use std::marker::Brand;
 use std::process::Abort;
-use std::sync::ledger::{Blank, Ledger};
+use std::sync::ledger::Ledger;
 use std::test::Fail;
 use switch_core::{Lane, Merged};
 
@@ -99,6 +99,38 @@ fn close<K: EpochKind, const WAYS: usize>(
     lane.close(name, keys, states, Class::Linear, 0)
 }
 
+// The rows of a lane's closed epochs are those that were worked out.
+fn compare_rows<K: EpochKind, const WAYS: usize>(
+    rt: &impl Abort,
+    alloc: Global,
+    lane: &Lane<K, WAYS>,
+) -> Result<(), AllocError>
+    requires { lane.now.cache.key_words ≡ 1 }
+{
+    let table = close(rt, alloc, lane)?;
+    let kind = TableKind::Group(Class::Linear, 0, 4);
+    same(rt, "the kind", table.kind, kind);
+    let rows = exact_rows(rt, alloc, &table)?;
+    // key 1 with lengths 1 and 2, and key 2 with 9 and 0, each in two epochs; merged the other way round, key 1 has 63
+    let expected = [1, 2, 1 * 31 + 2, 2, 2, 9 * 31 + 0];
+    same(rt, "the rows", rows.as_slice(), &expected);
+    Ok(())
+}
+
+// The packets, an eviction after them and the merges of all records, after which the lane has those rows.
+fn make_turns<K: EpochKind, const WAYS: usize, L: Ledger>(
+    rt: &impl Abort,
+    alloc: Global,
+    lane: &mut Lane<K, WAYS>,
+    steps: &mut Steps<L>,
+) -> Result<(), AllocError>
+    requires { lane.old.cache.key_words ≡ 1 }
+{
+    take_turns(rt, lane, steps);
+    merge_all(rt, lane, steps)?;
+    compare_rows(rt, alloc, lane)
+}
+
 // A lane for the entries of a fold's program, with keys of one word, one bucket, and a pipe for four records.
 fn made_lane(
     rt: &impl Abort,
@@ -113,51 +145,17 @@ fn made_lane(
     Lane::new(alloc, kind, 1, 1, 4)
 }
 
-// The rows of a lane after the packets, when all epochs are closed and merged.
-fn rows_after_turns<K: EpochKind, const WAYS: usize, L: Ledger>(
+/// The same of a new lane for a fold that hashes the lengths.
+pub fn compare_turns<L: Ledger>(
     rt: &impl Abort,
     alloc: Global,
-    lane: &mut Lane<K, WAYS>,
     steps: &mut Steps<L>,
-) -> Result<Vec<u64>, Fail>
-    requires { lane.old.cache.key_words ≡ 1 }
-{
-    take_turns(rt, lane, steps);
-    merge_all(rt, lane, steps)?;
-    let table = close(rt, alloc, lane)?;
-    same(
-        rt,
-        "the kind",
-        table.kind,
-        TableKind::Group(Class::Linear, 0, 4),
-    );
-    Ok(exact_rows(rt, alloc, &table)?)
-}
-
-// The same of a new lane for a fold that hashes the lengths.
-fn rows_of_new_lane<L: Ledger>(
-    rt: &impl Abort,
-    alloc: Global,
-    blank: Blank,
-) -> Result<Vec<u64>, Fail>
-    requires name { blank.name ≡ L.name }
-    requires parts { blank.parts ≡ L.parts }
-    requires whole { 0 < blank.parts }
-{
+) -> Result<(), Fail> {
     let mut lane = made_lane(rt, alloc, program_of(alloc, HASH)?)?;
-    let mut steps = Steps::<L>::new(blank);
-    rows_after_turns(rt, alloc, &mut lane, &mut steps)
+    Ok(make_turns(rt, alloc, &mut lane, steps)?)
 }
 
 #[test]
 fn a_lane_merges_the_epochs_of_two_keys(rt: HostRuntime) -> Result<(), Fail> {
-    let rows = rows_of_new_lane::<Brand>(&rt, rt.alloc(), Blank::new(1))?;
-    // key 1 with lengths 1 and 2, and key 2 with 9 and 0, each in two epochs; merged the other way round, key 1 has 63
-    same(
-        &rt,
-        "the rows",
-        rows.as_slice(),
-        &[1, 2, 1 * 31 + 2, 2, 2, 9 * 31 + 0],
-    );
-    Ok(())
+    counted(&rt, rt.alloc(), Counting::Turns)
 }

@@ -1,14 +1,14 @@
 //! A pipe by its own calls: the oldest record is copied, in steps for its words, and goes.
 
-ghost use Rattle.std.specs.Prelude.{◌≡◌, ◌<◌, length};
+ghost use Rattle.std.specs.Prelude.{◌≡◌};
 
 use crate::compare::{holds, same};
+use crate::counter::{Counting, counted};
 use evict_pipe::EvictPipe;
 use marple_base::Steps;
 use std::alloc::Global;
-use std::marker::Brand;
 use std::process::Abort;
-use std::sync::ledger::{Blank, Ledger};
+use std::sync::ledger::Ledger;
 use std::test::Fail;
 
 // Puts a record last, for which there is room.
@@ -54,27 +54,26 @@ fn find_none<L: Ledger>(rt: &impl Abort, pipe: &EvictPipe, steps: &mut Steps<L>)
     same(rt, "no steps", steps.shown(), before);
 }
 
-// Records in turn in a pipe of two places.
-fn in_turn<L: Ledger>(rt: &impl Abort, alloc: Global, blank: Blank) -> Result<(), Fail>
-    requires name { blank.name ≡ L.name }
-    requires parts { blank.parts ≡ L.parts }
-    requires whole { 0 < blank.parts }
-{
+/// Records in turn in a pipe of two places.
+pub fn compare_pipe<L: Ledger>(
+    rt: &impl Abort,
+    alloc: Global,
+    steps: &mut Steps<L>,
+) -> Result<(), Fail> {
     let mut pipe = EvictPipe::new(alloc, 2, 2)?;
-    let mut steps = Steps::<L>::new(blank);
-    find_none(rt, &pipe, &mut steps);
-    push(rt, &mut pipe, 1, &mut steps);
-    push(rt, &mut pipe, 2, &mut steps);
+    find_none(rt, &pipe, steps);
+    push(rt, &mut pipe, 1, steps);
+    push(rt, &mut pipe, 2, steps);
     holds(rt, "there is no room", !pipe.has_room());
-    take(rt, &mut pipe, 1, &mut steps);
-    push(rt, &mut pipe, 3, &mut steps);
-    take(rt, &mut pipe, 2, &mut steps);
-    take(rt, &mut pipe, 3, &mut steps);
-    find_none(rt, &pipe, &mut steps);
+    take(rt, &mut pipe, 1, steps);
+    push(rt, &mut pipe, 3, steps);
+    take(rt, &mut pipe, 2, steps);
+    take(rt, &mut pipe, 3, steps);
+    find_none(rt, &pipe, steps);
     Ok(())
 }
 
 #[test]
 fn the_oldest_record_is_copied_and_goes(rt: HostRuntime) -> Result<(), Fail> {
-    in_turn::<Brand>(&rt, rt.alloc(), Blank::new(1))
+    counted(&rt, rt.alloc(), Counting::Pipe)
 }

@@ -1,6 +1,6 @@
 use Rattle.std.proofs.{Common.{arith}, lemmas.Bool.{leb-true}}
 use Rattle.part_tests.proofs.MapWords.{elements, words}
-use Rattle.part_tests.proofs.folds.compare_step.Goals as goal
+use Rattle.part_tests.proofs.folds.compare_map.Goals as goal
 
 pub overflow_add-words : goal.overflow_add-words
 overflow_add-words g c = omega (arith, leb-true _ _ c.holds.ensures)
