@@ -43,13 +43,15 @@ fn words_of_entries(rt: HostRuntime) -> Result<(), Fail> {
 
 /// A fold of eight variables and sixteen arguments that looks eight rows back.
 const DEEP: &[u8] =
-    b"def deep([a, b, c, d, e, f, g, h], [switch, qid, uid, srcip, dstip, srcport, dstport, proto, pkt_len, payload_len, tcpseq, tin, tout, qsize, x, y]) { h = g; g = f; f = e; e = d; d = c; c = b; b = a; a = tin; }";
+    b"def deep([a, b, c, d, e, f, g, h], [switch, qid, uid, srcip, dstip, srcport, dstport, proto, \
+pkt_len, payload_len, tcpseq, tin, tout, qsize, x, y]) { h = g; g = f; f = e; e = d; d = c; c = b; b = a; a = tin; }";
 /// The same, but for the greatest of what is eight rows back or more.
 const DEEP_MAXIMUM: &[u8] =
-    b"def deep([a, b, c, d, e, f, g, h], [switch, qid, uid, srcip, dstip, srcport, dstport, proto, pkt_len, payload_len, tcpseq, tin, tout, qsize, x, y]) { h = max(h, g); g = f; f = e; e = d; d = c; c = b; b = a; a = tin; }";
+    b"def deep([a, b, c, d, e, f, g, h], [switch, qid, uid, srcip, dstip, srcport, dstport, proto, \
+pkt_len, payload_len, tcpseq, tin, tout, qsize, x, y]) { h = max(h, g); g = f; f = e; e = d; d = c; c = b; b = a; a = tin; }";
 /// Eight keys for the first fold.
-const DEEP_GROUP: &[u8] =
-    b" m = map(pktstream, [x = tin + 1, y = tin + 2]); r = groupby(m, [switch, qid, uid, srcip, dstip, srcport, dstport, proto], deep); print r;";
+const DEEP_GROUP: &[u8] = b" m = map(pktstream, [x = tin + 1, y = tin + 2]); \
+r = groupby(m, [switch, qid, uid, srcip, dstip, srcport, dstport, proto], deep); print r;";
 
 /// What a packet's bound on steps has beside six times the most words of an entry with its key: of one groupby with eight
 /// keys over a fold like those, with one way.
