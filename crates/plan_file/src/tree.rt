@@ -13,6 +13,13 @@ use marple_base::{Boxed, Seq};
 use query_lang::{MAX_ARGS, MAX_STATES, TypedExpr, TypedStmt};
 use std::alloc::{AllocError, Global};
 
+/// Why nothing is read: the tokens write something else, or memory ran out.
+#[derive(Clone, Copy)]
+enum Stop {
+    Other,
+    Memory,
+}
+
 /// The memory that statements take, the number of state variables, and that of slots: them and the arguments.
 #[derive(Clone, Copy)]
 struct Reader {
@@ -23,19 +30,23 @@ struct Reader {
     ghost few: { slots ≤ 24 },
 }
 
-/// Why nothing is read: the tokens write something else, or memory ran out.
-#[derive(Clone, Copy)]
-enum Stop {
-    Other,
-    Memory,
-}
-
 impl From<AllocError> for Stop {
     ghost from_gives = { λ _ stop. stop ≡ Memory };
 
     fn from(_: AllocError) -> Stop {
         Stop::Memory
     }
+}
+
+// What was read, or else the function returns why nothing was: `?` between functions that fail alike, without the two calls that
+// it stands for, each of which is more to prove.
+macro_rules! read {
+    ($reading:expr) => {
+        match $reading {
+            Ok(found) => found,
+            Err(stop) => return Err(stop),
+        }
+    };
 }
 
 fn is_node(word: Lexeme) -> bool
@@ -123,12 +134,12 @@ fn expression<'a>(reader: Reader, words: &'a [Lexeme]) -> Result<(TypedExpr, &'a
     };
     match first {
         Lexeme::Not => {
-            let (inner, past) = expression(reader, rest)?;
+            let (inner, past) = read!(expression(reader, rest));
             Ok((TypedExpr::Not(Boxed::new(reader.alloc, inner)?), past))
         }
         Lexeme::Function(op) => {
-            let (left, middle) = expression(reader, rest)?;
-            let (right, past) = expression(reader, middle)?;
+            let (left, middle) = read!(expression(reader, rest));
+            let (right, past) = read!(expression(reader, middle));
             let left = Boxed::new(reader.alloc, left)?;
             Ok((
                 TypedExpr::Binary(op, left, Boxed::new(reader.alloc, right)?),
@@ -156,7 +167,7 @@ fn assignment<'a>(
     if variable >= reader.states {
         return Err(Stop::Other);
     }
-    let (value, past) = expression(reader, words)?;
+    let (value, past) = read!(expression(reader, words));
     Ok((TypedStmt::Assign(variable as u16, value), past))
 }
 
@@ -180,9 +191,9 @@ fn braced<'a>(reader: Reader, words: &'a [Lexeme]) -> Result<(Seq<TypedStmt>, &'
         → MatchResult result (λ r. (block_of r.0 ≡ b) × (r.1.now ≡ rest)) (λ stop. stop ≡ Memory) }
     ensures shorter { IfOk result (λ r. length r.1.now < length words.now) }
 {
-    let inside = after_brace(words, true)?;
-    let (body, left) = statements(reader, inside)?;
-    let rest = after_brace(left, false)?;
+    let inside = read!(after_brace(words, true));
+    let (body, left) = read!(statements(reader, inside));
+    let rest = read!(after_brace(left, false));
     Ok((body, rest))
 }
 
@@ -196,9 +207,9 @@ fn choice<'a>(reader: Reader, words: &'a [Lexeme]) -> Result<(TypedStmt, &'a [Le
         → MatchResult result (λ r. (stmt_block r.0 ≡ Fork c a b End) × (r.1.now ≡ rest)) (λ stop. stop ≡ Memory) }
     ensures shorter { IfOk result (λ r. length r.1.now < length words.now) }
 {
-    let (condition, rest) = expression(reader, words)?;
-    let (then_block, rest) = braced(reader, rest)?;
-    let (else_block, rest) = braced(reader, rest)?;
+    let (condition, rest) = read!(expression(reader, words));
+    let (then_block, rest) = read!(braced(reader, rest));
+    let (else_block, rest) = read!(braced(reader, rest));
     Ok((TypedStmt::If(condition, then_block, else_block), rest))
 }
 
@@ -238,7 +249,7 @@ fn statements<'a>(
     let mut found = Seq::new(reader.alloc);
     let mut left = words;
     'statements: while begins_statement(left) {
-        let (one, past) = statement(reader, left)?;
+        let (one, past) = read!(statement(reader, left));
         found.push(one)?;
         left = past;
     }

@@ -1,6 +1,5 @@
 -- Tokens written of valid statements give those statements back, a choice by its condition and its two braced blocks.
 use Rattle.std.proofs.Common.{◌≡◌, ◌-◌, true, false, ◌++◌, sym, ap, subst, ◌∙◌, arith}
-use Rattle.std.proofs.lemmas.Result.{err_from_is_err_and}
 use Rattle.query_lang.{specs.Blocks.{End, Fork, block_of}, proofs.TreeLemmas.block_if}
 use Rattle.plan_file.specs.{Bodies.{written, written_block}, Trees.begins_statement}
 use Rattle.plan_file.proofs.TreeFacts.{choice_front, IsLeft, left_last, left_ahead, left_more}
@@ -9,13 +8,13 @@ use Rattle.plan_file.proofs.tree.+statements.Goals as goal
 pub choice-returns-clause-found : goal.choice-returns-clause-found
 choice-returns-clause-found t c t' a b rest vc va vb is =
     let states = c.args.reader.states in
-    let then_block = c.in_ok-then_block.then_block in
-    let else_block = c.in_ok-else_block.else_block in
-    let h1 = c.in_ok-condition.ensures.found t' _ vc
+    let then_block = c.in-Ok-braced.found.0 in
+    let else_block = c.in-Ok-braced-2.found.0 in
+    let h1 = c.in-Ok.ensures.found t' _ vc
     (is ∙ choice_front (written states t') (written_block states a) (written_block states b) rest) in
-    let h2 = c.in_ok-then_block.ensures.found a _ va h1.1 in
-    let h3 = c.in_ok-else_block.ensures.found b rest vb h2.1 in (
-      block_if c.in_ok-condition.condition then_block else_block
+    let h2 = c.in-Ok-braced.ensures.found a _ va h1.1 in
+    let h3 = c.in-Ok-braced-2.ensures.found b rest vb h2.1 in (
+      block_if c.in-Ok.found.0 then_block else_block
           ∙ ap (λ x. Fork x (block_of then_block) (block_of else_block) End) h1.0
           ∙ ap (λ x. Fork t' x (block_of else_block) End) h2.0 ∙ ap (λ x. Fork t' a x End) h3.0,
       h3.1,
@@ -23,27 +22,26 @@ choice-returns-clause-found t c t' a b rest vc va vb is =
 
 pub statements-statements-preserved : goal.statements-statements-preserved
 statements-statements-preserved t c = record {
-  size = omega (arith, c.statements.invariant.size, c.in_ok-one.ensures.shorter);
+  size = omega (arith, c.statements.invariant.size, c.in-Ok.ensures.shorter);
   goes = λ b rest closes v is.
       let states = c.args.reader.states in
       let args = c.args.reader.slots - c.args.reader.states in
       let left = c.statements.invariant.goes b rest closes v is in
       let test : begins_statement c.statements.left.now ≡ true = sym c.begins_statement.ensures ∙ c.statements-test.true in
       let a = left_ahead states args c.statements.found c.statements.left.now b rest closes test left in
-      let h = c.in_ok-one.ensures.found a.one (written_block states a.next ++ rest) a.is_one a.valid_one a.left_is in
-      subst (λ found. IsLeft states args found c.in_ok-one.past.now b rest) (sym c.in_ok-push.ensures.ok)
-      (left_more states args c.statements.found c.statements.left.now c.in_ok-one.past.now c.in_ok-one.one b rest a h.0 h.1);
+      let h = c.in-Ok.ensures.found a.one (written_block states a.next ++ rest) a.is_one a.valid_one a.left_is in
+      subst (λ found. IsLeft states args found c.in-Ok.found.1.now b rest) (sym c.in_ok-push.ensures.ok)
+      (left_more states args c.statements.found c.statements.left.now c.in-Ok.found.1.now c.in-Ok.found.0 b rest a h.0 h.1);
 }
 
-pub statements-returns-in_err-one-clause-found : goal.statements-returns-in_err-one-clause-found
-statements-returns-in_err-one-clause-found t c b rest closes v is =
+pub statements-returns-in-Err-clause-found : goal.statements-returns-in-Err-clause-found
+statements-returns-in-Err-clause-found t c b rest closes v is =
     let states = c.args.reader.states in
     let args = c.args.reader.slots - c.args.reader.states in
     let left = c.statements.invariant.goes b rest closes v is in
     let test : begins_statement c.statements.left.now ≡ true = sym c.begins_statement.ensures ∙ c.statements-test.true in
     let a = left_ahead states args c.statements.found c.statements.left.now b rest closes test left in
-    let p = err_from_is_err_and c.from_residual.result c.from_residual.ensures.1 in
-    rw (p.1, p.2) (c.in_err-one.ensures.found a.one (written_block states a.next ++ rest) a.is_one a.valid_one a.left_is)
+    c.in-Err.ensures.found a.one (written_block states a.next ++ rest) a.is_one a.valid_one a.left_is
 
 pub statements-returns-clause-found : goal.statements-returns-clause-found
 statements-returns-clause-found t c b rest closes v is =
