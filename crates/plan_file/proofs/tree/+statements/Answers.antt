@@ -1,9 +1,51 @@
 -- Tokens written of valid statements give those statements back, a choice by its condition and its two braced blocks.
-use Rattle.std.proofs.Common.{◌≡◌, ◌-◌, true, false, ◌++◌, sym, ap, subst, ◌∙◌, arith}
+use Rattle.std.proofs.Common.{◌≡◌, ◌-◌, true, false, List, ◌∷◌, ◌++◌, sym, ap, subst, ◌∙◌, arith}
 use Rattle.query_lang.{specs.Blocks.{End, Fork, block_of}, proofs.TreeLemmas.block_if}
-use Rattle.plan_file.specs.{Bodies.{written, written_block}, Trees.begins_statement}
+use Rattle.plan_file.specs.{Bodies.{written, written_block}, Trees.{begins_statement, brace}, declared.lexemes.Lexeme.Lexeme}
 use Rattle.plan_file.proofs.TreeFacts.{choice_front, IsLeft, left_last, left_ahead, left_more}
 use Rattle.plan_file.proofs.tree.+statements.Goals as goal
+
+-- what the tokens after the first brace are, where tokens written of a block in its braces come first
+inside : {first left : List Lexeme} (more rest : List Lexeme) → first ≡ brace true ∷ left
+    → first ≡ brace true ∷ (more ++ brace false ∷ rest) → left ≡ more ++ brace false ∷ rest
+inside more rest e is = cc
+
+pub braced-returns-in-Err-clause-found : goal.braced-returns-in-Err-clause-found
+braced-returns-in-Err-clause-found t c b rest valid is = absurd (c.in-Err.ensures _ is)
+
+pub braced-returns-in-Err-statements-clause-found : goal.braced-returns-in-Err-statements-clause-found
+braced-returns-in-Err-statements-clause-found t c b rest valid is =
+    c.in-Err-statements.ensures.found b (brace false ∷ rest) tt valid (inside _ rest c.in-Ok.ensures is)
+
+pub braced-returns-in-Err-after_brace-clause-found : goal.braced-returns-in-Err-after_brace-clause-found
+braced-returns-in-Err-after_brace-clause-found t c b rest valid is =
+    let h = c.in-Ok-statements.ensures.found b (brace false ∷ rest) tt valid (inside _ rest c.in-Ok.ensures is) in
+    absurd (c.in-Err-after_brace.ensures _ h.1)
+
+pub braced-returns-clause-found : goal.braced-returns-clause-found
+braced-returns-clause-found t c b rest valid is =
+    let h = c.in-Ok-statements.ensures.found b (brace false ∷ rest) tt valid (inside _ rest c.in-Ok.ensures is) in
+    (h.0, cc (h.1, c.in-Ok-after_brace.ensures))
+
+pub choice-returns-in-Err-clause-found : goal.choice-returns-in-Err-clause-found
+choice-returns-in-Err-clause-found t c t' a b rest vc va vb is =
+    let states = c.args.reader.states in
+    c.in-Err.ensures.found t' _ vc (is ∙ choice_front (written states t') (written_block states a) (written_block states b) rest)
+
+pub choice-returns-in-Err-braced-clause-found : goal.choice-returns-in-Err-braced-clause-found
+choice-returns-in-Err-braced-clause-found t c t' a b rest vc va vb is =
+    let states = c.args.reader.states in
+    let h1 = c.in-Ok.ensures.found t' _ vc
+    (is ∙ choice_front (written states t') (written_block states a) (written_block states b) rest) in
+    c.in-Err-braced.ensures.found a _ va h1.1
+
+pub choice-returns-in-Err-braced-2-clause-found : goal.choice-returns-in-Err-braced-2-clause-found
+choice-returns-in-Err-braced-2-clause-found t c t' a b rest vc va vb is =
+    let states = c.args.reader.states in
+    let h1 = c.in-Ok.ensures.found t' _ vc
+    (is ∙ choice_front (written states t') (written_block states a) (written_block states b) rest) in
+    let h2 = c.in-Ok-braced.ensures.found a _ va h1.1 in
+    c.in-Err-braced-2.ensures.found b rest vb h2.1
 
 pub choice-returns-clause-found : goal.choice-returns-clause-found
 choice-returns-clause-found t c t' a b rest vc va vb is =
