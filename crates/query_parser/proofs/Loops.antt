@@ -2,7 +2,7 @@
 use Rattle.std.proofs.Common.{◌≡◌, ℕ, zero, suc, ◌+◌, ◌-◌, ◌<◌, ◌≤◌, Bool, true, false, List, [], ◌∷◌, ◌++◌, refl, sym, ap, ◌∙◌, arith}
 use Rattle.std.proofs.Common.{append_assoc, inl, inr, ◌⊎◌}
 use Rattle.query_lang.specs.declared.{token.Token.Token, fault.Span.Span, query.Expr.Expr}
-use Rattle.query_grammar.specs.{declared.stop.Counts.Counts, Grammar.negated}
+use Rattle.query_grammar.specs.{declared.stop.{Counts.Counts, Stop.Stop}, Grammar.negated}
 use Rattle.query_grammar.specs.Parser.{Outcome, Done, Stopped, Parser, and_then, next_is, turns}
 use Rattle.query_parser.specs.{declared.{halt.Halt.Halt, reader.Reader.Reader}, Reads.{Fails, StopsAt}}
 use Rattle.query_lang.specs.declared.query.Expr.TheVariants as exprs
@@ -52,6 +52,17 @@ module _ {A B : Type 0} (starts : Token → Bool) (p : Parser A) (total : Outcom
 pub stops_fails : {A : Type 0} (x : Halt) (to : Reader) (o : Outcome A) → StopsAt x to o → Fails x to o
 stops_fails halts.Memory to o h = tt
 stops_fails (halts.At x) to o h = h
+
+-- what fails as a part of it does
+module _ {A B : Type 0} (part : Outcome A) (whole : Outcome B) (all : (k : Stop) (rest : List Token) → part ≡ Stopped k rest
+    → whole ≡ Stopped k rest) where
+  pub fails_in : (x : Halt) (to : Reader) → Fails x to part → Fails x to whole
+  fails_in halts.Memory to h = tt
+  fails_in (halts.At k) to h = all k to.rest.now h
+
+  pub stops_in : (x : Halt) (to : Reader) → StopsAt x to part → Fails x to whole
+  stops_in halts.Memory to h = tt
+  stops_in (halts.At k) to h = all k to.rest.now h
 
 -- more of a list
 module _ {A : Type 0} (starts : Token → Bool) (p : Parser A) (total : Outcome (List A)) where
