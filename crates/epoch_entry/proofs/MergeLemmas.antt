@@ -3,12 +3,15 @@ use Rattle.std.proofs.Common.{◌≡◌, ◌≢◌, ℕ, ◌<◌, ◌≤◌, Boo
 use Rattle.std.{proofs.{Common.arith, lemmas.List.{take_all, ext_get_or}}, specs.Prelude.fold}
 use Rattle.query_lang.specs.{declared.fold.TypedFold.TypedFold, Words.AreWords, Folds.{folded, fold_states}}
 use Rattle.epoch_model.specs.Keys.{ArgRow}
-use Rattle.coeff_algebra.specs.{Elements.Elements, Maps.{map_apply, table_of}}
+use Rattle.coeff_algebra.specs.{Elements.{Elements, ElementLaws}, Maps.{map_apply, table_of}}
 use Rattle.fold_code.specs.Meaning.{code_step}
 use Rattle.fold_class.specs.{declared.program.FoldProgram.FoldProgram, Depth.is_history, Step.{places, dimension, linear_places, words_at}}
-use Rattle.fold_class.{specs.Program.IsProgramOf, proofs.{PlaceLemmas.{map_at, place_at, places_less}, LawLemmas.forgets}}
-use Rattle.epoch_entry.specs.{Entries.{linear_rank, logged_rows, PartsStand}, Shape.IsShaped, Absorbing.IsCarried}
+use Rattle.fold_class.specs.{Program.IsProgramOf, Translations.translated}
+use Rattle.fold_class.proofs.{PlaceLemmas.{map_at, place_at, places_less}, LawLemmas.forgets}
+use Rattle.epoch_entry.specs.{Entries.{linear_rank, logged_rows, PartsStand, WritesInto}, Shape.IsShaped, Absorbing.IsCarried}
+use Rattle.epoch_entry.specs.Identity.{unit_at}
 use Rattle.epoch_entry.proofs.{FoldLemmas.{length-folded, code_folds}, EntryLemmas.{dimension_is, logged_count}}
+use Rattle.epoch_entry.proofs.{MapFacts.place_word, MoverLemmas.{moved_add, mover_moves}}
 
 module _ {C : Type 0} (k : Elements C) (from_words : List ℕ → C) (size : ℕ) (p : FoldProgram) (count : ℕ) (log history map' : List ℕ)
     (rows : List ArgRow) (st : PartsStand k from_words size p count log history map' rows)
@@ -116,3 +119,25 @@ carried_of k from_words size p history map' state first last x y places others s
 
     apart : (j i : ℕ) → j < length others → i < length p.layout.linear → slice_index others j ≢ slice_index p.layout.linear i
     apart = rw eo shape.apart
+
+-- a state whose linear variables moved by the last column of a map that is the identity beside it
+pub added_carries : {C : Type 0} {is_element : C → Type 0} {k : Elements C} → ElementLaws is_element k → (from_words : List ℕ → C)
+    (size : ℕ) (p : FoldProgram) (history map' state added : List ℕ) → WritesInto k from_words size p → length p.layout.history ≡ 0
+    → AreWords state → ((i j : ℕ) → i < linear_rank p → j < linear_rank p
+    → table_of from_words size (linear_rank p) map' i j ≡ unit_at k i j) →
+    ((i : ℕ) → i < linear_rank p → slice_index added (slice_index p.layout.linear i)
+    ≡ k.to_word (k.add (k.embed (slice_index state (slice_index p.layout.linear i)))
+    (table_of from_words size (linear_rank p) map' i (linear_rank p))))
+    → IsCarried k from_words size p history map' state added
+added_carries {k = k} laws from_words size p history map' state added writes alone words unit moved =
+    let n = linear_rank p in
+    let T = table_of from_words size n map' in
+    let column : ℕ → ℕ = λ i. k.to_word (T i n) in record {
+      linear = λ i lt.
+          moved i lt
+          ∙ moved_add laws p.algebra writes.algebra writes.zero_word p.algebra writes.algebra _ _
+          ∙ ap (λ x. translated p.algebra x (column i)) (laws.to_word-embed _ ∙ sym (map_at _ _ i lt))
+          ∙ sym (mover_moves laws p.algebra writes.algebra writes.zero_word n column T (record { unit = unit; constants = λ j less. refl })
+          _ (place_word state p.layout.linear words) i lt);
+      remembered = λ i lt. absurd (omega (arith, lt, alone));
+    }

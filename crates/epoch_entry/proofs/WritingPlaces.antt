@@ -19,3 +19,10 @@ others_stay places state first r w before v apart =
     let here = apart r (omega arith) in
     let ne : v ≢ slice_index places r = λ e. here (sym e) in
     get_or-set_other state (slice_index places r) v w 0 ne ∙ before v (λ i h. apart i (omega arith))
+
+-- the next word is as at first
+pub next_stays : (places state first : List ℕ) (r : ℕ) → IsAscending places → r < length places
+    → ((v : ℕ) → ((i : ℕ) → i < r → slice_index places i ≢ v) → slice_index state v ≡ slice_index first v)
+    → slice_index state (slice_index places r) ≡ slice_index first (slice_index places r)
+next_stays places state first r up within kept = kept (slice_index places r) (λ i h.
+    let lower = up i r h within in let ne : slice_index places i ≢ slice_index places r = omega arith in ne)

@@ -34,6 +34,33 @@ pub(crate) fn column_to_state<C: Coeff, L: Ledger>(
     }
 }
 
+// Adds the elements of the column to the linear variables of a state. The other variables stay.
+pub(crate) fn add_column<C: Coeff, L: Ledger>(
+    linear: &[u8],
+    map: &[u64],
+    state: &mut [u64],
+    steps: &mut Steps<L>,
+)
+    requires map { length map.now ≡ length linear.now * (length linear.now + 1) * C.WORDS }
+    requires few { length linear.now ≤ MAX_STATES }
+    requires inside { All (λ v. v < length state.old) linear.now }
+    requires ascending { IsAscending linear.now }
+    ensures added { (i : ℕ) → i < length linear.now → slice_index state.new (slice_index linear.now i)
+        ≡ C.elements.to_word (C.elements.add (C.elements.embed (slice_index state.old (slice_index linear.now i)))
+        (table_of C.from_words C.WORDS (length linear.now) map.now i (length linear.now))) }
+    ensures others { (v : ℕ) → ((i : ℕ) → i < length linear.now → slice_index linear.now i ≢ v)
+        → slice_index state.new v ≡ slice_index state.old v }
+    ensures steps { steps.new ≡ steps.old + length linear.now }
+{
+    let dimension = linear.len();
+    for (row, v) in linear.iter().enumerate() {
+        let addend: C = load_at(map, row * (dimension + 1) + dimension);
+        let before: C = C::embed(state[*v as usize]);
+        state[*v as usize] = before.add(addend).to_word();
+        steps.tick();
+    }
+}
+
 // Writes the linear variables of a state into the column. The other columns stay.
 pub(crate) fn state_to_column<C: Coeff, L: Ledger>(
     linear: &[u8],
