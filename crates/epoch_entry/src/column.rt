@@ -57,8 +57,8 @@ pub(crate) fn add_column<C: Coeff, L: Ledger>(
         let addend: C = load_at(map, row * (dimension + 1) + dimension);
         let before: C = C::embed(state[*v as usize]);
         state[*v as usize] = before.add(addend).to_word();
-        steps.tick();
     }
+    steps.tick_many(dimension as u64);
 }
 
 // Writes the linear variables of a state into the column. The other columns stay.

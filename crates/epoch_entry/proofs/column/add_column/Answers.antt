@@ -1,11 +1,8 @@
 -- Each variable so far has moved by its row's last element, and the next one, whose place comes after theirs, stands as at first.
-use Rattle.std.proofs.{Common.{◌≡◌, ℕ, arith, ◌+◌, ◌<◌, length, slice_index}, Math.Nat.le_refl}
+use Rattle.std.proofs.{Common.{◌≡◌, ℕ, ◌<◌, length, slice_index}, Math.Nat.le_refl}
 use Rattle.coeff_algebra.{specs.Elements.Elements, proofs.PlaceLemmas.entry_inside}
 use Rattle.epoch_entry.proofs.WritingPlaces.{next_stays, next_written, others_stay}
 use Rattle.epoch_entry.proofs.column.add_column.Goals as goal
-
-one_more : (first steps more r : ℕ) → steps ≡ first + r → more ≡ steps + 1 → more ≡ first + (r + 1)
-one_more first steps more r e h = omega arith
 
 sum_word : {C : Type 0} (k : Elements C) (sum before addend stored : C) (w v first : ℕ) → w ≡ k.to_word sum → sum ≡ k.add before addend
     → before ≡ k.embed v → v ≡ first → addend ≡ stored → w ≡ k.to_word (k.add (k.embed first) stored)
@@ -32,5 +29,4 @@ loop-row-preserved g c =
           (sum_word m.elements _ _ _ _ _ _ _ c.to_word.ensures c.add.ensures c.embed-before.ensures
           (next_stays _ _ _ row c.requires.ascending within c.loop-row.invariant.others) c.load_at-addend.ensures);
       others = others_stay _ _ _ _ _ c.loop-row.invariant.others;
-      steps = one_more _ _ _ _ c.loop-row.invariant.steps c.tick.ensures;
     }

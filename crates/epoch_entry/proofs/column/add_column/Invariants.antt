@@ -1,4 +1,4 @@
-use Rattle.std.proofs.Common.{◌≡◌, ◌≢◌, ℕ, ◌+◌, ◌<◌, length, slice_index}
+use Rattle.std.proofs.Common.{◌≡◌, ◌≢◌, ℕ, ◌<◌, length, slice_index}
 use Rattle.coeff_algebra.specs.Maps.{table_of}
 use Rattle.epoch_entry.proofs.column.add_column.Given as goal
 
@@ -8,5 +8,4 @@ invariant-loop-row g l = let m = g.C.Coeff in let n = length l.linear in record 
       (m.elements.add (m.elements.embed (slice_index l.initial.state (slice_index l.linear i)))
       (table_of m.from_words m.WORDS n l.map i n));
   others : (v : ℕ) → ((i : ℕ) → i < l.row → slice_index l.linear i ≢ v) → slice_index l.state v ≡ slice_index l.initial.state v;
-  steps : l.steps ≡ l.initial.steps + l.row;
 }
