@@ -6,8 +6,8 @@ use Rattle.query_lang.specs.{Blocks.{Block, End, Set, Fork}, Folds.{fold_states,
 use Rattle.fold_code.specs.{Machine.{Domain, at}, Tree.{term_in, after_in}}
 use Rattle.coeff_algebra.specs.Elements.{Elements}
 use Rattle.fold_class.specs.{declared.class.Algebra.Algebra, Kinds.{Role, Sum, Difference, Product, Outside, role}, Depth.is_history}
-use Rattle.fold_class.specs.Parts.{Part, Fixed, Share, Lost, parts, part_operation, share_operation, part_negation, part_test, part_mask, part_choice}
-use Rattle.fold_class.specs.Parts.{row_shares, column_shares}
+use Rattle.fold_class.specs.Parts.{Part, Fixed, Share, Lost, parts, part_operation, share_operation, part_negation, part_test, part_mask}
+use Rattle.fold_class.specs.Parts.{part_choice, row_shares, column_shares}
 use Rattle.fold_class.specs.Step.{list_of, rank, dimension, first_row, step_rows, first_column, step_column}
 
 abbrev pub column_of : {C : Type 0} → ℕ → Part (ℕ → C) → Part C
@@ -30,7 +30,8 @@ module _ {C : Type 0} (k : Elements C) (n : ℕ) (algebra : Algebra) (c : ℕ) w
   abbrev col : Part (ℕ → C) → Part C
   col = column_of c
 
-  shares_column : (r : Role) (d e : ℕ → C) (product : Part (ℕ → C)) → col (share_operation (row_shares k n).sum (row_shares k n).scale r d e product)
+  shares_column : (r : Role) (d e : ℕ → C) (product : Part (ℕ → C))
+      → col (share_operation (row_shares k n).sum (row_shares k n).scale r d e product)
       ≡ share_operation (column_shares k n c).sum (column_shares k n c).scale r (d c) (e c) (col product)
   shares_column Sum d e product = refl
   shares_column Difference d e product = refl

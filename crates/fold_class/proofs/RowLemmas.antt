@@ -5,8 +5,8 @@ use Rattle.std.proofs.lemmas.List.{drop_more}
 use Rattle.coeff_algebra.{proofs.PlaceLemmas.one_less, specs.{Elements.Elements, Maps.stored_entry}}
 use Rattle.fold_code.specs.{declared.instr.Instr.Instr, Machine.{at, run_code}}
 use Rattle.fold_class.specs.{Parts.{Part, Fixed, parts, column_shares}, Step.{list_of, share_of}}
-use Rattle.fold_class.{specs.Rows.{Origin, Rows, rows_dimension, first_part, column_after, entry_of, fixed_word}, proofs.StepLemmas.list_of_at}
-use Rattle.fold_class.proofs.StoredLemmas.{list_more}
+use Rattle.fold_class.specs.Rows.{Origin, Rows, rows_dimension, first_part, column_after, entry_of, fixed_word}
+use Rattle.fold_class.proofs.{StepLemmas.list_of_at, StoredLemmas.list_more}
 
 -- one more variable has its part
 pub start_more : {A B : Type 0} (g : A → B) (xs : List A) (v : ℕ) (d : A) (P P' : ℕ → B) (x : B) (all : List B) → v < length xs

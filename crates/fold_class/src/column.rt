@@ -3,8 +3,8 @@
 ghost use Rattle.std.specs.Prelude.{◌≡◌, ◌≢◌, ℕ, ◌+◌, ◌*◌, ◌<◌, ◌≤◌, [], ◌∷◌, ◌++◌, map, length};
 ghost use Rattle.query_lang.specs.Words.{op_value};
 ghost use Rattle.fold_code.specs.Machine.{Fits, AllFit, instr_value, vars_after, run_code, instr_steps, steps_of};
-ghost use Rattle.fold_class.specs.{Kinds.role, Parts.{parts, part_operation, share_operation, part_negation, part_mask, part_choice, column_shares}};
-ghost use Rattle.fold_class.specs.{Step.list_of, Stored.{part_of, part_at, IfKeeps}};
+ghost use Rattle.fold_class.specs.Parts.{parts, part_operation, share_operation, part_negation, part_mask, part_choice, column_shares};
+ghost use Rattle.fold_class.specs.{Kinds.role, Step.list_of, Stored.{part_of, part_at, IfKeeps}};
 
 use crate::class::{Algebra, Role};
 use crate::operators::Operators;

@@ -30,7 +30,8 @@ module _ (instrs : List Instr) (number : ℕ) (d : Instr) (within : number < len
       (ap (λ is. run_code dom is args (list_of states before) (list_of number (λ i. before (states + i))))
       (sym (drop_more instrs number d within)) ∙ so)
 
-  fits_more : (states args : ℕ) → AllFit states args number (drop number instrs) → AllFit states args (number + 1) (drop (number + 1) instrs)
+  fits_more : (states args : ℕ) → AllFit states args number (drop number instrs)
+      → AllFit states args (number + 1) (drop (number + 1) instrs)
   fits_more states args fits = (subst (AllFit states args number) (drop_more instrs number d within) fits).1
 
   steps_more : (steps steps' whole : ℕ) → steps' ≡ steps + instr_steps instr → steps + steps_of (drop number instrs) ≡ whole

@@ -1,3 +1,4 @@
+-- A place that is written has the word of its variable, and the writes after it are to other places.
 use Rattle.std.proofs.Common.{◌≢◌, ap, ◌∙◌, arith, below_more, get_or-set_same, get_or-set_other}
 use Rattle.fold_class.specs.Rows.{fixed_word}
 use Rattle.fold_class.proofs.rows.write_history.Goals as goal

@@ -1,3 +1,4 @@
+-- The kinds so far, and what the statements that are left make of them, are those after the block.
 use Rattle.std.proofs.Common.{◌∙◌, refl}
 use Rattle.fold_class.proofs.WalkLemmas.{walks_kinds, next_below, goes_on, ends}
 use Rattle.fold_class.proofs.walk.walk_block.Goals as goal
