@@ -1,5 +1,6 @@
 -- The ways so far have other keys, so the first that has the same is where the key is, and else no way has it.
-use Rattle.std.proofs.{Common.{◌≡◌, ◌+◌, ◌*◌, ◌<◌, ◌≤◌, ℕ, [], length, get_or, false, ap, sym, ◌∙◌, arith, ⊎_elim, subst, refl}, lemmas.Bool.cases_eq}
+use Rattle.std.proofs.Common.{◌≡◌, ◌+◌, ◌*◌, ◌<◌, ◌≤◌, ℕ, [], length, get_or, false, ap, sym, ◌∙◌, arith, ⊎_elim, subst, refl}
+use Rattle.std.proofs.lemmas.Bool.{cases_eq}
 use Rattle.epoch_model.specs.Keys.{key_eq}
 use Rattle.bucket_cache.{specs.Slices.rows_of, proofs.FlatRows.{row_fits, row_width, get-rows_of}}
 use Rattle.bucket_cache.proofs.ways.find_key.Goals as goal

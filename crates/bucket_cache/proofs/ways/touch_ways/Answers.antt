@@ -1,7 +1,7 @@
 -- A hit goes to the front; a key that no way has takes a free way, and where there is none the last way is the least recent.
 use Rattle.std.proofs.Common.{◌≡◌, ◌-◌, ◌∙◌, false, length, take, get_or, set, ap, refl, subst, arith}
-use Rattle.bucket_cache.{specs.{Slices.rows_of, Buckets.{has_key, pairs_at}}, proofs.BucketLists.{hit-has, hit-place, hit-pairs, hit-bucket}}
-use Rattle.bucket_cache.proofs.BucketLists.{none-in-front, free-pairs, free-bucket, least-pair, few-pairs, other-first}
+use Rattle.bucket_cache.{specs.{Slices.rows_of, Buckets.{has_key, pairs_at}}, proofs.BucketLists.{hit-has, hit-place, hit-pairs}}
+use Rattle.bucket_cache.proofs.BucketLists.{hit-bucket, none-in-front, free-pairs, free-bucket, least-pair, few-pairs, other-first}
 use Rattle.bucket_cache.proofs.ways.touch_ways.Goals as goal
 use Rattle.bucket_cache.proofs.ways.touch_ways.Goals.{After-put-way, In-None}
 
