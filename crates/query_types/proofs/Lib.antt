@@ -1,3 +1,4 @@
+pub mod AnySteps
 pub mod ApartLaws
 pub mod BodyLaws
 pub mod CheckLemmas

@@ -103,15 +103,24 @@ fn is_same_origin(left: Origin, right: Origin) -> bool
 fn column_clashes(left: &[StreamColumn], column: StreamColumn) -> bool
     ensures { result ≡ clashes_with left.now column }
 {
-    left.iter().any(|other| other.name == column.name
-        && !is_same_origin(other.origin, column.origin))
+    for other in left {
+        if other.name == column.name && !is_same_origin(other.origin, column.origin) {
+            return true;
+        }
+    }
+    false
 }
 
 /// Have both sides of a `zip` a column of one name that isn't the same column?
 pub fn columns_clash(left: &[StreamColumn], right: &[StreamColumn]) -> bool
     ensures { result ≡ clash left.now right.now }
 {
-    right.iter().any(|column| column_clashes(left, *column))
+    for column in right {
+        if column_clashes(left, *column) {
+            return true;
+        }
+    }
+    false
 }
 
 /// The slots of the columns that aren't among these names.

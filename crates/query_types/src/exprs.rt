@@ -23,7 +23,12 @@ pub fn has_name(names: &[u32], id: u32) -> bool
 pub fn has_common(names: &[u32], others: &[u32]) -> bool
     ensures { result ≡ list_any (λ name. is_among name others.now) names.now }
 {
-    names.iter().any(|name| has_name(others, *name))
+    for name in names {
+        if has_name(others, *name) {
+            return true;
+        }
+    }
+    false
 }
 
 /// The name's place among these.
