@@ -22,8 +22,8 @@ module _ {X : Type 0} (f : X → ℕ) (xs : List X) (i : ℕ) where
       → (n + m) + sum_by f (drop (i + 1) xs) ≡ all
   item_counted n h is so e = omega (arith, item_first h is, so, e)
 
-  pub item_fits : {x : X} (n : ℕ) {m all most : ℕ} → i < length xs → x ≡ get_or xs i x → n + sum_by f (drop i xs) ≡ all → m ≡ f x → all < most
-      → n + m < most
+  pub item_fits : {x : X} (n : ℕ) {m all most : ℕ} → i < length xs → x ≡ get_or xs i x → n + sum_by f (drop i xs) ≡ all → m ≡ f x
+      → all < most → n + m < most
   item_fits n h is so e lt = omega (arith, item_first h is, so, e, lt)
 
   -- the greatest of those before, this one and those after

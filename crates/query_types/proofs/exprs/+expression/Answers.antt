@@ -40,7 +40,8 @@ check_expr-returns-in-Binary-clause-given t c =
 
 pub check_expr-returns-in-Binary-clause-numbers : goal.check_expr-returns-in-Binary-clause-numbers
 check_expr-returns-in-Binary-clause-numbers t c =
-    if_ok_so _ (λ n. binary_number c.in-Binary.is c.get-in-Binary.ensures c.get-in-Binary-2.ensures n.0 n.1) c.check_operation.ensures.numbers
+    if_ok_so _ (λ n. binary_number c.in-Binary.is c.get-in-Binary.ensures c.get-in-Binary-2.ensures n.0 n.1)
+    c.check_operation.ensures.numbers
 
 pub check_operation-check_expr-requires : goal.check_operation-check_expr-requires
 check_operation-check_expr-requires t c = (omega (arith, c.decreases), c.requires)

@@ -19,7 +19,7 @@ count_nodes-requires-in-Binary-2 t c =
 pub count_nodes-all-requires : goal.count_nodes-all-requires
 count_nodes-all-requires t c =
     let n = nodes_call c.in-Call.is c.as_slice-argument-items.ensures in
-    let m = item_within expr_nodes c.as_slice-argument-items.result.now c.arguments.argument-index c.arguments-test.true c.argument-item.is in
+    let m = item_within expr_nodes _ c.arguments.argument-index c.arguments-test.true c.argument-item.is in
     (omega (arith, n, m, c.decreases), omega (arith, n, m, c.requires))
 
 pub overflow_add-all : goal.overflow_add-all
