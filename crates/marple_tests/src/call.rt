@@ -1,12 +1,17 @@
-//! One call of the program over inputs and sinks in memory.
+//! One call of the program over inputs and sinks in memory, and below it what is called and calls that fail.
+
+mod calls;
+mod count_calls;
+pub mod realistic;
+pub mod sources;
 
 ghost use Rattle.std.specs.Prelude.{◌≡◌, ◌<◌, IfOk};
 ghost use Rattle.marple_base.specs.{Inputs.IsClosed, MemoryInputs.memory_input, declared.inputs.Which.TheVariants.{Query, Trace}};
 
-use crate::compare::compare;
 use marple_base::{FailAt, Inputs, MemoryInputs, MemorySink, Seq, Steps, Text, Which};
 use marple_cli::{Driven, Status, marple};
 use std::alloc::{AllocError, Global};
+use std::fmt::Debug;
 use std::marker::Brand;
 use std::process::Abort;
 use std::sync::ledger::{Blank, Ledger};
@@ -190,6 +195,11 @@ pub fn called(alloc: Global, line: &str, outside: &Outside<'_>) -> Result<Told, 
     let told = called_after(alloc, line, outside, &mut driven);
     drop(driven);
     told
+}
+
+/// Ends the test unless what was found is what was wanted.
+pub fn compare<T: Copy + Debug + PartialEq>(rt: &impl Abort, found: T, wanted: T, what: &str) {
+    assert_eq!(rt; found, wanted, "{what}");
 }
 
 /// Calls the program with the words of a line, of which this is seen.

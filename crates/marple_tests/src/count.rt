@@ -2,9 +2,8 @@
 
 ghost use Rattle.std.specs.Prelude.{◌≡◌, ◌<◌, length};
 
-use crate::call::{Outside, called};
-use crate::compare::compare;
-use crate::sources::{COUNT, QUERY, RUN, SOURCES};
+use crate::call::sources::{COUNT, QUERY, RUN, SOURCES};
+use crate::call::{Outside, called, compare};
 use accepted_query::accept;
 use epoch_entry::Entries;
 use marple_base::{FIELDS, Field, Packet, Steps};

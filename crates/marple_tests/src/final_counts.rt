@@ -6,10 +6,9 @@
 //! more for each value that is copied before, and a `groupby` the steps of its fold's body. A `top` takes two for the rank of
 //! each row, and four for its two comparisons.
 
-use crate::call::Outside;
-use crate::compare::compare;
+use crate::call::sources::COUNT;
+use crate::call::{Outside, compare};
 use crate::count::steps_of;
-use crate::sources::COUNT;
 use marple_base::Text;
 use std::alloc::{AllocError, Global};
 use std::process::Abort;

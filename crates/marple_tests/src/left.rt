@@ -1,9 +1,8 @@
 //! The pipeline that a run leaves.
 
-use crate::call::{Seen, called_after};
-use crate::compare::compare;
+use crate::call::sources::{COUNT, ROWS, RUN, WHOLE};
+use crate::call::{Seen, called_after, compare};
 use crate::count::compare_lanes;
-use crate::sources::{COUNT, ROWS, RUN, WHOLE};
 use final_queries::Table;
 use marple_cli::{Driven, Status};
 use std::alloc::{AllocError, Global};

@@ -4,18 +4,8 @@
 #[cfg(test)]
 mod call;
 #[cfg(test)]
-mod calls;
-#[cfg(test)]
-mod compare;
-#[cfg(test)]
 mod count;
-#[cfg(test)]
-mod count_calls;
 #[cfg(test)]
 mod final_counts;
 #[cfg(test)]
 mod left;
-#[cfg(test)]
-mod realistic;
-#[cfg(test)]
-mod sources;

@@ -258,7 +258,8 @@ fn refuses_a_query(rt: HostRuntime) -> Result<(), AllocError> {
 
 /// A query by no field of which a trace may be split.
 const TWO_KEYS: &[u8] =
-    b"def count([c],[]) { c = c + 1; }\na = groupby(pktstream, [srcip], count);\nb = groupby(pktstream, [dstip], count);\nprint a;\nprint b;\n";
+    b"def count([c],[]) { c = c + 1; }\na = groupby(pktstream, [srcip], count);\nb = groupby(pktstream, [dstip], count);\n\
+print a;\nprint b;\n";
 
 #[test]
 fn needs_a_field(rt: HostRuntime) -> Result<(), AllocError> {

@@ -36,7 +36,12 @@ fn compare_piece(
 fn says_what_a_refused_query_is(rt: HostRuntime) -> Result<(), AllocError> {
     let wanted = Seen {
         status: ToolStatus::Ok,
-        written: b"{\"fault\":{\"columns\":[],\"end\":7,\"expected\":[],\"item\":0,\"kind\":\"UnknownName\",\"limit\":null,\"missing\":[],\"most\":null,\"names\":[],\"place\":\"printed\",\"start\":6},\"fields\":[\"switch\",\"qid\",\"uid\",\"srcip\",\"dstip\",\"srcport\",\"dstport\",\"proto\",\"pkt_len\",\"payload_len\",\"tcpseq\",\"tin\",\"tout\",\"qsize\"],\"items\":[{\"end\":8,\"kind\":\"print\",\"name\":\"x\",\"name_start\":6,\"operator\":\"print\",\"start\":0}],\"marple_facts\":1}\n",
+        written: b"{\"fault\":{\"columns\":[],\"end\":7,\"expected\":[],\"item\":0,\"kind\":\"UnknownName\",\
+            \"limit\":null,\"missing\":[],\"most\":null,\"names\":[],\"place\":\"printed\",\"start\":6},\
+            \"fields\":[\"switch\",\"qid\",\"uid\",\"srcip\",\"dstip\",\"srcport\",\"dstport\",\"proto\",\
+            \"pkt_len\",\"payload_len\",\"tcpseq\",\"tin\",\"tout\",\"qsize\"],\
+            \"items\":[{\"end\":8,\"kind\":\"print\",\"name\":\"x\",\"name_start\":6,\
+            \"operator\":\"print\",\"start\":0}],\"marple_facts\":1}\n",
         complaint: b"",
     };
     let _texts = parts_of(&rt, rt.alloc(), "facts q", b"print x;\n", &[], &wanted)?;

@@ -1,7 +1,7 @@
 //! Calls of the program whose inputs or outputs fail.
 
+use crate::call::realistic::{QUERY, TABLES, TRACE, VIEWS};
 use crate::call::{Outside, PLACES, Seen, compare_call};
-use crate::realistic::{QUERY, TABLES, TRACE, VIEWS};
 use marple_base::{FailAt, Text, Which};
 use marple_cli::Status;
 use std::alloc::{AllocError, Global};

@@ -1,9 +1,8 @@
 //! Calls on a count whose inputs or outputs fail.
 
-use crate::call::{Outside, Seen, called, compare_call};
-use crate::calls::SOUND;
-use crate::compare::compare;
-use crate::sources::{COUNT, RUN, WHOLE};
+use crate::call::calls::SOUND;
+use crate::call::sources::{COUNT, RUN, WHOLE};
+use crate::call::{Outside, Seen, called, compare, compare_call};
 use marple_base::{FailAt, Which};
 use marple_cli::Status;
 use std::alloc::{AllocError, Global};
