@@ -5,7 +5,8 @@ ghost use Rattle.epoch_model.specs.Keys.{key_eq};
 ghost use Rattle.table_rows.specs.LentRows.{row_of};
 ghost use Rattle.final_queries.specs.Finals.{HasColumns};
 ghost use Rattle.enclosure_folds.specs.BoundsTables.{IsBoundsTable};
-ghost use Rattle.enclosure_folds.specs.KeyBounds.{HasTriples, goes_on, row_bounds, bounds_in, depth_in, epochs_in, high_in, low_in, table_bounds};
+ghost use Rattle.enclosure_folds.specs.KeyBounds.{HasTriples, goes_on, row_bounds, bounds_in, depth_in, epochs_in};
+ghost use Rattle.enclosure_folds.specs.KeyBounds.{high_in, low_in, table_bounds};
 
 use crate::copies::{names_copy, words_copy};
 use crate::laws::triples_give_whole_tables;

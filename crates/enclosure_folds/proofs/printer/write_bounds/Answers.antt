@@ -1,6 +1,6 @@
 -- What waits, and the lines of the rows left, make the text of the table, of which the sink has some first bytes.
-use Rattle.std.proofs.Common.{◌≡◌, List, ℕ, ◌∷◌, ◌+◌, ◌++◌, ◌<◌, ◌∙◌, Option, ap, append-nil, append_assoc, arith, drop, get_or, length, sym}
-use Rattle.std.{proofs.lemmas.List.{drop_all, drop_more}, specs.List.flat_map}
+use Rattle.std.proofs.Common.{◌≡◌, List, ℕ, ◌∷◌, ◌+◌, ◌++◌, ◌<◌, ◌∙◌, Option, ap, append-nil, append_assoc, arith, drop, get_or, length}
+use Rattle.std.{proofs.{Common.sym, lemmas.List.{drop_all, drop_more}}, specs.List.flat_map}
 use Rattle.table_printer.specs.TableText.{table_line}
 use Rattle.marple_base.specs.Pieces.{TakesAllBut}
 use Rattle.marple_base.proofs.Pieces.{all_waits, front_is_taken, none_taken, on_err, part_broke, part_more}
