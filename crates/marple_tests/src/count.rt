@@ -17,8 +17,8 @@ use switch_core::{Merged, Pipeline};
 /// The steps of the run. Four packets are of a new key: 1 word of the key + 1 hashed + 1 way + 1 word of the key written + 3
 /// of the entry + 8 for the row. Two of them take 1 more for a word that is compared and 4 for the key and the entry that
 /// they evict. One is of a key that is there: 1 + 1 + 1 compared + 1 way + 8. A sweep evicts two more pairs, each in 4 + 1.
-/// Each of the four records is merged in 4.
-const STEPS: u64 = 4 * 15 + 2 * 5 + 12 + 2 * 5 + 4 * 4;
+/// Each of the four records is merged in 1.
+const STEPS: u64 = 4 * 15 + 2 * 5 + 12 + 2 * 5 + 4 * 1;
 
 // A packet of this source.
 fn packet_of(source: u64) -> Packet {

@@ -56,13 +56,13 @@ const CASES: [Case; 7] = [
         merge: 2 * 14 + 4 + 2,
     },
     // maxima that only move the variable: 1 + (3 + 2) for a run of the body. A row takes 1 word of the state + 6 + 2 words of
-    // an element
+    // an element. A merge moves 1 variable
     Case {
         fold: DEEPEST,
         entries: Entries::Folds,
         open: 1 + 2 * 2,
         rows: &[1 + 6 + 2, 9],
-        merge: 1 + 1 + 1 + 1,
+        merge: 1,
     },
     // other maxima: 1 + (5 + 2) for a run of the body. A row takes 2 columns of 1 part, 8 and 2 words + 2 elements with 1
     // product each + 4 words of the map
