@@ -86,7 +86,12 @@ fn make_stream(
 fn has_deep(ops: &[PlanOp]) -> bool
     ensures { result ≡ are_deep ops.now }
 {
-    ops.iter().any(|one| MAX_STAGES < one.stage)
+    for one in ops {
+        if MAX_STAGES < one.stage {
+            return true;
+        }
+    }
+    false
 }
 
 // Adds what each stream makes to the packets, which alone are made before, or finds the first stream that is too deep.
