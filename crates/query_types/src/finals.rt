@@ -258,8 +258,7 @@ fn add_final(
         columns: made.columns,
         keys: made.keys,
         op: made.op,
-    })?;
-    Ok(())
+    })
 }
 
 /// One more final: its name is free, and then its operator is checked.

@@ -45,8 +45,7 @@ fn add_fold(alloc: Global, earlier: &mut Earlier, f: TypedFold) -> Result<(), Al
     let number = earlier.folds.len() as u16;
     let view = view_of(alloc, number, &f)?;
     learn(earlier, f.name, Meaning::Fold(view))?;
-    earlier.folds.push(f)?;
-    Ok(())
+    earlier.folds.push(f)
 }
 
 // The fold's name is free, and then the fold is checked.
