@@ -29,8 +29,7 @@ fn put_plan(alloc: Global, q: &TypedQuery, made: &MadeStreams) -> Result<Plan, A
         registers.as_slice(),
     )?;
     let groups = plan_groups(alloc, q)?;
-    let plan = Plan::of_parts(alloc, reads, sorted, groups, wiring)?;
-    Ok(plan)
+    Plan::of_parts(alloc, reads, sorted, groups, wiring)
 }
 
 /// The plan of a query. It is refused exactly for its first stream that needs too many stages.

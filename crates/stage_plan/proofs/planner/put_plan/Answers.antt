@@ -1,5 +1,5 @@
 -- Operations in the order of their stages, with registers by that order and groups wired to them, are the plan.
-use Rattle.std.proofs.Common.{ap, length}
+use Rattle.std.proofs.{Common.{ap, length}, lemmas.Result.IfOk-weaker}
 use Rattle.stage_plan.{specs.Making.packet_wires, proofs.Counts.{all_inputs, all_fit}}
 use Rattle.stage_plan.proofs.Putting.{IsPut, numbers_within, few_numbers, order_from, put_from}
 use Rattle.stage_plan.proofs.planner.put_plan.Goals as goal
@@ -38,4 +38,4 @@ returns c =
     c.as_slice-4.ensures c.as_slice-5.ensures c.as_slice-6.ensures c.in_ok-wiring.ensures
     c.in_ok-groups.ensures.shapes c.in_ok-groups.ensures.sound c.in_ok-groups.ensures.all c.in_ok-reads.ensures
     in
-    rw c.in_ok-plan.ensures p.is_plan
+    IfOk-weaker c.of_parts.result _ _ (λ plan is. rw is p.is_plan) c.of_parts.ensures
