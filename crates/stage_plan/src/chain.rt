@@ -52,11 +52,9 @@ fn push_chain(chain: &mut Seq<u32>, ops: &[PlanOp], at: u32) -> Result<(), Alloc
 {
     if ops[at as usize].stage > 1 {
         push_chain(chain, ops, previous(ops, at))?;
-        chain.push(at)?;
-        return Ok(());
+        return chain.push(at);
     }
-    chain.push(at)?;
-    Ok(())
+    chain.push(at)
 }
 
 /// Operations that wait for one another, as many as there are stages.
