@@ -64,3 +64,19 @@ count_block-overflow_add-statements t c = omega (
   item_fits stmt_count c.args.body.now c.loop-one.one-index _ c.loop-one-test.true c.one-item.is c.loop-one.invariant.statements
       c.count_statement-counts.ensures.statements c.requires.statements,
 )
+
+pub count_statement-overflow_add-result : goal.count_statement-overflow_add-result
+count_statement-overflow_add-result t c =
+    omega (arith, nodes_if c.in-If.is c.as_slice.ensures c.as_slice-in-If.ensures, c.requires.nodes)
+
+pub count_statement-overflow_add-result-in-If : goal.count_statement-overflow_add-result-in-If
+count_statement-overflow_add-result-in-If t c =
+    omega (arith, nodes_if c.in-If.is c.as_slice.ensures c.as_slice-in-If.ensures, c.requires.nodes)
+
+pub count_statement-overflow_add-result-in-If-2 : goal.count_statement-overflow_add-result-in-If-2
+count_statement-overflow_add-result-in-If-2 t c =
+    omega (arith, count_if c.in-If.is c.as_slice.ensures c.as_slice-in-If.ensures, c.requires.statements)
+
+pub count_statement-overflow_add-result-in-If-3 : goal.count_statement-overflow_add-result-in-If-3
+count_statement-overflow_add-result-in-If-3 t c =
+    omega (arith, count_if c.in-If.is c.as_slice.ensures c.as_slice-in-If.ensures, c.requires.statements)
