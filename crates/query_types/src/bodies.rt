@@ -84,16 +84,15 @@ fn fold_condition(alloc: Global, scope: Scope<'_>, e: &Expr) -> Result<TypedExpr
 fn join_conditions(
     alloc: Global,
     outer: &Option<TypedExpr>,
-    condition: &TypedExpr,
+    condition: TypedExpr,
 ) -> Result<TypedExpr, AllocError>
-    ensures { IfOk result (λ whole. whole ≡ joined outer.now condition.now) }
+    ensures { IfOk result (λ whole. whole ≡ joined outer.now condition) }
 {
     match outer {
-        None => copy_expr(alloc, condition),
+        None => Ok(condition),
         Some(around) => {
             let first = copy_expr(alloc, around)?;
-            let second = copy_expr(alloc, condition)?;
-            typed_binary(alloc, Op::Both, first, second)
+            typed_binary(alloc, Op::Both, first, condition)
         }
     }
 }
@@ -104,9 +103,9 @@ fn enclose(
     states: &[u32],
     outer: &Enclosing,
     written: &Expr,
-    condition: &TypedExpr,
+    condition: TypedExpr,
 ) -> Result<Enclosing, AllocError>
-    ensures { IfOk result (λ inner. inner ≡ inside states.now outer.now written.now condition.now) }
+    ensures { IfOk result (λ inner. inner ≡ inside states.now outer.now written.now condition) }
 {
     let whole = join_conditions(alloc, &outer.condition, condition)?;
     Ok(Enclosing {
@@ -133,26 +132,37 @@ fn emit_under(alloc: Global, outer: &Option<TypedExpr>) -> Result<TypedExpr, All
     }
 }
 
-// What encloses the statements where one more condition doesn't hold.
-fn enclose_opposite(
-    alloc: Global,
-    states: &[u32],
-    outer: &Enclosing,
-    written: &Expr,
-    condition: &TypedExpr,
-) -> Result<Enclosing, AllocError>
-    ensures { IfOk result (λ inner. inner ≡ inside states.now outer.now written.now (TypedExpr.Not condition.now)) }
-{
-    let opposite = opposite(alloc, condition)?;
-    enclose(alloc, states, outer, written, &opposite)
-}
-
 /// A choice between two blocks: its condition, and what encloses the statements of each block.
 #[derive(Drop)]
 pub struct Choice {
     pub condition: TypedExpr,
     pub holding: Enclosing,
     pub failing: Enclosing,
+}
+
+// A choice by this condition, with what encloses the statements of each block.
+fn choice_by(
+    alloc: Global,
+    states: &[u32],
+    outer: &Enclosing,
+    written: &Expr,
+    condition: TypedExpr,
+) -> Result<Choice, AllocError>
+    ensures { IfOk result (λ choice. choice ≡ record {
+      condition = condition;
+      holding = inside states.now outer.now written.now condition;
+      failing = inside states.now outer.now written.now (TypedExpr.Not condition);
+    }) }
+{
+    let copy = copy_expr(alloc, &condition)?;
+    let holding = enclose(alloc, states, outer, written, copy)?;
+    let opposite = opposite(alloc, &condition)?;
+    let failing = enclose(alloc, states, outer, written, opposite)?;
+    Ok(Choice {
+        condition,
+        holding,
+        failing,
+    })
 }
 
 // The choice with this condition.
@@ -167,13 +177,7 @@ fn open_choice(
     ensures numbers { IfOk result (λ _. greatest_number written.now < 2 ^ 64) }
 {
     let condition = fold_condition(alloc, scope, written)?;
-    let holding = enclose(alloc, scope.states, outer, written, &condition)?;
-    let failing = enclose_opposite(alloc, scope.states, outer, written, &condition)?;
-    let choice = Choice {
-        condition,
-        holding,
-        failing,
-    };
+    let choice = choice_by(alloc, scope.states, outer, written, condition)?;
     Ok(Boxed::new(alloc, choice)?)
 }
 
