@@ -1,5 +1,5 @@
 -- Each groupby gets a front more; out of memory, those that have one lose it again.
-use Rattle.std.proofs.{Common.{◌+◌, length, get_or, set, sym, ap, ◌∙◌, subst, arith, lit<}, Math.Facts.Fits-below}
+use Rattle.std.proofs.{Common.{◌+◌, ◌<◌, length, get_or, set, sym, ap, ◌∙◌, subst, lit<, le_of_lt, le_trans}, Math.Facts.Fits-below}
 use Rattle.query_lang.specs.declared.fault.TheConstants.{MAX_KEYS}
 use Rattle.stage_plan.specs.{Planned.wiring_at, Sound.IsSoundGroup}
 use Rattle.switch_core.proofs.SideBySide.{same_some, each_long, done_start, untouched_start, done_here, untouched_next, was_there}
@@ -18,20 +18,14 @@ loop-i-init g c = record {
 
 pub overflow_cast-i : goal.overflow_cast-i
 overflow_cast-i g c =
-    let many = c.invariant.ensures.most_groups in
-    let long =
-    each_long _ 0 c.args.groups.now c.args.plan.now.groups c.requires.groups in
-    let kept = c.loop-i.auto.groups in
-    let below = c.loop-i-test.true in
-    Fits-below {n = MAX_KEYS} tt (omega arith)
+    let long = each_long _ 0 c.args.groups.now c.args.plan.now.groups c.requires.groups in
+    Fits-below {n = MAX_KEYS} tt
+    (le_trans (le_of_lt (subst (λ n. c.loop-i.i < n) long c.loop-i-test.true)) c.invariant.ensures.most_groups)
 
 pub group-requires : goal.group-requires
 group-requires g c =
-    let long =
-    each_long _ 0 c.args.groups.now c.args.plan.now.groups c.requires.groups in
-    let kept = c.loop-i.auto.groups in
-    let below = c.loop-i-test.true in
-    omega arith
+    let long = each_long _ 0 c.args.groups.now c.args.plan.now.groups c.requires.groups in
+    subst (λ n. c.loop-i.i < n) long c.loop-i-test.true
 
 pub add_switch-requires : goal.add_switch-requires
 add_switch-requires g c =
@@ -71,17 +65,12 @@ loop-i-preserved g c =
 
 pub returns-clause-are : goal.returns-clause-are
 returns-clause-are g c switches are =
-    let kept = c.loop-i.auto.groups in
-    let end = c.loop-i-test.false in
     all_grown c.args.plan.now switches c.args.groups.now c.loop-i.groups are
-    (done_end _ c.loop-i.i c.args.groups.now c.loop-i.groups c.loop-i.invariant.are (omega arith))
+    (done_end _ c.loop-i.i c.args.groups.now c.loop-i.groups c.loop-i.invariant.are c.loop-i-test.false)
 
 pub returns-clause-grow : goal.returns-clause-grow
 returns-clause-grow g c =
-    let kept = c.loop-i.auto.groups in
-    let end = c.loop-i-test.false in
-    done_end _ c.loop-i.i c.args.groups.now c.loop-i.groups
-    c.loop-i.invariant.grow (omega arith)
+    done_end _ c.loop-i.i c.args.groups.now c.loop-i.groups c.loop-i.invariant.grow c.loop-i-test.false
 
 -- Out of memory, each groupby up to this one is but for its last front as it was.
 pub returns-in-Err-clause-err : goal.returns-in-Err-clause-err

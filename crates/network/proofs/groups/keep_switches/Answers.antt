@@ -1,5 +1,4 @@
 -- The groupbys so far have only the first switches, and those after them are untouched.
-use Rattle.std.proofs.Common.{arith}
 use Rattle.switch_core.proofs.SideBySide.{done_start, untouched_start, done_here, untouched_next, was_there, done_end}
 use Rattle.network.proofs.groups.keep_switches.Goals as goal
 
@@ -21,7 +20,4 @@ loop-i-preserved g c =
 
 pub returns : goal.returns
 returns g c =
-    let kept = c.loop-i.auto.groups in
-    let end = c.loop-i-test.false in
-    done_end _ c.loop-i.i c.args.groups.now c.loop-i.groups c.loop-i.invariant.kept
-    (omega arith)
+    done_end _ c.loop-i.i c.args.groups.now c.loop-i.groups c.loop-i.invariant.kept c.loop-i-test.false

@@ -1,5 +1,5 @@
 -- What is present in the registers is taken with its key and its arguments as one event, and else there is none.
-use Rattle.std.proofs.Common.{◌≡◌, ℕ, ◌+◌, ◌*◌, ◌≤◌, [], Option, Some, map, refl, sym, ap, ◌∙◌, subst, arith}
+use Rattle.std.proofs.Common.{◌≡◌, ℕ, ◌+◌, ◌*◌, ◌≤◌, [], Option, Some, map, refl, sym, ap, ◌∙◌, subst, arith, le-add_right}
 use Rattle.epoch_model.specs.{Driving.{Taken, event_of}, Keys.{Key, ArgRow}}
 use Rattle.epoch_entry.specs.contracts.any.AnyEpochsEpochKind.TheImpl.{ghosts}
 use Rattle.stage_plan.specs.{Planned.wiring_at, Registers.{operand_value, taken_at}}
@@ -49,4 +49,4 @@ returns-then-present-clause-cost g c _ =
     c.packet.ensures.cost
 
 pub returns-else-present-clause-cost : goal.returns-else-present-clause-cost
-returns-else-present-clause-cost g c store = omega arith
+returns-else-present-clause-cost g c store = le-add_right _ _

@@ -1,5 +1,5 @@
 -- What closes at a switch's front is what closes in its lane, and neither the store nor other fronts change.
-use Rattle.std.proofs.Common.{rules, ◌≡◌, ◌+◌, ◌==◌, ◌<◌, if◌then◌else◌, not, length, sym, ap, ◌∙◌, subst}
+use Rattle.std.proofs.Common.{lit<, ◌≡◌, ◌+◌, ◌==◌, ◌<◌, if◌then◌else◌, not, length, sym, ap, ◌∙◌, subst}
 use Rattle.epoch_model.specs.Machine.{Evict}
 use Rattle.bucket_cache.specs.Caches.{list_at}
 use Rattle.switch_core.specs.{Costs.evict_cost, FrontEvents.with_store}
@@ -12,7 +12,7 @@ evict-requires g c =
     let f = front_found c.self.view_is c.requires.switch c.index_mut-front.ensures.value in
     let range = subst (λ (v : GroupView). AtSwitch (λ x. c.args.bucket < length x.cache.lists) v.fronts c.args.at)
     (sym c.self.view_is) c.requires.range in
-    (search rules, (front_room f c.requires.ready, range c.index_mut-front.result.now f.here))
+    (lit< tt, (front_room f c.requires.ready, range c.index_mut-front.result.now f.here))
 
 pub returns-clause-makes : goal.returns-clause-makes
 returns-clause-makes g c =

@@ -1,5 +1,5 @@
 -- An upkeep of a switch's front, with the groupby's store.
-use Rattle.std.proofs.Common.{rules, ◌+◌, ◌≤◌, subst}
+use Rattle.std.proofs.Common.{lit<, ◌+◌, ◌≤◌, subst}
 use Rattle.switch_core.{specs.FrontEvents.with_store, proofs.LaneFacts.{on_both, on_err, on_ok}}
 use Rattle.network.{specs.Costs.group_upkeep_cost, proofs.CostSteps.upkeep_within}
 use Rattle.network.proofs.MakeSteps.{left_by, left_here}
@@ -9,7 +9,7 @@ use Rattle.network.proofs.group.Group.keep_up.Goals as goal
 pub keep_up-requires : goal.keep_up-requires
 keep_up-requires g c =
     let f = front_found c.self.view_is c.requires.switch c.index_mut-front.ensures.value in
-    (search rules, (front_shares f c.requires.shares.0 c.requires.shares.1).fits)
+    (lit< tt, (front_shares f c.requires.shares.0 c.requires.shares.1).fits)
 
 pub returns-clause-makes : goal.returns-clause-makes
 returns-clause-makes g c =

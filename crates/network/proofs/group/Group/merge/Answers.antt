@@ -1,5 +1,5 @@
 -- A merge of a front into the shared store is one of its lane, after which its pipe has room.
-use Rattle.std.proofs.Common.{rules, ◌+◌, ◌≤◌, length, sym, ap, ◌∙◌, subst}
+use Rattle.std.proofs.Common.{lit<, ◌+◌, ◌≤◌, length, sym, ap, ◌∙◌, subst}
 use Rattle.epoch_model.specs.Machine.{Merge}
 use Rattle.switch_core.specs.{FrontEvents.with_store, PlanLanes.lane_merge_cost}
 use Rattle.switch_core.specs.declared.upkeep.Upkeep.TheVariants as due
@@ -12,7 +12,7 @@ use Rattle.network.proofs.group.Group.merge.Goals as goal
 pub merge_into-requires : goal.merge_into-requires
 merge_into-requires g c =
     let f = front_found c.self.view_is c.requires.switch c.index_mut-front.ensures.value in
-    (search rules, (front_shares f c.requires.shares.0 c.requires.shares.1).fits)
+    (lit< tt, (front_shares f c.requires.shares.0 c.requires.shares.1).fits)
 
 pub returns-clause-makes : goal.returns-clause-makes
 returns-clause-makes g c =

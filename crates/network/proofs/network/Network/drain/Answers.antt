@@ -1,6 +1,6 @@
 -- Each switch makes its sweep and then its merges, so all evictions run in order and every groupby is drained.
-use Rattle.std.proofs.{Common.{◌≡◌, ◌≢◌, ◌<◌, ◌==◌, ℕ, List, refl, sym, ◌∙◌, subst, arith, lit<}, lemmas.Bool.Decides.nat_tests}
-use Rattle.epoch_model.proofs.KeyLists.{by_test}
+use Rattle.std.proofs.Common.{◌≡◌, ◌<◌, ◌≤◌, ℕ, List, refl, sym, ◌∙◌, subst, lit<, below_more, add-one, le_of_lt, le_refl, le_trans}
+use Rattle.std.proofs.Common.{le_antisymm, lt_of_lt_of_le, ne_of_gt, ne_of_lt, not-suc-le-zero}
 use Rattle.switch_core.specs.declared.upkeep.Upkeep.TheVariants as due
 use Rattle.network.specs.{Networks.NetworkView, Running.{MergingBreaksOff, NetworkEvent, NetworkRuns, RunBreaksOff, RunsWithMerges}}
 use Rattle.network.specs.Running.{all_evictions, front_at, joined_below, upkeep_calls, without_merges}
@@ -47,9 +47,8 @@ pub loop-at-init : goal.loop-at-init
 loop-at-init g c = record {
   runs = merging_none g.row.WAYS c.args.self.now;
   same = λ n s h. refl;
-  drained = λ n s below less. absurd
-      (omega arith);
-  later = omega arith;
+  drained = λ n s below less. absurd (not-suc-le-zero less);
+  later = le_refl _;
 }
 
 pub keep_up-requires : goal.keep_up-requires
@@ -57,9 +56,7 @@ keep_up-requires g c =
     let at = c.loop-at.at in
     let old = c.args.self.now in
     let many = (merging_kept g.row.WAYS (joined_below at (sweeps old)) old c.loop-at.self c.loop-at.invariant.runs).switches in
-    let end = c.switches-at-end.ensures in
-    let less = c.loop-at-test.true in
-    (lit< tt, omega arith)
+    (lit< tt, subst (λ n. at < n) (c.switches-at-end.ensures ∙ sym many) c.loop-at-test.true)
 
 pub keep_up-requires-in-loop-at : goal.keep_up-requires-in-loop-at
 keep_up-requires-in-loop-at g c =
@@ -69,9 +66,7 @@ keep_up-requires-in-loop-at g c =
     let cur = c.loop-at.self in
     let many = (merging_kept ways (joined_below at (sweeps old)) old cur c.loop-at.invariant.runs).switches in
     let more = (runs_kept ways (upkeep_calls at due.Sweep cur) cur c.keep_up.new.self c.in_ok-keep_up.ensures.runs).switches in
-    let end = c.switches-at-end.ensures in
-    let less = c.loop-at-test.true in
-    (lit< tt, omega arith)
+    (lit< tt, subst (λ n. at < n) (c.switches-at-end.ensures ∙ (sym many ∙ sym more)) c.loop-at-test.true)
 
 pub loop-at-preserved : goal.loop-at-preserved
 loop-at-preserved g c =
@@ -89,25 +84,27 @@ loop-at-preserved g c =
     let longer = kept_long _ _ (runs_kept ways (upkeep_calls at due.Sweep cur) cur mid sweep.runs) in
     record {
       runs = merging_next ways (sweeps old) at old cur new was.runs
-          (next ways at old cur mid new was.runs (λ n. was.same n at (omega arith)) sweep.runs rest.runs);
+          (next ways at old cur mid new was.runs (λ n. was.same n at (le_refl _)) sweep.runs rest.runs);
       same = λ n s h.
-          let d : s ≢ at = λ e. omega arith in
-          rest.others n s d ∙ (sweep.others n s d ∙ was.same n s (omega arith));
-      drained = λ n s below h. by_test (s == at)
-          (λ t.
-          let it : s ≡ at = grind (arith, nat_tests) in
-          subst (λ k. IsEmptied (front_at new n k)) (sym it)
-          (emptied (front_at cur n at) (front_at mid n at) (front_at new n at) (sweep.left n (omega arith)) (rest.left n (omega arith))))
-          (λ t.
-          let far : s ≢ at = grind (arith, nat_tests) in
-          subst IsEmptied (sym (rest.others n s far ∙ sweep.others n s far)) (was.drained n s below (let a = far in omega arith)));
-      later = let a = was.later in let b = c.keep_up.ensures.steps in let d = c.keep_up-in-loop-at.ensures.steps in omega arith;
+          let above : at < s = subst (λ k. k ≤ s) (add-one at) h in
+          let far = ne_of_gt above in
+          rest.others n s far ∙ (sweep.others n s far ∙ was.same n s (le_of_lt above));
+      drained = λ n s below. below_more (λ k. IsEmptied (front_at new n k)) at
+          (λ k less.
+          let far = ne_of_lt less in
+          subst IsEmptied (sym (rest.others n k far ∙ sweep.others n k far)) (was.drained n k below less))
+          (emptied (front_at cur n at) (front_at mid n at) (front_at new n at) (sweep.left n (subst (λ k. n < k) (sym long) below))
+          (rest.left n (subst (λ k. n < k) (sym (longer ∙ long)) below)))
+          s;
+      later = le_trans was.later (le_trans c.keep_up.ensures.steps c.keep_up-in-loop-at.ensures.steps);
     }
 
 pub returns-clause-runs : goal.returns-clause-runs
 returns-clause-runs g c =
     let old = c.args.self.now in
-    let end : c.loop-at.at ≡ old.switches = omega (arith, c.loop-at-test.false, c.loop-at.auto.at-end, c.switches-at-end.ensures) in
+    let many = c.switches-at-end.ensures in
+    let end = le_antisymm (subst (λ n. c.loop-at.at ≤ n) many c.loop-at.auto.at-end)
+    (subst (λ n. n ≤ c.loop-at.at) many c.loop-at-test.false) in
     subst (λ k. RunsWithMerges g.row.WAYS (joined_below k (sweeps old)) old c.loop-at.self) end c.loop-at.invariant.runs
 
 pub returns-clause-drained : goal.returns-clause-drained
@@ -120,10 +117,9 @@ returns-clause-drained g c =
     let kept = merging_kept ways events old cur was.runs in
     let many = kept.switches in
     let long = kept_long _ _ kept in
-    let a = c.loop-at-test.false in
-    let d = c.switches-at-end.ensures in
     all_emptied _ _ (merging_is _ events _ cur was.runs c.invariant.ensures)
-    (λ n s below within. was.drained n s (omega arith) (omega arith))
+    (λ n s below within. was.drained n s (subst (λ k. n < k) long below)
+    (lt_of_lt_of_le (subst (λ k. s < k) (many ∙ sym c.switches-at-end.ensures) within) c.loop-at-test.false))
 
 pub returns-in_err-keep_up-clause-breaks_off : goal.returns-in_err-keep_up-clause-breaks_off
 returns-in_err-keep_up-clause-breaks_off g c =
@@ -131,11 +127,10 @@ returns-in_err-keep_up-clause-breaks_off g c =
     let old = c.args.self.now in
     let was = c.loop-at.invariant in
     let mid = c.keep_up.new.self in
-    let end = c.switches-at-end.ensures in
-    let less = c.loop-at-test.true in
+    let within = subst (λ n. at < n) c.switches-at-end.ensures c.loop-at-test.true in
     if_err _ c.from_residual.result
-    (sweep_breaks g.row.WAYS at old c.loop-at.self mid mid was.runs (λ n. was.same n at (omega arith))
-    (omega arith) c.in_err-keep_up.ensures.breaks_off)
+    (sweep_breaks g.row.WAYS at old c.loop-at.self mid mid was.runs (λ n. was.same n at (le_refl _))
+    within c.in_err-keep_up.ensures.breaks_off)
 
 pub returns-in_err-keep_up-2-clause-breaks_off : goal.returns-in_err-keep_up-2-clause-breaks_off
 returns-in_err-keep_up-2-clause-breaks_off g c =
@@ -143,8 +138,7 @@ returns-in_err-keep_up-2-clause-breaks_off g c =
     let old = c.args.self.now in
     let was = c.loop-at.invariant in
     let new = c.keep_up-in-loop-at.new.self in
-    let end = c.switches-at-end.ensures in
-    let less = c.loop-at-test.true in
+    let within = subst (λ n. at < n) c.switches-at-end.ensures c.loop-at-test.true in
     if_err _ c.from_residual-in_err-keep_up-2.result
-    (rest_breaks g.row.WAYS at old c.loop-at.self c.keep_up.new.self new was.runs (λ n. was.same n at (omega arith))
-    (omega arith) c.in_ok-keep_up.ensures.runs c.in_err-keep_up-2.ensures.breaks_off)
+    (rest_breaks g.row.WAYS at old c.loop-at.self c.keep_up.new.self new was.runs (λ n. was.same n at (le_refl _))
+    within c.in_ok-keep_up.ensures.runs c.in_err-keep_up-2.ensures.breaks_off)
