@@ -2,7 +2,7 @@
 use Rattle.std.proofs.Common.{◌≡◌, ℕ, zero, suc, ◌+◌, ◌-◌, ◌*◌, ◌<◌, ◌≤◌, List, [], ◌∷◌, length, take, set, get_or, refl, ap, ◌∙◌, arith}
 use Rattle.std.{proofs.{Common.length-take-le, lemmas.List.Sums.sum_by-cons, Math.Nat.mul-le-mul_right}, specs.List.sum_by}
 use Rattle.bucket_cache.specs.{Buckets.Pair, Caches.{Cache, list_at, with_list}}
-use Rattle.switch_core.specs.{Closing.held_in, Costs.merge_cost, FrontEvents.KeepsSizes, FrontParts.LaneOf}
+use Rattle.switch_core.specs.{Closing.held_in, Costs.{evict_cost, merge_cost}, FrontEvents.KeepsSizes, FrontParts.LaneOf}
 
 abbrev held : List (List Pair) → ℕ
 held lists = sum_by length lists
@@ -38,6 +38,15 @@ pub merge_as_first : {K : Type 0} (bound : K → ℕ) (first was : LaneOf K) (st
     → after ≤ start + merge_cost was.cache.key_words was.cache.entry_words (bound was.kind)
     → after ≤ start + merge_cost first.cache.key_words first.cache.entry_words (bound first.kind)
 merge_as_first bound first was start after kept cost = rw (kept.key_words, kept.entry_words, kept.kind) at cost
+
+-- an eviction and a merge take as much as they did at first, and so does a merge alone
+pub costs_same : {K : Type 0} (bound : K → ℕ) (first was : LaneOf K) → KeepsSizes first was
+    → (evict_cost was.cache.key_words was.cache.entry_words + merge_cost was.cache.key_words was.cache.entry_words (bound was.kind)
+    ≡ evict_cost first.cache.key_words first.cache.entry_words
+    + merge_cost first.cache.key_words first.cache.entry_words (bound first.kind))
+    × (merge_cost was.cache.key_words was.cache.entry_words (bound was.kind)
+    ≡ merge_cost first.cache.key_words first.cache.entry_words (bound first.kind))
+costs_same bound first was kept = rw (kept.key_words, kept.entry_words, kept.kind) (refl, refl)
 
 -- one merge at most and an eviction
 pub evicted_within : (start was ready new held fewer whole evicting merging : ℕ) → suc fewer ≡ held → ready ≤ was + merging → new ≡ ready

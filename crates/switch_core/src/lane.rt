@@ -250,10 +250,11 @@ impl<K: EpochKind, const WAYS: usize> Lane<K, WAYS> {
     {
         self.invariant();
         let keys = key_names.len() as u8;
+        let columns = columns(key_names, state_names)?;
         let shown = rows_held(&self.store, self.front.kind().row_per_epoch())?;
         Ok(Table {
             name,
-            columns: columns(key_names, state_names)?,
+            columns,
             keys,
             kind: TableKind::Group(class, depth, shown.epochs),
             rows: shown.rows,

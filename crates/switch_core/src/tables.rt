@@ -1,6 +1,6 @@
 //! The tables of the epochs that stores hold.
 
-ghost use Rattle.std.specs.{Prelude.{◌≡◌, ◌≤◌, ℕ, List, true, length, map, IfOk}, List.list_all};
+ghost use Rattle.std.specs.{Prelude.{◌≡◌, ◌≤◌, ◌++◌, ℕ, List, true, length, map, IfOk, OnOk}, List.list_all};
 ghost use Rattle.epoch_model.specs.{Machine.{Epoch, Machine}, Tables.Folding};
 ghost use Rattle.epoch_entry.specs.declared.purpose.Entries.{Entries};
 ghost use Rattle.backing_store.specs.Merged.{StoreHolds};
@@ -8,7 +8,6 @@ ghost use Rattle.final_queries.specs.GroupTable.{closed_table};
 ghost use Rattle.switch_core.specs.{Rows.Each, Pipelines.{heading_of, shown_table, stored_table, tables_of}};
 ghost use Rattle.switch_core.specs.PlanLanes.{AreLanesOf, StandsFor, folding_at, lane_is_drained, stored_tables};
 
-use crate::closing::columns;
 use crate::lane::Lane;
 use backing_store::{BackingStore, ShownRows, rows_held};
 use epoch_entry::{AnyEpochs, EpochKind};
@@ -18,14 +17,24 @@ use query_lang::MAX_KEYS;
 use stage_plan::{GroupPlan, Plan};
 use std::alloc::{AllocError, Global};
 
-fn copied_texts(alloc: Global, texts: &[Text]) -> Result<Seq<Text>, AllocError>
-    ensures { IfOk result (λ copy. copy ≡ texts.now) }
+// Adds copies of texts.
+fn push_texts(alloc: Global, into: &mut Seq<Text>, texts: &[Text]) -> Result<(), AllocError>
+    ensures { OnOk result (into.new ≡ into.old ++ texts.now) }
 {
-    let mut copy = Seq::new(alloc);
     for text in texts {
-        copy.push(Text::from_slice(alloc, text.as_slice())?)?;
+        into.push(Text::from_slice(alloc, text.as_slice())?)?;
     }
-    Ok(copy)
+    Ok(())
+}
+
+// The columns of a groupby's table: its keys, and then its fold's state variables.
+fn group_columns(alloc: Global, group: &GroupPlan) -> Result<Seq<Text>, AllocError>
+    ensures { IfOk result (λ columns. columns ≡ group.now.key_names ++ group.now.state_names) }
+{
+    let mut columns = Seq::new(alloc);
+    push_texts(alloc, &mut columns, group.key_names.as_slice())?;
+    push_texts(alloc, &mut columns, group.state_names.as_slice())?;
+    Ok(columns)
 }
 
 /// The table of the epochs that a store holds, under the names of a groupby. The store stays unchanged.
@@ -48,15 +57,11 @@ pub fn shown_table(alloc: Global, group: &GroupPlan, shown: ShownRows) -> Result
     requires { length group.now.key_names ≤ MAX_KEYS }
     ensures { IfOk result (λ table. table ≡ shown_table (heading_of group.now) shown.rows shown.epochs) }
 {
-    let name = Text::from_slice(alloc, group.name.as_slice())?;
-    let key_names = copied_texts(alloc, group.key_names.as_slice())?;
-    let state_names = copied_texts(alloc, group.state_names.as_slice())?;
-    let keys = group.key_names.len() as u8;
     let (class, depth) = (group.program.class, group.program.depth);
     Ok(Table {
-        name,
-        columns: columns(key_names, state_names)?,
-        keys,
+        name: Text::from_slice(alloc, group.name.as_slice())?,
+        columns: group_columns(alloc, group)?,
+        keys: group.key_names.len() as u8,
         kind: TableKind::Group(class, depth, shown.epochs),
         rows: shown.rows,
     })

@@ -1,5 +1,6 @@
 -- Each turn adds the lane of one more groupby, which stands for an empty machine.
-use Rattle.std.proofs.{Common.{◌≡◌, ◌++◌, [], ◌∷◌, take, sym, ap, ◌∙◌, subst, arith, lit<, ℕ}, lemmas.List.{length-take-le, take_all}}
+use Rattle.std.proofs.Common.{◌≡◌, ◌≤◌, ◌++◌, [], ◌∷◌, take, sym, ap, ◌∙◌, subst, le_of_lt, lit<, zero-add, ℕ}
+use Rattle.std.proofs.lemmas.List.{length-take-le, take_all}
 use Rattle.std.proofs.lemmas.List.Elements.{All-append, All-cons, All-nil}
 use Rattle.epoch_model.{specs.Machine.empty_machine, proofs.Endings.no_value}
 use Rattle.epoch_entry.specs.contracts.any.AnyEpochsEpochKind.TheImpl.{ghosts}
@@ -25,7 +26,7 @@ loop-i-preserved g c =
     let pushed = c.in_ok-push.ensures.items in
     let more = take_next _ i group c.group.ensures in
     let many = each_long _ 0 _ (take i _) c.loop-i.invariant.lanes ∙ length-take-le i plan.groups
-    (let b = got_below _ i _ c.group.ensures in omega arith) in
+    (le_of_lt (got_below _ i _ c.group.ensures)) in
     let own = lane_made c.entries_suit_folds.ensures _ _ _ i lane _ c.invariant.ensures c.group.ensures
     made.buckets made.keys made.kind in
     let R : ℕ → LaneView → GroupPlan → Type 0 = λ n l x. IsLaneOf c.args.entries c.args.buckets l.cache (ghosts.sizes l.kind)
@@ -38,7 +39,7 @@ loop-i-preserved g c =
     record {
       lanes = rw pushed (subst (λ gs. EachFrom R 0 (lanes ++ lane ∷ []) gs) (sym more)
           (each_push R 0 lanes (take i plan.groups) lane group c.loop-i.invariant.lanes
-          (λ n q. let is : i ≡ n = omega arith in subst (λ k. R k lane group) is own)));
+          (λ n q. let is = sym (q ∙ (zero-add _ ∙ many)) in subst (λ k. R k lane group) is own)));
       made = rw pushed (subst (λ gs. Each IsMadeFor (lanes ++ lane ∷ []) gs) (sym more)
           (each_push (λ n. IsMadeFor) 0 lanes (take i plan.groups) lane group c.loop-i.invariant.made
           (λ n q. made.made)));
@@ -80,7 +81,7 @@ returns g c =
     let lanes = c.loop-i.lanes.items in
     let R : ℕ → LaneView → GroupPlan → Type 0 = λ n l x. IsLaneOf c.args.entries c.args.buckets l.cache (ghosts.sizes l.kind)
     (ghosts.folding l.kind) (ghosts.open_bound l.kind) (ghosts.absorb_bound l.kind) x (wiring_at c.args.plan.now n) in
-    let all = take_all c.loop-i.i groups (omega (arith, c.loop-i-test.false, c.groups-i-end.ensures)) in
+    let all = take_all c.loop-i.i groups (subst (λ n. n ≤ c.loop-i.i) c.groups-i-end.ensures c.loop-i-test.false) in
     record {
       lanes = rw all at c.loop-i.invariant.lanes;
       made = rw all at c.loop-i.invariant.made;

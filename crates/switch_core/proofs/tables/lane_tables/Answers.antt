@@ -1,5 +1,6 @@
 -- Each table is that of the epochs of its lane's machine, since all of them are merged.
-use Rattle.std.proofs.{Common.{◌≡◌, ◌++◌, [], ◌∷◌, Some, map, take, sym, ap, ◌∙◌, subst, arith}, Math.Facts.Fits-below}
+use Rattle.std.proofs.Common.{◌≡◌, ◌<◌, ◌++◌, [], ◌∷◌, Some, map, take, sym, ap, ◌∙◌, subst, le_of_lt, le_trans, zero-add}
+use Rattle.std.proofs.Math.Facts.{Fits-below}
 use Rattle.std.specs.Prelude.{slice_get}
 use Rattle.query_lang.specs.declared.fault.TheConstants.{MAX_KEYS}
 use Rattle.epoch_entry.specs.contracts.any.AnyEpochsEpochKind.TheImpl.{ghosts}
@@ -12,18 +13,13 @@ use Rattle.switch_core.proofs.tables.lane_tables.Goals as goal
 
 pub overflow_cast-i : goal.overflow_cast-i
 overflow_cast-i g c =
-    let many = c.invariant.ensures.most_groups in
-    let long =
-    each_long _ 0 _ c.args.plan.now.groups c.requires.lanes.2 in
-    let below = c.loop-i-test.true in
-    Fits-below {n = MAX_KEYS} tt (omega arith)
+    let long = each_long _ 0 c.args.lanes.now c.args.plan.now.groups c.requires.lanes.2 in
+    Fits-below {n = MAX_KEYS} tt
+    (le_trans (le_of_lt (subst (λ n. c.loop-i.i < n) long c.loop-i-test.true)) c.invariant.ensures.most_groups)
 
 pub group-requires : goal.group-requires
 group-requires g c =
-    let long =
-    each_long _ 0 _ c.args.plan.now.groups c.requires.lanes.2 in
-    let below = c.loop-i-test.true in
-    omega arith
+    subst (λ n. c.loop-i.i < n) (each_long _ 0 c.args.lanes.now c.args.plan.now.groups c.requires.lanes.2) c.loop-i-test.true
 
 pub held_table-requires : goal.held_table-requires
 held_table-requires g c =
@@ -53,7 +49,7 @@ loop-i-preserved g c =
           let drained = all_at lane_is_drained lanes i lane c.requires.drained here in
           let held : StoreHolds (folding_at lane) c.store.result.now found.0.closed =
           subst (λ store. StoreHolds (folding_at lane) store found.0.closed) (sym c.store.ensures)
-          (drained_holds lane found.0 drained (found.2 i (omega arith))) in
+          (drained_holds lane found.0 drained (found.2 i (sym (zero-add i)))) in
           let table = c.in_ok-held_table.ensures.held (folding_at lane) found.0.closed each held in
           let next = tables_next groups lanes machines i c.group.result.now lane found.0 c.group.ensures here found.1 in
           c.in_ok-push.ensures.ok ∙ (ap (λ ts. ts ++ c.in_ok-held_table.field-0 ∷ []) (c.loop-i.invariant.closed machines stand)
@@ -63,8 +59,8 @@ loop-i-preserved g c =
 pub returns : goal.returns
 returns g c =
     let end = c.loop-i-test.false in record {
-      stored = c.loop-i.invariant.stored ∙ stored_whole c.args.plan.now.groups c.args.lanes.now c.loop-i.i (omega arith);
+      stored = c.loop-i.invariant.stored ∙ stored_whole c.args.plan.now.groups c.args.lanes.now c.loop-i.i end;
       closed = λ machines stand.
           let lanes = c.args.lanes.now in
-          c.loop-i.invariant.closed machines stand ∙ tables_whole c.args.plan.now.groups lanes machines c.loop-i.i (omega arith);
+          c.loop-i.invariant.closed machines stand ∙ tables_whole c.args.plan.now.groups lanes machines c.loop-i.i end;
     }

@@ -1,6 +1,6 @@
 -- Merges one after another, up to the one that finds the pipe empty.
 use Rattle.std.proofs.Common.{rules, ◌≡◌, ◌+◌, ◌*◌, ◌≤◌, Ok, suc, [], ◌∷◌, length, replicate, refl, ap, ◌∙◌, subst}
-use Rattle.std.proofs.Common.{arith, le_trans, length-drop}
+use Rattle.std.proofs.Common.{ℕ, ◌-◌, sym, arith, le_of_eq, le_refl, le_trans, length-drop}
 use Rattle.epoch_model.{specs.Machine.Merge, proofs.Endings.no_end}
 use Rattle.switch_core.{specs.{Costs.merge_cost, FrontEvents.{CarriesUpTo, with_store}}, proofs.Carrying.{fits_kept, keeps_on, keeps_same}}
 use Rattle.switch_core.proofs.Carrying.{keeps_start, same_store, up_to_first_as, up_to_on, up_to_start, up_to_whole}
@@ -12,13 +12,16 @@ pub records-init : goal.records-init
 records-init g c = record {
   carries = up_to_start _ _ g.row.WAYS _ (with_store c.args.front.now c.args.store.now);
   sizes = keeps_start _;
-  later = omega arith;
-  cost = omega arith;
+  later = le_refl _;
+  cost = le_refl _;
 }
 
 pub merge_into-requires : goal.merge_into-requires
 merge_into-requires g c =
     (search rules, fits_kept g.K.EpochKind.sizes _ _ c.records.invariant.sizes c.requires)
+
+one_gone : (many left : ℕ) → (many ≡ 0 → ⊥) → left ≡ many - 1 → many ≡ suc left
+one_gone many left some is = omega arith
 
 -- the steps of a merge, and of all merges up to the last one
 merged : (g : _) (c : After-merge_into g) → (let first = c.args.front.now in c.merge_into.new.steps
@@ -41,8 +44,7 @@ records-preserved g c =
     let some : length was.pipe.records ≡ 0 → ⊥ =
     λ none. not_empty c.merge_into.result c.in_ok-merge_into.field-0 c.in_ok-merge_into.was c.in-Done.is
     (c.merge_into.ensures.empty.1 none) in
-    let fewer : length was.pipe.records ≡ suc (length new.pipe.records) =
-    let left = ap length c.in_ok-merge_into.ensures.records ∙ length-drop 1 was.pipe.records in omega arith in
+    let fewer = one_gone _ _ some (ap length c.in_ok-merge_into.ensures.records ∙ length-drop 1 was.pipe.records) in
     let all = replicate (suc (length first.pipe.records)) Merge in
     record {
       carries = up_to_on g.K.EpochKind.stands g.K.EpochKind.folding g.row.WAYS all (Merge ∷ [])
@@ -51,7 +53,7 @@ records-preserved g c =
           (replicate (suc n) Merge) first was) fewer before.carries)
           (new, made, refl);
       sizes = keeps_on first was new before.sizes made.sizes;
-      later = let a = before.later in let b = c.merge_into.ensures.steps in omega arith;
+      later = le_trans before.later c.merge_into.ensures.steps;
       cost = merges_more c.args.steps.now c.records.steps c.merge_into.new.steps (length first.pipe.records) (length was.pipe.records)
           (length new.pipe.records)
           (merge_cost first.cache.key_words first.cache.entry_words (g.K.EpochKind.merge_bound first.kind)) fewer
@@ -64,8 +66,7 @@ records-smaller g c =
     let some : length was.pipe.records ≡ 0 → ⊥ =
     λ none. not_empty c.merge_into.result _ c.in_ok-merge_into.was c.in-Done.is
     (c.merge_into.ensures.empty.1 none) in
-    let left = ap length c.in_ok-merge_into.ensures.records ∙ length-drop 1 was.pipe.records in
-    omega arith
+    le_of_eq (sym (one_gone _ _ some (ap length c.in_ok-merge_into.ensures.records ∙ length-drop 1 was.pipe.records)))
 
 pub returns : goal.returns
 returns g c =
@@ -85,8 +86,7 @@ returns g c =
       empty =
           let was = c.records.front in
           let none : length was.pipe.records ≡ 0 = c.merge_into.ensures.empty.0 (c.in_ok-merge_into.was ∙ ap Ok c.in_default.is) in
-          let left = ap length c.in_ok-merge_into.ensures.records ∙ length-drop 1 was.pipe.records in
-          omega arith;
+          ap length c.in_ok-merge_into.ensures.records ∙ (length-drop 1 was.pipe.records ∙ ap (λ n. n - 1) none);
       sizes = keeps_on (with_store c.args.front.now c.args.store.now) (with_store c.records.front c.records.store)
           (with_store c.merge_into.new.self c.merge_into.new.store) c.records.invariant.sizes c.in_ok-merge_into.ensures.carries.sizes;
       steps = le_trans c.records.invariant.later c.merge_into.ensures.steps;

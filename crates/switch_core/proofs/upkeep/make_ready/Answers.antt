@@ -1,5 +1,6 @@
 -- A full pipe merges once, and any other is left as it is.
-use Rattle.std.{proofs.Common.{rules, ◌≡◌, true, false, length, refl, sym, ap, ◌∙◌, subst, length-drop}, specs.Prelude.nat_lt}
+use Rattle.std.proofs.Common.{◌≡◌, true, false, length, refl, sym, ap, ◌∙◌, subst, le-add_right, le_refl, length-drop}
+use Rattle.std.{proofs.lemmas.Bool.ltb-true, specs.Prelude.nat_lt}
 use Rattle.switch_core.{specs.FrontEvents.{CarriesAll, with_store}, proofs.Carrying.keeps_start}
 use Rattle.switch_core.proofs.Emptying.{left_fewer, left_same, room_none, room_one}
 use Rattle.switch_core.proofs.upkeep.make_ready.Goals as goal
@@ -14,12 +15,12 @@ returns-then-ready g c =
           subst (λ events. CarriesAll g.K.EpochKind.stands g.K.EpochKind.folding g.row.WAYS events here here)
           (sym (room_none front.pipe.places (length front.pipe.records) room)) refl;
       err = tt;
-      ready = search rules;
+      ready = ltb-true _ _ room;
       waiting = sym (left_same front.pipe.places (length front.pipe.records) room);
       cache = refl;
       sizes = keeps_start (with_store c.args.front.now c.args.store.now);
-      steps = search rules;
-      cost = search rules;
+      steps = le_refl _;
+      cost = le-add_right _ _;
     }
 
 pub returns : goal.returns

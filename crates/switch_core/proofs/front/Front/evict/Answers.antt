@@ -1,5 +1,6 @@
 -- An eviction pushes the record of the least recently used pair and drops the pair, or finds no pair.
 use Rattle.std.proofs.Common.{◌≡◌, ℕ, ◌+◌, ◌-◌, ◌<◌, length, refl, sym, ap, ◌∙◌, lit<, length-append, arith, true, true≢false}
+use Rattle.std.proofs.Common.{add-zero, ne_of_gt}
 use Rattle.std.{proofs.lemmas.Bool.{lt-ltb, Decides.nat_tests}, specs.Prelude.{not, ◌==◌}}
 use Rattle.bucket_cache.specs.Caches.{list_at}
 use Rattle.epoch_model.specs.Machine.{Evict}
@@ -33,6 +34,10 @@ drop_entry-requires g c = (
 some_are : (n : ℕ) → 0 < n → true ≡ not (n == 0)
 some_are n h = grind (arith, nat_tests)
 
+pushed_and_dropped : (first pushed dropped words key entry : ℕ) → words ≡ key + entry → pushed ≡ first + words → dropped ≡ pushed + 1
+    → dropped ≡ first + (key + entry + 1)
+pushed_and_dropped first pushed dropped words key entry w p d = omega arith
+
 pub returns-in-Some : goal.returns-in-Some
 returns-in-Some g c =
     let old = c.self.inside in
@@ -56,7 +61,7 @@ returns-in-Some g c =
     ap length (c.push_pair.ensures.pushed bucket (length list - 1) least.0 least.1 least.2) ∙ length-append old.pipe.records _ in
     record {
       carries = λ store. rw (← c.self.view_is) (carries_evict _ _ _ _ _ _ made pairs (rw (lt-ltb 0 _ some) records)
-          (λ none. absurd (omega (arith, some, none))) store);
+          (λ none. absurd (ne_of_gt some none)) store);
       some = rw (← c.self.view_is) (some_are _ some);
       cache = rw (← c.self.view_is) pairs;
       records = rw (← c.self.view_is) records;
@@ -65,7 +70,7 @@ returns-in-Some g c =
           let words = c.self.invariant.front.record_words in
           let pushed = c.push_pair.ensures.cost in
           let dropped = c.drop_entry.ensures.cost in
-          rw (← c.self.view_is) (omega arith);
+          rw (← c.self.view_is) (pushed_and_dropped _ _ _ _ _ _ words pushed dropped);
     }
 
 pub returns-in-None : goal.returns-in-None
@@ -78,10 +83,10 @@ returns-in-None g c =
     let made = front_makes stands g.row.WAYS (Evict bucket) old.kind old.cache old.cache old.pipe old.pipe (sizes_same old.cache) refl
     (λ m s. rw (evict_none stands old.cache bucket none m s.cached) s) in
     record {
-      carries = λ store. rw (← c.self.view_is) (carries_evict _ _ _ _ _ _ made taken (rw none (omega arith)) (λ h. refl) store);
+      carries = λ store. rw (← c.self.view_is) (carries_evict _ _ _ _ _ _ made taken (rw none (sym (add-zero _))) (λ h. refl) store);
       some = rw (← c.self.view_is, none);
       cache = rw (← c.self.view_is) taken;
-      records = omega arith;
+      records = sym (add-zero _);
       same = λ none. refl;
-      cost = omega arith;
+      cost = sym (add-zero _);
     }

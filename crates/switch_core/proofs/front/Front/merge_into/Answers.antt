@@ -1,7 +1,8 @@
 -- An empty pipe merges nothing, and a merge of its oldest record leaves room.
-use Rattle.std.proofs.Common.{◌≡◌, ◌-◌, ◌<◌, ◌≤◌, ℕ, length, length-drop, ap, arith, refl, sym, ◌∙◌, subst}
+use Rattle.std.proofs.Common.{◌≡◌, ◌-◌, ◌<◌, ◌≤◌, ℕ, length, length-drop, ap, arith, refl, sym, ◌∙◌, subst, le-add_right, le_refl}
+use Rattle.std.proofs.Common.{ne_of_gt, pos_of_ne-zero}
 use Rattle.switch_core.specs.FrontEvents.{with_store}
-use Rattle.switch_core.proofs.{Carrying.carries_none, MergeSteps.none_dropped}
+use Rattle.switch_core.proofs.{Carrying.carries_none, Emptying.not_empty, MergeSteps.none_dropped}
 use Rattle.switch_core.proofs.front.Front.merge_into.Goals as goal
 
 pub returns-then-len-eq0 : goal.returns-then-len-eq0
@@ -20,8 +21,8 @@ returns-then-len-eq0 g c =
           (subst (λ n. n < c.self.inside.pipe.places) (sym empty) c.self.invariant.front.some_places);
       kind = refl;
       cache = refl;
-      steps = omega arith;
-      cost = omega arith;
+      steps = le_refl _;
+      cost = le-add_right _ _;
     }
 
 -- one of some records is gone
@@ -34,15 +35,15 @@ returns g c =
     let made = c.merge_oldest.ensures in
     let done = c.in_ok-merge_oldest.ensures in
     let many = c.len.ensures.number in
-    let some : 0 < length c.self.inside.pipe.records = omega (arith, many, c.if-len-eq0.false) in
+    let some : 0 < length c.self.inside.pipe.records = pos_of_ne-zero (λ e. c.if-len-eq0.false (many ∙ e)) in
     let some_old : 0 < length old.pipe.records = subst (λ x. 0 < length x.pipe.records) c.self.view_is some in
     let few : length old.pipe.records ≤ old.pipe.places =
     subst (λ x. length x.pipe.records ≤ x.pipe.places) c.self.view_is c.len.ensures.sound.few in
     record {
       carries = done.carries;
       fits = made.fits;
-      empty = (λ e. absurd cc, λ n. absurd (omega (arith, n, some_old)));
-      same = λ e. absurd cc;
+      empty = (λ e. absurd (not_empty _ _ refl refl e), λ n. absurd (ne_of_gt some_old n));
+      same = λ e. absurd (not_empty _ _ refl refl e);
       err = tt;
       records = done.records;
       ready = room_left _ _ _ _ few some_old (ap length done.records ∙ length-drop 1 old.pipe.records) done.carries.sizes.places;

@@ -1,10 +1,10 @@
 -- The oldest record's epoch goes on in the store, and the record is gone from the pipe.
-use Rattle.std.proofs.Common.{rules, ◌≡◌, ℕ, ◌+◌, ◌<◌, ◌≤◌, length, refl, sym, ap, ◌∙◌, subst, arith}
+use Rattle.std.proofs.Common.{◌≡◌, ℕ, ◌+◌, ◌<◌, ◌≤◌, drop, length, refl, sym, ap, ◌∙◌, subst, arith, ne_of_gt}
 use Rattle.epoch_model.{specs.Machine.Merge, proofs.Endings.no_end}
 use Rattle.switch_core.specs.{Costs.merge_cost, FrontParts.{FitsStore, front_of}, FrontEvents.{Carries, MergesNext, with_store}}
 use Rattle.switch_core.specs.Lanes.{RecordStands}
 use Rattle.switch_core.proofs.{Carrying.carries_merge, FrontSizes.{front_makes, parts_kept, sizes_same}}
-use Rattle.switch_core.proofs.MergeSteps.{front_merged, next_held}
+use Rattle.switch_core.proofs.{LaneFacts.err_holds, MergeSteps.{front_merged, next_held}}
 use Rattle.switch_core.proofs.front.Front.merge_oldest.Goals as goal
 use Rattle.switch_core.proofs.front.Front.merge_oldest.Goals.{After-merge_record}
 
@@ -16,12 +16,17 @@ still_fits g c =
     subst (λ x. FitsStore (g.K.EpochKind.sizes x.kind) x.cache c.args.store.now) (sym c.self.view_is) c.requires.fits in
     record { key = c.merge_record.ensures.key_words ∙ fits.key; state = c.merge_record.ensures.state_words ∙ fits.state }
 
+both : {A B : Type 0} → A → B → A × B
+both a b = (a, b)
+
+after_words : (first last key entry most : ℕ) → last ≤ first + most → last ≤ first + (key + entry + most)
+after_words first last key entry most h = omega arith
+
 spent : (g : _) (c : After-merge_record g) → (let front = c.args.self.now in c.merge_record.new.steps
     ≤ c.args.steps.now + merge_cost front.cache.key_words front.cache.entry_words (g.K.EpochKind.merge_bound front.kind))
 spent g c =
-    let merged = c.merge_record.ensures.cost in
     subst (λ x. c.merge_record.new.steps ≤ c.args.steps.now + merge_cost x.cache.key_words x.cache.entry_words
-    (g.K.EpochKind.merge_bound x.kind)) c.self.view_is (omega arith)
+    (g.K.EpochKind.merge_bound x.kind)) c.self.view_is (after_words _ _ _ _ _ c.merge_record.ensures.cost)
 
 pub returns : goal.returns
 returns g c =
@@ -47,10 +52,10 @@ returns g c =
       carries = subst (λ x. Carries g.K.EpochKind.stands g.K.EpochKind.folding g.row.WAYS Merge (with_store x store) (with_store new after))
           c.self.view_is (carries_merge g.K.EpochKind.sizes _ _ _
           (front_of old.kind old.cache old.pipe) new store after made next fits fit refl
-          (ap (λ p. p.records) c.drop_front.ensures) (λ none. absurd (omega arith)));
+          (ap (λ p. p.records) c.drop_front.ensures) (λ none. absurd (ne_of_gt some none)));
       fits = fit;
-      err = search rules;
-      records = search rules;
+      err = tt;
+      records = ap (λ p. p.records) c.drop_front.ensures ∙ ap (λ x. drop 1 x.pipe.records) c.self.view_is;
       kind = ap (λ x. x.kind) c.self.view_is;
       cache = ap (λ x. x.cache) c.self.view_is;
       steps = c.merge_record.ensures.steps;
@@ -62,7 +67,7 @@ returns-in_err-merge_record g c =
     record {
       carries = no_end c.from_residual.result _ c.from_residual.ensures.0;
       fits = still_fits g (goal.at.returns-in_err-merge_record g c).After-merge_record;
-      err = search rules;
+      err = err_holds _ _ (both c.self.view_is c.in_err-merge_record.ensures.err);
       records = no_end c.from_residual.result _ c.from_residual.ensures.0;
       kind = ap (λ x. x.kind) c.self.view_is;
       cache = ap (λ x. x.cache) c.self.view_is;

@@ -1,5 +1,5 @@
 -- A packet that the groupby takes is the packet event of its key and its arguments at the front.
-use Rattle.std.proofs.Common.{◌≡◌, ◌+◌, ◌≤◌, ◌∷◌, [], ℕ, length, arith, le_trans, refl, sym, ap₂, ◌∙◌, subst}
+use Rattle.std.proofs.Common.{◌≡◌, ◌+◌, ◌≤◌, ◌∷◌, [], ℕ, length, arith, le-add_right, le_refl, le_trans, refl, sym, ap₂, ◌∙◌, subst}
 use Rattle.epoch_model.specs.{Driving.event_of, Machine.Packet}
 use Rattle.epoch_entry.specs.contracts.any.AnyEpochsEpochKind.TheImpl.{ghosts}
 use Rattle.stage_plan.specs.{Planned.wiring_at, Registers.taken_at}
@@ -10,8 +10,8 @@ use Rattle.switch_core.proofs.lane.Lane+AnyEpochs+WAYS.take.Goals as goal
 pub returns-then-not-present : goal.returns-then-not-present
 returns-then-not-present g c = record {
   makes = rw (sym c.present.ensures ∙ c.if-not-present.true) (record { kind = refl; made = refl });
-  steps = omega arith;
-  cost = omega arith;
+  steps = le_refl _;
+  cost = le-add_right _ _;
 }
 
 -- the words of the key and of the arguments are copied before

@@ -1,5 +1,5 @@
 -- Where all closed epochs are merged, the rows that the store holds are those of the table.
-use Rattle.std.proofs.Common.{◌≡◌, true, length, sym, ap, ◌∙◌, subst}
+use Rattle.std.proofs.Common.{◌≡◌, true, length, refl, sym, ap, ◌∙◌, subst}
 use Rattle.final_queries.specs.GroupTable.{Heading, closed_table}
 use Rattle.switch_core.{specs.{Closing.is_drained, Lanes.LaneStands}, proofs.{MergeSteps.none_piped, Drained.drained_parts}}
 use Rattle.switch_core.proofs.ClosedTable.{table_is, all_held}
@@ -28,6 +28,6 @@ returns g c m s =
           c.args.class;
       depth = c.args.depth;
     } in
-    table_is heading f m.closed c.name.inside.bytes.items c.in_ok-columns.field-0 c.len-keys.result c.in_ok-shown.shown.epochs
-    c.in_ok-shown.shown.rows c.name.view_is c.in_ok-columns.ensures c.len-keys.ensures shown.1 shown.0
+    table_is heading f m.closed c.args.name c.in_ok-columns.columns c.len-keys.result c.in_ok-shown.shown.epochs
+    c.in_ok-shown.shown.rows refl c.in_ok-columns.ensures c.len-keys.ensures shown.1 shown.0
     ∙ ap (λ x. closed_table heading (g.K.EpochKind.folding x.kind) m.closed) c.self.view_is

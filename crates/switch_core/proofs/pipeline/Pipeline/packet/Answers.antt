@@ -1,5 +1,6 @@
 -- Each lane makes the packet event of what its groupby takes of the registers.
-use Rattle.std.proofs.Common.{◌≡◌, ◌+◌, ◌≤◌, ℕ, le_trans, length, drop, get_or, refl, sym, ap, ◌∙◌, subst, true, arith, lit<}
+use Rattle.std.proofs.Common.{◌≡◌, ◌+◌, ◌<◌, ◌≤◌, ℕ, length, drop, get_or, refl, sym, ap, ◌∙◌, subst, true, arith, le-add_right}
+use Rattle.std.proofs.Common.{le_refl, le_trans, lit<, le_of_lt}
 use Rattle.std.{proofs.Math.Facts.Fits-below, specs.List.list_all}
 use Rattle.epoch_model.specs.Driving.{event_of}
 use Rattle.query_lang.specs.declared.fault.TheConstants.{MAX_ARGS, MAX_KEYS}
@@ -31,8 +32,8 @@ loop-i-init g c = record {
   makes = done_start (λ n. LaneMakes g.row.WAYS
       (event_of (taken_at (wiring_at c.args.self.now.plan n) c.registers_of-registers.result.now))) 0 c.deref_mut-lanes.result.now;
   same = untouched_start 0 0 c.deref_mut-lanes.result.now;
-  steps = omega arith;
-  cost = omega arith;
+  steps = le_refl _;
+  cost = le-add_right _ _;
   key = refl;
   args = refl;
 }
@@ -40,12 +41,9 @@ loop-i-init g c = record {
 pub overflow_cast-i : goal.overflow_cast-i
 overflow_cast-i g c =
     let p = c.self.inside in
-    let many = c.invariant.ensures.most_groups in
-    let value = ap length c.deref_mut-lanes.ensures.value in
-    let long : length p.lanes.items ≡ length p.plan.groups = each_long _ 0 p.lanes.items p.plan.groups c.self.invariant.lanes in
-    let kept = c.loop-i.auto.lanes in
-    let below = c.loop-i-test.true in
-    Fits-below {n = MAX_KEYS} tt (omega arith)
+    let long = ap length c.deref_mut-lanes.ensures.value ∙ each_long _ 0 p.lanes.items p.plan.groups c.self.invariant.lanes in
+    Fits-below {n = MAX_KEYS} tt
+    (le_trans (le_of_lt (subst (λ n. c.loop-i.i < n) long c.loop-i-test.true)) c.invariant.ensures.most_groups)
 
 pub take-requires : goal.take-requires
 take-requires g c =
@@ -100,15 +98,14 @@ within_more first cost most few = omega arith
 pub returns : goal.returns
 returns g c =
     let p = c.self.inside in
-    let kept = c.loop-i.auto.lanes in
     let end = c.loop-i-test.false in
     let row = c.fill_registers.ensures.cost in
     let lanes = rw c.deref_mut-lanes.ensures.value at
-    (sum_whole (lane_cost g.row.WAYS) c.deref_mut-lanes.result.now c.loop-i.i _ _ (omega arith) c.loop-i.invariant.cost) in
+    (sum_whole (lane_cost g.row.WAYS) c.deref_mut-lanes.result.now c.loop-i.i _ _ end c.loop-i.invariant.cost) in
     record {
       makes =
           let same : p.plan ≡ c.args.self.now.plan = ap (λ (v : PipelineView). v.plan) c.self.view_is in
-          let made = done_end _ c.loop-i.i c.deref_mut-lanes.result.now c.loop-i.lanes c.loop-i.invariant.makes (omega arith) in
+          let made = done_end _ c.loop-i.i c.deref_mut-lanes.result.now c.loop-i.lanes c.loop-i.invariant.makes end in
           rw (← c.self.view_is) (given_back g.row.WAYS (packet_events p.plan c.args.p.now.words) _ p.plan _ _ _ _ _
           c.deref_mut-lanes.ensures.value (c.loop-i.auto.lanes ∙ c.deref_mut-lanes.ensures.len)
           (rw (← same, c.registers_of-registers.ensures.row) at made) c.self.invariant.lanes c.self.invariant.made).makes;
@@ -124,9 +121,8 @@ returns g c =
 pub invariant_of-self : goal.invariant_of-self
 invariant_of-self g c =
     let was = c.self.invariant in
-    let kept = c.loop-i.auto.lanes in
     let end = c.loop-i-test.false in
-    let made = done_end _ c.loop-i.i c.deref_mut-lanes.result.now c.loop-i.lanes c.loop-i.invariant.makes (omega arith) in
+    let made = done_end _ c.loop-i.i c.deref_mut-lanes.result.now c.loop-i.lanes c.loop-i.invariant.makes end in
     let lanes = (given_back _ _ _ c.self.inside.plan _ _ _ _ _ c.deref_mut-lanes.ensures.value
     (c.loop-i.auto.lanes ∙ c.deref_mut-lanes.ensures.len) made
     was.lanes was.made).kept in

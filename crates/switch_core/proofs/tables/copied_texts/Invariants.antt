@@ -1,6 +1,0 @@
-use Rattle.std.proofs.Common.{◌≡◌, take}
-use Rattle.switch_core.proofs.tables.copied_texts.Given as goal
-
--- the texts so far
-abbrev pub invariant-loop-text : goal.invariant-loop-text
-invariant-loop-text l = l.copy ≡ take l.text-index l.texts
