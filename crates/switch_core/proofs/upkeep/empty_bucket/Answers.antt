@@ -1,7 +1,8 @@
 -- Evictions in order, each with room made for its record, up to the one that finds the bucket empty.
 use Rattle.std.proofs.Common.{rules, ◌≡◌, ℕ, ◌+◌, ◌-◌, ◌<◌, ◌≤◌, ◌==◌, Bool, not, true, false, if◌then◌else◌, suc, [], length, take}
 use Rattle.epoch_model.proofs.Endings.{no_end}
-use Rattle.std.proofs.{Common.{refl, sym, ap, ap₂, ◌∙◌, subst, arith, get_or-set_other, le_of_eq, le_refl, le_trans}, lemmas.Bool.Decides.nat_tests}
+use Rattle.std.proofs.Common.{refl, sym, ap, ap₂, ◌∙◌, subst, arith, get_or-set_other, le_of_eq, le_refl, le_trans}
+use Rattle.std.proofs.lemmas.Bool.Decides.{nat_tests}
 use Rattle.bucket_cache.specs.Caches.{list_at, with_list}
 use Rattle.switch_core.specs.{Closing.held_in, Costs.{evict_cost, merge_cost}, FrontEvents.with_store, Upkeeps.{left_waiting, sweep_from}}
 use Rattle.switch_core.proofs.Carrying.{fits_kept, keeps_on, keeps_start, same_store, up_to_first_as, up_to_start}
