@@ -14,3 +14,4 @@ pub mod KindFacts
 pub mod TripleLemmas
 pub mod PurposeFacts
 pub mod Insides
+pub mod Rooms
