@@ -15,7 +15,7 @@ use Rattle.stage_plan.specs.{Packets.AreWhole, declared.group.{GroupPlan.GroupPl
 use Rattle.stage_plan.specs.{declared.op.Operand.TheVariants.Number, Planned.{IsPlanOf, fold_at, taken, wiring_at, packet_registers}}
 use Rattle.stage_plan.specs.{Registers.operand_value, Shape.group_shape, Sound.{PlanParts, IsSoundPlan}}
 use Rattle.switch_core.specs.{Pipelines.{IsLaneOf, heading_of, tables_of}, PlanLanes.{LaneView, AreLanesOf, folding_at}, Rows.EachFrom}
-use Rattle.trace_drive.specs.Drives.{uses_by, ends_from, end_machines}
+use Rattle.switch_core.specs.Ends.{uses_by, ends_from, end_machines}
 use Rattle.enclosure_folds.{specs.{KeyBounds.enclosed_table, Shown.{MayBeShown, shown, TablesGiveBounds}}, proofs.CheckFacts.stands}
 use Rattle.enclosed_query.specs.EnclosedTables.{enclosed_if, enclosed_from, enclosed_tables, EndsGiveEnclosedTables}
 use Rattle.enclosed_query.proofs.Groups.{heading_is}

@@ -11,7 +11,7 @@ use Rattle.final_queries.specs.{declared.table.Table.Table, Finals.with_finals}
 use Rattle.table_printer.specs.TableText.{table_text}
 use Rattle.query_tables.specs.Tables.{heading_of_shape}
 use Rattle.switch_core.specs.{Pipelines.tables_of, PlanLanes.{LaneView, PipelineView, AreLanesOf, PipelineStands, folding_at}}
-use Rattle.trace_drive.specs.Drives.{end_machines}
+use Rattle.switch_core.specs.Ends.{end_machines}
 use Rattle.enclosure_folds.specs.declared.table.Enclosed.{Enclosed}
 use Rattle.enclosure_folds.specs.declared.table.Enclosed.TheVariants as enclosed
 use Rattle.enclosure_folds.specs.{BoundsTables.{bounds_text, exact_table}, KeyBounds.enclosed_table, Shown.{MayBeShown, shown}}

@@ -6,7 +6,8 @@ use Rattle.query_lang.specs.declared.{fault.QueryFault.QueryFault, typed.TypedQu
 use Rattle.stage_plan.specs.{Fields.reads_of, Packets.AreWhole, Planned.IsPlanOf, Shape.{query_shape, plan_text_of}, Sound.PlanParts}
 use Rattle.trace_reader.specs.Traces as traces
 use Rattle.trace_reader.specs.declared.fault.TraceFault.{TraceFault}
-use Rattle.trace_drive.specs.{Answers.text_unless, Drives.{end_machines, words_of}, declared.answer.RunError.RunError}
+use Rattle.switch_core.specs.Ends.{end_machines}
+use Rattle.trace_drive.specs.{Answers.text_unless, Drives.words_of, declared.answer.RunError.RunError}
 use Rattle.trace_drive.specs.declared.answer.RunError.TheVariants as breaks
 use Rattle.trace_drive.proofs.{Breaking.nothing_taken, WholePackets.read_whole}
 use Rattle.query_run.specs.{Runs.query_ends, Driven.{IsLeftBy, geometry_of, pipeline_in}, declared.driven.Driven.Driven}

@@ -2,8 +2,8 @@
 use Rattle.std.proofs.Common.{◌≡◌, ℕ, List, [], Option, None, Some, IfSome, Ok, Err, ap, refl, sym, ◌∙◌, subst}
 use Rattle.marple_base.specs.{Inputs.Input, declared.inputs.Which.{Which, TheVariants.{Query, Trace}}}
 use Rattle.query_lang.specs.{Checks.Checked, declared.fault.QueryFault.QueryFault}
-use Rattle.switch_core.specs.PlanLanes.{PipelineStands}
-use Rattle.trace_drive.specs.Drives.{end_machines, words_of}
+use Rattle.switch_core.specs.{PlanLanes.PipelineStands, Ends.end_machines}
+use Rattle.trace_drive.specs.Drives.{words_of}
 use Rattle.trace_reader.specs.Traces.{contents, packets}
 use Rattle.trace_reader.specs.Traces as traces
 use Rattle.command_line.specs.declared.{command.Command.TheVariants.RunPlan, setting.Setting.Setting}

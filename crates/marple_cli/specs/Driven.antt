@@ -3,9 +3,9 @@ use Rattle.std.specs.Prelude.{◌≡◌, ℕ, List, Option, Some, None, Ok, Err}
 use Rattle.query_lang.specs.{declared.typed.TypedQuery.TypedQuery, Checks.Checked}
 use Rattle.marple_base.specs.{Inputs.Input, declared.{field.Packet.Packet, inputs.Which.Which}}
 use Rattle.stage_plan.specs.Planned.{IsPlanOf}
-use Rattle.switch_core.specs.PlanLanes.{PipelineView, PipelineStands}
+use Rattle.switch_core.specs.{PlanLanes.{PipelineView, PipelineStands}, Ends.end_machines}
 use Rattle.query_run.specs.Runs.{query_ends}
-use Rattle.trace_drive.specs.Drives.{end_machines, words_of}
+use Rattle.trace_drive.specs.Drives.{words_of}
 use Rattle.trace_reader.specs.Traces as traces
 use Rattle.plan_file.specs.declared.made.Made.{Made}
 use Rattle.plan_loader.specs.{Meaning.reads_in, Parts.IsPlanFrom}

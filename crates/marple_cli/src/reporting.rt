@@ -2,8 +2,8 @@
 ghost use Rattle.std.specs.{Prelude.{◌≡◌, ◌≤◌, ◌+◌, ℕ, List, None, IfOk, IfErr, IfSome}, Io.KnownBytes.Appends};
 ghost use Rattle.epoch_model.specs.Epochs.{Geometry};
 ghost use Rattle.marple_base.specs.Inputs.{IsClosed, LosesUpTo};
-ghost use Rattle.switch_core.specs.PlanLanes.{PipelineStands};
-ghost use Rattle.trace_drive.specs.Drives.{end_machines, words_of};
+ghost use Rattle.switch_core.specs.{PlanLanes.PipelineStands, Ends.end_machines};
+ghost use Rattle.trace_drive.specs.Drives.{words_of};
 ghost use Rattle.trace_reader.specs.Traces.{trace_fault, packets};
 ghost use Rattle.command_answers.specs.Phases.{TraceEnds};
 ghost use Rattle.command_line.specs.Command.{IsSetting};

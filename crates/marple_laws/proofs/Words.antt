@@ -68,7 +68,8 @@ pub use Rattle.query_lang.specs.Names.{AreOnce, number_in, with_name}
 pub use Rattle.plan_loader.specs.Meaning.{block_in, fold_in, reads_in, table_in, uses_in, wiring_in}
 unfoldable pub use Rattle.plan_loader.specs.Meaning.{plan_output, plan_tables}
 pub use Rattle.stage_plan.specs.Sound.{AreSoundOps, IsSoundGroup, IsSoundOp, IsSoundPlan, IsWithin, PlanParts}
-pub use Rattle.trace_drive.specs.Drives.{end_machines, ends_from, uses_by, words_of}
+pub use Rattle.switch_core.specs.Ends.{end_machines, ends_from, uses_by}
+pub use Rattle.trace_drive.specs.Drives.{words_of}
 pub use Rattle.epoch_model.specs.Epochs.{Geometry}
 pub use Rattle.command_line.specs.declared.setting.Setting.{Setting}
 pub use Rattle.plan_file.specs.declared.line_word.LineWord.{LineWord}

@@ -15,7 +15,7 @@ use Rattle.query_tables.specs.Tables.{heading_of_shape, table_text_at}
 use Rattle.stage_plan.specs.{declared.group.GroupPlan.GroupPlan, Planned.taken}
 use Rattle.stage_plan.specs.Sound.{PlanParts}
 use Rattle.switch_core.specs.{Pipelines.{heading_of, tables_of}, PlanLanes.{AreLanesOf, LaneView, folding_at}, Rows.EachFrom}
-use Rattle.trace_drive.specs.Drives.{end_machines, ends_from, uses_by}
+use Rattle.switch_core.specs.Ends.{end_machines, ends_from, uses_by}
 use Rattle.query_run.specs.{PlanReports.{EndsAreTheTexts, HasKeys, HaveNumbers, numbered_print}, Reports.Reports}
 use Rattle.query_run.specs.declared.report.Report.TheVariants.{Plan}
 use Rattle.query_run.proofs.QueryEnds.{IsFoldLane, first_at}

@@ -16,8 +16,8 @@ use Rattle.plan_loader.proofs.SoundPlan.{all_at}
 use Rattle.stage_plan.specs.{Packets.AreWhole, declared.group.GroupPlan.GroupPlan, Planned.{IsPlanOf, fold_at, taken, wiring_at}}
 use Rattle.stage_plan.specs.{Shape.group_shape, Sound.PlanParts}
 use Rattle.switch_core.specs.{Pipelines.{IsLaneOf, heading_of, tables_of}, PlanLanes.{LaneView, AreLanesOf, folding_at}, Rows.EachFrom}
+use Rattle.switch_core.specs.Ends.{uses_by, ends_from, end_machines}
 use Rattle.query_tables.specs.{Tables.{group_tables, tables_from, query_table, table_if, query_text}, TableLaws.QueryTablesAreRead}
-use Rattle.trace_drive.specs.Drives.{uses_by, ends_from, end_machines}
 use Rattle.query_run.specs.{QueryReports.{AreGroupTables, query_print}, Reports.Reports, Runs.{ends_of, query_ends, EndsAreTheQuerys}}
 use Rattle.query_run.specs.declared.report.Report.TheVariants.{Query}
 

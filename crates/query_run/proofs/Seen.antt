@@ -9,7 +9,8 @@ use Rattle.live_view.specs.{Laws.ViewsEndTheTrace, Views.{all_closed, tables_see
 use Rattle.query_run.specs.{EndTables.{AtEnds, end_tables}, Views.IsAsFarAs}
 use Rattle.stage_plan.specs.{Packets.AreWhole, declared.group.GroupPlan.GroupPlan, Planned.taken, Sound.{IsSoundPlan, PlanParts}}
 use Rattle.switch_core.specs.{Pipelines.tables_of, PlanLanes.{AreLanesOf, PipelineStands, PipelineView, StandsFor, folding_at}}
-use Rattle.trace_drive.{specs.{Drives.{ends_from, uses_by}, Follows.AlikeFrom}, proofs.Ending.{each_long, lanes_long}}
+use Rattle.switch_core.specs.Ends.{ends_from, uses_by}
+use Rattle.trace_drive.{specs.Follows.AlikeFrom, proofs.Ending.{each_long, lanes_long}}
 
 -- a machine that is as far as the first packets has in a view what it has at the end of a trace of these packets alone
 one_end : ViewsEndTheTrace → (plan : PlanParts) (g : Geometry) (packets : List (List ℕ)) (number i : ℕ) (m : Machine)

@@ -4,8 +4,7 @@ use Rattle.epoch_entry.specs.declared.purpose.Entries.{Entries}
 use Rattle.epoch_model.specs.{Epochs.Geometry, Laws.HasRoom}
 use Rattle.final_queries.specs.declared.table.Table.{Table}
 use Rattle.stage_plan.specs.{Packets.AreWhole, Sound.{IsSoundPlan, PlanParts}}
-use Rattle.switch_core.specs.{Pipelines.tables_of, PlanLanes.{AreLanesOf, LaneView, folding_at}}
-use Rattle.trace_drive.specs.Drives.{end_machines}
+use Rattle.switch_core.specs.{Pipelines.tables_of, PlanLanes.{AreLanesOf, LaneView, folding_at}, Ends.end_machines}
 
 -- the tables that lanes of the plan give at the end of a trace whose packets have these words
 abbrev pub end_tables : PlanParts → List LaneView → Geometry → List (List ℕ) → List Table

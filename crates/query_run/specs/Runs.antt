@@ -5,9 +5,8 @@ use Rattle.query_types.specs.Uses.{uses}
 use Rattle.epoch_entry.specs.declared.purpose.Entries.TheVariants.{Folds}
 use Rattle.epoch_model.specs.{Epochs.Geometry, Machine.{Machine, end_of}, Laws.HasRoom}
 use Rattle.stage_plan.specs.{Packets.AreWhole, Planned.IsPlanOf, Sound.PlanParts}
-use Rattle.switch_core.specs.{Pipelines.tables_of, PlanLanes.{LaneView, AreLanesOf, folding_at}}
+use Rattle.switch_core.specs.{Pipelines.tables_of, PlanLanes.{LaneView, AreLanesOf, folding_at}, Ends.end_machines}
 use Rattle.query_tables.specs.Tables.{group_tables}
-use Rattle.trace_drive.specs.Drives.{end_machines}
 
 -- the machines of groupbys, which are numbered from this number on
 abbrev pub ends_of : TypedQuery → Geometry → List (List ℕ) → ℕ → List Taking → List Machine

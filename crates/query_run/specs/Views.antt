@@ -3,8 +3,8 @@ use Rattle.std.specs.Prelude.{◌≡◌, ◌==◌, ◌&&◌, ◌%◌, ◌≤◌,
 use Rattle.std.specs.Prelude.{decimal, if◌then◌else◌}
 use Rattle.epoch_model.specs.{Epochs.Geometry, Laws.HasRoom, Machine.after_packets}
 use Rattle.stage_plan.specs.Packets.{AreWhole}
-use Rattle.switch_core.specs.PlanLanes.{PipelineView}
-use Rattle.trace_drive.specs.{Drives.{coming, fault_of, uses_by}, Follows.FollowsBy, declared.packets.Packets.Packets}
+use Rattle.switch_core.specs.{PlanLanes.PipelineView, Ends.uses_by}
+use Rattle.trace_drive.specs.{Drives.{coming, fault_of}, Follows.FollowsBy, declared.packets.Packets.Packets}
 use Rattle.trace_reader.specs.declared.fault.TheConstants.{MAX_RECORDS}
 
 -- the first line of the view after this number of packets

@@ -5,8 +5,8 @@ ghost use Rattle.command_line.specs.Command.{IsSetting, ways_number};
 ghost use Rattle.epoch_model.specs.Epochs.{Geometry};
 ghost use Rattle.stage_plan.specs.Packets.{AreWhole};
 ghost use Rattle.switch_core.specs.Pipelines.{empty_machines, geometry_without_refresh};
-ghost use Rattle.switch_core.specs.PlanLanes.{HavePlaces, PipelineStands, PipelineView, lane_is_drained};
-ghost use Rattle.trace_drive.specs.{Answers.BreaksOff, Drives.{coming, end_machines, fault_of, words_of}, Turns.RunsInTurns};
+ghost use Rattle.switch_core.specs.{PlanLanes.{HavePlaces, PipelineStands, PipelineView, lane_is_drained}, Ends.end_machines};
+ghost use Rattle.trace_drive.specs.{Answers.BreaksOff, Drives.{coming, fault_of, words_of}, Turns.RunsInTurns};
 ghost use Rattle.query_run.specs.{Driven.geometry_of, Reports.{MayPrint, Prints, entries_for}, Views.{CanBeViewed, views_text}};
 
 use crate::report::Report;

@@ -3,8 +3,8 @@
 ghost use Rattle.std.specs.{Prelude.{◌≡◌, ◌≤◌, ℕ, List, None, IfOk, IfErr}, Io.KnownBytes.Appends};
 ghost use Rattle.epoch_model.specs.Epochs.{Geometry};
 ghost use Rattle.stage_plan.specs.Packets.{AreWhole};
-ghost use Rattle.switch_core.specs.PlanLanes.{PipelineStands};
-ghost use Rattle.trace_drive.specs.{Answers.BreaksOff, Drives.{end_machines, words_of}};
+ghost use Rattle.switch_core.specs.{PlanLanes.PipelineStands, Ends.end_machines};
+ghost use Rattle.trace_drive.specs.{Answers.BreaksOff, Drives.words_of};
 ghost use Rattle.trace_reader.specs.Traces.{trace_fault, packets};
 ghost use Rattle.command_line.specs.Command.{IsSetting};
 ghost use Rattle.query_run.specs.{Driven.{IsLeftWith, geometry_of, pipeline_in}, Reports.{MayPrint, Prints, entries_for}, Views.views_text};

@@ -3,8 +3,8 @@
 ghost use Rattle.std.specs.{Prelude.{◌≡◌, ◌++◌, ◌≤◌, ℕ, List, None, IfErr, IfOk, OnOk, true}, Io.KnownBytes.Appends, List.list_all};
 ghost use Rattle.epoch_model.specs.{Epochs.Geometry, Laws.HasRoom};
 ghost use Rattle.stage_plan.specs.Packets.{AreWhole};
-ghost use Rattle.switch_core.specs.PlanLanes.{PipelineStands, lane_is_drained};
-ghost use Rattle.trace_drive.specs.{Answers.BreaksOff, Drives.end_machines};
+ghost use Rattle.switch_core.specs.{PlanLanes.{PipelineStands, lane_is_drained}, Ends.end_machines};
+ghost use Rattle.trace_drive.specs.Answers.{BreaksOff};
 ghost use Rattle.query_run.specs.{Reports.{CanPrint, MayPrint, Prints, entries_for, printed_by}, Views.{IsAsFarAs, view_line, view_text}};
 
 use crate::report::Report;

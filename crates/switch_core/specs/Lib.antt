@@ -10,3 +10,4 @@ pub mod Rows
 pub mod Pipelines
 pub mod PlanLanes
 pub mod KindTables
+pub mod Ends

@@ -9,9 +9,9 @@ use Rattle.epoch_model.specs.{Machine.{Epoch, Machine, after_packets, empty_buck
 use Rattle.stage_plan.specs.{Planned.wiring_at, Sound.PlanParts, declared.group.GroupPlan.GroupPlan}
 use Rattle.switch_core.specs.{Closing.{held_in, is_drained}, Lanes.{PairStands, PairsStand, RecordsStand, Standing}, Pipelines.IsLaneOf}
 use Rattle.switch_core.specs.PlanLanes.{AreKept, AreLanesOf, HavePlaces, LaneView, PipelineView, PipelineStands, StandsFor, pipe_places}
-use Rattle.switch_core.specs.Rows.{EachFrom}
+use Rattle.switch_core.specs.{Rows.EachFrom, Ends.{end_machines, ends_from, uses_by}}
 use Rattle.switch_core.specs.declared.upkeep.Upkeep.TheVariants as due
-use Rattle.trace_drive.specs.{Drives.{end_machines, ends_from, uses_by}, Follows.{AlikeFrom, FollowsBy, Keeps}}
+use Rattle.trace_drive.specs.Follows.{AlikeFrom, FollowsBy, Keeps}
 use Rattle.trace_drive.proofs.Following.{follows_as}
 
 records_long : (means : Standing) (key_words : ℕ) (records : List (List ℕ)) (epochs : List Epoch)

@@ -6,9 +6,9 @@ use Rattle.epoch_model.specs.{Driving.event_of, Machine.{Machine, after_packets,
 use Rattle.marple_base.specs.declared.field.Packet.{Packet}
 use Rattle.stage_plan.specs.Planned.{taken}
 use Rattle.switch_core.specs.Pipelines.{empty_machines, geometry_without_refresh}
-use Rattle.switch_core.specs.PlanLanes.{AreKept, AreLanesOf, PipelineView, PipelineStands, lane_is_drained}
+use Rattle.switch_core.specs.{PlanLanes.{AreKept, AreLanesOf, PipelineView, PipelineStands, lane_is_drained}, Ends.{end_machines, uses_by}}
 use Rattle.switch_core.specs.declared.upkeep.Upkeep.TheVariants as due
-use Rattle.trace_drive.specs.{Clocks.HasCounted, Drives.{coming, end_machines, geometry_for, uses_by, words_of}, Follows.{FollowsBy, Keeps}}
+use Rattle.trace_drive.specs.{Clocks.HasCounted, Drives.{coming, geometry_for, words_of}, Follows.{FollowsBy, Keeps}}
 use Rattle.trace_drive.specs.{Replays.{Advances, IsUnderWay}, declared.{packets.Packets.Packets, replay.Replay.Replay}}
 use Rattle.trace_drive.{specs.declared.schedule.Schedule.Schedule, proofs.{Ending.whole_trace, Following.{follows_as, start_follows}}}
 use Rattle.trace_drive.proofs.Taking.{after_turn, all_taken, more_left, next_left}

@@ -5,7 +5,8 @@ use Rattle.marple_base.specs.declared.field.Packet.{Packet}
 use Rattle.epoch_model.specs.{Driving.{PacketsFollowTheTrace, TakenUsesAreInTrace, after_packet, event_of}, Epochs.Geometry}
 use Rattle.epoch_model.specs.Machine.{after_packets, packets_of}
 use Rattle.stage_plan.specs.{Planned.taken, Sound.PlanParts}
-use Rattle.trace_drive.specs.Drives.{uses_by, words_of}
+use Rattle.switch_core.specs.Ends.{uses_by}
+use Rattle.trace_drive.specs.Drives.{words_of}
 
 pub made_next : (made : List Packet) (at : ℕ) (p : Packet) → at < length made → slice_get made at ≡ Some p → drop at made ≡ p
     ∷ drop (suc at) made

@@ -2,8 +2,8 @@
 use Rattle.std.specs.Prelude.{◌≡◌, ◌+◌, ◌<◌, ◌≤◌, ℕ, suc, List, length, take, drop, Option}
 use Rattle.epoch_model.specs.Machine.{after_packets}
 use Rattle.marple_base.specs.declared.field.Packet.{Packet}
-use Rattle.switch_core.specs.PlanLanes.{PipelineView, PipelineStands}
-use Rattle.trace_drive.specs.{Clocks.HasCounted, Drives.{coming, end_machines, fault_of, geometry_for, uses_by, words_of}}
+use Rattle.switch_core.specs.{PlanLanes.{PipelineView, PipelineStands}, Ends.{end_machines, uses_by}}
+use Rattle.trace_drive.specs.{Clocks.HasCounted, Drives.{coming, fault_of, geometry_for, words_of}}
 use Rattle.trace_drive.specs.{Follows.FollowsBy, Turns.{Drains, MakesTurns}, declared.{replay.Replay.Replay, schedule.Schedule.Schedule}}
 use Rattle.trace_reader.specs.declared.fault.TraceFault.{TraceFault}
 

@@ -3,8 +3,8 @@
 ghost use Rattle.std.specs.{Prelude.{◌≡◌, ◌≤◌, ℕ, None, Some, IfErr, IfOk, OnOk, false, true}, List.list_all};
 ghost use Rattle.epoch_model.specs.Machine.{Machine, empty_buckets};
 ghost use Rattle.switch_core.specs.Pipelines.{empty_machines, geometry_without_refresh};
-ghost use Rattle.switch_core.specs.PlanLanes.{AreKept, HavePlaces, PipelineStands, lane_is_drained};
-ghost use Rattle.trace_drive.specs.{Drives.{coming, end_machines, fault_of, geometry_for, words_of}, Follows.{FollowsBy, Keeps}};
+ghost use Rattle.switch_core.specs.{PlanLanes.{AreKept, HavePlaces, PipelineStands, lane_is_drained}, Ends.end_machines};
+ghost use Rattle.trace_drive.specs.{Drives.{coming, fault_of, geometry_for, words_of}, Follows.{FollowsBy, Keeps}};
 ghost use Rattle.trace_drive.specs.Replays.{Advances, EndsInTurns, IsOnItsWay, IsUnderWay, MakesAllTurns, MakesTheirTurns, ReachesTheEnd};
 ghost use Rattle.trace_drive.specs.{Replays.{TakesTheRest, replay_fault, replay_pipeline}, Turns.{Drains, RunsInTurns}};
 ghost use Rattle.trace_reader.specs.Faults.{IfRefused};

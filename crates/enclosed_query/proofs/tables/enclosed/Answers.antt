@@ -1,8 +1,7 @@
 -- The tables of the closed pipeline are those to show, and hold over all rows that its machines took.
 use Rattle.std.{proofs.Common.{sym, ap, ◌∙◌, subst, map}, specs.{List.All, Prelude.slice_get}}
 use Rattle.stage_plan.specs.Sound.{IsSoundPlan}
-use Rattle.switch_core.specs.PlanLanes.{AreLanesOf}
-use Rattle.trace_drive.specs.Drives.{end_machines}
+use Rattle.switch_core.specs.{PlanLanes.AreLanesOf, Ends.end_machines}
 use Rattle.enclosure_folds.specs.Shown.{MayBeShown, shown}
 use Rattle.enclosed_query.specs.AfterEvents.{machines_after}
 use Rattle.enclosed_query.proofs.tables.enclosed.Goals as goal

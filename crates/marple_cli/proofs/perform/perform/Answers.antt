@@ -10,8 +10,8 @@ use Rattle.query_tables.specs.Tables.{query_text}
 use Rattle.enclosed_query.specs.EnclosedTables.{enclose_text}
 use Rattle.plan_file.specs.Texts.{IsRefused}
 use Rattle.plan_loader.specs.Meaning.{plan_output}
-use Rattle.switch_core.specs.PlanLanes.{PipelineStands}
-use Rattle.trace_drive.specs.Drives.{end_machines, words_of}
+use Rattle.switch_core.specs.{PlanLanes.PipelineStands, Ends.end_machines}
+use Rattle.trace_drive.specs.Drives.{words_of}
 use Rattle.trace_reader.specs.Traces.{contents}
 use Rattle.command_answers.specs.OwnChecks.{bounds_fault, fault_with}
 use Rattle.marple_cli.proofs.Ending.{driven_kept, handed_on, operand_ended, operand_not_ok, query_ended, run_leaves}

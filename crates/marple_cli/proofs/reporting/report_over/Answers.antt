@@ -1,8 +1,8 @@
 -- what the bytes that were read say of their packets holds of the trace in the input
 use Rattle.marple_base.specs.declared.inputs.Which.TheVariants.{Trace}
 use Rattle.std.{proofs.Common.{◌≡◌, None}, specs.Io.KnownBytes.Appends}
-use Rattle.switch_core.specs.PlanLanes.{PipelineStands}
-use Rattle.trace_drive.{specs.Drives.{end_machines, words_of}, proofs.Breaking.err_is}
+use Rattle.switch_core.specs.{PlanLanes.PipelineStands, Ends.end_machines}
+use Rattle.trace_drive.{specs.Drives.words_of, proofs.Breaking.err_is}
 use Rattle.trace_reader.specs.Traces.{Contents, contents}
 use Rattle.command_answers.proofs.Limits.{read_ends, told_contents, trace_ends}
 use Rattle.query_run.specs.{Driven.{geometry_of, pipeline_in}, Views.views_text}

@@ -7,8 +7,8 @@ use Rattle.stage_plan.specs.Packets.{AreWhole}
 use Rattle.accepted_query.specs.{Accepted.accepted, TrialQuery.trial_query}
 use Rattle.query_run.{specs.Driven.{geometry_of, pipeline_in}, proofs.MadePackets.simulated_whole}
 use Rattle.query_tables.specs.Tables.{query_text}
-use Rattle.switch_core.specs.PlanLanes.{PipelineStands}
-use Rattle.trace_drive.specs.{Answers.BreaksOff, Drives.{end_machines, words_of}}
+use Rattle.switch_core.specs.{PlanLanes.PipelineStands, Ends.end_machines}
+use Rattle.trace_drive.specs.{Answers.BreaksOff, Drives.words_of}
 use Rattle.marple_cli.{specs.{Driven.StandsForEnd, Output.{made_packets, tables_text}}, proofs.Ending.{all_written, answer_not_ok}}
 use Rattle.marple_cli.proofs.Ending.{driven_kept, handed_on, query_stands, memory_ended, writing_ended, trial_is_text, trial_text}
 use Rattle.command_answers.{specs.{Phases.status_for, declared.status.Status.TheVariants.Memory}, proofs.Limits.made_ends}

@@ -2,8 +2,8 @@
 use Rattle.std.{proofs.Common.{◌≡◌, ◌*◌, ◌<◌, Some, lit<, ap, sym, ◌∙◌, subst, subst₂, arith}, specs.Io.KnownBytes.Appends}
 use Rattle.epoch_model.specs.Laws.{HasRoom}
 use Rattle.stage_plan.specs.Sound.{PlanParts}
-use Rattle.switch_core.specs.PlanLanes.{PipelineStands}
-use Rattle.trace_drive.specs.{Drives.{coming, end_machines, fault_of, geometry_for, words_of}, Turns.RunsInTurns}
+use Rattle.switch_core.specs.{PlanLanes.PipelineStands, Ends.end_machines}
+use Rattle.trace_drive.specs.{Drives.{coming, fault_of, geometry_for, words_of}, Turns.RunsInTurns}
 use Rattle.trace_drive.specs.declared.schedule.Schedule.{Schedule}
 use Rattle.trace_drive.proofs.{Breaking.{err_is, out_of_memory}, Ending.places_kept, ReplayTurns.turns_to_the_end}
 use Rattle.trace_reader.specs.Faults.{IfRefused}

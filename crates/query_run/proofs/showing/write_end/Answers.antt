@@ -2,8 +2,8 @@
 use Rattle.std.{proofs.Common.{◌≡◌, ℕ, List, None, ◌++◌, sym, ap, ◌∙◌, subst}, specs.Io.KnownBytes.Appends}
 use Rattle.epoch_model.specs.{Epochs.Geometry, Laws.HasRoom}
 use Rattle.stage_plan.specs.Packets.{AreWhole}
-use Rattle.switch_core.specs.PlanLanes.{PipelineStands}
-use Rattle.trace_drive.{specs.{Answers.BreaksOff, Drives.end_machines}, proofs.Breaking.{err_is, nothing_taken, then_err, then_ok}}
+use Rattle.switch_core.specs.{PlanLanes.PipelineStands, Ends.end_machines}
+use Rattle.trace_drive.{specs.Answers.BreaksOff, proofs.Breaking.{err_is, nothing_taken, then_err, then_ok}}
 use Rattle.query_run.{specs.Reports.{CanPrint, Prints, printed_by}, proofs.Seen.at_an_end}
 use Rattle.query_run.proofs.showing.write_end.Goals as goal
 use Rattle.query_run.proofs.showing.write_end.Goals.{After-write_report}

@@ -1,7 +1,7 @@
 -- A replay that starts before the first packet and is finished has taken the turns of all packets.
 use Rattle.std.proofs.Common.{◌∙◌, ap, subst, sym}
-use Rattle.switch_core.specs.PlanLanes.{HavePlaces, PipelineStands, PipelineView}
-use Rattle.trace_drive.specs.{Drives.{coming, end_machines, geometry_for, words_of}, Turns.MakesTurns}
+use Rattle.switch_core.specs.{PlanLanes.{HavePlaces, PipelineStands, PipelineView}, Ends.end_machines}
+use Rattle.trace_drive.specs.{Drives.{coming, geometry_for, words_of}, Turns.MakesTurns}
 use Rattle.trace_drive.proofs.replay.drive.Goals as goal
 
 pub returns-clause-machines : goal.returns-clause-machines

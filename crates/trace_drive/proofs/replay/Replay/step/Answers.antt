@@ -1,7 +1,8 @@
 -- A packet and its turn, or the end of the packets.
 use Rattle.std.proofs.Common.{ℕ, Ok, ap}
 use Rattle.epoch_model.specs.Machine.{after_packets}
-use Rattle.trace_drive.{specs.Drives.{geometry_for, uses_by, words_of}, proofs.{Replaying.{none_more, one_more}, ReplayTurns.one_turn}}
+use Rattle.switch_core.specs.Ends.{uses_by}
+use Rattle.trace_drive.{specs.Drives.{geometry_for, words_of}, proofs.{Replaying.{none_more, one_more}, ReplayTurns.one_turn}}
 use Rattle.trace_drive.proofs.replay.Replay.step.Goals as goal
 
 pub returns-in-Ok-clause-next : goal.returns-in-Ok-clause-next
