@@ -5,7 +5,7 @@ use Rattle.std.{proofs.lemmas.Option.{get_or_from_slice_get, slice_get_within}, 
 use Rattle.std.specs.List.{All, filter, flat_map, slice_get}
 use Rattle.query_lang.specs.declared.{fold.TypedFold.TypedFold, typed.{Class.{Class, TheVariants.{Linear, Other}}, TypedQuery.TypedQuery}}
 use Rattle.query_lang.specs.{Folds.{IsValidFold, folded, initial_state}, Streams.{Taking, takings}, Words.AreWords}
-use Rattle.query_types.specs.Uses.{uses}
+use Rattle.stage_plan.specs.Uses.{uses}
 use Rattle.epoch_model.specs.{declared.tables.Row.Row, Epochs.{Use, Geometry, epochs, is_use_of}, Keys.Key}
 use Rattle.epoch_model.{specs.Tables.{exact_row, epoch_rows, key_rows, keys_used}, proofs.KeyOrder.has-ascending}
 use Rattle.epoch_entry.specs.Foldings.{folding_of, per_epoch}

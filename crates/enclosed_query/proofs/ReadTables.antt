@@ -3,7 +3,7 @@ use Rattle.std.proofs.Common.{◌≡◌, ℕ, suc, List, [], ◌∷◌, ◌++◌
 use Rattle.std.{proofs.lemmas.List.Elements.{All-nil, All-cons, All-head, All-tail}, specs.List.All}
 use Rattle.query_lang.specs.declared.{fold.TypedFold.TypedFold, typed.{Class.{Class, TheVariants.{Linear, Other}}, TypedQuery.TypedQuery}}
 use Rattle.query_lang.specs.{Streams.takings, TypedQueries.{IsValidQuery, group_shape}}
-use Rattle.query_types.specs.Uses.{uses}
+use Rattle.stage_plan.specs.Uses.{uses}
 use Rattle.epoch_model.{specs.{Epochs.{Use, Geometry}, Keys.{Key, IsAscending}}, proofs.KeyOrder.ascending-ascends}
 use Rattle.epoch_entry.specs.Foldings.{folding_of}
 use Rattle.fold_class.specs.Kinds.{class_of}

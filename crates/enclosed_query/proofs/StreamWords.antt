@@ -11,7 +11,7 @@ use Rattle.query_lang.specs.Streams.{Tuple, Taking, all_streams, emits_at, expr_
 use Rattle.query_lang.specs.{Streams.values_at, Terms.{Term, Literal, Read, Negation, Operation, term_of}}
 use Rattle.query_lang.specs.{TypedQueries.{IsValidOp, IsValidQuery, IsValidWord, AreValidStreams}, Words.{AreWords, IsWord, holds}}
 use Rattle.query_lang.proofs.WordLemmas.{flag_word, op_word}
-use Rattle.query_types.specs.Uses.{taken_by, use_of, uses}
+use Rattle.stage_plan.specs.Uses.{taken_by, use_of, uses}
 
 abbrev HasWords : Tuple → Type 0
 HasWords one = AreWords one.row

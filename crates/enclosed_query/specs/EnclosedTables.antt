@@ -2,7 +2,7 @@
 use Rattle.std.specs.Prelude.{◌≡◌, ℕ, suc, List, [], ◌∷◌, ◌++◌, All, length, map, drop, flat_map, slice_get, Option, Some, None, unwrap_or}
 use Rattle.query_lang.specs.{declared.{fold.TypedFold.TypedFold, typed.TypedQuery.TypedQuery}, Streams.takings, TypedFinals.table_number}
 use Rattle.query_lang.specs.TypedQueries.{IsValidQuery}
-use Rattle.query_types.specs.Uses.{uses}
+use Rattle.stage_plan.specs.Uses.{uses}
 use Rattle.epoch_model.specs.{Epochs.Geometry, Laws.HasRoom}
 use Rattle.epoch_entry.specs.declared.purpose.Entries.TheVariants.{Bounds}
 use Rattle.stage_plan.specs.{Packets.AreWhole, Planned.{IsPlanOf, fold_at}, Shape.{GroupShape, query_groups}}

@@ -2,7 +2,7 @@
 use Rattle.std.specs.Prelude.{◌≡◌, ℕ, List, All, slice_get, Some, None}
 use Rattle.query_lang.specs.{declared.{fold.TypedFold.TypedFold, typed.TypedQuery.TypedQuery}, Folds.initial_state}
 use Rattle.query_lang.specs.{TypedQueries.IsValidQuery, Words.AreWords}
-use Rattle.query_types.specs.Uses.{uses}
+use Rattle.stage_plan.specs.Uses.{uses}
 use Rattle.epoch_model.specs.{Epochs.{Use, Geometry}, Tables.keys_used}
 use Rattle.stage_plan.specs.Planned.{fold_at}
 use Rattle.enclosure_folds.specs.{declared.table.Enclosed.Enclosed, Check.enclose_fault, Holding.HoldsFor, KeyBounds.use_rows}

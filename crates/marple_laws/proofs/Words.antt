@@ -138,11 +138,10 @@ pub use Rattle.queue_sim.specs.TraceText.{continued, header, packet_texts, trace
 pub use Rattle.epoch_entry.specs.Foldings.{folding_of, per_epoch}
 pub use Rattle.plan_file.proofs.TextLaws.{not_refused, says_one}
 pub use Rattle.query_grammar.specs.Texts.{IsQueryOf, parsed_text}
-pub use Rattle.stage_plan.proofs.Faults.{QueryMade, query_fault}
+pub use Rattle.stage_plan.{proofs.Faults.{QueryMade, query_fault}, specs.Uses.{taken_by, use_of, uses}}
 pub use Rattle.query_run.specs.Views.{NoViewsWithoutNumber}
 pub use Rattle.plan_file.specs.Named.{IsNamedNumber, IsNamedOperand, IsOneNumber, IsOneOperand}
 pub use Rattle.epoch_model.specs.Laws.{HasRoom, IsWellFormed}
-pub use Rattle.query_types.specs.Uses.{taken_by, use_of, uses}
 pub use Rattle.plan_file.specs.Lexemes.{lexeme_among}
 unfoldable pub use Rattle.plan_file.specs.Lexemes.{lexeme_of}
 pub use Rattle.queue_sim.specs.ReadBack.{ArePacketWords, ArePackets}

@@ -6,7 +6,7 @@ use Rattle.std.{proofs.lemmas.List.Elements.{All-nil, All-cons, All-append, All-
 use Rattle.marple_base.specs.declared.field.TheConstants.{FIELDS}
 use Rattle.query_lang.specs.{declared.{fold.TypedFold.TypedFold, typed.TypedQuery.TypedQuery}, Streams.takings, TypedQueries.IsValidQuery}
 use Rattle.query_lang.specs.TypedQueries as of_query
-use Rattle.query_types.specs.Uses.{uses}
+use Rattle.stage_plan.specs.Uses.{uses}
 use Rattle.epoch_model.specs.{declared.tables.Row.Row, Keys.{Key, ArgRow, has, key_eq}, Epochs.{Use, Geometry}}
 use Rattle.epoch_model.specs.{Tables.{Folding, folded, exact_row, keys_used}, Driving.uses_taken}
 use Rattle.epoch_model.proofs.{KeyLists.{by_test, key_eq-refl, key_eq-true}, KeyOrder.{ascending-ascends, has-ascending}}

@@ -6,7 +6,7 @@ use Rattle.std.specs.{Prelude.{slice_get, option_map, option_and_then}, List.lis
 use Rattle.marple_base.specs.declared.field.TheConstants.{FIELDS}
 use Rattle.query_lang.specs.{declared.{fold.TypedFold.TypedFold, typed.{Class.TheVariants.Linear, TypedQuery.TypedQuery}}, Words.AreWords}
 use Rattle.query_lang.specs.{Folds.IsValidFold, Streams.{Taking, takings}}
-use Rattle.query_types.specs.Uses.{uses}
+use Rattle.stage_plan.specs.Uses.{uses}
 use Rattle.fold_code.specs.Additive.{is_additive}
 use Rattle.fold_class.specs.Kinds.{class_of}
 use Rattle.epoch_model.specs.{declared.tables.Row.Row, Keys.{Key, ArgRow, key_eq, ascending}, TableLaws.keys_given}

@@ -2,7 +2,7 @@
 use Rattle.std.proofs.Common.{◌≡◌, ℕ, suc, ◌+◌, ◌<◌, List, [], ◌∷◌, length, map, Option, Some, None, refl, ap, subst, arith}
 use Rattle.std.proofs.lemmas.List.{length-map}
 use Rattle.query_lang.specs.declared.{fold.TypedFold.TypedFold, typed.TypedQuery.TypedQuery}
-use Rattle.query_types.specs.Uses.{uses}
+use Rattle.stage_plan.specs.Uses.{uses}
 use Rattle.epoch_model.specs.{Keys.{Key, ArgRow}, Tables.keys_used}
 use Rattle.epoch_entry.specs.Foldings.{folding_of}
 use Rattle.stage_plan.specs.{Planned.{IsPlanOf, fold_at}, Shape.{GroupShape, group_shape}, Sound.PlanParts}

@@ -8,7 +8,7 @@ use Rattle.epoch_model.specs.{declared.tables.Row.Row, Keys.{Key, ArgRow, key_eq
 use Rattle.epoch_model.{specs.Tables.{Folding, keys_used}, proofs.KeyLists.key_eq-true}
 use Rattle.query_lang.specs.{declared.{fold.TypedFold.TypedFold, typed.TypedQuery.TypedQuery}, Words.AreWords, Folds.{IsValidFold, folded}}
 use Rattle.query_lang.specs.{Streams.{Tuple, Taking, takings, stream}, TypedQueries.IsValidQuery}
-use Rattle.query_types.specs.Uses.{uses}
+use Rattle.stage_plan.specs.Uses.{uses}
 use Rattle.epoch_entry.specs.Foldings.{folding_of}
 use Rattle.stage_plan.specs.{Packets.AreWhole, Shape.{GroupShape, query_groups}}
 use Rattle.stage_plan.proofs.StreamRows as packetwise

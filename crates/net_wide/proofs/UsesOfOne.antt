@@ -5,7 +5,7 @@ use Rattle.std.specs.Prelude.{slice_get, option_map}
 use Rattle.marple_base.specs.declared.field.TheConstants.{FIELDS}
 use Rattle.epoch_model.{specs.{Epochs.Use, Driving.{Taken, use_at, uses_taken}}, proofs.KeyLists.by_test}
 use Rattle.query_lang.specs.Streams.{Taking, takings}
-use Rattle.query_types.specs.Uses.{taken_by, uses}
+use Rattle.stage_plan.specs.Uses.{taken_by, uses}
 use Rattle.stage_plan.proofs.StreamRows as packetwise
 use Rattle.net_wide.specs.{NetTables.{switch_in, packets_at, uses_at}, NetLaws.{switch_of, taken_in, UsesAreTheSwitchs}}
 

@@ -6,7 +6,7 @@ use Rattle.query_lang.specs.declared.typed.{TypedOp.{TypedOp, TheVariants.{Filte
 use Rattle.query_lang.specs.{Words.AreWords, Streams.stream, TypedQueries.IsValidQuery}
 use Rattle.epoch_model.specs.{Keys.Key, Epochs.{Use, Geometry}, Driving.Taken, Laws.{HasRoom, rows_given}}
 use Rattle.epoch_model.specs.Tables.{Folding, closed_key_rows}
-use Rattle.query_types.specs.Uses.{uses}
+use Rattle.stage_plan.specs.Uses.{uses}
 use Rattle.additive_laws.specs.Network.{SwitchEvent, SwitchEpoch, events_at, all_epochs, machine_at, AllMerged}
 use Rattle.stage_plan.specs.Packets.{AreWhole}
 use Rattle.net_wide.specs.{Combining.{is_switch, makes_switch, net_fault}, NetTables.{switch_in, packets_at, uses_at, net_text}}

@@ -3,7 +3,7 @@ use Rattle.std.specs.Prelude.{ℕ, suc, ◌==◌, List, [], ◌∷◌, ◌++◌,
 use Rattle.std.specs.Prelude.{if◌then◌else◌}
 use Rattle.marple_base.specs.{declared.field.Field.TheVariants.Switch, Field.number_of}
 use Rattle.query_lang.specs.declared.{fold.TypedFold.TypedFold, typed.TypedQuery.TypedQuery}
-use Rattle.query_types.specs.Uses.{uses}
+use Rattle.stage_plan.specs.Uses.{uses}
 use Rattle.epoch_model.specs.{declared.tables.Row.Row, Keys.{Key, ArgRow, ascending}, Epochs.{Use, Geometry, is_use_of, epochs}}
 use Rattle.epoch_model.specs.Tables.{Folding, exact_row, epoch_rows, epochs_shown, keys_used}
 use Rattle.epoch_entry.specs.Foldings.{folding_of}

@@ -11,7 +11,7 @@ pub use Rattle.std.proofs.lemmas.List.Elements.{filter_agree}
 pub use Rattle.std.specs.List.{cons_option, count_by, sum_by}
 pub use Rattle.epoch_model.proofs.TableRows.{flat_map-single, joined-some, some}
 pub use Rattle.std.proofs.lemmas.Bool.{false≢true, lt-ltb, ltb-true, true≢false}
-pub use Rattle.query_types.specs.Uses.{taken_by, use_of, uses}
+pub use Rattle.stage_plan.specs.Uses.{taken_by, use_of, uses}
 pub use Rattle.additive_laws.proofs.Counts.{not_number, own_number, same_number}
 pub use Rattle.epoch_model.proofs.KeyOrder.{ascending-ascends, has-ascending, same_ascending}
 pub use Rattle.part_laws.specs.Parts.{AreTheParts, HasFieldKey, KeepsKeys, Partition, by_fields, first_named, groupbys, part_at, part_by}

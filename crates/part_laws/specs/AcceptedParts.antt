@@ -3,7 +3,7 @@ use Rattle.std.specs.Prelude.{◌≡◌, ℕ, false, List, map, flat_map, slice_
 use Rattle.epoch_model.specs.{Keys.{Key, ascending}, Epochs.Geometry, Tables.{Folding, key_rows, keys_used, group_rows}}
 use Rattle.marple_base.specs.declared.field.Field.{Field}
 use Rattle.query_lang.specs.declared.typed.{TypedQuery.TypedQuery, TypedStream.TypedStream}
-use Rattle.query_types.specs.Uses.{uses}
+use Rattle.stage_plan.specs.Uses.{uses}
 use Rattle.stage_plan.specs.Packets.{AreWhole}
 use Rattle.accepted_query.specs.Accepted.{accepted}
 use Rattle.part_laws.specs.{Parts.{KeepsKeys, AreTheParts, part_uses, by_fields, groupbys, part_by, HasFieldKey}, PartLaws.but_for_epochs}

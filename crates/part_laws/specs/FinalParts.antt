@@ -3,7 +3,7 @@
 use Rattle.std.specs.Prelude.{◌≡◌, ◌≢◌, ℕ, false, List, [], ◌∷◌, map, filter, flat_map, slice_index, All, Option, Some}
 use Rattle.epoch_model.specs.{declared.tables.Row.Row, Keys.{Key, ascending}, Epochs.Geometry, Tables.{Folding, group_rows}}
 use Rattle.query_lang.specs.declared.{fold.{TypedExpr.TypedExpr, TypedFold.TypedFold}, typed.TypedQuery.TypedQuery}
-use Rattle.query_types.specs.Uses.{uses}
+use Rattle.stage_plan.specs.Uses.{uses}
 use Rattle.stage_plan.specs.Packets.{AreWhole}
 use Rattle.final_queries.specs.Finals.{is_of_key, plain_row, filtered_rows, mapped_rows, grouped_rows, joined_rows, top_rows}
 use Rattle.additive_laws.specs.TraceLaws.{AreApart}

@@ -7,9 +7,8 @@ use Rattle.epoch_model.specs.Tables as tables
 use Rattle.marple_base.specs.declared.field.Field.{Field}
 use Rattle.query_lang.specs.declared.{fold.TypedFold.TypedFold, query.Query.Query, typed.{TypedQuery.TypedQuery, TypedStream.TypedStream}}
 use Rattle.query_lang.specs.Folds.{fold_states, body, folded}
-use Rattle.stage_plan.specs.Packets.{AreWhole}
+use Rattle.stage_plan.specs.{Packets.AreWhole, Uses.uses}
 use Rattle.query_laws.specs.QueryRules.{IsTyped}
-use Rattle.query_types.specs.Uses.{uses}
 use Rattle.additive_laws.specs.{Amounts.{amount, plus, zeros}, Laws.IsAdditiveFrom, TraceLaws.rows_used}
 use Rattle.part_laws.specs.Parts.{Partition, KeepsKeys, AreTheParts, part_uses, own_uses, whole_rows, part_rows, by_field, by_fields}
 use Rattle.part_laws.specs.Parts.{groupbys, part_by, HasFieldKey}

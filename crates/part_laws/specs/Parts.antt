@@ -4,7 +4,7 @@ use Rattle.std.specs.Prelude.{slice_get, slice_index}
 use Rattle.marple_base.specs.declared.field.{Field.Field, TheConstants.FIELDS}
 use Rattle.query_lang.specs.{declared.typed.{TypedQuery.TypedQuery, TypedStream.TypedStream}, Streams.taking_of}
 use Rattle.epoch_model.specs.{Keys.{Key, ArgRow}, Epochs.Use}
-use Rattle.query_types.specs.Uses.{uses}
+use Rattle.stage_plan.specs.Uses.{uses}
 use Rattle.net_laws.specs.Fields.{is_named, makes_field, names_field, field_word}
 use Rattle.additive_laws.specs.TraceLaws.{AreApart, has_number, rows_used}
 

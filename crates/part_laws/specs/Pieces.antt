@@ -2,7 +2,7 @@
 use Rattle.std.specs.Prelude.{◌≡◌, ℕ, ◌+◌, ◌-◌, ◌%◌, ◌^◌, ◌<◌, false, List, map, flat_map, fold, slice_index, sum_by}
 use Rattle.epoch_model.specs.{Keys.{Key, ascending}, Epochs.Geometry, Tables.{Folding, keys_used, group_rows}}
 use Rattle.query_lang.specs.{declared.{fold.TypedFold.TypedFold, typed.TypedQuery.TypedQuery}, Folds.{fold_states, body, folded}}
-use Rattle.query_types.specs.Uses.{uses}
+use Rattle.stage_plan.specs.Uses.{uses}
 use Rattle.additive_laws.specs.{Amounts.{plus, zeros}, Laws.IsAdditiveFrom}
 use Rattle.part_laws.specs.{Parts.whole_rows, PartLaws.{added, but_for_epochs, row_of_state}}
 

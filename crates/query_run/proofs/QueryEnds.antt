@@ -6,7 +6,7 @@ use Rattle.query_lang.specs.declared.{fold.TypedFold.TypedFold, typed.TypedOp.Ty
 use Rattle.query_lang.specs.declared.typed.TypedOp.TheVariants as op
 use Rattle.query_lang.specs.{declared.typed.{TypedQuery.TypedQuery, TypedStream.TypedStream}, Streams.{Taking, takings}}
 use Rattle.query_lang.specs.TypedQueries.{IsValidQuery, AreValidStreams, IsValidOp}
-use Rattle.query_types.specs.Uses.{uses}
+use Rattle.stage_plan.specs.Uses.{uses}
 use Rattle.epoch_model.specs.{Driving.TakenUsesAreInTrace, Epochs.Geometry, Laws.{HasRoom, IsInTrace}, Machine.end_of}
 use Rattle.epoch_entry.specs.{declared.purpose.Entries.TheVariants.Folds, Foldings.folding_of}
 use Rattle.epoch_entry.specs.contracts.any.AnyEpochsEpochKind.TheImpl.{ghosts}

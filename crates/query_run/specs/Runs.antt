@@ -1,7 +1,7 @@
 -- What a query makes of a trace.
 use Rattle.std.specs.Prelude.{◌≡◌, ℕ, suc, List, [], ◌∷◌, length, map}
 use Rattle.query_lang.specs.{declared.typed.TypedQuery.TypedQuery, Streams.{Taking, takings}, TypedQueries.IsValidQuery}
-use Rattle.query_types.specs.Uses.{uses}
+use Rattle.stage_plan.specs.Uses.{uses}
 use Rattle.epoch_entry.specs.declared.purpose.Entries.TheVariants.{Folds}
 use Rattle.epoch_model.specs.{Epochs.Geometry, Machine.{Machine, end_of}, Laws.HasRoom}
 use Rattle.stage_plan.specs.{Packets.AreWhole, Planned.IsPlanOf, Sound.PlanParts}

@@ -7,7 +7,7 @@ use Rattle.query_lang.specs.declared.{fold.TypedFold.TypedFold, typed.TypedOp.{T
 use Rattle.query_lang.specs.{declared.typed.{TypedQuery.TypedQuery, TypedStream.TypedStream}, Folds.{IsValidFold, fold_args}}
 use Rattle.query_lang.specs.{Streams.{Taking, takings, taking_of, stream}, TypedQueries.{IsValidOp, AreValidStreams, group_shape}}
 use Rattle.epoch_model.specs.Epochs.{Geometry}
-use Rattle.query_types.specs.Uses.{use_of, taken_by, uses}
+use Rattle.stage_plan.specs.Uses.{use_of, taken_by, uses}
 use Rattle.epoch_entry.specs.Foldings.{folding_of}
 use Rattle.stage_plan.specs.{Planned.fold_at, Shape.{GroupShape, text_at, shape_with, shape_made}}
 use Rattle.final_queries.{specs.{Finals.{IsTable, table_shape}, FinalLaws.GroupTablesAreRead}, proofs.StateLengths.states_length}

@@ -1,7 +1,7 @@
 -- The tables of a typed query over the packets of a trace, and what it prints.
 use Rattle.std.specs.Prelude.{ℕ, suc, List, [], ◌∷◌, ◌++◌, length, flat_map, slice_get, Option, Some, None, option_map, unwrap_or}
 use Rattle.query_lang.specs.{declared.{fold.TypedFold.TypedFold, typed.TypedQuery.TypedQuery}, Streams.takings, TypedFinals.table_number}
-use Rattle.query_types.specs.Uses.{uses}
+use Rattle.stage_plan.specs.Uses.{uses}
 use Rattle.epoch_model.specs.Epochs.{Geometry}
 use Rattle.epoch_entry.specs.Foldings.{folding_of}
 use Rattle.stage_plan.specs.{Planned.fold_at, Shape.{GroupShape, query_groups}}

@@ -22,7 +22,6 @@ pub mod StartLaws
 pub mod StmtLaws
 pub mod StmtSteps
 pub mod StreamLaws
-pub mod UseFacts
 pub mod ValidLaws
 pub mod ViewLaws
 pub mod WholeLaws

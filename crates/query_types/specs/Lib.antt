@@ -4,5 +4,3 @@ pub mod CheckedItems
 pub mod Fitting
 pub mod MadeStreams
 pub mod Numbers
-pub mod UseExamples
-pub mod Uses

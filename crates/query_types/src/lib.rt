@@ -11,7 +11,6 @@ mod finals;
 mod folds;
 mod groupbys;
 mod items;
-pub mod laws;
 mod names;
 mod streams;
 mod tables;

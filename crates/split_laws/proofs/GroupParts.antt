@@ -13,7 +13,7 @@ use Rattle.marple_base.specs.declared.field.{Field.Field, Packet.Packet}
 use Rattle.query_lang.specs.declared.{fold.TypedFold.TypedFold, typed.{Class.{Class, TheVariants.{Linear, Other}}, TypedQuery.TypedQuery}}
 use Rattle.query_lang.specs.TypedQueries.{IsValidQuery}
 use Rattle.query_tables.specs.Tables.{group_tables, query_table, tables_from}
-use Rattle.query_types.specs.Uses.{uses}
+use Rattle.stage_plan.specs.Uses.{uses}
 use Rattle.stage_plan.specs.{Packets.AreWhole, Planned.fold_at, Shape.{GroupShape, query_groups}}
 use Rattle.part_laws.specs.{AcceptedParts.AcceptedTablesInOrder, FinalParts.AreOfParts, PartLaws.but_for_epochs}
 use Rattle.part_laws.specs.Parts.{HasFieldKey, part_at, part_by}

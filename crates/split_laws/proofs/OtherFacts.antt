@@ -17,7 +17,7 @@ use Rattle.part_texts.specs.Texts.{part_by_hash}
 use Rattle.query_lang.specs.{declared.{fold.TypedFold.TypedFold, typed.TypedQuery.TypedQuery}, Folds.{IsValidFold, folded}}
 use Rattle.query_lang.specs.{Streams.{Taking, takings}, Words.AreWords}
 use Rattle.query_laws.specs.ValidLaws.{AcceptedAreValid, AcceptedStartAsWords}
-use Rattle.query_types.specs.Uses.{uses}
+use Rattle.stage_plan.specs.Uses.{uses}
 use Rattle.split_laws.proofs.{Groupbys.{field_keys, groupby_at, split_keys, split_unmade}, PartNumbers.words_at_part}
 use Rattle.split_laws.{proofs.WholeFacts.{all_whole, part_read}, specs.WholeRuns.{EachFits, Split, SplitFieldsAreKeys, SumsAreOfPieces}}
 use Rattle.split_laws.specs.WholeRuns.{ValidRowsAreOfTheWhole, packets_for, uses_of_part, uses_of_whole}

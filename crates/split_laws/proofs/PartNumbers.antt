@@ -3,7 +3,7 @@ use Rattle.std.proofs.Common.{◌≡◌, ◌≢◌, ℕ, zero, suc, ◌+◌, ◌
 use Rattle.std.{proofs.{Common.{subst, ◌∙◌, arith}, lemmas.List.Elements.{All-nil, All-cons}}, specs.{Prelude.All, List.range_with_len}}
 use Rattle.epoch_model.{proofs.{KeyLists.by_test, MachineSteps.bucket_of-lt}, specs.{Keys.Key, Tables.group_rows, declared.tables.Row.Row}}
 use Rattle.marple_base.specs.declared.field.{Field.Field, Packet.Packet}
-use Rattle.query_types.specs.Uses.{uses}
+use Rattle.stage_plan.specs.Uses.{uses}
 use Rattle.additive_laws.{proofs.Counts.{not_number, same_number}, specs.TraceLaws.{AreApart, has_number}}
 use Rattle.part_laws.{proofs.FinalRows.same_members, specs.{FinalParts.{AreOfParts, ExactTablesInOrder, by_key}, PartLaws.but_for_epochs}}
 use Rattle.part_laws.specs.Parts.{AreTheParts, KeepsKeys, part_at}

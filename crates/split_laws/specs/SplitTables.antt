@@ -4,7 +4,7 @@ use Rattle.epoch_model.specs.{Epochs.Geometry, Tables.{Folding, group_rows}}
 use Rattle.accepted_query.specs.Accepted.{accepted}
 use Rattle.marple_base.specs.declared.field.{Field.Field, Packet.Packet}
 use Rattle.query_lang.specs.declared.typed.TypedQuery.{TypedQuery}
-use Rattle.query_types.specs.Uses.{uses}
+use Rattle.stage_plan.specs.Uses.{uses}
 use Rattle.stage_plan.specs.Packets.{AreWhole}
 use Rattle.trace_drive.specs.Drives.{words_of}
 use Rattle.part_laws.specs.{FinalParts.AreOfParts, PartLaws.but_for_epochs, Parts.{KeepsKeys, groupbys}}

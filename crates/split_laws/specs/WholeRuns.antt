@@ -13,7 +13,7 @@ use Rattle.part_laws.specs.PartLaws.{but_for_epochs, row_of_state, valid_row}
 use Rattle.part_texts.specs.Texts.{packets_of_part, part_by_hash, part_text}
 use Rattle.query_lang.specs.{declared.{fold.TypedFold.TypedFold, typed.{Class.TheVariants.Other, TypedQuery.TypedQuery}}, Folds.folded}
 use Rattle.query_tables.specs.Tables.{query_tables}
-use Rattle.query_types.specs.Uses.{uses}
+use Rattle.stage_plan.specs.Uses.{uses}
 use Rattle.split_fields.specs.Splits.{may_split}
 use Rattle.net_laws.specs.Fields.{makes_field}
 use Rattle.split_laws.specs.Merging.{has_keys, merge_at, merged, merges, table_but_for_epochs}

@@ -18,3 +18,4 @@ pub mod Putting
 pub mod Texts
 pub mod Chains
 pub mod Fewest
+pub mod UseFacts

@@ -9,7 +9,7 @@ use Rattle.fold_class.{specs.Program.IsProgramOf, proofs.TableLemmas.or_false_ri
 use Rattle.marple_base.specs.declared.field.{FieldSet.FieldSet, TheConstants.FIELDS}
 use Rattle.query_lang.specs.{Words.holds, declared.{fold.TypedFold.TypedFold, typed.TypedQuery.TypedQuery}}
 use Rattle.query_lang.specs.{Streams.{Taking, takings, values_at}, TypedQueries.IsValidQuery, declared.fault.TheConstants.MAX_STAGES}
-use Rattle.query_types.specs.Uses.{uses}
+use Rattle.stage_plan.specs.Uses.{uses}
 use Rattle.stage_plan.specs.declared.{group.{GroupPlan.GroupPlan, GroupWiring.GroupWiring}, op.Operand.{Operand, TheVariants.Number}}
 use Rattle.stage_plan.specs.declared.{op.PlanOp.PlanOp, wires.StreamWires.StreamWires}
 use Rattle.stage_plan.specs.{Registers.{operand_value, operand_stage, registers_after, stages_of, taken_at}, Depths.query_depths}

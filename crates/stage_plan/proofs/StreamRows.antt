@@ -9,7 +9,7 @@ use Rattle.query_lang.specs.{Words.holds, declared.{fold.{TypedExpr.TypedExpr, T
 use Rattle.query_lang.specs.declared.typed.{TypedOp.TheVariants.{Filter, Map, Zip, Group}, TypedQuery.TypedQuery, TypedStream.TypedStream}
 use Rattle.query_lang.specs.Streams.{Tuple, numbered, values_at, expr_value, emits_at, filter_stream, map_stream, zip_stream, group_stream}
 use Rattle.query_lang.specs.Streams.{tuples_at, made_of, stream, Taking, takings}
-use Rattle.query_types.specs.Uses.{use_of, uses}
+use Rattle.stage_plan.specs.Uses.{use_of, uses}
 use Rattle.stage_plan.proofs.Lists.{slice_get-last}
 
 abbrev pub Row : Type 0

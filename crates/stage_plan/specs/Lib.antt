@@ -11,3 +11,5 @@ pub mod Marking
 pub mod Counting
 pub mod Placements
 pub mod Packets
+pub mod Uses
+pub mod UseExamples

@@ -6,7 +6,7 @@ use Rattle.epoch_model.specs.Driving.{Taken, uses_taken}
 use Rattle.fold_class.specs.Program.{IsProgramOf}
 use Rattle.query_lang.specs.{declared.{fold.TypedFold.TypedFold, typed.TypedQuery.TypedQuery}, Streams.takings}
 use Rattle.query_lang.specs.TypedQueries.{IsValidQuery}
-use Rattle.query_types.specs.Uses.{uses}
+use Rattle.stage_plan.specs.Uses.{uses}
 use Rattle.stage_plan.specs.declared.{group.{GroupPlan.GroupPlan, GroupWiring.GroupWiring}, op.{Operand.TheVariants.Number, PlanOp.PlanOp}}
 use Rattle.stage_plan.specs.declared.wires.StreamWires.{StreamWires}
 use Rattle.stage_plan.specs.{Fields.reads_of, Making.{AllMade, packet_wires, all_made, made_fault}, Ordering.IsStaged}

@@ -18,7 +18,7 @@ mod text;
 mod wires;
 
 pub use group::{GroupPlan, GroupWiring};
-pub use laws::stages_are_fewest;
+pub use laws::{small_uses, stages_are_fewest};
 pub use op::{FIRST_RESULT, Operand, Operation, PlanOp};
 pub use planner::plan;
 pub use plans::Plan;

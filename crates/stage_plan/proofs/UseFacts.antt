@@ -7,7 +7,7 @@ use Rattle.query_lang.specs.{declared.typed.TypedStream.TypedStream, Words.{hold
 use Rattle.query_lang.specs.declared.typed.TypedOp.TheVariants.{Filter, Map, Zip, Group}
 use Rattle.query_lang.specs.Streams.{Tuple, Taking, numbered, values_at, holds_at, made_of, tuples_at, taking_of}
 use Rattle.query_lang.specs.StreamExamples.{three_packets, tuple, HasParts}
-use Rattle.query_types.specs.{Uses.{use_of, taken_by, uses}, UseExamples.{use_at, FilteredUses, MappedUses, ZippedUses, FedUses}}
+use Rattle.stage_plan.specs.{Uses.{use_of, taken_by, uses}, UseExamples.{use_at, FilteredUses, MappedUses, ZippedUses, FedUses}}
 
 abbrev taken : List (List Tuple) → Option Taking → List Use
 taken streams None = []

@@ -4,7 +4,7 @@ use Rattle.epoch_model.specs.Epochs.{Use}
 use Rattle.query_lang.specs.declared.fold.{Op.TheVariants.{Add, Lt}, TypedExpr.TypedExpr, TypedFold.TypedFold}
 use Rattle.query_lang.specs.declared.typed.{TypedOp.TheVariants.{Filter, Map, Zip, Group}, TypedQuery.TypedQuery, TypedStream.TypedStream}
 use Rattle.query_lang.specs.{Terms.{Literal, Read, Operation, term_of}, StreamExamples.{three_packets, HasParts}}
-use Rattle.query_types.specs.Uses.{uses}
+use Rattle.stage_plan.specs.Uses.{uses}
 
 abbrev pub use_at : ℕ → List ℕ → List ℕ → Use
 use_at packet key row = record { packet = packet; key = key; row = row }

@@ -1,5 +1,0 @@
-use Rattle.query_types.proofs.UseFacts.{filtered_uses, mapped_uses, zipped_uses, fed_uses}
-use Rattle.query_types.proofs.laws.small_uses.Goals as goal
-
-pub returns : goal.returns
-returns c = record { filter = filtered_uses; map = mapped_uses; zip = zipped_uses; feeding = fed_uses }
