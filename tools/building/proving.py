@@ -1,4 +1,5 @@
-"""Proves crates side by side: each as soon as those below it are proved, the longest chain first."""
+"""Proves crates side by side: each as soon as those below it are proved, the longest chain first. A crate has one job, and two where a
+processor would have nothing to do otherwise: with two it takes a quarter less of the clock, and a fifth more of processor time."""
 
 from __future__ import annotations
 
@@ -33,6 +34,7 @@ class Proof:
     """A proof that is under way."""
 
     crate: Crate
+    jobs: int
     process: "subprocess.Popen[bytes]"
     began: float
 
@@ -87,13 +89,19 @@ class Proving:
 
     def begin_ready(self) -> None:
         ready = self.ready()
-        while ready and len(self.running) < self.machine.processors:
+        while ready and self.places() > 0:
             crate = ready.pop(0)
-            room = self.machine.megabytes - sum(self.costs[it.crate.name].megabytes for it in self.running)
+            room = self.machine.megabytes - sum(it.jobs * self.costs[it.crate.name].megabytes for it in self.running)
             is_held_up = self.costs[crate.name].megabytes > room or crate.name in self.alone
             if self.running and (is_held_up or self.running[0].crate.name in self.alone):
                 return
-            self.begin(crate)
+            is_idle = self.places() > 1 + len(ready)
+            holds_two = 2 * self.costs[crate.name].megabytes <= room and crate.name not in self.alone
+            self.begin(crate, 2 if is_idle and holds_two else 1)
+
+    def places(self) -> int:
+        """Returns how many processors nothing is proved on."""
+        return self.machine.processors - sum(it.jobs for it in self.running)
 
     def ready(self) -> List[Crate]:
         """Returns the crates that could be begun, the longest chain first."""
@@ -104,14 +112,14 @@ class Proving:
         begun = self.done | {it.crate.name for it in self.running}
         return [it for it in self.order if it.name not in begun]
 
-    def begin(self, crate: Crate) -> None:
+    def begin(self, crate: Crate, jobs: int) -> None:
         out = crate.folder / "out"
         shutil.rmtree(crate.folder / KEPT, ignore_errors=True)
         (crate.folder / KEPT).mkdir(parents=True)
-        words = self.toolchain.proof(crate, below(crate, self.order))
+        words = self.toolchain.proof(crate, below(crate, self.order), jobs)
         with open(out / "build.log", "wb") as log:
             process = self.command(words, crate, log)
-        self.running.append(Proof(crate, process, time.monotonic()))
+        self.running.append(Proof(crate, jobs, process, time.monotonic()))
         self.progress.line(f"{self.so_far()}: begun {crate.name}")
 
     def command(self, words: List[str], crate: Crate, log: IO[bytes]) -> "subprocess.Popen[bytes]":

@@ -55,11 +55,8 @@ class Toolchain:
                 "`rt all check`, and then `rt run` in crates/marple, prove and build the program too"
             )
 
-    def proof(self, crate: Crate, below: List[Crate]) -> List[str]:
-        """Returns the command that proves the crate and, only then, writes its library or its object file.
-
-        It has one job: each further one takes an eighth of the processor time more, and other crates have the places.
-        """
+    def proof(self, crate: Crate, below: List[Crate], jobs: int = 1) -> List[str]:
+        """Returns the command that proves the crate with so many jobs and, only then, writes its library or its object file."""
         words = [f"{self.folder}/bin/rattle", "build", "--crate-name", crate.name, crate.root]
         for name in ("std", *crate.libraries):
             words += ["--extern", f"{name}={self.folder}/rlibs/{name}.rlib"]
@@ -71,7 +68,7 @@ class Toolchain:
             words += ["-L", f"dependency={it.folder}/{KEPT}"]
         words += ["--antt-project", f"{self.folder}/rattle/logic/antt-project.json"]
         # with no label: the crate is refused if it calls C itself
-        words += ["--logic-built", f"{self.folder}/logic_built", "--links", f"{crate.name}=", "--jobs", "1"]
+        words += ["--logic-built", f"{self.folder}/logic_built", "--links", f"{crate.name}=", "--jobs", str(jobs)]
         if crate.is_program:
             words += ["--toolchain", f"{self.folder}/toolchain", "--backend", "llvm", "-o", f"out/{crate.name}.o"]
         else:
