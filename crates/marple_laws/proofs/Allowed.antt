@@ -15,7 +15,8 @@ use Rattle.stage_plan.{specs.Making.{operand_at, wires_at}, proofs.Groupings.dep
 use Rattle.marple_laws.proofs.{Fields.{operand_known, operand_fits, operand_readable, operands_readable}, Groups.HasGroup, Listed.in_set}
 use Rattle.marple_laws.proofs.Known.{AreFrom, AreRead, AllGood, IsWritable, column_good, read_left, read_right, writable_at}
 use Rattle.marple_laws.proofs.KnownStreams.{AreFit, AreNamed, AllAreGood, named_from, query_good}
-use Rattle.marple_laws.proofs.{GroupSizes.depth_below, Moved.{AreAfterFields, moved_good, moved_writable}, OpLines.IsOpOk}
+use Rattle.marple_laws.proofs.{GroupSizes.depth_below, Moved.{AreAfterFields, mapped_at, moved_good, moved_writable, op_from}}
+use Rattle.marple_laws.proofs.{OpLines.IsOpOk}
 use Rattle.marple_laws.proofs.TakenFolds.{taken_fold}
 
 -- a prefix of a list
@@ -41,10 +42,10 @@ stage_before ops i (Register r) inside = by _ refl
         let late : FIELDS ≤ r = grind arith in
         ap stage_at (front_at _ i _ (omega arith)) ∙ stage_found (slice_get ops (r - FIELDS))
 
-last_before : (ops : List PlanOp) (i : ℕ) (one : PlanOp) → AreSoundOps ops → slice_get ops i ≡ Some one
+last_before : {ops : List PlanOp} (i : ℕ) (one : PlanOp) → AreSoundOps ops → slice_get ops i ≡ Some one
     → last_stage (take i ops) ≤ one.stage
-last_before ops zero one sound e = omega arith
-last_before ops (suc j) one sound e =
+last_before zero one sound e = omega arith
+last_before {ops} (suc j) one sound e =
     let within : suc j < length ops = slice_get_within ops (suc j) one e in
     let long : length (take (suc j) ops) ≡ suc j = length-take-le (suc j) ops (omega (arith, within)) in
     let at : length (take (suc j) ops) - 1 ≡ j = omega (arith, long) in
@@ -71,16 +72,10 @@ module _ (q : TypedQuery) (p : PlanParts) (valid : IsValidQuery q) (text : HasPl
     named = named_from _ _ _ (λ f i. in_set _ f i)
 
     beyond : AreAfterFields (query_registers q)
-    beyond k r e = go _ refl
-      where
-        go : (o : Option ℕ) → slice_get (range_with_len 0 (length (query_made q).ops)) k ≡ o → FIELDS ≤ r
-        go None h = let none : None ≡ Some r = sym (slice_get-map (register_in (query_order q))
-            (range_with_len 0 (length (query_made q).ops)) k ∙ ap (option_map _) h) ∙ e in cc
-        go (Some c) h =
-            let same : register_in (query_order q) c ≡ r = same_Some _ r
-            (sym (slice_get-map (register_in (query_order q)) (range_with_len 0 (length (query_made q).ops)) k
-            ∙ ap (option_map _) h) ∙ e) in
-            omega arith
+    beyond k r e =
+        let c = mapped_at (register_in (query_order q)) (range_with_len 0 (length (query_made q).ops)) k r e in
+        let same = c.2 in
+        omega arith
 
     sound_ops : AreSoundOps (query_ops q)
     sound_ops = subst AreSoundOps (ops_are q p plan) sound.ops
@@ -88,24 +83,11 @@ module _ (q : TypedQuery) (p : PlanParts) (valid : IsValidQuery q) (text : HasPl
     pub few_ops : length (query_ops q) ≤ 32768
     few_ops = sound_ops.most
 
-    abbrev new_op : ℕ → PlanOp
-    new_op number = moved_op (query_registers q) (op_numbered (query_made q).ops number)
-
     writable : (i : ℕ) (one : PlanOp) → slice_get (query_ops q) i ≡ Some one → IsWritable (reads_of q) one
-    writable i one e = go (slice_get (query_order q) i) refl
-      where
-        at : slice_get (query_ops q) i ≡ option_map new_op (slice_get (query_order q) i)
-        at = slice_get-map new_op (query_order q) i
-
-        go : (o : Option ℕ) → slice_get (query_order q) i ≡ o → IsWritable (reads_of q) one
-        go None h = let none : None ≡ Some one = sym (at ∙ ap (option_map _) h) ∙ e in cc
-        go (Some c) h =
-            let o = ordered (query_made q).ops (stages_of (query_made q).ops) i c h in
-            let same : new_op c ≡ one = same_Some (new_op c) _ (sym (at ∙ ap (option_map new_op) h) ∙ e) in
-            let is : moved_op (query_registers q) o.one ≡ one = ap (moved_op (query_registers q))
-            (sym (op_at (query_made q).ops c _ o.found)) ∙ same in
-            subst (IsWritable (reads_of q)) is (moved_writable (reads_of q) (query_registers q) _ beyond
-            (writable_at (reads_of q) (query_made q).ops c _ good.written o.found))
+    writable i one e =
+        let o = op_from q i one e in
+        subst (IsWritable (reads_of q)) o.3
+        (moved_writable (query_registers q) _ beyond (writable_at (query_made q).ops o.0 good.written o.2))
 
     pub op_ok : (i : ℕ) (one : PlanOp) → slice_get (query_ops q) i ≡ Some one → IsOpOk (fields_of (reads_of q)) (take i (query_ops q)) one
     op_ok i one e = record {
@@ -118,14 +100,14 @@ module _ (q : TypedQuery) (p : PlanParts) (valid : IsValidQuery q) (text : HasPl
           room = omega (arith, long, within, few_ops);
           least = omega (arith, s.stage);
           most = s.most;
-          order = last_before (query_ops q) i one sound_ops e;
+          order = last_before i one sound_ops e;
           stage = omega (arith, s.stage, stage_before (query_ops q) i one.left s.left, stage_before (query_ops q) i one.right s.right);
           constant = w.constant;
         };
       };
       stage = omega (arith, s.most);
-      left = operand_fits (reads_of q) (FIELDS + i) one.left w.left s.left (omega (arith, within, few_ops));
-      right = operand_fits (reads_of q) (FIELDS + i) one.right w.right s.right (omega (arith, within, few_ops));
+      left = operand_fits (reads_of q) one.left w.left s.left (omega (arith, within, few_ops));
+      right = operand_fits (reads_of q) one.right w.right s.right (omega (arith, within, few_ops));
       single = w.single;
     }
       where
@@ -146,10 +128,7 @@ module _ (q : TypedQuery) (p : PlanParts) (valid : IsValidQuery q) (text : HasPl
     named_taking : (sources : List (List FieldSource)) (streams : List TypedStream) → AreNamed (reads_of q) sources streams
         → (i : ℕ) (t : Taking)
         → slice_get (takings streams) i ≡ Some t → AreRead (reads_of q) (sources_at sources t.input) (t.keys ++ t.args)
-    named_taking sources [] n i t e = absurd (no e)
-      where
-        no : None ≡ Some t → ⊥
-        no f = cc
+    named_taking sources [] n i t e = cc
     named_taking sources (one ∷ streams) n i t e = by _ n.0 (named_taking sources streams n.1) i e
       where
         by : (o : TypedOp) → AreRead (reads_of q) (sources_at sources (named_input o)) (named_slots o)
@@ -193,9 +172,8 @@ module _ (q : TypedQuery) (p : PlanParts) (valid : IsValidQuery q) (text : HasPl
       ok = record {
         named = well.named;
         no_stream = well.no_stream;
-        present = operand_readable (reads_of q) (query_ops q) (wiring_of (query_registers q) (query_made q).streams t).present
-            (moved_good (reads_of q) (query_registers q) (wires_at (query_made q).streams t.input).present beyond
-            (good.streams t.input).present) s.present few_ops;
+        present = operand_readable (reads_of q) (moved_good (reads_of q) (query_registers q)
+            (wires_at (query_made q).streams t.input).present beyond (good.streams t.input).present) s.present few_ops;
         key_names = well.key_names;
         keys_differ = well.keys_differ;
         all_keys = sym s.keys;
@@ -242,20 +220,9 @@ module _ (q : TypedQuery) (p : PlanParts) (valid : IsValidQuery q) (text : HasPl
 
     pub group_ok : (i : ℕ) (shape : GroupShape) → slice_get (query_groups q) i ≡ Some shape
         → HasGroup (fields_of (reads_of q)) (query_ops q) shape (query_wiring q) (fold_at q) i
-    group_ok i shape e = go (slice_get p.groups i) refl
-      where
-        at : slice_get (query_groups q) i ≡ option_map group_shape (slice_get p.groups i)
-        at = ap (λ l. slice_get l i) (sym shapes_are) ∙ slice_get-map group_shape p.groups i
-
-        go : (o : Option GroupPlan) → slice_get p.groups i ≡ o → HasGroup (fields_of (reads_of q)) (query_ops q) shape (query_wiring q)
-            (fold_at q) i
-        go None h = let none : None ≡ Some shape = sym (at ∙ ap (option_map group_shape) h) ∙ e in absurd (no none)
-          where
-            no : None ≡ Some shape → ⊥
-            no z = cc
-        go (Some group) h =
-            let same : group_shape group ≡ shape = same_Some (group_shape group) shape (sym (at ∙ ap (option_map group_shape) h) ∙ e) in
-            let inside : i < length (takings q.streams) = (let l = slice_get_within p.groups i group h in omega (arith, l, plan.groups)) in
-            let one = taken_fold q valid i inside in
-            subst (λ s. HasGroup (fields_of (reads_of q)) (query_ops q) s (query_wiring q) (fold_at q) i) same
-            (has_group i group one.taking one.fold h one.taken one.at one.found (subst IsNamedWell (sym same) (text.groups i shape e)))
+    group_ok i shape e =
+        let g = mapped_at group_shape p.groups i shape (ap (λ l. slice_get l i) shapes_are ∙ e) in
+        let inside : i < length (takings q.streams) = (let l = slice_get_within p.groups i g.0 g.1 in omega (arith, l, plan.groups)) in
+        let one = taken_fold valid inside in
+        subst (λ s. HasGroup (fields_of (reads_of q)) (query_ops q) s (query_wiring q) (fold_at q) i) g.2
+        (has_group i g.0 one.taking one.fold g.1 one.taken one.at one.found (subst IsNamedWell (sym g.2) (text.groups i shape e)))

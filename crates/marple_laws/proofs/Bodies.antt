@@ -26,7 +26,7 @@ function_lexeme _ = refl
 
 number_lexeme : (n : ℕ) → n < 2 ^ 64 → lexeme_of (number_word n) ≡ word.Number n
 unfolding lexeme_of function_named comparison_named other_named
-number_lexeme n small = ap (λ o. lexeme_among None o None None) (number_decimal n small)
+number_lexeme n small = ap (λ o. lexeme_among None o None None) (number_decimal small)
 
 -- a digit is none of the letters that follow `s` or `a` in another word
 other_byte : (c d : ℕ) → c ≤ 57 → 57 < d → eqb c d ≡ false
@@ -46,17 +46,17 @@ state_digits (c ∷ ds) v d e =
     )
     (ap (λ o. lexeme_among None None o None) e)
 
-argument_digits : (ds : List ℕ) (v : ℕ) → AllDigits 10 ds → number ds ≡ Some v → lexeme_of (97 ∷ ds) ≡ word.Argument v
+argument_digits : (ds : List ℕ) {v : ℕ} → AllDigits 10 ds → number ds ≡ Some v → lexeme_of (97 ∷ ds) ≡ word.Argument v
 unfolding lexeme_of function_named comparison_named other_named
-argument_digits [] v d e = cc
-argument_digits (c ∷ ds) v d e =
+argument_digits [] d e = cc
+argument_digits (c ∷ ds) d e =
     let k = digit_from_value c d.0 in
     let low : c ≤ 57 = k.1 in
     rw (other_byte c 100 low (omega arith), other_byte c 110 low (omega arith))
     (ap (λ o. lexeme_among None None None o) e)
 
 state_lexeme : (v : ℕ) → v < 2 ^ 64 → lexeme_of (state_word v) ≡ word.State v
-state_lexeme v small = state_digits _ v (decimal_is_IsNumeral v small).0.1 (number_decimal v small)
+state_lexeme v small = state_digits _ v (decimal_is_IsNumeral v small).0.1 (number_decimal small)
 
 slot_read : (states s : ℕ) → s < 2 ^ 64 → lexeme_of (slot_word states s) ≡ slot_lexeme states s
 slot_read states s small = by _
@@ -67,7 +67,7 @@ slot_read states s small = by _
     by : (b : Bool) → lexeme_of (if b then state_word s else 97 ∷ decimal (s - states))
         ≡ (if b then word.State s else word.Argument (s - states))
     by true = state_lexeme s small
-    by false = argument_digits _ _ (decimal_is_IsNumeral (s - states) less).0.1 (number_decimal _ less)
+    by false = argument_digits _ (decimal_is_IsNumeral (s - states) less).0.1 (number_decimal less)
 
 -- the lexemes of the words that are the same in all bodies
 record FixedLexemes : Type 0 where

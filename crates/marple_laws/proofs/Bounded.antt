@@ -16,10 +16,7 @@ module _ (holding : ShownTablesHold) (words : ReadPacketsAreOfWords) (valid : Ac
     holds : ShownHolds typed (geometry_of setting) (words_read trace typed)
 
   writes : (found : Checked TypedQuery) → accepted text ≡ found → fault_after bounds_fault found ≡ None → Writes found
-  writes (Err fault) e none = absurd (refused none)
-    where
-      refused : Some fault ≡ None → ⊥
-      refused same = cc
+  writes (Err fault) e none = cc
   writes (Ok q) e none = record {
     typed = q;
     of_text = refl;

@@ -32,11 +32,11 @@ same_long pairs epochs e = sym (length-map _ _) ∙ ap length e ∙ length-map _
 all_keys : (Q : Key → Type 0) (pairs : List Pair) (epochs : List Epoch) → map (λ pair. pair.key) pairs ≡ map (λ epoch. epoch.key) epochs
     → All (λ epoch. Q epoch.key) epochs → All (λ pair. Q pair.key) pairs
 all_keys Q pairs epochs e all = λ k d lt.
-    let pairs_at : get_or (map (λ pair. pair.key) pairs) k [] ≡ (get_or pairs k d).key = get_or-map (λ pair. pair.key) pairs k d [] lt in
-    let within : k < length epochs = omega (arith, lt, same_long pairs epochs e) in
+    let pairs_at : get_or (map (λ pair. pair.key) pairs) k [] ≡ (get_or pairs k d).key = get_or-map _ _ k d [] lt in
+    let within : k < length epochs = omega (arith, lt, same_long _ _ e) in
     let other : Epoch = record { key = d.key; rows = [] } in
     let epochs_at : get_or (map (λ epoch. epoch.key) epochs) k [] ≡ (get_or epochs k other).key =
-    get_or-map (λ epoch. epoch.key) epochs k other [] within in
+    get_or-map _ _ k _ [] within in
     subst Q (sym epochs_at ∙ ap (λ keys. get_or keys k []) (sym e) ∙ pairs_at) (all k other within)
 
 -- a cache that represents a machine has the keys of the machine's buckets

@@ -11,21 +11,21 @@ use Rattle.query_lang.specs.TypedStreams.{column_names, columns_at, keys_from, a
 
 -- the state variables of a fold
 
-states_new : (found : List ℕ) (states : List StateVar) (all : List ℕ) → AreNew [] found → states_from found states ≡ Ok all → AreNew [] all
-states_new found [] all new e = subst (AreNew []) (same_ok found all e) new
-states_new found (s ∷ states) all new e =
+states_new : (found : List ℕ) (states : List StateVar) {all : List ℕ} → AreNew [] found → states_from found states ≡ Ok all → AreNew [] all
+states_new found [] {all} new e = subst (AreNew []) (same_ok e) new
+states_new found (s ∷ states) {all} new e =
     let a = must_not_ok (is_among s.name.id found) NameTaken s.name.span
-    (must (nat_lt (length found) MAX_STATES) (OverLimit States) s.name.span (states_from (found ++ s.name.id ∷ []) states)) all e in
-    let b = must_ok (nat_lt (length found) MAX_STATES) (OverLimit States) s.name.span (states_from (found ++ s.name.id ∷ []) states) all
+    (must (nat_lt (length found) MAX_STATES) (OverLimit States) s.name.span (states_from (found ++ s.name.id ∷ []) states)) e in
+    let b = must_ok (nat_lt (length found) MAX_STATES) (OverLimit States) s.name.span all
     a.1 in
-    states_new (found ++ s.name.id ∷ []) states all (new_push [] found s.name.id new (not_in found s.name.id a.0)) b.1
+    states_new (found ++ s.name.id ∷ []) states (new_push [] found s.name.id new (not_in found s.name.id a.0)) b.1
 
-pub fold_new : (d : FoldDef) (f : TypedFold) → fold_checked d ≡ Ok f → AreNew [] f.state_names
-fold_new d f e =
-    let s = found_first (states_from [] d.states) _ f e in
-    let a = found_first (args_from s.0 [] d.args) _ f s.2 in
-    let b = found_first (body_checked s.0 a.0 d.body) _ f a.2 in
-    subst (AreNew []) (ap (λ (f : TypedFold). f.state_names) (same_ok _ f b.2)) (states_new [] d.states s.0 tt s.1)
+pub fold_new : (d : FoldDef) {f : TypedFold} → fold_checked d ≡ Ok f → AreNew [] f.state_names
+fold_new d {f} e =
+    let s = found_first (states_from [] d.states) e in
+    let a = found_first (args_from s.0 [] d.args) s.2 in
+    let b = found_first (body_checked s.0 a.0 d.body) a.2 in
+    subst (AreNew []) (ap (λ (f : TypedFold). f.state_names) (same_ok b.2)) (states_new [] d.states tt s.1)
 
 -- the keys of a groupby
 
@@ -47,10 +47,10 @@ slot_found columns hidden key slot e = by _ refl _ e
     by None p true e = cc
     by None p false e = cc
     by (Some s) p h e =
-        let same : s ≡ slot = same_ok s _ e in
+        let same : s ≡ slot = same_ok e in
         let f = place_found 0 _ _ s p in
         let at : slot ≡ f.0 = omega arith in
-        ap (slice_get columns) at ∙ f.2
+        ap (slice_get _) at ∙ f.2
 
 -- each slot has its name
 abbrev ArePicked : List ℕ → List ℕ → List ℕ → Type 0
@@ -58,11 +58,11 @@ ArePicked columns [] [] = Unit {0}
 ArePicked columns (slot ∷ slots) (name ∷ names) = (slice_get columns slot ≡ Some name) × ArePicked columns slots names
 ArePicked columns _ _ = ⊥
 
-picked_push : (columns slots names : List ℕ) (slot name : ℕ) → ArePicked columns slots names → slice_get columns slot ≡ Some name
+picked_push : (columns slots names : List ℕ) (slot : ℕ) {name : ℕ} → ArePicked columns slots names → slice_get columns slot ≡ Some name
     → ArePicked columns (slots ++ slot ∷ []) (names ++ name ∷ [])
-picked_push columns [] [] slot name p e = (e, tt)
-picked_push columns (s ∷ slots) (n ∷ names) slot name p e = (p.0, picked_push columns slots names slot name p.1 e)
-picked_push columns _ _ slot name p e = absurd p
+picked_push columns [] [] slot p e = (e, tt)
+picked_push columns (s ∷ slots) (n ∷ names) slot p e = (p.0, picked_push columns slots names slot p.1 e)
+picked_push columns _ _ slot p e = absurd p
 
 record AreKeys (columns : List ℕ) (picked : Picked) : Type 0 where
   new : AreNew [] picked.names
@@ -70,15 +70,15 @@ record AreKeys (columns : List ℕ) (picked : Picked) : Type 0 where
 
 keys_new : (columns hidden : List ℕ) (found : Picked) (keys : List Name) (all : Picked) → AreKeys columns found
     → keys_from columns hidden found keys ≡ Ok all → AreKeys columns all
-keys_new columns hidden found [] all k e = subst (AreKeys columns) (same_ok found all e) k
+keys_new columns hidden found [] all k e = subst (AreKeys columns) (same_ok e) k
 keys_new columns hidden found (key ∷ keys) all k e =
-    let s = found_first (slot_of columns hidden key) _ all e in
-    let a = must_not_ok (is_among key.id found.names) NameTaken key.span _ all s.2 in
-    let b = must_ok (nat_lt (length found.names) MAX_KEYS) (OverLimit Keys) key.span _ all a.1 in
+    let s = found_first (slot_of columns hidden key) e in
+    let a = must_not_ok (is_among key.id found.names) NameTaken key.span _ s.2 in
+    let b = must_ok (nat_lt (length found.names) MAX_KEYS) (OverLimit Keys) key.span all a.1 in
     keys_new columns hidden (record { names = found.names ++ key.id ∷ []; slots = found.slots ++ s.0 ∷ [] }) keys all
     (record {
       new = new_push [] found.names key.id k.new (not_in found.names key.id a.0);
-      are = picked_push columns found.slots found.names s.0 key.id k.are (slot_found columns hidden key s.0 s.1);
+      are = picked_push columns found.slots found.names s.0 k.are (slot_found columns hidden key s.0 s.1);
     }) b.1
 
 -- the columns at the slots have the names of the keys
@@ -114,8 +114,8 @@ none_among keys [] e s h = absurd h
 pub states_apart : (columns hidden keys : List ℕ) (f : FoldView) (span : Span) (slots : List ℕ)
     → arguments_of columns hidden keys f span ≡ Ok slots → AreApart keys f.states
 states_apart columns hidden keys f span slots e =
-    let s = found_first (collected [] (map (λ id. slot_of columns hidden (record { id = id; span = span })) f.args)) _ _ e in
-    let a = must_not_ok (list_any (λ state. is_among state keys) f.states) _ _ _ _ s.2 in
+    let s = found_first (collected [] (map (λ id. slot_of columns hidden (record { id = id; span = span })) f.args)) e in
+    let a = must_not_ok (list_any (λ state. is_among state keys) f.states) _ _ _ s.2 in
     apart_from _ _ (none_among _ _ a.0)
 
 -- the key columns that a groupby has
@@ -123,9 +123,9 @@ pub record AreKeyColumns (columns : List StreamColumn) (picked : Picked) : Type 
   pub new : AreNew [] (column_names (columns_at columns picked.slots))
   pub names : column_names (columns_at columns picked.slots) ≡ picked.names
 
-pub key_columns_are : (columns : List StreamColumn) (hidden : List ℕ) (keys : List Name) (picked : Picked)
+pub key_columns_are : {columns : List StreamColumn} (hidden : List ℕ) (keys : List Name) {picked : Picked}
     → keys_from (column_names columns) hidden (record { names = []; slots = [] }) keys ≡ Ok picked → AreKeyColumns columns picked
-key_columns_are columns hidden keys picked e =
+key_columns_are hidden keys e =
     let k = keys_new _ _ _ _ _ (record { new = tt; are = tt }) e in
-    let n = picked_names _ _ picked.names k.are in
+    let n = picked_names _ _ _ k.are in
     record { new = subst (AreNew []) (sym n) k.new; names = n }

@@ -32,10 +32,7 @@ module _ (alone : NoViewsWithoutNumber) (whole : ReadPacketsAreWhole) (setting :
 
   alike : (text : List ℕ) (plan : Source) (found : Checked TypedQuery) → accepted text ≡ found → fault_after final_fault found ≡ None
       → plan.text ≡ of_accepted [] compiled_text found → IsRead (RunPlan setting) plan → AreAlike found plan.plan
-  alike text plan (Err fault) e accepted written read = absurd (refused accepted)
-    where
-      refused : Some fault ≡ None → ⊥
-      refused none = cc
+  alike text plan (Err fault) e accepted written read = cc
   alike text plan (Ok q) e accepted written read =
       let loads = accepted_load text q e accepted in
       let same : plan.plan ≡ Ok (made_of q) =

@@ -56,7 +56,7 @@ emit_few (Some c) states args initial over present columns h =
 group_few : (o : Option TypedFold) (input : StreamDepths) (keys args : List ℕ) → ((f : TypedFold) → o ≡ Some f → IsValidFold f)
     → length (group_depths o input keys args).operations ≤ 641
 group_few None input keys args valid = omega arith
-group_few (Some f) input keys args valid = emit_few _ _ _ (length f.initial) _ _ _ (valid f refl).emits
+group_few (Some f) input keys args valid = emit_few _ _ _ _ _ _ _ (valid f refl).emits
 
 made_few : (folds : List TypedFold) → All IsValidFold folds → (before : List TypedStream) (width : ℕ) (op : TypedOp)
     → IsValidOp folds before width op → (streams : List StreamDepths) → length (depths_made folds streams op).operations ≤ 641
@@ -91,8 +91,8 @@ counted folds valid names before (one ∷ list) v depths =
     let o = length-append made.operations [] in
     omega (arith, rest, few, n, m, o)
 
-few_depths : (q : TypedQuery) → IsValidQuery q → length (query_depths q) ≤ 20512
-few_depths q v =
+few_depths : {q : TypedQuery} → IsValidQuery q → length (query_depths q) ≤ 20512
+few_depths v =
     let c = counted _ v.folds _ [] _ v.streams (packet_depths ∷ []) in
     let s = v.most_bindings in
     omega arith
@@ -100,17 +100,17 @@ few_depths q v =
 pub made_of_query : (q : TypedQuery) → stage_fault q ≡ None → QueryMade q (query_made q).ops (query_made q).streams
 made_of_query q none = faults.query_made q _ _ refl refl (query_fault q ∙ none)
 
-pub few_made : (q : TypedQuery) → IsValidQuery q → stage_fault q ≡ None → length (query_made q).ops ≤ 20512
-few_made q v none =
+pub few_made : {q : TypedQuery} → IsValidQuery q → stage_fault q ≡ None → length (query_made q).ops ≤ 20512
+few_made {q} v none =
     let stages : length (map (λ (one : PlanOp). one.stage) (query_made q).ops) ≡ length (query_depths q) =
     ap length (made_of_query q none).stages_are in
     let same = length-map (query_made q).ops (λ (one : PlanOp). one.stage) in
-    let few = few_depths q v in
+    let few = few_depths v in
     omega arith
 
-pub few_ops : (q : TypedQuery) → IsValidQuery q → stage_fault q ≡ None → length (query_ops q) ≤ 20512
-few_ops q v none =
+pub few_ops : {q : TypedQuery} → IsValidQuery q → stage_fault q ≡ None → length (query_ops q) ≤ 20512
+few_ops {q} v none =
     let long = order_long (query_made q).ops (stages_of (query_made q).ops) (made_staged q) in
     let ops = length-map (query_order q) (λ number. moved_op (query_registers q) (op_numbered (query_made q).ops number)) in
-    let few = few_made q v none in
+    let few = few_made v none in
     omega arith

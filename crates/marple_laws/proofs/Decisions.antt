@@ -77,9 +77,9 @@ same_text = same_list same_number
 pub same_texts : (a b : List (List ℕ)) → Decided (a ≡ b)
 same_texts = same_list same_text
 
-pub contains : {A : Type 0} → ((a b : A) → Decided (a ≡ b)) → (xs : List A) (x : A) → Decided (Contains xs x)
-contains same [] x = inr (λ c. omega (arith, c.1))
-contains {A} same (y ∷ xs) x = by (same y x) (contains same xs x)
+pub contains : {A : Type 0} → ((a b : A) → Decided (a ≡ b)) → (xs : List A) {x : A} → Decided (Contains xs x)
+contains same [] = inr (λ c. omega (arith, c.1))
+contains {A} same (y ∷ xs) {x} = by (same y x) (contains same xs)
   where
     none : (y ≡ x → ⊥) → (Contains xs x → ⊥) → (k : ℕ) → k < length (y ∷ xs) → slice_index_or (y ∷ xs) k x ≡ x → ⊥
     none not rest zero lt e = not e
@@ -109,8 +109,8 @@ three_same e f = ((cc), (cc), (cc))
 pub none_some : {A : Type 0} (o : Option A) (a : A) → o ≡ None → o ≡ Some a → ⊥
 none_some o a e f = cc
 
-pub some_same : {A : Type 0} (o : Option A) (a b : A) → o ≡ Some a → o ≡ Some b → a ≡ b
-some_same o a b e f = cc
+pub some_same : {A : Type 0} {o : Option A} {a : A} (b : A) → o ≡ Some a → o ≡ Some b → a ≡ b
+some_same b e f = cc
 
 -- what needs the value of an option is decided by what it says of the value
 pub from_value : {A B : Type 0} (o : Option A) → (B → (a : A) × (o ≡ Some a)) → ((a : A) → o ≡ Some a → Decided B) → Decided B

@@ -2,7 +2,7 @@
 use Rattle.marple_laws.proofs.Words.{◌≡◌, ℕ, ◌^◌, ◌<◌, max, List, [], ◌∷◌, refl, sym, ap, ◌∙◌, inl, inr, arith, bit_or, fold, bit_at}
 use Rattle.marple_laws.proofs.Words.{cases_eq, Field, FieldSet, number_of, all_fields, has_field, HasField, no_fields, with_field}
 use Rattle.marple_laws.proofs.Words.{field_set, TypedQuery, read_fields, reads_of, reads_in, fields_of, made_of}
-use Rattle.marple_laws.proofs.{Fields.{all_in, in_filter, out_of_filter}, Listed.{IsIn, in_set}}
+use Rattle.marple_laws.proofs.{Fields.{all_in, in_filter, out_of_filter}, Items.IsIn, Listed.in_set}
 use Rattle.std.proofs.lemmas.Nat.Bits.{bit_at_or, bit_at-lt, bit_at-pow_same, bit_at-pow_other, same_from_bits}
 
 -- 1 where some field of these has this number, and 0 otherwise
@@ -37,13 +37,13 @@ record Named (fields : List Field) (i : ℕ) : Type 0 where
   is_in : IsIn field fields
   number : number_of field ≡ i
 
-some_named : (fields : List Field) (i : ℕ) → among i fields ≡ 1 → Named fields i
-some_named [] i e = absurd (omega (arith, e))
-some_named (f ∷ fields) i e = elim (cases_eq i (number_of f)) [
+some_named : (fields : List Field) {i : ℕ} → among i fields ≡ 1 → Named fields i
+some_named [] e = absurd (omega (arith, e))
+some_named (f ∷ fields) {i} e = elim (cases_eq i (number_of f)) [
   | inl same ↦ record { field = f; is_in = inl refl; number = sym same }
   | inr other ↦
       let none = bit_at-pow_other (number_of f) i other in
-      let h = some_named fields i (omega (arith, e, none)) in
+      let h = some_named fields (omega (arith, e, none)) in
       record { field = h.field; is_in = inr h.is_in; number = h.number }
 ]
 
@@ -57,12 +57,12 @@ has_from fields f h =
 same_among : (fields : List Field) (i : ℕ) → among i (fields_of (field_set fields)) ≡ among i fields
 same_among fields i = elim (cases_eq (among i fields) 1) [
   | inl one ↦
-      let n = some_named fields i one in
+      let n = some_named fields one in
       among_in (fields_of (field_set fields)) n.field i n.number (in_filter (has_field (field_set fields)) n.field all_fields
       (in_set fields n.field n.is_in) (all_in n.field)) ∙ sym one
   | inr other ↦ elim (cases_eq (among i (fields_of (field_set fields))) 1) [
     | inl one ↦
-        let n = some_named (fields_of (field_set fields)) i one in
+        let n = some_named (fields_of (field_set fields)) one in
         let has : HasField (field_set fields) n.field = out_of_filter (has_field (field_set fields)) n.field all_fields n.is_in in
         one ∙ sym (ap (λ k. among k fields) (sym n.number) ∙ has_from fields n.field has)
     | inr none ↦ omega (arith, other, none, at_most_one fields i, at_most_one (fields_of (field_set fields)) i)

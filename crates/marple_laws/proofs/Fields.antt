@@ -1,12 +1,12 @@
 -- The fields of a set in their order, and which registers the lines of a plan know.
 use Rattle.marple_laws.proofs.Words.{◌≡◌, ℕ, suc, ◌+◌, ◌^◌, ◌<◌, ◌≤◌, Bool, true, false, cond, List, [], ◌∷◌, length, refl, sym, ap, subst}
-use Rattle.marple_laws.proofs.Words.{◌∙◌, inl, inr, arith, Contains, All, codes, cases_lt, All-head, All-tail, Field, Switch, Qid, Uid}
-use Rattle.marple_laws.proofs.Words.{SrcIp, DstIp, SrcPort, DstPort, Proto, PktLen, PayloadLen, TcpSeq, Tin, Tout, QSize, FieldSet}
+use Rattle.marple_laws.proofs.Words.{◌∙◌, inl, inr, arith, Contains, All, codes, cases_lt, All-head, All-tail, Field, Switch, Some}
+use Rattle.marple_laws.proofs.Words.{FieldSet}
 use Rattle.marple_laws.proofs.Words.{number_of, field_name, all_fields, has_field, FIELDS, Operand, Register, Number, PlanOp, IsWithin}
 use Rattle.marple_laws.proofs.Words.{and_parts, nat_tests, Made, word_named, nothing, AreFrom, IsKnown, fields_of, reads_line, line}
-use Rattle.std.specs.Prelude.{map, filter, nat_le, ◌&&◌}
+use Rattle.std.specs.Prelude.{map, filter, nat_le, slice_get, ◌&&◌}
 use Rattle.plan_file.specs.declared.line_word.LineWord.TheVariants as lead
-use Rattle.marple_laws.proofs.{GroupLines.{IsReadable, AreReadable}, Listed.IsIn, Known.{IsGood, AllGood}, OpLines.{Fits, with_ops}}
+use Rattle.marple_laws.proofs.{GroupLines.{IsReadable, AreReadable}, Items.{IsIn, in_at}, Known.{IsGood, AllGood}, OpLines.{Fits, with_ops}}
 use Rattle.marple_laws.proofs.{Tokens.{is_token, AreTokens}, Written.{IsWritten, line_written}}
 
 pub in_filter : (test : Field → Bool) (f : Field) (fields : List Field) → test f ≡ true → IsIn f fields → IsIn f (filter test fields)
@@ -14,7 +14,7 @@ in_filter test f [] e h = absurd h
 in_filter test f (g ∷ fields) e (inl same) =
     let passes : test g ≡ true = ap test (sym same) ∙ e in
     subst (λ b. IsIn f (cond b (g ∷ filter test fields) (filter test fields))) (sym passes) (inl same)
-in_filter test f (g ∷ fields) e (inr h) = by (test g) (in_filter test f fields e h)
+in_filter test f (g ∷ fields) e (inr h) = by _ (in_filter test f fields e h)
   where
     by : (b : Bool) → IsIn f (filter test fields) → IsIn f (cond b (g ∷ filter test fields) (filter test fields))
     by true rest = inr rest
@@ -32,20 +32,11 @@ out_of_filter test f (g ∷ fields) h = by _ refl h (out_of_filter test f fields
     by false e k rest = rest k
 
 pub all_in : (f : Field) → IsIn f all_fields
-all_in Switch = inl refl
-all_in Qid = inr (inl refl)
-all_in Uid = inr (inr (inl refl))
-all_in SrcIp = inr (inr (inr (inl refl)))
-all_in DstIp = inr (inr (inr (inr (inl refl))))
-all_in SrcPort = inr (inr (inr (inr (inr (inl refl)))))
-all_in DstPort = inr (inr (inr (inr (inr (inr (inl refl))))))
-all_in Proto = inr (inr (inr (inr (inr (inr (inr (inl refl)))))))
-all_in PktLen = inr (inr (inr (inr (inr (inr (inr (inr (inl refl))))))))
-all_in PayloadLen = inr (inr (inr (inr (inr (inr (inr (inr (inr (inl refl)))))))))
-all_in TcpSeq = inr (inr (inr (inr (inr (inr (inr (inr (inr (inr (inl refl))))))))))
-all_in Tin = inr (inr (inr (inr (inr (inr (inr (inr (inr (inr (inr (inl refl)))))))))))
-all_in Tout = inr (inr (inr (inr (inr (inr (inr (inr (inr (inr (inr (inr (inl refl))))))))))))
-all_in QSize = inr (inr (inr (inr (inr (inr (inr (inr (inr (inr (inr (inr (inr (inl refl)))))))))))))
+all_in f = in_at all_fields (number_of f) f (at f)
+  where
+    at : (f : Field) → slice_get all_fields (number_of f) ≡ Some f
+    at Switch = refl
+    at _ = refl
 
 number_there : (f : Field) (fields : List Field) → IsIn f fields → Contains (map number_of fields) (number_of f)
 number_there f [] h = absurd h
@@ -54,17 +45,17 @@ number_there f (g ∷ fields) (inr h) = let c = number_there f fields h in (suc 
 
 -- the fields of a set are in order
 
-from_less : (fields : List Field) (m n : ℕ) → m ≤ n → AreFrom n fields → AreFrom m fields
-from_less [] m n le h = tt
-from_less (f ∷ fields) m n le h = (omega arith, h.1)
+from_less : (fields : List Field) {m n : ℕ} → m ≤ n → AreFrom n fields → AreFrom m fields
+from_less [] le h = tt
+from_less (f ∷ fields) le h = (omega arith, h.1)
 
 from_filter : (test : Field → Bool) (fields : List Field) (least : ℕ) → AreFrom least fields → AreFrom least (filter test fields)
 from_filter test [] least h = tt
-from_filter test (f ∷ fields) least h = by (test f) (from_filter test fields (number_of f + 1) h.1)
+from_filter test (f ∷ fields) least h = by _ (from_filter test fields (number_of f + 1) h.1)
   where
     by : (b : Bool) → AreFrom (number_of f + 1) (filter test fields) → AreFrom least (cond b (f ∷ filter test fields) (filter test fields))
     by true rest = (h.0, rest)
-    by false rest = from_less (filter test fields) least (number_of f + 1) (omega (arith, h.0)) rest
+    by false rest = from_less _ (omega (arith, h.0)) rest
 
 abbrev are_ordered : ℕ → List Field → Bool
 are_ordered least [] = true
@@ -98,7 +89,7 @@ abbrev pub begun : Made
 begun = record nothing { begun = true }
 
 pub first_written : IsWritten (line (codes "marple-plan") (codes "1" ∷ [])) nothing begun
-first_written = line_written _ _ _ _ _ refl (refl, tt) plan_lead (λ cut. record { first = refl; words = cut; made = refl })
+first_written = line_written _ refl (refl, tt) plan_lead (λ cut. record { first = refl; words = cut; made = refl })
 
 -- the line of fields
 
@@ -108,7 +99,7 @@ reads_lead = refl
 
 pub reads_written : (reads : FieldSet) → IsWritten (reads_line reads) begun (with_ops (fields_of reads) [])
 reads_written reads =
-    line_written lead.Reads (codes "reads") (map field_name (fields_of reads)) begun (with_ops (fields_of reads) []) refl
+    line_written _ refl
     (tokens_fields (fields_of reads)) reads_lead
     (λ cut. record {
       begun = refl;
@@ -122,27 +113,27 @@ reads_written reads =
 pub operand_known : (reads : FieldSet) (ops : List PlanOp) (o : Operand) → IsGood reads o → IsWithin (FIELDS + length ops) o
     → IsKnown (fields_of reads) ops o
 operand_known reads ops (Number n) good inside = tt
-operand_known reads ops (Register r) good inside = elim (cases_lt r FIELDS) [
+operand_known reads ops (Register r) good inside = elim (cases_lt r _) [
   | inl early ↦ (let g = good early in inl (subst (Contains (map number_of (fields_of reads))) g.1
       (number_there g.0 (fields_of reads) (in_filter (has_field reads) g.0 all_fields g.2 (all_in g.0)))))
   | inr late ↦ inr (late, inside)
 ]
 
-pub operand_fits : (reads : FieldSet) (n : ℕ) (o : Operand) → IsGood reads o → IsWithin n o → n < 2 ^ 64 → Fits o
-operand_fits reads n (Number m) good inside small = good
-operand_fits reads n (Register r) good inside small = omega arith
+pub operand_fits : (reads : FieldSet) {n : ℕ} (o : Operand) → IsGood reads o → IsWithin n o → n < 2 ^ 64 → Fits o
+operand_fits reads (Number m) good inside small = good
+operand_fits reads (Register r) good inside small = omega arith
 
-pub operand_readable : (reads : FieldSet) (ops : List PlanOp) (o : Operand) → IsGood reads o → IsWithin (FIELDS + length ops) o
+pub operand_readable : (reads : FieldSet) {ops : List PlanOp} {o : Operand} → IsGood reads o → IsWithin (FIELDS + length ops) o
     → length ops ≤ 32768 → IsReadable (fields_of reads) ops o
-operand_readable reads ops o good inside few = record {
+operand_readable reads {o} good inside few = record {
   known = operand_known _ _ o good inside;
-  fits = operand_fits _ _ o good inside (omega arith);
+  fits = operand_fits _ o good inside (omega arith);
 }
 
 pub operands_readable : (reads : FieldSet) (ops : List PlanOp) (operands : List Operand) → AllGood reads operands
     → All (IsWithin (FIELDS + length ops)) operands → length ops ≤ 32768 → AreReadable (fields_of reads) ops operands
 operands_readable reads ops [] good inside few = tt
 operands_readable reads ops (o ∷ operands) good inside few = (
-  operand_readable reads ops o good.0 (All-head (IsWithin (FIELDS + length ops)) o operands inside) few,
+  operand_readable reads good.0 (All-head (IsWithin (FIELDS + length ops)) o operands inside) few,
   operands_readable reads ops operands good.1 (All-tail (IsWithin (FIELDS + length ops)) o operands inside) few,
 )

@@ -24,18 +24,17 @@ group_line fs ops groups line =
     let same : p.0.name ≡ n = (three_same p.1.valid.words valid.words).1 in
     (p.1.room, (λ e. p.1.no_stream (same ∙ e), λ there. p.1.new (subst (Contains (names_of groups)) (sym same) there))))
     (both (less (length groups) MAX_GROUPBYS) (both (neither (same_text n (codes "pktstream")))
-    (neither (contains same_text (names_of groups) n)))))
-    (named_operand _ _ (codes "group") _)
+    (neither (contains same_text (names_of groups))))))
+    (named_operand (codes "group") _)
 
-new_in : (group : Group) (name : List ℕ) → Decided (IsNewIn group name)
-new_in group name =
+new_in : {group : Group} (name : List ℕ) → Decided (IsNewIn group name)
+new_in name =
     by_both (λ p. record { no_key = p.0; no_state = p.1 }) (λ r. (r.no_key, r.no_state))
-    (both (neither (contains same_text _ _)) (neither (contains same_text _ _)))
+    (both (neither (contains same_text _)) (neither (contains same_text _)))
 
 key_line : (fs : List Field) (ops : List PlanOp) (before : Group) (line : List ℕ)
     → Decided ((after : Group) × IsKeyLine fs ops before line after)
-key_line fs ops before line =
-    from_found (λ p. (p.1.name, p.1.value, p.1.valid)) (λ f. of_name f.0 f.1 f.2) (named_operand _ _ (codes "key") _)
+key_line fs ops before line = from_found (λ p. (p.1.name, p.1.value, p.1.valid)) (λ f. of_name f.0 f.1 f.2) (named_operand (codes "key") _)
   where
     of_name : (n : List ℕ) (v : Operand) → IsNamedOperand fs ops (codes "key") line n v
         → Decided ((after : Group) × IsKeyLine fs ops before line after)
@@ -59,12 +58,11 @@ key_line fs ops before line =
         let same = (three_same p.1.valid.words valid.words).1 in
         ((p.1.args, p.1.states), (p.1.body, (p.1.room, subst (IsNewIn before) same p.1.new))))
         (both (both (is_empty before.args) (is_empty before.state_names))
-        (both (is_none _) (both (less (length before.keys) MAX_KEYS) (new_in _ n))))
+        (both (is_none _) (both (less (length before.keys) MAX_KEYS) (new_in n))))
 
 arg_line : (fs : List Field) (ops : List PlanOp) (before : Group) (line : List ℕ)
     → Decided ((after : Group) × IsArgLine fs ops before line after)
-arg_line fs ops before line =
-    from_found (λ p. (p.1.value, p.1.valid)) (λ f. of_value f.0 f.1) (one_operand _ _ (codes "arg") _)
+arg_line fs ops before line = from_found (λ p. (p.1.value, p.1.valid)) (λ f. of_value f.0 f.1) (one_operand _ _ (codes "arg") _)
   where
     of_value : (v : Operand) → IsOneOperand fs ops (codes "arg") line v → Decided ((after : Group) × IsArgLine fs ops before line after)
     of_value v valid =
@@ -78,8 +76,7 @@ arg_line fs ops before line =
         (both (is_none _) (less (length before.args) MAX_ARGS)))
 
 state_line : (before : Group) (line : List ℕ) → Decided ((after : Group) × IsStateLine before line after)
-state_line before line =
-    from_found (λ p. (p.1.name, p.1.value, p.1.valid)) (λ f. of_name f.0 f.1 f.2) (named_number (codes "state") _)
+state_line before line = from_found (λ p. (p.1.name, p.1.value, p.1.valid)) (λ f. of_name f.0 f.1 f.2) (named_number (codes "state") _)
   where
     of_name : (n : List ℕ) (v : ℕ) → IsNamedNumber (codes "state") line n v → Decided ((after : Group) × IsStateLine before line after)
     of_name n v valid =
@@ -91,10 +88,10 @@ state_line before line =
         (λ p.
         let same = (three_same p.1.valid.words valid.words).1 in
         ((p.1.keys, p.1.body), (p.1.room, subst (IsNewIn before) same p.1.new)))
-        (both (both (less 0 (length before.keys)) (is_none _)) (both (less (length before.initial) MAX_STATES) (new_in _ n)))
+        (both (both (less 0 (length before.keys)) (is_none _)) (both (less (length before.initial) MAX_STATES) (new_in n)))
 
-body_words : (states args : ℕ) (line : List ℕ) → Decided ((ws : List Lexeme) × IsBodyLine states args line ws)
-body_words states args line = by (tokens line) refl
+body_words : {states args : ℕ} (line : List ℕ) → Decided ((ws : List Lexeme) × IsBodyLine states args line ws)
+body_words {states} {args} line = by (tokens line) refl
   where
     by : (ts : List (List ℕ)) → tokens line ≡ ts → Decided ((ws : List Lexeme) × IsBodyLine states args line ws)
     by [] e = inr (λ p. (let w = p.1.begins in cc))
@@ -108,19 +105,19 @@ body_words states args line = by (tokens line) refl
         (first, (p.1.body, subst (λ ws. IsBody states args ws p.1.body) (p.1.are ∙ ap (map lexeme_of) same) p.1.is_body)))
         (both (same_text t (codes "body")) (is_body _ _ (map lexeme_of rest)))
 
-body_line : (before : Group) (line : List ℕ) → Decided ((after : Group) × IsGroupBody before line after)
-body_line before line =
+body_line : (before : Group) {line : List ℕ} → Decided ((after : Group) × IsGroupBody before line after)
+body_line before =
     by_both
     (λ q. (record before { body = Some q.1.1.0 }, record { keys = q.0; once = q.1.0; words = q.1.1.0; valid = q.1.1.1; made = refl }))
     (λ p. (p.1.keys, (p.1.once, (p.1.words, p.1.valid))))
-    (both (less 0 (length before.keys)) (both (is_none _) (body_words _ _ _)))
+    (both (less 0 (length before.keys)) (both (is_none _) (body_words _)))
 
 pub in_group : (word : LineWord) (fs : List Field) (ops : List PlanOp) (before : Group) (line : List ℕ)
     → Decided ((after : Group) × IsInGroup word fs ops before line after)
 in_group words.Key fs ops before line = key_line _ _ _ _
 in_group words.Arg fs ops before line = arg_line _ _ _ _
 in_group words.State fs ops before line = state_line _ _
-in_group words.Body fs ops before line = body_line _ _
+in_group words.Body fs ops before line = body_line _
 in_group _ fs ops before line = inr (λ p. p.1)
 
 -- the line `fold`
@@ -136,7 +133,7 @@ class_named token = by (same_text token (class_word Linear)) (same_text token (c
         → Decided ((class : Class) × (token ≡ class_word class))
     by (inl e) other = inl (Linear, e)
     by (inr linear) (inl e) = inl (Class.Other, e)
-    by (inr linear) (inr other) = inr (λ p. neither_one linear other p.0 p.1)
+    by (inr linear) (inr other) = inr (λ p. neither_one linear other _ p.1)
 
 same_class : (a b : Class) → Decided (a ≡ b)
 same_class Linear Linear = inl refl
@@ -148,7 +145,7 @@ abbrev FoldWords : List ℕ → Type 0
 FoldWords line = (class : Class) × (depth : ℕ) × (nodes : ℕ) × (statements : ℕ) × IsFoldWords line class depth nodes statements
 
 number_of : (token : List ℕ) → Decided ((n : ℕ) × (number token ≡ Some n))
-number_of token = from_value (number token) (λ p. p) (λ n is. inl (n, is))
+number_of token = from_value _ (λ p. p) (λ n is. inl (n, is))
 
 fold_words : (line : List ℕ) → Decided (FoldWords line)
 fold_words line = by (tokens line) refl
@@ -196,9 +193,9 @@ bounds f nodes statements =
     (both (most _ _) (most _ _)))
 
 -- the fold that a `fold` line of these words ends
-fold_is : (one : Folded) (ws : List Lexeme) (b : Block) → one.group.body ≡ Some ws
+fold_is : (one : Folded) {ws : List Lexeme} (b : Block) → one.group.body ≡ Some ws
     → IsBody (length one.group.initial) (length one.group.args) ws b → IsFoldOf one.group (fold_in one)
-fold_is one ws b has is =
+fold_is one {ws} b has is =
     let group = one.group in
     let same : b ≡ fold_block (fold_in one) =
     sym (bodies.written (length group.initial) (length group.args) ws b is)
@@ -214,13 +211,13 @@ fold_is one ws b has is =
       emit = refl;
     }
 
-ended : (before : Group) (line : List ℕ) (class : Class) (depth nodes statements : ℕ) → IsFoldWords line class depth nodes statements
-    → (ws : List Lexeme) (b : Block) → before.body ≡ Some ws
-    → IsBody (length before.initial) (length before.args) ws b → Decided ((after : Folded) × IsFoldLine before line after)
-ended before line class depth nodes statements valid ws b has is =
+ended : {before : Group} {line : List ℕ} {class : Class} {depth nodes statements : ℕ} → IsFoldWords line class depth nodes statements
+    → {ws : List Lexeme} {b : Block} → before.body ≡ Some ws → IsBody (length before.initial) (length before.args) ws b
+    → Decided ((after : Folded) × IsFoldLine before line after)
+ended {before} {line} {class} {depth} {nodes} {statements} valid {ws} {b} has is =
     let after : Folded = record { group = before; class = class; depth = depth; nodes = nodes; statements = statements } in
     let f = fold_in after in
-    let of = fold_is after ws b has is in
+    let of = fold_is after b has is in
     by_both
     (λ q. (
       after,
@@ -260,11 +257,11 @@ fold_line before line =
     from_found (λ p. (p.0.class, p.0.depth, p.0.nodes, p.0.statements, p.1.valid)) (λ said.
     from_value before.body (λ p. (p.1.is_fold.words, p.1.is_fold.has_body)) (λ ws has.
     from_found (λ p. (fold_block p.1.fold, body_of ws has p.0 p.1))
-    (λ found. ended before line said.0 said.1 said.2 said.3 said.4 ws found.0 has found.1)
+    (λ found. ended said.4 has found.1)
     (is_body (length before.initial) (length before.args) ws))) (fold_words line)
   where
     body_of : (ws : List Lexeme) → before.body ≡ Some ws → (after : Folded) (p : IsFoldLine before line after)
         → IsBody (length before.initial) (length before.args) ws (fold_block p.fold)
     body_of ws has after p =
         subst (λ w. IsBody (length before.initial) (length before.args) w (fold_block p.fold))
-        (some_same before.body p.is_fold.words ws p.is_fold.has_body has) p.is_fold.body
+        (some_same ws p.is_fold.has_body has) p.is_fold.body

@@ -32,13 +32,13 @@ abbrev pub outside : List Field → List PlanOp → List Folded → Made
 outside fields ops groups = record { begun = true; reads = Some fields; ops = ops; groups = groups; current = None; prints = [] }
 
 -- a line of a group that is valid in it
-pub part_written : (fields : List Field) (ops : List PlanOp) (groups : List Folded) (word : LineWord) (first : List ℕ)
-    (words : List (List ℕ)) (g next : Group) → ((b : Made) (text : List ℕ) (a : Made) → IsPart word b text a → IsLineOf word b text a)
+pub part_written : {fields : List Field} {ops : List PlanOp} {groups : List Folded} {word : LineWord} {first : List ℕ}
+    {words : List (List ℕ)} {g next : Group} → ((b : Made) (text : List ℕ) (a : Made) → IsPart word b text a → IsLineOf word b text a)
     → is_token first ≡ true → AreTokens words → word_named first ≡ word
     → (tokens (first ++ spaced words) ≡ first ∷ words → IsInGroup word fields ops g (first ++ spaced words) next)
     → IsWritten (line first words) (within fields ops groups g) (within fields ops groups next)
-part_written fields ops groups word first words g next part t are named valid =
-    line_written word first words (within fields ops groups g) (within fields ops groups next) t are named (λ cut. part _ _ _ (record {
+part_written {fields} {g} {next} part t are named valid =
+    line_written _ t are named (λ cut. part _ _ _ (record {
       fields = fields;
       reads = refl;
       group = g;
@@ -74,13 +74,10 @@ module _ (fields : List Field) (ops : List PlanOp) (groups : List Folded) (name 
       → length names ≡ length values → length before + length values ≤ MAX_STATES → AreNames names → AreNew before_names names
       → AreReadable fields ops values → IsWritten (named_lines (codes "key") names (map operand_word values))
       (with_keys before_names before) (with_keys (before_names ++ names) (before ++ values))
-  keys_written bn b [] [] long few named new ok = nothing_written (with_keys bn b) (with_keys (bn ++ []) (b ++ []))
-      (λ k. with_keys (append-nil bn k) (append-nil b k))
+  keys_written bn b [] [] long few named new ok = nothing_written (λ k. with_keys (append-nil bn k) (append-nil b k))
   keys_written bn b (n ∷ names) (v ∷ values) long few named new ok =
-      written_then (line (codes "key") (n ∷ operand_word v ∷ [])) (named_lines (codes "key") names (map operand_word values))
-      (with_keys bn b) (with_keys (bn ++ n ∷ []) (b ++ v ∷ [])) (with_keys (bn ++ n ∷ names) (b ++ v ∷ values))
-      (part_written fields ops groups lead.Key (codes "key") (n ∷ operand_word v ∷ []) (group_so_far bn b [] [] [] None)
-      (group_so_far (bn ++ n ∷ []) (b ++ v ∷ []) [] [] [] None) (λ before text after p. p) refl
+      written_then (named_lines (codes "key") names (map operand_word values))
+      (part_written (λ before text after p. p) refl
       (token_name n named.0, (token_operand v ok.0.fits, tt)) key_word
       (λ cut. record {
         args = refl;
@@ -110,12 +107,10 @@ module _ (fields : List Field) (ops : List PlanOp) (groups : List Folded) (name 
 
     pub args_written : (before values : List Operand) → length before + length values ≤ MAX_ARGS → AreReadable fields ops values →
         IsWritten (flat_map (λ a. line (codes "arg") (operand_word a ∷ [])) values) (with_args before) (with_args (before ++ values))
-    args_written b [] few ok = nothing_written (with_args b) (with_args (b ++ [])) (λ k. with_args (append-nil b k))
+    args_written b [] few ok = nothing_written (λ k. with_args (append-nil b k))
     args_written b (v ∷ values) few ok =
-        written_then (line (codes "arg") (operand_word v ∷ [])) (flat_map (λ a. line (codes "arg") (operand_word a ∷ [])) values)
-        (with_args b) (with_args (b ++ v ∷ [])) (with_args (b ++ v ∷ values))
-        (part_written fields ops groups lead.Arg (codes "arg") (operand_word v ∷ []) (group_so_far key_names keys b [] [] None)
-        (group_so_far key_names keys (b ++ v ∷ []) [] [] None) (λ before text after p. p) refl (token_operand v ok.0.fits, tt) arg_word
+        written_then (flat_map (λ a. line (codes "arg") (operand_word a ∷ [])) values)
+        (part_written (λ before text after p. p) refl (token_operand v ok.0.fits, tt) arg_word
         (λ cut. record {
           keys = some;
           states = refl;
@@ -141,21 +136,18 @@ module _ (fields : List Field) (ops : List PlanOp) (groups : List Folded) (name 
           → length names ≡ length values → length before + length values ≤ MAX_STATES → AreNames names → AreNew before_names names
           → AreNoKeys key_names names → AllWords values → IsWritten (named_lines (codes "state") names (map decimal values))
           (with_states before_names before) (with_states (before_names ++ names) (before ++ values))
-      states_written bn b [] [] long few named new apart ok = nothing_written (with_states bn b) (with_states (bn ++ []) (b ++ []))
-          (λ k. with_states (append-nil bn k) (append-nil b k))
+      states_written bn b [] [] long few named new apart ok = nothing_written (λ k. with_states (append-nil bn k) (append-nil b k))
       states_written bn b (n ∷ names) (v ∷ values) long few named new apart ok =
-          written_then (line (codes "state") (n ∷ decimal v ∷ [])) (named_lines (codes "state") names (map decimal values))
-          (with_states bn b) (with_states (bn ++ n ∷ []) (b ++ v ∷ [])) (with_states (bn ++ n ∷ names) (b ++ v ∷ values))
-          (part_written fields ops groups lead.State (codes "state") (n ∷ decimal v ∷ []) (group_so_far key_names keys args bn b None)
-          (group_so_far key_names keys args (bn ++ n ∷ []) (b ++ v ∷ []) None) (λ before text after p. p) refl
-          (token_name n named.0, (token_decimal v ok.0, tt)) state_lead
+          written_then (named_lines (codes "state") names (map decimal values))
+          (part_written (λ before text after p. p) refl
+          (token_name n named.0, (token_decimal ok.0, tt)) state_lead
           (λ cut. record {
             keys = some;
             body = refl;
             room = omega (arith, few);
             name = n;
             value = v;
-            valid = record { token = decimal v; words = cut; named = named.0; reads = number_decimal v ok.0 };
+            valid = record { token = decimal v; words = cut; named = named.0; reads = number_decimal ok.0 };
             new = record { no_key = apart.0; no_state = new.0 };
             made = refl;
           }))

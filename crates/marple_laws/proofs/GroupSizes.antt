@@ -69,9 +69,8 @@ pub record IsLimited (shape : GroupShape) (wiring : GroupWiring) (f : TypedFold)
   pub nodes : shape.nodes ≤ MAX_NODES
   pub statements : shape.statements ≤ MAX_STATEMENTS
 
-head_size : (shape : GroupShape) (wiring : GroupWiring) (f : TypedFold) → IsLimited shape wiring f
-    → length (line (codes "group") (shape.name ∷ operand_word wiring.present ∷ [])) ≤ 29 + length shape.name
-head_size shape wiring f l =
+head_size : {shape : GroupShape} {wiring : GroupWiring} {f : TypedFold} → IsLimited shape wiring f → length (line (codes "group") (shape.name ∷ operand_word wiring.present ∷ [])) ≤ 29 + length shape.name
+head_size {shape} {wiring} l =
     let n = line_size (codes "group") (shape.name ∷ operand_word wiring.present ∷ []) in
     let a = after_size shape.name (operand_word wiring.present ∷ []) in
     let b = after_size (operand_word wiring.present) [] in
@@ -107,7 +106,7 @@ fold_size shape depth nodes statements =
 pub group_size : (shape : GroupShape) (wiring : GroupWiring) (f : TypedFold) → IsLimited shape wiring f
     → length (group_lines shape wiring f) ≤ 14000 + length shape.name + (total shape.key_names + total shape.state_names)
 group_size shape wiring f l =
-    let head = head_size shape wiring f l in
+    let head = head_size l in
     let keys = named_size (codes "key") (omega arith) shape.key_names (map operand_word wiring.keys) (operands_short wiring.keys l.keys) in
     let args = args_size wiring.args l.args in
     let states = named_size (codes "state") (omega arith) shape.state_names (map decimal f.initial) (words_short f.initial l.initial) in
@@ -142,8 +141,8 @@ depth_below f (suc tries) d = by _ (depth_below f _ _)
     by true h = omega arith
     by false h = omega arith
 
-pub shallow : (f : TypedFold) → IsValidFold f → depth_of f ≤ MAX_STATES
-shallow f v =
+pub shallow : {f : TypedFold} → IsValidFold f → depth_of f ≤ MAX_STATES
+shallow {f} v =
     let b = depth_below f (fold_states f) 0 in
     let s = v.states in
     omega (arith, b, s)
@@ -153,10 +152,7 @@ args_few : (folds : List TypedFold) (number n : ℕ) → All IsValidFold folds �
 args_few folds number n valid e = by (slice_get folds number) refl e
   where
     by : (o : Option TypedFold) → slice_get folds number ≡ o → option_map fold_args o ≡ Some n → n ≤ MAX_ARGS
-    by None h e = absurd (no e)
-      where
-        no : None ≡ Some n → ⊥
-        no z = cc
+    by None h e = cc
     by (Some f) h e =
         let same = same_Some (fold_args f) n e in
         let few = (all_at IsValidFold folds number f valid h).args in
@@ -164,12 +160,9 @@ args_few folds number n valid e = by (slice_get folds number) refl e
 
 pub taking_few : (names : ℕ) (folds : List TypedFold) → All IsValidFold folds → (before streams : List TypedStream)
     → AreValidStreams names folds before streams → (i : ℕ) (t : Taking) → slice_get (takings streams) i ≡ Some t → length t.args ≤ MAX_ARGS
-taking_few names folds valid before [] v i t e = absurd (no e)
-  where
-    no : None ≡ Some t → ⊥
-    no z = cc
+taking_few names folds valid before [] v i t e = cc
 taking_few names folds valid before (one ∷ rest) v i t e =
-    by one.op v.0.operator (taking_few names folds valid (before ++ one ∷ []) rest v.1) i e
+    by _ v.0.operator (taking_few names folds valid (before ++ one ∷ []) rest v.1) i e
   where
     by : (o : TypedOp) → IsValidOp folds before (length one.columns) o
         → ((i : ℕ) (t : Taking) → slice_get (takings rest) i ≡ Some t → length t.args ≤ MAX_ARGS)
@@ -190,13 +183,10 @@ pub groups_size : (f : ℕ → List ℕ) (shapes : List GroupShape) (k n : ℕ)
 groups_size f shapes k zero each none = omega arith
 groups_size f [] k (suc n) each none =
     let first : length (f k) ≡ 0 = subst (λ m. length (f m) ≡ 0) (omega arith) (none 0 refl) in
-    let rest = groups_size f [] (k + 1) n (λ i shape e. absurd (nothing i shape e))
+    let rest = groups_size f [] (k + 1) n (λ i shape e. cc)
     (λ i e. subst (λ m. length (f m) ≡ 0) (omega arith) (none (suc i) refl)) in
     let a = length-append (f k) (flat_map f (range_with_len (k + 1) n)) in
     omega (arith, first, rest, a)
-  where
-    nothing : (i : ℕ) (shape : GroupShape) → slice_get [] i ≡ Some shape → ⊥
-    nothing i shape e = cc
 groups_size f (s ∷ shapes) k (suc n) each none =
     let first : length (f k) ≤ 79690 + length s.name = subst (λ m. length (f m) ≤ 79690 + length s.name) (omega arith) (each 0 s refl) in
     let rest = groups_size f shapes (k + 1) n (λ i shape e. subst (λ m. length (f m) ≤ 79690 + length shape.name) (omega arith)

@@ -63,8 +63,7 @@ module _ (fields : List Field) (ops : List PlanOp) (groups : List Folded) (shape
   name_written : IsWritten (line (codes "group") (shape.name ∷ operand_word wiring.present ∷ [])) (outside fields ops groups)
       (so_far [] [] [] [] [] None)
   name_written =
-      line_written lead.Group (codes "group") (shape.name ∷ operand_word wiring.present ∷ []) (outside fields ops groups)
-      (so_far [] [] [] [] [] None) refl
+      line_written _ refl
       (token_name shape.name ok.named, (token_operand wiring.present ok.present.fits, tt)) leads.group
       (λ cut. record {
         fields = fields;
@@ -108,7 +107,7 @@ module _ (fields : List Field) (ops : List PlanOp) (groups : List Folded) (shape
       (so_far shape.key_names wiring.keys wiring.args shape.state_names f.initial None)
       (so_far shape.key_names wiring.keys wiring.args shape.state_names f.initial (Some (written_block (fold_states f) (fold_block f))))
   body_written =
-      part_written fields ops groups _ _ _ _ _ (λ before text after p. p) refl (tokens_block _ _ _ few ok.valid.statements) leads.body
+      part_written (λ before text after p. p) refl (tokens_block _ _ _ few ok.valid.statements) leads.body
       (λ cut. record {
         keys = ok.some_keys;
         once = refl;
@@ -132,9 +131,7 @@ module _ (fields : List Field) (ops : List PlanOp) (groups : List Folded) (shape
       (Some (written_block (fold_states f) (fold_block f)))) (outside fields ops (groups ++ folded_with shape wiring f ∷ []))
   unfolding quiet
   bounds_written =
-      line_written _ _ _
-      _
-      _ refl (class_token _, (token_decimal _ ok.shallow, (token_decimal _ nodes, (token_decimal _ statements, tt)))) leads.fold
+      line_written _ refl (class_token _, (token_decimal ok.shallow, (token_decimal nodes, (token_decimal statements, tt)))) leads.fold
       (λ cut. record {
         group = group_so_far fields ops groups shape.name wiring.present shape.key_names wiring.keys wiring.args shape.state_names f.initial
             (Some (written_block (fold_states f) (fold_block f)));
@@ -146,9 +143,9 @@ module _ (fields : List Field) (ops : List PlanOp) (groups : List Folded) (shape
             nodes_token = decimal shape.nodes;
             statements_token = decimal shape.statements;
             words = cut;
-            depth_is = number_decimal _ ok.shallow;
-            nodes_are = number_decimal _ nodes;
-            statements_are = number_decimal _ statements;
+            depth_is = number_decimal ok.shallow;
+            nodes_are = number_decimal nodes;
+            statements_are = number_decimal statements;
           };
           fold = quiet;
           is_fold = record {
@@ -182,25 +179,18 @@ module _ (fields : List Field) (ops : List PlanOp) (groups : List Folded) (shape
   pub group_written : IsWritten (group_lines shape wiring f) (outside fields ops groups)
       (outside fields ops (groups ++ folded_with shape wiring f ∷ []))
   group_written =
-      written_then _ _ _ _
-      _ name_written
-      (written_then _ _ _ _
-      _
+      written_then _ name_written
+      (written_then _
       (keys_written _ _ _ _ wiring.present [] [] shape.key_names wiring.keys ok.all_keys (omega arith)
       ok.key_names ok.keys_differ ok.keys)
-      (written_then _ _ _ _
-      _
+      (written_then _
       (args_written _ _ groups shape.name wiring.present shape.key_names wiring.keys ok.some_keys [] wiring.args
       (omega arith) ok.args)
-      (written_then _ _ _
-      _
-      _
+      (written_then _
       (states_written _ _ _ _ wiring.present shape.key_names wiring.keys ok.some_keys wiring.args [] []
       shape.state_names f.initial ok.all_states (omega arith) ok.state_names ok.states_differ
       ok.states_apart ok.initial)
-      (written_then _ _ _
-      _
-      _
+      (written_then _
       body_written bounds_written))))
 
 names_push : (groups : List Folded) (one : Folded) → names_of (groups ++ one ∷ []) ≡ names_of groups ++ one.group.name ∷ []
@@ -217,16 +207,16 @@ pub record HasGroup (fields : List Field) (ops : List PlanOp) (shape : GroupShap
   pub ok : IsGroupOk fields ops shape wiring fold
 
 -- the lines of all groupbys
-pub groups_written : (fields : List Field) (ops : List PlanOp) (shapes : List GroupShape) (wirings : List GroupWiring)
-    (folds : ℕ → Option TypedFold) → length shapes ≤ MAX_GROUPBYS → ((i : ℕ) (shape : GroupShape) → slice_get shapes i ≡ Some shape
-    → HasGroup fields ops shape wirings folds i) → (rest : List GroupShape) (i : ℕ) (groups : List Folded) → i + length rest ≡ length shapes
+pub groups_written : {fields : List Field} {ops : List PlanOp} (shapes : List GroupShape) {wirings : List GroupWiring}
+    {folds : ℕ → Option TypedFold} → length shapes ≤ MAX_GROUPBYS → ((i : ℕ) (shape : GroupShape) → slice_get shapes i ≡ Some shape
+    → HasGroup fields ops shape wirings folds i) → (rest : List GroupShape) {i : ℕ} {groups : List Folded} → i + length rest ≡ length shapes
     → length groups ≡ i → ((k : ℕ) → slice_get shapes (i + k) ≡ slice_get rest k) → AreNew (names_of groups) (map (λ s. s.name) rest)
     → IsWritten (flat_map (λ i. group_lines_of (slice_get shapes i) (slice_get wirings i) (folds i)) (range_with_len i (length rest)))
     (outside fields ops groups) (outside fields ops (groups ++ flat_map
     (λ i. folded_of (slice_get shapes i) (slice_get wirings i) (folds i)) (range_with_len i (length rest))))
-groups_written fields ops shapes wirings folds most each [] i groups whole long are new =
-    nothing_written (outside fields ops groups) (outside fields ops (groups ++ [])) (ap (outside fields ops) (append-nil groups))
-groups_written fields ops shapes wirings folds most each (shape ∷ rest) i groups whole long are new =
+groups_written {fields} {ops} shapes most each [] {groups} whole long are new =
+    nothing_written (ap (outside fields ops) (append-nil groups))
+groups_written {fields} {ops} shapes {wirings} {folds} most each (shape ∷ rest) {i} {groups} whole long are new =
     let here : slice_get shapes i ≡ Some shape = (let z : i ≡ i + 0 = omega arith in ap (slice_get shapes) z ∙ are 0) in
     let h = each i shape here in
     let one : Folded = folded_with shape h.wiring h.fold in
@@ -237,7 +227,7 @@ groups_written fields ops shapes wirings folds most each (shape ∷ rest) i grou
     sym (λ k. group_lines_of (here k) (h.wired k) (h.folds_are k)) in
     let made_is : one ∷ [] ≡ folded_of (slice_get shapes i) (slice_get wirings i) (folds i) =
     sym (λ k. folded_of (here k) (h.wired k) (h.folds_are k)) in
-    let more = groups_written fields ops shapes wirings folds most each rest (i + 1) (groups ++ one ∷ []) (omega (arith, whole))
+    let more = groups_written shapes most each rest (omega (arith, whole))
     (omega (arith, long, length_push groups one))
     (λ k. (let z : i + 1 + k ≡ i + suc k = omega arith in ap (slice_get shapes) z ∙ are (suc k)))
     (subst (λ l. AreNew l (map (λ s. s.name) rest)) (sym (names_push groups one)) new.1) in
@@ -246,8 +236,7 @@ groups_written fields ops shapes wirings folds most each (shape ∷ rest) i grou
     text_is
     (subst (λ m. IsWritten (group_lines shape h.wiring h.fold ++ texts) (outside fields ops groups)
     (outside fields ops (groups ++ (m ++ made)))) made_is
-    (written_then (group_lines shape h.wiring h.fold) texts (outside fields ops groups) (outside fields ops (groups ++ one ∷ []))
-    (outside fields ops (groups ++ one ∷ made))
+    (written_then texts
     (group_written fields ops groups shape h.wiring h.fold h.ok (omega (arith, most, whole, long)) new.0)
     (subst (λ l. IsWritten texts (outside fields ops (groups ++ one ∷ [])) (outside fields ops l)) (append_assoc groups (one ∷ []) made)
     more)))

@@ -10,13 +10,13 @@ use Rattle.query_laws.proofs.{QueryLaws.query_sound, Steps.{found_first, same_ok
 use Rattle.stage_plan.specs.Depths.{stage_fault}
 
 -- the names of a text's query
-names_good : (text : List ℕ) (query : Query) → IsQueryOf text query → AreGood query.names
-names_good text query h = cut_good _ 0 _ _ _ (record { once = λ i j t a b. cc; lexical = λ i t a. cc }) h.cut
+names_good : {text : List ℕ} {query : Query} → IsQueryOf text query → AreGood query.names
+names_good h = cut_good _ 0 _ _ (record { once = λ i j t a b. cc; lexical = λ i t a. cc }) h.cut
 
-names_short : (text : List ℕ) (query : Query) → IsQueryOf text query → total (typed_names query.names) ≤ 65690
-names_short text query h =
+names_short : {text : List ℕ} {query : Query} → IsQueryOf text query → total (typed_names query.names) ≤ 65690
+names_short {text} {query} h =
     let most = h.short in
-    let cut = cut_total (length text) 0 [] text (h.tokens, query.names) h.cut in
+    let cut = cut_total (length text) 0 [] text h.cut in
     let typed = typed_total query.names in
     omega (arith, most, cut, typed)
 
@@ -38,15 +38,15 @@ plan_texts text q e none =
     let p = parts text q e in
     let valid = accepted_valid text q e in
     let same : q.names ≡ typed_names p.0.names = ap (λ (t : TypedQuery). t.names) (query_sound p.0 q p.2).is in
-    let good : AreGood q.names = subst AreGood (sym same) (typed_good p.0.names (names_good text p.0 p.1)) in
-    let few : total q.names ≤ 65690 = subst (λ names. total names ≤ 65690) (sym same) (names_short text p.0 p.1) in
+    let good : AreGood q.names = subst AreGood (sym same) (typed_good (names_good p.1)) in
+    let few : total q.names ≤ 65690 = subst (λ names. total names ≤ 65690) (sym same) (names_short p.1) in
     let packets : ℕ = number_in (typed_names p.0.names) (codes "pktstream") in
     let differ : NamesDiffer packets q = checked_differ p.0 q p.2 in
     let is : packets ≡ number_in q.names (codes "pktstream") = ap (λ names. number_in names (codes "pktstream")) (sym same) in
     let groups = only_groups q q.prints valid.prints none in
     let many : length (flat_map printed_group q.prints) ≡ length q.prints = as_many q.prints groups in
     let some = differ.printed in
-    let well = named_well q packets is valid good differ in
+    let well = named_well q is valid good differ in
     let names = names_differ q packets valid good differ in
     let start = starts q.folds (accepted_starts text q e) in
     record {

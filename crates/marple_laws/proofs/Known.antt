@@ -8,7 +8,7 @@ use Rattle.std.specs.Prelude.{map, slice_get}
 use Rattle.query_lang.specs.declared.fold.Op.TheVariants as two
 use Rattle.stage_plan.specs.declared.op.Operation as operation
 use Rattle.stage_plan.specs.Making.{Compiled, compiled, with_op, operand_at}
-use Rattle.marple_laws.proofs.Listed.{IsIn', in_left', in_right'}
+use Rattle.marple_laws.proofs.Items.{IsIn, in_left, in_right}
 
 -- an operand that is allowed: a field that is read, another register, or a number that fits a word
 abbrev pub IsGood : FieldSet → Operand → Type 0
@@ -30,19 +30,16 @@ abbrev pub AreWritable : FieldSet → List PlanOp → Type 0
 AreWritable reads [] = Unit {0}
 AreWritable reads (one ∷ ops) = IsWritable reads one × AreWritable reads ops
 
-writable_push : (reads : FieldSet) (ops : List PlanOp) (one : PlanOp) → AreWritable reads ops → IsWritable reads one
+writable_push : {reads : FieldSet} (ops : List PlanOp) {one : PlanOp} → AreWritable reads ops → IsWritable reads one
     → AreWritable reads (ops ++ one ∷ [])
-writable_push reads [] one a b = (b, tt)
-writable_push reads (x ∷ ops) one a b = (a.0, writable_push reads ops one a.1 b)
+writable_push [] a b = (b, tt)
+writable_push (x ∷ ops) a b = (a.0, writable_push ops a.1 b)
 
-pub writable_at : (reads : FieldSet) (ops : List PlanOp) (i : ℕ) (one : PlanOp) → AreWritable reads ops → slice_get ops i ≡ Some one
+pub writable_at : {reads : FieldSet} (ops : List PlanOp) (i : ℕ) {one : PlanOp} → AreWritable reads ops → slice_get ops i ≡ Some one
     → IsWritable reads one
-writable_at reads [] i one a e = absurd (no e)
-  where
-    no : None ≡ Some one → ⊥
-    no f = cc
-writable_at reads (x ∷ ops) zero one a e = let same : x ≡ one = cc in subst (IsWritable reads) same a.0
-writable_at reads (x ∷ ops) (suc i) one a e = writable_at reads ops i one a.1 e
+writable_at [] i a e = cc
+writable_at {reads} (x ∷ ops) zero {one} a e = let same : x ≡ one = cc in subst (IsWritable reads) same a.0
+writable_at (x ∷ ops) (suc i) a e = writable_at ops i a.1 e
 
 -- a column and where it comes from
 abbrev pub IsFrom : FieldSet → FieldSource → Operand → Type 0
@@ -115,11 +112,11 @@ pub record AreCompiled (reads : FieldSet) (c : Compiled) : Type 0 where
   pub written : AreWritable reads c.ops
   pub value : IsGood reads c.value
 
-pub with_one : (reads : FieldSet) (op : operation.Operation) (ops : List PlanOp) (left right : Operand) → AreWritable reads ops
-    → IsGood reads left → IsGood reads right → is_right_of op right ≡ true → IsSingle op right →
-    AreCompiled reads (with_op op ops left right)
-with_one reads op ops left right w l r c s = record {
-  written = writable_push _ _ _ w (record { left = l; right = r; constant = c; single = s });
+pub with_one : {reads : FieldSet} (op : operation.Operation) (ops : List PlanOp) (left right : Operand) → AreWritable reads ops
+    → IsGood reads left → IsGood reads right → is_right_of op right ≡ true → IsSingle op right
+    → AreCompiled reads (with_op op ops left right)
+with_one op ops left right w l r c s = record {
+  written = writable_push _ w (record { left = l; right = r; constant = c; single = s });
   value = λ early. absurd (omega arith);
 }
 
@@ -145,22 +142,22 @@ right_is op columns a (Literal n) ops t = by _ t
     by two.Shr t = let h = t.1 in grind arith
     by two.Decay t = let h = t.1 in grind arith
     by _ t = refl
-right_is op columns a (Read s) ops t = others op a (Read s) (operand_at columns s) t (λ h. h) (λ h. h)
-right_is op columns a b ops t = others op a b (compiled columns b ops).value t (λ h. h) (λ h. h)
+right_is op columns a (Read s) ops t = others _ a _ _ t (λ h. h) (λ h. h)
+right_is op columns a b ops t = others _ a b _ t (λ h. h) (λ h. h)
 
 -- an expression over columns whose slots are good
-pub compiled_good : (reads : FieldSet) (columns : List Operand) (slots : ℕ) (e : Term) (ops : List PlanOp)
-    → ((s : ℕ) → IsIn' s (term_slots e) → IsGood reads (operand_at columns s)) → IsValidTerm slots e → AreWritable reads ops →
-    AreCompiled reads (compiled columns e ops)
-compiled_good reads columns slots (Literal n) ops good v w = record { written = w; value = v }
-compiled_good reads columns slots (Read s) ops good v w = record { written = w; value = good s (inl refl) }
-compiled_good reads columns slots (Negation e) ops good v w =
-    let c = compiled_good reads columns slots e ops good v.0 w in
-    with_one reads Not (compiled columns e ops).ops (compiled columns e ops).value (Number 0) c.written c.value (below_two 0 refl) refl refl
-compiled_good reads columns slots (Operation op a b) ops good v w =
-    let c = compiled_good reads columns slots a ops (λ s h. good s (in_left' s (term_slots a) (term_slots b) h)) v.0 w in
-    let d = compiled_good reads columns slots b (compiled columns a ops).ops (λ s h. good s (in_right' s (term_slots a) (term_slots b) h))
+pub compiled_good : {reads : FieldSet} (columns : List Operand) (slots : ℕ) (e : Term) (ops : List PlanOp)
+    → ((s : ℕ) → IsIn s (term_slots e) → IsGood reads (operand_at columns s)) → IsValidTerm slots e → AreWritable reads ops
+    → AreCompiled reads (compiled columns e ops)
+compiled_good columns slots (Literal n) ops good v w = record { written = w; value = v }
+compiled_good columns slots (Read s) ops good v w = record { written = w; value = good s (inl refl) }
+compiled_good {reads} columns slots (Negation e) ops good v w =
+    let c = compiled_good columns slots e ops good v.0 w in
+    with_one Not (compiled columns e ops).ops (compiled columns e ops).value (Number 0) c.written c.value (below_two 0 refl) refl refl
+compiled_good {reads} columns slots (Operation op a b) ops good v w =
+    let c = compiled_good columns slots a ops (λ s h. good s (in_left s (term_slots a) (term_slots b) h)) v.0 w in
+    let d = compiled_good columns slots b (compiled columns a ops).ops (λ s h. good s (in_right s (term_slots a) (term_slots b) h))
     v.1 c.written in
-    with_one reads (Two op) (compiled columns b (compiled columns a ops).ops).ops (compiled columns a ops).value
+    with_one (Two op) (compiled columns b (compiled columns a ops).ops).ops (compiled columns a ops).value
     (compiled columns b (compiled columns a ops).ops).value d.written c.value d.value
     (right_is op columns a b (compiled columns a ops).ops v.2) tt

@@ -16,18 +16,18 @@ some_ways : (ways : Ways) → 0 < ways_number ways
 some_ways One = omega arith
 some_ways _ = omega arith
 
-has_room : (setting : Setting) → IsSetting setting → HasRoom (geometry_of setting)
-has_room setting is = (omega arith, some_ways _)
+has_room : {setting : Setting} → IsSetting setting → HasRoom (geometry_of setting)
+has_room is = (omega arith, some_ways _)
 
-query_printed : (q : TypedQuery) (g : Geometry) (list : List (List ℕ)) (tables : List Table) → tables ≡ group_tables q g list
+query_printed : (q : TypedQuery) (g : Geometry) (list : List (List ℕ)) {tables : List Table} → tables ≡ group_tables q g list
     → query_print q tables ≡ query_text q g list
 unfolding query_text
-query_printed q g list tables e = ap (query_print q) e
+query_printed q g list e = ap (query_print q) e
 
-plan_printed : (made : Made) (g : Geometry) (list : List (List ℕ)) (tables : List Table) → tables ≡ plan_tables made g list
+plan_printed : (made : Made) (g : Geometry) (list : List (List ℕ)) {tables : List Table} → tables ≡ plan_tables made g list
     → numbered_print made.prints tables ≡ plan_output made g list
 unfolding plan_output
-plan_printed made g list tables e = ap (numbered_print made.prints) e
+plan_printed made g list e = ap (numbered_print _) e
 
 module _ (p : PipelineView) (lanes : AreLanesOf Folds p.plan p.buckets p.lanes) (tables : List Table)
     (closed : (machines : List Machine) → PipelineStands p machines → tables ≡ tables_of p.plan.groups (map folding_at p.lanes) machines)
@@ -40,9 +40,9 @@ module _ (p : PipelineView) (lanes : AreLanesOf Folds p.plan p.buckets p.lanes) 
         let same : tables ≡ group_tables q g words =
         closed (query_ends q g _) of_q.1
         ∙ ap (tables_of p.plan.groups (map folding_at p.lanes)) (sym (ends.machines q p.plan g words of_q.0 whole))
-        ∙ ends.tables q p.plan p.buckets p.lanes g words (valid text q found) of_q.0 lanes (has_room _ is) whole
+        ∙ ends.tables q p.plan p.buckets p.lanes g words (valid text q found) of_q.0 lanes (has_room is) whole
         in
-        (same, query_printed q g _ _ same)
+        (same, query_printed q g _ same)
 
     pub of_plan : EndsAreTheTexts → AreTablesOfPlan p tables
     of_plan ends setting text made trace is says stands =
@@ -50,6 +50,6 @@ module _ (p : PipelineView) (lanes : AreLanesOf Folds p.plan p.buckets p.lanes) 
         let words : List (List ℕ) = words_for made trace in
         let same : tables ≡ plan_tables made g words =
         closed (end_machines p.plan g words) stands.1
-        ∙ ends made p.plan p.buckets _ g words (says_sound _ _ says) stands.0 lanes (has_room _ is)
+        ∙ ends made p.plan p.buckets _ g words (says_sound _ _ says) stands.0 lanes (has_room is)
         in
-        (same, plan_printed _ g _ _ same)
+        (same, plan_printed _ g _ same)

@@ -20,9 +20,9 @@ pub record AreGood (names : List (List ℕ)) : Type 0 where
   pub once : AreOnce names
   pub lexical : (i : ℕ) (text : List ℕ) → slice_get names i ≡ Some text → is_name text ≡ true
 
-absent : (names : List (List ℕ)) (text : List ℕ) (i : ℕ) → list_any (bytes_eq text) names ≡ false → slice_get names i ≡ Some text → ⊥
-absent [] text i e h = cc
-absent (n ∷ names) text i e h = go _ refl e i h (λ k. absent names text k)
+absent : (names : List (List ℕ)) {text : List ℕ} (i : ℕ) → list_any (bytes_eq text) names ≡ false → slice_get names i ≡ Some text → ⊥
+absent [] i e h = cc
+absent (n ∷ names) {text} i e h = go _ refl e i h (λ k. absent names k)
   where
     go : (b : Bool) → bytes_eq text n ≡ b → (b || list_any (bytes_eq text) names) ≡ false → (i : ℕ) → slice_get (n ∷ names) i ≡ Some text
         → ((k : ℕ) → list_any (bytes_eq text) names ≡ false → slice_get names k ≡ Some text → ⊥) → ⊥
@@ -30,29 +30,29 @@ absent (n ∷ names) text i e h = go _ refl e i h (λ k. absent names text k)
     go false t e zero h rest = let y : bytes_eq text n ≡ true = (bytes_eq-Decides _ n).1 (sym (same_Some n _ h)) in cc
     go false t e (suc i) h rest = rest i e h
 
-at_push : (names : List (List ℕ)) (text : List ℕ) (i : ℕ) (t : List ℕ) → slice_get (names ++ text ∷ []) i ≡ Some t
+at_push : (names : List (List ℕ)) {text : List ℕ} (i : ℕ) (t : List ℕ) → slice_get (names ++ text ∷ []) i ≡ Some t
     → (slice_get names i ≡ Some t) ⊎ ((i ≡ length names) × (text ≡ t))
-at_push [] text zero t h = inr (refl, same_Some text t h)
-at_push [] text (suc i) t h = cc
-at_push (n ∷ names) text zero t h = inl h
-at_push (n ∷ names) text (suc i) t h = elim (at_push names text i t h) [ inl old ↦ inl old | inr new ↦ inr (omega (arith, new.0), new.1) ]
+at_push [] {text} zero t h = inr (refl, same_Some text t h)
+at_push [] (suc i) t h = cc
+at_push (n ∷ names) zero t h = inl h
+at_push (n ∷ names) (suc i) t h = elim (at_push names i t h) [ inl old ↦ inl old | inr new ↦ inr (omega (arith, new.0), new.1) ]
 
-pushed : (names : List (List ℕ)) (text : List ℕ) → AreGood names → is_name text ≡ true → list_any (bytes_eq text) names ≡ false
+pushed : {names : List (List ℕ)} (text : List ℕ) → AreGood names → is_name text ≡ true → list_any (bytes_eq text) names ≡ false
     → AreGood (names ++ text ∷ [])
-pushed names text good lexical none = record {
-  once = λ i j t h g. elim (at_push _ _ i t h) [
-    | inl oi ↦ elim (at_push _ _ j t g) [ inl oj ↦ good.once i j t oi oj | inr nj ↦ absurd (absent _ _ i none (oi ∙ ap Some (sym nj.1))) ]
-    | inr ni ↦ elim (at_push _ _ j t g) [ inl oj ↦ absurd (absent _ _ j none (oj ∙ ap Some (sym ni.1))) | inr nj ↦ ni.0 ∙ sym nj.0 ]
+pushed text good lexical none = record {
+  once = λ i j t h g. elim (at_push _ i t h) [
+    | inl oi ↦ elim (at_push _ j t g) [ inl oj ↦ good.once i j t oi oj | inr nj ↦ absurd (absent _ i none (oi ∙ ap Some (sym nj.1))) ]
+    | inr ni ↦ elim (at_push _ j t g) [ inl oj ↦ absurd (absent _ j none (oj ∙ ap Some (sym ni.1))) | inr nj ↦ ni.0 ∙ sym nj.0 ]
   ];
-  lexical = λ i t h. elim (at_push _ _ i t h) [ inl old ↦ good.lexical i t old | inr new ↦ subst (λ w. is_name w ≡ true) new.1 lexical ];
+  lexical = λ i t h. elim (at_push _ i t h) [ inl old ↦ good.lexical i t old | inr new ↦ subst (λ w. is_name w ≡ true) new.1 lexical ];
 }
 
-with_good : (names : List (List ℕ)) (text : List ℕ) → AreGood names → is_name text ≡ true → AreGood (with_name names text)
-with_good names text good lexical = go _ refl
+with_good : {names : List (List ℕ)} (text : List ℕ) → AreGood names → is_name text ≡ true → AreGood (with_name names text)
+with_good {names} text good lexical = go _ refl
   where
     go : (b : Bool) → list_any (bytes_eq text) names ≡ b → AreGood (cond b names (names ++ text ∷ []))
     go true e = good
-    go false e = pushed _ text good lexical e
+    go false e = pushed text good lexical e
 
 -- the number of a name is its place
 pub number_at : (names : List (List ℕ)) (i : ℕ) (text : List ℕ) → AreOnce names → slice_get names i ≡ Some text → number_in names text ≡ i
@@ -61,7 +61,7 @@ number_at names i text once h = once _ i _ (there _ refl (has_number _ _)) h
     there : (b : Bool) → list_any (bytes_eq text) names ≡ b → slice_get (cond b names (names ++ text ∷ [])) (number_in names text) ≡ Some
         text → slice_get names (number_in names text) ≡ Some text
     there true e k = k
-    there false e k = absurd (absent _ _ i e h)
+    there false e k = absurd (absent _ i e h)
 
 -- ---- the fields' names
 
@@ -70,13 +70,12 @@ unfolding reserved
 field_lexical Switch = refl
 field_lexical _ = refl
 
-fields_good : (fields : List Field) (names : List (List ℕ)) → AreGood names → AreGood (with_fields names fields)
-fields_good [] names good = good
-fields_good (f ∷ fields) names good = fields_good fields (with_name names (field_name f))
-    (with_good names (field_name f) good (field_lexical f))
+fields_good : (fields : List Field) {names : List (List ℕ)} → AreGood names → AreGood (with_fields names fields)
+fields_good [] good = good
+fields_good (f ∷ fields) {names} good = fields_good fields (with_good (field_name f) good (field_lexical f))
 
-pub typed_good : (names : List (List ℕ)) → AreGood names → AreGood (typed_names names)
-typed_good names good = fields_good all_fields names good
+pub typed_good : {names : List (List ℕ)} → AreGood names → AreGood (typed_names names)
+typed_good {names} good = fields_good all_fields good
 
 -- ---- the names that a text is split into
 
@@ -112,14 +111,14 @@ of_mark_at all b (c ∷ bytes) = of_mark all (two_mark b c) (one_mark b)
 
 word_bytes : (bytes : List ℕ) → list_all is_word_byte (take (prefix_len is_word_byte bytes) bytes) ≡ true
 word_bytes [] = refl
-word_bytes (b ∷ bytes) = go (is_word_byte b) refl (word_bytes bytes)
+word_bytes (b ∷ bytes) = go _ refl (word_bytes bytes)
   where
     go : (t : Bool) → is_word_byte b ≡ t → list_all is_word_byte (take (prefix_len is_word_byte bytes) bytes) ≡ true
         → list_all is_word_byte (take (cond t (1 + prefix_len is_word_byte bytes) 0) (b ∷ bytes)) ≡ true
     go true e h =
         ap (λ n. list_all is_word_byte (take n (b ∷ bytes))) (add_comm 1 (prefix_len is_word_byte bytes)
         ∙ add-one (prefix_len is_word_byte bytes))
-        ∙ both_are (is_word_byte b) (list_all is_word_byte (take (prefix_len is_word_byte bytes) bytes)) e h
+        ∙ both_are e h
     go false e h = refl
 
 first_byte : (b : ℕ) (bytes : List ℕ) → is_word_byte b ≡ true
@@ -139,9 +138,9 @@ name_word : (b : ℕ) (bytes word : List ℕ) → word ≡ b ∷ take (prefix_le
     → is_digit b ≡ false → is_none (reserved word) ≡ true → is_name word ≡ true
 name_word b bytes word e all digit free =
     let rest : List ℕ = take (prefix_len is_word_byte bytes) bytes in
-    subst (λ w. is_name w ≡ true) (sym e) (both_are _ _
+    subst (λ w. is_name w ≡ true) (sym e) (both_are
     (subst (λ w. list_all is_word_byte w ≡ true) e all)
-    (both_are _ _ (ap not digit) (subst (λ w. is_none (reserved w) ≡ true) e free)))
+    (both_are (ap not digit) (subst (λ w. is_none (reserved w) ≡ true) e free)))
 
 of_word : (b : ℕ) (bytes : List ℕ) → is_word_byte b ≡ true
     → IsNamePiece (b ∷ bytes) (word_piece (take (prefix_len is_word_byte (b ∷ bytes)) (b ∷ bytes)) (prefix_len is_digit (b ∷ bytes)))
@@ -167,30 +166,30 @@ Pair = List Token × List (List ℕ)
 same_found : (a b : Pair) → ◌≡◌ {A = Cut} (Ok a) (Ok b) → a ≡ b
 same_found a b e = cc
 
-of_front : (t : Token) (o : Cut) (found : Pair) → ((got : Pair) → o ≡ Ok got → AreGood got.1) → with_front t o ≡ Ok found → AreGood found.1
-of_front t (Ok got) found h e = subst (λ (p : Pair). AreGood p.1) (same_found _ found e) (h got refl)
-of_front t (Err fault) found h e = absurd cc
+of_front : (t : Token) (o : Cut) {found : Pair} → ((got : Pair) → o ≡ Ok got → AreGood got.1) → with_front t o ≡ Ok found → AreGood found.1
+of_front t (Ok got) {found} h e = subst (λ (p : Pair). AreGood p.1) (same_found _ found e) (h got refl)
+of_front t (Err fault) h e = absurd cc
 
-of_cut_piece : (p : Piece) (at : ℕ) (known : List (List ℕ)) (bytes : List ℕ) (next : ℕ → List (List ℕ) → Cut) (found : Pair) → AreGood known
+of_cut_piece : (p : Piece) (at : ℕ) {known : List (List ℕ)} (bytes : List ℕ) (next : ℕ → List (List ℕ) → Cut) {found : Pair} → AreGood known
     → IsNamePiece bytes p → ((k : ℕ) (later : List (List ℕ)) (got : Pair) → AreGood later → next k later ≡ Ok got → AreGood got.1)
     → cut_piece p at known bytes next ≡ Ok found → AreGood found.1
-of_cut_piece (pieces.Blank n) at known bytes next found good is h e = h n known found good e
-of_cut_piece (pieces.Name n) at known bytes next found good is h e =
-    of_front _ _ _
-    (λ got. h n (with_name known (take n _)) got (with_good _ _ good is)) e
-of_cut_piece (pieces.Token kind n) at known bytes next found good is h e = of_front _ _ _ (λ got. h n known got good) e
-of_cut_piece (pieces.Fault kind n) at known bytes next found good is h e = absurd cc
+of_cut_piece (pieces.Blank n) at {known} bytes next {found} good is h e = h n known found good e
+of_cut_piece (pieces.Name n) at {known} bytes next good is h e =
+    of_front _ _
+    (λ got. h n (with_name known (take n _)) got (with_good _ good is)) e
+of_cut_piece (pieces.Token kind n) at {known} bytes next good is h e = of_front _ _ (λ got. h n known got good) e
+of_cut_piece (pieces.Fault kind n) at bytes next good is h e = absurd cc
 
-of_end : (at : ℕ) (known : List (List ℕ)) (found : Pair) → AreGood known
+of_end : (at : ℕ) {known : List (List ℕ)} {found : Pair} → AreGood known
     → ◌≡◌ {A = Cut} (Ok (token_at kinds.End at at ∷ [], known)) (Ok found) → AreGood found.1
-of_end at known found good e = subst (λ (p : Pair). AreGood p.1) (same_found _ found e) good
+of_end at {found} good e = subst (λ (p : Pair). AreGood p.1) (same_found _ found e) good
 
-pub cut_good : (n at : ℕ) (known : List (List ℕ)) (bytes : List ℕ) (found : Pair) → AreGood known → cut n at known bytes ≡ Ok found
+pub cut_good : (n at : ℕ) {known : List (List ℕ)} (bytes : List ℕ) (found : Pair) → AreGood known → cut n at known bytes ≡ Ok found
     → AreGood found.1
 unfolding cut
-cut_good zero at known bytes found good e = of_end at known found good e
-cut_good (suc n) at known [] found good e = of_end at known found good e
-cut_good (suc n) at known (b ∷ bytes) found good e =
-    of_cut_piece (piece (b ∷ bytes)) at known (b ∷ bytes) (λ k later. cut n (at + k) later (drop k (b ∷ bytes))) found good
+cut_good zero at {known} bytes found good e = of_end at good e
+cut_good (suc n) at {known} [] found good e = of_end at good e
+cut_good (suc n) at {known} (b ∷ bytes) found good e =
+    of_cut_piece (piece (b ∷ bytes)) at (b ∷ bytes) (λ k later. cut n (at + k) later (drop k (b ∷ bytes))) good
     (of_piece b bytes)
-    (λ k later got g h. cut_good n (at + k) later (drop k (b ∷ bytes)) got g h) e
+    (λ k later got g h. cut_good n (at + k) (drop k (b ∷ bytes)) got g h) e

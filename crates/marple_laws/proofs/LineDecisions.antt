@@ -25,32 +25,28 @@ reads before line =
     (both (is_true before.begun) (both (is_none before.reads) (reads_line line)))
 
 op : (before : Made) (line : List ℕ) → Decided ((after : Made) × IsOp before line after)
-op before line = from_value before.reads (λ p. (p.1.fields, p.1.reads)) (λ fs is.
-    by_both
-    (λ q. (
-      record before { ops = before.ops ++ q.1.1.0 ∷ [] },
-      record { fields = fs; reads = is; groups = q.0; current = q.1.0; op = q.1.1.0; valid = q.1.1.1; made = refl },
-    ))
+op before line = from_value before.reads (λ p. (p.1.fields, p.1.reads)) (λ fs is. by_both (λ q. (
+  record before { ops = before.ops ++ q.1.1.0 ∷ [] },
+  record { fields = fs; reads = is; groups = q.0; current = q.1.0; op = q.1.1.0; valid = q.1.1.1; made = refl },
+))
     (λ p.
-    let valid = subst (λ f. IsOpLine f before.ops line p.1.op) (some_same before.reads p.1.fields fs p.1.reads is) p.1.valid in
+    let valid = subst (λ f. IsOpLine f before.ops line p.1.op) (some_same fs p.1.reads is) p.1.valid in
     (p.1.groups, (p.1.current, (p.1.op, valid))))
     (both (is_empty before.groups) (both (is_none before.current) (op_line fs before.ops line))))
 
 group : (before : Made) (line : List ℕ) → Decided ((after : Made) × IsGroup before line after)
-group before line = from_value before.reads (λ p. (p.1.fields, p.1.reads)) (λ fs is.
-    by_both
-    (λ q. (
-      record before { current = Some q.1.1.0 },
-      record { fields = fs; reads = is; current = q.0; prints = q.1.0; group = q.1.1.0; valid = q.1.1.1; made = refl },
-    ))
+group before line = from_value before.reads (λ p. (p.1.fields, p.1.reads)) (λ fs is. by_both (λ q. (
+  record before { current = Some q.1.1.0 },
+  record { fields = fs; reads = is; current = q.0; prints = q.1.0; group = q.1.1.0; valid = q.1.1.1; made = refl },
+))
     (λ p.
-    let same = some_same before.reads p.1.fields fs p.1.reads is in
+    let same = some_same fs p.1.reads is in
     (p.1.current, (p.1.prints, (p.1.group, subst (λ f. IsGroupLine f before.ops before.groups line p.1.group) same p.1.valid))))
     (both (is_none before.current) (both (is_empty before.prints) (group_line fs before.ops before.groups line))))
 
 part : (word : LineWord) (before : Made) (line : List ℕ) → Decided ((after : Made) × IsPart word before line after)
 part word before line =
-    from_value before.reads (λ p. (p.1.fields, p.1.reads)) (λ fs is.
+    from_value _ (λ p. (p.1.fields, p.1.reads)) (λ fs is.
     from_value before.current (λ p. (p.1.group, p.1.current)) (λ g has.
     by_both
     (λ q. (
@@ -59,19 +55,17 @@ part word before line =
     ))
     (λ p. (
       p.1.next,
-      subst (λ f. IsInGroup word f before.ops g line p.1.next) (some_same _ _ fs p.1.reads is)
-          (subst (λ x. IsInGroup word p.1.fields before.ops x line p.1.next) (some_same _ _ g p.1.current has) p.1.valid),
+      subst (λ f. IsInGroup word f before.ops g line p.1.next) (some_same fs p.1.reads is)
+          (subst (λ x. IsInGroup word p.1.fields before.ops x line p.1.next) (some_same g p.1.current has) p.1.valid),
     ))
     (in_group _ _ _ g _)))
 
 fold : (before : Made) (line : List ℕ) → Decided ((after : Made) × IsFold before line after)
-fold before line = from_value before.current (λ p. (p.1.group, p.1.current)) (λ g has.
-    by_both
-    (λ q. (
-      record before { groups = before.groups ++ q.0 ∷ []; current = None },
-      record { group = g; current = has; folded = q.0; valid = q.1; made = refl },
-    ))
-    (λ p. (p.1.folded, subst (λ x. IsFoldLine x line p.1.folded) (some_same _ _ g p.1.current has) p.1.valid))
+fold before line = from_value _ (λ p. (p.1.group, p.1.current)) (λ g has. by_both (λ q. (
+  record before { groups = before.groups ++ q.0 ∷ []; current = None },
+  record { group = g; current = has; folded = q.0; valid = q.1; made = refl },
+))
+    (λ p. (p.1.folded, subst (λ x. IsFoldLine x line p.1.folded) (some_same g p.1.current has) p.1.valid))
     (fold_line g _))
 
 print : (before : Made) (line : List ℕ) → Decided ((after : Made) × IsPrint before line after)
@@ -86,21 +80,21 @@ print before line = from_found (λ p. (p.1.group, p.1.valid)) (λ f. of_number f
         ))
         (λ p.
         let token = (two_same p.1.valid.words valid.words).1 in
-        let same = some_same (number valid.token) _ n (ap number (sym token) ∙ p.1.valid.reads) valid.reads in (
+        let same = some_same n (ap number (sym token) ∙ p.1.valid.reads) valid.reads in (
           p.1.current,
           (subst (λ i. i < length before.groups) same p.1.there, λ there. p.1.new (subst (Contains before.prints) (sym same) there)),
         ))
-        (both (is_none _) (both (less n (length before.groups)) (neither (contains same_number _ n))))
+        (both (is_none _) (both (less n (length before.groups)) (neither (contains same_number _))))
 
 of_word : (word : LineWord) (before : Made) (line : List ℕ) → Decided ((after : Made) × IsLineOf word before line after)
-of_word words.Plan before line = first before line
-of_word words.Reads before line = reads before line
-of_word words.Op before line = op before line
-of_word words.Group before line = group before _
+of_word words.Plan before line = first _ _
+of_word words.Reads before line = reads _ _
+of_word words.Op before line = op _ _
+of_word words.Group before line = group _ _
 of_word words.Fold before line = fold _ _
 of_word words.Print before line = print _ _
 of_word words.Other before line = inr (λ p. p.1)
-of_word word before line = part word before line
+of_word word before line = part _ _ _
 
 pub valid_after : (before : Made) (line : List ℕ) → Decided (IsValidAfter before line)
-valid_after before line = of_word _ _ line
+valid_after before line = of_word _ _ _

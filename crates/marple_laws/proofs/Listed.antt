@@ -1,35 +1,7 @@
--- The slots and the fields of a list; the fields are in their set.
-use Rattle.marple_laws.proofs.Words.{◌≡◌, ℕ, ◌^◌, List, [], ◌∷◌, ◌++◌, ap, ◌∙◌, inl, inr, ◌⊎◌, arith, bit_or, fold, bit_at, Field, FieldSet}
-use Rattle.marple_laws.proofs.Words.{number_of, HasField, with_field, field_set}
+-- The fields of a list are in their set.
+use Rattle.marple_laws.proofs.Words.{◌≡◌, ℕ, ◌^◌, List, [], ◌∷◌, ap, ◌∙◌, inl, inr, arith, bit_or, fold, bit_at, Field, FieldSet, number_of}
+use Rattle.marple_laws.proofs.{Words.{HasField, with_field, field_set}, Items.IsIn}
 use Rattle.std.proofs.lemmas.Nat.Bits.{bit_at_or, bit_at-pow_same, bit_at-lt}
-
--- a slot of a list
-abbrev pub IsIn' : ℕ → List ℕ → Type 0
-IsIn' s [] = ⊥
-IsIn' s (t ∷ slots) = (s ≡ t) ⊎ IsIn' s slots
-
-pub in_left' : (s : ℕ) (xs ys : List ℕ) → IsIn' s xs → IsIn' s (xs ++ ys)
-in_left' s (x ∷ xs) ys (inl e) = inl e
-in_left' s (x ∷ xs) ys (inr h) = inr (in_left' s xs ys h)
-in_left' s [] ys h = absurd h
-
-pub in_right' : (s : ℕ) (xs ys : List ℕ) → IsIn' s ys → IsIn' s (xs ++ ys)
-in_right' s [] ys h = h
-in_right' s (x ∷ xs) ys h = inr (in_right' s xs ys h)
-
--- a field of a list
-abbrev pub IsIn : Field → List Field → Type 0
-IsIn f [] = ⊥
-IsIn f (g ∷ fields) = (f ≡ g) ⊎ IsIn f fields
-
-pub in_left : (f : Field) (xs ys : List Field) → IsIn f xs → IsIn f (xs ++ ys)
-in_left f (x ∷ xs) ys (inl e) = inl e
-in_left f (x ∷ xs) ys (inr h) = inr (in_left f xs ys h)
-in_left f [] ys h = absurd h
-
-pub in_right : (f : Field) (xs ys : List Field) → IsIn f ys → IsIn f (xs ++ ys)
-in_right f [] ys h = h
-in_right f (x ∷ xs) ys h = inr (in_right f xs ys h)
 
 -- the fields of a list are in their set
 kept_bit : (fields : List Field) (set : FieldSet) (i : ℕ) → bit_at set.bits i ≡ 1 → bit_at (fold with_field set fields).bits i ≡ 1

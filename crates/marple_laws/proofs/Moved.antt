@@ -1,8 +1,10 @@
 -- It still holds where the operations are put into the order of their stages.
-use Rattle.marple_laws.proofs.Words.{◌≡◌, ℕ, ◌-◌, ◌≤◌, Bool, true, false, List, Some, None, Option, refl, ap, arith, if◌then◌else◌}
+use Rattle.marple_laws.proofs.Words.{◌≡◌, ℕ, zero, suc, ◌-◌, ◌≤◌, Bool, true, false, List, [], ◌∷◌, Some, None, Option, refl, ap, sym, ◌∙◌}
+use Rattle.marple_laws.proofs.Words.{arith}
+use Rattle.marple_laws.proofs.Words.{if◌then◌else◌, TypedQuery, op_numbered, query_made, stages_of, op_at, ordered, query_ops, query_order}
 use Rattle.marple_laws.proofs.Words.{FieldSet, FIELDS, Op, Operation, Operand, Register, Number, Not, Two, PlanOp, moved, moved_op}
-use Rattle.marple_laws.proofs.Words.{register_or_none, is_right_of, takes_right}
-use Rattle.std.specs.Prelude.{nat_lt, slice_get}
+use Rattle.marple_laws.proofs.Words.{query_registers, register_or_none, is_right_of, takes_right}
+use Rattle.std.specs.Prelude.{map, nat_lt, slice_get}
 use Rattle.query_lang.specs.declared.fold.Op.TheVariants as two
 use Rattle.stage_plan.specs.declared.op.Operation as operation
 use Rattle.marple_laws.proofs.Known.{IsGood, IsSingle, IsWritable, below_two}
@@ -40,14 +42,29 @@ moved_right registers (Two f) (Register r) e = by f e
     by _ e = refl
 
 moved_single : (registers : List ℕ) (op : operation.Operation) (right : Operand) → IsSingle op right → IsSingle op (moved registers right)
-moved_single registers Not right e = ap (moved registers) e
+moved_single registers Not right e = ap (moved _) e
 moved_single registers (Two f) right e = tt
 
-pub moved_writable : (reads : FieldSet) (registers : List ℕ) (one : PlanOp) → AreAfterFields registers → IsWritable reads one
+pub moved_writable : {reads : FieldSet} (registers : List ℕ) (one : PlanOp) → AreAfterFields registers → IsWritable reads one
     → IsWritable reads (moved_op registers one)
-moved_writable reads registers one beyond w = record {
+moved_writable {reads} registers one beyond w = record {
   left = moved_good reads registers one.left beyond w.left;
   right = moved_good reads registers one.right beyond w.right;
   constant = moved_right registers one.op one.right w.constant;
   single = moved_single registers one.op one.right w.single;
 }
+
+-- what an item of a mapped list was
+pub mapped_at : {A B : Type 0} (f : A → B) (xs : List A) (k : ℕ) (y : B) → slice_get (map f xs) k ≡ Some y
+    → (x : A) × (slice_get xs k ≡ Some x) × (f x ≡ y)
+mapped_at f [] k y e = cc
+mapped_at f (x ∷ xs) zero y e = (x, refl, cc)
+mapped_at f (x ∷ xs) (suc k) y e = mapped_at f xs k y e
+
+-- an operation of the plan was made for the query, and moved
+pub op_from : (q : TypedQuery) (i : ℕ) (one : PlanOp) → slice_get (query_ops q) i ≡ Some one
+    → (c : ℕ) × (made : PlanOp) × (slice_get (query_made q).ops c ≡ Some made) × (moved_op (query_registers q) made ≡ one)
+op_from q i one e =
+    let c = mapped_at (λ number. moved_op (query_registers q) (op_numbered (query_made q).ops number)) (query_order q) i one e in
+    let o = ordered (query_made q).ops (stages_of (query_made q).ops) i c.0 c.1 in
+    (c.0, o.one, o.found, ap (moved_op (query_registers q)) (sym (op_at (query_made q).ops c.0 _ o.found)) ∙ c.2)

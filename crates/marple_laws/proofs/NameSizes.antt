@@ -8,7 +8,7 @@ use Rattle.std.specs.Prelude.{map, slice_get}
 use Rattle.query_lang.specs.declared.token.Piece.TheVariants as pieces
 use Rattle.query_lang.specs.declared.token.TokenKind.TheVariants as kinds
 use Rattle.query_lang.specs.Lexis.{Cut, cut, cut_piece, piece, token_at, with_front}
-use Rattle.marple_laws.proofs.{Items.{IsIn, in_at}, Queries.in_last}
+use Rattle.marple_laws.proofs.Items.{IsIn, in_at, in_last}
 use Rattle.marple_laws.proofs.Texts.{covers_all, groups_of, in_contains, name_of, new_apart, text_there}
 
 -- ---- sums over lists
@@ -68,7 +68,7 @@ taken f (x ∷ xs) ys before new inside =
 
 no_key : (keys states : List (List ℕ)) (x : List ℕ) → AreNoKeys keys states → IsIn x states → IsIn x keys → ⊥
 no_key keys [] x apart i j = i
-no_key keys (s ∷ states) x apart (inl e) j = apart.0 (in_contains keys s (subst (λ u. IsIn u keys) e j))
+no_key keys (s ∷ states) x apart (inl e) j = apart.0 (in_contains keys (subst (λ u. IsIn u keys) e j))
 no_key keys (s ∷ states) x apart (inr i) j = no_key keys states x apart.1 i j
 
 pub columns_total : (names : List (List ℕ)) (shape : GroupShape) → IsNamedWell shape
@@ -90,17 +90,16 @@ group_names_in : (names : List (List ℕ)) (folds : List TypedFold) (streams ear
     → AreValidStreams (length names) folds earlier streams
     → (t : List ℕ) → IsIn t (map (λ shape. shape.name) (groups_of names folds streams)) → IsIn t names
 group_names_in names folds [] earlier v t i = absurd i
-group_names_in names folds (one ∷ rest) earlier v t i =
-    by (shape_made names folds one one.op) refl i (group_names_in names folds rest (earlier ++ one ∷ []) v.1 t)
+group_names_in names folds (one ∷ rest) earlier v t i = by _ refl i (group_names_in names folds rest (earlier ++ one ∷ []) v.1 t)
   where
     by : (o : Option GroupShape) → shape_made names folds one one.op ≡ o
         → IsIn t (map (λ shape. shape.name) (cons_option o (groups_of names folds rest)))
         → (IsIn t (map (λ shape. shape.name) (groups_of names folds rest)) → IsIn t names) → IsIn t names
     by None e i more = more i
     by (Some s) e (inl h) more =
-        let there : slice_get names one.name.id ≡ Some t = text_there names one.name.id v.0.name
+        let there : slice_get names one.name.id ≡ Some t = text_there _ _ v.0.name
         ∙ ap Some (sym (name_of names folds one one.op s e) ∙ sym h) in
-        in_at names one.name.id t there
+        in_at _ _ t there
     by (Some s) e (inr h) more = more h
 
 pub group_names_total : (names : List (List ℕ)) (folds : List TypedFold) (streams : List TypedStream)
@@ -157,35 +156,35 @@ of_front : (t : Token) (o : Cut) (found : Pair) (most : ℕ) → ((got : Pair) �
 of_front t (Ok got) found most h e = subst (λ (p : Pair). total p.1 ≤ most) (same_found _ found e) (h got refl)
 of_front t (Err fault) found most h e = absurd cc
 
-of_cut_piece : (p : Piece) (at : ℕ) (known : List (List ℕ)) (bytes : List ℕ) (next : ℕ → List (List ℕ) → Cut) (found : Pair)
+of_cut_piece : (p : Piece) (at : ℕ) (known : List (List ℕ)) (bytes : List ℕ) (next : ℕ → List (List ℕ) → Cut) {found : Pair}
     → ((k : ℕ) (later : List (List ℕ)) (got : Pair) → next k later ≡ Ok got → total got.1 ≤ total later + length (drop k bytes))
     → cut_piece p at known bytes next ≡ Ok found → total found.1 ≤ total known + length bytes
-of_cut_piece (pieces.Blank n) at known bytes next found h e =
+of_cut_piece (pieces.Blank n) at known bytes next {found} h e =
     let r = h n known found e in
     let a = cut_apart n bytes in
     omega (arith, r, a)
-of_cut_piece (pieces.Name n) at known bytes next found h e =
+of_cut_piece (pieces.Name n) at known bytes next {found} h e =
     of_front (token_at (kinds.Name (number_in known (take n bytes))) at (at + n)) (next n (with_name known (take n bytes))) found
     (total known + length bytes)
     (λ got g. (let r = h n (with_name known (take n bytes)) got g in
     let w = with_total known (take n bytes) in
     let a = cut_apart n bytes in
     omega (arith, r, w, a))) e
-of_cut_piece (pieces.Token kind n) at known bytes next found h e =
+of_cut_piece (pieces.Token kind n) at known bytes next {found} h e =
     of_front (token_at kind at (at + n)) (next n known) found (total known + length bytes)
     (λ got g. (let r = h n known got g in
     let a = cut_apart n bytes in
     omega (arith, r, a))) e
-of_cut_piece (pieces.Fault kind n) at known bytes next found h e = absurd cc
+of_cut_piece (pieces.Fault kind n) at known bytes next h e = absurd cc
 
 of_end : (at : ℕ) (known : List (List ℕ)) (bytes : List ℕ) (found : Pair)
     → ◌≡◌ {A = Cut} (Ok (token_at kinds.End at at ∷ [], known)) (Ok found) → total found.1 ≤ total known + length bytes
 of_end at known bytes found e = subst (λ (p : Pair). total p.1 ≤ total known + length bytes) (same_found _ found e) (omega arith)
 
-pub cut_total : (n at : ℕ) (known : List (List ℕ)) (bytes : List ℕ) (found : Pair) → cut n at known bytes ≡ Ok found
+pub cut_total : (n at : ℕ) (known : List (List ℕ)) (bytes : List ℕ) {found : Pair} → cut n at known bytes ≡ Ok found
     → total found.1 ≤ total known + length bytes
 unfolding cut
-cut_total (suc n) at known (b ∷ bytes) found e =
-    of_cut_piece (piece (b ∷ bytes)) _ _ (b ∷ bytes) (λ k later. cut n (at + k) later (drop k (b ∷ bytes))) _
-    (λ k later got h. cut_total n (at + k) _ (drop k (b ∷ bytes)) _ h) e
-cut_total _ at known bytes found e = of_end at known bytes found e
+cut_total (suc n) at known (b ∷ bytes) e =
+    of_cut_piece (piece (b ∷ bytes)) _ _ (b ∷ bytes) (λ k later. cut n (at + k) later (drop k (b ∷ bytes)))
+    (λ k later got h. cut_total n (at + k) _ (drop k (b ∷ bytes)) h) e
+cut_total _ at known bytes {found} e = of_end at known bytes found e

@@ -16,8 +16,8 @@ Fits (Register r) = r < 2 ^ 64
 Fits (Number n) = n < 2 ^ 64
 
 pub operand_read : (o : Operand) → Fits o → operand (operand_word o) ≡ Some o
-operand_read (Register r) fits = ap (λ x. either_operand x None) (number_decimal r fits)
-operand_read (Number n) fits = ap (λ x. either_operand None x) (number_decimal n fits)
+operand_read (Register r) fits = ap (λ x. either_operand x None) (number_decimal fits)
+operand_read (Number n) fits = ap (λ x. either_operand None x) (number_decimal fits)
 
 pub token_operand : (o : Operand) → Fits o → is_token (operand_word o) ≡ true
 token_operand (Register r) fits = token_marked 114 r refl fits
@@ -31,24 +31,22 @@ pub record IsOpOk (fields : List Field) (before : List PlanOp) (one : PlanOp) : 
   pub right : Fits one.right
   pub single : IsSingle one.op one.right
 
-op_read : (stage : ℕ) (op : operation.Operation) (left right : Operand) → stage < 2 ^ 64 → Fits left → Fits right → IsSingle op right →
-    op_words (codes "op" ∷ decimal stage ∷ operation_words op left right) ≡ Some
-    (record { stage = stage; op = op; left = left; right = right })
-op_read stage Not left right s l r single =
-    ap (λ n. not_of n (operand (operand_word left))) (number_decimal _ s)
+op_read : (stage : ℕ) (op : operation.Operation) {left right : Operand} → stage < 2 ^ 64 → Fits left → Fits right → IsSingle op right → op_words (codes "op" ∷ decimal stage ∷ operation_words op left right) ≡ Some (record { stage = stage; op = op; left = left; right = right })
+op_read stage Not {left} {right} s l r single =
+    ap (λ n. not_of n (operand (operand_word left))) (number_decimal s)
     ∙ ap (not_of (Some stage)) (operand_read _ l)
     ∙ ap (λ b. Some (record { stage = stage; op = Not; left = left; right = b })) (sym single)
-op_read stage (Two f) left right s l r single =
+op_read stage (Two f) {left} {right} s l r single =
     ap (λ n. two_of n (function_named (function_word f)) (operand (operand_word left)) (operand (operand_word right)))
-    (number_decimal _ s)
+    (number_decimal s)
     ∙ ap (λ g. two_of (Some stage) g (operand (operand_word left)) (operand (operand_word right))) (function_read f)
     ∙ ap (λ a. two_of (Some stage) (Some f) a (operand (operand_word right))) (operand_read _ l)
     ∙ ap (λ b. two_of (Some stage) (Some f) (Some left) b) (operand_read _ r)
 
-op_tokens : (stage : ℕ) (op : operation.Operation) (left right : Operand) → stage < 2 ^ 64 → Fits left → Fits right
+op_tokens : {stage : ℕ} (op : operation.Operation) (left right : Operand) → stage < 2 ^ 64 → Fits left → Fits right
     → AreTokens (decimal stage ∷ operation_words op left right)
-op_tokens stage Not left right s l r = (token_decimal _ s, (refl, (token_operand _ l, tt)))
-op_tokens stage (Two f) left right s l r = (token_decimal _ s, (token_function f, (token_operand _ l, (token_operand _ r, tt))))
+op_tokens Not left right s l r = (token_decimal s, (refl, (token_operand _ l, tt)))
+op_tokens (Two f) left right s l r = (token_decimal s, (token_function f, (token_operand _ l, (token_operand _ r, tt))))
 
 op_word : word_named (codes "op") ≡ lead.Op
 unfolding word_named
@@ -58,19 +56,18 @@ op_word = refl
 abbrev pub with_ops : List Field → List PlanOp → Made
 with_ops fields ops = record { begun = true; reads = Some fields; ops = ops; groups = []; current = None; prints = [] }
 
-op_written : (fields : List Field) (before : List PlanOp) (one : PlanOp) → IsOpOk fields before one
+op_written : {fields : List Field} {before : List PlanOp} {one : PlanOp} → IsOpOk fields before one
     → IsWritten (op_line one) (with_ops fields before) (with_ops fields (before ++ one ∷ []))
-op_written fields before one ok =
-    line_written _ (codes "op") (decimal one.stage ∷ operation_words one.op one.left one.right) (with_ops fields before)
-    (with_ops fields (before ++ one ∷ [])) refl
-    (op_tokens _ _ _ _ ok.stage ok.left ok.right) op_word
+op_written {fields} {before} {one} ok =
+    line_written (decimal one.stage ∷ operation_words one.op one.left one.right) refl
+    (op_tokens _ _ _ ok.stage ok.left ok.right) op_word
     (λ cut. record {
       fields = fields;
       reads = refl;
       groups = refl;
       current = refl;
       op = one;
-      valid = record { words = ap op_words cut ∙ op_read _ _ _ _ ok.stage ok.left ok.right ok.single; allowed = ok.allowed };
+      valid = record { words = ap op_words cut ∙ op_read _ _ ok.stage ok.left ok.right ok.single; allowed = ok.allowed };
       made = refl;
     })
 
@@ -79,16 +76,15 @@ middle [] y ys = refl
 middle (x ∷ xs) y ys = middle xs y ys
 
 -- operations after others
-pub ops_written : (fields : List Field) (all : List PlanOp) → ((i : ℕ) (one : PlanOp) → slice_get all i ≡ Some one
-    → IsOpOk fields (take i all) one) → (before rest : List PlanOp) → before ++ rest ≡ all →
-    IsWritten (flat_map op_line rest) (with_ops fields before) (with_ops fields all)
-ops_written fields all ok before [] e = nothing_written (with_ops fields before) (with_ops fields all)
-    (ap (with_ops fields) (sym e ∙ append-nil before))
-ops_written fields all ok before (one ∷ rest) e =
-    written_then (op_line one) (flat_map op_line rest) (with_ops fields before) (with_ops fields (before ++ one ∷ [])) (with_ops fields all)
-    (op_written fields before one (subst (λ l. IsOpOk fields l one) front
+pub ops_written : {fields : List Field} {all : List PlanOp} → ((i : ℕ) (one : PlanOp) → slice_get all i ≡ Some one
+    → IsOpOk fields (take i all) one) → {before : List PlanOp} (rest : List PlanOp) → before ++ rest ≡ all
+    → IsWritten (flat_map op_line rest) (with_ops fields before) (with_ops fields all)
+ops_written {fields} {all} ok {before} [] e = nothing_written (ap (with_ops fields) (sym e ∙ append-nil before))
+ops_written {fields} {all} ok {before} (one ∷ rest) e =
+    written_then (flat_map op_line rest)
+    (op_written (subst (λ l. IsOpOk fields l one) front
     (ok (length before) one (ap (λ l. slice_get l (length before)) (sym e) ∙ middle before one rest))))
-    (ops_written fields all ok (before ++ one ∷ []) rest (append_assoc before (one ∷ []) rest ∙ e))
+    (ops_written ok rest (append_assoc before (one ∷ []) rest ∙ e))
   where
     front : take (length before) all ≡ before
     front = ap (take (length before)) (sym e) ∙ take_at before (one ∷ rest) (length before) refl

@@ -25,28 +25,28 @@ search_field t (f ∷ fs) = by (same_text t (field_name f)) (search_field t fs)
     by (inr other) (inl found) = inl found
     by (inr other) (inr others) = inr (other, others)
 
-no_field : (t : List ℕ) → Avoids t all_fields → (f : Field) → t ≡ field_name f → ⊥
-no_field t a fields.Switch = a.0
-no_field t a fields.Qid = a.1.0
-no_field t a fields.Uid = a.1.1.0
-no_field t a fields.SrcIp = a.1.1.1.0
-no_field t a fields.DstIp = a.1.1.1.1.0
-no_field t a fields.SrcPort = a.1.1.1.1.1.0
-no_field t a fields.DstPort = a.1.1.1.1.1.1.0
-no_field t a fields.Proto = a.1.1.1.1.1.1.1.0
-no_field t a fields.PktLen = a.1.1.1.1.1.1.1.1.0
-no_field t a fields.PayloadLen = a.1.1.1.1.1.1.1.1.1.0
-no_field t a fields.TcpSeq = a.1.1.1.1.1.1.1.1.1.1.0
-no_field t a fields.Tin = a.1.1.1.1.1.1.1.1.1.1.1.0
-no_field t a fields.Tout = a.1.1.1.1.1.1.1.1.1.1.1.1.0
-no_field t a fields.QSize = a.1.1.1.1.1.1.1.1.1.1.1.1.1.0
+no_field : {t : List ℕ} → Avoids t all_fields → (f : Field) → t ≡ field_name f → ⊥
+no_field a fields.Switch = a.0
+no_field a fields.Qid = a.1.0
+no_field a fields.Uid = a.1.1.0
+no_field a fields.SrcIp = a.1.1.1.0
+no_field a fields.DstIp = a.1.1.1.1.0
+no_field a fields.SrcPort = a.1.1.1.1.1.0
+no_field a fields.DstPort = a.1.1.1.1.1.1.0
+no_field a fields.Proto = a.1.1.1.1.1.1.1.0
+no_field a fields.PktLen = a.1.1.1.1.1.1.1.1.0
+no_field a fields.PayloadLen = a.1.1.1.1.1.1.1.1.1.0
+no_field a fields.TcpSeq = a.1.1.1.1.1.1.1.1.1.1.0
+no_field a fields.Tin = a.1.1.1.1.1.1.1.1.1.1.1.0
+no_field a fields.Tout = a.1.1.1.1.1.1.1.1.1.1.1.1.0
+no_field a fields.QSize = a.1.1.1.1.1.1.1.1.1.1.1.1.1.0
 
 field_named : (t : List ℕ) → Decided ((f : Field) × (t ≡ field_name f))
 field_named t = by (search_field t all_fields)
   where
     by : ((f : Field) × (t ≡ field_name f)) ⊎ Avoids t all_fields → Decided ((f : Field) × (t ≡ field_name f))
     by (inl found) = inl found
-    by (inr others) = inr (λ p. no_field t others p.0 p.1)
+    by (inr others) = inr (λ p. no_field others _ p.1)
 
 abbrev ReadsFrom : ℕ → List (List ℕ) → Type 0
 ReadsFrom least ts = (fs : List Field) × (ts ≡ map field_name fs) × AreFrom least fs
@@ -95,7 +95,7 @@ reads_line line = by (tokens line) refl
 -- operands and the lines `op`
 
 pub known : (fs : List Field) (ops : List PlanOp) (o : Operand) → Decided (IsKnown fs ops o)
-known fs ops (Register r) = either (contains same_number _ r) (both (most _ r) (less r (FIELDS + length ops)))
+known fs ops (Register r) = either (contains same_number _) (both (most _ r) (less r (FIELDS + length ops)))
 known fs ops (Number n) = inl _
 
 staged : (ops : List PlanOp) (op : PlanOp) → Decided (IsStaged ops op)
@@ -113,57 +113,58 @@ allowed fs ops op =
     (both (both (known _ ops op.left) (known _ ops op.right)) (staged _ _))
 
 pub op_line : (fs : List Field) (ops : List PlanOp) (line : List ℕ) → Decided ((op : PlanOp) × IsOpLine fs ops line op)
-op_line fs ops line = from_value (op_words (tokens line)) (λ p. (p.0, p.1.words)) (λ op e.
-    by_both (λ a. (op, record { words = e; allowed = a }))
-    (λ p. subst (IsAllowed fs ops) (some_same (op_words (tokens line)) _ op p.1.words e) p.1.allowed) (allowed _ _ op))
+op_line fs ops line = from_value _ (λ p. (p.0, p.1.words)) (λ op e. by_both (λ a. (op, record { words = e; allowed = a }))
+    (λ p. subst (IsAllowed fs ops) (some_same op p.1.words e) p.1.allowed) (allowed _ _ op))
 
 -- lines of a word, a name and an operand or a number
 
-pub named_operand : (fs : List Field) (ops : List PlanOp) (word line : List ℕ)
+pub named_operand : {fs : List Field} {ops : List PlanOp} (word line : List ℕ)
     → Decided ((name : List ℕ) × (v : Operand) × IsNamedOperand fs ops word line name v)
-named_operand fs ops word line =
+named_operand {fs} {ops} word line =
     from_found (λ p. (word, p.0, p.2.token, p.2.words)) (λ f. of_tokens f.0 f.1 f.2 f.3) (three_tokens (tokens line))
   where
     of_tokens : (a n t : List ℕ) → tokens line ≡ a ∷ n ∷ t ∷ []
         → Decided ((name : List ℕ) × (v : Operand) × IsNamedOperand fs ops word line name v)
-    of_tokens a n t e = from_value (operand t) (λ p. (p.1, ap operand (three_same e p.2.words).2 ∙ p.2.reads)) (λ v r.
-        by_both
-        (λ q. (n, v, record { token = t; words = e ∙ ap (λ w. w ∷ n ∷ t ∷ []) q.0; named = q.1.0; reads = r; known = q.1.1 }))
-        (λ p.
+    of_tokens a n t e = from_value _ (λ p. (p.1, ap operand (three_same e p.2.words).2 ∙ p.2.reads))
+        (λ v r. by_both (λ q. (
+          n,
+          v,
+          record {
+            token = t;
+            words = e ∙ ap (λ w. w ∷ n ∷ t ∷ []) q.0;
+            named = q.1.0;
+            reads = r;
+            known =
+                q.1.1;
+          },
+        )) (λ p.
         let same = three_same e p.2.words in
-        let value = some_same (operand t) _ v (ap operand same.2 ∙ p.2.reads) r in
+        let value = some_same v (ap operand same.2 ∙ p.2.reads) r in
         (same.0, (ap is_name same.1 ∙ p.2.named, subst (IsKnown fs ops) value p.2.known)))
         (both (same_text a _) (both (is_true (is_name n)) (known _ ops v))))
 
 pub one_operand : (fs : List Field) (ops : List PlanOp) (word line : List ℕ) → Decided ((v : Operand) × IsOneOperand fs ops word line v)
-one_operand fs ops word line =
-    from_found (λ p. (word, p.1.token, p.1.words)) (λ f. of_tokens f.0 f.1 f.2) (two_tokens (tokens line))
+one_operand fs ops word line = from_found (λ p. (word, p.1.token, p.1.words)) (λ f. of_tokens f.0 f.1 f.2) (two_tokens (tokens line))
   where
     of_tokens : (a t : List ℕ) → tokens line ≡ a ∷ t ∷ [] → Decided ((v : Operand) × IsOneOperand fs ops word line v)
-    of_tokens a t e = from_value (operand t) (λ p. (p.0, ap operand (two_same e p.1.words).1 ∙ p.1.reads)) (λ v r.
-        by_both
-        (λ q. (v, record { token = t; words = e ∙ ap (λ w. w ∷ t ∷ []) q.0; reads = r; known = q.1 }))
-        (λ p.
+    of_tokens a t e = from_value _ (λ p. (p.0, ap operand (two_same e p.1.words).1 ∙ p.1.reads))
+        (λ v r. by_both (λ q. (v, record { token = t; words = e ∙ ap (λ w. w ∷ t ∷ []) q.0; reads = r; known = q.1 })) (λ p.
         let same = two_same e p.1.words in
-        (same.0, subst (IsKnown fs ops) (some_same (operand t) _ v (ap operand same.1 ∙ p.1.reads) r) p.1.known))
+        (same.0, subst (IsKnown fs ops) (some_same v (ap operand same.1 ∙ p.1.reads) r) p.1.known))
         (both (same_text a _) (known _ ops v)))
 
 pub named_number : (word line : List ℕ) → Decided ((name : List ℕ) × (v : ℕ) × IsNamedNumber word line name v)
-named_number word line =
-    from_found (λ p. (word, p.0, p.2.token, p.2.words)) (λ f. of_tokens f.0 f.1 f.2 f.3) (three_tokens (tokens line))
+named_number word line = from_found (λ p. (word, p.0, p.2.token, p.2.words)) (λ f. of_tokens f.0 f.1 f.2 f.3) (three_tokens (tokens line))
   where
     of_tokens : (a n t : List ℕ) → tokens line ≡ a ∷ n ∷ t ∷ [] → Decided ((name : List ℕ) × (v : ℕ) × IsNamedNumber word line name v)
-    of_tokens a n t e = from_value (number t) (λ p. (p.1, ap number (three_same e p.2.words).2 ∙ p.2.reads)) (λ v r.
-        by_both
-        (λ q. (n, v, record { token = t; words = e ∙ ap (λ w. w ∷ n ∷ t ∷ []) q.0; named = q.1; reads = r }))
-        (λ p. (let same = three_same e p.2.words in (same.0, ap is_name same.1 ∙ p.2.named)))
-        (both (same_text a _) (is_true (is_name n))))
+    of_tokens a n t e = from_value _ (λ p. (p.1, ap number (three_same e p.2.words).2 ∙ p.2.reads))
+        (λ v r. by_both (λ q. (n, v, record { token = t; words = e ∙ ap (λ w. w ∷ n ∷ t ∷ []) q.0; named = q.1; reads = r }))
+        (λ p. (let same = three_same e p.2.words in (same.0, ap is_name same.1 ∙ p.2.named))) (both (same_text a _) (is_true (is_name n))))
 
 pub one_number : (word line : List ℕ) → Decided ((v : ℕ) × IsOneNumber word line v)
 one_number word line = from_found (λ p. (word, p.1.token, p.1.words)) (λ f. of_tokens f.0 f.1 f.2) (two_tokens (tokens line))
   where
     of_tokens : (a t : List ℕ) → tokens line ≡ a ∷ t ∷ [] → Decided ((v : ℕ) × IsOneNumber word line v)
-    of_tokens a t e = from_value (number t) (λ p. (p.0, ap number (two_same e p.1.words).1 ∙ p.1.reads)) (λ v r.
-        by_both (λ q. (v, record { token = t; words = e ∙ ap (λ w. w ∷ t ∷ []) q; reads = r }))
-        (λ p. (two_same e p.1.words).0)
+    of_tokens a t e = from_value _ (λ p. (p.0, ap number (two_same e p.1.words).1 ∙ p.1.reads))
+        (λ v r. by_both (λ q. (v, record { token = t; words = e ∙ ap (λ w. w ∷ t ∷ []) q; reads = r })) (λ p. (two_same e p.1.words).0)
         (same_text a _))

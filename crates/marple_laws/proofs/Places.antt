@@ -57,13 +57,13 @@ pub record Good (packets : ℕ) (e : Earlier) : Type 0 where
 
 pub meaning_cases : (known : List Known) (entry : Known) (id : ℕ) (m : Meaning) → meaning_of (known ++ entry ∷ []) id ≡ Some m
     → (meaning_of known id ≡ Some m) ⊎ ((id ≡ entry.name) × (entry.meaning ≡ m))
-meaning_cases [] entry id m e = by (nat_eq entry.name id) refl e
+meaning_cases [] entry id m e = by _ refl e
   where
     by : (b : Bool) → nat_eq entry.name id ≡ b → (if b then Some entry.meaning else None) ≡ Some m
         → (None ≡ Some m) ⊎ ((id ≡ entry.name) × (entry.meaning ≡ m))
     by true t e = let same : entry.name ≡ id = grind (arith, nat_tests) in inr (sym same, (let s : entry.meaning ≡ m = cc in s))
     by false t e = inl e
-meaning_cases (k ∷ known) entry id m e = by (nat_eq k.name id) e (meaning_cases known entry id m)
+meaning_cases (k ∷ known) entry id m e = by _ e (meaning_cases known entry id m)
   where
     by : (b : Bool) → (if b then Some k.meaning else meaning_of (known ++ entry ∷ []) id) ≡ Some m →
         (meaning_of (known ++ entry ∷ []) id ≡ Some m → (meaning_of known id ≡ Some m) ⊎ ((id ≡ entry.name) × (entry.meaning ≡ m))) →
@@ -96,7 +96,7 @@ some_kept (k ∷ known) entry id e = by _ e (some_kept known entry id)
 some_new : (known : List Known) (entry : Known) → is_some (meaning_of (known ++ entry ∷ []) entry.name) ≡ true
 some_new [] entry = let t : nat_eq entry.name entry.name ≡ true = grind (arith, nat_tests) in ap
     (λ b. is_some (if b then Some entry.meaning else None)) t
-some_new (k ∷ known) entry = by (nat_eq k.name entry.name) (some_new known entry)
+some_new (k ∷ known) entry = by _ (some_new known entry)
   where
     by : (b : Bool) → is_some (meaning_of (known ++ entry ∷ []) entry.name) ≡ true
         → is_some (if b then Some k.meaning else meaning_of (known ++ entry ∷ []) entry.name) ≡ true
@@ -117,7 +117,7 @@ place_cases known entry id p e = by (meaning_of (known ++ entry ∷ []) id) refl
 
 place_kept : (known : List Known) (entry : Known) (id : ℕ) (p : PrintOf) → place_at known id ≡ Some p
     → place_at (known ++ entry ∷ []) id ≡ Some p
-place_kept known entry id p e = by (meaning_of known id) refl e
+place_kept known entry id p e = by _ refl e
   where
     by : (o : Option Meaning) → meaning_of known id ≡ o → place_in o ≡ Some p → place_at (known ++ entry ∷ []) id ≡ Some p
     by None h e = cc
@@ -128,11 +128,11 @@ below_more g h f k (place.Group n) a b l = omega arith
 below_more g h f k (place.Final n) a b l = omega arith
 
 -- the names and tables with one more name, which has no table or a new one
-pub grown : (packets : ℕ) (e : Earlier) (entry : Known) (groups finals : ℕ) → Good packets e → e.groups ≤ groups → length e.finals ≤ finals
+pub grown : {packets : ℕ} {e : Earlier} (entry : Known) {groups finals : ℕ} → Good packets e → e.groups ≤ groups → length e.finals ≤ finals
     → ((p : PrintOf) → place_in (Some entry.meaning) ≡ Some p → IsBelow e.groups (length e.finals) p → ⊥)
     → ((p : PrintOf) → place_in (Some entry.meaning) ≡ Some p → IsBelow groups finals p)
     → HasNames (e.known ++ entry ∷ []) groups finals e.prints e.printed
-grown packets e entry groups finals good more_groups more_finals fresh below = record {
+grown {e} entry {groups} {finals} good more_groups more_finals fresh below = record {
   places = λ a b p ea eb. elim (place_cases e.known entry a p ea) [
     | inl oa ↦ elim (place_cases e.known entry b p eb) [
       | inl ob ↦ good.names.places a b p oa ob
@@ -167,11 +167,11 @@ more_folds folds f columns (typed.Map input values) h = tt
 more_folds folds f columns (typed.Zip left right slots) h = tt
 
 -- one more fold
-pub fold_good : (packets : ℕ) (e after : Earlier) (d : FoldDef) → Good packets e → fold_added e d ≡ Ok after → Good packets after
-fold_good packets e after d good ok =
-    let a = must_not_ok (is_some (meaning_of e.known d.name.id)) NameTaken d.name.span _ after ok in
-    let b = found_first (fold_checked d) _ after a.1 in
-    subst (Good packets) (same_ok (with_fold e b.0) after b.2) (added b.0 (fold_new d b.0 b.1))
+pub fold_good : {packets : ℕ} {e after : Earlier} (d : FoldDef) → Good packets e → fold_added e d ≡ Ok after → Good packets after
+fold_good {packets} {e} {after} d good ok =
+    let a = must_not_ok (is_some (meaning_of e.known d.name.id)) NameTaken d.name.span _ ok in
+    let b = found_first (fold_checked d) a.1 in
+    subst (Good packets) (same_ok b.2) (added b.0 (fold_new d b.1))
   where
     added : (f : TypedFold) → AreNew [] f.state_names → Good packets (with_fold e f)
     added f new =
@@ -180,7 +180,7 @@ fold_good packets e after d good ok =
           meaning = meaning.Fold (record { number = length e.folds; states = f.state_names; args = f.arg_names; emits = is_some f.emit });
         } in
         record {
-          names = grown packets e entry e.groups (length e.finals) good (omega arith) (omega arith) (λ p h. cc) (λ p h. cc);
+          names = grown entry good (omega arith) (omega arith) (λ p h. cc) (λ p h. cc);
           prints = good.prints;
           streams_known = λ id i. some_kept e.known entry id (good.streams_known id i);
           streams = good.streams;
@@ -206,51 +206,49 @@ record IsMade (e : Earlier) (made : MadeStream) : Type 0 where
   table : (made.table ≡ None) ⊎ ((t : TableView) × (made.table ≡ Some t) × (t.place ≡ place.Group e.groups))
   columns : HasOwnColumns e.folds (column_names made.columns) made.op
 
-fold_there : (e : Earlier) (packets : ℕ) → Good packets e → (name : Name) (v : FoldView) → fold_named e.known name ≡ Ok v
+fold_there : (e : Earlier) {packets : ℕ} → Good packets e → (name : Name) {v : FoldView} → fold_named e.known name ≡ Ok v
     → HasFold e.folds v
-fold_there e packets good name v ok = by _ refl ok
+fold_there e good name {v} ok = by _ refl ok
   where
     by : (o : Option Meaning) → meaning_of e.known name.id ≡ o → as_fold o name.span ≡ Ok v → HasFold e.folds v
     by None h ok = cc
-    by (Some (meaning.Fold f)) h ok = good.folds_known name.id v (h ∙ ap (λ x. Some (meaning.Fold x)) (same_ok f v ok))
+    by (Some (meaning.Fold f)) h ok = good.folds_known name.id v (h ∙ ap (λ x. Some (meaning.Fold x)) (same_ok ok))
     by (Some (meaning.Stream s)) h ok = cc
     by (Some (meaning.Final t)) h ok = cc
 
-grouped_made : (packets : ℕ) (five : List ℕ) (e : Earlier) (input : Name) (keys : List Key) (fold_name : Name) (made : MadeStream)
+grouped_made : {packets : ℕ} (five : List ℕ) (e : Earlier) (input : Name) (keys : List Key) (fold_name : Name) {made : MadeStream}
     → Good packets e → grouped five e input keys fold_name ≡ Ok made → IsMade e made
-grouped_made packets five e input keys fold_name made good ok =
-    let source = found_first (stream_named e.known input) _ made ok in
-    let picked = found_first (keys_checked five (column_names source.0.columns) source.0.hidden keys) _ made source.2 in
-    let f = found_first (fold_named e.known fold_name) _ made picked.2 in
-    let arguments = found_first (arguments_of (column_names source.0.columns) source.0.hidden picked.0.names f.0 fold_name.span) _ made
+grouped_made {packets} five e input keys fold_name {made} good ok =
+    let source = found_first (stream_named e.known input) ok in
+    let picked = found_first (keys_checked five (column_names source.0.columns) source.0.hidden keys) source.2 in
+    let f = found_first (fold_named e.known fold_name) picked.2 in
+    let arguments = found_first (arguments_of (column_names source.0.columns) source.0.hidden picked.0.names f.0 fold_name.span)
     f.2 in
-    let k : AreKeyColumns source.0.columns picked.0 = key_columns_are source.0.columns source.0.hidden (flat_map (key_names five) keys)
-    picked.0 picked.1 in
-    let has = fold_there e packets good fold_name f.0 f.1 in
+    let k : AreKeyColumns source.0.columns picked.0 = key_columns_are source.0.hidden (flat_map (key_names five) keys) picked.1 in
+    let has = fold_there e good fold_name f.1 in
     let apart : AreApart picked.0.names f.0.states = states_apart (column_names source.0.columns) source.0.hidden picked.0.names f.0
     fold_name.span arguments.0 arguments.1 in
     let apart_columns : AreApart (column_names (columns_at source.0.columns picked.0.slots)) has.0.state_names =
     subst (λ l. AreApart l has.0.state_names) (sym k.names) (subst (AreApart picked.0.names) has.2 apart) in
-    subst (IsMade e) (same_ok _ made arguments.2) (record { table = inr (_, refl, refl); columns = (k.new, (has.0, has.1, apart_columns)) })
+    subst (IsMade e) (same_ok arguments.2) (record { table = inr (_, refl, refl); columns = (k.new, (has.0, has.1, apart_columns)) })
 
-stream_made : (packets : ℕ) (five : List ℕ) (e : Earlier) (name : Name) (op : StreamOp) (made : MadeStream) → Good packets e
+stream_made : {packets : ℕ} (five : List ℕ) (e : Earlier) (name : Name) (op : StreamOp) (made : MadeStream) → Good packets e
     → made_stream five e name op ≡ Ok made → IsMade e made
-stream_made packets five e name (ops.Filter input x) made good ok =
-    let source = found_first (stream_named e.known input) _ made ok in
-    let condition = found_first (condition_of (column_names source.0.columns) source.0.hidden x) _ made source.2 in
-    subst (IsMade e) (same_ok _ made condition.2) (record { table = inl refl; columns = tt })
-stream_made packets five e name (ops.Map input columns) made good ok =
-    let source = found_first (stream_named e.known input) _ made ok in
-    let new = found_first (new_columns (column_names source.0.columns) source.0.hidden no_new_columns columns) _ made source.2 in
-    subst (IsMade e) (same_ok _ made new.2) (record { table = inl refl; columns = tt })
-stream_made packets five e name (ops.Zip first second) made good ok =
-    let left = found_first (stream_named e.known first) _ made ok in
-    let right = found_first (stream_named e.known second) _ made left.2 in
-    let none = must_not_ok (clash left.0.columns right.0.columns) NameTaken second.span _ made right.2 in
-    subst (IsMade e) (same_ok _ made none.1) (record { table = inl refl; columns = tt })
-stream_made packets five e name (ops.Group input keys fold_name) made good ok =
-    grouped_made packets five e input keys fold_name made good (must_ok (nat_lt e.groups MAX_GROUPBYS) (OverLimit Groupbys) name.span
-    (grouped five e input keys fold_name) made ok).1
+stream_made five e name (ops.Filter input x) made good ok =
+    let source = found_first (stream_named e.known input) ok in
+    let condition = found_first (condition_of (column_names source.0.columns) source.0.hidden x) source.2 in
+    subst (IsMade e) (same_ok condition.2) (record { table = inl refl; columns = tt })
+stream_made five e name (ops.Map input columns) made good ok =
+    let source = found_first (stream_named e.known input) ok in
+    let new = found_first (new_columns (column_names source.0.columns) source.0.hidden no_new_columns columns) source.2 in
+    subst (IsMade e) (same_ok new.2) (record { table = inl refl; columns = tt })
+stream_made five e name (ops.Zip first second) made good ok =
+    let left = found_first (stream_named e.known first) ok in
+    let right = found_first (stream_named e.known second) left.2 in
+    let none = must_not_ok (clash left.0.columns right.0.columns) NameTaken second.span _ right.2 in
+    subst (IsMade e) (same_ok none.1) (record { table = inl refl; columns = tt })
+stream_made {packets} five e name (ops.Group input keys fold_name) made good ok =
+    grouped_made five e input keys fold_name good (must_ok (nat_lt e.groups MAX_GROUPBYS) (OverLimit Groupbys) name.span made ok).1
 
 -- what an added stream's name means
 abbrev entry_of : Earlier → Name → MadeStream → Known
@@ -266,35 +264,34 @@ groups_with e made = e.groups + (if is_some made.table then 1 else 0)
 abbrev HasTable : MadeStream → PrintOf → Type 0
 HasTable made p = option_map (λ (t : TableView). t.place) made.table ≡ Some p
 
-place_of_table : (e : Earlier) (made : MadeStream) → IsMade e made → (p : PrintOf) → HasTable made p
-    → (place.Group e.groups ≡ p) × (groups_with e made ≡ e.groups + 1)
-place_of_table e made is p h = elim is.table [
+place_of_table : {e : Earlier} {made : MadeStream} → IsMade e made → (p : PrintOf) → HasTable made p → (place.Group e.groups ≡ p)
+    × (groups_with e made ≡ e.groups + 1)
+place_of_table {e} is p h = elim is.table [
   | inl none ↦ (let z : None ≡ Some p = sym (ap (option_map _) none) ∙ h in cc)
   | inr some ↦
       let z : Some some.0.place ≡ Some p = sym (ap (option_map _) some.1) ∙ h in
       (cc, ap (λ o. e.groups + (if is_some o then 1 else 0)) some.1)
 ]
 
-fresh_table : (e : Earlier) (made : MadeStream) → IsMade e made → (p : PrintOf) → HasTable made p → IsBelow e.groups (length e.finals) p → ⊥
-fresh_table e made is p h l =
-    let low : e.groups < e.groups = subst (IsBelow e.groups (length e.finals)) (sym (place_of_table e _ is p h).0) l in
+fresh_table : (e : Earlier) {made : MadeStream} → IsMade e made → (p : PrintOf) → HasTable made p → IsBelow e.groups (length e.finals) p → ⊥
+fresh_table e is p h l =
+    let low : e.groups < e.groups = subst (IsBelow e.groups (length e.finals)) (sym (place_of_table is p h).0) l in
     omega arith
 
-table_below : (e : Earlier) (made : MadeStream) → IsMade e made → (p : PrintOf) → HasTable made p
+table_below : (e : Earlier) {made : MadeStream} → IsMade e made → (p : PrintOf) → HasTable made p
     → IsBelow (groups_with e made) (length e.finals) p
-table_below e made is p h =
-    let at = place_of_table e _ is p h in
+table_below e {made} is p h =
+    let at = place_of_table is p h in
     let one = at.1 in
     subst (IsBelow (groups_with e made) (length e.finals)) at.0 (omega arith)
 
 -- one more stream
-with_stream_good : (packets : ℕ) (e : Earlier) (name : Name) (made : MadeStream) → Good packets e
+with_stream_good : {packets : ℕ} (e : Earlier) (name : Name) {made : MadeStream} → Good packets e
     → is_some (meaning_of e.known name.id) ≡ false → IsMade e made → Good packets (with_stream e name made)
-with_stream_good packets e name made good free is =
+with_stream_good {packets} e name {made} good free is =
     let entry = entry_of e name made in
     record {
-      names = grown packets e entry (groups_with e made) (length e.finals) good (omega arith) (omega arith) (fresh_table e made is)
-          (table_below e made is);
+      names = grown entry good (omega arith) (omega arith) (fresh_table e is) (table_below e is);
       prints = good.prints;
       streams_known = λ id i. known id (subst (λ l. IsIn id (packets ∷ l)) ids i)
           (λ old h. some_kept e.known entry old (good.streams_known old h));
@@ -329,12 +326,12 @@ with_stream_good packets e name made good free is =
     ]
 
 begun_free : (e : Earlier) (name : Name) (u : Unit {0}) → begun e name ≡ Ok u → is_some (meaning_of e.known name.id) ≡ false
-begun_free e name u ok = (must_not_ok _ _ _ _ u ok).0
+begun_free e name u ok = (must_not_ok _ _ _ _ ok).0
 
-pub stream_good : (packets : ℕ) (five : List ℕ) (e after : Earlier) (d : StreamDef) → Good packets e → stream_checked five e d ≡ Ok after
+pub stream_good : {packets : ℕ} (five : List ℕ) {e after : Earlier} (d : StreamDef) → Good packets e → stream_checked five e d ≡ Ok after
     → Good packets after
-stream_good packets five e after d good ok =
-    let b = found_first (begun e d.name) _ after ok in
-    let m = found_first (made_stream five e d.name d.op) _ after b.2 in
-    subst (Good packets) (same_ok (with_stream e d.name m.0) after m.2)
-    (with_stream_good packets e d.name m.0 good (begun_free e d.name b.0 b.1) (stream_made packets five e d.name d.op m.0 good m.1))
+stream_good {packets} five {e} {after} d good ok =
+    let b = found_first (begun e d.name) ok in
+    let m = found_first (made_stream five e d.name d.op) b.2 in
+    subst (Good packets) (same_ok m.2)
+    (with_stream_good e d.name good (begun_free e d.name b.0 b.1) (stream_made five e d.name d.op m.0 good m.1))

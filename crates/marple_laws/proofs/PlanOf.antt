@@ -93,10 +93,7 @@ module _ (q : TypedQuery) (valid : IsValidQuery q) where
 
   groups_are : (streams : List TypedStream) → All (λ one. FitsGroup q one one.op) streams
       → AreOf (takings streams) (groups_planned q.names q.folds streams) (filter_map (λ one. shape_made q.names q.folds one one.op) streams)
-  groups_are [] fits = record { shapes_are = refl; sound = λ i t group e f. absurd (no_group group f); count = refl }
-    where
-      no_group : (group : GroupPlan) → None ≡ Some group → ⊥
-      no_group group e = cc
+  groups_are [] fits = record { shapes_are = refl; sound = λ i t group e f. cc; count = refl }
   groups_are (one ∷ streams) fits =
       let first : FitsGroup q one one.op = All-head (λ (one : TypedStream). FitsGroup q one one.op) one streams fits in
       let rest = groups_are streams (All-tail (λ (one : TypedStream). FitsGroup q one one.op) one streams fits) in
@@ -111,9 +108,9 @@ module _ (q : TypedQuery) (valid : IsValidQuery q) where
   pub plan_put : stage_fault q ≡ None → IsPut q (plan_of q)
   plan_put none =
       let groups = groups_are _ (all_fit q valid) in
-      let few = few_made q valid none in
-      put q (query_made q).ops (query_made q).streams (query_order q) (query_registers q) (query_ops q) (query_wiring q)
-      (groups_planned q.names q.folds q.streams) (reads_of q) (record {
+      let few = few_made valid none in
+      put q _ _ _ _ _ _
+      _ _ (record {
         made = record { valid = valid; ops_are = refl; streams_are = refl; fits = query_fault q ∙ none; few = omega arith };
         order_is = refl;
         placed = registers_placed (query_made q).ops (stages_of (query_made q).ops);
@@ -126,8 +123,8 @@ module _ (q : TypedQuery) (valid : IsValidQuery q) where
         reads_are = refl;
       })
 
-pub accepted_put : (text : List ℕ) (q : TypedQuery) → accepted text ≡ Ok q → IsPut q (plan_of q)
-accepted_put text q e = plan_put q (accepted_valid text q e) (staged_none _ q e)
+pub accepted_put : (text : List ℕ) {q : TypedQuery} → accepted text ≡ Ok q → IsPut q (plan_of q)
+accepted_put text {q} e = plan_put q (accepted_valid text q e) (staged_none _ q e)
 
 pub have_plans : AcceptedHavePlans
-have_plans = record { is_plan = λ text q e. (accepted_put _ q e).is_plan; is_sound = λ text q e. (accepted_put _ q e).is_sound }
+have_plans = record { is_plan = λ text q e. (accepted_put _ e).is_plan; is_sound = λ text q e. (accepted_put _ e).is_sound }

@@ -5,7 +5,7 @@ use Rattle.marple_laws.proofs.Words.{printed_group, AllWords, AreNew}
 use Rattle.std.specs.Prelude.{slice_get}
 use Rattle.query_lang.specs.declared.typed.PrintOf.TheVariants as place
 use Rattle.query_lang.specs.Words.{AreWords, IsWord}
-use Rattle.marple_laws.proofs.{Items.{IsIn, contains_in, in_push}, Queries.{in_left, in_last}, Texts.{all_at, in_contains}}
+use Rattle.marple_laws.proofs.{Items.{IsIn, contains_in, in_last, in_left, in_push}, Texts.{all_at, in_contains}}
 
 none_first : (finals : List TypedFinal) → first_final finals ≡ None → length finals ≡ 0
 none_first [] e = refl
@@ -34,7 +34,7 @@ pub numbers_new : (prints before : List PrintOf) (numbers : List ℕ) → ((i : 
     → AreGroups prints → AreNew before prints → AreNew numbers (flat_map printed_group prints)
 numbers_new [] before numbers cover are new = tt
 numbers_new (place.Group i ∷ prints) before numbers cover are new = (
-  (λ c. new.0 (in_contains before (place.Group i) (cover i (contains_in numbers i c)))),
+  (λ c. new.0 (in_contains before (cover i (contains_in numbers c)))),
   numbers_new prints (before ++ place.Group i ∷ []) (numbers ++ i ∷ []) more are new.1,
 )
   where

@@ -13,7 +13,7 @@ use Rattle.query_lang.specs.declared.typing.Meaning.TheVariants as meaning
 use Rattle.query_lang.specs.declared.typing.Origin.TheVariants as origin
 use Rattle.query_lang.specs.TypedFinals.{as_table, table_at, table_named, five_fields, made_final, with_final, final_checked}
 use Rattle.query_lang.specs.TypedStreams.{meaning_of, begun}
-use Rattle.marple_laws.proofs.Items.{must_ok, must_not_ok, found_first, same_ok, IsIn, in_at, in_push, not_in, new_push}
+use Rattle.marple_laws.proofs.Items.{must_ok, must_not_ok, found_first, same_ok, IsIn, in_at, in_last, in_left, in_push, not_in, new_push}
 use Rattle.marple_laws.proofs.Places.{place_in, place_at, IsBelow, Good, fold_good, stream_good, grown, meaning_cases, some_kept}
 use Rattle.marple_laws.proofs.Differ.{NamesDiffer}
 
@@ -25,7 +25,7 @@ with_final_good packets e name made good =
       meaning = meaning.Final (record { place = place.Final (length e.finals); columns = made.columns; keys = made.keys });
     } in
     record {
-      names = grown packets e entry e.groups (length (with_final e name made).finals) good (omega arith) (omega (arith, more)) fresh below;
+      names = grown entry good (omega arith) (omega (arith, more)) fresh below;
       prints = good.prints;
       streams_known = λ id i. some_kept e.known entry id (good.streams_known id i);
       streams = good.streams;
@@ -55,12 +55,12 @@ with_final_good packets e name made good =
         let is_p : place.Final (length e.finals) ≡ p = cc in
         subst (IsBelow e.groups (length (with_final e name made).finals)) is_p (omega (arith, more))
 
-final_good : (packets : ℕ) (given : Given) (e after : Earlier) (d : FinalDef) → Good packets e → final_checked given e d ≡ Ok after
+final_good : {packets : ℕ} (given : Given) {e after : Earlier} (d : FinalDef) → Good packets e → final_checked given e d ≡ Ok after
     → Good packets after
-final_good packets given e after d good ok =
-    let b = found_first (begun e d.name) _ _ ok in
-    let m = found_first (made_final given e d.op) _ _ b.2 in
-    subst (Good packets) (same_ok (with_final e d.name m.0) _ m.2) (with_final_good _ e _ _ good)
+final_good {packets} given {e} d good ok =
+    let b = found_first (begun e d.name) ok in
+    let m = found_first (made_final given e d.op) b.2 in
+    subst (Good packets) (same_ok m.2) (with_final_good _ e _ _ good)
 
 -- the place of a table that has a name
 place_of_table : (known : List Known) (name : Name) (t : TableView) → table_named known name ≡ Ok t → place_at known name.id ≡ Some t.place
@@ -68,30 +68,21 @@ place_of_table known name t ok = by _ ok
   where
     at : (o : Option TableView) → table_at o name.span ≡ Ok t → option_map (λ (t : TableView). t.place) o ≡ Some t.place
     at None ok = cc
-    at (Some s) ok = ap (λ (t : TableView). Some t.place) (same_ok s t ok)
+    at (Some s) ok = ap (λ (t : TableView). Some t.place) (same_ok ok)
 
     by : (o : Option Meaning) → as_table o name.span ≡ Ok t → place_in o ≡ Some t.place
     by None ok = cc
     by (Some (meaning.Fold f)) ok = cc
     by (Some (meaning.Stream s)) ok = at _ ok
-    by (Some (meaning.Final s)) ok = ap (λ (t : TableView). Some t.place) (same_ok s t ok)
-
-pub in_left : {A : Type 0} (x : A) (xs ys : List A) → IsIn x xs → IsIn x (xs ++ ys)
-in_left x [] ys h = absurd h
-in_left x (y ∷ xs) ys (inl e) = inl e
-in_left x (y ∷ xs) ys (inr h) = inr (in_left x xs ys h)
-
-pub in_last : {A : Type 0} (xs : List A) (x : A) → IsIn x (xs ++ x ∷ [])
-in_last [] x = inl refl
-in_last (y ∷ xs) x = inr (in_last xs x)
+    by (Some (meaning.Final s)) ok = ap (λ (t : TableView). Some t.place) (same_ok ok)
 
 -- one more print
-print_good : (packets : ℕ) (e after : Earlier) (name : Name) → Good packets e → print_checked e name ≡ Ok after → Good packets after
-print_good packets e after name good ok =
-    let t = found_first (table_named e.known name) _ after ok in
-    let free = must_not_ok (is_among name.id e.printed) NameTaken name.span _ after t.2 in
+print_good : {packets : ℕ} {e after : Earlier} (name : Name) → Good packets e → print_checked e name ≡ Ok after → Good packets after
+print_good {packets} {e} {after} name good ok =
+    let t = found_first (table_named e.known name) ok in
+    let free = must_not_ok (is_among name.id e.printed) NameTaken name.span _ t.2 in
     let at = place_of_table e.known name t.0 t.1 in
-    subst (Good packets) (same_ok (record e { prints = e.prints ++ t.0.place ∷ []; printed = e.printed ++ name.id ∷ [] }) after free.1)
+    subst (Good packets) (same_ok free.1)
     (record {
       names = record {
         places = good.names.places;
@@ -111,28 +102,24 @@ print_good packets e after name good ok =
       columns = good.columns;
     })
 
-item_good : (packets : ℕ) (given : Given) (e after : Earlier) (one : Item) → Good packets e → item_checked given e one ≡ Ok after
+item_good : (packets : ℕ) (given : Given) {e after : Earlier} (one : Item) → Good packets e → item_checked given e one ≡ Ok after
     → Good packets after
-item_good packets given e after (item.Fold d) good ok = fold_good packets e after d good ok
-item_good packets given e after (item.Stream d) good ok = stream_good packets (five_fields given.fields) e after d good ok
-item_good packets given e after (item.Final d) good ok = final_good packets given e after d good ok
-item_good packets given e after (item.Print name) good ok = print_good packets e after name good ok
+item_good packets given {e} {after} (item.Fold d) good ok = fold_good d good ok
+item_good packets given {e} {after} (item.Stream d) good ok = stream_good (five_fields given.fields) d good ok
+item_good packets given {e} {after} (item.Final d) good ok = final_good given d good ok
+item_good packets given {e} {after} (item.Print name) good ok = print_good name good ok
 
-items_good : (packets : ℕ) (given : Given) (items : List Item) (e after : Earlier) → Good packets e → items_checked given e items ≡ Ok after
+items_good : {packets : ℕ} (given : Given) (items : List Item) {e after : Earlier} → Good packets e → items_checked given e items ≡ Ok after
     → Good packets after
-items_good packets given [] e after good ok = subst (Good packets) (same_ok e after ok) good
-items_good packets given (one ∷ items) e after good ok =
-    let f = found_first (item_checked given e one) _ after ok in
-    items_good packets given items f.0 after (item_good packets given e f.0 one good f.1) f.2
+items_good {packets} given [] {e} {after} good ok = subst (Good packets) (same_ok ok) good
+items_good {packets} given (one ∷ items) {e} {after} good ok =
+    let f = found_first (item_checked given e one) ok in
+    items_good given items (item_good packets given one good f.1) f.2
 
 -- at the start there are only the packets
 start_good : (names : List (List ℕ)) → Good (number_in names (codes "pktstream")) (start_of names)
 start_good names = record {
-  names = record {
-    places = λ a b p ea eb. absurd (no a p ea);
-    bounds = λ a p ea. absurd (no a p ea);
-    prints_known = λ p i. absurd i;
-  };
+  names = record { places = λ a b p ea eb. absurd (no a p ea); bounds = λ a p ea. absurd (no a p ea); prints_known = λ p i. absurd i };
   prints = tt;
   streams_known = λ id i. known _ i;
   streams = tt;
@@ -180,11 +167,11 @@ pub checked_differ : (parsed : Query) (q : TypedQuery) → checked parsed ≡ Ok
     → NamesDiffer (number_in (typed_names parsed.names) (codes "pktstream")) q
 checked_differ parsed q ok =
     let names = typed_names parsed.names in
-    let e = found_first (items_checked (given_of names parsed.items) (start_of names) parsed.items) _ q ok in
-    let good = items_good (number_in names (codes "pktstream")) (given_of names parsed.items) parsed.items (start_of names) e.0
+    let e = found_first (items_checked (given_of names parsed.items) (start_of names) parsed.items) ok in
+    let good = items_good (given_of names parsed.items) parsed.items
     (start_good names) e.1 in
-    let some = must_ok (nat_lt 0 (length e.0.prints)) NothingPrinted parsed.end _ q e.2 in
-    subst (NamesDiffer (number_in names (codes "pktstream"))) (same_ok _ q some.1) (record {
+    let some = must_ok (nat_lt 0 (length e.0.prints)) NothingPrinted parsed.end q e.2 in
+    subst (NamesDiffer (number_in names (codes "pktstream"))) (same_ok some.1) (record {
       streams = good.streams;
       states = λ i f h. good.folds f (in_at e.0.folds i f h);
       columns = λ i one h. good.columns one (in_at e.0.streams i one h);

@@ -41,8 +41,7 @@ columns_masked : (reads : FieldSet) (header : List (List ℕ)) (fields : List Fi
     (masked reads fields columns)
 unfolding each
 columns_masked reads header [] columns e = refl
-columns_masked reads header (f ∷ fields) columns e =
-    go (columns_masked reads header fields) (column_of_field whole header f) refl (each (column_of_field whole header) fields) refl e
+columns_masked reads header (f ∷ fields) columns e = go (columns_masked reads header fields) _ refl _ refl e
   where
     go : ((cs : List (Option ℕ)) → each (column_of_field whole header) fields ≡ Ok cs
         → each (column_of_field reads header) fields ≡ Ok (masked reads fields cs))
@@ -72,8 +71,8 @@ word_masked reads texts f column word e = go _
 abbrev found_words : List ℕ → Result (List ℕ) Field
 found_words words = Ok words
 
-same_words : (a b : List ℕ) → found_words a ≡ found_words b → a ≡ b
-same_words a b e = cc
+same_words : {a b : List ℕ} → found_words a ≡ found_words b → a ≡ b
+same_words e = cc
 
 words_masked : (reads : FieldSet) (texts : List (List ℕ)) (fields : List Field) (columns : List (Option ℕ)) (words : List ℕ)
     → each (word_of_pair texts) (zip fields columns) ≡ Ok words
@@ -81,11 +80,10 @@ words_masked : (reads : FieldSet) (texts : List (List ℕ)) (fields : List Field
 unfolding each
 words_masked reads texts [] columns words e = refl
 words_masked reads texts (f ∷ fields) [] words e =
-    let none : [] ≡ words = same_words [] words e in
+    let none : [] ≡ words = same_words e in
     let empty : found_words [] ≡ found_words (zeroed reads (f ∷ fields) []) = refl in
     subst (λ (l : List ℕ). found_words [] ≡ found_words (zeroed reads (f ∷ fields) l)) none empty
-words_masked reads texts (f ∷ fields) (column ∷ columns) words e =
-    go (words_masked reads texts fields columns) (word_at texts f column) refl (each (word_of_pair texts) (zip fields columns)) refl e
+words_masked reads texts (f ∷ fields) (column ∷ columns) words e = go (words_masked reads texts fields columns) _ refl _ refl e
   where
     go : ((ws : List ℕ) → each (word_of_pair texts) (zip fields columns) ≡ Ok ws
         → each (word_of_pair texts) (zip fields (masked reads fields columns)) ≡ Ok (zeroed reads fields ws)) → (a : Result ℕ Field)
@@ -111,7 +109,7 @@ module _ (reads : FieldSet) (width : ℕ) (columns : List (Option ℕ)) where
   packet_masked : (n : ℕ) (texts : List (List ℕ)) (p : Packet) → packet_of full n texts ≡ Ok p
       → packet_of fewer n texts ≡ Ok (as_read reads p)
   unfolding packet_of
-  packet_masked n texts p e = go (nat_lt MAX_RECORDS n) (not (length texts == width)) (words_in_columns columns texts) refl e
+  packet_masked n texts p e = go _ _ _ refl e
     where
       go : (a b : Bool) (w : Result (List ℕ) Field) → words_in_columns columns texts ≡ w
           → cond a (Err fault.TooManyPackets) (cond b (Err (fault.FieldCount n)) (packet_with n w)) ≡ Ok p
@@ -130,8 +128,7 @@ module _ (reads : FieldSet) (width : ℕ) (columns : List (Option ℕ)) where
       → contents_from fewer n rest ≡ record { packets = all_as_read reads sent; fault = None }
   unfolding contents_from
   contents_masked n [] sent e = ap (λ l. record { packets = all_as_read reads l; fault = None }) (ap (λ (c : Contents). c.packets) e)
-  contents_masked n (texts ∷ rest) sent e = go (contents_masked (n + 1) rest) (packet_of full n texts) refl
-      (contents_from full (n + 1) rest) refl e
+  contents_masked n (texts ∷ rest) sent e = go (contents_masked (n + 1) rest) _ refl _ refl e
     where
       go : ((later : List Packet) → contents_from full (n + 1) rest ≡ record { packets = later; fault = None }
           → contents_from fewer (n + 1) rest ≡ record { packets = all_as_read reads later; fault = None }) → (a : Result Packet TraceFault)

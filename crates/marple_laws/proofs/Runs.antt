@@ -49,7 +49,7 @@ module _ (shape : GroupShape) (w : GroupWiring) (f : TypedFold) (valid : IsValid
 
   of_group : IsFoldOf one.group quiet
   of_group = record {
-    words = written_block (fold_states f) (fold_block f);
+    words = written_block _ _;
     has_body = refl;
     body = is_body;
     states = sym valid.starts;
@@ -92,7 +92,7 @@ module _ (q : TypedQuery) (p : PlanParts) (valid : IsValidQuery q) (plan : IsPla
   parts_at : (i : ℕ) (shape : GroupShape) → slice_get (query_groups q) i ≡ Some shape → HasParts q i
   parts_at i shape e = elim ((slice_get_cases p.groups i).1) [
     | inl group ↦
-        let one = taken_fold q valid i (omega (arith, group.1, plan.groups)) in
+        let one = taken_fold valid (omega (arith, group.1, plan.groups)) in
         parts_of i group.0 one.taking one.fold group.2 one.taken one.at
     | inr past ↦ absurd (let l = slice_get_within (query_groups q) i shape e in omega (arith, past.0, l, shapes_long))
   ]
@@ -149,14 +149,14 @@ module _ (q : TypedQuery) (p : PlanParts) (valid : IsValidQuery q) (plan : IsPla
     pub one_output : final_fault q ≡ None → plan_output (made_of q) g packets ≡ query_text q g packets
     unfolding plan_output plan_tables query_text group_tables
     one_output e =
-        let none : q.finals ≡ [] = no_finals_from q.finals e in
+        let none : q.finals ≡ [] = no_finals_from _ e in
         let n : length (takings q.streams) ≡ length (query_groups q) = omega (arith, shapes_long, plan.groups) in
         let tables : plan_tables (made_of q) g packets ≡ group_tables q g packets =
         ap (λ n. map (table_in (made_of q) g packets) (flat_map (group_made q) (range_with_len 0 n))) n
-        ∙ same_tables (query_groups q) 0 (omega (arith, shapes_long)) (λ k.
+        ∙ same_tables _ 0 (omega (arith, shapes_long)) (λ k.
         (let z : 0 + k ≡ k = omega arith in ap (slice_get (query_groups q)) z))
         in
         ap (λ l. flat_map (table_text_at l) (flat_map printed_group q.prints)) tables
-        ∙ printed_same (group_tables q g packets) q.prints none valid.prints
+        ∙ printed_same _ _ none valid.prints
         ∙ ap (λ finals. flat_map (λ one. table_text_at (with_finals q.names q.folds (group_tables q g packets) finals)
         (table_number (length (takings q.streams)) one)) q.prints) (sym none)

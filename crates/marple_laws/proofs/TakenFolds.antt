@@ -11,8 +11,8 @@ pub record TakenFold (q : TypedQuery) (i : ℕ) : Type 0 where
   pub found : slice_get q.folds taking.fold_number ≡ Some fold
   pub at : fold_at q i ≡ Some fold
 
-pub taken_fold : (q : TypedQuery) → IsValidQuery q → (i : ℕ) → i < length (takings q.streams) → TakenFold q i
-taken_fold q valid i inside = elim ((slice_get_cases (takings q.streams) i).1) [
+pub taken_fold : {q : TypedQuery} → IsValidQuery q → {i : ℕ} → i < length (takings q.streams) → TakenFold q i
+taken_fold {q} valid {i} inside = elim ((slice_get_cases (takings q.streams) i).1) [
   | inl found ↦
       let t : Taking = found.0 in
       let number = fold_found q (map (λ t. t.fold_number) (takings q.streams)) i t.fold_number valid refl

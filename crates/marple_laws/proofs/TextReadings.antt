@@ -16,9 +16,9 @@ record IsBadIn (ls : List (List ℕ)) (first : Made) (i : ℕ) : Type 0 where
 abbrev Reached : List (List ℕ) → Made → Type 0
 Reached ls first = ((after : Made) × Make ls first after) ⊎ ((i : ℕ) × IsBadIn ls first i)
 
-reached : (ls : List (List ℕ)) (first : Made) → Reached ls first
-reached [] first = inl (first, refl)
-reached (line ∷ ls) first = by (λ next. reached ls next) (valid_after first line)
+reached : (ls : List (List ℕ)) {first : Made} → Reached ls first
+reached [] {first} = inl (first, refl)
+reached (line ∷ ls) {first} = by (λ next. reached ls) (valid_after first line)
   where
     beyond : (next : Made) → IsLine first line next → Reached ls next → Reached (line ∷ ls) first
     beyond next valid (inl (after, rest)) = inl (after, (next, valid, rest))
@@ -34,7 +34,7 @@ reached (line ∷ ls) first = by (λ next. reached ls next) (valid_after first l
     )
 
     by : ((next : Made) → Reached ls next) → Decided (IsValidAfter first line) → Reached (line ∷ ls) first
-    by rest (inl (next, valid)) = beyond next valid (rest next)
+    by rest (inl (next, valid)) = beyond _ valid (rest next)
     by rest (inr bad) = inr (0, record { before = first; valid_before = refl; line = line; is = refl; bad = bad })
 
 some_items : {A : Type 0} (xs : List A) → (xs ≡ [] → ⊥) → 0 < length xs
@@ -70,5 +70,5 @@ every_text text = by_size (most (length text) MAX_PLAN)
         (inr (size, inl (i, record { before = b.before; valid_before = b.valid_before; line = b.line; is = b.is; bad = b.bad }, refl)))
 
     by_size : Decided (length text ≤ MAX_PLAN) → (found : Checked Made) × IsReadingOf text found
-    by_size (inl size) = by_lines size (reached (lines text) nothing)
+    by_size (inl size) = by_lines size (reached (lines text))
     by_size (inr long) = refuse MAX_PLAN (inl (omega arith, refl))

@@ -16,7 +16,7 @@ use Rattle.query_lang.specs.declared.typed.TypedOp.TheVariants as typed
 use Rattle.stage_plan.specs.{Depths.stage_fault, Making.{operand_at, wires_at}}
 use Rattle.marple_laws.proofs.{Known.{AreFrom, IsFrom, IsGood, IsWritable, writable_at}, KnownStreams.{AllAreGood, AreFit, query_good}}
 use Rattle.marple_laws.proofs.{OpLines.Fits, Items.IsIn, Prints.AreGroups, Texts.{IsMadeBy, all_at, group_from, made_by, stream_below}}
-use Rattle.marple_laws.proofs.{Differ.HasOwnColumns, Counts.{few_ops, made_of_query}}
+use Rattle.marple_laws.proofs.{Differ.HasOwnColumns, Counts.{few_ops, made_of_query}, Moved.{mapped_at, op_from}}
 use Rattle.marple_laws.proofs.LineSizes.{after_size, decimal_size, line_size, op_size}
 use Rattle.marple_laws.proofs.NameSizes.{columns_total, field_size, group_names_total, taken, texts_in, total, weigh}
 use Rattle.marple_laws.proofs.GroupSizes.{AllFit, IsLimited, group_size, groups_size, shallow, taking_few}
@@ -183,7 +183,7 @@ module _ (q : TypedQuery) (v : IsValidQuery q) (staged : stage_fault q ≡ None)
 
     order_few : length (query_order q) ≤ 20512
     order_few =
-        let n = few_ops q v staged in
+        let n = few_ops v staged in
         let m = length-map (query_order q) (λ number. moved_op (query_registers q) (op_numbered (query_made q).ops number)) in
         omega arith
 
@@ -194,47 +194,19 @@ module _ (q : TypedQuery) (v : IsValidQuery q) (staged : stage_fault q ≡ None)
         omega arith
 
     small : AreSmall (query_registers q)
-    small k r e = go (slice_get (range_with_len 0 (length (query_made q).ops)) k) refl
-      where
-        at : slice_get (query_registers q) k ≡ option_map (register_in (query_order q))
-            (slice_get (range_with_len 0 (length (query_made q).ops)) k)
-        at = slice_get-map (register_in (query_order q)) (range_with_len 0 (length (query_made q).ops)) k
-
-        go : (o : Option ℕ) → slice_get (range_with_len 0 (length (query_made q).ops)) k ≡ o → r < 2 ^ 64
-        go None h = let none : None ≡ Some r = sym (at ∙ ap (option_map (register_in (query_order q))) h) ∙ e in absurd (no none)
-          where
-            no : None ≡ Some r → ⊥
-            no z = cc
-        go (Some c) h =
-            let same : register_in (query_order q) c ≡ r = same_Some (register_in (query_order q) c) r
-            (sym (at ∙ ap (option_map (register_in (query_order q))) h) ∙ e) in
-            subst (λ x. x < 2 ^ 64) same (register_small c)
-
-    abbrev new_op : ℕ → PlanOp
-    new_op number = moved_op (query_registers q) (op_numbered (query_made q).ops number)
+    small k r e =
+        let c = mapped_at (register_in (query_order q)) (range_with_len 0 (length (query_made q).ops)) k r e in
+        subst (λ x. x < 2 ^ 64) c.2 (register_small c.0)
 
     each_op : (i : ℕ) (one : PlanOp) → slice_get (query_ops q) i ≡ Some one → length (op_line one) ≤ 57
-    each_op i one e = go (slice_get (query_order q) i) refl
-      where
-        at : slice_get (query_ops q) i ≡ option_map new_op (slice_get (query_order q) i)
-        at = slice_get-map new_op (query_order q) i
-
-        go : (o : Option ℕ) → slice_get (query_order q) i ≡ o → length (op_line one) ≤ 57
-        go None h = let none : None ≡ Some one = sym (at ∙ ap (option_map _) h) ∙ e in absurd (no none)
-          where
-            no : None ≡ Some one → ⊥
-            no z = cc
-        go (Some c) h =
-            let o = ordered (query_made q).ops (stages_of (query_made q).ops) i c h in
-            let same : new_op c ≡ one = same_Some (new_op c) _ (sym (at ∙ ap (option_map new_op) h) ∙ e) in
-            let is : moved_op (query_registers q) o.one ≡ one = ap (moved_op (query_registers q))
-            (sym (op_at (query_made q).ops c _ o.found)) ∙ same in
-            let w : IsWritable (reads_of q) o.one = writable_at (reads_of q) (query_made q).ops c _ good.written o.found in
-            let s = ((made_of_query q staged).made.each c o.one o.found).stage in
-            subst (λ x. length (op_line x) ≤ 57) is
-            (op_size (moved_op (query_registers q) o.one) (omega arith)
-            (moved_fits (query_registers q) small _ (good_fits (reads_of q) _ w.left))
-            (moved_fits (query_registers q) small _ (good_fits (reads_of q) _ w.right)))
+    each_op i one e =
+        let o = op_from q i one e in
+        let w : IsWritable (reads_of q) o.1 = writable_at (query_made q).ops o.0 good.written o.2 in
+        let s = ((made_of_query q staged).made.each o.0 o.1 o.2).stage in
+        subst (λ x. length (op_line x) ≤ 57) o.3
+        (op_size (moved_op (query_registers q) o.1) (omega arith)
+        (moved_fits (query_registers q) small _ (good_fits (reads_of q) _ w.left))
+        (moved_fits (query_registers q) small _ (good_fits (reads_of q) _ w.right)))
 
     limited : (shape : GroupShape) (j : ℕ) (one : TypedStream) (t : Taking) (i : ℕ) (f : TypedFold) (number : ℕ)
         → slice_get q.streams j ≡ Some one
@@ -264,7 +236,7 @@ module _ (q : TypedQuery) (v : IsValidQuery q) (staged : stage_fault q ≡ None)
           omega (arith, n, m, c));
       valid = all_at IsValidFold q.folds number f v.folds fold;
       depth = (let n : shape.depth ≡ depth_of made.f = ap (λ (s : GroupShape). s.depth) made.is in
-          let c = shallow made.f shape_fold in
+          let c = shallow shape_fold in
           omega (arith, n, c));
       nodes = (let n : shape.nodes ≡ made.f.nodes = ap (λ (s : GroupShape). s.nodes) made.is in
           let c = shape_fold.most_nodes in
@@ -280,7 +252,7 @@ module _ (q : TypedQuery) (v : IsValidQuery q) (staged : stage_fault q ≡ None)
     columns_short : (i : ℕ) (shape : GroupShape) (j : ℕ) (one : TypedStream) → slice_get (query_groups q) i ≡ Some shape
         → slice_get q.streams j ≡ Some one → IsMadeBy q.names q.folds one shape → total shape.key_names + total shape.state_names ≤ 65690
     columns_short i shape j one e here made =
-        let below = stream_below (length q.names) _ _ _ j _ v.streams here in
+        let below = stream_below (length q.names) _ _ _ j v.streams here in
         let states = (all_at (HasNames (length q.names)) _ made.number made.f v.fold_names made.at).states in
         let n = columns_total _ _ (well i shape e)
         (λ t k. texts_in _ _ below.1 t (subst (λ (s : GroupShape). IsIn t s.key_names) made.is k))
@@ -296,7 +268,7 @@ module _ (q : TypedQuery) (v : IsValidQuery q) (staged : stage_fault q ≡ None)
       where
         wiring_at : slice_get (query_wiring q) i ≡ option_map (wiring_of (query_registers q) (query_made q).streams)
             (slice_get (takings q.streams) i)
-        wiring_at = slice_get-map (wiring_of (query_registers q) (query_made q).streams) (takings q.streams) i
+        wiring_at = slice_get-map _ _ i
 
         go : (o : Option Taking) → slice_get (takings q.streams) i ≡ o
             → length (group_lines_of (Some shape) (option_map (wiring_of (query_registers q) (query_made q).streams) o)
@@ -305,10 +277,10 @@ module _ (q : TypedQuery) (v : IsValidQuery q) (staged : stage_fault q ≡ None)
         go (Some t) h = by _ refl
           where
             from : (j : ℕ) × (one : TypedStream) × (slice_get q.streams j ≡ Some one) × (shape_made q.names q.folds one one.op ≡ Some shape)
-            from = group_from _ _ _ i _ e
+            from = group_from _ _ _ i e
 
             made : IsMadeBy q.names q.folds from.1 shape
-            made = made_by _ _ _ _ _ from.3 (own from.0 from.1 from.2)
+            made = made_by _ _ from.3 (own from.0 from.1 from.2)
 
             by : (o : Option TypedFold) → slice_get q.folds t.fold_number ≡ o
                 → length (group_lines_of (Some shape) (Some (wiring_of (query_registers q) (query_made q).streams t)) o) ≤ 79690
@@ -345,7 +317,7 @@ module _ (q : TypedQuery) (v : IsValidQuery q) (staged : stage_fault q ≡ None)
         let d : length (compiled_text q) ≡ length first_line + length (reads_line (reads_of q)
         ++ (op_lines ++ (group_texts ++ print_lines))) =
         length-append first_line (reads_line (reads_of q) ++ (op_lines ++ (group_texts ++ print_lines))) in
-        let few = few_ops q v staged in
+        let few = few_ops v staged in
         let most = v.most_groupbys in
         let printed = few_prints q v are new in
         let together = group_names_total q.names q.folds q.streams v.streams names in

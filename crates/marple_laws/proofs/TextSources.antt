@@ -14,8 +14,8 @@ there (commands.RunPlan setting) text = (let found = every_text text in (source_
 there _ text = (source_of text (Ok nothing), refl, tt)
 
 -- sources with one text and one plan
-same_source : (command : Command) (a b : Source) → a.text ≡ b.text → a.plan ≡ b.plan → AreAlike command a b
-same_source command a b text plan =
+same_source : (command : Command) {a b : Source} → a.text ≡ b.text → a.plan ≡ b.plan → AreAlike command a b
+same_source command {a} {b} text plan =
     let same : a ≡ b = ap (λ t. source_of t a.plan) text ∙ ap (source_of b.text) plan in
     record {
       refused = ap (refusal _) same;
@@ -24,8 +24,7 @@ same_source command a b text plan =
     }
 
 pub one : SourcesAreOne
-one (commands.RunPlan setting) a b e p q =
-    same_source (commands.RunPlan setting) a b e (read_once b.text a.plan b.plan (subst (λ t. IsReadingOf t a.plan) e p) q)
+one (commands.RunPlan setting) a b e p q = same_source _ e (read_once b.text a.plan b.plan (subst (λ t. IsReadingOf t a.plan) e p) q)
 one command a b e p q = record {
   refused = ap (λ t. refusal command (source_of t a.plan)) e;
   trace_refused = λ trace. ap (λ t. trace_refusal command (source_of t a.plan) trace) e;

@@ -7,15 +7,15 @@ use Rattle.marple_laws.proofs.Words.{IsNamedWell}
 use Rattle.std.specs.Prelude.{map, slice_get}
 use Rattle.query_lang.specs.declared.typed.TypedOp.TheVariants as typed
 use Rattle.query_lang.specs.TypedQueries as valid
-use Rattle.marple_laws.proofs.{Differ.{AreApart, HasOwnColumns, NamesDiffer}, Items.{IsIn, contains_in, in_push}}
-use Rattle.marple_laws.proofs.{Queries.{in_left, in_last}, Lexical.{AreGood, number_at}}
+use Rattle.marple_laws.proofs.{Differ.{AreApart, HasOwnColumns, NamesDiffer}, Items.{IsIn, contains_in, in_last, in_left, in_push}}
+use Rattle.marple_laws.proofs.Lexical.{AreGood, number_at}
 
 -- ---- items of lists
 
-pub in_contains : {A : Type 0} (xs : List A) (x : A) → IsIn x xs → Contains xs x
-in_contains [] x h = absurd h
-in_contains (y ∷ xs) x (inl e) = (0, omega arith, sym e)
-in_contains (y ∷ xs) x (inr h) = let c = in_contains xs x h in (suc c.0, omega (arith, c.1), c.2)
+pub in_contains : {A : Type 0} (xs : List A) {x : A} → IsIn x xs → Contains xs x
+in_contains [] h = absurd h
+in_contains (y ∷ xs) (inl e) = (0, omega arith, sym e)
+in_contains (y ∷ xs) (inr h) = let c = in_contains xs h in (suc c.0, omega (arith, c.1), c.2)
 
 pub all_at : {A : Type 0} (P : A → Type 0) (xs : List A) (i : ℕ) (x : A) → All P xs → slice_get xs i ≡ Some x → P x
 all_at P [] i x all e = cc
@@ -25,7 +25,7 @@ all_at P (y ∷ xs) (suc i) x all e = all_at P xs i x (All-tail P y xs all) e
 -- an item before others is none of them
 pub new_apart : {A : Type 0} (before items : List A) (x : A) → AreNew before items → IsIn x before → IsIn x items → ⊥
 new_apart before [] x new old h = h
-new_apart before (item ∷ items) x new old (inl e) = new.0 (in_contains before item (subst (λ z. IsIn z before) e old))
+new_apart before (item ∷ items) x new old (inl e) = new.0 (in_contains before (subst (λ z. IsIn z before) e old))
 new_apart before (item ∷ items) x new old (inr h) = new_apart (before ++ item ∷ []) items x new.1 (in_left x before (item ∷ []) old) h
 
 -- ---- the texts of names
@@ -64,9 +64,9 @@ covers_all names (id ∷ ids) all t (inr h) =
 new_text : (names : List (List ℕ)) → AreOnce names → (before : List ℕ) (texts : List (List ℕ)) (id : ℕ) (text : List ℕ)
     → Cover names before texts → (Contains before id → ⊥) → slice_get names id ≡ Some text → Contains texts text → ⊥
 new_text names once before texts id text cover new e c =
-    let k = cover _ (contains_in _ _ c) in
+    let k = cover _ (contains_in _ c) in
     let same : k.0 ≡ id = once _ id _ k.2 e in
-    new (in_contains _ _ (subst (λ z. IsIn z before) same k.1))
+    new (in_contains _ (subst (λ z. IsIn z before) same k.1))
 
 new_texts : (names : List (List ℕ)) → AreOnce names → (ids before : List ℕ) (texts : List (List ℕ)) → Cover names before texts
     → All (λ id. id < length names) ids → AreNew before ids → AreNew texts (map (text_at names) ids)
@@ -87,12 +87,12 @@ apart_texts names once keys (s ∷ states) below all apart = (
   apart_texts names once keys states below (All-tail (λ id. id < length names) s states all) apart.1,
 )
 
-names_are : (names : List (List ℕ)) → AreGood names → (ids : List ℕ) → All (λ id. id < length names) ids
+names_are : {names : List (List ℕ)} → AreGood names → (ids : List ℕ) → All (λ id. id < length names) ids
     → AreNames (map (text_at names) ids)
-names_are names good [] all = tt
-names_are names good (id ∷ ids) all = (
+names_are good [] all = tt
+names_are {names} good (id ∷ ids) all = (
   good.lexical id (text_at names id) (text_there names id (All-head (λ id. id < length names) id ids all)),
-  names_are names good ids (All-tail (λ id. id < length names) id ids all),
+  names_are good ids (All-tail (λ id. id < length names) id ids all),
 )
 
 -- ---- groupbys
@@ -107,9 +107,9 @@ pub record IsMadeBy (names : List (List ℕ)) (folds : List TypedFold) (one : Ty
   pub new : AreNew [] one.columns
   pub apart : AreApart one.columns f.state_names
 
-pub made_by : (names : List (List ℕ)) (folds : List TypedFold) (one : TypedStream) (op : TypedOp) (shape : GroupShape)
+pub made_by : {names : List (List ℕ)} {folds : List TypedFold} (one : TypedStream) (op : TypedOp) {shape : GroupShape}
     → shape_made names folds one op ≡ Some shape → HasOwnColumns folds one.columns op → IsMadeBy names folds one shape
-made_by names folds one (typed.Group input keys number args) shape e own = by (slice_get folds number) refl e
+made_by {names} {folds} one (typed.Group input keys number args) {shape} e own = by (slice_get folds number) refl e
   where
     by : (o : Option TypedFold) → slice_get folds number ≡ o → option_map (shape_with names one.name.id one.columns (length args)) o ≡ Some
         shape → IsMadeBy names folds one shape
@@ -125,9 +125,9 @@ made_by names folds one (typed.Group input keys number args) shape e own = by (s
           new = own.0;
           apart = subst (λ (g : TypedFold). AreApart one.columns g.state_names) same own.1.2;
         }
-made_by names folds one (typed.Filter input e) shape is own = cc
-made_by names folds one (typed.Map input values) shape is own = cc
-made_by names folds one (typed.Zip left right slots) shape is own = cc
+made_by one (typed.Filter input e) is own = cc
+made_by one (typed.Map input values) is own = cc
+made_by one (typed.Zip left right slots) is own = cc
 
 pub name_of : (names : List (List ℕ)) (folds : List TypedFold) (one : TypedStream) (op : TypedOp) (shape : GroupShape)
     → shape_made names folds one op ≡ Some shape → shape.name ≡ text_at names one.name.id
@@ -144,11 +144,11 @@ name_of names folds one (typed.Zip left right slots) shape is = cc
 abbrev pub groups_of : List (List ℕ) → List TypedFold → List TypedStream → List GroupShape
 groups_of names folds streams = filter_map (λ one. shape_made names folds one one.op) streams
 
-pub group_from : (names : List (List ℕ)) (folds : List TypedFold) (streams : List TypedStream) (i : ℕ) (shape : GroupShape)
-    → slice_get (groups_of names folds streams) i ≡ Some shape
-    → (j : ℕ) × (one : TypedStream) × (slice_get streams j ≡ Some one) × (shape_made names folds one one.op ≡ Some shape)
-group_from names folds [] i shape h = cc
-group_from names folds (one ∷ rest) i shape h = by _ refl i h (λ k. group_from names folds rest k shape)
+pub group_from : (names : List (List ℕ)) (folds : List TypedFold) (streams : List TypedStream) (i : ℕ) {shape : GroupShape}
+    → slice_get (groups_of names folds streams) i ≡ Some shape → (j : ℕ) × (one : TypedStream) × (slice_get streams j ≡ Some one)
+    × (shape_made names folds one one.op ≡ Some shape)
+group_from names folds [] i h = cc
+group_from names folds (one ∷ rest) i {shape} h = by _ refl i h (λ k. group_from names folds rest k)
   where
     by : (o : Option GroupShape) → shape_made names folds one one.op ≡ o → (i : ℕ)
         → slice_get (cons_option o (groups_of names folds rest)) i ≡ Some shape
@@ -160,12 +160,12 @@ group_from names folds (one ∷ rest) i shape h = by _ refl i h (λ k. group_fro
     by (Some s) e (suc i) h more = let r = more i h in (suc r.0, r.1, r.2, r.3)
 
 -- the numbers of a stream's name and columns are below that of the names
-pub stream_below : (names : ℕ) (folds : List TypedFold) (before streams : List TypedStream) (j : ℕ) (one : TypedStream)
+pub stream_below : (names : ℕ) (folds : List TypedFold) (before streams : List TypedStream) (j : ℕ) {one : TypedStream}
     → AreValidStreams names folds before streams → slice_get streams j ≡ Some one → (one.name.id < names) × valid.AreNames names one.columns
-stream_below names folds before [] j one v h = cc
-stream_below names folds before (s ∷ rest) zero one v h =
+stream_below names folds before [] j v h = cc
+stream_below names folds before (s ∷ rest) zero v h =
     subst (λ (t : TypedStream). (t.name.id < names) × valid.AreNames names t.columns) (same_Some s _ h) (v.0.name, v.0.columns)
-stream_below names folds before (s ∷ rest) (suc j) one v h = stream_below names folds (before ++ s ∷ []) rest j one v.1 h
+stream_below names folds before (s ∷ rest) (suc j) v h = stream_below names folds (before ++ s ∷ []) rest j v.1 h
 
 -- the names of groupbys differ
 names_new : (names : List (List ℕ)) → AreOnce names → (folds : List TypedFold) (streams earlier : List TypedStream)
@@ -191,18 +191,15 @@ pub names_differ : (q : TypedQuery) (packets : ℕ) → IsValidQuery q → AreGo
     → AreNew [] (map (λ shape. shape.name) (query_groups q))
 names_differ q packets v good differ = names_new _ good.once _ _ _ v.streams (packets ∷ []) _ (λ t h. absurd h) differ.streams
 
-id_in : (streams : List TypedStream) (j : ℕ) (one : TypedStream) → slice_get streams j ≡ Some one
+id_in : (streams : List TypedStream) (j : ℕ) {one : TypedStream} → slice_get streams j ≡ Some one
     → IsIn one.name.id (map (λ (s : TypedStream). s.name.id) streams)
-id_in [] j one h = cc
-id_in (s ∷ streams) zero one h = inl (ap (λ (t : TypedStream). t.name.id) (sym (same_Some s one h)))
-id_in (s ∷ streams) (suc j) one h = inr (id_in streams j one h)
+id_in [] j h = cc
+id_in (s ∷ streams) zero {one} h = inl (ap (λ (t : TypedStream). t.name.id) (sym (same_Some s one h)))
+id_in (s ∷ streams) (suc j) h = inr (id_in streams j h)
 
-shape_named : (q : TypedQuery) (packets : ℕ) → packets ≡ number_in q.names (codes "pktstream") → IsValidQuery q → AreGood q.names
-    → NamesDiffer packets q → (j : ℕ) (one : TypedStream) (args number : ℕ) (f : TypedFold) → slice_get q.streams j ≡ Some one
-    → slice_get q.folds number ≡ Some f → AreNew [] one.columns → AreApart one.columns f.state_names
-    → IsNamedWell (shape_with q.names one.name.id one.columns args f)
-shape_named q packets is v good differ j one args number f here fold new apart =
-    let below = stream_below (length q.names) _ _ _ j _ v.streams here in
+shape_named : (q : TypedQuery) {packets : ℕ} → packets ≡ number_in q.names (codes "pktstream") → IsValidQuery q → AreGood q.names → NamesDiffer packets q → (j : ℕ) {one : TypedStream} {args : ℕ} (number : ℕ) {f : TypedFold} → slice_get q.streams j ≡ Some one → slice_get q.folds number ≡ Some f → AreNew [] one.columns → AreApart one.columns f.state_names → IsNamedWell (shape_with q.names one.name.id one.columns args f)
+shape_named q {packets} is v good differ j {one} number {f} here fold new apart =
+    let below = stream_below (length q.names) _ _ _ j v.streams here in
     let states = (all_at (HasNames (length q.names)) _ number f v.fold_names fold).states in
     let there : slice_get q.names one.name.id ≡ Some (text_at q.names one.name.id) = text_there _ _ below.0 in
     record {
@@ -210,18 +207,17 @@ shape_named q packets is v good differ j one args number f here fold new apart =
       no_stream = λ e. (let same : number_in q.names (codes "pktstream") ≡ one.name.id =
           number_at _ one.name.id (codes "pktstream") good.once (there ∙ ap Some e) in
           new_apart (packets ∷ []) (map (λ (s : TypedStream). s.name.id) q.streams) _ differ.streams (inl (sym (is ∙ same)))
-          (id_in _ j _ here));
-      key_names = names_are _ good one.columns below.1;
+          (id_in _ j here));
+      key_names = names_are good one.columns below.1;
       keys_differ = new_texts _ good.once _ _ _ (λ t h. absurd h) below.1 new;
-      state_names = names_are _ good f.state_names states;
+      state_names = names_are good f.state_names states;
       states_differ = new_texts _ good.once _ _ _ (λ t h. absurd h) states (differ.states number f fold);
       states_apart = apart_texts _ good.once _ _ below.1 states apart;
     }
 
-pub named_well : (q : TypedQuery) (packets : ℕ) → packets ≡ number_in q.names (codes "pktstream") → IsValidQuery q → AreGood q.names
-    → NamesDiffer packets q → (i : ℕ) (shape : GroupShape) → slice_get (query_groups q) i ≡ Some shape → IsNamedWell shape
-named_well q packets is v good differ i shape e =
-    let from = group_from q.names q.folds q.streams i shape e in
-    let made = made_by q.names q.folds from.1 from.1.op shape from.3 (differ.columns from.0 from.1 from.2) in
+pub named_well : (q : TypedQuery) {packets : ℕ} → packets ≡ number_in q.names (codes "pktstream") → IsValidQuery q → AreGood q.names → NamesDiffer packets q → (i : ℕ) (shape : GroupShape) → slice_get (query_groups q) i ≡ Some shape → IsNamedWell shape
+named_well q {packets} is v good differ i shape e =
+    let from = group_from q.names q.folds q.streams i e in
+    let made = made_by from.1 from.1.op from.3 (differ.columns from.0 from.1 from.2) in
     subst IsNamedWell (sym made.is)
-    (shape_named q packets is v good differ from.0 from.1 made.args made.number made.f from.2 made.at made.new made.apart)
+    (shape_named q is v good differ from.0 made.number from.2 made.at made.new made.apart)

@@ -5,12 +5,12 @@ use Rattle.marple_laws.proofs.Words.{all_but_last, last_of, tokens, spaced}
 use Rattle.std.{specs.Prelude.{not, ◌&&◌}, proofs.lemmas.List.Splits.{slice_split_at, slice_split_none}}
 
 -- both of two tests
-pub both_true : (a b : Bool) → (a && b) ≡ true → (a ≡ true) × (b ≡ true)
-both_true true b e = (refl, e)
-both_true false b e = cc
+pub both_true : (a : Bool) {b : Bool} → (a && b) ≡ true → (a ≡ true) × (b ≡ true)
+both_true true e = (refl, e)
+both_true false e = cc
 
-pub both_are : (a b : Bool) → a ≡ true → b ≡ true → (a && b) ≡ true
-both_are a b e f = cc
+pub both_are : {a b : Bool} → a ≡ true → b ≡ true → (a && b) ≡ true
+both_are e f = cc
 
 not_false : (b : Bool) → not b ≡ true → b ≡ false
 not_false true e = cc
@@ -23,7 +23,7 @@ has_none test text = list_all (λ b. not (test b)) text
 none_pass : (test : ℕ → Bool) (text : List ℕ) → has_none test text ≡ true → All (λ x. test x ≡ false) text
 none_pass test [] e = All-nil _
 none_pass test (b ∷ text) e =
-    let parts = both_true _ (has_none test text) e in
+    let parts = both_true _ e in
     All-cons (λ x. test x ≡ false) b text (not_false (test b) parts.0) (none_pass test text parts.1)
 
 -- a byte that is neither a space nor LF
@@ -41,33 +41,33 @@ AreTokens (word ∷ words) = (is_token word ≡ true) × AreTokens words
 none_in : (test : ℕ → Bool) → ((b : ℕ) → is_plain b ≡ true → not (test b) ≡ true) → (word : List ℕ) → is_token word ≡ true
     → has_none test word ≡ true
 none_in test plain [] e = refl
-none_in test plain (b ∷ word) e = (let p = both_true _ _ e in both_are _ _ (plain b p.0) (none_in test plain word p.1))
+none_in test plain (b ∷ word) e = (let p = both_true _ e in both_are (plain b p.0) (none_in test plain word p.1))
 
 pub no_space : (word : List ℕ) → is_token word ≡ true → has_none is_space word ≡ true
-no_space = none_in is_space (λ b plain. (both_true _ _ plain).0)
+no_space = none_in _ (λ b plain. (both_true _ plain).0)
 
 pub no_line_feed : (word : List ℕ) → is_token word ≡ true → has_none is_line_feed word ≡ true
-no_line_feed = none_in is_line_feed (λ b plain. (both_true _ _ plain).1)
+no_line_feed = none_in _ (λ b plain. (both_true _ plain).1)
 
 -- the tokens of words with a space between each two
 pub tokens_of : (first : List ℕ) (words : List (List ℕ)) → is_token first ≡ true → AreTokens words → tokens (first ++ spaced words) ≡ first
     ∷ words
-tokens_of first [] e are = ap tokens (append-nil first) ∙ slice_split_none is_space first (none_pass is_space first (no_space first e))
+tokens_of first [] e are = ap tokens (append-nil first) ∙ slice_split_none _ first (none_pass is_space first (no_space first e))
 tokens_of first (word ∷ words) e are =
-    slice_split_at is_space first 32 (word ++ spaced words) (none_pass is_space first (no_space first e)) refl
+    slice_split_at _ _ _ (word ++ spaced words) (none_pass is_space first (no_space first e)) refl
     ∙ ap (λ l. first ∷ l) (tokens_of word words are.0 are.1)
 
 none_after : (words : List (List ℕ)) → AreTokens words → has_none is_line_feed (spaced words) ≡ true
 none_after [] are = refl
 none_after (word ∷ words) are =
     list_all-append (λ b. not (is_line_feed b)) word (spaced words)
-    ∙ both_are (has_none is_line_feed word) (has_none is_line_feed (spaced words)) (no_line_feed word are.0) (none_after words are.1)
+    ∙ both_are (no_line_feed word are.0) (none_after words are.1)
 
 pub none_in_line : (first : List ℕ) (words : List (List ℕ)) → is_token first ≡ true → AreTokens words
     → has_none is_line_feed (first ++ spaced words) ≡ true
 none_in_line first words e are =
     list_all-append (λ b. not (is_line_feed b)) first (spaced words)
-    ∙ both_are (has_none is_line_feed first) (has_none is_line_feed (spaced words)) (no_line_feed first e) (none_after words are)
+    ∙ both_are (no_line_feed first e) (none_after words are)
 
 -- lines without LF
 abbrev pub AreLines : List (List ℕ) → Type 0
@@ -86,7 +86,7 @@ pub pieces_of : (all : List (List ℕ)) → AreLines all → pieces (ended all) 
 pieces_of [] are = refl
 pieces_of (one ∷ all) are =
     ap pieces (append_assoc one (10 ∷ []) (ended all))
-    ∙ slice_split_at is_line_feed one 10 (ended all) (none_pass is_line_feed one are.0) refl
+    ∙ slice_split_at _ _ _ (ended all) (none_pass is_line_feed one are.0) refl
     ∙ ap (λ l. one ∷ l) (pieces_of all are.1)
 
 but_last : (all : List (List ℕ)) → all_but_last (all ++ [] ∷ []) ≡ all
@@ -97,8 +97,8 @@ the_last : (all : List (List ℕ)) → last_of (all ++ [] ∷ []) ≡ []
 the_last (one ∷ next ∷ all) = the_last (next ∷ all)
 the_last _ = refl
 
-pub lines_of : (all : List (List ℕ)) → AreLines all → lines (ended all) ≡ all
-lines_of all are = ap all_but_last (pieces_of _ are) ∙ but_last _
+pub lines_of : {all : List (List ℕ)} → AreLines all → lines (ended all) ≡ all
+lines_of are = ap all_but_last (pieces_of _ are) ∙ but_last _
 
 pub nothing_after : (all : List (List ℕ)) → AreLines all → bytes_after_lines (ended all) ≡ []
 nothing_after all are = ap last_of (pieces_of all are) ∙ the_last all

@@ -45,9 +45,9 @@ tout_short w h = go _ refl h
     go false t (inl small) = short w small
     go false t (inr e) = let no : ⊥ = grind arith in absurd no
 
-tout_word : (w : ℕ) → (w < 10 ^ 10) ⊎ (w ≡ 2 ^ 64 - 1) → w < 2 ^ 64
-tout_word w (inl small) = omega arith
-tout_word w (inr e) = omega arith
+tout_word : {w : ℕ} → (w < 10 ^ 10) ⊎ (w ≡ 2 ^ 64 - 1) → w < 2 ^ 64
+tout_word (inl small) = omega arith
+tout_word (inr e) = omega arith
 
 module _ (n : ℕ) (a : Arrival) (few : n ≤ 1000000) (small : IsSmall a) where
   packet_line : length (line (packet_texts (generated_packet n a))) ≤ 165
@@ -101,7 +101,7 @@ module _ (n : ℕ) (a : Arrival) (few : n ≤ 1000000) (small : IsSmall a) where
               omega arith,
               (
                 omega arith,
-                (omega arith, (omega arith, (omega arith, (omega arith, (omega arith, (tout_word _ small.tout, (omega arith, tt))))))),
+                (omega arith, (omega arith, (omega arith, (omega arith, (omega arith, (tout_word small.tout, (omega arith, tt))))))),
               ),
             ),
           ),
@@ -118,7 +118,7 @@ filter_few p (x ∷ xs) = by_test (p x) (λ t. rw t (omega (arith, filter_few p 
 
 touts_few : (switch : ℕ) (list : List Arrival) → length (touts_at switch list) ≤ length list
 touts_few switch [] = omega arith
-touts_few switch (a ∷ list) = go (touts_few switch list) (switch_of a.flow == switch) a.tout
+touts_few switch (a ∷ list) = go (touts_few switch list) _ _
   where
     go : length (touts_at switch list) ≤ length list → (b : Bool) (o : Option ℕ)
         → length (cond b (with_some o (touts_at switch list)) (touts_at switch list)) ≤ suc (length list)

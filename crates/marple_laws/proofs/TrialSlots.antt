@@ -10,7 +10,7 @@ use Rattle.marple_laws.proofs.Words.{query_groups, accepted, trial_query, zeroed
 use Rattle.std.specs.Prelude.{Ok, Err, slice_get}
 use Rattle.stage_plan.proofs.StreamRows.{Row, all_rows, row_at, row_made, rows_from, same_tuples, stream_rows, tuples}
 use Rattle.accepted_query.proofs.TrialAccepted.{after_folds, trial_is}
-use Rattle.marple_laws.proofs.Listed.{IsIn, in_set}
+use Rattle.marple_laws.proofs.{Items.IsIn, Listed.in_set}
 
 -- ---- a query whose groupbys take from the packets, out of fields that it reads
 
@@ -60,11 +60,11 @@ word_kept reads (a ∷ b ∷ c ∷ d ∷ e ∷ g ∷ h ∷ i ∷ j ∷ k ∷ l �
     by QSize t = ap (λ x. cond x o 0) t
 word_kept reads words size f has = absurd (omega arith)
 
-found_field : (fields : List Field) (slot : ℕ) → list_any (λ f. number_of f == slot) fields ≡ true
-    → (f : Field) × IsIn f fields × (number_of f ≡ slot)
-found_field [] slot e = absurd (false≢true e)
-found_field (f ∷ fields) slot e = by_test (number_of f == slot) (λ t. let same : number_of f ≡ slot =
-    grind (arith, nat_tests) in (f, inl refl, same)) (λ t. let more = found_field fields slot (rw t at e) in (more.0, inr more.1, more.2))
+found_field : (fields : List Field) {slot : ℕ} → list_any (λ f. number_of f == slot) fields ≡ true → (f : Field) × IsIn f fields
+    × (number_of f ≡ slot)
+found_field [] e = absurd (false≢true e)
+found_field (f ∷ fields) {slot} e = by_test (number_of f == slot) (λ t. let same : number_of f ≡ slot =
+    grind (arith, nat_tests) in (f, inl refl, same)) (λ t. let more = found_field fields (rw t at e) in (more.0, inr more.1, more.2))
 
 module _ (q : TypedQuery) where
   abbrev kept : List ℕ → List ℕ
@@ -73,7 +73,7 @@ module _ (q : TypedQuery) where
   slot_kept : (words : List ℕ) (slot : ℕ) → length words ≡ FIELDS → is_slot_read q slot ≡ true
       → slice_index (kept words) slot ≡ slice_index words slot
   slot_kept words slot size e =
-      let f = found_field _ _ e in
+      let f = found_field _ e in
       subst (λ k. slice_index (kept words) k ≡ slice_index words k) f.2
       (word_kept _ _ size _ (in_set _ _ f.1))
 
@@ -92,8 +92,8 @@ module _ (q : TypedQuery) where
 
   packets_stream : (packets : List (List ℕ)) → stream q 0 packets ≡ tuples (λ words. Some words) 1 packets
   packets_stream packets =
-      stream_rows q 0 packets
-      ∙ same_tuples (λ words. row_at (all_rows q words) 0) (λ words. Some words) (λ words. first_kept q.streams (Some words) []) 1 packets
+      stream_rows q 0 _
+      ∙ same_tuples _ _ (λ words. first_kept q.streams (Some words) []) 1 _
 
   along : (t : Taking) → list_all (is_slot_read q) t.keys ≡ true → list_all (is_slot_read q) t.args ≡ true
       → (n : ℕ) (packets : List (List ℕ)) → AreWhole packets → map (use_of t) (tuples (λ words. Some words) n (map kept packets)) ≡ map
@@ -108,10 +108,7 @@ module _ (q : TypedQuery) where
 
   taking_at : (list : List Taking) (i : ℕ) (t : Taking) → list_all (takes_packets q) list ≡ true → slice_get list i ≡ Some t
       → takes_packets q t ≡ true
-  taking_at [] i t e found = absurd (nothing found)
-    where
-      nothing : None ≡ Some t → ⊥
-      nothing none = cc
+  taking_at [] i t e found = cc
   taking_at (first ∷ list) zero t e found =
       let same : first ≡ t = cc in
       subst (λ one. takes_packets q one ≡ true) same (and_parts (takes_packets q first) (list_all (takes_packets q) list) e).0
@@ -152,4 +149,4 @@ module _ (q : TypedQuery) where
 
   pub text_kept : is_plain q ≡ true → (g : Geometry) (packets : List (List ℕ)) → AreWhole packets
       → query_text q g (map (zeroed (reads_of q) all_fields) packets) ≡ query_text q g packets
-  text_kept all g packets whole = text_same g _ packets (λ i. uses_kept all i _ whole)
+  text_kept all g packets whole = text_same g _ _ (λ i. uses_kept all i _ whole)

@@ -14,12 +14,12 @@ pub record IsWritten (text : List ℕ) (before after : Made) : Type 0 where
   pub text_is : text ≡ ended all
   pub make : Make all before after
 
-pub nothing_written : (before after : Made) → after ≡ before → IsWritten [] before after
-nothing_written before after e = record { all = []; each = tt; text_is = refl; make = e }
+pub nothing_written : {before after : Made} → after ≡ before → IsWritten [] before after
+nothing_written e = record { all = []; each = tt; text_is = refl; make = e }
 
-pub written_then : (a b : List ℕ) (before mid after : Made) → IsWritten a before mid → IsWritten b mid after
+pub written_then : {a : List ℕ} (b : List ℕ) {before mid after : Made} → IsWritten a before mid → IsWritten b mid after
     → IsWritten (a ++ b) before after
-written_then a b before mid after p q = record {
+written_then b p q = record {
   all = p.all ++ q.all;
   each = lines_append _ _ p.each q.each;
   text_is = ap (λ t. t ++ b) p.text_is ∙ ap (λ t. ended p.all ++ t) q.text_is ∙ sym (flat_map-append (λ one. one ++ 10 ∷ []) _ _);
@@ -27,10 +27,10 @@ written_then a b before mid after p q = record {
 }
 
 -- one line of these words
-pub line_written : (word : LineWord) (first : List ℕ) (words : List (List ℕ)) (before after : Made) → is_token first ≡ true
+pub line_written : {word : LineWord} {first : List ℕ} (words : List (List ℕ)) {before after : Made} → is_token first ≡ true
     → AreTokens words → word_named first ≡ word → (tokens (first ++ spaced words) ≡ first ∷ words
     → IsLineOf word before (first ++ spaced words) after) → IsWritten (line first words) before after
-line_written word first words before after t are named valid = record {
+line_written {first} words {before} {after} t are named valid = record {
   all = (first ++ spaced words) ∷ [];
   each = (none_in_line first words t are, tt);
   text_is = sym (append_assoc first (spaced words) (10 ∷ [])) ∙ sym (append-nil ((first ++ spaced words) ++ 10 ∷ []));
