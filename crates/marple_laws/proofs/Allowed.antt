@@ -1,23 +1,21 @@
 -- The operations of a query's plan are allowed in sequence, and its groupbys after them.
-use Rattle.marple_laws.proofs.Words.{◌≡◌, ℕ, zero, suc, ◌+◌, ◌-◌, ◌<◌, ◌≤◌, Bool, true, false, List, [], ◌∷◌, ◌++◌, length, take, Some}
-use Rattle.marple_laws.proofs.Words.{None, Option, refl, sym, ap, subst, ◌∙◌, inl, inr, arith, option_map, unwrap_or, if◌then◌else◌}
-use Rattle.marple_laws.proofs.Words.{range_with_len, length-take-le, length-map, slice_get_within, slice_get_cases, slice_get-map}
-use Rattle.marple_laws.proofs.Words.{get_or_from_slice_get, same_Some, FIELDS, TypedFold, TypedOp, TypedQuery, TypedStream, IsValidFold}
-use Rattle.marple_laws.proofs.Words.{fold_states, Taking, takings, IsValidQuery, IsProgramOf, GroupPlan, Operand, Register, Number, PlanOp}
-use Rattle.marple_laws.proofs.Words.{FieldSource, reads_of, all_sources, sources_at, named_input, named_slots, moved, moved_op, op_numbered}
-use Rattle.marple_laws.proofs.Words.{wiring_of, IsPlanOf, fold_at, query_made, operand_stage, stages_of, GroupShape, group_shape}
-use Rattle.marple_laws.proofs.Words.{query_groups, PlanParts, IsWithin, IsSoundOp, AreSoundOps, IsSoundGroup, IsSoundPlan, ordered, op_at}
-use Rattle.marple_laws.proofs.Words.{stage_at, stage_of, last_stage, query_order, register_in, query_registers, query_ops, query_wiring}
-use Rattle.marple_laws.proofs.Words.{fields_of, ops_are, wiring_is, IsNamedWell, HasPlanText}
-use Rattle.std.specs.Prelude.{map, slice_get, nat_lt}
+use Rattle.marple_laws.proofs.{Fields.{operand_fits, operand_known, operand_readable, operands_readable}, GroupSizes.depth_below}
+use Rattle.marple_laws.proofs.{Groups.HasGroup, Items.mapped_at, Known.{AllGood, AreFrom, AreRead, IsWritable, column_good, read_left}}
+use Rattle.marple_laws.proofs.{Known.{read_right, writable_at}, KnownStreams.{AllAreGood, AreFit, AreNamed, named_from, query_good}}
+use Rattle.marple_laws.proofs.{Listed.in_set, Moved.{AreAfterFields, moved_good, moved_writable, op_from}, OpLines.IsOpOk}
+use Rattle.marple_laws.proofs.{TakenFolds.taken_fold, Words.{AreSoundOps, Bool, FIELDS, FieldSource, GroupPlan, GroupShape, HasPlanText}}
+use Rattle.marple_laws.proofs.Words.{IsNamedWell, IsPlanOf, IsProgramOf, IsSoundGroup, IsSoundOp, IsSoundPlan, IsValidFold, IsValidQuery}
+use Rattle.marple_laws.proofs.Words.{IsWithin, List, None, Number, Operand, Option, PlanOp, PlanParts, Register, Some, Taking, TypedFold}
+use Rattle.marple_laws.proofs.Words.{TypedOp, TypedQuery, TypedStream, [], all_sources, ap, arith, false, fields_of, fold_at, fold_states}
+use Rattle.marple_laws.proofs.Words.{get_or_from_slice_get, group_shape, if◌then◌else◌, inl, inr, last_stage, length, length-map}
+use Rattle.marple_laws.proofs.Words.{length-take-le, moved, named_input, named_slots, operand_stage, ops_are, option_map, ordered}
+use Rattle.marple_laws.proofs.Words.{query_groups, query_made, query_ops, query_order, query_registers, query_wiring, range_with_len}
+use Rattle.marple_laws.proofs.Words.{reads_of, refl, register_in, same_Some, slice_get-map, slice_get_cases, slice_get_within, sources_at}
+use Rattle.marple_laws.proofs.Words.{stage_at, stage_of, subst, suc, sym, take, takings, true, unwrap_or, wiring_is, wiring_of, zero, ℕ}
+use Rattle.marple_laws.proofs.Words.{◌++◌, ◌+◌, ◌-◌, ◌<◌, ◌∙◌, ◌∷◌, ◌≡◌, ◌≤◌}
+use Rattle.std.specs.Prelude.{map, nat_lt, slice_get}
 use Rattle.query_lang.specs.declared.typed.TypedOp.TheVariants as op
-use Rattle.stage_plan.{specs.Making.{operand_at, wires_at}, proofs.Groupings.depth_is}
-use Rattle.marple_laws.proofs.{Fields.{operand_known, operand_fits, operand_readable, operands_readable}, Groups.HasGroup, Listed.in_set}
-use Rattle.marple_laws.proofs.Known.{AreFrom, AreRead, AllGood, IsWritable, column_good, read_left, read_right, writable_at}
-use Rattle.marple_laws.proofs.KnownStreams.{AreFit, AreNamed, AllAreGood, named_from, query_good}
-use Rattle.marple_laws.proofs.{GroupSizes.depth_below, Moved.{AreAfterFields, mapped_at, moved_good, moved_writable, op_from}}
-use Rattle.marple_laws.proofs.{OpLines.IsOpOk}
-use Rattle.marple_laws.proofs.TakenFolds.{taken_fold}
+use Rattle.stage_plan.{proofs.Groupings.depth_is, specs.Making.{operand_at, wires_at}}
 
 -- a prefix of a list
 
@@ -46,15 +44,14 @@ last_before : {ops : List PlanOp} (i : ℕ) (one : PlanOp) → AreSoundOps ops �
     → last_stage (take i ops) ≤ one.stage
 last_before zero one sound e = omega arith
 last_before {ops} (suc j) one sound e =
-    let within : suc j < length ops = slice_get_within ops (suc j) one e in
-    let long : length (take (suc j) ops) ≡ suc j = length-take-le (suc j) ops (omega (arith, within)) in
+    let long : length (take (suc j) ops) ≡ suc j = length-take-le (suc j) ops (omega (arith, slice_get_within)) in
     let at : length (take (suc j) ops) - 1 ≡ j = omega (arith, long) in
     elim ((slice_get_cases ops j).1) [
       | inl found ↦
           let last : last_stage (take (suc j) ops) ≡ found.0.stage = ap (λ n. stage_at (slice_get (take (suc j) ops) n)) at
           ∙ ap stage_at (front_at ops (suc j) j (omega arith) ∙ found.2) in
           omega (arith, last, sound.ordered j (suc j) found.0 one (omega arith) found.2 e)
-      | inr past ↦ (let p = past.0 in absurd (omega (arith, within)))
+      | inr past ↦ (let p = past.0 in absurd (omega (arith, slice_get_within)))
     ]
 
 module _ (q : TypedQuery) (p : PlanParts) (valid : IsValidQuery q) (text : HasPlanText q) (plan : IsPlanOf q p) (sound : IsSoundPlan p)
@@ -222,7 +219,7 @@ module _ (q : TypedQuery) (p : PlanParts) (valid : IsValidQuery q) (text : HasPl
         → HasGroup (fields_of (reads_of q)) (query_ops q) shape (query_wiring q) (fold_at q) i
     group_ok i shape e =
         let g = mapped_at group_shape p.groups i shape (ap (λ l. slice_get l i) shapes_are ∙ e) in
-        let inside : i < length (takings q.streams) = (let l = slice_get_within p.groups i g.0 g.1 in omega (arith, l, plan.groups)) in
+        let inside : i < length (takings q.streams) = (omega (arith, slice_get_within, plan.groups)) in
         let one = taken_fold valid inside in
         subst (λ s. HasGroup (fields_of (reads_of q)) (query_ops q) s (query_wiring q) (fold_at q) i) g.2
         (has_group i g.0 one.taking one.fold g.1 one.taken one.at one.found (subst IsNamedWell (sym g.2) (text.groups i shape e)))

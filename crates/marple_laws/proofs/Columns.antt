@@ -3,7 +3,8 @@ use Rattle.marple_laws.proofs.Words.{◌≡◌, ℕ, zero, suc, ◌+◌, Bool, t
 use Rattle.marple_laws.proofs.Words.{refl, sym, ap, subst, ◌∙◌, inl, inr, arith, nat_eq, nat_lt, if◌then◌else◌, list_any, cons_option}
 use Rattle.marple_laws.proofs.Words.{NameTaken, OverLimit, States, Keys, Span, TypedFold, FoldDef, Name, FoldView, must, is_among}
 use Rattle.marple_laws.proofs.Words.{place_from, place_of, collected, slot_at, slot_of, MAX_KEYS, MAX_STATES, AreNew}
-use Rattle.marple_laws.proofs.{Items.{must_ok, must_not_ok, found_first, same_ok, IsIn, not_in, new_push, apart_from}, Differ.AreApart}
+use Rattle.marple_laws.proofs.Items.{must_ok, must_not_ok, found_first, same_ok, IsIn, mapped_at, not_in, new_push, apart_from}
+use Rattle.marple_laws.proofs.Differ.{AreApart}
 use Rattle.std.specs.Prelude.{map, slice_get}
 use Rattle.query_lang.specs.declared.{query.StateVar.StateVar, typing.{Picked.Picked, StreamColumn.StreamColumn}}
 use Rattle.query_lang.specs.TypedFolds.{states_from, args_from, body_checked, fold_checked}
@@ -12,7 +13,7 @@ use Rattle.query_lang.specs.TypedStreams.{column_names, columns_at, keys_from, a
 -- the state variables of a fold
 
 states_new : (found : List ℕ) (states : List StateVar) {all : List ℕ} → AreNew [] found → states_from found states ≡ Ok all → AreNew [] all
-states_new found [] {all} new e = subst (AreNew []) (same_ok e) new
+states_new found [] new e = subst (AreNew []) (same_ok e) new
 states_new found (s ∷ states) {all} new e =
     let a = must_not_ok (is_among s.name.id found) NameTaken s.name.span
     (must (nat_lt (length found) MAX_STATES) (OverLimit States) s.name.span (states_from (found ++ s.name.id ∷ []) states)) e in
@@ -82,20 +83,13 @@ keys_new columns hidden found (key ∷ keys) all k e =
     }) b.1
 
 -- the columns at the slots have the names of the keys
-named_at : (columns : List StreamColumn) (slot name : ℕ) → slice_get (column_names columns) slot ≡ Some name → (c : StreamColumn)
-    × (slice_get columns slot ≡ Some c) × (c.name ≡ name)
-named_at [] slot name e = cc
-named_at (c ∷ columns) zero name e = let n : c.name ≡ name = cc in (c, refl, n)
-named_at (c ∷ columns) (suc slot) name e = named_at columns slot name e
-
 picked_names : (columns : List StreamColumn) (slots names : List ℕ) → ArePicked (column_names columns) slots names
     → column_names (columns_at columns slots) ≡ names
 picked_names columns [] [] p = refl
 picked_names columns (slot ∷ slots) (name ∷ names) p =
-    let c = named_at columns slot name p.0 in
+    let c = mapped_at (λ (c : StreamColumn). c.name) columns slot name p.0 in
     ap (λ o. column_names (cons_option o (columns_at columns slots))) c.1
-    ∙ ap (λ n. n ∷ column_names (columns_at columns slots)) c.2
-    ∙ ap (λ l. name ∷ l) (picked_names columns slots names p.1)
+    ∙ (λ k. c.2 k ∷ picked_names columns slots names p.1 k)
 picked_names columns [] (name ∷ names) p = absurd p
 picked_names columns (slot ∷ slots) [] p = absurd p
 

@@ -2,7 +2,7 @@
 use Rattle.marple_laws.proofs.Words.{◌≡◌, ℕ, zero, suc, Bool, true, false, ◌||◌, List, [], ◌∷◌, ◌++◌, Some, Ok, Err, refl, sym, ap, subst}
 use Rattle.marple_laws.proofs.Words.{◌∙◌, inl, inr, ◌⊎◌, arith, nat_eq, append_assoc, append-nil, Contains, Span, Checked, and_then, must}
 use Rattle.marple_laws.proofs.{Words.{must_not, is_among, AreNew}, Differ.AreApart}
-use Rattle.std.specs.Prelude.{slice_get}
+use Rattle.std.specs.Prelude.{map, slice_get}
 use Rattle.query_lang.specs.declared.fault.FaultKind.{FaultKind}
 
 pub must_ok : {A : Type 0} (test : Bool) (kind : FaultKind) (span : Span) {next : Checked A} (x : A) → must test kind span next ≡ Ok x
@@ -37,6 +37,13 @@ pub in_at : {A : Type 0} (xs : List A) (i : ℕ) (x : A) → slice_get xs i ≡ 
 in_at [] i x e = cc
 in_at (y ∷ xs) zero x e = inl (let s : y ≡ x = cc in sym s)
 in_at (y ∷ xs) (suc i) x e = inr (in_at xs i x e)
+
+-- what an item of a mapped list was
+pub mapped_at : {A B : Type 0} (f : A → B) (xs : List A) (k : ℕ) (y : B) → slice_get (map f xs) k ≡ Some y
+    → (x : A) × (slice_get xs k ≡ Some x) × (f x ≡ y)
+mapped_at f [] k y e = cc
+mapped_at f (x ∷ xs) zero y e = (x, refl, cc)
+mapped_at f (x ∷ xs) (suc k) y e = mapped_at f xs k y e
 
 pub in_push : {A : Type 0} (xs : List A) (y x : A) → IsIn x (xs ++ y ∷ []) → IsIn x xs ⊎ (x ≡ y)
 in_push [] y x (inl e) = inr e

@@ -1,13 +1,12 @@
 -- It still holds where the operations are put into the order of their stages.
 use Rattle.marple_laws.proofs.Words.{◌≡◌, ℕ, zero, suc, ◌-◌, ◌≤◌, Bool, true, false, List, [], ◌∷◌, Some, None, Option, refl, ap, sym, ◌∙◌}
-use Rattle.marple_laws.proofs.Words.{arith}
-use Rattle.marple_laws.proofs.Words.{if◌then◌else◌, TypedQuery, op_numbered, query_made, stages_of, op_at, ordered, query_ops, query_order}
-use Rattle.marple_laws.proofs.Words.{FieldSet, FIELDS, Op, Operation, Operand, Register, Number, Not, Two, PlanOp, moved, moved_op}
-use Rattle.marple_laws.proofs.Words.{query_registers, register_or_none, is_right_of, takes_right}
+use Rattle.marple_laws.proofs.Words.{arith, if◌then◌else◌, TypedQuery, op_numbered, query_made, stages_of, op_at, ordered, query_ops}
+use Rattle.marple_laws.proofs.Words.{query_order, FieldSet, FIELDS, Op, Operation, Operand, Register, Number, Not, Two, PlanOp, moved}
+use Rattle.marple_laws.proofs.Words.{moved_op, query_registers, register_or_none, is_right_of, takes_right}
 use Rattle.std.specs.Prelude.{map, nat_lt, slice_get}
 use Rattle.query_lang.specs.declared.fold.Op.TheVariants as two
 use Rattle.stage_plan.specs.declared.op.Operation as operation
-use Rattle.marple_laws.proofs.Known.{IsGood, IsSingle, IsWritable, below_two}
+use Rattle.marple_laws.proofs.{Items.mapped_at, Known.{IsGood, IsSingle, IsWritable, below_two}}
 
 -- what is moved with the registers of operations
 
@@ -53,13 +52,6 @@ moved_writable {reads} registers one beyond w = record {
   constant = moved_right registers one.op one.right w.constant;
   single = moved_single registers one.op one.right w.single;
 }
-
--- what an item of a mapped list was
-pub mapped_at : {A B : Type 0} (f : A → B) (xs : List A) (k : ℕ) (y : B) → slice_get (map f xs) k ≡ Some y
-    → (x : A) × (slice_get xs k ≡ Some x) × (f x ≡ y)
-mapped_at f [] k y e = cc
-mapped_at f (x ∷ xs) zero y e = (x, refl, cc)
-mapped_at f (x ∷ xs) (suc k) y e = mapped_at f xs k y e
 
 -- an operation of the plan was made for the query, and moved
 pub op_from : (q : TypedQuery) (i : ℕ) (one : PlanOp) → slice_get (query_ops q) i ≡ Some one

@@ -1,22 +1,23 @@
 -- The text of a query's plan is not too long.
 use Rattle.marple_laws.proofs.Words.{◌≡◌, ℕ, zero, suc, ◌+◌, ◌-◌, ◌*◌, ◌^◌, ◌<◌, ◌≤◌, Bool, true, false, cond, List, [], ◌∷◌, ◌++◌, length}
-use Rattle.marple_laws.proofs.Words.{Option, Some, None, refl, sym, ap, subst, ◌∙◌, inl, inr, arith, All, codes, decimal, flat_map}
+use Rattle.marple_laws.proofs.Words.{Option, Some, None, refl, sym, ap, subst, inl, inr, arith, All, codes, decimal, flat_map}
 use Rattle.marple_laws.proofs.Words.{option_and_then, option_map, ◌==◌, if◌then◌else◌, range_with_len, eqb-false, nat_tests, length-map}
-use Rattle.marple_laws.proofs.Words.{All-head, All-tail, prefix_len-le-length, same_Some, slice_get-map, Field, FieldSet, all_fields}
-use Rattle.marple_laws.proofs.Words.{field_name, has_field, FIELDS, TypedFold, PrintOf, TypedOp, TypedQuery, TypedStream, IsValidFold}
-use Rattle.marple_laws.proofs.Words.{Taking, takings, AreValidStreams, HasNames, IsQueryTable, IsValidOp, IsValidQuery, MAX_GROUPBYS}
-use Rattle.marple_laws.proofs.Words.{MAX_KEYS, depth_of, Operand, Register, Number, PlanOp, FieldSource, all_sources, reads_of, sources_at}
-use Rattle.marple_laws.proofs.Words.{moved, moved_op, op_numbered, register_or_none, wiring_of, fold_at, query_made, stages_of, GroupShape}
-use Rattle.marple_laws.proofs.Words.{query_groups, shape_made, text_at, op_at, ordered, MAX_PLAN, query_ops, query_order, query_registers}
-use Rattle.marple_laws.proofs.Words.{query_wiring, register_in, compiled_text, fields_of, group_lines_of, group_text, op_line, print_line}
-use Rattle.marple_laws.proofs.Words.{reads_line, spaced, line, AllWords, AreNew, IsNamedWell}
+use Rattle.marple_laws.proofs.Words.{All-tail, prefix_len-le-length, same_Some, slice_get-map, Field, FieldSet, field_name, has_field}
+use Rattle.marple_laws.proofs.Words.{FIELDS, TypedFold, PrintOf, TypedOp, TypedQuery, TypedStream, IsValidFold, Taking, takings}
+use Rattle.marple_laws.proofs.Words.{AreValidStreams, HasNames, IsQueryTable, IsValidOp, IsValidQuery, MAX_GROUPBYS, MAX_KEYS, depth_of}
+use Rattle.marple_laws.proofs.Words.{Operand, Register, Number, PlanOp, FieldSource, all_sources, reads_of, sources_at, moved, moved_op}
+use Rattle.marple_laws.proofs.Words.{op_numbered, register_or_none, wiring_of, fold_at, query_made, GroupShape, query_groups, shape_made}
+use Rattle.marple_laws.proofs.Words.{text_at, MAX_PLAN, query_ops, query_order, query_registers, query_wiring, register_in, compiled_text}
+use Rattle.marple_laws.proofs.Words.{fields_of, group_lines_of, group_text, op_line, print_line, reads_line, spaced, line, AllWords, AreNew}
+use Rattle.marple_laws.proofs.Words.{IsNamedWell}
 use Rattle.std.{specs.Prelude.{filter, map, nat_eq, nat_lt, not, slice_get}, proofs.lemmas.List.length-append}
 use Rattle.query_lang.specs.declared.typed.PrintOf.TheVariants as place
 use Rattle.query_lang.specs.declared.typed.TypedOp.TheVariants as typed
 use Rattle.stage_plan.specs.{Depths.stage_fault, Making.{operand_at, wires_at}}
 use Rattle.marple_laws.proofs.{Known.{AreFrom, IsFrom, IsGood, IsWritable, writable_at}, KnownStreams.{AllAreGood, AreFit, query_good}}
-use Rattle.marple_laws.proofs.{OpLines.Fits, Items.IsIn, Prints.AreGroups, Texts.{IsMadeBy, all_at, group_from, made_by, stream_below}}
-use Rattle.marple_laws.proofs.{Differ.HasOwnColumns, Counts.{few_ops, made_of_query}, Moved.{mapped_at, op_from}}
+use Rattle.marple_laws.proofs.{OpLines.Fits, Items.{IsIn, mapped_at}, Prints.AreGroups, Texts.{IsMadeBy, all_at, group_from, made_by}}
+use Rattle.marple_laws.proofs.Texts.{stream_below}
+use Rattle.marple_laws.proofs.{Differ.HasOwnColumns, Counts.{few_ops, made_of_query}, Moved.op_from}
 use Rattle.marple_laws.proofs.LineSizes.{after_size, decimal_size, line_size, op_size}
 use Rattle.marple_laws.proofs.NameSizes.{columns_total, field_size, group_names_total, taken, texts_in, total, weigh}
 use Rattle.marple_laws.proofs.GroupSizes.{AllFit, IsLimited, group_size, groups_size, shallow, taking_few}
@@ -33,27 +34,24 @@ fields_size reads (f ∷ fields) = go (has_field reads f) (fields_size reads fie
         * length (f ∷ fields)
     go true h =
         let a = after_size (field_name f) (map field_name (filter (has_field reads) fields)) in
-        let s = field_size f in
-        omega (arith, h, a, s)
+        omega (arith, h, a, field_size)
     go false h = omega (arith, h)
 
 reads_size : (reads : FieldSet) → length (reads_line reads) ≤ 174
 reads_size reads =
     let n = line_size (codes "reads") (map field_name (fields_of reads)) in
-    let h = fields_size reads all_fields in
-    omega (arith, n, h)
+    omega (arith, n, fields_size)
 
 prints_size : (q : TypedQuery) → length (takings q.streams) ≤ MAX_GROUPBYS → (prints : List PrintOf) → All (IsQueryTable q) prints
     → length (flat_map print_line prints) ≤ 27 * length prints
 prints_size q few [] all = omega arith
 prints_size q few (place.Group i ∷ prints) all =
-    let lt : i < length (takings q.streams) = All-head (IsQueryTable q) (place.Group i) prints all in
+    let lt : i < length (takings q.streams) = all 0 (place.Group i) (omega arith) in
     let n = length-append (line (codes "print") (decimal i ∷ [])) (flat_map print_line prints) in
     let l = line_size (codes "print") (decimal i ∷ []) in
     let b = after_size (decimal i) [] in
-    let d = decimal_size i (omega (arith, lt, few)) in
     let h = prints_size q few prints (All-tail (IsQueryTable q) (place.Group i) prints all) in
-    omega (arith, n, l, b, d, h)
+    omega (arith, n, l, b, decimal_size, h)
 prints_size q few (place.Final i ∷ prints) all =
     let h = prints_size q few prints (All-tail (IsQueryTable q) (place.Final i) prints all) in
     omega (arith, h)
@@ -76,14 +74,14 @@ in_up i (suc n) lt = go (nat_eq i n) refl (in_up i n)
   where
     go : (b : Bool) → nat_eq i n ≡ b → (i < n → IsIn (place.Group i) (up n)) → IsIn (place.Group i) (up (suc n))
     go true e more = let same : i ≡ n = grind (arith, nat_tests) in inl (ap place.Group same)
-    go false e more = let other = eqb-false i n e in inr (more (omega (arith, lt, other)))
+    go false e more = inr (more (omega (arith, lt, eqb-false)))
 
 prints_in : (q : TypedQuery) (prints : List PrintOf) → All (IsQueryTable q) prints → AreGroups prints → (p : PrintOf) → IsIn p prints
     → IsIn p (up (length (takings q.streams)))
 prints_in q [] all are p i = absurd i
 prints_in q (place.Group n ∷ prints) all are p (inl e) =
     subst (λ x. IsIn x (up (length (takings q.streams)))) (sym e) (in_up n (length (takings q.streams))
-    (All-head (IsQueryTable q) (place.Group n) prints all))
+    (all 0 (place.Group n) (omega arith)))
 prints_in q (place.Group n ∷ prints) all are p (inr i) = prints_in q prints (All-tail (IsQueryTable q) (place.Group n) prints all) are p i
 prints_in q (place.Final n ∷ prints) all are p i = absurd are
 
@@ -299,9 +297,6 @@ module _ (q : TypedQuery) (v : IsValidQuery q) (staged : stage_fault q ≡ None)
         → length (compiled_text q) ≤ MAX_PLAN
     unfolding compiled_text
     text_size names are new =
-        let first : length (line (codes "marple-plan") (codes "1" ∷ [])) ≤ 14 =
-        (let n = line_size (codes "marple-plan") (codes "1" ∷ []) in let b = after_size (codes "1") [] in omega (arith, n, b)) in
-        let reads = reads_size (reads_of q) in
         let ops = ops_size (query_ops q) each_op in
         let groups = groups_size (group_text q) (query_groups q) 0 (length (takings q.streams))
         (λ i shape e. subst (λ m. length (group_text q m) ≤ 79690 + length shape.name) (omega arith) (each_group i shape e))
@@ -311,14 +306,9 @@ module _ (q : TypedQuery) (v : IsValidQuery q) (staged : stage_fault q ≡ None)
         let op_lines : List ℕ = flat_map op_line (query_ops q) in
         let group_texts : List ℕ = flat_map (group_text q) (range_with_len 0 (length (takings q.streams))) in
         let print_lines : List ℕ = flat_map print_line q.prints in
-        let a = length-append group_texts print_lines in
-        let b = length-append op_lines (group_texts ++ print_lines) in
         let c = length-append (reads_line (reads_of q)) (op_lines ++ (group_texts ++ print_lines)) in
         let d : length (compiled_text q) ≡ length first_line + length (reads_line (reads_of q)
         ++ (op_lines ++ (group_texts ++ print_lines))) =
         length-append first_line (reads_line (reads_of q) ++ (op_lines ++ (group_texts ++ print_lines))) in
-        let few = few_ops v staged in
-        let most = v.most_groupbys in
-        let printed = few_prints q v are new in
         let together = group_names_total q.names q.folds q.streams v.streams names in
-        omega (arith, first, reads, ops, groups, prints, a, b, c, d, few, most, printed, together, short)
+        omega (arith, line_size, reads_size, ops, groups, prints, length-append {A = ℕ}, c, d, few_ops, few_prints, together, short)
