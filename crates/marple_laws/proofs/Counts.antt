@@ -1,10 +1,9 @@
 -- The most operations that the plan of a query has.
 use Rattle.marple_laws.proofs.Words.{◌≡◌, ℕ, ◌+◌, ◌*◌, ◌≤◌, List, [], ◌∷◌, ◌++◌, length, Option, Some, None, refl, ap, ◌∙◌, arith, All}
-use Rattle.marple_laws.proofs.Words.{flat_map, fold, replicate, sum_by, flat_map-append, length-map, sum_by-cons, TypedExpr, TypedFold}
-use Rattle.marple_laws.proofs.Words.{TypedOp, TypedQuery, TypedStream, IsValidEmit, IsValidFold, term_nodes, Term, Literal, Read, Negation}
-use Rattle.marple_laws.proofs.Words.{Operation, term_of, AreValidStreams, IsValidOp, IsValidQuery, MAX_NODES, query_made, stages_of, PlanOp}
-use Rattle.marple_laws.proofs.Words.{QueryMade, query_fault, order_long, query_ops, query_order, query_registers, made_staged, moved_op}
-use Rattle.marple_laws.proofs.Words.{op_numbered}
+use Rattle.marple_laws.proofs.Words.{flat_map, fold, sum_by, flat_map-append, length-map, sum_by-cons, TypedExpr, TypedFold, TypedOp}
+use Rattle.marple_laws.proofs.Words.{TypedQuery, TypedStream, IsValidEmit, IsValidFold, term_nodes, Term, Literal, Read, Negation}
+use Rattle.marple_laws.proofs.Words.{Operation, term_of, AreValidStreams, IsValidOp, IsValidQuery, query_made, stages_of, PlanOp, QueryMade}
+use Rattle.marple_laws.proofs.Words.{query_fault, order_long, query_ops, query_order, query_registers, made_staged, moved_op, op_numbered}
 use Rattle.std.{specs.Prelude.{IfSome, map, max, slice_get}, proofs.lemmas.List.length-append}
 use Rattle.query_lang.specs.declared.typed.TypedOp.TheVariants as typed
 use Rattle.stage_plan.specs.Depths.{StreamDepths, depths_at, depths_made, emit_depths, group_depths, joined_depths, packet_depths}
@@ -16,42 +15,30 @@ term_few : (columns : List ℕ) (t : Term) → length (term_depths columns t) �
 term_few columns (Literal n) = omega arith
 term_few columns (Read s) = omega arith
 term_few columns (Negation e) =
-    let n = length-append (term_depths columns e) ((1 + term_depth columns e) ∷ []) in
     let h = term_few columns e in
-    omega (arith, n, h)
+    omega (arith, length-append {A = ℕ}, h)
 term_few columns (Operation op a b) =
     let last : List ℕ = (1 + max (term_depth columns a) (term_depth columns b)) ∷ [] in
-    let n = length-append (term_depths columns a) (term_depths columns b ++ last) in
-    let m = length-append (term_depths columns b) last in
     let one : length last ≡ 1 = refl in
     let h = term_few columns a in
     let k = term_few columns b in
-    omega (arith, n, m, one, h, k)
+    omega (arith, length-append {A = ℕ}, one, h, k)
 
 values_few : (columns : List ℕ) (values : List TypedExpr)
     → length (flat_map (λ e. term_depths columns (term_of e)) values) ≤ sum_by (λ e. term_nodes (term_of e)) values
 values_few columns [] = omega arith
 values_few columns (e ∷ values) =
-    let n = length-append (term_depths columns (term_of e)) (flat_map (λ e. term_depths columns (term_of e)) values) in
-    let s = sum_by-cons (λ (e : TypedExpr). term_nodes (term_of e)) e values in
-    let h = term_few columns (term_of e) in
     let k = values_few columns values in
-    omega (arith, n, s, h, k)
+    omega (arith, length-append {A = ℕ}, sum_by-cons, term_few, k)
 
 joined_few : (over : List ℕ) (c : Term) (present : ℕ) (columns : List ℕ)
     → length (joined_depths over c present columns).operations ≤ term_nodes c + 1
-joined_few over c present columns =
-    let n = length-append (term_depths over c) ((1 + max present (term_depth over c)) ∷ []) in
-    let h = term_few over c in
-    omega (arith, n, h)
+joined_few over c present columns = omega (arith, length-append {A = ℕ}, term_few)
 
 emit_few : (o : Option TypedExpr) (states args initial : ℕ) (over : List ℕ) (present : ℕ) (columns : List ℕ)
     → IfSome o (λ e. IsValidEmit states args (term_of e)) → length (emit_depths o initial over present columns).operations ≤ 641
 emit_few None states args initial over present columns h = omega arith
-emit_few (Some c) states args initial over present columns h =
-    let j = joined_few (replicate initial 0 ++ over) (term_of c) present columns in
-    let n : term_nodes (term_of c) ≤ 640 = h.nodes in
-    omega (arith, j, n)
+emit_few (Some c) states args initial over present columns h = omega (arith, joined_few)
 
 group_few : (o : Option TypedFold) (input : StreamDepths) (keys args : List ℕ) → ((f : TypedFold) → o ≡ Some f → IsValidFold f)
     → length (group_depths o input keys args).operations ≤ 641
@@ -60,15 +47,10 @@ group_few (Some f) input keys args valid = emit_few _ _ _ _ _ _ _ (valid f refl)
 
 made_few : (folds : List TypedFold) → All IsValidFold folds → (before : List TypedStream) (width : ℕ) (op : TypedOp)
     → IsValidOp folds before width op → (streams : List StreamDepths) → length (depths_made folds streams op).operations ≤ 641
-made_few folds valid before width (typed.Filter input condition) v streams =
-    let j = joined_few (depths_at streams input).columns (term_of condition) (depths_at streams input).present
-    (depths_at streams input).columns in
-    let n : term_nodes (term_of condition) ≤ MAX_NODES = v.1.0.1 in
-    omega (arith, j, n)
+made_few folds valid before width (typed.Filter input condition) v streams = omega (arith, joined_few)
 made_few folds valid before width (typed.Map input values) v streams =
     let j = values_few (depths_at streams input).columns values in
-    let n : sum_by (λ e. term_nodes (term_of e)) values ≤ MAX_NODES = v.1.1 in
-    omega (arith, j, n)
+    omega (arith, j)
 made_few folds valid before width (typed.Zip left right slots) v streams = omega arith
 made_few folds valid before width (typed.Group input keys f args) v streams =
     group_few (slice_get folds f) (depths_at streams input) keys args (λ g e. all_at IsValidFold folds f g valid e)
@@ -86,10 +68,7 @@ counted folds valid names before (one ∷ list) v depths =
     let rest = counted folds valid names (before ++ one ∷ []) list v.1 (depths ++ made ∷ []) in
     let few = made_few folds valid before (length one.columns) one.op v.0.operator depths in
     let n = ap length (flat_map-append (λ (d : StreamDepths). d.operations) depths (made ∷ [])) in
-    let m = length-append (flat_map (λ (d : StreamDepths). d.operations) depths)
-    (flat_map (λ (d : StreamDepths). d.operations) (made ∷ [])) in
-    let o = length-append made.operations [] in
-    omega (arith, rest, few, n, m, o)
+    omega (arith, rest, few, n, length-append {A = ℕ})
 
 few_depths : {q : TypedQuery} → IsValidQuery q → length (query_depths q) ≤ 20512
 few_depths v =

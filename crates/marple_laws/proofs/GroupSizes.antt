@@ -1,15 +1,14 @@
 -- The greatest length of the lines of a plan's groupbys.
-use Rattle.marple_laws.proofs.Words.{◌≡◌, ℕ, zero, suc, ◌+◌, ◌*◌, ◌≤◌, Bool, true, false, List, [], ◌∷◌, ◌++◌, length, Option, Some, None}
-use Rattle.marple_laws.proofs.Words.{refl, subst, arith, All, codes, decimal, flat_map, option_map, if◌then◌else◌, cons_option}
-use Rattle.marple_laws.proofs.Words.{range_with_len, same_Some, TypedFold, Class, TypedOp, TypedStream, IsValidFold, fold_args, fold_block}
-use Rattle.marple_laws.proofs.Words.{fold_states, Taking, taking_of, takings, AreValidStreams, IsValidOp, MAX_ARGS, MAX_KEYS, MAX_NODES}
-use Rattle.marple_laws.proofs.Words.{MAX_STATEMENTS, MAX_STATES, depth_of, least_from, GroupWiring, Operand, GroupShape, class_word}
-use Rattle.marple_laws.proofs.Words.{group_lines, named_lines, block_words, line, operand_word, AllWords}
-use Rattle.std.{specs.Prelude.{map, slice_get}, proofs.lemmas.List.length-append}
+use Rattle.marple_laws.proofs.{LineSizes.{after_size, block_size, decimal_size, line_size, operand_size}, NameSizes.total, OpLines.Fits}
+use Rattle.marple_laws.proofs.{Texts.all_at, Words.{All, AllWords, AreValidStreams, Bool, Class, GroupShape, GroupWiring, IsValidFold}}
+use Rattle.marple_laws.proofs.Words.{IsValidOp, List, MAX_ARGS, MAX_KEYS, MAX_NODES, MAX_STATEMENTS, MAX_STATES, None, Operand, Option}
+use Rattle.marple_laws.proofs.Words.{Some, Taking, TypedFold, TypedOp, TypedStream, [], arith, block_words, class_word, codes, cons_option}
+use Rattle.marple_laws.proofs.Words.{decimal, depth_of, false, flat_map, fold_args, fold_block, fold_states, group_lines, if◌then◌else◌}
+use Rattle.marple_laws.proofs.Words.{least_from, length, line, named_lines, operand_word, option_map, range_with_len, refl, same_Some}
+use Rattle.marple_laws.proofs.Words.{subst, suc, taking_of, takings, true, zero, ℕ, ◌*◌, ◌++◌, ◌+◌, ◌∷◌, ◌≡◌, ◌≤◌}
+use Rattle.std.{proofs.lemmas.List.length-append, specs.Prelude.{map, slice_get}}
 use Rattle.query_lang.specs.declared.typed.Class.TheVariants as class
 use Rattle.query_lang.specs.declared.typed.TypedOp.TheVariants as typed
-use Rattle.marple_laws.proofs.{OpLines.Fits, LineSizes.{after_size, block_size, decimal_size, line_size, operand_size}, NameSizes.total}
-use Rattle.marple_laws.proofs.Texts.{all_at}
 
 -- words of at most 21 bytes
 abbrev AreShort : List (List ℕ) → Type 0
@@ -33,13 +32,10 @@ named_size : (word : List ℕ) → length word ≤ 5 → (names lasts : List (Li
 named_size word short [] lasts are = omega arith
 named_size word short (name ∷ names) [] are = omega arith
 named_size word short (name ∷ names) (last ∷ lasts) are =
-    let n = length-append (line word (name ∷ last ∷ [])) (named_lines word names lasts) in
-    let l = line_size word (name ∷ last ∷ []) in
     let a = after_size name (last ∷ []) in
     let b = after_size last [] in
-    let s = are.0 in
     let h = named_size word short names lasts are.1 in
-    omega (arith, n, l, a, b, s, h, short)
+    omega (arith, length-append {A = ℕ}, line_size, a, b, h, short)
 
 args_size : (args : List Operand) → AllFit args → length (flat_map (λ a. line (codes "arg") (operand_word a ∷ [])) args) ≤ 26 * length args
 args_size [] fit = omega arith
@@ -47,9 +43,8 @@ args_size (o ∷ args) fit =
     let n = length-append (line (codes "arg") (operand_word o ∷ [])) (flat_map (λ a. line (codes "arg") (operand_word a ∷ [])) args) in
     let l = line_size (codes "arg") (operand_word o ∷ []) in
     let a = after_size (operand_word o) [] in
-    let s = operand_size o fit.0 in
     let h = args_size args fit.1 in
-    omega (arith, n, l, a, s, h)
+    omega (arith, n, l, a, operand_size, h)
 
 class_size : (c : Class) → length (class_word c) ≤ 6
 class_size class.Linear = omega arith
@@ -69,13 +64,13 @@ pub record IsLimited (shape : GroupShape) (wiring : GroupWiring) (f : TypedFold)
   pub nodes : shape.nodes ≤ MAX_NODES
   pub statements : shape.statements ≤ MAX_STATEMENTS
 
-head_size : {shape : GroupShape} {wiring : GroupWiring} {f : TypedFold} → IsLimited shape wiring f → length (line (codes "group") (shape.name ∷ operand_word wiring.present ∷ [])) ≤ 29 + length shape.name
+head_size : {shape : GroupShape} {wiring : GroupWiring} {f : TypedFold} → IsLimited shape wiring f
+    → length (line (codes "group") (shape.name ∷ operand_word wiring.present ∷ [])) ≤ 29 + length shape.name
 head_size {shape} {wiring} l =
     let n = line_size (codes "group") (shape.name ∷ operand_word wiring.present ∷ []) in
     let a = after_size shape.name (operand_word wiring.present ∷ []) in
     let b = after_size (operand_word wiring.present) [] in
-    let s = operand_size wiring.present l.present in
-    omega (arith, n, a, b, s)
+    omega (arith, n, a, b, operand_size)
 
 body_size : (f : TypedFold) → IsValidFold f → length (line (codes "body") (block_words (length f.state_names) (fold_block f))) ≤ 12933
 body_size f v =
@@ -97,21 +92,13 @@ fold_size shape depth nodes statements =
     let b = after_size (decimal shape.depth) (decimal shape.nodes ∷ decimal shape.statements ∷ []) in
     let c = after_size (decimal shape.nodes) (decimal shape.statements ∷ []) in
     let d = after_size (decimal shape.statements) [] in
-    let e = class_size shape.class in
-    let f = decimal_size shape.depth (omega (arith, depth)) in
-    let g = decimal_size shape.nodes (omega (arith, nodes)) in
-    let h = decimal_size shape.statements (omega (arith, statements)) in
-    omega (arith, n, a, b, c, d, e, f, g, h)
+    omega (arith, n, a, b, c, d, class_size, decimal_size)
 
 pub group_size : (shape : GroupShape) (wiring : GroupWiring) (f : TypedFold) → IsLimited shape wiring f
     → length (group_lines shape wiring f) ≤ 14000 + length shape.name + (total shape.key_names + total shape.state_names)
 group_size shape wiring f l =
-    let head = head_size l in
     let keys = named_size (codes "key") (omega arith) shape.key_names (map operand_word wiring.keys) (operands_short wiring.keys l.keys) in
-    let args = args_size wiring.args l.args in
     let states = named_size (codes "state") (omega arith) shape.state_names (map decimal f.initial) (words_short f.initial l.initial) in
-    let body = body_size f l.valid in
-    let fold = fold_size shape l.depth l.nodes l.statements in
     let head_line : List ℕ = line (codes "group") (shape.name ∷ operand_word wiring.present ∷ []) in
     let key_lines : List ℕ = named_lines (codes "key") shape.key_names (map operand_word wiring.keys) in
     let arg_lines : List ℕ = flat_map (λ a. line (codes "arg") (operand_word a ∷ [])) wiring.args in
@@ -120,16 +107,10 @@ group_size shape wiring f l =
     let fold_line : List ℕ = line (codes "fold") (class_word shape.class ∷ decimal shape.depth ∷ decimal shape.nodes
     ∷ decimal shape.statements ∷ []) in
     let a = length-append body_line fold_line in
-    let b = length-append state_lines (body_line ++ fold_line) in
-    let c = length-append arg_lines (state_lines ++ (body_line ++ fold_line)) in
-    let d = length-append key_lines (arg_lines ++ (state_lines ++ (body_line ++ fold_line))) in
     let e : length (group_lines shape wiring f) ≡ length head_line + length
     (key_lines ++ (arg_lines ++ (state_lines ++ (body_line ++ fold_line)))) =
     length-append head_line (key_lines ++ (arg_lines ++ (state_lines ++ (body_line ++ fold_line)))) in
-    let mk = l.most_keys in
-    let ma = l.most_args in
-    let ms = l.most_states in
-    omega (arith, head, keys, args, states, body, fold, a, b, c, d, e, mk, ma, ms)
+    omega (arith, head_size, keys, args_size, states, body_size, fold_size, a, length-append {A = ℕ}, e)
 
 -- ---- what is small
 
@@ -142,10 +123,7 @@ depth_below f (suc tries) d = by _ (depth_below f _ _)
     by false h = omega arith
 
 pub shallow : {f : TypedFold} → IsValidFold f → depth_of f ≤ MAX_STATES
-shallow {f} v =
-    let b = depth_below f (fold_states f) 0 in
-    let s = v.states in
-    omega (arith, b, s)
+shallow {f} v = omega (arith, depth_below)
 
 args_few : (folds : List TypedFold) (number n : ℕ) → All IsValidFold folds → option_map fold_args (slice_get folds number) ≡ Some n
     → n ≤ MAX_ARGS
@@ -185,12 +163,10 @@ groups_size f [] k (suc n) each none =
     let first : length (f k) ≡ 0 = subst (λ m. length (f m) ≡ 0) (omega arith) (none 0 refl) in
     let rest = groups_size f [] (k + 1) n (λ i shape e. cc)
     (λ i e. subst (λ m. length (f m) ≡ 0) (omega arith) (none (suc i) refl)) in
-    let a = length-append (f k) (flat_map f (range_with_len (k + 1) n)) in
-    omega (arith, first, rest, a)
+    omega (arith, first, rest, length-append {A = ℕ})
 groups_size f (s ∷ shapes) k (suc n) each none =
     let first : length (f k) ≤ 79690 + length s.name = subst (λ m. length (f m) ≤ 79690 + length s.name) (omega arith) (each 0 s refl) in
     let rest = groups_size f shapes (k + 1) n (λ i shape e. subst (λ m. length (f m) ≤ 79690 + length shape.name) (omega arith)
     (each (suc i) shape e))
     (λ i e. subst (λ m. length (f m) ≡ 0) (omega arith) (none (suc i) e)) in
-    let a = length-append (f k) (flat_map f (range_with_len (k + 1) n)) in
-    omega (arith, first, rest, a)
+    omega (arith, first, rest, length-append {A = ℕ})

@@ -1,10 +1,9 @@
 -- The query of an accepted text has a plan's text.
-use Rattle.marple_laws.proofs.Words.{◌≡◌, ℕ, ◌≤◌, List, [], length, Option, Some, None, Ok, refl, sym, ap, subst, arith, codes, flat_map}
-use Rattle.marple_laws.proofs.Words.{Query, TypedQuery, and_then, number_in, checked, typed_names, IsQueryOf, parsed_text, accepted, staged}
-use Rattle.marple_laws.proofs.Words.{unless_fault, parts, accepted_valid, accepted_starts, printed_group, AcceptedHavePlanTexts}
 use Rattle.marple_laws.proofs.{Differ.NamesDiffer, Lexical.{AreGood, cut_good, typed_good}, NameSizes.{cut_total, total, typed_total}}
-use Rattle.marple_laws.proofs.{Queries.checked_differ, Texts.{named_well, names_differ}, TextSize.text_size}
-use Rattle.marple_laws.proofs.Prints.{only_groups, as_many, numbers_new, starts}
+use Rattle.marple_laws.proofs.{Prints.{as_many, numbers_new, only_groups, starts}, Queries.checked_differ, TextSize.text_size}
+use Rattle.marple_laws.proofs.{Texts.{named_well, names_differ}, Words.{AcceptedHavePlanTexts, IsQueryOf, List, None, Ok, Option, Query}}
+use Rattle.marple_laws.proofs.Words.{Some, TypedQuery, [], accepted, accepted_starts, accepted_valid, and_then, ap, arith, checked, codes}
+use Rattle.marple_laws.proofs.Words.{number_in, parsed_text, parts, refl, staged, subst, sym, typed_names, unless_fault, ℕ, ◌≡◌, ◌≤◌}
 use Rattle.query_lang.specs.declared.fault.QueryFault.{QueryFault}
 use Rattle.query_laws.proofs.{QueryLaws.query_sound, Steps.{found_first, same_ok}}
 use Rattle.stage_plan.specs.Depths.{stage_fault}
@@ -14,11 +13,7 @@ names_good : {text : List ℕ} {query : Query} → IsQueryOf text query → AreG
 names_good h = cut_good _ 0 _ _ (record { once = λ i j t a b. cc; lexical = λ i t a. cc }) h.cut
 
 names_short : {text : List ℕ} {query : Query} → IsQueryOf text query → total (typed_names query.names) ≤ 65690
-names_short {text} {query} h =
-    let most = h.short in
-    let cut = cut_total (length text) 0 [] text h.cut in
-    let typed = typed_total query.names in
-    omega (arith, most, cut, typed)
+names_short {text} {query} h = omega (arith, cut_total, typed_total)
 
 -- no stream of an accepted query needs too many stages
 fault_none : (o : Option QueryFault) (p q : TypedQuery) → unless_fault o p ≡ Ok q → (o ≡ None) × (p ≡ q)
@@ -44,8 +39,6 @@ plan_texts text q e none =
     let differ : NamesDiffer packets q = checked_differ p.0 q p.2 in
     let is : packets ≡ number_in q.names (codes "pktstream") = ap (λ names. number_in names (codes "pktstream")) (sym same) in
     let groups = only_groups q q.prints valid.prints none in
-    let many : length (flat_map printed_group q.prints) ≡ length q.prints = as_many q.prints groups in
-    let some = differ.printed in
     let well = named_well q is valid good differ in
     let names = names_differ q packets valid good differ in
     let start = starts q.folds (accepted_starts text q e) in
@@ -53,7 +46,7 @@ plan_texts text q e none =
       groups = well;
       names_differ = names;
       initial = start;
-      printed = omega (arith, many, some);
+      printed = omega (arith, as_many);
       prints_differ = numbers_new q.prints [] [] (λ i h. absurd h) groups differ.prints;
       short = text_size q valid (staged_none text q e) start differ.columns well few names groups differ.prints;
     }

@@ -1,15 +1,14 @@
 -- The total length of the names of a text.
-use Rattle.marple_laws.proofs.Words.{◌≡◌, ℕ, suc, ◌+◌, ◌*◌, ◌<◌, ◌≤◌, Bool, true, false, cond, List, [], ◌∷◌, ◌++◌, length, take, drop}
-use Rattle.marple_laws.proofs.Words.{Option, Some, None, Ok, Err, refl, sym, ap, subst, ◌∙◌, inl, inr, arith, All, cons_option, list_any}
-use Rattle.marple_laws.proofs.Words.{bytes_eq, length-drop, length-take, Field, Switch, all_fields, field_name, TypedFold, Piece, Token}
-use Rattle.marple_laws.proofs.Words.{TypedStream, number_in, with_name, typed_names, with_fields, AreValidStreams, GroupShape, shape_made}
-use Rattle.marple_laws.proofs.Words.{text_at, AreNew, AreNoKeys, IsNamedWell}
+use Rattle.marple_laws.proofs.{Items.{IsIn, in_at, in_last}, Texts.{covers_all, groups_of, in_contains, name_of, new_apart, text_there}}
+use Rattle.marple_laws.proofs.Words.{All, AreNew, AreNoKeys, AreValidStreams, Bool, Err, Field, GroupShape, IsNamedWell, List, None, Ok}
+use Rattle.marple_laws.proofs.Words.{Option, Piece, Some, Switch, Token, TypedFold, TypedStream, [], ap, arith, bytes_eq, cond, cons_option}
+use Rattle.marple_laws.proofs.Words.{drop, false, field_name, inl, inr, length, length-drop, length-take, list_any, number_in, refl}
+use Rattle.marple_laws.proofs.Words.{shape_made, subst, suc, sym, take, text_at, true, typed_names, with_fields, with_name, ℕ, ◌*◌, ◌++◌}
+use Rattle.marple_laws.proofs.Words.{◌+◌, ◌<◌, ◌∙◌, ◌∷◌, ◌≡◌, ◌≤◌}
 use Rattle.std.specs.Prelude.{map, slice_get}
 use Rattle.query_lang.specs.declared.token.Piece.TheVariants as pieces
 use Rattle.query_lang.specs.declared.token.TokenKind.TheVariants as kinds
 use Rattle.query_lang.specs.Lexis.{Cut, cut, cut_piece, piece, token_at, with_front}
-use Rattle.marple_laws.proofs.Items.{IsIn, in_at, in_last}
-use Rattle.marple_laws.proofs.Texts.{covers_all, groups_of, in_contains, name_of, new_apart, text_there}
 
 -- ---- sums over lists
 
@@ -36,10 +35,9 @@ without f (y ∷ ys) x (inl e) = record {
 }
 without f (y ∷ ys) x (inr h) =
     let r = without f ys x h in
-    let s = r.sum in
     record {
       left = y ∷ r.left;
-      sum = omega (arith, s);
+      sum = omega arith;
       keeps = λ z i no. elim i [ inl here ↦ inl here | inr more ↦ inr (r.keeps z more no) ];
     }
 
@@ -56,11 +54,9 @@ taken f (x ∷ xs) ys before new inside =
     let r = taken f xs w.left (before ++ x ∷ []) new.1
     (λ z i. w.keeps z (inside z (inr i)) (λ e. new_apart (before ++ x ∷ []) xs z new.1
     (subst (λ u. IsIn u (before ++ x ∷ [])) (sym e) (in_last before x)) i)) in
-    let s = w.sum in
-    let t = r.sum in
     record {
       left = r.left;
-      sum = omega (arith, s, t);
+      sum = omega arith;
       keeps = λ z i no. r.keeps z (w.keeps z i (λ e. no (inl e))) (λ j. no (inr j));
     }
 
@@ -122,7 +118,7 @@ with_total names text = go (list_any (bytes_eq text) names)
   where
     go : (b : Bool) → total (cond b names (names ++ text ∷ [])) ≤ total names + length text
     go true = omega arith
-    go false = let h = total_push names text in omega (arith, h)
+    go false = omega (arith, total_push)
 
 pub field_size : (f : Field) → length (field_name f) ≤ 11
 field_size Switch = omega arith
@@ -132,12 +128,10 @@ fields_total : (fields : List Field) (names : List (List ℕ)) → total (with_f
 fields_total [] names = omega arith
 fields_total (f ∷ fields) names =
     let h = fields_total fields (with_name names (field_name f)) in
-    let w = with_total names (field_name f) in
-    let s = field_size f in
-    omega (arith, h, w, s)
+    omega (arith, h, with_total, field_size)
 
 pub typed_total : (names : List (List ℕ)) → total (typed_names names) ≤ total names + 154
-typed_total names = let h = fields_total all_fields names in omega (arith, h)
+typed_total names = omega (arith, fields_total)
 
 abbrev Pair : Type 0
 Pair = List Token × List (List ℕ)
@@ -160,21 +154,16 @@ of_cut_piece : (p : Piece) (at : ℕ) (known : List (List ℕ)) (bytes : List �
     → ((k : ℕ) (later : List (List ℕ)) (got : Pair) → next k later ≡ Ok got → total got.1 ≤ total later + length (drop k bytes))
     → cut_piece p at known bytes next ≡ Ok found → total found.1 ≤ total known + length bytes
 of_cut_piece (pieces.Blank n) at known bytes next {found} h e =
-    let r = h n known found e in
     let a = cut_apart n bytes in
-    omega (arith, r, a)
+    omega (arith, h, a)
 of_cut_piece (pieces.Name n) at known bytes next {found} h e =
     of_front (token_at (kinds.Name (number_in known (take n bytes))) at (at + n)) (next n (with_name known (take n bytes))) found
     (total known + length bytes)
-    (λ got g. (let r = h n (with_name known (take n bytes)) got g in
-    let w = with_total known (take n bytes) in
-    let a = cut_apart n bytes in
-    omega (arith, r, w, a))) e
+    (λ got g. (omega (arith, h, with_total, cut_apart))) e
 of_cut_piece (pieces.Token kind n) at known bytes next {found} h e =
     of_front (token_at kind at (at + n)) (next n known) found (total known + length bytes)
-    (λ got g. (let r = h n known got g in
-    let a = cut_apart n bytes in
-    omega (arith, r, a))) e
+    (λ got g. (let a = cut_apart n bytes in
+    omega (arith, h, a))) e
 of_cut_piece (pieces.Fault kind n) at known bytes next h e = absurd cc
 
 of_end : (at : ℕ) (known : List (List ℕ)) (bytes : List ℕ) (found : Pair)

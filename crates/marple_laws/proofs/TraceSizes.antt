@@ -2,7 +2,7 @@
 use Rattle.marple_laws.proofs.Words.{◌≡◌, ◌⊎◌, inl, inr, ℕ, zero, suc, ◌+◌, ◌-◌, ◌*◌, ◌%◌, ◌^◌, ◌<◌, ◌≤◌, Bool, true, false, cond, List, []}
 use Rattle.marple_laws.proofs.Words.{◌∷◌, ◌++◌, length, filter, Option, Some, None, refl, ap, ◌∙◌, arith, length-append, ◌==◌, codes}
 use Rattle.marple_laws.proofs.Words.{decimal, flat_map, unwrap_or, length-decimal-le, flat_map-append, by_test, Tout, Packet, FIELDS}
-use Rattle.marple_laws.proofs.Words.{MAX_TRACE, ArePackets, ArePacketWords, continued, header, packet_texts, trace_text, word_text}
+use Rattle.marple_laws.proofs.Words.{MAX_TRACE, drop, ArePackets, ArePacketWords, continued, header, packet_texts, trace_text, word_text}
 use Rattle.std.specs.Prelude.{nat_lt}
 use Rattle.queue_sim.specs.Generator.{Arrival, arrival_by, arrivals, drawn_after, last_time, leaves, generated_packet, packets_from}
 use Rattle.queue_sim.specs.{Generator.{simulated, still_there, switch_of, touts_at, with_some}, TraceText.line}
@@ -53,62 +53,26 @@ module _ (n : ℕ) (a : Arrival) (few : n ≤ 1000000) (small : IsSmall a) where
   packet_line : length (line (packet_texts (generated_packet n a))) ≤ 165
   packet_line = line_short (packet_texts (generated_packet n a)) (
     short (1 + switch_of a.flow) (omega arith),
-    (
-      short 0 (omega arith),
-      (
-        short n (omega arith),
-        (
-          short (167772160 + a.flow) (omega arith),
-          (
-            short (167837696 + a.flow % 8) (omega arith),
-            (
-              short (1024 + a.flow) (omega arith),
-              (
-                short _ (omega arith),
-                (
-                  short 6 (omega arith),
-                  (
-                    short (a.payload + 40) (omega arith),
-                    (
-                      short _ (omega arith),
-                      (
-                        short _ small.seq,
-                        (short _ small.time, (tout_short (unwrap_or a.tout (2 ^ 64 - 1)) small.tout, (short _ small.qsize, tt))),
-                      ),
-                    ),
-                  ),
-                ),
-              ),
-            ),
-          ),
-        ),
-      ),
-    ),
+    (short 0 (omega arith), addresses),
   )
+    where
+      departure : AreShort (drop 12 (packet_texts (generated_packet n a)))
+      departure = (tout_short (unwrap_or a.tout (2 ^ 64 - 1)) small.tout, (short _ small.qsize, tt))
+
+      lengths : AreShort (drop 8 (packet_texts (generated_packet n a)))
+      lengths = (short (a.payload + 40) (omega arith), (short _ (omega arith), (short _ small.seq, (short _ small.time, departure))))
+
+      ports : AreShort (drop 5 (packet_texts (generated_packet n a)))
+      ports = (short (1024 + a.flow) (omega arith), (short _ (omega arith), (short 6 (omega arith), lengths)))
+
+      addresses : AreShort (drop 2 (packet_texts (generated_packet n a)))
+      addresses = (short n (omega arith), (short (167772160 + a.flow) (omega arith), (short (167837696 + a.flow % 8) (omega arith), ports)))
 
   packet_words : ArePacketWords (generated_packet n a).words
-  packet_words = (
-    omega arith,
-    (
-      omega arith,
-      (
-        omega arith,
-        (
-          omega arith,
-          (
-            omega arith,
-            (
-              omega arith,
-              (
-                omega arith,
-                (omega arith, (omega arith, (omega arith, (omega arith, (omega arith, (tout_word small.tout, (omega arith, tt))))))),
-              ),
-            ),
-          ),
-        ),
-      ),
-    ),
-  )
+  packet_words = (omega arith, (omega arith, (omega arith, (omega arith, (omega arith, (omega arith, (omega arith, others)))))))
+    where
+      others : ArePacketWords (drop 7 (generated_packet n a).words)
+      others = (omega arith, (omega arith, (omega arith, (omega arith, (omega arith, (tout_word small.tout, (omega arith, tt)))))))
 
 -- ---- all packets
 
@@ -203,9 +167,7 @@ module _ (start capacity : ℕ) where
         many = length-append (packets_from earlier) (p ∷ []) ∙ last (length (packets_from earlier)) before.many;
         lines =
             let joined = ap length (flat_map-append text (packets_from earlier) (p ∷ [])) in
-            let lengths = length-append (flat_map text (packets_from earlier)) (text p ++ []) in
-            let one = length-append (text p) [] in
-            omega (arith, joined, lengths, one, before.lines, packet_line (length (next ∷ earlier)) next number small);
+            omega (arith, joined, length-append {A = ℕ}, before.lines, packet_line (length (next ∷ earlier)) next number small);
       }
     where
       last : (m : ℕ) → m ≡ n → m + 1 ≡ suc n
