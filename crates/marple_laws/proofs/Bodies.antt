@@ -86,26 +86,24 @@ abbrev pub AreFew : ℕ → Type 0
 AreFew slots = slots < 2 ^ 64
 
 pub term_read : (states slots : ℕ) (e : Term) → AreFew slots → IsValidTerm slots e → map lexeme_of (term_words states e) ≡ written states e
-term_read states slots (Literal n) few v = ap (λ w. w ∷ []) (number_lexeme n v)
-term_read states slots (Read s) few v = ap (λ w. w ∷ []) (slot_read states s (omega (arith, few, v)))
-term_read states slots (Negation e) few v =
-    ap (λ w. w ∷ map lexeme_of (term_words states e)) fixed.not ∙ ap (λ l. word.Not ∷ l) (term_read states slots e few v.0)
+term_read states slots (Literal n) few v = λ k. number_lexeme n v k ∷ []
+term_read states slots (Read s) few v = λ k. slot_read states s (omega (arith, few, v)) k ∷ []
+term_read states slots (Negation e) few v = λ k. fixed.not k ∷ term_read states slots e few v.0 k
 term_read states slots (Operation op a b) few v =
-    ap (λ w. w ∷ map lexeme_of (term_words states a ++ term_words states b)) (function_lexeme op)
-    ∙ ap (λ l. word.Function op ∷ l) (map-append lexeme_of (term_words states a) (term_words states b)
-    ∙ ap (λ l. l ++ map lexeme_of (term_words states b)) (term_read states slots a few v.0)
-    ∙ ap (λ l. written states a ++ l) (term_read states slots b few v.1))
+    let both : map lexeme_of (term_words states a ++ term_words states b) ≡ written states a ++ written states b =
+    map-append lexeme_of (term_words states a) (term_words states b)
+    ∙ (λ k. term_read states slots a few v.0 k ++ term_read states slots b few v.1 k) in
+    λ k. function_lexeme op k ∷ both k
 
 pub block_read : (states args : ℕ) (body : Block) → AreFew (states + args) → IsValidBlock states args body
     → map lexeme_of (block_words states body) ≡ written_block states body
 block_read states args End few v = refl
 block_read states args (Set s e next) few v =
     let small : s < 2 ^ 64 = omega (arith, v.0, few) in
-    ap (λ w. w ∷ lexeme_of (state_word s) ∷ map lexeme_of (term_words states e ++ block_words states next)) fixed.set
-    ∙ ap (λ w. word.Set ∷ w ∷ map lexeme_of (term_words states e ++ block_words states next)) (state_lexeme s small)
-    ∙ ap (λ l. word.Set ∷ word.State s ∷ l) (map-append lexeme_of (term_words states e) (block_words states next)
-    ∙ ap (λ l. l ++ map lexeme_of (block_words states next)) (term_read states (states + args) e few v.1)
-    ∙ ap (λ l. written states e ++ l) (block_read states args next few v.3))
+    let rest : map lexeme_of (term_words states e ++ block_words states next) ≡ written states e ++ written_block states next =
+    map-append lexeme_of (term_words states e) (block_words states next)
+    ∙ (λ k. term_read states (states + args) e few v.1 k ++ block_read states args next few v.3 k) in
+    λ k. fixed.set k ∷ state_lexeme s small k ∷ rest k
 block_read states args (Fork c a b next) few v =
     let x = term_words states c in
     let y = block_words states a in

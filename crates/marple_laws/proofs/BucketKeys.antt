@@ -13,8 +13,7 @@ module _ (stands : Standing) (cache : Cache) where
   keys_same : (pairs : List Pair) (epochs : List Epoch) → Stand pairs epochs
       → map (λ pair. pair.key) pairs ≡ map (λ epoch. epoch.key) epochs
   keys_same [] [] s = refl
-  keys_same (p ∷ pairs) (e ∷ epochs) s =
-      ap (λ key. key ∷ map (λ pair. pair.key) pairs) s.0.0 ∙ ap (λ keys. e.key ∷ keys) (keys_same pairs epochs s.1)
+  keys_same (p ∷ pairs) (e ∷ epochs) s = λ k. s.0.0 k ∷ keys_same pairs epochs s.1 k
   keys_same _ _ s = absurd s
 
 has_same : (key : Key) (pairs : List Pair) → has_key key pairs ≡ has key (map (λ pair. pair.key) pairs)

@@ -162,7 +162,7 @@ fold_words line = by (tokens line) refl
             depth_token = d;
             nodes_token = n;
             statements_token = s;
-            words = e ∙ ap (λ w. w ∷ c ∷ d ∷ n ∷ s ∷ []) q.0.0 ∙ ap (λ w. codes "fold" ∷ w ∷ d ∷ n ∷ s ∷ []) q.0.1.1;
+            words = e ∙ (λ k. q.0.0 k ∷ q.0.1.1 k ∷ d ∷ n ∷ s ∷ []);
             depth_is = q.1.0.1;
             nodes_are = q.1.1.0.1;
             statements_are = q.1.1.1.1;
@@ -214,7 +214,7 @@ fold_is one {ws} b has is =
 ended : {before : Group} {line : List ℕ} {class : Class} {depth nodes statements : ℕ} → IsFoldWords line class depth nodes statements
     → {ws : List Lexeme} {b : Block} → before.body ≡ Some ws → IsBody (length before.initial) (length before.args) ws b
     → Decided ((after : Folded) × IsFoldLine before line after)
-ended {before} {line} {class} {depth} {nodes} {statements} valid {ws} {b} has is =
+ended {before} {line} {class} {depth} {nodes} {statements} valid {b} has is =
     let after : Folded = record { group = before; class = class; depth = depth; nodes = nodes; statements = statements } in
     let f = fold_in after in
     let of = fold_is after b has is in

@@ -1,14 +1,13 @@
 -- The lines of operations are valid in sequence.
-use Rattle.marple_laws.proofs.Words.{◌≡◌, ℕ, ◌^◌, ◌<◌, true, List, [], ◌∷◌, ◌++◌, length, take, Some, None, refl, sym, ap, subst, ◌∙◌}
-use Rattle.marple_laws.proofs.Words.{append_assoc, append-nil, flat_map, codes, decimal, take_at, Field, Made, Operand, Register, Number}
-use Rattle.marple_laws.proofs.Words.{Not, Two, PlanOp, word_named, function_named, operand, either_operand, op_words, not_of, two_of}
-use Rattle.marple_laws.proofs.Words.{IsAllowed, op_line, operand_word, operation_words, function_word}
+use Rattle.marple_laws.proofs.{Bodies.{function_read, token_function}, Known.IsSingle, Numbers.{number_decimal, token_decimal}}
+use Rattle.marple_laws.proofs.{Numbers.token_marked, Tokens.{AreTokens, is_token}, Words.{Field, IsAllowed, List, Made, None, Not, Number}}
+use Rattle.marple_laws.proofs.Words.{Operand, PlanOp, Register, Some, Two, [], ap, append-nil, append_assoc, codes, decimal, either_operand}
+use Rattle.marple_laws.proofs.Words.{flat_map, length, not_of, op_line, op_words, operand, operand_word, operation_words, refl, subst, sym}
+use Rattle.marple_laws.proofs.{Words.{take, take_at, true, two_of, word_named, ℕ, ◌++◌, ◌<◌, ◌^◌, ◌∙◌, ◌∷◌, ◌≡◌}, Written.IsWritten}
+use Rattle.marple_laws.proofs.Written.{line_written, nothing_written, written_then}
 use Rattle.std.specs.Prelude.{slice_get}
 use Rattle.plan_file.specs.declared.line_word.LineWord.TheVariants as lead
 use Rattle.stage_plan.specs.declared.op.Operation as operation
-use Rattle.marple_laws.proofs.{Bodies.{function_read, token_function}, Known.IsSingle}
-use Rattle.marple_laws.proofs.{Numbers.{number_decimal, token_decimal, token_marked}, Tokens.{is_token, AreTokens}}
-use Rattle.marple_laws.proofs.Written.{IsWritten, nothing_written, written_then, line_written}
 
 -- the number of an operand fits a word
 abbrev pub Fits : Operand → Type 0
@@ -31,17 +30,13 @@ pub record IsOpOk (fields : List Field) (before : List PlanOp) (one : PlanOp) : 
   pub right : Fits one.right
   pub single : IsSingle one.op one.right
 
-op_read : (stage : ℕ) (op : operation.Operation) {left right : Operand} → stage < 2 ^ 64 → Fits left → Fits right → IsSingle op right → op_words (codes "op" ∷ decimal stage ∷ operation_words op left right) ≡ Some (record { stage = stage; op = op; left = left; right = right })
-op_read stage Not {left} {right} s l r single =
-    ap (λ n. not_of n (operand (operand_word left))) (number_decimal s)
-    ∙ ap (not_of (Some stage)) (operand_read _ l)
+op_read : (stage : ℕ) (op : operation.Operation) {left right : Operand} → stage < 2 ^ 64 → Fits left → Fits right → IsSingle op right
+    → op_words (codes "op" ∷ decimal stage ∷ operation_words op left right)
+    ≡ Some (record { stage = stage; op = op; left = left; right = right })
+op_read stage Not {left} s l r single =
+    (λ k. not_of (number_decimal s k) (operand_read _ l k))
     ∙ ap (λ b. Some (record { stage = stage; op = Not; left = left; right = b })) (sym single)
-op_read stage (Two f) {left} {right} s l r single =
-    ap (λ n. two_of n (function_named (function_word f)) (operand (operand_word left)) (operand (operand_word right)))
-    (number_decimal s)
-    ∙ ap (λ g. two_of (Some stage) g (operand (operand_word left)) (operand (operand_word right))) (function_read f)
-    ∙ ap (λ a. two_of (Some stage) (Some f) a (operand (operand_word right))) (operand_read _ l)
-    ∙ ap (λ b. two_of (Some stage) (Some f) (Some left) b) (operand_read _ r)
+op_read stage (Two f) s l r single = λ k. two_of (number_decimal s k) (function_read f k) (operand_read _ l k) (operand_read _ r k)
 
 op_tokens : {stage : ℕ} (op : operation.Operation) (left right : Operand) → stage < 2 ^ 64 → Fits left → Fits right
     → AreTokens (decimal stage ∷ operation_words op left right)
@@ -58,7 +53,7 @@ with_ops fields ops = record { begun = true; reads = Some fields; ops = ops; gro
 
 op_written : {fields : List Field} {before : List PlanOp} {one : PlanOp} → IsOpOk fields before one
     → IsWritten (op_line one) (with_ops fields before) (with_ops fields (before ++ one ∷ []))
-op_written {fields} {before} {one} ok =
+op_written {fields} {one} ok =
     line_written (decimal one.stage ∷ operation_words one.op one.left one.right) refl
     (op_tokens _ _ _ ok.stage ok.left ok.right) op_word
     (λ cut. record {
@@ -79,7 +74,7 @@ middle (x ∷ xs) y ys = middle xs y ys
 pub ops_written : {fields : List Field} {all : List PlanOp} → ((i : ℕ) (one : PlanOp) → slice_get all i ≡ Some one
     → IsOpOk fields (take i all) one) → {before : List PlanOp} (rest : List PlanOp) → before ++ rest ≡ all
     → IsWritten (flat_map op_line rest) (with_ops fields before) (with_ops fields all)
-ops_written {fields} {all} ok {before} [] e = nothing_written (ap (with_ops fields) (sym e ∙ append-nil before))
+ops_written {fields} ok {before} [] e = nothing_written (ap (with_ops fields) (sym e ∙ append-nil before))
 ops_written {fields} {all} ok {before} (one ∷ rest) e =
     written_then (flat_map op_line rest)
     (op_written (subst (λ l. IsOpOk fields l one) front

@@ -1,20 +1,19 @@
 -- What the text of a query's plan prints over packets is what the query prints.
-use Rattle.marple_laws.proofs.Words.{◌≡◌, ℕ, suc, ◌+◌, ◌<◌, List, [], ◌∷◌, ◌++◌, length, Some, None, refl, sym, ap, subst, ◌∙◌, inl, inr}
-use Rattle.marple_laws.proofs.Words.{arith, All, flat_map, option_map, unwrap_or, range_with_len, length-map, All-head, All-tail}
-use Rattle.marple_laws.proofs.Words.{slice_get_within, slice_get_cases, slice_get-map, FIELDS, TypedFold, PrintOf, TypedFinal, TypedQuery}
-use Rattle.marple_laws.proofs.Words.{IsValidFold, body, fold_block, fold_states, fold_args, Taking, takings, IsValidQuery, IsQueryTable}
-use Rattle.marple_laws.proofs.Words.{uses, uses_taken, Geometry, folding_of, per_epoch, Table, with_finals, group_table, IsProgramOf}
-use Rattle.marple_laws.proofs.Words.{heading_of_shape, query_table, table_if, tables_from, group_tables, table_text_at, query_text}
-use Rattle.marple_laws.proofs.Words.{GroupPlan, GroupWiring, Number, wiring_of, IsPlanOf, fold_at, query_made, wiring_at, registers_after}
-use Rattle.marple_laws.proofs.Words.{stages_of, taken_at, GroupShape, query_groups, PlanParts, IsSoundGroup, IsSoundPlan, Folded, IsBody}
-use Rattle.marple_laws.proofs.Words.{written_block, IsFoldOf, class_same, fold_in, table_in, uses_in, plan_tables, plan_output}
-use Rattle.marple_laws.proofs.Words.{query_registers, query_wiring, first_final, final_fault, ops_are, wiring_is, folded_with, folded_of}
-use Rattle.marple_laws.proofs.Words.{group_made, printed_group, made_of}
+use Rattle.marple_laws.proofs.{Bodies.few_braces, TakenFolds.taken_fold, Words.{All, All-tail, FIELDS, Folded, Geometry, GroupPlan}}
+use Rattle.marple_laws.proofs.Words.{GroupShape, GroupWiring, IsBody, IsFoldOf, IsPlanOf, IsProgramOf, IsQueryTable, IsSoundGroup}
+use Rattle.marple_laws.proofs.Words.{IsSoundPlan, IsValidFold, IsValidQuery, List, None, Number, PlanParts, PrintOf, Some, Table, Taking}
+use Rattle.marple_laws.proofs.Words.{TypedFinal, TypedFold, TypedQuery, [], ap, arith, body, class_same, final_fault, first_final, flat_map}
+use Rattle.marple_laws.proofs.Words.{fold_args, fold_at, fold_block, fold_in, fold_states, folded_of, folded_with, folding_of, group_made}
+use Rattle.marple_laws.proofs.Words.{group_table, group_tables, heading_of_shape, inl, inr, length, length-map, made_of, ops_are}
+use Rattle.marple_laws.proofs.Words.{option_map, per_epoch, plan_output, plan_tables, printed_group, query_groups, query_made}
+use Rattle.marple_laws.proofs.Words.{query_registers, query_table, query_text, query_wiring, range_with_len, refl, registers_after}
+use Rattle.marple_laws.proofs.Words.{slice_get-map, slice_get_cases, slice_get_within, stages_of, subst, suc, sym, table_if, table_in}
+use Rattle.marple_laws.proofs.Words.{table_text_at, tables_from, taken_at, takings, unwrap_or, uses, uses_in, uses_taken, wiring_at}
+use Rattle.marple_laws.proofs.Words.{wiring_is, wiring_of, with_finals, written_block, ℕ, ◌++◌, ◌+◌, ◌<◌, ◌∙◌, ◌∷◌, ◌≡◌}
 use Rattle.std.specs.Prelude.{map, slice_get}
 use Rattle.query_lang.specs.declared.typed.PrintOf.TheVariants as printed
 use Rattle.query_lang.specs.TypedFinals.{table_number}
 use Rattle.plan_loader.proofs.Folds.{fold_in_is, foldings}
-use Rattle.marple_laws.proofs.{Bodies.few_braces, TakenFolds.taken_fold}
 
 no_finals_from : (finals : List TypedFinal) → first_final finals ≡ None → finals ≡ []
 no_finals_from [] e = refl
@@ -94,7 +93,7 @@ module _ (q : TypedQuery) (p : PlanParts) (valid : IsValidQuery q) (plan : IsPla
     | inl group ↦
         let one = taken_fold valid (omega (arith, group.1, plan.groups)) in
         parts_of i group.0 one.taking one.fold group.2 one.taken one.at
-    | inr past ↦ absurd (let l = slice_get_within (query_groups q) i shape e in omega (arith, past.0, l, shapes_long))
+    | inr past ↦ absurd (omega (arith, past.0, slice_get_within, shapes_long))
   ]
 
   module _ (g : Geometry) (packets : List (List ℕ)) (whole : All (λ words. length words ≡ FIELDS) packets) where
@@ -102,9 +101,8 @@ module _ (q : TypedQuery) (p : PlanParts) (valid : IsValidQuery q) (plan : IsPla
         → uses_in (made_of q) (folded_with shape h.wiring h.fold) packets ≡ uses q i packets
     same_uses i shape h lt = sym (
         plan.takes i packets lt whole
-        ∙ ap (λ w. uses_taken 1 (map (λ words. taken_at w (registers_after p.ops words (stages_of p.ops))) packets)) wiring
-        ∙ ap (λ ops. uses_taken 1 (map (λ words. taken_at h.wiring (registers_after ops words (stages_of ops))) packets))
-        (ops_are q p plan))
+        ∙ (λ k. (let ops = ops_are q p plan k in
+        uses_taken 1 (map (λ words. taken_at (wiring k) (registers_after ops words (stages_of ops))) packets))))
       where
         wiring : wiring_at p i ≡ h.wiring
         wiring = ap (λ o. unwrap_or o (record { present = Number 0; keys = []; args = [] }))
@@ -113,9 +111,7 @@ module _ (q : TypedQuery) (p : PlanParts) (valid : IsValidQuery q) (plan : IsPla
     same_table : (i : ℕ) (shape : GroupShape) (h : HasParts q i) → i < length p.groups
         → table_in (made_of q) g packets (folded_with shape h.wiring h.fold) ≡ query_table q g packets i shape h.fold
     same_table i shape h lt =
-        ap (λ f. group_table (heading_of_shape shape) f g (uses_in (made_of q) (folded_with shape h.wiring h.fold) packets))
-        (one_folding shape h.wiring h.fold h.valid h.args)
-        ∙ ap (group_table (heading_of_shape shape) (folding_of h.fold) g) (same_uses i shape h lt)
+        λ k. group_table (heading_of_shape shape) (one_folding shape h.wiring h.fold h.valid h.args k) g (same_uses i shape h lt k)
 
     same_tables : (rest : List GroupShape) (i : ℕ) → i + length rest ≡ length p.groups
         → ((k : ℕ) → slice_get (query_groups q) (i + k) ≡ slice_get rest k) →
@@ -131,10 +127,8 @@ module _ (q : TypedQuery) (p : PlanParts) (valid : IsValidQuery q) (plan : IsPla
         let more = same_tables rest (suc i) (omega (arith, long)) (λ k.
         (let z : suc i + k ≡ i + suc k = omega arith in ap (slice_get (query_groups q)) z ∙ are (suc k))) in
         ap (λ l. map (table_in (made_of q) g packets) (l ++ later)) made_is
-        ∙ ap (λ t. t ∷ map (table_in (made_of q) g packets) later) (same_table i shape h (omega (arith, long)))
-        ∙ ap (λ n. query_table q g packets i shape h.fold ∷ map (table_in (made_of q) g packets)
-        (flat_map (group_made q) (range_with_len n (length rest)))) next
-        ∙ ap (λ l. query_table q g packets i shape h.fold ∷ l) more
+        ∙ (λ k. same_table i shape h (omega (arith, long)) k
+        ∷ (ap (λ n. map (table_in (made_of q) g packets) (flat_map (group_made q) (range_with_len n (length rest)))) next ∙ more) k)
         ∙ ap (λ o. table_if q g packets i shape o ++ tables_from q g packets (suc i) rest) (sym h.fold_is)
 
     printed_same : (tables : List Table) (prints : List PrintOf) → q.finals ≡ [] → All (IsQueryTable q) prints →
@@ -144,7 +138,7 @@ module _ (q : TypedQuery) (p : PlanParts) (valid : IsValidQuery q) (plan : IsPla
     printed_same tables (printed.Group i ∷ prints) none all = ap (λ l. table_text_at tables i ++ l)
         (printed_same tables prints none (All-tail (IsQueryTable q) (printed.Group i) prints all))
     printed_same tables (printed.Final i ∷ prints) none all = absurd (let lt =
-        All-head (IsQueryTable q) (printed.Final i) prints all in omega (arith, lt, ap length none))
+        all 0 (printed.Final i) (omega arith) in omega (arith, lt, ap length none))
 
     pub one_output : final_fault q ≡ None → plan_output (made_of q) g packets ≡ query_text q g packets
     unfolding plan_output plan_tables query_text group_tables

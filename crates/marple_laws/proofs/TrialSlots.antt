@@ -1,16 +1,14 @@
 -- The groupbys of the trial's query take from the packets themselves, and only words of fields that the query reads.
-use Rattle.marple_laws.proofs.Words.{◌≡◌, inl, inr, ℕ, zero, suc, Bool, true, cond, ◌&&◌, List, [], ◌∷◌, ◌++◌, length, map, Option, Some}
-use Rattle.marple_laws.proofs.Words.{None, refl, sym, ap, ap₂, subst, ◌∙◌, arith, ◌==◌, slice_index, list_all, list_any, and_parts}
-use Rattle.marple_laws.proofs.Words.{false≢true, nat_tests, All-head, All-tail, Geometry, by_test, folding_of, with_finals, group_table}
-use Rattle.marple_laws.proofs.Words.{all_fields, has_field, number_of, Field, Switch, Qid, Uid, SrcIp, DstIp, SrcPort, DstPort, Proto}
-use Rattle.marple_laws.proofs.Words.{PktLen, PayloadLen, TcpSeq, Tin, Tout, QSize, FieldSet, FIELDS, TypedFold, TypedQuery, TypedStream}
-use Rattle.marple_laws.proofs.Words.{Checked, Taking, stream, takings, values_at, group_tables, heading_of_shape, printed, query_text}
-use Rattle.marple_laws.proofs.Words.{table_if, tables_from, taken_by, use_of, uses, read_fields, reads_of, AreWhole, GroupShape}
-use Rattle.marple_laws.proofs.Words.{query_groups, accepted, trial_query, zeroed}
-use Rattle.std.specs.Prelude.{Ok, Err, slice_get}
+use Rattle.marple_laws.proofs.{Items.IsIn, Listed.in_set, Words.{All-tail, AreWhole, Bool, Checked, FIELDS, Field, FieldSet, Geometry}}
+use Rattle.marple_laws.proofs.Words.{GroupShape, List, None, Option, Some, Switch, Taking, TypedFold, TypedQuery, TypedStream, [], accepted}
+use Rattle.marple_laws.proofs.Words.{all_fields, and_parts, ap, ap₂, arith, by_test, false≢true, folding_of, group_table, group_tables}
+use Rattle.marple_laws.proofs.Words.{has_field, heading_of_shape, inl, inr, length, list_all, list_any, map, nat_tests, number_of, printed}
+use Rattle.marple_laws.proofs.Words.{query_groups, query_text, read_fields, reads_of, refl, slice_index, stream, subst, suc, sym, table_if}
+use Rattle.marple_laws.proofs.Words.{tables_from, taken_by, takings, trial_query, true, use_of, uses, values_at, with_finals, zero, zeroed}
+use Rattle.marple_laws.proofs.Words.{ℕ, ◌&&◌, ◌++◌, ◌==◌, ◌∙◌, ◌∷◌, ◌≡◌}
+use Rattle.std.specs.Prelude.{Err, Ok, slice_get}
 use Rattle.stage_plan.proofs.StreamRows.{Row, all_rows, row_at, row_made, rows_from, same_tuples, stream_rows, tuples}
 use Rattle.accepted_query.proofs.TrialAccepted.{after_folds, trial_is}
-use Rattle.marple_laws.proofs.{Items.IsIn, Listed.in_set}
 
 -- ---- a query whose groupbys take from the packets, out of fields that it reads
 
@@ -44,20 +42,8 @@ word_kept : (reads : FieldSet) (words : List ℕ) → length words ≡ FIELDS �
 word_kept reads (a ∷ b ∷ c ∷ d ∷ e ∷ g ∷ h ∷ i ∷ j ∷ k ∷ l ∷ m ∷ n ∷ o ∷ []) size f has = by f has
   where
     by : (f : Field) → has_field reads f ≡ true → IsKeptAt reads (a ∷ b ∷ c ∷ d ∷ e ∷ g ∷ h ∷ i ∷ j ∷ k ∷ l ∷ m ∷ n ∷ o ∷ []) f
-    by Switch t = ap (λ x. cond x a 0) t
-    by Qid t = ap (λ x. cond x b 0) t
-    by Uid t = ap (λ x. cond x c 0) t
-    by SrcIp t = ap (λ x. cond x d 0) t
-    by DstIp t = ap (λ x. cond x e 0) t
-    by SrcPort t = ap (λ x. cond x g 0) t
-    by DstPort t = ap (λ x. cond x h 0) t
-    by Proto t = ap (λ x. cond x i 0) t
-    by PktLen t = ap (λ x. cond x j 0) t
-    by PayloadLen t = ap (λ x. cond x k 0) t
-    by TcpSeq t = ap (λ x. cond x l 0) t
-    by Tin t = ap (λ x. cond x m 0) t
-    by Tout t = ap (λ x. cond x n 0) t
-    by QSize t = ap (λ x. cond x o 0) t
+    by Switch t = rw t
+    by _ t = rw t
 word_kept reads words size f has = absurd (omega arith)
 
 found_field : (fields : List Field) {slot : ℕ} → list_any (λ f. number_of f == slot) fields ≡ true → (f : Field) × IsIn f fields
@@ -100,7 +86,7 @@ module _ (q : TypedQuery) where
       (use_of t) (tuples (λ words. Some words) n packets)
   along t keys args n [] whole = refl
   along t keys args n (words ∷ packets) whole =
-      let size : length words ≡ FIELDS = All-head (λ (ws : List ℕ). length ws ≡ FIELDS) words packets whole in
+      let size : length words ≡ FIELDS = whole 0 words (omega arith) in
       ap₂ (λ u us. u ∷ us)
       (ap₂ (λ key row. record { packet = n; key = key; row = row }) (values_kept words t.keys size keys)
       (values_kept words t.args size args))
