@@ -1,5 +1,5 @@
 -- The bounds of accepted operands hold.
-use Rattle.marple_laws.proofs.Words.{◌≡◌, ℕ, List, [], Some, None, Ok, Err, refl, TypedQuery, Checked, accepted, bounds_fault, fault_after}
+use Rattle.marple_laws.proofs.Words.{◌≡◌, ℕ, List, [], None, Ok, Err, refl, TypedQuery, Checked, accepted, bounds_fault, fault_after}
 use Rattle.marple_laws.{proofs.Words.{Setting, geometry_of, reads_of}, specs.Bounded.{AcceptedBoundsHold, words_read}}
 use Rattle.query_laws.specs.ValidLaws.{AcceptedAreValid, AcceptedStartAsWords}
 use Rattle.enclosed_query.specs.{EnclosedTables.enclose_text, Holding.{ShownHolds, ShownTablesHold}}

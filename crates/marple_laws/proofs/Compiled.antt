@@ -1,14 +1,13 @@
 -- The plans that `compile` writes run as their queries.
-use Rattle.marple_laws.proofs.Words.{◌≡◌, ℕ, List, [], Some, None, refl, sym, ap, ◌∙◌, subst, Setting, TypedQuery, Checked, accepted}
-use Rattle.marple_laws.proofs.Words.{fault_in, geometry_of, Made, plan_output, reads_in, IsReadingOf, compiled_text, final_fault}
-use Rattle.marple_laws.proofs.{Words.{NoViewsWithoutNumber, reads_of, words_of, made_of, IsAsTheQuery, fault_after}, OneReading.read_once}
-use Rattle.marple_laws.proofs.Accepted.{accepted_load}
-use Rattle.std.specs.Prelude.{Ok, Err}
+use Rattle.marple_laws.proofs.{Accepted.accepted_load, OneReading.read_once, Words.{Checked, IsAsTheQuery, IsReadingOf, List, Made}}
+use Rattle.marple_laws.proofs.Words.{NoViewsWithoutNumber, None, Setting, TypedQuery, [], accepted, ap, compiled_text, fault_after}
+use Rattle.marple_laws.proofs.Words.{fault_in, final_fault, geometry_of, made_of, plan_output, reads_in, reads_of, refl, subst, sym}
+use Rattle.marple_laws.{proofs.Words.{words_of, ℕ, ◌∙◌, ◌≡◌}, specs.Compiled.CompiledPlansRunAsQueries}
+use Rattle.std.specs.Prelude.{Err, Ok}
 use Rattle.command_line.specs.declared.command.Command.TheVariants.{RunPlan}
 use Rattle.trace_drive.specs.ReadPackets.{ReadPacketsAreWhole}
 use Rattle.trace_reader.specs.Traces as traces
 use Rattle.marple_cli.specs.Output.{IsRead, Source, fault_for, of_accepted, plan_tables_text, read_packets, run_text}
-use Rattle.marple_laws.specs.Compiled.{CompiledPlansRunAsQueries}
 
 module _ (alone : NoViewsWithoutNumber) (whole : ReadPacketsAreWhole) (setting : Setting) (trace : List ℕ) where
   -- runs of a query and of a plan by what their texts are read to

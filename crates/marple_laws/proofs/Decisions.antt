@@ -79,7 +79,7 @@ same_texts = same_list same_text
 
 pub contains : {A : Type 0} → ((a b : A) → Decided (a ≡ b)) → (xs : List A) {x : A} → Decided (Contains xs x)
 contains same [] = inr (λ c. omega (arith, c.1))
-contains {A} same (y ∷ xs) {x} = by (same y x) (contains same xs)
+contains same (y ∷ xs) {x} = by (same y x) (contains same xs)
   where
     none : (y ≡ x → ⊥) → (Contains xs x → ⊥) → (k : ℕ) → k < length (y ∷ xs) → slice_index_or (y ∷ xs) k x ≡ x → ⊥
     none not rest zero lt e = not e

@@ -1,7 +1,6 @@
 -- The fields of a set in their order, and which registers the lines of a plan know.
 use Rattle.marple_laws.proofs.Words.{◌≡◌, ℕ, suc, ◌+◌, ◌^◌, ◌<◌, ◌≤◌, Bool, true, false, cond, List, [], ◌∷◌, length, refl, sym, ap, subst}
-use Rattle.marple_laws.proofs.Words.{◌∙◌, inl, inr, arith, Contains, All, codes, cases_lt, All-head, All-tail, Field, Switch, Some}
-use Rattle.marple_laws.proofs.Words.{FieldSet}
+use Rattle.marple_laws.proofs.Words.{◌∙◌, inl, inr, arith, Contains, All, codes, cases_lt, All-tail, Field, Switch, Some, FieldSet}
 use Rattle.marple_laws.proofs.Words.{number_of, field_name, all_fields, has_field, FIELDS, Operand, Register, Number, PlanOp, IsWithin}
 use Rattle.marple_laws.proofs.Words.{and_parts, nat_tests, Made, word_named, nothing, AreFrom, IsKnown, fields_of, reads_line, line}
 use Rattle.std.specs.Prelude.{map, filter, nat_le, slice_get, ◌&&◌}
@@ -134,6 +133,6 @@ pub operands_readable : (reads : FieldSet) (ops : List PlanOp) (operands : List 
     → All (IsWithin (FIELDS + length ops)) operands → length ops ≤ 32768 → AreReadable (fields_of reads) ops operands
 operands_readable reads ops [] good inside few = tt
 operands_readable reads ops (o ∷ operands) good inside few = (
-  operand_readable reads good.0 (All-head (IsWithin (FIELDS + length ops)) o operands inside) few,
+  operand_readable reads good.0 (inside 0 o (omega arith)) few,
   operands_readable reads ops operands good.1 (All-tail (IsWithin (FIELDS + length ops)) o operands inside) few,
 )

@@ -1,15 +1,13 @@
 -- The lines of a groupby are valid in sequence.
-use Rattle.marple_laws.proofs.Words.{◌≡◌, ℕ, ◌+◌, ◌<◌, ◌≤◌, true, List, [], ◌∷◌, ◌++◌, length, Some, None, Option, refl, subst, arith}
-use Rattle.marple_laws.proofs.Words.{append_assoc, append-nil, Contains, flat_map, codes, decimal, length_push, Field, MAX_ARGS, MAX_STATES}
-use Rattle.marple_laws.proofs.Words.{Lexeme, Folded, Group, Made, Operand, PlanOp, word_named, IsKnown, named_lines, line, operand_word}
-use Rattle.marple_laws.proofs.Words.{LineWord, IsLineOf, IsPart, spaced, tokens}
-use Rattle.marple_laws.proofs.Words.{AreNames, AreNew, AreNoKeys, AllWords}
+use Rattle.marple_laws.proofs.{Names.token_name, Numbers.{number_decimal, token_decimal}, OpLines.{Fits, operand_read, token_operand}}
+use Rattle.marple_laws.proofs.{Tokens.{AreTokens, is_token}, Words.{AllWords, AreNames, AreNew, AreNoKeys, Contains, Field, Folded, Group}}
+use Rattle.marple_laws.proofs.Words.{IsKnown, IsLineOf, IsPart, Lexeme, LineWord, List, MAX_ARGS, MAX_STATES, Made, None, Operand, Option}
+use Rattle.marple_laws.proofs.Words.{PlanOp, Some, [], append-nil, append_assoc, arith, codes, decimal, flat_map, length, length_push, line}
+use Rattle.marple_laws.proofs.Words.{named_lines, operand_word, refl, spaced, subst, tokens, true, word_named, ℕ, ◌++◌, ◌+◌, ◌<◌, ◌∷◌, ◌≡◌}
+use Rattle.marple_laws.proofs.{Words.◌≤◌, Written.{IsWritten, line_written, nothing_written, written_then}}
 use Rattle.std.specs.Prelude.{map}
 use Rattle.plan_file.specs.declared.line_word.LineWord.TheVariants as lead
-use Rattle.marple_laws.proofs.{Numbers.{number_decimal, token_decimal}, OpLines.{Fits, operand_read, token_operand}, Names.token_name}
 use Rattle.plan_file.specs.Groups.{IsInGroup}
-use Rattle.marple_laws.proofs.Tokens.{is_token, AreTokens}
-use Rattle.marple_laws.proofs.Written.{IsWritten, nothing_written, written_then, line_written}
 
 -- an operand whose register is known, with a number that fits a word
 pub record IsReadable (fields : List Field) (ops : List PlanOp) (o : Operand) : Type 0 where
@@ -76,7 +74,7 @@ module _ (fields : List Field) (ops : List PlanOp) (groups : List Folded) (name 
       (with_keys before_names before) (with_keys (before_names ++ names) (before ++ values))
   keys_written bn b [] [] long few named new ok = nothing_written (λ k. with_keys (append-nil bn k) (append-nil b k))
   keys_written bn b (n ∷ names) (v ∷ values) long few named new ok =
-      written_then (named_lines (codes "key") names (map operand_word values))
+      written_then _
       (part_written (λ before text after p. p) refl
       (token_name n named.0, (token_operand v ok.0.fits, tt)) key_word
       (λ cut. record {
@@ -109,7 +107,7 @@ module _ (fields : List Field) (ops : List PlanOp) (groups : List Folded) (name 
         IsWritten (flat_map (λ a. line (codes "arg") (operand_word a ∷ [])) values) (with_args before) (with_args (before ++ values))
     args_written b [] few ok = nothing_written (λ k. with_args (append-nil b k))
     args_written b (v ∷ values) few ok =
-        written_then (flat_map (λ a. line (codes "arg") (operand_word a ∷ [])) values)
+        written_then _
         (part_written (λ before text after p. p) refl (token_operand v ok.0.fits, tt) arg_word
         (λ cut. record {
           keys = some;
@@ -138,7 +136,7 @@ module _ (fields : List Field) (ops : List PlanOp) (groups : List Folded) (name 
           (with_states before_names before) (with_states (before_names ++ names) (before ++ values))
       states_written bn b [] [] long few named new apart ok = nothing_written (λ k. with_states (append-nil bn k) (append-nil b k))
       states_written bn b (n ∷ names) (v ∷ values) long few named new apart ok =
-          written_then (named_lines (codes "state") names (map decimal values))
+          written_then _
           (part_written (λ before text after p. p) refl
           (token_name n named.0, (token_decimal ok.0, tt)) state_lead
           (λ cut. record {

@@ -1,18 +1,17 @@
 -- All lines of a groupby, and of all groupbys.
-use Rattle.marple_laws.proofs.Words.{◌≡◌, ℕ, suc, ◌+◌, ◌^◌, ◌<◌, ◌≤◌, true, List, [], ◌∷◌, ◌++◌, length, Some, None, Option, refl, sym, ap}
-use Rattle.marple_laws.proofs.Words.{subst, ◌∙◌, arith, append_assoc, append-nil, Contains, flat_map, codes, decimal, range_with_len}
-use Rattle.marple_laws.proofs.Words.{length_push, Field, TypedFold, Class, Linear, IsValidFold, fold_block, fold_states, fold_args}
-use Rattle.marple_laws.proofs.Words.{MAX_ARGS, MAX_GROUPBYS, MAX_KEYS, IsDepth, class_of, GroupWiring, Lexeme, Folded, Made, Operand}
-use Rattle.marple_laws.proofs.Words.{PlanOp, IsBody, written_block, is_name, word_named, folded_with, folded_of, group_lines}
-use Rattle.marple_laws.proofs.Words.{group_lines_of, GroupShape, class_word, line, operand_word, block_words, AreNames, AreNew, AreNoKeys}
-use Rattle.marple_laws.proofs.Words.{AllWords, class_same, depth_same}
+use Rattle.marple_laws.proofs.{Bodies.{block_read, few_braces, tokens_block}, GroupLines.{AreReadable, IsReadable, args_written}}
+use Rattle.marple_laws.proofs.{GroupLines.{group_so_far, keys_written, outside, part_written, states_written, within}, Names.token_name}
+use Rattle.marple_laws.proofs.{Numbers.{number_decimal, token_decimal}, OpLines.{operand_read, token_operand}, Tokens.is_token}
+use Rattle.marple_laws.proofs.Words.{AllWords, AreNames, AreNew, AreNoKeys, Class, Contains, Field, Folded, GroupShape, GroupWiring, IsBody}
+use Rattle.marple_laws.proofs.Words.{IsDepth, IsValidFold, Lexeme, Linear, List, MAX_ARGS, MAX_GROUPBYS, MAX_KEYS, Made, None, Operand}
+use Rattle.marple_laws.proofs.Words.{Option, PlanOp, Some, TypedFold, [], ap, append-nil, append_assoc, arith, block_words, class_of}
+use Rattle.marple_laws.proofs.Words.{class_same, class_word, codes, decimal, depth_same, flat_map, fold_args, fold_block, fold_states}
+use Rattle.marple_laws.proofs.Words.{folded_of, folded_with, group_lines, group_lines_of, is_name, length, length_push, line, operand_word}
+use Rattle.marple_laws.proofs.Words.{range_with_len, refl, subst, suc, sym, true, word_named, written_block, ℕ, ◌++◌, ◌+◌, ◌<◌, ◌^◌, ◌∙◌}
+use Rattle.marple_laws.proofs.{Words.{◌∷◌, ◌≡◌, ◌≤◌}, Written.{IsWritten, line_written, nothing_written, written_then}}
 use Rattle.std.specs.Prelude.{map, slice_get}
 use Rattle.plan_file.specs.declared.line_word.LineWord.TheVariants as lead
 use Rattle.plan_file.specs.Groups.{names_of}
-use Rattle.marple_laws.proofs.{Bodies.{tokens_block, block_read, few_braces}, GroupLines.{IsReadable, AreReadable, within, outside}}
-use Rattle.marple_laws.proofs.{GroupLines.{group_so_far, keys_written, args_written, part_written, states_written}, Names.token_name}
-use Rattle.marple_laws.proofs.{Numbers.{number_decimal, token_decimal}, OpLines.{operand_read, token_operand}, Tokens.is_token}
-use Rattle.marple_laws.proofs.Written.{IsWritten, nothing_written, written_then, line_written}
 
 -- what holds of a groupby whose lines are allowed in a plan with these fields and operations
 pub record IsGroupOk (fields : List Field) (ops : List PlanOp) (shape : GroupShape) (wiring : GroupWiring) (f : TypedFold) : Type 0 where

@@ -1,14 +1,13 @@
 -- What holds of the operations of expressions: they read fields that the query names, numbers that fit a word, and constants where
 -- they have to.
-use Rattle.marple_laws.proofs.Words.{◌≡◌, ℕ, zero, suc, ◌^◌, ◌<◌, true, List, [], ◌∷◌, ◌++◌, Some, None, refl, sym, subst, inl, arith}
-use Rattle.marple_laws.proofs.Words.{Field, FieldSet, number_of, HasField, FIELDS, Op, Term, Literal, Read, Negation, Operation}
-use Rattle.marple_laws.proofs.Words.{IsValidTerm, IsConstant, TakesOperands, Operand, Register, Number, Not, Two, PlanOp, FieldSource}
-use Rattle.marple_laws.proofs.Words.{source_at, term_slots, is_right_of, takes_right}
+use Rattle.marple_laws.proofs.{Items.{IsIn, in_left, in_right}, Words.{FIELDS, Field, FieldSet, FieldSource, HasField, IsConstant}}
+use Rattle.marple_laws.proofs.Words.{IsValidTerm, List, Literal, Negation, None, Not, Number, Op, Operand, Operation, PlanOp, Read}
+use Rattle.marple_laws.proofs.Words.{Register, Some, TakesOperands, Term, Two, [], arith, inl, is_right_of, number_of, refl, source_at}
+use Rattle.marple_laws.proofs.Words.{subst, suc, sym, takes_right, term_slots, true, zero, ℕ, ◌++◌, ◌<◌, ◌^◌, ◌∷◌, ◌≡◌}
 use Rattle.std.specs.Prelude.{map, slice_get}
 use Rattle.query_lang.specs.declared.fold.Op.TheVariants as two
 use Rattle.stage_plan.specs.declared.op.Operation as operation
-use Rattle.stage_plan.specs.Making.{Compiled, compiled, with_op, operand_at}
-use Rattle.marple_laws.proofs.Items.{IsIn, in_left, in_right}
+use Rattle.stage_plan.specs.Making.{Compiled, compiled, operand_at, with_op}
 
 -- an operand that is allowed: a field that is read, another register, or a number that fits a word
 abbrev pub IsGood : FieldSet → Operand → Type 0
@@ -151,10 +150,10 @@ pub compiled_good : {reads : FieldSet} (columns : List Operand) (slots : ℕ) (e
     → AreCompiled reads (compiled columns e ops)
 compiled_good columns slots (Literal n) ops good v w = record { written = w; value = v }
 compiled_good columns slots (Read s) ops good v w = record { written = w; value = good s (inl refl) }
-compiled_good {reads} columns slots (Negation e) ops good v w =
+compiled_good columns slots (Negation e) ops good v w =
     let c = compiled_good columns slots e ops good v.0 w in
     with_one Not (compiled columns e ops).ops (compiled columns e ops).value (Number 0) c.written c.value (below_two 0 refl) refl refl
-compiled_good {reads} columns slots (Operation op a b) ops good v w =
+compiled_good columns slots (Operation op a b) ops good v w =
     let c = compiled_good columns slots a ops (λ s h. good s (in_left s (term_slots a) (term_slots b) h)) v.0 w in
     let d = compiled_good columns slots b (compiled columns a ops).ops (λ s h. good s (in_right s (term_slots a) (term_slots b) h))
     v.1 c.written in

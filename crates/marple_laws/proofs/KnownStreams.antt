@@ -1,7 +1,7 @@
 -- What holds of all operations of a query, stream by stream.
 use Rattle.marple_laws.proofs.Words.{◌≡◌, ℕ, zero, suc, ◌+◌, ◌^◌, ◌<◌, ◌≤◌, List, [], ◌∷◌, ◌++◌, length, Some, None, Option, refl, sym, ap}
 use Rattle.marple_laws.proofs.Words.{subst, ◌∙◌, inl, inr, arith, append-nil, append_assoc, IfSome, All, flat_map, filter_map, fold}
-use Rattle.marple_laws.proofs.Words.{cons_option, cases_lt, cases_eq, length_push, All-head, All-tail, Field, FieldSet, HasField, field_set}
+use Rattle.marple_laws.proofs.Words.{cons_option, cases_lt, cases_eq, length_push, All-tail, Field, FieldSet, HasField, field_set}
 use Rattle.marple_laws.proofs.Words.{TypedExpr, TypedFold, TypedOp, TypedStream, Term, term_of, IsValidTerm, IsValidFold, IsValidEmit}
 use Rattle.marple_laws.proofs.Words.{AreValidStreams, IsValidOp, IsValidWord, Operand, Number, PlanOp, FieldSource, source_at, sources_at}
 use Rattle.marple_laws.proofs.Words.{packet_sources, sources_made, term_slots, named_fields, named_slots, named_input, AllWords}
@@ -78,7 +78,7 @@ mapped_good {reads} sources columns slots (e ∷ values) ss found ops from made 
     let one = compiled_good columns slots (term_of e) ops
     (slot_good reads sources columns (term_slots (term_of e)) from (read_left reads sources (term_slots (term_of e))
     (flat_map (λ e. term_slots (term_of e)) values) named))
-    (All-head (IsValidWord slots) e values v).0.0 w in
+    (v 0 e (omega arith)).0.0 w in
     let value : Operand = (compiled columns (term_of e) ops).value in
     let rest = mapped_good sources columns slots values (ss ++ None ∷ []) (found ++ value ∷ []) (compiled columns (term_of e) ops).ops
     from

@@ -1,17 +1,15 @@
 -- The names of a text are names by the rule of names, and no two of them are the same.
-use Rattle.marple_laws.proofs.Words.{◌≡◌, ℕ, zero, suc, ◌+◌, Bool, true, false, cond, ◌||◌, List, [], ◌∷◌, ◌++◌, length, take, drop}
-use Rattle.marple_laws.proofs.Words.{slice_get, Option, Some, None, Ok, Err, refl, sym, ap, subst, ◌∙◌, arith, inl, inr, ◌⊎◌, add-one}
-use Rattle.marple_laws.proofs.Words.{add_comm, codes, is_none, list_any, list_all, prefix_len, bytes_eq, digits_value, length-prefix_len}
-use Rattle.marple_laws.proofs.Words.{same_Some, Field, Switch, all_fields, field_name, Piece, Token, AreOnce, number_in, with_name}
-use Rattle.marple_laws.proofs.Words.{typed_names, with_fields, is_name}
-use Rattle.std.{specs.Prelude.{nat_eq, not}, proofs.lemmas.Slice.Eq.bytes_eq-Decides}
-use Rattle.query_lang.{proofs.NameFacts.has_number, specs.declared.token.Mark.Mark}
+use Rattle.marple_laws.proofs.{Tokens.both_are, Words.{AreOnce, Bool, Err, Field, List, None, Ok, Option, Piece, Some, Switch, Token, []}}
+use Rattle.marple_laws.proofs.Words.{add-one, add_comm, all_fields, ap, arith, bytes_eq, codes, cond, digits_value, drop, false, field_name}
+use Rattle.marple_laws.proofs.Words.{inl, inr, is_name, is_none, length, length-prefix_len, list_all, list_any, number_in, prefix_len, refl}
+use Rattle.marple_laws.proofs.Words.{same_Some, slice_get, subst, suc, sym, take, true, typed_names, with_fields, with_name, zero, ℕ, ◌++◌}
+use Rattle.marple_laws.proofs.Words.{◌+◌, ◌||◌, ◌∙◌, ◌∷◌, ◌≡◌, ◌⊎◌}
+use Rattle.std.{proofs.lemmas.Slice.Eq.bytes_eq-Decides, specs.Prelude.{nat_eq, not}}
+use Rattle.query_lang.{proofs.NameFacts.has_number, specs.Lexis.{Cut, below_limit, cut, cut_piece, is_blank, is_digit, is_word_byte}}
+use Rattle.query_lang.specs.Lexis.{mark_at, name_piece, number_piece, one_mark, piece, piece_of_mark, reserved, token_at, two_mark}
+use Rattle.query_lang.specs.{Lexis.{with_front, word_piece}, declared.token.{Mark.Mark, Word.Word}}
 use Rattle.query_lang.specs.declared.token.Piece.TheVariants as pieces
 use Rattle.query_lang.specs.declared.token.TokenKind.TheVariants as kinds
-use Rattle.query_lang.specs.{declared.token.Word.Word, Lexis.{Cut, below_limit, cut, cut_piece, is_blank, is_digit, is_word_byte, mark_at}}
-use Rattle.query_lang.specs.Lexis.{name_piece, number_piece, one_mark, piece, piece_of_mark, reserved, token_at, two_mark, with_front}
-use Rattle.query_lang.specs.Lexis.{word_piece}
-use Rattle.marple_laws.proofs.Tokens.{both_are}
 
 -- ---- names, in sequence
 
@@ -72,10 +70,10 @@ field_lexical _ = refl
 
 fields_good : (fields : List Field) {names : List (List ℕ)} → AreGood names → AreGood (with_fields names fields)
 fields_good [] good = good
-fields_good (f ∷ fields) {names} good = fields_good fields (with_good (field_name f) good (field_lexical f))
+fields_good (f ∷ fields) good = fields_good fields (with_good (field_name f) good (field_lexical f))
 
 pub typed_good : {names : List (List ℕ)} → AreGood names → AreGood (typed_names names)
-typed_good {names} good = fields_good all_fields good
+typed_good good = fields_good all_fields good
 
 -- ---- the names that a text is split into
 
@@ -187,9 +185,9 @@ of_end at {found} good e = subst (λ (p : Pair). AreGood p.1) (same_found _ foun
 pub cut_good : (n at : ℕ) {known : List (List ℕ)} (bytes : List ℕ) (found : Pair) → AreGood known → cut n at known bytes ≡ Ok found
     → AreGood found.1
 unfolding cut
-cut_good zero at {known} bytes found good e = of_end at good e
-cut_good (suc n) at {known} [] found good e = of_end at good e
-cut_good (suc n) at {known} (b ∷ bytes) found good e =
+cut_good zero at bytes found good e = of_end at good e
+cut_good (suc n) at [] found good e = of_end at good e
+cut_good (suc n) at (b ∷ bytes) found good e =
     of_cut_piece (piece (b ∷ bytes)) at (b ∷ bytes) (λ k later. cut n (at + k) later (drop k (b ∷ bytes))) good
     (of_piece b bytes)
     (λ k later got g h. cut_good n (at + k) (drop k (b ∷ bytes)) got g h) e

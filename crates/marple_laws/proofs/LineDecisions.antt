@@ -1,14 +1,13 @@
 -- Whether a line is valid after the lines before it is decided.
-use Rattle.marple_laws.proofs.Words.{ℕ, ◌<◌, true, List, [], ◌∷◌, ◌++◌, length, Some, None, refl, sym, ap, ◌∙◌, subst, inr, codes}
-use Rattle.marple_laws.proofs.Words.{LineWord, Group, Made, IsFoldLine, number, tokens, IsFirst, IsFold, IsGroup, IsLineOf, IsOp}
-use Rattle.marple_laws.proofs.Words.{IsPart, IsPrint, IsReads, IsValidAfter, IsOneNumber, IsOpLine}
+use Rattle.marple_laws.proofs.Decisions.{Decided, both, by_both, contains, from_found, from_value, is_empty, is_false, is_none, is_true}
+use Rattle.marple_laws.proofs.{Decisions.{less, neither, same_number, same_texts, some_same, two_same}, GroupDecisions.fold_line}
+use Rattle.marple_laws.proofs.{GroupDecisions.{group_line, in_group}, PartDecisions.{one_number, op_line, reads_line}, Words.Group}
+use Rattle.marple_laws.proofs.Words.{IsFirst, IsFold, IsFoldLine, IsGroup, IsLineOf, IsOneNumber, IsOp, IsOpLine, IsPart, IsPrint, IsReads}
+use Rattle.marple_laws.proofs.Words.{IsValidAfter, LineWord, List, Made, None, Some, [], ap, codes, inr, length, number, refl, subst, sym}
+use Rattle.marple_laws.proofs.Words.{tokens, true, ℕ, ◌++◌, ◌<◌, ◌∙◌, ◌∷◌}
 use Rattle.std.specs.Prelude.{Contains}
 use Rattle.plan_file.specs.declared.line_word.LineWord.TheVariants as words
 use Rattle.plan_file.specs.Groups.{IsGroupLine, IsInGroup}
-use Rattle.marple_laws.proofs.Decisions.{Decided, both, by_both, contains, from_found, from_value, is_empty, is_false, is_none, is_true}
-use Rattle.marple_laws.proofs.Decisions.{less, neither, same_number, same_texts, some_same, two_same}
-use Rattle.marple_laws.proofs.GroupDecisions.{fold_line, group_line, in_group}
-use Rattle.marple_laws.proofs.PartDecisions.{one_number, op_line, reads_line}
 
 first : (before : Made) (line : List ℕ) → Decided ((after : Made) × IsFirst before line after)
 first before line =
@@ -25,20 +24,24 @@ reads before line =
     (both (is_true before.begun) (both (is_none before.reads) (reads_line line)))
 
 op : (before : Made) (line : List ℕ) → Decided ((after : Made) × IsOp before line after)
-op before line = from_value before.reads (λ p. (p.1.fields, p.1.reads)) (λ fs is. by_both (λ q. (
-  record before { ops = before.ops ++ q.1.1.0 ∷ [] },
-  record { fields = fs; reads = is; groups = q.0; current = q.1.0; op = q.1.1.0; valid = q.1.1.1; made = refl },
-))
+op before line = from_value before.reads (λ p. (p.1.fields, p.1.reads)) (λ fs is.
+    by_both
+    (λ q. (
+      record before { ops = before.ops ++ q.1.1.0 ∷ [] },
+      record { fields = fs; reads = is; groups = q.0; current = q.1.0; op = q.1.1.0; valid = q.1.1.1; made = refl },
+    ))
     (λ p.
     let valid = subst (λ f. IsOpLine f before.ops line p.1.op) (some_same fs p.1.reads is) p.1.valid in
     (p.1.groups, (p.1.current, (p.1.op, valid))))
     (both (is_empty before.groups) (both (is_none before.current) (op_line fs before.ops line))))
 
 group : (before : Made) (line : List ℕ) → Decided ((after : Made) × IsGroup before line after)
-group before line = from_value before.reads (λ p. (p.1.fields, p.1.reads)) (λ fs is. by_both (λ q. (
-  record before { current = Some q.1.1.0 },
-  record { fields = fs; reads = is; current = q.0; prints = q.1.0; group = q.1.1.0; valid = q.1.1.1; made = refl },
-))
+group before line = from_value before.reads (λ p. (p.1.fields, p.1.reads)) (λ fs is.
+    by_both
+    (λ q. (
+      record before { current = Some q.1.1.0 },
+      record { fields = fs; reads = is; current = q.0; prints = q.1.0; group = q.1.1.0; valid = q.1.1.1; made = refl },
+    ))
     (λ p.
     let same = some_same fs p.1.reads is in
     (p.1.current, (p.1.prints, (p.1.group, subst (λ f. IsGroupLine f before.ops before.groups line p.1.group) same p.1.valid))))
@@ -61,10 +64,12 @@ part word before line =
     (in_group _ _ _ g _)))
 
 fold : (before : Made) (line : List ℕ) → Decided ((after : Made) × IsFold before line after)
-fold before line = from_value _ (λ p. (p.1.group, p.1.current)) (λ g has. by_both (λ q. (
-  record before { groups = before.groups ++ q.0 ∷ []; current = None },
-  record { group = g; current = has; folded = q.0; valid = q.1; made = refl },
-))
+fold before line = from_value _ (λ p. (p.1.group, p.1.current)) (λ g has.
+    by_both
+    (λ q. (
+      record before { groups = before.groups ++ q.0 ∷ []; current = None },
+      record { group = g; current = has; folded = q.0; valid = q.1; made = refl },
+    ))
     (λ p. (p.1.folded, subst (λ x. IsFoldLine x line p.1.folded) (some_same g p.1.current has) p.1.valid))
     (fold_line g _))
 

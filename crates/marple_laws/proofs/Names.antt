@@ -1,5 +1,5 @@
 -- Names are tokens.
-use Rattle.marple_laws.proofs.Words.{◌≡◌, ℕ, Bool, true, false, List, [], ◌∷◌, refl, ap, subst, arith, ◌==◌, is_none, list_all, nat_tests}
+use Rattle.marple_laws.proofs.Words.{◌≡◌, ℕ, Bool, true, false, List, [], ◌∷◌, refl, ap, subst, arith, ◌==◌, list_all, nat_tests}
 use Rattle.marple_laws.proofs.{Words.is_name, Tokens.{both_true, both_are, is_plain, is_token}}
 use Rattle.std.specs.Prelude.{not, ◌&&◌}
 use Rattle.query_lang.specs.Lexis.{is_digit, is_word_byte, reserved}

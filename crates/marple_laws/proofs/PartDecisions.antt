@@ -1,8 +1,8 @@
 -- The parts of lines, decided.
-use Rattle.marple_laws.proofs.Words.{◌≡◌, ℕ, ◌+◌, ◌≤◌, List, [], ◌∷◌, length, map, refl, sym, ap, ap₂, ◌∙◌, subst, inl, inr}
-use Rattle.marple_laws.proofs.Words.{codes, Field, all_fields, field_name, number_of, FIELDS, Operand, Register, Number, PlanOp, is_name}
-use Rattle.marple_laws.proofs.Words.{number, tokens, IsNamedNumber, IsNamedOperand, IsOneNumber, IsOneOperand, AreFrom, IsAllowed, IsKnown}
-use Rattle.marple_laws.proofs.Words.{IsOpLine, IsReadsLine, IsStaged, op_words, operand}
+use Rattle.marple_laws.proofs.Words.{◌≡◌, ℕ, ◌+◌, ◌≤◌, List, [], ◌∷◌, length, map, refl, sym, ap, ap₂, ◌∙◌, subst, inl, inr, codes, Field}
+use Rattle.marple_laws.proofs.Words.{all_fields, field_name, number_of, FIELDS, Operand, Register, Number, PlanOp, is_name, number, tokens}
+use Rattle.marple_laws.proofs.Words.{IsNamedNumber, IsNamedOperand, IsOneNumber, IsOneOperand, AreFrom, IsAllowed, IsKnown, IsOpLine}
+use Rattle.marple_laws.proofs.Words.{IsReadsLine, IsStaged, operand}
 use Rattle.std.specs.Prelude.{◌⊎◌}
 use Rattle.marple_base.specs.declared.field.Field.TheVariants as fields
 use Rattle.plan_file.proofs.ReadsFacts.{same_name}
@@ -113,7 +113,8 @@ allowed fs ops op =
     (both (both (known _ ops op.left) (known _ ops op.right)) (staged _ _))
 
 pub op_line : (fs : List Field) (ops : List PlanOp) (line : List ℕ) → Decided ((op : PlanOp) × IsOpLine fs ops line op)
-op_line fs ops line = from_value _ (λ p. (p.0, p.1.words)) (λ op e. by_both (λ a. (op, record { words = e; allowed = a }))
+op_line fs ops line = from_value _ (λ p. (p.0, p.1.words)) (λ op e.
+    by_both (λ a. (op, record { words = e; allowed = a }))
     (λ p. subst (IsAllowed fs ops) (some_same op p.1.words e) p.1.allowed) (allowed _ _ op))
 
 -- lines of a word, a name and an operand or a number
@@ -125,46 +126,44 @@ named_operand {fs} {ops} word line =
   where
     of_tokens : (a n t : List ℕ) → tokens line ≡ a ∷ n ∷ t ∷ []
         → Decided ((name : List ℕ) × (v : Operand) × IsNamedOperand fs ops word line name v)
-    of_tokens a n t e = from_value _ (λ p. (p.1, ap operand (three_same e p.2.words).2 ∙ p.2.reads))
-        (λ v r. by_both (λ q. (
-          n,
-          v,
-          record {
-            token = t;
-            words = e ∙ ap (λ w. w ∷ n ∷ t ∷ []) q.0;
-            named = q.1.0;
-            reads = r;
-            known =
-                q.1.1;
-          },
-        )) (λ p.
+    of_tokens a n t e = from_value _ (λ p. (p.1, ap operand (three_same e p.2.words).2 ∙ p.2.reads)) (λ v r.
+        by_both
+        (λ q. (n, v, record { token = t; words = e ∙ ap (λ w. w ∷ n ∷ t ∷ []) q.0; named = q.1.0; reads = r; known = q.1.1 }))
+        (λ p.
         let same = three_same e p.2.words in
         let value = some_same v (ap operand same.2 ∙ p.2.reads) r in
         (same.0, (ap is_name same.1 ∙ p.2.named, subst (IsKnown fs ops) value p.2.known)))
         (both (same_text a _) (both (is_true (is_name n)) (known _ ops v))))
 
 pub one_operand : (fs : List Field) (ops : List PlanOp) (word line : List ℕ) → Decided ((v : Operand) × IsOneOperand fs ops word line v)
-one_operand fs ops word line = from_found (λ p. (word, p.1.token, p.1.words)) (λ f. of_tokens f.0 f.1 f.2) (two_tokens (tokens line))
+one_operand fs ops word line =
+    from_found (λ p. (word, p.1.token, p.1.words)) (λ f. of_tokens f.0 f.1 f.2) (two_tokens (tokens line))
   where
     of_tokens : (a t : List ℕ) → tokens line ≡ a ∷ t ∷ [] → Decided ((v : Operand) × IsOneOperand fs ops word line v)
-    of_tokens a t e = from_value _ (λ p. (p.0, ap operand (two_same e p.1.words).1 ∙ p.1.reads))
-        (λ v r. by_both (λ q. (v, record { token = t; words = e ∙ ap (λ w. w ∷ t ∷ []) q.0; reads = r; known = q.1 })) (λ p.
+    of_tokens a t e = from_value _ (λ p. (p.0, ap operand (two_same e p.1.words).1 ∙ p.1.reads)) (λ v r.
+        by_both
+        (λ q. (v, record { token = t; words = e ∙ ap (λ w. w ∷ t ∷ []) q.0; reads = r; known = q.1 }))
+        (λ p.
         let same = two_same e p.1.words in
         (same.0, subst (IsKnown fs ops) (some_same v (ap operand same.1 ∙ p.1.reads) r) p.1.known))
         (both (same_text a _) (known _ ops v)))
 
 pub named_number : (word line : List ℕ) → Decided ((name : List ℕ) × (v : ℕ) × IsNamedNumber word line name v)
-named_number word line = from_found (λ p. (word, p.0, p.2.token, p.2.words)) (λ f. of_tokens f.0 f.1 f.2 f.3) (three_tokens (tokens line))
+named_number word line =
+    from_found (λ p. (word, p.0, p.2.token, p.2.words)) (λ f. of_tokens f.0 f.1 f.2 f.3) (three_tokens (tokens line))
   where
     of_tokens : (a n t : List ℕ) → tokens line ≡ a ∷ n ∷ t ∷ [] → Decided ((name : List ℕ) × (v : ℕ) × IsNamedNumber word line name v)
-    of_tokens a n t e = from_value _ (λ p. (p.1, ap number (three_same e p.2.words).2 ∙ p.2.reads))
-        (λ v r. by_both (λ q. (n, v, record { token = t; words = e ∙ ap (λ w. w ∷ n ∷ t ∷ []) q.0; named = q.1; reads = r }))
-        (λ p. (let same = three_same e p.2.words in (same.0, ap is_name same.1 ∙ p.2.named))) (both (same_text a _) (is_true (is_name n))))
+    of_tokens a n t e = from_value _ (λ p. (p.1, ap number (three_same e p.2.words).2 ∙ p.2.reads)) (λ v r.
+        by_both
+        (λ q. (n, v, record { token = t; words = e ∙ ap (λ w. w ∷ n ∷ t ∷ []) q.0; named = q.1; reads = r }))
+        (λ p. (let same = three_same e p.2.words in (same.0, ap is_name same.1 ∙ p.2.named)))
+        (both (same_text a _) (is_true (is_name n))))
 
 pub one_number : (word line : List ℕ) → Decided ((v : ℕ) × IsOneNumber word line v)
 one_number word line = from_found (λ p. (word, p.1.token, p.1.words)) (λ f. of_tokens f.0 f.1 f.2) (two_tokens (tokens line))
   where
     of_tokens : (a t : List ℕ) → tokens line ≡ a ∷ t ∷ [] → Decided ((v : ℕ) × IsOneNumber word line v)
-    of_tokens a t e = from_value _ (λ p. (p.0, ap number (two_same e p.1.words).1 ∙ p.1.reads))
-        (λ v r. by_both (λ q. (v, record { token = t; words = e ∙ ap (λ w. w ∷ t ∷ []) q; reads = r })) (λ p. (two_same e p.1.words).0)
+    of_tokens a t e = from_value _ (λ p. (p.0, ap number (two_same e p.1.words).1 ∙ p.1.reads)) (λ v r.
+        by_both (λ q. (v, record { token = t; words = e ∙ ap (λ w. w ∷ t ∷ []) q; reads = r }))
+        (λ p. (two_same e p.1.words).0)
         (same_text a _))

@@ -1,21 +1,20 @@
 -- What holds of the names and tables of the items before some place.
-use Rattle.marple_laws.proofs.Words.{◌≡◌, ℕ, zero, suc, ◌+◌, ◌<◌, ◌≤◌, Bool, true, false, List, [], ◌∷◌, ◌++◌, length, Some, None, Option}
-use Rattle.marple_laws.proofs.Words.{Ok, refl, sym, ap, subst, ◌∙◌, inl, inr, ◌⊎◌, arith, nat_eq, nat_lt, is_some, flat_map, option_map}
-use Rattle.marple_laws.proofs.Words.{if◌then◌else◌, nat_tests, map-append, NameTaken, OverLimit, Groupbys, TypedFold, FoldDef, Name}
-use Rattle.marple_laws.proofs.Words.{PrintOf, TypedOp, TypedStream, Earlier, FoldView, Known, Meaning, TableView, condition_of, with_fold}
-use Rattle.marple_laws.proofs.Words.{fold_added, MAX_GROUPBYS, AreNew}
+use Rattle.marple_laws.proofs.{Columns.{AreKeyColumns, fold_new, key_columns_are, states_apart}, Differ.{AreApart, HasOwnColumns}}
+use Rattle.marple_laws.proofs.{Items.{IsIn, found_first, in_push, must_not_ok, must_ok, new_push, same_ok}, Words.{AreNew, Bool, Earlier}}
+use Rattle.marple_laws.proofs.Words.{FoldDef, FoldView, Groupbys, Known, List, MAX_GROUPBYS, Meaning, Name, NameTaken, None, Ok, Option}
+use Rattle.marple_laws.proofs.Words.{OverLimit, PrintOf, Some, TableView, TypedFold, TypedOp, TypedStream, [], ap, arith, condition_of}
+use Rattle.marple_laws.proofs.Words.{false, flat_map, fold_added, if◌then◌else◌, inl, inr, is_some, length, map-append, nat_eq, nat_lt}
+use Rattle.marple_laws.proofs.Words.{nat_tests, option_map, refl, subst, suc, sym, true, with_fold, zero, ℕ, ◌++◌, ◌+◌, ◌<◌, ◌∙◌, ◌∷◌, ◌≡◌}
+use Rattle.marple_laws.proofs.Words.{◌≤◌, ◌⊎◌}
 use Rattle.std.specs.Prelude.{map, slice_get}
-use Rattle.query_lang.specs.declared.query.{Key.Key, StreamDef.StreamDef, StreamOp.StreamOp}
+use Rattle.query_lang.specs.{TypedFolds.fold_checked, TypedStreams.{arguments_of, as_fold, begun, clash, column_names, columns_at}}
+use Rattle.query_lang.specs.TypedStreams.{fold_named, grouped, key_names, keys_checked, made_stream, meaning_of, new_columns, next_stream}
+use Rattle.query_lang.specs.{TypedStreams.{no_new_columns, stream_checked, stream_named, with_stream}, declared.query.Key.Key}
+use Rattle.query_lang.specs.declared.{query.{StreamDef.StreamDef, StreamOp.StreamOp}, typing.MadeStream.MadeStream}
 use Rattle.query_lang.specs.declared.query.StreamOp.TheVariants as ops
 use Rattle.query_lang.specs.declared.typed.PrintOf.TheVariants as place
 use Rattle.query_lang.specs.declared.typed.TypedOp.TheVariants as typed
-use Rattle.query_lang.specs.declared.typing.MadeStream.{MadeStream}
 use Rattle.query_lang.specs.declared.typing.Meaning.TheVariants as meaning
-use Rattle.query_lang.specs.{TypedFolds.fold_checked, TypedStreams.{meaning_of, begun, as_fold, stream_named, fold_named, column_names}}
-use Rattle.query_lang.specs.TypedStreams.{columns_at, new_columns, no_new_columns, keys_checked, key_names, arguments_of, clash, grouped}
-use Rattle.query_lang.specs.TypedStreams.{made_stream, with_stream, stream_checked, next_stream}
-use Rattle.marple_laws.proofs.Items.{must_ok, must_not_ok, found_first, same_ok, IsIn, in_push, new_push}
-use Rattle.marple_laws.proofs.{Columns.{fold_new, states_apart, AreKeyColumns, key_columns_are}, Differ.{AreApart, HasOwnColumns}}
 
 -- the place of the table that a name refers to
 abbrev pub place_in : Option Meaning → Option PrintOf
@@ -84,16 +83,13 @@ meaning_kept (k ∷ known) entry id m e = by _ e (meaning_kept known entry id m)
 
 pub some_kept : (known : List Known) (entry : Known) (id : ℕ) → is_some (meaning_of known id) ≡ true
     → is_some (meaning_of (known ++ entry ∷ []) id) ≡ true
-some_kept [] entry id e = cc
-some_kept (k ∷ known) entry id e = by _ e (some_kept known entry id)
+some_kept known entry id e = by (meaning_of known id) refl e
   where
-    by : (b : Bool) → is_some (if b then Some k.meaning else meaning_of known id) ≡ true
-        → (is_some (meaning_of known id) ≡ true → is_some (meaning_of (known ++ entry ∷ []) id) ≡ true) →
-        is_some (if b then Some k.meaning else meaning_of (known ++ entry ∷ []) id) ≡ true
-    by true e rest = refl
-    by false e rest = rest e
+    by : (o : Option Meaning) → meaning_of known id ≡ o → is_some o ≡ true → is_some (meaning_of (known ++ entry ∷ []) id) ≡ true
+    by None h e = cc
+    by (Some m) h e = ap is_some (meaning_kept known entry id m h)
 
-some_new : (known : List Known) (entry : Known) → is_some (meaning_of (known ++ entry ∷ []) entry.name) ≡ true
+pub some_new : (known : List Known) (entry : Known) → is_some (meaning_of (known ++ entry ∷ []) entry.name) ≡ true
 some_new [] entry = let t : nat_eq entry.name entry.name ≡ true = grind (arith, nat_tests) in ap
     (λ b. is_some (if b then Some entry.meaning else None)) t
 some_new (k ∷ known) entry = by _ (some_new known entry)
@@ -103,7 +99,7 @@ some_new (k ∷ known) entry = by _ (some_new known entry)
     by true rest = refl
     by false rest = rest
 
-place_cases : (known : List Known) (entry : Known) (id : ℕ) (p : PrintOf) → place_at (known ++ entry ∷ []) id ≡ Some p
+pub place_cases : (known : List Known) (entry : Known) (id : ℕ) (p : PrintOf) → place_at (known ++ entry ∷ []) id ≡ Some p
     → (place_at known id ≡ Some p) ⊎ ((id ≡ entry.name) × (place_in (Some entry.meaning) ≡ Some p))
 place_cases known entry id p e = by (meaning_of (known ++ entry ∷ []) id) refl e
   where
@@ -168,7 +164,7 @@ more_folds folds f columns (typed.Zip left right slots) h = tt
 
 -- one more fold
 pub fold_good : {packets : ℕ} {e after : Earlier} (d : FoldDef) → Good packets e → fold_added e d ≡ Ok after → Good packets after
-fold_good {packets} {e} {after} d good ok =
+fold_good {packets} {e} d good ok =
     let a = must_not_ok (is_some (meaning_of e.known d.name.id)) NameTaken d.name.span _ ok in
     let b = found_first (fold_checked d) a.1 in
     subst (Good packets) (same_ok b.2) (added b.0 (fold_new d b.1))
@@ -218,7 +214,7 @@ fold_there e good name {v} ok = by _ refl ok
 
 grouped_made : {packets : ℕ} (five : List ℕ) (e : Earlier) (input : Name) (keys : List Key) (fold_name : Name) {made : MadeStream}
     → Good packets e → grouped five e input keys fold_name ≡ Ok made → IsMade e made
-grouped_made {packets} five e input keys fold_name {made} good ok =
+grouped_made five e input keys fold_name good ok =
     let source = found_first (stream_named e.known input) ok in
     let picked = found_first (keys_checked five (column_names source.0.columns) source.0.hidden keys) source.2 in
     let f = found_first (fold_named e.known fold_name) picked.2 in
@@ -247,7 +243,7 @@ stream_made five e name (ops.Zip first second) made good ok =
     let right = found_first (stream_named e.known second) left.2 in
     let none = must_not_ok (clash left.0.columns right.0.columns) NameTaken second.span _ right.2 in
     subst (IsMade e) (same_ok none.1) (record { table = inl refl; columns = tt })
-stream_made {packets} five e name (ops.Group input keys fold_name) made good ok =
+stream_made five e name (ops.Group input keys fold_name) made good ok =
     grouped_made five e input keys fold_name good (must_ok (nat_lt e.groups MAX_GROUPBYS) (OverLimit Groupbys) name.span made ok).1
 
 -- what an added stream's name means
@@ -299,7 +295,7 @@ with_stream_good {packets} e name {made} good free is =
           (λ i. (let k = good.streams_known name.id i in cc)));
       folds_known = λ id v h. elim (meaning_cases e.known entry id (meaning.Fold v) h) [
         | inl old ↦ good.folds_known id v old
-        | inr new ↦ absurd (no v new.1)
+        | inr new ↦ (let stream = new.1 in cc)
       ];
       folds = good.folds;
       columns = λ one i. elim (in_push e.streams (record { name = name; columns = column_names made.columns; op = made.op }) one i) [
@@ -312,9 +308,6 @@ with_stream_good {packets} e name {made} good free is =
         ++ name.id ∷ []
     ids = map-append (λ (one : TypedStream). one.name.id) e.streams (record
         { name = name; columns = column_names made.columns; op = made.op } ∷ [])
-
-    no : (v : FoldView) → (entry_of e name made).meaning ≡ meaning.Fold v → ⊥
-    no v h = cc
 
     known : (id : ℕ) → IsIn id (packets ∷ (stream_ids e.streams ++ name.id ∷ [])) →
         ((id : ℕ) → IsIn id (packets ∷ stream_ids e.streams) → is_some (meaning_of (e.known ++ entry_of e name made ∷ []) id) ≡ true) →
@@ -330,7 +323,7 @@ begun_free e name u ok = (must_not_ok _ _ _ _ ok).0
 
 pub stream_good : {packets : ℕ} (five : List ℕ) {e after : Earlier} (d : StreamDef) → Good packets e → stream_checked five e d ≡ Ok after
     → Good packets after
-stream_good {packets} five {e} {after} d good ok =
+stream_good {packets} five {e} d good ok =
     let b = found_first (begun e d.name) ok in
     let m = found_first (made_stream five e d.name d.op) b.2 in
     subst (Good packets) (same_ok m.2)

@@ -1,10 +1,9 @@
 -- The query of an accepted text has the plan that definitions give.
 use Rattle.marple_laws.proofs.Words.{◌≡◌, ℕ, zero, suc, List, [], ◌∷◌, length, Option, Some, None, Ok, refl, sym, ap, subst, ◌∙◌, inl, inr}
-use Rattle.marple_laws.proofs.Words.{arith, All, filter_map, option_map, cons_option, All-head, All-tail, same_Some, slice_get_cases}
-use Rattle.marple_laws.proofs.Words.{TypedFold, TypedOp, TypedQuery, TypedStream, IsValidFold, Taking, taking_of, takings, IsValidQuery}
-use Rattle.marple_laws.proofs.Words.{IsProgramOf, depth_found_is, GroupPlan, reads_of, query_made, stages_of, GroupShape, group_shape}
-use Rattle.marple_laws.proofs.Words.{shape_made, shape_with, query_fault, query_order, query_ops, query_registers, query_wiring}
-use Rattle.marple_laws.proofs.Words.{register_in, accepted, accepted_valid, AcceptedHavePlans}
+use Rattle.marple_laws.proofs.Words.{arith, All, filter_map, option_map, cons_option, All-tail, same_Some, slice_get_cases, TypedFold}
+use Rattle.marple_laws.proofs.Words.{TypedOp, TypedQuery, TypedStream, IsValidFold, Taking, taking_of, takings, IsValidQuery, IsProgramOf}
+use Rattle.marple_laws.proofs.Words.{depth_found_is, GroupPlan, query_made, stages_of, GroupShape, group_shape, shape_made, shape_with}
+use Rattle.marple_laws.proofs.Words.{query_fault, query_order, register_in, accepted, accepted_valid, AcceptedHavePlans}
 use Rattle.std.{specs.Prelude.{map, slice_get}, proofs.lemmas.List.FromFn.length-map-range_with_len}
 use Rattle.query_lang.specs.declared.typed.TypedOp.TheVariants as typed
 use Rattle.fold_code.{specs.Meaning.IsCodeOf, proofs.Meanings.meaning_of}
@@ -95,7 +94,7 @@ module _ (q : TypedQuery) (valid : IsValidQuery q) where
       → AreOf (takings streams) (groups_planned q.names q.folds streams) (filter_map (λ one. shape_made q.names q.folds one one.op) streams)
   groups_are [] fits = record { shapes_are = refl; sound = λ i t group e f. cc; count = refl }
   groups_are (one ∷ streams) fits =
-      let first : FitsGroup q one one.op = All-head (λ (one : TypedStream). FitsGroup q one one.op) one streams fits in
+      let first : FitsGroup q one one.op = fits 0 one (omega arith) in
       let rest = groups_are streams (All-tail (λ (one : TypedStream). FitsGroup q one one.op) one streams fits) in
       let planned = groups_planned q.names q.folds streams in
       let shapes = filter_map (λ (one : TypedStream). shape_made q.names q.folds one one.op) streams in

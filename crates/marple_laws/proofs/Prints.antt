@@ -21,9 +21,8 @@ pub only_groups : (q : TypedQuery) (prints : List PrintOf) → All (IsQueryTable
 only_groups q [] all none = tt
 only_groups q (place.Group i ∷ prints) all none = only_groups q prints (All-tail (IsQueryTable q) (place.Group i) prints all) none
 only_groups q (place.Final i ∷ prints) all none =
-    let lt : i < length q.finals = All-head (IsQueryTable q) (place.Final i) prints all in
-    let no : length q.finals ≡ 0 = none_first q.finals none in
-    omega (arith, lt, no)
+    let lt : i < length q.finals = all 0 (place.Final i) (omega arith) in
+    omega (arith, lt, none_first)
 
 pub as_many : (prints : List PrintOf) → AreGroups prints → length (flat_map printed_group prints) ≡ length prints
 as_many [] are = refl

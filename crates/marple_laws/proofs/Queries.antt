@@ -1,21 +1,17 @@
 -- The names of each query that was checked differ.
-use Rattle.marple_laws.proofs.Words.{◌≡◌, ℕ, ◌+◌, ◌<◌, Bool, true, false, List, [], ◌∷◌, ◌++◌, length, Some, None, Option, Ok, refl, sym}
-use Rattle.marple_laws.proofs.Words.{ap, subst, ◌∙◌, inl, inr, arith, nat_eq, nat_lt, is_some, codes, option_map, if◌then◌else◌, nat_tests}
-use Rattle.marple_laws.proofs.Words.{length_push, NameTaken, NothingPrinted, Name, Query, PrintOf, TypedQuery, Earlier, FoldView, Given}
-use Rattle.marple_laws.proofs.Words.{Known, Meaning, TableView, is_among, number_in, field_numbers, print_checked, item_checked}
-use Rattle.marple_laws.proofs.Words.{items_checked, start_of, typed_names, given_of, checked}
-use Rattle.std.specs.Prelude.{map}
-use Rattle.query_lang.specs.declared.query.{FinalDef.FinalDef, Item.Item}
+use Rattle.marple_laws.proofs.{Differ.NamesDiffer, Items.{IsIn, found_first, in_at, in_last, in_left, in_push, must_not_ok, must_ok}}
+use Rattle.marple_laws.proofs.{Items.{new_push, not_in, same_ok}, Places.{Good, IsBelow, fold_good, grown, meaning_cases, place_at}}
+use Rattle.marple_laws.proofs.{Places.{place_cases, place_in, some_kept, some_new, stream_good}, Words.{Earlier, FoldView, Given, Known}}
+use Rattle.marple_laws.proofs.Words.{List, Meaning, Name, NameTaken, None, NothingPrinted, Ok, Option, PrintOf, Query, Some, TableView}
+use Rattle.marple_laws.proofs.Words.{TypedQuery, [], ap, arith, checked, codes, given_of, inl, inr, is_among, is_some, item_checked}
+use Rattle.marple_laws.proofs.Words.{items_checked, length, length_push, nat_lt, nat_tests, number_in, option_map, print_checked, start_of}
+use Rattle.marple_laws.proofs.Words.{subst, sym, true, typed_names, ℕ, ◌+◌, ◌<◌, ◌∙◌, ◌∷◌, ◌≡◌}
+use Rattle.query_lang.specs.TypedFinals.{as_table, final_checked, five_fields, made_final, table_at, table_named, with_final}
+use Rattle.query_lang.specs.{TypedStreams.{begun, meaning_of}, Typing.packet_stream, declared.query.{FinalDef.FinalDef, Item.Item}}
+use Rattle.query_lang.specs.declared.typing.MadeFinal.{MadeFinal}
 use Rattle.query_lang.specs.declared.query.Item.TheVariants as item
 use Rattle.query_lang.specs.declared.typed.PrintOf.TheVariants as place
-use Rattle.query_lang.specs.declared.typing.MadeFinal.{MadeFinal}
 use Rattle.query_lang.specs.declared.typing.Meaning.TheVariants as meaning
-use Rattle.query_lang.specs.declared.typing.Origin.TheVariants as origin
-use Rattle.query_lang.specs.TypedFinals.{as_table, table_at, table_named, five_fields, made_final, with_final, final_checked}
-use Rattle.query_lang.specs.TypedStreams.{meaning_of, begun}
-use Rattle.marple_laws.proofs.Items.{must_ok, must_not_ok, found_first, same_ok, IsIn, in_at, in_last, in_left, in_push, not_in, new_push}
-use Rattle.marple_laws.proofs.Places.{place_in, place_at, IsBelow, Good, fold_good, stream_good, grown, meaning_cases, some_kept}
-use Rattle.marple_laws.proofs.Differ.{NamesDiffer}
 
 -- one more final
 with_final_good : (packets : ℕ) (e : Earlier) (name : Name) (made : MadeFinal) → Good packets e → Good packets (with_final e name made)
@@ -31,7 +27,7 @@ with_final_good packets e name made good =
       streams = good.streams;
       folds_known = λ id v h. elim (meaning_cases e.known entry id (meaning.Fold v) h) [
         | inl old ↦ good.folds_known id v old
-        | inr new ↦ absurd (no v new.1)
+        | inr new ↦ (let final = new.1 in cc)
       ];
       folds = good.folds;
       columns = good.columns;
@@ -39,10 +35,6 @@ with_final_good packets e name made good =
   where
     more : length (with_final e name made).finals ≡ length e.finals + 1
     more = length_push e.finals _
-
-    no : (v : FoldView) → meaning.Final (record { place = place.Final (length e.finals); columns = made.columns; keys = made.keys })
-        ≡ meaning.Fold v → ⊥
-    no v h = cc
 
     fresh : (p : PrintOf) → Some (place.Final (length e.finals)) ≡ Some p → IsBelow e.groups (length e.finals) p → ⊥
     fresh p h l =
@@ -78,7 +70,7 @@ place_of_table known name t ok = by _ ok
 
 -- one more print
 print_good : {packets : ℕ} {e after : Earlier} (name : Name) → Good packets e → print_checked e name ≡ Ok after → Good packets after
-print_good {packets} {e} {after} name good ok =
+print_good {packets} {e} name good ok =
     let t = found_first (table_named e.known name) ok in
     let free = must_not_ok (is_among name.id e.printed) NameTaken name.span _ t.2 in
     let at = place_of_table e.known name t.0 t.1 in
@@ -104,15 +96,15 @@ print_good {packets} {e} {after} name good ok =
 
 item_good : (packets : ℕ) (given : Given) {e after : Earlier} (one : Item) → Good packets e → item_checked given e one ≡ Ok after
     → Good packets after
-item_good packets given {e} {after} (item.Fold d) good ok = fold_good d good ok
-item_good packets given {e} {after} (item.Stream d) good ok = stream_good (five_fields given.fields) d good ok
-item_good packets given {e} {after} (item.Final d) good ok = final_good given d good ok
-item_good packets given {e} {after} (item.Print name) good ok = print_good name good ok
+item_good packets given (item.Fold d) good ok = fold_good d good ok
+item_good packets given (item.Stream d) good ok = stream_good (five_fields given.fields) d good ok
+item_good packets given (item.Final d) good ok = final_good given d good ok
+item_good packets given (item.Print name) good ok = print_good name good ok
 
 items_good : {packets : ℕ} (given : Given) (items : List Item) {e after : Earlier} → Good packets e → items_checked given e items ≡ Ok after
     → Good packets after
-items_good {packets} given [] {e} {after} good ok = subst (Good packets) (same_ok ok) good
-items_good {packets} given (one ∷ items) {e} {after} good ok =
+items_good {packets} given [] good ok = subst (Good packets) (same_ok ok) good
+items_good {packets} given (one ∷ items) {e} good ok =
     let f = found_first (item_checked given e one) ok in
     items_good given items (item_good packets given one good f.1) f.2
 
@@ -123,44 +115,22 @@ start_good names = record {
   prints = tt;
   streams_known = λ id i. known _ i;
   streams = tt;
-  folds_known = λ id v h. absurd (none _ v h);
+  folds_known = λ id v h. absurd (no_fold id v h);
   folds = λ f i. absurd i;
   columns = λ one i. absurd i;
 }
   where
     no : (a : ℕ) (p : PrintOf) → place_at (start_of names).known a ≡ Some p → ⊥
-    no a p e = by _ e
-      where
-        by : (b : Bool) → place_in (if b then Some (meaning.Stream (record {
-          number = 0;
-          columns = map (λ id. record { name = id; origin = origin.Field }) (field_numbers names);
-          hidden = [];
-          table = None;
-        })) else None) ≡ Some p → ⊥
-        by true e = cc
-        by false e = cc
+    no a p e = elim (place_cases [] (packet_stream names) a p e) [ inl none ↦ cc | inr new ↦ (let none : None ≡ Some p = new.1 in cc) ]
 
-    none : (id : ℕ) (v : FoldView) → meaning_of (start_of names).known id ≡ Some (meaning.Fold v) → ⊥
-    none id v e = by _ e
-      where
-        by : (b : Bool) → (if b then Some (meaning.Stream (record {
-          number = 0;
-          columns = map (λ id. record { name = id; origin = origin.Field }) (field_numbers names);
-          hidden = [];
-          table = None;
-        })) else None) ≡ Some (meaning.Fold v) → ⊥
-        by true e = cc
-        by false e = cc
+    no_fold : (id : ℕ) (v : FoldView) → meaning_of (start_of names).known id ≡ Some (meaning.Fold v) → ⊥
+    no_fold id v e = elim (meaning_cases [] (packet_stream names) id (meaning.Fold v) e) [
+      | inl none ↦ cc
+      | inr new ↦ (let stream = new.1 in cc)
+    ]
 
     known : (id : ℕ) → IsIn id (number_in names (codes "pktstream") ∷ []) → is_some (meaning_of (start_of names).known id) ≡ true
-    known id (inl e) =
-        let t : nat_eq (number_in names (codes "pktstream")) id ≡ true = grind arith in
-        ap (λ b. is_some (if b then Some (meaning.Stream (record {
-          number = 0;
-          columns = map (λ id. record { name = id; origin = origin.Field }) (field_numbers names);
-          hidden = [];
-          table = None;
-        })) else None)) t
+    known id (inl e) = subst (λ n. is_some (meaning_of (start_of names).known n) ≡ true) (sym e) (some_new [] (packet_stream names))
     known id (inr h) = absurd h
 
 pub checked_differ : (parsed : Query) (q : TypedQuery) → checked parsed ≡ Ok q

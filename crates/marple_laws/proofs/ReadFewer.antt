@@ -1,7 +1,7 @@
 -- A trace that is read with all fields and has no fault is read with fewer fields, and has 0 in the others.
-use Rattle.marple_laws.proofs.Words.{◌≡◌, ℕ, ◌+◌, Bool, true, false, cond, not, List, [], ◌∷◌, length, Option, Some, None, Result, Ok, Err}
-use Rattle.marple_laws.proofs.Words.{refl, sym, ap, subst, ◌∙◌, ◌==◌, zip, all_fields, field_name, has_field, Field, Switch, FieldSet}
-use Rattle.marple_laws.proofs.Words.{Packet, MAX_RECORDS, MAX_TRACE, zeroed, as_read, all_as_read}
+use Rattle.marple_laws.proofs.Words.{◌≡◌, ℕ, ◌+◌, Bool, true, false, cond, List, [], ◌∷◌, length, Option, Some, None, Result, Ok, Err, refl}
+use Rattle.marple_laws.proofs.Words.{sym, ap, subst, ◌∙◌, zip, all_fields, field_name, has_field, Field, Switch, FieldSet, Packet}
+use Rattle.marple_laws.proofs.Words.{MAX_TRACE, zeroed, as_read, all_as_read}
 use Rattle.std.specs.Prelude.{nat_lt}
 use Rattle.trace_reader.specs.{Reading.records, Traces.{Contents, Layout, column_of_field, columns_named, columns_of_fields, contents}}
 use Rattle.trace_reader.specs.Traces.{contents_from, contents_with, each, layout_of, layout_with, only_column, opening, packet_of}
@@ -48,8 +48,8 @@ columns_masked reads header (f ∷ fields) columns e = go (columns_masked reads 
         → (a : Result (Option ℕ) TraceFault) → column_of_field whole header f ≡ a → (b : Result (List (Option ℕ)) TraceFault)
         → each (column_of_field whole header) fields ≡ b → with_first a b ≡ Ok columns
         → with_first (column_of_field reads header f) (each (column_of_field reads header) fields) ≡ Ok (masked reads (f ∷ fields) columns)
-    go rest (Err x) ea b eb h = absurd (cc h)
-    go rest (Ok c) ea (Err x) eb h = absurd (cc h)
+    go rest (Err x) ea b eb h = cc
+    go rest (Ok c) ea (Err x) eb h = cc
     go rest (Ok c) ea (Ok cs) eb h =
         let same : c ∷ cs ≡ columns = cc in
         subst (λ l. with_first (column_of_field reads header f) (each (column_of_field reads header) fields) ≡ Ok
@@ -90,8 +90,8 @@ words_masked reads texts (f ∷ fields) (column ∷ columns) words e = go (words
         → word_at texts f column ≡ a → (b : Result (List ℕ) Field) → each (word_of_pair texts) (zip fields columns) ≡ b
         → with_first a b ≡ Ok words → with_first (word_at texts f (cond (has_field reads f) column None))
         (each (word_of_pair texts) (zip fields (masked reads fields columns))) ≡ Ok (zeroed reads (f ∷ fields) words)
-    go rest (Err x) ea b eb h = absurd (cc h)
-    go rest (Ok w) ea (Err x) eb h = absurd (cc h)
+    go rest (Err x) ea b eb h = cc
+    go rest (Ok w) ea (Err x) eb h = cc
     go rest (Ok w) ea (Ok ws) eb h =
         let same : w ∷ ws ≡ words = cc in
         subst (λ l. with_first (word_at texts f (cond (has_field reads f) column None))
@@ -115,9 +115,9 @@ module _ (reads : FieldSet) (width : ℕ) (columns : List (Option ℕ)) where
           → cond a (Err fault.TooManyPackets) (cond b (Err (fault.FieldCount n)) (packet_with n w)) ≡ Ok p
           → cond a (Err fault.TooManyPackets) (cond b (Err (fault.FieldCount n))
           (packet_with n (words_in_columns (masked reads all_fields columns) texts))) ≡ Ok (as_read reads p)
-      go true b w ew h = absurd (cc h)
-      go false true w ew h = absurd (cc h)
-      go false false (Err f) ew h = absurd (cc h)
+      go true b w ew h = cc
+      go false true w ew h = cc
+      go false false (Err f) ew h = cc
       go false false (Ok ws) ew h =
           let same : record { words = ws } ≡ p = cc in
           subst (λ x. packet_with n (words_in_columns (masked reads all_fields columns) texts) ≡ Ok (as_read reads x)) same
@@ -135,7 +135,7 @@ module _ (reads : FieldSet) (width : ℕ) (columns : List (Option ℕ)) where
           → packet_of full n texts ≡ a → (b : Contents) → contents_from full (n + 1) rest ≡ b
           → with_packet a b ≡ record { packets = sent; fault = None } → with_packet (packet_of fewer n texts)
           (contents_from fewer (n + 1) rest) ≡ record { packets = all_as_read reads sent; fault = None }
-      go after (Err x) ea b eb h = let none : Some x ≡ None = ap (λ (c : Contents). c.fault) h in absurd (cc none)
+      go after (Err x) ea b eb h = let none : Some x ≡ None = ap (λ (c : Contents). c.fault) h in cc
       go after (Ok p) ea b eb h =
           let none : b.fault ≡ None = ap (λ (c : Contents). c.fault) h in
           let later : contents_from full (n + 1) rest ≡ record { packets = b.packets; fault = None } =
@@ -157,11 +157,11 @@ read_fewer text reads sent e = go (nat_lt MAX_TRACE (length text)) (records text
     inner : (header : List (List ℕ)) (rest : List (List (List ℕ))) (r : Result (List (Option ℕ)) TraceFault)
         → columns_of_fields whole header ≡ r → contents_with (layout_with (length header) r) rest ≡ good sent
         → contents_with (layout_with (length header) (columns_of_fields reads header)) rest ≡ good (all_as_read reads sent)
-    inner header rest (Err x) er h = let none : Some x ≡ None = ap (λ (c : Contents). c.fault) h in absurd (cc none)
+    inner header rest (Err x) er h = let none : Some x ≡ None = ap (λ (c : Contents). c.fault) h in cc
     inner header rest (Ok columns) er h = rw (columns_masked _ _ _ _ er) (contents_masked _ (length header) _ 1 rest sent h)
 
     go : (b : Bool) (rs : List (List (List ℕ))) → contents_with (cond b (Err fault.TraceTooLong) (layout_of rs whole)) (rest_of rs) ≡ good
         sent → contents_with (cond b (Err fault.TraceTooLong) (layout_of rs reads)) (rest_of rs) ≡ good (all_as_read reads sent)
-    go true rs h = let none : Some fault.TraceTooLong ≡ None = ap (λ (c : Contents). c.fault) h in absurd (cc none)
-    go false [] h = let none : Some fault.NoHeader ≡ None = ap (λ (c : Contents). c.fault) h in absurd (cc none)
+    go true rs h = let none : Some fault.TraceTooLong ≡ None = ap (λ (c : Contents). c.fault) h in cc
+    go false [] h = let none : Some fault.NoHeader ≡ None = ap (λ (c : Contents). c.fault) h in cc
     go false (header ∷ rest) h = inner _ _ (columns_of_fields whole header) refl h

@@ -1,11 +1,10 @@
 -- The text of a query's plan is valid, and makes the query's plan.
 use Rattle.marple_laws.proofs.Words.{◌≡◌, ℕ, suc, ◌+◌, ◌^◌, ◌<◌, ◌≤◌, true, List, [], ◌∷◌, ◌++◌, length, Some, None, Option, refl, sym, ap}
-use Rattle.marple_laws.proofs.Words.{subst, ◌∙◌, arith, append_assoc, append-nil, All, flat_map, codes, decimal, range_with_len, All-head}
-use Rattle.marple_laws.proofs.Words.{All-tail, Field, TypedFold, PrintOf, TypedQuery, takings, IsValidQuery, IsQueryTable, MAX_GROUPBYS}
-use Rattle.marple_laws.proofs.Words.{GroupWiring, PlanOp, reads_of, IsPlanOf, fold_at, GroupShape, query_groups, PlanParts, IsSoundPlan}
-use Rattle.marple_laws.proofs.Words.{Folded, Made, lines, bytes_after_lines, nothing, word_named, Make, Says, query_ops, query_wiring}
-use Rattle.marple_laws.proofs.Words.{fields_of, reads_line, op_line, group_text, print_line, compiled_text, line, folded_with, folded_of}
-use Rattle.marple_laws.proofs.Words.{group_made, printed_group, made_of, AreNew, HasPlanText}
+use Rattle.marple_laws.proofs.Words.{subst, ◌∙◌, arith, append_assoc, append-nil, All, flat_map, codes, decimal, range_with_len, All-tail}
+use Rattle.marple_laws.proofs.Words.{Field, TypedFold, PrintOf, TypedQuery, takings, IsValidQuery, IsQueryTable, MAX_GROUPBYS, GroupWiring}
+use Rattle.marple_laws.proofs.Words.{PlanOp, reads_of, IsPlanOf, GroupShape, query_groups, PlanParts, IsSoundPlan, Folded, Made, lines}
+use Rattle.marple_laws.proofs.Words.{bytes_after_lines, nothing, word_named, Make, Says, query_ops, fields_of, group_text, print_line}
+use Rattle.marple_laws.proofs.Words.{compiled_text, folded_with, folded_of, group_made, printed_group, made_of, AreNew, HasPlanText}
 use Rattle.std.specs.Prelude.{slice_get}
 use Rattle.query_lang.specs.declared.typed.PrintOf.TheVariants as printed
 use Rattle.plan_file.specs.declared.line_word.LineWord.TheVariants as lead
@@ -60,7 +59,7 @@ prints_written : {fields : List Field} {ops : List PlanOp} {groups : List Folded
 prints_written {fields} {ops} {groups} few [] {before} there new = nothing_written (ap (printing fields ops groups) (append-nil before))
 prints_written few (printed.Final i ∷ prints) there new = prints_written few prints there new
 prints_written {fields} {ops} {groups} few (printed.Group i ∷ prints) {before} there new =
-    written_then (flat_map print_line prints)
+    written_then _
     (line_written (decimal i ∷ []) refl (token_decimal small, tt) print_lead
     (λ cut. record {
       current = refl;
@@ -80,7 +79,7 @@ prints_written {fields} {ops} {groups} few (printed.Group i ∷ prints) {before}
 tables_there : (q : TypedQuery) (prints : List PrintOf) → All (IsQueryTable q) prints → AreThere (length (takings q.streams)) prints
 tables_there q [] h = tt
 tables_there q (printed.Group i ∷ prints) h = (
-  All-head (IsQueryTable q) (printed.Group i) prints h,
+  h 0 (printed.Group i) (omega arith),
   tables_there q prints (All-tail (IsQueryTable q) (printed.Group i) prints h),
 )
 tables_there q (printed.Final i ∷ prints) h = tables_there q prints (All-tail (IsQueryTable q) (printed.Final i) prints h)
@@ -97,8 +96,7 @@ module _ (q : TypedQuery) (p : PlanParts) (valid : IsValidQuery q) (text : HasPl
     long =
         ap (λ n. length (flat_map (group_made q) (range_with_len 0 n))) (sym (shapes_long q p valid text plan sound))
         ∙ groups_long _ (group_ok q p valid text plan sound)
-        _
-        0 (λ k. (let z : 0 + k ≡ k = omega arith in ap (slice_get _) z))
+        _ 0 (λ k. (let z : 0 + k ≡ k = omega arith in ap (slice_get _) z))
         ∙ shapes_long q p valid text plan sound
 
     groups_here : IsWritten (flat_map (group_text q) (range_with_len 0 (length (takings q.streams)))) (outside fields (query_ops q) [])
@@ -115,16 +113,10 @@ module _ (q : TypedQuery) (p : PlanParts) (valid : IsValidQuery q) (text : HasPl
     text_written : IsWritten (compiled_text q) nothing (made_of q)
     unfolding compiled_text
     text_written =
-        written_then
-        _ first_written
-        (written_then (flat_map op_line (query_ops q)
-        ++ (flat_map (group_text q) (range_with_len 0 (length (takings q.streams))) ++ flat_map print_line q.prints))
-        (reads_written (reads_of q))
-        (written_then (flat_map (group_text q) (range_with_len 0 (length (takings q.streams)))
-        ++ flat_map print_line q.prints)
-        (ops_written (op_ok q p valid text plan sound) (query_ops q) refl)
-        (written_then (flat_map print_line q.prints)
-        groups_here
+        written_then _ first_written
+        (written_then _ (reads_written (reads_of q))
+        (written_then _ (ops_written (op_ok q p valid text plan sound) (query_ops q) refl)
+        (written_then _ groups_here
         (prints_written (omega (arith, long, valid.most_groupbys)) q.prints
         (subst (λ n. AreThere n q.prints) (sym long) (tables_there q q.prints valid.prints)) text.prints_differ))))
 

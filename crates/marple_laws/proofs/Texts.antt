@@ -1,14 +1,13 @@
 -- Names whose numbers differ have texts that differ.
-use Rattle.marple_laws.proofs.Words.{◌≡◌, ℕ, zero, suc, ◌<◌, List, [], ◌∷◌, ◌++◌, length, Option, Some, None, refl, sym, ap, subst, ◌∙◌}
-use Rattle.marple_laws.proofs.Words.{inl, inr, arith, Contains, All, filter_map, codes, option_map, cons_option, All-head, All-tail}
-use Rattle.marple_laws.proofs.Words.{same_Some, TypedFold, TypedOp, TypedQuery, TypedStream, AreOnce, number_in, AreValidStreams, HasNames}
-use Rattle.marple_laws.proofs.Words.{IsValidQuery, GroupShape, query_groups, shape_made, shape_with, text_at, AreNames, AreNew, AreNoKeys}
-use Rattle.marple_laws.proofs.Words.{IsNamedWell}
+use Rattle.marple_laws.proofs.{Differ.{AreApart, HasOwnColumns, NamesDiffer}, Items.{IsIn, contains_in, in_last, in_left, in_push}}
+use Rattle.marple_laws.proofs.{Lexical.{AreGood, number_at}, Words.{All, All-head, All-tail, AreNames, AreNew, AreNoKeys, AreOnce}}
+use Rattle.marple_laws.proofs.Words.{AreValidStreams, Contains, GroupShape, HasNames, IsNamedWell, IsValidQuery, List, None, Option, Some}
+use Rattle.marple_laws.proofs.Words.{TypedFold, TypedOp, TypedQuery, TypedStream, [], ap, arith, codes, cons_option, filter_map, inl, inr}
+use Rattle.marple_laws.proofs.Words.{length, number_in, option_map, query_groups, refl, same_Some, shape_made, shape_with, subst, suc, sym}
+use Rattle.marple_laws.proofs.Words.{text_at, zero, ℕ, ◌++◌, ◌<◌, ◌∙◌, ◌∷◌, ◌≡◌}
 use Rattle.std.specs.Prelude.{map, slice_get}
 use Rattle.query_lang.specs.declared.typed.TypedOp.TheVariants as typed
 use Rattle.query_lang.specs.TypedQueries as valid
-use Rattle.marple_laws.proofs.{Differ.{AreApart, HasOwnColumns, NamesDiffer}, Items.{IsIn, contains_in, in_last, in_left, in_push}}
-use Rattle.marple_laws.proofs.Lexical.{AreGood, number_at}
 
 -- ---- items of lists
 
@@ -52,11 +51,7 @@ covers_still names before texts id cover t h = let k = cover t h in (k.0, in_lef
 
 pub covers_all : (names : List (List ℕ)) (ids : List ℕ) → All (λ id. id < length names) ids → Cover names ids (map (text_at names) ids)
 covers_all names [] all t h = absurd h
-covers_all names (id ∷ ids) all t (inl e) = (
-  id,
-  inl refl,
-  text_there names id (All-head (λ id. id < length names) id ids all) ∙ ap Some (sym e),
-)
+covers_all names (id ∷ ids) all t (inl e) = (id, inl refl, text_there names id (all 0 id (omega arith)) ∙ ap Some (sym e))
 covers_all names (id ∷ ids) all t (inr h) =
     let k = covers_all names ids (All-tail (λ id. id < length names) id ids all) t h in
     (k.0, inr k.1, k.2)
@@ -72,7 +67,7 @@ new_texts : (names : List (List ℕ)) → AreOnce names → (ids before : List �
     → All (λ id. id < length names) ids → AreNew before ids → AreNew texts (map (text_at names) ids)
 new_texts names once [] before texts cover all new = tt
 new_texts names once (id ∷ ids) before texts cover all new =
-    let there : slice_get names id ≡ Some (text_at names id) = text_there names id (All-head (λ id. id < length names) id ids all) in (
+    let there : slice_get names id ≡ Some (text_at names id) = text_there names id (all 0 id (omega arith)) in (
       new_text names once before texts id (text_at names id) cover new.0 there,
       new_texts names once ids (before ++ id ∷ []) (texts ++ text_at names id ∷ [])
           (covers_more names before texts id (text_at names id) cover there) (All-tail (λ id. id < length names) id ids all) new.1,
@@ -83,7 +78,7 @@ apart_texts : (names : List (List ℕ)) → AreOnce names → (keys states : Lis
 apart_texts names once keys [] below all apart = tt
 apart_texts names once keys (s ∷ states) below all apart = (
   new_text names once keys (map (text_at names) keys) s (text_at names s) (covers_all names keys below) apart.0
-      (text_there names s (All-head (λ id. id < length names) s states all)),
+      (text_there names s (all 0 s (omega arith))),
   apart_texts names once keys states below (All-tail (λ id. id < length names) s states all) apart.1,
 )
 
@@ -91,7 +86,7 @@ names_are : {names : List (List ℕ)} → AreGood names → (ids : List ℕ) →
     → AreNames (map (text_at names) ids)
 names_are good [] all = tt
 names_are {names} good (id ∷ ids) all = (
-  good.lexical id (text_at names id) (text_there names id (All-head (λ id. id < length names) id ids all)),
+  good.lexical id (text_at names id) (text_there names id (all 0 id (omega arith))),
   names_are good ids (All-tail (λ id. id < length names) id ids all),
 )
 
@@ -197,7 +192,10 @@ id_in [] j h = cc
 id_in (s ∷ streams) zero {one} h = inl (ap (λ (t : TypedStream). t.name.id) (sym (same_Some s one h)))
 id_in (s ∷ streams) (suc j) h = inr (id_in streams j h)
 
-shape_named : (q : TypedQuery) {packets : ℕ} → packets ≡ number_in q.names (codes "pktstream") → IsValidQuery q → AreGood q.names → NamesDiffer packets q → (j : ℕ) {one : TypedStream} {args : ℕ} (number : ℕ) {f : TypedFold} → slice_get q.streams j ≡ Some one → slice_get q.folds number ≡ Some f → AreNew [] one.columns → AreApart one.columns f.state_names → IsNamedWell (shape_with q.names one.name.id one.columns args f)
+shape_named : (q : TypedQuery) {packets : ℕ} → packets ≡ number_in q.names (codes "pktstream") → IsValidQuery q → AreGood q.names
+    → NamesDiffer packets q → (j : ℕ) {one : TypedStream} {args : ℕ} (number : ℕ) {f : TypedFold} → slice_get q.streams j ≡ Some one
+    → slice_get q.folds number ≡ Some f → AreNew [] one.columns → AreApart one.columns f.state_names
+    → IsNamedWell (shape_with q.names one.name.id one.columns args f)
 shape_named q {packets} is v good differ j {one} number {f} here fold new apart =
     let below = stream_below (length q.names) _ _ _ j v.streams here in
     let states = (all_at (HasNames (length q.names)) _ number f v.fold_names fold).states in
@@ -215,8 +213,9 @@ shape_named q {packets} is v good differ j {one} number {f} here fold new apart 
       states_apart = apart_texts _ good.once _ _ below.1 states apart;
     }
 
-pub named_well : (q : TypedQuery) {packets : ℕ} → packets ≡ number_in q.names (codes "pktstream") → IsValidQuery q → AreGood q.names → NamesDiffer packets q → (i : ℕ) (shape : GroupShape) → slice_get (query_groups q) i ≡ Some shape → IsNamedWell shape
-named_well q {packets} is v good differ i shape e =
+pub named_well : (q : TypedQuery) {packets : ℕ} → packets ≡ number_in q.names (codes "pktstream") → IsValidQuery q → AreGood q.names
+    → NamesDiffer packets q → (i : ℕ) (shape : GroupShape) → slice_get (query_groups q) i ≡ Some shape → IsNamedWell shape
+named_well q is v good differ i shape e =
     let from = group_from q.names q.folds q.streams i e in
     let made = made_by from.1 from.1.op from.3 (differ.columns from.0 from.1 from.2) in
     subst IsNamedWell (sym made.is)

@@ -1,7 +1,7 @@
 -- Texts of whole lines, and what their lines make.
-use Rattle.marple_laws.proofs.Words.{◌≡◌, ℕ, true, List, [], ◌∷◌, ◌++◌, refl, sym, ap, subst, ◌∙◌, append_assoc, append-nil}
-use Rattle.marple_laws.proofs.Words.{flat_map-append, LineWord, Made, first_line_word, line_word, word_named, tokens, IsLineOf, Make}
-use Rattle.marple_laws.proofs.{Words.{spaced, line}, Tokens.{is_token, AreTokens, AreLines, ended, tokens_of, none_in_line, lines_append}}
+use Rattle.marple_laws.proofs.{Tokens.{AreLines, AreTokens, ended, is_token, lines_append, none_in_line, tokens_of}, Words.IsLineOf}
+use Rattle.marple_laws.proofs.Words.{LineWord, List, Made, Make, [], ap, append-nil, append_assoc, first_line_word, flat_map-append, line}
+use Rattle.marple_laws.proofs.Words.{line_word, refl, spaced, subst, sym, tokens, true, word_named, ℕ, ◌++◌, ◌∙◌, ◌∷◌, ◌≡◌}
 
 pub make_both : (xs ys : List (List ℕ)) (before mid after : Made) → Make xs before mid → Make ys mid after → Make (xs ++ ys) before after
 make_both [] ys before mid after a b = subst (λ m. Make ys m after) a b
