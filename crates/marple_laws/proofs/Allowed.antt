@@ -3,16 +3,16 @@ use Rattle.marple_laws.proofs.{Fields.{operand_fits, operand_known, operand_read
 use Rattle.marple_laws.proofs.{Groups.HasGroup, Items.mapped_at, Known.{AllGood, AreFrom, AreRead, IsWritable, column_good, read_left}}
 use Rattle.marple_laws.proofs.{Known.{read_right, writable_at}, KnownStreams.{AllAreGood, AreFit, AreNamed, named_from, query_good}}
 use Rattle.marple_laws.proofs.{Listed.in_set, Moved.{AreAfterFields, moved_good, moved_writable, op_from}, OpLines.IsOpOk}
-use Rattle.marple_laws.proofs.{TakenFolds.taken_fold, Words.{AreSoundOps, Bool, FIELDS, FieldSource, GroupPlan, GroupShape, HasPlanText}}
-use Rattle.marple_laws.proofs.Words.{IsNamedWell, IsPlanOf, IsProgramOf, IsSoundGroup, IsSoundOp, IsSoundPlan, IsValidFold, IsValidQuery}
-use Rattle.marple_laws.proofs.Words.{IsWithin, List, None, Number, Operand, Option, PlanOp, PlanParts, Register, Some, Taking, TypedFold}
-use Rattle.marple_laws.proofs.Words.{TypedOp, TypedQuery, TypedStream, [], all_sources, ap, arith, false, fields_of, fold_at, fold_states}
-use Rattle.marple_laws.proofs.Words.{get_or_from_slice_get, group_shape, if◌then◌else◌, inl, inr, last_stage, length, length-map}
-use Rattle.marple_laws.proofs.Words.{length-take-le, moved, named_input, named_slots, operand_stage, ops_are, option_map, ordered}
-use Rattle.marple_laws.proofs.Words.{query_groups, query_made, query_ops, query_order, query_registers, query_wiring, range_with_len}
-use Rattle.marple_laws.proofs.Words.{reads_of, refl, register_in, same_Some, slice_get-map, slice_get_cases, slice_get_within, sources_at}
-use Rattle.marple_laws.proofs.Words.{stage_at, stage_of, subst, suc, sym, take, takings, true, unwrap_or, wiring_is, wiring_of, zero, ℕ}
-use Rattle.marple_laws.proofs.Words.{◌++◌, ◌+◌, ◌-◌, ◌<◌, ◌∙◌, ◌∷◌, ◌≡◌, ◌≤◌}
+use Rattle.marple_laws.proofs.Words
+use Words.{AreSoundOps, Bool, FIELDS, FieldSource, GroupPlan, GroupShape, HasPlanText, IsNamedWell, IsPlanOf, IsProgramOf, IsSoundGroup}
+use Words.{IsSoundOp, IsSoundPlan, IsValidFold, IsValidQuery, IsWithin, List, None, Number, Operand, Option, PlanOp, PlanParts, Register}
+use Words.{Some, Taking, TypedFold, TypedOp, TypedQuery, TypedStream, [], all_sources, ap, arith, false, fields_of, fold_at, fold_states}
+use Words.{get_or_from_slice_get, group_shape, if◌then◌else◌, inl, inr, last_stage, length, length-map, length-take-le, moved, named_input}
+use Words.{named_slots, operand_stage, ops_are, option_map, ordered, query_groups, query_made, query_ops, query_order, query_registers}
+use Words.{query_wiring, range_with_len, reads_of, refl, register_in, same_Some, slice_get-map, slice_get_cases, slice_get_within}
+use Words.{sources_at, stage_at, stage_of, subst, suc, sym, take, takings, true, unwrap_or, wiring_is, wiring_of, zero, ℕ, ◌++◌, ◌+◌, ◌-◌}
+use Words.{◌<◌, ◌∙◌, ◌∷◌, ◌≡◌, ◌≤◌}
+use Rattle.marple_laws.proofs.TakenFolds.{taken_fold}
 use Rattle.std.specs.Prelude.{map, nat_lt, slice_get}
 use Rattle.query_lang.specs.declared.typed.TypedOp.TheVariants as op
 use Rattle.stage_plan.{proofs.Groupings.depth_is, specs.Making.{operand_at, wires_at}}

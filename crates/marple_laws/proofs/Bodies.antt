@@ -1,10 +1,10 @@
 -- The words of a body are read as the tokens that write it.
-use Rattle.marple_laws.proofs.Words.{◌≡◌, ℕ, ◌+◌, ◌-◌, ◌^◌, ◌<◌, ◌≤◌, Bool, true, false, eqb, List, [], ◌∷◌, ◌++◌, Some, None, refl, ap}
-use Rattle.marple_laws.proofs.Words.{◌∙◌, arith, decimal, codes, if◌then◌else◌, decimal_is_IsNumeral, map-append, digit_from_value}
-use Rattle.marple_laws.proofs.Words.{AllDigits, Op, Block, End, Set, Fork, Term, Literal, Read, Negation, Operation, IsValidTerm}
-use Rattle.marple_laws.proofs.Words.{IsValidBlock, block_count, MAX_STATEMENTS, number, function_named, lexeme_among, lexeme_of}
-use Rattle.marple_laws.proofs.Words.{other_named, comparison_named, slot_lexeme, written, written_block, open_braces, IsBody, function_word}
-use Rattle.marple_laws.proofs.Words.{number_word, state_word, slot_word, term_words, block_words}
+use Rattle.marple_laws.proofs.Words
+use Words.{◌≡◌, ℕ, ◌+◌, ◌-◌, ◌^◌, ◌<◌, ◌≤◌, Bool, true, false, eqb, List, [], ◌∷◌, ◌++◌, Some, None, refl, ap, ◌∙◌, arith, decimal, codes}
+use Words.{if◌then◌else◌, decimal_is_IsNumeral, map-append, digit_from_value, AllDigits, Op, Block, End, Set, Fork, Term, Literal, Read}
+use Words.{Negation, Operation, IsValidTerm, IsValidBlock, block_count, MAX_STATEMENTS, number, function_named, lexeme_among, lexeme_of}
+use Words.{other_named, comparison_named, slot_lexeme, written, written_block, open_braces, IsBody, function_word, number_word, state_word}
+use Words.{slot_word, term_words, block_words}
 use Rattle.std.specs.Prelude.{map, nat_lt}
 use Rattle.query_lang.specs.declared.fold.Op.TheVariants as ops
 use Rattle.plan_file.specs.declared.lexemes.Lexeme.TheVariants as word

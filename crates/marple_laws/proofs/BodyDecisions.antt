@@ -1,7 +1,8 @@
 -- Whether tokens of bodies are the same, and whether a body is valid, is decided.
-use Rattle.marple_laws.proofs.Words.{◌≡◌, ℕ, ◌+◌, ◌<◌, ◌^◌, true, false, List, [], ◌∷◌, get_or, refl, sym, ap, ap₂, ◌∙◌, subst, inl, inr}
-use Rattle.marple_laws.proofs.Words.{◌==◌, if◌then◌else◌, Op, Block, End, Set, Fork, IsConstant, IsValidBlock, IsValidTerm, TakesOperands}
-use Rattle.marple_laws.proofs.Words.{is_condition, Term, Literal, Read, Negation, Operation, Lexeme, IsBody, block_written, bodies}
+use Rattle.marple_laws.proofs.Words
+use Words.{◌≡◌, ℕ, ◌+◌, ◌<◌, ◌^◌, true, false, List, [], ◌∷◌, get_or, refl, sym, ap, ap₂, ◌∙◌, subst, inl, inr, ◌==◌, if◌then◌else◌, Op}
+use Words.{Block, End, Set, Fork, IsConstant, IsValidBlock, IsValidTerm, TakesOperands, is_condition, Term, Literal, Read, Negation}
+use Words.{Operation, Lexeme, IsBody, block_written, bodies}
 use Rattle.query_lang.specs.declared.fold.Op.TheVariants as ops
 use Rattle.plan_file.specs.declared.lexemes.Lexeme.TheVariants as word
 use Rattle.marple_laws.proofs.Decisions.{Decided, both, by_both, is_false, is_true, less, most, same_list, same_number}

@@ -1,6 +1,7 @@
 -- The keys of a bucket are those of the open epochs that it represents.
-use Rattle.marple_laws.proofs.Words.{◌≡◌, ℕ, ◌<◌, ◌≤◌, ◌||◌, List, [], ◌∷◌, length, map, get_or, sym, refl, ap, subst, ◌∙◌, arith, All}
-use Rattle.marple_laws.proofs.Words.{length-map, get_or-map, IsWellFormed, Epoch, Machine, open_in, IsDistinct, distinct-distinct}
+use Rattle.marple_laws.proofs.Words
+use Words.{◌≡◌, ℕ, ◌<◌, ◌≤◌, ◌||◌, List, [], ◌∷◌, length, map, get_or, sym, refl, ap, subst, ◌∙◌, arith, All, length-map, get_or-map}
+use Words.{IsWellFormed, Epoch, Machine, open_in, IsDistinct, distinct-distinct}
 use Rattle.marple_laws.specs.LaneLaws.{HasKeysInBuckets}
 use Rattle.epoch_model.specs.Keys.{Key, key_eq, bucket_of, has}
 use Rattle.bucket_cache.specs.{Buckets.{Pair, has_key, AreKeysOnce}, Caches.{Cache, list_at}}

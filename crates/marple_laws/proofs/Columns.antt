@@ -1,8 +1,8 @@
 -- The columns of folds and groupbys that were checked differ.
-use Rattle.marple_laws.proofs.Words.{◌≡◌, ℕ, zero, suc, ◌+◌, Bool, true, false, ◌||◌, List, [], ◌∷◌, ◌++◌, length, Some, None, Option, Ok}
-use Rattle.marple_laws.proofs.Words.{refl, sym, ap, subst, ◌∙◌, inl, inr, arith, nat_eq, nat_lt, if◌then◌else◌, list_any, cons_option}
-use Rattle.marple_laws.proofs.Words.{NameTaken, OverLimit, States, Keys, Span, TypedFold, FoldDef, Name, FoldView, must, is_among}
-use Rattle.marple_laws.proofs.Words.{place_from, place_of, collected, slot_at, slot_of, MAX_KEYS, MAX_STATES, AreNew}
+use Rattle.marple_laws.proofs.Words
+use Words.{◌≡◌, ℕ, zero, suc, ◌+◌, Bool, true, false, ◌||◌, List, [], ◌∷◌, ◌++◌, length, Some, None, Option, Ok, refl, sym, ap, subst, ◌∙◌}
+use Words.{inl, inr, arith, nat_eq, nat_lt, if◌then◌else◌, list_any, cons_option, NameTaken, OverLimit, States, Keys, Span, TypedFold}
+use Words.{FoldDef, Name, FoldView, must, is_among, place_from, place_of, collected, slot_at, slot_of, MAX_KEYS, MAX_STATES, AreNew}
 use Rattle.marple_laws.proofs.Items.{must_ok, must_not_ok, found_first, same_ok, IsIn, mapped_at, not_in, new_push, apart_from}
 use Rattle.marple_laws.proofs.Differ.{AreApart}
 use Rattle.std.specs.Prelude.{map, slice_get}

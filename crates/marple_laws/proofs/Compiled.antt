@@ -1,7 +1,8 @@
 -- The plans that `compile` writes run as their queries.
-use Rattle.marple_laws.proofs.{Accepted.accepted_load, OneReading.read_once, Words.{Checked, IsAsTheQuery, IsReadingOf, List, Made}}
-use Rattle.marple_laws.proofs.Words.{NoViewsWithoutNumber, None, Setting, TypedQuery, [], accepted, ap, compiled_text, fault_after}
-use Rattle.marple_laws.proofs.Words.{fault_in, final_fault, geometry_of, made_of, plan_output, reads_in, reads_of, refl, subst, sym}
+use Rattle.marple_laws.proofs.Words
+use Words.{Checked, IsAsTheQuery, IsReadingOf, List, Made, NoViewsWithoutNumber, None, Setting, TypedQuery, [], accepted, ap, compiled_text}
+use Words.{fault_after, fault_in, final_fault, geometry_of, made_of, plan_output, reads_in, reads_of, refl, subst, sym}
+use Rattle.marple_laws.proofs.{Accepted.accepted_load, OneReading.read_once}
 use Rattle.marple_laws.{proofs.Words.{words_of, ℕ, ◌∙◌, ◌≡◌}, specs.Compiled.CompiledPlansRunAsQueries}
 use Rattle.std.specs.Prelude.{Err, Ok}
 use Rattle.command_line.specs.declared.command.Command.TheVariants.{RunPlan}

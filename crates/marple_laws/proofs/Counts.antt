@@ -1,9 +1,9 @@
 -- The most operations that the plan of a query has.
-use Rattle.marple_laws.proofs.Words.{◌≡◌, ℕ, ◌+◌, ◌*◌, ◌≤◌, List, [], ◌∷◌, ◌++◌, length, Option, Some, None, refl, ap, ◌∙◌, arith, All}
-use Rattle.marple_laws.proofs.Words.{flat_map, fold, sum_by, flat_map-append, length-map, sum_by-cons, TypedExpr, TypedFold, TypedOp}
-use Rattle.marple_laws.proofs.Words.{TypedQuery, TypedStream, IsValidEmit, IsValidFold, term_nodes, Term, Literal, Read, Negation}
-use Rattle.marple_laws.proofs.Words.{Operation, term_of, AreValidStreams, IsValidOp, IsValidQuery, query_made, stages_of, PlanOp, QueryMade}
-use Rattle.marple_laws.proofs.Words.{query_fault, order_long, query_ops, query_order, query_registers, made_staged, moved_op, op_numbered}
+use Rattle.marple_laws.proofs.Words
+use Words.{◌≡◌, ℕ, ◌+◌, ◌*◌, ◌≤◌, List, [], ◌∷◌, ◌++◌, length, Option, Some, None, refl, ap, ◌∙◌, arith, All, flat_map, fold, sum_by}
+use Words.{flat_map-append, length-map, sum_by-cons, TypedExpr, TypedFold, TypedOp, TypedQuery, TypedStream, IsValidEmit, IsValidFold}
+use Words.{term_nodes, Term, Literal, Read, Negation, Operation, term_of, AreValidStreams, IsValidOp, IsValidQuery, query_made, stages_of}
+use Words.{PlanOp, QueryMade, query_fault, order_long, query_ops, query_order, query_registers, made_staged, moved_op, op_numbered}
 use Rattle.std.{specs.Prelude.{IfSome, map, max, slice_get}, proofs.lemmas.List.length-append}
 use Rattle.query_lang.specs.declared.typed.TypedOp.TheVariants as typed
 use Rattle.stage_plan.specs.Depths.{StreamDepths, depths_at, depths_made, emit_depths, group_depths, joined_depths, packet_depths}

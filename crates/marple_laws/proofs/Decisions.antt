@@ -1,6 +1,7 @@
 -- Facts that are decided by their parts.
-use Rattle.marple_laws.proofs.Words.{◌≡◌, ℕ, zero, suc, ◌<◌, ◌≤◌, Bool, true, false, List, [], ◌∷◌, length, Option, Some, None, refl, inl}
-use Rattle.marple_laws.proofs.Words.{inr, arith, slice_index_or, cases_eq, cases_lt}
+use Rattle.marple_laws.proofs.Words
+use Words.{◌≡◌, ℕ, zero, suc, ◌<◌, ◌≤◌, Bool, true, false, List, [], ◌∷◌, length, Option, Some, None, refl, inl, inr, arith, slice_index_or}
+use Words.{cases_eq, cases_lt}
 use Rattle.std.specs.Prelude.{◌⊎◌, Contains}
 
 abbrev pub Decided : Type 0 → Type 0

@@ -1,7 +1,8 @@
 -- The fields that the text of a query's plan names are those that the query reads.
-use Rattle.marple_laws.proofs.Words.{◌≡◌, ℕ, ◌^◌, ◌<◌, max, List, [], ◌∷◌, refl, sym, ap, ◌∙◌, inl, inr, arith, bit_or, fold, bit_at}
-use Rattle.marple_laws.proofs.Words.{cases_eq, Field, FieldSet, number_of, all_fields, has_field, HasField, no_fields, with_field}
-use Rattle.marple_laws.proofs.Words.{field_set, TypedQuery, read_fields, reads_of, reads_in, fields_of, made_of}
+use Rattle.marple_laws.proofs.Words
+use Words.{◌≡◌, ℕ, ◌^◌, ◌<◌, max, List, [], ◌∷◌, refl, sym, ap, ◌∙◌, inl, inr, arith, bit_or, fold, bit_at, cases_eq, Field, FieldSet}
+use Words.{number_of, all_fields, has_field, HasField, no_fields, with_field, field_set, TypedQuery, read_fields, reads_of, reads_in}
+use Words.{fields_of, made_of}
 use Rattle.marple_laws.proofs.{Fields.{all_in, in_filter, out_of_filter}, Items.IsIn, Listed.in_set}
 use Rattle.std.proofs.lemmas.Nat.Bits.{bit_at_or, bit_at-lt, bit_at-pow_same, bit_at-pow_other, same_from_bits}
 

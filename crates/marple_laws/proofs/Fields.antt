@@ -1,8 +1,9 @@
 -- The fields of a set in their order, and which registers the lines of a plan know.
-use Rattle.marple_laws.proofs.Words.{◌≡◌, ℕ, suc, ◌+◌, ◌^◌, ◌<◌, ◌≤◌, Bool, true, false, cond, List, [], ◌∷◌, length, refl, sym, ap, subst}
-use Rattle.marple_laws.proofs.Words.{◌∙◌, inl, inr, arith, Contains, All, codes, cases_lt, All-tail, Field, Switch, Some, FieldSet}
-use Rattle.marple_laws.proofs.Words.{number_of, field_name, all_fields, has_field, FIELDS, Operand, Register, Number, PlanOp, IsWithin}
-use Rattle.marple_laws.proofs.Words.{and_parts, nat_tests, Made, word_named, nothing, AreFrom, IsKnown, fields_of, reads_line, line}
+use Rattle.marple_laws.proofs.Words
+use Words.{◌≡◌, ℕ, suc, ◌+◌, ◌^◌, ◌<◌, ◌≤◌, Bool, true, false, cond, List, [], ◌∷◌, length, refl, sym, ap, subst, ◌∙◌, inl, inr, arith}
+use Words.{Contains, All, codes, cases_lt, All-tail, Field, Switch, Some, FieldSet, number_of, field_name, all_fields, has_field, FIELDS}
+use Words.{Operand, Register, Number, PlanOp, IsWithin, and_parts, nat_tests, Made, word_named, nothing, AreFrom, IsKnown, fields_of}
+use Words.{reads_line, line}
 use Rattle.std.specs.Prelude.{map, filter, nat_le, slice_get, ◌&&◌}
 use Rattle.plan_file.specs.declared.line_word.LineWord.TheVariants as lead
 use Rattle.marple_laws.proofs.{GroupLines.{IsReadable, AreReadable}, Items.{IsIn, in_at}, Known.{IsGood, AllGood}, OpLines.{Fits, with_ops}}

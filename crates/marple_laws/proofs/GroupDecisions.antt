@@ -1,10 +1,10 @@
 -- The lines of a group, decided.
-use Rattle.marple_laws.proofs.Words.{◌≡◌, ℕ, ◌≤◌, List, [], ◌∷◌, ◌++◌, length, map, Some, refl, sym, ap, ◌∙◌, subst, inl, inr, codes}
-use Rattle.marple_laws.proofs.Words.{unwrap_or, length-replicate, Field, Block, TypedFold, Class, Linear, block_count, block_nodes}
-use Rattle.marple_laws.proofs.Words.{fold_block, MAX_ARGS, MAX_GROUPBYS, MAX_KEYS, MAX_NODES, MAX_STATEMENTS, MAX_STATES, IsDepth, depth_of}
-use Rattle.marple_laws.proofs.Words.{class_of, depth_found_is, Operand, PlanOp, class_word, Lexeme, LineWord, Folded, Group, IsBody}
-use Rattle.marple_laws.proofs.Words.{IsBodyLine, AreBounds, IsFoldLine, IsFoldOf, IsFoldWords, lexeme_of, number, tokens, IsNamedNumber}
-use Rattle.marple_laws.proofs.Words.{IsNamedOperand, IsOneOperand, words_once, fold_in, block_written, bodies, stmts_same}
+use Rattle.marple_laws.proofs.Words
+use Words.{◌≡◌, ℕ, ◌≤◌, List, [], ◌∷◌, ◌++◌, length, map, Some, refl, sym, ap, ◌∙◌, subst, inl, inr, codes, unwrap_or, length-replicate}
+use Words.{Field, Block, TypedFold, Class, Linear, block_count, block_nodes, fold_block, MAX_ARGS, MAX_GROUPBYS, MAX_KEYS, MAX_NODES}
+use Words.{MAX_STATEMENTS, MAX_STATES, IsDepth, depth_of, class_of, depth_found_is, Operand, PlanOp, class_word, Lexeme, LineWord, Folded}
+use Words.{Group, IsBody, IsBodyLine, AreBounds, IsFoldLine, IsFoldOf, IsFoldWords, lexeme_of, number, tokens, IsNamedNumber}
+use Words.{IsNamedOperand, IsOneOperand, words_once, fold_in, block_written, bodies, stmts_same}
 use Rattle.std.specs.Prelude.{Contains}
 use Rattle.plan_file.specs.declared.line_word.LineWord.TheVariants as words
 use Rattle.plan_file.specs.Groups.{IsArgLine, IsGroupBody, IsGroupLine, IsInGroup, IsKeyLine, IsNewIn, IsStateLine, group_with, names_of}

@@ -1,10 +1,12 @@
 -- The lines of a groupby are valid in sequence.
 use Rattle.marple_laws.proofs.{Names.token_name, Numbers.{number_decimal, token_decimal}, OpLines.{Fits, operand_read, token_operand}}
-use Rattle.marple_laws.proofs.{Tokens.{AreTokens, is_token}, Words.{AllWords, AreNames, AreNew, AreNoKeys, Contains, Field, Folded, Group}}
-use Rattle.marple_laws.proofs.Words.{IsKnown, IsLineOf, IsPart, Lexeme, LineWord, List, MAX_ARGS, MAX_STATES, Made, None, Operand, Option}
-use Rattle.marple_laws.proofs.Words.{PlanOp, Some, [], append-nil, append_assoc, arith, codes, decimal, flat_map, length, length_push, line}
-use Rattle.marple_laws.proofs.Words.{named_lines, operand_word, refl, spaced, subst, tokens, true, word_named, ℕ, ◌++◌, ◌+◌, ◌<◌, ◌∷◌, ◌≡◌}
-use Rattle.marple_laws.proofs.{Words.◌≤◌, Written.{IsWritten, line_written, nothing_written, written_then}}
+use Rattle.marple_laws.proofs.Words
+use Words.{AllWords, AreNames, AreNew, AreNoKeys, Contains, Field, Folded, Group, IsKnown, IsLineOf, IsPart, Lexeme, LineWord, List}
+use Words.{MAX_ARGS, MAX_STATES, Made, None, Operand, Option, PlanOp, Some, [], append-nil, append_assoc, arith, codes, decimal, flat_map}
+use Words.{length, length_push, line, named_lines, operand_word, refl, spaced, subst, tokens, true, word_named, ℕ, ◌++◌, ◌+◌, ◌<◌, ◌∷◌, ◌≡◌}
+use Words.{◌≤◌}
+use Rattle.marple_laws.proofs.Tokens.{AreTokens, is_token}
+use Rattle.marple_laws.proofs.Written.{IsWritten, line_written, nothing_written, written_then}
 use Rattle.std.specs.Prelude.{map}
 use Rattle.plan_file.specs.declared.line_word.LineWord.TheVariants as lead
 use Rattle.plan_file.specs.Groups.{IsInGroup}

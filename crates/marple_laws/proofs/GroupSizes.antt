@@ -1,11 +1,12 @@
 -- The greatest length of the lines of a plan's groupbys.
 use Rattle.marple_laws.proofs.{LineSizes.{after_size, block_size, decimal_size, line_size, operand_size}, NameSizes.total, OpLines.Fits}
-use Rattle.marple_laws.proofs.{Texts.all_at, Words.{All, AllWords, AreValidStreams, Bool, Class, GroupShape, GroupWiring, IsValidFold}}
-use Rattle.marple_laws.proofs.Words.{IsValidOp, List, MAX_ARGS, MAX_KEYS, MAX_NODES, MAX_STATEMENTS, MAX_STATES, None, Operand, Option}
-use Rattle.marple_laws.proofs.Words.{Some, Taking, TypedFold, TypedOp, TypedStream, [], arith, block_words, class_word, codes, cons_option}
-use Rattle.marple_laws.proofs.Words.{decimal, depth_of, false, flat_map, fold_args, fold_block, fold_states, group_lines, if◌then◌else◌}
-use Rattle.marple_laws.proofs.Words.{least_from, length, line, named_lines, operand_word, option_map, range_with_len, refl, same_Some}
-use Rattle.marple_laws.proofs.Words.{subst, suc, taking_of, takings, true, zero, ℕ, ◌*◌, ◌++◌, ◌+◌, ◌∷◌, ◌≡◌, ◌≤◌}
+use Rattle.marple_laws.proofs.Words
+use Words.{All, AllWords, AreValidStreams, Bool, Class, GroupShape, GroupWiring, IsValidFold, IsValidOp, List, MAX_ARGS, MAX_KEYS}
+use Words.{MAX_NODES, MAX_STATEMENTS, MAX_STATES, None, Operand, Option, Some, Taking, TypedFold, TypedOp, TypedStream, [], arith}
+use Words.{block_words, class_word, codes, cons_option, decimal, depth_of, false, flat_map, fold_args, fold_block, fold_states, group_lines}
+use Words.{if◌then◌else◌, least_from, length, line, named_lines, operand_word, option_map, range_with_len, refl, same_Some, subst, suc}
+use Words.{taking_of, takings, true, zero, ℕ, ◌*◌, ◌++◌, ◌+◌, ◌∷◌, ◌≡◌, ◌≤◌}
+use Rattle.marple_laws.proofs.Texts.{all_at}
 use Rattle.std.{proofs.lemmas.List.length-append, specs.Prelude.{map, slice_get}}
 use Rattle.query_lang.specs.declared.typed.Class.TheVariants as class
 use Rattle.query_lang.specs.declared.typed.TypedOp.TheVariants as typed

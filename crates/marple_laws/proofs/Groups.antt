@@ -2,13 +2,13 @@
 use Rattle.marple_laws.proofs.{Bodies.{block_read, few_braces, tokens_block}, GroupLines.{AreReadable, IsReadable, args_written}}
 use Rattle.marple_laws.proofs.{GroupLines.{group_so_far, keys_written, outside, part_written, states_written, within}, Names.token_name}
 use Rattle.marple_laws.proofs.{Numbers.{number_decimal, token_decimal}, OpLines.{operand_read, token_operand}, Tokens.is_token}
-use Rattle.marple_laws.proofs.Words.{AllWords, AreNames, AreNew, AreNoKeys, Class, Contains, Field, Folded, GroupShape, GroupWiring, IsBody}
-use Rattle.marple_laws.proofs.Words.{IsDepth, IsValidFold, Lexeme, Linear, List, MAX_ARGS, MAX_GROUPBYS, MAX_KEYS, Made, None, Operand}
-use Rattle.marple_laws.proofs.Words.{Option, PlanOp, Some, TypedFold, [], ap, append-nil, append_assoc, arith, block_words, class_of}
-use Rattle.marple_laws.proofs.Words.{class_same, class_word, codes, decimal, depth_same, flat_map, fold_args, fold_block, fold_states}
-use Rattle.marple_laws.proofs.Words.{folded_of, folded_with, group_lines, group_lines_of, is_name, length, length_push, line, operand_word}
-use Rattle.marple_laws.proofs.Words.{range_with_len, refl, subst, suc, sym, true, word_named, written_block, ℕ, ◌++◌, ◌+◌, ◌<◌, ◌^◌, ◌∙◌}
-use Rattle.marple_laws.proofs.{Words.{◌∷◌, ◌≡◌, ◌≤◌}, Written.{IsWritten, line_written, nothing_written, written_then}}
+use Rattle.marple_laws.proofs.Words
+use Words.{AllWords, AreNames, AreNew, AreNoKeys, Class, Contains, Field, Folded, GroupShape, GroupWiring, IsBody, IsDepth, IsValidFold}
+use Words.{Lexeme, Linear, List, MAX_ARGS, MAX_GROUPBYS, MAX_KEYS, Made, None, Operand, Option, PlanOp, Some, TypedFold, [], ap, append-nil}
+use Words.{append_assoc, arith, block_words, class_of, class_same, class_word, codes, decimal, depth_same, flat_map, fold_args, fold_block}
+use Words.{fold_states, folded_of, folded_with, group_lines, group_lines_of, is_name, length, length_push, line, operand_word}
+use Words.{range_with_len, refl, subst, suc, sym, true, word_named, written_block, ℕ, ◌++◌, ◌+◌, ◌<◌, ◌^◌, ◌∙◌, ◌∷◌, ◌≡◌, ◌≤◌}
+use Rattle.marple_laws.proofs.Written.{IsWritten, line_written, nothing_written, written_then}
 use Rattle.std.specs.Prelude.{map, slice_get}
 use Rattle.plan_file.specs.declared.line_word.LineWord.TheVariants as lead
 use Rattle.plan_file.specs.Groups.{names_of}

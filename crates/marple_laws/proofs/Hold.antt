@@ -1,9 +1,11 @@
 -- The query of an accepted text has a plan's text.
 use Rattle.marple_laws.proofs.{Differ.NamesDiffer, Lexical.{AreGood, cut_good, typed_good}, NameSizes.{cut_total, total, typed_total}}
 use Rattle.marple_laws.proofs.{Prints.{as_many, numbers_new, only_groups, starts}, Queries.checked_differ, TextSize.text_size}
-use Rattle.marple_laws.proofs.{Texts.{named_well, names_differ}, Words.{AcceptedHavePlanTexts, IsQueryOf, List, None, Ok, Option, Query}}
-use Rattle.marple_laws.proofs.Words.{Some, TypedQuery, [], accepted, accepted_starts, accepted_valid, and_then, ap, arith, checked, codes}
-use Rattle.marple_laws.proofs.Words.{number_in, parsed_text, parts, refl, staged, subst, sym, typed_names, unless_fault, ℕ, ◌≡◌, ◌≤◌}
+use Rattle.marple_laws.proofs.Words
+use Words.{AcceptedHavePlanTexts, IsQueryOf, List, None, Ok, Option, Query, Some, TypedQuery, [], accepted, accepted_starts, accepted_valid}
+use Words.{and_then, ap, arith, checked, codes, number_in, parsed_text, parts, refl, staged, subst, sym, typed_names, unless_fault, ℕ, ◌≡◌}
+use Words.{◌≤◌}
+use Rattle.marple_laws.proofs.Texts.{named_well, names_differ}
 use Rattle.query_lang.specs.declared.fault.QueryFault.{QueryFault}
 use Rattle.query_laws.proofs.{QueryLaws.query_sound, Steps.{found_first, same_ok}}
 use Rattle.stage_plan.specs.Depths.{stage_fault}

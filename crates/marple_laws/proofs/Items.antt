@@ -1,7 +1,8 @@
 -- Items that are new after others, and checks in sequence.
-use Rattle.marple_laws.proofs.Words.{◌≡◌, ℕ, zero, suc, Bool, true, false, ◌||◌, List, [], ◌∷◌, ◌++◌, Some, Ok, Err, refl, sym, ap, subst}
-use Rattle.marple_laws.proofs.Words.{◌∙◌, inl, inr, ◌⊎◌, arith, nat_eq, append_assoc, append-nil, Contains, Span, Checked, and_then, must}
-use Rattle.marple_laws.proofs.{Words.{must_not, is_among, AreNew}, Differ.AreApart}
+use Rattle.marple_laws.proofs.Words
+use Words.{◌≡◌, ℕ, zero, suc, Bool, true, false, ◌||◌, List, [], ◌∷◌, ◌++◌, Some, Ok, Err, refl, sym, ap, subst, ◌∙◌, inl, inr, ◌⊎◌, arith}
+use Words.{nat_eq, append_assoc, append-nil, Contains, Span, Checked, and_then, must, must_not, is_among, AreNew}
+use Rattle.marple_laws.proofs.Differ.{AreApart}
 use Rattle.std.specs.Prelude.{map, slice_get}
 use Rattle.query_lang.specs.declared.fault.FaultKind.{FaultKind}
 

@@ -1,9 +1,10 @@
 -- What holds of the operations of expressions: they read fields that the query names, numbers that fit a word, and constants where
 -- they have to.
-use Rattle.marple_laws.proofs.{Items.{IsIn, in_left, in_right}, Words.{FIELDS, Field, FieldSet, FieldSource, HasField, IsConstant}}
-use Rattle.marple_laws.proofs.Words.{IsValidTerm, List, Literal, Negation, None, Not, Number, Op, Operand, Operation, PlanOp, Read}
-use Rattle.marple_laws.proofs.Words.{Register, Some, TakesOperands, Term, Two, [], arith, inl, is_right_of, number_of, refl, source_at}
-use Rattle.marple_laws.proofs.Words.{subst, suc, sym, takes_right, term_slots, true, zero, ℕ, ◌++◌, ◌<◌, ◌^◌, ◌∷◌, ◌≡◌}
+use Rattle.marple_laws.proofs.Words
+use Words.{FIELDS, Field, FieldSet, FieldSource, HasField, IsConstant, IsValidTerm, List, Literal, Negation, None, Not, Number, Op, Operand}
+use Words.{Operation, PlanOp, Read, Register, Some, TakesOperands, Term, Two, [], arith, inl, is_right_of, number_of, refl, source_at}
+use Words.{subst, suc, sym, takes_right, term_slots, true, zero, ℕ, ◌++◌, ◌<◌, ◌^◌, ◌∷◌, ◌≡◌}
+use Rattle.marple_laws.proofs.Items.{IsIn, in_left, in_right}
 use Rattle.std.specs.Prelude.{map, slice_get}
 use Rattle.query_lang.specs.declared.fold.Op.TheVariants as two
 use Rattle.stage_plan.specs.declared.op.Operation as operation

@@ -1,10 +1,10 @@
 -- What holds of all operations of a query, stream by stream.
-use Rattle.marple_laws.proofs.Words.{◌≡◌, ℕ, zero, suc, ◌+◌, ◌^◌, ◌<◌, ◌≤◌, List, [], ◌∷◌, ◌++◌, length, Some, None, Option, refl, sym, ap}
-use Rattle.marple_laws.proofs.Words.{subst, ◌∙◌, inl, inr, arith, append-nil, append_assoc, IfSome, All, flat_map, filter_map, fold}
-use Rattle.marple_laws.proofs.Words.{cons_option, cases_lt, cases_eq, length_push, All-tail, Field, FieldSet, HasField, field_set}
-use Rattle.marple_laws.proofs.Words.{TypedExpr, TypedFold, TypedOp, TypedStream, Term, term_of, IsValidTerm, IsValidFold, IsValidEmit}
-use Rattle.marple_laws.proofs.Words.{AreValidStreams, IsValidOp, IsValidWord, Operand, Number, PlanOp, FieldSource, source_at, sources_at}
-use Rattle.marple_laws.proofs.Words.{packet_sources, sources_made, term_slots, named_fields, named_slots, named_input, AllWords}
+use Rattle.marple_laws.proofs.Words
+use Words.{◌≡◌, ℕ, zero, suc, ◌+◌, ◌^◌, ◌<◌, ◌≤◌, List, [], ◌∷◌, ◌++◌, length, Some, None, Option, refl, sym, ap, subst, ◌∙◌, inl, inr}
+use Words.{arith, append-nil, append_assoc, IfSome, All, flat_map, filter_map, fold, cons_option, cases_lt, cases_eq, length_push, All-tail}
+use Words.{Field, FieldSet, HasField, field_set, TypedExpr, TypedFold, TypedOp, TypedStream, Term, term_of, IsValidTerm, IsValidFold}
+use Words.{IsValidEmit, AreValidStreams, IsValidOp, IsValidWord, Operand, Number, PlanOp, FieldSource, source_at, sources_at}
+use Words.{packet_sources, sources_made, term_slots, named_fields, named_slots, named_input, AllWords}
 use Rattle.marple_laws.proofs.{Items.{IsIn, in_left, in_right}, Listed.in_set, Known.{IsGood, AreWritable, AreFrom, AreRead, read_left}}
 use Rattle.marple_laws.proofs.Known.{read_right, below_two, from_at, column_good, AllGood, columns_good, good_append, good_at, with_one}
 use Rattle.marple_laws.proofs.Known.{compiled_good}

@@ -1,7 +1,7 @@
 -- The tables of a pipeline with entries for folds, by the machines that it represents.
-use Rattle.marple_laws.proofs.Words.{◌≡◌, ℕ, ◌<◌, List, map, ap, sym, subst, ◌∙◌, arith, Setting, Geometry, HasRoom, Machine, Table, Made}
-use Rattle.marple_laws.proofs.Words.{plan_output, plan_tables, TypedQuery, geometry_of, group_tables, query_text, AreLanesOf}
-use Rattle.marple_laws.proofs.Words.{PipelineStands, PipelineView, folding_at, end_machines, words_of}
+use Rattle.marple_laws.proofs.Words
+use Words.{◌≡◌, ℕ, ◌<◌, List, map, ap, sym, subst, ◌∙◌, arith, Setting, Geometry, HasRoom, Machine, Table, Made, plan_output, plan_tables}
+use Words.{TypedQuery, geometry_of, group_tables, query_text, AreLanesOf, PipelineStands, PipelineView, folding_at, end_machines, words_of}
 use Rattle.marple_laws.specs.Left.{AreTablesOfPlan, AreTablesOfQuery, words_for}
 use Rattle.std.specs.Prelude.{Ok}
 use Rattle.command_line.specs.{Command.{IsSetting, ways_number}, declared.setting.Ways.{Ways, TheVariants.One}}

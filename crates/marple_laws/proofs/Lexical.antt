@@ -1,9 +1,10 @@
 -- The names of a text are names by the rule of names, and no two of them are the same.
-use Rattle.marple_laws.proofs.{Tokens.both_are, Words.{AreOnce, Bool, Err, Field, List, None, Ok, Option, Piece, Some, Switch, Token, []}}
-use Rattle.marple_laws.proofs.Words.{add-one, add_comm, all_fields, ap, arith, bytes_eq, codes, cond, digits_value, drop, false, field_name}
-use Rattle.marple_laws.proofs.Words.{inl, inr, is_name, is_none, length, length-prefix_len, list_all, list_any, number_in, prefix_len, refl}
-use Rattle.marple_laws.proofs.Words.{same_Some, slice_get, subst, suc, sym, take, true, typed_names, with_fields, with_name, zero, ℕ, ◌++◌}
-use Rattle.marple_laws.proofs.Words.{◌+◌, ◌||◌, ◌∙◌, ◌∷◌, ◌≡◌, ◌⊎◌}
+use Rattle.marple_laws.proofs.Words
+use Words.{AreOnce, Bool, Err, Field, List, None, Ok, Option, Piece, Some, Switch, Token, [], add-one, add_comm, all_fields, ap, arith}
+use Words.{bytes_eq, codes, cond, digits_value, drop, false, field_name, inl, inr, is_name, is_none, length, length-prefix_len, list_all}
+use Words.{list_any, number_in, prefix_len, refl, same_Some, slice_get, subst, suc, sym, take, true, typed_names, with_fields, with_name}
+use Words.{zero, ℕ, ◌++◌, ◌+◌, ◌||◌, ◌∙◌, ◌∷◌, ◌≡◌, ◌⊎◌}
+use Rattle.marple_laws.proofs.Tokens.{both_are}
 use Rattle.std.{proofs.lemmas.Slice.Eq.bytes_eq-Decides, specs.Prelude.{nat_eq, not}}
 use Rattle.query_lang.{proofs.NameFacts.has_number, specs.Lexis.{Cut, below_limit, cut, cut_piece, is_blank, is_digit, is_word_byte}}
 use Rattle.query_lang.specs.Lexis.{mark_at, name_piece, number_piece, one_mark, piece, piece_of_mark, reserved, token_at, two_mark}

@@ -1,10 +1,10 @@
 -- Whether a line is valid after the lines before it is decided.
 use Rattle.marple_laws.proofs.Decisions.{Decided, both, by_both, contains, from_found, from_value, is_empty, is_false, is_none, is_true}
 use Rattle.marple_laws.proofs.{Decisions.{less, neither, same_number, same_texts, some_same, two_same}, GroupDecisions.fold_line}
-use Rattle.marple_laws.proofs.{GroupDecisions.{group_line, in_group}, PartDecisions.{one_number, op_line, reads_line}, Words.Group}
-use Rattle.marple_laws.proofs.Words.{IsFirst, IsFold, IsFoldLine, IsGroup, IsLineOf, IsOneNumber, IsOp, IsOpLine, IsPart, IsPrint, IsReads}
-use Rattle.marple_laws.proofs.Words.{IsValidAfter, LineWord, List, Made, None, Some, [], ap, codes, inr, length, number, refl, subst, sym}
-use Rattle.marple_laws.proofs.Words.{tokens, true, ℕ, ◌++◌, ◌<◌, ◌∙◌, ◌∷◌}
+use Rattle.marple_laws.proofs.Words
+use Words.{Group, IsFirst, IsFold, IsFoldLine, IsGroup, IsLineOf, IsOneNumber, IsOp, IsOpLine, IsPart, IsPrint, IsReads, IsValidAfter}
+use Words.{LineWord, List, Made, None, Some, [], ap, codes, inr, length, number, refl, subst, sym, tokens, true, ℕ, ◌++◌, ◌<◌, ◌∙◌, ◌∷◌}
+use Rattle.marple_laws.proofs.{GroupDecisions.{group_line, in_group}, PartDecisions.{one_number, op_line, reads_line}}
 use Rattle.std.specs.Prelude.{Contains}
 use Rattle.plan_file.specs.declared.line_word.LineWord.TheVariants as words
 use Rattle.plan_file.specs.Groups.{IsGroupLine, IsInGroup}

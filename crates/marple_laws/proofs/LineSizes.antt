@@ -1,9 +1,10 @@
 -- The greatest length of the lines of a plan's text.
-use Rattle.marple_laws.proofs.{OpLines.Fits, Words.{Block, Bool, End, Fork, IsValidBlock, IsValidTerm, List, Literal, Negation, Not}}
-use Rattle.marple_laws.proofs.Words.{Number, Op, Operand, Operation, PlanOp, Read, Register, Set, Term, Two, [], ap, arith, block_count}
-use Rattle.marple_laws.proofs.Words.{block_nodes, block_words, codes, decimal, false, flat_map-append, function_word, if◌then◌else◌, length}
-use Rattle.marple_laws.proofs.Words.{length-decimal-le, line, number_word, op_line, operand_word, operation_words, slot_word, spaced}
-use Rattle.marple_laws.proofs.Words.{state_word, term_nodes, term_words, true, ℕ, ◌*◌, ◌++◌, ◌+◌, ◌-◌, ◌<◌, ◌^◌, ◌∙◌, ◌∷◌, ◌≡◌, ◌≤◌}
+use Rattle.marple_laws.proofs.Words
+use Words.{Block, Bool, End, Fork, IsValidBlock, IsValidTerm, List, Literal, Negation, Not, Number, Op, Operand, Operation, PlanOp, Read}
+use Words.{Register, Set, Term, Two, [], ap, arith, block_count, block_nodes, block_words, codes, decimal, false, flat_map-append}
+use Words.{function_word, if◌then◌else◌, length, length-decimal-le, line, number_word, op_line, operand_word, operation_words, slot_word}
+use Words.{spaced, state_word, term_nodes, term_words, true, ℕ, ◌*◌, ◌++◌, ◌+◌, ◌-◌, ◌<◌, ◌^◌, ◌∙◌, ◌∷◌, ◌≡◌, ◌≤◌}
+use Rattle.marple_laws.proofs.OpLines.{Fits}
 use Rattle.std.{proofs.lemmas.List.length-append, specs.Prelude.nat_lt}
 use Rattle.query_lang.specs.declared.fold.Op.TheVariants as ops
 use Rattle.stage_plan.specs.declared.op.Operation as operation

@@ -1,8 +1,8 @@
 -- It still holds where the operations are put into the order of their stages.
-use Rattle.marple_laws.proofs.Words.{◌≡◌, ℕ, zero, suc, ◌-◌, ◌≤◌, Bool, true, false, List, [], ◌∷◌, Some, None, Option, refl, ap, sym, ◌∙◌}
-use Rattle.marple_laws.proofs.Words.{arith, if◌then◌else◌, TypedQuery, op_numbered, query_made, stages_of, op_at, ordered, query_ops}
-use Rattle.marple_laws.proofs.Words.{query_order, FieldSet, FIELDS, Op, Operation, Operand, Register, Number, Not, Two, PlanOp, moved}
-use Rattle.marple_laws.proofs.Words.{moved_op, query_registers, register_or_none, is_right_of, takes_right}
+use Rattle.marple_laws.proofs.Words
+use Words.{◌≡◌, ℕ, zero, suc, ◌-◌, ◌≤◌, Bool, true, false, List, [], ◌∷◌, Some, None, Option, refl, ap, sym, ◌∙◌, arith, if◌then◌else◌}
+use Words.{TypedQuery, op_numbered, query_made, stages_of, op_at, ordered, query_ops, query_order, FieldSet, FIELDS, Op, Operation, Operand}
+use Words.{Register, Number, Not, Two, PlanOp, moved, moved_op, query_registers, register_or_none, is_right_of, takes_right}
 use Rattle.std.specs.Prelude.{map, nat_lt, slice_get}
 use Rattle.query_lang.specs.declared.fold.Op.TheVariants as two
 use Rattle.stage_plan.specs.declared.op.Operation as operation

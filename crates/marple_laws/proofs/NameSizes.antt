@@ -1,10 +1,10 @@
 -- The total length of the names of a text.
 use Rattle.marple_laws.proofs.{Items.{IsIn, in_at, in_last}, Texts.{covers_all, groups_of, in_contains, name_of, new_apart, text_there}}
-use Rattle.marple_laws.proofs.Words.{All, AreNew, AreNoKeys, AreValidStreams, Bool, Err, Field, GroupShape, IsNamedWell, List, None, Ok}
-use Rattle.marple_laws.proofs.Words.{Option, Piece, Some, Switch, Token, TypedFold, TypedStream, [], ap, arith, bytes_eq, cond, cons_option}
-use Rattle.marple_laws.proofs.Words.{drop, false, field_name, inl, inr, length, length-drop, length-take, list_any, number_in, refl}
-use Rattle.marple_laws.proofs.Words.{shape_made, subst, suc, sym, take, text_at, true, typed_names, with_fields, with_name, ℕ, ◌*◌, ◌++◌}
-use Rattle.marple_laws.proofs.Words.{◌+◌, ◌<◌, ◌∙◌, ◌∷◌, ◌≡◌, ◌≤◌}
+use Rattle.marple_laws.proofs.Words
+use Words.{All, AreNew, AreNoKeys, AreValidStreams, Bool, Err, Field, GroupShape, IsNamedWell, List, None, Ok, Option, Piece, Some, Switch}
+use Words.{Token, TypedFold, TypedStream, [], ap, arith, bytes_eq, cond, cons_option, drop, false, field_name, inl, inr, length}
+use Words.{length-drop, length-take, list_any, number_in, refl, shape_made, subst, suc, sym, take, text_at, true, typed_names, with_fields}
+use Words.{with_name, ℕ, ◌*◌, ◌++◌, ◌+◌, ◌<◌, ◌∙◌, ◌∷◌, ◌≡◌, ◌≤◌}
 use Rattle.std.specs.Prelude.{map, slice_get}
 use Rattle.query_lang.specs.declared.token.Piece.TheVariants as pieces
 use Rattle.query_lang.specs.declared.token.TokenKind.TheVariants as kinds

@@ -1,7 +1,8 @@
 -- Numbers that are written are read again.
-use Rattle.marple_laws.proofs.Words.{◌≡◌, ℕ, ◌^◌, ◌<◌, ◌≤◌, Bool, true, false, List, [], ◌∷◌, length, get_or, Some, None, refl, ap, ◌∙◌}
-use Rattle.marple_laws.proofs.Words.{inl, inr, arith, decimal, if◌then◌else◌, ◌==◌, list_all, AllDigits, digits_value, cases_lt, nat_tests}
-use Rattle.marple_laws.proofs.Words.{decimal_is_IsNumeral, decimal_digit, first_decimal, digit_from_value, is_first_digit, number}
+use Rattle.marple_laws.proofs.Words
+use Words.{◌≡◌, ℕ, ◌^◌, ◌<◌, ◌≤◌, Bool, true, false, List, [], ◌∷◌, length, get_or, Some, None, refl, ap, ◌∙◌, inl, inr, arith, decimal}
+use Words.{if◌then◌else◌, ◌==◌, list_all, AllDigits, digits_value, cases_lt, nat_tests, decimal_is_IsNumeral, decimal_digit, first_decimal}
+use Words.{digit_from_value, is_first_digit, number}
 use Rattle.marple_laws.proofs.Tokens.{both_are, is_plain, is_token}
 use Rattle.std.specs.Prelude.{not, nat_lt}
 use Rattle.query_lang.specs.Lexis.{below_limit, is_digit}

@@ -1,9 +1,11 @@
 -- The lines of operations are valid in sequence.
 use Rattle.marple_laws.proofs.{Bodies.{function_read, token_function}, Known.IsSingle, Numbers.{number_decimal, token_decimal}}
-use Rattle.marple_laws.proofs.{Numbers.token_marked, Tokens.{AreTokens, is_token}, Words.{Field, IsAllowed, List, Made, None, Not, Number}}
-use Rattle.marple_laws.proofs.Words.{Operand, PlanOp, Register, Some, Two, [], ap, append-nil, append_assoc, codes, decimal, either_operand}
-use Rattle.marple_laws.proofs.Words.{flat_map, length, not_of, op_line, op_words, operand, operand_word, operation_words, refl, subst, sym}
-use Rattle.marple_laws.proofs.{Words.{take, take_at, true, two_of, word_named, ℕ, ◌++◌, ◌<◌, ◌^◌, ◌∙◌, ◌∷◌, ◌≡◌}, Written.IsWritten}
+use Rattle.marple_laws.proofs.Words
+use Words.{Field, IsAllowed, List, Made, None, Not, Number, Operand, PlanOp, Register, Some, Two, [], ap, append-nil, append_assoc, codes}
+use Words.{decimal, either_operand, flat_map, length, not_of, op_line, op_words, operand, operand_word, operation_words, refl, subst, sym}
+use Words.{take, take_at, true, two_of, word_named, ℕ, ◌++◌, ◌<◌, ◌^◌, ◌∙◌, ◌∷◌, ◌≡◌}
+use Rattle.marple_laws.proofs.{Numbers.token_marked, Tokens.{AreTokens, is_token}}
+use Rattle.marple_laws.proofs.Written.{IsWritten}
 use Rattle.marple_laws.proofs.Written.{line_written, nothing_written, written_then}
 use Rattle.std.specs.Prelude.{slice_get}
 use Rattle.plan_file.specs.declared.line_word.LineWord.TheVariants as lead

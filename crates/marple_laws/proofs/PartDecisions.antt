@@ -1,8 +1,8 @@
 -- The parts of lines, decided.
-use Rattle.marple_laws.proofs.Words.{◌≡◌, ℕ, ◌+◌, ◌≤◌, List, [], ◌∷◌, length, map, refl, sym, ap, ap₂, ◌∙◌, subst, inl, inr, codes, Field}
-use Rattle.marple_laws.proofs.Words.{all_fields, field_name, number_of, FIELDS, Operand, Register, Number, PlanOp, is_name, number, tokens}
-use Rattle.marple_laws.proofs.Words.{IsNamedNumber, IsNamedOperand, IsOneNumber, IsOneOperand, AreFrom, IsAllowed, IsKnown, IsOpLine}
-use Rattle.marple_laws.proofs.Words.{IsReadsLine, IsStaged, operand}
+use Rattle.marple_laws.proofs.Words
+use Words.{◌≡◌, ℕ, ◌+◌, ◌≤◌, List, [], ◌∷◌, length, map, refl, sym, ap, ap₂, ◌∙◌, subst, inl, inr, codes, Field, all_fields, field_name}
+use Words.{number_of, FIELDS, Operand, Register, Number, PlanOp, is_name, number, tokens, IsNamedNumber, IsNamedOperand, IsOneNumber}
+use Words.{IsOneOperand, AreFrom, IsAllowed, IsKnown, IsOpLine, IsReadsLine, IsStaged, operand}
 use Rattle.std.specs.Prelude.{◌⊎◌}
 use Rattle.marple_base.specs.declared.field.Field.TheVariants as fields
 use Rattle.plan_file.proofs.ReadsFacts.{same_name}

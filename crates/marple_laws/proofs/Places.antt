@@ -1,11 +1,11 @@
 -- What holds of the names and tables of the items before some place.
 use Rattle.marple_laws.proofs.{Columns.{AreKeyColumns, fold_new, key_columns_are, states_apart}, Differ.{AreApart, HasOwnColumns}}
-use Rattle.marple_laws.proofs.{Items.{IsIn, found_first, in_push, must_not_ok, must_ok, new_push, same_ok}, Words.{AreNew, Bool, Earlier}}
-use Rattle.marple_laws.proofs.Words.{FoldDef, FoldView, Groupbys, Known, List, MAX_GROUPBYS, Meaning, Name, NameTaken, None, Ok, Option}
-use Rattle.marple_laws.proofs.Words.{OverLimit, PrintOf, Some, TableView, TypedFold, TypedOp, TypedStream, [], ap, arith, condition_of}
-use Rattle.marple_laws.proofs.Words.{false, flat_map, fold_added, if◌then◌else◌, inl, inr, is_some, length, map-append, nat_eq, nat_lt}
-use Rattle.marple_laws.proofs.Words.{nat_tests, option_map, refl, subst, suc, sym, true, with_fold, zero, ℕ, ◌++◌, ◌+◌, ◌<◌, ◌∙◌, ◌∷◌, ◌≡◌}
-use Rattle.marple_laws.proofs.Words.{◌≤◌, ◌⊎◌}
+use Rattle.marple_laws.proofs.Words
+use Words.{AreNew, Bool, Earlier, FoldDef, FoldView, Groupbys, Known, List, MAX_GROUPBYS, Meaning, Name, NameTaken, None, Ok, Option}
+use Words.{OverLimit, PrintOf, Some, TableView, TypedFold, TypedOp, TypedStream, [], ap, arith, condition_of, false, flat_map, fold_added}
+use Words.{if◌then◌else◌, inl, inr, is_some, length, map-append, nat_eq, nat_lt, nat_tests, option_map, refl, subst, suc, sym, true}
+use Words.{with_fold, zero, ℕ, ◌++◌, ◌+◌, ◌<◌, ◌∙◌, ◌∷◌, ◌≡◌, ◌≤◌, ◌⊎◌}
+use Rattle.marple_laws.proofs.Items.{IsIn, found_first, in_push, must_not_ok, must_ok, new_push, same_ok}
 use Rattle.std.specs.Prelude.{map, slice_get}
 use Rattle.query_lang.specs.{TypedFolds.fold_checked, TypedStreams.{arguments_of, as_fold, begun, clash, column_names, columns_at}}
 use Rattle.query_lang.specs.TypedStreams.{fold_named, grouped, key_names, keys_checked, made_stream, meaning_of, new_columns, next_stream}

@@ -1,9 +1,9 @@
 -- The query of an accepted text has the plan that definitions give.
-use Rattle.marple_laws.proofs.Words.{◌≡◌, ℕ, zero, suc, List, [], ◌∷◌, length, Option, Some, None, Ok, refl, sym, ap, subst, ◌∙◌, inl, inr}
-use Rattle.marple_laws.proofs.Words.{arith, All, filter_map, option_map, cons_option, All-tail, same_Some, slice_get_cases, TypedFold}
-use Rattle.marple_laws.proofs.Words.{TypedOp, TypedQuery, TypedStream, IsValidFold, Taking, taking_of, takings, IsValidQuery, IsProgramOf}
-use Rattle.marple_laws.proofs.Words.{depth_found_is, GroupPlan, query_made, stages_of, GroupShape, group_shape, shape_made, shape_with}
-use Rattle.marple_laws.proofs.Words.{query_fault, query_order, register_in, accepted, accepted_valid, AcceptedHavePlans}
+use Rattle.marple_laws.proofs.Words
+use Words.{◌≡◌, ℕ, zero, suc, List, [], ◌∷◌, length, Option, Some, None, Ok, refl, sym, ap, subst, ◌∙◌, inl, inr, arith, All, filter_map}
+use Words.{option_map, cons_option, All-tail, same_Some, slice_get_cases, TypedFold, TypedOp, TypedQuery, TypedStream, IsValidFold, Taking}
+use Words.{taking_of, takings, IsValidQuery, IsProgramOf, depth_found_is, GroupPlan, query_made, stages_of, GroupShape, group_shape}
+use Words.{shape_made, shape_with, query_fault, query_order, register_in, accepted, accepted_valid, AcceptedHavePlans}
 use Rattle.std.{specs.Prelude.{map, slice_get}, proofs.lemmas.List.FromFn.length-map-range_with_len}
 use Rattle.query_lang.specs.declared.typed.TypedOp.TheVariants as typed
 use Rattle.fold_code.{specs.Meaning.IsCodeOf, proofs.Meanings.meaning_of}

@@ -1,7 +1,7 @@
 -- What a query without finals prints, and what its folds begin with.
-use Rattle.marple_laws.proofs.Words.{◌≡◌, ℕ, ◌<◌, List, [], ◌∷◌, ◌++◌, length, Some, None, refl, sym, subst, inl, inr, arith, All, flat_map}
-use Rattle.marple_laws.proofs.Words.{All-head, All-tail, TypedFold, PrintOf, TypedFinal, TypedQuery, IsQueryTable, final_fault, first_final}
-use Rattle.marple_laws.proofs.Words.{printed_group, AllWords, AreNew}
+use Rattle.marple_laws.proofs.Words
+use Words.{◌≡◌, ℕ, ◌<◌, List, [], ◌∷◌, ◌++◌, length, Some, None, refl, sym, subst, inl, inr, arith, All, flat_map, All-head, All-tail}
+use Words.{TypedFold, PrintOf, TypedFinal, TypedQuery, IsQueryTable, final_fault, first_final, printed_group, AllWords, AreNew}
 use Rattle.std.specs.Prelude.{slice_get}
 use Rattle.query_lang.specs.declared.typed.PrintOf.TheVariants as place
 use Rattle.query_lang.specs.Words.{AreWords, IsWord}

@@ -1,11 +1,12 @@
 -- The names of each query that was checked differ.
 use Rattle.marple_laws.proofs.{Differ.NamesDiffer, Items.{IsIn, found_first, in_at, in_last, in_left, in_push, must_not_ok, must_ok}}
 use Rattle.marple_laws.proofs.{Items.{new_push, not_in, same_ok}, Places.{Good, IsBelow, fold_good, grown, meaning_cases, place_at}}
-use Rattle.marple_laws.proofs.{Places.{place_cases, place_in, some_kept, some_new, stream_good}, Words.{Earlier, FoldView, Given, Known}}
-use Rattle.marple_laws.proofs.Words.{List, Meaning, Name, NameTaken, None, NothingPrinted, Ok, Option, PrintOf, Query, Some, TableView}
-use Rattle.marple_laws.proofs.Words.{TypedQuery, [], ap, arith, checked, codes, given_of, inl, inr, is_among, is_some, item_checked}
-use Rattle.marple_laws.proofs.Words.{items_checked, length, length_push, nat_lt, nat_tests, number_in, option_map, print_checked, start_of}
-use Rattle.marple_laws.proofs.Words.{subst, sym, true, typed_names, ℕ, ◌+◌, ◌<◌, ◌∙◌, ◌∷◌, ◌≡◌}
+use Rattle.marple_laws.proofs.Words
+use Words.{Earlier, FoldView, Given, Known, List, Meaning, Name, NameTaken, None, NothingPrinted, Ok, Option, PrintOf, Query, Some}
+use Words.{TableView, TypedQuery, [], ap, arith, checked, codes, given_of, inl, inr, is_among, is_some, item_checked, items_checked, length}
+use Words.{length_push, nat_lt, nat_tests, number_in, option_map, print_checked, start_of, subst, sym, true, typed_names, ℕ, ◌+◌, ◌<◌, ◌∙◌}
+use Words.{◌∷◌, ◌≡◌}
+use Rattle.marple_laws.proofs.Places.{place_cases, place_in, some_kept, some_new, stream_good}
 use Rattle.query_lang.specs.TypedFinals.{as_table, final_checked, five_fields, made_final, table_at, table_named, with_final}
 use Rattle.query_lang.specs.{TypedStreams.{begun, meaning_of}, Typing.packet_stream, declared.query.{FinalDef.FinalDef, Item.Item}}
 use Rattle.query_lang.specs.declared.typing.MadeFinal.{MadeFinal}

@@ -1,7 +1,7 @@
 -- A trace that is read with all fields and has no fault is read with fewer fields, and has 0 in the others.
-use Rattle.marple_laws.proofs.Words.{◌≡◌, ℕ, ◌+◌, Bool, true, false, cond, List, [], ◌∷◌, length, Option, Some, None, Result, Ok, Err, refl}
-use Rattle.marple_laws.proofs.Words.{sym, ap, subst, ◌∙◌, zip, all_fields, field_name, has_field, Field, Switch, FieldSet, Packet}
-use Rattle.marple_laws.proofs.Words.{MAX_TRACE, zeroed, as_read, all_as_read}
+use Rattle.marple_laws.proofs.Words
+use Words.{◌≡◌, ℕ, ◌+◌, Bool, true, false, cond, List, [], ◌∷◌, length, Option, Some, None, Result, Ok, Err, refl, sym, ap, subst, ◌∙◌, zip}
+use Words.{all_fields, field_name, has_field, Field, Switch, FieldSet, Packet, MAX_TRACE, zeroed, as_read, all_as_read}
 use Rattle.std.specs.Prelude.{nat_lt}
 use Rattle.trace_reader.specs.{Reading.records, Traces.{Contents, Layout, column_of_field, columns_named, columns_of_fields, contents}}
 use Rattle.trace_reader.specs.Traces.{contents_from, contents_with, each, layout_of, layout_with, only_column, opening, packet_of}

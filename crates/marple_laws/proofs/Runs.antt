@@ -1,15 +1,15 @@
 -- What the text of a query's plan prints over packets is what the query prints.
-use Rattle.marple_laws.proofs.{Bodies.few_braces, TakenFolds.taken_fold, Words.{All, All-tail, FIELDS, Folded, Geometry, GroupPlan}}
-use Rattle.marple_laws.proofs.Words.{GroupShape, GroupWiring, IsBody, IsFoldOf, IsPlanOf, IsProgramOf, IsQueryTable, IsSoundGroup}
-use Rattle.marple_laws.proofs.Words.{IsSoundPlan, IsValidFold, IsValidQuery, List, None, Number, PlanParts, PrintOf, Some, Table, Taking}
-use Rattle.marple_laws.proofs.Words.{TypedFinal, TypedFold, TypedQuery, [], ap, arith, body, class_same, final_fault, first_final, flat_map}
-use Rattle.marple_laws.proofs.Words.{fold_args, fold_at, fold_block, fold_in, fold_states, folded_of, folded_with, folding_of, group_made}
-use Rattle.marple_laws.proofs.Words.{group_table, group_tables, heading_of_shape, inl, inr, length, length-map, made_of, ops_are}
-use Rattle.marple_laws.proofs.Words.{option_map, per_epoch, plan_output, plan_tables, printed_group, query_groups, query_made}
-use Rattle.marple_laws.proofs.Words.{query_registers, query_table, query_text, query_wiring, range_with_len, refl, registers_after}
-use Rattle.marple_laws.proofs.Words.{slice_get-map, slice_get_cases, slice_get_within, stages_of, subst, suc, sym, table_if, table_in}
-use Rattle.marple_laws.proofs.Words.{table_text_at, tables_from, taken_at, takings, unwrap_or, uses, uses_in, uses_taken, wiring_at}
-use Rattle.marple_laws.proofs.Words.{wiring_is, wiring_of, with_finals, written_block, ℕ, ◌++◌, ◌+◌, ◌<◌, ◌∙◌, ◌∷◌, ◌≡◌}
+use Rattle.marple_laws.proofs.Words
+use Words.{All, All-tail, FIELDS, Folded, Geometry, GroupPlan, GroupShape, GroupWiring, IsBody, IsFoldOf, IsPlanOf, IsProgramOf}
+use Words.{IsQueryTable, IsSoundGroup, IsSoundPlan, IsValidFold, IsValidQuery, List, None, Number, PlanParts, PrintOf, Some, Table, Taking}
+use Words.{TypedFinal, TypedFold, TypedQuery, [], ap, arith, body, class_same, final_fault, first_final, flat_map, fold_args, fold_at}
+use Words.{fold_block, fold_in, fold_states, folded_of, folded_with, folding_of, group_made, group_table, group_tables, heading_of_shape}
+use Words.{inl, inr, length, length-map, made_of, ops_are, option_map, per_epoch, plan_output, plan_tables, printed_group, query_groups}
+use Words.{query_made, query_registers, query_table, query_text, query_wiring, range_with_len, refl, registers_after, slice_get-map}
+use Words.{slice_get_cases, slice_get_within, stages_of, subst, suc, sym, table_if, table_in, table_text_at, tables_from, taken_at, takings}
+use Words.{unwrap_or, uses, uses_in, uses_taken, wiring_at, wiring_is, wiring_of, with_finals, written_block, ℕ, ◌++◌, ◌+◌, ◌<◌, ◌∙◌, ◌∷◌}
+use Words.{◌≡◌}
+use Rattle.marple_laws.proofs.{Bodies.few_braces, TakenFolds.taken_fold}
 use Rattle.std.specs.Prelude.{map, slice_get}
 use Rattle.query_lang.specs.declared.typed.PrintOf.TheVariants as printed
 use Rattle.query_lang.specs.TypedFinals.{table_number}

@@ -1,10 +1,10 @@
 -- The text of a query's plan is valid, and makes the query's plan.
-use Rattle.marple_laws.proofs.Words.{◌≡◌, ℕ, suc, ◌+◌, ◌^◌, ◌<◌, ◌≤◌, true, List, [], ◌∷◌, ◌++◌, length, Some, None, Option, refl, sym, ap}
-use Rattle.marple_laws.proofs.Words.{subst, ◌∙◌, arith, append_assoc, append-nil, All, flat_map, codes, decimal, range_with_len, All-tail}
-use Rattle.marple_laws.proofs.Words.{Field, TypedFold, PrintOf, TypedQuery, takings, IsValidQuery, IsQueryTable, MAX_GROUPBYS, GroupWiring}
-use Rattle.marple_laws.proofs.Words.{PlanOp, reads_of, IsPlanOf, GroupShape, query_groups, PlanParts, IsSoundPlan, Folded, Made, lines}
-use Rattle.marple_laws.proofs.Words.{bytes_after_lines, nothing, word_named, Make, Says, query_ops, fields_of, group_text, print_line}
-use Rattle.marple_laws.proofs.Words.{compiled_text, folded_with, folded_of, group_made, printed_group, made_of, AreNew, HasPlanText}
+use Rattle.marple_laws.proofs.Words
+use Words.{◌≡◌, ℕ, suc, ◌+◌, ◌^◌, ◌<◌, ◌≤◌, true, List, [], ◌∷◌, ◌++◌, length, Some, None, Option, refl, sym, ap, subst, ◌∙◌, arith}
+use Words.{append_assoc, append-nil, All, flat_map, codes, decimal, range_with_len, All-tail, Field, TypedFold, PrintOf, TypedQuery}
+use Words.{takings, IsValidQuery, IsQueryTable, MAX_GROUPBYS, GroupWiring, PlanOp, reads_of, IsPlanOf, GroupShape, query_groups, PlanParts}
+use Words.{IsSoundPlan, Folded, Made, lines, bytes_after_lines, nothing, word_named, Make, Says, query_ops, fields_of, group_text}
+use Words.{print_line, compiled_text, folded_with, folded_of, group_made, printed_group, made_of, AreNew, HasPlanText}
 use Rattle.std.specs.Prelude.{slice_get}
 use Rattle.query_lang.specs.declared.typed.PrintOf.TheVariants as printed
 use Rattle.plan_file.specs.declared.line_word.LineWord.TheVariants as lead

@@ -1,6 +1,7 @@
 -- Each groupby of a valid query has a fold, which is the one that it takes its tuples for.
-use Rattle.marple_laws.proofs.Words.{◌≡◌, ℕ, ◌<◌, length, Some, ap, ◌∙◌, inl, inr, arith, refl, option_map, slice_get_cases, slice_get-map}
-use Rattle.marple_laws.proofs.Words.{TypedFold, TypedQuery, Taking, takings, IsValidQuery, fold_at, fold_found}
+use Rattle.marple_laws.proofs.Words
+use Words.{◌≡◌, ℕ, ◌<◌, length, Some, ap, ◌∙◌, inl, inr, arith, refl, option_map, slice_get_cases, slice_get-map, TypedFold, TypedQuery}
+use Words.{Taking, takings, IsValidQuery, fold_at, fold_found}
 use Rattle.std.specs.Prelude.{map, slice_get}
 
 -- what a groupby takes, and the fold that takes it

@@ -1,6 +1,7 @@
 -- What the pipeline that a command leaves represents.
-use Rattle.marple_laws.proofs.Words.{◌≡◌, ℕ, List, [], ◌∷◌, length, map, drop, refl, ap, ap₂, subst, Geometry, end_of, Folded, Made}
-use Rattle.marple_laws.proofs.Words.{uses_in, geometry_of, GroupPlan, PlanParts, PipelineStands, end_machines, ends_from}
+use Rattle.marple_laws.proofs.Words
+use Words.{◌≡◌, ℕ, List, [], ◌∷◌, length, map, drop, refl, ap, ap₂, subst, Geometry, end_of, Folded, Made, uses_in, geometry_of, GroupPlan}
+use Words.{PlanParts, PipelineStands, end_machines, ends_from}
 use Rattle.marple_laws.specs.Left.{PlansStandForTheirTexts, text_ends, words_for}
 use Rattle.plan_loader.{specs.Parts.{AreGroupsFrom, IsPlanFrom}, proofs.SameUses.uses_same}
 use Rattle.query_run.proofs.QueryEnds.{first_at}

@@ -1,7 +1,8 @@
 -- Every text is valid, or it is refused at some place.
-use Rattle.marple_laws.proofs.Words.{◌≡◌, ℕ, suc, ◌<◌, ◌≤◌, List, [], ◌∷◌, length, take, Some, refl, inl, inr, arith, Checked, BadPlan}
-use Rattle.marple_laws.proofs.Words.{Made, bytes_after_lines, lines, start_of_line, IsLine, IsValidAfter, nothing, IsBadAt, Make, MAX_PLAN}
-use Rattle.marple_laws.proofs.{Words.{EveryTextIsRead, IsReadingOf}, Decisions.{Decided, is_empty, most}, LineDecisions.valid_after}
+use Rattle.marple_laws.proofs.Words
+use Words.{◌≡◌, ℕ, suc, ◌<◌, ◌≤◌, List, [], ◌∷◌, length, take, Some, refl, inl, inr, arith, Checked, BadPlan, Made, bytes_after_lines}
+use Words.{lines, start_of_line, IsLine, IsValidAfter, nothing, IsBadAt, Make, MAX_PLAN, EveryTextIsRead, IsReadingOf}
+use Rattle.marple_laws.proofs.{Decisions.{Decided, is_empty, most}, LineDecisions.valid_after}
 use Rattle.std.specs.Prelude.{◌⊎◌, Ok, Err, slice_get}
 
 -- the first line that is not valid after those before it

@@ -1,15 +1,13 @@
 -- The text of a query's plan is not too long.
-use Rattle.marple_laws.proofs.Words.{◌≡◌, ℕ, zero, suc, ◌+◌, ◌-◌, ◌*◌, ◌^◌, ◌<◌, ◌≤◌, Bool, true, false, cond, List, [], ◌∷◌, ◌++◌, length}
-use Rattle.marple_laws.proofs.Words.{Option, Some, None, refl, sym, ap, subst, inl, inr, arith, All, codes, decimal, flat_map}
-use Rattle.marple_laws.proofs.Words.{option_and_then, option_map, ◌==◌, if◌then◌else◌, range_with_len, eqb-false, nat_tests, length-map}
-use Rattle.marple_laws.proofs.Words.{All-tail, prefix_len-le-length, same_Some, slice_get-map, Field, FieldSet, field_name, has_field}
-use Rattle.marple_laws.proofs.Words.{FIELDS, TypedFold, PrintOf, TypedOp, TypedQuery, TypedStream, IsValidFold, Taking, takings}
-use Rattle.marple_laws.proofs.Words.{AreValidStreams, HasNames, IsQueryTable, IsValidOp, IsValidQuery, MAX_GROUPBYS, MAX_KEYS, depth_of}
-use Rattle.marple_laws.proofs.Words.{Operand, Register, Number, PlanOp, FieldSource, all_sources, reads_of, sources_at, moved, moved_op}
-use Rattle.marple_laws.proofs.Words.{op_numbered, register_or_none, wiring_of, fold_at, query_made, GroupShape, query_groups, shape_made}
-use Rattle.marple_laws.proofs.Words.{text_at, MAX_PLAN, query_ops, query_order, query_registers, query_wiring, register_in, compiled_text}
-use Rattle.marple_laws.proofs.Words.{fields_of, group_lines_of, group_text, op_line, print_line, reads_line, spaced, line, AllWords, AreNew}
-use Rattle.marple_laws.proofs.Words.{IsNamedWell}
+use Rattle.marple_laws.proofs.Words
+use Words.{◌≡◌, ℕ, zero, suc, ◌+◌, ◌-◌, ◌*◌, ◌^◌, ◌<◌, ◌≤◌, Bool, true, false, cond, List, [], ◌∷◌, ◌++◌, length, Option, Some, None, refl}
+use Words.{sym, ap, subst, inl, inr, arith, All, codes, decimal, flat_map, option_and_then, option_map, ◌==◌, if◌then◌else◌, range_with_len}
+use Words.{eqb-false, nat_tests, length-map, All-tail, prefix_len-le-length, same_Some, slice_get-map, Field, FieldSet, field_name}
+use Words.{has_field, FIELDS, TypedFold, PrintOf, TypedOp, TypedQuery, TypedStream, IsValidFold, Taking, takings, AreValidStreams, HasNames}
+use Words.{IsQueryTable, IsValidOp, IsValidQuery, MAX_GROUPBYS, MAX_KEYS, depth_of, Operand, Register, Number, PlanOp, FieldSource}
+use Words.{all_sources, reads_of, sources_at, moved, moved_op, op_numbered, register_or_none, wiring_of, fold_at, query_made, GroupShape}
+use Words.{query_groups, shape_made, text_at, MAX_PLAN, query_ops, query_order, query_registers, query_wiring, register_in, compiled_text}
+use Words.{fields_of, group_lines_of, group_text, op_line, print_line, reads_line, spaced, line, AllWords, AreNew, IsNamedWell}
 use Rattle.std.{specs.Prelude.{filter, map, nat_eq, nat_lt, not, slice_get}, proofs.lemmas.List.length-append}
 use Rattle.query_lang.specs.declared.typed.PrintOf.TheVariants as place
 use Rattle.query_lang.specs.declared.typed.TypedOp.TheVariants as typed

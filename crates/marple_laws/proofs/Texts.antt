@@ -1,10 +1,11 @@
 -- Names whose numbers differ have texts that differ.
 use Rattle.marple_laws.proofs.{Differ.{AreApart, HasOwnColumns, NamesDiffer}, Items.{IsIn, contains_in, in_last, in_left, in_push}}
-use Rattle.marple_laws.proofs.{Lexical.{AreGood, number_at}, Words.{All, All-head, All-tail, AreNames, AreNew, AreNoKeys, AreOnce}}
-use Rattle.marple_laws.proofs.Words.{AreValidStreams, Contains, GroupShape, HasNames, IsNamedWell, IsValidQuery, List, None, Option, Some}
-use Rattle.marple_laws.proofs.Words.{TypedFold, TypedOp, TypedQuery, TypedStream, [], ap, arith, codes, cons_option, filter_map, inl, inr}
-use Rattle.marple_laws.proofs.Words.{length, number_in, option_map, query_groups, refl, same_Some, shape_made, shape_with, subst, suc, sym}
-use Rattle.marple_laws.proofs.Words.{text_at, zero, ℕ, ◌++◌, ◌<◌, ◌∙◌, ◌∷◌, ◌≡◌}
+use Rattle.marple_laws.proofs.Words
+use Words.{All, All-head, All-tail, AreNames, AreNew, AreNoKeys, AreOnce, AreValidStreams, Contains, GroupShape, HasNames, IsNamedWell}
+use Words.{IsValidQuery, List, None, Option, Some, TypedFold, TypedOp, TypedQuery, TypedStream, [], ap, arith, codes, cons_option}
+use Words.{filter_map, inl, inr, length, number_in, option_map, query_groups, refl, same_Some, shape_made, shape_with, subst, suc, sym}
+use Words.{text_at, zero, ℕ, ◌++◌, ◌<◌, ◌∙◌, ◌∷◌, ◌≡◌}
+use Rattle.marple_laws.proofs.Lexical.{AreGood, number_at}
 use Rattle.std.specs.Prelude.{map, slice_get}
 use Rattle.query_lang.specs.declared.typed.TypedOp.TheVariants as typed
 use Rattle.query_lang.specs.TypedQueries as valid

@@ -1,7 +1,7 @@
 -- Words without a space and without LF, and how a line of them is split.
-use Rattle.marple_laws.proofs.Words.{◌≡◌, ℕ, Bool, true, false, List, [], ◌∷◌, ◌++◌, refl, ap, ◌∙◌, append-nil, append_assoc, All, flat_map}
-use Rattle.marple_laws.proofs.Words.{list_all, All-nil, All-cons, list_all-append, is_line_feed, is_space, pieces, lines, bytes_after_lines}
-use Rattle.marple_laws.proofs.Words.{all_but_last, last_of, tokens, spaced}
+use Rattle.marple_laws.proofs.Words
+use Words.{◌≡◌, ℕ, Bool, true, false, List, [], ◌∷◌, ◌++◌, refl, ap, ◌∙◌, append-nil, append_assoc, All, flat_map, list_all, All-nil}
+use Words.{All-cons, list_all-append, is_line_feed, is_space, pieces, lines, bytes_after_lines, all_but_last, last_of, tokens, spaced}
 use Rattle.std.{specs.Prelude.{not, ◌&&◌}, proofs.lemmas.List.Splits.{slice_split_at, slice_split_none}}
 
 -- both of two tests

@@ -1,8 +1,9 @@
 -- The words of generated packets are small, so that the text of a million packets keeps the limit of a trace.
-use Rattle.marple_laws.proofs.Words.{◌≡◌, ◌⊎◌, inl, inr, ℕ, zero, suc, ◌+◌, ◌-◌, ◌*◌, ◌%◌, ◌^◌, ◌<◌, ◌≤◌, Bool, true, false, cond, List, []}
-use Rattle.marple_laws.proofs.Words.{◌∷◌, ◌++◌, length, filter, Option, Some, None, refl, ap, ◌∙◌, arith, length-append, ◌==◌, codes}
-use Rattle.marple_laws.proofs.Words.{decimal, flat_map, unwrap_or, length-decimal-le, flat_map-append, by_test, Tout, Packet, FIELDS}
-use Rattle.marple_laws.proofs.Words.{MAX_TRACE, drop, ArePackets, ArePacketWords, continued, header, packet_texts, trace_text, word_text}
+use Rattle.marple_laws.proofs.Words
+use Words.{◌≡◌, ◌⊎◌, inl, inr, ℕ, zero, suc, ◌+◌, ◌-◌, ◌*◌, ◌%◌, ◌^◌, ◌<◌, ◌≤◌, Bool, true, false, cond, List, [], ◌∷◌, ◌++◌, length}
+use Words.{filter, Option, Some, None, refl, ap, ◌∙◌, arith, length-append, ◌==◌, codes, decimal, flat_map, unwrap_or, length-decimal-le}
+use Words.{flat_map-append, by_test, Tout, Packet, FIELDS, MAX_TRACE, drop, ArePackets, ArePacketWords, continued, header, packet_texts}
+use Words.{trace_text, word_text}
 use Rattle.std.specs.Prelude.{nat_lt}
 use Rattle.queue_sim.specs.Generator.{Arrival, arrival_by, arrivals, drawn_after, last_time, leaves, generated_packet, packets_from}
 use Rattle.queue_sim.specs.{Generator.{simulated, still_there, switch_of, touts_at, with_some}, TraceText.line}

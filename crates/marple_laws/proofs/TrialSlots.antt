@@ -1,11 +1,11 @@
 -- The groupbys of the trial's query take from the packets themselves, and only words of fields that the query reads.
-use Rattle.marple_laws.proofs.{Items.IsIn, Listed.in_set, Words.{All-tail, AreWhole, Bool, Checked, FIELDS, Field, FieldSet, Geometry}}
-use Rattle.marple_laws.proofs.Words.{GroupShape, List, None, Option, Some, Switch, Taking, TypedFold, TypedQuery, TypedStream, [], accepted}
-use Rattle.marple_laws.proofs.Words.{all_fields, and_parts, ap, ap₂, arith, by_test, false≢true, folding_of, group_table, group_tables}
-use Rattle.marple_laws.proofs.Words.{has_field, heading_of_shape, inl, inr, length, list_all, list_any, map, nat_tests, number_of, printed}
-use Rattle.marple_laws.proofs.Words.{query_groups, query_text, read_fields, reads_of, refl, slice_index, stream, subst, suc, sym, table_if}
-use Rattle.marple_laws.proofs.Words.{tables_from, taken_by, takings, trial_query, true, use_of, uses, values_at, with_finals, zero, zeroed}
-use Rattle.marple_laws.proofs.Words.{ℕ, ◌&&◌, ◌++◌, ◌==◌, ◌∙◌, ◌∷◌, ◌≡◌}
+use Rattle.marple_laws.proofs.Words
+use Words.{All-tail, AreWhole, Bool, Checked, FIELDS, Field, FieldSet, Geometry, GroupShape, List, None, Option, Some, Switch, Taking}
+use Words.{TypedFold, TypedQuery, TypedStream, [], accepted, all_fields, and_parts, ap, ap₂, arith, by_test, false≢true, folding_of}
+use Words.{group_table, group_tables, has_field, heading_of_shape, inl, inr, length, list_all, list_any, map, nat_tests, number_of, printed}
+use Words.{query_groups, query_text, read_fields, reads_of, refl, slice_index, stream, subst, suc, sym, table_if, tables_from, taken_by}
+use Words.{takings, trial_query, true, use_of, uses, values_at, with_finals, zero, zeroed, ℕ, ◌&&◌, ◌++◌, ◌==◌, ◌∙◌, ◌∷◌, ◌≡◌}
+use Rattle.marple_laws.proofs.{Items.IsIn, Listed.in_set}
 use Rattle.std.specs.Prelude.{Err, Ok, slice_get}
 use Rattle.stage_plan.proofs.StreamRows.{Row, all_rows, row_at, row_made, rows_from, same_tuples, stream_rows, tuples}
 use Rattle.accepted_query.proofs.TrialAccepted.{after_folds, trial_is}

@@ -1,7 +1,8 @@
 -- The text of generated packets, read for the trial's query.
-use Rattle.marple_laws.proofs.Words.{◌≡◌, ℕ, List, [], ◌∷◌, length, map, None, refl, ap, ap₂, ◌∙◌, arith, All-nil, All-cons, all_fields}
-use Rattle.marple_laws.proofs.Words.{FieldSet, Packet, FIELDS, query_text, ArePackets, trace_text, reads_of, AreWhole, words_of, zeroed}
-use Rattle.marple_laws.proofs.{Words.{all_as_read, TrialsRunOverTexts}, ReadFewer.{whole, every, read_fewer}}
+use Rattle.marple_laws.proofs.Words
+use Words.{◌≡◌, ℕ, List, [], ◌∷◌, length, map, None, refl, ap, ap₂, ◌∙◌, arith, All-nil, All-cons, all_fields, FieldSet, Packet, FIELDS}
+use Words.{query_text, ArePackets, trace_text, reads_of, AreWhole, words_of, zeroed, all_as_read, TrialsRunOverTexts}
+use Rattle.marple_laws.proofs.ReadFewer.{whole, every, read_fewer}
 use Rattle.marple_laws.proofs.{TraceSizes.{made_packets, made_many, text_fits}, TrialSlots.{trial_is_plain, text_kept}}
 use Rattle.queue_sim.{specs.Generator.simulated, proofs.ReadBackFacts.texts_read_back_lem}
 use Rattle.trace_reader.specs.Traces.{Contents, contents}

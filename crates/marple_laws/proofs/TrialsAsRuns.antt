@@ -1,6 +1,7 @@
 -- A trial writes what a run writes over the generated text.
-use Rattle.marple_laws.proofs.Words.{◌≡◌, ℕ, List, Ok, ap, sym, ◌∙◌, accepted, fault_in, trial_query, Packet, TypedQuery, Checked}
-use Rattle.marple_laws.proofs.Words.{geometry_of, NoViewsWithoutNumber, trace_text, words_of, TrialsRunOverTexts}
+use Rattle.marple_laws.proofs.Words
+use Words.{◌≡◌, ℕ, List, Ok, ap, sym, ◌∙◌, accepted, fault_in, trial_query, Packet, TypedQuery, Checked, geometry_of, NoViewsWithoutNumber}
+use Words.{trace_text, words_of, TrialsRunOverTexts}
 use Rattle.marple_laws.specs.Trials.{TrialsAreRuns}
 use Rattle.marple_cli.specs.Output.{fault_for, made_packets, read_packets, run_text, tables_text}
 

@@ -1,7 +1,8 @@
 -- Texts of whole lines, and what their lines make.
-use Rattle.marple_laws.proofs.{Tokens.{AreLines, AreTokens, ended, is_token, lines_append, none_in_line, tokens_of}, Words.IsLineOf}
-use Rattle.marple_laws.proofs.Words.{LineWord, List, Made, Make, [], ap, append-nil, append_assoc, first_line_word, flat_map-append, line}
-use Rattle.marple_laws.proofs.Words.{line_word, refl, spaced, subst, sym, tokens, true, word_named, ℕ, ◌++◌, ◌∙◌, ◌∷◌, ◌≡◌}
+use Rattle.marple_laws.proofs.Words
+use Words.{IsLineOf, LineWord, List, Made, Make, [], ap, append-nil, append_assoc, first_line_word, flat_map-append, line, line_word, refl}
+use Words.{spaced, subst, sym, tokens, true, word_named, ℕ, ◌++◌, ◌∙◌, ◌∷◌, ◌≡◌}
+use Rattle.marple_laws.proofs.Tokens.{AreLines, AreTokens, ended, is_token, lines_append, none_in_line, tokens_of}
 
 pub make_both : (xs ys : List (List ℕ)) (before mid after : Made) → Make xs before mid → Make ys mid after → Make (xs ++ ys) before after
 make_both [] ys before mid after a b = subst (λ m. Make ys m after) a b
