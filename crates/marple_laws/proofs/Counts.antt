@@ -73,7 +73,6 @@ counted folds valid names before (one ∷ list) v depths =
 few_depths : {q : TypedQuery} → IsValidQuery q → length (query_depths q) ≤ 20512
 few_depths v =
     let c = counted _ v.folds _ [] _ v.streams (packet_depths ∷ []) in
-    let s = v.most_bindings in
     omega arith
 
 pub made_of_query : (q : TypedQuery) → stage_fault q ≡ None → QueryMade q (query_made q).ops (query_made q).streams

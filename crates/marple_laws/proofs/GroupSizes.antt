@@ -76,13 +76,7 @@ head_size {shape} {wiring} l =
 body_size : (f : TypedFold) → IsValidFold f → length (line (codes "body") (block_words (length f.state_names) (fold_block f))) ≤ 12933
 body_size f v =
     let n = line_size (codes "body") (block_words (length f.state_names) (fold_block f)) in
-    let states = v.states in
-    let args = v.args in
     let b = block_size (fold_states f) (fold_args f) (omega arith) (fold_block f) v.statements in
-    let c = v.enough_nodes in
-    let d = v.most_nodes in
-    let e = v.enough_statements in
-    let g = v.most_statements in
     omega arith
 
 fold_size : (shape : GroupShape) → shape.depth ≤ MAX_STATES → shape.nodes ≤ MAX_NODES → shape.statements ≤ MAX_STATEMENTS

@@ -74,8 +74,6 @@ columns_total names shape well keys states =
     let k = taken length shape.key_names names [] well.keys_differ keys in
     let s = taken length shape.state_names k.left [] well.states_differ
     (λ t i. k.keeps t (states t i) (λ j. no_key _ _ t well.states_apart i j)) in
-    let a = k.sum in
-    let b = s.sum in
     omega arith
 
 pub texts_in : (names : List (List ℕ)) (ids : List ℕ) → All (λ id. id < length names) ids → (t : List ℕ) → IsIn t (map (text_at names) ids)
@@ -104,7 +102,6 @@ pub group_names_total : (names : List (List ℕ)) (folds : List TypedFold) (stre
 group_names_total names folds streams v new =
     let t = taken length (map (λ (shape : GroupShape). shape.name) (groups_of names folds streams)) names [] new
     (group_names_in _ _ _ _ v) in
-    let s = t.sum in
     omega arith
 
 -- ---- the names of a text

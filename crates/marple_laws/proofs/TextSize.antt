@@ -86,10 +86,8 @@ prints_in q (place.Final n ∷ prints) all are p i = absurd are
 few_prints : (q : TypedQuery) → IsValidQuery q → AreGroups q.prints → AreNew [] q.prints → length q.prints ≤ MAX_GROUPBYS
 few_prints q v are new =
     let t = taken (λ p. 1) q.prints (up (length (takings q.streams))) [] new (prints_in q _ v.prints are) in
-    let s = t.sum in
     let a = up_long (length (takings q.streams)) in
     let b = as_long q.prints in
-    let m = v.most_groupbys in
     omega arith
 
 -- ---- operands
