@@ -1,28 +1,27 @@
 -- The examples of expressions and streams, from the rules.
-use Rattle.std.proofs.Common.{◌≡◌, ℕ, List, [], ◌∷◌, Option, Some, None, Ok, Err, false, refl, sym, ap, ◌∙◌, arith}
+use Rattle.std.proofs.Common.{◌≡◌, ℕ, List, [], ◌∷◌, Option, Some, None, Ok, Err, refl, sym, ap, ◌∙◌, arith}
 use Rattle.query_lang.specs.declared.fold.TypedExpr.TheVariants as typed
 use Rattle.query_lang.specs.declared.query.Expr.TheVariants.{Number, Named, Binary, Call}
+use Rattle.query_lang.specs.declared.typed.TypedOp.TheVariants as typed_op
 use Rattle.query_lang.specs.declared.query.Key.TheVariants as key
-use Rattle.query_lang.specs.declared.query.StreamOp.TheVariants.{Group}
-use Rattle.query_lang.specs.declared.typing.Origin.TheVariants as origin
+use Rattle.query_lang.specs.declared.query.StreamOp.TheVariants.{Group, Zip}
 use Rattle.query_lang.specs.declared.typing.Sort.TheVariants as sort
 use Rattle.query_laws.proofs.Terms.{QueryFault, Op, Div, Rem, Add, Shl, Shr, Lt, Both, Either, Max, Decay, TypedExpr, Expr, StreamOp, Found}
-use Rattle.query_laws.proofs.Terms.{Sort, and_then, collected, is_among, place_of, of_two, call_of, negation_checked, expr_checked}
-use Rattle.query_laws.proofs.Terms.{StreamView, FoldView, stream_named, fold_named, IsStream, IsFold, Kind, Word, Condition, StandsAt}
-use Rattle.query_laws.proofs.Terms.{HasKind, of_number, of_name, of_not, of_binary}
-use Rattle.query_laws.proofs.{Terms.{of_call, IsNew, HasStream}, FaultSteps.no_fault, FoldNames.among_new, ItemsMeet.stream_meets}
+use Rattle.query_laws.proofs.Terms.{Sort, and_then, collected, place_of, of_two, call_of, negation_checked, expr_checked, StreamView}
+use Rattle.query_laws.proofs.Terms.{FoldView, stream_named, fold_named, IsStream, IsFold, Kind, Word, Condition, StandsAt, HasKind}
+use Rattle.query_laws.proofs.Terms.{of_number, of_name, of_not, of_binary, of_call, HasStream, Earlier, MadeStream, TypedStream}
+use Rattle.query_laws.proofs.{Terms.made_stream, FaultSteps.no_fault, FoldNames.among_new, ItemsMeet.stream_meets}
 use Rattle.query_laws.specs.Asked.{StreamAsks}
 use Rattle.query_laws.specs.Asked as asks
 use Rattle.query_laws.specs.Demands.{HasPart, Demand, Holds}
 use Rattle.query_laws.specs.Demands as parts
-use Rattle.query_laws.specs.StreamRules as rules
 use Rattle.query_laws.proofs.ExprComplete.{complete, word_complete, number_is, named_is, not_is, binary_is, call_is}
-use Rattle.query_laws.proofs.NameLaws.{stream_sound, stream_complete, fold_name_sound, apart_sound}
-use Rattle.query_laws.{proofs.Steps.{then_next, place_stands, stands_place}, specs.TypingExamples.{here, called, two_columns, first}}
-use Rattle.query_laws.specs.TypingExamples.{second, is_less, typed_is_less, with_first, RefusesNumber, RefusesColumn, ExpressionExamples}
-use Rattle.query_laws.specs.TypingExamples.{fields, zipped, a_field, by_key, mapped, unmapped, of_one_argument}
-use Rattle.query_laws.specs.TypingExamples.{items_before, Makes, MakesNothing, is_above_0, new_column, keys_named, eight_keys, five_names}
-use Rattle.query_laws.specs.TypingExamples.{by_fields, FilterExamples, MapExamples, ZipExamples, GroupExamples, StreamExamples}
+use Rattle.query_laws.proofs.{NameLaws.{stream_sound, stream_complete, fold_name_sound}, Steps.{then_next, place_stands, stands_place}}
+use Rattle.query_laws.proofs.StreamLaws.{made_stream_sound}
+use Rattle.query_laws.specs.TypingExamples.{here, called, two_columns, first, second, is_less, typed_is_less, with_first, RefusesNumber}
+use Rattle.query_laws.specs.TypingExamples.{RefusesColumn, ExpressionExamples, zipped, by_key, mapped, unmapped, items_before, MakesNothing}
+use Rattle.query_laws.specs.TypingExamples.{is_above_0, new_column, keys_named, eight_keys, five_names, FilterExamples, MapExamples}
+use Rattle.query_laws.specs.TypingExamples.{ZipExamples, GroupExamples, StreamExamples, grouped_by}
 
 -- ---- expressions
 
@@ -134,14 +133,16 @@ stream_is id is = stream_sound items_before (called id) is
 fold_is : (id : ℕ) {f : FoldView} → fold_named items_before (called id) ≡ Ok f → IsFold items_before id f
 fold_is id is = fold_name_sound items_before (called id) is
 
-abbrev field_names : List ℕ
-field_names = 2 ∷ 21 ∷ 22 ∷ 23 ∷ 24 ∷ 25 ∷ 26 ∷ 27 ∷ 28 ∷ 29 ∷ []
+-- before stream 4, after one groupby
+abbrev before : Earlier
+before =
+    let one : TypedStream = record { name = called 10; columns = []; op = typed_op.Filter 0 (typed.Number 0) } in
+    record { known = items_before; groups = 1; folds = []; streams = one ∷ one ∷ one ∷ []; finals = []; prints = []; printed = [] }
 
-field : (id : ℕ) {slot : ℕ} → place_of field_names id ≡ Some slot → StandsAt field_names slot id
-field id {slot} is = place_stands field_names id slot is
-
-new : (id : ℕ) (names : List ℕ) → is_among id names ≡ false → IsNew id names
-new id names is = among_new id names is
+-- what the check makes has a rule
+made_by_check : (five : List ℕ) (op : StreamOp) {made : MadeStream} → made_stream five before (called 20) op ≡ Ok made
+    → HasStream five items_before 4 1 op made
+made_by_check five op is = made_stream_sound five before (called 20) op is
 
 -- an operator makes nothing where something that it asks isn't so
 unmet : {op : StreamOp} {d : Demand} → StreamAsks [] items_before 1 (called 20) op d → (Holds items_before d → ⊥) → MakesNothing op
@@ -192,103 +193,14 @@ map_examples = record {
 
 zip_examples : ZipExamples
 zip_examples = record {
-  zip_of_one_column = record {
-    left = by_key;
-    right = mapped;
-    slots = 1 ∷ [];
-    others = record { name = 2; origin = origin.Map 2 } ∷ [];
-    one = stream_is 10 refl;
-    other = stream_is 11 refl;
-    same = ((λ e. refl, tt), ((λ e. absurd (omega (arith, e)), tt), tt));
-    new = rules.of_named (λ new. new.0 refl) (rules.of_other ((λ e. absurd (omega (arith, e))), tt) (rules.of_none 2));
-    taken = (refl, tt);
-    is = refl;
-  };
+  zip_of_one_column = made_by_check [] (Zip (called 10) (called 11)) refl;
   zip_of_a_mapped_column = unmet (asks.of_both (called 11) (called 12) mapped unmapped (stream_is 11 refl) (stream_is 12 refl))
       (λ same. let e = same.1.0.1.0 refl in cc e);
 }
 
-eight_fields : Makes (Group (called 15) (keys_named eight_keys) (called 13)) (by_fields eight_keys (1 ∷ 2 ∷ 3 ∷ 4 ∷ 5 ∷ 6 ∷ 7 ∷ 8 ∷ []))
-eight_fields = record {
-  few = omega arith;
-  source = fields;
-  slots = 1 ∷ 2 ∷ 3 ∷ 4 ∷ 5 ∷ 6 ∷ 7 ∷ 8 ∷ [];
-  columns = a_field 21 ∷ a_field 22 ∷ a_field 23 ∷ a_field 24 ∷ a_field 25 ∷ a_field 26 ∷ a_field 27 ∷ a_field 28 ∷ [];
-  f = of_one_argument;
-  arguments = 0 ∷ [];
-  stream = stream_is 15 refl;
-  picked = record {
-    places = (
-      field 21 refl,
-      (field 22 refl, (field 23 refl, (field 24 refl, (field 25 refl, (field 26 refl, (field 27 refl, (field 28 refl, tt))))))),
-    );
-    distinct = (
-      new 21 [] refl,
-      (
-        new 22 (21 ∷ []) refl,
-        (
-          new 23 (21 ∷ 22 ∷ []) refl,
-          (
-            new 24 (21 ∷ 22 ∷ 23 ∷ []) refl,
-            (
-              new 25 (21 ∷ 22 ∷ 23 ∷ 24 ∷ []) refl,
-              (
-                new 26 (21 ∷ 22 ∷ 23 ∷ 24 ∷ 25 ∷ []) refl,
-                (new 27 (21 ∷ 22 ∷ 23 ∷ 24 ∷ 25 ∷ 26 ∷ []) refl, (new 28 (21 ∷ 22 ∷ 23 ∷ 24 ∷ 25 ∷ 26 ∷ 27 ∷ []) refl, tt)),
-              ),
-            ),
-          ),
-        ),
-      ),
-    );
-    few = omega arith;
-  };
-  there = (refl, (refl, (refl, (refl, (refl, (refl, (refl, (refl, tt))))))));
-  fold = fold_is 13 refl;
-  taken = record { places = (field 2 refl, tt); apart = apart_sound (3 ∷ []) (21 ∷ 22 ∷ 23 ∷ 24 ∷ 25 ∷ 26 ∷ 27 ∷ 28 ∷ []) refl };
-  is = refl;
-}
-
-five_tuple : HasStream five_names items_before 4 1 (Group (called 15) (key.FiveTuple here ∷ []) (called 13))
-    (by_fields five_names (1 ∷ 2 ∷ 3 ∷ 4 ∷ 5 ∷ []))
-five_tuple = record {
-  few = omega arith;
-  source = fields;
-  slots = 1 ∷ 2 ∷ 3 ∷ 4 ∷ 5 ∷ [];
-  columns = a_field 21 ∷ a_field 22 ∷ a_field 23 ∷ a_field 24 ∷ a_field 25 ∷ [];
-  f = of_one_argument;
-  arguments = 0 ∷ [];
-  stream = stream_is 15 refl;
-  picked = record {
-    places = (field 21 refl, (field 22 refl, (field 23 refl, (field 24 refl, (field 25 refl, tt)))));
-    distinct = (
-      new 21 [] refl,
-      (new 22 (21 ∷ []) refl, (new 23 (21 ∷ 22 ∷ []) refl, (new 24 (21 ∷ 22 ∷ 23 ∷ []) refl, (new 25 (21 ∷ 22 ∷ 23 ∷ 24 ∷ []) refl, tt)))),
-    );
-    few = omega arith;
-  };
-  there = (refl, (refl, (refl, (refl, (refl, tt)))));
-  fold = fold_is 13 refl;
-  taken = record { places = (field 2 refl, tt); apart = apart_sound (3 ∷ []) (21 ∷ 22 ∷ 23 ∷ 24 ∷ 25 ∷ []) refl };
-  is = refl;
-}
-
 group_examples : GroupExamples
 group_examples = record {
-  groupby_of_a_key = record {
-    few = omega arith;
-    source = unmapped;
-    slots = 0 ∷ [];
-    columns = a_field 1 ∷ [];
-    f = of_one_argument;
-    arguments = 1 ∷ [];
-    stream = stream_is 12 refl;
-    picked = record { places = (refl, tt); distinct = (tt, tt); few = omega arith };
-    there = (refl, tt);
-    fold = fold_is 13 refl;
-    taken = record { places = (place_stands two_columns 2 1 refl, tt); apart = apart_sound (3 ∷ []) (1 ∷ []) refl };
-    is = refl;
-  };
+  groupby_of_a_key = made_by_check [] (grouped_by 12 1 13) refl;
   key_twice = λ made h. h.picked.distinct.1.0.0 refl;
   key_without_a_column = unmet (asks.of_keys unmapped (stream_is 12 refl) (asks.of_key [] (called 5) [] refl))
       (no_place two_columns 5 refl);
@@ -297,9 +209,9 @@ group_examples = record {
       (no_place (1 ∷ []) 2 refl);
   variable_with_a_keys_name = unmet (asks.of_arguments unmapped (stream_is 12 refl) (fold_is 14 refl) asks.of_states)
       (λ apart. apart.0.0 refl);
-  eight_fields = eight_fields;
+  eight_fields = made_by_check [] (Group (called 15) (keys_named eight_keys) (called 13)) refl;
   nine_fields = λ made h. absurd (omega (arith, h.picked.few));
-  five_tuple = five_tuple;
+  five_tuple = made_by_check five_names (Group (called 15) (key.FiveTuple here ∷ []) (called 13)) refl;
   ninth_groupby = λ made h. absurd (omega (arith, h.few));
 }
 
