@@ -1,9 +1,10 @@
 -- Each operator keeps the order of the packets.
-use Rattle.std.proofs.Common.{◌≡◌, ℕ, zero, suc, ◌+◌, ◌<◌, ◌≤◌, Bool, true, false, cond, List, [], ◌∷◌, ◌++◌, length, Option, Some, None}
-use Rattle.std.{proofs.Common.{slice_index, subst, arith}, specs.Prelude.{All, map, filter, find, fold, option_map, ◌==◌}}
-use Rattle.std.specs.List.{cons_option, Sorted.IsStrictlyIncreasing}
-use Rattle.query_lang.specs.Streams.{Tuple, numbered, values_at, zip_stream, group_stream, tuples_at, made_of, stream}
-use Rattle.query_laws.{proofs.Terms.{TypedFold, TypedOp, Filter, Map, Zip, Group, TypedQuery, TypedStream}, specs.TupleLaws.packet_numbers}
+use Rattle.std.proofs.Common.{◌≡◌, ℕ, zero, suc, ◌+◌, ◌<◌, ◌≤◌, Bool, List, [], ◌∷◌, ◌++◌, length, Option, Some, None, slice_index, subst}
+use Rattle.std.proofs.Common.{arith}
+use Rattle.std.specs.{Prelude.{All, map, filter, find, fold, ◌==◌}, List.Sorted.IsStrictlyIncreasing}
+use Rattle.query_lang.specs.Streams.{Tuple, numbered, zip_stream, group_stream, tuples_at, made_of, stream}
+use Rattle.query_laws.proofs.{Terms.{TypedFold, TypedOp, Filter, Map, Zip, Group, TypedQuery, TypedStream}, Steps.{by_test, by_option}}
+use Rattle.query_laws.specs.TupleLaws.{packet_numbers}
 
 -- the packets' numbers rise from this one on, and stay below that one
 abbrev pub Rises : ℕ → ℕ → List Tuple → Type 0
@@ -22,11 +23,9 @@ numbered_rise n (words ∷ packets) le = (omega arith, omega arith, numbered_ris
 
 filter_rises : (test : Tuple → Bool) (from end : ℕ) (tuples : List Tuple) → Rises from end tuples → Rises from end (filter test tuples)
 filter_rises _ _ _ [] h = tt
-filter_rises test from end (t ∷ tuples) h = go (test t) (filter_rises test (suc t.packet) end tuples h.2)
-  where
-    go : (b : Bool) → Rises (suc t.packet) end (filter test tuples) → Rises from end (cond b (t ∷ filter test tuples) (filter test tuples))
-    go true more = (h.0, h.1, more)
-    go false more = rises_before end (filter test tuples) (omega (arith, h.0)) more
+filter_rises test from end (t ∷ tuples) h =
+    let more = filter_rises test (suc t.packet) end tuples h.2 in
+    by_test (test t) (λ is. rw is (h.0, h.1, more)) (λ is. rw is (rises_before end (filter test tuples) (omega (arith, h.0)) more))
 
 map_rises : (new : Tuple → List ℕ) (from end : ℕ) (tuples : List Tuple) → Rises from end tuples
     → Rises from end (map (λ t. record { packet = t.packet; row = new t }) tuples)
@@ -37,13 +36,9 @@ zip_rises : (slots : List ℕ) (right : List Tuple) (from end : ℕ) (left : Lis
     → Rises from end (zip_stream slots left right)
 zip_rises _ _ _ _ [] h = tt
 zip_rises slots right from end (t ∷ left) h =
-    go (find (λ (other : Tuple). other.packet == t.packet) right) (zip_rises slots right (suc t.packet) end left h.2)
-  where
-    go : (o : Option Tuple) → Rises (suc t.packet) end (zip_stream slots left right)
-        → Rises from end (cons_option (option_map (λ (other : Tuple). record
-        { packet = t.packet; row = t.row ++ values_at other.row slots }) o) (zip_stream slots left right))
-    go (Some _) more = (h.0, h.1, more)
-    go None more = rises_before end (zip_stream slots left right) (omega (arith, h.0)) more
+    let more = zip_rises slots right (suc t.packet) end left h.2 in
+    by_option (find (λ (other : Tuple). other.packet == t.packet) right)
+    (λ is. rw is (rises_before end (zip_stream slots left right) (omega (arith, h.0)) more)) (λ _ is. rw is (h.0, h.1, more))
 
 group_rises : (f : Option TypedFold) (keys args : List ℕ) (from end : ℕ) (tuples : List Tuple) → Rises from end tuples
     → Rises from end (group_stream f keys args tuples)

@@ -1,14 +1,15 @@
 -- The statements of a fold: what the check gives has a rule, and what has a rule is what the check gives.
 use Rattle.std.proofs.Common.{◌≡◌, ℕ, Bool, true, false, List, [], ◌∷◌, ◌++◌, length, map, Option, Some, None, Ok, refl, sym, ap, subst}
-use Rattle.std.{proofs.Common.{◌∙◌, append_assoc, append-nil}, specs.Prelude.is_some}
+use Rattle.std.proofs.Common.{◌∙◌, append_assoc, append-nil}
+use Rattle.std.specs.Prelude.{is_some}
 use Rattle.query_lang.specs.declared.fold.TypedExpr.TheVariants as typed
 use Rattle.query_lang.specs.declared.fold.TypedStmt.TheVariants as typed_stmt
 use Rattle.query_lang.specs.declared.query.Stmt.TheOpen as stmt
 use Rattle.query_lang.specs.declared.query.Stmt.TheVariants as whole
 use Rattle.query_lang.proofs.TreeLemmas.{term_not}
 use Rattle.query_laws.proofs.Terms.{WrongArity, Span, TypedExpr, TypedStmt, Name, Expr, Stmt, fold-roll-Stmt, ind-Stmt, roll-Stmt, map-Stmt}
-use Rattle.query_laws.proofs.Terms.{rolls-Assign, rolls-If, rolls-Emit, Body, Enclosing, Term, ReadsArguments, Checked, is_among, place_of}
-use Rattle.query_laws.proofs.Terms.{word_of, target_at, target_of, joined, inside, emit_condition, no_state, Adding, in_order, stmt_step}
+use Rattle.query_laws.proofs.Terms.{rolls-Assign, rolls-If, rolls-Emit, Body, Enclosing, Term, ReadsArguments, Checked, is_among, word_of}
+use Rattle.query_laws.proofs.Terms.{target_at, target_of, joined, inside, emit_condition, no_state, Adding, in_order, stmt_step}
 use Rattle.query_laws.proofs.Terms.{stmt_checked, StandsAt, conjunction, emit_of, ReadArguments, HasBlock, of_none, of_assign, of_if}
 use Rattle.query_laws.proofs.Terms.{of_emit, at_most_one}
 use Rattle.query_laws.proofs.Steps.{must_not_ok, must_not_holds, same_ok, found_first, then_next, place_stands, stands_place}
@@ -48,15 +49,13 @@ not_reads {states} {t} r =
     let V : Term → Type 0 = λ z. ReadsArguments (length states) z in
     record { past = λ h. subst V (sym (term_not t)) (r.past h); none = λ h. r.none (subst V (term_not t) h) }
 
+target_found : (o : Option ℕ) (b : Bool) (span : Span) {v : ℕ} → target_at o b span ≡ Ok v → o ≡ Some v
+target_found (Some slot) _ _ e = ap Some (same_ok slot _ e)
+target_found None true _ e = cc e
+target_found None false _ e = cc e
+
 pub target_stands : (states args : List ℕ) (name : Name) {v : ℕ} → target_of states args name ≡ Ok v → StandsAt states v name.id
-target_stands states args name {v} e = go (place_of states name.id) refl (is_among name.id args) e
-  where
-    go : (o : Option ℕ) → place_of states name.id ≡ o → (b : Bool) → target_at o b name.span ≡ Ok v → StandsAt states v name.id
-    go (Some slot) is b e =
-        let same : slot ≡ v = cc in
-        place_stands _ _ v (is ∙ ap Some same)
-    go None _ true e = cc e
-    go None _ false e = cc e
+target_stands states args name {v} e = place_stands _ _ v (target_found _ (is_among name.id args) _ e)
 
 pub no_state_ok : {A : Type 0} (o : Option Span) {next : Checked A} {x : A} → no_state o next ≡ Ok x → (o ≡ None) × (next ≡ Ok x)
 no_state_ok None e = (refl, e)

@@ -1,18 +1,19 @@
 -- What a fault in a fold's body says.
 use Rattle.std.proofs.Common.{◌≡◌, ℕ, Bool, true, false, List, [], ◌∷◌, ◌++◌, map, Option, Some, None, Ok, Err, ◌⊎◌, refl, sym, ap, subst}
-use Rattle.std.{proofs.Common.{◌∙◌, inl, inr}, specs.Prelude.is_some}
+use Rattle.std.proofs.Common.{◌∙◌, inl, inr}
+use Rattle.std.specs.Prelude.{is_some}
 use Rattle.query_lang.specs.declared.fold.TypedExpr.TheVariants as typed
 use Rattle.query_lang.specs.declared.query.Stmt.TheOpen as stmt
 use Rattle.query_lang.specs.declared.query.Stmt.TheVariants as block
 use Rattle.query_laws.proofs.Terms.{WrongArity, QueryFault, Span, Name, Expr, Stmt, fold-roll-Stmt, ind-Stmt, roll-Stmt, map-Stmt}
 use Rattle.query_laws.proofs.Terms.{rolls-Assign, rolls-If, rolls-Emit, Body, Enclosing, Known, Checked, is_among, place_of, condition_of}
 use Rattle.query_laws.proofs.Terms.{word_of, target_at, target_of, inside, no_state, Adding, in_order, stmt_step, stmt_checked, StandsIn}
-use Rattle.query_laws.proofs.Terms.{HasEmit, FollowsEmit, Target, ReadsNone, in_first, in_second, Condition}
+use Rattle.query_laws.proofs.Terms.{HasEmit, FollowsEmit, in_first, in_second, Condition}
 use Rattle.query_laws.specs.Asked.{StmtAsks, of_target, of_value, of_condition, of_emit}
 use Rattle.query_laws.specs.Demands as parts
 use Rattle.query_laws.proofs.ExprFaults.{place_none, not_new, condition_told, word_told}
-use Rattle.query_laws.proofs.{FaultSteps.{at_span, same_fault, no_fault, by_must_not, by_next, told, Broken}, FoldNames.among_new}
-use Rattle.query_laws.proofs.{Steps.{same_ok, found_first}, StateFaults.{has_state, Knows, knows_inside}}
+use Rattle.query_laws.proofs.FaultSteps.{at_span, same_fault, no_fault, by_must_not, by_next, Broken, broken_at, broken_in}
+use Rattle.query_laws.proofs.{FoldNames.among_new, Steps.{same_ok, found_first}, StateFaults.{has_state, Knows, knows_inside}}
 
 -- ---- statements in longer blocks
 
@@ -64,15 +65,8 @@ emit_before {rest} h = (h.0, h.1, with_more _ h.2)
 
 emits_both : (found middle made : Body) {s : Stmt} {rest : List Stmt} → Emits found middle (s ∷ []) → Emits middle made rest
     → Emits found made (s ∷ rest)
-emits_both found middle _ {s} {rest} one two some = go (two some)
-  where
-    front : (is_some found.emit ≡ true) ⊎ HasEmit (s ∷ []) → (is_some found.emit ≡ true) ⊎ HasEmit (s ∷ rest)
-    front (inl h) = inl h
-    front (inr h) = inr (emit_before h)
-
-    go : (is_some middle.emit ≡ true) ⊎ HasEmit rest → (is_some found.emit ≡ true) ⊎ HasEmit (s ∷ rest)
-    go (inl h) = front (one h)
-    go (inr h) = inr (emit_after h)
+emits_both found middle _ one two some = elim (two some)
+    [ inl h ↦ elim (one h) [ inl k ↦ inl k | inr k ↦ inr (emit_before k) ] | inr h ↦ inr (emit_after h) ]
 
 block_emits : (states args : List ℕ) (ss : List (Emitting states args)) (outer : Enclosing) (found : Body) {made : Body}
     → in_order (map (stmt_checked states args) (stmts states args ss)) outer found ≡ Ok made → Emits found made (stmts states args ss)
@@ -97,15 +91,8 @@ fresh found = record { statements = []; emit = found.emit }
 
 if_emits : (found p q : Body) {c : Expr} {a b : List Stmt} → Emits (fresh found) p a → Emits (fresh p) q b
     → Emits found q (block.If c a b ∷ [])
-if_emits found p q {c} {a} {b} one two some = go (two some)
-  where
-    front : (is_some found.emit ≡ true) ⊎ HasEmit a → (is_some found.emit ≡ true) ⊎ HasEmit (block.If c a b ∷ [])
-    front (inl h) = inl h
-    front (inr h) = inr (emit_in_first b h)
-
-    go : (is_some p.emit ≡ true) ⊎ HasEmit b → (is_some found.emit ≡ true) ⊎ HasEmit (block.If c a b ∷ [])
-    go (inl h) = front (one h)
-    go (inr h) = inr (emit_in_second a h)
+if_emits found p q {a} {b} one two some = elim (two some)
+    [ inl h ↦ elim (one h) [ inl k ↦ inl k | inr k ↦ inr (emit_in_first b k) ] | inr h ↦ inr (emit_in_second a h) ]
 
 emit_step : (states args : List ℕ) (y : stmt.Stmt-F (Emitting states args)) (outer : Enclosing) (found : Body) {made : Body}
     → stmt_step states args (map-Stmt Stmt Adding (stmt_checked states args) (map-Stmt (Emitting states args) Stmt (λ s. s.0) y)) outer
@@ -193,16 +180,8 @@ module _ (states args : List ℕ) (known : List Known) (fault : QueryFault) wher
       go : (o : Option ℕ) → place_of states x.id ≡ o → (b : Bool) → is_among x.id args ≡ b → target_at o b x.span ≡ Err fault
           → Broken (StmtAsks states args around (block.Assign x e)) known fault
       go (Some v) _ b _ is = no_fault is
-      go None place true among is = record {
-        demand = Target states args x;
-        asks = of_target e;
-        tells = told _ _ (same_fault is) (refl, place_none _ _ place, not_new _ _ among);
-      }
-      go None place false among is = record {
-        demand = Target states args x;
-        asks = of_target e;
-        tells = told _ _ (same_fault is) (refl, place_none _ _ place, among_new x.id args among);
-      }
+      go None place true among is = broken_at _ (of_target e) (same_fault is) (refl, place_none _ _ place, not_new _ _ among)
+      go None place false among is = broken_at _ (of_target e) (same_fault is) (refl, place_none _ _ place, among_new x.id args among)
 
   abbrev IsToldStmt : Stmt → Type 0
   IsToldStmt s = (around : List Expr) (outer : Enclosing) (found : Body) → Knows states around outer
@@ -240,23 +219,17 @@ module _ (states args : List ℕ) (known : List Known) (fault : QueryFault) wher
           let k = knows at is in
           let m = has_state _ _ at k.2 in
           let inner = m.1 Condition in
-          record {
-            demand = ReadsNone states k.0;
-            asks = of_emit _ k.1;
-            tells = told _ _ (same_fault e) (m.0, (Condition, inner.0, inner.1), m.2, not_new _ _ m.3);
-          }
+          broken_at _ (of_emit _ k.1) (same_fault e) (m.0, (Condition, inner.0, inner.1), m.2, not_new _ _ m.3)
 
   told_step : (y : stmt.Stmt-F ToldStmt) {around : List Expr} (outer : Enclosing) (found : Body) → Knows states around outer
       → stmt_step states args (map-Stmt Stmt Adding (stmt_checked states args) (map-Stmt ToldStmt Stmt (λ s. s.0) y)) outer found ≡ Err
       fault → InBlock around (roll-Stmt (map-Stmt ToldStmt Stmt (λ s. s.0) y) ∷ []) (is_some found.emit)
   told_step (stmt.Assign x e) _ _ _ is = stmt_moved (rolls-Assign x e) (
       by_next _ is (λ is. here (target_told is)) (λ v p is. by_next _ is (λ is.
-      let b = word_told is in
-      here (record { demand = b.demand; asks = of_value x b.asks; tells = b.tells known })) (λ value q is. no_fault is)))
+      here (broken_in (λ d asked. of_value x asked) (word_told _ _ _ is))) (λ value q is. no_fault is)))
   told_step (stmt.If c a b) outer found knows is = stmt_moved (rolls-If c (all_of a) (all_of b)) (
       by_next (condition_of (states ++ args) [] c) is (λ is.
-      let k = condition_told is in
-      here (record { demand = k.demand; asks = of_condition (all_of a) (all_of b) k.asks; tells = k.tells known })) (λ t p is.
+      here (broken_in (λ d asked. of_condition (all_of a) (all_of b) asked) (condition_told _ _ _ is))) (λ t p is.
       by_next (in_order (map (stmt_checked states args) (all_of a)) (inside states outer c t) (fresh found)) is (λ is. told_first (all_of b)
       (block_told a (inside states outer c t) (fresh found) (knows_inside states outer t knows) is)) (λ one q is.
       by_next (in_order (map (stmt_checked states args) (all_of b)) (inside states outer c (typed.Not t)) (fresh one)) is (λ is. told_second

@@ -1,8 +1,10 @@
 -- Which columns a `zip` and a `groupby` have: the rules and the checks agree.
 use Rattle.std.proofs.Common.{◌≡◌, ℕ, zero, suc, ◌+◌, ◌<◌, Bool, true, false, cond, List, [], ◌∷◌, length, Some, refl, sym, ap, subst, ◌∙◌}
-use Rattle.std.{proofs.Common.arith, specs.{Prelude.slice_get, List.cons_option}}
+use Rattle.std.proofs.Common.{arith}
+use Rattle.std.specs.{Prelude.slice_get, List.cons_option}
 use Rattle.query_laws.proofs.Terms.{StreamColumn, is_among, column_names, others_from, columns_at, StandsAt}
-use Rattle.query_laws.{proofs.FoldNames.{new_among, among_new}, specs.StreamRules.{HasSlots, AreAt, AreOthers, of_none, of_named, of_other}}
+use Rattle.query_laws.proofs.{FoldNames.{new_among, among_new}, Steps.by_test}
+use Rattle.query_laws.specs.StreamRules.{HasSlots, AreAt, AreOthers, of_none, of_named, of_other}
 
 -- ---- the columns at some slots
 
@@ -65,26 +67,18 @@ others_are {names} (of_other {slot} {column} {rest} h more) = ap (λ z. slot ∷
 
 others_found : (names : List ℕ) (slot : ℕ) (columns : List StreamColumn) → AreOthers names slot columns (others_from slot names columns)
 others_found _ _ [] = of_none _
-others_found names slot (column ∷ rest) = go (is_among column.name names) refl (others_found names (slot + 1) rest)
-  where
-    more : List ℕ
-    more = others_from (slot + 1) names rest
-
-    go : (b : Bool) → is_among column.name names ≡ b → AreOthers names (slot + 1) rest more
-        → AreOthers names slot (column ∷ rest) (cond b more (slot ∷ more))
-    go true is h = of_named (λ new. let both : true ≡ false = sym is ∙ new_among column.name names new in cc both) h
-    go false is h = of_other (among_new column.name names is) h
+others_found names slot (column ∷ rest) =
+    let h = others_found names (slot + 1) rest in
+    by_test (is_among column.name names)
+    (λ is. rw is (of_named (λ new. let both : true ≡ false = sym is ∙ new_among column.name names new in cc both) h))
+    (λ is. rw is (of_other (among_new column.name names is) h))
 
 others_within : (at : ℕ) (names : List ℕ) (columns : List StreamColumn) → AreWithin (at + length columns) (others_from at names columns)
 others_within _ _ [] = tt
 others_within at names (c ∷ columns) =
-    go (is_among c.name names) (subst (λ n. AreWithin n (others_from (at + 1) names columns)) (omega arith)
-    (others_within (at + 1) names columns))
-  where
-    go : (b : Bool) → AreWithin (at + length (c ∷ columns)) (others_from (at + 1) names columns)
-        → AreWithin (at + length (c ∷ columns)) (cond b (others_from (at + 1) names columns) (at ∷ others_from (at + 1) names columns))
-    go true more = more
-    go false more = (omega arith, more)
+    let more : AreWithin (at + length (c ∷ columns)) (others_from (at + 1) names columns) =
+    subst (λ n. AreWithin n (others_from (at + 1) names columns)) (omega arith) (others_within (at + 1) names columns) in
+    by_test (is_among c.name names) (λ is. rw is more) (λ is. rw is (omega arith, more))
 
 -- the columns that a `zip` takes from its second input
 pub record Taken (names : List ℕ) (columns : List StreamColumn) : Type 0 where

@@ -1,31 +1,26 @@
 -- What a fault in an expression says.
-use Rattle.std.proofs.Common.{◌≡◌, ℕ, ◌+◌, Bool, true, false, nat_eq, cond, List, [], ◌∷◌, ◌++◌, length, map, Option, Some, None, Ok, Err}
-use Rattle.std.proofs.Common.{refl, sym, ap, subst, ◌∙◌, arith}
+use Rattle.std.proofs.Common.{◌≡◌, ℕ, ◌+◌, Bool, true, false, nat_eq, List, [], ◌∷◌, ◌++◌, length, map, Option, Some, None, Ok, Err, refl}
+use Rattle.std.proofs.Common.{sym, ap, subst, ◌∙◌, arith}
 use Rattle.query_lang.specs.declared.query.Expr.TheOpen as expr
 use Rattle.query_lang.specs.declared.query.Expr.TheVariants as whole
 use Rattle.query_laws.proofs.Terms.{WrongKind, WrongArity, BadConstant, QueryFault, Span, Op, TypedExpr, Name, Expr, fold-roll-Expr}
 use Rattle.query_laws.proofs.Terms.{ind-Expr, roll-Expr, map-Expr, rolls-Named, rolls-Not, rolls-Binary, rolls-Call, Found, Known, Checked}
 use Rattle.query_laws.proofs.Terms.{collected, is_among, place_from, place_of, slot_at, slot_of, is_operand, is_right_constant, of_two}
 use Rattle.query_laws.proofs.Terms.{call_of, expr_step, expr_checked, condition_of, word_of, Kind, Word, Condition, other_kind}
-use Rattle.query_laws.{proofs.Terms.{operand_kind, HasKind, IsNew}, specs.Asked.{ExprAsks, of_part, of_name, of_call, of_right, of_second}}
-use Rattle.query_laws.specs.Demands.{leftmost, leftmost_step, IsOneOf, HasPart, Demand, AColumn, Typed, Two, Constant, Tells, first, later}
-use Rattle.query_laws.specs.Demands.{of_not, of_left, of_argument}
+use Rattle.query_laws.proofs.Terms.{operand_kind, HasKind, IsNew}
+use Rattle.query_laws.specs.{Asked.{ExprAsks, of_part, of_name, of_call, of_right, of_second}, Demands.{leftmost, leftmost_step, IsOneOf}}
+use Rattle.query_laws.specs.Demands.{HasPart, Demand, AColumn, Typed, Constant, Tells, first, later, of_not, of_left, of_argument}
 use Rattle.query_laws.specs.Demands as parts
 use Rattle.query_laws.proofs.ExprComplete.{complete, operand, right, kind_condition, kind_word}
-use Rattle.query_laws.proofs.ExprSound.{kind_of, Each, collected_each, expr_sound}
-use Rattle.query_laws.proofs.FaultSteps.{at_span, same_fault, no_fault, not_both, by_must, by_next, told}
-use Rattle.query_laws.proofs.{FoldNames.{new_among, among_new}, Steps.{must_ok, same_ok, found_first, nat_other}}
+use Rattle.query_laws.proofs.{ExprSound.{kind_of, Each, collected_each, expr_sound}, FaultSteps.{at_span, same_fault, no_fault, not_both}}
+use Rattle.query_laws.proofs.FaultSteps.{by_must, by_next, told, by_collected, broken, broken_at, broken_in, Broken}
+use Rattle.query_laws.proofs.{FoldNames.{new_among, among_new}, Steps.{must_ok, same_ok, found_first, nat_other, by_cond}}
 
 -- ---- names
 
 none_from : (names : List ℕ) (at id : ℕ) → place_from at names id ≡ None → IsNew id names
 none_from [] _ _ e = tt
-none_from (name ∷ rest) at id e = go (nat_eq name id) refl (λ k. none_from rest (at + 1) id k) e
-  where
-    go : (b : Bool) → nat_eq name id ≡ b → (place_from (at + 1) rest id ≡ None → IsNew id rest)
-        → cond b (Some at) (place_from (at + 1) rest id) ≡ None → IsNew id (name ∷ rest)
-    go true _ _ e = cc e
-    go false is more e = (nat_other is, more e)
+none_from (name ∷ rest) at id e = by_cond (nat_eq name id) e (λ _ k. cc k) (λ is k. (nat_other is, none_from rest (at + 1) id k))
 
 pub place_none : (names : List ℕ) (id : ℕ) → place_of names id ≡ None → IsNew id names
 place_none _ _ e = none_from _ 0 _ e
@@ -104,16 +99,6 @@ asks_through p (of_call _ h) = of_call _ (through p h)
 asks_through p (of_right _ x h) = of_right _ x (through p h)
 asks_through p (of_second _ x h) = of_second _ x (through p h)
 
--- something that an expression asks, of which the fault says that it isn't so
-pub record ExprBroken (columns hidden : List ℕ) (k : Kind) (e : Expr) (fault : QueryFault) : Type 0 where
-  pub demand : Demand
-  pub asks : ExprAsks columns hidden k e demand
-  pub tells : (known : List Known) → Tells known fault.kind fault.span demand
-
-broken_through : {columns hidden : List ℕ} {k : Kind} {e : Expr} {l : Kind} {a : Expr} {fault : QueryFault} → HasPart k e l a
-    → ExprBroken columns hidden l a fault → ExprBroken columns hidden k e fault
-broken_through p b = record { demand = b.demand; asks = asks_through p b.asks; tells = b.tells }
-
 -- ---- kinds and constants
 
 turned : (k l : Kind) → (k ≡ l → ⊥) → k ≡ other_kind l
@@ -122,11 +107,6 @@ turned Word Condition _ = refl
 turned Condition Word _ = refl
 turned Condition Condition differs = absurd (differs refl)
 
-has_other_kind : {columns : List ℕ} (hidden : List ℕ) {l : Kind} {a : Expr} {x : Found} → expr_checked columns hidden a ≡ Ok x
-    → (kind_of x.sort ≡ l → ⊥) → (t : TypedExpr) × HasKind columns (other_kind l) a t
-has_other_kind {columns} _ {l} {a} {x} is differs =
-    (x.tree, subst (λ k. HasKind columns k a x.tree) (turned _ l differs) (expr_sound _ a x is).rule)
-
 -- an expression is of one kind
 pub one_kind : {columns : List ℕ} {k l : Kind} {e : Expr} {s t : TypedExpr} → HasKind columns k e s → HasKind columns l e t → k ≡ l
 one_kind p q =
@@ -134,141 +114,109 @@ one_kind p q =
     let g = complete [] q in
     sym f.kind ∙ ap (λ (x : Found). kind_of x.sort) (same_ok f.found g.found (sym f.is ∙ g.is)) ∙ g.kind
 
-kind_told : (columns hidden : List ℕ) {l : Kind} (a : Expr) (x : Found) {fault : QueryFault} → expr_checked columns hidden a ≡ Ok x
-    → at_span WrongKind x.at ≡ fault
-    → (kind_of x.sort ≡ l → ⊥) → (known : List Known) → Tells known fault.kind fault.span (Typed columns l a)
-kind_told _ _ {l} a x is e other _ = told _ _ e (sym (stands_left _ _ a x is), has_other_kind _ is other)
+module _ (columns hidden : List ℕ) (known : List Known) where
+  -- something that an expression asks, of which the fault says that it isn't so
+  abbrev ExprBroken : Kind → Expr → QueryFault → Type 0
+  ExprBroken k e fault = Broken (ExprAsks columns hidden k e) known fault
 
-two_told : {columns hidden : List ℕ} {k : Kind} {e : Expr} {op : Op} (at : Span) {a b : Expr} {x y : Found} {fault : QueryFault}
-    → expr_checked columns hidden a ≡ Ok x → expr_checked columns hidden b ≡ Ok y
-    → ExprAsks columns hidden k e (Typed columns (operand_kind op) a) → ExprAsks columns hidden k e (Typed columns (operand_kind op) b)
-    → ExprAsks columns hidden k e (Constant op b) → of_two op at x y ≡ Err fault → ExprBroken columns hidden k e fault
-two_told {columns} {hidden} {op} _ {a} {b} {x} {y} {fault} p q left right_ constant is = by_must _ _ {fault = fault} is (λ no same. record {
-  demand = Typed columns (operand_kind op) a;
-  asks = left;
-  tells = kind_told _ _ {l = operand_kind op} a x {fault = fault} p same (λ kind. not_both _ no (operand _ _ kind));
-}) (λ yes is. by_must _ _ {fault = fault} is (λ no same. record {
-  demand = Typed columns (operand_kind op) b;
-  asks = right_;
-  tells = kind_told _ _ {l = operand_kind op} b y {fault = fault} q same (λ kind. not_both _ no (operand _ _ kind));
-}) (λ yes is. by_must _ _ {fault = fault} is (λ no same. record {
-  demand = Constant op b;
-  asks = constant;
-  tells = λ known. told _ _ {kind = BadConstant} {span = y.at} {fault = fault} same
-      (sym (stands_left _ _ b y q), λ h. not_both _ no (right _ _ _ b y q h));
-}) (λ yes is. no_fault {fault = fault} is)))
+  broken_through : {k : Kind} {e : Expr} {l : Kind} {a : Expr} {fault : QueryFault} → HasPart k e l a → ExprBroken l a fault
+      → ExprBroken k e fault
+  broken_through p b = broken_in (λ d. asks_through p) b
 
--- ---- expressions
+  kind_told : {l : Kind} (a : Expr) {x : Found} {fault : QueryFault} → expr_checked columns hidden a ≡ Ok x → at_span WrongKind x.at ≡ fault
+      → (kind_of x.sort ≡ l → ⊥) → Tells known fault.kind fault.span (Typed columns l a)
+  kind_told {l} a {x} is e other = told _ _ e (
+    sym (stands_left _ _ a x is),
+    (x.tree, subst (λ k. HasKind columns k a x.tree) (turned _ l other) (expr_sound _ a x is).rule),
+  )
 
-abbrev IsTold : List ℕ → List ℕ → Expr → Type 0
-IsTold columns hidden e = (fault : QueryFault) → expr_checked columns hidden e ≡ Err fault → (k : Kind)
-    → ExprBroken columns hidden k e fault
+  two_told : {k : Kind} {e : Expr} {op : Op} (at : Span) {a b : Expr} {x y : Found} {fault : QueryFault}
+      → expr_checked columns hidden a ≡ Ok x → expr_checked columns hidden b ≡ Ok y
+      → ExprAsks columns hidden k e (Typed columns (operand_kind op) a) → ExprAsks columns hidden k e (Typed columns (operand_kind op) b)
+      → ExprAsks columns hidden k e (Constant op b) → of_two op at x y ≡ Err fault → ExprBroken k e fault
+  two_told _ {b} {y} p q left right_ constant is =
+      by_must _ _ is (λ no same. broken _ left (kind_told _ p same (λ kind. not_both _ no (operand _ _ kind)))) (λ yes is.
+      by_must _ _ is (λ no same. broken _ right_ (kind_told _ q same (λ kind. not_both _ no (operand _ _ kind)))) (λ yes is.
+      by_must _ {kind = BadConstant} {span = y.at} _ is (λ no same.
+      broken_at _ constant same (sym (stands_left _ _ b y q), λ h. not_both _ no (right _ _ _ b y q h))) (λ yes is. no_fault is)))
 
-abbrev Told : List ℕ → List ℕ → Type 0
-Told columns hidden = (e : Expr) × IsTold columns hidden e
+  -- ---- expressions
 
-abbrev exprs : {columns hidden : List ℕ} → List (Told columns hidden) → List Expr
-exprs args = map (λ a. a.0) args
+  abbrev IsTold : Expr → Type 0
+  IsTold e = (fault : QueryFault) → expr_checked columns hidden e ≡ Err fault → (k : Kind) → ExprBroken k e fault
 
-not_two : {columns hidden : List ℕ} {k : Kind} {op : Op} {span : Span} (es : List Expr) {fault : QueryFault} → (length es ≡ 2 → ⊥)
-    → at_span WrongArity span ≡ fault → ExprBroken columns hidden k (whole.Call op span es) fault
-not_two {op} {span} es other same = record {
-  demand = Two es span;
-  asks = of_call _ parts.whole;
-  tells = λ known. told _ _ same (refl, other);
-}
+  abbrev Told : Type 0
+  Told = (e : Expr) × IsTold e
 
-call_told : {columns hidden : List ℕ} {k : Kind} {op : Op} {span : Span} (es : List Expr) (fs : List Found) {fault : QueryFault}
-    → Each columns hidden es fs → call_of op span fs ≡ Err fault → ExprBroken columns hidden k (whole.Call op span es) fault
-call_told [] [] _ e = not_two _ (λ n. omega (arith, n)) (same_fault e)
-call_told [] (f ∷ _) all e = absurd all
-call_told (a ∷ _) [] all e = absurd all
-call_told (a ∷ []) (f ∷ []) _ e = not_two _ (λ n. omega (arith, n)) (same_fault e)
-call_told (a ∷ []) (f ∷ g ∷ _) all e = absurd all.1
-call_told (a ∷ b ∷ _) (f ∷ []) all e = absurd all.1
-call_told {op} {span} (a ∷ b ∷ []) (f ∷ g ∷ []) all e =
-    let c = whole.Call op span (a ∷ b ∷ []) in
-    two_told _ all.0 all.1.0 (of_part (of_argument _ _ first parts.whole))
-    (of_part (of_argument _ _ (later a (b ∷ []) first) parts.whole)) (of_second _ a parts.whole) e
-call_told (a ∷ b ∷ []) (f ∷ g ∷ h ∷ _) all e = absurd all.1.1
-call_told (a ∷ b ∷ c ∷ _) (f ∷ g ∷ []) all e = absurd all.1.1
-call_told (a ∷ b ∷ c ∷ _) (f ∷ g ∷ h ∷ _) _ e = not_two _ (λ n. omega (arith, n)) (same_fault e)
+  abbrev exprs : List Told → List Expr
+  exprs args = map (λ a. a.0) args
 
--- the argument at which a fault is found
-argument_told : {columns hidden : List ℕ} (args : List (Told columns hidden)) (before : List Found) {fault : QueryFault}
-    → collected before (map (expr_checked columns hidden) (exprs args)) ≡ Err fault
-    → (a : Expr) × IsOneOf a (exprs args) × ((k : Kind) → ExprBroken columns hidden k a fault)
-argument_told [] _ e = no_fault e
-argument_told {columns} {hidden} (a ∷ args) before {fault} e =
-    go (expr_checked columns hidden a.0) refl (λ x k. argument_told args (before ++ x ∷ []) k) e
-  where
-    go : (c : Checked Found) → expr_checked columns hidden a.0 ≡ c
-        → ((x : Found) → collected (before ++ x ∷ []) (map (expr_checked columns hidden) (exprs args)) ≡ Err fault
-        → (b : Expr) × IsOneOf b (exprs args) × ((k : Kind) → ExprBroken columns hidden k b fault))
-        → collected before (c ∷ map (expr_checked columns hidden) (exprs args)) ≡ Err fault
-        → (b : Expr) × IsOneOf b (exprs (a ∷ args)) × ((k : Kind) → ExprBroken columns hidden k b fault)
-    go (Ok x) _ next e = let m = next x e in (m.0, later a.0 (exprs args) m.1, m.2)
-    go (Err _) is _ e = (
-      a.0,
-      first,
-      a.1 fault (is ∙ ap (λ f. let r : Checked Found = Err f in r) (same_fault e)),
-    )
+  not_two : {k : Kind} {op : Op} {span : Span} (es : List Expr) {fault : QueryFault} → (length es ≡ 2 → ⊥)
+      → at_span WrongArity span ≡ fault → ExprBroken k (whole.Call op span es) fault
+  not_two _ other same = broken_at _ (of_call _ parts.whole) same (refl, other)
 
-moved : {columns hidden : List ℕ} {k : Kind} {e f : Expr} {fault : QueryFault} → f ≡ e → ExprBroken columns hidden k e fault
-    → ExprBroken columns hidden k f fault
-moved {columns} {hidden} {k} {fault} is h = subst (λ z. ExprBroken columns hidden k z fault) (sym is) h
+  call_told : {k : Kind} {op : Op} {span : Span} (es : List Expr) (fs : List Found) {fault : QueryFault}
+      → Each columns hidden es fs → call_of op span fs ≡ Err fault → ExprBroken k (whole.Call op span es) fault
+  call_told [] [] _ e = not_two _ (λ n. omega (arith, n)) (same_fault e)
+  call_told [] (f ∷ _) all e = absurd all
+  call_told (a ∷ _) [] all e = absurd all
+  call_told (a ∷ []) (f ∷ []) _ e = not_two _ (λ n. omega (arith, n)) (same_fault e)
+  call_told (a ∷ []) (f ∷ g ∷ _) all e = absurd all.1
+  call_told (a ∷ b ∷ _) (f ∷ []) all e = absurd all.1
+  call_told (a ∷ b ∷ []) (f ∷ g ∷ []) all e = two_told _ all.0 all.1.0 (of_part (of_argument _ _ first parts.whole))
+      (of_part (of_argument _ _ (later a (b ∷ []) first) parts.whole)) (of_second _ a parts.whole) e
+  call_told (a ∷ b ∷ []) (f ∷ g ∷ h ∷ _) all e = absurd all.1.1
+  call_told (a ∷ b ∷ c ∷ _) (f ∷ g ∷ []) all e = absurd all.1.1
+  call_told (a ∷ b ∷ c ∷ _) (f ∷ g ∷ h ∷ _) _ e = not_two _ (λ n. omega (arith, n)) (same_fault e)
 
-step : {columns hidden : List ℕ} (y : expr.Expr-F (Told columns hidden)) {fault : QueryFault}
-    → expr_step columns hidden (map-Expr Expr (Checked Found) (expr_checked columns hidden)
-    (map-Expr (Told columns hidden) Expr (λ a. a.0) y)) ≡ Err fault
-    → (k : Kind) → ExprBroken columns hidden k (roll-Expr (map-Expr (Told columns hidden) Expr (λ a. a.0) y)) fault
-step (expr.Number n _) e k = no_fault e
-step {columns} {hidden} (expr.Named x) e k = moved (rolls-Named x) (
-    by_next _ e (λ is. record {
-      demand = AColumn columns hidden x.id x.span;
-      asks = of_name x parts.whole;
-      tells = slot_told _ _ x is;
-    }) (λ slot is e. no_fault e))
-step {columns} {hidden} (expr.Not span a) {fault} e k = moved (rolls-Not span a.0) (
-    let inside = of_not _ parts.whole in
-    by_next _ e (λ is. broken_through inside (a.1 fault is Condition)) (λ x is e. by_must _ _ e (λ no same. record {
-      demand = Typed columns Condition a.0;
-      asks = of_part inside;
-      tells = kind_told _ _ _ x is same (λ kind. not_both _ no (kind_condition _ kind));
-    }) (λ yes e. no_fault e)))
-step {columns} {hidden} (expr.Binary op span a b) {fault} e k = moved (rolls-Binary op span a.0 b.0) (
-    let both = whole.Binary op span a.0 b.0 in
-    let left = of_left _ _ _ _ parts.whole in
-    let second = parts.of_right _ _ _ parts.whole in
-    by_next _ e (λ is. broken_through left (a.1 fault is (operand_kind op))) (λ x p e.
-    by_next _ e (λ is. broken_through second (b.1 fault is (operand_kind op))) (λ y q e.
-    two_told _ p q (of_part left) (of_part second) (of_right _ _ parts.whole) e)))
-step {columns} {hidden} (expr.Call op span args) e k = moved (rolls-Call op span (exprs args)) (
-    by_next _ e (λ is.
-    let m = argument_told _ _ is in
-    broken_through (of_argument _ _ m.1 parts.whole) (m.2 (operand_kind op))) (λ fs is e.
-    let all = collected_each _ _ _ _ is in
-    call_told _ _ all.2 (ap (call_of op span) (sym all.1) ∙ e)))
+  -- the argument at which a fault is found
+  argument_told : (args : List Told) (before : List Found) {fault : QueryFault}
+      → collected before (map (expr_checked columns hidden) (exprs args)) ≡ Err fault
+      → (a : Expr) × IsOneOf a (exprs args) × ((k : Kind) → ExprBroken k a fault)
+  argument_told [] _ e = no_fault e
+  argument_told (a ∷ args) before {fault} e = by_collected before (expr_checked columns hidden a.0) _ e
+      (λ is. (a.0, first, a.1 fault is)) (λ x _ e. let m = argument_told args (before ++ x ∷ []) e
+      in (m.0, later a.0 (exprs args) m.1, m.2))
 
-pub expr_told : {columns hidden : List ℕ} (e : Expr) → IsTold columns hidden e
-expr_told {columns} {hidden} = ind-Expr (IsTold columns hidden) (λ x y is fault e k.
-    subst (λ z. expr_step columns hidden (map-Expr Expr (Checked Found) (expr_checked columns hidden) z) ≡ Err fault → (l : Kind)
-    → ExprBroken columns hidden l (roll-Expr z) fault) is (step y)
-    (sym (fold-roll-Expr (Checked Found) (expr_step columns hidden) x) ∙ e) k)
+  moved : {k : Kind} {e f : Expr} {fault : QueryFault} → f ≡ e → ExprBroken k e fault → ExprBroken k f fault
+  moved is h = rw is h
 
-pub condition_told : {columns hidden : List ℕ} {e : Expr} {fault : QueryFault} → condition_of columns hidden e ≡ Err fault
-    → ExprBroken columns hidden Condition e fault
-condition_told {columns} {hidden} {e} {fault} is =
-    by_next _ is (λ is. expr_told e fault is Condition) (λ x p is. by_must _ _ is (λ no same. record {
-      demand = Typed columns Condition e;
-      asks = of_part parts.whole;
-      tells = kind_told _ _ e x p same (λ kind. not_both _ no (kind_condition _ kind));
-    }) (λ yes is. no_fault is))
+  step : (y : expr.Expr-F Told) {fault : QueryFault}
+      → expr_step columns hidden (map-Expr Expr (Checked Found) (expr_checked columns hidden) (map-Expr Told Expr (λ a. a.0) y)) ≡ Err fault
+      → (k : Kind) → ExprBroken k (roll-Expr (map-Expr Told Expr (λ a. a.0) y)) fault
+  step (expr.Number n _) e k = no_fault e
+  step (expr.Named x) e k = moved (rolls-Named x) (
+      by_next _ e (λ is. broken _ (of_name x parts.whole) (slot_told _ _ x is known)) (λ slot is e. no_fault e))
+  step (expr.Not span a) {fault} e k = moved (rolls-Not span a.0) (
+      let inside = of_not _ parts.whole in
+      by_next _ e (λ is. broken_through inside (a.1 fault is Condition)) (λ x is e.
+      by_must _ _ e (λ no same. broken _ (of_part inside) (kind_told _ is same (λ kind. not_both _ no (kind_condition _ kind))))
+      (λ yes e. no_fault e)))
+  step (expr.Binary op span a b) {fault} e k = moved (rolls-Binary op span a.0 b.0) (
+      let left = of_left _ _ _ _ parts.whole in
+      let second = parts.of_right _ _ _ parts.whole in
+      by_next _ e (λ is. broken_through left (a.1 fault is (operand_kind op))) (λ x p e.
+      by_next _ e (λ is. broken_through second (b.1 fault is (operand_kind op))) (λ y q e.
+      two_told _ p q (of_part left) (of_part second) (of_right _ _ parts.whole) e)))
+  step (expr.Call op span args) e k = moved (rolls-Call op span (exprs args)) (
+      by_next _ e (λ is.
+      let m = argument_told _ _ is in
+      broken_through (of_argument _ _ m.1 parts.whole) (m.2 (operand_kind op))) (λ fs is e.
+      let all = collected_each _ _ _ _ is in
+      call_told _ _ all.2 (ap (call_of op span) (sym all.1) ∙ e)))
 
-pub word_told : {columns hidden : List ℕ} {e : Expr} {fault : QueryFault} → word_of columns hidden e ≡ Err fault
-    → ExprBroken columns hidden Word e fault
-word_told {columns} {hidden} {e} {fault} is = by_next _ is (λ is. expr_told e fault is Word) (λ x p is. by_must _ _ is (λ no same. record {
-  demand = Typed columns Word e;
-  asks = of_part parts.whole;
-  tells = kind_told _ _ e x p same (λ kind. not_both _ no (kind_word _ kind));
-}) (λ yes is. no_fault is))
+  expr_told : (e : Expr) → IsTold e
+  expr_told = ind-Expr IsTold (λ x y is fault e k.
+      subst (λ z. expr_step columns hidden (map-Expr Expr (Checked Found) (expr_checked columns hidden) z) ≡ Err fault → (l : Kind)
+      → ExprBroken l (roll-Expr z) fault) is (step y)
+      (sym (fold-roll-Expr (Checked Found) (expr_step columns hidden) x) ∙ e) k)
+
+  pub condition_told : {e : Expr} {fault : QueryFault} → condition_of columns hidden e ≡ Err fault → ExprBroken Condition e fault
+  condition_told {e} {fault} is = by_next _ is (λ is. expr_told e fault is Condition) (λ x p is.
+      by_must _ _ is (λ no same. broken _ (of_part parts.whole) (kind_told _ p same (λ kind. not_both _ no (kind_condition _ kind))))
+      (λ yes is. no_fault is))
+
+  pub word_told : {e : Expr} {fault : QueryFault} → word_of columns hidden e ≡ Err fault → ExprBroken Word e fault
+  word_told {e} {fault} is = by_next _ is (λ is. expr_told e fault is Word) (λ x p is.
+      by_must _ _ is (λ no same. broken _ (of_part parts.whole) (kind_told _ p same (λ kind. not_both _ no (kind_word _ kind))))
+      (λ yes is. no_fault is))

@@ -1,17 +1,17 @@
 -- What the check of an expression gives has a rule.
-use Rattle.std.proofs.Common.{◌≡◌, ℕ, Bool, true, false, not, cond, List, [], ◌∷◌, ◌++◌, map, Option, Some, None, Ok, Err, refl, sym, ap}
-use Rattle.std.proofs.{Common.{subst, ◌∙◌, append_assoc, append-nil}, lemmas.Bool.ltb-true}
+use Rattle.std.proofs.Common.{◌≡◌, ℕ, Bool, true, false, not, cond, List, [], ◌∷◌, ◌++◌, map, Option, Some, None, Ok, refl, sym, ap, subst}
+use Rattle.std.proofs.{Common.{◌∙◌, append_assoc, append-nil}, lemmas.Bool.ltb-true}
 use Rattle.query_lang.specs.declared.fold.TypedExpr.TheVariants as typed
 use Rattle.query_lang.specs.declared.query.Expr.TheOpen as expr
 use Rattle.query_lang.specs.declared.query.Expr.TheVariants as whole
 use Rattle.query_lang.specs.declared.typing.Sort.TheVariants as sort
-use Rattle.query_laws.proofs.Terms.{Span, Op, Div, Rem, Shl, Shr, Decay, Both, Either, TypedExpr, Name, Expr}
-use Rattle.query_laws.proofs.Terms.{fold-roll-Expr, ind-Expr, roll-Expr, map-Expr, rolls-Number, rolls-Named, rolls-Not, rolls-Binary}
-use Rattle.query_laws.proofs.Terms.{rolls-Call, Found, Sort, Checked, collected, is_among, place_of, slot_at, slot_of, is_condition_sort}
-use Rattle.query_laws.proofs.Terms.{is_operand, is_number_with, is_right_constant, sort_of, of_two, call_of, expr_step, expr_checked}
-use Rattle.query_laws.proofs.Terms.{condition_of, word_of, Kind, Word, Condition, StandsAt, operand_kind, result_kind, IsNumberWith}
-use Rattle.query_laws.proofs.Terms.{gives_condition, IsRightOperand, HasKind, of_number, of_name, of_not, of_binary, of_call}
-use Rattle.query_laws.proofs.Steps.{must_ok, same_ok, found_first, place_stands}
+use Rattle.query_laws.proofs.Terms.{Span, Op, Div, Rem, Shl, Shr, Decay, Both, Either, TypedExpr, Name, Expr, fold-roll-Expr, ind-Expr}
+use Rattle.query_laws.proofs.Terms.{roll-Expr, map-Expr, rolls-Number, rolls-Named, rolls-Not, rolls-Binary, rolls-Call, Found, Sort}
+use Rattle.query_laws.proofs.Terms.{Checked, collected, is_among, slot_at, slot_of, is_condition_sort, is_operand, is_number_with}
+use Rattle.query_laws.proofs.Terms.{is_right_constant, sort_of, of_two, call_of, expr_step, expr_checked, condition_of, word_of, Kind, Word}
+use Rattle.query_laws.proofs.Terms.{Condition, StandsAt, operand_kind, result_kind, IsNumberWith, gives_condition, IsRightOperand, HasKind}
+use Rattle.query_laws.proofs.Terms.{of_number, of_name, of_not, of_binary, of_call}
+use Rattle.query_laws.proofs.Steps.{must_ok, same_ok, found_first, place_stands, collected_first}
 
 abbrev pub kind_of : Sort → Kind
 kind_of (sort.Number n) = Word
@@ -28,15 +28,13 @@ pub record IsTyped (columns : List ℕ) (e : Expr) (found : Found) : Type 0 wher
   pub rule : HasKind columns (kind_of found.sort) e found.tree
   pub number : IsNumberOf found.sort e
 
+slot_found : (o : Option ℕ) (b : Bool) (span : Span) {v : ℕ} → slot_at o b span ≡ Ok v → o ≡ Some v
+slot_found (Some slot) _ _ e = ap Some (same_ok slot _ e)
+slot_found None true _ e = cc e
+slot_found None false _ e = cc e
+
 pub slot_stands : (columns hidden : List ℕ) (name : Name) {v : ℕ} → slot_of columns hidden name ≡ Ok v → StandsAt columns v name.id
-slot_stands columns hidden name {v} e = go (place_of columns name.id) refl (is_among name.id hidden) e
-  where
-    go : (o : Option ℕ) → place_of columns name.id ≡ o → (b : Bool) → slot_at o b name.span ≡ Ok v → StandsAt columns v name.id
-    go (Some slot) is b e =
-        let same : slot ≡ v = cc in
-        place_stands _ _ v (is ∙ ap Some same)
-    go None _ true e = cc e
-    go None _ false e = cc e
+slot_stands columns hidden name {v} e = place_stands _ _ v (slot_found _ (is_among name.id hidden) _ e)
 
 pub condition_kind : (s : Sort) → is_condition_sort s ≡ true → kind_of s ≡ Condition
 condition_kind (sort.Number n) e = cc e
@@ -134,18 +132,10 @@ pub collected_each : (columns hidden : List ℕ) (es : List Expr) (before : List
     → collected before (map (expr_checked columns hidden) es) ≡ Ok all
     → (rest : List Found) × (all ≡ before ++ rest) × Each columns hidden es rest
 collected_each _ _ [] before {all} e = ([], sym (same_ok _ _ e) ∙ sym (append-nil before), tt)
-collected_each columns hidden (a ∷ es) before {all} e = go (expr_checked columns hidden a) refl
-    (λ x k. collected_each columns hidden es (before ++ x ∷ []) k) e
-  where
-    go : (c : Checked Found) → expr_checked columns hidden a ≡ c
-        → ((x : Found) → collected (before ++ x ∷ []) (map (expr_checked columns hidden) es) ≡ Ok all → (rest : List Found)
-        × (all ≡ (before ++ x ∷ []) ++ rest) × Each columns hidden es rest)
-        → collected before (c ∷ map (expr_checked columns hidden) es) ≡ Ok all
-        → (rest : List Found) × (all ≡ before ++ rest) × Each columns hidden (a ∷ es) rest
-    go (Ok x) is next e =
-        let more = next x e in
-        (x ∷ more.0, more.1 ∙ append_assoc before (x ∷ []) more.0, (is, more.2))
-    go (Err _) _ _ e = cc e
+collected_each columns hidden (a ∷ es) before e =
+    let first = collected_first before (expr_checked columns hidden a) _ e in
+    let more = collected_each columns hidden es (before ++ first.0 ∷ []) first.2 in
+    (first.0 ∷ more.0, more.1 ∙ append_assoc before (first.0 ∷ []) more.0, (first.1, more.2))
 
 call : {columns : List ℕ} (hidden : List ℕ) {op : Op} {span : Span} (args : List (Sound columns hidden)) (fs : List Found) {found : Found}
     → Each columns hidden (map (λ a. a.0) args) fs → call_of op span fs ≡ Ok found

@@ -1,6 +1,6 @@
 -- What a check that finds a fault has met on its way.
-use Rattle.std.proofs.Common.{◌≡◌, Bool, true, false, List, Ok, Err, refl, subst}
-use Rattle.query_laws.proofs.Terms.{FaultKind, QueryFault, Span, Known, Checked, and_then, must, must_not, Demand, Tells}
+use Rattle.std.proofs.Common.{◌≡◌, Bool, true, false, List, Ok, Err, refl, subst, [], ◌∷◌, ◌++◌}
+use Rattle.query_laws.proofs.Terms.{FaultKind, QueryFault, Span, Known, Checked, and_then, must, must_not, Demand, Tells, collected}
 
 abbrev pub at_span : FaultKind → Span → QueryFault
 at_span kind span = record { kind = kind; span = span }
@@ -30,6 +30,12 @@ pub by_next : {A B P : Type 0} (first : Checked A) {next : A → Checked B} {fau
 by_next (Ok x) e _ good = good x refl e
 by_next (Err _) e bad _ = bad (cc e)
 
+pub by_collected : {A P : Type 0} (before : List A) (first : Checked A) (rest : List (Checked A)) {fault : QueryFault}
+    → collected before (first ∷ rest) ≡ Err fault → (first ≡ Err fault → P)
+    → ((x : A) → first ≡ Ok x → collected (before ++ x ∷ []) rest ≡ Err fault → P) → P
+by_collected _ (Ok x) _ e _ good = good x refl e
+by_collected _ (Err _) _ e bad _ = bad (cc e)
+
 -- what a fault at a span says is what the fault says
 pub told : (known : List Known) (demand : Demand) {kind : FaultKind} {span : Span} {fault : QueryFault} → at_span kind span ≡ fault
     → Tells known kind span demand → Tells known fault.kind fault.span demand
@@ -40,6 +46,14 @@ pub record Broken (Asks : Demand → Type 0) (known : List Known) (fault : Query
   pub demand : Demand
   pub asks : Asks demand
   pub tells : Tells known fault.kind fault.span demand
+
+pub broken : {Asks : Demand → Type 0} (d : Demand) {known : List Known} {fault : QueryFault} → Asks d
+    → Tells known fault.kind fault.span d → Broken Asks known fault
+broken d asks tells = record { demand = d; asks = asks; tells = tells }
+
+pub broken_at : {Asks : Demand → Type 0} (d : Demand) {known : List Known} {kind : FaultKind} {span : Span} {fault : QueryFault} → Asks d
+    → at_span kind span ≡ fault → Tells known kind span d → Broken Asks known fault
+broken_at d asks at tells = broken d asks (told _ _ at tells)
 
 pub broken_in : {A B : Demand → Type 0} {known : List Known} {fault : QueryFault} → ((d : Demand) → A d → B d) → Broken A known fault
     → Broken B known fault

@@ -1,9 +1,10 @@
 -- The columns of `pktstream` have distinct names.
-use Rattle.std.proofs.Common.{◌≡◌, ℕ, Bool, true, false, cond, ◌||◌, List, [], ◌∷◌, ◌++◌, map, Some, nat_eq, refl, sym, ap, ◌∙◌}
-use Rattle.std.{proofs.lemmas.{Option.same_Some, Slice.Eq.bytes_eq-Decides}, specs.{Prelude.slice_get, List.list_any, Str.bytes_eq}}
+use Rattle.std.proofs.Common.{◌≡◌, ℕ, true, false, cond, ◌||◌, List, [], ◌∷◌, ◌++◌, map, Some, nat_eq, refl, sym, ap, ◌∙◌}
+use Rattle.std.proofs.lemmas.{Option.same_Some, Slice.Eq.bytes_eq-Decides, Bool.or_parts}
+use Rattle.std.specs.{Prelude.slice_get, List.list_any, Str.bytes_eq}
 use Rattle.marple_base.specs.{declared.field.Field.Field, Field.{all_fields, field_name}}
 use Rattle.query_lang.proofs.NameFacts.{has_number}
-use Rattle.query_laws.proofs.{Terms.{is_among, number_in, with_name, with_fields, typed_names, field_numbers}, Steps.nat_same}
+use Rattle.query_laws.proofs.{Terms.{is_among, number_in, with_name, with_fields, typed_names, field_numbers}, Steps.{nat_same, by_test}}
 use Rattle.query_laws.proofs.Views.{AreDistinct}
 
 -- ---- each field's name is at its number
@@ -13,34 +14,19 @@ IsAmong text names = list_any (bytes_eq text) names ≡ true
 
 among_front : (text : List ℕ) (names : List (List ℕ)) (other : List ℕ) → IsAmong text names → IsAmong text (names ++ other ∷ [])
 among_front _ [] _ h = cc h
-among_front text (n ∷ names) other h = go (bytes_eq text n) (λ k. among_front text names other k) h
-  where
-    go : (b : Bool) → (IsAmong text names → IsAmong text (names ++ other ∷ [])) → (b || list_any (bytes_eq text) names) ≡ true
-        → (b || list_any (bytes_eq text) (names ++ other ∷ [])) ≡ true
-    go true _ k = refl
-    go false more k = more k
+among_front text (n ∷ names) other h =
+    by_test (bytes_eq text n) (λ is. rw is) (λ is. rw is (among_front text names other (rw is at h)))
 
 among_last : (text : List ℕ) (names : List (List ℕ)) → IsAmong text (names ++ text ∷ [])
 among_last text [] = ap (λ b. b || false) ((bytes_eq-Decides text text).1 refl)
-among_last text (n ∷ names) = go (bytes_eq text n) (among_last text names)
-  where
-    go : (b : Bool) → IsAmong text (names ++ text ∷ []) → (b || list_any (bytes_eq text) (names ++ text ∷ [])) ≡ true
-    go true h = refl
-    go false h = h
+among_last text (n ∷ names) = by_test (bytes_eq text n) (λ is. rw is) (λ is. rw is (among_last text names))
 
 among_more : (text other : List ℕ) (names : List (List ℕ)) → IsAmong text names → IsAmong text (with_name names other)
-among_more text other names h = go (list_any (bytes_eq other) names)
-  where
-    go : (b : Bool) → IsAmong text (cond b names (names ++ other ∷ []))
-    go true = h
-    go false = among_front text names other h
+among_more text other names h =
+    by_test (list_any (bytes_eq other) names) (λ is. rw is h) (λ is. rw is (among_front text names other h))
 
 among_self : (text : List ℕ) (names : List (List ℕ)) → IsAmong text (with_name names text)
-among_self text names = go (list_any (bytes_eq text) names) refl
-  where
-    go : (b : Bool) → list_any (bytes_eq text) names ≡ b → IsAmong text (cond b names (names ++ text ∷ []))
-    go true e = e
-    go false e = among_last text names
+among_self text names = by_test (list_any (bytes_eq text) names) (λ is. rw is is) (λ is. rw is (among_last text names))
 
 among_fields : (text : List ℕ) (fields : List Field) (names : List (List ℕ)) → IsAmong text names → IsAmong text (with_fields names fields)
 among_fields _ [] _ h = h
@@ -82,26 +68,17 @@ AreApart (f ∷ fields) = (list_any (bytes_eq (field_name f)) (texts_of fields) 
 
 not_same : (names : List (List ℕ)) {a b : List ℕ} → slice_get names (number_in names a) ≡ Some a
     → slice_get names (number_in names b) ≡ Some b → bytes_eq a b ≡ false → nat_eq (number_in names b) (number_in names a) ≡ false
-not_same names {a} {b} at_a at_b apart = go (nat_eq (number_in names b) (number_in names a)) refl
-  where
-    go : (c : Bool) → nat_eq (number_in names b) (number_in names a) ≡ c → c ≡ false
-    go true is =
-        let same : a ≡ b = same_Some a b (sym at_a ∙ ap (slice_get names) (sym (nat_same is)) ∙ at_b) in
-        let equal : bytes_eq a b ≡ true = (bytes_eq-Decides a b).1 same in cc (equal, apart)
-    go false _ = refl
+not_same names {a} {b} at_a at_b apart = by_test (nat_eq (number_in names b) (number_in names a)) (λ is.
+    let same : a ≡ b = same_Some a b (sym at_a ∙ ap (slice_get names) (sym (nat_same is)) ∙ at_b) in
+    let equal : bytes_eq a b ≡ true = (bytes_eq-Decides a b).1 same in cc (equal, apart)) (λ is. is)
 
 not_among : (names : List (List ℕ)) {text : List ℕ} (fields : List Field) → slice_get names (number_in names text) ≡ Some text
     → AreKnown names fields
     → list_any (bytes_eq text) (texts_of fields) ≡ false → is_among (number_in names text) (numbers_of names fields) ≡ false
 not_among _ [] _ _ h = refl
-not_among names {text} (f ∷ fields) at known h = go (bytes_eq text (field_name f)) refl (λ k. not_among names fields at known.1 k) h
-  where
-    go : (b : Bool) → bytes_eq text (field_name f) ≡ b
-        → (list_any (bytes_eq text) (texts_of fields) ≡ false → is_among (number_in names text) (numbers_of names fields) ≡ false)
-        → (b || list_any (bytes_eq text) (texts_of fields)) ≡ false
-        → is_among (number_in names text) (numbers_of names (f ∷ fields)) ≡ false
-    go true _ _ k = cc k
-    go false is more k = ap (λ b. b || is_among (number_in names text) (numbers_of names fields)) (not_same names at known.0 is) ∙ more k
+not_among names {text} (f ∷ fields) at known h =
+    let parts = or_parts (bytes_eq text (field_name f)) _ h in
+    rw (not_same names at known.0 parts.0) (not_among names fields at known.1 parts.1)
 
 numbers_distinct : (names : List (List ℕ)) (fields : List Field) → AreKnown names fields → AreApart fields
     → AreDistinct (numbers_of names fields)

@@ -4,7 +4,8 @@ use Rattle.query_lang.specs.declared.fold.TypedExpr.TheVariants as typed
 use Rattle.query_lang.specs.declared.query.Expr.TheVariants.{Named}
 use Rattle.query_lang.specs.declared.query.Key.TheVariants as key
 use Rattle.query_laws.proofs.Terms.{Add, Lt, FinalOp, FoldView, five_fields, IsFold, IsTable, Demand, Holds, Word, Condition, HasKind}
-use Rattle.query_laws.{proofs.Terms.{of_number, of_name, of_binary}, specs.Asked.FinalAsks}
+use Rattle.query_laws.proofs.Terms.{of_number, of_name, of_binary}
+use Rattle.query_laws.specs.Asked.{FinalAsks}
 use Rattle.query_laws.specs.Asked as asks
 use Rattle.query_laws.proofs.{FaultSteps.no_fault, FoldNames.among_new, ItemsMeet.final_meets, Steps.{same_ok, place_stands}}
 use Rattle.query_laws.proofs.TypingExamples.{no_place, right_of_0}

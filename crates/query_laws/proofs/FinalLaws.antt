@@ -1,6 +1,7 @@
 -- Finals: the rules and the checks agree.
 use Rattle.std.proofs.Common.{◌≡◌, ℕ, ◌≤◌, Bool, true, false, ◌&&◌, List, [], ◌∷◌, ◌++◌, length, Ok, nat_eq, nat_le, refl, sym, ap, subst}
-use Rattle.std.{proofs.{Common.{◌∙◌, append-nil, arith}, lemmas.Bool.{ltb-true, leb-true}}, specs.Cmp.Lexicographic.pointwise}
+use Rattle.std.proofs.{Common.{◌∙◌, append-nil, arith}, lemmas.Bool.{ltb-true, leb-true}}
+use Rattle.std.specs.Cmp.Lexicographic.{pointwise}
 use Rattle.query_lang.specs.declared.query.FinalOp.TheVariants as ops
 use Rattle.query_lang.specs.declared.typed.TypedFinalOp.TheVariants as typed
 use Rattle.query_laws.proofs.Terms.{Span, Name, Key, Column, Expr, FinalOp, Earlier, Given, TableView, FoldView, MadeFinal, NewColumns}

@@ -1,12 +1,13 @@
 -- How many nodes and statements the examples' statements have.
-use Rattle.std.{proofs.Common.{◌≡◌, ℕ, ◌+◌, List, [], ◌∷◌, map, refl, sym, ap, ◌∙◌}, specs.Prelude.sum}
+use Rattle.std.proofs.Common.{◌≡◌, ℕ, ◌+◌, List, [], ◌∷◌, map, refl, sym, ap, ◌∙◌}
+use Rattle.std.specs.Prelude.{sum}
 use Rattle.query_lang.specs.declared.query.Expr.TheOpen as expr
 use Rattle.query_lang.specs.declared.query.Expr.TheVariants.{Number, Named, Binary, rolls-Number, rolls-Named, rolls-Binary}
 use Rattle.query_lang.specs.declared.query.Stmt.TheOpen as stmt
 use Rattle.query_laws.proofs.Terms.{Op, Expr, fold-roll-Expr, Name, Stmt, fold-roll-Stmt, Assign, If, Emit, rolls-Assign, rolls-If}
 use Rattle.query_laws.proofs.Terms.{rolls-Emit, expr_nodes, nodes_step, stmt_nodes, stmt_nodes_step, stmt_count, count_step, fold_nodes}
-use Rattle.query_laws.{proofs.Terms.fold_statements, specs.TypingExamples.here}
-use Rattle.query_laws.specs.FoldExamples.{a_fold, one_more, on_state, on_argument, below_9}
+use Rattle.query_laws.proofs.Terms.{fold_statements}
+use Rattle.query_laws.specs.{TypingExamples.here, FoldExamples.{a_fold, one_more, on_state, on_argument, below_9}}
 
 -- ---- each form
 

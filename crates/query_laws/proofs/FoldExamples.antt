@@ -1,7 +1,8 @@
 -- The examples of folds, from the rules.
 use Rattle.std.proofs.Common.{◌≡◌, ℕ, ◌≤◌, List, [], ◌∷◌, Option, refl, sym, ap, subst, ◌∙◌, arith}
 use Rattle.query_lang.specs.declared.fold.TypedExpr.TheVariants as typed
-use Rattle.query_lang.{specs.declared.query.Expr.TheVariants.Number, proofs.TreeLemmas.{term_number, term_slot, term_not, term_binary}}
+use Rattle.query_lang.specs.declared.query.Expr.TheVariants.{Number}
+use Rattle.query_lang.proofs.TreeLemmas.{term_number, term_slot, term_not, term_binary}
 use Rattle.query_laws.proofs.Terms.{Op, TypedExpr, TypedStmt, Expr, FoldDef, Stmt, If, Emit, ReadsArguments, Term, term_of, fold_nodes}
 use Rattle.query_laws.proofs.Terms.{IsOneOf, StandsIn, Demand, Holds, Word, Condition, HasKind, of_number, of_binary, HasBlock, of_none}
 use Rattle.query_laws.proofs.Terms.{of_assign, of_if, of_emit, at_most_one, HasFold}

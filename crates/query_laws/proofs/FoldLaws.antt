@@ -1,7 +1,7 @@
 -- Folds: the rule and the check agree.
 use Rattle.std.proofs.Common.{◌≡◌, ℕ, List, [], None, Ok, refl, sym, ap, subst, ◌∙◌, arith, append-nil}
-use Rattle.query_laws.proofs.Terms.{TypedFold, FoldDef, Checked, and_then, body_checked, fold_checked, fold_with, AreNew}
-use Rattle.query_laws.proofs.{Terms.{HasBlock, HasFold, at_most_one, state_names_of, arg_names_of}, Steps.{same_ok, found_first, then_next}}
+use Rattle.query_laws.proofs.Terms.{TypedFold, FoldDef, Checked, and_then, body_checked, fold_checked, fold_with, AreNew, HasBlock, HasFold}
+use Rattle.query_laws.proofs.{Terms.{at_most_one, state_names_of, arg_names_of}, Steps.{same_ok, found_first, then_next}}
 use Rattle.query_laws.proofs.FoldNames.{states_sound, states_complete, args_sound, args_complete}
 use Rattle.query_laws.proofs.Blocks.{Fits, block_sound, block_complete}
 

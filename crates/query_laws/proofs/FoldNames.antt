@@ -10,7 +10,7 @@ use Rattle.query_laws.proofs.Terms.{Span, Op, TypedExpr, Name, StateVar, Expr, f
 use Rattle.query_laws.proofs.Terms.{rolls-Binary, rolls-Call, Term, term_of, ReadsArguments, Checked, is_among, states_from, args_from}
 use Rattle.query_laws.proofs.Terms.{or_else, state_step, state_in, MAX_ARGS, MAX_STATES, Kind, StandsAt, HasKind, of_number, of_name}
 use Rattle.query_laws.proofs.Terms.{of_not, of_binary, of_call, IsNew, AreNew}
-use Rattle.query_laws.proofs.Steps.{must_ok, must_not_ok, must_holds, must_not_holds, same_ok, nat_other, nat_is, nat_is_not}
+use Rattle.query_laws.proofs.Steps.{must_ok, must_not_ok, must_holds, must_not_holds, same_ok, nat_other, nat_is, nat_is_not, by_test}
 
 -- ---- new names
 
@@ -24,11 +24,7 @@ among_new id (name ∷ rest) e = let parts = or_parts (nat_eq name id) _ e in (n
 
 pub among_append : (id : ℕ) (xs ys : List ℕ) → is_among id (xs ++ ys) ≡ (is_among id xs || is_among id ys)
 among_append _ [] _ = refl
-among_append id (x ∷ xs) ys = ap (λ b. nat_eq x id || b) (among_append id xs ys) ∙ go (nat_eq x id)
-  where
-    go : (b : Bool) → (b || (is_among id xs || is_among id ys)) ≡ ((b || is_among id xs) || is_among id ys)
-    go true = refl
-    go false = refl
+among_append id (x ∷ xs) ys = by_test (nat_eq x id) (λ is. rw is) (λ is. rw is (among_append id xs ys))
 
 pub below : {k n : ℕ} → k < n → nat_lt k n ≡ true
 below h = grind arith

@@ -1,5 +1,5 @@
 -- What a fold asks is so where it is typed.
-use Rattle.std.proofs.Common.{◌≡◌, ℕ, Bool, true, false, List, [], ◌∷◌, ◌++◌, map, Option, None, Ok, refl, sym, ap, subst, ◌∙◌}
+use Rattle.std.proofs.Common.{◌≡◌, ℕ, true, false, List, [], ◌∷◌, ◌++◌, map, Option, None, Ok, refl, sym, ap, subst, ◌∙◌}
 use Rattle.std.specs.Prelude.{is_some}
 use Rattle.query_lang.specs.declared.fold.TypedExpr.TheVariants as typed
 use Rattle.query_lang.specs.declared.query.Expr.TheOpen as expr
@@ -10,13 +10,15 @@ use Rattle.query_laws.proofs.Terms.{Span, TypedExpr, TypedFold, Expr, fold-roll-
 use Rattle.query_laws.proofs.Terms.{fold-roll-Stmt, ind-Stmt, map-Stmt, rolls-Assign, rolls-If, rolls-Emit, Body, Enclosing, Known}
 use Rattle.query_laws.proofs.Terms.{and_then, condition_of, word_of, target_of, first_of, state_step, state_in, inside, Adding, in_order}
 use Rattle.query_laws.proofs.Terms.{stmt_step, stmt_checked, HasPart, StandsInside, StandsIn, FollowsEmit, Demand, Holds, Kind, IsNew}
-use Rattle.query_laws.{proofs.Terms.{AreNew, HasFold, state_names_of, arg_names_of}, specs.Asked.{StmtAsks, of_target, of_value}}
-use Rattle.query_laws.specs.Asked.{of_condition, of_emit, FoldAsks, of_state, of_states, of_arg, of_args, of_statement, of_emits}
+use Rattle.query_laws.proofs.Terms.{AreNew, HasFold, state_names_of, arg_names_of}
+use Rattle.query_laws.specs.Asked.{StmtAsks, of_target, of_value, of_condition, of_emit, FoldAsks, of_state, of_states, of_arg, of_args}
+use Rattle.query_laws.specs.Asked.{of_statement, of_emits}
 use Rattle.query_laws.specs.Demands as parts
 use Rattle.query_laws.proofs.{Blocks.{stmt_is, target_stands, no_state_ok, block_complete}, ExprSound.{condition_sound, word_sound}}
 use Rattle.query_laws.proofs.{FaultSteps.not_both, FoldLaws.nothing_around}
 use Rattle.query_laws.proofs.FoldNames.{among_new, neither, in_named, in_not, in_binary, no_span}
-use Rattle.query_laws.proofs.{Meets.{EachIs, one_is, expr_meets, new_at, names_new, few_before}, Steps.{must_not_ok, same_ok, found_first}}
+use Rattle.query_laws.proofs.Meets.{EachIs, one_is, expr_meets, new_at, names_new, few_before}
+use Rattle.query_laws.proofs.Steps.{must_not_ok, same_ok, found_first, by_test}
 
 -- ---- conditions without state variables
 
@@ -175,11 +177,7 @@ module _ (states args : List ℕ) where
   Emits found made = (is_some found.emit ≡ false) × (is_some made.emit ≡ true)
 
   not_yet : (found made : Body) → Keeps found made → is_some made.emit ≡ false → is_some found.emit ≡ false
-  not_yet found made kept none = go (is_some found.emit) refl
-    where
-      go : (b : Bool) → is_some found.emit ≡ b → b ≡ false
-      go true is = not_both (is_some made.emit) none (kept is)
-      go false _ = refl
+  not_yet found made kept none = by_test (is_some found.emit) (λ is. not_both (is_some made.emit) none (kept is)) (λ is. is)
 
   emits : {before : List Expr} {ss : List Stmt} {around : List Expr} {s : Stmt} {span : Span} → StandsIn before ss around s
       → s ≡ block.Emit span

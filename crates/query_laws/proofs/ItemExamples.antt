@@ -3,7 +3,8 @@ use Rattle.std.proofs.Common.{◌≡◌, ℕ, ◌<◌, List, [], ◌∷◌, None
 use Rattle.query_lang.specs.declared.fold.TypedExpr.TheVariants as typed
 use Rattle.query_lang.specs.declared.typed.PrintOf.TheVariants as place
 use Rattle.query_laws.proofs.{Terms.{Lt, Name, Known, known_in, IsFree, of_number, of_binary}, FaultSteps.no_fault, FoldNames.among_new}
-use Rattle.query_laws.{proofs.NameLaws.{free_sound, stream_sound, table_sound, table_complete}, specs.TypingExamples.{here, called}}
+use Rattle.query_laws.proofs.NameLaws.{free_sound, stream_sound, table_sound, table_complete}
+use Rattle.query_laws.specs.TypingExamples.{here, called}
 use Rattle.query_laws.specs.ItemExamples.{names, one_of_each, IsTaken, columns_of_packets, filters, ItemExamples}
 
 abbrev before : List Known

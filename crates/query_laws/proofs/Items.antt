@@ -1,5 +1,6 @@
 -- The numbers in the items of a text's query are words.
-use Rattle.std.{proofs.{Common.{ℕ, List, Option, Some, None, sym, subst, arith}, lemmas.List.Elements.All-weaker}, specs.Prelude.All}
+use Rattle.std.proofs.{Common.{ℕ, List, Option, Some, None, sym, subst, arith}, lemmas.List.Elements.All-weaker}
+use Rattle.std.specs.Prelude.{All}
 use Rattle.query_lang.specs.declared.token.Mark.TheVariants as marks
 use Rattle.query_lang.specs.declared.token.Word.TheVariants as words
 use Rattle.query_types.specs.Numbers.{columns_number, stream_number, final_number, item_number}

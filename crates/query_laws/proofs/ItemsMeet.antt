@@ -3,10 +3,11 @@ use Rattle.std.proofs.Common.{◌≡◌, ℕ, List, ◌++◌, sym, subst, ◌∙
 use Rattle.query_laws.proofs.Terms.{FinalOp, Item, Name, StreamOp, FoldView, Given, Known, MadeFinal, MadeStream, StreamView, TableView}
 use Rattle.query_laws.proofs.Terms.{five_fields, key_columns, other_columns, column_names, Entry, known_in, IsStream, IsFold, IsTable}
 use Rattle.query_laws.proofs.Terms.{Demand, Holds, Condition, StandsAt, HasKind, HasItem, HasTypedColumns, HasKeys, HasArguments, AreApart}
-use Rattle.query_laws.{proofs.Terms.{AreSame, key_ids, HasStream}, specs.Asked.{StreamAsks, FinalAsks, ItemAsks}}
+use Rattle.query_laws.proofs.Terms.{AreSame, key_ids, HasStream}
+use Rattle.query_laws.specs.Asked.{StreamAsks, FinalAsks, ItemAsks}
 use Rattle.query_laws.specs.Asked as asks
-use Rattle.query_laws.{specs.FinalRules.HasFinal, proofs.{FoldsMeet.fold_meets, Steps.same_ok}}
-use Rattle.query_laws.proofs.Meets.{expr_meets, columns_meet, keys_meet, arguments_meet}
+use Rattle.query_laws.specs.FinalRules.{HasFinal}
+use Rattle.query_laws.proofs.{FoldsMeet.fold_meets, Steps.same_ok, Meets.{expr_meets, columns_meet, keys_meet, arguments_meet}}
 use Rattle.query_laws.proofs.NameLaws.{stream_complete, fold_name_complete, table_complete}
 
 -- a name stands for one thing

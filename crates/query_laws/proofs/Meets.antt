@@ -5,9 +5,9 @@ use Rattle.query_lang.specs.declared.query.Expr.TheVariants as whole
 use Rattle.query_laws.proofs.Terms.{WrongKind, Span, Op, TypedExpr, Column, Expr, Name, FoldView, Found, Known, and_then, collected}
 use Rattle.query_laws.proofs.Terms.{slot_of, is_condition_sort, of_two, call_of, negation_checked, expr_checked, IsOneOf, HasPart, Demand}
 use Rattle.query_laws.proofs.Terms.{Holds, Kind, Word, Condition, StandsAt, operand_kind, IsRightOperand, HasKind, IsNew, AreNew}
-use Rattle.query_laws.{proofs.Terms.{HasTypedColumns, new_names, HasSlots, HasKeys, HasArguments}, specs.Asked.{ExprAsks, of_part, of_name}}
-use Rattle.query_laws.specs.Asked.{of_call, of_right, of_second, ColumnsAsk, of_value, KeysAsk, of_key, of_new, of_limit, ArgumentsAsk}
-use Rattle.query_laws.specs.Asked.{of_argument, of_states, ids_of}
+use Rattle.query_laws.proofs.Terms.{HasTypedColumns, new_names, HasSlots, HasKeys, HasArguments}
+use Rattle.query_laws.specs.Asked.{ExprAsks, of_part, of_name, of_call, of_right, of_second, ColumnsAsk, of_value, KeysAsk, of_key, of_new}
+use Rattle.query_laws.specs.Asked.{of_limit, ArgumentsAsk, of_argument, of_states, ids_of}
 use Rattle.query_laws.specs.Asked as asks
 use Rattle.query_laws.specs.Demands as parts
 use Rattle.query_laws.proofs.ExprComplete.{complete, named_is, not_is, binary_is, call_is}

@@ -1,17 +1,17 @@
 -- What a fault at the name of an item, at a new column, at a key and at a fold's arguments says.
 use Rattle.std.proofs.Common.{◌≡◌, ℕ, suc, ◌≤◌, true, false, ◌||◌, List, [], ◌∷◌, ◌++◌, length, map, Option, Some, None, Ok, Err, refl, sym}
-use Rattle.std.{proofs.Common.{ap, subst, ◌∙◌, append_assoc, inl, inr, arith}, specs.{Prelude.{is_some, nat_lt}, List.list_any}}
+use Rattle.std.proofs.Common.{ap, subst, ◌∙◌, append_assoc, inl, inr, arith}
+use Rattle.std.specs.{Prelude.{is_some, nat_lt}, List.list_any}
 use Rattle.query_lang.specs.declared.typing.Meaning.TheVariants as meaning
-use Rattle.query_laws.proofs.Terms.{UnknownName, WrongKind, Keys, QueryFault, Span, Name, Column, FoldView, StreamView, TableView, Known}
-use Rattle.query_laws.proofs.Terms.{Meaning, NewColumns, Picked, Checked, and_then, must_not, collected, is_among, slot_of, word_of}
-use Rattle.query_laws.proofs.Terms.{meaning_of, as_stream, stream_named, as_fold, fold_named, new_columns, keys_from, arguments_of}
-use Rattle.query_laws.proofs.Terms.{table_at, as_table, table_named, quiet_fold, MAX_KEYS, NameStandsFor, IsFree, IsNew, new_names}
-use Rattle.query_laws.proofs.ExprFaults.{not_new, slot_told, word_told}
-use Rattle.query_laws.proofs.FaultSteps.{at_span, same_fault, no_fault, not_both, by_must, by_must_not, by_next, told, Broken}
+use Rattle.query_laws.proofs.Terms.{UnknownName, WrongKind, QueryFault, Span, Name, Column, FoldView, StreamView, TableView, Known, Meaning}
+use Rattle.query_laws.proofs.Terms.{NewColumns, Picked, and_then, must_not, collected, is_among, slot_of, word_of, meaning_of, as_stream}
+use Rattle.query_laws.proofs.Terms.{stream_named, as_fold, fold_named, new_columns, keys_from, arguments_of, table_at, as_table}
+use Rattle.query_laws.proofs.Terms.{table_named, quiet_fold, MAX_KEYS, NameStandsFor, IsFree, IsNew, new_names}
+use Rattle.query_laws.proofs.{ExprFaults.{not_new, slot_told, word_told}, FaultSteps.{at_span, same_fault, no_fault, not_both, by_must}}
+use Rattle.query_laws.proofs.FaultSteps.{by_must_not, by_next, told, Broken, by_collected, broken, broken_at, broken_in}
 use Rattle.query_laws.proofs.NameLaws.{meaning_complete, free_sound, free_complete, taken_is, slot_for, apart_complete}
 use Rattle.query_laws.specs.Asked.{ColumnsAsk, of_name, of_value, KeysAsk, of_key, of_new, of_limit, ArgumentsAsk, of_argument, of_states}
-use Rattle.query_laws.specs.Asked.{ids_of}
-use Rattle.query_laws.specs.Demands.{AStream, ATable, AFold, AQuietFold, Sought, IsSought, Stands, AColumn, New, Fewer, Apart, Tells}
+use Rattle.query_laws.specs.{Asked.ids_of, Demands.{AStream, ATable, AFold, AQuietFold, Sought, IsSought, Stands, Tells}}
 
 -- ---- names of items
 
@@ -112,17 +112,13 @@ pub columns_told : {columns hidden : List ℕ} {all : List Column} (front new : 
     → Broken (ColumnsAsk columns hidden all) known fault
 columns_told _ [] _ _ _ e = no_fault e
 columns_told {columns} {hidden} front (c ∷ new) made {known} split same e =
-    by_must_not (is_among c.name.id columns || (is_among c.name.id hidden || is_among c.name.id made.names)) e (λ among at. record {
-      demand = New (columns ++ (hidden ++ new_names front)) c.name.id c.name.span;
-      asks = of_name front c new split;
-      tells = told known (New (columns ++ (hidden ++ new_names front)) c.name.id c.name.span) at (
-        refl,
-        λ fresh. not_new c.name.id (columns ++ (hidden ++ made.names)) (taken_is c.name.id columns hidden made.names ∙ among)
-            (subst (λ z. IsNew c.name.id (columns ++ (hidden ++ z))) (sym same) fresh),
-      );
-    }) (λ none e. by_next (word_of columns hidden c.value) e (λ is.
-    let b = word_told is in
-    record { demand = b.demand; asks = of_value front c new split b.asks; tells = b.tells known }) (λ value is e.
+    by_must_not (is_among c.name.id columns || (is_among c.name.id hidden || is_among c.name.id made.names)) e
+    (λ among at. broken_at _ (of_name front c new split) at (
+      refl,
+      λ fresh. not_new c.name.id (columns ++ (hidden ++ made.names)) (taken_is c.name.id columns hidden made.names ∙ among)
+          (subst (λ z. IsNew c.name.id (columns ++ (hidden ++ z))) (sym same) fresh),
+    )) (λ none e. by_next (word_of columns hidden c.value) e (λ is.
+    broken_in (λ d asked. of_value front c new split asked) (word_told _ _ _ is)) (λ value is e.
     columns_told (front ++ c ∷ []) new (record {
       names = made.names ++ c.name.id ∷ [];
       values = made.values ++ value ∷ [];
@@ -146,22 +142,14 @@ pub keys_told : {columns hidden : List ℕ} {all : List Name} (front keys : List
     → all ≡ front ++ keys → found.names ≡ ids_of front → keys_from columns hidden found keys ≡ Err fault
     → Broken (KeysAsk columns hidden all) known fault
 keys_told _ [] _ _ _ e = no_fault e
-keys_told {columns} {hidden} front (key ∷ keys) found {known} split same e = by_next (slot_of columns hidden key) e (λ is. record {
-  demand = AColumn columns hidden key.id key.span;
-  asks = of_key front key keys split;
-  tells = slot_told columns hidden key is known;
-}) (λ slot is e. by_must_not (is_among key.id found.names) e (λ among at. record {
-  demand = New (ids_of front) key.id key.span;
-  asks = of_new front key keys split;
-  tells = told known (New (ids_of front) key.id key.span) at
-      (refl, λ fresh. not_new key.id found.names among (subst (λ z. IsNew key.id z) (sym same) fresh));
-}) (λ none e. by_must (nat_lt (length found.names) MAX_KEYS) _ e (λ full at.
+keys_told {columns} {hidden} front (key ∷ keys) found {known} split same e =
+    by_next (slot_of columns hidden key) e (λ is. broken _ (of_key front key keys split) (slot_told columns hidden key is known))
+    (λ slot is e. by_must_not (is_among key.id found.names) e (λ among at. broken_at _ (of_new front key keys split) at
+    (refl, λ fresh. not_new key.id found.names among (subst (λ z. IsNew key.id z) (sym same) fresh)))
+    (λ none e. by_must (nat_lt (length found.names) MAX_KEYS) _ e (λ full at.
     let long : length found.names ≡ length front = ap length same ∙ ids_long front in
-    record {
-      demand = Fewer Keys (length front) key.span;
-      asks = of_limit front key keys split;
-      tells = told known (Fewer Keys (length front) key.span) at (refl, refl, at_least long full);
-    }) (λ few e. keys_told (front ++ key ∷ []) keys (record { names = found.names ++ key.id ∷ []; slots = found.slots ++ slot ∷ [] })
+    broken_at _ (of_limit front key keys split) at (refl, refl, at_least long full))
+    (λ few e. keys_told (front ++ key ∷ []) keys (record { names = found.names ++ key.id ∷ []; slots = found.slots ++ slot ∷ [] })
     (split ∙ sym (append_assoc front (key ∷ []) keys)) (ap (λ z. z ++ key.id ∷ []) same ∙ sym (ids_last front key)) e)))
 
 -- ---- arguments
@@ -170,29 +158,14 @@ argument_told : {columns hidden keys : List ℕ} {f : FoldView} {span : Span} (f
     {fault : QueryFault} → f.args ≡ front ++ ids → collected before (map (slot_for columns hidden span) ids) ≡ Err fault
     → Broken (ArgumentsAsk columns hidden keys f span) known fault
 argument_told _ [] _ _ e = no_fault e
-argument_told {columns} {hidden} {keys} {f} {span} front (id ∷ ids) before {known} {fault} split e =
-    go (slot_for columns hidden span id) refl (λ x k. argument_told (front ++ id ∷ []) ids (before ++ x ∷ [])
-    (split ∙ sym (append_assoc front (id ∷ []) ids)) k) e
-  where
-    go : (c : Checked ℕ) → slot_for columns hidden span id ≡ c
-        → ((x : ℕ) → collected (before ++ x ∷ []) (map (slot_for columns hidden span) ids) ≡ Err fault
-        → Broken (ArgumentsAsk columns hidden keys f span) known fault)
-        → collected before (c ∷ map (slot_for columns hidden span) ids) ≡ Err fault
-        → Broken (ArgumentsAsk columns hidden keys f span) known fault
-    go (Ok x) _ next e = next x e
-    go (Err _) is _ e = record {
-      demand = AColumn columns hidden id span;
-      asks = of_argument front id ids split;
-      tells = slot_told columns hidden (record { id = id; span = span })
-          (is ∙ ap (λ z. let r : Checked ℕ = Err z in r) (same_fault e)) known;
-    }
+argument_told {columns} {hidden} {span = span} front (id ∷ ids) before {known} split e =
+    by_collected before (slot_for columns hidden span id) _ e
+    (λ is. broken _ (of_argument front id ids split) (slot_told columns hidden (record { id = id; span = span }) is known))
+    (λ x _ e. argument_told (front ++ id ∷ []) ids (before ++ x ∷ []) (split ∙ sym (append_assoc front (id ∷ []) ids)) e)
 
 pub arguments_told : {columns hidden keys : List ℕ} {f : FoldView} {span : Span} {known : List Known} {fault : QueryFault}
     → arguments_of columns hidden keys f span ≡ Err fault → Broken (ArgumentsAsk columns hidden keys f span) known fault
 arguments_told {columns} {hidden} {keys} {f} {span} {known} e = by_next (collected [] (map (slot_for columns hidden span) f.args)) e
     (λ is. argument_told [] f.args [] refl is) (λ slots is e.
-    by_must_not (list_any (λ state. is_among state keys) f.states) e (λ among at. record {
-      demand = Apart f.states keys span;
-      asks = of_states;
-      tells = told known (Apart f.states keys span) at (refl, λ apart. not_both _ (apart_complete f.states keys apart) among);
-    }) (λ none e. no_fault e))
+    by_must_not (list_any (λ state. is_among state keys) f.states) e (λ among at. broken_at _ of_states at
+    (refl, λ apart. not_both _ (apart_complete f.states keys apart) among)) (λ none e. no_fault e))

@@ -1,16 +1,16 @@
 -- What names stand for, new columns, keys and arguments: the rules and the checks agree.
-use Rattle.std.proofs.Common.{◌≡◌, ℕ, ◌+◌, ◌≤◌, Bool, true, false, ◌||◌, cond, List, [], ◌∷◌, ◌++◌, length, map, Option, Some, None, Ok}
-use Rattle.std.proofs.Common.{Err, nat_eq, refl, sym, ap, subst, ◌∙◌, append_assoc, append-nil, inl, inr, arith}
-use Rattle.std.proofs.lemmas.Bool.{ltb-true, or_parts}
-use Rattle.std.{proofs.lemmas.List.length-append, specs.{Prelude.is_some, List.list_any}}
+use Rattle.std.proofs.Common.{◌≡◌, ℕ, ◌+◌, ◌≤◌, false, ◌||◌, cond, List, [], ◌∷◌, ◌++◌, length, map, Option, Some, None, Ok, nat_eq, refl}
+use Rattle.std.proofs.{Common.{sym, ap, subst, ◌∙◌, append_assoc, append-nil, inl, inr, arith}, lemmas.Bool.{ltb-true, or_parts}}
+use Rattle.std.proofs.lemmas.List.{length-append}
+use Rattle.std.specs.{Prelude.is_some, List.list_any}
 use Rattle.query_lang.specs.declared.typing.Meaning.TheVariants as meaning
 use Rattle.query_laws.proofs.Terms.{Span, TypedExpr, Name, Column, FoldView, StreamView, TableView, Known, Meaning, NewColumns, Picked}
 use Rattle.query_laws.proofs.Terms.{Checked, collected, is_among, slot_at, slot_of, word_of, meaning_of, as_stream, stream_named, as_fold}
 use Rattle.query_laws.proofs.Terms.{fold_named, new_columns, keys_from, arguments_of, table_at, as_table, table_named, MAX_KEYS, StandsAt}
 use Rattle.query_laws.proofs.Terms.{AreNew, NameStandsFor, IsFree, IsStream, IsFold, IsTable, HasTypedColumns, new_names, HasSlots}
 use Rattle.query_laws.proofs.{Terms.{AreApart, HasArguments}, Steps.{must_ok, must_not_ok, must_holds, must_not_holds, same_ok}}
-use Rattle.query_laws.proofs.Steps.{found_first, then_next, nat_same, nat_other, nat_is, nat_is_not, stands_place}
-use Rattle.query_laws.proofs.{ExprSound.{slot_stands, word_sound}, ExprComplete.word_complete}
+use Rattle.query_laws.proofs.Steps.{found_first, then_next, nat_same, nat_other, nat_is, nat_is_not, stands_place, by_test, by_cond}
+use Rattle.query_laws.proofs.{Steps.collected_first, ExprSound.{slot_stands, word_sound}, ExprComplete.word_complete}
 use Rattle.query_laws.proofs.FoldNames.{new_among, among_new, among_append, below}
 use Rattle.query_types.proofs.ViewLaws.{stream_meaning, fold_meaning}
 
@@ -24,12 +24,8 @@ same_some e = cc e
 
 pub meaning_sound : (known : List Known) (id : ℕ) {m : Meaning} → meaning_of known id ≡ Some m → NameStandsFor known id m
 meaning_sound [] _ e = cc e
-meaning_sound (one ∷ rest) id {m} e = go (nat_eq one.name id) refl (λ k. meaning_sound rest id k) e
-  where
-    go : (b : Bool) → nat_eq one.name id ≡ b → (meaning_of rest id ≡ Some m → NameStandsFor rest id m)
-        → cond b (Some one.meaning) (meaning_of rest id) ≡ Some m → NameStandsFor (one ∷ rest) id m
-    go true is _ e = inl (nat_same is, same_some e)
-    go false is more e = inr (nat_other is, more e)
+meaning_sound (one ∷ rest) id e =
+    by_cond (nat_eq one.name id) e (λ is k. inl (nat_same is, cc k)) (λ is k. inr (nat_other is, meaning_sound rest id k))
 
 pub meaning_complete : (known : List Known) (id : ℕ) {m : Meaning} → NameStandsFor known id m → meaning_of known id ≡ Some m
 meaning_complete [] _ h = absurd h
@@ -39,12 +35,8 @@ meaning_complete (one ∷ rest) id (inr p) = ap (λ b. cond b (Some one.meaning)
 
 pub free_sound : (known : List Known) (id : ℕ) → is_some (meaning_of known id) ≡ false → IsFree known id
 free_sound [] _ e = tt
-free_sound (one ∷ rest) id e = go (nat_eq one.name id) refl (λ k. free_sound rest id k) e
-  where
-    go : (b : Bool) → nat_eq one.name id ≡ b → (is_some (meaning_of rest id) ≡ false → IsFree rest id)
-        → is_some (cond b (Some one.meaning) (meaning_of rest id)) ≡ false → IsFree (one ∷ rest) id
-    go true _ _ e = cc e
-    go false is more e = (nat_other is, more e)
+free_sound (one ∷ rest) id e = by_test (nat_eq one.name id) (λ is. cc (rw is at e))
+    (λ is. (nat_other is, free_sound rest id (rw is at e)))
 
 pub free_complete : (known : List Known) (id : ℕ) → IsFree known id → is_some (meaning_of known id) ≡ false
 free_complete [] _ h = refl
@@ -195,21 +187,13 @@ slots_sound : (columns hidden : List ℕ) (span : Span) (ids before : List ℕ) 
     → collected before (map (slot_for columns hidden span) ids) ≡ Ok all → (slots : List ℕ) × (all ≡ before ++ slots)
     × HasSlots columns ids slots
 slots_sound _ _ _ [] before {all} e = ([], sym (same_ok _ _ e) ∙ sym (append-nil before), tt)
-slots_sound columns hidden span (id ∷ ids) before {all} e = go (slot_for columns hidden span id) refl
-    (λ x k. slots_sound columns hidden span ids (before ++ x ∷ []) k) e
-  where
-    go : (c : Checked ℕ) → slot_for columns hidden span id ≡ c
-        → ((x : ℕ) → collected (before ++ x ∷ []) (map (slot_for columns hidden span) ids) ≡ Ok all → (slots : List ℕ)
-        × (all ≡ (before ++ x ∷ []) ++ slots) × HasSlots columns ids slots)
-        → collected before (c ∷ map (slot_for columns hidden span) ids) ≡ Ok all → (slots : List ℕ) × (all ≡ before ++ slots)
-        × HasSlots columns (id ∷ ids) slots
-    go (Ok x) is next e =
-        let more = next x e in (
-          x ∷ more.0,
-          more.1 ∙ append_assoc before (x ∷ []) more.0,
-          (slot_stands columns hidden (record { id = id; span = span }) is, more.2),
-        )
-    go (Err _) _ _ e = cc e
+slots_sound columns hidden span (id ∷ ids) before e =
+    let first = collected_first before (slot_for columns hidden span id) _ e in
+    let more = slots_sound columns hidden span ids (before ++ first.0 ∷ []) first.2 in (
+      first.0 ∷ more.0,
+      more.1 ∙ append_assoc before (first.0 ∷ []) more.0,
+      (slot_stands columns hidden (record { id = id; span = span }) first.1, more.2),
+    )
 
 slots_complete : (columns hidden : List ℕ) (span : Span) (ids slots before : List ℕ) → HasSlots columns ids slots
     → collected before (map (slot_for columns hidden span) ids) ≡ Ok (before ++ slots)

@@ -1,6 +1,7 @@
 -- The numbers in expressions and statements are words.
 use Rattle.std.proofs.Common.{◌≡◌, ℕ, zero, suc, List, [], ◌∷◌, map, Option, Some, None, sym, ap, subst, ◌∙◌, arith, inl, inr, ◌⊎◌}
-use Rattle.std.{proofs.lemmas.List.Elements.{All-head, All-tail}, specs.Prelude.{All, max}}
+use Rattle.std.proofs.lemmas.List.Elements.{All-head, All-tail}
+use Rattle.std.specs.Prelude.{All, max}
 use Rattle.query_lang.specs.declared.query.Expr.TheOpen as expr
 use Rattle.query_lang.specs.declared.query.Stmt.{Stmt, Assign, If, Emit, fold-roll-Stmt}
 use Rattle.query_lang.specs.declared.query.Stmt.TheOpen as stmt
@@ -10,7 +11,8 @@ use Rattle.query_types.specs.Numbers.{greatest_of, number_step, greatest_number,
 use Rattle.query_grammar.specs.Grammar.{grouped, compared, negated, else_of, Operators, either_ops, both_ops, or_ops, xor_ops, and_ops}
 use Rattle.query_grammar.specs.Grammar.{shift_ops, sum_ops, product_ops, Level, Atom, CallOf, Unary, Product, Sum, Shift, BitAnd, BitXor}
 use Rattle.query_grammar.specs.Grammar.{BitOr, Comparison, Conjunction, Disjunction, Expression, Assignment, Emission, Block, IfPart}
-use Rattle.query_grammar.{specs.Grammar.{ElsePart, IfStatement, Statement_at}, proofs.ItemWeights.{all_cons, all_none}}
+use Rattle.query_grammar.specs.Grammar.{ElsePart, IfStatement, Statement_at}
+use Rattle.query_grammar.proofs.ItemWeights.{all_cons, all_none}
 use Rattle.query_laws.proofs.Terms.{Span, Op, Name, Expr, Number, Named, Not, Binary, Call, fold-roll-Expr, rolls-Number, rolls-Named}
 use Rattle.query_laws.proofs.Terms.{rolls-Not, rolls-Binary, rolls-Call, rolls-Assign, rolls-If, rolls-Emit, IsWord, Language, Leaf, Chain}
 use Rattle.query_laws.proofs.{Terms.{Chained, sign, keyword}, Holds.{HaveWords, both_have, Holds, any_holds, number_holds, then_holds}}

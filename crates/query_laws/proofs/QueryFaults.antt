@@ -1,18 +1,20 @@
 -- What a query's fault says.
 use Rattle.std.proofs.Common.{◌≡◌, ℕ, suc, ◌+◌, true, false, List, [], ◌∷◌, ◌++◌, length, Ok, Err, refl, sym, ap, subst, ◌∙◌, inl, inr, ◌⊎◌}
-use Rattle.std.{proofs.Common.arith, specs.Prelude.{is_some, nat_lt}}
+use Rattle.std.proofs.Common.{arith}
+use Rattle.std.specs.Prelude.{is_some, nat_lt}
 use Rattle.query_lang.specs.declared.fault.FaultKind.TheVariants as kinds
 use Rattle.query_lang.specs.declared.query.Item.TheVariants as item
 use Rattle.query_laws.proofs.Terms.{FaultKind, NameTaken, OverLimit, NothingPrinted, Bindings, QueryFault, Span, Item, Name, Query, Earlier}
 use Rattle.query_laws.proofs.Terms.{Given, Known, Checked, is_among, table_named, five_fields, made_final, meaning_of, begun, made_stream}
 use Rattle.query_laws.proofs.Terms.{item_checked, items_checked, checked, typed_names, given_of, MAX_BINDINGS, Entry, streams_in, finals_in}
-use Rattle.query_laws.proofs.Terms.{printed_in, known_in, earlier_of, ATable, Demand, Free, Stands, New, Fewer, Holds, Tells}
-use Rattle.query_laws.proofs.{ExprFaults.not_new, FoldFaults.fold_faults, NameFaults.{table_told, at_least}, NameLaws.free_complete}
-use Rattle.query_laws.proofs.{StreamFaults.{stream_op_told, final_op_told}, Unmet.unmet}
-use Rattle.query_laws.proofs.FaultSteps.{at_span, no_fault, not_both, by_must, by_must_not, by_next, told, Broken, broken_in}
-use Rattle.query_laws.{proofs.QueryLaws.{item_sound, item_complete, items_sound}, specs.Asked.{ItemAsks, of_fold_name, of_fold}}
-use Rattle.query_laws.specs.Asked.{of_stream_name, of_one_stream, of_stream, of_final_name, of_one_final, of_final, of_print, of_once}
-use Rattle.query_laws.specs.{FaultLaws.{Breaks, PrintsNothing, HasFault, IsOfTyping}, QueryRules.{HasItem, HasItems, of_none, of_more}}
+use Rattle.query_laws.proofs.{Terms.{printed_in, known_in, earlier_of, Demand, Free, Fewer, Holds, Tells}, ExprFaults.not_new}
+use Rattle.query_laws.proofs.{FoldFaults.fold_faults, NameFaults.{table_told, at_least}, NameLaws.free_complete}
+use Rattle.query_laws.proofs.{StreamFaults.{stream_op_told, final_op_told}, Unmet.unmet, FaultSteps.{at_span, no_fault, not_both, by_must}}
+use Rattle.query_laws.proofs.FaultSteps.{by_must_not, by_next, told, Broken, broken_in, broken, broken_at}
+use Rattle.query_laws.proofs.QueryLaws.{item_sound, item_complete, items_sound}
+use Rattle.query_laws.specs.Asked.{ItemAsks, of_fold_name, of_fold, of_stream_name, of_one_stream, of_stream, of_final_name, of_one_final}
+use Rattle.query_laws.specs.{Asked.{of_final, of_print, of_once}, FaultLaws.{Breaks, PrintsNothing, HasFault, IsOfTyping}}
+use Rattle.query_laws.specs.QueryRules.{HasItem, HasItems, of_none, of_more}
 
 -- ---- items
 
@@ -30,23 +32,17 @@ begun_told : (names : List (List ℕ)) (items : List Entry) (x : Name) {fault : 
     → Asks (Free x) → Asks (Fewer Bindings (length (streams_in items) + length (finals_in items)) x.span)
     → Broken Asks (known_in names items) fault
 begun_told names items x e free one = by_must_not (is_some (meaning_of (known_in names items) x.id)) e
-    (λ taken at. record { demand = Free x; asks = free; tells = taken_told (known_in names items) x taken at }) (λ none e.
-    by_must (nat_lt (length (streams_in items) + length (finals_in items)) MAX_BINDINGS) _ e (λ full at. record {
-      demand = Fewer Bindings (length (streams_in items) + length (finals_in items)) x.span;
-      asks = one;
-      tells = bindings_told names items x full at;
-    }) (λ few e. no_fault e))
+    (λ taken at. broken _ free (taken_told (known_in names items) x taken at)) (λ none e.
+    by_must (nat_lt (length (streams_in items) + length (finals_in items)) MAX_BINDINGS) _ e
+    (λ full at. broken _ one (bindings_told names items x full at)) (λ few e. no_fault e))
 
 abbrev ItemTold : Given → List (List ℕ) → List Entry → Item → QueryFault → Type 0
 ItemTold given names items i fault = Broken (ItemAsks (five_fields given.fields) names items i) (known_in names items) fault
 
 item_told : (given : Given) {names : List (List ℕ)} {items : List Entry} (i : Item) {fault : QueryFault}
     → item_checked given (earlier_of names items) i ≡ Err fault → ItemTold given names items i fault
-item_told _ {names} {items} (item.Fold d) e = by_must_not _ e (λ taken at. record {
-  demand = Free d.name;
-  asks = of_fold_name;
-  tells = taken_told _ _ taken at;
-}) (λ none e. by_next _ e (λ is. broken_in (λ q asked. of_fold d q asked) (fold_faults is)) (λ f p e. no_fault e))
+item_told _ {names} {items} (item.Fold d) e = by_must_not _ e (λ taken at. broken _ of_fold_name (taken_told _ _ taken at))
+    (λ none e. by_next _ e (λ is. broken_in (λ q asked. of_fold d q asked) (fold_faults is)) (λ f p e. no_fault e))
 item_told given {names} {items} (item.Stream d) {fault} e = by_next (begun (earlier_of names items) d.name) e
     (λ is. begun_told names items d.name is of_stream_name of_one_stream) (λ u p e.
     by_next (made_stream (five_fields given.fields) (earlier_of names items) d.name d.op) e (λ is. broken_in (λ q asked. of_stream asked)
@@ -54,15 +50,9 @@ item_told given {names} {items} (item.Stream d) {fault} e = by_next (begun (earl
 item_told given {names} {items} (item.Final d) {fault} e = by_next (begun (earlier_of names items) d.name) e
     (λ is. begun_told names items d.name is of_final_name of_one_final) (λ u p e. by_next (made_final given (earlier_of names items) d.op) e
     (λ is. broken_in (λ q asked. of_final asked) (final_op_told given (earlier_of names items) d.op fault is)) (λ made q e. no_fault e))
-item_told _ {names} {items} (item.Print x) e = by_next (table_named (known_in names items) x) e (λ is. record {
-  demand = Stands ATable x;
-  asks = of_print;
-  tells = table_told (known_in names items) x is;
-}) (λ table p e. by_must_not (is_among x.id (printed_in items)) e (λ among at. record {
-  demand = New (printed_in items) x.id x.span;
-  asks = of_once;
-  tells = told (known_in names items) (New (printed_in items) x.id x.span) at (refl, not_new x.id (printed_in items) among);
-}) (λ none e. no_fault e))
+item_told _ {names} {items} (item.Print x) e = by_next (table_named (known_in names items) x) e
+    (λ is. broken _ of_print (table_told (known_in names items) x is)) (λ table p e. by_must_not (is_among x.id (printed_in items)) e
+    (λ among at. broken_at _ of_once at (refl, not_new x.id (printed_in items) among)) (λ none e. no_fault e))
 
 -- where all that an item asks is so, the check finds no fault
 pub all_met : (given : Given) {names : List (List ℕ)} {items : List Entry} {i : Item}
@@ -154,18 +144,12 @@ fault_told {q} {fault} e =
 -- a fault of another kind than *NothingPrinted* is at an item
 pub at_some_item : {q : Query} {kind : FaultKind} {at : Span} → (NothingPrinted ≡ kind → ⊥) → HasFault kind at q
     → Breaks (λ known d. Tells known kind at d) q
-at_some_item {q} {kind} {at} other e = go (fault_told e)
-  where
-    go : IsTold q (at_span kind at) → Breaks (λ known d. Tells known kind at d) q
-    go (inl b) = b
-    go (inr h) = absurd (other (ap (λ (f : QueryFault). f.kind) h.0))
+at_some_item {q} {kind} {at} other e = elim (fault_told {q = q} {fault = at_span kind at} e)
+    [ inl b ↦ b | inr h ↦ absurd (other (ap (λ (f : QueryFault). f.kind) h.0)) ]
 
 pub at_end : {q : Query} {at : Span} → HasFault NothingPrinted at q → (at ≡ q.end) × PrintsNothing q
-at_end {q} {at} e = go (fault_told e)
-  where
-    go : IsTold q (at_span NothingPrinted at) → (at ≡ q.end) × PrintsNothing q
-    go (inl b) = absurd b.says
-    go (inr h) = (sym (ap (λ (f : QueryFault). f.span) h.0), h.1)
+at_end {q} {at} e = elim (fault_told {q = q} {fault = at_span NothingPrinted at} e)
+    [ inl b ↦ absurd b.says | inr h ↦ (sym (ap (λ (f : QueryFault). f.span) h.0), h.1) ]
 
 of_typing : (known : List Known) (kind : FaultKind) (at : Span) (d : Demand) → Tells known kind at d → IsOfTyping kind
 of_typing _ kinds.UnknownName _ d t = tt
@@ -178,8 +162,5 @@ of_typing _ (kinds.OverLimit _) _ d t = tt
 of_typing _ _ _ d t = absurd t
 
 pub only_these : (q : Query) {fault : QueryFault} → checked q ≡ Err fault → IsOfTyping fault.kind
-only_these q {fault} e = go (fault_told e)
-  where
-    go : IsTold q fault → IsOfTyping fault.kind
-    go (inl b) = of_typing _ _ _ _ b.says
-    go (inr h) = subst (λ (f : QueryFault). IsOfTyping f.kind) h.0 tt
+only_these q {fault} e = elim (fault_told {q = q} {fault = fault} e)
+    [ inl b ↦ of_typing _ _ _ _ b.says | inr h ↦ subst (λ (f : QueryFault). IsOfTyping f.kind) h.0 tt ]

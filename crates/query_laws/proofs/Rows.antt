@@ -11,7 +11,8 @@ use Rattle.query_laws.proofs.Terms.{TypedFold, Query, TypedOp, TypedQuery, Typed
 use Rattle.query_laws.proofs.{Typed.{field_view, viewed}, FieldColumns.fields_distinct}
 use Rattle.query_laws.proofs.{Views.{View, AreDistinct, AreBelow, Makes, AreMade, others_below, columns_made}, Values.{Values, row_of}}
 use Rattle.query_laws.proofs.Values.{HaveValues, look, all_looked_up, AreEarlier, AllHave, have_at, OneMore, of_filter, of_map, of_zip}
-use Rattle.query_laws.{proofs.Values.of_group, specs.Columns.columns_of}
+use Rattle.query_laws.proofs.Values.{of_group}
+use Rattle.query_laws.specs.Columns.{columns_of}
 
 -- ---- stream by stream
 

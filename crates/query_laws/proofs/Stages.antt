@@ -1,10 +1,10 @@
 -- No stream is refused exactly where no operation is deeper than 64.
-use Rattle.std.proofs.Common.{◌≡◌, ℕ, ◌≤◌, Bool, true, false, ◌||◌, cond, List, [], ◌∷◌, ◌++◌, Option, Some, None, refl, sym, ap, subst}
-use Rattle.std.proofs.Common.{◌∙◌, append_assoc, append-nil, arith}
-use Rattle.std.proofs.lemmas.{Bool.or_parts, List.Elements.{All-nil, All-cons, All-head, All-tail, All-append}}
+use Rattle.std.proofs.Common.{◌≡◌, ℕ, ◌≤◌, false, ◌||◌, cond, List, [], ◌∷◌, ◌++◌, Option, Some, None, refl, sym, ap, subst, ◌∙◌}
+use Rattle.std.proofs.{Common.{append_assoc, append-nil, arith}, lemmas.Bool.or_parts}
+use Rattle.std.proofs.lemmas.List.Elements.{All-nil, All-cons, All-head, All-tail, All-append}
 use Rattle.std.specs.Prelude.{All, drop, fold, flat_map, nat_lt}
 use Rattle.stage_plan.specs.Depths.{StreamDepths, packet_depths, depths_made, all_depths, is_too_deep, first_too_deep, stage_fault}
-use Rattle.query_laws.proofs.Terms.{OverLimit, Stages, QueryFault, TypedFold, TypedQuery, TypedStream, MAX_STAGES}
+use Rattle.query_laws.proofs.{Terms.{OverLimit, Stages, QueryFault, TypedFold, TypedQuery, TypedStream, MAX_STAGES}, Steps.by_cond}
 use Rattle.query_laws.specs.ByRules.{FitsStages}
 
 abbrev Fits : ℕ → Type 0
@@ -61,19 +61,10 @@ some_deep e = cc e
 none_deep : (folds : List TypedFold) (depths : List StreamDepths) (list : List TypedStream)
     → first_too_deep list (beyond folds depths list) ≡ None → All Fits (operations (beyond folds depths list))
 none_deep _ _ [] e = All-nil Fits
-none_deep folds depths (one ∷ list) e = go (is_too_deep made.operations) refl (λ k. none_deep folds (depths ++ made ∷ []) list k) e
-  where
-    made : StreamDepths
-    made = depths_made folds depths one.op
-
-    rest : List StreamDepths
-    rest = beyond folds (depths ++ made ∷ []) list
-
-    go : (b : Bool) → is_too_deep made.operations ≡ b → (first_too_deep list rest ≡ None → All Fits (operations rest))
-        → cond b (Some (record { kind = OverLimit Stages; span = one.name.span })) (first_too_deep list rest) ≡ None
-        → All Fits (made.operations ++ operations rest)
-    go true _ _ e = some_deep e
-    go false is more e = All-append Fits made.operations (operations rest) (shallow_fits made.operations is) (more e)
+none_deep folds depths (one ∷ list) e =
+    let made : StreamDepths = depths_made folds depths one.op in
+    by_cond (is_too_deep made.operations) e (λ _ k. some_deep k) (λ is k. All-append Fits made.operations
+    (operations (beyond folds (depths ++ made ∷ []) list)) (shallow_fits made.operations is) (none_deep folds (depths ++ made ∷ []) list k))
 
 all_fit : (folds : List TypedFold) (depths : List StreamDepths) (list : List TypedStream) → All Fits (operations (beyond folds depths list))
     → first_too_deep list (beyond folds depths list) ≡ None

@@ -11,7 +11,7 @@ use Rattle.query_laws.proofs.Terms.{Origin, StreamColumn, stream_named, fold_nam
 use Rattle.query_laws.proofs.Terms.{same_origin, clashes_with, clash, others_from, columns_at, filtered, mapped, zipped, next_stream}
 use Rattle.query_laws.proofs.Terms.{made_stream, MAX_GROUPBYS, HasTypedColumns, HasKeys, HasArguments, key_ids, IsSame, AreSame, OfFilter}
 use Rattle.query_laws.proofs.{Terms.{OfMap, OfZip, OfGroup, HasStream}, Steps.{must_ok, must_not_ok, must_holds, must_not_holds, same_ok}}
-use Rattle.query_laws.proofs.Steps.{found_first, then_next, nat_same, nat_other, nat_is}
+use Rattle.query_laws.proofs.Steps.{found_first, then_next, nat_same, nat_other, nat_is, by_test}
 use Rattle.query_laws.proofs.{ColumnLaws.{at_slots, keys_there, others_are, others_taken}, ExprSound.condition_sound}
 use Rattle.query_laws.proofs.{ExprComplete.condition_complete, FoldNames.below, NameLaws.{ok, stream_sound, stream_complete}}
 use Rattle.query_laws.proofs.NameLaws.{fold_name_sound, fold_name_complete, columns_sound, columns_complete, keys_sound, keys_complete}
@@ -94,11 +94,8 @@ same_sound (other ∷ rest) column e = go (nat_eq other.name column.name) refl (
 
 apart_or_same : {other column : StreamColumn} → (other.name ≡ column.name → other.origin ≡ column.origin)
     → (nat_eq other.name column.name && not (same_origin other.origin column.origin)) ≡ false
-apart_or_same {other} {column} h = go (nat_eq other.name column.name) refl
-  where
-    go : (b : Bool) → nat_eq other.name column.name ≡ b → (b && not (same_origin other.origin column.origin)) ≡ false
-    go true is = ap not (origin_is (h (nat_same is)))
-    go false _ = refl
+apart_or_same {other} {column} h =
+    by_test (nat_eq other.name column.name) (λ is. rw is (ap not (origin_is (h (nat_same is))))) (λ is. rw is)
 
 same_complete : (left : List StreamColumn) (column : StreamColumn) → IsSame left column → clashes_with left column ≡ false
 same_complete [] _ h = refl

@@ -1,13 +1,13 @@
 -- The numbers among the tokens of a text are words.
 use Rattle.std.proofs.Common.{◌≡◌, ℕ, zero, suc, ◌+◌, ◌^◌, Bool, true, false, cond, List, [], ◌∷◌, length, take, drop, Option, Some, None}
-use Rattle.std.{proofs.{Common.{Ok, Err, refl, subst}, lemmas.Bool.ltb-true}, specs.{Prelude.{nat_eq, nat_lt, codes}, List.prefix_len}}
-use Rattle.std.specs.Str.{bytes_eq, Parse.digits_value}
+use Rattle.std.proofs.{Common.{Ok, Err, refl, subst}, lemmas.Bool.ltb-true}
+use Rattle.std.specs.{Prelude.{nat_eq, nat_lt, codes}, List.prefix_len, Str.{bytes_eq, Parse.digits_value}}
 use Rattle.query_lang.specs.declared.token.{Mark.Mark, Piece.Piece, Token.Token, Word.Word}
 use Rattle.query_lang.specs.declared.token.Piece.TheVariants as pieces
 use Rattle.query_lang.specs.declared.token.TokenKind.TheVariants as kinds
 use Rattle.query_lang.specs.Lexis.{Cut, below_limit, cut, cut_piece, is_blank, is_digit, is_word_byte, mark_at, name_piece, number_piece}
 use Rattle.query_lang.specs.Lexis.{one_mark, piece, piece_of_mark, reserved, token_at, with_front, word_piece}
-use Rattle.query_laws.proofs.Terms.{TokenKind, with_name, IsWord}
+use Rattle.query_laws.proofs.{Terms.{TokenKind, with_name, IsWord}, Steps.by_test}
 
 -- a number is a word
 abbrev pub IsWordKind : TokenKind → Type 0
@@ -33,11 +33,7 @@ of_either true p q f g = f
 of_either false p q f g = g
 
 of_number : (n len : ℕ) → IsWordPiece (number_piece (below_limit n) len)
-of_number n len = go (nat_lt n (2 ^ 64)) refl
-  where
-    go : (b : Bool) → nat_lt n (2 ^ 64) ≡ b → IsWordPiece (number_piece (cond b (Some n) None) len)
-    go true e = ltb-true n (2 ^ 64) e
-    go false e = tt
+of_number n len = by_test (nat_lt n (2 ^ 64)) (λ is. rw is (ltb-true n (2 ^ 64) is)) (λ is. rw is tt)
 
 of_name : (o : Option Word) (len : ℕ) → IsWordPiece (name_piece o len)
 of_name None _ = tt

@@ -1,7 +1,8 @@
 -- The streams of a typed query and the columns that the checks know of them.
-use Rattle.std.proofs.Common.{◌≡◌, ℕ, zero, suc, ◌+◌, ◌<◌, Bool, true, false, ◌||◌, cond, List, [], ◌∷◌, ◌++◌, length, map, Option, Some}
-use Rattle.std.proofs.{Common.{None, Ok, nat_eq, refl, sym, ap, subst, ◌∙◌, arith}, lemmas.{Bool.or_parts, List.{length_push, length-map}}}
-use Rattle.std.{proofs.lemmas.List.Folds.list_any-append, specs.Prelude.{flat_map, slice_get}}
+use Rattle.std.proofs.Common.{◌≡◌, ℕ, zero, suc, ◌+◌, ◌<◌, Bool, true, false, ◌||◌, List, [], ◌∷◌, ◌++◌, length, map, Option, Some, None}
+use Rattle.std.proofs.{Common.{Ok, nat_eq, refl, sym, ap, subst, ◌∙◌, arith}, lemmas.{Bool.or_parts, List.{length_push, length-map}}}
+use Rattle.std.proofs.lemmas.List.Folds.{list_any-append}
+use Rattle.std.specs.Prelude.{flat_map, slice_get}
 use Rattle.query_lang.specs.declared.query.Item.TheVariants as item
 use Rattle.query_lang.specs.declared.query.StreamOp.TheVariants as ops
 use Rattle.query_lang.specs.declared.typed.PrintOf.TheVariants as place
@@ -15,7 +16,7 @@ use Rattle.query_laws.proofs.Terms.{columns_at, new_columns, no_new_columns, key
 use Rattle.query_laws.proofs.Terms.{mapped, next_stream, zipped, grouped, made_stream, with_stream, begun, stream_checked, table_named}
 use Rattle.query_laws.proofs.Terms.{made_final, final_checked, typed_names, field_numbers, given_of, start_of, fold_added, print_checked}
 use Rattle.query_laws.proofs.Terms.{item_checked, items_checked, ended, checked, StandsAt}
-use Rattle.query_laws.proofs.{Steps.{must_ok, must_not_ok, same_ok, found_first, nat_other, nat_is_not}, ExprSound.slot_stands}
+use Rattle.query_laws.proofs.{Steps.{must_ok, must_not_ok, same_ok, found_first, nat_other, nat_is_not, by_cond}, ExprSound.slot_stands}
 use Rattle.query_laws.proofs.Views.{View, AreDistinct, AreBelow, mapped_columns, Makes, AreMade, made_long, made_last, get_front, get_after}
 
 -- ---- what names stand for
@@ -50,12 +51,8 @@ some_meaning e = cc e
 tells_of : (views : List View) (known : List Known) (id : ℕ) {m : Meaning} → AllTell views known → meaning_of known id ≡ Some m
     → TellsColumns views m
 tells_of _ [] _ h e = cc e
-tells_of views (one ∷ known) id {m} h e = go (nat_eq one.name id) (λ k. tells_of views known id h.1 k) e
-  where
-    go : (b : Bool) → (meaning_of known id ≡ Some m → TellsColumns views m) → cond b (Some one.meaning) (meaning_of known id) ≡ Some m
-        → TellsColumns views m
-    go true _ k = subst (TellsColumns views) (some_meaning k) h.0
-    go false more k = more k
+tells_of views (one ∷ known) id h e =
+    by_cond (nat_eq one.name id) e (λ _ k. subst (TellsColumns views) (cc k) h.0) (λ _ k. tells_of views known id h.1 k)
 
 -- the columns of a stream that is named
 columns_named : (views : List View) (known : List Known) (name : Name) {s : StreamView} → AllTell views known

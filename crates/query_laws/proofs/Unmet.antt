@@ -3,10 +3,10 @@ use Rattle.std.proofs.Common.{◌≡◌, ℕ, zero, suc, ◌<◌, List, [], ◌�
 use Rattle.query_lang.specs.declared.fault.FaultKind.TheVariants as kinds
 use Rattle.query_lang.specs.declared.fault.Limit.{Limit}
 use Rattle.query_laws.proofs.Terms.{FaultKind, Span, Known, IsFree, Kind, Word, Condition, other_kind, StandsAt, IsNew}
-use Rattle.query_laws.{proofs.{ExprFaults.one_kind, NameFaults.not_free, NameLaws.meaning_complete}, specs.Demands.{AStream, ATable, AFold}}
-use Rattle.query_laws.specs.Demands.{AQuietFold, Sought, IsSought, Demand, Free, Stands, AColumn, New, Target, Typed, Two, Constant, Kept}
-use Rattle.query_laws.specs.Demands.{Fewer, Same, Apart, SameKeys, ReadsNone, OneEmit, most, Holds, IsUnknown, IsHiddenState, IsTaken}
-use Rattle.query_laws.specs.Demands.{IsOtherKind, IsOtherArity, IsBadConstant, IsOneTooMany, Tells}
+use Rattle.query_laws.proofs.{ExprFaults.one_kind, NameFaults.not_free, NameLaws.meaning_complete}
+use Rattle.query_laws.specs.Demands.{AStream, ATable, AFold, AQuietFold, Sought, IsSought, Demand, Free, Stands, AColumn, New, Target}
+use Rattle.query_laws.specs.Demands.{Typed, Two, Constant, Kept, Fewer, Same, Apart, SameKeys, ReadsNone, OneEmit, most, Holds, IsUnknown}
+use Rattle.query_laws.specs.Demands.{IsHiddenState, IsTaken, IsOtherKind, IsOtherArity, IsBadConstant, IsOneTooMany, Tells}
 
 stands_taken : (names : List ℕ) (place id : ℕ) → StandsAt names place id → IsNew id names → ⊥
 stands_taken [] _ _ h _ = absurd h

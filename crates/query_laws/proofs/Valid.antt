@@ -6,7 +6,8 @@ use Rattle.query_grammar.proofs.Numbered.{readable}
 use Rattle.query_types.proofs.ValidLaws.{query_valid}
 use Rattle.query_laws.proofs.Terms.{TypedFold, FoldDef, Item, Query, StateVar, TypedQuery, Given, checked, typed_names, IsWord, AreWords}
 use Rattle.query_laws.proofs.{Terms.{IsQueryOf, Entry, folds_in, HasFold, accepted}, QueryLaws.query_complete, Accepted.accepted_sound}
-use Rattle.query_laws.{proofs.Items.numbers, specs.QueryRules.{HasItem, HasItems, of_none, of_more}}
+use Rattle.query_laws.proofs.Items.{numbers}
+use Rattle.query_laws.specs.QueryRules.{HasItem, HasItems, of_none, of_more}
 use Rattle.query_laws.specs.ValidLaws.{StartsAsWords, AcceptedAreValid, AcceptedStartAsWords}
 
 -- an accepted text has a query, whose check gives the typed form

@@ -1,12 +1,13 @@
 -- The rows of streams: the values of their columns, each by the packet, where the values come from, and the column's name.
-use Rattle.std.proofs.Common.{◌≡◌, ℕ, zero, suc, ◌<◌, Bool, true, false, cond, ◌||◌, eqb, List, [], ◌∷◌, ◌++◌, length, map, Option, Some}
-use Rattle.std.proofs.{Common.{None, nat_eq, slice_index, refl, sym, ap, subst, ◌∙◌, arith}, lemmas.Bool.eqb-true}
+use Rattle.std.proofs.Common.{◌≡◌, ℕ, zero, suc, ◌<◌, Bool, false, cond, eqb, List, [], ◌∷◌, ◌++◌, length, map, Option, Some, None, nat_eq}
+use Rattle.std.proofs.{Common.{slice_index, refl, sym, ap, subst, ◌∙◌, arith}, lemmas.Bool.{eqb-true, or_parts}}
 use Rattle.std.proofs.lemmas.{List.{map-append, length-map}, Option.same_Some}
-use Rattle.std.specs.{Prelude.{filter, find, slice_get, option_map, if◌then◌else◌, ◌==◌}, List.cons_option}
+use Rattle.std.specs.{Prelude.{filter, find, slice_get, if◌then◌else◌, ◌==◌}, List.cons_option}
 use Rattle.query_lang.specs.declared.typed.TypedOp.TheVariants as typed
 use Rattle.query_lang.specs.declared.typing.Origin.TheVariants as origin
 use Rattle.query_lang.specs.Streams.{Tuple, values_at, expr_value, map_stream, zip_stream, group_stream, tuples_at, made_of}
-use Rattle.query_laws.proofs.{Terms.{TypedExpr, TypedFold, Origin, StreamColumn, is_among, columns_at}, Steps.{nat_is, nat_is_not}}
+use Rattle.query_laws.proofs.Terms.{TypedExpr, TypedFold, Origin, StreamColumn, is_among, columns_at}
+use Rattle.query_laws.proofs.Steps.{nat_is, nat_is_not, by_test, by_cond, by_option}
 use Rattle.query_laws.proofs.Views.{View, AreDistinct, AreBelow, mapped_columns, OfMap, OfZip, OfGroup}
 
 -- the value of a column, by the number of a packet, where it comes from, and its name
@@ -44,11 +45,8 @@ values_picked V packet view (slot ∷ slots) h =
 filter_has : (V : Values) (view : View) (test : Tuple → Bool) (tuples : List Tuple) → HaveValues V view tuples
     → HaveValues V view (filter test tuples)
 filter_has V _ _ [] h = tt
-filter_has V view test (t ∷ tuples) h = go (test t) (filter_has V view test tuples h.1)
-  where
-    go : (b : Bool) → HaveValues V view (filter test tuples) → HaveValues V view (cond b (t ∷ filter test tuples) (filter test tuples))
-    go true more = (h.0, more)
-    go false more = more
+filter_has V view test (t ∷ tuples) h =
+    let more = filter_has V view test tuples h.1 in by_test (test t) (λ is. rw is (h.0, more)) (λ is. rw is more)
 
 map_has : (V : Values) (source new : View) (values : List TypedExpr)
     → ((packet : ℕ) → map (λ e. expr_value e (row_of V packet source)) values ≡ row_of V packet new)
@@ -63,35 +61,23 @@ map_has V source new values are (t ∷ tuples) h = (
 find_has : (V : Values) (view : View) (packet : ℕ) (tuples : List Tuple) {other : Tuple} → HaveValues V view tuples
     → find (λ (t : Tuple). t.packet == packet) tuples ≡ Some other → other.row ≡ row_of V packet view
 find_has V _ _ [] h e = cc e
-find_has V view packet (t ∷ tuples) {other} h e = go (eqb t.packet packet) refl (λ k. find_has V view packet tuples h.1 k) e
-  where
-    go : (b : Bool) → eqb t.packet packet ≡ b → (find (λ (t : Tuple). t.packet == packet) tuples ≡ Some other
-        → other.row ≡ row_of V packet view)
-        → cond b (Some t) (find (λ (t : Tuple). t.packet == packet) tuples) ≡ Some other → other.row ≡ row_of V packet view
-    go true is _ k = ap (λ (z : Tuple). z.row) (sym (same_Some t other k)) ∙ h.0 ∙ ap (λ n. row_of V n view) (eqb-true t.packet packet is)
-    go false _ more k = more k
+find_has V view packet (t ∷ tuples) {other} h e = by_cond (eqb t.packet packet) e
+    (λ is k. ap (λ (z : Tuple). z.row) (sym (same_Some t other k)) ∙ h.0 ∙ ap (λ n. row_of V n view) (eqb-true t.packet packet is))
+    (λ _ k. find_has V view packet tuples h.1 k)
 
 zip_has : (V : Values) (first second : View) (slots : List ℕ) → AreBelow (length second) slots
     → (right : List Tuple) → HaveValues V second right → (left : List Tuple) → HaveValues V first left
     → HaveValues V (first ++ columns_at second slots) (zip_stream slots left right)
 zip_has V _ _ _ _ _ r [] l = tt
 zip_has V first second slots below right r (t ∷ left) l =
-    go (find (λ (other : Tuple). other.packet == t.packet) right) refl (zip_has V first second slots below right r left l.1)
-  where
-    whole : View
-    whole = first ++ columns_at second slots
-
-    go : (o : Option Tuple) → find (λ (other : Tuple). other.packet == t.packet) right ≡ o
-        → HaveValues V whole (zip_stream slots left right) → HaveValues V whole (cons_option (option_map (λ (other : Tuple). record
-        { packet = t.packet; row = t.row ++ values_at other.row slots }) o) (zip_stream slots left right))
-    go None _ more = more
-    go (Some other) is more = (
+    let more = zip_has V first second slots below right r left l.1 in
+    by_option (find (λ (other : Tuple). other.packet == t.packet) right) (λ is. rw is more) (λ other is. rw is (
       ap (λ row. row ++ values_at other.row slots) l.0
           ∙ ap (λ row. row_of V t.packet first ++ values_at row slots) (find_has V second t.packet right r is)
           ∙ ap (λ row. row_of V t.packet first ++ row) (values_picked V t.packet second slots below)
           ∙ sym (map-append (λ column. V t.packet column.origin column.name) first (columns_at second slots)),
       more,
-    )
+    ))
 
 keys_have : (V : Values) (source : View) (keys : List ℕ) → AreBelow (length source) keys → (tuples : List Tuple)
     → HaveValues V source tuples
@@ -116,17 +102,10 @@ look (name ∷ names) (v ∷ values) id = if nat_eq name id then v else look nam
 looks_past : (name v : ℕ) (names values list : List ℕ) → is_among name list ≡ false
     → map (λ id. look (name ∷ names) (v ∷ values) id) list ≡ map (λ id. look names values id) list
 looks_past _ v _ _ [] h = refl
-looks_past name v names values (x ∷ list) h = go (nat_eq x name) refl (λ k. looks_past name v names values list k) h
-  where
-    go : (b : Bool) → nat_eq x name ≡ b
-        → (is_among name list ≡ false → map (λ id. look (name ∷ names) (v ∷ values) id) list ≡ map (λ id. look names values id) list)
-        → (b || is_among name list) ≡ false
-        → map (λ id. look (name ∷ names) (v ∷ values) id) (x ∷ list) ≡ map (λ id. look names values id) (x ∷ list)
-    go true _ _ k = cc k
-    go false _ more k =
-        let other : nat_eq name x ≡ false = grind arith in
-        ap (λ b. cond b v (look names values x) ∷ map (λ id. look (name ∷ names) (v ∷ values) id) list) other
-        ∙ ap (λ l. look names values x ∷ l) (more k)
+looks_past name v names values (x ∷ list) h =
+    let parts = or_parts (nat_eq x name) _ h in
+    let other : nat_eq name x ≡ false = grind (arith, parts.0) in
+    rw other (ap (λ l. look names values x ∷ l) (looks_past name v names values list parts.1))
 
 pub all_looked_up : (names values : List ℕ) → AreDistinct names → length names ≡ length values
     → map (λ id. look names values id) names ≡ values

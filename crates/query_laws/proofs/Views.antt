@@ -1,10 +1,11 @@
 -- The columns of streams and where their values come from, as the operators make them.
-use Rattle.std.proofs.Common.{◌≡◌, ℕ, zero, suc, ◌+◌, ◌<◌, Bool, true, false, cond, List, [], ◌∷◌, ◌++◌, length, map, Some, refl, sym, ap}
-use Rattle.std.proofs.{Common.{subst, ◌∙◌, append_assoc, append-nil, arith}, lemmas.{List.length_push, Option.same_Some}}
+use Rattle.std.proofs.Common.{◌≡◌, ℕ, zero, suc, ◌+◌, ◌<◌, false, List, [], ◌∷◌, ◌++◌, length, map, Some, refl, sym, ap, subst, ◌∙◌}
+use Rattle.std.proofs.{Common.{append_assoc, append-nil, arith}, lemmas.{List.length_push, Option.same_Some}}
 use Rattle.std.specs.Prelude.{slice_get, option_map}
 use Rattle.query_lang.specs.declared.typed.TypedOp.TheVariants as typed
 use Rattle.query_lang.specs.declared.typing.Origin.TheVariants as origin
 use Rattle.query_laws.proofs.Terms.{TypedExpr, TypedOp, TypedStream, StreamColumn, is_among, column_names, others_from, columns_at, clash}
+use Rattle.query_laws.proofs.Steps.{by_test}
 
 abbrev pub View : Type 0
 View = List StreamColumn
@@ -96,13 +97,10 @@ get_after (x ∷ xs) ys (suc n) e = get_after xs ys n (omega (arith, e))
 
 others_from_below : (at : ℕ) (names : List ℕ) (view : View) → AreBelow (at + length view) (others_from at names view)
 others_from_below _ _ [] = tt
-others_from_below at names (c ∷ view) = go (is_among c.name names)
-    (subst (λ n. AreBelow n (others_from (at + 1) names view)) (omega arith) (others_from_below (at + 1) names view))
-  where
-    go : (b : Bool) → AreBelow (at + length (c ∷ view)) (others_from (at + 1) names view)
-        → AreBelow (at + length (c ∷ view)) (cond b (others_from (at + 1) names view) (at ∷ others_from (at + 1) names view))
-    go true more = more
-    go false more = (omega arith, more)
+others_from_below at names (c ∷ view) =
+    let more : AreBelow (at + length (c ∷ view)) (others_from (at + 1) names view) =
+    subst (λ n. AreBelow n (others_from (at + 1) names view)) (omega arith) (others_from_below (at + 1) names view) in
+    by_test (is_among c.name names) (λ is. rw is more) (λ is. rw is (omega arith, more))
 
 pub others_below : (names : List ℕ) (view : View) → AreBelow (length view) (others_from 0 names view)
 others_below names view = subst (λ n. AreBelow n (others_from 0 names view)) (omega arith) (others_from_below 0 names view)

@@ -1,14 +1,16 @@
 -- What a zip's rows have under the names of both streams.
-use Rattle.std.proofs.Common.{◌≡◌, ℕ, zero, suc, ◌+◌, Bool, true, false, cond, not, ◌&&◌, ◌||◌, List, [], ◌∷◌, ◌++◌, length, Option, Some}
-use Rattle.std.proofs.{Common.{None, nat_eq, slice_index, refl, sym, ap, subst, ◌∙◌, append_assoc, arith}, lemmas.List.length_push}
-use Rattle.std.{proofs.lemmas.Option.same_Some, specs.Prelude.{Contains, slice_get, option_map, if◌then◌else◌}}
-use Rattle.std.specs.List.{list_any, cons_option}
+use Rattle.std.proofs.Common.{◌≡◌, ℕ, zero, suc, ◌+◌, Bool, true, false, cond, not, ◌&&◌, List, [], ◌∷◌, ◌++◌, length, Option, Some, None}
+use Rattle.std.proofs.{Common.{nat_eq, slice_index, refl, sym, ap, subst, ◌∙◌, append_assoc, arith}, lemmas.List.length_push}
+use Rattle.std.proofs.lemmas.Option.{same_Some}
+use Rattle.std.specs.{Prelude.{Contains, slice_get, option_map, if◌then◌else◌}, List.list_any}
 use Rattle.query_lang.specs.declared.typing.Origin.TheVariants as origin
 use Rattle.query_lang.specs.Streams.{Tuple, all_streams, stream}
 use Rattle.query_laws.proofs.Terms.{Zip, TypedQuery, Origin, StreamColumn, is_among, place_from, column_names, same_origin, clashes_with}
-use Rattle.query_laws.proofs.{Terms.{clash, others_from, columns_at}, Steps.{nat_same, nat_is}, Typed.field_view}
-use Rattle.query_laws.proofs.{Views.{View, ZipAt, zip_made}, Values.{Values, row_of, have_at}, Rows.{HasRows, names_are, row_in}}
+use Rattle.query_laws.proofs.{Terms.{clash, others_from, columns_at}, Steps.{nat_same, nat_is, by_test, by_cond, by_option}}
+use Rattle.query_laws.proofs.{Typed.field_view, Views.{View, ZipAt, zip_made}, Values.{Values, row_of, have_at}}
+use Rattle.query_laws.proofs.Rows.{HasRows, names_are, row_in}
 use Rattle.query_laws.specs.{Columns.{columns_of, operator_of, IsZip, value_under}, TupleLaws.{ColumnsAgree, ColumnsAreKept}}
+use Rattle.std.proofs.lemmas.Bool.{or_parts}
 
 -- ---- columns by their names
 
@@ -52,22 +54,14 @@ value_named V packet id view = value_from V packet id [] view
 
 -- ---- the columns of both streams
 
-first_false : (a : Bool) {b : Bool} → (a || b) ≡ false → (a ≡ false) × (b ≡ false)
-first_false true e = cc e
-first_false false e = (refl, e)
-
 -- a column that is found has the name, and fails each test that no column passes
 named_fails : (view : View) {id : ℕ} {c : StreamColumn} (test : StreamColumn → Bool) → named view id ≡ Some c → list_any test view ≡ false
     → (c.name ≡ id) × (test c ≡ false)
 named_fails [] _ e h = cc e
-named_fails (x ∷ view) {id} {c} test e h =
-    let none = first_false (test x) h in
-    go (nat_eq x.name id) refl none.0 (λ k. named_fails view test k none.1) e
-  where
-    go : (b : Bool) → nat_eq x.name id ≡ b → test x ≡ false → (named view id ≡ Some c → (c.name ≡ id) × (test c ≡ false))
-        → cond b (Some x) (named view id) ≡ Some c → (c.name ≡ id) × (test c ≡ false)
-    go true is fails _ k = subst (λ z. (z.name ≡ id) × (test z ≡ false)) (let same : x ≡ c = cc k in same) (nat_same is, fails)
-    go false _ _ more k = more k
+named_fails (x ∷ view) {id} test e h =
+    let none = or_parts (test x) _ h in
+    by_cond (nat_eq x.name id) e (λ is k. subst (λ z. (z.name ≡ id) × (test z ≡ false)) (same_Some x _ k) (nat_same is, none.0))
+    (λ _ k. named_fails view test k none.1)
 
 origins_same : (a b : Origin) → same_origin a b ≡ true → a ≡ b
 origins_same origin.Field origin.Field e = refl
@@ -106,58 +100,32 @@ kept names (c ∷ view) = if is_among c.name names then kept names view else (c 
 others_are : (all : View) (at : ℕ) (names : List ℕ) (view : View) → ((k : ℕ) → slice_get all (at + k) ≡ slice_get view k)
     → columns_at all (others_from at names view) ≡ kept names view
 others_are all _ _ [] _ = refl
-others_are all at names (c ∷ view) are = go (is_among c.name names)
-    (others_are all (at + 1) names view (λ k. ap (slice_get all) (let same : (at + 1) + k ≡ at + suc k = omega arith in same)
-    ∙ are (suc k)))
-  where
-    here : slice_get all at ≡ Some c
-    here = ap (slice_get all) (let same : at ≡ at + 0 = omega arith in same) ∙ are 0
-
-    go : (b : Bool) → columns_at all (others_from (at + 1) names view) ≡ kept names view
-        → columns_at all (cond b (others_from (at + 1) names view) (at ∷ others_from (at + 1) names view))
-        ≡ cond b (kept names view) (c ∷ kept names view)
-    go true more = more
-    go false more = ap (λ o. cons_option o (columns_at all (others_from (at + 1) names view))) here ∙ ap (λ l. c ∷ l) more
+others_are all at names (c ∷ view) are =
+    let here : slice_get all at ≡ Some c = ap (slice_get all) (let same : at ≡ at + 0 = omega arith in same) ∙ are 0 in
+    let more = others_are all (at + 1) names view (λ k. ap (slice_get all) (let same : (at + 1) + k ≡ at + suc k = omega arith in same)
+    ∙ are (suc k)) in
+    by_test (is_among c.name names) (λ is. rw is more) (λ is. rw (is, here, more))
 
 named_front : (view more : View) (id : ℕ) {c : StreamColumn} → named view id ≡ Some c → named (view ++ more) id ≡ Some c
 named_front [] _ _ e = cc e
-named_front (x ∷ view) more id {c} e = go (nat_eq x.name id) (λ k. named_front view more id k) e
-  where
-    go : (b : Bool) → (named view id ≡ Some c → named (view ++ more) id ≡ Some c) → cond b (Some x) (named view id) ≡ Some c
-        → cond b (Some x) (named (view ++ more) id) ≡ Some c
-    go true _ k = k
-    go false rest k = rest k
+named_front (x ∷ view) more id e = by_cond (nat_eq x.name id) e (λ is k. rw is k) (λ is k. rw is (named_front view more id k))
 
 named_after : (view more : View) (id : ℕ) → named view id ≡ None → named (view ++ more) id ≡ named more id
 named_after [] _ _ e = refl
-named_after (x ∷ view) more id e = go (nat_eq x.name id) (λ k. named_after view more id k) e
-  where
-    go : (b : Bool) → (named view id ≡ None → named (view ++ more) id ≡ named more id) → cond b (Some x) (named view id) ≡ None
-        → cond b (Some x) (named (view ++ more) id) ≡ named more id
-    go true _ k = cc k
-    go false rest k = rest k
+named_after (x ∷ view) more id e = by_cond (nat_eq x.name id) e (λ _ k. cc k) (λ is k. rw is (named_after view more id k))
 
 none_among : (view : View) (id : ℕ) → named view id ≡ None → is_among id (column_names view) ≡ false
 none_among [] _ e = refl
-none_among (x ∷ view) id e = go (nat_eq x.name id) (λ k. none_among view id k) e
-  where
-    go : (b : Bool) → (named view id ≡ None → is_among id (column_names view) ≡ false) → cond b (Some x) (named view id) ≡ None
-        → (b || is_among id (column_names view)) ≡ false
-    go true _ k = cc k
-    go false rest k = rest k
+none_among (x ∷ view) id e = by_cond (nat_eq x.name id) e (λ _ k. cc k) (λ is k. rw is (none_among view id k))
 
 -- a column of another name than these is kept
 named_kept : (names : List ℕ) (view : View) (id : ℕ) → is_among id names ≡ false → named (kept names view) id ≡ named view id
 named_kept _ [] _ h = refl
-named_kept names (c ∷ view) id h = go (is_among c.name names) (nat_eq c.name id) refl refl (named_kept names view id h)
-  where
-    go : (b e : Bool) → is_among c.name names ≡ b → nat_eq c.name id ≡ e → named (kept names view) id ≡ named view id
-        → named (cond b (kept names view) (c ∷ kept names view)) id ≡ cond e (Some c) (named view id)
-    go true true is same _ =
-        let there : is_among id names ≡ true = ap (λ n. is_among n names) (sym (nat_same same)) ∙ is in cc (there, h)
-    go true false _ _ more = more
-    go false true _ same _ = ap (λ b. cond b (Some c) (named (kept names view) id)) same
-    go false false _ same more = ap (λ b. cond b (Some c) (named (kept names view) id)) same ∙ more
+named_kept names (c ∷ view) id h =
+    let more = named_kept names view id h in
+    by_test (is_among c.name names) (λ is. by_test (nat_eq c.name id) (λ same.
+    let there : is_among id names ≡ true = ap (λ n. is_among n names) (sym (nat_same same)) ∙ is in cc (there, h)) (λ other.
+    rw (is, other) more)) (λ is. by_test (nat_eq c.name id) (λ same. rw (is, same)) (λ other. rw (is, other) more))
 
 zip_after : (first second : View) (id : ℕ) → named first id ≡ None
     → named (first ++ columns_at second (others_from 0 (column_names first) second)) id ≡ named second id
@@ -170,22 +138,14 @@ zip_after first second id e = named_after first (columns_at second (others_from 
 
 agree : (V : Values) (packet : ℕ) (first second : View) (id : ℕ) {a b : ℕ} → clash first second ≡ false
     → value_of V packet (named first id) ≡ Some a → value_of V packet (named second id) ≡ Some b → a ≡ b
-agree V packet first second id {a} {b} apart l r = go (named first id) (named second id) refl refl l r
-  where
-    go : (o p : Option StreamColumn) → named first id ≡ o → named second id ≡ p → value_of V packet o ≡ Some a
-        → value_of V packet p ≡ Some b → a ≡ b
-    go None p _ _ l r = cc l
-    go (Some c) None _ _ l r = cc r
-    go (Some c) (Some d) is other l r = sym (same_Some _ a l) ∙ values_same V first second id apart is other ∙ same_Some _ b r
+agree V packet first second id apart l r = by_option (named first id) (λ is. cc (rw is at l)) (λ c is.
+    by_option (named second id) (λ other. cc (rw other at r)) (λ d other.
+    sym (same_Some _ _ (rw is at l)) ∙ values_same V first second id apart is other ∙ same_Some _ _ (rw other at r)))
 
 keeps_first : (V : Values) (packet : ℕ) (first more : View) (id : ℕ) {v : ℕ} → value_of V packet (named first id) ≡ Some v
     → value_of V packet (named (first ++ more) id) ≡ Some v
-keeps_first V packet first more id {v} e = go (named first id) refl e
-  where
-    go : (o : Option StreamColumn) → named first id ≡ o → value_of V packet o ≡ Some v
-        → value_of V packet (named (first ++ more) id) ≡ Some v
-    go None _ k = cc k
-    go (Some c) is k = ap (value_of V packet) (named_front first more id is) ∙ k
+keeps_first V packet first more id e = by_option (named first id) (λ is. cc (rw is at e))
+    (λ c is. rw (named_front first more id is) (rw is at e))
 
 keeps_second : (V : Values) (packet : ℕ) (first second : View) (id : ℕ) {v : ℕ} → clash first second ≡ false
     → value_of V packet (named second id) ≡ Some v
