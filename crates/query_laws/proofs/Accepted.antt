@@ -62,7 +62,7 @@ breaks_rule (kinds.OverLimit _) h e = item_breaks (λ k. cc k) e
 breaks_rule _ h e = absurd h
 
 untyped : {text : List ℕ} {q : Query} {fault : QueryFault} → parsed_text text ≡ Ok q → checked q ≡ Err fault → IsRefusedFor text fault
-untyped {text} {q} {fault} p is = by_typing (query_of_text text q p) is (breaks_rule _ (only_these q is) is) (λ t h. no_form is h)
+untyped {text} {q} p is = by_typing (query_of_text text q p) is (breaks_rule _ (only_these q is) is) (λ t h. no_form is h)
 
 cause : {text : List ℕ} {fault : QueryFault} → accepted text ≡ Err fault → IsRefusedFor text fault
 unfolding accepted

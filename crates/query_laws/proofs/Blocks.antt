@@ -7,14 +7,14 @@ use Rattle.query_lang.specs.declared.fold.TypedStmt.TheVariants as typed_stmt
 use Rattle.query_lang.specs.declared.query.Stmt.TheOpen as stmt
 use Rattle.query_lang.specs.declared.query.Stmt.TheVariants as whole
 use Rattle.query_lang.proofs.TreeLemmas.{term_not}
-use Rattle.query_laws.proofs.Terms.{WrongArity, Span, TypedExpr, TypedStmt, Name, Expr, Stmt, fold-roll-Stmt, ind-Stmt, roll-Stmt, map-Stmt}
+use Rattle.query_laws.proofs.Terms.{WrongArity, Span, TypedExpr, TypedStmt, Name, Expr, Stmt, fold-roll-Stmt, roll-Stmt, map-Stmt}
 use Rattle.query_laws.proofs.Terms.{rolls-Assign, rolls-If, rolls-Emit, Body, Enclosing, Term, ReadsArguments, Checked, is_among, word_of}
 use Rattle.query_laws.proofs.Terms.{target_at, target_of, joined, inside, emit_condition, no_state, Adding, in_order, stmt_step}
 use Rattle.query_laws.proofs.Terms.{stmt_checked, StandsAt, conjunction, emit_of, ReadArguments, HasBlock, of_none, of_assign, of_if}
 use Rattle.query_laws.proofs.Terms.{of_emit, at_most_one}
 use Rattle.query_laws.proofs.Steps.{must_not_ok, must_not_holds, same_ok, found_first, then_next, place_stands, stands_place}
 use Rattle.query_laws.proofs.{ExprSound.{condition_sound, word_sound}, ExprComplete.{condition_complete, word_complete}}
-use Rattle.query_laws.proofs.FoldNames.{neither, both_none, Reads, reads}
+use Rattle.query_laws.proofs.{FoldNames.{neither, both_none, Reads, reads}, Layers.{OfStmtLayers, of_stmt}}
 
 -- ---- the conditions around
 
@@ -38,7 +38,7 @@ emit_is (t ∷ _) = refl
 
 fits_inside : {states : List ℕ} {around : List TypedExpr} {outer : Enclosing} {written : Expr} {t : TypedExpr} → Fits states around outer
     → Reads states written t → Fits states (t ∷ around) (inside states outer written t)
-fits_inside {around} {outer} {t} f r = record {
+fits_inside {t} f r = record {
   condition = ap (λ o. Some (joined o t)) f.condition ∙ ap Some (one_more t _);
   past = λ e. let p = neither _ e in (r.past p.1, f.past p.0);
   none = λ h. both_none (f.none h.1) (r.none h.0);
@@ -94,26 +94,17 @@ then_block {found = found} one rest = record {
   rule = one.rule _ rest.ts rest.es rest.rule;
 }
 
-abbrev IsSound : List ℕ → List ℕ → Stmt → Type 0
-IsSound states args s = (around : List TypedExpr) (outer : Enclosing) (found made : Body) → Fits states around outer
-    → stmt_checked states args s outer found ≡ Ok made → Added states args around s found made
+abbrev IsSound : List ℕ → List ℕ → Stmt → Adding → Type 0
+IsSound states args s c = (around : List TypedExpr) (outer : Enclosing) (found made : Body) → Fits states around outer
+    → c outer found ≡ Ok made → Added states args around s found made
 
 abbrev Sound : List ℕ → List ℕ → Type 0
-Sound states args = (s : Stmt) × IsSound states args s
-
-abbrev IsSoundLayer : List ℕ → List ℕ → stmt.Stmt-F Stmt → Type 0
-IsSoundLayer states args x = (around : List TypedExpr) (outer : Enclosing) (found made : Body) → Fits states around outer
-    → stmt_step states args (map-Stmt Stmt Adding (stmt_checked states args) x) outer found ≡ Ok made
-    → Added states args around (roll-Stmt x) found made
-
-of_layer : {states args : List ℕ} (x : stmt.Stmt-F Stmt) → IsSoundLayer states args x → IsSound states args (roll-Stmt x)
-of_layer {states} {args} x layer around outer found made f e =
-    layer around outer found made f (sym (ap (λ g. g outer found) (fold-roll-Stmt Adding (stmt_step states args) x)) ∙ e)
+Sound states args = (s : Stmt) × IsSound states args s (stmt_checked states args s)
 
 block_of_sound : {states args : List ℕ} (ss : List (Sound states args)) {around : List TypedExpr} {outer : Enclosing} {found made : Body}
     → Fits states around outer → in_order (map (stmt_checked states args) (map (λ s. s.0) ss)) outer found ≡ Ok made
     → IsBlock states args around (map (λ s. s.0) ss) found made
-block_of_sound [] {around} {found} {made} f e =
+block_of_sound [] {around} {found} f e =
     let same = same_ok _ _ e in
     record {
       ts = [];
@@ -130,8 +121,7 @@ moved : {states args : List ℕ} {around : List TypedExpr} {s r : Stmt} {found m
     → Added states args around r found made
 moved {states} {args} {around} {found} {made} is h = subst (λ z. Added states args around z found made) (sym is) h
 
-step : {states args : List ℕ} (y : stmt.Stmt-F (Sound states args)) → IsSoundLayer states args
-    (map-Stmt (Sound states args) Stmt (λ s. s.0) y)
+step : {states args : List ℕ} → OfStmtLayers (stmt_step states args) (IsSound states args)
 step {states} {args} (stmt.Assign x e) around _ found made f is =
     let target = found_first (target_of states args x) _ made is in
     let word = found_first (word_of (states ++ args) [] e) _ made target.2 in
@@ -174,8 +164,8 @@ step {states} {args} (stmt.Emit span) around outer found made f is =
       rule = λ rest us fs h. of_emit span (f.past none.0) h;
     }))
 
-stmt_sound : {states args : List ℕ} (s : Stmt) → IsSound states args s
-stmt_sound {states} {args} = ind-Stmt (IsSound states args) (λ x y is. of_layer x (subst (λ z. IsSoundLayer states args z) is (step y)))
+stmt_sound : {states args : List ℕ} (s : Stmt) → IsSound states args s (stmt_checked states args s)
+stmt_sound {states} {args} = of_stmt (stmt_step states args) (IsSound states args) step
 
 pub block_sound : {states args : List ℕ} (ss : List Stmt) {around : List TypedExpr} {outer : Enclosing} {found made : Body}
     → Fits states around outer
@@ -216,13 +206,13 @@ pub block_complete : {states args : List ℕ} {around : List TypedExpr} {ss : Li
     → {outer : Enclosing} (found : Body) {last : Option TypedExpr} → Fits states around outer → at_most_one found.emit
     ++ es ≡ at_most_one last
     → in_order (map (stmt_checked states args) ss) outer found ≡ Ok (record { statements = found.statements ++ ts; emit = last })
-block_complete (of_none _) found {last} f e = bodies (sym (append-nil found.statements))
+block_complete (of_none _) found f e = bodies (sym (append-nil found.statements))
     (same_one _ _ (sym (append-nil (at_most_one found.emit)) ∙ e))
-block_complete {states} {args} (of_assign x {v} {e} {t} {ts} stands word h) {outer} found f k = then_next _ (
+block_complete {args} (of_assign x {v} {e} {t} {ts} stands word h) found f k = then_next _ (
     stmt_is _ _ _ (rolls-Assign x e) _ _ ∙ then_next _ (ap (λ o. target_at o (is_among x.id args) x.span) (stands_place _ _ stands))
     ∙ then_next _ (word_complete [] word)) ∙ block_complete h _ f k
     ∙ bodies (append_assoc found.statements (typed_stmt.Assign v t ∷ []) ts) refl
-block_complete {states} {args} (of_if {c} {t} {a} {b} {xs} {ys} {ts} {first} {second} {others} rule ha hb h) {outer} found {last} f k =
+block_complete (of_if {c} {t} {a} {b} {xs} {ys} {ts} {first} {second} {others} rule ha hb h) found f k =
     let r = reads _ rule in
     let front = append_assoc (at_most_one found.emit) (first ++ second) others ∙ k in
     let two = first_part _ _ _ front in

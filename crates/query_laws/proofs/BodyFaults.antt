@@ -5,15 +5,16 @@ use Rattle.std.specs.Prelude.{is_some}
 use Rattle.query_lang.specs.declared.fold.TypedExpr.TheVariants as typed
 use Rattle.query_lang.specs.declared.query.Stmt.TheOpen as stmt
 use Rattle.query_lang.specs.declared.query.Stmt.TheVariants as block
-use Rattle.query_laws.proofs.Terms.{WrongArity, QueryFault, Span, Name, Expr, Stmt, fold-roll-Stmt, ind-Stmt, roll-Stmt, map-Stmt}
-use Rattle.query_laws.proofs.Terms.{rolls-Assign, rolls-If, rolls-Emit, Body, Enclosing, Known, Checked, is_among, place_of, condition_of}
-use Rattle.query_laws.proofs.Terms.{word_of, target_at, target_of, inside, no_state, Adding, in_order, stmt_step, stmt_checked, StandsIn}
-use Rattle.query_laws.proofs.Terms.{HasEmit, FollowsEmit, in_first, in_second, Condition}
+use Rattle.query_laws.proofs.Terms.{WrongArity, QueryFault, Span, Name, Expr, Stmt, rolls-Assign, rolls-If, rolls-Emit, Body, Enclosing}
+use Rattle.query_laws.proofs.Terms.{Known, Checked, is_among, place_of, condition_of, word_of, target_at, target_of, inside, no_state}
+use Rattle.query_laws.proofs.Terms.{Adding, in_order, stmt_step, stmt_checked, StandsIn, HasEmit, FollowsEmit, in_first, in_second}
+use Rattle.query_laws.proofs.Terms.{Condition}
 use Rattle.query_laws.specs.Asked.{StmtAsks, of_target, of_value, of_condition, of_emit}
 use Rattle.query_laws.specs.Demands as parts
 use Rattle.query_laws.proofs.ExprFaults.{place_none, not_new, condition_told, word_told}
 use Rattle.query_laws.proofs.FaultSteps.{at_span, same_fault, no_fault, by_must_not, by_next, Broken, broken_at, broken_in}
 use Rattle.query_laws.proofs.{FoldNames.among_new, Steps.{same_ok, found_first}, StateFaults.{has_state, Knows, knows_inside}}
+use Rattle.query_laws.proofs.Layers.{OfStmtLayers, of_stmt}
 
 -- ---- statements in longer blocks
 
@@ -47,12 +48,11 @@ elsewhere (parts.in_second a h) =
 abbrev Emits : Body → Body → List Stmt → Type 0
 Emits found made ss = is_some made.emit ≡ true → (is_some found.emit ≡ true) ⊎ HasEmit ss
 
-abbrev TellsEmit : List ℕ → List ℕ → Stmt → Type 0
-TellsEmit states args s = (outer : Enclosing) (found made : Body) → stmt_checked states args s outer found ≡ Ok made
-    → Emits found made (s ∷ [])
+abbrev TellsEmit : Stmt → Adding → Type 0
+TellsEmit s c = (outer : Enclosing) (found made : Body) → c outer found ≡ Ok made → Emits found made (s ∷ [])
 
 abbrev Emitting : List ℕ → List ℕ → Type 0
-Emitting states args = (s : Stmt) × TellsEmit states args s
+Emitting states args = (s : Stmt) × TellsEmit s (stmt_checked states args s)
 
 abbrev stmts : (states args : List ℕ) → List (Emitting states args) → List Stmt
 stmts _ _ ss = map (λ s. s.0) ss
@@ -61,7 +61,7 @@ emit_after : {s : Stmt} {rest : List Stmt} → HasEmit rest → HasEmit (s ∷ r
 emit_after h = (h.0, h.1, parts.later h.2)
 
 emit_before : {s : Stmt} {rest : List Stmt} → HasEmit (s ∷ []) → HasEmit (s ∷ rest)
-emit_before {rest} h = (h.0, h.1, with_more _ h.2)
+emit_before h = (h.0, h.1, with_more _ h.2)
 
 emits_both : (found middle made : Body) {s : Stmt} {rest : List Stmt} → Emits found middle (s ∷ []) → Emits middle made rest
     → Emits found made (s ∷ rest)
@@ -94,14 +94,12 @@ if_emits : (found p q : Body) {c : Expr} {a b : List Stmt} → Emits (fresh foun
 if_emits found p q {a} {b} one two some = elim (two some)
     [ inl h ↦ elim (one h) [ inl k ↦ inl k | inr k ↦ inr (emit_in_first b k) ] | inr h ↦ inr (emit_in_second a h) ]
 
-emit_step : (states args : List ℕ) (y : stmt.Stmt-F (Emitting states args)) (outer : Enclosing) (found : Body) {made : Body}
-    → stmt_step states args (map-Stmt Stmt Adding (stmt_checked states args) (map-Stmt (Emitting states args) Stmt (λ s. s.0) y)) outer
-    found ≡ Ok made → Emits found made (roll-Stmt (map-Stmt (Emitting states args) Stmt (λ s. s.0) y) ∷ [])
-emit_step states args (stmt.Assign x e) _ _ {made} is =
+emit_step : (states args : List ℕ) → OfStmtLayers (stmt_step states args) TellsEmit
+emit_step states args (stmt.Assign x e) _ _ made is =
     let target = found_first (target_of states args x) _ made is in
     let word = found_first (word_of (states ++ args) [] e) _ made target.2 in
     λ some. inl (ap (λ (b : Body). is_some b.emit) (same_ok _ made word.2) ∙ some)
-emit_step states args (stmt.If c a b) outer found {made} is =
+emit_step states args (stmt.If c a b) outer found made is =
     let condition = found_first (condition_of (states ++ args) [] c) _ made is in
     let t = condition.0 in
     let one = found_first (in_order (map (stmt_checked states args) (stmts states args a)) (inside states outer c t) (fresh found)) _ made
@@ -111,13 +109,10 @@ emit_step states args (stmt.If c a b) outer found {made} is =
     emits_moved found made (rolls-If c (stmts states args a) (stmts states args b)) (λ some.
     if_emits found one.0 two.0 (block_emits states args a _ (fresh found) one.1)
     (block_emits states args b _ (fresh one.0) two.1) (ap (λ (z : Body). is_some z.emit) (same_ok _ made two.2) ∙ some))
-emit_step _ _ (stmt.Emit span) _ found {made} _ = emits_moved found made (rolls-Emit span) (λ some. inr ([], span, parts.first))
+emit_step _ _ (stmt.Emit span) _ found made _ = emits_moved found made (rolls-Emit span) (λ some. inr ([], span, parts.first))
 
-stmt_emits : (states args : List ℕ) (s : Stmt) → TellsEmit states args s
-stmt_emits states args = ind-Stmt (TellsEmit states args) (λ x y is outer found made e.
-    subst (λ z. stmt_step states args (map-Stmt Stmt Adding (stmt_checked states args) z) outer found ≡ Ok made
-    → Emits found made (roll-Stmt z ∷ [])) is (emit_step _ _ y _ _) (sym (ap (λ g. g outer found)
-    (fold-roll-Stmt Adding (stmt_step states args) x)) ∙ e))
+stmt_emits : (states args : List ℕ) (s : Stmt) → TellsEmit s (stmt_checked states args s)
+stmt_emits states args = of_stmt (stmt_step states args) TellsEmit (emit_step states args)
 
 all_emit : (states args : List ℕ) (ss : List Stmt) (outer : Enclosing) (found : Body) {made : Body}
     → in_order (map (stmt_checked states args) ss) outer found ≡ Ok made → Emits found made ss
@@ -183,12 +178,12 @@ module _ (states args : List ℕ) (known : List Known) (fault : QueryFault) wher
       go None place true among is = broken_at _ (of_target e) (same_fault is) (refl, place_none _ _ place, not_new _ _ among)
       go None place false among is = broken_at _ (of_target e) (same_fault is) (refl, place_none _ _ place, among_new x.id args among)
 
-  abbrev IsToldStmt : Stmt → Type 0
-  IsToldStmt s = (around : List Expr) (outer : Enclosing) (found : Body) → Knows states around outer
-      → stmt_checked states args s outer found ≡ Err fault → InBlock around (s ∷ []) (is_some found.emit)
+  abbrev IsToldStmt : Stmt → Adding → Type 0
+  IsToldStmt s c = (around : List Expr) (outer : Enclosing) (found : Body) → Knows states around outer → c outer found ≡ Err fault
+      → InBlock around (s ∷ []) (is_some found.emit)
 
   abbrev ToldStmt : Type 0
-  ToldStmt = (s : Stmt) × IsToldStmt s
+  ToldStmt = (s : Stmt) × IsToldStmt s (stmt_checked states args s)
 
   abbrev all_of : List ToldStmt → List Stmt
   all_of ss = map (λ s. s.0) ss
@@ -221,13 +216,11 @@ module _ (states args : List ℕ) (known : List Known) (fault : QueryFault) wher
           let inner = m.1 Condition in
           broken_at _ (of_emit _ k.1) (same_fault e) (m.0, (Condition, inner.0, inner.1), m.2, not_new _ _ m.3)
 
-  told_step : (y : stmt.Stmt-F ToldStmt) {around : List Expr} (outer : Enclosing) (found : Body) → Knows states around outer
-      → stmt_step states args (map-Stmt Stmt Adding (stmt_checked states args) (map-Stmt ToldStmt Stmt (λ s. s.0) y)) outer found ≡ Err
-      fault → InBlock around (roll-Stmt (map-Stmt ToldStmt Stmt (λ s. s.0) y) ∷ []) (is_some found.emit)
-  told_step (stmt.Assign x e) _ _ _ is = stmt_moved (rolls-Assign x e) (
+  told_step : OfStmtLayers (stmt_step states args) IsToldStmt
+  told_step (stmt.Assign x e) _ _ _ _ is = stmt_moved (rolls-Assign x e) (
       by_next _ is (λ is. here (target_told is)) (λ v p is. by_next _ is (λ is.
       here (broken_in (λ d asked. of_value x asked) (word_told _ _ _ is))) (λ value q is. no_fault is)))
-  told_step (stmt.If c a b) outer found knows is = stmt_moved (rolls-If c (all_of a) (all_of b)) (
+  told_step (stmt.If c a b) _ outer found knows is = stmt_moved (rolls-If c (all_of a) (all_of b)) (
       by_next (condition_of (states ++ args) [] c) is (λ is.
       here (broken_in (λ d asked. of_condition (all_of a) (all_of b) asked) (condition_told _ _ _ is))) (λ t p is.
       by_next (in_order (map (stmt_checked states args) (all_of a)) (inside states outer c t) (fresh found)) is (λ is. told_first (all_of b)
@@ -236,14 +229,11 @@ module _ (states args : List ℕ) (known : List Known) (fault : QueryFault) wher
       (all_emit states args (all_of a) (inside states outer c t) (fresh found) q)
       (block_told b (inside states outer c (typed.Not t)) (fresh one) (knows_inside states outer (typed.Not t) knows) is))
       (λ two r is. no_fault is))))
-  told_step (stmt.Emit span) outer found knows is = stmt_moved (rolls-Emit span) (
+  told_step (stmt.Emit span) _ outer found knows is = stmt_moved (rolls-Emit span) (
       by_must_not (is_some found.emit) is (λ has same. second span same parts.first has) (λ none is. here (around_told outer _ knows is)))
 
-  stmt_told : (s : Stmt) → IsToldStmt s
-  stmt_told = ind-Stmt IsToldStmt (λ x y is around outer found knows e.
-      subst (λ z. stmt_step states args (map-Stmt Stmt Adding (stmt_checked states args) z) outer found ≡ Err fault
-      → InBlock around (roll-Stmt z ∷ []) (is_some found.emit)) is (told_step y _ _ knows) (sym (ap (λ g. g outer found)
-      (fold-roll-Stmt Adding (stmt_step states args) x)) ∙ e))
+  stmt_told : (s : Stmt) → IsToldStmt s (stmt_checked states args s)
+  stmt_told = of_stmt (stmt_step states args) IsToldStmt told_step
 
   pub body_told : (ss : List Stmt) {around : List Expr} (outer : Enclosing) (found : Body) → Knows states around outer
       → in_order (map (stmt_checked states args) ss) outer found ≡ Err fault → InBlock around ss (is_some found.emit)

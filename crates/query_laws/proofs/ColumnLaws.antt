@@ -3,7 +3,7 @@ use Rattle.std.proofs.Common.{◌≡◌, ℕ, zero, suc, ◌+◌, ◌<◌, Bool,
 use Rattle.std.proofs.Common.{arith}
 use Rattle.std.specs.{Prelude.slice_get, List.cons_option}
 use Rattle.query_laws.proofs.Terms.{StreamColumn, is_among, column_names, others_from, columns_at, StandsAt}
-use Rattle.query_laws.proofs.{FoldNames.{new_among, among_new}, Steps.by_test}
+use Rattle.query_laws.proofs.{FoldNames.{new_among, among_new}, Steps.by_test, Views.{AreBelow, others_below}}
 use Rattle.query_laws.specs.StreamRules.{HasSlots, AreAt, AreOthers, of_none, of_named, of_other}
 
 -- ---- the columns at some slots
@@ -16,17 +16,12 @@ at_slots _ (_ ∷ _) [] h = absurd h
 at_slots columns (_ ∷ slots) (c ∷ found) h = ap (λ z. c ∷ z) (at_slots columns slots found h.1)
     ∙ sym (ap (λ o. cons_option o (columns_at columns slots)) h.0)
 
--- slots of columns that are there
-abbrev AreWithin : ℕ → List ℕ → Type 0
-AreWithin n [] = Unit {0}
-AreWithin n (slot ∷ slots) = (slot < n) × AreWithin n slots
-
 found_column : (columns : List StreamColumn) (slot : ℕ) → slot < length columns → (c : StreamColumn) × (slice_get columns slot ≡ Some c)
 found_column [] _ lt = absurd (omega (arith, lt))
 found_column (c ∷ _) zero _ = (c, refl)
 found_column (c ∷ columns) (suc slot) lt = found_column columns slot (omega (arith, lt))
 
-are_there : (columns : List StreamColumn) (slots : List ℕ) → AreWithin (length columns) slots
+are_there : (columns : List StreamColumn) (slots : List ℕ) → AreBelow (length columns) slots
     → AreAt columns slots (columns_at columns slots)
 are_there _ [] h = tt
 are_there columns (slot ∷ slots) h =
@@ -40,7 +35,7 @@ stands_within (c ∷ _) zero _ h = omega arith
 stands_within (c ∷ columns) (suc slot) id h = omega (arith, stands_within columns slot id h.1)
 
 slots_within : (columns : List StreamColumn) (ids slots : List ℕ) → HasSlots (column_names columns) ids slots
-    → AreWithin (length columns) slots
+    → AreBelow (length columns) slots
 slots_within _ [] [] h = tt
 slots_within _ [] (_ ∷ _) h = absurd h
 slots_within _ (_ ∷ _) [] h = absurd h
@@ -62,7 +57,7 @@ others_are {names} (of_named {slot} {column} {rest} {slots} h more) = go (is_amo
         → slots ≡ cond b (others_from (slot + 1) names rest) (slot ∷ others_from (slot + 1) names rest)
     go true _ same = same
     go false is _ = absurd (h (among_new _ _ is))
-others_are {names} (of_other {slot} {column} {rest} h more) = ap (λ z. slot ∷ z) (others_are more)
+others_are {names} (of_other {slot} {rest} h more) = ap (λ z. slot ∷ z) (others_are more)
     ∙ sym (ap (λ b. cond b (others_from (slot + 1) names rest) (slot ∷ others_from (slot + 1) names rest)) (new_among _ _ h))
 
 others_found : (names : List ℕ) (slot : ℕ) (columns : List StreamColumn) → AreOthers names slot columns (others_from slot names columns)
@@ -73,13 +68,6 @@ others_found names slot (column ∷ rest) =
     (λ is. rw is (of_named (λ new. let both : true ≡ false = sym is ∙ new_among column.name names new in cc both) h))
     (λ is. rw is (of_other (among_new column.name names is) h))
 
-others_within : (at : ℕ) (names : List ℕ) (columns : List StreamColumn) → AreWithin (at + length columns) (others_from at names columns)
-others_within _ _ [] = tt
-others_within at names (c ∷ columns) =
-    let more : AreWithin (at + length (c ∷ columns)) (others_from (at + 1) names columns) =
-    subst (λ n. AreWithin n (others_from (at + 1) names columns)) (omega arith) (others_within (at + 1) names columns) in
-    by_test (is_among c.name names) (λ is. rw is more) (λ is. rw is (omega arith, more))
-
 -- the columns that a `zip` takes from its second input
 pub record Taken (names : List ℕ) (columns : List StreamColumn) : Type 0 where
   pub new : AreOthers names 0 columns (others_from 0 names columns)
@@ -88,6 +76,5 @@ pub record Taken (names : List ℕ) (columns : List StreamColumn) : Type 0 where
 pub others_taken : {names : List ℕ} {columns : List StreamColumn} → Taken names columns
 others_taken {names} {columns} = record {
   new = others_found names 0 columns;
-  there = are_there columns (others_from 0 names columns) (subst (λ n. AreWithin n (others_from 0 names columns)) (omega arith)
-      (others_within 0 names columns));
+  there = are_there columns (others_from 0 names columns) (others_below names columns);
 }

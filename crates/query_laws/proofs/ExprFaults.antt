@@ -4,10 +4,9 @@ use Rattle.std.proofs.Common.{sym, ap, subst, ◌∙◌, arith}
 use Rattle.query_lang.specs.declared.query.Expr.TheOpen as expr
 use Rattle.query_lang.specs.declared.query.Expr.TheVariants as whole
 use Rattle.query_laws.proofs.Terms.{WrongKind, WrongArity, BadConstant, QueryFault, Span, Op, TypedExpr, Name, Expr, fold-roll-Expr}
-use Rattle.query_laws.proofs.Terms.{ind-Expr, roll-Expr, map-Expr, rolls-Named, rolls-Not, rolls-Binary, rolls-Call, Found, Known, Checked}
-use Rattle.query_laws.proofs.Terms.{collected, is_among, place_from, place_of, slot_at, slot_of, is_operand, is_right_constant, of_two}
-use Rattle.query_laws.proofs.Terms.{call_of, expr_step, expr_checked, condition_of, word_of, Kind, Word, Condition, other_kind}
-use Rattle.query_laws.proofs.Terms.{operand_kind, HasKind, IsNew}
+use Rattle.query_laws.proofs.Terms.{map-Expr, rolls-Named, rolls-Not, rolls-Binary, rolls-Call, Found, Known, Checked, collected, is_among}
+use Rattle.query_laws.proofs.Terms.{place_from, place_of, slot_at, slot_of, is_operand, is_right_constant, of_two, call_of, expr_step}
+use Rattle.query_laws.proofs.Terms.{expr_checked, condition_of, word_of, Kind, Word, Condition, other_kind, operand_kind, HasKind, IsNew}
 use Rattle.query_laws.specs.{Asked.{ExprAsks, of_part, of_name, of_call, of_right, of_second}, Demands.{leftmost, leftmost_step, IsOneOf}}
 use Rattle.query_laws.specs.Demands.{HasPart, Demand, AColumn, Typed, Constant, Tells, first, later, of_not, of_left, of_argument}
 use Rattle.query_laws.specs.Demands as parts
@@ -15,6 +14,7 @@ use Rattle.query_laws.proofs.ExprComplete.{complete, operand, right, kind_condit
 use Rattle.query_laws.proofs.{ExprSound.{kind_of, Each, collected_each, expr_sound}, FaultSteps.{at_span, same_fault, no_fault, not_both}}
 use Rattle.query_laws.proofs.FaultSteps.{by_must, by_next, told, by_collected, broken, broken_at, broken_in, Broken}
 use Rattle.query_laws.proofs.{FoldNames.{new_among, among_new}, Steps.{must_ok, same_ok, found_first, nat_other, by_cond}}
+use Rattle.query_laws.proofs.Layers.{OfExprLayers, of_expr}
 
 -- ---- names
 
@@ -60,7 +60,7 @@ left_step : (columns hidden : List ℕ) (y : expr.Expr-F ((e : Expr) × StandsLe
     → expr_step columns hidden (map-Expr Expr (Checked Found) (expr_checked columns hidden)
     (map-Expr ((e : Expr) × StandsLeft columns hidden e) Expr (λ a. a.0) y)) ≡ Ok found
     → found.at ≡ leftmost_step (map-Expr Expr Span leftmost (map-Expr ((e : Expr) × StandsLeft columns hidden e) Expr (λ a. a.0) y))
-left_step _ _ (expr.Number n _) {found} e = sym (ap (λ (f : Found). f.at) (same_ok _ _ e))
+left_step _ _ (expr.Number n _) e = sym (ap (λ (f : Found). f.at) (same_ok _ _ e))
 left_step columns hidden (expr.Named x) {found} e =
     let first = found_first (slot_of columns hidden x) _ found e in sym (ap (λ (f : Found). f.at) (same_ok _ found first.2))
 left_step columns hidden (expr.Not _ a) {found} e =
@@ -76,11 +76,8 @@ left_step columns hidden (expr.Call op _ args) {found} e =
     call_at op first.0 first.2
 
 pub stands_left : (columns hidden : List ℕ) (e : Expr) → StandsLeft columns hidden e
-stands_left columns hidden = ind-Expr (StandsLeft columns hidden) (λ x y is found e.
-    subst (λ z. expr_step columns hidden (map-Expr Expr (Checked Found) (expr_checked columns hidden) z) ≡ Ok found
-    → found.at ≡ leftmost_step (map-Expr Expr Span leftmost z)) is (left_step _ _ y)
-    (sym (fold-roll-Expr (Checked Found) (expr_step columns hidden) x) ∙ e)
-    ∙ sym (fold-roll-Expr Span leftmost_step x))
+stands_left columns hidden = of_expr (expr_step columns hidden) (λ e c. (found : Found) → c ≡ Ok found → found.at ≡ leftmost e)
+    (λ y found e. left_step columns hidden y e ∙ sym (fold-roll-Expr Span leftmost_step _))
 
 -- ---- what is asked of a part is asked
 
@@ -142,11 +139,11 @@ module _ (columns hidden : List ℕ) (known : List Known) where
 
   -- ---- expressions
 
-  abbrev IsTold : Expr → Type 0
-  IsTold e = (fault : QueryFault) → expr_checked columns hidden e ≡ Err fault → (k : Kind) → ExprBroken k e fault
+  abbrev IsTold : Expr → Checked Found → Type 0
+  IsTold e c = (fault : QueryFault) → c ≡ Err fault → (k : Kind) → ExprBroken k e fault
 
   abbrev Told : Type 0
-  Told = (e : Expr) × IsTold e
+  Told = (e : Expr) × IsTold e (expr_checked columns hidden e)
 
   abbrev exprs : List Told → List Expr
   exprs args = map (λ a. a.0) args
@@ -181,35 +178,30 @@ module _ (columns hidden : List ℕ) (known : List Known) where
   moved : {k : Kind} {e f : Expr} {fault : QueryFault} → f ≡ e → ExprBroken k e fault → ExprBroken k f fault
   moved is h = rw is h
 
-  step : (y : expr.Expr-F Told) {fault : QueryFault}
-      → expr_step columns hidden (map-Expr Expr (Checked Found) (expr_checked columns hidden) (map-Expr Told Expr (λ a. a.0) y)) ≡ Err fault
-      → (k : Kind) → ExprBroken k (roll-Expr (map-Expr Told Expr (λ a. a.0) y)) fault
-  step (expr.Number n _) e k = no_fault e
-  step (expr.Named x) e k = moved (rolls-Named x) (
+  step : OfExprLayers (expr_step columns hidden) IsTold
+  step (expr.Number n _) _ e k = no_fault e
+  step (expr.Named x) _ e k = moved (rolls-Named x) (
       by_next _ e (λ is. broken _ (of_name x parts.whole) (slot_told _ _ x is known)) (λ slot is e. no_fault e))
-  step (expr.Not span a) {fault} e k = moved (rolls-Not span a.0) (
+  step (expr.Not span a) fault e k = moved (rolls-Not span a.0) (
       let inside = of_not _ parts.whole in
       by_next _ e (λ is. broken_through inside (a.1 fault is Condition)) (λ x is e.
       by_must _ _ e (λ no same. broken _ (of_part inside) (kind_told _ is same (λ kind. not_both _ no (kind_condition _ kind))))
       (λ yes e. no_fault e)))
-  step (expr.Binary op span a b) {fault} e k = moved (rolls-Binary op span a.0 b.0) (
+  step (expr.Binary op span a b) fault e k = moved (rolls-Binary op span a.0 b.0) (
       let left = of_left _ _ _ _ parts.whole in
       let second = parts.of_right _ _ _ parts.whole in
       by_next _ e (λ is. broken_through left (a.1 fault is (operand_kind op))) (λ x p e.
       by_next _ e (λ is. broken_through second (b.1 fault is (operand_kind op))) (λ y q e.
       two_told _ p q (of_part left) (of_part second) (of_right _ _ parts.whole) e)))
-  step (expr.Call op span args) e k = moved (rolls-Call op span (exprs args)) (
+  step (expr.Call op span args) _ e k = moved (rolls-Call op span (exprs args)) (
       by_next _ e (λ is.
       let m = argument_told _ _ is in
       broken_through (of_argument _ _ m.1 parts.whole) (m.2 (operand_kind op))) (λ fs is e.
       let all = collected_each _ _ _ _ is in
       call_told _ _ all.2 (ap (call_of op span) (sym all.1) ∙ e)))
 
-  expr_told : (e : Expr) → IsTold e
-  expr_told = ind-Expr IsTold (λ x y is fault e k.
-      subst (λ z. expr_step columns hidden (map-Expr Expr (Checked Found) (expr_checked columns hidden) z) ≡ Err fault → (l : Kind)
-      → ExprBroken l (roll-Expr z) fault) is (step y)
-      (sym (fold-roll-Expr (Checked Found) (expr_step columns hidden) x) ∙ e) k)
+  expr_told : (e : Expr) → IsTold e (expr_checked columns hidden e)
+  expr_told = of_expr (expr_step columns hidden) IsTold step
 
   pub condition_told : {e : Expr} {fault : QueryFault} → condition_of columns hidden e ≡ Err fault → ExprBroken Condition e fault
   condition_told {e} {fault} is = by_next _ is (λ is. expr_told e fault is Condition) (λ x p is.

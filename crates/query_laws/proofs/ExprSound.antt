@@ -5,13 +5,12 @@ use Rattle.query_lang.specs.declared.fold.TypedExpr.TheVariants as typed
 use Rattle.query_lang.specs.declared.query.Expr.TheOpen as expr
 use Rattle.query_lang.specs.declared.query.Expr.TheVariants as whole
 use Rattle.query_lang.specs.declared.typing.Sort.TheVariants as sort
-use Rattle.query_laws.proofs.Terms.{Span, Op, Div, Rem, Shl, Shr, Decay, Both, Either, TypedExpr, Name, Expr, fold-roll-Expr, ind-Expr}
-use Rattle.query_laws.proofs.Terms.{roll-Expr, map-Expr, rolls-Number, rolls-Named, rolls-Not, rolls-Binary, rolls-Call, Found, Sort}
-use Rattle.query_laws.proofs.Terms.{Checked, collected, is_among, slot_at, slot_of, is_condition_sort, is_operand, is_number_with}
-use Rattle.query_laws.proofs.Terms.{is_right_constant, sort_of, of_two, call_of, expr_step, expr_checked, condition_of, word_of, Kind, Word}
-use Rattle.query_laws.proofs.Terms.{Condition, StandsAt, operand_kind, result_kind, IsNumberWith, gives_condition, IsRightOperand, HasKind}
-use Rattle.query_laws.proofs.Terms.{of_number, of_name, of_not, of_binary, of_call}
-use Rattle.query_laws.proofs.Steps.{must_ok, same_ok, found_first, place_stands, collected_first}
+use Rattle.query_laws.proofs.Terms.{Span, Op, Div, Rem, Shl, Shr, Decay, Both, Either, TypedExpr, Name, Expr, rolls-Number, rolls-Named}
+use Rattle.query_laws.proofs.Terms.{rolls-Not, rolls-Binary, rolls-Call, Found, Sort, Checked, collected, is_among, slot_at, slot_of}
+use Rattle.query_laws.proofs.Terms.{is_condition_sort, is_operand, is_number_with, is_right_constant, sort_of, of_two, call_of, expr_step}
+use Rattle.query_laws.proofs.Terms.{expr_checked, condition_of, word_of, Kind, Word, Condition, StandsAt, operand_kind, result_kind}
+use Rattle.query_laws.proofs.Terms.{IsNumberWith, gives_condition, IsRightOperand, HasKind, of_number, of_name, of_not, of_binary, of_call}
+use Rattle.query_laws.proofs.{Steps.{must_ok, same_ok, found_first, place_stands, collected_first}, Layers.{OfExprLayers, of_expr}}
 
 abbrev pub kind_of : Sort → Kind
 kind_of (sort.Number n) = Word
@@ -87,7 +86,7 @@ pub record Operands (columns : List ℕ) (op : Op) (a b : Expr) (x y found : Fou
 
 pub two : {columns : List ℕ} {op : Op} (at : Span) {a b : Expr} {x y found : Found} → IsTyped columns a x → IsTyped columns b y
     → of_two op at x y ≡ Ok found → Operands columns op a b x y found
-two {columns} {op} _ {a} {b} {x} {y} {found} va vb e =
+two {columns} _ {a} {b} {x} {y} va vb e =
     let one = must_ok _ _ _ e in
     let two = must_ok _ _ _ one.1 in
     let three = must_ok _ _ _ two.1 in
@@ -107,19 +106,11 @@ ruled : {columns : List ℕ} {k l : Kind} {e f : Expr} {s t : TypedExpr} → k �
 ruled {columns} {l} {e} {f} {s} p q r h =
     subst (λ z. HasKind columns l f z) r (subst (λ z. HasKind columns l z s) q (subst (λ z. HasKind columns z e s) p h))
 
-abbrev IsSound : List ℕ → List ℕ → Expr → Type 0
-IsSound columns hidden e = (found : Found) → expr_checked columns hidden e ≡ Ok found → IsTyped columns e found
+abbrev IsSound : List ℕ → Expr → Checked Found → Type 0
+IsSound columns e c = (found : Found) → c ≡ Ok found → IsTyped columns e found
 
 abbrev Sound : List ℕ → List ℕ → Type 0
-Sound columns hidden = (e : Expr) × IsSound columns hidden e
-
-abbrev IsSoundLayer : List ℕ → List ℕ → expr.Expr-F Expr → Type 0
-IsSoundLayer columns hidden x = (found : Found) → expr_step columns hidden (map-Expr Expr (Checked Found) (expr_checked columns hidden) x)
-    ≡ Ok found → IsTyped columns (roll-Expr x) found
-
-of_layer : {columns : List ℕ} (hidden : List ℕ) (x : expr.Expr-F Expr) → IsSoundLayer columns hidden x
-    → IsSound columns hidden (roll-Expr x)
-of_layer {columns} hidden x layer found e = layer found (sym (fold-roll-Expr (Checked Found) (expr_step columns hidden) x) ∙ e)
+Sound columns hidden = (e : Expr) × IsSound columns e (expr_checked columns hidden e)
 
 -- each of some expressions gives what was collected of it
 abbrev pub Each : (columns hidden : List ℕ) → List Expr → List Found → Type 0
@@ -131,7 +122,7 @@ Each columns hidden (e ∷ es) (f ∷ fs) = (expr_checked columns hidden e ≡ O
 pub collected_each : (columns hidden : List ℕ) (es : List Expr) (before : List Found) {all : List Found}
     → collected before (map (expr_checked columns hidden) es) ≡ Ok all
     → (rest : List Found) × (all ≡ before ++ rest) × Each columns hidden es rest
-collected_each _ _ [] before {all} e = ([], sym (same_ok _ _ e) ∙ sym (append-nil before), tt)
+collected_each _ _ [] before e = ([], sym (same_ok _ _ e) ∙ sym (append-nil before), tt)
 collected_each columns hidden (a ∷ es) before e =
     let first = collected_first before (expr_checked columns hidden a) _ e in
     let more = collected_each columns hidden es (before ++ first.0 ∷ []) first.2 in
@@ -156,8 +147,7 @@ call _ (a ∷ b ∷ c ∷ _) (f ∷ g ∷ h ∷ _) _ e = cc e
 moved : {columns : List ℕ} {e f : Expr} {found : Found} → f ≡ e → IsTyped columns e found → IsTyped columns f found
 moved {columns} {found} is h = subst (λ z. IsTyped columns z found) (sym is) h
 
-step : {columns : List ℕ} (hidden : List ℕ) (y : expr.Expr-F (Sound columns hidden))
-    → IsSoundLayer columns hidden (map-Expr (Sound columns hidden) Expr (λ a. a.0) y)
+step : {columns : List ℕ} (hidden : List ℕ) → OfExprLayers (expr_step columns hidden) (IsSound columns)
 step {columns} _ (expr.Number n span) _ e =
     moved (rolls-Number n span) (subst (λ z. IsTyped columns (whole.Number n span) z) (same_ok _ _ e)
     (record { rule = of_number span; number = (span, refl) }))
@@ -172,7 +162,7 @@ step {columns} _ (expr.Not span a) _ e =
       rule = of_not span (subst (λ k. HasKind columns k a.0 first.0.tree) (condition_kind _ one.0) (a.1 first.0 first.1).rule);
       number = tt;
     }))
-step {columns} _ (expr.Binary op span a b) _ e =
+step _ (expr.Binary op span a b) _ e =
     let first = found_first _ _ _ e in
     let second = found_first _ _ _ first.2 in
     let v = two _ (a.1 first.0 first.1) (b.1 second.0 second.1) second.2 in
@@ -180,25 +170,24 @@ step {columns} _ (expr.Binary op span a b) _ e =
       rule = ruled v.kind refl v.tree (of_binary span v.first v.second v.constant);
       number = v.number _;
     })
-step {columns} _ (expr.Call op span args) _ e =
+step _ (expr.Call op span args) _ e =
     let first = found_first _ _ _ e in
     let all = collected_each _ _ _ _ first.1 in
     moved (rolls-Call op span (map (λ a. a.0) args)) (call _ _ _ all.2 (ap (call_of op span) (sym all.1) ∙ first.2))
 
-pub expr_sound : {columns : List ℕ} (hidden : List ℕ) (e : Expr) → IsSound columns hidden e
-expr_sound {columns} hidden = ind-Expr (IsSound columns hidden) (λ x y is.
-    of_layer _ x (subst (λ z. IsSoundLayer columns hidden z) is (step _ y)))
+pub expr_sound : {columns : List ℕ} (hidden : List ℕ) (e : Expr) → IsSound columns e (expr_checked columns hidden e)
+expr_sound {columns} hidden = of_expr (expr_step columns hidden) (IsSound columns) (step hidden)
 
 pub condition_sound : {columns : List ℕ} (hidden : List ℕ) {e : Expr} {tree : TypedExpr} → condition_of columns hidden e ≡ Ok tree
     → HasKind columns Condition e tree
-condition_sound {columns} _ {e} {tree} is =
+condition_sound _ {e} is =
     let first = found_first _ _ _ is in
     let test = must_ok _ _ _ first.2 in
     ruled (condition_kind _ test.0) refl (same_ok _ _ test.1) (expr_sound _ e first.0 first.1).rule
 
 pub word_sound : {columns : List ℕ} (hidden : List ℕ) {e : Expr} {tree : TypedExpr} → word_of columns hidden e ≡ Ok tree
     → HasKind columns Word e tree
-word_sound {columns} _ {e} {tree} is =
+word_sound _ {e} is =
     let first = found_first _ _ _ is in
     let test = must_ok _ _ _ first.2 in
     ruled (word_kind _ test.0) refl (same_ok _ _ test.1) (expr_sound _ e first.0 first.1).rule

@@ -39,7 +39,7 @@ same_complete {xs} e = subst (λ z. pointwise nat_eq xs z ≡ true) e (same_refl
 
 filter_sound : {groups : ℕ} (earlier : Earlier) {input : Name} {e : Expr} {made : MadeFinal} → final_filter groups earlier input e ≡ Ok made
     → OfFilter groups earlier.known input e made
-filter_sound _ {input} {e} {made} is =
+filter_sound _ is =
     let source = found_first _ _ _ is in
     let c = found_first _ _ _ source.2 in
     record {
@@ -52,7 +52,7 @@ filter_sound _ {input} {e} {made} is =
 
 filter_complete : {groups : ℕ} (earlier : Earlier) {input : Name} {e : Expr} {made : MadeFinal} → OfFilter groups earlier.known input e made
     → final_filter groups earlier input e ≡ Ok made
-filter_complete _ {input} h = then_next _ (table_complete _ _ h.table) ∙ then_next _ (condition_complete [] h.typed) ∙ ok (sym h.is)
+filter_complete _ h = then_next _ (table_complete _ _ h.table) ∙ then_next _ (condition_complete [] h.typed) ∙ ok (sym h.is)
 
 abbrev maps_to : ℕ → TableView → NewColumns → MadeFinal
 maps_to groups source made = record {
@@ -126,7 +126,7 @@ group_complete given earlier {input} {keys} {fold_name} h =
 
 join_sound : {groups : ℕ} (earlier : Earlier) {first second : Name} {made : MadeFinal} → final_join groups earlier first second ≡ Ok made
     → OfJoin groups earlier.known first second made
-join_sound _ {first} {second} {made} is =
+join_sound _ is =
     let left = found_first _ _ _ is in
     let right = found_first _ _ _ left.2 in
     let one = must_ok _ _ _ right.2 in
@@ -143,7 +143,7 @@ join_sound _ {first} {second} {made} is =
 
 join_complete : {groups : ℕ} (earlier : Earlier) {first second : Name} {made : MadeFinal} → OfJoin groups earlier.known first second made
     → final_join groups earlier first second ≡ Ok made
-join_complete _ {first} {second} h = then_next _ (table_complete _ _ h.one)
+join_complete _ h = then_next _ (table_complete _ _ h.one)
     ∙ then_next _ (table_complete _ _ h.other) ∙ must_holds _ _ (same_complete h.keys)
     ∙ must_not_holds _ _ (apart_complete _ _ h.apart) ∙ ok (sym h.is)
 
@@ -152,7 +152,7 @@ at_most h = grind arith
 
 top_sound : {groups : ℕ} (earlier : Earlier) {input column : Name} {kept : ℕ} (span : Span) {made : MadeFinal}
     → final_top groups earlier input column kept span ≡ Ok made → OfTop groups earlier.known input column kept made
-top_sound _ {input} {column} {kept} _ {made} is =
+top_sound _ {column} {kept} _ is =
     let source = found_first _ _ _ is in
     let slot = found_first _ _ _ source.2 in
     let one = must_ok _ _ _ slot.2 in

@@ -1,42 +1,40 @@
 -- How many nodes and statements the examples' statements have.
-use Rattle.std.proofs.Common.{◌≡◌, ℕ, ◌+◌, List, [], ◌∷◌, map, refl, sym, ap, ◌∙◌}
+use Rattle.std.proofs.Common.{◌≡◌, ℕ, ◌+◌, List, [], ◌∷◌, map, refl, ap, ◌∙◌}
 use Rattle.std.specs.Prelude.{sum}
-use Rattle.query_lang.specs.declared.query.Expr.TheOpen as expr
 use Rattle.query_lang.specs.declared.query.Expr.TheVariants.{Number, Named, Binary, rolls-Number, rolls-Named, rolls-Binary}
-use Rattle.query_lang.specs.declared.query.Stmt.TheOpen as stmt
-use Rattle.query_laws.proofs.Terms.{Op, Expr, fold-roll-Expr, Name, Stmt, fold-roll-Stmt, Assign, If, Emit, rolls-Assign, rolls-If}
-use Rattle.query_laws.proofs.Terms.{rolls-Emit, expr_nodes, nodes_step, stmt_nodes, stmt_nodes_step, stmt_count, count_step, fold_nodes}
-use Rattle.query_laws.proofs.Terms.{fold_statements}
+use Rattle.query_laws.proofs.Terms.{Op, Expr, Name, Stmt, Assign, If, Emit, rolls-Assign, rolls-If, rolls-Emit, expr_nodes, nodes_step}
+use Rattle.query_laws.proofs.Terms.{stmt_nodes, stmt_nodes_step, stmt_count, count_step, fold_nodes, fold_statements}
+use Rattle.query_laws.proofs.Layers.{expr_at, stmt_at}
 use Rattle.query_laws.specs.{TypingExamples.here, FoldExamples.{a_fold, one_more, on_state, on_argument, below_9}}
 
 -- ---- each form
 
 node_number : (n : ℕ) → expr_nodes (Number n here) ≡ 1
-node_number n = ap expr_nodes (sym (rolls-Number n here)) ∙ fold-roll-Expr ℕ nodes_step (expr.Number n here)
+node_number n = expr_at nodes_step _ (rolls-Number n here)
 
 node_named : (x : Name) → expr_nodes (Named x) ≡ 1
-node_named x = ap expr_nodes (sym (rolls-Named x)) ∙ fold-roll-Expr ℕ nodes_step (expr.Named x)
+node_named x = expr_at nodes_step _ (rolls-Named x)
 
 node_binary : (op : Op) (a b : Expr) → expr_nodes (Binary op here a b) ≡ 1 + expr_nodes a + expr_nodes b
-node_binary op a b = ap expr_nodes (sym (rolls-Binary op here a b)) ∙ fold-roll-Expr ℕ nodes_step (expr.Binary op here a b)
+node_binary op a b = expr_at nodes_step _ (rolls-Binary op here a b)
 
 nodes_assign : (x : Name) (e : Expr) → stmt_nodes (Assign x e) ≡ expr_nodes e
-nodes_assign x e = ap stmt_nodes (sym (rolls-Assign x e)) ∙ fold-roll-Stmt ℕ stmt_nodes_step (stmt.Assign x e)
+nodes_assign x e = stmt_at stmt_nodes_step _ (rolls-Assign x e)
 
 nodes_if : (c : Expr) (a b : List Stmt) → stmt_nodes (If c a b) ≡ expr_nodes c + sum (map stmt_nodes a) + sum (map stmt_nodes b)
-nodes_if c a b = ap stmt_nodes (sym (rolls-If c a b)) ∙ fold-roll-Stmt ℕ stmt_nodes_step (stmt.If c a b)
+nodes_if c a b = stmt_at stmt_nodes_step _ (rolls-If c a b)
 
 nodes_emit : stmt_nodes (Emit here) ≡ 0
-nodes_emit = ap stmt_nodes (sym (rolls-Emit here)) ∙ fold-roll-Stmt ℕ stmt_nodes_step (stmt.Emit here)
+nodes_emit = stmt_at stmt_nodes_step _ (rolls-Emit here)
 
 count_assign : (x : Name) (e : Expr) → stmt_count (Assign x e) ≡ 1
-count_assign x e = ap stmt_count (sym (rolls-Assign x e)) ∙ fold-roll-Stmt ℕ count_step (stmt.Assign x e)
+count_assign x e = stmt_at count_step _ (rolls-Assign x e)
 
 count_if : (c : Expr) (a b : List Stmt) → stmt_count (If c a b) ≡ 1 + sum (map stmt_count a) + sum (map stmt_count b)
-count_if c a b = ap stmt_count (sym (rolls-If c a b)) ∙ fold-roll-Stmt ℕ count_step (stmt.If c a b)
+count_if c a b = stmt_at count_step _ (rolls-If c a b)
 
 count_emit : stmt_count (Emit here) ≡ 1
-count_emit = ap stmt_count (sym (rolls-Emit here)) ∙ fold-roll-Stmt ℕ count_step (stmt.Emit here)
+count_emit = stmt_at count_step _ (rolls-Emit here)
 
 -- ---- the parts of the examples
 

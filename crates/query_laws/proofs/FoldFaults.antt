@@ -23,7 +23,7 @@ states_long (x ∷ front) = ap suc (states_long front)
 states_told : {d : FoldDef} (front ss : List StateVar) {found : List ℕ} {known : List Known} {fault : QueryFault}
     → d.states ≡ front ++ ss → found ≡ ids front → states_from found ss ≡ Err fault → Broken (FoldAsks d) known fault
 states_told _ [] _ _ e = no_fault e
-states_told front (s ∷ ss) {found} {known} split same e = by_must_not (is_among s.name.id found) e
+states_told front (s ∷ ss) {found} split same e = by_must_not (is_among s.name.id found) e
     (λ among at. broken_at _ (of_state front s ss split) at (
       refl,
       λ fresh. not_new s.name.id found among
@@ -36,7 +36,7 @@ states_told front (s ∷ ss) {found} {known} split same e = by_must_not (is_amon
 args_told : {d : FoldDef} (front args : List Name) {found : List ℕ} {known : List Known} {fault : QueryFault}
     → d.args ≡ front ++ args → found ≡ ids_of front → args_from (state_names_of d) found args ≡ Err fault → Broken (FoldAsks d) known fault
 args_told _ [] _ _ e = no_fault e
-args_told {d} front (a ∷ args) {found} {known} split same e =
+args_told {d} front (a ∷ args) {found} split same e =
     by_must_not (is_among a.id (state_names_of d) || is_among a.id found) e (λ among at. broken_at _ (of_arg front a args split) at (
       refl,
       λ fresh. not_new a.id (state_names_of d ++ found) (among_append a.id (state_names_of d) found ∙ among)
@@ -50,7 +50,7 @@ statements_told : {d : FoldDef} {known : List Known} {fault : QueryFault}
     → BlockTold (state_names_of d) (arg_names_of d) [] d.body false known fault → Broken (FoldAsks d) known fault
 statements_told (at_statement h b) = broken_in (λ q asked. of_statement h asked) b
 statements_told (second _ e h has) = cc has
-statements_told {d} {known} (follows e h) = broken_at _ of_emits e h
+statements_told (follows e h) = broken_at _ of_emits e h
 
 pub fold_faults : {d : FoldDef} {known : List Known} {fault : QueryFault} → fold_checked d ≡ Err fault → Broken (FoldAsks d) known fault
 fold_faults {d} {known} {fault} e = by_next (states_from [] d.states) e (λ is. states_told [] d.states refl refl is) (λ states p e.

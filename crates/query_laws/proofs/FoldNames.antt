@@ -3,14 +3,14 @@ use Rattle.std.proofs.Common.{◌≡◌, ℕ, zero, suc, ◌+◌, ◌<◌, ◌�
 use Rattle.std.proofs.Common.{Some, None, Ok, nat_eq, nat_lt, refl, sym, ap, subst, ◌∙◌, append_assoc, append-nil, arith}
 use Rattle.std.proofs.lemmas.{Bool.{ltb-true, or_parts}, List.length-append}
 use Rattle.query_lang.specs.declared.fold.TypedExpr.TheVariants as typed
-use Rattle.query_lang.specs.declared.query.Expr.TheOpen as expr
 use Rattle.query_lang.specs.declared.query.Expr.TheVariants as whole
 use Rattle.query_lang.proofs.TreeLemmas.{term_number, term_slot, term_not, term_binary}
-use Rattle.query_laws.proofs.Terms.{Span, Op, TypedExpr, Name, StateVar, Expr, fold-roll-Expr, rolls-Number, rolls-Named, rolls-Not}
-use Rattle.query_laws.proofs.Terms.{rolls-Binary, rolls-Call, Term, term_of, ReadsArguments, Checked, is_among, states_from, args_from}
-use Rattle.query_laws.proofs.Terms.{or_else, state_step, state_in, MAX_ARGS, MAX_STATES, Kind, StandsAt, HasKind, of_number, of_name}
-use Rattle.query_laws.proofs.Terms.{of_not, of_binary, of_call, IsNew, AreNew}
+use Rattle.query_laws.proofs.Terms.{Span, Op, TypedExpr, Name, StateVar, Expr, rolls-Number, rolls-Named, rolls-Not, rolls-Binary}
+use Rattle.query_laws.proofs.Terms.{rolls-Call, Term, term_of, ReadsArguments, Checked, is_among, states_from, args_from, or_else}
+use Rattle.query_laws.proofs.Terms.{state_step, state_in, MAX_ARGS, MAX_STATES, Kind, StandsAt, HasKind, of_number, of_name, of_not}
+use Rattle.query_laws.proofs.Terms.{of_binary, of_call, IsNew, AreNew}
 use Rattle.query_laws.proofs.Steps.{must_ok, must_not_ok, must_holds, must_not_holds, same_ok, nat_other, nat_is, nat_is_not, by_test}
+use Rattle.query_laws.proofs.Layers.{expr_at}
 
 -- ---- new names
 
@@ -34,7 +34,7 @@ ids ss = map (λ s. s.name.id) ss
 
 pub states_sound : (ss : List StateVar) (found : List ℕ) {all : List ℕ} → length found ≤ MAX_STATES → states_from found ss ≡ Ok all
     → (all ≡ found ++ ids ss) × AreNew found (ids ss) × (length found + length ss ≤ MAX_STATES)
-states_sound [] found {all} h e = (sym (same_ok _ _ e) ∙ sym (append-nil found), tt, omega (arith, h))
+states_sound [] found h e = (sym (same_ok _ _ e) ∙ sym (append-nil found), tt, omega (arith, h))
 states_sound (s ∷ ss) found h e =
     let one = must_not_ok _ _ _ e in
     let two = must_ok _ _ _ one.1 in
@@ -57,7 +57,7 @@ arg_ids more = map (λ a. a.id) more
 pub args_sound : (states : List ℕ) (more : List Name) (found : List ℕ) {all : List ℕ} → length found ≤ MAX_ARGS
     → args_from states found more ≡ Ok all
     → (all ≡ found ++ arg_ids more) × AreNew (states ++ found) (arg_ids more) × (length found + length more ≤ MAX_ARGS)
-args_sound _ [] found {all} h e = (sym (same_ok _ _ e) ∙ sym (append-nil found), tt, omega (arith, h))
+args_sound _ [] found h e = (sym (same_ok _ _ e) ∙ sym (append-nil found), tt, omega (arith, h))
 args_sound states (a ∷ more) found h e =
     let one = must_not_ok _ _ _ e in
     let two = must_ok _ _ _ one.1 in
@@ -103,24 +103,21 @@ stands_past (s ∷ states) args (suc slot) id e =
     (λ h. let k = m.0 (sym is ∙ h) in omega (arith, k), λ h. is ∙ m.1 (omega (arith, h)))
 
 in_number : (states : List ℕ) (n : ℕ) (span : Span) → state_in states (whole.Number n span) ≡ None
-in_number states n span = ap (state_in states) (sym (rolls-Number n span))
-    ∙ fold-roll-Expr (Option Span) (state_step states) (expr.Number n span)
+in_number states n span = expr_at (state_step states) _ (rolls-Number n span)
 
 pub in_named : (states : List ℕ) (x : Name) → state_in states (whole.Named x) ≡ cond (is_among x.id states) (Some x.span) None
-in_named states x = ap (state_in states) (sym (rolls-Named x)) ∙ fold-roll-Expr (Option Span) (state_step states) (expr.Named x)
+in_named states x = expr_at (state_step states) _ (rolls-Named x)
 
 pub in_not : (states : List ℕ) (span : Span) (e : Expr) → state_in states (whole.Not span e) ≡ state_in states e
-in_not states span e = ap (state_in states) (sym (rolls-Not span e)) ∙ fold-roll-Expr (Option Span) (state_step states) (expr.Not span e)
+in_not states span e = expr_at (state_step states) _ (rolls-Not span e)
 
 pub in_binary : (states : List ℕ) (op : Op) (span : Span) (a b : Expr)
     → state_in states (whole.Binary op span a b) ≡ or_else (state_in states a) (state_in states b)
-in_binary states op span a b = ap (state_in states) (sym (rolls-Binary op span a b))
-    ∙ fold-roll-Expr (Option Span) (state_step states) (expr.Binary op span a b)
+in_binary states op span a b = expr_at (state_step states) _ (rolls-Binary op span a b)
 
 in_call : (states : List ℕ) (op : Op) (span : Span) (a b : Expr)
     → state_in states (whole.Call op span (a ∷ b ∷ [])) ≡ or_else (state_in states a) (state_in states b)
-in_call states op span a b = ap (state_in states) (sym (rolls-Call op span (a ∷ b ∷ [])))
-    ∙ fold-roll-Expr (Option Span) (state_step states) (expr.Call op span (a ∷ b ∷ [])) ∙ ap (or_else (state_in states a)) (last _)
+in_call states op span a b = expr_at (state_step states) _ (rolls-Call op span (a ∷ b ∷ [])) ∙ ap (or_else (state_in states a)) (last _)
   where
     last : (o : Option Span) → or_else o None ≡ o
     last None = refl
@@ -146,14 +143,14 @@ reads_both {op = op} {s = s} {t} is m n = record {
 }
 
 pub reads : {states : List ℕ} (args : List ℕ) {k : Kind} {e : Expr} {t : TypedExpr} → HasKind (states ++ args) k e t → Reads states e t
-reads {states} _ (of_number {n} _) = record { past = λ h. turned _ (sym (term_number n)) tt; none = λ h. in_number _ n _ }
-reads {states} _ (of_name x {slot} stands) =
+reads _ (of_number {n} _) = record { past = λ h. turned _ (sym (term_number n)) tt; none = λ h. in_number _ n _ }
+reads _ (of_name x {slot} stands) =
     let m = stands_past _ _ _ _ stands in
     record {
       past = λ h. turned _ (sym (term_slot slot)) (m.0 (no_span _ _ (sym (in_named _ x) ∙ h)));
       none = λ h. in_named _ x ∙ ap (λ b. cond b (Some x.span) None) (m.1 (turned _ (term_slot slot) h));
     }
-reads {states} _ (of_not _ {e} {t} h) =
+reads _ (of_not _ {e} {t} h) =
     let m = reads _ h in
     record {
       past = λ k. turned _ (sym (term_not t)) (m.past (sym (in_not _ _ e) ∙ k));

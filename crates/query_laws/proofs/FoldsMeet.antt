@@ -1,16 +1,14 @@
 -- What a fold asks is so where it is typed.
-use Rattle.std.proofs.Common.{◌≡◌, ℕ, true, false, List, [], ◌∷◌, ◌++◌, map, Option, None, Ok, refl, sym, ap, subst, ◌∙◌}
+use Rattle.std.proofs.Common.{◌≡◌, ℕ, true, false, List, [], ◌∷◌, ◌++◌, map, None, Ok, refl, sym, ap, subst, ◌∙◌}
 use Rattle.std.specs.Prelude.{is_some}
 use Rattle.query_lang.specs.declared.fold.TypedExpr.TheVariants as typed
-use Rattle.query_lang.specs.declared.query.Expr.TheOpen as expr
 use Rattle.query_lang.specs.declared.query.Expr.TheVariants as whole
 use Rattle.query_lang.specs.declared.query.Stmt.TheOpen as stmt
 use Rattle.query_lang.specs.declared.query.Stmt.TheVariants as block
-use Rattle.query_laws.proofs.Terms.{Span, TypedExpr, TypedFold, Expr, fold-roll-Expr, rolls-Call, FoldDef, Name, StateVar, Stmt}
-use Rattle.query_laws.proofs.Terms.{fold-roll-Stmt, ind-Stmt, map-Stmt, rolls-Assign, rolls-If, rolls-Emit, Body, Enclosing, Known}
-use Rattle.query_laws.proofs.Terms.{and_then, condition_of, word_of, target_of, first_of, state_step, state_in, inside, Adding, in_order}
-use Rattle.query_laws.proofs.Terms.{stmt_step, stmt_checked, HasPart, StandsInside, StandsIn, FollowsEmit, Demand, Holds, Kind, IsNew}
-use Rattle.query_laws.proofs.Terms.{AreNew, HasFold, state_names_of, arg_names_of}
+use Rattle.query_laws.proofs.Terms.{Span, TypedExpr, TypedFold, Expr, rolls-Call, FoldDef, Name, StateVar, Stmt, rolls-Assign, rolls-If}
+use Rattle.query_laws.proofs.Terms.{rolls-Emit, Body, Enclosing, Known, and_then, condition_of, word_of, target_of, first_of, state_step}
+use Rattle.query_laws.proofs.Terms.{state_in, inside, Adding, in_order, stmt_step, stmt_checked, HasPart, StandsInside, StandsIn}
+use Rattle.query_laws.proofs.Terms.{FollowsEmit, Demand, Holds, Kind, IsNew, AreNew, HasFold, state_names_of, arg_names_of}
 use Rattle.query_laws.specs.Asked.{StmtAsks, of_target, of_value, of_condition, of_emit, FoldAsks, of_state, of_states, of_arg, of_args}
 use Rattle.query_laws.specs.Asked.{of_statement, of_emits}
 use Rattle.query_laws.specs.Demands as parts
@@ -18,7 +16,7 @@ use Rattle.query_laws.proofs.{Blocks.{stmt_is, target_stands, no_state_ok, block
 use Rattle.query_laws.proofs.{FaultSteps.not_both, FoldLaws.nothing_around}
 use Rattle.query_laws.proofs.FoldNames.{among_new, neither, in_named, in_not, in_binary, no_span}
 use Rattle.query_laws.proofs.Meets.{EachIs, one_is, expr_meets, new_at, names_new, few_before}
-use Rattle.query_laws.proofs.Steps.{must_not_ok, same_ok, found_first, by_test}
+use Rattle.query_laws.proofs.{Steps.{must_not_ok, same_ok, found_first, by_test}, Layers.{OfStmtLayers, of_stmt, expr_at}}
 
 -- ---- conditions without state variables
 
@@ -33,9 +31,9 @@ part_none _ parts.whole is = is
 part_none _ (parts.of_not _ {e} p) is = part_none _ p (sym (in_not _ _ e) ∙ is)
 part_none _ (parts.of_left _ _ a b p) is = part_none _ p (neither _ (sym (in_binary _ _ _ a b) ∙ is)).0
 part_none _ (parts.of_right _ _ a {b} p) is = part_none _ p (neither _ (sym (in_binary _ _ _ a b) ∙ is)).1
-part_none states (parts.of_argument op span {arguments = es} {a} {l} {part} i p) is =
+part_none states (parts.of_argument op span {arguments = es} i p) is =
     let call : state_in states (whole.Call op span es) ≡ first_of (map (state_in states) es) =
-    ap (state_in states) (sym (rolls-Call op span es)) ∙ fold-roll-Expr (Option Span) (state_step states) (expr.Call op span es) in
+    expr_at (state_step states) _ (rolls-Call op span es) in
     part_none _ p (one_is _ i (first_none _ _ (sym call ∙ is)))
 
 none_inside : (states : List ℕ) {e : Expr} → state_in states e ≡ None → (x : Name) → StandsInside x e → IsNew x.id states
@@ -71,7 +69,7 @@ module _ (states args : List ℕ) where
 
   if_of : {c : Expr} {a b : List Stmt} {outer : Enclosing} {found made : Body}
       → stmt_checked states args (block.If c a b) outer found ≡ Ok made → IfParts c a b outer found made
-  if_of {c} {a} {b} {outer} {found} {made} e =
+  if_of {c} {a} {b} e =
       let is = sym (stmt_is _ _ _ (rolls-If c a b) _ _) ∙ e in
       let condition = found_first _ _ _ is in
       let one = found_first _ _ _ condition.2 in
@@ -89,16 +87,16 @@ module _ (states args : List ℕ) where
   at_statement : {before : List Expr} {ss : List Stmt} {around : List Expr} {s : Stmt} → StandsIn before ss around s
       → (outer : Enclosing) (found : Body) {made : Body}
       → Clean before outer → in_order (map (stmt_checked states args) ss) outer found ≡ Ok made → AtStatement around s
-  at_statement (parts.first {s}) outer found {made} clean e =
+  at_statement (parts.first) outer found {made} clean e =
       let f = found_first _ _ _ e in
       record { outer = outer; found = found; made = f.0; clean = clean; is = f.1 }
   at_statement (parts.later {other} h) outer found {made} clean e =
       let f = found_first (stmt_checked states args other outer found) _ made e in at_statement h outer f.0 clean f.2
-  at_statement (parts.in_first {outer = before} {c} a b _ {around} {s} h) outer _ {made} clean e =
+  at_statement (parts.in_first {c} a b _ h) outer _ clean e =
       let f = found_first _ _ _ e in
       let i = if_of f.1 in
       at_statement h _ _ (clean_inside _ outer c i.t clean) i.first
-  at_statement (parts.in_second {outer = before} {c} a {b} {rest} {around} {s} h) outer _ {made} clean e =
+  at_statement (parts.in_second {c} a h) outer _ clean e =
       let f = found_first _ _ _ e in
       let i = if_of f.1 in
       at_statement h _ _ (clean_inside _ outer c (typed.Not i.t) clean) i.second
@@ -129,45 +127,41 @@ module _ (states args : List ℕ) where
   abbrev Keeps : Body → Body → Type 0
   Keeps found made = is_some found.emit ≡ true → is_some made.emit ≡ true
 
-  abbrev Keeping : Stmt → Type 0
-  Keeping s = (outer : Enclosing) (found made : Body) → stmt_checked states args s outer found ≡ Ok made → Keeps found made
+  abbrev Keeping : Stmt → Adding → Type 0
+  Keeping s c = (outer : Enclosing) (found made : Body) → c outer found ≡ Ok made → Keeps found made
 
   abbrev Kept : Type 0
-  Kept = (s : Stmt) × Keeping s
+  Kept = (s : Stmt) × Keeping s (stmt_checked states args s)
 
   block_keeps : (ss : List Kept) (outer : Enclosing) (found : Body) {made : Body}
       → in_order (map (stmt_checked states args) (map (λ (s : Kept). s.0) ss)) outer found ≡ Ok made → Keeps found made
-  block_keeps [] _ _ {made} e = λ some. sym (ap (λ (b : Body). is_some b.emit) (same_ok _ _ e)) ∙ some
+  block_keeps [] _ _ e = λ some. sym (ap (λ (b : Body). is_some b.emit) (same_ok _ _ e)) ∙ some
   block_keeps (s ∷ ss) outer found {made} e =
       let f = found_first (stmt_checked states args s.0 outer found) _ made e in
       λ some. block_keeps ss outer f.0 f.2 (s.1 outer found f.0 f.1 some)
 
-  keep_step : (y : stmt.Stmt-F Kept) (outer : Enclosing) (found : Body) {made : Body}
-      → stmt_step states args (map-Stmt Stmt Adding (stmt_checked states args) (map-Stmt Kept Stmt (λ s. s.0) y)) outer found ≡ Ok made
-      → Keeps found made
-  keep_step (stmt.Assign x e) _ _ {made} is =
+  keep_step : OfStmtLayers (stmt_step states args) Keeping
+  keep_step (stmt.Assign x e) _ _ made is =
       let target = found_first (target_of states args x) _ made is in
       let word = found_first (word_of (states ++ args) [] e) _ made target.2 in
       λ some. sym (ap (λ (b : Body). is_some b.emit) (same_ok _ made word.2)) ∙ some
-  keep_step (stmt.If c a b) outer found {made} is =
+  keep_step (stmt.If c a b) outer found made is =
       let condition = found_first (condition_of (states ++ args) [] c) _ made is in
       let one = found_first (in_order (map (stmt_checked states args) (map (λ (s : Kept). s.0) a)) (inside states outer c condition.0)
       (record { statements = []; emit = found.emit })) _ made condition.2 in
       let two = found_first (in_order (map (stmt_checked states args) (map (λ (s : Kept). s.0) b))
       (inside states outer c (typed.Not condition.0)) (record { statements = []; emit = one.0.emit })) _ made one.2 in
       λ some. sym (ap (λ (z : Body). is_some z.emit) (same_ok _ made two.2)) ∙ block_keeps b _ _ two.1 (block_keeps a _ _ one.1 some)
-  keep_step (stmt.Emit _) _ found is =
+  keep_step (stmt.Emit _) _ found _ is =
       let once = must_not_ok _ _ _ is in λ some. not_both (is_some found.emit) once.0 some
 
-  stmt_keeps : (s : Stmt) → Keeping s
-  stmt_keeps = ind-Stmt Keeping (λ x y is outer found made e.
-      subst (λ z. stmt_step states args (map-Stmt Stmt Adding (stmt_checked states args) z) outer found ≡ Ok made → Keeps found made) is
-      (keep_step y _ _) (sym (ap (λ g. g outer found) (fold-roll-Stmt Adding (stmt_step states args) x)) ∙ e))
+  stmt_keeps : (s : Stmt) → Keeping s (stmt_checked states args s)
+  stmt_keeps = of_stmt (stmt_step states args) Keeping keep_step
 
   keeps : (ss : List Stmt) (outer : Enclosing) (found : Body) {made : Body}
       → in_order (map (stmt_checked states args) ss) outer found ≡ Ok made
       → Keeps found made
-  keeps [] _ _ {made} e = λ some. sym (ap (λ (b : Body). is_some b.emit) (same_ok _ _ e)) ∙ some
+  keeps [] _ _ e = λ some. sym (ap (λ (b : Body). is_some b.emit) (same_ok _ _ e)) ∙ some
   keeps (s ∷ ss) outer found {made} e =
       let f = found_first (stmt_checked states args s outer found) _ made e in
       λ some. keeps ss outer f.0 f.2 (stmt_keeps s outer found f.0 f.1 some)
@@ -183,7 +177,7 @@ module _ (states args : List ℕ) where
       → s ≡ block.Emit span
       → (outer : Enclosing) (found : Body) {made : Body} → in_order (map (stmt_checked states args) ss) outer found ≡ Ok made
       → Emits found made
-  emits {span} (parts.first {s} {rest}) same outer found {made} e =
+  emits {span} (parts.first) same outer found e =
       let f = found_first _ _ _ e in
       let is = sym (stmt_is _ _ _ (rolls-Emit span) _ _) ∙ subst (λ z. stmt_checked states args z outer found ≡ Ok f.0) same f.1 in
       let once = must_not_ok _ _ _ is in
@@ -193,7 +187,7 @@ module _ (states args : List ℕ) where
       let f = found_first (stmt_checked states args other outer found) _ made e in
       let m = emits h same outer f.0 f.2 in
       (not_yet found f.0 (stmt_keeps other outer found f.0 f.1) m.0, m.1)
-  emits (parts.in_first {c} a b _ h) same _ _ {made} e =
+  emits (parts.in_first a b _ h) same _ _ e =
       let f = found_first _ _ _ e in
       let i = if_of f.1 in
       let m = emits h same _ _ i.first in
@@ -206,7 +200,7 @@ module _ (states args : List ℕ) where
 
   one_emit : {span : Span} {ss : List Stmt} → FollowsEmit span ss → (outer : Enclosing) (found : Body) {made : Body}
       → in_order (map (stmt_checked states args) ss) outer found ≡ Ok made → ⊥
-  one_emit (parts.beyond {s} h stands) outer found {made} e =
+  one_emit (parts.beyond {s} h stands) outer found e =
       let f = found_first _ _ _ e in
       let alone : in_order (map (stmt_checked states args) (s ∷ [])) outer found ≡ Ok f.0 = ap (λ c. and_then c (λ more. Ok more)) f.1 in
       let one = emits h.2 refl _ _ alone in
@@ -214,16 +208,16 @@ module _ (states args : List ℕ) where
       not_both (is_some f.0.emit) two.0 one.1
   one_emit (parts.later s _ h) outer found {made} e =
       let f = found_first (stmt_checked states args s outer found) _ made e in one_emit h outer f.0 f.2
-  one_emit (parts.across c a {b} h stands) _ _ {made} e =
+  one_emit (parts.across c a h stands) _ _ e =
       let f = found_first _ _ _ e in
       let i = if_of f.1 in
       let one = emits h.2 refl _ _ i.first in
       let two = emits stands refl _ _ i.second in
       not_both (is_some i.p.emit) two.0 one.1
-  one_emit (parts.in_first c {a} b h) _ _ {made} e =
+  one_emit (parts.in_first c b h) _ _ e =
       let f = found_first _ _ _ e in
       let i = if_of f.1 in one_emit h _ _ i.first
-  one_emit (parts.in_second c a {b} h) _ _ {made} e =
+  one_emit (parts.in_second c a h) _ _ e =
       let f = found_first _ _ _ e in
       let i = if_of f.1 in one_emit h _ _ i.second
 
@@ -245,7 +239,7 @@ body_checks h = block_complete h.statements _ nothing_around refl
 pub fold_meets : (known : List Known) {d : FoldDef} {f : TypedFold} {q : Demand} → HasFold d f → FoldAsks d q → Holds known q
 fold_meets _ h (of_state _ s _ split) = new_at _ _ _ _ (subst (λ z. AreNew [] z) (ap ids split ∙ states_split _ s _) h.states)
 fold_meets _ h (of_states _ s _ split) = few_before _ s _ split h.few_states
-fold_meets _ {d} h (of_arg _ a _ split) = names_new _ _ a _ split h.args
+fold_meets _ h (of_arg _ a _ split) = names_new _ _ a _ split h.args
 fold_meets _ h (of_args _ a _ split) = few_before _ a _ split h.few_args
 fold_meets _ {d} h (of_statement stands asked) = statement_meets (state_names_of d) (arg_names_of d) _
     (at_statement (state_names_of d) (arg_names_of d) stands _ _ (λ none. tt) (body_checks h)) asked

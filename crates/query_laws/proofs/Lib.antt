@@ -1,5 +1,6 @@
 pub mod Terms
 pub mod Steps
+pub mod Layers
 pub mod ExprSound
 pub mod ExprComplete
 pub mod FoldNames

@@ -111,7 +111,7 @@ pub columns_told : {columns hidden : List ℕ} {all : List Column} (front new : 
     → all ≡ front ++ new → made.names ≡ new_names front → new_columns columns hidden made new ≡ Err fault
     → Broken (ColumnsAsk columns hidden all) known fault
 columns_told _ [] _ _ _ e = no_fault e
-columns_told {columns} {hidden} front (c ∷ new) made {known} split same e =
+columns_told {columns} {hidden} front (c ∷ new) made split same e =
     by_must_not (is_among c.name.id columns || (is_among c.name.id hidden || is_among c.name.id made.names)) e
     (λ among at. broken_at _ (of_name front c new split) at (
       refl,
@@ -165,7 +165,7 @@ argument_told {columns} {hidden} {span = span} front (id ∷ ids) before {known}
 
 pub arguments_told : {columns hidden keys : List ℕ} {f : FoldView} {span : Span} {known : List Known} {fault : QueryFault}
     → arguments_of columns hidden keys f span ≡ Err fault → Broken (ArgumentsAsk columns hidden keys f span) known fault
-arguments_told {columns} {hidden} {keys} {f} {span} {known} e = by_next (collected [] (map (slot_for columns hidden span) f.args)) e
+arguments_told {columns} {hidden} {keys} {f} {span} e = by_next (collected [] (map (slot_for columns hidden span) f.args)) e
     (λ is. argument_told [] f.args [] refl is) (λ slots is e.
     by_must_not (list_any (λ state. is_among state keys) f.states) e (λ among at. broken_at _ of_states at
     (refl, λ apart. not_both _ (apart_complete f.states keys apart) among)) (λ none e. no_fault e))

@@ -19,9 +19,6 @@ ok {A} e = ap (λ z. let r : Checked A = Ok z in r) e
 
 -- ---- what a name stands for
 
-same_some : {m n : Meaning} → (let o : Option Meaning = Some m in o) ≡ Some n → m ≡ n
-same_some e = cc e
-
 pub meaning_sound : (known : List Known) (id : ℕ) {m : Meaning} → meaning_of known id ≡ Some m → NameStandsFor known id m
 meaning_sound [] _ e = cc e
 meaning_sound (one ∷ rest) id e =
@@ -93,7 +90,7 @@ pub columns_sound : (columns hidden : List ℕ) (cs : List Column) (made : NewCo
     → new_columns columns hidden made cs ≡ Ok all
     → (values : List TypedExpr) × HasTypedColumns columns (columns ++ (hidden ++ made.names)) cs values
     × (all ≡ record { names = made.names ++ new_names cs; values = made.values ++ values })
-columns_sound _ _ [] made {all} e = (
+columns_sound _ _ [] made e = (
   [],
   tt,
   sym (same_ok _ _ e) ∙ columns_same (sym (append-nil made.names)) (sym (append-nil made.values)),
@@ -143,7 +140,7 @@ pub keys_sound : (columns hidden : List ℕ) (keys : List Name) (found : Picked)
     → keys_from columns hidden found keys ≡ Ok all
     → (slots : List ℕ) × HasSlots columns (name_ids keys) slots × AreNew found.names (name_ids keys)
     × (length found.names + length keys ≤ MAX_KEYS) × (all ≡ record { names = found.names ++ name_ids keys; slots = found.slots ++ slots })
-keys_sound _ _ [] found {all} h e = (
+keys_sound _ _ [] found h e = (
   [],
   tt,
   tt,
@@ -186,7 +183,7 @@ slot_for columns hidden span id = slot_of columns hidden (record { id = id; span
 slots_sound : (columns hidden : List ℕ) (span : Span) (ids before : List ℕ) {all : List ℕ}
     → collected before (map (slot_for columns hidden span) ids) ≡ Ok all → (slots : List ℕ) × (all ≡ before ++ slots)
     × HasSlots columns ids slots
-slots_sound _ _ _ [] before {all} e = ([], sym (same_ok _ _ e) ∙ sym (append-nil before), tt)
+slots_sound _ _ _ [] before e = ([], sym (same_ok _ _ e) ∙ sym (append-nil before), tt)
 slots_sound columns hidden span (id ∷ ids) before e =
     let first = collected_first before (slot_for columns hidden span id) _ e in
     let more = slots_sound columns hidden span ids (before ++ first.0 ∷ []) first.2 in (
@@ -216,7 +213,7 @@ apart_complete (id ∷ ids) others h = ap (λ b. b || list_any (λ id. is_among 
 
 pub arguments_sound : {columns : List ℕ} (hidden : List ℕ) {keys : List ℕ} {f : FoldView} (span : Span) {slots : List ℕ}
     → arguments_of columns hidden keys f span ≡ Ok slots → HasArguments columns keys f slots
-arguments_sound {columns} _ {keys} {f} _ {slots} e =
+arguments_sound {columns} _ {f} _ e =
     let first = found_first _ _ _ e in
     let one = must_not_ok _ _ _ first.2 in
     let s = slots_sound _ _ _ _ _ first.1 in
@@ -225,5 +222,5 @@ arguments_sound {columns} _ {keys} {f} _ {slots} e =
 pub arguments_complete : {columns : List ℕ} (hidden : List ℕ) {keys : List ℕ} {f : FoldView} (span : Span) {slots : List ℕ}
     → HasArguments columns keys f slots
     → arguments_of columns hidden keys f span ≡ Ok slots
-arguments_complete {columns} _ {keys} {f} _ {slots} h = then_next _ (slots_complete _ _ _ _ _ _ h.places)
+arguments_complete _ _ h = then_next _ (slots_complete _ _ _ _ _ _ h.places)
     ∙ must_not_holds _ _ (apart_complete _ _ h.apart)

@@ -1,10 +1,8 @@
 -- The numbers in expressions and statements are words.
-use Rattle.std.proofs.Common.{◌≡◌, ℕ, zero, suc, List, [], ◌∷◌, map, Option, Some, None, sym, ap, subst, ◌∙◌, arith, inl, inr, ◌⊎◌}
+use Rattle.std.proofs.Common.{◌≡◌, ℕ, zero, suc, List, [], ◌∷◌, map, Option, Some, None, sym, subst, arith, inl, inr, ◌⊎◌}
 use Rattle.std.proofs.lemmas.List.Elements.{All-head, All-tail}
 use Rattle.std.specs.Prelude.{All, max}
-use Rattle.query_lang.specs.declared.query.Expr.TheOpen as expr
-use Rattle.query_lang.specs.declared.query.Stmt.{Stmt, Assign, If, Emit, fold-roll-Stmt}
-use Rattle.query_lang.specs.declared.query.Stmt.TheOpen as stmt
+use Rattle.query_lang.specs.declared.query.Stmt.{Stmt, Assign, If, Emit}
 use Rattle.query_lang.specs.declared.token.Mark.TheVariants as marks
 use Rattle.query_lang.specs.declared.token.Word.TheVariants as words
 use Rattle.query_types.specs.Numbers.{greatest_of, number_step, greatest_number, stmt_number_step, greatest_in}
@@ -13,11 +11,11 @@ use Rattle.query_grammar.specs.Grammar.{shift_ops, sum_ops, product_ops, Level, 
 use Rattle.query_grammar.specs.Grammar.{BitOr, Comparison, Conjunction, Disjunction, Expression, Assignment, Emission, Block, IfPart}
 use Rattle.query_grammar.specs.Grammar.{ElsePart, IfStatement, Statement_at}
 use Rattle.query_grammar.proofs.ItemWeights.{all_cons, all_none}
-use Rattle.query_laws.proofs.Terms.{Span, Op, Name, Expr, Number, Named, Not, Binary, Call, fold-roll-Expr, rolls-Number, rolls-Named}
-use Rattle.query_laws.proofs.Terms.{rolls-Not, rolls-Binary, rolls-Call, rolls-Assign, rolls-If, rolls-Emit, IsWord, Language, Leaf, Chain}
-use Rattle.query_laws.proofs.{Terms.{Chained, sign, keyword}, Holds.{HaveWords, both_have, Holds, any_holds, number_holds, then_holds}}
-use Rattle.query_laws.proofs.Holds.{second_holds, meaning_holds, either_holds, repeated_holds, if_some, once_holds, after_holds}
-use Rattle.query_laws.proofs.Holds.{between_holds, parens_hold, listed_holds}
+use Rattle.query_laws.proofs.Terms.{Span, Op, Name, Expr, Number, Named, Not, Binary, Call, rolls-Number, rolls-Named, rolls-Not}
+use Rattle.query_laws.proofs.Terms.{rolls-Binary, rolls-Call, rolls-Assign, rolls-If, rolls-Emit, IsWord, Language, Leaf, Chain, Chained}
+use Rattle.query_laws.proofs.{Terms.{sign, keyword}, Holds.{HaveWords, both_have, Holds, any_holds, number_holds, then_holds, second_holds}}
+use Rattle.query_laws.proofs.Holds.{meaning_holds, either_holds, repeated_holds, if_some, once_holds, after_holds, between_holds}
+use Rattle.query_laws.proofs.{Holds.{parens_hold, listed_holds}, Layers.{expr_at, stmt_at}}
 
 -- ---- the greatest number
 
@@ -35,29 +33,29 @@ abbrev pub is_word_stmt : Stmt → Type 0
 is_word_stmt s = IsWord (greatest_in s)
 
 number_is : {n : ℕ} (s : Span) → greatest_number (Number n s) ≡ n
-number_is {n} s = ap greatest_number (sym (rolls-Number n s)) ∙ fold-roll-Expr ℕ number_step (expr.Number n s)
+number_is {n} s = expr_at number_step _ (rolls-Number n s)
 
 named_is : (n : Name) → greatest_number (Named n) ≡ 0
-named_is n = ap greatest_number (sym (rolls-Named n)) ∙ fold-roll-Expr ℕ number_step (expr.Named n)
+named_is n = expr_at number_step _ (rolls-Named n)
 
 not_is : (s : Span) (e : Expr) → greatest_number (Not s e) ≡ greatest_number e
-not_is s e = ap greatest_number (sym (rolls-Not s e)) ∙ fold-roll-Expr ℕ number_step (expr.Not s e)
+not_is s e = expr_at number_step _ (rolls-Not s e)
 
 binary_is : (op : Op) (s : Span) (a b : Expr) → greatest_number (Binary op s a b) ≡ max (greatest_number a) (greatest_number b)
-binary_is op s a b = ap greatest_number (sym (rolls-Binary op s a b)) ∙ fold-roll-Expr ℕ number_step (expr.Binary op s a b)
+binary_is op s a b = expr_at number_step _ (rolls-Binary op s a b)
 
 call_is : (op : Op) (s : Span) (es : List Expr) → greatest_number (Call op s es) ≡ greatest_of (map greatest_number es)
-call_is op s es = ap greatest_number (sym (rolls-Call op s es)) ∙ fold-roll-Expr ℕ number_step (expr.Call op s es)
+call_is op s es = expr_at number_step _ (rolls-Call op s es)
 
 assign_is : (n : Name) (e : Expr) → greatest_in (Assign n e) ≡ greatest_number e
-assign_is n e = ap greatest_in (sym (rolls-Assign n e)) ∙ fold-roll-Stmt ℕ stmt_number_step (stmt.Assign n e)
+assign_is n e = stmt_at stmt_number_step _ (rolls-Assign n e)
 
 if_is : (c : Expr) (a b : List Stmt)
     → greatest_in (If c a b) ≡ max (greatest_number c) (max (greatest_of (map greatest_in a)) (greatest_of (map greatest_in b)))
-if_is c a b = ap greatest_in (sym (rolls-If c a b)) ∙ fold-roll-Stmt ℕ stmt_number_step (stmt.If c a b)
+if_is c a b = stmt_at stmt_number_step _ (rolls-If c a b)
 
 emit_is : (s : Span) → greatest_in (Emit s) ≡ 0
-emit_is s = ap greatest_in (sym (rolls-Emit s)) ∙ fold-roll-Stmt ℕ stmt_number_step (stmt.Emit s)
+emit_is s = stmt_at stmt_number_step _ (rolls-Emit s)
 
 word_at : {n m : ℕ} → n ≡ m → IsWord m → IsWord n
 word_at e h = subst IsWord (sym e) h

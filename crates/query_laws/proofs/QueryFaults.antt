@@ -41,7 +41,7 @@ ItemTold given names items i fault = Broken (ItemAsks (five_fields given.fields)
 
 item_told : (given : Given) {names : List (List ℕ)} {items : List Entry} (i : Item) {fault : QueryFault}
     → item_checked given (earlier_of names items) i ≡ Err fault → ItemTold given names items i fault
-item_told _ {names} {items} (item.Fold d) e = by_must_not _ e (λ taken at. broken _ of_fold_name (taken_told _ _ taken at))
+item_told _ (item.Fold d) e = by_must_not _ e (λ taken at. broken _ of_fold_name (taken_told _ _ taken at))
     (λ none e. by_next _ e (λ is. broken_in (λ q asked. of_fold d q asked) (fold_faults is)) (λ f p e. no_fault e))
 item_told given {names} {items} (item.Stream d) {fault} e = by_next (begun (earlier_of names items) d.name) e
     (λ is. begun_told names items d.name is of_stream_name of_one_stream) (λ u p e.

@@ -13,14 +13,14 @@ use Rattle.query_laws.specs.QueryRules.{IsBinding, HasItem, HasItems, of_none, o
 
 binding_sound : {names : List (List ℕ)} {items : List Entry} {name : Name} {u : Unit {0}} → begun (earlier_of names items) name ≡ Ok u
     → IsBinding names items name
-binding_sound {names} {items} {name} e =
+binding_sound e =
     let one = must_not_ok _ _ _ e in
     let two = must_ok _ _ _ one.1 in
     record { free = free_sound _ _ one.0; few = ltb-true _ MAX_BINDINGS two.0 }
 
 binding_complete : {names : List (List ℕ)} {items : List Entry} {name : Name} → IsBinding names items name
     → begun (earlier_of names items) name ≡ Ok tt
-binding_complete {names} {items} {name} h = must_not_holds _ _ (free_complete _ _ h.free) ∙ must_holds _ _ (below h.few)
+binding_complete h = must_not_holds _ _ (free_complete _ _ h.free) ∙ must_holds _ _ (below h.few)
 
 -- what an item adds to the tables is what its typed form adds
 abbrev Adds : Given → List (List ℕ) → List Entry → Item → Earlier → Type 0
@@ -28,7 +28,7 @@ Adds given names items i more = (one : Entry) × HasItem given names items i one
 
 fold_item : (given : Given) {names : List (List ℕ)} {items : List Entry} {d : FoldDef} {more : Earlier}
     → fold_added (earlier_of names items) d ≡ Ok more → Adds given names items (item.Fold d) more
-fold_item _ {names} {items} {d} {more} e =
+fold_item _ e =
     let free = must_not_ok _ _ _ e in
     let f = found_first _ _ _ free.1 in (
       AFold f.0,
@@ -68,7 +68,7 @@ final_item {given} {names} {items} {d} {more} e =
 
 print_item : (given : Given) {names : List (List ℕ)} {items : List Entry} {name : Name} {more : Earlier}
     → print_checked (earlier_of names items) name ≡ Ok more → Adds given names items (item.Print name) more
-print_item _ {names} {items} {name} {more} e =
+print_item _ {name} e =
     let table = found_first _ _ _ e in
     let once = must_not_ok _ _ _ table.2 in (
       APrint name table.0.place,
@@ -102,7 +102,7 @@ item_complete _ names items (item.Print name) _ h = then_next _ (table_complete 
 pub items_sound : {given : Given} {names : List (List ℕ)} (before : List Entry) (list : List Item) {more : Earlier}
     → items_checked given (earlier_of names before) list ≡ Ok more
     → (all : List Entry) × HasItems given names before list all × (more ≡ earlier_of names all)
-items_sound before [] {more} e = (before, of_none _, sym (same_ok _ _ e))
+items_sound before [] e = (before, of_none _, sym (same_ok _ _ e))
 items_sound {given} {names} before (i ∷ rest) {more} e =
     let first = found_first (item_checked given (earlier_of names before) i) _ more e in
     let one = item_sound given names i first.1 in

@@ -1,11 +1,11 @@
 -- The first state variable of an expression, which a fault in a line of conditions tells.
-use Rattle.std.proofs.Common.{◌≡◌, ℕ, Bool, true, false, cond, List, [], ◌∷◌, map, Option, Some, None, refl, sym, subst, ◌∙◌}
+use Rattle.std.proofs.Common.{◌≡◌, ℕ, Bool, true, false, cond, List, [], ◌∷◌, map, Option, Some, None, refl, sym, subst}
 use Rattle.query_lang.specs.declared.query.Expr.TheOpen as expr
 use Rattle.query_lang.specs.declared.query.Expr.TheVariants as whole
-use Rattle.query_laws.proofs.Terms.{Span, TypedExpr, Name, Expr, fold-roll-Expr, ind-Expr, roll-Expr, map-Expr, rolls-Named, rolls-Not}
-use Rattle.query_laws.proofs.Terms.{rolls-Binary, rolls-Call, Enclosing, is_among, or_else, first_of, state_step, state_in, inside, IsOneOf}
-use Rattle.query_laws.proofs.Terms.{HasPart, Kind, Condition, operand_kind}
+use Rattle.query_laws.proofs.Terms.{Span, TypedExpr, Name, Expr, rolls-Named, rolls-Not, rolls-Binary, rolls-Call, Enclosing, is_among}
+use Rattle.query_laws.proofs.Terms.{or_else, first_of, state_step, state_in, inside, IsOneOf, HasPart, Kind, Condition, operand_kind}
 use Rattle.query_laws.specs.Demands as parts
+use Rattle.query_laws.proofs.Layers.{OfExprLayers, of_expr}
 
 abbrev pub Inside : Name → Expr → Type 0
 Inside x e = (k : Kind) → (l : Kind) × HasPart k e l (whole.Named x)
@@ -13,11 +13,11 @@ Inside x e = (k : Kind) → (l : Kind) × HasPart k e l (whole.Named x)
 abbrev pub State : List ℕ → Expr → Span → Type 0
 State states e span = (x : Name) × Inside x e × (x.span ≡ span) × (is_among x.id states ≡ true)
 
-abbrev pub HasState : List ℕ → Expr → Type 0
-HasState states e = (span : Span) → state_in states e ≡ Some span → State states e span
+abbrev HasState : List ℕ → Expr → Option Span → Type 0
+HasState states e o = (span : Span) → o ≡ Some span → State states e span
 
 abbrev With : List ℕ → Type 0
-With states = (e : Expr) × HasState states e
+With states = (e : Expr) × HasState states e (state_in states e)
 
 abbrev exprs : (states : List ℕ) → List (With states) → List Expr
 exprs _ es = map (λ a. a.0) es
@@ -44,21 +44,19 @@ named_state : (states : List ℕ) {x : Name} {span : Span} (b : Bool) → is_amo
 named_state _ {x} true is e = (x, λ k. (k, parts.whole), same_span e, is)
 named_state _ false _ e = cc e
 
-state_of : (states : List ℕ) (y : expr.Expr-F (With states)) {span : Span}
-    → state_step states (map-Expr Expr (Option Span) (state_in states) (map-Expr (With states) Expr (λ a. a.0) y)) ≡ Some span
-    → State states (roll-Expr (map-Expr (With states) Expr (λ a. a.0) y)) span
-state_of _ (expr.Number n _) e = cc e
-state_of _ (expr.Named x) e = state_moved _ (rolls-Named x) (named_state _ _ refl e)
-state_of _ (expr.Not at a) {span} e =
+state_of : (states : List ℕ) → OfExprLayers (state_step states) (HasState states)
+state_of _ (expr.Number n _) _ e = cc e
+state_of _ (expr.Named x) _ e = state_moved _ (rolls-Named x) (named_state _ _ refl e)
+state_of _ (expr.Not at a) span e =
     let m = a.1 span e in
     state_moved _ (rolls-Not at a.0) (m.0, λ k. let p = m.1 Condition in (p.0, parts.of_not _ p.1), m.2, m.3)
-state_of _ (expr.Binary op at a b) {span} e = state_moved _ (rolls-Binary op at a.0 b.0) (
+state_of _ (expr.Binary op at a b) span e = state_moved _ (rolls-Binary op at a.0 b.0) (
     either_state _ e (λ is.
     let m = a.1 span is in
     (m.0, λ k. let p = m.1 (operand_kind op) in (p.0, parts.of_left _ _ _ _ p.1), m.2, m.3)) (λ is.
     let m = b.1 span is in
     (m.0, λ k. let p = m.1 (operand_kind op) in (p.0, parts.of_right _ _ _ p.1), m.2, m.3)))
-state_of _ (expr.Call op at args) e =
+state_of _ (expr.Call op at args) _ e =
     let c = some_argument _ _ e in
     let m = c.2 in
     state_moved _ (rolls-Call op at (exprs _ args)) (
@@ -68,10 +66,8 @@ state_of _ (expr.Call op at args) e =
       m.3,
     )
 
-pub has_state : (states : List ℕ) (e : Expr) → HasState states e
-has_state states = ind-Expr (HasState states) (λ x y is span e.
-    subst (λ z. state_step states (map-Expr Expr (Option Span) (state_in states) z) ≡ Some span → State states (roll-Expr z) span) is
-    (state_of _ y) (sym (fold-roll-Expr (Option Span) (state_step states) x) ∙ e))
+pub has_state : (states : List ℕ) (e : Expr) → HasState states e (state_in states e)
+has_state states = of_expr (state_step states) (HasState states) (state_of states)
 
 -- what the check knows of the conditions around
 abbrev pub Knows : List ℕ → List Expr → Enclosing → Type 0

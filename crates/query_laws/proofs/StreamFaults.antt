@@ -24,7 +24,7 @@ StreamTold five earlier name op = (fault : QueryFault) → made_stream five earl
 
 stream_filter_told : {five : List ℕ} (earlier : Earlier) {name : Name} {input : Name} {e : Expr}
     → StreamTold five earlier name (stream.Filter input e)
-stream_filter_told earlier {input} {e} _ is = by_next _ is (λ is. broken _ of_filtered (stream_told _ _ is))
+stream_filter_told earlier _ is = by_next _ is (λ is. broken _ of_filtered (stream_told _ _ is))
     (λ source p is. by_next _ is (λ is.
     broken_in (λ d asked. of_condition source (stream_sound _ _ p) asked) (condition_told _ _ _ is)) (λ condition q is. no_fault is))
 
@@ -47,7 +47,7 @@ stream_zip_told earlier {first} {second} _ is = by_next (stream_named earlier.kn
 
 stream_groupby_told : {five : List ℕ} (earlier : Earlier) {name : Name} {input : Name} {keys : List Key} {fold_name : Name}
     → StreamTold five earlier name (stream.Group input keys fold_name)
-stream_groupby_told {five} earlier {name} {input} {keys} {fold_name} fault is =
+stream_groupby_told {five} earlier {input} {keys} {fold_name} fault is =
     by_must (nat_lt earlier.groups MAX_GROUPBYS) _ is (λ full at. broken_at _ of_limit at (refl, refl, at_least refl full))
     (λ few is. by_next (stream_named earlier.known input) is (λ is. broken _ of_grouped (stream_told earlier.known input is))
     (λ source p is. by_next (keys_checked five (column_names source.columns) source.hidden keys) is (λ is.
@@ -81,7 +81,7 @@ FinalTold given earlier op = (fault : QueryFault) → made_final given earlier o
     → Broken (FinalAsks (five_fields given.fields) earlier.known op) earlier.known fault
 
 final_filter_told : (given : Given) (earlier : Earlier) {input : Name} {e : Expr} → FinalTold given earlier (final.Filter input e)
-final_filter_told _ earlier {input} {e} _ is = by_next _ is (λ is. broken _ asks.of_filtered (table_told _ _ is))
+final_filter_told _ earlier _ is = by_next _ is (λ is. broken _ asks.of_filtered (table_told _ _ is))
     (λ source p is. by_next _ is (λ is.
     broken_in (λ d asked. asks.of_condition source (table_sound _ _ p) asked) (condition_told _ _ _ is)) (λ condition q is. no_fault is))
 

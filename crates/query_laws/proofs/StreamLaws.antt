@@ -19,7 +19,7 @@ use Rattle.query_laws.proofs.NameLaws.{arguments_sound, arguments_complete}
 
 filter_sound : (earlier : Earlier) {input : Name} {e : Expr} {made : MadeStream} → filtered earlier input e ≡ Ok made
     → OfFilter earlier.known input e made
-filter_sound _ {input} {e} {made} is =
+filter_sound _ is =
     let source = found_first _ _ _ is in
     let c = found_first _ _ _ source.2 in
     record {
@@ -32,7 +32,7 @@ filter_sound _ {input} {e} {made} is =
 
 filter_complete : (earlier : Earlier) {input : Name} {e : Expr} {made : MadeStream} → OfFilter earlier.known input e made
     → filtered earlier input e ≡ Ok made
-filter_complete _ {input} h = then_next _ (stream_complete _ _ h.stream)
+filter_complete _ h = then_next _ (stream_complete _ _ h.stream)
     ∙ then_next _ (condition_complete h.source.hidden h.typed) ∙ ok (sym h.is)
 
 abbrev maps_to : ℕ → StreamView → NewColumns → MadeStream
@@ -48,7 +48,7 @@ taken_start columns hidden = ap (λ z. columns ++ z) (append-nil hidden)
 
 map_sound : (earlier : Earlier) {input : Name} {cs : List Column} {made : MadeStream} → mapped earlier input cs ≡ Ok made
     → OfMap earlier.known (next_stream earlier) input cs made
-map_sound earlier {input} {cs} {made} is =
+map_sound earlier {cs} is =
     let source = found_first _ _ _ is in
     let n = found_first _ _ _ source.2 in
     let c = columns_sound _ _ _ _ n.1 in
@@ -62,12 +62,12 @@ map_sound earlier {input} {cs} {made} is =
 
 map_complete : (earlier : Earlier) {input : Name} {cs : List Column} {made : MadeStream}
     → OfMap earlier.known (next_stream earlier) input cs made → mapped earlier input cs ≡ Ok made
-map_complete _ {input} {cs} h = then_next _ (stream_complete _ _ h.stream) ∙ then_next _ (columns_complete _ _ _ _ _
+map_complete _ {cs} h = then_next _ (stream_complete _ _ h.stream) ∙ then_next _ (columns_complete _ _ _ _ _
     (subst (λ z. HasTypedColumns (column_names h.source.columns) z cs h.values) (sym (taken_start _ _)) h.typed)) ∙ ok (sym h.is)
 
 -- ---- the same columns
 
-origin_same : (a b : Origin) → same_origin a b ≡ true → a ≡ b
+pub origin_same : (a b : Origin) → same_origin a b ≡ true → a ≡ b
 origin_same origin.Field origin.Field e = refl
 origin_same origin.Field (origin.Map b) e = cc e
 origin_same (origin.Map a) origin.Field e = cc e
@@ -130,7 +130,7 @@ zip_is _ _ _ h =
 
 zip_sound : (earlier : Earlier) {first second : Name} {made : MadeStream} → zipped earlier first second ≡ Ok made
     → OfZip earlier.known first second made
-zip_sound _ {first} {second} {made} is =
+zip_sound _ is =
     let left = found_first _ _ _ is in
     let right = found_first _ _ _ left.2 in
     let one = must_not_ok _ _ _ right.2 in
@@ -150,7 +150,7 @@ zip_sound _ {first} {second} {made} is =
 
 zip_complete : (earlier : Earlier) {first second : Name} {made : MadeStream} → OfZip earlier.known first second made
     → zipped earlier first second ≡ Ok made
-zip_complete _ {first} {second} {made} h = then_next _ (stream_complete _ _ h.one) ∙ then_next _ (stream_complete _ _ h.other)
+zip_complete _ h = then_next _ (stream_complete _ _ h.one) ∙ then_next _ (stream_complete _ _ h.other)
     ∙ must_not_holds _ _ (all_same_complete _ _ h.same) ∙ ok (sym (zip_is _ _ _ h))
 
 -- ---- keys, from none
@@ -158,7 +158,7 @@ zip_complete _ {first} {second} {made} h = then_next _ (stream_complete _ _ h.on
 pub picked_sound : (five : List ℕ) {columns : List ℕ} (hidden : List ℕ) (keys : List Key) {picked : Picked}
     → keys_checked five columns hidden keys ≡ Ok picked
     → (slots : List ℕ) × HasKeys columns (key_ids five keys) slots × (picked ≡ record { names = key_ids five keys; slots = slots })
-picked_sound five {columns} _ keys e =
+picked_sound five _ keys e =
     let k = keys_sound _ _ _ _ (omega arith) e in
     let long = length-map (flat_map (key_names five) keys) (λ (n : Name). n.id) in
     (k.0, record { places = k.1; distinct = k.2; few = omega (arith, k.3, long) }, k.4)
@@ -166,7 +166,7 @@ picked_sound five {columns} _ keys e =
 pub picked_complete : (five : List ℕ) {columns : List ℕ} (hidden : List ℕ) (keys : List Key) {slots : List ℕ}
     → HasKeys columns (key_ids five keys) slots
     → keys_checked five columns hidden keys ≡ Ok (record { names = key_ids five keys; slots = slots })
-picked_complete five {columns} _ keys {slots} h =
+picked_complete five _ keys h =
     let long = length-map (flat_map (key_names five) keys) (λ (n : Name). n.id) in
     keys_complete _ _ _ _ _ h.places h.distinct (omega (arith, h.few, long))
 

@@ -75,8 +75,8 @@ of_cut_piece : (p : Piece) (at : ℕ) (known : List (List ℕ)) (bytes : List �
     → ((k : ℕ) (later : List (List ℕ)) (got : Pair) → next k later ≡ Ok got → HasWords got) → cut_piece p at known bytes next ≡ Ok found
     → HasWords found
 of_cut_piece (pieces.Blank n) _ known _ {found} _ h e = h n known found e
-of_cut_piece (pieces.Name n) _ known bytes {next} _ h e = of_front _ _ tt (h n (with_name known (take n bytes))) e
-of_cut_piece (pieces.Token _ n) _ known _ {next} word h e = of_front _ _ word (h n known) e
+of_cut_piece (pieces.Name n) _ known bytes _ h e = of_front _ _ tt (h n (with_name known (take n bytes))) e
+of_cut_piece (pieces.Token _ n) _ known _ word h e = of_front _ _ word (h n known) e
 of_cut_piece (pieces.Fault _ n) _ _ _ _ h e = absurd cc
 
 of_end : {at : ℕ} {known : List (List ℕ)} {found : Pair} → ◌≡◌ {A = Cut} (Ok (token_at kinds.End at at ∷ [], known)) (Ok found)

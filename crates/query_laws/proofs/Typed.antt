@@ -45,9 +45,6 @@ tell_more : (views : List View) (view : View) (known : List Known) → AllTell v
 tell_more _ _ [] h = tt
 tell_more views view (one ∷ known) h = (tells_more views view one.meaning h.0, tell_more views view known h.1)
 
-some_meaning : {m n : Meaning} → (let o : Option Meaning = Some m in o) ≡ Some n → m ≡ n
-some_meaning e = cc e
-
 tells_of : (views : List View) (known : List Known) (id : ℕ) {m : Meaning} → AllTell views known → meaning_of known id ≡ Some m
     → TellsColumns views m
 tells_of _ [] _ h e = cc e
@@ -88,7 +85,7 @@ distinct_last (n ∷ names) id h k =
 new_distinct : (columns hidden : List ℕ) (new : List Column) (made : NewColumns) {all : NewColumns} → AreDistinct made.names
     → length made.names ≡ length made.values
     → new_columns columns hidden made new ≡ Ok all → AreDistinct all.names × (length all.names ≡ length all.values)
-new_distinct _ _ [] _ {all} d long e = subst (λ z. AreDistinct z.names × (length z.names ≡ length z.values)) (same_ok _ _ e) (d, long)
+new_distinct _ _ [] _ d long e = subst (λ z. AreDistinct z.names × (length z.names ≡ length z.values)) (same_ok _ _ e) (d, long)
 new_distinct columns hidden (c ∷ new) made {all} d long e =
     let free = must_not_ok _ _ _ e in
     let value = found_first (word_of columns hidden c.value) _ all free.1 in
@@ -110,7 +107,7 @@ below_last (_ ∷ slots) h lt = (h.0, below_last slots h.1 lt)
 
 keys_below : (columns hidden : List ℕ) (keys : List Name) (found : Picked) {picked : Picked} → AreBelow (length columns) found.slots
     → keys_from columns hidden found keys ≡ Ok picked → AreBelow (length columns) picked.slots
-keys_below columns _ [] _ {picked} h e = subst (λ z. AreBelow (length columns) z.slots) (same_ok _ _ e) h
+keys_below columns _ [] _ h e = subst (λ z. AreBelow (length columns) z.slots) (same_ok _ _ e) h
 keys_below columns hidden (key ∷ keys) found {picked} h e =
     let slot = found_first (slot_of columns hidden key) _ picked e in
     let once = must_not_ok _ _ _ slot.2 in
@@ -271,7 +268,7 @@ module _ (fields : View) where
 
   all_items : (given : Given) (items : List Item) {earlier all : Earlier} → HasViews fields earlier
       → items_checked given earlier items ≡ Ok all → HasViews fields all
-  all_items _ [] {earlier} {all} h e = subst (HasViews fields) (same_ok _ _ e) h
+  all_items _ [] h e = subst (HasViews fields) (same_ok _ _ e) h
   all_items given (i ∷ items) {earlier} {all} h e =
       let first = found_first (item_checked given earlier i) _ all e in
       all_items given items (one_item given i h first.1) first.2

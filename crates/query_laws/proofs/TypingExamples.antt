@@ -3,6 +3,7 @@ use Rattle.std.proofs.Common.{◌≡◌, ℕ, List, [], ◌∷◌, Option, Some,
 use Rattle.query_lang.specs.declared.fold.TypedExpr.TheVariants as typed
 use Rattle.query_lang.specs.declared.query.Expr.TheVariants.{Number, Named, Binary, Call}
 use Rattle.query_lang.specs.declared.typed.TypedOp.TheVariants as typed_op
+use Rattle.query_lang.specs.declared.typed.TypedOp.TheVariants as typed_op
 use Rattle.query_lang.specs.declared.query.Key.TheVariants as key
 use Rattle.query_lang.specs.declared.query.StreamOp.TheVariants.{Group, Zip}
 use Rattle.query_lang.specs.declared.typing.Sort.TheVariants as sort

@@ -42,7 +42,7 @@ one_more _ _ items (item.Print _) _ h _ all = subst (starts_with items) (sym h.i
 all_start : {given : Given} {names : List (List ℕ)} {before : List Entry} {list : List Item} {all : List Entry}
     → HasItems given names before list all → All StartsAsWords list → Starts before → Starts all
 all_start (of_none _) _ start = start
-all_start {given} {names} (of_more _ i _ rest _ h more) words start = all_start more (All-tail StartsAsWords i rest words)
+all_start {given} (of_more _ i _ rest _ h more) words start = all_start more (All-tail StartsAsWords i rest words)
     (one_more given _ _ i _ h (All-head StartsAsWords i rest words) start)
 
 pub accepted_starts : AcceptedStartAsWords

@@ -222,7 +222,7 @@ module _ (folds : List TypedFold) (number : ℕ) (V : Values) (views : List View
     (h : AllHave number V views lists) where
   pub of_filter : (input : ℕ) (condition : TypedExpr) {view : View} → slice_get views input ≡ Some view
       → OneMore number views lists view (made_of folds lists (typed.Filter input condition))
-  of_filter _ _ {view} e =
+  of_filter _ _ e =
       let source = have_at _ V _ _ _ h e in (V, have_last _ V _ _ _ _ h (are_earlier_later _ _ source.0) (filter_has V _ _ _ source.1))
 
   pub of_map : {input : ℕ} {values : List TypedExpr} {view : View} → OfMap views number input values view
@@ -254,7 +254,7 @@ module _ (folds : List TypedFold) (number : ℕ) (V : Values) (views : List View
 
   pub of_zip : {left right : ℕ} {slots : List ℕ} {view : View} (z : OfZip views left right slots view) → AreBelow (length z.second) slots
       → OneMore number views lists view (made_of folds lists (typed.Zip left right slots))
-  of_zip {left} {right} {slots} {view} z below =
+  of_zip {left} {right} {slots} z below =
       let one = have_at _ V _ _ _ h z.one in
       let other = have_at _ V _ _ _ h z.other in (
         V,
@@ -266,7 +266,7 @@ module _ (folds : List TypedFold) (number : ℕ) (V : Values) (views : List View
 
   pub of_group : {input : ℕ} {keys : List ℕ} (f : ℕ) (args : List ℕ) {view : View} → OfGroup views input keys view
       → OneMore number views lists view (made_of folds lists (typed.Group input keys f args))
-  of_group {input} {keys} f args {view} g =
+  of_group {input} {keys} f args g =
       let from = have_at _ V _ _ _ h g.stream in (
         V,
         have_last _ V _ _ _ _ h (subst (AreEarlier (suc number)) (sym g.is) (are_earlier_later _ _ (picked_earlier _ _ _ from.0)))

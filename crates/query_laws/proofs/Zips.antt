@@ -5,10 +5,10 @@ use Rattle.std.proofs.lemmas.Option.{same_Some}
 use Rattle.std.specs.{Prelude.{Contains, slice_get, option_map, if◌then◌else◌}, List.list_any}
 use Rattle.query_lang.specs.declared.typing.Origin.TheVariants as origin
 use Rattle.query_lang.specs.Streams.{Tuple, all_streams, stream}
-use Rattle.query_laws.proofs.Terms.{Zip, TypedQuery, Origin, StreamColumn, is_among, place_from, column_names, same_origin, clashes_with}
-use Rattle.query_laws.proofs.{Terms.{clash, others_from, columns_at}, Steps.{nat_same, nat_is, by_test, by_cond, by_option}}
-use Rattle.query_laws.proofs.{Typed.field_view, Views.{View, ZipAt, zip_made}, Values.{Values, row_of, have_at}}
-use Rattle.query_laws.proofs.Rows.{HasRows, names_are, row_in}
+use Rattle.query_laws.proofs.Terms.{Zip, TypedQuery, StreamColumn, is_among, place_from, column_names, same_origin, clashes_with, clash}
+use Rattle.query_laws.proofs.{Terms.{others_from, columns_at}, Steps.{nat_same, nat_is, by_test, by_cond, by_option}, Typed.field_view}
+use Rattle.query_laws.proofs.{Views.{View, ZipAt, zip_made}, Values.{Values, row_of, have_at}, Rows.{HasRows, names_are, row_in}}
+use Rattle.query_laws.proofs.StreamLaws.{origin_same}
 use Rattle.query_laws.specs.{Columns.{columns_of, operator_of, IsZip, value_under}, TupleLaws.{ColumnsAgree, ColumnsAreKept}}
 use Rattle.std.proofs.lemmas.Bool.{or_parts}
 
@@ -63,12 +63,6 @@ named_fails (x ∷ view) {id} test e h =
     by_cond (nat_eq x.name id) e (λ is k. subst (λ z. (z.name ≡ id) × (test z ≡ false)) (same_Some x _ k) (nat_same is, none.0))
     (λ _ k. named_fails view test k none.1)
 
-origins_same : (a b : Origin) → same_origin a b ≡ true → a ≡ b
-origins_same origin.Field origin.Field e = refl
-origins_same origin.Field (origin.Map b) e = cc e
-origins_same (origin.Map a) origin.Field e = cc e
-origins_same (origin.Map a) (origin.Map b) e = ap (λ n. origin.Map n) (nat_same e)
-
 same_where : (a b : Bool) → a ≡ true → (a && not b) ≡ false → b ≡ true
 same_where true true _ e = refl
 same_where true false _ e = cc e
@@ -82,7 +76,7 @@ columns_same first second _ {c} {d} apart one other =
     let left = named_fails first (λ z. nat_eq z.name d.name && not (same_origin z.origin d.origin)) one right.1 in
     let name : c.name ≡ d.name = left.0 ∙ sym right.0 in (
       name,
-      origins_same c.origin d.origin (same_where (nat_eq c.name d.name) (same_origin c.origin d.origin) (nat_is name) left.1),
+      origin_same c.origin d.origin (same_where (nat_eq c.name d.name) (same_origin c.origin d.origin) (nat_is name) left.1),
     )
 
 values_same : (V : Values) {packet : ℕ} (first second : View) (id : ℕ) {c d : StreamColumn} → clash first second ≡ false
