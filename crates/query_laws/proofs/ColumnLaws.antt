@@ -11,10 +11,9 @@ use Rattle.query_laws.specs.StreamRules.{HasSlots, AreAt, AreOthers, of_none, of
 pub at_slots : (columns : List StreamColumn) (slots : List ℕ) (found : List StreamColumn) → AreAt columns slots found
     → found ≡ columns_at columns slots
 at_slots _ [] [] h = refl
-at_slots _ [] (c ∷ _) h = absurd h
-at_slots _ (_ ∷ _) [] h = absurd h
 at_slots columns (_ ∷ slots) (c ∷ found) h = ap (λ z. c ∷ z) (at_slots columns slots found h.1)
     ∙ sym (ap (λ o. cons_option o (columns_at columns slots)) h.0)
+at_slots _ _ _ h = absurd h
 
 found_column : (columns : List StreamColumn) (slot : ℕ) → slot < length columns → (c : StreamColumn) × (slice_get columns slot ≡ Some c)
 found_column [] _ lt = absurd (omega (arith, lt))
@@ -34,12 +33,11 @@ stands_within [] _ _ h = absurd h
 stands_within (c ∷ _) zero _ h = omega arith
 stands_within (c ∷ columns) (suc slot) id h = omega (arith, stands_within columns slot id h.1)
 
-slots_within : (columns : List StreamColumn) (ids slots : List ℕ) → HasSlots (column_names columns) ids slots
+pub slots_within : (columns : List StreamColumn) (ids slots : List ℕ) → HasSlots (column_names columns) ids slots
     → AreBelow (length columns) slots
 slots_within _ [] [] h = tt
-slots_within _ [] (_ ∷ _) h = absurd h
-slots_within _ (_ ∷ _) [] h = absurd h
 slots_within columns (id ∷ ids) (slot ∷ slots) h = (stands_within columns slot id h.0, slots_within columns ids slots h.1)
+slots_within _ _ _ h = absurd h
 
 -- the columns of a groupby, from its keys' slots
 pub keys_there : (columns : List StreamColumn) (ids slots : List ℕ) → HasSlots (column_names columns) ids slots

@@ -1,23 +1,22 @@
 -- The streams of a typed query and the columns that the checks know of them.
 use Rattle.std.proofs.Common.{◌≡◌, ℕ, zero, suc, ◌+◌, ◌<◌, Bool, true, false, ◌||◌, List, [], ◌∷◌, ◌++◌, length, map, Option, Some, None}
-use Rattle.std.proofs.{Common.{Ok, nat_eq, refl, sym, ap, subst, ◌∙◌, arith}, lemmas.{Bool.or_parts, List.{length_push, length-map}}}
+use Rattle.std.proofs.{Common.{Ok, nat_eq, refl, sym, ap, subst, ◌∙◌, arith}, lemmas.{Bool.or_parts, List.length_push}}
 use Rattle.std.proofs.lemmas.List.Folds.{list_any-append}
-use Rattle.std.specs.Prelude.{flat_map, slice_get}
+use Rattle.std.specs.Prelude.{slice_get}
 use Rattle.query_lang.specs.declared.query.Item.TheVariants as item
 use Rattle.query_lang.specs.declared.query.StreamOp.TheVariants as ops
-use Rattle.query_lang.specs.declared.typed.PrintOf.TheVariants as place
 use Rattle.query_lang.specs.declared.typed.TypedOp.TheVariants as typed
 use Rattle.query_lang.specs.declared.typing.Meaning.TheVariants as meaning
 use Rattle.query_lang.specs.declared.typing.Origin.TheVariants as origin
-use Rattle.query_laws.proofs.Terms.{Column, Expr, FinalDef, FoldDef, Item, Key, Name, Query, StreamDef, StreamOp, TypedQuery, Earlier}
-use Rattle.query_laws.proofs.Terms.{FoldView, Given, Known, MadeStream, Meaning, NewColumns, Picked, StreamView, is_among, slot_of, word_of}
-use Rattle.query_laws.proofs.Terms.{condition_of, fold_checked, meaning_of, as_stream, stream_named, fold_named, column_names, others_from}
-use Rattle.query_laws.proofs.Terms.{columns_at, new_columns, no_new_columns, key_names, keys_from, keys_checked, arguments_of, filtered}
-use Rattle.query_laws.proofs.Terms.{mapped, next_stream, zipped, grouped, made_stream, with_stream, begun, stream_checked, table_named}
-use Rattle.query_laws.proofs.Terms.{made_final, final_checked, typed_names, field_numbers, given_of, start_of, fold_added, print_checked}
-use Rattle.query_laws.proofs.Terms.{item_checked, items_checked, ended, checked, StandsAt}
-use Rattle.query_laws.proofs.{Steps.{must_ok, must_not_ok, same_ok, found_first, nat_other, nat_is_not, by_cond}, ExprSound.slot_stands}
-use Rattle.query_laws.proofs.Views.{View, AreDistinct, AreBelow, mapped_columns, Makes, AreMade, made_long, made_last, get_front, get_after}
+use Rattle.query_laws.proofs.Terms.{Column, FinalDef, FoldDef, Item, Name, Query, StreamDef, StreamOp, TypedQuery, Earlier, Given, Known}
+use Rattle.query_laws.proofs.Terms.{MadeStream, Meaning, NewColumns, StreamView, is_among, word_of, fold_checked, meaning_of, as_stream}
+use Rattle.query_laws.proofs.Terms.{stream_named, column_names, new_columns, no_new_columns, mapped, next_stream, made_stream, with_stream}
+use Rattle.query_laws.proofs.Terms.{begun, stream_checked, table_named, made_final, final_checked, typed_names, field_numbers, given_of}
+use Rattle.query_laws.proofs.Terms.{start_of, fold_added, print_checked, item_checked, items_checked, ended, checked, StandsAt}
+use Rattle.query_laws.proofs.Steps.{must_ok, must_not_ok, same_ok, found_first, nat_other, nat_is_not, by_cond}
+use Rattle.query_laws.proofs.Views.{View, AreDistinct, mapped_columns, Makes, AreMade, made_long, made_last, get_front, get_after}
+use Rattle.query_laws.proofs.{StreamLaws.{made_stream_sound, zip_is, group_is, all_same_complete}, NameLaws.stream_complete}
+use Rattle.query_laws.proofs.ColumnLaws.{slots_within}
 
 -- ---- what names stand for
 
@@ -94,27 +93,12 @@ new_distinct columns hidden (c ∷ new) made {all} d long e =
     (last_of_three (is_among c.name.id columns) (is_among c.name.id hidden) free.0))
     (length_push made.names c.name.id ∙ ap (λ n. n + 1) long ∙ sym (length_push made.values value.0)) value.2
 
--- ---- the slots of keys
+-- ---- places in columns
 
 pub stands_below : (columns : List ℕ) (slot id : ℕ) → StandsAt columns slot id → slot < length columns
 stands_below [] _ _ h = absurd h
 stands_below (_ ∷ _) zero _ h = omega arith
 stands_below (_ ∷ columns) (suc slot) id h = omega (arith, stands_below columns slot id h.1)
-
-below_last : {n : ℕ} (slots : List ℕ) {slot : ℕ} → AreBelow n slots → slot < n → AreBelow n (slots ++ slot ∷ [])
-below_last [] h lt = (lt, tt)
-below_last (_ ∷ slots) h lt = (h.0, below_last slots h.1 lt)
-
-keys_below : (columns hidden : List ℕ) (keys : List Name) (found : Picked) {picked : Picked} → AreBelow (length columns) found.slots
-    → keys_from columns hidden found keys ≡ Ok picked → AreBelow (length columns) picked.slots
-keys_below columns _ [] _ h e = subst (λ z. AreBelow (length columns) z.slots) (same_ok _ _ e) h
-keys_below columns hidden (key ∷ keys) found {picked} h e =
-    let slot = found_first (slot_of columns hidden key) _ picked e in
-    let once = must_not_ok _ _ _ slot.2 in
-    let few = must_ok _ _ _ once.1 in
-    let below = stands_below columns slot.0 key.id (slot_stands columns hidden key slot.1) in
-    keys_below columns hidden keys (record { names = found.names ++ key.id ∷ []; slots = found.slots ++ slot.0 ∷ [] })
-    (below_last found.slots h below) few.1
 
 -- ---- operators
 
@@ -132,29 +116,7 @@ maps_to number source new = record {
   table = None;
 }
 
-abbrev zips_to : StreamView → StreamView → MadeStream
-zips_to left right = record {
-  op = typed.Zip left.number right.number (others_from 0 (column_names left.columns) right.columns);
-  columns = left.columns ++ columns_at right.columns (others_from 0 (column_names left.columns) right.columns);
-  hidden = left.hidden ++ right.hidden;
-  table = None;
-}
-
-abbrev groups_to : ℕ → StreamView → Picked → FoldView → List ℕ → MadeStream
-groups_to groups source picked f arguments = record {
-  op = typed.Group source.number picked.slots f.number arguments;
-  columns = columns_at source.columns picked.slots;
-  hidden = f.states;
-  table = Some (record { place = place.Group groups; columns = picked.names ++ f.states; keys = length picked.names });
-}
-
 module _ (views : List View) (earlier : Earlier) (told : AllTell views earlier.known) where
-  filter_made : (input : Name) (e : Expr) {made : MadeStream} → filtered earlier input e ≡ Ok made → MadeOf views earlier made
-  filter_made input e {made} h =
-      let source = found_first (stream_named earlier.known input) _ made h in
-      let condition = found_first (condition_of (column_names source.0.columns) source.0.hidden e) _ made source.2 in
-      subst (MadeOf views earlier) (same_ok _ made condition.2) (columns_named views earlier.known input told source.1)
-
   map_made : (input : Name) (columns : List Column) {made : MadeStream} → mapped earlier input columns ≡ Ok made → MadeOf views earlier made
   map_made input columns {made} h =
       let source = found_first (stream_named earlier.known input) _ made h in
@@ -169,44 +131,31 @@ module _ (views : List View) (earlier : Earlier) (told : AllTell views earlier.k
         is = refl;
       })
 
-  zip_made : (first second : Name) {made : MadeStream} → zipped earlier first second ≡ Ok made → MadeOf views earlier made
-  zip_made first second {made} h =
-      let left = found_first (stream_named earlier.known first) _ made h in
-      let right = found_first (stream_named earlier.known second) _ made left.2 in
-      let apart = must_not_ok _ _ _ right.2 in
-      made_as views earlier (same_ok (zips_to left.0 right.0) made apart.1) (record {
-        first = left.0.columns;
-        second = right.0.columns;
-        one = columns_named views earlier.known first told left.1;
-        other = columns_named views earlier.known second told right.1;
-        apart = apart.0;
+  stream_made : (five : List ℕ) (name : Name) (op : StreamOp) {made : MadeStream} → made_stream five earlier name op ≡ Ok made
+      → MadeOf views earlier made
+  stream_made five name (ops.Filter input e) is =
+      let h = made_stream_sound five earlier name (ops.Filter input e) is in
+      subst (MadeOf views earlier) (sym h.is) (columns_named views earlier.known input told (stream_complete _ _ h.stream))
+  stream_made _ _ (ops.Map _ _) h = map_made _ _ h
+  stream_made five name (ops.Zip first second) {made} is =
+      let h = made_stream_sound five earlier name (ops.Zip first second) is in
+      subst (MadeOf views earlier) (sym (zip_is first second made h)) (record {
+        first = h.left.columns;
+        second = h.right.columns;
+        one = columns_named views earlier.known first told (stream_complete _ _ h.one);
+        other = columns_named views earlier.known second told (stream_complete _ _ h.other);
+        apart = all_same_complete _ _ h.same;
         picked = refl;
         is = refl;
       })
-
-  group_made : (five : List ℕ) (input : Name) (keys : List Key) (fold_name : Name) {made : MadeStream}
-      → grouped five earlier input keys fold_name ≡ Ok made → MadeOf views earlier made
-  group_made five input keys fold_name {made} h =
-      let source = found_first (stream_named earlier.known input) _ made h in
-      let picked = found_first (keys_checked five (column_names source.0.columns) source.0.hidden keys) _ made source.2 in
-      let f = found_first (fold_named earlier.known fold_name) _ made picked.2 in
-      let arguments =
-      found_first (arguments_of (column_names source.0.columns) source.0.hidden picked.0.names f.0 fold_name.span) _ made f.2 in
-      made_as views earlier (same_ok (groups_to earlier.groups source.0 picked.0 f.0 arguments.0) made arguments.2) (record {
-        source = source.0.columns;
-        stream = columns_named views earlier.known input told source.1;
-        below = subst (λ n. AreBelow n picked.0.slots) (length-map source.0.columns (λ c. c.name))
-            (keys_below (column_names source.0.columns) source.0.hidden (flat_map (key_names five) keys)
-            (record { names = []; slots = [] }) tt picked.1);
+  stream_made five name (ops.Group input keys fold_name) {made} is =
+      let h = made_stream_sound five earlier name (ops.Group input keys fold_name) is in
+      subst (MadeOf views earlier) (sym (group_is input keys fold_name made h)) (record {
+        source = h.source.columns;
+        stream = columns_named views earlier.known input told (stream_complete _ _ h.stream);
+        below = slots_within _ _ _ h.picked.places;
         is = refl;
       })
-
-  stream_made : (five : List ℕ) (name : Name) (op : StreamOp) {made : MadeStream} → made_stream five earlier name op ≡ Ok made
-      → MadeOf views earlier made
-  stream_made _ _ (ops.Filter _ e) h = filter_made _ e h
-  stream_made _ _ (ops.Map _ _) h = map_made _ _ h
-  stream_made _ _ (ops.Zip _ _) h = zip_made _ _ h
-  stream_made five _ (ops.Group input keys fold_name) h = group_made five input keys fold_name (must_ok _ _ _ h).1
 
 -- ---- items
 
