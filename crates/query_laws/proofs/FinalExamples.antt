@@ -1,18 +1,19 @@
 -- The examples of finals, from the rules.
-use Rattle.std.proofs.Common.{◌≡◌, ℕ, ◌≤◌, true, false, List, [], ◌∷◌, refl, sym, ap, ◌∙◌, arith}
+use Rattle.std.proofs.Common.{◌≡◌, ℕ, ◌≤◌, true, false, List, [], ◌∷◌, refl, sym, ap, ◌∙◌, arith, Ok}
 use Rattle.query_lang.specs.declared.fold.TypedExpr.TheVariants as typed
 use Rattle.query_lang.specs.declared.query.Expr.TheVariants.{Named}
 use Rattle.query_lang.specs.declared.query.Key.TheVariants as key
 use Rattle.query_laws.proofs.Terms.{Add, Lt, FinalOp, FoldView, five_fields, IsFold, IsTable, Demand, Holds, Word, Condition, HasKind}
-use Rattle.query_laws.proofs.Terms.{of_number, of_name, of_binary}
+use Rattle.query_laws.proofs.Terms.{of_number, of_name, of_binary, Earlier, MadeFinal, made_final}
 use Rattle.query_laws.specs.Asked.{FinalAsks}
 use Rattle.query_laws.specs.Asked as asks
 use Rattle.query_laws.proofs.{FaultSteps.no_fault, FoldNames.among_new, ItemsMeet.final_meets, Steps.{same_ok, place_stands}}
 use Rattle.query_laws.proofs.TypingExamples.{no_place, right_of_0}
-use Rattle.query_laws.proofs.NameLaws.{fold_name_sound, fold_name_complete, table_sound, table_complete, apart_sound}
+use Rattle.query_laws.proofs.{NameLaws.{fold_name_sound, fold_name_complete, table_sound, table_complete}, FinalLaws.made_final_sound}
 use Rattle.query_laws.specs.{TypingExamples.{here, called, first, is_above_0, new_column}, FinalExamples.{group_table, final_table}}
 use Rattle.query_laws.specs.FinalExamples.{without_emit, with_emit, tables, three_groupbys, MakesNoTable, MakesRows, FilteredTables}
-use Rattle.query_laws.specs.FinalExamples.{MappedTables, GroupedTables, JoinedTables, RankedTables, FinalExamples}
+use Rattle.query_laws.specs.FinalExamples.{MappedTables, GroupedTables, JoinedTables, RankedTables, FinalExamples, table_by, MakesTable}
+use Rattle.query_lang.specs.declared.query.FinalOp.TheVariants.{Join}
 
 ten : IsTable tables 10 (group_table 0 1 3)
 ten = table_sound tables (called 10) refl
@@ -47,6 +48,13 @@ rows_are some few = record {
   few = few;
   is = refl;
 }
+
+abbrev after : Earlier
+after = record { known = tables; groups = 3; folds = []; streams = []; finals = []; prints = []; printed = [] }
+
+-- what the check makes has a rule
+made_by_check : (op : FinalOp) {made : MadeFinal} → made_final three_groupbys after op ≡ Ok made → MakesTable op made
+made_by_check op is = made_final_sound three_groupbys after op is
 
 -- ---- refused
 
@@ -100,18 +108,7 @@ mapped_tables = record {
 
 grouped_tables : GroupedTables
 grouped_tables = record {
-  groupby_of_a_key = record {
-    source = group_table 0 1 3;
-    slots = 0 ∷ [];
-    f = without_emit;
-    arguments = 1 ∷ [];
-    table = ten;
-    picked = record { places = (refl, tt); distinct = (tt, tt); few = omega arith };
-    fold = fifteen;
-    quiet = refl;
-    taken = record { places = (place_stands (1 ∷ 3 ∷ []) 3 1 refl, tt); apart = apart_sound (6 ∷ []) (1 ∷ []) refl };
-    is = refl;
-  };
+  groupby_of_a_key = made_by_check (table_by 10 1 15) refl;
   groupby_with_an_emit = unmet (asks.of_fold (called 10) (key.Named (called 1) ∷ []) (called 16)) quiet;
   key_without_a_column = unmet (asks.of_keys (group_table 0 1 3) ten (asks.of_key [] (called 2) [] refl)) (no_place (1 ∷ 3 ∷ []) 2 refl);
   argument_without_a_column = unmet (asks.of_arguments (group_table 1 1 4) eleven fifteen (asks.of_argument [] 3 [] refl))
@@ -120,15 +117,7 @@ grouped_tables = record {
 
 joined_tables : JoinedTables
 joined_tables = record {
-  join_by_the_same_keys = record {
-    left = group_table 0 1 3;
-    right = group_table 1 1 4;
-    one = ten;
-    other = eleven;
-    keys = refl;
-    apart = apart_sound (4 ∷ []) (1 ∷ 3 ∷ []) refl;
-    is = refl;
-  };
+  join_by_the_same_keys = made_by_check (Join (called 10) (called 11)) refl;
   join_by_other_keys = unmet (asks.of_both (called 10) (called 12) (group_table 0 1 3) (group_table 2 2 4) ten twelve)
       (λ e. let same = same_first e in absurd (omega (arith, same)));
   join_of_one_name = unmet (asks.of_others (group_table 0 1 3) final_table ten thirteen) (λ apart. apart.0.1.0 refl);
