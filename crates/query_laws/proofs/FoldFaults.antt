@@ -1,16 +1,12 @@
 -- What a fault in a fold says.
-use Rattle.std.proofs.Common.{◌≡◌, ℕ, false, ◌||◌, List, [], ◌∷◌, ◌++◌, length, map, Err, suc, refl, sym, ap, subst, ◌∙◌, append_assoc}
-use Rattle.std.proofs.Common.{arith}
+use Rattle.std.proofs.Common.{◌≡◌, ℕ, false, ◌||◌, List, [], ◌∷◌, ◌++◌, length, Err, suc, refl, sym, ap, subst, ◌∙◌, append_assoc, arith}
 use Rattle.std.specs.Prelude.{nat_lt}
 use Rattle.query_laws.proofs.Terms.{QueryFault, FoldDef, Name, StateVar, Known, and_then, is_among, states_from, args_from, body_checked}
 use Rattle.query_laws.proofs.Terms.{fold_checked, MAX_ARGS, MAX_STATES, IsNew, state_names_of, arg_names_of}
 use Rattle.query_laws.proofs.{BodyFaults.{BlockTold, at_statement, second, follows, body_told}, ExprFaults.not_new, FoldLaws.rest_of}
 use Rattle.query_laws.proofs.FaultSteps.{no_fault, by_must, by_must_not, by_next, Broken, broken_in, broken_at}
-use Rattle.query_laws.proofs.{FoldNames.{among_append, states_sound, args_sound}, NameFaults.{at_least, ids_last, ids_long}}
+use Rattle.query_laws.proofs.{FoldNames.{among_append, states_sound, args_sound, ids}, NameFaults.{at_least, ids_last, ids_long}}
 use Rattle.query_laws.specs.Asked.{FoldAsks, of_state, of_states, of_arg, of_args, of_statement, of_emits, ids_of}
-
-abbrev ids : List StateVar → List ℕ
-ids states = map (λ other. other.name.id) states
 
 state_last : (front : List StateVar) (s : StateVar) → ids (front ++ s ∷ []) ≡ ids front ++ s.name.id ∷ []
 state_last [] s = refl

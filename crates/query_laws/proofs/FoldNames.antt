@@ -29,7 +29,7 @@ among_append id (x ∷ xs) ys = by_test (nat_eq x id) (λ is. rw is) (λ is. rw 
 pub below : {k n : ℕ} → k < n → nat_lt k n ≡ true
 below h = grind arith
 
-abbrev ids : List StateVar → List ℕ
+abbrev pub ids : List StateVar → List ℕ
 ids ss = map (λ s. s.name.id) ss
 
 pub states_sound : (ss : List StateVar) (found : List ℕ) {all : List ℕ} → length found ≤ MAX_STATES → states_from found ss ≡ Ok all

@@ -14,7 +14,7 @@ use Rattle.query_laws.specs.Asked.{of_statement, of_emits}
 use Rattle.query_laws.specs.Demands as parts
 use Rattle.query_laws.proofs.{Blocks.{stmt_is, target_stands, no_state_ok, block_complete}, ExprSound.{condition_sound, word_sound}}
 use Rattle.query_laws.proofs.{FaultSteps.not_both, FoldLaws.nothing_around}
-use Rattle.query_laws.proofs.FoldNames.{among_new, neither, in_named, in_not, in_binary, no_span}
+use Rattle.query_laws.proofs.FoldNames.{among_new, neither, in_named, in_not, in_binary, no_span, ids}
 use Rattle.query_laws.proofs.Meets.{EachIs, one_is, expr_meets, new_at, names_new, few_before}
 use Rattle.query_laws.proofs.{Steps.{must_not_ok, same_ok, found_first, by_test}, Layers.{OfStmtLayers, of_stmt, expr_at}}
 
@@ -222,9 +222,6 @@ module _ (states args : List ℕ) where
       let i = if_of f.1 in one_emit h _ _ i.second
 
 -- ---- folds
-
-abbrev ids : List StateVar → List ℕ
-ids states = map (λ other. other.name.id) states
 
 states_split : (front : List StateVar) (s : StateVar) (back : List StateVar) → ids (front ++ s ∷ back) ≡ ids front ++ s.name.id ∷ ids back
 states_split [] s _ = refl
