@@ -11,7 +11,7 @@ use Rattle.query_laws.proofs.Terms.{Origin, StreamColumn, stream_named, fold_nam
 use Rattle.query_laws.proofs.Terms.{same_origin, clashes_with, clash, others_from, columns_at, filtered, mapped, zipped, next_stream}
 use Rattle.query_laws.proofs.Terms.{made_stream, MAX_GROUPBYS, HasTypedColumns, HasKeys, HasArguments, key_ids, IsSame, AreSame, OfFilter}
 use Rattle.query_laws.proofs.{Terms.{OfMap, OfZip, OfGroup, HasStream}, Steps.{must_ok, must_not_ok, must_holds, must_not_holds, same_ok}}
-use Rattle.query_laws.proofs.Steps.{found_first, then_next, nat_same, nat_other, nat_is, by_test}
+use Rattle.query_laws.proofs.Steps.{found_first, then_next, nat_same, nat_is, by_test}
 use Rattle.query_laws.proofs.{ColumnLaws.{at_slots, keys_there, others_are, others_taken}, ExprSound.condition_sound}
 use Rattle.query_laws.proofs.{ExprComplete.condition_complete, FoldNames.below, NameLaws.{ok, stream_sound, stream_complete}}
 use Rattle.query_laws.proofs.NameLaws.{fold_name_sound, fold_name_complete, columns_sound, columns_complete, keys_sound, keys_complete}
@@ -80,17 +80,18 @@ same_self (origin.Map a) = nat_is refl
 origin_is : {a b : Origin} → a ≡ b → same_origin a b ≡ true
 origin_is {a} e = subst (λ z. same_origin a z ≡ true) e (same_self a)
 
+pub same_where : (a b : Bool) → a ≡ true → (a && not b) ≡ false → b ≡ true
+same_where true true _ e = refl
+same_where true false _ e = cc e
+same_where false b is e = cc is
+
 same_sound : (left : List StreamColumn) (column : StreamColumn) → clashes_with left column ≡ false → IsSame left column
 same_sound [] _ e = tt
-same_sound (other ∷ rest) column e = go (nat_eq other.name column.name) refl (same_origin other.origin column.origin) refl
-    (λ k. same_sound rest column k) e
-  where
-    go : (b : Bool) → nat_eq other.name column.name ≡ b → (s : Bool) → same_origin other.origin column.origin ≡ s
-        → (clashes_with rest column ≡ false → IsSame rest column)
-        → ((b && not s) || clashes_with rest column) ≡ false → IsSame (other ∷ rest) column
-    go true _ true so more e = (λ n. origin_same other.origin column.origin so, more e)
-    go true _ false _ _ e = cc e
-    go false is s _ more e = (λ n. absurd (nat_other is n), more e)
+same_sound (other ∷ rest) column e =
+    let parts = or_parts (nat_eq other.name column.name && not (same_origin other.origin column.origin)) _ e in (
+      λ n. origin_same other.origin column.origin (same_where (nat_eq other.name column.name) _ (nat_is n) parts.0),
+      same_sound rest column parts.1,
+    )
 
 apart_or_same : {other column : StreamColumn} → (other.name ≡ column.name → other.origin ≡ column.origin)
     → (nat_eq other.name column.name && not (same_origin other.origin column.origin)) ≡ false

@@ -1,14 +1,13 @@
 -- What a zip's rows have under the names of both streams.
-use Rattle.std.proofs.Common.{◌≡◌, ℕ, zero, suc, ◌+◌, Bool, true, false, cond, not, ◌&&◌, List, [], ◌∷◌, ◌++◌, length, Option, Some, None}
-use Rattle.std.proofs.{Common.{nat_eq, slice_index, refl, sym, ap, subst, ◌∙◌, append_assoc, arith}, lemmas.List.length_push}
-use Rattle.std.proofs.lemmas.Option.{same_Some}
+use Rattle.std.proofs.Common.{◌≡◌, ℕ, zero, suc, ◌+◌, Bool, true, false, not, ◌&&◌, List, [], ◌∷◌, ◌++◌, length, Option, Some, None, nat_eq}
+use Rattle.std.proofs.{Common.{slice_index, refl, sym, ap, subst, ◌∙◌, append_assoc, arith}, lemmas.{List.length_push, Option.same_Some}}
 use Rattle.std.specs.{Prelude.{Contains, slice_get, option_map, if◌then◌else◌}, List.list_any}
 use Rattle.query_lang.specs.declared.typing.Origin.TheVariants as origin
 use Rattle.query_lang.specs.Streams.{Tuple, all_streams, stream}
 use Rattle.query_laws.proofs.Terms.{Zip, TypedQuery, StreamColumn, is_among, place_from, column_names, same_origin, clashes_with, clash}
 use Rattle.query_laws.proofs.{Terms.{others_from, columns_at}, Steps.{nat_same, nat_is, by_test, by_cond, by_option}, Typed.field_view}
 use Rattle.query_laws.proofs.{Views.{View, ZipAt, zip_made}, Values.{Values, row_of, have_at}, Rows.{HasRows, names_are, row_in}}
-use Rattle.query_laws.proofs.StreamLaws.{origin_same}
+use Rattle.query_laws.proofs.StreamLaws.{origin_same, same_where}
 use Rattle.query_laws.specs.{Columns.{columns_of, operator_of, IsZip, value_under}, TupleLaws.{ColumnsAgree, ColumnsAreKept}}
 use Rattle.std.proofs.lemmas.Bool.{or_parts}
 
@@ -30,23 +29,13 @@ value_from : (V : Values) (packet id : ℕ) (front : List ℕ) (view : View)
     → option_map (λ slot. slice_index (front ++ row_of V packet view) slot) (place_from (length front) (column_names view) id)
     ≡ value_of V packet (named view id)
 value_from V _ _ _ [] = refl
-value_from V packet id front (c ∷ view) = go (nat_eq c.name id)
-    (ap (λ n. option_map (λ slot. slice_index whole slot) (place_from n (column_names view) id)) (sym (length_push front x))
+value_from V packet id front (c ∷ view) =
+    let x = V packet c.origin c.name in
+    let whole : List ℕ = front ++ row_of V packet (c ∷ view) in
+    by_test (nat_eq c.name id) (λ is. rw is (ap (λ n. Some n) (index_after front (row_of V packet view)))) (λ is. rw is (
+    ap (λ n. option_map (λ slot. slice_index whole slot) (place_from n (column_names view) id)) (sym (length_push front x))
     ∙ ap (λ l. option_map (λ slot. slice_index l slot) (place_from (length (front ++ x ∷ [])) (column_names view) id))
-    (sym (append_assoc front (x ∷ []) (row_of V packet view))) ∙ value_from V packet id (front ++ x ∷ []) view)
-  where
-    x : ℕ
-    x = V packet c.origin c.name
-
-    whole : List ℕ
-    whole = front ++ row_of V packet (c ∷ view)
-
-    go : (b : Bool) → option_map (λ slot. slice_index whole slot) (place_from (length front + 1) (column_names view) id) ≡ value_of V packet
-        (named view id)
-        → option_map (λ slot. slice_index whole slot) (cond b (Some (length front)) (place_from (length front + 1) (column_names view) id))
-        ≡ value_of V packet (cond b (Some c) (named view id))
-    go true _ = ap (λ n. Some n) (index_after front (row_of V packet view))
-    go false more = more
+    (sym (append_assoc front (x ∷ []) (row_of V packet view))) ∙ value_from V packet id (front ++ x ∷ []) view))
 
 value_named : (V : Values) (packet id : ℕ) (view : View)
     → value_under id (column_names view) (row_of V packet view) ≡ value_of V packet (named view id)
@@ -62,11 +51,6 @@ named_fails (x ∷ view) {id} test e h =
     let none = or_parts (test x) _ h in
     by_cond (nat_eq x.name id) e (λ is k. subst (λ z. (z.name ≡ id) × (test z ≡ false)) (same_Some x _ k) (nat_same is, none.0))
     (λ _ k. named_fails view test k none.1)
-
-same_where : (a b : Bool) → a ≡ true → (a && not b) ≡ false → b ≡ true
-same_where true true _ e = refl
-same_where true false _ e = cc e
-same_where false b is e = cc is
 
 -- columns of one name come from one place
 columns_same : (first second : View) (id : ℕ) {c d : StreamColumn} → clash first second ≡ false → named first id ≡ Some c
@@ -144,18 +128,10 @@ keeps_first V packet first more id e = by_option (named first id) (λ is. cc (rw
 keeps_second : (V : Values) (packet : ℕ) (first second : View) (id : ℕ) {v : ℕ} → clash first second ≡ false
     → value_of V packet (named second id) ≡ Some v
     → value_of V packet (named (first ++ columns_at second (others_from 0 (column_names first) second)) id) ≡ Some v
-keeps_second V packet first second id {v} apart e = go (named first id) (named second id) refl refl e
-  where
-    zipped : View
-    zipped = first ++ columns_at second (others_from 0 (column_names first) second)
-
-    go : (o p : Option StreamColumn) → named first id ≡ o → named second id ≡ p → value_of V packet p ≡ Some v
-        → value_of V packet (named zipped id) ≡ Some v
-    go o None _ _ k = cc k
-    go None (Some d) is other k = ap (value_of V packet) (zip_after first second id is ∙ other) ∙ k
-    go (Some c) (Some d) is other k =
-        ap (value_of V packet) (named_front first (columns_at second (others_from 0 (column_names first) second)) id is)
-        ∙ ap (λ n. Some n) (values_same V first second id apart is other) ∙ k
+keeps_second V packet first second id apart e = by_option (named second id) (λ none. cc (rw none at e)) (λ d other.
+    by_option (named first id) (λ is. rw (zip_after first second id is, other) (rw other at e)) (λ c is.
+    rw (named_front first (columns_at second (others_from 0 (column_names first) second)) id is)
+    (ap (λ n. Some n) (values_same V first second id apart is other) ∙ rw other at e)))
 
 -- ---- and over streams
 
