@@ -155,8 +155,6 @@ module _ (columns hidden : List ℕ) (known : List Known) where
   call_told : {k : Kind} {op : Op} {span : Span} (es : List Expr) (fs : List Found) {fault : QueryFault}
       → Each columns hidden es fs → call_of op span fs ≡ Err fault → ExprBroken k (whole.Call op span es) fault
   call_told [] [] _ e = not_two _ (λ n. omega (arith, n)) (same_fault e)
-  call_told [] (f ∷ _) all e = absurd all
-  call_told (a ∷ _) [] all e = absurd all
   call_told (a ∷ []) (f ∷ []) _ e = not_two _ (λ n. omega (arith, n)) (same_fault e)
   call_told (a ∷ []) (f ∷ g ∷ _) all e = absurd all.1
   call_told (a ∷ b ∷ _) (f ∷ []) all e = absurd all.1
@@ -165,6 +163,7 @@ module _ (columns hidden : List ℕ) (known : List Known) where
   call_told (a ∷ b ∷ []) (f ∷ g ∷ h ∷ _) all e = absurd all.1.1
   call_told (a ∷ b ∷ c ∷ _) (f ∷ g ∷ []) all e = absurd all.1.1
   call_told (a ∷ b ∷ c ∷ _) (f ∷ g ∷ h ∷ _) _ e = not_two _ (λ n. omega (arith, n)) (same_fault e)
+  call_told _ _ all _ = absurd all
 
   -- the argument at which a fault is found
   argument_told : (args : List Told) (before : List Found) {fault : QueryFault}

@@ -10,7 +10,7 @@ use Rattle.query_laws.proofs.Terms.{rolls-Not, rolls-Binary, rolls-Call, Found, 
 use Rattle.query_laws.proofs.Terms.{is_condition_sort, is_operand, is_number_with, is_right_constant, sort_of, of_two, call_of, expr_step}
 use Rattle.query_laws.proofs.Terms.{expr_checked, condition_of, word_of, Kind, Word, Condition, StandsAt, operand_kind, result_kind}
 use Rattle.query_laws.proofs.Terms.{IsNumberWith, gives_condition, IsRightOperand, HasKind, of_number, of_name, of_not, of_binary, of_call}
-use Rattle.query_laws.proofs.{Steps.{must_ok, same_ok, found_first, place_stands, collected_first}, Layers.{OfExprLayers, of_expr}}
+use Rattle.query_laws.proofs.{Steps.{must_ok, same_ok, found_first, place_stands, collected_first, by_test}, Layers.{OfExprLayers, of_expr}}
 
 abbrev pub kind_of : Sort → Kind
 kind_of (sort.Number n) = Word
@@ -51,11 +51,7 @@ operand Either s e = condition_kind s e
 operand _ s e = word_kind s e
 
 pub kind_made : (op : Op) → kind_of (sort_of op) ≡ result_kind op
-kind_made op = go (gives_condition op)
-  where
-    go : (b : Bool) → kind_of (cond b sort.Condition sort.Word) ≡ cond b Condition Word
-    go true = refl
-    go false = refl
+kind_made op = by_test (gives_condition op) (λ is. rw is) (λ is. rw is)
 
 no_number : (b : Bool) (e : Expr) → IsNumberOf (cond b sort.Condition sort.Word) e
 no_number true e = tt
@@ -131,18 +127,15 @@ collected_each columns hidden (a ∷ es) before e =
 call : {columns : List ℕ} (hidden : List ℕ) {op : Op} {span : Span} (args : List (Sound columns hidden)) (fs : List Found) {found : Found}
     → Each columns hidden (map (λ a. a.0) args) fs → call_of op span fs ≡ Ok found
     → IsTyped columns (whole.Call op span (map (λ a. a.0) args)) found
-call _ [] [] _ e = cc e
-call _ [] (f ∷ _) all e = absurd all
-call _ (a ∷ _) [] all e = absurd all
-call _ (a ∷ []) (f ∷ []) _ e = cc e
-call _ (a ∷ []) (f ∷ g ∷ _) all e = absurd all.1
-call _ (a ∷ b ∷ _) (f ∷ []) all e = absurd all.1
+call _ _ [] _ e = cc e
+call _ _ (f ∷ []) _ e = cc e
+call _ _ (f ∷ g ∷ h ∷ _) _ e = cc e
+call _ [] (f ∷ g ∷ []) all e = absurd all
+call _ (a ∷ []) (f ∷ g ∷ []) all e = absurd all.1
+call _ (a ∷ b ∷ c ∷ _) (f ∷ g ∷ []) all e = absurd all.1.1
 call _ {span} (a ∷ b ∷ []) (f ∷ g ∷ []) all e =
     let v = two _ (a.1 f all.0) (b.1 g all.1.0) e in
     record { rule = ruled v.kind refl v.tree (of_call span v.first v.second v.constant); number = v.number _ }
-call _ (a ∷ b ∷ []) (f ∷ g ∷ h ∷ _) all e = absurd all.1.1
-call _ (a ∷ b ∷ c ∷ _) (f ∷ g ∷ []) all e = absurd all.1.1
-call _ (a ∷ b ∷ c ∷ _) (f ∷ g ∷ h ∷ _) _ e = cc e
 
 moved : {columns : List ℕ} {e f : Expr} {found : Found} → f ≡ e → IsTyped columns e found → IsTyped columns f found
 moved {columns} {found} is h = subst (λ z. IsTyped columns z found) (sym is) h

@@ -64,21 +64,18 @@ record Pair (columns : List ℕ) (op : Op) (es : List Expr) : Type 0 where
 
 pair_of : {columns : List ℕ} {op : Op} (span : Span) (es : List Expr) (fs : List Found) {found : Found} → Each columns [] es fs
     → call_of op span fs ≡ Ok found → Pair columns op es
-pair_of _ [] [] _ e = cc e
-pair_of _ [] (f ∷ _) all e = absurd all
-pair_of _ (a ∷ _) [] all e = absurd all
-pair_of _ (a ∷ []) (f ∷ []) _ e = cc e
-pair_of _ (a ∷ []) (f ∷ g ∷ _) all e = absurd all.1
-pair_of _ (a ∷ b ∷ _) (f ∷ []) all e = absurd all.1
+pair_of _ _ [] _ e = cc e
+pair_of _ _ (f ∷ []) _ e = cc e
+pair_of _ _ (f ∷ g ∷ h ∷ _) _ e = cc e
+pair_of _ [] (f ∷ g ∷ []) all e = absurd all
+pair_of _ (a ∷ []) (f ∷ g ∷ []) all e = absurd all.1
+pair_of _ (a ∷ b ∷ c ∷ _) (f ∷ g ∷ []) all e = absurd all.1.1
 pair_of span (a ∷ b ∷ []) (f ∷ g ∷ []) all e = record {
   a = a;
   b = b;
   are = refl;
   both = both_of (two span (expr_sound [] a f all.0) (expr_sound [] b g all.1.0) e);
 }
-pair_of _ (a ∷ b ∷ []) (f ∷ g ∷ h ∷ _) all e = absurd all.1.1
-pair_of _ (a ∷ b ∷ c ∷ _) (f ∷ g ∷ []) all e = absurd all.1.1
-pair_of _ (a ∷ b ∷ c ∷ _) (f ∷ g ∷ h ∷ _) _ e = cc e
 
 of_function : {columns : List ℕ} {k : Kind} {op : Op} {span : Span} {es : List Expr} {t : TypedExpr}
     → HasKind columns k (whole.Call op span es) t → Pair columns op es
@@ -149,12 +146,11 @@ AtColumn columns taken c = IsNew c.name.id taken × HasForm columns Word c.value
 
 column_at : {columns : List ℕ} (taken : List ℕ) (front : List Column) (c : Column) (back : List Column) (values : List TypedExpr)
     → HasTypedColumns columns taken (front ++ c ∷ back) values → AtColumn columns (taken ++ new_names front) c
-column_at _ [] c _ [] h = absurd h
 column_at {columns} taken [] c _ (v ∷ _) h = subst (λ z. AtColumn columns z c) (sym (append-nil taken)) (h.0, (v, h.1))
-column_at _ (x ∷ _) c _ [] h = absurd h
 column_at {columns} taken (x ∷ front) c back (v ∷ values) h =
     subst (λ z. AtColumn columns z c) (append_assoc taken (x.name.id ∷ []) (new_names front))
     (column_at (taken ++ x.name.id ∷ []) front c back values h.2)
+column_at _ _ _ _ _ h = absurd h
 
 pub columns_meet : (known : List Known) {columns hidden : List ℕ} {new : List Column} (values : List TypedExpr) {d : Demand}
     → HasTypedColumns columns (columns ++ hidden) new values → ColumnsAsk columns hidden new d → Holds known d
@@ -168,10 +164,9 @@ columns_meet _ {columns} {hidden} values h (of_value _ c _ split asked) =
 
 slot_at : (columns front : List ℕ) (id : ℕ) (back slots : List ℕ) → HasSlots columns (front ++ id ∷ back) slots → (slot : ℕ)
     × StandsAt columns slot id
-slot_at _ [] _ _ [] h = absurd h
 slot_at _ [] _ _ (slot ∷ _) h = (slot, h.0)
-slot_at _ (x ∷ _) _ _ [] h = absurd h
 slot_at columns (x ∷ front) id back (_ ∷ slots) h = slot_at columns front id back slots h.1
+slot_at _ _ _ _ _ h = absurd h
 
 pub keys_meet : (known : List Known) {columns hidden : List ℕ} {keys : List Name} {slots : List ℕ} {d : Demand}
     → HasKeys columns (ids_of keys) slots → KeysAsk columns hidden keys d → Holds known d

@@ -43,8 +43,7 @@ stream_told known x {fault} e = go (meaning_of known x.id) refl e
     go : (o : Option Meaning) → meaning_of known x.id ≡ o → as_stream o x.span ≡ Err fault → StandsTold known AStream x fault
     go None is e = unknown_told _ _ x _ is (same_fault e)
     go (Some (meaning.Stream s)) _ e = no_fault e
-    go (Some (meaning.Fold f)) is e = other_told _ _ x _ _ is (no_form meaning.Stream _ _ is (λ s k. cc k)) (same_fault e)
-    go (Some (meaning.Final t)) is e = other_told _ _ x _ _ is (no_form meaning.Stream _ _ is (λ s k. cc k)) (same_fault e)
+    go (Some m) is e = other_told _ _ x _ m is (no_form meaning.Stream _ _ is (λ s k. cc k)) (same_fault e)
 
 pub fold_told : (known : List Known) (x : Name) {fault : QueryFault} → fold_named known x ≡ Err fault → StandsTold known AFold x fault
 fold_told known x {fault} e = go (meaning_of known x.id) refl e
@@ -52,8 +51,7 @@ fold_told known x {fault} e = go (meaning_of known x.id) refl e
     go : (o : Option Meaning) → meaning_of known x.id ≡ o → as_fold o x.span ≡ Err fault → StandsTold known AFold x fault
     go None is e = unknown_told _ _ x _ is (same_fault e)
     go (Some (meaning.Fold f)) _ e = no_fault e
-    go (Some (meaning.Stream s)) is e = other_told _ _ x _ _ is (no_form meaning.Fold _ _ is (λ f k. cc k)) (same_fault e)
-    go (Some (meaning.Final t)) is e = other_told _ _ x _ _ is (no_form meaning.Fold _ _ is (λ f k. cc k)) (same_fault e)
+    go (Some m) is e = other_told _ _ x _ m is (no_form meaning.Fold _ _ is (λ f k. cc k)) (same_fault e)
 
 no_table : (known : List Known) (id : ℕ) (m : Meaning) → meaning_of known id ≡ Some m → ((t : TableView) → m ≡ meaning.Final t → ⊥)
     → ((s : StreamView) (t : TableView) → m ≡ meaning.Stream s → s.table ≡ Some t → ⊥) → IsSought known ATable id → ⊥
@@ -94,11 +92,10 @@ quiet_told known x {fault} e = go (meaning_of known x.id) refl e
 
     go : (o : Option Meaning) → meaning_of known x.id ≡ o → and_then (as_fold o x.span) (λ f. must_not f.emits WrongKind x.span (Ok f))
         ≡ Err fault → StandsTold known AQuietFold x fault
-    go None is e = unknown_told known AQuietFold x fault is (same_fault e)
-    go (Some (meaning.Fold f)) is e = by_must_not f.emits e (λ emits same. other_told known AQuietFold x fault _ is (loud f is emits) same)
+    go None is e = unknown_told _ _ x _ is (same_fault e)
+    go (Some (meaning.Fold f)) is e = by_must_not f.emits e (λ emits same. other_told _ _ x _ _ is (loud f is emits) same)
         (λ no e. no_fault e)
-    go (Some (meaning.Stream s)) is e = other_told known AQuietFold x fault _ is (none _ is (λ f k. cc k)) (same_fault e)
-    go (Some (meaning.Final t)) is e = other_told known AQuietFold x fault _ is (none _ is (λ f k. cc k)) (same_fault e)
+    go (Some m) is e = other_told _ _ x _ m is (none m is (λ f k. cc k)) (same_fault e)
 
 -- ---- new columns
 
@@ -142,8 +139,8 @@ pub keys_told : {columns hidden : List ℕ} {all : List Name} (front keys : List
     → all ≡ front ++ keys → found.names ≡ ids_of front → keys_from columns hidden found keys ≡ Err fault
     → Broken (KeysAsk columns hidden all) known fault
 keys_told _ [] _ _ _ e = no_fault e
-keys_told {columns} {hidden} front (key ∷ keys) found {known} split same e =
-    by_next (slot_of columns hidden key) e (λ is. broken _ (of_key front key keys split) (slot_told columns hidden key is known))
+keys_told {columns} {hidden} front (key ∷ keys) found split same e =
+    by_next (slot_of columns hidden key) e (λ is. broken _ (of_key front key keys split) (slot_told _ _ key is _))
     (λ slot is e. by_must_not (is_among key.id found.names) e (λ among at. broken_at _ (of_new front key keys split) at
     (refl, λ fresh. not_new key.id found.names among (subst (λ z. IsNew key.id z) (sym same) fresh)))
     (λ none e. by_must (nat_lt (length found.names) MAX_KEYS) _ e (λ full at.
@@ -168,4 +165,4 @@ pub arguments_told : {columns hidden keys : List ℕ} {f : FoldView} {span : Spa
 arguments_told {columns} {hidden} {keys} {f} {span} e = by_next (collected [] (map (slot_for columns hidden span) f.args)) e
     (λ is. argument_told [] f.args [] refl is) (λ slots is e.
     by_must_not (list_any (λ state. is_among state keys) f.states) e (λ among at. broken_at _ of_states at
-    (refl, λ apart. not_both _ (apart_complete f.states keys apart) among)) (λ none e. no_fault e))
+    (refl, λ apart. not_both _ (apart_complete _ _ apart) among)) (λ none e. no_fault e))

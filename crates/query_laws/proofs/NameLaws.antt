@@ -113,14 +113,13 @@ pub columns_complete : (columns hidden : List ℕ) (cs : List Column) (values : 
     → HasTypedColumns columns (columns ++ (hidden ++ made.names)) cs values
     → new_columns columns hidden made cs ≡ Ok (record { names = made.names ++ new_names cs; values = made.values ++ values })
 columns_complete _ _ [] [] made h = ok (columns_same (sym (append-nil made.names)) (sym (append-nil made.values)))
-columns_complete _ _ [] (v ∷ _) _ h = absurd h
-columns_complete _ _ (c ∷ _) [] _ h = absurd h
 columns_complete columns hidden (c ∷ cs) (v ∷ values) made h =
     must_not_holds _ _ (sym (taken_is c.name.id columns hidden made.names) ∙ new_among c.name.id _ h.0)
     ∙ then_next _ (word_complete hidden h.1)
     ∙ columns_complete columns hidden cs values (record { names = made.names ++ c.name.id ∷ []; values = made.values ++ v ∷ [] })
     (subst (λ z. HasTypedColumns columns z cs values) (taken_more c.name.id columns hidden made.names) h.2)
     ∙ ok (columns_same (append_assoc made.names (c.name.id ∷ []) (new_names cs)) (append_assoc made.values (v ∷ []) values))
+columns_complete _ _ _ _ _ h = absurd h
 
 -- ---- keys
 
@@ -166,14 +165,13 @@ pub keys_complete : (columns hidden : List ℕ) (keys : List Name) (slots : List
     → AreNew found.names (name_ids keys) → length found.names + length keys ≤ MAX_KEYS
     → keys_from columns hidden found keys ≡ Ok (record { names = found.names ++ name_ids keys; slots = found.slots ++ slots })
 keys_complete _ _ [] [] found h _ _ = ok (picked_same (sym (append-nil found.names)) (sym (append-nil found.slots)))
-keys_complete _ _ [] (s ∷ _) _ h _ _ = absurd h
-keys_complete _ _ (_ ∷ _) [] _ h _ _ = absurd h
 keys_complete columns hidden (key ∷ keys) (s ∷ slots) found h new few = then_next _ (slot_complete columns hidden key h.0)
     ∙ must_not_holds _ _ (new_among key.id found.names new.0) ∙ must_holds _ _
     (below {k = length found.names} {n = MAX_KEYS} (omega (arith, few)))
     ∙ keys_complete columns hidden keys slots (record { names = found.names ++ key.id ∷ []; slots = found.slots ++ s ∷ [] }) h.1 new.1
     (omega (arith, few, length-append found.names (key.id ∷ [])))
     ∙ ok (picked_same (append_assoc found.names (key.id ∷ []) (name_ids keys)) (append_assoc found.slots (s ∷ []) slots))
+keys_complete _ _ _ _ _ h _ _ = absurd h
 
 -- ---- arguments
 
@@ -195,11 +193,10 @@ slots_sound columns hidden span (id ∷ ids) before e =
 slots_complete : (columns hidden : List ℕ) (span : Span) (ids slots before : List ℕ) → HasSlots columns ids slots
     → collected before (map (slot_for columns hidden span) ids) ≡ Ok (before ++ slots)
 slots_complete _ _ _ [] [] before h = ok (sym (append-nil before))
-slots_complete _ _ _ [] (s ∷ _) _ h = absurd h
-slots_complete _ _ _ (_ ∷ _) [] _ h = absurd h
 slots_complete columns hidden span (id ∷ ids) (s ∷ slots) before h = ap (λ c. collected before (c ∷ map (slot_for columns hidden span) ids))
     (slot_complete columns hidden (record { id = id; span = span }) h.0)
     ∙ slots_complete columns hidden span ids slots (before ++ s ∷ []) h.1 ∙ ok (append_assoc before (s ∷ []) slots)
+slots_complete _ _ _ _ _ _ h = absurd h
 
 pub apart_sound : (ids others : List ℕ) → list_any (λ id. is_among id others) ids ≡ false → AreApart ids others
 apart_sound [] _ e = tt

@@ -20,7 +20,7 @@ use Rattle.query_laws.specs.QueryRules.{HasItem, HasItems, of_none, of_more}
 
 taken_told : (known : List Known) (x : Name) {fault : QueryFault} → is_some (meaning_of known x.id) ≡ true
     → at_span NameTaken x.span ≡ fault → Tells known fault.kind fault.span (Free x)
-taken_told known x taken e = told _ _ e (refl, λ free. not_both _ (free_complete known x.id free) taken)
+taken_told known x taken e = told _ _ e (refl, λ free. not_both _ (free_complete _ _ free) taken)
 
 bindings_told : (names : List (List ℕ)) (items : List Entry) (x : Name) {fault : QueryFault}
     → nat_lt (length (streams_in items) + length (finals_in items)) MAX_BINDINGS ≡ false → at_span (OverLimit Bindings) x.span ≡ fault
@@ -32,7 +32,7 @@ begun_told : (names : List (List ℕ)) (items : List Entry) (x : Name) {fault : 
     → Asks (Free x) → Asks (Fewer Bindings (length (streams_in items) + length (finals_in items)) x.span)
     → Broken Asks (known_in names items) fault
 begun_told names items x e free one = by_must_not (is_some (meaning_of (known_in names items) x.id)) e
-    (λ taken at. broken _ free (taken_told (known_in names items) x taken at)) (λ none e.
+    (λ taken at. broken _ free (taken_told _ _ taken at)) (λ none e.
     by_must (nat_lt (length (streams_in items) + length (finals_in items)) MAX_BINDINGS) _ e
     (λ full at. broken _ one (bindings_told names items x full at)) (λ few e. no_fault e))
 
@@ -51,8 +51,8 @@ item_told given {names} {items} (item.Final d) {fault} e = by_next (begun (earli
     (λ is. begun_told names items d.name is of_final_name of_one_final) (λ u p e. by_next (made_final given (earlier_of names items) d.op) e
     (λ is. broken_in (λ q asked. of_final asked) (final_op_told given (earlier_of names items) d.op fault is)) (λ made q e. no_fault e))
 item_told _ {names} {items} (item.Print x) e = by_next (table_named (known_in names items) x) e
-    (λ is. broken _ of_print (table_told (known_in names items) x is)) (λ table p e. by_must_not (is_among x.id (printed_in items)) e
-    (λ among at. broken_at _ of_once at (refl, not_new x.id (printed_in items) among)) (λ none e. no_fault e))
+    (λ is. broken _ of_print (table_told _ _ is)) (λ table p e. by_must_not (is_among x.id (printed_in items)) e
+    (λ among at. broken_at _ of_once at (refl, not_new _ _ among)) (λ none e. no_fault e))
 
 -- where all that an item asks is so, the check finds no fault
 pub all_met : (given : Given) {names : List (List ℕ)} {items : List Entry} {i : Item}

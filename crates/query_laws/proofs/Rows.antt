@@ -32,8 +32,6 @@ all_have : (folds : List TypedFold) (streams : List TypedStream) (before views :
     → AllHave (length before) V before lists → AreMade before streams views
     → (W : Values) × AllHave (length (before ++ views)) W (before ++ views) (followed folds lists streams)
 all_have _ [] before [] lists V h m = (V, subst (λ l. AllHave (length l) V l lists) (sym (append-nil before)) h)
-all_have _ [] _ (_ ∷ _) _ V h m = absurd m
-all_have _ (_ ∷ _) _ [] _ V h m = absurd m
 all_have folds (one ∷ streams) before (view ∷ views) lists V h m =
     let next = one_more folds (length before) V before lists h one.op view m.0 in
     let made : List (List Tuple) = lists ++ made_of folds lists one.op ∷ [] in
@@ -41,6 +39,7 @@ all_have folds (one ∷ streams) before (view ∷ views) lists V h m =
     let more = all_have folds streams (before ++ view ∷ []) views made next.0
     (subst (λ n. AllHave n next.0 (before ++ view ∷ []) made) long next.1) m.2 in
     (more.0, subst (λ l. AllHave (length l) more.0 l (followed folds made streams)) (append_assoc before (view ∷ []) views) more.1)
+all_have _ _ _ _ _ _ _ m = absurd m
 
 -- ---- the packets
 
@@ -147,10 +146,9 @@ all_long V view {n} (t ∷ tuples) e h = go (all_long V view tuples e h.1)
 none_past : (number : ℕ) (V : Values) (views : List View) (lists : List (List Tuple)) (i : ℕ) → AllHave number V views lists
     → slice_get views i ≡ None → tuples_at lists i ≡ []
 none_past _ V [] [] i h e = refl
-none_past _ V [] (l ∷ _) i h e = absurd h
-none_past _ V (v ∷ _) [] i h e = absurd h
 none_past _ V (v ∷ _) (l ∷ _) zero h e = cc e
 none_past number V (v ∷ views) (l ∷ lists) (suc i) h e = none_past number V views lists i h.1 e
+none_past _ _ _ _ _ h _ = absurd h
 
 pub rows_fill : {q : TypedQuery} {packets : List (List ℕ)} → HasRows q packets → (number : ℕ)
     → All (λ t. length t.row ≡ length (columns_of q number)) (stream q number packets)

@@ -203,17 +203,15 @@ have_last : (number : ℕ) (V : Values) (views : List View) (lists : List (List 
     → AllHave number V views lists → AreEarlier (suc number) view → HaveValues V view tuples
     → AllHave (suc number) V (views ++ view ∷ []) (lists ++ tuples ∷ [])
 have_last _ V [] [] _ _ h e k = ((e, k), tt)
-have_last _ V [] (l ∷ _) _ _ h e k = absurd h
-have_last _ V (v ∷ _) [] _ _ h e k = absurd h
 have_last number V (v ∷ views) (l ∷ lists) view tuples h e k =
     ((are_earlier_later number v h.0.0, h.0.1), have_last number V views lists view tuples h.1 e k)
+have_last _ _ _ _ _ _ h _ _ = absurd h
 
 all_same : (V : Values) (number : ℕ) (new : ℕ → ℕ → ℕ) (views : List View) (lists : List (List Tuple)) → AllHave number V views lists
     → AllHave number (with_map V number new) views lists
 all_same V _ _ [] [] h = tt
-all_same V _ _ [] (l ∷ _) h = absurd h
-all_same V _ _ (v ∷ _) [] h = absurd h
 all_same V number new (v ∷ views) (l ∷ lists) h = ((h.0.0, have_same V number new v l h.0.0 h.0.1), all_same V number new views lists h.1)
+all_same _ _ _ _ _ h = absurd h
 
 abbrev pub OneMore : ℕ → List View → List (List Tuple) → View → List Tuple → Type 0
 OneMore number views lists view tuples = (V : Values) × AllHave (suc number) V (views ++ view ∷ []) (lists ++ tuples ∷ [])

@@ -64,22 +64,20 @@ AreMade before (one ∷ streams) (view ∷ views) =
 pub made_long : (before : List View) (streams : List TypedStream) (views : List View) → AreMade before streams views
     → length views ≡ length streams
 made_long _ [] [] h = refl
-made_long _ [] (_ ∷ _) h = absurd h
-made_long _ (_ ∷ _) [] h = absurd h
 made_long before (_ ∷ streams) (view ∷ views) h = ap suc (made_long (before ++ view ∷ []) streams views h.2)
+made_long _ _ _ h = absurd h
 
 pub made_last : (before : List View) (streams : List TypedStream) (views : List View) (one : TypedStream) (view : View)
     → AreMade before streams views → Makes (before ++ views) (length (before ++ views)) one.op view → one.columns ≡ column_names view
     → AreMade before (streams ++ one ∷ []) (views ++ view ∷ [])
 made_last before [] [] one view h k e = (subst (λ l. Makes l (length l) one.op view) (append-nil before) k, e, tt)
-made_last _ [] (v ∷ _) _ _ h k e = absurd h
-made_last _ (s ∷ _) [] _ _ h k e = absurd h
 made_last before (s ∷ streams) (v ∷ views) one view h k e = (
   h.0,
   h.1,
   made_last (before ++ v ∷ []) streams views one view h.2
       (subst (λ l. Makes l (length l) one.op view) (sym (append_assoc before (v ∷ []) views)) k) e,
 )
+made_last _ _ _ _ _ h _ _ = absurd h
 
 -- ---- places in lists
 
@@ -112,10 +110,9 @@ pub columns_made : (before : List View) (streams : List TypedStream) (views : Li
     → (i : ℕ) {view : View} → slice_get views i ≡ Some view → option_map (λ one. one.columns) (slice_get streams i) ≡ Some
     (column_names view)
 columns_made _ [] [] h i e = cc e
-columns_made _ [] (v ∷ _) h i e = absurd h
-columns_made _ (s ∷ _) [] h i e = absurd h
 columns_made _ (s ∷ _) (v ∷ _) h zero {view} e = ap Some (h.1 ∙ ap column_names (same_Some v view e))
 columns_made before (s ∷ streams) (v ∷ views) h (suc i) e = columns_made (before ++ v ∷ []) streams views h.2 i e
+columns_made _ _ _ h _ _ = absurd h
 
 zip_front : {before : List View} (more : List View) {left right : ℕ} {slots : List ℕ} {view : View} → OfZip before left right slots view
     → OfZip (before ++ more) left right slots view
@@ -139,8 +136,6 @@ pub zip_made : (before : List View) (streams : List TypedStream) (views : List V
     → (i : ℕ) {left right : ℕ} {slots : List ℕ} → option_map (λ one. one.op) (slice_get streams i) ≡ Some (typed.Zip left right slots)
     → ZipAt (before ++ views) (length before + i) left right slots
 zip_made _ [] [] h i e = cc e
-zip_made _ [] (v ∷ _) h i e = absurd h
-zip_made _ (s ∷ _) [] h i e = absurd h
 zip_made before (s ∷ _) (v ∷ views) h zero {left} {right} {slots} e = record {
   view = v;
   stands = get_after before views (length before + 0) (omega arith);
@@ -151,3 +146,4 @@ zip_made before (s ∷ streams) (v ∷ views) h (suc i) {left} {right} {slots} e
     let same : length (before ++ v ∷ []) + i ≡ length before + suc i = omega (arith, length_push before v) in
     subst (λ l. ZipAt l (length before + suc i) left right slots) (append_assoc before (v ∷ []) views)
     (subst (λ n. ZipAt ((before ++ v ∷ []) ++ views) n left right slots) same more)
+zip_made _ _ _ h _ _ = absurd h
