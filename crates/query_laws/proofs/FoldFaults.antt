@@ -24,23 +24,23 @@ states_told front (s ∷ ss) {found} split same e = by_must_not (is_among s.name
       refl,
       λ fresh. not_new s.name.id found among
           (subst (λ z. IsNew s.name.id z) (sym same) fresh),
-    )) (λ none e. by_must (nat_lt (length found) MAX_STATES) _ e
-    (λ full at. broken_at _ (of_states front s ss split) at (refl, refl, at_least (ap length same ∙ states_long front) full))
-    (λ few e. states_told (front ++ s ∷ []) ss (split ∙ sym (append_assoc front (s ∷ []) ss))
-    (ap (λ z. z ++ s.name.id ∷ []) same ∙ sym (state_last front s)) e))
+    )) (λ none e.
+    by_must (nat_lt (length found) MAX_STATES) _ e (λ full at. broken_at _ (of_states front s ss split) at
+    (refl, refl, at_least (ap length same ∙ states_long front) full)) (λ few e. states_told (front ++ s ∷ []) ss
+    (split ∙ sym (append_assoc front (s ∷ []) ss)) (ap (λ z. z ++ s.name.id ∷ []) same ∙ sym (state_last front s)) e))
 
 args_told : {d : FoldDef} (front args : List Name) {found : List ℕ} {known : List Known} {fault : QueryFault}
     → d.args ≡ front ++ args → found ≡ ids_of front → args_from (state_names_of d) found args ≡ Err fault → Broken (FoldAsks d) known fault
 args_told _ [] _ _ e = no_fault e
-args_told {d} front (a ∷ args) {found} split same e =
-    by_must_not (is_among a.id (state_names_of d) || is_among a.id found) e (λ among at. broken_at _ (of_arg front a args split) at (
+args_told {d} front (a ∷ args) {found} split same e = by_must_not (is_among a.id (state_names_of d) || is_among a.id found) e
+    (λ among at. broken_at _ (of_arg front a args split) at (
       refl,
-      λ fresh. not_new a.id (state_names_of d ++ found) (among_append a.id (state_names_of d) found ∙ among)
-          (subst (λ z. IsNew a.id (state_names_of d ++ z)) (sym same) fresh),
-    )) (λ none e. by_must (nat_lt (length found) MAX_ARGS) _ e (λ full at. broken_at _ (of_args front a args split) at
-    (refl, refl, at_least (ap length same ∙ ids_long front) full))
-    (λ few e. args_told (front ++ a ∷ []) args (split ∙ sym (append_assoc front (a ∷ []) args))
-    (ap (λ z. z ++ a.id ∷ []) same ∙ sym (ids_last front a)) e))
+      λ fresh. not_new a.id (state_names_of d ++ found)
+          (among_append a.id (state_names_of d) found ∙ among) (subst (λ z. IsNew a.id (state_names_of d ++ z)) (sym same) fresh),
+    )) (λ none e.
+    by_must (nat_lt (length found) MAX_ARGS) _ e (λ full at. broken_at _ (of_args front a args split) at
+    (refl, refl, at_least (ap length same ∙ ids_long front) full)) (λ few e. args_told (front ++ a ∷ []) args
+    (split ∙ sym (append_assoc front (a ∷ []) args)) (ap (λ z. z ++ a.id ∷ []) same ∙ sym (ids_last front a)) e))
 
 statements_told : {d : FoldDef} {known : List Known} {fault : QueryFault}
     → BlockTold (state_names_of d) (arg_names_of d) [] d.body false known fault → Broken (FoldAsks d) known fault
@@ -49,7 +49,8 @@ statements_told (second _ e h has) = cc has
 statements_told (follows e h) = broken_at _ of_emits e h
 
 pub fold_faults : {d : FoldDef} {known : List Known} {fault : QueryFault} → fold_checked d ≡ Err fault → Broken (FoldAsks d) known fault
-fold_faults {d} {known} {fault} e = by_next (states_from [] d.states) e (λ is. states_told [] d.states refl refl is) (λ states p e.
+fold_faults {d} {known} {fault} e = by_next (states_from [] d.states) e (λ is. states_told [] d.states refl refl is)
+    (λ states p e.
     let S = (states_sound d.states [] (omega arith) p).0 in
     by_next (args_from (state_names_of d) [] d.args) (subst (λ z. and_then (args_from z [] d.args) (λ args. rest_of d z args) ≡ Err fault) S
     e) (λ is. args_told [] d.args refl refl is) (λ args q e.

@@ -67,7 +67,8 @@ table_told known x {fault} e = go (meaning_of known x.id) refl e
     at_stream : (s : StreamView) → meaning_of known x.id ≡ Some (meaning.Stream s) → (o : Option TableView) → s.table ≡ o
         → table_at o x.span ≡ Err fault → StandsTold known ATable x fault
     at_stream s is None none e = other_told _ _ x _ _ is (no_table _ _ _ is (λ t k. cc k)
-        (λ r t k there. let both : (let o : Option TableView = None in o) ≡ Some t = sym none
+        (λ r t k there.
+        let both : (let o : Option TableView = None in o) ≡ Some t = sym none
         ∙ ap (λ (z : StreamView). z.table) (same_stream s r k) ∙ there in cc both)) (same_fault {g = fault} e)
     at_stream s _ (Some t) _ e = no_fault e
 
@@ -139,11 +140,11 @@ pub keys_told : {columns hidden : List ℕ} {all : List Name} (front keys : List
     → all ≡ front ++ keys → found.names ≡ ids_of front → keys_from columns hidden found keys ≡ Err fault
     → Broken (KeysAsk columns hidden all) known fault
 keys_told _ [] _ _ _ e = no_fault e
-keys_told {columns} {hidden} front (key ∷ keys) found split same e =
-    by_next (slot_of columns hidden key) e (λ is. broken _ (of_key front key keys split) (slot_told _ _ key is _))
-    (λ slot is e. by_must_not (is_among key.id found.names) e (λ among at. broken_at _ (of_new front key keys split) at
-    (refl, λ fresh. not_new key.id found.names among (subst (λ z. IsNew key.id z) (sym same) fresh)))
-    (λ none e. by_must (nat_lt (length found.names) MAX_KEYS) _ e (λ full at.
+keys_told {columns} {hidden} front (key ∷ keys) found split same e = by_next (slot_of columns hidden key) e
+    (λ is. broken _ (of_key front key keys split) (slot_told _ _ key is _)) (λ slot is e.
+    by_must_not (is_among key.id found.names) e (λ among at. broken_at _ (of_new front key keys split) at
+    (refl, λ fresh. not_new key.id found.names among (subst (λ z. IsNew key.id z) (sym same) fresh))) (λ none e.
+    by_must (nat_lt (length found.names) MAX_KEYS) _ e (λ full at.
     let long : length found.names ≡ length front = ap length same ∙ ids_long front in
     broken_at _ (of_limit front key keys split) at (refl, refl, at_least long full))
     (λ few e. keys_told (front ++ key ∷ []) keys (record { names = found.names ++ key.id ∷ []; slots = found.slots ++ slot ∷ [] })

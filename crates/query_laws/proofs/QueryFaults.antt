@@ -41,18 +41,19 @@ ItemTold given names items i fault = Broken (ItemAsks (five_fields given.fields)
 
 item_told : (given : Given) {names : List (List ℕ)} {items : List Entry} (i : Item) {fault : QueryFault}
     → item_checked given (earlier_of names items) i ≡ Err fault → ItemTold given names items i fault
-item_told _ (item.Fold d) e = by_must_not _ e (λ taken at. broken _ of_fold_name (taken_told _ _ taken at))
-    (λ none e. by_next _ e (λ is. broken_in (λ q asked. of_fold d q asked) (fold_faults is)) (λ f p e. no_fault e))
+item_told _ (item.Fold d) e = by_must_not _ e (λ taken at. broken _ of_fold_name (taken_told _ _ taken at)) (λ none e.
+    by_next _ e (λ is. broken_in (λ q asked. of_fold d q asked) (fold_faults is)) (λ f p e. no_fault e))
 item_told given {names} {items} (item.Stream d) {fault} e = by_next (begun (earlier_of names items) d.name) e
     (λ is. begun_told names items d.name is of_stream_name of_one_stream) (λ u p e.
-    by_next (made_stream (five_fields given.fields) (earlier_of names items) d.name d.op) e (λ is. broken_in (λ q asked. of_stream asked)
-    (stream_op_told (earlier_of names items) d.op fault is)) (λ made q e. no_fault e))
+    by_next (made_stream (five_fields given.fields) (earlier_of names items) d.name d.op) e
+    (λ is. broken_in (λ q asked. of_stream asked) (stream_op_told (earlier_of names items) d.op fault is)) (λ made q e. no_fault e))
 item_told given {names} {items} (item.Final d) {fault} e = by_next (begun (earlier_of names items) d.name) e
-    (λ is. begun_told names items d.name is of_final_name of_one_final) (λ u p e. by_next (made_final given (earlier_of names items) d.op) e
-    (λ is. broken_in (λ q asked. of_final asked) (final_op_told given (earlier_of names items) d.op fault is)) (λ made q e. no_fault e))
+    (λ is. begun_told names items d.name is of_final_name of_one_final) (λ u p e.
+    by_next (made_final given (earlier_of names items) d.op) e (λ is. broken_in (λ q asked. of_final asked)
+    (final_op_told given (earlier_of names items) d.op fault is)) (λ made q e. no_fault e))
 item_told _ {names} {items} (item.Print x) e = by_next (table_named (known_in names items) x) e
-    (λ is. broken _ of_print (table_told _ _ is)) (λ table p e. by_must_not (is_among x.id (printed_in items)) e
-    (λ among at. broken_at _ of_once at (refl, not_new _ _ among)) (λ none e. no_fault e))
+    (λ is. broken _ of_print (table_told _ _ is)) (λ table p e.
+    by_must_not (is_among x.id (printed_in items)) e (λ among at. broken_at _ of_once at (refl, not_new _ _ among)) (λ none e. no_fault e))
 
 -- where all that an item asks is so, the check finds no fault
 pub all_met : (given : Given) {names : List (List ℕ)} {items : List Entry} {i : Item}

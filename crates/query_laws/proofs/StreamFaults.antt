@@ -24,37 +24,36 @@ StreamTold five earlier name op = (fault : QueryFault) → made_stream five earl
 
 stream_filter_told : {five : List ℕ} (earlier : Earlier) {name : Name} {input : Name} {e : Expr}
     → StreamTold five earlier name (stream.Filter input e)
-stream_filter_told earlier _ is = by_next _ is (λ is. broken _ of_filtered (stream_told _ _ is))
-    (λ source p is. by_next _ is (λ is.
-    broken_in (λ d asked. of_condition source (stream_sound _ _ p) asked) (condition_told _ _ _ is)) (λ condition q is. no_fault is))
+stream_filter_told earlier _ is = by_next _ is (λ is. broken _ of_filtered (stream_told _ _ is)) (λ source p is.
+    by_next _ is (λ is. broken_in (λ d asked. of_condition source (stream_sound _ _ p) asked) (condition_told _ _ _ is))
+    (λ condition q is. no_fault is))
 
 stream_map_told : {five : List ℕ} (earlier : Earlier) {name : Name} {input : Name} {new : List Column}
     → StreamTold five earlier name (stream.Map input new)
-stream_map_told earlier {new} _ is = by_next _ is
-    (λ is. broken _ of_mapped (stream_told _ _ is)) (λ source p is. by_next
-    (new_columns (column_names source.columns) source.hidden no_new_columns new) is (λ is.
-    broken_in (λ d asked. of_columns source (stream_sound _ _ p) asked) (columns_told [] new no_new_columns refl refl is))
+stream_map_told earlier {new} _ is = by_next _ is (λ is. broken _ of_mapped (stream_told _ _ is)) (λ source p is.
+    by_next (new_columns (column_names source.columns) source.hidden no_new_columns new) is
+    (λ is. broken_in (λ d asked. of_columns source (stream_sound _ _ p) asked) (columns_told [] new no_new_columns refl refl is))
     (λ made q is. no_fault is))
 
 stream_zip_told : {five : List ℕ} (earlier : Earlier) {name : Name} {first second : Name}
     → StreamTold five earlier name (stream.Zip first second)
-stream_zip_told earlier {first} {second} _ is = by_next _ is
-    (λ is. broken _ of_first (stream_told _ _ is)) (λ left p is. by_next _ is
-    (λ is. broken _ of_second (stream_told _ _ is)) (λ right q is. by_must_not (clash left.columns right.columns) is
-    (λ clashes at. broken_at _ (of_both first second left right (stream_sound _ _ p) (stream_sound _ _ q))
-    at
+stream_zip_told earlier {first} {second} _ is = by_next _ is (λ is. broken _ of_first (stream_told _ _ is)) (λ left p is.
+    by_next _ is (λ is. broken _ of_second (stream_told _ _ is)) (λ right q is.
+    by_must_not (clash left.columns right.columns) is (λ clashes at. broken_at _
+    (of_both first second left right (stream_sound _ _ p) (stream_sound _ _ q)) at
     (refl, λ same. not_both _ (all_same_complete _ _ same) clashes)) (λ none is. no_fault is)))
 
 stream_groupby_told : {five : List ℕ} (earlier : Earlier) {name : Name} {input : Name} {keys : List Key} {fold_name : Name}
     → StreamTold five earlier name (stream.Group input keys fold_name)
 stream_groupby_told {five} earlier {input} {keys} {fold_name} fault is =
-    by_must (nat_lt earlier.groups MAX_GROUPBYS) _ is (λ full at. broken_at _ of_limit at (refl, refl, at_least refl full))
-    (λ few is. by_next _ is (λ is. broken _ of_grouped (stream_told _ _ is))
-    (λ source p is. by_next (keys_checked five (column_names source.columns) source.hidden keys) is (λ is.
-    broken_in (λ d asked. of_keys source (stream_sound _ _ p) asked) (keys_told [] (flat_map (key_names five) keys)
-    (record { names = []; slots = [] }) refl refl is)) (λ picked q is. by_next _ is
-    (λ is. broken _ (of_fold input keys fold_name) (fold_told _ _ is))
-    (λ f r is. by_next (arguments_of (column_names source.columns) source.hidden picked.names f fold_name.span) is (λ is.
+    by_must (nat_lt earlier.groups MAX_GROUPBYS) _ is (λ full at. broken_at _ of_limit at (refl, refl, at_least refl full)) (λ few is.
+    by_next _ is (λ is. broken _ of_grouped (stream_told _ _ is)) (λ source p is.
+    by_next (keys_checked five (column_names source.columns) source.hidden keys) is
+    (λ is. broken_in (λ d asked. of_keys source (stream_sound _ _ p) asked)
+    (keys_told [] (flat_map (key_names five) keys) (record { names = []; slots = [] }) refl refl is)) (λ picked q is.
+    by_next _ is (λ is. broken _ (of_fold input keys fold_name) (fold_told _ _ is)) (λ f r is.
+    by_next (arguments_of (column_names source.columns) source.hidden picked.names f fold_name.span) is
+    (λ is.
     let k = picked_sound five source.hidden keys q in
     broken_in (λ d asked. of_arguments source (stream_sound _ _ p) (fold_name_sound _ _ r) asked)
     (arguments_told (subst (λ z. arguments_of (column_names source.columns) source.hidden z f fold_name.span ≡ Err fault)
@@ -82,51 +81,47 @@ FinalTold given earlier op = (fault : QueryFault) → made_final given earlier o
 
 module _ (given : Given) (earlier : Earlier) where
   final_filter_told : {input : Name} {e : Expr} → FinalTold given earlier (final.Filter input e)
-  final_filter_told _ is = by_next _ is (λ is. broken _ asks.of_filtered (table_told _ _ is))
-      (λ source p is. by_next _ is (λ is.
-      broken_in (λ d asked. asks.of_condition source (table_sound _ _ p) asked) (condition_told _ _ _ is)) (λ condition q is. no_fault is))
+  final_filter_told _ is = by_next _ is (λ is. broken _ asks.of_filtered (table_told _ _ is)) (λ source p is.
+      by_next _ is (λ is. broken_in (λ d asked. asks.of_condition source (table_sound _ _ p) asked) (condition_told _ _ _ is))
+      (λ condition q is. no_fault is))
 
   final_map_told : {input : Name} {new : List Column} → FinalTold given earlier (final.Map input new)
-  final_map_told {new} _ is = by_next _ is
-      (λ is. broken _ asks.of_mapped (table_told _ _ is)) (λ source p is. by_next
-      (new_columns source.columns [] no_new_columns new) is (λ is.
-      broken_in (λ d asked. asks.of_columns source (table_sound _ _ p) asked)
-      (columns_told [] new no_new_columns refl refl is)) (λ made q is. no_fault is))
+  final_map_told {new} _ is = by_next _ is (λ is. broken _ asks.of_mapped (table_told _ _ is)) (λ source p is.
+      by_next (new_columns source.columns [] no_new_columns new) is (λ is. broken_in
+      (λ d asked. asks.of_columns source (table_sound _ _ p) asked) (columns_told [] new no_new_columns refl refl is))
+      (λ made q is. no_fault is))
 
   final_groupby_told : {input : Name} {keys : List Key} {fold_name : Name}
       → FinalTold given earlier (final.Group input keys fold_name)
   final_groupby_told {input} {keys} {fold_name} fault is =
       let five = five_fields given.fields in
-      by_next _ is (λ is. broken _ asks.of_grouped (table_told _ _ is))
-      (λ source p is. by_next (keys_checked five source.columns [] keys) is (λ is.
-      broken_in (λ d asked. asks.of_keys source (table_sound _ _ p) asked)
+      by_next _ is (λ is. broken _ asks.of_grouped (table_told _ _ is)) (λ source p is.
+      by_next (keys_checked five source.columns [] keys) is (λ is. broken_in (λ d asked. asks.of_keys source (table_sound _ _ p) asked)
       (keys_told [] (flat_map (key_names five) keys) (record { names = []; slots = [] }) refl refl is)) (λ picked q is.
-      by_next _ is (λ is. broken _ (asks.of_fold input keys fold_name)
-      (quiet_told _ _ is)) (λ f r is. by_next (arguments_of source.columns [] picked.names f fold_name.span) is (λ is.
+      by_next _ is (λ is. broken _ (asks.of_fold input keys fold_name) (quiet_told _ _ is)) (λ f r is.
+      by_next (arguments_of source.columns [] picked.names f fold_name.span) is (λ is.
       let k = picked_sound five [] keys q in
       broken_in (λ d asked. asks.of_arguments source (table_sound _ _ p) (quiet_stands earlier fold_name r) asked)
       (arguments_told (subst (λ z. arguments_of source.columns [] z f fold_name.span ≡ Err fault) (ap (λ (z : Picked). z.names) k.2) is)))
       (λ arguments s is. no_fault is))))
 
   final_join_told : {first second : Name} → FinalTold given earlier (final.Join first second)
-  final_join_told {first} {second} _ is = by_next _ is
-      (λ is. broken _ asks.of_first (table_told _ _ is)) (λ left p is. by_next _ is
-      (λ is. broken _ asks.of_second (table_told _ _ is))
-      (λ right q is. by_must (same_names (key_columns left) (key_columns right)) _ is
-      (λ differ at. broken_at _ (asks.of_both first second left right (table_sound _ _ p)
-      (table_sound _ _ q))
-      at (refl, λ same. not_both _ differ (same_complete same))) (λ same is. by_must_not
-      (list_any (λ name. is_among name left.columns) (other_columns right)) is
+  final_join_told {first} {second} _ is = by_next _ is (λ is. broken _ asks.of_first (table_told _ _ is)) (λ left p is.
+      by_next _ is (λ is. broken _ asks.of_second (table_told _ _ is)) (λ right q is.
+      by_must (same_names (key_columns left) (key_columns right)) _ is
+      (λ differ at. broken_at _ (asks.of_both first second left right (table_sound _ _ p) (table_sound _ _ q)) at
+      (refl, λ same. not_both _ differ (same_complete same))) (λ same is.
+      by_must_not (list_any (λ name. is_among name left.columns) (other_columns right)) is
       (λ among at. broken_at _ (asks.of_others left right (table_sound _ _ p) (table_sound _ _ q)) at
       (refl, λ apart. not_both _ (apart_complete _ _ apart) among)) (λ none is. no_fault is))))
 
   final_top_told : {input column : Name} {rows : ℕ} {span : Span}
       → FinalTold given earlier (final.Top input column rows span)
-  final_top_told {column} {rows} {span} _ is = by_next _ is
-      (λ is. broken _ asks.of_ranked (table_told _ _ is)) (λ source p is. by_next (slot_of source.columns [] column) is
-      (λ is. broken _ (asks.of_column span source (table_sound _ _ p)) (slot_told _ _ _ is _))
-      (λ slot q is. by_must (nat_lt 0 rows && nat_le rows 65536) _ is (λ bad at. broken_at _ asks.of_rows at
-      (refl, λ h. not_both _ bad (kept h.0 h.1))) (λ good is. no_fault is)))
+  final_top_told {column} {rows} {span} _ is = by_next _ is (λ is. broken _ asks.of_ranked (table_told _ _ is)) (λ source p is.
+      by_next (slot_of source.columns [] column) is (λ is. broken _ (asks.of_column span source (table_sound _ _ p)) (slot_told _ _ _ is _))
+      (λ slot q is.
+      by_must (nat_lt 0 rows && nat_le rows 65536) _ is (λ bad at. broken_at _ asks.of_rows at (refl, λ h. not_both _ bad (kept h.0 h.1)))
+      (λ good is. no_fault is)))
 
   pub final_op_told : (op : FinalOp) → FinalTold given earlier op
   final_op_told (final.Filter _ e) = final_filter_told
