@@ -9,6 +9,10 @@ home_of print homes =
     let mixed = (bit_xor spread (spread / 2 ^ 32) * 0x9e37_79b9_7f4a_7c15) % 2 ^ 64 in
     bit_and (mixed / 2 ^ 32) (homes - 1)
 
+-- a tag of a fingerprint, which is spread otherwise than its home
+unfoldable pub tag_of : ℕ → ℕ
+tag_of print = (print * 0x9e37_79b9_7f4a_7c15) % 2 ^ 64 / 2 ^ 48 % 2 ^ 16
+
 -- the home of the key with a number, by the fingerprints of all keys
 abbrev pub home_at : ℕ → List ℕ → ℕ → ℕ
 home_at homes prints number = home_of (get_or prints number 0) homes

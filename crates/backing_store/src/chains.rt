@@ -2,12 +2,16 @@
 
 ghost use Rattle.std.specs.Prelude.{◌≡◌, ℕ, [], ◌∷◌, ◌+◌, ◌*◌, ◌++◌, ◌<◌, ◌≤◌, get_or, length, vec_capacity, vec_len, OnOk, OnErr};
 ghost use Rattle.epoch_model.specs.Keys.{key_eq};
-ghost use Rattle.backing_store.specs.{Chains.home_of, Prints.{fingerprint, prints_of, row_at, AreKeys, LinksAreChained}, Searches.Finds};
+ghost use Rattle.backing_store.specs.{Chains.{home_of, tag_of}, Searches.Finds};
+ghost use Rattle.backing_store.specs.Prints.{fingerprint, home_for, no_home, prints_of, row_at, AreKeys, LinksAreChained, Tells};
 
 use crate::sip::sip_hash;
 use crate::slices::{is_same, row};
 use std::alloc::{AllocError, Global};
 use table_rows::push_few;
+
+// The most keys: a home has no room for larger numbers.
+const MOST_KEYS: usize = 4_294_967_295;
 
 const FEWEST_HOMES: usize = 16;
 
@@ -18,6 +22,17 @@ pub struct Link {
     pub print: u64,
     /// One more than the number of the key before it with its home, or 0.
     pub before: usize,
+}
+
+/// The end of a chain, and what the tags of its keys are between.
+#[derive(Clone, Copy)]
+pub struct Home {
+    /// One more than the number of the last key, or 0.
+    pub last: u32,
+    /// No key has a lower tag.
+    pub least: u16,
+    /// No key has a higher tag.
+    pub greatest: u16,
 }
 
 /// What a search for a key found.
@@ -50,13 +65,40 @@ fn home_of(print: u64, homes: usize) -> usize
     ((mixed >> 32) as usize) & homes.saturating_sub(1)
 }
 
-// The last key of a home: one more than its number, or 0.
-fn end_of(ends: &[usize], print: u64) -> usize
-    ensures { result ≡ get_or ends.now (home_of print (length ends.now)) 0 }
+// A tag of a fingerprint, which is spread otherwise than its home.
+#[tactic(auto, unfolding(crate::specs::Chains::tag_of))]
+fn tag_of(print: u64) -> u16
+    ensures { result ≡ tag_of print }
 {
-    match ends.get(home_of(print, ends.len())) {
-        Some(end) => *end,
-        None => 0,
+    (print.wrapping_mul(0x9e37_79b9_7f4a_7c15) >> 48) as u16
+}
+
+// The home of a fingerprint, or one of no keys where there are no homes.
+fn home_for(homes: &[Home], print: u64) -> Home
+    ensures { result ≡ home_for homes.now print }
+{
+    match homes.get(home_of(print, homes.len())) {
+        Some(home) => *home,
+        None => Home {
+            last: 0,
+            least: 0,
+            greatest: 0,
+        },
+    }
+}
+
+// Where a search for a fingerprint begins: one more than the number of the last key of its home, or 0 where its home tells that
+// no key there has it.
+fn end_of(homes: &[Home], print: u64) -> usize
+    ensures told { Tells (home_for homes.now print) (tag_of print) → result ≡ (home_for homes.now print).last }
+    ensures other { (Tells (home_for homes.now print) (tag_of print) → ⊥) → result ≡ 0 }
+{
+    let home = home_for(homes, print);
+    let tag = tag_of(print);
+    if home.least <= tag && tag <= home.greatest {
+        home.last as usize
+    } else {
+        0
     }
 }
 
@@ -78,12 +120,12 @@ fn is_at(width: usize, words: &[u64], at: usize, link: Link, key: &[u64], print:
 }
 
 /// Searches a key, from the last key with its home to the first.
-pub fn find_key(width: usize, words: &[u64], links: &[Link], ends: &[usize], key: &[u64]) -> Search
-    requires { AreKeys width words.now links.now ends.now }
+pub fn find_key(width: usize, words: &[u64], links: &[Link], homes: &[Home], key: &[u64]) -> Search
+    requires { AreKeys width words.now links.now homes.now }
     ensures { Finds width words.now (length links.now) key.now result }
 {
     let print = fingerprint(key);
-    let mut next = end_of(ends, print);
+    let mut next = end_of(homes, print);
     while next > 0 {
         let at = next - 1;
         let link = links[at];
@@ -95,77 +137,88 @@ pub fn find_key(width: usize, words: &[u64], links: &[Link], ends: &[usize], key
     Search::Free(print)
 }
 
-/// The place that a search for the key comes to first, or the number of keys. Both words of its link are read.
-pub fn first_found(links: &[Link], ends: &[usize], key: &[u64]) -> usize {
-    let next = end_of(ends, fingerprint(key));
-    if next == 0 || next > links.len() {
-        return links.len();
-    }
-    next - 1
+/// One more than the number of the last key with the home of the key, which is read, or 0.
+pub fn first_found(homes: &[Home], key: &[u64]) -> usize {
+    home_for(homes, fingerprint(key)).last as usize
 }
 
 // Puts the key with a number, the first that isn't in a chain, at the end of its chain.
-fn chain(links: &mut [Link], ends: &mut [usize], number: usize)
+fn chain(links: &mut [Link], homes: &mut [Home], number: usize)
     requires number { number < length links.old }
-    requires homes { 0 < length ends.old }
-    requires chained { LinksAreChained number links.old ends.old }
-    ensures chained { LinksAreChained (number + 1) links.new ends.new }
+    requires few { number < MOST_KEYS }
+    requires homes { 0 < length homes.old }
+    requires chained { LinksAreChained number links.old homes.old }
+    ensures chained { LinksAreChained (number + 1) links.new homes.new }
     ensures prints { prints_of links.new ≡ prints_of links.old }
-    ensures homes { length ends.new ≡ length ends.old }
+    ensures homes { length homes.new ≡ length homes.old }
 {
     let print = links[number].print;
-    let home = home_of(print, ends.len());
+    let at = home_of(print, homes.len());
+    let home = homes[at];
     links[number] = Link {
         print,
-        before: ends[home],
+        before: home.last as usize,
     };
-    ends[home] = number + 1;
+    let tag = tag_of(print);
+    homes[at] = Home {
+        last: (number + 1) as u32,
+        least: home.least.min(tag),
+        greatest: home.greatest.max(tag),
+    };
 }
 
 // Puts all keys in chains, by homes at which there is none yet.
-fn chain_all(links: &mut [Link], ends: &mut [usize])
-    requires homes { 0 < length ends.old }
-    requires free { (home : ℕ) → get_or ends.old home 0 ≡ 0 }
-    ensures chained { LinksAreChained (length links.new) links.new ends.new }
+fn chain_all(links: &mut [Link], homes: &mut [Home])
+    requires few { length links.old ≤ MOST_KEYS }
+    requires homes { 0 < length homes.old }
+    requires free { (home : ℕ) → (get_or homes.old home no_home).last ≡ 0 }
+    ensures chained { LinksAreChained (length links.new) links.new homes.new }
     ensures prints { prints_of links.new ≡ prints_of links.old }
-    ensures homes { length ends.new ≡ length ends.old }
+    ensures homes { length homes.new ≡ length homes.old }
 {
     for number in 0..links.len() {
-        chain(links, ends, number);
+        chain(links, homes, number);
     }
 }
 
 // Makes twice as many homes where each could have a key.
-fn make_room(alloc: Global, links: &mut Vec<Link>, ends: &mut Vec<usize>) -> Result<(), AllocError>
-    requires room { length links.old.items ≤ length ends.old.items }
-    requires chained { LinksAreChained (length links.old.items) links.old.items ends.old.items }
-    ensures chained { LinksAreChained (length links.new.items) links.new.items ends.new.items }
+fn make_room(alloc: Global, links: &mut Vec<Link>, homes: &mut Vec<Home>) -> Result<(), AllocError>
+    requires few { length links.old.items ≤ MOST_KEYS }
+    requires room { length links.old.items ≤ length homes.old.items }
+    requires chained { LinksAreChained (length links.old.items) links.old.items homes.old.items }
+    ensures chained { LinksAreChained (length links.new.items) links.new.items homes.new.items }
     ensures prints { prints_of links.new.items ≡ prints_of links.old.items }
-    ensures homes { length ends.old.items ≤ length ends.new.items }
-    ensures room { OnOk result (length links.new.items < length ends.new.items) }
+    ensures homes { length homes.old.items ≤ length homes.new.items }
+    ensures room { OnOk result (length links.new.items < length homes.new.items) }
 {
-    if links.len() < ends.len() {
+    if links.len() < homes.len() {
         return Ok(());
     }
-    let homes = ends.len().saturating_mul(2).max(FEWEST_HOMES);
-    let mut more = vec![in alloc; 0; homes]?;
+    let count = homes.len().saturating_mul(2).max(FEWEST_HOMES);
+    let free = Home {
+        last: 0,
+        least: u16::MAX,
+        greatest: 0,
+    };
+    let mut more = vec![in alloc; free; count]?;
     chain_all(links.as_mut_slice(), more.as_mut_slice());
-    *ends = more;
+    *homes = more;
     Ok(())
 }
 
 // Adds a link at the end, in its chain.
-fn push_link(links: &mut Vec<Link>, ends: &mut Vec<usize>, print: u64)
+fn push_link(links: &mut Vec<Link>, homes: &mut Vec<Home>, print: u64)
     requires place { vec_len links.old < vec_capacity links.old }
-    requires room { length links.old.items < length ends.old.items }
-    requires chained { LinksAreChained (length links.old.items) links.old.items ends.old.items }
-    ensures chained { LinksAreChained (length links.new.items) links.new.items ends.new.items }
+    requires few { length links.old.items < MOST_KEYS }
+    requires room { length links.old.items < length homes.old.items }
+    requires chained { LinksAreChained (length links.old.items) links.old.items homes.old.items }
+    ensures chained { LinksAreChained (length links.new.items) links.new.items homes.new.items }
     ensures prints { prints_of links.new.items ≡ prints_of links.old.items ++ print ∷ [] }
-    ensures homes { length ends.new.items ≡ length ends.old.items }
+    ensures homes { length homes.new.items ≡ length homes.old.items }
 {
     let number = links.len();
     links.push_reserved(Link { print, before: 0 });
-    chain(links.as_mut_slice(), ends.as_mut_slice(), number);
+    chain(links.as_mut_slice(), homes.as_mut_slice(), number);
 }
 
 /// Adds a key with its fingerprint. On an error the keys are unchanged.
@@ -174,21 +227,24 @@ pub fn add_key(
     width: usize,
     words: &mut Vec<u64>,
     links: &mut Vec<Link>,
-    ends: &mut Vec<usize>,
+    homes: &mut Vec<Home>,
     key: &[u64],
     print: u64,
 ) -> Result<(), AllocError>
-    requires keys { AreKeys width words.old.items links.old.items ends.old.items }
+    requires keys { AreKeys width words.old.items links.old.items homes.old.items }
     requires width { length key.now ≡ width }
     requires print { print ≡ fingerprint key.now }
-    ensures keys { AreKeys width words.new.items links.new.items ends.new.items }
+    ensures keys { AreKeys width words.new.items links.new.items homes.new.items }
     ensures ok { OnOk result ((words.new.items ≡ words.old.items ++ key.now) × (length links.new.items ≡ length links.old.items + 1)) }
     ensures err { OnErr result ((words.new.items ≡ words.old.items) × (length links.new.items ≡ length links.old.items)) }
 {
-    make_room(alloc, links, ends)?;
+    if links.len() >= MOST_KEYS {
+        return Err(AllocError);
+    }
+    make_room(alloc, links, homes)?;
     words.reserve(key.len())?;
     links.reserve(1)?;
     push_few(words, key);
-    push_link(links, ends, print);
+    push_link(links, homes, print);
     Ok(())
 }

@@ -3,7 +3,7 @@
 ghost use Rattle.std.specs.Prelude.{◌≡◌, ◌<◌, ◌++◌, ◌∷◌, [], length, slice_get, Some, IfOk, OnOk, OnErr};
 ghost use Rattle.backing_store.specs.{Prints.fingerprint, Searches.FindsKey};
 
-use crate::chains::{Link, Search, add_key, find_key, first_found};
+use crate::chains::{Home, Link, Search, add_key, find_key, first_found};
 use crate::slices::row;
 use std::alloc::{AllocError, Global};
 use std::marker::Model;
@@ -14,7 +14,7 @@ pub struct Keys {
     width: usize,
     words: Vec<u64>,
     links: Vec<Link>,
-    ends: Vec<usize>,
+    homes: Vec<Home>,
 }
 
 impl Drop for Keys {
@@ -24,7 +24,7 @@ impl Drop for Keys {
             width: _,
             words: _,
             links: _,
-            ends: _,
+            homes: _,
         } = self;
     }
 }
@@ -38,7 +38,7 @@ impl Model for Keys {
 
     ghost view = { λ a. record { width = a.width; keys = rows_of a.width (length a.links.items) a.words.items } };
 
-    ghost invariant = { λ a. AreKeys a.width a.words.items a.links.items a.ends.items };
+    ghost invariant = { λ a. AreKeys a.width a.words.items a.links.items a.homes.items };
 }
 
 impl Keys {
@@ -51,7 +51,7 @@ impl Keys {
             width,
             words: Vec::new(alloc),
             links: Vec::new(alloc),
-            ends: Vec::new(alloc),
+            homes: Vec::new(alloc),
         }
     }
 
@@ -85,14 +85,14 @@ impl Keys {
             self.width,
             self.words.as_slice(),
             self.links.as_slice(),
-            self.ends.as_slice(),
+            self.homes.as_slice(),
             key,
         )
     }
 
-    /// The place that a search for the key comes to first, or the number of keys.
+    /// One more than the number of the last key with the home of the key, which is read, or 0.
     pub fn first_found(&self, key: &[u64]) -> usize {
-        first_found(self.links.as_slice(), self.ends.as_slice(), key)
+        first_found(self.homes.as_slice(), key)
     }
 
     /// Adds a key at the end, with the fingerprint that a search gave for it. On an error the keys are unchanged.
@@ -110,7 +110,7 @@ impl Keys {
             self.width,
             &mut self.words,
             &mut self.links,
-            &mut self.ends,
+            &mut self.homes,
             key,
             print,
         )
@@ -125,7 +125,7 @@ impl Keys {
             width: self.width,
             words: Vec::from_slice(self.alloc, self.words.as_slice())?,
             links: Vec::from_slice(self.alloc, self.links.as_slice())?,
-            ends: Vec::from_slice(self.alloc, self.ends.as_slice())?,
+            homes: Vec::from_slice(self.alloc, self.homes.as_slice())?,
         })
     }
 }

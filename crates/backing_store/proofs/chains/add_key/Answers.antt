@@ -13,8 +13,8 @@ returns-clause-keys c =
     (ap prints_of c.in_ok-reserve-2.ensures.items ∙ c.in_ok-make_room.ensures.prints)) in
     let many = one_more links others (fingerprint c.args.key.now) prints in
     let kept = as_many links c.make_room.new.links.items c.in_ok-make_room.ensures.prints in
-    let room : length others ≤ length c.push_link.new.ends.items =
+    let room : length others ≤ length c.push_link.new.homes.items =
     omega (arith, many, kept, c.in_ok-make_room.ensures.room, c.push_link.ensures.homes) in
     rw (c.push_few.ensures.items, c.in_ok-reserve.ensures.items)
-    (keys_more c.args.width c.args.words.now.items links others c.args.ends.now.items c.push_link.new.ends.items c.args.key.now c.requires.keys
-    c.requires.width prints c.push_link.ensures.chained room)
+    (keys_more c.args.width c.args.words.now.items links others c.args.homes.now.items c.push_link.new.homes.items c.args.key.now
+    c.requires.keys c.requires.width prints c.push_link.ensures.chained room)

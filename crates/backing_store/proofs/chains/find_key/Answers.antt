@@ -8,8 +8,8 @@ use Rattle.backing_store.proofs.chains.find_key.Goals.{Else-is_at}
 
 pub loop-next-init : goal.loop-next-init
 loop-next-init c =
-    rw (c.end_of-next.ensures, c.fingerprint-print.ensures)
-    (begun c.args.width c.args.words.now c.args.links.now c.args.ends.now c.args.key.now c.requires)
+    begun c.args.width c.args.words.now c.args.links.now c.args.homes.now c.args.key.now c.end_of-next.result c.requires
+    (rw c.fingerprint-print.ensures at c.end_of-next.ensures.told) (rw c.fingerprint-print.ensures at c.end_of-next.ensures.other)
 
 pub is_at-requires-clause-row : goal.is_at-requires-clause-row
 is_at-requires-clause-row c =
@@ -18,7 +18,7 @@ is_at-requires-clause-row c =
 
 pub is_at-requires-clause-link : goal.is_at-requires-clause-link
 is_at-requires-clause-link c =
-    printed c.args.width c.args.words.now c.args.links.now c.args.ends.now (c.loop-next.next - 1) c.requires
+    printed c.args.width c.args.words.now c.args.links.now c.args.homes.now (c.loop-next.next - 1) c.requires
     (omega (arith, c.loop-next.invariant.low))
 
 pub returns-then-is_at : goal.returns-then-is_at
@@ -29,11 +29,11 @@ returns-then-is_at c = (
 
 -- where the search goes on
 onwards : (c : Else-is_at) → let before = (get_or c.args.links.now (c.loop-next.next - 1) no_link).before in
-    IsFollowed c.args.width c.args.words.now c.args.links.now c.args.ends.now c.args.key.now before × (before ≤ c.loop-next.next - 1)
+    IsFollowed c.args.width c.args.words.now c.args.links.now c.args.homes.now c.args.key.now before × (before ≤ c.loop-next.next - 1)
 onwards c =
     let at = c.loop-next.next - 1 in
     let next : c.loop-next.next ≡ suc at = omega (arith, c.loop-next-test.true) in
-    gone_on c.args.width c.args.words.now c.args.links.now c.args.ends.now c.args.key.now at c.requires (rw next at c.loop-next.invariant)
+    gone_on c.args.width c.args.words.now c.args.links.now c.args.homes.now c.args.key.now at c.requires (rw next at c.loop-next.invariant)
     (key_eq-not (row_at c.args.width c.args.words.now at) c.args.key.now (sym c.is_at.ensures ∙ c.if-is_at.false))
 
 pub loop-next-smaller : goal.loop-next-smaller

@@ -7,4 +7,4 @@ pub chain-requires-clause-chained : goal.chain-requires-clause-chained
 chain-requires-clause-chained c =
     let number : c.len-number.result ≡ length c.args.links.now.items = omega (arith, c.len-number.ensures) in
     rw (number, c.as_mut_slice.ensures.value ∙ c.push_reserved.ensures.items, c.as_mut_slice-2.ensures.value)
-    (link_pushed c.args.links.now.items c.args.ends.now.items c.args.print c.requires.chained)
+    (link_pushed c.args.links.now.items c.args.homes.now.items c.args.print c.requires.chained)
